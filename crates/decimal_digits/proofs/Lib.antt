@@ -1,0 +1,3 @@
+pub mod DigitLists
+pub mod Places
+pub mod Ends

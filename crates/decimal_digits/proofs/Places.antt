@@ -1,0 +1,26 @@
+-- Magnitudes as places.
+use Rattle.std.proofs.Common.{◌≡◌, ◌+◌, ◌-◌, ◌≤◌, arith}
+use Rattle.std.specs.Prelude.{ℤ, pos, negsuc, ◌≤ℤ◌}
+use Rattle.std.proofs.lemmas.Int.{ints}
+use Rattle.std.specs.Int.{int_gap}
+use Rattle.decimal_digits.specs.Number.{place, magnitude_at}
+use borrow.Author.Differences.{up, down}
+
+-- for `omega`: a place is the magnitude and 32768
+pub place_is : (m : ℤ) → (place m ≡ 32768 + up m - down m)
+unfolding place
+place_is (pos n) = omega arith
+place_is (negsuc n) = omega arith
+
+pub magnitude_at-place : (m : ℤ) → negsuc 32767 ≤ℤ m → magnitude_at (place m) ≡ m
+magnitude_at-place m h = omega (arith, ints, place_is m)
+
+pub place_le : (a b : ℤ) → negsuc 32767 ≤ℤ a → negsuc 32767 ≤ℤ b → a ≤ℤ b → place a ≤ place b
+place_le a b p q h = omega (arith, ints, place_is)
+
+-- for `omega`: how far one magnitude is above another
+pub gap_is : (a b : ℤ) → int_gap a b ≡ (up b + down a) - (up a + down b)
+gap_is (pos a) (pos b) = omega arith
+gap_is (pos a) (negsuc b) = omega arith
+gap_is (negsuc a) (pos b) = omega arith
+gap_is (negsuc a) (negsuc b) = omega arith

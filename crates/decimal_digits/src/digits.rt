@@ -1,0 +1,119 @@
+//! Lists of digits, most significant first, however they are kept.
+ghost use Rattle.std.specs.Prelude.{◌≡◌, ℕ, ◌+◌, ◌<◌, ◌≤◌, ◌↔◌, List, [], ◌∷◌, ◌++◌, length, take, drop, replicate, slice_set, slice_index, All, IsTrue, IsOk, IfOk, OnOk, OnErr};
+
+mod list;
+
+pub use list::DigitList;
+use std::alloc::{AllocError, Global};
+
+/// A list of digits 0 to 9 and the room that it has for more.
+///
+/// Contracts see the list, the room, and `L`, the number of digits that are held without memory. After a call that
+/// changes the list nothing more is known of the room than that it is at least `L` less the length, `reserve` and
+/// `push_in_room` apart. Not in the original.
+pub trait DigitStore: Drop {
+    /// The digits.
+    ghost digits: { Self → List ℕ };
+
+    /// How many more digits fit with no allocation.
+    ghost room: { Self → ℕ };
+
+    /// How many digits are held with no allocation.
+    ghost L: { ℕ };
+
+    const L: usize;
+
+    /// Makes the empty list, and asks for no memory.
+    fn empty(alloc: Global) -> Self
+        ensures { digits result ≡ [] };
+
+    /// Makes the list of these digits.
+    ///
+    /// Requires digits 0 to 9. Err: memory was refused, which needs more than `L` digits.
+    fn from_digits(alloc: Global, list: &[u8]) -> Result<Self, AllocError>
+        requires { All (λ d. d < 10) list.now }
+        ensures ok { IfOk result (λ s. digits s ≡ list.now) }
+        ensures succeeds { length list.now ≤ L → IsOk result };
+
+    /// Makes a second list of the same digits.
+    ///
+    /// Err: memory was refused, which needs more than `L` digits. This list stays as it is.
+    fn clone(&self) -> Result<Self, AllocError>
+        ensures ok { IfOk result (λ s. digits s ≡ digits self.now) }
+        ensures succeeds { length (digits self.now) ≤ L → IsOk result };
+
+    /// Counts the digits.
+    fn len(&self) -> usize
+        ensures { result ≡ length (digits self.now) };
+
+    /// Gives the digit at an index, of which 0 is that of the most significant digit.
+    ///
+    /// Requires an index in range.
+    fn get(&self, index: usize) -> u8
+        requires { index < length (digits self.now) }
+        ensures { result ≡ slice_index (digits self.now) index };
+
+    /// Puts a digit in the place of the one at an index.
+    ///
+    /// Requires an index in range and a digit 0 to 9.
+    fn set(&mut self, index: usize, digit: u8)
+        requires in_range { index < length (digits self.old) }
+        requires is_digit { digit < 10 }
+        ensures { digits self.new ≡ slice_set (digits self.old) index digit };
+
+    /// Appends a digit into room that there is.
+    ///
+    /// Requires room, as after `reserve`, and a digit 0 to 9. The room becomes smaller by at most one.
+    fn push_in_room(&mut self, digit: u8)
+        requires has_room { 0 < room self.old }
+        requires is_digit { digit < 10 }
+        ensures digits { digits self.new ≡ digits self.old ++ digit ∷ [] }
+        ensures room { room self.old ≤ room self.new + 1 };
+
+    /// Makes room for `count` more digits.
+    ///
+    /// Err: memory was refused, which needs more than `L` digits in all. The list stays as it is either way.
+    fn reserve(&mut self, count: usize) -> Result<(), AllocError>
+        ensures ok { OnOk result (count ≤ room self.new) }
+        ensures digits { digits self.new ≡ digits self.old }
+        ensures succeeds { length (digits self.old) + count ≤ L → IsOk result };
+
+    /// Keeps the first `count` digits.
+    ///
+    /// Requires at least so many.
+    fn truncate(&mut self, count: usize)
+        requires { count ≤ length (digits self.old) }
+        ensures { digits self.new ≡ take count (digits self.old) };
+
+    /// Drops the first `count` digits.
+    ///
+    /// Requires at least so many.
+    fn cut_front(&mut self, count: usize)
+        requires { count ≤ length (digits self.old) }
+        ensures { digits self.new ≡ drop count (digits self.old) };
+
+    /// Drops all digits.
+    fn clear(&mut self)
+        ensures { digits self.new ≡ [] };
+
+    /// Appends so many zeros, and then another list.
+    ///
+    /// Err: memory was refused, which needs more than `L` digits in all. The list then stays as it was.
+    fn append(&mut self, zeros: usize, other: &Self) -> Result<(), AllocError>
+        ensures ok { OnOk result (digits self.new ≡ (digits self.old ++ replicate zeros 0) ++ digits other.now) }
+        ensures err { OnErr result (digits self.new ≡ digits self.old) }
+        ensures succeeds { length (digits self.old) + zeros + length (digits other.now) ≤ L → IsOk result };
+
+    /// Tells whether two lists have the same digits.
+    fn eq(&self, other: &Self) -> bool
+        ensures { IsTrue result ↔ (digits self.now ≡ digits other.now) };
+
+    /// The five digits of the longest `u16` need no allocation.
+    ghost enough: { 5 ≤ L };
+
+    /// There is room up to `L` digits.
+    ghost roomy: { (s : Self) → L ≤ length (digits s) + room s };
+
+    /// The digits are 0 to 9.
+    ghost are_digits: { (s : Self) → All (λ d. d < 10) (digits s) };
+}

@@ -1,0 +1,106 @@
+//! A list of digits with one digit to a byte.
+ghost use Rattle.std.specs.Prelude.{◌≡◌, ℕ, ◌+◌, ◌-◌, ◌<◌, ◌≤◌, max, List, length, All};
+
+use super::DigitStore;
+use smallvec::SmallVec;
+use std::alloc::{AllocError, Global};
+
+/// A list of digits with one digit to a byte, of which the first eight lie in place.
+///
+/// The list that `from_digits` makes of 2, 5 and 0 has three digits and no allocation. The original keeps its digits so.
+#[derive(Drop)]
+pub struct DigitList {
+    bytes: SmallVec<u8, 8>,
+    ghost inline: { 8 ≤ bytes.capacity },
+    ghost decimal: { All (λ d. d < 10) bytes.items },
+}
+
+impl DigitStore for DigitList {
+    ghost digits = { λ s. s.bytes.items };
+
+    ghost room = { λ s. max 8 s.bytes.capacity - length s.bytes.items };
+
+    ghost L = { 8 };
+
+    const L: usize = 8;
+
+    ghost use Rattle.std.proofs.Common.{arith};
+
+    ghost enough = { Prim.omega arith };
+
+    ghost roomy = { λ s. Prim.omega arith };
+
+    ghost are_digits = { λ s. s.decimal };
+
+    #[inline]
+    fn empty(alloc: Global) -> Self {
+        DigitList {
+            bytes: SmallVec::new(alloc),
+        }
+    }
+
+    fn from_digits(alloc: Global, list: &[u8]) -> Result<Self, AllocError> {
+        let bytes = SmallVec::from_slice(alloc, list)?;
+        let _at_least = bytes.capacity();
+        Ok(DigitList { bytes })
+    }
+
+    fn clone(&self) -> Result<Self, AllocError> {
+        let bytes = SmallVec::from_slice(*self.bytes.allocator(), self.bytes.as_slice())?;
+        let _at_least = bytes.capacity();
+        Ok(DigitList { bytes })
+    }
+
+    #[inline]
+    fn len(&self) -> usize {
+        self.bytes.len()
+    }
+
+    #[inline]
+    fn get(&self, index: usize) -> u8 {
+        self.bytes.as_slice()[index]
+    }
+
+    #[inline]
+    fn set(&mut self, index: usize, digit: u8) {
+        self.bytes.as_mut_slice()[index] = digit;
+    }
+
+    #[inline]
+    fn push_in_room(&mut self, digit: u8) {
+        self.bytes.push_reserved(digit);
+    }
+
+    #[inline]
+    fn reserve(&mut self, count: usize) -> Result<(), AllocError> {
+        self.bytes.reserve(count)
+    }
+
+    fn truncate(&mut self, count: usize) {
+        self.bytes.truncate(count);
+    }
+
+    fn cut_front(&mut self, count: usize) {
+        let left = self.bytes.len() - count;
+        self.bytes.as_mut_slice().copy_within(count.., 0);
+        self.bytes.truncate(left);
+    }
+
+    fn clear(&mut self) {
+        self.bytes.clear();
+    }
+
+    fn append(&mut self, zeros: usize, other: &Self) -> Result<(), AllocError> {
+        let count = zeros.checked_add(other.bytes.len()).ok_or(AllocError)?;
+        self.bytes.reserve(count)?;
+        for _ in 0..zeros {
+            self.bytes.push_reserved(0);
+        }
+        self.bytes.extend_from_slice(other.bytes.as_slice())
+    }
+
+    #[inline]
+    fn eq(&self, other: &Self) -> bool {
+        self.bytes.as_slice() == other.bytes.as_slice()
+    }
+}

@@ -1,0 +1,8 @@
+//! Lists of decimal digits, the arithmetic of magnitudes, and the sinks that take a number's text.
+//!
+//! A magnitude is a power of ten: 0 is that of the ones, -1 that of the tenths.
+#![tactic(auto)]
+
+pub mod digits;
+pub mod ops;
+pub mod sink;

@@ -1,0 +1,69 @@
+//! Arithmetic on magnitudes, which lie in 16 bits: each function computes in a wider type, so none wraps.
+ghost use Rattle.std.specs.Prelude.{◌≡◌, ◌+◌, ◌+ℤ◌, ◌-ℤ◌, ◌≤ℤ◌, pos, negsuc};
+ghost use Rattle.std.specs.Int.{int_max, int_min, int_gap};
+
+/// Adds two magnitudes, or a magnitude and a distance.
+///
+/// The sum may lie outside 16 bits: 32767 and 1 give 32768. Not in the original.
+#[inline]
+pub fn sum(a: i16, b: i16) -> i32
+    ensures { result ≡ a +ℤ b }
+{
+    a as i32 + b as i32
+}
+
+/// Gives a magnitude that is known to fit as an `i16`.
+///
+/// Requires -32768 to 32767: `narrowed(-5)` is -5. Not in the original.
+#[inline]
+pub fn narrowed(magnitude: i32) -> i16
+    requires low { negsuc 32767 ≤ℤ magnitude }
+    requires high { magnitude ≤ℤ pos 32767 }
+    ensures { result ≡ magnitude }
+{
+    magnitude as i16
+}
+
+/// Gives the magnitude, or 0 in place of a negative one.
+///
+/// `at_least_zero(-2)` is 0. Requires at most 32767. Not in the original.
+#[inline]
+pub fn at_least_zero(magnitude: i32) -> i16
+    requires { magnitude ≤ℤ pos 32767 }
+    ensures { result ≡ int_max magnitude (pos 0) }
+{
+    magnitude.max(0) as i16
+}
+
+/// Gives the magnitude, or 0 in place of a positive one.
+///
+/// `at_most_zero(3)` is 0. Requires at least -32768. Not in the original.
+#[inline]
+pub fn at_most_zero(magnitude: i32) -> i16
+    requires { negsuc 32767 ≤ℤ magnitude }
+    ensures { result ≡ int_min magnitude (pos 0) }
+{
+    magnitude.min(0) as i16
+}
+
+/// Counts the magnitudes from `lo` to `hi`, both included.
+///
+/// `count_between(-2, 0)` is 3, and the greatest count is 65,536. Not in the original.
+#[inline]
+pub fn count_between(lo: i16, hi: i16) -> u32
+    requires { lo ≤ℤ hi }
+    ensures { result ≡ int_gap lo hi + 1 }
+{
+    (hi as i32 - lo as i32 + 1) as u32
+}
+
+/// Gives the magnitude that lies `by` places below another.
+///
+/// `lowered(2, 5)` is -3. Requires that the answer is at least -32768. Not in the original.
+#[inline]
+pub fn lowered(magnitude: i16, by: u32) -> i16
+    requires { negsuc 32767 ≤ℤ (magnitude -ℤ pos by) }
+    ensures { result ≡ magnitude -ℤ pos by }
+{
+    (magnitude as i64 - by as i64) as i16
+}

@@ -1,0 +1,62 @@
+//! What takes the bytes of a text, and what has a text.
+ghost use Rattle.std.specs.Prelude.{◌≡◌, ℕ, List, [], ◌∷◌, length, Option, OnOk, OnErr, Bool, true, false};
+ghost use Rattle.std.specs.Io.KnownBytes.{Keeps, Appends};
+ghost use Rattle.decimal_digits.specs.Text.{AppendsBeginning};
+
+mod out;
+mod text_buf;
+
+pub use out::Out;
+pub use text_buf::TextBuf;
+
+/// Says that a sink refused a byte.
+///
+/// Not in the original, which writes to `core::fmt::Write`.
+#[derive(Clone, Copy, Debug, PartialEq)]
+pub struct SinkFault;
+
+/// What takes bytes, one at a time.
+///
+/// Contracts see the bytes that were taken, where the sink tells them, and whether it has failed. Not in the original.
+pub trait Sink {
+    /// The bytes that were taken, where the sink tells them.
+    ghost contents: { Self → Option (List ℕ) };
+
+    /// Whether a byte was refused.
+    ghost has_failed: { Self → Bool };
+
+    /// Takes one byte.
+    ///
+    /// Err: the byte was refused, the contents stay as they were, and the sink has failed. A sink that has failed
+    /// refuses each byte.
+    fn put_byte(&mut self, byte: u8) -> Result<(), SinkFault>
+        ensures appends { OnOk result (Appends (contents self.old) (contents self.new) (byte ∷ [])) }
+        ensures worked { OnOk result (has_failed self.old ≡ false) }
+        ensures works { OnOk result (has_failed self.new ≡ false) }
+        ensures keeps { OnErr result (Keeps (contents self.old) (contents self.new)) }
+        ensures fails { OnErr result (has_failed self.new ≡ true) };
+
+    /// Tells whether a byte was refused.
+    fn failed(&self) -> bool
+        ensures { result ≡ has_failed self.now };
+}
+
+/// What has a text.
+///
+/// The original's trait comes from the crate `writeable`; these are the two calls of it that a number needs.
+pub trait Writeable {
+    /// The bytes of the text.
+    ghost text: { Self → List ℕ };
+
+    /// Appends the text to a sink.
+    ///
+    /// Err: the sink refused a byte, now or before. It has then taken a beginning of the text.
+    fn write_to<W: Sink>(&self, sink: &mut W) -> Result<(), SinkFault>
+        ensures ok { OnOk result (Appends (W.contents sink.old) (W.contents sink.new) (text self.now)) }
+        ensures err { OnErr result (AppendsBeginning (W.contents sink.old) (W.contents sink.new) (text self.now)) }
+        ensures failed { OnErr result (W.has_failed sink.new ≡ true) };
+
+    /// Counts the bytes of the text, exactly.
+    fn writeable_length_hint(&self) -> usize
+        ensures { result ≡ length (text self.now) };
+}
