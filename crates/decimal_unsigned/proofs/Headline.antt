@@ -1,0 +1,84 @@
+-- Reading and the grammar.
+use Rattle.std.proofs.Common.{◌≡◌, ℕ, ◌≤◌, ◌-◌, ◌==◌, Bool, true, false, cond, ◌||◌, ◌⊎◌, inl, inr, List, length, drop, refl, sym, ◌∙◌, ap, arith}
+use Rattle.std.specs.Prelude.{ℤ, Option, Some, None, Result, Ok, Err, IfOk, IfErr, IsOkAnd, ◌↔◌}
+use Rattle.std.proofs.lemmas.List.{length-take-le, length-drop}
+use Rattle.decimal_unsigned.specs.Unsigned.{Unsigned}
+use Rattle.decimal_unsigned.specs.declared.error.ParseError.{ParseError}
+use Rattle.decimal_unsigned.specs.declared.error.ParseError.TheVariants.{Limit, Syntax, Memory}
+use Rattle.decimal_unsigned.specs.Grammar.{Written, Grammar}
+use Rattle.decimal_unsigned.specs.Reading.{Fault, parts_of, mantissa, is_outside, scaled, value_of, value_or_syntax, read, syntax, limit}
+use Rattle.decimal_unsigned.specs.Edits.{leaves_limits}
+use Rattle.decimal_unsigned.specs.Placing.{middle}
+use Rattle.decimal_unsigned.specs.Refusal.{Refuses}
+use Rattle.decimal_unsigned.proofs.Laws.{parts_again, parts_takes}
+
+-- a value, or the limit
+abbrev Values : Result Unsigned Fault → Type 0
+Values r = ((v : Unsigned) × (r ≡ Ok v)) ⊎ (r ≡ Err limit)
+
+tested : (b : Bool) (x y : Result Unsigned Fault) → Values x → Values y → Values (cond b x y)
+tested true x y p q = p
+tested false x y p q = q
+
+scaled_values : (v : Unsigned) (e : Option ℤ) → Values (scaled v e)
+unfolding scaled
+scaled_values v None = inl (v, refl)
+scaled_values v (Some e) = tested (v.number == 0) _ _ (inl (v, refl)) (tested (is_outside e || leaves_limits v e) _ _ (inr refl) (inl (_, refl)))
+
+value_of_values : (w : Written) → Values (value_of w)
+unfolding value_of
+value_of_values w = tested _ _ _ (inr refl) (scaled_values (mantissa w.whole w.fraction) w.exponent)
+
+not_syntax : (w : Written) → ¬ (value_of w ≡ Err syntax)
+not_syntax w e = elim (value_of_values w) [ inl h ↦ let v = h.0 in let q = h.1 in cc | inr h ↦ cc ]
+
+-- the text's value is that of its parts
+pub read_grammar : (text : List ℕ) (w : Written) → Grammar text w → read text ≡ value_of w
+unfolding read value_or_syntax
+read_grammar text w g = ap value_or_syntax (parts_again text w g)
+
+pub grammar_if : (text : List ℕ) → ¬ (read text ≡ Err syntax) → (w : Written) × Grammar text w × (read text ≡ value_of w)
+unfolding read value_or_syntax
+grammar_if text n = go (parts_of text) refl
+  where
+    go : (o : Option Written) → parts_of text ≡ o → (w : Written) × Grammar text w × (read text ≡ value_of w)
+    go None e = absurd (n (ap value_or_syntax e))
+    go (Some w) e = (w, parts_takes text w e, ap value_or_syntax e)
+
+-- no form holds
+pub syntax_is : (text : List ℕ) → (read text ≡ Err syntax) ↔ ((w : Written) → ¬ Grammar text w)
+unfolding read value_or_syntax
+syntax_is text = (λ e w g. not_syntax w (sym (read_grammar text w g) ∙ e), λ n. go n (parts_of text) refl)
+  where
+    go : ((w : Written) → ¬ Grammar text w) → (o : Option Written) → parts_of text ≡ o → value_or_syntax (parts_of text) ≡ Err syntax
+    go n None e = ap value_or_syntax e
+    go n (Some w) e = absurd (n w (parts_takes text w e))
+
+pub limit_is : (text : List ℕ) → (read text ≡ Err limit) ↔ ((w : Written) × Grammar text w × (value_of w ≡ Err limit))
+limit_is text = (
+  λ e. let k = grammar_if text (λ s. let never : ⊥ = cc in never) in (k.0, k.1, sym k.2 ∙ e),
+  λ k. read_grammar text k.0 k.1 ∙ k.2,
+)
+
+pub value_is : (text : List ℕ) (v : Unsigned) → read text ≡ Ok v → (w : Written) × Grammar text w × (value_of w ≡ Ok v)
+value_is text v e = let k = grammar_if text (λ s. let never : ⊥ = cc in never) in (k.0, k.1, sym k.2 ∙ e)
+
+-- ---- what a parser answered
+pub answers_syntax : (room : Unsigned → Type 0) (r : Result Unsigned ParseError) (q : Result Unsigned Fault) → IfOk r (λ v. q ≡ Ok v) → IfErr r (λ e. Refuses (IsOkAnd q room) e q) → (r ≡ Err Syntax) ↔ (q ≡ Err syntax)
+answers_syntax room (Ok v) q a b = (λ e. absurd (cc), λ e. absurd (cc))
+answers_syntax room (Err Limit) q a b = (λ e. absurd (cc), λ e. absurd (cc))
+answers_syntax room (Err Syntax) q a b = (λ e. b, λ e. refl)
+answers_syntax room (Err Memory) q a b = (λ e. absurd (cc), λ e. absurd (rw e at b))
+
+pub answers_limit : (room : Unsigned → Type 0) (r : Result Unsigned ParseError) (q : Result Unsigned Fault) → IfOk r (λ v. q ≡ Ok v) → IfErr r (λ e. Refuses (IsOkAnd q room) e q) → (r ≡ Err Limit) ↔ (q ≡ Err limit)
+answers_limit room (Ok v) q a b = (λ e. absurd (cc), λ e. absurd (cc))
+answers_limit room (Err Limit) q a b = (λ e. b, λ e. refl)
+answers_limit room (Err Syntax) q a b = (λ e. absurd (cc), λ e. absurd (cc))
+answers_limit room (Err Memory) q a b = (λ e. absurd (cc), λ e. absurd (rw e at b))
+
+pub answers_value : (text : List ℕ) (r : Result Unsigned ParseError) → IfOk r (λ v. read text ≡ Ok v) → IfOk r (λ v. (w : Written) × Grammar text w × (value_of w ≡ Ok v))
+answers_value text (Ok v) a = value_is text v a
+answers_value text (Err e) a = tt
+
+pub middle_long : (start end : ℕ) (ds : List ℕ) → start ≤ end → end ≤ length ds → length (middle start end ds) ≡ end - start
+middle_long start end ds p q = length-take-le (end - start) (drop start ds) (omega (arith, length-drop start ds))

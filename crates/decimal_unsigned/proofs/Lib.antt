@@ -1,0 +1,13 @@
+pub mod Values
+pub mod Shifts
+pub mod Unique
+pub mod Shown
+pub mod Writing
+pub mod Lengths
+pub mod Numerals
+pub mod Laws
+pub mod Middle
+pub mod Plans
+pub mod Held
+pub mod Headline
+pub mod ReadBack

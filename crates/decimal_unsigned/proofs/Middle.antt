@@ -1,0 +1,77 @@
+-- What the digits between the zeros are worth.
+use Rattle.std.proofs.Common.{◌≡◌, ℕ, suc, ◌+◌, ◌-◌, ◌*◌, ◌^◌, ◌<◌, ◌≤◌, List, [], ◌∷◌, length, get_or, take, drop, refl, sym, ◌∙◌, ap, subst, arith}
+use Rattle.std.specs.Prelude.{ℤ, pos, ◌-ℤ◌}
+use Rattle.std.proofs.lemmas.Int.{ints}
+use Rattle.std.proofs.lemmas.Nat.{pow-add}
+use Rattle.std.proofs.Common.{inl, inr}
+use Rattle.std.proofs.lemmas.Bool.{cases_lt}
+use Rattle.std.proofs.lemmas.List.{length-drop, length-take, length-take-le, get_or-take, get_or-drop}
+use Rattle.std.specs.Int.Digits.{number_from_digits, AllBelowBase}
+use Rattle.decimal_digits.specs.Number.{place}
+use Rattle.decimal_digits.specs.Digits.{number_of}
+use Rattle.decimal_unsigned.specs.Fields.{IsTrimmed}
+use Rattle.decimal_digits.proofs.Places.{place_is}
+use Rattle.decimal_digits.proofs.DigitLists.{after_is, number_split, below_take, below_drop}
+use Rattle.decimal_unsigned.specs.Placing.{middle, IsInner}
+
+pub number_zeros : (ds : List ℕ) → ((k : ℕ) → k < length ds → get_or ds k 0 ≡ 0) → number_from_digits 10 ds ≡ 0
+number_zeros [] h = refl
+number_zeros (d ∷ ds) h =
+    let z : d ≡ 0 = h 0 (omega arith) in
+    let e : number_from_digits 10 (d ∷ ds) ≡ (0 * 10 + d) * 10 ^ length ds + number_from_digits 10 ds = after_is (0 * 10 + d) ds in
+    let r = number_zeros ds (λ k l. h (suc k) (omega arith)) in
+    rw (e, r, z) (omega arith)
+
+module _ (ds : List ℕ) (start end : ℕ) (n : IsInner ds start end) where
+  pub middle_length : length (middle start end ds) ≡ end - start
+  middle_length = length-take-le (end - start) (drop start ds) (omega (arith, n.within, length-drop start ds))
+
+  pub middle_at : (i : ℕ) → i < end - start → get_or (middle start end ds) i 0 ≡ get_or ds (start + i) 0
+  middle_at i h = get_or-take (end - start) (drop start ds) i 0 h ∙ get_or-drop start ds i 0
+
+  pub number_middle : number_from_digits 10 ds ≡ number_from_digits 10 (middle start end ds) * 10 ^ (length ds - end)
+  number_middle =
+      let a = number_split start ds (omega (arith, n.ordered, n.within)) in
+      let z : number_from_digits 10 (take start ds) ≡ 0 = number_zeros (take start ds) (λ k h. let l : k < start = omega (arith, length-take start ds) in get_or-take start ds k 0 l ∙ n.before k l) in
+      let m : end - start ≤ length (drop start ds) = omega (arith, n.ordered, n.within, length-drop start ds) in
+      let b = number_split (end - start) (drop start ds) m in
+      let y : number_from_digits 10 (drop (end - start) (drop start ds)) ≡ 0 = number_zeros (drop (end - start) (drop start ds)) (λ k h. get_or-drop (end - start) (drop start ds) k 0 ∙ get_or-drop start ds (end - start + k) 0 ∙ n.after (start + (end - start + k)) (omega (arith, n.ordered))) in
+      let k : length (drop start ds) - (end - start) ≡ length ds - end = omega (arith, n.ordered, n.within, length-drop start ds) in
+      a ∙ (rw (z, b, y, k) (omega arith))
+
+  pub middle_below : AllBelowBase 10 ds → AllBelowBase 10 (middle start end ds)
+  middle_below h = below_take (end - start) (drop start ds) (below_drop start ds h)
+
+-- the same of a places in front of the dot and b behind it
+pub number_of-middle : (ds : List ℕ) (start end a b : ℕ) (m : ℤ) → IsInner ds start end → length ds ≡ a + b → b ≤ 32768 → place m + (start + 1) ≡ 32768 + a → number_of (middle start end ds) m ≡ number_from_digits 10 ds * 10 ^ (32768 - b)
+unfolding number_of
+number_of-middle ds start end a b m n whole few p =
+    let l = middle_length ds start end n in
+    let k : place m + 1 - length (middle start end ds) ≡ (length ds - end) + (32768 - b) = omega (arith, n.ordered, n.within) in
+    let e : number_from_digits 10 (middle start end ds) * 10 ^ (place m + 1 - length (middle start end ds)) ≡ (number_from_digits 10 (middle start end ds) * 10 ^ (length ds - end)) * 10 ^ (32768 - b) = rw (k, pow-add 10 (length ds - end) (32768 - b)) (omega arith) in
+    e ∙ ap (λ x. x * 10 ^ (32768 - b)) (sym (number_middle ds start end n))
+
+pub trimmed_middle : (ds : List ℕ) (start end a b : ℕ) (m : ℤ) → IsInner ds start end → AllBelowBase 10 ds → length ds ≡ a + b → a ≤ 32768 → b ≤ 32768 → m ≡ (pos a -ℤ pos 1) -ℤ pos start → IsTrimmed (middle start end ds) m (pos (a - 1)) (pos 0 -ℤ pos b)
+trimmed_middle ds start end a b m n d whole many few e =
+    let l = middle_length ds start end n in
+    record {
+      digits = middle_below ds start end n d;
+      front = λ h. rw (middle_at ds start end n 0 (omega arith)) (subst (λ i. 0 < get_or ds i 0) (let k : start ≡ start + 0 = omega arith in k) n.front);
+      back = λ h. rw (l, middle_at ds start end n (end - start - 1) (omega arith)) (subst (λ i. 0 < get_or ds i 0) (let k : end - 1 ≡ start + (end - start - 1) = omega (arith, n.ordered) in k) n.back);
+      empty = λ z. absurd (omega (arith, n.ordered));
+      above = omega (arith, ints, e);
+      below = omega (arith, ints, e, n.ordered, n.within);
+      fits = omega (arith, ints, e, n.ordered, n.within, place_is m, place_is (pos 0 -ℤ pos b));
+      hi_in = omega (arith, ints);
+      lo_in = omega (arith, ints);
+      in_range = (omega (arith, ints), omega (arith, ints));
+    }
+
+-- what the two searches found
+pub inner : (ds : List ℕ) (start end : ℕ) → 0 < end → end ≤ length ds → ((k : ℕ) → k < start → get_or ds k 0 ≡ 0) → (start < length ds → 0 < get_or ds start 0) → ((k : ℕ) → end ≤ k → get_or ds k 0 ≡ 0) → (0 < end → 0 < get_or ds (end - 1) 0) → IsInner ds start end
+inner ds start end p w before front after back =
+    let s : start < end = elim (cases_lt (end - 1) start) [
+      | inl h ↦ absurd (omega (arith, before (end - 1) h, back p))
+      | inr h ↦ omega arith
+    ] in
+    record { ordered = s; within = w; before = before; after = after; front = front (omega arith); back = back p }

@@ -1,0 +1,196 @@
+-- The value of the parts, by the digits that are kept.
+use Rattle.std.proofs.Common.{◌≡◌, ℕ, ◌+◌, ◌-◌, ◌*◌, ◌^◌, ◌<◌, ◌≤◌, ◌==◌, nat_lt, Bool, true, false, cond, ◌||◌, ◌⊎◌, inl, inr, List, ◌++◌, length, get_or, refl, sym, ◌∙◌, ap, subst, arith}
+use Rattle.std.specs.Prelude.{ℤ, pos, negsuc, ◌+ℤ◌, ◌-ℤ◌, ◌≤ℤ◌, ◌<ℤ◌, int_lt, Option, Some, None, Ok, Err, if◌then◌else◌}
+use Rattle.std.specs.Int.{int_max, int_min}
+use Rattle.std.proofs.lemmas.Int.{ints, clamps}
+use Rattle.std.proofs.lemmas.Bool.Decides.{nat_tests}
+use Rattle.std.proofs.lemmas.List.{length-map, length-append}
+use Rattle.std.specs.Char.{digit_value}
+use Rattle.std.specs.Str.Parse.{AllDigits, digits_value}
+use Rattle.std.specs.Int.Digits.{AllBelowBase}
+use Rattle.std.proofs.lemmas.Int.Digits.{digits_value_is, all_below_base_from_digits}
+use Rattle.decimal_digits.specs.Number.{first, last}
+use Rattle.decimal_unsigned.specs.Unsigned.{Unsigned}
+use Rattle.decimal_digits.specs.Digits.{number_of}
+use Rattle.decimal_unsigned.specs.Fields.{IsTrimmed}
+use Rattle.decimal_unsigned.specs.Edits.{multiplied}
+use Rattle.decimal_digits.proofs.Places.{place_is}
+use Rattle.decimal_unsigned.proofs.Values.{number_of-pos, first-number_of, last-number_of, number_of_empty, lowest}
+use Rattle.decimal_unsigned.proofs.Shifts.{Moves, moved, multiplied_is}
+use Rattle.decimal_unsigned.specs.Grammar.{Written}
+use Rattle.decimal_unsigned.specs.Reading.{mantissa, is_outside, tidied, scaled, value_of, limit}
+use Rattle.decimal_unsigned.specs.Edits.{leaves_limits}
+use Rattle.decimal_unsigned.specs.Placing.{digits_of, middle, Placed, IsInner, Makes}
+use Rattle.decimal_unsigned.proofs.Middle.{number_zeros, middle_length, number_of-middle, trimmed_middle}
+
+-- the same digits, of which others are shown
+pub shown : {ds : List ℕ} {m hi lo : ℤ} (hi' lo' : ℤ) → IsTrimmed ds m hi lo → 0 < length ds → m ≤ℤ hi' → pos 0 ≤ℤ hi' → hi' ≤ℤ pos 32767 → lo' ≤ℤ (m -ℤ pos (length ds - 1)) → lo' ≤ℤ pos 0 → negsuc 32767 ≤ℤ lo' → IsTrimmed ds m hi' lo'
+shown {ds} {m} {hi} {lo} hi' lo' t p a b c d e f = record {
+  digits = t.digits;
+  front = t.front;
+  back = t.back;
+  empty = t.empty;
+  above = a;
+  below = omega (arith, ints);
+  fits = omega (arith, ints, place_is m, place_is lo', p, lowest t);
+  hi_in = b;
+  lo_in = e;
+  in_range = (f, c);
+}
+
+pub over : (a : ℤ) → pos 32767 <ℤ a → int_lt (pos 32767) a ≡ true
+over a h = grind (arith, ints, h)
+
+pub under : (a : ℤ) → a <ℤ negsuc 32767 → int_lt a (negsuc 32767) ≡ true
+under a h = grind (arith, ints, h)
+
+not_over : (a : ℤ) → a ≤ℤ pos 32767 → int_lt (pos 32767) a ≡ false
+not_over a h = grind (arith, ints, h)
+
+not_under : (a : ℤ) → negsuc 32767 ≤ℤ a → int_lt a (negsuc 32767) ≡ false
+not_under a h = grind (arith, ints, h)
+
+or_true : (b : Bool) → (b || true) ≡ true
+or_true true = refl
+or_true false = refl
+
+out_of_reach : (a : Bool) (x y : ℤ) → (pos 32767 <ℤ x) ⊎ (y <ℤ negsuc 32767) → (a || (int_lt (pos 32767) x || int_lt y (negsuc 32767))) ≡ true
+out_of_reach a x y (inl h) = rw (over x h) (or_true a)
+out_of_reach a x y (inr h) = rw (under y h, or_true (int_lt (pos 32767) x)) (or_true a)
+
+-- what is shown of digits that begin at x, of a range up to h
+upper_is : (x h h' : ℤ) → h' ≡ (if int_lt (pos 0) x then x else int_max h (pos 0)) → x ≤ℤ h → h ≤ℤ pos 32767 → (x ≤ℤ h') × (pos 0 ≤ℤ h') × (h' ≤ℤ pos 32767)
+upper_is x h h' e a b = go (int_lt (pos 0) x) refl e
+  where
+    go : (t : Bool) → int_lt (pos 0) x ≡ t → h' ≡ cond t x (int_max h (pos 0)) → (x ≤ℤ h') × (pos 0 ≤ℤ h') × (h' ≤ℤ pos 32767)
+    go true t k = let l : pos 0 <ℤ x = grind (arith, ints, t) in (omega (arith, ints, k), omega (arith, ints, k), omega (arith, ints, k))
+    go false t k = let l : x ≤ℤ pos 0 = grind (arith, ints, t) in (omega (arith, ints, clamps, k), omega (arith, ints, clamps, k), omega (arith, ints, clamps, k))
+
+lower_is : (x h h' : ℤ) → h' ≡ (if int_lt x (pos 0) then x else int_min h (pos 0)) → h ≤ℤ x → negsuc 32767 ≤ℤ h → (h' ≤ℤ x) × (h' ≤ℤ pos 0) × (negsuc 32767 ≤ℤ h')
+lower_is x h h' e a b = go (int_lt x (pos 0)) refl e
+  where
+    go : (t : Bool) → int_lt x (pos 0) ≡ t → h' ≡ cond t x (int_min h (pos 0)) → (h' ≤ℤ x) × (h' ≤ℤ pos 0) × (negsuc 32767 ≤ℤ h')
+    go true t k = let l : x <ℤ pos 0 = grind (arith, ints, t) in (omega (arith, ints, k), omega (arith, ints, k), omega (arith, ints, k))
+    go false t k = let l : pos 0 ≤ℤ x = grind (arith, ints, t) in (omega (arith, ints, clamps, k), omega (arith, ints, clamps, k), omega (arith, ints, clamps, k))
+
+none_or_zero : (v : Unsigned) (e : Option ℤ) → v.number ≡ 0 → scaled v e ≡ Ok v
+unfolding scaled
+none_or_zero v None n = refl
+none_or_zero v (Some e) n = rw n refl
+
+-- ---- too many digits
+pub long_whole : (w : Written) → 32768 < length w.whole → value_of w ≡ Err limit
+unfolding value_of
+long_whole w h = let t : nat_lt 32768 (length w.whole) ≡ true = grind (arith, nat_tests, h) in rw t refl
+
+pub long_fraction : (w : Written) → 32768 < length w.fraction → value_of w ≡ Err limit
+unfolding value_of
+long_fraction w h = let t : nat_lt 32768 (length w.fraction) ≡ true = grind (arith, nat_tests, h) in rw (t, or_true (nat_lt 32768 (length w.whole))) refl
+
+module _ (w : Written) (digits : AllDigits 10 (w.whole ++ w.fraction)) (few : length w.whole ≤ 32768) (short : length w.fraction ≤ 32768) where
+  below : AllBelowBase 10 (digits_of w)
+  below = all_below_base_from_digits 10 (w.whole ++ w.fraction) digits
+
+  pub length_digits : length (digits_of w) ≡ length w.whole + length w.fraction
+  length_digits = length-map (w.whole ++ w.fraction) digit_value ∙ length-append w.whole w.fraction
+
+  value_scaled : value_of w ≡ scaled (mantissa w.whole w.fraction) w.exponent
+  unfolding value_of
+  value_scaled =
+      let a : nat_lt 32768 (length w.whole) ≡ false = grind (arith, nat_tests, few) in
+      let b : nat_lt 32768 (length w.fraction) ≡ false = grind (arith, nat_tests, short) in
+      rw (a, b) refl
+
+  -- ---- zero
+  pub makes_zero : ((k : ℕ) → k < length (digits_of w) → get_or (digits_of w) k 0 ≡ 0) → Makes w 0 0 (pos 0) (pos (length w.whole - 1)) (pos 0 -ℤ pos (length w.fraction))
+  makes_zero h =
+      let z : digits_value 10 (w.whole ++ w.fraction) ≡ 0 = digits_value_is 10 (w.whole ++ w.fraction) ∙ number_zeros (digits_of w) h in
+      let n : (mantissa w.whole w.fraction).number ≡ 0 = rw z (omega arith) in
+      record {
+        ordered = omega arith;
+        within = omega arith;
+        trimmed = record {
+          digits = tt;
+          front = λ p. absurd (omega arith);
+          back = λ p. absurd (omega arith);
+          empty = λ p. refl;
+          above = omega (arith, ints);
+          below = omega (arith, ints);
+          fits = omega (arith, ints, place_is (pos 0), place_is (pos 0 -ℤ pos (length w.fraction)));
+          hi_in = omega (arith, ints);
+          lo_in = omega (arith, ints);
+          in_range = (omega (arith, ints), omega (arith, ints));
+        };
+        value = value_scaled ∙ none_or_zero (mantissa w.whole w.fraction) w.exponent n ∙ ap Ok (λ i. record { number = (n ∙ sym (number_of_empty (pos 0))) i; hi = pos (length w.whole - 1); lo = pos 0 -ℤ pos (length w.fraction) });
+      }
+
+  module _ (start end : ℕ) (n : IsInner (digits_of w) start end) (m : ℤ) (at : m ≡ (pos (length w.whole) -ℤ pos 1) -ℤ pos start) where
+    trimmed : IsTrimmed (middle start end (digits_of w)) m (pos (length w.whole - 1)) (pos 0 -ℤ pos (length w.fraction))
+    trimmed = trimmed_middle (digits_of w) start end (length w.whole) (length w.fraction) m n below length_digits few short at
+
+    number_is : number_of (middle start end (digits_of w)) m ≡ (mantissa w.whole w.fraction).number
+    number_is = number_of-middle (digits_of w) start end (length w.whole) (length w.fraction) m n length_digits short (omega (arith, ints, at, place_is m, n.ordered, n.within, length_digits)) ∙ ap (λ x. x * 10 ^ (32768 - length w.fraction)) (sym (digits_value_is 10 (w.whole ++ w.fraction)))
+
+    some : 0 < length (middle start end (digits_of w))
+    some = omega (arith, middle_length (digits_of w) start end n, n.ordered)
+
+    number_pos : 0 < (mantissa w.whole w.fraction).number
+    number_pos = subst (λ x. 0 < x) number_is (number_of-pos trimmed some)
+
+    mantissa_is : record { number = number_of (middle start end (digits_of w)) m; hi = pos (length w.whole - 1); lo = pos 0 -ℤ pos (length w.fraction) } ≡ mantissa w.whole w.fraction
+    mantissa_is = λ i. record { number = number_is i; hi = pos (length w.whole - 1); lo = pos 0 -ℤ pos (length w.fraction) }
+
+    -- ---- no exponent
+    pub makes_plain : w.exponent ≡ None → Makes w start end m (pos (length w.whole - 1)) (pos 0 -ℤ pos (length w.fraction))
+    unfolding scaled
+    makes_plain e = record {
+      ordered = omega (arith, n.ordered);
+      within = n.within;
+      trimmed = trimmed;
+      value = value_scaled ∙ (rw e (ap Ok (sym mantissa_is)));
+    }
+
+    -- ---- an exponent
+    pub limit_scaled : (e : ℤ) → w.exponent ≡ Some e → (pos 32767 <ℤ (pos (length w.whole - 1) +ℤ e)) ⊎ (((pos 0 -ℤ pos (length w.fraction)) +ℤ e) <ℤ negsuc 32767) → value_of w ≡ Err limit
+    unfolding scaled
+    limit_scaled e s o =
+        let v = mantissa w.whole w.fraction in
+        let z : (v.number == 0) ≡ false = let p = number_pos in grind (arith, nat_tests, p) in
+        let t : (is_outside e || leaves_limits v e) ≡ true = out_of_reach (is_outside e) _ _ o in
+        value_scaled ∙ (rw (s, z, t) refl)
+
+    pub makes_scaled : (e : ℤ) (m' hi' lo' : ℤ) → w.exponent ≡ Some e → Placed m (pos (length w.whole) -ℤ pos end) (pos (length w.whole - 1)) (pos 0 -ℤ pos (length w.fraction)) e m' hi' lo' → Makes w start end m' hi' lo'
+    unfolding scaled
+    makes_scaled e m' hi' lo' s p =
+        let v = mantissa w.whole w.fraction in
+        let ds = middle start end (digits_of w) in
+        let hi = pos (length w.whole - 1) in
+        let lo = pos 0 -ℤ pos (length w.fraction) in
+        let moves : Moves ds m hi lo e m' (int_max (hi +ℤ e) (pos 0)) (int_min (lo +ℤ e) (pos 0)) = record { some = λ h. p.magnitude; none = λ y. absurd (omega (arith, some)); hi_is = refl; lo_is = refl; hi_fits = p.upper; lo_fits = p.lower } in
+        let t = moved trimmed moves in
+        let u = multiplied_is e trimmed moves ∙ ap (λ x. multiplied x e) mantissa_is in
+        let f : first (number_of ds m') ≡ m +ℤ e = first-number_of t some ∙ p.magnitude in
+        let l : last (number_of ds m') ≡ (pos (length w.whole) -ℤ pos end) +ℤ e = last-number_of t some ∙ (omega (arith, ints, p.magnitude, at, middle_length (digits_of w) start end n, n.ordered)) in
+        let z : (v.number == 0) ≡ false = let q = number_pos in grind (arith, nat_tests, q) in
+        let a = not_over e (omega (arith, ints, p.upper)) in
+        let b = not_under e (omega (arith, ints, p.lower)) in
+        let c = not_over (hi +ℤ e) p.upper in
+        let d = not_under (lo +ℤ e) p.lower in
+        let tidy : tidied (multiplied v e) ≡ record { number = number_of ds m'; hi = hi'; lo = lo' } =
+        ap tidied (sym u)
+        ∙ (λ i. record { number = number_of ds m'; hi = if int_lt (pos 0) (f i) then f i else int_max (hi +ℤ e) (pos 0); lo = if int_lt (l i) (pos 0) then l i else int_min (lo +ℤ e) (pos 0) })
+        ∙ (λ i. record { number = number_of ds m'; hi = sym p.hi_is i; lo = sym p.lo_is i }) in
+        let up = upper_is (m +ℤ e) (hi +ℤ e) hi' p.hi_is (omega (arith, ints, at, n.ordered)) p.upper in
+        let down = lower_is ((pos (length w.whole) -ℤ pos end) +ℤ e) (lo +ℤ e) lo' p.lo_is (omega (arith, ints, n.within, length_digits)) p.lower in
+        record {
+          ordered = omega (arith, n.ordered);
+          within = n.within;
+          trimmed = shown hi' lo' t some (omega (arith, ints, p.magnitude, up.0)) up.1 up.2 (omega (arith, ints, p.magnitude, at, down.0, middle_length (digits_of w) start end n, n.ordered)) down.1 down.2;
+          value = value_scaled ∙ (rw (s, z, a, b, c, d) (ap Ok tidy));
+        }
+
+pub makes_at : (w : Written) (start end : ℕ) (m hi lo m' hi' lo' : ℤ) → Makes w start end m hi lo → m' ≡ m → hi' ≡ hi → lo' ≡ lo → Makes w start end m' hi' lo'
+makes_at w start end m hi lo m' hi' lo' k p q r = rw (p, q, r) k
+
+pub placed_at : (first last hi lo e m' hi' lo' f l h o x : ℤ) → Placed first last hi lo e m' hi' lo' → first ≡ f → last ≡ l → hi ≡ h → lo ≡ o → e ≡ x → Placed f l h o x m' hi' lo'
+placed_at first last hi lo e m' hi' lo' f l h o x k p q r s t = rw (← p, ← q, ← r, ← s, ← t) k

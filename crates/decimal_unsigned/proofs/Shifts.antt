@@ -1,0 +1,109 @@
+-- A value times a power of ten.
+use Rattle.std.proofs.Common.{◌≡◌, ℕ, suc, ◌+◌, ◌-◌, ◌*◌, ◌/◌, ◌^◌, ◌<◌, ◌≤◌, true, false, ◌||◌, List, length, refl, sym, ◌∙◌, ap, arith, inl, inr, ◌⊎◌}
+use Rattle.std.specs.Prelude.{ℤ, pos, negsuc, ◌+ℤ◌, ◌≤ℤ◌, ◌<ℤ◌, int_lt}
+use Rattle.std.specs.Int.{int_max, int_min}
+use Rattle.std.proofs.Math.Nat.{zero-div}
+use Rattle.std.proofs.lemmas.Nat.{pow-add}
+use Rattle.std.proofs.lemmas.Int.{ints, clamps}
+use Rattle.std.proofs.lemmas.Bool.{cases_lt}
+use Rattle.std.specs.Int.Digits.{number_from_digits}
+use Rattle.decimal_digits.specs.Number.{place}
+use Rattle.decimal_unsigned.specs.Unsigned.{Unsigned, zero_value}
+use Rattle.decimal_digits.specs.Digits.{number_of}
+use Rattle.decimal_unsigned.specs.Fields.{IsTrimmed}
+use Rattle.decimal_unsigned.specs.Edits.{leaves_limits, multiplied, shifted}
+use Rattle.decimal_digits.proofs.Places.{place_is}
+use Rattle.decimal_digits.proofs.Ends.{shift_up}
+use Rattle.decimal_unsigned.proofs.Values.{number_of-none, lowest}
+
+-- the range of a shifted value
+pub record Moves (ds : List ℕ) (m hi lo d m' hi' lo' : ℤ) : Type 0 where
+  pub some : 0 < length ds → m' ≡ m +ℤ d
+  pub none : length ds ≡ 0 → m' ≡ pos 0
+  pub hi_is : hi' ≡ int_max (hi +ℤ d) (pos 0)
+  pub lo_is : lo' ≡ int_min (lo +ℤ d) (pos 0)
+  pub hi_fits : (hi +ℤ d) ≤ℤ pos 32767
+  pub lo_fits : negsuc 32767 ≤ℤ (lo +ℤ d)
+
+module _ {ds : List ℕ} {m hi lo d m' hi' lo' : ℤ} (t : IsTrimmed ds m hi lo) (s : Moves ds m hi lo d m' hi' lo') where
+  pub moved : IsTrimmed ds m' hi' lo'
+  moved = elim (cases_lt 0 (length ds)) [
+    | inl h ↦ let e = s.some h in record {
+      digits = t.digits;
+      front = t.front;
+      back = t.back;
+      empty = λ z. absurd (omega arith);
+      above = omega (arith, ints, clamps, t.above, t.below, s.hi_is);
+      below = omega (arith, ints, clamps, t.below, t.hi_in, t.lo_in, s.lo_is);
+      fits = omega (arith, ints, clamps, t.fits, t.below, t.in_range, s.lo_is, s.lo_fits, place_is lo, place_is m, place_is m', place_is lo');
+      hi_in = omega (arith, ints, clamps, s.hi_is);
+      lo_in = omega (arith, ints, clamps, s.lo_is);
+      in_range = (omega (arith, ints, clamps, s.lo_is, s.lo_fits), omega (arith, ints, clamps, s.hi_is, s.hi_fits));
+    }
+    | inr h ↦ let z : length ds ≡ 0 = omega arith in let e = s.none z in record {
+      digits = t.digits;
+      front = t.front;
+      back = t.back;
+      empty = s.none;
+      above = omega (arith, ints, clamps, s.hi_is);
+      below = omega (arith, ints, clamps, s.lo_is);
+      fits = omega (arith, ints, clamps, s.lo_is, s.lo_fits, place_is m', place_is lo');
+      hi_in = omega (arith, ints, clamps, s.hi_is);
+      lo_in = omega (arith, ints, clamps, s.lo_is);
+      in_range = (omega (arith, ints, clamps, s.lo_is, s.lo_fits), omega (arith, ints, clamps, s.hi_is, s.hi_fits));
+    }
+  ]
+
+number_up : (ds : List ℕ) (m m' : ℤ) (n : ℕ) → length ds ≤ place m + 1 → place m' ≡ place m + n → number_of ds m' ≡ number_of ds m * 10 ^ n
+unfolding number_of
+number_up ds m m' n h e =
+    let k : place m' + 1 - length ds ≡ (place m + 1 - length ds) + n = omega arith in
+    ap (λ x. number_from_digits 10 ds * 10 ^ x) k ∙ (rw pow-add (omega arith))
+
+number_down : (ds : List ℕ) (m m' : ℤ) (n : ℕ) → length ds ≤ place m' + 1 → place m' + n ≡ place m → number_of ds m' ≡ number_of ds m / 10 ^ n
+unfolding number_of
+number_down ds m m' n h e =
+    let k : place m' + 1 - length ds ≡ (place m + 1 - length ds) - n = omega arith in
+    ap (λ x. number_from_digits 10 ds * 10 ^ x) k ∙ sym (shift_up (number_from_digits 10 ds) (place m + 1 - length ds) n (omega arith))
+
+pub multiplied_is : {ds : List ℕ} {m hi lo m' hi' lo' : ℤ} (d : ℤ) → IsTrimmed ds m hi lo → Moves ds m hi lo d m' hi' lo' → record { number = number_of ds m'; hi = hi'; lo = lo' } ≡ multiplied (record { number = number_of ds m; hi = hi; lo = lo }) d
+multiplied_is {ds} {m} {hi} {lo} {m'} {hi'} {lo'} (pos n) t s =
+    let w = moved t s in
+    let a : number_of ds m' ≡ number_of ds m * 10 ^ n = elim (cases_lt 0 (length ds)) [
+      | inl h ↦ number_up ds m m' n (omega (arith, t.fits)) (omega (arith, ints, s.some h, place_is m, place_is m', lowest t))
+      | inr h ↦ let z : length ds ≡ 0 = omega arith in rw (number_of-none w z, number_of-none t z) (omega arith)
+    ] in
+    let b = s.hi_is in
+    let c = s.lo_is in
+    cc
+multiplied_is {ds} {m} {hi} {lo} {m'} {hi'} {lo'} (negsuc n) t s =
+    let w = moved t s in
+    let a : number_of ds m' ≡ number_of ds m / 10 ^ suc n = elim (cases_lt 0 (length ds)) [
+      | inl h ↦ number_down ds m m' (suc n) (omega (arith, w.fits)) (omega (arith, ints, s.some h, place_is m, place_is m', lowest w, lowest t))
+      | inr h ↦ let z : length ds ≡ 0 = omega arith in rw (number_of-none w z, number_of-none t z) (sym (zero-div (10 ^ suc n)))
+    ] in
+    let b = s.hi_is in
+    let c = s.lo_is in
+    cc
+
+-- the range fits
+pub stays_in : (v : Unsigned) (d : ℤ) → (v.hi +ℤ d) ≤ℤ pos 32767 → negsuc 32767 ≤ℤ (v.lo +ℤ d) → leaves_limits v d ≡ false
+stays_in v d h l =
+    let a : int_lt (pos 32767) (v.hi +ℤ d) ≡ false = grind (arith, ints, h) in
+    let b : int_lt (v.lo +ℤ d) (negsuc 32767) ≡ false = grind (arith, ints, l) in
+    rw (a, b) refl
+
+pub shifted_is : {ds : List ℕ} {m hi lo m' hi' lo' : ℤ} (d : ℤ) → IsTrimmed ds m hi lo → Moves ds m hi lo d m' hi' lo' → record { number = number_of ds m'; hi = hi'; lo = lo' } ≡ shifted (record { number = number_of ds m; hi = hi; lo = lo }) d
+shifted_is {ds} {m} {hi} {lo} d t s =
+    let test = stays_in (record { number = number_of ds m; hi = hi; lo = lo }) d s.hi_fits s.lo_fits in
+    rw test (multiplied_is d t s)
+
+-- the range would not fit
+pub shifted_over : {ds : List ℕ} {m hi lo : ℤ} (n : ℕ) (d : ℤ) → IsTrimmed ds m hi lo → (pos 32767 <ℤ (hi +ℤ d)) ⊎ ((lo +ℤ d) <ℤ negsuc 32767) → shifted (record { number = n; hi = hi; lo = lo }) d ≡ zero_value
+shifted_over {ds} {m} {hi} {lo} n d t o = rw leaves refl
+  where
+    leaves : leaves_limits (record { number = n; hi = hi; lo = lo }) d ≡ true
+    leaves = elim o [
+      | inl h ↦ let a : int_lt (pos 32767) (hi +ℤ d) ≡ true = grind (arith, ints, h) in rw a refl
+      | inr h ↦ let b : int_lt (lo +ℤ d) (negsuc 32767) ≡ true = grind (arith, ints, h) in rw b (elim (int_lt (pos 32767) (hi +ℤ d)) as (λ x. (x || true) ≡ true) [ true ↦ refl | false ↦ refl ])
+    ]

@@ -1,0 +1,25 @@
+-- The values that the code holds are those that their range shows whole.
+use Rattle.std.proofs.Common.{◌≡◌, ℕ, ◌+◌, ◌-◌, ◌*◌, ◌%◌, ◌^◌, ◌≤◌, List, length, ◌∙◌, ap, arith}
+use Rattle.std.specs.Prelude.{ℤ}
+use Rattle.std.proofs.lemmas.Int.{ints}
+use Rattle.std.proofs.lemmas.Nat.{pow-add}
+use Rattle.std.proofs.Math.Nat.{pow-le-pow_right, mul-mod_left}
+use Rattle.std.specs.Int.Digits.{number_from_digits}
+use Rattle.decimal_digits.specs.Number.{place}
+use Rattle.decimal_digits.specs.Digits.{number_of}
+use Rattle.decimal_unsigned.specs.Fields.{IsTrimmed}
+use Rattle.decimal_unsigned.specs.Unsigned.{IsValue}
+use Rattle.decimal_digits.proofs.Places.{place_is}
+use Rattle.decimal_unsigned.proofs.Values.{number_of-lt, lowest}
+
+pub value_of_trimmed : {ds : List ℕ} {m hi lo : ℤ} → IsTrimmed ds m hi lo → IsValue (record { number = number_of ds m; hi = hi; lo = lo })
+unfolding number_of
+value_of_trimmed {ds} {m} {hi} {lo} t = record {
+  hi_in = (t.hi_in, t.in_range.1);
+  lo_in = (t.in_range.0, t.lo_in);
+  below = let p : 10 ^ (place m + 1) ≤ 10 ^ (place hi + 1) = pow-le-pow_right (omega arith) (omega (arith, ints, place_is m, place_is hi, t.above, lowest t)) in omega (arith, number_of-lt t);
+  whole =
+      let k : place m + 1 - length ds ≡ (place m + 1 - length ds - place lo) + place lo = omega (arith, t.fits) in
+      let e : number_from_digits 10 ds * 10 ^ (place m + 1 - length ds) ≡ (number_from_digits 10 ds * 10 ^ (place m + 1 - length ds - place lo)) * 10 ^ place lo = ap (λ x. number_from_digits 10 ds * 10 ^ x) k ∙ (rw pow-add (omega arith)) in
+      ap (λ x. x % 10 ^ place lo) e ∙ mul-mod_left (number_from_digits 10 ds * 10 ^ (place m + 1 - length ds - place lo)) (10 ^ place lo);
+}

@@ -1,0 +1,165 @@
+-- What the digits of a value say of its number.
+use Rattle.std.proofs.Common.{◌≡◌, ℕ, ◌+◌, ◌-◌, ◌*◌, ◌/◌, ◌%◌, ◌^◌, ◌<◌, ◌≤◌, List, [], length, refl, sym, ◌∙◌, ap, arith, rules, inl, inr, w16, w32, to_z, of_z}
+use Rattle.std.specs.Prelude.{ℤ, pos, negsuc, ◌+ℤ◌, ◌-ℤ◌, ◌≤ℤ◌, ◌<ℤ◌, slice_index}
+use Rattle.std.proofs.Math.Nat.{mul-le-mul_right, mul-lt-mul_of_pos_right}
+use Rattle.std.proofs.lemmas.Nat.{pow-add}
+use Rattle.std.proofs.lemmas.Int.{ints, to_z-of_z}
+use lib.Signed.{mag}
+use Rattle.std.specs.Int.{int_gap}
+use Rattle.std.proofs.lemmas.Int.Digits.{number_lt}
+use Rattle.std.specs.Int.Digits.{number_from_digits}
+use Rattle.decimal_digits.specs.Number.{place, digit, first, last, magnitude_at}
+use Rattle.decimal_digits.specs.Digits.{number_of}
+use Rattle.decimal_unsigned.specs.Fields.{IsTrimmed}
+use Rattle.decimal_digits.specs.Number.{size}
+use Rattle.decimal_digits.proofs.DigitLists.{ten_pos, number_front, number_back, number-digit}
+use Rattle.std.specs.Prelude.{nat_eq, false}
+use Rattle.decimal_digits.proofs.Places.{place_is, magnitude_at-place, gap_is}
+use Rattle.std.proofs.lemmas.Bool.{cases_lt}
+use Rattle.decimal_digits.proofs.Ends.{first_is, last_is, first_zero, last_zero, digit_above, digit_below, shift_down}
+
+-- the place of the last digit, and one
+abbrev ends : List ℕ → ℤ → ℕ
+ends ds m = place m + 1 - length ds
+
+module _ {ds : List ℕ} {m hi lo : ℤ} (t : IsTrimmed ds m hi lo) where
+  pub number_of-lt : number_of ds m < 10 ^ (place m + 1)
+  unfolding number_of
+  number_of-lt =
+      let n : number_from_digits 10 ds < 10 ^ length ds = number_lt 10 ds t.digits in
+      let below : number_from_digits 10 ds * 10 ^ ends ds m < 10 ^ length ds * 10 ^ ends ds m = mul-lt-mul_of_pos_right n (ten_pos (ends ds m)) in
+      let split : 10 ^ (place m + 1) ≡ 10 ^ length ds * 10 ^ ends ds m = ap (λ n. 10 ^ n) (let k : place m + 1 ≡ length ds + ends ds m = omega (arith, t.fits) in k) ∙ pow-add 10 (length ds) (ends ds m) in
+      rw split below
+
+  pub number_of-ge : 0 < length ds → 10 ^ place m ≤ number_of ds m
+  unfolding number_of
+  number_of-ge h =
+      let n : 10 ^ (length ds - 1) ≤ number_from_digits 10 ds = number_front ds h (t.front h) in
+      let above : 10 ^ (length ds - 1) * 10 ^ ends ds m ≤ number_from_digits 10 ds * 10 ^ ends ds m = mul-le-mul_right (10 ^ ends ds m) n in
+      let split : 10 ^ place m ≡ 10 ^ (length ds - 1) * 10 ^ ends ds m = ap (λ n. 10 ^ n) (let k : place m ≡ length ds - 1 + ends ds m = omega (arith, t.fits) in k) ∙ pow-add 10 (length ds - 1) (ends ds m) in
+      rw split above
+
+  pub number_of-pos : 0 < length ds → 0 < number_of ds m
+  number_of-pos h = omega (arith, number_of-ge h, ten_pos (place m))
+
+  pub number_of-none : length ds ≡ 0 → number_of ds m ≡ 0
+  unfolding number_of
+  number_of-none h =
+      let z : number_from_digits 10 ds ≡ 0 = omega (arith, number_lt 10 ds t.digits, ap (λ k. 10 ^ k) h) in
+      rw z (omega arith)
+
+  pub lowest : negsuc 32767 ≤ℤ m
+  lowest = omega (arith, ints, t.below, t.in_range)
+
+  pub high : place m < 65536
+  high = omega (arith, ints, t.above, t.in_range, place_is m, lowest)
+
+  pub first-number_of : 0 < length ds → first (number_of ds m) ≡ m
+  first-number_of h = first_is _ (place m) (number_of-ge h) number_of-lt high ∙ magnitude_at-place m lowest
+
+  pub last-number_of : 0 < length ds → last (number_of ds m) ≡ m -ℤ pos (length ds - 1)
+  unfolding number_of
+  last-number_of h =
+      let b : 0 < number_from_digits 10 ds % 10 = rw (number_back ds t.digits h) (t.back h) in
+      let e : magnitude_at (ends ds m) ≡ m -ℤ pos (length ds - 1) = omega (arith, ints, place_is m, t.fits, lowest) in
+      last_is (number_from_digits 10 ds) (ends ds m) b (omega (arith, high)) ∙ e
+
+  pub digit-number_of-above : (q : ℤ) → m <ℤ q → negsuc 32767 ≤ℤ q → digit (number_of ds m) q ≡ 0
+  digit-number_of-above q h l = digit_above _ (place m + 1) (place q) number_of-lt (omega (arith, ints, place_is m, place_is q, lowest))
+
+  pub digit-number_of-in : (q : ℤ) (i : ℕ) → q +ℤ pos i ≡ m → negsuc 32767 ≤ℤ q → i < length ds → digit (number_of ds m) q ≡ slice_index ds i
+  unfolding number_of
+  digit-number_of-in q i e l h =
+      let p : place q + i ≡ place m = omega (arith, ints, place_is m, place_is q, lowest) in
+      let k : place q - ends ds m ≡ length ds - (i + 1) = omega (arith, t.fits) in
+      ap (λ x. x % 10) (shift_down (number_from_digits 10 ds) (ends ds m) (place q) (omega (arith, t.fits)) ∙ ap (λ n. number_from_digits 10 ds / 10 ^ n) k) ∙ number-digit i ds t.digits h
+
+  pub digit-number_of-below : (q : ℤ) (i : ℕ) → q +ℤ pos i ≡ m → negsuc 32767 ≤ℤ q → length ds ≤ i → digit (number_of ds m) q ≡ 0
+  unfolding number_of
+  digit-number_of-below q i e l h = digit_below (number_from_digits 10 ds) (ends ds m) (place q) (omega (arith, ints, place_is m, place_is q, lowest, t.fits))
+
+  pub first_of : first (number_of ds m) ≡ m
+  first_of = elim (cases_lt 0 (length ds)) [
+    | inl h ↦ first-number_of h
+    | inr h ↦ let z : length ds ≡ 0 = omega arith in ap first (number_of-none z) ∙ first_zero ∙ sym (t.empty z)
+  ]
+
+  pub last_of_none : length ds ≡ 0 → last (number_of ds m) ≡ pos 0
+  last_of_none z = ap last (number_of-none z) ∙ last_zero
+
+  pub none_of : number_of ds m ≡ 0 → length ds ≡ 0
+  none_of e = elim (cases_lt 0 (length ds)) [ inl h ↦ omega (arith, number_of-pos h) | inr h ↦ omega arith ]
+
+pub number_of_empty : (m : ℤ) → number_of [] m ≡ 0
+unfolding number_of
+number_of_empty m = omega arith
+
+pub length_le : {ds : List ℕ} {m hi lo : ℤ} → IsTrimmed ds m hi lo → length ds ≤ place m + 1
+length_le t = omega (arith, t.fits)
+
+module _ {ds : List ℕ} {m hi lo : ℤ} (t : IsTrimmed ds m hi lo) where
+  pub hi_kept : to_z w16 (of_z w16 hi) ≡ hi
+  hi_kept = omega (arith, ints, t.hi_in, t.in_range)
+
+  pub lo_kept : to_z w16 (of_z w16 lo) ≡ lo
+  lo_kept = omega (arith, ints, t.lo_in, t.in_range)
+
+  pub magnitude_kept : to_z w16 (of_z w16 m) ≡ m
+  magnitude_kept = omega (arith, ints, t.above, t.below, t.in_range)
+
+-- what a call returned, as it is read again
+pub narrow_kept : {z : ℤ} → mag z < 32768 → to_z w16 (of_z w16 z) ≡ z
+narrow_kept {z} h = to_z-of_z w16 z (record { sfits = h })
+
+pub wide_kept : {z : ℤ} → mag z < 2147483648 → to_z w32 (of_z w32 z) ≡ z
+wide_kept {z} h = to_z-of_z w32 z (record { sfits = h })
+
+-- how many magnitudes a range has, by its ends as they are read again
+pub counted : {l h lo hi : ℤ} {n : ℕ} → n ≡ int_gap (to_z w16 (of_z w16 l)) (to_z w16 (of_z w16 h)) + 1 → l ≡ lo → h ≡ hi → mag l < 32768 → mag h < 32768 → n ≡ int_gap lo hi + 1
+counted {l} {h} {lo} {hi} {n} e p q a b = e ∙ (rw (narrow_kept a, narrow_kept b, p, q) refl)
+
+module _ {ds : List ℕ} {m hi lo : ℤ} (t : IsTrimmed ds m hi lo) where
+  -- a lower end that keeps the last digit
+  pub lower_kept : (low : ℤ) → low ≤ℤ pos 0 → low ≤ℤ last (number_of ds m) → negsuc 32767 ≤ℤ low → IsTrimmed ds m hi low
+  lower_kept low z l b = elim (cases_lt 0 (length ds)) [
+    | inl h ↦ let e = last-number_of t h in record {
+      digits = t.digits;
+      front = t.front;
+      back = t.back;
+      empty = t.empty;
+      above = t.above;
+      below = omega (arith, ints, e, l);
+      fits = omega (arith, ints, e, l, b, t.fits, place_is m, place_is low, lowest t);
+      hi_in = t.hi_in;
+      lo_in = z;
+      in_range = (b, t.in_range.1);
+    }
+    | inr h ↦ let n : length ds ≡ 0 = omega arith in let e = last_of_none t n in let w = t.empty n in record {
+      digits = t.digits;
+      front = t.front;
+      back = t.back;
+      empty = t.empty;
+      above = t.above;
+      below = omega (arith, ints, w, z);
+      fits = omega (arith, ints, n, w, b, z, place_is m, place_is low);
+      hi_in = t.hi_in;
+      lo_in = z;
+      in_range = (b, t.in_range.1);
+    }
+  ]
+
+  pub last_in : negsuc 32767 ≤ℤ last (number_of ds m)
+  last_in = elim (cases_lt 0 (length ds)) [
+    | inl h ↦ let e = last-number_of t h in omega (arith, ints, e, t.fits, place_is m, place_is lo, t.in_range, lowest t)
+    | inr h ↦ let n : length ds ≡ 0 = omega arith in let e = last_of_none t n in omega (arith, ints, e)
+  ]
+
+pub size-number_of : {ds : List ℕ} {m hi lo : ℤ} (t : IsTrimmed ds m hi lo) → size (number_of ds m) ≡ length ds
+size-number_of {ds} {m} t = elim (cases_lt 0 (length ds)) [
+  | inl h ↦
+      let e : nat_eq (number_of ds m) 0 ≡ false = let p = number_of-pos t h in search rules in
+      let a = last-number_of t h in
+      let b = first_of t in
+      rw e (omega (arith, ints, gap_is (last (number_of ds m)) (first (number_of ds m)), a, b))
+  | inr h ↦ let z : length ds ≡ 0 = omega arith in rw (number_of-none t z) (sym z)
+]

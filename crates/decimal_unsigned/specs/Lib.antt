@@ -1,0 +1,9 @@
+pub mod Unsigned
+pub mod Edits
+pub mod Text
+pub mod Grammar
+pub mod Reading
+pub mod Refusal
+pub mod Fields
+pub mod Parts
+pub mod Placing

@@ -1,0 +1,40 @@
+-- Which digits of the parts are kept, and where they lie.
+use Rattle.std.specs.Prelude.{◌≡◌, ℕ, ◌-◌, ◌≤◌, ◌<◌, if◌then◌else◌, List, ◌++◌, length, take, drop, map, slice_index, ℤ, pos, negsuc, ◌+ℤ◌, ◌≤ℤ◌, int_lt, Ok}
+use Rattle.std.specs.Char.{digit_value}
+use Rattle.std.specs.Int.{int_max, int_min}
+use Rattle.decimal_digits.specs.Digits.{number_of}
+use Rattle.decimal_unsigned.specs.Fields.{IsTrimmed}
+use Rattle.decimal_unsigned.specs.Grammar.{Written}
+use Rattle.decimal_unsigned.specs.Reading.{value_of}
+
+-- all the digits
+abbrev pub digits_of : Written → List ℕ
+digits_of w = map digit_value (w.whole ++ w.fraction)
+
+-- those from start up to end
+abbrev pub middle : ℕ → ℕ → List ℕ → List ℕ
+middle start end ds = take (end - start) (drop start ds)
+
+-- the range of digits from first to last, of which hi to lo are shown, times a power of ten
+pub record Placed (first last hi lo e m' hi' lo' : ℤ) : Type 0 where
+  pub magnitude : m' ≡ first +ℤ e
+  pub upper : (hi +ℤ e) ≤ℤ pos 32767
+  pub lower : negsuc 32767 ≤ℤ (lo +ℤ e)
+  pub hi_is : hi' ≡ (if int_lt (pos 0) (first +ℤ e) then first +ℤ e else int_max (hi +ℤ e) (pos 0))
+  pub lo_is : lo' ≡ (if int_lt (last +ℤ e) (pos 0) then last +ℤ e else int_min (lo +ℤ e) (pos 0))
+
+-- the digits from start up to end are those from the first to the last that is not 0
+pub record IsInner (ds : List ℕ) (start end : ℕ) : Type 0 where
+  pub ordered : start < end
+  pub within : end ≤ length ds
+  pub before : (k : ℕ) → k < start → slice_index ds k ≡ 0
+  pub after : (k : ℕ) → end ≤ k → slice_index ds k ≡ 0
+  pub front : 0 < slice_index ds start
+  pub back : 0 < slice_index ds (end - 1)
+
+-- the value of the parts is made of these digits
+pub record Makes (w : Written) (start end : ℕ) (magnitude hi lo : ℤ) : Type 0 where
+  pub ordered : start ≤ end
+  pub within : end ≤ length (digits_of w)
+  pub trimmed : IsTrimmed (middle start end (digits_of w)) magnitude hi lo
+  pub value : value_of w ≡ Ok (record { number = number_of (middle start end (digits_of w)) magnitude; hi = hi; lo = lo })

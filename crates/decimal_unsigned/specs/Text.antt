@@ -1,0 +1,20 @@
+-- The text of a value.
+use Rattle.std.specs.Prelude.{ℕ, zero, suc, ◌+◌, List, [], ◌∷◌, ◌++◌, ℤ, pos, negsuc, ◌-ℤ◌}
+use Rattle.std.specs.Int.{int_gap}
+use Rattle.decimal_digits.specs.Number.{digit}
+use Rattle.decimal_unsigned.specs.Unsigned.{Unsigned}
+
+-- a dot, which is 46, stands before magnitude -1
+abbrev pub dot_before : ℤ → List ℕ
+dot_before (pos k) = []
+dot_before (negsuc zero) = 46 ∷ []
+dot_before (negsuc (suc k)) = []
+
+-- the bytes for so many magnitudes, from m down; 48 is the byte of the digit 0
+unfoldable pub text_down : ℕ → ℤ → ℕ → List ℕ
+text_down number m zero = []
+text_down number m (suc n) = (dot_before m ++ (48 + digit number m) ∷ []) ++ text_down number (m -ℤ pos 1) n
+
+-- a digit for each magnitude that is shown
+abbrev pub text : Unsigned → List ℕ
+text v = text_down v.number v.hi (int_gap v.lo v.hi + 1)

@@ -1,0 +1,141 @@
+//! The unsigned value.
+ghost use Rattle.std.specs.Prelude.{◌≡◌, ℕ, ◌+◌, ◌%◌, ◌^◌, ◌<◌, ◌≤◌, ◌↔◌, IsTrue, ℤ};
+ghost use Rattle.std.specs.Range.{range_inclusive_start, range_inclusive_end};
+ghost use Rattle.decimal_digits.specs.Number.{digit, first, last};
+ghost use Rattle.decimal_unsigned.specs.Unsigned.{zero_value, IsValue};
+
+mod edit;
+mod parse;
+mod text;
+
+use decimal_digits::digits::{DigitList, DigitStore};
+pub use parse::lowest_of;
+use std::alloc::Global;
+use std::marker::Model;
+use std::ops::RangeInclusive;
+
+/// A number of at least 0 with the highest and the lowest magnitude that it shows, over a store of digits.
+///
+/// Contracts see `number`, in units of 10 to the power -32768, and the magnitudes `hi` and `lo`. The range holds
+/// magnitude 0 and all digits that are not 0; further zeros are shown as they were written. The text `0012.3400` has
+/// `hi` 3 and `lo` -4. The original has one representation; this type stands over any list of digits.
+#[derive(Drop)]
+pub struct UnsignedOver<D: DigitStore> {
+    digits: D,
+    magnitude: i16,
+    hi: i16,
+    lo: i16,
+}
+
+/// An unsigned decimal.
+///
+/// The original's `UnsignedDecimal`.
+pub type UnsignedDecimal = UnsignedOver<DigitList>;
+
+impl<D: DigitStore> Model for UnsignedOver<D> {
+    ghost use Rattle.decimal_digits.specs.Digits.{number_of};
+    ghost use Rattle.decimal_unsigned.specs.Unsigned.{Unsigned};
+    ghost use Rattle.decimal_unsigned.specs.Fields.{IsTrimmed};
+
+    ghost Value = { Unsigned };
+
+    ghost view = { λ s. record { number = number_of (D.digits s.digits) s.magnitude; hi = s.hi; lo = s.lo } };
+
+    ghost invariant = { λ s. IsTrimmed (D.digits s.digits) s.magnitude s.hi s.lo };
+}
+
+impl<D: DigitStore> UnsignedOver<D> {
+    /// Makes the number 0, which shows magnitude 0 alone, and asks for no memory.
+    ///
+    /// Its text is `0`. In the place of the original's `Default`.
+    pub fn zero(alloc: Global) -> Self
+        ensures { result ≡ zero_value }
+    {
+        UnsignedOver {
+            digits: D::empty(alloc),
+            magnitude: 0,
+            hi: 0,
+            lo: 0,
+        }
+    }
+
+    /// Gives the digit at a magnitude, and 0 at each magnitude that is not shown.
+    ///
+    /// Of `2.50` the digit at -1 is 5. The original's `digit_at`.
+    pub fn digit_at(&self, magnitude: i16) -> u8
+        ensures { result ≡ digit self.now.number magnitude }
+    {
+        if magnitude > self.magnitude {
+            return 0;
+        }
+        let index = (self.magnitude as i32 - magnitude as i32) as usize;
+        if index < self.digits.len() {
+            self.digits.get(index)
+        } else {
+            0
+        }
+    }
+
+    /// Gives the magnitudes that are shown, from the lowest to the highest.
+    ///
+    /// Of `012.340` they are -3 to 2. The original's `magnitude_range`.
+    #[inline]
+    pub fn magnitude_range(&self) -> RangeInclusive<i16>
+        ensures start { range_inclusive_start result ≡ self.now.lo }
+        ensures end { range_inclusive_end result ≡ self.now.hi }
+    {
+        self.lo..=self.hi
+    }
+
+    /// Gives the magnitude of the first digit that is not 0, and 0 for the number 0.
+    ///
+    /// Of `012.340` it is 1. The original's `nonzero_magnitude_start`.
+    #[inline]
+    pub fn nonzero_magnitude_start(&self) -> i16
+        ensures { result ≡ first self.now.number }
+    {
+        self.magnitude
+    }
+
+    /// Gives the magnitude of the last digit that is not 0, and 0 for the number 0.
+    ///
+    /// Of `012.340` it is -2. The original's `nonzero_magnitude_end`.
+    pub fn nonzero_magnitude_end(&self) -> i16
+        ensures { result ≡ last self.now.number }
+    {
+        let len = self.digits.len();
+        if len == 0 {
+            0
+        } else {
+            (self.magnitude as i32 - (len as i32 - 1)) as i16
+        }
+    }
+
+    /// Tells whether the number is 0, however many zeros are shown.
+    ///
+    /// True of `0.00`. The original's `is_zero`.
+    #[inline]
+    pub fn is_zero(&self) -> bool
+        ensures { IsTrue result ↔ (self.now.number ≡ 0) }
+    {
+        self.digits.len() == 0
+    }
+
+    /// The highest magnitude that is shown.
+    #[inline]
+    fn highest(&self) -> i16
+        ensures value { result ≡ self.now.hi }
+        ensures valid { IsValue self.now }
+    {
+        self.hi
+    }
+
+    /// The lowest magnitude that is shown.
+    #[inline]
+    fn lowest(&self) -> i16
+        ensures value { result ≡ self.now.lo }
+        ensures valid { IsValue self.now }
+    {
+        self.lo
+    }
+}

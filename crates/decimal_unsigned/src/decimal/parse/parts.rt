@@ -1,0 +1,178 @@
+//! The parts of a text.
+ghost use Rattle.std.specs.Prelude.{◌≡◌, ℕ, ◌++◌, ◌-◌, ◌<◌, ◌≤◌, min, length, option_map, pos, slice_index, IfSome};
+ghost use Rattle.std.specs.Str.Parse.{AllDigits};
+ghost use Rattle.decimal_unsigned.specs.Placing.{digits_of};
+ghost use Rattle.std.specs.Char.{is_ascii_digit};
+ghost use Rattle.std.specs.List.{prefix_len};
+ghost use Rattle.decimal_unsigned.specs.Reading as read;
+ghost use Rattle.decimal_unsigned.specs.Parts.{view, views, held, IsHeld, held_parts};
+
+/// The digits in front of the dot and behind it, and the exponent.
+#[derive(Clone, Copy)]
+pub struct Parts<'a> {
+    pub whole: &'a [u8],
+    pub fraction: &'a [u8],
+    pub exponent: Option<i32>,
+}
+
+/// How many digits stand in front.
+fn digit_count(text: &[u8]) -> usize
+    ensures { result ≡ prefix_len is_ascii_digit text.now }
+{
+    for (i, byte) in text.iter().enumerate() {
+        if !byte.is_ascii_digit() {
+            return i;
+        }
+    }
+    text.len()
+}
+
+/// The digits in front, and what stands behind them.
+fn split_digits(text: &[u8]) -> (&[u8], &[u8])
+    ensures front { result.0.now ≡ read.front text.now }
+    ensures behind { result.1.now ≡ read.behind text.now }
+{
+    text.split_at(digit_count(text))
+}
+
+/// The number of a numeral, or 70,000 where it is greater.
+#[tactic(auto, unfolding(crate::specs::Reading::numeral_of))]
+fn numeral(text: &[u8]) -> Option<u32>
+    ensures { result ≡ option_map (min 70000) (read.numeral_of text.now) }
+{
+    if text.is_empty() {
+        return None;
+    }
+    let mut value: u32 = 0;
+    for byte in text {
+        if !byte.is_ascii_digit() {
+            return None;
+        }
+        value = (10 * value + u32::from(*byte - b'0')).min(70_000);
+    }
+    Some(value)
+}
+
+fn unsigned(text: &[u8]) -> Option<i32>
+    ensures { result ≡ option_map held (option_map pos (read.numeral_of text.now)) }
+{
+    Some(numeral(text)? as i32)
+}
+
+#[tactic(auto, unfolding(crate::specs::Reading::exponent_of))]
+fn exponent(text: &[u8]) -> Option<i32>
+    ensures { result ≡ option_map held (read.exponent_of text.now) }
+{
+    match text {
+        [b'-', rest @ ..] => Some(-(numeral(rest)? as i32)),
+        _ => unsigned(text),
+    }
+}
+
+#[tactic(auto, unfolding(crate::specs::Reading::with_exponent))]
+fn with_exponent<'a>(whole: &'a [u8], fraction: &'a [u8], text: &[u8]) -> Option<Parts<'a>>
+    ensures { views result ≡ option_map held_parts (read.with_exponent whole.now fraction.now text.now) }
+{
+    let exponent = exponent(text)?;
+    Some(Parts {
+        whole,
+        fraction,
+        exponent: Some(exponent),
+    })
+}
+
+#[tactic(auto, unfolding(crate::specs::Reading::after_fraction))]
+fn after_fraction<'a>(whole: &'a [u8], fraction: &'a [u8], text: &[u8]) -> Option<Parts<'a>>
+    ensures { views result ≡ option_map held_parts (read.after_fraction whole.now fraction.now text.now) }
+{
+    match text {
+        [] if !fraction.is_empty() => Some(Parts {
+            whole,
+            fraction,
+            exponent: None,
+        }),
+        [b'e' | b'E', rest @ ..] => with_exponent(whole, fraction, rest),
+        _ => None,
+    }
+}
+
+#[tactic(auto, unfolding(crate::specs::Reading::after_whole))]
+fn after_whole<'a>(whole: &'a [u8], text: &'a [u8]) -> Option<Parts<'a>>
+    ensures { views result ≡ option_map held_parts (read.after_whole whole.now text.now) }
+{
+    match text {
+        [] if !whole.is_empty() => Some(Parts {
+            whole,
+            fraction: text,
+            exponent: None,
+        }),
+        [b'.', rest @ ..] => {
+            let (fraction, rest) = split_digits(rest);
+            after_fraction(whole, fraction, rest)
+        }
+        [b'e' | b'E', rest @ ..] if !whole.is_empty() => with_exponent(whole, &text[..0], rest),
+        _ => None,
+    }
+}
+
+/// The parts of the text, if it is in the grammar.
+#[tactic(auto, unfolding(crate::specs::Reading::parts_of))]
+pub fn split(text: &[u8]) -> Option<Parts<'_>>
+    ensures parts { views result ≡ option_map held_parts (read.parts_of text.now) }
+    ensures digits { IfSome result (λ p. AllDigits 10 (p.whole.now ++ p.fraction.now)) }
+    ensures exponent { IfSome result (λ p. IfSome p.exponent IsHeld) }
+{
+    let (whole, rest) = split_digits(text);
+    after_whole(whole, rest)
+}
+
+impl Parts<'_> {
+    fn len(&self) -> usize
+        ensures { result ≡ length (digits_of (view self.now)) }
+    {
+        self.whole.len() + self.fraction.len()
+    }
+
+    /// The digit at an index into all the digits.
+    pub fn digit(&self, index: usize) -> u8
+        requires in_range { index < length (digits_of (view self.now)) }
+        requires digits { AllDigits 10 (self.now.whole.now ++ self.now.fraction.now) }
+        ensures value { result ≡ slice_index (digits_of (view self.now)) index }
+        ensures bound { result < 10 }
+    {
+        if index < self.whole.len() {
+            self.whole[index] - b'0'
+        } else {
+            self.fraction[index - self.whole.len()] - b'0'
+        }
+    }
+
+    /// The index of the first digit that is not 0, or the number of digits.
+    pub fn start(&self) -> usize
+        requires { AllDigits 10 (self.now.whole.now ++ self.now.fraction.now) }
+        ensures within { result ≤ length (digits_of (view self.now)) }
+        ensures before { (k : ℕ) → k < result → slice_index (digits_of (view self.now)) k ≡ 0 }
+        ensures found { result < length (digits_of (view self.now)) → 0 < slice_index (digits_of (view self.now)) result }
+    {
+        for i in 0..self.len() {
+            if self.digit(i) != 0 {
+                return i;
+            }
+        }
+        self.len()
+    }
+
+    /// The index behind the last digit that is not 0, or 0.
+    pub fn end(&self) -> usize
+        requires { AllDigits 10 (self.now.whole.now ++ self.now.fraction.now) }
+        ensures within { result ≤ length (digits_of (view self.now)) }
+        ensures after { (k : ℕ) → result ≤ k → slice_index (digits_of (view self.now)) k ≡ 0 }
+        ensures found { 0 < result → 0 < slice_index (digits_of (view self.now)) (result - 1) }
+    {
+        let mut end = self.len();
+        while end > 0 && self.digit(end - 1) == 0 {
+            end -= 1;
+        }
+        end
+    }
+}

@@ -1,0 +1,30 @@
+//! Tables of texts, calls and results.
+use crate::decimal::{UnsignedDecimal, lowest_of};
+use decimal_digits::sink::{TextBuf, Writeable};
+use std::alloc::Global;
+use std::process::Abort;
+use std::test::Fail;
+
+mod reading;
+
+/// The value that a text writes.
+fn read(alloc: Global, text: &[u8]) -> Result<UnsignedDecimal, Fail> {
+    Ok(UnsignedDecimal::try_from_utf8(alloc, text)?)
+}
+
+/// A byte so many times, after other bytes.
+fn extended(alloc: Global, front: &[u8], byte: u8, count: usize) -> Result<Vec<u8>, Fail> {
+    let mut text = front.to_vec(alloc)?;
+    for _ in 0..count {
+        text.push(byte)?;
+    }
+    Ok(text)
+}
+
+/// Asserts what the value prints, and that its length is hinted exactly.
+fn assert_prints(rt: &impl Abort, alloc: Global, value: &UnsignedDecimal, text: &[u8]) {
+    let mut sink = TextBuf::new(alloc);
+    assert!(rt; value.write_to(&mut sink).is_ok());
+    assert_eq!(rt; sink.as_bytes(), text);
+    assert_eq!(rt; value.writeable_length_hint(), text.len());
+}
