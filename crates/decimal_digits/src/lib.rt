@@ -6,3 +6,5 @@
 pub mod digits;
 pub mod ops;
 pub mod sink;
+#[cfg(test)]
+mod tests;

@@ -1,5 +1,5 @@
 -- What a run of calls comes to, by the whole numbers alone: no memory and no sink occur here.
-use Rattle.std.specs.Prelude.{◌≡◌, ℕ, ◌+◌, ◌<◌, List, [], ◌∷◌, Result, Ok, Err, IsOk, IsOkAnd}
+use Rattle.std.specs.Prelude.{◌≡◌, ℕ, ◌<◌, List, [], ◌∷◌, Result, Ok, Err, IsOk, IsOkAnd}
 use Rattle.decimal_digits.specs.Number.{size}
 use Rattle.decimal_unsigned.specs.declared.error.ParseError.TheVariants.{Limit, Syntax, Memory}
 use Rattle.decimal_unsigned.specs.Unsigned.{Unsigned}

@@ -8,3 +8,6 @@ pub mod run;
 pub use decimal_digits::sink::{Out, Sink, SinkFault, TextBuf, Writeable};
 pub use decimal_unsigned::ParseError;
 pub use decimal_unsigned::decimal::UnsignedDecimal;
+
+#[cfg(test)]
+mod tests;

@@ -58,7 +58,12 @@ fn make_calls<D: DigitStore>(value: &mut UnsignedOver<D>, calls: &[Call])
 /// is as before; `Sink` where the sink refused a byte, now or before, and has taken a beginning of the text. Want of
 /// memory, `Start(Memory)`, is answered only where the start has more than 8 digits from its first to its last that is
 /// not 0. Not in the original.
-pub fn run<W: Sink>(alloc: Global, start: &[u8], calls: &[Call], sink: &mut W) -> Result<(), RunError>
+pub fn run<W: Sink>(
+    alloc: Global,
+    start: &[u8],
+    calls: &[Call],
+    sink: &mut W,
+) -> Result<(), RunError>
     ensures written { OnOk result (IsOkAnd (outcome start.now calls.now)
         (λ text. Appends (W.contents sink.old) (W.contents sink.new) text)) }
     ensures refused { IfErr result (λ e. RunRefuses 8 e start.now calls.now) }
