@@ -5,6 +5,8 @@
 
 mod fault;
 mod program;
+#[cfg(test)]
+mod tests;
 mod words;
 
 use fault::Fault;
@@ -26,7 +28,12 @@ fn arguments<R: Env + AllocGlobal>(rt: &R) -> io::Result<Vec<String>> {
 fn main(rt: HostRuntime) -> ExitCode {
     let mut err = rt.stderr();
     let status = match arguments(&rt) {
-        Ok(words) => program::program(rt.alloc(), words.as_slice(), &mut Out::new(rt.stdout()), &mut err),
+        Ok(words) => program::program(
+            rt.alloc(),
+            words.as_slice(),
+            &mut Out::new(rt.stdout()),
+            &mut err,
+        ),
         Err(error) => Fault::of_arguments(&error).report(&mut err),
     };
     ExitCode::from(status)

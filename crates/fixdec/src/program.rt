@@ -13,10 +13,12 @@ fn calls(alloc: Global, words: &[String]) -> Result<Vec<Call>, Fault> {
     if words.iter().any(|word| call(word.as_str()).is_none()) {
         return Err(Fault::Usage);
     }
-    Ok(words
-        .iter()
-        .filter_map(|word| call(word.as_str()))
-        .collect(alloc)?)
+    Ok(
+        words
+            .iter()
+            .filter_map(|word| call(word.as_str()))
+            .collect(alloc)?,
+    )
 }
 
 /// Prints the text that the words come to, and a line feed.
