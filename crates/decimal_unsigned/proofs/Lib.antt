@@ -1,4 +1,5 @@
 pub mod Values
+pub mod Ranges
 pub mod Shifts
 pub mod Unique
 pub mod Shown
