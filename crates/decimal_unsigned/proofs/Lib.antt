@@ -8,6 +8,7 @@ pub mod Lengths
 pub mod Numerals
 pub mod Laws
 pub mod Middle
+pub mod Cuts
 pub mod Plans
 pub mod Held
 pub mod Headline
