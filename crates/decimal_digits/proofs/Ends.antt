@@ -30,7 +30,7 @@ last_at zero k h d f b = absurd (omega arith)
 last_at (suc n) k h d f b = ap magnitude_at (greatest_is (λ i. suc n % 10 ^ i == 0) 65536 k b (search rules) (λ i p q. let m = f i p in search rules))
 
 -- a number that ends in more zeros than v * 10 ^ e allows
-no_more_zeros : (v e i : ℕ) → 0 < v % 10 → e < i → ¬ ((v * 10 ^ e) % 10 ^ i ≡ 0)
+pub no_more_zeros : (v e i : ℕ) → 0 < v % 10 → e < i → ¬ ((v * 10 ^ e) % 10 ^ i ≡ 0)
 no_more_zeros v e i h p z =
     let j = i - suc e in
     let q = v * 10 ^ e / 10 ^ i in

@@ -1,5 +1,5 @@
 -- Numbers of digits after the dot, held as whole numbers: the number 1 is 10 ^ 32768 units.
-use Rattle.std.specs.Prelude.{ℕ, zero, suc, ◌+◌, ◌-◌, ◌/◌, ◌%◌, ◌^◌, ◌==◌, Bool, cond, if◌then◌else◌, nat_le, ℤ, pos, negsuc, ◌-ℤ◌}
+use Rattle.std.specs.Prelude.{◌≡◌, ℕ, zero, suc, ◌+◌, ◌-◌, ◌/◌, ◌%◌, ◌^◌, ◌<◌, ◌≤◌, ◌==◌, Bool, cond, if◌then◌else◌, nat_le, ℤ, pos, negsuc, ◌-ℤ◌}
 use Rattle.std.specs.Int.{int_gap}
 
 -- how far a magnitude lies above the lowest one, -32768
@@ -33,6 +33,18 @@ first (suc n) = magnitude_at (greatest (λ k. nat_le (10 ^ k) (suc n)) 65536)
 unfoldable pub last : ℕ → ℤ
 last zero = pos 0
 last (suc n) = magnitude_at (greatest (λ k. suc n % 10 ^ k == 0) 65536)
+
+-- what `first` means: a 1 at m is at most the number, and a 1 one place higher is more; m is 0 for the number 0
+pub record IsFirst (number : ℕ) (m : ℤ) : Type 0 where
+  pub reaches : 0 < number → weight m ≤ number
+  pub below : 0 < number → number < 10 ^ (place m + 1)
+  pub none : number ≡ 0 → m ≡ pos 0
+
+-- what `last` means: a 1 at m divides the number, and no higher power of ten does; m is 0 for the number 0
+pub record IsLast (number : ℕ) (m : ℤ) : Type 0 where
+  pub divides : 0 < number → number % weight m ≡ 0
+  pub highest : 0 < number → (k : ℕ) → place m < k → ¬ (number % 10 ^ k ≡ 0)
+  pub none : number ≡ 0 → m ≡ pos 0
 
 -- how many digits there are from the first to the last, and none for the number 0
 abbrev pub size : ℕ → ℕ

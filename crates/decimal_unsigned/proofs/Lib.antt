@@ -1,4 +1,5 @@
 pub mod Values
+pub mod Ranges
 pub mod Shifts
 pub mod Unique
 pub mod Shown
@@ -7,6 +8,7 @@ pub mod Lengths
 pub mod Numerals
 pub mod Laws
 pub mod Middle
+pub mod Cuts
 pub mod Plans
 pub mod Held
 pub mod Headline

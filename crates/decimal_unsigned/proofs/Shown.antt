@@ -1,5 +1,5 @@
 -- The values that the code holds are those that their range shows whole.
-use Rattle.std.proofs.Common.{◌≡◌, ℕ, ◌+◌, ◌-◌, ◌*◌, ◌%◌, ◌^◌, ◌≤◌, List, length, ◌∙◌, ap, arith}
+use Rattle.std.proofs.Common.{◌≡◌, ℕ, ◌+◌, ◌-◌, ◌*◌, ◌%◌, ◌^◌, ◌≤◌, List, length, ◌∙◌, ap, subst, arith}
 use Rattle.std.specs.Prelude.{ℤ}
 use Rattle.std.proofs.lemmas.Int.{ints}
 use Rattle.std.proofs.lemmas.Nat.{pow-add}
@@ -8,7 +8,7 @@ use Rattle.std.specs.Int.Digits.{number_from_digits}
 use Rattle.decimal_digits.specs.Number.{place}
 use Rattle.decimal_digits.specs.Digits.{number_of}
 use Rattle.decimal_unsigned.specs.Fields.{IsTrimmed}
-use Rattle.decimal_unsigned.specs.Unsigned.{IsValue}
+use Rattle.decimal_unsigned.specs.Unsigned.{Unsigned, IsValue}
 use Rattle.decimal_digits.proofs.Places.{place_is}
 use Rattle.decimal_unsigned.proofs.Values.{number_of-lt, lowest}
 
@@ -23,3 +23,6 @@ value_of_trimmed {ds} {m} {hi} {lo} t = record {
       let e : number_from_digits 10 ds * 10 ^ (place m + 1 - length ds) ≡ (number_from_digits 10 ds * 10 ^ (place m + 1 - length ds - place lo)) * 10 ^ place lo = ap (λ x. number_from_digits 10 ds * 10 ^ x) k ∙ (rw pow-add (omega arith)) in
       ap (λ x. x % 10 ^ place lo) e ∙ mul-mod_left (number_from_digits 10 ds * 10 ^ (place m + 1 - length ds - place lo)) (10 ^ place lo);
 }
+
+pub value_of_view : {ds : List ℕ} {m hi lo : ℤ} {v : Unsigned} → IsTrimmed ds m hi lo → record { number = number_of ds m; hi = hi; lo = lo } ≡ v → IsValue v
+value_of_view t e = subst IsValue e (value_of_trimmed t)

@@ -4,7 +4,11 @@ use Rattle.std.specs.Prelude.{ℤ, pos, negsuc, ◌+ℤ◌, ◌-ℤ◌, ◌≤�
 use Rattle.std.proofs.lemmas.Int.{ints}
 use Rattle.std.proofs.lemmas.Bool.{cases_lt}
 use Rattle.std.proofs.lemmas.List.{ext_get_or}
-use Rattle.std.proofs.Common.{true, false}
+use Rattle.std.proofs.Common.{Bool, true, false, IsTrue, ◌↔◌}
+use Rattle.decimal_unsigned.specs.Unsigned.{IsValue}
+use Rattle.decimal_unsigned.specs.Text.{text}
+use Rattle.decimal_unsigned.specs.Reading.{read}
+use Rattle.decimal_unsigned.proofs.ReadBack.{read_text}
 use Rattle.std.proofs.lemmas.Bool.Decides.{nat_tests}
 use Rattle.std.specs.Cmp.{IsEquivalence, and_equiv, on_equiv, nat_eq_equiv, int_eq_equiv}
 use Rattle.decimal_unsigned.specs.Unsigned.{Unsigned, same}
@@ -47,3 +51,14 @@ is_same v w e = subst (λ u. same v u ≡ true) e (same_equiv.refl v)
 
 pub not_same : (v w : Unsigned) → ¬ (v ≡ w) → same v w ≡ false
 not_same v w n = elim (same v w) as (λ b. same v w ≡ b → b ≡ false) [ true ↦ λ e. absurd (n (same_is v w e)) | false ↦ λ e. refl ] refl
+
+-- equal texts are those of equal values
+text_same : (v w : Unsigned) → IsValue v → IsValue w → text v ≡ text w → v ≡ w
+text_same v w p q e = let r = sym (read_text v p) ∙ ap read e ∙ read_text w q in cc
+
+-- what the answer of a test for equality tells of the values, and of their texts
+pub tells_values : (b : Bool) (v w : Unsigned) → b ≡ same v w → IsTrue b ↔ (v ≡ w)
+tells_values b v w e = (λ x. same_is v w (sym e ∙ x), λ p. e ∙ is_same v w p)
+
+pub tells_texts : (b : Bool) (v w : Unsigned) → b ≡ same v w → IsValue v → IsValue w → IsTrue b ↔ (text v ≡ text w)
+tells_texts b v w e p q = (λ x. ap text (same_is v w (sym e ∙ x)), λ t. e ∙ is_same v w (text_same v w p q t))

@@ -21,6 +21,14 @@ pub record IsValue (v : Unsigned) : Type 0 where
 abbrev pub zero_value : Unsigned
 zero_value = record { number = 0; hi = pos 0; lo = pos 0 }
 
+-- each value of this number is shown from here or from a higher magnitude
+abbrev pub IsLeastHi : Unsigned → Type 0
+IsLeastHi v = (w : Unsigned) → IsValue w → w.number ≡ v.number → v.hi ≤ℤ w.hi
+
+-- each value of this number is shown to here or to a lower magnitude
+abbrev pub IsGreatestLo : Unsigned → Type 0
+IsGreatestLo v = (w : Unsigned) → IsValue w → w.number ≡ v.number → w.lo ≤ℤ v.lo
+
 -- one number, shown alike
 abbrev pub same : Unsigned → Unsigned → Bool
 same = eq_of_both (on (λ v. v.number) nat_eq) (eq_of_both (on (λ v. v.hi) int_eq) (on (λ v. v.lo) int_eq))

@@ -1,14 +1,16 @@
 //! The unsigned value.
 ghost use Rattle.std.specs.Prelude.{◌≡◌, ℕ, ◌+◌, ◌%◌, ◌^◌, ◌<◌, ◌≤◌, ◌↔◌, IsTrue, ℤ};
 ghost use Rattle.std.specs.Range.{range_inclusive_start, range_inclusive_end};
-ghost use Rattle.decimal_digits.specs.Number.{digit, first, last};
+ghost use Rattle.decimal_digits.specs.Number.{digit, first, last, IsFirst, IsLast};
 ghost use Rattle.decimal_unsigned.specs.Unsigned.{zero_value, IsValue};
 
+mod copy;
 mod edit;
 mod parse;
 mod text;
 
 use decimal_digits::digits::{DigitList, DigitStore};
+use decimal_digits::ops::lowered;
 pub use parse::lowest_of;
 use std::alloc::Global;
 use std::marker::Model;
@@ -83,6 +85,8 @@ impl<D: DigitStore> UnsignedOver<D> {
     pub fn magnitude_range(&self) -> RangeInclusive<i16>
         ensures start { range_inclusive_start result ≡ self.now.lo }
         ensures end { range_inclusive_end result ≡ self.now.hi }
+        // The range holds magnitude 0, lies in the limits, and shows the number whole.
+        ensures valid { IsValue self.now }
     {
         self.lo..=self.hi
     }
@@ -92,7 +96,8 @@ impl<D: DigitStore> UnsignedOver<D> {
     /// Of `012.340` it is 1. The original's `nonzero_magnitude_start`.
     #[inline]
     pub fn nonzero_magnitude_start(&self) -> i16
-        ensures { result ≡ first self.now.number }
+        ensures value { result ≡ first self.now.number }
+        ensures defined { IsFirst self.now.number result }
     {
         self.magnitude
     }
@@ -101,13 +106,14 @@ impl<D: DigitStore> UnsignedOver<D> {
     ///
     /// Of `012.340` it is -2. The original's `nonzero_magnitude_end`.
     pub fn nonzero_magnitude_end(&self) -> i16
-        ensures { result ≡ last self.now.number }
+        ensures value { result ≡ last self.now.number }
+        ensures defined { IsLast self.now.number result }
     {
         let len = self.digits.len();
         if len == 0 {
             0
         } else {
-            (self.magnitude as i32 - (len as i32 - 1)) as i16
+            lowered(self.magnitude, (len - 1) as u32)
         }
     }
 

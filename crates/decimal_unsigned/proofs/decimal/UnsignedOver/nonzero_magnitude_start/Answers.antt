@@ -1,12 +1,12 @@
-use Rattle.std.proofs.Common.{◌≡◌, w16, to_z, of_z, sym, ◌∙◌, ap, arith}
-use Rattle.std.proofs.lemmas.Int.{ints}
-use Rattle.decimal_digits.specs.Number.{first}
+use Rattle.std.proofs.Common.{sym, ◌∙◌, ap, subst}
+use Rattle.decimal_digits.specs.Number.{first, IsFirst}
 use Rattle.decimal_unsigned.specs.Unsigned.{Unsigned}
-use Rattle.decimal_unsigned.proofs.Values.{first_of}
+use Rattle.decimal_unsigned.proofs.Values.{first_of, magnitude_kept}
+use Rattle.decimal_unsigned.proofs.Ranges.{is_first}
 use Rattle.decimal_unsigned.proofs.decimal.UnsignedOver.nonzero_magnitude_start.Goals as goal
 
-pub returns : goal.returns
-returns g c =
-    let t = c.self.invariant in
-    let s : to_z w16 (of_z w16 c.self.inside.magnitude) ≡ c.self.inside.magnitude = omega (arith, ints, t.above, t.below, t.in_range) in
-    s ∙ sym (first_of t) ∙ ap (λ (v : Unsigned). first v.number) c.self.view_is
+pub returns-clause-value : goal.returns-clause-value
+returns-clause-value g c = magnitude_kept c.self.invariant ∙ sym (first_of c.self.invariant) ∙ ap (λ (v : Unsigned). first v.number) c.self.view_is
+
+pub returns-clause-defined : goal.returns-clause-defined
+returns-clause-defined g c = rw (magnitude_kept c.self.invariant) (subst (λ (v : Unsigned). IsFirst v.number c.self.inside.magnitude) c.self.view_is (is_first c.self.invariant))

@@ -1,0 +1,72 @@
+-- The first and the last digit of a value, and the ranges that show them.
+use Rattle.std.proofs.Common.{◌≡◌, ℕ, ◌+◌, ◌-◌, ◌%◌, ◌^◌, ◌<◌, ◌≤◌, true, List, length, refl, sym, subst, arith, inl, inr}
+use Rattle.std.specs.Prelude.{ℤ, pos, negsuc, ◌-ℤ◌, ◌≤ℤ◌, ◌<ℤ◌, int_lt}
+use Rattle.std.specs.Int.{int_max, int_min}
+use Rattle.std.proofs.Math.Nat.{mul-mod_left, pow-le-pow_right}
+use Rattle.std.proofs.lemmas.Int.{ints, clamps}
+use Rattle.std.proofs.lemmas.Bool.{cases_lt}
+use Rattle.std.specs.Int.Digits.{number_from_digits}
+use Rattle.decimal_digits.specs.Number.{place, first, last, IsFirst, IsLast}
+use Rattle.decimal_digits.specs.Digits.{number_of}
+use Rattle.decimal_digits.proofs.Places.{place_is}
+use Rattle.decimal_digits.proofs.Ends.{no_more_zeros}
+use Rattle.decimal_digits.proofs.DigitLists.{number_back}
+use Rattle.decimal_unsigned.specs.Fields.{IsTrimmed}
+use Rattle.decimal_unsigned.specs.Unsigned.{Unsigned, IsValue}
+use Rattle.decimal_unsigned.specs.Edits.{trimmed_start, padded_start}
+use Rattle.decimal_unsigned.proofs.Values.{number_of-ge, number_of-lt, number_of-none, none_of, lowest, last-number_of, last_of_none, last_in}
+
+module _ {ds : List ℕ} {m hi lo : ℤ} (t : IsTrimmed ds m hi lo) where
+  some : 0 < number_of ds m → 0 < length ds
+  some p = elim (cases_lt 0 (length ds)) [ inl h ↦ h | inr h ↦ let z : length ds ≡ 0 = omega arith in absurd (omega (arith, number_of-none t z)) ]
+
+  pub is_first : IsFirst (number_of ds m) m
+  is_first = record {
+    reaches = λ p. number_of-ge t (some p);
+    below = λ p. number_of-lt t;
+    none = λ z. t.empty (none_of t z);
+  }
+
+  pub is_last : IsLast (number_of ds m) (last (number_of ds m))
+  unfolding number_of
+  is_last = record {
+    divides = λ p. subst (λ k. number_of ds m % 10 ^ k ≡ 0) (sym (ends_at (some p))) (mul-mod_left (number_from_digits 10 ds) (10 ^ (place m + 1 - length ds)));
+    highest = λ p k h.
+        let s = some p in
+        let b : 0 < number_from_digits 10 ds % 10 = rw (number_back ds t.digits s) (t.back s) in
+        no_more_zeros (number_from_digits 10 ds) (place m + 1 - length ds) k b (omega (arith, ends_at s));
+    none = λ z. last_of_none t (none_of t z);
+  }
+    where
+      ends_at : 0 < length ds → place (last (number_of ds m)) ≡ place m + 1 - length ds
+      ends_at h = let e = last-number_of t h in omega (arith, ints, e, t.fits, last_in t, lowest t, place_is m, place_is (last (number_of ds m)))
+
+-- a value shows its first digit
+pub first_shown : (w : Unsigned) (m : ℤ) → IsValue w → IsFirst w.number m → negsuc 32767 ≤ℤ m → int_max m (pos 0) ≤ℤ w.hi
+first_shown w m v f l = elim (cases_lt 0 w.number) [
+  | inl p ↦ elim (cases_lt (place w.hi) (place m)) [
+    | inl h ↦ let b : 10 ^ (place w.hi + 1) ≤ 10 ^ place m = pow-le-pow_right (omega arith) (omega arith) in absurd (omega (arith, b, f.reaches p, v.below))
+    | inr h ↦ omega (arith, ints, clamps, h, l, v.hi_in, place_is m, place_is w.hi)
+  ]
+  | inr p ↦ let z : m ≡ pos 0 = f.none (omega arith) in omega (arith, ints, clamps, z, v.hi_in)
+]
+
+-- and its last one
+pub last_shown : (w : Unsigned) (m : ℤ) → IsValue w → IsLast w.number m → negsuc 32767 ≤ℤ m → w.lo ≤ℤ int_min m (pos 0)
+last_shown w m v f l = elim (cases_lt 0 w.number) [
+  | inl p ↦ elim (cases_lt (place m) (place w.lo)) [
+    | inl h ↦ absurd (f.highest p (place w.lo) h v.whole)
+    | inr h ↦ omega (arith, ints, clamps, h, l, v.lo_in, place_is m, place_is w.lo)
+  ]
+  | inr p ↦ let z : m ≡ pos 0 = f.none (omega arith) in omega (arith, ints, clamps, z, v.lo_in)
+]
+
+-- another upper end of what is shown
+module _ {v : Unsigned} {n : ℕ} {hi lo f : ℤ} (h : ℤ) (view : record { number = n; hi = hi; lo = lo } ≡ v) (at : first n ≡ f) where
+  pub trimmed_start_is : h ≡ int_max f (pos 0) → record { number = n; hi = h; lo = lo } ≡ trimmed_start v
+  trimmed_start_is e = subst (λ x. record { number = n; hi = h; lo = lo } ≡ trimmed_start x) view (rw (e, at) refl)
+
+  pub padded_start_is : (p : ℤ) → pos 0 <ℤ p → h ≡ int_max (p -ℤ pos 1) f → record { number = n; hi = h; lo = lo } ≡ padded_start v p
+  padded_start_is p l e =
+      let test : int_lt (pos 0) p ≡ true = grind (arith, ints, l) in
+      subst (λ x. record { number = n; hi = h; lo = lo } ≡ padded_start x p) view (rw (test, e, at) refl)

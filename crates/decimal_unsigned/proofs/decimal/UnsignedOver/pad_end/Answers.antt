@@ -1,0 +1,17 @@
+use Rattle.std.proofs.Common.{sym, ◌∙◌, ap, arith}
+use Rattle.std.proofs.lemmas.Int.{ints}
+use Rattle.decimal_digits.specs.Number.{last}
+use Rattle.decimal_unsigned.specs.Unsigned.{Unsigned}
+use Rattle.decimal_unsigned.proofs.Values.{narrow_kept, lower_kept, last_in}
+use Rattle.std.proofs.lemmas.Int.{clamps}
+use Rattle.decimal_unsigned.proofs.decimal.UnsignedOver.pad_end.Goals as goal
+
+pub invariant_of-self : goal.invariant_of-self
+invariant_of-self g c =
+    let t = c.self.invariant in
+    let e = c.nonzero_magnitude_end.ensures.value ∙ sym (ap (λ (v : Unsigned). last v.number) c.self.view_is) in
+    let b = last_in t in
+    let k = narrow_kept {z = c.min-self-inside.result} c.min-self-inside.type_inv in
+    let r = narrow_kept {z = c.nonzero_magnitude_end.result} c.nonzero_magnitude_end.type_inv in
+    let v = c.min-self-inside.ensures.value in
+    lower_kept t _ (omega (arith, ints, clamps, v)) (omega (arith, ints, clamps, v, r, e)) (omega (arith, ints, clamps, v, r, e, b))

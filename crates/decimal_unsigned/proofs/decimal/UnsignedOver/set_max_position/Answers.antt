@@ -1,0 +1,47 @@
+use Rattle.std.proofs.Common.{◌≡◌, ◌≤◌, min, length, w16, pos, ◌+ℤ◌, ◌-ℤ◌, to_z, of_z, refl, sym, ◌∙◌, ap, subst, arith}
+use Rattle.std.specs.Int.{int_max, int_gap}
+use Rattle.std.proofs.lemmas.Int.{ints, to_z-of_z}
+use Rattle.decimal_digits.proofs.Places.{place_is}
+use Rattle.decimal_unsigned.specs.Unsigned.{Unsigned}
+use Rattle.decimal_unsigned.specs.Edits.{cut}
+use Rattle.decimal_unsigned.proofs.Values.{lo_kept, magnitude_kept, narrow_kept, wide_kept, length_le, high, lowest}
+use Rattle.decimal_unsigned.proofs.Cuts.{Cuts, trimmed_cut, cut_is}
+use Rattle.decimal_unsigned.proofs.decimal.UnsignedOver.set_max_position.Goals as goal
+use Rattle.decimal_unsigned.proofs.decimal.UnsignedOver.set_max_position.Goals.{then-start-len, else-start-len}
+
+pub overflow_cast-start : goal.overflow_cast-start
+overflow_cast-start g c = let t = c.self.invariant in omega (arith, c.first_nonzero-start.ensures.within, length_le t, high t)
+
+pub lowered-magnitude-requires : goal.lowered-magnitude-requires
+lowered-magnitude-requires g c = let t = c.self.invariant in omega (arith, ints, magnitude_kept t, c.if-start-len.true, c.len-len.ensures, t.fits, t.in_range, lowest t, place_is c.self.inside.magnitude, place_is c.self.inside.lo)
+
+cuts : (g : _) (c : goal.After-self-3-1 g) → Cuts (g.D.DigitStore.digits c.self.inside.digits) c.self.inside.magnitude c.self.inside.lo c.args.position c.first_nonzero-start.result (to_z w16 c.if-start-len.magnitude-bits) (to_z w16 (of_z w16 c.at_least_zero-hi.result)) (to_z w16 (of_z w16 c.min-lo.result))
+cuts g c =
+    let t = c.self.invariant in
+    let p : to_z w16 (of_z w16 c.args.position) ≡ c.args.position = to_z-of_z w16 c.args.position c.ranges.position in
+    let f = c.first_nonzero-start.ensures in
+    let from : c.min.result ≡ min (int_gap c.args.position (c.self.inside.magnitude +ℤ pos 1)) (length (g.D.DigitStore.digits c.self.inside.digits)) = c.min.ensures ∙ (rw (c.places_from-above.ensures, c.len-len.ensures, p, magnitude_kept t) refl) in
+    let below : c.sum.result ≡ c.args.position -ℤ pos 1 = omega (arith, ints, c.sum.ensures, p) in
+    record {
+      from = subst (λ n. n ≤ c.first_nonzero-start.result) from f.from;
+      within = f.within;
+      zeros = λ k l h. f.zeros k (subst (λ n. n ≤ k) (sym from) l) h;
+      found = f.found;
+      some = λ h. elim c.if-start-len.branch [
+        | then-start-len w ↦ w.magnitude-is ∙ narrow_kept w.lowered-magnitude.type_inv ∙ w.lowered-magnitude.ensures ∙ ap (λ m. m -ℤ pos c.first_nonzero-start.result) (magnitude_kept t)
+        | else-start-len w ↦ absurd (omega (arith, w.if-start-len.false, c.len-len.ensures))
+      ];
+      none = λ h. elim c.if-start-len.branch [
+        | then-start-len w ↦ absurd (omega (arith, w.if-start-len.true, c.len-len.ensures))
+        | else-start-len w ↦ omega (arith, ints, w.magnitude-is)
+      ];
+      hi_is = narrow_kept c.at_least_zero-hi.type_inv ∙ c.at_least_zero-hi.ensures ∙ ap (λ x. int_max x (pos 0)) (wide_kept c.sum.type_inv ∙ below);
+      lo_is = narrow_kept c.min-lo.type_inv ∙ c.min-lo.ensures.value ∙ (rw (lo_kept t, p) refl);
+      position = (omega (arith, ints, p), omega (arith, ints, p));
+    }
+
+pub invariant_of-self : goal.invariant_of-self
+invariant_of-self g c = rw c.drop_front.ensures (trimmed_cut c.self.invariant (cuts g c))
+
+pub returns : goal.returns
+returns g c = rw c.drop_front.ensures (cut_is c.self.invariant (cuts g c) ∙ ap (λ (v : Unsigned). cut v c.args.position) c.self.view_is)

@@ -1,0 +1,24 @@
+use Rattle.std.proofs.Common.{sym, ◌∙◌, ap, subst, arith}
+use Rattle.std.proofs.lemmas.Int.{ints, clamps}
+use Rattle.decimal_digits.specs.Number.{last, IsLast}
+use Rattle.decimal_unsigned.specs.Unsigned.{Unsigned}
+use Rattle.decimal_unsigned.proofs.Values.{narrow_kept, lower_kept, last_in}
+use Rattle.decimal_unsigned.proofs.Ranges.{last_shown}
+use Rattle.decimal_unsigned.proofs.decimal.UnsignedOver.trim_end.Goals as goal
+
+pub invariant_of-self : goal.invariant_of-self
+invariant_of-self g c =
+    let t = c.self.invariant in
+    let e = c.nonzero_magnitude_end.ensures.value ∙ sym (ap (λ (v : Unsigned). last v.number) c.self.view_is) in
+    let b = last_in t in
+    let k = narrow_kept {z = c.min-self-inside.result} c.min-self-inside.type_inv in
+    let r = narrow_kept {z = c.nonzero_magnitude_end.result} c.nonzero_magnitude_end.type_inv in
+    let v = c.min-self-inside.ensures.value in
+    lower_kept t _ (omega (arith, ints, clamps, v)) (omega (arith, ints, clamps, v, r, e)) (omega (arith, ints, clamps, v, r, e, b))
+
+pub returns-clause-greatest : goal.returns-clause-greatest
+returns-clause-greatest g c = λ w v e.
+    let number = e ∙ ap (λ (x : Unsigned). x.number) c.self.view_is in
+    let r = narrow_kept {z = c.nonzero_magnitude_end.result} c.nonzero_magnitude_end.type_inv in
+    rw (narrow_kept {z = c.min-self-inside.result} c.min-self-inside.type_inv, c.min-self-inside.ensures.value, r)
+    (last_shown w _ v (subst (λ n. IsLast n c.nonzero_magnitude_end.result) (sym number) c.nonzero_magnitude_end.ensures.defined) (omega (arith, ints, r)))

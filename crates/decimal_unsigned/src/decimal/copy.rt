@@ -1,0 +1,54 @@
+//! Copies of a value, and which values are equal.
+ghost use Rattle.std.specs.Prelude.{◌≡◌, ◌≤◌, ◌↔◌, IsTrue, IsOk, IfOk};
+ghost use Rattle.decimal_digits.specs.Number.{size};
+ghost use Rattle.decimal_unsigned.specs.Text.{text};
+ghost use Rattle.decimal_unsigned.specs.Unsigned.{same, same_laws};
+
+use super::UnsignedOver;
+use decimal_digits::digits::DigitStore;
+use std::alloc::AllocError;
+
+impl<D: DigitStore> UnsignedOver<D> {
+    /// Makes a second value that equals this one.
+    ///
+    /// The copy of `01.50` prints `01.50`. Err: memory for more than `L` digits was refused. In the place of the
+    /// original's `Clone`.
+    pub fn clone(&self) -> Result<Self, AllocError>
+        ensures value { IfOk result (λ copy. copy ≡ self.now) }
+        ensures succeeds { size self.now.number ≤ D.L → IsOk result }
+    {
+        let digits = self.digits.clone()?;
+        Ok(UnsignedOver {
+            digits,
+            magnitude: self.magnitude,
+            hi: self.hi,
+            lo: self.lo,
+        })
+    }
+}
+
+impl<D: DigitStore> PartialEq for UnsignedOver<D> {
+    ghost eq = { same };
+
+    ghost laws = { same_laws };
+
+    /// Tells whether two values have the same number and show the same magnitudes, so that their texts are equal.
+    ///
+    /// `1.0` and `1` are not equal. The original's `PartialEq`.
+    fn eq(&self, other: &Self) -> bool
+        ensures same { result ≡ same self.now other.now }
+        ensures value { IsTrue result ↔ (self.now ≡ other.now) }
+        ensures texts { IsTrue result ↔ (text self.now ≡ text other.now) }
+    {
+        if self.magnitude != other.magnitude {
+            return false;
+        }
+        if self.hi != other.hi {
+            return false;
+        }
+        if self.lo != other.lo {
+            return false;
+        }
+        self.digits.eq(&other.digits)
+    }
+}
