@@ -36,7 +36,7 @@ fn assert_printed(
 
 #[test]
 fn prints(rt: HostRuntime) -> Result<(), Fail> {
-    let rows: [(&[&str], &[u8]); 7] = [
+    let rows: [(&[&str], &[u8]); 13] = [
         (&["250", "shift:-2"], b"2.50\n"),
         (&["51423", "shift:-8"], b"0.00051423\n"),
         (&[".5"], b"0.5\n"),
@@ -44,6 +44,12 @@ fn prints(rt: HostRuntime) -> Result<(), Fail> {
         (&["1e20"], b"100000000000000000000\n"),
         (&["12", "shift:-000001", "shift:-0"], b"1.2\n"),
         (&["98765", "shift:32763", "shift:1"], b"0\n"),
+        (&["0012.3400", "trim-start", "trim-end"], b"12.34\n"),
+        (&["123400.00", "trim-end-if-integer"], b"123400\n"),
+        (&["100.01", "max:1"], b"0.01\n"),
+        (&["0", "max:-2"], b"0.00\n"),
+        (&["0.42", "pad-start:4"], b"0000.42\n"),
+        (&["123.456", "pad-end:-6"], b"123.456000\n"),
     ];
     for (line, out) in rows {
         assert_printed(&rt, rt.alloc(), line, out, b"", 0)?;
@@ -71,7 +77,7 @@ fn refuses(rt: HostRuntime) -> Result<(), Fail> {
 fn shows_usage(rt: HostRuntime) -> Result<(), Fail> {
     let rows: [&[&str]; 12] = [
         &[],
-        &["250", "trim-start"],
+        &["250", "trim-start:"],
         &["x", "shift:40000"],
         &["250", "shift"],
         &["250", "shift:"],

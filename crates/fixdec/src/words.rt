@@ -14,9 +14,22 @@ fn number(word: &str) -> Option<i16> {
 
 /// The call that a word names.
 pub fn call(word: &str) -> Option<Call> {
+    match word {
+        "trim-start" => Some(Call::TrimStart),
+        "trim-end" => Some(Call::TrimEnd),
+        "trim-end-if-integer" => Some(Call::TrimEndIfInteger),
+        _ => call_with_argument(word),
+    }
+}
+
+/// The call that a word with a colon names.
+fn call_with_argument(word: &str) -> Option<Call> {
     let (name, argument) = word.split_once(':')?;
     match name {
         "shift" => number(argument).map(Call::MultiplyPow10),
+        "pad-start" => number(argument).map(Call::PadStart),
+        "pad-end" => number(argument).map(Call::PadEnd),
+        "max" => number(argument).map(Call::SetMaxPosition),
         _ => None,
     }
 }

@@ -3,11 +3,11 @@ use Rattle.std.specs.Prelude.{◌≡◌, ℕ, ◌<◌, List, [], ◌∷◌, Resu
 use Rattle.decimal_digits.specs.Number.{size}
 use Rattle.decimal_unsigned.specs.declared.error.ParseError.TheVariants.{Limit, Syntax, Memory}
 use Rattle.decimal_unsigned.specs.Unsigned.{Unsigned}
-use Rattle.decimal_unsigned.specs.Edits.{shifted}
+use Rattle.decimal_unsigned.specs.Edits.{shifted, trimmed_start, trimmed_end, trimmed_end_if_integer, padded_start, padded_end, cut}
 use Rattle.decimal_unsigned.specs.Text.{text}
 use Rattle.decimal_unsigned.specs.Reading.{Fault, syntax, limit, read}
 use Rattle.fixed_decimal.specs.declared.run.Call.{Call}
-use Rattle.fixed_decimal.specs.declared.run.Call.TheVariants.{MultiplyPow10}
+use Rattle.fixed_decimal.specs.declared.run.Call.TheVariants.{MultiplyPow10, TrimStart, TrimEnd, TrimEndIfInteger, PadStart, PadEnd, SetMaxPosition}
 use Rattle.fixed_decimal.specs.declared.run.RunError.{RunError}
 use Rattle.fixed_decimal.specs.declared.run.RunError.TheVariants.{Start, Sink}
 
@@ -18,6 +18,12 @@ pub data Refusal : Type 0 where
 -- what a call makes of a value
 abbrev pub step : Unsigned → Call → Unsigned
 step v (MultiplyPow10 delta) = shifted v delta
+step v TrimStart = trimmed_start v
+step v TrimEnd = trimmed_end v
+step v TrimEndIfInteger = trimmed_end_if_integer v
+step v (PadStart position) = padded_start v position
+step v (PadEnd position) = padded_end v position
+step v (SetMaxPosition position) = cut v position
 
 -- what the calls make of a value, in order
 abbrev pub after_calls : Unsigned → List Call → Unsigned

@@ -14,13 +14,25 @@ use decimal_unsigned::ParseError;
 use decimal_unsigned::decimal::UnsignedOver;
 use std::alloc::Global;
 
-/// A call of a run.
+/// A call of a run: a method of the value, with what it is passed.
 ///
-/// Not in the original.
+/// Positions lie between the magnitude of their name and the next lower one. Not in the original.
 #[derive(Clone, Copy, Debug, PartialEq)]
 pub enum Call {
-    /// Multiplies by 10 to this power: `UnsignedDecimal::multiply_pow10`.
+    /// Multiplies by 10 to this power: `multiply_pow10`.
     MultiplyPow10(i16),
+    /// Shows no zero in front of the first digit that is not 0: `trim_start`.
+    TrimStart,
+    /// Shows no zero behind the last digit that is not 0: `trim_end`.
+    TrimEnd,
+    /// Shows no digit behind the dot where all of them are 0: `trim_end_if_integer`.
+    TrimEndIfInteger,
+    /// Shows the magnitudes from the one below this position down: `pad_start`.
+    PadStart(i16),
+    /// Shows the magnitudes down to this position: `pad_end`.
+    PadEnd(i16),
+    /// Keeps the part below this position: `set_max_position`.
+    SetMaxPosition(i16),
 }
 
 /// Why a run did not write its text.
@@ -40,6 +52,12 @@ fn make_call<D: DigitStore>(value: &mut UnsignedOver<D>, call: &Call)
 {
     match *call {
         Call::MultiplyPow10(delta) => value.multiply_pow10(delta),
+        Call::TrimStart => value.trim_start(),
+        Call::TrimEnd => value.trim_end(),
+        Call::TrimEndIfInteger => value.trim_end_if_integer(),
+        Call::PadStart(position) => value.pad_start(position),
+        Call::PadEnd(position) => value.pad_end(position),
+        Call::SetMaxPosition(position) => value.set_max_position(position),
     }
 }
 

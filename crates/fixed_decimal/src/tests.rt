@@ -36,7 +36,7 @@ impl Sink for Limited {
 
 #[test]
 fn runs(rt: HostRuntime) -> Result<(), Fail> {
-    let rows: [(&[u8], &[Call], &[u8]); 9] = [
+    let rows: [(&[u8], &[Call], &[u8]); 11] = [
         (b"250", &[Call::MultiplyPow10(-2)], b"2.50"),
         (b"51423", &[Call::MultiplyPow10(-8)], b"0.00051423"),
         (b".5", &[], b"0.5"),
@@ -53,6 +53,26 @@ fn runs(rt: HostRuntime) -> Result<(), Fail> {
             b"0",
         ),
         (b"500", &[Call::MultiplyPow10(-4)], b"0.0500"),
+        (
+            b"0012.3400",
+            &[
+                Call::TrimStart,
+                Call::TrimEnd,
+                Call::PadStart(4),
+                Call::PadEnd(-3),
+            ],
+            b"0012.340",
+        ),
+        (
+            b"4235.970",
+            &[
+                Call::SetMaxPosition(2),
+                Call::MultiplyPow10(1),
+                Call::MultiplyPow10(2),
+                Call::TrimEndIfInteger,
+            ],
+            b"35970",
+        ),
         (
             b"922337203685477580898230948203840239384.9823094820384023938423424",
             &[],
