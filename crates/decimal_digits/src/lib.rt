@@ -6,3 +6,4 @@
 pub mod digits;
 pub mod ops;
 pub mod sink;
+pub mod uint_iterator;
