@@ -9,6 +9,7 @@ pub mod Numerals
 pub mod Laws
 pub mod Middle
 pub mod Cuts
+pub mod Integers
 pub mod Plans
 pub mod Held
 pub mod Headline

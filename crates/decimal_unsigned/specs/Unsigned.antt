@@ -1,8 +1,8 @@
 -- A number with the range of magnitudes that it shows.
-use Rattle.std.specs.Prelude.{◌≡◌, ℕ, ◌+◌, ◌%◌, ◌^◌, ◌<◌, nat_eq, Bool, ℤ, pos, negsuc, ◌≤ℤ◌}
+use Rattle.std.specs.Prelude.{◌≡◌, ℕ, ◌+◌, ◌*◌, ◌%◌, ◌^◌, ◌<◌, nat_eq, Bool, ℤ, pos, negsuc, ◌≤ℤ◌}
 use Rattle.std.specs.Ordering.{on, eq_of_both, int_eq}
 use Rattle.std.specs.Cmp.{IsPartialEquivalence, and_per, on_per, partial_equiv_from_equiv, nat_eq_equiv, int_eq_equiv}
-use Rattle.decimal_digits.specs.Number.{place, weight}
+use Rattle.decimal_digits.specs.Number.{place, weight, first}
 
 -- a number in units of the lowest magnitude, and the highest and the lowest magnitude that it shows
 pub record Unsigned : Type 0 where
@@ -20,6 +20,14 @@ pub record IsValue (v : Unsigned) : Type 0 where
 -- the number 0, of which one digit is shown
 abbrev pub zero_value : Unsigned
 zero_value = record { number = 0; hi = pos 0; lo = pos 0 }
+
+-- the number 1, of which one digit is shown
+abbrev pub one_value : Unsigned
+one_value = record { number = weight (pos 0); hi = pos 0; lo = pos 0 }
+
+-- an integer, shown from its first digit to magnitude 0
+abbrev pub integer_value : ℕ → Unsigned
+integer_value n = record { number = n * weight (pos 0); hi = first (n * weight (pos 0)); lo = pos 0 }
 
 -- each value of this number is shown from here or from a higher magnitude
 abbrev pub IsLeastHi : Unsigned → Type 0

@@ -6,6 +6,7 @@ ghost use Rattle.decimal_unsigned.specs.Unsigned.{zero_value, IsValue};
 
 mod copy;
 mod edit;
+mod integer;
 mod parse;
 mod text;
 

@@ -1,0 +1,144 @@
+//! The decimal digits of an unsigned integer, the last one first.
+ghost use Rattle.std.specs.Prelude.{◌≡◌, ℕ, ◌/◌, ◌%◌, ◌^◌, ◌<◌, ◌≤◌, length, IfNone, IfSome};
+ghost use Rattle.std.specs.Iterator.{YieldsFirst, item_count};
+ghost use Rattle.decimal_digits.specs.Integer.{ascending_digits};
+
+use std::marker::Model;
+
+/// An unsigned integer type: `u8` to `u128`, and `usize`.
+///
+/// Not in the original, which writes its iterator once for each type.
+pub trait UnsignedInteger: Copy {
+    /// The integer.
+    ghost number: { Self → ℕ };
+
+    /// Splits the last decimal digit off: gives it, and the integer that the others write.
+    ///
+    /// 250 gives 0 and 25. None: the integer is 0, which has no digits here.
+    fn split_last_digit(self) -> Option<(u8, Self)>
+        ensures none { IfNone result (number self ≡ 0) }
+        ensures some { IfSome result (λ split. (0 < number self)
+            × (split.0 ≡ number self % 10) × (number split.1 ≡ number self / 10)) };
+}
+
+/// The decimal digits of an integer, from the last to the first; 0 has none.
+///
+/// Contracts see the digits that are left. Of 250 they are 0, 5 and 2. The original's `IntIterator`, without the sign.
+#[derive(Drop)]
+pub struct IntIterator<T: UnsignedInteger> {
+    rest: T,
+}
+
+impl<T: UnsignedInteger> Model for IntIterator<T> {
+    ghost use Rattle.std.specs.Prelude.{ℕ, List};
+    ghost use Rattle.decimal_digits.specs.Integer.{ascending_digits};
+
+    ghost Value = { List ℕ };
+
+    ghost view = { λ s. ascending_digits (T.number s.rest) };
+}
+
+impl<T: UnsignedInteger> IntIterator<T> {
+    /// Makes the iterator over the digits of an integer, at most 39.
+    ///
+    /// Requires an integer below 2 to the power 128, as those of each type are. The original's `From`.
+    pub fn new(integer: T) -> Self
+        requires { T.number integer < 2 ^ 128 }
+        ensures digits { result ≡ ascending_digits (T.number integer) }
+        ensures few { length result ≤ 39 }
+    {
+        IntIterator { rest: integer }
+    }
+}
+
+impl<T: UnsignedInteger> Iterator for IntIterator<T> {
+    type Item = u8;
+
+    ghost next_gives = { YieldsFirst (λ digits. digits) };
+
+    ghost remaining = { item_count (λ digits. digits) };
+
+    fn next(&mut self) -> Option<u8> {
+        let (digit, rest) = self.rest.split_last_digit()?;
+        self.rest = rest;
+        Some(digit)
+    }
+}
+
+impl UnsignedInteger for u8 {
+    ghost number = { λ n. n };
+
+    #[inline]
+    fn split_last_digit(self) -> Option<(u8, u8)> {
+        if self == 0 {
+            None
+        } else {
+            Some((self % 10, self / 10))
+        }
+    }
+}
+
+impl UnsignedInteger for u16 {
+    ghost number = { λ n. n };
+
+    #[inline]
+    fn split_last_digit(self) -> Option<(u8, u16)> {
+        if self == 0 {
+            None
+        } else {
+            Some(((self % 10) as u8, self / 10))
+        }
+    }
+}
+
+impl UnsignedInteger for u32 {
+    ghost number = { λ n. n };
+
+    #[inline]
+    fn split_last_digit(self) -> Option<(u8, u32)> {
+        if self == 0 {
+            None
+        } else {
+            Some(((self % 10) as u8, self / 10))
+        }
+    }
+}
+
+impl UnsignedInteger for u64 {
+    ghost number = { λ n. n };
+
+    #[inline]
+    fn split_last_digit(self) -> Option<(u8, u64)> {
+        if self == 0 {
+            None
+        } else {
+            Some(((self % 10) as u8, self / 10))
+        }
+    }
+}
+
+impl UnsignedInteger for u128 {
+    ghost number = { λ n. n };
+
+    #[inline]
+    fn split_last_digit(self) -> Option<(u8, u128)> {
+        if self == 0 {
+            None
+        } else {
+            Some(((self % 10) as u8, self / 10))
+        }
+    }
+}
+
+impl UnsignedInteger for usize {
+    ghost number = { λ n. n };
+
+    #[inline]
+    fn split_last_digit(self) -> Option<(u8, usize)> {
+        if self == 0 {
+            None
+        } else {
+            Some(((self % 10) as u8, self / 10))
+        }
+    }
+}

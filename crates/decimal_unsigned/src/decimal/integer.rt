@@ -1,0 +1,142 @@
+//! Values of integers.
+ghost use Rattle.std.specs.Prelude.{◌≡◌, ℕ, ◌-◌, ◌^◌, ◌<◌, ◌≤◌, length, drop, slice_index, All, IsOk, IfOk};
+ghost use Rattle.std.specs.Int.Digits.{digits_of, number_from_digits};
+ghost use Rattle.decimal_digits.specs.Number.{size};
+ghost use Rattle.decimal_unsigned.specs.Unsigned.{integer_value, one_value};
+
+use super::UnsignedOver;
+use decimal_digits::digits::DigitStore;
+use decimal_digits::uint_iterator::{IntIterator, UnsignedInteger};
+use std::alloc::{AllocError, Global};
+
+/// Writes the digits of an integer, to the end of the places: gives the index of the first one.
+fn write_digits<T: UnsignedInteger>(integer: T, places: &mut [u8; 39]) -> usize
+    requires { T.number integer < 2 ^ 128 }
+    ensures within { result ≤ length places.old }
+    ensures digits { drop result places.new ≡ digits_of 10 (T.number integer) }
+{
+    let mut start = places.len();
+    for digit in IntIterator::new(integer) {
+        start -= 1;
+        places[start] = digit;
+    }
+    start
+}
+
+/// The index behind the last digit that is not 0, or 0.
+fn end_of(digits: &[u8]) -> usize
+    ensures within { result ≤ length digits.now }
+    ensures zeros { (k : ℕ) → result ≤ k → slice_index digits.now k ≡ 0 }
+    ensures found { 0 < result → 0 < slice_index digits.now (result - 1) }
+{
+    for index in (0..digits.len()).rev() {
+        if digits[index] != 0 {
+            return index + 1;
+        }
+    }
+    0
+}
+
+impl<D: DigitStore> UnsignedOver<D> {
+    /// Makes the number 1, which shows magnitude 0 alone, and asks for no memory.
+    ///
+    /// Its text is `1`. In the place of the original's `ONE`.
+    pub fn one(alloc: Global) -> Self
+        ensures { result ≡ one_value }
+    {
+        Self::from_u8(alloc, 1)
+    }
+
+    /// Makes the value of a `u8`, and asks for no memory.
+    ///
+    /// 200 prints `200`. In the place of the original's `From<u8>`.
+    pub fn from_u8(alloc: Global, integer: u8) -> Self
+        ensures { result ≡ integer_value integer }
+    {
+        Self::from_u16(alloc, integer as u16)
+    }
+
+    /// Makes the value of a `u16`, and asks for no memory.
+    ///
+    /// 65535 prints `65535`. In the place of the original's `From<u16>`.
+    pub fn from_u16(alloc: Global, integer: u16) -> Self
+        ensures { result ≡ integer_value integer }
+    {
+        Self::from_integer(alloc, integer).unwrap()
+    }
+
+    /// Makes the value of a `u32`: 250 prints `250`.
+    ///
+    /// Err: memory for more than `L` digits was refused; the zeros at the end of the integer are not counted. In the
+    /// place of the original's `From<u32>`.
+    pub fn try_from_u32(alloc: Global, integer: u32) -> Result<Self, AllocError>
+        ensures value { IfOk result (λ v. v ≡ integer_value integer) }
+        ensures succeeds { size (integer_value integer).number ≤ D.L → IsOk result }
+    {
+        Self::from_integer(alloc, integer)
+    }
+
+    /// Makes the value of a `u64`: 250 prints `250`.
+    ///
+    /// Err: memory for more than `L` digits was refused; the zeros at the end of the integer are not counted. In the
+    /// place of the original's `From<u64>`.
+    pub fn try_from_u64(alloc: Global, integer: u64) -> Result<Self, AllocError>
+        ensures value { IfOk result (λ v. v ≡ integer_value integer) }
+        ensures succeeds { size (integer_value integer).number ≤ D.L → IsOk result }
+    {
+        Self::from_integer(alloc, integer)
+    }
+
+    /// Makes the value of a `u128`: 250 prints `250`.
+    ///
+    /// Err: memory for more than `L` digits was refused; the zeros at the end of the integer are not counted. In the
+    /// place of the original's `From<u128>`.
+    pub fn try_from_u128(alloc: Global, integer: u128) -> Result<Self, AllocError>
+        ensures value { IfOk result (λ v. v ≡ integer_value integer) }
+        ensures succeeds { size (integer_value integer).number ≤ D.L → IsOk result }
+    {
+        Self::from_integer(alloc, integer)
+    }
+
+    /// Makes the value of a `usize`: 250 prints `250`.
+    ///
+    /// Err: memory for more than `L` digits was refused; the zeros at the end of the integer are not counted. In the
+    /// place of the original's `From<usize>`.
+    pub fn try_from_usize(alloc: Global, integer: usize) -> Result<Self, AllocError>
+        ensures value { IfOk result (λ v. v ≡ integer_value integer) }
+        ensures succeeds { size (integer_value integer).number ≤ D.L → IsOk result }
+    {
+        Self::from_integer(alloc, integer)
+    }
+
+    /// The value of an integer.
+    fn from_integer<T: UnsignedInteger>(alloc: Global, integer: T) -> Result<Self, AllocError>
+        requires { T.number integer < 2 ^ 128 }
+        ensures value { IfOk result (λ v. v ≡ integer_value (T.number integer)) }
+        ensures succeeds { size (integer_value (T.number integer)).number ≤ D.L → IsOk result }
+        ensures short { length (digits_of 10 (T.number integer)) ≤ D.L → IsOk result }
+    {
+        let mut places = [0; 39];
+        let start = write_digits(integer, &mut places);
+        Self::from_digits(alloc, &places[start..])
+    }
+
+    /// The integer that digits write, the first of which is not 0.
+    fn from_digits(alloc: Global, digits: &[u8]) -> Result<Self, AllocError>
+        requires digits { All (λ d. d < 10) digits.now }
+        requires front { 0 < length digits.now → 0 < slice_index digits.now 0 }
+        requires few { length digits.now ≤ 39 }
+        ensures value { IfOk result (λ v. v ≡ integer_value (number_from_digits 10 digits.now)) }
+        ensures succeeds { size (integer_value (number_from_digits 10 digits.now)).number ≤ D.L → IsOk result }
+        ensures short { length digits.now ≤ D.L → IsOk result }
+    {
+        let kept = D::from_digits(alloc, &digits[..end_of(digits)])?;
+        let magnitude = digits.len().saturating_sub(1) as i16;
+        Ok(UnsignedOver {
+            digits: kept,
+            magnitude,
+            hi: magnitude,
+            lo: 0,
+        })
+    }
+}
