@@ -1,3 +1,4 @@
 pub mod DigitLists
 pub mod Places
 pub mod Ends
+pub mod Counters

@@ -5,4 +5,5 @@
 
 pub mod digits;
 pub mod ops;
+pub mod rounding;
 pub mod sink;
