@@ -2,3 +2,10 @@ pub mod DigitLists
 pub mod Places
 pub mod Ends
 pub mod Counters
+pub mod Naming
+pub mod RoundingLaws
+pub mod Tails
+pub mod NumberAt
+pub mod Fronts
+pub mod Parts
+pub mod Results
