@@ -84,6 +84,10 @@ abbrev pub Leaves : Option ℤ → List ℕ → ℕ → Type 0
 Leaves (Some magnitude) digits n = Writes digits magnitude n
 Leaves None digits n = (weight (pos 32768) ≤ n) × (digits ≡ [])
 
+-- no digit stands below the position
+abbrev pub IsAbove : ℤ → List ℕ → ℤ → Type 0
+IsAbove position digits magnitude = 0 < length digits → place position + length digits ≤ place magnitude + 1
+
 -- the one want of memory: by 25, n has a digit more than the list, and the list has as many as are held without memory
 pub record WantsMemory (increment : RoundingIncrement) (digits : List ℕ) (n held : ℕ) : Type 0 where
   pub by_25 : increment ≡ MultiplesOf25

@@ -1,8 +1,8 @@
 //! Rounding of digits: modes, increments, and the call that rounds a list.
-ghost use Rattle.std.specs.Prelude.{◌≡◌, ◌≢◌, ◌+◌, ◌*◌, ◌<◌, ◌≤◌, ◌↔◌, length, IsOk, IfOk, OnErr};
+ghost use Rattle.std.specs.Prelude.{◌≡◌, ◌≢◌, ◌+◌, ◌*◌, ◌<◌, ◌≤◌, ◌↔◌, length, IfSome, IsOk, IfOk, OnErr};
 ghost use Rattle.decimal_digits.specs.Number.{place, weight};
 ghost use Rattle.decimal_digits.specs.Digits.{number_at, number_of, IsStripped};
-ghost use Rattle.decimal_digits.specs.Rounding.{unit_at, Named, rounded_number, Leaves, WantsMemory};
+ghost use Rattle.decimal_digits.specs.Rounding.{unit_at, Named, rounded_number, Leaves, IsAbove, WantsMemory};
 ghost use Rattle.decimal_digits.specs.Tails.{front, HasParts};
 
 mod ends;
@@ -64,10 +64,10 @@ fn split<D: DigitStore>(list: &mut Counted<'_, D>, magnitude: i16, position: i16
     requires some { 0 < length (D.digits list.old.list.now) }
     requires stripped { IsStripped (D.digits list.old.list.now) }
     requires fits { length (D.digits list.old.list.now) ≤ place magnitude + 1 }
-    ensures parts { HasParts (number_of (D.digits list.old.list.now) magnitude) (weight position)
-        (front result.0 (D.digits list.old.list.now)) result.1 }
+    ensures parts { let digits = D.digits list.old.list.now in
+        HasParts (number_of digits magnitude) (weight position) (front result.0 digits) result.1 }
     ensures exact { (result.1 ≡ Tail.Zero) ↔ (length (D.digits list.old.list.now) ≤ result.0) }
-    ensures within { result.0 ≤ 65536 }
+    ensures few { result.0 ≤ 65536 }
     ensures below_limit { 0 < result.0 → place position + result.0 ≤ 65536 }
     ensures list { list.new.list.now ≡ list.old.list.now }
     ensures turns { list.new.steps.now.count ≤ list.old.steps.now.count + 1 }
@@ -89,6 +89,7 @@ fn placed<D: DigitStore>(list: &mut Counted<'_, D>, position: i16, places: usize
     requires few { places ≤ 65537 }
     ensures leaves { Leaves result (D.digits list.new.list.now)
         (number_at places (D.digits list.old.list.now) * weight position) }
+    ensures above { IfSome result (IsAbove position (D.digits list.new.list.now)) }
     ensures length { length (D.digits list.new.list.now) ≤ length (D.digits list.old.list.now) }
     ensures steps { list.new.steps.now ≡ list.old.steps.now }
     ensures same_list { list.new.list.ghost_name ≡ list.old.list.ghost_name }
@@ -107,10 +108,12 @@ fn placed<D: DigitStore>(list: &mut Counted<'_, D>, position: i16, places: usize
 /// Rounds the number of a list of digits at a position, and gives the magnitude of its first digit then.
 ///
 /// The list holds the digits from the magnitude of the first one down, with no 0 at either end, before and after. The
-/// digits 1, 2 and 5 from the magnitude 0 on, 1.25, are at the position -1 in the mode `HalfEven` by 1 the digits 1 and 2
-/// from 0 on, and the answer is 0. The answer is 0 too where no digit is left. None: the number would reach 10 to the
-/// 32768, and no digit is left. Err: memory was refused for one more digit, which only `MultiplesOf25` asks for, and only
-/// where the list has as many digits as are held without memory. The list then stays as it was.
+/// digits 1, 2 and 5 from the magnitude 0 down, which is 1.25, become 1 and 2 at the position -1 in the mode `HalfEven`
+/// by 1, and the answer is 0. The answer is 0 too where no digit is left. None: the number would reach 10 to the 32768,
+/// and no digit is left.
+///
+/// Err: memory was refused for one more digit, which only `MultiplesOf25` asks for, and only where the list has as many
+/// digits as are held without memory. The list then stays as it was.
 ///
 /// Each read and each write of a digit is one turn of the list. Not in the original, whose value holds these loops.
 pub fn round<D: DigitStore>(
@@ -122,15 +125,20 @@ pub fn round<D: DigitStore>(
 ) -> Result<Option<i16>, AllocError>
     requires stripped { IsStripped (D.digits list.old.list.now) }
     requires fits { length (D.digits list.old.list.now) ≤ place magnitude + 1 }
-    ensures ok { IfOk result (λ answer. Leaves answer (D.digits list.new.list.now)
-        (rounded_number mode (unit_at increment position) (number_of (D.digits list.old.list.now) magnitude))) }
-    // That number is the multiple which the mode names among all multiples.
-    ensures named { Named mode (unit_at increment position) (number_of (D.digits list.old.list.now) magnitude)
-        (rounded_number mode (unit_at increment position) (number_of (D.digits list.old.list.now) magnitude)) }
+    ensures ok { let number = number_of (D.digits list.old.list.now) magnitude in
+        IfOk result (λ answer. Leaves answer (D.digits list.new.list.now)
+        (rounded_number mode (unit_at increment position) number)) }
+    ensures above { IfOk result (λ answer.
+        IfSome answer (IsAbove position (D.digits list.new.list.now))) }
+    // That number is the one which the mode names among all multiples.
+    ensures named { let number = number_of (D.digits list.old.list.now) magnitude in
+        let unit = unit_at increment position in
+        Named mode unit number (rounded_number mode unit number) }
 
     ensures err { OnErr result (D.digits list.new.list.now ≡ D.digits list.old.list.now) }
-    ensures memory { OnErr result (WantsMemory increment (D.digits list.old.list.now)
-        (rounded_number mode (unit_at increment position) (number_of (D.digits list.old.list.now) magnitude)) D.L) }
+    ensures memory { let number = number_of (D.digits list.old.list.now) magnitude in
+        OnErr result (WantsMemory increment (D.digits list.old.list.now)
+        (rounded_number mode (unit_at increment position) number) D.L) }
     ensures succeeds { increment ≢ RoundingIncrement.MultiplesOf25 → IsOk result }
 
     ensures turns { list.new.steps.now.count + length (D.digits list.new.list.now)

@@ -56,7 +56,8 @@ impl<'a, D: DigitStore> Counted<'a, D> {
     pub fn set(&mut self, index: usize, digit: u8)
         requires in_range { index < length (D.digits self.old.list.now) }
         requires is_digit { digit < 10 }
-        ensures digits { D.digits self.new.list.now ≡ slice_set (D.digits self.old.list.now) index digit }
+        ensures digits { D.digits self.new.list.now
+            ≡ slice_set (D.digits self.old.list.now) index digit }
         ensures ticks { self.new.steps.now.count ≡ self.old.steps.now.count + 1 }
         ensures same_list { self.new.list.ghost_name ≡ self.old.list.ghost_name }
         ensures same_steps { self.new.steps.ghost_name ≡ self.old.steps.ghost_name }

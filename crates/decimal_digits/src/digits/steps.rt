@@ -19,6 +19,7 @@ impl Model for Steps {
 
 impl Steps {
     /// Begins to count, at 0.
+    #[inline]
     pub fn new() -> Steps
         ensures { result.count ≡ 0 }
     {
@@ -26,6 +27,7 @@ impl Steps {
     }
 
     /// Counts one turn more.
+    #[inline]
     pub fn tick(&mut self)
         ensures { self.new.count ≡ self.old.count + 1 }
     {
@@ -33,6 +35,7 @@ impl Steps {
     }
 
     /// Makes the count that comes next.
+    #[inline]
     fn after(&self) -> Steps
         ensures { result.count ≡ self.now.count + 1 }
     {

@@ -9,7 +9,8 @@ use crate::digits::{Counted, DigitStore};
 pub fn strip<D: DigitStore>(list: &mut Counted<'_, D>)
     requires { 0 < slice_index (D.digits list.old.list.now) 0 }
     ensures value { let places = length (D.digits list.old.list.now) in
-        number_at places (D.digits list.new.list.now) ≡ number_at places (D.digits list.old.list.now) }
+        number_at places (D.digits list.new.list.now)
+        ≡ number_at places (D.digits list.old.list.now) }
     ensures length { length (D.digits list.new.list.now) ≤ length (D.digits list.old.list.now) }
     ensures some { 0 < length (D.digits list.new.list.now) }
     ensures stripped { IsStripped (D.digits list.new.list.now) }
@@ -31,7 +32,7 @@ pub fn strip<D: DigitStore>(list: &mut Counted<'_, D>)
 /// Adds one at the end, drops the zeros that this leaves there, and says how many places the digits have.
 ///
 /// They have one place more than before where there were nines alone.
-pub fn increment<D: DigitStore>(list: &mut Counted<'_, D>) -> usize
+pub fn add_one<D: DigitStore>(list: &mut Counted<'_, D>) -> usize
     requires front { 0 < slice_index (D.digits list.old.list.now) 0 }
     requires short { length (D.digits list.old.list.now) ≤ 65536 }
     ensures value { number_at result (D.digits list.new.list.now)

@@ -4,7 +4,7 @@ ghost use Rattle.decimal_digits.specs.Digits.{number_at, IsStripped};
 ghost use Rattle.decimal_digits.specs.Rounding.{step_of};
 ghost use Rattle.decimal_digits.specs.Tails.{front, TailIs, RoundsTo, HasDigits};
 
-use super::ends::{increment, strip};
+use super::ends::{add_one, strip};
 use super::tail::{Tail, rounded_two};
 use super::two::{two_at, write_all, write_two};
 use super::{RoundingIncrement, UnsignedRoundingMode};
@@ -15,8 +15,8 @@ use std::alloc::AllocError;
 pub fn tail_after<D: DigitStore>(list: &mut Counted<'_, D>, keep: usize) -> Tail
     requires { IsStripped (D.digits list.old.list.now) }
     // Whatever the number of places is, from the first digit down.
-    ensures tail { (top : ℕ) → length (D.digits list.old.list.now) ≤ top
-        → TailIs result (number_at (top - keep) (drop keep (D.digits list.old.list.now))) (10 ^ (top - keep)) }
+    ensures tail { let digits = D.digits list.old.list.now in (top : ℕ) → length digits ≤ top
+        → TailIs result (number_at (top - keep) (drop keep digits)) (10 ^ (top - keep)) }
     ensures exact { (result ≡ Tail.Zero) ↔ (length (D.digits list.old.list.now) ≤ keep) }
     ensures list { list.new.list.now ≡ list.old.list.now }
     ensures turns { list.new.steps.now.count ≤ list.old.steps.now.count + 1 }
@@ -43,21 +43,21 @@ pub fn round_kept<D: DigitStore>(
     keep: usize,
     tail: Tail,
     mode: UnsignedRoundingMode,
-    increment_by: RoundingIncrement,
+    increment: RoundingIncrement,
 ) -> Result<usize, AllocError>
     requires exact { (tail ≡ Tail.Zero) ↔ (length (D.digits list.old.list.now) ≤ keep) }
     requires short { keep ≤ 65536 }
     requires stripped { IsStripped (D.digits list.old.list.now) }
-    ensures value { IfOk result (λ places. RoundsTo mode (step_of increment_by) tail
+    ensures value { IfOk result (λ places. RoundsTo mode (step_of increment) tail
         (front keep (D.digits list.old.list.now)) (number_at places (D.digits list.new.list.now))) }
     ensures length { IfOk result (λ places. length (D.digits list.new.list.now) ≤ places) }
     ensures places { IfOk result (λ places. places ≤ 65537) }
     ensures stripped { IsStripped (D.digits list.new.list.now) }
     ensures err { OnErr result (D.digits list.new.list.now ≡ D.digits list.old.list.now) }
-    ensures by_25 { OnErr result (increment_by ≡ RoundingIncrement.MultiplesOf25) }
+    ensures by_25 { OnErr result (increment ≡ RoundingIncrement.MultiplesOf25) }
     ensures at_end { OnErr result (keep ≡ length (D.digits list.old.list.now) + 1) }
     ensures longer { OnErr result ((m : ℕ) × HasDigits keep m
-        × RoundsTo mode (step_of increment_by) tail (front keep (D.digits list.old.list.now)) m) }
+        × RoundsTo mode (step_of increment) tail (front keep (D.digits list.old.list.now)) m) }
     ensures full { OnErr result (D.L ≤ length (D.digits list.old.list.now)) }
     ensures turns { list.new.steps.now.count + length (D.digits list.new.list.now)
         ≤ list.old.steps.now.count + length (D.digits list.old.list.now) + 6 }
@@ -65,7 +65,7 @@ pub fn round_kept<D: DigitStore>(
     ensures same_steps { list.new.steps.ghost_name ≡ list.old.steps.ghost_name }
 {
     let two = two_at(list, keep);
-    let rounded = rounded_two(two, tail, mode, increment_by);
+    let rounded = rounded_two(two, tail, mode, increment);
     if tail == Tail::Zero && rounded == two {
         return Ok(keep);
     }
@@ -79,7 +79,7 @@ pub fn round_kept<D: DigitStore>(
     }
     if rounded == 100 {
         list.truncate(keep - 2);
-        return Ok(increment(list) + 2);
+        return Ok(add_one(list) + 2);
     }
     write_two(list, keep, rounded)?;
     Ok(keep)

@@ -34,7 +34,8 @@ fn step(increment: RoundingIncrement) -> u8
 fn part_of(step: u8, rest: u8, tail: Tail) -> Tail
     requires small { step ≤ 25 }
     requires rest { rest < step }
-    ensures { (r place : ℕ) → 0 < place → TailIs tail r place → TailIs result (rest * place + r) (step * place) }
+    ensures { (r place : ℕ) → 0 < place → TailIs tail r place
+        → TailIs result (rest * place + r) (step * place) }
 {
     let quarters = 4 * rest + tail as u8;
     if quarters == 0 {
@@ -75,7 +76,8 @@ pub fn rounded_two(
 ) -> u8
     requires { two < 100 }
     ensures at_most { result ≤ 100 }
-    ensures rounds { (front : ℕ) → RoundsTo mode (step_of increment) tail (100 * front + two) (100 * front + result) }
+    ensures rounds { (front : ℕ)
+        → RoundsTo mode (step_of increment) tail (100 * front + two) (100 * front + result) }
     ensures stays { tail ≡ Tail.Zero → two % step_of increment ≡ 0 → result ≡ two }
 {
     let step = step(increment);

@@ -55,7 +55,8 @@ fn put_last<D: DigitStore>(
 ) -> Result<(), AllocError>
     requires in_range { index ≤ length (D.digits list.old.list.now) }
     requires is_digit { digit < 10 }
-    ensures ok { OnOk result (D.digits list.new.list.now ≡ take index (D.digits list.old.list.now) ++ digit ∷ []) }
+    ensures ok { OnOk result (D.digits list.new.list.now
+        ≡ take index (D.digits list.old.list.now) ++ digit ∷ []) }
     ensures err { OnErr result (D.digits list.new.list.now ≡ D.digits list.old.list.now) }
     ensures at_end { OnErr result (index ≡ length (D.digits list.old.list.now)) }
     ensures full { OnErr result (D.L ≤ length (D.digits list.old.list.now)) }

@@ -37,3 +37,10 @@ returns-clause-leaves g c =
     let within : length ds ≤ place m + 1 = omega (arith, ints, c.requires.fits, place_is m, place_is c.args.position) in
     let whole = writes m ds low high (recursion_from_All _ _ (g.met.D.DigitStore.are_digits list)) within c.requires.stripped (omega arith) in
     simp to_z-of_z (subst (λ n. Writes ds m n) (number_up c.args.position c.args.places ds low_p c.requires.fits m low at) whole)
+
+pub returns-clause-above : goal.returns-clause-above
+returns-clause-above g c some =
+    let fits = c.ranges.position in
+    let fits_m : FitsSigned w16 c.in-Some.magnitude = search rules in
+    let at = simp to_z-of_z at c.in-Some.ensures.some in
+    simp to_z-of_z (omega (arith, ints, c.requires.fits, place_is c.in-Some.magnitude, place_is c.args.position))

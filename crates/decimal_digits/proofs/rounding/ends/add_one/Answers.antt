@@ -1,7 +1,7 @@
 use Rattle.std.proofs.Common.{◌-◌, ◌<◌, get_or, arith}
 use Rattle.std.proofs.lemmas.Grind.{common_steps}
 use Rattle.decimal_digits.proofs.NumberAt.{nine_passed, nines_end, nines_alone}
-use Rattle.decimal_digits.proofs.rounding.ends.increment.Goals as goal
+use Rattle.decimal_digits.proofs.rounding.ends.add_one.Goals as goal
 
 pub loop-keep-preserved : goal.loop-keep-preserved
 loop-keep-preserved g c =

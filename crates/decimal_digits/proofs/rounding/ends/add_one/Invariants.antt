@@ -1,6 +1,6 @@
 use Rattle.std.proofs.Common.{◌≡◌, ◌+◌, ◌-◌, ◌^◌, ◌≤◌, length, take}
 use Rattle.decimal_digits.specs.Digits.{number_at}
-use Rattle.decimal_digits.proofs.rounding.ends.increment.Given as goal
+use Rattle.decimal_digits.proofs.rounding.ends.add_one.Given as goal
 
 abbrev pub invariant-loop-keep : goal.invariant-loop-keep
 invariant-loop-keep g l =
