@@ -5,6 +5,7 @@
 
 pub mod digits;
 pub mod ops;
+pub mod rounding;
 pub mod sink;
 pub mod uint_iterator;
 
