@@ -88,8 +88,8 @@ Leaves None digits n = (weight (pos 32768) ≤ n) × (digits ≡ [])
 abbrev pub IsAbove : ℤ → List ℕ → ℤ → Type 0
 IsAbove position digits magnitude = 0 < length digits → place position + length digits ≤ place magnitude + 1
 
--- the one want of memory: by 25, n has a digit more than the list, and the list has as many as are held without memory
-pub record WantsMemory (increment : RoundingIncrement) (digits : List ℕ) (n held : ℕ) : Type 0 where
+-- the one want of memory: by 25, n has one digit more than these, and no more than these are held without memory
+pub record WantsMemory (increment : RoundingIncrement) (digits n held : ℕ) : Type 0 where
   pub by_25 : increment ≡ MultiplesOf25
-  pub longer : size n ≡ length digits + 1
-  pub full : held ≤ length digits
+  pub longer : size n ≡ digits + 1
+  pub full : held ≤ digits

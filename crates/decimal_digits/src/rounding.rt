@@ -137,7 +137,7 @@ pub fn round<D: DigitStore>(
 
     ensures err { OnErr result (D.digits list.new.list.now ≡ D.digits list.old.list.now) }
     ensures memory { let number = number_of (D.digits list.old.list.now) magnitude in
-        OnErr result (WantsMemory increment (D.digits list.old.list.now)
+        OnErr result (WantsMemory increment (length (D.digits list.old.list.now))
         (rounded_number mode (unit_at increment position) number) D.L) }
     ensures succeeds { increment ≢ RoundingIncrement.MultiplesOf25 → IsOk result }
 

@@ -14,3 +14,4 @@ pub mod Plans
 pub mod Held
 pub mod Headline
 pub mod ReadBack
+pub mod Roundings

@@ -1,5 +1,6 @@
 pub mod Unsigned
 pub mod Edits
+pub mod Rounded
 pub mod Text
 pub mod Grammar
 pub mod Reading

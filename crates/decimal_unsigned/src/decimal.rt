@@ -8,6 +8,7 @@ mod copy;
 mod edit;
 mod integer;
 mod parse;
+mod round;
 mod text;
 
 use decimal_digits::digits::{DigitList, DigitStore};
