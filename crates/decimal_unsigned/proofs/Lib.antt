@@ -4,6 +4,7 @@ pub mod Shifts
 pub mod Unique
 pub mod Shown
 pub mod Writing
+pub mod Formatting
 pub mod Lengths
 pub mod Numerals
 pub mod Laws

@@ -32,41 +32,49 @@ pub appends_none : (a : Option (List ℕ)) → Appends a a []
 appends_none None = tt
 appends_none (Some a) = sym (append-nil a)
 
+-- the magnitudes from i below the highest: all, the first of them, and none
+pub text_down-all : (number : ℕ) (hi : ℤ) (count : ℕ) → text_down number (hi -ℤ pos 0) (count - 0) ≡ text_down number hi count
+text_down-all number hi count =
+    let m : hi -ℤ pos 0 ≡ hi = omega (arith, ints) in
+    let n : count - 0 ≡ count = omega arith in
+    ap (λ k. text_down number k (count - 0)) m ∙ ap (text_down number hi) n
+
+pub text_down-step : (number : ℕ) (hi : ℤ) (count i : ℕ) → i < count → text_down number (hi -ℤ pos i) (count - i) ≡ (dot_before (hi -ℤ pos i) ++ (48 + digit number (hi -ℤ pos i)) ∷ []) ++ text_down number (hi -ℤ pos (i + 1)) (count - (i + 1))
+text_down-step number hi count i h =
+    let n : count - i ≡ suc (count - (i + 1)) = omega arith in
+    let m : (hi -ℤ pos i) -ℤ pos 1 ≡ hi -ℤ pos (i + 1) = omega (arith, ints) in
+    ap (text_down number (hi -ℤ pos i)) n ∙ text_down-suc number (hi -ℤ pos i) (count - (i + 1)) ∙ ap (λ k. (dot_before (hi -ℤ pos i) ++ (48 + digit number (hi -ℤ pos i)) ∷ []) ++ text_down number k (count - (i + 1))) m
+
+pub text_down-end : (number : ℕ) (hi : ℤ) (count i : ℕ) → count ≤ i → text_down number (hi -ℤ pos i) (count - i) ≡ []
+text_down-end number hi count i h =
+    let n : count - i ≡ 0 = omega arith in
+    ap (text_down number (hi -ℤ pos i)) n ∙ text_down-zero number (hi -ℤ pos i)
+
 pub wrote_none : (number : ℕ) (hi : ℤ) (count : ℕ) (a : Option (List ℕ)) → Wrote number hi count 0 a a
 wrote_none number hi count a = record {
   part = [];
   appended = appends_none a;
-  rest =
-      let m : hi -ℤ pos 0 ≡ hi = omega (arith, ints) in
-      let n : count - 0 ≡ count = omega arith in
-      ap (λ k. text_down number k (count - 0)) m ∙ ap (text_down number hi) n;
+  rest = text_down-all number hi count;
 }
-
-step : (number : ℕ) (hi : ℤ) (count i : ℕ) → i < count → text_down number (hi -ℤ pos i) (count - i) ≡ (dot_before (hi -ℤ pos i) ++ (48 + digit number (hi -ℤ pos i)) ∷ []) ++ text_down number (hi -ℤ pos (i + 1)) (count - (i + 1))
-step number hi count i h =
-    let n : count - i ≡ suc (count - (i + 1)) = omega arith in
-    let m : (hi -ℤ pos i) -ℤ pos 1 ≡ hi -ℤ pos (i + 1) = omega (arith, ints) in
-    ap (text_down number (hi -ℤ pos i)) n ∙ text_down-suc number (hi -ℤ pos i) (count - (i + 1)) ∙ ap (λ k. (dot_before (hi -ℤ pos i) ++ (48 + digit number (hi -ℤ pos i)) ∷ []) ++ text_down number k (count - (i + 1))) m
 
 pub wrote_more : {number : ℕ} {hi : ℤ} {count i : ℕ} {a b c : Option (List ℕ)} → Wrote number hi count i a b → i < count → Appends b c (dot_before (hi -ℤ pos i) ++ (48 + digit number (hi -ℤ pos i)) ∷ []) → Wrote number hi count (i + 1) a c
 wrote_more {number} {hi} {count} {i} {a} {b} {c} w h p = record {
   part = w.part ++ (dot_before (hi -ℤ pos i) ++ (48 + digit number (hi -ℤ pos i)) ∷ []);
   appended = appends_both a b c _ _ w.appended p;
-  rest = append_assoc w.part _ _ ∙ ap (λ l. w.part ++ l) (sym (step number hi count i h)) ∙ w.rest;
+  rest = append_assoc w.part _ _ ∙ ap (λ l. w.part ++ l) (sym (text_down-step number hi count i h)) ∙ w.rest;
 }
 
 pub wrote_part : {number : ℕ} {hi : ℤ} {count i : ℕ} {a b : Option (List ℕ)} (c : Option (List ℕ)) → Wrote number hi count i a b → i < count → AppendsBeginning b c (dot_before (hi -ℤ pos i) ++ (48 + digit number (hi -ℤ pos i)) ∷ []) → AppendsBeginning a c (text_down number hi count)
 wrote_part {number} {hi} {count} {i} {a} {b} c w h (part, rest, e, p) = (
   w.part ++ part,
   rest ++ text_down number (hi -ℤ pos (i + 1)) (count - (i + 1)),
-  append_assoc w.part part _ ∙ ap (λ l. w.part ++ l) (sym (append_assoc part rest _) ∙ ap (λ l. l ++ text_down number (hi -ℤ pos (i + 1)) (count - (i + 1))) e ∙ sym (step number hi count i h)) ∙ w.rest,
+  append_assoc w.part part _ ∙ ap (λ l. w.part ++ l) (sym (append_assoc part rest _) ∙ ap (λ l. l ++ text_down number (hi -ℤ pos (i + 1)) (count - (i + 1))) e ∙ sym (text_down-step number hi count i h)) ∙ w.rest,
   appends_both a b c _ _ w.appended p,
 )
 
 pub wrote_all : {number : ℕ} {hi : ℤ} {count i : ℕ} {a b : Option (List ℕ)} → Wrote number hi count i a b → count ≤ i → Appends a b (text_down number hi count)
 wrote_all {number} {hi} {count} {i} {a} {b} w h =
-    let n : count - i ≡ 0 = omega arith in
-    subst (Appends a b) (sym (append-nil w.part) ∙ ap (λ l. w.part ++ l) (sym (ap (text_down number (hi -ℤ pos i)) n ∙ text_down-zero number (hi -ℤ pos i))) ∙ w.rest) w.appended
+    subst (Appends a b) (sym (append-nil w.part) ∙ ap (λ l. w.part ++ l) (sym (text_down-end number hi count i h)) ∙ w.rest) w.appended
 
 pub OnErr-always : {T E : Type 0} (r : Result T E) → OnErr r (Unit {0})
 OnErr-always (Ok x) = tt

@@ -5,6 +5,7 @@ ghost use Rattle.decimal_digits.specs.Number.{digit, first, last, IsFirst, IsLas
 ghost use Rattle.decimal_unsigned.specs.Unsigned.{zero_value, IsValue};
 
 mod copy;
+mod display;
 mod edit;
 mod integer;
 mod parse;
