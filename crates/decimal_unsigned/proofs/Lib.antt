@@ -2,6 +2,7 @@ pub mod Values
 pub mod Shifts
 pub mod Unique
 pub mod Shown
+pub mod Joins
 pub mod Writing
 pub mod Lengths
 pub mod Numerals

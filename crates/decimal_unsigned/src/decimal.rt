@@ -4,6 +4,7 @@ ghost use Rattle.std.specs.Range.{range_inclusive_start, range_inclusive_end};
 ghost use Rattle.decimal_digits.specs.Number.{digit, first, last};
 ghost use Rattle.decimal_unsigned.specs.Unsigned.{zero_value, IsValue};
 
+mod concatenate;
 mod edit;
 mod parse;
 mod text;
