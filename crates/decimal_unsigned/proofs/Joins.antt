@@ -149,3 +149,12 @@ overlaps_some v w p q =
 
 pub apart : (v w : Unsigned) → 0 < v.number → 0 < w.number → overlaps v w ≡ false → first w.number <ℤ last v.number
 apart v w p q f = let e : int_le (last v.number) (first w.number) ≡ false = sym (overlaps_some v w p q) ∙ f in grind (arith, ints, e)
+
+pub not_overlapping : (v w : Unsigned) → (0 < v.number → 0 < w.number → first w.number <ℤ last v.number) → overlaps v w ≡ false
+not_overlapping v w h = elim (cases_lt 0 v.number) [
+  | inl p ↦ elim (cases_lt 0 w.number) [
+    | inl q ↦ let l = h p q in overlaps_some v w p q ∙ (grind (arith, ints, l))
+    | inr q ↦ overlaps_second_zero v w (omega arith)
+  ]
+  | inr p ↦ overlaps_first_zero v w (omega arith)
+]

@@ -3,6 +3,8 @@ pub mod Shifts
 pub mod Unique
 pub mod Shown
 pub mod Joins
+pub mod FirstLast
+pub mod JoiningLaws
 pub mod Writing
 pub mod Lengths
 pub mod Numerals

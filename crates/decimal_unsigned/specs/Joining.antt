@@ -3,6 +3,8 @@ use Rattle.std.specs.Prelude.{ℕ, ◌+◌, ◌<◌, nat_lt, Bool, ◌&&◌, int
 use Rattle.std.specs.Int.{int_max, int_min, int_gap}
 use Rattle.decimal_digits.specs.Number.{first, last}
 use Rattle.decimal_unsigned.specs.Unsigned.{Unsigned}
+use Rattle.decimal_unsigned.specs.declared.error.ConcatenateError.{ConcatenateError}
+use Rattle.decimal_unsigned.specs.declared.error.ConcatenateError.TheVariants.{Overlap, Memory}
 
 -- neither number is 0, and the second begins at or above the last digit of the first
 unfoldable pub overlaps : Unsigned → Unsigned → Bool
@@ -21,3 +23,8 @@ pub record NeedsMemory (held : ℕ) (v w : Unsigned) : Type 0 where
   pub first_counts : 0 < v.number
   pub second_counts : 0 < w.number
   pub more : held < joined_size v w
+
+-- what a refusal hands back
+abbrev pub returned : {T : Type 0} → ConcatenateError T → T
+returned (Overlap x) = x
+returned (Memory x) = x

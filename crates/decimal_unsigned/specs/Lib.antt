@@ -1,11 +1,11 @@
 pub mod Unsigned
 pub mod Edits
 pub mod Joining
+pub mod JoiningLaws
 pub mod Text
 pub mod Grammar
 pub mod Reading
 pub mod Refusal
-pub mod Returned
 pub mod Fields
 pub mod Parts
 pub mod Placing

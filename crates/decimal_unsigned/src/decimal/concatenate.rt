@@ -2,8 +2,9 @@
 ghost use Rattle.std.specs.Int.{int_max, int_min};
 ghost use Rattle.std.specs.Prelude.{◌≡◌, ◌<◌, ◌≤◌, ◌<ℤ◌, ◌+ℤ◌, pos, ◌+◌, ◌↔◌, IsTrue, IsFalse, Ok, Err, IsOk, IfOk, IfErr, OnOk, OnErr};
 ghost use Rattle.decimal_digits.specs.Number.{first, last};
-ghost use Rattle.decimal_unsigned.specs.Joining.{overlaps, joined, joined_size, NeedsMemory};
-ghost use Rattle.decimal_unsigned.specs.Returned.{returned};
+ghost use Rattle.decimal_unsigned.specs.Joining.{overlaps, joined, joined_size, NeedsMemory, returned};
+ghost use Rattle.decimal_unsigned.specs.JoiningLaws.{JoinAlike};
+ghost use Rattle.decimal_unsigned.specs.Unsigned.{Unsigned, IsValue};
 
 use super::UnsignedOver;
 use crate::ConcatenateError;
@@ -15,19 +16,26 @@ impl<D: DigitStore> UnsignedOver<D> {
     /// Joins another number to the end of this one: the numbers are added, and what either shows stays shown.
     ///
     /// `123000` and `456` give `123456`, `5` and `0.00` give `5.00`. Where this number is 0, the digits of the other
-    /// are moved in.
+    /// are moved in, and no memory is asked for.
     ///
     /// Err: `Overlap` where neither number is 0 and the last digit of this one that is not 0 stands at or below the
     /// first of the other, as in `120` and `25`; else `Memory` where neither is 0 and memory for more than `L` joined
     /// digits, zeros between them included, was refused. Either hands the other back, and this value stays as it was.
     /// The original's `concatenate_end`, whose error is the other alone.
+    #[tactic(auto, using(crate::proofs::JoiningLaws::join_alike))]
     pub fn concatenate_end(&mut self, other: Self) -> Result<(), ConcatenateError<Self>>
         ensures ok { OnOk result (self.new ≡ joined self.old other) }
-        ensures overlap { (result ≡ Err (ConcatenateError.Overlap other)) ↔ IsTrue (overlaps self.old other) }
-        ensures memory { (result ≡ Err (ConcatenateError.Memory other)) → NeedsMemory D.L self.old other }
-        ensures succeeds { IsFalse (overlaps self.old other) → ¬ NeedsMemory D.L self.old other → IsOk result }
+        ensures overlap { (result ≡ Err (ConcatenateError.Overlap other))
+            ↔ IsTrue (overlaps self.old other) }
+        ensures memory { (result ≡ Err (ConcatenateError.Memory other))
+            → NeedsMemory D.L self.old other }
+        ensures succeeds { IsFalse (overlaps self.old other)
+            → ¬ NeedsMemory D.L self.old other → IsOk result }
         ensures err { OnErr result (self.new ≡ self.old) }
         ensures back { IfErr result (λ e. returned e ≡ other) }
+        // Three values can be joined from the front exactly where they can be from the back, and give the same.
+        ensures associative { (u v w : Unsigned) → IsValue u → IsValue v → IsValue w
+            → JoinAlike u v w }
     {
         if self.overlaps(&other) {
             return Err(ConcatenateError::Overlap(other));
@@ -52,9 +60,12 @@ impl<D: DigitStore> UnsignedOver<D> {
     /// `concatenated_end`.
     pub fn concatenated_end(mut self, other: Self) -> Result<Self, ConcatenateError<(Self, Self)>>
         ensures ok { IfOk result (λ v. v ≡ joined self other) }
-        ensures overlap { (result ≡ Err (ConcatenateError.Overlap (self, other))) ↔ IsTrue (overlaps self other) }
-        ensures memory { (result ≡ Err (ConcatenateError.Memory (self, other))) → NeedsMemory D.L self other }
-        ensures succeeds { IsFalse (overlaps self other) → ¬ NeedsMemory D.L self other → IsOk result }
+        ensures overlap { (result ≡ Err (ConcatenateError.Overlap (self, other)))
+            ↔ IsTrue (overlaps self other) }
+        ensures memory { (result ≡ Err (ConcatenateError.Memory (self, other)))
+            → NeedsMemory D.L self other }
+        ensures succeeds { IsFalse (overlaps self other)
+            → ¬ NeedsMemory D.L self other → IsOk result }
         ensures back { IfErr result (λ e. returned e ≡ (self, other)) }
     {
         match self.concatenate_end(other) {
@@ -126,9 +137,9 @@ impl<D: DigitStore> UnsignedOver<D> {
         ensures { self.new ≡ record self.old
             { hi = int_max self.old.hi other.now.hi; lo = int_min self.old.lo other.now.lo } }
     {
-        let hi = self.hi.max(other.hi);
-        let lo = self.lo.min(other.lo);
-        self.hi = hi;
-        self.lo = lo;
+        let upper = self.hi.max(other.hi);
+        let lower = self.lo.min(other.lo);
+        self.hi = upper;
+        self.lo = lower;
     }
 }
