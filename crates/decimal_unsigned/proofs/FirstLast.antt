@@ -1,6 +1,6 @@
 -- Each number other than 0 has a first and a last digit.
 use Rattle.std.proofs.Common.{◌≡◌, ℕ, zero, suc, ◌+◌, ◌-◌, ◌*◌, ◌/◌, ◌%◌, ◌^◌, ◌<◌, ◌≤◌, sym, ◌∙◌, ap, subst, arith, inl, inr}
-use Rattle.std.proofs.Math.Nat.{pow-suc, pow-le-pow_right, div-add-mod', le-mul_of_pos_right, lt_of_mul-lt-mul_right, mul-add-mod_self_right, mul-le-mul_right}
+use Rattle.std.proofs.Math.Nat.{mul_assoc, pow-suc, pow-le-pow_right, div-add-mod', le-mul_of_pos_right, lt_of_mul-lt-mul_right, mul-add-mod_self_right, mul-le-mul_right}
 use Rattle.std.proofs.Math.Nat.{mod-le, mod-lt, div-le_self}
 use Rattle.std.proofs.lemmas.Int.{ints}
 use Rattle.std.specs.Prelude.{◌<ℤ◌}
@@ -28,15 +28,17 @@ top_of (suc b) n p h = elim (cases_lt n (10 ^ b)) [
   | inr g ↦ (b, omega arith, g, subst (λ k. n < 10 ^ k) (let e : suc b ≡ b + 1 = omega arith in e) h)
 ]
 
+one_more_zero : (n q v e : ℕ) → n ≡ q * 10 → q ≡ v * 10 ^ e → n ≡ v * 10 ^ suc e
+one_more_zero n q v e h k = h ∙ ap (λ x. x * 10) k ∙ mul_assoc v (10 ^ e) 10 ∙ ap (λ x. v * x) (sym (pow-suc 10 e))
+
 bottom_of : (b n : ℕ) → 0 < n → n < 10 ^ b → (e : ℕ) × (v : ℕ) × (n ≡ v * 10 ^ e) × (0 < v % 10)
 bottom_of zero n p h = absurd (omega (arith, h))
 bottom_of (suc b) n p h = elim (cases_lt 0 (n % 10)) [
   | inl l ↦ (0, n, omega arith, l)
   | inr g ↦
-      let whole : n ≡ n / 10 * 10 = omega arith in
       let few : n / 10 < 10 ^ b = omega (arith, h, pow-suc 10 b) in
       let r = bottom_of b (n / 10) (omega arith) few in
-      (suc r.0, r.1, whole ∙ ap (λ x. x * 10) r.2 ∙ (rw (pow-suc 10 r.0) (omega arith)), r.3)
+      (suc r.0, r.1, one_more_zero n (n / 10) r.1 r.0 (omega arith) r.2, r.3)
 ]
 
 -- ---- each number above 0 has them
