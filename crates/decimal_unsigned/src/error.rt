@@ -1,4 +1,4 @@
-//! Why a text was refused.
+//! Why a call was refused.
 
 /// Why a text was refused.
 ///
@@ -11,4 +11,15 @@ pub enum ParseError {
     Syntax,
     /// Memory for the digits was refused.
     Memory,
+}
+
+/// Why two numbers were not joined, with what was handed in.
+///
+/// `120` and `25` are `Overlap`. In the original the error is what was handed in alone.
+#[derive(Debug, Drop)]
+pub enum ConcatenateError<T> {
+    /// Neither number is 0, and the second begins at or above the last digit of the first that is not 0.
+    Overlap(T),
+    /// Memory for the joined digits was refused.
+    Memory(T),
 }
