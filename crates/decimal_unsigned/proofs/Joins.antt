@@ -9,7 +9,7 @@ use Rattle.std.proofs.lemmas.Bool.Decides.{nat_tests}
 use Rattle.std.proofs.lemmas.List.{length-append, length-replicate, get_or_append_left, get_or-append_right}
 use Rattle.std.specs.Int.Digits.{number_from_digits, AllBelowBase}
 use Rattle.decimal_digits.specs.Number.{place, first, last}
-use Rattle.decimal_digits.specs.Digits.{number_of}
+use Rattle.decimal_digits.specs.Digits.{number_of, number_at}
 use Rattle.decimal_digits.proofs.DigitLists.{number-append, after_is}
 use Rattle.decimal_digits.proofs.Places.{place_is, gap_is}
 use Rattle.decimal_unsigned.specs.Fields.{IsTrimmed}
@@ -88,7 +88,7 @@ module _ {ds es : List ℕ} {m hi lo n hi' lo' : ℤ} (t : IsTrimmed ds m hi lo)
   }
 
   number_of-joined : number_of ((ds ++ replicate k 0) ++ es) m ≡ number_of ds m + number_of es n
-  unfolding number_of
+  unfolding number_of number_at
   number_of-joined =
       let e = place n + 1 - length es in
       let a : place m + 1 - length ((ds ++ replicate k 0) ++ es) ≡ e = omega (arith, places, length-joined ds es k) in
