@@ -1,8 +1,7 @@
 //! What ends the program without its text, and the line and the status that tell it.
 ghost use Rattle.std.specs.Prelude.{◌≡◌, ◌≤◌, ◌<◌};
 
-use fixed_decimal::ParseError;
-use fixed_decimal::run::RunError;
+use fixed_decimal::{ParseError, RunError};
 use std::alloc::AllocError;
 use std::io;
 use std::io::Write;
@@ -24,6 +23,10 @@ pub enum Fault {
     Usage,
     #[error("start: {0}")]
     Start(TextFault),
+    #[error("call {at}: {fault}")]
+    Operand { at: usize, fault: TextFault },
+    #[error("call {at}: overlap")]
+    Overlap { at: usize },
     #[error("memory")]
     Memory,
     #[error("output")]
@@ -31,15 +34,6 @@ pub enum Fault {
 }
 
 impl Fault {
-    /// The fault of a start text.
-    fn of_start(fault: ParseError) -> Fault {
-        match fault {
-            ParseError::Syntax => Fault::Start(TextFault::Syntax),
-            ParseError::Limit => Fault::Start(TextFault::Limit),
-            ParseError::Memory => Fault::Memory,
-        }
-    }
-
     /// The fault of reading the words: memory was refused, or a word is not text.
     pub fn of_arguments(error: &io::Error) -> Fault {
         if error.kind() == io::ErrorKind::OutOfMemory {
@@ -55,7 +49,7 @@ impl Fault {
         ensures known { result ≤ 3 }
     {
         match self {
-            Fault::Start(_) => 1,
+            Fault::Start(_) | Fault::Operand { .. } | Fault::Overlap { .. } => 1,
             Fault::Usage => 2,
             Fault::Memory | Fault::Output => 3,
         }
@@ -71,10 +65,24 @@ impl Fault {
     }
 }
 
+/// Why a text was refused; none where memory was.
+fn text_fault(fault: ParseError) -> Option<TextFault> {
+    match fault {
+        ParseError::Syntax => Some(TextFault::Syntax),
+        ParseError::Limit => Some(TextFault::Limit),
+        ParseError::Memory => None,
+    }
+}
+
 impl From<RunError> for Fault {
     fn from(error: RunError) -> Fault {
         match error {
-            RunError::Start(fault) => Fault::of_start(fault),
+            RunError::Start(fault) => text_fault(fault).map_or(Fault::Memory, Fault::Start),
+            RunError::Operand { at, fault } => {
+                text_fault(fault).map_or(Fault::Memory, |fault| Fault::Operand { at, fault })
+            }
+            RunError::Overlap { at } => Fault::Overlap { at },
+            RunError::Memory { .. } => Fault::Memory,
             RunError::Sink => Fault::Output,
         }
     }

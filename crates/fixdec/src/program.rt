@@ -3,13 +3,13 @@ ghost use Rattle.std.specs.Prelude.{◌≤◌};
 
 use crate::fault::Fault;
 use crate::words::call;
-use fixed_decimal::run::{Call, run};
-use fixed_decimal::{Out, Sink};
+use fixed_decimal::run::run;
+use fixed_decimal::{Call, Out, Sink};
 use std::alloc::Global;
 use std::io::Write;
 
 /// The calls that the words name. All words are checked before memory is asked for.
-fn calls(alloc: Global, words: &[String]) -> Result<Vec<Call>, Fault> {
+fn calls<'a>(alloc: Global, words: &'a [String]) -> Result<Vec<Call<'a>>, Fault> {
     if words.iter().any(|word| call(word.as_str()).is_none()) {
         return Err(Fault::Usage);
     }
@@ -33,11 +33,16 @@ fn print<O: Write>(alloc: Global, words: &[String], out: &mut Out<O>) -> Result<
 
 /// Does the program's work: reads the words after its name, prints, and answers the exit status.
 ///
-/// The first word is the start, each other word a call: `shift:D`, where D is an optional minus and one to six digits,
-/// with a value of -32768 to 32767. Status 0: the text and a line feed were printed. Else one line goes to `err`:
-/// with status 1 `start: syntax` or `start: limit`, and nothing is printed; with status 2 the usage line, where there
-/// is no start or a word is no call, and nothing is printed; with status 3 `memory`, where memory was refused, or
-/// `output`, where `out` refused a byte. A fault of `err` changes no status. Not in the original.
+/// The first word is the start, each other word a call: `shift:D`, `trim-start`, `trim-end`, `trim-end-if-integer`,
+/// `pad-start:P`, `pad-end:P`, `max:P`, `round:P:MODE:INC` with a mode of `expand`, `trunc`, `half-expand`, `half-trunc`
+/// and `half-even` and an increment of 1, 2, 5 and 25, or `concat:TEXT`, whose text is all that follows the colon. D and
+/// P are an optional minus and one to six digits, with a value of -32768 to 32767.
+///
+/// Status 0: the text and a line feed were printed. Else one line goes to `err`: with status 1 `start: syntax`,
+/// `start: limit`, `call K: syntax`, `call K: limit` or `call K: overlap`, the calls counted from 0, and nothing is
+/// printed; with status 2 the usage line, where there is no start or a word is no call, and nothing is printed; with
+/// status 3 `memory`, where memory was refused, or `output`, where `out` refused a byte. A fault of `err` changes no
+/// status. Not in the original.
 pub fn program<O: Write, E: Write>(
     alloc: Global,
     words: &[String],

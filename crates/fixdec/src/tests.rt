@@ -36,7 +36,7 @@ fn assert_printed(
 
 #[test]
 fn prints(rt: HostRuntime) -> Result<(), Fail> {
-    let rows: [(&[&str], &[u8]); 13] = [
+    let rows: [(&[&str], &[u8]); 26] = [
         (&["250", "shift:-2"], b"2.50\n"),
         (&["51423", "shift:-8"], b"0.00051423\n"),
         (&[".5"], b"0.5\n"),
@@ -50,6 +50,25 @@ fn prints(rt: HostRuntime) -> Result<(), Fail> {
         (&["0", "max:-2"], b"0.00\n"),
         (&["0.42", "pad-start:4"], b"0000.42\n"),
         (&["123.456", "pad-end:-6"], b"123.456000\n"),
+        (&["1234.56", "round:-1:trunc:1"], b"1234.5\n"),
+        (
+            &["4235.970", "round:5:trunc:1", "round:2:trunc:1"],
+            b"00000\n",
+        ),
+        (&["99.999", "round:4:expand:1"], b"10000\n"),
+        (&["9.75", "round:-1:half-even:1"], b"9.8\n"),
+        (&["9.75", "round:-1:half-even:5"], b"10.0\n"),
+        (&["2.51", "round:0:half-trunc:1"], b"3\n"),
+        (&["5.455", "round:-2:half-expand:5"], b"5.45\n"),
+        (&["0.40", "round:-2:trunc:25"], b"0.25\n"),
+        (&["0.7000000099", "round:-3:expand:2"], b"0.702\n"),
+        (&["120", "shift:1", "concat:25", "shift:1"], b"12250\n"),
+        (&["123", "concat:0.456", "pad-start:5"], b"00123.456\n"),
+        (
+            &["100000000000000000000", "concat:7"],
+            b"100000000000000000007\n",
+        ),
+        (&["1e20", "concat:7"], b"100000000000000000007\n"),
     ];
     for (line, out) in rows {
         assert_printed(&rt, rt.alloc(), line, out, b"", 0)?;
@@ -61,7 +80,13 @@ fn prints(rt: HostRuntime) -> Result<(), Fail> {
 fn refuses(rt: HostRuntime) -> Result<(), Fail> {
     let zeros = vec![in rt.alloc(); b'0'; 32_769]?;
     let zeros = String::from_utf8(zeros)?;
-    let rows: [(&[&str], &[u8]); 4] = [
+    let rows: [(&[&str], &[u8]); 10] = [
+        (&["120", "concat:25"], b"call 0: overlap\n"),
+        (&["5", "concat:x"], b"call 0: syntax\n"),
+        (&["5", "concat:"], b"call 0: syntax\n"),
+        (&["5", "concat:a:b"], b"call 0: syntax\n"),
+        (&["5", "trim-start", "concat:1e99999"], b"call 1: limit\n"),
+        (&["5", "concat:5", "concat:x"], b"call 0: overlap\n"),
         (&["5."], b"start: syntax\n"),
         (&[""], b"start: syntax\n"),
         (&["10e32767", "shift:1"], b"start: limit\n"),
@@ -75,7 +100,13 @@ fn refuses(rt: HostRuntime) -> Result<(), Fail> {
 
 #[test]
 fn shows_usage(rt: HostRuntime) -> Result<(), Fail> {
-    let rows: [&[&str]; 12] = [
+    let rows: [&[&str]; 18] = [
+        &["5", "round:0:up:1"],
+        &["5", "round:0:trunc:3"],
+        &["5", "round:0:trunc"],
+        &["5", "round:0:trunc:1:"],
+        &["5", "round:0:ceil:1"],
+        &["5", "concat"],
         &[],
         &["250", "trim-start:"],
         &["x", "shift:40000"],

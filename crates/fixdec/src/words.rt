@@ -1,7 +1,7 @@
 //! The words of the command line as calls.
 ghost use Rattle.std.specs.Prelude.{◌≡◌, ◌<◌, ◌≤◌, length};
 
-use fixed_decimal::run::Call;
+use fixed_decimal::{Call, RoundingIncrement, SignedRoundingMode, UnsignedRoundingMode};
 
 /// The number of a magnitude, a position or a distance: an optional minus and one to six digits, in 16 bits.
 fn number(word: &str) -> Option<i16> {
@@ -12,8 +12,43 @@ fn number(word: &str) -> Option<i16> {
     word.parse().ok()
 }
 
+/// The mode of a rounding.
+fn mode(word: &str) -> Option<SignedRoundingMode> {
+    let mode = match word {
+        "expand" => UnsignedRoundingMode::Expand,
+        "trunc" => UnsignedRoundingMode::Trunc,
+        "half-expand" => UnsignedRoundingMode::HalfExpand,
+        "half-trunc" => UnsignedRoundingMode::HalfTrunc,
+        "half-even" => UnsignedRoundingMode::HalfEven,
+        _ => return None,
+    };
+    Some(SignedRoundingMode::Unsigned(mode))
+}
+
+/// The increment of a rounding.
+fn increment(word: &str) -> Option<RoundingIncrement> {
+    match word {
+        "1" => Some(RoundingIncrement::MultiplesOf1),
+        "2" => Some(RoundingIncrement::MultiplesOf2),
+        "5" => Some(RoundingIncrement::MultiplesOf5),
+        "25" => Some(RoundingIncrement::MultiplesOf25),
+        _ => None,
+    }
+}
+
+/// The rounding whose position, mode and increment stand between colons.
+fn rounding<'a>(words: &str) -> Option<Call<'a>> {
+    let (position, words) = words.split_once(':')?;
+    let (mode_word, increment_word) = words.split_once(':')?;
+    Some(Call::Round(
+        number(position)?,
+        mode(mode_word)?,
+        increment(increment_word)?,
+    ))
+}
+
 /// The call that a word names.
-pub fn call(word: &str) -> Option<Call> {
+pub fn call(word: &str) -> Option<Call<'_>> {
     match word {
         "trim-start" => Some(Call::TrimStart),
         "trim-end" => Some(Call::TrimEnd),
@@ -23,13 +58,15 @@ pub fn call(word: &str) -> Option<Call> {
 }
 
 /// The call that a word with a colon names.
-fn call_with_argument(word: &str) -> Option<Call> {
+fn call_with_argument(word: &str) -> Option<Call<'_>> {
     let (name, argument) = word.split_once(':')?;
     match name {
-        "shift" => number(argument).map(Call::MultiplyPow10),
-        "pad-start" => number(argument).map(Call::PadStart),
-        "pad-end" => number(argument).map(Call::PadEnd),
-        "max" => number(argument).map(Call::SetMaxPosition),
+        "shift" => Some(Call::MultiplyPow10(number(argument)?)),
+        "pad-start" => Some(Call::PadStart(number(argument)?)),
+        "pad-end" => Some(Call::PadEnd(number(argument)?)),
+        "max" => Some(Call::SetMaxPosition(number(argument)?)),
+        "round" => rounding(argument),
+        "concat" => Some(Call::Concatenate(argument.as_bytes())),
         _ => None,
     }
 }

@@ -1,48 +1,53 @@
 -- What a run of calls comes to, by the whole numbers alone: no memory and no sink occur here.
-use Rattle.std.specs.Prelude.{◌≡◌, ℕ, ◌<◌, List, [], ◌∷◌, Result, Ok, Err, IsOk, IsOkAnd}
-use Rattle.decimal_digits.specs.Number.{size}
-use Rattle.decimal_unsigned.specs.declared.error.ParseError.TheVariants.{Limit, Syntax, Memory}
-use Rattle.decimal_unsigned.specs.Unsigned.{Unsigned}
+use Rattle.std.specs.Prelude.{◌≡◌, ℕ, ◌+◌, if◌then◌else◌, List, [], ◌∷◌, Result, Ok, Err}
+use Rattle.decimal_digits.specs.declared.rounding.SignedRoundingMode.TheVariants.{Unsigned}
+use Rattle.decimal_unsigned.specs.Unsigned as value
 use Rattle.decimal_unsigned.specs.Edits.{shifted, trimmed_start, trimmed_end, trimmed_end_if_integer, padded_start, padded_end, cut}
+use Rattle.decimal_unsigned.specs.Rounded.{rounded}
+use Rattle.decimal_unsigned.specs.Joining.{overlaps, joined}
 use Rattle.decimal_unsigned.specs.Text.{text}
-use Rattle.decimal_unsigned.specs.Reading.{Fault, syntax, limit, read}
+use Rattle.decimal_unsigned.specs.Reading.{Fault, read}
 use Rattle.fixed_decimal.specs.declared.run.Call.{Call}
-use Rattle.fixed_decimal.specs.declared.run.Call.TheVariants.{MultiplyPow10, TrimStart, TrimEnd, TrimEndIfInteger, PadStart, PadEnd, SetMaxPosition}
-use Rattle.fixed_decimal.specs.declared.run.RunError.{RunError}
-use Rattle.fixed_decimal.specs.declared.run.RunError.TheVariants.{Start, Sink}
+use Rattle.fixed_decimal.specs.declared.run.Call.TheVariants.{MultiplyPow10, TrimStart, TrimEnd, TrimEndIfInteger, PadStart, PadEnd, SetMaxPosition, Round, Concatenate}
 
--- why a run has no text: the start is no value
+-- why a run has no text: the start is no value, the operand of the call with this number is none, or its numbers overlap
 pub data Refusal : Type 0 where
   start : Fault → Refusal
+  operand : ℕ → Fault → Refusal
+  overlap : ℕ → Refusal
 
--- what a call makes of a value
-abbrev pub step : Unsigned → Call → Unsigned
-step v (MultiplyPow10 delta) = shifted v delta
-step v TrimStart = trimmed_start v
-step v TrimEnd = trimmed_end v
-step v TrimEndIfInteger = trimmed_end_if_integer v
-step v (PadStart position) = padded_start v position
-step v (PadEnd position) = padded_end v position
-step v (SetMaxPosition position) = cut v position
+-- goes on with what came out, or stays at the refusal
+abbrev pub and_then : {A B : Type 0} → Result A Refusal → (A → Result B Refusal) → Result B Refusal
+and_then (Ok x) next = next x
+and_then (Err refusal) next = Err refusal
 
--- what the calls make of a value, in order
-abbrev pub after_calls : Unsigned → List Call → Unsigned
-after_calls v [] = v
-after_calls v (call ∷ calls) = after_calls (step v call) calls
+-- the value with what was read joined to its end, by the call with this number
+abbrev pub joined_with : ℕ → value.Unsigned → Result value.Unsigned Fault → Result value.Unsigned Refusal
+joined_with at v (Ok w) = if overlaps v w then Err (overlap at) else Ok (joined v w)
+joined_with at v (Err fault) = Err (operand at fault)
 
--- the text of the last value, or the first refusal
-abbrev pub run_from : Result Unsigned Fault → List Call → Result (List ℕ) Refusal
-run_from (Ok v) calls = Ok (text (after_calls v calls))
-run_from (Err fault) calls = Err (start fault)
+-- what the call with this number makes of a value
+abbrev pub step : ℕ → value.Unsigned → Call → Result value.Unsigned Refusal
+step at v (MultiplyPow10 delta) = Ok (shifted v delta)
+step at v TrimStart = Ok (trimmed_start v)
+step at v TrimEnd = Ok (trimmed_end v)
+step at v TrimEndIfInteger = Ok (trimmed_end_if_integer v)
+step at v (PadStart position) = Ok (padded_start v position)
+step at v (PadEnd position) = Ok (padded_end v position)
+step at v (SetMaxPosition position) = Ok (cut v position)
+step at v (Round position (Unsigned mode) increment) = Ok (rounded v position mode increment)
+step at v (Concatenate operand_text) = joined_with at v (read operand_text.now)
 
--- the start is read, and the calls are made in order
+-- what calls make of a value, in order; the first has this number
+abbrev pub after_calls : ℕ → value.Unsigned → List Call → Result value.Unsigned Refusal
+after_calls at v [] = Ok v
+after_calls at v (call ∷ calls) = and_then (step at v call) (λ w. after_calls (at + 1) w calls)
+
+-- the value of the start
+abbrev pub started : Result value.Unsigned Fault → Result value.Unsigned Refusal
+started (Ok v) = Ok v
+started (Err fault) = Err (start fault)
+
+-- the start is read and the calls are made in order: the text of the last value, or the first refusal
 abbrev pub outcome : List ℕ → List Call → Result (List ℕ) Refusal
-outcome bytes calls = run_from (read bytes) calls
-
--- the run's error is the outcome's refusal; want of memory is one only where the start has more than so many digits,
--- and a fault of the sink only where there is a text
-abbrev pub RunRefuses : ℕ → RunError → List ℕ → List Call → Type 0
-RunRefuses most (Start Limit) bytes calls = outcome bytes calls ≡ Err (start limit)
-RunRefuses most (Start Syntax) bytes calls = outcome bytes calls ≡ Err (start syntax)
-RunRefuses most (Start Memory) bytes calls = IsOkAnd (read bytes) (λ v. most < size v.number)
-RunRefuses most Sink bytes calls = IsOk (outcome bytes calls)
+outcome bytes calls = and_then (started (read bytes)) (λ v. and_then (after_calls 0 v calls) (λ w. Ok (text w)))

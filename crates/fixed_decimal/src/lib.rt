@@ -5,9 +5,12 @@
 
 pub mod run;
 
+pub use decimal_digits::digits::Steps;
+pub use decimal_digits::rounding::{RoundingIncrement, SignedRoundingMode, UnsignedRoundingMode};
 pub use decimal_digits::sink::{Out, Sink, SinkFault, TextBuf, Writeable};
-pub use decimal_unsigned::ParseError;
 pub use decimal_unsigned::decimal::UnsignedDecimal;
+pub use decimal_unsigned::{ConcatenateError, ParseError};
+pub use run::{Call, RunError};
 
 #[cfg(test)]
 mod tests;
