@@ -7,3 +7,4 @@ pub mod Refusal
 pub mod Fields
 pub mod Parts
 pub mod Placing
+pub mod ErrorText

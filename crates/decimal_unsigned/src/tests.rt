@@ -5,6 +5,8 @@ use std::alloc::Global;
 use std::process::Abort;
 use std::test::Fail;
 
+mod edits;
+mod integers;
 mod reading;
 
 /// The value that a text writes.

@@ -1,4 +1,4 @@
-use Rattle.std.proofs.Common.{◌≡◌, ◌<◌, w16, of_z, negsuc, refl, ◌∙◌, ap, arith}
+use Rattle.std.proofs.Common.{◌≡◌, w16, of_z, negsuc, refl, ◌∙◌, ap, arith}
 use Rattle.std.proofs.lemmas.Int.{ints, to_z-of_z}
 use Rattle.std.proofs.Output.{has_written_styled_nil}
 use Rattle.std.specs.Fmt.{HasWrittenStyled}

@@ -1,7 +1,5 @@
-use Rattle.std.proofs.Common.{pos, ◌+◌, ◌-ℤ◌, ◌++◌, ◌∷◌, [], refl, ◌∙◌, ap, subst, arith}
+use Rattle.std.proofs.Common.{pos, ◌-ℤ◌, refl, ◌∙◌, ap, arith}
 use Rattle.std.specs.Fmt.{IsFlush}
-use Rattle.decimal_digits.specs.Number.{digit}
-use Rattle.decimal_unsigned.specs.Text.{dot_before, text}
 use Rattle.decimal_unsigned.proofs.Values.{narrow_kept, counted}
 use Rattle.decimal_unsigned.proofs.Formatting.{formatted_none, formatted_more, formatted_all, written_plain}
 use Rattle.decimal_unsigned.proofs.decimal.display.UnsignedOverDisplay.fmt.Goals as goal
