@@ -2,3 +2,11 @@ pub mod DigitLists
 pub mod Places
 pub mod Ends
 pub mod Integers
+pub mod Counters
+pub mod Naming
+pub mod RoundingLaws
+pub mod Tails
+pub mod NumberAt
+pub mod Fronts
+pub mod Parts
+pub mod Results

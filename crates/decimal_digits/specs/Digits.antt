@@ -1,8 +1,17 @@
 -- Lists of decimal digits, most significant first.
-use Rattle.std.specs.Prelude.{ℕ, ◌+◌, ◌-◌, ◌*◌, ◌^◌, List, length, ℤ}
+use Rattle.std.specs.Prelude.{ℕ, ◌+◌, ◌-◌, ◌*◌, ◌^◌, ◌<◌, List, length, slice_index, ℤ}
 use Rattle.std.specs.Int.Digits.{number_from_digits}
 use Rattle.decimal_digits.specs.Number.{place}
 
+-- what the digits are worth, in units, where so many places, `top`, are at or below the first
+unfoldable pub number_at : ℕ → List ℕ → ℕ
+number_at top digits = number_from_digits 10 digits * 10 ^ (top - length digits)
+
 -- what the digits are worth, in units, where the first stands at this magnitude
 unfoldable pub number_of : List ℕ → ℤ → ℕ
-number_of digits magnitude = number_from_digits 10 digits * 10 ^ (place magnitude + 1 - length digits)
+number_of digits magnitude = number_at (place magnitude + 1) digits
+
+-- there is no 0 at either end
+pub record IsStripped (digits : List ℕ) : Type 0 where
+  pub front : 0 < length digits → 0 < slice_index digits 0
+  pub back : 0 < length digits → 0 < slice_index digits (length digits - 1)

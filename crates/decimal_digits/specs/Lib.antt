@@ -2,3 +2,5 @@ pub mod Number
 pub mod Digits
 pub mod Text
 pub mod Integer
+pub mod Rounding
+pub mod Tails

@@ -1,10 +1,14 @@
 //! Lists of digits, most significant first, however they are kept.
 ghost use Rattle.std.specs.Prelude.{◌≡◌, ℕ, ◌+◌, ◌<◌, ◌≤◌, ◌↔◌, List, [], ◌∷◌, ◌++◌, length, take, drop, replicate, slice_set, slice_index, All, IsTrue, IsOk, IfOk, OnOk, OnErr};
 
+mod counted;
 mod list;
+mod steps;
 
+pub use counted::Counted;
 pub use list::DigitList;
 use std::alloc::{AllocError, Global};
+pub use steps::Steps;
 
 /// A list of digits 0 to 9 and the room that it has for more.
 ///

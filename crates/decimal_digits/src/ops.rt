@@ -1,5 +1,5 @@
 //! Arithmetic on magnitudes, which lie in 16 bits: each function computes in a wider type, so none wraps.
-ghost use Rattle.std.specs.Prelude.{◌≡◌, ◌+◌, ◌+ℤ◌, ◌-ℤ◌, ◌≤ℤ◌, pos, negsuc};
+ghost use Rattle.std.specs.Prelude.{◌≡◌, ◌+◌, ◌<◌, ◌≤◌, ◌+ℤ◌, ◌-ℤ◌, ◌<ℤ◌, ◌≤ℤ◌, pos, negsuc, IfSome, IfNone};
 ghost use Rattle.std.specs.Int.{int_max, int_min, int_gap};
 
 /// Adds two magnitudes, or a magnitude and a distance.
@@ -66,4 +66,39 @@ pub fn lowered(magnitude: i16, by: u32) -> i16
     ensures { result ≡ magnitude -ℤ pos by }
 {
     (magnitude as i64 - by as i64) as i16
+}
+
+/// Counts the magnitudes from a position up to a magnitude, both included.
+///
+/// `places_above(-1, 2)` is 4, and `places_above(3, 2)` is 0. None where the position is still higher. Not in the
+/// original.
+#[inline]
+pub fn places_above(position: i16, magnitude: i16) -> Option<usize>
+    ensures some { IfSome result (λ places. (position +ℤ pos places) ≡ (magnitude +ℤ pos 1)) }
+    ensures none { IfNone result ((magnitude +ℤ pos 1) <ℤ position) }
+{
+    let places = magnitude as i32 - position as i32 + 1;
+    if places < 0 {
+        None
+    } else {
+        Some(places as usize)
+    }
+}
+
+/// Gives the highest of so many magnitudes, of which the lowest is at a position.
+///
+/// `highest_of(-1, 4)` is 2. None where it would be above 32767. Requires 1 to 65,537 places. Not in the original.
+#[inline]
+pub fn highest_of(position: i16, places: usize) -> Option<i16>
+    requires some { 0 < places }
+    requires few { places ≤ 65537 }
+    ensures some { IfSome result (λ magnitude. (magnitude +ℤ pos 1) ≡ (position +ℤ pos places)) }
+    ensures none { IfNone result (pos 32768 <ℤ (position +ℤ pos places)) }
+{
+    let highest = position as i32 + places as i32 - 1;
+    if highest > 32767 {
+        None
+    } else {
+        Some(highest as i16)
+    }
 }

@@ -9,7 +9,7 @@ use Rattle.std.proofs.lemmas.Nat.{pow-add, mod-mul-add}
 use Rattle.std.proofs.lemmas.List.{length-drop, length-take-le, get_or-take, get_or-drop, drop-drop}
 use Rattle.std.specs.Int.Digits.{number_from_digits}
 use Rattle.decimal_digits.specs.Number.{place, weight}
-use Rattle.decimal_digits.specs.Digits.{number_of}
+use Rattle.decimal_digits.specs.Digits.{number_of, number_at}
 use Rattle.decimal_digits.proofs.DigitLists.{ten_pos, number_split, number-drop-lt, below_drop}
 use Rattle.decimal_digits.proofs.Places.{place_is, gap_is}
 use Rattle.decimal_unsigned.specs.Fields.{IsTrimmed}
@@ -30,7 +30,7 @@ number_cut ds a start h w zeros =
     number_split a ds (omega arith) ∙ ap (λ n. number_from_digits 10 (take a ds) * 10 ^ (length ds - a) + n) (split ∙ (rw (none, tail) (omega arith)))
 
 number_of_is : (ds : List ℕ) (m : ℤ) → number_of ds m ≡ number_from_digits 10 ds * 10 ^ (place m + 1 - length ds)
-unfolding number_of
+unfolding number_of number_at
 number_of_is ds m = refl
 
 -- a value of digits ds from magnitude m on, cut at a position: the first digits go, `start` of them

@@ -3,6 +3,9 @@ pub mod Ranges
 pub mod Shifts
 pub mod Unique
 pub mod Shown
+pub mod Joins
+pub mod FirstLast
+pub mod JoiningLaws
 pub mod Writing
 pub mod Formatting
 pub mod Lengths
@@ -15,3 +18,4 @@ pub mod Plans
 pub mod Held
 pub mod Headline
 pub mod ReadBack
+pub mod Roundings

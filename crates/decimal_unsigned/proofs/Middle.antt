@@ -8,7 +8,7 @@ use Rattle.std.proofs.lemmas.Bool.{cases_lt}
 use Rattle.std.proofs.lemmas.List.{length-drop, length-take, length-take-le, get_or-take, get_or-drop}
 use Rattle.std.specs.Int.Digits.{number_from_digits, AllBelowBase}
 use Rattle.decimal_digits.specs.Number.{place}
-use Rattle.decimal_digits.specs.Digits.{number_of}
+use Rattle.decimal_digits.specs.Digits.{number_of, number_at}
 use Rattle.decimal_unsigned.specs.Fields.{IsTrimmed}
 use Rattle.decimal_digits.proofs.Places.{place_is}
 use Rattle.decimal_digits.proofs.DigitLists.{after_is, number_split, below_take, below_drop}
@@ -44,7 +44,7 @@ module _ (ds : List ℕ) (start end : ℕ) (n : IsInner ds start end) where
 
 -- the same of a places in front of the dot and b behind it
 pub number_of-middle : (ds : List ℕ) (start end a b : ℕ) (m : ℤ) → IsInner ds start end → length ds ≡ a + b → b ≤ 32768 → place m + (start + 1) ≡ 32768 + a → number_of (middle start end ds) m ≡ number_from_digits 10 ds * 10 ^ (32768 - b)
-unfolding number_of
+unfolding number_of number_at
 number_of-middle ds start end a b m n whole few p =
     let l = middle_length ds start end n in
     let k : place m + 1 - length (middle start end ds) ≡ (length ds - end) + (32768 - b) = omega (arith, n.ordered, n.within) in

@@ -7,7 +7,7 @@ use Rattle.std.proofs.lemmas.Int.{ints, clamps}
 use Rattle.std.proofs.lemmas.Bool.{cases_lt}
 use Rattle.std.specs.Int.Digits.{number_from_digits}
 use Rattle.decimal_digits.specs.Number.{place, first, last, IsFirst, IsLast}
-use Rattle.decimal_digits.specs.Digits.{number_of}
+use Rattle.decimal_digits.specs.Digits.{number_of, number_at}
 use Rattle.decimal_digits.proofs.Places.{place_is}
 use Rattle.decimal_digits.proofs.Ends.{no_more_zeros}
 use Rattle.decimal_digits.proofs.DigitLists.{number_back}
@@ -28,7 +28,7 @@ module _ {ds : List ℕ} {m hi lo : ℤ} (t : IsTrimmed ds m hi lo) where
   }
 
   pub is_last : IsLast (number_of ds m) (last (number_of ds m))
-  unfolding number_of
+  unfolding number_of number_at
   is_last = record {
     divides = λ p. subst (λ k. number_of ds m % 10 ^ k ≡ 0) (sym (ends_at (some p))) (mul-mod_left (number_from_digits 10 ds) (10 ^ (place m + 1 - length ds)));
     highest = λ p k h.

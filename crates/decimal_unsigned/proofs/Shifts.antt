@@ -9,7 +9,7 @@ use Rattle.std.proofs.lemmas.Bool.{cases_lt}
 use Rattle.std.specs.Int.Digits.{number_from_digits}
 use Rattle.decimal_digits.specs.Number.{place}
 use Rattle.decimal_unsigned.specs.Unsigned.{Unsigned, zero_value}
-use Rattle.decimal_digits.specs.Digits.{number_of}
+use Rattle.decimal_digits.specs.Digits.{number_of, number_at}
 use Rattle.decimal_unsigned.specs.Fields.{IsTrimmed}
 use Rattle.decimal_unsigned.specs.Edits.{leaves_limits, multiplied, shifted}
 use Rattle.decimal_digits.proofs.Places.{place_is}
@@ -55,13 +55,13 @@ module _ {ds : List ℕ} {m hi lo d m' hi' lo' : ℤ} (t : IsTrimmed ds m hi lo)
   ]
 
 number_up : (ds : List ℕ) (m m' : ℤ) (n : ℕ) → length ds ≤ place m + 1 → place m' ≡ place m + n → number_of ds m' ≡ number_of ds m * 10 ^ n
-unfolding number_of
+unfolding number_of number_at
 number_up ds m m' n h e =
     let k : place m' + 1 - length ds ≡ (place m + 1 - length ds) + n = omega arith in
     ap (λ x. number_from_digits 10 ds * 10 ^ x) k ∙ (rw pow-add (omega arith))
 
 number_down : (ds : List ℕ) (m m' : ℤ) (n : ℕ) → length ds ≤ place m' + 1 → place m' + n ≡ place m → number_of ds m' ≡ number_of ds m / 10 ^ n
-unfolding number_of
+unfolding number_of number_at
 number_down ds m m' n h e =
     let k : place m' + 1 - length ds ≡ (place m + 1 - length ds) - n = omega arith in
     ap (λ x. number_from_digits 10 ds * 10 ^ x) k ∙ sym (shift_up (number_from_digits 10 ds) (place m + 1 - length ds) n (omega arith))

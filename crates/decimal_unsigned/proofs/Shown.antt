@@ -6,14 +6,14 @@ use Rattle.std.proofs.lemmas.Nat.{pow-add}
 use Rattle.std.proofs.Math.Nat.{pow-le-pow_right, mul-mod_left}
 use Rattle.std.specs.Int.Digits.{number_from_digits}
 use Rattle.decimal_digits.specs.Number.{place}
-use Rattle.decimal_digits.specs.Digits.{number_of}
+use Rattle.decimal_digits.specs.Digits.{number_of, number_at}
 use Rattle.decimal_unsigned.specs.Fields.{IsTrimmed}
 use Rattle.decimal_unsigned.specs.Unsigned.{Unsigned, IsValue}
 use Rattle.decimal_digits.proofs.Places.{place_is}
 use Rattle.decimal_unsigned.proofs.Values.{number_of-lt, lowest}
 
 pub value_of_trimmed : {ds : List ℕ} {m hi lo : ℤ} → IsTrimmed ds m hi lo → IsValue (record { number = number_of ds m; hi = hi; lo = lo })
-unfolding number_of
+unfolding number_of number_at
 value_of_trimmed {ds} {m} {hi} {lo} t = record {
   hi_in = (t.hi_in, t.in_range.1);
   lo_in = (t.in_range.0, t.lo_in);

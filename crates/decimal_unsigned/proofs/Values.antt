@@ -9,7 +9,7 @@ use Rattle.std.specs.Int.{int_gap}
 use Rattle.std.proofs.lemmas.Int.Digits.{number_lt}
 use Rattle.std.specs.Int.Digits.{number_from_digits}
 use Rattle.decimal_digits.specs.Number.{place, digit, first, last, magnitude_at}
-use Rattle.decimal_digits.specs.Digits.{number_of}
+use Rattle.decimal_digits.specs.Digits.{number_of, number_at}
 use Rattle.decimal_unsigned.specs.Fields.{IsTrimmed}
 use Rattle.decimal_digits.specs.Number.{size}
 use Rattle.decimal_digits.proofs.DigitLists.{ten_pos, number_front, number_back, number-digit}
@@ -24,7 +24,7 @@ ends ds m = place m + 1 - length ds
 
 module _ {ds : List ℕ} {m hi lo : ℤ} (t : IsTrimmed ds m hi lo) where
   pub number_of-lt : number_of ds m < 10 ^ (place m + 1)
-  unfolding number_of
+  unfolding number_of number_at
   number_of-lt =
       let n : number_from_digits 10 ds < 10 ^ length ds = number_lt 10 ds t.digits in
       let below : number_from_digits 10 ds * 10 ^ ends ds m < 10 ^ length ds * 10 ^ ends ds m = mul-lt-mul_of_pos_right n (ten_pos (ends ds m)) in
@@ -32,7 +32,7 @@ module _ {ds : List ℕ} {m hi lo : ℤ} (t : IsTrimmed ds m hi lo) where
       rw split below
 
   pub number_of-ge : 0 < length ds → 10 ^ place m ≤ number_of ds m
-  unfolding number_of
+  unfolding number_of number_at
   number_of-ge h =
       let n : 10 ^ (length ds - 1) ≤ number_from_digits 10 ds = number_front ds h (t.front h) in
       let above : 10 ^ (length ds - 1) * 10 ^ ends ds m ≤ number_from_digits 10 ds * 10 ^ ends ds m = mul-le-mul_right (10 ^ ends ds m) n in
@@ -43,7 +43,7 @@ module _ {ds : List ℕ} {m hi lo : ℤ} (t : IsTrimmed ds m hi lo) where
   number_of-pos h = omega (arith, number_of-ge h, ten_pos (place m))
 
   pub number_of-none : length ds ≡ 0 → number_of ds m ≡ 0
-  unfolding number_of
+  unfolding number_of number_at
   number_of-none h =
       let z : number_from_digits 10 ds ≡ 0 = omega (arith, number_lt 10 ds t.digits, ap (λ k. 10 ^ k) h) in
       rw z (omega arith)
@@ -58,7 +58,7 @@ module _ {ds : List ℕ} {m hi lo : ℤ} (t : IsTrimmed ds m hi lo) where
   first-number_of h = first_is _ (place m) (number_of-ge h) number_of-lt high ∙ magnitude_at-place m lowest
 
   pub last-number_of : 0 < length ds → last (number_of ds m) ≡ m -ℤ pos (length ds - 1)
-  unfolding number_of
+  unfolding number_of number_at
   last-number_of h =
       let b : 0 < number_from_digits 10 ds % 10 = rw (number_back ds t.digits h) (t.back h) in
       let e : magnitude_at (ends ds m) ≡ m -ℤ pos (length ds - 1) = omega (arith, ints, place_is m, t.fits, lowest) in
@@ -68,14 +68,14 @@ module _ {ds : List ℕ} {m hi lo : ℤ} (t : IsTrimmed ds m hi lo) where
   digit-number_of-above q h l = digit_above _ (place m + 1) (place q) number_of-lt (omega (arith, ints, place_is m, place_is q, lowest))
 
   pub digit-number_of-in : (q : ℤ) (i : ℕ) → q +ℤ pos i ≡ m → negsuc 32767 ≤ℤ q → i < length ds → digit (number_of ds m) q ≡ slice_index ds i
-  unfolding number_of
+  unfolding number_of number_at
   digit-number_of-in q i e l h =
       let p : place q + i ≡ place m = omega (arith, ints, place_is m, place_is q, lowest) in
       let k : place q - ends ds m ≡ length ds - (i + 1) = omega (arith, t.fits) in
       ap (λ x. x % 10) (shift_down (number_from_digits 10 ds) (ends ds m) (place q) (omega (arith, t.fits)) ∙ ap (λ n. number_from_digits 10 ds / 10 ^ n) k) ∙ number-digit i ds t.digits h
 
   pub digit-number_of-below : (q : ℤ) (i : ℕ) → q +ℤ pos i ≡ m → negsuc 32767 ≤ℤ q → length ds ≤ i → digit (number_of ds m) q ≡ 0
-  unfolding number_of
+  unfolding number_of number_at
   digit-number_of-below q i e l h = digit_below (number_from_digits 10 ds) (ends ds m) (place q) (omega (arith, ints, place_is m, place_is q, lowest, t.fits))
 
   pub first_of : first (number_of ds m) ≡ m
@@ -91,7 +91,7 @@ module _ {ds : List ℕ} {m hi lo : ℤ} (t : IsTrimmed ds m hi lo) where
   none_of e = elim (cases_lt 0 (length ds)) [ inl h ↦ omega (arith, number_of-pos h) | inr h ↦ omega arith ]
 
 pub number_of_empty : (m : ℤ) → number_of [] m ≡ 0
-unfolding number_of
+unfolding number_of number_at
 number_of_empty m = omega arith
 
 pub length_le : {ds : List ℕ} {m hi lo : ℤ} → IsTrimmed ds m hi lo → length ds ≤ place m + 1

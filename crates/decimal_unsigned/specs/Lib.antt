@@ -1,5 +1,8 @@
 pub mod Unsigned
 pub mod Edits
+pub mod Rounded
+pub mod Joining
+pub mod JoiningLaws
 pub mod Text
 pub mod Grammar
 pub mod Reading

@@ -4,11 +4,13 @@ ghost use Rattle.std.specs.Range.{range_inclusive_start, range_inclusive_end};
 ghost use Rattle.decimal_digits.specs.Number.{digit, first, last, IsFirst, IsLast};
 ghost use Rattle.decimal_unsigned.specs.Unsigned.{zero_value, IsValue};
 
+mod concatenate;
 mod copy;
 mod display;
 mod edit;
 mod integer;
 mod parse;
+mod round;
 mod text;
 
 use decimal_digits::digits::{DigitList, DigitStore};

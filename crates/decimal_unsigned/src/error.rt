@@ -1,6 +1,6 @@
-//! Why a text was refused.
-ghost use Rattle.decimal_unsigned.specs.ErrorText.{error_text};
+//! Why a call was refused.
 ghost use Rattle.std.specs.Prelude.{◌≡◌};
+ghost use Rattle.decimal_unsigned.specs.ErrorText.{error_text};
 
 use std::error::Error;
 use std::fmt;
@@ -48,3 +48,14 @@ impl fmt::Display for ParseError {
 }
 
 impl Error for ParseError {}
+
+/// Why two numbers were not joined, with what was handed in.
+///
+/// `120` and `25` are `Overlap`. In the original the error is what was handed in alone.
+#[derive(Debug, Drop)]
+pub enum ConcatenateError<T> {
+    /// Neither number is 0, and the second begins at or above the last digit of the first that is not 0.
+    Overlap(T),
+    /// Memory for the joined digits was refused.
+    Memory(T),
+}

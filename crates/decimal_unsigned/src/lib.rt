@@ -6,7 +6,7 @@
 pub mod decimal;
 mod error;
 
-pub use error::ParseError;
+pub use error::{ConcatenateError, ParseError};
 
 #[cfg(test)]
 mod tests;

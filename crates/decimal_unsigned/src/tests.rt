@@ -5,8 +5,10 @@ use std::alloc::Global;
 use std::process::Abort;
 use std::test::Fail;
 
+mod concatenation;
 mod edits;
 mod integers;
+mod printing;
 mod reading;
 
 /// The value that a text writes.

@@ -1,24 +1,30 @@
 //! A sink in memory.
-ghost use Rattle.std.specs.Prelude.{◌≡◌, [], Some, false};
+ghost use Rattle.std.specs.Prelude.{◌≡◌, ℕ, List, [], Some, Bool, false};
 
 use super::{Sink, SinkFault};
 use std::alloc::Global;
+use std::marker::Model;
 
 /// A sink that keeps the bytes in memory. It fails only where its growth is refused.
 ///
-/// After a number is written to `TextBuf::new(alloc)`, `as_bytes` gives its text. Not in the original, which writes
-/// into a `String`.
+/// Contracts see the bytes and whether the sink has failed. After a number is written to `TextBuf::new(alloc)`,
+/// `as_bytes` gives its text. Not in the original, which writes into a `String`.
 #[derive(Debug, Drop)]
 pub struct TextBuf {
     bytes: Vec<u8>,
     failed: bool,
 }
 
+impl Model for TextBuf {
+    ghost Value = { List ℕ × Bool };
+
+    ghost view = { λ s. (s.bytes.items, s.failed) };
+}
+
 impl TextBuf {
     /// Makes an empty sink, and asks for no memory.
     pub fn new(alloc: Global) -> Self
-        ensures empty { ⟦<TextBuf as Sink>⟧.contents result ≡ Some [] }
-        ensures works { ⟦<TextBuf as Sink>⟧.has_failed result ≡ false }
+        ensures { result ≡ ([], false) }
     {
         TextBuf {
             bytes: Vec::new(alloc),
@@ -28,16 +34,16 @@ impl TextBuf {
 
     /// Gives the bytes that were taken, in order.
     pub fn as_bytes(&self) -> &[u8]
-        ensures { ⟦<TextBuf as Sink>⟧.contents self.now ≡ Some result.now }
+        ensures { result.now ≡ self.now.0 }
     {
         self.bytes.as_slice()
     }
 }
 
 impl Sink for TextBuf {
-    ghost contents = { λ s. Some s.bytes.items };
+    ghost contents = { λ s. Some s.0 };
 
-    ghost has_failed = { λ s. s.failed };
+    ghost has_failed = { λ s. s.1 };
 
     fn put_byte(&mut self, byte: u8) -> Result<(), SinkFault> {
         if self.failed {

@@ -1,0 +1,21 @@
+-- A `Steps` has no bytes and owns nothing, so one of any count is made of nothing.
+use Rattle.std.proofs.Common.{List, [], ◌∷◌, refl}
+use seplogic.Ra.Ura.{Ura}
+use mir.Val.{Val, vstruct, vnil}
+use types.Logic.{Logic}
+use types.Kit.{Item, Goal, ‵, Step}
+use denote.Laws.{Makes, Is}
+use denote.Shadow.{makes_shadow}
+use denote.Steps.{owned}
+use Rattle.decimal_digits.specs.declared.digits.steps.Steps.{Steps}
+use Rattle.decimal_digits.specs.contracts.digits.steps.Steps.{the_row as row}
+
+-- how the machine has one: a struct with no field
+abbrev pub bare : Val
+bare = vstruct vnil
+
+makes : {M : Type 1} {𝓤 : Ura M} (𝓛 : Logic 𝓤) → Makes 𝓛 row (Is row)
+makes 𝓛 s vs is = makes_shadow 𝓛 (row.own_val s vs) (λ _. (tt, tt), tt) is
+
+pub made : {M : Type 1} {𝓤 : Ura M} (𝓛 : Logic 𝓤) {K : Type 0} {Γ : List (Item 𝓤)} {G : Goal 𝓤 𝓛.H} → K → (s : Steps) → Step K 𝓛 (‵ (row.own_val s (bare ∷ [])) ∷ Γ) G Γ G
+made 𝓛 t s = owned t row (Is row) (makes 𝓛) s (bare ∷ []) ((tt, (refl, tt)), tt)

@@ -1,0 +1,7 @@
+-- Outcomes.
+use Rattle.std.specs.Prelude.{Result, Ok, Err, OnErr}
+
+-- what holds anyway holds on an error
+pub on_err : {A E : Type 0} (r : Result A E) (P : Type 0) → P → OnErr r P
+on_err (Ok x) P p = tt
+on_err (Err e) P p = p

@@ -1,0 +1,178 @@
+-- What is left below a place, and what a mode makes of it.
+use Rattle.std.proofs.Common.{ℕ, ◌≡◌, ◌+◌, ◌-◌, ◌*◌, ◌/◌, ◌%◌, ◌<◌, ◌≤◌, ◌==◌, nat_lt, cond, refl, ◌∙◌, ap, arith, Bool, true, false}
+use Rattle.std.proofs.Math.Nat.{mul-le-mul_right, mul-pos, div-add-mod'}
+use Rattle.std.proofs.lemmas.Nat.{div-mul-add, mod-mul-add}
+use Rattle.std.proofs.lemmas.Bool.Decides.{nat_tests}
+use denote.Enum.Declared.{tag_of}
+use Rattle.decimal_digits.specs.contracts.rounding.tail.Tail.{the_type}
+use Rattle.decimal_digits.specs.declared.rounding.UnsignedRoundingMode.{UnsignedRoundingMode}
+use Rattle.decimal_digits.specs.declared.rounding.UnsignedRoundingMode.TheVariants.{Expand, Trunc, HalfExpand, HalfTrunc, HalfEven}
+use Rattle.decimal_digits.specs.declared.rounding.tail.Tail.{Tail}
+use Rattle.decimal_digits.specs.declared.rounding.tail.Tail.TheVariants.{Zero, BelowHalf, Half, AboveHalf}
+use Rattle.decimal_digits.specs.declared.rounding.RoundingIncrement.{RoundingIncrement}
+use Rattle.decimal_digits.specs.declared.rounding.RoundingIncrement.TheVariants.{MultiplesOf1, MultiplesOf2, MultiplesOf5, MultiplesOf25}
+use Rattle.decimal_digits.specs.Rounding.{step_of, unit_at, rounded_number}
+use Rattle.decimal_digits.specs.Tails.{TailIs, goes_up_of, RoundsTo}
+use Rattle.decimal_digits.specs.Number.{place}
+use Rattle.std.specs.Prelude.{ℤ}
+use Rattle.decimal_digits.proofs.DigitLists.{ten_pos}
+
+-- ---- `rest` of a place and the tail below it, held against half of `step` of that place
+abbrev quarters_of : Tail → ℕ
+quarters_of tail = tag_of the_type tail
+
+pub part_below : (tail : Tail) (step rest : ℕ) → 4 * rest + quarters_of tail < 2 * step → ¬ (4 * rest + quarters_of tail ≡ 0) → (r place : ℕ) → 0 < place → TailIs tail r place → TailIs BelowHalf (rest * place + r) (step * place)
+part_below Zero step rest h k r place p is = let l : 2 * rest + 1 ≤ step = omega arith in let s : 1 ≤ rest = omega arith in (omega (arith, mul-le-mul_right place s), omega (arith, mul-le-mul_right place l))
+part_below BelowHalf step rest h k r place p is = let l : 2 * rest + 1 ≤ step = omega arith in (omega arith, omega (arith, mul-le-mul_right place l))
+part_below Half step rest h k r place p is = let l : 2 * rest + 2 ≤ step = omega arith in (omega arith, omega (arith, mul-le-mul_right place l))
+part_below AboveHalf step rest h k r place p is = let l : 2 * rest + 2 ≤ step = omega arith in (omega arith, omega (arith, mul-le-mul_right place l))
+
+pub part_half : (tail : Tail) (step rest : ℕ) → 4 * rest + quarters_of tail ≡ 2 * step → (r place : ℕ) → 0 < place → TailIs tail r place → TailIs Half (rest * place + r) (step * place)
+part_half Zero step rest h r place p is = let l : 2 * rest ≡ step = omega arith in omega (arith, ap (λ v. v * place) l)
+part_half BelowHalf step rest h r place p is = absurd (omega arith)
+part_half Half step rest h r place p is = let l : 2 * rest + 1 ≡ step = omega arith in omega (arith, ap (λ v. v * place) l)
+part_half AboveHalf step rest h r place p is = absurd (omega arith)
+
+below_unit : (tail : Tail) (r u : ℕ) → 0 < u → TailIs tail r u → r < u
+below_unit Zero r u p is = omega arith
+below_unit BelowHalf r u p is = omega arith
+below_unit Half r u p is = omega arith
+below_unit AboveHalf r u p is = omega arith
+
+pub part_above : (tail : Tail) (step rest : ℕ) → rest < step → 2 * step < 4 * rest + quarters_of tail → (r place : ℕ) → 0 < place → TailIs tail r place → TailIs AboveHalf (rest * place + r) (step * place)
+part_above tail step rest l h r place p is = (over tail h is, let s : rest + 1 ≤ step = omega arith in omega (arith, mul-le-mul_right place s, below_unit tail r place p is))
+  where
+    over : (tail : Tail) → 2 * step < 4 * rest + quarters_of tail → TailIs tail r place → step * place < 2 * (rest * place + r)
+    over Zero h is = let s : step + 1 ≤ 2 * rest = omega arith in omega (arith, mul-le-mul_right place s)
+    over BelowHalf h is = let s : step ≤ 2 * rest = omega arith in omega (arith, mul-le-mul_right place s)
+    over Half h is = let s : step ≤ 2 * rest = omega arith in omega (arith, mul-le-mul_right place s)
+    over AboveHalf h is = let s : step ≤ 2 * rest + 1 = omega arith in omega (arith, mul-le-mul_right place s)
+
+-- ---- q units and r over
+module _ (q u r : ℕ) (l : r < u) where
+  remainder : (q * u + r) % u ≡ r
+  remainder = mod-mul-add q u r l
+
+  quotient : (q * u + r) / u ≡ q
+  quotient = div-mul-add q u r l
+
+  trunc_by : rounded_number Trunc u (q * u + r) ≡ (q + 0) * u
+  unfolding rounded_number
+  trunc_by = rw remainder (omega arith)
+
+  expand_none : r ≡ 0 → rounded_number Expand u (q * u + r) ≡ (q + 0) * u
+  unfolding rounded_number
+  expand_none z = let t : (r == 0) ≡ true = grind (arith, nat_tests) in rw (remainder, t) (omega arith)
+
+  expand_some : 0 < r → rounded_number Expand u (q * u + r) ≡ (q + 1) * u
+  unfolding rounded_number
+  expand_some p = let t : (r == 0) ≡ false = grind (arith, nat_tests) in rw (remainder, t) (omega arith)
+
+  half_expand_down : 2 * r < u → rounded_number HalfExpand u (q * u + r) ≡ (q + 0) * u
+  unfolding rounded_number
+  half_expand_down h = let t : nat_lt (2 * r) u ≡ true = grind (arith, nat_tests) in rw (remainder, t) (omega arith)
+
+  half_expand_up : u ≤ 2 * r → rounded_number HalfExpand u (q * u + r) ≡ (q + 1) * u
+  unfolding rounded_number
+  half_expand_up h = let t : nat_lt (2 * r) u ≡ false = grind (arith, nat_tests) in let s : (r == 0) ≡ false = grind (arith, nat_tests) in rw (remainder, t, s) (omega arith)
+
+  half_trunc_down : 2 * r ≤ u → rounded_number HalfTrunc u (q * u + r) ≡ (q + 0) * u
+  unfolding rounded_number
+  half_trunc_down h = let t : nat_lt u (2 * r) ≡ false = grind (arith, nat_tests) in rw (remainder, t) (omega arith)
+
+  half_trunc_up : u < 2 * r → rounded_number HalfTrunc u (q * u + r) ≡ (q + 1) * u
+  unfolding rounded_number
+  half_trunc_up h = let t : nat_lt u (2 * r) ≡ true = grind (arith, nat_tests) in let s : (r == 0) ≡ false = grind (arith, nat_tests) in rw (remainder, t, s) (omega arith)
+
+  half_even_down : 2 * r < u → rounded_number HalfEven u (q * u + r) ≡ (q + 0) * u
+  unfolding rounded_number
+  half_even_down h = let t : nat_lt (2 * r) u ≡ true = grind (arith, nat_tests) in rw (remainder, t) (omega arith)
+
+  half_even_up : u < 2 * r → rounded_number HalfEven u (q * u + r) ≡ (q + 1) * u
+  unfolding rounded_number
+  half_even_up h = let t : nat_lt (2 * r) u ≡ false = grind (arith, nat_tests) in let s : nat_lt u (2 * r) ≡ true = grind (arith, nat_tests) in let z : (r == 0) ≡ false = grind (arith, nat_tests) in rw (remainder, t, s, z) (omega arith)
+
+  half_even_tie : 0 < r → 2 * r ≡ u → (odd : Bool) → odd ≡ (q % 2 == 1) → rounded_number HalfEven u (q * u + r) ≡ (q + cond odd 1 0) * u
+  unfolding rounded_number
+  half_even_tie p h true o = let t : nat_lt (2 * r) u ≡ false = grind (arith, nat_tests) in let s : nat_lt u (2 * r) ≡ false = grind (arith, nat_tests) in let z : (r == 0) ≡ false = grind (arith, nat_tests) in let w : (q % 2 == 0) ≡ false = grind (arith, nat_tests) in rw (remainder, t, s, quotient, w, z) (omega arith)
+  half_even_tie p h false o = let t : nat_lt (2 * r) u ≡ false = grind (arith, nat_tests) in let s : nat_lt u (2 * r) ≡ false = grind (arith, nat_tests) in let z : (r == 0) ≡ false = grind (arith, nat_tests) in let w : (q % 2 == 0) ≡ true = grind (arith, nat_tests) in rw (remainder, t, s, quotient, w) (omega arith)
+
+pub rounded_by : (mode : UnsignedRoundingMode) (left : Tail) (odd : Bool) (q u r : ℕ) → 0 < u → TailIs left r u → odd ≡ (q % 2 == 1) → rounded_number mode u (q * u + r) ≡ (q + cond (goes_up_of mode left odd) 1 0) * u
+rounded_by mode left odd q u r p is o = by mode left is
+  where
+    l : r < u
+    l = below_unit left r u p is
+
+    by : (mode : UnsignedRoundingMode) (left : Tail) → TailIs left r u → rounded_number mode u (q * u + r) ≡ (q + cond (goes_up_of mode left odd) 1 0) * u
+    by Trunc Zero is = trunc_by q u r l
+    by Trunc BelowHalf is = trunc_by q u r l
+    by Trunc Half is = trunc_by q u r l
+    by Trunc AboveHalf is = trunc_by q u r l
+    by Expand Zero is = expand_none q u r l is
+    by Expand BelowHalf is = expand_some q u r l is.0
+    by Expand Half is = expand_some q u r l (omega arith)
+    by Expand AboveHalf is = expand_some q u r l (omega arith)
+    by HalfExpand Zero is = half_expand_down q u r l (omega arith)
+    by HalfExpand BelowHalf is = half_expand_down q u r l is.1
+    by HalfExpand Half is = half_expand_up q u r l (omega arith)
+    by HalfExpand AboveHalf is = half_expand_up q u r l (omega arith)
+    by HalfTrunc Zero is = half_trunc_down q u r l (omega arith)
+    by HalfTrunc BelowHalf is = half_trunc_down q u r l (omega arith)
+    by HalfTrunc Half is = half_trunc_down q u r l (omega arith)
+    by HalfTrunc AboveHalf is = half_trunc_up q u r l is.0
+    by HalfEven Zero is = half_even_down q u r l (omega arith)
+    by HalfEven BelowHalf is = half_even_down q u r l is.1
+    by HalfEven Half is = half_even_tie q u r l (omega arith) is odd o
+    by HalfEven AboveHalf is = half_even_up q u r l is.0
+
+-- ---- the last two digits: 100 is an even number of steps, so they tell the quotient's parity
+half_steps : RoundingIncrement → ℕ
+half_steps MultiplesOf1 = 50
+half_steps MultiplesOf2 = 25
+half_steps MultiplesOf5 = 10
+half_steps MultiplesOf25 = 2
+
+hundred : (increment : RoundingIncrement) → 2 * half_steps increment * step_of increment ≡ 100
+unfolding half_steps
+hundred MultiplesOf1 = refl
+hundred MultiplesOf2 = refl
+hundred MultiplesOf5 = refl
+hundred MultiplesOf25 = refl
+
+pub step_pos : (increment : RoundingIncrement) → 0 < step_of increment
+step_pos MultiplesOf1 = omega arith
+step_pos MultiplesOf2 = omega arith
+step_pos MultiplesOf5 = omega arith
+step_pos MultiplesOf25 = omega arith
+
+pub unit_pos : (increment : RoundingIncrement) (position : ℤ) → 0 < unit_at increment position
+unit_pos increment position = mul-pos (step_pos increment) (ten_pos (place position))
+
+-- h times s is half of 100, and two is q times s and the rest
+module _ (h s q rest two front place : ℕ) (half : 2 * h * s ≡ 100) (whole : q * s + rest ≡ two) where
+  taken_apart : (r : ℕ) → (100 * front + two) * place + r ≡ (2 * (h * front) + q) * (s * place) + (rest * place + r)
+  taken_apart r = omega (arith, ap (λ v. v * (front * place)) half, ap (λ v. v * place) whole)
+
+  put_together : (up : Bool) → (2 * (h * front) + q + cond up 1 0) * (s * place) ≡ (100 * front + (two - rest + cond up s 0)) * place
+  put_together true = let e : two - rest ≡ q * s = omega arith in rw e (omega (arith, ap (λ v. v * (front * place)) half))
+  put_together false = let e : two - rest ≡ q * s = omega arith in rw e (omega (arith, ap (λ v. v * (front * place)) half))
+
+-- the part of the step that is left, and the parity of its quotient, make the mode go up, or not
+pub two_by : (mode : UnsignedRoundingMode) (increment : RoundingIncrement) (tail left : Tail) (s two result : ℕ) (up : Bool) → s ≡ step_of increment
+    → ((r place : ℕ) → 0 < place → TailIs tail r place → TailIs left (two % s * place + r) (s * place))
+    → up ≡ goes_up_of mode left (two / s % 2 == 1)
+    → result ≡ two - two % s + cond up s 0
+    → (front : ℕ) → RoundsTo mode (step_of increment) tail (100 * front + two) (100 * front + result)
+two_by mode increment tail left s two result up step part goes made front r place p is =
+    let h = half_steps increment in
+    let q = 2 * (h * front) + two / s in
+    let half : 2 * h * s ≡ 100 = ap (λ v. 2 * h * v) step ∙ hundred increment in
+    let whole : two / s * s + two % s ≡ two = div-add-mod' two s in
+    let pos : 0 < s = omega (arith, step_pos increment) in
+    let parity : (two / s % 2 == 1) ≡ (q % 2 == 1) = ap (λ v. v == 1) (let e : two / s % 2 ≡ q % 2 = omega arith in e) in
+    rw (← step, made, goes) (ap (rounded_number mode (s * place)) (taken_apart h s (two / s) (two % s) two front place half whole r)
+    ∙ rounded_by mode left (two / s % 2 == 1) q (s * place) (two % s * place + r) (mul-pos pos p) (part r place p is) parity
+    ∙ put_together h s (two / s) (two % s) two front place half whole (goes_up_of mode left (two / s % 2 == 1)))
+
+pub rounds_as : (mode : UnsignedRoundingMode) (step : ℕ) (tail : Tail) (k m k' m' : ℕ) → RoundsTo mode step tail k m → k' ≡ k → m' ≡ m → RoundsTo mode step tail k' m'
+rounds_as mode step tail k m k' m' rounds e f r place p is = rw (e, f) (rounds r place p is)

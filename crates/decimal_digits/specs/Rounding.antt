@@ -1,0 +1,95 @@
+-- Rounding of whole numbers to the multiples of a unit.
+use Rattle.std.specs.Prelude.{◌≡◌, ◌≢◌, ℕ, ◌+◌, ◌-◌, ◌*◌, ◌/◌, ◌%◌, ◌<◌, ◌≤◌, ◌==◌, nat_lt, if◌then◌else◌, List, [], length, Option, Some, None, ℤ, pos, negsuc, ◌≤ℤ◌}
+use Rattle.std.specs.Int.{abs_diff}
+use Rattle.decimal_digits.specs.Number.{place, weight, first, size}
+use Rattle.decimal_digits.specs.Digits.{number_of, IsStripped}
+use Rattle.decimal_digits.specs.declared.rounding.RoundingIncrement.{RoundingIncrement}
+use Rattle.decimal_digits.specs.declared.rounding.RoundingIncrement.TheVariants.{MultiplesOf1, MultiplesOf2, MultiplesOf5, MultiplesOf25}
+use Rattle.decimal_digits.specs.declared.rounding.UnsignedRoundingMode.{UnsignedRoundingMode}
+use Rattle.decimal_digits.specs.declared.rounding.UnsignedRoundingMode.TheVariants.{Expand, Trunc, HalfExpand, HalfTrunc, HalfEven}
+
+-- ---- The unit.
+
+-- an increment as a number
+abbrev pub step_of : RoundingIncrement → ℕ
+step_of MultiplesOf1 = 1
+step_of MultiplesOf2 = 2
+step_of MultiplesOf5 = 5
+step_of MultiplesOf25 = 25
+
+-- what the results of a rounding at a position are multiples of
+abbrev pub unit_at : RoundingIncrement → ℤ → ℕ
+unit_at increment position = step_of increment * weight position
+
+-- ---- Which multiple a mode names, among all of them.
+
+-- no multiple of the unit u is nearer to n than m
+abbrev pub IsNearest : ℕ → ℕ → ℕ → Type 0
+IsNearest u n m = (k : ℕ) → abs_diff n m ≤ abs_diff n (k * u)
+
+-- each multiple of u that is as near to n as m has the property P
+abbrev pub EachAsNear : ℕ → ℕ → ℕ → (ℕ → Type 0) → Type 0
+EachAsNear u n m P = (k : ℕ) → abs_diff n (k * u) ≡ abs_diff n m → P (k * u)
+
+-- for n the mode takes q times u:
+-- the greatest multiple that is not above n, the least that is not below n, or the nearest, where of two that are
+-- as near it is the greater, the smaller, or the one with an even q
+abbrev pub Chooses : UnsignedRoundingMode → ℕ → ℕ → ℕ → Type 0
+Chooses Trunc u n q = (q * u ≤ n) × ((k : ℕ) → k * u ≤ n → k * u ≤ q * u)
+Chooses Expand u n q = (n ≤ q * u) × ((k : ℕ) → n ≤ k * u → q * u ≤ k * u)
+Chooses HalfExpand u n q = IsNearest u n (q * u) × EachAsNear u n (q * u) (λ other. other ≤ q * u)
+Chooses HalfTrunc u n q = IsNearest u n (q * u) × EachAsNear u n (q * u) (λ other. q * u ≤ other)
+Chooses HalfEven u n q = IsNearest u n (q * u) × EachAsNear u n (q * u) (λ other. other ≢ q * u → q % 2 ≡ 0)
+
+-- m is the multiple of u that the mode names for n
+abbrev pub Named : UnsignedRoundingMode → ℕ → ℕ → ℕ → Type 0
+Named mode u n m = (q : ℕ) × (m ≡ q * u) × Chooses mode u n q
+
+-- ---- The same multiple by a division.
+
+-- the multiple of u that is n, or the next one below
+abbrev pub below : ℕ → ℕ → ℕ
+below u n = n - n % u
+
+-- the multiple of u that is n, or the next one above
+abbrev pub above : ℕ → ℕ → ℕ
+above u n = if n % u == 0 then n else n - n % u + u
+
+-- the multiple of u that the mode names for n: the half modes hold twice the remainder against u
+unfoldable pub rounded_number : UnsignedRoundingMode → ℕ → ℕ → ℕ
+rounded_number Trunc u n = below u n
+rounded_number Expand u n = above u n
+rounded_number HalfExpand u n = if nat_lt (2 * (n % u)) u then below u n else above u n
+rounded_number HalfTrunc u n = if nat_lt u (2 * (n % u)) then above u n else below u n
+rounded_number HalfEven u n =
+    if nat_lt (2 * (n % u)) u then below u n
+    else if nat_lt u (2 * (n % u)) then above u n
+    else if n / u % 2 == 0 then below u n
+    else above u n
+
+-- ---- What a rounding leaves.
+
+-- the digits write the number n, which is below 10 to the 32768, from the magnitude of its first digit down
+pub record Writes (digits : List ℕ) (magnitude : ℤ) (n : ℕ) : Type 0 where
+  pub number : number_of digits magnitude ≡ n
+  pub below_limit : n < weight (pos 32768)
+  pub magnitude_is : first n ≡ magnitude
+  pub stripped : IsStripped digits
+  pub fits : length digits ≤ place magnitude + 1
+  pub least : negsuc 32767 ≤ℤ magnitude
+  pub greatest : magnitude ≤ℤ pos 32767
+
+-- the digits write n from this magnitude on; or there is no magnitude, n reaches 10 to the 32768, and no digit is left
+abbrev pub Leaves : Option ℤ → List ℕ → ℕ → Type 0
+Leaves (Some magnitude) digits n = Writes digits magnitude n
+Leaves None digits n = (weight (pos 32768) ≤ n) × (digits ≡ [])
+
+-- no digit stands below the position
+abbrev pub IsAbove : ℤ → List ℕ → ℤ → Type 0
+IsAbove position digits magnitude = 0 < length digits → place position + length digits ≤ place magnitude + 1
+
+-- the one want of memory: by 25, n has one digit more than these, and no more than these are held without memory
+pub record WantsMemory (increment : RoundingIncrement) (digits n held : ℕ) : Type 0 where
+  pub by_25 : increment ≡ MultiplesOf25
+  pub longer : size n ≡ digits + 1
+  pub full : held ≤ digits

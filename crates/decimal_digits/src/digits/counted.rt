@@ -1,0 +1,147 @@
+//! A list of digits whose reads and writes are counted.
+ghost use Rattle.std.specs.Prelude.{◌≡◌, ℕ, ◌+◌, ◌<◌, ◌≤◌, [], ◌∷◌, ◌++◌, length, take, slice_index, slice_set, IsOk, OnOk};
+
+use super::{DigitStore, Steps};
+use std::alloc::AllocError;
+
+/// A list of digits, lent together with the `Steps` that count its turns.
+///
+/// `get`, `set` and `push_in_room` are one turn each; the other calls read and write no digit, and are none. The list
+/// and the count are changed in place. Not in the original.
+#[derive(Drop)]
+pub struct Counted<'a, D: DigitStore> {
+    list: &'a mut D,
+    steps: &'a mut Steps,
+}
+
+impl<'a, D: DigitStore> Counted<'a, D> {
+    /// Lends a list and a count, and changes neither.
+    pub fn new(list: &'a mut D, steps: &'a mut Steps) -> Self
+        ensures list { result.list.now ≡ list.old }
+        ensures steps { result.steps.now ≡ steps.old }
+        ensures same_list { result.list.ghost_name ≡ list.entry.ghost_name }
+        ensures same_steps { result.steps.ghost_name ≡ steps.entry.ghost_name }
+    {
+        Counted { list, steps }
+    }
+
+    /// Counts the digits.
+    #[inline]
+    pub fn len(&self) -> usize
+        ensures { result ≡ length (D.digits self.now.list.now) }
+    {
+        self.list.len()
+    }
+
+    /// Gives the digit at an index, of which 0 is that of the most significant digit.
+    ///
+    /// Requires an index in range.
+    #[inline]
+    pub fn get(&mut self, index: usize) -> u8
+        requires { index < length (D.digits self.old.list.now) }
+        ensures value { result ≡ slice_index (D.digits self.old.list.now) index }
+        ensures list { self.new.list.now ≡ self.old.list.now }
+        ensures ticks { self.new.steps.now.count ≡ self.old.steps.now.count + 1 }
+        ensures same_list { self.new.list.ghost_name ≡ self.old.list.ghost_name }
+        ensures same_steps { self.new.steps.ghost_name ≡ self.old.steps.ghost_name }
+    {
+        self.steps.tick();
+        self.list.get(index)
+    }
+
+    /// Puts a digit in the place of the one at an index.
+    ///
+    /// Requires an index in range and a digit 0 to 9.
+    #[inline]
+    pub fn set(&mut self, index: usize, digit: u8)
+        requires in_range { index < length (D.digits self.old.list.now) }
+        requires is_digit { digit < 10 }
+        ensures digits { D.digits self.new.list.now
+            ≡ slice_set (D.digits self.old.list.now) index digit }
+        ensures ticks { self.new.steps.now.count ≡ self.old.steps.now.count + 1 }
+        ensures same_list { self.new.list.ghost_name ≡ self.old.list.ghost_name }
+        ensures same_steps { self.new.steps.ghost_name ≡ self.old.steps.ghost_name }
+    {
+        self.steps.tick();
+        self.list.set(index, digit);
+    }
+
+    /// Appends a digit into room that there is.
+    ///
+    /// Requires room, as after `reserve`, and a digit 0 to 9. The room becomes smaller by at most one.
+    #[inline]
+    pub fn push_in_room(&mut self, digit: u8)
+        requires has_room { 0 < D.room self.old.list.now }
+        requires is_digit { digit < 10 }
+        ensures digits { D.digits self.new.list.now ≡ D.digits self.old.list.now ++ digit ∷ [] }
+        ensures room { D.room self.old.list.now ≤ D.room self.new.list.now + 1 }
+        ensures ticks { self.new.steps.now.count ≡ self.old.steps.now.count + 1 }
+        ensures same_list { self.new.list.ghost_name ≡ self.old.list.ghost_name }
+        ensures same_steps { self.new.steps.ghost_name ≡ self.old.steps.ghost_name }
+    {
+        self.steps.tick();
+        self.list.push_in_room(digit);
+    }
+
+    /// Makes room for `count` more digits.
+    ///
+    /// Err: memory was refused, which needs more than `L` digits in all. The list stays as it is either way.
+    pub fn reserve(&mut self, count: usize) -> Result<(), AllocError>
+        ensures ok { OnOk result (count ≤ D.room self.new.list.now) }
+        ensures digits { D.digits self.new.list.now ≡ D.digits self.old.list.now }
+        ensures succeeds { length (D.digits self.old.list.now) + count ≤ D.L → IsOk result }
+        ensures steps { self.new.steps.now ≡ self.old.steps.now }
+        ensures same_list { self.new.list.ghost_name ≡ self.old.list.ghost_name }
+        ensures same_steps { self.new.steps.ghost_name ≡ self.old.steps.ghost_name }
+    {
+        self.list.reserve(count)
+    }
+
+    /// Keeps the first `count` digits.
+    ///
+    /// Requires at least so many.
+    pub fn truncate(&mut self, count: usize)
+        requires { count ≤ length (D.digits self.old.list.now) }
+        ensures digits { D.digits self.new.list.now ≡ take count (D.digits self.old.list.now) }
+        ensures steps { self.new.steps.now ≡ self.old.steps.now }
+        ensures same_list { self.new.list.ghost_name ≡ self.old.list.ghost_name }
+        ensures same_steps { self.new.steps.ghost_name ≡ self.old.steps.ghost_name }
+    {
+        self.list.truncate(count);
+    }
+
+    /// Drops all digits.
+    pub fn clear(&mut self)
+        ensures digits { D.digits self.new.list.now ≡ [] }
+        ensures steps { self.new.steps.now ≡ self.old.steps.now }
+        ensures same_list { self.new.list.ghost_name ≡ self.old.list.ghost_name }
+        ensures same_steps { self.new.steps.ghost_name ≡ self.old.steps.ghost_name }
+    {
+        self.list.clear();
+    }
+}
+
+#[cfg(test)]
+mod tests {
+    use crate::digits::{Counted, DigitList, DigitStore, Steps};
+    use std::mem::size_of;
+    use std::test::Fail;
+
+    #[test]
+    fn runs(rt: HostRuntime) -> Result<(), Fail> {
+        let mut list = DigitList::from_digits(rt.alloc(), &[2, 5, 0])?;
+        let mut steps = Steps::new();
+        let mut counted = Counted::new(&mut list, &mut steps);
+        counted.truncate(2);
+        counted.reserve(1)?;
+        counted.push_in_room(7);
+        let last = counted.get(2);
+        counted.set(0, last);
+        assert_eq!(rt; counted.len(), 3);
+        assert!(rt; list.eq(&DigitList::from_digits(rt.alloc(), &[7, 5, 7])?));
+        Counted::new(&mut list, &mut steps).clear();
+        assert_eq!(rt; list.len(), 0);
+        assert_eq!(rt; size_of::<Steps>(), 0);
+        Ok(())
+    }
+}

@@ -1,0 +1,44 @@
+//! A count of turns that only contracts see.
+ghost use Rattle.std.specs.Prelude.{◌≡◌, ℕ, ◌+◌};
+ghost use Rattle.std.specs.Borrow.{ftrue};
+
+use std::marker::Model;
+
+/// Counts turns: the reads and the writes of single digits.
+///
+/// Contracts see `count`. At run time it has no bytes. `tick` is the one call that changes the count of a `Steps`. Not
+/// in the original.
+#[derive(Drop)]
+pub struct Steps {
+    pub ghost count: { ℕ },
+}
+
+impl Model for Steps {
+    ghost also_owns = { λ _. ftrue };
+}
+
+impl Steps {
+    /// Begins to count, at 0.
+    #[inline]
+    pub fn new() -> Steps
+        ensures { result.count ≡ 0 }
+    {
+        Steps {}
+    }
+
+    /// Counts one turn more.
+    #[inline]
+    pub fn tick(&mut self)
+        ensures { self.new.count ≡ self.old.count + 1 }
+    {
+        *self = self.after();
+    }
+
+    /// Makes the count that comes next.
+    #[inline]
+    fn after(&self) -> Steps
+        ensures { result.count ≡ self.now.count + 1 }
+    {
+        Steps {}
+    }
+}

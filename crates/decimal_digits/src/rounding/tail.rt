@@ -1,0 +1,91 @@
+//! What is left below a place, and which way a mode goes by it.
+ghost use Rattle.std.specs.Prelude.{◌≡◌, ℕ, ◌+◌, ◌*◌, ◌%◌, ◌<◌, ◌≤◌};
+ghost use Rattle.decimal_digits.specs.Rounding.{step_of};
+ghost use Rattle.decimal_digits.specs.Tails.{TailIs, RoundsTo, goes_up_of};
+
+use super::{RoundingIncrement, UnsignedRoundingMode};
+
+/// What is left over, held against half of a unit. As a number it counts quarters of the unit.
+#[derive(Clone, Copy, PartialEq, Eq)]
+pub enum Tail {
+    /// Nothing.
+    Zero = 0,
+    /// Less than half.
+    BelowHalf = 1,
+    /// Half.
+    Half = 2,
+    /// More than half.
+    AboveHalf = 3,
+}
+
+/// Gives an increment as a number.
+fn step(increment: RoundingIncrement) -> u8
+    ensures { result ≡ step_of increment }
+{
+    match increment {
+        RoundingIncrement::MultiplesOf1 => 1,
+        RoundingIncrement::MultiplesOf2 => 2,
+        RoundingIncrement::MultiplesOf5 => 5,
+        RoundingIncrement::MultiplesOf25 => 25,
+    }
+}
+
+/// Holds `rest` of a place, and the tail below it, against half of `step` of that place.
+fn part_of(step: u8, rest: u8, tail: Tail) -> Tail
+    requires small { step ≤ 25 }
+    requires rest { rest < step }
+    ensures { (r place : ℕ) → 0 < place → TailIs tail r place
+        → TailIs result (rest * place + r) (step * place) }
+{
+    let quarters = 4 * rest + tail as u8;
+    if quarters == 0 {
+        Tail::Zero
+    } else if quarters < 2 * step {
+        Tail::BelowHalf
+    } else if quarters == 2 * step {
+        Tail::Half
+    } else {
+        Tail::AboveHalf
+    }
+}
+
+/// Tells whether the mode takes the multiple above, by what is left of the unit and by the quotient's parity.
+fn goes_up(mode: UnsignedRoundingMode, left: Tail, odd: bool) -> bool
+    ensures { result ≡ goes_up_of mode left odd }
+{
+    match left {
+        Tail::Zero => false,
+        Tail::BelowHalf => matches!(mode, UnsignedRoundingMode::Expand),
+        Tail::Half => match mode {
+            UnsignedRoundingMode::Expand | UnsignedRoundingMode::HalfExpand => true,
+            UnsignedRoundingMode::Trunc | UnsignedRoundingMode::HalfTrunc => false,
+            UnsignedRoundingMode::HalfEven => odd,
+        },
+        Tail::AboveHalf => !matches!(mode, UnsignedRoundingMode::Trunc),
+    }
+}
+
+/// Rounds the last two digits that are kept, by the tail below them; 100 is a carry.
+///
+/// They decide alone, for 100 is an even number of steps.
+pub fn rounded_two(
+    two: u8,
+    tail: Tail,
+    mode: UnsignedRoundingMode,
+    increment: RoundingIncrement,
+) -> u8
+    requires { two < 100 }
+    ensures at_most { result ≤ 100 }
+    ensures rounds { (front : ℕ)
+        → RoundsTo mode (step_of increment) tail (100 * front + two) (100 * front + result) }
+    ensures stays { tail ≡ Tail.Zero → two % step_of increment ≡ 0 → result ≡ two }
+{
+    let step = step(increment);
+    let rest = two % step;
+    let odd = two / step % 2 == 1;
+    if goes_up(mode, part_of(step, rest, tail), odd) {
+        two - rest + step
+    } else {
+        two - rest
+    }
+}

@@ -1,0 +1,4 @@
+//! Each public call once, and sinks that fail.
+
+mod lists;
+mod sinks;

@@ -1,0 +1,142 @@
+-- Each number other than 0 has a first and a last digit.
+use Rattle.std.proofs.Common.{◌≡◌, ℕ, zero, suc, ◌+◌, ◌-◌, ◌*◌, ◌/◌, ◌%◌, ◌^◌, ◌<◌, ◌≤◌, sym, ◌∙◌, ap, subst, arith, inl, inr}
+use Rattle.std.proofs.Math.Nat.{mul_assoc, pow-suc, pow-le-pow_right, div-add-mod', le-mul_of_pos_right, lt_of_mul-lt-mul_right, mul-add-mod_self_right, mul-le-mul_right}
+use Rattle.std.proofs.Math.Nat.{mod-le, mod-lt, div-le_self}
+use Rattle.std.proofs.lemmas.Int.{ints}
+use Rattle.std.specs.Prelude.{◌<ℤ◌}
+use Rattle.std.proofs.lemmas.Nat.{pow-add}
+use Rattle.std.proofs.lemmas.Bool.{cases_lt}
+use Rattle.decimal_digits.specs.Number.{first, last, magnitude_at}
+use Rattle.decimal_digits.proofs.DigitLists.{ten_pos}
+use Rattle.decimal_digits.proofs.Ends.{first_is, last_is}
+
+-- the number has its first digit at one place and its last at another, and is a multiple of that one's weight
+pub record Ends (n : ℕ) : Type 0 where
+  pub top : ℕ
+  pub bottom : ℕ
+  pub factor : ℕ
+  pub is : n ≡ factor * 10 ^ bottom
+  pub odd : 0 < factor % 10
+  pub reaches : 10 ^ top ≤ n
+  pub below : n < 10 ^ (top + 1)
+  pub limit : top < 65536
+
+top_of : (b n : ℕ) → 0 < n → n < 10 ^ b → (k : ℕ) × (k < b) × (10 ^ k ≤ n) × (n < 10 ^ (k + 1))
+top_of zero n p h = absurd (omega (arith, h))
+top_of (suc b) n p h = elim (cases_lt n (10 ^ b)) [
+  | inl l ↦ let r = top_of b n p l in (r.0, omega (arith, r.1), r.2, r.3)
+  | inr g ↦ (b, omega arith, g, subst (λ k. n < 10 ^ k) (let e : suc b ≡ b + 1 = omega arith in e) h)
+]
+
+one_more_zero : (n q v e : ℕ) → n ≡ q * 10 → q ≡ v * 10 ^ e → n ≡ v * 10 ^ suc e
+one_more_zero n q v e h k = h ∙ ap (λ x. x * 10) k ∙ mul_assoc v (10 ^ e) 10 ∙ ap (λ x. v * x) (sym (pow-suc 10 e))
+
+bottom_of : (b n : ℕ) → 0 < n → n < 10 ^ b → (e : ℕ) × (v : ℕ) × (n ≡ v * 10 ^ e) × (0 < v % 10)
+bottom_of zero n p h = absurd (omega (arith, h))
+bottom_of (suc b) n p h = elim (cases_lt 0 (n % 10)) [
+  | inl l ↦ (0, n, omega arith, l)
+  | inr g ↦
+      let few : n / 10 < 10 ^ b = omega (arith, h, pow-suc 10 b) in
+      let r = bottom_of b (n / 10) (omega arith) few in
+      (suc r.0, r.1, one_more_zero n (n / 10) r.1 r.0 (omega arith) r.2, r.3)
+]
+
+-- ---- each number above 0 has them
+pub ends : (b n : ℕ) → 0 < n → n < 10 ^ b → b ≤ 65536 → Ends n
+ends b n p h l =
+    let t = top_of b n p h in
+    let e = bottom_of b n p h in
+    record { top = t.0; bottom = e.0; factor = e.1; is = e.2; odd = e.3; reaches = t.2; below = t.3; limit = omega (arith, t.1) }
+
+module _ {n : ℕ} (e : Ends n) where
+  pub ordered : e.bottom ≤ e.top
+  ordered = elim (cases_lt e.top e.bottom) [
+    | inl h ↦
+        let p : 10 ^ (e.top + 1) ≤ 10 ^ e.bottom = pow-le-pow_right (omega arith) (omega arith) in
+        let f : 0 < e.factor = omega (arith, e.odd) in
+        let q : 10 ^ e.bottom ≤ 10 ^ e.bottom * e.factor = le-mul_of_pos_right (10 ^ e.bottom) f in
+        absurd (omega (arith, p, q, e.is, e.below))
+    | inr h ↦ h
+  ]
+
+  pub top_lt : (b : ℕ) → n < 10 ^ b → e.top < b
+  top_lt b h = elim (cases_lt e.top b) [
+    | inl l ↦ l
+    | inr g ↦ let p : 10 ^ b ≤ 10 ^ e.top = pow-le-pow_right (omega arith) g in absurd (omega (arith, p, e.reaches))
+  ]
+
+  pub first_of : first n ≡ magnitude_at e.top
+  first_of = first_is n e.top e.reaches e.below e.limit
+
+  pub last_of : last n ≡ magnitude_at e.bottom
+  last_of = ap last e.is ∙ last_is e.factor e.bottom e.odd (omega (arith, ordered, e.limit))
+
+last_digit : (x y d : ℕ) → 0 < d → (x * 10 ^ d + y) % 10 ≡ y % 10
+last_digit x y zero h = absurd (omega arith)
+last_digit x y (suc d) h = let p : x * 10 ^ suc d ≡ (x * 10 ^ d) * 10 = rw (pow-suc 10 d) (omega arith) in rw p (mul-add-mod_self_right (x * 10 ^ d) 10 y)
+
+-- ---- the sum of two numbers of which the second lies below the last digit of the first
+module _ {m n : ℕ} (a : Ends m) (b : Ends n) (apart : b.top < a.bottom) where
+  sum_is : m + n ≡ (a.factor * 10 ^ (a.bottom - b.bottom) + b.factor) * 10 ^ b.bottom
+  sum_is =
+      let k : a.bottom ≡ (a.bottom - b.bottom) + b.bottom = omega (arith, ordered b) in
+      let p : m ≡ a.factor * (10 ^ (a.bottom - b.bottom) * 10 ^ b.bottom) = a.is ∙ ap (λ x. a.factor * x) (ap (λ x. 10 ^ x) k ∙ pow-add 10 (a.bottom - b.bottom) b.bottom) in
+      let q = b.is in
+      omega (arith, p, q)
+
+  sum_below : m + n < 10 ^ (a.top + 1)
+  sum_below =
+      let k : a.top + 1 ≡ (a.top + 1 - a.bottom) + a.bottom = omega (arith, ordered a) in
+      let split : 10 ^ (a.top + 1) ≡ 10 ^ (a.top + 1 - a.bottom) * 10 ^ a.bottom = ap (λ x. 10 ^ x) k ∙ pow-add 10 (a.top + 1 - a.bottom) a.bottom in
+      let f : a.factor < 10 ^ (a.top + 1 - a.bottom) = lt_of_mul-lt-mul_right (10 ^ a.bottom) (omega (arith, a.is, a.below, split)) in
+      let g : (a.factor + 1) * 10 ^ a.bottom ≤ 10 ^ (a.top + 1 - a.bottom) * 10 ^ a.bottom = mul-le-mul_right (10 ^ a.bottom) (omega arith) in
+      let h : 10 ^ (b.top + 1) ≤ 10 ^ a.bottom = pow-le-pow_right (omega arith) (omega arith) in
+      omega (arith, a.is, b.below, split, g, h)
+
+  pub first_sum : first (m + n) ≡ first m
+  first_sum = first_is (m + n) a.top (omega (arith, a.reaches)) sum_below a.limit ∙ sym (first_of a)
+
+  pub last_sum : last (m + n) ≡ last n
+  last_sum =
+      let odd : 0 < (a.factor * 10 ^ (a.bottom - b.bottom) + b.factor) % 10 = omega (arith, last_digit a.factor b.factor (a.bottom - b.bottom) (omega (arith, apart, ordered b)), b.odd) in
+      ap last sum_is ∙ last_is (a.factor * 10 ^ (a.bottom - b.bottom) + b.factor) b.bottom odd (omega (arith, ordered b, b.limit)) ∙ sym (last_of b)
+
+-- ---- the part of a number that stands at and above a place, and the part below it
+module _ (n q b : ℕ) (few : n < 10 ^ b) (high : b ≤ 65536) where
+  above_is : n - n % 10 ^ q ≡ n / 10 ^ q * 10 ^ q
+  above_is = let e = div-add-mod' n (10 ^ q) in omega (arith, e)
+
+  pub parts_sum : (n - n % 10 ^ q) + n % 10 ^ q ≡ n
+  parts_sum = omega (arith, mod-le n (10 ^ q))
+
+  module _ (some : 0 < n - n % 10 ^ q) (more : 0 < n % 10 ^ q) where
+    quotient_counts : 0 < n / 10 ^ q
+    quotient_counts = elim (cases_lt 0 (n / 10 ^ q)) [
+      | inl h ↦ h
+      | inr h ↦ let z : n / 10 ^ q * 10 ^ q ≡ 0 = ap (λ x. x * 10 ^ q) (let y : n / 10 ^ q ≡ 0 = omega arith in y) ∙ (omega arith) in absurd (omega (arith, above_is, z))
+    ]
+
+    quotient : Ends (n / 10 ^ q)
+    quotient = ends b (n / 10 ^ q) quotient_counts (omega (arith, few, div-le_self n (10 ^ q))) high
+
+    above_factor : n - n % 10 ^ q ≡ quotient.factor * 10 ^ (quotient.bottom + q)
+    above_factor = above_is ∙ ap (λ x. x * 10 ^ q) quotient.is ∙ (rw (pow-add 10 quotient.bottom q) (omega arith))
+
+    above_limit : quotient.bottom + q < 65536
+    above_limit = elim (cases_lt (quotient.bottom + q) b) [
+      | inl h ↦ omega (arith, high)
+      | inr h ↦
+          let f : 0 < quotient.factor = omega (arith, quotient.odd) in
+          let p : 10 ^ (quotient.bottom + q) ≤ 10 ^ (quotient.bottom + q) * quotient.factor = le-mul_of_pos_right (10 ^ (quotient.bottom + q)) f in
+          let r : 10 ^ b ≤ 10 ^ (quotient.bottom + q) = pow-le-pow_right (omega arith) h in
+          absurd (omega (arith, p, r, few, above_factor))
+    ]
+
+    last_above : last (n - n % 10 ^ q) ≡ magnitude_at (quotient.bottom + q)
+    last_above = ap last above_factor ∙ last_is quotient.factor (quotient.bottom + q) quotient.odd above_limit
+
+    below : Ends (n % 10 ^ q)
+    below = ends b (n % 10 ^ q) more (omega (arith, few, mod-le n (10 ^ q))) high
+
+    pub parts_apart : first (n % 10 ^ q) <ℤ last (n - n % 10 ^ q)
+    parts_apart = omega (arith, ints, first_of below, last_above, top_lt below q (mod-lt n (ten_pos q)))

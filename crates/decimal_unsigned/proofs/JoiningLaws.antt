@@ -1,0 +1,123 @@
+-- Laws of joining.
+use Rattle.std.proofs.Common.{◌≡◌, ℕ, ◌+◌, ◌-◌, ◌%◌, ◌^◌, ◌<◌, ◌≤◌, Bool, true, false, cond, nat_lt, ◌||◌, refl, sym, ◌∙◌, ap, arith, inl, inr}
+use Rattle.std.specs.Prelude.{ℤ, pos, ◌+ℤ◌, ◌-ℤ◌, ◌≤ℤ◌, Option, Some, None, option_and_then}
+use Rattle.std.specs.Int.{int_max, int_min}
+use Rattle.std.proofs.lemmas.Int.{ints, clamps}
+use Rattle.std.proofs.lemmas.Bool.{cases_lt}
+use Rattle.std.proofs.lemmas.Bool.Decides.{nat_tests}
+use Rattle.decimal_digits.specs.Number.{place, weight, first, last}
+use Rattle.decimal_digits.proofs.Ends.{first_zero}
+use Rattle.decimal_digits.proofs.Places.{place_is}
+use Rattle.decimal_unsigned.specs.Unsigned.{Unsigned, IsValue}
+use Rattle.decimal_unsigned.specs.Joining.{overlaps, joined}
+use Rattle.decimal_unsigned.specs.Edits.{cut}
+use Rattle.decimal_unsigned.specs.JoiningLaws.{join, JoinAlike}
+use Rattle.decimal_unsigned.proofs.Joins.{overlaps_first_zero, overlaps_second_zero, apart, not_overlapping}
+use Rattle.decimal_unsigned.proofs.FirstLast.{Ends, ends, first_of, last_of, first_sum, last_sum, top_lt, parts_sum, parts_apart}
+
+ends_of : (v : Unsigned) → IsValue v → 0 < v.number → Ends v.number
+ends_of v h p = ends (place v.hi + 1) v.number p h.below (omega (arith, ints, place_is v.hi, h.hi_in))
+
+module _ (u v : Unsigned) (p : IsValue u) (q : IsValue v) (f : overlaps u v ≡ false) where
+  apart_at : (m : 0 < u.number) (n : 0 < v.number) → (ends_of v q n).top < (ends_of u p m).bottom
+  apart_at m n =
+      let a = apart u v m n f in
+      let b = last_of (ends_of u p m) in
+      let t = first_of (ends_of v q n) in
+      omega (arith, ints, a, b, t)
+
+  last_joined : 0 < v.number → last (u.number + v.number) ≡ last v.number
+  last_joined n = elim (cases_lt 0 u.number) [
+    | inl m ↦ last_sum (ends_of u p m) (ends_of v q n) (apart_at m n)
+    | inr m ↦ ap last (let e : u.number + v.number ≡ v.number = omega arith in e)
+  ]
+
+  first_joined : 0 < u.number → first (u.number + v.number) ≡ first u.number
+  first_joined m = elim (cases_lt 0 v.number) [
+    | inl n ↦ first_sum (ends_of u p m) (ends_of v q n) (apart_at m n)
+    | inr n ↦ ap first (let e : u.number + v.number ≡ u.number = omega arith in e)
+  ]
+
+some_in_sum : (m n : ℕ) → 0 < m → nat_lt 0 (m + n) ≡ nat_lt 0 m
+some_in_sum m n h = grind (arith, nat_tests)
+
+more_in_sum : (m n : ℕ) → 0 < n → nat_lt 0 (m + n) ≡ nat_lt 0 n
+more_in_sum m n h = grind (arith, nat_tests)
+
+-- what is joined in front of a number does not change where that number ends
+front_absorbed : (u v w : Unsigned) → IsValue u → IsValue v → 0 < v.number → overlaps u v ≡ false → overlaps (joined u v) w ≡ overlaps v w
+unfolding overlaps
+front_absorbed u v w p q n f = rw (more_in_sum u.number v.number n, last_joined u v p q f n) refl
+
+-- and what is joined behind it, where it begins
+back_absorbed : (u v w : Unsigned) → IsValue v → IsValue w → 0 < v.number → overlaps v w ≡ false → overlaps u (joined v w) ≡ overlaps u v
+unfolding overlaps
+back_absorbed u v w p q n f = rw (some_in_sum v.number w.number n, first_joined v w p q f n) refl
+
+module _ (u v w : Unsigned) (p : IsValue u) (q : IsValue v) (r : IsValue w) where
+  overlap_alike : (overlaps u v || overlaps (joined u v) w) ≡ (overlaps v w || overlaps u (joined v w))
+  unfolding overlaps
+  overlap_alike = elim (cases_lt 0 v.number) [
+    | inl n ↦ go n (overlaps u v) refl (overlaps v w) refl
+    | inr n ↦
+        let z : v.number ≡ 0 = omega arith in
+        let a : u.number + v.number ≡ u.number = omega arith in
+        let b : v.number + w.number ≡ w.number = omega arith in
+        rw (overlaps_second_zero u v z, overlaps_first_zero v w z, a, b) refl
+  ]
+    where
+      go : 0 < v.number → (a : Bool) → overlaps u v ≡ a → (b : Bool) → overlaps v w ≡ b → (a || overlaps (joined u v) w) ≡ (b || overlaps u (joined v w))
+      go n true e true f = refl
+      go n true e false f = sym (back_absorbed u v w q r n f ∙ e)
+      go n false e true f = front_absorbed u v w p q n e ∙ f
+      go n false e false f = front_absorbed u v w p q n e ∙ f ∙ sym (back_absorbed u v w q r n f ∙ e)
+
+  joined-assoc : joined (joined u v) w ≡ joined u (joined v w)
+  joined-assoc =
+      let n : u.number + v.number + w.number ≡ u.number + (v.number + w.number) = omega arith in
+      let hi : int_max (int_max u.hi v.hi) w.hi ≡ int_max u.hi (int_max v.hi w.hi) = omega (arith, ints, clamps) in
+      let lo : int_min (int_min u.lo v.lo) w.lo ≡ int_min u.lo (int_min v.lo w.lo) = omega (arith, ints, clamps) in
+      λ i. record { number = n i; hi = hi i; lo = lo i }
+
+  pub join_alike : JoinAlike u v w
+  join_alike =
+      bound (overlaps u v) (λ x. join x w) (joined u v)
+      ∙ both (overlaps u v) (overlaps (joined u v) w) (joined (joined u v) w)
+      ∙ (λ i. cond (overlap_alike i) None (Some (joined-assoc i)))
+      ∙ sym (both (overlaps v w) (overlaps u (joined v w)) (joined u (joined v w)))
+      ∙ sym (bound (overlaps v w) (λ x. join u x) (joined v w))
+    where
+      bound : (t : Bool) (f : Unsigned → Option Unsigned) (x : Unsigned) → option_and_then f (cond t None (Some x)) ≡ cond t None (f x)
+      bound true f x = refl
+      bound false f x = refl
+
+      both : (s t : Bool) (x : Unsigned) → cond s None (cond t None (Some x)) ≡ cond (s || t) None (Some x)
+      both true t x = refl
+      both false t x = refl
+
+-- ---- the part at and above a position, and the part below it
+module _ (v t : Unsigned) (p : ℤ) (valid : IsValue v) (e : t.number ≡ v.number - v.number % weight p) where
+  high : place v.hi + 1 ≤ 65536
+  high = omega (arith, ints, place_is v.hi, valid.hi_in)
+
+  pub parts_join : overlaps t (cut v p) ≡ false
+  parts_join = not_overlapping t (cut v p) (λ some more.
+      let l = parts_apart v.number (place p) (place v.hi + 1) valid.below high (rw (← e) some) more in
+      rw e l)
+
+  pub parts_number : (joined t (cut v p)).number ≡ v.number
+  parts_number = ap (λ n. n + v.number % weight p) e ∙ parts_sum v.number (place p) (place v.hi + 1) valid.below high
+
+  -- and their ranges, where the position lies in the range or at one of its ends
+  pub parts_value : t.hi ≡ int_max (int_max v.hi (p -ℤ pos 1)) (first t.number) → t.lo ≡ int_min p (pos 0) → v.lo ≤ℤ p → p ≤ℤ (v.hi +ℤ pos 1) → joined t (cut v p) ≡ v
+  parts_value hi lo above below =
+      let f : first t.number ≤ℤ v.hi = elim (cases_lt 0 t.number) [
+        | inl some ↦
+            let few : t.number < 10 ^ (place v.hi + 1) = omega (arith, valid.below, e) in
+            let ends = ends (place v.hi + 1) t.number some few high in
+            omega (arith, ints, first_of ends, top_lt ends (place v.hi + 1) few, place_is v.hi, valid.hi_in)
+        | inr none ↦ let z : first t.number ≡ pos 0 = ap first (let y : t.number ≡ 0 = omega arith in y) ∙ first_zero in omega (arith, ints, z, valid.hi_in)
+      ] in
+      let h : int_max t.hi (int_max (p -ℤ pos 1) (pos 0)) ≡ v.hi = omega (arith, ints, clamps, hi, f, below, valid.hi_in) in
+      let l : int_min t.lo (int_min v.lo p) ≡ v.lo = omega (arith, ints, clamps, lo, above, valid.lo_in) in
+      λ i. record { number = parts_number i; hi = h i; lo = l i }

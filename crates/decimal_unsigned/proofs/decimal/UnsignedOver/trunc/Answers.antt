@@ -1,0 +1,5 @@
+use Rattle.std.proofs.lemmas.Int.{to_z-of_z}
+use Rattle.decimal_unsigned.proofs.decimal.UnsignedOver.trunc.Goals as goal
+
+pub returns : goal.returns
+returns g c = let p = c.ranges.position in simp to_z-of_z at c.round_with_mode.ensures

@@ -1,0 +1,33 @@
+-- What a rounding makes of a value.
+use Rattle.std.specs.Prelude.{◌≡◌, ℕ, Bool, nat_le, if◌then◌else◌, ℤ, pos, ◌-ℤ◌}
+use Rattle.std.specs.Int.{int_max, int_min}
+use Rattle.decimal_digits.specs.Number.{weight, first}
+use Rattle.decimal_digits.specs.Rounding.{unit_at, Named, rounded_number}
+use Rattle.decimal_digits.specs.declared.rounding.RoundingIncrement.{RoundingIncrement}
+use Rattle.decimal_digits.specs.declared.rounding.UnsignedRoundingMode.{UnsignedRoundingMode}
+use Rattle.decimal_unsigned.specs.Unsigned.{Unsigned}
+
+-- the number is 10 to the 32768 or more
+abbrev pub reaches_limit : ℕ → Bool
+reaches_limit number = nat_le (weight (pos 32768)) number
+
+-- a number in the place of the value's, shown from the highest of the old range, the position and the first digit, down to the position
+abbrev pub with_number : Unsigned → ℤ → ℕ → Unsigned
+with_number v position number = record { number = number; hi = int_max (int_max v.hi (position -ℤ pos 1)) (first number); lo = int_min position (pos 0) }
+
+-- what stands after a rounding at the position that names this multiple: 0 where it reaches the limit
+abbrev pub rounded_to : Unsigned → ℤ → ℕ → Unsigned
+rounded_to v position number = with_number v position (if reaches_limit number then 0 else number)
+
+-- the rounded value, by the remainder of the number
+abbrev pub rounded : Unsigned → ℤ → UnsignedRoundingMode → RoundingIncrement → Unsigned
+rounded v position mode increment = rounded_to v position (rounded_number mode (unit_at increment position) v.number)
+
+-- the new value has the multiple that the mode names among all multiples
+abbrev pub NamesRounded : Unsigned → ℤ → UnsignedRoundingMode → RoundingIncrement → Unsigned → Type 0
+NamesRounded old position mode increment new = (m : ℕ) × Named mode (unit_at increment position) old.number m × (new ≡ rounded_to old position m)
+
+-- the new value is the old one rounded: by the remainder of its number, and to the multiple that the mode names
+pub record IsRounded (old : Unsigned) (position : ℤ) (mode : UnsignedRoundingMode) (increment : RoundingIncrement) (new : Unsigned) : Type 0 where
+  pub value : new ≡ rounded old position mode increment
+  pub named : NamesRounded old position mode increment new

@@ -1,0 +1,145 @@
+//! Joining one number to the end of another.
+ghost use Rattle.std.specs.Int.{int_max, int_min};
+ghost use Rattle.std.specs.Prelude.{◌≡◌, ◌<◌, ◌≤◌, ◌<ℤ◌, ◌+ℤ◌, pos, ◌+◌, ◌↔◌, IsTrue, IsFalse, Ok, Err, IsOk, IfOk, IfErr, OnOk, OnErr};
+ghost use Rattle.decimal_digits.specs.Number.{first, last};
+ghost use Rattle.decimal_unsigned.specs.Joining.{overlaps, joined, joined_size, NeedsMemory, returned};
+ghost use Rattle.decimal_unsigned.specs.JoiningLaws.{JoinAlike};
+ghost use Rattle.decimal_unsigned.specs.Unsigned.{Unsigned, IsValue};
+
+use super::UnsignedOver;
+use crate::ConcatenateError;
+use decimal_digits::digits::DigitStore;
+use decimal_digits::ops::count_between;
+use std::alloc::AllocError;
+
+impl<D: DigitStore> UnsignedOver<D> {
+    /// Joins another number to the end of this one: the numbers are added, and what either shows stays shown.
+    ///
+    /// `123000` and `456` give `123456`, `5` and `0.00` give `5.00`. Where this number is 0, the digits of the other
+    /// are moved in, and no memory is asked for.
+    ///
+    /// Err: `Overlap` where neither number is 0 and the last digit of this one that is not 0 stands at or below the
+    /// first of the other, as in `120` and `25`; else `Memory` where neither is 0 and memory for more than `L` joined
+    /// digits, zeros between them included, was refused. Either hands the other back, and this value stays as it was.
+    /// The original's `concatenate_end`, whose error is the other alone.
+    #[tactic(auto, using(crate::proofs::JoiningLaws::join_alike))]
+    pub fn concatenate_end(&mut self, other: Self) -> Result<(), ConcatenateError<Self>>
+        ensures ok { OnOk result (self.new ≡ joined self.old other) }
+        ensures overlap { (result ≡ Err (ConcatenateError.Overlap other))
+            ↔ IsTrue (overlaps self.old other) }
+        ensures memory { (result ≡ Err (ConcatenateError.Memory other))
+            → NeedsMemory D.L self.old other }
+        ensures succeeds { IsFalse (overlaps self.old other)
+            → ¬ NeedsMemory D.L self.old other → IsOk result }
+        ensures err { OnErr result (self.new ≡ self.old) }
+        ensures back { IfErr result (λ e. returned e ≡ other) }
+        // Three values can be joined from the front exactly where they can be from the back, and give the same.
+        ensures associative { (u v w : Unsigned) → IsValue u → IsValue v → IsValue w
+            → JoinAlike u v w }
+    {
+        if self.overlaps(&other) {
+            return Err(ConcatenateError::Overlap(other));
+        }
+        if self.is_zero() {
+            self.take_digits(other);
+            return Ok(());
+        }
+        if other.is_zero() {
+            self.widen(&other);
+            return Ok(());
+        }
+        match self.append(&other) {
+            Ok(()) => Ok(()),
+            Err(AllocError) => Err(ConcatenateError::Memory(other)),
+        }
+    }
+
+    /// Joins another number to the end of this one: `concatenate_end` on values.
+    ///
+    /// Err: `Overlap` or `Memory` as there, with both values as they were, this one first. The original's
+    /// `concatenated_end`.
+    pub fn concatenated_end(mut self, other: Self) -> Result<Self, ConcatenateError<(Self, Self)>>
+        ensures ok { IfOk result (λ v. v ≡ joined self other) }
+        ensures overlap { (result ≡ Err (ConcatenateError.Overlap (self, other)))
+            ↔ IsTrue (overlaps self other) }
+        ensures memory { (result ≡ Err (ConcatenateError.Memory (self, other)))
+            → NeedsMemory D.L self other }
+        ensures succeeds { IsFalse (overlaps self other)
+            → ¬ NeedsMemory D.L self other → IsOk result }
+        ensures back { IfErr result (λ e. returned e ≡ (self, other)) }
+    {
+        match self.concatenate_end(other) {
+            Ok(()) => Ok(self),
+            Err(ConcatenateError::Overlap(other)) => Err(ConcatenateError::Overlap((self, other))),
+            Err(ConcatenateError::Memory(other)) => Err(ConcatenateError::Memory((self, other))),
+        }
+    }
+
+    /// Whether the other number has a digit that is not 0 at or above the last one of this number.
+    #[tactic(auto, unfolding(crate::specs::Joining::overlaps))]
+    fn overlaps(&self, other: &Self) -> bool
+        ensures { result ≡ overlaps self.now other.now }
+    {
+        if self.is_zero() || other.is_zero() {
+            return false;
+        }
+        self.nonzero_magnitude_end() <= other.nonzero_magnitude_start()
+    }
+
+    /// Moves the digits of another number into 0.
+    fn take_digits(&mut self, other: Self)
+        requires { self.old.number ≡ 0 }
+        ensures { self.new ≡ joined self.old other }
+    {
+        self.widen(&other);
+        let UnsignedOver {
+            digits,
+            magnitude,
+            hi: _,
+            lo: _,
+        } = other;
+        self.digits = digits;
+        self.magnitude = magnitude;
+    }
+
+    /// Appends the digits of a number that begins below the last digit of this one.
+    fn append(&mut self, other: &Self) -> Result<(), AllocError>
+        requires first_counts { 0 < self.old.number }
+        requires second_counts { 0 < other.now.number }
+        requires apart { first other.now.number <ℤ last self.old.number }
+        ensures ok { OnOk result (self.new ≡ joined self.old other.now) }
+        ensures err { OnErr result (self.new ≡ self.old) }
+        ensures succeeds { joined_size self.old other.now ≤ D.L → IsOk result }
+    {
+        let zeros = self.zeros_before(other);
+        let hi = self.hi.max(other.hi);
+        let lo = self.lo.min(other.lo);
+        self.digits.append(zeros, &other.digits)?;
+        self.hi = hi;
+        self.lo = lo;
+        Ok(())
+    }
+
+    /// Counts the magnitudes between the last digit of this number and the first of another.
+    fn zeros_before(&self, other: &Self) -> usize
+        requires { first other.now.number <ℤ last self.now.number }
+        ensures { last self.now.number ≡ first other.now.number +ℤ pos (result + 1) }
+    {
+        count_between(
+            other.nonzero_magnitude_start(),
+            self.nonzero_magnitude_end(),
+        ) as usize
+            - 2
+    }
+
+    /// Shows the magnitudes of another value too.
+    fn widen(&mut self, other: &Self)
+        ensures { self.new ≡ record self.old
+            { hi = int_max self.old.hi other.now.hi; lo = int_min self.old.lo other.now.lo } }
+    {
+        let upper = self.hi.max(other.hi);
+        let lower = self.lo.min(other.lo);
+        self.hi = upper;
+        self.lo = lower;
+    }
+}

@@ -1,0 +1,104 @@
+//! One number joined to the end of another.
+use super::*;
+use crate::ConcatenateError;
+
+/// Asserts what two texts give when they are joined, by either call.
+fn assert_joins(
+    rt: &impl Abort,
+    alloc: Global,
+    front: &[u8],
+    back: &[u8],
+    joined: &[u8],
+) -> Result<(), Fail> {
+    let mut value = read(alloc, front)?;
+    match value.concatenate_end(read(alloc, back)?) {
+        Ok(()) => assert_prints(rt, alloc, &value, joined),
+        Err(_) => assert!(rt; false),
+    }
+    match read(alloc, front)?.concatenated_end(read(alloc, back)?) {
+        Ok(value) => assert_prints(rt, alloc, &value, joined),
+        Err(_) => assert!(rt; false),
+    }
+    Ok(())
+}
+
+/// Asserts that two texts overlap, and that either call hands back what it was given.
+fn assert_overlaps(rt: &impl Abort, alloc: Global, front: &[u8], back: &[u8]) -> Result<(), Fail> {
+    let mut value = read(alloc, front)?;
+    match value.concatenate_end(read(alloc, back)?) {
+        Err(ConcatenateError::Overlap(other)) => assert_prints(rt, alloc, &other, back),
+        Ok(()) => assert!(rt; false),
+        Err(ConcatenateError::Memory(_other)) => assert!(rt; false),
+    }
+    assert_prints(rt, alloc, &value, front);
+    match value.concatenated_end(read(alloc, back)?) {
+        Err(ConcatenateError::Overlap((value, other))) => {
+            assert_prints(rt, alloc, &value, front);
+            assert_prints(rt, alloc, &other, back);
+        }
+        Ok(_value) => assert!(rt; false),
+        Err(ConcatenateError::Memory(_both)) => assert!(rt; false),
+    }
+    Ok(())
+}
+
+#[test]
+fn joins(rt: HostRuntime) -> Result<(), Fail> {
+    let alloc = rt.alloc();
+    let rows: [(&[u8], &[u8], &[u8]); 14] = [
+        (b"123", b"0.456", b"123.456"),
+        (b"123", b"0.0456", b"123.0456"),
+        (b"100", b"0.001", b"100.001"),
+        (b"123000", b"456", b"123456"),
+        (b"0", b"222", b"222"),
+        (b"222", b"0", b"222"),
+        (b"000", b"0", b"000"),
+        (b"0.00", b"0", b"0.00"),
+        (b"5", b"0.00", b"5.00"),
+        (b"1200", b"25", b"1225"),
+        (b"4235", b"0.970", b"4235.970"),
+        // Three values from the front and from the back.
+        (b"12300", b"4", b"12304"),
+        (b"12000", b"304", b"12304"),
+        // More digits than are held without memory.
+        (b"100000000000000000000", b"7", b"100000000000000000007"),
+    ];
+    for (front, back, joined) in rows {
+        assert_joins(&rt, alloc, front, back, joined)?;
+    }
+    for digits in [1, 6, 7, 8, 15, 16, 64] {
+        let nines = extended(alloc, b"", b'9', digits)?;
+        let front = extended(alloc, &nines, b'0', 1)?;
+        let joined = extended(alloc, &nines, b'7', 1)?;
+        assert_joins(&rt, alloc, &front, b"7", &joined)?;
+    }
+    Ok(())
+}
+
+#[test]
+fn overlaps(rt: HostRuntime) -> Result<(), Fail> {
+    let alloc = rt.alloc();
+    let rows: [(&[u8], &[u8]); 6] = [
+        (b"0.456", b"123"),
+        (b"5", b"5"),
+        (b"1.1", b"0.2"),
+        (b"456", b"123000"),
+        (b"120", b"25"),
+        (b"5", b"5.00"),
+    ];
+    for (front, back) in rows {
+        assert_overlaps(&rt, alloc, front, back)?;
+    }
+    Ok(())
+}
+
+#[test]
+fn joins_at_the_limits(rt: HostRuntime) -> Result<(), Fail> {
+    let alloc = rt.alloc();
+    let whole = extended(alloc, b"", b'9', 32_768)?;
+    let fraction = extended(alloc, b"0.", b'9', 32_768)?;
+    let dotted = extended(alloc, &whole, b'.', 1)?;
+    let longest = extended(alloc, &dotted, b'9', 32_768)?;
+    assert_joins(&rt, alloc, &whole, &fraction, &longest)?;
+    assert_overlaps(&rt, alloc, &longest, &longest)
+}

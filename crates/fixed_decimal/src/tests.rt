@@ -1,0 +1,148 @@
+//! Whole runs, and sinks that fail.
+use crate::run::{Call, RunError, run};
+use crate::{ParseError, Sink, SinkFault, TextBuf, UnsignedDecimal, Writeable};
+use std::test::Fail;
+
+/// A sink that takes so many bytes.
+#[derive(Drop)]
+struct Limited {
+    text: TextBuf,
+    room: usize,
+    failed: bool,
+}
+
+impl Sink for Limited {
+    ghost use Rattle.std.specs.Prelude.{None};
+
+    ghost contents = { λ _. None };
+
+    ghost has_failed = { λ s. s.failed };
+
+    fn put_byte(&mut self, byte: u8) -> Result<(), SinkFault> {
+        if self.failed
+            || self.text.as_bytes().len() == self.room
+            || self.text.put_byte(byte).is_err()
+        {
+            self.failed = true;
+            return Err(SinkFault);
+        }
+        Ok(())
+    }
+
+    fn failed(&self) -> bool {
+        self.failed
+    }
+}
+
+#[test]
+fn runs(rt: HostRuntime) -> Result<(), Fail> {
+    let rows: [(&[u8], &[Call], &[u8]); 11] = [
+        (b"250", &[Call::MultiplyPow10(-2)], b"2.50"),
+        (b"51423", &[Call::MultiplyPow10(-8)], b"0.00051423"),
+        (b".5", &[], b"0.5"),
+        (b"0", &[Call::MultiplyPow10(3)], b"0000"),
+        (b"1.20e0", &[], b"1.2"),
+        (
+            b"98765",
+            &[Call::MultiplyPow10(32763), Call::MultiplyPow10(1)],
+            b"0",
+        ),
+        (
+            b"98765",
+            &[Call::MultiplyPow10(-32768), Call::MultiplyPow10(-1)],
+            b"0",
+        ),
+        (b"500", &[Call::MultiplyPow10(-4)], b"0.0500"),
+        (
+            b"0012.3400",
+            &[
+                Call::TrimStart,
+                Call::TrimEnd,
+                Call::PadStart(4),
+                Call::PadEnd(-3),
+            ],
+            b"0012.340",
+        ),
+        (
+            b"4235.970",
+            &[
+                Call::SetMaxPosition(2),
+                Call::MultiplyPow10(1),
+                Call::MultiplyPow10(2),
+                Call::TrimEndIfInteger,
+            ],
+            b"35970",
+        ),
+        (
+            b"922337203685477580898230948203840239384.9823094820384023938423424",
+            &[],
+            b"922337203685477580898230948203840239384.9823094820384023938423424",
+        ),
+    ];
+    for (start, calls, text) in rows {
+        let mut sink = TextBuf::new(rt.alloc());
+        assert_eq!(rt; run(rt.alloc(), start, calls, &mut sink), Ok(()));
+        assert_eq!(rt; sink.as_bytes(), text);
+    }
+    Ok(())
+}
+
+#[test]
+fn refuses(rt: HostRuntime) -> Result<(), Fail> {
+    let zeros = vec![in rt.alloc(); b'0'; 32_769]?;
+    let rows: [(&[u8], ParseError); 5] = [
+        (b"5.", ParseError::Syntax),
+        (b"", ParseError::Syntax),
+        (b"-5", ParseError::Syntax),
+        (b"10e32767", ParseError::Limit),
+        (zeros.as_slice(), ParseError::Limit),
+    ];
+    for (start, fault) in rows {
+        let mut sink = TextBuf::new(rt.alloc());
+        let calls = [Call::MultiplyPow10(1)];
+        assert_eq!(rt;
+            run(rt.alloc(), start, &calls, &mut sink),
+            Err(RunError::Start(fault))
+        );
+        assert!(rt; sink.as_bytes().is_empty() && !sink.failed());
+    }
+    Ok(())
+}
+
+#[test]
+fn fails_with_the_sink(rt: HostRuntime) -> Result<(), Fail> {
+    for (start, calls) in [
+        (b"2.50", [].as_slice()),
+        (b"12e2", [Call::MultiplyPow10(-1)].as_slice()),
+    ] {
+        let mut whole = TextBuf::new(rt.alloc());
+        assert_eq!(rt; run(rt.alloc(), start, calls, &mut whole), Ok(()));
+        for room in 0..whole.as_bytes().len() {
+            let mut sink = Limited {
+                text: TextBuf::new(rt.alloc()),
+                room,
+                failed: false,
+            };
+            assert_eq!(rt;
+                run(rt.alloc(), start, calls, &mut sink),
+                Err(RunError::Sink)
+            );
+            assert!(rt; sink.failed());
+            assert!(rt; sink.text.as_bytes() == &whole.as_bytes()[..room]);
+        }
+    }
+    Ok(())
+}
+
+#[test]
+fn exports(rt: HostRuntime) -> Result<(), Fail> {
+    let mut value = UnsignedDecimal::try_from_str(rt.alloc(), "250")?;
+    value.multiply_pow10(-2);
+    assert_eq!(rt;
+        (value.digit_at(-2), value.digit_at(-1), value.digit_at(0)),
+        (0, 5, 2)
+    );
+    assert_eq!(rt; value.writeable_length_hint(), 4);
+    assert!(rt; !value.is_zero() && UnsignedDecimal::zero(rt.alloc()).is_zero());
+    Ok(())
+}
