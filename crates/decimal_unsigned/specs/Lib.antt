@@ -10,3 +10,4 @@ pub mod Refusal
 pub mod Fields
 pub mod Parts
 pub mod Placing
+pub mod ErrorText

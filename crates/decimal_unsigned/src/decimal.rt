@@ -25,7 +25,7 @@ use std::ops::RangeInclusive;
 /// Contracts see `number`, in units of 10 to the power -32768, and the magnitudes `hi` and `lo`. The range holds
 /// magnitude 0 and all digits that are not 0; further zeros are shown as they were written. The text `0012.3400` has
 /// `hi` 3 and `lo` -4. The original has one representation; this type stands over any list of digits.
-#[derive(Drop)]
+#[derive(Debug, Drop)]
 pub struct UnsignedOver<D: DigitStore> {
     digits: D,
     magnitude: i16,

@@ -1,4 +1,9 @@
 //! Why a call was refused.
+ghost use Rattle.std.specs.Prelude.{◌≡◌};
+ghost use Rattle.decimal_unsigned.specs.ErrorText.{error_text};
+
+use std::error::Error;
+use std::fmt;
 
 /// Why a text was refused.
 ///
@@ -12,6 +17,37 @@ pub enum ParseError {
     /// Memory for the digits was refused.
     Memory,
 }
+
+impl ParseError {
+    /// The sentence that says why.
+    fn text(&self) -> &'static str
+        ensures { result.now ≡ error_text self.now }
+    {
+        match self {
+            ParseError::Limit => "Magnitude or number of digits exceeded",
+            ParseError::Syntax => "Failed to parse the input string",
+            ParseError::Memory => "Out of memory",
+        }
+    }
+}
+
+impl fmt::Display for ParseError {
+    ghost use Rattle.std.specs.Prelude.{Some};
+    ghost use Rattle.decimal_unsigned.specs.ErrorText.{error_text};
+
+    ghost output = { λ e. Some (error_text e) };
+
+    ghost styled_output = { λ e _. Some (error_text e) };
+
+    /// Writes the sentence that says why: `Out of memory` for `Memory`. It looks at no option of the format.
+    ///
+    /// Err: the formatter refused it. The original's `Display`.
+    fn fmt<W: fmt::Write>(&self, f: &mut fmt::Formatter<W>) -> fmt::Result {
+        f.write_str(self.text())
+    }
+}
+
+impl Error for ParseError {}
 
 /// Why two numbers were not joined, with what was handed in.
 ///

@@ -6,6 +6,8 @@ use std::process::Abort;
 use std::test::Fail;
 
 mod concatenation;
+mod edits;
+mod integers;
 mod printing;
 mod reading;
 

@@ -8,7 +8,7 @@ use std::alloc::{AllocError, Global};
 /// A list of digits with one digit to a byte, of which the first eight lie in place.
 ///
 /// The list that `from_digits` makes of 2, 5 and 0 has three digits and no allocation. The original keeps its digits so.
-#[derive(Drop)]
+#[derive(Debug, Drop)]
 pub struct DigitList {
     bytes: SmallVec<u8, 8>,
     ghost inline: { 8 ≤ bytes.capacity },

@@ -73,7 +73,7 @@ impl<D: DigitStore> UnsignedOver<D> {
         ensures value { IfOk result (λ v. v ≡ integer_value integer) }
         ensures succeeds { size (integer_value integer).number ≤ D.L → IsOk result }
     {
-        Self::from_integer(alloc, integer)
+        Self::from_integer::<u32>(alloc, integer)
     }
 
     /// Makes the value of a `u64`: 250 prints `250`.
@@ -84,7 +84,7 @@ impl<D: DigitStore> UnsignedOver<D> {
         ensures value { IfOk result (λ v. v ≡ integer_value integer) }
         ensures succeeds { size (integer_value integer).number ≤ D.L → IsOk result }
     {
-        Self::from_integer(alloc, integer)
+        Self::from_integer::<u64>(alloc, integer)
     }
 
     /// Makes the value of a `u128`: 250 prints `250`.
@@ -95,7 +95,7 @@ impl<D: DigitStore> UnsignedOver<D> {
         ensures value { IfOk result (λ v. v ≡ integer_value integer) }
         ensures succeeds { size (integer_value integer).number ≤ D.L → IsOk result }
     {
-        Self::from_integer(alloc, integer)
+        Self::from_integer::<u128>(alloc, integer)
     }
 
     /// Makes the value of a `usize`: 250 prints `250`.
@@ -106,7 +106,7 @@ impl<D: DigitStore> UnsignedOver<D> {
         ensures value { IfOk result (λ v. v ≡ integer_value integer) }
         ensures succeeds { size (integer_value integer).number ≤ D.L → IsOk result }
     {
-        Self::from_integer(alloc, integer)
+        Self::from_integer::<usize>(alloc, integer)
     }
 
     /// The value of an integer.
