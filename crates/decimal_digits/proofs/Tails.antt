@@ -1,5 +1,5 @@
 -- What is left below a place, and what a mode makes of it.
-use Rattle.std.proofs.Common.{ℕ, ◌≡◌, ◌+◌, ◌-◌, ◌*◌, ◌/◌, ◌%◌, ◌<◌, ◌≤◌, ◌==◌, nat_lt, cond, refl, ◌∙◌, ap, arith, Bool, true, false}
+use Rattle.std.proofs.Common.{ℕ, ◌≡◌, ◌+◌, ◌-◌, ◌*◌, ◌/◌, ◌%◌, ◌<◌, ◌≤◌, ◌==◌, cond, refl, ◌∙◌, ap, arith, Bool, true, false}
 use Rattle.std.proofs.Math.Nat.{mul-le-mul_right, mul-pos, div-add-mod'}
 use Rattle.std.proofs.lemmas.Nat.{div-mul-add, mod-mul-add}
 use Rattle.std.proofs.lemmas.Bool.Decides.{nat_tests}
@@ -49,81 +49,35 @@ part_above tail step rest l h r place p is = (over tail h is, let s : rest + 1 �
     over AboveHalf h is = let s : step ≤ 2 * rest + 1 = omega arith in omega (arith, mul-le-mul_right place s)
 
 -- ---- q units and r over
-module _ (q u r : ℕ) (l : r < u) where
+module _ (q u r : ℕ) (odd : Bool) (l : r < u) (o : odd ≡ (q % 2 == 1)) where
   remainder : (q * u + r) % u ≡ r
   remainder = mod-mul-add q u r l
 
   quotient : (q * u + r) / u ≡ q
   quotient = div-mul-add q u r l
 
-  trunc_by : rounded_number Trunc u (q * u + r) ≡ (q + 0) * u
+  rounded_by : (mode : UnsignedRoundingMode) (left : Tail) → TailIs left r u → rounded_number mode u (q * u + r) ≡ (q + cond (goes_up_of mode left odd) 1 0) * u
   unfolding rounded_number
-  trunc_by = rw remainder (omega arith)
-
-  expand_none : r ≡ 0 → rounded_number Expand u (q * u + r) ≡ (q + 0) * u
-  unfolding rounded_number
-  expand_none z = let t : (r == 0) ≡ true = grind (arith, nat_tests) in rw (remainder, t) (omega arith)
-
-  expand_some : 0 < r → rounded_number Expand u (q * u + r) ≡ (q + 1) * u
-  unfolding rounded_number
-  expand_some p = let t : (r == 0) ≡ false = grind (arith, nat_tests) in rw (remainder, t) (omega arith)
-
-  half_expand_down : 2 * r < u → rounded_number HalfExpand u (q * u + r) ≡ (q + 0) * u
-  unfolding rounded_number
-  half_expand_down h = let t : nat_lt (2 * r) u ≡ true = grind (arith, nat_tests) in rw (remainder, t) (omega arith)
-
-  half_expand_up : u ≤ 2 * r → rounded_number HalfExpand u (q * u + r) ≡ (q + 1) * u
-  unfolding rounded_number
-  half_expand_up h = let t : nat_lt (2 * r) u ≡ false = grind (arith, nat_tests) in let s : (r == 0) ≡ false = grind (arith, nat_tests) in rw (remainder, t, s) (omega arith)
-
-  half_trunc_down : 2 * r ≤ u → rounded_number HalfTrunc u (q * u + r) ≡ (q + 0) * u
-  unfolding rounded_number
-  half_trunc_down h = let t : nat_lt u (2 * r) ≡ false = grind (arith, nat_tests) in rw (remainder, t) (omega arith)
-
-  half_trunc_up : u < 2 * r → rounded_number HalfTrunc u (q * u + r) ≡ (q + 1) * u
-  unfolding rounded_number
-  half_trunc_up h = let t : nat_lt u (2 * r) ≡ true = grind (arith, nat_tests) in let s : (r == 0) ≡ false = grind (arith, nat_tests) in rw (remainder, t, s) (omega arith)
-
-  half_even_down : 2 * r < u → rounded_number HalfEven u (q * u + r) ≡ (q + 0) * u
-  unfolding rounded_number
-  half_even_down h = let t : nat_lt (2 * r) u ≡ true = grind (arith, nat_tests) in rw (remainder, t) (omega arith)
-
-  half_even_up : u < 2 * r → rounded_number HalfEven u (q * u + r) ≡ (q + 1) * u
-  unfolding rounded_number
-  half_even_up h = let t : nat_lt (2 * r) u ≡ false = grind (arith, nat_tests) in let s : nat_lt u (2 * r) ≡ true = grind (arith, nat_tests) in let z : (r == 0) ≡ false = grind (arith, nat_tests) in rw (remainder, t, s, z) (omega arith)
-
-  half_even_tie : 0 < r → 2 * r ≡ u → (odd : Bool) → odd ≡ (q % 2 == 1) → rounded_number HalfEven u (q * u + r) ≡ (q + cond odd 1 0) * u
-  unfolding rounded_number
-  half_even_tie p h true o = let t : nat_lt (2 * r) u ≡ false = grind (arith, nat_tests) in let s : nat_lt u (2 * r) ≡ false = grind (arith, nat_tests) in let z : (r == 0) ≡ false = grind (arith, nat_tests) in let w : (q % 2 == 0) ≡ false = grind (arith, nat_tests) in rw (remainder, t, s, quotient, w, z) (omega arith)
-  half_even_tie p h false o = let t : nat_lt (2 * r) u ≡ false = grind (arith, nat_tests) in let s : nat_lt u (2 * r) ≡ false = grind (arith, nat_tests) in let z : (r == 0) ≡ false = grind (arith, nat_tests) in let w : (q % 2 == 0) ≡ true = grind (arith, nat_tests) in rw (remainder, t, s, quotient, w) (omega arith)
-
-pub rounded_by : (mode : UnsignedRoundingMode) (left : Tail) (odd : Bool) (q u r : ℕ) → 0 < u → TailIs left r u → odd ≡ (q % 2 == 1) → rounded_number mode u (q * u + r) ≡ (q + cond (goes_up_of mode left odd) 1 0) * u
-rounded_by mode left odd q u r p is o = by mode left is
-  where
-    l : r < u
-    l = below_unit left r u p is
-
-    by : (mode : UnsignedRoundingMode) (left : Tail) → TailIs left r u → rounded_number mode u (q * u + r) ≡ (q + cond (goes_up_of mode left odd) 1 0) * u
-    by Trunc Zero is = trunc_by q u r l
-    by Trunc BelowHalf is = trunc_by q u r l
-    by Trunc Half is = trunc_by q u r l
-    by Trunc AboveHalf is = trunc_by q u r l
-    by Expand Zero is = expand_none q u r l is
-    by Expand BelowHalf is = expand_some q u r l is.0
-    by Expand Half is = expand_some q u r l (omega arith)
-    by Expand AboveHalf is = expand_some q u r l (omega arith)
-    by HalfExpand Zero is = half_expand_down q u r l (omega arith)
-    by HalfExpand BelowHalf is = half_expand_down q u r l is.1
-    by HalfExpand Half is = half_expand_up q u r l (omega arith)
-    by HalfExpand AboveHalf is = half_expand_up q u r l (omega arith)
-    by HalfTrunc Zero is = half_trunc_down q u r l (omega arith)
-    by HalfTrunc BelowHalf is = half_trunc_down q u r l (omega arith)
-    by HalfTrunc Half is = half_trunc_down q u r l (omega arith)
-    by HalfTrunc AboveHalf is = half_trunc_up q u r l is.0
-    by HalfEven Zero is = half_even_down q u r l (omega arith)
-    by HalfEven BelowHalf is = half_even_down q u r l is.1
-    by HalfEven Half is = half_even_tie q u r l (omega arith) is odd o
-    by HalfEven AboveHalf is = half_even_up q u r l is.0
+  rounded_by Trunc Zero is = rw remainder (omega arith)
+  rounded_by Trunc BelowHalf is = rw remainder (omega arith)
+  rounded_by Trunc Half is = rw remainder (omega arith)
+  rounded_by Trunc AboveHalf is = rw remainder (omega arith)
+  rounded_by Expand Zero is = rw remainder (grind (arith, nat_tests))
+  rounded_by Expand BelowHalf is = rw remainder (grind (arith, nat_tests))
+  rounded_by Expand Half is = rw remainder (grind (arith, nat_tests))
+  rounded_by Expand AboveHalf is = rw remainder (grind (arith, nat_tests))
+  rounded_by HalfExpand Zero is = rw remainder (grind (arith, nat_tests))
+  rounded_by HalfExpand BelowHalf is = rw remainder (grind (arith, nat_tests))
+  rounded_by HalfExpand Half is = rw remainder (grind (arith, nat_tests))
+  rounded_by HalfExpand AboveHalf is = rw remainder (grind (arith, nat_tests))
+  rounded_by HalfTrunc Zero is = rw remainder (grind (arith, nat_tests))
+  rounded_by HalfTrunc BelowHalf is = rw remainder (grind (arith, nat_tests))
+  rounded_by HalfTrunc Half is = rw remainder (grind (arith, nat_tests))
+  rounded_by HalfTrunc AboveHalf is = rw remainder (grind (arith, nat_tests))
+  rounded_by HalfEven Zero is = rw remainder (grind (arith, nat_tests))
+  rounded_by HalfEven BelowHalf is = rw remainder (grind (arith, nat_tests))
+  rounded_by HalfEven Half is = rw (remainder, quotient, o) (grind (arith, nat_tests))
+  rounded_by HalfEven AboveHalf is = rw remainder (grind (arith, nat_tests))
 
 -- ---- the last two digits: 100 is an even number of steps, so they tell the quotient's parity
 half_steps : RoundingIncrement → ℕ
@@ -171,7 +125,7 @@ two_by mode increment tail left s two result up step part goes made front r plac
     let pos : 0 < s = omega (arith, step_pos increment) in
     let parity : (two / s % 2 == 1) ≡ (q % 2 == 1) = ap (λ v. v == 1) (let e : two / s % 2 ≡ q % 2 = omega arith in e) in
     rw (← step, made, goes) (ap (rounded_number mode (s * place)) (taken_apart h s (two / s) (two % s) two front place half whole r)
-    ∙ rounded_by mode left (two / s % 2 == 1) q (s * place) (two % s * place + r) (mul-pos pos p) (part r place p is) parity
+    ∙ rounded_by q (s * place) (two % s * place + r) (two / s % 2 == 1) (below_unit left _ _ (mul-pos pos p) (part r place p is)) parity mode left (part r place p is)
     ∙ put_together h s (two / s) (two % s) two front place half whole (goes_up_of mode left (two / s % 2 == 1)))
 
 pub rounds_as : (mode : UnsignedRoundingMode) (step : ℕ) (tail : Tail) (k m k' m' : ℕ) → RoundsTo mode step tail k m → k' ≡ k → m' ≡ m → RoundsTo mode step tail k' m'

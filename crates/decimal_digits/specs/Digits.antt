@@ -3,7 +3,7 @@ use Rattle.std.specs.Prelude.{ℕ, ◌+◌, ◌-◌, ◌*◌, ◌^◌, ◌<◌, 
 use Rattle.std.specs.Int.Digits.{number_from_digits}
 use Rattle.decimal_digits.specs.Number.{place}
 
--- what the digits are worth, in units, where so many places, `top`, are at or below the first
+-- what the digits are worth where the first is that of 10 ^ (top - 1)
 unfoldable pub number_at : ℕ → List ℕ → ℕ
 number_at top digits = number_from_digits 10 digits * 10 ^ (top - length digits)
 

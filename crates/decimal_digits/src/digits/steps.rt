@@ -6,8 +6,8 @@ use std::marker::Model;
 
 /// Counts turns: the reads and the writes of single digits.
 ///
-/// Contracts see `count`. At run time it has no bytes. `tick` is the one call that changes the count of a `Steps`. Not
-/// in the original.
+/// Contracts see `count`; at run time it has no bytes. `tick` adds one, and no other call changes a `Steps`, but its
+/// owner may put a new one in its place. Not in the original.
 #[derive(Drop)]
 pub struct Steps {
     pub ghost count: { ℕ },

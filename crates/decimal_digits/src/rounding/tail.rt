@@ -5,7 +5,9 @@ ghost use Rattle.decimal_digits.specs.Tails.{TailIs, RoundsTo, goes_up_of};
 
 use super::{RoundingIncrement, UnsignedRoundingMode};
 
-/// What is left over, held against half of a unit. As a number it counts quarters of the unit.
+/// What is left over, held against half of a unit.
+///
+/// The numbers are quarters of the unit, where 1 and 3 stand for all that lies between nothing, half and the whole.
 #[derive(Clone, Copy, PartialEq, Eq)]
 pub enum Tail {
     /// Nothing.

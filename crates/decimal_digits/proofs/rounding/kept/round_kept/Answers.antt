@@ -39,8 +39,7 @@ returns-in_err-write_two-clause-longer g c =
     let list = c.args.list.now.list.now in
     let ds = g.D.DigitStore.digits list in
     let two = c.rounded_two-rounded in
-    let same : g.D.DigitStore.digits c.two_at-two.new.list.list.now ≡ ds = cc in
-    let at_end : c.args.keep ≡ length ds + 1 = c.in_err-write_two.ensures.at_end ∙ ap (λ xs. length xs + 1) same in
+    let at_end : c.args.keep ≡ length ds + 1 = grind (arith, common_steps) in
     on_err c.from_residual.result _ (
       _,
       one_more c.args.keep two.result ds (recursion_from_All _ _ (g.met.D.DigitStore.are_digits list)) (omega arith) at_end (c.requires.stripped.front (omega arith)) (omega arith) c.in_err-write_two.ensures.ones,
