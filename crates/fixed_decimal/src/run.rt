@@ -96,7 +96,10 @@ fn make_call<D: DigitStore>(
         Call::PadEnd(position) => value.pad_end(position),
         Call::SetMaxPosition(position) => value.set_max_position(position),
         Call::Round(position, SignedRoundingMode::Unsigned(mode), increment) => {
-            if value.round_with_mode_and_increment(position, mode, increment).is_err() {
+            if value
+                .round_with_mode_and_increment(position, mode, increment)
+                .is_err()
+            {
                 return Err(RunError::Memory { at });
             }
         }

@@ -1,6 +1,9 @@
 //! Whole runs, and sinks that fail.
-use crate::run::{Call, RunError, run};
-use crate::{ParseError, Sink, SinkFault, TextBuf, UnsignedDecimal, Writeable};
+use crate::run::run;
+use crate::{
+    Call, ParseError, RoundingIncrement, RunError, SignedRoundingMode, Sink, SinkFault, TextBuf,
+    UnsignedDecimal, UnsignedRoundingMode, Writeable,
+};
 use std::test::Fail;
 
 /// A sink that takes so many bytes.
@@ -104,6 +107,110 @@ fn refuses(rt: HostRuntime) -> Result<(), Fail> {
             run(rt.alloc(), start, &calls, &mut sink),
             Err(RunError::Start(fault))
         );
+        assert!(rt; sink.as_bytes().is_empty() && !sink.failed());
+    }
+    Ok(())
+}
+
+/// The call that rounds so.
+fn round<'a>(position: i16, mode: UnsignedRoundingMode, increment: RoundingIncrement) -> Call<'a> {
+    Call::Round(position, SignedRoundingMode::Unsigned(mode), increment)
+}
+
+#[test]
+fn rounds_and_joins(rt: HostRuntime) -> Result<(), Fail> {
+    let expand = UnsignedRoundingMode::Expand;
+    let trunc = UnsignedRoundingMode::Trunc;
+    let half_even = UnsignedRoundingMode::HalfEven;
+    let by_1 = RoundingIncrement::MultiplesOf1;
+    let by_25 = RoundingIncrement::MultiplesOf25;
+    let rows: [(&[u8], &[Call], &[u8]); 7] = [
+        (b"99.999", &[round(4, expand, by_1)], b"10000"),
+        (
+            b"9.75",
+            &[round(-1, half_even, RoundingIncrement::MultiplesOf5)],
+            b"10.0",
+        ),
+        (b"12345678", &[round(-1, trunc, by_25)], b"12345677.5"),
+        (
+            b"4235.970",
+            &[
+                round(1, trunc, by_1),
+                round(3, trunc, by_1),
+                round(0, trunc, by_1),
+            ],
+            b"4000",
+        ),
+        (
+            b"99.5",
+            &[
+                round(0, expand, by_1),
+                round(3, expand, by_1),
+                round(1, expand, by_1),
+            ],
+            b"1000",
+        ),
+        (b"123000", &[Call::Concatenate(b"456")], b"123456"),
+        (
+            b"120",
+            &[
+                Call::MultiplyPow10(1),
+                Call::Concatenate(b"25"),
+                Call::MultiplyPow10(1),
+            ],
+            b"12250",
+        ),
+    ];
+    for (start, calls, text) in rows {
+        let mut sink = TextBuf::new(rt.alloc());
+        assert_eq!(rt; run(rt.alloc(), start, calls, &mut sink), Ok(()));
+        assert_eq!(rt; sink.as_bytes(), text);
+    }
+    Ok(())
+}
+
+#[test]
+fn refuses_operands(rt: HostRuntime) -> Result<(), Fail> {
+    let rows: [(&[u8], &[Call], RunError); 5] = [
+        (
+            b"120",
+            &[Call::Concatenate(b"25")],
+            RunError::Overlap { at: 0 },
+        ),
+        (
+            b"5",
+            &[Call::TrimStart, Call::Concatenate(b"x")],
+            RunError::Operand {
+                at: 1,
+                fault: ParseError::Syntax,
+            },
+        ),
+        (
+            b"5",
+            &[
+                Call::TrimStart,
+                Call::Concatenate(b"1e99999"),
+                Call::Concatenate(b"x"),
+            ],
+            RunError::Operand {
+                at: 1,
+                fault: ParseError::Limit,
+            },
+        ),
+        (
+            b"5",
+            &[Call::Concatenate(b"5"), Call::Concatenate(b"x")],
+            RunError::Overlap { at: 0 },
+        ),
+        (
+            b"x",
+            &[Call::Concatenate(b"x")],
+            RunError::Start(ParseError::Syntax),
+        ),
+    ];
+    for (start, calls, error) in rows {
+        let mut sink = TextBuf::new(rt.alloc());
+        assert_eq!(rt; run(rt.alloc(), start, calls, &mut sink), Err(error));
         assert!(rt; sink.as_bytes().is_empty() && !sink.failed());
     }
     Ok(())
