@@ -7,7 +7,6 @@ pub mod digits;
 pub mod ops;
 pub mod rounding;
 pub mod sink;
-pub mod uint_iterator;
-
 #[cfg(test)]
 mod tests;
+pub mod uint_iterator;

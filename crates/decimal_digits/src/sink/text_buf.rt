@@ -5,6 +5,9 @@ use super::{Sink, SinkFault};
 use std::alloc::Global;
 use std::marker::Model;
 
+/// The bytes that the first growth makes room for: more than most texts have, so that these take one allocation.
+const FIRST_ROOM: usize = 64;
+
 /// A sink that keeps the bytes in memory. It fails only where its growth is refused.
 ///
 /// Contracts see the bytes and whether the sink has failed. After a number is written to `TextBuf::new(alloc)`,
@@ -49,10 +52,14 @@ impl Sink for TextBuf {
         if self.failed {
             return Err(SinkFault);
         }
-        if self.bytes.push(byte).is_err() {
-            self.failed = true;
-            return Err(SinkFault);
+        if self.bytes.len() == self.bytes.capacity() {
+            let more = self.bytes.len().max(FIRST_ROOM);
+            if self.bytes.reserve(more).is_err() {
+                self.failed = true;
+                return Err(SinkFault);
+            }
         }
+        self.bytes.push_reserved(byte);
         Ok(())
     }
 
