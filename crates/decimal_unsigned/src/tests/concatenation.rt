@@ -3,6 +3,8 @@ use super::*;
 use crate::ConcatenateError;
 
 /// Asserts what two texts give when they are joined, by either call.
+///
+/// Where memory is refused, both come back as they were, and the same call with memory joins them.
 fn assert_joins(
     rt: &impl Abort,
     alloc: Global,
@@ -12,12 +14,23 @@ fn assert_joins(
 ) -> Result<(), Fail> {
     let mut value = read(alloc, front)?;
     match value.concatenate_end(read(alloc, back)?) {
-        Ok(()) => assert_prints(rt, alloc, &value, joined),
-        Err(_) => assert!(rt; false),
+        Ok(()) => (),
+        Err(ConcatenateError::Overlap(_other)) => assert!(rt; false),
+        Err(ConcatenateError::Memory(other)) => {
+            assert_prints(rt, alloc, &value, front);
+            assert_prints(rt, alloc, &other, back);
+            assert!(rt; value.concatenate_end(other).is_ok());
+        }
     }
+    assert_prints(rt, alloc, &value, joined);
     match read(alloc, front)?.concatenated_end(read(alloc, back)?) {
         Ok(value) => assert_prints(rt, alloc, &value, joined),
-        Err(_) => assert!(rt; false),
+        Err(ConcatenateError::Overlap(_both)) => assert!(rt; false),
+        Err(ConcatenateError::Memory((value, other))) => {
+            assert_prints(rt, alloc, &value, front);
+            assert_prints(rt, alloc, &other, back);
+            assert!(rt; value.concatenated_end(other).is_ok());
+        }
     }
     Ok(())
 }

@@ -2,7 +2,7 @@
 ghost use Rattle.std.specs.Prelude.{Some};
 
 use super::*;
-use decimal_digits::sink::{Out, Sink, SinkFault};
+use decimal_digits::sink::{Out, SinkFault};
 use std::io;
 use std::io::{Error, ErrorKind, Write};
 
@@ -75,7 +75,7 @@ fn keeps_a_beginning(rt: HostRuntime) -> Result<(), Fail> {
     let value = read(alloc, text)?;
     for room in 0..text.len() {
         let mut sink = Narrow {
-            taken: Vec::new(alloc),
+            taken: Vec::with_capacity(alloc, room)?,
             room,
             failed: false,
         };
@@ -94,7 +94,7 @@ fn calls_no_full_writer_again(rt: HostRuntime) -> Result<(), Fail> {
     for answer in [Answer::NoBytes, Answer::Fault] {
         for room in 0..text.len() {
             let mut sink = Out::new(Full {
-                taken: Vec::new(alloc),
+                taken: Vec::with_capacity(alloc, room)?,
                 room,
                 refusals: 0,
                 answer,
