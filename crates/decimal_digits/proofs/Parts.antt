@@ -16,7 +16,7 @@ use Rattle.decimal_digits.specs.Tails.{front, TailIs, RoundsTo, HasParts, HasDig
 use Rattle.decimal_digits.proofs.Places.{place_is, magnitude_at-place, gap_is}
 use Rattle.decimal_digits.proofs.Ends.{first_is, last_is, first_zero}
 use Rattle.decimal_digits.proofs.DigitLists.{ten_pos}
-use Rattle.decimal_digits.proofs.NumberAt.{powers, number_at-none, number_at-more, number_at-split, number_at-lt, number_at-ge, number_at-pos}
+use Rattle.decimal_digits.proofs.NumberAt.{powers, number_at-none, number_at-more, number_at-split, number_at-lt, number_at-ge, number_at-pos, number_of-none}
 use Rattle.decimal_digits.proofs.Fronts.{front_none, front_at}
 
 -- ---- before the rounding
@@ -113,3 +113,7 @@ size_is p k m some d low h =
     let below : last (m * weight p) ≡ magnitude_at (place p) = last_is m (place p) d.ends (omega arith) in
     let nonzero : (m * weight p == 0) ≡ false = (let q : 0 < m * weight p = omega (arith, mul-pos (ten_pos (k - 1)) (ten_pos (place p))) in search rules) in
     rw (nonzero, above, below) (omega (arith, ints, gap_is (magnitude_at (place p)) (magnitude_at (k - 1 + place p))))
+
+-- where no digit is left the magnitude is 0
+pub writes-empty : {ds : List ℕ} {m : ℤ} {n : ℕ} → Writes ds m n → length ds ≡ 0 → m ≡ pos 0
+writes-empty {ds} {m} w z = sym w.magnitude_is ∙ ap first (sym w.number ∙ number_of-none ds m z) ∙ first_zero

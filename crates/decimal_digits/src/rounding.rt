@@ -70,6 +70,7 @@ fn split<D: DigitStore>(list: &mut Counted<'_, D>, magnitude: i16, position: i16
     ensures few { result.0 ≤ 65536 }
     ensures below_limit { 0 < result.0 → place position + result.0 ≤ 65536 }
     ensures list { list.new.list.now ≡ list.old.list.now }
+    ensures grows { list.old.steps.now.count ≤ list.new.steps.now.count }
     ensures turns { list.new.steps.now.count ≤ list.old.steps.now.count + 1 }
     ensures same_list { list.new.list.ghost_name ≡ list.old.list.ghost_name }
     ensures same_steps { list.new.steps.ghost_name ≡ list.old.steps.ghost_name }
@@ -141,6 +142,7 @@ pub fn round<D: DigitStore>(
         (rounded_number mode (unit_at increment position) number) D.L) }
     ensures succeeds { increment ≢ RoundingIncrement.MultiplesOf25 → IsOk result }
 
+    ensures grows { list.old.steps.now.count ≤ list.new.steps.now.count }
     ensures turns { list.new.steps.now.count + length (D.digits list.new.list.now)
         ≤ list.old.steps.now.count + length (D.digits list.old.list.now) + 7 }
     ensures same_list { list.new.list.ghost_name ≡ list.old.list.ghost_name }

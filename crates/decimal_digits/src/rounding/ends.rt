@@ -14,6 +14,7 @@ pub fn strip<D: DigitStore>(list: &mut Counted<'_, D>)
     ensures length { length (D.digits list.new.list.now) ≤ length (D.digits list.old.list.now) }
     ensures some { 0 < length (D.digits list.new.list.now) }
     ensures stripped { IsStripped (D.digits list.new.list.now) }
+    ensures grows { list.old.steps.now.count ≤ list.new.steps.now.count }
     ensures turns { list.new.steps.now.count + length (D.digits list.new.list.now)
         ≤ list.old.steps.now.count + length (D.digits list.old.list.now) + 1 }
     ensures same_list { list.new.list.ghost_name ≡ list.old.list.ghost_name }
@@ -41,6 +42,7 @@ pub fn add_one<D: DigitStore>(list: &mut Counted<'_, D>) -> usize
     ensures length { length (D.digits list.new.list.now) ≤ result }
     ensures some { 0 < length (D.digits list.new.list.now) }
     ensures stripped { IsStripped (D.digits list.new.list.now) }
+    ensures grows { list.old.steps.now.count ≤ list.new.steps.now.count }
     ensures turns { list.new.steps.now.count + length (D.digits list.new.list.now)
         ≤ list.old.steps.now.count + length (D.digits list.old.list.now) + 2 }
     ensures same_list { list.new.list.ghost_name ≡ list.old.list.ghost_name }

@@ -19,6 +19,7 @@ pub fn tail_after<D: DigitStore>(list: &mut Counted<'_, D>, keep: usize) -> Tail
         → TailIs result (number_at (top - keep) (drop keep digits)) (10 ^ (top - keep)) }
     ensures exact { (result ≡ Tail.Zero) ↔ (length (D.digits list.old.list.now) ≤ keep) }
     ensures list { list.new.list.now ≡ list.old.list.now }
+    ensures grows { list.old.steps.now.count ≤ list.new.steps.now.count }
     ensures turns { list.new.steps.now.count ≤ list.old.steps.now.count + 1 }
     ensures same_list { list.new.list.ghost_name ≡ list.old.list.ghost_name }
     ensures same_steps { list.new.steps.ghost_name ≡ list.old.steps.ghost_name }
@@ -59,6 +60,7 @@ pub fn round_kept<D: DigitStore>(
     ensures longer { OnErr result ((m : ℕ) × HasDigits keep m
         × RoundsTo mode (step_of increment) tail (front keep (D.digits list.old.list.now)) m) }
     ensures full { OnErr result (D.L ≤ length (D.digits list.old.list.now)) }
+    ensures grows { list.old.steps.now.count ≤ list.new.steps.now.count }
     ensures turns { list.new.steps.now.count + length (D.digits list.new.list.now)
         ≤ list.old.steps.now.count + length (D.digits list.old.list.now) + 6 }
     ensures same_list { list.new.list.ghost_name ≡ list.old.list.ghost_name }

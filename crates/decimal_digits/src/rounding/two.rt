@@ -11,6 +11,7 @@ fn digit_at<D: DigitStore>(list: &mut Counted<'_, D>, index: usize) -> u8
     ensures value { result ≡ slice_index (D.digits list.old.list.now) index }
     ensures is_digit { result < 10 }
     ensures list { list.new.list.now ≡ list.old.list.now }
+    ensures grows { list.old.steps.now.count ≤ list.new.steps.now.count }
     ensures turns { list.new.steps.now.count ≤ list.old.steps.now.count + 1 }
     ensures same_list { list.new.list.ghost_name ≡ list.old.list.ghost_name }
     ensures same_steps { list.new.steps.ghost_name ≡ list.old.steps.ghost_name }
@@ -30,6 +31,7 @@ pub fn two_at<D: DigitStore>(list: &mut Counted<'_, D>, keep: usize) -> u8
     ensures past { length (D.digits list.old.list.now) < keep → result % 10 ≡ 0 }
     ensures none { length (D.digits list.old.list.now) + 2 ≤ keep → result ≡ 0 }
     ensures list { list.new.list.now ≡ list.old.list.now }
+    ensures grows { list.old.steps.now.count ≤ list.new.steps.now.count }
     ensures turns { list.new.steps.now.count ≤ list.old.steps.now.count + 2 }
     ensures same_list { list.new.list.ghost_name ≡ list.old.list.ghost_name }
     ensures same_steps { list.new.steps.ghost_name ≡ list.old.steps.ghost_name }
@@ -60,6 +62,7 @@ fn put_last<D: DigitStore>(
     ensures err { OnErr result (D.digits list.new.list.now ≡ D.digits list.old.list.now) }
     ensures at_end { OnErr result (index ≡ length (D.digits list.old.list.now)) }
     ensures full { OnErr result (D.L ≤ length (D.digits list.old.list.now)) }
+    ensures grows { list.old.steps.now.count ≤ list.new.steps.now.count }
     ensures turns { list.new.steps.now.count ≤ list.old.steps.now.count + 1 }
     ensures same_list { list.new.list.ghost_name ≡ list.old.list.ghost_name }
     ensures same_steps { list.new.steps.ghost_name ≡ list.old.steps.ghost_name }
@@ -97,6 +100,7 @@ pub fn write_two<D: DigitStore>(
     ensures at_end { OnErr result (keep ≡ length (D.digits list.old.list.now) + 1) }
     ensures ones { OnErr result (0 < number % 10) }
     ensures full { OnErr result (D.L ≤ length (D.digits list.old.list.now)) }
+    ensures grows { list.old.steps.now.count ≤ list.new.steps.now.count }
     ensures turns { list.new.steps.now.count ≤ list.old.steps.now.count + 2 }
     ensures same_list { list.new.list.ghost_name ≡ list.old.list.ghost_name }
     ensures same_steps { list.new.steps.ghost_name ≡ list.old.steps.ghost_name }
@@ -117,6 +121,7 @@ pub fn write_all<D: DigitStore>(list: &mut Counted<'_, D>, number: u8) -> usize
     ensures length { length (D.digits list.new.list.now) ≤ result }
     ensures places { result ≤ 3 }
     ensures stripped { IsStripped (D.digits list.new.list.now) }
+    ensures grows { list.old.steps.now.count ≤ list.new.steps.now.count }
     ensures turns { list.new.steps.now.count + length (D.digits list.new.list.now)
         ≤ list.old.steps.now.count + 4 }
     ensures same_list { list.new.list.ghost_name ≡ list.old.list.ghost_name }

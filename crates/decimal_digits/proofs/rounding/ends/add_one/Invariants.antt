@@ -9,6 +9,7 @@ invariant-loop-keep g l =
       same_digits : digits ≡ g.D.DigitStore.digits l.initial.list.list.now;
       within : l.keep ≤ length digits;
       value : number_at (length digits) (take l.keep digits) + 10 ^ (length digits - l.keep) ≡ number_at (length digits) digits + 1;
+      grows : l.initial.list.steps.now.count ≤ l.list.steps.now.count;
       turns : l.list.steps.now.count + l.keep ≤ l.initial.list.steps.now.count + length digits;
       same_list : l.list.list.ghost_name ≡ l.initial.list.list.ghost_name;
       same_steps : l.list.steps.ghost_name ≡ l.initial.list.steps.ghost_name;

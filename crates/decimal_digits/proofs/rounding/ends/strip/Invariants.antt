@@ -10,6 +10,7 @@ invariant-loop-keep g l =
       within : l.keep ≤ length digits;
       some : 0 < l.keep;
       value : number_at (length digits) (take l.keep digits) ≡ number_at (length digits) digits;
+      grows : l.initial.list.steps.now.count ≤ l.list.steps.now.count;
       turns : l.list.steps.now.count + l.keep ≤ l.initial.list.steps.now.count + length digits;
       same_list : l.list.list.ghost_name ≡ l.initial.list.list.ghost_name;
       same_steps : l.list.steps.ghost_name ≡ l.initial.list.steps.ghost_name;
