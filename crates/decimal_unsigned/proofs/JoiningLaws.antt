@@ -15,7 +15,7 @@ use Rattle.decimal_unsigned.specs.JoiningLaws.{join, JoinAlike}
 use Rattle.decimal_unsigned.proofs.Joins.{overlaps_first_zero, overlaps_second_zero, apart, not_overlapping}
 use Rattle.decimal_unsigned.proofs.FirstLast.{Ends, ends, first_of, last_of, first_sum, last_sum, top_lt, parts_sum, parts_apart}
 
-ends_of : (v : Unsigned) → IsValue v → 0 < v.number → Ends v.number
+pub ends_of : (v : Unsigned) → IsValue v → 0 < v.number → Ends v.number
 ends_of v h p = ends (place v.hi + 1) v.number p h.below (omega (arith, ints, place_is v.hi, h.hi_in))
 
 module _ (u v : Unsigned) (p : IsValue u) (q : IsValue v) (f : overlaps u v ≡ false) where

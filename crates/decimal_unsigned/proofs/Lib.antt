@@ -9,6 +9,7 @@ pub mod JoiningLaws
 pub mod Writing
 pub mod Formatting
 pub mod Lengths
+pub mod EditLaws
 pub mod Numerals
 pub mod Laws
 pub mod Middle

@@ -4,6 +4,7 @@ pub mod Rounded
 pub mod Joining
 pub mod JoiningLaws
 pub mod Text
+pub mod EditLaws
 pub mod Grammar
 pub mod Reading
 pub mod Refusal

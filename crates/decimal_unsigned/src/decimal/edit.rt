@@ -1,8 +1,9 @@
 //! Shifts, and edits of the range that is shown.
 ghost use Rattle.std.specs.Prelude.{◌≡◌, ℕ, ◌<◌, ◌≤◌, length, drop, slice_index, pos, ◌+ℤ◌};
 ghost use Rattle.std.specs.Int.{int_gap};
-ghost use Rattle.decimal_unsigned.specs.Unsigned.{zero_value, IsLeastHi, IsGreatestLo};
+ghost use Rattle.decimal_unsigned.specs.Unsigned.{Unsigned, zero_value, IsLeastHi, IsGreatestLo};
 ghost use Rattle.decimal_unsigned.specs.Edits.{shifted, trimmed_start, trimmed_end, trimmed_end_if_integer, padded_start, padded_end, cut};
+ghost use Rattle.decimal_unsigned.specs.EditLaws.{TrimmedAlike, IsShortest, truncated, PartsJoin};
 
 use super::UnsignedOver;
 use decimal_digits::digits::DigitStore;
@@ -51,6 +52,10 @@ impl<D: DigitStore> UnsignedOver<D> {
         ensures value { self.new ≡ trimmed_start self.old }
         // No value of this number shows fewer magnitudes in front.
         ensures least { IsLeastHi self.new }
+        // Another value has this number exactly if both are equal after both trims.
+        ensures alike { (other : Unsigned) → TrimmedAlike self.old other }
+        // Trimmed behind too, the value has the shortest text of its number.
+        ensures shortest { IsShortest (trimmed_end self.new) }
     {
         self.hi = self.magnitude.max(0);
     }
@@ -62,6 +67,10 @@ impl<D: DigitStore> UnsignedOver<D> {
         ensures value { self.new ≡ trimmed_end self.old }
         // No value of this number shows fewer magnitudes behind.
         ensures greatest { IsGreatestLo self.new }
+        // Another value has this number exactly if both are equal after both trims.
+        ensures alike { (other : Unsigned) → TrimmedAlike self.old other }
+        // Trimmed in front too, the value has the shortest text of its number.
+        ensures shortest { IsShortest (trimmed_start self.new) }
     {
         self.lo = self.nonzero_magnitude_end().min(0);
     }
@@ -110,7 +119,9 @@ impl<D: DigitStore> UnsignedOver<D> {
     /// the lowest that was shown stay shown, and magnitude 0 with them. `100.01` at 1 becomes `0.01`, `4235.970` at 5
     /// becomes `04235.970`, and `0` at -2 becomes `0.00`. The original's `set_max_position`.
     pub fn set_max_position(&mut self, position: i16)
-        ensures { self.new ≡ cut self.old position }
+        ensures value { self.new ≡ cut self.old position }
+        // Joined behind what `trunc` keeps at the position, this part gives the number back.
+        ensures parts { PartsJoin self.old position (truncated self.old position) self.new }
     {
         let len = self.digits.len();
         let above = places_from(position, self.magnitude);

@@ -3,7 +3,10 @@ ghost use Rattle.std.specs.Prelude.{◌≡◌, ◌≢◌, ◌+◌, ◌≤◌, po
 ghost use Rattle.std.specs.Int.{int_max};
 ghost use Rattle.decimal_digits.specs.Number.{size};
 ghost use Rattle.decimal_digits.specs.Rounding.{unit_at, rounded_number, WantsMemory};
+ghost use Rattle.decimal_unsigned.specs.Unsigned.{IsValue};
+ghost use Rattle.decimal_unsigned.specs.Edits.{cut};
 ghost use Rattle.decimal_unsigned.specs.Rounded.{IsRounded};
+ghost use Rattle.decimal_unsigned.specs.EditLaws.{PartsJoin};
 
 use super::UnsignedOver;
 use decimal_digits::digits::{Counted, DigitStore, Steps};
@@ -113,7 +116,9 @@ impl<D: DigitStore> UnsignedOver<D> {
     ///
     /// `1234.56` at -1 becomes `1234.5`. The original's `trunc`.
     pub fn trunc(&mut self, position: i16)
-        ensures { IsRounded self.old position UnsignedRoundingMode.Trunc RoundingIncrement.MultiplesOf1 self.new }
+        ensures rounds { IsRounded self.old position UnsignedRoundingMode.Trunc RoundingIncrement.MultiplesOf1 self.new }
+        // Joined in front of what `set_max_position` keeps at the position, this part gives the number back.
+        ensures parts { IsValue self.old → PartsJoin self.old position self.new (cut self.old position) }
     {
         self.round_with_mode(position, UnsignedRoundingMode::Trunc);
     }

@@ -1,9 +1,11 @@
-use Rattle.std.proofs.Common.{sym, ◌∙◌, ap, subst, arith}
+use Rattle.std.proofs.Common.{pos, sym, ◌∙◌, ap, subst, arith}
 use Rattle.std.proofs.lemmas.Int.{ints, clamps}
 use Rattle.decimal_digits.specs.Number.{last, IsLast}
+use Rattle.decimal_digits.specs.Digits.{number_of}
 use Rattle.decimal_unsigned.specs.Unsigned.{Unsigned}
 use Rattle.decimal_unsigned.proofs.Values.{narrow_kept, lower_kept, last_in}
 use Rattle.decimal_unsigned.proofs.Ranges.{last_shown}
+use Rattle.decimal_unsigned.proofs.EditLaws.{trimmed_alike, shortest}
 use Rattle.decimal_unsigned.proofs.decimal.UnsignedOver.trim_end.Goals as goal
 
 pub invariant_of-self : goal.invariant_of-self
@@ -22,3 +24,13 @@ returns-clause-greatest g c = λ w v e.
     let r = narrow_kept {z = c.nonzero_magnitude_end.result} c.nonzero_magnitude_end.type_inv in
     rw (narrow_kept {z = c.min-self-inside.result} c.min-self-inside.type_inv, c.min-self-inside.ensures.value, r)
     (last_shown w _ v (subst (λ n. IsLast n c.nonzero_magnitude_end.result) (sym number) c.nonzero_magnitude_end.ensures.defined) (omega (arith, ints, r)))
+
+pub returns-clause-alike : goal.returns-clause-alike
+returns-clause-alike g c = trimmed_alike c.args.self.now
+
+pub returns-clause-shortest : goal.returns-clause-shortest
+returns-clause-shortest g c =
+    let e = c.nonzero_magnitude_end.ensures.value ∙ sym (ap (λ (v : Unsigned). last v.number) c.self.view_is) in
+    let r = narrow_kept {z = c.nonzero_magnitude_end.result} c.nonzero_magnitude_end.type_inv in
+    rw (narrow_kept {z = c.min-self-inside.result} c.min-self-inside.type_inv, c.min-self-inside.ensures.value, r, e)
+    (shortest (record { number = number_of (g.D.DigitStore.digits c.self.inside.digits) c.self.inside.magnitude; hi = pos 0; lo = pos 0 }))

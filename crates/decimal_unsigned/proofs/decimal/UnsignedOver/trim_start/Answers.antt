@@ -2,14 +2,20 @@ use Rattle.std.proofs.Common.{pos, sym, ◌∙◌, ap, subst}
 use Rattle.std.specs.Int.{int_max}
 use Rattle.decimal_digits.specs.Number.{IsFirst}
 use Rattle.decimal_unsigned.proofs.Values.{first_of, narrow_kept, magnitude_kept, lowest}
+use Rattle.decimal_unsigned.specs.Edits.{trimmed_end}
+use Rattle.decimal_unsigned.specs.EditLaws.{IsShortest}
 use Rattle.decimal_unsigned.proofs.Ranges.{is_first, first_shown, trimmed_start_is}
+use Rattle.decimal_unsigned.proofs.EditLaws.{trimmed_alike, shortest}
 use Rattle.decimal_unsigned.proofs.decimal.UnsignedOver.trim_start.Goals as goal
 
 pub returns : goal.returns
 returns g c =
     let t = c.self.invariant in
     let upper = narrow_kept c.max-self-inside.type_inv ∙ c.max-self-inside.ensures.value ∙ ap (λ x. int_max x (pos 0)) (magnitude_kept t) in
+    let value = trimmed_start_is _ c.self.view_is (first_of t) upper in
     record {
-      value = trimmed_start_is _ c.self.view_is (first_of t) upper;
+      value = value;
       least = λ w v e. rw upper (first_shown w c.self.inside.magnitude v (subst (λ n. IsFirst n c.self.inside.magnitude) (sym e) (is_first t)) (lowest t));
+      alike = trimmed_alike c.args.self.now;
+      shortest = subst (λ v. IsShortest (trimmed_end v)) (sym value) (shortest c.args.self.now);
     }

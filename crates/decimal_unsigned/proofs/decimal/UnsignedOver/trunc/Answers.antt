@@ -1,5 +1,16 @@
+use Rattle.std.proofs.Common.{sym, subst}
 use Rattle.std.proofs.lemmas.Int.{to_z-of_z}
+use Rattle.decimal_unsigned.specs.Edits.{cut}
+use Rattle.decimal_unsigned.specs.EditLaws.{PartsJoin}
+use Rattle.decimal_unsigned.proofs.EditLaws.{parts}
 use Rattle.decimal_unsigned.proofs.decimal.UnsignedOver.trunc.Goals as goal
 
 pub returns : goal.returns
-returns g c = let p = c.ranges.position in simp to_z-of_z at c.round_with_mode.ensures
+returns g c =
+    let p = c.ranges.position in
+    let v = c.args.self.now in
+    let rounds = simp to_z-of_z at c.round_with_mode.ensures in
+    record {
+      rounds = rounds;
+      parts = λ valid. subst (λ t. PartsJoin v c.args.position t (cut v c.args.position)) (sym rounds.value) (parts v c.args.position valid);
+    }

@@ -1,0 +1,98 @@
+-- Laws of trims, and of the parts of a value at a position.
+use Rattle.std.proofs.Common.{◌≡◌, ℕ, ◌+◌, ◌-◌, ◌*◌, ◌%◌, ◌^◌, ◌<◌, ◌≤◌, ◌⊎◌, nat_le, false, length, refl, sym, ◌∙◌, ap, subst, arith, inl, inr}
+use Rattle.std.specs.Prelude.{ℤ, pos, ◌≤ℤ◌, ◌<ℤ◌}
+use Rattle.std.specs.Int.{int_max, int_min}
+use Rattle.std.proofs.Math.Nat.{pow-le-pow_right}
+use Rattle.std.proofs.lemmas.Int.{ints, clamps, by_lt_z}
+use Rattle.std.proofs.lemmas.Bool.{cases_lt}
+use Rattle.std.proofs.lemmas.Bool.Decides.{nat_tests}
+use Rattle.decimal_digits.specs.Number.{place, weight, first, last}
+use Rattle.decimal_digits.specs.Rounding.{unit_at, rounded_number}
+use Rattle.decimal_digits.specs.declared.rounding.RoundingIncrement.TheVariants.{MultiplesOf1}
+use Rattle.decimal_digits.specs.declared.rounding.UnsignedRoundingMode.TheVariants.{Trunc}
+use Rattle.decimal_digits.proofs.Ends.{first_zero, last_zero, no_more_zeros}
+use Rattle.decimal_digits.proofs.Places.{place_is, gap_is}
+use Rattle.decimal_unsigned.specs.Unsigned.{Unsigned, IsValue}
+use Rattle.decimal_unsigned.specs.Edits.{cut}
+use Rattle.decimal_unsigned.specs.Rounded.{with_number}
+use Rattle.decimal_unsigned.specs.Text.{text}
+use Rattle.decimal_unsigned.specs.EditLaws.{trimmed, TrimmedAlike, IsShortest, truncated, PartsJoin}
+use Rattle.decimal_unsigned.proofs.FirstLast.{first_of, last_of, top_lt}
+use Rattle.decimal_unsigned.proofs.JoiningLaws.{ends_of, parts_join, parts_number, parts_value}
+use Rattle.decimal_unsigned.proofs.Lengths.{length-text_whole, length-text_dotted}
+
+-- ---- Trims.
+
+-- what stands after both trims, by the number alone
+bare : ℕ → Unsigned
+bare n = record { number = n; hi = int_max (first n) (pos 0); lo = int_min (last n) (pos 0) }
+
+pub trimmed_alike : (v w : Unsigned) → TrimmedAlike v w
+unfolding bare
+trimmed_alike v w = (λ e. ap bare e, λ e. ap (λ (x : Unsigned). x.number) e)
+
+module _ (w : Unsigned) (valid : IsValue w) where
+  -- a value shows its first digit and its last one
+  first_in : first w.number ≤ℤ w.hi
+  first_in = elim (cases_lt 0 w.number) [
+    | inl some ↦ let e = ends_of w valid some in omega (arith, ints, first_of e, top_lt e (place w.hi + 1) valid.below, place_is w.hi, valid.hi_in)
+    | inr none ↦ let z : first w.number ≡ pos 0 = ap first (let y : w.number ≡ 0 = omega arith in y) ∙ first_zero in omega (arith, ints, z, valid.hi_in)
+  ]
+
+  last_in : w.lo ≤ℤ last w.number
+  last_in = elim (cases_lt 0 w.number) [
+    | inl some ↦
+        let e = ends_of w valid some in
+        elim (cases_lt e.bottom (place w.lo)) [
+          | inl h ↦ absurd (no_more_zeros e.factor e.bottom (place w.lo) e.odd h (ap (λ n. n % weight w.lo) (sym e.is) ∙ valid.whole))
+          | inr h ↦ omega (arith, ints, last_of e, h, place_is w.lo, valid.lo_in)
+        ]
+    | inr none ↦ let z : last w.number ≡ pos 0 = ap last (let y : w.number ≡ 0 = omega arith in y) ∙ last_zero in omega (arith, ints, z, valid.lo_in)
+  ]
+
+-- a range that lies in another has no longer text
+shorter : (v w : Unsigned) → pos 0 ≤ℤ v.hi → v.lo ≤ℤ pos 0 → v.hi ≤ℤ w.hi → w.lo ≤ℤ v.lo → length (text v) ≤ length (text w)
+shorter v w h l up down = elim (by_dot v l) [
+  | inl whole ↦ elim (by_dot w (omega (arith, ints))) [
+    | inl k ↦ omega (arith, ints, length-text_whole v h whole, length-text_whole w (omega (arith, ints)) k, gap_is v.lo v.hi, gap_is w.lo w.hi)
+    | inr k ↦ omega (arith, ints, length-text_whole v h whole, length-text_dotted w (omega (arith, ints)) k, gap_is v.lo v.hi, gap_is w.lo w.hi)
+  ]
+  | inr dotted ↦ omega (arith, ints, length-text_dotted v h dotted, length-text_dotted w (omega (arith, ints)) (omega (arith, ints)), gap_is v.lo v.hi, gap_is w.lo w.hi)
+]
+  where
+    by_dot : (x : Unsigned) → x.lo ≤ℤ pos 0 → (x.lo ≡ pos 0) ⊎ (x.lo <ℤ pos 0)
+    by_dot x l = by_lt_z x.lo (pos 0) (λ k. inr k) (λ k. inl (omega (arith, ints)))
+
+pub shortest : (v : Unsigned) → IsShortest (trimmed v)
+shortest v w valid e =
+    let f : first v.number ≤ℤ w.hi = subst (λ n. first n ≤ℤ w.hi) e (first_in w valid) in
+    let l : w.lo ≤ℤ last v.number = subst (λ n. w.lo ≤ℤ last n) e (last_in w valid) in
+    shorter (trimmed v) w (omega (arith, ints, clamps)) (omega (arith, ints, clamps)) (omega (arith, ints, clamps, valid.hi_in)) (omega (arith, ints, clamps, valid.lo_in))
+
+-- ---- The parts of a value at a position.
+module _ (v : Unsigned) (p : ℤ) (valid : IsValue v) where
+  below_limit : v.number < weight (pos 32768)
+  below_limit =
+      let k : place v.hi + 1 ≤ place (pos 32768) = omega (arith, ints, place_is v.hi, place_is (pos 32768), valid.hi_in) in
+      let m : 10 ^ (place v.hi + 1) ≤ weight (pos 32768) = pow-le-pow_right (omega arith) k in
+      omega (arith, valid.below, m)
+
+  -- the number without its part below the position
+  kept_number : rounded_number Trunc (unit_at MultiplesOf1 p) v.number ≡ v.number - v.number % weight p
+  unfolding rounded_number
+  kept_number = ap (λ u. v.number - v.number % u) (let e : 1 * weight p ≡ weight p = omega arith in e)
+
+  truncated_is : truncated v p ≡ with_number v p (v.number - v.number % weight p)
+  truncated_is =
+      let small : nat_le (weight (pos 32768)) (v.number - v.number % weight p) ≡ false = not_le _ _ (omega (arith, below_limit)) in
+      rw (kept_number, small) refl
+    where
+      not_le : (a b : ℕ) → b < a → nat_le a b ≡ false
+      not_le a b h = grind (arith, nat_tests, h)
+
+  pub parts : PartsJoin v p (truncated v p) (cut v p)
+  parts = subst (λ t. PartsJoin v p t (cut v p)) (sym truncated_is) (record {
+    apart = parts_join v (with_number v p (v.number - v.number % weight p)) p valid refl;
+    number = parts_number v (with_number v p (v.number - v.number % weight p)) p valid refl;
+    value = parts_value v (with_number v p (v.number - v.number % weight p)) p valid refl refl refl;
+  })
