@@ -5,6 +5,11 @@ ghost use Rattle.decimal_digits.specs.Integer.{ascending_digits};
 
 use std::marker::Model;
 
+/// The number of decimal digits of the greatest `u128`.
+///
+/// Not in the original.
+pub const MAX_DIGITS: usize = 39;
+
 /// An unsigned integer type: `u8` to `u128`, and `usize`.
 ///
 /// Not in the original, which writes its iterator once for each type.
@@ -39,13 +44,13 @@ impl<T: UnsignedInteger> Model for IntIterator<T> {
 }
 
 impl<T: UnsignedInteger> IntIterator<T> {
-    /// Makes the iterator over the digits of an integer, at most 39.
+    /// Makes the iterator over the digits of an integer, at most `MAX_DIGITS`.
     ///
     /// Requires an integer below 2 to the power 128, as those of each type are. The original's `From`.
     pub fn new(integer: T) -> Self
         requires { T.number integer < 2 ^ 128 }
         ensures digits { result ≡ ascending_digits (T.number integer) }
-        ensures few { length result ≤ 39 }
+        ensures few { length result ≤ MAX_DIGITS }
     {
         IntIterator { rest: integer }
     }

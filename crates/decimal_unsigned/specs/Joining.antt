@@ -6,7 +6,7 @@ use Rattle.decimal_unsigned.specs.Unsigned.{Unsigned}
 use Rattle.decimal_unsigned.specs.declared.error.ConcatenateError.{ConcatenateError}
 use Rattle.decimal_unsigned.specs.declared.error.ConcatenateError.TheVariants.{Overlap, Memory}
 
--- neither number is 0, and the second begins at or above the last digit of the first
+-- neither number is 0, and the second begins at or above the last digit of the first that is not 0
 unfoldable pub overlaps : Unsigned → Unsigned → Bool
 overlaps v w = nat_lt 0 v.number && nat_lt 0 w.number && int_le (last v.number) (first w.number)
 

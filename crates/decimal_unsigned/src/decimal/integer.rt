@@ -6,11 +6,11 @@ ghost use Rattle.decimal_unsigned.specs.Unsigned.{integer_value, one_value};
 
 use super::UnsignedOver;
 use decimal_digits::digits::DigitStore;
-use decimal_digits::uint_iterator::{IntIterator, UnsignedInteger};
+use decimal_digits::uint_iterator::{IntIterator, MAX_DIGITS, UnsignedInteger};
 use std::alloc::{AllocError, Global};
 
 /// Writes the digits of an integer, to the end of the places: gives the index of the first one.
-fn write_digits<T: UnsignedInteger>(integer: T, places: &mut [u8; 39]) -> usize
+fn write_digits<T: UnsignedInteger>(integer: T, places: &mut [u8; MAX_DIGITS]) -> usize
     requires { T.number integer < 2 ^ 128 }
     ensures within { result ≤ length places.old }
     ensures digits { drop result places.new ≡ digits_of 10 (T.number integer) }
@@ -116,7 +116,7 @@ impl<D: DigitStore> UnsignedOver<D> {
         ensures succeeds { size (integer_value (T.number integer)).number ≤ D.L → IsOk result }
         ensures short { length (digits_of 10 (T.number integer)) ≤ D.L → IsOk result }
     {
-        let mut places = [0; 39];
+        let mut places = [0; MAX_DIGITS];
         let start = write_digits(integer, &mut places);
         Self::from_digits(alloc, &places[start..])
     }
@@ -125,7 +125,7 @@ impl<D: DigitStore> UnsignedOver<D> {
     fn from_digits(alloc: Global, digits: &[u8]) -> Result<Self, AllocError>
         requires digits { All (λ d. d < 10) digits.now }
         requires front { 0 < length digits.now → 0 < slice_index digits.now 0 }
-        requires few { length digits.now ≤ 39 }
+        requires few { length digits.now ≤ MAX_DIGITS }
         ensures value { IfOk result (λ v. v ≡ integer_value (number_from_digits 10 digits.now)) }
         ensures succeeds { size (integer_value (number_from_digits 10 digits.now)).number ≤ D.L → IsOk result }
         ensures short { length digits.now ≤ D.L → IsOk result }
