@@ -10,6 +10,7 @@ mod edits;
 mod integers;
 mod printing;
 mod reading;
+mod rounding;
 
 /// The value that a text writes.
 fn read(alloc: Global, text: &[u8]) -> Result<UnsignedDecimal, Fail> {
