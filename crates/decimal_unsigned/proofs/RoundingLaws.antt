@@ -1,8 +1,7 @@
 -- Laws of rounding, on values.
-use Rattle.std.proofs.Common.{◌≡◌, ℕ, ◌+◌, ◌-◌, ◌*◌, ◌^◌, ◌<◌, ◌≤◌, ◌⊎◌, nat_le, true, false, refl, sym, ◌∙◌, ap, subst, arith, inl, inr}
+use Rattle.std.proofs.Common.{◌≡◌, ℕ, ◌+◌, ◌-◌, ◌*◌, ◌^◌, ◌<◌, ◌≤◌, nat_le, true, false, refl, sym, ◌∙◌, ap, subst, arith, inl, inr}
 use Rattle.std.specs.Prelude.{ℤ, pos, negsuc, ◌-ℤ◌, ◌≤ℤ◌}
 use Rattle.std.specs.Int.{int_max, int_min}
-use Rattle.std.proofs.Math.Nat.{pow-le-pow_right}
 use Rattle.std.proofs.lemmas.Int.{ints, clamps, by_lt_z}
 use Rattle.std.proofs.lemmas.Nat.{pow-add}
 use Rattle.std.proofs.lemmas.Bool.{cases_lt}
@@ -19,7 +18,7 @@ use Rattle.decimal_digits.proofs.Places.{place_is, place_le}
 use Rattle.decimal_digits.proofs.RoundingLaws.{rounded_number-again, rounded_number-zero, rounded_number-finer, rounded_number-monotone, trunc-coarser, expand-coarser, trunc_le, expand-le-coarser}
 use Rattle.decimal_digits.proofs.Tails.{unit_pos}
 use Rattle.decimal_unsigned.specs.Unsigned.{Unsigned, IsValue}
-use Rattle.decimal_unsigned.specs.Rounded.{reaches_limit, rounded}
+use Rattle.decimal_unsigned.specs.Rounded.{rounded}
 use Rattle.decimal_unsigned.specs.EditLaws.{truncated, expanded, TruncatedAgain, ExpandedAgain, RoundsInOrder}
 use Rattle.decimal_unsigned.proofs.EditLaws.{below_limit}
 use Rattle.decimal_unsigned.proofs.FirstLast.{ends, first_of, top_lt}

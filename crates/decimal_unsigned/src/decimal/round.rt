@@ -56,6 +56,7 @@ impl<D: DigitStore> UnsignedOver<D> {
 
         // The same rounding once more changes nothing, range included.
         ensures again { OnOk result (rounded self.new position mode increment ≡ self.new) }
+        // The greater of two numbers, where it stays below the limit, is rounded to no less than the other.
         ensures ordered { (v w : Unsigned) → RoundsInOrder v w position mode increment }
 
         ensures turns { steps.new.count + size self.new.number ≤ steps.old.count + size self.old.number + 16 }
@@ -114,6 +115,7 @@ impl<D: DigitStore> UnsignedOver<D> {
     pub fn expand(&mut self, position: i16)
         ensures rounds { IsRounded self.old position UnsignedRoundingMode.Expand
             RoundingIncrement.MultiplesOf1 self.new }
+        // Expanded once more, it has the number that the old value gets at the higher position.
         ensures again { ExpandedAgain self.old position self.new }
     {
         self.round_with_mode(position, UnsignedRoundingMode::Expand);
@@ -128,6 +130,8 @@ impl<D: DigitStore> UnsignedOver<D> {
         // Joined in front of what `set_max_position` keeps at the position, this part gives the number back.
         ensures parts { IsValue self.old
             → PartsJoin self.old position self.new (cut self.old position) }
+        // Truncated once more, it has the number that the old value gets at the higher position, and the range too where
+        // the second position is that one.
         ensures again { IsValue self.old → TruncatedAgain self.old position self.new }
     {
         self.round_with_mode(position, UnsignedRoundingMode::Trunc);

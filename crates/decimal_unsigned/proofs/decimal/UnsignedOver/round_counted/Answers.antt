@@ -15,7 +15,7 @@ use Rattle.decimal_unsigned.specs.Unsigned.{Unsigned}
 use Rattle.decimal_unsigned.specs.Rounded.{rounded}
 use Rattle.decimal_unsigned.proofs.Values.{size-number_of, narrow_kept, magnitude_kept, hi_kept}
 use Rattle.decimal_unsigned.proofs.Roundings.{Left, left_of, trimmed_left, rounded_left, number_again, size_again}
-use Rattle.decimal_unsigned.proofs.RoundingLaws.{rounded_again, rounds_in_order}
+use Rattle.decimal_unsigned.proofs.RoundingLaws.{rounded_again}
 use Rattle.decimal_unsigned.proofs.decimal.UnsignedOver.round_counted.Goals as goal
 
 -- the digits that the rounding left
