@@ -71,7 +71,7 @@ shortest v w valid e =
 
 -- ---- The parts of a value at a position.
 module _ (v : Unsigned) (p : ℤ) (valid : IsValue v) where
-  below_limit : v.number < weight (pos 32768)
+  pub below_limit : v.number < weight (pos 32768)
   below_limit =
       let k : place v.hi + 1 ≤ place (pos 32768) = omega (arith, ints, place_is v.hi, place_is (pos 32768), valid.hi_in) in
       let m : 10 ^ (place v.hi + 1) ≤ weight (pos 32768) = pow-le-pow_right (omega arith) k in

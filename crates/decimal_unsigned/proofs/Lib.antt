@@ -20,3 +20,4 @@ pub mod Held
 pub mod Headline
 pub mod ReadBack
 pub mod Roundings
+pub mod RoundingLaws

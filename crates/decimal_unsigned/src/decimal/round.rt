@@ -3,10 +3,10 @@ ghost use Rattle.std.specs.Prelude.{◌≡◌, ◌≢◌, ◌+◌, ◌≤◌, po
 ghost use Rattle.std.specs.Int.{int_max};
 ghost use Rattle.decimal_digits.specs.Number.{size};
 ghost use Rattle.decimal_digits.specs.Rounding.{unit_at, rounded_number, WantsMemory};
-ghost use Rattle.decimal_unsigned.specs.Unsigned.{IsValue};
+ghost use Rattle.decimal_unsigned.specs.Unsigned.{Unsigned, IsValue};
 ghost use Rattle.decimal_unsigned.specs.Edits.{cut};
-ghost use Rattle.decimal_unsigned.specs.Rounded.{IsRounded};
-ghost use Rattle.decimal_unsigned.specs.EditLaws.{PartsJoin};
+ghost use Rattle.decimal_unsigned.specs.Rounded.{IsRounded, rounded};
+ghost use Rattle.decimal_unsigned.specs.EditLaws.{PartsJoin, TruncatedAgain, ExpandedAgain, RoundsInOrder};
 
 use super::UnsignedOver;
 use decimal_digits::digits::{Counted, DigitStore, Steps};
@@ -39,6 +39,7 @@ impl<D: DigitStore> UnsignedOver<D> {
     /// Each read and each write of a digit is a turn; beyond sixteen, a rounding pays only for digits that vanish.
     /// Err: memory was refused for one digit more, which only `MultiplesOf25` may need, and only where the number has
     /// at least `L` digits. The value then stays as it was. Not in the original, which counts nothing.
+    #[tactic(auto, using(crate::proofs::RoundingLaws::rounds_in_order))]
     pub fn round_counted(
         &mut self,
         position: i16,
@@ -52,6 +53,11 @@ impl<D: DigitStore> UnsignedOver<D> {
         ensures memory { OnErr result (WantsMemory increment (size self.old.number)
             (rounded_number mode (unit_at increment position) self.old.number) D.L) }
         ensures succeeds { increment ≢ RoundingIncrement.MultiplesOf25 → IsOk result }
+
+        // The same rounding once more changes nothing, range included.
+        ensures again { OnOk result (rounded self.new position mode increment ≡ self.new) }
+        // The greater of two numbers, where it stays below the limit, is rounded to no less than the other.
+        ensures ordered { (v w : Unsigned) → RoundsInOrder v w position mode increment }
 
         ensures turns { steps.new.count + size self.new.number ≤ steps.old.count + size self.old.number + 16 }
     {
@@ -107,7 +113,10 @@ impl<D: DigitStore> UnsignedOver<D> {
     ///
     /// `99.999` at 4 becomes `10000`. The original's `expand`.
     pub fn expand(&mut self, position: i16)
-        ensures { IsRounded self.old position UnsignedRoundingMode.Expand RoundingIncrement.MultiplesOf1 self.new }
+        ensures rounds { IsRounded self.old position UnsignedRoundingMode.Expand
+            RoundingIncrement.MultiplesOf1 self.new }
+        // Expanded once more, it has the number that the old value gets at the higher position.
+        ensures again { ExpandedAgain self.old position self.new }
     {
         self.round_with_mode(position, UnsignedRoundingMode::Expand);
     }
@@ -116,9 +125,14 @@ impl<D: DigitStore> UnsignedOver<D> {
     ///
     /// `1234.56` at -1 becomes `1234.5`. The original's `trunc`.
     pub fn trunc(&mut self, position: i16)
-        ensures rounds { IsRounded self.old position UnsignedRoundingMode.Trunc RoundingIncrement.MultiplesOf1 self.new }
+        ensures rounds { IsRounded self.old position UnsignedRoundingMode.Trunc
+            RoundingIncrement.MultiplesOf1 self.new }
         // Joined in front of what `set_max_position` keeps at the position, this part gives the number back.
-        ensures parts { IsValue self.old → PartsJoin self.old position self.new (cut self.old position) }
+        ensures parts { IsValue self.old
+            → PartsJoin self.old position self.new (cut self.old position) }
+        // Truncated once more, it has the number that the old value gets at the higher position, and the range too where
+        // the second position is that one.
+        ensures again { IsValue self.old → TruncatedAgain self.old position self.new }
     {
         self.round_with_mode(position, UnsignedRoundingMode::Trunc);
     }

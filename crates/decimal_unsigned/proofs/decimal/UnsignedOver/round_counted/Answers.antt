@@ -15,6 +15,7 @@ use Rattle.decimal_unsigned.specs.Unsigned.{Unsigned}
 use Rattle.decimal_unsigned.specs.Rounded.{rounded}
 use Rattle.decimal_unsigned.proofs.Values.{size-number_of, narrow_kept, magnitude_kept, hi_kept}
 use Rattle.decimal_unsigned.proofs.Roundings.{Left, left_of, trimmed_left, rounded_left, number_again, size_again}
+use Rattle.decimal_unsigned.proofs.RoundingLaws.{rounded_again}
 use Rattle.decimal_unsigned.proofs.decimal.UnsignedOver.round_counted.Goals as goal
 
 -- the digits that the rounding left
@@ -75,6 +76,9 @@ returns-clause-rounds g c =
       value = value g c;
       named = (rounded_number c.args.mode u c.args.self.now.number, rounded_number-named c.args.mode u _ (unit_pos c.args.increment c.args.position), value g c);
     }
+
+pub returns-clause-again : goal.returns-clause-again
+returns-clause-again g c = subst (λ v. rounded v c.args.position c.args.mode c.args.increment ≡ v) (sym (value g c)) (rounded_again c.args.self.now c.args.position c.args.mode c.args.increment)
 
 pub returns-clause-turns : goal.returns-clause-turns
 returns-clause-turns g c =

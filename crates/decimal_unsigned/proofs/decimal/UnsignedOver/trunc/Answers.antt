@@ -1,8 +1,9 @@
-use Rattle.std.proofs.Common.{sym, subst}
-use Rattle.std.proofs.lemmas.Int.{to_z-of_z}
+use Rattle.std.proofs.Common.{sym, subst, arith}
+use Rattle.std.proofs.lemmas.Int.{ints, to_z-of_z}
 use Rattle.decimal_unsigned.specs.Edits.{cut}
-use Rattle.decimal_unsigned.specs.EditLaws.{PartsJoin}
+use Rattle.decimal_unsigned.specs.EditLaws.{PartsJoin, TruncatedAgain}
 use Rattle.decimal_unsigned.proofs.EditLaws.{parts}
+use Rattle.decimal_unsigned.proofs.RoundingLaws.{truncated_again}
 use Rattle.decimal_unsigned.proofs.decimal.UnsignedOver.trunc.Goals as goal
 
 pub returns : goal.returns
@@ -13,4 +14,5 @@ returns g c =
     record {
       rounds = rounds;
       parts = λ valid. subst (λ t. PartsJoin v c.args.position t (cut v c.args.position)) (sym rounds.value) (parts v c.args.position valid);
+      again = λ valid. subst (TruncatedAgain v c.args.position) (sym rounds.value) (truncated_again v c.args.position (omega (arith, ints)) valid);
     }
