@@ -5,7 +5,7 @@ use Rattle.decimal_digits.specs.Number.{weight, first}
 use Rattle.decimal_digits.specs.Rounding.{unit_at, Named, rounded_number}
 use Rattle.decimal_digits.specs.declared.rounding.RoundingIncrement.{RoundingIncrement}
 use Rattle.decimal_digits.specs.declared.rounding.UnsignedRoundingMode.{UnsignedRoundingMode}
-use Rattle.decimal_unsigned.specs.Unsigned.{Unsigned}
+use Rattle.decimal_unsigned.specs.Unsigned.{Unsigned, IsValue}
 
 -- the number is 10 to the 32768 or more
 abbrev pub reaches_limit : ℕ → Bool
@@ -27,7 +27,9 @@ rounded v position mode increment = rounded_to v position (rounded_number mode (
 abbrev pub NamesRounded : Unsigned → ℤ → UnsignedRoundingMode → RoundingIncrement → Unsigned → Type 0
 NamesRounded old position mode increment new = (m : ℕ) × Named mode (unit_at increment position) old.number m × (new ≡ rounded_to old position m)
 
--- the new value is the old one rounded: by the remainder of its number, and to the multiple that the mode names
+-- the new value is the old one, which lies in the limits, rounded: by the remainder of its number, and to the multiple
+-- that the mode names
 pub record IsRounded (old : Unsigned) (position : ℤ) (mode : UnsignedRoundingMode) (increment : RoundingIncrement) (new : Unsigned) : Type 0 where
+  pub valid : IsValue old
   pub value : new ≡ rounded old position mode increment
   pub named : NamesRounded old position mode increment new

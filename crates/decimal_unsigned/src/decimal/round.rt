@@ -3,7 +3,7 @@ ghost use Rattle.std.specs.Prelude.{◌≡◌, ◌≢◌, ◌+◌, ◌≤◌, po
 ghost use Rattle.std.specs.Int.{int_max};
 ghost use Rattle.decimal_digits.specs.Number.{size};
 ghost use Rattle.decimal_digits.specs.Rounding.{unit_at, rounded_number, WantsMemory};
-ghost use Rattle.decimal_unsigned.specs.Unsigned.{Unsigned, IsValue};
+ghost use Rattle.decimal_unsigned.specs.Unsigned.{Unsigned};
 ghost use Rattle.decimal_unsigned.specs.Edits.{cut};
 ghost use Rattle.decimal_unsigned.specs.Rounded.{IsRounded, rounded};
 ghost use Rattle.decimal_unsigned.specs.EditLaws.{PartsJoin, TruncatedAgain, ExpandedAgain, RoundsInOrder};
@@ -128,11 +128,10 @@ impl<D: DigitStore> UnsignedOver<D> {
         ensures rounds { IsRounded self.old position UnsignedRoundingMode.Trunc
             RoundingIncrement.MultiplesOf1 self.new }
         // Joined in front of what `set_max_position` keeps at the position, this part gives the number back.
-        ensures parts { IsValue self.old
-            → PartsJoin self.old position self.new (cut self.old position) }
+        ensures parts { PartsJoin self.old position self.new (cut self.old position) }
         // Truncated once more, it has the number that the old value gets at the higher position, and the range too where
         // the second position is that one.
-        ensures again { IsValue self.old → TruncatedAgain self.old position self.new }
+        ensures again { TruncatedAgain self.old position self.new }
     {
         self.round_with_mode(position, UnsignedRoundingMode::Trunc);
     }

@@ -15,6 +15,7 @@ use Rattle.decimal_unsigned.specs.Unsigned.{Unsigned}
 use Rattle.decimal_unsigned.specs.Rounded.{rounded}
 use Rattle.decimal_unsigned.proofs.Values.{size-number_of, narrow_kept, magnitude_kept, hi_kept}
 use Rattle.decimal_unsigned.proofs.Roundings.{Left, left_of, trimmed_left, rounded_left, number_again, size_again}
+use Rattle.decimal_unsigned.proofs.Shown.{value_of_view}
 use Rattle.decimal_unsigned.proofs.RoundingLaws.{rounded_again}
 use Rattle.decimal_unsigned.proofs.decimal.UnsignedOver.round_counted.Goals as goal
 
@@ -73,6 +74,7 @@ pub returns-clause-rounds : goal.returns-clause-rounds
 returns-clause-rounds g c =
     let u = unit_at c.args.increment c.args.position in
     record {
+      valid = value_of_view c.self.invariant c.self.view_is;
       value = value g c;
       named = (rounded_number c.args.mode u c.args.self.now.number, rounded_number-named c.args.mode u _ (unit_pos c.args.increment c.args.position), value g c);
     }

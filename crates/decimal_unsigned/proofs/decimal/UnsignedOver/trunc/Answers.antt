@@ -13,6 +13,6 @@ returns g c =
     let rounds = simp to_z-of_z at c.round_with_mode.ensures in
     record {
       rounds = rounds;
-      parts = λ valid. subst (λ t. PartsJoin v c.args.position t (cut v c.args.position)) (sym rounds.value) (parts v c.args.position valid);
-      again = λ valid. subst (TruncatedAgain v c.args.position) (sym rounds.value) (truncated_again v c.args.position (omega (arith, ints)) valid);
+      parts = subst (λ t. PartsJoin v c.args.position t (cut v c.args.position)) (sym rounds.value) (parts v c.args.position rounds.valid);
+      again = subst (TruncatedAgain v c.args.position) (sym rounds.value) (truncated_again v c.args.position (omega (arith, ints)) rounds.valid);
     }
