@@ -150,7 +150,7 @@ module _ (v : Unsigned) (p : ℤ) (low : negsuc 32767 ≤ℤ p) where
         let f : first m ≤ℤ v.hi = first_le m v.hi (omega (arith, small, valid.below)) valid.hi_in.0 valid.hi_in.1 in
         let n : kept (rounded_number Trunc (unit_at MultiplesOf1 q) m) ≡ kept (rounded_number Trunc (unit_at MultiplesOf1 q) v.number) = twice_up Trunc v.number absorbs p q low h in
         let hi : int_max (int_max (int_max (int_max v.hi (p -ℤ pos 1)) (first m)) (q -ℤ pos 1)) (first (kept (rounded_number Trunc (unit_at MultiplesOf1 q) m))) ≡ int_max (int_max v.hi (q -ℤ pos 1)) (first (kept (rounded_number Trunc (unit_at MultiplesOf1 q) v.number))) =
-            ap (λ k. int_max (int_max (int_max (int_max v.hi (p -ℤ pos 1)) (first m)) (q -ℤ pos 1)) (first k)) n ∙ (omega (arith, ints, clamps, f, h)) in
+        ap (λ k. int_max (int_max (int_max (int_max v.hi (p -ℤ pos 1)) (first m)) (q -ℤ pos 1)) (first k)) n ∙ (omega (arith, ints, clamps, f, h)) in
         λ i. record { number = n i; hi = hi i; lo = int_min q (pos 0) }
 
     pub truncated_again : TruncatedAgain v p (truncated v p)
