@@ -19,3 +19,4 @@ pub mod Held
 pub mod Headline
 pub mod ReadBack
 pub mod Roundings
+pub mod Plain
