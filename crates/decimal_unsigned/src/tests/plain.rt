@@ -2,7 +2,7 @@
 //!
 //! Each contract here is a definition of `specs/`, at a number in 64 bits. The rows show what each definition says, and
 //! that the library's own calls say the same.
-ghost use Rattle.std.specs.Prelude.{◌≡◌, ℕ, ◌+◌, ◌*◌, ◌/◌, ◌%◌, ◌^◌, ◌<◌, ◌≤◌, ◌+ℤ◌, ◌<ℤ◌, pos, negsuc, ◌∷◌, ◌++◌, [], OnOk, IfOk, IfSome, IfNone};
+ghost use Rattle.std.specs.Prelude.{◌≡◌, ◌+◌, ◌*◌, ◌/◌, ◌%◌, ◌^◌, ◌<◌, ◌≤◌, ◌+ℤ◌, ◌<ℤ◌, pos, negsuc, ◌∷◌, ◌++◌, [], OnOk, IfOk, IfSome, IfNone};
 ghost use Rattle.decimal_digits.specs.Number.{digit};
 ghost use Rattle.decimal_digits.specs.Rounding.{rounded_number};
 ghost use Rattle.decimal_unsigned.specs.Text.{dot_before, text};

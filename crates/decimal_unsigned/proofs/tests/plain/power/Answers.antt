@@ -1,4 +1,4 @@
-use Rattle.std.proofs.Common.{◌≡◌, ◌^◌, ◌*◌, ◌≤◌, arith}
+use Rattle.std.proofs.Common.{◌^◌, ◌*◌, ◌≤◌, arith}
 use Rattle.decimal_unsigned.proofs.Plain.{power_beyond}
 use Rattle.decimal_unsigned.proofs.tests.plain.power.Goals as goal
 
