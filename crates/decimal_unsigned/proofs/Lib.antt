@@ -21,3 +21,4 @@ pub mod Headline
 pub mod ReadBack
 pub mod Roundings
 pub mod RoundingLaws
+pub mod Plain

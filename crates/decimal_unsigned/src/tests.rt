@@ -8,6 +8,7 @@ use std::test::Fail;
 mod concatenation;
 mod edits;
 mod integers;
+mod plain;
 mod printing;
 mod reading;
 mod rounding;
