@@ -1,6 +1,6 @@
 -- One call more.
-use Rattle.std.proofs.Common.{◌≡◌, ℕ, zero, suc, ◌+◌, ◌<◌, List, [], ◌∷◌, ◌++◌, length, get_or, take, drop, refl, sym, ◌∙◌, ap, subst, arith}
-use Rattle.std.specs.Prelude.{Result, Ok, Err, Some}
+use Rattle.std.proofs.Common.{◌≡◌, ℕ, suc, ◌+◌, ◌<◌, List, [], ◌∷◌, ◌++◌, length, get_or, take, drop, refl, sym, ◌∙◌, ap, arith}
+use Rattle.std.specs.Prelude.{Result, Ok, Err}
 use Rattle.std.proofs.Math.Seq.{drop-cons}
 use Rattle.std.proofs.lemmas.List.{take_more, length-take-le}
 use Rattle.std.proofs.lemmas.Option.{slice_get-get_or}
@@ -9,7 +9,7 @@ use Rattle.decimal_unsigned.specs.declared.error.ParseError.TheVariants as parse
 use Rattle.fixed_decimal.specs.declared.run.Call.{Call}
 use Rattle.fixed_decimal.specs.declared.run.RunError.{RunError}
 use Rattle.fixed_decimal.specs.declared.run.RunError.TheVariants.{Start, Operand, Overlap, Memory, Sink}
-use Rattle.fixed_decimal.specs.Outcome.{Refusal, operand, overlap, and_then, step, after_calls}
+use Rattle.fixed_decimal.specs.Outcome.{Refusal, and_then, step, after_calls}
 use Rattle.fixed_decimal.specs.Errors.{Comes}
 use Rattle.fixed_decimal.specs.Calls.{CallRefuses, CallsRefuse}
 

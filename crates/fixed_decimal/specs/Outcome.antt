@@ -1,5 +1,5 @@
 -- What a run of calls comes to, by the whole numbers alone: no memory and no sink occur here.
-use Rattle.std.specs.Prelude.{◌≡◌, ℕ, ◌+◌, if◌then◌else◌, List, [], ◌∷◌, Result, Ok, Err}
+use Rattle.std.specs.Prelude.{ℕ, ◌+◌, if◌then◌else◌, List, [], ◌∷◌, Result, Ok, Err}
 use Rattle.decimal_digits.specs.declared.rounding.SignedRoundingMode.TheVariants.{Unsigned}
 use Rattle.decimal_unsigned.specs.Unsigned as value
 use Rattle.decimal_unsigned.specs.Edits.{shifted, trimmed_start, trimmed_end, trimmed_end_if_integer, padded_start, padded_end, cut}

@@ -6,6 +6,15 @@ use crate::{
 };
 use std::test::Fail;
 
+const EXPAND: SignedRoundingMode = SignedRoundingMode::Unsigned(UnsignedRoundingMode::Expand);
+
+const TRUNC: SignedRoundingMode = SignedRoundingMode::Unsigned(UnsignedRoundingMode::Trunc);
+
+const HALF_EVEN: SignedRoundingMode = SignedRoundingMode::Unsigned(UnsignedRoundingMode::HalfEven);
+
+/// A start, calls, and the text that they come to.
+type Run = (&'static [u8], &'static [Call<'static>], &'static [u8]);
+
 /// A sink that takes so many bytes.
 #[derive(Drop)]
 struct Limited {
@@ -39,7 +48,7 @@ impl Sink for Limited {
 
 #[test]
 fn runs(rt: HostRuntime) -> Result<(), Fail> {
-    let rows: [(&[u8], &[Call], &[u8]); 11] = [
+    let rows: [Run; 11] = [
         (b"250", &[Call::MultiplyPow10(-2)], b"2.50"),
         (b"51423", &[Call::MultiplyPow10(-8)], b"0.00051423"),
         (b".5", &[], b"0.5"),
@@ -112,41 +121,39 @@ fn refuses(rt: HostRuntime) -> Result<(), Fail> {
     Ok(())
 }
 
-/// The call that rounds so.
-fn round<'a>(position: i16, mode: UnsignedRoundingMode, increment: RoundingIncrement) -> Call<'a> {
-    Call::Round(position, SignedRoundingMode::Unsigned(mode), increment)
-}
-
 #[test]
 fn rounds_and_joins(rt: HostRuntime) -> Result<(), Fail> {
-    let expand = UnsignedRoundingMode::Expand;
-    let trunc = UnsignedRoundingMode::Trunc;
-    let half_even = UnsignedRoundingMode::HalfEven;
-    let by_1 = RoundingIncrement::MultiplesOf1;
-    let by_25 = RoundingIncrement::MultiplesOf25;
-    let rows: [(&[u8], &[Call], &[u8]); 7] = [
-        (b"99.999", &[round(4, expand, by_1)], b"10000"),
+    let rows: [Run; 7] = [
+        (
+            b"99.999",
+            &[Call::Round(4, EXPAND, RoundingIncrement::MultiplesOf1)],
+            b"10000",
+        ),
         (
             b"9.75",
-            &[round(-1, half_even, RoundingIncrement::MultiplesOf5)],
+            &[Call::Round(-1, HALF_EVEN, RoundingIncrement::MultiplesOf5)],
             b"10.0",
         ),
-        (b"12345678", &[round(-1, trunc, by_25)], b"12345677.5"),
+        (
+            b"12345678",
+            &[Call::Round(-1, TRUNC, RoundingIncrement::MultiplesOf25)],
+            b"12345677.5",
+        ),
         (
             b"4235.970",
             &[
-                round(1, trunc, by_1),
-                round(3, trunc, by_1),
-                round(0, trunc, by_1),
+                Call::Round(1, TRUNC, RoundingIncrement::MultiplesOf1),
+                Call::Round(3, TRUNC, RoundingIncrement::MultiplesOf1),
+                Call::Round(0, TRUNC, RoundingIncrement::MultiplesOf1),
             ],
             b"4000",
         ),
         (
             b"99.5",
             &[
-                round(0, expand, by_1),
-                round(3, expand, by_1),
-                round(1, expand, by_1),
+                Call::Round(0, EXPAND, RoundingIncrement::MultiplesOf1),
+                Call::Round(3, EXPAND, RoundingIncrement::MultiplesOf1),
+                Call::Round(1, EXPAND, RoundingIncrement::MultiplesOf1),
             ],
             b"1000",
         ),
