@@ -21,4 +21,3 @@ pub mod Headline
 pub mod ReadBack
 pub mod Roundings
 pub mod RoundingLaws
-pub mod Plain

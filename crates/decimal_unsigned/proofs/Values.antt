@@ -116,7 +116,7 @@ wide_kept {z} h = to_z-of_z w32 z (record { sfits = h })
 
 -- how many magnitudes a range has, by its ends as they are read again
 pub counted : {l h lo hi : ℤ} {n : ℕ} → n ≡ int_gap (to_z w16 (of_z w16 l)) (to_z w16 (of_z w16 h)) + 1 → l ≡ lo → h ≡ hi → mag l < 32768 → mag h < 32768 → n ≡ int_gap lo hi + 1
-counted {l} {h} {lo} {hi} {n} e p q a b = e ∙ (rw (narrow_kept a, narrow_kept b, p, q) refl)
+counted e p q a b = e ∙ (λ i. int_gap ((narrow_kept a ∙ p) i) ((narrow_kept b ∙ q) i) + 1)
 
 module _ {ds : List ℕ} {m hi lo : ℤ} (t : IsTrimmed ds m hi lo) where
   -- a lower end that keeps the last digit

@@ -7,6 +7,3 @@ pub mod decimal;
 mod error;
 
 pub use error::{ConcatenateError, ParseError};
-
-#[cfg(test)]
-mod tests;

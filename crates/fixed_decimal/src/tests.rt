@@ -4,6 +4,8 @@ use crate::{
     Call, ParseError, RoundingIncrement, RunError, SignedRoundingMode, Sink, SinkFault, TextBuf,
     UnsignedDecimal, UnsignedRoundingMode, Writeable,
 };
+use std::alloc::Global;
+use std::process::Abort;
 use std::test::Fail;
 
 const EXPAND: SignedRoundingMode = SignedRoundingMode::Unsigned(UnsignedRoundingMode::Expand);
@@ -44,6 +46,13 @@ impl Sink for Limited {
     fn failed(&self) -> bool {
         self.failed
     }
+}
+
+/// Asserts what a run writes.
+fn assert_runs(rt: &impl Abort, alloc: Global, (start, calls, text): Run) {
+    let mut sink = TextBuf::new(alloc);
+    assert_eq!(rt; run(alloc, start, calls, &mut sink), Ok(()));
+    assert_eq!(rt; sink.as_bytes(), text);
 }
 
 #[test]
@@ -91,10 +100,8 @@ fn runs(rt: HostRuntime) -> Result<(), Fail> {
             b"922337203685477580898230948203840239384.9823094820384023938423424",
         ),
     ];
-    for (start, calls, text) in rows {
-        let mut sink = TextBuf::new(rt.alloc());
-        assert_eq!(rt; run(rt.alloc(), start, calls, &mut sink), Ok(()));
-        assert_eq!(rt; sink.as_bytes(), text);
+    for row in rows {
+        assert_runs(&rt, rt.alloc(), row);
     }
     Ok(())
 }
@@ -168,10 +175,8 @@ fn rounds_and_joins(rt: HostRuntime) -> Result<(), Fail> {
             b"12250",
         ),
     ];
-    for (start, calls, text) in rows {
-        let mut sink = TextBuf::new(rt.alloc());
-        assert_eq!(rt; run(rt.alloc(), start, calls, &mut sink), Ok(()));
-        assert_eq!(rt; sink.as_bytes(), text);
+    for row in rows {
+        assert_runs(&rt, rt.alloc(), row);
     }
     Ok(())
 }

@@ -1,0 +1,11 @@
+//! The definitions of the decimals, computed on small numbers by plain arithmetic: no list of digits, no carry.
+//!
+//! Each contract here is a definition of `specs/` of the crates below, at a number in 64 bits. The tests run their tables
+//! through these functions and through the library alike, so they show what each definition says. Nothing stands on this
+//! crate.
+#![tactic(auto)]
+
+mod arithmetic;
+pub mod plain;
+#[cfg(test)]
+mod tests;
