@@ -14,11 +14,22 @@ fn printed(alloc: Global, line: &[&str]) -> Result<(Vec<u8>, Vec<u8>, u8), Fail>
         words.push(String::from_str(alloc, word)?)?;
     }
     let mut out = Out::new(Vec::<u8>::new(alloc));
-    let mut err = Vec::<u8>::new(alloc);
+    let mut err = Vec::<u8>::with_capacity(alloc, 32)?;
     let status = program(alloc, words.as_slice(), &mut out, &mut err);
     Ok((out.into_writer(), err, status))
 }
 
+/// Asserts that want of memory was told: of the program, which then prints nothing, or of the writer.
+fn assert_refused(rt: &impl Abort, found: &[u8], err: &[u8], out: &[u8]) {
+    if err == b"memory\n".as_slice() {
+        assert!(rt; found.is_empty());
+    } else {
+        assert_eq!(rt; err, b"output\n".as_slice());
+        assert!(rt; out.starts_with(found));
+    }
+}
+
+/// Asserts what a command line prints, once memory is there.
 fn assert_printed(
     rt: &impl Abort,
     alloc: Global,
@@ -27,7 +38,12 @@ fn assert_printed(
     err: &[u8],
     status: u8,
 ) -> Result<(), Fail> {
-    let (found_out, found_err, found_status) = printed(alloc, line)?;
+    let mut found = printed(alloc, line)?;
+    if found.2 == 3 {
+        assert_refused(rt, &found.0, &found.1, out);
+        found = printed(alloc, line)?;
+    }
+    let (found_out, found_err, found_status) = found;
     assert_eq!(rt; found_out.as_slice(), out, "{line:?}");
     assert_eq!(rt; found_err.as_slice(), err, "{line:?}");
     assert_eq!(rt; found_status, status, "{line:?}");
@@ -161,7 +177,7 @@ fn tells_faults_of_output(rt: HostRuntime) -> Result<(), Fail> {
     ];
     for room in 0..5 {
         let mut out = Out::new(Full { room });
-        let mut err = Vec::<u8>::new(rt.alloc());
+        let mut err = Vec::<u8>::with_capacity(rt.alloc(), 32)?;
         assert_eq!(rt; program(rt.alloc(), &words, &mut out, &mut err), 3);
         assert_eq!(rt; err.as_slice(), b"output\n".as_slice());
     }
