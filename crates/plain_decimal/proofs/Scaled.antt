@@ -4,7 +4,7 @@ use Rattle.std.specs.Prelude.{ℤ, pos, negsuc, ◌+ℤ◌, ◌-ℤ◌, ◌≤�
 use Rattle.std.proofs.lemmas.Int.{ints}
 use Rattle.std.proofs.lemmas.Nat.{pow-add}
 use Rattle.std.proofs.lemmas.Bool.{cases_lt}
-use Rattle.std.proofs.Math.Nat.{pow-suc, pow-le-pow_right, mul-lt-mul_of_pos_right, mul-le-mul_right, mul-div_cancel, div-add-mod', mod-eq_of_lt, div-eq_of_lt, mul-mod_left, mod-eq-sub-div-mul, mul-div-mul_right, mul_assoc, mul_comm, mul-sub}
+use Rattle.std.proofs.Math.Nat.{pow-suc, pow-le-pow_right, mul-lt-mul_of_pos_right, mul-le-mul_right, mul-div_cancel, div-add-mod', div-eq_of_lt, mul-mod_left, mod-eq-sub-div-mul, mul-div-mul_right, mul_assoc, mul_comm, mul-sub}
 use Rattle.std.specs.Int.{int_gap}
 use Rattle.decimal_digits.specs.Number.{place, weight, digit, first, last}
 use Rattle.decimal_digits.specs.Rounding.{step_of, unit_at, below, above, rounded_number}
@@ -137,9 +137,6 @@ module _ (n : ℕ) (unit m : ℤ) (least : negsuc 32767 ≤ℤ unit) where
       let a = place_above k e in
       ap (λ x. x % 10) (shift_down n (place unit) (place m) (omega arith) ∙ ap (λ d. n / 10 ^ d) (let d : place m - place unit ≡ k = omega arith in d))
 
-  pub digit_beyond : (k : ℕ) → m ≡ unit +ℤ pos k → n < 10 ^ k → digit (n * weight unit) m ≡ 0
-  digit_beyond k e h = digit_down k e ∙ ap (λ x. x % 10) (div-eq_of_lt h)
-
   pub digit_under : negsuc 32767 ≤ℤ m → m <ℤ unit → digit (n * weight unit) m ≡ 0
   digit_under l h = digit_below n (place unit) (place m) (omega (arith, ints, place_is m, place_is unit))
 
@@ -168,9 +165,6 @@ module _ (n : ℕ) (unit m : ℤ) (least : negsuc 32767 ≤ℤ unit) where
 
   pub cut_above : (k : ℕ) → m ≡ unit +ℤ pos k → n * weight unit % weight m ≡ n % 10 ^ k * weight unit
   cut_above k e = ap (λ w. n * weight unit % w) (weight_above k e) ∙ mod-scaled n (10 ^ k) (weight unit) (ten_pos (place unit))
-
-  pub cut_beyond : (k : ℕ) → m ≡ unit +ℤ pos k → n < 10 ^ k → n * weight unit % weight m ≡ n * weight unit
-  cut_beyond k e h = cut_above k e ∙ ap (λ x. x * weight unit) (mod-eq_of_lt h)
 
   pub cut_under : negsuc 32767 ≤ℤ m → m <ℤ unit → n * weight unit % weight m ≡ 0
   cut_under l h =
