@@ -48,12 +48,12 @@ impl Sink for Limited {
 /// Whether the answer is want of memory, for a run that has written nothing, or for the sink.
 fn wants_memory(error: &RunError, sink: &TextBuf) -> bool {
     match error {
-        RunError::Start(ParseError::Memory) => sink.as_bytes().is_empty(),
-        RunError::Operand {
+        RunError::Start(ParseError::Memory)
+        | RunError::Operand {
             fault: ParseError::Memory,
             ..
-        } => sink.as_bytes().is_empty(),
-        RunError::Memory { .. } => sink.as_bytes().is_empty(),
+        }
+        | RunError::Memory { .. } => sink.as_bytes().is_empty(),
         RunError::Sink => sink.failed(),
         _ => false,
     }

@@ -46,3 +46,10 @@ fn assert_plain(rt: &impl Abort, alloc: Global, plain: &Plain, printed: &[u8]) -
     assert_eq!(rt; text.as_slice(), printed);
     Ok(())
 }
+
+/// The plain program's value of a text, which prints the text again.
+fn read_plainly(rt: &impl Abort, alloc: Global, text: &[u8]) -> Result<Plain, Fail> {
+    let plain = Plain::read(text).expect(rt, "fits");
+    assert_plain(rt, alloc, &plain, text)?;
+    Ok(plain)
+}

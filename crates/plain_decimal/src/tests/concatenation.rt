@@ -76,8 +76,8 @@ fn joins(rt: HostRuntime) -> Result<(), Fail> {
     ];
     for (front, back, joined) in rows {
         assert_joins(&rt, alloc, front, back, joined)?;
-        let plain_front = Plain::read(front).expect(&rt, "fits");
-        let plain_back = Plain::read(back).expect(&rt, "fits");
+        let plain_front = read_plainly(&rt, alloc, front)?;
+        let plain_back = read_plainly(&rt, alloc, back)?;
         assert!(rt; !plain_front.overlaps(&plain_back));
         let plain = plain_front.joined(&plain_back).expect(&rt, "fits");
         assert_plain(&rt, alloc, &plain, joined)?;
@@ -107,8 +107,8 @@ fn overlaps(rt: HostRuntime) -> Result<(), Fail> {
     ];
     for (front, back) in rows {
         assert_overlaps(&rt, alloc, front, back)?;
-        let plain_front = Plain::read(front).expect(&rt, "fits");
-        let plain_back = Plain::read(back).expect(&rt, "fits");
+        let plain_front = read_plainly(&rt, alloc, front)?;
+        let plain_back = read_plainly(&rt, alloc, back)?;
         assert!(rt; plain_front.overlaps(&plain_back));
     }
     Ok(())

@@ -107,8 +107,7 @@ fn changes(rt: HostRuntime) -> Result<(), Fail> {
     let alloc = rt.alloc();
     for (text, call, printed) in ROWS {
         assert_changes(&rt, alloc, text, call, printed)?;
-        let plain = Plain::read(text).expect(&rt, "fits");
-        assert_plain(&rt, alloc, &plain, text)?;
+        let plain = read_plainly(&rt, alloc, text)?;
         let plain = changed_plainly(&plain, call).expect(&rt, "fits");
         assert_plain(&rt, alloc, &plain, printed)?;
     }

@@ -146,8 +146,7 @@ fn assert_rounds_plainly(
 ) -> Result<(), Fail> {
     assert_rounds(rt, alloc, text, rounding, printed)?;
     let (position, mode, increment) = rounding;
-    let plain = Plain::read(text)
-        .expect(rt, "fits")
+    let plain = read_plainly(rt, alloc, text)?
         .rounded(position, mode, increment)
         .expect(rt, "fits");
     assert_plain(rt, alloc, &plain, printed)
