@@ -11,7 +11,7 @@ use Rattle.decimal_unsigned.specs.Parts.{held, held_parts, IsHeld}
 use Rattle.std.specs.Prelude.{IfSome}
 use Rattle.decimal_unsigned.specs.declared.decimal.parse.parts.Parts.{Parts}
 use Rattle.decimal_unsigned.specs.Parts.{view, views}
-use Rattle.decimal_unsigned.proofs.Laws.{parts_takes}
+use Rattle.decimal_unsigned.proofs.GrammarParts.{parts_takes}
 use Rattle.decimal_unsigned.proofs.Plans.{over, under}
 
 pub held_in : (e : ℤ) → IsHeld (held e)

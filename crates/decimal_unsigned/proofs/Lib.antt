@@ -11,13 +11,13 @@ pub mod Formatting
 pub mod Lengths
 pub mod EditLaws
 pub mod Numerals
-pub mod Laws
+pub mod GrammarParts
 pub mod Middle
 pub mod Cuts
 pub mod Integers
 pub mod Plans
 pub mod Held
-pub mod Headline
+pub mod ParserAnswers
 pub mod ReadBack
 pub mod Roundings
 pub mod RoundingLaws

@@ -20,7 +20,7 @@ use Rattle.decimal_digits.proofs.DigitLists.{ten_pos, after_is}
 use Rattle.decimal_digits.proofs.Places.{place_is}
 use Rattle.decimal_unsigned.specs.Grammar.{Written, integer, decimal}
 use Rattle.decimal_unsigned.specs.Reading.{scaled, value_of, read}
-use Rattle.decimal_unsigned.proofs.Headline.{read_grammar}
+use Rattle.decimal_unsigned.proofs.ParserAnswers.{read_grammar}
 
 -- the bytes of n places from k up, the highest first
 abbrev places : ℕ → ℕ → ℕ → List ℕ

@@ -1,5 +1,5 @@
 -- One number joined to the end of another.
-use Rattle.std.specs.Prelude.{ℕ, ◌+◌, ◌<◌, nat_lt, Bool, ◌&&◌, int_le}
+use Rattle.std.specs.Prelude.{◌≡◌, ℕ, ◌+◌, ◌<◌, nat_lt, Bool, false, ◌&&◌, int_le}
 use Rattle.std.specs.Int.{int_max, int_min, int_gap}
 use Rattle.decimal_digits.specs.Number.{first, last}
 use Rattle.decimal_unsigned.specs.Unsigned.{Unsigned}
@@ -18,10 +18,11 @@ joined v w = record { number = v.number + w.number; hi = int_max v.hi w.hi; lo =
 abbrev pub joined_size : Unsigned → Unsigned → ℕ
 joined_size v w = int_gap (last w.number) (first v.number) + 1
 
--- neither number is 0, and their joined digits are more than are held without memory
+-- neither number is 0, the two do not overlap, and their joined digits are more than are held without memory
 pub record NeedsMemory (held : ℕ) (v w : Unsigned) : Type 0 where
   pub first_counts : 0 < v.number
   pub second_counts : 0 < w.number
+  pub apart : overlaps v w ≡ false
   pub more : held < joined_size v w
 
 -- what a refusal hands back

@@ -1,5 +1,5 @@
 -- The value that a text writes: the value of its parts, and how the parts are found.
-use Rattle.std.specs.Prelude.{ℕ, ◌-◌, ◌*◌, ◌^◌, ◌==◌, nat_lt, Bool, ◌&&◌, ◌||◌, if◌then◌else◌, List, [], ◌∷◌, ◌++◌, length, take, drop, Option, Some, None, option_map, Result, Ok, Err, ℤ, pos, negsuc, neg_ℤ, ◌-ℤ◌, int_lt}
+use Rattle.std.specs.Prelude.{◌≡◌, ℕ, ◌-◌, ◌*◌, ◌^◌, ◌==◌, nat_lt, Bool, ◌&&◌, ◌||◌, if◌then◌else◌, List, [], ◌∷◌, ◌++◌, length, take, drop, Option, Some, None, option_map, Result, Ok, Err, ℤ, pos, negsuc, neg_ℤ, ◌-ℤ◌, int_lt}
 use Rattle.std.specs.Str.Parse.{digits_value}
 use Rattle.std.specs.Char.{is_ascii_digit}
 use Rattle.std.specs.List.{prefix_len}
@@ -7,7 +7,7 @@ use Rattle.std.specs.Str.{all_ascii_digits}
 use Rattle.decimal_digits.specs.Number.{first, last}
 use Rattle.decimal_unsigned.specs.Unsigned.{Unsigned}
 use Rattle.decimal_unsigned.specs.Edits.{leaves_limits, multiplied}
-use Rattle.decimal_unsigned.specs.Grammar.{Written}
+use Rattle.decimal_unsigned.specs.Grammar.{Written, Grammar}
 
 -- ---- The value of the parts.
 
@@ -83,6 +83,11 @@ unfoldable pub value_or_syntax : Option Written → Result Unsigned Fault
 value_or_syntax None = Err syntax
 value_or_syntax (Some w) = value_of w
 
--- the value of the parts where there are some; the contract of the parser ties this to the grammar
+-- the value of the parts where there are some
 unfoldable pub read : List ℕ → Result Unsigned Fault
 read text = value_or_syntax (parts_of text)
+
+-- reading follows the grammar: a text with parts has their value, and a text that has none is no number
+pub record FollowsGrammar (text : List ℕ) : Type 0 where
+  pub value : (w : Written) → Grammar text w → read text ≡ value_of w
+  pub none : ((w : Written) → ¬ Grammar text w) → read text ≡ Err syntax

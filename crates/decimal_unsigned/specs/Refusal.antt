@@ -1,11 +1,30 @@
--- Why a text was refused.
-use Rattle.std.specs.Prelude.{◌≡◌, Result, Err}
+-- How a parser answers a text: its value, or why the text is refused.
+use Rattle.std.specs.Prelude.{◌≡◌, Result, Ok, Err, List, ℕ, IfOk, IsOkAnd, ◌↔◌}
 use Rattle.decimal_unsigned.specs.declared.error.ParseError.{ParseError}
 use Rattle.decimal_unsigned.specs.declared.error.ParseError.TheVariants.{Limit, Syntax, Memory}
-use Rattle.decimal_unsigned.specs.Reading.{Fault, syntax, limit}
+use Rattle.decimal_unsigned.specs.Unsigned.{Unsigned}
+use Rattle.decimal_unsigned.specs.Grammar.{Written, Grammar}
+use Rattle.decimal_unsigned.specs.Reading.{Fault, syntax, limit, value_of}
 
--- the error is the fault that reading gives, unless it is want of memory, which has this condition
+-- the error is the fault that reading comes to, unless it is want of memory, which has this condition
 abbrev pub Refuses : {V : Type 0} → Type 0 → ParseError → Result V Fault → Type 0
-Refuses room Limit r = r ≡ Err limit
-Refuses room Syntax r = r ≡ Err syntax
-Refuses room Memory r = room
+Refuses wanted Limit reading = reading ≡ Err limit
+Refuses wanted Syntax reading = reading ≡ Err syntax
+Refuses wanted Memory reading = wanted
+
+-- the answer is what reading comes to, its value or its fault; or it is want of memory, where there is a value that wants it
+abbrev pub Answers : {V : Type 0} → (V → Type 0) → Result V ParseError → Result V Fault → Type 0
+Answers wants (Ok v) reading = reading ≡ Ok v
+Answers wants (Err e) reading = Refuses (IsOkAnd reading wants) e reading
+
+-- as a parser answers that has no use for the value, and never wants memory
+abbrev pub AnswersFault : {V : Type 0} → Result (Unit {0}) ParseError → Result V Fault → Type 0
+AnswersFault (Ok _) reading = IsOkAnd reading (λ _. Unit {0})
+AnswersFault (Err e) reading = Refuses ⊥ e reading
+
+-- the answer by the grammar: Syntax for a text without parts and for no other, Limit where the parts have it and nowhere
+-- else, and the value of the parts
+pub record AnswersGrammar (text : List ℕ) (answer : Result Unsigned ParseError) : Type 0 where
+  pub syntax : (answer ≡ Err Syntax) ↔ ((w : Written) → ¬ Grammar text w)
+  pub limit : (answer ≡ Err Limit) ↔ ((w : Written) × Grammar text w × (value_of w ≡ Err limit))
+  pub found : IfOk answer (λ v. (w : Written) × Grammar text w × (value_of w ≡ Ok v))

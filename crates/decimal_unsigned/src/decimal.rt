@@ -1,6 +1,6 @@
 //! The unsigned value.
-ghost use Rattle.std.specs.Prelude.{◌≡◌, ℕ, ◌+◌, ◌%◌, ◌^◌, ◌<◌, ◌≤◌, ◌↔◌, IsTrue, ℤ};
-ghost use Rattle.std.specs.Range.{range_inclusive_start, range_inclusive_end};
+ghost use Rattle.std.specs.Prelude.{◌≡◌, ℕ, ◌+◌, ◌%◌, ◌^◌, ◌<◌, ◌≤◌, ◌↔◌, IsTrue, ℤ, false};
+ghost use Rattle.std.specs.Range.{range_inclusive_start, range_inclusive_end, range_inclusive_exhausted};
 ghost use Rattle.decimal_digits.specs.Number.{digit, first, last, IsFirst, IsLast};
 ghost use Rattle.decimal_unsigned.specs.Unsigned.{zero_value, IsValue};
 
@@ -89,6 +89,8 @@ impl<D: DigitStore> UnsignedOver<D> {
     pub fn magnitude_range(&self) -> RangeInclusive<i16>
         ensures start { range_inclusive_start result ≡ self.now.lo }
         ensures end { range_inclusive_end result ≡ self.now.hi }
+        // No magnitude has been taken from it.
+        ensures fresh { range_inclusive_exhausted result ≡ false }
         // The range holds magnitude 0, lies in the limits, and shows the number whole.
         ensures valid { IsValue self.now }
     {

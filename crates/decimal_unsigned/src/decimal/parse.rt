@@ -1,10 +1,9 @@
 //! Reading a value from a text: every fault is decided before memory is asked for.
-ghost use Rattle.std.specs.Prelude.{◌≡◌, ℕ, ◌+◌, ◌-◌, ◌<◌, ◌≤◌, ◌++◌, ◌↔◌, length, Ok, Err, IfOk, IfErr, IsOk, IsOkAnd};
+ghost use Rattle.std.specs.Prelude.{◌≡◌, ℕ, ◌+◌, ◌-◌, ◌<◌, ◌≤◌, ◌++◌, List, length, IfOk, IfErr, IsOk, IsOkAnd};
 ghost use Rattle.std.specs.Str.Parse.{AllDigits};
 ghost use Rattle.decimal_digits.specs.Number.{size};
-ghost use Rattle.decimal_unsigned.specs.Grammar.{Written, Grammar};
-ghost use Rattle.decimal_unsigned.specs.Reading.{read, value_of, limit};
-ghost use Rattle.decimal_unsigned.specs.Refusal.{Refuses};
+ghost use Rattle.decimal_unsigned.specs.Reading.{read, value_of, FollowsGrammar};
+ghost use Rattle.decimal_unsigned.specs.Refusal.{Refuses, Answers, AnswersGrammar};
 ghost use Rattle.decimal_unsigned.specs.Parts.{view};
 ghost use Rattle.decimal_unsigned.specs.Placing.{Makes, middle, digits_of};
 
@@ -46,9 +45,12 @@ fn scanned(text: &[u8]) -> Result<Scan<'_>, ParseError>
 ///
 /// Of `1.50` it is -2, of `100e-2` it is -2, of `5.0e1` it is 0. Err: `Syntax` or `Limit`, as reading the text answers.
 /// Not in the original.
+#[tactic(auto, using(crate::proofs::ParserAnswers::follows_grammar))]
 pub fn lowest_of(text: &[u8]) -> Result<i16, ParseError>
     ensures value { IfOk result (λ lo. IsOkAnd (read text.now) (λ v. v.lo ≡ lo)) }
     ensures fault { IfErr result (λ e. Refuses ⊥ e (read text.now)) }
+    // Each text is read as the grammar says.
+    ensures grammar { (any : List ℕ) → FollowsGrammar any }
 {
     let scan = scanned(text)?;
     Ok(scan.plan.place.lo)
@@ -88,33 +90,25 @@ impl<D: DigitStore> UnsignedOver<D> {
     /// the magnitudes; else `Memory` where memory for more than `L` digits was refused. The original's
     /// `try_from_utf8`.
     pub fn try_from_utf8(alloc: Global, text: &[u8]) -> Result<Self, ParseError>
-        ensures value { IfOk result (λ v. read text.now ≡ Ok v) }
-        // A text that is not in the grammar, and no other, is refused so.
-        ensures syntax { (result ≡ Err ParseError.Syntax) ↔ ((w : Written) → ¬ Grammar text.now w) }
-        ensures limit { (result ≡ Err ParseError.Limit) ↔ ((w : Written) × Grammar text.now w × (value_of w ≡ Err limit)) }
-        // The value is that of the parts which the grammar finds.
-        ensures found { IfOk result (λ v. (w : Written) × Grammar text.now w × (value_of w ≡ Ok v)) }
         // Want of memory comes only where the digits are more than are held without it.
-        ensures fault { IfErr result (λ e. Refuses (IsOkAnd (read text.now) (λ v. D.L < size v.number)) e (read text.now)) }
+        ensures answers { Answers (λ v. D.L < size v.number) result (read text.now) }
+        // Syntax, Limit and the value are those of the grammar.
+        ensures grammar { AnswersGrammar text.now result }
     {
         Self::read_from(alloc, text)
     }
 
     /// Reads the value that a text writes: `try_from_utf8` of its bytes. The original's `try_from_str` and `FromStr`.
     pub fn try_from_str(alloc: Global, text: &str) -> Result<Self, ParseError>
-        ensures value { IfOk result (λ v. read text.now ≡ Ok v) }
-        ensures syntax { (result ≡ Err ParseError.Syntax) ↔ ((w : Written) → ¬ Grammar text.now w) }
-        ensures limit { (result ≡ Err ParseError.Limit) ↔ ((w : Written) × Grammar text.now w × (value_of w ≡ Err limit)) }
-        ensures found { IfOk result (λ v. (w : Written) × Grammar text.now w × (value_of w ≡ Ok v)) }
-        ensures fault { IfErr result (λ e. Refuses (IsOkAnd (read text.now) (λ v. D.L < size v.number)) e (read text.now)) }
+        ensures answers { Answers (λ v. D.L < size v.number) result (read text.now) }
+        ensures grammar { AnswersGrammar text.now result }
     {
         Self::try_from_utf8(alloc, text.as_bytes())
     }
 
     /// The value that a text writes, by reading it from left to right.
     fn read_from(alloc: Global, text: &[u8]) -> Result<Self, ParseError>
-        ensures value { IfOk result (λ v. read text.now ≡ Ok v) }
-        ensures fault { IfErr result (λ e. Refuses (IsOkAnd (read text.now) (λ v. D.L < size v.number)) e (read text.now)) }
+        ensures { Answers (λ v. D.L < size v.number) result (read text.now) }
     {
         let scan = scanned(text)?;
         let plan = scan.plan;

@@ -36,7 +36,7 @@ impl<D: DigitStore> UnsignedOver<D> {
     /// `10.0`. Where the multiple reaches 10 to the 32768 the number becomes 0, with that range: `99.999` at 4,
     /// half-expand, becomes `0000`, for 0 is nearer.
     ///
-    /// Each read and each write of a digit is a turn; beyond sixteen, a rounding pays only for digits that vanish.
+    /// Each read and each write of a digit is a turn; beyond seven, a rounding pays only for digits that vanish.
     /// Err: memory was refused for one digit more, which only `MultiplesOf25` may need, and only where the number has
     /// at least `L` digits. The value then stays as it was. Not in the original, which counts nothing.
     #[tactic(auto, using(crate::proofs::RoundingLaws::rounds_in_order))]
@@ -59,7 +59,8 @@ impl<D: DigitStore> UnsignedOver<D> {
         // The greater of two numbers, where it stays below the limit, is rounded to no less than the other.
         ensures ordered { (v w : Unsigned) → RoundsInOrder v w position mode increment }
 
-        ensures turns { steps.new.count + size self.new.number ≤ steps.old.count + size self.old.number + 16 }
+        ensures turns { steps.new.count + size self.new.number ≤ steps.old.count + size self.old.number + 7 }
+        ensures grows { steps.old.count ≤ steps.new.count }
     {
         let magnitude = self.magnitude;
         let mut counted = Counted::new(&mut self.digits, steps);

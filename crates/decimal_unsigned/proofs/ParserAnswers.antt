@@ -1,16 +1,16 @@
 -- Reading and the grammar.
 use Rattle.std.proofs.Common.{◌≡◌, ℕ, ◌≤◌, ◌-◌, ◌==◌, Bool, true, false, cond, ◌||◌, ◌⊎◌, inl, inr, List, length, drop, refl, sym, ◌∙◌, ap, arith}
-use Rattle.std.specs.Prelude.{ℤ, Option, Some, None, Result, Ok, Err, IfOk, IfErr, IsOkAnd, ◌↔◌}
+use Rattle.std.specs.Prelude.{ℤ, Option, Some, None, Result, Ok, Err, IfOk, ◌↔◌}
 use Rattle.std.proofs.lemmas.List.{length-take-le, length-drop}
 use Rattle.decimal_unsigned.specs.Unsigned.{Unsigned}
 use Rattle.decimal_unsigned.specs.declared.error.ParseError.{ParseError}
 use Rattle.decimal_unsigned.specs.declared.error.ParseError.TheVariants.{Limit, Syntax, Memory}
 use Rattle.decimal_unsigned.specs.Grammar.{Written, Grammar}
-use Rattle.decimal_unsigned.specs.Reading.{Fault, parts_of, mantissa, is_outside, scaled, value_of, value_or_syntax, read, syntax, limit}
+use Rattle.decimal_unsigned.specs.Reading.{Fault, parts_of, mantissa, is_outside, scaled, value_of, value_or_syntax, read, FollowsGrammar, syntax, limit}
 use Rattle.decimal_unsigned.specs.Edits.{leaves_limits}
 use Rattle.decimal_unsigned.specs.Placing.{middle}
-use Rattle.decimal_unsigned.specs.Refusal.{Refuses}
-use Rattle.decimal_unsigned.proofs.Laws.{parts_again, parts_takes}
+use Rattle.decimal_unsigned.specs.Refusal.{Answers, AnswersGrammar}
+use Rattle.decimal_unsigned.proofs.GrammarParts.{parts_again, parts_takes}
 
 -- a value, or the limit
 abbrev Values : Result Unsigned Fault → Type 0
@@ -54,6 +54,9 @@ syntax_is text = (λ e w g. not_syntax w (sym (read_grammar text w g) ∙ e), λ
     go n None e = ap value_or_syntax e
     go n (Some w) e = absurd (n w (parts_takes text w e))
 
+pub follows_grammar : (text : List ℕ) → FollowsGrammar text
+follows_grammar text = record { value = read_grammar text; none = (syntax_is text).1 }
+
 pub limit_is : (text : List ℕ) → (read text ≡ Err limit) ↔ ((w : Written) × Grammar text w × (value_of w ≡ Err limit))
 limit_is text = (
   λ e. let k = grammar_if text (λ s. let never : ⊥ = cc in never) in (k.0, k.1, sym k.2 ∙ e),
@@ -63,22 +66,38 @@ limit_is text = (
 pub value_is : (text : List ℕ) (v : Unsigned) → read text ≡ Ok v → (w : Written) × Grammar text w × (value_of w ≡ Ok v)
 value_is text v e = let k = grammar_if text (λ s. let never : ⊥ = cc in never) in (k.0, k.1, sym k.2 ∙ e)
 
--- ---- what a parser answered
-pub answers_syntax : (room : Unsigned → Type 0) (r : Result Unsigned ParseError) (q : Result Unsigned Fault) → IfOk r (λ v. q ≡ Ok v) → IfErr r (λ e. Refuses (IsOkAnd q room) e q) → (r ≡ Err Syntax) ↔ (q ≡ Err syntax)
-answers_syntax room (Ok v) q a b = (λ e. absurd (cc), λ e. absurd (cc))
-answers_syntax room (Err Limit) q a b = (λ e. absurd (cc), λ e. absurd (cc))
-answers_syntax room (Err Syntax) q a b = (λ e. b, λ e. refl)
-answers_syntax room (Err Memory) q a b = (λ e. absurd (cc), λ e. absurd (rw e at b))
+-- ---- What a parser answered.
 
-pub answers_limit : (room : Unsigned → Type 0) (r : Result Unsigned ParseError) (q : Result Unsigned Fault) → IfOk r (λ v. q ≡ Ok v) → IfErr r (λ e. Refuses (IsOkAnd q room) e q) → (r ≡ Err Limit) ↔ (q ≡ Err limit)
-answers_limit room (Ok v) q a b = (λ e. absurd (cc), λ e. absurd (cc))
-answers_limit room (Err Limit) q a b = (λ e. b, λ e. refl)
-answers_limit room (Err Syntax) q a b = (λ e. absurd (cc), λ e. absurd (cc))
-answers_limit room (Err Memory) q a b = (λ e. absurd (cc), λ e. absurd (rw e at b))
+-- it answers Syntax exactly where reading comes to that
+pub answers_syntax : {V : Type 0} (wants : V → Type 0) (r : Result V ParseError) (q : Result V Fault) → Answers wants r q → (r ≡ Err Syntax) ↔ (q ≡ Err syntax)
+answers_syntax wants (Ok v) q a = (λ e. absurd (cc), λ e. absurd (cc))
+answers_syntax wants (Err Limit) q a = (λ e. absurd (cc), λ e. absurd (cc))
+answers_syntax wants (Err Syntax) q a = (λ e. a, λ e. refl)
+answers_syntax wants (Err Memory) q a = (λ e. absurd (cc), λ e. absurd (rw e at a))
 
-pub answers_value : (text : List ℕ) (r : Result Unsigned ParseError) → IfOk r (λ v. read text ≡ Ok v) → IfOk r (λ v. (w : Written) × Grammar text w × (value_of w ≡ Ok v))
-answers_value text (Ok v) a = value_is text v a
-answers_value text (Err e) a = tt
+-- and Limit exactly where it comes to that
+pub answers_limit : {V : Type 0} (wants : V → Type 0) (r : Result V ParseError) (q : Result V Fault) → Answers wants r q → (r ≡ Err Limit) ↔ (q ≡ Err limit)
+answers_limit wants (Ok v) q a = (λ e. absurd (cc), λ e. absurd (cc))
+answers_limit wants (Err Limit) q a = (λ e. a, λ e. refl)
+answers_limit wants (Err Syntax) q a = (λ e. absurd (cc), λ e. absurd (cc))
+answers_limit wants (Err Memory) q a = (λ e. absurd (cc), λ e. absurd (rw e at a))
+
+answers_value : (wants : Unsigned → Type 0) (text : List ℕ) (r : Result Unsigned ParseError) → Answers wants r (read text) → IfOk r (λ v. (w : Written) × Grammar text w × (value_of w ≡ Ok v))
+answers_value wants text (Ok v) a = value_is text v a
+answers_value wants text (Err e) a = tt
+
+-- what answers as reading does answers by the grammar
+pub answers_grammar : (wants : Unsigned → Type 0) (text : List ℕ) (r : Result Unsigned ParseError) → Answers wants r (read text) → AnswersGrammar text r
+answers_grammar wants text r a =
+    let s = answers_syntax wants r (read text) a in
+    let t = syntax_is text in
+    let l = answers_limit wants r (read text) a in
+    let m = limit_is text in
+    record {
+      syntax = (λ e. t.0 (s.0 e), λ n. s.1 (t.1 n));
+      limit = (λ e. m.0 (l.0 e), λ n. l.1 (m.1 n));
+      found = answers_value wants text r a;
+    }
 
 pub middle_long : (start end : ℕ) (ds : List ℕ) → start ≤ end → end ≤ length ds → length (middle start end ds) ≡ end - start
 middle_long start end ds p q = length-take-le (end - start) (drop start ds) (omega (arith, length-drop start ds))
