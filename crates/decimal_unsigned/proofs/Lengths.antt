@@ -1,11 +1,11 @@
 -- How many bytes the text of a value has.
-use Rattle.std.proofs.Common.{◌≡◌, ℕ, zero, suc, ◌+◌, [], ◌∷◌, ◌++◌, length, ◌∙◌, ap, arith}
+use Rattle.std.proofs.Common.{◌≡◌, ℕ, zero, suc, ◌+◌, ◌≤◌, [], ◌∷◌, ◌++◌, length, ◌∙◌, ap, arith}
 use Rattle.std.specs.Prelude.{ℤ, pos, negsuc, ◌-ℤ◌, ◌≤ℤ◌, ◌<ℤ◌}
 use Rattle.std.specs.Int.{int_gap}
-use Rattle.std.proofs.lemmas.Int.{ints}
+use Rattle.std.proofs.lemmas.Int.{ints, by_lt_z}
 use Rattle.std.proofs.lemmas.List.{length-append}
 use Rattle.decimal_digits.specs.Number.{digit}
-use Rattle.decimal_unsigned.specs.Unsigned.{Unsigned}
+use Rattle.decimal_unsigned.specs.Unsigned.{Unsigned, IsValue}
 use Rattle.decimal_unsigned.specs.Text.{dot_before, text_down, text}
 
 more : (number : ℕ) (m : ℤ) (n : ℕ) → length (text_down number m (suc n)) ≡ length (dot_before m) + 1 + length (text_down number (m -ℤ pos 1) n)
@@ -61,3 +61,17 @@ length-text_dotted v h l = go v.hi v.lo h l
     go (pos n) (negsuc b) p q =
         let k : int_gap (negsuc b) (pos n) + 1 ≡ suc n + suc b = omega (arith, ints) in
         ap (λ c. length (text_down v.number (pos n) c)) k ∙ above_dot v.number n (suc b) ∙ (omega (arith, from_dot v.number b, k))
+
+gap_small : (lo hi : ℤ) → pos 0 ≤ℤ hi → hi ≤ℤ pos 32767 → negsuc 32767 ≤ℤ lo → lo ≤ℤ pos 0 → int_gap lo hi ≤ 65535
+gap_small lo (negsuc n) p q r s = absurd (omega (arith, ints))
+gap_small (pos k) (pos n) p q r s = omega (arith, ints)
+gap_small (negsuc k) (pos n) p q r s = omega (arith, ints)
+
+-- the text of a value has at most 65,536 digits and a dot
+pub text_short : (v : Unsigned) → IsValue v → length (text v) ≤ 65537
+text_short v valid = by_lt_z v.lo (pos 0)
+    (λ below. omega (arith, length-text_dotted v valid.hi_in.0 below, gap))
+    (λ above. omega (arith, length-text_whole v valid.hi_in.0 (omega (arith, ints, valid.lo_in)), gap))
+  where
+    gap : int_gap v.lo v.hi ≤ 65535
+    gap = gap_small v.lo v.hi valid.hi_in.0 valid.hi_in.1 valid.lo_in.0 valid.lo_in.1

@@ -1,8 +1,8 @@
 -- What a rounding makes of a value.
 use Rattle.std.specs.Prelude.{◌≡◌, ℕ, Bool, nat_le, if◌then◌else◌, ℤ, pos, ◌-ℤ◌}
 use Rattle.std.specs.Int.{int_max, int_min}
-use Rattle.decimal_digits.specs.Number.{weight, first}
-use Rattle.decimal_digits.specs.Rounding.{unit_at, Named, rounded_number}
+use Rattle.decimal_digits.specs.Number.{weight, first, size}
+use Rattle.decimal_digits.specs.Rounding.{unit_at, Named, rounded_number, WantsMemory}
 use Rattle.decimal_digits.specs.declared.rounding.RoundingIncrement.{RoundingIncrement}
 use Rattle.decimal_digits.specs.declared.rounding.UnsignedRoundingMode.{UnsignedRoundingMode}
 use Rattle.decimal_unsigned.specs.Unsigned.{Unsigned, IsValue}
@@ -33,3 +33,9 @@ pub record IsRounded (old : Unsigned) (position : ℤ) (mode : UnsignedRoundingM
   pub valid : IsValue old
   pub value : new ≡ rounded old position mode increment
   pub named : NamesRounded old position mode increment new
+
+-- the one want of memory of a rounding: by 25, of a number that has as many digits as are held without memory, or more,
+-- and that gets one digit more
+abbrev pub RoundingWantsMemory : ℕ → Unsigned → ℤ → UnsignedRoundingMode → RoundingIncrement → Type 0
+RoundingWantsMemory held old position mode increment =
+    WantsMemory increment (size old.number) (rounded_number mode (unit_at increment position) old.number) held

@@ -2,7 +2,7 @@
 ghost use Rattle.std.specs.Prelude.{◌≡◌, ◌≤◌, ◌↔◌, IsTrue, IsOk, IfOk};
 ghost use Rattle.decimal_digits.specs.Number.{size};
 ghost use Rattle.decimal_unsigned.specs.Text.{text};
-ghost use Rattle.decimal_unsigned.specs.Unsigned.{same, same_laws};
+ghost use Rattle.decimal_unsigned.specs.Unsigned.{same, same_laws, IsValue};
 
 use super::UnsignedOver;
 use decimal_digits::digits::DigitStore;
@@ -39,6 +39,7 @@ impl<D: DigitStore> PartialEq for UnsignedOver<D> {
         ensures same { result ≡ same self.now other.now }
         ensures value { IsTrue result ↔ (self.now ≡ other.now) }
         ensures texts { IsTrue result ↔ (text self.now ≡ text other.now) }
+        ensures valid { IsValue self.now × IsValue other.now }
     {
         if self.magnitude != other.magnitude {
             return false;

@@ -2,10 +2,9 @@
 ghost use Rattle.std.specs.Prelude.{◌≡◌, ◌≢◌, ◌+◌, ◌≤◌, pos, ◌-ℤ◌, ◌≤ℤ◌, IfOk, IfErr, IsOk, OnOk, OnErr};
 ghost use Rattle.std.specs.Int.{int_max};
 ghost use Rattle.decimal_digits.specs.Number.{size};
-ghost use Rattle.decimal_digits.specs.Rounding.{unit_at, rounded_number, WantsMemory};
 ghost use Rattle.decimal_unsigned.specs.Unsigned.{Unsigned};
 ghost use Rattle.decimal_unsigned.specs.Edits.{cut};
-ghost use Rattle.decimal_unsigned.specs.Rounded.{IsRounded, rounded};
+ghost use Rattle.decimal_unsigned.specs.Rounded.{IsRounded, rounded, RoundingWantsMemory};
 ghost use Rattle.decimal_unsigned.specs.EditLaws.{PartsJoin, TruncatedAgain, ExpandedAgain, RoundsInOrder};
 
 use super::UnsignedOver;
@@ -50,8 +49,7 @@ impl<D: DigitStore> UnsignedOver<D> {
         ensures rounds { OnOk result (IsRounded self.old position mode increment self.new) }
 
         ensures err { OnErr result (self.new ≡ self.old) }
-        ensures memory { OnErr result (WantsMemory increment (size self.old.number)
-            (rounded_number mode (unit_at increment position) self.old.number) D.L) }
+        ensures memory { OnErr result (RoundingWantsMemory D.L self.old position mode increment) }
         ensures succeeds { increment ≢ RoundingIncrement.MultiplesOf25 → IsOk result }
 
         // The same rounding once more changes nothing, range included.
@@ -84,8 +82,7 @@ impl<D: DigitStore> UnsignedOver<D> {
     ) -> Result<(), AllocError>
         ensures rounds { OnOk result (IsRounded self.old position mode increment self.new) }
         ensures err { OnErr result (self.new ≡ self.old) }
-        ensures memory { OnErr result (WantsMemory increment (size self.old.number)
-            (rounded_number mode (unit_at increment position) self.old.number) D.L) }
+        ensures memory { OnErr result (RoundingWantsMemory D.L self.old position mode increment) }
         ensures succeeds { increment ≢ RoundingIncrement.MultiplesOf25 → IsOk result }
     {
         self.round_counted(position, mode, increment, &mut Steps::new())
@@ -148,8 +145,7 @@ impl<D: DigitStore> UnsignedOver<D> {
     ) -> Result<Self, Self>
         ensures rounds { IfOk result (λ v. IsRounded self position mode increment v) }
         ensures err { IfErr result (λ v. v ≡ self) }
-        ensures memory { OnErr result (WantsMemory increment (size self.number)
-            (rounded_number mode (unit_at increment position) self.number) D.L) }
+        ensures memory { OnErr result (RoundingWantsMemory D.L self position mode increment) }
         ensures succeeds { increment ≢ RoundingIncrement.MultiplesOf25 → IsOk result }
     {
         match self.round_with_mode_and_increment(position, mode, increment) {

@@ -1,5 +1,5 @@
 //! The text of a value.
-ghost use Rattle.std.specs.Prelude.{◌≡◌, ◌+◌, ◌∷◌, ◌++◌, [], length, Ok, OnOk, OnErr, true};
+ghost use Rattle.std.specs.Prelude.{◌≡◌, ◌+◌, ◌≤◌, ◌∷◌, ◌++◌, [], length, Ok, OnOk, OnErr, true};
 ghost use Rattle.std.specs.Io.KnownBytes.{Appends};
 ghost use Rattle.decimal_digits.specs.Number.{digit};
 ghost use Rattle.decimal_digits.specs.Text.{AppendsBeginning};
@@ -52,7 +52,11 @@ impl<D: DigitStore> Writeable for UnsignedOver<D> {
     }
 
     /// Counts the bytes of the text, exactly: 4 for `2.50`. `writeable_length_hint` of the original.
-    fn writeable_length_hint(&self) -> usize {
+    fn writeable_length_hint(&self) -> usize
+        ensures length { result ≡ length (text self.now) }
+        // A text has at most 65,536 digits and a dot.
+        ensures few { result ≤ 65537 }
+    {
         let lo = self.lowest();
         let digits = count_between(lo, self.highest()) as usize;
         if lo < 0 { digits + 1 } else { digits }
