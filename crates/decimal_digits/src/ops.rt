@@ -102,3 +102,53 @@ pub fn highest_of(position: i16, places: usize) -> Option<i16>
         Some(highest as i16)
     }
 }
+
+/// Gives the magnitude of the digit at an index, where the first digit stands at a magnitude.
+///
+/// `magnitude_of(2, 5)` is -3. Requires that the answer is at least -32768. Not in the original.
+#[inline]
+pub fn magnitude_of(first: i16, index: usize) -> i16
+    requires { negsuc 32767 ≤ℤ (first -ℤ pos index) }
+    ensures { result ≡ first -ℤ pos index }
+{
+    (first as i64 - index as i64) as i16
+}
+
+/// Gives the index of the digit at a magnitude, where the first digit stands at another.
+///
+/// `index_of(2, -3)` is 5. None where the magnitude lies above the first digit. Not in the original.
+#[inline]
+pub fn index_of(first: i16, magnitude: i16) -> Option<usize>
+    ensures some { IfSome result (λ index. (magnitude +ℤ pos index) ≡ first) }
+    ensures none { IfNone result (first <ℤ magnitude) }
+{
+    if magnitude > first {
+        None
+    } else {
+        Some((first as i32 - magnitude as i32) as usize)
+    }
+}
+
+/// Subtracts one count of digits from another.
+///
+/// `difference(2, 5)` is -3. Requires counts of at most 65,536. Not in the original.
+#[inline]
+pub fn difference(a: usize, b: usize) -> i32
+    requires first_in { a ≤ 65536 }
+    requires second_in { b ≤ 65536 }
+    ensures { result ≡ pos a -ℤ pos b }
+{
+    a as i32 - b as i32
+}
+
+/// Gives the magnitude that an exponent moves another to.
+///
+/// `raised(2, -5)` is -3. Requires a magnitude and an exponent from -131,072 to 131,072. Not in the original.
+#[inline]
+pub fn raised(magnitude: i32, exponent: i32) -> i32
+    requires magnitude_in { (negsuc 131071 ≤ℤ magnitude) × (magnitude ≤ℤ pos 131072) }
+    requires exponent_in { (negsuc 131071 ≤ℤ exponent) × (exponent ≤ℤ pos 131072) }
+    ensures { result ≡ magnitude +ℤ exponent }
+{
+    magnitude + exponent
+}

@@ -14,7 +14,7 @@ mod round;
 mod text;
 
 use decimal_digits::digits::{DigitList, DigitStore};
-use decimal_digits::ops::lowered;
+use decimal_digits::ops::{index_of, magnitude_of};
 pub use parse::{lowest_of, numeral};
 use std::alloc::Global;
 use std::marker::Model;
@@ -71,14 +71,9 @@ impl<D: DigitStore> UnsignedOver<D> {
     pub fn digit_at(&self, magnitude: i16) -> u8
         ensures { result ≡ digit self.now.number magnitude }
     {
-        if magnitude > self.magnitude {
-            return 0;
-        }
-        let index = (self.magnitude as i32 - magnitude as i32) as usize;
-        if index < self.digits.len() {
-            self.digits.get(index)
-        } else {
-            0
+        match index_of(self.magnitude, magnitude) {
+            Some(index) if index < self.digits.len() => self.digits.get(index),
+            _ => 0,
         }
     }
 
@@ -119,7 +114,7 @@ impl<D: DigitStore> UnsignedOver<D> {
         if len == 0 {
             0
         } else {
-            lowered(self.magnitude, (len - 1) as u32)
+            magnitude_of(self.magnitude, len - 1)
         }
     }
 

@@ -7,7 +7,7 @@ ghost use Rattle.decimal_unsigned.specs.EditLaws.{TrimmedAlike, IsShortest, trun
 
 use super::UnsignedOver;
 use decimal_digits::digits::DigitStore;
-use decimal_digits::ops::{at_least_zero, at_most_zero, count_between, lowered, narrowed, sum};
+use decimal_digits::ops::{at_least_zero, at_most_zero, lowered, magnitude_of, narrowed, places_above, sum};
 
 impl<D: DigitStore> UnsignedOver<D> {
     /// Multiplies by 10 to the power `delta`, exactly.
@@ -96,7 +96,7 @@ impl<D: DigitStore> UnsignedOver<D> {
         ensures { self.new ≡ padded_start self.old position }
     {
         if position > 0 {
-            self.hi = self.magnitude.max(position - 1);
+            self.hi = self.magnitude.max(lowered(position, 1));
         }
     }
 
@@ -127,7 +127,7 @@ impl<D: DigitStore> UnsignedOver<D> {
         let above = places_from(position, self.magnitude);
         let start = first_nonzero(&self.digits, above.min(len));
         let magnitude = if start < len {
-            lowered(self.magnitude, start as u32)
+            magnitude_of(self.magnitude, start)
         } else {
             0
         };
@@ -200,11 +200,7 @@ impl<D: DigitStore> UnsignedOver<D> {
 fn places_from(position: i16, magnitude: i16) -> usize
     ensures { result ≡ int_gap position (magnitude +ℤ pos 1) }
 {
-    if position > magnitude {
-        0
-    } else {
-        count_between(position, magnitude) as usize
-    }
+    places_above(position, magnitude).unwrap_or(0)
 }
 
 /// Finds the first digit from an index on that is not 0: its index, or the number of digits where there is none.

@@ -6,6 +6,7 @@ ghost use Rattle.decimal_unsigned.specs.Unsigned.{integer_value, one_value};
 
 use super::UnsignedOver;
 use decimal_digits::digits::DigitStore;
+use decimal_digits::ops::{at_least_zero, difference};
 use decimal_digits::uint_iterator::{IntIterator, MAX_DIGITS, UnsignedInteger};
 use std::alloc::{AllocError, Global};
 
@@ -131,7 +132,7 @@ impl<D: DigitStore> UnsignedOver<D> {
         ensures short { length digits.now ≤ D.L → IsOk result }
     {
         let kept = D::from_digits(alloc, &digits[..end_of(digits)])?;
-        let magnitude = digits.len().saturating_sub(1) as i16;
+        let magnitude = at_least_zero(difference(digits.len(), 1));
         Ok(UnsignedOver {
             digits: kept,
             magnitude,

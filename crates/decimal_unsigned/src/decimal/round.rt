@@ -9,6 +9,7 @@ ghost use Rattle.decimal_unsigned.specs.EditLaws.{PartsJoin, TruncatedAgain, Exp
 
 use super::UnsignedOver;
 use decimal_digits::digits::{Counted, DigitStore, Steps};
+use decimal_digits::ops::lowered;
 use decimal_digits::rounding::{RoundingIncrement, UnsignedRoundingMode, round};
 use std::alloc::AllocError;
 
@@ -19,7 +20,7 @@ fn highest_after(hi: i16, position: i16, first: i16) -> i16
     ensures { result ≡ int_max (int_max hi (position -ℤ pos 1)) first }
 {
     if position > hi {
-        (position - 1).max(first)
+        lowered(position, 1).max(first)
     } else {
         hi.max(first)
     }

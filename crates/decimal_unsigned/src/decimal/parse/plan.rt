@@ -9,6 +9,7 @@ ghost use Rattle.decimal_unsigned.specs.Parts.{IsHeld};
 ghost use Rattle.decimal_unsigned.specs.Parts.{view};
 
 use super::parts::Parts;
+use decimal_digits::ops::{at_least_zero, at_most_zero, difference, narrowed, raised};
 
 /// The magnitude of the first digit, and the magnitudes that are shown.
 #[derive(Clone, Copy)]
@@ -25,9 +26,9 @@ fn highest_shown(first: i32, hi: i32) -> i16
     ensures { result ≡ (if int_lt (pos 0) first then first else int_max hi (pos 0)) }
 {
     if first > 0 {
-        first as i16
+        narrowed(first)
     } else {
-        hi.max(0) as i16
+        at_least_zero(hi)
     }
 }
 
@@ -38,9 +39,9 @@ fn lowest_shown(last: i32, lo: i32) -> i16
     ensures { result ≡ (if int_lt last (pos 0) then last else int_min lo (pos 0)) }
 {
     if last < 0 {
-        last as i16
+        narrowed(last)
     } else {
-        lo.min(0) as i16
+        at_most_zero(lo)
     }
 }
 
@@ -55,26 +56,18 @@ fn scaled(first: i32, last: i32, hi: i32, lo: i32, exponent: i32) -> Option<Plac
     ensures none { IfNone result ((pos 32767 <ℤ (hi +ℤ exponent)) ⊎ ((lo +ℤ exponent) <ℤ negsuc 32767)) }
     ensures some { IfSome result (λ p. Placed first last hi lo exponent p.magnitude p.hi p.lo) }
 {
-    if hi + exponent > 32767 {
+    let hi = raised(hi, exponent);
+    let lo = raised(lo, exponent);
+    if hi > 32767 || lo < -32768 {
         return None;
     }
-    if lo + exponent < -32768 {
-        return None;
-    }
+    let first = raised(first, exponent);
+    let last = raised(last, exponent);
     Some(Place {
-        magnitude: (first + exponent) as i16,
-        hi: highest_shown(first + exponent, hi + exponent),
-        lo: lowest_shown(last + exponent, lo + exponent),
+        magnitude: narrowed(first),
+        hi: highest_shown(first, hi),
+        lo: lowest_shown(last, lo),
     })
-}
-
-/// The magnitude so many places below the magnitude `whole`.
-fn below(whole: usize, places: usize) -> i32
-    requires whole_in { whole ≤ 32768 }
-    requires places_in { places ≤ 65536 }
-    ensures { result ≡ pos whole -ℤ pos places }
-{
-    whole as i32 - places as i32
 }
 
 /// The magnitudes as they are.
@@ -87,9 +80,9 @@ fn unscaled(magnitude: i32, hi: i32, lo: i32) -> Place
     ensures lo { result.lo ≡ lo }
 {
     Place {
-        magnitude: magnitude as i16,
-        hi: hi as i16,
-        lo: lo as i16,
+        magnitude: narrowed(magnitude),
+        hi: narrowed(hi),
+        lo: narrowed(lo),
     }
 }
 
@@ -118,8 +111,8 @@ pub fn planned(parts: &Parts<'_>) -> Option<Plan>
     }
     let end = parts.end();
     let start = parts.start();
-    let hi = below(whole.max(1), 1);
-    let lo = below(0, fraction);
+    let hi = difference(whole.max(1), 1);
+    let lo = difference(0, fraction);
     if end == 0 {
         return Some(Plan {
             start: 0,
@@ -127,7 +120,7 @@ pub fn planned(parts: &Parts<'_>) -> Option<Plan>
             place: unscaled(0, hi, lo),
         });
     }
-    let first = below(whole, start + 1);
+    let first = difference(whole, start + 1);
     match parts.exponent {
         None => Some(Plan {
             start,
@@ -135,7 +128,7 @@ pub fn planned(parts: &Parts<'_>) -> Option<Plan>
             place: unscaled(first, hi, lo),
         }),
         Some(exponent) => {
-            let place = scaled(first, below(whole, end), hi, lo, exponent)?;
+            let place = scaled(first, difference(whole, end), hi, lo, exponent)?;
             Some(Plan { start, end, place })
         }
     }

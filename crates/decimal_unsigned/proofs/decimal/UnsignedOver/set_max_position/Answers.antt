@@ -12,11 +12,8 @@ use Rattle.decimal_unsigned.proofs.EditLaws.{parts}
 use Rattle.decimal_unsigned.proofs.decimal.UnsignedOver.set_max_position.Goals as goal
 use Rattle.decimal_unsigned.proofs.decimal.UnsignedOver.set_max_position.Goals.{then-start-len, else-start-len}
 
-pub overflow_cast-start : goal.overflow_cast-start
-overflow_cast-start g c = let t = c.self.invariant in omega (arith, c.first_nonzero-start.ensures.within, length_le t, high t)
-
-pub lowered-magnitude-requires : goal.lowered-magnitude-requires
-lowered-magnitude-requires g c = let t = c.self.invariant in omega (arith, ints, magnitude_kept t, c.if-start-len.true, c.len-len.ensures, t.fits, t.in_range, lowest t, place_is c.self.inside.magnitude, place_is c.self.inside.lo)
+pub magnitude_of-magnitude-requires : goal.magnitude_of-magnitude-requires
+magnitude_of-magnitude-requires g c = let t = c.self.invariant in omega (arith, ints, magnitude_kept t, c.if-start-len.true, c.len-len.ensures, t.fits, t.in_range, lowest t, place_is c.self.inside.magnitude, place_is c.self.inside.lo)
 
 cuts : (g : _) (c : goal.After-self-3-1 g) → Cuts (g.D.DigitStore.digits c.self.inside.digits) c.self.inside.magnitude c.self.inside.lo c.args.position c.first_nonzero-start.result (to_z w16 c.if-start-len.magnitude-bits) (to_z w16 (of_z w16 c.at_least_zero-hi.result)) (to_z w16 (of_z w16 c.min-lo.result))
 cuts g c =
@@ -31,7 +28,7 @@ cuts g c =
       zeros = λ k l h. f.zeros k (subst (λ n. n ≤ k) (sym from) l) h;
       found = f.found;
       some = λ h. elim c.if-start-len.branch [
-        | then-start-len w ↦ w.magnitude-is ∙ narrow_kept w.lowered-magnitude.type_inv ∙ w.lowered-magnitude.ensures ∙ ap (λ m. m -ℤ pos c.first_nonzero-start.result) (magnitude_kept t)
+        | then-start-len w ↦ w.magnitude-is ∙ narrow_kept w.magnitude_of-magnitude.type_inv ∙ w.magnitude_of-magnitude.ensures ∙ ap (λ m. m -ℤ pos c.first_nonzero-start.result) (magnitude_kept t)
         | else-start-len w ↦ absurd (omega (arith, w.if-start-len.false, c.len-len.ensures))
       ];
       none = λ h. elim c.if-start-len.branch [

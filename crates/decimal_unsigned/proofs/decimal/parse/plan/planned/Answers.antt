@@ -30,7 +30,7 @@ unscaled-requires-in-None-clause-magnitude_in c =
     let end = c.end-end.result in
     let n = inner (digits_of w) start end (omega arith) c.end-end.ensures.within c.start-start.ensures.before c.start-start.ensures.found c.end-end.ensures.after c.end-end.ensures.found in
     let l = length_digits w c.requires.digits c.if-whole-gt32768.false c.if-fraction-gt32768.false in
-    (omega (arith, ints, n.ordered, n.within, l, c.below-first.ensures), omega (arith, ints, n.ordered, n.within, l, c.below-first.ensures))
+    (omega (arith, ints, n.ordered, n.within, l, c.difference-first.ensures), omega (arith, ints, n.ordered, n.within, l, c.difference-first.ensures))
 
 pub scaled-requires-clause-ordered : goal.scaled-requires-clause-ordered
 scaled-requires-clause-ordered c =
@@ -39,7 +39,7 @@ scaled-requires-clause-ordered c =
     let end = c.end-end.result in
     let n = inner (digits_of w) start end (omega arith) c.end-end.ensures.within c.start-start.ensures.before c.start-start.ensures.found c.end-end.ensures.after c.end-end.ensures.found in
     let l = length_digits w c.requires.digits c.if-whole-gt32768.false c.if-fraction-gt32768.false in
-    omega (arith, ints, n.ordered, n.within, l, c.below-first.ensures, c.below.ensures)
+    omega (arith, ints, n.ordered, n.within, l, c.difference-first.ensures, c.difference.ensures)
 
 pub scaled-requires-clause-last_in : goal.scaled-requires-clause-last_in
 scaled-requires-clause-last_in c =
@@ -48,7 +48,7 @@ scaled-requires-clause-last_in c =
     let end = c.end-end.result in
     let n = inner (digits_of w) start end (omega arith) c.end-end.ensures.within c.start-start.ensures.before c.start-start.ensures.found c.end-end.ensures.after c.end-end.ensures.found in
     let l = length_digits w c.requires.digits c.if-whole-gt32768.false c.if-fraction-gt32768.false in
-    omega (arith, ints, n.ordered, n.within, l, c.below-lo.ensures, c.below.ensures)
+    omega (arith, ints, n.ordered, n.within, l, c.difference-lo.ensures, c.difference.ensures)
 
 pub returns-in_err-place-in-Some-clause-none : goal.returns-in_err-place-in-Some-clause-none
 returns-in_err-place-in-Some-clause-none c =
@@ -59,8 +59,8 @@ returns-in_err-place-in-Some-clause-none c =
     let l = length_digits w c.requires.digits c.if-whole-gt32768.false c.if-fraction-gt32768.false in
     let h = rw c.in-Some.is at c.requires.exponent in
     let e : to_z w32 (of_z w32 c.in-Some.exponent) ≡ c.in-Some.exponent = omega (arith, ints, h.low, h.high) in
-    let hi : to_z w32 (of_z w32 c.below-hi.result) ≡ pos (length c.args.parts.now.whole.now - 1) = omega (arith, ints) in
-    let lo : to_z w32 (of_z w32 c.below-lo.result) ≡ pos 0 -ℤ pos (length c.args.parts.now.fraction.now) = omega (arith, ints) in
+    let hi : to_z w32 (of_z w32 c.difference-hi.result) ≡ pos (length c.args.parts.now.whole.now - 1) = omega (arith, ints) in
+    let lo : to_z w32 (of_z w32 c.difference-lo.result) ≡ pos 0 -ℤ pos (length c.args.parts.now.fraction.now) = omega (arith, ints) in
     let o = rw (hi, lo, e) at c.in_err-place-in-Some.ensures.none in
     if_none c.from_residual.result (limit_scaled w c.requires.digits c.if-whole-gt32768.false c.if-fraction-gt32768.false start end n _ refl c.in-Some.exponent c.in-Some.is o)
 
@@ -81,9 +81,9 @@ returns-in_ok-place-in-Some-clause-some c =
     let n = inner (digits_of w) start end (omega arith) c.end-end.ensures.within c.start-start.ensures.before c.start-start.ensures.found c.end-end.ensures.after c.end-end.ensures.found in
     let h = rw c.in-Some.is at c.requires.exponent in
     let e : to_z w32 (of_z w32 c.in-Some.exponent) ≡ c.in-Some.exponent = omega (arith, ints, h.low, h.high) in
-    let hi : to_z w32 (of_z w32 c.below-hi.result) ≡ pos (length c.args.parts.now.whole.now - 1) = omega (arith, ints) in
-    let lo : to_z w32 (of_z w32 c.below-lo.result) ≡ pos 0 -ℤ pos (length c.args.parts.now.fraction.now) = omega (arith, ints) in
-    let first : to_z w32 (of_z w32 c.below-first.result) ≡ (pos (length c.args.parts.now.whole.now) -ℤ pos 1) -ℤ pos start = omega (arith, ints) in
-    let last : to_z w32 (of_z w32 c.below.result) ≡ pos (length c.args.parts.now.whole.now) -ℤ pos end = omega (arith, ints) in
+    let hi : to_z w32 (of_z w32 c.difference-hi.result) ≡ pos (length c.args.parts.now.whole.now - 1) = omega (arith, ints) in
+    let lo : to_z w32 (of_z w32 c.difference-lo.result) ≡ pos 0 -ℤ pos (length c.args.parts.now.fraction.now) = omega (arith, ints) in
+    let first : to_z w32 (of_z w32 c.difference-first.result) ≡ (pos (length c.args.parts.now.whole.now) -ℤ pos 1) -ℤ pos start = omega (arith, ints) in
+    let last : to_z w32 (of_z w32 c.difference.result) ≡ pos (length c.args.parts.now.whole.now) -ℤ pos end = omega (arith, ints) in
     let p = placed_at _ _ _ _ _ _ _ _ _ _ _ _ _ c.in_ok-place-in-Some.ensures.some first last hi lo e in
     makes_scaled w c.requires.digits c.if-whole-gt32768.false c.if-fraction-gt32768.false start end n _ refl c.in-Some.exponent _ _ _ c.in-Some.is p
