@@ -12,7 +12,7 @@ use Rattle.decimal_digits.specs.Number.{place, weight}
 use Rattle.decimal_digits.specs.Digits.{number_of, number_at}
 use Rattle.decimal_digits.proofs.DigitLists.{ten_pos, number_split, number-drop-lt, below_drop}
 use Rattle.decimal_digits.proofs.Places.{place_is, gap_is}
-use Rattle.decimal_unsigned.specs.Fields.{IsTrimmed}
+use Rattle.decimal_unsigned.specs.Fields.{IsStored}
 use Rattle.decimal_unsigned.specs.Edits.{cut}
 use Rattle.decimal_unsigned.proofs.Middle.{number_zeros}
 use Rattle.decimal_unsigned.proofs.Values.{number_of-lt, number_of-none, lowest}
@@ -45,19 +45,20 @@ pub record Cuts (ds : List ℕ) (m lo p : ℤ) (start : ℕ) (m' hi' lo' : ℤ) 
   pub lo_is : lo' ≡ int_min lo p
   pub position : (negsuc 32767 ≤ℤ p) × (p ≤ℤ pos 32767)
 
-module _ {ds : List ℕ} {m hi lo p m' hi' lo' : ℤ} {start : ℕ} (t : IsTrimmed ds m hi lo) (c : Cuts ds m lo p start m' hi' lo') where
+module _ {ds : List ℕ} {m hi lo p m' hi' lo' : ℤ} {start : ℕ} (t : IsStored ds m hi lo) (c : Cuts ds m lo p start m' hi' lo') where
   left : length (drop start ds) ≡ length ds - start
   left = length-drop start ds
 
-  pub trimmed_cut : IsTrimmed (drop start ds) m' hi' lo'
-  trimmed_cut = elim (cases_lt start (length ds)) [
+  -- the digits below the position, as a value holds them
+  pub stored_cut : IsStored (drop start ds) m' hi' lo'
+  stored_cut = elim (cases_lt start (length ds)) [
     | inl h ↦ let e = c.some h in record {
       digits = below_drop start ds t.digits;
       front = λ q. subst (λ d. 0 < d) (sym (get_or-drop start ds 0 0)) (subst (λ k. 0 < get_or ds k 0) (let k : start ≡ start + 0 = omega arith in k) (c.found h));
       back = λ q. subst (λ d. 0 < d) (sym (get_or-drop start ds (length (drop start ds) - 1) 0)) (subst (λ k. 0 < get_or ds k 0) (let k : length ds - 1 ≡ start + (length (drop start ds) - 1) = omega (arith, left) in k) (t.back (omega arith)));
       empty = λ z. absurd (omega (arith, left));
-      above = omega (arith, ints, clamps, e, c.hi_is, c.from, h, gap_is p (m +ℤ pos 1));
-      below = omega (arith, ints, clamps, e, c.lo_is, h, t.fits, place_is m, place_is lo, lowest t, t.in_range);
+      hi_covers = omega (arith, ints, clamps, e, c.hi_is, c.from, h, gap_is p (m +ℤ pos 1));
+      lo_covers = omega (arith, ints, clamps, e, c.lo_is, h, t.fits, place_is m, place_is lo, lowest t, t.in_range);
       fits = omega (arith, ints, clamps, e, left, h, c.lo_is, t.fits, c.position, place_is m, place_is m', place_is lo, place_is lo', lowest t, t.in_range);
       hi_in = omega (arith, ints, clamps, c.hi_is);
       lo_in = omega (arith, ints, clamps, c.lo_is, t.lo_in);
@@ -68,8 +69,8 @@ module _ {ds : List ℕ} {m hi lo p m' hi' lo' : ℤ} {start : ℕ} (t : IsTrimm
       front = λ q. absurd (omega (arith, left));
       back = λ q. absurd (omega (arith, left));
       empty = λ z. e;
-      above = omega (arith, ints, clamps, e, c.hi_is);
-      below = omega (arith, ints, clamps, e, c.lo_is, t.lo_in);
+      hi_covers = omega (arith, ints, clamps, e, c.hi_is);
+      lo_covers = omega (arith, ints, clamps, e, c.lo_is, t.lo_in);
       fits = omega (arith, ints, clamps, e, left, h, c.lo_is, t.lo_in, c.position, t.in_range, place_is m', place_is lo');
       hi_in = omega (arith, ints, clamps, c.hi_is);
       lo_in = omega (arith, ints, clamps, c.lo_is, t.lo_in);
@@ -80,60 +81,60 @@ module _ {ds : List ℕ} {m hi lo p m' hi' lo' : ℤ} {start : ℕ} (t : IsTrimm
   abbrev ends : ℕ
   ends = place m + 1 - length ds
 
-  abbrev kept : ℕ
-  kept = number_from_digits 10 (drop start ds)
+  abbrev rest_value : ℕ
+  rest_value = number_from_digits 10 (drop start ds)
 
-  kept_lt : kept < 10 ^ (length ds - start)
-  kept_lt = number-drop-lt start ds t.digits
+  rest_lt : rest_value < 10 ^ (length ds - start)
+  rest_lt = number-drop-lt start ds t.digits
 
-  none_kept : length ds ≤ start → kept ≡ 0
-  none_kept h = omega (arith, kept_lt, ap (λ k. 10 ^ k) (let z : length ds - start ≡ 0 = omega arith in z))
+  rest_none : length ds ≤ start → rest_value ≡ 0
+  rest_none h = omega (arith, rest_lt, ap (λ k. 10 ^ k) (let z : length ds - start ≡ 0 = omega arith in z))
 
-  -- the digits that are kept stand where they stood
-  kept_is : number_of (drop start ds) m' ≡ kept * 10 ^ ends
-  kept_is = elim (cases_lt start (length ds)) [
-    | inl h ↦ number_of_is (drop start ds) m' ∙ ap (λ k. kept * 10 ^ k) (let k : place m' + 1 - length (drop start ds) ≡ ends = omega (arith, ints, left, h, c.some h, t.fits, place_is m, place_is m', place_is lo, lowest t, t.in_range) in k)
+  -- the digits that are left stand where they stood
+  rest_is : number_of (drop start ds) m' ≡ rest_value * 10 ^ ends
+  rest_is = elim (cases_lt start (length ds)) [
+    | inl h ↦ number_of_is (drop start ds) m' ∙ ap (λ k. rest_value * 10 ^ k) (let k : place m' + 1 - length (drop start ds) ≡ ends = omega (arith, ints, left, h, c.some h, t.fits, place_is m, place_is m', place_is lo, lowest t, t.in_range) in k)
     | inr h ↦
-        let z = none_kept h in
-        number_of-none trimmed_cut (omega (arith, left)) ∙ (rw z (omega arith))
+        let z = rest_none h in
+        number_of-none stored_cut (omega (arith, left)) ∙ (rw z (omega arith))
   ]
 
-  whole : (a : ℕ) → a ≡ min (int_gap p (m +ℤ pos 1)) (length ds) → number_of ds m ≡ number_from_digits 10 (take a ds) * 10 ^ (length ds - a + ends) + kept * 10 ^ ends
+  whole : (a : ℕ) → a ≡ min (int_gap p (m +ℤ pos 1)) (length ds) → number_of ds m ≡ number_from_digits 10 (take a ds) * 10 ^ (length ds - a + ends) + rest_value * 10 ^ ends
   whole a e =
       let n = number_cut ds a start (omega (arith, c.from)) c.within (λ k q r. c.zeros k (omega arith) r) in
       number_of_is ds m ∙ (rw (n, pow-add 10 (length ds - a) ends) (omega arith))
 
-  below_kept : (a : ℕ) → a ≤ start → kept * 10 ^ ends < 10 ^ (length ds - a + ends)
-  below_kept a h =
+  rest_below : (a : ℕ) → a ≤ start → rest_value * 10 ^ ends < 10 ^ (length ds - a + ends)
+  rest_below a h =
       let l : 10 ^ (length ds - start) ≤ 10 ^ (length ds - a) = pow-le-pow_right (omega arith) (omega arith) in
-      let b : kept < 10 ^ (length ds - a) = omega (arith, kept_lt) in
+      let b : rest_value < 10 ^ (length ds - a) = omega (arith, rest_lt) in
       rw (pow-add 10 (length ds - a) ends) (mul-lt-mul_of_pos_right b (ten_pos ends))
 
   abbrev gap : ℕ
   gap = int_gap p (m +ℤ pos 1)
 
   -- the position is above the digits, within them, or below them
-  over : gap ≡ 0 → number_of ds m ≡ kept * 10 ^ ends → kept * 10 ^ ends ≡ number_of ds m % weight p
+  over : gap ≡ 0 → number_of ds m ≡ rest_value * 10 ^ ends → rest_value * 10 ^ ends ≡ number_of ds m % weight p
   over g e =
       let l : 10 ^ (place m + 1) ≤ 10 ^ place p = pow-le-pow_right (omega arith) (omega (arith, ints, g, gap_is p (m +ℤ pos 1), place_is p, place_is m, c.position, lowest t)) in
       sym (mod-eq_of_lt (omega (arith, number_of-lt t, l)) ∙ e)
 
-  inside : 0 < gap → gap ≤ length ds → kept * 10 ^ ends ≡ number_of ds m % weight p
+  inside : 0 < gap → gap ≤ length ds → rest_value * 10 ^ ends ≡ number_of ds m % weight p
   inside g h =
       let k : length ds - gap + ends ≡ place p = omega (arith, ints, g, h, t.fits, gap_is p (m +ℤ pos 1), place_is p, place_is m, c.position, lowest t) in
-      sym (ap (λ n. n % 10 ^ place p) (whole gap (omega arith) ∙ ap (λ k. number_from_digits 10 (take gap ds) * 10 ^ k + kept * 10 ^ ends) k)
-      ∙ mod-mul-add _ _ _ (subst (λ k. kept * 10 ^ ends < 10 ^ k) k (below_kept gap (omega (arith, c.from)))))
+      sym (ap (λ n. n % 10 ^ place p) (whole gap (omega arith) ∙ ap (λ k. number_from_digits 10 (take gap ds) * 10 ^ k + rest_value * 10 ^ ends) k)
+      ∙ mod-mul-add _ _ _ (subst (λ k. rest_value * 10 ^ ends < 10 ^ k) k (rest_below gap (omega (arith, c.from)))))
 
-  under : length ds < gap → kept * 10 ^ ends ≡ number_of ds m % weight p
+  under : length ds < gap → rest_value * 10 ^ ends ≡ number_of ds m % weight p
   under h =
-      let z : kept ≡ 0 = none_kept (omega (arith, c.from)) in
+      let z : rest_value ≡ 0 = rest_none (omega (arith, c.from)) in
       let high = number_from_digits 10 ds * 10 ^ (ends - place p) in
       let k : ends ≡ ends - place p + place p = omega (arith, ints, h, t.fits, gap_is p (m +ℤ pos 1), place_is p, place_is m, c.position, lowest t) in
       let e : number_of ds m ≡ high * 10 ^ place p = number_of_is ds m ∙ ap (λ k. number_from_digits 10 ds * 10 ^ k) k ∙ (rw pow-add (omega arith)) in
       sym (ap (λ n. n % 10 ^ place p) e ∙ mul-mod_left high (10 ^ place p) ∙ (rw z (omega arith)))
 
   number_of-cut : number_of (drop start ds) m' ≡ number_of ds m % weight p
-  number_of-cut = kept_is ∙ (elim (cases_lt (length ds) gap) [
+  number_of-cut = rest_is ∙ (elim (cases_lt (length ds) gap) [
     | inl h ↦ under h
     | inr h ↦ elim (cases_lt 0 gap) [
       | inl g ↦ inside g h
@@ -141,5 +142,6 @@ module _ {ds : List ℕ} {m hi lo p m' hi' lo' : ℤ} {start : ℕ} (t : IsTrimm
     ]
   ])
 
+  -- they make the part below the position
   pub cut_is : record { number = number_of (drop start ds) m'; hi = hi'; lo = lo' } ≡ cut (record { number = number_of ds m; hi = hi; lo = lo }) p
   cut_is = λ i. record { number = number_of-cut i; hi = c.hi_is i; lo = c.lo_is i }

@@ -17,8 +17,9 @@ use Rattle.decimal_unsigned.specs.Edits.{cut}
 use Rattle.decimal_unsigned.specs.Rounded.{with_number}
 use Rattle.decimal_unsigned.specs.Text.{text}
 use Rattle.decimal_unsigned.specs.EditLaws.{trimmed, TrimmedAlike, IsShortest, truncated, PartsJoin}
-use Rattle.decimal_unsigned.proofs.FirstLast.{first_of, last_of, top_lt}
-use Rattle.decimal_unsigned.proofs.JoiningLaws.{ends_of, parts_join, parts_number, parts_value}
+use Rattle.decimal_unsigned.proofs.FirstLast.{last_of, first_le}
+use Rattle.decimal_unsigned.proofs.JoiningLaws.{extent_of, parts_join, parts_number, parts_value}
+use Rattle.decimal_unsigned.proofs.Roundings.{within}
 use Rattle.decimal_unsigned.proofs.Lengths.{length-text_whole, length-text_dotted}
 
 -- ---- Trims.
@@ -27,6 +28,7 @@ use Rattle.decimal_unsigned.proofs.Lengths.{length-text_whole, length-text_dotte
 bare : ℕ → Unsigned
 bare n = record { number = n; hi = int_max (first n) (pos 0); lo = int_min (last n) (pos 0) }
 
+-- equal numbers are equal after both trims, and the other way round
 pub trimmed_alike : (v w : Unsigned) → TrimmedAlike v w
 unfolding bare
 trimmed_alike v w = (λ e. ap bare e, λ e. ap (λ (x : Unsigned). x.number) e)
@@ -34,15 +36,12 @@ trimmed_alike v w = (λ e. ap bare e, λ e. ap (λ (x : Unsigned). x.number) e)
 module _ (w : Unsigned) (valid : IsValue w) where
   -- a value shows its first digit and its last one
   first_in : first w.number ≤ℤ w.hi
-  first_in = elim (cases_lt 0 w.number) [
-    | inl some ↦ let e = ends_of w valid some in omega (arith, ints, first_of e, top_lt e (place w.hi + 1) valid.below, place_is w.hi, valid.hi_in)
-    | inr none ↦ let z : first w.number ≡ pos 0 = ap first (let y : w.number ≡ 0 = omega arith in y) ∙ first_zero in omega (arith, ints, z, valid.hi_in)
-  ]
+  first_in = first_le w.number w.hi valid.below valid.hi_in.0 valid.hi_in.1
 
   last_in : w.lo ≤ℤ last w.number
   last_in = elim (cases_lt 0 w.number) [
     | inl some ↦
-        let e = ends_of w valid some in
+        let e = extent_of w valid some in
         elim (cases_lt e.bottom (place w.lo)) [
           | inl h ↦ absurd (no_more_zeros e.factor e.bottom (place w.lo) e.odd h (ap (λ n. n % weight w.lo) (sym e.is) ∙ valid.whole))
           | inr h ↦ omega (arith, ints, last_of e, h, place_is w.lo, valid.lo_in)
@@ -63,6 +62,7 @@ shorter v w h l up down = elim (by_dot v l) [
     by_dot : (x : Unsigned) → x.lo ≤ℤ pos 0 → (x.lo ≡ pos 0) ⊎ (x.lo <ℤ pos 0)
     by_dot x l = by_lt_z x.lo (pos 0) (λ k. inr k) (λ k. inl (omega (arith, ints)))
 
+-- after both trims no value of the number has a shorter text
 pub shortest : (v : Unsigned) → IsShortest (trimmed v)
 shortest v w valid e =
     let f : first v.number ≤ℤ w.hi = subst (λ n. first n ≤ℤ w.hi) e (first_in w valid) in
@@ -71,6 +71,7 @@ shortest v w valid e =
 
 -- ---- The parts of a value at a position.
 module _ (v : Unsigned) (p : ℤ) (valid : IsValue v) where
+  -- a value lies below 10 to the 32768
   pub below_limit : v.number < weight (pos 32768)
   below_limit =
       let k : place v.hi + 1 ≤ place (pos 32768) = omega (arith, ints, place_is v.hi, place_is (pos 32768), valid.hi_in) in
@@ -78,18 +79,16 @@ module _ (v : Unsigned) (p : ℤ) (valid : IsValue v) where
       omega (arith, valid.below, m)
 
   -- the number without its part below the position
-  kept_number : rounded_number Trunc (unit_at MultiplesOf1 p) v.number ≡ v.number - v.number % weight p
+  truncated_number : rounded_number Trunc (unit_at MultiplesOf1 p) v.number ≡ v.number - v.number % weight p
   unfolding rounded_number
-  kept_number = ap (λ u. v.number - v.number % u) (let e : 1 * weight p ≡ weight p = omega arith in e)
+  truncated_number = ap (λ u. v.number - v.number % u) (let e : 1 * weight p ≡ weight p = omega arith in e)
 
   truncated_is : truncated v p ≡ with_number v p (v.number - v.number % weight p)
   truncated_is =
-      let small : nat_le (weight (pos 32768)) (v.number - v.number % weight p) ≡ false = not_le _ _ (omega (arith, below_limit)) in
-      rw (kept_number, small) refl
-    where
-      not_le : (a b : ℕ) → b < a → nat_le a b ≡ false
-      not_le a b h = grind (arith, nat_tests, h)
+      let small : nat_le (weight (pos 32768)) (v.number - v.number % weight p) ≡ false = within (v.number - v.number % weight p) (weight (pos 32768)) (omega (arith, below_limit)) in
+      rw (truncated_number, small) refl
 
+  -- the truncated value and the part below the position make the value
   pub parts : PartsJoin v p (truncated v p) (cut v p)
   parts = subst (λ t. PartsJoin v p t (cut v p)) (sym truncated_is) (record {
     apart = parts_join v (with_number v p (v.number - v.number % weight p)) p valid refl;

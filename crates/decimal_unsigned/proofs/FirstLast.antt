@@ -3,15 +3,16 @@ use Rattle.std.proofs.Common.{◌≡◌, ℕ, zero, suc, ◌+◌, ◌-◌, ◌*�
 use Rattle.std.proofs.Math.Nat.{mul_assoc, pow-suc, pow-le-pow_right, div-add-mod', le-mul_of_pos_right, lt_of_mul-lt-mul_right, mul-add-mod_self_right, mul-le-mul_right}
 use Rattle.std.proofs.Math.Nat.{mod-le, mod-lt, div-le_self}
 use Rattle.std.proofs.lemmas.Int.{ints}
-use Rattle.std.specs.Prelude.{◌<ℤ◌}
+use Rattle.std.specs.Prelude.{ℤ, pos, ◌<ℤ◌, ◌≤ℤ◌}
 use Rattle.std.proofs.lemmas.Nat.{pow-add}
 use Rattle.std.proofs.lemmas.Bool.{cases_lt}
-use Rattle.decimal_digits.specs.Number.{first, last, magnitude_at}
+use Rattle.decimal_digits.specs.Number.{place, first, last, magnitude_at}
 use Rattle.decimal_digits.proofs.DigitLists.{ten_pos}
-use Rattle.decimal_digits.proofs.Ends.{first_is, last_is}
+use Rattle.decimal_digits.proofs.Ends.{first_is, last_is, first_zero}
+use Rattle.decimal_digits.proofs.Places.{place_is}
 
 -- the number has its first digit at one place and its last at another, and is a multiple of that one's weight
-pub record Ends (n : ℕ) : Type 0 where
+pub record Extent (n : ℕ) : Type 0 where
   pub top : ℕ
   pub bottom : ℕ
   pub factor : ℕ
@@ -42,13 +43,14 @@ bottom_of (suc b) n p h = elim (cases_lt 0 (n % 10)) [
 ]
 
 -- ---- each number above 0 has them
-pub ends : (b n : ℕ) → 0 < n → n < 10 ^ b → b ≤ 65536 → Ends n
-ends b n p h l =
+pub extent : (b n : ℕ) → 0 < n → n < 10 ^ b → b ≤ 65536 → Extent n
+extent b n p h l =
     let t = top_of b n p h in
     let e = bottom_of b n p h in
     record { top = t.0; bottom = e.0; factor = e.1; is = e.2; odd = e.3; reaches = t.2; below = t.3; limit = omega (arith, t.1) }
 
-module _ {n : ℕ} (e : Ends n) where
+module _ {n : ℕ} (e : Extent n) where
+  -- the last digit is not above the first
   pub ordered : e.bottom ≤ e.top
   ordered = elim (cases_lt e.top e.bottom) [
     | inl h ↦
@@ -59,24 +61,34 @@ module _ {n : ℕ} (e : Ends n) where
     | inr h ↦ h
   ]
 
+  -- the first digit stands below each power that is more
   pub top_lt : (b : ℕ) → n < 10 ^ b → e.top < b
   top_lt b h = elim (cases_lt e.top b) [
     | inl l ↦ l
     | inr g ↦ let p : 10 ^ b ≤ 10 ^ e.top = pow-le-pow_right (omega arith) g in absurd (omega (arith, p, e.reaches))
   ]
 
+  -- the first digit
   pub first_of : first n ≡ magnitude_at e.top
   first_of = first_is n e.top e.reaches e.below e.limit
 
+  -- the last digit
   pub last_of : last n ≡ magnitude_at e.bottom
   last_of = ap last e.is ∙ last_is e.factor e.bottom e.odd (omega (arith, ordered, e.limit))
+
+-- a number that a range up to hi holds has its first digit at hi or below
+pub first_le : (n : ℕ) (hi : ℤ) → n < 10 ^ (place hi + 1) → pos 0 ≤ℤ hi → hi ≤ℤ pos 32767 → first n ≤ℤ hi
+first_le n hi few low high = elim (cases_lt 0 n) [
+  | inl some ↦ let e = extent (place hi + 1) n some few (omega (arith, ints, place_is hi)) in omega (arith, ints, first_of e, top_lt e (place hi + 1) few, place_is hi)
+  | inr none ↦ let z : first n ≡ pos 0 = ap first (let y : n ≡ 0 = omega arith in y) ∙ first_zero in omega (arith, ints, z)
+]
 
 last_digit : (x y d : ℕ) → 0 < d → (x * 10 ^ d + y) % 10 ≡ y % 10
 last_digit x y zero h = absurd (omega arith)
 last_digit x y (suc d) h = let p : x * 10 ^ suc d ≡ (x * 10 ^ d) * 10 = rw (pow-suc 10 d) (omega arith) in rw p (mul-add-mod_self_right (x * 10 ^ d) 10 y)
 
 -- ---- the sum of two numbers of which the second lies below the last digit of the first
-module _ {m n : ℕ} (a : Ends m) (b : Ends n) (apart : b.top < a.bottom) where
+module _ {m n : ℕ} (a : Extent m) (b : Extent n) (apart : b.top < a.bottom) where
   sum_is : m + n ≡ (a.factor * 10 ^ (a.bottom - b.bottom) + b.factor) * 10 ^ b.bottom
   sum_is =
       let k : a.bottom ≡ (a.bottom - b.bottom) + b.bottom = omega (arith, ordered b) in
@@ -93,9 +105,11 @@ module _ {m n : ℕ} (a : Ends m) (b : Ends n) (apart : b.top < a.bottom) where
       let h : 10 ^ (b.top + 1) ≤ 10 ^ a.bottom = pow-le-pow_right (omega arith) (omega arith) in
       omega (arith, a.is, b.below, split, g, h)
 
+  -- the sum begins with the first number
   pub first_sum : first (m + n) ≡ first m
   first_sum = first_is (m + n) a.top (omega (arith, a.reaches)) sum_below a.limit ∙ sym (first_of a)
 
+  -- and ends with the second
   pub last_sum : last (m + n) ≡ last n
   last_sum =
       let odd : 0 < (a.factor * 10 ^ (a.bottom - b.bottom) + b.factor) % 10 = omega (arith, last_digit a.factor b.factor (a.bottom - b.bottom) (omega (arith, apart, ordered b)), b.odd) in
@@ -106,6 +120,7 @@ module _ (n q b : ℕ) (few : n < 10 ^ b) (high : b ≤ 65536) where
   above_is : n - n % 10 ^ q ≡ n / 10 ^ q * 10 ^ q
   above_is = let e = div-add-mod' n (10 ^ q) in omega (arith, e)
 
+  -- the two parts make the number
   pub parts_sum : (n - n % 10 ^ q) + n % 10 ^ q ≡ n
   parts_sum = omega (arith, mod-le n (10 ^ q))
 
@@ -116,8 +131,8 @@ module _ (n q b : ℕ) (few : n < 10 ^ b) (high : b ≤ 65536) where
       | inr h ↦ let z : n / 10 ^ q * 10 ^ q ≡ 0 = ap (λ x. x * 10 ^ q) (let y : n / 10 ^ q ≡ 0 = omega arith in y) ∙ (omega arith) in absurd (omega (arith, above_is, z))
     ]
 
-    quotient : Ends (n / 10 ^ q)
-    quotient = ends b (n / 10 ^ q) quotient_counts (omega (arith, few, div-le_self n (10 ^ q))) high
+    quotient : Extent (n / 10 ^ q)
+    quotient = extent b (n / 10 ^ q) quotient_counts (omega (arith, few, div-le_self n (10 ^ q))) high
 
     above_factor : n - n % 10 ^ q ≡ quotient.factor * 10 ^ (quotient.bottom + q)
     above_factor = above_is ∙ ap (λ x. x * 10 ^ q) quotient.is ∙ (rw (pow-add 10 quotient.bottom q) (omega arith))
@@ -135,8 +150,9 @@ module _ (n q b : ℕ) (few : n < 10 ^ b) (high : b ≤ 65536) where
     last_above : last (n - n % 10 ^ q) ≡ magnitude_at (quotient.bottom + q)
     last_above = ap last above_factor ∙ last_is quotient.factor (quotient.bottom + q) quotient.odd above_limit
 
-    below : Ends (n % 10 ^ q)
-    below = ends b (n % 10 ^ q) more (omega (arith, few, mod-le n (10 ^ q))) high
+    lower : Extent (n % 10 ^ q)
+    lower = extent b (n % 10 ^ q) more (omega (arith, few, mod-le n (10 ^ q))) high
 
+    -- the lower part begins below the end of the upper one
     pub parts_apart : first (n % 10 ^ q) <ℤ last (n - n % 10 ^ q)
-    parts_apart = omega (arith, ints, first_of below, last_above, top_lt below q (mod-lt n (ten_pos q)))
+    parts_apart = omega (arith, ints, first_of lower, last_above, top_lt lower q (mod-lt n (ten_pos q)))

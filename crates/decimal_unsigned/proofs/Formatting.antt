@@ -17,9 +17,11 @@ pub record Formatted {W : Type 0} (took : W → List ℕ → W → Type 0) (f g 
   pub rest : part ++ text_down number (hi -ℤ pos i) (count - i) ≡ text_down number hi count
 
 module _ {W : Type 0} {took : W → List ℕ → W → Type 0} {number : ℕ} {hi : ℤ} {count : ℕ} where
+  -- before the first magnitude
   pub formatted_none : (f : Formatter W) → IsFlush f → Formatted took f f number hi count 0
   formatted_none f h = record { part = []; wrote = has_written_styled_nil took f h; rest = text_down-all number hi count }
 
+  -- one magnitude more was formatted
   pub formatted_more : {i : ℕ} {f g : Formatter W} (h : Formatter W) → Formatted took f g number hi count i → i < count → HasWrittenStyled took g (dot_before (hi -ℤ pos i) ++ (48 + digit number (hi -ℤ pos i)) ∷ []) h → Formatted took f h number hi count (i + 1)
   formatted_more {i} {f} {g} h w l p = record {
     part = w.part ++ (dot_before (hi -ℤ pos i) ++ (48 + digit number (hi -ℤ pos i)) ∷ []);
@@ -27,6 +29,7 @@ module _ {W : Type 0} {took : W → List ℕ → W → Type 0} {number : ℕ} {h
     rest = append_assoc w.part _ _ ∙ ap (λ l. w.part ++ l) (sym (text_down-step number hi count i l)) ∙ w.rest;
   }
 
+  -- all magnitudes were formatted
   pub formatted_all : {i : ℕ} {f g : Formatter W} → Formatted took f g number hi count i → count ≤ i → HasWrittenStyled took f (text_down number hi count) g
   formatted_all {i} {f} {g} w h = has_written_styled_of_eq took f w.part _ g (sym (append-nil w.part) ∙ ap (λ l. w.part ++ l) (sym (text_down-end number hi count i h)) ∙ w.rest) w.wrote
 
@@ -37,6 +40,7 @@ dot_before-other (negsuc zero) n = absurd (n refl)
 dot_before-other (negsuc (suc k)) n = refl
 
 module _ {W : Type 0} {took : W → List ℕ → W → Type 0} where
+  -- an ASCII character is one byte
   pub ascii_formatted : (c : ℕ) {f g : Formatter W} → c < 128 → HasWrittenStyled took f (encode_utf8 c) g → HasWrittenStyled took f (c ∷ []) g
   ascii_formatted c {f} {g} h = has_written_styled_of_eq took f _ _ g (encode_ascii c h)
 

@@ -9,37 +9,44 @@ use Rattle.std.specs.Str.Parse.{AllDigits, IsNumeral, digits_value}
 use Rattle.std.proofs.lemmas.List.{take-append-drop}
 use Rattle.std.proofs.Math.Seq.{take-append_seam, drop-append_seam}
 use Rattle.decimal_unsigned.specs.Grammar.{Written, IsMantissa, undotted, dotted, IsExponent, unsigned, minus, Form, integer, decimal, scientific, Grammar}
-use Rattle.decimal_unsigned.specs.Reading.{front, behind, numeral_of, exponent_of, is_letter, with_exponent, after_fraction, after_whole, parts_of}
+use Rattle.decimal_unsigned.specs.Reading.{leading_digits, after_digits, numeral_of, exponent_of, is_letter, with_exponent, after_fraction, after_whole, parts_of}
 use Rattle.decimal_unsigned.proofs.Numerals.{is_digit-true, true-is_digit}
 use Rattle.std.proofs.lemmas.Str.Parse.{digit_from_value}
 
 -- ---- runs of digits
+-- a run of digits is counted with what follows it
 pub prefix_len-run : (a rest : List ℕ) → AllDigits 10 a → prefix_len is_ascii_digit (a ++ rest) ≡ length a + prefix_len is_ascii_digit rest
 prefix_len-run [] rest h = omega arith
 prefix_len-run (c ∷ a) rest h = rw (is_digit-true c h.0) (omega (arith, prefix_len-run a rest h.1))
 
-pub front_run : (a rest : List ℕ) → AllDigits 10 a → prefix_len is_ascii_digit rest ≡ 0 → front (a ++ rest) ≡ a
-front_run a rest h z = ap (λ n. take n (a ++ rest)) (let e : prefix_len is_ascii_digit (a ++ rest) ≡ length a = omega (arith, prefix_len-run a rest h) in e) ∙ take-append_seam a rest
+-- a run of digits that something else follows is the leading one
+pub leading_run : (a rest : List ℕ) → AllDigits 10 a → prefix_len is_ascii_digit rest ≡ 0 → leading_digits (a ++ rest) ≡ a
+leading_run a rest h z = ap (λ n. take n (a ++ rest)) (let e : prefix_len is_ascii_digit (a ++ rest) ≡ length a = omega (arith, prefix_len-run a rest h) in e) ∙ take-append_seam a rest
 
-pub behind_run : (a rest : List ℕ) → AllDigits 10 a → prefix_len is_ascii_digit rest ≡ 0 → behind (a ++ rest) ≡ rest
-behind_run a rest h z = ap (λ n. drop n (a ++ rest)) (let e : prefix_len is_ascii_digit (a ++ rest) ≡ length a = omega (arith, prefix_len-run a rest h) in e) ∙ drop-append_seam a rest
+-- and that is what stands after it
+pub after_run : (a rest : List ℕ) → AllDigits 10 a → prefix_len is_ascii_digit rest ≡ 0 → after_digits (a ++ rest) ≡ rest
+after_run a rest h z = ap (λ n. drop n (a ++ rest)) (let e : prefix_len is_ascii_digit (a ++ rest) ≡ length a = omega (arith, prefix_len-run a rest h) in e) ∙ drop-append_seam a rest
 
-pub front_digits : (text : List ℕ) → AllDigits 10 (front text)
-front_digits [] = tt
-front_digits (c ∷ text) = go (front_digits text) (is_ascii_digit c) refl
+-- the leading digits are digits
+pub leading_are_digits : (text : List ℕ) → AllDigits 10 (leading_digits text)
+leading_are_digits [] = tt
+leading_are_digits (c ∷ text) = go (leading_are_digits text) (is_ascii_digit c) refl
   where
-    go : AllDigits 10 (front text) → (b : Bool) → is_ascii_digit c ≡ b → AllDigits 10 (take (cond b (1 + prefix_len is_ascii_digit text) 0) (c ∷ text))
+    go : AllDigits 10 (leading_digits text) → (b : Bool) → is_ascii_digit c ≡ b → AllDigits 10 (take (cond b (1 + prefix_len is_ascii_digit text) 0) (c ∷ text))
     go more true e = let s : 1 + prefix_len is_ascii_digit text ≡ suc (prefix_len is_ascii_digit text) = omega arith in rw s (true-is_digit c e, more)
     go more false e = tt
 
-pub front-behind : (text : List ℕ) → front text ++ behind text ≡ text
-front-behind text = take-append-drop (prefix_len is_ascii_digit text) text
+-- the leading digits and what stands after them are the text
+pub leading-after : (text : List ℕ) → leading_digits text ++ after_digits text ≡ text
+leading-after text = take-append-drop (prefix_len is_ascii_digit text) text
 
 -- ---- numerals
+-- digits pass the test
 pub all_digits-true : (ds : List ℕ) → AllDigits 10 ds → all_ascii_digits ds ≡ true
 all_digits-true [] h = refl
 all_digits-true (c ∷ ds) h = rw (is_digit-true c h.0) (all_digits-true ds h.1)
 
+-- what passes the test is digits
 pub true-all_digits : (ds : List ℕ) → all_ascii_digits ds ≡ true → AllDigits 10 ds
 true-all_digits [] h = tt
 true-all_digits (c ∷ ds) h = go (λ k. true-all_digits ds k) (is_ascii_digit c) refl h
@@ -48,10 +55,12 @@ true-all_digits (c ∷ ds) h = go (λ k. true-all_digits ds k) (is_ascii_digit c
     go more true e k = (true-is_digit c e, more k)
     go more false e k = absurd (cc)
 
+-- a numeral has its number
 pub numeral_again : (ds : List ℕ) → IsNumeral 10 ds → numeral_of ds ≡ Some (digits_value 10 ds)
 unfolding numeral_of
 numeral_again ds h = let a = all_digits-true ds h.1 in grind (arith, nat_tests, h.0, a)
 
+-- what has a number is a numeral
 pub numeral_takes : (ds : List ℕ) (n : ℕ) → numeral_of ds ≡ Some n → IsNumeral 10 ds × (n ≡ digits_value 10 ds)
 unfolding numeral_of
 numeral_takes ds n h = go (nat_lt 0 (length ds)) refl (all_ascii_digits ds) refl h
@@ -69,12 +78,14 @@ option_map_takes f (Some x) y h = (x, refl, cc)
 not_minus : (c : ℕ) → digit_value c < 10 → (c == 45) ≡ false
 not_minus c h = let r = digit_from_value c h in grind (arith, nat_tests, r)
 
+-- an exponent of the grammar is found
 pub exponent_again : (text : List ℕ) (e : ℤ) → IsExponent text e → exponent_of text ≡ Some e
 unfolding exponent_of
 exponent_again [] e (unsigned n v) = absurd (omega (arith, n.0))
 exponent_again (c ∷ rest) e (unsigned n v) = rw (not_minus c n.1.0, numeral_again (c ∷ rest) n, v) refl
 exponent_again text e (minus ds t n v) = ap exponent_of t ∙ (rw (numeral_again ds n, v) refl)
 
+-- an exponent that is found is one of the grammar
 pub exponent_takes : (text : List ℕ) (e : ℤ) → exponent_of text ≡ Some e → IsExponent text e
 unfolding exponent_of
 exponent_takes [] e h = let k = option_map_takes pos (numeral_of []) e h in let n = numeral_takes [] k.0 k.1 in absurd (omega (arith, n.0.0))
@@ -87,12 +98,13 @@ exponent_takes (c ∷ rest) e h = go (c == 45) refl h
         unsigned n.0 (sym m.2 ∙ ap pos n.1)
 
 -- ---- what the grammar allows is found
+-- the parts of a text that begins with digits
 pub parts_split : (a rest : List ℕ) → AllDigits 10 a → prefix_len is_ascii_digit rest ≡ 0 → parts_of (a ++ rest) ≡ after_whole a rest
 unfolding parts_of
-parts_split a rest h z = λ i. after_whole (front_run a rest h z i) (behind_run a rest h z i)
+parts_split a rest h z = λ i. after_whole (leading_run a rest h z i) (after_run a rest h z i)
 
-fraction_split : (w a rest : List ℕ) → AllDigits 10 a → prefix_len is_ascii_digit rest ≡ 0 → after_fraction w (front (a ++ rest)) (behind (a ++ rest)) ≡ after_fraction w a rest
-fraction_split w a rest h z = λ i. after_fraction w (front_run a rest h z i) (behind_run a rest h z i)
+fraction_split : (w a rest : List ℕ) → AllDigits 10 a → prefix_len is_ascii_digit rest ≡ 0 → after_fraction w (leading_digits (a ++ rest)) (after_digits (a ++ rest)) ≡ after_fraction w a rest
+fraction_split w a rest h z = λ i. after_fraction w (leading_run a rest h z i) (after_run a rest h z i)
 
 letter_stops : (c : ℕ) → (c ≡ 101) ⊎ (c ≡ 69) → is_ascii_digit c ≡ false
 letter_stops c (inl e) = rw e refl
@@ -112,6 +124,7 @@ positive n h = grind (arith, nat_tests, h)
 found : (w : Written) (a b : List ℕ) (e : Option ℤ) → w.whole ≡ a → w.fraction ≡ b → w.exponent ≡ e → w ≡ record { whole = a; fraction = b; exponent = e }
 found w a b e p q r = λ i. record { whole = p i; fraction = q i; exponent = r i }
 
+-- the parts that the grammar allows are found
 pub parts_again : (text : List ℕ) (w : Written) → Grammar text w → parts_of text ≡ Some w
 unfolding after_whole after_fraction with_exponent
 parts_again text w g = go g.form
@@ -133,14 +146,10 @@ parts_again text w g = go g.form
     go (decimal p s t) =
         ap parts_of t
         ∙ parts_split w.whole (46 ∷ w.fraction) g.whole refl
-        ∙ ap (λ y. after_fraction w.whole (front y) (behind y)) (sym (append-nil w.fraction))
+        ∙ ap (λ y. after_fraction w.whole (leading_digits y) (after_digits y)) (sym (append-nil w.fraction))
         ∙ fraction_split w.whole w.fraction [] g.fraction refl
         ∙ (rw (positive (length w.fraction) p) (ap Some (sym (found w w.whole w.fraction None refl refl s))))
     go (scientific m x c e k l n s t) = ap parts_of t ∙ exponents m x c e k l n s
-
--- a text has one decomposition
-pub one_form : (text : List ℕ) (v w : Written) → Grammar text v → Grammar text w → v ≡ w
-one_form text v w g h = let e = sym (parts_again text v g) ∙ parts_again text w h in cc
 
 -- ---- what is found is in the grammar
 letter_of : (c : ℕ) → is_letter c ≡ true → (c ≡ 101) ⊎ (c ≡ 69)
@@ -185,11 +194,12 @@ after_whole_takes a (c ∷ rest) w p h = go (c == 46) refl h
     letters true false t l e = absurd (cc)
     letters false l t k e = absurd (cc)
 
-    go : (t : Bool) → (c == 46) ≡ t → cond t (after_fraction a (front rest) (behind rest)) (cond (is_letter c && nat_lt 0 (length a)) (with_exponent a [] rest) None) ≡ Some w → Grammar (a ++ c ∷ rest) w
-    go true t e = let s : (a ++ 46 ∷ front rest) ++ behind rest ≡ a ++ c ∷ rest = append_assoc a (46 ∷ front rest) (behind rest) ∙ (λ i. a ++ (sym (eqb-true c 46 t) i) ∷ front-behind rest i) in
-        subst (λ x. Grammar x w) s (after_fraction_takes a (front rest) (behind rest) w p (front_digits rest) e)
+    go : (t : Bool) → (c == 46) ≡ t → cond t (after_fraction a (leading_digits rest) (after_digits rest)) (cond (is_letter c && nat_lt 0 (length a)) (with_exponent a [] rest) None) ≡ Some w → Grammar (a ++ c ∷ rest) w
+    go true t e = let s : (a ++ 46 ∷ leading_digits rest) ++ after_digits rest ≡ a ++ c ∷ rest = append_assoc a (46 ∷ leading_digits rest) (after_digits rest) ∙ (λ i. a ++ (sym (eqb-true c 46 t) i) ∷ leading-after rest i) in
+        subst (λ x. Grammar x w) s (after_fraction_takes a (leading_digits rest) (after_digits rest) w p (leading_are_digits rest) e)
     go false t e = letters (is_letter c) (nat_lt 0 (length a)) refl refl e
 
+-- the parts that are found are those of the grammar
 pub parts_takes : (text : List ℕ) (w : Written) → parts_of text ≡ Some w → Grammar text w
 unfolding parts_of
-parts_takes text w h = subst (λ x. Grammar x w) (front-behind text) (after_whole_takes (front text) (behind text) w (front_digits text) h)
+parts_takes text w h = subst (λ x. Grammar x w) (leading-after text) (after_whole_takes (leading_digits text) (after_digits text) w (leading_are_digits text) h)

@@ -13,14 +13,14 @@ use Rattle.decimal_digits.specs.Digits.{number_of}
 use Rattle.decimal_digits.proofs.Places.{place_is, magnitude_at-place}
 use Rattle.decimal_digits.proofs.DigitLists.{ten_pos, below_take}
 use Rattle.decimal_digits.proofs.Ends.{first_is}
-use Rattle.decimal_unsigned.specs.Fields.{IsTrimmed}
+use Rattle.decimal_unsigned.specs.Fields.{IsStored}
 use Rattle.decimal_unsigned.specs.Unsigned.{integer_value, one_value}
 use Rattle.decimal_unsigned.specs.Placing.{middle, IsInner}
 use Rattle.decimal_unsigned.proofs.Middle.{number_of-middle}
 use Rattle.decimal_unsigned.proofs.Values.{first_of, number_of-none, size-number_of}
 
 -- the digits up to the last one that is not 0
-pub record Ends (ds : List ℕ) (end : ℕ) : Type 0 where
+pub record UpToLast (ds : List ℕ) (end : ℕ) : Type 0 where
   pub digits : All (λ d. d < 10) ds
   pub front : 0 < length ds → 0 < get_or ds 0 0
   pub few : length ds ≤ 39
@@ -28,25 +28,26 @@ pub record Ends (ds : List ℕ) (end : ℕ) : Type 0 where
   pub zeros : (k : ℕ) → end ≤ k → get_or ds k 0 ≡ 0
   pub found : 0 < end → 0 < get_or ds (end - 1) 0
 
-module _ {ds : List ℕ} {end : ℕ} (e : Ends ds end) where
+module _ {ds : List ℕ} {end : ℕ} (e : UpToLast ds end) where
   some : 0 < length ds → 0 < end
   some h = elim (cases_lt 0 end) [ inl p ↦ p | inr p ↦ absurd (omega (arith, e.front h, e.zeros 0 p)) ]
 
-  below : AllBelowBase 10 ds
-  below = recursion_from_All (λ d. d < 10) ds e.digits
+  all_digits : AllBelowBase 10 ds
+  all_digits = recursion_from_All (λ d. d < 10) ds e.digits
 
   long : length (take end ds) ≡ end
   long = length-take-le end ds e.within
 
   module _ (m : ℤ) (at : m ≡ pos (length ds - 1)) where
-    pub whole_trimmed : IsTrimmed (take end ds) m m (pos 0)
-    whole_trimmed = record {
-      digits = below_take end ds below;
+    -- the digits up to the last one that is not 0, as a value holds them
+    pub whole_stored : IsStored (take end ds) m m (pos 0)
+    whole_stored = record {
+      digits = below_take end ds all_digits;
       front = λ h. rw (get_or-take end ds 0 0 (omega (arith, long))) (e.front (omega (arith, long, e.within)));
       back = λ h. rw (long, get_or-take end ds (end - 1) 0 (omega (arith, long))) (e.found (omega (arith, long)));
       empty = λ z. elim (cases_lt 0 (length ds)) [ inl h ↦ absurd (omega (arith, some h, long)) | inr h ↦ omega (arith, ints, at) ];
-      above = omega (arith, ints);
-      below = omega (arith, ints, at);
+      hi_covers = omega (arith, ints);
+      lo_covers = omega (arith, ints, at);
       fits = omega (arith, ints, at, long, e.within, place_is m, place_is (pos 0));
       hi_in = omega (arith, ints, at);
       lo_in = omega (arith, ints);
@@ -61,29 +62,35 @@ module _ {ds : List ℕ} {end : ℕ} (e : Ends ds end) where
           let all : middle 0 end ds ≡ take end ds = ap (λ n. take n ds) (let k : end - 0 ≡ end = omega arith in k) in
           ap (λ l. number_of l m) (sym all) ∙ number_of-middle ds 0 end (length ds) b m inner (omega arith) (omega arith) (omega (arith, ints, at, h, place_is m))
       | inr h ↦
-          let n : number_from_digits 10 ds ≡ 0 = omega (arith, number_lt 10 ds below, ap (λ k. 10 ^ k) (let k : length ds ≡ 0 = omega arith in k)) in
-          number_of-none whole_trimmed (omega (arith, long, e.within)) ∙ (rw n (omega arith))
+          let n : number_from_digits 10 ds ≡ 0 = omega (arith, number_lt 10 ds all_digits, ap (λ k. 10 ^ k) (let k : length ds ≡ 0 = omega arith in k)) in
+          number_of-none whole_stored (omega (arith, long, e.within)) ∙ (rw n (omega arith))
     ]
 
+    -- they have the number of the integer
     pub whole_number : number_of (take end ds) m ≡ number_from_digits 10 ds * weight (pos 0)
     whole_number = go 0 refl
       where
         go : (b : ℕ) → b ≡ 0 → number_of (take end ds) m ≡ number_from_digits 10 ds * weight (pos 0)
         go b z = number_over b z ∙ ap (λ k. number_from_digits 10 ds * 10 ^ k) (let k : 32768 - b ≡ place (pos 0) = omega (arith, ints, place_is (pos 0)) in k)
 
+    -- they make its value
     pub whole_value : record { number = number_of (take end ds) m; hi = m; lo = pos 0 } ≡ integer_value (number_from_digits 10 ds)
-    whole_value = let f = sym (first_of whole_trimmed) ∙ ap first whole_number in λ i. record { number = whole_number i; hi = f i; lo = pos 0 }
+    whole_value = let f = sym (first_of whole_stored) ∙ ap first whole_number in λ i. record { number = whole_number i; hi = f i; lo = pos 0 }
 
+    -- and are as many as its number has
     pub whole_size : length (take end ds) ≡ size (number_from_digits 10 ds * weight (pos 0))
-    whole_size = sym (size-number_of whole_trimmed) ∙ ap size whole_number
+    whole_size = sym (size-number_of whole_stored) ∙ ap size whole_number
 
 -- ---- the digits of an integer, at the end of 39 places
+-- the digits from start to the end of the places
 pub digits_at_end : (places : List ℕ) (start n : ℕ) → drop start places ≡ digits_of 10 n → length places ≡ 39 → take (39 - start) (drop start places) ≡ digits_of 10 n
 digits_at_end places start n e l = take_all (39 - start) (drop start places) (omega (arith, l, length-drop start places)) ∙ e
 
+-- the digits of an integer are below ten
 pub digits_of-below : (n : ℕ) → All (λ d. d < 10) (digits_of 10 n)
 digits_of-below n = All-from_recursion (λ d. d < 10) (digits_of 10 n) (all_below_base_digits_of 10 n (omega arith))
 
+-- the first of them is not 0
 pub digits_of-front : (n : ℕ) → 0 < length (digits_of 10 n) → 0 < get_or (digits_of 10 n) 0 0
 digits_of-front zero h = absurd (omega arith)
 digits_of-front (suc n) h = first_digits_of 10 (suc n) (omega arith) (omega arith)
@@ -92,6 +99,7 @@ digits_of-front (suc n) h = first_digits_of 10 (suc n) (omega arith) (omega arit
 first_power : (k : ℕ) → k < 65536 → first (10 ^ k) ≡ magnitude_at k
 first_power k h = first_is (10 ^ k) k (omega arith) (omega (arith, ten_pos k, pow-add 10 k 1)) h
 
+-- the value of the integer 1 is one
 pub integer_value-one : integer_value 1 ≡ one_value
 integer_value-one =
     let n : 1 * weight (pos 0) ≡ weight (pos 0) = omega arith in

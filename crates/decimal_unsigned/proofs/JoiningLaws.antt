@@ -13,28 +13,29 @@ use Rattle.decimal_unsigned.specs.Joining.{overlaps, joined}
 use Rattle.decimal_unsigned.specs.Edits.{cut}
 use Rattle.decimal_unsigned.specs.JoiningLaws.{join, JoinAlike}
 use Rattle.decimal_unsigned.proofs.Joins.{overlaps_first_zero, overlaps_second_zero, apart, not_overlapping}
-use Rattle.decimal_unsigned.proofs.FirstLast.{Ends, ends, first_of, last_of, first_sum, last_sum, top_lt, parts_sum, parts_apart}
+use Rattle.decimal_unsigned.proofs.FirstLast.{Extent, extent, first_of, last_of, first_sum, last_sum, first_le, parts_sum, parts_apart}
 
-pub ends_of : (v : Unsigned) → IsValue v → 0 < v.number → Ends v.number
-ends_of v h p = ends (place v.hi + 1) v.number p h.below (omega (arith, ints, place_is v.hi, h.hi_in))
+-- a value other than 0 has a first and a last digit
+pub extent_of : (v : Unsigned) → IsValue v → 0 < v.number → Extent v.number
+extent_of v h p = extent (place v.hi + 1) v.number p h.below (omega (arith, ints, place_is v.hi, h.hi_in))
 
 module _ (u v : Unsigned) (p : IsValue u) (q : IsValue v) (f : overlaps u v ≡ false) where
-  apart_at : (m : 0 < u.number) (n : 0 < v.number) → (ends_of v q n).top < (ends_of u p m).bottom
+  apart_at : (m : 0 < u.number) (n : 0 < v.number) → (extent_of v q n).top < (extent_of u p m).bottom
   apart_at m n =
       let a = apart u v m n f in
-      let b = last_of (ends_of u p m) in
-      let t = first_of (ends_of v q n) in
+      let b = last_of (extent_of u p m) in
+      let t = first_of (extent_of v q n) in
       omega (arith, ints, a, b, t)
 
   last_joined : 0 < v.number → last (u.number + v.number) ≡ last v.number
   last_joined n = elim (cases_lt 0 u.number) [
-    | inl m ↦ last_sum (ends_of u p m) (ends_of v q n) (apart_at m n)
+    | inl m ↦ last_sum (extent_of u p m) (extent_of v q n) (apart_at m n)
     | inr m ↦ ap last (let e : u.number + v.number ≡ v.number = omega arith in e)
   ]
 
   first_joined : 0 < u.number → first (u.number + v.number) ≡ first u.number
   first_joined m = elim (cases_lt 0 v.number) [
-    | inl n ↦ first_sum (ends_of u p m) (ends_of v q n) (apart_at m n)
+    | inl n ↦ first_sum (extent_of u p m) (extent_of v q n) (apart_at m n)
     | inr n ↦ ap first (let e : u.number + v.number ≡ u.number = omega arith in e)
   ]
 
@@ -79,6 +80,7 @@ module _ (u v w : Unsigned) (p : IsValue u) (q : IsValue v) (r : IsValue w) wher
       let lo : int_min (int_min u.lo v.lo) w.lo ≡ int_min u.lo (int_min v.lo w.lo) = omega (arith, ints, clamps) in
       λ i. record { number = n i; hi = hi i; lo = lo i }
 
+  -- three values are joined alike from the front and from the back
   pub join_alike : JoinAlike u v w
   join_alike =
       bound (overlaps u v) (λ x. join x w) (joined u v)
@@ -100,24 +102,20 @@ module _ (v t : Unsigned) (p : ℤ) (valid : IsValue v) (e : t.number ≡ v.numb
   high : place v.hi + 1 ≤ 65536
   high = omega (arith, ints, place_is v.hi, valid.hi_in)
 
+  -- the two parts do not overlap
   pub parts_join : overlaps t (cut v p) ≡ false
   parts_join = not_overlapping t (cut v p) (λ some more.
       let l = parts_apart v.number (place p) (place v.hi + 1) valid.below high (rw (← e) some) more in
       rw e l)
 
+  -- together they have the number
   pub parts_number : (joined t (cut v p)).number ≡ v.number
   parts_number = ap (λ n. n + v.number % weight p) e ∙ parts_sum v.number (place p) (place v.hi + 1) valid.below high
 
   -- and their ranges, where the position lies in the range or at one of its ends
   pub parts_value : t.hi ≡ int_max (int_max v.hi (p -ℤ pos 1)) (first t.number) → t.lo ≡ int_min p (pos 0) → v.lo ≤ℤ p → p ≤ℤ (v.hi +ℤ pos 1) → joined t (cut v p) ≡ v
   parts_value hi lo above below =
-      let f : first t.number ≤ℤ v.hi = elim (cases_lt 0 t.number) [
-        | inl some ↦
-            let few : t.number < 10 ^ (place v.hi + 1) = omega (arith, valid.below, e) in
-            let ends = ends (place v.hi + 1) t.number some few high in
-            omega (arith, ints, first_of ends, top_lt ends (place v.hi + 1) few, place_is v.hi, valid.hi_in)
-        | inr none ↦ let z : first t.number ≡ pos 0 = ap first (let y : t.number ≡ 0 = omega arith in y) ∙ first_zero in omega (arith, ints, z, valid.hi_in)
-      ] in
+      let f : first t.number ≤ℤ v.hi = first_le t.number v.hi (omega (arith, valid.below, e)) valid.hi_in.0 valid.hi_in.1 in
       let h : int_max t.hi (int_max (p -ℤ pos 1) (pos 0)) ≡ v.hi = omega (arith, ints, clamps, hi, f, below, valid.hi_in) in
       let l : int_min t.lo (int_min v.lo p) ≡ v.lo = omega (arith, ints, clamps, lo, above, valid.lo_in) in
       λ i. record { number = parts_number i; hi = h i; lo = l i }

@@ -16,7 +16,7 @@ pub mod Middle
 pub mod Cuts
 pub mod Integers
 pub mod Plans
-pub mod Held
+pub mod Exponents
 pub mod ParserAnswers
 pub mod ReadBack
 pub mod Roundings

@@ -9,11 +9,12 @@ use Rattle.std.proofs.lemmas.List.{length-drop, length-take, length-take-le, get
 use Rattle.std.specs.Int.Digits.{number_from_digits, AllBelowBase}
 use Rattle.decimal_digits.specs.Number.{place}
 use Rattle.decimal_digits.specs.Digits.{number_of, number_at}
-use Rattle.decimal_unsigned.specs.Fields.{IsTrimmed}
+use Rattle.decimal_unsigned.specs.Fields.{IsStored}
 use Rattle.decimal_digits.proofs.Places.{place_is}
 use Rattle.decimal_digits.proofs.DigitLists.{after_is, number_split, below_take, below_drop}
 use Rattle.decimal_unsigned.specs.Placing.{middle, IsInner}
 
+-- zeros are worth nothing
 pub number_zeros : (ds : List ℕ) → ((k : ℕ) → k < length ds → get_or ds k 0 ≡ 0) → number_from_digits 10 ds ≡ 0
 number_zeros [] h = refl
 number_zeros (d ∷ ds) h =
@@ -23,12 +24,15 @@ number_zeros (d ∷ ds) h =
     rw (e, r, z) (omega arith)
 
 module _ (ds : List ℕ) (start end : ℕ) (n : IsInner ds start end) where
+  -- how many they are
   pub middle_length : length (middle start end ds) ≡ end - start
   middle_length = length-take-le (end - start) (drop start ds) (omega (arith, n.within, length-drop start ds))
 
+  -- which they are
   pub middle_at : (i : ℕ) → i < end - start → get_or (middle start end ds) i 0 ≡ get_or ds (start + i) 0
   middle_at i h = get_or-take (end - start) (drop start ds) i 0 h ∙ get_or-drop start ds i 0
 
+  -- what all the digits are worth, by them
   pub number_middle : number_from_digits 10 ds ≡ number_from_digits 10 (middle start end ds) * 10 ^ (length ds - end)
   number_middle =
       let a = number_split start ds (omega (arith, n.ordered, n.within)) in
@@ -39,6 +43,7 @@ module _ (ds : List ℕ) (start end : ℕ) (n : IsInner ds start end) where
       let k : length (drop start ds) - (end - start) ≡ length ds - end = omega (arith, n.ordered, n.within, length-drop start ds) in
       a ∙ (rw (z, b, y, k) (omega arith))
 
+  -- they are below ten
   pub middle_below : AllBelowBase 10 ds → AllBelowBase 10 (middle start end ds)
   middle_below h = below_take (end - start) (drop start ds) (below_drop start ds h)
 
@@ -51,16 +56,17 @@ number_of-middle ds start end a b m n whole few p =
     let e : number_from_digits 10 (middle start end ds) * 10 ^ (place m + 1 - length (middle start end ds)) ≡ (number_from_digits 10 (middle start end ds) * 10 ^ (length ds - end)) * 10 ^ (32768 - b) = rw (k, pow-add 10 (length ds - end) (32768 - b)) (omega arith) in
     e ∙ ap (λ x. x * 10 ^ (32768 - b)) (sym (number_middle ds start end n))
 
-pub trimmed_middle : (ds : List ℕ) (start end a b : ℕ) (m : ℤ) → IsInner ds start end → AllBelowBase 10 ds → length ds ≡ a + b → a ≤ 32768 → b ≤ 32768 → m ≡ (pos a -ℤ pos 1) -ℤ pos start → IsTrimmed (middle start end ds) m (pos (a - 1)) (pos 0 -ℤ pos b)
-trimmed_middle ds start end a b m n d whole many few e =
+-- the digits between the zeros, as a value holds them
+pub stored_middle : (ds : List ℕ) (start end a b : ℕ) (m : ℤ) → IsInner ds start end → AllBelowBase 10 ds → length ds ≡ a + b → a ≤ 32768 → b ≤ 32768 → m ≡ (pos a -ℤ pos 1) -ℤ pos start → IsStored (middle start end ds) m (pos (a - 1)) (pos 0 -ℤ pos b)
+stored_middle ds start end a b m n d whole many few e =
     let l = middle_length ds start end n in
     record {
       digits = middle_below ds start end n d;
       front = λ h. rw (middle_at ds start end n 0 (omega arith)) (subst (λ i. 0 < get_or ds i 0) (let k : start ≡ start + 0 = omega arith in k) n.front);
       back = λ h. rw (l, middle_at ds start end n (end - start - 1) (omega arith)) (subst (λ i. 0 < get_or ds i 0) (let k : end - 1 ≡ start + (end - start - 1) = omega (arith, n.ordered) in k) n.back);
       empty = λ z. absurd (omega (arith, n.ordered));
-      above = omega (arith, ints, e);
-      below = omega (arith, ints, e, n.ordered, n.within);
+      hi_covers = omega (arith, ints, e);
+      lo_covers = omega (arith, ints, e, n.ordered, n.within);
       fits = omega (arith, ints, e, n.ordered, n.within, place_is m, place_is (pos 0 -ℤ pos b));
       hi_in = omega (arith, ints);
       lo_in = omega (arith, ints);

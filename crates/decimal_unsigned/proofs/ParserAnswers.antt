@@ -37,6 +37,7 @@ pub read_grammar : (text : List ℕ) (w : Written) → Grammar text w → read t
 unfolding read value_or_syntax
 read_grammar text w g = ap value_or_syntax (parts_again text w g)
 
+-- what is not refused for its syntax has parts
 pub grammar_if : (text : List ℕ) → ¬ (read text ≡ Err syntax) → (w : Written) × Grammar text w × (read text ≡ value_of w)
 unfolding read value_or_syntax
 grammar_if text n = go (parts_of text) refl
@@ -54,15 +55,18 @@ syntax_is text = (λ e w g. not_syntax w (sym (read_grammar text w g) ∙ e), λ
     go n None e = ap value_or_syntax e
     go n (Some w) e = absurd (n w (parts_takes text w e))
 
+-- reading follows the grammar
 pub follows_grammar : (text : List ℕ) → FollowsGrammar text
 follows_grammar text = record { value = read_grammar text; none = (syntax_is text).1 }
 
+-- a text is beyond the limits exactly if its parts are
 pub limit_is : (text : List ℕ) → (read text ≡ Err limit) ↔ ((w : Written) × Grammar text w × (value_of w ≡ Err limit))
 limit_is text = (
   λ e. let k = grammar_if text (λ s. let never : ⊥ = cc in never) in (k.0, k.1, sym k.2 ∙ e),
   λ k. read_grammar text k.0 k.1 ∙ k.2,
 )
 
+-- the value of a text is that of its parts
 pub value_is : (text : List ℕ) (v : Unsigned) → read text ≡ Ok v → (w : Written) × Grammar text w × (value_of w ≡ Ok v)
 value_is text v e = let k = grammar_if text (λ s. let never : ⊥ = cc in never) in (k.0, k.1, sym k.2 ∙ e)
 
@@ -99,5 +103,6 @@ answers_grammar wants text r a =
       found = answers_value wants text r a;
     }
 
+-- how many digits lie from start up to end
 pub middle_long : (start end : ℕ) (ds : List ℕ) → start ≤ end → end ≤ length ds → length (middle start end ds) ≡ end - start
 middle_long start end ds p q = length-take-le (end - start) (drop start ds) (omega (arith, length-drop start ds))

@@ -12,7 +12,7 @@ use Rattle.std.proofs.lemmas.Int.Digits.{digits_value_is, all_below_base_from_di
 use Rattle.decimal_digits.specs.Number.{first, last}
 use Rattle.decimal_unsigned.specs.Unsigned.{Unsigned}
 use Rattle.decimal_digits.specs.Digits.{number_of}
-use Rattle.decimal_unsigned.specs.Fields.{IsTrimmed}
+use Rattle.decimal_unsigned.specs.Fields.{IsStored}
 use Rattle.decimal_unsigned.specs.Edits.{multiplied}
 use Rattle.decimal_digits.proofs.Places.{place_is}
 use Rattle.decimal_unsigned.proofs.Values.{number_of-pos, first-number_of, last-number_of, number_of_empty, lowest}
@@ -21,26 +21,28 @@ use Rattle.decimal_unsigned.specs.Grammar.{Written}
 use Rattle.decimal_unsigned.specs.Reading.{mantissa, is_outside, tidied, scaled, value_of, limit}
 use Rattle.decimal_unsigned.specs.Edits.{leaves_limits}
 use Rattle.decimal_unsigned.specs.Placing.{digits_of, middle, Placed, IsInner, Makes}
-use Rattle.decimal_unsigned.proofs.Middle.{number_zeros, middle_length, number_of-middle, trimmed_middle}
+use Rattle.decimal_unsigned.proofs.Middle.{number_zeros, middle_length, number_of-middle, stored_middle}
 
 -- the same digits, of which others are shown
-pub shown : {ds : List ℕ} {m hi lo : ℤ} (hi' lo' : ℤ) → IsTrimmed ds m hi lo → 0 < length ds → m ≤ℤ hi' → pos 0 ≤ℤ hi' → hi' ≤ℤ pos 32767 → lo' ≤ℤ (m -ℤ pos (length ds - 1)) → lo' ≤ℤ pos 0 → negsuc 32767 ≤ℤ lo' → IsTrimmed ds m hi' lo'
+pub shown : {ds : List ℕ} {m hi lo : ℤ} (hi' lo' : ℤ) → IsStored ds m hi lo → 0 < length ds → m ≤ℤ hi' → pos 0 ≤ℤ hi' → hi' ≤ℤ pos 32767 → lo' ≤ℤ (m -ℤ pos (length ds - 1)) → lo' ≤ℤ pos 0 → negsuc 32767 ≤ℤ lo' → IsStored ds m hi' lo'
 shown {ds} {m} {hi} {lo} hi' lo' t p a b c d e f = record {
   digits = t.digits;
   front = t.front;
   back = t.back;
   empty = t.empty;
-  above = a;
-  below = omega (arith, ints);
+  hi_covers = a;
+  lo_covers = omega (arith, ints);
   fits = omega (arith, ints, place_is m, place_is lo', p, lowest t);
   hi_in = b;
   lo_in = e;
   in_range = (f, c);
 }
 
+-- a magnitude above 32767 fails the test
 pub over : (a : ℤ) → pos 32767 <ℤ a → int_lt (pos 32767) a ≡ true
 over a h = grind (arith, ints, h)
 
+-- a magnitude below -32768 fails the test
 pub under : (a : ℤ) → a <ℤ negsuc 32767 → int_lt a (negsuc 32767) ≡ true
 under a h = grind (arith, ints, h)
 
@@ -79,18 +81,21 @@ none_or_zero v None n = refl
 none_or_zero v (Some e) n = rw n refl
 
 -- ---- too many digits
+-- more than 32,768 digits in front of the dot
 pub long_whole : (w : Written) → 32768 < length w.whole → value_of w ≡ Err limit
 unfolding value_of
 long_whole w h = let t : nat_lt 32768 (length w.whole) ≡ true = grind (arith, nat_tests, h) in rw t refl
 
+-- or behind it
 pub long_fraction : (w : Written) → 32768 < length w.fraction → value_of w ≡ Err limit
 unfolding value_of
 long_fraction w h = let t : nat_lt 32768 (length w.fraction) ≡ true = grind (arith, nat_tests, h) in rw (t, or_true (nat_lt 32768 (length w.whole))) refl
 
 module _ (w : Written) (digits : AllDigits 10 (w.whole ++ w.fraction)) (few : length w.whole ≤ 32768) (short : length w.fraction ≤ 32768) where
-  below : AllBelowBase 10 (digits_of w)
-  below = all_below_base_from_digits 10 (w.whole ++ w.fraction) digits
+  all_digits : AllBelowBase 10 (digits_of w)
+  all_digits = all_below_base_from_digits 10 (w.whole ++ w.fraction) digits
 
+  -- how many digits there are on both sides of the dot
   pub length_digits : length (digits_of w) ≡ length w.whole + length w.fraction
   length_digits = length-map (w.whole ++ w.fraction) digit_value ∙ length-append w.whole w.fraction
 
@@ -109,13 +114,13 @@ module _ (w : Written) (digits : AllDigits 10 (w.whole ++ w.fraction)) (few : le
       record {
         ordered = omega arith;
         within = omega arith;
-        trimmed = record {
+        stored = record {
           digits = tt;
           front = λ p. absurd (omega arith);
           back = λ p. absurd (omega arith);
           empty = λ p. refl;
-          above = omega (arith, ints);
-          below = omega (arith, ints);
+          hi_covers = omega (arith, ints);
+          lo_covers = omega (arith, ints);
           fits = omega (arith, ints, place_is (pos 0), place_is (pos 0 -ℤ pos (length w.fraction)));
           hi_in = omega (arith, ints);
           lo_in = omega (arith, ints);
@@ -125,8 +130,8 @@ module _ (w : Written) (digits : AllDigits 10 (w.whole ++ w.fraction)) (few : le
       }
 
   module _ (start end : ℕ) (n : IsInner (digits_of w) start end) (m : ℤ) (at : m ≡ (pos (length w.whole) -ℤ pos 1) -ℤ pos start) where
-    trimmed : IsTrimmed (middle start end (digits_of w)) m (pos (length w.whole - 1)) (pos 0 -ℤ pos (length w.fraction))
-    trimmed = trimmed_middle (digits_of w) start end (length w.whole) (length w.fraction) m n below length_digits few short at
+    stored : IsStored (middle start end (digits_of w)) m (pos (length w.whole - 1)) (pos 0 -ℤ pos (length w.fraction))
+    stored = stored_middle (digits_of w) start end (length w.whole) (length w.fraction) m n all_digits length_digits few short at
 
     number_is : number_of (middle start end (digits_of w)) m ≡ (mantissa w.whole w.fraction).number
     number_is = number_of-middle (digits_of w) start end (length w.whole) (length w.fraction) m n length_digits short (omega (arith, ints, at, place_is m, n.ordered, n.within, length_digits)) ∙ ap (λ x. x * 10 ^ (32768 - length w.fraction)) (sym (digits_value_is 10 (w.whole ++ w.fraction)))
@@ -135,7 +140,7 @@ module _ (w : Written) (digits : AllDigits 10 (w.whole ++ w.fraction)) (few : le
     some = omega (arith, middle_length (digits_of w) start end n, n.ordered)
 
     number_pos : 0 < (mantissa w.whole w.fraction).number
-    number_pos = subst (λ x. 0 < x) number_is (number_of-pos trimmed some)
+    number_pos = subst (λ x. 0 < x) number_is (number_of-pos stored some)
 
     mantissa_is : record { number = number_of (middle start end (digits_of w)) m; hi = pos (length w.whole - 1); lo = pos 0 -ℤ pos (length w.fraction) } ≡ mantissa w.whole w.fraction
     mantissa_is = λ i. record { number = number_is i; hi = pos (length w.whole - 1); lo = pos 0 -ℤ pos (length w.fraction) }
@@ -146,7 +151,7 @@ module _ (w : Written) (digits : AllDigits 10 (w.whole ++ w.fraction)) (few : le
     makes_plain e = record {
       ordered = omega (arith, n.ordered);
       within = n.within;
-      trimmed = trimmed;
+      stored = stored;
       value = value_scaled ∙ (rw e (ap Ok (sym mantissa_is)));
     }
 
@@ -159,6 +164,7 @@ module _ (w : Written) (digits : AllDigits 10 (w.whole ++ w.fraction)) (few : le
         let t : (is_outside e || leaves_limits v e) ≡ true = out_of_reach (is_outside e) _ _ o in
         value_scaled ∙ (rw (s, z, t) refl)
 
+    -- the value of the digits times a power of ten
     pub makes_scaled : (e : ℤ) (m' hi' lo' : ℤ) → w.exponent ≡ Some e → Placed m (pos (length w.whole) -ℤ pos end) (pos (length w.whole - 1)) (pos 0 -ℤ pos (length w.fraction)) e m' hi' lo' → Makes w start end m' hi' lo'
     unfolding scaled
     makes_scaled e m' hi' lo' s p =
@@ -167,8 +173,8 @@ module _ (w : Written) (digits : AllDigits 10 (w.whole ++ w.fraction)) (few : le
         let hi = pos (length w.whole - 1) in
         let lo = pos 0 -ℤ pos (length w.fraction) in
         let moves : Moves ds m hi lo e m' (int_max (hi +ℤ e) (pos 0)) (int_min (lo +ℤ e) (pos 0)) = record { some = λ h. p.magnitude; none = λ y. absurd (omega (arith, some)); hi_is = refl; lo_is = refl; hi_fits = p.upper; lo_fits = p.lower } in
-        let t = moved trimmed moves in
-        let u = multiplied_is e trimmed moves ∙ ap (λ x. multiplied x e) mantissa_is in
+        let t = moved stored moves in
+        let u = multiplied_is e stored moves ∙ ap (λ x. multiplied x e) mantissa_is in
         let f : first (number_of ds m') ≡ m +ℤ e = first-number_of t some ∙ p.magnitude in
         let l : last (number_of ds m') ≡ (pos (length w.whole) -ℤ pos end) +ℤ e = last-number_of t some ∙ (omega (arith, ints, p.magnitude, at, middle_length (digits_of w) start end n, n.ordered)) in
         let z : (v.number == 0) ≡ false = let q = number_pos in grind (arith, nat_tests, q) in
@@ -185,12 +191,14 @@ module _ (w : Written) (digits : AllDigits 10 (w.whole ++ w.fraction)) (few : le
         record {
           ordered = omega (arith, n.ordered);
           within = n.within;
-          trimmed = shown hi' lo' t some (omega (arith, ints, p.magnitude, up.0)) up.1 up.2 (omega (arith, ints, p.magnitude, at, down.0, middle_length (digits_of w) start end n, n.ordered)) down.1 down.2;
+          stored = shown hi' lo' t some (omega (arith, ints, p.magnitude, up.0)) up.1 up.2 (omega (arith, ints, p.magnitude, at, down.0, middle_length (digits_of w) start end n, n.ordered)) down.1 down.2;
           value = value_scaled ∙ (rw (s, z, a, b, c, d) (ap Ok tidy));
         }
 
+-- the same of equal magnitudes
 pub makes_at : (w : Written) (start end : ℕ) (m hi lo m' hi' lo' : ℤ) → Makes w start end m hi lo → m' ≡ m → hi' ≡ hi → lo' ≡ lo → Makes w start end m' hi' lo'
 makes_at w start end m hi lo m' hi' lo' k p q r = rw (p, q, r) k
 
+-- the same of equal magnitudes
 pub placed_at : (first last hi lo e m' hi' lo' f l h o x : ℤ) → Placed first last hi lo e m' hi' lo' → first ≡ f → last ≡ l → hi ≡ h → lo ≡ o → e ≡ x → Placed f l h o x m' hi' lo'
 placed_at first last hi lo e m' hi' lo' f l h o x k p q r s t = rw (← p, ← q, ← r, ← s, ← t) k

@@ -11,15 +11,17 @@ use Rattle.decimal_digits.specs.Digits.{number_of, number_at}
 use Rattle.decimal_digits.proofs.Places.{place_is}
 use Rattle.decimal_digits.proofs.Ends.{no_more_zeros}
 use Rattle.decimal_digits.proofs.DigitLists.{number_back}
-use Rattle.decimal_unsigned.specs.Fields.{IsTrimmed}
+use Rattle.decimal_unsigned.specs.Fields.{IsStored}
 use Rattle.decimal_unsigned.specs.Unsigned.{Unsigned, IsValue}
 use Rattle.decimal_unsigned.specs.Edits.{trimmed_start, padded_start}
+use Rattle.decimal_unsigned.proofs.FirstLast.{first_le}
 use Rattle.decimal_unsigned.proofs.Values.{number_of-ge, number_of-lt, number_of-none, none_of, lowest, last-number_of, last_of_none, last_in}
 
-module _ {ds : List ℕ} {m hi lo : ℤ} (t : IsTrimmed ds m hi lo) where
+module _ {ds : List ℕ} {m hi lo : ℤ} (t : IsStored ds m hi lo) where
   some : 0 < number_of ds m → 0 < length ds
   some p = elim (cases_lt 0 (length ds)) [ inl h ↦ h | inr h ↦ let z : length ds ≡ 0 = omega arith in absurd (omega (arith, number_of-none t z)) ]
 
+  -- the magnitude that is held is the first
   pub is_first : IsFirst (number_of ds m) m
   is_first = record {
     reaches = λ p. number_of-ge t (some p);
@@ -27,6 +29,7 @@ module _ {ds : List ℕ} {m hi lo : ℤ} (t : IsTrimmed ds m hi lo) where
     none = λ z. t.empty (none_of t z);
   }
 
+  -- the last digit of the list is the last one of the number
   pub is_last : IsLast (number_of ds m) (last (number_of ds m))
   unfolding number_of number_at
   is_last = record {
@@ -41,15 +44,9 @@ module _ {ds : List ℕ} {m hi lo : ℤ} (t : IsTrimmed ds m hi lo) where
       ends_at : 0 < length ds → place (last (number_of ds m)) ≡ place m + 1 - length ds
       ends_at h = let e = last-number_of t h in omega (arith, ints, e, t.fits, last_in t, lowest t, place_is m, place_is (last (number_of ds m)))
 
--- a value shows its first digit
-pub first_shown : (w : Unsigned) (m : ℤ) → IsValue w → IsFirst w.number m → negsuc 32767 ≤ℤ m → int_max m (pos 0) ≤ℤ w.hi
-first_shown w m v f l = elim (cases_lt 0 w.number) [
-  | inl p ↦ elim (cases_lt (place w.hi) (place m)) [
-    | inl h ↦ let b : 10 ^ (place w.hi + 1) ≤ 10 ^ place m = pow-le-pow_right (omega arith) (omega arith) in absurd (omega (arith, b, f.reaches p, v.below))
-    | inr h ↦ omega (arith, ints, clamps, h, l, v.hi_in, place_is m, place_is w.hi)
-  ]
-  | inr p ↦ let z : m ≡ pos 0 = f.none (omega arith) in omega (arith, ints, clamps, z, v.hi_in)
-]
+-- a value shows its first digit, and magnitude 0
+pub first_shown : (w : Unsigned) → IsValue w → int_max (first w.number) (pos 0) ≤ℤ w.hi
+first_shown w v = omega (arith, ints, clamps, first_le w.number w.hi v.below v.hi_in.0 v.hi_in.1, v.hi_in)
 
 -- and its last one
 pub last_shown : (w : Unsigned) (m : ℤ) → IsValue w → IsLast w.number m → negsuc 32767 ≤ℤ m → w.lo ≤ℤ int_min m (pos 0)
@@ -63,9 +60,11 @@ last_shown w m v f l = elim (cases_lt 0 w.number) [
 
 -- another upper end of what is shown
 module _ {v : Unsigned} {n : ℕ} {hi lo f : ℤ} (h : ℤ) (view : record { number = n; hi = hi; lo = lo } ≡ v) (at : first n ≡ f) where
+  -- the end that trimming gives
   pub trimmed_start_is : h ≡ int_max f (pos 0) → record { number = n; hi = h; lo = lo } ≡ trimmed_start v
   trimmed_start_is e = subst (λ x. record { number = n; hi = h; lo = lo } ≡ trimmed_start x) view (rw (e, at) refl)
 
+  -- the end that padding gives
   pub padded_start_is : (p : ℤ) → pos 0 <ℤ p → h ≡ int_max (p -ℤ pos 1) f → record { number = n; hi = h; lo = lo } ≡ padded_start v p
   padded_start_is p l e =
       let test : int_lt (pos 0) p ≡ true = grind (arith, ints, l) in

@@ -164,5 +164,6 @@ over_base number base (pos h) (negsuc l) is v =
     ap (λ n. read (text_down number (pos h) n)) (let e : int_gap (negsuc l) (pos h) + 1 ≡ suc h + suc l = omega (arith, ints) in e)
     ∙ read_fraction number base (place (negsuc l)) h l is (omega (arith, ints, v.lo_in, place_is (negsuc l))) (omega (arith, ints, v.hi_in)) (subst (λ k. number < 10 ^ k) (let e : place (pos h) + 1 ≡ base + (h + 1) = omega (arith, place_is (pos h)) in e) v.below) v.whole
 
+-- the text of a value is read as that value
 pub read_text : (v : Unsigned) → IsValue v → read (text v) ≡ Ok v
 read_text v h = over_base v.number 32768 v.hi v.lo refl h

@@ -14,37 +14,40 @@ use Rattle.decimal_digits.proofs.Ends.{first_zero}
 use Rattle.decimal_digits.proofs.NumberAt.{number_of-none}
 use Rattle.decimal_digits.proofs.Places.{place_is}
 use Rattle.decimal_unsigned.specs.Unsigned.{Unsigned}
-use Rattle.decimal_unsigned.specs.Fields.{IsTrimmed}
+use Rattle.decimal_unsigned.specs.Fields.{IsStored}
 use Rattle.decimal_unsigned.specs.Rounded.{reaches_limit, rounded_to}
 use Rattle.decimal_unsigned.proofs.Values.{size-number_of}
 
 -- the number that stands after a rounding to n
-abbrev pub kept : ℕ → ℕ
-kept n = if reaches_limit n then 0 else n
+abbrev pub limited : ℕ → ℕ
+limited n = if reaches_limit n then 0 else n
 
 -- the digits that a rounding at p to n left, from the magnitude m on
 pub record Left (ds : List ℕ) (m : ℤ) (n : ℕ) (p : ℤ) : Type 0 where
-  pub number : number_of ds m ≡ kept n
-  pub magnitude : first (kept n) ≡ m
+  pub number : number_of ds m ≡ limited n
+  pub magnitude : first (limited n) ≡ m
   pub stripped : IsStripped ds
   pub above : 0 < length ds → place p + length ds ≤ place m + 1
   pub empty : length ds ≡ 0 → m ≡ pos 0
   pub least : negsuc 32767 ≤ℤ m
   pub greatest : m ≤ℤ pos 32767
 
-within : (n limit : ℕ) → n < limit → nat_le limit n ≡ false
+-- a number against a limit
+pub within : (n limit : ℕ) → n < limit → nat_le limit n ≡ false
 within n limit h = grind (arith, nat_tests, h)
 
-beyond : (n limit : ℕ) → limit ≤ n → nat_le limit n ≡ true
+-- and the other way round
+pub beyond : (n limit : ℕ) → limit ≤ n → nat_le limit n ≡ true
 beyond n limit h = grind (arith, nat_tests, h)
 
 none_stripped : (ds : List ℕ) → ds ≡ [] → IsStripped ds
 none_stripped ds e = record { front = λ h. absurd (omega (arith, ap length e)); back = λ h. absurd (omega (arith, ap length e)) }
 
+-- what a rounding of the digits left
 pub left_of : (answer : Option ℤ) (ds : List ℕ) (n : ℕ) (p : ℤ) → Leaves answer ds n → IfSome answer (IsAbove p ds) → Left ds (unwrap_or answer (pos 0)) n p
 left_of (Some m) ds n p l a =
     let t = within n (weight (pos 32768)) l.below_limit in
-    let k : kept n ≡ n = rw t refl in
+    let k : limited n ≡ n = rw t refl in
     record {
       number = l.number ∙ sym k;
       magnitude = ap first k ∙ l.magnitude_is;
@@ -56,7 +59,7 @@ left_of (Some m) ds n p l a =
     }
 left_of None ds n p l a =
     let t = beyond n (weight (pos 32768)) l.0 in
-    let k : kept n ≡ 0 = rw t refl in
+    let k : limited n ≡ 0 = rw t refl in
     let z : length ds ≡ 0 = ap length l.1 in
     record {
       number = number_of-none ds (pos 0) z ∙ sym k;
@@ -69,15 +72,16 @@ left_of None ds n p l a =
     }
 
 module _ {ds : List ℕ} {m : ℤ} {n : ℕ} {p : ℤ} (l : Left ds m n p) (hi hi' lo' : ℤ) (h : hi' ≡ int_max (int_max hi (p -ℤ pos 1)) m) (o : lo' ≡ int_min p (pos 0)) where
-  pub trimmed_left : AllBelowBase 10 ds → pos 0 ≤ℤ hi → hi ≤ℤ pos 32767 → negsuc 32767 ≤ℤ p → p ≤ℤ pos 32767 → IsTrimmed ds m hi' lo'
-  trimmed_left b f g s t = elim (cases_lt 0 (length ds)) [
+  -- the digits that are left, as a value holds them
+  pub stored_left : AllBelowBase 10 ds → pos 0 ≤ℤ hi → hi ≤ℤ pos 32767 → negsuc 32767 ≤ℤ p → p ≤ℤ pos 32767 → IsStored ds m hi' lo'
+  stored_left b f g s t = elim (cases_lt 0 (length ds)) [
     | inl some ↦ let a = l.above some in record {
       digits = b;
       front = l.stripped.front;
       back = l.stripped.back;
       empty = l.empty;
-      above = omega (arith, ints, clamps, h);
-      below = omega (arith, ints, clamps, o, a, some, place_is p, place_is m, l.least);
+      hi_covers = omega (arith, ints, clamps, h);
+      lo_covers = omega (arith, ints, clamps, o, a, some, place_is p, place_is m, l.least);
       fits = omega (arith, ints, clamps, o, a, s, place_is p, place_is lo');
       hi_in = omega (arith, ints, clamps, h, f);
       lo_in = omega (arith, ints, clamps, o);
@@ -88,8 +92,8 @@ module _ {ds : List ℕ} {m : ℤ} {n : ℕ} {p : ℤ} (l : Left ds m n p) (hi h
       front = l.stripped.front;
       back = l.stripped.back;
       empty = l.empty;
-      above = omega (arith, ints, clamps, h);
-      below = omega (arith, ints, clamps, o, e);
+      hi_covers = omega (arith, ints, clamps, h);
+      lo_covers = omega (arith, ints, clamps, o, e);
       fits = omega (arith, ints, clamps, o, e, s, z, place_is m, place_is lo');
       hi_in = omega (arith, ints, clamps, h, f);
       lo_in = omega (arith, ints, clamps, o);
@@ -97,15 +101,17 @@ module _ {ds : List ℕ} {m : ℤ} {n : ℕ} {p : ℤ} (l : Left ds m n p) (hi h
     }
   ]
 
+  -- they make the rounded value
   pub rounded_left : (v : Unsigned) → v.hi ≡ hi → record { number = number_of ds m; hi = hi'; lo = lo' } ≡ rounded_to v p n
   rounded_left v e =
-      let a : number_of ds m ≡ kept n = l.number in
-      let b : hi' ≡ int_max (int_max v.hi (p -ℤ pos 1)) (first (kept n)) = h ∙ ap (λ x. int_max (int_max x (p -ℤ pos 1)) m) (sym e) ∙ ap (int_max (int_max v.hi (p -ℤ pos 1))) (sym l.magnitude) in
+      let a : number_of ds m ≡ limited n = l.number in
+      let b : hi' ≡ int_max (int_max v.hi (p -ℤ pos 1)) (first (limited n)) = h ∙ ap (λ x. int_max (int_max x (p -ℤ pos 1)) m) (sym e) ∙ ap (int_max (int_max v.hi (p -ℤ pos 1))) (sym l.magnitude) in
       λ i. record { number = a i; hi = b i; lo = o i }
 
 -- a value's list and magnitude, as they are read again, give the number and its size
-pub number_again : {ds es : List ℕ} {m k hi lo : ℤ} {v : Unsigned} → IsTrimmed ds m hi lo → record { number = number_of ds m; hi = hi; lo = lo } ≡ v → es ≡ ds → k ≡ m → number_of es k ≡ v.number
+pub number_again : {ds es : List ℕ} {m k hi lo : ℤ} {v : Unsigned} → IsStored ds m hi lo → record { number = number_of ds m; hi = hi; lo = lo } ≡ v → es ≡ ds → k ≡ m → number_of es k ≡ v.number
 number_again {ds} {es} {m} {k} t e l n = (λ i. number_of (l i) (n i)) ∙ ap (λ (v : Unsigned). v.number) e
 
-pub size_again : {ds es : List ℕ} {m hi lo : ℤ} {v : Unsigned} → IsTrimmed ds m hi lo → record { number = number_of ds m; hi = hi; lo = lo } ≡ v → es ≡ ds → length es ≡ size v.number
+-- the number has as many digits as the list
+pub size_again : {ds es : List ℕ} {m hi lo : ℤ} {v : Unsigned} → IsStored ds m hi lo → record { number = number_of ds m; hi = hi; lo = lo } ≡ v → es ≡ ds → length es ≡ size v.number
 size_again t e l = ap length l ∙ sym (size-number_of t) ∙ ap (λ (v : Unsigned). size v.number) e

@@ -10,7 +10,7 @@ use Rattle.std.specs.Int.Digits.{number_from_digits}
 use Rattle.decimal_digits.specs.Number.{place}
 use Rattle.decimal_unsigned.specs.Unsigned.{Unsigned, zero_value}
 use Rattle.decimal_digits.specs.Digits.{number_of, number_at}
-use Rattle.decimal_unsigned.specs.Fields.{IsTrimmed}
+use Rattle.decimal_unsigned.specs.Fields.{IsStored}
 use Rattle.decimal_unsigned.specs.Edits.{leaves_limits, multiplied, shifted}
 use Rattle.decimal_digits.proofs.Places.{place_is}
 use Rattle.decimal_digits.proofs.Ends.{shift_up}
@@ -25,17 +25,18 @@ pub record Moves (ds : List ℕ) (m hi lo d m' hi' lo' : ℤ) : Type 0 where
   pub hi_fits : (hi +ℤ d) ≤ℤ pos 32767
   pub lo_fits : negsuc 32767 ≤ℤ (lo +ℤ d)
 
-module _ {ds : List ℕ} {m hi lo d m' hi' lo' : ℤ} (t : IsTrimmed ds m hi lo) (s : Moves ds m hi lo d m' hi' lo') where
-  pub moved : IsTrimmed ds m' hi' lo'
+module _ {ds : List ℕ} {m hi lo d m' hi' lo' : ℤ} (t : IsStored ds m hi lo) (s : Moves ds m hi lo d m' hi' lo') where
+  -- the moved digits, as a value holds them
+  pub moved : IsStored ds m' hi' lo'
   moved = elim (cases_lt 0 (length ds)) [
     | inl h ↦ let e = s.some h in record {
       digits = t.digits;
       front = t.front;
       back = t.back;
       empty = λ z. absurd (omega arith);
-      above = omega (arith, ints, clamps, t.above, t.below, s.hi_is);
-      below = omega (arith, ints, clamps, t.below, t.hi_in, t.lo_in, s.lo_is);
-      fits = omega (arith, ints, clamps, t.fits, t.below, t.in_range, s.lo_is, s.lo_fits, place_is lo, place_is m, place_is m', place_is lo');
+      hi_covers = omega (arith, ints, clamps, t.hi_covers, t.lo_covers, s.hi_is);
+      lo_covers = omega (arith, ints, clamps, t.lo_covers, t.hi_in, t.lo_in, s.lo_is);
+      fits = omega (arith, ints, clamps, t.fits, t.lo_covers, t.in_range, s.lo_is, s.lo_fits, place_is lo, place_is m, place_is m', place_is lo');
       hi_in = omega (arith, ints, clamps, s.hi_is);
       lo_in = omega (arith, ints, clamps, s.lo_is);
       in_range = (omega (arith, ints, clamps, s.lo_is, s.lo_fits), omega (arith, ints, clamps, s.hi_is, s.hi_fits));
@@ -45,8 +46,8 @@ module _ {ds : List ℕ} {m hi lo d m' hi' lo' : ℤ} (t : IsTrimmed ds m hi lo)
       front = t.front;
       back = t.back;
       empty = s.none;
-      above = omega (arith, ints, clamps, s.hi_is);
-      below = omega (arith, ints, clamps, s.lo_is);
+      hi_covers = omega (arith, ints, clamps, s.hi_is);
+      lo_covers = omega (arith, ints, clamps, s.lo_is);
       fits = omega (arith, ints, clamps, s.lo_is, s.lo_fits, place_is m', place_is lo');
       hi_in = omega (arith, ints, clamps, s.hi_is);
       lo_in = omega (arith, ints, clamps, s.lo_is);
@@ -66,7 +67,8 @@ number_down ds m m' n h e =
     let k : place m' + 1 - length ds ≡ (place m + 1 - length ds) - n = omega arith in
     ap (λ x. number_from_digits 10 ds * 10 ^ x) k ∙ sym (shift_up (number_from_digits 10 ds) (place m + 1 - length ds) n (omega arith))
 
-pub multiplied_is : {ds : List ℕ} {m hi lo m' hi' lo' : ℤ} (d : ℤ) → IsTrimmed ds m hi lo → Moves ds m hi lo d m' hi' lo' → record { number = number_of ds m'; hi = hi'; lo = lo' } ≡ multiplied (record { number = number_of ds m; hi = hi; lo = lo }) d
+-- the moved digits are the number times the power
+pub multiplied_is : {ds : List ℕ} {m hi lo m' hi' lo' : ℤ} (d : ℤ) → IsStored ds m hi lo → Moves ds m hi lo d m' hi' lo' → record { number = number_of ds m'; hi = hi'; lo = lo' } ≡ multiplied (record { number = number_of ds m; hi = hi; lo = lo }) d
 multiplied_is {ds} {m} {hi} {lo} {m'} {hi'} {lo'} (pos n) t s =
     let w = moved t s in
     let a : number_of ds m' ≡ number_of ds m * 10 ^ n = elim (cases_lt 0 (length ds)) [
@@ -93,13 +95,14 @@ stays_in v d h l =
     let b : int_lt (v.lo +ℤ d) (negsuc 32767) ≡ false = grind (arith, ints, l) in
     rw (a, b) refl
 
-pub shifted_is : {ds : List ℕ} {m hi lo m' hi' lo' : ℤ} (d : ℤ) → IsTrimmed ds m hi lo → Moves ds m hi lo d m' hi' lo' → record { number = number_of ds m'; hi = hi'; lo = lo' } ≡ shifted (record { number = number_of ds m; hi = hi; lo = lo }) d
+-- they make the shifted value
+pub shifted_is : {ds : List ℕ} {m hi lo m' hi' lo' : ℤ} (d : ℤ) → IsStored ds m hi lo → Moves ds m hi lo d m' hi' lo' → record { number = number_of ds m'; hi = hi'; lo = lo' } ≡ shifted (record { number = number_of ds m; hi = hi; lo = lo }) d
 shifted_is {ds} {m} {hi} {lo} d t s =
     let test = stays_in (record { number = number_of ds m; hi = hi; lo = lo }) d s.hi_fits s.lo_fits in
     rw test (multiplied_is d t s)
 
 -- the range would not fit
-pub shifted_over : {ds : List ℕ} {m hi lo : ℤ} (n : ℕ) (d : ℤ) → IsTrimmed ds m hi lo → (pos 32767 <ℤ (hi +ℤ d)) ⊎ ((lo +ℤ d) <ℤ negsuc 32767) → shifted (record { number = n; hi = hi; lo = lo }) d ≡ zero_value
+pub shifted_over : {ds : List ℕ} {m hi lo : ℤ} (n : ℕ) (d : ℤ) → IsStored ds m hi lo → (pos 32767 <ℤ (hi +ℤ d)) ⊎ ((lo +ℤ d) <ℤ negsuc 32767) → shifted (record { number = n; hi = hi; lo = lo }) d ≡ zero_value
 shifted_over {ds} {m} {hi} {lo} n d t o = rw leaves refl
   where
     leaves : leaves_limits (record { number = n; hi = hi; lo = lo }) d ≡ true

@@ -14,14 +14,16 @@ use Rattle.std.specs.Cmp.{IsEquivalence, and_equiv, on_equiv, nat_eq_equiv, int_
 use Rattle.decimal_unsigned.specs.Unsigned.{Unsigned, same}
 use Rattle.decimal_digits.specs.Number.{digit, first, last}
 use Rattle.decimal_digits.specs.Digits.{number_of}
-use Rattle.decimal_unsigned.specs.Fields.{IsTrimmed}
+use Rattle.decimal_unsigned.specs.Fields.{IsStored}
 use Rattle.decimal_digits.proofs.Places.{place_is}
 use Rattle.decimal_unsigned.proofs.Values.{first_of, last-number_of, none_of, number_of-none, lowest, digit-number_of-in}
 
-module _ {ds es : List ℕ} {m n hi lo hi' lo' : ℤ} (t : IsTrimmed ds m hi lo) (u : IsTrimmed es n hi' lo') (e : number_of ds m ≡ number_of es n) where
+module _ {ds es : List ℕ} {m n hi lo hi' lo' : ℤ} (t : IsStored ds m hi lo) (u : IsStored es n hi' lo') (e : number_of ds m ≡ number_of es n) where
+  -- one number has one first magnitude
   pub same_magnitude : m ≡ n
   same_magnitude = sym (first_of t) ∙ ap first e ∙ first_of u
 
+  -- one count of digits
   pub same_length : length ds ≡ length es
   same_length = elim (cases_lt 0 (length ds)) [
     | inl h ↦ elim (cases_lt 0 (length es)) [
@@ -31,6 +33,7 @@ module _ {ds es : List ℕ} {m n hi lo hi' lo' : ℤ} (t : IsTrimmed ds m hi lo)
     | inr h ↦ let z : length ds ≡ 0 = omega arith in let y = none_of u (sym e ∙ number_of-none t z) in omega arith
   ]
 
+  -- and one list of digits
   pub same_digits : ds ≡ es
   same_digits = ext_get_or 0 ds es same_length (λ i h.
       let k : i < length es = omega (arith, same_length) in
@@ -40,15 +43,18 @@ module _ {ds es : List ℕ} {m n hi lo hi' lo' : ℤ} (t : IsTrimmed ds m hi lo)
       let b : negsuc 32767 ≤ℤ (m -ℤ pos i) = omega (arith, ints, t.fits, place_is m, place_is lo, t.in_range, lowest t) in
       sym (digit-number_of-in t (m -ℤ pos i) i p b h) ∙ ap (λ x. digit x (m -ℤ pos i)) e ∙ digit-number_of-in u (m -ℤ pos i) i q b k)
 
+-- what passes the test is equal
 pub same_is : (v w : Unsigned) → same v w ≡ true → v ≡ w
 same_is v w h = grind (arith, nat_tests, h)
 
 same_equiv : IsEquivalence same
 same_equiv = and_equiv (on_equiv (λ (v : Unsigned). v.number) nat_eq_equiv) (and_equiv (on_equiv (λ (v : Unsigned). v.hi) int_eq_equiv) (on_equiv (λ (v : Unsigned). v.lo) int_eq_equiv))
 
+-- equal values pass the test
 pub is_same : (v w : Unsigned) → v ≡ w → same v w ≡ true
 is_same v w e = subst (λ u. same v u ≡ true) e (same_equiv.refl v)
 
+-- other values fail it
 pub not_same : (v w : Unsigned) → ¬ (v ≡ w) → same v w ≡ false
 not_same v w n = elim (same v w) as (λ b. same v w ≡ b → b ≡ false) [ true ↦ λ e. absurd (n (same_is v w e)) | false ↦ λ e. refl ] refl
 
@@ -60,5 +66,6 @@ text_same v w p q e = let r = sym (read_text v p) ∙ ap read e ∙ read_text w 
 pub tells_values : (b : Bool) (v w : Unsigned) → b ≡ same v w → IsTrue b ↔ (v ≡ w)
 tells_values b v w e = (λ x. same_is v w (sym e ∙ x), λ p. e ∙ is_same v w p)
 
+-- and of the texts
 pub tells_texts : (b : Bool) (v w : Unsigned) → b ≡ same v w → IsValue v → IsValue w → IsTrue b ↔ (text v ≡ text w)
 tells_texts b v w e p q = (λ x. ap text (same_is v w (sym e ∙ x)), λ t. e ∙ is_same v w (text_same v w p q t))

@@ -10,7 +10,7 @@ use Rattle.std.proofs.lemmas.Int.Digits.{number_lt}
 use Rattle.std.specs.Int.Digits.{number_from_digits}
 use Rattle.decimal_digits.specs.Number.{place, digit, first, last, magnitude_at}
 use Rattle.decimal_digits.specs.Digits.{number_of, number_at}
-use Rattle.decimal_unsigned.specs.Fields.{IsTrimmed}
+use Rattle.decimal_unsigned.specs.Fields.{IsStored}
 use Rattle.decimal_digits.specs.Number.{size}
 use Rattle.decimal_digits.proofs.DigitLists.{ten_pos, number_front, number_back, number-digit}
 use Rattle.std.specs.Prelude.{nat_eq, false}
@@ -22,7 +22,8 @@ use Rattle.decimal_digits.proofs.Ends.{first_is, last_is, first_zero, last_zero,
 abbrev ends : List ℕ → ℤ → ℕ
 ends ds m = place m + 1 - length ds
 
-module _ {ds : List ℕ} {m hi lo : ℤ} (t : IsTrimmed ds m hi lo) where
+module _ {ds : List ℕ} {m hi lo : ℤ} (t : IsStored ds m hi lo) where
+  -- a 1 above the first digit is more than the number
   pub number_of-lt : number_of ds m < 10 ^ (place m + 1)
   unfolding number_of number_at
   number_of-lt =
@@ -31,6 +32,7 @@ module _ {ds : List ℕ} {m hi lo : ℤ} (t : IsTrimmed ds m hi lo) where
       let split : 10 ^ (place m + 1) ≡ 10 ^ length ds * 10 ^ ends ds m = ap (λ n. 10 ^ n) (let k : place m + 1 ≡ length ds + ends ds m = omega (arith, t.fits) in k) ∙ pow-add 10 (length ds) (ends ds m) in
       rw split below
 
+  -- a 1 at the first digit is at most the number
   pub number_of-ge : 0 < length ds → 10 ^ place m ≤ number_of ds m
   unfolding number_of number_at
   number_of-ge h =
@@ -39,24 +41,30 @@ module _ {ds : List ℕ} {m hi lo : ℤ} (t : IsTrimmed ds m hi lo) where
       let split : 10 ^ place m ≡ 10 ^ (length ds - 1) * 10 ^ ends ds m = ap (λ n. 10 ^ n) (let k : place m ≡ length ds - 1 + ends ds m = omega (arith, t.fits) in k) ∙ pow-add 10 (length ds - 1) (ends ds m) in
       rw split above
 
+  -- a number with digits is not 0
   pub number_of-pos : 0 < length ds → 0 < number_of ds m
   number_of-pos h = omega (arith, number_of-ge h, ten_pos (place m))
 
+  -- a number without digits is 0
   pub number_of-none : length ds ≡ 0 → number_of ds m ≡ 0
   unfolding number_of number_at
   number_of-none h =
       let z : number_from_digits 10 ds ≡ 0 = omega (arith, number_lt 10 ds t.digits, ap (λ k. 10 ^ k) h) in
       rw z (omega arith)
 
+  -- the first digit stands at -32768 or above
   pub lowest : negsuc 32767 ≤ℤ m
-  lowest = omega (arith, ints, t.below, t.in_range)
+  lowest = omega (arith, ints, t.lo_covers, t.in_range)
 
+  -- and below 32768
   pub high : place m < 65536
-  high = omega (arith, ints, t.above, t.in_range, place_is m, lowest)
+  high = omega (arith, ints, t.hi_covers, t.in_range, place_is m, lowest)
 
+  -- the first digit is that of the number
   pub first-number_of : 0 < length ds → first (number_of ds m) ≡ m
   first-number_of h = first_is _ (place m) (number_of-ge h) number_of-lt high ∙ magnitude_at-place m lowest
 
+  -- the last digit is that of the number
   pub last-number_of : 0 < length ds → last (number_of ds m) ≡ m -ℤ pos (length ds - 1)
   unfolding number_of number_at
   last-number_of h =
@@ -64,9 +72,11 @@ module _ {ds : List ℕ} {m hi lo : ℤ} (t : IsTrimmed ds m hi lo) where
       let e : magnitude_at (ends ds m) ≡ m -ℤ pos (length ds - 1) = omega (arith, ints, place_is m, t.fits, lowest) in
       last_is (number_from_digits 10 ds) (ends ds m) b (omega (arith, high)) ∙ e
 
+  -- above the first digit there are zeros
   pub digit-number_of-above : (q : ℤ) → m <ℤ q → negsuc 32767 ≤ℤ q → digit (number_of ds m) q ≡ 0
   digit-number_of-above q h l = digit_above _ (place m + 1) (place q) number_of-lt (omega (arith, ints, place_is m, place_is q, lowest))
 
+  -- the digits of the list are those of the number
   pub digit-number_of-in : (q : ℤ) (i : ℕ) → q +ℤ pos i ≡ m → negsuc 32767 ≤ℤ q → i < length ds → digit (number_of ds m) q ≡ slice_index ds i
   unfolding number_of number_at
   digit-number_of-in q i e l h =
@@ -74,43 +84,49 @@ module _ {ds : List ℕ} {m hi lo : ℤ} (t : IsTrimmed ds m hi lo) where
       let k : place q - ends ds m ≡ length ds - (i + 1) = omega (arith, t.fits) in
       ap (λ x. x % 10) (shift_down (number_from_digits 10 ds) (ends ds m) (place q) (omega (arith, t.fits)) ∙ ap (λ n. number_from_digits 10 ds / 10 ^ n) k) ∙ number-digit i ds t.digits h
 
+  -- below the last digit there are zeros
   pub digit-number_of-below : (q : ℤ) (i : ℕ) → q +ℤ pos i ≡ m → negsuc 32767 ≤ℤ q → length ds ≤ i → digit (number_of ds m) q ≡ 0
   unfolding number_of number_at
   digit-number_of-below q i e l h = digit_below (number_from_digits 10 ds) (ends ds m) (place q) (omega (arith, ints, place_is m, place_is q, lowest, t.fits))
 
+  -- the magnitude of the first digit, of 0 too
   pub first_of : first (number_of ds m) ≡ m
   first_of = elim (cases_lt 0 (length ds)) [
     | inl h ↦ first-number_of h
     | inr h ↦ let z : length ds ≡ 0 = omega arith in ap first (number_of-none z) ∙ first_zero ∙ sym (t.empty z)
   ]
 
+  -- the last digit of 0 is that at 0
   pub last_of_none : length ds ≡ 0 → last (number_of ds m) ≡ pos 0
   last_of_none z = ap last (number_of-none z) ∙ last_zero
 
+  -- the number 0 has no digits
   pub none_of : number_of ds m ≡ 0 → length ds ≡ 0
   none_of e = elim (cases_lt 0 (length ds)) [ inl h ↦ omega (arith, number_of-pos h) | inr h ↦ omega arith ]
 
+-- no digits are worth 0
 pub number_of_empty : (m : ℤ) → number_of [] m ≡ 0
 unfolding number_of number_at
 number_of_empty m = omega arith
 
-pub length_le : {ds : List ℕ} {m hi lo : ℤ} → IsTrimmed ds m hi lo → length ds ≤ place m + 1
-length_le t = omega (arith, t.fits)
-
-module _ {ds : List ℕ} {m hi lo : ℤ} (t : IsTrimmed ds m hi lo) where
+module _ {ds : List ℕ} {m hi lo : ℤ} (t : IsStored ds m hi lo) where
+  -- 16 bits keep the highest magnitude
   pub hi_kept : to_z w16 (of_z w16 hi) ≡ hi
   hi_kept = omega (arith, ints, t.hi_in, t.in_range)
 
+  -- and the lowest
   pub lo_kept : to_z w16 (of_z w16 lo) ≡ lo
   lo_kept = omega (arith, ints, t.lo_in, t.in_range)
 
+  -- and that of the first digit
   pub magnitude_kept : to_z w16 (of_z w16 m) ≡ m
-  magnitude_kept = omega (arith, ints, t.above, t.below, t.in_range)
+  magnitude_kept = omega (arith, ints, t.hi_covers, t.lo_covers, t.in_range)
 
 -- what a call returned, as it is read again
 pub narrow_kept : {z : ℤ} → mag z < 32768 → to_z w16 (of_z w16 z) ≡ z
 narrow_kept {z} h = to_z-of_z w16 z (record { sfits = h })
 
+-- the same in 32 bits
 pub wide_kept : {z : ℤ} → mag z < 2147483648 → to_z w32 (of_z w32 z) ≡ z
 wide_kept {z} h = to_z-of_z w32 z (record { sfits = h })
 
@@ -118,17 +134,17 @@ wide_kept {z} h = to_z-of_z w32 z (record { sfits = h })
 pub counted : {l h lo hi : ℤ} {n : ℕ} → n ≡ int_gap (to_z w16 (of_z w16 l)) (to_z w16 (of_z w16 h)) + 1 → l ≡ lo → h ≡ hi → mag l < 32768 → mag h < 32768 → n ≡ int_gap lo hi + 1
 counted e p q a b = e ∙ (λ i. int_gap ((narrow_kept a ∙ p) i) ((narrow_kept b ∙ q) i) + 1)
 
-module _ {ds : List ℕ} {m hi lo : ℤ} (t : IsTrimmed ds m hi lo) where
+module _ {ds : List ℕ} {m hi lo : ℤ} (t : IsStored ds m hi lo) where
   -- a lower end that keeps the last digit
-  pub lower_kept : (low : ℤ) → low ≤ℤ pos 0 → low ≤ℤ last (number_of ds m) → negsuc 32767 ≤ℤ low → IsTrimmed ds m hi low
-  lower_kept low z l b = elim (cases_lt 0 (length ds)) [
+  pub lower_stored : (low : ℤ) → low ≤ℤ pos 0 → low ≤ℤ last (number_of ds m) → negsuc 32767 ≤ℤ low → IsStored ds m hi low
+  lower_stored low z l b = elim (cases_lt 0 (length ds)) [
     | inl h ↦ let e = last-number_of t h in record {
       digits = t.digits;
       front = t.front;
       back = t.back;
       empty = t.empty;
-      above = t.above;
-      below = omega (arith, ints, e, l);
+      hi_covers = t.hi_covers;
+      lo_covers = omega (arith, ints, e, l);
       fits = omega (arith, ints, e, l, b, t.fits, place_is m, place_is low, lowest t);
       hi_in = t.hi_in;
       lo_in = z;
@@ -139,8 +155,8 @@ module _ {ds : List ℕ} {m hi lo : ℤ} (t : IsTrimmed ds m hi lo) where
       front = t.front;
       back = t.back;
       empty = t.empty;
-      above = t.above;
-      below = omega (arith, ints, w, z);
+      hi_covers = t.hi_covers;
+      lo_covers = omega (arith, ints, w, z);
       fits = omega (arith, ints, n, w, b, z, place_is m, place_is low);
       hi_in = t.hi_in;
       lo_in = z;
@@ -148,13 +164,15 @@ module _ {ds : List ℕ} {m hi lo : ℤ} (t : IsTrimmed ds m hi lo) where
     }
   ]
 
+  -- the last digit stands at -32768 or above
   pub last_in : negsuc 32767 ≤ℤ last (number_of ds m)
   last_in = elim (cases_lt 0 (length ds)) [
     | inl h ↦ let e = last-number_of t h in omega (arith, ints, e, t.fits, place_is m, place_is lo, t.in_range, lowest t)
     | inr h ↦ let n : length ds ≡ 0 = omega arith in let e = last_of_none t n in omega (arith, ints, e)
   ]
 
-pub size-number_of : {ds : List ℕ} {m hi lo : ℤ} (t : IsTrimmed ds m hi lo) → size (number_of ds m) ≡ length ds
+-- the number has as many digits as the list
+pub size-number_of : {ds : List ℕ} {m hi lo : ℤ} (t : IsStored ds m hi lo) → size (number_of ds m) ≡ length ds
 size-number_of {ds} {m} t = elim (cases_lt 0 (length ds)) [
   | inl h ↦
       let e : nat_eq (number_of ds m) 0 ≡ false = let p = number_of-pos t h in search rules in

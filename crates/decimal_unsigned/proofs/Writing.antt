@@ -14,20 +14,24 @@ pub record Wrote (number : ℕ) (hi : ℤ) (count i : ℕ) (old new : Option (Li
   pub appended : Appends old new part
   pub rest : part ++ text_down number (hi -ℤ pos i) (count - i) ≡ text_down number hi count
 
+-- the text of one magnitude more
 pub text_down-suc : (number : ℕ) (m : ℤ) (n : ℕ) → text_down number m (suc n) ≡ (dot_before m ++ (48 + digit number m) ∷ []) ++ text_down number (m -ℤ pos 1) n
 unfolding text_down
 text_down-suc number m n = refl
 
+-- and of none
 pub text_down-zero : (number : ℕ) (m : ℤ) → text_down number m 0 ≡ []
 unfolding text_down
 text_down-zero number m = refl
 
+-- what is appended to what was appended
 pub appends_both : (a b c : Option (List ℕ)) (xs ys : List ℕ) → Appends a b xs → Appends b c ys → Appends a c (xs ++ ys)
 appends_both None b c xs ys p q = tt
 appends_both (Some a) None c xs ys p q = absurd p
 appends_both (Some a) (Some b) None xs ys p q = absurd q
 appends_both (Some a) (Some b) (Some c) xs ys p q = q ∙ ap (λ l. l ++ ys) p ∙ append_assoc a xs ys
 
+-- nothing is appended
 pub appends_none : (a : Option (List ℕ)) → Appends a a []
 appends_none None = tt
 appends_none (Some a) = sym (append-nil a)
@@ -39,17 +43,20 @@ text_down-all number hi count =
     let n : count - 0 ≡ count = omega arith in
     ap (λ k. text_down number k (count - 0)) m ∙ ap (text_down number hi) n
 
+-- the first of those magnitudes
 pub text_down-step : (number : ℕ) (hi : ℤ) (count i : ℕ) → i < count → text_down number (hi -ℤ pos i) (count - i) ≡ (dot_before (hi -ℤ pos i) ++ (48 + digit number (hi -ℤ pos i)) ∷ []) ++ text_down number (hi -ℤ pos (i + 1)) (count - (i + 1))
 text_down-step number hi count i h =
     let n : count - i ≡ suc (count - (i + 1)) = omega arith in
     let m : (hi -ℤ pos i) -ℤ pos 1 ≡ hi -ℤ pos (i + 1) = omega (arith, ints) in
     ap (text_down number (hi -ℤ pos i)) n ∙ text_down-suc number (hi -ℤ pos i) (count - (i + 1)) ∙ ap (λ k. (dot_before (hi -ℤ pos i) ++ (48 + digit number (hi -ℤ pos i)) ∷ []) ++ text_down number k (count - (i + 1))) m
 
+-- and none
 pub text_down-end : (number : ℕ) (hi : ℤ) (count i : ℕ) → count ≤ i → text_down number (hi -ℤ pos i) (count - i) ≡ []
 text_down-end number hi count i h =
     let n : count - i ≡ 0 = omega arith in
     ap (text_down number (hi -ℤ pos i)) n ∙ text_down-zero number (hi -ℤ pos i)
 
+-- before the first magnitude
 pub wrote_none : (number : ℕ) (hi : ℤ) (count : ℕ) (a : Option (List ℕ)) → Wrote number hi count 0 a a
 wrote_none number hi count a = record {
   part = [];
@@ -57,6 +64,7 @@ wrote_none number hi count a = record {
   rest = text_down-all number hi count;
 }
 
+-- one magnitude more was written
 pub wrote_more : {number : ℕ} {hi : ℤ} {count i : ℕ} {a b c : Option (List ℕ)} → Wrote number hi count i a b → i < count → Appends b c (dot_before (hi -ℤ pos i) ++ (48 + digit number (hi -ℤ pos i)) ∷ []) → Wrote number hi count (i + 1) a c
 wrote_more {number} {hi} {count} {i} {a} {b} {c} w h p = record {
   part = w.part ++ (dot_before (hi -ℤ pos i) ++ (48 + digit number (hi -ℤ pos i)) ∷ []);
@@ -64,6 +72,7 @@ wrote_more {number} {hi} {count} {i} {a} {b} {c} w h p = record {
   rest = append_assoc w.part _ _ ∙ ap (λ l. w.part ++ l) (sym (text_down-step number hi count i h)) ∙ w.rest;
 }
 
+-- the sink refused a byte of the next magnitude
 pub wrote_part : {number : ℕ} {hi : ℤ} {count i : ℕ} {a b : Option (List ℕ)} (c : Option (List ℕ)) → Wrote number hi count i a b → i < count → AppendsBeginning b c (dot_before (hi -ℤ pos i) ++ (48 + digit number (hi -ℤ pos i)) ∷ []) → AppendsBeginning a c (text_down number hi count)
 wrote_part {number} {hi} {count} {i} {a} {b} c w h (part, rest, e, p) = (
   w.part ++ part,
@@ -72,6 +81,7 @@ wrote_part {number} {hi} {count} {i} {a} {b} c w h (part, rest, e, p) = (
   appends_both a b c _ _ w.appended p,
 )
 
+-- all magnitudes were written
 pub wrote_all : {number : ℕ} {hi : ℤ} {count i : ℕ} {a b : Option (List ℕ)} → Wrote number hi count i a b → count ≤ i → Appends a b (text_down number hi count)
 wrote_all {number} {hi} {count} {i} {a} {b} w h =
     subst (Appends a b) (sym (append-nil w.part) ∙ ap (λ l. w.part ++ l) (sym (text_down-end number hi count i h)) ∙ w.rest) w.appended

@@ -53,7 +53,8 @@ pub record TruncatedAgain (v : Unsigned) (p : ℤ) (new : Unsigned) : Type 0 whe
 
 -- expanded at any position, what expanding a value at p left has the number of the value expanded at the higher one
 abbrev pub ExpandedAgain : Unsigned → ℤ → Unsigned → Type 0
-ExpandedAgain v p new = (q : ℤ) → negsuc 32767 ≤ℤ q → (expanded new q).number ≡ (expanded v (int_max p q)).number
+ExpandedAgain v p new =
+    (q : ℤ) → negsuc 32767 ≤ℤ q → (expanded new q).number ≡ (expanded v (int_max p q)).number
 
 -- the greater number, where it stays below the limit, is rounded to no less than the other
 abbrev pub RoundsInOrder : Unsigned → Unsigned → ℤ → UnsignedRoundingMode → RoundingIncrement → Type 0

@@ -15,7 +15,11 @@ times_power number (negsuc d) = number / 10 ^ suc d
 
 -- the value times 10 to the power d, with its range moved by d, and magnitude 0 still shown
 abbrev pub multiplied : Unsigned → ℤ → Unsigned
-multiplied v d = record { number = times_power v.number d; hi = int_max (v.hi +ℤ d) (pos 0); lo = int_min (v.lo +ℤ d) (pos 0) }
+multiplied v d = record {
+  number = times_power v.number d;
+  hi = int_max (v.hi +ℤ d) (pos 0);
+  lo = int_min (v.lo +ℤ d) (pos 0);
+}
 
 -- a shift: zero where the range would leave the limits
 abbrev pub shifted : Unsigned → ℤ → Unsigned

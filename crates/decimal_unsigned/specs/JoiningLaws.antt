@@ -9,4 +9,5 @@ join v w = if overlaps v w then None else Some (joined v w)
 
 -- three values can be joined from the front exactly where they can be from the back, and give one value
 abbrev pub JoinAlike : Unsigned → Unsigned → Unsigned → Type 0
-JoinAlike u v w = option_and_then (λ front. join front w) (join u v) ≡ option_and_then (λ back. join u back) (join v w)
+JoinAlike u v w =
+    option_and_then (λ uv. join uv w) (join u v) ≡ option_and_then (λ vw. join u vw) (join v w)

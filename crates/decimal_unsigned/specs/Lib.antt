@@ -1,14 +1,17 @@
+-- Public: what the contracts of public functions say.
 pub mod Unsigned
+pub mod Text
 pub mod Edits
+pub mod EditLaws
 pub mod Rounded
 pub mod Joining
 pub mod JoiningLaws
-pub mod Text
-pub mod EditLaws
 pub mod Grammar
 pub mod Reading
 pub mod Refusal
+pub mod ErrorText
+
+-- Private: what only the contracts of private functions say.
 pub mod Fields
 pub mod Parts
 pub mod Placing
-pub mod ErrorText

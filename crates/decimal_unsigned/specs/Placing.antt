@@ -1,13 +1,14 @@
--- Which digits of the parts are kept, and where they lie.
+-- Private: only the contracts of private functions speak of these.
+-- Which digits of the parts make the value, and where they lie.
 use Rattle.std.specs.Prelude.{◌≡◌, ℕ, ◌-◌, ◌≤◌, ◌<◌, if◌then◌else◌, List, ◌++◌, length, take, drop, map, slice_index, ℤ, pos, negsuc, ◌+ℤ◌, ◌≤ℤ◌, int_lt, Ok}
 use Rattle.std.specs.Char.{digit_value}
 use Rattle.std.specs.Int.{int_max, int_min}
 use Rattle.decimal_digits.specs.Digits.{number_of}
-use Rattle.decimal_unsigned.specs.Fields.{IsTrimmed}
+use Rattle.decimal_unsigned.specs.Fields.{IsStored}
 use Rattle.decimal_unsigned.specs.Grammar.{Written}
 use Rattle.decimal_unsigned.specs.Reading.{value_of}
 
--- all the digits
+-- all the digits, those in front of the dot first
 abbrev pub digits_of : Written → List ℕ
 digits_of w = map digit_value (w.whole ++ w.fraction)
 
@@ -36,5 +37,6 @@ pub record IsInner (ds : List ℕ) (start end : ℕ) : Type 0 where
 pub record Makes (w : Written) (start end : ℕ) (magnitude hi lo : ℤ) : Type 0 where
   pub ordered : start ≤ end
   pub within : end ≤ length (digits_of w)
-  pub trimmed : IsTrimmed (middle start end (digits_of w)) magnitude hi lo
-  pub value : value_of w ≡ Ok (record { number = number_of (middle start end (digits_of w)) magnitude; hi = hi; lo = lo })
+  pub stored : IsStored (middle start end (digits_of w)) magnitude hi lo
+  pub value :
+    value_of w ≡ Ok (record { number = number_of (middle start end (digits_of w)) magnitude; hi = hi; lo = lo })

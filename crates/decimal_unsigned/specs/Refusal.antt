@@ -12,7 +12,8 @@ Refuses wanted Limit reading = reading ≡ Err limit
 Refuses wanted Syntax reading = reading ≡ Err syntax
 Refuses wanted Memory reading = wanted
 
--- the answer is what reading comes to, its value or its fault; or it is want of memory, where there is a value that wants it
+-- the answer is what reading comes to, its value or its fault; or it is want of memory, where there is a value that
+-- wants it
 abbrev pub Answers : {V : Type 0} → (V → Type 0) → Result V ParseError → Result V Fault → Type 0
 Answers wants (Ok v) reading = reading ≡ Ok v
 Answers wants (Err e) reading = Refuses (IsOkAnd reading wants) e reading
@@ -22,8 +23,8 @@ abbrev pub AnswersFault : {V : Type 0} → Result (Unit {0}) ParseError → Resu
 AnswersFault (Ok _) reading = IsOkAnd reading (λ _. Unit {0})
 AnswersFault (Err e) reading = Refuses ⊥ e reading
 
--- the answer by the grammar: Syntax for a text without parts and for no other, Limit where the parts have it and nowhere
--- else, and the value of the parts
+-- the answer by the grammar: Syntax for a text without parts and for no other, Limit where the parts are beyond the
+-- limits and nowhere else, and the value of the parts
 pub record AnswersGrammar (text : List ℕ) (answer : Result Unsigned ParseError) : Type 0 where
   pub syntax : (answer ≡ Err Syntax) ↔ ((w : Written) → ¬ Grammar text w)
   pub limit : (answer ≡ Err Limit) ↔ ((w : Written) × Grammar text w × (value_of w ≡ Err limit))

@@ -11,9 +11,14 @@ use Rattle.decimal_unsigned.specs.Unsigned.{Unsigned, IsValue}
 abbrev pub reaches_limit : ℕ → Bool
 reaches_limit number = nat_le (weight (pos 32768)) number
 
--- a number in the place of the value's, shown from the highest of the old range, the position and the first digit, down to the position
+-- a number in the place of the value's, shown from the highest of the old range, the magnitude just below the position
+-- and the first digit, down to the position
 abbrev pub with_number : Unsigned → ℤ → ℕ → Unsigned
-with_number v position number = record { number = number; hi = int_max (int_max v.hi (position -ℤ pos 1)) (first number); lo = int_min position (pos 0) }
+with_number v position number = record {
+  number = number;
+  hi = int_max (int_max v.hi (position -ℤ pos 1)) (first number);
+  lo = int_min position (pos 0);
+}
 
 -- what stands after a rounding at the position that names this multiple: 0 where it reaches the limit
 abbrev pub rounded_to : Unsigned → ℤ → ℕ → Unsigned
@@ -25,11 +30,14 @@ rounded v position mode increment = rounded_to v position (rounded_number mode (
 
 -- the new value has the multiple that the mode names among all multiples
 abbrev pub NamesRounded : Unsigned → ℤ → UnsignedRoundingMode → RoundingIncrement → Unsigned → Type 0
-NamesRounded old position mode increment new = (m : ℕ) × Named mode (unit_at increment position) old.number m × (new ≡ rounded_to old position m)
+NamesRounded old position mode increment new =
+    (m : ℕ) × Named mode (unit_at increment position) old.number m × (new ≡ rounded_to old position m)
 
 -- the new value is the old one, which lies in the limits, rounded: by the remainder of its number, and to the multiple
 -- that the mode names
-pub record IsRounded (old : Unsigned) (position : ℤ) (mode : UnsignedRoundingMode) (increment : RoundingIncrement) (new : Unsigned) : Type 0 where
+pub record IsRounded
+  (old : Unsigned) (position : ℤ) (mode : UnsignedRoundingMode) (increment : RoundingIncrement) (new : Unsigned)
+  : Type 0 where
   pub valid : IsValue old
   pub value : new ≡ rounded old position mode increment
   pub named : NamesRounded old position mode increment new

@@ -41,5 +41,9 @@ IsGreatestLo v = (w : Unsigned) → IsValue w → w.number ≡ v.number → w.lo
 abbrev pub same : Unsigned → Unsigned → Bool
 same = eq_of_both (on (λ v. v.number) nat_eq) (eq_of_both (on (λ v. v.hi) int_eq) (on (λ v. v.lo) int_eq))
 
+-- equality is symmetric and transitive
 pub same_laws : IsPartialEquivalence same
-same_laws = and_per (on_per (λ (v : Unsigned). v.number) (partial_equiv_from_equiv nat_eq_equiv)) (and_per (on_per (λ (v : Unsigned). v.hi) (partial_equiv_from_equiv int_eq_equiv)) (on_per (λ (v : Unsigned). v.lo) (partial_equiv_from_equiv int_eq_equiv)))
+same_laws =
+    and_per (on_per (λ (v : Unsigned). v.number) (partial_equiv_from_equiv nat_eq_equiv))
+    (and_per (on_per (λ (v : Unsigned). v.hi) (partial_equiv_from_equiv int_eq_equiv))
+    (on_per (λ (v : Unsigned). v.lo) (partial_equiv_from_equiv int_eq_equiv)))

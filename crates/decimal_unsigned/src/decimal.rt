@@ -25,6 +25,14 @@ use std::ops::RangeInclusive;
 /// Contracts see `number`, in units of 10 to the power -32768, and the magnitudes `hi` and `lo`. The range holds
 /// magnitude 0 and all digits that are not 0; further zeros are shown as they were written. The text `0012.3400` has
 /// `hi` 3 and `lo` -4. The original has one representation; this type stands over any list of digits.
+///
+/// A position lies between the magnitude of its name and the next lower one, so that 0 is the dot:
+///
+/// ```text
+/// digits          1   2 . 3   4
+/// magnitudes      1   0  -1  -2
+/// positions     2   1   0  -1  -2
+/// ```
 #[derive(Debug, Drop)]
 pub struct UnsignedOver<D: DigitStore> {
     digits: D,
@@ -41,13 +49,13 @@ pub type UnsignedDecimal = UnsignedOver<DigitList>;
 impl<D: DigitStore> Model for UnsignedOver<D> {
     ghost use Rattle.decimal_digits.specs.Digits.{number_of};
     ghost use Rattle.decimal_unsigned.specs.Unsigned.{Unsigned};
-    ghost use Rattle.decimal_unsigned.specs.Fields.{IsTrimmed};
+    ghost use Rattle.decimal_unsigned.specs.Fields.{IsStored};
 
     ghost Value = { Unsigned };
 
     ghost view = { λ s. record { number = number_of (D.digits s.digits) s.magnitude; hi = s.hi; lo = s.lo } };
 
-    ghost invariant = { λ s. IsTrimmed (D.digits s.digits) s.magnitude s.hi s.lo };
+    ghost invariant = { λ s. IsStored (D.digits s.digits) s.magnitude s.hi s.lo };
 }
 
 impl<D: DigitStore> UnsignedOver<D> {

@@ -35,8 +35,8 @@ impl<D: DigitStore> fmt::Display for UnsignedOver<D> {
     fn fmt<W: fmt::Write>(&self, f: &mut fmt::Formatter<W>) -> fmt::Result {
         let hi = self.highest();
         let count = count_between(self.lowest(), hi);
-        for below in 0..count {
-            let magnitude = lowered(hi, below);
+        for index in 0..count {
+            let magnitude = lowered(hi, index);
             format_digit(self, magnitude, f)?;
         }
         Ok(())

@@ -13,8 +13,8 @@ impl<D: DigitStore> UnsignedOver<D> {
     /// Multiplies by 10 to the power `delta`, exactly.
     ///
     /// The range moves along, and magnitude 0 stays shown. Where the range would leave the magnitudes -32768 to 32767
-    /// the value becomes 0, which shows magnitude 0 alone. `250` by -2 is `2.50`, and `0` by 3 is `0000`. The original's
-    /// `multiply_pow10`.
+    /// the value becomes 0, which shows magnitude 0 alone. `250` by -2 is `2.50`, and `0` by 3 is `0000`. The
+    /// original's `multiply_pow10`.
     pub fn multiply_pow10(&mut self, delta: i16)
         ensures { self.new ≡ shifted self.old delta }
     {
@@ -89,9 +89,8 @@ impl<D: DigitStore> UnsignedOver<D> {
     /// Shows the magnitudes from the one just below a position down, or from the first digit that is not 0 where that
     /// is higher.
     ///
-    /// The position lies between the magnitude of its name and the next lower one. It may also hide zeros in front: at
-    /// 4 `0.42` becomes `0000.42`, and at 2 `0000.42` becomes `00.42`. A position of 0 or below changes nothing. The
-    /// original's `pad_start`.
+    /// It may also hide zeros in front: at 4 `0.42` becomes `0000.42`, and at 2 `0000.42` becomes `00.42`. A position
+    /// (see `UnsignedOver`) of 0 or below changes nothing. The original's `pad_start`.
     pub fn pad_start(&mut self, position: i16)
         ensures { self.new ≡ padded_start self.old position }
     {
@@ -102,9 +101,8 @@ impl<D: DigitStore> UnsignedOver<D> {
 
     /// Shows the magnitudes down to a position, or to the last digit that is not 0 where that is lower.
     ///
-    /// The position lies between the magnitude of its name and the next lower one. It may also hide zeros behind: at -6
-    /// `123.456` becomes `123.456000`, and at 0 `123.000` becomes `123`. A position above 0 changes nothing. The
-    /// original's `pad_end`.
+    /// It may also hide zeros behind: at -6 `123.456` becomes `123.456000`, and at 0 `123.000` becomes `123`. A
+    /// position (see `UnsignedOver`) above 0 changes nothing. The original's `pad_end`.
     pub fn pad_end(&mut self, position: i16)
         ensures { self.new ≡ padded_end self.old position }
     {
@@ -113,14 +111,14 @@ impl<D: DigitStore> UnsignedOver<D> {
         }
     }
 
-    /// Keeps the part below a position: the remainder by 10 to its power.
+    /// Leaves the part below a position: the remainder by 10 to its power.
     ///
-    /// The position lies between the magnitude of its name and the next lower one. The magnitudes just below it down to
-    /// the lowest that was shown stay shown, and magnitude 0 with them. `100.01` at 1 becomes `0.01`, `4235.970` at 5
-    /// becomes `04235.970`, and `0` at -2 becomes `0.00`. The original's `set_max_position`.
+    /// The magnitudes from the one just below the position (see `UnsignedOver`) down to the lowest that was shown stay
+    /// shown, and magnitude 0 with them. `100.01` at 1 becomes `0.01`, `4235.970` at 5 becomes `04235.970`, and `0` at
+    /// -2 becomes `0.00`. The original's `set_max_position`.
     pub fn set_max_position(&mut self, position: i16)
         ensures value { self.new ≡ cut self.old position }
-        // Joined behind what `trunc` keeps at the position, this part gives the number back.
+        // Joined behind what `trunc` leaves at the position, this part gives the number back.
         ensures parts { PartsJoin self.old position (truncated self.old position) self.new }
     {
         let len = self.digits.len();

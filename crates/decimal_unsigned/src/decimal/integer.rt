@@ -131,10 +131,10 @@ impl<D: DigitStore> UnsignedOver<D> {
         ensures succeeds { size (integer_value (number_from_digits 10 digits.now)).number ≤ D.L → IsOk result }
         ensures short { length digits.now ≤ D.L → IsOk result }
     {
-        let kept = D::from_digits(alloc, &digits[..end_of(digits)])?;
+        let nonzero = D::from_digits(alloc, &digits[..end_of(digits)])?;
         let magnitude = at_least_zero(difference(digits.len(), 1));
         Ok(UnsignedOver {
-            digits: kept,
+            digits: nonzero,
             magnitude,
             hi: magnitude,
             lo: 0,

@@ -18,7 +18,7 @@ use parts::{Parts, split};
 use plan::{Plan, planned};
 use std::alloc::{AllocError, Global};
 
-/// The parts of a text, and what is kept of them.
+/// The parts of a text, and which digits make the value.
 #[derive(Clone, Copy)]
 struct Scan<'a> {
     parts: Parts<'a>,
@@ -58,7 +58,7 @@ pub fn lowest_of(text: &[u8]) -> Result<i16, ParseError>
 }
 
 /// The digits from `start` up to `end`.
-fn kept<D: DigitStore>(
+fn digits_between<D: DigitStore>(
     alloc: Global,
     parts: &Parts<'_>,
     start: usize,
@@ -113,7 +113,7 @@ impl<D: DigitStore> UnsignedOver<D> {
     {
         let scan = scanned(text)?;
         let plan = scan.plan;
-        let Ok(digits) = kept(alloc, &scan.parts, plan.start, plan.end) else {
+        let Ok(digits) = digits_between(alloc, &scan.parts, plan.start, plan.end) else {
             return Err(ParseError::Memory);
         };
         Ok(UnsignedOver {

@@ -29,12 +29,12 @@ fn highest_after(hi: i16, position: i16, first: i16) -> i16
 impl<D: DigitStore> UnsignedOver<D> {
     /// Rounds at a position to a multiple of an increment, and counts the turns.
     ///
-    /// A position lies between the magnitude of its name and the next lower one; the unit is the increment times 10 to
-    /// its power. The mode names one of all multiples of the unit, and the value becomes that one. It shows the
-    /// magnitudes down to the position, or to 0 where the position is higher, and from the highest that was shown, the
-    /// one just below the position, or the first digit, whichever is highest. `9.75` at -1, half-even by 5, becomes
-    /// `10.0`. Where the multiple reaches 10 to the 32768 the number becomes 0, with that range: `99.999` at 4,
-    /// half-expand, becomes `0000`, for 0 is nearer.
+    /// The unit is the increment times 10 to the power of the position (see `UnsignedOver`). The mode names one of all
+    /// multiples of the unit, and the value becomes that one. It shows the magnitudes down to the position, or to 0
+    /// where the position is higher, and from the highest that was shown, the one just below the position, or the first
+    /// digit, whichever is highest. `9.75` at -1, half-even by 5, becomes `10.0`, and `99.999` at 4, half-expand,
+    /// becomes `0000`, for 0 is nearer. Where the multiple reaches 10 to the 32768 the number becomes 0, with that
+    /// range.
     ///
     /// Each read and each write of a digit is a turn; beyond seven, a rounding pays only for digits that vanish.
     /// Err: memory was refused for one digit more, which only `MultiplesOf25` may need, and only where the number has
@@ -126,10 +126,10 @@ impl<D: DigitStore> UnsignedOver<D> {
     pub fn trunc(&mut self, position: i16)
         ensures rounds { IsRounded self.old position UnsignedRoundingMode.Trunc
             RoundingIncrement.MultiplesOf1 self.new }
-        // Joined in front of what `set_max_position` keeps at the position, this part gives the number back.
+        // Joined in front of what `set_max_position` leaves at the position, this part gives the number back.
         ensures parts { PartsJoin self.old position self.new (cut self.old position) }
-        // Truncated once more, it has the number that the old value gets at the higher position, and the range too where
-        // the second position is that one.
+        // Truncated once more, it has the number that the old value gets at the higher position, and the range too
+        // where the second position is that one.
         ensures again { TruncatedAgain self.old position self.new }
     {
         self.round_with_mode(position, UnsignedRoundingMode::Trunc);

@@ -44,8 +44,8 @@ impl<D: DigitStore> Writeable for UnsignedOver<D> {
     {
         let hi = self.highest();
         let count = count_between(self.lowest(), hi);
-        for below in 0..count {
-            let magnitude = lowered(hi, below);
+        for index in 0..count {
+            let magnitude = lowered(hi, index);
             write_digit(self, magnitude, sink)?;
         }
         Ok(())

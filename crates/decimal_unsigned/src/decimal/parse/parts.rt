@@ -5,7 +5,7 @@ ghost use Rattle.decimal_unsigned.specs.Placing.{digits_of};
 ghost use Rattle.std.specs.Char.{is_ascii_digit};
 ghost use Rattle.std.specs.List.{prefix_len};
 ghost use Rattle.decimal_unsigned.specs.Reading as read;
-ghost use Rattle.decimal_unsigned.specs.Parts.{view, views, held, IsHeld, held_parts};
+ghost use Rattle.decimal_unsigned.specs.Parts.{view, views, saturated, IsSaturated, saturated_parts};
 
 /// The digits in front of the dot and behind it, and the exponent.
 #[derive(Clone, Copy)]
@@ -29,8 +29,8 @@ fn digit_count(text: &[u8]) -> usize
 
 /// The digits in front, and what stands behind them.
 fn split_digits(text: &[u8]) -> (&[u8], &[u8])
-    ensures front { result.0.now ≡ read.front text.now }
-    ensures behind { result.1.now ≡ read.behind text.now }
+    ensures front { result.0.now ≡ read.leading_digits text.now }
+    ensures behind { result.1.now ≡ read.after_digits text.now }
 {
     text.split_at(digit_count(text))
 }
@@ -57,14 +57,14 @@ pub fn numeral(text: &[u8]) -> Option<u32>
 }
 
 fn unsigned(text: &[u8]) -> Option<i32>
-    ensures { result ≡ option_map held (option_map pos (read.numeral_of text.now)) }
+    ensures { result ≡ option_map saturated (option_map pos (read.numeral_of text.now)) }
 {
     Some(numeral(text)? as i32)
 }
 
 #[tactic(auto, unfolding(crate::specs::Reading::exponent_of))]
 fn exponent(text: &[u8]) -> Option<i32>
-    ensures { result ≡ option_map held (read.exponent_of text.now) }
+    ensures { result ≡ option_map saturated (read.exponent_of text.now) }
 {
     match text {
         [b'-', rest @ ..] => Some(-(numeral(rest)? as i32)),
@@ -74,7 +74,7 @@ fn exponent(text: &[u8]) -> Option<i32>
 
 #[tactic(auto, unfolding(crate::specs::Reading::with_exponent))]
 fn with_exponent<'a>(whole: &'a [u8], fraction: &'a [u8], text: &[u8]) -> Option<Parts<'a>>
-    ensures { views result ≡ option_map held_parts (read.with_exponent whole.now fraction.now text.now) }
+    ensures { views result ≡ option_map saturated_parts (read.with_exponent whole.now fraction.now text.now) }
 {
     let exponent = exponent(text)?;
     Some(Parts {
@@ -86,7 +86,7 @@ fn with_exponent<'a>(whole: &'a [u8], fraction: &'a [u8], text: &[u8]) -> Option
 
 #[tactic(auto, unfolding(crate::specs::Reading::after_fraction))]
 fn after_fraction<'a>(whole: &'a [u8], fraction: &'a [u8], text: &[u8]) -> Option<Parts<'a>>
-    ensures { views result ≡ option_map held_parts (read.after_fraction whole.now fraction.now text.now) }
+    ensures { views result ≡ option_map saturated_parts (read.after_fraction whole.now fraction.now text.now) }
 {
     match text {
         [] if !fraction.is_empty() => Some(Parts {
@@ -101,7 +101,7 @@ fn after_fraction<'a>(whole: &'a [u8], fraction: &'a [u8], text: &[u8]) -> Optio
 
 #[tactic(auto, unfolding(crate::specs::Reading::after_whole))]
 fn after_whole<'a>(whole: &'a [u8], text: &'a [u8]) -> Option<Parts<'a>>
-    ensures { views result ≡ option_map held_parts (read.after_whole whole.now text.now) }
+    ensures { views result ≡ option_map saturated_parts (read.after_whole whole.now text.now) }
 {
     match text {
         [] if !whole.is_empty() => Some(Parts {
@@ -121,9 +121,9 @@ fn after_whole<'a>(whole: &'a [u8], text: &'a [u8]) -> Option<Parts<'a>>
 /// The parts of the text, if it is in the grammar.
 #[tactic(auto, unfolding(crate::specs::Reading::parts_of))]
 pub fn split(text: &[u8]) -> Option<Parts<'_>>
-    ensures parts { views result ≡ option_map held_parts (read.parts_of text.now) }
+    ensures parts { views result ≡ option_map saturated_parts (read.parts_of text.now) }
     ensures digits { IfSome result (λ p. AllDigits 10 (p.whole.now ++ p.fraction.now)) }
-    ensures exponent { IfSome result (λ p. IfSome p.exponent IsHeld) }
+    ensures exponent { IfSome result (λ p. IfSome p.exponent IsSaturated) }
 {
     let (whole, rest) = split_digits(text);
     after_whole(whole, rest)
@@ -155,7 +155,8 @@ impl Parts<'_> {
         requires { AllDigits 10 (self.now.whole.now ++ self.now.fraction.now) }
         ensures within { result ≤ length (digits_of (view self.now)) }
         ensures before { (k : ℕ) → k < result → slice_index (digits_of (view self.now)) k ≡ 0 }
-        ensures found { result < length (digits_of (view self.now)) → 0 < slice_index (digits_of (view self.now)) result }
+        ensures found { result < length (digits_of (view self.now))
+            → 0 < slice_index (digits_of (view self.now)) result }
     {
         for i in 0..self.len() {
             if self.digit(i) != 0 {

@@ -1,11 +1,11 @@
-//! Which digits are kept, and where they lie.
+//! Which digits make the value, and where they lie.
 ghost use Rattle.std.specs.Prelude.{◌≡◌, ℕ, ◌+◌, ◌-◌, ◌<◌, ◌≤◌, ◌⊎◌, length, slice_index, IfSome, IfNone, pos, negsuc, ◌+ℤ◌, ◌-ℤ◌, ◌≤ℤ◌, ◌<ℤ◌, int_lt, if◌then◌else◌};
 ghost use Rattle.std.specs.Int.{int_max, int_min};
 ghost use Rattle.std.specs.Prelude.{◌++◌, Err};
 ghost use Rattle.std.specs.Str.Parse.{AllDigits};
 ghost use Rattle.decimal_unsigned.specs.Placing.{Placed, Makes};
 ghost use Rattle.decimal_unsigned.specs.Reading.{value_of, limit};
-ghost use Rattle.decimal_unsigned.specs.Parts.{IsHeld};
+ghost use Rattle.decimal_unsigned.specs.Parts.{IsSaturated};
 ghost use Rattle.decimal_unsigned.specs.Parts.{view};
 
 use super::parts::Parts;
@@ -86,7 +86,7 @@ fn unscaled(magnitude: i32, hi: i32, lo: i32) -> Place
     }
 }
 
-/// Which digits are kept, and where they lie.
+/// Which digits make the value, and where they lie.
 #[derive(Clone, Copy)]
 pub struct Plan {
     pub start: usize,
@@ -97,7 +97,7 @@ pub struct Plan {
 /// The plan of the parts, unless they are beyond a limit.
 pub fn planned(parts: &Parts<'_>) -> Option<Plan>
     requires digits { AllDigits 10 (parts.now.whole.now ++ parts.now.fraction.now) }
-    requires exponent { IfSome parts.now.exponent IsHeld }
+    requires exponent { IfSome parts.now.exponent IsSaturated }
     ensures none { IfNone result (value_of (view parts.now) ≡ Err limit) }
     ensures some { IfSome result (λ p. Makes (view parts.now) p.start p.end p.place.magnitude p.place.hi p.place.lo) }
 {

@@ -3,12 +3,12 @@ use Rattle.std.proofs.lemmas.Int.{ints}
 use Rattle.decimal_digits.specs.Number.{last, IsLast}
 use Rattle.decimal_digits.proofs.Places.{place_is}
 use Rattle.decimal_unsigned.specs.Unsigned.{Unsigned}
-use Rattle.decimal_unsigned.proofs.Values.{last-number_of, last_of_none, length_le, high, magnitude_kept, narrow_kept}
+use Rattle.decimal_unsigned.proofs.Values.{last-number_of, last_of_none, high, magnitude_kept, narrow_kept}
 use Rattle.decimal_unsigned.proofs.Ranges.{is_last}
 use Rattle.decimal_unsigned.proofs.decimal.UnsignedOver.nonzero_magnitude_end.Goals as goal
 
 pub magnitude_of-requires : goal.magnitude_of-requires
-magnitude_of-requires g c = let t = c.self.invariant in omega (arith, ints, c.len-len.ensures, t.above, t.below, t.fits, t.in_range, place_is c.self.inside.magnitude, place_is c.self.inside.lo)
+magnitude_of-requires g c = let t = c.self.invariant in omega (arith, ints, c.len-len.ensures, t.hi_covers, t.lo_covers, t.fits, t.in_range, place_is c.self.inside.magnitude, place_is c.self.inside.lo)
 
 pub returns-then-len-eq0 : goal.returns-then-len-eq0
 returns-then-len-eq0 g c =

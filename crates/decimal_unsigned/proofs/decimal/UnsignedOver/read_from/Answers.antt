@@ -15,4 +15,4 @@ returns-in_default g c =
       | inl h ↦ h
       | inr h ↦ let k = c.in_default.ensures.succeeds h in absurd (cc)
     ] in
-    rw (c.in_ok-scan.ensures.value, m.value) (omega (arith, size-number_of m.trimmed))
+    rw (c.in_ok-scan.ensures.value, m.value) (omega (arith, size-number_of m.stored))

@@ -10,11 +10,11 @@ use Rattle.decimal_digits.specs.declared.digits.steps.Steps.{Steps}
 use Rattle.decimal_digits.proofs.Results.{on_err}
 use Rattle.decimal_digits.proofs.Naming.{rounded_number-named}
 use Rattle.decimal_digits.proofs.Tails.{unit_pos}
-use Rattle.decimal_unsigned.specs.Fields.{IsTrimmed}
+use Rattle.decimal_unsigned.specs.Fields.{IsStored}
 use Rattle.decimal_unsigned.specs.Unsigned.{Unsigned}
 use Rattle.decimal_unsigned.specs.Rounded.{rounded}
 use Rattle.decimal_unsigned.proofs.Values.{size-number_of, narrow_kept, magnitude_kept, hi_kept}
-use Rattle.decimal_unsigned.proofs.Roundings.{Left, left_of, trimmed_left, rounded_left, number_again, size_again}
+use Rattle.decimal_unsigned.proofs.Roundings.{Left, left_of, stored_left, rounded_left, number_again, size_again}
 use Rattle.decimal_unsigned.proofs.Shown.{value_of_view}
 use Rattle.decimal_unsigned.proofs.RoundingLaws.{rounded_again}
 use Rattle.decimal_unsigned.proofs.decimal.UnsignedOver.round_counted.Goals as goal
@@ -49,12 +49,12 @@ value g c =
     ap (λ m. record { number = number_of (g.D.DigitStore.digits c.round.new.list.list.now) m; hi = to_z w16 (of_z w16 c.highest_after-self-inside.result); lo = to_z w16 (of_z w16 c.min-self-inside.result) }) (magnitude_is g c)
     ∙ rounded_left (left g c) c.self.inside.hi _ _ (hi_is g c) (lo_is g c) c.args.self.now (sym (ap (λ (v : Unsigned). v.hi) c.self.view_is))
 
-trimmed : (g : _) (c : goal.After-self-3-1 g) → IsTrimmed (g.D.DigitStore.digits c.round.new.list.list.now) (to_z w16 (of_z w16 c.unwrap_or-first.result)) (to_z w16 (of_z w16 c.highest_after-self-inside.result)) (to_z w16 (of_z w16 c.min-self-inside.result))
-trimmed g c =
+stored : (g : _) (c : goal.After-self-3-1 g) → IsStored (g.D.DigitStore.digits c.round.new.list.list.now) (to_z w16 (of_z w16 c.unwrap_or-first.result)) (to_z w16 (of_z w16 c.highest_after-self-inside.result)) (to_z w16 (of_z w16 c.min-self-inside.result))
+stored g c =
     let t = c.self.invariant in
     let p = c.ranges.position in
-    subst (λ m. IsTrimmed (g.D.DigitStore.digits c.round.new.list.list.now) m (to_z w16 (of_z w16 c.highest_after-self-inside.result)) (to_z w16 (of_z w16 c.min-self-inside.result))) (sym (magnitude_is g c))
-    (trimmed_left (left g c) c.self.inside.hi _ _ (hi_is g c) (lo_is g c)
+    subst (λ m. IsStored (g.D.DigitStore.digits c.round.new.list.list.now) m (to_z w16 (of_z w16 c.highest_after-self-inside.result)) (to_z w16 (of_z w16 c.min-self-inside.result))) (sym (magnitude_is g c))
+    (stored_left (left g c) c.self.inside.hi _ _ (hi_is g c) (lo_is g c)
     (recursion_from_All _ _ (g.met.D.DigitStore.are_digits c.round.new.list.list.now))
     t.hi_in t.in_range.1 (omega (arith, ints)) (omega (arith, ints)))
 
@@ -68,7 +68,7 @@ returns-in_err-round-clause-memory g c =
     (subst (λ m. WantsMemory c.args.increment (length (g.D.DigitStore.digits c.new-counted.result.list.now)) m g.D.DigitStore.L) (λ i. rounded_number c.args.mode (unit_at c.args.increment (p i)) (n i)) c.in_err-round.ensures.memory))
 
 pub invariant_of-self-2 : goal.invariant_of-self-2
-invariant_of-self-2 g c = trimmed g c
+invariant_of-self-2 g c = stored g c
 
 pub returns-clause-rounds : goal.returns-clause-rounds
 returns-clause-rounds g c =
@@ -85,7 +85,7 @@ returns-clause-again g c = subst (λ v. rounded v c.args.position c.args.mode c.
 pub returns-clause-turns : goal.returns-clause-turns
 returns-clause-turns g c =
     let before = size_again c.self.invariant c.self.view_is (ap g.D.DigitStore.digits c.new-counted.ensures.list) in
-    let after = size-number_of (trimmed g c) in
+    let after = size-number_of (stored g c) in
     let lent = ap (λ (s : Steps). s.count) c.new-counted.ensures.steps in
     let turns = c.in_ok-round.ensures.turns in
     let same = sym c.new-counted.ensures.same_steps ∙ sym c.round.ensures.same_steps in

@@ -4,9 +4,9 @@ use Rattle.std.proofs.lemmas.Int.{ints, to_z-of_z}
 use Rattle.decimal_digits.proofs.Places.{place_is}
 use Rattle.decimal_unsigned.specs.Unsigned.{Unsigned}
 use Rattle.decimal_unsigned.specs.Edits.{cut}
-use Rattle.decimal_unsigned.proofs.Values.{lo_kept, magnitude_kept, narrow_kept, wide_kept, length_le, high, lowest}
+use Rattle.decimal_unsigned.proofs.Values.{lo_kept, magnitude_kept, narrow_kept, wide_kept, high, lowest}
 use Rattle.decimal_unsigned.specs.EditLaws.{truncated, PartsJoin}
-use Rattle.decimal_unsigned.proofs.Cuts.{Cuts, trimmed_cut, cut_is}
+use Rattle.decimal_unsigned.proofs.Cuts.{Cuts, stored_cut, cut_is}
 use Rattle.decimal_unsigned.proofs.Shown.{value_of_view}
 use Rattle.decimal_unsigned.proofs.EditLaws.{parts}
 use Rattle.decimal_unsigned.proofs.decimal.UnsignedOver.set_max_position.Goals as goal
@@ -41,7 +41,7 @@ cuts g c =
     }
 
 pub invariant_of-self : goal.invariant_of-self
-invariant_of-self g c = rw c.drop_front.ensures (trimmed_cut c.self.invariant (cuts g c))
+invariant_of-self g c = rw c.drop_front.ensures (stored_cut c.self.invariant (cuts g c))
 
 pub returns-clause-value : goal.returns-clause-value
 returns-clause-value g c = rw c.drop_front.ensures (cut_is c.self.invariant (cuts g c) ∙ ap (λ (v : Unsigned). cut v c.args.position) c.self.view_is)

@@ -3,7 +3,7 @@ use Rattle.std.proofs.lemmas.Int.{ints, clamps}
 use Rattle.decimal_digits.specs.Number.{last, IsLast}
 use Rattle.decimal_digits.specs.Digits.{number_of}
 use Rattle.decimal_unsigned.specs.Unsigned.{Unsigned}
-use Rattle.decimal_unsigned.proofs.Values.{narrow_kept, lower_kept, last_in}
+use Rattle.decimal_unsigned.proofs.Values.{narrow_kept, lower_stored, last_in}
 use Rattle.decimal_unsigned.proofs.Ranges.{last_shown}
 use Rattle.decimal_unsigned.proofs.EditLaws.{trimmed_alike, shortest}
 use Rattle.decimal_unsigned.proofs.decimal.UnsignedOver.trim_end.Goals as goal
@@ -16,7 +16,7 @@ invariant_of-self g c =
     let k = narrow_kept {z = c.min-self-inside.result} c.min-self-inside.type_inv in
     let r = narrow_kept {z = c.nonzero_magnitude_end.result} c.nonzero_magnitude_end.type_inv in
     let v = c.min-self-inside.ensures.value in
-    lower_kept t _ (omega (arith, ints, clamps, v)) (omega (arith, ints, clamps, v, r, e)) (omega (arith, ints, clamps, v, r, e, b))
+    lower_stored t _ (omega (arith, ints, clamps, v)) (omega (arith, ints, clamps, v, r, e)) (omega (arith, ints, clamps, v, r, e, b))
 
 pub returns-clause-greatest : goal.returns-clause-greatest
 returns-clause-greatest g c = λ w v e.

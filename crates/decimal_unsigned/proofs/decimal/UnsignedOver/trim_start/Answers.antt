@@ -1,10 +1,11 @@
 use Rattle.std.proofs.Common.{pos, sym, ◌∙◌, ap, subst}
+use Rattle.std.specs.Prelude.{◌≤ℤ◌}
 use Rattle.std.specs.Int.{int_max}
-use Rattle.decimal_digits.specs.Number.{IsFirst}
-use Rattle.decimal_unsigned.proofs.Values.{first_of, narrow_kept, magnitude_kept, lowest}
+use Rattle.decimal_digits.specs.Number.{first}
+use Rattle.decimal_unsigned.proofs.Values.{first_of, narrow_kept, magnitude_kept}
 use Rattle.decimal_unsigned.specs.Edits.{trimmed_end}
 use Rattle.decimal_unsigned.specs.EditLaws.{IsShortest}
-use Rattle.decimal_unsigned.proofs.Ranges.{is_first, first_shown, trimmed_start_is}
+use Rattle.decimal_unsigned.proofs.Ranges.{first_shown, trimmed_start_is}
 use Rattle.decimal_unsigned.proofs.EditLaws.{trimmed_alike, shortest}
 use Rattle.decimal_unsigned.proofs.decimal.UnsignedOver.trim_start.Goals as goal
 
@@ -15,7 +16,7 @@ returns g c =
     let value = trimmed_start_is _ c.self.view_is (first_of t) upper in
     record {
       value = value;
-      least = λ w v e. rw upper (first_shown w c.self.inside.magnitude v (subst (λ n. IsFirst n c.self.inside.magnitude) (sym e) (is_first t)) (lowest t));
+      least = λ w v e. rw upper (subst (λ k. int_max k (pos 0) ≤ℤ w.hi) (ap first e ∙ first_of t) (first_shown w v));
       alike = trimmed_alike c.args.self.now;
       shortest = subst (λ v. IsShortest (trimmed_end v)) (sym value) (shortest c.args.self.now);
     }

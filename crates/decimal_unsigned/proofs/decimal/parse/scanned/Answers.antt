@@ -1,6 +1,6 @@
 use Rattle.std.proofs.Common.{◌∙◌}
 use Rattle.decimal_unsigned.specs.Parts.{view}
-use Rattle.decimal_unsigned.proofs.Held.{read_none, read_some}
+use Rattle.decimal_unsigned.proofs.Exponents.{read_none, read_some}
 use Rattle.decimal_unsigned.proofs.decimal.parse.scanned.Goals as goal
 
 pub returns-in_default-clause-fault : goal.returns-in_default-clause-fault

@@ -9,22 +9,22 @@ use Rattle.decimal_unsigned.proofs.Values.{narrow_kept, counted}
 use Rattle.decimal_unsigned.proofs.Writing.{wrote_none, wrote_more, wrote_part, wrote_all, OnErr-always}
 use Rattle.decimal_unsigned.proofs.decimal.text.UnsignedOverWriteable.write_to.Goals as goal
 
-pub loop-below-init : goal.loop-below-init
-loop-below-init g c = wrote_none _ _ _ _
+pub loop-index-init : goal.loop-index-init
+loop-index-init g c = wrote_none _ _ _ _
 
-pub loop-below-preserved : goal.loop-below-preserved
-loop-below-preserved g c =
+pub loop-index-preserved : goal.loop-index-preserved
+loop-index-preserved g c =
     let n = counted c.count_between-count.ensures c.lowest.ensures.value c.highest-hi.ensures.value c.lowest.type_inv c.highest-hi.type_inv in
-    let m = narrow_kept c.lowered-magnitude.type_inv ∙ c.lowered-magnitude.ensures ∙ ap (λ x. x -ℤ pos c.loop-below.below) (narrow_kept c.highest-hi.type_inv ∙ c.highest-hi.ensures.value) in
-    let f = subst (λ k. Appends (g.W.Sink.contents c.loop-below.sink) (g.W.Sink.contents c.write_digit.new.sink) (dot_before k ++ (48 + digit c.args.self.now.number k) ∷ [])) m c.in_ok-write_digit.ensures.ok in
-    wrote_more c.loop-below.invariant (omega (arith, n, c.loop-below-test.true)) f
+    let m = narrow_kept c.lowered-magnitude.type_inv ∙ c.lowered-magnitude.ensures ∙ ap (λ x. x -ℤ pos c.loop-index.index) (narrow_kept c.highest-hi.type_inv ∙ c.highest-hi.ensures.value) in
+    let f = subst (λ k. Appends (g.W.Sink.contents c.loop-index.sink) (g.W.Sink.contents c.write_digit.new.sink) (dot_before k ++ (48 + digit c.args.self.now.number k) ∷ [])) m c.in_ok-write_digit.ensures.ok in
+    wrote_more c.loop-index.invariant (omega (arith, n, c.loop-index-test.true)) f
 
 pub returns-in_err-write_digit-clause-err : goal.returns-in_err-write_digit-clause-err
 returns-in_err-write_digit-clause-err g c =
     let n = counted c.count_between-count.ensures c.lowest.ensures.value c.highest-hi.ensures.value c.lowest.type_inv c.highest-hi.type_inv in
-    let m = narrow_kept c.lowered-magnitude.type_inv ∙ c.lowered-magnitude.ensures ∙ ap (λ x. x -ℤ pos c.loop-below.below) (narrow_kept c.highest-hi.type_inv ∙ c.highest-hi.ensures.value) in
-    let f = subst (λ k. AppendsBeginning (g.W.Sink.contents c.loop-below.sink) (g.W.Sink.contents c.write_digit.new.sink) (dot_before k ++ (48 + digit c.args.self.now.number k) ∷ [])) m c.in_err-write_digit.ensures.err in
-    on_err_weaker c.from_residual.result (λ (t : Unit {0}). wrote_part _ c.loop-below.invariant (omega (arith, n, c.loop-below-test.true)) f) (OnErr-always c.from_residual.result)
+    let m = narrow_kept c.lowered-magnitude.type_inv ∙ c.lowered-magnitude.ensures ∙ ap (λ x. x -ℤ pos c.loop-index.index) (narrow_kept c.highest-hi.type_inv ∙ c.highest-hi.ensures.value) in
+    let f = subst (λ k. AppendsBeginning (g.W.Sink.contents c.loop-index.sink) (g.W.Sink.contents c.write_digit.new.sink) (dot_before k ++ (48 + digit c.args.self.now.number k) ∷ [])) m c.in_err-write_digit.ensures.err in
+    on_err_weaker c.from_residual.result (λ (t : Unit {0}). wrote_part _ c.loop-index.invariant (omega (arith, n, c.loop-index-test.true)) f) (OnErr-always c.from_residual.result)
 
 pub returns-in_err-write_digit-clause-reads_back : goal.returns-in_err-write_digit-clause-reads_back
 returns-in_err-write_digit-clause-reads_back g c = read_text c.args.self.now c.highest-hi.ensures.valid
@@ -32,7 +32,7 @@ returns-in_err-write_digit-clause-reads_back g c = read_text c.args.self.now c.h
 pub returns-clause-ok : goal.returns-clause-ok
 returns-clause-ok g c =
     let n = counted c.count_between-count.ensures c.lowest.ensures.value c.highest-hi.ensures.value c.lowest.type_inv c.highest-hi.type_inv in
-    wrote_all c.loop-below.invariant (omega (arith, n, c.loop-below-test.false))
+    wrote_all c.loop-index.invariant (omega (arith, n, c.loop-index-test.false))
 
 pub returns-clause-reads_back : goal.returns-clause-reads_back
 returns-clause-reads_back g c = read_text c.args.self.now c.highest-hi.ensures.valid

@@ -1,7 +1,7 @@
 use Rattle.std.proofs.Common.{◌≡◌, ◌-◌, ◌≤◌, take, drop}
 use Rattle.decimal_unsigned.specs.Parts.{view}
 use Rattle.decimal_unsigned.specs.Placing.{digits_of}
-use Rattle.decimal_unsigned.proofs.decimal.parse.kept.Given as goal
+use Rattle.decimal_unsigned.proofs.decimal.parse.digits_between.Given as goal
 
 abbrev pub invariant-loop-i : goal.invariant-loop-i
 invariant-loop-i g l = record {
