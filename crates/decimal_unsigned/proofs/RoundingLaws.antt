@@ -1,5 +1,5 @@
 -- Laws of rounding, on values.
-use Rattle.std.proofs.Common.{◌≡◌, ℕ, ◌+◌, ◌-◌, ◌*◌, ◌^◌, ◌<◌, ◌≤◌, nat_le, true, false, refl, sym, ◌∙◌, ap, subst, arith, inl, inr}
+use Rattle.std.proofs.Common.{◌≡◌, ℕ, ◌+◌, ◌-◌, ◌*◌, ◌^◌, ◌<◌, ◌≤◌, nat_le, false, refl, sym, ◌∙◌, ap, subst, arith, inl, inr}
 use Rattle.std.specs.Prelude.{ℤ, pos, negsuc, ◌-ℤ◌, ◌≤ℤ◌}
 use Rattle.std.specs.Int.{int_max, int_min}
 use Rattle.std.proofs.lemmas.Int.{ints, clamps, by_lt_z}
@@ -13,8 +13,7 @@ use Rattle.decimal_digits.specs.declared.rounding.RoundingIncrement.TheVariants.
 use Rattle.decimal_digits.specs.declared.rounding.UnsignedRoundingMode.{UnsignedRoundingMode}
 use Rattle.decimal_digits.specs.declared.rounding.UnsignedRoundingMode.TheVariants.{Expand, Trunc}
 use Rattle.decimal_digits.proofs.DigitLists.{ten_pos}
-use Rattle.decimal_digits.proofs.Ends.{first_zero}
-use Rattle.decimal_digits.proofs.Places.{place_is, place_le}
+use Rattle.decimal_digits.proofs.Places.{place_le}
 use Rattle.decimal_digits.proofs.RoundingLaws.{rounded_number-again, rounded_number-zero, rounded_number-finer, rounded_number-monotone, trunc-coarser, expand-coarser, trunc_le, expand-le-coarser}
 use Rattle.decimal_digits.proofs.Tails.{unit_pos}
 use Rattle.decimal_unsigned.specs.Unsigned.{Unsigned, IsValue}

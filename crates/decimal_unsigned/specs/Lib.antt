@@ -10,7 +10,6 @@ pub mod Grammar
 pub mod Reading
 pub mod Refusal
 pub mod ErrorText
-
 -- Private: what only the contracts of private functions say.
 pub mod Fields
 pub mod Parts

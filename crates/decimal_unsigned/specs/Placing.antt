@@ -39,4 +39,4 @@ pub record Makes (w : Written) (start end : ℕ) (magnitude hi lo : ℤ) : Type 
   pub within : end ≤ length (digits_of w)
   pub stored : IsStored (middle start end (digits_of w)) magnitude hi lo
   pub value :
-    value_of w ≡ Ok (record { number = number_of (middle start end (digits_of w)) magnitude; hi = hi; lo = lo })
+      value_of w ≡ Ok (record { number = number_of (middle start end (digits_of w)) magnitude; hi = hi; lo = lo })

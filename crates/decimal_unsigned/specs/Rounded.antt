@@ -36,8 +36,8 @@ NamesRounded old position mode increment new =
 -- the new value is the old one, which lies in the limits, rounded: by the remainder of its number, and to the multiple
 -- that the mode names
 pub record IsRounded
-  (old : Unsigned) (position : ℤ) (mode : UnsignedRoundingMode) (increment : RoundingIncrement) (new : Unsigned)
-  : Type 0 where
+    (old : Unsigned) (position : ℤ) (mode : UnsignedRoundingMode) (increment : RoundingIncrement) (new : Unsigned)
+    : Type 0 where
   pub valid : IsValue old
   pub value : new ≡ rounded old position mode increment
   pub named : NamesRounded old position mode increment new

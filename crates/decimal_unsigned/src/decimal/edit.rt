@@ -7,7 +7,9 @@ ghost use Rattle.decimal_unsigned.specs.EditLaws.{TrimmedAlike, IsShortest, trun
 
 use super::UnsignedOver;
 use decimal_digits::digits::DigitStore;
-use decimal_digits::ops::{at_least_zero, at_most_zero, lowered, magnitude_of, narrowed, places_above, sum};
+use decimal_digits::ops::{
+    at_least_zero, at_most_zero, lowered, magnitude_of, narrowed, places_above, sum,
+};
 
 impl<D: DigitStore> UnsignedOver<D> {
     /// Multiplies by 10 to the power `delta`, exactly.

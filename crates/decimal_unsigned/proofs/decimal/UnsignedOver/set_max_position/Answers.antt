@@ -4,7 +4,7 @@ use Rattle.std.proofs.lemmas.Int.{ints, to_z-of_z}
 use Rattle.decimal_digits.proofs.Places.{place_is}
 use Rattle.decimal_unsigned.specs.Unsigned.{Unsigned}
 use Rattle.decimal_unsigned.specs.Edits.{cut}
-use Rattle.decimal_unsigned.proofs.Values.{lo_kept, magnitude_kept, narrow_kept, wide_kept, high, lowest}
+use Rattle.decimal_unsigned.proofs.Values.{lo_kept, magnitude_kept, narrow_kept, wide_kept, lowest}
 use Rattle.decimal_unsigned.specs.EditLaws.{truncated, PartsJoin}
 use Rattle.decimal_unsigned.proofs.Cuts.{Cuts, stored_cut, cut_is}
 use Rattle.decimal_unsigned.proofs.Shown.{value_of_view}
