@@ -126,3 +126,6 @@ impl DigitStore for PackedDigits {
         self.len == other.len && self.bytes.as_slice() == other.bytes.as_slice()
     }
 }
+
+#[cfg(test)]
+mod tests;
