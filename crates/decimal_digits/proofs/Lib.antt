@@ -10,3 +10,6 @@ pub mod NumberAt
 pub mod Fronts
 pub mod Parts
 pub mod Results
+pub mod Halves
+pub mod HalfPasses
+pub mod Packing

@@ -4,3 +4,5 @@ pub mod Text
 pub mod Integer
 pub mod Rounding
 pub mod Tails
+pub mod Halves
+pub mod Packing

@@ -3,10 +3,12 @@ ghost use Rattle.std.specs.Prelude.{◌≡◌, ℕ, ◌+◌, ◌<◌, ◌≤◌,
 
 mod counted;
 mod list;
+mod packed;
 mod steps;
 
 pub use counted::Counted;
 pub use list::DigitList;
+pub use packed::PackedDigits;
 use std::alloc::{AllocError, Global};
 pub use steps::Steps;
 

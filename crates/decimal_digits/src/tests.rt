@@ -1,4 +1,5 @@
 //! Each public call once, and sinks that fail.
 
 mod lists;
+mod packed;
 mod sinks;

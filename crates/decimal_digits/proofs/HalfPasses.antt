@@ -1,0 +1,144 @@
+-- What the passes over bytes leave.
+use Rattle.std.proofs.Common.{◌≡◌, ◌≢◌, ℕ, zero, suc, ◌+◌, ◌-◌, ◌*◌, ◌/◌, ◌%◌, ◌<◌, ◌≤◌, ◌⊎◌, inl, inr, List, [], ◌∷◌, ◌++◌, length, get_or, set, take, drop, replicate, refl, sym, ◌∙◌, ap, add-one, arith}
+use Rattle.std.proofs.lemmas.List.{length-append, length-take-le, length-set, take_at, take-take, take-append-le, drop_at, append-nil, append_assoc, get_or-set_same, get_or-set_other, get_or_append_left, get_or_at, get_or_past, set_at, take_more, drop_more, get_or-take}
+use Rattle.std.proofs.lemmas.Bool.{cases_eq}
+use Rattle.std.specs.List.{refill}
+use Rattle.decimal_digits.specs.Halves.{halves}
+use Rattle.decimal_digits.specs.Packing.{length-halves}
+use Rattle.decimal_digits.proofs.Halves.{high_half, low_half, halves-set_high, halves-set_low, halves-append, halves-take, halves_shifted_from, halves_packed}
+
+pub refill_same : (xs ys : List ℕ) (n : ℕ) → length ys ≡ n → refill n xs ys ≡ ys
+refill_same xs ys n e = take_at ys (drop (length ys) xs) n e
+
+pub set_even : (bs s : List ℕ) (index d : ℕ) → s ≡ bs → index % 2 ≡ 0 → index < length (halves bs)
+    → halves (refill (length bs) bs (set s (index / 2) (d * 16 + get_or s (index / 2) 0 % 16))) ≡ set (halves bs) index d
+set_even bs s index d e m h =
+    let l : index / 2 < length bs = omega (arith, length-halves bs) in
+    let t : 2 * (index / 2) ≡ index = omega arith in
+    rw e (ap halves (refill_same bs (set bs (index / 2) (d * 16 + get_or bs (index / 2) 0 % 16)) (length bs) (length-set bs (index / 2) (d * 16 + get_or bs (index / 2) 0 % 16)))
+    ∙ halves-set_high bs (index / 2) d l ∙ ap (λ i. set (halves bs) i d) t)
+
+pub set_odd : (bs s : List ℕ) (index d : ℕ) → s ≡ bs → index % 2 ≢ 0 → index < length (halves bs) → d < 16
+    → halves (refill (length bs) bs (set s (index / 2) (get_or s (index / 2) 0 / 16 * 16 + d))) ≡ set (halves bs) index d
+set_odd bs s index d e m h p =
+    let l : index / 2 < length bs = omega (arith, length-halves bs) in
+    let t : 2 * (index / 2) + 1 ≡ index = omega arith in
+    rw e (ap halves (refill_same bs (set bs (index / 2) (get_or bs (index / 2) 0 / 16 * 16 + d)) (length bs) (length-set bs (index / 2) (get_or bs (index / 2) 0 / 16 * 16 + d)))
+    ∙ halves-set_low bs (index / 2) d l p ∙ ap (λ i. set (halves bs) i d) t)
+
+shifted_at : (xs zs : List ℕ) (from n last k : ℕ) → last < 16 → length zs ≡ length xs → n ≡ length xs - 1
+    → ((k : ℕ) → from ≤ k → k < n → get_or zs k 0 ≡ get_or xs k 0 % 16 * 16 + get_or xs (k + 1) 0 / 16)
+    → get_or zs n 0 ≡ get_or xs n 0
+    → from ≤ k → k < length xs
+    → get_or (set zs n (get_or zs n 0 % 16 * 16 + last)) k 0 ≡ get_or xs k 0 % 16 * 16 + get_or (xs ++ (last * 16) ∷ []) (suc k) 0 / 16
+shifted_at xs zs from n last k p e m written rest w q =
+    let v = get_or zs n 0 % 16 * 16 + last in
+    elim (cases_eq k n) [
+      | inl s ↦
+          let lt : n < length zs = omega arith in
+          let l : length xs ≡ suc k = omega arith in
+          let g : get_or (xs ++ (last * 16) ∷ []) (suc k) 0 ≡ last * 16 = get_or_at xs (last * 16) [] 0 (suc k) l in
+          let a : get_or (set zs n v) k 0 ≡ v = ap (λ i. get_or (set zs n v) i 0) s ∙ get_or-set_same zs n v 0 lt in
+          let r : get_or zs n 0 ≡ get_or xs k 0 = rest ∙ ap (λ i. get_or xs i 0) (sym s) in
+          omega arith
+      | inr s ↦
+          let lt : k < n = omega arith in
+          let l : suc k < length xs = omega arith in
+          let g : get_or (xs ++ (last * 16) ∷ []) (suc k) 0 ≡ get_or xs (suc k) 0 = get_or_append_left xs ((last * 16) ∷ []) 0 (suc k) l in
+          let o : get_or xs (k + 1) 0 ≡ get_or xs (suc k) 0 = ap (λ i. get_or xs i 0) (add-one k) in
+          get_or-set_other zs n k v 0 s ∙ written k w lt ∙ ap (λ i. get_or xs k 0 % 16 * 16 + i / 16) (o ∙ sym g)
+    ]
+
+-- the last byte of a shift
+pub shift_done : (xs zs : List ℕ) (from n last : ℕ) → last < 16 → from < length xs → length zs ≡ length xs → n ≡ length xs - 1
+    → ((k : ℕ) → get_or xs k 0 < 256)
+    → ((k : ℕ) → k < from → get_or zs k 0 ≡ get_or xs k 0)
+    → ((k : ℕ) → from ≤ k → k < n → get_or zs k 0 ≡ get_or xs k 0 % 16 * 16 + get_or xs (k + 1) 0 / 16)
+    → get_or zs n 0 ≡ get_or xs n 0
+    → halves (set zs n (get_or zs n 0 % 16 * 16 + last)) ≡ take (2 * from) (halves xs) ++ (drop (2 * from + 1) (halves xs) ++ last ∷ [])
+shift_done xs zs from n last p h e m b before written rest =
+    let v = get_or zs n 0 % 16 * 16 + last in
+    halves_shifted_from from xs (set zs n v) last p h (length-set zs n v ∙ e) (λ k q. b k)
+    (λ k q. let ne : k ≢ n = omega arith in get_or-set_other zs n k v 0 ne ∙ before k q)
+    (λ k w q. shifted_at xs zs from n last k p e m written rest w q)
+
+-- a half that is dropped from a byte
+pub gap_closed : (bs cs : List ℕ) (at last : ℕ) → at < length bs → length cs ≡ length bs
+    → halves cs ≡ take (2 * at) (halves bs) ++ (drop (2 * at + 1) (halves bs) ++ last ∷ [])
+    → halves (set cs at (get_or bs at 0 / 16 * 16 + get_or cs at 0 % 16)) ≡ take (2 * at + 1) (halves bs) ++ (drop (2 * at + 2) (halves bs) ++ last ∷ [])
+gap_closed bs cs at last h e f =
+    let x = get_or bs at 0 / 16 in
+    let N = halves bs in
+    let n = length-halves bs in
+    let lt : at < length cs = omega arith in
+    let l1 : 2 * at < length N = omega arith in
+    let l2 : 2 * at + 1 < length N = omega arith in
+    let o : 2 * at + 1 + 1 ≡ 2 * at + 2 = omega arith in
+    let d : drop (2 * at + 1) N ≡ get_or N (2 * at + 1) 0 ∷ drop (2 * at + 2) N = drop_more N (2 * at + 1) 0 l2 ∙ ap (λ i. get_or N (2 * at + 1) 0 ∷ drop i N) o in
+    let g : halves cs ≡ take (2 * at) N ++ (get_or N (2 * at + 1) 0 ∷ (drop (2 * at + 2) N ++ last ∷ [])) = f ∙ ap (λ l. take (2 * at) N ++ (l ++ last ∷ [])) d in
+    let t : take (2 * at + 1) N ≡ take (2 * at) N ++ x ∷ [] = take_more N (2 * at) 0 l1 ∙ ap (λ i. take (2 * at) N ++ i ∷ []) (high_half bs at h) in
+    halves-set_high cs at x lt ∙ ap (λ l. set l (2 * at) x) g
+    ∙ set_at (take (2 * at) N) (get_or N (2 * at + 1) 0) (drop (2 * at + 2) N ++ last ∷ []) x (2 * at) (length-take-le (2 * at) N (omega arith))
+    ∙ sym (ap (λ l. l ++ (drop (2 * at + 2) N ++ last ∷ [])) t ∙ append_assoc (take (2 * at) N) (x ∷ []) (drop (2 * at + 2) N ++ last ∷ []))
+
+-- halves that follow the high half of the last byte
+pub joined : (bs more cs : List ℕ) (count at last w : ℕ) → 0 < length bs → at ≡ length bs - 1 → w ≡ count / 2 → count ≤ 2 * length more
+    → halves cs ≡ take (2 * at + 1) (halves (bs ++ take w more)) ++ (drop (2 * at + 2) (halves (bs ++ take w more)) ++ last ∷ [])
+    → take (2 * w) (halves more) ++ last ∷ [] ≡ take count (halves more) ++ replicate ((count + 1) % 2) 0
+    → halves cs ≡ (take (2 * length bs - 1) (halves bs) ++ take count (halves more)) ++ replicate ((count + 1) % 2) 0
+joined bs more cs count at last w z e v h f g =
+    let n = length-halves bs in
+    let a : halves (bs ++ take w more) ≡ halves bs ++ take (2 * w) (halves more) = halves-append bs (take w more) ∙ ap (λ l. halves bs ++ l) (halves-take w more) in
+    let i : 2 * at + 1 ≡ 2 * length bs - 1 = omega arith in
+    let j : length (halves bs) ≡ 2 * at + 2 = omega arith in
+    let k : 2 * at + 1 ≤ length (halves bs) = omega arith in
+    f ∙ ap (λ l. take (2 * at + 1) l ++ (drop (2 * at + 2) l ++ last ∷ [])) a
+    ∙ ap (λ l. l ++ (drop (2 * at + 2) (halves bs ++ take (2 * w) (halves more)) ++ last ∷ [])) (take-append-le (2 * at + 1) (halves bs) (take (2 * w) (halves more)) k)
+    ∙ ap (λ l. take (2 * at + 1) (halves bs) ++ (l ++ last ∷ [])) (drop_at (halves bs) (take (2 * w) (halves more)) (2 * at + 2) j)
+    ∙ ap (λ l. take (2 * at + 1) (halves bs) ++ l) g
+    ∙ ap (λ m. take m (halves bs) ++ (take count (halves more) ++ replicate ((count + 1) % 2) 0)) i
+    ∙ sym (append_assoc (take (2 * length bs - 1) (halves bs)) (take count (halves more)) (replicate ((count + 1) % 2) 0))
+
+pub last_odd : (more : List ℕ) (count w last : ℕ) → w ≡ count / 2 → count ≤ 2 * length more → count % 2 ≡ 1 → last ≡ get_or more w 0 / 16
+    → take (2 * w) (halves more) ++ last ∷ [] ≡ take count (halves more) ++ replicate ((count + 1) % 2) 0
+last_odd more count w last e h m v =
+    let n = length-halves more in
+    let lt : w < length more = omega arith in
+    let l : 2 * w < length (halves more) = omega arith in
+    let t : 2 * w + 1 ≡ count = omega arith in
+    let o : (count + 1) % 2 ≡ 0 = omega arith in
+    ap (λ i. take (2 * w) (halves more) ++ i ∷ []) (v ∙ sym (high_half more w lt))
+    ∙ sym (take_more (halves more) (2 * w) 0 l) ∙ ap (λ i. take i (halves more)) t
+    ∙ sym (append-nil (take count (halves more))) ∙ ap (λ i. take count (halves more) ++ replicate i 0) (sym o)
+
+pub last_even : (more : List ℕ) (count w last : ℕ) → w ≡ count / 2 → count % 2 ≢ 1 → last ≡ 0
+    → take (2 * w) (halves more) ++ last ∷ [] ≡ take count (halves more) ++ replicate ((count + 1) % 2) 0
+last_even more count w last e m v =
+    let t : 2 * w ≡ count = omega arith in
+    let o : (count + 1) % 2 ≡ 1 = omega arith in
+    rw (t, v, o) refl
+
+-- the end of a pass that packs digits
+pub pack_even : (bs ds : List ℕ) (i : ℕ) → length bs ≡ (length ds + 1) / 2 → ((k d : ℕ) → k < length ds → get_or ds k d < 10) → length ds / 2 ≤ i → length ds % 2 ≢ 1
+    → ((k : ℕ) → k < i → get_or bs k 0 ≡ get_or ds (2 * k) 0 * 16 + get_or ds (2 * k + 1) 0) → halves bs ≡ ds ++ replicate (length ds % 2) 0
+pack_even bs ds i e p l m f =
+    halves_packed bs ds e (λ k q. let r : get_or ds k 0 < 10 = p k 0 q in omega arith) (λ k q. f k (omega arith))
+
+pub pack_odd : (bs ds : List ℕ) (i : ℕ) → length bs ≡ (length ds + 1) / 2 → ((k d : ℕ) → k < length ds → get_or ds k d < 10) → length ds / 2 ≤ i → length ds % 2 ≡ 1
+    → ((k : ℕ) → k < i → get_or bs k 0 ≡ get_or ds (2 * k) 0 * 16 + get_or ds (2 * k + 1) 0)
+    → halves (set bs (length ds / 2) (get_or ds (2 * (length ds / 2)) 0 * 16)) ≡ ds ++ replicate (length ds % 2) 0
+pack_odd bs ds i e p l m f =
+    let n = length ds / 2 in
+    let v = get_or ds (2 * n) 0 * 16 in
+    halves_packed (set bs n v) ds (length-set bs n v ∙ e) (λ k q. let r : get_or ds k 0 < 10 = p k 0 q in omega arith)
+    (λ k q. let q' : k < length bs = omega (arith, length-set bs n v) in
+    elim (cases_eq k n) [
+      | inl s ↦
+          let lt : n < length bs = omega arith in
+          let past : length ds ≤ 2 * k + 1 = omega arith in
+          let z : get_or ds (2 * k + 1) 0 ≡ 0 = get_or_past ds (2 * k + 1) 0 past in
+          let a : get_or (set bs n v) k 0 ≡ v = ap (λ j. get_or (set bs n v) j 0) s ∙ get_or-set_same bs n v 0 lt in
+          let b : v ≡ get_or ds (2 * k) 0 * 16 = ap (λ j. get_or ds (2 * j) 0 * 16) (sym s) in
+          omega arith
+      | inr s ↦ get_or-set_other bs n k v 0 s ∙ f k (omega arith)
+    ])

@@ -1,0 +1,193 @@
+-- The digits that packed bytes hold.
+use Rattle.std.proofs.Common.{◌≡◌, ℕ, zero, suc, ◌+◌, ◌-◌, ◌*◌, ◌/◌, ◌%◌, ◌<◌, ◌≤◌, List, [], ◌∷◌, ◌++◌, length, get_or, set, take, drop, replicate, refl, sym, ◌∙◌, ap, subst, zero-add, arith, rules}
+use Rattle.std.proofs.lemmas.List.{length-append, length-take, length-take-le, length-drop, length-replicate, length-set, take_at, take-take, append-nil, append_assoc, drop-append-le, take-append-le, replicate-append-replicate, set-append_left, set_at, drop-drop}
+use Rattle.std.specs.Prelude.{All}
+use Rattle.std.proofs.lemmas.Grind.{elements}
+use Rattle.decimal_digits.specs.Halves.{halves, digits_in, IsPacked}
+use Rattle.decimal_digits.specs.Packing.{Holds, length-halves, length_digits}
+use Rattle.decimal_digits.proofs.Halves.{halves-append, halves-take, halves-drop, halves-zeros, same_bytes}
+
+-- digits that are the halves of the bytes, but for a zero behind an odd number of them, are those that the bytes hold
+pub holds : (bytes ds : List ℕ) (len : ℕ) → halves bytes ≡ ds ++ replicate (len % 2) 0 → length ds ≡ len
+    → All (λ d. d < 10) ds → Holds bytes len ds
+holds bytes ds len e n h =
+    let t : digits_in bytes len ≡ ds = rw e (take_at ds (replicate (len % 2) 0) len n) in
+    let c : 2 * length bytes ≡ len + len % 2 = omega (arith, length-halves bytes, ap length e, length-append ds (replicate (len % 2) 0), length-replicate {A = ℕ} (len % 2) 0) in
+    let u : halves bytes ≡ digits_in bytes len ++ replicate (len % 2) 0 = rw t e in
+    record { packed = record { count = c; decimal = rw t h; unused = u }; digits = t }
+
+pub holds_none : Holds [] 0 []
+unfolding halves
+holds_none = holds [] [] 0 refl refl (search rules)
+
+-- ---- digits 0 to 9
+pub decimal_set : (xs : List ℕ) (i d : ℕ) → All (λ d. d < 10) xs → d < 10 → All (λ d. d < 10) (set xs i d)
+decimal_set xs i d h p = grind (arith, elements)
+
+pub decimal_push : (xs : List ℕ) (d : ℕ) → All (λ d. d < 10) xs → d < 10 → All (λ d. d < 10) (xs ++ d ∷ [])
+decimal_push xs d h p = grind (arith, elements)
+
+pub decimal_take : (xs : List ℕ) (n : ℕ) → All (λ d. d < 10) xs → All (λ d. d < 10) (take n xs)
+decimal_take xs n h = grind (arith, elements)
+
+pub decimal_drop : (xs : List ℕ) (n : ℕ) → All (λ d. d < 10) xs → All (λ d. d < 10) (drop n xs)
+decimal_drop xs n h = grind (arith, elements)
+
+pub decimal_zeros : (xs : List ℕ) (n : ℕ) → All (λ d. d < 10) xs → All (λ d. d < 10) (xs ++ replicate n 0)
+decimal_zeros xs n h = grind (arith, elements)
+
+pub decimal_append : (xs ys : List ℕ) → All (λ d. d < 10) xs → All (λ d. d < 10) ys → All (λ d. d < 10) (xs ++ ys)
+decimal_append xs ys h g = grind (arith, elements)
+
+-- ---- lists of zeros
+-- the first of some zeros
+pub fewer : (i j : ℕ) → i ≤ j → take {A = ℕ} i (replicate j 0) ≡ replicate i 0
+fewer zero j h = refl
+fewer (suc i) zero h = absurd (omega arith)
+fewer (suc i) (suc j) h = ap (λ l. 0 ∷ l) (fewer i j (omega arith))
+
+-- some of the zeros behind a list
+take_zeros : (xs : List ℕ) (i j : ℕ) → i ≤ j → take (length xs + i) (xs ++ replicate j 0) ≡ xs ++ replicate i 0
+take_zeros [] i j h = ap (λ n. take n (replicate j 0)) (zero-add i) ∙ fewer i j h
+take_zeros (x ∷ xs) i j h = let e : suc (length xs) + i ≡ suc (length xs + i) = omega arith in rw e (ap (λ l. x ∷ l) (take_zeros xs i j h))
+
+-- the digits before a half that is made 0
+clear_last : (xs : List ℕ) (count : ℕ) → count < length xs → set (take (suc count) xs) count 0 ≡ take count xs ++ 0 ∷ []
+clear_last [] count h = absurd (omega arith)
+clear_last (x ∷ xs) zero h = refl
+clear_last (x ∷ xs) (suc count) h = ap (λ l. x ∷ l) (clear_last xs count (omega arith))
+
+-- ---- what each change of packed bytes leaves
+module _ (bs : List ℕ) (len : ℕ) (p : IsPacked bs len) where
+  -- with an even number of digits no half is left over
+  even_halves : len % 2 ≡ 0 → halves bs ≡ digits_in bs len
+  even_halves m = p.unused ∙ ap (λ k. digits_in bs len ++ replicate k 0) m ∙ append-nil (digits_in bs len)
+
+  pub holds_set : (bs' : List ℕ) (index d : ℕ) → index < len → d < 10 → halves bs' ≡ set (halves bs) index d
+      → Holds bs' len (set (digits_in bs len) index d)
+  holds_set bs' index d h q e =
+      let n = length_digits bs len p in
+      let l : index < length (digits_in bs len) = omega arith in
+      let s : set (halves bs) index d ≡ set (digits_in bs len) index d ++ replicate (len % 2) 0 =
+      ap (λ l. set l index d) p.unused ∙ set-append_left (digits_in bs len) (replicate (len % 2) 0) index d l in
+      holds bs' (set (digits_in bs len) index d) len (e ∙ s) (length-set (digits_in bs len) index d ∙ n) (decimal_set (digits_in bs len) index d p.decimal q)
+
+  pub holds_push_even : (d : ℕ) → len % 2 ≡ 0 → d < 10 → Holds (bs ++ (d * 16) ∷ []) (len + 1) (digits_in bs len ++ d ∷ [])
+  unfolding halves
+  holds_push_even d h q =
+      let n = length_digits bs len p in
+      let a : d * 16 / 16 ≡ d = omega arith in
+      let b : d * 16 % 16 ≡ 0 = omega arith in
+      let m : (len + 1) % 2 ≡ 1 = omega arith in
+      let e : halves (bs ++ (d * 16) ∷ []) ≡ (digits_in bs len ++ d ∷ []) ++ replicate ((len + 1) % 2) 0 =
+      halves-append bs ((d * 16) ∷ [])
+      ∙ ap (λ l. l ++ (d * 16 / 16 ∷ (d * 16 % 16 ∷ []))) (even_halves h)
+      ∙ rw (a, b, m) (sym (append_assoc (digits_in bs len) (d ∷ []) (0 ∷ []))) in
+      holds (bs ++ (d * 16) ∷ []) (digits_in bs len ++ d ∷ []) (len + 1) e (omega (arith, length-append (digits_in bs len) (d ∷ []))) (decimal_push (digits_in bs len) d p.decimal q)
+
+  pub holds_push_odd : (bs' : List ℕ) (d : ℕ) → len % 2 ≡ 1 → d < 10 → halves bs' ≡ set (halves bs) len d
+      → Holds bs' (len + 1) (digits_in bs len ++ d ∷ [])
+  holds_push_odd bs' d h q e =
+      let n = length_digits bs len p in
+      let m : (len + 1) % 2 ≡ 0 = omega arith in
+      let f : halves bs ≡ digits_in bs len ++ 0 ∷ [] = p.unused ∙ ap (λ k. digits_in bs len ++ replicate k 0) h in
+      let s : set (halves bs) len d ≡ (digits_in bs len ++ d ∷ []) ++ replicate ((len + 1) % 2) 0 =
+      ap (λ l. set l len d) f ∙ set_at (digits_in bs len) 0 [] d len n ∙ rw m (sym (append-nil (digits_in bs len ++ d ∷ []))) in
+      holds bs' (digits_in bs len ++ d ∷ []) (len + 1) (e ∙ s) (omega (arith, length-append (digits_in bs len) (d ∷ []))) (decimal_push (digits_in bs len) d p.decimal q)
+
+  pub holds_take_even : (count k : ℕ) → count ≤ len → count % 2 ≡ 0 → k ≡ (count + 1) / 2
+      → Holds (take k bs) count (take count (digits_in bs len))
+  holds_take_even count k h m e =
+      let n = length_digits bs len p in
+      let t : 2 * k ≡ count = omega arith in
+      let f : halves (take k bs) ≡ take count (digits_in bs len) ++ replicate (count % 2) 0 =
+      halves-take k bs ∙ rw (t, m) (sym (append-nil (take count (digits_in bs len)) ∙ take-take count len (halves bs) h)) in
+      holds (take k bs) (take count (digits_in bs len)) count f (length-take-le count (digits_in bs len) (omega arith)) (decimal_take (digits_in bs len) count p.decimal)
+
+  pub holds_take_odd : (bs' : List ℕ) (count k : ℕ) → count ≤ len → count % 2 ≡ 1 → k ≡ (count + 1) / 2
+      → halves bs' ≡ set (halves (take k bs)) count 0 → Holds bs' count (take count (digits_in bs len))
+  holds_take_odd bs' count k h m e g =
+      let n = length_digits bs len p in
+      let t : 2 * k ≡ suc count = omega arith in
+      let lt : count < length (halves bs) = omega (arith, length-halves bs, p.count) in
+      let f : halves bs' ≡ take count (digits_in bs len) ++ replicate (count % 2) 0 =
+      g ∙ ap (λ l. set l count 0) (halves-take k bs)
+      ∙ ap (λ j. set (take j (halves bs)) count 0) t
+      ∙ clear_last (halves bs) count lt
+      ∙ rw m (ap (λ l. l ++ 0 ∷ []) (sym (take-take count len (halves bs) h))) in
+      holds bs' (take count (digits_in bs len)) count f (length-take-le count (digits_in bs len) (omega arith)) (decimal_take (digits_in bs len) count p.decimal)
+
+  pub holds_drop_even : (count : ℕ) → count ≤ len → count % 2 ≡ 0 → Holds (drop (count / 2) bs) (len - count) (drop count (digits_in bs len))
+  holds_drop_even count h m =
+      let n = length_digits bs len p in
+      let t : 2 * (count / 2) ≡ count = omega arith in
+      let q : len % 2 ≡ (len - count) % 2 = omega arith in
+      let f : halves (drop (count / 2) bs) ≡ drop count (digits_in bs len) ++ replicate ((len - count) % 2) 0 =
+      halves-drop (count / 2) bs ∙ ap (λ j. drop j (halves bs)) t ∙ ap (drop count) p.unused
+      ∙ drop-append-le count (digits_in bs len) (replicate (len % 2) 0) (omega arith)
+      ∙ ap (λ j. drop count (digits_in bs len) ++ replicate j 0) q in
+      holds (drop (count / 2) bs) (drop count (digits_in bs len)) (len - count) f (omega (arith, length-drop count (digits_in bs len))) (decimal_drop (digits_in bs len) count p.decimal)
+
+  pub holds_drop_odd : (bs' : List ℕ) (count k : ℕ) → count ≤ len → count % 2 ≡ 1 → k ≡ (len - count + 1) / 2
+      → halves bs' ≡ drop 1 (halves (drop (count / 2) bs)) ++ 0 ∷ []
+      → Holds (take k bs') (len - count) (drop count (digits_in bs len))
+  holds_drop_odd bs' count k h m e g =
+      let n = length_digits bs len p in
+      let t : 2 * (count / 2) + 1 ≡ count = omega arith in
+      let ds = digits_in bs len in
+      let l : length (drop count ds) ≡ len - count = omega (arith, length-drop count ds) in
+      let a : drop 1 (halves (drop (count / 2) bs)) ≡ drop count ds ++ replicate (len % 2) 0 =
+      ap (drop 1) (halves-drop (count / 2) bs) ∙ drop-drop 1 (2 * (count / 2)) (halves bs) ∙ ap (λ j. drop j (halves bs)) t ∙ ap (drop count) p.unused
+      ∙ drop-append-le count ds (replicate (len % 2) 0) (omega arith) in
+      let b : halves bs' ≡ drop count ds ++ replicate (len % 2 + 1) 0 =
+      g ∙ ap (λ l. l ++ 0 ∷ []) a ∙ append_assoc (drop count ds) (replicate (len % 2) 0) (0 ∷ [])
+      ∙ ap (λ l. drop count ds ++ l) (replicate-append-replicate (len % 2) 1 0) in
+      let w : 2 * k ≡ length (drop count ds) + (len - count) % 2 = omega arith in
+      let f : halves (take k bs') ≡ drop count ds ++ replicate ((len - count) % 2) 0 =
+      halves-take k bs' ∙ ap (take (2 * k)) b ∙ ap (λ j. take j (drop count ds ++ replicate (len % 2 + 1) 0)) w
+      ∙ take_zeros (drop count ds) ((len - count) % 2) (len % 2 + 1) (omega arith) in
+      holds (take k bs') (drop count ds) (len - count) f l (decimal_drop ds count p.decimal)
+
+  pub holds_zeros : (zeros k : ℕ) → k ≡ (len + zeros + 1) / 2 - length bs → Holds (bs ++ replicate k 0) (len + zeros) (digits_in bs len ++ replicate zeros 0)
+  holds_zeros zeros k e =
+      let n = length_digits bs len p in
+      let c = p.count in
+      let ds = digits_in bs len in
+      let start = len + zeros in
+      let w : len % 2 + 2 * k ≡ zeros + start % 2 = omega arith in
+      let f : halves (bs ++ replicate k 0) ≡ (ds ++ replicate zeros 0) ++ replicate (start % 2) 0 =
+      halves-append bs (replicate k 0) ∙ ap (λ l. halves bs ++ l) (halves-zeros k) ∙ ap (λ l. l ++ replicate (2 * k) 0) p.unused
+      ∙ append_assoc ds (replicate (len % 2) 0) (replicate (2 * k) 0)
+      ∙ ap (λ l. ds ++ l) (replicate-append-replicate (len % 2) (2 * k) 0 ∙ ap (λ j. replicate j 0) w ∙ sym (replicate-append-replicate zeros (start % 2) 0))
+      ∙ sym (append_assoc ds (replicate zeros 0) (replicate (start % 2) 0)) in
+      holds (bs ++ replicate k 0) (ds ++ replicate zeros 0) start f (omega (arith, length-append ds (replicate zeros 0), length-replicate {A = ℕ} zeros 0)) (decimal_zeros ds zeros p.decimal)
+
+  -- ---- two stores
+  module _ (cs : List ℕ) (n : ℕ) (q : IsPacked cs n) where
+    pub holds_append_even : len % 2 ≡ 0 → Holds (bs ++ cs) (len + n) (digits_in bs len ++ digits_in cs n)
+    holds_append_even m =
+        let ds = digits_in bs len in
+        let es = digits_in cs n in
+        let w : n % 2 ≡ (len + n) % 2 = omega arith in
+        let f : halves (bs ++ cs) ≡ (ds ++ es) ++ replicate ((len + n) % 2) 0 =
+        halves-append bs cs ∙ ap (λ l. l ++ halves cs) (even_halves m) ∙ ap (λ l. ds ++ l) q.unused
+        ∙ sym (append_assoc ds es (replicate (n % 2) 0)) ∙ ap (λ k. (ds ++ es) ++ replicate k 0) w in
+        holds (bs ++ cs) (ds ++ es) (len + n) f (omega (arith, length-append ds es, length_digits bs len p, length_digits cs n q)) (decimal_append ds es p.decimal q.decimal)
+
+    pub holds_append_odd : (bs' : List ℕ) → len % 2 ≡ 1
+        → halves bs' ≡ (take (2 * length bs - 1) (halves bs) ++ digits_in cs n) ++ replicate ((n + 1) % 2) 0
+        → Holds bs' (len + n) (digits_in bs len ++ digits_in cs n)
+    holds_append_odd bs' m g =
+        let c = p.count in
+        let es = digits_in cs n in
+        let w : (n + 1) % 2 ≡ (len + n) % 2 = omega arith in
+        let b : 2 * length bs - 1 ≡ len = omega arith in
+        let f : halves bs' ≡ (digits_in bs len ++ es) ++ replicate ((len + n) % 2) 0 =
+        g ∙ ap (λ k. (take k (halves bs) ++ es) ++ replicate ((n + 1) % 2) 0) b ∙ ap (λ k. (digits_in bs len ++ es) ++ replicate k 0) w in
+        holds bs' (digits_in bs len ++ es) (len + n) f (omega (arith, length-append (digits_in bs len) es, length_digits bs len p, length_digits cs n q)) (decimal_append (digits_in bs len) es p.decimal q.decimal)
+
+    -- bytes that hold the same digits are the same
+    pub same_store : digits_in bs len ≡ digits_in cs n → (len ≡ n) × (bs ≡ cs)
+    same_store e =
+        let k : len ≡ n = sym (length_digits bs len p) ∙ ap length e ∙ length_digits cs n q in
+        (k, same_bytes bs cs (p.unused ∙ ap (λ l. l ++ replicate (len % 2) 0) e ∙ ap (λ j. digits_in cs n ++ replicate (j % 2) 0) k ∙ sym q.unused))

@@ -1,0 +1,18 @@
+use Rattle.std.proofs.Common.{◌≡◌, ℕ, ◌+◌, ◌*◌, ◌/◌, ◌%◌, ◌<◌, length, get_or, sym, ◌∙◌, ap, arith}
+use Rattle.decimal_digits.specs.Halves.{halves}
+use Rattle.decimal_digits.specs.Packing.{length-halves}
+use Rattle.decimal_digits.proofs.Halves.{high_half, low_half}
+use Rattle.decimal_digits.proofs.digits.packed.halves.half_at.Goals as goal
+
+pub bounds-bytes-index : goal.bounds-bytes-index
+bounds-bytes-index c = omega (arith, c.requires, length-halves c.args.bytes.now)
+
+pub returns-then-index-eq0 : goal.returns-then-index-eq0
+returns-then-index-eq0 c =
+    let h : c.args.index / 2 < length c.args.bytes.now = omega (arith, c.requires, length-halves c.args.bytes.now) in
+    sym (high_half c.args.bytes.now (c.args.index / 2) h) ∙ ap (λ i. get_or (halves c.args.bytes.now) i 0) (let e : 2 * (c.args.index / 2) ≡ c.args.index = omega arith in e)
+
+pub returns-else-index-eq0 : goal.returns-else-index-eq0
+returns-else-index-eq0 c =
+    let h : c.args.index / 2 < length c.args.bytes.now = omega (arith, c.requires, length-halves c.args.bytes.now) in
+    sym (low_half c.args.bytes.now (c.args.index / 2) h) ∙ ap (λ i. get_or (halves c.args.bytes.now) i 0) (let e : 2 * (c.args.index / 2) + 1 ≡ c.args.index = omega arith in e)

@@ -1,0 +1,18 @@
+use Rattle.std.proofs.Common.{◌≡◌, ℕ, ◌+◌, ◌-◌, ◌*◌, ◌/◌, ◌%◌, ◌<◌, ◌≤◌, List, [], ◌∷◌, ◌++◌, length, get_or, set, take, drop, replicate, refl, sym, ◌∙◌, ap, arith}
+use Rattle.decimal_digits.specs.Halves.{halves}
+use Rattle.decimal_digits.proofs.HalfPasses.{refill_same, joined, last_odd, last_even}
+use Rattle.decimal_digits.proofs.digits.packed.halves.join_halves.Goals.{then-count-eq1, else-count-eq1}
+use Rattle.decimal_digits.proofs.digits.packed.halves.join_halves.Goals as goal
+
+pub returns-clause-joined : goal.returns-clause-joined
+returns-clause-joined c =
+    let items = rw c.unwrap.ensures at c.extend_from_slice.ensures.ok in
+    let same = c.as_mut_slice.ensures.value ∙ items in
+    let f = rw same at c.close_gap.ensures in
+    let l = c.close_gap.auto.bytes ∙ ap length c.as_mut_slice.ensures.value in
+    ap halves (refill_same _ _ _ l)
+    ∙ joined c.args.bytes.now.items c.args.more.now c.close_gap.new.bytes c.args.count _ c.if-count-eq1.last (c.args.count / 2) c.requires.some (ap (λ n. n - 1) c.len-at.ensures.value) refl c.requires.in_range f
+    (elim c.if-count-eq1.branch [
+      | then-count-eq1 w ↦ last_odd _ _ _ _ refl c.requires.in_range w.if-count-eq1.true w.last-is
+      | else-count-eq1 w ↦ last_even _ _ _ _ refl w.if-count-eq1.false w.last-is
+    ])

@@ -1,0 +1,17 @@
+-- Two digits to a byte, the first of them in the high half.
+use Rattle.std.specs.Prelude.{◌≡◌, ℕ, ◌+◌, ◌*◌, ◌/◌, ◌%◌, ◌<◌, List, [], ◌∷◌, ◌++◌, length, take, replicate, All}
+
+-- the high half of each byte, and then its low half
+unfoldable pub halves : List ℕ → List ℕ
+halves [] = []
+halves (b ∷ bs) = b / 16 ∷ (b % 16 ∷ halves bs)
+
+-- the digits in the first `len` halves
+abbrev pub digits_in : List ℕ → ℕ → List ℕ
+digits_in bytes len = take len (halves bytes)
+
+-- so many digits 0 to 9 fill the bytes, but for a last half that is 0 where their number is odd
+pub record IsPacked (bytes : List ℕ) (len : ℕ) : Type 0 where
+  pub count : 2 * length bytes ≡ len + len % 2
+  pub decimal : All (λ d. d < 10) (digits_in bytes len)
+  pub unused : halves bytes ≡ digits_in bytes len ++ replicate (len % 2) 0

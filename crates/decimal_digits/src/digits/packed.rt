@@ -1,0 +1,131 @@
+//! A list of digits with two digits to a byte.
+ghost use Rattle.std.specs.Prelude.{ℕ, ◌-◌, ◌*◌, ◌≤◌};
+ghost use Rattle.decimal_digits.specs.Halves.{digits_in, IsPacked};
+
+mod bytes;
+mod halves;
+
+use super::DigitStore;
+use bytes::{
+    append_digits, append_zeros, cut_digits, keep_digits, pack_digits, push_digit, set_digit,
+};
+use halves::{byte_count, half_at};
+use smallvec::SmallVec;
+use std::alloc::{AllocError, Global};
+
+/// A list of digits with two digits to a byte, of which the first sixteen lie in place.
+///
+/// The digit at index `i` is in byte `i / 2`, that at an even index in the high half, and with an odd number of digits
+/// the low half of the last byte is 0. The list that `from_digits` makes of 2, 5 and 0 has the bytes 0x25 and 0x00 and
+/// no allocation. Not in the original.
+#[derive(Debug, Drop)]
+pub struct PackedDigits {
+    bytes: SmallVec<u8, 8>,
+    len: usize,
+    ghost inline: { 8 ≤ bytes.capacity },
+    ghost packed: { IsPacked bytes.items len },
+}
+
+#[tactic(auto, using(crate::specs::Packing::length_digits))]
+impl DigitStore for PackedDigits {
+    ghost use Rattle.std.proofs.Common.{arith};
+    ghost use Rattle.decimal_digits.specs.Packing.{roomy};
+
+    ghost digits = { λ s. digits_in s.bytes.items s.len };
+
+    ghost room = { λ s. 2 * s.bytes.capacity - s.len };
+
+    ghost L = { 16 };
+
+    const L: usize = 16;
+
+    ghost enough = { Prim.omega arith };
+
+    ghost roomy = { λ s. roomy s.bytes.items s.bytes.capacity s.len s.inline s.packed };
+
+    ghost are_digits = { λ s. s.packed.decimal };
+
+    #[inline]
+    fn empty(alloc: Global) -> Self {
+        PackedDigits {
+            bytes: SmallVec::new(alloc),
+            len: 0,
+        }
+    }
+
+    fn from_digits(alloc: Global, list: &[u8]) -> Result<Self, AllocError> {
+        let bytes = pack_digits(alloc, list)?;
+        Ok(PackedDigits {
+            bytes,
+            len: list.len(),
+        })
+    }
+
+    fn clone(&self) -> Result<Self, AllocError> {
+        let bytes = SmallVec::from_slice(*self.bytes.allocator(), self.bytes.as_slice())?;
+        let _at_least = bytes.capacity();
+        Ok(PackedDigits {
+            bytes,
+            len: self.len,
+        })
+    }
+
+    #[inline]
+    fn len(&self) -> usize {
+        self.len
+    }
+
+    #[inline]
+    fn get(&self, index: usize) -> u8 {
+        half_at(self.bytes.as_slice(), index)
+    }
+
+    #[inline]
+    fn set(&mut self, index: usize, digit: u8) {
+        set_digit(&mut self.bytes, self.len, index, digit);
+    }
+
+    #[inline]
+    fn push_in_room(&mut self, digit: u8) {
+        push_digit(&mut self.bytes, self.len, digit);
+        self.len += 1;
+    }
+
+    fn reserve(&mut self, count: usize) -> Result<(), AllocError> {
+        let total = self.len.checked_add(count).ok_or(AllocError)?;
+        self.bytes.reserve(byte_count(total) - self.bytes.len())
+    }
+
+    fn truncate(&mut self, count: usize) {
+        keep_digits(&mut self.bytes, self.len, count);
+        self.len = count;
+    }
+
+    fn cut_front(&mut self, count: usize) {
+        cut_digits(&mut self.bytes, self.len, count);
+        self.len -= count;
+    }
+
+    fn clear(&mut self) {
+        self.bytes.clear();
+        self.len = 0;
+    }
+
+    fn append(&mut self, zeros: usize, other: &Self) -> Result<(), AllocError> {
+        let start = self.len.checked_add(zeros).ok_or(AllocError)?;
+        let total = start.checked_add(other.len).ok_or(AllocError)?;
+        self.bytes.reserve(byte_count(total) - self.bytes.len())?;
+        append_zeros(&mut self.bytes, self.len, zeros);
+        append_digits(&mut self.bytes, start, other.bytes.as_slice(), other.len);
+        self.len = total;
+        Ok(())
+    }
+
+    #[inline]
+    fn eq(&self, other: &Self) -> bool {
+        self.len == other.len && self.bytes.as_slice() == other.bytes.as_slice()
+    }
+}
+
+#[cfg(test)]
+mod tests;

@@ -1,0 +1,108 @@
+//! Lists of digits packed into bytes, two to a byte.
+ghost use Rattle.std.specs.Prelude.{◌≡◌, ℕ, ◌+◌, ◌-◌, ◌*◌, ◌^◌, ◌<◌, ◌≤◌, [], ◌∷◌, ◌++◌, length, take, drop, replicate, slice_set, All, IsOk, IfOk};
+ghost use Rattle.smallvec.specs.SmallVec.{SmallVec};
+ghost use Rattle.decimal_digits.specs.Halves.{digits_in, IsPacked};
+ghost use Rattle.decimal_digits.specs.Packing.{Holds};
+
+use super::halves::{
+    byte_count, drop_bytes, join_halves, pack, push_zeros, set_half, shift_halves,
+};
+use smallvec::SmallVec;
+use std::alloc::{AllocError, Global};
+
+/// Makes the bytes of these digits.
+pub(super) fn pack_digits(alloc: Global, digits: &[u8]) -> Result<SmallVec<u8, 8>, AllocError>
+    requires { All (λ d. d < 10) digits.now }
+    ensures ok { IfOk result (λ bytes. Holds bytes.items (length digits.now) digits.now) }
+    ensures inline { IfOk result (λ bytes. 8 ≤ bytes.capacity) }
+    ensures succeeds { length digits.now ≤ 16 → IsOk result }
+{
+    // The copy makes room, and is written over.
+    let mut bytes = SmallVec::from_slice(alloc, &digits[..byte_count(digits.len())])?;
+    pack(bytes.as_mut_slice(), digits);
+    let _at_least = bytes.capacity();
+    Ok(bytes)
+}
+
+/// Puts a digit in the place of the one at an index.
+#[inline]
+pub(super) fn set_digit(bytes: &mut SmallVec<u8, 8>, len: usize, index: usize, digit: u8)
+    requires packed { IsPacked bytes.old.items len }
+    requires in_range { index < len }
+    requires is_digit { digit < 10 }
+    ensures holds { Holds bytes.new.items len (slice_set (digits_in bytes.old.items len) index digit) }
+    ensures capacity { bytes.new.capacity ≡ bytes.old.capacity }
+{
+    set_half(bytes, index, digit);
+}
+
+/// Appends a digit, for which there is room.
+#[inline]
+pub(super) fn push_digit(bytes: &mut SmallVec<u8, 8>, len: usize, digit: u8)
+    requires packed { IsPacked bytes.old.items len }
+    requires has_room { len < 2 * bytes.old.capacity }
+    requires is_digit { digit < 10 }
+    ensures holds { Holds bytes.new.items (len + 1) (digits_in bytes.old.items len ++ digit ∷ []) }
+    ensures capacity { bytes.new.capacity ≡ bytes.old.capacity }
+    ensures fits { len + 1 < 2 ^ 64 }
+{
+    if len % 2 == 0 {
+        bytes.push_reserved(digit * 16);
+    } else {
+        set_half(bytes, len, digit);
+    }
+}
+
+/// Keeps the first digits.
+pub(super) fn keep_digits(bytes: &mut SmallVec<u8, 8>, len: usize, count: usize)
+    requires packed { IsPacked bytes.old.items len }
+    requires in_range { count ≤ len }
+    ensures holds { Holds bytes.new.items count (take count (digits_in bytes.old.items len)) }
+    ensures capacity { bytes.new.capacity ≡ bytes.old.capacity }
+{
+    bytes.truncate(byte_count(count));
+    if count % 2 == 1 {
+        set_half(bytes, count, 0);
+    }
+}
+
+/// Drops the first digits.
+pub(super) fn cut_digits(bytes: &mut SmallVec<u8, 8>, len: usize, count: usize)
+    requires packed { IsPacked bytes.old.items len }
+    requires in_range { count ≤ len }
+    ensures holds { Holds bytes.new.items (len - count) (drop count (digits_in bytes.old.items len)) }
+    ensures capacity { bytes.new.capacity ≡ bytes.old.capacity }
+{
+    drop_bytes(bytes, count / 2);
+    if count % 2 == 1 {
+        shift_halves(bytes.as_mut_slice(), 0, 0);
+        bytes.truncate(byte_count(len - count));
+    }
+}
+
+/// Appends zeros, for which there is room.
+pub(super) fn append_zeros(bytes: &mut SmallVec<u8, 8>, len: usize, count: usize)
+    requires packed { IsPacked bytes.old.items len }
+    requires has_room { len + count ≤ 2 * bytes.old.capacity }
+    requires fits { len + count < 2 ^ 64 }
+    ensures holds { Holds bytes.new.items (len + count) (digits_in bytes.old.items len ++ replicate count 0) }
+    ensures capacity { bytes.old.capacity ≤ bytes.new.capacity }
+{
+    let held = bytes.len();
+    push_zeros(bytes, byte_count(len + count) - held);
+}
+
+/// Appends the digits of other bytes, for which there is room.
+pub(super) fn append_digits(bytes: &mut SmallVec<u8, 8>, len: usize, other: &[u8], count: usize)
+    requires packed { IsPacked bytes.old.items len }
+    requires other_packed { IsPacked other.now count }
+    requires has_room { len + count ≤ 2 * bytes.old.capacity }
+    ensures holds { Holds bytes.new.items (len + count) (digits_in bytes.old.items len ++ digits_in other.now count) }
+    ensures capacity { bytes.old.capacity ≤ bytes.new.capacity }
+{
+    if len % 2 == 0 {
+        bytes.extend_from_slice(other).unwrap();
+    } else {
+        join_halves(bytes, other, count);
+    }
+}

@@ -1,0 +1,125 @@
+//! Half bytes: single ones, and passes over bytes that move them.
+ghost use Rattle.std.specs.Prelude.{◌≡◌, ℕ, ◌+◌, ◌*◌, ◌/◌, ◌%◌, ◌-◌, ◌^◌, ◌<◌, ◌≤◌, [], ◌∷◌, ◌++◌, length, take, drop, replicate, slice_index, slice_set, All};
+ghost use Rattle.smallvec.specs.SmallVec.{small_vec_len, HasRoomFor};
+ghost use Rattle.decimal_digits.specs.Halves.{halves};
+
+use smallvec::SmallVec;
+
+/// Counts the bytes that so many digits take.
+#[inline]
+pub(super) fn byte_count(digits: usize) -> usize
+    ensures { result ≡ (digits + 1) / 2 }
+{
+    digits / 2 + digits % 2
+}
+
+/// Gives the half at an index.
+#[inline]
+pub(super) fn half_at(bytes: &[u8], index: usize) -> u8
+    requires { index < length (halves bytes.now) }
+    ensures { result ≡ slice_index (halves bytes.now) index }
+{
+    let byte = bytes[index / 2];
+    if index % 2 == 0 { byte / 16 } else { byte % 16 }
+}
+
+/// Puts a half in the place of the one at an index.
+#[inline]
+pub(super) fn set_half(bytes: &mut SmallVec<u8, 8>, index: usize, half: u8)
+    requires in_range { index < length (halves bytes.old.items) }
+    requires is_half { half < 16 }
+    ensures written { halves bytes.new.items ≡ slice_set (halves bytes.old.items) index half }
+    ensures capacity { bytes.new.capacity ≡ bytes.old.capacity }
+    ensures few { 2 * small_vec_len bytes.old < 2 ^ 64 }
+{
+    let byte = &mut bytes.as_mut_slice()[index / 2];
+    if index % 2 == 0 {
+        *byte = half * 16 + *byte % 16;
+    } else {
+        *byte = *byte / 16 * 16 + half;
+    }
+}
+
+/// Writes digits over bytes, and 0 into a half that is left over.
+pub(super) fn pack(bytes: &mut [u8], digits: &[u8])
+    requires fit { length bytes.old ≡ (length digits.now + 1) / 2 }
+    requires are_digits { All (λ d. d < 10) digits.now }
+    ensures { halves bytes.new ≡ digits.now ++ replicate (length digits.now % 2) 0 }
+{
+    let pairs = digits.len() / 2;
+    let mut rest = digits;
+    for i in 0..pairs {
+        bytes[i] = rest[0] * 16 + rest[1];
+        rest = &rest[2..];
+    }
+    if digits.len() % 2 == 1 {
+        bytes[pairs] = rest[0] * 16;
+    }
+}
+
+/// Drops the high half of the byte `at`. The later halves move up by one, and `last` follows them.
+pub(super) fn shift_halves(bytes: &mut [u8], at: usize, last: u8)
+    requires in_range { at < length bytes.old }
+    requires is_half { last < 16 }
+    ensures { halves bytes.new ≡ take (2 * at) (halves bytes.old) ++ (drop (2 * at + 1) (halves bytes.old) ++ last ∷ []) }
+{
+    let end = bytes.len() - 1;
+    for i in at..end {
+        bytes[i] = bytes[i] % 16 * 16 + bytes[i + 1] / 16;
+    }
+    bytes[end] = bytes[end] % 16 * 16 + last;
+}
+
+/// Drops the low half of the byte `at`. The later halves move up by one, and `last` follows them.
+fn close_gap(bytes: &mut [u8], at: usize, last: u8)
+    requires in_range { at < length bytes.old }
+    requires is_half { last < 16 }
+    ensures { halves bytes.new
+        ≡ take (2 * at + 1) (halves bytes.old) ++ (drop (2 * at + 2) (halves bytes.old) ++ last ∷ []) }
+{
+    let first = bytes[at] / 16;
+    shift_halves(bytes, at, last);
+    bytes[at] = first * 16 + bytes[at] % 16;
+}
+
+static ZEROS: [u8; 64] = [0; 64];
+
+/// Appends zero bytes, for which there is room.
+pub(super) fn push_zeros(bytes: &mut SmallVec<u8, 8>, count: usize)
+    requires { HasRoomFor bytes.old count }
+    ensures items { bytes.new.items ≡ bytes.old.items ++ replicate count 0 }
+    ensures capacity { bytes.old.capacity ≤ bytes.new.capacity }
+{
+    for _ in 0..count / 64 {
+        bytes.extend_from_slice(&ZEROS).unwrap();
+    }
+    bytes.extend_from_slice(&ZEROS[..count % 64]).unwrap();
+}
+
+/// Drops the first bytes.
+pub(super) fn drop_bytes(bytes: &mut SmallVec<u8, 8>, count: usize)
+    requires { count ≤ small_vec_len bytes.old }
+    ensures items { bytes.new.items ≡ drop count bytes.old.items }
+    ensures capacity { bytes.new.capacity ≡ bytes.old.capacity }
+{
+    let left = bytes.len() - count;
+    bytes.as_mut_slice().copy_within(count.., 0);
+    bytes.truncate(left);
+}
+
+/// Appends the first `count` halves of `more` behind the high half of the last byte, and 0 to a half that is left over.
+pub(super) fn join_halves(bytes: &mut SmallVec<u8, 8>, more: &[u8], count: usize)
+    requires some { 0 < small_vec_len bytes.old }
+    requires has_room { HasRoomFor bytes.old (count / 2) }
+    requires in_range { count ≤ 2 * length more.now }
+    ensures joined { halves bytes.new.items
+        ≡ (take (2 * small_vec_len bytes.old - 1) (halves bytes.old.items) ++ take count (halves more.now))
+        ++ replicate ((count + 1) % 2) 0 }
+    ensures capacity { bytes.old.capacity ≤ bytes.new.capacity }
+{
+    let at = bytes.len() - 1;
+    let whole = count / 2;
+    bytes.extend_from_slice(&more[..whole]).unwrap();
+    let last = if count % 2 == 1 { more[whole] / 16 } else { 0 };
+    close_gap(bytes.as_mut_slice(), at, last);
+}
