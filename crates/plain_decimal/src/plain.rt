@@ -26,16 +26,25 @@ fn push_digit(bytes: &mut Vec<u8>, magnitude: i16, digit: u8) -> Result<(), Allo
     Ok(())
 }
 
-/// The number that digits write; a dot among them is passed over.
-fn digits_of(text: &[u8]) -> Option<u64> {
-    let mut number: u64 = 0;
-    for byte in text {
-        if *byte != b'.' {
-            let digit = (*byte as u64).checked_sub(48)?;
-            number = number.checked_mul(10)?.checked_add(digit)?;
+/// Puts digits behind a number: `34` behind 12 gives 1234. None beyond 64 bits, and where a byte is no digit.
+fn with_digits(number: u64, digits: &[u8]) -> Option<u64> {
+    let mut number = number;
+    for byte in digits {
+        if !byte.is_ascii_digit() {
+            return None;
         }
+        number = number.checked_mul(10)?.checked_add((*byte - b'0') as u64)?;
     }
     Some(number)
+}
+
+/// The digits in front of a dot and those behind it. None where either has none.
+fn parts(text: &[u8]) -> Option<(&[u8], &[u8])> {
+    match text.iter().position(|byte| *byte == b'.') {
+        None => Some((text, b"")),
+        Some(dot) if dot + 1 < text.len() => Some((&text[..dot], &text[dot + 1..])),
+        Some(_) => None,
+    }
 }
 
 /// A value on a small number.
@@ -64,19 +73,19 @@ impl Model for Plain {
 impl Plain {
     /// Reads digits with or without a dot among them: `2.50` is a number with two decimals.
     ///
-    /// None beyond ten decimals or 64 bits, and where something else stands in the text. Its `text` shows what was read.
+    /// None beyond 20 digits in front of the dot, ten behind it, or 64 bits, and where something else stands in the
+    /// text. Its `text` shows what was read.
     pub fn read(text: &[u8]) -> Option<Plain> {
-        let before_dot = text.iter().position(|byte| *byte == b'.');
-        let whole = before_dot.unwrap_or(text.len());
-        if whole == 0 || text.len() > 20 {
+        let (whole, decimals) = parts(text)?;
+        if whole.is_empty() || whole.len() > 20 || decimals.len() > 10 {
             return None;
         }
-        let decimals = text.len().saturating_sub(whole + 1) as i16;
-        let number = times_power(digits_of(text)?, 10 - decimals)?;
+        let shown = decimals.len() as i16;
+        let number = with_digits(with_digits(0, whole)?, decimals)?;
         Some(Plain {
-            number,
-            hi: (whole - 1) as i16,
-            lo: -decimals,
+            number: times_power(number, 10 - shown)?,
+            hi: (whole.len() - 1) as i16,
+            lo: -shown,
         })
     }
 

@@ -1,6 +1,5 @@
 //! Shifts, trims, pads and cuts, on values and in place.
 use super::*;
-use decimal_unsigned::ParseError;
 
 /// One call that edits a value.
 #[derive(Clone, Copy)]
@@ -13,6 +12,9 @@ enum Call {
     PadEnd(i16),
     Max(i16),
 }
+
+/// A text, a call, and the text that it makes.
+type Row = (&'static [u8], Call, &'static [u8]);
 
 /// Makes the call in place.
 fn change(value: &mut UnsignedDecimal, call: Call) {
@@ -53,23 +55,57 @@ fn changed_plainly(value: &Plain, call: Call) -> Option<Plain> {
     }
 }
 
-/// Asserts what a text prints after the call, made either way.
+/// What a text becomes by the call in place.
+fn text_in_place(alloc: Global, text: &[u8], call: Call) -> Result<TextBuf, Fail> {
+    let mut value = read(alloc, text)?;
+    change(&mut value, call);
+    printed(alloc, &value)
+}
+
+/// What a text becomes by the call on the value.
+fn text_by_value(alloc: Global, text: &[u8], call: Call) -> Result<TextBuf, Fail> {
+    printed(alloc, &changed(read(alloc, text)?, call))
+}
+
+/// What a text becomes by the plain program.
+fn text_plainly(alloc: Global, text: &[u8], call: Call) -> Result<Vec<u8>, Fail> {
+    let value = changed_plainly(&read_plainly(text)?, call).ok_or("does not fit")?;
+    Ok(value.text(alloc)?)
+}
+
+/// What a text becomes by two calls on the value.
+fn text_by_two(alloc: Global, text: &[u8], first: Call, second: Call) -> Result<TextBuf, Fail> {
+    let value = changed(read(alloc, text)?, first);
+    printed(alloc, &changed(value, second))
+}
+
+/// Asserts what a text becomes, in place and by value.
 fn assert_changes(
     rt: &impl Abort,
     alloc: Global,
     text: &[u8],
     call: Call,
-    printed: &[u8],
-) -> Result<UnsignedDecimal, Fail> {
-    let mut in_place = read(alloc, text)?;
-    change(&mut in_place, call);
-    let moved = changed(read(alloc, text)?, call);
-    assert_prints(rt, alloc, &in_place, printed);
-    assert!(rt; in_place == moved);
-    Ok(moved)
+    becomes: &[u8],
+) -> Result<(), Fail> {
+    assert_text(rt, text_in_place(alloc, text, call)?, becomes);
+    assert_text(rt, text_by_value(alloc, text, call)?, becomes);
+    Ok(())
 }
 
-const ROWS: [(&[u8], Call, &[u8]); 30] = [
+/// Asserts what a text becomes by the plain program, which prints each text that it reads again.
+fn assert_changes_plainly(
+    rt: &impl Abort,
+    alloc: Global,
+    text: &[u8],
+    call: Call,
+    becomes: &[u8],
+) -> Result<(), Fail> {
+    assert_bytes(rt, reread_plainly(alloc, text)?, text);
+    assert_bytes(rt, text_plainly(alloc, text, call)?, becomes);
+    Ok(())
+}
+
+const ROWS: &[Row] = &[
     (b"250", Call::Shift(-2), b"2.50"),
     (b"51423", Call::Shift(-8), b"0.00051423"),
     (b"51423", Call::Shift(3), b"51423000"),
@@ -105,48 +141,33 @@ const ROWS: [(&[u8], Call, &[u8]); 30] = [
 #[test]
 fn changes(rt: HostRuntime) -> Result<(), Fail> {
     let alloc = rt.alloc();
-    for (text, call, printed) in ROWS {
-        assert_changes(&rt, alloc, text, call, printed)?;
-        let plain = read_plainly(&rt, alloc, text)?;
-        let plain = changed_plainly(&plain, call).expect(&rt, "fits");
-        assert_plain(&rt, alloc, &plain, printed)?;
+    for (text, call, becomes) in ROWS {
+        assert_changes(&rt, alloc, text, *call, becomes)?;
+        assert_changes_plainly(&rt, alloc, text, *call, becomes)?;
     }
-    let trimmed = assert_changes(&rt, alloc, b"0012.3400", Call::TrimStart, b"12.3400")?;
-    assert_prints(&rt, alloc, &trimmed.trimmed_end(), b"12.34");
+    Ok(())
+}
+
+/// Two calls, one after the other.
+const PAIRS: &[(&[u8], Call, Call, &[u8])] = &[
+    (b"0012.3400", Call::TrimStart, Call::TrimEnd, b"12.34"),
+    (b"12.34", Call::TrimStart, Call::TrimEnd, b"12.34"),
+    (b"98765", Call::Shift(32763), Call::Shift(1), b"0"),
+    (b"98765", Call::Shift(-32768), Call::Shift(-1), b"0"),
+];
+
+#[test]
+fn changes_twice(rt: HostRuntime) -> Result<(), Fail> {
+    let alloc = rt.alloc();
+    for (text, first, second, becomes) in PAIRS {
+        assert_text(&rt, text_by_two(alloc, text, *first, *second)?, becomes);
+    }
     Ok(())
 }
 
 #[test]
-fn changes_at_the_ends(rt: HostRuntime) -> Result<(), Fail> {
+fn changes_at_the_end(rt: HostRuntime) -> Result<(), Fail> {
     let alloc = rt.alloc();
-    let text = extended(alloc, b"98765", b'0', 32763)?;
-    let high = assert_changes(&rt, alloc, b"98765", Call::Shift(32763), text.as_slice())?;
-    assert_prints(&rt, alloc, &high.multiplied_pow10(1), b"0");
-    let low = read(alloc, b"98765")?.multiplied_pow10(-32768);
-    assert_prints(&rt, alloc, &low.multiplied_pow10(-1), b"0");
-    Ok(())
-}
-
-#[test]
-fn displays(rt: HostRuntime) -> Result<(), Fail> {
-    let alloc = rt.alloc();
-    let value = read(alloc, b"250")?.multiplied_pow10(-2);
-    assert_eq!(rt; format!(in alloc; "{value}")?.as_str(), "2.50");
-    assert_eq!(rt;
-        format!(in alloc; "{value:8}|{value:<08.1}")?.as_str(),
-        "2.50|2.50"
-    );
-    let limit = ParseError::Limit;
-    let syntax = ParseError::Syntax;
-    let memory = ParseError::Memory;
-    assert_eq!(rt;
-        format!(in alloc; "{limit}")?.as_str(),
-        "Magnitude or number of digits exceeded"
-    );
-    assert_eq!(rt;
-        format!(in alloc; "{syntax}")?.as_str(),
-        "Failed to parse the input string"
-    );
-    assert_eq!(rt; format!(in alloc; "{memory:20}")?.as_str(), "Out of memory");
-    Ok(())
+    let becomes = extended(alloc, b"98765", b'0', 32763)?;
+    assert_changes(&rt, alloc, b"98765", Call::Shift(32763), &becomes)
 }

@@ -1,10 +1,88 @@
-//! Texts in sinks and writers that fail.
+//! Texts in strings, in sinks, and in sinks and writers that fail.
 ghost use Rattle.std.specs.Prelude.{Some};
 
 use super::*;
 use decimal_digits::sink::{Out, SinkFault};
+use decimal_unsigned::ParseError;
 use std::io;
 use std::io::{Error, ErrorKind, Write};
+
+/// What `{}` makes of the value that a text writes.
+fn displayed(alloc: Global, text: &[u8]) -> Result<String, Fail> {
+    let value = read(alloc, text)?;
+    Ok(format!(in alloc; "{value}")?)
+}
+
+/// What options of the format make of the value that a text writes.
+fn displayed_with_options(alloc: Global, text: &[u8]) -> Result<String, Fail> {
+    let value = read(alloc, text)?;
+    Ok(format!(in alloc; "{value:8}|{value:<08.1}")?)
+}
+
+/// What `{}` makes of a parser's fault.
+fn displayed_fault(alloc: Global, fault: ParseError) -> Result<String, Fail> {
+    Ok(format!(in alloc; "{fault}")?)
+}
+
+/// What a width makes of a parser's fault.
+fn displayed_fault_with_width(alloc: Global, fault: ParseError) -> Result<String, Fail> {
+    Ok(format!(in alloc; "{fault:20}")?)
+}
+
+/// Asserts which string was made.
+fn assert_string(rt: &impl Abort, found: String, wanted: &[u8]) {
+    assert_eq!(rt; found.as_bytes(), wanted);
+}
+
+const DISPLAYED: &[Parts<'static>] = &[
+    &[(b"0", 1)],
+    &[(b"0.00", 1)],
+    &[(b"2.50", 1)],
+    &[(b"0012.3400", 1)],
+    NINES,
+];
+
+#[test]
+fn displays(rt: HostRuntime) -> Result<(), Fail> {
+    let alloc = rt.alloc();
+    for parts in DISPLAYED {
+        let text = whole(alloc, parts)?;
+        assert_string(&rt, displayed(alloc, &text)?, &text);
+    }
+    assert_string(&rt, displayed_with_options(alloc, b"2.50")?, b"2.50|2.50");
+    Ok(())
+}
+
+#[test]
+fn displays_faults(rt: HostRuntime) -> Result<(), Fail> {
+    let alloc = rt.alloc();
+    let limit = b"Magnitude or number of digits exceeded";
+    assert_string(&rt, displayed_fault(alloc, ParseError::Limit)?, limit);
+    let syntax = b"Failed to parse the input string";
+    assert_string(&rt, displayed_fault(alloc, ParseError::Syntax)?, syntax);
+    let memory = displayed_fault_with_width(alloc, ParseError::Memory)?;
+    assert_string(&rt, memory, b"Out of memory");
+    Ok(())
+}
+
+/// What a sink takes of a value three times.
+fn printed_thrice(alloc: Global, text: &[u8]) -> Result<TextBuf, Fail> {
+    let value = read(alloc, text)?;
+    let mut sink = TextBuf::new(alloc);
+    for _ in 0..3 {
+        value.write_to(&mut sink)?;
+    }
+    Ok(sink)
+}
+
+#[test]
+fn takes_long_texts(rt: HostRuntime) -> Result<(), Fail> {
+    let alloc = rt.alloc();
+    let text = whole(alloc, NINES)?;
+    let thrice = whole(alloc, &[(&text, 3)])?;
+    assert_text(&rt, printed_thrice(alloc, &text)?, &thrice);
+    Ok(())
+}
 
 /// A sink that takes so many bytes.
 #[derive(Drop)]
@@ -68,44 +146,70 @@ impl Write for Full {
     }
 }
 
+const TEXT: &[u8] = b"1234.50";
+
+/// What a sink with too little room is left with after a text.
+fn narrowed(alloc: Global, room: usize) -> Result<Narrow, Fail> {
+    let mut sink = Narrow {
+        taken: Vec::with_capacity(alloc, room)?,
+        room,
+        failed: false,
+    };
+    if read(alloc, TEXT)?.write_to(&mut sink).is_ok() {
+        return Err(Fail::new("more was taken than there is room for"));
+    }
+    Ok(sink)
+}
+
+/// Asserts that a sink took a beginning of the text, and has failed.
+fn assert_beginning(rt: &impl Abort, sink: Narrow, beginning: &[u8]) {
+    assert!(rt; sink.failed());
+    assert_eq!(rt; sink.taken.as_slice(), beginning);
+}
+
 #[test]
 fn keeps_a_beginning(rt: HostRuntime) -> Result<(), Fail> {
-    let alloc = rt.alloc();
-    let text = b"1234.50";
-    let value = read(alloc, text)?;
-    for room in 0..text.len() {
-        let mut sink = Narrow {
-            taken: Vec::with_capacity(alloc, room)?,
-            room,
-            failed: false,
-        };
-        assert!(rt; value.write_to(&mut sink).is_err());
-        assert!(rt; sink.failed());
-        assert_eq!(rt; sink.taken.as_slice(), &text[..room]);
+    for room in 0..TEXT.len() {
+        assert_beginning(&rt, narrowed(rt.alloc(), room)?, &TEXT[..room]);
     }
     Ok(())
+}
+
+/// Writes the text twice, and tells whether the sink refused both and has failed.
+fn refuses_twice(alloc: Global, sink: &mut Out<Full>) -> Result<bool, Fail> {
+    let value = read(alloc, TEXT)?;
+    let first = value.write_to(sink).is_err();
+    let second = value.write_to(sink).is_err();
+    Ok(first && second && sink.failed())
+}
+
+/// What a writer with too little room is left with after the text, twice.
+fn filled(alloc: Global, room: usize, answer: Answer) -> Result<Full, Fail> {
+    let mut sink = Out::new(Full {
+        taken: Vec::with_capacity(alloc, room)?,
+        room,
+        refusals: 0,
+        answer,
+    });
+    if refuses_twice(alloc, &mut sink)? {
+        Ok(sink.into_writer())
+    } else {
+        Err(Fail::new("more was taken than there is room for"))
+    }
+}
+
+/// Asserts that a writer took a beginning of the text, and was not called after its first refusal.
+fn assert_filled(rt: &impl Abort, writer: Full, beginning: &[u8]) {
+    assert_eq!(rt; writer.taken.as_slice(), beginning);
+    assert_eq!(rt; writer.refusals, 1);
 }
 
 #[test]
 fn calls_no_full_writer_again(rt: HostRuntime) -> Result<(), Fail> {
     let alloc = rt.alloc();
-    let text = b"1234.50";
-    let value = read(alloc, text)?;
-    for answer in [Answer::NoBytes, Answer::Fault] {
-        for room in 0..text.len() {
-            let mut sink = Out::new(Full {
-                taken: Vec::with_capacity(alloc, room)?,
-                room,
-                refusals: 0,
-                answer,
-            });
-            assert!(rt; value.write_to(&mut sink).is_err());
-            assert!(rt; value.write_to(&mut sink).is_err());
-            assert!(rt; sink.failed());
-            let writer = sink.into_writer();
-            assert_eq!(rt; writer.taken.as_slice(), &text[..room]);
-            assert_eq!(rt; writer.refusals, 1);
-        }
+    for room in 0..TEXT.len() {
+        assert_filled(&rt, filled(alloc, room, Answer::NoBytes)?, &TEXT[..room]);
+        assert_filled(&rt, filled(alloc, room, Answer::Fault)?, &TEXT[..room]);
     }
     Ok(())
 }

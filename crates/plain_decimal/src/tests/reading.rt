@@ -2,185 +2,330 @@
 use super::*;
 use decimal_unsigned::ParseError;
 
-/// Asserts that a text is read as a value that prints `printed`, with these `hi`, `first`, `last` and `lo`.
+/// The magnitudes `hi`, `first`, `last` and `lo` of a value.
+type Magnitudes = (i16, i16, i16, i16);
+
+/// The text of the value that a text writes.
+fn reread(alloc: Global, text: &[u8]) -> Result<TextBuf, Fail> {
+    printed(alloc, &read(alloc, text)?)
+}
+
+/// The text of the value that a string writes.
+fn reread_str(alloc: Global, text: &str) -> Result<TextBuf, Fail> {
+    printed(alloc, &UnsignedDecimal::try_from_str(alloc, text)?)
+}
+
+/// The magnitudes of the value that a text writes.
+fn magnitudes(alloc: Global, text: &[u8]) -> Result<Magnitudes, Fail> {
+    let value = read(alloc, text)?;
+    let shown = value.magnitude_range();
+    Ok((
+        *shown.end(),
+        value.nonzero_magnitude_start(),
+        value.nonzero_magnitude_end(),
+        *shown.start(),
+    ))
+}
+
+/// Asserts which magnitudes were found.
+fn assert_magnitudes(rt: &impl Abort, found: Magnitudes, wanted: Magnitudes) {
+    assert_eq!(rt; found, wanted);
+}
+
+/// Asserts which lowest magnitude a text has where nothing but that is asked for.
+fn assert_lowest(rt: &impl Abort, text: &[u8], lo: i16) {
+    assert_eq!(rt; lowest_of(text), Ok(lo));
+}
+
+/// Asserts that a text is read as a value that prints `becomes`, with these magnitudes.
 fn assert_reads(
     rt: &impl Abort,
     alloc: Global,
     text: &[u8],
-    printed: &[u8],
-    (hi, first, last, lo): (i16, i16, i16, i16),
+    becomes: &[u8],
+    wanted: Magnitudes,
 ) -> Result<(), Fail> {
-    let value = read(alloc, text)?;
-    assert_prints(rt, alloc, &value, printed);
-    assert_eq!(rt;
-        (
-            *value.magnitude_range().end(),
-            *value.magnitude_range().start()
-        ),
-        (hi, lo)
-    );
-    assert_eq!(rt; value.nonzero_magnitude_start(), first);
-    assert_eq!(rt; value.nonzero_magnitude_end(), last);
-    assert_eq!(rt; lowest_of(text), Ok(lo));
+    let (_, _, _, lo) = wanted;
+    assert_text(rt, reread(alloc, text)?, becomes);
+    assert_magnitudes(rt, magnitudes(alloc, text)?, wanted);
+    assert_lowest(rt, text, lo);
     Ok(())
 }
 
-/// Asserts that a text is refused for one reason, also where only its lowest magnitude is asked for.
-fn assert_refuses(rt: &impl Abort, alloc: Global, text: &[u8], fault: &ParseError) {
-    match UnsignedDecimal::try_from_utf8(alloc, text) {
-        Ok(_) => assert!(rt; false),
-        Err(found) => assert!(rt; found == *fault),
-    }
-    match lowest_of(text) {
-        Ok(_) => assert!(rt; false),
-        Err(found) => assert!(rt; found == *fault),
-    }
-}
+const READ: &[(&str, &[u8], Magnitudes)] = &[
+    ("00123400", b"00123400", (7, 5, 2, 0)),
+    ("0012.3400", b"0012.3400", (3, 1, -2, -4)),
+    ("1000000", b"1000000", (6, 6, 6, 0)),
+    (
+        "009223372000.003685477580898230948203840239384000",
+        b"009223372000.003685477580898230948203840239384000",
+        (11, 9, -33, -36),
+    ),
+    (
+        "922337203685477580898230948203840239384.9823094820384023938423424",
+        b"922337203685477580898230948203840239384.9823094820384023938423424",
+        (38, 38, -25, -25),
+    ),
+    ("000", b"000", (2, 0, 0, 0)),
+    (".000000001", b"0.000000001", (0, -9, -9, -9)),
+    (".0123400", b"0.0123400", (0, -2, -5, -7)),
+    (".5", b"0.5", (0, -1, -1, -1)),
+    ("5.4e-2", b"0.054", (0, -2, -3, -3)),
+    ("54.1e-2", b"0.541", (0, -1, -3, -3)),
+    ("0.009E10", b"90000000", (7, 7, 7, 0)),
+    ("0.009E3", b"0009", (3, 0, 0, 0)),
+    ("1e0000000000000000000000000000005", b"100000", (5, 5, 5, 0)),
+    ("010e0", b"10", (1, 1, 1, 0)),
+    ("01.2e0", b"01.2", (1, 0, -1, -1)),
+    ("1e-0", b"1", (0, 0, 0, 0)),
+    ("1.20e1", b"12.0", (1, 1, 0, -1)),
+    ("1.20e0", b"1.2", (0, 0, -1, -1)),
+    ("100e-2", b"1.00", (0, 0, 0, -2)),
+    ("01.20e-1", b"0.12", (0, -1, -2, -2)),
+    ("00.0e-10", b"00.0", (1, 0, 0, -1)),
+    (".e5", b"0", (0, 0, 0, 0)),
+    ("5.e3", b"5000", (3, 3, 3, 0)),
+    ("0e99999", b"0", (0, 0, 0, 0)),
+];
 
 #[test]
 fn reads(rt: HostRuntime) -> Result<(), Fail> {
     let alloc = rt.alloc();
-    let rows: [(&[u8], &[u8], (i16, i16, i16, i16)); 25] = [
-        (b"00123400", b"00123400", (7, 5, 2, 0)),
-        (b"0012.3400", b"0012.3400", (3, 1, -2, -4)),
-        (b"1000000", b"1000000", (6, 6, 6, 0)),
-        (
-            b"009223372000.003685477580898230948203840239384000",
-            b"009223372000.003685477580898230948203840239384000",
-            (11, 9, -33, -36),
-        ),
-        (
-            b"922337203685477580898230948203840239384.9823094820384023938423424",
-            b"922337203685477580898230948203840239384.9823094820384023938423424",
-            (38, 38, -25, -25),
-        ),
-        (b"000", b"000", (2, 0, 0, 0)),
-        (b".000000001", b"0.000000001", (0, -9, -9, -9)),
-        (b".0123400", b"0.0123400", (0, -2, -5, -7)),
-        (b".5", b"0.5", (0, -1, -1, -1)),
-        (b"5.4e-2", b"0.054", (0, -2, -3, -3)),
-        (b"54.1e-2", b"0.541", (0, -1, -3, -3)),
-        (b"0.009E10", b"90000000", (7, 7, 7, 0)),
-        (b"0.009E3", b"0009", (3, 0, 0, 0)),
-        (
-            b"1e0000000000000000000000000000005",
-            b"100000",
-            (5, 5, 5, 0),
-        ),
-        (b"010e0", b"10", (1, 1, 1, 0)),
-        (b"01.2e0", b"01.2", (1, 0, -1, -1)),
-        (b"1e-0", b"1", (0, 0, 0, 0)),
-        (b"1.20e1", b"12.0", (1, 1, 0, -1)),
-        (b"1.20e0", b"1.2", (0, 0, -1, -1)),
-        (b"100e-2", b"1.00", (0, 0, 0, -2)),
-        (b"01.20e-1", b"0.12", (0, -1, -2, -2)),
-        (b"00.0e-10", b"00.0", (1, 0, 0, -1)),
-        (b".e5", b"0", (0, 0, 0, 0)),
-        (b"5.e3", b"5000", (3, 3, 3, 0)),
-        (b"0e99999", b"0", (0, 0, 0, 0)),
-    ];
-    for (text, printed, range) in rows {
-        assert_reads(&rt, alloc, text, printed, range)?;
+    for (text, becomes, wanted) in READ {
+        assert_reads(&rt, alloc, text.as_bytes(), becomes, *wanted)?;
+        assert_text(&rt, reread_str(alloc, text)?, becomes);
     }
     Ok(())
 }
 
-#[test]
-fn refuses(rt: HostRuntime) -> Result<(), Fail> {
-    let alloc = rt.alloc();
-    let syntax: [&[u8]; 22] = [
-        b"",
-        b"+1234567890",
-        b"-1",
-        b"+",
-        b"-",
-        b"0.012.3400",
-        b"0-0123400",
-        b"00123400.",
-        b"123_456",
-        b"1_0",
-        b".",
-        b"5.",
-        b"e5",
-        b"1e",
-        b"1e-",
-        b"1e+5",
-        b"1e--5",
-        b"1e5-",
-        b"1e5.",
-        b"1e5e5",
-        b"0e-",
-        b" 1",
-    ];
-    for text in syntax {
-        assert_refuses(&rt, alloc, text, &ParseError::Syntax);
+/// The magnitudes that a value shows, counted up one by one.
+fn shown(alloc: Global, text: &[u8]) -> Result<Vec<i16>, Fail> {
+    let mut list = Vec::new(alloc);
+    for magnitude in read(alloc, text)?.magnitude_range() {
+        list.push(magnitude)?;
     }
-    let limit: [&[u8]; 9] = [
-        b"1e99999",
-        b"1e-99999",
-        b"1e999999999999999999999999999999",
-        b"1.5e-32768",
-        b"10e32767",
-        b"01e32767",
-        b"1e32768",
-        b"1e-32769",
-        b"0.1e-32768",
-    ];
-    for text in limit {
-        assert_refuses(&rt, alloc, text, &ParseError::Limit);
+    Ok(list)
+}
+
+/// The magnitudes that a value shows, collected.
+fn shown_collected(alloc: Global, text: &[u8]) -> Result<Vec<i16>, Fail> {
+    Ok(read(alloc, text)?.magnitude_range().collect(alloc)?)
+}
+
+/// Asserts which magnitudes were counted.
+fn assert_counted(rt: &impl Abort, found: Vec<i16>, wanted: &[i16]) {
+    assert_eq!(rt; found.as_slice(), wanted);
+}
+
+const SHOWN: &[(&[u8], &[i16])] = &[
+    (b"7", &[0]),
+    (b"0", &[0]),
+    (b"07", &[0, 1]),
+    (b"012.340", &[-3, -2, -1, 0, 1, 2]),
+];
+
+#[test]
+fn counts_magnitudes(rt: HostRuntime) -> Result<(), Fail> {
+    let alloc = rt.alloc();
+    for (text, wanted) in SHOWN {
+        assert_counted(&rt, shown(alloc, text)?, wanted);
+        assert_counted(&rt, shown_collected(alloc, text)?, wanted);
     }
     Ok(())
 }
+
+/// One word for what became of a text.
+fn word(fault: &ParseError) -> &'static str {
+    match fault {
+        ParseError::Limit => "limit",
+        ParseError::Syntax => "syntax",
+        ParseError::Memory => "memory",
+    }
+}
+
+/// Says why a text is refused.
+fn fault(alloc: Global, text: &[u8]) -> &'static str {
+    match UnsignedDecimal::try_from_utf8(alloc, text) {
+        Ok(_value) => "read",
+        Err(fault) => word(&fault),
+    }
+}
+
+/// Says why a string is refused.
+fn fault_str(alloc: Global, text: &str) -> &'static str {
+    match UnsignedDecimal::try_from_str(alloc, text) {
+        Ok(_value) => "read",
+        Err(fault) => word(&fault),
+    }
+}
+
+/// Says why a text is refused where only its lowest magnitude is asked for.
+fn fault_lowest(text: &[u8]) -> &'static str {
+    match lowest_of(text) {
+        Ok(_lo) => "read",
+        Err(fault) => word(&fault),
+    }
+}
+
+/// Asserts which word was found.
+fn assert_word(rt: &impl Abort, found: &str, wanted: &str) {
+    assert_eq!(rt; found, wanted);
+}
+
+/// Asserts why a text is refused.
+fn assert_refuses(rt: &impl Abort, alloc: Global, text: &[u8], fault_word: &str) {
+    assert_word(rt, fault(alloc, text), fault_word);
+    assert_word(rt, fault_lowest(text), fault_word);
+}
+
+const SYNTAX: &[&str] = &[
+    "",
+    "+1234567890",
+    "-1",
+    "+",
+    "-",
+    "0.012.3400",
+    "0-0123400",
+    "00123400.",
+    "123_456",
+    "1_0",
+    ".",
+    "5.",
+    "e5",
+    "1e",
+    "1e-",
+    "1e+5",
+    "1e--5",
+    "1e5-",
+    "1e5.",
+    "1e5e5",
+    "0e-",
+    " 1",
+];
+
+const LIMIT: &[&str] = &[
+    "1e99999",
+    "1e-99999",
+    "1e999999999999999999999999999999",
+    "1.5e-32768",
+    "10e32767",
+    "01e32767",
+    "1e32768",
+    "1e-32769",
+    "0.1e-32768",
+];
+
+/// Asserts why a string is refused, by each call that reads it.
+fn assert_refuses_str(rt: &impl Abort, alloc: Global, text: &str, fault_word: &str) {
+    assert_refuses(rt, alloc, text.as_bytes(), fault_word);
+    assert_word(rt, fault_str(alloc, text), fault_word);
+}
+
+#[test]
+fn refuses_outside_the_grammar(rt: HostRuntime) {
+    for text in SYNTAX {
+        assert_refuses_str(&rt, rt.alloc(), text, "syntax");
+    }
+}
+
+#[test]
+fn refuses_outside_the_limits(rt: HostRuntime) {
+    for text in LIMIT {
+        assert_refuses_str(&rt, rt.alloc(), text, "limit");
+    }
+}
+
+/// Asserts that a text in parts is read as a value that prints other parts, with these magnitudes.
+fn assert_reads_parts(
+    rt: &impl Abort,
+    alloc: Global,
+    text: Parts,
+    becomes: Parts,
+    wanted: Magnitudes,
+) -> Result<(), Fail> {
+    let text = whole(alloc, text)?;
+    let becomes = whole(alloc, becomes)?;
+    assert_reads(rt, alloc, &text, &becomes, wanted)
+}
+
+/// Zeros at each magnitude.
+const WIDEST: Parts<'static> = &[(b"0", 32_768), (b".", 1), (b"0", 32_768)];
+
+/// The magnitudes of the least number above 0.
+const AT_LOWEST: Magnitudes = (0, -32_768, -32_768, -32_768);
+
+const LONG_READ: &[(Parts<'static>, Parts<'static>, Magnitudes)] = &[
+    (WIDEST, WIDEST, (32_767, 0, 0, -32_768)),
+    (LEAST, LEAST, AT_LOWEST),
+    (&[(b"1e-32768", 1)], LEAST, AT_LOWEST),
+    (&[(b"0.1e-32767", 1)], LEAST, AT_LOWEST),
+    (
+        &[(b"1e32767", 1)],
+        &[(b"1", 1), (b"0", 32_767)],
+        (32_767, 32_767, 32_767, 0),
+    ),
+    (
+        &[(b".1e32767", 1)],
+        &[(b"1", 1), (b"0", 32_766)],
+        (32_766, 32_766, 32_766, 0),
+    ),
+    (
+        &[(b"1e", 1), (b"0", 100_000), (b"5", 1)],
+        &[(b"100000", 1)],
+        (5, 5, 5, 0),
+    ),
+    (&[(b"0e", 1), (b"9", 100_000)], &[(b"0", 1)], (0, 0, 0, 0)),
+];
 
 #[test]
 fn reads_at_the_limits(rt: HostRuntime) -> Result<(), Fail> {
     let alloc = rt.alloc();
-    let zeros = extended(alloc, b"", b'0', 32_768)?;
-    let dotted = extended(alloc, &zeros, b'.', 1)?;
-    let widest = extended(alloc, &dotted, b'0', 32_768)?;
-    assert_reads(&rt, alloc, &widest, &widest, (32_767, 0, 0, -32_768))?;
-    let lowest = extended(alloc, b"0.", b'0', 32_767)?;
-    let lowest = extended(alloc, &lowest, b'1', 1)?;
-    let at_lowest = (0, -32_768, -32_768, -32_768);
-    assert_reads(&rt, alloc, &lowest, &lowest, at_lowest)?;
-    assert_reads(&rt, alloc, b"1e-32768", &lowest, at_lowest)?;
-    assert_reads(&rt, alloc, b"0.1e-32767", &lowest, at_lowest)?;
-    let highest = extended(alloc, b"1", b'0', 32_767)?;
-    assert_reads(
-        &rt,
-        alloc,
-        b"1e32767",
-        &highest,
-        (32_767, 32_767, 32_767, 0),
-    )?;
-    let tenth = extended(alloc, b"1", b'0', 32_766)?;
-    assert_reads(&rt, alloc, b".1e32767", &tenth, (32_766, 32_766, 32_766, 0))?;
-    let zeros = extended(alloc, b"1e", b'0', 100_000)?;
-    let five = extended(alloc, &zeros, b'5', 1)?;
-    assert_reads(&rt, alloc, &five, b"100000", (5, 5, 5, 0))?;
-    let nines = extended(alloc, b"0e", b'9', 100_000)?;
-    assert_reads(&rt, alloc, &nines, b"0", (0, 0, 0, 0))
+    for (text, becomes, wanted) in LONG_READ {
+        assert_reads_parts(&rt, alloc, text, becomes, *wanted)?;
+    }
+    Ok(())
 }
+
+const LONG_REFUSED: &[(Parts<'static>, &str)] = &[
+    (&[(b"0", 32_769)], "limit"),
+    (&[(b"0", 32_769), (b"e0", 1)], "limit"),
+    (&[(b"0", 32_769), (b"x", 1)], "syntax"),
+    (&[(b"9", 32_769)], "limit"),
+    (&[(b"0.", 1), (b"0", 32_769)], "limit"),
+    (&[(b"0", 32_768), (b".", 1), (b"0", 32_769)], "limit"),
+    (&[(b"1e", 1), (b"9", 100_000)], "limit"),
+];
 
 #[test]
 fn refuses_beyond_the_limits(rt: HostRuntime) -> Result<(), Fail> {
     let alloc = rt.alloc();
-    let zeros = extended(alloc, b"", b'0', 32_769)?;
-    assert_refuses(&rt, alloc, &zeros, &ParseError::Limit);
-    let exponent = extended(alloc, &zeros, b'e', 1)?;
-    let exponent = extended(alloc, &exponent, b'0', 1)?;
-    assert_refuses(&rt, alloc, &exponent, &ParseError::Limit);
-    let fault = extended(alloc, &zeros, b'x', 1)?;
-    assert_refuses(&rt, alloc, &fault, &ParseError::Syntax);
-    let nines = extended(alloc, b"", b'9', 32_769)?;
-    assert_refuses(&rt, alloc, &nines, &ParseError::Limit);
-    let fraction = extended(alloc, b"0.", b'0', 32_769)?;
-    assert_refuses(&rt, alloc, &fraction, &ParseError::Limit);
-    let whole = extended(alloc, b"", b'0', 32_768)?;
-    let dotted = extended(alloc, &whole, b'.', 1)?;
-    let both = extended(alloc, &dotted, b'0', 32_769)?;
-    assert_refuses(&rt, alloc, &both, &ParseError::Limit);
-    let exponent = extended(alloc, b"1e", b'9', 100_000)?;
-    assert_refuses(&rt, alloc, &exponent, &ParseError::Limit);
+    for (parts, fault_word) in LONG_REFUSED {
+        assert_refuses(&rt, alloc, &whole(alloc, parts)?, fault_word);
+    }
     Ok(())
+}
+
+/// Asserts that the plain program reads no value from a text.
+fn assert_unread(rt: &impl Abort, text: &[u8]) {
+    assert!(rt; Plain::read(text).is_none(), "{text:?}");
+}
+
+const UNREAD: &[&[u8]] = &[
+    b"",
+    b".",
+    b".5",
+    b"5.",
+    b"1a",
+    b"-1",
+    b"1.2.3",
+    b"1.00000000000",
+    b"184467440737095516160",
+    b"18446744073.7095516160",
+];
+
+#[test]
+fn reads_no_more_than_digits_plainly(rt: HostRuntime) {
+    for text in UNREAD {
+        assert_unread(&rt, text);
+    }
 }

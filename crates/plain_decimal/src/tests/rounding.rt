@@ -12,167 +12,248 @@ use decimal_digits::rounding::{RoundingIncrement, UnsignedRoundingMode};
 /// A position, a mode and an increment.
 type Rounding = (i16, UnsignedRoundingMode, RoundingIncrement);
 
-/// A text in parts, each so many times.
-type Parts = &'static [(&'static [u8], usize)];
+const MODES: &[UnsignedRoundingMode] = &[Expand, Trunc, HalfExpand, HalfTrunc, HalfEven];
 
-const MODES: [UnsignedRoundingMode; 5] = [Expand, Trunc, HalfExpand, HalfTrunc, HalfEven];
+const INCREMENTS: &[RoundingIncrement] = &[MultiplesOf1, MultiplesOf2, MultiplesOf5, MultiplesOf25];
 
-const INCREMENTS: [RoundingIncrement; 4] = [
-    MultiplesOf1,
-    MultiplesOf2,
-    MultiplesOf5,
-    MultiplesOf25,
-];
-
-/// Adds a part to a text so many times.
-fn push_part(text: &mut Vec<u8>, part: &[u8], count: usize) -> Result<(), Fail> {
-    for _ in 0..count {
-        text.extend_from_slice(part)?;
-    }
-    Ok(())
+/// One of the calls that take an increment.
+#[derive(Clone, Copy)]
+enum Way {
+    Counted,
+    InPlace,
+    ByValue,
 }
 
-/// The text that the parts make.
-fn whole(alloc: Global, parts: &[(&[u8], usize)]) -> Result<Vec<u8>, Fail> {
-    let mut text = Vec::new(alloc);
-    for (part, count) in parts {
-        push_part(&mut text, part, *count)?;
+const WAYS: &[Way] = &[Way::Counted, Way::InPlace, Way::ByValue];
+
+/// A want of memory where what is left is the value that was given, and else what is left.
+fn unchanged(left: UnsignedDecimal, given: &UnsignedDecimal) -> Result<UnsignedDecimal, Fail> {
+    if left == *given {
+        Err(Fail::new("memory was refused"))
+    } else {
+        Ok(left)
     }
-    Ok(text)
 }
 
-/// Gives what a value becomes, in place and by value alike; where memory is refused it asserts that the value stayed.
-fn rounded(
-    rt: &impl Abort,
+/// What a value becomes where the turns are counted.
+fn counted(
     value: &UnsignedDecimal,
     (position, mode, increment): Rounding,
 ) -> Result<UnsignedDecimal, Fail> {
     let mut counted = value.clone()?;
-    if let Err(refused) = counted.round_counted(position, mode, increment, &mut Steps::new()) {
-        assert!(rt; counted == *value);
-        return Err(Fail::from(refused));
+    match counted.round_counted(position, mode, increment, &mut Steps::new()) {
+        Ok(()) => Ok(counted),
+        Err(_refused) => unchanged(counted, value),
     }
+}
+
+/// What a value becomes in place.
+fn in_place(
+    value: &UnsignedDecimal,
+    (position, mode, increment): Rounding,
+) -> Result<UnsignedDecimal, Fail> {
     let mut in_place = value.clone()?;
-    if let Err(refused) = in_place.round_with_mode_and_increment(position, mode, increment) {
-        assert!(rt; in_place == *value);
-        return Err(Fail::from(refused));
+    match in_place.round_with_mode_and_increment(position, mode, increment) {
+        Ok(()) => Ok(in_place),
+        Err(_refused) => unchanged(in_place, value),
     }
-    assert!(rt; in_place == counted);
+}
+
+/// What a value becomes by value.
+fn by_value(
+    value: &UnsignedDecimal,
+    (position, mode, increment): Rounding,
+) -> Result<UnsignedDecimal, Fail> {
     match value
         .clone()?
         .rounded_with_mode_and_increment(position, mode, increment)
     {
-        Ok(moved) => assert!(rt; moved == counted),
-        Err(same) => {
-            assert!(rt; same == *value);
-            return Err(Fail::new("refused by value"));
-        }
+        Ok(rounded) => Ok(rounded),
+        Err(left) => unchanged(left, value),
     }
-    Ok(counted)
 }
 
-/// Asserts what the calls without an increment make of a value.
-fn assert_without_increment(
-    rt: &impl Abort,
+/// What a value becomes by one of the calls.
+fn rounded(value: &UnsignedDecimal, way: Way, rounding: Rounding) -> Result<UnsignedDecimal, Fail> {
+    match way {
+        Way::Counted => counted(value, rounding),
+        Way::InPlace => in_place(value, rounding),
+        Way::ByValue => by_value(value, rounding),
+    }
+}
+
+/// What a text becomes by one of the calls.
+fn rounded_text(alloc: Global, text: &[u8], way: Way, rounding: Rounding) -> Result<TextBuf, Fail> {
+    printed(alloc, &rounded(&read(alloc, text)?, way, rounding)?)
+}
+
+/// Tells whether two of the calls make the same of a value.
+fn agree(
     value: &UnsignedDecimal,
+    (left, right): (Way, Way),
+    rounding: Rounding,
+) -> Result<bool, Fail> {
+    Ok(rounded(value, left, rounding)? == rounded(value, right, rounding)?)
+}
+
+/// One of the calls that take no increment.
+#[derive(Clone, Copy)]
+enum Call {
+    RoundWithMode,
+    RoundedWithMode,
+    Round,
+    Rounded,
+    Expand,
+    Expanded,
+    Trunc,
+    Trunced,
+}
+
+/// Makes the call.
+fn becomes(
+    mut value: UnsignedDecimal,
+    call: Call,
     position: i16,
     mode: UnsignedRoundingMode,
-    wanted: &UnsignedDecimal,
+) -> UnsignedDecimal {
+    match call {
+        Call::RoundWithMode => value.round_with_mode(position, mode),
+        Call::Round => value.round(position),
+        Call::Expand => value.expand(position),
+        Call::Trunc => value.trunc(position),
+        Call::RoundedWithMode => return value.rounded_with_mode(position, mode),
+        Call::Rounded => return value.rounded(position),
+        Call::Expanded => return value.expanded(position),
+        Call::Trunced => return value.trunced(position),
+    }
+    value
+}
+
+/// The calls that round by a mode with no increment.
+fn calls_of(mode: UnsignedRoundingMode) -> &'static [Call] {
+    match mode {
+        Expand => &[
+            Call::RoundWithMode,
+            Call::RoundedWithMode,
+            Call::Expand,
+            Call::Expanded,
+        ],
+        Trunc => &[
+            Call::RoundWithMode,
+            Call::RoundedWithMode,
+            Call::Trunc,
+            Call::Trunced,
+        ],
+        HalfEven => &[
+            Call::RoundWithMode,
+            Call::RoundedWithMode,
+            Call::Round,
+            Call::Rounded,
+        ],
+        HalfExpand | HalfTrunc => &[Call::RoundWithMode, Call::RoundedWithMode],
+    }
+}
+
+/// What a text becomes by a call that takes no increment.
+fn text_after(
+    alloc: Global,
+    text: &[u8],
+    call: Call,
+    (position, mode): (i16, UnsignedRoundingMode),
+) -> Result<TextBuf, Fail> {
+    printed(alloc, &becomes(read(alloc, text)?, call, position, mode))
+}
+
+/// Asserts what the calls without an increment make of a text.
+fn assert_without_increment(
+    rt: &impl Abort,
+    alloc: Global,
+    text: &[u8],
+    (position, mode): (i16, UnsignedRoundingMode),
+    wanted: &[u8],
 ) -> Result<(), Fail> {
-    let mut in_place = value.clone()?;
-    in_place.round_with_mode(position, mode);
-    assert!(rt; in_place == *wanted, "{mode:?} at {position}");
-    let moved = value.clone()?.rounded_with_mode(position, mode);
-    assert!(rt; moved == *wanted, "{mode:?} at {position}");
-    let mut in_place = value.clone()?;
-    let moved = value.clone()?;
-    let moved = match mode {
-        Expand => {
-            in_place.expand(position);
-            moved.expanded(position)
-        }
-        Trunc => {
-            in_place.trunc(position);
-            moved.trunced(position)
-        }
-        HalfEven => {
-            in_place.round(position);
-            moved.rounded(position)
-        }
-        HalfExpand | HalfTrunc => return Ok(()),
-    };
-    assert!(rt; in_place == *wanted, "{mode:?} at {position}");
-    assert!(rt; moved == *wanted, "{mode:?} at {position}");
+    for call in calls_of(mode) {
+        let found = text_after(alloc, text, *call, (position, mode))?;
+        assert_text(rt, found, wanted);
+    }
     Ok(())
 }
 
-/// Asserts what each call that makes this rounding makes of a value.
-fn assert_becomes(
-    rt: &impl Abort,
-    value: &UnsignedDecimal,
-    rounding: Rounding,
-    wanted: &UnsignedDecimal,
-) -> Result<UnsignedDecimal, Fail> {
-    let (position, mode, increment) = rounding;
-    let found = rounded(rt, value, rounding)?;
-    assert!(rt; found == *wanted, "{mode:?} at {position} by {increment:?}");
-    if increment == MultiplesOf1 {
-        assert_without_increment(rt, value, position, mode, wanted)?;
-    }
-    Ok(found)
-}
-
-/// Asserts what a text prints after the rounding.
+/// Asserts what each call that makes this rounding makes of a text.
 fn assert_rounds(
     rt: &impl Abort,
     alloc: Global,
     text: &[u8],
     rounding: Rounding,
-    printed: &[u8],
-) -> Result<UnsignedDecimal, Fail> {
-    let wanted = read(alloc, printed)?;
-    let found = assert_becomes(rt, &read(alloc, text)?, rounding, &wanted)?;
-    assert_prints(rt, alloc, &found, printed);
-    Ok(found)
+    wanted: &[u8],
+) -> Result<(), Fail> {
+    for way in WAYS {
+        assert_text(rt, rounded_text(alloc, text, *way, rounding)?, wanted);
+    }
+    let (position, mode, increment) = rounding;
+    if increment == MultiplesOf1 {
+        assert_without_increment(rt, alloc, text, (position, mode), wanted)?;
+    }
+    Ok(())
 }
 
-/// Asserts what a short text prints after the rounding, by the library and by the plain program.
+/// What a text becomes by the plain program.
+fn text_plainly(
+    alloc: Global,
+    text: &[u8],
+    (position, mode, increment): Rounding,
+) -> Result<Vec<u8>, Fail> {
+    let value = read_plainly(text)?.rounded(position, mode, increment);
+    Ok(value.ok_or("does not fit")?.text(alloc)?)
+}
+
+/// Asserts what a short text becomes, by the library and by the plain program.
 fn assert_rounds_plainly(
     rt: &impl Abort,
     alloc: Global,
     text: &[u8],
     rounding: Rounding,
-    printed: &[u8],
+    wanted: &[u8],
 ) -> Result<(), Fail> {
-    assert_rounds(rt, alloc, text, rounding, printed)?;
-    let (position, mode, increment) = rounding;
-    let plain = read_plainly(rt, alloc, text)?
-        .rounded(position, mode, increment)
-        .expect(rt, "fits");
-    assert_plain(rt, alloc, &plain, printed)
+    assert_rounds(rt, alloc, text, rounding, wanted)?;
+    assert_bytes(rt, reread_plainly(alloc, text)?, text);
+    assert_bytes(rt, text_plainly(alloc, text, rounding)?, wanted);
+    Ok(())
+}
+
+/// A text and what each of the modes makes of it, in the order of `MODES`.
+const MODE_ROWS: &[(&[u8], &[&[u8]])] = &[
+    (b"1.8", &[b"2", b"1", b"2", b"2", b"2"]),
+    (b"1.5", &[b"2", b"1", b"2", b"1", b"2"]),
+    (b"1.2", &[b"2", b"1", b"1", b"1", b"1"]),
+    (b"0.8", &[b"1", b"0", b"1", b"1", b"1"]),
+    (b"0.5", &[b"1", b"0", b"1", b"0", b"0"]),
+    (b"0.2", &[b"1", b"0", b"0", b"0", b"0"]),
+];
+
+/// Asserts what each of the modes makes of a text.
+fn assert_modes(
+    rt: &impl Abort,
+    alloc: Global,
+    text: &[u8],
+    columns: &[&[u8]],
+) -> Result<(), Fail> {
+    for (mode, wanted) in MODES.iter().zip(columns) {
+        assert_rounds_plainly(rt, alloc, text, (0, *mode, MultiplesOf1), wanted)?;
+    }
+    Ok(())
 }
 
 #[test]
 fn rounds_by_each_mode(rt: HostRuntime) -> Result<(), Fail> {
     let alloc = rt.alloc();
-    // The columns stand in the order of `MODES`.
-    let rows: [(&[u8], [&[u8]; 5]); 6] = [
-        (b"1.8", [b"2", b"1", b"2", b"2", b"2"]),
-        (b"1.5", [b"2", b"1", b"2", b"1", b"2"]),
-        (b"1.2", [b"2", b"1", b"1", b"1", b"1"]),
-        (b"0.8", [b"1", b"0", b"1", b"1", b"1"]),
-        (b"0.5", [b"1", b"0", b"1", b"0", b"0"]),
-        (b"0.2", [b"1", b"0", b"0", b"0", b"0"]),
-    ];
-    for (text, columns) in rows {
-        for (mode, printed) in MODES.into_iter().zip(columns) {
-            assert_rounds_plainly(&rt, alloc, text, (0, mode, MultiplesOf1), printed)?;
-        }
+    for (text, columns) in MODE_ROWS {
+        assert_modes(&rt, alloc, text, columns)?;
     }
     Ok(())
 }
 
-const ROWS: [(&[u8], Rounding, &[u8]); 35] = [
+const ROWS: &[(&[u8], Rounding, &[u8])] = &[
     (b"7.266", (-2, Expand, MultiplesOf1), b"7.27"),
     (b"7.266", (-2, Expand, MultiplesOf2), b"7.28"),
     (b"7.266", (-2, Expand, MultiplesOf5), b"7.30"),
@@ -193,6 +274,7 @@ const ROWS: [(&[u8], Rounding, &[u8]); 35] = [
     (b"0", (0, Expand, MultiplesOf25), b"0"),
     (b"99.999", (-2, Expand, MultiplesOf1), b"100.00"),
     (b"99.999", (-5, Expand, MultiplesOf1), b"99.99900"),
+    (b"4235.970", (0, Trunc, MultiplesOf1), b"4235"),
     (b"12.34", (1, Trunc, MultiplesOf1), b"10"),
     (b"12.34", (-1, Trunc, MultiplesOf1), b"12.3"),
     (b"1234.56", (-1, Trunc, MultiplesOf1), b"1234.5"),
@@ -213,18 +295,65 @@ const ROWS: [(&[u8], Rounding, &[u8]); 35] = [
 #[test]
 fn rounds_by_each_increment(rt: HostRuntime) -> Result<(), Fail> {
     let alloc = rt.alloc();
-    for (text, rounding, printed) in ROWS {
-        assert_rounds_plainly(&rt, alloc, text, rounding, printed)?;
+    for (text, rounding, wanted) in ROWS {
+        assert_rounds_plainly(&rt, alloc, text, *rounding, wanted)?;
     }
-    let rounding = (-1, Trunc, MultiplesOf25);
+    Ok(())
+}
+
+/// Asserts what so many ones and an eight become by 25: one digit more is written, at a place that held none.
+fn assert_rounds_ones(rt: &impl Abort, alloc: Global, ones: usize) -> Result<(), Fail> {
+    let text = extended(alloc, b"", b'1', ones)?;
+    let wanted = whole(alloc, &[(&text, 1), (b"7.5", 1)])?;
+    let text = whole(alloc, &[(&text, 1), (b"8", 1)])?;
+    assert_rounds(rt, alloc, &text, (-1, Trunc, MultiplesOf25), &wanted)
+}
+
+#[test]
+fn rounds_by_25_to_one_digit_more(rt: HostRuntime) -> Result<(), Fail> {
+    let alloc = rt.alloc();
     let long = b"1234567812345678";
-    assert_rounds(&rt, alloc, long, rounding, b"1234567812345677.5")?;
-    // With each number of digits one more is written, at a place that held none.
+    let by_25 = (-1, Trunc, MultiplesOf25);
+    assert_rounds(&rt, alloc, long, by_25, b"1234567812345677.5")?;
     for ones in 0..64 {
-        let text = extended(alloc, b"", b'1', ones)?;
-        let rounded = whole(alloc, &[(&text, 1), (b"7.5", 1)])?;
-        let text = extended(alloc, &text, b'8', 1)?;
-        assert_rounds(&rt, alloc, &text, (-1, Trunc, MultiplesOf25), &rounded)?;
+        assert_rounds_ones(&rt, alloc, ones)?;
+    }
+    Ok(())
+}
+
+/// The positions and increments of a chain.
+const CHAIN: &[(i16, RoundingIncrement)] = &[
+    (-2, MultiplesOf2),
+    (-1, MultiplesOf5),
+    (0, MultiplesOf25),
+    (5, MultiplesOf5),
+    (2, MultiplesOf2),
+];
+
+/// What a chain of roundings makes of a text, one after the other.
+const CHAINED: &[(UnsignedRoundingMode, &[&[u8]])] = &[
+    (Trunc, &[b"4235.96", b"4235.5", b"4225", b"00000", b"00000"]),
+    (
+        Expand,
+        &[b"4235.98", b"4236.0", b"4250", b"500000", b"500000"],
+    ),
+    (
+        HalfEven,
+        &[b"4235.96", b"4236.0", b"4225", b"00000", b"00000"],
+    ),
+];
+
+/// Asserts what a chain of roundings makes of 4235.970: each takes the text of the one before.
+fn assert_chain(
+    rt: &impl Abort,
+    alloc: Global,
+    mode: UnsignedRoundingMode,
+    texts: &[&[u8]],
+) -> Result<(), Fail> {
+    let mut text: &[u8] = b"4235.970";
+    for ((position, increment), wanted) in CHAIN.iter().zip(texts) {
+        assert_rounds(rt, alloc, text, (*position, mode, *increment), wanted)?;
+        text = wanted;
     }
     Ok(())
 }
@@ -232,72 +361,60 @@ fn rounds_by_each_increment(rt: HostRuntime) -> Result<(), Fail> {
 #[test]
 fn rounds_in_chains(rt: HostRuntime) -> Result<(), Fail> {
     let alloc = rt.alloc();
-    let steps = [
-        (-2, MultiplesOf2),
-        (-1, MultiplesOf5),
-        (0, MultiplesOf25),
-        (5, MultiplesOf5),
-        (2, MultiplesOf2),
-    ];
-    let chains: [(UnsignedRoundingMode, [&[u8]; 5]); 3] = [
-        (Trunc, [b"4235.96", b"4235.5", b"4225", b"00000", b"00000"]),
-        (
-            Expand,
-            [b"4235.98", b"4236.0", b"4250", b"500000", b"500000"],
-        ),
-        (
-            HalfEven,
-            [b"4235.96", b"4236.0", b"4225", b"00000", b"00000"],
-        ),
-    ];
-    for (mode, texts) in chains {
-        let mut value = read(alloc, b"4235.970")?;
-        for ((position, increment), printed) in steps.into_iter().zip(texts) {
-            let wanted = read(alloc, printed)?;
-            value = assert_becomes(&rt, &value, (position, mode, increment), &wanted)?;
-            assert_prints(&rt, alloc, &value, printed);
-        }
+    for (mode, texts) in CHAINED {
+        assert_chain(&rt, alloc, *mode, texts)?;
     }
     Ok(())
+}
+
+/// Integers that are shifted to the position, before the rounding and after it.
+const SHIFTED_ROWS: &[(&[u8], Rounding, &[u8])] = &[
+    (b"7", (-32768, Trunc, MultiplesOf2), b"6"),
+    (b"7", (-32768, HalfExpand, MultiplesOf2), b"8"),
+    (b"9", (-32768, Expand, MultiplesOf5), b"10"),
+    (b"70", (-32768, Trunc, MultiplesOf25), b"50"),
+    (b"70", (-32768, Expand, MultiplesOf25), b"75"),
+    (b"7", (32767, Trunc, MultiplesOf2), b"6"),
+    (b"7", (32767, Expand, MultiplesOf2), b"8"),
+    (b"7", (32767, Trunc, MultiplesOf5), b"5"),
+    (b"7", (32767, Expand, MultiplesOf5), b"0"),
+    (b"7", (32767, Trunc, MultiplesOf25), b"0"),
+    (b"7", (32767, Expand, MultiplesOf25), b"0"),
+    (b"9", (32766, Expand, MultiplesOf25), b"25"),
+];
+
+/// The text of an integer times 10 to a power.
+fn shifted(alloc: Global, integer: &[u8], position: i16) -> Result<TextBuf, Fail> {
+    printed(alloc, &read(alloc, integer)?.multiplied_pow10(position))
+}
+
+/// Asserts what an integer becomes that is shifted to the position.
+fn assert_rounds_shifted(
+    rt: &impl Abort,
+    alloc: Global,
+    integer: &[u8],
+    rounding: Rounding,
+    wanted: &[u8],
+) -> Result<(), Fail> {
+    let (position, _, _) = rounding;
+    let text = shifted(alloc, integer, position)?;
+    let wanted = shifted(alloc, wanted, position)?;
+    assert_rounds(rt, alloc, text.as_bytes(), rounding, wanted.as_bytes())
 }
 
 #[test]
 fn rounds_shifted_integers(rt: HostRuntime) -> Result<(), Fail> {
     let alloc = rt.alloc();
-    // Both integers are shifted to the position.
-    let rows: [(&[u8], Rounding, &[u8]); 12] = [
-        (b"7", (-32768, Trunc, MultiplesOf2), b"6"),
-        (b"7", (-32768, HalfExpand, MultiplesOf2), b"8"),
-        (b"9", (-32768, Expand, MultiplesOf5), b"10"),
-        (b"70", (-32768, Trunc, MultiplesOf25), b"50"),
-        (b"70", (-32768, Expand, MultiplesOf25), b"75"),
-        (b"7", (32767, Trunc, MultiplesOf2), b"6"),
-        (b"7", (32767, Expand, MultiplesOf2), b"8"),
-        (b"7", (32767, Trunc, MultiplesOf5), b"5"),
-        (b"7", (32767, Expand, MultiplesOf5), b"0"),
-        (b"7", (32767, Trunc, MultiplesOf25), b"0"),
-        (b"7", (32767, Expand, MultiplesOf25), b"0"),
-        (b"9", (32766, Expand, MultiplesOf25), b"25"),
-    ];
-    for (integer, rounding, becomes) in rows {
-        let (position, _, _) = rounding;
-        let value = read(alloc, integer)?.multiplied_pow10(position);
-        let wanted = read(alloc, becomes)?.multiplied_pow10(position);
-        assert_becomes(&rt, &value, rounding, &wanted)?;
+    for (integer, rounding, wanted) in SHIFTED_ROWS {
+        assert_rounds_shifted(&rt, alloc, integer, *rounding, wanted)?;
     }
     Ok(())
 }
 
-/// The longest number, of nines alone.
-const NINES: Parts = &[(b"9", 32_768), (b".", 1), (b"9", 32_768)];
-
-/// The least number above 0.
-const LEAST: Parts = &[(b"0.", 1), (b"0", 32_767), (b"1", 1)];
-
 /// Half more than the longest integer.
-const INTEGER_AND_HALF: Parts = &[(b"9", 32_768), (b".5", 1)];
+const INTEGER_AND_HALF: Parts<'static> = &[(b"9", 32_768), (b".5", 1)];
 
-const LONG_ROWS: [(Parts, Rounding, Parts); 20] = [
+const LONG_ROWS: &[(Parts<'static>, Rounding, Parts<'static>)] = &[
     (NINES, (-32768, Trunc, MultiplesOf1), NINES),
     (
         NINES,
@@ -386,36 +503,70 @@ const LONG_ROWS: [(Parts, Rounding, Parts); 20] = [
         (0, HalfExpand, MultiplesOf1),
         &[(b"0", 32_768)],
     ),
+    // The zeros above the dot stay when those below it go.
+    (
+        &[(b"0", 32_768), (b".", 1), (b"0", 32_767)],
+        (0, Expand, MultiplesOf1),
+        &[(b"0", 32_768)],
+    ),
 ];
+
+/// Asserts what a text in parts becomes.
+fn assert_rounds_parts(
+    rt: &impl Abort,
+    alloc: Global,
+    text: Parts,
+    rounding: Rounding,
+    wanted: Parts,
+) -> Result<(), Fail> {
+    let text = whole(alloc, text)?;
+    let wanted = whole(alloc, wanted)?;
+    assert_rounds(rt, alloc, &text, rounding, &wanted)
+}
 
 #[test]
 fn rounds_long_numbers(rt: HostRuntime) -> Result<(), Fail> {
     let alloc = rt.alloc();
-    for (parts, rounding, printed) in LONG_ROWS {
-        let text = whole(alloc, parts)?;
-        let printed = whole(alloc, printed)?;
-        assert_rounds(&rt, alloc, &text, rounding, &printed)?;
+    for (text, rounding, wanted) in LONG_ROWS {
+        assert_rounds_parts(&rt, alloc, text, *rounding, wanted)?;
     }
-    // The zeros above the dot stay when those below it go.
-    let zeros = whole(alloc, &[(b"0", 32_768), (b".", 1), (b"0", 32_767)])?;
-    let integer = whole(alloc, &[(b"0", 32_768)])?;
-    assert_rounds(&rt, alloc, &zeros, (0, Expand, MultiplesOf1), &integer)?;
+    Ok(())
+}
+
+/// Asserts that each call makes the same of a value.
+fn assert_agree(rt: &impl Abort, value: &UnsignedDecimal, rounding: Rounding) -> Result<(), Fail> {
+    let in_place = agree(value, (Way::Counted, Way::InPlace), rounding)?;
+    let by_value = agree(value, (Way::Counted, Way::ByValue), rounding)?;
+    assert_holds(rt, in_place && by_value, true, (b"counted", b"others"));
+    Ok(())
+}
+
+/// Asserts that each call makes the same of a value, by each mode and increment at a position.
+fn assert_agree_at(rt: &impl Abort, value: &UnsignedDecimal, position: i16) -> Result<(), Fail> {
+    for mode in MODES {
+        for increment in INCREMENTS {
+            assert_agree(rt, value, (position, *mode, *increment))?;
+        }
+    }
+    Ok(())
+}
+
+/// Asserts that each call makes the same of a text, at the two lowest and the two highest positions.
+fn assert_agree_at_ends(rt: &impl Abort, alloc: Global, text: &[u8]) -> Result<(), Fail> {
+    let value = read(alloc, text)?;
+    let positions: &[i16] = &[-32768, -32767, 32766, 32767];
+    for position in positions {
+        assert_agree_at(rt, &value, *position)?;
+    }
     Ok(())
 }
 
 #[test]
 fn rounds_at_the_ends(rt: HostRuntime) -> Result<(), Fail> {
     let alloc = rt.alloc();
-    for parts in [NINES, LEAST, &[(b"0", 1)]] {
-        let text = whole(alloc, parts)?;
-        let value = read(alloc, &text)?;
-        for position in [-32768, -32767, 32766, 32767] {
-            for mode in MODES {
-                for increment in INCREMENTS {
-                    rounded(&rt, &value, (position, mode, increment))?;
-                }
-            }
-        }
+    let numbers: &[Parts<'static>] = &[NINES, LEAST, &[(b"0", 1)]];
+    for parts in numbers {
+        assert_agree_at_ends(&rt, alloc, &whole(alloc, parts)?)?;
     }
     Ok(())
 }
