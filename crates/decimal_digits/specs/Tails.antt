@@ -31,8 +31,8 @@ RoundsTo mode step tail k m =
     (r place : ℕ) → 0 < place → TailIs tail r place → rounded_number mode (step * place) (k * place + r) ≡ m * place
 
 -- the number that the first k digits write, where zeros follow the list
-abbrev pub front : ℕ → List ℕ → ℕ
-front k digits = number_at k (take k digits)
+abbrev pub leading : ℕ → List ℕ → ℕ
+leading k digits = number_at k (take k digits)
 
 -- n is k of a place, and below it the tail
 abbrev pub HasParts : ℕ → ℕ → ℕ → Tail → Type 0

@@ -78,8 +78,8 @@ pub fn rounded_two(
 ) -> u8
     requires { two < 100 }
     ensures at_most { result ≤ 100 }
-    ensures rounds { (front : ℕ)
-        → RoundsTo mode (step_of increment) tail (100 * front + two) (100 * front + result) }
+    ensures rounds { (hundreds : ℕ)
+        → RoundsTo mode (step_of increment) tail (100 * hundreds + two) (100 * hundreds + result) }
     ensures stays { tail ≡ Tail.Zero → two % step_of increment ≡ 0 → result ≡ two }
 {
     let step = step(increment);
