@@ -10,6 +10,7 @@ use Rattle.decimal_digits.specs.Tails.{leading, TailIs, HasDigits}
 use Rattle.decimal_digits.proofs.NumberAt.{powers, number_at-none, number_at-more, number_at-take, number_at-set, number_at-push, number_at-append, number_at-one, number_at-lt, number_at-ge, number_at-pos}
 use Rattle.decimal_digits.proofs.DigitLists.{below_drop, below_take, ten_pos}
 
+-- no digit writes 0
 pub leading_none : (k : ℕ) (ds : List ℕ) → k ≡ 0 → leading k ds ≡ 0
 leading_none k ds z = number_at-none k (take k ds) (omega (arith, length-take k ds))
 
@@ -26,9 +27,11 @@ leading_more k ds p = elim (cases_lt (k - 1) (length ds)) [
       omega (arith, ap (number_at k) e, leading_at k (k - 1) ds (omega arith), ap (λ i. leading (k - 1) ds * 10 ^ i) j, get_or_past ds (k - 1) 0 h)
 ]
 
+-- of one digit, the last two are that digit
 pub leading_one : (k : ℕ) (ds : List ℕ) → k ≡ 1 → leading k ds ≡ 100 * leading (k - 2) ds + get_or ds (k - 1) 0
 leading_one k ds e = omega (arith, leading_more k ds (omega arith), leading_none (k - 1) ds (omega arith), leading_none (k - 2) ds (omega arith))
 
+-- the first k digits are hundreds and the last two
 pub leading_two : (k : ℕ) (ds : List ℕ) → 2 ≤ k → leading k ds ≡ 100 * leading (k - 2) ds + (10 * get_or ds (k - 2) 0 + get_or ds (k - 1) 0)
 leading_two k ds h =
     let e : k - 1 - 1 ≡ k - 2 = omega arith in
@@ -47,9 +50,11 @@ module _ (k : ℕ) (ds : List ℕ) (p : 2 ≤ k) (h : k ≤ length ds + 1) where
       let two : k - (k - 2) ≡ 2 = omega arith in
       omega (arith, b, ap (λ j. tens * 10 ^ j) one, leading_at k (k - 2) ds (omega arith), ap (λ j. leading (k - 2) ds * 10 ^ j) two)
 
+  -- a multiple of ten takes the place of the last two, and the list is one shorter
   pub tens_put : (number : ℕ) → number % 10 ≡ 0 → number_at k (set (take (k - 1) ds) (k - 2) (number / 10)) ≡ 100 * leading (k - 2) ds + number
   tens_put number z = omega (arith, put_tens (number / 10))
 
+  -- a number below 100 takes the place of the last two
   pub both_put : (number : ℕ) → number_at k (set (take (k - 1) ds ++ number % 10 ∷ []) (k - 2) (number / 10)) ≡ 100 * leading (k - 2) ds + number
   both_put number =
       let len : length (take (k - 1) ds) ≡ k - 1 = length-take-le (k - 1) ds (omega arith) in
@@ -60,6 +65,7 @@ module _ (k : ℕ) (ds : List ℕ) (p : 2 ≤ k) (h : k ≤ length ds + 1) where
 
 -- ---- what follows the first k digits
 module _ (top k : ℕ) (ds : List ℕ) (b : AllBelowBase 10 ds) (fits : length ds ≤ top) where
+  -- nothing follows
   pub behind_none : length ds ≤ k → number_at (top - k) (drop k ds) ≡ 0
   behind_none h = number_at-none (top - k) (drop k ds) (omega (arith, length-drop k ds))
 
@@ -90,15 +96,18 @@ module _ (top k digit : ℕ) (ds : List ℕ) (b : AllBelowBase 10 ds) (fits : le
   ten_places : 10 ^ (top - k) ≡ 10 ^ (top - (k + 1)) * 10
   ten_places = powers (top - (k + 1)) 1 (top - k) (omega arith)
 
+  -- a first digit below 5 is less than half
   pub below_half : digit < 5 → TailIs BelowHalf (number_at (top - k) (drop k ds)) (10 ^ (top - k))
   below_half l =
       let d : digit ≤ 4 = omega arith in
       let rest : number_at (top - (k + 1)) (drop (k + 1) ds) < 10 ^ (top - (k + 1)) = number_at-lt (top - (k + 1)) (drop (k + 1) ds) (below_drop (k + 1) ds b) (omega (arith, length-drop (k + 1) ds)) in
       (behind_pos top k ds b fits h back, omega (arith, first_behind top k ds b fits h, ten_places, ap (λ v. v * 10 ^ (top - (k + 1))) is, mul-le-mul_right (10 ^ (top - (k + 1))) d))
 
+  -- a 5 alone is half
   pub half : digit ≡ 5 → k + 1 ≡ length ds → TailIs Half (number_at (top - k) (drop k ds)) (10 ^ (top - k))
   half l e = omega (arith, first_behind top k ds b fits h, ten_places, ap (λ v. v * 10 ^ (top - (k + 1))) (sym is ∙ l), behind_none top (k + 1) ds b fits (omega arith))
 
+  -- a first digit above 5, or a 5 that more follows, is more than half
   pub above_half : 5 ≤ digit → (digit ≡ 5 → k + 1 < length ds) → TailIs AboveHalf (number_at (top - k) (drop k ds)) (10 ^ (top - k))
   above_half l more = (over, behind_lt top k ds b fits h)
     where

@@ -17,7 +17,7 @@ use Rattle.decimal_digits.specs.Tails.{leading, TailIs, RoundsTo, HasParts, HasD
 use Rattle.decimal_digits.proofs.Places.{place_is, magnitude_at-place, gap_is}
 use Rattle.decimal_digits.proofs.Ends.{first_is, last_is, first_zero}
 use Rattle.decimal_digits.proofs.DigitLists.{ten_pos}
-use Rattle.decimal_digits.proofs.NumberAt.{powers, number_at-none, number_at-more, number_at-split, number_at-lt, number_at-ge, number_at-pos, number_of-none}
+use Rattle.decimal_digits.proofs.NumberAt.{powers, number_at-none, number_at-more, number_at-split, number_at-lt, number_at-ge, number_at-pos}
 use Rattle.decimal_digits.proofs.Leading.{leading_none, leading_at}
 
 -- ---- before the rounding
@@ -58,6 +58,7 @@ pub rounded_parts : (mode : UnsignedRoundingMode) (step : ℕ) (tail : Tail) (n 
 rounded_parts mode step tail n u k v p (r, e, is) rounds = ap (rounded_number mode (step * u)) e ∙ rounds r u p is
 
 module _ (m : ℤ) (ds : List ℕ) (low : negsuc 32767 ≤ℤ m) (high : m ≤ℤ pos 32767) (b : AllBelowBase 10 ds) (fits : length ds ≤ place m + 1) (s : IsStripped ds) where
+  -- a list of digits with no 0 at either end spells its number
   pub spells : 0 < length ds → Spells ds m (number_of ds m)
   unfolding number_of
   spells some =
@@ -75,6 +76,7 @@ module _ (m : ℤ) (ds : List ℕ) (low : negsuc 32767 ≤ℤ m) (high : m ≤�
         greatest = high;
       }
 
+-- no digits spell 0, at the magnitude 0
 pub spells_none : (ds : List ℕ) (n : ℕ) → length ds ≡ 0 → n ≡ 0 → Spells ds (pos 0) n
 unfolding number_of
 spells_none ds n z e = record {
@@ -114,7 +116,3 @@ size_is p k m some d low h =
     let below : last (m * weight p) ≡ magnitude_at (place p) = last_is m (place p) d.ends (omega arith) in
     let nonzero : (m * weight p == 0) ≡ false = (let q : 0 < m * weight p = omega (arith, mul-pos (ten_pos (k - 1)) (ten_pos (place p))) in search rules) in
     rw (nonzero, above, below) (omega (arith, ints, gap_is (magnitude_at (place p)) (magnitude_at (k - 1 + place p))))
-
--- where no digit is left the magnitude is 0
-pub spells-empty : {ds : List ℕ} {m : ℤ} {n : ℕ} → Spells ds m n → length ds ≡ 0 → m ≡ pos 0
-spells-empty {ds} {m} w z = sym w.magnitude_is ∙ ap first (sym w.number ∙ number_of-none ds m z) ∙ first_zero

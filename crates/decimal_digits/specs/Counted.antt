@@ -1,4 +1,4 @@
--- A list of digits that is lent together with a count of turns. A turn is one read or one write of a digit.
+-- A list of digits that is lent together with a count of its turns.
 use Rattle.std.specs.Prelude.{◌≡◌, ℕ, ◌+◌, ◌≤◌}
 use Rattle.std.specs.Borrow.{MutBor}
 use Rattle.decimal_digits.specs.declared.digits.steps.Steps.{Steps}

@@ -49,7 +49,7 @@ last (suc n) = magnitude_at (greatest (λ k. suc n % 10 ^ k == 0) 65536)
 -- what `first` means: a 1 at m is at most the number, and a 1 one place higher is more; m is 0 for the number 0
 pub record IsFirst (number : ℕ) (m : ℤ) : Type 0 where
   pub reaches : 0 < number → weight m ≤ number
-  pub below : 0 < number → number < 10 ^ (place m + 1)
+  pub less : 0 < number → number < 10 ^ (place m + 1)
   pub none : number ≡ 0 → m ≡ pos 0
 
 -- what `last` means: a 1 at m divides the number, and no higher power of ten does; m is 0 for the number 0

@@ -54,7 +54,7 @@ below u n = n - n % u
 abbrev pub above : ℕ → ℕ → ℕ
 above u n = if n % u == 0 then n else n - n % u + u
 
--- the multiple of u that the mode names for n: the half modes hold twice the remainder against u
+-- the multiple of u that the mode names for n: the half modes compare twice the remainder with u
 unfoldable pub rounded_number : UnsignedRoundingMode → ℕ → ℕ → ℕ
 rounded_number Trunc u n = below u n
 rounded_number Expand u n = above u n

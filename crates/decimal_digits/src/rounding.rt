@@ -61,7 +61,7 @@ pub enum RoundingIncrement {
     MultiplesOf25,
 }
 
-/// Counts the places from a position up to the first digit, and holds what lies below them against half of a unit.
+/// Counts the places from a position up to the first digit, and compares what lies below them with half of a unit.
 fn parts_at<D: DigitStore>(
     counted: &mut Counted<'_, D>,
     magnitude: i16,
@@ -121,7 +121,7 @@ fn magnitude_after<D: DigitStore>(
 /// Err: memory was refused for one more digit, which only `MultiplesOf25` asks for, and only where the list has as many
 /// digits as are held without memory. The list then stays as it was.
 ///
-/// Each read and each write of a digit is one turn of the list. Not in the original, whose value holds these loops.
+/// It takes at most 7 turns, and one for each digit that vanishes. Not in the original, whose value holds these loops.
 pub fn round<D: DigitStore>(
     counted: &mut Counted<'_, D>,
     magnitude: i16,

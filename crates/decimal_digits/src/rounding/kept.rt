@@ -12,7 +12,7 @@ use super::{RoundingIncrement, UnsignedRoundingMode};
 use crate::digits::{Counted, DigitStore};
 use std::alloc::AllocError;
 
-/// Holds what follows the first `keep` digits against half of a unit of the last of them. One digit tells it.
+/// Compares what follows the first `keep` digits with half of a unit of the last of them. One digit tells it.
 pub fn tail_after<D: DigitStore>(counted: &mut Counted<'_, D>, keep: usize) -> Tail
     requires { IsStripped (D.digits (list_of counted.old)) }
     // Whatever the number of places is, from the first digit down.

@@ -3,6 +3,8 @@ use Rattle.decimal_digits.specs.Counted.{turns_of, Continues}
 use Rattle.decimal_digits.specs.Digits.{number_at}
 use Rattle.decimal_digits.proofs.rounding.ends.add_one.Given as goal
 
+-- the digits from `keep` on are 9, so that one more is a one in front of them,
+-- and for each of them one turn was taken
 abbrev pub invariant-loop-keep : goal.invariant-loop-keep
 invariant-loop-keep g l =
     let digits = g.D.DigitStore.digits l.counted.list.now in

@@ -3,6 +3,8 @@ use Rattle.decimal_digits.specs.Counted.{turns_of, Continues}
 use Rattle.decimal_digits.specs.Digits.{number_at}
 use Rattle.decimal_digits.proofs.rounding.ends.strip.Given as goal
 
+-- the digits from `keep` on are 0, so that the others are worth the same,
+-- and for each of them one turn was taken
 abbrev pub invariant-loop-keep : goal.invariant-loop-keep
 invariant-loop-keep g l =
     let digits = g.D.DigitStore.digits l.counted.list.now in
