@@ -22,11 +22,13 @@ after_is n (d ∷ ds) =
 pub number-append : (xs ys : List ℕ) → number_from_digits 10 (xs ++ ys) ≡ number_from_digits 10 xs * 10 ^ length ys + number_from_digits 10 ys
 number-append xs ys = number_after_append 10 0 xs ys ∙ after_is (number_from_digits 10 xs) ys
 
+-- what is left after the first k digits are digits
 pub below_drop : (k : ℕ) (ds : List ℕ) → AllBelowBase 10 ds → AllBelowBase 10 (drop k ds)
 below_drop zero ds h = h
 below_drop (suc k) [] h = tt
 below_drop (suc k) (d ∷ ds) h = below_drop k ds h.1
 
+-- the first k digits are digits
 pub below_take : (k : ℕ) (ds : List ℕ) → AllBelowBase 10 ds → AllBelowBase 10 (take k ds)
 below_take zero ds h = tt
 below_take (suc k) [] h = tt
@@ -36,6 +38,7 @@ below_take (suc k) (d ∷ ds) h = (h.0, below_take k ds h.1)
 pub number_split : (k : ℕ) (ds : List ℕ) → k ≤ length ds → number_from_digits 10 ds ≡ number_from_digits 10 (take k ds) * 10 ^ (length ds - k) + number_from_digits 10 (drop k ds)
 number_split k ds h = ap (number_from_digits 10) (sym (take-append-drop k ds)) ∙ number-append (take k ds) (drop k ds) ∙ ap (λ n. number_from_digits 10 (take k ds) * 10 ^ n + number_from_digits 10 (drop k ds)) (length-drop k ds)
 
+-- what follows the first k digits is less than one unit of the last of these
 pub number-drop-lt : (k : ℕ) (ds : List ℕ) → AllBelowBase 10 ds → number_from_digits 10 (drop k ds) < 10 ^ (length ds - k)
 number-drop-lt k ds h = subst (λ n. number_from_digits 10 (drop k ds) < 10 ^ n) (length-drop k ds) (number_lt 10 (drop k ds) (below_drop k ds h))
 
@@ -43,10 +46,7 @@ number-drop-lt k ds h = subst (λ n. number_from_digits 10 (drop k ds) < 10 ^ n)
 pub number-div : (k : ℕ) (ds : List ℕ) → AllBelowBase 10 ds → k ≤ length ds → number_from_digits 10 ds / 10 ^ (length ds - k) ≡ number_from_digits 10 (take k ds)
 number-div k ds b h = ap (λ n. n / 10 ^ (length ds - k)) (number_split k ds h) ∙ div-mul-add _ _ _ (number-drop-lt k ds b)
 
--- the remainder keeps the digits behind
-pub number-mod : (k : ℕ) (ds : List ℕ) → AllBelowBase 10 ds → k ≤ length ds → number_from_digits 10 ds % 10 ^ (length ds - k) ≡ number_from_digits 10 (drop k ds)
-number-mod k ds b h = ap (λ n. n % 10 ^ (length ds - k)) (number_split k ds h) ∙ mod-mul-add _ _ _ (number-drop-lt k ds b)
-
+-- each digit is below ten
 pub below_at : (i : ℕ) (ds : List ℕ) → AllBelowBase 10 ds → i < length ds → get_or ds i 0 < 10
 below_at i [] h p = absurd (omega arith)
 below_at zero (d ∷ ds) h p = h.0

@@ -7,6 +7,7 @@ use Rattle.std.proofs.lemmas.Bool.{cases_lt}
 use Rattle.decimal_digits.specs.Number.{greatest, first, last, magnitude_at}
 use Rattle.decimal_digits.proofs.DigitLists.{ten_pos}
 
+-- the greatest number that passes a test is the one that passes it and that none above does
 pub greatest_is : (test : ℕ → Bool) (n j : ℕ) → j < n → test j ≡ true → ((i : ℕ) → j < i → i < n → test i ≡ false) → greatest test n ≡ j
 unfolding greatest
 greatest_is test zero j h t f = absurd (omega arith)
@@ -24,6 +25,7 @@ unfolding first
 first_is zero k h l b = absurd (omega (arith, ten_pos k))
 first_is (suc n) k h l b = ap magnitude_at (greatest_is (λ i. nat_le (10 ^ i) (suc n)) 65536 k b (search (rules, h)) (λ i p q. let m : 10 ^ (k + 1) ≤ 10 ^ i = pow-le-pow_right (omega arith) (omega arith) in search rules))
 
+-- the last digit of a number is at the highest power of ten that divides it
 pub last_at : (n k : ℕ) → 0 < n → n % 10 ^ k ≡ 0 → ((i : ℕ) → k < i → ¬ (n % 10 ^ i ≡ 0)) → k < 65536 → last n ≡ magnitude_at k
 unfolding last
 last_at zero k h d f b = absurd (omega arith)
@@ -52,26 +54,31 @@ digit_above n k m h p =
     let z : n / 10 ^ m ≡ 0 = div-eq_of_lt (omega arith) in
     ap (λ x. x % 10) z
 
+-- digits shifted up and then further down
 pub shift_down : (v e m : ℕ) → e ≤ m → v * 10 ^ e / 10 ^ m ≡ v / 10 ^ (m - e)
 shift_down v e m h =
     let split : 10 ^ m ≡ 10 ^ (m - e) * 10 ^ e = ap (λ n. 10 ^ n) (let k : m ≡ (m - e) + e = omega arith in k) ∙ pow-add 10 (m - e) e in
     ap (λ n. v * 10 ^ e / n) split ∙ mul-div-mul_right v (10 ^ (m - e)) (ten_pos e)
 
+-- digits shifted up and then less far down
 pub shift_up : (v e m : ℕ) → m ≤ e → v * 10 ^ e / 10 ^ m ≡ v * 10 ^ (e - m)
 shift_up v e m h =
     let split : 10 ^ e ≡ 10 ^ (e - m) * 10 ^ m = ap (λ n. 10 ^ n) (let k : e ≡ (e - m) + m = omega arith in k) ∙ pow-add 10 (e - m) m in
     let same : v * 10 ^ e ≡ v * 10 ^ (e - m) * 10 ^ m = rw split (omega arith) in
     ap (λ n. n / 10 ^ m) same ∙ mul-div_cancel (v * 10 ^ (e - m)) (ten_pos m)
 
+-- below the zeros that a shift writes, each digit is 0
 pub digit_below : (v e m : ℕ) → m < e → v * 10 ^ e / 10 ^ m % 10 ≡ 0
 digit_below v e m h =
     let split : 10 ^ (e - m) ≡ 10 ^ (e - m - 1) * 10 = ap (λ n. 10 ^ n) (let k : e - m ≡ suc (e - m - 1) = omega arith in k) ∙ pow-suc 10 (e - m - 1) in
     ap (λ n. n % 10) (shift_up v e m (omega arith) ∙ (let s : v * 10 ^ (e - m) ≡ v * 10 ^ (e - m - 1) * 10 = rw split (omega arith) in s)) ∙ mul-mod_left (v * 10 ^ (e - m - 1)) 10
 
+-- the first digit of 0 is at the magnitude 0
 pub first_zero : first 0 ≡ pos 0
 unfolding first
 first_zero = refl
 
+-- the last digit of 0 is at the magnitude 0
 pub last_zero : last 0 ≡ pos 0
 unfolding last
 last_zero = refl

@@ -7,7 +7,7 @@ pub mod Naming
 pub mod RoundingLaws
 pub mod Tails
 pub mod NumberAt
-pub mod Fronts
+pub mod Leading
 pub mod Parts
 pub mod Results
 pub mod Halves

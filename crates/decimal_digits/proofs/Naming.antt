@@ -61,6 +61,7 @@ expand_named u n l = elim (cases_eq (n % u) 0) [
   | inr z ↦ named_above Expand u n (omega arith) (expand_above u (n / u) (n % u) l (omega arith))
 ]
 
+-- the remainder form is a number that the mode names
 pub rounded_number-named : (mode : UnsignedRoundingMode) (u n : ℕ) → 0 < u → Named mode u n (rounded_number mode u n)
 unfolding rounded_number
 rounded_number-named Trunc u n p = named_below Trunc u n (trunc_below u (n / u) (n % u) (mod-lt n p))

@@ -14,6 +14,7 @@ use Rattle.decimal_digits.proofs.DigitLists.{ten_pos, number-append, number_fron
 pub powers : (a b c : ℕ) → c ≡ a + b → 10 ^ c ≡ 10 ^ a * 10 ^ b
 powers a b c e = ap (λ k. 10 ^ k) e ∙ pow-add 10 a b
 
+-- no digits are worth 0
 pub number_at-none : (top : ℕ) (ds : List ℕ) → length ds ≡ 0 → number_at top ds ≡ 0
 unfolding number_at
 number_at-none top [] e = omega arith
@@ -39,20 +40,24 @@ number_at-split top k ds h l =
     ∙ number_at-append top (take k ds) (drop k ds) (omega (arith, length-take-le k ds h, length-drop k ds))
     ∙ ap (λ n. number_at top (take k ds) + number_at (top - n) (drop k ds)) (length-take-le k ds h)
 
+-- one digit counts its place
 pub number_at-one : (top d : ℕ) → number_at top (d ∷ []) ≡ d * 10 ^ (top - 1)
 unfolding number_at
 number_at-one top d = omega arith
 
+-- one digit more at the end adds what it counts there
 pub number_at-push : (top d : ℕ) (ds : List ℕ) → length ds < top → number_at top (ds ++ d ∷ []) ≡ number_at top ds + d * 10 ^ (top - (length ds + 1))
 number_at-push top d ds h =
     number_at-append top ds (d ∷ []) (omega arith)
     ∙ ap (λ n. number_at top ds + n) (number_at-one (top - length ds) d ∙ ap (λ k. d * 10 ^ k) (let e : top - length ds - 1 ≡ top - (length ds + 1) = omega arith in e))
 
+-- digits are worth less than a 1 in front of them
 pub number_at-lt : (top : ℕ) (ds : List ℕ) → AllBelowBase 10 ds → length ds ≤ top → number_at top ds < 10 ^ top
 unfolding number_at
 number_at-lt top ds b h =
     rw (powers (length ds) (top - length ds) top (omega arith)) (mul-lt-mul_of_pos_right (number_lt 10 ds b) (ten_pos (top - length ds)))
 
+-- digits whose first is not 0 are worth at least a 1 in its place
 pub number_at-ge : (top : ℕ) (ds : List ℕ) → 0 < length ds → 0 < get_or ds 0 0 → length ds ≤ top → 10 ^ (top - 1) ≤ number_at top ds
 unfolding number_at
 number_at-ge top ds p f h =
@@ -73,6 +78,7 @@ take_set_last k x ds p h =
     let all : take (k - 1 + 1) (set (take k ds) (k - 1) x) ≡ set (take k ds) (k - 1) x = take_all _ _ (omega (arith, length-set (take k ds) (k - 1) x)) in
     sym all ∙ take_more_set (take k ds) (k - 1) x (omega arith) ∙ ap (λ xs. xs ++ x ∷ []) (take-take (k - 1) k ds (omega arith))
 
+-- the last of the first k digits exchanged for another
 pub number_at-set : (top k x : ℕ) (ds : List ℕ) → 0 < k → k ≤ length ds → k ≤ top → number_at top (set (take k ds) (k - 1) x) ≡ number_at top (take (k - 1) ds) + x * 10 ^ (top - k)
 number_at-set top k x ds p h l =
     let len : length (take (k - 1) ds) ≡ k - 1 = length-take-le (k - 1) ds (omega arith) in
@@ -104,6 +110,7 @@ pub number_at-pos : (top : ℕ) (ds : List ℕ) → AllBelowBase 10 ds → 0 < l
 unfolding number_at
 number_at-pos top ds b p l = mul-pos (let e : number_from_digits 10 ds % 10 ≡ get_or ds (length ds - 1) 0 = number_back ds b p in omega (arith, mod-le (number_from_digits 10 ds) 10)) (ten_pos (top - length ds))
 
+-- no digits are worth 0 at each magnitude
 pub number_of-none : (ds : List ℕ) (m : ℤ) → length ds ≡ 0 → number_of ds m ≡ 0
 unfolding number_of
 number_of-none ds m z = number_at-none (place m + 1) ds z

@@ -11,44 +11,45 @@ use Rattle.decimal_digits.specs.declared.rounding.tail.Tail.{Tail}
 use Rattle.decimal_digits.specs.declared.rounding.tail.Tail.TheVariants.{BelowHalf}
 use Rattle.decimal_digits.specs.Number.{place, weight, first, last, size, magnitude_at}
 use Rattle.decimal_digits.specs.Digits.{number_at, number_of, IsStripped}
-use Rattle.decimal_digits.specs.Rounding.{rounded_number, Writes}
-use Rattle.decimal_digits.specs.Tails.{front, TailIs, RoundsTo, HasParts, HasDigits}
+use Rattle.decimal_digits.specs.Rounding.{rounded_number}
+use Rattle.decimal_digits.specs.Left.{Spells}
+use Rattle.decimal_digits.specs.Tails.{leading, TailIs, RoundsTo, HasParts, HasDigits}
 use Rattle.decimal_digits.proofs.Places.{place_is, magnitude_at-place, gap_is}
 use Rattle.decimal_digits.proofs.Ends.{first_is, last_is, first_zero}
 use Rattle.decimal_digits.proofs.DigitLists.{ten_pos}
-use Rattle.decimal_digits.proofs.NumberAt.{powers, number_at-none, number_at-more, number_at-split, number_at-lt, number_at-ge, number_at-pos, number_of-none}
-use Rattle.decimal_digits.proofs.Fronts.{front_none, front_at}
+use Rattle.decimal_digits.proofs.NumberAt.{powers, number_at-none, number_at-more, number_at-split, number_at-lt, number_at-ge, number_at-pos}
+use Rattle.decimal_digits.proofs.Leading.{leading_none, leading_at}
 
 -- ---- before the rounding
 -- the first k digits and what follows, also where there are fewer
-split_at : (top k : ℕ) (ds : List ℕ) → length ds ≤ top → k ≤ top → number_at top ds ≡ front k ds * 10 ^ (top - k) + number_at (top - k) (drop k ds)
+split_at : (top k : ℕ) (ds : List ℕ) → length ds ≤ top → k ≤ top → number_at top ds ≡ leading k ds * 10 ^ (top - k) + number_at (top - k) (drop k ds)
 split_at top k ds fits h = elim (cases_lt k (length ds)) [
-  | inl l ↦ number_at-split top k ds (omega arith) fits ∙ ap (λ n. n + number_at (top - k) (drop k ds)) (front_at top k ds h)
+  | inl l ↦ number_at-split top k ds (omega arith) fits ∙ ap (λ n. n + number_at (top - k) (drop k ds)) (leading_at top k ds h)
   | inr l ↦ let z : number_at (top - k) (drop k ds) ≡ 0 = number_at-none (top - k) (drop k ds) (omega (arith, length-drop k ds)) in
-      omega (arith, ap (number_at top) (take_all k ds l), front_at top k ds h)
+      omega (arith, ap (number_at top) (take_all k ds l), leading_at top k ds h)
 ]
 
 -- a position with k places at or above it
 pub parts_above : (m p : ℤ) (k : ℕ) (tail : Tail) (ds : List ℕ) → negsuc 32767 ≤ℤ m → negsuc 32767 ≤ℤ p → length ds ≤ place m + 1 → (p +ℤ pos k) ≡ (m +ℤ pos 1)
-    → ((top : ℕ) → length ds ≤ top → TailIs tail (number_at (top - k) (drop k ds)) (10 ^ (top - k))) → HasParts (number_of ds m) (weight p) (front k ds) tail
+    → ((top : ℕ) → length ds ≤ top → TailIs tail (number_at (top - k) (drop k ds)) (10 ^ (top - k))) → HasParts (number_of ds m) (weight p) (leading k ds) tail
 unfolding number_of
 parts_above m p k tail ds low low' fits at is =
     let top = place m + 1 in
     let e : top - k ≡ place p = omega (arith, ints, place_is m, place_is p) in (
       number_at (top - k) (drop k ds),
-      split_at top k ds fits (omega (arith, ints, place_is m, place_is p)) ∙ ap (λ i. front k ds * 10 ^ i + number_at (top - k) (drop k ds)) e,
+      split_at top k ds fits (omega (arith, ints, place_is m, place_is p)) ∙ ap (λ i. leading k ds * 10 ^ i + number_at (top - k) (drop k ds)) e,
       subst (λ i. TailIs tail (number_at (top - k) (drop k ds)) (10 ^ i)) e (is top fits),
     )
 
 -- a position above the place in front of the digits
-pub parts_below : (m p : ℤ) (ds : List ℕ) → negsuc 32767 ≤ℤ m → AllBelowBase 10 ds → 0 < length ds → 0 < get_or ds (length ds - 1) 0 → length ds ≤ place m + 1 → (m +ℤ pos 1) <ℤ p → HasParts (number_of ds m) (weight p) (front 0 ds) BelowHalf
+pub parts_below : (m p : ℤ) (ds : List ℕ) → negsuc 32767 ≤ℤ m → AllBelowBase 10 ds → 0 < length ds → 0 < get_or ds (length ds - 1) 0 → length ds ≤ place m + 1 → (m +ℤ pos 1) <ℤ p → HasParts (number_of ds m) (weight p) (leading 0 ds) BelowHalf
 unfolding number_of
 parts_below m p ds low b some back fits above =
     let top = place m + 1 in
     let l : number_at top ds < 10 ^ top = number_at-lt top ds b fits in
     let h : 10 ^ (top + 1) ≤ 10 ^ place p = pow-le-pow_right (omega arith) (omega (arith, ints, place_is m, place_is p)) in (
       number_at top ds,
-      omega (arith, ap (λ v. v * weight p) (front_none 0 ds refl)),
+      omega (arith, ap (λ v. v * weight p) (leading_none 0 ds refl)),
       (number_at-pos top ds b some back, omega (arith, powers top 1 (top + 1) refl)),
     )
 
@@ -57,9 +58,10 @@ pub rounded_parts : (mode : UnsignedRoundingMode) (step : ℕ) (tail : Tail) (n 
 rounded_parts mode step tail n u k v p (r, e, is) rounds = ap (rounded_number mode (step * u)) e ∙ rounds r u p is
 
 module _ (m : ℤ) (ds : List ℕ) (low : negsuc 32767 ≤ℤ m) (high : m ≤ℤ pos 32767) (b : AllBelowBase 10 ds) (fits : length ds ≤ place m + 1) (s : IsStripped ds) where
-  pub writes : 0 < length ds → Writes ds m (number_of ds m)
+  -- a list of digits with no 0 at either end spells its number
+  pub spells : 0 < length ds → Spells ds m (number_of ds m)
   unfolding number_of
-  writes some =
+  spells some =
       let less : number_at (place m + 1) ds < 10 ^ (place m + 1) = number_at-lt (place m + 1) ds b fits in
       let least : 10 ^ (place m + 1 - 1) ≤ number_at (place m + 1) ds = number_at-ge (place m + 1) ds some (s.front some) fits in
       let e : place m + 1 - 1 ≡ place m = omega arith in
@@ -74,9 +76,10 @@ module _ (m : ℤ) (ds : List ℕ) (low : negsuc 32767 ≤ℤ m) (high : m ≤�
         greatest = high;
       }
 
-pub writes_none : (ds : List ℕ) (n : ℕ) → length ds ≡ 0 → n ≡ 0 → Writes ds (pos 0) n
+-- no digits spell 0, at the magnitude 0
+pub spells_none : (ds : List ℕ) (n : ℕ) → length ds ≡ 0 → n ≡ 0 → Spells ds (pos 0) n
 unfolding number_of
-writes_none ds n z e = record {
+spells_none ds n z e = record {
   number = number_at-none (place (pos 0) + 1) ds z ∙ sym e;
   below_limit = omega (arith, ten_pos (place (pos 32768)));
   magnitude_is = ap first e ∙ first_zero;
@@ -97,8 +100,8 @@ module _ (p : ℤ) (places : ℕ) (ds : List ℕ) (low : negsuc 32767 ≤ℤ p) 
 
   -- the highest of the places is above 32767
   pub past_limit : 0 < length ds → 0 < get_or ds 0 0 → pos 32768 <ℤ (p +ℤ pos places) → weight (pos 32768) ≤ number_at places ds * weight p
-  past_limit some front h =
-      let a : 10 ^ (places + place p - 1) ≤ number_at (places + place p) ds = number_at-ge (places + place p) ds some front (omega arith) in
+  past_limit some first h =
+      let a : 10 ^ (places + place p - 1) ≤ number_at (places + place p) ds = number_at-ge (places + place p) ds some first (omega arith) in
       let l : 10 ^ place (pos 32768) ≤ 10 ^ (places + place p - 1) = pow-le-pow_right (omega arith) (omega (arith, ints, place_is p, place_is (pos 32768))) in
       omega (arith, moved (places + place p) refl)
 
@@ -113,7 +116,3 @@ size_is p k m some d low h =
     let below : last (m * weight p) ≡ magnitude_at (place p) = last_is m (place p) d.ends (omega arith) in
     let nonzero : (m * weight p == 0) ≡ false = (let q : 0 < m * weight p = omega (arith, mul-pos (ten_pos (k - 1)) (ten_pos (place p))) in search rules) in
     rw (nonzero, above, below) (omega (arith, ints, gap_is (magnitude_at (place p)) (magnitude_at (k - 1 + place p))))
-
--- where no digit is left the magnitude is 0
-pub writes-empty : {ds : List ℕ} {m : ℤ} {n : ℕ} → Writes ds m n → length ds ≡ 0 → m ≡ pos 0
-writes-empty {ds} {m} w z = sym w.magnitude_is ∙ ap first (sym w.number ∙ number_of-none ds m z) ∙ first_zero

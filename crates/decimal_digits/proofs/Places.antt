@@ -12,9 +12,11 @@ unfolding place
 place_is (pos n) = omega arith
 place_is (negsuc n) = omega arith
 
+-- a magnitude is the one at its place
 pub magnitude_at-place : (m : ℤ) → negsuc 32767 ≤ℤ m → magnitude_at (place m) ≡ m
 magnitude_at-place m h = omega (arith, ints, place_is m)
 
+-- a higher magnitude has a higher place
 pub place_le : (a b : ℤ) → negsuc 32767 ≤ℤ a → negsuc 32767 ≤ℤ b → a ≤ℤ b → place a ≤ place b
 place_le a b p q h = omega (arith, ints, place_is)
 

@@ -15,9 +15,11 @@ chooses_self HalfExpand u k = (λ j. omega arith, λ j h. omega arith)
 chooses_self HalfTrunc u k = (λ j. omega arith, λ j h. omega arith)
 chooses_self HalfEven u k = (λ j. omega arith, λ j h other. absurd (other (omega arith)))
 
+-- a multiple of the unit is rounded to itself
 pub rounded_number-multiple : (mode : UnsignedRoundingMode) (u k : ℕ) → 0 < u → rounded_number mode u (k * u) ≡ k * u
 rounded_number-multiple mode u k p = sym (named_is mode u (k * u) (k * u) p (k, refl, chooses_self mode u k))
 
+-- 0 is rounded to 0
 pub rounded_number-zero : (mode : UnsignedRoundingMode) (u : ℕ) → 0 < u → rounded_number mode u 0 ≡ 0
 rounded_number-zero mode u p = subst (λ z. rounded_number mode u z ≡ z) (zero-mul u) (rounded_number-multiple mode u 0 p)
 
@@ -37,6 +39,7 @@ module _ (u t n : ℕ) (p : 0 < u) (pt : 0 < t * u) where
       let fine : k * t * u ≤ n → k * t * u ≤ q * u = great (k * t) in
       sym (named_is Trunc (t * u) (rounded_number Trunc u n) _ pt (k, f, (omega (arith, fine, mul_assoc k t u, e), λ j h. great' j (omega (arith, e)))))
 
+  -- the coarser unit after the finer one, away from zero
   pub expand-coarser : rounded_number Expand (t * u) (rounded_number Expand u n) ≡ rounded_number Expand (t * u) n
   expand-coarser =
       let (q, e, (high, least)) = rounded_number-named Expand u n p in
@@ -55,9 +58,11 @@ module _ (u t n : ℕ) (p : 0 < u) (pt : 0 < t * u) where
 pub trunc_le : (u n : ℕ) → 0 < u → rounded_number Trunc u n ≤ n
 trunc_le u n p = let (q, e, (low, great)) = rounded_number-named Trunc u n p in omega (arith, e)
 
+-- the multiple above is at least the number
 pub le_expand : (u n : ℕ) → 0 < u → n ≤ rounded_number Expand u n
 le_expand u n p = let (q, e, (high, least)) = rounded_number-named Expand u n p in omega (arith, e)
 
+-- a coarser unit expands at least as far
 pub expand-le-coarser : (u t n : ℕ) → 0 < u → 0 < t * u → rounded_number Expand u n ≤ rounded_number Expand (t * u) n
 expand-le-coarser u t n p pt = omega (arith, expand-coarser u t n p pt, le_expand (t * u) (rounded_number Expand u n) pt)
 
@@ -68,6 +73,7 @@ monotone_named HalfExpand u n m a b l (q, e, (near, most)) (k, f, (near', most')
 monotone_named HalfTrunc u n m a b l (q, e, (near, least)) (k, f, (near', least')) = omega (arith, near k, near' q)
 monotone_named HalfEven u n m a b l (q, e, (near, even)) (k, f, (near', even')) = omega (arith, near k, near' q)
 
+-- a greater number is rounded to no less
 pub rounded_number-monotone : (mode : UnsignedRoundingMode) (u n m : ℕ) → 0 < u → n ≤ m → rounded_number mode u n ≤ rounded_number mode u m
 rounded_number-monotone mode u n m p l = elim (cases_eq n m) [
   | inl e ↦ omega (arith, ap (rounded_number mode u) e)

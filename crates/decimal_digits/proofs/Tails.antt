@@ -21,12 +21,14 @@ use Rattle.decimal_digits.proofs.DigitLists.{ten_pos}
 abbrev quarters_of : Tail → ℕ
 quarters_of tail = tag_of the_type tail
 
+-- less than half of the step, from quarters
 pub part_below : (tail : Tail) (step rest : ℕ) → 4 * rest + quarters_of tail < 2 * step → ¬ (4 * rest + quarters_of tail ≡ 0) → (r place : ℕ) → 0 < place → TailIs tail r place → TailIs BelowHalf (rest * place + r) (step * place)
 part_below Zero step rest h k r place p is = let l : 2 * rest + 1 ≤ step = omega arith in let s : 1 ≤ rest = omega arith in (omega (arith, mul-le-mul_right place s), omega (arith, mul-le-mul_right place l))
 part_below BelowHalf step rest h k r place p is = let l : 2 * rest + 1 ≤ step = omega arith in (omega arith, omega (arith, mul-le-mul_right place l))
 part_below Half step rest h k r place p is = let l : 2 * rest + 2 ≤ step = omega arith in (omega arith, omega (arith, mul-le-mul_right place l))
 part_below AboveHalf step rest h k r place p is = let l : 2 * rest + 2 ≤ step = omega arith in (omega arith, omega (arith, mul-le-mul_right place l))
 
+-- half of the step, from quarters
 pub part_half : (tail : Tail) (step rest : ℕ) → 4 * rest + quarters_of tail ≡ 2 * step → (r place : ℕ) → 0 < place → TailIs tail r place → TailIs Half (rest * place + r) (step * place)
 part_half Zero step rest h r place p is = let l : 2 * rest ≡ step = omega arith in omega (arith, ap (λ v. v * place) l)
 part_half BelowHalf step rest h r place p is = absurd (omega arith)
@@ -39,6 +41,7 @@ below_unit BelowHalf r u p is = omega arith
 below_unit Half r u p is = omega arith
 below_unit AboveHalf r u p is = omega arith
 
+-- more than half of the step, from quarters
 pub part_above : (tail : Tail) (step rest : ℕ) → rest < step → 2 * step < 4 * rest + quarters_of tail → (r place : ℕ) → 0 < place → TailIs tail r place → TailIs AboveHalf (rest * place + r) (step * place)
 part_above tail step rest l h r place p is = (over tail h is, let s : rest + 1 ≤ step = omega arith in omega (arith, mul-le-mul_right place s, below_unit tail r place p is))
   where
@@ -93,40 +96,43 @@ hundred MultiplesOf2 = refl
 hundred MultiplesOf5 = refl
 hundred MultiplesOf25 = refl
 
+-- an increment is above 0
 pub step_pos : (increment : RoundingIncrement) → 0 < step_of increment
 step_pos MultiplesOf1 = omega arith
 step_pos MultiplesOf2 = omega arith
 step_pos MultiplesOf5 = omega arith
 step_pos MultiplesOf25 = omega arith
 
+-- a unit is above 0
 pub unit_pos : (increment : RoundingIncrement) (position : ℤ) → 0 < unit_at increment position
 unit_pos increment position = mul-pos (step_pos increment) (ten_pos (place position))
 
 -- h times s is half of 100, and two is q times s and the rest
-module _ (h s q rest two front place : ℕ) (half : 2 * h * s ≡ 100) (whole : q * s + rest ≡ two) where
-  taken_apart : (r : ℕ) → (100 * front + two) * place + r ≡ (2 * (h * front) + q) * (s * place) + (rest * place + r)
-  taken_apart r = omega (arith, ap (λ v. v * (front * place)) half, ap (λ v. v * place) whole)
+module _ (h s q rest two hundreds place : ℕ) (half : 2 * h * s ≡ 100) (whole : q * s + rest ≡ two) where
+  taken_apart : (r : ℕ) → (100 * hundreds + two) * place + r ≡ (2 * (h * hundreds) + q) * (s * place) + (rest * place + r)
+  taken_apart r = omega (arith, ap (λ v. v * (hundreds * place)) half, ap (λ v. v * place) whole)
 
-  put_together : (up : Bool) → (2 * (h * front) + q + cond up 1 0) * (s * place) ≡ (100 * front + (two - rest + cond up s 0)) * place
-  put_together true = let e : two - rest ≡ q * s = omega arith in rw e (omega (arith, ap (λ v. v * (front * place)) half))
-  put_together false = let e : two - rest ≡ q * s = omega arith in rw e (omega (arith, ap (λ v. v * (front * place)) half))
+  put_together : (up : Bool) → (2 * (h * hundreds) + q + cond up 1 0) * (s * place) ≡ (100 * hundreds + (two - rest + cond up s 0)) * place
+  put_together true = let e : two - rest ≡ q * s = omega arith in rw e (omega (arith, ap (λ v. v * (hundreds * place)) half))
+  put_together false = let e : two - rest ≡ q * s = omega arith in rw e (omega (arith, ap (λ v. v * (hundreds * place)) half))
 
 -- the part of the step that is left, and the parity of its quotient, make the mode go up, or not
 pub two_by : (mode : UnsignedRoundingMode) (increment : RoundingIncrement) (tail left : Tail) (s two result : ℕ) (up : Bool) → s ≡ step_of increment
     → ((r place : ℕ) → 0 < place → TailIs tail r place → TailIs left (two % s * place + r) (s * place))
     → up ≡ goes_up_of mode left (two / s % 2 == 1)
     → result ≡ two - two % s + cond up s 0
-    → (front : ℕ) → RoundsTo mode (step_of increment) tail (100 * front + two) (100 * front + result)
-two_by mode increment tail left s two result up step part goes made front r place p is =
+    → (hundreds : ℕ) → RoundsTo mode (step_of increment) tail (100 * hundreds + two) (100 * hundreds + result)
+two_by mode increment tail left s two result up step part goes made hundreds r place p is =
     let h = half_steps increment in
-    let q = 2 * (h * front) + two / s in
+    let q = 2 * (h * hundreds) + two / s in
     let half : 2 * h * s ≡ 100 = ap (λ v. 2 * h * v) step ∙ hundred increment in
     let whole : two / s * s + two % s ≡ two = div-add-mod' two s in
     let pos : 0 < s = omega (arith, step_pos increment) in
     let parity : (two / s % 2 == 1) ≡ (q % 2 == 1) = ap (λ v. v == 1) (let e : two / s % 2 ≡ q % 2 = omega arith in e) in
-    rw (← step, made, goes) (ap (rounded_number mode (s * place)) (taken_apart h s (two / s) (two % s) two front place half whole r)
+    rw (← step, made, goes) (ap (rounded_number mode (s * place)) (taken_apart h s (two / s) (two % s) two hundreds place half whole r)
     ∙ rounded_by q (s * place) (two % s * place + r) (two / s % 2 == 1) (below_unit left _ _ (mul-pos pos p) (part r place p is)) parity mode left (part r place p is)
-    ∙ put_together h s (two / s) (two % s) two front place half whole (goes_up_of mode left (two / s % 2 == 1)))
+    ∙ put_together h s (two / s) (two % s) two hundreds place half whole (goes_up_of mode left (two / s % 2 == 1)))
 
+-- a rounding, under equations of the two numbers
 pub rounds_as : (mode : UnsignedRoundingMode) (step : ℕ) (tail : Tail) (k m k' m' : ℕ) → RoundsTo mode step tail k m → k' ≡ k → m' ≡ m → RoundsTo mode step tail k' m'
 rounds_as mode step tail k m k' m' rounds e f r place p is = rw (e, f) (rounds r place p is)

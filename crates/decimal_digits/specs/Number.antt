@@ -2,7 +2,15 @@
 use Rattle.std.specs.Prelude.{◌≡◌, ℕ, zero, suc, ◌+◌, ◌-◌, ◌/◌, ◌%◌, ◌^◌, ◌<◌, ◌≤◌, ◌==◌, Bool, cond, if◌then◌else◌, nat_le, ℤ, pos, negsuc, ◌-ℤ◌}
 use Rattle.std.specs.Int.{int_gap}
 
--- how far a magnitude lies above the lowest one, -32768
+-- the lowest magnitude, -32768
+abbrev pub lowest_magnitude : ℤ
+lowest_magnitude = negsuc 32767
+
+-- the highest magnitude, 32767
+abbrev pub highest_magnitude : ℤ
+highest_magnitude = pos 32767
+
+-- how far a magnitude lies above the lowest
 unfoldable pub place : ℤ → ℕ
 place (pos n) = 32768 + n
 place (negsuc n) = 32767 - n
@@ -10,6 +18,10 @@ place (negsuc n) = 32767 - n
 -- what a 1 at a magnitude counts, in units
 abbrev pub weight : ℤ → ℕ
 weight m = 10 ^ place m
+
+-- 10 to the 32768, which each number is below
+abbrev pub number_limit : ℕ
+number_limit = weight (pos 32768)
 
 -- the magnitude at a place
 abbrev pub magnitude_at : ℕ → ℤ
@@ -37,7 +49,7 @@ last (suc n) = magnitude_at (greatest (λ k. suc n % 10 ^ k == 0) 65536)
 -- what `first` means: a 1 at m is at most the number, and a 1 one place higher is more; m is 0 for the number 0
 pub record IsFirst (number : ℕ) (m : ℤ) : Type 0 where
   pub reaches : 0 < number → weight m ≤ number
-  pub below : 0 < number → number < 10 ^ (place m + 1)
+  pub less : 0 < number → number < 10 ^ (place m + 1)
   pub none : number ≡ 0 → m ≡ pos 0
 
 -- what `last` means: a 1 at m divides the number, and no higher power of ten does; m is 0 for the number 0

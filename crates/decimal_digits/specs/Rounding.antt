@@ -1,8 +1,7 @@
 -- Rounding of whole numbers to the multiples of a unit.
-use Rattle.std.specs.Prelude.{◌≡◌, ◌≢◌, ℕ, ◌+◌, ◌-◌, ◌*◌, ◌/◌, ◌%◌, ◌<◌, ◌≤◌, ◌==◌, nat_lt, if◌then◌else◌, List, [], length, Option, Some, None, ℤ, pos, negsuc, ◌≤ℤ◌}
+use Rattle.std.specs.Prelude.{◌≡◌, ◌≢◌, ℕ, ◌+◌, ◌-◌, ◌*◌, ◌/◌, ◌%◌, ◌≤◌, ◌==◌, nat_lt, if◌then◌else◌, ℤ}
 use Rattle.std.specs.Int.{abs_diff}
-use Rattle.decimal_digits.specs.Number.{place, weight, first, size}
-use Rattle.decimal_digits.specs.Digits.{number_of, IsStripped}
+use Rattle.decimal_digits.specs.Number.{weight, size}
 use Rattle.decimal_digits.specs.declared.rounding.RoundingIncrement.{RoundingIncrement}
 use Rattle.decimal_digits.specs.declared.rounding.RoundingIncrement.TheVariants.{MultiplesOf1, MultiplesOf2, MultiplesOf5, MultiplesOf25}
 use Rattle.decimal_digits.specs.declared.rounding.UnsignedRoundingMode.{UnsignedRoundingMode}
@@ -55,7 +54,7 @@ below u n = n - n % u
 abbrev pub above : ℕ → ℕ → ℕ
 above u n = if n % u == 0 then n else n - n % u + u
 
--- the multiple of u that the mode names for n: the half modes hold twice the remainder against u
+-- the multiple of u that the mode names for n: the half modes compare twice the remainder with u
 unfoldable pub rounded_number : UnsignedRoundingMode → ℕ → ℕ → ℕ
 rounded_number Trunc u n = below u n
 rounded_number Expand u n = above u n
@@ -67,29 +66,11 @@ rounded_number HalfEven u n =
     else if n / u % 2 == 0 then below u n
     else above u n
 
--- ---- What a rounding leaves.
+-- ---- When a rounding wants memory.
 
--- the digits write the number n, which is below 10 to the 32768, from the magnitude of its first digit down
-pub record Writes (digits : List ℕ) (magnitude : ℤ) (n : ℕ) : Type 0 where
-  pub number : number_of digits magnitude ≡ n
-  pub below_limit : n < weight (pos 32768)
-  pub magnitude_is : first n ≡ magnitude
-  pub stripped : IsStripped digits
-  pub fits : length digits ≤ place magnitude + 1
-  pub least : negsuc 32767 ≤ℤ magnitude
-  pub greatest : magnitude ≤ℤ pos 32767
-
--- the digits write n from this magnitude on; or there is no magnitude, n reaches 10 to the 32768, and no digit is left
-abbrev pub Leaves : Option ℤ → List ℕ → ℕ → Type 0
-Leaves (Some magnitude) digits n = Writes digits magnitude n
-Leaves None digits n = (weight (pos 32768) ≤ n) × (digits ≡ [])
-
--- no digit stands below the position
-abbrev pub IsAbove : ℤ → List ℕ → ℤ → Type 0
-IsAbove position digits magnitude = 0 < length digits → place position + length digits ≤ place magnitude + 1
-
--- the one want of memory: by 25, n has one digit more than these, and no more than these are held without memory
-pub record WantsMemory (increment : RoundingIncrement) (digits n held : ℕ) : Type 0 where
+-- memory is wanted only by 25, and only where n has one digit more than the `digits` before, of which there are
+-- as many as fit with no memory, or more
+pub record WantsMemory (increment : RoundingIncrement) (digits n fit : ℕ) : Type 0 where
   pub by_25 : increment ≡ MultiplesOf25
   pub longer : size n ≡ digits + 1
-  pub full : held ≤ digits
+  pub full : fit ≤ digits

@@ -1,4 +1,5 @@
--- What is left below a place, and what a rounding makes of it; the contracts of private functions speak of these.
+-- Private: only the contracts of private functions speak of these.
+-- What is left below a place, and what a rounding makes of it.
 use Rattle.std.specs.Prelude.{◌≡◌, ℕ, ◌+◌, ◌-◌, ◌*◌, ◌%◌, ◌^◌, ◌<◌, ◌≤◌, Bool, true, false, List, take}
 use Rattle.decimal_digits.specs.declared.rounding.UnsignedRoundingMode.{UnsignedRoundingMode}
 use Rattle.decimal_digits.specs.declared.rounding.UnsignedRoundingMode.TheVariants.{Expand, Trunc, HalfExpand, HalfTrunc, HalfEven}
@@ -31,8 +32,8 @@ RoundsTo mode step tail k m =
     (r place : ℕ) → 0 < place → TailIs tail r place → rounded_number mode (step * place) (k * place + r) ≡ m * place
 
 -- the number that the first k digits write, where zeros follow the list
-abbrev pub front : ℕ → List ℕ → ℕ
-front k digits = number_at k (take k digits)
+abbrev pub leading : ℕ → List ℕ → ℕ
+leading k digits = number_at k (take k digits)
 
 -- n is k of a place, and below it the tail
 abbrev pub HasParts : ℕ → ℕ → ℕ → Tail → Type 0

@@ -1,4 +1,4 @@
-//! Lists of digits, most significant first, however they are kept.
+//! Lists of digits, most significant first, however they are stored.
 ghost use Rattle.std.specs.Prelude.{◌≡◌, ℕ, ◌+◌, ◌<◌, ◌≤◌, ◌↔◌, List, [], ◌∷◌, ◌++◌, length, take, drop, replicate, slice_set, slice_index, All, IsTrue, IsOk, IfOk, OnOk, OnErr};
 
 mod counted;

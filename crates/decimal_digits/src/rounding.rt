@@ -1,9 +1,11 @@
 //! Rounding of digits: modes, increments, and the call that rounds a list.
 ghost use Rattle.std.specs.Prelude.{◌≡◌, ◌≢◌, ◌+◌, ◌*◌, ◌<◌, ◌≤◌, ◌↔◌, length, IfSome, IsOk, IfOk, OnErr};
+ghost use Rattle.decimal_digits.specs.Counted.{list_of, turns_of, Continues, OnlyReads};
 ghost use Rattle.decimal_digits.specs.Number.{place, weight};
 ghost use Rattle.decimal_digits.specs.Digits.{number_at, number_of, IsStripped};
-ghost use Rattle.decimal_digits.specs.Rounding.{unit_at, Named, rounded_number, Leaves, IsAbove, WantsMemory};
-ghost use Rattle.decimal_digits.specs.Tails.{front, HasParts};
+ghost use Rattle.decimal_digits.specs.Rounding.{unit_at, Named, rounded_number, WantsMemory};
+ghost use Rattle.decimal_digits.specs.Left.{Leaves, IsAbove};
+ghost use Rattle.decimal_digits.specs.Tails.{leading, HasParts};
 
 mod ends;
 mod kept;
@@ -59,24 +61,24 @@ pub enum RoundingIncrement {
     MultiplesOf25,
 }
 
-/// Counts the places from a position up to the first digit, and holds what lies below them against half of a unit.
-fn split<D: DigitStore>(list: &mut Counted<'_, D>, magnitude: i16, position: i16) -> (usize, Tail)
-    requires some { 0 < length (D.digits list.old.list.now) }
-    requires stripped { IsStripped (D.digits list.old.list.now) }
-    requires fits { length (D.digits list.old.list.now) ≤ place magnitude + 1 }
-    ensures parts { let digits = D.digits list.old.list.now in
-        HasParts (number_of digits magnitude) (weight position) (front result.0 digits) result.1 }
-    ensures exact { (result.1 ≡ Tail.Zero) ↔ (length (D.digits list.old.list.now) ≤ result.0) }
+/// Counts the places from a position up to the first digit, and compares what lies below them with half of a unit.
+fn parts_at<D: DigitStore>(
+    counted: &mut Counted<'_, D>,
+    magnitude: i16,
+    position: i16,
+) -> (usize, Tail)
+    requires some { 0 < length (D.digits (list_of counted.old)) }
+    requires stripped { IsStripped (D.digits (list_of counted.old)) }
+    requires fits { length (D.digits (list_of counted.old)) ≤ place magnitude + 1 }
+    ensures parts { let digits = D.digits (list_of counted.old) in
+        HasParts (number_of digits magnitude) (weight position) (leading result.0 digits) result.1 }
+    ensures exact { (result.1 ≡ Tail.Zero) ↔ (length (D.digits (list_of counted.old)) ≤ result.0) }
     ensures few { result.0 ≤ 65536 }
     ensures below_limit { 0 < result.0 → place position + result.0 ≤ 65536 }
-    ensures list { list.new.list.now ≡ list.old.list.now }
-    ensures grows { list.old.steps.now.count ≤ list.new.steps.now.count }
-    ensures turns { list.new.steps.now.count ≤ list.old.steps.now.count + 1 }
-    ensures same_list { list.new.list.ghost_name ≡ list.old.list.ghost_name }
-    ensures same_steps { list.new.steps.ghost_name ≡ list.old.steps.ghost_name }
+    ensures reads { OnlyReads 1 counted.old counted.new }
 {
     match places_above(position, magnitude) {
-        Some(keep) => (keep, tail_after(list, keep)),
+        Some(keep) => (keep, tail_after(counted, keep)),
         None => (0, Tail::BelowHalf),
     }
 }
@@ -84,23 +86,26 @@ fn split<D: DigitStore>(list: &mut Counted<'_, D>, magnitude: i16, position: i16
 /// Gives the magnitude of the first digit, where the list has so many places above a position, and 0 where it is empty.
 ///
 /// None: that magnitude is above 32767. The digits are then dropped.
-fn placed<D: DigitStore>(list: &mut Counted<'_, D>, position: i16, places: usize) -> Option<i16>
-    requires stripped { IsStripped (D.digits list.old.list.now) }
-    requires fits { length (D.digits list.old.list.now) ≤ places }
+fn magnitude_after<D: DigitStore>(
+    counted: &mut Counted<'_, D>,
+    position: i16,
+    places: usize,
+) -> Option<i16>
+    requires stripped { IsStripped (D.digits (list_of counted.old)) }
+    requires fits { length (D.digits (list_of counted.old)) ≤ places }
     requires few { places ≤ 65537 }
-    ensures leaves { Leaves result (D.digits list.new.list.now)
-        (number_at places (D.digits list.old.list.now) * weight position) }
-    ensures above { IfSome result (IsAbove position (D.digits list.new.list.now)) }
-    ensures length { length (D.digits list.new.list.now) ≤ length (D.digits list.old.list.now) }
-    ensures steps { list.new.steps.now ≡ list.old.steps.now }
-    ensures same_list { list.new.list.ghost_name ≡ list.old.list.ghost_name }
-    ensures same_steps { list.new.steps.ghost_name ≡ list.old.steps.ghost_name }
+    ensures leaves { Leaves result (D.digits (list_of counted.new))
+        (number_at places (D.digits (list_of counted.old)) * weight position) }
+    ensures above { IfSome result (IsAbove position (D.digits (list_of counted.new))) }
+    ensures length { length (D.digits (list_of counted.new)) ≤ length (D.digits (list_of counted.old)) }
+    ensures turns { turns_of counted.new ≡ turns_of counted.old }
+    ensures lent { Continues counted.old counted.new }
 {
-    if list.len() == 0 {
+    if counted.len() == 0 {
         return Some(0);
     }
     let Some(magnitude) = highest_of(position, places) else {
-        list.clear();
+        counted.clear();
         return None;
     };
     Some(magnitude)
@@ -116,42 +121,40 @@ fn placed<D: DigitStore>(list: &mut Counted<'_, D>, position: i16, places: usize
 /// Err: memory was refused for one more digit, which only `MultiplesOf25` asks for, and only where the list has as many
 /// digits as are held without memory. The list then stays as it was.
 ///
-/// Each read and each write of a digit is one turn of the list. Not in the original, whose value holds these loops.
+/// It takes at most 7 turns, and one for each digit that vanishes. Not in the original, whose value holds these loops.
 pub fn round<D: DigitStore>(
-    list: &mut Counted<'_, D>,
+    counted: &mut Counted<'_, D>,
     magnitude: i16,
     position: i16,
     mode: UnsignedRoundingMode,
     increment: RoundingIncrement,
 ) -> Result<Option<i16>, AllocError>
-    requires stripped { IsStripped (D.digits list.old.list.now) }
-    requires fits { length (D.digits list.old.list.now) ≤ place magnitude + 1 }
-    ensures ok { let number = number_of (D.digits list.old.list.now) magnitude in
-        IfOk result (λ answer. Leaves answer (D.digits list.new.list.now)
+    requires stripped { IsStripped (D.digits (list_of counted.old)) }
+    requires fits { length (D.digits (list_of counted.old)) ≤ place magnitude + 1 }
+    ensures ok { let number = number_of (D.digits (list_of counted.old)) magnitude in
+        IfOk result (λ answer. Leaves answer (D.digits (list_of counted.new))
         (rounded_number mode (unit_at increment position) number)) }
     ensures above { IfOk result (λ answer.
-        IfSome answer (IsAbove position (D.digits list.new.list.now))) }
+        IfSome answer (IsAbove position (D.digits (list_of counted.new)))) }
     // That number is the one which the mode names among all multiples.
-    ensures named { let number = number_of (D.digits list.old.list.now) magnitude in
+    ensures named { let number = number_of (D.digits (list_of counted.old)) magnitude in
         let unit = unit_at increment position in
         Named mode unit number (rounded_number mode unit number) }
 
-    ensures err { OnErr result (D.digits list.new.list.now ≡ D.digits list.old.list.now) }
-    ensures memory { let number = number_of (D.digits list.old.list.now) magnitude in
-        OnErr result (WantsMemory increment (length (D.digits list.old.list.now))
+    ensures err { OnErr result (D.digits (list_of counted.new) ≡ D.digits (list_of counted.old)) }
+    ensures memory { let number = number_of (D.digits (list_of counted.old)) magnitude in
+        OnErr result (WantsMemory increment (length (D.digits (list_of counted.old)))
         (rounded_number mode (unit_at increment position) number) D.L) }
     ensures succeeds { increment ≢ RoundingIncrement.MultiplesOf25 → IsOk result }
 
-    ensures grows { list.old.steps.now.count ≤ list.new.steps.now.count }
-    ensures turns { list.new.steps.now.count + length (D.digits list.new.list.now)
-        ≤ list.old.steps.now.count + length (D.digits list.old.list.now) + 7 }
-    ensures same_list { list.new.list.ghost_name ≡ list.old.list.ghost_name }
-    ensures same_steps { list.new.steps.ghost_name ≡ list.old.steps.ghost_name }
+    ensures turns { turns_of counted.new + length (D.digits (list_of counted.new))
+        ≤ turns_of counted.old + length (D.digits (list_of counted.old)) + 7 }
+    ensures lent { Continues counted.old counted.new }
 {
-    if list.len() == 0 {
+    if counted.len() == 0 {
         return Ok(Some(0));
     }
-    let (keep, tail) = split(list, magnitude, position);
-    let places = round_kept(list, keep, tail, mode, increment)?;
-    Ok(placed(list, position, places))
+    let (keep, tail) = parts_at(counted, magnitude, position);
+    let places = round_kept(counted, keep, tail, mode, increment)?;
+    Ok(magnitude_after(counted, position, places))
 }

@@ -1,5 +1,6 @@
-//! Each public call once, and sinks that fail.
+//! Each public call once, what no clause says, and sinks that fail.
 
 mod lists;
+mod modes;
 mod packed;
 mod sinks;

@@ -25,7 +25,7 @@ module _ {ds : List ℕ} {m hi lo : ℤ} (t : IsStored ds m hi lo) where
   pub is_first : IsFirst (number_of ds m) m
   is_first = record {
     reaches = λ p. number_of-ge t (some p);
-    below = λ p. number_of-lt t;
+    less = λ p. number_of-lt t;
     none = λ z. t.empty (none_of t z);
   }
 

@@ -9,7 +9,7 @@ use Rattle.std.proofs.lemmas.Bool.{cases_lt}
 use Rattle.std.proofs.lemmas.Bool.Decides.{nat_tests}
 use Rattle.decimal_digits.specs.Number.{place, weight, first, size}
 use Rattle.decimal_digits.specs.Digits.{number_of, IsStripped}
-use Rattle.decimal_digits.specs.Rounding.{Leaves, IsAbove}
+use Rattle.decimal_digits.specs.Left.{Leaves, IsAbove}
 use Rattle.decimal_digits.proofs.Ends.{first_zero}
 use Rattle.decimal_digits.proofs.NumberAt.{number_of-none}
 use Rattle.decimal_digits.proofs.Places.{place_is}

@@ -1,5 +1,6 @@
 //! A list of digits whose reads and writes are counted.
 ghost use Rattle.std.specs.Prelude.{◌≡◌, ℕ, ◌+◌, ◌<◌, ◌≤◌, [], ◌∷◌, ◌++◌, length, take, slice_index, slice_set, IsOk, OnOk};
+ghost use Rattle.decimal_digits.specs.Counted.{list_of, turns_of, IsLent, Continues};
 
 use super::{DigitStore, Steps};
 use std::alloc::AllocError;
@@ -7,7 +8,8 @@ use std::alloc::AllocError;
 /// A list of digits, lent together with the `Steps` that count its turns.
 ///
 /// `get`, `set` and `push_in_room` are one turn each; the other calls read and write no digit, and are none. The list
-/// and the count are changed in place. Not in the original.
+/// and the count are changed in place. Contracts see the list, the turns so far, and that both are still the ones that
+/// were lent. Not in the original.
 #[derive(Drop)]
 pub struct Counted<'a, D: DigitStore> {
     list: &'a mut D,
@@ -17,10 +19,9 @@ pub struct Counted<'a, D: DigitStore> {
 impl<'a, D: DigitStore> Counted<'a, D> {
     /// Lends a list and a count, and changes neither.
     pub fn new(list: &'a mut D, steps: &'a mut Steps) -> Self
-        ensures list { result.list.now ≡ list.old }
-        ensures steps { result.steps.now ≡ steps.old }
-        ensures same_list { result.list.ghost_name ≡ list.entry.ghost_name }
-        ensures same_steps { result.steps.ghost_name ≡ steps.entry.ghost_name }
+        ensures list { list_of result ≡ list.old }
+        ensures turns { turns_of result ≡ steps.old.count }
+        ensures lent { IsLent list.entry steps.entry result }
     {
         Counted { list, steps }
     }
@@ -28,7 +29,7 @@ impl<'a, D: DigitStore> Counted<'a, D> {
     /// Counts the digits.
     #[inline]
     pub fn len(&self) -> usize
-        ensures { result ≡ length (D.digits self.now.list.now) }
+        ensures { result ≡ length (D.digits (list_of self.now)) }
     {
         self.list.len()
     }
@@ -38,12 +39,11 @@ impl<'a, D: DigitStore> Counted<'a, D> {
     /// Requires an index in range.
     #[inline]
     pub fn get(&mut self, index: usize) -> u8
-        requires { index < length (D.digits self.old.list.now) }
-        ensures value { result ≡ slice_index (D.digits self.old.list.now) index }
-        ensures list { self.new.list.now ≡ self.old.list.now }
-        ensures ticks { self.new.steps.now.count ≡ self.old.steps.now.count + 1 }
-        ensures same_list { self.new.list.ghost_name ≡ self.old.list.ghost_name }
-        ensures same_steps { self.new.steps.ghost_name ≡ self.old.steps.ghost_name }
+        requires { index < length (D.digits (list_of self.old)) }
+        ensures value { result ≡ slice_index (D.digits (list_of self.old)) index }
+        ensures list { list_of self.new ≡ list_of self.old }
+        ensures turns { turns_of self.new ≡ turns_of self.old + 1 }
+        ensures lent { Continues self.old self.new }
     {
         self.steps.tick();
         self.list.get(index)
@@ -54,13 +54,12 @@ impl<'a, D: DigitStore> Counted<'a, D> {
     /// Requires an index in range and a digit 0 to 9.
     #[inline]
     pub fn set(&mut self, index: usize, digit: u8)
-        requires in_range { index < length (D.digits self.old.list.now) }
+        requires in_range { index < length (D.digits (list_of self.old)) }
         requires is_digit { digit < 10 }
-        ensures digits { D.digits self.new.list.now
-            ≡ slice_set (D.digits self.old.list.now) index digit }
-        ensures ticks { self.new.steps.now.count ≡ self.old.steps.now.count + 1 }
-        ensures same_list { self.new.list.ghost_name ≡ self.old.list.ghost_name }
-        ensures same_steps { self.new.steps.ghost_name ≡ self.old.steps.ghost_name }
+        ensures digits { D.digits (list_of self.new)
+            ≡ slice_set (D.digits (list_of self.old)) index digit }
+        ensures turns { turns_of self.new ≡ turns_of self.old + 1 }
+        ensures lent { Continues self.old self.new }
     {
         self.steps.tick();
         self.list.set(index, digit);
@@ -71,13 +70,12 @@ impl<'a, D: DigitStore> Counted<'a, D> {
     /// Requires room, as after `reserve`, and a digit 0 to 9. The room becomes smaller by at most one.
     #[inline]
     pub fn push_in_room(&mut self, digit: u8)
-        requires has_room { 0 < D.room self.old.list.now }
+        requires has_room { 0 < D.room (list_of self.old) }
         requires is_digit { digit < 10 }
-        ensures digits { D.digits self.new.list.now ≡ D.digits self.old.list.now ++ digit ∷ [] }
-        ensures room { D.room self.old.list.now ≤ D.room self.new.list.now + 1 }
-        ensures ticks { self.new.steps.now.count ≡ self.old.steps.now.count + 1 }
-        ensures same_list { self.new.list.ghost_name ≡ self.old.list.ghost_name }
-        ensures same_steps { self.new.steps.ghost_name ≡ self.old.steps.ghost_name }
+        ensures digits { D.digits (list_of self.new) ≡ D.digits (list_of self.old) ++ digit ∷ [] }
+        ensures room { D.room (list_of self.old) ≤ D.room (list_of self.new) + 1 }
+        ensures turns { turns_of self.new ≡ turns_of self.old + 1 }
+        ensures lent { Continues self.old self.new }
     {
         self.steps.tick();
         self.list.push_in_room(digit);
@@ -87,12 +85,11 @@ impl<'a, D: DigitStore> Counted<'a, D> {
     ///
     /// Err: memory was refused, which needs more than `L` digits in all. The list stays as it is either way.
     pub fn reserve(&mut self, count: usize) -> Result<(), AllocError>
-        ensures ok { OnOk result (count ≤ D.room self.new.list.now) }
-        ensures digits { D.digits self.new.list.now ≡ D.digits self.old.list.now }
-        ensures succeeds { length (D.digits self.old.list.now) + count ≤ D.L → IsOk result }
-        ensures steps { self.new.steps.now ≡ self.old.steps.now }
-        ensures same_list { self.new.list.ghost_name ≡ self.old.list.ghost_name }
-        ensures same_steps { self.new.steps.ghost_name ≡ self.old.steps.ghost_name }
+        ensures ok { OnOk result (count ≤ D.room (list_of self.new)) }
+        ensures digits { D.digits (list_of self.new) ≡ D.digits (list_of self.old) }
+        ensures succeeds { length (D.digits (list_of self.old)) + count ≤ D.L → IsOk result }
+        ensures turns { turns_of self.new ≡ turns_of self.old }
+        ensures lent { Continues self.old self.new }
     {
         self.list.reserve(count)
     }
@@ -101,21 +98,19 @@ impl<'a, D: DigitStore> Counted<'a, D> {
     ///
     /// Requires at least so many.
     pub fn truncate(&mut self, count: usize)
-        requires { count ≤ length (D.digits self.old.list.now) }
-        ensures digits { D.digits self.new.list.now ≡ take count (D.digits self.old.list.now) }
-        ensures steps { self.new.steps.now ≡ self.old.steps.now }
-        ensures same_list { self.new.list.ghost_name ≡ self.old.list.ghost_name }
-        ensures same_steps { self.new.steps.ghost_name ≡ self.old.steps.ghost_name }
+        requires { count ≤ length (D.digits (list_of self.old)) }
+        ensures digits { D.digits (list_of self.new) ≡ take count (D.digits (list_of self.old)) }
+        ensures turns { turns_of self.new ≡ turns_of self.old }
+        ensures lent { Continues self.old self.new }
     {
         self.list.truncate(count);
     }
 
     /// Drops all digits.
     pub fn clear(&mut self)
-        ensures digits { D.digits self.new.list.now ≡ [] }
-        ensures steps { self.new.steps.now ≡ self.old.steps.now }
-        ensures same_list { self.new.list.ghost_name ≡ self.old.list.ghost_name }
-        ensures same_steps { self.new.steps.ghost_name ≡ self.old.steps.ghost_name }
+        ensures digits { D.digits (list_of self.new) ≡ [] }
+        ensures turns { turns_of self.new ≡ turns_of self.old }
+        ensures lent { Continues self.old self.new }
     {
         self.list.clear();
     }

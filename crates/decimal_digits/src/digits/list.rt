@@ -5,7 +5,7 @@ use super::DigitStore;
 use smallvec::SmallVec;
 use std::alloc::{AllocError, Global};
 
-/// A list of digits with one digit to a byte, of which the first eight lie in place.
+/// A list of digits with one digit to a byte, of which up to eight need no allocation.
 ///
 /// The list that `from_digits` makes of 2, 5 and 0 has three digits and no allocation. The original keeps its digits so.
 #[derive(Debug, Drop)]

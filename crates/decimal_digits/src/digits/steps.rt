@@ -4,7 +4,7 @@ ghost use Rattle.std.specs.Borrow.{ftrue};
 
 use std::marker::Model;
 
-/// Counts turns: the reads and the writes of single digits.
+/// Counts turns. A turn is one read or one write of a single digit by a rounding.
 ///
 /// Contracts see `count`; at run time it has no bytes. `tick` adds one, and no other call changes a `Steps`, but its
 /// owner may put a new one in its place. Not in the original.

@@ -1,8 +1,9 @@
 //! Rounding of the digits that are kept, by what follows them.
 ghost use Rattle.std.specs.Prelude.{◌≡◌, ℕ, ◌+◌, ◌-◌, ◌^◌, ◌<◌, ◌≤◌, ◌↔◌, length, drop, IfOk, OnErr};
+ghost use Rattle.decimal_digits.specs.Counted.{list_of, turns_of, Continues, OnlyReads};
 ghost use Rattle.decimal_digits.specs.Digits.{number_at, IsStripped};
 ghost use Rattle.decimal_digits.specs.Rounding.{step_of};
-ghost use Rattle.decimal_digits.specs.Tails.{front, TailIs, RoundsTo, HasDigits};
+ghost use Rattle.decimal_digits.specs.Tails.{leading, TailIs, RoundsTo, HasDigits};
 
 use super::ends::{add_one, strip};
 use super::tail::{Tail, rounded_two};
@@ -11,24 +12,20 @@ use super::{RoundingIncrement, UnsignedRoundingMode};
 use crate::digits::{Counted, DigitStore};
 use std::alloc::AllocError;
 
-/// Holds what follows the first `keep` digits against half of a unit of the last of them. One digit tells it.
-pub fn tail_after<D: DigitStore>(list: &mut Counted<'_, D>, keep: usize) -> Tail
-    requires { IsStripped (D.digits list.old.list.now) }
+/// Compares what follows the first `keep` digits with half of a unit of the last of them. One digit tells it.
+pub fn tail_after<D: DigitStore>(counted: &mut Counted<'_, D>, keep: usize) -> Tail
+    requires { IsStripped (D.digits (list_of counted.old)) }
     // Whatever the number of places is, from the first digit down.
-    ensures tail { let digits = D.digits list.old.list.now in (top : ℕ) → length digits ≤ top
+    ensures tail { let digits = D.digits (list_of counted.old) in (top : ℕ) → length digits ≤ top
         → TailIs result (number_at (top - keep) (drop keep digits)) (10 ^ (top - keep)) }
-    ensures exact { (result ≡ Tail.Zero) ↔ (length (D.digits list.old.list.now) ≤ keep) }
-    ensures list { list.new.list.now ≡ list.old.list.now }
-    ensures grows { list.old.steps.now.count ≤ list.new.steps.now.count }
-    ensures turns { list.new.steps.now.count ≤ list.old.steps.now.count + 1 }
-    ensures same_list { list.new.list.ghost_name ≡ list.old.list.ghost_name }
-    ensures same_steps { list.new.steps.ghost_name ≡ list.old.steps.ghost_name }
+    ensures exact { (result ≡ Tail.Zero) ↔ (length (D.digits (list_of counted.old)) ≤ keep) }
+    ensures reads { OnlyReads 1 counted.old counted.new }
 {
-    let len = list.len();
+    let len = counted.len();
     if len <= keep {
         return Tail::Zero;
     }
-    match list.get(keep) {
+    match counted.get(keep) {
         0..=4 => Tail::BelowHalf,
         5 if keep + 1 == len => Tail::Half,
         _ => Tail::AboveHalf,
@@ -40,49 +37,47 @@ pub fn tail_after<D: DigitStore>(list: &mut Counted<'_, D>, keep: usize) -> Tail
 /// Err: memory was refused, which needs that by 25 the number gets a digit more than there were, and that there are as
 /// many as are held without memory. The list then stays as it was.
 pub fn round_kept<D: DigitStore>(
-    list: &mut Counted<'_, D>,
+    counted: &mut Counted<'_, D>,
     keep: usize,
     tail: Tail,
     mode: UnsignedRoundingMode,
     increment: RoundingIncrement,
 ) -> Result<usize, AllocError>
-    requires exact { (tail ≡ Tail.Zero) ↔ (length (D.digits list.old.list.now) ≤ keep) }
+    requires exact { (tail ≡ Tail.Zero) ↔ (length (D.digits (list_of counted.old)) ≤ keep) }
     requires short { keep ≤ 65536 }
-    requires stripped { IsStripped (D.digits list.old.list.now) }
+    requires stripped { IsStripped (D.digits (list_of counted.old)) }
     ensures value { IfOk result (λ places. RoundsTo mode (step_of increment) tail
-        (front keep (D.digits list.old.list.now)) (number_at places (D.digits list.new.list.now))) }
-    ensures length { IfOk result (λ places. length (D.digits list.new.list.now) ≤ places) }
+        (leading keep (D.digits (list_of counted.old))) (number_at places (D.digits (list_of counted.new)))) }
+    ensures length { IfOk result (λ places. length (D.digits (list_of counted.new)) ≤ places) }
     ensures places { IfOk result (λ places. places ≤ 65537) }
-    ensures stripped { IsStripped (D.digits list.new.list.now) }
-    ensures err { OnErr result (D.digits list.new.list.now ≡ D.digits list.old.list.now) }
+    ensures stripped { IsStripped (D.digits (list_of counted.new)) }
+    ensures err { OnErr result (D.digits (list_of counted.new) ≡ D.digits (list_of counted.old)) }
     ensures by_25 { OnErr result (increment ≡ RoundingIncrement.MultiplesOf25) }
-    ensures at_end { OnErr result (keep ≡ length (D.digits list.old.list.now) + 1) }
+    ensures at_end { OnErr result (keep ≡ length (D.digits (list_of counted.old)) + 1) }
     ensures longer { OnErr result ((m : ℕ) × HasDigits keep m
-        × RoundsTo mode (step_of increment) tail (front keep (D.digits list.old.list.now)) m) }
-    ensures full { OnErr result (D.L ≤ length (D.digits list.old.list.now)) }
-    ensures grows { list.old.steps.now.count ≤ list.new.steps.now.count }
-    ensures turns { list.new.steps.now.count + length (D.digits list.new.list.now)
-        ≤ list.old.steps.now.count + length (D.digits list.old.list.now) + 6 }
-    ensures same_list { list.new.list.ghost_name ≡ list.old.list.ghost_name }
-    ensures same_steps { list.new.steps.ghost_name ≡ list.old.steps.ghost_name }
+        × RoundsTo mode (step_of increment) tail (leading keep (D.digits (list_of counted.old))) m) }
+    ensures full { OnErr result (D.L ≤ length (D.digits (list_of counted.old))) }
+    ensures turns { turns_of counted.new + length (D.digits (list_of counted.new))
+        ≤ turns_of counted.old + length (D.digits (list_of counted.old)) + 6 }
+    ensures lent { Continues counted.old counted.new }
 {
-    let two = two_at(list, keep);
+    let two = two_at(counted, keep);
     let rounded = rounded_two(two, tail, mode, increment);
     if tail == Tail::Zero && rounded == two {
         return Ok(keep);
     }
     if keep <= 2 {
-        return Ok(write_all(list, rounded));
+        return Ok(write_all(counted, rounded));
     }
     if rounded == 0 {
-        list.truncate(keep - 2);
-        strip(list);
+        counted.truncate(keep - 2);
+        strip(counted);
         return Ok(keep);
     }
     if rounded == 100 {
-        list.truncate(keep - 2);
-        return Ok(add_one(list) + 2);
+        counted.truncate(keep - 2);
+        return Ok(add_one(counted) + 2);
     }
-    write_two(list, keep, rounded)?;
+    write_two(counted, keep, rounded)?;
     Ok(keep)
 }

@@ -5,7 +5,7 @@ ghost use Rattle.decimal_digits.specs.Tails.{TailIs, RoundsTo, goes_up_of};
 
 use super::{RoundingIncrement, UnsignedRoundingMode};
 
-/// What is left over, held against half of a unit.
+/// What is left over, compared with half of a unit.
 ///
 /// The numbers are quarters of the unit, where 1 and 3 stand for all that lies between nothing, half and the whole.
 #[derive(Clone, Copy, PartialEq, Eq)]
@@ -32,7 +32,7 @@ fn step(increment: RoundingIncrement) -> u8
     }
 }
 
-/// Holds `rest` of a place, and the tail below it, against half of `step` of that place.
+/// Compares `rest` of a place, and the tail below it, with half of `step` of that place.
 fn part_of(step: u8, rest: u8, tail: Tail) -> Tail
     requires small { step ≤ 25 }
     requires rest { rest < step }
@@ -78,8 +78,8 @@ pub fn rounded_two(
 ) -> u8
     requires { two < 100 }
     ensures at_most { result ≤ 100 }
-    ensures rounds { (front : ℕ)
-        → RoundsTo mode (step_of increment) tail (100 * front + two) (100 * front + result) }
+    ensures rounds { (hundreds : ℕ)
+        → RoundsTo mode (step_of increment) tail (100 * hundreds + two) (100 * hundreds + result) }
     ensures stays { tail ≡ Tail.Zero → two % step_of increment ≡ 0 → result ≡ two }
 {
     let step = step(increment);

@@ -1,5 +1,6 @@
 //! A list of digits, beyond the eight that lie in place.
 use crate::digits::{DigitList, DigitStore};
+use std::alloc::Global;
 use std::process::Abort;
 use std::test::Fail;
 
@@ -36,4 +37,19 @@ fn holds_digits(rt: HostRuntime) -> Result<(), Fail> {
     list.clear();
     assert!(rt; list.eq(&DigitList::empty(alloc)));
     Ok(())
+}
+
+fn assert_clones(rt: &impl Abort, alloc: Global, count: usize) -> Result<(), Fail> {
+    let list = DigitList::from_digits(alloc, &vec![in alloc; 7; count]?)?;
+    let copy = list.clone()?;
+    assert_eq!(rt; copy.len(), count);
+    assert!(rt; copy.eq(&list), "at {count}");
+    Ok(())
+}
+
+#[test]
+fn clones_longer_lists(rt: HostRuntime) -> Result<(), Fail> {
+    assert_clones(&rt, rt.alloc(), 9)?;
+    assert_clones(&rt, rt.alloc(), 64)?;
+    assert_clones(&rt, rt.alloc(), 65_536)
 }

@@ -5,26 +5,39 @@ use std::io::Write;
 use std::process::Abort;
 use std::test::Fail;
 
-/// A writer that takes so many bytes, and then answers 0 bytes or an error.
+/// What a writer answers to the call that it refuses.
+#[derive(Clone, Copy)]
+enum Refusal {
+    /// 0 bytes, now and later.
+    Zero,
+    /// An error, now and later.
+    Full,
+    /// The error `Interrupted`, once; it takes the bytes that come later.
+    Interrupted,
+}
+
+/// A writer that takes so many bytes, one at each call, and then refuses.
 #[derive(Drop)]
 struct Full {
     room: usize,
-    taken: usize,
     calls: usize,
-    answers_zero: bool,
+    refusal: Refusal,
 }
 
 impl Write for Full {
     fn write(&mut self, bytes: &[u8]) -> io::Result<usize> {
+        let has_room = self.calls < self.room;
         self.calls = self.calls.saturating_add(1);
-        if self.taken < self.room && !bytes.is_empty() {
-            self.taken += 1;
-            return Ok(1);
+        if has_room {
+            return Ok(bytes.len().min(1));
         }
-        if self.answers_zero {
-            Ok(0)
-        } else {
-            Err(io::Error::from(io::ErrorKind::StorageFull))
+        match self.refusal {
+            Refusal::Zero => Ok(0),
+            Refusal::Full => Err(io::Error::from(io::ErrorKind::StorageFull)),
+            Refusal::Interrupted => {
+                self.room = usize::MAX;
+                Err(io::Error::from(io::ErrorKind::Interrupted))
+            }
         }
     }
 
@@ -55,29 +68,58 @@ fn takes_bytes(rt: HostRuntime) -> Result<(), Fail> {
     Ok(())
 }
 
-fn assert_fails_at(rt: &impl Abort, room: usize, answers_zero: bool) {
+fn assert_fails_at(rt: &impl Abort, room: usize, refusal: Refusal) {
     let mut out = Out::new(Full {
         room,
-        taken: 0,
         calls: 0,
-        answers_zero,
+        refusal,
     });
     assert_eq!(rt; put_all(&mut out, b"-1234.50"), Err(SinkFault));
     assert!(rt; out.failed());
     assert_eq!(rt; out.put_byte(b'0'), Err(SinkFault));
     let writer = out.into_writer();
-    assert_eq!(rt; writer.taken, room);
     assert_eq!(rt;
         writer.calls,
         room.saturating_add(1),
-        "the writer is not called again"
+        "one call for each byte, and none after the fault"
     );
 }
 
 #[test]
 fn fails_with_the_writer(rt: HostRuntime) {
     for room in 0..8 {
-        assert_fails_at(&rt, room, true);
-        assert_fails_at(&rt, room, false);
+        assert_fails_at(&rt, room, Refusal::Zero);
+        assert_fails_at(&rt, room, Refusal::Full);
+        assert_fails_at(&rt, room, Refusal::Interrupted);
     }
+}
+
+fn assert_counts_up(rt: &impl Abort, bytes: &[u8]) {
+    assert_eq!(rt; bytes.len(), 256);
+    for (byte, taken) in (0..=255).zip(bytes) {
+        assert_eq!(rt; *taken, byte);
+    }
+}
+
+#[test]
+fn takes_each_byte(rt: HostRuntime) {
+    let mut out = Out::new(Vec::<u8>::new(rt.alloc()));
+    let mut text = TextBuf::new(rt.alloc());
+    for byte in 0..=255 {
+        assert!(rt; out.put_byte(byte).is_ok());
+        assert!(rt; text.put_byte(byte).is_ok());
+    }
+    assert_counts_up(&rt, text.as_bytes());
+    assert_counts_up(&rt, out.into_writer().as_slice());
+}
+
+#[test]
+fn takes_a_long_text(rt: HostRuntime) {
+    let mut text = TextBuf::new(rt.alloc());
+    for _ in 0..131_100 {
+        assert!(rt; text.put_byte(b'7').is_ok());
+    }
+    assert!(rt; text.put_byte(b'.').is_ok());
+    assert_eq!(rt; text.as_bytes().len(), 131_101);
+    assert_eq!(rt; text.as_bytes().last(), Some(&b'.'));
 }

@@ -1,17 +1,17 @@
 use Rattle.std.proofs.Common.{◌-◌, arith}
-use Rattle.decimal_digits.proofs.Fronts.{front_none, front_one, front_two}
+use Rattle.decimal_digits.proofs.Leading.{leading_none, leading_one, leading_two}
 use Rattle.decimal_digits.proofs.rounding.two.two_at.Goals as goal
 
 pub returns-then-keep-eq0-clause-value : goal.returns-then-keep-eq0-clause-value
 returns-then-keep-eq0-clause-value g c =
-    let ds = g.D.DigitStore.digits c.args.list.now.list.now in
-    omega (arith, front_none c.args.keep ds (omega arith), front_none (c.args.keep - 2) ds (omega arith))
+    let ds = g.D.DigitStore.digits c.args.counted.now.list.now in
+    omega (arith, leading_none c.args.keep ds (omega arith), leading_none (c.args.keep - 2) ds (omega arith))
 
 pub returns-then-keep-eq1-clause-value : goal.returns-then-keep-eq1-clause-value
 returns-then-keep-eq1-clause-value g c =
-    omega (arith, front_one c.args.keep (g.D.DigitStore.digits c.args.list.now.list.now) c.if-keep-eq1.true, c.digit_at-ones.ensures.value)
+    omega (arith, leading_one c.args.keep (g.D.DigitStore.digits c.args.counted.now.list.now) c.if-keep-eq1.true, c.digit_at-ones.ensures.value)
 
 pub returns-clause-value : goal.returns-clause-value
 returns-clause-value g c =
-    let value = front_two c.args.keep (g.D.DigitStore.digits c.args.list.now.list.now) (omega arith) in
+    let value = leading_two c.args.keep (g.D.DigitStore.digits c.args.counted.now.list.now) (omega arith) in
     grind arith

@@ -5,8 +5,8 @@ use Rattle.std.specs.Int.{int_max, int_min}
 use Rattle.std.proofs.lemmas.Int.{ints, to_z-of_z}
 use Rattle.std.proofs.lemmas.List.Elements.{recursion_from_All}
 use Rattle.decimal_digits.specs.Digits.{number_of}
-use Rattle.decimal_digits.specs.Rounding.{unit_at, rounded_number, WantsMemory, Leaves, IsAbove}
-use Rattle.decimal_digits.specs.declared.digits.steps.Steps.{Steps}
+use Rattle.decimal_digits.specs.Rounding.{unit_at, rounded_number, WantsMemory}
+use Rattle.decimal_digits.specs.Left.{Leaves, IsAbove}
 use Rattle.decimal_digits.proofs.Results.{on_err}
 use Rattle.decimal_digits.proofs.Naming.{rounded_number-named}
 use Rattle.decimal_digits.proofs.Tails.{unit_pos}
@@ -20,9 +20,9 @@ use Rattle.decimal_unsigned.proofs.RoundingLaws.{rounded_again}
 use Rattle.decimal_unsigned.proofs.decimal.UnsignedOver.round_counted.Goals as goal
 
 -- the digits that the rounding left
-left : (g : _) (c : goal.After-self-3-1 g) → Left (g.D.DigitStore.digits c.round.new.list.list.now) (unwrap_or c.in_ok-round.field-0 (pos 0)) (rounded_number c.args.mode (unit_at c.args.increment c.args.position) c.args.self.now.number) c.args.position
+left : (g : _) (c : goal.After-self-3-1 g) → Left (g.D.DigitStore.digits c.round.new.counted.list.now) (unwrap_or c.in_ok-round.field-0 (pos 0)) (rounded_number c.args.mode (unit_at c.args.increment c.args.position) c.args.self.now.number) c.args.position
 left g c =
-    let ds = g.D.DigitStore.digits c.round.new.list.list.now in
+    let ds = g.D.DigitStore.digits c.round.new.counted.list.now in
     let p = to_z-of_z w16 c.args.position c.ranges.position in
     let n = number_again c.self.invariant c.self.view_is (ap g.D.DigitStore.digits c.new-counted.ensures.list) (magnitude_kept c.self.invariant) in
     left_of c.in_ok-round.field-0 ds _ c.args.position
@@ -44,18 +44,18 @@ lo_is g c =
     ∙ ap (λ x. int_min x (pos 0)) (to_z-of_z w16 c.args.position c.ranges.position)
 
 -- the fields together make the rounded value
-value : (g : _) (c : goal.After-self-3-1 g) → record { number = number_of (g.D.DigitStore.digits c.round.new.list.list.now) (to_z w16 (of_z w16 c.unwrap_or-first.result)); hi = to_z w16 (of_z w16 c.highest_after-self-inside.result); lo = to_z w16 (of_z w16 c.min-self-inside.result) } ≡ rounded c.args.self.now c.args.position c.args.mode c.args.increment
+value : (g : _) (c : goal.After-self-3-1 g) → record { number = number_of (g.D.DigitStore.digits c.round.new.counted.list.now) (to_z w16 (of_z w16 c.unwrap_or-first.result)); hi = to_z w16 (of_z w16 c.highest_after-self-inside.result); lo = to_z w16 (of_z w16 c.min-self-inside.result) } ≡ rounded c.args.self.now c.args.position c.args.mode c.args.increment
 value g c =
-    ap (λ m. record { number = number_of (g.D.DigitStore.digits c.round.new.list.list.now) m; hi = to_z w16 (of_z w16 c.highest_after-self-inside.result); lo = to_z w16 (of_z w16 c.min-self-inside.result) }) (magnitude_is g c)
+    ap (λ m. record { number = number_of (g.D.DigitStore.digits c.round.new.counted.list.now) m; hi = to_z w16 (of_z w16 c.highest_after-self-inside.result); lo = to_z w16 (of_z w16 c.min-self-inside.result) }) (magnitude_is g c)
     ∙ rounded_left (left g c) c.self.inside.hi _ _ (hi_is g c) (lo_is g c) c.args.self.now (sym (ap (λ (v : Unsigned). v.hi) c.self.view_is))
 
-stored : (g : _) (c : goal.After-self-3-1 g) → IsStored (g.D.DigitStore.digits c.round.new.list.list.now) (to_z w16 (of_z w16 c.unwrap_or-first.result)) (to_z w16 (of_z w16 c.highest_after-self-inside.result)) (to_z w16 (of_z w16 c.min-self-inside.result))
+stored : (g : _) (c : goal.After-self-3-1 g) → IsStored (g.D.DigitStore.digits c.round.new.counted.list.now) (to_z w16 (of_z w16 c.unwrap_or-first.result)) (to_z w16 (of_z w16 c.highest_after-self-inside.result)) (to_z w16 (of_z w16 c.min-self-inside.result))
 stored g c =
     let t = c.self.invariant in
     let p = c.ranges.position in
-    subst (λ m. IsStored (g.D.DigitStore.digits c.round.new.list.list.now) m (to_z w16 (of_z w16 c.highest_after-self-inside.result)) (to_z w16 (of_z w16 c.min-self-inside.result))) (sym (magnitude_is g c))
+    subst (λ m. IsStored (g.D.DigitStore.digits c.round.new.counted.list.now) m (to_z w16 (of_z w16 c.highest_after-self-inside.result)) (to_z w16 (of_z w16 c.min-self-inside.result))) (sym (magnitude_is g c))
     (stored_left (left g c) c.self.inside.hi _ _ (hi_is g c) (lo_is g c)
-    (recursion_from_All _ _ (g.met.D.DigitStore.are_digits c.round.new.list.list.now))
+    (recursion_from_All _ _ (g.met.D.DigitStore.are_digits c.round.new.counted.list.now))
     t.hi_in t.in_range.1 (omega (arith, ints)) (omega (arith, ints)))
 
 pub returns-in_err-round-clause-memory : goal.returns-in_err-round-clause-memory
@@ -86,7 +86,7 @@ pub returns-clause-turns : goal.returns-clause-turns
 returns-clause-turns g c =
     let before = size_again c.self.invariant c.self.view_is (ap g.D.DigitStore.digits c.new-counted.ensures.list) in
     let after = size-number_of (stored g c) in
-    let lent = ap (λ (s : Steps). s.count) c.new-counted.ensures.steps in
+    let lent = c.new-counted.ensures.turns in
     let turns = c.in_ok-round.ensures.turns in
-    let same = sym c.new-counted.ensures.same_steps ∙ sym c.round.ensures.same_steps in
+    let same = sym c.new-counted.ensures.lent.1 ∙ sym c.round.ensures.lent.1 in
     search (rules, before, after, lent, turns, same)

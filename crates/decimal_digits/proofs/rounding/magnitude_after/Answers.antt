@@ -4,21 +4,21 @@ use Rattle.std.specs.Int.RustNames.{FitsSigned}
 use Rattle.std.proofs.lemmas.Int.{ints, to_z-of_z}
 use Rattle.std.proofs.lemmas.List.Elements.{recursion_from_All}
 use Rattle.decimal_digits.specs.Number.{place, weight}
-use Rattle.decimal_digits.specs.Rounding.{Writes}
+use Rattle.decimal_digits.specs.Left.{Spells}
 use Rattle.decimal_digits.proofs.NumberAt.{number_at-none}
 use Rattle.decimal_digits.proofs.Places.{place_is}
-use Rattle.decimal_digits.proofs.Parts.{writes, writes_none, number_up, past_limit}
-use Rattle.decimal_digits.proofs.rounding.placed.Goals as goal
+use Rattle.decimal_digits.proofs.Parts.{spells, spells_none, number_up, past_limit}
+use Rattle.decimal_digits.proofs.rounding.magnitude_after.Goals as goal
 
 pub returns-then-len-eq0-clause-leaves : goal.returns-then-len-eq0-clause-leaves
 returns-then-len-eq0-clause-leaves g c =
-    let ds = g.D.DigitStore.digits c.args.list.now.list.now in
-    writes_none ds _ (omega arith) (ap (λ n. n * weight c.args.position) (number_at-none c.args.places ds (omega arith)) ∙ omega arith)
+    let ds = g.D.DigitStore.digits c.args.counted.now.list.now in
+    spells_none ds _ (omega arith) (ap (λ n. n * weight c.args.position) (number_at-none c.args.places ds (omega arith)) ∙ omega arith)
 
 pub returns-in_default-clause-leaves : goal.returns-in_default-clause-leaves
 returns-in_default-clause-leaves g c =
     let fits = c.ranges.position in
-    let ds = g.D.DigitStore.digits c.args.list.now.list.now in
+    let ds = g.D.DigitStore.digits c.args.counted.now.list.now in
     let some : 0 < length ds = omega arith in
     let above = simp to_z-of_z at c.in_default.ensures.none in
     (past_limit c.args.position c.args.places ds (omega (arith, ints)) c.requires.fits some (c.requires.stripped.front some) above, c.clear.ensures.digits)
@@ -27,7 +27,7 @@ pub returns-clause-leaves : goal.returns-clause-leaves
 returns-clause-leaves g c =
     let fits = c.ranges.position in
     let fits_m : FitsSigned w16 c.in-Some.magnitude = search rules in
-    let list = c.args.list.now.list.now in
+    let list = c.args.counted.now.list.now in
     let ds = g.D.DigitStore.digits list in
     let m = c.in-Some.magnitude in
     let at = simp to_z-of_z at c.in-Some.ensures.some in
@@ -35,8 +35,8 @@ returns-clause-leaves g c =
     let high : m ≤ℤ pos 32767 = omega (arith, ints) in
     let low_p : negsuc 32767 ≤ℤ c.args.position = omega (arith, ints) in
     let within : length ds ≤ place m + 1 = omega (arith, ints, c.requires.fits, place_is m, place_is c.args.position) in
-    let whole = writes m ds low high (recursion_from_All _ _ (g.met.D.DigitStore.are_digits list)) within c.requires.stripped (omega arith) in
-    simp to_z-of_z (subst (λ n. Writes ds m n) (number_up c.args.position c.args.places ds low_p c.requires.fits m low at) whole)
+    let whole = spells m ds low high (recursion_from_All _ _ (g.met.D.DigitStore.are_digits list)) within c.requires.stripped (omega arith) in
+    simp to_z-of_z (subst (λ n. Spells ds m n) (number_up c.args.position c.args.places ds low_p c.requires.fits m low at) whole)
 
 pub returns-clause-above : goal.returns-clause-above
 returns-clause-above g c some =

@@ -1,0 +1,30 @@
+-- A list of digits that is lent together with a count of its turns.
+use Rattle.std.specs.Prelude.{◌≡◌, ℕ, ◌+◌, ◌≤◌}
+use Rattle.std.specs.Borrow.{MutBor}
+use Rattle.decimal_digits.specs.declared.digits.steps.Steps.{Steps}
+use Rattle.decimal_digits.specs.declared.digits.counted.Counted.{Counted}
+
+-- the list, as it stands
+abbrev pub list_of : {D : Type 0} → Counted D → D
+list_of counted = counted.list.now
+
+-- the turns so far
+abbrev pub turns_of : {D : Type 0} → Counted D → ℕ
+turns_of counted = counted.steps.now.count
+
+-- it lends this list and this count
+abbrev pub IsLent : {D : Type 0} → MutBor D → MutBor Steps → Counted D → Type 0
+IsLent list steps counted =
+    (counted.list.ghost_name ≡ list.ghost_name) × (counted.steps.ghost_name ≡ steps.ghost_name)
+
+-- the same list and the same count are lent, and no turn was taken back
+abbrev pub Continues : {D : Type 0} → Counted D → Counted D → Type 0
+Continues old new =
+    (new.list.ghost_name ≡ old.list.ghost_name)
+    × (new.steps.ghost_name ≡ old.steps.ghost_name)
+    × (turns_of old ≤ turns_of new)
+
+-- the list is unchanged, after at most so many turns
+abbrev pub OnlyReads : {D : Type 0} → ℕ → Counted D → Counted D → Type 0
+OnlyReads most old new =
+    (list_of new ≡ list_of old) × (turns_of new ≤ turns_of old + most) × Continues old new

@@ -1,0 +1,23 @@
+-- What a rounding leaves of a list of digits: the contract of `rounding::round` speaks of these.
+use Rattle.std.specs.Prelude.{◌≡◌, ℕ, ◌+◌, ◌<◌, ◌≤◌, List, [], length, Option, Some, None, ℤ, ◌≤ℤ◌}
+use Rattle.decimal_digits.specs.Number.{place, first, number_limit, lowest_magnitude, highest_magnitude}
+use Rattle.decimal_digits.specs.Digits.{number_of, IsStripped}
+
+-- the digits, with no 0 at either end, are those of the number n, and this is the magnitude of the first of them
+pub record Spells (digits : List ℕ) (magnitude : ℤ) (n : ℕ) : Type 0 where
+  pub number : number_of digits magnitude ≡ n
+  pub below_limit : n < number_limit
+  pub magnitude_is : first n ≡ magnitude
+  pub stripped : IsStripped digits
+  pub fits : length digits ≤ place magnitude + 1
+  pub least : lowest_magnitude ≤ℤ magnitude
+  pub greatest : magnitude ≤ℤ highest_magnitude
+
+-- the digits are those of n from this magnitude down; or none is left, for n reaches the limit
+abbrev pub Leaves : Option ℤ → List ℕ → ℕ → Type 0
+Leaves (Some magnitude) digits n = Spells digits magnitude n
+Leaves None digits n = (number_limit ≤ n) × (digits ≡ [])
+
+-- no digit stands below the position
+abbrev pub IsAbove : ℤ → List ℕ → ℤ → Type 0
+IsAbove position digits magnitude = 0 < length digits → place position + length digits ≤ place magnitude + 1
