@@ -97,7 +97,7 @@ impl<D: DigitStore> UnsignedOver<D> {
         // The range holds magnitude 0, lies in the limits, and shows the number whole.
         ensures valid { IsValue self.now }
     {
-        self.lo..=self.hi
+        self.lowest()..=self.highest()
     }
 
     /// Gives the magnitude of the first digit that is not 0, and 0 for the number 0.
