@@ -1,11 +1,11 @@
 -- What the passes over half bytes leave.
-use Rattle.std.proofs.Common.{◌≡◌, ◌≢◌, ℕ, zero, suc, ◌+◌, ◌-◌, ◌*◌, ◌/◌, ◌%◌, ◌<◌, ◌≤◌, ◌⊎◌, inl, inr, List, [], ◌∷◌, ◌++◌, length, get_or, set, take, drop, replicate, refl, sym, ◌∙◌, ap, add-one, arith}
-use Rattle.std.proofs.lemmas.List.{length-append, length-take-le, length-set, take_at, take-take, take-append-le, drop_at, append-nil, append_assoc, get_or-set_same, get_or-set_other, get_or_append_left, get_or_at, get_or_past, set_at, take_more, drop_more, get_or-take}
+use Rattle.std.proofs.Common.{◌≡◌, ◌≢◌, ℕ, suc, ◌+◌, ◌-◌, ◌*◌, ◌/◌, ◌%◌, ◌<◌, ◌≤◌, inl, inr, List, [], ◌∷◌, ◌++◌, length, get_or, set, take, drop, replicate, refl, sym, ◌∙◌, ap, add-one, arith}
+use Rattle.std.proofs.lemmas.List.{length-take-le, length-set, take_at, take-append-le, drop_at, append-nil, append_assoc, get_or-set_same, get_or-set_other, get_or_append_left, get_or_at, get_or_past, set_at, take_more, drop_more}
 use Rattle.std.proofs.lemmas.Bool.{cases_eq}
 use Rattle.std.specs.List.{refill}
 use Rattle.decimal_digits.specs.Halves.{halves}
 use Rattle.decimal_digits.specs.Packing.{length-halves}
-use Rattle.decimal_digits.proofs.Halves.{high_half, low_half, halves-set_high, halves-set_low, halves-append, halves-take, halves_shifted_from, halves_packed}
+use Rattle.decimal_digits.proofs.Halves.{high_half, halves-set_high, halves-set_low, halves-append, halves-take, halves_shifted_from, halves_packed}
 
 -- a vector that is written through its slice is that slice
 pub refill_same : (xs ys : List ℕ) (n : ℕ) → length ys ≡ n → refill n xs ys ≡ ys
@@ -18,7 +18,7 @@ refill-set bs i v = refill_same bs (set bs i v) (length bs) (length-set bs i v)
 -- the half at an even index is written
 pub set_even : (bs s : List ℕ) (index d : ℕ) → s ≡ bs → index % 2 ≡ 0 → index < length (halves bs)
     → halves (refill (length bs) bs (set s (index / 2) (d * 16 + get_or s (index / 2) 0 % 16)))
-      ≡ set (halves bs) index d
+    ≡ set (halves bs) index d
 set_even bs s index d e m h =
     let l : index / 2 < length bs = omega (arith, length-halves bs) in
     let t : 2 * (index / 2) ≡ index = omega arith in
@@ -28,7 +28,7 @@ set_even bs s index d e m h =
 -- the half at an odd index is written
 pub set_odd : (bs s : List ℕ) (index d : ℕ) → s ≡ bs → index % 2 ≢ 0 → index < length (halves bs) → d < 16
     → halves (refill (length bs) bs (set s (index / 2) (get_or s (index / 2) 0 / 16 * 16 + d)))
-      ≡ set (halves bs) index d
+    ≡ set (halves bs) index d
 set_odd bs s index d e m h p =
     let l : index / 2 < length bs = omega (arith, length-halves bs) in
     let t : 2 * (index / 2) + 1 ≡ index = omega arith in
@@ -41,7 +41,7 @@ shifted_at : (xs zs : List ℕ) (from n last k : ℕ) → last < 16 → length z
     → get_or zs n 0 ≡ get_or xs n 0
     → from ≤ k → k < length xs
     → get_or (set zs n (get_or zs n 0 % 16 * 16 + last)) k 0
-      ≡ get_or xs k 0 % 16 * 16 + get_or (xs ++ (last * 16) ∷ []) (suc k) 0 / 16
+    ≡ get_or xs k 0 % 16 * 16 + get_or (xs ++ (last * 16) ∷ []) (suc k) 0 / 16
 shifted_at xs zs from n last k p e m written rest w q =
     let v = get_or zs n 0 % 16 * 16 + last in
     elim (cases_eq k n) [
@@ -68,7 +68,7 @@ pub shift_done : (xs zs : List ℕ) (from n last : ℕ) → last < 16 → from <
     → ((k : ℕ) → from ≤ k → k < n → get_or zs k 0 ≡ get_or xs k 0 % 16 * 16 + get_or xs (k + 1) 0 / 16)
     → get_or zs n 0 ≡ get_or xs n 0
     → halves (set zs n (get_or zs n 0 % 16 * 16 + last))
-      ≡ take (2 * from) (halves xs) ++ (drop (2 * from + 1) (halves xs) ++ last ∷ [])
+    ≡ take (2 * from) (halves xs) ++ (drop (2 * from + 1) (halves xs) ++ last ∷ [])
 shift_done xs zs from n last p h e m b before written rest =
     let v = get_or zs n 0 % 16 * 16 + last in
     halves_shifted_from from xs (set zs n v) last p h (length-set zs n v ∙ e) (λ k q. b k)
@@ -79,7 +79,7 @@ shift_done xs zs from n last p h e m b before written rest =
 pub gap_closed : (bs cs : List ℕ) (at last : ℕ) → at < length bs → length cs ≡ length bs
     → halves cs ≡ take (2 * at) (halves bs) ++ (drop (2 * at + 1) (halves bs) ++ last ∷ [])
     → halves (set cs at (get_or bs at 0 / 16 * 16 + get_or cs at 0 % 16))
-      ≡ take (2 * at + 1) (halves bs) ++ (drop (2 * at + 2) (halves bs) ++ last ∷ [])
+    ≡ take (2 * at + 1) (halves bs) ++ (drop (2 * at + 2) (halves bs) ++ last ∷ [])
 gap_closed bs cs at last h e f =
     let x = get_or bs at 0 / 16 in
     let N = halves bs in
@@ -99,7 +99,7 @@ gap_closed bs cs at last h e f =
 pub joined : (bs more cs : List ℕ) (count at last w : ℕ) → 0 < length bs → at ≡ length bs - 1 → w ≡ count / 2
     → count ≤ 2 * length more
     → halves cs ≡ take (2 * at + 1) (halves (bs ++ take w more))
-        ++ (drop (2 * at + 2) (halves (bs ++ take w more)) ++ last ∷ [])
+    ++ (drop (2 * at + 2) (halves (bs ++ take w more)) ++ last ∷ [])
     → take (2 * w) (halves more) ++ last ∷ [] ≡ take count (halves more) ++ replicate ((count + 1) % 2) 0
     → halves cs ≡ (take (2 * length bs - 1) (halves bs) ++ take count (halves more)) ++ replicate ((count + 1) % 2) 0
 joined bs more cs count at last w z e v h f g =

@@ -1,9 +1,6 @@
 -- The halves of bytes.
-use Rattle.std.proofs.Common.{◌≡◌, ℕ, zero, suc, ◌+◌, ◌-◌, ◌*◌, ◌/◌, ◌%◌, ◌<◌, ◌≤◌, List, [], ◌∷◌, ◌++◌, length, get_or, set, take, drop, replicate, refl, sym, ◌∙◌, ap, arith, rules, subst}
+use Rattle.std.proofs.Common.{◌≡◌, ℕ, zero, suc, ◌+◌, ◌*◌, ◌/◌, ◌%◌, ◌<◌, ◌≤◌, List, [], ◌∷◌, ◌++◌, length, get_or, set, take, drop, replicate, refl, ◌∙◌, ap, arith}
 use Rattle.decimal_digits.specs.Halves.{halves}
-use Rattle.decimal_digits.specs.Packing.{length-halves}
-use Rattle.std.proofs.lemmas.List.{length-append, length-take, length-replicate, take_at, append-nil, take-append-drop, drop-append-le, take_all}
-use Rattle.std.proofs.lemmas.Grind.{common_steps}
 
 -- the half at an even index is the high one of its byte
 pub high_half : (bs : List ℕ) (k : ℕ) → k < length bs → get_or (halves bs) (2 * k) 0 ≡ get_or bs k 0 / 16
@@ -105,7 +102,7 @@ halves_empty (y ∷ ys) e = absurd (omega arith)
 halves_shifted : (xs ys : List ℕ) (last : ℕ) → last < 16 → 0 < length xs → length ys ≡ length xs
     → ((k : ℕ) → k < length xs → get_or xs k 0 < 256)
     → ((k : ℕ) → k < length xs
-        → get_or ys k 0 ≡ get_or xs k 0 % 16 * 16 + get_or (xs ++ (last * 16) ∷ []) (suc k) 0 / 16)
+    → get_or ys k 0 ≡ get_or xs k 0 % 16 * 16 + get_or (xs ++ (last * 16) ∷ []) (suc k) 0 / 16)
     → halves ys ≡ drop 1 (halves xs) ++ last ∷ []
 unfolding halves
 halves_shifted [] ys last p z n b f = absurd (omega arith)
@@ -130,7 +127,7 @@ pub halves_shifted_from : (from : ℕ) (xs ys : List ℕ) (last : ℕ) → last 
     → ((k : ℕ) → k < length xs → get_or xs k 0 < 256)
     → ((k : ℕ) → k < from → get_or ys k 0 ≡ get_or xs k 0)
     → ((k : ℕ) → from ≤ k → k < length xs
-        → get_or ys k 0 ≡ get_or xs k 0 % 16 * 16 + get_or (xs ++ (last * 16) ∷ []) (suc k) 0 / 16)
+    → get_or ys k 0 ≡ get_or xs k 0 % 16 * 16 + get_or (xs ++ (last * 16) ∷ []) (suc k) 0 / 16)
     → halves ys ≡ take (2 * from) (halves xs) ++ (drop (2 * from + 1) (halves xs) ++ last ∷ [])
 unfolding halves
 halves_shifted_from zero xs ys last p z n b s f = halves_shifted xs ys last p z n b (λ k q. f k (omega arith) q)
