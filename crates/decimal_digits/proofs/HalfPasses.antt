@@ -1,36 +1,47 @@
--- What the passes over bytes leave.
-use Rattle.std.proofs.Common.{◌≡◌, ◌≢◌, ℕ, zero, suc, ◌+◌, ◌-◌, ◌*◌, ◌/◌, ◌%◌, ◌<◌, ◌≤◌, ◌⊎◌, inl, inr, List, [], ◌∷◌, ◌++◌, length, get_or, set, take, drop, replicate, refl, sym, ◌∙◌, ap, add-one, arith}
-use Rattle.std.proofs.lemmas.List.{length-append, length-take-le, length-set, take_at, take-take, take-append-le, drop_at, append-nil, append_assoc, get_or-set_same, get_or-set_other, get_or_append_left, get_or_at, get_or_past, set_at, take_more, drop_more, get_or-take}
+-- What the passes over half bytes leave.
+use Rattle.std.proofs.Common.{◌≡◌, ◌≢◌, ℕ, suc, ◌+◌, ◌-◌, ◌*◌, ◌/◌, ◌%◌, ◌<◌, ◌≤◌, inl, inr, List, [], ◌∷◌, ◌++◌, length, get_or, set, take, drop, replicate, refl, sym, ◌∙◌, ap, add-one, arith}
+use Rattle.std.proofs.lemmas.List.{length-take-le, length-set, take_at, take-append-le, drop_at, append-nil, append_assoc, get_or-set_same, get_or-set_other, get_or_append_left, get_or_at, get_or_past, set_at, take_more, drop_more}
 use Rattle.std.proofs.lemmas.Bool.{cases_eq}
 use Rattle.std.specs.List.{refill}
 use Rattle.decimal_digits.specs.Halves.{halves}
 use Rattle.decimal_digits.specs.Packing.{length-halves}
-use Rattle.decimal_digits.proofs.Halves.{high_half, low_half, halves-set_high, halves-set_low, halves-append, halves-take, halves_shifted_from, halves_packed}
+use Rattle.decimal_digits.proofs.Halves.{high_half, halves-set_high, halves-set_low, halves-append, halves-take, halves_shifted_from, halves_packed}
 
+-- a vector that is written through its slice is that slice
 pub refill_same : (xs ys : List ℕ) (n : ℕ) → length ys ≡ n → refill n xs ys ≡ ys
 refill_same xs ys n e = take_at ys (drop (length ys) xs) n e
 
+-- a vector of which one element is written through its slice
+refill-set : (bs : List ℕ) (i v : ℕ) → refill (length bs) bs (set bs i v) ≡ set bs i v
+refill-set bs i v = refill_same bs (set bs i v) (length bs) (length-set bs i v)
+
+-- the half at an even index is written
 pub set_even : (bs s : List ℕ) (index d : ℕ) → s ≡ bs → index % 2 ≡ 0 → index < length (halves bs)
-    → halves (refill (length bs) bs (set s (index / 2) (d * 16 + get_or s (index / 2) 0 % 16))) ≡ set (halves bs) index d
+    → halves (refill (length bs) bs (set s (index / 2) (d * 16 + get_or s (index / 2) 0 % 16)))
+    ≡ set (halves bs) index d
 set_even bs s index d e m h =
     let l : index / 2 < length bs = omega (arith, length-halves bs) in
     let t : 2 * (index / 2) ≡ index = omega arith in
-    rw e (ap halves (refill_same bs (set bs (index / 2) (d * 16 + get_or bs (index / 2) 0 % 16)) (length bs) (length-set bs (index / 2) (d * 16 + get_or bs (index / 2) 0 % 16)))
+    rw e (ap halves (refill-set bs (index / 2) (d * 16 + get_or bs (index / 2) 0 % 16))
     ∙ halves-set_high bs (index / 2) d l ∙ ap (λ i. set (halves bs) i d) t)
 
+-- the half at an odd index is written
 pub set_odd : (bs s : List ℕ) (index d : ℕ) → s ≡ bs → index % 2 ≢ 0 → index < length (halves bs) → d < 16
-    → halves (refill (length bs) bs (set s (index / 2) (get_or s (index / 2) 0 / 16 * 16 + d))) ≡ set (halves bs) index d
+    → halves (refill (length bs) bs (set s (index / 2) (get_or s (index / 2) 0 / 16 * 16 + d)))
+    ≡ set (halves bs) index d
 set_odd bs s index d e m h p =
     let l : index / 2 < length bs = omega (arith, length-halves bs) in
     let t : 2 * (index / 2) + 1 ≡ index = omega arith in
-    rw e (ap halves (refill_same bs (set bs (index / 2) (get_or bs (index / 2) 0 / 16 * 16 + d)) (length bs) (length-set bs (index / 2) (get_or bs (index / 2) 0 / 16 * 16 + d)))
+    rw e (ap halves (refill-set bs (index / 2) (get_or bs (index / 2) 0 / 16 * 16 + d))
     ∙ halves-set_low bs (index / 2) d l p ∙ ap (λ i. set (halves bs) i d) t)
 
+-- one byte of a shift, the last one of which is still to be written
 shifted_at : (xs zs : List ℕ) (from n last k : ℕ) → last < 16 → length zs ≡ length xs → n ≡ length xs - 1
     → ((k : ℕ) → from ≤ k → k < n → get_or zs k 0 ≡ get_or xs k 0 % 16 * 16 + get_or xs (k + 1) 0 / 16)
     → get_or zs n 0 ≡ get_or xs n 0
     → from ≤ k → k < length xs
-    → get_or (set zs n (get_or zs n 0 % 16 * 16 + last)) k 0 ≡ get_or xs k 0 % 16 * 16 + get_or (xs ++ (last * 16) ∷ []) (suc k) 0 / 16
+    → get_or (set zs n (get_or zs n 0 % 16 * 16 + last)) k 0
+    ≡ get_or xs k 0 % 16 * 16 + get_or (xs ++ (last * 16) ∷ []) (suc k) 0 / 16
 shifted_at xs zs from n last k p e m written rest w q =
     let v = get_or zs n 0 % 16 * 16 + last in
     elim (cases_eq k n) [
@@ -49,23 +60,26 @@ shifted_at xs zs from n last k p e m written rest w q =
           get_or-set_other zs n k v 0 s ∙ written k w lt ∙ ap (λ i. get_or xs k 0 % 16 * 16 + i / 16) (o ∙ sym g)
     ]
 
--- the last byte of a shift
-pub shift_done : (xs zs : List ℕ) (from n last : ℕ) → last < 16 → from < length xs → length zs ≡ length xs → n ≡ length xs - 1
+-- a shift is done once its last byte is written
+pub shift_done : (xs zs : List ℕ) (from n last : ℕ) → last < 16 → from < length xs → length zs ≡ length xs
+    → n ≡ length xs - 1
     → ((k : ℕ) → get_or xs k 0 < 256)
     → ((k : ℕ) → k < from → get_or zs k 0 ≡ get_or xs k 0)
     → ((k : ℕ) → from ≤ k → k < n → get_or zs k 0 ≡ get_or xs k 0 % 16 * 16 + get_or xs (k + 1) 0 / 16)
     → get_or zs n 0 ≡ get_or xs n 0
-    → halves (set zs n (get_or zs n 0 % 16 * 16 + last)) ≡ take (2 * from) (halves xs) ++ (drop (2 * from + 1) (halves xs) ++ last ∷ [])
+    → halves (set zs n (get_or zs n 0 % 16 * 16 + last))
+    ≡ take (2 * from) (halves xs) ++ (drop (2 * from + 1) (halves xs) ++ last ∷ [])
 shift_done xs zs from n last p h e m b before written rest =
     let v = get_or zs n 0 % 16 * 16 + last in
     halves_shifted_from from xs (set zs n v) last p h (length-set zs n v ∙ e) (λ k q. b k)
     (λ k q. let ne : k ≢ n = omega arith in get_or-set_other zs n k v 0 ne ∙ before k q)
     (λ k w q. shifted_at xs zs from n last k p e m written rest w q)
 
--- a half that is dropped from a byte
+-- a shift that drops a high half drops the low one once the high one is put back
 pub gap_closed : (bs cs : List ℕ) (at last : ℕ) → at < length bs → length cs ≡ length bs
     → halves cs ≡ take (2 * at) (halves bs) ++ (drop (2 * at + 1) (halves bs) ++ last ∷ [])
-    → halves (set cs at (get_or bs at 0 / 16 * 16 + get_or cs at 0 % 16)) ≡ take (2 * at + 1) (halves bs) ++ (drop (2 * at + 2) (halves bs) ++ last ∷ [])
+    → halves (set cs at (get_or bs at 0 / 16 * 16 + get_or cs at 0 % 16))
+    ≡ take (2 * at + 1) (halves bs) ++ (drop (2 * at + 2) (halves bs) ++ last ∷ [])
 gap_closed bs cs at last h e f =
     let x = get_or bs at 0 / 16 in
     let N = halves bs in
@@ -82,8 +96,10 @@ gap_closed bs cs at last h e f =
     ∙ sym (ap (λ l. l ++ (drop (2 * at + 2) N ++ last ∷ [])) t ∙ append_assoc (take (2 * at) N) (x ∷ []) (drop (2 * at + 2) N ++ last ∷ []))
 
 -- halves that follow the high half of the last byte
-pub joined : (bs more cs : List ℕ) (count at last w : ℕ) → 0 < length bs → at ≡ length bs - 1 → w ≡ count / 2 → count ≤ 2 * length more
-    → halves cs ≡ take (2 * at + 1) (halves (bs ++ take w more)) ++ (drop (2 * at + 2) (halves (bs ++ take w more)) ++ last ∷ [])
+pub joined : (bs more cs : List ℕ) (count at last w : ℕ) → 0 < length bs → at ≡ length bs - 1 → w ≡ count / 2
+    → count ≤ 2 * length more
+    → halves cs ≡ take (2 * at + 1) (halves (bs ++ take w more))
+    ++ (drop (2 * at + 2) (halves (bs ++ take w more)) ++ last ∷ [])
     → take (2 * w) (halves more) ++ last ∷ [] ≡ take count (halves more) ++ replicate ((count + 1) % 2) 0
     → halves cs ≡ (take (2 * length bs - 1) (halves bs) ++ take count (halves more)) ++ replicate ((count + 1) % 2) 0
 joined bs more cs count at last w z e v h f g =
@@ -99,7 +115,9 @@ joined bs more cs count at last w z e v h f g =
     ∙ ap (λ m. take m (halves bs) ++ (take count (halves more) ++ replicate ((count + 1) % 2) 0)) i
     ∙ sym (append_assoc (take (2 * length bs - 1) (halves bs)) (take count (halves more)) (replicate ((count + 1) % 2) 0))
 
-pub last_odd : (more : List ℕ) (count w last : ℕ) → w ≡ count / 2 → count ≤ 2 * length more → count % 2 ≡ 1 → last ≡ get_or more w 0 / 16
+-- whole bytes, and the high half of the next one
+pub last_odd : (more : List ℕ) (count w last : ℕ) → w ≡ count / 2 → count ≤ 2 * length more → count % 2 ≡ 1
+    → last ≡ get_or more w 0 / 16
     → take (2 * w) (halves more) ++ last ∷ [] ≡ take count (halves more) ++ replicate ((count + 1) % 2) 0
 last_odd more count w last e h m v =
     let n = length-halves more in
@@ -111,6 +129,7 @@ last_odd more count w last e h m v =
     ∙ sym (take_more (halves more) (2 * w) 0 l) ∙ ap (λ i. take i (halves more)) t
     ∙ sym (append-nil (take count (halves more))) ∙ ap (λ i. take count (halves more) ++ replicate i 0) (sym o)
 
+-- whole bytes, and a zero in the half that is left over
 pub last_even : (more : List ℕ) (count w last : ℕ) → w ≡ count / 2 → count % 2 ≢ 1 → last ≡ 0
     → take (2 * w) (halves more) ++ last ∷ [] ≡ take count (halves more) ++ replicate ((count + 1) % 2) 0
 last_even more count w last e m v =
@@ -118,13 +137,17 @@ last_even more count w last e m v =
     let o : (count + 1) % 2 ≡ 1 = omega arith in
     rw (t, v, o) refl
 
--- the end of a pass that packs digits
-pub pack_even : (bs ds : List ℕ) (i : ℕ) → length bs ≡ (length ds + 1) / 2 → ((k d : ℕ) → k < length ds → get_or ds k d < 10) → length ds / 2 ≤ i → length ds % 2 ≢ 1
-    → ((k : ℕ) → k < i → get_or bs k 0 ≡ get_or ds (2 * k) 0 * 16 + get_or ds (2 * k + 1) 0) → halves bs ≡ ds ++ replicate (length ds % 2) 0
+-- a pass that packs an even number of digits is done
+pub pack_even : (bs ds : List ℕ) (i : ℕ) → length bs ≡ (length ds + 1) / 2
+    → ((k d : ℕ) → k < length ds → get_or ds k d < 10) → length ds / 2 ≤ i → length ds % 2 ≢ 1
+    → ((k : ℕ) → k < i → get_or bs k 0 ≡ get_or ds (2 * k) 0 * 16 + get_or ds (2 * k + 1) 0)
+    → halves bs ≡ ds ++ replicate (length ds % 2) 0
 pack_even bs ds i e p l m f =
     halves_packed bs ds e (λ k q. let r : get_or ds k 0 < 10 = p k 0 q in omega arith) (λ k q. f k (omega arith))
 
-pub pack_odd : (bs ds : List ℕ) (i : ℕ) → length bs ≡ (length ds + 1) / 2 → ((k d : ℕ) → k < length ds → get_or ds k d < 10) → length ds / 2 ≤ i → length ds % 2 ≡ 1
+-- a pass that packs an odd number of digits is done once the last one is written
+pub pack_odd : (bs ds : List ℕ) (i : ℕ) → length bs ≡ (length ds + 1) / 2
+    → ((k d : ℕ) → k < length ds → get_or ds k d < 10) → length ds / 2 ≤ i → length ds % 2 ≡ 1
     → ((k : ℕ) → k < i → get_or bs k 0 ≡ get_or ds (2 * k) 0 * 16 + get_or ds (2 * k + 1) 0)
     → halves (set bs (length ds / 2) (get_or ds (2 * (length ds / 2)) 0 * 16)) ≡ ds ++ replicate (length ds % 2) 0
 pack_odd bs ds i e p l m f =

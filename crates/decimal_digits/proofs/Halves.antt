@@ -1,43 +1,50 @@
 -- The halves of bytes.
-use Rattle.std.proofs.Common.{◌≡◌, ℕ, zero, suc, ◌+◌, ◌-◌, ◌*◌, ◌/◌, ◌%◌, ◌<◌, ◌≤◌, List, [], ◌∷◌, ◌++◌, length, get_or, set, take, drop, replicate, refl, sym, ◌∙◌, ap, arith, rules, subst}
+use Rattle.std.proofs.Common.{◌≡◌, ℕ, zero, suc, ◌+◌, ◌*◌, ◌/◌, ◌%◌, ◌<◌, ◌≤◌, List, [], ◌∷◌, ◌++◌, length, get_or, set, take, drop, replicate, refl, ◌∙◌, ap, arith}
 use Rattle.decimal_digits.specs.Halves.{halves}
-use Rattle.decimal_digits.specs.Packing.{length-halves}
-use Rattle.std.proofs.lemmas.List.{length-append, length-take, length-replicate, take_at, append-nil, take-append-drop, drop-append-le, take_all}
-use Rattle.std.proofs.lemmas.Grind.{common_steps}
 
--- the half at an even index
+-- the half at an even index is the high one of its byte
 pub high_half : (bs : List ℕ) (k : ℕ) → k < length bs → get_or (halves bs) (2 * k) 0 ≡ get_or bs k 0 / 16
 unfolding halves
 high_half [] k h = absurd (omega arith)
 high_half (b ∷ bs) zero h = refl
-high_half (b ∷ bs) (suc k) h = ap (λ i. get_or (b / 16 ∷ (b % 16 ∷ halves bs)) i 0) (let e : 2 * suc k ≡ suc (suc (2 * k)) = omega arith in e) ∙ high_half bs k (omega arith)
+high_half (b ∷ bs) (suc k) h =
+    let e : 2 * suc k ≡ suc (suc (2 * k)) = omega arith in
+    rw e (high_half bs k (omega arith))
 
--- the half at an odd index
+-- the half at an odd index is the low one of its byte
 pub low_half : (bs : List ℕ) (k : ℕ) → k < length bs → get_or (halves bs) (2 * k + 1) 0 ≡ get_or bs k 0 % 16
 unfolding halves
 low_half [] k h = absurd (omega arith)
 low_half (b ∷ bs) zero h = refl
-low_half (b ∷ bs) (suc k) h = ap (λ i. get_or (b / 16 ∷ (b % 16 ∷ halves bs)) i 0) (let e : 2 * suc k + 1 ≡ suc (suc (2 * k + 1)) = omega arith in e) ∙ low_half bs k (omega arith)
+low_half (b ∷ bs) (suc k) h =
+    let e : 2 * suc k + 1 ≡ suc (suc (2 * k + 1)) = omega arith in
+    rw e (low_half bs k (omega arith))
 
--- a high half is written
-pub halves-set_high : (bs : List ℕ) (k d : ℕ) → k < length bs → halves (set bs k (d * 16 + get_or bs k 0 % 16)) ≡ set (halves bs) (2 * k) d
+-- a byte whose high half is written changes the half at the even index
+pub halves-set_high : (bs : List ℕ) (k d : ℕ) → k < length bs
+    → halves (set bs k (d * 16 + get_or bs k 0 % 16)) ≡ set (halves bs) (2 * k) d
 unfolding halves
 halves-set_high [] k d h = absurd (omega arith)
 halves-set_high (b ∷ bs) zero d h =
     let a : (d * 16 + b % 16) / 16 ≡ d = omega arith in
     let c : (d * 16 + b % 16) % 16 ≡ b % 16 = omega arith in
     rw (a, c) refl
-halves-set_high (b ∷ bs) (suc k) d h = ap (λ l. b / 16 ∷ (b % 16 ∷ l)) (halves-set_high bs k d (omega arith)) ∙ ap (λ i. set (b / 16 ∷ (b % 16 ∷ halves bs)) i d) (let e : suc (suc (2 * k)) ≡ 2 * suc k = omega arith in e)
+halves-set_high (b ∷ bs) (suc k) d h =
+    let e : 2 * suc k ≡ suc (suc (2 * k)) = omega arith in
+    rw e (ap (λ l. b / 16 ∷ (b % 16 ∷ l)) (halves-set_high bs k d (omega arith)))
 
--- a low half is written
-pub halves-set_low : (bs : List ℕ) (k d : ℕ) → k < length bs → d < 16 → halves (set bs k (get_or bs k 0 / 16 * 16 + d)) ≡ set (halves bs) (2 * k + 1) d
+-- a byte whose low half is written changes the half at the odd index
+pub halves-set_low : (bs : List ℕ) (k d : ℕ) → k < length bs → d < 16
+    → halves (set bs k (get_or bs k 0 / 16 * 16 + d)) ≡ set (halves bs) (2 * k + 1) d
 unfolding halves
 halves-set_low [] k d h p = absurd (omega arith)
 halves-set_low (b ∷ bs) zero d h p =
     let a : (b / 16 * 16 + d) / 16 ≡ b / 16 = omega arith in
     let c : (b / 16 * 16 + d) % 16 ≡ d = omega arith in
     rw (a, c) refl
-halves-set_low (b ∷ bs) (suc k) d h p = ap (λ l. b / 16 ∷ (b % 16 ∷ l)) (halves-set_low bs k d (omega arith) p) ∙ ap (λ i. set (b / 16 ∷ (b % 16 ∷ halves bs)) i d) (let e : suc (suc (2 * k + 1)) ≡ 2 * suc k + 1 = omega arith in e)
+halves-set_low (b ∷ bs) (suc k) d h p =
+    let e : 2 * suc k + 1 ≡ suc (suc (2 * k + 1)) = omega arith in
+    rw e (ap (λ l. b / 16 ∷ (b % 16 ∷ l)) (halves-set_low bs k d (omega arith) p))
 
 -- the halves of joined bytes
 pub halves-append : (xs ys : List ℕ) → halves (xs ++ ys) ≡ halves xs ++ halves ys
@@ -85,14 +92,17 @@ same_bytes (x ∷ xs) (y ∷ ys) e =
     let t : xs ≡ ys = same_bytes xs ys r in
     cc
 
+-- no bytes have no halves
 halves_empty : (ys : List ℕ) → length ys ≡ 0 → halves ys ≡ []
 unfolding halves
 halves_empty [] e = refl
 halves_empty (y ∷ ys) e = absurd (omega arith)
 
--- bytes whose halves are those of xs, each one place further on
-pub halves_shifted : (xs ys : List ℕ) (last : ℕ) → last < 16 → 0 < length xs → length ys ≡ length xs → ((k : ℕ) → k < length xs → get_or xs k 0 < 256)
-    → ((k : ℕ) → k < length xs → get_or ys k 0 ≡ get_or xs k 0 % 16 * 16 + get_or (xs ++ (last * 16) ∷ []) (suc k) 0 / 16)
+-- bytes that each take a half from the byte behind have lost the first half
+halves_shifted : (xs ys : List ℕ) (last : ℕ) → last < 16 → 0 < length xs → length ys ≡ length xs
+    → ((k : ℕ) → k < length xs → get_or xs k 0 < 256)
+    → ((k : ℕ) → k < length xs
+    → get_or ys k 0 ≡ get_or xs k 0 % 16 * 16 + get_or (xs ++ (last * 16) ∷ []) (suc k) 0 / 16)
     → halves ys ≡ drop 1 (halves xs) ++ last ∷ []
 unfolding halves
 halves_shifted [] ys last p z n b f = absurd (omega arith)
@@ -108,13 +118,16 @@ halves_shifted (x ∷ (x' ∷ xs)) (y ∷ ys) last p z n b f =
     let e : y ≡ x % 16 * 16 + x' / 16 = f 0 (omega arith) in
     let h : y / 16 ≡ x % 16 = omega arith in
     let l : y % 16 ≡ x' / 16 = omega arith in
-    let r : halves ys ≡ x' % 16 ∷ (halves xs ++ last ∷ []) = halves_shifted (x' ∷ xs) ys last p (omega arith) (omega arith) (λ k q. b (suc k) (omega arith)) (λ k q. f (suc k) (omega arith)) in
+    let r : halves ys ≡ x' % 16 ∷ (halves xs ++ last ∷ []) =
+    halves_shifted (x' ∷ xs) ys last p (omega arith) (omega arith) (λ k q. b (suc k) (omega arith)) (λ k q. f (suc k) (omega arith)) in
     rw (h, l, r) refl
 
--- the same from a byte on
-pub halves_shifted_from : (from : ℕ) (xs ys : List ℕ) (last : ℕ) → last < 16 → from < length xs → length ys ≡ length xs → ((k : ℕ) → k < length xs → get_or xs k 0 < 256)
+-- bytes that from one on each take a half from the byte behind have lost the first half of that one
+pub halves_shifted_from : (from : ℕ) (xs ys : List ℕ) (last : ℕ) → last < 16 → from < length xs → length ys ≡ length xs
+    → ((k : ℕ) → k < length xs → get_or xs k 0 < 256)
     → ((k : ℕ) → k < from → get_or ys k 0 ≡ get_or xs k 0)
-    → ((k : ℕ) → from ≤ k → k < length xs → get_or ys k 0 ≡ get_or xs k 0 % 16 * 16 + get_or (xs ++ (last * 16) ∷ []) (suc k) 0 / 16)
+    → ((k : ℕ) → from ≤ k → k < length xs
+    → get_or ys k 0 ≡ get_or xs k 0 % 16 * 16 + get_or (xs ++ (last * 16) ∷ []) (suc k) 0 / 16)
     → halves ys ≡ take (2 * from) (halves xs) ++ (drop (2 * from + 1) (halves xs) ++ last ∷ [])
 unfolding halves
 halves_shifted_from zero xs ys last p z n b s f = halves_shifted xs ys last p z n b (λ k q. f k (omega arith) q)
@@ -128,8 +141,9 @@ halves_shifted_from (suc from) (x ∷ xs) (y ∷ ys) last p z n b s f =
     halves_shifted_from from xs ys last p (omega arith) (omega arith) (λ k q. b (suc k) (omega arith)) (λ k q. s (suc k) (omega arith)) (λ k w q. f (suc k) (omega arith) (omega arith)) in
     rw (e, t, d, r) refl
 
--- bytes that hold digits, two at a time
-pub halves_packed : (bs ds : List ℕ) → length bs ≡ (length ds + 1) / 2 → ((k : ℕ) → k < length ds → get_or ds k 0 < 16)
+-- bytes that are made of digits, two at a time, have these as their halves
+pub halves_packed : (bs ds : List ℕ) → length bs ≡ (length ds + 1) / 2
+    → ((k : ℕ) → k < length ds → get_or ds k 0 < 16)
     → ((k : ℕ) → k < length bs → get_or bs k 0 ≡ get_or ds (2 * k) 0 * 16 + get_or ds (2 * k + 1) 0)
     → halves bs ≡ ds ++ replicate (length ds % 2) 0
 unfolding halves
@@ -150,7 +164,8 @@ halves_packed (b ∷ bs) (d ∷ (d' ∷ ds)) n p f =
     let h : b / 16 ≡ d = omega arith in
     let l : b % 16 ≡ d' = omega arith in
     let m : suc (suc (length ds)) % 2 ≡ length ds % 2 = omega arith in
-    let r : halves bs ≡ ds ++ replicate (length ds % 2) 0 = halves_packed bs ds (omega arith) (λ k q. p (suc (suc k)) (omega arith))
+    let r : halves bs ≡ ds ++ replicate (length ds % 2) 0 =
+    halves_packed bs ds (omega arith) (λ k q. p (suc (suc k)) (omega arith))
     (λ k q. f (suc k) (omega arith)
     ∙ ap (λ i. get_or (d ∷ (d' ∷ ds)) i 0 * 16 + get_or (d ∷ (d' ∷ ds)) (2 * suc k + 1) 0) (let e1 : 2 * suc k ≡ suc (suc (2 * k)) = omega arith in e1)
     ∙ ap (λ i. get_or ds (2 * k) 0 * 16 + get_or (d ∷ (d' ∷ ds)) i 0) (let e2 : 2 * suc k + 1 ≡ suc (suc (2 * k + 1)) = omega arith in e2)) in

@@ -1,6 +1,6 @@
 -- The digits that packed bytes hold.
-use Rattle.std.proofs.Common.{◌≡◌, ℕ, zero, suc, ◌+◌, ◌-◌, ◌*◌, ◌/◌, ◌%◌, ◌<◌, ◌≤◌, List, [], ◌∷◌, ◌++◌, length, get_or, set, take, drop, replicate, refl, sym, ◌∙◌, ap, subst, zero-add, arith, rules}
-use Rattle.std.proofs.lemmas.List.{length-append, length-take, length-take-le, length-drop, length-replicate, length-set, take_at, take-take, append-nil, append_assoc, drop-append-le, take-append-le, replicate-append-replicate, set-append_left, set_at, drop-drop}
+use Rattle.std.proofs.Common.{◌≡◌, ℕ, zero, suc, ◌+◌, ◌-◌, ◌*◌, ◌/◌, ◌%◌, ◌<◌, ◌≤◌, List, [], ◌∷◌, ◌++◌, length, set, take, drop, replicate, refl, sym, ◌∙◌, ap, zero-add, arith, rules}
+use Rattle.std.proofs.lemmas.List.{length-append, length-take-le, length-drop, length-replicate, length-set, take_at, take-take, append-nil, append_assoc, drop-append-le, replicate-append-replicate, set-append_left, set_at, drop-drop}
 use Rattle.std.specs.Prelude.{All}
 use Rattle.std.proofs.lemmas.Grind.{elements}
 use Rattle.decimal_digits.specs.Halves.{halves, digits_in, IsPacked}
@@ -16,27 +16,34 @@ holds bytes ds len e n h =
     let u : halves bytes ≡ digits_in bytes len ++ replicate (len % 2) 0 = rw t e in
     record { packed = record { count = c; decimal = rw t h; unused = u }; digits = t }
 
+-- no bytes hold no digits
 pub holds_none : Holds [] 0 []
 unfolding halves
 holds_none = holds [] [] 0 refl refl (search rules)
 
 -- ---- digits 0 to 9
-pub decimal_set : (xs : List ℕ) (i d : ℕ) → All (λ d. d < 10) xs → d < 10 → All (λ d. d < 10) (set xs i d)
+-- a digit written
+decimal_set : (xs : List ℕ) (i d : ℕ) → All (λ d. d < 10) xs → d < 10 → All (λ d. d < 10) (set xs i d)
 decimal_set xs i d h p = grind (arith, elements)
 
-pub decimal_push : (xs : List ℕ) (d : ℕ) → All (λ d. d < 10) xs → d < 10 → All (λ d. d < 10) (xs ++ d ∷ [])
+-- a digit appended
+decimal_push : (xs : List ℕ) (d : ℕ) → All (λ d. d < 10) xs → d < 10 → All (λ d. d < 10) (xs ++ d ∷ [])
 decimal_push xs d h p = grind (arith, elements)
 
-pub decimal_take : (xs : List ℕ) (n : ℕ) → All (λ d. d < 10) xs → All (λ d. d < 10) (take n xs)
+-- the first digits
+decimal_take : (xs : List ℕ) (n : ℕ) → All (λ d. d < 10) xs → All (λ d. d < 10) (take n xs)
 decimal_take xs n h = grind (arith, elements)
 
-pub decimal_drop : (xs : List ℕ) (n : ℕ) → All (λ d. d < 10) xs → All (λ d. d < 10) (drop n xs)
+-- the digits behind them
+decimal_drop : (xs : List ℕ) (n : ℕ) → All (λ d. d < 10) xs → All (λ d. d < 10) (drop n xs)
 decimal_drop xs n h = grind (arith, elements)
 
-pub decimal_zeros : (xs : List ℕ) (n : ℕ) → All (λ d. d < 10) xs → All (λ d. d < 10) (xs ++ replicate n 0)
+-- zeros appended
+decimal_zeros : (xs : List ℕ) (n : ℕ) → All (λ d. d < 10) xs → All (λ d. d < 10) (xs ++ replicate n 0)
 decimal_zeros xs n h = grind (arith, elements)
 
-pub decimal_append : (xs ys : List ℕ) → All (λ d. d < 10) xs → All (λ d. d < 10) ys → All (λ d. d < 10) (xs ++ ys)
+-- two lists joined
+decimal_append : (xs ys : List ℕ) → All (λ d. d < 10) xs → All (λ d. d < 10) ys → All (λ d. d < 10) (xs ++ ys)
 decimal_append xs ys h g = grind (arith, elements)
 
 -- ---- lists of zeros
@@ -52,7 +59,8 @@ take_zeros [] i j h = ap (λ n. take n (replicate j 0)) (zero-add i) ∙ fewer i
 take_zeros (x ∷ xs) i j h = let e : suc (length xs) + i ≡ suc (length xs + i) = omega arith in rw e (ap (λ l. x ∷ l) (take_zeros xs i j h))
 
 -- the digits before a half that is made 0
-clear_last : (xs : List ℕ) (count : ℕ) → count < length xs → set (take (suc count) xs) count 0 ≡ take count xs ++ 0 ∷ []
+clear_last : (xs : List ℕ) (count : ℕ) → count < length xs
+    → set (take (suc count) xs) count 0 ≡ take count xs ++ 0 ∷ []
 clear_last [] count h = absurd (omega arith)
 clear_last (x ∷ xs) zero h = refl
 clear_last (x ∷ xs) (suc count) h = ap (λ l. x ∷ l) (clear_last xs count (omega arith))
@@ -63,6 +71,7 @@ module _ (bs : List ℕ) (len : ℕ) (p : IsPacked bs len) where
   even_halves : len % 2 ≡ 0 → halves bs ≡ digits_in bs len
   even_halves m = p.unused ∙ ap (λ k. digits_in bs len ++ replicate k 0) m ∙ append-nil (digits_in bs len)
 
+  -- a digit is written
   pub holds_set : (bs' : List ℕ) (index d : ℕ) → index < len → d < 10 → halves bs' ≡ set (halves bs) index d
       → Holds bs' len (set (digits_in bs len) index d)
   holds_set bs' index d h q e =
@@ -72,7 +81,9 @@ module _ (bs : List ℕ) (len : ℕ) (p : IsPacked bs len) where
       ap (λ l. set l index d) p.unused ∙ set-append_left (digits_in bs len) (replicate (len % 2) 0) index d l in
       holds bs' (set (digits_in bs len) index d) len (e ∙ s) (length-set (digits_in bs len) index d ∙ n) (decimal_set (digits_in bs len) index d p.decimal q)
 
-  pub holds_push_even : (d : ℕ) → len % 2 ≡ 0 → d < 10 → Holds (bs ++ (d * 16) ∷ []) (len + 1) (digits_in bs len ++ d ∷ [])
+  -- a byte with a digit in its high half is appended
+  pub holds_push_even : (d : ℕ) → len % 2 ≡ 0 → d < 10
+      → Holds (bs ++ (d * 16) ∷ []) (len + 1) (digits_in bs len ++ d ∷ [])
   unfolding halves
   holds_push_even d h q =
       let n = length_digits bs len p in
@@ -85,6 +96,7 @@ module _ (bs : List ℕ) (len : ℕ) (p : IsPacked bs len) where
       ∙ rw (a, b, m) (sym (append_assoc (digits_in bs len) (d ∷ []) (0 ∷ []))) in
       holds (bs ++ (d * 16) ∷ []) (digits_in bs len ++ d ∷ []) (len + 1) e (omega (arith, length-append (digits_in bs len) (d ∷ []))) (decimal_push (digits_in bs len) d p.decimal q)
 
+  -- a digit is written into the half that was left over
   pub holds_push_odd : (bs' : List ℕ) (d : ℕ) → len % 2 ≡ 1 → d < 10 → halves bs' ≡ set (halves bs) len d
       → Holds bs' (len + 1) (digits_in bs len ++ d ∷ [])
   holds_push_odd bs' d h q e =
@@ -95,6 +107,7 @@ module _ (bs : List ℕ) (len : ℕ) (p : IsPacked bs len) where
       ap (λ l. set l len d) f ∙ set_at (digits_in bs len) 0 [] d len n ∙ rw m (sym (append-nil (digits_in bs len ++ d ∷ []))) in
       holds bs' (digits_in bs len ++ d ∷ []) (len + 1) (e ∙ s) (omega (arith, length-append (digits_in bs len) (d ∷ []))) (decimal_push (digits_in bs len) d p.decimal q)
 
+  -- the first bytes hold an even number of digits
   pub holds_take_even : (count k : ℕ) → count ≤ len → count % 2 ≡ 0 → k ≡ (count + 1) / 2
       → Holds (take k bs) count (take count (digits_in bs len))
   holds_take_even count k h m e =
@@ -104,6 +117,7 @@ module _ (bs : List ℕ) (len : ℕ) (p : IsPacked bs len) where
       halves-take k bs ∙ rw (t, m) (sym (append-nil (take count (digits_in bs len)) ∙ take-take count len (halves bs) h)) in
       holds (take k bs) (take count (digits_in bs len)) count f (length-take-le count (digits_in bs len) (omega arith)) (decimal_take (digits_in bs len) count p.decimal)
 
+  -- the first bytes hold an odd number of digits once their last half is 0
   pub holds_take_odd : (bs' : List ℕ) (count k : ℕ) → count ≤ len → count % 2 ≡ 1 → k ≡ (count + 1) / 2
       → halves bs' ≡ set (halves (take k bs)) count 0 → Holds bs' count (take count (digits_in bs len))
   holds_take_odd bs' count k h m e g =
@@ -117,7 +131,9 @@ module _ (bs : List ℕ) (len : ℕ) (p : IsPacked bs len) where
       ∙ rw m (ap (λ l. l ++ 0 ∷ []) (sym (take-take count len (halves bs) h))) in
       holds bs' (take count (digits_in bs len)) count f (length-take-le count (digits_in bs len) (omega arith)) (decimal_take (digits_in bs len) count p.decimal)
 
-  pub holds_drop_even : (count : ℕ) → count ≤ len → count % 2 ≡ 0 → Holds (drop (count / 2) bs) (len - count) (drop count (digits_in bs len))
+  -- the bytes behind an even number of digits
+  pub holds_drop_even : (count : ℕ) → count ≤ len → count % 2 ≡ 0
+      → Holds (drop (count / 2) bs) (len - count) (drop count (digits_in bs len))
   holds_drop_even count h m =
       let n = length_digits bs len p in
       let t : 2 * (count / 2) ≡ count = omega arith in
@@ -128,6 +144,7 @@ module _ (bs : List ℕ) (len : ℕ) (p : IsPacked bs len) where
       ∙ ap (λ j. drop count (digits_in bs len) ++ replicate j 0) q in
       holds (drop (count / 2) bs) (drop count (digits_in bs len)) (len - count) f (omega (arith, length-drop count (digits_in bs len))) (decimal_drop (digits_in bs len) count p.decimal)
 
+  -- the bytes behind an odd number of digits, shifted by a half
   pub holds_drop_odd : (bs' : List ℕ) (count k : ℕ) → count ≤ len → count % 2 ≡ 1 → k ≡ (len - count + 1) / 2
       → halves bs' ≡ drop 1 (halves (drop (count / 2) bs)) ++ 0 ∷ []
       → Holds (take k bs') (len - count) (drop count (digits_in bs len))
@@ -148,7 +165,9 @@ module _ (bs : List ℕ) (len : ℕ) (p : IsPacked bs len) where
       ∙ take_zeros (drop count ds) ((len - count) % 2) (len % 2 + 1) (omega arith) in
       holds (take k bs') (drop count ds) (len - count) f l (decimal_drop ds count p.decimal)
 
-  pub holds_zeros : (zeros k : ℕ) → k ≡ (len + zeros + 1) / 2 - length bs → Holds (bs ++ replicate k 0) (len + zeros) (digits_in bs len ++ replicate zeros 0)
+  -- zero bytes are appended
+  pub holds_zeros : (zeros k : ℕ) → k ≡ (len + zeros + 1) / 2 - length bs
+      → Holds (bs ++ replicate k 0) (len + zeros) (digits_in bs len ++ replicate zeros 0)
   holds_zeros zeros k e =
       let n = length_digits bs len p in
       let c = p.count in
@@ -164,6 +183,7 @@ module _ (bs : List ℕ) (len : ℕ) (p : IsPacked bs len) where
 
   -- ---- two stores
   module _ (cs : List ℕ) (n : ℕ) (q : IsPacked cs n) where
+    -- bytes behind an even number of digits
     pub holds_append_even : len % 2 ≡ 0 → Holds (bs ++ cs) (len + n) (digits_in bs len ++ digits_in cs n)
     holds_append_even m =
         let ds = digits_in bs len in
@@ -174,6 +194,7 @@ module _ (bs : List ℕ) (len : ℕ) (p : IsPacked bs len) where
         ∙ sym (append_assoc ds es (replicate (n % 2) 0)) ∙ ap (λ k. (ds ++ es) ++ replicate k 0) w in
         holds (bs ++ cs) (ds ++ es) (len + n) f (omega (arith, length-append ds es, length_digits bs len p, length_digits cs n q)) (decimal_append ds es p.decimal q.decimal)
 
+    -- halves behind an odd number of digits
     pub holds_append_odd : (bs' : List ℕ) → len % 2 ≡ 1
         → halves bs' ≡ (take (2 * length bs - 1) (halves bs) ++ digits_in cs n) ++ replicate ((n + 1) % 2) 0
         → Holds bs' (len + n) (digits_in bs len ++ digits_in cs n)

@@ -7,9 +7,10 @@ mod halves;
 
 use super::DigitStore;
 use bytes::{
-    append_digits, append_zeros, cut_digits, keep_digits, pack_digits, push_digit, set_digit,
+    append_digits, append_zeros, cut_digits, keep_digits, pack_digits, push_digit, reserve_digits,
+    set_digit,
 };
-use halves::{byte_count, half_at};
+use halves::half_at;
 use smallvec::SmallVec;
 use std::alloc::{AllocError, Global};
 
@@ -93,7 +94,7 @@ impl DigitStore for PackedDigits {
 
     fn reserve(&mut self, count: usize) -> Result<(), AllocError> {
         let total = self.len.checked_add(count).ok_or(AllocError)?;
-        self.bytes.reserve(byte_count(total) - self.bytes.len())
+        reserve_digits(&mut self.bytes, total)
     }
 
     fn truncate(&mut self, count: usize) {
@@ -114,7 +115,7 @@ impl DigitStore for PackedDigits {
     fn append(&mut self, zeros: usize, other: &Self) -> Result<(), AllocError> {
         let start = self.len.checked_add(zeros).ok_or(AllocError)?;
         let total = start.checked_add(other.len).ok_or(AllocError)?;
-        self.bytes.reserve(byte_count(total) - self.bytes.len())?;
+        reserve_digits(&mut self.bytes, total)?;
         append_zeros(&mut self.bytes, self.len, zeros);
         append_digits(&mut self.bytes, start, other.bytes.as_slice(), other.len);
         self.len = total;

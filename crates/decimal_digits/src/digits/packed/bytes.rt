@@ -1,6 +1,6 @@
 //! Lists of digits packed into bytes, two to a byte.
-ghost use Rattle.std.specs.Prelude.{◌≡◌, ℕ, ◌+◌, ◌-◌, ◌*◌, ◌^◌, ◌<◌, ◌≤◌, [], ◌∷◌, ◌++◌, length, take, drop, replicate, slice_set, All, IsOk, IfOk};
-ghost use Rattle.smallvec.specs.SmallVec.{SmallVec};
+ghost use Rattle.std.specs.Prelude.{◌≡◌, ℕ, ◌+◌, ◌-◌, ◌*◌, ◌^◌, ◌<◌, ◌≤◌, [], ◌∷◌, ◌++◌, length, take, drop, replicate, slice_set, All, IsOk, IfOk, OnOk};
+ghost use Rattle.smallvec.specs.SmallVec.{small_vec_len};
 ghost use Rattle.decimal_digits.specs.Halves.{digits_in, IsPacked};
 ghost use Rattle.decimal_digits.specs.Packing.{Holds};
 
@@ -22,6 +22,18 @@ pub(super) fn pack_digits(alloc: Global, digits: &[u8]) -> Result<SmallVec<u8, 8
     pack(bytes.as_mut_slice(), digits);
     let _at_least = bytes.capacity();
     Ok(bytes)
+}
+
+/// Makes room for so many digits in all.
+pub(super) fn reserve_digits(bytes: &mut SmallVec<u8, 8>, total: usize) -> Result<(), AllocError>
+    requires { 2 * small_vec_len bytes.old ≤ total + 1 }
+    ensures ok { OnOk result (total ≤ 2 * bytes.new.capacity) }
+    ensures items { bytes.new.items ≡ bytes.old.items }
+    ensures capacity { bytes.old.capacity ≤ bytes.new.capacity }
+    ensures succeeds { total ≤ 2 * bytes.old.capacity → IsOk result }
+{
+    let held = bytes.len();
+    bytes.reserve(byte_count(total) - held)
 }
 
 /// Puts a digit in the place of the one at an index.

@@ -61,7 +61,8 @@ pub(super) fn pack(bytes: &mut [u8], digits: &[u8])
 pub(super) fn shift_halves(bytes: &mut [u8], at: usize, last: u8)
     requires in_range { at < length bytes.old }
     requires is_half { last < 16 }
-    ensures { halves bytes.new ≡ take (2 * at) (halves bytes.old) ++ (drop (2 * at + 1) (halves bytes.old) ++ last ∷ []) }
+    ensures { halves bytes.new
+        ≡ take (2 * at) (halves bytes.old) ++ (drop (2 * at + 1) (halves bytes.old) ++ last ∷ []) }
 {
     let end = bytes.len() - 1;
     for i in at..end {

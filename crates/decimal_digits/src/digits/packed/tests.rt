@@ -2,6 +2,7 @@
 use super::PackedDigits;
 use crate::digits::DigitStore;
 use std::alloc::{AllocError, Global};
+use std::process::Abort;
 use std::test::Fail;
 
 /// One change of a list.
@@ -43,7 +44,12 @@ fn list_of(alloc: Global, text: &[u8]) -> Result<PackedDigits, AllocError> {
     Ok(list)
 }
 
-const BYTES: [(&[u8], Change, &[u8]); 14] = [
+/// Asserts which bytes a list has.
+fn assert_bytes(rt: &impl Abort, found: PackedDigits, bytes: &[u8]) {
+    assert_eq!(rt; found.bytes.as_slice(), bytes);
+}
+
+const BYTES: &[(&[u8], Change, &[u8])] = &[
     (b"12345", Change::Nothing, b"\x12\x34\x50"),
     (b"12345", Change::CutFront(1), b"\x23\x45"),
     (b"12345", Change::Truncate(3), b"\x12\x30"),
@@ -63,28 +69,46 @@ const BYTES: [(&[u8], Change, &[u8]); 14] = [
 #[test]
 fn packs_two_digits_to_a_byte(rt: HostRuntime) -> Result<(), Fail> {
     for (text, change, bytes) in BYTES {
-        let list = changed(rt.alloc(), text, change)?;
-        assert_eq!(rt; list.bytes.as_slice(), bytes);
+        assert_bytes(&rt, changed(rt.alloc(), text, *change)?, bytes);
     }
     Ok(())
 }
 
-const PLACES: [(&[u8], Change, bool); 8] = [
-    (b"1234567890123456", Change::Nothing, false),
-    (b"12345678901234567", Change::Nothing, true),
-    (b"123456789012345", Change::Append(0, b"6"), false),
-    (b"123456789012345", Change::Append(1, b""), false),
-    (b"123456789", Change::Append(1, b"123456"), false),
-    (b"12345678", Change::Append(2, b"123456"), false),
-    (b"123456789012345", Change::Append(1, b"7"), true),
-    (b"1234567890123456", Change::Append(0, b"7"), true),
+/// Asserts whether the digits lie in place.
+fn assert_lies_in_place(rt: &impl Abort, found: PackedDigits, in_place: bool) {
+    assert!(rt; found.bytes.spilled() != in_place);
+}
+
+const IN_PLACE: &[(&[u8], Change)] = &[
+    (b"1234567890123456", Change::Nothing),
+    (b"1234567890123456", Change::CutFront(1)),
+    (b"1234567890123456", Change::Truncate(15)),
+    (b"123456789012345", Change::Append(0, b"6")),
+    (b"123456789012345", Change::Append(1, b"")),
+    (b"123456789", Change::Append(1, b"123456")),
+    (b"123456789", Change::Append(0, b"1234567")),
+    (b"12345678", Change::Append(2, b"123456")),
 ];
 
 #[test]
 fn holds_sixteen_digits_in_place(rt: HostRuntime) -> Result<(), Fail> {
-    for (text, change, spilled) in PLACES {
-        let list = changed(rt.alloc(), text, change)?;
-        assert_eq!(rt; list.bytes.spilled(), spilled);
+    for (text, change) in IN_PLACE {
+        assert_lies_in_place(&rt, changed(rt.alloc(), text, *change)?, true);
+    }
+    Ok(())
+}
+
+const ELSEWHERE: &[(&[u8], Change)] = &[
+    (b"12345678901234567", Change::Nothing),
+    (b"123456789012345", Change::Append(1, b"7")),
+    (b"1234567890123456", Change::Append(0, b"7")),
+    (b"12345678901234567890", Change::CutFront(19)),
+];
+
+#[test]
+fn holds_more_digits_elsewhere(rt: HostRuntime) -> Result<(), Fail> {
+    for (text, change) in ELSEWHERE {
+        assert_lies_in_place(&rt, changed(rt.alloc(), text, *change)?, false);
     }
     Ok(())
 }

@@ -1,4 +1,4 @@
-use Rattle.std.proofs.Common.{◌≡◌, ℕ, ◌+◌, ◌-◌, ◌*◌, ◌/◌, ◌%◌, ◌<◌, ◌≤◌, List, [], ◌∷◌, ◌++◌, length, get_or, set, take, drop, replicate, refl, sym, ◌∙◌, ap, arith}
+use Rattle.std.proofs.Common.{◌≡◌, ◌%◌, arith}
 use Rattle.decimal_digits.proofs.Packing.{holds_append_even, holds_append_odd}
 use Rattle.decimal_digits.proofs.digits.packed.bytes.append_digits.Goals as goal
 

@@ -1,4 +1,4 @@
-use Rattle.std.proofs.Common.{◌≡◌, ℕ, ◌+◌, ◌-◌, ◌*◌, ◌/◌, ◌%◌, ◌<◌, ◌≤◌, List, [], ◌∷◌, ◌++◌, length, get_or, set, take, drop, replicate, refl, sym, ◌∙◌, ap, arith}
+use Rattle.std.proofs.Common.{length, refl, ◌∙◌, ap}
 use Rattle.decimal_digits.proofs.HalfPasses.{refill_same}
 use Rattle.decimal_digits.proofs.Packing.{holds}
 use Rattle.decimal_digits.proofs.digits.packed.bytes.pack_digits.Goals as goal

@@ -1,4 +1,4 @@
-use Rattle.std.proofs.Common.{◌≡◌, ℕ, ◌+◌, ◌-◌, ◌*◌, ◌/◌, ◌%◌, ◌<◌, ◌≤◌, List, [], ◌∷◌, ◌++◌, length, get_or, set, take, drop, replicate, refl, sym, ◌∙◌, ap, arith}
+use Rattle.std.proofs.Common.{◌≡◌, ◌%◌, arith}
 use Rattle.decimal_digits.proofs.Packing.{holds_push_even, holds_push_odd}
 use Rattle.decimal_digits.proofs.digits.packed.bytes.push_digit.Goals as goal
 

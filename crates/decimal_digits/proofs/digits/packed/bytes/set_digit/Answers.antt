@@ -1,4 +1,4 @@
-use Rattle.std.proofs.Common.{◌≡◌, ℕ, ◌+◌, ◌-◌, ◌*◌, ◌/◌, ◌%◌, ◌<◌, ◌≤◌, List, [], ◌∷◌, ◌++◌, length, get_or, set, take, drop, replicate, refl, sym, ◌∙◌, ap, arith}
+use Rattle.std.proofs.Common.{arith}
 use Rattle.decimal_digits.specs.Packing.{length-halves}
 use Rattle.decimal_digits.proofs.Packing.{holds_set}
 use Rattle.decimal_digits.proofs.digits.packed.bytes.set_digit.Goals as goal

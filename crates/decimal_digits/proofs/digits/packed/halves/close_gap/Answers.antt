@@ -1,4 +1,3 @@
-use Rattle.std.proofs.Common.{◌≡◌, ℕ, ◌+◌, ◌-◌, ◌*◌, ◌/◌, ◌%◌, ◌<◌, ◌≤◌, List, [], ◌∷◌, ◌++◌, length, get_or, set, take, drop, replicate, refl, sym, ◌∙◌, ap, arith}
 use Rattle.decimal_digits.proofs.HalfPasses.{gap_closed}
 use Rattle.decimal_digits.proofs.digits.packed.halves.close_gap.Goals as goal
 

@@ -1,4 +1,4 @@
-use Rattle.std.proofs.Common.{◌≡◌, ℕ, ◌+◌, ◌*◌, ◌/◌, ◌%◌, ◌<◌, length, get_or, sym, ◌∙◌, ap, arith}
+use Rattle.std.proofs.Common.{◌≡◌, ◌+◌, ◌*◌, ◌/◌, ◌<◌, length, get_or, sym, ◌∙◌, ap, arith}
 use Rattle.decimal_digits.specs.Halves.{halves}
 use Rattle.decimal_digits.specs.Packing.{length-halves}
 use Rattle.decimal_digits.proofs.Halves.{high_half, low_half}

@@ -1,4 +1,4 @@
-use Rattle.std.proofs.Common.{◌≡◌, ℕ, ◌+◌, ◌-◌, ◌*◌, ◌/◌, ◌%◌, ◌<◌, ◌≤◌, List, [], ◌∷◌, ◌++◌, length, get_or, set, take, drop, replicate, refl, sym, ◌∙◌, ap, arith}
+use Rattle.std.proofs.Common.{◌-◌, ◌/◌, length, refl, ◌∙◌, ap}
 use Rattle.decimal_digits.specs.Halves.{halves}
 use Rattle.decimal_digits.proofs.HalfPasses.{refill_same, joined, last_odd, last_even}
 use Rattle.decimal_digits.proofs.digits.packed.halves.join_halves.Goals.{then-count-eq1, else-count-eq1}

@@ -1,4 +1,4 @@
-use Rattle.std.proofs.Common.{◌≡◌, ℕ, ◌+◌, ◌-◌, ◌*◌, ◌/◌, ◌%◌, ◌<◌, ◌≤◌, List, [], ◌∷◌, ◌++◌, length, get_or, set, take, drop, replicate, refl, sym, ◌∙◌, ap, arith}
+use Rattle.std.proofs.Common.{◌≡◌, ◌+◌, ◌*◌, ◌/◌, length, get_or, ◌∙◌, ap, arith}
 use Rattle.std.proofs.lemmas.List.{get_or-drop}
 use Rattle.decimal_digits.proofs.HalfPasses.{pack_odd, pack_even}
 use Rattle.decimal_digits.proofs.digits.packed.halves.pack.Goals as goal

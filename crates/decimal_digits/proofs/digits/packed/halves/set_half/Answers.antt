@@ -1,4 +1,4 @@
-use Rattle.std.proofs.Common.{◌≡◌, ℕ, ◌+◌, ◌-◌, ◌*◌, ◌/◌, ◌%◌, ◌<◌, ◌≤◌, List, [], ◌∷◌, ◌++◌, length, get_or, set, take, drop, replicate, refl, sym, ◌∙◌, ap, arith}
+use Rattle.std.proofs.Common.{length, ap, arith}
 use Rattle.decimal_digits.specs.Packing.{length-halves}
 use Rattle.decimal_digits.proofs.HalfPasses.{set_even, set_odd}
 use Rattle.decimal_digits.proofs.digits.packed.halves.set_half.Goals as goal

@@ -1,4 +1,4 @@
-use Rattle.std.proofs.Common.{◌≡◌, ℕ, ◌+◌, ◌-◌, ◌*◌, ◌/◌, ◌%◌, ◌<◌, ◌≤◌, List, [], ◌∷◌, ◌++◌, length, get_or, set, take, drop, replicate, refl, sym, ◌∙◌, ap, arith}
+use Rattle.std.proofs.Common.{◌-◌, length, refl, arith}
 use Rattle.decimal_digits.proofs.HalfPasses.{shift_done}
 use Rattle.decimal_digits.proofs.digits.packed.halves.shift_halves.Goals as goal
 
