@@ -17,7 +17,7 @@ pub data Refusal : Type 0 where
   overlap : ℕ → Refusal
 
 -- goes on with what came out, or stays at the refusal
-abbrev pub and_then : {A B : Type 0} → Result A Refusal → (A → Result B Refusal) → Result B Refusal
+abbrev pub and_then : {A B E : Type 0} → Result A E → (A → Result B E) → Result B E
 and_then (Ok x) next = next x
 and_then (Err refusal) next = Err refusal
 

@@ -1,8 +1,7 @@
 //! Whole runs, and sinks that fail.
-use crate::run;
 use crate::{
     Call, ParseError, RoundingIncrement, RunError, SignedRoundingMode, Sink, SinkFault, TextBuf,
-    UnsignedDecimal, UnsignedRoundingMode, Writeable,
+    UnsignedDecimal, UnsignedRoundingMode, Writeable, run,
 };
 use std::alloc::Global;
 use std::process::Abort;
