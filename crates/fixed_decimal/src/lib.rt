@@ -31,6 +31,3 @@ pub use decimal_unsigned::{ConcatenateError, ParseError};
 pub use runs::{Call, RunError, run};
 pub use signed_decimal::Decimal;
 pub use variations::{Sign, SignDisplay, Signed};
-
-#[cfg(test)]
-mod tests;
