@@ -1,5 +1,6 @@
 -- One call more.
-use Rattle.std.proofs.Common.{◌≡◌, ℕ, suc, ◌+◌, ◌<◌, List, [], ◌∷◌, ◌++◌, length, get_or, take, drop, refl, sym, ◌∙◌, ap, arith}
+use Rattle.std.proofs.Common.{◌≡◌, ℕ, suc, ◌+◌, ◌<◌, List, [], ◌∷◌, ◌++◌, length, get_or, take, drop, refl, sym, ◌∙◌}
+use Rattle.std.proofs.Common.{ap, arith}
 use Rattle.std.specs.Prelude.{Result, Ok, Err}
 use Rattle.std.proofs.Math.Seq.{drop-cons}
 use Rattle.std.proofs.lemmas.List.{take_more, length-take-le}
@@ -18,7 +19,8 @@ and_then-Ok (Ok v) = refl
 and_then-Ok (Err e) = refl
 
 -- calls, and then one more
-after_calls-snoc : (at : ℕ) (v : Decimal) (xs : List Call) (x : Call) → after_calls at v (xs ++ x ∷ []) ≡ and_then (after_calls at v xs) (λ w. step (at + length xs) w x)
+after_calls-snoc : (at : ℕ) (v : Decimal) (xs : List Call) (x : Call)
+    → after_calls at v (xs ++ x ∷ []) ≡ and_then (after_calls at v xs) (λ w. step (at + length xs) w x)
 after_calls-snoc at v [] x = and_then-Ok (step at v x) ∙ ap (λ k. step k v x) (let e : at ≡ at + 0 = omega arith in e)
 after_calls-snoc at v (y ∷ ys) x = elim (step at v y) as (λ r. and_then r (λ w. after_calls (at + 1) w (ys ++ x ∷ [])) ≡ and_then (and_then r (λ w. after_calls (at + 1) w ys)) (λ w. step (at + suc (length ys)) w x)) [
   | Ok w ↦ after_calls-snoc (at + 1) w ys x ∙ ap (λ k. and_then (after_calls (at + 1) w ys) (λ u. step k u x)) (let e : at + 1 + length ys ≡ at + suc (length ys) = omega arith in e)
@@ -43,9 +45,11 @@ module _ {first v : Decimal} {calls : List Call} {at : ℕ} (i : IsAt first call
       ∙ after_calls-snoc 0 first (take at calls) (get_or calls at d)
       ∙ (rw (i.before, l) s)
 
-  rest_next : (w : Decimal) → step at v (get_or calls at d) ≡ Ok w → after_calls (at + 1) w (drop (at + 1) calls) ≡ after_calls 0 first calls
+  rest_next : (w : Decimal) → step at v (get_or calls at d) ≡ Ok w
+      → after_calls (at + 1) w (drop (at + 1) calls) ≡ after_calls 0 first calls
   rest_next w s = ap (λ r. and_then r (λ u. after_calls (at + 1) u (drop (at + 1) calls))) (sym s) ∙ sym next ∙ i.rest
 
+  -- where this call makes w, one call more made w
   pub goes_on : (w : Decimal) → step at v (get_or calls at d) ≡ Ok w → IsAt first calls (at + 1) w
   goes_on w s = record { before = before_next w s; rest = rest_next w s }
 
@@ -55,6 +59,7 @@ module _ {first v : Decimal} {calls : List Call} {at : ℕ} (i : IsAt first call
   comes : Comes first calls at v (get_or calls at d)
   comes = record { before = i.before; comes = slice_get-get_or calls at d h }
 
+  -- an error of this call is one of the calls
   pub refused : (held : ℕ) (e : RunError) → CallRefuses held e at v (get_or calls at d) → CallsRefuse held e first calls
   refused held (Operand k parse.Limit) r = rw r.0 (stops _ r.1)
   refused held (Operand k parse.Syntax) r = rw r.0 (stops _ r.1)

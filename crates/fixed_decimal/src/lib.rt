@@ -4,19 +4,24 @@
 //! `invoice: fixed_decimal`, and writes:
 //!
 //! ```
-//! use fixed_decimal::{Decimal, ParseError, Sign, TextBuf, Writeable};
+//! use fixed_decimal::{Call, RunError, Sign, Sink, run};
 //! use std::alloc::Global;
 //!
 //! /// Appends a number of cents as an amount that is owed: `250` as `-2.50`.
-//! pub fn write_owed(alloc: Global, cents: &str, sink: &mut TextBuf) -> Result<(), ParseError> {
-//!     let mut amount = Decimal::try_from_str(alloc, cents)?;
-//!     amount.multiply_pow10(-2);
-//!     amount.set_sign(Sign::Negative);
-//!     amount.write_to(sink).map_err(|_| ParseError::Memory)
+//! pub fn write_owed<W: Sink>(alloc: Global, cents: &str, sink: &mut W) -> Result<(), RunError> {
+//!     let calls = [Call::MultiplyPow10(-2), Call::SetSign(Sign::Negative)];
+//!     run(alloc, cents.as_bytes(), &calls, sink)
 //! }
 //! ```
 //!
-//! `run` does the same for a list of calls, and its contract names the text.
+//! The same call by call, for `Decimal` and a sink:
+//!
+//! ```
+//! let mut amount = Decimal::try_from_str(alloc, "250")?;
+//! amount.multiply_pow10(-2);
+//! amount.set_sign(Sign::Negative);
+//! amount.write_to(&mut sink)?; // -2.50
+//! ```
 #![tactic(auto)]
 
 mod runs;
