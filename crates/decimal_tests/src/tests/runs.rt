@@ -289,7 +289,7 @@ fn assert_writes(rt: &impl Abort, alloc: Global, rows: &[Run]) -> Result<(), Fai
     Ok(())
 }
 
-/// What a sink of so much room has taken when a run has ended; where the run has not failed with it, a plus stands last.
+/// What a sink of so much room has taken when a run has ended; a plus stands last where the run has not failed with it.
 fn taken(alloc: Global, start: &str, calls: &[Call<'_>], room: usize) -> Result<Vec<u8>, Fail> {
     let mut sink = Limited {
         text: Vec::with_capacity(alloc, room)?,
