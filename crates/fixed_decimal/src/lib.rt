@@ -1,16 +1,38 @@
 //! Decimals for display: numbers of up to 65,536 digits that keep their zeros as written, and whole runs of calls.
 //!
-//! A magnitude is a power of ten, from -32768 to 32767. `250` shifted by -2 prints `2.50`.
+//! A magnitude is a power of ten, from -32768 to 32767. A crate that stands on this one has in crates.txt a line as
+//! `invoice: fixed_decimal`, and writes:
+//!
+//! ```
+//! use fixed_decimal::{Call, RunError, Sign, Sink, run};
+//! use std::alloc::Global;
+//!
+//! /// Appends a number of cents as an amount that is owed: `250` as `-2.50`.
+//! pub fn write_owed<W: Sink>(alloc: Global, cents: &str, sink: &mut W) -> Result<(), RunError> {
+//!     let calls = [Call::MultiplyPow10(-2), Call::SetSign(Sign::Negative)];
+//!     run(alloc, cents.as_bytes(), &calls, sink)
+//! }
+//! ```
+//!
+//! The same call by call, for `Decimal` and a sink:
+//!
+//! ```
+//! let mut amount = Decimal::try_from_str(alloc, "250")?;
+//! amount.multiply_pow10(-2);
+//! amount.set_sign(Sign::Negative);
+//! amount.write_to(&mut sink)?; // -2.50
+//! ```
 #![tactic(auto)]
 
-pub mod run;
+mod runs;
+pub mod signed_decimal;
+pub mod variations;
 
 pub use decimal_digits::digits::Steps;
 pub use decimal_digits::rounding::{RoundingIncrement, SignedRoundingMode, UnsignedRoundingMode};
 pub use decimal_digits::sink::{Out, Sink, SinkFault, TextBuf, Writeable};
 pub use decimal_unsigned::decimal::UnsignedDecimal;
 pub use decimal_unsigned::{ConcatenateError, ParseError};
-pub use run::{Call, RunError};
-
-#[cfg(test)]
-mod tests;
+pub use runs::{Call, RunError, run};
+pub use signed_decimal::Decimal;
+pub use variations::{Sign, SignDisplay, Signed};
