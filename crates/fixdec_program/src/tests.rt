@@ -1,5 +1,5 @@
 //! Command lines, and what they print.
-use crate::program::program;
+use crate::program;
 use fixed_decimal::Out;
 use std::alloc::Global;
 use std::io;

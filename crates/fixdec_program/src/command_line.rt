@@ -7,6 +7,8 @@ use fixed_decimal::run::run;
 use fixed_decimal::{Call, Out, Sink};
 use std::alloc::Global;
 use std::io::Write;
+use std::rt::Env;
+use std::{env, io};
 
 /// The calls that the words name. All words are checked before memory is asked for.
 fn calls<'a>(alloc: Global, words: &'a [String]) -> Result<Vec<Call<'a>>, Fault> {
@@ -54,5 +56,31 @@ pub fn program<O: Write, E: Write>(
     match print(alloc, words, out) {
         Ok(()) => 0,
         Err(fault) => fault.report(err),
+    }
+}
+
+/// The words of the command line, without the program's name.
+fn arguments<R: Env + AllocGlobal>(rt: &R) -> io::Result<Vec<String>> {
+    let mut words = Vec::new(rt.alloc());
+    for word in env::args(rt)?.skip(1) {
+        words.push(word)?;
+    }
+    Ok(words)
+}
+
+/// Does the program's work on the words of the command line: `program` over them.
+///
+/// Where memory for the words was refused, that is `memory`, whatever the words are; a word that is not UTF-8 is
+/// answered with the usage line. Not in the original.
+pub fn run_command_line<R: Env + AllocGlobal, O: Write, E: Write>(
+    rt: &R,
+    out: &mut Out<O>,
+    err: &mut E,
+) -> u8
+    ensures { result ≤ 3 }
+{
+    match arguments(rt) {
+        Ok(words) => program(rt.alloc(), words.as_slice(), out, err),
+        Err(error) => Fault::of_arguments(&error).report(err),
     }
 }
