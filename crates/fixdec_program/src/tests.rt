@@ -1,20 +1,18 @@
 //! Command lines, and what they print.
+ghost use Rattle.std.specs.Prelude.{◌≤◌};
+
 use crate::program;
 use fixed_decimal::Out;
 use std::alloc::Global;
 use std::process::Abort;
 use std::test::Fail;
 
+mod full;
 mod prints;
 mod refuses;
 
-/// What a command line printed on standard output and on standard error, and its status.
-#[derive(Drop)]
-struct Answer {
-    out: Vec<u8>,
-    err: Vec<u8>,
-    status: u8,
-}
+/// More bytes than most answers have.
+const ROOM: usize = 64;
 
 /// The words of a line, with a blank between any two.
 fn words(alloc: Global, line: &str) -> Result<Vec<String>, Fail> {
@@ -25,52 +23,44 @@ fn words(alloc: Global, line: &str) -> Result<Vec<String>, Fail> {
     Ok(words)
 }
 
-/// What words print, with room for so many bytes on standard output.
-fn answered(alloc: Global, words: &[String], room: usize) -> Result<Answer, Fail> {
-    let mut out = Out::new(Vec::<u8>::with_capacity(alloc, room)?);
-    let mut err = Vec::<u8>::with_capacity(alloc, 32)?;
-    let status = program(alloc, words, &mut out, &mut err);
-    Ok(Answer {
-        out: out.into_writer(),
-        err,
-        status,
-    })
-}
-
-/// Asserts an answer.
-fn assert_answer(rt: &impl Abort, found: &Answer, out: &[u8], err: &[u8], status: u8) {
-    assert_eq!(rt; found.err.as_slice(), err);
-    assert_eq!(rt; found.out.as_slice(), out);
-    assert_eq!(rt; found.status, status);
-}
-
-/// Asserts what words print. Where memory is refused the program has to say so, and to answer so when it runs again.
-fn assert_words(
-    rt: &impl Abort,
-    alloc: Global,
-    words: &[String],
-    out: &[u8],
-    err: &[u8],
-    status: u8,
-) -> Result<(), Fail> {
-    let mut found = answered(alloc, words, out.len())?;
-    if found.status == 3 {
-        assert_answer(rt, &found, b"", b"memory\n", 3);
-        found = answered(alloc, words, out.len())?;
+/// What a status and two outputs say: at status 0 the text alone, without its line feed, and else all of it, as
+/// `1 start: syntax` with its line feed, which what standard output took stands before.
+fn told(mut out: Vec<u8>, err: &[u8], status: u8) -> Result<Vec<u8>, Fail>
+    requires { status ≤ 3 }
+{
+    if status == 0 && err.is_empty() && out.pop() == Some(b'\n') {
+        return Ok(out);
     }
-    assert_answer(rt, &found, out, err, status);
-    Ok(())
+    out.push(b'0' + status)?;
+    out.push(b' ')?;
+    out.extend_from_slice(err)?;
+    Ok(out)
 }
 
-/// Asserts what a line prints: `assert_words` of its words.
-fn assert_line(
-    rt: &impl Abort,
-    alloc: Global,
-    line: &str,
-    out: &[u8],
-    err: &[u8],
-    status: u8,
-) -> Result<(), Fail> {
+/// What the program tells, with room for so many bytes on standard output.
+fn answered(alloc: Global, words: &[String], room: usize) -> Result<Vec<u8>, Fail> {
+    let mut err = Vec::<u8>::with_capacity(alloc, ROOM)?;
+    let mut out = Out::new(Vec::<u8>::with_capacity(alloc, room)?);
+    let status = program(alloc, words, &mut out, &mut err);
+    told(out.into_writer(), err.as_slice(), status)
+}
+
+/// What the program tells. Where memory was refused it has to say so with nothing else, and runs again.
+fn answer_of(alloc: Global, words: &[String], room: usize) -> Result<Vec<u8>, Fail> {
+    let answer = answered(alloc, words, room)?;
+    if answer.as_slice() == b"3 memory\n".as_slice() {
+        return answered(alloc, words, room);
+    }
+    Ok(answer)
+}
+
+/// What a line tells.
+fn shown(alloc: Global, line: &str) -> Result<Vec<u8>, Fail> {
     let words = words(alloc, line)?;
-    assert_words(rt, alloc, words.as_slice(), out, err, status)
+    answer_of(alloc, words.as_slice(), ROOM)
+}
+
+/// Asserts what was told.
+fn assert_shows(rt: &impl Abort, found: Vec<u8>, text: &str) {
+    assert_eq!(rt; found.as_slice(), text.as_bytes());
 }
