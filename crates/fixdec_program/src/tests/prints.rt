@@ -101,7 +101,6 @@ const JOINS: &[(&str, &str)] = &[
     ("1e20 concat:7", "100000000000000000007"),
     ("0 concat:123456789", "123456789"),
     ("123456789e10 concat:1234567890", "1234567891234567890"),
-    ("12345678 round:-1:trunc:25", "12345677.5"),
     (
         "5 shift:1 shift:1 shift:1 shift:1 shift:1 shift:1 shift:1 shift:1 shift:1 shift:1 shift:1 concat:7",
         "500000000007",
@@ -161,6 +160,22 @@ fn joins(rt: HostRuntime) -> Result<(), Fail> {
     for (line, text) in JOINS {
         assert_shows(&rt, shown(alloc, line)?, text);
     }
+    Ok(())
+}
+
+/// The start, the operand and the joined digits are long, so that each asks for memory.
+#[test]
+fn joins_long_numbers(rt: HostRuntime) -> Result<(), Fail> {
+    let found = shown(rt.alloc(), "1234567890 concat:0.123456789")?;
+    assert_shows(&rt, found, "1234567890.123456789");
+    Ok(())
+}
+
+/// The rounding needs one digit more than is held without memory.
+#[test]
+fn rounds_to_one_digit_more(rt: HostRuntime) -> Result<(), Fail> {
+    let found = shown(rt.alloc(), "12345678 round:-1:trunc:25")?;
+    assert_shows(&rt, found, "12345677.5");
     Ok(())
 }
 
