@@ -6,6 +6,8 @@ use crate::words::call;
 use fixed_decimal::{Call, Out, Sink, run};
 use std::alloc::Global;
 use std::io::Write;
+use std::rt::Env;
+use std::{env, io};
 
 /// The calls that the words name. All words are checked before memory is asked for.
 fn calls<'a>(alloc: Global, words: &'a [String]) -> Result<Vec<Call<'a>>, Fault> {
@@ -33,10 +35,11 @@ fn print<O: Write>(alloc: Global, words: &[String], out: &mut Out<O>) -> Result<
 /// Does the program's work: reads the words after its name, prints, and answers the exit status.
 ///
 /// The first word is the start, each other word a call: `shift:D`, `trim-start`, `trim-end`, `trim-end-if-integer`,
-/// `pad-start:P`, `pad-end:P`, `max:P`, `round:P:MODE:INC` with a mode of `ceil`, `floor`, `expand`, `trunc`, `half-ceil`,
-/// `half-floor`, `half-expand`, `half-trunc` and `half-even` and an increment of 1, 2, 5 and 25, `sign:S` with `none`,
-/// `minus` and `plus`, `display:S` with `auto`, `never`, `always`, `except-zero` and `negative`, or `concat:TEXT`, whose text is all that follows the colon. D and
-/// P are an optional minus and one to six digits, with a value of -32768 to 32767.
+/// `pad-start:P`, `pad-end:P`, `max:P`; `round:P:MODE:INC` with a mode of `ceil`, `floor`, `expand`, `trunc`,
+/// `half-ceil`, `half-floor`, `half-expand`, `half-trunc` and `half-even` and an increment of 1, 2, 5 and 25;
+/// `sign:SIGN` with `none`, `minus` and `plus`; `display:DISPLAY` with `auto`, `never`, `always`, `except-zero` and
+/// `negative`; or `concat:TEXT`, whose text is all that follows the colon. D and P are an optional minus and one to
+/// six digits, with a value of -32768 to 32767.
 ///
 /// Status 0: the text and a line feed were printed. Else one line goes to `err`: with status 1 `start: syntax`,
 /// `start: limit`, `call K: syntax`, `call K: limit` or `call K: overlap`, the calls counted from 0, and nothing is
@@ -54,5 +57,31 @@ pub fn program<O: Write, E: Write>(
     match print(alloc, words, out) {
         Ok(()) => 0,
         Err(fault) => fault.report(err),
+    }
+}
+
+/// The words of the command line, without the program's name.
+fn arguments<R: Env + AllocGlobal>(rt: &R) -> io::Result<Vec<String>> {
+    let mut words = Vec::new(rt.alloc());
+    for word in env::args(rt)?.skip(1) {
+        words.push(word)?;
+    }
+    Ok(words)
+}
+
+/// Does the program's work on the words of the command line: `program` over them.
+///
+/// Where memory for the words was refused, that is `memory`, whatever the words are; a word that is not UTF-8 is
+/// answered with the usage line. Not in the original.
+pub fn run_command_line<R: Env + AllocGlobal, O: Write, E: Write>(
+    rt: &R,
+    out: &mut Out<O>,
+    err: &mut E,
+) -> u8
+    ensures { result ≤ 3 }
+{
+    match arguments(rt) {
+        Ok(words) => program(rt.alloc(), words.as_slice(), out, err),
+        Err(error) => Fault::of_arguments(&error).report(err),
     }
 }

@@ -16,19 +16,25 @@ fn number(word: &str) -> Option<i16> {
 
 /// The mode of a rounding.
 fn mode(word: &str) -> Option<SignedRoundingMode> {
-    let mode = match word {
-        "ceil" => return Some(SignedRoundingMode::Ceil),
-        "floor" => return Some(SignedRoundingMode::Floor),
-        "half-ceil" => return Some(SignedRoundingMode::HalfCeil),
-        "half-floor" => return Some(SignedRoundingMode::HalfFloor),
-        "expand" => UnsignedRoundingMode::Expand,
-        "trunc" => UnsignedRoundingMode::Trunc,
-        "half-expand" => UnsignedRoundingMode::HalfExpand,
-        "half-trunc" => UnsignedRoundingMode::HalfTrunc,
-        "half-even" => UnsignedRoundingMode::HalfEven,
-        _ => return None,
-    };
-    Some(SignedRoundingMode::Unsigned(mode))
+    match word {
+        "ceil" => Some(SignedRoundingMode::Ceil),
+        "floor" => Some(SignedRoundingMode::Floor),
+        "half-ceil" => Some(SignedRoundingMode::HalfCeil),
+        "half-floor" => Some(SignedRoundingMode::HalfFloor),
+        _ => unsigned_mode(word).map(SignedRoundingMode::Unsigned),
+    }
+}
+
+/// The mode of a rounding that does not look at the sign.
+fn unsigned_mode(word: &str) -> Option<UnsignedRoundingMode> {
+    match word {
+        "expand" => Some(UnsignedRoundingMode::Expand),
+        "trunc" => Some(UnsignedRoundingMode::Trunc),
+        "half-expand" => Some(UnsignedRoundingMode::HalfExpand),
+        "half-trunc" => Some(UnsignedRoundingMode::HalfTrunc),
+        "half-even" => Some(UnsignedRoundingMode::HalfEven),
+        _ => None,
+    }
 }
 
 /// The increment of a rounding.

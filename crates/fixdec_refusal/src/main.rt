@@ -1,0 +1,10 @@
+//! The program `fixdec` once more, for a stored run that is refused: a crate has one stored run.
+#![tactic(auto)]
+
+use fixdec_program::run_command_line;
+use fixed_decimal::Out;
+use std::process::ExitCode;
+
+fn main(rt: HostRuntime) -> ExitCode {
+    ExitCode::from(run_command_line(&rt, &mut Out::new(rt.stdout()), &mut rt.stderr()))
+}

@@ -1,0 +1,57 @@
+//! A price from a number of cents and a rate in percent: a caller of `fixed_decimal` to copy from.
+//!
+//! 1999 cents at 100 percent are `19.99`, at 107 percent `21.39`.
+#![tactic(auto)]
+
+ghost use Rattle.std.specs.Prelude.{◌≡◌, ◌<◌, ◌*◌, Err, OnOk, true};
+ghost use Rattle.std.specs.Io.KnownBytes.{Appends};
+ghost use Rattle.decimal_digits.specs.Number.{size};
+ghost use Rattle.decimal_digits.specs.Text.{AppendsBeginning};
+ghost use Rattle.decimal_unsigned.specs.Text.{text};
+ghost use Rattle.decimal_unsigned.specs.Unsigned.{integer_value};
+ghost use Rattle.price.specs.Price.{price};
+
+#[cfg(test)]
+mod tests;
+
+use fixed_decimal::{Sink, UnsignedDecimal, Writeable};
+use std::alloc::Global;
+
+/// Why a price was not printed.
+#[derive(Debug, Drop, PartialEq)]
+pub enum PriceError {
+    /// Memory for the digits was refused. Nothing was printed.
+    Memory,
+    /// The sink refused a byte, and has taken a beginning of the price.
+    Sink,
+}
+
+/// Prints so many percent of a number of cents, rounded half-even to a cent.
+///
+/// 1250 cents at 5 percent print `0.62`. Err: `Memory` where memory was refused, which is asked for only where the
+/// product of cents and percent has more than 8 digits from the first to the last that is not 0, and then nothing is
+/// printed; `Sink` where the sink refused a byte, now or before.
+pub fn write_price<W: Sink>(
+    alloc: Global,
+    cents: u64,
+    percent: u32,
+    sink: &mut W,
+) -> Result<(), PriceError>
+    ensures written { OnOk result (Appends (W.contents sink.old) (W.contents sink.new) (text (price cents percent))) }
+    ensures memory { result ≡ Err PriceError.Memory → 8 < size (integer_value (cents * percent)).number }
+    ensures untouched { result ≡ Err PriceError.Memory → sink.new ≡ sink.old }
+    ensures begun { result ≡ Err PriceError.Sink
+        → AppendsBeginning (W.contents sink.old) (W.contents sink.new) (text (price cents percent)) }
+    ensures broken { result ≡ Err PriceError.Sink → W.has_failed sink.new ≡ true }
+{
+    let product = cents as u128 * percent as u128;
+    let Ok(mut value) = UnsignedDecimal::try_from_u128(alloc, product) else {
+        return Err(PriceError::Memory);
+    };
+    value.multiply_pow10(-4);
+    value.round(-2);
+    match value.write_to(sink) {
+        Ok(()) => Ok(()),
+        Err(_) => Err(PriceError::Sink),
+    }
+}
