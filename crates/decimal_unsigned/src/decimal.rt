@@ -34,10 +34,15 @@ pub struct UnsignedOver<D: DigitStore> {
     lo: i16,
 }
 
+/// The store of digits of an unsigned decimal.
+///
+/// Not in the original.
+pub type DecimalStore = DigitList;
+
 /// An unsigned decimal.
 ///
 /// The original's `UnsignedDecimal`.
-pub type UnsignedDecimal = UnsignedOver<DigitList>;
+pub type UnsignedDecimal = UnsignedOver<DecimalStore>;
 
 impl<D: DigitStore> Model for UnsignedOver<D> {
     ghost use Rattle.decimal_digits.specs.Digits.{number_of};
