@@ -9,20 +9,23 @@ use fixed_decimal::{RoundingIncrement, Signed, SignedRoundingMode, Steps, Unsign
 use std::alloc::AllocError;
 use std::cell::Cell;
 
-/// A list of digits that counts those that are read, written, compared or copied.
+/// A store of digits that counts those that are read, written, compared or copied.
 ///
 /// It is also an example of a store: the ghost members say which list a value stands for, how many more digits fit and
 /// how many are held without memory, and each method meets the contract of the trait.
 #[derive(Drop)]
-pub struct CountingList {
-    list: DigitList,
+pub struct CountingStore<D: DigitStore> {
+    list: D,
     touched: Cell<usize>,
 }
+
+/// A list of digits that counts.
+pub type CountingList = CountingStore<DigitList>;
 
 /// What `restart` sets the count to, above all that a list which is made anew can have counted.
 const RESTART: usize = 1_000_000;
 
-impl CountingList {
+impl<D: DigitStore> CountingStore<D> {
     /// Counts so many digits more.
     fn touch(&self, count: usize) {
         self.touched.set(self.touched.get().saturating_add(count));
@@ -39,32 +42,32 @@ impl CountingList {
     }
 }
 
-impl DigitStore for CountingList {
-    ghost digits = { λ s. ⟦<DigitList as DigitStore>⟧.digits s.list };
+impl<D: DigitStore> DigitStore for CountingStore<D> {
+    ghost digits = { λ s. D.digits s.list };
 
-    ghost room = { λ s. ⟦<DigitList as DigitStore>⟧.room s.list };
+    ghost room = { λ s. D.room s.list };
 
-    ghost L = { ⟦<DigitList as DigitStore>⟧.L };
+    ghost L = { D.L };
 
-    const L: usize = 8;
+    const L: usize = D::L;
 
     fn empty(alloc: Global) -> Self {
-        CountingList {
-            list: DigitList::empty(alloc),
+        CountingStore {
+            list: D::empty(alloc),
             touched: Cell::new(0),
         }
     }
 
     fn from_digits(alloc: Global, list: &[u8]) -> Result<Self, AllocError> {
-        Ok(CountingList {
-            list: DigitList::from_digits(alloc, list)?,
+        Ok(CountingStore {
+            list: D::from_digits(alloc, list)?,
             touched: Cell::new(list.len()),
         })
     }
 
     fn clone(&self) -> Result<Self, AllocError> {
         self.touch(self.list.len());
-        Ok(CountingList {
+        Ok(CountingStore {
             list: self.list.clone()?,
             touched: Cell::new(self.touched.get()),
         })
@@ -115,13 +118,11 @@ impl DigitStore for CountingList {
         self.list.eq(&other.list)
     }
 
-    ghost use Rattle.std.proofs.Common.{rules};
+    ghost enough = { D.enough };
 
-    ghost enough = { Prim.search rules };
+    ghost roomy = { λ s. D.roomy s.list };
 
-    ghost roomy = { λ s. ⟦<DigitList as DigitStore>⟧.roomy s.list };
-
-    ghost are_digits = { λ s. ⟦<DigitList as DigitStore>⟧.are_digits s.list };
+    ghost are_digits = { λ s. D.are_digits s.list };
 }
 
 /// A decimal over the list that counts.
