@@ -63,6 +63,7 @@ expand_absorbs v w p q n l l' = ap (number_after Expand q) n ∙ expanded_again 
 
 pub round_once : RoundsOnce Trunc × RoundsOnce Expand
 unfolding once MakesOnce
-round_once =
-    (λ v p others valid all. make_once Trunc v (trunc_absorbs v valid) p others all,
-    λ v p others valid all. make_once Expand v (expand_absorbs v) p others all)
+round_once = (
+  λ v p others valid all. make_once Trunc v (trunc_absorbs v valid) p others all,
+  λ v p others valid all. make_once Expand v (expand_absorbs v) p others all,
+)

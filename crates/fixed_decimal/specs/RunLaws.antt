@@ -60,4 +60,4 @@ abbrev pub RoundsOnce : UnsignedRoundingMode → Type 0
 RoundsOnce mode =
     (v : Decimal) (position : ℤ) (others : List ℤ) → IsValue v.absolute → All IsPosition (position ∷ others)
     → (at : ℕ) → IsOkAnd (after_calls at v (map (rounding_at mode) (position ∷ others)))
-        (λ w. HasNumberOf w (rounded v (fold int_max position others) (Unsigned mode) MultiplesOf1))
+    (λ w. HasNumberOf w (rounded v (fold int_max position others) (Unsigned mode) MultiplesOf1))
