@@ -6,11 +6,13 @@ use std::test::Fail;
 
 mod changes;
 mod constructors;
+mod counting;
 mod equality;
 mod reading;
 mod rounding;
 mod runs;
 mod signs;
+mod stores;
 
 /// The decimal that a text writes.
 fn read(alloc: Global, text: &str) -> Result<Decimal, Fail> {

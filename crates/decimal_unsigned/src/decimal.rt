@@ -1,7 +1,8 @@
 //! The unsigned value.
-ghost use Rattle.std.specs.Prelude.{◌≡◌, ℕ, ◌+◌, ◌%◌, ◌^◌, ◌<◌, ◌≤◌, ◌↔◌, IsTrue, ℤ, false};
+ghost use Rattle.std.specs.Prelude.{◌≡◌, ℕ, ◌+◌, ◌%◌, ◌^◌, ◌<◌, ◌≤◌, ◌↔◌, length, IsTrue, ℤ, false};
 ghost use Rattle.std.specs.Range.{range_inclusive_start, range_inclusive_end, range_inclusive_exhausted};
-ghost use Rattle.decimal_digits.specs.Number.{digit, first, last, IsFirst, IsLast};
+ghost use Rattle.decimal_digits.specs.Digits.{number_of, IsStripped};
+ghost use Rattle.decimal_digits.specs.Number.{digit, first, last, size, IsFirst, IsLast};
 ghost use Rattle.decimal_unsigned.specs.Unsigned.{zero_value, IsValue};
 
 mod concatenate;
@@ -41,10 +42,15 @@ pub struct UnsignedOver<D: DigitStore> {
     lo: i16,
 }
 
+/// The store of digits of an unsigned decimal.
+///
+/// Not in the original.
+pub type DecimalStore = DigitList;
+
 /// An unsigned decimal.
 ///
 /// The original's `UnsignedDecimal`.
-pub type UnsignedDecimal = UnsignedOver<DigitList>;
+pub type UnsignedDecimal = UnsignedOver<DecimalStore>;
 
 impl<D: DigitStore> Model for UnsignedOver<D> {
     ghost use Rattle.decimal_digits.specs.Digits.{number_of};
@@ -152,5 +158,19 @@ impl<D: DigitStore> UnsignedOver<D> {
         ensures valid { IsValue self.now }
     {
         self.lo
+    }
+
+    /// Gives the digits from the first to the last that is not 0, the most significant one first.
+    ///
+    /// Of `012.340` they are 1, 2, 3 and 4, and the number 0 has none. The first of them stands at
+    /// `nonzero_magnitude_start`. Not in the original.
+    #[inline]
+    pub fn store(&self) -> &D
+        ensures number { number_of (D.digits result.now) (first self.now.number) ≡ self.now.number }
+        ensures length { length (D.digits result.now) ≡ size self.now.number }
+        // Neither the first nor the last of them is 0.
+        ensures stripped { IsStripped (D.digits result.now) }
+    {
+        &self.digits
     }
 }

@@ -33,6 +33,6 @@ pub use decimal_digits::rounding::{RoundingIncrement, SignedRoundingMode, Unsign
 pub use decimal_digits::sink::{Out, Sink, SinkFault, TextBuf, Writeable};
 pub use decimal_unsigned::decimal::UnsignedDecimal;
 pub use decimal_unsigned::{ConcatenateError, ParseError};
-pub use runs::{Call, RunError, run};
+pub use runs::{Call, RunError, run, run_over};
 pub use signed_decimal::Decimal;
 pub use variations::{Sign, SignDisplay, Signed};

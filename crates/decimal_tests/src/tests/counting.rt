@@ -1,0 +1,456 @@
+//! A store of digits that counts, and how many digits the roundings touch.
+use super::*;
+use decimal_digits::digits::{DigitList, DigitStore};
+use decimal_unsigned::decimal::UnsignedOver;
+use fixed_decimal::RoundingIncrement::{MultiplesOf1, MultiplesOf2, MultiplesOf5, MultiplesOf25};
+use fixed_decimal::SignedRoundingMode::{Ceil, Floor, HalfCeil, HalfFloor, Unsigned};
+use fixed_decimal::UnsignedRoundingMode::{Expand, HalfEven, HalfExpand, HalfTrunc, Trunc};
+use fixed_decimal::{RoundingIncrement, Signed, SignedRoundingMode, Steps, UnsignedRoundingMode};
+use std::alloc::AllocError;
+use std::cell::Cell;
+
+/// A store of digits that counts those that are read, written, compared or copied.
+///
+/// It is also an example of a store: the ghost members say which list a value stands for, how many more digits fit and
+/// how many are held without memory, and each method meets the contract of the trait.
+#[derive(Drop)]
+pub struct CountingStore<D: DigitStore> {
+    list: D,
+    touched: Cell<usize>,
+}
+
+/// A list of digits that counts.
+pub type CountingList = CountingStore<DigitList>;
+
+/// What `restart` sets the count to, above all that a list which is made anew can have counted.
+const RESTART: usize = 1_000_000;
+
+impl<D: DigitStore> CountingStore<D> {
+    /// Counts so many digits more.
+    fn touch(&self, count: usize) {
+        self.touched.set(self.touched.get().saturating_add(count));
+    }
+
+    /// Counts from here on.
+    fn restart(&self) {
+        self.touched.set(RESTART);
+    }
+
+    /// How many digits were touched since the last `restart`, and None where this list was made after it.
+    fn touched(&self) -> Option<usize> {
+        self.touched.get().checked_sub(RESTART)
+    }
+}
+
+impl<D: DigitStore> DigitStore for CountingStore<D> {
+    ghost digits = { λ s. D.digits s.list };
+
+    ghost room = { λ s. D.room s.list };
+
+    ghost L = { D.L };
+
+    const L: usize = D::L;
+
+    fn empty(alloc: Global) -> Self {
+        CountingStore {
+            list: D::empty(alloc),
+            touched: Cell::new(0),
+        }
+    }
+
+    fn from_digits(alloc: Global, list: &[u8]) -> Result<Self, AllocError> {
+        Ok(CountingStore {
+            list: D::from_digits(alloc, list)?,
+            touched: Cell::new(list.len()),
+        })
+    }
+
+    fn clone(&self) -> Result<Self, AllocError> {
+        self.touch(self.list.len());
+        Ok(CountingStore {
+            list: self.list.clone()?,
+            touched: Cell::new(self.touched.get()),
+        })
+    }
+
+    fn len(&self) -> usize {
+        self.list.len()
+    }
+
+    fn get(&self, index: usize) -> u8 {
+        self.touch(1);
+        self.list.get(index)
+    }
+
+    fn set(&mut self, index: usize, digit: u8) {
+        self.touch(1);
+        self.list.set(index, digit);
+    }
+
+    fn push_in_room(&mut self, digit: u8) {
+        self.touch(1);
+        self.list.push_in_room(digit);
+    }
+
+    fn reserve(&mut self, count: usize) -> Result<(), AllocError> {
+        self.list.reserve(count)
+    }
+
+    fn truncate(&mut self, count: usize) {
+        self.list.truncate(count);
+    }
+
+    fn cut_front(&mut self, count: usize) {
+        self.list.cut_front(count);
+    }
+
+    fn clear(&mut self) {
+        self.list.clear();
+    }
+
+    fn append(&mut self, zeros: usize, other: &Self) -> Result<(), AllocError> {
+        self.touch(zeros.saturating_add(other.list.len()));
+        self.list.append(zeros, &other.list)
+    }
+
+    fn eq(&self, other: &Self) -> bool {
+        self.touch(self.list.len().saturating_add(other.list.len()));
+        self.list.eq(&other.list)
+    }
+
+    ghost enough = { D.enough };
+
+    ghost roomy = { λ s. D.roomy s.list };
+
+    ghost are_digits = { λ s. D.are_digits s.list };
+}
+
+/// A decimal over the list that counts.
+type Counting = Signed<UnsignedOver<CountingList>>;
+
+/// A rounding call.
+#[derive(Clone, Copy)]
+enum Form {
+    Counted,
+    ByIncrement,
+    ByMode,
+    ByName,
+}
+
+/// The calls that take an increment.
+const WITH_INCREMENT: &[Form] = &[Form::Counted, Form::ByIncrement];
+
+/// The calls that round to multiples of 1.
+const ALL: &[Form] = &[Form::Counted, Form::ByIncrement, Form::ByMode, Form::ByName];
+
+/// A position, a mode and an increment.
+type Rounding = (i16, SignedRoundingMode, RoundingIncrement);
+
+/// The modes.
+const MODES: &[SignedRoundingMode] = &[
+    Ceil,
+    Unsigned(Expand),
+    Floor,
+    Unsigned(Trunc),
+    HalfCeil,
+    Unsigned(HalfExpand),
+    HalfFloor,
+    Unsigned(HalfTrunc),
+    Unsigned(HalfEven),
+];
+
+/// Texts that each mode rounds at 0.
+const NEAR_ONE: &[&[u8]] = &[
+    b"1.8", b"1.5", b"1.2", b"0.8", b"0.5", b"0.2", b"-0.2", b"-0.5", b"-0.8", b"-1.2", b"-1.5",
+    b"-1.8",
+];
+
+/// Texts and roundings by each increment, at the ends of the range too.
+const BY_INCREMENTS: &[(&[u8], Rounding)] = &[
+    (b"-7.266", (-2, Unsigned(Expand), MultiplesOf1)),
+    (b"-7.266", (-2, Unsigned(Expand), MultiplesOf2)),
+    (b"-7.266", (-2, Unsigned(Expand), MultiplesOf5)),
+    (b"-7.266", (-2, Unsigned(Expand), MultiplesOf25)),
+    (b"5.455", (-2, Unsigned(HalfExpand), MultiplesOf1)),
+    (b"5.455", (-2, Unsigned(HalfExpand), MultiplesOf5)),
+    (b"9.75", (-1, Unsigned(HalfEven), MultiplesOf1)),
+    (b"1.25", (-1, Unsigned(HalfEven), MultiplesOf5)),
+    (b"1.75", (-1, Unsigned(HalfEven), MultiplesOf5)),
+    (b"2.51", (0, Unsigned(HalfTrunc), MultiplesOf1)),
+    (b"0.009", (-1, Unsigned(Expand), MultiplesOf5)),
+    (b"0.60", (-2, Unsigned(Trunc), MultiplesOf25)),
+    (b"0.40", (-2, Unsigned(Trunc), MultiplesOf25)),
+    (b"0.60", (-2, Unsigned(Expand), MultiplesOf25)),
+    (b"0.7000000099", (-3, Unsigned(Trunc), MultiplesOf2)),
+    (b"0.7000000099", (-3, Unsigned(Expand), MultiplesOf2)),
+    (b"0.1", (0, Unsigned(Expand), MultiplesOf2)),
+    (b"0", (0, Unsigned(Expand), MultiplesOf25)),
+    (b"99.999", (-2, Unsigned(Expand), MultiplesOf1)),
+    (b"99.999", (-5, Unsigned(Expand), MultiplesOf1)),
+    (b"12.34", (1, Unsigned(Trunc), MultiplesOf1)),
+    (b"12.34", (-1, Unsigned(Trunc), MultiplesOf1)),
+    (b"7e-32768", (-32768, Unsigned(Trunc), MultiplesOf2)),
+    (b"7e-32768", (-32768, Unsigned(HalfExpand), MultiplesOf2)),
+    (b"9e-32768", (-32768, Unsigned(Expand), MultiplesOf5)),
+    (b"70e-32768", (-32768, Unsigned(Trunc), MultiplesOf25)),
+    (b"70e-32768", (-32768, Unsigned(Expand), MultiplesOf25)),
+    (b"7e32767", (32767, Unsigned(Trunc), MultiplesOf2)),
+    (b"7e32767", (32767, Unsigned(Expand), MultiplesOf2)),
+    (b"7e32767", (32767, Unsigned(Trunc), MultiplesOf5)),
+    (b"7e32767", (32767, Unsigned(Expand), MultiplesOf5)),
+    (b"7e32767", (32767, Unsigned(Trunc), MultiplesOf25)),
+    (b"7e32767", (32767, Unsigned(Expand), MultiplesOf25)),
+    (b"9e32766", (32766, Unsigned(Expand), MultiplesOf25)),
+];
+
+/// The steps of the chains from `4235.970`, each from what the step before left.
+const CHAIN: &[(i16, RoundingIncrement)] = &[
+    (-2, MultiplesOf2),
+    (-1, MultiplesOf5),
+    (0, MultiplesOf25),
+    (5, MultiplesOf5),
+    (2, MultiplesOf2),
+];
+
+/// The decimal that a text writes.
+fn read_counting(alloc: Global, text: &[u8]) -> Result<Counting, Fail> {
+    Ok(Counting::try_from_utf8(alloc, text)?)
+}
+
+/// Rounds in place by the call that bears the mode's name, where there is one.
+fn round_by_name(value: &mut Counting, position: i16, mode: SignedRoundingMode) {
+    match mode {
+        Ceil => value.ceil(position),
+        Floor => value.floor(position),
+        Unsigned(Expand) => value.expand(position),
+        Unsigned(Trunc) => value.trunc(position),
+        Unsigned(HalfEven) => value.round(position),
+        _ => value.round_with_mode(position, mode),
+    }
+}
+
+/// Rounds the absolute value in place by the call that bears the mode's name, where there is one.
+fn round_absolute_by_name(
+    value: &mut UnsignedOver<CountingList>,
+    position: i16,
+    mode: UnsignedRoundingMode,
+) {
+    match mode {
+        Expand => value.expand(position),
+        Trunc => value.trunc(position),
+        HalfEven => value.round(position),
+        _ => value.round_with_mode(position, mode),
+    }
+}
+
+/// Rounds in place by a call.
+fn round_by(
+    value: &mut Counting,
+    form: Form,
+    (position, mode, increment): Rounding,
+) -> Result<(), AllocError> {
+    match form {
+        Form::Counted => value.round_counted(position, mode, increment, &mut Steps::new())?,
+        Form::ByIncrement => value.round_with_mode_and_increment(position, mode, increment)?,
+        Form::ByMode => value.round_with_mode(position, mode),
+        Form::ByName => round_by_name(value, position, mode),
+    }
+    Ok(())
+}
+
+/// Rounds the absolute value in place by a call.
+fn round_absolute_by(
+    value: &mut UnsignedOver<CountingList>,
+    form: Form,
+    position: i16,
+    mode: UnsignedRoundingMode,
+    increment: RoundingIncrement,
+) -> Result<(), AllocError> {
+    match form {
+        Form::Counted => value.round_counted(position, mode, increment, &mut Steps::new())?,
+        Form::ByIncrement => value.round_with_mode_and_increment(position, mode, increment)?,
+        Form::ByMode => value.round_with_mode(position, mode),
+        Form::ByName => round_absolute_by_name(value, position, mode),
+    }
+    Ok(())
+}
+
+/// Rounds a value by the call that takes it whole, and bears the mode's name where there is one.
+fn rounded_by_name(value: Counting, position: i16, mode: SignedRoundingMode) -> Counting {
+    match mode {
+        Ceil => value.ceiled(position),
+        Floor => value.floored(position),
+        Unsigned(Expand) => value.expanded(position),
+        Unsigned(Trunc) => value.trunced(position),
+        Unsigned(HalfEven) => value.rounded(position),
+        _ => value.rounded_with_mode(position, mode),
+    }
+}
+
+/// Starts the count, and gives the most digits that a rounding may touch and leave.
+fn most(store: &CountingList) -> usize {
+    store.restart();
+    store.len().saturating_add(16)
+}
+
+/// Whether the digits touched and left are at most so many.
+fn is_within(store: &CountingList, most: usize) -> bool {
+    match store.touched() {
+        Some(touched) => touched.saturating_add(store.len()) <= most,
+        None => false,
+    }
+}
+
+/// Whether a rounding in place stays within the bound.
+fn stays_within(alloc: Global, text: &[u8], form: Form, rounding: Rounding) -> Result<bool, Fail> {
+    let mut value = read_counting(alloc, text)?;
+    let most = most(value.store());
+    round_by(&mut value, form, rounding)?;
+    Ok(is_within(value.store(), most))
+}
+
+/// Whether a rounding of the absolute value in place stays within the bound.
+fn absolute_stays_within(
+    alloc: Global,
+    text: &[u8],
+    form: Form,
+    (position, mode, increment): Rounding,
+) -> Result<bool, Fail> {
+    let Unsigned(mode) = mode else {
+        return Ok(true);
+    };
+    let mut value = read_counting(alloc, text)?;
+    let most = most(value.store());
+    round_absolute_by(&mut value.absolute, form, position, mode, increment)?;
+    Ok(is_within(value.store(), most))
+}
+
+/// Whether a rounding of a value by increment stays within the bound.
+fn by_value_stays_within(
+    alloc: Global,
+    text: &[u8],
+    (position, mode, increment): Rounding,
+) -> Result<bool, Fail> {
+    let value = read_counting(alloc, text)?;
+    let most = most(value.store());
+    match value.rounded_with_mode_and_increment(position, mode, increment) {
+        Ok(left) => Ok(is_within(left.store(), most)),
+        Err(_) => Err(Fail::new("memory was refused")),
+    }
+}
+
+/// Whether a rounding of a value by name stays within the bound.
+fn by_name_stays_within(
+    alloc: Global,
+    text: &[u8],
+    position: i16,
+    mode: SignedRoundingMode,
+) -> Result<bool, Fail> {
+    let value = read_counting(alloc, text)?;
+    let most = most(value.store());
+    Ok(is_within(rounded_by_name(value, position, mode).store(), most))
+}
+
+/// Whether each of these calls stays within the bound.
+fn all_stay_within(
+    alloc: Global,
+    text: &[u8],
+    forms: &[Form],
+    rounding: Rounding,
+) -> Result<bool, Fail> {
+    for form in forms {
+        if !stays_within(alloc, text, *form, rounding)? {
+            return Ok(false);
+        }
+        if !absolute_stays_within(alloc, text, *form, rounding)? {
+            return Ok(false);
+        }
+    }
+    by_value_stays_within(alloc, text, rounding)
+}
+
+/// Whether each call that rounds to multiples of 1 stays within the bound.
+fn ones_stay_within(
+    alloc: Global,
+    text: &[u8],
+    position: i16,
+    mode: SignedRoundingMode,
+) -> Result<bool, Fail> {
+    if !all_stay_within(alloc, text, ALL, (position, mode, MultiplesOf1))? {
+        return Ok(false);
+    }
+    by_name_stays_within(alloc, text, position, mode)
+}
+
+/// Whether each step of the chain by a mode stays within the bound.
+fn chain_stays_within(alloc: Global, mode: UnsignedRoundingMode) -> Result<bool, Fail> {
+    let mut value = read_counting(alloc, b"4235.970")?;
+    for (position, increment) in CHAIN {
+        let most = most(value.store());
+        round_by(
+            &mut value,
+            Form::ByIncrement,
+            (*position, Unsigned(mode), *increment),
+        )?;
+        if !is_within(value.store(), most) {
+            return Ok(false);
+        }
+    }
+    Ok(true)
+}
+
+/// A text of 32,768 digits of a kind, a dot, and as many more.
+pub fn full_text(alloc: Global, digit: u8) -> Result<Vec<u8>, Fail> {
+    let mut text = Vec::with_capacity(alloc, 65_537)?;
+    for place in 0..65_537 {
+        text.push(if place == 32_768 { b'.' } else { digit })?;
+    }
+    Ok(text)
+}
+
+/// Whether roundings of 65,536 digits at -32767 by each mode stay within the bound.
+fn full_stays_within(alloc: Global, digit: u8) -> Result<bool, Fail> {
+    let text = full_text(alloc, digit)?;
+    for mode in MODES {
+        if !ones_stay_within(alloc, text.as_slice(), -32767, *mode)? {
+            return Ok(false);
+        }
+    }
+    Ok(true)
+}
+
+#[test]
+fn near_one(rt: HostRuntime) -> Result<(), Fail> {
+    let alloc = rt.alloc();
+    for text in NEAR_ONE {
+        for mode in MODES {
+            assert!(rt; ones_stay_within(alloc, text, 0, *mode)?);
+        }
+    }
+    Ok(())
+}
+
+#[test]
+fn increments(rt: HostRuntime) -> Result<(), Fail> {
+    let alloc = rt.alloc();
+    for (text, rounding) in BY_INCREMENTS {
+        assert!(rt; all_stay_within(alloc, text, WITH_INCREMENT, *rounding)?);
+    }
+    Ok(())
+}
+
+#[test]
+fn chains(rt: HostRuntime) -> Result<(), Fail> {
+    let alloc = rt.alloc();
+    for mode in [Trunc, Expand, HalfEven] {
+        assert!(rt; chain_stays_within(alloc, mode)?);
+    }
+    Ok(())
+}
+
+#[test]
+fn all_digits(rt: HostRuntime) -> Result<(), Fail> {
+    assert!(rt; full_stays_within(rt.alloc(), b'9')?);
+    assert!(rt; full_stays_within(rt.alloc(), b'1')?);
+    Ok(())
+}
