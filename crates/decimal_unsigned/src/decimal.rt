@@ -15,7 +15,7 @@ mod text;
 
 use decimal_digits::digits::{DigitList, DigitStore};
 use decimal_digits::ops::lowered;
-pub use parse::lowest_of;
+pub use parse::{lowest_of, numeral};
 use std::alloc::Global;
 use std::marker::Model;
 use std::ops::RangeInclusive;

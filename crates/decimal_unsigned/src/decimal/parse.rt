@@ -14,6 +14,7 @@ mod plan;
 use super::UnsignedOver;
 use crate::ParseError;
 use decimal_digits::digits::DigitStore;
+pub use parts::numeral;
 use parts::{Parts, split};
 use plan::{Plan, planned};
 use std::alloc::{AllocError, Global};

@@ -35,9 +35,11 @@ fn split_digits(text: &[u8]) -> (&[u8], &[u8])
     text.split_at(digit_count(text))
 }
 
-/// The number of a numeral, or 70,000 where it is greater.
+/// Gives the number that a text of digits writes, or 70,000 where it is greater.
+///
+/// Of `0255` it is 255. None: the text is empty, or a byte of it is no digit. Not in the original.
 #[tactic(auto, unfolding(crate::specs::Reading::numeral_of))]
-fn numeral(text: &[u8]) -> Option<u32>
+pub fn numeral(text: &[u8]) -> Option<u32>
     ensures { result ≡ option_map (min 70000) (read.numeral_of text.now) }
 {
     if text.is_empty() {
