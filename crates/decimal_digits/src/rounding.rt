@@ -40,6 +40,14 @@ pub enum UnsignedRoundingMode {
 pub enum SignedRoundingMode {
     /// Rounds the absolute value.
     Unsigned(UnsignedRoundingMode),
+    /// Takes the multiple above, toward plus infinity.
+    Ceil,
+    /// Takes the multiple below, toward minus infinity.
+    Floor,
+    /// Takes the nearest multiple, and the upper of two that are as near.
+    HalfCeil,
+    /// Takes the nearest multiple, and the lower of two that are as near.
+    HalfFloor,
 }
 
 /// What the results of a rounding are multiples of, in units of the position.

@@ -64,13 +64,13 @@ pub value_is : (text : List ℕ) (v : Unsigned) → read text ≡ Ok v → (w : 
 value_is text v e = let k = grammar_if text (λ s. let never : ⊥ = cc in never) in (k.0, k.1, sym k.2 ∙ e)
 
 -- ---- what a parser answered
-pub answers_syntax : (room : Unsigned → Type 0) (r : Result Unsigned ParseError) (q : Result Unsigned Fault) → IfOk r (λ v. q ≡ Ok v) → IfErr r (λ e. Refuses (IsOkAnd q room) e q) → (r ≡ Err Syntax) ↔ (q ≡ Err syntax)
+pub answers_syntax : {V : Type 0} (room : V → Type 0) (r : Result V ParseError) (q : Result V Fault) → IfOk r (λ v. q ≡ Ok v) → IfErr r (λ e. Refuses (IsOkAnd q room) e q) → (r ≡ Err Syntax) ↔ (q ≡ Err syntax)
 answers_syntax room (Ok v) q a b = (λ e. absurd (cc), λ e. absurd (cc))
 answers_syntax room (Err Limit) q a b = (λ e. absurd (cc), λ e. absurd (cc))
 answers_syntax room (Err Syntax) q a b = (λ e. b, λ e. refl)
 answers_syntax room (Err Memory) q a b = (λ e. absurd (cc), λ e. absurd (rw e at b))
 
-pub answers_limit : (room : Unsigned → Type 0) (r : Result Unsigned ParseError) (q : Result Unsigned Fault) → IfOk r (λ v. q ≡ Ok v) → IfErr r (λ e. Refuses (IsOkAnd q room) e q) → (r ≡ Err Limit) ↔ (q ≡ Err limit)
+pub answers_limit : {V : Type 0} (room : V → Type 0) (r : Result V ParseError) (q : Result V Fault) → IfOk r (λ v. q ≡ Ok v) → IfErr r (λ e. Refuses (IsOkAnd q room) e q) → (r ≡ Err Limit) ↔ (q ≡ Err limit)
 answers_limit room (Ok v) q a b = (λ e. absurd (cc), λ e. absurd (cc))
 answers_limit room (Err Limit) q a b = (λ e. b, λ e. refl)
 answers_limit room (Err Syntax) q a b = (λ e. absurd (cc), λ e. absurd (cc))

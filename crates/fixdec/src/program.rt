@@ -3,8 +3,7 @@ ghost use Rattle.std.specs.Prelude.{◌≤◌};
 
 use crate::fault::Fault;
 use crate::words::call;
-use fixed_decimal::run::run;
-use fixed_decimal::{Call, Out, Sink};
+use fixed_decimal::{Call, Out, Sink, run};
 use std::alloc::Global;
 use std::io::Write;
 
@@ -34,8 +33,9 @@ fn print<O: Write>(alloc: Global, words: &[String], out: &mut Out<O>) -> Result<
 /// Does the program's work: reads the words after its name, prints, and answers the exit status.
 ///
 /// The first word is the start, each other word a call: `shift:D`, `trim-start`, `trim-end`, `trim-end-if-integer`,
-/// `pad-start:P`, `pad-end:P`, `max:P`, `round:P:MODE:INC` with a mode of `expand`, `trunc`, `half-expand`, `half-trunc`
-/// and `half-even` and an increment of 1, 2, 5 and 25, or `concat:TEXT`, whose text is all that follows the colon. D and
+/// `pad-start:P`, `pad-end:P`, `max:P`, `round:P:MODE:INC` with a mode of `ceil`, `floor`, `expand`, `trunc`, `half-ceil`,
+/// `half-floor`, `half-expand`, `half-trunc` and `half-even` and an increment of 1, 2, 5 and 25, `sign:S` with `none`,
+/// `minus` and `plus`, `display:S` with `auto`, `never`, `always`, `except-zero` and `negative`, or `concat:TEXT`, whose text is all that follows the colon. D and
 /// P are an optional minus and one to six digits, with a value of -32768 to 32767.
 ///
 /// Status 0: the text and a line feed were printed. Else one line goes to `err`: with status 1 `start: syntax`,

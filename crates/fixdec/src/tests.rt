@@ -52,7 +52,7 @@ fn assert_printed(
 
 #[test]
 fn prints(rt: HostRuntime) -> Result<(), Fail> {
-    let rows: [(&[&str], &[u8]); 26] = [
+    let rows: [(&[&str], &[u8]); 32] = [
         (&["250", "shift:-2"], b"2.50\n"),
         (&["51423", "shift:-8"], b"0.00051423\n"),
         (&[".5"], b"0.5\n"),
@@ -85,6 +85,12 @@ fn prints(rt: HostRuntime) -> Result<(), Fail> {
             b"100000000000000000007\n",
         ),
         (&["1e20", "concat:7"], b"100000000000000000007\n"),
+        (&["-7.266", "round:-2:expand:25"], b"-7.50\n"),
+        (&["1729", "display:always"], b"+1729\n"),
+        (&["-0.4", "round:0:ceil:1", "display:except-zero"], b"0\n"),
+        (&["4235.970", "max:2", "sign:minus"], b"-35.970\n"),
+        (&["-7.235", "round:-2:half-trunc:25"], b"-7.25\n"),
+        (&["-5", "max:0"], b"-0\n"),
     ];
     for (line, out) in rows {
         assert_printed(&rt, rt.alloc(), line, out, b"", 0)?;
@@ -121,7 +127,7 @@ fn shows_usage(rt: HostRuntime) -> Result<(), Fail> {
         &["5", "round:0:trunc:3"],
         &["5", "round:0:trunc"],
         &["5", "round:0:trunc:1:"],
-        &["5", "round:0:ceil:1"],
+        &["5", "sign:"],
         &["5", "concat"],
         &[],
         &["250", "trim-start:"],

@@ -1,7 +1,9 @@
 //! The words of the command line as calls.
 ghost use Rattle.std.specs.Prelude.{◌≡◌, ◌<◌, ◌≤◌, length};
 
-use fixed_decimal::{Call, RoundingIncrement, SignedRoundingMode, UnsignedRoundingMode};
+use fixed_decimal::{
+    Call, RoundingIncrement, Sign, SignDisplay, SignedRoundingMode, UnsignedRoundingMode,
+};
 
 /// The number of a magnitude, a position or a distance: an optional minus and one to six digits, in 16 bits.
 fn number(word: &str) -> Option<i16> {
@@ -15,6 +17,10 @@ fn number(word: &str) -> Option<i16> {
 /// The mode of a rounding.
 fn mode(word: &str) -> Option<SignedRoundingMode> {
     let mode = match word {
+        "ceil" => return Some(SignedRoundingMode::Ceil),
+        "floor" => return Some(SignedRoundingMode::Floor),
+        "half-ceil" => return Some(SignedRoundingMode::HalfCeil),
+        "half-floor" => return Some(SignedRoundingMode::HalfFloor),
         "expand" => UnsignedRoundingMode::Expand,
         "trunc" => UnsignedRoundingMode::Trunc,
         "half-expand" => UnsignedRoundingMode::HalfExpand,
@@ -47,6 +53,28 @@ fn rounding<'a>(words: &str) -> Option<Call<'a>> {
     ))
 }
 
+/// The sign that is set.
+fn sign(word: &str) -> Option<Sign> {
+    match word {
+        "none" => Some(Sign::None),
+        "minus" => Some(Sign::Negative),
+        "plus" => Some(Sign::Positive),
+        _ => None,
+    }
+}
+
+/// When a sign is shown.
+fn display(word: &str) -> Option<SignDisplay> {
+    match word {
+        "auto" => Some(SignDisplay::Auto),
+        "never" => Some(SignDisplay::Never),
+        "always" => Some(SignDisplay::Always),
+        "except-zero" => Some(SignDisplay::ExceptZero),
+        "negative" => Some(SignDisplay::Negative),
+        _ => None,
+    }
+}
+
 /// The call that a word names.
 pub fn call(word: &str) -> Option<Call<'_>> {
     match word {
@@ -66,6 +94,8 @@ fn call_with_argument(word: &str) -> Option<Call<'_>> {
         "pad-end" => Some(Call::PadEnd(number(argument)?)),
         "max" => Some(Call::SetMaxPosition(number(argument)?)),
         "round" => rounding(argument),
+        "sign" => Some(Call::SetSign(sign(argument)?)),
+        "display" => Some(Call::ApplySignDisplay(display(argument)?)),
         "concat" => Some(Call::Concatenate(argument.as_bytes())),
         _ => None,
     }

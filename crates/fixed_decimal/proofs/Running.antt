@@ -4,21 +4,21 @@ use Rattle.std.specs.Prelude.{Result, Ok, Err}
 use Rattle.std.proofs.Math.Seq.{drop-cons}
 use Rattle.std.proofs.lemmas.List.{take_more, length-take-le}
 use Rattle.std.proofs.lemmas.Option.{slice_get-get_or}
-use Rattle.decimal_unsigned.specs.Unsigned.{Unsigned}
+use Rattle.fixed_decimal.specs.Decimal.{Decimal}
 use Rattle.decimal_unsigned.specs.declared.error.ParseError.TheVariants as parse
-use Rattle.fixed_decimal.specs.declared.run.Call.{Call}
-use Rattle.fixed_decimal.specs.declared.run.RunError.{RunError}
-use Rattle.fixed_decimal.specs.declared.run.RunError.TheVariants.{Start, Operand, Overlap, Memory, Sink}
+use Rattle.fixed_decimal.specs.declared.runs.Call.{Call}
+use Rattle.fixed_decimal.specs.declared.runs.RunError.{RunError}
+use Rattle.fixed_decimal.specs.declared.runs.RunError.TheVariants.{Start, Operand, Overlap, Memory, Sink}
 use Rattle.fixed_decimal.specs.Outcome.{Refusal, and_then, step, after_calls}
 use Rattle.fixed_decimal.specs.Errors.{Comes}
 use Rattle.fixed_decimal.specs.Calls.{CallRefuses, CallsRefuse}
 
-and_then-Ok : (r : Result Unsigned Refusal) → and_then r (λ w. Ok w) ≡ r
+and_then-Ok : (r : Result Decimal Refusal) → and_then r (λ w. Ok w) ≡ r
 and_then-Ok (Ok v) = refl
 and_then-Ok (Err e) = refl
 
 -- calls, and then one more
-after_calls-snoc : (at : ℕ) (v : Unsigned) (xs : List Call) (x : Call) → after_calls at v (xs ++ x ∷ []) ≡ and_then (after_calls at v xs) (λ w. step (at + length xs) w x)
+after_calls-snoc : (at : ℕ) (v : Decimal) (xs : List Call) (x : Call) → after_calls at v (xs ++ x ∷ []) ≡ and_then (after_calls at v xs) (λ w. step (at + length xs) w x)
 after_calls-snoc at v [] x = and_then-Ok (step at v x) ∙ ap (λ k. step k v x) (let e : at ≡ at + 0 = omega arith in e)
 after_calls-snoc at v (y ∷ ys) x = elim (step at v y) as (λ r. and_then r (λ w. after_calls (at + 1) w (ys ++ x ∷ [])) ≡ and_then (and_then r (λ w. after_calls (at + 1) w ys)) (λ w. step (at + suc (length ys)) w x)) [
   | Ok w ↦ after_calls-snoc (at + 1) w ys x ∙ ap (λ k. and_then (after_calls (at + 1) w ys) (λ u. step k u x)) (let e : at + 1 + length ys ≡ at + suc (length ys) = omega arith in e)
@@ -26,27 +26,27 @@ after_calls-snoc at v (y ∷ ys) x = elim (step at v y) as (λ r. and_then r (λ
 ]
 
 -- so many of the calls made v of the first value, and the others make of it what all make of the first one
-pub record IsAt (first : Unsigned) (calls : List Call) (at : ℕ) (v : Unsigned) : Type 0 where
+pub record IsAt (first : Decimal) (calls : List Call) (at : ℕ) (v : Decimal) : Type 0 where
   pub before : after_calls 0 first (take at calls) ≡ Ok v
   pub rest : after_calls at v (drop at calls) ≡ after_calls 0 first calls
 
-module _ {first v : Unsigned} {calls : List Call} {at : ℕ} (i : IsAt first calls at v) (d : Call) (h : at < length calls) where
+module _ {first v : Decimal} {calls : List Call} {at : ℕ} (i : IsAt first calls at v) (d : Call) (h : at < length calls) where
   next : after_calls at v (drop at calls) ≡ and_then (step at v (get_or calls at d)) (λ w. after_calls (at + 1) w (drop (at + 1) calls))
   next =
       let e : suc at ≡ at + 1 = omega arith in
       ap (after_calls at v) (drop-cons calls at d h ∙ ap (λ k. get_or calls at d ∷ drop k calls) e)
 
-  before_next : (w : Unsigned) → step at v (get_or calls at d) ≡ Ok w → after_calls 0 first (take (at + 1) calls) ≡ Ok w
+  before_next : (w : Decimal) → step at v (get_or calls at d) ≡ Ok w → after_calls 0 first (take (at + 1) calls) ≡ Ok w
   before_next w s =
       let l : 0 + length (take at calls) ≡ at = omega (arith, length-take-le at calls (omega arith)) in
       ap (after_calls 0 first) (take_more calls at d h)
       ∙ after_calls-snoc 0 first (take at calls) (get_or calls at d)
       ∙ (rw (i.before, l) s)
 
-  rest_next : (w : Unsigned) → step at v (get_or calls at d) ≡ Ok w → after_calls (at + 1) w (drop (at + 1) calls) ≡ after_calls 0 first calls
+  rest_next : (w : Decimal) → step at v (get_or calls at d) ≡ Ok w → after_calls (at + 1) w (drop (at + 1) calls) ≡ after_calls 0 first calls
   rest_next w s = ap (λ r. and_then r (λ u. after_calls (at + 1) u (drop (at + 1) calls))) (sym s) ∙ sym next ∙ i.rest
 
-  pub goes_on : (w : Unsigned) → step at v (get_or calls at d) ≡ Ok w → IsAt first calls (at + 1) w
+  pub goes_on : (w : Decimal) → step at v (get_or calls at d) ≡ Ok w → IsAt first calls (at + 1) w
   goes_on w s = record { before = before_next w s; rest = rest_next w s }
 
   stops : (e : Refusal) → step at v (get_or calls at d) ≡ Err e → after_calls 0 first calls ≡ Err e

@@ -1,12 +1,13 @@
 //! Whole runs, and sinks that fail.
-use crate::run::run;
 use crate::{
     Call, ParseError, RoundingIncrement, RunError, SignedRoundingMode, Sink, SinkFault, TextBuf,
-    UnsignedDecimal, UnsignedRoundingMode, Writeable,
+    UnsignedDecimal, UnsignedRoundingMode, Writeable, run,
 };
 use std::alloc::Global;
 use std::process::Abort;
 use std::test::Fail;
+
+mod signed;
 
 const EXPAND: SignedRoundingMode = SignedRoundingMode::Unsigned(UnsignedRoundingMode::Expand);
 
@@ -131,7 +132,7 @@ fn refuses(rt: HostRuntime) -> Result<(), Fail> {
     let rows: [(&[u8], ParseError); 5] = [
         (b"5.", ParseError::Syntax),
         (b"", ParseError::Syntax),
-        (b"-5", ParseError::Syntax),
+        (b"--5", ParseError::Syntax),
         (b"10e32767", ParseError::Limit),
         (zeros.as_slice(), ParseError::Limit),
     ];

@@ -1,7 +1,7 @@
 use Rattle.std.proofs.Common.{rules, refl}
 use Rattle.fixed_decimal.specs.Calls.{CallsRefuse}
 use Rattle.fixed_decimal.proofs.Running.{goes_on, refused}
-use Rattle.fixed_decimal.proofs.run.make_calls.Goals as goal
+use Rattle.fixed_decimal.proofs.runs.make_calls.Goals as goal
 
 pub loop-at-init : goal.loop-at-init
 loop-at-init g c = record { before = refl; rest = refl }
