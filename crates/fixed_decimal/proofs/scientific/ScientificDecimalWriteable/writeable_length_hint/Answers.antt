@@ -1,0 +1,12 @@
+use Rattle.std.proofs.Common.{arith}
+use Rattle.fixed_decimal.proofs.DecimalBytes.{length-decimal_most}
+use Rattle.fixed_decimal.proofs.scientific.ScientificDecimalWriteable.writeable_length_hint.Goals as goal
+
+pub overflow_add-result : goal.overflow_add-result
+overflow_add-result c = omega (arith, length-decimal_most c.self.inside.significand c.known.ensures, c.writeable_length_hint.ensures)
+
+pub overflow_add-result-2 : goal.overflow_add-result-2
+overflow_add-result-2 c = omega (arith, length-decimal_most c.self.inside.significand c.known.ensures, c.writeable_length_hint.ensures, c.writeable_length_hint-2.ensures.most)
+
+pub returns-clause-most : goal.returns-clause-most
+returns-clause-most c = omega (arith, length-decimal_most c.self.inside.significand c.known.ensures, c.writeable_length_hint.ensures, c.writeable_length_hint-2.ensures.most)
