@@ -1,5 +1,5 @@
 //! A decimal times 10 to the power of a small number.
-ghost use Rattle.std.specs.Prelude.{◌≡◌, ◌<◌, ◌≤◌, ◌↔◌, length, true, Ok, IsTrue, IsOk, IfOk, OnOk, OnErr, MatchResult};
+ghost use Rattle.std.specs.Prelude.{◌≡◌, ◌≤◌, ◌↔◌, length, true, Ok, IsTrue, IsOk, IfOk, OnOk, OnErr, MatchResult};
 ghost use Rattle.std.specs.Fmt.{decimal, WritesStyledOnOk};
 ghost use Rattle.std.specs.Option.{option_copied};
 ghost use Rattle.std.specs.Io.KnownBytes.{Appends};
@@ -8,11 +8,11 @@ ghost use Rattle.decimal_digits.specs.Text.{AppendsBeginning};
 ghost use Rattle.decimal_unsigned.specs.Refusal.{Refuses};
 ghost use Rattle.fixed_decimal.specs.Faults.{Answers};
 ghost use Rattle.fixed_decimal.specs.Equal.{same_text, same_text_laws};
-ghost use Rattle.fixed_decimal.specs.Compact.{compact, compact_text, small_number_of, cut_at_c, read_exponent, read_compact};
-ghost use Rattle.fixed_decimal.specs.Compact.{ReadsCompact, HasLongSignificand};
+ghost use Rattle.fixed_decimal.specs.Compact.{compact, compact_text, small_number_of, cut_at_c, read_exponent};
+ghost use Rattle.fixed_decimal.specs.Compact.{read_compact, ReadsCompact, HasLongSignificand};
 
 use crate::cut::{cut_at, lowest_of_decimal};
-use crate::integer::{L, known};
+use crate::integer::{L, recall_value};
 use crate::signed_decimal::Decimal;
 use decimal_digits::sink::{Sink, SinkFault, Writeable};
 use decimal_unsigned::ParseError;
@@ -109,7 +109,7 @@ fn format_number<W: fmt::Write>(number: u8, f: &mut fmt::Formatter<W>) -> fmt::R
 /// Counts the digits of a number.
 fn number_length(number: u8) -> usize
     ensures exact { result ≡ length (decimal number) }
-    ensures most { result ≤ 3 }
+    ensures few { result ≤ 3 }
 {
     match number {
         0..=9 => 1,
@@ -155,8 +155,8 @@ impl CompactDecimal {
 
     /// Makes a second value that equals this one.
     ///
-    /// The copy of `1.20c6` prints `1.20c6`. Err: memory for more than `L` digits of the significand was refused. In the
-    /// place of the original's `Clone`.
+    /// The copy of `1.20c6` prints `1.20c6`. Err: memory for more than `L` digits of the significand was refused. In
+    /// the place of the original's `Clone`.
     pub fn clone(&self) -> Result<Self, AllocError>
         ensures value { IfOk result (λ copy. copy ≡ self.now) }
         ensures succeeds { size self.now.significand.absolute.number ≤ L → IsOk result }
@@ -167,14 +167,14 @@ impl CompactDecimal {
         })
     }
 
-    /// Reads the value that a text writes: a text without an exponent that `Decimal` reads, and then nothing, or `c` and
-    /// a number from 1 to 255 whose first digit is not 0.
+    /// Reads the value that a text writes: a text without an exponent that `Decimal` reads, and then nothing, or `c`
+    /// and a number from 1 to 255 whose first digit is not 0.
     ///
-    /// `+1.20c6` is read, and prints itself; `1729` has the exponent 0. Err: `Syntax` where there is an `e` or `E`; else
-    /// what `Decimal` answers to the text in front of the first `c`; else `Syntax` where what stands behind it is empty,
-    /// begins with `0`, or is not all digits, as in `1c01` and `1c1c1`; else `Limit` where it is above 255. Every
-    /// `Syntax` and `Limit` is decided before memory is asked for; `Memory` is for more than `L` digits of the
-    /// significand. The original's `try_from_str` and `FromStr`.
+    /// `+1.20c6` is read, and prints itself; `1729` has the exponent 0. Err: `Syntax` where there is an `e` or `E`;
+    /// else the `Syntax` or `Limit` that `Decimal` answers to the text in front of the first `c`; else `Syntax` where
+    /// what stands behind it is empty, begins with `0`, or is not all digits, as in `1c01` and `1c1c1`; else `Limit`
+    /// where it is above 255; else `Memory` where memory for more than `L` digits of the significand was refused. Every
+    /// other fault is decided before memory is asked for. The original's `try_from_str` and `FromStr`.
     #[tactic(auto, using(crate::proofs::CutsAtC::compact_reads))]
     pub fn try_from_str(alloc: Global, text: &str) -> Result<Self, ParseError>
         ensures answers { Answers (HasLongSignificand L) result (read_compact text.now) }
@@ -188,11 +188,11 @@ impl CompactDecimal {
         Ok(Self::from_significand_and_exponent(significand, exponent))
     }
 
-    /// What each value keeps.
-    fn known(&self)
+    /// Recalls, for proofs, that the text of each value reads as the value.
+    fn recall_reading(&self)
         ensures { read_compact (compact_text self.now) ≡ Ok self.now }
     {
-        known(&self.significand);
+        recall_value(&self.significand);
         let _exponent = self.exponent;
     }
 
@@ -218,7 +218,7 @@ impl Writeable for CompactDecimal {
         ensures failed { OnErr result (W.has_failed sink.new ≡ true) }
         ensures reads_back { read_compact (compact_text self.now) ≡ Ok self.now }
     {
-        self.known();
+        self.recall_reading();
         let exponent = self.exponent;
         self.significand.write_to(sink)?;
         if exponent == 0 {
@@ -232,9 +232,9 @@ impl Writeable for CompactDecimal {
     /// original.
     fn writeable_length_hint(&self) -> usize
         ensures exact { result ≡ length (compact_text self.now) }
-        ensures most { result ≤ 65542 }
+        ensures few { result ≤ 65542 }
     {
-        known(&self.significand);
+        recall_value(&self.significand);
         let significand = self.significand.writeable_length_hint();
         if self.exponent == 0 {
             return significand;
@@ -256,8 +256,8 @@ impl PartialEq for CompactDecimal {
         ensures value { IsTrue result ↔ (self.now ≡ other.now) }
         ensures texts { IsTrue result ↔ (compact_text self.now ≡ compact_text other.now) }
     {
-        self.known();
-        other.known();
+        self.recall_reading();
+        other.recall_reading();
         self.has_same_parts(other)
     }
 }

@@ -52,8 +52,8 @@ pub(crate) fn check_integer(text: &[u8]) -> Result<(), ParseError>
     Ok(())
 }
 
-/// What each decimal keeps: the range that it shows holds its number.
-pub(crate) fn known(decimal: &Decimal)
+/// Recalls, for proofs, what each decimal keeps: the range that it shows holds its number.
+pub(crate) fn recall_value(decimal: &Decimal)
     ensures { IsValue decimal.now.absolute }
 {
     let _range = decimal.absolute.magnitude_range();
@@ -84,7 +84,7 @@ impl FixedInteger {
     ///
     /// `05` is read, and prints `05`; `5.0e1` is read, and prints `50`. Err: `Syntax` where `Decimal` answers it; else
     /// `Limit` where `Decimal` answers it, or where a digit is shown behind the dot, as in `5.0` and `100e-2`; else
-    /// `Memory` where memory for more than `L` digits was refused. Both of the former are decided before memory is asked
+    /// `Memory` where memory for more than `L` digits was refused. Both other faults are decided before memory is asked
     /// for. The original's `try_from_utf8`.
     #[tactic(auto, using(crate::proofs::IntegerTexts::integer_reads))]
     pub fn try_from_utf8(alloc: Global, text: &[u8]) -> Result<Self, ParseError>
@@ -114,12 +114,12 @@ impl FixedInteger {
         Ok(FixedInteger(decimal))
     }
 
-    /// What each integer keeps.
-    pub(crate) fn known(&self)
+    /// Recalls, for proofs, what each integer keeps.
+    pub(crate) fn recall_value(&self)
         ensures value { IsValue self.now.absolute }
         ensures integer { self.now.absolute.lo ≡ pos 0 }
     {
-        known(&self.0);
+        recall_value(&self.0);
     }
 }
 
@@ -162,16 +162,16 @@ impl Writeable for FixedInteger {
         ensures failed { OnErr result (W.has_failed sink.new ≡ true) }
         ensures reads_back { read_integer (decimal_text self.now) ≡ Ok self.now }
     {
-        self.known();
+        self.recall_value();
         self.0.write_to(sink)
     }
 
     /// Counts the bytes of the text, exactly: 3 for `-05`, and at most 32,769. `writeable_length_hint` of the original.
     fn writeable_length_hint(&self) -> usize
         ensures exact { result ≡ length (decimal_text self.now) }
-        ensures most { result ≤ 32769 }
+        ensures few { result ≤ 32769 }
     {
-        known(&self.0);
+        recall_value(&self.0);
         self.0.writeable_length_hint()
     }
 }
@@ -189,8 +189,8 @@ impl PartialEq for FixedInteger {
         ensures value { IsTrue result ↔ (self.now ≡ other.now) }
         ensures texts { IsTrue result ↔ (decimal_text self.now ≡ decimal_text other.now) }
     {
-        self.known();
-        other.known();
+        self.recall_value();
+        other.recall_value();
         self.0 == other.0
     }
 }

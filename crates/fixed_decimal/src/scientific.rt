@@ -1,5 +1,5 @@
 //! A decimal times 10 to the power of an integer.
-ghost use Rattle.std.specs.Prelude.{◌≡◌, ◌<◌, ◌≤◌, ◌↔◌, length, true, Ok, IsTrue, IsOk, IfOk, OnOk, OnErr, MatchResult};
+ghost use Rattle.std.specs.Prelude.{◌≡◌, ◌≤◌, ◌↔◌, length, true, Ok, IsTrue, IsOk, IfOk, OnOk, OnErr, MatchResult};
 ghost use Rattle.std.specs.Io.KnownBytes.{Appends};
 ghost use Rattle.decimal_digits.specs.Number.{size};
 ghost use Rattle.decimal_digits.specs.Text.{AppendsBeginning};
@@ -10,7 +10,7 @@ ghost use Rattle.fixed_decimal.specs.Scientific.{scientific, scientific_text, cu
 ghost use Rattle.fixed_decimal.specs.Scientific.{ReadsScientific, HasLongPart};
 
 use crate::cut::{cut_at, lowest_of_decimal};
-use crate::integer::{FixedInteger, L, check_integer, known};
+use crate::integer::{FixedInteger, L, check_integer, recall_value};
 use crate::signed_decimal::Decimal;
 use decimal_digits::sink::{Sink, SinkFault, Writeable};
 use decimal_unsigned::ParseError;
@@ -85,10 +85,10 @@ impl ScientificDecimal {
     /// Reads the value that a text writes: a text that `Decimal` reads, `e`, and a text that `FixedInteger` reads.
     ///
     /// Neither part may have an exponent of its own. `+1.20e-03` is read, and prints itself. Err: `Syntax` where there
-    /// is an `E`, or not exactly one `e`, as in `1E5` and `5`; else what `Decimal` answers to the text in front of the `e`;
-    /// else what `FixedInteger` answers to the text behind it, as `Limit` to `1.0`. Every `Syntax` and `Limit` is decided
-    /// before memory is asked for, and with `Memory`, for more than `L` digits of a part, nothing is left of the value.
-    /// The original's `try_from_utf8`.
+    /// is an `E`, or not exactly one `e`, as in `1E5` and `5`; else the `Syntax` or `Limit` that `Decimal` answers to
+    /// the text in front of the `e`; else the one that `FixedInteger` answers to the text behind it, as `Limit` to
+    /// `1.0`; else `Memory` where memory for more than `L` digits of a part was refused, and nothing is left of the
+    /// other part. Every other fault is decided before memory is asked for. The original's `try_from_utf8`.
     #[tactic(auto, using(crate::proofs::CutsAtE::scientific_reads))]
     pub fn try_from_utf8(alloc: Global, text: &[u8]) -> Result<Self, ParseError>
         ensures answers { Answers (HasLongPart L) result (read_scientific text.now) }
@@ -112,12 +112,12 @@ impl ScientificDecimal {
         Self::try_from_utf8(alloc, text.as_bytes())
     }
 
-    /// What each value keeps.
-    fn known(&self)
+    /// Recalls, for proofs, that the text of each value reads as the value.
+    fn recall_reading(&self)
         ensures { read_scientific (scientific_text self.now) ≡ Ok self.now }
     {
-        known(&self.significand);
-        self.exponent.known();
+        recall_value(&self.significand);
+        self.exponent.recall_value();
     }
 
     /// Whether the parts of two values are equal.
@@ -142,7 +142,7 @@ impl Writeable for ScientificDecimal {
         ensures failed { OnErr result (W.has_failed sink.new ≡ true) }
         ensures reads_back { read_scientific (scientific_text self.now) ≡ Ok self.now }
     {
-        self.known();
+        self.recall_reading();
         self.significand.write_to(sink)?;
         sink.put_byte(b'e')?;
         self.exponent.write_to(sink)
@@ -152,9 +152,9 @@ impl Writeable for ScientificDecimal {
     /// original.
     fn writeable_length_hint(&self) -> usize
         ensures exact { result ≡ length (scientific_text self.now) }
-        ensures most { result ≤ 98308 }
+        ensures few { result ≤ 98308 }
     {
-        known(&self.significand);
+        recall_value(&self.significand);
         self.significand.writeable_length_hint() + 1 + self.exponent.writeable_length_hint()
     }
 }
@@ -172,8 +172,8 @@ impl PartialEq for ScientificDecimal {
         ensures value { IsTrue result ↔ (self.now ≡ other.now) }
         ensures texts { IsTrue result ↔ (scientific_text self.now ≡ scientific_text other.now) }
     {
-        self.known();
-        other.known();
+        self.recall_reading();
+        other.recall_reading();
         self.has_same_parts(other)
     }
 }

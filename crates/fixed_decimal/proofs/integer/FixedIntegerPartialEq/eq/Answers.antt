@@ -8,11 +8,11 @@ use Rattle.fixed_decimal.proofs.integer.FixedIntegerPartialEq.eq.Goals as goal
 pub returns-clause-same : goal.returns-clause-same
 returns-clause-same c =
     tells_same decimal_text read_integer c.eq.result c.args.self.now c.args.other.now
-    (integer_reads_back _ c.known.ensures.value c.known.ensures.integer)
-    (integer_reads_back _ c.known-2.ensures.value c.known-2.ensures.integer) (search rules)
+    (integer_reads_back _ c.recall_value.ensures.value c.recall_value.ensures.integer)
+    (integer_reads_back _ c.recall_value-2.ensures.value c.recall_value-2.ensures.integer) (search rules)
 
 pub returns-clause-texts : goal.returns-clause-texts
 returns-clause-texts c =
     tells_texts decimal_text read_integer c.eq.result c.args.self.now c.args.other.now
-    (integer_reads_back _ c.known.ensures.value c.known.ensures.integer)
-    (integer_reads_back _ c.known-2.ensures.value c.known-2.ensures.integer) (search rules)
+    (integer_reads_back _ c.recall_value.ensures.value c.recall_value.ensures.integer)
+    (integer_reads_back _ c.recall_value-2.ensures.value c.recall_value-2.ensures.integer) (search rules)

@@ -3,10 +3,10 @@ use Rattle.fixed_decimal.proofs.DecimalBytes.{length-decimal_most}
 use Rattle.fixed_decimal.proofs.scientific.ScientificDecimalWriteable.writeable_length_hint.Goals as goal
 
 pub overflow_add-result : goal.overflow_add-result
-overflow_add-result c = omega (arith, length-decimal_most c.self.inside.significand c.known.ensures, c.writeable_length_hint.ensures)
+overflow_add-result c = omega (arith, length-decimal_most c.self.inside.significand c.recall_value.ensures, c.writeable_length_hint.ensures)
 
 pub overflow_add-result-2 : goal.overflow_add-result-2
-overflow_add-result-2 c = omega (arith, length-decimal_most c.self.inside.significand c.known.ensures, c.writeable_length_hint.ensures, c.writeable_length_hint-2.ensures.most)
+overflow_add-result-2 c = omega (arith, length-decimal_most c.self.inside.significand c.recall_value.ensures, c.writeable_length_hint.ensures, c.writeable_length_hint-2.ensures.few)
 
-pub returns-clause-most : goal.returns-clause-most
-returns-clause-most c = omega (arith, length-decimal_most c.self.inside.significand c.known.ensures, c.writeable_length_hint.ensures, c.writeable_length_hint-2.ensures.most)
+pub returns-clause-few : goal.returns-clause-few
+returns-clause-few c = omega (arith, length-decimal_most c.self.inside.significand c.recall_value.ensures, c.writeable_length_hint.ensures, c.writeable_length_hint-2.ensures.few)
