@@ -1,4 +1,5 @@
--- Which error calls may answer; the contracts of private functions speak of this.
+-- Private: only the contracts of private functions speak of these.
+-- Which error calls may answer.
 use Rattle.std.specs.Prelude.{◌≡◌, ℕ, List, Err}
 use Rattle.decimal_unsigned.specs.Reading.{syntax, limit}
 use Rattle.decimal_unsigned.specs.declared.error.ParseError.TheVariants as parse
@@ -7,7 +8,7 @@ use Rattle.fixed_decimal.specs.declared.runs.Call.{Call}
 use Rattle.fixed_decimal.specs.declared.runs.RunError.{RunError}
 use Rattle.fixed_decimal.specs.declared.runs.RunError.TheVariants.{Start, Operand, Overlap, Memory, Sink}
 use Rattle.fixed_decimal.specs.Outcome.{operand, overlap, step, after_calls}
-use Rattle.fixed_decimal.specs.Errors.{Comes, HasLongOperand, MayWantMemory}
+use Rattle.fixed_decimal.specs.Errors.{Reaches, HasLongOperand, MayWantMemory}
 
 -- the error is that of the call with this number, made of v
 abbrev pub CallRefuses : ℕ → RunError → ℕ → Decimal → Call → Type 0
@@ -23,8 +24,8 @@ CallRefuses held Sink at v call = ⊥
 abbrev pub CallsRefuse : ℕ → RunError → Decimal → List Call → Type 0
 CallsRefuse held (Operand at parse.Limit) first calls = after_calls 0 first calls ≡ Err (operand at limit)
 CallsRefuse held (Operand at parse.Syntax) first calls = after_calls 0 first calls ≡ Err (operand at syntax)
-CallsRefuse held (Operand at parse.Memory) first calls = (v : Decimal) × (call : Call) × Comes first calls at v call × HasLongOperand held call
+CallsRefuse held (Operand at parse.Memory) first calls = Reaches first calls at (λ v call. HasLongOperand held call)
 CallsRefuse held (Overlap at) first calls = after_calls 0 first calls ≡ Err (overlap at)
-CallsRefuse held (Memory at) first calls = (v : Decimal) × (call : Call) × Comes first calls at v call × MayWantMemory held v call
+CallsRefuse held (Memory at) first calls = Reaches first calls at (MayWantMemory held)
 CallsRefuse held (Start fault) first calls = ⊥
 CallsRefuse held Sink first calls = ⊥

@@ -1,16 +1,20 @@
 -- What a run of calls comes to, by the whole numbers alone: no memory and no sink occur here.
 use Rattle.std.specs.Prelude.{ℕ, ◌+◌, if◌then◌else◌, List, [], ◌∷◌, Result, Ok, Err}
 use Rattle.decimal_unsigned.specs.Unsigned.{Unsigned}
-use Rattle.decimal_unsigned.specs.Edits.{shifted, trimmed_start, trimmed_end, trimmed_end_if_integer, padded_start, padded_end, cut}
+use Rattle.decimal_unsigned.specs.Edits.{shifted, trimmed_start, trimmed_end, trimmed_end_if_integer}
+use Rattle.decimal_unsigned.specs.Edits.{padded_start, padded_end, cut}
 use Rattle.decimal_unsigned.specs.Joining.{overlaps, joined}
 use Rattle.decimal_unsigned.specs.Reading.{Fault, read}
 use Rattle.fixed_decimal.specs.Decimal.{Decimal, displayed}
 use Rattle.fixed_decimal.specs.SignedRounding.{rounded}
 use Rattle.fixed_decimal.specs.DecimalText.{decimal_text, read_decimal}
 use Rattle.fixed_decimal.specs.declared.runs.Call.{Call}
-use Rattle.fixed_decimal.specs.declared.runs.Call.TheVariants.{MultiplyPow10, TrimStart, TrimEnd, TrimEndIfInteger, PadStart, PadEnd, SetMaxPosition, Round, SetSign, ApplySignDisplay, Concatenate}
+use Rattle.fixed_decimal.specs.declared.runs.Call.TheVariants.{MultiplyPow10, TrimStart, TrimEnd, TrimEndIfInteger}
+use Rattle.fixed_decimal.specs.declared.runs.Call.TheVariants.{PadStart, PadEnd, SetMaxPosition, Round}
+use Rattle.fixed_decimal.specs.declared.runs.Call.TheVariants.{SetSign, ApplySignDisplay, Concatenate}
 
--- why a run has no text: the start is no value, the operand of the call with this number is none, or its numbers overlap
+-- why a run has no text: the start is no value, the operand of the call with this number is none, or what that call is
+-- to join overlaps
 pub data Refusal : Type 0 where
   start : Fault → Refusal
   operand : ℕ → Fault → Refusal
@@ -21,24 +25,32 @@ abbrev pub and_then : {A B E : Type 0} → Result A E → (A → Result B E) →
 and_then (Ok x) next = next x
 and_then (Err refusal) next = Err refusal
 
+-- ---- One call.
+
+-- the decimal with this absolute value: the sign stays
+abbrev pub with_absolute : Decimal → Unsigned → Result Decimal Refusal
+with_absolute v absolute = Ok (record v { absolute = absolute })
+
 -- the decimal with what was read joined to its end, by the call with this number
 abbrev pub joined_with : ℕ → Decimal → Result Unsigned Fault → Result Decimal Refusal
-joined_with at v (Ok w) = if overlaps v.absolute w then Err (overlap at) else Ok (record v { absolute = joined v.absolute w })
+joined_with at v (Ok w) = if overlaps v.absolute w then Err (overlap at) else with_absolute v (joined v.absolute w)
 joined_with at v (Err fault) = Err (operand at fault)
 
--- what the call with this number makes of a decimal; where it is no call on the sign, the sign stays
+-- what the call with this number makes of a decimal
 abbrev pub step : ℕ → Decimal → Call → Result Decimal Refusal
-step at v (MultiplyPow10 delta) = Ok (record v { absolute = shifted v.absolute delta })
-step at v TrimStart = Ok (record v { absolute = trimmed_start v.absolute })
-step at v TrimEnd = Ok (record v { absolute = trimmed_end v.absolute })
-step at v TrimEndIfInteger = Ok (record v { absolute = trimmed_end_if_integer v.absolute })
-step at v (PadStart position) = Ok (record v { absolute = padded_start v.absolute position })
-step at v (PadEnd position) = Ok (record v { absolute = padded_end v.absolute position })
-step at v (SetMaxPosition position) = Ok (record v { absolute = cut v.absolute position })
+step at v (MultiplyPow10 delta) = with_absolute v (shifted v.absolute delta)
+step at v TrimStart = with_absolute v (trimmed_start v.absolute)
+step at v TrimEnd = with_absolute v (trimmed_end v.absolute)
+step at v TrimEndIfInteger = with_absolute v (trimmed_end_if_integer v.absolute)
+step at v (PadStart position) = with_absolute v (padded_start v.absolute position)
+step at v (PadEnd position) = with_absolute v (padded_end v.absolute position)
+step at v (SetMaxPosition position) = with_absolute v (cut v.absolute position)
 step at v (Round position mode increment) = Ok (rounded v position mode increment)
 step at v (SetSign sign) = Ok (record v { sign = sign })
 step at v (ApplySignDisplay display) = Ok (displayed v display)
-step at v (Concatenate operand_text) = joined_with at v (read operand_text.now)
+step at v (Concatenate text) = joined_with at v (read text.now)
+
+-- ---- The run.
 
 -- what calls make of a decimal, in order; the first has this number
 abbrev pub after_calls : ℕ → Decimal → List Call → Result Decimal Refusal
@@ -52,4 +64,5 @@ started (Err fault) = Err (start fault)
 
 -- the start is read and the calls are made in order: the text of the last decimal, or the first refusal
 abbrev pub outcome : List ℕ → List Call → Result (List ℕ) Refusal
-outcome bytes calls = and_then (started (read_decimal bytes)) (λ v. and_then (after_calls 0 v calls) (λ w. Ok (decimal_text w)))
+outcome bytes calls =
+    and_then (started (read_decimal bytes)) (λ v. and_then (after_calls 0 v calls) (λ w. Ok (decimal_text w)))

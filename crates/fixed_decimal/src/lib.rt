@@ -1,6 +1,22 @@
 //! Decimals for display: numbers of up to 65,536 digits that keep their zeros as written, and whole runs of calls.
 //!
-//! A magnitude is a power of ten, from -32768 to 32767. `250` shifted by -2 prints `2.50`.
+//! A magnitude is a power of ten, from -32768 to 32767. A crate that stands on this one has in crates.txt a line as
+//! `invoice: fixed_decimal`, and writes:
+//!
+//! ```
+//! use fixed_decimal::{Decimal, ParseError, Sign, TextBuf, Writeable};
+//! use std::alloc::Global;
+//!
+//! /// Appends a number of cents as an amount that is owed: `250` as `-2.50`.
+//! pub fn write_owed(alloc: Global, cents: &str, sink: &mut TextBuf) -> Result<(), ParseError> {
+//!     let mut amount = Decimal::try_from_str(alloc, cents)?;
+//!     amount.multiply_pow10(-2);
+//!     amount.set_sign(Sign::Negative);
+//!     amount.write_to(sink).map_err(|_| ParseError::Memory)
+//! }
+//! ```
+//!
+//! `run` does the same for a list of calls, and its contract names the text.
 #![tactic(auto)]
 
 pub mod compact;
@@ -22,6 +38,3 @@ pub use runs::{Call, RunError, run};
 pub use scientific::ScientificDecimal;
 pub use signed_decimal::Decimal;
 pub use variations::{Sign, SignDisplay, Signed};
-
-#[cfg(test)]
-mod tests;

@@ -1,0 +1,39 @@
+//! Tables of texts, calls and results. Each helper holds one decimal and answers its text.
+use fixed_decimal::{Decimal, ParseError, Sink, TextBuf, Writeable};
+use std::alloc::Global;
+use std::process::Abort;
+use std::test::Fail;
+
+mod changes;
+mod constructors;
+mod equality;
+mod reading;
+mod rounding;
+mod runs;
+mod signs;
+
+/// The decimal that a text writes.
+fn read(alloc: Global, text: &str) -> Result<Decimal, Fail> {
+    Ok(Decimal::try_from_str(alloc, text)?)
+}
+
+/// What a decimal prints.
+fn printed(alloc: Global, value: &Decimal) -> Result<TextBuf, Fail> {
+    let mut sink = TextBuf::new(alloc);
+    value.write_to(&mut sink)?;
+    Ok(sink)
+}
+
+/// Asserts which text was found.
+fn assert_shows(rt: &impl Abort, found: TextBuf, text: &str) {
+    assert_eq!(rt; found.as_bytes(), text.as_bytes());
+}
+
+/// The want of memory, where what is left is what was handed in; else what is left, for the assertion to show.
+fn refused(left: TextBuf, given: &str) -> Result<TextBuf, Fail> {
+    if left.as_bytes() == given.as_bytes() {
+        Err(Fail::new("memory was refused"))
+    } else {
+        Ok(left)
+    }
+}

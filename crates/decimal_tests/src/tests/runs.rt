@@ -1,0 +1,370 @@
+//! Whole runs, and sinks that fail.
+use super::*;
+use fixed_decimal::RoundingIncrement::{MultiplesOf1, MultiplesOf5, MultiplesOf25};
+use fixed_decimal::SignedRoundingMode::{Ceil, Unsigned};
+use fixed_decimal::UnsignedRoundingMode::{Expand, HalfEven, HalfTrunc, Trunc};
+use fixed_decimal::{Call, RunError, Sign, SignDisplay, SinkFault, run};
+
+/// A start, calls, and the text that they come to.
+type Run = (&'static str, &'static [Call<'static>], &'static str);
+
+/// A start, calls, the refusal in words, and the number of the call.
+type Refused = (&'static str, &'static [Call<'static>], &'static str, usize);
+
+/// Runs of shifts, trims, pads and cuts.
+const EDITS: &[Run] = &[
+    ("250", &[Call::MultiplyPow10(-2)], "2.50"),
+    ("51423", &[Call::MultiplyPow10(-8)], "0.00051423"),
+    (".5", &[], "0.5"),
+    ("0", &[Call::MultiplyPow10(3)], "0000"),
+    ("1.20e0", &[], "1.2"),
+    (
+        "98765",
+        &[Call::MultiplyPow10(32763), Call::MultiplyPow10(1)],
+        "0",
+    ),
+    (
+        "98765",
+        &[Call::MultiplyPow10(-32768), Call::MultiplyPow10(-1)],
+        "0",
+    ),
+    (
+        "0012.3400",
+        &[
+            Call::TrimStart,
+            Call::TrimEnd,
+            Call::PadStart(4),
+            Call::PadEnd(-3),
+        ],
+        "0012.340",
+    ),
+    (
+        "4235.970",
+        &[
+            Call::SetMaxPosition(2),
+            Call::MultiplyPow10(1),
+            Call::MultiplyPow10(2),
+            Call::TrimEndIfInteger,
+        ],
+        "35970",
+    ),
+    ("-5", &[Call::SetMaxPosition(0)], "-0"),
+    (
+        "922337203685477580898230948203840239384.9823094820384023938423424",
+        &[],
+        "922337203685477580898230948203840239384.9823094820384023938423424",
+    ),
+];
+
+/// Runs of roundings.
+const ROUNDINGS: &[Run] = &[
+    (
+        "99.999",
+        &[Call::Round(4, Unsigned(Expand), MultiplesOf1)],
+        "10000",
+    ),
+    (
+        "9.75",
+        &[Call::Round(-1, Unsigned(HalfEven), MultiplesOf5)],
+        "10.0",
+    ),
+    (
+        "-7.235",
+        &[Call::Round(-2, Unsigned(HalfTrunc), MultiplesOf25)],
+        "-7.25",
+    ),
+    (
+        "12345678",
+        &[Call::Round(-1, Unsigned(Trunc), MultiplesOf25)],
+        "12345677.5",
+    ),
+    (
+        "4235.970",
+        &[
+            Call::Round(1, Unsigned(Trunc), MultiplesOf1),
+            Call::Round(3, Unsigned(Trunc), MultiplesOf1),
+            Call::Round(0, Unsigned(Trunc), MultiplesOf1),
+        ],
+        "4000",
+    ),
+    (
+        "99.5",
+        &[
+            Call::Round(0, Unsigned(Expand), MultiplesOf1),
+            Call::Round(3, Unsigned(Expand), MultiplesOf1),
+            Call::Round(1, Unsigned(Expand), MultiplesOf1),
+        ],
+        "1000",
+    ),
+    (
+        "-7.266",
+        &[Call::Round(-2, Unsigned(Expand), MultiplesOf25)],
+        "-7.50",
+    ),
+];
+
+/// Runs of joins.
+const JOINS: &[Run] = &[
+    ("123000", &[Call::Concatenate(b"456")], "123456"),
+    (
+        "120",
+        &[
+            Call::MultiplyPow10(1),
+            Call::Concatenate(b"25"),
+            Call::MultiplyPow10(1),
+        ],
+        "12250",
+    ),
+    (
+        "123",
+        &[Call::Concatenate(b"0.456"), Call::PadStart(5)],
+        "00123.456",
+    ),
+    (
+        "-1e20",
+        &[Call::Concatenate(b"12345678901234567890")],
+        "-112345678901234567890",
+    ),
+    ("0", &[Call::Concatenate(b"123456789.5")], "123456789.5"),
+];
+
+/// Runs of calls on the sign.
+const SIGNS: &[Run] = &[
+    (
+        "1729",
+        &[Call::ApplySignDisplay(SignDisplay::Always)],
+        "+1729",
+    ),
+    (
+        "-0.4",
+        &[
+            Call::Round(0, Ceil, MultiplesOf1),
+            Call::ApplySignDisplay(SignDisplay::ExceptZero),
+        ],
+        "0",
+    ),
+    (
+        "4235.970",
+        &[Call::SetMaxPosition(2), Call::SetSign(Sign::Negative)],
+        "-35.970",
+    ),
+    ("-5", &[Call::SetSign(Sign::Positive)], "+5"),
+    (
+        "-5",
+        &[
+            Call::SetSign(Sign::None),
+            Call::Round(0, Ceil, MultiplesOf5),
+        ],
+        "5",
+    ),
+];
+
+/// Runs that are refused.
+const REFUSED: &[Refused] = &[
+    ("5.", &[Call::TrimEnd], "start: syntax", 0),
+    ("", &[Call::TrimEnd], "start: syntax", 0),
+    ("--5", &[Call::TrimEnd], "start: syntax", 0),
+    ("10e32767", &[Call::TrimEnd], "start: limit", 0),
+    ("x", &[Call::Concatenate(b"x")], "start: syntax", 0),
+    ("120", &[Call::Concatenate(b"25")], "overlap", 0),
+    (
+        "5",
+        &[Call::Concatenate(b"5"), Call::Concatenate(b"x")],
+        "overlap",
+        0,
+    ),
+    (
+        "5",
+        &[Call::TrimStart, Call::Concatenate(b"x")],
+        "syntax",
+        1,
+    ),
+    (
+        "5",
+        &[Call::TrimStart, Call::Concatenate(b"-1")],
+        "syntax",
+        1,
+    ),
+    (
+        "5",
+        &[
+            Call::TrimStart,
+            Call::Concatenate(b"1e99999"),
+            Call::Concatenate(b"x"),
+        ],
+        "limit",
+        1,
+    ),
+];
+
+/// Runs of more than eight digits, whose numbers overlap: memory is there, and not what is wanted.
+const LONG_OVERLAPS: &[Refused] = &[(
+    "123456789",
+    &[Call::TrimEnd, Call::Concatenate(b"123456789")],
+    "overlap",
+    1,
+)];
+
+/// A sink that takes so many bytes.
+#[derive(Drop)]
+struct Limited {
+    text: Vec<u8>,
+    room: usize,
+    failed: bool,
+}
+
+impl Sink for Limited {
+    ghost use Rattle.std.specs.Prelude.{None};
+
+    ghost contents = { λ _. None };
+
+    ghost has_failed = { λ s. s.failed };
+
+    fn put_byte(&mut self, byte: u8) -> Result<(), SinkFault> {
+        if self.failed || self.text.len() == self.room || self.text.push(byte).is_err() {
+            self.failed = true;
+            return Err(SinkFault);
+        }
+        Ok(())
+    }
+
+    fn failed(&self) -> bool {
+        self.failed
+    }
+}
+
+/// An error in words, and the number of its call.
+fn words(error: &RunError) -> (&'static str, usize) {
+    match error {
+        RunError::Start(ParseError::Syntax) => ("start: syntax", 0),
+        RunError::Start(ParseError::Limit) => ("start: limit", 0),
+        RunError::Start(ParseError::Memory) => ("start: memory", 0),
+        RunError::Operand { at, fault } => (fault_word(fault), *at),
+        RunError::Overlap { at } => ("overlap", *at),
+        RunError::Memory { at } => ("memory", *at),
+        RunError::Sink => ("sink", 0),
+    }
+}
+
+/// A fault in a word.
+fn fault_word(fault: &ParseError) -> &'static str {
+    match fault {
+        ParseError::Syntax => "syntax",
+        ParseError::Limit => "limit",
+        ParseError::Memory => "memory",
+    }
+}
+
+/// What a run writes; where memory is refused, nothing was written, or the sink has failed.
+fn written(alloc: Global, start: &str, calls: &[Call<'_>]) -> Result<TextBuf, Fail> {
+    let mut sink = TextBuf::new(alloc);
+    let Err(error) = run(alloc, start.as_bytes(), calls, &mut sink) else {
+        return Ok(sink);
+    };
+    match words(&error).0 {
+        "start: memory" | "memory" => refused(sink, ""),
+        "sink" if sink.failed() => Err(Fail::new("memory was refused")),
+        _ => Ok(TextBuf::new(alloc)),
+    }
+}
+
+/// The refusal of a run in words, and the number of the call.
+fn refusal(alloc: Global, start: &str, calls: &[Call<'_>]) -> (&'static str, usize) {
+    let mut sink = TextBuf::new(alloc);
+    let answer = run(alloc, start.as_bytes(), calls, &mut sink);
+    if sink.failed() || !sink.as_bytes().is_empty() {
+        return ("written", 0);
+    }
+    match answer {
+        Ok(()) => ("no refusal", 0),
+        Err(error) => words(&error),
+    }
+}
+
+/// Asserts what runs write.
+fn assert_writes(rt: &impl Abort, alloc: Global, rows: &[Run]) -> Result<(), Fail> {
+    for (start, calls, text) in rows {
+        assert_shows(rt, written(alloc, start, calls)?, text);
+    }
+    Ok(())
+}
+
+/// What a sink of so much room has taken when a run has ended; where the run has not failed with it, a plus stands last.
+fn taken(alloc: Global, start: &str, calls: &[Call<'_>], room: usize) -> Result<Vec<u8>, Fail> {
+    let mut sink = Limited {
+        text: Vec::with_capacity(alloc, room)?,
+        room,
+        failed: false,
+    };
+    let answer = run(alloc, start.as_bytes(), calls, &mut sink);
+    if answer != Err(RunError::Sink) || !sink.failed() {
+        sink.text.push(b'+')?;
+    }
+    Ok(sink.text)
+}
+
+/// Asserts what a sink has taken.
+fn assert_takes(rt: &impl Abort, found: Vec<u8>, text: &[u8]) {
+    assert_eq!(rt; found.as_slice(), text);
+}
+
+/// Asserts what sinks of each room that is too small have taken of a text.
+fn assert_beginnings(
+    rt: &impl Abort,
+    alloc: Global,
+    (start, calls, text): Run,
+) -> Result<(), Fail> {
+    let bytes = text.as_bytes();
+    for room in 0..bytes.len() {
+        assert_takes(rt, taken(alloc, start, calls, room)?, &bytes[..room]);
+    }
+    Ok(())
+}
+
+#[test]
+fn edits(rt: HostRuntime) -> Result<(), Fail> {
+    assert_writes(&rt, rt.alloc(), EDITS)
+}
+
+#[test]
+fn roundings(rt: HostRuntime) -> Result<(), Fail> {
+    assert_writes(&rt, rt.alloc(), ROUNDINGS)
+}
+
+#[test]
+fn joins(rt: HostRuntime) -> Result<(), Fail> {
+    assert_writes(&rt, rt.alloc(), JOINS)
+}
+
+#[test]
+fn signs(rt: HostRuntime) -> Result<(), Fail> {
+    assert_writes(&rt, rt.alloc(), SIGNS)
+}
+
+#[test]
+fn refuses(rt: HostRuntime) {
+    let alloc = rt.alloc();
+    for (start, calls, fault, at) in REFUSED {
+        assert!(rt; refusal(alloc, start, calls) == (*fault, *at), "{start}");
+    }
+}
+
+#[test]
+fn refuses_with_memory(rt: HostRuntime) -> Result<(), Fail> {
+    let alloc = rt.alloc();
+    for (start, calls, fault, at) in LONG_OVERLAPS {
+        let (word, number) = refusal(alloc, start, calls);
+        if word == "memory" || word == "start: memory" {
+            return Err(Fail::new("memory was refused"));
+        }
+        assert!(rt; word == *fault && number == *at);
+    }
+    Ok(())
+}
+
+#[test]
+fn fails_with_the_sink(rt: HostRuntime) -> Result<(), Fail> {
+    let alloc = rt.alloc();
+    assert_beginnings(&rt, alloc, ("2.50", &[], "2.50"))?;
+    assert_beginnings(&rt, alloc, ("-12e2", &[Call::MultiplyPow10(-1)], "-120"))
+}
