@@ -14,12 +14,11 @@ use Rattle.decimal_unsigned.specs.Text.{dot_before, text_down, text}
 use Rattle.decimal_unsigned.specs.Reading.{is_letter}
 use Rattle.decimal_unsigned.proofs.Lengths.{length-text_whole}
 use Rattle.decimal_unsigned.proofs.Writing.{text_down-suc, text_down-zero}
-use Rattle.fixed_decimal.specs.declared.variations.Sign.{Sign}
 use Rattle.fixed_decimal.specs.declared.variations.Sign.TheVariants as sign
 use Rattle.fixed_decimal.specs.Letters.{is_small_e, is_capital_e, is_c}
 use Rattle.fixed_decimal.specs.Decimal.{Decimal}
 use Rattle.fixed_decimal.specs.DecimalText.{sign_text, decimal_text}
-use Rattle.fixed_decimal.proofs.DecimalTexts.{text_short}
+use Rattle.fixed_decimal.proofs.DecimalTexts.{sign_text_short}
 
 -- the test passes no digit, no dot and no sign
 pub record PassesNone (p : ℕ → Bool) : Type 0 where
@@ -64,21 +63,12 @@ pub c-none : PassesNone is_c
 c-none = record { digits = λ c a b. grind (arith, nat_tests); minus = refl; plus = refl }
 
 -- ---- How long it is.
-sign-most : (s : Sign) → length (sign_text s) ≤ 1
-sign-most sign.None = omega arith
-sign-most sign.Negative = omega arith
-sign-most sign.Positive = omega arith
-
--- a sign, 65536 digits and a dot
-pub length-decimal_most : (v : Decimal) → IsValue v.absolute → length (decimal_text v) ≤ 65538
-length-decimal_most v h = omega (arith, length-append (sign_text v.sign) (text v.absolute), sign-most v.sign, text_short v.absolute h)
-
 whole_gap : (lo hi : ℤ) → lo ≡ pos 0 → pos 0 ≤ℤ hi → hi ≤ℤ pos 32767 → int_gap lo hi ≤ 32767
 whole_gap lo (pos b) e r s = rw e (omega (arith, ints))
 whole_gap lo (negsuc b) e r s = absurd (omega (arith, ints))
 
--- of an integer, a sign and 32768 digits
+-- of an integer it is a sign and 32768 digits
 pub length-integer_most : (v : Decimal) → IsValue v.absolute → v.absolute.lo ≡ pos 0 → length (decimal_text v) ≤ 32769
 length-integer_most v h e =
     let g : int_gap v.absolute.lo v.absolute.hi ≤ 32767 = whole_gap v.absolute.lo v.absolute.hi e h.hi_in.0 h.hi_in.1 in
-    omega (arith, length-append (sign_text v.sign) (text v.absolute), sign-most v.sign, length-text_whole v.absolute h.hi_in.0 e, g)
+    omega (arith, length-append (sign_text v.sign) (text v.absolute), sign_text_short v.sign, length-text_whole v.absolute h.hi_in.0 e, g)

@@ -234,7 +234,6 @@ impl Writeable for CompactDecimal {
         ensures exact { result ≡ length (compact_text self.now) }
         ensures few { result ≤ 65542 }
     {
-        recall_value(&self.significand);
         let significand = self.significand.writeable_length_hint();
         if self.exponent == 0 {
             return significand;

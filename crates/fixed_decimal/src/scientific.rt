@@ -154,7 +154,6 @@ impl Writeable for ScientificDecimal {
         ensures exact { result ≡ length (scientific_text self.now) }
         ensures few { result ≤ 98308 }
     {
-        recall_value(&self.significand);
         self.significand.writeable_length_hint() + 1 + self.exponent.writeable_length_hint()
     }
 }
