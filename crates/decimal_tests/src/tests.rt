@@ -5,11 +5,15 @@ use std::process::Abort;
 use std::test::Fail;
 
 mod changes;
+mod compact;
 mod constructors;
 mod equality;
+mod integer;
+mod long;
 mod reading;
 mod rounding;
 mod runs;
+mod scientific;
 mod signs;
 
 /// The decimal that a text writes.
