@@ -5,12 +5,16 @@ use std::process::Abort;
 use std::test::Fail;
 
 mod changes;
+mod compact;
 mod constructors;
 mod counting;
 mod equality;
+mod integer;
+mod long;
 mod reading;
 mod rounding;
 mod runs;
+mod scientific;
 mod signs;
 mod stores;
 

@@ -5,6 +5,28 @@ ghost use Rattle.decimal_unsigned.specs.ErrorText.{error_text};
 use std::error::Error;
 use std::fmt;
 
+/// Says that a value is beyond the limits of a type: `5.0` shows a digit behind the dot, and is no `FixedInteger`.
+///
+/// The original's `LimitError`.
+#[derive(Clone, Copy, Debug, PartialEq)]
+pub struct LimitError;
+
+impl fmt::Display for LimitError {
+    ghost use Rattle.std.specs.Prelude.{Some};
+    ghost use Rattle.decimal_unsigned.specs.ErrorText.{limit_text};
+
+    ghost output = { λ _. Some limit_text };
+
+    ghost styled_output = { λ _ _. Some limit_text };
+
+    /// Writes the sentence of `ParseError::Limit`, and looks at no option of the format.
+    ///
+    /// Err: the formatter refused it. The original's `Display`.
+    fn fmt<W: fmt::Write>(&self, f: &mut fmt::Formatter<W>) -> fmt::Result {
+        f.write_str(ParseError::Limit.text())
+    }
+}
+
 /// Why a text was refused.
 ///
 /// `5.` is `Syntax`, `1e32768` is `Limit`. The original's `ParseError` has no `Memory`, and is `Copy`.

@@ -6,4 +6,4 @@
 pub mod decimal;
 mod error;
 
-pub use error::{ConcatenateError, ParseError};
+pub use error::{ConcatenateError, LimitError, ParseError};

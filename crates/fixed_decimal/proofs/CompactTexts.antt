@@ -1,0 +1,109 @@
+-- The text of a compact value: its exponent's digits, and that it reads as the value.
+use Rattle.std.proofs.Common.{◌≡◌, ℕ, zero, suc, ◌+◌, ◌/◌, ◌%◌, ◌^◌, ◌<◌, ◌≤◌, ◌==◌, ◌||◌, nat_lt, Bool, true, false, List, [], ◌∷◌, ◌++◌, length, get_or, refl, sym, ◌∙◌, ap, arith, append-nil}
+use Rattle.std.specs.Prelude.{Option, Some, None, Result, Ok}
+use Rattle.std.specs.Fmt.{decimal}
+use Rattle.std.specs.List.{list_any}
+use Rattle.std.specs.Str.Parse.{AllDigits, IsNumeral, digits_value}
+use Rattle.std.proofs.Math.Dec.{eqb-suc-zero}
+use Rattle.std.proofs.lemmas.Bool.Decides.{nat_tests}
+use Rattle.std.proofs.lemmas.Fmt.{decimal_digit, decimal_step, decimal_is_IsNumeral, first_decimal}
+use Rattle.std.proofs.lemmas.List.{length_push}
+use Rattle.std.proofs.lemmas.List.Folds.{list_any-append}
+use Rattle.std.proofs.lemmas.Str.Parse.{digit_from_value}
+use Rattle.std.specs.Io.KnownBytes.{Keeps}
+use Rattle.decimal_digits.specs.Text.{AppendsBeginning}
+use Rattle.decimal_unsigned.specs.Unsigned.{IsValue}
+use Rattle.decimal_unsigned.specs.Reading.{is_letter}
+use Rattle.decimal_unsigned.proofs.Laws.{numeral_again}
+use Rattle.fixed_decimal.specs.Letters.{is_c}
+use Rattle.fixed_decimal.specs.Outcome.{and_then}
+use Rattle.fixed_decimal.specs.Decimal.{Decimal}
+use Rattle.fixed_decimal.specs.DecimalText.{decimal_text}
+use Rattle.fixed_decimal.specs.Compact.{Compact, compact, exponent_text, compact_text, byte_or_limit, small_number_of, read_exponent, read_parts, read_compact, with_c, IsCutAtC}
+use Rattle.fixed_decimal.proofs.DecimalTexts.{read_decimal_text}
+use Rattle.fixed_decimal.proofs.DecimalBytes.{PassesNone, decimal_text-lacks, letter-none, c-none}
+use Rattle.fixed_decimal.proofs.CutsAtC.{cut_is}
+
+below_64 : (n : ℕ) → n < 256 → n < 2 ^ 64
+below_64 n h = omega arith
+
+-- ---- The digits of a number below 256.
+
+-- a number below 10 is one digit
+pub one_digit : (n : ℕ) → n < 10 → decimal n ≡ (48 + n) ∷ []
+one_digit n h = decimal_digit n h
+
+-- another one has its last digit behind the others
+pub last_digit : (n : ℕ) → n < 256 → 10 ≤ n → decimal n ≡ decimal (n / 10) ++ (48 + n % 10) ∷ []
+last_digit n h l = decimal_step n l (below_64 n h)
+
+-- one digit
+pub length-one : (n : ℕ) → n < 10 → length (decimal n) ≡ 1
+length-one n h = ap length (decimal_digit n h)
+
+length-more : (n : ℕ) → n < 256 → 10 ≤ n → length (decimal n) ≡ length (decimal (n / 10)) + 1
+length-more n h l = ap length (last_digit n h l) ∙ length_push (decimal (n / 10)) (48 + n % 10)
+
+-- two digits
+pub length-two : (n : ℕ) → 10 ≤ n → n < 100 → length (decimal n) ≡ 2
+length-two n l h = length-more n (omega arith) l ∙ ap (λ k. k + 1) (length-one (n / 10) (omega arith))
+
+-- three digits
+pub length-three : (n : ℕ) → 100 ≤ n → n < 256 → length (decimal n) ≡ 3
+length-three n l h = length-more n h (omega arith) ∙ ap (λ k. k + 1) (length-two (n / 10) (omega arith) (omega arith))
+
+-- ---- Reading it.
+digits-lacks : (p : ℕ → Bool) → PassesNone p → (ds : List ℕ) → AllDigits 10 ds → list_any p ds ≡ false
+digits-lacks p h [] d = refl
+digits-lacks p h (c ∷ ds) d = let r = digit_from_value c d.0 in let e = h.digits c (omega (arith, r.0)) (omega (arith, r.1)) in rw e (digits-lacks p h ds d.1)
+
+small_again : (ds : List ℕ) → IsNumeral 10 ds → 48 < get_or ds 0 0 → digits_value 10 ds ≤ 255 → small_number_of ds ≡ Ok (digits_value 10 ds)
+unfolding small_number_of
+small_again [] n h l = absurd (omega (arith, n.0))
+small_again (c ∷ ds) n h l =
+    let e : (c == 48) ≡ false = grind (arith, nat_tests, h) in
+    let f : nat_lt 255 (digits_value 10 (c ∷ ds)) ≡ false = grind (arith, nat_tests, l) in
+    rw (e, numeral_again (c ∷ ds) n, f) refl
+
+small_reads_back : (n : ℕ) → 0 < n → n < 256 → small_number_of (decimal n) ≡ Ok n
+small_reads_back n h l =
+    let d = decimal_is_IsNumeral n (below_64 n l) in
+    small_again (decimal n) d.0 (first_decimal n h (below_64 n l)) (omega (arith, d.1)) ∙ ap Ok d.1
+
+-- the parts of a text: an exponent of 0 has no text
+exponent_part : ℕ → Option (List ℕ)
+exponent_part zero = None
+exponent_part (suc n) = Some (decimal (suc n))
+
+exponent_is : (n : ℕ) → exponent_text n ≡ with_c (exponent_part n)
+unfolding exponent_part
+exponent_is zero = refl
+exponent_is (suc n) = rw (eqb-suc-zero n) refl
+
+exponent_again : (n : ℕ) → n < 256 → read_exponent (exponent_part n) ≡ Ok n
+unfolding exponent_part
+exponent_again zero h = refl
+exponent_again (suc n) h = small_reads_back (suc n) (omega arith) h
+
+exponent-plain : (n : ℕ) → n < 256 → list_any is_letter (with_c (exponent_part n)) ≡ false
+unfolding exponent_part
+exponent-plain zero h = refl
+exponent-plain (suc n) h = digits-lacks is_letter letter-none (decimal (suc n)) (decimal_is_IsNumeral (suc n) (below_64 (suc n) h)).0.1
+
+-- it is cut between its parts, and each part reads as itself
+pub compact_reads_back : (v : Compact) → IsValue v.significand.absolute → v.exponent < 256 → read_compact (compact_text v) ≡ Ok v
+compact_reads_back v h l =
+    ap (λ r. and_then r read_parts) (cut_is (compact_text v) (decimal_text v.significand) (exponent_part v.exponent) plain
+    (record { is = ap (λ t. decimal_text v.significand ++ t) (exponent_is v.exponent); first = decimal_text-lacks _ c-none v.significand }))
+    ∙ (rw (read_decimal_text v.significand h, exponent_again v.exponent l) refl)
+  where
+    plain : list_any is_letter (compact_text v) ≡ false
+    plain =
+        list_any-append is_letter (decimal_text v.significand) (exponent_text v.exponent)
+        ∙ (rw (decimal_text-lacks is_letter letter-none v.significand, exponent_is v.exponent, exponent-plain v.exponent l) refl)
+
+-- nothing is a beginning
+pub keeps_part : (a b : Option (List ℕ)) (xs : List ℕ) → Keeps a b → AppendsBeginning a b xs
+keeps_part None b xs h = ([], xs, refl, tt)
+keeps_part (Some a) None xs h = absurd h
+keeps_part (Some a) (Some b) xs h = ([], xs, refl, h ∙ sym (append-nil a))

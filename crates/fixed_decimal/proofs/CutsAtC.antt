@@ -1,0 +1,65 @@
+-- A text with no e and no E, cut at its first c.
+use Rattle.std.proofs.Common.{◌≡◌, ℕ, ◌⊎◌, inl, inr, Bool, true, false, List, [], ◌∷◌, ◌++◌, refl, ◌∙◌, ap, append-nil}
+use Rattle.std.specs.Prelude.{Option, Some, None, Result, Ok, Err}
+use Rattle.std.specs.List.{list_any, before_first, after_first}
+use Rattle.decimal_unsigned.specs.Reading.{syntax, is_letter}
+use Rattle.fixed_decimal.specs.Letters.{is_small_e, is_capital_e, is_c}
+use Rattle.fixed_decimal.specs.Cut.{IsFirstCut}
+use Rattle.fixed_decimal.specs.Outcome.{and_then}
+use Rattle.fixed_decimal.specs.Compact.{cut_at_c, read_parts, read_compact, IsCutAtC, ReadsCompact}
+use Rattle.fixed_decimal.proofs.Cutting.{front-at, behind-at, any-at, front-none}
+use Rattle.fixed_decimal.proofs.CutsAtE.{lacks_e, lacks_letter}
+
+letter_uncut : (text : List ℕ) → list_any is_letter text ≡ true → cut_at_c text ≡ Err syntax
+unfolding cut_at_c
+letter_uncut text h = rw h refl
+
+has_letter : (text : List ℕ) → (list_any is_small_e text ≡ true) ⊎ (list_any is_capital_e text ≡ true) → list_any is_letter text ≡ true
+has_letter text h = go (list_any is_letter text) refl h
+  where
+    go : (b : Bool) → list_any is_letter text ≡ b → (list_any is_small_e text ≡ true) ⊎ (list_any is_capital_e text ≡ true) → list_any is_letter text ≡ true
+    go true e h = e
+    go false e (inl s) = let n = (lacks_e text e).0 in absurd (cc)
+    go false e (inr s) = let n = (lacks_e text e).1 in absurd (cc)
+
+-- a text with an e has no cut
+pub small_uncut : (text : List ℕ) → list_any is_small_e text ≡ true → cut_at_c text ≡ Err syntax
+small_uncut text h = letter_uncut text (has_letter text (inl h))
+
+-- a text with an E has none
+pub capital_uncut : (text : List ℕ) → list_any is_capital_e text ≡ true → cut_at_c text ≡ Err syntax
+capital_uncut text h = letter_uncut text (has_letter text (inr h))
+
+plain_cut : (text : List ℕ) → list_any is_letter text ≡ false → list_any is_c text ≡ false → cut_at_c text ≡ Ok (text, None)
+unfolding cut_at_c
+plain_cut text h l = rw (h, l) (λ i. Ok (front-none is_c text l i, None))
+
+first_cut : (text front behind : List ℕ) → list_any is_letter text ≡ false → IsFirstCut is_c text front 99 behind → cut_at_c text ≡ Ok (front, Some behind)
+unfolding cut_at_c
+first_cut text front behind h c =
+    let a : list_any is_c text ≡ true = ap (list_any is_c) c.is ∙ any-at is_c front 99 behind refl in
+    let f = ap (before_first is_c) c.is ∙ front-at is_c front 99 behind c.lacks refl in
+    let b = ap (after_first is_c) c.is ∙ behind-at is_c front 99 behind c.lacks refl in
+    rw (h, a) (λ i. Ok (f i, Some (b i)))
+
+-- a text with no letter is the significand
+pub no_c_cut : (text : List ℕ) → list_any is_small_e text ≡ false → list_any is_capital_e text ≡ false → list_any is_c text ≡ false → cut_at_c text ≡ Ok (text, None)
+no_c_cut text h k l = plain_cut text (lacks_letter text h k) l
+
+-- a text with no e and no E is cut at its first c
+pub c_cut : (text front behind : List ℕ) → list_any is_small_e text ≡ false → list_any is_capital_e text ≡ false → IsFirstCut is_c text front 99 behind → cut_at_c text ≡ Ok (front, Some behind)
+c_cut text front behind h k c = first_cut text front behind (lacks_letter text h k) c
+
+pub ruleset cuts = (small_uncut, capital_uncut, no_c_cut, c_cut)
+
+-- the cut finds the parts
+pub cut_is : (text front : List ℕ) (behind : Option (List ℕ)) → list_any is_letter text ≡ false → IsCutAtC text front behind → cut_at_c text ≡ Ok (front, behind)
+cut_is text front None h c = let e = c.is ∙ append-nil front in plain_cut text h (ap (list_any is_c) e ∙ c.first) ∙ (λ i. Ok (e i, None))
+cut_is text front (Some behind) h c = first_cut text front behind h (record { is = c.is; passes = refl; lacks = c.first })
+
+-- reading is reading the parts
+pub compact_reads : (text : List ℕ) → ReadsCompact text (read_compact text)
+compact_reads text = record {
+  refused = λ h. ap (λ r. and_then r read_parts) (letter_uncut text h);
+  cut = λ h s x c. ap (λ r. and_then r read_parts) (cut_is text s x h c);
+}

@@ -1,0 +1,21 @@
+-- What the answer of a test for equality tells of two values and of their texts.
+use Rattle.std.proofs.Common.{◌≡◌, ℕ, Bool, true, false, IsTrue, ◌↔◌, List, sym, ◌∙◌, ap}
+use Rattle.std.specs.Prelude.{Result, Ok}
+use Rattle.std.specs.Cmp.{both_ways}
+use Rattle.std.proofs.lemmas.Slice.Eq.{bytes_eq-Decides}
+use Rattle.decimal_unsigned.specs.Reading.{Fault}
+use Rattle.fixed_decimal.specs.Equal.{same_text}
+
+module _ {V : Type 0} (text : V → List ℕ) (read : List ℕ → Result V Fault) where
+  -- of values whose texts read as these, equal texts are those of equal values
+  pub text_same : (v w : V) → read (text v) ≡ Ok v → read (text w) ≡ Ok w → text v ≡ text w → v ≡ w
+  text_same v w p q e = let r = sym p ∙ ap read e ∙ q in cc
+
+  pub tells_texts : (r : Bool) (v w : V) → read (text v) ≡ Ok v → read (text w) ≡ Ok w → IsTrue r ↔ (v ≡ w) → IsTrue r ↔ (text v ≡ text w)
+  tells_texts r v w p q h = (λ x. ap text (h.0 x), λ e. h.1 (text_same v w p q e))
+
+  pub tells_same : (r : Bool) (v w : V) → read (text v) ≡ Ok v → read (text w) ≡ Ok w → IsTrue r ↔ (v ≡ w) → r ≡ same_text text v w
+  tells_same r v w p q h =
+      let d = bytes_eq-Decides (text v) (text w) in
+      let t = tells_texts r v w p q h in
+      both_ways r (same_text text v w) (λ e. d.1 (t.0 e)) (λ e. t.1 (d.0 e))

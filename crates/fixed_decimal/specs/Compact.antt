@@ -1,0 +1,79 @@
+-- A decimal times 10 to the power of a small number, both as they were written.
+use Rattle.std.specs.Prelude.{◌≡◌, ℕ, ◌<◌, ◌==◌, nat_lt, if◌then◌else◌, Bool, true, false, List, [], ◌∷◌, ◌++◌}
+use Rattle.std.specs.Prelude.{Option, Some, None, Result, Ok, Err}
+use Rattle.std.specs.Fmt.{decimal}
+use Rattle.std.specs.List.{list_any, before_first, after_first}
+use Rattle.decimal_digits.specs.Number.{size}
+use Rattle.decimal_unsigned.specs.Reading.{Fault, syntax, limit, is_letter, numeral_of}
+use Rattle.fixed_decimal.specs.Outcome.{and_then}
+use Rattle.fixed_decimal.specs.Letters.{is_c}
+use Rattle.fixed_decimal.specs.Decimal.{Decimal}
+use Rattle.fixed_decimal.specs.DecimalText.{decimal_text, read_decimal}
+
+-- the significand, and the exponent, which is at most 255
+pub record Compact : Type 0 where
+  pub significand : Decimal
+  pub exponent : ℕ
+
+-- the value of two parts
+abbrev pub compact : Decimal → ℕ → Compact
+compact significand exponent = record { significand = significand; exponent = exponent }
+
+-- c, which is 99, and the digits of the exponent, where it is not 0
+abbrev pub exponent_text : ℕ → List ℕ
+exponent_text exponent = if exponent == 0 then [] else 99 ∷ decimal exponent
+
+-- the text of the significand, and the exponent behind it
+abbrev pub compact_text : Compact → List ℕ
+compact_text v = decimal_text v.significand ++ exponent_text v.exponent
+
+-- the texts in front of the first c and behind it, or the whole text, where there is no e and no E
+unfoldable pub cut_at_c : List ℕ → Result (List ℕ × Option (List ℕ)) Fault
+cut_at_c bytes =
+    if list_any is_letter bytes then Err syntax
+    else Ok (before_first is_c bytes, (if list_any is_c bytes then Some (after_first is_c bytes) else None))
+
+-- at most 255
+abbrev pub byte_or_limit : Option ℕ → Result ℕ Fault
+byte_or_limit None = Err syntax
+byte_or_limit (Some n) = if nat_lt 255 n then Err limit else Ok n
+
+-- digits, of which the first is not 0, which is 48; a second c is none
+unfoldable pub small_number_of : List ℕ → Result ℕ Fault
+small_number_of [] = Err syntax
+small_number_of (c ∷ rest) = if c == 48 then Err syntax else byte_or_limit (numeral_of (c ∷ rest))
+
+-- where there is no c, the exponent is 0
+abbrev pub read_exponent : Option (List ℕ) → Result ℕ Fault
+read_exponent None = Ok 0
+read_exponent (Some bytes) = small_number_of bytes
+
+-- first the fault of the significand, and then that of the exponent
+abbrev pub read_parts : List ℕ × Option (List ℕ) → Result Compact Fault
+read_parts parts =
+    and_then (read_decimal parts.0) (λ significand.
+    and_then (read_exponent parts.1) (λ exponent. Ok (compact significand exponent)))
+
+-- first that there is no cut, and then the faults of the parts
+abbrev pub read_compact : List ℕ → Result Compact Fault
+read_compact bytes = and_then (cut_at_c bytes) read_parts
+
+-- a c, which is 99, and the text behind it, if there is one
+abbrev pub with_c : Option (List ℕ) → List ℕ
+with_c None = []
+with_c (Some behind) = 99 ∷ behind
+
+-- the text is these parts, and no c stands in the first
+pub record IsCutAtC (bytes significand : List ℕ) (exponent : Option (List ℕ)) : Type 0 where
+  pub is : bytes ≡ significand ++ with_c exponent
+  pub first : list_any is_c significand ≡ false
+
+-- a text with an e or E is refused with syntax; another one reads as its parts
+pub record ReadsCompact (bytes : List ℕ) (reading : Result Compact Fault) : Type 0 where
+  pub refused : list_any is_letter bytes ≡ true → reading ≡ Err syntax
+  pub cut : list_any is_letter bytes ≡ false → (significand : List ℕ) (exponent : Option (List ℕ)) →
+      IsCutAtC bytes significand exponent → reading ≡ read_parts (significand, exponent)
+
+-- the significand has more digits than are held without memory
+abbrev pub HasLongSignificand : ℕ → Compact → Type 0
+HasLongSignificand held v = held < size v.significand.absolute.number

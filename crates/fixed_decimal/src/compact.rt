@@ -1,0 +1,284 @@
+//! A decimal times 10 to the power of a small number.
+ghost use Rattle.std.specs.Prelude.{◌≡◌, ◌≤◌, ◌↔◌, length, true, Ok, IsTrue, IsOk, IfOk, OnOk, OnErr, MatchResult};
+ghost use Rattle.std.specs.Fmt.{decimal, WritesStyledOnOk};
+ghost use Rattle.std.specs.Option.{option_copied};
+ghost use Rattle.std.specs.Io.KnownBytes.{Appends};
+ghost use Rattle.decimal_digits.specs.Number.{size};
+ghost use Rattle.decimal_digits.specs.Text.{AppendsBeginning};
+ghost use Rattle.decimal_unsigned.specs.Refusal.{Refuses};
+ghost use Rattle.fixed_decimal.specs.Faults.{Answers};
+ghost use Rattle.fixed_decimal.specs.Equal.{same_text, same_text_laws};
+ghost use Rattle.fixed_decimal.specs.Compact.{compact, compact_text, small_number_of, cut_at_c, read_exponent};
+ghost use Rattle.fixed_decimal.specs.Compact.{read_compact, ReadsCompact, HasLongSignificand};
+
+use crate::cut::{cut_at, lowest_of_decimal};
+use crate::integer::{L, recall_value};
+use crate::signed_decimal::Decimal;
+use decimal_digits::sink::{Sink, SinkFault, Writeable};
+use decimal_unsigned::ParseError;
+use decimal_unsigned::decimal::numeral;
+use std::alloc::{AllocError, Global};
+use std::fmt;
+use std::marker::Model;
+
+/// A decimal, the significand, times 10 to the power of a number from 0 to 255, the exponent: `-1.20c6`.
+///
+/// The significand keeps the form in which it was handed in. Contracts see the two parts. The original's
+/// `CompactDecimal`.
+#[derive(Debug, Drop)]
+pub struct CompactDecimal {
+    significand: Decimal,
+    exponent: u8,
+}
+
+impl Model for CompactDecimal {
+    ghost use Rattle.fixed_decimal.specs.Compact.{Compact, compact};
+
+    ghost Value = { Compact };
+
+    ghost view = { λ s. compact s.significand s.exponent };
+}
+
+/// The number that stands behind the `c`.
+#[tactic(auto, unfolding(crate::specs::Compact::small_number_of))]
+fn small_number(text: &[u8]) -> Result<u8, ParseError>
+    ensures { Answers (λ _. ⊥) result (small_number_of text.now) }
+{
+    match text {
+        [] | [b'0', ..] => Err(ParseError::Syntax),
+        _ => match numeral(text) {
+            None => Err(ParseError::Syntax),
+            Some(number) if number > 255 => Err(ParseError::Limit),
+            Some(number) => Ok(number as u8),
+        },
+    }
+}
+
+/// The exponent, whose text may be missing.
+fn read_exponent(text: Option<&[u8]>) -> Result<u8, ParseError>
+    ensures { Answers (λ _. ⊥) result (read_exponent (option_copied text.entry)) }
+{
+    match text {
+        None => Ok(0),
+        Some(text) => small_number(text),
+    }
+}
+
+/// The texts of the significand and of the exponent, where there is no `e` and no `E`.
+#[tactic(auto, using(crate::proofs::CutsAtC::cuts))]
+fn cut_at_c(text: &[u8]) -> Result<(&[u8], Option<&[u8]>), ParseError>
+    ensures { MatchResult result (λ parts. cut_at_c text.now ≡ Ok (parts.0.now, option_copied parts.1))
+        (λ e. Refuses ⊥ e (cut_at_c text.now)) }
+{
+    if text.contains(&b'e') {
+        return Err(ParseError::Syntax);
+    }
+    if text.contains(&b'E') {
+        return Err(ParseError::Syntax);
+    }
+    match cut_at(text, b'c') {
+        None => Ok((text, None)),
+        Some((significand, exponent)) => Ok((significand, Some(exponent))),
+    }
+}
+
+/// Appends the digits of a number.
+fn write_number<W: Sink>(number: u8, sink: &mut W) -> Result<(), SinkFault>
+    ensures ok { OnOk result (Appends (W.contents sink.old) (W.contents sink.new) (decimal number)) }
+    ensures err { OnErr result (AppendsBeginning (W.contents sink.old) (W.contents sink.new) (decimal number)) }
+    ensures failed { OnErr result (W.has_failed sink.new ≡ true) }
+{
+    if number < 10 {
+        return sink.put_byte(b'0' + number);
+    }
+    write_number(number / 10, sink)?;
+    sink.put_byte(b'0' + number % 10)
+}
+
+/// Formats the digits of a number.
+fn format_number<W: fmt::Write>(number: u8, f: &mut fmt::Formatter<W>) -> fmt::Result
+    ensures { WritesStyledOnOk W.write_str_gives f.old result (decimal number) f.new }
+{
+    if number < 10 {
+        return f.write_char((b'0' + number) as char);
+    }
+    format_number(number / 10, f)?;
+    f.write_char((b'0' + number % 10) as char)
+}
+
+/// Counts the digits of a number.
+fn number_length(number: u8) -> usize
+    ensures exact { result ≡ length (decimal number) }
+    ensures few { result ≤ 3 }
+{
+    match number {
+        0..=9 => 1,
+        10..=99 => 2,
+        _ => 3,
+    }
+}
+
+impl CompactDecimal {
+    /// Joins a significand and an exponent, and changes neither.
+    ///
+    /// Of `1.20` and 6 the text is `1.20c6`, of `1.20` and 0 it is `1.20`. The original's
+    /// `from_significand_and_exponent`.
+    pub fn from_significand_and_exponent(significand: Decimal, exponent: u8) -> Self
+        ensures { result ≡ compact significand exponent }
+    {
+        CompactDecimal {
+            significand,
+            exponent,
+        }
+    }
+
+    /// Gives the significand, to be read: `1.20` of `1.20c6`. The original's `significand`.
+    pub fn significand(&self) -> &Decimal
+        ensures { result.now ≡ self.now.significand }
+    {
+        &self.significand
+    }
+
+    /// Gives the significand, and drops the exponent: `1.20` of `1.20c6`. The original's `into_significand`.
+    pub fn into_significand(self) -> Decimal
+        ensures { result ≡ self.significand }
+    {
+        self.significand
+    }
+
+    /// Gives the exponent: 6 of `1.20c6`, and 0 of `1.20`. The original's `exponent`.
+    pub fn exponent(&self) -> u8
+        ensures { result ≡ self.now.exponent }
+    {
+        self.exponent
+    }
+
+    /// Makes a second value that equals this one.
+    ///
+    /// The copy of `1.20c6` prints `1.20c6`. Err: memory for more than `L` digits of the significand was refused. In
+    /// the place of the original's `Clone`.
+    pub fn clone(&self) -> Result<Self, AllocError>
+        ensures value { IfOk result (λ copy. copy ≡ self.now) }
+        ensures succeeds { size self.now.significand.absolute.number ≤ L → IsOk result }
+    {
+        Ok(CompactDecimal {
+            significand: self.significand.clone()?,
+            exponent: self.exponent,
+        })
+    }
+
+    /// Reads the value that a text writes: a text without an exponent that `Decimal` reads, and then nothing, or `c`
+    /// and a number from 1 to 255 whose first digit is not 0.
+    ///
+    /// `+1.20c6` is read, and prints itself; `1729` has the exponent 0. Err: `Syntax` where there is an `e` or `E`;
+    /// else the `Syntax` or `Limit` that `Decimal` answers to the text in front of the first `c`; else `Syntax` where
+    /// what stands behind it is empty, begins with `0`, or is not all digits, as in `1c01` and `1c1c1`; else `Limit`
+    /// where it is above 255; else `Memory` where memory for more than `L` digits of the significand was refused. Every
+    /// other fault is decided before memory is asked for. The original's `try_from_str` and `FromStr`.
+    #[tactic(auto, using(crate::proofs::CutsAtC::compact_reads))]
+    pub fn try_from_str(alloc: Global, text: &str) -> Result<Self, ParseError>
+        ensures answers { Answers (HasLongSignificand L) result (read_compact text.now) }
+        // What reading comes to, by the parts of the text.
+        ensures reads { ReadsCompact text.now (read_compact text.now) }
+    {
+        let (significand, exponent) = cut_at_c(text.as_bytes())?;
+        lowest_of_decimal(significand)?;
+        let exponent = read_exponent(exponent)?;
+        let significand = Decimal::try_from_utf8(alloc, significand)?;
+        Ok(Self::from_significand_and_exponent(significand, exponent))
+    }
+
+    /// Recalls, for proofs, that the text of each value reads as the value.
+    fn recall_reading(&self)
+        ensures { read_compact (compact_text self.now) ≡ Ok self.now }
+    {
+        recall_value(&self.significand);
+        let _exponent = self.exponent;
+    }
+
+    /// Whether the parts of two values are equal.
+    fn has_same_parts(&self, other: &Self) -> bool
+        ensures { IsTrue result ↔ (self.now ≡ other.now) }
+    {
+        self.significand == other.significand && self.exponent == other.exponent
+    }
+}
+
+impl Writeable for CompactDecimal {
+    ghost text = { compact_text };
+
+    /// Appends the text of the significand, and where the exponent is not 0, `c` and its digits: `1.20c6`.
+    ///
+    /// Err: the sink refused a byte, now or before, and has taken a beginning of the text. The text reads as this
+    /// very value. `write_to` of the original.
+    fn write_to<W: Sink>(&self, sink: &mut W) -> Result<(), SinkFault>
+        ensures ok { OnOk result (Appends (W.contents sink.old) (W.contents sink.new) (compact_text self.now)) }
+        ensures err { OnErr result
+            (AppendsBeginning (W.contents sink.old) (W.contents sink.new) (compact_text self.now)) }
+        ensures failed { OnErr result (W.has_failed sink.new ≡ true) }
+        ensures reads_back { read_compact (compact_text self.now) ≡ Ok self.now }
+    {
+        self.recall_reading();
+        let exponent = self.exponent;
+        self.significand.write_to(sink)?;
+        if exponent == 0 {
+            return Ok(());
+        }
+        sink.put_byte(b'c')?;
+        write_number(exponent, sink)
+    }
+
+    /// Counts the bytes of the text, exactly: 6 for `1.20c6`, and at most 65,542. `writeable_length_hint` of the
+    /// original.
+    fn writeable_length_hint(&self) -> usize
+        ensures exact { result ≡ length (compact_text self.now) }
+        ensures few { result ≤ 65542 }
+    {
+        let significand = self.significand.writeable_length_hint();
+        if self.exponent == 0 {
+            return significand;
+        }
+        significand + 1 + number_length(self.exponent)
+    }
+}
+
+impl PartialEq for CompactDecimal {
+    ghost eq = { same_text compact_text };
+
+    ghost laws = { same_text_laws compact_text };
+
+    /// Tells whether the parts of two values are equal, so that their texts are equal.
+    ///
+    /// `1c2` and `1c3` are not equal, nor are `1c2` and `1.0c2`. The original's `PartialEq`.
+    fn eq(&self, other: &Self) -> bool
+        ensures same { result ≡ same_text compact_text self.now other.now }
+        ensures value { IsTrue result ↔ (self.now ≡ other.now) }
+        ensures texts { IsTrue result ↔ (compact_text self.now ≡ compact_text other.now) }
+    {
+        self.recall_reading();
+        other.recall_reading();
+        self.has_same_parts(other)
+    }
+}
+
+impl fmt::Display for CompactDecimal {
+    ghost use Rattle.std.specs.Prelude.{Some};
+    ghost use Rattle.fixed_decimal.specs.Compact.{compact_text};
+
+    ghost output = { λ v. Some (compact_text v) };
+
+    ghost styled_output = { λ v _. Some (compact_text v) };
+
+    /// Writes the text that `write_to` appends, and looks at no option of the format: `{:8}` writes `1.20c6` too.
+    ///
+    /// Err: the formatter refused a character. The original's `Display`.
+    fn fmt<W: fmt::Write>(&self, f: &mut fmt::Formatter<W>) -> fmt::Result {
+        let exponent = self.exponent;
+        self.significand.fmt(f)?;
+        if exponent == 0 {
+            return Ok(());
+        }
+        f.write_char('c')?;
+        format_number(exponent, f)
+    }
+}

@@ -1,0 +1,134 @@
+//! Integers of machine integers.
+ghost use Rattle.std.specs.Prelude.{◌≡◌, ◌≤◌, pos, IsOk, IfOk};
+ghost use Rattle.decimal_digits.specs.Number.{size};
+ghost use Rattle.fixed_decimal.specs.Decimal.{integer_decimal};
+
+use super::{FixedInteger, L};
+use crate::signed_decimal::Decimal;
+use std::alloc::{AllocError, Global};
+
+impl FixedInteger {
+    /// Makes the integer of a `u8`, without a sign, and asks for no memory.
+    ///
+    /// 200 prints `200`. In the place of the original's `From<u8>`.
+    pub fn from_u8(alloc: Global, integer: u8) -> Self
+        ensures { result ≡ integer_decimal (pos integer) }
+    {
+        FixedInteger(Decimal::from_u8(alloc, integer))
+    }
+
+    /// Makes the integer of a `u16`, without a sign, and asks for no memory.
+    ///
+    /// 65535 prints `65535`. In the place of the original's `From<u16>`.
+    pub fn from_u16(alloc: Global, integer: u16) -> Self
+        ensures { result ≡ integer_decimal (pos integer) }
+    {
+        FixedInteger(Decimal::from_u16(alloc, integer))
+    }
+
+    /// Makes the integer of an `i8`, with a minus where it is below 0, and asks for no memory.
+    ///
+    /// -128 prints `-128`. In the place of the original's `From<i8>`.
+    pub fn from_i8(alloc: Global, integer: i8) -> Self
+        ensures { result ≡ integer_decimal integer }
+    {
+        FixedInteger(Decimal::from_i8(alloc, integer))
+    }
+
+    /// Makes the integer of an `i16`, with a minus where it is below 0, and asks for no memory.
+    ///
+    /// -32768 prints `-32768`. In the place of the original's `From<i16>`.
+    pub fn from_i16(alloc: Global, integer: i16) -> Self
+        ensures { result ≡ integer_decimal integer }
+    {
+        FixedInteger(Decimal::from_i16(alloc, integer))
+    }
+
+    /// Makes the integer of a `u32`, without a sign: 250 prints `250`.
+    ///
+    /// Err: memory for more than `L` digits was refused; the zeros at the end of the integer are not counted. In the
+    /// place of the original's `From<u32>`.
+    pub fn try_from_u32(alloc: Global, integer: u32) -> Result<Self, AllocError>
+        ensures value { IfOk result (λ v. v ≡ integer_decimal (pos integer)) }
+        ensures succeeds { size (integer_decimal (pos integer)).absolute.number ≤ L → IsOk result }
+    {
+        Ok(FixedInteger(Decimal::try_from_u32(alloc, integer)?))
+    }
+
+    /// Makes the integer of a `u64`, without a sign: 250 prints `250`.
+    ///
+    /// Err: memory for more than `L` digits was refused; the zeros at the end of the integer are not counted. In the
+    /// place of the original's `From<u64>`.
+    pub fn try_from_u64(alloc: Global, integer: u64) -> Result<Self, AllocError>
+        ensures value { IfOk result (λ v. v ≡ integer_decimal (pos integer)) }
+        ensures succeeds { size (integer_decimal (pos integer)).absolute.number ≤ L → IsOk result }
+    {
+        Ok(FixedInteger(Decimal::try_from_u64(alloc, integer)?))
+    }
+
+    /// Makes the integer of a `u128`, without a sign: 250 prints `250`.
+    ///
+    /// Err: memory for more than `L` digits was refused; the zeros at the end of the integer are not counted. In the
+    /// place of the original's `From<u128>`.
+    pub fn try_from_u128(alloc: Global, integer: u128) -> Result<Self, AllocError>
+        ensures value { IfOk result (λ v. v ≡ integer_decimal (pos integer)) }
+        ensures succeeds { size (integer_decimal (pos integer)).absolute.number ≤ L → IsOk result }
+    {
+        Ok(FixedInteger(Decimal::try_from_u128(alloc, integer)?))
+    }
+
+    /// Makes the integer of a `usize`, without a sign: 250 prints `250`.
+    ///
+    /// Err: memory for more than `L` digits was refused; the zeros at the end of the integer are not counted. In the
+    /// place of the original's `From<usize>`.
+    pub fn try_from_usize(alloc: Global, integer: usize) -> Result<Self, AllocError>
+        ensures value { IfOk result (λ v. v ≡ integer_decimal (pos integer)) }
+        ensures succeeds { size (integer_decimal (pos integer)).absolute.number ≤ L → IsOk result }
+    {
+        Ok(FixedInteger(Decimal::try_from_usize(alloc, integer)?))
+    }
+
+    /// Makes the integer of an `i32`, with a minus where it is below 0: -250 prints `-250`.
+    ///
+    /// Err: memory for more than `L` digits was refused; the zeros at the end of the integer are not counted. In the
+    /// place of the original's `From<i32>`.
+    pub fn try_from_i32(alloc: Global, integer: i32) -> Result<Self, AllocError>
+        ensures value { IfOk result (λ v. v ≡ integer_decimal integer) }
+        ensures succeeds { size (integer_decimal integer).absolute.number ≤ L → IsOk result }
+    {
+        Ok(FixedInteger(Decimal::try_from_i32(alloc, integer)?))
+    }
+
+    /// Makes the integer of an `i64`, with a minus where it is below 0: -250 prints `-250`.
+    ///
+    /// Err: memory for more than `L` digits was refused; the zeros at the end of the integer are not counted. In the
+    /// place of the original's `From<i64>`.
+    pub fn try_from_i64(alloc: Global, integer: i64) -> Result<Self, AllocError>
+        ensures value { IfOk result (λ v. v ≡ integer_decimal integer) }
+        ensures succeeds { size (integer_decimal integer).absolute.number ≤ L → IsOk result }
+    {
+        Ok(FixedInteger(Decimal::try_from_i64(alloc, integer)?))
+    }
+
+    /// Makes the integer of an `i128`, with a minus where it is below 0: -250 prints `-250`.
+    ///
+    /// Err: memory for more than `L` digits was refused; the zeros at the end of the integer are not counted. In the
+    /// place of the original's `From<i128>`.
+    pub fn try_from_i128(alloc: Global, integer: i128) -> Result<Self, AllocError>
+        ensures value { IfOk result (λ v. v ≡ integer_decimal integer) }
+        ensures succeeds { size (integer_decimal integer).absolute.number ≤ L → IsOk result }
+    {
+        Ok(FixedInteger(Decimal::try_from_i128(alloc, integer)?))
+    }
+
+    /// Makes the integer of an `isize`, with a minus where it is below 0: -250 prints `-250`.
+    ///
+    /// Err: memory for more than `L` digits was refused; the zeros at the end of the integer are not counted. In the
+    /// place of the original's `From<isize>`.
+    pub fn try_from_isize(alloc: Global, integer: isize) -> Result<Self, AllocError>
+        ensures value { IfOk result (λ v. v ≡ integer_decimal integer) }
+        ensures succeeds { size (integer_decimal integer).absolute.number ≤ L → IsOk result }
+    {
+        Ok(FixedInteger(Decimal::try_from_isize(alloc, integer)?))
+    }
+}

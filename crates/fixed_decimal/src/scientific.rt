@@ -1,0 +1,196 @@
+//! A decimal times 10 to the power of an integer.
+ghost use Rattle.std.specs.Prelude.{◌≡◌, ◌≤◌, ◌↔◌, length, true, Ok, IsTrue, IsOk, IfOk, OnOk, OnErr, MatchResult};
+ghost use Rattle.std.specs.Io.KnownBytes.{Appends};
+ghost use Rattle.decimal_digits.specs.Number.{size};
+ghost use Rattle.decimal_digits.specs.Text.{AppendsBeginning};
+ghost use Rattle.decimal_unsigned.specs.Refusal.{Refuses};
+ghost use Rattle.fixed_decimal.specs.Faults.{Answers};
+ghost use Rattle.fixed_decimal.specs.Equal.{same_text, same_text_laws};
+ghost use Rattle.fixed_decimal.specs.Scientific.{scientific, scientific_text, cut_at_e, read_scientific};
+ghost use Rattle.fixed_decimal.specs.Scientific.{ReadsScientific, HasLongPart};
+
+use crate::cut::{cut_at, lowest_of_decimal};
+use crate::integer::{FixedInteger, L, check_integer, recall_value};
+use crate::signed_decimal::Decimal;
+use decimal_digits::sink::{Sink, SinkFault, Writeable};
+use decimal_unsigned::ParseError;
+use std::alloc::{AllocError, Global};
+use std::fmt;
+use std::marker::Model;
+
+/// A decimal, the significand, times 10 to the power of an integer, the exponent: `-1.20e+05`.
+///
+/// Both parts keep the form in which they were handed in, signs and zeros included. Contracts see the two parts. The
+/// original's `ScientificDecimal`.
+#[derive(Debug, Drop)]
+pub struct ScientificDecimal {
+    significand: Decimal,
+    exponent: FixedInteger,
+}
+
+impl Model for ScientificDecimal {
+    ghost use Rattle.fixed_decimal.specs.Scientific.{Scientific, scientific};
+
+    ghost Value = { Scientific };
+
+    ghost view = { λ s. scientific s.significand s.exponent };
+}
+
+/// The texts of the two parts, where there is one `e` and no `E`.
+#[tactic(auto, using(crate::proofs::CutsAtE::cuts))]
+fn cut_at_e(text: &[u8]) -> Result<(&[u8], &[u8]), ParseError>
+    ensures { MatchResult result (λ parts. cut_at_e text.now ≡ Ok (parts.0.now, parts.1.now))
+        (λ e. Refuses ⊥ e (cut_at_e text.now)) }
+{
+    if text.contains(&b'E') {
+        return Err(ParseError::Syntax);
+    }
+    let Some((significand, exponent)) = cut_at(text, b'e') else {
+        return Err(ParseError::Syntax);
+    };
+    if exponent.contains(&b'e') {
+        return Err(ParseError::Syntax);
+    }
+    Ok((significand, exponent))
+}
+
+impl ScientificDecimal {
+    /// Joins a significand and an exponent, and changes neither.
+    ///
+    /// Of `1.729` and `3` the text is `1.729e3`. The original's `from`.
+    pub fn from(significand: Decimal, exponent: FixedInteger) -> Self
+        ensures { result ≡ scientific significand exponent }
+    {
+        ScientificDecimal {
+            significand,
+            exponent,
+        }
+    }
+
+    /// Makes a second value that equals this one.
+    ///
+    /// The copy of `1.20e05` prints `1.20e05`. Err: memory for more than `L` digits of a part was refused; then nothing
+    /// is left of the copy. In the place of the original's `Clone`.
+    pub fn clone(&self) -> Result<Self, AllocError>
+        ensures value { IfOk result (λ copy. copy ≡ self.now) }
+        ensures succeeds { size self.now.significand.absolute.number ≤ L →
+            size self.now.exponent.absolute.number ≤ L → IsOk result }
+    {
+        Ok(ScientificDecimal {
+            significand: self.significand.clone()?,
+            exponent: self.exponent.clone()?,
+        })
+    }
+
+    /// Reads the value that a text writes: a text that `Decimal` reads, `e`, and a text that `FixedInteger` reads.
+    ///
+    /// Neither part may have an exponent of its own. `+1.20e-03` is read, and prints itself. Err: `Syntax` where there
+    /// is an `E`, or not exactly one `e`, as in `1E5` and `5`; else the `Syntax` or `Limit` that `Decimal` answers to
+    /// the text in front of the `e`; else the one that `FixedInteger` answers to the text behind it, as `Limit` to
+    /// `1.0`; else `Memory` where memory for more than `L` digits of a part was refused, and nothing is left of the
+    /// other part. Every other fault is decided before memory is asked for. The original's `try_from_utf8`.
+    #[tactic(auto, using(crate::proofs::CutsAtE::scientific_reads))]
+    pub fn try_from_utf8(alloc: Global, text: &[u8]) -> Result<Self, ParseError>
+        ensures answers { Answers (HasLongPart L) result (read_scientific text.now) }
+        // What reading comes to, by the parts of the text.
+        ensures reads { ReadsScientific text.now (read_scientific text.now) }
+    {
+        let (significand, exponent) = cut_at_e(text)?;
+        lowest_of_decimal(significand)?;
+        check_integer(exponent)?;
+        let significand = Decimal::try_from_utf8(alloc, significand)?;
+        let exponent = FixedInteger::read_checked(alloc, exponent)?;
+        Ok(ScientificDecimal::from(significand, exponent))
+    }
+
+    /// Reads the value that a text writes: `try_from_utf8` of its bytes. The original's `try_from_str` and `FromStr`.
+    #[tactic(auto, using(crate::proofs::CutsAtE::scientific_reads))]
+    pub fn try_from_str(alloc: Global, text: &str) -> Result<Self, ParseError>
+        ensures answers { Answers (HasLongPart L) result (read_scientific text.now) }
+        ensures reads { ReadsScientific text.now (read_scientific text.now) }
+    {
+        Self::try_from_utf8(alloc, text.as_bytes())
+    }
+
+    /// Recalls, for proofs, that the text of each value reads as the value.
+    fn recall_reading(&self)
+        ensures { read_scientific (scientific_text self.now) ≡ Ok self.now }
+    {
+        recall_value(&self.significand);
+        self.exponent.recall_value();
+    }
+
+    /// Whether the parts of two values are equal.
+    fn has_same_parts(&self, other: &Self) -> bool
+        ensures { IsTrue result ↔ (self.now ≡ other.now) }
+    {
+        self.significand == other.significand && self.exponent == other.exponent
+    }
+}
+
+impl Writeable for ScientificDecimal {
+    ghost text = { scientific_text };
+
+    /// Appends the text of the significand, `e`, and the text of the exponent: `1.20e-03`.
+    ///
+    /// Err: the sink refused a byte, now or before, and has taken a beginning of the text. The text reads as this
+    /// very value. `write_to` of the original.
+    fn write_to<W: Sink>(&self, sink: &mut W) -> Result<(), SinkFault>
+        ensures ok { OnOk result (Appends (W.contents sink.old) (W.contents sink.new) (scientific_text self.now)) }
+        ensures err { OnErr result
+            (AppendsBeginning (W.contents sink.old) (W.contents sink.new) (scientific_text self.now)) }
+        ensures failed { OnErr result (W.has_failed sink.new ≡ true) }
+        ensures reads_back { read_scientific (scientific_text self.now) ≡ Ok self.now }
+    {
+        self.recall_reading();
+        self.significand.write_to(sink)?;
+        sink.put_byte(b'e')?;
+        self.exponent.write_to(sink)
+    }
+
+    /// Counts the bytes of the text, exactly: 8 for `1.20e-03`, and at most 98,308. `writeable_length_hint` of the
+    /// original.
+    fn writeable_length_hint(&self) -> usize
+        ensures exact { result ≡ length (scientific_text self.now) }
+        ensures few { result ≤ 98308 }
+    {
+        self.significand.writeable_length_hint() + 1 + self.exponent.writeable_length_hint()
+    }
+}
+
+impl PartialEq for ScientificDecimal {
+    ghost eq = { same_text scientific_text };
+
+    ghost laws = { same_text_laws scientific_text };
+
+    /// Tells whether the parts of two values are equal, so that their texts are equal.
+    ///
+    /// `1e2` and `1e+2` are not equal. The original's `PartialEq`.
+    fn eq(&self, other: &Self) -> bool
+        ensures same { result ≡ same_text scientific_text self.now other.now }
+        ensures value { IsTrue result ↔ (self.now ≡ other.now) }
+        ensures texts { IsTrue result ↔ (scientific_text self.now ≡ scientific_text other.now) }
+    {
+        self.recall_reading();
+        other.recall_reading();
+        self.has_same_parts(other)
+    }
+}
+
+impl fmt::Display for ScientificDecimal {
+    ghost use Rattle.std.specs.Prelude.{Some};
+    ghost use Rattle.fixed_decimal.specs.Scientific.{scientific_text};
+
+    ghost output = { λ v. Some (scientific_text v) };
+
+    ghost styled_output = { λ v _. Some (scientific_text v) };
+
+    /// Writes the text that `write_to` appends, and looks at no option of the format: `{:12}` writes `1.20e-03` too.
+    ///
+    /// Err: the formatter refused a character. The original's `Display`.
+    fn fmt<W: fmt::Write>(&self, f: &mut fmt::Formatter<W>) -> fmt::Result {
+        self.significand.fmt(f)?;
+        f.write_char('e')?;
+        self.exponent.fmt(f)
+    }
+}
