@@ -14,7 +14,7 @@ use Rattle.std.specs.Io.KnownBytes.{Keeps}
 use Rattle.decimal_digits.specs.Text.{AppendsBeginning}
 use Rattle.decimal_unsigned.specs.Unsigned.{IsValue}
 use Rattle.decimal_unsigned.specs.Reading.{is_letter}
-use Rattle.decimal_unsigned.proofs.Laws.{numeral_again}
+use Rattle.decimal_unsigned.proofs.GrammarParts.{numeral_again}
 use Rattle.fixed_decimal.specs.Letters.{is_c}
 use Rattle.fixed_decimal.specs.Outcome.{and_then}
 use Rattle.fixed_decimal.specs.Decimal.{Decimal}

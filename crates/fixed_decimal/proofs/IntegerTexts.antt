@@ -6,7 +6,7 @@ use Rattle.decimal_unsigned.specs.Unsigned.{IsValue}
 use Rattle.decimal_unsigned.specs.Grammar as unsigned
 use Rattle.decimal_unsigned.specs.Grammar.{Written}
 use Rattle.decimal_unsigned.specs.Reading.{syntax, value_of, read, value_or_syntax, parts_of, after_whole}
-use Rattle.decimal_unsigned.proofs.Headline.{read_grammar, syntax_is}
+use Rattle.decimal_unsigned.proofs.ParserAnswers.{read_grammar, syntax_is}
 use Rattle.fixed_decimal.specs.declared.variations.Sign.{Sign}
 use Rattle.fixed_decimal.specs.declared.variations.Sign.TheVariants as sign
 use Rattle.fixed_decimal.specs.Outcome.{and_then}

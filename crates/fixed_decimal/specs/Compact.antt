@@ -3,12 +3,11 @@ use Rattle.std.specs.Prelude.{◌≡◌, ℕ, ◌<◌, ◌==◌, nat_lt, if◌th
 use Rattle.std.specs.Prelude.{Option, Some, None, Result, Ok, Err}
 use Rattle.std.specs.Fmt.{decimal}
 use Rattle.std.specs.List.{list_any, before_first, after_first}
-use Rattle.decimal_digits.specs.Number.{size}
 use Rattle.decimal_unsigned.specs.Reading.{Fault, syntax, limit, is_letter, numeral_of}
 use Rattle.fixed_decimal.specs.Outcome.{and_then}
 use Rattle.fixed_decimal.specs.Letters.{is_c}
 use Rattle.fixed_decimal.specs.Decimal.{Decimal}
-use Rattle.fixed_decimal.specs.DecimalText.{decimal_text, read_decimal}
+use Rattle.fixed_decimal.specs.DecimalText.{decimal_text, read_decimal, IsLong}
 
 -- the significand, and the exponent, which is at most 255
 pub record Compact : Type 0 where
@@ -76,4 +75,4 @@ pub record ReadsCompact (bytes : List ℕ) (reading : Result Compact Fault) : Ty
 
 -- the significand has more digits than are held without memory
 abbrev pub HasLongSignificand : ℕ → Compact → Type 0
-HasLongSignificand held v = held < size v.significand.absolute.number
+HasLongSignificand held v = IsLong held v.significand

@@ -42,7 +42,7 @@ RunReaches bytes calls at P = IsOkAnd (read_decimal bytes) (λ first. Reaches fi
 abbrev pub RunRefuses : ℕ → RunError → List ℕ → List Call → Type 0
 RunRefuses held (Start parse.Limit) bytes calls = outcome bytes calls ≡ Err (start limit)
 RunRefuses held (Start parse.Syntax) bytes calls = outcome bytes calls ≡ Err (start syntax)
-RunRefuses held (Start parse.Memory) bytes calls = IsLong held bytes
+RunRefuses held (Start parse.Memory) bytes calls = IsOkAnd (read_decimal bytes) (IsLong held)
 RunRefuses held (Operand at parse.Limit) bytes calls = outcome bytes calls ≡ Err (operand at limit)
 RunRefuses held (Operand at parse.Syntax) bytes calls = outcome bytes calls ≡ Err (operand at syntax)
 RunRefuses held (Operand at parse.Memory) bytes calls = RunReaches bytes calls at (λ _ call. HasLongOperand held call)

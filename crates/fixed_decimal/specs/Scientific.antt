@@ -2,12 +2,11 @@
 use Rattle.std.specs.Prelude.{◌≡◌, ℕ, ◌<◌, ◌==◌, ◌⊎◌, ◌||◌, not, count_by, if◌then◌else◌, false, List, ◌∷◌, ◌++◌}
 use Rattle.std.specs.Prelude.{Result, Ok, Err}
 use Rattle.std.specs.List.{list_any, before_first, after_first}
-use Rattle.decimal_digits.specs.Number.{size}
 use Rattle.decimal_unsigned.specs.Reading.{Fault, syntax, is_letter}
 use Rattle.fixed_decimal.specs.Outcome.{and_then}
 use Rattle.fixed_decimal.specs.Letters.{is_small_e, is_capital_e}
 use Rattle.fixed_decimal.specs.Decimal.{Decimal}
-use Rattle.fixed_decimal.specs.DecimalText.{decimal_text, read_decimal}
+use Rattle.fixed_decimal.specs.DecimalText.{decimal_text, read_decimal, IsLong}
 use Rattle.fixed_decimal.specs.Integer.{read_integer}
 
 -- the significand, and the exponent, which is an integer
@@ -53,4 +52,4 @@ pub record ReadsScientific (bytes : List ℕ) (reading : Result Scientific Fault
 
 -- a part has more digits than are held without memory
 abbrev pub HasLongPart : ℕ → Scientific → Type 0
-HasLongPart held v = (held < size v.significand.absolute.number) ⊎ (held < size v.exponent.absolute.number)
+HasLongPart held v = IsLong held v.significand ⊎ IsLong held v.exponent

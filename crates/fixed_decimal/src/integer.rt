@@ -4,10 +4,10 @@ ghost use Rattle.std.specs.Io.KnownBytes.{Appends};
 ghost use Rattle.decimal_digits.specs.Number.{size};
 ghost use Rattle.decimal_digits.specs.Text.{AppendsBeginning};
 ghost use Rattle.decimal_unsigned.specs.Unsigned.{IsValue};
-ghost use Rattle.fixed_decimal.specs.Faults.{Answers, AnswersFault};
+ghost use Rattle.decimal_unsigned.specs.Refusal.{Answers, AnswersFault};
 ghost use Rattle.fixed_decimal.specs.Equal.{same_text, same_text_laws};
 ghost use Rattle.fixed_decimal.specs.Decimal.{zero_decimal};
-ghost use Rattle.fixed_decimal.specs.DecimalText.{decimal_text};
+ghost use Rattle.fixed_decimal.specs.DecimalText.{decimal_text, IsLong};
 ghost use Rattle.fixed_decimal.specs.Integer.{read_integer, ReadsInteger, IsConverted};
 
 mod from_integer;
@@ -88,7 +88,7 @@ impl FixedInteger {
     /// for. The original's `try_from_utf8`.
     #[tactic(auto, using(crate::proofs::IntegerTexts::integer_reads))]
     pub fn try_from_utf8(alloc: Global, text: &[u8]) -> Result<Self, ParseError>
-        ensures answers { Answers (λ v. L < size v.absolute.number) result (read_integer text.now) }
+        ensures answers { Answers (IsLong L) result (read_integer text.now) }
         // What reading comes to, by the grammar.
         ensures reads { ReadsInteger text.now (read_integer text.now) }
     {
@@ -99,7 +99,7 @@ impl FixedInteger {
     /// Reads the integer that a text writes: `try_from_utf8` of its bytes. The original's `try_from_str` and `FromStr`.
     #[tactic(auto, using(crate::proofs::IntegerTexts::integer_reads))]
     pub fn try_from_str(alloc: Global, text: &str) -> Result<Self, ParseError>
-        ensures answers { Answers (λ v. L < size v.absolute.number) result (read_integer text.now) }
+        ensures answers { Answers (IsLong L) result (read_integer text.now) }
         ensures reads { ReadsInteger text.now (read_integer text.now) }
     {
         Self::try_from_utf8(alloc, text.as_bytes())
@@ -108,7 +108,7 @@ impl FixedInteger {
     /// Reads the integer of a text that is known to write one.
     pub(crate) fn read_checked(alloc: Global, text: &[u8]) -> Result<Self, ParseError>
         requires { IsOk (read_integer text.now) }
-        ensures { Answers (λ v. L < size v.absolute.number) result (read_integer text.now) }
+        ensures { Answers (IsLong L) result (read_integer text.now) }
     {
         let decimal = Decimal::try_from_utf8(alloc, text)?;
         Ok(FixedInteger(decimal))

@@ -3,8 +3,7 @@ ghost use Rattle.std.specs.Prelude.{◌≡◌, ◌≤◌, ◌↔◌, length, tru
 ghost use Rattle.std.specs.Io.KnownBytes.{Appends};
 ghost use Rattle.decimal_digits.specs.Number.{size};
 ghost use Rattle.decimal_digits.specs.Text.{AppendsBeginning};
-ghost use Rattle.decimal_unsigned.specs.Refusal.{Refuses};
-ghost use Rattle.fixed_decimal.specs.Faults.{Answers};
+ghost use Rattle.decimal_unsigned.specs.Refusal.{Refuses, Answers};
 ghost use Rattle.fixed_decimal.specs.Equal.{same_text, same_text_laws};
 ghost use Rattle.fixed_decimal.specs.Scientific.{scientific, scientific_text, cut_at_e, read_scientific};
 ghost use Rattle.fixed_decimal.specs.Scientific.{ReadsScientific, HasLongPart};
