@@ -37,7 +37,8 @@ fn split_digits(text: &[u8]) -> (&[u8], &[u8])
 
 /// Gives the number that a text of digits writes, or 70,000 where it is greater.
 ///
-/// Of `0255` it is 255. None: the text is empty, or a byte of it is no digit. Not in the original.
+/// `0012` gives 12, and `123456` gives 70000, which is no magnitude either. None: the text is empty, or has a byte that
+/// is no digit. Not in the original.
 #[tactic(auto, unfolding(crate::specs::Reading::numeral_of))]
 pub fn numeral(text: &[u8]) -> Option<u32>
     ensures { result ≡ option_map (min 70000) (read.numeral_of text.now) }
