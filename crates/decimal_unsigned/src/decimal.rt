@@ -14,7 +14,7 @@ mod parse;
 mod round;
 mod text;
 
-use decimal_digits::digits::{DigitList, DigitStore};
+use decimal_digits::digits::{DigitList, DigitStore, PackedDigits};
 use decimal_digits::ops::{index_of, magnitude_of};
 pub use parse::{lowest_of, numeral};
 use std::alloc::Global;
@@ -42,15 +42,25 @@ pub struct UnsignedOver<D: DigitStore> {
     lo: i16,
 }
 
-/// The store of digits of an unsigned decimal.
+/// The store of digits of an unsigned decimal: two digits to a byte, of which sixteen need no allocation.
 ///
 /// Not in the original.
-pub type DecimalStore = DigitList;
+pub type DecimalStore = PackedDigits;
+
+/// How many digits an unsigned decimal holds with no allocation, from the first to the last that is not 0.
+///
+/// Not in the original.
+pub const DIGITS_IN_PLACE: usize = <DecimalStore as DigitStore>::L;
 
 /// An unsigned decimal.
 ///
 /// The original's `UnsignedDecimal`.
 pub type UnsignedDecimal = UnsignedOver<DecimalStore>;
+
+/// An unsigned decimal with one digit to a byte, of which eight need no allocation.
+///
+/// It answers and prints as `UnsignedDecimal` does, want of memory apart. Not in the original.
+pub type ByteDecimal = UnsignedOver<DigitList>;
 
 impl<D: DigitStore> Model for UnsignedOver<D> {
     ghost use Rattle.decimal_digits.specs.Digits.{number_of};

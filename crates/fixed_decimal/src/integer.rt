@@ -14,16 +14,13 @@ mod from_integer;
 
 use crate::cut::lowest_of_decimal;
 use crate::signed_decimal::Decimal;
-use decimal_digits::digits::{DigitList, DigitStore};
 use decimal_digits::sink::{Sink, SinkFault, Writeable};
+use decimal_unsigned::decimal::DIGITS_IN_PLACE;
 use decimal_unsigned::{LimitError, ParseError};
 use std::alloc::{AllocError, Global};
 use std::convert::TryFrom;
 use std::fmt;
 use std::marker::Model;
-
-/// How many digits a `Decimal` holds without memory: the constant of its list of digits.
-pub(crate) const L: usize = <DigitList as DigitStore>::L;
 
 /// A decimal that shows no digit behind the dot: `-0120`.
 ///
@@ -71,11 +68,11 @@ impl FixedInteger {
 
     /// Makes a second integer that equals this one.
     ///
-    /// The copy of `-05` prints `-05`. Err: memory for more than `L` digits was refused. In the place of the original's
+    /// The copy of `-05` prints `-05`. Err: memory for more than `DIGITS_IN_PLACE` digits was refused. In the place of the original's
     /// `Clone`.
     pub fn clone(&self) -> Result<Self, AllocError>
         ensures value { IfOk result (λ copy. copy ≡ self.now) }
-        ensures succeeds { size self.now.absolute.number ≤ L → IsOk result }
+        ensures succeeds { size self.now.absolute.number ≤ DIGITS_IN_PLACE → IsOk result }
     {
         Ok(FixedInteger(self.0.clone()?))
     }
@@ -84,11 +81,11 @@ impl FixedInteger {
     ///
     /// `05` is read, and prints `05`; `5.0e1` is read, and prints `50`. Err: `Syntax` where `Decimal` answers it; else
     /// `Limit` where `Decimal` answers it, or where a digit is shown behind the dot, as in `5.0` and `100e-2`; else
-    /// `Memory` where memory for more than `L` digits was refused. Both other faults are decided before memory is asked
+    /// `Memory` where memory for more than `DIGITS_IN_PLACE` digits was refused. Both other faults are decided before memory is asked
     /// for. The original's `try_from_utf8`.
     #[tactic(auto, using(crate::proofs::IntegerTexts::integer_reads))]
     pub fn try_from_utf8(alloc: Global, text: &[u8]) -> Result<Self, ParseError>
-        ensures answers { Answers (IsLong L) result (read_integer text.now) }
+        ensures answers { Answers (IsLong DIGITS_IN_PLACE) result (read_integer text.now) }
         // What reading comes to, by the grammar.
         ensures reads { ReadsInteger text.now (read_integer text.now) }
     {
@@ -99,7 +96,7 @@ impl FixedInteger {
     /// Reads the integer that a text writes: `try_from_utf8` of its bytes. The original's `try_from_str` and `FromStr`.
     #[tactic(auto, using(crate::proofs::IntegerTexts::integer_reads))]
     pub fn try_from_str(alloc: Global, text: &str) -> Result<Self, ParseError>
-        ensures answers { Answers (IsLong L) result (read_integer text.now) }
+        ensures answers { Answers (IsLong DIGITS_IN_PLACE) result (read_integer text.now) }
         ensures reads { ReadsInteger text.now (read_integer text.now) }
     {
         Self::try_from_utf8(alloc, text.as_bytes())
@@ -108,7 +105,7 @@ impl FixedInteger {
     /// Reads the integer of a text that is known to write one.
     pub(crate) fn read_checked(alloc: Global, text: &[u8]) -> Result<Self, ParseError>
         requires { IsOk (read_integer text.now) }
-        ensures { Answers (IsLong L) result (read_integer text.now) }
+        ensures { Answers (IsLong DIGITS_IN_PLACE) result (read_integer text.now) }
     {
         let decimal = Decimal::try_from_utf8(alloc, text)?;
         Ok(FixedInteger(decimal))

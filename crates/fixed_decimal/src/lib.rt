@@ -33,10 +33,12 @@ pub mod signed_decimal;
 pub mod variations;
 
 pub use compact::CompactDecimal;
-pub use decimal_digits::digits::Steps;
+pub use decimal_digits::digits::{DigitList, DigitStore, PackedDigits, Steps};
 pub use decimal_digits::rounding::{RoundingIncrement, SignedRoundingMode, UnsignedRoundingMode};
 pub use decimal_digits::sink::{Out, Sink, SinkFault, TextBuf, Writeable};
-pub use decimal_unsigned::decimal::UnsignedDecimal;
+pub use decimal_unsigned::decimal::{
+    ByteDecimal, DIGITS_IN_PLACE, DecimalStore, UnsignedDecimal, UnsignedOver,
+};
 pub use decimal_unsigned::{ConcatenateError, LimitError, ParseError};
 pub use integer::FixedInteger;
 pub use runs::{Call, RunError, run, run_over};

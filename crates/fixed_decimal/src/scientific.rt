@@ -9,10 +9,11 @@ ghost use Rattle.fixed_decimal.specs.Scientific.{scientific, scientific_text, cu
 ghost use Rattle.fixed_decimal.specs.Scientific.{ReadsScientific, HasLongPart};
 
 use crate::cut::{cut_at, lowest_of_decimal};
-use crate::integer::{FixedInteger, L, check_integer, recall_value};
+use crate::integer::{FixedInteger, check_integer, recall_value};
 use crate::signed_decimal::Decimal;
 use decimal_digits::sink::{Sink, SinkFault, Writeable};
 use decimal_unsigned::ParseError;
+use decimal_unsigned::decimal::DIGITS_IN_PLACE;
 use std::alloc::{AllocError, Global};
 use std::fmt;
 use std::marker::Model;
@@ -68,12 +69,12 @@ impl ScientificDecimal {
 
     /// Makes a second value that equals this one.
     ///
-    /// The copy of `1.20e05` prints `1.20e05`. Err: memory for more than `L` digits of a part was refused; then nothing
+    /// The copy of `1.20e05` prints `1.20e05`. Err: memory for more than `DIGITS_IN_PLACE` digits of a part was refused; then nothing
     /// is left of the copy. In the place of the original's `Clone`.
     pub fn clone(&self) -> Result<Self, AllocError>
         ensures value { IfOk result (λ copy. copy ≡ self.now) }
-        ensures succeeds { size self.now.significand.absolute.number ≤ L →
-            size self.now.exponent.absolute.number ≤ L → IsOk result }
+        ensures succeeds { size self.now.significand.absolute.number ≤ DIGITS_IN_PLACE →
+            size self.now.exponent.absolute.number ≤ DIGITS_IN_PLACE → IsOk result }
     {
         Ok(ScientificDecimal {
             significand: self.significand.clone()?,
@@ -86,11 +87,11 @@ impl ScientificDecimal {
     /// Neither part may have an exponent of its own. `+1.20e-03` is read, and prints itself. Err: `Syntax` where there
     /// is an `E`, or not exactly one `e`, as in `1E5` and `5`; else the `Syntax` or `Limit` that `Decimal` answers to
     /// the text in front of the `e`; else the one that `FixedInteger` answers to the text behind it, as `Limit` to
-    /// `1.0`; else `Memory` where memory for more than `L` digits of a part was refused, and nothing is left of the
+    /// `1.0`; else `Memory` where memory for more than `DIGITS_IN_PLACE` digits of a part was refused, and nothing is left of the
     /// other part. Every other fault is decided before memory is asked for. The original's `try_from_utf8`.
     #[tactic(auto, using(crate::proofs::CutsAtE::scientific_reads))]
     pub fn try_from_utf8(alloc: Global, text: &[u8]) -> Result<Self, ParseError>
-        ensures answers { Answers (HasLongPart L) result (read_scientific text.now) }
+        ensures answers { Answers (HasLongPart DIGITS_IN_PLACE) result (read_scientific text.now) }
         // What reading comes to, by the parts of the text.
         ensures reads { ReadsScientific text.now (read_scientific text.now) }
     {
@@ -105,7 +106,7 @@ impl ScientificDecimal {
     /// Reads the value that a text writes: `try_from_utf8` of its bytes. The original's `try_from_str` and `FromStr`.
     #[tactic(auto, using(crate::proofs::CutsAtE::scientific_reads))]
     pub fn try_from_str(alloc: Global, text: &str) -> Result<Self, ParseError>
-        ensures answers { Answers (HasLongPart L) result (read_scientific text.now) }
+        ensures answers { Answers (HasLongPart DIGITS_IN_PLACE) result (read_scientific text.now) }
         ensures reads { ReadsScientific text.now (read_scientific text.now) }
     {
         Self::try_from_utf8(alloc, text.as_bytes())
