@@ -14,7 +14,7 @@ ghost use Rattle.price.specs.Price.{price};
 #[cfg(test)]
 mod tests;
 
-use fixed_decimal::{Sink, UnsignedDecimal, Writeable};
+use fixed_decimal::{DIGITS_IN_PLACE, Sink, UnsignedDecimal, Writeable};
 use std::alloc::Global;
 
 /// Why a price was not printed.
@@ -29,8 +29,8 @@ pub enum PriceError {
 /// Prints so many percent of a number of cents, rounded half-even to a cent.
 ///
 /// 1250 cents at 5 percent print `0.62`. Err: `Memory` where memory was refused, which is asked for only where the
-/// product of cents and percent has more than 8 digits from the first to the last that is not 0, and then nothing is
-/// printed; `Sink` where the sink refused a byte, now or before.
+/// product of cents and percent has more than `DIGITS_IN_PLACE` digits from the first to the last that is not 0, and
+/// then nothing is printed; `Sink` where the sink refused a byte, now or before.
 pub fn write_price<W: Sink>(
     alloc: Global,
     cents: u64,
@@ -38,7 +38,8 @@ pub fn write_price<W: Sink>(
     sink: &mut W,
 ) -> Result<(), PriceError>
     ensures written { OnOk result (Appends (W.contents sink.old) (W.contents sink.new) (text (price cents percent))) }
-    ensures memory { result ≡ Err PriceError.Memory → 8 < size (integer_value (cents * percent)).number }
+    ensures memory { result ≡ Err PriceError.Memory
+        → DIGITS_IN_PLACE < size (integer_value (cents * percent)).number }
     ensures untouched { result ≡ Err PriceError.Memory → sink.new ≡ sink.old }
     ensures begun { result ≡ Err PriceError.Sink
         → AppendsBeginning (W.contents sink.old) (W.contents sink.new) (text (price cents percent)) }
