@@ -6,7 +6,7 @@ pub mod Integer
 pub mod Rounding
 pub mod Counted
 pub mod Left
+pub mod Halves
 -- Private: only the contracts of private functions speak of these.
 pub mod Tails
-pub mod Halves
 pub mod Packing

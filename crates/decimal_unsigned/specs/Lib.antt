@@ -1,4 +1,4 @@
--- Public: what the contracts of public functions say.
+-- What a reader has to believe.
 pub mod Unsigned
 pub mod Text
 pub mod Edits
@@ -10,7 +10,7 @@ pub mod Grammar
 pub mod Reading
 pub mod Refusal
 pub mod ErrorText
--- Private: what only the contracts of private functions say.
+-- Private: only the contracts of private functions speak of these.
 pub mod Fields
 pub mod Parts
 pub mod Placing

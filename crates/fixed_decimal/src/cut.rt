@@ -3,21 +3,11 @@ ghost use Rattle.std.specs.Prelude.{◌≡◌, ◌==◌, false, MatchOption, IfO
 ghost use Rattle.std.specs.List.{list_any};
 ghost use Rattle.decimal_unsigned.specs.Refusal.{Refuses};
 ghost use Rattle.fixed_decimal.specs.Cut.{IsFirstCut};
-ghost use Rattle.fixed_decimal.specs.DecimalText.{behind_sign, read_decimal};
+ghost use Rattle.fixed_decimal.specs.DecimalText.{read_decimal};
 
+use crate::signed_decimal::split_sign;
 use decimal_unsigned::ParseError;
 use decimal_unsigned::decimal::lowest_of;
-
-/// What stands behind the sign of a text.
-fn behind_sign(text: &[u8]) -> &[u8]
-    ensures { result.now ≡ behind_sign text.now }
-{
-    match text {
-        [b'-', rest @ ..] => rest,
-        [b'+', rest @ ..] => rest,
-        _ => text,
-    }
-}
 
 /// The lowest magnitude that the decimal of a text shows, or why it is none.
 #[tactic(auto, unfolding(crate::specs::DecimalText::read_decimal))]
@@ -25,7 +15,8 @@ pub(crate) fn lowest_of_decimal(text: &[u8]) -> Result<i16, ParseError>
     ensures value { IfOk result (λ lo. IsOkAnd (read_decimal text.now) (λ v. v.absolute.lo ≡ lo)) }
     ensures fault { IfErr result (λ e. Refuses ⊥ e (read_decimal text.now)) }
 {
-    lowest_of(behind_sign(text))
+    let (_, number) = split_sign(text);
+    lowest_of(number)
 }
 
 /// What stands in front of the first such letter, and what stands behind it.
