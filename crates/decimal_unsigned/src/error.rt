@@ -73,8 +73,8 @@ impl Error for ParseError {}
 
 /// Why two numbers were not joined, with what was handed in.
 ///
-/// `concatenate_end` hands back the second number, `concatenated_end` both. `120` and `25` are `Overlap`. In the original
-/// the error is what was handed in alone.
+/// `concatenate_end` hands back the second number, `concatenated_end` both. `120` and `25` are `Overlap`. In the
+/// original the error is what was handed in alone.
 #[derive(Debug, Drop)]
 pub enum ConcatenateError<T> {
     /// Neither number is 0, and the second begins at or above the last digit of the first that is not 0.

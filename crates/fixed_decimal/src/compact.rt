@@ -154,8 +154,8 @@ impl CompactDecimal {
 
     /// Makes a second value that equals this one.
     ///
-    /// The copy of `1.20c6` prints `1.20c6`. Err: memory for more than `DIGITS_IN_PLACE` digits of the significand was refused. In
-    /// the place of the original's `Clone`.
+    /// The copy of `1.20c6` prints `1.20c6`. Err: memory for more than `DIGITS_IN_PLACE` digits of the significand was
+    /// refused. In the place of the original's `Clone`.
     pub fn clone(&self) -> Result<Self, AllocError>
         ensures value { IfOk result (λ copy. copy ≡ self.now) }
         ensures succeeds { size self.now.significand.absolute.number ≤ DIGITS_IN_PLACE → IsOk result }
@@ -172,8 +172,8 @@ impl CompactDecimal {
     /// `+1.20c6` is read, and prints itself; `1729` has the exponent 0. Err: `Syntax` where there is an `e` or `E`;
     /// else the `Syntax` or `Limit` that `Decimal` answers to the text in front of the first `c`; else `Syntax` where
     /// what stands behind it is empty, begins with `0`, or is not all digits, as in `1c01` and `1c1c1`; else `Limit`
-    /// where it is above 255; else `Memory` where memory for more than `DIGITS_IN_PLACE` digits of the significand was refused. Every
-    /// other fault is decided before memory is asked for. The original's `try_from_str` and `FromStr`.
+    /// where it is above 255; else `Memory` where memory for more than `DIGITS_IN_PLACE` digits of the significand was
+    /// refused. Every other fault is decided before memory is asked for. The original's `try_from_str` and `FromStr`.
     #[tactic(auto, using(crate::proofs::CutsAtC::compact_reads))]
     pub fn try_from_str(alloc: Global, text: &str) -> Result<Self, ParseError>
         ensures answers { Answers (HasLongSignificand DIGITS_IN_PLACE) result (read_compact text.now) }

@@ -68,8 +68,8 @@ impl FixedInteger {
 
     /// Makes a second integer that equals this one.
     ///
-    /// The copy of `-05` prints `-05`. Err: memory for more than `DIGITS_IN_PLACE` digits was refused. In the place of the original's
-    /// `Clone`.
+    /// The copy of `-05` prints `-05`. Err: memory for more than `DIGITS_IN_PLACE` digits was refused. In the place of
+    /// the original's `Clone`.
     pub fn clone(&self) -> Result<Self, AllocError>
         ensures value { IfOk result (λ copy. copy ≡ self.now) }
         ensures succeeds { size self.now.absolute.number ≤ DIGITS_IN_PLACE → IsOk result }
@@ -81,8 +81,8 @@ impl FixedInteger {
     ///
     /// `05` is read, and prints `05`; `5.0e1` is read, and prints `50`. Err: `Syntax` where `Decimal` answers it; else
     /// `Limit` where `Decimal` answers it, or where a digit is shown behind the dot, as in `5.0` and `100e-2`; else
-    /// `Memory` where memory for more than `DIGITS_IN_PLACE` digits was refused. Both other faults are decided before memory is asked
-    /// for. The original's `try_from_utf8`.
+    /// `Memory` where memory for more than `DIGITS_IN_PLACE` digits was refused. Both other faults are decided before
+    /// memory is asked for. The original's `try_from_utf8`.
     #[tactic(auto, using(crate::proofs::IntegerTexts::integer_reads))]
     pub fn try_from_utf8(alloc: Global, text: &[u8]) -> Result<Self, ParseError>
         ensures answers { Answers (IsLong DIGITS_IN_PLACE) result (read_integer text.now) }

@@ -69,8 +69,8 @@ impl ScientificDecimal {
 
     /// Makes a second value that equals this one.
     ///
-    /// The copy of `1.20e05` prints `1.20e05`. Err: memory for more than `DIGITS_IN_PLACE` digits of a part was refused; then nothing
-    /// is left of the copy. In the place of the original's `Clone`.
+    /// The copy of `1.20e05` prints `1.20e05`. Err: memory for more than `DIGITS_IN_PLACE` digits of a part was
+    /// refused; then nothing is left of the copy. In the place of the original's `Clone`.
     pub fn clone(&self) -> Result<Self, AllocError>
         ensures value { IfOk result (λ copy. copy ≡ self.now) }
         ensures succeeds { size self.now.significand.absolute.number ≤ DIGITS_IN_PLACE →
@@ -87,8 +87,8 @@ impl ScientificDecimal {
     /// Neither part may have an exponent of its own. `+1.20e-03` is read, and prints itself. Err: `Syntax` where there
     /// is an `E`, or not exactly one `e`, as in `1E5` and `5`; else the `Syntax` or `Limit` that `Decimal` answers to
     /// the text in front of the `e`; else the one that `FixedInteger` answers to the text behind it, as `Limit` to
-    /// `1.0`; else `Memory` where memory for more than `DIGITS_IN_PLACE` digits of a part was refused, and nothing is left of the
-    /// other part. Every other fault is decided before memory is asked for. The original's `try_from_utf8`.
+    /// `1.0`; else `Memory` where memory for more than `DIGITS_IN_PLACE` digits of a part was refused, and nothing is
+    /// left of the other part. Every other fault is decided before memory is asked for. The original's `try_from_utf8`.
     #[tactic(auto, using(crate::proofs::CutsAtE::scientific_reads))]
     pub fn try_from_utf8(alloc: Global, text: &[u8]) -> Result<Self, ParseError>
         ensures answers { Answers (HasLongPart DIGITS_IN_PLACE) result (read_scientific text.now) }

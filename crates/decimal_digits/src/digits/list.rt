@@ -7,7 +7,8 @@ use std::alloc::{AllocError, Global};
 
 /// A list of digits with one digit to a byte, of which up to eight need no allocation.
 ///
-/// The list that `from_digits` makes of 2, 5 and 0 has three digits and no allocation. The original keeps its digits so.
+/// The list that `from_digits` makes of 2, 5 and 0 has three digits and no allocation. The original keeps its digits
+/// so.
 #[derive(Debug, Drop)]
 pub struct DigitList {
     bytes: SmallVec<u8, 8>,

@@ -8,8 +8,8 @@ use std::marker::Model;
 /// A sink over a writer: each byte is one write, and nothing is repeated.
 ///
 /// An answer of 0 bytes or an error is a fault, after which the writer is not called again. Contracts see the writer,
-/// and whether the sink has failed. Over a `Vec<u8>`, `Out` takes the bytes of a number's text, and `into_writer` gives the
-/// vector back. Not in the original, which writes to a `core::fmt::Write`.
+/// and whether the sink has failed. Over a `Vec<u8>`, `Out` takes the bytes of a number's text, and `into_writer` gives
+/// the vector back. Not in the original, which writes to a `core::fmt::Write`.
 #[derive(Drop)]
 pub struct Out<W: Write> {
     writer: W,

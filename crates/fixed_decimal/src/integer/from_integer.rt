@@ -47,8 +47,8 @@ impl FixedInteger {
 
     /// Makes the integer of a `u32`, without a sign: 250 prints `250`.
     ///
-    /// Err: memory for more than `DIGITS_IN_PLACE` digits was refused; the zeros at the end of the integer are not counted. In the
-    /// place of the original's `From<u32>`.
+    /// Err: memory for more than `DIGITS_IN_PLACE` digits was refused; the zeros at the end of the integer are not
+    /// counted. In the place of the original's `From<u32>`.
     pub fn try_from_u32(alloc: Global, integer: u32) -> Result<Self, AllocError>
         ensures value { IfOk result (λ v. v ≡ integer_decimal (pos integer)) }
         ensures succeeds { size (integer_decimal (pos integer)).absolute.number ≤ DIGITS_IN_PLACE → IsOk result }
@@ -58,8 +58,8 @@ impl FixedInteger {
 
     /// Makes the integer of a `u64`, without a sign: 250 prints `250`.
     ///
-    /// Err: memory for more than `DIGITS_IN_PLACE` digits was refused; the zeros at the end of the integer are not counted. In the
-    /// place of the original's `From<u64>`.
+    /// Err: memory for more than `DIGITS_IN_PLACE` digits was refused; the zeros at the end of the integer are not
+    /// counted. In the place of the original's `From<u64>`.
     pub fn try_from_u64(alloc: Global, integer: u64) -> Result<Self, AllocError>
         ensures value { IfOk result (λ v. v ≡ integer_decimal (pos integer)) }
         ensures succeeds { size (integer_decimal (pos integer)).absolute.number ≤ DIGITS_IN_PLACE → IsOk result }
@@ -69,8 +69,8 @@ impl FixedInteger {
 
     /// Makes the integer of a `u128`, without a sign: 250 prints `250`.
     ///
-    /// Err: memory for more than `DIGITS_IN_PLACE` digits was refused; the zeros at the end of the integer are not counted. In the
-    /// place of the original's `From<u128>`.
+    /// Err: memory for more than `DIGITS_IN_PLACE` digits was refused; the zeros at the end of the integer are not
+    /// counted. In the place of the original's `From<u128>`.
     pub fn try_from_u128(alloc: Global, integer: u128) -> Result<Self, AllocError>
         ensures value { IfOk result (λ v. v ≡ integer_decimal (pos integer)) }
         ensures succeeds { size (integer_decimal (pos integer)).absolute.number ≤ DIGITS_IN_PLACE → IsOk result }
@@ -80,8 +80,8 @@ impl FixedInteger {
 
     /// Makes the integer of a `usize`, without a sign: 250 prints `250`.
     ///
-    /// Err: memory for more than `DIGITS_IN_PLACE` digits was refused; the zeros at the end of the integer are not counted. In the
-    /// place of the original's `From<usize>`.
+    /// Err: memory for more than `DIGITS_IN_PLACE` digits was refused; the zeros at the end of the integer are not
+    /// counted. In the place of the original's `From<usize>`.
     pub fn try_from_usize(alloc: Global, integer: usize) -> Result<Self, AllocError>
         ensures value { IfOk result (λ v. v ≡ integer_decimal (pos integer)) }
         ensures succeeds { size (integer_decimal (pos integer)).absolute.number ≤ DIGITS_IN_PLACE → IsOk result }
@@ -91,8 +91,8 @@ impl FixedInteger {
 
     /// Makes the integer of an `i32`, with a minus where it is below 0: -250 prints `-250`.
     ///
-    /// Err: memory for more than `DIGITS_IN_PLACE` digits was refused; the zeros at the end of the integer are not counted. In the
-    /// place of the original's `From<i32>`.
+    /// Err: memory for more than `DIGITS_IN_PLACE` digits was refused; the zeros at the end of the integer are not
+    /// counted. In the place of the original's `From<i32>`.
     pub fn try_from_i32(alloc: Global, integer: i32) -> Result<Self, AllocError>
         ensures value { IfOk result (λ v. v ≡ integer_decimal integer) }
         ensures succeeds { size (integer_decimal integer).absolute.number ≤ DIGITS_IN_PLACE → IsOk result }
@@ -102,8 +102,8 @@ impl FixedInteger {
 
     /// Makes the integer of an `i64`, with a minus where it is below 0: -250 prints `-250`.
     ///
-    /// Err: memory for more than `DIGITS_IN_PLACE` digits was refused; the zeros at the end of the integer are not counted. In the
-    /// place of the original's `From<i64>`.
+    /// Err: memory for more than `DIGITS_IN_PLACE` digits was refused; the zeros at the end of the integer are not
+    /// counted. In the place of the original's `From<i64>`.
     pub fn try_from_i64(alloc: Global, integer: i64) -> Result<Self, AllocError>
         ensures value { IfOk result (λ v. v ≡ integer_decimal integer) }
         ensures succeeds { size (integer_decimal integer).absolute.number ≤ DIGITS_IN_PLACE → IsOk result }
@@ -113,8 +113,8 @@ impl FixedInteger {
 
     /// Makes the integer of an `i128`, with a minus where it is below 0: -250 prints `-250`.
     ///
-    /// Err: memory for more than `DIGITS_IN_PLACE` digits was refused; the zeros at the end of the integer are not counted. In the
-    /// place of the original's `From<i128>`.
+    /// Err: memory for more than `DIGITS_IN_PLACE` digits was refused; the zeros at the end of the integer are not
+    /// counted. In the place of the original's `From<i128>`.
     pub fn try_from_i128(alloc: Global, integer: i128) -> Result<Self, AllocError>
         ensures value { IfOk result (λ v. v ≡ integer_decimal integer) }
         ensures succeeds { size (integer_decimal integer).absolute.number ≤ DIGITS_IN_PLACE → IsOk result }
@@ -124,8 +124,8 @@ impl FixedInteger {
 
     /// Makes the integer of an `isize`, with a minus where it is below 0: -250 prints `-250`.
     ///
-    /// Err: memory for more than `DIGITS_IN_PLACE` digits was refused; the zeros at the end of the integer are not counted. In the
-    /// place of the original's `From<isize>`.
+    /// Err: memory for more than `DIGITS_IN_PLACE` digits was refused; the zeros at the end of the integer are not
+    /// counted. In the place of the original's `From<isize>`.
     pub fn try_from_isize(alloc: Global, integer: isize) -> Result<Self, AllocError>
         ensures value { IfOk result (λ v. v ≡ integer_decimal integer) }
         ensures succeeds { size (integer_decimal integer).absolute.number ≤ DIGITS_IN_PLACE → IsOk result }
