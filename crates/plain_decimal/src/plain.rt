@@ -247,7 +247,9 @@ impl Plain {
         }
     }
 
-    /// Tells whether neither number is 0 and the other one begins at or above the last digit of this one: `120` and `25`.
+    /// Tells whether neither number is 0 and the other one begins at or above the last digit of this one.
+    ///
+    /// So it is with `120` and `25`.
     #[tactic(auto, unfolding(decimal_unsigned::specs::Joining::overlaps))]
     pub fn overlaps(&self, other: &Plain) -> bool
         ensures { result ≡ overlaps self.now other.now }
