@@ -2,7 +2,8 @@
 ghost use Rattle.std.specs.Prelude.{◌≡◌, ◌+◌, ◌*◌, ◌<◌, ◌↔◌, IsTrue, negsuc, ◌∷◌, ◌++◌, [], OnOk, IfOk, IfSome};
 ghost use Rattle.decimal_digits.specs.Number.{weight, digit, first, last};
 ghost use Rattle.decimal_unsigned.specs.Text.{dot_before, text};
-ghost use Rattle.decimal_unsigned.specs.Edits.{shifted, trimmed_start, trimmed_end, trimmed_end_if_integer, padded_start, padded_end, cut};
+ghost use Rattle.decimal_unsigned.specs.Edits.{shifted, trimmed_start, trimmed_end, trimmed_end_if_integer};
+ghost use Rattle.decimal_unsigned.specs.Edits.{padded_start, padded_end, cut};
 ghost use Rattle.decimal_unsigned.specs.Rounded.{with_number, rounded};
 ghost use Rattle.decimal_unsigned.specs.Joining.{overlaps, joined};
 
