@@ -2,7 +2,8 @@
 ghost use Rattle.std.specs.Prelude.{◌≡◌, ◌+◌, ◌*◌, ◌<◌, ◌↔◌, IsTrue, negsuc, ◌∷◌, ◌++◌, [], OnOk, IfOk, IfSome};
 ghost use Rattle.decimal_digits.specs.Number.{weight, digit, first, last};
 ghost use Rattle.decimal_unsigned.specs.Text.{dot_before, text};
-ghost use Rattle.decimal_unsigned.specs.Edits.{shifted, trimmed_start, trimmed_end, trimmed_end_if_integer, padded_start, padded_end, cut};
+ghost use Rattle.decimal_unsigned.specs.Edits.{shifted, trimmed_start, trimmed_end, trimmed_end_if_integer};
+ghost use Rattle.decimal_unsigned.specs.Edits.{padded_start, padded_end, cut};
 ghost use Rattle.decimal_unsigned.specs.Rounded.{with_number, rounded};
 ghost use Rattle.decimal_unsigned.specs.Joining.{overlaps, joined};
 
@@ -247,7 +248,9 @@ impl Plain {
         }
     }
 
-    /// Tells whether neither number is 0 and the other one begins at or above the last digit of this one: `120` and `25`.
+    /// Tells whether neither number is 0 and the other one begins at or above the last digit of this one.
+    ///
+    /// So it is with `120` and `25`.
     #[tactic(auto, unfolding(decimal_unsigned::specs::Joining::overlaps))]
     pub fn overlaps(&self, other: &Plain) -> bool
         ensures { result ≡ overlaps self.now other.now }

@@ -1,9 +1,10 @@
-//! Tables of texts, calls and results.
+//! Tables of texts, calls and results, over each store of digits and by the plain program.
 //!
-//! Each helper holds one value at a time and answers its text, since two values are equal exactly where their texts are.
+//! Each helper holds one value at a time and answers its text: two values are equal exactly where their texts are.
 use crate::plain::Plain;
+use decimal_digits::digits::{DigitList, DigitStore};
 use decimal_digits::sink::{Sink, TextBuf, Writeable};
-use decimal_unsigned::decimal::{UnsignedDecimal, lowest_of};
+use decimal_unsigned::decimal::{DecimalStore, UnsignedDecimal, UnsignedOver, lowest_of};
 use std::alloc::Global;
 use std::process::Abort;
 use std::test::Fail;
@@ -16,19 +17,14 @@ mod reading;
 mod rounding;
 
 /// The value that a text writes.
-fn read(alloc: Global, text: &[u8]) -> Result<UnsignedDecimal, Fail> {
-    Ok(UnsignedDecimal::try_from_utf8(alloc, text)?)
-}
-
-/// The value that a text of few digits writes, in the plain program.
-fn read_plainly(text: &[u8]) -> Result<Plain, Fail> {
-    Ok(Plain::read(text).ok_or("does not fit")?)
+fn read<D: DigitStore>(alloc: Global, text: &[u8]) -> Result<UnsignedOver<D>, Fail> {
+    Ok(UnsignedOver::<D>::try_from_utf8(alloc, text)?)
 }
 
 /// The text of a value, and no text where the value hints at another length.
 ///
 /// Where memory for the bytes is refused, a new sink takes them.
-fn printed(alloc: Global, value: &UnsignedDecimal) -> Result<TextBuf, Fail> {
+fn printed<D: DigitStore>(alloc: Global, value: &UnsignedOver<D>) -> Result<TextBuf, Fail> {
     let mut sink = TextBuf::new(alloc);
     if value.write_to(&mut sink).is_err() {
         return printed_after(alloc, value, &sink);
@@ -41,9 +37,9 @@ fn printed(alloc: Global, value: &UnsignedDecimal) -> Result<TextBuf, Fail> {
 }
 
 /// The text of a value, and no text unless a sink that has failed took a beginning of it.
-fn printed_after(
+fn printed_after<D: DigitStore>(
     alloc: Global,
-    value: &UnsignedDecimal,
+    value: &UnsignedOver<D>,
     refused: &TextBuf,
 ) -> Result<TextBuf, Fail> {
     let mut sink = TextBuf::new(alloc);
@@ -55,25 +51,9 @@ fn printed_after(
     }
 }
 
-/// A want of memory where what is left is what was given, and else what is left.
-fn refused(left: TextBuf, given: &[u8]) -> Result<TextBuf, Fail> {
-    if left.as_bytes() == given {
-        Err(Fail::new("memory was refused"))
-    } else {
-        Ok(left)
-    }
-}
-
-/// The text of the value that the plain program reads from a text.
-fn reread_plainly(alloc: Global, text: &[u8]) -> Result<Vec<u8>, Fail> {
-    Ok(read_plainly(text)?.text(alloc)?)
-}
-
-/// A byte so many times, after other bytes.
-fn extended(alloc: Global, front: &[u8], byte: u8, count: usize) -> Result<Vec<u8>, Fail> {
-    let mut text = front.to_vec(alloc)?;
-    text.extend_from_slice(&vec![in alloc; byte; count]?)?;
-    Ok(text)
+/// The text of what the plain program answers.
+fn printed_plainly(alloc: Global, value: Option<Plain>) -> Result<Vec<u8>, Fail> {
+    Ok(value.ok_or("does not fit")?.text(alloc)?)
 }
 
 /// A text in parts, each so many times.
@@ -102,17 +82,12 @@ fn whole(alloc: Global, parts: Parts) -> Result<Vec<u8>, Fail> {
     Ok(text)
 }
 
-/// Asserts which text was found.
-fn assert_text(rt: &impl Abort, found: TextBuf, text: &[u8]) {
-    assert_eq!(rt; found.as_bytes(), text);
-}
-
 /// Asserts which bytes were found.
-fn assert_bytes(rt: &impl Abort, found: Vec<u8>, text: &[u8]) {
-    assert_eq!(rt; found.as_slice(), text);
+fn assert_bytes(rt: &impl Abort, found: &[u8], wanted: &[u8]) {
+    assert_eq!(rt; found, wanted);
 }
 
-/// Asserts whether something holds of two texts.
-fn assert_holds(rt: &impl Abort, found: bool, wanted: bool, (left, right): (&[u8], &[u8])) {
-    assert_eq!(rt; found, wanted, "{left:?} {right:?}");
+/// Asserts that something holds.
+fn assert_holds(rt: &impl Abort, found: bool) {
+    assert!(rt; found);
 }

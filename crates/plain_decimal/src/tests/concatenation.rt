@@ -3,7 +3,11 @@ use super::*;
 use decimal_unsigned::ConcatenateError;
 
 /// The texts of two values, with a bar between them.
-fn both(alloc: Global, value: &UnsignedDecimal, other: &UnsignedDecimal) -> Result<TextBuf, Fail> {
+fn both<D: DigitStore>(
+    alloc: Global,
+    value: &UnsignedOver<D>,
+    other: &UnsignedOver<D>,
+) -> Result<TextBuf, Fail> {
     let mut sink = TextBuf::new(alloc);
     value.write_to(&mut sink)?;
     sink.put_byte(b'|')?;
@@ -19,9 +23,22 @@ fn with_bar(alloc: Global, front: &[u8], back: &[u8]) -> Result<Vec<u8>, Fail> {
     Ok(text)
 }
 
+/// A want of memory where what is left is what was given, and else what is left.
+fn refused(left: TextBuf, given: &[u8]) -> Result<TextBuf, Fail> {
+    if left.as_bytes() == given {
+        Err(Fail::new("memory was refused"))
+    } else {
+        Ok(left)
+    }
+}
+
 /// What joining in place leaves: one number, or both where they overlap.
-fn joined_in_place(alloc: Global, front: &[u8], back: &[u8]) -> Result<TextBuf, Fail> {
-    let mut value = read(alloc, front)?;
+fn joined_in_place<D: DigitStore>(
+    alloc: Global,
+    front: &[u8],
+    back: &[u8],
+) -> Result<TextBuf, Fail> {
+    let mut value = read::<D>(alloc, front)?;
     match value.concatenate_end(read(alloc, back)?) {
         Ok(()) => printed(alloc, &value),
         Err(ConcatenateError::Overlap(other)) => both(alloc, &value, &other),
@@ -32,8 +49,12 @@ fn joined_in_place(alloc: Global, front: &[u8], back: &[u8]) -> Result<TextBuf, 
 }
 
 /// What joining by value gives: one number, or both where they overlap.
-fn joined_by_value(alloc: Global, front: &[u8], back: &[u8]) -> Result<TextBuf, Fail> {
-    match read(alloc, front)?.concatenated_end(read(alloc, back)?) {
+fn joined_by_value<D: DigitStore>(
+    alloc: Global,
+    front: &[u8],
+    back: &[u8],
+) -> Result<TextBuf, Fail> {
+    match read::<D>(alloc, front)?.concatenated_end(read(alloc, back)?) {
         Ok(value) => printed(alloc, &value),
         Err(ConcatenateError::Overlap((value, other))) => both(alloc, &value, &other),
         Err(ConcatenateError::Memory((value, other))) => {
@@ -43,47 +64,41 @@ fn joined_by_value(alloc: Global, front: &[u8], back: &[u8]) -> Result<TextBuf, 
 }
 
 /// What the plain program joins two texts to.
-fn joined_plainly(alloc: Global, front: &[u8], back: &[u8]) -> Result<Vec<u8>, Fail> {
-    let both = read_plainly(front)?.joined(&read_plainly(back)?);
-    Ok(both.ok_or("does not fit")?.text(alloc)?)
+fn joined_plainly(front: &[u8], back: &[u8]) -> Option<Plain> {
+    Plain::read(front)?.joined(&Plain::read(back)?)
 }
 
 /// Tells whether two texts overlap, by the plain program.
-fn overlaps_plainly(front: &[u8], back: &[u8]) -> Result<bool, Fail> {
-    Ok(read_plainly(front)?.overlaps(&read_plainly(back)?))
+fn overlaps_plainly(front: &[u8], back: &[u8]) -> Option<bool> {
+    Some(Plain::read(front)?.overlaps(&Plain::read(back)?))
 }
 
-/// Asserts what two texts give when they are joined, by either call.
-fn assert_joins(
+/// Asserts what two texts give when they are joined, in place and by value.
+fn assert_joins<D: DigitStore>(
     rt: &impl Abort,
     alloc: Global,
     front: &[u8],
     back: &[u8],
     joined: &[u8],
 ) -> Result<(), Fail> {
-    assert_text(rt, joined_in_place(alloc, front, back)?, joined);
-    assert_text(rt, joined_by_value(alloc, front, back)?, joined);
+    assert_bytes(
+        rt,
+        joined_in_place::<D>(alloc, front, back)?.as_bytes(),
+        joined,
+    );
+    assert_bytes(
+        rt,
+        joined_by_value::<D>(alloc, front, back)?.as_bytes(),
+        joined,
+    );
     Ok(())
 }
 
-/// Asserts that two texts overlap, and that either call hands back what it was given.
+/// Asserts that two texts overlap over each store, and that what was given is handed back.
 fn assert_overlaps(rt: &impl Abort, alloc: Global, front: &[u8], back: &[u8]) -> Result<(), Fail> {
     let given = with_bar(alloc, front, back)?;
-    assert_joins(rt, alloc, front, back, &given)
-}
-
-/// Asserts that the plain program reads both texts, and whether they overlap.
-fn assert_plain_pair(
-    rt: &impl Abort,
-    alloc: Global,
-    front: &[u8],
-    back: &[u8],
-    overlap: bool,
-) -> Result<(), Fail> {
-    assert_bytes(rt, reread_plainly(alloc, front)?, front);
-    assert_bytes(rt, reread_plainly(alloc, back)?, back);
-    assert_holds(rt, overlaps_plainly(front, back)?, overlap, (front, back));
-    Ok(())
+    assert_joins::<DecimalStore>(rt, alloc, front, back, &given)?;
+    assert_joins::<DigitList>(rt, alloc, front, back, &given)
 }
 
 const JOINS: &[(&[u8], &[u8], &[u8])] = &[
@@ -109,28 +124,14 @@ const JOINS: &[(&[u8], &[u8], &[u8])] = &[
 fn joins(rt: HostRuntime) -> Result<(), Fail> {
     let alloc = rt.alloc();
     for (front, back, joined) in JOINS {
-        assert_joins(&rt, alloc, front, back, joined)?;
-        assert_plain_pair(&rt, alloc, front, back, false)?;
-        assert_bytes(&rt, joined_plainly(alloc, front, back)?, joined);
-    }
-    Ok(())
-}
-
-/// Asserts that 7 is joined to so many nines and a zero.
-fn assert_joins_nines(rt: &impl Abort, alloc: Global, digits: usize) -> Result<(), Fail> {
-    let front = whole(alloc, &[(b"9", digits), (b"0", 1)])?;
-    let joined = whole(alloc, &[(b"9", digits), (b"7", 1)])?;
-    assert_joins(rt, alloc, &front, b"7", &joined)
-}
-
-#[test]
-fn joins_more_digits_than_are_held_without_memory(rt: HostRuntime) -> Result<(), Fail> {
-    let alloc = rt.alloc();
-    let long = b"100000000000000000000";
-    assert_joins(&rt, alloc, long, b"7", b"100000000000000000007")?;
-    let counts: &[usize] = &[1, 6, 7, 8, 15, 16, 64];
-    for digits in counts {
-        assert_joins_nines(&rt, alloc, *digits)?;
+        assert_joins::<DecimalStore>(&rt, alloc, front, back, joined)?;
+        assert_joins::<DigitList>(&rt, alloc, front, back, joined)?;
+        assert_holds(&rt, overlaps_plainly(front, back) == Some(false));
+        assert_bytes(
+            &rt,
+            &printed_plainly(alloc, joined_plainly(front, back))?,
+            joined,
+        );
     }
     Ok(())
 }
@@ -149,27 +150,60 @@ fn overlaps(rt: HostRuntime) -> Result<(), Fail> {
     let alloc = rt.alloc();
     for (front, back) in OVERLAPS {
         assert_overlaps(&rt, alloc, front, back)?;
-        assert_plain_pair(&rt, alloc, front, back, true)?;
+        assert_holds(&rt, overlaps_plainly(front, back) == Some(true));
     }
     Ok(())
 }
 
-/// What the longest integer and the longest fraction of nines give, by either call.
-fn joined_nines(alloc: Global, by_value: bool) -> Result<TextBuf, Fail> {
-    let front = extended(alloc, b"", b'9', 32_768)?;
-    let back = extended(alloc, b"0.", b'9', 32_768)?;
-    if by_value {
-        joined_by_value(alloc, &front, &back)
-    } else {
-        joined_in_place(alloc, &front, &back)
+/// Texts in parts. Eight digits and sixteen are held with no allocation, and 64 are not.
+const LONG_JOINS: &[(Parts<'static>, &[u8], Parts<'static>)] = &[
+    (&[(b"90", 1)], b"7", &[(b"97", 1)]),
+    (&[(b"9", 6), (b"0", 1)], b"7", &[(b"9", 6), (b"7", 1)]),
+    (&[(b"9", 7), (b"0", 1)], b"7", &[(b"9", 7), (b"7", 1)]),
+    (&[(b"9", 8), (b"0", 1)], b"7", &[(b"9", 8), (b"7", 1)]),
+    (&[(b"9", 15), (b"0", 1)], b"7", &[(b"9", 15), (b"7", 1)]),
+    (&[(b"9", 16), (b"0", 1)], b"7", &[(b"9", 16), (b"7", 1)]),
+    (&[(b"9", 64), (b"0", 1)], b"7", &[(b"9", 64), (b"7", 1)]),
+    (
+        &[(b"1", 1), (b"0", 20)],
+        b"7",
+        &[(b"1", 1), (b"0", 19), (b"7", 1)],
+    ),
+    (
+        &[(b"9", 32_767), (b"0", 1)],
+        b"7.5",
+        &[(b"9", 32_767), (b"7.5", 1)],
+    ),
+];
+
+/// Asserts what a text in parts and another text give when they are joined over each store.
+fn assert_joins_parts(
+    rt: &impl Abort,
+    alloc: Global,
+    front: Parts,
+    back: &[u8],
+    joined: Parts,
+) -> Result<(), Fail> {
+    let front = whole(alloc, front)?;
+    let joined = whole(alloc, joined)?;
+    assert_joins::<DecimalStore>(rt, alloc, &front, back, &joined)?;
+    assert_joins::<DigitList>(rt, alloc, &front, back, &joined)
+}
+
+#[test]
+fn joins_long_numbers(rt: HostRuntime) -> Result<(), Fail> {
+    let alloc = rt.alloc();
+    for (front, back, joined) in LONG_JOINS {
+        assert_joins_parts(&rt, alloc, front, back, joined)?;
     }
+    Ok(())
 }
 
 #[test]
 fn joins_at_the_limits(rt: HostRuntime) -> Result<(), Fail> {
     let alloc = rt.alloc();
+    let decimals = whole(alloc, &[(b"0.", 1), (b"9", 32_768)])?;
+    assert_joins_parts(&rt, alloc, &[(b"9", 32_768)], &decimals, NINES)?;
     let longest = whole(alloc, NINES)?;
-    assert_text(&rt, joined_nines(alloc, false)?, &longest);
-    assert_text(&rt, joined_nines(alloc, true)?, &longest);
     assert_overlaps(&rt, alloc, &longest, &longest)
 }

@@ -17,7 +17,7 @@ enum Call {
 type Row = (&'static [u8], Call, &'static [u8]);
 
 /// Makes the call in place.
-fn change(value: &mut UnsignedDecimal, call: Call) {
+fn change<D: DigitStore>(value: &mut UnsignedOver<D>, call: Call) {
     match call {
         Call::Shift(delta) => value.multiply_pow10(delta),
         Call::TrimStart => value.trim_start(),
@@ -30,7 +30,7 @@ fn change(value: &mut UnsignedDecimal, call: Call) {
 }
 
 /// Makes the call on the value.
-fn changed(value: UnsignedDecimal, call: Call) -> UnsignedDecimal {
+fn changed<D: DigitStore>(value: UnsignedOver<D>, call: Call) -> UnsignedOver<D> {
     match call {
         Call::Shift(delta) => value.multiplied_pow10(delta),
         Call::TrimStart => value.trimmed_start(),
@@ -42,8 +42,9 @@ fn changed(value: UnsignedDecimal, call: Call) -> UnsignedDecimal {
     }
 }
 
-/// Makes the call by the plain program.
-fn changed_plainly(value: &Plain, call: Call) -> Option<Plain> {
+/// What a text becomes by the plain program.
+fn changed_plainly(text: &[u8], call: Call) -> Option<Plain> {
+    let value = Plain::read(text)?;
     match call {
         Call::Shift(delta) => value.shifted(delta),
         Call::TrimStart => Some(value.trimmed_start()),
@@ -56,43 +57,50 @@ fn changed_plainly(value: &Plain, call: Call) -> Option<Plain> {
 }
 
 /// What a text becomes by the call in place.
-fn text_in_place(alloc: Global, text: &[u8], call: Call) -> Result<TextBuf, Fail> {
-    let mut value = read(alloc, text)?;
+fn text_in_place<D: DigitStore>(alloc: Global, text: &[u8], call: Call) -> Result<TextBuf, Fail> {
+    let mut value = read::<D>(alloc, text)?;
     change(&mut value, call);
     printed(alloc, &value)
 }
 
 /// What a text becomes by the call on the value.
-fn text_by_value(alloc: Global, text: &[u8], call: Call) -> Result<TextBuf, Fail> {
-    printed(alloc, &changed(read(alloc, text)?, call))
-}
-
-/// What a text becomes by the plain program.
-fn text_plainly(alloc: Global, text: &[u8], call: Call) -> Result<Vec<u8>, Fail> {
-    let value = changed_plainly(&read_plainly(text)?, call).ok_or("does not fit")?;
-    Ok(value.text(alloc)?)
+fn text_by_value<D: DigitStore>(alloc: Global, text: &[u8], call: Call) -> Result<TextBuf, Fail> {
+    printed(alloc, &changed(read::<D>(alloc, text)?, call))
 }
 
 /// What a text becomes by two calls on the value.
-fn text_by_two(alloc: Global, text: &[u8], first: Call, second: Call) -> Result<TextBuf, Fail> {
-    let value = changed(read(alloc, text)?, first);
+fn text_by_two<D: DigitStore>(
+    alloc: Global,
+    text: &[u8],
+    first: Call,
+    second: Call,
+) -> Result<TextBuf, Fail> {
+    let value = changed(read::<D>(alloc, text)?, first);
     printed(alloc, &changed(value, second))
 }
 
 /// Asserts what a text becomes, in place and by value.
-fn assert_changes(
+fn assert_changes<D: DigitStore>(
     rt: &impl Abort,
     alloc: Global,
     text: &[u8],
     call: Call,
     becomes: &[u8],
 ) -> Result<(), Fail> {
-    assert_text(rt, text_in_place(alloc, text, call)?, becomes);
-    assert_text(rt, text_by_value(alloc, text, call)?, becomes);
+    assert_bytes(
+        rt,
+        text_in_place::<D>(alloc, text, call)?.as_bytes(),
+        becomes,
+    );
+    assert_bytes(
+        rt,
+        text_by_value::<D>(alloc, text, call)?.as_bytes(),
+        becomes,
+    );
     Ok(())
 }
 
-/// Asserts what a text becomes by the plain program, which prints each text that it reads again.
+/// Asserts what a text becomes by the plain program.
 fn assert_changes_plainly(
     rt: &impl Abort,
     alloc: Global,
@@ -100,8 +108,12 @@ fn assert_changes_plainly(
     call: Call,
     becomes: &[u8],
 ) -> Result<(), Fail> {
-    assert_bytes(rt, reread_plainly(alloc, text)?, text);
-    assert_bytes(rt, text_plainly(alloc, text, call)?, becomes);
+    assert_bytes(rt, &printed_plainly(alloc, Plain::read(text))?, text);
+    assert_bytes(
+        rt,
+        &printed_plainly(alloc, changed_plainly(text, call))?,
+        becomes,
+    );
     Ok(())
 }
 
@@ -142,7 +154,8 @@ const ROWS: &[Row] = &[
 fn changes(rt: HostRuntime) -> Result<(), Fail> {
     let alloc = rt.alloc();
     for (text, call, becomes) in ROWS {
-        assert_changes(&rt, alloc, text, *call, becomes)?;
+        assert_changes::<DecimalStore>(&rt, alloc, text, *call, becomes)?;
+        assert_changes::<DigitList>(&rt, alloc, text, *call, becomes)?;
         assert_changes_plainly(&rt, alloc, text, *call, becomes)?;
     }
     Ok(())
@@ -160,7 +173,16 @@ const PAIRS: &[(&[u8], Call, Call, &[u8])] = &[
 fn changes_twice(rt: HostRuntime) -> Result<(), Fail> {
     let alloc = rt.alloc();
     for (text, first, second, becomes) in PAIRS {
-        assert_text(&rt, text_by_two(alloc, text, *first, *second)?, becomes);
+        assert_bytes(
+            &rt,
+            text_by_two::<DecimalStore>(alloc, text, *first, *second)?.as_bytes(),
+            becomes,
+        );
+        assert_bytes(
+            &rt,
+            text_by_two::<DigitList>(alloc, text, *first, *second)?.as_bytes(),
+            becomes,
+        );
     }
     Ok(())
 }
@@ -168,6 +190,7 @@ fn changes_twice(rt: HostRuntime) -> Result<(), Fail> {
 #[test]
 fn changes_at_the_end(rt: HostRuntime) -> Result<(), Fail> {
     let alloc = rt.alloc();
-    let becomes = extended(alloc, b"98765", b'0', 32763)?;
-    assert_changes(&rt, alloc, b"98765", Call::Shift(32763), &becomes)
+    let becomes = whole(alloc, &[(b"98765", 1), (b"0", 32_763)])?;
+    assert_changes::<DecimalStore>(&rt, alloc, b"98765", Call::Shift(32_763), &becomes)?;
+    assert_changes::<DigitList>(&rt, alloc, b"98765", Call::Shift(32_763), &becomes)
 }

@@ -9,29 +9,19 @@ use std::io::{Error, ErrorKind, Write};
 
 /// What `{}` makes of the value that a text writes.
 fn displayed(alloc: Global, text: &[u8]) -> Result<String, Fail> {
-    let value = read(alloc, text)?;
+    let value = read::<DecimalStore>(alloc, text)?;
     Ok(format!(in alloc; "{value}")?)
 }
 
 /// What options of the format make of the value that a text writes.
 fn displayed_with_options(alloc: Global, text: &[u8]) -> Result<String, Fail> {
-    let value = read(alloc, text)?;
+    let value = read::<DecimalStore>(alloc, text)?;
     Ok(format!(in alloc; "{value:8}|{value:<08.1}")?)
 }
 
-/// What `{}` makes of a parser's fault.
+/// What `{}` and a width make of a parser's fault.
 fn displayed_fault(alloc: Global, fault: ParseError) -> Result<String, Fail> {
-    Ok(format!(in alloc; "{fault}")?)
-}
-
-/// What a width makes of a parser's fault.
-fn displayed_fault_with_width(alloc: Global, fault: ParseError) -> Result<String, Fail> {
-    Ok(format!(in alloc; "{fault:20}")?)
-}
-
-/// Asserts which string was made.
-fn assert_string(rt: &impl Abort, found: String, wanted: &[u8]) {
-    assert_eq!(rt; found.as_bytes(), wanted);
+    Ok(format!(in alloc; "{fault}|{fault:50}")?)
 }
 
 const DISPLAYED: &[Parts<'static>] = &[
@@ -47,27 +37,40 @@ fn displays(rt: HostRuntime) -> Result<(), Fail> {
     let alloc = rt.alloc();
     for parts in DISPLAYED {
         let text = whole(alloc, parts)?;
-        assert_string(&rt, displayed(alloc, &text)?, &text);
+        assert_bytes(&rt, displayed(alloc, &text)?.as_bytes(), &text);
     }
-    assert_string(&rt, displayed_with_options(alloc, b"2.50")?, b"2.50|2.50");
+    let found = displayed_with_options(alloc, b"2.50")?;
+    assert_bytes(&rt, found.as_bytes(), b"2.50|2.50");
     Ok(())
 }
 
 #[test]
 fn displays_faults(rt: HostRuntime) -> Result<(), Fail> {
     let alloc = rt.alloc();
-    let limit = b"Magnitude or number of digits exceeded";
-    assert_string(&rt, displayed_fault(alloc, ParseError::Limit)?, limit);
-    let syntax = b"Failed to parse the input string";
-    assert_string(&rt, displayed_fault(alloc, ParseError::Syntax)?, syntax);
-    let memory = displayed_fault_with_width(alloc, ParseError::Memory)?;
-    assert_string(&rt, memory, b"Out of memory");
+    let limit = b"Magnitude or number of digits exceeded|Magnitude or number of digits exceeded";
+    assert_bytes(
+        &rt,
+        displayed_fault(alloc, ParseError::Limit)?.as_bytes(),
+        limit,
+    );
+    let syntax = b"Failed to parse the input string|Failed to parse the input string";
+    assert_bytes(
+        &rt,
+        displayed_fault(alloc, ParseError::Syntax)?.as_bytes(),
+        syntax,
+    );
+    let memory = b"Out of memory|Out of memory";
+    assert_bytes(
+        &rt,
+        displayed_fault(alloc, ParseError::Memory)?.as_bytes(),
+        memory,
+    );
     Ok(())
 }
 
 /// What a sink takes of a value three times.
 fn printed_thrice(alloc: Global, text: &[u8]) -> Result<TextBuf, Fail> {
-    let value = read(alloc, text)?;
+    let value = read::<DecimalStore>(alloc, text)?;
     let mut sink = TextBuf::new(alloc);
     for _ in 0..3 {
         value.write_to(&mut sink)?;
@@ -80,7 +83,7 @@ fn takes_long_texts(rt: HostRuntime) -> Result<(), Fail> {
     let alloc = rt.alloc();
     let text = whole(alloc, NINES)?;
     let thrice = whole(alloc, &[(&text, 3)])?;
-    assert_text(&rt, printed_thrice(alloc, &text)?, &thrice);
+    assert_bytes(&rt, printed_thrice(alloc, &text)?.as_bytes(), &thrice);
     Ok(())
 }
 
@@ -155,7 +158,10 @@ fn narrowed(alloc: Global, room: usize) -> Result<Narrow, Fail> {
         room,
         failed: false,
     };
-    if read(alloc, TEXT)?.write_to(&mut sink).is_ok() {
+    if read::<DecimalStore>(alloc, TEXT)?
+        .write_to(&mut sink)
+        .is_ok()
+    {
         return Err(Fail::new("more was taken than there is room for"));
     }
     Ok(sink)
@@ -177,7 +183,7 @@ fn keeps_a_beginning(rt: HostRuntime) -> Result<(), Fail> {
 
 /// Writes the text twice, and tells whether the sink refused both and has failed.
 fn refuses_twice(alloc: Global, sink: &mut Out<Full>) -> Result<bool, Fail> {
-    let value = read(alloc, TEXT)?;
+    let value = read::<DecimalStore>(alloc, TEXT)?;
     let first = value.write_to(sink).is_err();
     let second = value.write_to(sink).is_err();
     Ok(first && second && sink.failed())

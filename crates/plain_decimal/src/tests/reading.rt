@@ -7,7 +7,7 @@ type Magnitudes = (i16, i16, i16, i16);
 
 /// The text of the value that a text writes.
 fn reread(alloc: Global, text: &[u8]) -> Result<TextBuf, Fail> {
-    printed(alloc, &read(alloc, text)?)
+    printed(alloc, &read::<DecimalStore>(alloc, text)?)
 }
 
 /// The text of the value that a string writes.
@@ -17,7 +17,7 @@ fn reread_str(alloc: Global, text: &str) -> Result<TextBuf, Fail> {
 
 /// The magnitudes of the value that a text writes.
 fn magnitudes(alloc: Global, text: &[u8]) -> Result<Magnitudes, Fail> {
-    let value = read(alloc, text)?;
+    let value = read::<DecimalStore>(alloc, text)?;
     let shown = value.magnitude_range();
     Ok((
         *shown.end(),
@@ -46,7 +46,7 @@ fn assert_reads(
     wanted: Magnitudes,
 ) -> Result<(), Fail> {
     let (_, _, _, lo) = wanted;
-    assert_text(rt, reread(alloc, text)?, becomes);
+    assert_bytes(rt, reread(alloc, text)?.as_bytes(), becomes);
     assert_magnitudes(rt, magnitudes(alloc, text)?, wanted);
     assert_lowest(rt, text, lo);
     Ok(())
@@ -93,28 +93,23 @@ fn reads(rt: HostRuntime) -> Result<(), Fail> {
     let alloc = rt.alloc();
     for (text, becomes, wanted) in READ {
         assert_reads(&rt, alloc, text.as_bytes(), becomes, *wanted)?;
-        assert_text(&rt, reread_str(alloc, text)?, becomes);
+        assert_bytes(&rt, reread_str(alloc, text)?.as_bytes(), becomes);
     }
     Ok(())
 }
 
-/// The magnitudes that a value shows, counted up one by one.
+/// The magnitudes that a value shows.
 fn shown(alloc: Global, text: &[u8]) -> Result<Vec<i16>, Fail> {
-    let mut list = Vec::new(alloc);
-    for magnitude in read(alloc, text)?.magnitude_range() {
-        list.push(magnitude)?;
-    }
-    Ok(list)
+    Ok(
+        read::<DecimalStore>(alloc, text)?
+            .magnitude_range()
+            .collect(alloc)?,
+    )
 }
 
-/// The magnitudes that a value shows, collected.
-fn shown_collected(alloc: Global, text: &[u8]) -> Result<Vec<i16>, Fail> {
-    Ok(read(alloc, text)?.magnitude_range().collect(alloc)?)
-}
-
-/// Asserts which magnitudes were counted.
-fn assert_counted(rt: &impl Abort, found: Vec<i16>, wanted: &[i16]) {
-    assert_eq!(rt; found.as_slice(), wanted);
+/// Asserts which magnitudes were found.
+fn assert_shown(rt: &impl Abort, found: &[i16], wanted: &[i16]) {
+    assert_eq!(rt; found, wanted);
 }
 
 const SHOWN: &[(&[u8], &[i16])] = &[
@@ -125,11 +120,10 @@ const SHOWN: &[(&[u8], &[i16])] = &[
 ];
 
 #[test]
-fn counts_magnitudes(rt: HostRuntime) -> Result<(), Fail> {
+fn shows_magnitudes(rt: HostRuntime) -> Result<(), Fail> {
     let alloc = rt.alloc();
     for (text, wanted) in SHOWN {
-        assert_counted(&rt, shown(alloc, text)?, wanted);
-        assert_counted(&rt, shown_collected(alloc, text)?, wanted);
+        assert_shown(&rt, &shown(alloc, text)?, wanted);
     }
     Ok(())
 }
@@ -167,15 +161,10 @@ fn fault_lowest(text: &[u8]) -> &'static str {
     }
 }
 
-/// Asserts which word was found.
-fn assert_word(rt: &impl Abort, found: &str, wanted: &str) {
-    assert_eq!(rt; found, wanted);
-}
-
 /// Asserts why a text is refused.
-fn assert_refuses(rt: &impl Abort, alloc: Global, text: &[u8], fault_word: &str) {
-    assert_word(rt, fault(alloc, text), fault_word);
-    assert_word(rt, fault_lowest(text), fault_word);
+fn assert_refuses(rt: &impl Abort, alloc: Global, text: &[u8], wanted: &str) {
+    assert_bytes(rt, fault(alloc, text).as_bytes(), wanted.as_bytes());
+    assert_bytes(rt, fault_lowest(text).as_bytes(), wanted.as_bytes());
 }
 
 const SYNTAX: &[&str] = &[
@@ -218,7 +207,7 @@ const LIMIT: &[&str] = &[
 /// Asserts why a string is refused, by each call that reads it.
 fn assert_refuses_str(rt: &impl Abort, alloc: Global, text: &str, fault_word: &str) {
     assert_refuses(rt, alloc, text.as_bytes(), fault_word);
-    assert_word(rt, fault_str(alloc, text), fault_word);
+    assert_bytes(rt, fault_str(alloc, text).as_bytes(), fault_word.as_bytes());
 }
 
 #[test]
@@ -305,11 +294,6 @@ fn refuses_beyond_the_limits(rt: HostRuntime) -> Result<(), Fail> {
     Ok(())
 }
 
-/// Asserts that the plain program reads no value from a text.
-fn assert_unread(rt: &impl Abort, text: &[u8]) {
-    assert!(rt; Plain::read(text).is_none(), "{text:?}");
-}
-
 const UNREAD: &[&[u8]] = &[
     b"",
     b".",
@@ -326,6 +310,6 @@ const UNREAD: &[&[u8]] = &[
 #[test]
 fn reads_no_more_than_digits_plainly(rt: HostRuntime) {
     for text in UNREAD {
-        assert_unread(&rt, text);
+        assert_holds(&rt, Plain::read(text).is_none());
     }
 }
