@@ -8,15 +8,16 @@ mod changes;
 mod compact;
 mod constructors;
 mod counting;
+mod ends;
 mod equality;
 mod integer;
 mod long;
+mod memory;
 mod reading;
 mod rounding;
 mod runs;
 mod scientific;
 mod signs;
-mod stores;
 
 /// The decimal that a text writes.
 fn read(alloc: Global, text: &str) -> Result<Decimal, Fail> {

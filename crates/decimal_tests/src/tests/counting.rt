@@ -1,6 +1,6 @@
 //! A store of digits that counts, and how many digits the roundings touch.
 use super::*;
-use decimal_digits::digits::{DigitList, DigitStore};
+use decimal_digits::digits::{DigitList, DigitStore, PackedDigits};
 use decimal_unsigned::decimal::UnsignedOver;
 use fixed_decimal::RoundingIncrement::{MultiplesOf1, MultiplesOf2, MultiplesOf5, MultiplesOf25};
 use fixed_decimal::SignedRoundingMode::{Ceil, Floor, HalfCeil, HalfFloor, Unsigned};
@@ -18,9 +18,6 @@ pub struct CountingStore<D: DigitStore> {
     list: D,
     touched: Cell<usize>,
 }
-
-/// A list of digits that counts.
-pub type CountingList = CountingStore<DigitList>;
 
 /// What `restart` sets the count to, above all that a list which is made anew can have counted.
 const RESTART: usize = 1_000_000;
@@ -125,8 +122,8 @@ impl<D: DigitStore> DigitStore for CountingStore<D> {
     ghost are_digits = { λ s. D.are_digits s.list };
 }
 
-/// A decimal over the list that counts.
-type Counting = Signed<UnsignedOver<CountingList>>;
+/// A decimal over a store that counts.
+type Counting<D> = Signed<UnsignedOver<CountingStore<D>>>;
 
 /// A rounding call.
 #[derive(Clone, Copy)]
@@ -213,12 +210,12 @@ const CHAIN: &[(i16, RoundingIncrement)] = &[
 ];
 
 /// The decimal that a text writes.
-fn read_counting(alloc: Global, text: &[u8]) -> Result<Counting, Fail> {
-    Ok(Counting::try_from_utf8(alloc, text)?)
+fn read_counting<D: DigitStore>(alloc: Global, text: &[u8]) -> Result<Counting<D>, Fail> {
+    Ok(Counting::<D>::try_from_utf8(alloc, text)?)
 }
 
 /// Rounds in place by the call that bears the mode's name, where there is one.
-fn round_by_name(value: &mut Counting, position: i16, mode: SignedRoundingMode) {
+fn round_by_name<D: DigitStore>(value: &mut Counting<D>, position: i16, mode: SignedRoundingMode) {
     match mode {
         Ceil => value.ceil(position),
         Floor => value.floor(position),
@@ -230,8 +227,8 @@ fn round_by_name(value: &mut Counting, position: i16, mode: SignedRoundingMode) 
 }
 
 /// Rounds the absolute value in place by the call that bears the mode's name, where there is one.
-fn round_absolute_by_name(
-    value: &mut UnsignedOver<CountingList>,
+fn round_absolute_by_name<D: DigitStore>(
+    value: &mut UnsignedOver<CountingStore<D>>,
     position: i16,
     mode: UnsignedRoundingMode,
 ) {
@@ -244,8 +241,8 @@ fn round_absolute_by_name(
 }
 
 /// Rounds in place by a call.
-fn round_by(
-    value: &mut Counting,
+fn round_by<D: DigitStore>(
+    value: &mut Counting<D>,
     form: Form,
     (position, mode, increment): Rounding,
 ) -> Result<(), AllocError> {
@@ -259,8 +256,8 @@ fn round_by(
 }
 
 /// Rounds the absolute value in place by a call.
-fn round_absolute_by(
-    value: &mut UnsignedOver<CountingList>,
+fn round_absolute_by<D: DigitStore>(
+    value: &mut UnsignedOver<CountingStore<D>>,
     form: Form,
     position: i16,
     mode: UnsignedRoundingMode,
@@ -276,7 +273,11 @@ fn round_absolute_by(
 }
 
 /// Rounds a value by the call that takes it whole, and bears the mode's name where there is one.
-fn rounded_by_name(value: Counting, position: i16, mode: SignedRoundingMode) -> Counting {
+fn rounded_by_name<D: DigitStore>(
+    value: Counting<D>,
+    position: i16,
+    mode: SignedRoundingMode,
+) -> Counting<D> {
     match mode {
         Ceil => value.ceiled(position),
         Floor => value.floored(position),
@@ -288,13 +289,13 @@ fn rounded_by_name(value: Counting, position: i16, mode: SignedRoundingMode) -> 
 }
 
 /// Starts the count, and gives the most digits that a rounding may touch and leave.
-fn most(store: &CountingList) -> usize {
+fn most<D: DigitStore>(store: &CountingStore<D>) -> usize {
     store.restart();
     store.len().saturating_add(16)
 }
 
 /// Whether the digits touched and left are at most so many.
-fn is_within(store: &CountingList, most: usize) -> bool {
+fn is_within<D: DigitStore>(store: &CountingStore<D>, most: usize) -> bool {
     match store.touched() {
         Some(touched) => touched.saturating_add(store.len()) <= most,
         None => false,
@@ -302,15 +303,20 @@ fn is_within(store: &CountingList, most: usize) -> bool {
 }
 
 /// Whether a rounding in place stays within the bound.
-fn stays_within(alloc: Global, text: &[u8], form: Form, rounding: Rounding) -> Result<bool, Fail> {
-    let mut value = read_counting(alloc, text)?;
+fn stays_within<D: DigitStore>(
+    alloc: Global,
+    text: &[u8],
+    form: Form,
+    rounding: Rounding,
+) -> Result<bool, Fail> {
+    let mut value = read_counting::<D>(alloc, text)?;
     let most = most(value.store());
     round_by(&mut value, form, rounding)?;
     Ok(is_within(value.store(), most))
 }
 
 /// Whether a rounding of the absolute value in place stays within the bound.
-fn absolute_stays_within(
+fn absolute_stays_within<D: DigitStore>(
     alloc: Global,
     text: &[u8],
     form: Form,
@@ -319,19 +325,19 @@ fn absolute_stays_within(
     let Unsigned(mode) = mode else {
         return Ok(true);
     };
-    let mut value = read_counting(alloc, text)?;
+    let mut value = read_counting::<D>(alloc, text)?;
     let most = most(value.store());
     round_absolute_by(&mut value.absolute, form, position, mode, increment)?;
     Ok(is_within(value.store(), most))
 }
 
 /// Whether a rounding of a value by increment stays within the bound.
-fn by_value_stays_within(
+fn by_value_stays_within<D: DigitStore>(
     alloc: Global,
     text: &[u8],
     (position, mode, increment): Rounding,
 ) -> Result<bool, Fail> {
-    let value = read_counting(alloc, text)?;
+    let value = read_counting::<D>(alloc, text)?;
     let most = most(value.store());
     match value.rounded_with_mode_and_increment(position, mode, increment) {
         Ok(left) => Ok(is_within(left.store(), most)),
@@ -340,51 +346,54 @@ fn by_value_stays_within(
 }
 
 /// Whether a rounding of a value by name stays within the bound.
-fn by_name_stays_within(
+fn by_name_stays_within<D: DigitStore>(
     alloc: Global,
     text: &[u8],
     position: i16,
     mode: SignedRoundingMode,
 ) -> Result<bool, Fail> {
-    let value = read_counting(alloc, text)?;
+    let value = read_counting::<D>(alloc, text)?;
     let most = most(value.store());
     Ok(is_within(rounded_by_name(value, position, mode).store(), most))
 }
 
 /// Whether each of these calls stays within the bound.
-fn all_stay_within(
+fn all_stay_within<D: DigitStore>(
     alloc: Global,
     text: &[u8],
     forms: &[Form],
     rounding: Rounding,
 ) -> Result<bool, Fail> {
     for form in forms {
-        if !stays_within(alloc, text, *form, rounding)? {
+        if !stays_within::<D>(alloc, text, *form, rounding)? {
             return Ok(false);
         }
-        if !absolute_stays_within(alloc, text, *form, rounding)? {
+        if !absolute_stays_within::<D>(alloc, text, *form, rounding)? {
             return Ok(false);
         }
     }
-    by_value_stays_within(alloc, text, rounding)
+    by_value_stays_within::<D>(alloc, text, rounding)
 }
 
 /// Whether each call that rounds to multiples of 1 stays within the bound.
-fn ones_stay_within(
+fn ones_stay_within<D: DigitStore>(
     alloc: Global,
     text: &[u8],
     position: i16,
     mode: SignedRoundingMode,
 ) -> Result<bool, Fail> {
-    if !all_stay_within(alloc, text, ALL, (position, mode, MultiplesOf1))? {
+    if !all_stay_within::<D>(alloc, text, ALL, (position, mode, MultiplesOf1))? {
         return Ok(false);
     }
-    by_name_stays_within(alloc, text, position, mode)
+    by_name_stays_within::<D>(alloc, text, position, mode)
 }
 
 /// Whether each step of the chain by a mode stays within the bound.
-fn chain_stays_within(alloc: Global, mode: UnsignedRoundingMode) -> Result<bool, Fail> {
-    let mut value = read_counting(alloc, b"4235.970")?;
+fn chain_stays_within<D: DigitStore>(
+    alloc: Global,
+    mode: UnsignedRoundingMode,
+) -> Result<bool, Fail> {
+    let mut value = read_counting::<D>(alloc, b"4235.970")?;
     for (position, increment) in CHAIN {
         let most = most(value.store());
         round_by(
@@ -400,7 +409,7 @@ fn chain_stays_within(alloc: Global, mode: UnsignedRoundingMode) -> Result<bool,
 }
 
 /// A text of 32,768 digits of a kind, a dot, and as many more.
-pub fn full_text(alloc: Global, digit: u8) -> Result<Vec<u8>, Fail> {
+fn full_text(alloc: Global, digit: u8) -> Result<Vec<u8>, Fail> {
     let mut text = Vec::with_capacity(alloc, 65_537)?;
     for place in 0..65_537 {
         text.push(if place == 32_768 { b'.' } else { digit })?;
@@ -409,10 +418,10 @@ pub fn full_text(alloc: Global, digit: u8) -> Result<Vec<u8>, Fail> {
 }
 
 /// Whether roundings of 65,536 digits at -32767 by each mode stay within the bound.
-fn full_stays_within(alloc: Global, digit: u8) -> Result<bool, Fail> {
+fn full_stays_within<D: DigitStore>(alloc: Global, digit: u8) -> Result<bool, Fail> {
     let text = full_text(alloc, digit)?;
     for mode in MODES {
-        if !ones_stay_within(alloc, text.as_slice(), -32767, *mode)? {
+        if !ones_stay_within::<D>(alloc, text.as_slice(), -32767, *mode)? {
             return Ok(false);
         }
     }
@@ -424,7 +433,8 @@ fn near_one(rt: HostRuntime) -> Result<(), Fail> {
     let alloc = rt.alloc();
     for text in NEAR_ONE {
         for mode in MODES {
-            assert!(rt; ones_stay_within(alloc, text, 0, *mode)?);
+            assert!(rt; ones_stay_within::<DigitList>(alloc, text, 0, *mode)?);
+            assert!(rt; ones_stay_within::<PackedDigits>(alloc, text, 0, *mode)?);
         }
     }
     Ok(())
@@ -434,7 +444,8 @@ fn near_one(rt: HostRuntime) -> Result<(), Fail> {
 fn increments(rt: HostRuntime) -> Result<(), Fail> {
     let alloc = rt.alloc();
     for (text, rounding) in BY_INCREMENTS {
-        assert!(rt; all_stay_within(alloc, text, WITH_INCREMENT, *rounding)?);
+        assert!(rt; all_stay_within::<DigitList>(alloc, text, WITH_INCREMENT, *rounding)?);
+        assert!(rt; all_stay_within::<PackedDigits>(alloc, text, WITH_INCREMENT, *rounding)?);
     }
     Ok(())
 }
@@ -443,14 +454,17 @@ fn increments(rt: HostRuntime) -> Result<(), Fail> {
 fn chains(rt: HostRuntime) -> Result<(), Fail> {
     let alloc = rt.alloc();
     for mode in [Trunc, Expand, HalfEven] {
-        assert!(rt; chain_stays_within(alloc, mode)?);
+        assert!(rt; chain_stays_within::<DigitList>(alloc, mode)?);
+        assert!(rt; chain_stays_within::<PackedDigits>(alloc, mode)?);
     }
     Ok(())
 }
 
 #[test]
 fn all_digits(rt: HostRuntime) -> Result<(), Fail> {
-    assert!(rt; full_stays_within(rt.alloc(), b'9')?);
-    assert!(rt; full_stays_within(rt.alloc(), b'1')?);
+    assert!(rt; full_stays_within::<DigitList>(rt.alloc(), b'9')?);
+    assert!(rt; full_stays_within::<PackedDigits>(rt.alloc(), b'9')?);
+    assert!(rt; full_stays_within::<DigitList>(rt.alloc(), b'1')?);
+    assert!(rt; full_stays_within::<PackedDigits>(rt.alloc(), b'1')?);
     Ok(())
 }

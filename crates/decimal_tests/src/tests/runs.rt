@@ -1,9 +1,13 @@
-//! Whole runs, and sinks that fail.
+//! Whole runs over each store, and sinks that fail.
+use super::counting::CountingStore;
 use super::*;
 use fixed_decimal::RoundingIncrement::{MultiplesOf1, MultiplesOf5, MultiplesOf25};
 use fixed_decimal::SignedRoundingMode::{Ceil, Unsigned};
 use fixed_decimal::UnsignedRoundingMode::{Expand, HalfEven, HalfTrunc, Trunc};
-use fixed_decimal::{Call, RunError, Sign, SignDisplay, SinkFault, run};
+use fixed_decimal::{
+    Call, DigitList, DigitStore, PackedDigits, RunError, Sign, SignDisplay, SinkFault, run,
+    run_over,
+};
 
 /// A start, calls, and the text that they come to.
 type Run = (&'static str, &'static [Call<'static>], &'static str);
@@ -255,10 +259,9 @@ fn fault_word(fault: &ParseError) -> &'static str {
     }
 }
 
-/// What a run writes; where memory is refused, nothing was written, or the sink has failed.
-fn written(alloc: Global, start: &str, calls: &[Call<'_>]) -> Result<TextBuf, Fail> {
-    let mut sink = TextBuf::new(alloc);
-    let Err(error) = run(alloc, start.as_bytes(), calls, &mut sink) else {
+/// What a run left in its sink; where memory is refused, nothing was written, or the sink has failed.
+fn left(alloc: Global, answer: Result<(), RunError>, sink: TextBuf) -> Result<TextBuf, Fail> {
+    let Err(error) = answer else {
         return Ok(sink);
     };
     match words(&error).0 {
@@ -268,10 +271,26 @@ fn written(alloc: Global, start: &str, calls: &[Call<'_>]) -> Result<TextBuf, Fa
     }
 }
 
-/// The refusal of a run in words, and the number of the call.
-fn refusal(alloc: Global, start: &str, calls: &[Call<'_>]) -> (&'static str, usize) {
+/// What a run writes.
+fn written(alloc: Global, start: &str, calls: &[Call<'_>]) -> Result<TextBuf, Fail> {
     let mut sink = TextBuf::new(alloc);
     let answer = run(alloc, start.as_bytes(), calls, &mut sink);
+    left(alloc, answer, sink)
+}
+
+/// What a run over a store writes.
+fn written_over<D: DigitStore>(
+    alloc: Global,
+    start: &str,
+    calls: &[Call<'_>],
+) -> Result<TextBuf, Fail> {
+    let mut sink = TextBuf::new(alloc);
+    let answer = run_over::<D, TextBuf>(alloc, start.as_bytes(), calls, &mut sink);
+    left(alloc, answer, sink)
+}
+
+/// The refusal of a run in words, and the number of the call.
+fn refusal(answer: Result<(), RunError>, sink: &TextBuf) -> (&'static str, usize) {
     if sink.failed() || !sink.as_bytes().is_empty() {
         return ("written", 0);
     }
@@ -281,10 +300,41 @@ fn refusal(alloc: Global, start: &str, calls: &[Call<'_>]) -> (&'static str, usi
     }
 }
 
+/// How a run is refused.
+fn refused_run(alloc: Global, start: &str, calls: &[Call<'_>]) -> (&'static str, usize) {
+    let mut sink = TextBuf::new(alloc);
+    let answer = run(alloc, start.as_bytes(), calls, &mut sink);
+    refusal(answer, &sink)
+}
+
+/// How a run over a store is refused.
+fn refused_over<D: DigitStore>(
+    alloc: Global,
+    start: &str,
+    calls: &[Call<'_>],
+) -> (&'static str, usize) {
+    let mut sink = TextBuf::new(alloc);
+    let answer = run_over::<D, TextBuf>(alloc, start.as_bytes(), calls, &mut sink);
+    refusal(answer, &sink)
+}
+
+/// Asserts what a run writes, over each store too.
+fn assert_run(rt: &impl Abort, alloc: Global, (start, calls, text): Run) -> Result<(), Fail> {
+    assert_shows(rt, written(alloc, start, calls)?, text);
+    assert_shows(rt, written_over::<DigitList>(alloc, start, calls)?, text);
+    assert_shows(rt, written_over::<PackedDigits>(alloc, start, calls)?, text);
+    assert_shows(
+        rt,
+        written_over::<CountingStore<DigitList>>(alloc, start, calls)?,
+        text,
+    );
+    Ok(())
+}
+
 /// Asserts what runs write.
 fn assert_writes(rt: &impl Abort, alloc: Global, rows: &[Run]) -> Result<(), Fail> {
-    for (start, calls, text) in rows {
-        assert_shows(rt, written(alloc, start, calls)?, text);
+    for row in rows {
+        assert_run(rt, alloc, *row)?;
     }
     Ok(())
 }
@@ -345,7 +395,18 @@ fn signs(rt: HostRuntime) -> Result<(), Fail> {
 fn refuses(rt: HostRuntime) {
     let alloc = rt.alloc();
     for (start, calls, fault, at) in REFUSED {
-        assert!(rt; refusal(alloc, start, calls) == (*fault, *at), "{start}");
+        assert!(rt;
+            refused_run(alloc, start, calls) == (*fault, *at),
+            "{start}"
+        );
+        assert!(rt;
+            refused_over::<DigitList>(alloc, start, calls) == (*fault, *at),
+            "{start}"
+        );
+        assert!(rt;
+            refused_over::<PackedDigits>(alloc, start, calls) == (*fault, *at),
+            "{start}"
+        );
     }
 }
 
@@ -353,7 +414,7 @@ fn refuses(rt: HostRuntime) {
 fn refuses_with_memory(rt: HostRuntime) -> Result<(), Fail> {
     let alloc = rt.alloc();
     for (start, calls, fault, at) in LONG_OVERLAPS {
-        let (word, number) = refusal(alloc, start, calls);
+        let (word, number) = refused_run(alloc, start, calls);
         if word == "memory" || word == "start: memory" {
             return Err(Fail::new("memory was refused"));
         }
@@ -366,5 +427,6 @@ fn refuses_with_memory(rt: HostRuntime) -> Result<(), Fail> {
 fn fails_with_the_sink(rt: HostRuntime) -> Result<(), Fail> {
     let alloc = rt.alloc();
     assert_beginnings(&rt, alloc, ("2.50", &[], "2.50"))?;
+    assert_beginnings(&rt, alloc, ("-1234.50", &[], "-1234.50"))?;
     assert_beginnings(&rt, alloc, ("-12e2", &[Call::MultiplyPow10(-1)], "-120"))
 }

@@ -1,0 +1,319 @@
+//! The longest numbers, and roundings and shifts at both ends of the magnitudes.
+use super::long::{Parts, is_made_of, long};
+use super::*;
+use fixed_decimal::RoundingIncrement::{MultiplesOf1, MultiplesOf2, MultiplesOf5, MultiplesOf25};
+use fixed_decimal::SignedRoundingMode::{Ceil, Floor, HalfCeil, HalfFloor, Unsigned};
+use fixed_decimal::UnsignedRoundingMode::{Expand, HalfEven, HalfExpand, HalfTrunc, Trunc};
+use fixed_decimal::{
+    Call, DigitList, DigitStore, PackedDigits, RoundingIncrement, RunError, Signed,
+    SignedRoundingMode, UnsignedOver, run_over,
+};
+
+/// A start, calls, and the text that they come to.
+type Run = (Parts, &'static [Call<'static>], Parts);
+
+/// 65,536 nines, half of them behind the dot: the greatest number.
+const GREATEST: Parts = &[("9", 32_768), (".", 1), ("9", 32_768)];
+
+/// The least number that is not 0.
+const LEAST: Parts = &[("0.", 1), ("0", 32_767), ("1", 1)];
+
+/// Half of the digits of the greatest number.
+const NINES: Parts = &[("9", 32_768)];
+
+/// The part of the greatest number behind the dot.
+const FRACTION: Parts = &[("0.", 1), ("9", 32_768)];
+
+/// Roundings of the greatest number.
+const ROUND_GREATEST: &[Run] = &[
+    (
+        GREATEST,
+        &[Call::Round(-32768, Unsigned(Trunc), MultiplesOf1)],
+        GREATEST,
+    ),
+    (
+        GREATEST,
+        &[Call::Round(-32768, Unsigned(Trunc), MultiplesOf2)],
+        &[("9", 32_768), (".", 1), ("9", 32_767), ("8", 1)],
+    ),
+    (
+        GREATEST,
+        &[Call::Round(-32768, Unsigned(Trunc), MultiplesOf5)],
+        &[("9", 32_768), (".", 1), ("9", 32_767), ("5", 1)],
+    ),
+    (
+        GREATEST,
+        &[Call::Round(-32768, Unsigned(Trunc), MultiplesOf25)],
+        &[("9", 32_768), (".", 1), ("9", 32_766), ("75", 1)],
+    ),
+    (
+        GREATEST,
+        &[Call::Round(-32768, Unsigned(Expand), MultiplesOf2)],
+        &[("0", 32_768), (".", 1), ("0", 32_768)],
+    ),
+    (
+        GREATEST,
+        &[Call::Round(32767, Unsigned(Trunc), MultiplesOf1)],
+        &[("9", 1), ("0", 32_767)],
+    ),
+    (
+        GREATEST,
+        &[Call::Round(32767, Unsigned(Trunc), MultiplesOf2)],
+        &[("8", 1), ("0", 32_767)],
+    ),
+    (
+        GREATEST,
+        &[Call::Round(32767, Unsigned(Trunc), MultiplesOf5)],
+        &[("5", 1), ("0", 32_767)],
+    ),
+    (
+        GREATEST,
+        &[Call::Round(32767, Unsigned(HalfExpand), MultiplesOf5)],
+        &[("0", 32_768)],
+    ),
+    (
+        GREATEST,
+        &[Call::Round(32766, Unsigned(Trunc), MultiplesOf25)],
+        &[("75", 1), ("0", 32_766)],
+    ),
+    (
+        GREATEST,
+        &[
+            Call::Round(-1, Unsigned(Expand), MultiplesOf1),
+            Call::Round(0, Unsigned(Expand), MultiplesOf1),
+        ],
+        &[("0", 32_768)],
+    ),
+];
+
+/// Roundings of the least number.
+const ROUND_LEAST: &[Run] = &[
+    (
+        LEAST,
+        &[Call::Round(-32768, Unsigned(Expand), MultiplesOf25)],
+        &[("0.", 1), ("0", 32_766), ("25", 1)],
+    ),
+    (
+        LEAST,
+        &[Call::Round(-32768, Unsigned(HalfEven), MultiplesOf2)],
+        &[("0.", 1), ("0", 32_768)],
+    ),
+    (
+        LEAST,
+        &[Call::Round(-32768, Unsigned(HalfExpand), MultiplesOf2)],
+        &[("0.", 1), ("0", 32_767), ("2", 1)],
+    ),
+    (
+        LEAST,
+        &[Call::Round(32767, Unsigned(Expand), MultiplesOf1)],
+        &[("1", 1), ("0", 32_767)],
+    ),
+    (
+        LEAST,
+        &[Call::Round(32767, Unsigned(Expand), MultiplesOf5)],
+        &[("5", 1), ("0", 32_767)],
+    ),
+    (
+        LEAST,
+        &[Call::Round(32767, Unsigned(Expand), MultiplesOf25)],
+        &[("0", 32_767)],
+    ),
+];
+
+/// Shifts, pads and cuts that reach the ends.
+const EDITS: &[Run] = &[
+    (GREATEST, &[Call::MultiplyPow10(1)], &[("0", 1)]),
+    (GREATEST, &[Call::MultiplyPow10(-1)], &[("0", 1)]),
+    (
+        &[("1", 1)],
+        &[Call::MultiplyPow10(32767), Call::MultiplyPow10(-32768)],
+        &[("0.1", 1), ("0", 32_767)],
+    ),
+    (
+        &[("1", 1)],
+        &[Call::MultiplyPow10(-32768), Call::MultiplyPow10(32767)],
+        &[("0", 32_768), (".1", 1)],
+    ),
+    (
+        &[("1", 1)],
+        &[
+            Call::MultiplyPow10(-32768),
+            Call::MultiplyPow10(32767),
+            Call::MultiplyPow10(1),
+        ],
+        &[("0", 1)],
+    ),
+    (
+        &[("5", 1)],
+        &[Call::PadStart(32767)],
+        &[("0", 32_766), ("5", 1)],
+    ),
+    (
+        &[("5", 1)],
+        &[Call::PadEnd(-32768)],
+        &[("5.", 1), ("0", 32_768)],
+    ),
+    (
+        GREATEST,
+        &[Call::SetMaxPosition(-32768)],
+        &[("0.", 1), ("0", 32_768)],
+    ),
+];
+
+/// Starts and their signs, each of which is rounded at both ends in every way.
+const STARTS: &[Parts] = &[
+    GREATEST,
+    LEAST,
+    &[("-", 1), ("9", 32_768), (".", 1), ("9", 32_768)],
+    &[("-0.", 1), ("0", 32_767), ("1", 1)],
+    &[("0", 1)],
+];
+
+/// The positions at both ends.
+const POSITIONS: &[i16] = &[-32768, -32767, 32766, 32767];
+
+/// The modes.
+const MODES: &[SignedRoundingMode] = &[
+    Ceil,
+    Unsigned(Expand),
+    Floor,
+    Unsigned(Trunc),
+    HalfCeil,
+    Unsigned(HalfExpand),
+    HalfFloor,
+    Unsigned(HalfTrunc),
+    Unsigned(HalfEven),
+];
+
+/// The increments.
+const INCREMENTS: &[RoundingIncrement] = &[MultiplesOf1, MultiplesOf2, MultiplesOf5, MultiplesOf25];
+
+/// Whether a run over a store comes to the text that its row says.
+fn comes_to<D: DigitStore>(alloc: Global, (start, calls, parts): Run) -> Result<bool, Fail> {
+    let text = long(alloc, start)?;
+    let mut sink = TextBuf::new(alloc);
+    run_over::<D, TextBuf>(alloc, text.as_bytes(), calls, &mut sink)?;
+    Ok(is_made_of(sink.as_bytes(), parts))
+}
+
+/// What a run answers that joins one long text to another, and writes.
+fn join<D: DigitStore>(
+    alloc: Global,
+    (start, operand): (Parts, Parts),
+    sink: &mut TextBuf,
+) -> Result<Result<(), RunError>, Fail> {
+    let text = long(alloc, start)?;
+    let other = long(alloc, operand)?;
+    let calls = [Call::Concatenate(other.as_bytes())];
+    Ok(run_over::<D, TextBuf>(alloc, text.as_bytes(), &calls, sink))
+}
+
+/// Whether the two halves of the greatest number join to it.
+fn joins<D: DigitStore>(alloc: Global) -> Result<bool, Fail> {
+    let mut sink = TextBuf::new(alloc);
+    join::<D>(alloc, (NINES, FRACTION), &mut sink)??;
+    Ok(is_made_of(sink.as_bytes(), GREATEST))
+}
+
+/// Whether the greatest number overlaps with itself, and nothing is written.
+fn overlaps<D: DigitStore>(alloc: Global) -> Result<bool, Fail> {
+    let mut sink = TextBuf::new(alloc);
+    match join::<D>(alloc, (GREATEST, GREATEST), &mut sink)? {
+        Err(RunError::Overlap { at }) => Ok(at == 0 && sink.as_bytes().is_empty()),
+        Err(_) => Err(Fail::new("memory was refused")),
+        Ok(()) => Ok(false),
+    }
+}
+
+/// Whether a rounding returns, keeps the sign, and shows the digits down to its position, or to magnitude 0.
+fn rounds<D: DigitStore>(
+    value: &Signed<UnsignedOver<D>>,
+    position: i16,
+    mode: SignedRoundingMode,
+    increment: RoundingIncrement,
+) -> Result<bool, Fail> {
+    let mut rounded = value.clone()?;
+    rounded.round_with_mode_and_increment(position, mode, increment)?;
+    let lowest = *rounded.magnitude_range().start();
+    Ok(rounded.sign == value.sign && lowest == position.min(0))
+}
+
+/// Whether it does by each increment.
+fn rounds_by_all<D: DigitStore>(
+    value: &Signed<UnsignedOver<D>>,
+    position: i16,
+    mode: SignedRoundingMode,
+) -> Result<bool, Fail> {
+    for increment in INCREMENTS {
+        if !rounds(value, position, mode, *increment)? {
+            return Ok(false);
+        }
+    }
+    Ok(true)
+}
+
+/// Whether it does by each mode and each increment.
+fn rounds_at<D: DigitStore>(value: &Signed<UnsignedOver<D>>, position: i16) -> Result<bool, Fail> {
+    for mode in MODES {
+        if !rounds_by_all(value, position, *mode)? {
+            return Ok(false);
+        }
+    }
+    Ok(true)
+}
+
+/// Whether a start is rounded so at both ends.
+fn rounds_at_ends<D: DigitStore>(alloc: Global, start: Parts) -> Result<bool, Fail> {
+    let text = long(alloc, start)?;
+    let value = Signed::<UnsignedOver<D>>::try_from_str(alloc, text.as_str())?;
+    for position in POSITIONS {
+        if !rounds_at(&value, *position)? {
+            return Ok(false);
+        }
+    }
+    Ok(true)
+}
+
+/// Asserts what runs come to, over each store.
+fn assert_come_to(rt: &impl Abort, alloc: Global, rows: &[Run]) -> Result<(), Fail> {
+    for row in rows {
+        assert!(rt; comes_to::<DigitList>(alloc, *row)?);
+        assert!(rt; comes_to::<PackedDigits>(alloc, *row)?);
+    }
+    Ok(())
+}
+
+#[test]
+fn rounds_the_greatest(rt: HostRuntime) -> Result<(), Fail> {
+    assert_come_to(&rt, rt.alloc(), ROUND_GREATEST)
+}
+
+#[test]
+fn rounds_the_least(rt: HostRuntime) -> Result<(), Fail> {
+    assert_come_to(&rt, rt.alloc(), ROUND_LEAST)
+}
+
+#[test]
+fn edits(rt: HostRuntime) -> Result<(), Fail> {
+    assert_come_to(&rt, rt.alloc(), EDITS)
+}
+
+#[test]
+fn joins_halves(rt: HostRuntime) -> Result<(), Fail> {
+    let alloc = rt.alloc();
+    assert!(rt; joins::<DigitList>(alloc)?);
+    assert!(rt; joins::<PackedDigits>(alloc)?);
+    assert!(rt; overlaps::<DigitList>(alloc)?);
+    assert!(rt; overlaps::<PackedDigits>(alloc)?);
+    Ok(())
+}
+
+#[test]
+fn rounds_in_every_way(rt: HostRuntime) -> Result<(), Fail> {
+    let alloc = rt.alloc();
+    for start in STARTS {
+        assert!(rt; rounds_at_ends::<DigitList>(alloc, start)?);
+        assert!(rt; rounds_at_ends::<PackedDigits>(alloc, start)?);
+    }
+    Ok(())
+}
