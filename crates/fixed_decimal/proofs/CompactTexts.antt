@@ -1,6 +1,6 @@
 -- The text of a compact value: its exponent's digits, and that it reads as the value.
-use Rattle.std.proofs.Common.{◌≡◌, ℕ, zero, suc, ◌+◌, ◌/◌, ◌%◌, ◌^◌, ◌<◌, ◌≤◌, ◌==◌, ◌||◌, nat_lt, Bool, true, false, List, [], ◌∷◌, ◌++◌, length, get_or, refl, sym, ◌∙◌, ap, arith, append-nil}
-use Rattle.std.specs.Prelude.{Option, Some, None, Result, Ok}
+use Rattle.std.proofs.Common.{◌≡◌, ℕ, zero, suc, ◌+◌, ◌/◌, ◌%◌, ◌^◌, ◌<◌, ◌≤◌, ◌==◌, nat_lt, Bool, false, List, [], ◌∷◌, ◌++◌, length, get_or, refl, sym, ◌∙◌, ap, arith, append-nil}
+use Rattle.std.specs.Prelude.{Option, Some, None, Ok}
 use Rattle.std.specs.Fmt.{decimal}
 use Rattle.std.specs.List.{list_any}
 use Rattle.std.specs.Str.Parse.{AllDigits, IsNumeral, digits_value}
@@ -15,11 +15,9 @@ use Rattle.decimal_digits.specs.Text.{AppendsBeginning}
 use Rattle.decimal_unsigned.specs.Unsigned.{IsValue}
 use Rattle.decimal_unsigned.specs.Reading.{is_letter}
 use Rattle.decimal_unsigned.proofs.GrammarParts.{numeral_again}
-use Rattle.fixed_decimal.specs.Letters.{is_c}
 use Rattle.fixed_decimal.specs.Outcome.{and_then}
-use Rattle.fixed_decimal.specs.Decimal.{Decimal}
 use Rattle.fixed_decimal.specs.DecimalText.{decimal_text}
-use Rattle.fixed_decimal.specs.Compact.{Compact, compact, exponent_text, compact_text, byte_or_limit, small_number_of, read_exponent, read_parts, read_compact, with_c, IsCutAtC}
+use Rattle.fixed_decimal.specs.Compact.{Compact, exponent_text, compact_text, small_number_of, read_exponent, read_parts, read_compact, with_c}
 use Rattle.fixed_decimal.proofs.DecimalTexts.{read_decimal_text}
 use Rattle.fixed_decimal.proofs.DecimalBytes.{PassesNone, decimal_text-lacks, letter-none, c-none}
 use Rattle.fixed_decimal.proofs.CutsAtC.{cut_is}

@@ -1,6 +1,6 @@
 -- A text with no e and no E, cut at its first c.
-use Rattle.std.proofs.Common.{◌≡◌, ℕ, ◌⊎◌, inl, inr, Bool, true, false, List, [], ◌∷◌, ◌++◌, refl, ◌∙◌, ap, append-nil}
-use Rattle.std.specs.Prelude.{Option, Some, None, Result, Ok, Err}
+use Rattle.std.proofs.Common.{◌≡◌, ℕ, ◌⊎◌, inl, inr, Bool, true, false, List, refl, ◌∙◌, ap, append-nil}
+use Rattle.std.specs.Prelude.{Option, Some, None, Ok, Err}
 use Rattle.std.specs.List.{list_any, before_first, after_first}
 use Rattle.decimal_unsigned.specs.Reading.{syntax, is_letter}
 use Rattle.fixed_decimal.specs.Letters.{is_small_e, is_capital_e, is_c}

@@ -1,7 +1,7 @@
 -- A text with one e and no E.
-use Rattle.std.proofs.Common.{◌≡◌, ℕ, ◌+◌, ◌<◌, ◌==◌, ◌||◌, not, Bool, true, false, cond, List, [], ◌∷◌, ◌++◌, length, refl, sym, ◌∙◌, ap, subst, arith, eqb-true, get_or}
-use Rattle.std.specs.Prelude.{count_by, Result, Ok, Err}
-use Rattle.std.specs.List.{list_any, before_first, after_first, position_or_len}
+use Rattle.std.proofs.Common.{◌≡◌, ℕ, ◌+◌, ◌==◌, ◌||◌, Bool, true, false, List, [], ◌∷◌, refl, sym, ◌∙◌, ap, subst, arith, eqb-true}
+use Rattle.std.specs.Prelude.{count_by, Ok, Err}
+use Rattle.std.specs.List.{list_any, before_first, after_first}
 use Rattle.std.proofs.lemmas.Bool.Decides.{nat_tests}
 use Rattle.std.proofs.lemmas.List.Folds.{list_any-append}
 use Rattle.decimal_unsigned.specs.Reading.{syntax, is_letter}
@@ -9,7 +9,7 @@ use Rattle.fixed_decimal.specs.Letters.{is_small_e, is_capital_e}
 use Rattle.fixed_decimal.specs.Cut.{IsFirstCut}
 use Rattle.fixed_decimal.specs.Outcome.{and_then}
 use Rattle.fixed_decimal.specs.Scientific.{cut_at_e, read_parts, read_scientific, IsCutAtE, ReadsScientific}
-use Rattle.fixed_decimal.proofs.Cutting.{or-left, or-right, front-at, behind-at, any-at, count-none, count-some, count-at, first-cut}
+use Rattle.fixed_decimal.proofs.Cutting.{or-left, or-right, front-at, behind-at, count-none, count-some, count-at, first-cut}
 
 pub capital_uncut : (text : List ℕ) → list_any is_capital_e text ≡ true → cut_at_e text ≡ Err syntax
 unfolding cut_at_e

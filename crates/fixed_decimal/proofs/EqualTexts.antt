@@ -1,5 +1,5 @@
 -- What the answer of a test for equality tells of two values and of their texts.
-use Rattle.std.proofs.Common.{◌≡◌, ℕ, Bool, true, false, IsTrue, ◌↔◌, List, sym, ◌∙◌, ap}
+use Rattle.std.proofs.Common.{◌≡◌, ℕ, Bool, IsTrue, ◌↔◌, List, sym, ◌∙◌, ap}
 use Rattle.std.specs.Prelude.{Result, Ok}
 use Rattle.std.specs.Cmp.{both_ways}
 use Rattle.std.proofs.lemmas.Slice.Eq.{bytes_eq-Decides}

@@ -1,5 +1,5 @@
 -- The reading of an integer, by the grammar and of its text.
-use Rattle.std.proofs.Common.{◌≡◌, ℕ, List, refl, ◌∙◌, ap}
+use Rattle.std.proofs.Common.{◌≡◌, ℕ, List, refl, ap}
 use Rattle.std.specs.Prelude.{Ok, pos}
 use Rattle.decimal_unsigned.specs.Unsigned.{IsValue}
 use Rattle.decimal_unsigned.specs.Grammar.{Written}

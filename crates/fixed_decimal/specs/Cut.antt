@@ -1,6 +1,6 @@
 -- Private: only the contracts of private functions speak of these.
 -- Texts cut at a letter.
-use Rattle.std.specs.Prelude.{◌≡◌, ℕ, Bool, true, false, List, ◌∷◌, ◌++◌, Result, Ok, Err, MatchResult}
+use Rattle.std.specs.Prelude.{◌≡◌, ℕ, Bool, true, false, List, ◌∷◌, ◌++◌}
 use Rattle.std.specs.List.{list_any}
 
 -- the text is these parts with a letter between them that passes the test, and none in front passes it

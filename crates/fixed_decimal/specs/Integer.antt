@@ -1,5 +1,5 @@
 -- Integers: decimals that show no digit behind the dot.
-use Rattle.std.specs.Prelude.{◌≡◌, ℕ, if◌then◌else◌, List, Result, Ok, Err, MatchResult, ℤ, pos, int_lt, ◌<ℤ◌}
+use Rattle.std.specs.Prelude.{◌≡◌, ℕ, if◌then◌else◌, List, Result, Ok, Err, MatchResult, pos, int_lt, ◌<ℤ◌}
 use Rattle.decimal_unsigned.specs.Grammar.{Written}
 use Rattle.decimal_unsigned.specs.Reading.{Fault, syntax, limit, value_of}
 use Rattle.decimal_unsigned.specs.declared.error.LimitError.{LimitError}

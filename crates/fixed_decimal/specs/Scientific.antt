@@ -1,5 +1,5 @@
 -- A decimal times 10 to the power of an integer, both as they were written.
-use Rattle.std.specs.Prelude.{◌≡◌, ℕ, ◌<◌, ◌==◌, ◌⊎◌, ◌||◌, not, count_by, if◌then◌else◌, false, List, ◌∷◌, ◌++◌}
+use Rattle.std.specs.Prelude.{◌≡◌, ℕ, ◌==◌, ◌⊎◌, ◌||◌, not, count_by, if◌then◌else◌, false, List, ◌∷◌, ◌++◌}
 use Rattle.std.specs.Prelude.{Result, Ok, Err}
 use Rattle.std.specs.List.{list_any, before_first, after_first}
 use Rattle.decimal_unsigned.specs.Reading.{Fault, syntax, is_letter}
