@@ -198,15 +198,23 @@ const BY_INCREMENTS: &[(&[u8], Rounding)] = &[
     (b"7e32767", (32767, Unsigned(Trunc), MultiplesOf25)),
     (b"7e32767", (32767, Unsigned(Expand), MultiplesOf25)),
     (b"9e32766", (32766, Unsigned(Expand), MultiplesOf25)),
-];
-
-/// The steps of the chains from `4235.970`, each from what the step before left.
-const CHAIN: &[(i16, RoundingIncrement)] = &[
-    (-2, MultiplesOf2),
-    (-1, MultiplesOf5),
-    (0, MultiplesOf25),
-    (5, MultiplesOf5),
-    (2, MultiplesOf2),
+    (b"0", (0, Unsigned(Expand), MultiplesOf1)),
+    // The steps of chains from `4235.970`, each from what the step before leaves.
+    (b"4235.970", (-2, Unsigned(Trunc), MultiplesOf2)),
+    (b"4235.96", (-1, Unsigned(Trunc), MultiplesOf5)),
+    (b"4235.5", (0, Unsigned(Trunc), MultiplesOf25)),
+    (b"4225", (5, Unsigned(Trunc), MultiplesOf5)),
+    (b"00000", (2, Unsigned(Trunc), MultiplesOf2)),
+    (b"4235.970", (-2, Unsigned(Expand), MultiplesOf2)),
+    (b"4235.98", (-1, Unsigned(Expand), MultiplesOf5)),
+    (b"4236.0", (0, Unsigned(Expand), MultiplesOf25)),
+    (b"4250", (5, Unsigned(Expand), MultiplesOf5)),
+    (b"500000", (2, Unsigned(Expand), MultiplesOf2)),
+    (b"4235.970", (-2, Unsigned(HalfEven), MultiplesOf2)),
+    (b"4235.96", (-1, Unsigned(HalfEven), MultiplesOf5)),
+    (b"4236.0", (0, Unsigned(HalfEven), MultiplesOf25)),
+    (b"4225", (5, Unsigned(HalfEven), MultiplesOf5)),
+    (b"00000", (2, Unsigned(HalfEven), MultiplesOf2)),
 ];
 
 /// The decimal that a text writes.
@@ -288,6 +296,20 @@ fn rounded_by_name<D: DigitStore>(
     }
 }
 
+/// Rounds an absolute value by the call that takes it whole, and bears the mode's name where there is one.
+fn rounded_absolute_by_name<D: DigitStore>(
+    value: UnsignedOver<CountingStore<D>>,
+    position: i16,
+    mode: UnsignedRoundingMode,
+) -> UnsignedOver<CountingStore<D>> {
+    match mode {
+        Expand => value.expanded(position),
+        Trunc => value.trunced(position),
+        HalfEven => value.rounded(position),
+        _ => value.rounded_with_mode(position, mode),
+    }
+}
+
 /// Starts the count, and gives the most digits that a rounding may touch and leave.
 fn most<D: DigitStore>(store: &CountingStore<D>) -> usize {
     store.restart();
@@ -345,6 +367,23 @@ fn by_value_stays_within<D: DigitStore>(
     }
 }
 
+/// Whether a rounding of an absolute value by increment stays within the bound.
+fn absolute_by_value_stays_within<D: DigitStore>(
+    alloc: Global,
+    text: &[u8],
+    (position, mode, increment): Rounding,
+) -> Result<bool, Fail> {
+    let Unsigned(mode) = mode else {
+        return Ok(true);
+    };
+    let Signed { sign: _, absolute } = read_counting::<D>(alloc, text)?;
+    let most = most(absolute.store());
+    match absolute.rounded_with_mode_and_increment(position, mode, increment) {
+        Ok(left) => Ok(is_within(left.store(), most)),
+        Err(_) => Err(Fail::new("memory was refused")),
+    }
+}
+
 /// Whether a rounding of a value by name stays within the bound.
 fn by_name_stays_within<D: DigitStore>(
     alloc: Global,
@@ -355,6 +394,22 @@ fn by_name_stays_within<D: DigitStore>(
     let value = read_counting::<D>(alloc, text)?;
     let most = most(value.store());
     Ok(is_within(rounded_by_name(value, position, mode).store(), most))
+}
+
+/// Whether a rounding of an absolute value by name stays within the bound.
+fn absolute_by_name_stays_within<D: DigitStore>(
+    alloc: Global,
+    text: &[u8],
+    position: i16,
+    mode: SignedRoundingMode,
+) -> Result<bool, Fail> {
+    let Unsigned(mode) = mode else {
+        return Ok(true);
+    };
+    let Signed { sign: _, absolute } = read_counting::<D>(alloc, text)?;
+    let most = most(absolute.store());
+    let left = rounded_absolute_by_name(absolute, position, mode);
+    Ok(is_within(left.store(), most))
 }
 
 /// Whether each of these calls stays within the bound.
@@ -372,7 +427,10 @@ fn all_stay_within<D: DigitStore>(
             return Ok(false);
         }
     }
-    by_value_stays_within::<D>(alloc, text, rounding)
+    Ok(
+        by_value_stays_within::<D>(alloc, text, rounding)?
+            && absolute_by_value_stays_within::<D>(alloc, text, rounding)?,
+    )
 }
 
 /// Whether each call that rounds to multiples of 1 stays within the bound.
@@ -385,27 +443,22 @@ fn ones_stay_within<D: DigitStore>(
     if !all_stay_within::<D>(alloc, text, ALL, (position, mode, MultiplesOf1))? {
         return Ok(false);
     }
-    by_name_stays_within::<D>(alloc, text, position, mode)
+    Ok(
+        by_name_stays_within::<D>(alloc, text, position, mode)?
+            && absolute_by_name_stays_within::<D>(alloc, text, position, mode)?,
+    )
 }
 
-/// Whether each step of the chain by a mode stays within the bound.
-fn chain_stays_within<D: DigitStore>(
+/// Whether each call that can make this rounding stays within the bound.
+fn row_stays_within<D: DigitStore>(
     alloc: Global,
-    mode: UnsignedRoundingMode,
+    text: &[u8],
+    (position, mode, increment): Rounding,
 ) -> Result<bool, Fail> {
-    let mut value = read_counting::<D>(alloc, b"4235.970")?;
-    for (position, increment) in CHAIN {
-        let most = most(value.store());
-        round_by(
-            &mut value,
-            Form::ByIncrement,
-            (*position, Unsigned(mode), *increment),
-        )?;
-        if !is_within(value.store(), most) {
-            return Ok(false);
-        }
+    if increment == MultiplesOf1 {
+        return ones_stay_within::<D>(alloc, text, position, mode);
     }
-    Ok(true)
+    all_stay_within::<D>(alloc, text, WITH_INCREMENT, (position, mode, increment))
 }
 
 /// A text of 32,768 digits of a kind, a dot, and as many more.
@@ -444,18 +497,8 @@ fn near_one(rt: HostRuntime) -> Result<(), Fail> {
 fn increments(rt: HostRuntime) -> Result<(), Fail> {
     let alloc = rt.alloc();
     for (text, rounding) in BY_INCREMENTS {
-        assert!(rt; all_stay_within::<DigitList>(alloc, text, WITH_INCREMENT, *rounding)?);
-        assert!(rt; all_stay_within::<PackedDigits>(alloc, text, WITH_INCREMENT, *rounding)?);
-    }
-    Ok(())
-}
-
-#[test]
-fn chains(rt: HostRuntime) -> Result<(), Fail> {
-    let alloc = rt.alloc();
-    for mode in [Trunc, Expand, HalfEven] {
-        assert!(rt; chain_stays_within::<DigitList>(alloc, mode)?);
-        assert!(rt; chain_stays_within::<PackedDigits>(alloc, mode)?);
+        assert!(rt; row_stays_within::<DigitList>(alloc, text, *rounding)?);
+        assert!(rt; row_stays_within::<PackedDigits>(alloc, text, *rounding)?);
     }
     Ok(())
 }
