@@ -1,5 +1,5 @@
 -- What is left below a place, and what a mode makes of it.
-use Rattle.std.proofs.Common.{ℕ, ◌≡◌, ◌+◌, ◌-◌, ◌*◌, ◌/◌, ◌%◌, ◌<◌, ◌≤◌, ◌==◌, cond, refl, ◌∙◌, ap, arith, Bool, true, false}
+use Rattle.std.proofs.Common.{ℕ, ◌≡◌, ◌+◌, ◌-◌, ◌*◌, ◌/◌, ◌%◌, ◌<◌, ◌≤◌, ◌==◌, cond, refl, sym, ◌∙◌, ap, arith, Bool, true, false}
 use Rattle.std.proofs.Math.Nat.{mul-le-mul_right, mul-pos, div-add-mod'}
 use Rattle.std.proofs.lemmas.Nat.{div-mul-add, mod-mul-add}
 use Rattle.std.proofs.lemmas.Bool.Decides.{nat_tests}
@@ -132,6 +132,18 @@ two_by mode increment tail left s two result up step part goes made hundreds r p
     rw (← step, made, goes) (ap (rounded_number mode (s * place)) (taken_apart h s (two / s) (two % s) two hundreds place half whole r)
     ∙ rounded_by q (s * place) (two % s * place + r) (two / s % 2 == 1) (below_unit left _ _ (mul-pos pos p) (part r place p is)) parity mode left (part r place p is)
     ∙ put_together h s (two / s) (two % s) two hundreds place half whole (goes_up_of mode left (two / s % 2 == 1)))
+
+-- the same, where what is left over and the quotient's parity have names of their own
+pub two_split : (mode : UnsignedRoundingMode) (increment : RoundingIncrement) (tail left : Tail) (s two rest result : ℕ) (odd up : Bool) → s ≡ step_of increment
+    → rest ≡ two % step_of increment → odd ≡ (two / step_of increment % 2 == 1)
+    → ((r place : ℕ) → 0 < place → TailIs tail r place → TailIs left (rest * place + r) (s * place))
+    → up ≡ goes_up_of mode left odd
+    → result ≡ two - rest + cond up s 0
+    → (hundreds : ℕ) → RoundsTo mode (step_of increment) tail (100 * hundreds + two) (100 * hundreds + result)
+two_split mode increment tail left s two rest result odd up step is_rest is_odd part goes made =
+    let r : rest ≡ two % s = is_rest ∙ ap (λ v. two % v) (sym step) in
+    let o : odd ≡ (two / s % 2 == 1) = is_odd ∙ ap (λ v. two / v % 2 == 1) (sym step) in
+    two_by mode increment tail left s two result up step (rw r at part) (rw o at goes) (rw r at made)
 
 -- a rounding, under equations of the two numbers
 pub rounds_as : (mode : UnsignedRoundingMode) (step : ℕ) (tail : Tail) (k m k' m' : ℕ) → RoundsTo mode step tail k m → k' ≡ k → m' ≡ m → RoundsTo mode step tail k' m'

@@ -127,11 +127,12 @@ impl UnsignedInteger for u128 {
 
     #[inline]
     fn split_last_digit(self) -> Option<(u8, u128)> {
-        if self == 0 {
-            None
-        } else {
-            Some(((self % 10) as u8, self / 10))
+        // A division of 64 bits is far faster, and each integer comes down to them.
+        if let Ok(short) = u64::try_from(self) {
+            let (digit, rest) = short.split_last_digit()?;
+            return Some((digit, rest as u128));
         }
+        Some(((self % 10) as u8, self / 10))
     }
 }
 

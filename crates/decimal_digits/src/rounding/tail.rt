@@ -1,5 +1,5 @@
 //! What is left below a place, and which way a mode goes by it.
-ghost use Rattle.std.specs.Prelude.{◌≡◌, ℕ, ◌+◌, ◌*◌, ◌%◌, ◌<◌, ◌≤◌};
+ghost use Rattle.std.specs.Prelude.{◌≡◌, ℕ, ◌+◌, ◌*◌, ◌/◌, ◌%◌, ◌<◌, ◌≤◌, ◌==◌};
 ghost use Rattle.decimal_digits.specs.Rounding.{step_of};
 ghost use Rattle.decimal_digits.specs.Tails.{TailIs, RoundsTo, goes_up_of};
 
@@ -29,6 +29,22 @@ fn step(increment: RoundingIncrement) -> u8
         RoundingIncrement::MultiplesOf2 => 2,
         RoundingIncrement::MultiplesOf5 => 5,
         RoundingIncrement::MultiplesOf25 => 25,
+    }
+}
+
+/// Splits a number by an increment: gives what is left over, and whether the quotient is odd.
+///
+/// Each increment has a division of its own, for one by a constant is far faster than one by a number in a variable.
+#[inline]
+fn split_by(increment: RoundingIncrement, number: u8) -> (u8, bool)
+    ensures rest { result.0 ≡ number % step_of increment }
+    ensures odd { result.1 ≡ (number / step_of increment % 2 == 1) }
+{
+    match increment {
+        RoundingIncrement::MultiplesOf1 => (0, number % 2 == 1),
+        RoundingIncrement::MultiplesOf2 => (number % 2, number / 2 % 2 == 1),
+        RoundingIncrement::MultiplesOf5 => (number % 5, number / 5 % 2 == 1),
+        RoundingIncrement::MultiplesOf25 => (number % 25, number / 25 % 2 == 1),
     }
 }
 
@@ -83,8 +99,7 @@ pub fn rounded_two(
     ensures stays { tail ≡ Tail.Zero → two % step_of increment ≡ 0 → result ≡ two }
 {
     let step = step(increment);
-    let rest = two % step;
-    let odd = two / step % 2 == 1;
+    let (rest, odd) = split_by(increment, two);
     if goes_up(mode, part_of(step, rest, tail), odd) {
         two - rest + step
     } else {

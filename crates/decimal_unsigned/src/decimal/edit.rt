@@ -219,12 +219,14 @@ fn first_nonzero<D: DigitStore>(digits: &D, from: usize) -> usize
     digits.len()
 }
 
-/// Drops the first digits, and touches nothing where there are none to drop.
+/// Drops the first digits, and moves none where there are none to drop or none to keep.
 fn drop_front<D: DigitStore>(digits: &mut D, count: usize)
     requires { count ≤ length (D.digits digits.old) }
     ensures { D.digits digits.new ≡ drop count (D.digits digits.old) }
 {
-    if count > 0 {
+    if count == digits.len() {
+        digits.clear();
+    } else if count > 0 {
         digits.cut_front(count);
     }
 }
