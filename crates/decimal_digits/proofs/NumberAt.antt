@@ -1,5 +1,5 @@
 -- What a list of digits is worth at its places.
-use Rattle.std.proofs.Common.{◌≡◌, ℕ, ◌+◌, ◌-◌, ◌*◌, ◌%◌, ◌^◌, ◌<◌, ◌≤◌, List, [], ◌∷◌, ◌++◌, length, get_or, take, drop, set, sym, ◌∙◌, ap, arith}
+use Rattle.std.proofs.Common.{◌≡◌, ℕ, zero, suc, ◌+◌, ◌-◌, ◌*◌, ◌%◌, ◌^◌, ◌<◌, ◌≤◌, List, [], ◌∷◌, ◌++◌, length, get_or, take, drop, set, sym, ◌∙◌, ap, subst, arith}
 use Rattle.std.proofs.Math.Nat.{mul-le-mul_right, mul-lt-mul_of_pos_right, mul-pos, mod-le}
 use Rattle.std.proofs.lemmas.Nat.{pow-add}
 use Rattle.std.proofs.lemmas.List.{take-append-drop, length-take-le, length-drop, length-append, take_all, take-take, take_more, take_more_set, length-set}
@@ -93,6 +93,26 @@ zero_passed top k ds p h l z e = omega (arith, number_at-take top k ds p h l, ap
 -- a 9 and one more are one more in front of it
 pub nine_passed : (top k : ℕ) (ds : List ℕ) → 0 < k → k ≤ length ds → k ≤ top → get_or ds (k - 1) 0 ≡ 9 → number_at top (take k ds) + 10 ^ (top - k) ≡ number_at top ds + 1 → number_at top (take (k - 1) ds) + 10 ^ (top - (k - 1)) ≡ number_at top ds + 1
 nine_passed top k ds p h l z e = omega (arith, number_at-take top k ds p h l, ap (λ d. d * 10 ^ (top - k)) z, powers (top - k) 1 (top - (k - 1)) (omega arith))
+
+-- a run of zeros counts nothing
+pub zeros_passed : (n k : ℕ) (ds : List ℕ) → k + n ≡ length ds → ((i : ℕ) → length ds ≤ i + n → i < length ds → get_or ds i 0 ≡ 0) → number_at (length ds) (take k ds) ≡ number_at (length ds) ds
+zeros_passed zero k ds e z = ap (number_at (length ds)) (take_all k ds (omega arith))
+zeros_passed (suc n) k ds e z =
+    let one : k + 1 - 1 ≡ k = omega arith in
+    let zero_here : get_or ds (k + 1 - 1) 0 ≡ 0 = z (k + 1 - 1) (omega arith) (omega arith) in
+    let more = zeros_passed n (k + 1) ds (omega arith) (λ i h. z i (omega arith)) in
+    subst (λ j. number_at (length ds) (take j ds) ≡ number_at (length ds) ds) one (zero_passed (length ds) (k + 1) ds (omega arith) (omega arith) (omega arith) zero_here more)
+
+-- a run of nines and one more are one more in front of it
+pub nines_passed : (n k : ℕ) (ds : List ℕ) → k + n ≡ length ds → ((i : ℕ) → length ds ≤ i + n → i < length ds → get_or ds i 0 ≡ 9) → number_at (length ds) (take k ds) + 10 ^ (length ds - k) ≡ number_at (length ds) ds + 1
+nines_passed zero k ds e z =
+    let none : length ds - k ≡ 0 = omega arith in
+    omega (arith, ap (number_at (length ds)) (take_all k ds (omega arith)), ap (λ i. 10 ^ i) none)
+nines_passed (suc n) k ds e z =
+    let one : k + 1 - 1 ≡ k = omega arith in
+    let nine_here : get_or ds (k + 1 - 1) 0 ≡ 9 = z (k + 1 - 1) (omega arith) (omega arith) in
+    let more = nines_passed n (k + 1) ds (omega arith) (λ i h. z i (omega arith)) in
+    subst (λ j. number_at (length ds) (take j ds) + 10 ^ (length ds - j) ≡ number_at (length ds) ds + 1) one (nine_passed (length ds) (k + 1) ds (omega arith) (omega arith) (omega arith) nine_here more)
 
 -- one more in the last digit
 pub nines_end : (top k d : ℕ) (ds : List ℕ) → 0 < k → k ≤ length ds → k ≤ top → d ≡ get_or ds (k - 1) 0 → number_at top (take k ds) + 10 ^ (top - k) ≡ number_at top ds + 1 → number_at top (set (take k ds) (k - 1) (d + 1)) ≡ number_at top ds + 1

@@ -1,5 +1,5 @@
-//! The two passes over the end of a list: both stop at the first digit that stays, so each turn but the last is paid by
-//! a digit that vanishes.
+//! The two passes over the end of a list: both stop at the first digit that stays, so each digit that is read, but the
+//! last one, is paid by one that vanishes.
 ghost use Rattle.std.specs.Prelude.{◌≡◌, ◌+◌, ◌<◌, ◌≤◌, length, slice_index};
 ghost use Rattle.decimal_digits.specs.Counted.{list_of, turns_of, Continues};
 ghost use Rattle.decimal_digits.specs.Digits.{number_at, IsStripped};
@@ -19,14 +19,9 @@ pub fn strip<D: DigitStore>(counted: &mut Counted<'_, D>)
         ≤ turns_of counted.old + length (D.digits (list_of counted.old)) + 1 }
     ensures lent { Continues counted.old counted.new }
 {
-    let mut keep = counted.len();
-    while keep > 0 {
-        if counted.get(keep - 1) != 0 {
-            break;
-        }
-        keep -= 1;
-    }
-    counted.truncate(keep);
+    let len = counted.len();
+    let zeros = counted.count_back(len, 0);
+    counted.truncate(len - zeros);
 }
 
 /// Adds one at the end, drops the zeros that this leaves there, and says how many places the digits have.
@@ -42,21 +37,19 @@ pub fn add_one<D: DigitStore>(counted: &mut Counted<'_, D>) -> usize
     ensures some { 0 < length (D.digits (list_of counted.new)) }
     ensures stripped { IsStripped (D.digits (list_of counted.new)) }
     ensures turns { turns_of counted.new + length (D.digits (list_of counted.new))
-        ≤ turns_of counted.old + length (D.digits (list_of counted.old)) + 2 }
+        ≤ turns_of counted.old + length (D.digits (list_of counted.old)) + 3 }
     ensures lent { Continues counted.old counted.new }
 {
     let places = counted.len();
-    let mut keep = places;
-    while keep > 0 {
-        let digit = counted.get(keep - 1);
-        if digit < 9 {
-            counted.truncate(keep);
-            counted.set(keep - 1, digit + 1);
-            return places;
-        }
-        keep -= 1;
+    let nines = counted.count_back(places, 9);
+    if nines == places {
+        counted.clear();
+        counted.push_in_room(1);
+        return places + 1;
     }
-    counted.clear();
-    counted.push_in_room(1);
-    places + 1
+    let last = places - nines - 1;
+    let digit = counted.get(last);
+    counted.truncate(last + 1);
+    counted.set(last, digit + 1);
+    places
 }

@@ -1,10 +1,11 @@
-use Rattle.std.proofs.Common.{arith}
+use Rattle.std.proofs.Common.{◌-◌, length, arith}
 use Rattle.std.proofs.lemmas.Grind.{common_steps}
-use Rattle.decimal_digits.proofs.NumberAt.{zero_passed}
+use Rattle.decimal_digits.proofs.NumberAt.{zeros_passed}
 use Rattle.decimal_digits.proofs.rounding.ends.strip.Goals as goal
 
-pub loop-keep-preserved : goal.loop-keep-preserved
-loop-keep-preserved g c =
-    let i = c.loop-keep.invariant in
-    let value = zero_passed _ c.loop-keep.keep (g.D.DigitStore.digits c.loop-keep.counted.list.now) (omega arith) i.within i.within (omega arith) i.value in
+pub returns-clause-value : goal.returns-clause-value
+returns-clause-value g c =
+    let ds = g.D.DigitStore.digits c.args.counted.now.list.now in
+    let zeros = c.count_back-zeros in
+    let value = zeros_passed zeros.result (length ds - zeros.result) ds (omega arith) (λ i h l. zeros.ensures.equal i (omega arith) (omega arith)) in
     grind (arith, common_steps)
