@@ -1,5 +1,5 @@
 //! Rounding of the digits that are kept, by what follows them.
-ghost use Rattle.std.specs.Prelude.{◌≡◌, ℕ, ◌+◌, ◌-◌, ◌^◌, ◌<◌, ◌≤◌, ◌↔◌, length, drop, IfOk, OnErr};
+ghost use Rattle.std.specs.Prelude.{◌≡◌, ℕ, ◌+◌, ◌-◌, ◌^◌, ◌<◌, ◌≤◌, ◌↔◌, length, drop, slice_index, IfOk, OnErr};
 ghost use Rattle.decimal_digits.specs.Counted.{list_of, turns_of, Continues, OnlyReads};
 ghost use Rattle.decimal_digits.specs.Digits.{number_at, IsStripped};
 ghost use Rattle.decimal_digits.specs.Rounding.{step_of};
@@ -29,6 +29,24 @@ pub fn tail_after<D: DigitStore>(counted: &mut Counted<'_, D>, keep: usize) -> T
         0..=4 => Tail::BelowHalf,
         5 if keep + 1 == len => Tail::Half,
         _ => Tail::AboveHalf,
+    }
+}
+
+/// Keeps the first `keep` digits as they are, and drops the zeros at their end. The last of them is given.
+fn cut<D: DigitStore>(counted: &mut Counted<'_, D>, keep: usize, last: u8)
+    requires fewer { keep < length (D.digits (list_of counted.old)) }
+    requires last { 0 < keep → last ≡ slice_index (D.digits (list_of counted.old)) (keep - 1) }
+    requires front { 0 < slice_index (D.digits (list_of counted.old)) 0 }
+    ensures value { number_at keep (D.digits (list_of counted.new)) ≡ leading keep (D.digits (list_of counted.old)) }
+    ensures length { length (D.digits (list_of counted.new)) ≤ keep }
+    ensures stripped { IsStripped (D.digits (list_of counted.new)) }
+    ensures turns { turns_of counted.new + length (D.digits (list_of counted.new))
+        ≤ turns_of counted.old + length (D.digits (list_of counted.old)) }
+    ensures lent { Continues counted.old counted.new }
+{
+    counted.truncate(keep);
+    if keep > 0 && last == 0 {
+        strip(counted);
     }
 }
 
@@ -63,20 +81,22 @@ pub fn round_kept<D: DigitStore>(
 {
     let two = two_at(counted, keep);
     let rounded = rounded_two(two, tail, mode, increment);
-    if tail == Tail::Zero && rounded == two {
+    if rounded == two {
+        if tail != Tail::Zero {
+            cut(counted, keep, two % 10);
+        }
         return Ok(keep);
     }
     if keep <= 2 {
         return Ok(write_all(counted, rounded));
     }
-    if rounded == 0 {
+    if rounded % 100 == 0 {
         counted.truncate(keep - 2);
+        if rounded == 100 {
+            return Ok(add_one(counted) + 2);
+        }
         strip(counted);
         return Ok(keep);
-    }
-    if rounded == 100 {
-        counted.truncate(keep - 2);
-        return Ok(add_one(counted) + 2);
     }
     write_two(counted, keep, rounded)?;
     Ok(keep)

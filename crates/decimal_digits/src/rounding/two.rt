@@ -25,6 +25,7 @@ pub fn two_at<D: DigitStore>(counted: &mut Counted<'_, D>, keep: usize) -> u8
     ensures two { result < 100 }
     ensures value { leading keep (D.digits (list_of counted.old))
         ≡ 100 * leading (keep - 2) (D.digits (list_of counted.old)) + result }
+    ensures last { 0 < keep → result % 10 ≡ slice_index (D.digits (list_of counted.old)) (keep - 1) }
     ensures past { length (D.digits (list_of counted.old)) < keep → result % 10 ≡ 0 }
     ensures none { length (D.digits (list_of counted.old)) + 2 ≤ keep → result ≡ 0 }
     ensures reads { OnlyReads 2 counted.old counted.new }

@@ -28,7 +28,7 @@ returns-then-rounded-eq0-clause-value g c =
 pub returns-then-rounded-eq100-clause-value : goal.returns-then-rounded-eq100-clause-value
 returns-then-rounded-eq100-clause-value g c =
     let ds = g.D.DigitStore.digits c.args.counted.now.list.now in
-    let xs = g.D.DigitStore.digits c.truncate-then-rounded-eq100.new.self.list.now in
+    let xs = g.D.DigitStore.digits c.truncate.new.self.list.now in
     let within : c.args.keep - 2 ≤ length ds = grind (arith, common_steps) in
     let is : xs ≡ take (c.args.keep - 2) ds = cc in
     rounds_as c.args.mode (step_of c.args.increment) c.args.tail _ _ _ _ (c.rounded_two-rounded.ensures.rounds (leading (c.args.keep - 2) ds)) c.two_at-two.ensures.value
