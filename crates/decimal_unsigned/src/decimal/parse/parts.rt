@@ -8,7 +8,7 @@ ghost use Rattle.decimal_unsigned.specs.Reading as read;
 ghost use Rattle.decimal_unsigned.specs.Parts.{view, views, saturated, IsSaturated, saturated_parts};
 
 /// The digits in front of the dot and behind it, and the exponent.
-#[derive(Clone, Copy)]
+#[derive(Clone, Copy, Debug)]
 pub struct Parts<'a> {
     pub whole: &'a [u8],
     pub fraction: &'a [u8],
