@@ -13,3 +13,6 @@ pub mod Results
 pub mod Halves
 pub mod HalfPasses
 pub mod Packing
+pub mod Refills
+pub mod DigitTexts
+pub mod HalfRuns
