@@ -119,9 +119,9 @@ fn digits_between<D: DigitStore>(
 {
     let mut list = D::empty(alloc);
     list.reserve(end - start)?;
-    for i in start..end {
-        list.push_in_room(parts.digit(i));
-    }
+    let (front, behind) = parts.between(start, end);
+    list.push_text(front);
+    list.push_text(behind);
     Ok(list)
 }
 
