@@ -1,11 +1,13 @@
 -- What the digits between the zeros are worth.
-use Rattle.std.proofs.Common.{◌≡◌, ℕ, suc, ◌+◌, ◌-◌, ◌*◌, ◌^◌, ◌<◌, ◌≤◌, List, [], ◌∷◌, length, get_or, take, drop, refl, sym, ◌∙◌, ap, subst, arith}
+use Rattle.std.proofs.Common.{◌≡◌, ℕ, suc, ◌+◌, ◌-◌, ◌*◌, ◌^◌, ◌<◌, ◌≤◌, List, [], ◌∷◌, length, get_or, take, drop, ◌++◌, map, min, refl, sym, ◌∙◌, ap, subst, arith}
 use Rattle.std.specs.Prelude.{ℤ, pos, ◌-ℤ◌}
 use Rattle.std.proofs.lemmas.Int.{ints}
 use Rattle.std.proofs.lemmas.Nat.{pow-add}
 use Rattle.std.proofs.Common.{inl, inr}
 use Rattle.std.proofs.lemmas.Bool.{cases_lt}
-use Rattle.std.proofs.lemmas.List.{length-drop, length-take, length-take-le, get_or-take, get_or-drop}
+use Rattle.std.proofs.Math.Seq.{drop-append-add, take-append-add}
+use Rattle.std.proofs.lemmas.List.{append-nil, length-map, map-append, take-map, drop-map, drop-append-le, take-append-le, take_all, length-drop, length-take, length-take-le, get_or-take, get_or-drop}
+use Rattle.std.specs.Char.{digit_value}
 use Rattle.std.specs.Int.Digits.{number_from_digits, AllBelowBase}
 use Rattle.decimal_digits.specs.Number.{place}
 use Rattle.decimal_digits.specs.Digits.{number_of, number_at}
@@ -81,3 +83,57 @@ inner ds start end p w before front after back =
       | inr h ↦ omega arith
     ] in
     record { ordered = s; within = w; before = before; after = after; front = front (omega arith); back = back p }
+
+-- ---- The digits of two lists, one behind the other.
+middle_front : (a b : List ℕ) (start end : ℕ) → start ≤ end → end ≤ length a → middle start end (a ++ b) ≡ middle start end a
+middle_front a b start end p q =
+    let s : start ≤ length a = omega arith in
+    rw (drop-append-le start a b s) (take-append-le (end - start) (drop start a) b (omega (arith, length-drop start a)))
+
+middle_both : (a b : List ℕ) (start end : ℕ) → start ≤ length a → length a ≤ end → middle start end (a ++ b) ≡ drop start a ++ take (end - length a) b
+middle_both a b start end p q =
+    let n : end - start ≡ length (drop start a) + (end - length a) = omega (arith, length-drop start a) in
+    rw (drop-append-le start a b p, n) (take-append-add (drop start a) b (end - length a))
+
+middle_behind : (a b : List ℕ) (start end : ℕ) → length a ≤ start → middle start end (a ++ b) ≡ middle (start - length a) (end - length a) b
+middle_behind a b start end p =
+    let d : drop start (a ++ b) ≡ drop (start - length a) b = (let k : start ≡ length a + (start - length a) = omega arith in ap (λ k. drop k (a ++ b)) k) ∙ drop-append-add a b (start - length a) in
+    let n : end - start ≡ (end - length a) - (start - length a) = omega arith in
+    rw (d, n) refl
+
+-- those of the first list up to its end, and those of the second one from its beginning on
+pub middle_append : (a b : List ℕ) (start end : ℕ) → start ≤ end → middle start end (a ++ b)
+    ≡ middle (min start (length a)) (min end (length a)) a ++ middle (start - length a) (end - length a) b
+middle_append a b start end p = elim (cases_lt (length a) end) [
+  | inr q ↦
+      let s : min start (length a) ≡ start = omega arith in
+      let e : min end (length a) ≡ end = omega arith in
+      let z : (end - length a) - (start - length a) ≡ 0 = omega arith in
+      rw (s, e, z) (middle_front a b start end p q ∙ sym (append-nil (middle start end a)))
+  | inl q ↦ elim (cases_lt (length a) start) [
+    | inr r ↦
+        let s : min start (length a) ≡ start = omega arith in
+        let e : min end (length a) ≡ length a = omega arith in
+        let z : start - length a ≡ 0 = omega arith in
+        let whole : middle start (length a) a ≡ drop start a = take_all (length a - start) (drop start a) (omega (arith, length-drop start a)) in
+        let y : (end - length a) - 0 ≡ end - length a = omega arith in
+        rw (s, e, z, whole, y) (middle_both a b start end r (omega arith))
+    | inl r ↦
+        let s : min start (length a) ≡ length a = omega arith in
+        let e : min end (length a) ≡ length a = omega arith in
+        let z : length a - length a ≡ 0 = omega arith in
+        rw (s, e, z) (middle_behind a b start end (omega arith))
+  ]
+]
+
+middle-map : (f : ℕ → ℕ) (start end : ℕ) (xs : List ℕ) → map f (middle start end xs) ≡ middle start end (map f xs)
+middle-map f start end xs = sym (take-map f (end - start) (drop start xs)) ∙ ap (take (end - start)) (sym (drop-map f start xs))
+
+-- the same of two texts and the digits that they write
+pub middle_written : (a b : List ℕ) (start end : ℕ) → start ≤ end
+    → map digit_value (middle (min start (length a)) (min end (length a)) a) ++ map digit_value (middle (start - length a) (end - length a) b)
+    ≡ middle start end (map digit_value (a ++ b))
+middle_written a b start end p =
+    let l : length (map digit_value a) ≡ length a = length-map a digit_value in
+    rw (middle-map digit_value (min start (length a)) (min end (length a)) a, middle-map digit_value (start - length a) (end - length a) b, map-append digit_value a b)
+    (sym (rw l at (middle_append (map digit_value a) (map digit_value b) start end p)))

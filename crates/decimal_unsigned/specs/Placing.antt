@@ -2,9 +2,11 @@
 -- Which digits of the parts make the value, and where they lie.
 use Rattle.std.specs.Prelude.{◌≡◌, ℕ, ◌-◌, ◌≤◌, ◌<◌, if◌then◌else◌, List, ◌++◌, length, take, drop, map, slice_index, ℤ, pos, negsuc, ◌+ℤ◌, ◌≤ℤ◌, int_lt, Ok}
 use Rattle.std.specs.Char.{digit_value}
+use Rattle.std.specs.Str.Parse.{AllDigits}
 use Rattle.std.specs.Int.{int_max, int_min}
 use Rattle.decimal_digits.specs.Digits.{number_of}
 use Rattle.decimal_unsigned.specs.Fields.{IsStored}
+use Rattle.decimal_unsigned.specs.Unsigned.{Unsigned}
 use Rattle.decimal_unsigned.specs.Grammar.{Written}
 use Rattle.decimal_unsigned.specs.Reading.{value_of}
 
@@ -33,10 +35,19 @@ pub record IsInner (ds : List ℕ) (start end : ℕ) : Type 0 where
   pub front : 0 < slice_index ds start
   pub back : 0 < slice_index ds (end - 1)
 
+-- the value that these digits make, of which the first stands at a magnitude
+abbrev pub made : Written → ℕ → ℕ → ℤ → ℤ → ℤ → Unsigned
+made w start end magnitude hi lo =
+    record { number = number_of (middle start end (digits_of w)) magnitude; hi = hi; lo = lo }
+
 -- the value of the parts is made of these digits
 pub record Makes (w : Written) (start end : ℕ) (magnitude hi lo : ℤ) : Type 0 where
   pub ordered : start ≤ end
   pub within : end ≤ length (digits_of w)
   pub stored : IsStored (middle start end (digits_of w)) magnitude hi lo
-  pub value :
-      value_of w ≡ Ok (record { number = number_of (middle start end (digits_of w)) magnitude; hi = hi; lo = lo })
+  pub value : value_of w ≡ Ok (made w start end magnitude hi lo)
+
+-- the parts are digits, and their value is made of these
+pub record IsScanned (w : Written) (start end : ℕ) (magnitude hi lo : ℤ) : Type 0 where
+  pub digits : AllDigits 10 (w.whole ++ w.fraction)
+  pub makes : Makes w start end magnitude hi lo

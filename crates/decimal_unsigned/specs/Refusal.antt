@@ -18,11 +18,6 @@ abbrev pub Answers : {V : Type 0} → (V → Type 0) → Result V ParseError →
 Answers wants (Ok v) reading = reading ≡ Ok v
 Answers wants (Err e) reading = Refuses (IsOkAnd reading wants) e reading
 
--- as a parser answers that has no use for the value, and never wants memory
-abbrev pub AnswersFault : {V : Type 0} → Result (Unit {0}) ParseError → Result V Fault → Type 0
-AnswersFault (Ok _) reading = IsOkAnd reading (λ _. Unit {0})
-AnswersFault (Err e) reading = Refuses ⊥ e reading
-
 -- the answer by the grammar: Syntax for a text without parts and for no other, Limit where the parts are beyond the
 -- limits and nowhere else, and the value of the parts
 pub record AnswersGrammar (text : List ℕ) (answer : Result Unsigned ParseError) : Type 0 where

@@ -16,7 +16,7 @@ mod text;
 
 use decimal_digits::digits::{DigitList, DigitStore, PackedDigits};
 use decimal_digits::ops::{index_of, magnitude_of};
-pub use parse::{lowest_of, numeral};
+pub use parse::{Scan, lowest_of, numeral};
 use std::alloc::Global;
 use std::marker::Model;
 use std::ops::RangeInclusive;

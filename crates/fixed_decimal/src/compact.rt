@@ -10,9 +10,9 @@ ghost use Rattle.fixed_decimal.specs.Equal.{same_text, same_text_laws};
 ghost use Rattle.fixed_decimal.specs.Compact.{compact, compact_text, small_number_of, cut_at_c, read_exponent};
 ghost use Rattle.fixed_decimal.specs.Compact.{read_compact, ReadsCompact, HasLongSignificand};
 
-use crate::cut::{cut_at, lowest_of_decimal};
+use crate::cut::cut_at;
 use crate::integer::recall_value;
-use crate::signed_decimal::Decimal;
+use crate::signed_decimal::{Decimal, scan_decimal};
 use decimal_digits::sink::{Sink, SinkFault, Writeable};
 use decimal_unsigned::ParseError;
 use decimal_unsigned::decimal::{DIGITS_IN_PLACE, numeral};
@@ -181,9 +181,9 @@ impl CompactDecimal {
         ensures reads { ReadsCompact text.now (read_compact text.now) }
     {
         let (significand, exponent) = cut_at_c(text.as_bytes())?;
-        lowest_of_decimal(significand)?;
+        let significand = scan_decimal(significand)?;
         let exponent = read_exponent(exponent)?;
-        let significand = Decimal::try_from_utf8(alloc, significand)?;
+        let significand = significand.decimal(alloc)?;
         Ok(Self::from_significand_and_exponent(significand, exponent))
     }
 

@@ -1,10 +1,10 @@
 //! The decimal without digits behind the dot.
-ghost use Rattle.std.specs.Prelude.{◌≡◌, ◌<◌, ◌≤◌, ◌↔◌, length, pos, true, IsTrue, Ok, OnOk, OnErr, IfOk, IsOk};
+ghost use Rattle.std.specs.Prelude.{◌≡◌, ◌<◌, ◌≤◌, ◌↔◌, length, pos, ◌≤ℤ◌, true, IsTrue, Ok, OnOk, OnErr, IfOk, IfErr, IsOk};
 ghost use Rattle.std.specs.Io.KnownBytes.{Appends};
 ghost use Rattle.decimal_digits.specs.Number.{size};
 ghost use Rattle.decimal_digits.specs.Text.{AppendsBeginning};
 ghost use Rattle.decimal_unsigned.specs.Unsigned.{IsValue};
-ghost use Rattle.decimal_unsigned.specs.Refusal.{Answers, AnswersFault};
+ghost use Rattle.decimal_unsigned.specs.Refusal.{Refuses, Answers};
 ghost use Rattle.fixed_decimal.specs.Equal.{same_text, same_text_laws};
 ghost use Rattle.fixed_decimal.specs.Decimal.{zero_decimal};
 ghost use Rattle.fixed_decimal.specs.DecimalText.{decimal_text, IsLong};
@@ -12,10 +12,10 @@ ghost use Rattle.fixed_decimal.specs.Integer.{read_integer, ReadsInteger, IsConv
 
 mod from_integer;
 
-use crate::cut::lowest_of_decimal;
-use crate::signed_decimal::Decimal;
+use crate::signed_decimal::{Decimal, scan_decimal};
+use crate::variations::Signed;
 use decimal_digits::sink::{Sink, SinkFault, Writeable};
-use decimal_unsigned::decimal::DIGITS_IN_PLACE;
+use decimal_unsigned::decimal::{DIGITS_IN_PLACE, Scan};
 use decimal_unsigned::{LimitError, ParseError};
 use std::alloc::{AllocError, Global};
 use std::convert::TryFrom;
@@ -39,14 +39,17 @@ impl Model for FixedInteger {
     ghost invariant = { λ s. s.0.absolute.lo ≡ pos 0 };
 }
 
-/// Whether a text writes an integer, or why it writes none.
-pub(crate) fn check_integer(text: &[u8]) -> Result<(), ParseError>
-    ensures { AnswersFault result (read_integer text.now) }
+/// What a text that writes an integer writes, found with no memory.
+pub(crate) fn scan_integer(text: &[u8]) -> Result<Signed<Scan<'_>>, ParseError>
+    ensures value { IfOk result (λ scan. read_integer text.now ≡ Ok scan) }
+    ensures integer { IfOk result (λ scan. pos 0 ≤ℤ scan.absolute.lo) }
+    ensures fault { IfErr result (λ e. Refuses ⊥ e (read_integer text.now)) }
 {
-    if lowest_of_decimal(text)? < 0 {
+    let scan = scan_decimal(text)?;
+    if scan.absolute.lowest() < 0 {
         return Err(ParseError::Limit);
     }
-    Ok(())
+    Ok(scan)
 }
 
 /// Recalls, for proofs, what each decimal keeps: the range that it shows holds its number.
@@ -89,8 +92,8 @@ impl FixedInteger {
         // What reading comes to, by the grammar.
         ensures reads { ReadsInteger text.now (read_integer text.now) }
     {
-        check_integer(text)?;
-        Self::read_checked(alloc, text)
+        let scan = scan_integer(text)?;
+        Self::of_scan(alloc, &scan)
     }
 
     /// Reads the integer that a text writes: `try_from_utf8` of its bytes. The original's `try_from_str` and `FromStr`.
@@ -102,12 +105,13 @@ impl FixedInteger {
         Self::try_from_utf8(alloc, text.as_bytes())
     }
 
-    /// Reads the integer of a text that is known to write one.
-    pub(crate) fn read_checked(alloc: Global, text: &[u8]) -> Result<Self, ParseError>
-        requires { IsOk (read_integer text.now) }
-        ensures { Answers (IsLong DIGITS_IN_PLACE) result (read_integer text.now) }
+    /// The integer that a text writes which shows no digit behind the dot, or want of memory.
+    pub(crate) fn of_scan(alloc: Global, scan: &Signed<Scan<'_>>) -> Result<Self, ParseError>
+        requires { pos 0 ≤ℤ scan.now.absolute.lo }
+        ensures { Answers (IsLong DIGITS_IN_PLACE) result (Ok scan.now) }
     {
-        let decimal = Decimal::try_from_utf8(alloc, text)?;
+        let decimal: Decimal = scan.decimal(alloc)?;
+        recall_value(&decimal);
         Ok(FixedInteger(decimal))
     }
 

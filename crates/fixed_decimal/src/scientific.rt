@@ -8,9 +8,9 @@ ghost use Rattle.fixed_decimal.specs.Equal.{same_text, same_text_laws};
 ghost use Rattle.fixed_decimal.specs.Scientific.{scientific, scientific_text, cut_at_e, read_scientific};
 ghost use Rattle.fixed_decimal.specs.Scientific.{ReadsScientific, HasLongPart};
 
-use crate::cut::{cut_at, lowest_of_decimal};
-use crate::integer::{FixedInteger, check_integer, recall_value};
-use crate::signed_decimal::Decimal;
+use crate::cut::cut_at;
+use crate::integer::{FixedInteger, recall_value, scan_integer};
+use crate::signed_decimal::{Decimal, scan_decimal};
 use decimal_digits::sink::{Sink, SinkFault, Writeable};
 use decimal_unsigned::ParseError;
 use decimal_unsigned::decimal::DIGITS_IN_PLACE;
@@ -96,10 +96,10 @@ impl ScientificDecimal {
         ensures reads { ReadsScientific text.now (read_scientific text.now) }
     {
         let (significand, exponent) = cut_at_e(text)?;
-        lowest_of_decimal(significand)?;
-        check_integer(exponent)?;
-        let significand = Decimal::try_from_utf8(alloc, significand)?;
-        let exponent = FixedInteger::read_checked(alloc, exponent)?;
+        let significand = scan_decimal(significand)?;
+        let exponent = scan_integer(exponent)?;
+        let significand = significand.decimal(alloc)?;
+        let exponent = FixedInteger::of_scan(alloc, &exponent)?;
         Ok(ScientificDecimal::from(significand, exponent))
     }
 

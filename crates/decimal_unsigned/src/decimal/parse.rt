@@ -1,11 +1,11 @@
 //! Reading a value from a text: every fault is decided before memory is asked for.
-ghost use Rattle.std.specs.Prelude.{◌≡◌, ℕ, ◌+◌, ◌-◌, ◌<◌, ◌≤◌, ◌++◌, List, length, IfOk, IfErr, IsOk, IsOkAnd};
+ghost use Rattle.std.specs.Prelude.{◌≡◌, ℕ, ◌+◌, ◌-◌, ◌<◌, ◌≤◌, ◌++◌, List, length, IfOk, IfErr, Ok, IsOk, IsOkAnd};
 ghost use Rattle.std.specs.Str.Parse.{AllDigits};
 ghost use Rattle.decimal_digits.specs.Number.{size};
-ghost use Rattle.decimal_unsigned.specs.Reading.{read, value_of, FollowsGrammar};
+ghost use Rattle.decimal_unsigned.specs.Reading.{read, FollowsGrammar};
 ghost use Rattle.decimal_unsigned.specs.Refusal.{Refuses, Answers, AnswersGrammar};
 ghost use Rattle.decimal_unsigned.specs.Parts.{view};
-ghost use Rattle.decimal_unsigned.specs.Placing.{Makes, middle, digits_of};
+ghost use Rattle.decimal_unsigned.specs.Placing.{middle, digits_of};
 
 mod parts;
 mod plan;
@@ -17,29 +17,77 @@ pub use parts::numeral;
 use parts::{Parts, split};
 use plan::{Plan, planned};
 use std::alloc::{AllocError, Global};
+use std::marker::Model;
 
-/// The parts of a text, and which digits make the value.
-#[derive(Clone, Copy)]
-struct Scan<'a> {
+/// What a text writes, found without memory.
+///
+/// Contracts see the value that `value` makes. Who reads several texts scans all of them first, and so knows every
+/// fault but want of memory before any digit is stored. A scan borrows the text. Not in the original.
+#[derive(Debug, Drop)]
+pub struct Scan<'a> {
     parts: Parts<'a>,
     plan: Plan,
 }
 
-/// What the text writes, or why it is refused.
-fn scanned(text: &[u8]) -> Result<Scan<'_>, ParseError>
-    ensures digits { IfOk result (λ s. AllDigits 10 (s.parts.whole.now ++ s.parts.fraction.now)) }
-    ensures makes { IfOk result (λ s. Makes (view s.parts) s.plan.start s.plan.end
-        s.plan.place.magnitude s.plan.place.hi s.plan.place.lo) }
-    ensures value { IfOk result (λ s. read text.now ≡ value_of (view s.parts)) }
-    ensures fault { IfErr result (λ e. Refuses ⊥ e (read text.now)) }
-{
-    let Some(parts) = split(text) else {
-        return Err(ParseError::Syntax);
-    };
-    let Some(plan) = planned(&parts) else {
-        return Err(ParseError::Limit);
-    };
-    Ok(Scan { parts, plan })
+impl<'a> Model for Scan<'a> {
+    ghost use Rattle.decimal_unsigned.specs.Unsigned.{Unsigned};
+    ghost use Rattle.decimal_unsigned.specs.Parts as found;
+    ghost use Rattle.decimal_unsigned.specs.Placing.{made, IsScanned};
+
+    ghost Value = { Unsigned };
+
+    ghost view = { λ s. made (found.view s.parts) s.plan.start s.plan.end
+        s.plan.place.magnitude s.plan.place.hi s.plan.place.lo };
+
+    ghost invariant = { λ s. IsScanned (found.view s.parts) s.plan.start s.plan.end
+        s.plan.place.magnitude s.plan.place.hi s.plan.place.lo };
+}
+
+impl<'a> Scan<'a> {
+    /// Finds what a text writes, and asks for no memory.
+    ///
+    /// `012.50` is found, and `5.` is refused. Err: `Syntax` or `Limit`, as `try_from_utf8` answers. Not in the
+    /// original.
+    pub fn new(text: &'a [u8]) -> Result<Scan<'a>, ParseError>
+        ensures value { IfOk result (λ s. read text.now ≡ Ok s) }
+        ensures fault { IfErr result (λ e. Refuses ⊥ e (read text.now)) }
+    {
+        let Some(parts) = split(text) else {
+            return Err(ParseError::Syntax);
+        };
+        let Some(plan) = planned(&parts) else {
+            return Err(ParseError::Limit);
+        };
+        Ok(Scan { parts, plan })
+    }
+
+    /// Gives the lowest magnitude that the value shows.
+    ///
+    /// Of `1.50` it is -2, of `100e-2` it is -2, of `5.0e1` it is 0. Not in the original.
+    #[inline]
+    pub fn lowest(&self) -> i16
+        ensures { result ≡ self.now.lo }
+    {
+        self.plan.place.lo
+    }
+
+    /// Makes the value that the text writes.
+    ///
+    /// Of `012.50` it is the value that prints `012.50`. Err: memory for more than `L` digits was refused; the scan
+    /// stays as it is, and may be asked again. Not in the original.
+    pub fn value<D: DigitStore>(&self, alloc: Global) -> Result<UnsignedOver<D>, AllocError>
+        ensures value { IfOk result (λ v. v ≡ self.now) }
+        ensures succeeds { size self.now.number ≤ D.L → IsOk result }
+    {
+        let digits = digits_between(alloc, &self.parts, self.plan.start, self.plan.end)?;
+        let place = self.plan.place;
+        Ok(UnsignedOver {
+            digits,
+            magnitude: place.magnitude,
+            hi: place.hi,
+            lo: place.lo,
+        })
+    }
 }
 
 /// Gives the lowest magnitude that the value of a text shows, and asks for no memory.
@@ -53,8 +101,7 @@ pub fn lowest_of(text: &[u8]) -> Result<i16, ParseError>
     // Each text is read as the grammar says.
     ensures grammar { (any : List ℕ) → FollowsGrammar any }
 {
-    let scan = scanned(text)?;
-    Ok(scan.plan.place.lo)
+    Ok(Scan::new(text)?.lowest())
 }
 
 /// The digits from `start` up to `end`.
@@ -72,9 +119,9 @@ fn digits_between<D: DigitStore>(
 {
     let mut list = D::empty(alloc);
     list.reserve(end - start)?;
-    for i in start..end {
-        list.push_in_room(parts.digit(i));
-    }
+    let (front, behind) = parts.between(start, end);
+    list.push_text(front);
+    list.push_text(behind);
     Ok(list)
 }
 
@@ -111,16 +158,10 @@ impl<D: DigitStore> UnsignedOver<D> {
     fn read_from(alloc: Global, text: &[u8]) -> Result<Self, ParseError>
         ensures { Answers (λ v. D.L < size v.number) result (read text.now) }
     {
-        let scan = scanned(text)?;
-        let plan = scan.plan;
-        let Ok(digits) = digits_between(alloc, &scan.parts, plan.start, plan.end) else {
+        let scan = Scan::new(text)?;
+        let Ok(value) = scan.value(alloc) else {
             return Err(ParseError::Memory);
         };
-        Ok(UnsignedOver {
-            digits,
-            magnitude: plan.place.magnitude,
-            hi: plan.place.hi,
-            lo: plan.place.lo,
-        })
+        Ok(value)
     }
 }

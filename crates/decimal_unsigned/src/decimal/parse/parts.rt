@@ -1,26 +1,55 @@
 //! The parts of a text.
-ghost use Rattle.std.specs.Prelude.{◌≡◌, ℕ, ◌++◌, ◌-◌, ◌<◌, ◌≤◌, min, length, option_map, pos, slice_index, IfSome};
+ghost use Rattle.std.specs.Prelude.{◌≡◌, ℕ, ◌+◌, ◌++◌, ◌-◌, ◌<◌, ◌≤◌, min, length, drop, map, option_map, pos, slice_index, IfSome};
 ghost use Rattle.std.specs.Str.Parse.{AllDigits};
-ghost use Rattle.decimal_unsigned.specs.Placing.{digits_of};
-ghost use Rattle.std.specs.Char.{is_ascii_digit};
+ghost use Rattle.decimal_unsigned.specs.Placing.{digits_of, middle};
+ghost use Rattle.std.specs.Char.{is_ascii_digit, digit_value};
 ghost use Rattle.std.specs.List.{prefix_len};
+ghost use Rattle.std.specs.Str.{all_ascii_digits};
 ghost use Rattle.decimal_unsigned.specs.Reading as read;
 ghost use Rattle.decimal_unsigned.specs.Parts.{view, views, saturated, IsSaturated, saturated_parts};
 
 /// The digits in front of the dot and behind it, and the exponent.
-#[derive(Clone, Copy)]
+#[derive(Clone, Copy, Debug)]
 pub struct Parts<'a> {
     pub whole: &'a [u8],
     pub fraction: &'a [u8],
     pub exponent: Option<i32>,
 }
 
+/// How many bytes are tested at once.
+const GROUP: usize = 32;
+
+/// Whether all bytes are digits, by a test of each, which leaves no byte out and so has no branch.
+#[inline]
+fn are_digits(group: &[u8]) -> bool
+    ensures { result ≡ all_ascii_digits group.now }
+{
+    let mut all = true;
+    for byte in group {
+        all &= byte.is_ascii_digit();
+    }
+    all
+}
+
+/// How many digits stand in front, in whole groups.
+#[inline]
+fn grouped_digit_count(text: &[u8]) -> usize
+    ensures within { result ≤ length text.now }
+    ensures digits { prefix_len is_ascii_digit text.now ≡ result + prefix_len is_ascii_digit (drop result text.now) }
+{
+    let mut count = 0;
+    while text.len() - count >= GROUP && are_digits(&text[count..count + GROUP]) {
+        count += GROUP;
+    }
+    count
+}
+
 /// How many digits stand in front.
 fn digit_count(text: &[u8]) -> usize
     ensures { result ≡ prefix_len is_ascii_digit text.now }
 {
-    for (i, byte) in text.iter().enumerate() {
-        if !byte.is_ascii_digit() {
+    for i in grouped_digit_count(text)..text.len() {
+        if !text[i].is_ascii_digit() {
             return i;
         }
     }
@@ -148,6 +177,22 @@ impl Parts<'_> {
         } else {
             self.fraction[index - self.whole.len()] - b'0'
         }
+    }
+
+    /// The texts of the digits from `start` up to `end`, in front of the dot and behind it.
+    pub fn between(&self, start: usize, end: usize) -> (&[u8], &[u8])
+        requires digits { AllDigits 10 (self.now.whole.now ++ self.now.fraction.now) }
+        requires ordered { start ≤ end }
+        requires within { end ≤ length (digits_of (view self.now)) }
+        ensures front { AllDigits 10 result.0.now }
+        ensures behind { AllDigits 10 result.1.now }
+        ensures value { map digit_value result.0.now ++ map digit_value result.1.now
+            ≡ middle start end (digits_of (view self.now)) }
+    {
+        let dot = self.whole.len();
+        let whole = &self.whole[start.min(dot)..end.min(dot)];
+        let fraction = &self.fraction[start.saturating_sub(dot)..end.saturating_sub(dot)];
+        (whole, fraction)
     }
 
     /// The index of the first digit that is not 0, or the number of digits.

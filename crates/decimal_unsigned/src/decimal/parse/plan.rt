@@ -12,7 +12,7 @@ use super::parts::Parts;
 use decimal_digits::ops::{at_least_zero, at_most_zero, difference, narrowed, raised};
 
 /// The magnitude of the first digit, and the magnitudes that are shown.
-#[derive(Clone, Copy)]
+#[derive(Clone, Copy, Debug)]
 pub struct Place {
     pub magnitude: i16,
     pub hi: i16,
@@ -87,7 +87,7 @@ fn unscaled(magnitude: i32, hi: i32, lo: i32) -> Place
 }
 
 /// Which digits make the value, and where they lie.
-#[derive(Clone, Copy)]
+#[derive(Clone, Copy, Debug)]
 pub struct Plan {
     pub start: usize,
     pub end: usize,

@@ -1,0 +1,20 @@
+use Rattle.std.proofs.Common.{drop}
+use Rattle.decimal_unsigned.proofs.Middle.{middle_written}
+use Rattle.decimal_unsigned.proofs.Numerals.{digits_take, digits_drop, digits_left, digits_right}
+use Rattle.decimal_unsigned.proofs.decimal.parse.parts.Parts.between.Goals as goal
+
+pub returns-clause-front : goal.returns-clause-front
+returns-clause-front c =
+    let p = c.args.self.now in
+    digits_take _ (drop c.min.result p.whole.now) (digits_drop c.min.result p.whole.now (digits_left p.whole.now p.fraction.now c.requires.digits))
+
+pub returns-clause-behind : goal.returns-clause-behind
+returns-clause-behind c =
+    let p = c.args.self.now in
+    digits_take _ (drop c.saturating_sub.result p.fraction.now) (digits_drop c.saturating_sub.result p.fraction.now (digits_right p.whole.now p.fraction.now c.requires.digits))
+
+pub returns-clause-value : goal.returns-clause-value
+returns-clause-value c =
+    let p = c.args.self.now in
+    rw (c.min.ensures, c.min-2.ensures, c.saturating_sub.ensures, c.saturating_sub-2.ensures)
+    (middle_written p.whole.now p.fraction.now c.args.start c.args.end c.requires.ordered)
