@@ -10,6 +10,7 @@ mod constructors;
 mod counting;
 mod ends;
 mod equality;
+mod every_way;
 mod integer;
 mod long;
 mod memory;

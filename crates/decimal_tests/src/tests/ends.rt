@@ -2,21 +2,18 @@
 use super::long::{Parts, is_made_of, long};
 use super::*;
 use fixed_decimal::RoundingIncrement::{MultiplesOf1, MultiplesOf2, MultiplesOf5, MultiplesOf25};
-use fixed_decimal::SignedRoundingMode::{Ceil, Floor, HalfCeil, HalfFloor, Unsigned};
-use fixed_decimal::UnsignedRoundingMode::{Expand, HalfEven, HalfExpand, HalfTrunc, Trunc};
-use fixed_decimal::{
-    Call, DigitList, DigitStore, PackedDigits, RoundingIncrement, RunError, Signed,
-    SignedRoundingMode, UnsignedOver, run_over,
-};
+use fixed_decimal::SignedRoundingMode::Unsigned;
+use fixed_decimal::UnsignedRoundingMode::{Expand, HalfEven, HalfExpand, Trunc};
+use fixed_decimal::{Call, DigitList, DigitStore, PackedDigits, RunError, run_over};
 
 /// A start, calls, and the text that they come to.
 type Run = (Parts, &'static [Call<'static>], Parts);
 
 /// 65,536 nines, half of them behind the dot: the greatest number.
-const GREATEST: Parts = &[("9", 32_768), (".", 1), ("9", 32_768)];
+pub const GREATEST: Parts = &[("9", 32_768), (".", 1), ("9", 32_768)];
 
 /// The least number that is not 0.
-const LEAST: Parts = &[("0.", 1), ("0", 32_767), ("1", 1)];
+pub const LEAST: Parts = &[("0.", 1), ("0", 32_767), ("1", 1)];
 
 /// Half of the digits of the greatest number.
 const NINES: Parts = &[("9", 32_768)];
@@ -160,34 +157,6 @@ const EDITS: &[Run] = &[
     ),
 ];
 
-/// Starts and their signs, each of which is rounded at both ends in every way.
-const STARTS: &[Parts] = &[
-    GREATEST,
-    LEAST,
-    &[("-", 1), ("9", 32_768), (".", 1), ("9", 32_768)],
-    &[("-0.", 1), ("0", 32_767), ("1", 1)],
-    &[("0", 1)],
-];
-
-/// The positions at both ends.
-const POSITIONS: &[i16] = &[-32768, -32767, 32766, 32767];
-
-/// The modes.
-const MODES: &[SignedRoundingMode] = &[
-    Ceil,
-    Unsigned(Expand),
-    Floor,
-    Unsigned(Trunc),
-    HalfCeil,
-    Unsigned(HalfExpand),
-    HalfFloor,
-    Unsigned(HalfTrunc),
-    Unsigned(HalfEven),
-];
-
-/// The increments.
-const INCREMENTS: &[RoundingIncrement] = &[MultiplesOf1, MultiplesOf2, MultiplesOf5, MultiplesOf25];
-
 /// Whether a run over a store comes to the text that its row says.
 fn comes_to<D: DigitStore>(alloc: Global, (start, calls, parts): Run) -> Result<bool, Fail> {
     let text = long(alloc, start)?;
@@ -225,55 +194,6 @@ fn overlaps<D: DigitStore>(alloc: Global) -> Result<bool, Fail> {
     }
 }
 
-/// Whether a rounding returns, keeps the sign, and shows the digits down to its position, or to magnitude 0.
-fn rounds<D: DigitStore>(
-    value: &Signed<UnsignedOver<D>>,
-    position: i16,
-    mode: SignedRoundingMode,
-    increment: RoundingIncrement,
-) -> Result<bool, Fail> {
-    let mut rounded = value.clone()?;
-    rounded.round_with_mode_and_increment(position, mode, increment)?;
-    let lowest = *rounded.magnitude_range().start();
-    Ok(rounded.sign == value.sign && lowest == position.min(0))
-}
-
-/// Whether it does by each increment.
-fn rounds_by_all<D: DigitStore>(
-    value: &Signed<UnsignedOver<D>>,
-    position: i16,
-    mode: SignedRoundingMode,
-) -> Result<bool, Fail> {
-    for increment in INCREMENTS {
-        if !rounds(value, position, mode, *increment)? {
-            return Ok(false);
-        }
-    }
-    Ok(true)
-}
-
-/// Whether it does by each mode and each increment.
-fn rounds_at<D: DigitStore>(value: &Signed<UnsignedOver<D>>, position: i16) -> Result<bool, Fail> {
-    for mode in MODES {
-        if !rounds_by_all(value, position, *mode)? {
-            return Ok(false);
-        }
-    }
-    Ok(true)
-}
-
-/// Whether a start is rounded so at both ends.
-fn rounds_at_ends<D: DigitStore>(alloc: Global, start: Parts) -> Result<bool, Fail> {
-    let text = long(alloc, start)?;
-    let value = Signed::<UnsignedOver<D>>::try_from_str(alloc, text.as_str())?;
-    for position in POSITIONS {
-        if !rounds_at(&value, *position)? {
-            return Ok(false);
-        }
-    }
-    Ok(true)
-}
-
 /// Asserts what runs come to, over each store.
 fn assert_come_to(rt: &impl Abort, alloc: Global, rows: &[Run]) -> Result<(), Fail> {
     for row in rows {
@@ -305,15 +225,5 @@ fn joins_halves(rt: HostRuntime) -> Result<(), Fail> {
     assert!(rt; joins::<PackedDigits>(alloc)?);
     assert!(rt; overlaps::<DigitList>(alloc)?);
     assert!(rt; overlaps::<PackedDigits>(alloc)?);
-    Ok(())
-}
-
-#[test]
-fn rounds_in_every_way(rt: HostRuntime) -> Result<(), Fail> {
-    let alloc = rt.alloc();
-    for start in STARTS {
-        assert!(rt; rounds_at_ends::<DigitList>(alloc, start)?);
-        assert!(rt; rounds_at_ends::<PackedDigits>(alloc, start)?);
-    }
     Ok(())
 }

@@ -4,14 +4,20 @@ use super::*;
 /// Parts of a text, each as often as the number beside it says.
 pub type Parts = &'static [(&'static str, usize)];
 
-/// The text of these parts, each as often as the number beside it says.
-pub fn long(alloc: Global, parts: &[(&str, usize)]) -> Result<String, Fail> {
-    let mut text = String::new(alloc);
+/// Adds these parts to a text, each as often as the number beside it says.
+pub fn push_long(text: &mut String, parts: &[(&str, usize)]) -> Result<(), Fail> {
     for (part, count) in parts {
         for _ in 0..*count {
             text.push_str(part)?;
         }
     }
+    Ok(())
+}
+
+/// The text of these parts, each as often as the number beside it says.
+pub fn long(alloc: Global, parts: &[(&str, usize)]) -> Result<String, Fail> {
+    let mut text = String::new(alloc);
+    push_long(&mut text, parts)?;
     Ok(text)
 }
 

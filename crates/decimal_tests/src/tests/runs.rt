@@ -201,13 +201,22 @@ const REFUSED: &[Refused] = &[
     ),
 ];
 
-/// Runs of more than eight digits, whose numbers overlap: memory is there, and not what is wanted.
-const LONG_OVERLAPS: &[Refused] = &[(
-    "123456789",
-    &[Call::TrimEnd, Call::Concatenate(b"123456789")],
-    "overlap",
-    1,
-)];
+/// Runs of more than eight and of more than sixteen digits, whose numbers overlap: memory is there, and not what is
+/// wanted.
+const LONG_OVERLAPS: &[Refused] = &[
+    (
+        "123456789",
+        &[Call::TrimEnd, Call::Concatenate(b"123456789")],
+        "overlap",
+        1,
+    ),
+    (
+        "12345678901234567890",
+        &[Call::TrimEnd, Call::Concatenate(b"12345678901234567890")],
+        "overlap",
+        1,
+    ),
+];
 
 /// A sink that takes so many bytes.
 #[derive(Drop)]

@@ -1,0 +1,59 @@
+//! A sink with little room.
+ghost use Rattle.std.specs.Prelude.{None};
+
+use crate::wanted::Wanted;
+use decimal_digits::sink::{Sink, SinkFault, Writeable};
+
+/// A sink that takes so many bytes, compares them with a text, and then fails.
+#[derive(Drop)]
+pub struct Narrow<'a> {
+    wanted: Wanted<'a>,
+    room: usize,
+    failed: bool,
+}
+
+impl<'a> Narrow<'a> {
+    /// Makes a sink that takes so many bytes, which are to be the first of a text.
+    pub fn new(text: &'a [u8], room: usize) -> Self {
+        Narrow {
+            wanted: Wanted::new(text),
+            room,
+            failed: false,
+        }
+    }
+
+    /// Tells whether exactly the first `count` bytes of the text were taken.
+    pub fn has_taken(&self, count: usize) -> bool {
+        self.wanted.has_come(count)
+    }
+
+    /// Tells whether the text was taken, whole and alone.
+    pub fn has_all(&self) -> bool {
+        self.wanted.is_whole()
+    }
+}
+
+impl Sink for Narrow<'_> {
+    ghost contents = { λ _. None };
+
+    ghost has_failed = { λ s. s.failed };
+
+    fn put_byte(&mut self, byte: u8) -> Result<(), SinkFault> {
+        if self.failed || self.wanted.taken() >= self.room {
+            self.failed = true;
+            return Err(SinkFault);
+        }
+        self.wanted.take(byte);
+        Ok(())
+    }
+
+    fn failed(&self) -> bool {
+        self.failed
+    }
+}
+
+/// Tells whether a value has this text. It asks for no memory.
+pub fn shows<T: Writeable>(value: &T, text: &[u8]) -> bool {
+    let mut sink = Narrow::new(text, usize::MAX);
+    value.write_to(&mut sink).is_ok() && sink.has_all()
+}
