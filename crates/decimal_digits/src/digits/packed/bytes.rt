@@ -24,6 +24,26 @@ pub(super) fn pack_digits(alloc: Global, digits: &[u8]) -> Result<SmallVec<u8, 8
     Ok(bytes)
 }
 
+/// Copies bytes.
+#[inline]
+pub(super) fn copy_bytes(bytes: &SmallVec<u8, 8>) -> Result<SmallVec<u8, 8>, AllocError>
+    ensures ok { IfOk result (λ copy. copy.items ≡ bytes.now.items) }
+    ensures inline { IfOk result (λ copy. 8 ≤ copy.capacity) }
+    ensures succeeds { small_vec_len bytes.now ≤ 8 → IsOk result }
+{
+    let alloc = *bytes.allocator();
+    let items = bytes.as_slice();
+    if items.len() > 8 {
+        return Ok(SmallVec::from_vec(Vec::from_slice(alloc, items)?));
+    }
+    // For so few a loop is quicker than a call.
+    let mut copy = SmallVec::new(alloc);
+    for byte in items {
+        copy.push_reserved(*byte);
+    }
+    Ok(copy)
+}
+
 /// Makes room for so many digits in all.
 pub(super) fn reserve_digits(bytes: &mut SmallVec<u8, 8>, total: usize) -> Result<(), AllocError>
     requires { 2 * small_vec_len bytes.old ≤ total + 1 }
