@@ -15,16 +15,6 @@ fn first(count: usize) -> &'static [u8] {
     if count < PI.len() { &PI[..count] } else { PI }
 }
 
-/// So many digits of pi behind the first ones.
-fn behind(held: usize, count: usize) -> &'static [u8] {
-    let digits = first(held + count);
-    if held < digits.len() {
-        &digits[held..]
-    } else {
-        b""
-    }
-}
-
 /// Tells whether a text has digits alone.
 fn is_number(text: &[u8]) -> bool
     ensures { IsTrue result → AllDigits 10 text.now }
@@ -47,18 +37,20 @@ fn list_of<D: DigitStore>(alloc: Global, text: &[u8]) -> Result<D, AllocError> {
     Ok(list)
 }
 
-/// Pushes a text onto a list, and gives all digits as text.
-fn pushed<D: DigitStore>(alloc: Global, held: &[u8], text: &[u8]) -> Result<Vec<u8>, AllocError> {
-    let mut list: D = list_of(alloc, held)?;
+/// Makes the list of the first digits of a text, pushes the rest of it, and gives all digits as text.
+fn pushed<D: DigitStore>(alloc: Global, all: &[u8], held: usize) -> Result<Vec<u8>, AllocError> {
+    let at = if held < all.len() { held } else { all.len() };
+    let text = &all[at..];
+    let mut list: D = list_of(alloc, &all[..at])?;
     list.reserve(text.len())?;
     if is_number(text) {
         list.push_text(text);
     }
-    let mut all = Vec::new(alloc);
+    let mut found = Vec::new(alloc);
     for index in 0..list.len() {
-        all.push(b'0' + list.get(index) % 10)?;
+        found.push(b'0' + list.get(index) % 10)?;
     }
-    Ok(all)
+    Ok(found)
 }
 
 /// Copies the text of so many digits of a list, from an index on.
@@ -102,51 +94,20 @@ fn assert_count(rt: &impl Abort, found: (usize, usize), count: usize) {
     assert_eq!(rt; found.1, count);
 }
 
-/// How many digits are held, and how long a text is pushed onto them.
-const PUSHES: &[(usize, usize)] = &[
-    (0, 0),
-    (0, 1),
-    (0, 2),
-    (0, 9),
-    (0, 33),
-    (1, 0),
-    (1, 1),
-    (1, 2),
-    (1, 9),
-    (1, 33),
-    (7, 0),
-    (7, 1),
-    (7, 2),
-    (7, 9),
-    (7, 33),
-    (8, 0),
-    (8, 1),
-    (8, 2),
-    (8, 9),
-    (8, 33),
-    (15, 0),
-    (15, 1),
-    (15, 2),
-    (15, 9),
-    (15, 33),
-    (16, 0),
-    (16, 1),
-    (16, 2),
-    (16, 9),
-    (16, 33),
-    (17, 0),
-    (17, 1),
-    (17, 2),
-    (17, 9),
-    (17, 33),
-];
+/// How many digits are held.
+const HELD: &[usize] = &[0, 1, 7, 8, 15, 16, 17];
+
+/// How long a text is pushed onto them.
+const PUSHED: &[usize] = &[0, 1, 2, 9, 33];
 
 #[test]
 fn pushes_text(rt: HostRuntime) -> Result<(), Fail> {
-    for (held, count) in PUSHES {
-        let (front, text, all) = (first(*held), behind(*held, *count), first(held + count));
-        assert_text(&rt, pushed::<PackedDigits>(rt.alloc(), front, text)?, all);
-        assert_text(&rt, pushed::<DigitList>(rt.alloc(), front, text)?, all);
+    for held in HELD {
+        for count in PUSHED {
+            let all = first(held.saturating_add(*count));
+            assert_text(&rt, pushed::<PackedDigits>(rt.alloc(), all, *held)?, all);
+            assert_text(&rt, pushed::<DigitList>(rt.alloc(), all, *held)?, all);
+        }
     }
     Ok(())
 }

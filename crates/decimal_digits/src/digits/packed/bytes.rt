@@ -5,21 +5,21 @@ ghost use Rattle.decimal_digits.specs.Halves.{digits_in, IsPacked};
 ghost use Rattle.decimal_digits.specs.Packing.{Holds};
 
 use super::halves::{
-    byte_count, drop_bytes, join_halves, pack, push_zeros, set_half, shift_halves,
+    append_pairs, byte_count, drop_bytes, join_halves, push_zeros, set_half, shift_halves,
 };
 use smallvec::SmallVec;
 use std::alloc::{AllocError, Global};
 
 /// Makes the bytes of these digits.
+#[inline]
 pub(super) fn pack_digits(alloc: Global, digits: &[u8]) -> Result<SmallVec<u8, 8>, AllocError>
     requires { All (λ d. d < 10) digits.now }
     ensures ok { IfOk result (λ bytes. Holds bytes.items (length digits.now) digits.now) }
     ensures inline { IfOk result (λ bytes. 8 ≤ bytes.capacity) }
     ensures succeeds { length digits.now ≤ 16 → IsOk result }
 {
-    // The copy makes room, and is written over.
-    let mut bytes = SmallVec::from_slice(alloc, &digits[..byte_count(digits.len())])?;
-    pack(bytes.as_mut_slice(), digits);
+    let mut bytes = SmallVec::with_capacity(alloc, byte_count(digits.len()))?;
+    append_pairs(&mut bytes, digits);
     let _at_least = bytes.capacity();
     Ok(bytes)
 }
