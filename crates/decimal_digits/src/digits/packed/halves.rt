@@ -58,6 +58,59 @@ pub(super) fn pack(bytes: &mut [u8], digits: &[u8])
     }
 }
 
+/// Appends the low halves of these behind the last byte, and 0 to a half that is left over.
+#[inline]
+pub(super) fn append_pairs(bytes: &mut SmallVec<u8, 8>, digits: &[u8])
+    requires { (length digits.now + 1) / 2 ≤ bytes.old.capacity - small_vec_len bytes.old }
+    ensures appended { halves bytes.new.items
+        ≡ halves bytes.old.items ++ (map (λ d. d % 16) digits.now ++ replicate (length digits.now % 2) 0) }
+    ensures capacity { bytes.old.capacity ≤ bytes.new.capacity }
+    ensures few { small_vec_len bytes.new < 2 ^ 63 }
+{
+    if digits.len() <= 16 {
+        // For so few a loop is quicker than a call.
+        push_pairs(bytes, digits);
+    } else {
+        pack_behind(bytes, digits);
+    }
+}
+
+/// Appends the low halves of these, two at a time.
+#[inline]
+pub(super) fn push_pairs(bytes: &mut SmallVec<u8, 8>, digits: &[u8])
+    requires { (length digits.now + 1) / 2 ≤ bytes.old.capacity - small_vec_len bytes.old }
+    ensures appended { halves bytes.new.items
+        ≡ halves bytes.old.items ++ (map (λ d. d % 16) digits.now ++ replicate (length digits.now % 2) 0) }
+    ensures capacity { bytes.new.capacity ≡ bytes.old.capacity }
+    ensures few { small_vec_len bytes.new < 2 ^ 63 }
+{
+    let _at_most = bytes.len();
+    let pairs = digits.len() / 2;
+    for i in 0..pairs {
+        bytes.push_reserved(digits[2 * i] % 16 * 16 + digits[2 * i + 1] % 16);
+    }
+    if digits.len() % 2 == 1 {
+        bytes.push_reserved(digits[2 * pairs] % 16 * 16);
+    }
+    let _few = bytes.as_slice();
+}
+
+/// Appends the low halves of these, in one pass.
+fn pack_behind(bytes: &mut SmallVec<u8, 8>, digits: &[u8])
+    requires { (length digits.now + 1) / 2 ≤ bytes.old.capacity - small_vec_len bytes.old }
+    ensures appended { halves bytes.new.items
+        ≡ halves bytes.old.items ++ (map (λ d. d % 16) digits.now ++ replicate (length digits.now % 2) 0) }
+    ensures capacity { bytes.old.capacity ≤ bytes.new.capacity }
+    ensures few { small_vec_len bytes.new < 2 ^ 63 }
+{
+    let held = bytes.len();
+    // The copy makes room, and is written over.
+    bytes
+        .extend_from_slice(&digits[..byte_count(digits.len())])
+        .unwrap();
+    pack(&mut bytes.as_mut_slice()[held..], digits);
+}
+
 /// Drops the high half of the byte `at`. The later halves move up by one, and `last` follows them.
 pub(super) fn shift_halves(bytes: &mut [u8], at: usize, last: u8)
     requires in_range { at < length bytes.old }
