@@ -5,7 +5,7 @@ ghost use Rattle.decimal_digits.specs.Halves.{digits_in, IsPacked};
 ghost use Rattle.decimal_digits.specs.Packing.{Holds};
 
 use super::halves::{
-    append_pairs, byte_count, drop_bytes, join_halves, keep_bytes, push_zeros, set_half,
+    byte_count, drop_bytes, join_halves, keep_bytes, pack_behind, push_pairs, push_zeros, set_half,
     shift_halves,
 };
 use smallvec::SmallVec;
@@ -19,8 +19,14 @@ pub(super) fn pack_digits(alloc: Global, digits: &[u8]) -> Result<SmallVec<u8, 8
     ensures inline { IfOk result (λ bytes. 8 ≤ bytes.capacity) }
     ensures succeeds { length digits.now ≤ 16 → IsOk result }
 {
+    if digits.len() <= 16 {
+        // For so few a loop is quicker than a call.
+        let mut bytes = SmallVec::new(alloc);
+        push_pairs(&mut bytes, digits);
+        return Ok(bytes);
+    }
     let mut bytes = SmallVec::with_capacity(alloc, byte_count(digits.len()))?;
-    append_pairs(&mut bytes, digits);
+    pack_behind(&mut bytes, digits);
     let _at_least = bytes.capacity();
     Ok(bytes)
 }

@@ -77,7 +77,7 @@ pub(super) fn append_pairs(bytes: &mut SmallVec<u8, 8>, digits: &[u8])
 
 /// Appends the low halves of these, two at a time.
 #[inline]
-fn push_pairs(bytes: &mut SmallVec<u8, 8>, digits: &[u8])
+pub(super) fn push_pairs(bytes: &mut SmallVec<u8, 8>, digits: &[u8])
     requires { (length digits.now + 1) / 2 ≤ bytes.old.capacity - small_vec_len bytes.old }
     ensures appended { halves bytes.new.items
         ≡ halves bytes.old.items ++ (map (λ d. d % 16) digits.now ++ replicate (length digits.now % 2) 0) }
@@ -96,7 +96,7 @@ fn push_pairs(bytes: &mut SmallVec<u8, 8>, digits: &[u8])
 }
 
 /// Appends the low halves of these, in one pass.
-fn pack_behind(bytes: &mut SmallVec<u8, 8>, digits: &[u8])
+pub(super) fn pack_behind(bytes: &mut SmallVec<u8, 8>, digits: &[u8])
     requires { (length digits.now + 1) / 2 ≤ bytes.old.capacity - small_vec_len bytes.old }
     ensures appended { halves bytes.new.items
         ≡ halves bytes.old.items ++ (map (λ d. d % 16) digits.now ++ replicate (length digits.now % 2) 0) }
