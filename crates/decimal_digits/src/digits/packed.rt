@@ -11,7 +11,7 @@ use bytes::{
     append_digits, append_zeros, copy_bytes, cut_digits, keep_digits, pack_digits, push_digit,
     reserve_digits, set_digit,
 };
-use halves::half_at;
+use halves::{half_at, keep_bytes};
 use runs::{append_text, count_halves_back, write_text};
 use smallvec::SmallVec;
 use std::alloc::{AllocError, Global};
@@ -125,7 +125,7 @@ impl DigitStore for PackedDigits {
     }
 
     fn clear(&mut self) {
-        self.bytes.clear();
+        keep_bytes(&mut self.bytes, 0);
         self.len = 0;
     }
 

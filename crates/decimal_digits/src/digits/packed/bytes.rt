@@ -5,7 +5,7 @@ ghost use Rattle.decimal_digits.specs.Halves.{digits_in, IsPacked};
 ghost use Rattle.decimal_digits.specs.Packing.{Holds};
 
 use super::halves::{
-    byte_count, drop_bytes, join_halves, pack, push_pairs, push_zeros, set_half,
+    byte_count, drop_bytes, join_halves, keep_bytes, pack, push_pairs, push_zeros, set_half,
     shift_halves,
 };
 use smallvec::SmallVec;
@@ -100,7 +100,7 @@ pub(super) fn keep_digits(bytes: &mut SmallVec<u8, 8>, len: usize, count: usize)
     ensures holds { Holds bytes.new.items count (take count (digits_in bytes.old.items len)) }
     ensures capacity { bytes.new.capacity ≡ bytes.old.capacity }
 {
-    bytes.truncate(byte_count(count));
+    keep_bytes(bytes, byte_count(count));
     if count % 2 == 1 {
         set_half(bytes, count, 0);
     }

@@ -145,10 +145,40 @@ pub(super) fn push_zeros(bytes: &mut SmallVec<u8, 8>, count: usize)
     ensures items { bytes.new.items ≡ bytes.old.items ++ replicate count 0 }
     ensures capacity { bytes.old.capacity ≤ bytes.new.capacity }
 {
+    if count == 0 {
+        return;
+    }
     for _ in 0..count / 64 {
         bytes.extend_from_slice(&ZEROS).unwrap();
     }
     bytes.extend_from_slice(&ZEROS[..count % 64]).unwrap();
+}
+
+/// Keeps the first bytes.
+///
+/// Few are dropped four, two and one at once: zeros are written over so many with no call, as over a count that varies.
+#[inline]
+pub(super) fn keep_bytes(bytes: &mut SmallVec<u8, 8>, count: usize)
+    requires { count ≤ small_vec_len bytes.old }
+    ensures items { bytes.new.items ≡ take count bytes.old.items }
+    ensures capacity { bytes.new.capacity ≡ bytes.old.capacity }
+{
+    if bytes.len() - count >= 8 {
+        bytes.truncate(count);
+        return;
+    }
+    if bytes.len() - count >= 4 {
+        let len = bytes.len() - 4;
+        bytes.truncate(len);
+    }
+    if bytes.len() - count >= 2 {
+        let len = bytes.len() - 2;
+        bytes.truncate(len);
+    }
+    if bytes.len() > count {
+        let len = bytes.len() - 1;
+        bytes.truncate(len);
+    }
 }
 
 /// Drops the first bytes.

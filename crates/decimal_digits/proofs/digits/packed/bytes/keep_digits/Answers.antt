@@ -8,14 +8,14 @@ pub set_half-requires-clause-in_range : goal.set_half-requires-clause-in_range
 set_half-requires-clause-in_range c =
     let p = c.requires.packed.count in
     let l : c.byte_count.result ≤ length c.args.bytes.now.items = omega (arith, c.requires.in_range, c.byte_count.ensures) in
-    omega (arith, c.byte_count.ensures, length-halves c.truncate.new.self.items, ap length c.truncate.ensures.items, length-take-le _ _ l)
+    omega (arith, c.byte_count.ensures, length-halves c.keep_bytes.new.bytes.items, ap length c.keep_bytes.ensures.items, length-take-le _ _ l)
 
 pub returns-then-count-eq1-clause-holds : goal.returns-then-count-eq1-clause-holds
 returns-then-count-eq1-clause-holds c =
     holds_take_odd _ _ c.requires.packed _ c.args.count _ c.requires.in_range c.if-count-eq1.true c.byte_count.ensures
-    (rw c.truncate.ensures.items at c.set_half.ensures.written)
+    (rw c.keep_bytes.ensures.items at c.set_half.ensures.written)
 
 pub returns-else-count-eq1-clause-holds : goal.returns-else-count-eq1-clause-holds
 returns-else-count-eq1-clause-holds c =
     let even : c.args.count % 2 ≡ 0 = omega (arith, c.if-count-eq1.false) in
-    rw c.truncate.ensures.items (holds_take_even _ _ c.requires.packed c.args.count _ c.requires.in_range even c.byte_count.ensures)
+    rw c.keep_bytes.ensures.items (holds_take_even _ _ c.requires.packed c.args.count _ c.requires.in_range even c.byte_count.ensures)
