@@ -104,6 +104,9 @@ pub fn lowest_of(text: &[u8]) -> Result<i16, ParseError>
     Ok(Scan::new(text)?.lowest())
 }
 
+/// Up to so many digits are stored faster one by one than in two runs.
+const FEW: usize = 16;
+
 /// The digits from `start` up to `end`.
 fn digits_between<D: DigitStore>(
     alloc: Global,
@@ -119,6 +122,12 @@ fn digits_between<D: DigitStore>(
 {
     let mut list = D::empty(alloc);
     list.reserve(end - start)?;
+    if end - start <= FEW {
+        for i in start..end {
+            list.push_in_room(parts.digit(i));
+        }
+        return Ok(list);
+    }
     let (front, behind) = parts.between(start, end);
     list.push_text(front);
     list.push_text(behind);
