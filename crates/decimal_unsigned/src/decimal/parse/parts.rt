@@ -32,7 +32,7 @@ fn are_digits(group: &[u8]) -> bool
 }
 
 /// How many digits stand in front, in whole groups.
-#[inline]
+#[inline(never)]
 fn grouped_digit_count(text: &[u8]) -> usize
     ensures within { result ≤ length text.now }
     ensures digits { prefix_len is_ascii_digit text.now ≡ result + prefix_len is_ascii_digit (drop result text.now) }
@@ -45,10 +45,16 @@ fn grouped_digit_count(text: &[u8]) -> usize
 }
 
 /// How many digits stand in front.
+#[inline]
 fn digit_count(text: &[u8]) -> usize
     ensures { result ≡ prefix_len is_ascii_digit text.now }
 {
-    for i in grouped_digit_count(text)..text.len() {
+    let grouped = if text.len() < GROUP {
+        0
+    } else {
+        grouped_digit_count(text)
+    };
+    for i in grouped..text.len() {
         if !text[i].is_ascii_digit() {
             return i;
         }
@@ -57,6 +63,7 @@ fn digit_count(text: &[u8]) -> usize
 }
 
 /// The digits in front, and what stands behind them.
+#[inline]
 fn split_digits(text: &[u8]) -> (&[u8], &[u8])
     ensures front { result.0.now ≡ read.leading_digits text.now }
     ensures behind { result.1.now ≡ read.after_digits text.now }
