@@ -1,15 +1,18 @@
 -- What the passes over half bytes leave.
-use Rattle.std.proofs.Common.{◌≡◌, ◌≢◌, ℕ, suc, ◌+◌, ◌-◌, ◌*◌, ◌/◌, ◌%◌, ◌<◌, ◌≤◌, inl, inr, List, [], ◌∷◌, ◌++◌, length, get_or, set, take, drop, replicate, refl, sym, ◌∙◌, ap, add-one, arith}
-use Rattle.std.proofs.lemmas.List.{length-take-le, length-set, take_at, take-append-le, drop_at, append-nil, append_assoc, get_or-set_same, get_or-set_other, get_or_append_left, get_or_at, get_or_past, set_at, take_more, drop_more}
+use Rattle.std.proofs.Common.{◌≡◌, ◌≢◌, ℕ, suc, ◌+◌, ◌-◌, ◌*◌, ◌/◌, ◌%◌, ◌<◌, ◌≤◌, inl, inr, List, [], ◌∷◌, ◌++◌, length, get_or, map, set, take, drop, replicate, refl, sym, ◌∙◌, ap, add-one, arith}
+use Rattle.std.proofs.Math.ListN.{get_or-map}
+use Rattle.std.proofs.lemmas.List.{get_or-map as map_at, ext_get_or, length-map, length-take-le, length-set, take-append-le, drop_at, append-nil, append_assoc, get_or-set_same, get_or-set_other, get_or_append_left, get_or_at, get_or_past, set_at, take_more, drop_more}
 use Rattle.std.proofs.lemmas.Bool.{cases_eq}
+use Rattle.std.specs.Prelude.{All}
+use Rattle.std.specs.Char.{digit_value}
+use Rattle.std.specs.Str.Parse.{AllDigits}
 use Rattle.std.specs.List.{refill}
 use Rattle.decimal_digits.specs.Halves.{halves}
 use Rattle.decimal_digits.specs.Packing.{length-halves}
-use Rattle.decimal_digits.proofs.Halves.{high_half, halves-set_high, halves-set_low, halves-append, halves-take, halves_shifted_from, halves_packed}
-
--- a vector that is written through its slice is that slice
-pub refill_same : (xs ys : List ℕ) (n : ℕ) → length ys ≡ n → refill n xs ys ≡ ys
-refill_same xs ys n e = take_at ys (drop (length ys) xs) n e
+use Rattle.decimal_digits.proofs.Refills.{refill_same}
+use Rattle.decimal_digits.specs.Digits.{text_of}
+use Rattle.decimal_digits.proofs.DigitTexts.{letter_at, text_at}
+use Rattle.decimal_digits.proofs.Halves.{high_half, low_half, halves-set_high, halves-set_low, halves-append, halves-take, halves_shifted_from, halves_packed}
 
 -- a vector of which one element is written through its slice
 refill-set : (bs : List ℕ) (i v : ℕ) → refill (length bs) bs (set bs i v) ≡ set bs i v
@@ -137,23 +140,40 @@ last_even more count w last e m v =
     let o : (count + 1) % 2 ≡ 1 = omega arith in
     rw (t, v, o) refl
 
+-- the low half of each
+abbrev lows : List ℕ → List ℕ
+lows ds = map (λ d. d % 16) ds
+
+-- the low half at an index
+low_at : (ds : List ℕ) (k : ℕ) → get_or (lows ds) k 0 ≡ get_or ds k 0 % 16
+low_at ds k = get_or-map (λ d. d % 16) ds k 0
+
+-- bytes that are made of low halves, two at a time, have these as their halves
+packed : (bs ds : List ℕ) → length bs ≡ (length ds + 1) / 2
+    → ((k : ℕ) → k < length bs → get_or bs k 0 ≡ get_or ds (2 * k) 0 % 16 * 16 + get_or ds (2 * k + 1) 0 % 16)
+    → halves bs ≡ lows ds ++ replicate (length ds % 2) 0
+packed bs ds e f =
+    let n = length-map ds (λ d. d % 16) in
+    halves_packed bs (lows ds) (e ∙ ap (λ j. (j + 1) / 2) (sym n)) (λ k q. let a = low_at ds k in omega arith)
+    (λ k q. let a = low_at ds (2 * k) in let b = low_at ds (2 * k + 1) in let c = f k q in omega arith)
+    ∙ ap (λ j. lows ds ++ replicate (j % 2) 0) n
+
 -- a pass that packs an even number of digits is done
 pub pack_even : (bs ds : List ℕ) (i : ℕ) → length bs ≡ (length ds + 1) / 2
-    → ((k d : ℕ) → k < length ds → get_or ds k d < 10) → length ds / 2 ≤ i → length ds % 2 ≢ 1
-    → ((k : ℕ) → k < i → get_or bs k 0 ≡ get_or ds (2 * k) 0 * 16 + get_or ds (2 * k + 1) 0)
-    → halves bs ≡ ds ++ replicate (length ds % 2) 0
-pack_even bs ds i e p l m f =
-    halves_packed bs ds e (λ k q. let r : get_or ds k 0 < 10 = p k 0 q in omega arith) (λ k q. f k (omega arith))
+    → length ds / 2 ≤ i → length ds % 2 ≢ 1
+    → ((k : ℕ) → k < i → get_or bs k 0 ≡ get_or ds (2 * k) 0 % 16 * 16 + get_or ds (2 * k + 1) 0 % 16)
+    → halves bs ≡ lows ds ++ replicate (length ds % 2) 0
+pack_even bs ds i e l m f = packed bs ds e (λ k q. f k (omega arith))
 
 -- a pass that packs an odd number of digits is done once the last one is written
 pub pack_odd : (bs ds : List ℕ) (i : ℕ) → length bs ≡ (length ds + 1) / 2
-    → ((k d : ℕ) → k < length ds → get_or ds k d < 10) → length ds / 2 ≤ i → length ds % 2 ≡ 1
-    → ((k : ℕ) → k < i → get_or bs k 0 ≡ get_or ds (2 * k) 0 * 16 + get_or ds (2 * k + 1) 0)
-    → halves (set bs (length ds / 2) (get_or ds (2 * (length ds / 2)) 0 * 16)) ≡ ds ++ replicate (length ds % 2) 0
-pack_odd bs ds i e p l m f =
+    → length ds / 2 ≤ i → length ds % 2 ≡ 1
+    → ((k : ℕ) → k < i → get_or bs k 0 ≡ get_or ds (2 * k) 0 % 16 * 16 + get_or ds (2 * k + 1) 0 % 16)
+    → halves (set bs (length ds / 2) (get_or ds (2 * (length ds / 2)) 0 % 16 * 16)) ≡ lows ds ++ replicate (length ds % 2) 0
+pack_odd bs ds i e l m f =
     let n = length ds / 2 in
-    let v = get_or ds (2 * n) 0 * 16 in
-    halves_packed (set bs n v) ds (length-set bs n v ∙ e) (λ k q. let r : get_or ds k 0 < 10 = p k 0 q in omega arith)
+    let v = get_or ds (2 * n) 0 % 16 * 16 in
+    packed (set bs n v) ds (length-set bs n v ∙ e)
     (λ k q. let q' : k < length bs = omega (arith, length-set bs n v) in
     elim (cases_eq k n) [
       | inl s ↦
@@ -161,7 +181,81 @@ pack_odd bs ds i e p l m f =
           let past : length ds ≤ 2 * k + 1 = omega arith in
           let z : get_or ds (2 * k + 1) 0 ≡ 0 = get_or_past ds (2 * k + 1) 0 past in
           let a : get_or (set bs n v) k 0 ≡ v = ap (λ j. get_or (set bs n v) j 0) s ∙ get_or-set_same bs n v 0 lt in
-          let b : v ≡ get_or ds (2 * k) 0 * 16 = ap (λ j. get_or ds (2 * j) 0 * 16) (sym s) in
+          let b : v ≡ get_or ds (2 * k) 0 % 16 * 16 = ap (λ j. get_or ds (2 * j) 0 % 16 * 16) (sym s) in
           omega arith
       | inr s ↦ get_or-set_other bs n k v 0 s ∙ f k (omega arith)
     ])
+
+-- the low halves of digits are these digits
+pub low_digits : (ds : List ℕ) → All (λ d. d < 10) ds → lows ds ≡ ds
+low_digits ds all =
+    let n = length-map ds (λ d. d % 16) in
+    ext_get_or 0 (lows ds) ds n (λ k q.
+    let lt : k < length ds = omega arith in
+    let small : get_or ds k 0 < 10 = all k 0 lt in
+    let a = low_at ds k in
+    omega arith)
+
+-- the low halves of letters are the digits that they write
+pub low_letters : (text : List ℕ) → AllDigits 10 text → lows text ≡ map digit_value text
+low_letters text all =
+    let n = length-map text (λ d. d % 16) in
+    ext_get_or 0 (lows text) (map digit_value text) (n ∙ sym (length-map text digit_value)) (λ k q.
+    let lt : k < length text = omega arith in
+    let letter = letter_at text k all lt in
+    let value = letter.value in
+    let low = letter.low in
+    let high = letter.high in
+    let a = low_at text k in
+    let b : get_or (map digit_value text) k 0 ≡ digit_value (get_or text k 0) = map_at digit_value text k 0 0 lt in
+    omega arith)
+
+-- one more byte is written as two letters
+pub letters_more : (bs ps : List ℕ) (i : ℕ) → i < length bs → 2 * i + 1 < length ps
+    → ((k : ℕ) → k < 2 * i → get_or ps k 0 ≡ 48 + get_or (halves bs) k 0)
+    → (k : ℕ) → k < 2 * (i + 1)
+    → get_or (set (set ps (2 * i) (48 + get_or bs i 0 / 16)) (2 * i + 1) (48 + get_or bs i 0 % 16)) k 0
+    ≡ 48 + get_or (halves bs) k 0
+letters_more bs ps i h l f k q =
+    let a = 48 + get_or bs i 0 / 16 in
+    let b = 48 + get_or bs i 0 % 16 in
+    let first = set ps (2 * i) a in
+    let in_first : 2 * i + 1 < length first = omega (arith, length-set ps (2 * i) a) in
+    let in_places : 2 * i < length ps = omega arith in
+    elim (cases_eq k (2 * i + 1)) [
+      | inl s ↦
+          ap (λ j. get_or (set first (2 * i + 1) b) j 0) s ∙ get_or-set_same first (2 * i + 1) b 0 in_first
+          ∙ ap (λ d. 48 + d) (sym (low_half bs i h)) ∙ ap (λ j. 48 + get_or (halves bs) j 0) (sym s)
+      | inr o ↦ get_or-set_other first (2 * i + 1) k b 0 o ∙ (elim (cases_eq k (2 * i)) [
+        | inl s ↦
+            ap (λ j. get_or first j 0) s ∙ get_or-set_same ps (2 * i) a 0 in_places
+            ∙ ap (λ d. 48 + d) (sym (high_half bs i h)) ∙ ap (λ j. 48 + get_or (halves bs) j 0) (sym s)
+        | inr e ↦ get_or-set_other ps (2 * i) k a 0 e ∙ f k (omega arith)
+      ])
+    ]
+
+-- a pass that writes an even number of letters is done
+pub letters_even : (bs ps : List ℕ) (i : ℕ) → length ps ≤ length (halves bs) → length ps / 2 ≤ i → length ps % 2 ≢ 1
+    → ((k : ℕ) → k < 2 * i → get_or ps k 0 ≡ 48 + get_or (halves bs) k 0)
+    → ps ≡ text_of (take (length ps) (halves bs))
+letters_even bs ps i h l m f = text_at ps (halves bs) h (λ k q. f k (omega arith))
+
+-- a pass that writes an odd number of letters is done once the last one is written
+pub letters_odd : (bs ps : List ℕ) (i : ℕ) → length ps ≤ length (halves bs) → length ps / 2 ≤ i → length ps % 2 ≡ 1
+    → ((k : ℕ) → k < 2 * i → get_or ps k 0 ≡ 48 + get_or (halves bs) k 0)
+    → set ps (2 * (length ps / 2)) (48 + get_or bs (length ps / 2) 0 / 16) ≡ text_of (take (length ps) (halves bs))
+letters_odd bs ps i h l m f =
+    let n = length ps / 2 in
+    let v = 48 + get_or bs n 0 / 16 in
+    let s = set ps (2 * n) v in
+    let e = length-set ps (2 * n) v in
+    let inside : 2 * n < length ps = omega arith in
+    let byte : n < length bs = omega (arith, length-halves bs) in
+    text_at s (halves bs) (omega arith) (λ k q.
+    elim (cases_eq k (2 * n)) [
+      | inl w ↦
+          ap (λ j. get_or s j 0) w ∙ get_or-set_same ps (2 * n) v 0 inside
+          ∙ ap (λ d. 48 + d) (sym (high_half bs n byte)) ∙ ap (λ j. 48 + get_or (halves bs) j 0) (sym w)
+      | inr w ↦ get_or-set_other ps (2 * n) k v 0 w ∙ f k (omega arith)
+    ])
+    ∙ ap (λ j. text_of (take j (halves bs))) e

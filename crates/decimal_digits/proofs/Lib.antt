@@ -14,3 +14,6 @@ pub mod Halves
 pub mod HalfPasses
 pub mod Packing
 pub mod Sinks
+pub mod Refills
+pub mod DigitTexts
+pub mod HalfRuns

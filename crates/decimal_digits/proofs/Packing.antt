@@ -1,5 +1,5 @@
 -- The digits that packed bytes hold.
-use Rattle.std.proofs.Common.{◌≡◌, ℕ, zero, suc, ◌+◌, ◌-◌, ◌*◌, ◌/◌, ◌%◌, ◌<◌, ◌≤◌, List, [], ◌∷◌, ◌++◌, length, set, take, drop, replicate, refl, sym, ◌∙◌, ap, zero-add, arith, rules}
+use Rattle.std.proofs.Common.{◌≡◌, ℕ, zero, suc, ◌+◌, ◌-◌, ◌*◌, ◌/◌, ◌%◌, ◌<◌, ◌≤◌, List, [], ◌∷◌, ◌++◌, length, set, take, drop, replicate, refl, sym, ◌∙◌, ap, subst, zero-add, arith, rules}
 use Rattle.std.proofs.lemmas.List.{length-append, length-take-le, length-drop, length-replicate, length-set, take_at, take-take, append-nil, append_assoc, drop-append-le, replicate-append-replicate, set-append_left, set_at, drop-drop}
 use Rattle.std.specs.Prelude.{All}
 use Rattle.std.proofs.lemmas.Grind.{elements}
@@ -181,18 +181,27 @@ module _ (bs : List ℕ) (len : ℕ) (p : IsPacked bs len) where
       ∙ sym (append_assoc ds (replicate zeros 0) (replicate (start % 2) 0)) in
       holds (bs ++ replicate k 0) (ds ++ replicate zeros 0) start f (omega (arith, length-append ds (replicate zeros 0), length-replicate {A = ℕ} zeros 0)) (decimal_zeros ds zeros p.decimal)
 
+  -- digits are appended behind an even number of them
+  pub holds_run : (bs' xs : List ℕ) → len % 2 ≡ 0 → All (λ d. d < 10) xs
+      → halves bs' ≡ halves bs ++ (xs ++ replicate (length xs % 2) 0)
+      → Holds bs' (len + length xs) (digits_in bs len ++ xs)
+  holds_run bs' xs m h g =
+      let ds = digits_in bs len in
+      let w : length xs % 2 ≡ (len + length xs) % 2 = omega arith in
+      let f : halves bs' ≡ (ds ++ xs) ++ replicate ((len + length xs) % 2) 0 =
+      g ∙ ap (λ l. l ++ (xs ++ replicate (length xs % 2) 0)) (even_halves m)
+      ∙ sym (append_assoc ds xs (replicate (length xs % 2) 0)) ∙ ap (λ k. (ds ++ xs) ++ replicate k 0) w in
+      holds bs' (ds ++ xs) (len + length xs) f (omega (arith, length-append ds xs, length_digits bs len p)) (decimal_append ds xs p.decimal h)
+
   -- ---- two stores
   module _ (cs : List ℕ) (n : ℕ) (q : IsPacked cs n) where
     -- bytes behind an even number of digits
     pub holds_append_even : len % 2 ≡ 0 → Holds (bs ++ cs) (len + n) (digits_in bs len ++ digits_in cs n)
     holds_append_even m =
-        let ds = digits_in bs len in
         let es = digits_in cs n in
-        let w : n % 2 ≡ (len + n) % 2 = omega arith in
-        let f : halves (bs ++ cs) ≡ (ds ++ es) ++ replicate ((len + n) % 2) 0 =
-        halves-append bs cs ∙ ap (λ l. l ++ halves cs) (even_halves m) ∙ ap (λ l. ds ++ l) q.unused
-        ∙ sym (append_assoc ds es (replicate (n % 2) 0)) ∙ ap (λ k. (ds ++ es) ++ replicate k 0) w in
-        holds (bs ++ cs) (ds ++ es) (len + n) f (omega (arith, length-append ds es, length_digits bs len p, length_digits cs n q)) (decimal_append ds es p.decimal q.decimal)
+        let l : length es ≡ n = length_digits cs n q in
+        let u : halves cs ≡ es ++ replicate (length es % 2) 0 = q.unused ∙ ap (λ k. es ++ replicate (k % 2) 0) (sym l) in
+        subst (λ k. Holds (bs ++ cs) (len + k) (digits_in bs len ++ es)) l (holds_run (bs ++ cs) es m q.decimal (halves-append bs cs ∙ ap (λ l. halves bs ++ l) u))
 
     -- halves behind an odd number of digits
     pub holds_append_odd : (bs' : List ℕ) → len % 2 ≡ 1
@@ -212,3 +221,16 @@ module _ (bs : List ℕ) (len : ℕ) (p : IsPacked bs len) where
     same_store e =
         let k : len ≡ n = sym (length_digits bs len p) ∙ ap length e ∙ length_digits cs n q in
         (k, same_bytes bs cs (p.unused ∙ ap (λ l. l ++ replicate (len % 2) 0) e ∙ ap (λ j. digits_in cs n ++ replicate (j % 2) 0) k ∙ sym q.unused))
+
+-- a digit is written into the half that was left over, and digits are appended
+pub holds_run_odd : (bs : List ℕ) (len : ℕ) (p : IsPacked bs len) (mid bs' xs : List ℕ) (d : ℕ) → len % 2 ≡ 1 → d < 10 → All (λ d. d < 10) xs
+    → halves mid ≡ set (halves bs) len d → halves bs' ≡ halves mid ++ (xs ++ replicate (length xs % 2) 0)
+    → Holds bs' (len + length (d ∷ xs)) (digits_in bs len ++ (d ∷ xs))
+holds_run_odd bs len p mid bs' xs d m q h e g =
+    let first = holds_push_odd bs len p mid d m q e in
+    let even : (len + 1) % 2 ≡ 0 = omega arith in
+    let all = holds_run mid (len + 1) first.packed bs' xs even h g in
+    let n : (len + 1) + length xs ≡ len + length (d ∷ xs) = omega arith in
+    let l : digits_in mid (len + 1) ++ xs ≡ digits_in bs len ++ (d ∷ xs) =
+    ap (λ l. l ++ xs) first.digits ∙ append_assoc (digits_in bs len) (d ∷ []) xs in
+    rw (← n, ← l) all

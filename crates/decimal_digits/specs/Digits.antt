@@ -1,5 +1,5 @@
 -- Lists of decimal digits, most significant first.
-use Rattle.std.specs.Prelude.{ℕ, ◌+◌, ◌-◌, ◌*◌, ◌^◌, ◌<◌, List, length, slice_index, ℤ}
+use Rattle.std.specs.Prelude.{ℕ, ◌+◌, ◌-◌, ◌*◌, ◌^◌, ◌<◌, List, length, map, slice_index, ℤ}
 use Rattle.std.specs.Int.Digits.{number_from_digits}
 use Rattle.decimal_digits.specs.Number.{place}
 
@@ -15,3 +15,7 @@ number_of digits magnitude = number_at (place magnitude + 1) digits
 pub record IsStripped (digits : List ℕ) : Type 0 where
   pub front : 0 < length digits → 0 < slice_index digits 0
   pub back : 0 < length digits → 0 < slice_index digits (length digits - 1)
+
+-- the text that writes the digits, a byte for each
+abbrev pub text_of : List ℕ → List ℕ
+text_of digits = map (λ d. 48 + d) digits

@@ -1,5 +1,8 @@
 //! Lists of digits, most significant first, however they are stored.
-ghost use Rattle.std.specs.Prelude.{◌≡◌, ℕ, ◌+◌, ◌<◌, ◌≤◌, ◌↔◌, List, [], ◌∷◌, ◌++◌, length, take, drop, replicate, slice_set, slice_index, All, IsTrue, IsOk, IfOk, OnOk, OnErr};
+ghost use Rattle.std.specs.Prelude.{◌≡◌, ℕ, ◌+◌, ◌-◌, ◌<◌, ◌≤◌, ◌≢◌, ◌↔◌, List, [], ◌∷◌, ◌++◌, length, take, drop, map, replicate, slice_set, slice_index, All, IsTrue, IsOk, IfOk, OnOk, OnErr};
+ghost use Rattle.std.specs.Char.{digit_value};
+ghost use Rattle.std.specs.Str.Parse.{AllDigits};
+ghost use Rattle.decimal_digits.specs.Digits.{text_of};
 
 mod counted;
 mod list;
@@ -59,6 +62,36 @@ pub trait DigitStore: Drop {
         requires { index < length (digits self.now) }
         ensures { result ≡ slice_index (digits self.now) index };
 
+    /// Writes the digits from an index on as text, as many as there are places.
+    ///
+    /// Requires so many digits from the index on. Each place gets a byte from `b'0'` to `b'9'`.
+    fn copy_text(&self, from: usize, places: &mut [u8])
+        requires { from + length places.old ≤ length (digits self.now) }
+        ensures { places.new ≡ text_of (take (length places.old) (drop from (digits self.now))) }
+    {
+        let _at_least = self.len();
+        for (index, place) in places.iter_mut().enumerate() {
+            *place = b'0' + self.get(from + index);
+        }
+    }
+
+    /// Counts the digits at the end of the first `count` that equal a digit.
+    ///
+    /// Requires at least so many digits. Of 2, 5, 9 and 9 the first three end in one 9.
+    fn count_back(&self, count: usize, digit: u8) -> usize
+        requires { count ≤ length (digits self.now) }
+        ensures within { result ≤ count }
+        ensures equal { (k : ℕ) → count ≤ k + result → k < count → slice_index (digits self.now) k ≡ digit }
+        ensures stops { result < count → slice_index (digits self.now) (count - result - 1) ≢ digit }
+    {
+        for index in (0..count).rev() {
+            if self.get(index) != digit {
+                return count - 1 - index;
+            }
+        }
+        count
+    }
+
     /// Puts a digit in the place of the one at an index.
     ///
     /// Requires an index in range and a digit 0 to 9.
@@ -75,6 +108,21 @@ pub trait DigitStore: Drop {
         requires is_digit { digit < 10 }
         ensures digits { digits self.new ≡ digits self.old ++ digit ∷ [] }
         ensures room { room self.old ≤ room self.new + 1 };
+
+    /// Appends the digits that a text writes, into room that there is.
+    ///
+    /// Requires room, as after `reserve`, and a text of digits alone. The room becomes smaller by at most the length of
+    /// the text. After `push_text(b"25")` the list ends in 2 and 5.
+    fn push_text(&mut self, text: &[u8])
+        requires has_room { length text.now ≤ room self.old }
+        requires are_digits { AllDigits 10 text.now }
+        ensures digits { digits self.new ≡ digits self.old ++ map digit_value text.now }
+        ensures room { room self.old ≤ room self.new + length text.now }
+    {
+        for letter in text {
+            self.push_in_room(*letter - b'0');
+        }
+    }
 
     /// Makes room for `count` more digits.
     ///

@@ -1,5 +1,5 @@
 //! A list of digits whose reads and writes are counted.
-ghost use Rattle.std.specs.Prelude.{◌≡◌, ℕ, ◌+◌, ◌<◌, ◌≤◌, [], ◌∷◌, ◌++◌, length, take, slice_index, slice_set, IsOk, OnOk};
+ghost use Rattle.std.specs.Prelude.{◌≡◌, ℕ, ◌+◌, ◌-◌, ◌<◌, ◌≤◌, ◌≢◌, min, [], ◌∷◌, ◌++◌, length, take, slice_index, slice_set, IsOk, OnOk};
 ghost use Rattle.decimal_digits.specs.Counted.{list_of, turns_of, IsLent, Continues};
 
 use super::{DigitStore, Steps};
@@ -47,6 +47,27 @@ impl<'a, D: DigitStore> Counted<'a, D> {
     {
         self.steps.tick();
         self.list.get(index)
+    }
+
+    /// Counts the digits at the end of the first `count` that equal a digit. Each digit that is read is a turn.
+    ///
+    /// Requires at least so many digits. The first other digit from the end is read too.
+    #[inline]
+    pub fn count_back(&mut self, count: usize, digit: u8) -> usize
+        requires { count ≤ length (D.digits (list_of self.old)) }
+        ensures within { result ≤ count }
+        ensures equal { (k : ℕ) → count ≤ k + result → k < count
+            → slice_index (D.digits (list_of self.old)) k ≡ digit }
+        ensures stops { result < count
+            → slice_index (D.digits (list_of self.old)) (count - result - 1) ≢ digit }
+        ensures list { list_of self.new ≡ list_of self.old }
+        ensures turns { turns_of self.new ≡ turns_of self.old + min (result + 1) count }
+        ensures lent { Continues self.old self.new }
+    {
+        let equal = self.list.count_back(count, digit);
+        self.steps
+            .tick_by(if equal < count { equal + 1 } else { count });
+        equal
     }
 
     /// Puts a digit in the place of the one at an index.

@@ -1,5 +1,8 @@
 //! A list of digits with one digit to a byte.
-ghost use Rattle.std.specs.Prelude.{◌≡◌, ℕ, ◌+◌, ◌-◌, ◌<◌, ◌≤◌, max, List, length, All};
+ghost use Rattle.std.specs.Prelude.{◌≡◌, ℕ, ◌+◌, ◌-◌, ◌<◌, ◌≤◌, max, List, length, map, take, All};
+ghost use Rattle.std.specs.Char.{digit_value};
+ghost use Rattle.std.specs.Str.Parse.{AllDigits};
+ghost use Rattle.decimal_digits.specs.Digits.{text_of};
 
 use super::DigitStore;
 use smallvec::SmallVec;
@@ -72,6 +75,16 @@ impl DigitStore for DigitList {
         self.bytes.push_reserved(digit);
     }
 
+    fn push_text(&mut self, text: &[u8]) {
+        let held = self.bytes.len();
+        self.bytes.extend_from_slice(text).unwrap();
+        read_letters(&mut self.bytes.as_mut_slice()[held..]);
+    }
+
+    fn copy_text(&self, from: usize, places: &mut [u8]) {
+        write_letters(&self.bytes.as_slice()[from..], places);
+    }
+
     #[inline]
     fn reserve(&mut self, count: usize) -> Result<(), AllocError> {
         self.bytes.reserve(count)
@@ -103,5 +116,26 @@ impl DigitStore for DigitList {
     #[inline]
     fn eq(&self, other: &Self) -> bool {
         self.bytes.as_slice() == other.bytes.as_slice()
+    }
+}
+
+/// Turns letters into the digits that they write.
+fn read_letters(letters: &mut [u8])
+    requires { AllDigits 10 letters.old }
+    ensures { letters.new ≡ map digit_value letters.old }
+{
+    for letter in letters.iter_mut() {
+        *letter -= b'0';
+    }
+}
+
+/// Writes the first digits as letters, as many as there are places.
+fn write_letters(digits: &[u8], places: &mut [u8])
+    requires enough { length places.old ≤ length digits.now }
+    requires are_digits { All (λ d. d < 10) digits.now }
+    ensures { places.new ≡ text_of (take (length places.old) digits.now) }
+{
+    for (index, place) in places.iter_mut().enumerate() {
+        *place = b'0' + digits[index];
     }
 }

@@ -4,6 +4,7 @@ ghost use Rattle.decimal_digits.specs.Halves.{digits_in, IsPacked};
 
 mod bytes;
 mod halves;
+mod runs;
 
 use super::DigitStore;
 use bytes::{
@@ -11,6 +12,7 @@ use bytes::{
     set_digit,
 };
 use halves::half_at;
+use runs::{append_text, count_halves_back, write_text};
 use smallvec::SmallVec;
 use std::alloc::{AllocError, Global};
 
@@ -90,6 +92,22 @@ impl DigitStore for PackedDigits {
     fn push_in_room(&mut self, digit: u8) {
         push_digit(&mut self.bytes, self.len, digit);
         self.len += 1;
+    }
+
+    fn push_text(&mut self, text: &[u8]) {
+        append_text(&mut self.bytes, self.len, text);
+        self.len += text.len();
+    }
+
+    fn copy_text(&self, from: usize, places: &mut [u8]) {
+        write_text(self.bytes.as_slice(), from, places);
+    }
+
+    fn count_back(&self, count: usize, digit: u8) -> usize {
+        if digit >= 16 {
+            return 0;
+        }
+        count_halves_back(self.bytes.as_slice(), count, digit)
     }
 
     fn reserve(&mut self, count: usize) -> Result<(), AllocError> {

@@ -34,6 +34,16 @@ impl Steps {
         *self = self.after();
     }
 
+    /// Counts so many turns more. Nothing runs for them.
+    #[inline]
+    pub fn tick_by(&mut self, turns: usize)
+        ensures { self.new.count ≡ self.old.count + turns }
+    {
+        for _ in 0..turns {
+            self.tick();
+        }
+    }
+
     /// Makes the count that comes next.
     #[inline]
     fn after(&self) -> Steps

@@ -1,5 +1,5 @@
 //! Half bytes: single ones, and passes over bytes that move them.
-ghost use Rattle.std.specs.Prelude.{◌≡◌, ℕ, ◌+◌, ◌*◌, ◌/◌, ◌%◌, ◌-◌, ◌^◌, ◌<◌, ◌≤◌, [], ◌∷◌, ◌++◌, length, take, drop, replicate, slice_index, slice_set, All};
+ghost use Rattle.std.specs.Prelude.{◌≡◌, ℕ, ◌+◌, ◌*◌, ◌/◌, ◌%◌, ◌-◌, ◌^◌, ◌<◌, ◌≤◌, [], ◌∷◌, ◌++◌, length, map, take, drop, replicate, slice_index, slice_set, All};
 ghost use Rattle.smallvec.specs.SmallVec.{small_vec_len, HasRoomFor};
 ghost use Rattle.decimal_digits.specs.Halves.{halves};
 
@@ -40,20 +40,21 @@ pub(super) fn set_half(bytes: &mut SmallVec<u8, 8>, index: usize, half: u8)
     }
 }
 
-/// Writes digits over bytes, and 0 into a half that is left over.
+/// Writes the low halves of these over bytes, two to a byte, and 0 into a half that is left over.
+///
+/// The low half of a digit is the digit, and so is that of the letter that writes it.
 pub(super) fn pack(bytes: &mut [u8], digits: &[u8])
-    requires fit { length bytes.old ≡ (length digits.now + 1) / 2 }
-    requires are_digits { All (λ d. d < 10) digits.now }
-    ensures { halves bytes.new ≡ digits.now ++ replicate (length digits.now % 2) 0 }
+    requires { length bytes.old ≡ (length digits.now + 1) / 2 }
+    ensures { halves bytes.new ≡ map (λ d. d % 16) digits.now ++ replicate (length digits.now % 2) 0 }
 {
     let pairs = digits.len() / 2;
     let mut rest = digits;
     for i in 0..pairs {
-        bytes[i] = rest[0] * 16 + rest[1];
+        bytes[i] = rest[0] % 16 * 16 + rest[1] % 16;
         rest = &rest[2..];
     }
     if digits.len() % 2 == 1 {
-        bytes[pairs] = rest[0] * 16;
+        bytes[pairs] = rest[0] % 16 * 16;
     }
 }
 

@@ -1,5 +1,5 @@
 use Rattle.std.proofs.Common.{◌≡◌, ◌%◌, length, ◌∙◌, ap, arith}
-use Rattle.decimal_digits.proofs.HalfPasses.{refill_same}
+use Rattle.decimal_digits.proofs.Refills.{refill_same}
 use Rattle.decimal_digits.proofs.Packing.{holds_drop_even, holds_drop_odd}
 use Rattle.decimal_digits.proofs.digits.packed.bytes.cut_digits.Goals as goal
 

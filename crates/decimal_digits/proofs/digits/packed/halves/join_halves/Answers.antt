@@ -1,6 +1,7 @@
 use Rattle.std.proofs.Common.{◌-◌, ◌/◌, length, refl, ◌∙◌, ap}
 use Rattle.decimal_digits.specs.Halves.{halves}
-use Rattle.decimal_digits.proofs.HalfPasses.{refill_same, joined, last_odd, last_even}
+use Rattle.decimal_digits.proofs.Refills.{refill_same}
+use Rattle.decimal_digits.proofs.HalfPasses.{joined, last_odd, last_even}
 use Rattle.decimal_digits.proofs.digits.packed.halves.join_halves.Goals.{then-count-eq1, else-count-eq1}
 use Rattle.decimal_digits.proofs.digits.packed.halves.join_halves.Goals as goal
 

@@ -1,0 +1,188 @@
+-- Runs of digits in half bytes: text that comes in, text that goes out, and equal digits at an end.
+use Rattle.std.proofs.Common.{◌≡◌, ◌≢◌, ℕ, suc, ◌+◌, ◌-◌, ◌*◌, ◌/◌, ◌%◌, ◌<◌, ◌≤◌, inl, inr, List, [], ◌∷◌, ◌++◌, length, get_or, set, map, take, drop, replicate, sym, ◌∙◌, ap, arith}
+use Rattle.std.proofs.lemmas.List.{take_all, drop_all, drop_more, length-map, length-take-le, get_or-take, append-nil}
+use Rattle.std.proofs.lemmas.Bool.{cases_eq}
+use Rattle.std.specs.Char.{digit_value}
+use Rattle.std.specs.Str.Parse.{AllDigits}
+use Rattle.decimal_digits.specs.Digits.{text_of}
+use Rattle.decimal_digits.specs.Halves.{halves, digits_in, IsPacked}
+use Rattle.decimal_digits.specs.Packing.{Holds, length-halves}
+use Rattle.decimal_digits.proofs.Refills.{rest_is}
+use Rattle.decimal_digits.proofs.DigitTexts.{read_decimal}
+use Rattle.decimal_digits.proofs.Halves.{high_half, low_half, halves-drop}
+use Rattle.decimal_digits.proofs.HalfPasses.{low_letters}
+use Rattle.decimal_digits.proofs.Packing.{holds_run, holds_run_odd}
+
+-- ---- text that comes in
+-- the digits of a text behind an even number of them
+pub text_even : (bs : List ℕ) (len : ℕ) → IsPacked bs len → (bs' text : List ℕ) → len % 2 ≡ 0 → AllDigits 10 text
+    → halves bs' ≡ halves bs ++ (map (λ d. d % 16) text ++ replicate (length text % 2) 0)
+    → Holds bs' (len + length text) (digits_in bs len ++ map digit_value text)
+text_even bs len p bs' text m all g =
+    let ds = map digit_value text in
+    let n : length ds ≡ length text = length-map text digit_value in
+    let l : map (λ d. d % 16) text ≡ ds = low_letters text all in
+    let f : halves bs' ≡ halves bs ++ (ds ++ replicate (length ds % 2) 0) =
+    g ∙ ap (λ l. halves bs ++ (l ++ replicate (length text % 2) 0)) l ∙ ap (λ k. halves bs ++ (ds ++ replicate (k % 2) 0)) (sym n) in
+    rw (← n) (holds_run bs len p bs' ds m (read_decimal text all) f)
+
+-- the digits of a text behind an odd number of them: the first is written into the half that was left over
+pub text_odd : (bs : List ℕ) (len : ℕ) → IsPacked bs len → (mid bs' text : List ℕ) → len % 2 ≡ 1 → AllDigits 10 text
+    → 0 < length text → halves mid ≡ set (halves bs) len (get_or text 0 0 % 16)
+    → halves bs' ≡ halves mid ++ (map (λ d. d % 16) (drop 1 text) ++ replicate (length (drop 1 text) % 2) 0)
+    → Holds bs' (len + length text) (digits_in bs len ++ map digit_value text)
+text_odd bs len p mid bs' [] m all h e g = absurd (omega arith)
+text_odd bs len p mid bs' (x ∷ xs) m all h e g =
+    let ds = map digit_value xs in
+    let n : length ds ≡ length xs = length-map xs digit_value in
+    let l : map (λ d. d % 16) xs ≡ ds = low_letters xs all.1 in
+    let f : halves bs' ≡ halves mid ++ (ds ++ replicate (length ds % 2) 0) =
+    g ∙ ap (λ l. halves mid ++ (l ++ replicate (length xs % 2) 0)) l ∙ ap (λ k. halves mid ++ (ds ++ replicate (k % 2) 0)) (sym n) in
+    let first : x % 16 ≡ digit_value x = ap (λ l. get_or l 0 0) (low_letters (x ∷ xs) all) in
+    let e' : halves mid ≡ set (halves bs) len (digit_value x) = e ∙ ap (λ d. set (halves bs) len d) first in
+    rw (← n) (holds_run_odd bs len p mid bs' ds (digit_value x) m all.0 (read_decimal xs all.1) e' f)
+
+-- ---- text that goes out
+-- the halves from an even index on
+pub halves_from_even : (bs : List ℕ) (from : ℕ) → from % 2 ≡ 0
+    → halves (take (length bs - from / 2) (drop (from / 2) bs)) ≡ drop from (halves bs)
+halves_from_even bs from m =
+    let t : 2 * (from / 2) ≡ from = omega arith in
+    ap halves (rest_is (from / 2) bs) ∙ halves-drop (from / 2) bs ∙ ap (λ j. drop j (halves bs)) t
+
+-- the halves behind an odd index
+pub halves_behind_odd : (bs : List ℕ) (from : ℕ) → from % 2 ≢ 0
+    → halves (take (length bs - (from / 2 + 1)) (drop (from / 2 + 1) bs)) ≡ drop (from + 1) (halves bs)
+halves_behind_odd bs from m =
+    let t : 2 * (from / 2 + 1) ≡ from + 1 = omega arith in
+    ap halves (rest_is (from / 2 + 1) bs) ∙ halves-drop (from / 2 + 1) bs ∙ ap (λ j. drop j (halves bs)) t
+
+-- a first letter, and then those of the halves behind
+pub letters_from_odd : (bs ps qs : List ℕ) (from : ℕ) → from % 2 ≢ 0 → 0 < length ps
+    → from + length ps ≤ length (halves bs)
+    → qs ≡ text_of (take (length (take (length (set ps 0 (48 + get_or bs (from / 2) 0 % 16)) - 1)
+    (drop 1 (set ps 0 (48 + get_or bs (from / 2) 0 % 16)))))
+    (halves (take (length bs - (from / 2 + 1)) (drop (from / 2 + 1) bs))))
+    → take 1 (set ps 0 (48 + get_or bs (from / 2) 0 % 16))
+    ++ (qs ++ drop (length (set ps 0 (48 + get_or bs (from / 2) 0 % 16)) - 1)
+    (drop 1 (set ps 0 (48 + get_or bs (from / 2) 0 % 16))))
+    ≡ text_of (take (length ps) (drop from (halves bs)))
+letters_from_odd bs [] qs from m z h e = absurd (omega arith)
+letters_from_odd bs (p ∷ ps) qs from m z h e =
+    let x = 48 + get_or bs (from / 2) 0 % 16 in
+    let lt : from < length (halves bs) = omega arith in
+    let byte : from / 2 < length bs = omega (arith, length-halves bs) in
+    let i : 2 * (from / 2) + 1 ≡ from = omega arith in
+    let n : suc (length ps) - 1 ≡ length ps = omega arith in
+    let left : drop (suc (length ps) - 1) ps ≡ [] = drop_all (suc (length ps) - 1) ps (omega arith) in
+    let count : length (take (suc (length ps) - 1) ps) ≡ length ps = ap length (take_all (suc (length ps) - 1) ps (omega arith)) in
+    let first : get_or bs (from / 2) 0 % 16 ≡ get_or (halves bs) from 0 =
+    sym (low_half bs (from / 2) byte) ∙ ap (λ j. get_or (halves bs) j 0) i in
+    let rest : qs ≡ text_of (take (length ps) (drop (from + 1) (halves bs))) =
+    e ∙ ap (λ j. text_of (take j (halves (take (length bs - (from / 2 + 1)) (drop (from / 2 + 1) bs))))) count
+    ∙ ap (λ l. text_of (take (length ps) l)) (halves_behind_odd bs from m) in
+    ap (λ l. x ∷ (qs ++ l)) left ∙ ap (λ l. x ∷ l) (append-nil qs ∙ rest)
+    ∙ ap (λ d. (48 + d) ∷ text_of (take (length ps) (drop (from + 1) (halves bs)))) first
+    ∙ ap (λ l. text_of (take (suc (length ps)) l)) (sym (drop_more (halves bs) from 0 lt))
+
+-- ---- equal digits at an end
+-- both halves of a byte that repeats one are that one
+both_halves : (bs : List ℕ) (k half : ℕ) → k < length (halves bs) → half < 16 → get_or bs (k / 2) 0 ≡ half * 17
+    → get_or (halves bs) k 0 ≡ half
+both_halves bs k half h s e =
+    let lt : k / 2 < length bs = omega (arith, length-halves bs) in
+    elim (cases_eq (k % 2) 0) [
+      | inl m ↦
+          let i : 2 * (k / 2) ≡ k = omega arith in
+          let v : get_or (halves bs) k 0 ≡ get_or bs (k / 2) 0 / 16 = ap (λ j. get_or (halves bs) j 0) (sym i) ∙ high_half bs (k / 2) lt in
+          omega arith
+      | inr m ↦
+          let i : 2 * (k / 2) + 1 ≡ k = omega arith in
+          let v : get_or (halves bs) k 0 ≡ get_or bs (k / 2) 0 % 16 = ap (λ j. get_or (halves bs) j 0) (sym i) ∙ low_half bs (k / 2) lt in
+          omega arith
+    ]
+
+-- of the first `count` halves an odd last one equals this one, and so do both of each of so many bytes before it
+pub record EndsIn (bs : List ℕ) (count half same : ℕ) : Type 0 where
+  pub in_range : count ≤ length (halves bs)
+  pub is_half : half < 16
+  pub odd : count % 2 ≡ 1 → get_or bs (count / 2) 0 / 16 ≡ half
+  pub pairs : (k : ℕ) → count / 2 ≤ k + same → k < count / 2 → get_or bs k 0 ≡ half * 17
+
+-- so it is where the bytes before the odd one are counted
+pub ends_in : (bs : List ℕ) (count half same : ℕ) → count ≤ length (halves bs) → half < 16
+    → (count % 2 ≡ 1 → get_or bs (count / 2) 0 / 16 ≡ half)
+    → ((k : ℕ) → length (take (count / 2) bs) ≤ k + same → k < length (take (count / 2) bs)
+    → get_or (take (count / 2) bs) k 0 ≡ half * 17)
+    → EndsIn bs count half same
+ends_in bs count half same h q o f =
+    let l : length (take (count / 2) bs) ≡ count / 2 = length-take-le (count / 2) bs (omega (arith, length-halves bs)) in
+    record {
+      in_range = h;
+      is_half = q;
+      odd = o;
+      pairs = λ k a b. sym (get_or-take (count / 2) bs k 0 b) ∙ f k (omega arith) (omega arith);
+    }
+
+-- the byte before those that were counted
+pub byte_before : (bs : List ℕ) (pairs same byte : ℕ) → pairs ≤ length bs → same < pairs
+    → (same < length (take pairs bs) → get_or (take pairs bs) (length (take pairs bs) - same - 1) 0 ≢ byte)
+    → get_or bs (pairs - 1 - same) 0 ≢ byte
+byte_before bs pairs same byte h q f e =
+    let l : length (take pairs bs) ≡ pairs = length-take-le pairs bs h in
+    let i : length (take pairs bs) - same - 1 ≡ pairs - 1 - same = omega arith in
+    let lt : pairs - 1 - same < pairs = omega arith in
+    f (omega arith) (ap (λ j. get_or (take pairs bs) j 0) i ∙ get_or-take pairs bs (pairs - 1 - same) 0 lt ∙ e)
+
+-- those halves equal it
+pub equal_halves : (bs : List ℕ) (count half same : ℕ) → EndsIn bs count half same
+    → (k : ℕ) → count ≤ k + (count % 2 + 2 * same) → k < count → get_or (halves bs) k 0 ≡ half
+equal_halves bs count half same t k h q =
+    let r = t.in_range in
+    let lt : k < length (halves bs) = omega arith in
+    elim (cases_eq (k / 2) (count / 2)) [
+      | inl s ↦
+          let m : count % 2 ≡ 1 = omega arith in
+          let i : 2 * (count / 2) ≡ k = omega arith in
+          let byte : count / 2 < length bs = omega (arith, length-halves bs) in
+          ap (λ j. get_or (halves bs) j 0) (sym i) ∙ high_half bs (count / 2) byte ∙ t.odd m
+      | inr s ↦ both_halves bs k half lt t.is_half (t.pairs (k / 2) (omega arith) (omega arith))
+    ]
+
+-- the half before them
+last_low : (bs : List ℕ) (count half same : ℕ) → EndsIn bs count half same → same < count / 2
+    → get_or (halves bs) (2 * (count / 2 - 1 - same) + 1) 0 ≡ get_or bs (count / 2 - 1 - same) 0 % 16
+last_low bs count half same t h =
+    let r = t.in_range in
+    low_half bs (count / 2 - 1 - same) (omega (arith, length-halves bs))
+
+-- where the half before them equals it too, one more does
+pub equal_halves_more : (bs : List ℕ) (count half same : ℕ) → EndsIn bs count half same → same < count / 2
+    → get_or bs (count / 2 - 1 - same) 0 % 16 ≡ half
+    → (k : ℕ) → count ≤ k + (count % 2 + 2 * same + 1) → k < count → get_or (halves bs) k 0 ≡ half
+equal_halves_more bs count half same t h v k g q =
+    elim (cases_eq k (2 * (count / 2 - 1 - same) + 1)) [
+      | inl s ↦ ap (λ j. get_or (halves bs) j 0) s ∙ last_low bs count half same t h ∙ v
+      | inr s ↦ equal_halves bs count half same t k (omega arith) q
+    ]
+
+-- where the half before them differs, no more do
+pub halves_end : (bs : List ℕ) (count half same : ℕ) → EndsIn bs count half same
+    → (same < count / 2 → get_or bs (count / 2 - 1 - same) 0 % 16 ≢ half)
+    → count % 2 + 2 * same < count → get_or (halves bs) (count - (count % 2 + 2 * same) - 1) 0 ≢ half
+halves_end bs count half same t v h e =
+    let lt : same < count / 2 = omega arith in
+    let i : count - (count % 2 + 2 * same) - 1 ≡ 2 * (count / 2 - 1 - same) + 1 = omega arith in
+    v lt (sym (ap (λ j. get_or (halves bs) j 0) i ∙ last_low bs count half same t lt) ∙ e)
+
+-- where the byte before them does not repeat it, its high half differs where the low one does not
+pub halves_end_more : (bs : List ℕ) (count half same : ℕ) → EndsIn bs count half same → same < count / 2
+    → get_or bs (count / 2 - 1 - same) 0 % 16 ≡ half → get_or bs (count / 2 - 1 - same) 0 ≢ half * 17
+    → count % 2 + 2 * same + 1 < count → get_or (halves bs) (count - (count % 2 + 2 * same + 1) - 1) 0 ≢ half
+halves_end_more bs count half same t lt v w h e =
+    let r = t.in_range in
+    let at = count / 2 - 1 - same in
+    let byte : at < length bs = omega (arith, length-halves bs) in
+    let i : count - (count % 2 + 2 * same + 1) - 1 ≡ 2 * at = omega arith in
+    let high : get_or bs at 0 / 16 ≡ half = sym (ap (λ j. get_or (halves bs) j 0) i ∙ high_half bs at byte) ∙ e in
+    w (omega arith)
