@@ -6,7 +6,7 @@ use Rattle.std.specs.Int.{int_gap}
 use Rattle.std.proofs.Math.ListN.{get_or-append}
 use Rattle.std.proofs.lemmas.Int.{ints}
 use Rattle.std.proofs.lemmas.Bool.{cases_lt}
-use Rattle.std.proofs.lemmas.List.{get_or-append_right, get_or-replicate, get_or-map, get_or-take, get_or-drop, get_or-set_same, get_or-set_other, length-set, length-append, length-take-le, length-drop, length-map, length-replicate}
+use Rattle.std.proofs.lemmas.List.{ext_get_or, get_or-append_right, get_or-replicate, get_or-map, get_or-take, get_or-drop, get_or-set_same, get_or-set_other, length-set, length-append, length-take, length-take-le, length-drop, length-map, length-replicate}
 use Rattle.decimal_digits.specs.Number.{place, digit}
 use Rattle.decimal_digits.specs.Digits.{text_of, number_of}
 use Rattle.decimal_digits.proofs.Places.{place_is, gap_is}
@@ -80,6 +80,39 @@ module _ (a : ℕ) (xs us ws : List ℕ) (us_full : length us ≡ a) (inside : a
 
   pub around_behind : (i : ℕ) → a < i → i < length xs → get_or (take (a + 1) (dotted a us xs) ++ (ws ++ drop (length (dotted a us xs) - (a + 1)) (drop (a + 1) (dotted a us xs)))) i 0 ≡ get_or ws (i - (a + 1)) 0
   around_behind i h l = part_within (a + 1) _ (dotted a us xs) ws fits full i (omega arith) (omega (arith, dotted_length))
+
+-- ---- places that hold zeros, byte by byte
+all_zeros : (xs : List ℕ) → ((i : ℕ) → i < length xs → get_or xs i 0 ≡ 48) → xs ≡ replicate (length xs) 48
+all_zeros xs zero = ext_get_or 0 xs (replicate (length xs) 48) (sym (length-replicate (length xs) 48)) (λ i h. zero i h ∙ sym (get_or-replicate (length xs) i 48 0 h))
+
+module _ (xs : List ℕ) (zeros : xs ≡ replicate (length xs) 48) where
+  zero_at : (i : ℕ) → i < length xs → get_or xs i 0 ≡ 48
+  zero_at i h = ap (λ l. get_or l i 0) zeros ∙ get_or-replicate (length xs) i 48 0 h
+
+  pub zeros_front : (a : ℕ) → take a xs ≡ replicate (length (take a xs)) 48
+  zeros_front a = all_zeros (take a xs) (λ i h.
+      let l = length-take a xs in
+      let k : i < a = omega arith in
+      get_or-take a xs i 0 k ∙ zero_at i (omega arith))
+
+  pub zeros_behind : (a : ℕ) (us : List ℕ) → length us ≡ a → a < length xs
+      → take (length (dotted a us xs) - (a + 1)) (drop (a + 1) (dotted a us xs)) ≡ replicate (length (take (length (dotted a us xs) - (a + 1)) (drop (a + 1) (dotted a us xs)))) 48
+  zeros_behind a us full inside = all_zeros _ (λ i h.
+      let l = length-behind a xs us full inside in
+      let k : i < length (dotted a us xs) - (a + 1) = omega (arith, length-dotted a xs us full inside) in
+      get_or-take (length (dotted a us xs) - (a + 1)) (drop (a + 1) (dotted a us xs)) i 0 k
+      ∙ get_or-drop (a + 1) (dotted a us xs) i 0
+      ∙ get_or-set_other (us ++ drop a xs) a (a + 1 + i) 46 0 (omega arith)
+      ∙ get_or-append_right us (drop a xs) a (a + 1 + i) 0 full (omega arith)
+      ∙ get_or-drop a xs (a + 1 + i - a) 0
+      ∙ zero_at (a + (a + 1 + i - a)) (omega arith))
+
+-- a block of so many
+abbrev pub block_of : ℕ → List ℕ
+block_of n = replicate n 48
+
+pub zeros_first : (n a : ℕ) → take a (block_of n) ≡ replicate (length (take a (block_of n))) 48
+zeros_first n a = zeros_front (block_of n) (ap block_of (sym (length-replicate {A = ℕ} n 48))) a
 
 -- how far a magnitude lies below the first one, or 0
 pub index_gap : (index : Option ℕ) (first magnitude : ℤ) → IfSome index (λ i. magnitude +ℤ pos i ≡ first) → IfNone index (first <ℤ magnitude) → unwrap_or index 0 ≡ int_gap magnitude first

@@ -18,12 +18,12 @@ impl<D: DigitStore> fmt::Display for UnsignedOver<D> {
     /// Err: the formatter refused a character. The original's `Display`.
     fn fmt<W: fmt::Write>(&self, f: &mut fmt::Formatter<W>) -> fmt::Result {
         let length = self.writeable_length_hint();
-        let mut block = [0; BLOCK];
         let mut written = 0;
         while written < length {
+            let mut block = [b'0'; BLOCK];
             let piece = &mut block[..BLOCK.min(length - written)];
             self.copy_text(written, piece);
-            // A digit and a dot are ASCII.
+            // SAFETY: digits and a dot are ASCII, which is proved here.
             f.write_str(unsafe { str::from_utf8_unchecked(piece) })?;
             written += piece.len();
         }

@@ -1,5 +1,5 @@
 //! The text of a value.
-ghost use Rattle.std.specs.Prelude.{◌≡◌, ◌+◌, ◌-ℤ◌, ◌<◌, ◌≤◌, length, take, drop, slice_index, EachIndex, Ok, OnOk, OnErr, pos, true};
+ghost use Rattle.std.specs.Prelude.{◌≡◌, ◌+◌, ◌-ℤ◌, ◌<◌, ◌≤◌, length, take, drop, replicate, slice_index, EachIndex, Ok, OnOk, OnErr, pos, true};
 ghost use Rattle.std.specs.Io.KnownBytes.{Appends};
 ghost use Rattle.decimal_digits.specs.Number.{place, digit};
 ghost use Rattle.decimal_digits.specs.Text.{AppendsBeginning};
@@ -11,26 +11,36 @@ use decimal_digits::digits::DigitStore;
 use decimal_digits::ops::{count_between, index_of, magnitude_of};
 use decimal_digits::sink::{Sink, SinkFault, Writeable};
 
-/// How many bytes of a text are made at a time.
+/// How many bytes of a text are made and put into a sink at a time. Most texts are shorter.
 pub(super) const BLOCK: usize = 64;
 
 impl<D: DigitStore> UnsignedOver<D> {
-    /// Writes the digits at so many magnitudes, from one down, without a dot.
+    /// Writes the digits at so many magnitudes, from one down, without a dot: those held, among zeros.
+    ///
+    /// Requires zeros, and magnitudes of at least -32768.
+    #[inline]
     fn copy_digits(&self, magnitude: i16, places: &mut [u8])
-        requires { length places.old ≤ place magnitude + 1 }
+        requires zeros { places.old ≡ replicate (length places.old) 48 }
+        requires in_limits { length places.old ≤ place magnitude + 1 }
         ensures { EachIndex places.new
             (λ k. slice_index places.new k ≡ 48 + digit self.now.number (magnitude -ℤ pos k)) }
     {
-        places.fill(b'0');
         let digits = self.digits.len();
         let from = index_of(self.magnitude, magnitude).unwrap_or(0).min(digits);
-        let start = index_of(magnitude, self.magnitude).unwrap_or(0).min(places.len());
+        let start = index_of(magnitude, self.magnitude)
+            .unwrap_or(0)
+            .min(places.len());
         let count = (digits - from).min(places.len() - start);
-        self.digits.copy_text(from, &mut places[start..start + count]);
+        self.digits
+            .copy_text(from, &mut places[start..start + count]);
     }
 
     /// Writes the bytes of the text from an index on, as many as there are places.
+    ///
+    /// Requires places that hold zeros, at least one, and so many bytes from there on.
+    #[inline]
     pub(super) fn copy_text(&self, from: usize, places: &mut [u8])
+        requires zeros { places.old ≡ replicate (length places.old) 48 }
         requires some { 0 < length places.old }
         requires in_text { from + length places.old ≤ length (text self.now) }
         ensures { places.new ≡ take (length places.old) (drop from (text self.now)) }
@@ -65,9 +75,9 @@ impl<D: DigitStore> Writeable for UnsignedOver<D> {
     {
         let _range = self.magnitude_range();
         let length = self.writeable_length_hint();
-        let mut block = [0; BLOCK];
         let mut written = 0;
         while written < length {
+            let mut block = [b'0'; BLOCK];
             let piece = &mut block[..BLOCK.min(length - written)];
             self.copy_text(written, piece);
             sink.put_bytes(piece)?;

@@ -4,15 +4,15 @@ use Rattle.std.specs.Int.{int_gap}
 use Rattle.std.proofs.lemmas.List.{length-take-le}
 use Rattle.decimal_unsigned.proofs.Values.{narrow_kept}
 use Rattle.decimal_unsigned.proofs.Lengths.{text_short}
-use Rattle.decimal_unsigned.proofs.Blocks.{length-behind}
+use Rattle.decimal_unsigned.proofs.Blocks.{length-behind, zeros_front, zeros_behind}
 use Rattle.decimal_unsigned.proofs.Pieces.{room_above, piece_above, limit_below, room_below, piece_below, room_behind, piece_over}
 use Rattle.decimal_unsigned.proofs.decimal.UnsignedOver.copy_text.Goals as goal
 
 pub overflow_add-from : goal.overflow_add-from
 overflow_add-from g c = omega (arith, text_short c.args.self.now c.highest-hi.ensures.valid)
 
-pub copy_digits-requires : goal.copy_digits-requires
-copy_digits-requires g c =
+pub copy_digits-requires-clause-in_limits : goal.copy_digits-requires-clause-in_limits
+copy_digits-requires-clause-in_limits g c =
     let hi = narrow_kept c.highest-hi.type_inv ∙ c.highest-hi.ensures.value in
     room_above c.args.self.now c.highest-hi.ensures.valid _ hi _ c.count_between-dot.ensures c.args.from (length c.args.places.now) c.requires.some c.requires.in_text
     _ _ (narrow_kept c.magnitude_of.type_inv ∙ c.magnitude_of.ensures) c.if-from-places.true
@@ -22,21 +22,21 @@ magnitude_of-requires-then-dot-from g c =
     let hi = narrow_kept c.highest-hi.type_inv ∙ c.highest-hi.ensures.value in
     limit_below c.args.self.now c.highest-hi.ensures.valid _ hi _ c.count_between-dot.ensures c.args.from (length c.args.places.now) c.requires.some c.requires.in_text c.if-dot-from.true
 
-pub copy_digits-requires-then-dot-from : goal.copy_digits-requires-then-dot-from
-copy_digits-requires-then-dot-from g c =
+pub copy_digits-requires-then-dot-from-clause-in_limits : goal.copy_digits-requires-then-dot-from-clause-in_limits
+copy_digits-requires-then-dot-from-clause-in_limits g c =
     let hi = narrow_kept c.highest-hi.type_inv ∙ c.highest-hi.ensures.value in
     room_below c.args.self.now c.highest-hi.ensures.valid _ hi _ c.count_between-dot.ensures c.args.from (length c.args.places.now) c.requires.some c.requires.in_text
     _ (narrow_kept c.magnitude_of-then-dot-from.type_inv ∙ c.magnitude_of-then-dot-from.ensures) c.if-dot-from.true
 
-pub copy_digits-requires-else-dot-from : goal.copy_digits-requires-else-dot-from
-copy_digits-requires-else-dot-from g c =
+pub copy_digits-requires-else-dot-from-clause-in_limits : goal.copy_digits-requires-else-dot-from-clause-in_limits
+copy_digits-requires-else-dot-from-clause-in_limits g c =
     let hi = narrow_kept c.highest-hi.type_inv ∙ c.highest-hi.ensures.value in
     let few = length-take-le (c.count_between-dot.result - c.args.from) c.args.places.now (omega arith) in
     room_above c.args.self.now c.highest-hi.ensures.valid _ hi _ c.count_between-dot.ensures c.args.from (length c.args.places.now) c.requires.some c.requires.in_text
     _ _ (narrow_kept c.magnitude_of-else-dot-from.type_inv ∙ c.magnitude_of-else-dot-from.ensures) (omega (arith, few))
 
-pub copy_digits-requires-else-dot-from-2 : goal.copy_digits-requires-else-dot-from-2
-copy_digits-requires-else-dot-from-2 g c =
+pub copy_digits-requires-else-dot-from-2-clause-in_limits : goal.copy_digits-requires-else-dot-from-2-clause-in_limits
+copy_digits-requires-else-dot-from-2-clause-in_limits g c =
     let hi = narrow_kept c.highest-hi.type_inv ∙ c.highest-hi.ensures.value in
     let a = c.count_between-dot.result - c.args.from in
     let us = c.copy_digits-else-dot-from.new.places in
@@ -44,6 +44,16 @@ copy_digits-requires-else-dot-from-2 g c =
     let behind = length-behind a c.args.places.now us us_full (omega arith) in
     room_behind c.args.self.now c.highest-hi.ensures.valid _ hi _ c.count_between-dot.ensures c.args.from (length c.args.places.now) c.requires.some c.requires.in_text
     _ (omega (arith, behind)) c.if-dot-from.false c.if-from-places.false
+
+pub copy_digits-requires-else-dot-from-clause-zeros : goal.copy_digits-requires-else-dot-from-clause-zeros
+copy_digits-requires-else-dot-from-clause-zeros g c = zeros_front c.args.places.now c.requires.zeros (c.count_between-dot.result - c.args.from)
+
+pub copy_digits-requires-else-dot-from-2-clause-zeros : goal.copy_digits-requires-else-dot-from-2-clause-zeros
+copy_digits-requires-else-dot-from-2-clause-zeros g c =
+    let a = c.count_between-dot.result - c.args.from in
+    let us = c.copy_digits-else-dot-from.new.places in
+    let us_full : length us ≡ a = c.copy_digits-else-dot-from.auto.places ∙ length-take-le a c.args.places.now (omega arith) in
+    zeros_behind c.args.places.now c.requires.zeros a us us_full (omega arith)
 
 pub returns-then-from-places : goal.returns-then-from-places
 returns-then-from-places g c =

@@ -6,6 +6,7 @@ use Rattle.std.specs.Fmt.{HasWrittenStyled}
 use Rattle.std.specs.Str.{IsAscii}
 use Rattle.decimal_unsigned.specs.Text.{text}
 use Rattle.decimal_unsigned.proofs.TextBytes.{text_ascii}
+use Rattle.decimal_unsigned.proofs.Blocks.{block_of, zeros_first}
 use Rattle.decimal_unsigned.proofs.Writing.{piece_taken}
 use Rattle.decimal_unsigned.proofs.decimal.display.UnsignedOverDisplay.fmt.Goals as goal
 
@@ -13,9 +14,12 @@ pub from_utf8_unchecked-requires : goal.from_utf8_unchecked-requires
 from_utf8_unchecked-requires g c =
     IsUtf8-from_ascii _ (subst IsAscii (sym c.copy_text.ensures) (IsAscii-take _ _ (IsAscii-drop _ _ (text_ascii c.args.self.now))))
 
+pub copy_text-requires-clause-zeros : goal.copy_text-requires-clause-zeros
+copy_text-requires-clause-zeros g c = zeros_first 64 c.min.result
+
 pub loop-written-preserved : goal.loop-written-preserved
 loop-written-preserved g c =
-    let few = length-take c.min.result c.loop-written.block in
+    let few = length-take c.min.result (block_of 64) in
     let took = g.W.Write.write_str_gives in
     let all = text c.args.self.now in
     let i = c.loop-written.written in

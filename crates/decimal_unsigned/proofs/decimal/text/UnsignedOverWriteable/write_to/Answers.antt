@@ -3,12 +3,16 @@ use Rattle.std.proofs.lemmas.List.{length-take}
 use Rattle.decimal_digits.proofs.Results.{on_err}
 use Rattle.decimal_unsigned.specs.Text.{text}
 use Rattle.decimal_unsigned.proofs.ReadBack.{read_text}
+use Rattle.decimal_unsigned.proofs.Blocks.{block_of, zeros_first}
 use Rattle.decimal_unsigned.proofs.Writing.{wrote_more, wrote_part, wrote_all}
 use Rattle.decimal_unsigned.proofs.decimal.text.UnsignedOverWriteable.write_to.Goals as goal
 
+pub copy_text-requires-clause-zeros : goal.copy_text-requires-clause-zeros
+copy_text-requires-clause-zeros g c = zeros_first 64 c.min.result
+
 pub loop-written-preserved : goal.loop-written-preserved
 loop-written-preserved g c =
-    let few = length-take c.min.result c.loop-written.block in
+    let few = length-take c.min.result (block_of 64) in
     let same = c.copy_text.auto.places in
     record {
       within = omega (arith, few, same, c.min.ensures);
@@ -17,7 +21,7 @@ loop-written-preserved g c =
 
 pub returns-in_err-put_bytes-clause-err : goal.returns-in_err-put_bytes-clause-err
 returns-in_err-put_bytes-clause-err g c =
-    let few = length-take c.min.result c.loop-written.block in
+    let few = length-take c.min.result (block_of 64) in
     on_err c.from_residual.result _ (wrote_part _ _ _ (text c.args.self.now) c.copy_text.new.places c.loop-written.written _ (omega (arith, few, c.min.ensures, c.writeable_length_hint-length.ensures.length)) c.copy_text.ensures c.loop-written.invariant.appended c.in_err-put_bytes.ensures.begins)
 
 pub returns-in_err-put_bytes-clause-reads_back : goal.returns-in_err-put_bytes-clause-reads_back
