@@ -13,6 +13,7 @@ pub mod Results
 pub mod Halves
 pub mod HalfPasses
 pub mod Packing
+pub mod Sinks
 pub mod Refills
 pub mod DigitTexts
 pub mod HalfRuns

@@ -7,6 +7,8 @@ pub mod Joins
 pub mod FirstLast
 pub mod JoiningLaws
 pub mod Writing
+pub mod TextBytes
+pub mod Blocks
 pub mod Formatting
 pub mod Lengths
 pub mod EditLaws
@@ -21,3 +23,4 @@ pub mod ParserAnswers
 pub mod ReadBack
 pub mod Roundings
 pub mod RoundingLaws
+pub mod Pieces

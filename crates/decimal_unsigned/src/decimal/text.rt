@@ -1,32 +1,63 @@
 //! The text of a value.
-ghost use Rattle.std.specs.Prelude.{◌≡◌, ◌+◌, ◌≤◌, ◌∷◌, ◌++◌, [], length, Ok, OnOk, OnErr, true};
+ghost use Rattle.std.specs.Prelude.{◌≡◌, ◌+◌, ◌-ℤ◌, ◌<◌, ◌≤◌, length, take, drop, replicate, slice_index, EachIndex, Ok, OnOk, OnErr, pos, true};
 ghost use Rattle.std.specs.Io.KnownBytes.{Appends};
-ghost use Rattle.decimal_digits.specs.Number.{digit};
+ghost use Rattle.decimal_digits.specs.Number.{place, digit};
 ghost use Rattle.decimal_digits.specs.Text.{AppendsBeginning};
-ghost use Rattle.decimal_unsigned.specs.Text.{dot_before, text};
+ghost use Rattle.decimal_unsigned.specs.Text.{text};
 ghost use Rattle.decimal_unsigned.specs.Reading.{read};
 
 use super::UnsignedOver;
 use decimal_digits::digits::DigitStore;
-use decimal_digits::ops::{count_between, lowered};
+use decimal_digits::ops::{count_between, index_of, magnitude_of};
 use decimal_digits::sink::{Sink, SinkFault, Writeable};
 
-/// Writes the digit at a magnitude, with a dot in front at -1.
-fn write_digit<D: DigitStore, W: Sink>(
-    value: &UnsignedOver<D>,
-    magnitude: i16,
-    sink: &mut W,
-) -> Result<(), SinkFault>
-    ensures ok { OnOk result (Appends (W.contents sink.old) (W.contents sink.new)
-        (dot_before magnitude ++ (48 + digit value.now.number magnitude) ∷ [])) }
-    ensures err { OnErr result (AppendsBeginning (W.contents sink.old) (W.contents sink.new)
-        (dot_before magnitude ++ (48 + digit value.now.number magnitude) ∷ [])) }
-    ensures failed { OnErr result (W.has_failed sink.new ≡ true) }
-{
-    if magnitude == -1 {
-        sink.put_byte(b'.')?;
+/// How many bytes of a text are made and put into a sink at a time. Most texts are shorter.
+pub(super) const BLOCK: usize = 64;
+
+impl<D: DigitStore> UnsignedOver<D> {
+    /// Writes the digits at so many magnitudes, from one down, without a dot: those held, among zeros.
+    ///
+    /// Requires zeros, and magnitudes of at least -32768.
+    #[inline]
+    fn copy_digits(&self, magnitude: i16, places: &mut [u8])
+        requires zeros { places.old ≡ replicate (length places.old) 48 }
+        requires in_limits { length places.old ≤ place magnitude + 1 }
+        ensures { EachIndex places.new
+            (λ k. slice_index places.new k ≡ 48 + digit self.now.number (magnitude -ℤ pos k)) }
+    {
+        let digits = self.digits.len();
+        let from = index_of(self.magnitude, magnitude).unwrap_or(0).min(digits);
+        let start = index_of(magnitude, self.magnitude)
+            .unwrap_or(0)
+            .min(places.len());
+        let count = (digits - from).min(places.len() - start);
+        self.digits
+            .copy_text(from, &mut places[start..start + count]);
     }
-    sink.put_byte(b'0' + value.digit_at(magnitude))
+
+    /// Writes the bytes of the text from an index on, as many as there are places.
+    ///
+    /// Requires places that hold zeros, at least one, and so many bytes from there on.
+    #[inline]
+    pub(super) fn copy_text(&self, from: usize, places: &mut [u8])
+        requires zeros { places.old ≡ replicate (length places.old) 48 }
+        requires some { 0 < length places.old }
+        requires in_text { from + length places.old ≤ length (text self.now) }
+        ensures { places.new ≡ take (length places.old) (drop from (text self.now)) }
+    {
+        let hi = self.highest();
+        let dot = count_between(0, hi) as usize;
+        if from + places.len() <= dot {
+            self.copy_digits(magnitude_of(hi, from), places);
+        } else if dot < from {
+            self.copy_digits(magnitude_of(-1, from - dot - 1), places);
+        } else {
+            let above = dot - from;
+            self.copy_digits(magnitude_of(hi, from), &mut places[..above]);
+            places[above] = b'.';
+            self.copy_digits(-1, &mut places[above + 1..]);
+        }
+    }
 }
 
 impl<D: DigitStore> Writeable for UnsignedOver<D> {
@@ -42,11 +73,15 @@ impl<D: DigitStore> Writeable for UnsignedOver<D> {
         ensures failed { OnErr result (W.has_failed sink.new ≡ true) }
         ensures reads_back { read (text self.now) ≡ Ok self.now }
     {
-        let hi = self.highest();
-        let count = count_between(self.lowest(), hi);
-        for index in 0..count {
-            let magnitude = lowered(hi, index);
-            write_digit(self, magnitude, sink)?;
+        let _range = self.magnitude_range();
+        let length = self.writeable_length_hint();
+        let mut written = 0;
+        while written < length {
+            let mut block = [b'0'; BLOCK];
+            let piece = &mut block[..BLOCK.min(length - written)];
+            self.copy_text(written, piece);
+            sink.put_bytes(piece)?;
+            written += piece.len();
         }
         Ok(())
     }

@@ -1,6 +1,7 @@
 use Rattle.std.proofs.Common.{arith}
 use Rattle.std.proofs.lemmas.Result.{on_ok_weaker, on_err_weaker}
-use Rattle.decimal_unsigned.proofs.Writing.{part_more, then_part, appends_both, OnErr-always}
+use Rattle.decimal_digits.proofs.Results.{on_err}
+use Rattle.decimal_digits.proofs.Sinks.{part_more, then_part, appends_both}
 use Rattle.fixed_decimal.proofs.CompactTexts.{one_digit, last_digit, keeps_part}
 use Rattle.fixed_decimal.proofs.compact.+write_number.Goals as goal
 
@@ -9,7 +10,7 @@ returns-then-number-lt10-clause-ok g t c = rw (one_digit c.args.number c.if-numb
 
 pub returns-in_err-write_number-clause-err : goal.returns-in_err-write_number-clause-err
 returns-in_err-write_number-clause-err g t c =
-    rw (last_digit c.args.number (omega arith) c.if-number-lt10.false) (on_err_weaker c.from_residual.result (λ (t : Unit {0}). part_more _ _ _ _ c.in_err-write_number.ensures.err) (OnErr-always c.from_residual.result))
+    rw (last_digit c.args.number (omega arith) c.if-number-lt10.false) (on_err c.from_residual.result _ (part_more _ _ _ _ c.in_err-write_number.ensures.err))
 
 pub returns-clause-ok : goal.returns-clause-ok
 returns-clause-ok g t c =

@@ -1,12 +1,13 @@
 use Rattle.std.proofs.Common.{◌≡◌, ◌==◌, false, arith}
 use Rattle.std.proofs.lemmas.Bool.Decides.{nat_tests}
 use Rattle.std.proofs.lemmas.Result.{on_err_weaker}
-use Rattle.decimal_unsigned.proofs.Writing.{part_more, then_part, OnErr-always}
+use Rattle.decimal_digits.proofs.Results.{on_err}
+use Rattle.decimal_digits.proofs.Sinks.{part_more, then_part}
 use Rattle.fixed_decimal.proofs.compact.CompactDecimalWriteable.write_to.Goals as goal
 
 pub returns-in_err-write_to-clause-err : goal.returns-in_err-write_to-clause-err
 returns-in_err-write_to-clause-err g c =
-    rw (← c.self.view_is) (on_err_weaker c.from_residual.result (λ (t : Unit {0}). part_more _ _ _ _ c.in_err-write_to.ensures.err) (OnErr-always c.from_residual.result))
+    rw (← c.self.view_is) (on_err c.from_residual.result _ (part_more _ _ _ _ c.in_err-write_to.ensures.err))
 
 pub returns-clause-err : goal.returns-clause-err
 returns-clause-err g c =

@@ -1,21 +1,36 @@
-use Rattle.std.proofs.Common.{pos, ◌-ℤ◌, refl, ◌∙◌, ap, arith}
-use Rattle.std.specs.Fmt.{IsFlush}
-use Rattle.decimal_unsigned.proofs.Values.{narrow_kept, counted}
-use Rattle.decimal_unsigned.proofs.Formatting.{formatted_none, formatted_more, formatted_all, written_plain}
+use Rattle.std.proofs.Common.{◌+◌, ◌++◌, length, take, refl, sym, subst, arith}
+use Rattle.std.proofs.lemmas.List.{length-take}
+use Rattle.std.proofs.lemmas.Str.{IsUtf8-from_ascii, IsAscii-take, IsAscii-drop}
+use Rattle.std.proofs.Output.{has_written_styled_append, has_written_styled_of_eq}
+use Rattle.std.specs.Fmt.{HasWrittenStyled}
+use Rattle.std.specs.Str.{IsAscii}
+use Rattle.decimal_unsigned.specs.Text.{text}
+use Rattle.decimal_unsigned.proofs.TextBytes.{text_ascii}
+use Rattle.decimal_unsigned.proofs.Blocks.{block_of, zeros_first}
+use Rattle.decimal_unsigned.proofs.Writing.{piece_taken}
 use Rattle.decimal_unsigned.proofs.decimal.display.UnsignedOverDisplay.fmt.Goals as goal
 
-pub loop-index-init : goal.loop-index-init
-loop-index-init g c flush = formatted_none c.args.f.now flush
+pub from_utf8_unchecked-requires : goal.from_utf8_unchecked-requires
+from_utf8_unchecked-requires g c =
+    IsUtf8-from_ascii _ (subst IsAscii (sym c.copy_text.ensures) (IsAscii-take _ _ (IsAscii-drop _ _ (text_ascii c.args.self.now))))
 
-pub loop-index-preserved : goal.loop-index-preserved
-loop-index-preserved g c flush =
-    let w = c.loop-index.invariant flush in
-    let n = counted c.count_between-count.ensures c.lowest.ensures.value c.highest-hi.ensures.value c.lowest.type_inv c.highest-hi.type_inv in
-    let m = narrow_kept c.lowered-magnitude.type_inv ∙ c.lowered-magnitude.ensures ∙ ap (λ x. x -ℤ pos c.loop-index.index) (narrow_kept c.highest-hi.type_inv ∙ c.highest-hi.ensures.value) in
-    formatted_more c.format_digit.new.f w (omega (arith, n, c.loop-index-test.true)) (rw m at (c.in_ok-format_digit.ensures w.wrote.flush refl))
+pub copy_text-requires-clause-zeros : goal.copy_text-requires-clause-zeros
+copy_text-requires-clause-zeros g c = zeros_first 64 c.min.result
 
-pub returns : goal.returns
-returns g c =
-    let n = counted c.count_between-count.ensures c.lowest.ensures.value c.highest-hi.ensures.value c.lowest.type_inv c.highest-hi.type_inv in
-    let styled = λ (flush : IsFlush c.args.f.now). formatted_all (c.loop-index.invariant flush) (omega (arith, n, c.loop-index-test.false)) in
-    record { writes = λ plain ok. written_plain plain (styled plain.flush); styled = λ flush ok. styled flush }
+pub loop-written-preserved : goal.loop-written-preserved
+loop-written-preserved g c =
+    let few = length-take c.min.result (block_of 64) in
+    let took = g.W.Write.write_str_gives in
+    let all = text c.args.self.now in
+    let i = c.loop-written.written in
+    let piece = c.copy_text.new.places in
+    let new = c.write_str.new.self in
+    record {
+      within = omega (arith, few, c.copy_text.auto.places, c.min.ensures);
+      wrote = λ flush.
+          let w = c.loop-written.invariant.wrote flush in
+          let p = subst (λ bs. HasWrittenStyled took c.loop-written.f bs new) c.from_utf8_unchecked.ensures (c.in_ok-write_str.ensures.styled w.flush refl) in
+          has_written_styled_of_eq took c.args.f.now (take i all ++ piece) (take (i + length piece) all) new
+          (piece_taken all piece i _ (omega (arith, few, c.min.ensures, c.writeable_length_hint-length.ensures.length)) c.copy_text.ensures)
+          (has_written_styled_append took c.args.f.now (take i all) c.loop-written.f piece new w p);
+    }

@@ -1,8 +1,13 @@
-use Rattle.std.proofs.Common.{◌+◌}
-use Rattle.std.specs.Fmt.{IsFlush}
-use Rattle.std.specs.Int.{int_gap}
-use Rattle.decimal_unsigned.proofs.Formatting.{Formatted}
+use Rattle.std.proofs.Common.{◌-◌, ◌≤◌, take}
+use Rattle.std.specs.Fmt.{IsFlush, HasWrittenStyled}
+use Rattle.decimal_unsigned.specs.Text.{text}
 use Rattle.decimal_unsigned.proofs.decimal.display.UnsignedOverDisplay.fmt.Given as goal
 
-abbrev pub invariant-loop-index : goal.invariant-loop-index
-invariant-loop-index g l = IsFlush l.initial.f → Formatted g.W.Write.write_str_gives l.initial.f l.f l.self.number l.self.hi (int_gap l.self.lo l.self.hi + 1) l.index
+abbrev pub invariant-loop-written : goal.invariant-loop-written
+invariant-loop-written g l = record {
+  within : l.written ≤ l.length;
+  wrote : IsFlush l.initial.f → HasWrittenStyled g.W.Write.write_str_gives l.initial.f (take l.written (text l.self)) l.f;
+}
+
+abbrev pub decreases-loop-written : goal.decreases-loop-written
+decreases-loop-written g l = l.length - l.written

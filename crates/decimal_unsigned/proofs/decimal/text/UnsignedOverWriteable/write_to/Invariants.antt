@@ -1,7 +1,13 @@
-use Rattle.std.proofs.Common.{◌+◌}
-use Rattle.std.specs.Int.{int_gap}
-use Rattle.decimal_unsigned.proofs.Writing.{Wrote}
+use Rattle.std.proofs.Common.{◌-◌, ◌≤◌, take}
+use Rattle.std.specs.Io.KnownBytes.{Appends}
+use Rattle.decimal_unsigned.specs.Text.{text}
 use Rattle.decimal_unsigned.proofs.decimal.text.UnsignedOverWriteable.write_to.Given as goal
 
-abbrev pub invariant-loop-index : goal.invariant-loop-index
-invariant-loop-index g l = Wrote l.self.number l.self.hi (int_gap l.self.lo l.self.hi + 1) l.index (g.W.Sink.contents l.initial.sink) (g.W.Sink.contents l.sink)
+abbrev pub invariant-loop-written : goal.invariant-loop-written
+invariant-loop-written g l = record {
+  within : l.written ≤ l.length;
+  appended : Appends (g.W.Sink.contents l.initial.sink) (g.W.Sink.contents l.sink) (take l.written (text l.self));
+}
+
+abbrev pub decreases-loop-written : goal.decreases-loop-written
+decreases-loop-written g l = l.length - l.written
