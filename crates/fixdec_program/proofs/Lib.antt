@@ -1,0 +1,4 @@
+pub mod Numerals
+pub mod Cuts
+pub mod Naming
+pub mod OneCall
