@@ -13,3 +13,4 @@ pub mod Results
 pub mod Halves
 pub mod HalfPasses
 pub mod Packing
+pub mod Sinks

@@ -15,7 +15,7 @@ pub use text_buf::TextBuf;
 #[derive(Clone, Copy, Debug, PartialEq)]
 pub struct SinkFault;
 
-/// What takes bytes, one at a time.
+/// What takes bytes, one at a time or several in order.
 ///
 /// Contracts see the bytes that were taken, where the sink tells them, and whether it has failed. Not in the original.
 pub trait Sink {
@@ -39,6 +39,26 @@ pub trait Sink {
     /// Tells whether a byte was refused.
     fn failed(&self) -> bool
         ensures { result ≡ has_failed self.now };
+
+    /// Takes bytes, in order.
+    ///
+    /// Err: a byte was refused; those in front of it were taken, and the sink has failed. A sink that has failed refuses
+    /// an empty slice too.
+    fn put_bytes(&mut self, bytes: &[u8]) -> Result<(), SinkFault>
+        ensures appends { OnOk result (Appends (contents self.old) (contents self.new) bytes.now) }
+        ensures worked { OnOk result (has_failed self.old ≡ false) }
+        ensures works { OnOk result (has_failed self.new ≡ false) }
+        ensures begins { OnErr result (AppendsBeginning (contents self.old) (contents self.new) bytes.now) }
+        ensures fails { OnErr result (has_failed self.new ≡ true) }
+    {
+        if self.failed() {
+            return Err(SinkFault);
+        }
+        for byte in bytes {
+            self.put_byte(*byte)?;
+        }
+        Ok(())
+    }
 }
 
 /// What has a text.

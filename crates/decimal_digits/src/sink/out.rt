@@ -1,5 +1,6 @@
 //! A sink over a writer.
-ghost use Rattle.std.specs.Prelude.{◌≡◌, Bool, false};
+ghost use Rattle.std.specs.Prelude.{◌≡◌, IsErr, OnOk, OnErr, Bool, true, false};
+ghost use Rattle.std.specs.Io.KnownBytes.{Keeps};
 
 use super::{Sink, SinkFault};
 use std::io::Write;
@@ -33,6 +34,31 @@ impl<W: Write> Out<W> {
         }
     }
 
+    /// Hands on what the writer holds back, as a buffer does. The bytes that were taken stay.
+    ///
+    /// Err: the sink has failed before, and the writer is not called; or the writer's flush fails, and the sink has
+    /// then failed. Not in the original.
+    pub fn flush(&mut self) -> Result<(), SinkFault>
+        ensures keeps { Keeps (W.contents self.old.0) (W.contents self.new.0) }
+        ensures worked { OnOk result (self.old.1 ≡ false) }
+        ensures works { OnOk result (self.new.1 ≡ false) }
+        ensures fails { OnErr result (self.new.1 ≡ true) }
+    {
+        if self.failed || self.writer.flush().is_err() {
+            return self.fail();
+        }
+        Ok(())
+    }
+
+    /// Remembers that the writer failed.
+    fn fail(&mut self) -> Result<(), SinkFault>
+        ensures fails { self.new ≡ (self.old.0, true) }
+        ensures answers { IsErr result }
+    {
+        self.failed = true;
+        Err(SinkFault)
+    }
+
     /// Gives the writer back, whether the sink has failed or not.
     pub fn into_writer(self) -> W
         ensures { result ≡ self.0 }
@@ -53,10 +79,7 @@ impl<W: Write> Sink for Out<W> {
         }
         match self.writer.write(&[byte]) {
             Ok(1) => Ok(()),
-            _ => {
-                self.failed = true;
-                Err(SinkFault)
-            }
+            _ => self.fail(),
         }
     }
 

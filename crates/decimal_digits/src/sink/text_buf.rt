@@ -1,8 +1,8 @@
 //! A sink in memory.
-ghost use Rattle.std.specs.Prelude.{◌≡◌, ℕ, List, [], Some, Bool, false};
+ghost use Rattle.std.specs.Prelude.{◌≡◌, ℕ, ◌+◌, ◌≤◌, List, [], ◌∷◌, ◌++◌, Some, IsErr, OnOk, OnErr, Bool, true, false, vec_len, vec_capacity};
 
 use super::{Sink, SinkFault};
-use std::alloc::Global;
+use std::alloc::{AllocError, Global};
 use std::marker::Model;
 
 /// The bytes that the first growth makes room for: more than most texts have, so that these take one allocation.
@@ -41,6 +41,45 @@ impl TextBuf {
     {
         self.bytes.as_slice()
     }
+
+    /// Remembers that a byte was refused.
+    fn fail(&mut self) -> Result<(), SinkFault>
+        ensures fails { self.new ≡ (self.old.0, true) }
+        ensures answers { IsErr result }
+    {
+        self.failed = true;
+        Err(SinkFault)
+    }
+}
+
+/// Makes room for so many more bytes. A growth makes room for at least as many as there are.
+fn make_room(bytes: &mut Vec<u8>, count: usize) -> Result<(), AllocError>
+    ensures items { bytes.new.items ≡ bytes.old.items }
+    ensures room { OnOk result (vec_len bytes.new + count ≤ vec_capacity bytes.new) }
+{
+    if count <= bytes.capacity() - bytes.len() {
+        return Ok(());
+    }
+    bytes.reserve(count.max(bytes.len()).max(FIRST_ROOM))
+}
+
+/// Appends a byte, or none where memory is refused.
+fn push(bytes: &mut Vec<u8>, byte: u8) -> Result<(), AllocError>
+    ensures ok { OnOk result (bytes.new.items ≡ bytes.old.items ++ byte ∷ []) }
+    ensures err { OnErr result (bytes.new.items ≡ bytes.old.items) }
+{
+    make_room(bytes, 1)?;
+    bytes.push_reserved(byte);
+    Ok(())
+}
+
+/// Appends bytes, or none of them where memory is refused.
+fn append(bytes: &mut Vec<u8>, more: &[u8]) -> Result<(), AllocError>
+    ensures ok { OnOk result (bytes.new.items ≡ bytes.old.items ++ more.now) }
+    ensures err { OnErr result (bytes.new.items ≡ bytes.old.items) }
+{
+    make_room(bytes, more.len())?;
+    bytes.extend_from_slice(more)
 }
 
 impl Sink for TextBuf {
@@ -49,17 +88,16 @@ impl Sink for TextBuf {
     ghost has_failed = { λ s. s.1 };
 
     fn put_byte(&mut self, byte: u8) -> Result<(), SinkFault> {
-        if self.failed {
-            return Err(SinkFault);
+        if self.failed || push(&mut self.bytes, byte).is_err() {
+            return self.fail();
         }
-        if self.bytes.len() == self.bytes.capacity() {
-            let more = self.bytes.len().max(FIRST_ROOM);
-            if self.bytes.reserve(more).is_err() {
-                self.failed = true;
-                return Err(SinkFault);
-            }
+        Ok(())
+    }
+
+    fn put_bytes(&mut self, bytes: &[u8]) -> Result<(), SinkFault> {
+        if self.failed || append(&mut self.bytes, bytes).is_err() {
+            return self.fail();
         }
-        self.bytes.push_reserved(byte);
         Ok(())
     }
 

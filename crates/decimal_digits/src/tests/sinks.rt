@@ -1,5 +1,6 @@
 //! Sinks in memory and over writers, and writers that fail.
 use crate::sink::{Out, Sink, SinkFault, TextBuf};
+use std::alloc::Global;
 use std::io;
 use std::io::Write;
 use std::process::Abort;
@@ -14,6 +15,19 @@ enum Refusal {
     Full,
     /// The error `Interrupted`, once; it takes the bytes that come later.
     Interrupted,
+    /// An error where it is flushed.
+    Flush,
+}
+
+/// How a text is put into a sink.
+#[derive(Clone, Copy)]
+enum Way {
+    /// By a call for each byte.
+    ByteByByte,
+    /// By one call.
+    AtOnce,
+    /// By a call for so many bytes, and one for none.
+    InPieces(usize),
 }
 
 /// A writer that takes so many bytes, one at each call, and then refuses.
@@ -21,6 +35,7 @@ enum Refusal {
 struct Full {
     room: usize,
     calls: usize,
+    flushes: usize,
     refusal: Refusal,
 }
 
@@ -38,60 +53,116 @@ impl Write for Full {
                 self.room = usize::MAX;
                 Err(io::Error::from(io::ErrorKind::Interrupted))
             }
+            Refusal::Flush => Ok(bytes.len().min(1)),
         }
     }
 
     fn flush(&mut self) -> io::Result<()> {
-        Ok(())
+        self.flushes = self.flushes.saturating_add(1);
+        match self.refusal {
+            Refusal::Flush => Err(io::Error::from(io::ErrorKind::BrokenPipe)),
+            _ => Ok(()),
+        }
     }
 }
 
-/// Puts a text byte by byte, up to the first refusal.
-fn put_all<W: Sink>(sink: &mut W, text: &[u8]) -> Result<(), SinkFault> {
-    for byte in text {
-        sink.put_byte(*byte)?;
+/// Puts a text into a sink, up to the first refusal.
+fn put_all<W: Sink>(sink: &mut W, way: Way, text: &[u8]) -> Result<(), SinkFault> {
+    match way {
+        Way::AtOnce => sink.put_bytes(text),
+        Way::ByteByByte => {
+            for byte in text {
+                sink.put_byte(*byte)?;
+            }
+            Ok(())
+        }
+        Way::InPieces(size) => {
+            for piece in text.chunks(size.max(1)) {
+                sink.put_bytes(piece)?;
+                sink.put_bytes(b"")?;
+            }
+            Ok(())
+        }
     }
-    Ok(())
 }
 
-#[test]
-fn takes_bytes(rt: HostRuntime) -> Result<(), Fail> {
-    let mut text = TextBuf::new(rt.alloc());
-    assert!(rt; put_all(&mut text, b"-1234.50").is_ok());
+const WAYS: [Way; 4] = [
+    Way::ByteByByte,
+    Way::AtOnce,
+    Way::InPieces(1),
+    Way::InPieces(3),
+];
+
+fn assert_takes(rt: &impl Abort, alloc: Global, way: Way) {
+    let mut text = TextBuf::new(alloc);
+    assert!(rt; put_all(&mut text, way, b"-1234.50").is_ok());
     assert_eq!(rt; text.as_bytes(), b"-1234.50".as_slice());
     assert!(rt; !text.failed());
 
-    let mut out = Out::new(Vec::<u8>::new(rt.alloc()));
-    assert!(rt; put_all(&mut out, b"-1234.50").is_ok());
+    let mut out = Out::new(Vec::<u8>::new(alloc));
+    assert!(rt; put_all(&mut out, way, b"-1234.50").is_ok());
+    assert!(rt; out.flush().is_ok());
     assert!(rt; !out.failed());
     assert_eq!(rt; out.into_writer().as_slice(), b"-1234.50".as_slice());
-    Ok(())
 }
 
-fn assert_fails_at(rt: &impl Abort, room: usize, refusal: Refusal) {
+#[test]
+fn takes_bytes(rt: HostRuntime) {
+    for way in WAYS {
+        assert_takes(&rt, rt.alloc(), way);
+    }
+}
+
+fn assert_fails_at(rt: &impl Abort, room: usize, way: Way, refusal: Refusal) {
     let mut out = Out::new(Full {
         room,
         calls: 0,
+        flushes: 0,
         refusal,
     });
-    assert_eq!(rt; put_all(&mut out, b"-1234.50"), Err(SinkFault));
+    assert_eq!(rt; put_all(&mut out, way, b"-1234.50"), Err(SinkFault));
     assert!(rt; out.failed());
     assert_eq!(rt; out.put_byte(b'0'), Err(SinkFault));
+    assert_eq!(rt; out.put_bytes(b"0"), Err(SinkFault));
+    assert_eq!(rt; out.put_bytes(b""), Err(SinkFault));
+    assert_eq!(rt; out.flush(), Err(SinkFault));
     let writer = out.into_writer();
     assert_eq!(rt;
         writer.calls,
         room.saturating_add(1),
         "one call for each byte, and none after the fault"
     );
+    assert_eq!(rt; writer.flushes, 0);
 }
 
 #[test]
 fn fails_with_the_writer(rt: HostRuntime) {
     for room in 0..8 {
-        assert_fails_at(&rt, room, Refusal::Zero);
-        assert_fails_at(&rt, room, Refusal::Full);
-        assert_fails_at(&rt, room, Refusal::Interrupted);
+        for way in WAYS {
+            assert_fails_at(&rt, room, way, Refusal::Zero);
+            assert_fails_at(&rt, room, way, Refusal::Full);
+            assert_fails_at(&rt, room, way, Refusal::Interrupted);
+        }
     }
+}
+
+#[test]
+fn fails_with_the_flush(rt: HostRuntime) {
+    let mut out = Out::new(Full {
+        room: 8,
+        calls: 0,
+        flushes: 0,
+        refusal: Refusal::Flush,
+    });
+    assert!(rt; out.put_bytes(b"").is_ok());
+    assert!(rt; out.put_bytes(b"-1234.50").is_ok());
+    assert_eq!(rt; out.flush(), Err(SinkFault));
+    assert!(rt; out.failed());
+    assert_eq!(rt; out.put_bytes(b"0"), Err(SinkFault));
+    assert_eq!(rt; out.flush(), Err(SinkFault));
+    let writer = out.into_writer();
+    assert_eq!(rt; writer.calls, 8, "an empty slice is no write");
+    assert_eq!(rt; writer.flushes, 1, "a fault of the flush is kept");
 }
 
 fn assert_counts_up(rt: &impl Abort, bytes: &[u8]) {
@@ -111,6 +182,24 @@ fn takes_each_byte(rt: HostRuntime) {
     }
     assert_counts_up(&rt, text.as_bytes());
     assert_counts_up(&rt, out.into_writer().as_slice());
+}
+
+/// Whether a text of as many bytes is taken in pieces of 1 to 100 bytes.
+fn assert_grows(rt: &impl Abort, alloc: Global, pieces: &[u8]) {
+    let mut text = TextBuf::new(alloc);
+    let mut length: usize = 0;
+    for size in 0..=pieces.len() {
+        assert!(rt; text.put_bytes(&pieces[..size]).is_ok());
+        length = length.saturating_add(size);
+        assert_eq!(rt; text.as_bytes().len(), length);
+    }
+    assert!(rt; text.put_byte(b'.').is_ok());
+    assert_eq!(rt; text.as_bytes().last(), Some(&b'.'));
+}
+
+#[test]
+fn grows_by_pieces(rt: HostRuntime) {
+    assert_grows(&rt, rt.alloc(), &[b'7'; 500]);
 }
 
 #[test]
