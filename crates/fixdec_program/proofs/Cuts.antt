@@ -57,9 +57,9 @@ mode_free (Unsigned HalfEven) = free_at (codes "half-even") refl
 digits_free : (most : ℕ) (ds : List ℕ) (n : ℕ) → digits_up_to most ds ≡ Some n → IsFree ds
 digits_free most ds n e =
     elim (cases_Bool (are_digits ds && nat_le (digits_value 10 ds) most)) [
-      inl t ↦ (let d : all_ascii_digits ds ≡ true = (and_parts _ _ ((and_parts _ _ t).0)).0 in
+      | inl t ↦ (let d : all_ascii_digits ds ≡ true = (and_parts _ _ ((and_parts _ _ t).0)).0 in
           not_in_digits own ds 58 d (λ (low, high). omega arith))
-    | inr f ↦ (let h : None ≡ Some n = rw f at e in cc)
+      | inr f ↦ (let h : None ≡ Some n = rw f at e in cc)
     ]
 
 from_map : (f : ℕ → ℤ) (o : Option ℕ) (p : ℤ) → option_map f o ≡ Some p → (n : ℕ) × (o ≡ Some n)
@@ -77,11 +77,11 @@ first_minus (w ∷ ws) e = ap (λ x. x ∷ ws) e
 pub number_free : (word : List ℕ) (p : ℤ) → number word ≡ Some p → IsFree word
 number_free word p e =
     elim (cases_Bool (get_or word 0 0 == 45)) [
-      inl t ↦ (
+      | inl t ↦ (
           let (n, is) = from_map _ _ p (rw t at e) in
           let h = digits_free 32768 (drop 1 word) n is in
           rw (first_minus word (eqb-true _ _ t)) (minus_free (drop 1 word) h))
-    | inr f ↦ (let (n, is) = from_map _ _ p (rw f at e) in digits_free 32767 word n is)
+      | inr f ↦ (let (n, is) = from_map _ _ p (rw f at e) in digits_free 32767 word n is)
     ]
 
 -- ---- A rounding, cut at its two colons.

@@ -27,10 +27,10 @@ module _ (f : ℕ → ℤ) (most : ℕ) (ds : List ℕ) where
       rw t (ap Some e)
   reads (Err e) short to from never =
       let t : (are_digits ds && nat_le (digits_value 10 ds) most) ≡ false = not_true _ (λ h.
-          let (p, fits) = and_parts _ _ h in
-          let (d, l) = and_parts _ _ p in
-          let (some, few) = and_parts _ _ l in
-          never (to d (ltb-true 0 (length ds) some) (leb-true _ most fits))) in
+      let (p, fits) = and_parts _ _ h in
+      let (d, l) = and_parts _ _ p in
+      let (some, few) = and_parts _ _ l in
+      never (to d (ltb-true 0 (length ds) some) (leb-true _ most fits))) in
       rw t refl
 
 too_long : (ds : List ℕ) → 6 < length ds → are_digits ds ≡ true → ⊥

@@ -1,35 +1,65 @@
 //! The whole of the program's work, over any writers.
-ghost use Rattle.std.specs.Prelude.{◌≤◌};
+ghost use Rattle.std.specs.Prelude.{◌≡◌, ◌≢◌, ◌≤◌, ◌<◌, [], true, false, Any, Err, IfOk, IfErr, OnOk};
+ghost use Rattle.decimal_digits.specs.Text.{AppendsBeginning};
+ghost use Rattle.fixdec_program.specs.declared.fault.Fault.{Fault};
+ghost use Rattle.fixdec_program.specs.Faults.{status_of, line};
+ghost use Rattle.fixdec_program.specs.Program.{NameAll, AreCalls, IsUnknown, Prints, PrintsBeginning, Tells};
 
 use crate::fault::Fault;
 use crate::words::call;
 use fixed_decimal::{Call, Out, Sink, run};
-use std::alloc::Global;
+use std::alloc::{AllocError, Global};
 use std::io::Write;
 use std::rt::Env;
 use std::{env, io};
 
-/// The calls that the words name. All words are checked before memory is asked for.
-fn calls<'a>(alloc: Global, words: &'a [String]) -> Result<Vec<Call<'a>>, Fault> {
-    if words.iter().any(|word| call(word.as_str()).is_none()) {
-        return Err(Fault::Usage);
+/// Tells whether each word names a call.
+fn are_calls(words: &[String]) -> bool
+    ensures known { result ≡ true → AreCalls words.now }
+    ensures unknown { result ≡ false → Any IsUnknown words.now }
+{
+    for word in words {
+        if call(word.as_str()).is_none() {
+            return false;
+        }
     }
-    Ok(
-        words
-            .iter()
-            .filter_map(|word| call(word.as_str()))
-            .collect(alloc)?,
-    )
+    true
 }
 
-/// Prints the text that the words come to, and a line feed.
-fn print<O: Write>(alloc: Global, words: &[String], out: &mut Out<O>) -> Result<(), Fault> {
+/// The calls that the words name, in order.
+fn calls<'a>(alloc: Global, words: &'a [String]) -> Result<Vec<Call<'a>>, AllocError>
+    requires { AreCalls words.now }
+    ensures ok { IfOk result (λ calls. NameAll words.now calls.items) }
+    ensures err { IfErr result (λ _. words.now ≢ []) }
+{
+    let mut calls = Vec::new(alloc);
+    for word in words {
+        calls.push(call(word.as_str()).unwrap())?;
+    }
+    Ok(calls)
+}
+
+/// Prints the text that the words come to, and a line feed. All words are checked before memory is asked for.
+fn print<O: Write>(alloc: Global, words: &[String], out: &mut Out<O>) -> Result<(), Fault>
+    ensures printed { OnOk result (Prints words.now (O.contents out.old.0) (O.contents out.new.0)) }
+    ensures works { OnOk result (out.new.1 ≡ false) }
+    ensures fault { IfErr result (Tells words.now) }
+    ensures untouched { IfErr result (λ fault. fault ≢ Fault.Output → out.new ≡ out.old) }
+    ensures broken { result ≡ Err Fault.Output → out.new.1 ≡ true }
+    ensures begun { result ≡ Err Fault.Output →
+        PrintsBeginning words.now (O.contents out.old.0) (O.contents out.new.0) }
+{
     let [start, words @ ..] = words else {
         return Err(Fault::Usage);
     };
+    if !are_calls(words) {
+        return Err(Fault::Usage);
+    }
     let calls = calls(alloc, words)?;
     run(alloc, start.as_bytes(), calls.as_slice(), out)?;
-    out.put_byte(b'\n').map_err(|_| Fault::Output)
+    out.put_byte(b'\n')?;
+    out.flush()?;
+    Ok(())
 }
 
 /// Does the program's work: reads the words after its name, prints, and answers the exit status.
@@ -41,22 +71,32 @@ fn print<O: Write>(alloc: Global, words: &[String], out: &mut Out<O>) -> Result<
 /// `negative`; or `concat:TEXT`, whose text is all that follows the colon. D and P are an optional minus and one to
 /// six digits, with a value of -32768 to 32767.
 ///
-/// Status 0: the text and a line feed were printed. Else one line goes to `err`: with status 1 `start: syntax`,
-/// `start: limit`, `call K: syntax`, `call K: limit` or `call K: overlap`, the calls counted from 0, and nothing is
-/// printed; with status 2 the usage line, where there is no start or a word is no call, and nothing is printed; with
-/// status 3 `memory`, where memory was refused, or `output`, where `out` refused a byte. A fault of `err` changes no
-/// status. Not in the original.
+/// Status 0: the text and a line feed were printed, and the writer was flushed. Else one line goes to `err`: with
+/// status 1 `start: syntax`, `start: limit`, `call K: syntax`, `call K: limit` or `call K: overlap`, the calls counted
+/// from 0, and nothing is printed; with status 2 the usage line, where there is no start or a word is no call, and
+/// nothing is printed; with status 3 `memory`, where memory was refused, and nothing is printed, or `output`, where
+/// `out` refused a byte or its flush failed. A fault of `err` changes no status. Not in the original.
 pub fn program<O: Write, E: Write>(
     alloc: Global,
     words: &[String],
     out: &mut Out<O>,
     err: &mut E,
 ) -> u8
-    ensures { result ≤ 3 }
+    ensures known { result ≤ 3 }
+    ensures printed { result ≡ 0 → Prints words.now (O.contents out.old.0) (O.contents out.new.0) }
+    ensures works { result ≡ 0 → out.new.1 ≡ false }
+    ensures silent { result ≡ 0 → err.new ≡ err.old }
+    // A fault of `err` changes no status: a beginning of the line was taken.
+    ensures told { 0 < result → (fault : Fault) × (result ≡ status_of fault) × Tells words.now fault
+        × AppendsBeginning (E.contents err.old) (E.contents err.new) (line fault) }
+    ensures untouched { 0 < result → result < 3 → out.new ≡ out.old }
 {
     match print(alloc, words, out) {
         Ok(()) => 0,
-        Err(fault) => fault.report(err),
+        Err(fault) => {
+            let _ = fault.tell(alloc, err);
+            fault.status()
+        }
     }
 }
 
@@ -82,6 +122,10 @@ pub fn run_command_line<R: Env + AllocGlobal, O: Write, E: Write>(
 {
     match arguments(rt) {
         Ok(words) => program(rt.alloc(), words.as_slice(), out, err),
-        Err(error) => Fault::of_arguments(&error).report(err),
+        Err(error) => {
+            let fault = Fault::of_arguments(&error);
+            let _ = fault.tell(rt.alloc(), err);
+            fault.status()
+        }
     }
 }
