@@ -1,5 +1,5 @@
 //! The whole of the program's work, over any writers.
-ghost use Rattle.std.specs.Prelude.{◌≡◌, ◌≢◌, ◌≤◌, ◌<◌, [], true, false, Any, Err, IfOk, IfErr, OnOk};
+ghost use Rattle.std.specs.Prelude.{◌≡◌, ◌≢◌, ◌≤◌, ◌<◌, ◌⊎◌, [], true, false, Any, Err, IfOk, IfErr, OnOk};
 ghost use Rattle.decimal_digits.specs.Text.{AppendsBeginning};
 ghost use Rattle.fixdec_program.specs.declared.fault.Fault.{Fault};
 ghost use Rattle.fixdec_program.specs.Faults.{status_of, line};
@@ -9,7 +9,7 @@ use crate::fault::Fault;
 use crate::words::call;
 use fixed_decimal::{Call, Out, Sink, run};
 use std::alloc::{AllocError, Global};
-use std::io::Write;
+use std::io::{BufWriter, Write};
 use std::rt::Env;
 use std::{env, io};
 
@@ -86,18 +86,41 @@ pub fn program<O: Write, E: Write>(
     ensures printed { result ≡ 0 → Prints words.now (O.contents out.old.0) (O.contents out.new.0) }
     ensures works { result ≡ 0 → out.new.1 ≡ false }
     ensures silent { result ≡ 0 → err.new ≡ err.old }
-    // A fault of `err` changes no status: a beginning of the line was taken.
+    // Of the line a beginning was taken, and all of it unless `err` failed.
     ensures told { 0 < result → (fault : Fault) × (result ≡ status_of fault) × Tells words.now fault
-        × AppendsBeginning (E.contents err.old) (E.contents err.new) (line fault) }
+        × AppendsBeginning (E.contents err.old) (E.contents err.new) (line fault)
+        × (fault ≢ Fault.Output → out.new ≡ out.old)
+        × (fault ≡ Fault.Output → (out.new.1 ≡ true)
+        × PrintsBeginning words.now (O.contents out.old.0) (O.contents out.new.0)) }
     ensures untouched { 0 < result → result < 3 → out.new ≡ out.old }
 {
     match print(alloc, words, out) {
         Ok(()) => 0,
-        Err(fault) => {
-            let _ = fault.tell(alloc, err);
-            fault.status()
-        }
+        Err(fault) => fault.report(alloc, err),
     }
+}
+
+/// Does the program's work over a buffer, so that the writer is called once a block. After a fault, what the buffer
+/// still holds is not written.
+pub(crate) fn program_in_blocks<O: Write + Drop, E: Write>(
+    alloc: Global,
+    words: &[String],
+    out: O,
+    err: &mut E,
+) -> u8
+    ensures known { result ≤ 3 }
+    ensures silent { result ≡ 0 → err.new ≡ err.old }
+    ensures told { 0 < result → (fault : Fault) × (result ≡ status_of fault)
+        × (Tells words.now fault ⊎ (fault ≡ Fault.Memory))
+        × AppendsBeginning (E.contents err.old) (E.contents err.new) (line fault) }
+{
+    let Ok(buffer) = BufWriter::new(alloc, out) else {
+        return Fault::Memory.report(alloc, err);
+    };
+    let mut out = Out::new(buffer);
+    let status = program(alloc, words, &mut out, err);
+    let (_writer, _unwritten) = out.into_writer().into_parts();
+    status
 }
 
 /// The words of the command line, without the program's name.
@@ -109,23 +132,22 @@ fn arguments<R: Env + AllocGlobal>(rt: &R) -> io::Result<Vec<String>> {
     Ok(words)
 }
 
-/// Does the program's work on the words of the command line: `program` over them.
+/// Does the program's work on the words of the command line: `program` over them, with a buffer before `out`.
 ///
-/// Where memory for the words was refused, that is `memory`, whatever the words are; a word that is not UTF-8 is
-/// answered with the usage line. Not in the original.
-pub fn run_command_line<R: Env + AllocGlobal, O: Write, E: Write>(
+/// Where memory for the words or for the buffer was refused, that is `memory`, whatever the words are; a word that is
+/// not UTF-8 is answered with the usage line. A text of 65,536 digits takes nine writes of `out`. Not in the original.
+pub fn run_command_line<R: Env + AllocGlobal, O: Write + Drop, E: Write>(
     rt: &R,
-    out: &mut Out<O>,
+    out: O,
     err: &mut E,
 ) -> u8
-    ensures { result ≤ 3 }
+    ensures known { result ≤ 3 }
+    ensures silent { result ≡ 0 → err.new ≡ err.old }
+    ensures told { 0 < result → (fault : Fault) × (result ≡ status_of fault)
+        × AppendsBeginning (E.contents err.old) (E.contents err.new) (line fault) }
 {
     match arguments(rt) {
-        Ok(words) => program(rt.alloc(), words.as_slice(), out, err),
-        Err(error) => {
-            let fault = Fault::of_arguments(&error);
-            let _ = fault.tell(rt.alloc(), err);
-            fault.status()
-        }
+        Ok(words) => program_in_blocks(rt.alloc(), words.as_slice(), out, err),
+        Err(error) => Fault::of_arguments(&error).report(rt.alloc(), err),
     }
 }

@@ -72,7 +72,7 @@ impl Fault {
     }
 
     /// The exit status that goes with the line.
-    pub fn status(&self) -> u8
+    fn status(&self) -> u8
         ensures { result ≡ status_of self.now }
     {
         match self {
@@ -83,7 +83,7 @@ impl Fault {
     }
 
     /// Writes the line. Err: the writer refused a byte of it, and has taken those in front.
-    pub fn tell<E: Write>(&self, alloc: Global, err: &mut E) -> Result<(), SinkFault>
+    fn tell<E: Write>(&self, alloc: Global, err: &mut E) -> Result<(), SinkFault>
         ensures ok { OnOk result (Appends (E.contents err.old) (E.contents err.new) (line self.now)) }
         ensures err { OnErr result (AppendsBeginning (E.contents err.old) (E.contents err.new) (line self.now)) }
     {
@@ -91,6 +91,15 @@ impl Fault {
         let mut line = SmallVec::<u8, 64>::new(alloc);
         writeln!(line, "{self}").map_err(|_| SinkFault)?;
         put(err, line.as_slice())
+    }
+
+    /// Writes the line, and gives the status. A fault of the writer changes no status.
+    pub fn report<E: Write>(&self, alloc: Global, err: &mut E) -> u8
+        ensures status { result ≡ status_of self.now }
+        ensures told { AppendsBeginning (E.contents err.old) (E.contents err.new) (line self.now) }
+    {
+        let _ = self.tell(alloc, err);
+        self.status()
     }
 }
 
