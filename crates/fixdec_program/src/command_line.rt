@@ -1,5 +1,6 @@
 //! The whole of the program's work, over any writers.
-ghost use Rattle.std.specs.Prelude.{◌≡◌, ◌≢◌, ◌≤◌, ◌<◌, ◌⊎◌, [], true, false, Any, Err, IfOk, IfErr, OnOk};
+ghost use Rattle.std.specs.Prelude.{◌≡◌, ◌≢◌, ◌≤◌, ◌<◌, [], true, false, Any, Err, IfOk, IfErr, OnOk};
+ghost use Rattle.std.specs.Io.Buffered.{writer_inner};
 ghost use Rattle.decimal_digits.specs.Text.{AppendsBeginning};
 ghost use Rattle.fixdec_program.specs.declared.fault.Fault.{Fault};
 ghost use Rattle.fixdec_program.specs.Faults.{status_of, line};
@@ -100,27 +101,24 @@ pub fn program<O: Write, E: Write>(
     }
 }
 
-/// Does the program's work over a buffer, so that the writer is called once a block. After a fault, what the buffer
-/// still holds is not written.
+/// Does the program's work over a buffer, and gives back the writer behind it, which is called once a block. After a
+/// fault, what the buffer still holds is not written.
 pub(crate) fn program_in_blocks<O: Write + Drop, E: Write>(
     alloc: Global,
     words: &[String],
-    out: O,
+    buffer: BufWriter<O>,
     err: &mut E,
-) -> u8
-    ensures known { result ≤ 3 }
-    ensures silent { result ≡ 0 → err.new ≡ err.old }
-    ensures told { 0 < result → (fault : Fault) × (result ≡ status_of fault)
-        × (Tells words.now fault ⊎ (fault ≡ Fault.Memory))
+) -> (u8, O)
+    ensures known { result.0 ≤ 3 }
+    ensures silent { result.0 ≡ 0 → err.new ≡ err.old }
+    ensures told { 0 < result.0 → (fault : Fault) × (result.0 ≡ status_of fault) × Tells words.now fault
         × AppendsBeginning (E.contents err.old) (E.contents err.new) (line fault) }
+    ensures untouched { 0 < result.0 → result.0 < 3 → result.1 ≡ writer_inner buffer }
 {
-    let Ok(buffer) = BufWriter::new(alloc, out) else {
-        return Fault::Memory.report(alloc, err);
-    };
     let mut out = Out::new(buffer);
     let status = program(alloc, words, &mut out, err);
-    let (_writer, _unwritten) = out.into_writer().into_parts();
-    status
+    let (writer, _unwritten) = out.into_writer().into_parts();
+    (status, writer)
 }
 
 /// The words of the command line, without the program's name.
@@ -146,8 +144,13 @@ pub fn run_command_line<R: Env + AllocGlobal, O: Write + Drop, E: Write>(
     ensures told { 0 < result → (fault : Fault) × (result ≡ status_of fault)
         × AppendsBeginning (E.contents err.old) (E.contents err.new) (line fault) }
 {
-    match arguments(rt) {
-        Ok(words) => program_in_blocks(rt.alloc(), words.as_slice(), out, err),
-        Err(error) => Fault::of_arguments(&error).report(rt.alloc(), err),
-    }
+    let words = match arguments(rt) {
+        Ok(words) => words,
+        Err(error) => return Fault::of_arguments(&error).report(rt.alloc(), err),
+    };
+    let Ok(buffer) = BufWriter::new(rt.alloc(), out) else {
+        return Fault::Memory.report(rt.alloc(), err);
+    };
+    let (status, _writer) = program_in_blocks(rt.alloc(), words.as_slice(), buffer, err);
+    status
 }

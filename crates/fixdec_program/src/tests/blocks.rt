@@ -3,7 +3,7 @@ use super::words;
 use crate::command_line::program_in_blocks;
 use std::alloc::Global;
 use std::io;
-use std::io::Write;
+use std::io::{BufWriter, Write};
 use std::test::Fail;
 
 /// A writer that takes so many bytes and then answers an error, whose flush may fail, and which counts its writes.
@@ -53,14 +53,20 @@ const ROWS: &[(&str, usize, bool, u8, usize)] = &[
 ];
 
 /// The status of words and how often the writer was called.
-fn counted(alloc: Global, words: &[String], room: usize, flushes: bool) -> (u8, usize) {
-    let mut out = Counting {
+fn counted(
+    alloc: Global,
+    words: &[String],
+    room: usize,
+    flushes: bool,
+) -> Result<(u8, usize), Fail> {
+    let out = Counting {
         room,
         flushes,
         writes: 0,
     };
-    let status = program_in_blocks(alloc, words, &mut out, &mut io::sink());
-    (status, out.writes)
+    let buffer = BufWriter::new(alloc, out)?;
+    let (status, out) = program_in_blocks(alloc, words, buffer, &mut io::sink());
+    Ok((status, out.writes))
 }
 
 /// The same of a line. It runs again where memory may have been refused.
@@ -71,9 +77,9 @@ fn counted_line(
     flushes: bool,
 ) -> Result<(u8, usize), Fail> {
     let words = words(alloc, line)?;
-    let first = counted(alloc, words.as_slice(), room, flushes);
+    let first = counted(alloc, words.as_slice(), room, flushes)?;
     if first.0 == 3 {
-        return Ok(counted(alloc, words.as_slice(), room, flushes));
+        return counted(alloc, words.as_slice(), room, flushes);
     }
     Ok(first)
 }
