@@ -1,5 +1,5 @@
 -- What a parsed number is, by its bytes.
-use Rattle.std.proofs.Common.{◌≡◌, ◌≢◌, ℕ, ◌<◌, ◌≤◌, ◌&&◌, ◌⊎◌, inl, inr, Bool, true, false, nat_le, ℤ, pos, neg_ℤ, List, [], ◌∷◌, length, get_or, Option, Some, None, Result, Ok, Err, Bor, refl, ap, arith, w16}
+use Rattle.std.proofs.Common.{◌≡◌, ◌≢◌, ℕ, ◌<◌, ◌≤◌, ◌&&◌, ◌⊎◌, inl, inr, Bool, true, false, nat_le, nat_lt, ℤ, pos, neg_ℤ, List, [], ◌∷◌, length, get_or, Option, Some, None, Result, Ok, Err, Bor, refl, ap, arith, w16}
 use Rattle.std.specs.Option.{option_map, unwrap_or, MatchOption}
 use Rattle.std.specs.Result.{OkIff, result_ok}
 use Rattle.std.specs.Str.{all_ascii_digits}
@@ -35,9 +35,9 @@ module _ (f : ℕ → ℤ) (most : ℕ) (ds : List ℕ) where
 
 too_long : (ds : List ℕ) → 6 < length ds → are_digits ds ≡ true → ⊥
 too_long ds long h =
-    let (d, l) = and_parts _ _ h in
-    let (some, few) = and_parts _ _ l in
-    let k : length ds ≤ 6 = leb-true (length ds) 6 few in
+    let sized : (nat_lt 0 (length ds) && nat_le (length ds) 6) ≡ true = (and_parts (all_ascii_digits ds) (nat_lt 0 (length ds) && nat_le (length ds) 6) h).1 in
+    let few : nat_le (length ds) 6 ≡ true = (and_parts (nat_lt 0 (length ds)) (nat_le (length ds) 6) sized).1 in
+    let short : length ds ≤ 6 = leb-true (length ds) 6 few in
     omega arith
 
 plus : (ds : List ℕ) → get_or ds 0 0 ≡ 43 → are_digits ds ≡ true → ⊥

@@ -1,5 +1,6 @@
 //! What ends the program without its text, and the line and the status that tell it.
-ghost use Rattle.std.specs.Prelude.{◌≡◌, ◌≤◌, ◌<◌, OnOk, OnErr};
+ghost use Rattle.std.specs.Prelude.{◌≡◌, ◌≢◌, ◌≤◌, ◌<◌, OnOk, OnErr};
+ghost use Rattle.std.specs.IoError.{error_kind};
 ghost use Rattle.std.specs.Io.KnownBytes.{Appends};
 ghost use Rattle.decimal_digits.specs.Text.{AppendsBeginning};
 ghost use Rattle.fixdec_program.specs.Faults.{status_of, line};
@@ -7,7 +8,7 @@ ghost use Rattle.fixdec_program.specs.Faults.{status_of, line};
 use fixed_decimal::{ParseError, RunError, SinkFault};
 use smallvec::SmallVec;
 use std::alloc::{AllocError, Global};
-use std::io::Write;
+use std::io::{ErrorKind, Write};
 use std::{fmt, io};
 use thiserror::Error;
 
@@ -63,8 +64,11 @@ impl fmt::Display for Fault {
 
 impl Fault {
     /// The fault of reading the words: memory was refused, or a word is not text.
-    pub fn of_arguments(error: &io::Error) -> Fault {
-        if error.kind() == io::ErrorKind::OutOfMemory {
+    pub fn of_arguments(error: &io::Error) -> Fault
+        ensures memory { error_kind error.now ≡ ErrorKind.OutOfMemory → result ≡ Fault.Memory }
+        ensures usage { error_kind error.now ≢ ErrorKind.OutOfMemory → result ≡ Fault.Usage }
+    {
+        if error.kind() == ErrorKind::OutOfMemory {
             Fault::Memory
         } else {
             Fault::Usage
