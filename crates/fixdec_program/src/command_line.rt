@@ -1,35 +1,66 @@
 //! The whole of the program's work, over any writers.
-ghost use Rattle.std.specs.Prelude.{◌≤◌};
+ghost use Rattle.std.specs.Prelude.{◌≡◌, ◌≢◌, ◌≤◌, ◌<◌, [], true, false, Any, Err, IfOk, IfErr, OnOk};
+ghost use Rattle.std.specs.Io.Buffered.{writer_inner};
+ghost use Rattle.decimal_digits.specs.Text.{AppendsBeginning};
+ghost use Rattle.fixdec_program.specs.declared.fault.Fault.{Fault};
+ghost use Rattle.fixdec_program.specs.Faults.{status_of, line};
+ghost use Rattle.fixdec_program.specs.Program.{NameAll, AreCalls, IsUnknown, Prints, PrintsBeginning, Tells};
 
 use crate::fault::Fault;
 use crate::words::call;
 use fixed_decimal::{Call, Out, Sink, run};
-use std::alloc::Global;
-use std::io::Write;
+use std::alloc::{AllocError, Global};
+use std::io::{BufWriter, Write};
 use std::rt::Env;
 use std::{env, io};
 
-/// The calls that the words name. All words are checked before memory is asked for.
-fn calls<'a>(alloc: Global, words: &'a [String]) -> Result<Vec<Call<'a>>, Fault> {
-    if words.iter().any(|word| call(word.as_str()).is_none()) {
-        return Err(Fault::Usage);
+/// Tells whether each word names a call.
+fn are_calls(words: &[String]) -> bool
+    ensures known { result ≡ true → AreCalls words.now }
+    ensures unknown { result ≡ false → Any IsUnknown words.now }
+{
+    for word in words {
+        if call(word.as_str()).is_none() {
+            return false;
+        }
     }
-    Ok(
-        words
-            .iter()
-            .filter_map(|word| call(word.as_str()))
-            .collect(alloc)?,
-    )
+    true
 }
 
-/// Prints the text that the words come to, and a line feed.
-fn print<O: Write>(alloc: Global, words: &[String], out: &mut Out<O>) -> Result<(), Fault> {
+/// The calls that the words name, in order.
+fn calls<'a>(alloc: Global, words: &'a [String]) -> Result<Vec<Call<'a>>, AllocError>
+    requires { AreCalls words.now }
+    ensures ok { IfOk result (λ calls. NameAll words.now calls.items) }
+    ensures err { IfErr result (λ _. words.now ≢ []) }
+{
+    let mut calls = Vec::new(alloc);
+    for word in words {
+        calls.push(call(word.as_str()).unwrap())?;
+    }
+    Ok(calls)
+}
+
+/// Prints the text that the words come to, and a line feed. All words are checked before memory is asked for.
+fn print<O: Write>(alloc: Global, words: &[String], out: &mut Out<O>) -> Result<(), Fault>
+    ensures printed { OnOk result (Prints words.now (O.contents out.old.0) (O.contents out.new.0)) }
+    ensures works { OnOk result (out.new.1 ≡ false) }
+    ensures fault { IfErr result (Tells words.now) }
+    ensures untouched { IfErr result (λ fault. fault ≢ Fault.Output → out.new ≡ out.old) }
+    ensures broken { result ≡ Err Fault.Output → out.new.1 ≡ true }
+    ensures begun { result ≡ Err Fault.Output →
+        PrintsBeginning words.now (O.contents out.old.0) (O.contents out.new.0) }
+{
     let [start, words @ ..] = words else {
         return Err(Fault::Usage);
     };
+    if !are_calls(words) {
+        return Err(Fault::Usage);
+    }
     let calls = calls(alloc, words)?;
     run(alloc, start.as_bytes(), calls.as_slice(), out)?;
-    out.put_byte(b'\n').map_err(|_| Fault::Output)
+    out.put_byte(b'\n')?;
+    out.flush()?;
+    Ok(())
 }
 
 /// Does the program's work: reads the words after its name, prints, and answers the exit status.
@@ -41,23 +72,53 @@ fn print<O: Write>(alloc: Global, words: &[String], out: &mut Out<O>) -> Result<
 /// `negative`; or `concat:TEXT`, whose text is all that follows the colon. D and P are an optional minus and one to
 /// six digits, with a value of -32768 to 32767.
 ///
-/// Status 0: the text and a line feed were printed. Else one line goes to `err`: with status 1 `start: syntax`,
-/// `start: limit`, `call K: syntax`, `call K: limit` or `call K: overlap`, the calls counted from 0, and nothing is
-/// printed; with status 2 the usage line, where there is no start or a word is no call, and nothing is printed; with
-/// status 3 `memory`, where memory was refused, or `output`, where `out` refused a byte. A fault of `err` changes no
-/// status. Not in the original.
+/// Status 0: the text and a line feed were printed, and the writer was flushed. Else one line goes to `err`: with
+/// status 1 `start: syntax`, `start: limit`, `call K: syntax`, `call K: limit` or `call K: overlap`, the calls counted
+/// from 0, and nothing is printed; with status 2 the usage line, where there is no start or a word is no call, and
+/// nothing is printed; with status 3 `memory`, where memory was refused, and nothing is printed, or `output`, where
+/// `out` refused a byte or its flush failed. A fault of `err` changes no status. Not in the original.
 pub fn program<O: Write, E: Write>(
     alloc: Global,
     words: &[String],
     out: &mut Out<O>,
     err: &mut E,
 ) -> u8
-    ensures { result ≤ 3 }
+    ensures known { result ≤ 3 }
+    ensures printed { result ≡ 0 → Prints words.now (O.contents out.old.0) (O.contents out.new.0) }
+    ensures works { result ≡ 0 → out.new.1 ≡ false }
+    ensures silent { result ≡ 0 → err.new ≡ err.old }
+    // Of the line a beginning was taken, and all of it unless `err` failed.
+    ensures told { 0 < result → (fault : Fault) × (result ≡ status_of fault) × Tells words.now fault
+        × AppendsBeginning (E.contents err.old) (E.contents err.new) (line fault)
+        × (fault ≢ Fault.Output → out.new ≡ out.old)
+        × (fault ≡ Fault.Output → (out.new.1 ≡ true)
+        × PrintsBeginning words.now (O.contents out.old.0) (O.contents out.new.0)) }
+    ensures untouched { 0 < result → result < 3 → out.new ≡ out.old }
 {
     match print(alloc, words, out) {
         Ok(()) => 0,
-        Err(fault) => fault.report(err),
+        Err(fault) => fault.report(alloc, err),
     }
+}
+
+/// Does the program's work over a buffer, and gives back the writer behind it, which is called once a block. After a
+/// fault, what the buffer still holds is not written.
+pub(crate) fn program_in_blocks<O: Write + Drop, E: Write>(
+    alloc: Global,
+    words: &[String],
+    buffer: BufWriter<O>,
+    err: &mut E,
+) -> (u8, O)
+    ensures known { result.0 ≤ 3 }
+    ensures silent { result.0 ≡ 0 → err.new ≡ err.old }
+    ensures told { 0 < result.0 → (fault : Fault) × (result.0 ≡ status_of fault) × Tells words.now fault
+        × AppendsBeginning (E.contents err.old) (E.contents err.new) (line fault) }
+    ensures untouched { 0 < result.0 → result.0 < 3 → result.1 ≡ writer_inner buffer }
+{
+    let mut out = Out::new(buffer);
+    let status = program(alloc, words, &mut out, err);
+    let (writer, _unwritten) = out.into_writer().into_parts();
+    (status, writer)
 }
 
 /// The words of the command line, without the program's name.
@@ -69,19 +130,27 @@ fn arguments<R: Env + AllocGlobal>(rt: &R) -> io::Result<Vec<String>> {
     Ok(words)
 }
 
-/// Does the program's work on the words of the command line: `program` over them.
+/// Does the program's work on the words of the command line: `program` over them, with a buffer before `out`.
 ///
-/// Where memory for the words was refused, that is `memory`, whatever the words are; a word that is not UTF-8 is
-/// answered with the usage line. Not in the original.
-pub fn run_command_line<R: Env + AllocGlobal, O: Write, E: Write>(
+/// Where memory for the words or for the buffer was refused, that is `memory`, whatever the words are; a word that is
+/// not UTF-8 is answered with the usage line. A text of 65,536 digits takes nine writes of `out`. Not in the original.
+pub fn run_command_line<R: Env + AllocGlobal, O: Write + Drop, E: Write>(
     rt: &R,
-    out: &mut Out<O>,
+    out: O,
     err: &mut E,
 ) -> u8
-    ensures { result ≤ 3 }
+    ensures known { result ≤ 3 }
+    ensures silent { result ≡ 0 → err.new ≡ err.old }
+    ensures told { 0 < result → (fault : Fault) × (result ≡ status_of fault)
+        × AppendsBeginning (E.contents err.old) (E.contents err.new) (line fault) }
 {
-    match arguments(rt) {
-        Ok(words) => program(rt.alloc(), words.as_slice(), out, err),
-        Err(error) => Fault::of_arguments(&error).report(err),
-    }
+    let words = match arguments(rt) {
+        Ok(words) => words,
+        Err(error) => return Fault::of_arguments(&error).report(rt.alloc(), err),
+    };
+    let Ok(buffer) = BufWriter::new(rt.alloc(), out) else {
+        return Fault::Memory.report(rt.alloc(), err);
+    };
+    let (status, _writer) = program_in_blocks(rt.alloc(), words.as_slice(), buffer, err);
+    status
 }

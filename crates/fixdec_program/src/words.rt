@@ -1,21 +1,35 @@
 //! The words of the command line as calls.
-ghost use Rattle.std.specs.Prelude.{◌≡◌, ◌<◌, ◌≤◌, length};
+ghost use Rattle.std.specs.Prelude.{◌≡◌, ◌≢◌, ◌<◌, ◌≤◌, length, ℤ, codes, IfSome, IfNone};
+ghost use Rattle.decimal_digits.specs.declared.rounding.UnsignedRoundingMode.{UnsignedRoundingMode};
+ghost use Rattle.decimal_digits.specs.declared.rounding.SignedRoundingMode.{SignedRoundingMode};
+ghost use Rattle.decimal_digits.specs.declared.rounding.RoundingIncrement.{RoundingIncrement};
+ghost use Rattle.fixed_decimal.specs.declared.variations.Sign.{Sign};
+ghost use Rattle.fixed_decimal.specs.declared.variations.SignDisplay.{SignDisplay};
+ghost use Rattle.fixed_decimal.specs.declared.runs.Call.{Call};
+ghost use Rattle.fixdec_program.specs.Words.{number, mode_word, increment_word, sign_word, display_word};
+ghost use Rattle.fixdec_program.specs.Words.{IsRounding, Names, IsSame};
+ghost use Rattle.fixdec_program.specs.Parts.{name_of, HasArgument, PartsName};
 
 use fixed_decimal::{
     Call, RoundingIncrement, Sign, SignDisplay, SignedRoundingMode, UnsignedRoundingMode,
 };
 
 /// The number of a magnitude, a position or a distance: an optional minus and one to six digits, in 16 bits.
-fn number(word: &str) -> Option<i16> {
+fn number(word: &str) -> Option<i16>
+    ensures { result ≡ number word.now }
+{
     let digits = word.strip_prefix('-').unwrap_or(word);
-    if digits.len() > 6 || !digits.bytes().all(|byte| byte.is_ascii_digit()) {
+    if digits.len() > 6 || digits.starts_with('+') {
         return None;
     }
     word.parse().ok()
 }
 
 /// The mode of a rounding.
-fn mode(word: &str) -> Option<SignedRoundingMode> {
+fn mode(word: &str) -> Option<SignedRoundingMode>
+    ensures some { IfSome result (λ m. word.now ≡ mode_word m) }
+    ensures none { IfNone result ((m : SignedRoundingMode) → word.now ≢ mode_word m) }
+{
     match word {
         "ceil" => Some(SignedRoundingMode::Ceil),
         "floor" => Some(SignedRoundingMode::Floor),
@@ -26,7 +40,10 @@ fn mode(word: &str) -> Option<SignedRoundingMode> {
 }
 
 /// The mode of a rounding that does not look at the sign.
-fn unsigned_mode(word: &str) -> Option<UnsignedRoundingMode> {
+fn unsigned_mode(word: &str) -> Option<UnsignedRoundingMode>
+    ensures some { IfSome result (λ m. word.now ≡ mode_word (SignedRoundingMode.Unsigned m)) }
+    ensures none { IfNone result ((m : UnsignedRoundingMode) → word.now ≢ mode_word (SignedRoundingMode.Unsigned m)) }
+{
     match word {
         "expand" => Some(UnsignedRoundingMode::Expand),
         "trunc" => Some(UnsignedRoundingMode::Trunc),
@@ -38,7 +55,10 @@ fn unsigned_mode(word: &str) -> Option<UnsignedRoundingMode> {
 }
 
 /// The increment of a rounding.
-fn increment(word: &str) -> Option<RoundingIncrement> {
+fn increment(word: &str) -> Option<RoundingIncrement>
+    ensures some { IfSome result (λ i. word.now ≡ increment_word i) }
+    ensures none { IfNone result ((i : RoundingIncrement) → word.now ≢ increment_word i) }
+{
     match word {
         "1" => Some(RoundingIncrement::MultiplesOf1),
         "2" => Some(RoundingIncrement::MultiplesOf2),
@@ -49,7 +69,10 @@ fn increment(word: &str) -> Option<RoundingIncrement> {
 }
 
 /// The rounding whose position, mode and increment stand between colons.
-fn rounding<'a>(words: &str) -> Option<Call<'a>> {
+fn rounding<'a>(words: &str) -> Option<Call<'a>>
+    ensures some { IfSome result (PartsName (codes "round") words.now) }
+    ensures none { IfNone result ((p : ℤ) (m : SignedRoundingMode) (i : RoundingIncrement) → ¬ IsRounding words.now p m i) }
+{
     let (position, words) = words.split_once(':')?;
     let (mode_word, increment_word) = words.split_once(':')?;
     Some(Call::Round(
@@ -60,7 +83,10 @@ fn rounding<'a>(words: &str) -> Option<Call<'a>> {
 }
 
 /// The sign that is set.
-fn sign(word: &str) -> Option<Sign> {
+fn sign(word: &str) -> Option<Sign>
+    ensures some { IfSome result (λ s. word.now ≡ sign_word s) }
+    ensures none { IfNone result ((s : Sign) → word.now ≢ sign_word s) }
+{
     match word {
         "none" => Some(Sign::None),
         "minus" => Some(Sign::Negative),
@@ -70,7 +96,10 @@ fn sign(word: &str) -> Option<Sign> {
 }
 
 /// When a sign is shown.
-fn display(word: &str) -> Option<SignDisplay> {
+fn display(word: &str) -> Option<SignDisplay>
+    ensures some { IfSome result (λ d. word.now ≡ display_word d) }
+    ensures none { IfNone result ((d : SignDisplay) → word.now ≢ display_word d) }
+{
     match word {
         "auto" => Some(SignDisplay::Auto),
         "never" => Some(SignDisplay::Never),
@@ -81,19 +110,11 @@ fn display(word: &str) -> Option<SignDisplay> {
     }
 }
 
-/// The call that a word names.
-pub fn call(word: &str) -> Option<Call<'_>> {
-    match word {
-        "trim-start" => Some(Call::TrimStart),
-        "trim-end" => Some(Call::TrimEnd),
-        "trim-end-if-integer" => Some(Call::TrimEndIfInteger),
-        _ => call_with_argument(word),
-    }
-}
-
-/// The call that a word with a colon names.
-fn call_with_argument(word: &str) -> Option<Call<'_>> {
-    let (name, argument) = word.split_once(':')?;
+/// The call of a name in front of a colon, and of what stands behind it.
+fn call_with_argument<'a>(name: &str, argument: &'a str) -> Option<Call<'a>>
+    ensures some { IfSome result (PartsName name.now argument.now) }
+    ensures none { IfNone result ((call : Call) → ¬ PartsName name.now argument.now call) }
+{
     match name {
         "shift" => Some(Call::MultiplyPow10(number(argument)?)),
         "pad-start" => Some(Call::PadStart(number(argument)?)),
@@ -104,5 +125,22 @@ fn call_with_argument(word: &str) -> Option<Call<'_>> {
         "display" => Some(Call::ApplySignDisplay(display(argument)?)),
         "concat" => Some(Call::Concatenate(argument.as_bytes())),
         _ => None,
+    }
+}
+
+/// The call that a word names. No word names two.
+pub fn call(word: &str) -> Option<Call<'_>>
+    ensures some { IfSome result (Names word.now) }
+    ensures none { IfNone result ((call : Call) → ¬ Names word.now call) }
+    ensures alone { (first second : Call) → Names word.now first → Names word.now second → IsSame first second }
+{
+    match word {
+        "trim-start" => Some(Call::TrimStart),
+        "trim-end" => Some(Call::TrimEnd),
+        "trim-end-if-integer" => Some(Call::TrimEndIfInteger),
+        _ => {
+            let (name, argument) = word.split_once(':')?;
+            call_with_argument(name, argument)
+        }
     }
 }

@@ -2,9 +2,8 @@
 #![tactic(auto)]
 
 use fixdec_program::run_command_line;
-use fixed_decimal::Out;
 use std::process::ExitCode;
 
 fn main(rt: HostRuntime) -> ExitCode {
-    ExitCode::from(run_command_line(&rt, &mut Out::new(rt.stdout()), &mut rt.stderr()))
+    ExitCode::from(run_command_line(&rt, rt.stdout(), &mut rt.stderr()))
 }

@@ -1,0 +1,69 @@
+-- What a command line comes to.
+use Rattle.std.specs.Prelude.{◌≡◌, ℕ, ◌<◌, ◌⊎◌, ⊤, Any, List, [], ◌∷◌, ◌++◌, length, Option, String, string_bytes}
+use Rattle.std.specs.Prelude.{Result, Err, IsOk, IsOkAnd}
+use Rattle.std.specs.Io.KnownBytes.{Appends}
+use Rattle.std.specs.declared.alloc.Global.{Global}
+use Rattle.decimal_digits.specs.Text.{AppendsBeginning}
+use Rattle.decimal_unsigned.specs.Reading.{syntax, limit}
+use Rattle.decimal_unsigned.specs.declared.decimal.TheConstants.{DIGITS_IN_PLACE}
+use Rattle.fixed_decimal.specs.declared.runs.Call.{Call}
+use Rattle.fixed_decimal.specs.DecimalText.{read_decimal, IsLong}
+use Rattle.fixed_decimal.specs.Outcome.{Refusal, outcome, start, operand, overlap}
+use Rattle.fixdec_program.specs.declared.fault.TextFault.TheVariants.{Syntax, Limit}
+use Rattle.fixdec_program.specs.declared.fault.Fault.{Fault}
+use Rattle.fixdec_program.specs.declared.fault.Fault.TheVariants.{Usage, Start, Operand, Overlap, Memory, Output}
+use Rattle.fixdec_program.specs.Words.{Names}
+
+-- the words name these calls, one by one
+abbrev pub NameAll : List (String Global) → List Call → Type 0
+NameAll [] [] = ⊤
+NameAll (word ∷ words) (call ∷ calls) = Names (string_bytes word) call × NameAll words calls
+NameAll _ _ = ⊥
+
+-- each word names a call
+abbrev pub AreCalls : List (String Global) → Type 0
+AreCalls words = (calls : List Call) × NameAll words calls
+
+-- the word names no call
+abbrev pub IsUnknown : String Global → Type 0
+IsUnknown word = (call : Call) → Names (string_bytes word) call → ⊥
+
+-- there is no start, or a word behind it names no call
+abbrev pub IsUsage : List (String Global) → Type 0
+IsUsage [] = ⊤
+IsUsage (first ∷ words) = Any IsUnknown words
+
+-- the first word is a start and the others name calls, and of that start and these calls this holds
+abbrev pub Runs : List (String Global) → (List ℕ → List Call → Type 0) → Type 0
+Runs [] P = ⊥
+Runs (first ∷ words) P = (calls : List Call) × NameAll words calls × P (string_bytes first) calls
+
+-- the run of the words comes to this
+abbrev pub ComesTo : List (String Global) → Result (List ℕ) Refusal → Type 0
+ComesTo words result = Runs words (λ bytes calls. outcome bytes calls ≡ result)
+
+-- the run has a text, and it and a line feed were appended, of a writer that tells its bytes
+abbrev pub Prints : List (String Global) → Option (List ℕ) → Option (List ℕ) → Type 0
+Prints words old new =
+    Runs words (λ bytes calls. IsOkAnd (outcome bytes calls) (λ text. Appends old new (text ++ (10 ∷ []))))
+
+-- the run has a text, and a beginning of it and a line feed was appended
+abbrev pub PrintsBeginning : List (String Global) → Option (List ℕ) → Option (List ℕ) → Type 0
+PrintsBeginning words old new =
+    Runs words (λ bytes calls. IsOkAnd (outcome bytes calls) (λ text. AppendsBeginning old new (text ++ (10 ∷ []))))
+
+-- the list of the calls wants memory, or the start has more digits than are held without
+abbrev pub MayWantMemory : List ℕ → List Call → Type 0
+MayWantMemory bytes calls = (0 < length calls) ⊎ IsOkAnd (read_decimal bytes) (IsLong DIGITS_IN_PLACE)
+
+-- the fault is that of the words: of no start or of a word that is no call; the refusal that their run comes to; or
+-- want of memory, where the run may want it; or a fault of the output, and then the run has a text
+abbrev pub Tells : List (String Global) → Fault → Type 0
+Tells words Usage = IsUsage words
+Tells words (Start Syntax) = ComesTo words (Err (start syntax))
+Tells words (Start Limit) = ComesTo words (Err (start limit))
+Tells words (Operand at Syntax) = ComesTo words (Err (operand at syntax))
+Tells words (Operand at Limit) = ComesTo words (Err (operand at limit))
+Tells words (Overlap at) = ComesTo words (Err (overlap at))
+Tells words Memory = Runs words MayWantMemory
+Tells words Output = Runs words (λ bytes calls. IsOk (outcome bytes calls))

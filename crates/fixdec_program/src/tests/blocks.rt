@@ -1,0 +1,95 @@
+//! Output through the buffer: how often the writer is called, and when no more.
+use super::words;
+use crate::command_line::program_in_blocks;
+use std::alloc::Global;
+use std::io;
+use std::io::{BufWriter, Write};
+use std::test::Fail;
+
+/// A writer that takes so many bytes and then answers an error, whose flush may fail, and which counts its writes.
+#[derive(Drop)]
+struct Counting {
+    room: usize,
+    flushes: bool,
+    writes: usize,
+}
+
+impl Write for Counting {
+    fn write(&mut self, bytes: &[u8]) -> io::Result<usize> {
+        self.writes = self.writes.saturating_add(1);
+        let taken = bytes.len().min(self.room);
+        if taken == 0 {
+            return Err(io::Error::from(io::ErrorKind::StorageFull));
+        }
+        self.room -= taken;
+        Ok(taken)
+    }
+
+    fn flush(&mut self) -> io::Result<()> {
+        if self.flushes {
+            Ok(())
+        } else {
+            Err(io::Error::from(io::ErrorKind::StorageFull))
+        }
+    }
+}
+
+/// A number of 65,536 digits: with its dot and the line feed 65,538 bytes.
+const LONGEST: &str = "1e32767 pad-end:-32768";
+
+/// A line, how many bytes the writer takes and whether its flush succeeds, the status, and how often it is called.
+const ROWS: &[(&str, usize, bool, u8, usize)] = &[
+    (LONGEST, 65_538, true, 0, 9),
+    (LONGEST, 65_537, true, 3, 10),
+    (LONGEST, 16_384, true, 3, 3),
+    (LONGEST, 0, true, 3, 1),
+    ("250 shift:-2", 5, true, 0, 1),
+    ("250 shift:-2", 4, true, 3, 2),
+    ("250 shift:-2", 5, false, 3, 1),
+    ("250 shift:-2", 0, false, 3, 1),
+    ("5.", 9, true, 1, 0),
+    ("5 trim-start concat:1e99999", 9, true, 1, 0),
+    ("5 up", 9, true, 2, 0),
+];
+
+/// The status of words and how often the writer was called.
+fn counted(
+    alloc: Global,
+    words: &[String],
+    room: usize,
+    flushes: bool,
+) -> Result<(u8, usize), Fail> {
+    let out = Counting {
+        room,
+        flushes,
+        writes: 0,
+    };
+    let buffer = BufWriter::new(alloc, out)?;
+    let (status, out) = program_in_blocks(alloc, words, buffer, &mut io::sink());
+    Ok((status, out.writes))
+}
+
+/// The same of a line. It runs again where memory may have been refused.
+fn counted_line(
+    alloc: Global,
+    line: &str,
+    room: usize,
+    flushes: bool,
+) -> Result<(u8, usize), Fail> {
+    let words = words(alloc, line)?;
+    let first = counted(alloc, words.as_slice(), room, flushes)?;
+    if first.0 == 3 {
+        return counted(alloc, words.as_slice(), room, flushes);
+    }
+    Ok(first)
+}
+
+#[test]
+fn writes_blocks(rt: HostRuntime) -> Result<(), Fail> {
+    let alloc = rt.alloc();
+    for (line, room, flushes, status, writes) in ROWS {
+        let found = counted_line(alloc, line, *room, *flushes)?;
+        assert_eq!(rt; found, (*status, *writes));
+    }
+    Ok(())
+}

@@ -1,0 +1,9 @@
+//! The program `fixdec` once more, for a stored run with a word that names no call: a crate has one stored run.
+#![tactic(auto)]
+
+use fixdec_program::run_command_line;
+use std::process::ExitCode;
+
+fn main(rt: HostRuntime) -> ExitCode {
+    ExitCode::from(run_command_line(&rt, rt.stdout(), &mut rt.stderr()))
+}
