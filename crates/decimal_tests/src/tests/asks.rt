@@ -95,79 +95,6 @@ fn reads<T: Value>(alloc: Global, text: &str) -> bool {
     }
 }
 
-/// An integer that is not small.
-#[derive(Clone, Copy)]
-enum Wide {
-    U32(u32),
-    U64(u64),
-    U128(u128),
-    Usize(usize),
-    I32(i32),
-    I64(i64),
-    I128(i128),
-    Isize(isize),
-}
-
-/// Integers at the ends of their types, and their texts.
-const INTEGERS: &[(Wide, &str)] = &[
-    (Wide::U32(u32::MAX), "4294967295"),
-    (Wide::U64(u64::MAX), "18446744073709551615"),
-    (
-        Wide::U128(u128::MAX),
-        "340282366920938463463374607431768211455",
-    ),
-    (Wide::Usize(usize::MAX), "18446744073709551615"),
-    (Wide::I32(i32::MIN), "-2147483648"),
-    (Wide::I64(i64::MIN), "-9223372036854775808"),
-    (
-        Wide::I128(i128::MIN),
-        "-170141183460469231731687303715884105728",
-    ),
-    (Wide::Isize(isize::MIN), "-9223372036854775808"),
-];
-
-/// The decimal of an integer.
-fn decimal_of(alloc: Global, integer: Wide) -> Result<Decimal, AllocError> {
-    match integer {
-        Wide::U32(integer) => Decimal::try_from_u32(alloc, integer),
-        Wide::U64(integer) => Decimal::try_from_u64(alloc, integer),
-        Wide::U128(integer) => Decimal::try_from_u128(alloc, integer),
-        Wide::Usize(integer) => Decimal::try_from_usize(alloc, integer),
-        Wide::I32(integer) => Decimal::try_from_i32(alloc, integer),
-        Wide::I64(integer) => Decimal::try_from_i64(alloc, integer),
-        Wide::I128(integer) => Decimal::try_from_i128(alloc, integer),
-        Wide::Isize(integer) => Decimal::try_from_isize(alloc, integer),
-    }
-}
-
-/// The fixed integer of an integer.
-fn fixed_of(alloc: Global, integer: Wide) -> Result<FixedInteger, AllocError> {
-    match integer {
-        Wide::U32(integer) => FixedInteger::try_from_u32(alloc, integer),
-        Wide::U64(integer) => FixedInteger::try_from_u64(alloc, integer),
-        Wide::U128(integer) => FixedInteger::try_from_u128(alloc, integer),
-        Wide::Usize(integer) => FixedInteger::try_from_usize(alloc, integer),
-        Wide::I32(integer) => FixedInteger::try_from_i32(alloc, integer),
-        Wide::I64(integer) => FixedInteger::try_from_i64(alloc, integer),
-        Wide::I128(integer) => FixedInteger::try_from_i128(alloc, integer),
-        Wide::Isize(integer) => FixedInteger::try_from_isize(alloc, integer),
-    }
-}
-
-/// Whether a value that may have been refused has this text.
-fn has_text<T: Value>(answer: Result<T, AllocError>, text: &str) -> bool {
-    match answer {
-        Ok(value) => shows(&value, text.as_bytes()),
-        Err(AllocError) => false,
-    }
-}
-
-/// Whether an integer becomes values with its text, at once or where it is asked for again.
-fn becomes_decimals(alloc: Global, integer: Wide, text: &str) -> bool {
-    (has_text(decimal_of(alloc, integer), text) || has_text(decimal_of(alloc, integer), text))
-        && (has_text(fixed_of(alloc, integer), text) || has_text(fixed_of(alloc, integer), text))
-}
-
 #[test]
 fn reads_and_copies(rt: HostRuntime) {
     let alloc = rt.alloc();
@@ -177,11 +104,4 @@ fn reads_and_copies(rt: HostRuntime) {
     assert!(rt; reads::<FixedInteger>(alloc, "-0012345678901234567890"));
     assert!(rt; reads::<CompactDecimal>(alloc, "+12345678901234567890.5c12"));
     assert!(rt; reads::<ScientificDecimal>(alloc, "12345678901234567890e-12345678901234567891"));
-}
-
-#[test]
-fn makes_integers(rt: HostRuntime) {
-    for (integer, text) in INTEGERS {
-        assert!(rt; becomes_decimals(rt.alloc(), *integer, text), "{text}");
-    }
 }
