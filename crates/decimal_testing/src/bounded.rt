@@ -1,21 +1,24 @@
 //! A store of digits with little memory.
 ghost use Rattle.std.specs.Prelude.{◌≤◌, IsTrue};
 
+use crate::most::Most;
 use decimal_digits::digits::DigitStore;
 use std::alloc::{AllocError, Global};
 use std::cell::Cell;
+use std::marker::PhantomData;
 
 /// A store of digits with memory for `MOST` digits and no more, until it is bounded anew.
 ///
-/// What needs memory for more is refused. So the growths of a run are refused in turn, from the smallest bound on: over
-/// `Bounded<D, 16>` those to more than 16 digits, over `Bounded<D, 17>` those to more than 17.
+/// What needs memory for more is refused. So the growths of a run are refused in turn, from the smallest bound on: with
+/// 16 those to more than 16 digits, with 17 those to more than 17.
 #[derive(Drop)]
-pub struct Bounded<D: DigitStore, const MOST: usize> {
+pub struct Bounded<D: DigitStore, M: Most> {
     list: D,
     most: Cell<usize>,
+    first: PhantomData<M>,
 }
 
-impl<D: DigitStore, const MOST: usize> Bounded<D, MOST> {
+impl<D: DigitStore, M: Most> Bounded<D, M> {
     /// Gives this list memory for `most` digits from now on.
     pub fn bound(&self, most: usize) {
         self.most.set(most);
@@ -29,7 +32,7 @@ impl<D: DigitStore, const MOST: usize> Bounded<D, MOST> {
     }
 }
 
-impl<D: DigitStore, const MOST: usize> DigitStore for Bounded<D, MOST> {
+impl<D: DigitStore, M: Most> DigitStore for Bounded<D, M> {
     ghost digits = { λ s. D.digits s.list };
 
     ghost room = { λ s. D.room s.list };
@@ -41,17 +44,19 @@ impl<D: DigitStore, const MOST: usize> DigitStore for Bounded<D, MOST> {
     fn empty(alloc: Global) -> Self {
         Bounded {
             list: D::empty(alloc),
-            most: Cell::new(MOST),
+            most: Cell::new(M::MOST),
+            first: PhantomData,
         }
     }
 
     fn from_digits(alloc: Global, list: &[u8]) -> Result<Self, AllocError> {
-        if list.len() > D::L && list.len() > MOST {
+        if list.len() > D::L && list.len() > M::MOST {
             return Err(AllocError);
         }
         Ok(Bounded {
             list: D::from_digits(alloc, list)?,
-            most: Cell::new(MOST),
+            most: Cell::new(M::MOST),
+            first: PhantomData,
         })
     }
 
@@ -62,6 +67,7 @@ impl<D: DigitStore, const MOST: usize> DigitStore for Bounded<D, MOST> {
         Ok(Bounded {
             list: self.list.clone()?,
             most: Cell::new(self.most.get()),
+            first: PhantomData,
         })
     }
 

@@ -5,9 +5,11 @@
 
 mod bounded;
 mod full;
+mod most;
 mod narrow;
 mod wanted;
 
 pub use bounded::Bounded;
 pub use full::{Full, Refusal};
+pub use most::{Eight, Eighteen, Hundred, Most, Nineteen, Seventeen, Sixteen, TwentyOne};
 pub use narrow::{Narrow, shows};

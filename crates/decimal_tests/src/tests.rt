@@ -4,6 +4,9 @@ use std::alloc::Global;
 use std::process::Abort;
 use std::test::Fail;
 
+mod asks;
+mod bounded;
+mod bounded_runs;
 mod changes;
 mod compact;
 mod constructors;

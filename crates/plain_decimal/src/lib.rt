@@ -5,7 +5,9 @@
 //! each definition says. Nothing stands on this crate.
 #![tactic(auto)]
 
+#[cfg(test)]
 mod arithmetic;
-pub mod plain;
+#[cfg(test)]
+mod plain;
 #[cfg(test)]
 mod tests;

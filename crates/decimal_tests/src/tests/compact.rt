@@ -1,5 +1,5 @@
 //! Compact decimals: what is read, printed, joined, taken apart, copied and refused.
-use super::long::long;
+use super::long::{Parts, long};
 use super::*;
 use fixed_decimal::CompactDecimal;
 
@@ -35,6 +35,22 @@ const FAULTS: &[(&str, &str)] = &[
     ("1.c1", "syntax"),
     ("1C1", "syntax"),
     ("1234567890c0", "syntax"),
+];
+
+/// The parts of the longest text.
+const LONGEST: Parts = &[
+    ("-", 1),
+    ("9", 32_768),
+    (".", 1),
+    ("9", 32_768),
+    ("c255", 1),
+];
+
+/// Long texts that write no value. The fault of the significand comes first.
+const LONG_FAULTS: &[(Parts, &str)] = &[
+    (&[("0", 32_769), ("c0", 1)], "limit"),
+    (&[("0", 32_769), ("c256", 1)], "limit"),
+    (&[("0", 32_769), ("c1e1", 1)], "syntax"),
 ];
 
 /// Two texts, and whether their values are equal.
@@ -192,17 +208,9 @@ fn has_parts(rt: HostRuntime) -> Result<(), Fail> {
 #[test]
 fn is_long(rt: HostRuntime) -> Result<(), Fail> {
     let alloc = rt.alloc();
-    let parts = &[
-        ("-", 1),
-        ("9", 32_768),
-        (".", 1),
-        ("9", 32_768),
-        ("c255", 1),
-    ];
-    assert!(rt; long_hint(alloc, parts)? == 65_542);
-    // The fault of the significand comes first.
-    assert!(rt; long_fault(alloc, &[("0", 32_769), ("c0", 1)])? == "limit");
-    assert!(rt; long_fault(alloc, &[("0", 32_769), ("c256", 1)])? == "limit");
-    assert!(rt; long_fault(alloc, &[("0", 32_769), ("c1e1", 1)])? == "syntax");
+    assert!(rt; long_hint(alloc, LONGEST)? == 65_542);
+    for (parts, word) in LONG_FAULTS {
+        assert!(rt; long_fault(alloc, parts)? == *word);
+    }
     Ok(())
 }

@@ -1,65 +1,115 @@
-//! Decimals of integers, at both ends of their types, and of parts.
+//! Decimals and fixed integers of integers, at both ends of their types, and decimals of parts.
 use super::*;
-use fixed_decimal::{Sign, UnsignedDecimal};
+use decimal_testing::shows;
+use fixed_decimal::{FixedInteger, Sign, UnsignedDecimal};
+use std::alloc::AllocError;
 
-/// What the decimal of a `u8` prints.
-fn of_u8(alloc: Global, integer: u8) -> Result<TextBuf, Fail> {
-    printed(alloc, &Decimal::from_u8(alloc, integer))
+/// An integer, by its type.
+#[derive(Clone, Copy)]
+enum Integer {
+    U8(u8),
+    I8(i8),
+    U16(u16),
+    I16(i16),
+    U32(u32),
+    I32(i32),
+    U64(u64),
+    I64(i64),
+    U128(u128),
+    I128(i128),
+    Usize(usize),
+    Isize(isize),
 }
 
-/// What the decimal of an `i8` prints.
-fn of_i8(alloc: Global, integer: i8) -> Result<TextBuf, Fail> {
-    printed(alloc, &Decimal::from_i8(alloc, integer))
+/// Integers and their texts.
+const INTEGERS: &[(Integer, &str)] = &[
+    (Integer::U8(0), "0"),
+    (Integer::U8(u8::MAX), "255"),
+    (Integer::I8(i8::MIN), "-128"),
+    (Integer::I8(i8::MAX), "127"),
+    (Integer::U16(0), "0"),
+    (Integer::U16(u16::MAX), "65535"),
+    (Integer::I16(i16::MIN), "-32768"),
+    (Integer::I16(i16::MAX), "32767"),
+    (Integer::U32(0), "0"),
+    (Integer::U32(u32::MAX), "4294967295"),
+    (Integer::I32(i32::MIN), "-2147483648"),
+    (Integer::I32(i32::MAX), "2147483647"),
+    (Integer::U64(0), "0"),
+    (Integer::U64(u64::MAX), "18446744073709551615"),
+    (Integer::I64(i64::MIN), "-9223372036854775808"),
+    (Integer::I64(i64::MAX), "9223372036854775807"),
+    (Integer::U128(0), "0"),
+    (
+        Integer::U128(u128::MAX),
+        "340282366920938463463374607431768211455",
+    ),
+    (
+        Integer::I128(i128::MIN),
+        "-170141183460469231731687303715884105728",
+    ),
+    (
+        Integer::I128(i128::MAX),
+        "170141183460469231731687303715884105727",
+    ),
+    (Integer::Usize(0), "0"),
+    (Integer::Usize(usize::MAX), "18446744073709551615"),
+    (Integer::Isize(isize::MIN), "-9223372036854775808"),
+    (Integer::Isize(isize::MAX), "9223372036854775807"),
+];
+
+/// The decimal of an integer.
+fn decimal(alloc: Global, integer: Integer) -> Result<Decimal, AllocError> {
+    Ok(match integer {
+        Integer::U8(integer) => Decimal::from_u8(alloc, integer),
+        Integer::I8(integer) => Decimal::from_i8(alloc, integer),
+        Integer::U16(integer) => Decimal::from_u16(alloc, integer),
+        Integer::I16(integer) => Decimal::from_i16(alloc, integer),
+        Integer::U32(integer) => Decimal::try_from_u32(alloc, integer)?,
+        Integer::I32(integer) => Decimal::try_from_i32(alloc, integer)?,
+        Integer::U64(integer) => Decimal::try_from_u64(alloc, integer)?,
+        Integer::I64(integer) => Decimal::try_from_i64(alloc, integer)?,
+        Integer::U128(integer) => Decimal::try_from_u128(alloc, integer)?,
+        Integer::I128(integer) => Decimal::try_from_i128(alloc, integer)?,
+        Integer::Usize(integer) => Decimal::try_from_usize(alloc, integer)?,
+        Integer::Isize(integer) => Decimal::try_from_isize(alloc, integer)?,
+    })
 }
 
-/// What the decimal of a `u16` prints.
-fn of_u16(alloc: Global, integer: u16) -> Result<TextBuf, Fail> {
-    printed(alloc, &Decimal::from_u16(alloc, integer))
+/// The fixed integer of an integer.
+fn fixed(alloc: Global, integer: Integer) -> Result<FixedInteger, AllocError> {
+    Ok(match integer {
+        Integer::U8(integer) => FixedInteger::from_u8(alloc, integer),
+        Integer::I8(integer) => FixedInteger::from_i8(alloc, integer),
+        Integer::U16(integer) => FixedInteger::from_u16(alloc, integer),
+        Integer::I16(integer) => FixedInteger::from_i16(alloc, integer),
+        Integer::U32(integer) => FixedInteger::try_from_u32(alloc, integer)?,
+        Integer::I32(integer) => FixedInteger::try_from_i32(alloc, integer)?,
+        Integer::U64(integer) => FixedInteger::try_from_u64(alloc, integer)?,
+        Integer::I64(integer) => FixedInteger::try_from_i64(alloc, integer)?,
+        Integer::U128(integer) => FixedInteger::try_from_u128(alloc, integer)?,
+        Integer::I128(integer) => FixedInteger::try_from_i128(alloc, integer)?,
+        Integer::Usize(integer) => FixedInteger::try_from_usize(alloc, integer)?,
+        Integer::Isize(integer) => FixedInteger::try_from_isize(alloc, integer)?,
+    })
 }
 
-/// What the decimal of an `i16` prints.
-fn of_i16(alloc: Global, integer: i16) -> Result<TextBuf, Fail> {
-    printed(alloc, &Decimal::from_i16(alloc, integer))
+/// Whether the decimal of an integer has its text. It is asked for again where memory was refused.
+fn makes_decimal(alloc: Global, integer: Integer, text: &str) -> Result<bool, Fail> {
+    let answer = match decimal(alloc, integer) {
+        Err(AllocError) => decimal(alloc, integer),
+        made => made,
+    };
+    Ok(shows(&answer?, text.as_bytes()))
 }
 
-/// What the decimal of an `i32` prints.
-fn of_i32(alloc: Global, integer: i32) -> Result<TextBuf, Fail> {
-    printed(alloc, &Decimal::try_from_i32(alloc, integer)?)
-}
-
-/// What the decimal of a `u32` prints.
-fn of_u32(alloc: Global, integer: u32) -> Result<TextBuf, Fail> {
-    printed(alloc, &Decimal::try_from_u32(alloc, integer)?)
-}
-
-/// What the decimal of an `i64` prints.
-fn of_i64(alloc: Global, integer: i64) -> Result<TextBuf, Fail> {
-    printed(alloc, &Decimal::try_from_i64(alloc, integer)?)
-}
-
-/// What the decimal of a `u64` prints.
-fn of_u64(alloc: Global, integer: u64) -> Result<TextBuf, Fail> {
-    printed(alloc, &Decimal::try_from_u64(alloc, integer)?)
-}
-
-/// What the decimal of an `i128` prints.
-fn of_i128(alloc: Global, integer: i128) -> Result<TextBuf, Fail> {
-    printed(alloc, &Decimal::try_from_i128(alloc, integer)?)
-}
-
-/// What the decimal of a `u128` prints.
-fn of_u128(alloc: Global, integer: u128) -> Result<TextBuf, Fail> {
-    printed(alloc, &Decimal::try_from_u128(alloc, integer)?)
-}
-
-/// What the decimal of an `isize` prints.
-fn of_isize(alloc: Global, integer: isize) -> Result<TextBuf, Fail> {
-    printed(alloc, &Decimal::try_from_isize(alloc, integer)?)
-}
-
-/// What the decimal of a `usize` prints.
-fn of_usize(alloc: Global, integer: usize) -> Result<TextBuf, Fail> {
-    printed(alloc, &Decimal::try_from_usize(alloc, integer)?)
+/// Whether the fixed integer of an integer has its text. It is asked for again where memory was refused.
+fn makes_fixed(alloc: Global, integer: Integer, text: &str) -> Result<bool, Fail> {
+    let answer = match fixed(alloc, integer) {
+        Err(AllocError) => fixed(alloc, integer),
+        made => made,
+    };
+    Ok(shows(&answer?, text.as_bytes()))
 }
 
 /// What the decimal of a sign and an absolute value prints.
@@ -68,83 +118,26 @@ fn of_parts(alloc: Global, sign: Sign, absolute: u8) -> Result<TextBuf, Fail> {
     printed(alloc, &Decimal::new(sign, absolute))
 }
 
+/// Whether the zeros of both types have the text of 0.
+fn makes_zeros(alloc: Global) -> bool {
+    shows(&Decimal::zero(alloc), b"0") && shows(&FixedInteger::zero(alloc), b"0")
+}
+
 #[test]
-fn of_8_bits(rt: HostRuntime) -> Result<(), Fail> {
+fn of_integers(rt: HostRuntime) -> Result<(), Fail> {
     let alloc = rt.alloc();
-    assert_shows(&rt, of_u8(alloc, 0)?, "0");
-    assert_shows(&rt, of_u8(alloc, u8::MAX)?, "255");
-    assert_shows(&rt, of_i8(alloc, i8::MIN)?, "-128");
-    assert_shows(&rt, of_i8(alloc, i8::MAX)?, "127");
+    for (integer, text) in INTEGERS {
+        assert!(rt; makes_decimal(alloc, *integer, text)?, "{text}");
+        assert!(rt; makes_fixed(alloc, *integer, text)?, "{text}");
+    }
+    assert!(rt; makes_zeros(alloc));
     Ok(())
 }
 
 #[test]
-fn of_16_bits(rt: HostRuntime) -> Result<(), Fail> {
-    let alloc = rt.alloc();
-    assert_shows(&rt, of_u16(alloc, 0)?, "0");
-    assert_shows(&rt, of_u16(alloc, u16::MAX)?, "65535");
-    assert_shows(&rt, of_i16(alloc, i16::MIN)?, "-32768");
-    assert_shows(&rt, of_i16(alloc, i16::MAX)?, "32767");
-    Ok(())
-}
-
-#[test]
-fn of_32_bits(rt: HostRuntime) -> Result<(), Fail> {
-    let alloc = rt.alloc();
-    assert_shows(&rt, of_u32(alloc, 0)?, "0");
-    assert_shows(&rt, of_u32(alloc, u32::MAX)?, "4294967295");
-    assert_shows(&rt, of_i32(alloc, i32::MIN)?, "-2147483648");
-    assert_shows(&rt, of_i32(alloc, i32::MAX)?, "2147483647");
-    Ok(())
-}
-
-#[test]
-fn of_64_bits(rt: HostRuntime) -> Result<(), Fail> {
-    let alloc = rt.alloc();
-    assert_shows(&rt, of_u64(alloc, 0)?, "0");
-    assert_shows(&rt, of_u64(alloc, u64::MAX)?, "18446744073709551615");
-    assert_shows(&rt, of_i64(alloc, i64::MIN)?, "-9223372036854775808");
-    assert_shows(&rt, of_i64(alloc, i64::MAX)?, "9223372036854775807");
-    Ok(())
-}
-
-#[test]
-fn of_128_bits(rt: HostRuntime) -> Result<(), Fail> {
-    let alloc = rt.alloc();
-    assert_shows(&rt, of_u128(alloc, 0)?, "0");
-    assert_shows(
-        &rt,
-        of_u128(alloc, u128::MAX)?,
-        "340282366920938463463374607431768211455",
-    );
-    assert_shows(
-        &rt,
-        of_i128(alloc, i128::MIN)?,
-        "-170141183460469231731687303715884105728",
-    );
-    assert_shows(
-        &rt,
-        of_i128(alloc, i128::MAX)?,
-        "170141183460469231731687303715884105727",
-    );
-    Ok(())
-}
-
-#[test]
-fn of_sizes(rt: HostRuntime) -> Result<(), Fail> {
-    let alloc = rt.alloc();
-    assert_shows(&rt, of_usize(alloc, 0)?, "0");
-    assert_shows(&rt, of_usize(alloc, usize::MAX)?, "18446744073709551615");
-    assert_shows(&rt, of_isize(alloc, isize::MIN)?, "-9223372036854775808");
-    assert_shows(&rt, of_isize(alloc, isize::MAX)?, "9223372036854775807");
-    Ok(())
-}
-
-#[test]
-fn of_sign_and_absolute(rt: HostRuntime) -> Result<(), Fail> {
+fn of_parts_with_sign(rt: HostRuntime) -> Result<(), Fail> {
     let alloc = rt.alloc();
     assert_shows(&rt, of_parts(alloc, Sign::Negative, 250)?, "-250");
     assert_shows(&rt, of_parts(alloc, Sign::None, 0)?, "0");
-    assert_shows(&rt, printed(alloc, &Decimal::zero(alloc))?, "0");
     Ok(())
 }

@@ -505,9 +505,10 @@ fn increments(rt: HostRuntime) -> Result<(), Fail> {
 
 #[test]
 fn all_digits(rt: HostRuntime) -> Result<(), Fail> {
-    assert!(rt; full_stays_within::<DigitList>(rt.alloc(), b'9')?);
-    assert!(rt; full_stays_within::<PackedDigits>(rt.alloc(), b'9')?);
-    assert!(rt; full_stays_within::<DigitList>(rt.alloc(), b'1')?);
-    assert!(rt; full_stays_within::<PackedDigits>(rt.alloc(), b'1')?);
+    let alloc = rt.alloc();
+    for digit in [b'9', b'1'] {
+        assert!(rt; full_stays_within::<DigitList>(alloc, digit)?);
+        assert!(rt; full_stays_within::<PackedDigits>(alloc, digit)?);
+    }
     Ok(())
 }

@@ -1,5 +1,5 @@
-//! Integers: what is read, printed, converted, copied and refused.
-use super::long::long;
+//! Fixed integers: what is read, printed, converted, copied and refused.
+use super::long::{Parts, long};
 use super::*;
 use fixed_decimal::{FixedInteger, LimitError};
 use std::convert::TryFrom;
@@ -31,6 +31,12 @@ const FAULTS: &[(&str, &str)] = &[
     ("+-5", "syntax"),
     ("1e", "syntax"),
 ];
+
+/// The parts of the longest text.
+const LONGEST: Parts = &[("-", 1), ("9", 32_768)];
+
+/// Texts of one digit too many.
+const LONG_FAULTS: &[Parts] = &[&[("-", 1), ("9", 32_769)], &[("9", 32_768), (".0", 1)]];
 
 /// Two texts, and whether their integers are equal.
 const PAIRS: &[(&str, &str, bool)] = &[
@@ -213,110 +219,10 @@ fn converts(rt: HostRuntime) -> Result<(), Fail> {
 #[test]
 fn is_long(rt: HostRuntime) -> Result<(), Fail> {
     let alloc = rt.alloc();
-    assert!(rt; long_hint(alloc, &[("-", 1), ("9", 32_768)])? == 32_769);
-    assert!(rt; long_fault(alloc, &[("-", 1), ("9", 32_769)])? == "limit");
-    assert!(rt; long_fault(alloc, &[("9", 32_768), (".0", 1)])? == "limit");
-    Ok(())
-}
-
-#[test]
-fn of_8_and_16_bits(rt: HostRuntime) -> Result<(), Fail> {
-    let alloc = rt.alloc();
-    assert_shows(
-        &rt,
-        shown(alloc, &FixedInteger::from_u8(alloc, u8::MAX))?,
-        "255",
-    );
-    assert_shows(
-        &rt,
-        shown(alloc, &FixedInteger::from_i8(alloc, i8::MIN))?,
-        "-128",
-    );
-    assert_shows(
-        &rt,
-        shown(alloc, &FixedInteger::from_u16(alloc, u16::MAX))?,
-        "65535",
-    );
-    assert_shows(
-        &rt,
-        shown(alloc, &FixedInteger::from_i16(alloc, i16::MIN))?,
-        "-32768",
-    );
-    Ok(())
-}
-
-/// What the integer of a `u32` prints.
-fn of_u32(alloc: Global, integer: u32) -> Result<TextBuf, Fail> {
-    shown(alloc, &FixedInteger::try_from_u32(alloc, integer)?)
-}
-
-/// What the integer of an `i32` prints.
-fn of_i32(alloc: Global, integer: i32) -> Result<TextBuf, Fail> {
-    shown(alloc, &FixedInteger::try_from_i32(alloc, integer)?)
-}
-
-/// What the integer of a `u64` prints.
-fn of_u64(alloc: Global, integer: u64) -> Result<TextBuf, Fail> {
-    shown(alloc, &FixedInteger::try_from_u64(alloc, integer)?)
-}
-
-/// What the integer of an `i64` prints.
-fn of_i64(alloc: Global, integer: i64) -> Result<TextBuf, Fail> {
-    shown(alloc, &FixedInteger::try_from_i64(alloc, integer)?)
-}
-
-/// What the integer of a `u128` prints.
-fn of_u128(alloc: Global, integer: u128) -> Result<TextBuf, Fail> {
-    shown(alloc, &FixedInteger::try_from_u128(alloc, integer)?)
-}
-
-/// What the integer of an `i128` prints.
-fn of_i128(alloc: Global, integer: i128) -> Result<TextBuf, Fail> {
-    shown(alloc, &FixedInteger::try_from_i128(alloc, integer)?)
-}
-
-/// What the integer of a `usize` prints.
-fn of_usize(alloc: Global, integer: usize) -> Result<TextBuf, Fail> {
-    shown(alloc, &FixedInteger::try_from_usize(alloc, integer)?)
-}
-
-/// What the integer of an `isize` prints.
-fn of_isize(alloc: Global, integer: isize) -> Result<TextBuf, Fail> {
-    shown(alloc, &FixedInteger::try_from_isize(alloc, integer)?)
-}
-
-#[test]
-fn of_32_and_64_bits(rt: HostRuntime) -> Result<(), Fail> {
-    let alloc = rt.alloc();
-    assert_shows(&rt, of_u32(alloc, u32::MAX)?, "4294967295");
-    assert_shows(&rt, of_i32(alloc, i32::MIN)?, "-2147483648");
-    assert_shows(&rt, of_u64(alloc, u64::MAX)?, "18446744073709551615");
-    assert_shows(&rt, of_i64(alloc, i64::MIN)?, "-9223372036854775808");
-    Ok(())
-}
-
-#[test]
-fn of_128_bits_and_sizes(rt: HostRuntime) -> Result<(), Fail> {
-    let alloc = rt.alloc();
-    assert_shows(
-        &rt,
-        of_u128(alloc, u128::MAX)?,
-        "340282366920938463463374607431768211455",
-    );
-    assert_shows(
-        &rt,
-        of_i128(alloc, i128::MIN)?,
-        "-170141183460469231731687303715884105728",
-    );
-    assert_shows(&rt, of_usize(alloc, usize::MAX)?, "18446744073709551615");
-    assert_shows(&rt, of_isize(alloc, isize::MIN)?, "-9223372036854775808");
-    Ok(())
-}
-
-#[test]
-fn of_nothing(rt: HostRuntime) -> Result<(), Fail> {
-    let alloc = rt.alloc();
-    assert_shows(&rt, shown(alloc, &FixedInteger::zero(alloc))?, "0");
+    assert!(rt; long_hint(alloc, LONGEST)? == 32_769);
+    for parts in LONG_FAULTS {
+        assert!(rt; long_fault(alloc, parts)? == "limit");
+    }
     Ok(())
 }
 

@@ -1,12 +1,12 @@
 //! Whole runs over each store, and sinks that fail.
 use super::counting::CountingStore;
 use super::*;
+use decimal_testing::{Full, Narrow, Refusal};
 use fixed_decimal::RoundingIncrement::{MultiplesOf1, MultiplesOf5, MultiplesOf25};
 use fixed_decimal::SignedRoundingMode::{Ceil, Unsigned};
 use fixed_decimal::UnsignedRoundingMode::{Expand, HalfEven, HalfTrunc, Trunc};
 use fixed_decimal::{
-    Call, DigitList, DigitStore, PackedDigits, RunError, Sign, SignDisplay, SinkFault, run,
-    run_over,
+    Call, DigitList, DigitStore, Out, PackedDigits, RunError, Sign, SignDisplay, run, run_over,
 };
 
 /// A start, calls, and the text that they come to.
@@ -218,33 +218,12 @@ const LONG_OVERLAPS: &[Refused] = &[
     ),
 ];
 
-/// A sink that takes so many bytes.
-#[derive(Drop)]
-struct Limited {
-    text: Vec<u8>,
-    room: usize,
-    failed: bool,
-}
-
-impl Sink for Limited {
-    ghost use Rattle.std.specs.Prelude.{None};
-
-    ghost contents = { λ _. None };
-
-    ghost has_failed = { λ s. s.failed };
-
-    fn put_byte(&mut self, byte: u8) -> Result<(), SinkFault> {
-        if self.failed || self.text.len() == self.room || self.text.push(byte).is_err() {
-            self.failed = true;
-            return Err(SinkFault);
-        }
-        Ok(())
-    }
-
-    fn failed(&self) -> bool {
-        self.failed
-    }
-}
+/// Runs that sinks and writers with too little room refuse. None of them asks for memory.
+const BROKEN: &[Run] = &[
+    ("2.50", &[], "2.50"),
+    ("-1234.50", &[], "-1234.50"),
+    ("-12e2", &[Call::MultiplyPow10(-1)], "-120"),
+];
 
 /// An error in words, and the number of its call.
 fn words(error: &RunError) -> (&'static str, usize) {
@@ -348,36 +327,40 @@ fn assert_writes(rt: &impl Abort, alloc: Global, rows: &[Run]) -> Result<(), Fai
     Ok(())
 }
 
-/// What a sink of so much room has taken when a run has ended; a plus stands last where the run has not failed with it.
-fn taken(alloc: Global, start: &str, calls: &[Call<'_>], room: usize) -> Result<Vec<u8>, Fail> {
-    let mut sink = Limited {
-        text: Vec::with_capacity(alloc, room)?,
-        room,
-        failed: false,
-    };
-    let answer = run(alloc, start.as_bytes(), calls, &mut sink);
-    if answer != Err(RunError::Sink) || !sink.failed() {
-        sink.text.push(b'+')?;
-    }
-    Ok(sink.text)
+/// Whether a run fails with a sink that has so much room, which takes a beginning of the text.
+fn fails_with_sink<D: DigitStore>(alloc: Global, (start, calls, text): Run, room: usize) -> bool {
+    let mut sink = Narrow::new(text.as_bytes(), room);
+    let answer = run_over::<D, Narrow<'_>>(alloc, start.as_bytes(), calls, &mut sink);
+    answer == Err(RunError::Sink) && sink.failed() && sink.has_taken(room)
 }
 
-/// Asserts what a sink has taken.
-fn assert_takes(rt: &impl Abort, found: Vec<u8>, text: &[u8]) {
-    assert_eq!(rt; found.as_slice(), text);
-}
-
-/// Asserts what sinks of each room that is too small have taken of a text.
-fn assert_beginnings(
-    rt: &impl Abort,
+/// Whether a run fails with a writer that has so much room, which takes a beginning and is not called again.
+fn fails_with_writer<D: DigitStore>(
     alloc: Global,
     (start, calls, text): Run,
-) -> Result<(), Fail> {
-    let bytes = text.as_bytes();
-    for room in 0..bytes.len() {
-        assert_takes(rt, taken(alloc, start, calls, room)?, &bytes[..room]);
+    room: usize,
+    refusal: Refusal,
+) -> bool {
+    let mut sink = Out::new(Full::new(text.as_bytes(), room, refusal));
+    let answer = run_over::<D, Out<Full<'_>>>(alloc, start.as_bytes(), calls, &mut sink);
+    let failed = sink.failed();
+    let writer = sink.into_writer();
+    answer == Err(RunError::Sink) && failed && writer.has_taken(room) && writer.refused() == 1
+}
+
+/// Whether a run fails with each sink and each writer that has too little room.
+fn fails_with_each<D: DigitStore>(alloc: Global, row: Run) -> bool {
+    for room in 0..row.2.len() {
+        if !fails_with_sink::<D>(alloc, row, room) {
+            return false;
+        }
+        for refusal in [Refusal::Zero, Refusal::Fault, Refusal::Interrupted] {
+            if !fails_with_writer::<D>(alloc, row, room, refusal) {
+                return false;
+            }
+        }
     }
-    Ok(())
+    true
 }
 
 #[test]
@@ -433,9 +416,13 @@ fn refuses_with_memory(rt: HostRuntime) -> Result<(), Fail> {
 }
 
 #[test]
-fn fails_with_the_sink(rt: HostRuntime) -> Result<(), Fail> {
-    let alloc = rt.alloc();
-    assert_beginnings(&rt, alloc, ("2.50", &[], "2.50"))?;
-    assert_beginnings(&rt, alloc, ("-1234.50", &[], "-1234.50"))?;
-    assert_beginnings(&rt, alloc, ("-12e2", &[Call::MultiplyPow10(-1)], "-120"))
+fn fails_with_the_sink(rt: HostRuntime) {
+    for row in BROKEN {
+        assert!(rt; fails_with_each::<DigitList>(rt.alloc(), *row), "{}", row.0);
+        assert!(rt;
+            fails_with_each::<PackedDigits>(rt.alloc(), *row),
+            "{}",
+            row.0
+        );
+    }
 }

@@ -1,5 +1,5 @@
 //! Scientific decimals: what is read, printed, joined, copied and refused.
-use super::long::long;
+use super::long::{Parts, long};
 use super::*;
 use fixed_decimal::{FixedInteger, ScientificDecimal};
 
@@ -35,6 +35,23 @@ const FAULTS: &[(&str, &str)] = &[
     ("e", "syntax"),
     ("e5", "syntax"),
     ("1234567890e", "syntax"),
+];
+
+/// The parts of the longest text.
+const LONGEST: Parts = &[
+    ("+", 1),
+    ("9", 32_768),
+    (".", 1),
+    ("9", 32_768),
+    ("e+", 1),
+    ("9", 32_768),
+];
+
+/// Long texts that write no value. The fault of the significand comes first.
+const LONG_FAULTS: &[(Parts, &str)] = &[
+    (&[("0", 32_769), ("ex", 1)], "limit"),
+    (&[("xe", 1), ("0", 32_769)], "syntax"),
+    (&[("0", 32_769), ("e1E1", 1)], "syntax"),
 ];
 
 /// Two texts, and whether their values are equal.
@@ -188,18 +205,9 @@ fn joins(rt: HostRuntime) -> Result<(), Fail> {
 #[test]
 fn is_long(rt: HostRuntime) -> Result<(), Fail> {
     let alloc = rt.alloc();
-    let parts = &[
-        ("+", 1),
-        ("9", 32_768),
-        (".", 1),
-        ("9", 32_768),
-        ("e+", 1),
-        ("9", 32_768),
-    ];
-    assert!(rt; long_hint(alloc, parts)? == 98_308);
-    // The fault of the significand comes first.
-    assert!(rt; long_fault(alloc, &[("0", 32_769), ("ex", 1)])? == "limit");
-    assert!(rt; long_fault(alloc, &[("xe", 1), ("0", 32_769)])? == "syntax");
-    assert!(rt; long_fault(alloc, &[("0", 32_769), ("e1E1", 1)])? == "syntax");
+    assert!(rt; long_hint(alloc, LONGEST)? == 98_308);
+    for (parts, word) in LONG_FAULTS {
+        assert!(rt; long_fault(alloc, parts)? == *word);
+    }
     Ok(())
 }

@@ -1,99 +1,108 @@
-//! Outputs that take so many bytes and no more.
-use super::{assert_shows, words};
+//! Outputs that take so many bytes and no more, and memory that is refused once.
+use super::words;
 use crate::program;
+use decimal_testing::{Full, Refusal};
 use fixed_decimal::Out;
 use std::alloc::Global;
-use std::io;
-use std::io::Write;
 use std::test::Fail;
 
-/// A writer that takes so many bytes, and then answers an error.
-#[derive(Drop)]
-struct Full {
-    room: usize,
-}
+/// A line, what standard output takes, what standard error takes, and the status.
+type Row = (
+    &'static str,
+    (&'static str, usize),
+    (&'static str, usize),
+    u8,
+);
 
-impl Write for Full {
-    fn write(&mut self, bytes: &[u8]) -> io::Result<usize> {
-        if self.room == 0 || bytes.is_empty() {
-            return Err(io::Error::from(io::ErrorKind::StorageFull));
-        }
-        self.room -= 1;
-        Ok(1)
-    }
-
-    fn flush(&mut self) -> io::Result<()> {
-        Ok(())
-    }
-}
-
-/// A line, how many bytes standard output and standard error take, and the status.
-const STATUSES: &[(&str, usize, usize, u8)] = &[
-    ("250 shift:-2", 5, 0, 0),
-    ("250 shift:-2", 4, 0, 3),
-    ("250 shift:-2", 0, 3, 3),
-    ("5.", 0, 0, 1),
-    ("5 concat:x", 0, 3, 1),
-    ("5 up", 0, 0, 2),
+/// Lines whose outputs have room for so many bytes of a text. A fault of standard error changes no status.
+const ROWS: &[Row] = &[
+    ("250 shift:-2", ("2.50\n", 5), ("", 0), 0),
+    ("250 shift:-2", ("2.50\n", 0), ("output\n", 3), 3),
+    ("250 shift:-2", ("2.50\n", 4), ("output\n", 0), 3),
+    ("5.", ("", 0), ("start: syntax\n", 0), 1),
+    ("5 concat:x", ("", 0), ("call 0: syntax\n", 3), 1),
+    ("5 up", ("", 0), ("usage: fixdec TEXT [CALL]..\n", 0), 2),
 ];
 
-/// The status of words where each output takes so many bytes.
-fn answered(alloc: Global, words: &[String], out: usize, err: usize) -> u8 {
-    program(
-        alloc,
-        words,
-        &mut Out::new(Full { room: out }),
-        &mut Full { room: err },
-    )
+/// What writers answer when they have no more room.
+const REFUSALS: &[Refusal] = &[Refusal::Zero, Refusal::Fault];
+
+/// Lines that ask for memory: for their calls, the start, an operand, a join and a rounding.
+const LONG_LINES: &[(&str, &str)] = &[
+    ("250 shift:-2", "2.50\n"),
+    ("12345678901234567890 trim-end", "12345678901234567890\n"),
+    (
+        "1 shift:0 concat:0.12345678901234567",
+        "1.12345678901234567\n",
+    ),
+    ("1e20 trim-start concat:7", "100000000000000000007\n"),
+    ("1234567812345678 round:-1:trunc:25", "1234567812345677.5\n"),
+];
+
+/// Whether a line answers a status, and each output has taken as much as there is room for.
+fn answers(
+    alloc: Global,
+    words: &[String],
+    refusal: Refusal,
+    (_, (out_text, room), (err_text, err_room), status): Row,
+) -> bool {
+    let mut out = Out::new(Full::new(out_text.as_bytes(), room, refusal));
+    let mut err = Full::new(err_text.as_bytes(), err_room, refusal);
+    let answer = program(alloc, words, &mut out, &mut err);
+    let out = out.into_writer();
+    answer == status && out.has_taken(room) && err.has_taken(err_room.min(err_text.len()))
 }
 
-/// The status of a line. It runs again where memory may have been refused.
-fn status_of(alloc: Global, line: &str, out: usize, err: usize) -> Result<u8, Fail> {
-    let words = words(alloc, line)?;
-    let status = answered(alloc, words.as_slice(), out, err);
-    if status == 3 {
-        return Ok(answered(alloc, words.as_slice(), out, err));
+/// Whether a row holds with each refusal. A line runs again where memory may have been refused.
+fn holds(alloc: Global, row: Row) -> Result<bool, Fail> {
+    let words = words(alloc, row.0)?;
+    for refusal in REFUSALS {
+        let words = words.as_slice();
+        if !answers(alloc, words, *refusal, row) && !answers(alloc, words, *refusal, row) {
+            return Ok(false);
+        }
     }
-    Ok(status)
+    Ok(true)
 }
 
-/// A fault of standard error changes no status.
 #[test]
 fn answers_with_full_outputs(rt: HostRuntime) -> Result<(), Fail> {
-    let alloc = rt.alloc();
-    for (line, out, err, status) in STATUSES {
-        assert_eq!(rt; status_of(alloc, line, *out, *err)?, *status);
+    for row in ROWS {
+        assert!(rt; holds(rt.alloc(), *row)?, "{}", row.0);
+    }
+    for room in 0..5 {
+        let row = ("250 shift:-2", ("2.50\n", room), ("output\n", 7), 3);
+        assert!(rt; holds(rt.alloc(), row)?, "{room}");
     }
     Ok(())
 }
 
-/// What words tell on standard error, where standard output takes so many bytes.
-fn line_with_room(alloc: Global, words: &[String], room: usize) -> Result<Vec<u8>, Fail> {
-    let mut err = Vec::<u8>::with_capacity(alloc, 32)?;
-    program(alloc, words, &mut Out::new(Full { room }), &mut err);
-    Ok(err)
-}
-
-/// What a line tells so. It runs again where memory was refused.
-fn told_with_room(alloc: Global, line: &str, room: usize) -> Result<Vec<u8>, Fail> {
-    let words = words(alloc, line)?;
-    let told = line_with_room(alloc, words.as_slice(), room)?;
-    if told.as_slice() == b"memory\n".as_slice() {
-        return line_with_room(alloc, words.as_slice(), room);
+/// The status of words whose outputs take all, where these have the text, or the line of memory alone.
+fn status_of(alloc: Global, words: &[String], text: &str) -> Option<u8> {
+    let mut out = Out::new(Full::new(text.as_bytes(), usize::MAX, Refusal::Fault));
+    let mut err = Full::new(b"memory\n", usize::MAX, Refusal::Fault);
+    let status = program(alloc, words, &mut out, &mut err);
+    let out = out.into_writer();
+    match status {
+        0 if out.has_all() && err.has_taken(0) => Some(0),
+        3 if out.has_taken(0) && err.has_all() => Some(3),
+        _ => None,
     }
-    Ok(told)
 }
 
-/// Standard output takes fewer bytes than the text and the line feed.
+/// Whether a line prints its text, at once or where it runs again after memory was refused.
+fn prints(alloc: Global, line: &str, text: &str) -> Result<bool, Fail> {
+    let words = words(alloc, line)?;
+    match status_of(alloc, words.as_slice(), text) {
+        Some(3) => Ok(status_of(alloc, words.as_slice(), text) == Some(0)),
+        first => Ok(first == Some(0)),
+    }
+}
+
 #[test]
-fn tells_faults_of_output(rt: HostRuntime) -> Result<(), Fail> {
-    let alloc = rt.alloc();
-    for room in 0..5 {
-        assert_shows(
-            &rt,
-            told_with_room(alloc, "250 shift:-2", room)?,
-            "output\n",
-        );
+fn tells_want_of_memory(rt: HostRuntime) -> Result<(), Fail> {
+    for (line, text) in LONG_LINES {
+        assert!(rt; prints(rt.alloc(), line, text)?, "{line}");
     }
     Ok(())
 }

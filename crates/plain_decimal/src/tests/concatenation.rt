@@ -1,66 +1,73 @@
 //! One number joined to the end of another.
 use super::*;
+use decimal_testing::shows;
 use decimal_unsigned::ConcatenateError;
 
-/// The texts of two values, with a bar between them.
-fn both<D: DigitStore>(
-    alloc: Global,
+/// Whether two values still have the texts that they were read from: then memory was refused, and else an answer is
+/// wrong.
+fn refused<D: DigitStore>(
     value: &UnsignedOver<D>,
     other: &UnsignedOver<D>,
-) -> Result<TextBuf, Fail> {
-    let mut sink = TextBuf::new(alloc);
-    value.write_to(&mut sink)?;
-    sink.put_byte(b'|')?;
-    other.write_to(&mut sink)?;
-    Ok(sink)
-}
-
-/// Two texts with a bar between them.
-fn with_bar(alloc: Global, front: &[u8], back: &[u8]) -> Result<Vec<u8>, Fail> {
-    let mut text = front.to_vec(alloc)?;
-    text.push(b'|')?;
-    text.extend_from_slice(back)?;
-    Ok(text)
-}
-
-/// A want of memory where what is left is what was given, and else what is left.
-fn refused(left: TextBuf, given: &[u8]) -> Result<TextBuf, Fail> {
-    if left.as_bytes() == given {
+    (front, back): (&[u8], &[u8]),
+) -> Result<bool, Fail> {
+    if shows(value, front) && shows(other, back) {
         Err(Fail::new("memory was refused"))
     } else {
-        Ok(left)
+        Ok(false)
     }
 }
 
-/// What joining in place leaves: one number, or both where they overlap.
-fn joined_in_place<D: DigitStore>(
+/// Whether two texts join in place to another; where there is none, whether they overlap and both values are left.
+fn joins_in_place<D: DigitStore>(
     alloc: Global,
-    front: &[u8],
-    back: &[u8],
-) -> Result<TextBuf, Fail> {
+    (front, back): (&[u8], &[u8]),
+    joined: Option<&[u8]>,
+) -> Result<bool, Fail> {
     let mut value = read::<D>(alloc, front)?;
     match value.concatenate_end(read(alloc, back)?) {
-        Ok(()) => printed(alloc, &value),
-        Err(ConcatenateError::Overlap(other)) => both(alloc, &value, &other),
-        Err(ConcatenateError::Memory(other)) => {
-            refused(both(alloc, &value, &other)?, &with_bar(alloc, front, back)?)
+        Ok(()) => Ok(has_text(&value, joined)),
+        Err(ConcatenateError::Overlap(other)) => {
+            Ok(joined.is_none() && shows(&value, front) && shows(&other, back))
         }
+        Err(ConcatenateError::Memory(other)) => refused(&value, &other, (front, back)),
     }
 }
 
-/// What joining by value gives: one number, or both where they overlap.
-fn joined_by_value<D: DigitStore>(
+/// Whether two texts join by value to another; where there is none, whether they overlap and both values come back.
+fn joins_by_value<D: DigitStore>(
     alloc: Global,
-    front: &[u8],
-    back: &[u8],
-) -> Result<TextBuf, Fail> {
+    (front, back): (&[u8], &[u8]),
+    joined: Option<&[u8]>,
+) -> Result<bool, Fail> {
     match read::<D>(alloc, front)?.concatenated_end(read(alloc, back)?) {
-        Ok(value) => printed(alloc, &value),
-        Err(ConcatenateError::Overlap((value, other))) => both(alloc, &value, &other),
-        Err(ConcatenateError::Memory((value, other))) => {
-            refused(both(alloc, &value, &other)?, &with_bar(alloc, front, back)?)
+        Ok(value) => Ok(has_text(&value, joined)),
+        Err(ConcatenateError::Overlap((value, other))) => {
+            Ok(joined.is_none() && shows(&value, front) && shows(&other, back))
         }
+        Err(ConcatenateError::Memory((value, other))) => refused(&value, &other, (front, back)),
     }
+}
+
+/// Whether there is a text, and a value has it.
+fn has_text<D: DigitStore>(value: &UnsignedOver<D>, text: Option<&[u8]>) -> bool {
+    match text {
+        Some(text) => shows(value, text),
+        None => false,
+    }
+}
+
+/// Whether two texts join to another in both ways and over each store, and overlap where there is none.
+fn joins_each_way(
+    alloc: Global,
+    texts: (&[u8], &[u8]),
+    joined: Option<&[u8]>,
+) -> Result<bool, Fail> {
+    Ok(
+        joins_in_place::<DecimalStore>(alloc, texts, joined)?
+            && joins_by_value::<DecimalStore>(alloc, texts, joined)?
+            && joins_in_place::<DigitList>(alloc, texts, joined)?
+            && joins_by_value::<DigitList>(alloc, texts, joined)?,
+    )
 }
 
 /// What the plain program joins two texts to.
@@ -71,34 +78,6 @@ fn joined_plainly(front: &[u8], back: &[u8]) -> Option<Plain> {
 /// Tells whether two texts overlap, by the plain program.
 fn overlaps_plainly(front: &[u8], back: &[u8]) -> Option<bool> {
     Some(Plain::read(front)?.overlaps(&Plain::read(back)?))
-}
-
-/// Asserts what two texts give when they are joined, in place and by value.
-fn assert_joins<D: DigitStore>(
-    rt: &impl Abort,
-    alloc: Global,
-    front: &[u8],
-    back: &[u8],
-    joined: &[u8],
-) -> Result<(), Fail> {
-    assert_bytes(
-        rt,
-        joined_in_place::<D>(alloc, front, back)?.as_bytes(),
-        joined,
-    );
-    assert_bytes(
-        rt,
-        joined_by_value::<D>(alloc, front, back)?.as_bytes(),
-        joined,
-    );
-    Ok(())
-}
-
-/// Asserts that two texts overlap over each store, and that what was given is handed back.
-fn assert_overlaps(rt: &impl Abort, alloc: Global, front: &[u8], back: &[u8]) -> Result<(), Fail> {
-    let given = with_bar(alloc, front, back)?;
-    assert_joins::<DecimalStore>(rt, alloc, front, back, &given)?;
-    assert_joins::<DigitList>(rt, alloc, front, back, &given)
 }
 
 const JOINS: &[(&[u8], &[u8], &[u8])] = &[
@@ -124,8 +103,7 @@ const JOINS: &[(&[u8], &[u8], &[u8])] = &[
 fn joins(rt: HostRuntime) -> Result<(), Fail> {
     let alloc = rt.alloc();
     for (front, back, joined) in JOINS {
-        assert_joins::<DecimalStore>(&rt, alloc, front, back, joined)?;
-        assert_joins::<DigitList>(&rt, alloc, front, back, joined)?;
+        assert_holds(&rt, joins_each_way(alloc, (front, back), Some(joined))?);
         assert_holds(&rt, overlaps_plainly(front, back) == Some(false));
         assert_bytes(
             &rt,
@@ -149,7 +127,7 @@ const OVERLAPS: &[(&[u8], &[u8])] = &[
 fn overlaps(rt: HostRuntime) -> Result<(), Fail> {
     let alloc = rt.alloc();
     for (front, back) in OVERLAPS {
-        assert_overlaps(&rt, alloc, front, back)?;
+        assert_holds(&rt, joins_each_way(alloc, (front, back), None)?);
         assert_holds(&rt, overlaps_plainly(front, back) == Some(true));
     }
     Ok(())
@@ -176,34 +154,37 @@ const LONG_JOINS: &[(Parts<'static>, &[u8], Parts<'static>)] = &[
     ),
 ];
 
-/// Asserts what a text in parts and another text give when they are joined over each store.
-fn assert_joins_parts(
-    rt: &impl Abort,
-    alloc: Global,
-    front: Parts,
-    back: &[u8],
-    joined: Parts,
-) -> Result<(), Fail> {
+/// Whether a text in parts and another text join to a text in parts.
+fn joins_parts(alloc: Global, front: Parts, back: &[u8], joined: Parts) -> Result<bool, Fail> {
     let front = whole(alloc, front)?;
     let joined = whole(alloc, joined)?;
-    assert_joins::<DecimalStore>(rt, alloc, &front, back, &joined)?;
-    assert_joins::<DigitList>(rt, alloc, &front, back, &joined)
+    joins_each_way(alloc, (&front, back), Some(&joined))
 }
 
 #[test]
 fn joins_long_numbers(rt: HostRuntime) -> Result<(), Fail> {
     let alloc = rt.alloc();
     for (front, back, joined) in LONG_JOINS {
-        assert_joins_parts(&rt, alloc, front, back, joined)?;
+        assert_holds(&rt, joins_parts(alloc, front, back, joined)?);
     }
     Ok(())
 }
 
+/// Whether the two halves of the longest number join to it.
+fn joins_halves(alloc: Global) -> Result<bool, Fail> {
+    let decimals = whole(alloc, &[(b"0.", 1), (b"9", 32_768)])?;
+    joins_parts(alloc, &[(b"9", 32_768)], &decimals, NINES)
+}
+
+/// Whether the longest number overlaps with itself.
+fn overlaps_itself(alloc: Global) -> Result<bool, Fail> {
+    let longest = whole(alloc, NINES)?;
+    joins_each_way(alloc, (&longest, &longest), None)
+}
+
 #[test]
 fn joins_at_the_limits(rt: HostRuntime) -> Result<(), Fail> {
-    let alloc = rt.alloc();
-    let decimals = whole(alloc, &[(b"0.", 1), (b"9", 32_768)])?;
-    assert_joins_parts(&rt, alloc, &[(b"9", 32_768)], &decimals, NINES)?;
-    let longest = whole(alloc, NINES)?;
-    assert_overlaps(&rt, alloc, &longest, &longest)
+    assert_holds(&rt, joins_halves(rt.alloc())?);
+    assert_holds(&rt, overlaps_itself(rt.alloc())?);
+    Ok(())
 }

@@ -1,27 +1,25 @@
 //! Texts in strings, in sinks, and in sinks and writers that fail.
-ghost use Rattle.std.specs.Prelude.{Some};
-
 use super::*;
-use decimal_digits::sink::{Out, SinkFault};
+use decimal_digits::sink::Out;
+use decimal_testing::{Full, Narrow, Refusal};
 use decimal_unsigned::ParseError;
-use std::io;
-use std::io::{Error, ErrorKind, Write};
 
-/// What `{}` makes of the value that a text writes.
+/// What `{}` makes of the value that a text writes, without options and with some.
 fn displayed(alloc: Global, text: &[u8]) -> Result<String, Fail> {
     let value = read::<DecimalStore>(alloc, text)?;
-    Ok(format!(in alloc; "{value}")?)
-}
-
-/// What options of the format make of the value that a text writes.
-fn displayed_with_options(alloc: Global, text: &[u8]) -> Result<String, Fail> {
-    let value = read::<DecimalStore>(alloc, text)?;
-    Ok(format!(in alloc; "{value:8}|{value:<08.1}")?)
+    Ok(format!(in alloc; "{value}|{value:<08.1}")?)
 }
 
 /// What `{}` and a width make of a parser's fault.
 fn displayed_fault(alloc: Global, fault: ParseError) -> Result<String, Fail> {
     Ok(format!(in alloc; "{fault}|{fault:50}")?)
+}
+
+/// Asserts what `{}` makes of a text's value: the text.
+fn assert_displays(rt: &impl Abort, alloc: Global, text: &[u8]) -> Result<(), Fail> {
+    let twice = whole(alloc, &[(text, 1), (b"|", 1), (text, 1)])?;
+    assert_bytes(rt, displayed(alloc, text)?.as_bytes(), &twice);
+    Ok(())
 }
 
 const DISPLAYED: &[Parts<'static>] = &[
@@ -36,11 +34,8 @@ const DISPLAYED: &[Parts<'static>] = &[
 fn displays(rt: HostRuntime) -> Result<(), Fail> {
     let alloc = rt.alloc();
     for parts in DISPLAYED {
-        let text = whole(alloc, parts)?;
-        assert_bytes(&rt, displayed(alloc, &text)?.as_bytes(), &text);
+        assert_displays(&rt, alloc, &whole(alloc, parts)?)?;
     }
-    let found = displayed_with_options(alloc, b"2.50")?;
-    assert_bytes(&rt, found.as_bytes(), b"2.50|2.50");
     Ok(())
 }
 
@@ -87,135 +82,42 @@ fn takes_long_texts(rt: HostRuntime) -> Result<(), Fail> {
     Ok(())
 }
 
-/// A sink that takes so many bytes.
-#[derive(Drop)]
-struct Narrow {
-    taken: Vec<u8>,
-    room: usize,
-    failed: bool,
-}
-
-impl Sink for Narrow {
-    ghost contents = { λ s. Some s.taken.items };
-
-    ghost has_failed = { λ s. s.failed };
-
-    fn put_byte(&mut self, byte: u8) -> Result<(), SinkFault> {
-        if self.failed {
-            return Err(SinkFault);
-        }
-        if self.taken.len() == self.room || self.taken.push(byte).is_err() {
-            self.failed = true;
-            return Err(SinkFault);
-        }
-        Ok(())
-    }
-
-    fn failed(&self) -> bool {
-        self.failed
-    }
-}
-
-/// How a writer answers once it is full.
-#[derive(Clone, Copy)]
-enum Answer {
-    NoBytes,
-    Fault,
-}
-
-/// A writer that takes so many bytes.
-#[derive(Drop)]
-struct Full {
-    taken: Vec<u8>,
-    room: usize,
-    refusals: u64,
-    answer: Answer,
-}
-
-impl Write for Full {
-    fn write(&mut self, buf: &[u8]) -> io::Result<usize> {
-        if self.taken.len() < self.room {
-            return self.taken.write(buf);
-        }
-        self.refusals = self.refusals.saturating_add(1);
-        match self.answer {
-            Answer::NoBytes => Ok(0),
-            Answer::Fault => Err(Error::from(ErrorKind::BrokenPipe)),
-        }
-    }
-
-    fn flush(&mut self) -> io::Result<()> {
-        Ok(())
-    }
-}
-
 const TEXT: &[u8] = b"1234.50";
 
-/// What a sink with too little room is left with after a text.
-fn narrowed(alloc: Global, room: usize) -> Result<Narrow, Fail> {
-    let mut sink = Narrow {
-        taken: Vec::with_capacity(alloc, room)?,
-        room,
-        failed: false,
-    };
-    if read::<DecimalStore>(alloc, TEXT)?
-        .write_to(&mut sink)
-        .is_ok()
-    {
-        return Err(Fail::new("more was taken than there is room for"));
-    }
-    Ok(sink)
+/// Tells whether a sink with so much room takes a beginning of the text, and has failed.
+fn keeps_beginning<D: DigitStore>(value: &UnsignedOver<D>, room: usize) -> bool {
+    let mut sink = Narrow::new(TEXT, room);
+    value.write_to(&mut sink).is_err() && sink.failed() && sink.has_taken(room)
 }
 
-/// Asserts that a sink took a beginning of the text, and has failed.
-fn assert_beginning(rt: &impl Abort, sink: Narrow, beginning: &[u8]) {
-    assert!(rt; sink.failed());
-    assert_eq!(rt; sink.taken.as_slice(), beginning);
+/// Tells whether a writer with so much room takes a beginning of the text, and is not called after its refusal.
+fn fills<D: DigitStore>(value: &UnsignedOver<D>, room: usize, refusal: Refusal) -> bool {
+    let mut sink = Out::new(Full::new(TEXT, room, refusal));
+    let first = value.write_to(&mut sink).is_err();
+    let second = value.write_to(&mut sink).is_err();
+    let refused = first && second && sink.failed();
+    let writer = sink.into_writer();
+    refused && writer.has_taken(room) && writer.refused() == 1
+}
+
+/// Tells whether each sink and each writer with too little room takes a beginning of the text.
+fn all_keep_beginnings<D: DigitStore>(alloc: Global) -> Result<bool, Fail> {
+    let value = read::<D>(alloc, TEXT)?;
+    for room in 0..TEXT.len() {
+        let keeps = keeps_beginning(&value, room)
+            && fills(&value, room, Refusal::Zero)
+            && fills(&value, room, Refusal::Fault)
+            && fills(&value, room, Refusal::Interrupted);
+        if !keeps {
+            return Ok(false);
+        }
+    }
+    Ok(true)
 }
 
 #[test]
-fn keeps_a_beginning(rt: HostRuntime) -> Result<(), Fail> {
-    for room in 0..TEXT.len() {
-        assert_beginning(&rt, narrowed(rt.alloc(), room)?, &TEXT[..room]);
-    }
-    Ok(())
-}
-
-/// Writes the text twice, and tells whether the sink refused both and has failed.
-fn refuses_twice(alloc: Global, sink: &mut Out<Full>) -> Result<bool, Fail> {
-    let value = read::<DecimalStore>(alloc, TEXT)?;
-    let first = value.write_to(sink).is_err();
-    let second = value.write_to(sink).is_err();
-    Ok(first && second && sink.failed())
-}
-
-/// What a writer with too little room is left with after the text, twice.
-fn filled(alloc: Global, room: usize, answer: Answer) -> Result<Full, Fail> {
-    let mut sink = Out::new(Full {
-        taken: Vec::with_capacity(alloc, room)?,
-        room,
-        refusals: 0,
-        answer,
-    });
-    if refuses_twice(alloc, &mut sink)? {
-        Ok(sink.into_writer())
-    } else {
-        Err(Fail::new("more was taken than there is room for"))
-    }
-}
-
-/// Asserts that a writer took a beginning of the text, and was not called after its first refusal.
-fn assert_filled(rt: &impl Abort, writer: Full, beginning: &[u8]) {
-    assert_eq!(rt; writer.taken.as_slice(), beginning);
-    assert_eq!(rt; writer.refusals, 1);
-}
-
-#[test]
-fn calls_no_full_writer_again(rt: HostRuntime) -> Result<(), Fail> {
-    let alloc = rt.alloc();
-    for room in 0..TEXT.len() {
-        assert_filled(&rt, filled(alloc, room, Answer::NoBytes)?, &TEXT[..room]);
-        assert_filled(&rt, filled(alloc, room, Answer::Fault)?, &TEXT[..room]);
-    }
+fn keeps_beginnings(rt: HostRuntime) -> Result<(), Fail> {
+    assert_holds(&rt, all_keep_beginnings::<DecimalStore>(rt.alloc())?);
+    assert_holds(&rt, all_keep_beginnings::<DigitList>(rt.alloc())?);
     Ok(())
 }

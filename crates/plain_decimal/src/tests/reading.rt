@@ -1,55 +1,46 @@
 //! Which texts are read, as what, and why others are refused.
 use super::*;
+use decimal_testing::shows;
 use decimal_unsigned::ParseError;
 
 /// The magnitudes `hi`, `first`, `last` and `lo` of a value.
 type Magnitudes = (i16, i16, i16, i16);
 
-/// The text of the value that a text writes.
-fn reread(alloc: Global, text: &[u8]) -> Result<TextBuf, Fail> {
-    printed(alloc, &read::<DecimalStore>(alloc, text)?)
-}
-
-/// The text of the value that a string writes.
-fn reread_str(alloc: Global, text: &str) -> Result<TextBuf, Fail> {
-    printed(alloc, &UnsignedDecimal::try_from_str(alloc, text)?)
-}
-
-/// The magnitudes of the value that a text writes.
-fn magnitudes(alloc: Global, text: &[u8]) -> Result<Magnitudes, Fail> {
-    let value = read::<DecimalStore>(alloc, text)?;
-    let shown = value.magnitude_range();
-    Ok((
-        *shown.end(),
-        value.nonzero_magnitude_start(),
-        value.nonzero_magnitude_end(),
-        *shown.start(),
-    ))
-}
-
-/// Asserts which magnitudes were found.
-fn assert_magnitudes(rt: &impl Abort, found: Magnitudes, wanted: Magnitudes) {
-    assert_eq!(rt; found, wanted);
-}
-
-/// Asserts which lowest magnitude a text has where nothing but that is asked for.
-fn assert_lowest(rt: &impl Abort, text: &[u8], lo: i16) {
-    assert_eq!(rt; lowest_of(text), Ok(lo));
-}
-
-/// Asserts that a text is read as a value that prints `becomes`, with these magnitudes.
-fn assert_reads(
-    rt: &impl Abort,
+/// Whether a text is read as a value that prints `becomes`, with these magnitudes.
+fn reads_over<D: DigitStore>(
     alloc: Global,
     text: &[u8],
     becomes: &[u8],
-    wanted: Magnitudes,
-) -> Result<(), Fail> {
+    (hi, first, last, lo): Magnitudes,
+) -> Result<bool, Fail> {
+    let value = read::<D>(alloc, text)?;
+    let range = value.magnitude_range();
+    let ends = *range.end() == hi && *range.start() == lo;
+    let digits = value.nonzero_magnitude_start() == first && value.nonzero_magnitude_end() == last;
+    Ok(ends && digits && shows(&value, becomes) && value.writeable_length_hint() == becomes.len())
+}
+
+/// Whether a text has this lowest magnitude where nothing but that is asked for.
+fn has_lowest(text: &[u8], lo: i16) -> bool {
+    match lowest_of(text) {
+        Ok(found) => found == lo,
+        Err(_) => false,
+    }
+}
+
+/// Whether a text is read, over each store, as a value that prints `becomes`, with these magnitudes.
+fn reads_as(alloc: Global, text: &[u8], becomes: &[u8], wanted: Magnitudes) -> Result<bool, Fail> {
     let (_, _, _, lo) = wanted;
-    assert_bytes(rt, reread(alloc, text)?.as_bytes(), becomes);
-    assert_magnitudes(rt, magnitudes(alloc, text)?, wanted);
-    assert_lowest(rt, text, lo);
-    Ok(())
+    Ok(
+        reads_over::<DecimalStore>(alloc, text, becomes, wanted)?
+            && reads_over::<DigitList>(alloc, text, becomes, wanted)?
+            && has_lowest(text, lo),
+    )
+}
+
+/// Whether a string is read as a value that prints `becomes`.
+fn reads_str(alloc: Global, text: &str, becomes: &[u8]) -> Result<bool, Fail> {
+    Ok(shows(&UnsignedDecimal::try_from_str(alloc, text)?, becomes))
 }
 
 const READ: &[(&str, &[u8], Magnitudes)] = &[
@@ -92,24 +83,21 @@ const READ: &[(&str, &[u8], Magnitudes)] = &[
 fn reads(rt: HostRuntime) -> Result<(), Fail> {
     let alloc = rt.alloc();
     for (text, becomes, wanted) in READ {
-        assert_reads(&rt, alloc, text.as_bytes(), becomes, *wanted)?;
-        assert_bytes(&rt, reread_str(alloc, text)?.as_bytes(), becomes);
+        let holds = reads_as(alloc, text.as_bytes(), becomes, *wanted)?;
+        assert!(rt; holds && reads_str(alloc, text, becomes)?, "{text}");
     }
     Ok(())
 }
 
-/// The magnitudes that a value shows.
-fn shown(alloc: Global, text: &[u8]) -> Result<Vec<i16>, Fail> {
-    Ok(
-        read::<DecimalStore>(alloc, text)?
-            .magnitude_range()
-            .collect(alloc)?,
-    )
-}
-
-/// Asserts which magnitudes were found.
-fn assert_shown(rt: &impl Abort, found: &[i16], wanted: &[i16]) {
-    assert_eq!(rt; found, wanted);
+/// Whether the value of a text shows these magnitudes, from the lowest up.
+fn shows_each(alloc: Global, text: &[u8], wanted: &[i16]) -> Result<bool, Fail> {
+    let mut range = read::<DecimalStore>(alloc, text)?.magnitude_range();
+    for magnitude in wanted {
+        if range.next() != Some(*magnitude) {
+            return Ok(false);
+        }
+    }
+    Ok(range.next().is_none())
 }
 
 const SHOWN: &[(&[u8], &[i16])] = &[
@@ -123,7 +111,7 @@ const SHOWN: &[(&[u8], &[i16])] = &[
 fn shows_magnitudes(rt: HostRuntime) -> Result<(), Fail> {
     let alloc = rt.alloc();
     for (text, wanted) in SHOWN {
-        assert_shown(&rt, &shown(alloc, text)?, wanted);
+        assert_holds(&rt, shows_each(alloc, text, wanted)?);
     }
     Ok(())
 }
@@ -137,9 +125,9 @@ fn word(fault: &ParseError) -> &'static str {
     }
 }
 
-/// Says why a text is refused.
-fn fault(alloc: Global, text: &[u8]) -> &'static str {
-    match UnsignedDecimal::try_from_utf8(alloc, text) {
+/// Says why a text is refused over a store.
+fn fault_over<D: DigitStore>(alloc: Global, text: &[u8]) -> &'static str {
+    match UnsignedOver::<D>::try_from_utf8(alloc, text) {
         Ok(_value) => "read",
         Err(fault) => word(&fault),
     }
@@ -161,10 +149,16 @@ fn fault_lowest(text: &[u8]) -> &'static str {
     }
 }
 
-/// Asserts why a text is refused.
-fn assert_refuses(rt: &impl Abort, alloc: Global, text: &[u8], wanted: &str) {
-    assert_bytes(rt, fault(alloc, text).as_bytes(), wanted.as_bytes());
-    assert_bytes(rt, fault_lowest(text).as_bytes(), wanted.as_bytes());
+/// Whether a text is refused so, over each store and where only its lowest magnitude is asked for.
+fn refuses(alloc: Global, text: &[u8], wanted: &str) -> bool {
+    fault_over::<DecimalStore>(alloc, text) == wanted
+        && fault_over::<DigitList>(alloc, text) == wanted
+        && fault_lowest(text) == wanted
+}
+
+/// Whether a string is refused so, by each call that reads it.
+fn refuses_str(alloc: Global, text: &str, wanted: &str) -> bool {
+    refuses(alloc, text.as_bytes(), wanted) && fault_str(alloc, text) == wanted
 }
 
 const SYNTAX: &[&str] = &[
@@ -204,37 +198,30 @@ const LIMIT: &[&str] = &[
     "0.1e-32768",
 ];
 
-/// Asserts why a string is refused, by each call that reads it.
-fn assert_refuses_str(rt: &impl Abort, alloc: Global, text: &str, fault_word: &str) {
-    assert_refuses(rt, alloc, text.as_bytes(), fault_word);
-    assert_bytes(rt, fault_str(alloc, text).as_bytes(), fault_word.as_bytes());
-}
-
 #[test]
 fn refuses_outside_the_grammar(rt: HostRuntime) {
     for text in SYNTAX {
-        assert_refuses_str(&rt, rt.alloc(), text, "syntax");
+        assert!(rt; refuses_str(rt.alloc(), text, "syntax"), "{text}");
     }
 }
 
 #[test]
 fn refuses_outside_the_limits(rt: HostRuntime) {
     for text in LIMIT {
-        assert_refuses_str(&rt, rt.alloc(), text, "limit");
+        assert!(rt; refuses_str(rt.alloc(), text, "limit"), "{text}");
     }
 }
 
-/// Asserts that a text in parts is read as a value that prints other parts, with these magnitudes.
-fn assert_reads_parts(
-    rt: &impl Abort,
+/// Whether a text in parts is read as a value that prints other parts, with these magnitudes.
+fn reads_parts(
     alloc: Global,
     text: Parts,
     becomes: Parts,
     wanted: Magnitudes,
-) -> Result<(), Fail> {
+) -> Result<bool, Fail> {
     let text = whole(alloc, text)?;
     let becomes = whole(alloc, becomes)?;
-    assert_reads(rt, alloc, &text, &becomes, wanted)
+    reads_as(alloc, &text, &becomes, wanted)
 }
 
 /// Zeros at each magnitude.
@@ -270,7 +257,7 @@ const LONG_READ: &[(Parts<'static>, Parts<'static>, Magnitudes)] = &[
 fn reads_at_the_limits(rt: HostRuntime) -> Result<(), Fail> {
     let alloc = rt.alloc();
     for (text, becomes, wanted) in LONG_READ {
-        assert_reads_parts(&rt, alloc, text, becomes, *wanted)?;
+        assert_holds(&rt, reads_parts(alloc, text, becomes, *wanted)?);
     }
     Ok(())
 }
@@ -285,11 +272,17 @@ const LONG_REFUSED: &[(Parts<'static>, &str)] = &[
     (&[(b"1e", 1), (b"9", 100_000)], "limit"),
 ];
 
+/// Whether a text in parts is refused so.
+fn refuses_parts(alloc: Global, parts: Parts, wanted: &str) -> Result<bool, Fail> {
+    let text = whole(alloc, parts)?;
+    Ok(refuses(alloc, &text, wanted))
+}
+
 #[test]
 fn refuses_beyond_the_limits(rt: HostRuntime) -> Result<(), Fail> {
     let alloc = rt.alloc();
     for (parts, fault_word) in LONG_REFUSED {
-        assert_refuses(&rt, alloc, &whole(alloc, parts)?, fault_word);
+        assert_holds(&rt, refuses_parts(alloc, parts, fault_word)?);
     }
     Ok(())
 }
