@@ -5,8 +5,7 @@ ghost use Rattle.decimal_digits.specs.Halves.{digits_in, IsPacked};
 ghost use Rattle.decimal_digits.specs.Packing.{Holds};
 
 use super::halves::{
-    byte_count, drop_bytes, join_halves, pack, push_pairs, push_zeros, set_half,
-    shift_halves,
+    byte_count, drop_bytes, join_halves, pack, push_pairs, push_zeros, set_half, shift_halves,
 };
 use smallvec::SmallVec;
 use std::alloc::{AllocError, Global};
