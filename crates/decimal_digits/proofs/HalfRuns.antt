@@ -15,15 +15,19 @@ use Rattle.decimal_digits.proofs.HalfPasses.{low_digits, low_letters}
 use Rattle.decimal_digits.proofs.Packing.{holds, none, holds_run, holds_run_odd}
 
 -- ---- digits and text that come in
+-- bytes whose halves are those of digits hold these
+pub digits_packed : (bytes ds : List ℕ) → All (λ d. d < 10) ds
+    → halves bytes ≡ map (λ d. d % 16) ds ++ replicate (length ds % 2) 0 → Holds bytes (length ds) ds
+digits_packed bytes ds all e =
+    holds bytes ds (length ds) (e ∙ ap (λ l. l ++ replicate (length ds % 2) 0) (low_digits ds all)) refl all
+
 -- digits that are put behind no bytes are all that the bytes hold
 pub digits_alone : (before bytes ds : List ℕ) → before ≡ [] → All (λ d. d < 10) ds
     → halves bytes ≡ halves before ++ (map (λ d. d % 16) ds ++ replicate (length ds % 2) 0)
     → Holds bytes (length ds) ds
 digits_alone before bytes ds n all e =
-    let f : halves bytes ≡ ds ++ replicate (length ds % 2) 0 =
-    e ∙ ap (λ l. l ++ (map (λ d. d % 16) ds ++ replicate (length ds % 2) 0)) (ap halves n ∙ none)
-    ∙ ap (λ l. l ++ replicate (length ds % 2) 0) (low_digits ds all) in
-    holds bytes ds (length ds) f refl all
+    digits_packed bytes ds all
+    (e ∙ ap (λ l. l ++ (map (λ d. d % 16) ds ++ replicate (length ds % 2) 0)) (ap halves n ∙ none))
 
 -- the digits of a text behind an even number of them
 pub text_even : (bs : List ℕ) (len : ℕ) → IsPacked bs len → (bs' text : List ℕ) → len % 2 ≡ 0 → AllDigits 10 text

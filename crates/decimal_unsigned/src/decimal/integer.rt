@@ -127,7 +127,6 @@ impl<D: DigitStore> UnsignedOver<D> {
         Self::from_digits(alloc, &places[start..])
     }
 
-    /// The integer that digits write, the first of which is not 0.
     /// The value of the integer that digits write, the first of which is not 0.
     ///
     /// Behind a call its parts would be stored one by one and copied together, for which the processor waits.

@@ -5,7 +5,7 @@ ghost use Rattle.decimal_digits.specs.Halves.{digits_in, IsPacked};
 ghost use Rattle.decimal_digits.specs.Packing.{Holds};
 
 use super::halves::{
-    byte_count, drop_bytes, join_halves, keep_bytes, pack_behind, push_pairs, push_zeros, set_half,
+    byte_count, drop_bytes, join_halves, keep_bytes, pack, push_pairs, push_zeros, set_half,
     shift_halves,
 };
 use smallvec::SmallVec;
@@ -25,9 +25,10 @@ pub(super) fn pack_digits(alloc: Global, digits: &[u8]) -> Result<SmallVec<u8, 8
         push_pairs(&mut bytes, digits);
         return Ok(bytes);
     }
-    let mut bytes = SmallVec::with_capacity(alloc, byte_count(digits.len()))?;
-    pack_behind(&mut bytes, digits);
-    let _at_least = bytes.capacity();
+    // The copy makes room, and is written over.
+    let copy = Vec::from_slice(alloc, &digits[..byte_count(digits.len())])?;
+    let mut bytes = SmallVec::from_vec(copy);
+    pack(bytes.as_mut_slice(), digits);
     Ok(bytes)
 }
 
