@@ -70,6 +70,7 @@ impl<D: DigitStore> UnsignedOver<D> {
     ///
     /// Err: memory for more than `L` digits was refused; the zeros at the end of the integer are not counted. In the
     /// place of the original's `From<u32>`.
+    #[inline]
     pub fn try_from_u32(alloc: Global, integer: u32) -> Result<Self, AllocError>
         ensures value { IfOk result (λ v. v ≡ integer_value integer) }
         ensures succeeds { size (integer_value integer).number ≤ D.L → IsOk result }
@@ -81,6 +82,7 @@ impl<D: DigitStore> UnsignedOver<D> {
     ///
     /// Err: memory for more than `L` digits was refused; the zeros at the end of the integer are not counted. In the
     /// place of the original's `From<u64>`.
+    #[inline]
     pub fn try_from_u64(alloc: Global, integer: u64) -> Result<Self, AllocError>
         ensures value { IfOk result (λ v. v ≡ integer_value integer) }
         ensures succeeds { size (integer_value integer).number ≤ D.L → IsOk result }
@@ -92,6 +94,7 @@ impl<D: DigitStore> UnsignedOver<D> {
     ///
     /// Err: memory for more than `L` digits was refused; the zeros at the end of the integer are not counted. In the
     /// place of the original's `From<u128>`.
+    #[inline]
     pub fn try_from_u128(alloc: Global, integer: u128) -> Result<Self, AllocError>
         ensures value { IfOk result (λ v. v ≡ integer_value integer) }
         ensures succeeds { size (integer_value integer).number ≤ D.L → IsOk result }
@@ -103,6 +106,7 @@ impl<D: DigitStore> UnsignedOver<D> {
     ///
     /// Err: memory for more than `L` digits was refused; the zeros at the end of the integer are not counted. In the
     /// place of the original's `From<usize>`.
+    #[inline]
     pub fn try_from_usize(alloc: Global, integer: usize) -> Result<Self, AllocError>
         ensures value { IfOk result (λ v. v ≡ integer_value integer) }
         ensures succeeds { size (integer_value integer).number ≤ D.L → IsOk result }
@@ -111,6 +115,7 @@ impl<D: DigitStore> UnsignedOver<D> {
     }
 
     /// The value of an integer.
+    #[inline]
     fn from_integer<T: UnsignedInteger>(alloc: Global, integer: T) -> Result<Self, AllocError>
         requires { T.number integer < 2 ^ 128 }
         ensures value { IfOk result (λ v. v ≡ integer_value (T.number integer)) }
@@ -122,7 +127,10 @@ impl<D: DigitStore> UnsignedOver<D> {
         Self::from_digits(alloc, &places[start..])
     }
 
-    /// The integer that digits write, the first of which is not 0.
+    /// The value of the integer that digits write, the first of which is not 0.
+    ///
+    /// Behind a call its parts would be stored one by one and copied together, for which the processor waits.
+    #[inline(always)]
     fn from_digits(alloc: Global, digits: &[u8]) -> Result<Self, AllocError>
         requires digits { All (λ d. d < 10) digits.now }
         requires front { 0 < length digits.now → 0 < slice_index digits.now 0 }
