@@ -74,15 +74,6 @@ fn rounded_text<D: DigitStore>(
     )
 }
 
-/// Tells whether two of the calls make the same of a value.
-fn agree(
-    value: &UnsignedDecimal,
-    (left, right): (Way, Way),
-    rounding: Rounding,
-) -> Result<bool, Fail> {
-    Ok(rounded_copy(value, left, rounding)? == rounded_copy(value, right, rounding)?)
-}
-
 /// One of the calls that take no increment.
 #[derive(Clone, Copy)]
 enum Call {
@@ -551,40 +542,219 @@ fn rounds_long_numbers(rt: HostRuntime) -> Result<(), Fail> {
     Ok(())
 }
 
-/// Asserts that each call makes the same of a value.
-fn assert_agree(rt: &impl Abort, value: &UnsignedDecimal, rounding: Rounding) -> Result<(), Fail> {
-    let in_place = agree(value, (Way::Counted, Way::InPlace), rounding)?;
-    let by_value = agree(value, (Way::Counted, Way::ByValue), rounding)?;
-    assert_holds(rt, in_place && by_value);
-    Ok(())
+/// A number and a position, and a small number whose roundings at 0 are those of the number at the position.
+///
+/// Both have the same last two digits above the position, and their tails are nothing, or more than a half, or less:
+/// every increment divides 100 an even number of times.
+struct Kin {
+    number: Parts<'static>,
+    position: i16,
+    small: &'static [u8],
+    /// What stands in front of the small number's digits.
+    front: Parts<'static>,
+    /// The fewest places of the small number's digits.
+    places: usize,
+    /// The most places of its digits below the limit: with more the number is 0.
+    most: usize,
+    /// The zeros behind them.
+    zeros: usize,
+    /// The text of 0.
+    zero: Parts<'static>,
 }
 
-/// Asserts that each call makes the same of a value, by each mode and increment at a position.
-fn assert_agree_at(rt: &impl Abort, value: &UnsignedDecimal, position: i16) -> Result<(), Fail> {
-    for mode in MODES {
-        for increment in INCREMENTS {
-            assert_agree(rt, value, (position, *mode, *increment))?;
+/// The longest number.
+const LONGEST_KIN: &[Kin] = &[
+    Kin {
+        number: NINES,
+        position: -32768,
+        small: b"99",
+        front: &[(b"9", 32_768), (b".", 1), (b"9", 32_766)],
+        places: 2,
+        most: 2,
+        zeros: 0,
+        zero: &[(b"0", 32_768), (b".", 1), (b"0", 32_768)],
+    },
+    Kin {
+        number: NINES,
+        position: -32767,
+        small: b"99.9",
+        front: &[(b"9", 32_768), (b".", 1), (b"9", 32_765)],
+        places: 2,
+        most: 2,
+        zeros: 0,
+        zero: &[(b"0", 32_768), (b".", 1), (b"0", 32_767)],
+    },
+    Kin {
+        number: NINES,
+        position: 32766,
+        small: b"99.9",
+        front: &[],
+        places: 1,
+        most: 2,
+        zeros: 32_766,
+        zero: &[(b"0", 32_768)],
+    },
+    Kin {
+        number: NINES,
+        position: 32767,
+        small: b"9.9",
+        front: &[],
+        places: 1,
+        most: 1,
+        zeros: 32_767,
+        zero: &[(b"0", 32_768)],
+    },
+];
+
+/// The least number above 0, and 0.
+const LEAST_KIN: &[Kin] = &[
+    Kin {
+        number: LEAST,
+        position: -32768,
+        small: b"1",
+        front: &[(b"0.", 1), (b"0", 32_766)],
+        places: 2,
+        most: 2,
+        zeros: 0,
+        zero: &[(b"0.", 1), (b"0", 32_768)],
+    },
+    Kin {
+        number: LEAST,
+        position: -32767,
+        small: b"0.1",
+        front: &[(b"0.", 1), (b"0", 32_765)],
+        places: 2,
+        most: 2,
+        zeros: 0,
+        zero: &[(b"0.", 1), (b"0", 32_767)],
+    },
+    Kin {
+        number: LEAST,
+        position: 32766,
+        small: b"0.1",
+        front: &[],
+        places: 1,
+        most: 2,
+        zeros: 32_766,
+        zero: &[(b"0", 32_766)],
+    },
+    Kin {
+        number: LEAST,
+        position: 32767,
+        small: b"0.1",
+        front: &[],
+        places: 1,
+        most: 1,
+        zeros: 32_767,
+        zero: &[(b"0", 32_767)],
+    },
+    Kin {
+        number: &[(b"0", 1)],
+        position: -32768,
+        small: b"0",
+        front: &[],
+        places: 1,
+        most: 1,
+        zeros: 0,
+        zero: &[(b"0.", 1), (b"0", 32_768)],
+    },
+    Kin {
+        number: &[(b"0", 1)],
+        position: 32767,
+        small: b"0",
+        front: &[],
+        places: 1,
+        most: 1,
+        zeros: 0,
+        zero: &[(b"0", 32_767)],
+    },
+];
+
+/// The text that the plain program's rounding of the small number makes of the number's.
+fn text_by_kin(
+    alloc: Global,
+    kin: &Kin,
+    mode: UnsignedRoundingMode,
+    increment: RoundingIncrement,
+) -> Result<Vec<u8>, Fail> {
+    let digits = printed_plainly(alloc, rounded_plainly(kin.small, (0, mode, increment)))?;
+    if digits.as_slice() == b"0".as_slice() || digits.len() > kin.most {
+        return whole(alloc, kin.zero);
+    }
+    let missing = kin.places.saturating_sub(digits.len());
+    let mut text = whole(alloc, kin.front)?;
+    push_part(&mut text, b"0", missing)?;
+    push_part(&mut text, &digits, 1)?;
+    push_part(&mut text, b"0", kin.zeros)?;
+    Ok(text)
+}
+
+/// Whether each call makes one value of another.
+fn rounds_each_way<D: DigitStore>(
+    value: &UnsignedOver<D>,
+    rounding: Rounding,
+    wanted: &UnsignedOver<D>,
+) -> Result<bool, Fail> {
+    for way in WAYS {
+        if rounded_copy(value, *way, rounding)? != *wanted {
+            return Ok(false);
         }
     }
-    Ok(())
+    Ok(true)
 }
 
-/// Asserts that each call makes the same of a text, at the two lowest and the two highest positions.
-fn assert_agree_at_ends(rt: &impl Abort, alloc: Global, text: &[u8]) -> Result<(), Fail> {
-    let value = read(alloc, text)?;
-    let positions: &[i16] = &[-32768, -32767, 32766, 32767];
-    for position in positions {
-        assert_agree_at(rt, &value, *position)?;
+/// Whether each call makes of a value, by a mode and each increment, what the small number says.
+fn rounds_by_mode<D: DigitStore>(
+    alloc: Global,
+    value: &UnsignedOver<D>,
+    kin: &Kin,
+    mode: UnsignedRoundingMode,
+) -> Result<bool, Fail> {
+    for increment in INCREMENTS {
+        let text = text_by_kin(alloc, kin, mode, *increment)?;
+        let wanted = read::<D>(alloc, &text)?;
+        if !rounds_each_way(value, (kin.position, mode, *increment), &wanted)? {
+            return Ok(false);
+        }
+    }
+    Ok(true)
+}
+
+/// Whether each call makes of a number, by each mode and each increment, what the small number says.
+fn rounds_as_kin<D: DigitStore>(alloc: Global, kin: &Kin) -> Result<bool, Fail> {
+    let text = whole(alloc, kin.number)?;
+    let value = read::<D>(alloc, &text)?;
+    for mode in MODES {
+        if !rounds_by_mode(alloc, &value, kin, *mode)? {
+            return Ok(false);
+        }
+    }
+    Ok(true)
+}
+
+/// Asserts that numbers are rounded as the small ones say, over each store.
+fn assert_rounds_as_kin(rt: &impl Abort, alloc: Global, rows: &[Kin]) -> Result<(), Fail> {
+    for kin in rows {
+        assert!(rt;
+            rounds_as_kin::<DecimalStore>(alloc, kin)?,
+            "at {}",
+            kin.position
+        );
+        assert!(rt;
+            rounds_as_kin::<DigitList>(alloc, kin)?,
+            "at {}",
+            kin.position
+        );
     }
     Ok(())
 }
 
 #[test]
-fn rounds_at_the_ends(rt: HostRuntime) -> Result<(), Fail> {
-    let alloc = rt.alloc();
-    let numbers: &[Parts<'static>] = &[NINES, LEAST, &[(b"0", 1)]];
-    for parts in numbers {
-        assert_agree_at_ends(&rt, alloc, &whole(alloc, parts)?)?;
-    }
-    Ok(())
+fn rounds_the_longest_at_the_ends(rt: HostRuntime) -> Result<(), Fail> {
+    assert_rounds_as_kin(&rt, rt.alloc(), LONGEST_KIN)
+}
+
+#[test]
+fn rounds_the_least_at_the_ends(rt: HostRuntime) -> Result<(), Fail> {
+    assert_rounds_as_kin(&rt, rt.alloc(), LEAST_KIN)
 }
