@@ -8,8 +8,8 @@ mod runs;
 
 use super::DigitStore;
 use bytes::{
-    append_digits, append_zeros, copy_bytes, cut_digits, keep_digits, pack_digits, push_digit,
-    reserve_digits, set_digit,
+    append_digits, append_zeros, are_equal, copy_bytes, cut_digits, keep_digits, pack_digits,
+    push_digit, reserve_digits, set_digit,
 };
 use halves::{half_at, keep_bytes};
 use runs::{append_text, count_halves_back, write_text};
@@ -142,7 +142,7 @@ impl DigitStore for PackedDigits {
 
     #[inline]
     fn eq(&self, other: &Self) -> bool {
-        self.len == other.len && self.bytes.as_slice() == other.bytes.as_slice()
+        self.len == other.len && are_equal(self.bytes.as_slice(), other.bytes.as_slice())
     }
 }
 

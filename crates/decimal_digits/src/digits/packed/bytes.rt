@@ -1,5 +1,5 @@
 //! Lists of digits packed into bytes, two to a byte.
-ghost use Rattle.std.specs.Prelude.{◌≡◌, ℕ, ◌+◌, ◌-◌, ◌*◌, ◌^◌, ◌<◌, ◌≤◌, [], ◌∷◌, ◌++◌, length, take, drop, replicate, slice_set, All, IsOk, IfOk, OnOk};
+ghost use Rattle.std.specs.Prelude.{◌≡◌, ℕ, ◌+◌, ◌-◌, ◌*◌, ◌^◌, ◌<◌, ◌≤◌, ◌↔◌, [], ◌∷◌, ◌++◌, length, take, drop, replicate, slice_set, All, IsTrue, IsOk, IfOk, OnOk};
 ghost use Rattle.smallvec.specs.SmallVec.{small_vec_len};
 ghost use Rattle.decimal_digits.specs.Halves.{digits_in, IsPacked};
 ghost use Rattle.decimal_digits.specs.Packing.{Holds};
@@ -91,6 +91,30 @@ pub(super) fn push_digit(bytes: &mut SmallVec<u8, 8>, len: usize, digit: u8)
     } else {
         set_half(bytes, len, digit);
     }
+}
+
+/// How many bytes are compared with no call: those of 48 digits.
+const FEW: usize = 24;
+
+/// Tells whether two lists of bytes are equal.
+pub(super) fn are_equal(left: &[u8], right: &[u8]) -> bool
+    ensures { IsTrue result ↔ (left.now ≡ right.now) }
+{
+    if left.len() != right.len() || left.len() > FEW {
+        return left == right;
+    }
+    let (mut left, mut right) = (left, right);
+    while let (Some((first, left_rest)), Some((second, right_rest))) = (
+        left.split_first_chunk::<4>(),
+        right.split_first_chunk::<4>(),
+    ) {
+        if first != second {
+            return false;
+        }
+        left = left_rest;
+        right = right_rest;
+    }
+    left == right
 }
 
 /// Keeps the first digits.
