@@ -29,3 +29,6 @@ returns-in_err-put_bytes-clause-reads_back g c = read_text c.args.self.now c.mag
 
 pub returns-clause-reads_back : goal.returns-clause-reads_back
 returns-clause-reads_back g c = read_text c.args.self.now c.magnitude_range-range.ensures.valid
+
+pub returns-then-length-le-FEW-clause-reads_back : goal.returns-then-length-le-FEW-clause-reads_back
+returns-then-length-le-FEW-clause-reads_back g c = read_text c.args.self.now c.magnitude_range-range.ensures.valid
