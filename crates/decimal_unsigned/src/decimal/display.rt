@@ -1,25 +1,12 @@
 //! The text of a value, for `{}`.
 ghost use Rattle.std.specs.Prelude.{Some};
-ghost use Rattle.std.specs.Fmt.{WritesStyledOnOk};
 ghost use Rattle.decimal_unsigned.specs.Text.{text};
 
 use super::UnsignedOver;
-use super::text::{BLOCK, FEW};
+use super::text::BLOCK;
 use decimal_digits::digits::DigitStore;
 use decimal_digits::sink::Writeable;
 use std::fmt;
-
-impl<D: DigitStore> UnsignedOver<D> {
-    /// Formats the text byte by byte.
-    fn format_few<W: fmt::Write>(&self, f: &mut fmt::Formatter<W>) -> fmt::Result
-        ensures { WritesStyledOnOk W.write_str_gives f.old result (text self.now) f.new }
-    {
-        for index in 0..self.writeable_length_hint() {
-            f.write_char(self.byte_at(index) as char)?;
-        }
-        Ok(())
-    }
-}
 
 impl<D: DigitStore> fmt::Display for UnsignedOver<D> {
     ghost output = { λ v. Some (text v) };
@@ -31,9 +18,6 @@ impl<D: DigitStore> fmt::Display for UnsignedOver<D> {
     /// Err: the formatter refused a character. The original's `Display`.
     fn fmt<W: fmt::Write>(&self, f: &mut fmt::Formatter<W>) -> fmt::Result {
         let length = self.writeable_length_hint();
-        if length <= FEW {
-            return self.format_few(f);
-        }
         let mut written = 0;
         while written < length {
             let mut block = [b'0'; BLOCK];

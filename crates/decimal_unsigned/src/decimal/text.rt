@@ -15,7 +15,7 @@ use decimal_digits::sink::{Sink, SinkFault, Writeable};
 pub(super) const BLOCK: usize = 64;
 
 /// Up to how many bytes a text is put byte by byte, which for so few is quicker than a block.
-pub(super) const FEW: usize = 5;
+const FEW: usize = 5;
 
 impl<D: DigitStore> UnsignedOver<D> {
     /// Writes the digits at so many magnitudes, from one down, without a dot: those held, among zeros.
@@ -42,10 +42,9 @@ impl<D: DigitStore> UnsignedOver<D> {
     ///
     /// Requires an index in range.
     #[inline]
-    pub(super) fn byte_at(&self, index: usize) -> u8
+    fn byte_at(&self, index: usize) -> u8
         requires { index < length (text self.now) }
-        ensures value { result ≡ slice_index (text self.now) index }
-        ensures ascii { result < 128 }
+        ensures { result ≡ slice_index (text self.now) index }
     {
         let hi = self.highest();
         let dot = count_between(0, hi) as usize;

@@ -11,7 +11,7 @@ loop-index-init g c = appends_none _
 pub loop-index-preserved : goal.loop-index-preserved
 loop-index-preserved g c =
     let inside : c.loop-index.index < length (text c.args.self.now) = omega (arith, c.writeable_length_hint-index-end.ensures.length) in
-    wrote_more _ _ _ (text c.args.self.now) _ c.loop-index.index 1 (omega arith) (byte_taken (text c.args.self.now) c.loop-index.index c.byte_at.result inside c.byte_at.ensures.value) c.loop-index.invariant c.in_ok-put_byte.ensures.appends
+    wrote_more _ _ _ (text c.args.self.now) _ c.loop-index.index 1 (omega arith) (byte_taken (text c.args.self.now) c.loop-index.index c.byte_at.result inside c.byte_at.ensures) c.loop-index.invariant c.in_ok-put_byte.ensures.appends
 
 pub returns-in_err-put_byte-clause-err : goal.returns-in_err-put_byte-clause-err
 returns-in_err-put_byte-clause-err g c =
