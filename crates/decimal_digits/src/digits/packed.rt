@@ -104,6 +104,7 @@ impl DigitStore for PackedDigits {
 
     fn count_back(&self, count: usize, digit: u8) -> usize {
         if digit >= 16 {
+            // No half is so large.
             return 0;
         }
         count_halves_back(self.bytes.as_slice(), count, digit)

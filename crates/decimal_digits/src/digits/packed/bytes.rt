@@ -5,7 +5,7 @@ ghost use Rattle.decimal_digits.specs.Halves.{digits_in, IsPacked};
 ghost use Rattle.decimal_digits.specs.Packing.{Holds};
 
 use super::halves::{
-    append_pairs, byte_count, drop_bytes, join_halves, push_zeros, set_half, shift_halves,
+    byte_count, drop_bytes, join_halves, pack, push_pairs, push_zeros, set_half, shift_halves,
 };
 use smallvec::SmallVec;
 use std::alloc::{AllocError, Global};
@@ -18,9 +18,16 @@ pub(super) fn pack_digits(alloc: Global, digits: &[u8]) -> Result<SmallVec<u8, 8
     ensures inline { IfOk result (λ bytes. 8 ≤ bytes.capacity) }
     ensures succeeds { length digits.now ≤ 16 → IsOk result }
 {
-    let mut bytes = SmallVec::with_capacity(alloc, byte_count(digits.len()))?;
-    append_pairs(&mut bytes, digits);
-    let _at_least = bytes.capacity();
+    if digits.len() <= 16 {
+        // For so few a loop is quicker than a call.
+        let mut bytes = SmallVec::new(alloc);
+        push_pairs(&mut bytes, digits);
+        return Ok(bytes);
+    }
+    // The copy makes room, and is written over.
+    let copy = Vec::from_slice(alloc, &digits[..byte_count(digits.len())])?;
+    let mut bytes = SmallVec::from_vec(copy);
+    pack(bytes.as_mut_slice(), digits);
     Ok(bytes)
 }
 

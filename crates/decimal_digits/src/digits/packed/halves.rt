@@ -43,7 +43,7 @@ pub(super) fn set_half(bytes: &mut SmallVec<u8, 8>, index: usize, half: u8)
 /// Writes the low halves of these over bytes, two to a byte, and 0 into a half that is left over.
 ///
 /// The low half of a digit is the digit, and so is that of the letter that writes it.
-fn pack(bytes: &mut [u8], digits: &[u8])
+pub(super) fn pack(bytes: &mut [u8], digits: &[u8])
     requires { length bytes.old ≡ (length digits.now + 1) / 2 }
     ensures { halves bytes.new ≡ map (λ d. d % 16) digits.now ++ replicate (length digits.now % 2) 0 }
 {
@@ -77,7 +77,7 @@ pub(super) fn append_pairs(bytes: &mut SmallVec<u8, 8>, digits: &[u8])
 
 /// Appends the low halves of these, two at a time.
 #[inline]
-fn push_pairs(bytes: &mut SmallVec<u8, 8>, digits: &[u8])
+pub(super) fn push_pairs(bytes: &mut SmallVec<u8, 8>, digits: &[u8])
     requires { (length digits.now + 1) / 2 ≤ bytes.old.capacity - small_vec_len bytes.old }
     ensures appended { halves bytes.new.items
         ≡ halves bytes.old.items ++ (map (λ d. d % 16) digits.now ++ replicate (length digits.now % 2) 0) }

@@ -1,4 +1,4 @@
-use Rattle.std.proofs.Common.{◌≤◌, ◌<◌, length, get_or, arith}
+use Rattle.std.proofs.Common.{◌≤◌, get_or, arith}
 use Rattle.std.proofs.lemmas.Str.{digit_value_digit}
 use Rattle.std.proofs.lemmas.Int.Digits.{digits_more}
 use Rattle.decimal_digits.proofs.tests.runs.is_number.Goals as goal

@@ -1,13 +1,12 @@
-use Rattle.std.proofs.Common.{◌≡◌, ◌%◌, [], ◌++◌, length, map, replicate, refl, ◌∙◌, ap}
-use Rattle.decimal_digits.specs.Halves.{halves}
-use Rattle.decimal_digits.proofs.HalfPasses.{low_digits}
-use Rattle.decimal_digits.proofs.Packing.{holds, none}
+use Rattle.std.proofs.Common.{length, ◌∙◌, ap}
+use Rattle.decimal_digits.proofs.Refills.{refill_same}
+use Rattle.decimal_digits.proofs.HalfRuns.{digits_packed, digits_alone}
 use Rattle.decimal_digits.proofs.digits.packed.bytes.pack_digits.Goals as goal
+
+pub returns-then-digits-le16-clause-ok : goal.returns-then-digits-le16-clause-ok
+returns-then-digits-le16-clause-ok c = digits_alone _ _ _ c.new-bytes.ensures.items c.requires c.push_pairs.ensures.appended
 
 pub returns-clause-ok : goal.returns-clause-ok
 returns-clause-ok c =
-    let digits = c.args.digits.now in
-    let none = ap halves c.in_ok-bytes.ensures.items ∙ none in
-    let e = c.append_pairs.ensures.appended ∙ ap (λ l. l ++ (map (λ d. d % 16) digits ++ replicate (length digits % 2) 0)) none
-    ∙ ap (λ ds. ds ++ replicate (length digits % 2) 0) (low_digits digits c.requires) in
-    holds _ _ _ e refl c.requires
+    let l = c.pack.auto.bytes ∙ ap length c.as_mut_slice.ensures.value in
+    rw (refill_same _ c.pack.new.bytes _ l) (digits_packed _ _ c.requires c.pack.ensures)
