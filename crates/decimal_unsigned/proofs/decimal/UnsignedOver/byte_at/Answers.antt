@@ -1,6 +1,4 @@
-use Rattle.std.proofs.Common.{◌+◌, ◌≤◌, length, ◌∙◌, ap, arith}
-use Rattle.decimal_digits.specs.Number.{digit}
-use Rattle.decimal_unsigned.specs.Text.{text}
+use Rattle.std.proofs.Common.{◌+◌, ◌∙◌, ap, arith}
 use Rattle.decimal_unsigned.proofs.Values.{narrow_kept}
 use Rattle.decimal_unsigned.proofs.Pieces.{limit_below, byte_above, byte_dot, byte_below}
 use Rattle.decimal_unsigned.proofs.decimal.UnsignedOver.byte_at.Goals as goal
