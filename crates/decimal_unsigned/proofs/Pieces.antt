@@ -1,5 +1,5 @@
 -- The bytes from an index on of the text of a value.
-use Rattle.std.proofs.Common.{◌≡◌, ℕ, ◌+◌, ◌-◌, ◌<◌, ◌≤◌, List, ◌++◌, length, get_or, take, drop, set, sym, ◌∙◌, ap, arith, inl, inr}
+use Rattle.std.proofs.Common.{◌≡◌, ℕ, ◌+◌, ◌-◌, ◌<◌, ◌≤◌, List, ◌++◌, length, get_or, take, drop, sym, ◌∙◌, ap, arith, inl, inr}
 use Rattle.std.specs.Prelude.{ℤ, pos, negsuc, ◌+ℤ◌, ◌-ℤ◌, ◌≤ℤ◌, ◌<ℤ◌, EachIndex, slice_index}
 use Rattle.std.specs.Int.{int_gap}
 use Rattle.std.proofs.lemmas.Int.{ints}
@@ -39,6 +39,16 @@ module _ (v : Unsigned) (valid : IsValue v) (hi : ℤ) (hi_is : hi ≡ v.hi) (do
       let at : (m -ℤ pos k) ≡ (v.hi -ℤ pos (from + k)) = omega (arith, ints) in
       digits k q ∙ ap (λ x. 48 + digit v.number x) at ∙ sym (text_above v valid (from + k) (omega (arith, ints, dot_at)))
 
+  pub byte_above : (m : ℤ) → m ≡ (hi -ℤ pos from) → from < dot → 48 + digit v.number m ≡ get_or (text v) from 0
+  byte_above m e h =
+      let at : m ≡ (v.hi -ℤ pos from) = omega (arith, ints) in
+      ap (λ x. 48 + digit v.number x) at ∙ sym (text_above v valid from (omega (arith, ints, dot_at)))
+
+  pub byte_dot : from ≡ dot → 46 ≡ get_or (text v) from 0
+  byte_dot e =
+      let b = text_dotted v valid (from + n) (omega (arith, ints, dot_at)) inside in
+      sym (text_dot v valid from (omega (arith, ints, dot_at)) b.0)
+
   pub piece_above : (m : ℤ) (places : List ℕ) → m ≡ (hi -ℤ pos from) → length places ≡ n → from + n ≤ dot → Digits v.number m places → places ≡ take n (drop from (text v))
   piece_above m places e l h digits =
       piece_is places (text v) from n l inside (λ k q. digit_above m places e digits k (omega arith) (omega arith))
@@ -52,6 +62,12 @@ module _ (v : Unsigned) (valid : IsValue v) (hi : ℤ) (hi_is : hi ≡ v.hi) (do
 
   pub room_below : (m : ℤ) → m ≡ (negsuc 0 -ℤ pos (from - dot - 1)) → dot < from → n ≤ place m + 1
   room_below m e h = let b = below (omega arith) in omega (arith, ints, place_is m, dot_at, gap_is v.lo v.hi, valid.lo_in, b)
+
+  pub byte_below : (m : ℤ) → m ≡ (negsuc 0 -ℤ pos (from - dot - 1)) → dot < from → 48 + digit v.number m ≡ get_or (text v) from 0
+  byte_below m e h =
+      let b = below (omega arith) in
+      ap (λ x. 48 + digit v.number x) e
+      ∙ sym (text_below v valid from (from - dot - 1) (omega (arith, ints, dot_at)) (omega (arith, ints, dot_at, gap_is v.lo v.hi, valid.lo_in, b)))
 
   pub piece_below : (m : ℤ) (places : List ℕ) → m ≡ (negsuc 0 -ℤ pos (from - dot - 1)) → length places ≡ n → dot < from → Digits v.number m places → places ≡ take n (drop from (text v))
   piece_below m places e l h digits =

@@ -1,9 +1,9 @@
 -- What has been written of a text.
-use Rattle.std.proofs.Common.{◌≡◌, ℕ, suc, ◌+◌, ◌-◌, ◌<◌, ◌≤◌, List, [], ◌∷◌, ◌++◌, length, take, drop, Option, refl, sym, ◌∙◌, ap, subst, arith, take_all, take-append-drop}
+use Rattle.std.proofs.Common.{◌≡◌, ℕ, suc, ◌+◌, ◌-◌, ◌<◌, ◌≤◌, List, [], ◌∷◌, ◌++◌, length, get_or, take, drop, Option, refl, sym, ◌∙◌, ap, subst, arith, take_all, take-append-drop}
 use Rattle.std.specs.Prelude.{ℤ, pos, ◌-ℤ◌}
 use Rattle.std.proofs.lemmas.Int.{ints}
 use Rattle.std.proofs.Math.Seq.{take-add}
-use Rattle.std.proofs.lemmas.List.{length-take-le, length-drop}
+use Rattle.std.proofs.lemmas.List.{length-take-le, length-drop, drop_more}
 use Rattle.std.specs.Io.KnownBytes.{Appends}
 use Rattle.decimal_digits.specs.Number.{digit}
 use Rattle.decimal_digits.specs.Text.{AppendsBeginning}
@@ -39,6 +39,10 @@ pub piece_taken : (all piece : List ℕ) (i k : ℕ) → i + k ≤ length all �
 piece_taken all piece i k h e =
     let n : length piece ≡ k = ap length e ∙ length-take-le k (drop i all) (omega (arith, length-drop i all)) in
     ap (λ l. take i all ++ l) e ∙ sym (take-add i k all) ∙ ap (λ m. take (i + m) all) (sym n)
+
+-- a byte is a piece
+pub byte_taken : (all : List ℕ) (i byte : ℕ) → i < length all → byte ≡ get_or all i 0 → byte ∷ [] ≡ take 1 (drop i all)
+byte_taken all i byte h e = ap (λ b. b ∷ []) e ∙ sym (ap (take 1) (drop_more all i 0 h))
 
 -- one piece more was written
 pub wrote_more : (a b c : Option (List ℕ)) (all piece : List ℕ) (i k : ℕ) → i + k ≤ length all → piece ≡ take k (drop i all) → Appends a b (take i all) → Appends b c piece → Appends a c (take (i + length piece) all)

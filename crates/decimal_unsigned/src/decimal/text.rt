@@ -14,6 +14,9 @@ use decimal_digits::sink::{Sink, SinkFault, Writeable};
 /// How many bytes of a text are made and put into a sink at a time. Most texts are shorter.
 pub(super) const BLOCK: usize = 64;
 
+/// Up to how many bytes a text is put byte by byte, which for so few is quicker than a block.
+const FEW: usize = 5;
+
 impl<D: DigitStore> UnsignedOver<D> {
     /// Writes the digits at so many magnitudes, from one down, without a dot: those held, among zeros.
     ///
@@ -33,6 +36,37 @@ impl<D: DigitStore> UnsignedOver<D> {
         let count = (digits - from).min(places.len() - start);
         self.digits
             .copy_text(from, &mut places[start..start + count]);
+    }
+
+    /// Gives the byte of the text at an index.
+    ///
+    /// Requires an index in range.
+    #[inline]
+    fn byte_at(&self, index: usize) -> u8
+        requires { index < length (text self.now) }
+        ensures { result ≡ slice_index (text self.now) index }
+    {
+        let hi = self.highest();
+        let dot = count_between(0, hi) as usize;
+        if index < dot {
+            b'0' + self.digit_at(magnitude_of(hi, index))
+        } else if index == dot {
+            b'.'
+        } else {
+            b'0' + self.digit_at(magnitude_of(-1, index - dot - 1))
+        }
+    }
+
+    /// Appends the text byte by byte.
+    fn write_few<W: Sink>(&self, sink: &mut W) -> Result<(), SinkFault>
+        ensures ok { OnOk result (Appends (W.contents sink.old) (W.contents sink.new) (text self.now)) }
+        ensures err { OnErr result (AppendsBeginning (W.contents sink.old) (W.contents sink.new) (text self.now)) }
+        ensures failed { OnErr result (W.has_failed sink.new ≡ true) }
+    {
+        for index in 0..self.writeable_length_hint() {
+            sink.put_byte(self.byte_at(index))?;
+        }
+        Ok(())
     }
 
     /// Writes the bytes of the text from an index on, as many as there are places.
@@ -75,6 +109,9 @@ impl<D: DigitStore> Writeable for UnsignedOver<D> {
     {
         let _range = self.magnitude_range();
         let length = self.writeable_length_hint();
+        if length <= FEW {
+            return self.write_few(sink);
+        }
         let mut written = 0;
         while written < length {
             let mut block = [b'0'; BLOCK];

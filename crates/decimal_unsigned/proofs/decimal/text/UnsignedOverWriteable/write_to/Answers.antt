@@ -1,10 +1,10 @@
-use Rattle.std.proofs.Common.{◌+◌, ◌-◌, ◌≤◌, length, take, sym, ap, arith}
+use Rattle.std.proofs.Common.{arith}
 use Rattle.std.proofs.lemmas.List.{length-take}
 use Rattle.decimal_digits.proofs.Results.{on_err}
 use Rattle.decimal_unsigned.specs.Text.{text}
 use Rattle.decimal_unsigned.proofs.ReadBack.{read_text}
 use Rattle.decimal_unsigned.proofs.Blocks.{block_of, zeros_first}
-use Rattle.decimal_unsigned.proofs.Writing.{wrote_more, wrote_part, wrote_all}
+use Rattle.decimal_unsigned.proofs.Writing.{wrote_more, wrote_part}
 use Rattle.decimal_unsigned.proofs.decimal.text.UnsignedOverWriteable.write_to.Goals as goal
 
 pub copy_text-requires-clause-zeros : goal.copy_text-requires-clause-zeros
@@ -29,3 +29,6 @@ returns-in_err-put_bytes-clause-reads_back g c = read_text c.args.self.now c.mag
 
 pub returns-clause-reads_back : goal.returns-clause-reads_back
 returns-clause-reads_back g c = read_text c.args.self.now c.magnitude_range-range.ensures.valid
+
+pub returns-then-length-le-FEW-clause-reads_back : goal.returns-then-length-le-FEW-clause-reads_back
+returns-then-length-le-FEW-clause-reads_back g c = read_text c.args.self.now c.magnitude_range-range.ensures.valid
