@@ -1,7 +1,7 @@
 -- What the passes over half bytes leave.
 use Rattle.std.proofs.Common.{◌≡◌, ◌≢◌, ℕ, suc, ◌+◌, ◌-◌, ◌*◌, ◌/◌, ◌%◌, ◌<◌, ◌≤◌, inl, inr, List, [], ◌∷◌, ◌++◌, length, get_or, map, set, take, drop, replicate, refl, sym, ◌∙◌, ap, add-one, arith}
 use Rattle.std.proofs.Math.ListN.{get_or-map}
-use Rattle.std.proofs.lemmas.List.{get_or-map as map_at, ext_get_or, length-map, length-take-le, length-set, take-append-le, drop_at, append-nil, append_assoc, get_or-set_same, get_or-set_other, get_or_append_left, get_or_at, get_or_past, set_at, take_more, drop_more}
+use Rattle.std.proofs.lemmas.List.{map_more, take_all, get_or-map as map_at, ext_get_or, length-map, length-take-le, length-set, take-append-le, drop_at, append-nil, append_assoc, get_or-set_same, get_or-set_other, get_or_append_left, get_or_at, get_or_past, set_at, take_more, drop_more}
 use Rattle.std.proofs.lemmas.Bool.{cases_eq}
 use Rattle.std.specs.Prelude.{All}
 use Rattle.std.specs.Char.{digit_value}
@@ -185,6 +185,63 @@ pack_odd bs ds i e l m f =
           omega arith
       | inr s ↦ get_or-set_other bs n k v 0 s ∙ f k (omega arith)
     ])
+
+-- the halves of one more byte
+halves_more : (bs : List ℕ) (b : ℕ) → halves (bs ++ b ∷ []) ≡ halves bs ++ (b / 16 ∷ (b % 16 ∷ []))
+unfolding halves
+halves_more bs b = halves-append bs (b ∷ [])
+
+-- two more low halves
+lows_more : (ds : List ℕ) (i : ℕ) → 2 * i + 1 < length ds
+    → lows (take (2 * (i + 1)) ds) ≡ lows (take (2 * i) ds) ++ (get_or ds (2 * i) 0 % 16 ∷ (get_or ds (2 * i + 1) 0 % 16 ∷ []))
+lows_more ds i h =
+    let low : ℕ → ℕ = λ d. d % 16 in
+    let n : 2 * (i + 1) ≡ (2 * i + 1) + 1 = omega arith in
+    let lt : 2 * i < length ds = omega arith in
+    ap (λ k. lows (take k ds)) n ∙ map_more low ds (2 * i + 1) 0 h
+    ∙ ap (λ l. l ++ low (get_or ds (2 * i + 1) 0) ∷ []) (map_more low ds (2 * i) 0 lt)
+    ∙ append_assoc (lows (take (2 * i) ds)) (low (get_or ds (2 * i) 0) ∷ []) (low (get_or ds (2 * i + 1) 0) ∷ [])
+
+-- two more of them are pushed
+pub pushed_more : (before bs ds : List ℕ) (i : ℕ) → 2 * i + 1 < length ds → halves bs ≡ before ++ lows (take (2 * i) ds)
+    → halves (bs ++ (get_or ds (2 * i) 0 % 16 * 16 + get_or ds (2 * i + 1) 0 % 16) ∷ [])
+    ≡ before ++ lows (take (2 * (i + 1)) ds)
+pushed_more before bs ds i h e =
+    let a = get_or ds (2 * i) 0 % 16 in
+    let b = get_or ds (2 * i + 1) 0 % 16 in
+    let high : (a * 16 + b) / 16 ≡ a = omega arith in
+    let low : (a * 16 + b) % 16 ≡ b = omega arith in
+    halves_more bs (a * 16 + b) ∙ rw (high, low) (ap (λ l. l ++ (a ∷ (b ∷ []))) e
+    ∙ append_assoc before (lows (take (2 * i) ds)) (a ∷ (b ∷ []))
+    ∙ ap (λ l. before ++ l) (sym (lows_more ds i h)))
+
+-- all of an even number are pushed
+pub pushed_even : (before bs ds : List ℕ) (i : ℕ) → length ds / 2 ≤ i → length ds % 2 ≢ 1
+    → halves bs ≡ before ++ lows (take (2 * i) ds)
+    → halves bs ≡ before ++ (lows ds ++ replicate (length ds % 2) 0)
+pushed_even before bs ds i h m e =
+    let z : length ds % 2 ≡ 0 = omega arith in
+    let all : length ds ≤ 2 * i = omega arith in
+    e ∙ ap (λ l. before ++ lows l) (take_all (2 * i) ds all) ∙ ap (λ l. before ++ l) (sym (append-nil (lows ds)))
+    ∙ ap (λ k. before ++ (lows ds ++ replicate k 0)) (sym z)
+
+-- all of an odd number are pushed with the last one
+pub pushed_odd : (before bs ds : List ℕ) (i : ℕ) → i ≡ length ds / 2 → length ds % 2 ≡ 1
+    → halves bs ≡ before ++ lows (take (2 * i) ds)
+    → halves (bs ++ (get_or ds (2 * (length ds / 2)) 0 % 16 * 16) ∷ [])
+    ≡ before ++ (lows ds ++ replicate (length ds % 2) 0)
+pushed_odd before bs ds i h m e =
+    let n = 2 * (length ds / 2) in
+    let a = get_or ds n 0 % 16 in
+    let high : a * 16 / 16 ≡ a = omega arith in
+    let low : a * 16 % 16 ≡ 0 = omega arith in
+    let k : 2 * i ≡ n = omega arith in
+    let lt : n < length ds = omega arith in
+    let all : lows ds ≡ lows (take n ds) ++ a ∷ [] =
+    ap lows (sym (take_all (n + 1) ds (omega arith))) ∙ map_more (λ d. d % 16) ds n 0 lt in
+    halves_more bs (a * 16) ∙ rw (high, low, m) (ap (λ l. l ++ (a ∷ (0 ∷ []))) (e ∙ ap (λ j. before ++ lows (take j ds)) k)
+    ∙ append_assoc before (lows (take n ds)) (a ∷ (0 ∷ []))
+    ∙ ap (λ l. before ++ l) (sym (append_assoc (lows (take n ds)) (a ∷ []) (0 ∷ [])) ∙ ap (λ l. l ++ 0 ∷ []) (sym all)))
 
 -- the low halves of digits are these digits
 pub low_digits : (ds : List ℕ) → All (λ d. d < 10) ds → lows ds ≡ ds

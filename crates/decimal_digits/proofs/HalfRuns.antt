@@ -1,7 +1,8 @@
 -- Runs of digits in half bytes: text that comes in, text that goes out, and equal digits at an end.
-use Rattle.std.proofs.Common.{◌≡◌, ◌≢◌, ℕ, suc, ◌+◌, ◌-◌, ◌*◌, ◌/◌, ◌%◌, ◌<◌, ◌≤◌, inl, inr, List, [], ◌∷◌, ◌++◌, length, get_or, set, map, take, drop, replicate, sym, ◌∙◌, ap, arith}
+use Rattle.std.proofs.Common.{◌≡◌, ◌≢◌, ℕ, suc, ◌+◌, ◌-◌, ◌*◌, ◌/◌, ◌%◌, ◌<◌, ◌≤◌, inl, inr, List, [], ◌∷◌, ◌++◌, length, get_or, set, map, take, drop, replicate, refl, sym, ◌∙◌, ap, arith}
 use Rattle.std.proofs.lemmas.List.{take_all, drop_all, drop_more, length-map, length-take-le, get_or-take, append-nil}
 use Rattle.std.proofs.lemmas.Bool.{cases_eq}
+use Rattle.std.specs.Prelude.{All}
 use Rattle.std.specs.Char.{digit_value}
 use Rattle.std.specs.Str.Parse.{AllDigits}
 use Rattle.decimal_digits.specs.Digits.{text_of}
@@ -10,10 +11,20 @@ use Rattle.decimal_digits.specs.Packing.{Holds, length-halves}
 use Rattle.decimal_digits.proofs.Refills.{rest_is}
 use Rattle.decimal_digits.proofs.DigitTexts.{read_decimal}
 use Rattle.decimal_digits.proofs.Halves.{high_half, low_half, halves-drop}
-use Rattle.decimal_digits.proofs.HalfPasses.{low_letters}
-use Rattle.decimal_digits.proofs.Packing.{holds_run, holds_run_odd}
+use Rattle.decimal_digits.proofs.HalfPasses.{low_digits, low_letters}
+use Rattle.decimal_digits.proofs.Packing.{holds, none, holds_run, holds_run_odd}
 
--- ---- text that comes in
+-- ---- digits and text that come in
+-- digits that are put behind no bytes are all that the bytes hold
+pub digits_alone : (before bytes ds : List ℕ) → before ≡ [] → All (λ d. d < 10) ds
+    → halves bytes ≡ halves before ++ (map (λ d. d % 16) ds ++ replicate (length ds % 2) 0)
+    → Holds bytes (length ds) ds
+digits_alone before bytes ds n all e =
+    let f : halves bytes ≡ ds ++ replicate (length ds % 2) 0 =
+    e ∙ ap (λ l. l ++ (map (λ d. d % 16) ds ++ replicate (length ds % 2) 0)) (ap halves n ∙ none)
+    ∙ ap (λ l. l ++ replicate (length ds % 2) 0) (low_digits ds all) in
+    holds bytes ds (length ds) f refl all
+
 -- the digits of a text behind an even number of them
 pub text_even : (bs : List ℕ) (len : ℕ) → IsPacked bs len → (bs' text : List ℕ) → len % 2 ≡ 0 → AllDigits 10 text
     → halves bs' ≡ halves bs ++ (map (λ d. d % 16) text ++ replicate (length text % 2) 0)

@@ -16,6 +16,11 @@ holds bytes ds len e n h =
     let u : halves bytes ≡ digits_in bytes len ++ replicate (len % 2) 0 = rw t e in
     record { packed = record { count = c; decimal = rw t h; unused = u }; digits = t }
 
+-- no bytes have no halves
+pub none : halves [] ≡ []
+unfolding halves
+none = refl
+
 -- no bytes hold no digits
 pub holds_none : Holds [] 0 []
 unfolding halves

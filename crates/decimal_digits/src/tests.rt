@@ -3,4 +3,5 @@
 mod lists;
 mod modes;
 mod packed;
+mod runs;
 mod sinks;

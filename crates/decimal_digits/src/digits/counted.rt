@@ -65,8 +65,8 @@ impl<'a, D: DigitStore> Counted<'a, D> {
         ensures lent { Continues self.old self.new }
     {
         let equal = self.list.count_back(count, digit);
-        self.steps
-            .tick_by(if equal < count { equal + 1 } else { count });
+        let read = if equal < count { equal + 1 } else { count };
+        self.steps.tick_by(read);
         equal
     }
 

@@ -8,8 +8,8 @@ mod runs;
 
 use super::DigitStore;
 use bytes::{
-    append_digits, append_zeros, cut_digits, keep_digits, pack_digits, push_digit, reserve_digits,
-    set_digit,
+    append_digits, append_zeros, copy_bytes, cut_digits, keep_digits, pack_digits, push_digit,
+    reserve_digits, set_digit,
 };
 use halves::half_at;
 use runs::{append_text, count_halves_back, write_text};
@@ -65,8 +65,7 @@ impl DigitStore for PackedDigits {
     }
 
     fn clone(&self) -> Result<Self, AllocError> {
-        let bytes = SmallVec::from_slice(*self.bytes.allocator(), self.bytes.as_slice())?;
-        let _at_least = bytes.capacity();
+        let bytes = copy_bytes(&self.bytes)?;
         Ok(PackedDigits {
             bytes,
             len: self.len,

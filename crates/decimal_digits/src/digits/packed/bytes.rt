@@ -5,23 +5,50 @@ ghost use Rattle.decimal_digits.specs.Halves.{digits_in, IsPacked};
 ghost use Rattle.decimal_digits.specs.Packing.{Holds};
 
 use super::halves::{
-    byte_count, drop_bytes, join_halves, pack, push_zeros, set_half, shift_halves,
+    byte_count, drop_bytes, join_halves, pack_behind, push_pairs, push_zeros, set_half,
+    shift_halves,
 };
 use smallvec::SmallVec;
 use std::alloc::{AllocError, Global};
 
 /// Makes the bytes of these digits.
+#[inline]
 pub(super) fn pack_digits(alloc: Global, digits: &[u8]) -> Result<SmallVec<u8, 8>, AllocError>
     requires { All (λ d. d < 10) digits.now }
     ensures ok { IfOk result (λ bytes. Holds bytes.items (length digits.now) digits.now) }
     ensures inline { IfOk result (λ bytes. 8 ≤ bytes.capacity) }
     ensures succeeds { length digits.now ≤ 16 → IsOk result }
 {
-    // The copy makes room, and is written over.
-    let mut bytes = SmallVec::from_slice(alloc, &digits[..byte_count(digits.len())])?;
-    pack(bytes.as_mut_slice(), digits);
+    if digits.len() <= 16 {
+        // For so few a loop is quicker than a call.
+        let mut bytes = SmallVec::new(alloc);
+        push_pairs(&mut bytes, digits);
+        return Ok(bytes);
+    }
+    let mut bytes = SmallVec::with_capacity(alloc, byte_count(digits.len()))?;
+    pack_behind(&mut bytes, digits);
     let _at_least = bytes.capacity();
     Ok(bytes)
+}
+
+/// Copies bytes.
+#[inline]
+pub(super) fn copy_bytes(bytes: &SmallVec<u8, 8>) -> Result<SmallVec<u8, 8>, AllocError>
+    ensures ok { IfOk result (λ copy. copy.items ≡ bytes.now.items) }
+    ensures inline { IfOk result (λ copy. 8 ≤ copy.capacity) }
+    ensures succeeds { small_vec_len bytes.now ≤ 8 → IsOk result }
+{
+    let alloc = *bytes.allocator();
+    let items = bytes.as_slice();
+    if items.len() > 8 {
+        return Ok(SmallVec::from_vec(Vec::from_slice(alloc, items)?));
+    }
+    // For so few a loop is quicker than a call.
+    let mut copy = SmallVec::new(alloc);
+    for byte in items {
+        copy.push_reserved(*byte);
+    }
+    Ok(copy)
 }
 
 /// Makes room for so many digits in all.

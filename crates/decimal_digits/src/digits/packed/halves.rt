@@ -43,7 +43,7 @@ pub(super) fn set_half(bytes: &mut SmallVec<u8, 8>, index: usize, half: u8)
 /// Writes the low halves of these over bytes, two to a byte, and 0 into a half that is left over.
 ///
 /// The low half of a digit is the digit, and so is that of the letter that writes it.
-pub(super) fn pack(bytes: &mut [u8], digits: &[u8])
+fn pack(bytes: &mut [u8], digits: &[u8])
     requires { length bytes.old ≡ (length digits.now + 1) / 2 }
     ensures { halves bytes.new ≡ map (λ d. d % 16) digits.now ++ replicate (length digits.now % 2) 0 }
 {
@@ -56,6 +56,59 @@ pub(super) fn pack(bytes: &mut [u8], digits: &[u8])
     if digits.len() % 2 == 1 {
         bytes[pairs] = rest[0] % 16 * 16;
     }
+}
+
+/// Appends the low halves of these behind the last byte, and 0 to a half that is left over.
+#[inline]
+pub(super) fn append_pairs(bytes: &mut SmallVec<u8, 8>, digits: &[u8])
+    requires { (length digits.now + 1) / 2 ≤ bytes.old.capacity - small_vec_len bytes.old }
+    ensures appended { halves bytes.new.items
+        ≡ halves bytes.old.items ++ (map (λ d. d % 16) digits.now ++ replicate (length digits.now % 2) 0) }
+    ensures capacity { bytes.old.capacity ≤ bytes.new.capacity }
+    ensures few { small_vec_len bytes.new < 2 ^ 63 }
+{
+    if digits.len() <= 16 {
+        // For so few a loop is quicker than a call.
+        push_pairs(bytes, digits);
+    } else {
+        pack_behind(bytes, digits);
+    }
+}
+
+/// Appends the low halves of these, two at a time.
+#[inline]
+pub(super) fn push_pairs(bytes: &mut SmallVec<u8, 8>, digits: &[u8])
+    requires { (length digits.now + 1) / 2 ≤ bytes.old.capacity - small_vec_len bytes.old }
+    ensures appended { halves bytes.new.items
+        ≡ halves bytes.old.items ++ (map (λ d. d % 16) digits.now ++ replicate (length digits.now % 2) 0) }
+    ensures capacity { bytes.new.capacity ≡ bytes.old.capacity }
+    ensures few { small_vec_len bytes.new < 2 ^ 63 }
+{
+    let _at_most = bytes.len();
+    let pairs = digits.len() / 2;
+    for i in 0..pairs {
+        bytes.push_reserved(digits[2 * i] % 16 * 16 + digits[2 * i + 1] % 16);
+    }
+    if digits.len() % 2 == 1 {
+        bytes.push_reserved(digits[2 * pairs] % 16 * 16);
+    }
+    let _few = bytes.as_slice();
+}
+
+/// Appends the low halves of these, in one pass.
+pub(super) fn pack_behind(bytes: &mut SmallVec<u8, 8>, digits: &[u8])
+    requires { (length digits.now + 1) / 2 ≤ bytes.old.capacity - small_vec_len bytes.old }
+    ensures appended { halves bytes.new.items
+        ≡ halves bytes.old.items ++ (map (λ d. d % 16) digits.now ++ replicate (length digits.now % 2) 0) }
+    ensures capacity { bytes.old.capacity ≤ bytes.new.capacity }
+    ensures few { small_vec_len bytes.new < 2 ^ 63 }
+{
+    let held = bytes.len();
+    // The copy makes room, and is written over.
+    bytes
+        .extend_from_slice(&digits[..byte_count(digits.len())])
+        .unwrap();
+    pack(&mut bytes.as_mut_slice()[held..], digits);
 }
 
 /// Drops the high half of the byte `at`. The later halves move up by one, and `last` follows them.

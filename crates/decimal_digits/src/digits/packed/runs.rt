@@ -2,12 +2,11 @@
 ghost use Rattle.std.specs.Prelude.{◌≡◌, ℕ, ◌+◌, ◌-◌, ◌*◌, ◌/◌, ◌%◌, ◌^◌, ◌<◌, ◌≤◌, ◌≢◌, ◌++◌, length, map, take, drop, replicate, slice_index};
 ghost use Rattle.std.specs.Char.{digit_value};
 ghost use Rattle.std.specs.Str.Parse.{AllDigits};
-ghost use Rattle.smallvec.specs.SmallVec.{small_vec_len};
 ghost use Rattle.decimal_digits.specs.Digits.{text_of};
 ghost use Rattle.decimal_digits.specs.Halves.{halves, digits_in, IsPacked};
 ghost use Rattle.decimal_digits.specs.Packing.{Holds};
 
-use super::halves::{byte_count, pack, set_half};
+use super::halves::{append_pairs, set_half};
 use smallvec::SmallVec;
 
 /// Appends the digits that a text writes, for which there is room.
@@ -26,22 +25,6 @@ pub(super) fn append_text(bytes: &mut SmallVec<u8, 8>, len: usize, text: &[u8])
         set_half(bytes, len, text[0] % 16);
         append_pairs(bytes, &text[1..]);
     }
-}
-
-/// Appends the low halves of these behind the last byte, and 0 to a half that is left over.
-fn append_pairs(bytes: &mut SmallVec<u8, 8>, digits: &[u8])
-    requires { (length digits.now + 1) / 2 ≤ bytes.old.capacity - small_vec_len bytes.old }
-    ensures appended { halves bytes.new.items
-        ≡ halves bytes.old.items ++ (map (λ d. d % 16) digits.now ++ replicate (length digits.now % 2) 0) }
-    ensures capacity { bytes.old.capacity ≤ bytes.new.capacity }
-    ensures few { small_vec_len bytes.new < 2 ^ 63 }
-{
-    let held = bytes.len();
-    // The copy makes room, and is written over.
-    bytes
-        .extend_from_slice(&digits[..byte_count(digits.len())])
-        .unwrap();
-    pack(&mut bytes.as_mut_slice()[held..], digits);
 }
 
 /// Writes the halves from an index on as text, as many as there are places.

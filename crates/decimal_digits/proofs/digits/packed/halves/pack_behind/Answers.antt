@@ -2,7 +2,7 @@ use Rattle.std.proofs.Common.{refl, ◌∙◌, ap, ◌++◌}
 use Rattle.decimal_digits.specs.Halves.{halves}
 use Rattle.decimal_digits.proofs.Halves.{halves-append}
 use Rattle.decimal_digits.proofs.Refills.{refill_end}
-use Rattle.decimal_digits.proofs.digits.packed.runs.append_pairs.Goals as goal
+use Rattle.decimal_digits.proofs.digits.packed.halves.pack_behind.Goals as goal
 
 pub returns-clause-appended : goal.returns-clause-appended
 returns-clause-appended c =
