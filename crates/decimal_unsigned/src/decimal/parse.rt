@@ -21,8 +21,8 @@ use std::marker::Model;
 
 /// What a text writes, found without memory.
 ///
-/// Contracts see the value that `value` makes. Who reads several texts scans all of them first, and so knows every
-/// fault but want of memory before any digit is stored. A scan borrows the text. Not in the original.
+/// Contracts see the value that `value` makes. Where several texts are read, scanning all of them first tells every
+/// fault but want of memory before a digit is stored. A scan borrows its text. Not in the original.
 #[derive(Debug, Drop)]
 pub struct Scan<'a> {
     parts: Parts<'a>,
