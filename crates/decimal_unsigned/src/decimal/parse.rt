@@ -21,8 +21,8 @@ use std::marker::Model;
 
 /// What a text writes, found without memory.
 ///
-/// Contracts see the value that `value` makes. Who reads several texts scans all of them first, and so knows every
-/// fault but want of memory before any digit is stored. A scan borrows the text. Not in the original.
+/// Contracts see the value that `value` makes. Where several texts are read, scanning all of them first tells every
+/// fault but want of memory before a digit is stored. A scan borrows its text. Not in the original.
 #[derive(Debug, Drop)]
 pub struct Scan<'a> {
     parts: Parts<'a>,
@@ -104,40 +104,7 @@ pub fn lowest_of(text: &[u8]) -> Result<i16, ParseError>
     Ok(Scan::new(text)?.lowest())
 }
 
-/// Up to so many digits are stored faster one by one than in two runs.
-const FEW: usize = 16;
-
-/// Appends the digits from `start` up to `end`, one by one.
-#[inline]
-fn push_each<D: DigitStore>(list: &mut D, parts: &Parts<'_>, start: usize, end: usize)
-    requires digits { AllDigits 10 (parts.now.whole.now ++ parts.now.fraction.now) }
-    requires ordered { start ≤ end }
-    requires within { end ≤ length (digits_of (view parts.now)) }
-    requires room { end - start ≤ D.room list.old }
-    ensures { D.digits list.new ≡ D.digits list.old ++ middle start end (digits_of (view parts.now)) }
-{
-    for i in start..end {
-        list.push_in_room(parts.digit(i));
-    }
-}
-
-/// Appends the digits from `start` up to `end`: the run in front of the dot, and the one behind it.
-///
-/// It is kept out of the way of short texts.
-#[inline(never)]
-fn push_runs<D: DigitStore>(list: &mut D, parts: &Parts<'_>, start: usize, end: usize)
-    requires digits { AllDigits 10 (parts.now.whole.now ++ parts.now.fraction.now) }
-    requires ordered { start ≤ end }
-    requires within { end ≤ length (digits_of (view parts.now)) }
-    requires room { end - start ≤ D.room list.old }
-    ensures { D.digits list.new ≡ D.digits list.old ++ middle start end (digits_of (view parts.now)) }
-{
-    let (front, behind) = parts.between(start, end);
-    list.push_text(front);
-    list.push_text(behind);
-}
-
-/// The digits from `start` up to `end`.
+/// The digits from `start` up to `end`, in two runs: that in front of the dot, and that behind it.
 fn digits_between<D: DigitStore>(
     alloc: Global,
     parts: &Parts<'_>,
@@ -152,11 +119,9 @@ fn digits_between<D: DigitStore>(
 {
     let mut list = D::empty(alloc);
     list.reserve(end - start)?;
-    if end - start > FEW {
-        push_runs(&mut list, parts, start, end);
-    } else {
-        push_each(&mut list, parts, start, end);
-    }
+    let (front, behind) = parts.between(start, end);
+    list.push_text(front);
+    list.push_text(behind);
     Ok(list)
 }
 

@@ -19,7 +19,7 @@ pub struct Parts<'a> {
 /// How many bytes are tested at once.
 const GROUP: usize = 32;
 
-/// Whether all bytes are digits, by a test of each, which leaves no byte out and so has no branch.
+/// Whether all bytes are digits. Each one is tested, with no branch, so that a processor tests many at once.
 #[inline]
 fn are_digits(group: &[u8]) -> bool
     ensures { result ≡ all_ascii_digits group.now }
