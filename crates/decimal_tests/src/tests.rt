@@ -1,4 +1,5 @@
 //! Tables of texts, calls and results. Each helper holds one decimal and answers its text.
+use decimal_testing::shows;
 use fixed_decimal::{Decimal, ParseError, Sink, TextBuf, Writeable};
 use std::alloc::Global;
 use std::process::Abort;
@@ -33,6 +34,11 @@ fn printed(alloc: Global, value: &Decimal) -> Result<TextBuf, Fail> {
     let mut sink = TextBuf::new(alloc);
     value.write_to(&mut sink)?;
     Ok(sink)
+}
+
+/// Whether a value has this text.
+fn prints<T: Writeable + Drop>(value: T, text: &str) -> bool {
+    shows(&value, text.as_bytes())
 }
 
 /// Asserts which text was found.

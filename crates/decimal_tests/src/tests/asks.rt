@@ -1,6 +1,5 @@
 //! Calls that ask for memory: where it is refused once, nothing has changed, and the same call made again does its work.
 use super::*;
-use decimal_testing::shows;
 use fixed_decimal::{
     ByteDecimal, CompactDecimal, DigitStore, FixedInteger, ScientificDecimal, Signed,
     UnsignedDecimal, UnsignedOver,

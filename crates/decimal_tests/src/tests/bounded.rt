@@ -3,7 +3,7 @@
 //! A word says how it went: `done`, or `refused` where memory was refused, all was left as it was, and the same call
 //! made again with memory did its work.
 use super::*;
-use decimal_testing::{Bounded, Hundred, Most, shows};
+use decimal_testing::{Bounded, Hundred, Most};
 use fixed_decimal::RoundingIncrement::MultiplesOf25;
 use fixed_decimal::SignedRoundingMode::Unsigned;
 use fixed_decimal::UnsignedRoundingMode::Trunc;

@@ -53,61 +53,48 @@ fn negated_cents(mut value: Decimal) -> Decimal
 }
 
 /// What is left of the least `i16` after a shift by -2, and after cuts at each of these positions.
-fn cut_cents(alloc: Global, positions: &[i16]) -> Result<TextBuf, Fail> {
+fn cut_cents(alloc: Global, positions: &[i16]) -> Decimal {
     let mut value = Decimal::from_i16(alloc, i16::MIN);
     value.multiply_pow10(-2);
     for position in positions {
         value.set_max_position(*position);
     }
-    printed(alloc, &value)
-}
-
-/// What `-250`, moved by two magnitudes, prints.
-fn owned(alloc: Global) -> Result<TextBuf, Fail> {
-    printed(alloc, &owned_to_cents(Decimal::from_i16(alloc, -250)))
+    value
 }
 
 /// What is left of `-250` where 300 is put in the place of 250, and moved by two magnitudes.
-fn replaced(alloc: Global) -> Result<TextBuf, Fail> {
+fn replaced(alloc: Global) -> Decimal {
     let mut value = Decimal::from_i16(alloc, -250);
     replace(&mut value, UnsignedDecimal::from_u16(alloc, 300));
     to_cents(&mut value);
-    printed(alloc, &value)
+    value
 }
 
-/// What `-120` prints after a number is joined to it, which may be refused.
-fn appended(alloc: Global, other: u8) -> Result<TextBuf, Fail> {
+/// `-120` after a number is joined to it, which may be refused.
+fn appended(alloc: Global, other: u8) -> Decimal {
     let mut value = Decimal::from_i16(alloc, -120);
     let _ = append(&mut value, UnsignedDecimal::from_u8(alloc, other));
-    printed(alloc, &value)
+    value
 }
 
-#[test]
-fn keeps_the_sign(rt: HostRuntime) -> Result<(), Fail> {
-    let alloc = rt.alloc();
-    assert_shows(&rt, cut_cents(alloc, &[])?, "-327.68");
-    assert_shows(&rt, cut_cents(alloc, &[0])?, "-0.68");
-    assert_shows(&rt, cut_cents(alloc, &[0, -2])?, "-0.00");
-    Ok(())
-}
+/// Positions of cuts, and what they leave of `-327.68`.
+const CUTS: &[(&[i16], &str)] = &[(&[], "-327.68"), (&[0], "-0.68"), (&[0, -2], "-0.00")];
+
+/// Numbers that are joined to `-120`, and what it is then.
+const APPENDED: &[(u8, &str)] = &[(25, "-120"), (5, "-125")];
 
 #[test]
-fn changes(rt: HostRuntime) -> Result<(), Fail> {
+fn changes(rt: HostRuntime) {
     let alloc = rt.alloc();
-    assert_shows(&rt, owned(alloc)?, "-2.50");
-    assert_shows(&rt, replaced(alloc)?, "-3");
-    assert_shows(
-        &rt,
-        printed(alloc, &negated_cents(Decimal::from_u8(alloc, 7)))?,
-        "-0.07",
-    );
-    Ok(())
-}
-
-#[test]
-fn appends(rt: HostRuntime) -> Result<(), Fail> {
-    let alloc = rt.alloc();
-    assert_shows(&rt, appended(alloc, 25)?, "-120");
-    assert_shows(&rt, appended(alloc, 5)?, "-125");
-    Ok(())
+    for (positions, text) in CUTS {
+        assert!(rt; prints(cut_cents(alloc, positions), text), "{text}");
+    }
+    for (other, text) in APPENDED {
+        assert!(rt; prints(appended(alloc, *other), text), "{text}");
+    }
+    let owned = owned_to_cents(Decimal::from_i16(alloc, -250));
+    assert!(rt; prints(owned, "-2.50"));
+    assert!(rt; prints(replaced(alloc), "-3"));
+    let negated = negated_cents(Decimal::from_u8(alloc, 7));
+    assert!(rt; prints(negated, "-0.07"));
 }

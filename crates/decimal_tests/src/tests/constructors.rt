@@ -1,6 +1,5 @@
 //! Decimals and fixed integers of integers, at both ends of their types, and decimals of parts.
 use super::*;
-use decimal_testing::shows;
 use fixed_decimal::{FixedInteger, Sign, UnsignedDecimal};
 use std::alloc::AllocError;
 
@@ -112,15 +111,10 @@ fn makes_fixed(alloc: Global, integer: Integer, text: &str) -> Result<bool, Fail
     Ok(shows(&answer?, text.as_bytes()))
 }
 
-/// What the decimal of a sign and an absolute value prints.
-fn of_parts(alloc: Global, sign: Sign, absolute: u8) -> Result<TextBuf, Fail> {
+/// Whether the decimal of a sign and an absolute value has this text.
+fn makes_parts(alloc: Global, sign: Sign, absolute: u8, text: &str) -> bool {
     let absolute = UnsignedDecimal::from_u8(alloc, absolute);
-    printed(alloc, &Decimal::new(sign, absolute))
-}
-
-/// Whether the zeros of both types have the text of 0.
-fn makes_zeros(alloc: Global) -> bool {
-    shows(&Decimal::zero(alloc), b"0") && shows(&FixedInteger::zero(alloc), b"0")
+    prints(Decimal::new(sign, absolute), text)
 }
 
 #[test]
@@ -130,14 +124,14 @@ fn of_integers(rt: HostRuntime) -> Result<(), Fail> {
         assert!(rt; makes_decimal(alloc, *integer, text)?, "{text}");
         assert!(rt; makes_fixed(alloc, *integer, text)?, "{text}");
     }
-    assert!(rt; makes_zeros(alloc));
     Ok(())
 }
 
 #[test]
-fn of_parts_with_sign(rt: HostRuntime) -> Result<(), Fail> {
+fn of_parts(rt: HostRuntime) {
     let alloc = rt.alloc();
-    assert_shows(&rt, of_parts(alloc, Sign::Negative, 250)?, "-250");
-    assert_shows(&rt, of_parts(alloc, Sign::None, 0)?, "0");
-    Ok(())
+    assert!(rt; makes_parts(alloc, Sign::Negative, 250, "-250"));
+    assert!(rt; makes_parts(alloc, Sign::None, 0, "0"));
+    assert!(rt; prints(Decimal::zero(alloc), "0"));
+    assert!(rt; prints(FixedInteger::zero(alloc), "0"));
 }

@@ -1,5 +1,5 @@
 //! Memory that is refused once, and numbers for which there is enough.
-use super::long::{Parts, is_made_of, long};
+use super::long::{Parts, long};
 use super::*;
 use fixed_decimal::RoundingIncrement::MultiplesOf25;
 use fixed_decimal::SignedRoundingMode::Unsigned;
@@ -104,42 +104,39 @@ fn written(alloc: Global, (start, calls, wants, text): Run) -> Result<TextBuf, F
 /// Whether a copy of a number prints the text that the number was read from.
 fn copies<D: DigitStore>(alloc: Global, parts: &[(&str, usize)]) -> Result<bool, Fail> {
     let text = long(alloc, parts)?;
-    let copy = UnsignedOver::<D>::try_from_str(alloc, text.as_str())?.clone()?;
-    let mut sink = TextBuf::new(alloc);
-    copy.write_to(&mut sink)?;
-    Ok(is_made_of(sink.as_bytes(), parts))
+    let value = UnsignedOver::<D>::try_from_str(alloc, text.as_str())?;
+    Ok(prints(value.clone()?, text.as_str()))
 }
 
 /// Whether ones and an 8 are rounded down to ones and 7.5.
 fn rounds<D: DigitStore>(alloc: Global, ones: usize) -> Result<bool, Fail> {
     let text = long(alloc, &[("1", ones), ("8", 1)])?;
+    let wanted = long(alloc, &[("1", ones), ("7.5", 1)])?;
     let mut value = UnsignedOver::<D>::try_from_str(alloc, text.as_str())?;
     value.round_with_mode_and_increment(-1, Trunc, MultiplesOf25)?;
-    let mut sink = TextBuf::new(alloc);
-    value.write_to(&mut sink)?;
-    Ok(is_made_of(sink.as_bytes(), &[("1", ones), ("7.5", 1)]))
+    Ok(prints(value, wanted.as_str()))
 }
 
 /// Whether nines, moved up by one magnitude, and a 7 join to nines and a 7.
 fn joins<D: DigitStore>(alloc: Global, nines: usize) -> Result<bool, Fail> {
     let text = long(alloc, &[("9", nines)])?;
-    let mut value = UnsignedOver::<D>::try_from_str(alloc, text.as_str())?;
-    value.multiply_pow10(1);
-    let mut sink = TextBuf::new(alloc);
-    match value.concatenate_end(UnsignedOver::<D>::from_u8(alloc, 7)) {
-        Ok(()) => value.write_to(&mut sink)?,
-        Err(_) => return Err(Fail::new("memory was refused")),
+    let wanted = long(alloc, &[("9", nines), ("7", 1)])?;
+    let value = UnsignedOver::<D>::try_from_str(alloc, text.as_str())?.multiplied_pow10(1);
+    match value.concatenated_end(UnsignedOver::<D>::from_u8(alloc, 7)) {
+        Ok(value) => Ok(prints(value, wanted.as_str())),
+        Err(_) => Err(Fail::new("memory was refused")),
     }
-    Ok(is_made_of(sink.as_bytes(), &[("9", nines), ("7", 1)]))
 }
 
 /// Whether all of these calls succeed over a store, for a number of so many digits.
 fn succeeds<D: DigitStore>(alloc: Global, digits: usize) -> Result<bool, Fail> {
-    Ok(
-        copies::<D>(alloc, &[("9", digits)])?
-            && rounds::<D>(alloc, digits.saturating_sub(1))?
-            && joins::<D>(alloc, digits)?,
-    )
+    if !copies::<D>(alloc, &[("9", digits)])? {
+        return Ok(false);
+    }
+    if !rounds::<D>(alloc, digits.saturating_sub(1))? {
+        return Ok(false);
+    }
+    joins::<D>(alloc, digits)
 }
 
 /// What becomes of nines, one more than an integer may have: a word.

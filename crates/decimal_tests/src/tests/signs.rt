@@ -28,6 +28,13 @@ const SET: &[(&str, Sign, &str)] = &[
     ("4235.970", Sign::Negative, "-4235.970"),
 ];
 
+/// Texts and their signs.
+const SIGNS: &[(&str, Sign)] = &[
+    ("-0", Sign::Negative),
+    ("+1", Sign::Positive),
+    ("1", Sign::None),
+];
+
 /// What a text shows by a display, in place.
 fn shown(alloc: Global, text: &str, display: SignDisplay) -> Result<TextBuf, Fail> {
     let mut value = read(alloc, text)?;
@@ -89,9 +96,10 @@ fn sets(rt: HostRuntime) -> Result<(), Fail> {
 #[test]
 fn gives(rt: HostRuntime) -> Result<(), Fail> {
     let alloc = rt.alloc();
-    assert!(rt; sign_of(alloc, "-0")? == Sign::Negative);
-    assert!(rt; sign_of(alloc, "+1")? == Sign::Positive);
-    assert!(rt; sign_of(alloc, "1")? == Sign::default());
+    for (text, sign) in SIGNS {
+        assert!(rt; sign_of(alloc, text)? == *sign, "{text}");
+    }
+    assert!(rt; Sign::default() == Sign::None);
     assert!(rt; SignDisplay::default() == Auto);
     Ok(())
 }
