@@ -3,7 +3,7 @@ use Rattle.std.proofs.Common.{◌≡◌, ◌≢◌, ℕ, ◌+◌, ◌-◌, ◌<�
 use Rattle.std.specs.Prelude.{Any, IsOk, IsOkAnd, IsErrAnd, slice_get}
 use Rattle.std.specs.Option.{IsSome, is_some}
 use Rattle.std.specs.declared.alloc.Global.{Global}
-use Rattle.std.specs.Io.KnownBytes.{Keeps, Appends}
+use Rattle.std.specs.Io.KnownBytes.{Keeps, Appends, append_known}
 use Rattle.std.proofs.Math.Seq.{take-suc, take-length}
 use Rattle.std.proofs.lemmas.List.{length-drop, append-nil}
 use Rattle.decimal_digits.specs.Text.{AppendsBeginning}
@@ -135,3 +135,18 @@ line_kept a b c d text p q k = appends_kept a c d _ (appends_both a b c text (10
 
 pub line_begun : (a b c d : Option (List ℕ)) (text : List ℕ) → Appends a b text → Appends b c (10 ∷ []) → Keeps c d → AppendsBeginning a d (text ++ (10 ∷ []))
 line_begun a b c d text p q k = (text ++ (10 ∷ []), [], append-nil _, line_kept a b c d text p q k)
+
+-- what a writer keeps stays printed
+pub prints_kept : (words : List (String Global)) (a b c : Option (List ℕ)) → Prints words a b → Keeps b c → Prints words a c
+prints_kept [] a b c p k = absurd p
+prints_kept (w ∷ ws) a b c (calls, names, p) k = (calls, names, ok_map _ (λ text. Appends a c (text ++ (10 ∷ []))) _ (λ text h. appends_kept a b c (text ++ (10 ∷ [])) h k) p)
+
+-- what is printed is a text
+pub prints_text : (words : List (String Global)) (a b : Option (List ℕ)) → Prints words a b → Runs words (λ bytes calls. IsOk (outcome bytes calls))
+prints_text [] a b p = absurd p
+prints_text (w ∷ ws) a b (calls, names, p) = (calls, names, ok_if _ _ p)
+
+-- what was printed behind an empty buffer
+pub prints_from : (words : List (String Global)) (old new : Option (List ℕ)) → Prints words (append_known old []) new → Prints words old new
+prints_from words None new p = p
+prints_from words (Some xs) new p = subst (λ l. Prints words (Some l) new) (append-nil xs) p

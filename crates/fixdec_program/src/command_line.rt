@@ -1,6 +1,7 @@
 //! The whole of the program's work, over any writers.
-ghost use Rattle.std.specs.Prelude.{◌≡◌, ◌≢◌, ◌≤◌, ◌<◌, [], true, false, Any, Err, IfOk, IfErr, OnOk};
-ghost use Rattle.std.specs.Io.Buffered.{writer_inner};
+ghost use Rattle.std.specs.Prelude.{◌≡◌, ◌≢◌, ◌≤◌, ◌<◌, [], true, false, Any, Err, IfOk, IfErr, OnOk, IsSomeAnd, List, String};
+ghost use Rattle.std.specs.declared.alloc.Global.{Global};
+ghost use Rattle.std.specs.Io.Buffered.{writer_contents, writer_inner};
 ghost use Rattle.decimal_digits.specs.Text.{AppendsBeginning};
 ghost use Rattle.fixdec_program.specs.declared.fault.Fault.{Fault};
 ghost use Rattle.fixdec_program.specs.Faults.{status_of, line};
@@ -110,6 +111,7 @@ pub(crate) fn program_in_blocks<O: Write + Drop, E: Write>(
     err: &mut E,
 ) -> (u8, O)
     ensures known { result.0 ≤ 3 }
+    ensures printed { result.0 ≡ 0 → Prints words.now (writer_contents O.contents buffer) (O.contents result.1) }
     ensures silent { result.0 ≡ 0 → err.new ≡ err.old }
     ensures told { 0 < result.0 → (fault : Fault) × (result.0 ≡ status_of fault) × Tells words.now fault
         × AppendsBeginning (E.contents err.old) (E.contents err.new) (line fault) }
@@ -117,8 +119,18 @@ pub(crate) fn program_in_blocks<O: Write + Drop, E: Write>(
 {
     let mut out = Out::new(buffer);
     let status = program(alloc, words, &mut out, err);
-    let (writer, _unwritten) = out.into_writer().into_parts();
-    (status, writer)
+    let buffer = out.into_writer();
+    if status != 0 {
+        let (writer, _unwritten) = buffer.into_parts();
+        return (status, writer);
+    }
+    match buffer.into_inner() {
+        Ok(writer) => (0, writer),
+        Err(error) => {
+            let (writer, _unwritten) = error.into_inner().into_parts();
+            (Fault::Output.report(alloc, err), writer)
+        }
+    }
 }
 
 /// The words of the command line, without the program's name.
@@ -130,27 +142,31 @@ fn arguments<R: Env + AllocGlobal>(rt: &R) -> io::Result<Vec<String>> {
     Ok(words)
 }
 
-/// Does the program's work on the words of the command line: `program` over them, with a buffer before `out`.
+/// Does the program's work on the words of the command line: `program` over them, with a buffer before `out`, which
+/// is given back with the status.
 ///
-/// Where memory for the words or for the buffer was refused, that is `memory`, whatever the words are; a word that is
-/// not UTF-8 is answered with the usage line. A text of 65,536 digits takes nine writes of `out`. Not in the original.
+/// Where memory for the words or for the buffer was refused, that is `memory`, whatever the words are, and `out` is
+/// gone; a word that is not UTF-8 is answered with the usage line. A text of 65,536 digits takes nine writes of `out`.
+/// Not in the original.
 pub fn run_command_line<R: Env + AllocGlobal, O: Write + Drop, E: Write>(
     rt: &R,
     out: O,
     err: &mut E,
-) -> u8
-    ensures known { result ≤ 3 }
-    ensures silent { result ≡ 0 → err.new ≡ err.old }
-    ensures told { 0 < result → (fault : Fault) × (result ≡ status_of fault)
+) -> (u8, Option<O>)
+    ensures known { result.0 ≤ 3 }
+    ensures printed { result.0 ≡ 0 → (words : List (String Global))
+        × IsSomeAnd result.1 (λ writer. Prints words (O.contents out) (O.contents writer)) }
+    ensures silent { result.0 ≡ 0 → err.new ≡ err.old }
+    ensures told { 0 < result.0 → (fault : Fault) × (result.0 ≡ status_of fault)
         × AppendsBeginning (E.contents err.old) (E.contents err.new) (line fault) }
 {
     let words = match arguments(rt) {
         Ok(words) => words,
-        Err(error) => return Fault::of_arguments(&error).report(rt.alloc(), err),
+        Err(error) => return (Fault::of_arguments(&error).report(rt.alloc(), err), None),
     };
     let Ok(buffer) = BufWriter::new(rt.alloc(), out) else {
-        return Fault::Memory.report(rt.alloc(), err);
+        return (Fault::Memory.report(rt.alloc(), err), None);
     };
-    let (status, _writer) = program_in_blocks(rt.alloc(), words.as_slice(), buffer, err);
-    status
+    let (status, writer) = program_in_blocks(rt.alloc(), words.as_slice(), buffer, err);
+    (status, Some(writer))
 }

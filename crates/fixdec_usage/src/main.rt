@@ -5,5 +5,6 @@ use fixdec_program::run_command_line;
 use std::process::ExitCode;
 
 fn main(rt: HostRuntime) -> ExitCode {
-    ExitCode::from(run_command_line(&rt, rt.stdout(), &mut rt.stderr()))
+    let (status, _writer) = run_command_line(&rt, rt.stdout(), &mut rt.stderr());
+    ExitCode::from(status)
 }
