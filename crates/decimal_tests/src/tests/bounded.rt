@@ -1,4 +1,4 @@
-//! Growths that are refused in turn: what each call answers, what it leaves, and what it answers when it is asked again.
+//! Growths that are refused in turn: what each call answers, what it leaves, and what it answers when asked again.
 //!
 //! A word says how it went: `done`, or `refused` where memory was refused, all was left as it was, and the same call
 //! made again with memory did its work.
