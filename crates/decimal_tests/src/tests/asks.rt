@@ -1,4 +1,4 @@
-//! Calls that ask for memory: where it is refused once, nothing has changed, and the same call made again does its work.
+//! Calls that ask for memory: where it is refused once, nothing has changed, and the same call made again succeeds.
 use super::*;
 use fixed_decimal::{
     ByteDecimal, CompactDecimal, DigitStore, FixedInteger, ScientificDecimal, Signed,

@@ -1,9 +1,9 @@
-//! Growths that are refused in turn: what each call answers, what it leaves, and what it answers when it is asked again.
+//! Growths that are refused in turn: what each call answers, what it leaves, and what it answers when asked again.
 //!
 //! A word says how it went: `done`, or `refused` where memory was refused, all was left as it was, and the same call
 //! made again with memory did its work.
 use super::*;
-use decimal_testing::{Bounded, Hundred, Most};
+use decimal_testing::{Bounded, Eight, Hundred, Most};
 use fixed_decimal::RoundingIncrement::MultiplesOf25;
 use fixed_decimal::SignedRoundingMode::Unsigned;
 use fixed_decimal::UnsignedRoundingMode::Trunc;
@@ -51,6 +51,55 @@ fn roomy<D: DigitStore>(alloc: Global, text: &str) -> Result<Roomy<D>, Fail> {
         Err(ParseError::Memory) => Ok(Roomy::<D>::try_from_str(alloc, text)?),
         answer => Ok(answer?),
     }
+}
+
+/// A wide integer.
+#[derive(Clone, Copy)]
+enum Wide {
+    U32(u32),
+    U64(u64),
+    U128(u128),
+    Usize(usize),
+}
+
+/// Wide integers and their texts.
+const INTEGERS: &[(Wide, &str)] = &[
+    (Wide::U32(u32::MAX), "4294967295"),
+    (Wide::U64(u64::MAX), "18446744073709551615"),
+    (
+        Wide::U128(u128::MAX),
+        "340282366920938463463374607431768211455",
+    ),
+    (Wide::Usize(usize::MAX), "18446744073709551615"),
+];
+
+/// The value of an integer.
+fn of_integer<D: DigitStore>(alloc: Global, integer: Wide) -> Result<UnsignedOver<D>, AllocError> {
+    match integer {
+        Wide::U32(integer) => UnsignedOver::<D>::try_from_u32(alloc, integer),
+        Wide::U64(integer) => UnsignedOver::<D>::try_from_u64(alloc, integer),
+        Wide::U128(integer) => UnsignedOver::<D>::try_from_u128(alloc, integer),
+        Wide::Usize(integer) => UnsignedOver::<D>::try_from_usize(alloc, integer),
+    }
+}
+
+/// An integer's word, where there is memory for eight digits, and then for all.
+fn made<D: DigitStore>(alloc: Global, integer: Wide, text: &str) -> Result<&'static str, Fail> {
+    match of_integer::<Bounded<D, Eight>>(alloc, integer) {
+        Ok(value) => Ok(seen(&value, text, "done")),
+        Err(AllocError) => Ok(seen(&of_integer::<D>(alloc, integer)?, text, "refused")),
+    }
+}
+
+/// Whether the integers that a store does not hold without memory are refused, and no others.
+fn makes<D: DigitStore>(alloc: Global) -> Result<bool, Fail> {
+    for (integer, text) in INTEGERS {
+        let word = made::<D>(alloc, *integer, text)?;
+        if word != (if text.len() > D::L { "refused" } else { "done" }) {
+            return Ok(false);
+        }
+    }
+    Ok(true)
 }
 
 /// A copy's word, of a number that may have memory for so many digits.
@@ -230,6 +279,13 @@ fn joins<D: DigitStore>(alloc: Global, most: usize) -> Result<bool, Fail> {
         }
     }
     Ok(true)
+}
+
+#[test]
+fn refuses_integers(rt: HostRuntime) -> Result<(), Fail> {
+    assert!(rt; makes::<DigitList>(rt.alloc())?);
+    assert!(rt; makes::<PackedDigits>(rt.alloc())?);
+    Ok(())
 }
 
 #[test]

@@ -29,7 +29,7 @@ type Run = (
     &'static [(usize, Want)],
 );
 
-/// Runs whose numbers are held without memory up to sixteen digits, and in eight bytes up to eight.
+/// Runs that want memory for more than sixteen digits.
 const RUNS: &[Run] = &[
     (
         "922337203685477580898230948203840239384.9823094820384023938423424",
@@ -76,7 +76,7 @@ const RUNS: &[Run] = &[
     ),
 ];
 
-/// Runs whose numbers are held without memory up to eight digits.
+/// Runs that want memory for more than eight digits.
 const BYTE_RUNS: &[Run] = &[
     (
         "12345678",
