@@ -97,6 +97,7 @@ pub(super) fn push_digit(bytes: &mut SmallVec<u8, 8>, len: usize, digit: u8)
 const FEW: usize = 24;
 
 /// Tells whether two lists of bytes are equal.
+#[inline]
 pub(super) fn are_equal(left: &[u8], right: &[u8]) -> bool
     ensures { IsTrue result ↔ (left.now ≡ right.now) }
 {
