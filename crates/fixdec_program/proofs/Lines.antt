@@ -1,5 +1,5 @@
 -- What a line holds that was written, and what a writer has taken of it.
-use Rattle.std.proofs.Common.{◌≡◌, ℕ, ◌+◌, ◌-◌, length, take, drop, Option, List, [], ◌++◌, Result, Ok, Err, OnOk, true, false, ap, sym, ◌∙◌}
+use Rattle.std.proofs.Common.{◌≡◌, ℕ, ◌+◌, ◌-◌, length, take, drop, Option, List, [], ◌++◌, Result, Ok, Err, OnOk, ap, sym, ◌∙◌}
 use Rattle.std.specs.Result.{is_ok}
 use Rattle.std.proofs.lemmas.Bool.{false≢true}
 use Rattle.std.proofs.lemmas.List.{length-drop}

@@ -1,5 +1,5 @@
 -- Which call a word names that is cut at its first colon.
-use Rattle.std.proofs.Common.{◌≡◌, ◌≢◌, ℕ, ◌<◌, List, ◌∷◌, ◌++◌, Option, Some, None, Bor, refl, arith, codes, IfNone, IfSome, true, false}
+use Rattle.std.proofs.Common.{◌≡◌, ◌≢◌, ℕ, List, ◌∷◌, ◌++◌, Option, Some, None, Bor, refl, arith, codes, IfNone, IfSome, true}
 use Rattle.std.proofs.lemmas.Str.Pattern.{IsSplitOnceResult, split_after, split_parts}
 use Rattle.std.proofs.lemmas.Bool.{false≢true}
 use Rattle.fixed_decimal.specs.declared.runs.Call.{Call}

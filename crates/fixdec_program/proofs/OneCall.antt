@@ -1,5 +1,5 @@
 -- A word names at most one call.
-use Rattle.std.proofs.Common.{◌≡◌, ◌≢◌, ℕ, ◌<◌, ◌==◌, ◌&&◌, inl, inr, Bool, true, false, ℤ, List, [], ◌∷◌, ◌++◌, length, get_or, Some, refl, ap, sym, ◌∙◌, arith, codes, eq-eqb, zero, suc}
+use Rattle.std.proofs.Common.{◌≡◌, ◌≢◌, ℕ, true, false, ℤ, List, [], ◌∷◌, ◌++◌, Some, refl, ap, sym, ◌∙◌, arith, codes, suc}
 use Rattle.std.proofs.lemmas.Bool.{false≢true}
 use Rattle.decimal_digits.specs.declared.rounding.SignedRoundingMode.{SignedRoundingMode}
 use Rattle.decimal_digits.specs.declared.rounding.SignedRoundingMode.TheVariants.{Ceil, Floor, HalfCeil, HalfFloor, Unsigned}

@@ -1,5 +1,5 @@
 -- What the words of a command line name, and what their run comes to.
-use Rattle.std.proofs.Common.{◌≡◌, ◌≢◌, ℕ, ◌+◌, ◌-◌, ◌<◌, ◌≤◌, ◌⊎◌, inl, inr, List, [], ◌∷◌, ◌++◌, length, take, drop, get_or, String, string_bytes, Option, Some, None, Result, Ok, Err, IfNone, IfSome, IfErr, true, false, rules, refl, sym, ap, subst, ◌∙◌, arith, add-one, zero, suc}
+use Rattle.std.proofs.Common.{◌≡◌, ◌≢◌, ℕ, ◌+◌, ◌-◌, ◌<◌, ◌≤◌, inl, inr, List, [], ◌∷◌, ◌++◌, length, take, drop, get_or, String, string_bytes, Option, Some, None, Result, Ok, Err, IfNone, IfSome, IfErr, true, false, rules, refl, sym, ap, subst, ◌∙◌, arith, add-one, zero, suc}
 use Rattle.std.specs.Prelude.{Any, IsOk, IsOkAnd, IsErrAnd, slice_get}
 use Rattle.std.specs.Option.{IsSome, is_some}
 use Rattle.std.specs.declared.alloc.Global.{Global}
@@ -7,14 +7,13 @@ use Rattle.std.specs.Io.KnownBytes.{Keeps, Appends, append_known}
 use Rattle.std.proofs.Math.Seq.{take-suc, take-length}
 use Rattle.std.proofs.lemmas.List.{length-drop, append-nil}
 use Rattle.decimal_digits.specs.Text.{AppendsBeginning}
-use Rattle.decimal_digits.proofs.Sinks.{appends_both, appends_kept, part_more, then_part, part_none}
+use Rattle.decimal_digits.proofs.Sinks.{appends_both, appends_kept}
 use Rattle.decimal_unsigned.specs.declared.decimal.TheConstants.{DIGITS_IN_PLACE}
 use Rattle.decimal_unsigned.specs.Reading.{Fault}
 use Rattle.decimal_unsigned.specs.declared.error.ParseError.TheVariants as parse
 use Rattle.fixed_decimal.specs.Decimal.{Decimal}
-use Rattle.fixed_decimal.specs.Outcome.{Refusal, outcome}
-use Rattle.fixed_decimal.specs.Errors.{RunRefuses, RunReaches, Reaches}
-use Rattle.fixed_decimal.specs.DecimalText.{read_decimal}
+use Rattle.fixed_decimal.specs.Outcome.{outcome}
+use Rattle.fixed_decimal.specs.Errors.{RunRefuses, Reaches}
 use Rattle.fixed_decimal.specs.declared.runs.Call.{Call}
 use Rattle.fixed_decimal.specs.declared.runs.RunError.{RunError}
 use Rattle.fixed_decimal.specs.declared.runs.RunError.TheVariants as error
@@ -22,7 +21,7 @@ use Rattle.fixdec_program.specs.declared.fault.Fault as own
 use Rattle.fixdec_program.specs.declared.fault.Fault.TheVariants.{Output}
 use Rattle.fixdec_program.specs.Words.{Names}
 use Rattle.fixdec_program.specs.Faults.{fault_of}
-use Rattle.fixdec_program.specs.Program.{NameAll, AreCalls, IsUnknown, Prints, PrintsBeginning, IsUsage, Runs, ComesTo, MayWantMemory, Tells}
+use Rattle.fixdec_program.specs.Program.{NameAll, IsUnknown, Prints, IsUsage, Runs, MayWantMemory, Tells}
 
 -- ---- Words and calls, one by one.
 

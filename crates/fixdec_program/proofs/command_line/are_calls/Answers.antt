@@ -1,4 +1,4 @@
-use Rattle.std.proofs.Common.{◌∷◌, ◌++◌, [], sym, rules, arith, IfSome, string_bytes}
+use Rattle.std.proofs.Common.{◌∷◌, ◌++◌, [], sym, IfSome, string_bytes}
 use Rattle.fixdec_program.specs.Words.{Names}
 use Rattle.fixdec_program.specs.Program.{IsUnknown}
 use Rattle.fixdec_program.proofs.Programs.{at_none, at_some, names_more, taken}

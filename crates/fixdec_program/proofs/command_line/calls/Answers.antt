@@ -1,4 +1,4 @@
-use Rattle.std.proofs.Common.{◌≡◌, ◌∷◌, [], ◌++◌, sym, rules, string_bytes, IfNone}
+use Rattle.std.proofs.Common.{◌≡◌, ◌∷◌, [], ◌++◌, rules, string_bytes, IfNone}
 use Rattle.fixed_decimal.specs.declared.runs.Call.{Call}
 use Rattle.fixdec_program.specs.Words.{Names}
 use Rattle.fixdec_program.proofs.Programs.{some_unless, named_at, names_more, taken}

@@ -1,4 +1,4 @@
-use Rattle.std.proofs.Common.{◌≡◌, ◌∙◌, ap, Err, ◌++◌, ◌∷◌, [], ℕ, List, inl, sym, rules, OnOk, OnErr, string_bytes}
+use Rattle.std.proofs.Common.{◌≡◌, ◌∙◌, ap, Err, ◌++◌, ◌∷◌, [], inl, string_bytes}
 use Rattle.std.specs.Prelude.{IsOk, IsOkAnd}
 use Rattle.std.specs.Io.KnownBytes.{Keeps, Appends}
 use Rattle.decimal_digits.specs.Text.{AppendsBeginning}

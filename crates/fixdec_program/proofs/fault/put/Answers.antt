@@ -1,4 +1,4 @@
-use Rattle.std.proofs.Common.{◌≤◌, ◌+◌, ◌-◌, length, drop, take, take-append-drop, arith}
+use Rattle.std.proofs.Common.{◌+◌, drop, take, take-append-drop, arith}
 use Rattle.std.proofs.lemmas.List.{length-drop, length-take}
 use Rattle.decimal_digits.proofs.Sinks.{part_kept}
 use Rattle.fixdec_program.proofs.Lines.{took_more}

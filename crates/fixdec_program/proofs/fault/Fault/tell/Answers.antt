@@ -1,4 +1,4 @@
-use Rattle.std.proofs.Common.{◌≡◌, ◌∙◌, OnOk, OnErr}
+use Rattle.std.proofs.Common.{◌≡◌, ◌∙◌}
 use Rattle.fixdec_program.specs.Faults.{line}
 use Rattle.fixdec_program.proofs.Lines.{line_items}
 use Rattle.fixdec_program.proofs.fault.Fault.tell.Goals as goal
