@@ -156,7 +156,8 @@ pub(super) fn push_zeros(bytes: &mut SmallVec<u8, 8>, count: usize)
 
 /// Keeps the first bytes.
 ///
-/// Few are dropped four, two and one at once: zeros are written over so many with no call, as over a count that varies.
+/// `smallvec` writes zeros over what it drops, by a call where their number varies. So a few are dropped by four, two and
+/// one, which take no call.
 #[inline]
 pub(super) fn keep_bytes(bytes: &mut SmallVec<u8, 8>, count: usize)
     requires { count ≤ small_vec_len bytes.old }
