@@ -101,7 +101,10 @@ const FEW: usize = 24;
 pub(super) fn are_equal(left: &[u8], right: &[u8]) -> bool
     ensures { IsTrue result ↔ (left.now ≡ right.now) }
 {
-    if left.len() != right.len() || left.len() > FEW {
+    if left.len() != right.len() {
+        return false;
+    }
+    if left.len() < 4 || left.len() > FEW {
         return left == right;
     }
     let (mut left, mut right) = (left, right);
