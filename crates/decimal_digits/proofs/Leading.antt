@@ -1,13 +1,13 @@
 -- The digits that are kept, and the last two of them.
-use Rattle.std.proofs.Common.{◌≡◌, ℕ, ◌+◌, ◌-◌, ◌*◌, ◌/◌, ◌%◌, ◌^◌, ◌<◌, ◌≤◌, List, [], ◌∷◌, ◌++◌, length, get_or, take, drop, set, refl, sym, ◌∙◌, ap, arith, inl, inr}
+use Rattle.std.proofs.Common.{◌≡◌, ℕ, ◌+◌, ◌-◌, ◌*◌, ◌/◌, ◌%◌, ◌^◌, ◌<◌, ◌≤◌, List, [], ◌∷◌, ◌++◌, length, get_or, take, drop, set, refl, sym, ◌∙◌, ap, subst, arith, inl, inr}
 use Rattle.std.proofs.lemmas.Bool.{cases_lt}
-use Rattle.std.proofs.lemmas.List.{length-drop, length-take, length-take-le, length-set, take_all, get_or_past, get_or-take, get_or-drop, drop_more, set-append_left}
+use Rattle.std.proofs.lemmas.List.{length-drop, length-take, length-take-le, length-set, take_all, take-take, get_or_past, get_or-take, get_or-drop, drop_more, set-append_left}
 use Rattle.std.proofs.Math.Nat.{mul-le-mul_right}
 use Rattle.std.specs.Int.Digits.{AllBelowBase}
 use Rattle.decimal_digits.specs.Digits.{number_at}
 use Rattle.decimal_digits.specs.declared.rounding.tail.Tail.TheVariants.{BelowHalf, Half, AboveHalf}
 use Rattle.decimal_digits.specs.Tails.{leading, TailIs, HasDigits}
-use Rattle.decimal_digits.proofs.NumberAt.{powers, number_at-none, number_at-more, number_at-take, number_at-set, number_at-push, number_at-append, number_at-one, number_at-lt, number_at-ge, number_at-pos}
+use Rattle.decimal_digits.proofs.NumberAt.{powers, number_at-none, number_at-more, number_at-take, number_at-set, number_at-push, number_at-append, number_at-one, number_at-lt, number_at-ge, number_at-pos, nines_passed}
 use Rattle.decimal_digits.proofs.DigitLists.{below_drop, below_take, ten_pos}
 
 -- no digit writes 0
@@ -38,6 +38,15 @@ leading_two k ds h =
     let more : leading (k - 1) ds ≡ leading (k - 1 - 1) ds * 10 + get_or ds (k - 1 - 1) 0 = leading_more (k - 1) ds (omega arith) in
     let more' : leading (k - 1) ds ≡ leading (k - 2) ds * 10 + get_or ds (k - 2) 0 = more ∙ ap (λ i. leading i ds * 10 + get_or ds i 0) e in
     omega (arith, leading_more k ds (omega arith))
+
+-- nines at the end of the first k digits, and one more, are one more in front of them
+pub nines_in_front : (n j k : ℕ) (ds : List ℕ) → j + n ≡ k → k ≤ length ds → ((i : ℕ) → k ≤ i + n → i < k → get_or ds i 0 ≡ 9) → number_at k (take j ds) + 10 ^ (k - j) ≡ leading k ds + 1
+nines_in_front n j k ds e h nine =
+    let xs = take k ds in
+    let len : length xs ≡ k = length-take-le k ds h in
+    let passed = nines_passed n j xs (omega arith) (λ i p q. get_or-take k ds i 0 (omega arith) ∙ nine i (omega arith) (omega arith)) in
+    let same : take j xs ≡ take j ds = take-take j k ds (omega arith) in
+    ap (λ ys. number_at k ys + 10 ^ (k - j)) (sym same) ∙ subst (λ m. number_at m (take j xs) + 10 ^ (m - j) ≡ number_at m xs + 1) len passed
 
 -- ---- the last two are replaced
 module _ (k : ℕ) (ds : List ℕ) (p : 2 ≤ k) (h : k ≤ length ds + 1) where

@@ -115,15 +115,21 @@ nines_passed (suc n) k ds e z =
     subst (λ j. number_at (length ds) (take j ds) + 10 ^ (length ds - j) ≡ number_at (length ds) ds + 1) one (nine_passed (length ds) (k + 1) ds (omega arith) (omega arith) (omega arith) nine_here more)
 
 -- one more in the last digit
-pub nines_end : (top k d : ℕ) (ds : List ℕ) → 0 < k → k ≤ length ds → k ≤ top → d ≡ get_or ds (k - 1) 0 → number_at top (take k ds) + 10 ^ (top - k) ≡ number_at top ds + 1 → number_at top (set (take k ds) (k - 1) (d + 1)) ≡ number_at top ds + 1
-nines_end top k d ds p h l z e = omega (arith, number_at-take top k ds p h l, number_at-set top k (d + 1) ds p h l, ap (λ v. v * 10 ^ (top - k)) z)
+pub nines_end : (top k d v : ℕ) (ds : List ℕ) → 0 < k → k ≤ length ds → k ≤ top → d ≡ get_or ds (k - 1) 0 → number_at top (take k ds) + 10 ^ (top - k) ≡ v → number_at top (set (take k ds) (k - 1) (d + 1)) ≡ v
+nines_end top k d v ds p h l z e = omega (arith, number_at-take top k ds p h l, number_at-set top k (d + 1) ds p h l, ap (λ n. n * 10 ^ (top - k)) z)
 
--- nothing but nines: a 1 in front of them
-pub nines_alone : (top k : ℕ) (ds : List ℕ) → k ≤ 0 → number_at top (take k ds) + 10 ^ (top - k) ≡ number_at top ds + 1 → number_at (top + 1) (1 ∷ []) ≡ number_at top ds + 1
-nines_alone top k ds z e =
+-- nothing but nines
+pub nines_full : (top k v : ℕ) (ds : List ℕ) → k ≤ 0 → number_at top (take k ds) + 10 ^ (top - k) ≡ v → 10 ^ top ≡ v
+nines_full top k v ds z e =
     let n : number_at top (take k ds) ≡ 0 = number_at-none top (take k ds) (omega (arith, length-take-le k ds (omega arith))) in
-    let a : top + 1 - 1 ≡ top - k = omega arith in
-    number_at-one (top + 1) 1 ∙ rw a (omega arith)
+    let a : 10 ^ top ≡ 10 ^ (top - k) = ap (λ i. 10 ^ i) (let b : top ≡ top - k = omega arith in b) in
+    omega arith
+
+-- a 1 in front of them
+pub nines_alone : (top k v : ℕ) (ds : List ℕ) → k ≤ 0 → number_at top (take k ds) + 10 ^ (top - k) ≡ v → number_at (top + 1) (1 ∷ []) ≡ v
+nines_alone top k v ds z e =
+    let a : 10 ^ (top + 1 - 1) ≡ 10 ^ top = ap (λ i. 10 ^ i) (let b : top + 1 - 1 ≡ top = omega arith in b) in
+    omega (arith, number_at-one (top + 1) 1, nines_full top k v ds z e)
 
 -- a last digit that is not 0
 pub number_at-pos : (top : ℕ) (ds : List ℕ) → AllBelowBase 10 ds → 0 < length ds → 0 < get_or ds (length ds - 1) 0 → 0 < number_at top ds

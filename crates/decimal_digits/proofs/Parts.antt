@@ -9,11 +9,14 @@ use Rattle.std.specs.Int.Digits.{AllBelowBase}
 use Rattle.decimal_digits.specs.declared.rounding.UnsignedRoundingMode.{UnsignedRoundingMode}
 use Rattle.decimal_digits.specs.declared.rounding.tail.Tail.{Tail}
 use Rattle.decimal_digits.specs.declared.rounding.tail.Tail.TheVariants.{BelowHalf}
-use Rattle.decimal_digits.specs.Number.{place, weight, first, last, size, magnitude_at}
+use Rattle.decimal_digits.specs.Number.{place, weight, first, last, size, magnitude_at, number_limit}
 use Rattle.decimal_digits.specs.Digits.{number_at, number_of, IsStripped}
-use Rattle.decimal_digits.specs.Rounding.{rounded_number}
+use Rattle.decimal_digits.specs.Rounding.{step_of, unit_at, rounded_number, Refuses}
+use Rattle.decimal_digits.specs.declared.rounding.RoundError.{RoundError}
+use Rattle.decimal_digits.specs.declared.rounding.RoundError.TheVariants.{Limit, Memory}
+use Rattle.decimal_digits.specs.declared.rounding.RoundingIncrement.{RoundingIncrement}
 use Rattle.decimal_digits.specs.Left.{Spells}
-use Rattle.decimal_digits.specs.Tails.{leading, TailIs, RoundsTo, HasParts, HasDigits}
+use Rattle.decimal_digits.specs.Tails.{leading, TailIs, RoundsTo, HasParts, HasDigits, KeptRefuses}
 use Rattle.decimal_digits.proofs.Places.{place_is, magnitude_at-place, gap_is}
 use Rattle.decimal_digits.proofs.Ends.{first_is, last_is, first_zero}
 use Rattle.decimal_digits.proofs.DigitLists.{ten_pos}
@@ -98,13 +101,6 @@ module _ (p : ℤ) (places : ℕ) (ds : List ℕ) (low : negsuc 32767 ≤ℤ p) 
   unfolding number_of
   number_up m low' e = moved (place m + 1) (omega (arith, ints, place_is m, place_is p))
 
-  -- the highest of the places is above 32767
-  pub past_limit : 0 < length ds → 0 < get_or ds 0 0 → pos 32768 <ℤ (p +ℤ pos places) → weight (pos 32768) ≤ number_at places ds * weight p
-  past_limit some first h =
-      let a : 10 ^ (places + place p - 1) ≤ number_at (places + place p) ds = number_at-ge (places + place p) ds some first (omega arith) in
-      let l : 10 ^ place (pos 32768) ≤ 10 ^ (places + place p - 1) = pow-le-pow_right (omega arith) (omega (arith, ints, place_is p, place_is (pos 32768))) in
-      omega (arith, moved (places + place p) refl)
-
 -- ---- how many digits there are
 pub size_is : (p : ℤ) (k m : ℕ) → 0 < k → HasDigits k m → negsuc 32767 ≤ℤ p → place p + k ≤ 65536 → size (m * weight p) ≡ k
 size_is p k m some d low h =
@@ -116,3 +112,24 @@ size_is p k m some d low h =
     let below : last (m * weight p) ≡ magnitude_at (place p) = last_is m (place p) d.ends (omega arith) in
     let nonzero : (m * weight p == 0) ≡ false = (let q : 0 < m * weight p = omega (arith, mul-pos (ten_pos (k - 1)) (ten_pos (place p))) in search rules) in
     rw (nonzero, above, below) (omega (arith, ints, gap_is (magnitude_at (place p)) (magnitude_at (k - 1 + place p))))
+
+-- ---- why a number is not rounded
+-- what is wrong with the digits that are kept is wrong with the number
+pub refuses : (e : RoundError) (mode : UnsignedRoundingMode) (increment : RoundingIncrement) (fit room k : ℕ) (ds : List ℕ) (tail : Tail) (n : ℕ) (p : ℤ) → negsuc 32767 ≤ℤ p → (p +ℤ pos room) ≡ pos 32768 → (0 < k → place p + k ≤ 65536)
+    → HasParts n (weight p) (leading k ds) tail → KeptRefuses e mode increment fit room k ds tail → Refuses e increment (length ds) (rounded_number mode (unit_at increment p) n) fit
+refuses Limit mode increment fit room k ds tail n p low top within parts (m, h, rounds) =
+    let e = rounded_parts mode (step_of increment) tail n (weight p) (leading k ds) m (ten_pos (place p)) parts rounds in
+    let up : number_limit ≡ 10 ^ room * weight p = powers room (place p) (place (pos 32768)) (omega (arith, ints, place_is p, place_is (pos 32768))) in
+    let more : 10 ^ room * weight p ≤ m * weight p = mul-le-mul_right (weight p) h in
+    omega (arith, e, up, more)
+refuses Memory mode increment fit room k ds tail n p low top within parts (by_25, full, at_end, (m, has, rounds)) =
+    let e = rounded_parts mode (step_of increment) tail n (weight p) (leading k ds) m (ten_pos (place p)) parts rounds in
+    let some : 0 < k = omega arith in
+    let most : m * weight p < 10 ^ k * weight p = mul-lt-mul_of_pos_right has.most (ten_pos (place p)) in
+    let at_most : 10 ^ (k + place p) ≤ number_limit = pow-le-pow_right (omega arith) (omega (arith, ints, within some, place_is (pos 32768))) in
+    record {
+      by_25 = by_25;
+      below_limit = omega (arith, e, most, at_most, powers k (place p) (k + place p) refl);
+      longer = ap size e ∙ size_is p k m some has low (within some) ∙ at_end;
+      full = full;
+    }

@@ -1,5 +1,5 @@
 -- What a rounding leaves of a list of digits: the contract of `rounding::round` speaks of these.
-use Rattle.std.specs.Prelude.{◌≡◌, ℕ, ◌+◌, ◌<◌, ◌≤◌, List, [], length, Option, Some, None, ℤ, ◌≤ℤ◌}
+use Rattle.std.specs.Prelude.{◌≡◌, ℕ, ◌+◌, ◌<◌, ◌≤◌, List, length, ℤ, ◌≤ℤ◌}
 use Rattle.decimal_digits.specs.Number.{place, first, number_limit, lowest_magnitude, highest_magnitude}
 use Rattle.decimal_digits.specs.Digits.{number_of, IsStripped}
 
@@ -12,11 +12,6 @@ pub record Spells (digits : List ℕ) (magnitude : ℤ) (n : ℕ) : Type 0 where
   pub fits : length digits ≤ place magnitude + 1
   pub least : lowest_magnitude ≤ℤ magnitude
   pub greatest : magnitude ≤ℤ highest_magnitude
-
--- the digits are those of n from this magnitude down; or none is left, for n reaches the limit
-abbrev pub Leaves : Option ℤ → List ℕ → ℕ → Type 0
-Leaves (Some magnitude) digits n = Spells digits magnitude n
-Leaves None digits n = (number_limit ≤ n) × (digits ≡ [])
 
 -- no digit stands below the position
 abbrev pub IsAbove : ℤ → List ℕ → ℤ → Type 0

@@ -1,11 +1,13 @@
 -- Rounding of whole numbers to the multiples of a unit.
-use Rattle.std.specs.Prelude.{◌≡◌, ◌≢◌, ℕ, ◌+◌, ◌-◌, ◌*◌, ◌/◌, ◌%◌, ◌≤◌, ◌==◌, nat_lt, if◌then◌else◌, ℤ}
+use Rattle.std.specs.Prelude.{◌≡◌, ◌≢◌, ℕ, ◌+◌, ◌-◌, ◌*◌, ◌/◌, ◌%◌, ◌<◌, ◌≤◌, ◌==◌, nat_lt, if◌then◌else◌, ℤ}
 use Rattle.std.specs.Int.{abs_diff}
-use Rattle.decimal_digits.specs.Number.{weight, size}
+use Rattle.decimal_digits.specs.Number.{weight, size, number_limit}
 use Rattle.decimal_digits.specs.declared.rounding.RoundingIncrement.{RoundingIncrement}
 use Rattle.decimal_digits.specs.declared.rounding.RoundingIncrement.TheVariants.{MultiplesOf1, MultiplesOf2, MultiplesOf5, MultiplesOf25}
 use Rattle.decimal_digits.specs.declared.rounding.UnsignedRoundingMode.{UnsignedRoundingMode}
 use Rattle.decimal_digits.specs.declared.rounding.UnsignedRoundingMode.TheVariants.{Expand, Trunc, HalfExpand, HalfTrunc, HalfEven}
+use Rattle.decimal_digits.specs.declared.rounding.RoundError.{RoundError}
+use Rattle.decimal_digits.specs.declared.rounding.RoundError.TheVariants.{Limit, Memory}
 
 -- ---- The unit.
 
@@ -66,11 +68,17 @@ rounded_number HalfEven u n =
     else if n / u % 2 == 0 then below u n
     else above u n
 
--- ---- When a rounding wants memory.
+-- ---- When a rounding is refused.
 
--- memory is wanted only by 25, and only where n has one digit more than the `digits` before, of which there are
--- as many as fit with no memory, or more
+-- memory is wanted only by 25, and only where n stays below the limit and has one digit more than the `digits` before,
+-- of which there are as many as fit with no memory, or more
 pub record WantsMemory (increment : RoundingIncrement) (digits n fit : ℕ) : Type 0 where
   pub by_25 : increment ≡ MultiplesOf25
+  pub below_limit : n < number_limit
   pub longer : size n ≡ digits + 1
   pub full : fit ≤ digits
+
+-- why a number that is to become n is left as it was: n reaches the limit, or one digit more wants memory
+abbrev pub Refuses : RoundError → RoundingIncrement → ℕ → ℕ → ℕ → Type 0
+Refuses Limit increment digits n fit = number_limit ≤ n
+Refuses Memory increment digits n fit = WantsMemory increment digits n fit

@@ -85,22 +85,26 @@ pub fn places_above(position: i16, magnitude: i16) -> Option<usize>
     }
 }
 
+/// Counts the magnitudes from a position up to 32767, both included.
+///
+/// `room_above(32767)` is 1, and `room_above(-32768)` is 65,536. Not in the original.
+#[inline]
+pub fn room_above(position: i16) -> usize
+    ensures { (position +ℤ pos result) ≡ pos 32768 }
+{
+    (32768 - position as i32) as usize
+}
+
 /// Gives the highest of so many magnitudes, of which the lowest is at a position.
 ///
-/// `highest_of(-1, 4)` is 2. None where it would be above 32767. Requires 1 to 65,537 places. Not in the original.
+/// `highest_of(-1, 4)` is 2. Requires 1 place or more, and that the answer is at most 32767. Not in the original.
 #[inline]
-pub fn highest_of(position: i16, places: usize) -> Option<i16>
+pub fn highest_of(position: i16, places: usize) -> i16
     requires some { 0 < places }
-    requires few { places ≤ 65537 }
-    ensures some { IfSome result (λ magnitude. (magnitude +ℤ pos 1) ≡ (position +ℤ pos places)) }
-    ensures none { IfNone result (pos 32768 <ℤ (position +ℤ pos places)) }
+    requires room { (position +ℤ pos places) ≤ℤ pos 32768 }
+    ensures { (result +ℤ pos 1) ≡ (position +ℤ pos places) }
 {
-    let highest = position as i32 + places as i32 - 1;
-    if highest > 32767 {
-        None
-    } else {
-        Some(highest as i16)
-    }
+    (position as i64 + places as i64 - 1) as i16
 }
 
 /// Gives the magnitude of the digit at an index, where the first digit stands at a magnitude.

@@ -1,10 +1,10 @@
 //! Rounding of digits: modes, increments, and the call that rounds a list.
-ghost use Rattle.std.specs.Prelude.{◌≡◌, ◌≢◌, ◌+◌, ◌*◌, ◌<◌, ◌≤◌, ◌↔◌, length, IfSome, IsOk, IfOk, OnErr};
+ghost use Rattle.std.specs.Prelude.{◌≡◌, ◌≢◌, ◌+◌, ◌*◌, ◌<◌, ◌≤◌, ◌↔◌, length, pos, ◌+ℤ◌, ◌≤ℤ◌, IsErrOf, IfOk, IfErr, OnErr};
 ghost use Rattle.decimal_digits.specs.Counted.{list_of, turns_of, Continues, OnlyReads};
 ghost use Rattle.decimal_digits.specs.Number.{place, weight};
 ghost use Rattle.decimal_digits.specs.Digits.{number_at, number_of, IsStripped};
-ghost use Rattle.decimal_digits.specs.Rounding.{unit_at, Named, rounded_number, WantsMemory};
-ghost use Rattle.decimal_digits.specs.Left.{Leaves, IsAbove};
+ghost use Rattle.decimal_digits.specs.Rounding.{unit_at, Named, rounded_number, Refuses};
+ghost use Rattle.decimal_digits.specs.Left.{Spells, IsAbove};
 ghost use Rattle.decimal_digits.specs.Tails.{leading, HasParts};
 
 mod ends;
@@ -13,9 +13,8 @@ mod tail;
 mod two;
 
 use crate::digits::{Counted, DigitStore};
-use crate::ops::{highest_of, places_above};
+use crate::ops::{highest_of, places_above, room_above};
 use kept::{round_kept, tail_after};
-use std::alloc::AllocError;
 use tail::Tail;
 
 /// How a number that lies between two multiples is rounded to one of them.
@@ -69,6 +68,17 @@ pub enum RoundingIncrement {
     MultiplesOf25,
 }
 
+/// Why a number was not rounded.
+///
+/// The value is then as it was. Not in the original, which puts 0 in the place of what is too great.
+#[derive(Clone, Copy, Debug, PartialEq)]
+pub enum RoundError {
+    /// The multiple that is named is 10 to the 32768 or more.
+    Limit,
+    /// Memory for one digit more was refused.
+    Memory,
+}
+
 /// Counts the places from a position up to the first digit, and compares what lies below them with half of a unit.
 fn parts_at<D: DigitStore>(
     counted: &mut Counted<'_, D>,
@@ -92,77 +102,68 @@ fn parts_at<D: DigitStore>(
 }
 
 /// Gives the magnitude of the first digit, where the list has so many places above a position, and 0 where it is empty.
-///
-/// None: that magnitude is above 32767. The digits are then dropped.
-fn magnitude_after<D: DigitStore>(
-    counted: &mut Counted<'_, D>,
-    position: i16,
-    places: usize,
-) -> Option<i16>
-    requires stripped { IsStripped (D.digits (list_of counted.old)) }
-    requires fits { length (D.digits (list_of counted.old)) ≤ places }
-    requires few { places ≤ 65537 }
-    ensures leaves { Leaves result (D.digits (list_of counted.new))
-        (number_at places (D.digits (list_of counted.old)) * weight position) }
-    ensures above { IfSome result (IsAbove position (D.digits (list_of counted.new))) }
-    ensures length { length (D.digits (list_of counted.new)) ≤ length (D.digits (list_of counted.old)) }
-    ensures turns { turns_of counted.new ≡ turns_of counted.old }
-    ensures lent { Continues counted.old counted.new }
+fn magnitude_after<D: DigitStore>(counted: &Counted<'_, D>, position: i16, places: usize) -> i16
+    requires stripped { IsStripped (D.digits (list_of counted.now)) }
+    requires fits { length (D.digits (list_of counted.now)) ≤ places }
+    requires room { (position +ℤ pos places) ≤ℤ pos 32768 }
+    ensures spells { Spells (D.digits (list_of counted.now)) result
+        (number_at places (D.digits (list_of counted.now)) * weight position) }
+    ensures above { IsAbove position (D.digits (list_of counted.now)) result }
 {
     if counted.len() == 0 {
-        return Some(0);
+        0
+    } else {
+        highest_of(position, places)
     }
-    let Some(magnitude) = highest_of(position, places) else {
-        counted.clear();
-        return None;
-    };
-    Some(magnitude)
 }
 
 /// Rounds the number of a list of digits at a position, and gives the magnitude of its first digit then.
 ///
 /// The list holds the digits from the magnitude of the first one down, with no 0 at either end, before and after. The
 /// digits 1, 2 and 5 from the magnitude 0 down, which is 1.25, become 1 and 2 at the position -1 in the mode `HalfEven`
-/// by 1, and the answer is 0. The answer is 0 too where no digit is left. None: the number would reach 10 to the 32768,
-/// and no digit is left.
+/// by 1, and the answer is 0. The answer is 0 too where no digit is left.
 ///
-/// Err: memory was refused for one more digit, which only `MultiplesOf25` asks for, and only where the list has as many
-/// digits as are held without memory. The list then stays as it was.
+/// Limit: the number would reach 10 to the 32768. Memory: memory was refused for one more digit, which only
+/// `MultiplesOf25` asks for, and only where the number stays below that and the list has as many digits as are held
+/// without memory. The list then stays as it was.
 ///
-/// It takes at most 7 turns, and one for each digit that vanishes. Not in the original, whose value holds these loops.
+/// It takes at most 7 turns, and one for each digit that vanishes; where the answer is Limit, at most 7 and one for
+/// each digit. Not in the original, whose value holds these loops.
 pub fn round<D: DigitStore>(
     counted: &mut Counted<'_, D>,
     magnitude: i16,
     position: i16,
     mode: UnsignedRoundingMode,
     increment: RoundingIncrement,
-) -> Result<Option<i16>, AllocError>
+) -> Result<i16, RoundError>
     requires stripped { IsStripped (D.digits (list_of counted.old)) }
     requires fits { length (D.digits (list_of counted.old)) ≤ place magnitude + 1 }
     ensures ok { let number = number_of (D.digits (list_of counted.old)) magnitude in
-        IfOk result (λ answer. Leaves answer (D.digits (list_of counted.new))
+        IfOk result (λ first. Spells (D.digits (list_of counted.new)) first
         (rounded_number mode (unit_at increment position) number)) }
-    ensures above { IfOk result (λ answer.
-        IfSome answer (IsAbove position (D.digits (list_of counted.new)))) }
+    ensures above { IfOk result (IsAbove position (D.digits (list_of counted.new))) }
     // That number is the one which the mode names among all multiples.
     ensures named { let number = number_of (D.digits (list_of counted.old)) magnitude in
         let unit = unit_at increment position in
         Named mode unit number (rounded_number mode unit number) }
 
     ensures err { OnErr result (D.digits (list_of counted.new) ≡ D.digits (list_of counted.old)) }
-    ensures memory { let number = number_of (D.digits (list_of counted.old)) magnitude in
-        OnErr result (WantsMemory increment (length (D.digits (list_of counted.old)))
+    ensures refused { let number = number_of (D.digits (list_of counted.old)) magnitude in
+        IfErr result (λ e. Refuses e increment (length (D.digits (list_of counted.old)))
         (rounded_number mode (unit_at increment position) number) D.L) }
-    ensures succeeds { increment ≢ RoundingIncrement.MultiplesOf25 → IsOk result }
+    ensures succeeds { increment ≢ RoundingIncrement.MultiplesOf25 → IsErrOf result RoundError.Memory → ⊥ }
 
-    ensures turns { turns_of counted.new + length (D.digits (list_of counted.new))
+    ensures turns { (IsErrOf result RoundError.Limit → ⊥)
+        → turns_of counted.new + length (D.digits (list_of counted.new))
         ≤ turns_of counted.old + length (D.digits (list_of counted.old)) + 7 }
+    ensures limit_turns { IsErrOf result RoundError.Limit
+        → turns_of counted.new ≤ turns_of counted.old + length (D.digits (list_of counted.old)) + 7 }
     ensures lent { Continues counted.old counted.new }
 {
     if counted.len() == 0 {
-        return Ok(Some(0));
+        return Ok(0);
     }
     let (keep, tail) = parts_at(counted, magnitude, position);
-    let places = round_kept(counted, keep, tail, mode, increment)?;
+    let places = round_kept(counted, keep, room_above(position), tail, mode, increment)?;
     Ok(magnitude_after(counted, position, places))
 }

@@ -54,3 +54,11 @@ fn refused(left: TextBuf, given: &str) -> Result<TextBuf, Fail> {
         Ok(left)
     }
 }
+
+/// The value that a call made, which was not to be refused.
+fn made<T: Drop>(answer: Result<T, T>) -> Result<T, Fail> {
+    match answer {
+        Ok(value) => Ok(value),
+        Err(_) => Err(Fail::new("a limit is passed")),
+    }
+}

@@ -1,24 +1,29 @@
 -- Laws of trims, and of the parts of a value at a position.
-use Rattle.std.proofs.Common.{◌≡◌, ℕ, ◌+◌, ◌-◌, ◌*◌, ◌%◌, ◌^◌, ◌<◌, ◌≤◌, ◌⊎◌, nat_le, false, length, refl, sym, ◌∙◌, ap, subst, arith, inl, inr}
-use Rattle.std.specs.Prelude.{ℤ, pos, ◌≤ℤ◌, ◌<ℤ◌}
+use Rattle.std.proofs.Common.{◌≡◌, ℕ, ◌+◌, ◌-◌, ◌*◌, ◌%◌, ◌^◌, ◌<◌, ◌≤◌, ◌⊎◌, length, refl, sym, ◌∙◌, ap, subst, arith, inl, inr}
+use Rattle.std.specs.Prelude.{Some, None, ℤ, pos, ◌≤ℤ◌, ◌<ℤ◌}
+use Rattle.std.specs.Option.{unwrap_or}
 use Rattle.std.specs.Int.{int_max, int_min}
 use Rattle.std.proofs.Math.Nat.{pow-le-pow_right}
 use Rattle.std.proofs.lemmas.Int.{ints, clamps, by_lt_z}
 use Rattle.std.proofs.lemmas.Bool.{cases_lt}
-use Rattle.decimal_digits.specs.Number.{place, weight, first, last}
+use Rattle.std.proofs.lemmas.Option.{none-some}
+use Rattle.decimal_digits.specs.Number.{place, weight, first, last, number_limit}
 use Rattle.decimal_digits.specs.Rounding.{unit_at, rounded_number}
+use Rattle.decimal_digits.specs.declared.rounding.RoundingIncrement.{RoundingIncrement}
 use Rattle.decimal_digits.specs.declared.rounding.RoundingIncrement.TheVariants.{MultiplesOf1}
 use Rattle.decimal_digits.specs.declared.rounding.UnsignedRoundingMode.TheVariants.{Trunc}
 use Rattle.decimal_digits.proofs.Ends.{last_zero, no_more_zeros}
 use Rattle.decimal_digits.proofs.Places.{place_is, gap_is}
+use Rattle.decimal_digits.proofs.RoundingLaws.{trunc_le}
+use Rattle.decimal_digits.proofs.Tails.{unit_pos}
 use Rattle.decimal_unsigned.specs.Unsigned.{Unsigned, IsValue}
 use Rattle.decimal_unsigned.specs.Edits.{cut}
-use Rattle.decimal_unsigned.specs.Rounded.{with_number}
+use Rattle.decimal_unsigned.specs.Rounded.{with_number, rounded_to, rounded}
 use Rattle.decimal_unsigned.specs.Text.{text}
-use Rattle.decimal_unsigned.specs.EditLaws.{trimmed, TrimmedAlike, IsShortest, truncated, PartsJoin}
+use Rattle.decimal_unsigned.specs.EditLaws.{trimmed, TrimmedAlike, IsShortest, after_rounding, truncated, PartsJoin}
 use Rattle.decimal_unsigned.proofs.FirstLast.{last_of, first_le}
 use Rattle.decimal_unsigned.proofs.JoiningLaws.{extent_of, parts_join, parts_number, parts_value}
-use Rattle.decimal_unsigned.proofs.Roundings.{within}
+use Rattle.decimal_unsigned.proofs.Roundings.{rounded_to-small}
 use Rattle.decimal_unsigned.proofs.Lengths.{length-text_whole, length-text_dotted}
 
 -- ---- Trims.
@@ -71,21 +76,33 @@ shortest v w valid e =
 -- ---- The parts of a value at a position.
 module _ (v : Unsigned) (p : ℤ) (valid : IsValue v) where
   -- a value lies below 10 to the 32768
-  pub below_limit : v.number < weight (pos 32768)
+  pub below_limit : v.number < number_limit
   below_limit =
       let k : place v.hi + 1 ≤ place (pos 32768) = omega (arith, ints, place_is v.hi, place_is (pos 32768), valid.hi_in) in
-      let m : 10 ^ (place v.hi + 1) ≤ weight (pos 32768) = pow-le-pow_right (omega arith) k in
+      let m : 10 ^ (place v.hi + 1) ≤ number_limit = pow-le-pow_right (omega arith) k in
       omega (arith, valid.below, m)
 
-  -- the number without its part below the position
+  -- a rounding toward zero makes a value
+  pub trunc_rounds : (increment : RoundingIncrement) → rounded v p Trunc increment ≡ Some (after_rounding v p Trunc increment)
+  trunc_rounds increment =
+      let u = unit_at increment p in
+      let small : rounded_number Trunc u v.number < number_limit = omega (arith, below_limit, trunc_le u v.number (unit_pos increment p)) in
+      let e = rounded_to-small v p (rounded_number Trunc u v.number) small in
+      e ∙ ap Some (sym (ap (λ o. unwrap_or o v) e))
+
+  -- it is never refused
+  pub trunc_not_refused : (increment : RoundingIncrement) → rounded v p Trunc increment ≡ None → ⊥
+  trunc_not_refused increment e = none-some (after_rounding v p Trunc increment) (sym e ∙ trunc_rounds increment)
+
+  -- it leaves the number without its part below the position
   truncated_number : rounded_number Trunc (unit_at MultiplesOf1 p) v.number ≡ v.number - v.number % weight p
   unfolding rounded_number
   truncated_number = ap (λ u. v.number - v.number % u) (let e : 1 * weight p ≡ weight p = omega arith in e)
 
   truncated_is : truncated v p ≡ with_number v p (v.number - v.number % weight p)
   truncated_is =
-      let small : nat_le (weight (pos 32768)) (v.number - v.number % weight p) ≡ false = within (v.number - v.number % weight p) (weight (pos 32768)) (omega (arith, below_limit)) in
-      rw (truncated_number, small) refl
+      let e = rounded_to-small v p (v.number - v.number % weight p) (omega (arith, below_limit)) in
+      ap (λ n. unwrap_or (rounded_to v p n) v) truncated_number ∙ ap (λ o. unwrap_or o v) e
 
   -- the truncated value and the part below the position make the value
   pub parts : PartsJoin v p (truncated v p) (cut v p)

@@ -8,7 +8,7 @@ use Rattle.std.specs.Str.{all_ascii_digits}
 use Rattle.std.specs.Str.Parse.{AllDigits, IsNumeral, digits_value}
 use Rattle.std.proofs.lemmas.List.{take-append-drop}
 use Rattle.std.proofs.Math.Seq.{take-append_seam, drop-append_seam}
-use Rattle.decimal_unsigned.specs.Grammar.{Written, IsMantissa, undotted, dotted, IsExponent, unsigned, minus, Form, integer, decimal, scientific, Grammar}
+use Rattle.decimal_unsigned.specs.Grammar.{Written, IsMantissa, undotted, dotted, IsExponent, unsigned, plus, minus, Form, integer, decimal, scientific, Grammar}
 use Rattle.decimal_unsigned.specs.Reading.{leading_digits, after_digits, numeral_of, exponent_of, is_letter, with_exponent, after_fraction, after_whole, parts_of}
 use Rattle.decimal_unsigned.proofs.Numerals.{is_digit-true, true-is_digit}
 use Rattle.std.proofs.lemmas.Str.Parse.{digit_from_value}
@@ -78,23 +78,29 @@ option_map_takes f (Some x) y h = (x, refl, cc)
 not_minus : (c : ℕ) → digit_value c < 10 → (c == 45) ≡ false
 not_minus c h = let r = digit_from_value c h in grind (arith, nat_tests, r)
 
+not_plus : (c : ℕ) → digit_value c < 10 → (c == 43) ≡ false
+not_plus c h = let r = digit_from_value c h in grind (arith, nat_tests, r)
+
 -- an exponent of the grammar is found
 pub exponent_again : (text : List ℕ) (e : ℤ) → IsExponent text e → exponent_of text ≡ Some e
 unfolding exponent_of
 exponent_again [] e (unsigned n v) = absurd (omega (arith, n.0))
-exponent_again (c ∷ rest) e (unsigned n v) = rw (not_minus c n.1.0, numeral_again (c ∷ rest) n, v) refl
+exponent_again (c ∷ rest) e (unsigned n v) = rw (not_minus c n.1.0, not_plus c n.1.0, numeral_again (c ∷ rest) n, v) refl
+exponent_again text e (plus ds t n v) = ap exponent_of t ∙ (rw (numeral_again ds n, v) refl)
 exponent_again text e (minus ds t n v) = ap exponent_of t ∙ (rw (numeral_again ds n, v) refl)
 
 -- an exponent that is found is one of the grammar
 pub exponent_takes : (text : List ℕ) (e : ℤ) → exponent_of text ≡ Some e → IsExponent text e
 unfolding exponent_of
 exponent_takes [] e h = let k = option_map_takes pos (numeral_of []) e h in let n = numeral_takes [] k.0 k.1 in absurd (omega (arith, n.0.0))
-exponent_takes (c ∷ rest) e h = go (c == 45) refl h
+exponent_takes (c ∷ rest) e h = go (c == 45) refl (c == 43) refl h
   where
-    go : (b : Bool) → (c == 45) ≡ b → cond b (option_map (λ n. neg_ℤ (pos n)) (numeral_of rest)) (option_map pos (numeral_of (c ∷ rest))) ≡ Some e → IsExponent (c ∷ rest) e
-    go true t k = let m = option_map_takes (λ n. neg_ℤ (pos n)) (numeral_of rest) e k in let n = numeral_takes rest m.0 m.1 in
+    go : (m : Bool) → (c == 45) ≡ m → (p : Bool) → (c == 43) ≡ p → cond m (option_map (λ n. neg_ℤ (pos n)) (numeral_of rest)) (cond p (option_map pos (numeral_of rest)) (option_map pos (numeral_of (c ∷ rest)))) ≡ Some e → IsExponent (c ∷ rest) e
+    go true t p s k = let m = option_map_takes (λ n. neg_ℤ (pos n)) (numeral_of rest) e k in let n = numeral_takes rest m.0 m.1 in
         minus rest (ap (λ x. x ∷ rest) (eqb-true c 45 t)) n.0 (sym m.2 ∙ ap (λ x. neg_ℤ (pos x)) n.1)
-    go false t k = let m = option_map_takes pos (numeral_of (c ∷ rest)) e k in let n = numeral_takes (c ∷ rest) m.0 m.1 in
+    go false t true s k = let m = option_map_takes pos (numeral_of rest) e k in let n = numeral_takes rest m.0 m.1 in
+        plus rest (ap (λ x. x ∷ rest) (eqb-true c 43 s)) n.0 (sym m.2 ∙ ap pos n.1)
+    go false t false s k = let m = option_map_takes pos (numeral_of (c ∷ rest)) e k in let n = numeral_takes (c ∷ rest) m.0 m.1 in
         unsigned n.0 (sym m.2 ∙ ap pos n.1)
 
 -- ---- what the grammar allows is found

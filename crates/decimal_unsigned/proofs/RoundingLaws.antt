@@ -1,60 +1,65 @@
 -- Laws of rounding, on values.
-use Rattle.std.proofs.Common.{◌≡◌, ℕ, ◌+◌, ◌-◌, ◌*◌, ◌^◌, ◌<◌, ◌≤◌, nat_le, false, refl, sym, ◌∙◌, ap, subst, arith, inl, inr}
-use Rattle.std.specs.Prelude.{ℤ, pos, negsuc, ◌-ℤ◌, ◌≤ℤ◌}
+use Rattle.std.proofs.Common.{◌≡◌, ℕ, ◌+◌, ◌-◌, ◌*◌, ◌^◌, ◌<◌, ◌≤◌, true, false, refl, sym, ◌∙◌, ap, subst, arith, inl, inr}
+use Rattle.std.specs.Prelude.{Bool, Option, Some, None, option_and_then, if◌then◌else◌, ℤ, pos, negsuc, ◌-ℤ◌, ◌≤ℤ◌}
+use Rattle.std.specs.Option.{unwrap_or}
 use Rattle.std.specs.Int.{int_max, int_min}
 use Rattle.std.proofs.lemmas.Int.{ints, clamps, by_lt_z}
 use Rattle.std.proofs.lemmas.Nat.{pow-add}
 use Rattle.std.proofs.lemmas.Bool.{cases_lt}
-use Rattle.std.proofs.lemmas.Bool.Decides.{nat_tests}
-use Rattle.decimal_digits.specs.Number.{place, weight, first}
-use Rattle.decimal_digits.specs.Rounding.{unit_at, rounded_number}
+use Rattle.std.proofs.lemmas.Option.{none-some, same_Some}
+use Rattle.decimal_digits.specs.Number.{place, first, size, number_limit}
+use Rattle.decimal_digits.specs.Rounding.{unit_at, rounded_number, Refuses}
+use Rattle.decimal_digits.specs.declared.rounding.RoundError.{RoundError}
+use Rattle.decimal_digits.specs.declared.rounding.RoundError.TheVariants.{Limit, Memory}
 use Rattle.decimal_digits.specs.declared.rounding.RoundingIncrement.{RoundingIncrement}
 use Rattle.decimal_digits.specs.declared.rounding.RoundingIncrement.TheVariants.{MultiplesOf1}
 use Rattle.decimal_digits.specs.declared.rounding.UnsignedRoundingMode.{UnsignedRoundingMode}
 use Rattle.decimal_digits.specs.declared.rounding.UnsignedRoundingMode.TheVariants.{Expand, Trunc}
 use Rattle.decimal_digits.proofs.DigitLists.{ten_pos}
+use Rattle.decimal_digits.proofs.Naming.{rounded_number-named}
 use Rattle.decimal_digits.proofs.Places.{place_le}
-use Rattle.decimal_digits.proofs.RoundingLaws.{rounded_number-again, rounded_number-zero, rounded_number-finer, rounded_number-monotone, trunc-coarser, expand-coarser, trunc_le, expand-le-coarser}
+use Rattle.decimal_digits.proofs.RoundingLaws.{rounded_number-again, rounded_number-zero, rounded_number-finer, rounded_number-monotone, trunc-coarser, expand-coarser, trunc_le, le_expand}
 use Rattle.decimal_digits.proofs.Tails.{unit_pos}
 use Rattle.decimal_unsigned.specs.Unsigned.{Unsigned, IsValue}
-use Rattle.decimal_unsigned.specs.Rounded.{rounded}
-use Rattle.decimal_unsigned.specs.EditLaws.{truncated, expanded, TruncatedAgain, ExpandedAgain, RoundsInOrder}
+use Rattle.decimal_unsigned.specs.Rounded.{reaches_limit, with_number, rounded_to, rounded, IsRounded, RoundingRefuses}
+use Rattle.decimal_unsigned.specs.EditLaws.{after_rounding, truncated, expanded, number_of, TruncatedAgain, ExpandedAgain, RoundsInOrder}
 use Rattle.decimal_unsigned.proofs.EditLaws.{below_limit}
 use Rattle.decimal_unsigned.proofs.FirstLast.{first_le}
-use Rattle.decimal_unsigned.proofs.Roundings.{limited, within, beyond}
+use Rattle.decimal_unsigned.proofs.Roundings.{within, beyond, rounded_to-small, rounded_to-large}
 
--- ---- The limit.
-limited_small : (n : ℕ) → n < weight (pos 32768) → limited n ≡ n
-limited_small n h = rw (within n (weight (pos 32768)) h) refl
+-- ---- What a rounding answers.
 
-limited_large : (n : ℕ) → weight (pos 32768) ≤ n → limited n ≡ 0
-limited_large n h = rw (beyond n (weight (pos 32768)) h) refl
+-- what the remainder gives is what the multiple gives that the mode names
+pub is_rounded : (v : Unsigned) (p : ℤ) (mode : UnsignedRoundingMode) (increment : RoundingIncrement) {new : Option Unsigned} → IsValue v → rounded v p mode increment ≡ new → IsRounded v p mode increment new
+is_rounded v p mode increment valid e = record {
+  valid = valid;
+  value = e;
+  named = (rounded_number mode (unit_at increment p) v.number, rounded_number-named mode (unit_at increment p) v.number (unit_pos increment p), e);
+}
 
-limited_zero : limited 0 ≡ 0
-limited_zero = limited_small 0 (ten_pos (place (pos 32768)))
-
-limited_limited : (n : ℕ) → limited (limited n) ≡ limited n
-limited_limited n = elim (cases_lt n (weight (pos 32768))) [
-  | inl h ↦ ap limited (limited_small n h)
-  | inr h ↦ ap limited (limited_large n h) ∙ limited_zero ∙ sym (limited_large n h)
-]
+-- why the digits are left as they were is why the value is
+pub refuses : (held : ℕ) (e : RoundError) (v : Unsigned) (p : ℤ) (mode : UnsignedRoundingMode) (increment : RoundingIncrement) → IsValue v → Refuses e increment (size v.number) (rounded_number mode (unit_at increment p) v.number) held → RoundingRefuses held e v p mode increment
+refuses held Limit v p mode increment valid r = is_rounded v p mode increment valid (rounded_to-large v p (rounded_number mode (unit_at increment p) v.number) r)
+refuses held Memory v p mode increment valid r = r
 
 -- ---- The same rounding again.
-limited_again : (mode : UnsignedRoundingMode) (u n : ℕ) → 0 < u → rounded_number mode u (limited (rounded_number mode u n)) ≡ limited (rounded_number mode u n)
-limited_again mode u n p = elim (cases_lt (rounded_number mode u n) (weight (pos 32768))) [
-  | inl h ↦ let e = limited_small (rounded_number mode u n) h in ap (rounded_number mode u) e ∙ rounded_number-again mode u n p ∙ sym e
-  | inr h ↦ let e = limited_large (rounded_number mode u n) h in ap (rounded_number mode u) e ∙ rounded_number-zero mode u p ∙ sym e
-]
+
+settled : (v : Unsigned) (p : ℤ) (mode : UnsignedRoundingMode) (increment : RoundingIncrement) (m : ℕ) → m < number_limit → rounded_number mode (unit_at increment p) m ≡ m → rounded (with_number v p m) p mode increment ≡ Some (with_number v p m)
+settled v p mode increment m h e =
+    let top = int_max (int_max v.hi (p -ℤ pos 1)) (first m) in
+    let hi : int_max (int_max top (p -ℤ pos 1)) (first m) ≡ top = omega (arith, ints, clamps) in
+    ap (rounded_to (with_number v p m) p) e ∙ rounded_to-small (with_number v p m) p m h
+    ∙ (λ i. Some (record { number = m; hi = hi i; lo = int_min p (pos 0) }))
 
 -- the same rounding again changes nothing
-pub rounded_again : (v : Unsigned) (p : ℤ) (mode : UnsignedRoundingMode) (increment : RoundingIncrement) → rounded (rounded v p mode increment) p mode increment ≡ rounded v p mode increment
-rounded_again v p mode increment =
+pub rounded_again : (v w : Unsigned) (p : ℤ) (mode : UnsignedRoundingMode) (increment : RoundingIncrement) → rounded v p mode increment ≡ Some w → rounded w p mode increment ≡ Some w
+rounded_again v w p mode increment e =
     let u = unit_at increment p in
-    let m = limited (rounded_number mode u v.number) in
-    let n : limited (rounded_number mode u m) ≡ m = ap limited (limited_again mode u v.number (unit_pos increment p)) ∙ limited_limited (rounded_number mode u v.number) in
-    let top = int_max (int_max v.hi (p -ℤ pos 1)) (first m) in
-    let h : int_max (int_max top (p -ℤ pos 1)) (first (limited (rounded_number mode u m))) ≡ top = ap (λ k. int_max (int_max top (p -ℤ pos 1)) (first k)) n ∙ (omega (arith, ints, clamps)) in
-    λ i. record { number = n i; hi = h i; lo = int_min p (pos 0) }
+    let m = rounded_number mode u v.number in
+    elim (cases_lt m number_limit) [
+      | inl h ↦ subst (λ x. rounded x p mode increment ≡ Some x) (same_Some _ _ (sym (rounded_to-small v p m h) ∙ e)) (settled v p mode increment m h (rounded_number-again mode u v.number (unit_pos increment p)))
+      | inr h ↦ absurd (none-some w (sym (rounded_to-large v p m h) ∙ e))
+    ]
 
 -- ---- Two positions.
 coarser : (p q : ℤ) → negsuc 32767 ≤ℤ p → p ≤ℤ q → unit_at MultiplesOf1 q ≡ 10 ^ (place q - place p) * unit_at MultiplesOf1 p
@@ -66,44 +71,30 @@ coarser p q low h =
 
 -- rounding by the coarser unit after the finer one is rounding by the coarser one
 Absorbs : UnsignedRoundingMode → ℕ → Type 0
-Absorbs mode n = (u t : ℕ) → 0 < u → 0 < t * u → limited (rounded_number mode (t * u) (limited (rounded_number mode u n))) ≡ limited (rounded_number mode (t * u) n)
+Absorbs mode n = (u t : ℕ) → 0 < u → 0 < t * u → rounded_number mode (t * u) (rounded_number mode u n) ≡ rounded_number mode (t * u) n
 
-trunc_absorbs : (n : ℕ) → n < weight (pos 32768) → Absorbs Trunc n
+trunc_absorbs : (n : ℕ) → Absorbs Trunc n
 unfolding Absorbs
-trunc_absorbs n l u t p r =
-    let e = limited_small (rounded_number Trunc u n) (omega (arith, trunc_le u n p)) in
-    ap (λ m. limited (rounded_number Trunc (t * u) m)) e ∙ ap limited (trunc-coarser u t n p r)
+trunc_absorbs n u t p r = trunc-coarser u t n p r
 
 expand_absorbs : (n : ℕ) → Absorbs Expand n
 unfolding Absorbs
-expand_absorbs n u t p r = elim (cases_lt (rounded_number Expand u n) (weight (pos 32768))) [
-  | inl h ↦ ap (λ m. limited (rounded_number Expand (t * u) m)) (limited_small (rounded_number Expand u n) h) ∙ ap limited (expand-coarser u t n p r)
-  | inr h ↦
-      let far : weight (pos 32768) ≤ rounded_number Expand (t * u) n = omega (arith, h, expand-le-coarser u t n p r) in
-      ap (λ m. limited (rounded_number Expand (t * u) m)) (limited_large (rounded_number Expand u n) h)
-      ∙ ap limited (rounded_number-zero Expand (t * u) r) ∙ limited_zero ∙ sym (limited_large (rounded_number Expand (t * u) n) far)
-]
-
-finer : (mode : UnsignedRoundingMode) (u t n : ℕ) → 0 < u → 0 < t * u → limited (rounded_number mode u (limited (rounded_number mode (t * u) n))) ≡ limited (rounded_number mode (t * u) n)
-finer mode u t n p r = elim (cases_lt (rounded_number mode (t * u) n) (weight (pos 32768))) [
-  | inl h ↦ let e = limited_small (rounded_number mode (t * u) n) h in ap (λ m. limited (rounded_number mode u m)) e ∙ ap limited (rounded_number-finer u t n p r mode)
-  | inr h ↦ let e = limited_large (rounded_number mode (t * u) n) h in ap (λ m. limited (rounded_number mode u m)) e ∙ ap limited (rounded_number-zero mode u p) ∙ limited_zero ∙ sym e
-]
+expand_absorbs n u t p r = expand-coarser u t n p r
 
 module _ (mode : UnsignedRoundingMode) (n : ℕ) (absorbs : Absorbs mode n) where
   -- the number after a rounding at p, and after one at q then
   once : ℤ → ℕ
-  once p = limited (rounded_number mode (unit_at MultiplesOf1 p) n)
+  once p = rounded_number mode (unit_at MultiplesOf1 p) n
 
   twice : ℤ → ℤ → ℕ
-  twice p q = limited (rounded_number mode (unit_at MultiplesOf1 q) (limited (rounded_number mode (unit_at MultiplesOf1 p) n)))
+  twice p q = rounded_number mode (unit_at MultiplesOf1 q) (rounded_number mode (unit_at MultiplesOf1 p) n)
 
   twice_up : (p q : ℤ) → negsuc 32767 ≤ℤ p → p ≤ℤ q → twice p q ≡ once q
   unfolding once twice Absorbs
   twice_up p q low h =
       let u = unit_at MultiplesOf1 p in
       let e = coarser p q low h in
-      subst (λ k. limited (rounded_number mode k (limited (rounded_number mode u n))) ≡ limited (rounded_number mode k n)) (sym e)
+      subst (λ k. rounded_number mode k (rounded_number mode u n) ≡ rounded_number mode k n) (sym e)
       (absorbs u (10 ^ (place q - place p)) (unit_pos MultiplesOf1 p) (subst (λ k. 0 < k) e (unit_pos MultiplesOf1 q)))
 
   twice_down : (p q : ℤ) → negsuc 32767 ≤ℤ q → q ≤ℤ p → twice p q ≡ once p
@@ -111,52 +102,134 @@ module _ (mode : UnsignedRoundingMode) (n : ℕ) (absorbs : Absorbs mode n) wher
   twice_down p q low h =
       let u = unit_at MultiplesOf1 q in
       let e = coarser q p low h in
-      subst (λ k. limited (rounded_number mode u (limited (rounded_number mode k n))) ≡ limited (rounded_number mode k n)) (sym e)
-      (finer mode u (10 ^ (place p - place q)) n (unit_pos MultiplesOf1 q) (subst (λ k. 0 < k) e (unit_pos MultiplesOf1 p)))
+      subst (λ k. rounded_number mode u (rounded_number mode k n) ≡ rounded_number mode k n) (sym e)
+      (rounded_number-finer u (10 ^ (place p - place q)) n (unit_pos MultiplesOf1 q) (subst (λ k. 0 < k) e (unit_pos MultiplesOf1 p)) mode)
 
   twice_is : (p q : ℤ) → negsuc 32767 ≤ℤ p → negsuc 32767 ≤ℤ q → twice p q ≡ once (int_max p q)
   twice_is p q low low' = by_lt_z p q
       (λ l. twice_up p q low (omega (arith, ints)) ∙ ap once (let e : q ≡ int_max p q = omega (arith, ints, clamps) in e))
       (λ l. twice_down p q low' l ∙ ap once (let e : p ≡ int_max p q = omega (arith, ints, clamps) in e))
 
--- ---- Truncating, and expanding, again.
-module _ (v : Unsigned) (p : ℤ) (low : negsuc 32767 ≤ℤ p) where
-  -- expanding again
-  pub expanded_again : ExpandedAgain v p (expanded v p)
-  unfolding once twice
-  expanded_again q low' = twice_is Expand v.number (expand_absorbs v.number) p q low low'
+-- ---- Expanding again.
 
-  module _ (valid : IsValue v) where
-    absorbs : Absorbs Trunc v.number
-    absorbs = trunc_absorbs v.number (below_limit v p valid)
+-- the number of what a rounding makes that names this multiple
+number_of-rounded_to : (v : Unsigned) (p : ℤ) (n : ℕ) → number_of (rounded_to v p n) ≡ if reaches_limit n then None else Some n
+number_of-rounded_to v p n = elim (cases_lt n number_limit) [
+  | inl h ↦ let t = within n number_limit h in ap number_of (rounded_to-small v p n h) ∙ (rw t refl)
+  | inr h ↦ let t = beyond n number_limit h in ap number_of (rounded_to-large v p n h) ∙ (rw t refl)
+]
 
-    truncated_above : (q : ℤ) → p ≤ℤ q → truncated (truncated v p) q ≡ truncated v q
-    unfolding once twice
-    truncated_above q h =
-        let u = unit_at MultiplesOf1 p in
-        let m = limited (rounded_number Trunc u v.number) in
-        let small : m ≤ v.number = omega (arith, trunc_le u v.number (unit_pos MultiplesOf1 p), below_limit v p valid, limited_small (rounded_number Trunc u v.number)) in
-        let f : first m ≤ℤ v.hi = first_le m v.hi (omega (arith, small, valid.below)) valid.hi_in.0 valid.hi_in.1 in
-        let n : limited (rounded_number Trunc (unit_at MultiplesOf1 q) m) ≡ limited (rounded_number Trunc (unit_at MultiplesOf1 q) v.number) = twice_up Trunc v.number absorbs p q low h in
-        let hi : int_max (int_max (int_max (int_max v.hi (p -ℤ pos 1)) (first m)) (q -ℤ pos 1)) (first (limited (rounded_number Trunc (unit_at MultiplesOf1 q) m))) ≡ int_max (int_max v.hi (q -ℤ pos 1)) (first (limited (rounded_number Trunc (unit_at MultiplesOf1 q) v.number))) =
-        ap (λ k. int_max (int_max (int_max (int_max v.hi (p -ℤ pos 1)) (first m)) (q -ℤ pos 1)) (first k)) n ∙ (omega (arith, ints, clamps, f, h)) in
-        λ i. record { number = n i; hi = hi i; lo = int_min q (pos 0) }
+-- expanding again
+pub expanded_again : (v : Unsigned) (p : ℤ) → negsuc 32767 ≤ℤ p → ExpandedAgain v p
+unfolding once twice
+expanded_again v p low q low' =
+    let n = rounded_number Expand (unit_at MultiplesOf1 p) v.number in
+    let far = rounded_number Expand (unit_at MultiplesOf1 (int_max p q)) v.number in
+    let same : rounded_number Expand (unit_at MultiplesOf1 q) n ≡ far = twice_is Expand v.number (expand_absorbs v.number) p q low low' in
+    elim (cases_lt n number_limit) [
+      | inl h ↦
+          ap (λ o. number_of (option_and_then (λ w. expanded w q) o)) (rounded_to-small v p n h)
+          ∙ number_of-rounded_to (with_number v p n) q (rounded_number Expand (unit_at MultiplesOf1 q) n)
+          ∙ ap (λ k. if reaches_limit k then None else Some k) same
+          ∙ sym (number_of-rounded_to v (int_max p q) far)
+      | inr h ↦
+          let over : number_limit ≤ far = omega (arith, h, same, le_expand (unit_at MultiplesOf1 q) n (unit_pos MultiplesOf1 q)) in
+          ap (λ o. number_of (option_and_then (λ w. expanded w q) o)) (rounded_to-large v p n h)
+          ∙ sym (ap number_of (rounded_to-large v (int_max p q) far over))
+    ]
 
-    -- truncating again
-    pub truncated_again : TruncatedAgain v p (truncated v p)
-    unfolding once twice
-    truncated_again = record {
-      above = truncated_above;
-      number = λ q low'. twice_is Trunc v.number absorbs p q low low';
-    }
+-- ---- Truncating again.
+module _ (v : Unsigned) (p : ℤ) (low : negsuc 32767 ≤ℤ p) (valid : IsValue v) where
+  -- the number that truncating left
+  left : ℕ
+  left = rounded_number Trunc (unit_at MultiplesOf1 p) v.number
+
+  left_le : left ≤ v.number
+  unfolding left
+  left_le = trunc_le (unit_at MultiplesOf1 p) v.number (unit_pos MultiplesOf1 p)
+
+  -- a number that is not above the value's makes a value again
+  truncates : (w : Unsigned) (q : ℤ) → w.number ≤ v.number → truncated w q ≡ with_number w q (rounded_number Trunc (unit_at MultiplesOf1 q) w.number)
+  truncates w q l =
+      let u = unit_at MultiplesOf1 q in
+      let small : rounded_number Trunc u w.number < number_limit = omega (arith, below_limit v p valid, trunc_le u w.number (unit_pos MultiplesOf1 q)) in
+      ap (λ o. unwrap_or o w) (rounded_to-small w q (rounded_number Trunc u w.number) small)
+
+  once_truncated : truncated v p ≡ with_number v p left
+  unfolding left
+  once_truncated = truncates v p (omega arith)
+
+  twice_truncated : (q : ℤ) → truncated (truncated v p) q ≡ with_number (with_number v p left) q (rounded_number Trunc (unit_at MultiplesOf1 q) left)
+  twice_truncated q = ap (λ w. truncated w q) once_truncated ∙ truncates (with_number v p left) q left_le
+
+  truncated_above : (q : ℤ) → p ≤ℤ q → truncated (truncated v p) q ≡ truncated v q
+  unfolding left once twice
+  truncated_above q h =
+      let m = rounded_number Trunc (unit_at MultiplesOf1 q) v.number in
+      let same : rounded_number Trunc (unit_at MultiplesOf1 q) left ≡ m = twice_up Trunc v.number (trunc_absorbs v.number) p q low h in
+      let f : first left ≤ℤ v.hi = first_le left v.hi (omega (arith, left_le, valid.below)) valid.hi_in.0 valid.hi_in.1 in
+      let hi : int_max (int_max (int_max (int_max v.hi (p -ℤ pos 1)) (first left)) (q -ℤ pos 1)) (first m) ≡ int_max (int_max v.hi (q -ℤ pos 1)) (first m) = omega (arith, ints, clamps, f, h) in
+      twice_truncated q
+      ∙ ap (with_number (with_number v p left) q) same
+      ∙ (λ i. record { number = m; hi = hi i; lo = int_min q (pos 0) })
+      ∙ sym (truncates v q (omega arith))
+
+  truncated_number : (q : ℤ) → negsuc 32767 ≤ℤ q → (truncated (truncated v p) q).number ≡ (truncated v (int_max p q)).number
+  unfolding left once twice
+  truncated_number q low' =
+      ap (λ (w : Unsigned). w.number) (twice_truncated q)
+      ∙ twice_is Trunc v.number (trunc_absorbs v.number) p q low low'
+      ∙ sym (ap (λ (w : Unsigned). w.number) (truncates v (int_max p q) (omega arith)))
+
+  -- truncating again
+  pub truncated_again : TruncatedAgain v p (truncated v p)
+  truncated_again = record { above = truncated_above; number = truncated_number }
 
 -- ---- Order.
-pub rounds_in_order : (v w : Unsigned) (p : ℤ) (mode : UnsignedRoundingMode) (increment : RoundingIncrement) → RoundsInOrder v w p mode increment
-rounds_in_order v w p mode increment le fits =
-    let u = unit_at increment p in
-    let m = rounded_number-monotone mode u v.number w.number (unit_pos increment p) le in
-    let b : rounded_number mode u w.number < weight (pos 32768) = small (weight (pos 32768)) _ fits in
-    omega (arith, m, limited_small (rounded_number mode u v.number) (omega (arith, m, b)), limited_small (rounded_number mode u w.number) b)
+
+-- the number that stands after a rounding: the multiple, or the old number where that one reaches the limit
+abbrev pub standing : UnsignedRoundingMode → ℕ → ℕ → ℕ
+standing mode u n = if reaches_limit (rounded_number mode u n) then n else rounded_number mode u n
+
+-- it is the number of what stands after a rounding
+pub number-after_rounding : (v : Unsigned) (p : ℤ) (mode : UnsignedRoundingMode) (increment : RoundingIncrement) → (after_rounding v p mode increment).number ≡ standing mode (unit_at increment p) v.number
+number-after_rounding v p mode increment = at (reaches_limit (rounded_number mode (unit_at increment p) v.number)) (rounded_number mode (unit_at increment p) v.number)
   where
-    small : (limit n : ℕ) → nat_le limit n ≡ false → n < limit
-    small limit n e = grind (arith, nat_tests, e)
+    at : (t : Bool) (n : ℕ) → (unwrap_or (if t then None else Some (with_number v p n)) v).number ≡ if t then v.number else n
+    at true n = refl
+    at false n = refl
+
+module _ (mode : UnsignedRoundingMode) (u : ℕ) (pos_u : 0 < u) where
+  standing-small : (n : ℕ) → rounded_number mode u n < number_limit → standing mode u n ≡ rounded_number mode u n
+  standing-small n h = let t = within (rounded_number mode u n) number_limit h in rw t refl
+
+  standing-large : (n : ℕ) → number_limit ≤ rounded_number mode u n → standing mode u n ≡ n
+  standing-large n h = let t = beyond (rounded_number mode u n) number_limit h in rw t refl
+
+  -- 0 stays 0
+  pub standing-zero : standing mode u 0 ≡ 0
+  standing-zero =
+      let z = rounded_number-zero mode u pos_u in
+      standing-small 0 (omega (arith, z, ten_pos (place (pos 32768)))) ∙ z
+
+  -- a greater number leaves no less: one below the lesser number's multiple is rounded to no more than that one, and so
+  -- is not refused where that is not
+  pub standing-monotone : (n m : ℕ) → n ≤ m → standing mode u n ≤ standing mode u m
+  standing-monotone n m l = elim (cases_lt (rounded_number mode u m) number_limit) [
+    | inl k ↦ let h : rounded_number mode u n < number_limit = omega (arith, up) in omega (arith, up, standing-small n h, standing-small m k)
+    | inr k ↦ elim (cases_lt (rounded_number mode u n) number_limit) [
+      | inl h ↦ elim (cases_lt m (rounded_number mode u n)) [
+        | inl g ↦ absurd (omega (arith, h, k, rounded_number-again mode u n pos_u, rounded_number-monotone mode u m (rounded_number mode u n) pos_u (omega arith)))
+        | inr g ↦ omega (arith, g, standing-small n h, standing-large m k)
+      ]
+      | inr h ↦ omega (arith, l, standing-large n h, standing-large m k)
+    ]
+  ]
+    where
+      up : rounded_number mode u n ≤ rounded_number mode u m
+      up = rounded_number-monotone mode u n m pos_u l
+
+-- what stands after a rounding of the greater number is no less
+pub rounds_in_order : (v w : Unsigned) (p : ℤ) (mode : UnsignedRoundingMode) (increment : RoundingIncrement) → RoundsInOrder v w p mode increment
+rounds_in_order v w p mode increment l =
+    omega (arith, number-after_rounding v p mode increment, number-after_rounding w p mode increment, standing-monotone mode (unit_at increment p) (unit_pos increment p) v.number w.number l)

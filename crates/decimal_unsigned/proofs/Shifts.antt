@@ -1,6 +1,6 @@
 -- A value times a power of ten.
 use Rattle.std.proofs.Common.{◌≡◌, ℕ, suc, ◌+◌, ◌-◌, ◌*◌, ◌/◌, ◌^◌, ◌<◌, ◌≤◌, true, false, ◌||◌, List, length, refl, sym, ◌∙◌, ap, arith, inl, inr, ◌⊎◌}
-use Rattle.std.specs.Prelude.{ℤ, pos, negsuc, ◌+ℤ◌, ◌≤ℤ◌, ◌<ℤ◌, int_lt}
+use Rattle.std.specs.Prelude.{Some, None, ℤ, pos, negsuc, ◌+ℤ◌, ◌≤ℤ◌, ◌<ℤ◌, int_lt}
 use Rattle.std.specs.Int.{int_max, int_min}
 use Rattle.std.proofs.Math.Nat.{zero-div}
 use Rattle.std.proofs.lemmas.Nat.{pow-add}
@@ -8,7 +8,7 @@ use Rattle.std.proofs.lemmas.Int.{ints, clamps}
 use Rattle.std.proofs.lemmas.Bool.{cases_lt}
 use Rattle.std.specs.Int.Digits.{number_from_digits}
 use Rattle.decimal_digits.specs.Number.{place}
-use Rattle.decimal_unsigned.specs.Unsigned.{Unsigned, zero_value}
+use Rattle.decimal_unsigned.specs.Unsigned.{Unsigned}
 use Rattle.decimal_digits.specs.Digits.{number_of, number_at}
 use Rattle.decimal_unsigned.specs.Fields.{IsStored}
 use Rattle.decimal_unsigned.specs.Edits.{leaves_limits, multiplied, shifted}
@@ -96,13 +96,13 @@ stays_in v d h l =
     rw (a, b) refl
 
 -- they make the shifted value
-pub shifted_is : {ds : List ℕ} {m hi lo m' hi' lo' : ℤ} (d : ℤ) → IsStored ds m hi lo → Moves ds m hi lo d m' hi' lo' → record { number = number_of ds m'; hi = hi'; lo = lo' } ≡ shifted (record { number = number_of ds m; hi = hi; lo = lo }) d
+pub shifted_is : {ds : List ℕ} {m hi lo m' hi' lo' : ℤ} (d : ℤ) → IsStored ds m hi lo → Moves ds m hi lo d m' hi' lo' → shifted (record { number = number_of ds m; hi = hi; lo = lo }) d ≡ Some (record { number = number_of ds m'; hi = hi'; lo = lo' })
 shifted_is {ds} {m} {hi} {lo} d t s =
     let test = stays_in (record { number = number_of ds m; hi = hi; lo = lo }) d s.hi_fits s.lo_fits in
-    rw test (multiplied_is d t s)
+    rw test (ap Some (sym (multiplied_is d t s)))
 
--- the range would not fit
-pub shifted_over : {ds : List ℕ} {m hi lo : ℤ} (n : ℕ) (d : ℤ) → IsStored ds m hi lo → (pos 32767 <ℤ (hi +ℤ d)) ⊎ ((lo +ℤ d) <ℤ negsuc 32767) → shifted (record { number = n; hi = hi; lo = lo }) d ≡ zero_value
+-- a range that would not fit makes none
+pub shifted_over : {ds : List ℕ} {m hi lo : ℤ} (n : ℕ) (d : ℤ) → IsStored ds m hi lo → (pos 32767 <ℤ (hi +ℤ d)) ⊎ ((lo +ℤ d) <ℤ negsuc 32767) → shifted (record { number = n; hi = hi; lo = lo }) d ≡ None
 shifted_over {ds} {m} {hi} {lo} n d t o = rw leaves refl
   where
     leaves : leaves_limits (record { number = n; hi = hi; lo = lo }) d ≡ true

@@ -1,14 +1,14 @@
 -- Laws of the calls that change a value.
-use Rattle.std.specs.Prelude.{◌≡◌, ◌≤◌, ◌↔◌, false, length, ℤ, pos, negsuc, ◌+ℤ◌, ◌≤ℤ◌}
+use Rattle.std.specs.Prelude.{◌≡◌, ◌≤◌, ◌↔◌, ℕ, false, length, Option, option_map, option_and_then, ℤ, pos, negsuc, ◌+ℤ◌, ◌≤ℤ◌}
+use Rattle.std.specs.Option.{unwrap_or}
 use Rattle.std.specs.Int.{int_max}
-use Rattle.decimal_digits.specs.Rounding.{unit_at, rounded_number}
 use Rattle.decimal_digits.specs.declared.rounding.RoundingIncrement.{RoundingIncrement}
 use Rattle.decimal_digits.specs.declared.rounding.UnsignedRoundingMode.{UnsignedRoundingMode}
 use Rattle.decimal_digits.specs.declared.rounding.RoundingIncrement.TheVariants.{MultiplesOf1}
 use Rattle.decimal_digits.specs.declared.rounding.UnsignedRoundingMode.TheVariants.{Expand, Trunc}
 use Rattle.decimal_unsigned.specs.Unsigned.{Unsigned, IsValue}
 use Rattle.decimal_unsigned.specs.Edits.{trimmed_start, trimmed_end}
-use Rattle.decimal_unsigned.specs.Rounded.{reaches_limit, rounded}
+use Rattle.decimal_unsigned.specs.Rounded.{rounded}
 use Rattle.decimal_unsigned.specs.Joining.{overlaps, joined}
 use Rattle.decimal_unsigned.specs.Text.{text}
 
@@ -28,9 +28,13 @@ IsShortest v = (w : Unsigned) → IsValue w → w.number ≡ v.number → length
 
 -- ---- The parts of a value at a position.
 
--- the value rounded toward zero at a position
+-- what stands after a rounding: the rounded value, or the old one where there is none
+abbrev pub after_rounding : Unsigned → ℤ → UnsignedRoundingMode → RoundingIncrement → Unsigned
+after_rounding v p mode increment = unwrap_or (rounded v p mode increment) v
+
+-- what stands after a rounding toward zero at a position
 abbrev pub truncated : Unsigned → ℤ → Unsigned
-truncated v p = rounded v p Trunc MultiplesOf1
+truncated v p = after_rounding v p Trunc MultiplesOf1
 
 -- the parts at and below a position can be joined, and have the number together; where the position lies in the range
 -- or at one of its ends, they make the value itself
@@ -41,9 +45,13 @@ pub record PartsJoin (v : Unsigned) (p : ℤ) (upper lower : Unsigned) : Type 0 
 
 -- ---- Roundings.
 
--- the value rounded away from zero at a position
-abbrev pub expanded : Unsigned → ℤ → Unsigned
+-- the value rounded away from zero at a position, or none
+abbrev pub expanded : Unsigned → ℤ → Option Unsigned
 expanded v p = rounded v p Expand MultiplesOf1
+
+-- the number, where there is a value
+abbrev pub number_of : Option Unsigned → Option ℕ
+number_of = option_map (λ v. v.number)
 
 -- what truncating a value at p left, truncated at a position at or above p, is the value truncated there; and at any
 -- position it leaves the number of the value truncated at the higher of the two
@@ -51,13 +59,14 @@ pub record TruncatedAgain (v : Unsigned) (p : ℤ) (new : Unsigned) : Type 0 whe
   pub above : (q : ℤ) → p ≤ℤ q → truncated new q ≡ truncated v q
   pub number : (q : ℤ) → negsuc 32767 ≤ℤ q → (truncated new q).number ≡ (truncated v (int_max p q)).number
 
--- expanded at any position, what expanding a value at p left has the number of the value expanded at the higher one
-abbrev pub ExpandedAgain : Unsigned → ℤ → Unsigned → Type 0
-ExpandedAgain v p new =
-    (q : ℤ) → negsuc 32767 ≤ℤ q → (expanded new q).number ≡ (expanded v (int_max p q)).number
+-- expanding a value at p and then at any position makes none exactly where expanding it at the higher of the two does,
+-- and else has its number
+abbrev pub ExpandedAgain : Unsigned → ℤ → Type 0
+ExpandedAgain v p =
+    (q : ℤ) → negsuc 32767 ≤ℤ q
+    → number_of (option_and_then (λ w. expanded w q) (expanded v p)) ≡ number_of (expanded v (int_max p q))
 
--- the greater number, where it stays below the limit, is rounded to no less than the other
+-- what stands after a rounding of the greater number is no less than what stands after one of the other
 abbrev pub RoundsInOrder : Unsigned → Unsigned → ℤ → UnsignedRoundingMode → RoundingIncrement → Type 0
 RoundsInOrder v w p mode increment =
-    v.number ≤ w.number → reaches_limit (rounded_number mode (unit_at increment p) w.number) ≡ false
-    → (rounded v p mode increment).number ≤ (rounded w p mode increment).number
+    v.number ≤ w.number → (after_rounding v p mode increment).number ≤ (after_rounding w p mode increment).number

@@ -1,8 +1,8 @@
 -- What the calls that change a value make of it.
-use Rattle.std.specs.Prelude.{ℕ, suc, ◌*◌, ◌/◌, ◌%◌, ◌^◌, Bool, ◌||◌, if◌then◌else◌, ℤ, pos, negsuc, ◌+ℤ◌, ◌-ℤ◌, int_lt}
+use Rattle.std.specs.Prelude.{ℕ, suc, ◌*◌, ◌/◌, ◌%◌, ◌^◌, Bool, ◌||◌, if◌then◌else◌, Option, Some, None, ℤ, pos, negsuc, ◌+ℤ◌, ◌-ℤ◌, int_lt}
 use Rattle.std.specs.Int.{int_max, int_min}
 use Rattle.decimal_digits.specs.Number.{weight, first, last}
-use Rattle.decimal_unsigned.specs.Unsigned.{Unsigned, zero_value}
+use Rattle.decimal_unsigned.specs.Unsigned.{Unsigned}
 
 -- the shown range, moved by d, would leave the magnitudes -32768 to 32767
 abbrev pub leaves_limits : Unsigned → ℤ → Bool
@@ -21,9 +21,9 @@ multiplied v d = record {
   lo = int_min (v.lo +ℤ d) (pos 0);
 }
 
--- a shift: zero where the range would leave the limits
-abbrev pub shifted : Unsigned → ℤ → Unsigned
-shifted v d = if leaves_limits v d then zero_value else multiplied v d
+-- a shift: none where the range would leave the limits
+abbrev pub shifted : Unsigned → ℤ → Option Unsigned
+shifted v d = if leaves_limits v d then None else Some (multiplied v d)
 
 -- no zero is shown in front of the first digit, or of magnitude 0
 abbrev pub trimmed_start : Unsigned → Unsigned

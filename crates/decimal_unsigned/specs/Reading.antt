@@ -63,11 +63,12 @@ after_digits text = drop (prefix_len is_ascii_digit text) text
 unfoldable pub numeral_of : List ℕ → Option ℕ
 numeral_of text = if nat_lt 0 (length text) && all_ascii_digits text then Some (digits_value 10 text) else None
 
--- the exponent, which may have a minus, 45, in front
+-- the exponent, which may have one sign in front: a minus, 45, or a plus, 43
 unfoldable pub exponent_of : List ℕ → Option ℤ
 exponent_of [] = option_map pos (numeral_of [])
 exponent_of (c ∷ rest) =
     if c == 45 then option_map (λ n. neg_ℤ (pos n)) (numeral_of rest)
+    else if c == 43 then option_map pos (numeral_of rest)
     else option_map pos (numeral_of (c ∷ rest))
 
 -- e or E

@@ -1,8 +1,10 @@
 -- What a rounding makes of a value.
-use Rattle.std.specs.Prelude.{◌≡◌, ℕ, Bool, nat_le, if◌then◌else◌, ℤ, pos, ◌-ℤ◌}
+use Rattle.std.specs.Prelude.{◌≡◌, ℕ, Bool, nat_le, if◌then◌else◌, Option, Some, None, ℤ, pos, ◌-ℤ◌}
 use Rattle.std.specs.Int.{int_max, int_min}
 use Rattle.decimal_digits.specs.Number.{weight, first, size}
 use Rattle.decimal_digits.specs.Rounding.{unit_at, Named, rounded_number, WantsMemory}
+use Rattle.decimal_digits.specs.declared.rounding.RoundError.{RoundError}
+use Rattle.decimal_digits.specs.declared.rounding.RoundError.TheVariants.{Limit, Memory}
 use Rattle.decimal_digits.specs.declared.rounding.RoundingIncrement.{RoundingIncrement}
 use Rattle.decimal_digits.specs.declared.rounding.UnsignedRoundingMode.{UnsignedRoundingMode}
 use Rattle.decimal_unsigned.specs.Unsigned.{Unsigned, IsValue}
@@ -20,30 +22,36 @@ with_number v position number = record {
   lo = int_min position (pos 0);
 }
 
--- what stands after a rounding at the position that names this multiple: 0 where it reaches the limit
-abbrev pub rounded_to : Unsigned → ℤ → ℕ → Unsigned
-rounded_to v position number = with_number v position (if reaches_limit number then 0 else number)
+-- what a rounding at the position that names this multiple makes: none where it reaches the limit
+abbrev pub rounded_to : Unsigned → ℤ → ℕ → Option Unsigned
+rounded_to v position number = if reaches_limit number then None else Some (with_number v position number)
 
--- the rounded value, by the remainder of the number
-abbrev pub rounded : Unsigned → ℤ → UnsignedRoundingMode → RoundingIncrement → Unsigned
+-- the rounded value, by the remainder of the number, or none
+abbrev pub rounded : Unsigned → ℤ → UnsignedRoundingMode → RoundingIncrement → Option Unsigned
 rounded v position mode increment = rounded_to v position (rounded_number mode (unit_at increment position) v.number)
 
--- the new value has the multiple that the mode names among all multiples
-abbrev pub NamesRounded : Unsigned → ℤ → UnsignedRoundingMode → RoundingIncrement → Unsigned → Type 0
+-- this is what the multiple makes that the mode names among all multiples
+abbrev pub NamesRounded : Unsigned → ℤ → UnsignedRoundingMode → RoundingIncrement → Option Unsigned → Type 0
 NamesRounded old position mode increment new =
-    (m : ℕ) × Named mode (unit_at increment position) old.number m × (new ≡ rounded_to old position m)
+    (m : ℕ) × Named mode (unit_at increment position) old.number m × (rounded_to old position m ≡ new)
 
--- the new value is the old one, which lies in the limits, rounded: by the remainder of its number, and to the multiple
--- that the mode names
+-- a rounding of the old value, which lies in the limits, makes this value, or none: by the remainder of its number, and
+-- by the multiple that the mode names
 pub record IsRounded
-    (old : Unsigned) (position : ℤ) (mode : UnsignedRoundingMode) (increment : RoundingIncrement) (new : Unsigned)
-    : Type 0 where
+    (old : Unsigned) (position : ℤ) (mode : UnsignedRoundingMode) (increment : RoundingIncrement)
+    (new : Option Unsigned) : Type 0 where
   pub valid : IsValue old
-  pub value : new ≡ rounded old position mode increment
+  pub value : rounded old position mode increment ≡ new
   pub named : NamesRounded old position mode increment new
 
 -- the one want of memory of a rounding: by 25, of a number that has as many digits as are held without memory, or more,
--- and that gets one digit more
+-- and that gets one digit more and stays below the limit
 abbrev pub RoundingWantsMemory : ℕ → Unsigned → ℤ → UnsignedRoundingMode → RoundingIncrement → Type 0
 RoundingWantsMemory held old position mode increment =
     WantsMemory increment (size old.number) (rounded_number mode (unit_at increment position) old.number) held
+
+-- why a rounding leaves the value as it was: it makes none, or one digit more wants memory
+abbrev pub RoundingRefuses :
+    ℕ → RoundError → Unsigned → ℤ → UnsignedRoundingMode → RoundingIncrement → Type 0
+RoundingRefuses held Limit old position mode increment = IsRounded old position mode increment None
+RoundingRefuses held Memory old position mode increment = RoundingWantsMemory held old position mode increment

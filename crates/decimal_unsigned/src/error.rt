@@ -5,9 +5,10 @@ ghost use Rattle.decimal_unsigned.specs.ErrorText.{error_text};
 use std::error::Error;
 use std::fmt;
 
-/// Says that a value is beyond the limits of a type: `5.0` shows a digit behind the dot, and is no `FixedInteger`.
+/// Says that a value is beyond the limits of a type, or would be after a shift or a rounding.
 ///
-/// The original's `LimitError`.
+/// `5.0` shows a digit behind the dot, and is no `FixedInteger`; `10` times 10 to the 32767 would show the magnitude
+/// 32768. What was to be changed is as it was. The original's `LimitError`, which no shift and no rounding answers.
 #[derive(Clone, Copy, Debug, PartialEq)]
 pub struct LimitError;
 

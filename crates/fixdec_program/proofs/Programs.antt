@@ -92,6 +92,7 @@ told_error words first calls (error.Operand at parse.Syntax) l is h p = runs_if 
 told_error words first calls (error.Operand at parse.Limit) l is h p = runs_if words first calls _ l is h p
 told_error words first calls (error.Operand at parse.Memory) l is h p = runs_if words first calls MayWantMemory l is h (inl (reaches_some (string_bytes first) calls at _ _ p))
 told_error words first calls (error.Overlap at) l is h p = runs_if words first calls _ l is h p
+told_error words first calls (error.Limit at) l is h p = runs_if words first calls _ l is h p
 told_error words first calls (error.Memory at) l is h p = runs_if words first calls MayWantMemory l is h (inl (reaches_some (string_bytes first) calls at _ _ p))
 told_error words first calls error.Sink l is h p = runs_if words first calls _ l is h p
 
@@ -103,6 +104,7 @@ sink_if (error.Operand at parse.Syntax) h = cc
 sink_if (error.Operand at parse.Limit) h = cc
 sink_if (error.Operand at parse.Memory) h = cc
 sink_if (error.Overlap at) h = cc
+sink_if (error.Limit at) h = cc
 sink_if (error.Memory at) h = cc
 sink_if error.Sink h = refl
 

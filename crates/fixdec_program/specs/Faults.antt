@@ -7,7 +7,7 @@ use Rattle.fixed_decimal.specs.declared.runs.RunError.TheVariants as error
 use Rattle.fixdec_program.specs.declared.fault.TextFault.{TextFault}
 use Rattle.fixdec_program.specs.declared.fault.TextFault.TheVariants.{Syntax, Limit}
 use Rattle.fixdec_program.specs.declared.fault.Fault.{Fault}
-use Rattle.fixdec_program.specs.declared.fault.Fault.TheVariants.{Usage, Start, Operand, Overlap, Memory, Output}
+use Rattle.fixdec_program.specs.declared.fault.Fault.TheVariants.{Usage, Start, Operand, Overlap, Overflow, Memory, Output}
 
 -- the status of a fault
 abbrev pub status_of : Fault → ℕ
@@ -15,6 +15,7 @@ status_of Usage = 2
 status_of (Start fault) = 1
 status_of (Operand at fault) = 1
 status_of (Overlap at) = 1
+status_of (Overflow at) = 1
 status_of Memory = 3
 status_of Output = 3
 
@@ -29,6 +30,7 @@ message Usage = codes "usage: fixdec TEXT [CALL].."
 message (Start fault) = codes "start: " ++ fault_word fault
 message (Operand at fault) = codes "call " ++ (decimal at ++ (codes ": " ++ fault_word fault))
 message (Overlap at) = codes "call " ++ (decimal at ++ codes ": overlap")
+message (Overflow at) = codes "call " ++ (decimal at ++ codes ": overflow")
 message Memory = codes "memory"
 message Output = codes "output"
 
@@ -45,5 +47,6 @@ fault_of (error.Operand at parse.Syntax) = Operand at Syntax
 fault_of (error.Operand at parse.Limit) = Operand at Limit
 fault_of (error.Operand at parse.Memory) = Memory
 fault_of (error.Overlap at) = Overlap at
+fault_of (error.Limit at) = Overflow at
 fault_of (error.Memory at) = Memory
 fault_of error.Sink = Output

@@ -8,10 +8,10 @@ use Rattle.decimal_unsigned.specs.Reading.{syntax, limit}
 use Rattle.decimal_unsigned.specs.declared.decimal.TheConstants.{DIGITS_IN_PLACE}
 use Rattle.fixed_decimal.specs.declared.runs.Call.{Call}
 use Rattle.fixed_decimal.specs.DecimalText.{read_decimal, IsLong}
-use Rattle.fixed_decimal.specs.Outcome.{Refusal, outcome, start, operand, overlap}
+use Rattle.fixed_decimal.specs.Outcome.{Refusal, outcome, start, operand, overlap, overflow}
 use Rattle.fixdec_program.specs.declared.fault.TextFault.TheVariants.{Syntax, Limit}
 use Rattle.fixdec_program.specs.declared.fault.Fault.{Fault}
-use Rattle.fixdec_program.specs.declared.fault.Fault.TheVariants.{Usage, Start, Operand, Overlap, Memory, Output}
+use Rattle.fixdec_program.specs.declared.fault.Fault.TheVariants.{Usage, Start, Operand, Overlap, Overflow, Memory, Output}
 use Rattle.fixdec_program.specs.Words.{Names}
 
 -- the words name these calls, one by one
@@ -65,5 +65,6 @@ Tells words (Start Limit) = ComesTo words (Err (start limit))
 Tells words (Operand at Syntax) = ComesTo words (Err (operand at syntax))
 Tells words (Operand at Limit) = ComesTo words (Err (operand at limit))
 Tells words (Overlap at) = ComesTo words (Err (overlap at))
+Tells words (Overflow at) = ComesTo words (Err (overflow at))
 Tells words Memory = Runs words MayWantMemory
 Tells words Output = Runs words (λ bytes calls. IsOk (outcome bytes calls))

@@ -74,10 +74,13 @@ fn print<O: Write>(alloc: Global, words: &[String], out: &mut Out<O>) -> Result<
 /// six digits, with a value of -32768 to 32767.
 ///
 /// Status 0: the text and a line feed were printed, and the writer was flushed. Else one line goes to `err`: with
-/// status 1 `start: syntax`, `start: limit`, `call K: syntax`, `call K: limit` or `call K: overlap`, the calls counted
-/// from 0, and nothing is printed; with status 2 the usage line, where there is no start or a word is no call, and
-/// nothing is printed; with status 3 `memory`, where memory was refused, and nothing is printed, or `output`, where
-/// `out` refused a byte or its flush failed. A fault of `err` changes no status. Not in the original.
+/// status 1 `start: syntax`, `start: limit`, `call K: syntax`, `call K: limit`, `call K: overlap` or
+/// `call K: overflow`, the calls counted from 0, and nothing is printed; with status 2 the usage line, where there is
+/// no start or a word is no call, and nothing is printed; with status 3 `memory`, where memory was refused, and nothing
+/// is printed, or `output`, where `out` refused a byte or its flush failed. A fault of `err` changes no status.
+///
+/// `call K: limit` is a text to join whose value is beyond the limits, and `call K: overflow` a shift that would show a
+/// magnitude outside -32768 to 32767 or a rounding that would make 10 to the 32768 or more. Not in the original.
 pub fn program<O: Write, E: Write>(
     alloc: Global,
     words: &[String],

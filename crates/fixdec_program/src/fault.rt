@@ -40,6 +40,7 @@ pub enum Fault {
     Start(TextFault),
     Operand { at: usize, fault: TextFault },
     Overlap { at: usize },
+    Overflow { at: usize },
     Memory,
     Output,
 }
@@ -56,6 +57,7 @@ impl fmt::Display for Fault {
             Fault::Start(fault) => write!(f, "start: {fault}"),
             Fault::Operand { at, fault } => write!(f, "call {at}: {fault}"),
             Fault::Overlap { at } => write!(f, "call {at}: overlap"),
+            Fault::Overflow { at } => write!(f, "call {at}: overflow"),
             Fault::Memory => write!(f, "memory"),
             Fault::Output => write!(f, "output"),
         }
@@ -80,7 +82,10 @@ impl Fault {
         ensures { result ≡ status_of self.now }
     {
         match self {
-            Fault::Start(_) | Fault::Operand { .. } | Fault::Overlap { .. } => 1,
+            Fault::Start(_)
+            | Fault::Operand { .. }
+            | Fault::Overlap { .. }
+            | Fault::Overflow { .. } => 1,
             Fault::Usage => 2,
             Fault::Memory | Fault::Output => 3,
         }
@@ -146,6 +151,7 @@ impl From<RunError> for Fault {
                 fault: TextFault::Limit,
             },
             RunError::Overlap { at } => Fault::Overlap { at },
+            RunError::Limit { at } => Fault::Overflow { at },
             RunError::Sink => Fault::Output,
             RunError::Start(ParseError::Memory)
             | RunError::Operand {

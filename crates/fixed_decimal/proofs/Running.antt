@@ -9,7 +9,7 @@ use Rattle.fixed_decimal.specs.Decimal.{Decimal}
 use Rattle.decimal_unsigned.specs.declared.error.ParseError.TheVariants as parse
 use Rattle.fixed_decimal.specs.declared.runs.Call.{Call}
 use Rattle.fixed_decimal.specs.declared.runs.RunError.{RunError}
-use Rattle.fixed_decimal.specs.declared.runs.RunError.TheVariants.{Start, Operand, Overlap, Memory, Sink}
+use Rattle.fixed_decimal.specs.declared.runs.RunError.TheVariants.{Start, Operand, Overlap, Limit, Memory, Sink}
 use Rattle.fixed_decimal.specs.Outcome.{Refusal, and_then, step, after_calls}
 use Rattle.fixed_decimal.specs.Errors.{Comes}
 use Rattle.fixed_decimal.specs.Calls.{CallRefuses, CallsRefuse}
@@ -65,6 +65,7 @@ module _ {first v : Decimal} {calls : List Call} {at : ℕ} (i : IsAt first call
   refused held (Operand k parse.Syntax) r = rw r.0 (stops _ r.1)
   refused held (Operand k parse.Memory) r = rw r.0 (v, get_or calls at d, comes, r.1)
   refused held (Overlap k) r = rw r.0 (stops _ r.1)
+  refused held (Limit k) r = rw r.0 (stops _ r.1)
   refused held (Memory k) r = rw r.0 (v, get_or calls at d, comes, r.1)
   refused held (Start fault) r = absurd r
   refused held Sink r = absurd r

@@ -6,8 +6,8 @@ use Rattle.decimal_unsigned.specs.declared.error.ParseError.TheVariants as parse
 use Rattle.fixed_decimal.specs.Decimal.{Decimal}
 use Rattle.fixed_decimal.specs.declared.runs.Call.{Call}
 use Rattle.fixed_decimal.specs.declared.runs.RunError.{RunError}
-use Rattle.fixed_decimal.specs.declared.runs.RunError.TheVariants.{Start, Operand, Overlap, Memory, Sink}
-use Rattle.fixed_decimal.specs.Outcome.{operand, overlap, step, after_calls}
+use Rattle.fixed_decimal.specs.declared.runs.RunError.TheVariants.{Start, Operand, Overlap, Limit, Memory, Sink}
+use Rattle.fixed_decimal.specs.Outcome.{operand, overlap, overflow, step, after_calls}
 use Rattle.fixed_decimal.specs.Errors.{Reaches, HasLongOperand, MayWantMemory}
 
 -- the error is that of the call with this number, made of v
@@ -16,6 +16,7 @@ CallRefuses held (Operand k parse.Limit) at v call = (k ≡ at) × (step at v ca
 CallRefuses held (Operand k parse.Syntax) at v call = (k ≡ at) × (step at v call ≡ Err (operand at syntax))
 CallRefuses held (Operand k parse.Memory) at v call = (k ≡ at) × HasLongOperand held call
 CallRefuses held (Overlap k) at v call = (k ≡ at) × (step at v call ≡ Err (overlap at))
+CallRefuses held (Limit k) at v call = (k ≡ at) × (step at v call ≡ Err (overflow at))
 CallRefuses held (Memory k) at v call = (k ≡ at) × MayWantMemory held v call
 CallRefuses held (Start fault) at v call = ⊥
 CallRefuses held Sink at v call = ⊥
@@ -26,6 +27,7 @@ CallsRefuse held (Operand at parse.Limit) first calls = after_calls 0 first call
 CallsRefuse held (Operand at parse.Syntax) first calls = after_calls 0 first calls ≡ Err (operand at syntax)
 CallsRefuse held (Operand at parse.Memory) first calls = Reaches first calls at (λ v call. HasLongOperand held call)
 CallsRefuse held (Overlap at) first calls = after_calls 0 first calls ≡ Err (overlap at)
+CallsRefuse held (Limit at) first calls = after_calls 0 first calls ≡ Err (overflow at)
 CallsRefuse held (Memory at) first calls = Reaches first calls at (MayWantMemory held)
 CallsRefuse held (Start fault) first calls = ⊥
 CallsRefuse held Sink first calls = ⊥

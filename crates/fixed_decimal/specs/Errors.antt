@@ -10,8 +10,8 @@ use Rattle.fixed_decimal.specs.DecimalText.{read_decimal, IsLong}
 use Rattle.fixed_decimal.specs.declared.runs.Call.{Call}
 use Rattle.fixed_decimal.specs.declared.runs.Call.TheVariants.{Round, Concatenate}
 use Rattle.fixed_decimal.specs.declared.runs.RunError.{RunError}
-use Rattle.fixed_decimal.specs.declared.runs.RunError.TheVariants.{Start, Operand, Overlap, Memory, Sink}
-use Rattle.fixed_decimal.specs.Outcome.{start, operand, overlap, after_calls, outcome}
+use Rattle.fixed_decimal.specs.declared.runs.RunError.TheVariants.{Start, Operand, Overlap, Limit, Memory, Sink}
+use Rattle.fixed_decimal.specs.Outcome.{start, operand, overlap, overflow, after_calls, outcome}
 
 -- the calls before the one with this number make v of the first value, and then comes this call
 pub record Comes (first : Decimal) (calls : List Call) (at : ℕ) (v : Decimal) (call : Call) : Type 0 where
@@ -47,5 +47,6 @@ RunRefuses held (Operand at parse.Limit) bytes calls = outcome bytes calls ≡ E
 RunRefuses held (Operand at parse.Syntax) bytes calls = outcome bytes calls ≡ Err (operand at syntax)
 RunRefuses held (Operand at parse.Memory) bytes calls = RunReaches bytes calls at (λ _ call. HasLongOperand held call)
 RunRefuses held (Overlap at) bytes calls = outcome bytes calls ≡ Err (overlap at)
+RunRefuses held (Limit at) bytes calls = outcome bytes calls ≡ Err (overflow at)
 RunRefuses held (Memory at) bytes calls = RunReaches bytes calls at (MayWantMemory held)
 RunRefuses held Sink bytes calls = IsOk (outcome bytes calls)

@@ -1,5 +1,5 @@
 -- Laws of whole runs.
-use Rattle.std.specs.Prelude.{◌≡◌, ℕ, List, [], ◌∷◌, ◌++◌, map, Result, Ok, Err, IsOkAnd, ⊤, ℤ, negsuc, ◌≤ℤ◌}
+use Rattle.std.specs.Prelude.{◌≡◌, ℕ, List, [], ◌∷◌, ◌++◌, map, Option, Some, None, Result, Ok, Err, IsSome, ⊤, ℤ, negsuc, ◌≤ℤ◌}
 use Rattle.std.specs.List.{All, fold}
 use Rattle.std.specs.Int.{int_max}
 use Rattle.decimal_digits.specs.declared.rounding.RoundingIncrement.TheVariants.{MultiplesOf1}
@@ -13,7 +13,7 @@ use Rattle.fixed_decimal.specs.declared.runs.Call.{Call}
 use Rattle.fixed_decimal.specs.declared.runs.Call.TheVariants.{Round}
 use Rattle.fixed_decimal.specs.declared.runs.RunError.{RunError}
 use Rattle.fixed_decimal.specs.declared.runs.RunError.TheVariants.{Start, Operand, Memory, Sink}
-use Rattle.fixed_decimal.specs.Outcome.{after_calls, outcome}
+use Rattle.fixed_decimal.specs.Outcome.{Refusal, overflow, after_calls, outcome}
 use Rattle.fixed_decimal.specs.Errors.{RunRefuses}
 
 -- ---- Runs over two stores.
@@ -54,10 +54,21 @@ IsPosition position = negsuc 32767 ≤ℤ position
 abbrev pub HasNumberOf : Decimal → Decimal → Type 0
 HasNumberOf v w = (v.absolute.number ≡ w.absolute.number) × (v.sign ≡ w.sign)
 
--- roundings by the mode at a position and then at others leave the number that one rounding leaves at the greatest of
--- these positions
+-- what calls come to has the number of this decimal; or it is an overflow exactly where there is none
+abbrev pub ComesTo : Result Decimal Refusal → Option Decimal → Type 0
+ComesTo (Ok w) (Some v) = HasNumberOf w v
+ComesTo (Err (overflow at)) None = ⊤
+ComesTo reached made = ⊥
+
+-- roundings by the mode at a position and then at others come to what one rounding makes at the greatest of these
+-- positions
 abbrev pub RoundsOnce : UnsignedRoundingMode → Type 0
 RoundsOnce mode =
     (v : Decimal) (position : ℤ) (others : List ℤ) → IsValue v.absolute → All IsPosition (position ∷ others)
-    → (at : ℕ) → IsOkAnd (after_calls at v (map (rounding_at mode) (position ∷ others)))
-    (λ w. HasNumberOf w (rounded v (fold int_max position others) (Unsigned mode) MultiplesOf1))
+    → (at : ℕ) → ComesTo (after_calls at v (map (rounding_at mode) (position ∷ others)))
+    (rounded v (fold int_max position others) (Unsigned mode) MultiplesOf1)
+
+-- the mode makes a decimal of each, at each position
+abbrev pub NeverOverflows : UnsignedRoundingMode → Type 0
+NeverOverflows mode =
+    (v : Decimal) (position : ℤ) → IsValue v.absolute → IsSome (rounded v position (Unsigned mode) MultiplesOf1)

@@ -82,10 +82,10 @@ impl FixedInteger {
 
     /// Reads the integer that a text writes: a text that `Decimal` reads, whose decimal shows no digit behind the dot.
     ///
-    /// `05` is read, and prints `05`; `5.0e1` is read, and prints `50`. Err: `Syntax` where `Decimal` answers it; else
-    /// `Limit` where `Decimal` answers it, or where a digit is shown behind the dot, as in `5.0` and `100e-2`; else
-    /// `Memory` where memory for more than `DIGITS_IN_PLACE` digits was refused. Both other faults are decided before
-    /// memory is asked for. The original's `try_from_utf8`.
+    /// `05` is read, and prints `05`; `5.0e1` and `5.0e+1` are read, and print `50`. Err: `Syntax` where `Decimal`
+    /// answers it; else `Limit` where `Decimal` answers it, or where a digit is shown behind the dot, as in `5.0` and
+    /// `100e-2`; else `Memory` where memory for more than `DIGITS_IN_PLACE` digits was refused. Both other faults are
+    /// decided before memory is asked for. The original's `try_from_utf8`.
     #[tactic(auto, using(crate::proofs::IntegerTexts::integer_reads))]
     pub fn try_from_utf8(alloc: Global, text: &[u8]) -> Result<Self, ParseError>
         ensures answers { Answers (IsLong DIGITS_IN_PLACE) result (read_integer text.now) }

@@ -18,7 +18,7 @@
 //!
 //! ```
 //! let mut amount = Decimal::try_from_str(alloc, "250")?;
-//! amount.multiply_pow10(-2);
+//! amount.multiply_pow10(-2)?;
 //! amount.set_sign(Sign::Negative);
 //! amount.write_to(&mut sink)?; // -2.50
 //! ```
@@ -34,7 +34,9 @@ pub mod variations;
 
 pub use compact::CompactDecimal;
 pub use decimal_digits::digits::{DigitList, DigitStore, PackedDigits, Steps};
-pub use decimal_digits::rounding::{RoundingIncrement, SignedRoundingMode, UnsignedRoundingMode};
+pub use decimal_digits::rounding::{
+    RoundError, RoundingIncrement, SignedRoundingMode, UnsignedRoundingMode,
+};
 pub use decimal_digits::sink::{Out, Sink, SinkFault, TextBuf, Writeable};
 pub use decimal_unsigned::decimal::{
     ByteDecimal, DIGITS_IN_PLACE, DecimalStore, UnsignedDecimal, UnsignedOver,

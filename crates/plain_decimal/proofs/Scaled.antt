@@ -1,6 +1,6 @@
 -- Values on small numbers, which count a power of ten.
 use Rattle.std.proofs.Common.{◌≡◌, ◌≢◌, ℕ, zero, suc, ◌==◌, nat_lt, Bool, true, false, if◌then◌else◌, refl, rules, inl, inr, ◌+◌, ◌-◌, ◌*◌, ◌/◌, ◌%◌, ◌^◌, ◌<◌, ◌≤◌, List, [], ◌∷◌, ◌++◌, sym, ◌∙◌, ap, arith, append_assoc, append-nil}
-use Rattle.std.specs.Prelude.{ℤ, pos, negsuc, ◌+ℤ◌, ◌-ℤ◌, ◌≤ℤ◌, ◌<ℤ◌}
+use Rattle.std.specs.Prelude.{Some, None, ℤ, pos, negsuc, ◌+ℤ◌, ◌-ℤ◌, ◌≤ℤ◌, ◌<ℤ◌}
 use Rattle.std.proofs.lemmas.Int.{ints}
 use Rattle.std.proofs.lemmas.Nat.{pow-add}
 use Rattle.std.proofs.lemmas.Bool.{cases_lt}
@@ -185,14 +185,14 @@ below_limit n h =
     search (rules, l)
 
 -- ---- the rounded value
-pub rounded_is : (v : Unsigned) (p : ℤ) (mode : UnsignedRoundingMode) (increment : RoundingIncrement) (n k unit m : ℕ) → n * weight (negsuc 9) ≡ v.number → p ≡ negsuc 9 +ℤ pos k → unit ≡ 10 ^ k * step_of increment → m ≡ rounded_number mode unit n → m < 2 ^ 64 → with_number v p (m * weight (negsuc 9)) ≡ rounded v p mode increment
+pub rounded_is : (v : Unsigned) (p : ℤ) (mode : UnsignedRoundingMode) (increment : RoundingIncrement) (n k unit m : ℕ) → n * weight (negsuc 9) ≡ v.number → p ≡ negsuc 9 +ℤ pos k → unit ≡ 10 ^ k * step_of increment → m ≡ rounded_number mode unit n → m < 2 ^ 64 → Some (with_number v p (m * weight (negsuc 9))) ≡ rounded v p mode increment
 rounded_is v p mode increment n k unit m number position unit_is multiple few =
     let w = weight (negsuc 9) in
     let wide = weight_above 0 (negsuc 9) p (omega (arith, ints)) k position in
     let scaled : unit * w ≡ unit_at increment p = rw (unit_is, wide) (omega arith) in
     let named : m * w ≡ rounded_number mode (unit_at increment p) v.number = ap (λ x. x * w) multiple ∙ sym (rounded_scaled unit n w (ten_pos (place (negsuc 9))) mode) ∙ (λ i. rounded_number mode (scaled i) (number i)) in
-    let stays : (if reaches_limit (m * w) then 0 else m * w) ≡ m * w = ap (λ t. if t then 0 else m * w) (below_limit m few) in
-    ap (with_number v p) (sym stays) ∙ ap (rounded_to v p) named
+    let stays : rounded_to v p (m * w) ≡ Some (with_number v p (m * w)) = ap (λ t. if t then None else Some (with_number v p (m * w))) (below_limit m few) in
+    sym stays ∙ ap (rounded_to v p) named
 
 -- ---- the bytes so far, and those of the magnitudes from i below the highest, are the text
 abbrev pub Shown : Unsigned → List ℕ → ℕ → Type 0

@@ -1,9 +1,9 @@
 //! Values on small numbers.
-ghost use Rattle.std.specs.Prelude.{◌≡◌, ◌+◌, ◌*◌, ◌<◌, ◌↔◌, IsTrue, negsuc, ◌∷◌, ◌++◌, [], OnOk, IfOk, IfSome};
+ghost use Rattle.std.specs.Prelude.{◌≡◌, ◌+◌, ◌*◌, ◌<◌, ◌↔◌, IsTrue, negsuc, ◌∷◌, ◌++◌, [], Some, OnOk, IfOk, IfSome};
 ghost use Rattle.decimal_digits.specs.Number.{weight, digit, first, last};
 ghost use Rattle.decimal_unsigned.specs.Text.{dot_before, text};
-ghost use Rattle.decimal_unsigned.specs.Edits.{shifted, trimmed_start, trimmed_end, trimmed_end_if_integer};
-ghost use Rattle.decimal_unsigned.specs.Edits.{padded_start, padded_end, cut};
+ghost use Rattle.decimal_unsigned.specs.Edits.{leaves_limits, shifted, trimmed_start, trimmed_end};
+ghost use Rattle.decimal_unsigned.specs.Edits.{trimmed_end_if_integer, padded_start, padded_end, cut};
 ghost use Rattle.decimal_unsigned.specs.Rounded.{with_number, rounded};
 ghost use Rattle.decimal_unsigned.specs.Joining.{overlaps, joined};
 
@@ -147,24 +147,30 @@ impl Plain {
         Ok(bytes)
     }
 
-    /// Gives the value times 10 to a power: `250` by -2 is `2.50`. It is 0 where the range would leave the limits.
+    /// Tells whether a shift would move the range out of the magnitudes -32768 to 32767.
     ///
-    /// None where the product does not fit here.
-    pub fn shifted(&self, delta: i16) -> Option<Plain>
-        ensures { IfSome result (λ v. v ≡ shifted self.now delta) }
+    /// So it is with `10` by 32767, and with `0.5` by -32768.
+    pub fn leaves_limits(&self, delta: i16) -> bool
+        ensures { result ≡ leaves_limits self.now delta }
     {
         let hi = sum(self.hi, delta);
         let lo = sum(self.lo, delta);
-        if hi > 32767 || lo < -32768 {
-            return Some(Plain {
-                number: 0,
-                hi: 0,
-                lo: 0,
-            });
+        hi > 32767 || lo < -32768
+    }
+
+    /// Gives the value times 10 to a power: `250` by -2 is `2.50`.
+    ///
+    /// None where the range would leave the limits, and where the product does not fit here.
+    pub fn shifted(&self, delta: i16) -> Option<Plain>
+        ensures { IfSome result (λ v. Some v ≡ shifted self.now delta) }
+    {
+        if self.leaves_limits(delta) {
+            return None;
         }
-        let number = times_power(self.number, delta)?;
+        let hi = sum(self.hi, delta);
+        let lo = sum(self.lo, delta);
         Some(Plain {
-            number,
+            number: times_power(self.number, delta)?,
             hi: at_least_zero(hi),
             lo: at_most_zero(lo),
         })
@@ -277,14 +283,15 @@ impl Plain {
 
     /// Rounds at a position: gives the multiple that the mode names, shown down to the position.
     ///
-    /// `9.75` at -1, half-even by 5, gives `10.0`. None at a position below -10, and where numbers get beyond 64 bits.
+    /// `9.75` at -1, half-even by 5, gives `10.0`. None at a position below -10, and where numbers get beyond 64 bits:
+    /// those that fit stay below the limit.
     pub fn rounded(
         &self,
         position: i16,
         mode: UnsignedRoundingMode,
         increment: RoundingIncrement,
     ) -> Option<Plain>
-        ensures { IfSome result (λ v. v ≡ rounded self.now position mode increment) }
+        ensures { IfSome result (λ v. Some v ≡ rounded self.now position mode increment) }
     {
         let scale = power(above_unit(position)?)?;
         let unit = scale.checked_mul(step(increment))?;

@@ -4,6 +4,7 @@
 use crate::plain::Plain;
 use decimal_digits::digits::{DigitList, DigitStore};
 use decimal_digits::sink::{Sink, TextBuf, Writeable};
+use decimal_unsigned::LimitError;
 use decimal_unsigned::decimal::{DecimalStore, UnsignedDecimal, UnsignedOver, lowest_of};
 use std::alloc::Global;
 use std::process::Abort;
@@ -54,6 +55,34 @@ fn printed_after<D: DigitStore>(
 /// The text of what the plain program answers.
 fn printed_plainly(alloc: Global, value: Option<Plain>) -> Result<Vec<u8>, Fail> {
     Ok(value.ok_or("does not fit")?.text(alloc)?)
+}
+
+/// What a call leaves: a text, and whether the call was refused because a limit is passed.
+#[derive(Drop)]
+struct Left {
+    text: TextBuf,
+    is_refused: bool,
+}
+
+/// What a call that may pass a limit leaves of a value.
+///
+/// Both answers hold a value: the changed one, and the one that the refusal left.
+fn left_of<D: DigitStore>(
+    alloc: Global,
+    answer: Result<UnsignedOver<D>, UnsignedOver<D>>,
+) -> Result<Left, Fail> {
+    let is_refused = answer.is_err();
+    let (Ok(value) | Err(value)) = answer;
+    Ok(Left {
+        text: printed(alloc, &value)?,
+        is_refused,
+    })
+}
+
+/// Asserts what a call leaves of a text: another text, or the same one where it is to be refused.
+fn assert_left(rt: &impl Abort, left: &Left, text: &[u8], becomes: Option<&[u8]>) {
+    assert_eq!(rt; left.is_refused, becomes.is_none());
+    assert_bytes(rt, left.text.as_bytes(), becomes.unwrap_or(text));
 }
 
 /// A text in parts, each so many times.

@@ -1,5 +1,5 @@
 -- The price that is printed.
-use Rattle.std.specs.Prelude.{ℕ, ◌*◌, negsuc}
+use Rattle.std.specs.Prelude.{ℕ, ◌*◌, Option, option_and_then, negsuc}
 use Rattle.decimal_digits.specs.declared.rounding.RoundingIncrement.TheVariants.{MultiplesOf1}
 use Rattle.decimal_digits.specs.declared.rounding.UnsignedRoundingMode.TheVariants.{HalfEven}
 use Rattle.decimal_unsigned.specs.Unsigned.{Unsigned, integer_value}
@@ -7,9 +7,9 @@ use Rattle.decimal_unsigned.specs.Edits.{shifted}
 use Rattle.decimal_unsigned.specs.Rounded.{rounded}
 
 -- so many percent of so many cents, in whole units of money: the product over 10 to the 4; negsuc 3 is -4
-abbrev pub exact_price : ℕ → ℕ → Unsigned
+abbrev pub exact_price : ℕ → ℕ → Option Unsigned
 exact_price cents percent = shifted (integer_value (cents * percent)) (negsuc 3)
 
 -- the same, rounded half-even to a cent; negsuc 1 is -2
-abbrev pub price : ℕ → ℕ → Unsigned
-price cents percent = rounded (exact_price cents percent) (negsuc 1) HalfEven MultiplesOf1
+abbrev pub price : ℕ → ℕ → Option Unsigned
+price cents percent = option_and_then (λ v. rounded v (negsuc 1) HalfEven MultiplesOf1) (exact_price cents percent)

@@ -3,7 +3,7 @@
 //! 1999 cents at 100 percent are `19.99`, at 107 percent `21.39`.
 #![tactic(auto)]
 
-ghost use Rattle.std.specs.Prelude.{◌≡◌, ◌<◌, ◌*◌, Err, OnOk, true};
+ghost use Rattle.std.specs.Prelude.{◌≡◌, ◌<◌, ◌*◌, Err, OnOk, IsSomeAnd, true};
 ghost use Rattle.std.specs.Io.KnownBytes.{Appends};
 ghost use Rattle.decimal_digits.specs.Number.{size};
 ghost use Rattle.decimal_digits.specs.Text.{AppendsBeginning};
@@ -30,27 +30,31 @@ pub enum PriceError {
 ///
 /// 1250 cents at 5 percent print `0.62`. Err: `Memory` where memory was refused, which is asked for only where the
 /// product of cents and percent has more than `DIGITS_IN_PLACE` digits from the first to the last that is not 0, and
-/// then nothing is printed; `Sink` where the sink refused a byte, now or before.
+/// then nothing is printed; `Sink` where the sink refused a byte, now or before. The limits of a decimal refuse no
+/// price: the product of 64 bits of cents and 32 bits of percent has at most 29 digits.
 pub fn write_price<W: Sink>(
     alloc: Global,
     cents: u64,
     percent: u32,
     sink: &mut W,
 ) -> Result<(), PriceError>
-    ensures written { OnOk result (Appends (W.contents sink.old) (W.contents sink.new) (text (price cents percent))) }
+    ensures written { OnOk result (IsSomeAnd (price cents percent)
+        (λ value. Appends (W.contents sink.old) (W.contents sink.new) (text value))) }
     ensures memory { result ≡ Err PriceError.Memory
         → DIGITS_IN_PLACE < size (integer_value (cents * percent)).number }
     ensures untouched { result ≡ Err PriceError.Memory → sink.new ≡ sink.old }
     ensures begun { result ≡ Err PriceError.Sink
-        → AppendsBeginning (W.contents sink.old) (W.contents sink.new) (text (price cents percent)) }
+        → IsSomeAnd (price cents percent)
+        (λ value. AppendsBeginning (W.contents sink.old) (W.contents sink.new) (text value)) }
     ensures broken { result ≡ Err PriceError.Sink → W.has_failed sink.new ≡ true }
 {
     let product = cents as u128 * percent as u128;
     let Ok(mut value) = UnsignedDecimal::try_from_u128(alloc, product) else {
         return Err(PriceError::Memory);
     };
-    value.multiply_pow10(-4);
-    value.round(-2);
+    // So few digits meet no limit.
+    value.multiply_pow10(-4).unwrap();
+    value.round(-2).unwrap();
     match value.write_to(sink) {
         Ok(()) => Ok(()),
         Err(_) => Err(PriceError::Sink),

@@ -1,8 +1,9 @@
 //! The two passes over the end of a list: both stop at the first digit that stays, so each digit that is read, but the
 //! last one, is paid by one that vanishes.
-ghost use Rattle.std.specs.Prelude.{◌≡◌, ◌+◌, ◌<◌, ◌≤◌, length, slice_index};
-ghost use Rattle.decimal_digits.specs.Counted.{list_of, turns_of, Continues};
+ghost use Rattle.std.specs.Prelude.{◌≡◌, ◌+◌, ◌^◌, ◌<◌, ◌≤◌, length, slice_index, IfSome, IfNone};
+ghost use Rattle.decimal_digits.specs.Counted.{list_of, turns_of, Continues, OnlyReads};
 ghost use Rattle.decimal_digits.specs.Digits.{number_at, IsStripped};
+ghost use Rattle.decimal_digits.specs.Tails.{leading};
 
 use crate::digits::{Counted, DigitStore};
 
@@ -24,32 +25,43 @@ pub fn strip<D: DigitStore>(counted: &mut Counted<'_, D>)
     counted.truncate(len - zeros);
 }
 
-/// Adds one at the end, drops the zeros that this leaves there, and says how many places the digits have.
+/// Adds one to the number of the first `places` digits, drops the others and the zeros that this leaves, and says how
+/// many places the digits have then.
 ///
-/// They have one place more than before where there were nines alone.
-pub fn add_one<D: DigitStore>(counted: &mut Counted<'_, D>) -> usize
+/// They have one place more than before where there were nines alone. None: that is more than there is room for. The
+/// list then stays as it was.
+pub fn add_one<D: DigitStore>(
+    counted: &mut Counted<'_, D>,
+    places: usize,
+    room: usize,
+) -> Option<usize>
+    requires within { places ≤ length (D.digits (list_of counted.old)) }
+    requires fits { places ≤ room }
+    requires short { room ≤ 65536 }
     requires front { 0 < slice_index (D.digits (list_of counted.old)) 0 }
-    requires short { length (D.digits (list_of counted.old)) ≤ 65536 }
-    ensures value { number_at result (D.digits (list_of counted.new))
-        ≡ number_at (length (D.digits (list_of counted.old))) (D.digits (list_of counted.old)) + 1 }
-    ensures places { result ≤ length (D.digits (list_of counted.old)) + 1 }
-    ensures length { length (D.digits (list_of counted.new)) ≤ result }
-    ensures some { 0 < length (D.digits (list_of counted.new)) }
-    ensures stripped { IsStripped (D.digits (list_of counted.new)) }
-    ensures turns { turns_of counted.new + length (D.digits (list_of counted.new))
-        ≤ turns_of counted.old + length (D.digits (list_of counted.old)) + 3 }
+    ensures value { IfSome result (λ new. number_at new (D.digits (list_of counted.new))
+        ≡ leading places (D.digits (list_of counted.old)) + 1) }
+    ensures room { IfSome result (λ new. new ≤ room) }
+    ensures length { IfSome result (λ new. length (D.digits (list_of counted.new)) ≤ new) }
+    ensures stripped { IfSome result (λ new. IsStripped (D.digits (list_of counted.new))) }
+    ensures turns { IfSome result (λ new. turns_of counted.new + length (D.digits (list_of counted.new))
+        ≤ turns_of counted.old + places + 3) }
+    ensures full { IfNone result (10 ^ room ≤ leading places (D.digits (list_of counted.old)) + 1) }
+    ensures reads { IfNone result (OnlyReads places counted.old counted.new) }
     ensures lent { Continues counted.old counted.new }
 {
-    let places = counted.len();
     let nines = counted.count_back(places, 9);
     if nines == places {
+        if places == room {
+            return None;
+        }
         counted.clear();
         counted.push_in_room(1);
-        return places + 1;
+        return Some(places + 1);
     }
     let last = places - nines - 1;
     let digit = counted.get(last);
     counted.truncate(last + 1);
     counted.set(last, digit + 1);
-    places
+    Some(places)
 }

@@ -1,16 +1,15 @@
 //! Rounding of the digits that are kept, by what follows them.
-ghost use Rattle.std.specs.Prelude.{◌≡◌, ℕ, ◌+◌, ◌-◌, ◌^◌, ◌<◌, ◌≤◌, ◌↔◌, length, drop, slice_index, IfOk, OnErr};
+ghost use Rattle.std.specs.Prelude.{◌≡◌, ℕ, ◌+◌, ◌-◌, ◌^◌, ◌<◌, ◌≤◌, ◌↔◌, length, drop, slice_index, IsErrOf, IfOk, IfErr, OnErr};
 ghost use Rattle.decimal_digits.specs.Counted.{list_of, turns_of, Continues, OnlyReads};
 ghost use Rattle.decimal_digits.specs.Digits.{number_at, IsStripped};
 ghost use Rattle.decimal_digits.specs.Rounding.{step_of};
-ghost use Rattle.decimal_digits.specs.Tails.{leading, TailIs, RoundsTo, HasDigits};
+ghost use Rattle.decimal_digits.specs.Tails.{leading, TailIs, RoundsTo, KeptRefuses};
 
 use super::ends::{add_one, strip};
 use super::tail::{Tail, rounded_two};
 use super::two::{two_at, write_all, write_two};
-use super::{RoundingIncrement, UnsignedRoundingMode};
+use super::{RoundError, RoundingIncrement, UnsignedRoundingMode};
 use crate::digits::{Counted, DigitStore};
-use std::alloc::AllocError;
 
 /// Compares what follows the first `keep` digits with half of a unit of the last of them. One digit tells it.
 pub fn tail_after<D: DigitStore>(counted: &mut Counted<'_, D>, keep: usize) -> Tail
@@ -52,31 +51,33 @@ fn cut<D: DigitStore>(counted: &mut Counted<'_, D>, keep: usize, last: u8)
 
 /// Rounds the number of the first `keep` digits by the tail below them, and says how many places the digits have then.
 ///
-/// Err: memory was refused, which needs that by 25 the number gets a digit more than there were, and that there are as
-/// many as are held without memory. The list then stays as it was.
+/// Err: there is room for fewer places; or memory was refused, which needs that by 25 the number gets a digit more than
+/// there were, and that there are as many as are held without memory. The list then stays as it was.
 pub fn round_kept<D: DigitStore>(
     counted: &mut Counted<'_, D>,
     keep: usize,
+    room: usize,
     tail: Tail,
     mode: UnsignedRoundingMode,
     increment: RoundingIncrement,
-) -> Result<usize, AllocError>
+) -> Result<usize, RoundError>
     requires exact { (tail ≡ Tail.Zero) ↔ (length (D.digits (list_of counted.old)) ≤ keep) }
-    requires short { keep ≤ 65536 }
+    requires fits { keep ≤ room }
+    requires short { room ≤ 65536 }
     requires stripped { IsStripped (D.digits (list_of counted.old)) }
     ensures value { IfOk result (λ places. RoundsTo mode (step_of increment) tail
         (leading keep (D.digits (list_of counted.old))) (number_at places (D.digits (list_of counted.new)))) }
+    ensures room { IfOk result (λ places. places ≤ room) }
     ensures length { IfOk result (λ places. length (D.digits (list_of counted.new)) ≤ places) }
-    ensures places { IfOk result (λ places. places ≤ 65537) }
-    ensures stripped { IsStripped (D.digits (list_of counted.new)) }
+    ensures stripped { IfOk result (λ places. IsStripped (D.digits (list_of counted.new))) }
     ensures err { OnErr result (D.digits (list_of counted.new) ≡ D.digits (list_of counted.old)) }
-    ensures by_25 { OnErr result (increment ≡ RoundingIncrement.MultiplesOf25) }
-    ensures at_end { OnErr result (keep ≡ length (D.digits (list_of counted.old)) + 1) }
-    ensures longer { OnErr result ((m : ℕ) × HasDigits keep m
-        × RoundsTo mode (step_of increment) tail (leading keep (D.digits (list_of counted.old))) m) }
-    ensures full { OnErr result (D.L ≤ length (D.digits (list_of counted.old))) }
-    ensures turns { turns_of counted.new + length (D.digits (list_of counted.new))
+    ensures refused { IfErr result (λ e. KeptRefuses e mode increment D.L room keep
+        (D.digits (list_of counted.old)) tail) }
+    ensures turns { (IsErrOf result RoundError.Limit → ⊥)
+        → turns_of counted.new + length (D.digits (list_of counted.new))
         ≤ turns_of counted.old + length (D.digits (list_of counted.old)) + 6 }
+    ensures limit_turns { IsErrOf result RoundError.Limit
+        → turns_of counted.new ≤ turns_of counted.old + length (D.digits (list_of counted.old)) + 6 }
     ensures lent { Continues counted.old counted.new }
 {
     let two = two_at(counted, keep);
@@ -88,16 +89,24 @@ pub fn round_kept<D: DigitStore>(
         return Ok(keep);
     }
     if keep <= 2 {
-        return Ok(write_all(counted, rounded));
+        let Some(places) = write_all(counted, rounded, room) else {
+            return Err(RoundError::Limit);
+        };
+        return Ok(places);
     }
-    if rounded % 100 == 0 {
+    if rounded == 100 {
+        let Some(places) = add_one(counted, keep - 2, room - 2) else {
+            return Err(RoundError::Limit);
+        };
+        return Ok(places + 2);
+    }
+    if rounded == 0 {
         counted.truncate(keep - 2);
-        if rounded == 100 {
-            return Ok(add_one(counted) + 2);
-        }
         strip(counted);
         return Ok(keep);
     }
-    write_two(counted, keep, rounded)?;
-    Ok(keep)
+    match write_two(counted, keep, rounded) {
+        Ok(()) => Ok(keep),
+        Err(_) => Err(RoundError::Memory),
+    }
 }

@@ -1,5 +1,5 @@
 //! The last two of the digits that are kept, as a number below 100.
-ghost use Rattle.std.specs.Prelude.{◌≡◌, ◌+◌, ◌-◌, ◌*◌, ◌%◌, ◌<◌, ◌≤◌, [], ◌∷◌, ◌++◌, length, take, slice_index, OnOk, OnErr};
+ghost use Rattle.std.specs.Prelude.{◌≡◌, ◌+◌, ◌-◌, ◌*◌, ◌%◌, ◌^◌, ◌<◌, ◌≤◌, [], ◌∷◌, ◌++◌, length, take, slice_index, IfSome, IfNone, OnOk, OnErr};
 ghost use Rattle.decimal_digits.specs.Counted.{list_of, turns_of, Continues, OnlyReads};
 ghost use Rattle.decimal_digits.specs.Digits.{number_at, IsStripped};
 ghost use Rattle.decimal_digits.specs.Tails.{leading};
@@ -105,31 +105,54 @@ pub fn write_two<D: DigitStore>(
 }
 
 /// Makes the list the digits of a number up to 100, and says how many places they have.
-pub fn write_all<D: DigitStore>(counted: &mut Counted<'_, D>, number: u8) -> usize
+///
+/// None: these are more than there is room for. The list then stays as it was.
+pub fn write_all<D: DigitStore>(
+    counted: &mut Counted<'_, D>,
+    number: u8,
+    room: usize,
+) -> Option<usize>
     requires { number ≤ 100 }
-    ensures value { number_at result (D.digits (list_of counted.new)) ≡ number }
-    ensures length { length (D.digits (list_of counted.new)) ≤ result }
-    ensures places { result ≤ 3 }
-    ensures stripped { IsStripped (D.digits (list_of counted.new)) }
-    ensures turns { turns_of counted.new + length (D.digits (list_of counted.new))
-        ≤ turns_of counted.old + 4 }
+    ensures value { IfSome result (λ places. number_at places (D.digits (list_of counted.new)) ≡ number) }
+    ensures room { IfSome result (λ places. places ≤ room) }
+    ensures length { IfSome result (λ places. length (D.digits (list_of counted.new)) ≤ places) }
+    ensures stripped { IfSome result (λ places. IsStripped (D.digits (list_of counted.new))) }
+    ensures turns { IfSome result (λ places. turns_of counted.new + length (D.digits (list_of counted.new))
+        ≤ turns_of counted.old + 4) }
+    ensures full { IfNone result (10 ^ room ≤ number) }
+    ensures reads { IfNone result (OnlyReads 0 counted.old counted.new) }
     ensures lent { Continues counted.old counted.new }
 {
-    counted.clear();
-    if number == 0 {
-        return 0;
+    let places = places_of(number);
+    if places > room {
+        return None;
     }
+    counted.clear();
     if number == 100 {
         counted.push_in_room(1);
-        return 3;
+        return Some(places);
     }
-    if number < 10 {
-        counted.push_in_room(number);
-        return 1;
+    if number >= 10 {
+        counted.push_in_room(number / 10);
     }
-    counted.push_in_room(number / 10);
     if number % 10 != 0 {
         counted.push_in_room(number % 10);
     }
-    2
+    Some(places)
+}
+
+/// Counts the digits of a number up to 100, and none of 0.
+fn places_of(number: u8) -> usize
+    requires { number ≤ 100 }
+    ensures none { number ≡ 0 → result ≡ 0 }
+    ensures one { 0 < number → number < 10 → result ≡ 1 }
+    ensures two { 10 ≤ number → number < 100 → result ≡ 2 }
+    ensures three { number ≡ 100 → result ≡ 3 }
+{
+    match number {
+        0 => 0,
+        1..=9 => 1,
+        10..=99 => 2,
+        _ => 3,
+    }
 }

@@ -2,13 +2,16 @@
 //!
 //! A word says how it went: `done`, or `refused` where memory was refused, all was left as it was, and the same call
 //! made again with memory did its work.
+use super::ends::GREATEST;
+use super::long::{Parts, long};
 use super::*;
 use decimal_testing::{Bounded, Eight, Hundred, Most};
 use fixed_decimal::RoundingIncrement::MultiplesOf25;
-use fixed_decimal::SignedRoundingMode::Unsigned;
-use fixed_decimal::UnsignedRoundingMode::Trunc;
+use fixed_decimal::SignedRoundingMode::{Ceil, Unsigned};
+use fixed_decimal::UnsignedRoundingMode::{Expand, HalfEven, Trunc};
 use fixed_decimal::{
-    ConcatenateError, DigitList, DigitStore, PackedDigits, Sign, Signed, Steps, UnsignedOver,
+    ConcatenateError, DigitList, DigitStore, PackedDigits, RoundError, Sign, Signed,
+    SignedRoundingMode, Steps, UnsignedOver,
 };
 use std::alloc::AllocError;
 
@@ -122,7 +125,7 @@ fn copied_again<D: DigitStore>(value: &Roomy<D>, text: &str) -> Result<&'static 
 }
 
 /// Rounds at -1 by 25, in place.
-fn round<D: DigitStore>(value: &mut Signed<Roomy<D>>, form: Form) -> Result<(), AllocError> {
+fn round<D: DigitStore>(value: &mut Signed<Roomy<D>>, form: Form) -> Result<(), RoundError> {
     let mode = Unsigned(Trunc);
     match form {
         Form::Counted => value.round_counted(-1, mode, MultiplesOf25, &mut Steps::new()),
@@ -145,7 +148,8 @@ fn rounded<D: DigitStore>(
     value.store().bound(most);
     match round(&mut value, form) {
         Ok(()) => Ok(seen(&value, wanted, "done")),
-        Err(AllocError) => rounded_again(value, (text, wanted), form),
+        Err(RoundError::Limit) => Ok("limit"),
+        Err(RoundError::Memory) => rounded_again(value, (text, wanted), form),
     }
 }
 
@@ -174,7 +178,62 @@ fn rounded_by_value<D: DigitStore>(
     value.store().bound(most);
     match value.rounded_with_mode_and_increment(-1, Unsigned(Trunc), MultiplesOf25) {
         Ok(rounded) => Ok(seen(&rounded, wanted, "done")),
-        Err(value) => rounded_again(value, (text, wanted), Form::InPlace),
+        Err((_, RoundError::Limit)) => Ok("limit"),
+        Err((value, RoundError::Memory)) => rounded_again(value, (text, wanted), Form::InPlace),
+    }
+}
+
+/// As many digits as a number can have.
+#[derive(Drop)]
+struct All;
+
+impl Most for All {
+    const MOST: usize = 65_536;
+}
+
+/// A value with memory for as many digits as a number can have, until it is bounded.
+type Whole<D> = UnsignedOver<Bounded<D, All>>;
+
+/// Nines from the highest magnitude down: more than any store holds without memory.
+const NINES: Parts = &[("9", 40), ("0", 32_728)];
+
+/// A number, a position, a mode, and what a rounding by 25 answers there where there is no memory.
+const WITHOUT_MEMORY: &[(Parts, i16, SignedRoundingMode, &str)] = &[
+    (GREATEST, -32768, Unsigned(Expand), "limit"),
+    (GREATEST, -32767, Unsigned(HalfEven), "limit"),
+    (GREATEST, 32767, Unsigned(Expand), "limit"),
+    (GREATEST, -32768, Unsigned(Trunc), "done"),
+    (NINES, 32_728, Unsigned(Expand), "limit"),
+    (NINES, 32_727, Unsigned(Expand), "limit"),
+    (NINES, 32_727, Ceil, "limit"),
+    (NINES, 32_727, Unsigned(HalfEven), "limit"),
+    (NINES, 32_727, Unsigned(Trunc), "memory"),
+];
+
+/// The word of a rounding by 25, where there is no memory: a refusal has to leave the value, also where it is taken.
+fn answered<D: DigitStore>(
+    alloc: Global,
+    (number, position, mode, _): (Parts, i16, SignedRoundingMode, &str),
+) -> Result<&'static str, Fail> {
+    let text = long(alloc, number)?;
+    let mut value = Signed::new(Sign::None, Whole::<D>::try_from_str(alloc, text.as_str())?);
+    value.store().bound(0);
+    let answer = value.round_with_mode_and_increment(position, mode, MultiplesOf25);
+    if answer.is_ok() {
+        return Ok("done");
+    }
+    let second = value.rounded_with_mode_and_increment(position, mode, MultiplesOf25);
+    let Err((left, error)) = second else {
+        return Ok("another answer");
+    };
+    let word = match error {
+        RoundError::Limit => "limit",
+        RoundError::Memory => "memory",
+    };
+    if answer == Err(error) {
+        Ok(seen(&left, text.as_str(), word))
+    } else {
+        Ok("another answer")
     }
 }
 
@@ -302,6 +361,15 @@ fn refuses_roundings(rt: HostRuntime) -> Result<(), Fail> {
     for most in [AMPLE, 0] {
         assert!(rt; rounds::<DigitList>(rt.alloc(), most)?);
         assert!(rt; rounds::<PackedDigits>(rt.alloc(), most)?);
+    }
+    Ok(())
+}
+
+#[test]
+fn refuses_for_the_limit_first(rt: HostRuntime) -> Result<(), Fail> {
+    for row in WITHOUT_MEMORY {
+        assert_eq!(rt; answered::<DigitList>(rt.alloc(), *row)?, row.3);
+        assert_eq!(rt; answered::<PackedDigits>(rt.alloc(), *row)?, row.3);
     }
     Ok(())
 }

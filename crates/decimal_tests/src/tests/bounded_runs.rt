@@ -3,7 +3,7 @@ use super::*;
 use decimal_testing::{Bounded, Eight, Eighteen, Narrow, Nineteen, Seventeen, Sixteen, TwentyOne};
 use fixed_decimal::RoundingIncrement::MultiplesOf25;
 use fixed_decimal::SignedRoundingMode::Unsigned;
-use fixed_decimal::UnsignedRoundingMode::Trunc;
+use fixed_decimal::UnsignedRoundingMode::{Expand, Trunc};
 use fixed_decimal::{Call, DigitList, DigitStore, PackedDigits, RunError, run_over};
 
 /// What a run wanted memory for.
@@ -17,6 +17,8 @@ enum Want {
     Call(usize),
     /// Nothing: the text came.
     Nothing,
+    /// Nothing: the call with this number would pass the limits.
+    Limit(usize),
     /// Another answer, or a sink that is not as the answer says.
     Other,
 }
@@ -62,6 +64,25 @@ const RUNS: &[Run] = &[
         &[Call::Round(-1, Unsigned(Trunc), MultiplesOf25)],
         "1234567812345677.5",
         &[(16, Want::Call(0)), (17, Want::Nothing)],
+    ),
+    (
+        "9999999999999999e32752",
+        &[
+            Call::TrimEnd,
+            Call::Round(32751, Unsigned(Expand), MultiplesOf25),
+        ],
+        "",
+        &[(16, Want::Limit(1)), (17, Want::Limit(1))],
+    ),
+    (
+        "9999999999999999e32752",
+        &[
+            Call::TrimEnd,
+            Call::Round(32751, Unsigned(Trunc), MultiplesOf25),
+            Call::MultiplyPow10(1),
+        ],
+        "",
+        &[(16, Want::Call(1)), (17, Want::Limit(2))],
     ),
     (
         "12345678901234567",
@@ -126,6 +147,7 @@ fn wanted_for(error: &RunError) -> Want {
             fault: ParseError::Memory,
         } => Want::Operand(*at),
         RunError::Memory { at } => Want::Call(*at),
+        RunError::Limit { at } => Want::Limit(*at),
         _ => Want::Other,
     }
 }

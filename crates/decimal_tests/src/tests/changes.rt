@@ -1,28 +1,32 @@
 //! Changes of the absolute value through `DerefMut`: the contracts here are proved from the one of `deref_mut`.
-ghost use Rattle.std.specs.Prelude.{◌≡◌, negsuc, true, OnOk, OnErr};
+ghost use Rattle.std.specs.Prelude.{◌≡◌, negsuc, Some, option_map, IfOk, OnOk, OnErr};
 ghost use Rattle.decimal_unsigned.specs.Edits.{shifted, trimmed_end};
 ghost use Rattle.decimal_unsigned.specs.Joining.{joined};
+ghost use Rattle.fixed_decimal.specs.Decimal.{with_absolute};
 
 use super::*;
 use decimal_digits::digits::DigitStore;
 use decimal_unsigned::decimal::UnsignedOver;
-use fixed_decimal::{ConcatenateError, Sign, Signed, UnsignedDecimal};
+use fixed_decimal::{ConcatenateError, LimitError, Sign, Signed, UnsignedDecimal};
 
-/// Two calls in a row, over any list of digits.
-fn to_cents<D: DigitStore>(value: &mut Signed<UnsignedOver<D>>)
-    ensures { value.new ≡ record value.old { absolute = trimmed_end (shifted value.old.absolute (negsuc 1)) } }
+/// Two calls in a row, of which the first may be refused, over any list of digits.
+fn to_cents<D: DigitStore>(value: &mut Signed<UnsignedOver<D>>) -> Result<(), LimitError>
+    ensures ok { OnOk result (with_absolute value.old
+        (option_map trimmed_end (shifted value.old.absolute (negsuc 1))) ≡ Some value.new) }
+    ensures err { OnErr result (value.new ≡ value.old) }
 {
-    value.multiply_pow10(-2);
+    value.multiply_pow10(-2)?;
     value.trim_end();
+    Ok(())
 }
 
 /// An explicit reference, at a decimal that is owned.
-fn owned_to_cents(mut value: Decimal) -> Decimal
-    ensures { result ≡ record value { absolute = shifted value.absolute (negsuc 1) } }
+fn owned_to_cents(mut value: Decimal) -> Result<Decimal, LimitError>
+    ensures { IfOk result (λ v. with_absolute value (shifted value.absolute (negsuc 1)) ≡ Some v) }
 {
     let inside: &mut UnsignedDecimal = &mut *value;
-    inside.multiply_pow10(-2);
-    value
+    inside.multiply_pow10(-2)?;
+    Ok(value)
 }
 
 /// A call that may be refused.
@@ -44,30 +48,31 @@ fn replace<T: Drop>(value: &mut Signed<T>, next: T)
 }
 
 /// A sign that is set, and then a change.
-fn negated_cents(mut value: Decimal) -> Decimal
-    ensures { result ≡ record { sign = Sign.Negative; absolute = shifted value.absolute (negsuc 1) } }
+fn negated_cents(mut value: Decimal) -> Result<Decimal, LimitError>
+    ensures { IfOk result (λ v. with_absolute (record value { sign = Sign.Negative })
+        (shifted value.absolute (negsuc 1)) ≡ Some v) }
 {
     value.set_sign(Sign::Negative);
-    value.multiply_pow10(-2);
-    value
+    value.multiply_pow10(-2)?;
+    Ok(value)
 }
 
 /// What is left of the least `i16` after a shift by -2, and after cuts at each of these positions.
-fn cut_cents(alloc: Global, positions: &[i16]) -> Decimal {
+fn cut_cents(alloc: Global, positions: &[i16]) -> Result<Decimal, LimitError> {
     let mut value = Decimal::from_i16(alloc, i16::MIN);
-    value.multiply_pow10(-2);
+    value.multiply_pow10(-2)?;
     for position in positions {
         value.set_max_position(*position);
     }
-    value
+    Ok(value)
 }
 
 /// What is left of `-250` where 300 is put in the place of 250, and moved by two magnitudes.
-fn replaced(alloc: Global) -> Decimal {
+fn replaced(alloc: Global) -> Result<Decimal, LimitError> {
     let mut value = Decimal::from_i16(alloc, -250);
     replace(&mut value, UnsignedDecimal::from_u16(alloc, 300));
-    to_cents(&mut value);
-    value
+    to_cents(&mut value)?;
+    Ok(value)
 }
 
 /// `-120` after a number is joined to it, which may be refused.
@@ -83,18 +88,26 @@ const CUTS: &[(&[i16], &str)] = &[(&[], "-327.68"), (&[0], "-0.68"), (&[0, -2], 
 /// Numbers that are joined to `-120`, and what it is then.
 const APPENDED: &[(u8, &str)] = &[(25, "-120"), (5, "-125")];
 
+/// Whether a call was made, and left a decimal with this text.
+fn leaves(answer: Result<Decimal, LimitError>, text: &str) -> bool {
+    match answer {
+        Ok(value) => prints(value, text),
+        Err(LimitError) => false,
+    }
+}
+
 #[test]
 fn changes(rt: HostRuntime) {
     let alloc = rt.alloc();
     for (positions, text) in CUTS {
-        assert!(rt; prints(cut_cents(alloc, positions), text), "{text}");
+        assert!(rt; leaves(cut_cents(alloc, positions), text), "{text}");
     }
     for (other, text) in APPENDED {
         assert!(rt; prints(appended(alloc, *other), text), "{text}");
     }
     let owned = owned_to_cents(Decimal::from_i16(alloc, -250));
-    assert!(rt; prints(owned, "-2.50"));
-    assert!(rt; prints(replaced(alloc), "-3"));
+    assert!(rt; leaves(owned, "-2.50"));
+    assert!(rt; leaves(replaced(alloc), "-3"));
     let negated = negated_cents(Decimal::from_u8(alloc, 7));
-    assert!(rt; prints(negated, "-0.07"));
+    assert!(rt; leaves(negated, "-0.07"));
 }

@@ -5,7 +5,10 @@ use decimal_unsigned::decimal::UnsignedOver;
 use fixed_decimal::RoundingIncrement::{MultiplesOf1, MultiplesOf2, MultiplesOf5, MultiplesOf25};
 use fixed_decimal::SignedRoundingMode::{Ceil, Floor, HalfCeil, HalfFloor, Unsigned};
 use fixed_decimal::UnsignedRoundingMode::{Expand, HalfEven, HalfExpand, HalfTrunc, Trunc};
-use fixed_decimal::{RoundingIncrement, Signed, SignedRoundingMode, Steps, UnsignedRoundingMode};
+use fixed_decimal::{
+    LimitError, RoundError, RoundingIncrement, Signed, SignedRoundingMode, Steps,
+    UnsignedRoundingMode,
+};
 use std::alloc::AllocError;
 use std::cell::Cell;
 
@@ -223,12 +226,19 @@ fn read_counting<D: DigitStore>(alloc: Global, text: &[u8]) -> Result<Counting<D
 }
 
 /// Rounds in place by the call that bears the mode's name, where there is one.
-fn round_by_name<D: DigitStore>(value: &mut Counting<D>, position: i16, mode: SignedRoundingMode) {
+fn round_by_name<D: DigitStore>(
+    value: &mut Counting<D>,
+    position: i16,
+    mode: SignedRoundingMode,
+) -> Result<(), LimitError> {
     match mode {
         Ceil => value.ceil(position),
         Floor => value.floor(position),
         Unsigned(Expand) => value.expand(position),
-        Unsigned(Trunc) => value.trunc(position),
+        Unsigned(Trunc) => {
+            value.trunc(position);
+            Ok(())
+        }
         Unsigned(HalfEven) => value.round(position),
         _ => value.round_with_mode(position, mode),
     }
@@ -239,12 +249,23 @@ fn round_absolute_by_name<D: DigitStore>(
     value: &mut UnsignedOver<CountingStore<D>>,
     position: i16,
     mode: UnsignedRoundingMode,
-) {
+) -> Result<(), LimitError> {
     match mode {
         Expand => value.expand(position),
-        Trunc => value.trunc(position),
+        Trunc => {
+            value.trunc(position);
+            Ok(())
+        }
         HalfEven => value.round(position),
         _ => value.round_with_mode(position, mode),
+    }
+}
+
+/// The answer of a call that asks for no memory.
+fn without_memory(answer: Result<(), LimitError>) -> Result<(), RoundError> {
+    match answer {
+        Ok(()) => Ok(()),
+        Err(LimitError) => Err(RoundError::Limit),
     }
 }
 
@@ -253,14 +274,13 @@ fn round_by<D: DigitStore>(
     value: &mut Counting<D>,
     form: Form,
     (position, mode, increment): Rounding,
-) -> Result<(), AllocError> {
+) -> Result<(), RoundError> {
     match form {
-        Form::Counted => value.round_counted(position, mode, increment, &mut Steps::new())?,
-        Form::ByIncrement => value.round_with_mode_and_increment(position, mode, increment)?,
-        Form::ByMode => value.round_with_mode(position, mode),
-        Form::ByName => round_by_name(value, position, mode),
+        Form::Counted => value.round_counted(position, mode, increment, &mut Steps::new()),
+        Form::ByIncrement => value.round_with_mode_and_increment(position, mode, increment),
+        Form::ByMode => without_memory(value.round_with_mode(position, mode)),
+        Form::ByName => without_memory(round_by_name(value, position, mode)),
     }
-    Ok(())
 }
 
 /// Rounds the absolute value in place by a call.
@@ -270,14 +290,13 @@ fn round_absolute_by<D: DigitStore>(
     position: i16,
     mode: UnsignedRoundingMode,
     increment: RoundingIncrement,
-) -> Result<(), AllocError> {
+) -> Result<(), RoundError> {
     match form {
-        Form::Counted => value.round_counted(position, mode, increment, &mut Steps::new())?,
-        Form::ByIncrement => value.round_with_mode_and_increment(position, mode, increment)?,
-        Form::ByMode => value.round_with_mode(position, mode),
-        Form::ByName => round_absolute_by_name(value, position, mode),
+        Form::Counted => value.round_counted(position, mode, increment, &mut Steps::new()),
+        Form::ByIncrement => value.round_with_mode_and_increment(position, mode, increment),
+        Form::ByMode => without_memory(value.round_with_mode(position, mode)),
+        Form::ByName => without_memory(round_absolute_by_name(value, position, mode)),
     }
-    Ok(())
 }
 
 /// Rounds a value by the call that takes it whole, and bears the mode's name where there is one.
@@ -285,12 +304,12 @@ fn rounded_by_name<D: DigitStore>(
     value: Counting<D>,
     position: i16,
     mode: SignedRoundingMode,
-) -> Counting<D> {
+) -> Result<Counting<D>, Counting<D>> {
     match mode {
         Ceil => value.ceiled(position),
         Floor => value.floored(position),
         Unsigned(Expand) => value.expanded(position),
-        Unsigned(Trunc) => value.trunced(position),
+        Unsigned(Trunc) => Ok(value.trunced(position)),
         Unsigned(HalfEven) => value.rounded(position),
         _ => value.rounded_with_mode(position, mode),
     }
@@ -301,26 +320,47 @@ fn rounded_absolute_by_name<D: DigitStore>(
     value: UnsignedOver<CountingStore<D>>,
     position: i16,
     mode: UnsignedRoundingMode,
-) -> UnsignedOver<CountingStore<D>> {
+) -> Result<UnsignedOver<CountingStore<D>>, UnsignedOver<CountingStore<D>>> {
     match mode {
         Expand => value.expanded(position),
-        Trunc => value.trunced(position),
+        Trunc => Ok(value.trunced(position)),
         HalfEven => value.rounded(position),
         _ => value.rounded_with_mode(position, mode),
     }
 }
 
-/// Starts the count, and gives the most digits that a rounding may touch and leave.
+/// Starts the count, and gives the most digits that a rounding may touch and leave, and a refused one may touch.
 fn most<D: DigitStore>(store: &CountingStore<D>) -> usize {
     store.restart();
-    store.len().saturating_add(16)
+    store.len().saturating_add(7)
 }
 
-/// Whether the digits touched and left are at most so many.
+/// Whether the digits touched and left by a rounding are at most so many.
 fn is_within<D: DigitStore>(store: &CountingStore<D>, most: usize) -> bool {
     match store.touched() {
         Some(touched) => touched.saturating_add(store.len()) <= most,
         None => false,
+    }
+}
+
+/// Whether the digits touched by a refused rounding are at most so many.
+fn refuses_within<D: DigitStore>(store: &CountingStore<D>, most: usize) -> bool {
+    match store.touched() {
+        Some(touched) => touched <= most,
+        None => false,
+    }
+}
+
+/// Whether a rounding stayed within the bound, as it was made or refused.
+fn answers_within<D: DigitStore>(
+    answer: Result<(), RoundError>,
+    store: &CountingStore<D>,
+    most: usize,
+) -> Result<bool, Fail> {
+    match answer {
+        Ok(()) => Ok(is_within(store, most)),
+        Err(RoundError::Limit) => Ok(refuses_within(store, most)),
+        Err(RoundError::Memory) => Err(Fail::new("memory was refused")),
     }
 }
 
@@ -333,8 +373,8 @@ fn stays_within<D: DigitStore>(
 ) -> Result<bool, Fail> {
     let mut value = read_counting::<D>(alloc, text)?;
     let most = most(value.store());
-    round_by(&mut value, form, rounding)?;
-    Ok(is_within(value.store(), most))
+    let answer = round_by(&mut value, form, rounding);
+    answers_within(answer, value.store(), most)
 }
 
 /// Whether a rounding of the absolute value in place stays within the bound.
@@ -349,8 +389,8 @@ fn absolute_stays_within<D: DigitStore>(
     };
     let mut value = read_counting::<D>(alloc, text)?;
     let most = most(value.store());
-    round_absolute_by(&mut value.absolute, form, position, mode, increment)?;
-    Ok(is_within(value.store(), most))
+    let answer = round_absolute_by(&mut value.absolute, form, position, mode, increment);
+    answers_within(answer, value.store(), most)
 }
 
 /// Whether a rounding of a value by increment stays within the bound.
@@ -362,8 +402,8 @@ fn by_value_stays_within<D: DigitStore>(
     let value = read_counting::<D>(alloc, text)?;
     let most = most(value.store());
     match value.rounded_with_mode_and_increment(position, mode, increment) {
-        Ok(left) => Ok(is_within(left.store(), most)),
-        Err(_) => Err(Fail::new("memory was refused")),
+        Ok(made) => Ok(is_within(made.store(), most)),
+        Err((left, error)) => answers_within(Err(error), left.store(), most),
     }
 }
 
@@ -379,8 +419,8 @@ fn absolute_by_value_stays_within<D: DigitStore>(
     let Signed { sign: _, absolute } = read_counting::<D>(alloc, text)?;
     let most = most(absolute.store());
     match absolute.rounded_with_mode_and_increment(position, mode, increment) {
-        Ok(left) => Ok(is_within(left.store(), most)),
-        Err(_) => Err(Fail::new("memory was refused")),
+        Ok(made) => Ok(is_within(made.store(), most)),
+        Err((left, error)) => answers_within(Err(error), left.store(), most),
     }
 }
 
@@ -393,7 +433,10 @@ fn by_name_stays_within<D: DigitStore>(
 ) -> Result<bool, Fail> {
     let value = read_counting::<D>(alloc, text)?;
     let most = most(value.store());
-    Ok(is_within(rounded_by_name(value, position, mode).store(), most))
+    match rounded_by_name(value, position, mode) {
+        Ok(made) => Ok(is_within(made.store(), most)),
+        Err(left) => Ok(refuses_within(left.store(), most)),
+    }
 }
 
 /// Whether a rounding of an absolute value by name stays within the bound.
@@ -408,8 +451,10 @@ fn absolute_by_name_stays_within<D: DigitStore>(
     };
     let Signed { sign: _, absolute } = read_counting::<D>(alloc, text)?;
     let most = most(absolute.store());
-    let left = rounded_absolute_by_name(absolute, position, mode);
-    Ok(is_within(left.store(), most))
+    match rounded_absolute_by_name(absolute, position, mode) {
+        Ok(made) => Ok(is_within(made.store(), most)),
+        Err(left) => Ok(refuses_within(left.store(), most)),
+    }
 }
 
 /// Whether each of these calls stays within the bound.

@@ -6,8 +6,8 @@ use fixed_decimal::SignedRoundingMode::Unsigned;
 use fixed_decimal::UnsignedRoundingMode::{Expand, HalfEven, HalfExpand, Trunc};
 use fixed_decimal::{Call, DigitList, DigitStore, PackedDigits, RunError, run_over};
 
-/// A start, calls, and the text that they come to.
-type Run = (Parts, &'static [Call<'static>], Parts);
+/// A start, calls, and the text that they come to; or the number of the call that would pass the limits.
+type Run = (Parts, &'static [Call<'static>], Result<Parts, usize>);
 
 /// 65,536 nines, half of them behind the dot: the greatest number.
 pub const GREATEST: Parts = &[("9", 32_768), (".", 1), ("9", 32_768)];
@@ -21,57 +21,65 @@ const NINES: Parts = &[("9", 32_768)];
 /// The part of the greatest number behind the dot.
 const FRACTION: Parts = &[("0.", 1), ("9", 32_768)];
 
+/// The first digit of the highest magnitude.
+const SEVEN: Parts = &[("7", 1), ("0", 32_767)];
+
 /// Roundings of the greatest number.
 const ROUND_GREATEST: &[Run] = &[
     (
         GREATEST,
         &[Call::Round(-32768, Unsigned(Trunc), MultiplesOf1)],
-        GREATEST,
+        Ok(GREATEST),
     ),
     (
         GREATEST,
         &[Call::Round(-32768, Unsigned(Trunc), MultiplesOf2)],
-        &[("9", 32_768), (".", 1), ("9", 32_767), ("8", 1)],
+        Ok(&[("9", 32_768), (".", 1), ("9", 32_767), ("8", 1)]),
     ),
     (
         GREATEST,
         &[Call::Round(-32768, Unsigned(Trunc), MultiplesOf5)],
-        &[("9", 32_768), (".", 1), ("9", 32_767), ("5", 1)],
+        Ok(&[("9", 32_768), (".", 1), ("9", 32_767), ("5", 1)]),
     ),
     (
         GREATEST,
         &[Call::Round(-32768, Unsigned(Trunc), MultiplesOf25)],
-        &[("9", 32_768), (".", 1), ("9", 32_766), ("75", 1)],
+        Ok(&[("9", 32_768), (".", 1), ("9", 32_766), ("75", 1)]),
     ),
     (
         GREATEST,
         &[Call::Round(-32768, Unsigned(Expand), MultiplesOf2)],
-        &[("0", 32_768), (".", 1), ("0", 32_768)],
+        Err(0),
+    ),
+    (
+        GREATEST,
+        &[Call::Round(-32767, Unsigned(Expand), MultiplesOf1)],
+        Err(0),
     ),
     (
         GREATEST,
         &[Call::Round(32767, Unsigned(Trunc), MultiplesOf1)],
-        &[("9", 1), ("0", 32_767)],
+        Ok(&[("9", 1), ("0", 32_767)]),
     ),
     (
         GREATEST,
         &[Call::Round(32767, Unsigned(Trunc), MultiplesOf2)],
-        &[("8", 1), ("0", 32_767)],
+        Ok(&[("8", 1), ("0", 32_767)]),
     ),
     (
         GREATEST,
         &[Call::Round(32767, Unsigned(Trunc), MultiplesOf5)],
-        &[("5", 1), ("0", 32_767)],
+        Ok(&[("5", 1), ("0", 32_767)]),
     ),
     (
         GREATEST,
         &[Call::Round(32767, Unsigned(HalfExpand), MultiplesOf5)],
-        &[("0", 32_768)],
+        Err(0),
     ),
     (
         GREATEST,
         &[Call::Round(32766, Unsigned(Trunc), MultiplesOf25)],
-        &[("75", 1), ("0", 32_766)],
+        Ok(&[("75", 1), ("0", 32_766)]),
     ),
     (
         GREATEST,
@@ -79,7 +87,26 @@ const ROUND_GREATEST: &[Run] = &[
             Call::Round(-1, Unsigned(Expand), MultiplesOf1),
             Call::Round(0, Unsigned(Expand), MultiplesOf1),
         ],
-        &[("0", 32_768)],
+        Err(0),
+    ),
+    (
+        GREATEST,
+        &[
+            Call::Round(0, Unsigned(Trunc), MultiplesOf1),
+            Call::Round(0, Unsigned(Expand), MultiplesOf1),
+            Call::Round(1, Unsigned(Expand), MultiplesOf1),
+        ],
+        Err(2),
+    ),
+    (
+        SEVEN,
+        &[Call::Round(32767, Unsigned(Expand), MultiplesOf5)],
+        Err(0),
+    ),
+    (
+        SEVEN,
+        &[Call::Round(32767, Unsigned(Trunc), MultiplesOf25)],
+        Ok(&[("0", 32_768)]),
     ),
 ];
 
@@ -88,48 +115,49 @@ const ROUND_LEAST: &[Run] = &[
     (
         LEAST,
         &[Call::Round(-32768, Unsigned(Expand), MultiplesOf25)],
-        &[("0.", 1), ("0", 32_766), ("25", 1)],
+        Ok(&[("0.", 1), ("0", 32_766), ("25", 1)]),
     ),
     (
         LEAST,
         &[Call::Round(-32768, Unsigned(HalfEven), MultiplesOf2)],
-        &[("0.", 1), ("0", 32_768)],
+        Ok(&[("0.", 1), ("0", 32_768)]),
     ),
     (
         LEAST,
         &[Call::Round(-32768, Unsigned(HalfExpand), MultiplesOf2)],
-        &[("0.", 1), ("0", 32_767), ("2", 1)],
+        Ok(&[("0.", 1), ("0", 32_767), ("2", 1)]),
     ),
     (
         LEAST,
         &[Call::Round(32767, Unsigned(Expand), MultiplesOf1)],
-        &[("1", 1), ("0", 32_767)],
+        Ok(&[("1", 1), ("0", 32_767)]),
     ),
     (
         LEAST,
         &[Call::Round(32767, Unsigned(Expand), MultiplesOf5)],
-        &[("5", 1), ("0", 32_767)],
+        Ok(&[("5", 1), ("0", 32_767)]),
     ),
     (
         LEAST,
         &[Call::Round(32767, Unsigned(Expand), MultiplesOf25)],
-        &[("0", 32_767)],
+        Err(0),
     ),
 ];
 
 /// Shifts, pads and cuts that reach the ends.
 const EDITS: &[Run] = &[
-    (GREATEST, &[Call::MultiplyPow10(1)], &[("0", 1)]),
-    (GREATEST, &[Call::MultiplyPow10(-1)], &[("0", 1)]),
+    (GREATEST, &[Call::MultiplyPow10(1)], Err(0)),
+    (GREATEST, &[Call::MultiplyPow10(-1)], Err(0)),
+    (GREATEST, &[Call::MultiplyPow10(0)], Ok(GREATEST)),
     (
         &[("1", 1)],
         &[Call::MultiplyPow10(32767), Call::MultiplyPow10(-32768)],
-        &[("0.1", 1), ("0", 32_767)],
+        Ok(&[("0.1", 1), ("0", 32_767)]),
     ),
     (
         &[("1", 1)],
         &[Call::MultiplyPow10(-32768), Call::MultiplyPow10(32767)],
-        &[("0", 32_768), (".1", 1)],
+        Ok(&[("0", 32_768), (".1", 1)]),
     ),
     (
         &[("1", 1)],
@@ -138,31 +166,48 @@ const EDITS: &[Run] = &[
             Call::MultiplyPow10(32767),
             Call::MultiplyPow10(1),
         ],
+        Err(2),
+    ),
+    (
         &[("0", 1)],
+        &[Call::MultiplyPow10(32767)],
+        Ok(&[("0", 32_768)]),
+    ),
+    (
+        &[("0", 1)],
+        &[Call::MultiplyPow10(32767), Call::MultiplyPow10(1)],
+        Err(1),
     ),
     (
         &[("5", 1)],
         &[Call::PadStart(32767)],
-        &[("0", 32_766), ("5", 1)],
+        Ok(&[("0", 32_766), ("5", 1)]),
     ),
     (
         &[("5", 1)],
         &[Call::PadEnd(-32768)],
-        &[("5.", 1), ("0", 32_768)],
+        Ok(&[("5.", 1), ("0", 32_768)]),
     ),
     (
         GREATEST,
         &[Call::SetMaxPosition(-32768)],
-        &[("0.", 1), ("0", 32_768)],
+        Ok(&[("0.", 1), ("0", 32_768)]),
     ),
 ];
 
-/// Whether a run over a store comes to the text that its row says.
-fn comes_to<D: DigitStore>(alloc: Global, (start, calls, parts): Run) -> Result<bool, Fail> {
+/// Whether a run over a store comes to what its row says; where it passes the limits nothing is written.
+fn comes_to<D: DigitStore>(alloc: Global, (start, calls, wanted): Run) -> Result<bool, Fail> {
     let text = long(alloc, start)?;
     let mut sink = TextBuf::new(alloc);
-    run_over::<D, TextBuf>(alloc, text.as_bytes(), calls, &mut sink)?;
-    Ok(is_made_of(sink.as_bytes(), parts))
+    let answer = run_over::<D, TextBuf>(alloc, text.as_bytes(), calls, &mut sink);
+    match (answer, wanted) {
+        (Ok(()), Ok(parts)) => Ok(is_made_of(sink.as_bytes(), parts)),
+        (Err(RunError::Limit { at }), Err(wanted)) => {
+            Ok(at == wanted && sink.as_bytes().is_empty())
+        }
+        (Ok(()), Err(_)) | (Err(RunError::Limit { at: _ }), Ok(_)) => Ok(false),
+        (Err(error), _) => Err(Fail::from(error)),
+    }
 }
 
 /// What a run answers that joins one long text to another, and writes.

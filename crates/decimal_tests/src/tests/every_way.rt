@@ -6,14 +6,14 @@ use fixed_decimal::RoundingIncrement::{MultiplesOf1, MultiplesOf2, MultiplesOf5,
 use fixed_decimal::SignedRoundingMode::{Ceil, Floor, HalfCeil, HalfFloor, Unsigned};
 use fixed_decimal::UnsignedRoundingMode::{Expand, HalfEven, HalfExpand, HalfTrunc, Trunc};
 use fixed_decimal::{
-    DigitList, DigitStore, PackedDigits, RoundingIncrement, Sign, Signed, SignedRoundingMode,
-    UnsignedOver,
+    DigitList, DigitStore, PackedDigits, RoundError, RoundingIncrement, Sign, Signed,
+    SignedRoundingMode, Steps, UnsignedOver,
 };
 
 /// A position, a mode and an increment.
 type Rounding = (i16, SignedRoundingMode, RoundingIncrement);
 
-/// What each mode leaves: some digits, or a dash for 0.
+/// What each mode makes: some digits, a dash for 0, or `!` where it is refused because the limit is passed.
 type Columns = &'static [&'static str];
 
 /// The modes, in the order of the columns.
@@ -67,7 +67,7 @@ struct End {
     rows: &'static [Columns],
 }
 
-/// The multiples of the greatest number: what is above the last one that it reaches is beyond the limit, and 0.
+/// The multiples of the greatest number: what is above the last one that it reaches is beyond the limit.
 const GREATEST_ENDS: &[End] = &[
     // As 99 at 0. An odd number stands in the middle of two even ones, and the half of the one above, 50, is even.
     End {
@@ -76,12 +76,12 @@ const GREATEST_ENDS: &[End] = &[
         zero: &[("0", 32_768), (".", 1), ("0", 32_768)],
         front: &[("9", 32_768), (".", 1), ("9", 32_766)],
         zeros: 0,
-        words: &["-", "99", "98", "95", "75"],
+        words: &["!", "99", "98", "95", "75"],
         rows: &[
             &["99", "99", "99", "99", "99", "99", "99", "99", "99"],
-            &["-", "-", "98", "98", "-", "-", "98", "98", "-"],
-            &["-", "-", "95", "95", "-", "-", "-", "-", "-"],
-            &["-", "-", "75", "75", "-", "-", "-", "-", "-"],
+            &["!", "!", "98", "98", "!", "!", "98", "98", "!"],
+            &["!", "!", "95", "95", "!", "!", "!", "!", "!"],
+            &["!", "!", "75", "75", "!", "!", "!", "!", "!"],
         ],
     },
     // As 99.9 at 0.
@@ -91,12 +91,12 @@ const GREATEST_ENDS: &[End] = &[
         zero: &[("0", 32_768), (".", 1), ("0", 32_767)],
         front: &[("9", 32_768), (".", 1), ("9", 32_765)],
         zeros: 0,
-        words: &["-", "99", "98", "95", "75"],
+        words: &["!", "99", "98", "95", "75"],
         rows: &[
-            &["-", "-", "99", "99", "-", "-", "-", "-", "-"],
-            &["-", "-", "98", "98", "-", "-", "-", "-", "-"],
-            &["-", "-", "95", "95", "-", "-", "-", "-", "-"],
-            &["-", "-", "75", "75", "-", "-", "-", "-", "-"],
+            &["!", "!", "99", "99", "!", "!", "!", "!", "!"],
+            &["!", "!", "98", "98", "!", "!", "!", "!", "!"],
+            &["!", "!", "95", "95", "!", "!", "!", "!", "!"],
+            &["!", "!", "75", "75", "!", "!", "!", "!", "!"],
         ],
     },
     // As 99.9 at 0.
@@ -106,12 +106,12 @@ const GREATEST_ENDS: &[End] = &[
         zero: &[("0", 32_768)],
         front: &[],
         zeros: 32_766,
-        words: &["-", "99", "98", "95", "75"],
+        words: &["!", "99", "98", "95", "75"],
         rows: &[
-            &["-", "-", "99", "99", "-", "-", "-", "-", "-"],
-            &["-", "-", "98", "98", "-", "-", "-", "-", "-"],
-            &["-", "-", "95", "95", "-", "-", "-", "-", "-"],
-            &["-", "-", "75", "75", "-", "-", "-", "-", "-"],
+            &["!", "!", "99", "99", "!", "!", "!", "!", "!"],
+            &["!", "!", "98", "98", "!", "!", "!", "!", "!"],
+            &["!", "!", "95", "95", "!", "!", "!", "!", "!"],
+            &["!", "!", "75", "75", "!", "!", "!", "!", "!"],
         ],
     },
     // As 9.9 at 0, where 10 and 25 are beyond the limit. Of 0 and 25 the nearest is 0.
@@ -121,12 +121,12 @@ const GREATEST_ENDS: &[End] = &[
         zero: &[("0", 32_768)],
         front: &[],
         zeros: 32_767,
-        words: &["-", "9", "8", "5"],
+        words: &["!", "-", "9", "8", "5"],
         rows: &[
-            &["-", "-", "9", "9", "-", "-", "-", "-", "-"],
-            &["-", "-", "8", "8", "-", "-", "-", "-", "-"],
-            &["-", "-", "5", "5", "-", "-", "-", "-", "-"],
-            &["-", "-", "-", "-", "-", "-", "-", "-", "-"],
+            &["!", "!", "9", "9", "!", "!", "!", "!", "!"],
+            &["!", "!", "8", "8", "!", "!", "!", "!", "!"],
+            &["!", "!", "5", "5", "!", "!", "!", "!", "!"],
+            &["!", "!", "-", "-", "-", "-", "-", "-", "-"],
         ],
     },
 ];
@@ -184,12 +184,12 @@ const LEAST_ENDS: &[End] = &[
         zero: &[("0", 32_767)],
         front: &[],
         zeros: 32_767,
-        words: &["-", "1", "2", "5"],
+        words: &["!", "-", "1", "2", "5"],
         rows: &[
             &["1", "1", "-", "-", "-", "-", "-", "-", "-"],
             &["2", "2", "-", "-", "-", "-", "-", "-", "-"],
             &["5", "5", "-", "-", "-", "-", "-", "-", "-"],
-            &["-", "-", "-", "-", "-", "-", "-", "-", "-"],
+            &["!", "!", "-", "-", "-", "-", "-", "-", "-"],
         ],
     },
 ];
@@ -240,8 +240,11 @@ const ZERO_ENDS: &[End] = &[
     },
 ];
 
-/// The text that a word of the columns stands for.
+/// The text that a word of the columns stands for: that of the number where a rounding is refused.
 fn text_of(alloc: Global, end: &End, word: &str) -> Result<String, Fail> {
+    if word == "!" {
+        return long(alloc, end.start);
+    }
     if word == "-" {
         return long(alloc, end.zero);
     }
@@ -259,15 +262,37 @@ fn with_sign<D: DigitStore>(
     Ok(Signed::<UnsignedOver<D>>::try_from_str(alloc, text)?.with_sign(sign))
 }
 
-/// Whether a rounding of one value gives another.
+/// Whether a counted rounding of a value, and one that takes it, are refused for the limit and leave it.
+fn refuses<D: DigitStore>(
+    value: Signed<UnsignedOver<D>>,
+    (position, mode, increment): Rounding,
+    kept: &Signed<UnsignedOver<D>>,
+) -> bool {
+    let mut value = value;
+    let answer = value.round_counted(position, mode, increment, &mut Steps::new());
+    if answer != Err(RoundError::Limit) || value != *kept {
+        return false;
+    }
+    match value.rounded_with_mode_and_increment(position, mode, increment) {
+        Err((left, RoundError::Limit)) => left == *kept,
+        _ => false,
+    }
+}
+
+/// Whether a rounding of one value gives another, or is refused for the limit where the word says so.
 fn rounds_to<D: DigitStore>(
     value: &Signed<UnsignedOver<D>>,
     (position, mode, increment): Rounding,
-    wanted: &Signed<UnsignedOver<D>>,
+    (word, wanted): (&str, &Signed<UnsignedOver<D>>),
 ) -> Result<bool, Fail> {
     let mut rounded = value.clone()?;
-    rounded.round_with_mode_and_increment(position, mode, increment)?;
-    Ok(rounded == *wanted)
+    match rounded.round_with_mode_and_increment(position, mode, increment) {
+        Ok(()) => Ok(word != "!" && rounded == *wanted),
+        Err(RoundError::Limit) => {
+            Ok(word == "!" && refuses(rounded, (position, mode, increment), wanted))
+        }
+        Err(RoundError::Memory) => Err(Fail::new("memory was refused")),
+    }
 }
 
 /// Counts the columns of a row that have this word, and whose mode gives this value.
@@ -283,7 +308,7 @@ fn count_columns<D: DigitStore>(
     };
     let mut count = 0_usize;
     for (mode, column) in modes.iter().zip(columns) {
-        if *column == word && rounds_to(value, (position, *mode, increment), wanted)? {
+        if *column == word && rounds_to(value, (position, *mode, increment), (word, wanted))? {
             count = count.saturating_add(1);
         }
     }

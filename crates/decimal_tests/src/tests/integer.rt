@@ -8,6 +8,8 @@ use std::convert::TryFrom;
 const READ: &[(&str, &str)] = &[
     ("05", "05"),
     ("5.0e1", "50"),
+    ("5.0e+1", "50"),
+    ("-5.0E+1", "-50"),
     ("0e5", "0"),
     ("-05", "-05"),
     ("+0", "+0"),
@@ -30,6 +32,10 @@ const FAULTS: &[(&str, &str)] = &[
     ("5.0x", "syntax"),
     ("+-5", "syntax"),
     ("1e", "syntax"),
+    ("1e+", "syntax"),
+    ("1e+-5", "syntax"),
+    ("5.00e+1", "limit"),
+    ("1e+32768", "limit"),
 ];
 
 /// The parts of the longest text.

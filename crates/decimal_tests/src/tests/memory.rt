@@ -121,7 +121,8 @@ fn rounds<D: DigitStore>(alloc: Global, ones: usize) -> Result<bool, Fail> {
 fn joins<D: DigitStore>(alloc: Global, nines: usize) -> Result<bool, Fail> {
     let text = long(alloc, &[("9", nines)])?;
     let wanted = long(alloc, &[("9", nines), ("7", 1)])?;
-    let value = UnsignedOver::<D>::try_from_str(alloc, text.as_str())?.multiplied_pow10(1);
+    let mut value = UnsignedOver::<D>::try_from_str(alloc, text.as_str())?;
+    value.multiply_pow10(1)?;
     match value.concatenated_end(UnsignedOver::<D>::from_u8(alloc, 7)) {
         Ok(value) => Ok(prints(value, wanted.as_str())),
         Err(_) => Err(Fail::new("memory was refused")),

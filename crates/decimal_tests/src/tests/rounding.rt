@@ -5,7 +5,9 @@ use super::*;
 use fixed_decimal::RoundingIncrement::{MultiplesOf1, MultiplesOf2, MultiplesOf5, MultiplesOf25};
 use fixed_decimal::SignedRoundingMode::{Ceil, Floor, HalfCeil, HalfFloor, Unsigned};
 use fixed_decimal::UnsignedRoundingMode::{Expand, HalfEven, HalfExpand, HalfTrunc, Trunc};
-use fixed_decimal::{RoundingIncrement, SignedRoundingMode, Steps, UnsignedRoundingMode};
+use fixed_decimal::{
+    LimitError, RoundError, RoundingIncrement, SignedRoundingMode, Steps, UnsignedRoundingMode,
+};
 
 /// The modes, in the order of the columns below.
 const MODES: &[SignedRoundingMode] = &[
@@ -59,40 +61,51 @@ const BY_INCREMENTS: &[(&str, Rounding, &str)] = &[
     ),
 ];
 
-/// Rounds at 0 by the call that bears the mode's name, where there is one.
-fn round_by_name(value: &mut Decimal, mode: SignedRoundingMode) {
+/// Rounds in place by the call that bears the mode's name, where there is one.
+fn round_by_name(
+    value: &mut Decimal,
+    position: i16,
+    mode: SignedRoundingMode,
+) -> Result<(), LimitError> {
     match mode {
-        Ceil => value.ceil(0),
-        Floor => value.floor(0),
-        Unsigned(Expand) => value.expand(0),
-        Unsigned(Trunc) => value.trunc(0),
-        Unsigned(HalfEven) => value.round(0),
-        _ => value.round_with_mode(0, mode),
+        Ceil => value.ceil(position),
+        Floor => value.floor(position),
+        Unsigned(Expand) => value.expand(position),
+        Unsigned(Trunc) => {
+            value.trunc(position);
+            Ok(())
+        }
+        Unsigned(HalfEven) => value.round(position),
+        _ => value.round_with_mode(position, mode),
     }
 }
 
 /// The same on a value.
-fn rounded_by_name(value: Decimal, mode: SignedRoundingMode) -> Decimal {
+fn rounded_by_name(
+    value: Decimal,
+    position: i16,
+    mode: SignedRoundingMode,
+) -> Result<Decimal, Decimal> {
     match mode {
-        Ceil => value.ceiled(0),
-        Floor => value.floored(0),
-        Unsigned(Expand) => value.expanded(0),
-        Unsigned(Trunc) => value.trunced(0),
-        Unsigned(HalfEven) => value.rounded(0),
-        _ => value.rounded_with_mode(0, mode),
+        Ceil => value.ceiled(position),
+        Floor => value.floored(position),
+        Unsigned(Expand) => value.expanded(position),
+        Unsigned(Trunc) => Ok(value.trunced(position)),
+        Unsigned(HalfEven) => value.rounded(position),
+        _ => value.rounded_with_mode(position, mode),
     }
 }
 
 /// What a mode leaves of a text at 0, in place.
 fn shown(alloc: Global, text: &str, mode: SignedRoundingMode) -> Result<TextBuf, Fail> {
     let mut value = read(alloc, text)?;
-    round_by_name(&mut value, mode);
+    round_by_name(&mut value, 0, mode)?;
     printed(alloc, &value)
 }
 
 /// What a mode leaves of a text at 0, on a value.
 fn shown_by_value(alloc: Global, text: &str, mode: SignedRoundingMode) -> Result<TextBuf, Fail> {
-    printed(alloc, &rounded_by_name(read(alloc, text)?, mode))
+    printed(alloc, &made(rounded_by_name(read(alloc, text)?, 0, mode))?)
 }
 
 /// Asserts what a mode leaves of a text at 0, by each call.
@@ -117,6 +130,15 @@ fn assert_modes(rt: &impl Abort, alloc: Global, row: &str) -> Result<(), Fail> {
     Ok(())
 }
 
+/// What is left of a text by a rounding that was not to be refused for the limit.
+fn left_by(answer: Result<(), RoundError>, left: TextBuf, text: &str) -> Result<TextBuf, Fail> {
+    match answer {
+        Ok(()) => Ok(left),
+        Err(RoundError::Limit) => Err(Fail::new("a limit is passed")),
+        Err(RoundError::Memory) => refused(left, text),
+    }
+}
+
 /// What a counted rounding leaves of a text.
 fn counted(
     alloc: Global,
@@ -125,11 +147,7 @@ fn counted(
 ) -> Result<TextBuf, Fail> {
     let mut value = read(alloc, text)?;
     let answer = value.round_counted(position, mode, increment, &mut Steps::new());
-    let left = printed(alloc, &value)?;
-    match answer {
-        Ok(()) => Ok(left),
-        Err(_) => refused(left, text),
-    }
+    left_by(answer, printed(alloc, &value)?, text)
 }
 
 /// What a rounding in place leaves of a text.
@@ -140,11 +158,7 @@ fn in_place(
 ) -> Result<TextBuf, Fail> {
     let mut value = read(alloc, text)?;
     let answer = value.round_with_mode_and_increment(position, mode, increment);
-    let left = printed(alloc, &value)?;
-    match answer {
-        Ok(()) => Ok(left),
-        Err(_) => refused(left, text),
-    }
+    left_by(answer, printed(alloc, &value)?, text)
 }
 
 /// What a rounding on a value leaves of a text.
@@ -155,7 +169,7 @@ fn by_value(
 ) -> Result<TextBuf, Fail> {
     match read(alloc, text)?.rounded_with_mode_and_increment(position, mode, increment) {
         Ok(value) => printed(alloc, &value),
-        Err(value) => refused(printed(alloc, &value)?, text),
+        Err((value, error)) => left_by(Err(error), printed(alloc, &value)?, text),
     }
 }
 
@@ -185,6 +199,60 @@ fn increments(rt: HostRuntime) -> Result<(), Fail> {
     let alloc = rt.alloc();
     for row in BY_INCREMENTS {
         assert_rounds(&rt, alloc, *row)?;
+    }
+    Ok(())
+}
+
+/// A number, and what each mode makes of it at the highest position: a dash where it is refused.
+const AT_THE_TOP: &[&str] = &[
+    "95e32766 - - 9e32767 9e32767 - - 9e32767 9e32767 -",
+    "-95e32766 -9e32767 - - -9e32767 -9e32767 - - -9e32767 -",
+    "93e32766 - - 9e32767 9e32767 9e32767 9e32767 9e32767 9e32767 9e32767",
+    "+96e32766 - - +9e32767 +9e32767 - - - - -",
+];
+
+/// Whether a mode makes of a text what the word says, in place; a refusal has to leave the value.
+fn rounds_to(
+    alloc: Global,
+    text: &str,
+    mode: SignedRoundingMode,
+    word: &str,
+) -> Result<bool, Fail> {
+    let mut value = read(alloc, text)?;
+    match round_by_name(&mut value, 32767, mode) {
+        Ok(()) => Ok(word != "-" && value == read(alloc, word)?),
+        Err(LimitError) => Ok(word == "-" && value == read(alloc, text)?),
+    }
+}
+
+/// The same on a value.
+fn rounds_by_value_to(
+    alloc: Global,
+    text: &str,
+    mode: SignedRoundingMode,
+    word: &str,
+) -> Result<bool, Fail> {
+    match rounded_by_name(read(alloc, text)?, 32767, mode) {
+        Ok(value) => Ok(word != "-" && value == read(alloc, word)?),
+        Err(value) => Ok(word == "-" && value == read(alloc, text)?),
+    }
+}
+
+/// Asserts a row of the table of the highest position.
+fn assert_rounds_at_the_top(rt: &impl Abort, alloc: Global, row: &str) -> Result<(), Fail> {
+    let (text, words) = row.split_once(' ').expect(rt, "a row");
+    for (mode, word) in MODES.iter().zip(words.split(' ')) {
+        assert!(rt; rounds_to(alloc, text, *mode, word)?, "{text}");
+        assert!(rt; rounds_by_value_to(alloc, text, *mode, word)?, "{text}");
+    }
+    Ok(())
+}
+
+#[test]
+fn nine_modes_at_the_top(rt: HostRuntime) -> Result<(), Fail> {
+    let alloc = rt.alloc();
+    for row in AT_THE_TOP {
+        assert_rounds_at_the_top(&rt, alloc, row)?;
     }
     Ok(())
 }

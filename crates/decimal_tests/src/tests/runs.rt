@@ -3,7 +3,7 @@ use super::counting::CountingStore;
 use super::*;
 use decimal_testing::{Full, Narrow, Refusal};
 use fixed_decimal::RoundingIncrement::{MultiplesOf1, MultiplesOf5, MultiplesOf25};
-use fixed_decimal::SignedRoundingMode::{Ceil, Unsigned};
+use fixed_decimal::SignedRoundingMode::{Ceil, Floor, Unsigned};
 use fixed_decimal::UnsignedRoundingMode::{Expand, HalfEven, HalfTrunc, Trunc};
 use fixed_decimal::{
     Call, DigitList, DigitStore, Out, PackedDigits, RunError, Sign, SignDisplay, run, run_over,
@@ -22,15 +22,11 @@ const EDITS: &[Run] = &[
     (".5", &[], "0.5"),
     ("0", &[Call::MultiplyPow10(3)], "0000"),
     ("1.20e0", &[], "1.2"),
+    ("-1.20e+1", &[], "-12.0"),
     (
         "98765",
-        &[Call::MultiplyPow10(32763), Call::MultiplyPow10(1)],
-        "0",
-    ),
-    (
-        "98765",
-        &[Call::MultiplyPow10(-32768), Call::MultiplyPow10(-1)],
-        "0",
+        &[Call::MultiplyPow10(3), Call::MultiplyPow10(-8)],
+        "0.98765000",
     ),
     (
         "0012.3400",
@@ -110,6 +106,7 @@ const ROUNDINGS: &[Run] = &[
 /// Runs of joins.
 const JOINS: &[Run] = &[
     ("123000", &[Call::Concatenate(b"456")], "123456"),
+    ("1000", &[Call::Concatenate(b"1.2e+1")], "1012"),
     (
         "120",
         &[
@@ -201,6 +198,76 @@ const REFUSED: &[Refused] = &[
     ),
 ];
 
+/// Runs that would pass the limits.
+const OVERFLOWS: &[Refused] = &[
+    ("123", &[Call::MultiplyPow10(32767)], "overflow", 0),
+    (
+        "98765",
+        &[Call::MultiplyPow10(32763), Call::MultiplyPow10(1)],
+        "overflow",
+        1,
+    ),
+    (
+        "-98765",
+        &[Call::MultiplyPow10(-32768), Call::MultiplyPow10(-1)],
+        "overflow",
+        1,
+    ),
+    (
+        "0",
+        &[Call::MultiplyPow10(32767), Call::MultiplyPow10(1)],
+        "overflow",
+        1,
+    ),
+    (
+        "7",
+        &[
+            Call::MultiplyPow10(32767),
+            Call::Round(32767, Unsigned(Expand), MultiplesOf5),
+        ],
+        "overflow",
+        1,
+    ),
+    (
+        "-7e32767",
+        &[
+            Call::TrimEnd,
+            Call::Round(32767, Ceil, MultiplesOf1),
+            Call::Round(32767, Floor, MultiplesOf5),
+        ],
+        "overflow",
+        2,
+    ),
+    // What comes behind the first refusal is not looked at.
+    (
+        "7e32767",
+        &[
+            Call::Round(32767, Unsigned(Expand), MultiplesOf25),
+            Call::Concatenate(b"x"),
+            Call::MultiplyPow10(1),
+        ],
+        "overflow",
+        0,
+    ),
+    // An operand beyond the limits is another refusal.
+    (
+        "7e32767",
+        &[
+            Call::TrimEnd,
+            Call::Concatenate(b"1e32768"),
+            Call::MultiplyPow10(1),
+        ],
+        "limit",
+        1,
+    ),
+    (
+        "7e32767",
+        &[Call::Concatenate(b"8e32767"), Call::MultiplyPow10(1)],
+        "overlap",
+        0,
+    ),
+];
+
 /// Runs of more than eight and of more than sixteen digits, whose numbers overlap: memory is there, and not what is
 /// wanted.
 const LONG_OVERLAPS: &[Refused] = &[
@@ -233,6 +300,7 @@ fn words(error: &RunError) -> (&'static str, usize) {
         RunError::Start(ParseError::Memory) => ("start: memory", 0),
         RunError::Operand { at, fault } => (fault_word(fault), *at),
         RunError::Overlap { at } => ("overlap", *at),
+        RunError::Limit { at } => ("overflow", *at),
         RunError::Memory { at } => ("memory", *at),
         RunError::Sink => ("sink", 0),
     }
@@ -383,10 +451,9 @@ fn signs(rt: HostRuntime) -> Result<(), Fail> {
     assert_writes(&rt, rt.alloc(), SIGNS)
 }
 
-#[test]
-fn refuses(rt: HostRuntime) {
-    let alloc = rt.alloc();
-    for (start, calls, fault, at) in REFUSED {
+/// Asserts how runs are refused, over each store too.
+fn assert_refuses(rt: &impl Abort, alloc: Global, rows: &[Refused]) {
+    for (start, calls, fault, at) in rows {
         assert!(rt;
             refused_run(alloc, start, calls) == (*fault, *at),
             "{start}"
@@ -400,6 +467,16 @@ fn refuses(rt: HostRuntime) {
             "{start}"
         );
     }
+}
+
+#[test]
+fn refuses(rt: HostRuntime) {
+    assert_refuses(&rt, rt.alloc(), REFUSED);
+}
+
+#[test]
+fn refuses_beyond_the_limits(rt: HostRuntime) {
+    assert_refuses(&rt, rt.alloc(), OVERFLOWS);
 }
 
 #[test]

@@ -8,6 +8,7 @@ const TEXTS: &[&str] = &[
     "1e99999",
     "+1.729e+03",
     "1e10",
+    "1e+5",
     "-1e+01",
     "0e5",
     "-1e-99999",
@@ -28,8 +29,13 @@ const FAULTS: &[(&str, &str)] = &[
     ("-123e", "syntax"),
     ("1e1e1", "syntax"),
     ("1e1E1", "syntax"),
+    ("1e1e+1", "syntax"),
+    ("1e+1e1", "syntax"),
     ("123E4", "syntax"),
     ("-1e+-1", "syntax"),
+    ("1e+-1", "syntax"),
+    ("1e++1", "syntax"),
+    ("1e+", "syntax"),
     ("5.e3", "syntax"),
     ("", "syntax"),
     ("e", "syntax"),
@@ -116,7 +122,7 @@ fn fault(alloc: Global, text: &str) -> &'static str {
 /// What a decimal, shifted, and an exponent print.
 fn joined(alloc: Global, digits: u32, shift: i16, exponent: u8) -> Result<TextBuf, Fail> {
     let mut significand = Decimal::try_from_u32(alloc, digits)?;
-    significand.multiply_pow10(shift);
+    significand.multiply_pow10(shift)?;
     let exponent = FixedInteger::from_u8(alloc, exponent);
     shown(alloc, &ScientificDecimal::from(significand, exponent))
 }

@@ -1,11 +1,12 @@
 //! Shifts, and edits of the range that is shown.
-ghost use Rattle.std.specs.Prelude.{◌≡◌, ℕ, ◌<◌, ◌≤◌, length, drop, slice_index, pos, ◌+ℤ◌};
+ghost use Rattle.std.specs.Prelude.{◌≡◌, ℕ, ◌<◌, ◌≤◌, length, drop, slice_index, pos, ◌+ℤ◌, Some, None, IfOk, IfErr, OnOk, OnErr};
 ghost use Rattle.std.specs.Int.{int_gap};
-ghost use Rattle.decimal_unsigned.specs.Unsigned.{Unsigned, zero_value, IsLeastHi, IsGreatestLo};
+ghost use Rattle.decimal_unsigned.specs.Unsigned.{Unsigned, IsLeastHi, IsGreatestLo};
 ghost use Rattle.decimal_unsigned.specs.Edits.{shifted, trimmed_start, trimmed_end, trimmed_end_if_integer, padded_start, padded_end, cut};
 ghost use Rattle.decimal_unsigned.specs.EditLaws.{TrimmedAlike, IsShortest, truncated, PartsJoin};
 
 use super::UnsignedOver;
+use crate::error::LimitError;
 use decimal_digits::digits::DigitStore;
 use decimal_digits::ops::{
     at_least_zero, at_most_zero, lowered, magnitude_of, narrowed, places_above, sum,
@@ -14,17 +15,19 @@ use decimal_digits::ops::{
 impl<D: DigitStore> UnsignedOver<D> {
     /// Multiplies by 10 to the power `delta`, exactly.
     ///
-    /// The range moves along, and magnitude 0 stays shown. Where the range would leave the magnitudes -32768 to 32767
-    /// the value becomes 0, which shows magnitude 0 alone. `250` by -2 is `2.50`, and `0` by 3 is `0000`. The
-    /// original's `multiply_pow10`.
-    pub fn multiply_pow10(&mut self, delta: i16)
-        ensures { self.new ≡ shifted self.old delta }
+    /// The range moves along, and magnitude 0 stays shown. `250` by -2 is `2.50`, and `0` by 3 is `0000`.
+    ///
+    /// Err: the range would leave the magnitudes -32768 to 32767, as that of `10` by 32767 would. The value then stays
+    /// as it was, range included. The original's `multiply_pow10`, which makes such a value 0.
+    pub fn multiply_pow10(&mut self, delta: i16) -> Result<(), LimitError>
+        ensures ok { OnOk result (shifted self.old delta ≡ Some self.new) }
+        ensures limit { OnErr result (shifted self.old delta ≡ None) }
+        ensures err { OnErr result (self.new ≡ self.old) }
     {
         let hi = sum(self.hi, delta);
         let lo = sum(self.lo, delta);
         if hi > 32767 || lo < -32768 {
-            self.clear();
-            return;
+            return Err(LimitError);
         }
         let magnitude = if self.digits.len() == 0 {
             0
@@ -36,15 +39,7 @@ impl<D: DigitStore> UnsignedOver<D> {
         self.magnitude = magnitude;
         self.hi = upper;
         self.lo = lower;
-    }
-
-    fn clear(&mut self)
-        ensures { self.new ≡ zero_value }
-    {
-        self.digits.clear();
-        self.magnitude = 0;
-        self.hi = 0;
-        self.lo = 0;
+        Ok(())
     }
 
     /// Shows no zero in front of the first digit that is not 0, magnitude 0 apart.
@@ -139,12 +134,19 @@ impl<D: DigitStore> UnsignedOver<D> {
         self.lo = lo;
     }
 
-    /// `multiply_pow10` on a value: `250` by -2 gives `2.50`. The original's `multiplied_pow10`.
-    pub fn multiplied_pow10(mut self, delta: i16) -> Self
-        ensures { result ≡ shifted self delta }
+    /// `multiply_pow10` on a value: `250` by -2 gives `2.50`.
+    ///
+    /// Err: the range would leave the magnitudes -32768 to 32767; it holds the value, unchanged. The original's
+    /// `multiplied_pow10`, which gives 0 then.
+    pub fn multiplied_pow10(mut self, delta: i16) -> Result<Self, Self>
+        ensures ok { IfOk result (λ v. shifted self delta ≡ Some v) }
+        ensures limit { OnErr result (shifted self delta ≡ None) }
+        ensures err { IfErr result (λ v. v ≡ self) }
     {
-        self.multiply_pow10(delta);
-        self
+        match self.multiply_pow10(delta) {
+            Ok(()) => Ok(self),
+            Err(LimitError) => Err(self),
+        }
     }
 
     /// `trim_start` on a value: `0012.3400` gives `12.3400`. The original's `trimmed_start`.

@@ -129,9 +129,10 @@ impl<D: DigitStore> UnsignedOver<D> {
     /// Reads the value that a text writes.
     ///
     /// A text is digits, or digits around a dot with at least one behind it, or either of these (then with digits
-    /// on one side of the dot or none) and an `e` or `E` with a whole number, which may have a minus. All zeros count:
-    /// `0012.3400` shows magnitudes 3 to -4. Behind an exponent, zeros in front of a first digit above magnitude 0
-    /// and zeros behind a last digit below it are not shown: `1.20e0` gives `1.2`.
+    /// on one side of the dot or none) and an `e` or `E` with a whole number, which may have a minus or a plus in
+    /// front, but not both. All zeros count: `0012.3400` shows magnitudes 3 to -4. Behind an exponent, zeros in front
+    /// of a first digit above magnitude 0 and zeros behind a last digit below it are not shown: `1.20e0` gives `1.2`,
+    /// and `1.20e+1` gives `12.0`.
     ///
     /// Err: `Syntax` where the text is none of these; else `Limit` where a side of the dot has more than 32,768
     /// digits, or a number other than 0 has an exponent that is no magnitude or that would move the range beyond

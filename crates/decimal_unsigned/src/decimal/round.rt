@@ -1,17 +1,17 @@
 //! Rounding at a position.
-ghost use Rattle.std.specs.Prelude.{◌≡◌, ◌≢◌, ◌+◌, ◌≤◌, pos, ◌-ℤ◌, ◌≤ℤ◌, IfOk, IfErr, IsOk, OnOk, OnErr};
+ghost use Rattle.std.specs.Prelude.{◌≡◌, ◌≢◌, ◌+◌, ◌≤◌, pos, ◌-ℤ◌, ◌≤ℤ◌, Some, None, IsErrOf, IfOk, IfErr, OnOk, OnErr};
 ghost use Rattle.std.specs.Int.{int_max};
 ghost use Rattle.decimal_digits.specs.Number.{size};
 ghost use Rattle.decimal_unsigned.specs.Unsigned.{Unsigned};
 ghost use Rattle.decimal_unsigned.specs.Edits.{cut};
-ghost use Rattle.decimal_unsigned.specs.Rounded.{IsRounded, rounded, RoundingWantsMemory};
+ghost use Rattle.decimal_unsigned.specs.Rounded.{IsRounded, rounded, RoundingRefuses};
 ghost use Rattle.decimal_unsigned.specs.EditLaws.{PartsJoin, TruncatedAgain, ExpandedAgain, RoundsInOrder};
 
 use super::UnsignedOver;
+use crate::error::LimitError;
 use decimal_digits::digits::{Counted, DigitStore, Steps};
 use decimal_digits::ops::lowered;
-use decimal_digits::rounding::{RoundingIncrement, UnsignedRoundingMode, round};
-use std::alloc::AllocError;
+use decimal_digits::rounding::{RoundError, RoundingIncrement, UnsignedRoundingMode, round};
 
 /// The highest magnitude that is shown after a rounding: of those shown before, the one just below the position, and
 /// the first digit's.
@@ -33,12 +33,15 @@ impl<D: DigitStore> UnsignedOver<D> {
     /// multiples of the unit, and the value becomes that one. It shows the magnitudes down to the position, or to 0
     /// where the position is higher, and from the highest that was shown, the one just below the position, or the first
     /// digit, whichever is highest. `9.75` at -1, half-even by 5, becomes `10.0`, and `99.999` at 4, half-expand,
-    /// becomes `0000`, for 0 is nearer. Where the multiple reaches 10 to the 32768 the number becomes 0, with that
-    /// range.
+    /// becomes `0000`, for 0 is nearer.
     ///
-    /// Each read and each write of a digit is a turn; beyond seven, a rounding pays only for digits that vanish.
-    /// Err: memory was refused for one digit more, which only `MultiplesOf25` may need, and only where the number has
-    /// at least `L` digits. The value then stays as it was. Not in the original, which counts nothing.
+    /// Limit: the multiple is 10 to the 32768 or more, as that of 7 times 10 to the 32767 is at 32767, expand by 5.
+    /// Memory: memory was refused for one digit more, which only `MultiplesOf25` may need, and only where the multiple
+    /// is below that limit and the number has at least `L` digits. After either the value is as it was, range included.
+    ///
+    /// Each read and each write of a digit is a turn. A rounding takes at most seven, and one for each digit that
+    /// vanishes; one that is refused with Limit takes at most seven, and one for each digit. Not in the original, which
+    /// counts nothing and puts 0 for what is too great.
     #[tactic(auto, using(crate::proofs::RoundingLaws::rounds_in_order))]
     pub fn round_counted(
         &mut self,
@@ -46,24 +49,27 @@ impl<D: DigitStore> UnsignedOver<D> {
         mode: UnsignedRoundingMode,
         increment: RoundingIncrement,
         steps: &mut Steps,
-    ) -> Result<(), AllocError>
-        ensures rounds { OnOk result (IsRounded self.old position mode increment self.new) }
+    ) -> Result<(), RoundError>
+        ensures rounds { OnOk result (IsRounded self.old position mode increment (Some self.new)) }
 
         ensures err { OnErr result (self.new ≡ self.old) }
-        ensures memory { OnErr result (RoundingWantsMemory D.L self.old position mode increment) }
-        ensures succeeds { increment ≢ RoundingIncrement.MultiplesOf25 → IsOk result }
+        ensures refused { IfErr result (λ e. RoundingRefuses D.L e self.old position mode increment) }
+        ensures succeeds { increment ≢ RoundingIncrement.MultiplesOf25 → IsErrOf result RoundError.Memory → ⊥ }
 
         // The same rounding once more changes nothing, range included.
-        ensures again { OnOk result (rounded self.new position mode increment ≡ self.new) }
-        // The greater of two numbers, where it stays below the limit, is rounded to no less than the other.
+        ensures again { OnOk result (rounded self.new position mode increment ≡ Some self.new) }
+        // What stands after a rounding of the greater number is no less than what stands after one of the other.
         ensures ordered { (v w : Unsigned) → RoundsInOrder v w position mode increment }
 
-        ensures turns { steps.new.count + size self.new.number ≤ steps.old.count + size self.old.number + 7 }
+        ensures turns { (IsErrOf result RoundError.Limit → ⊥)
+            → steps.new.count + size self.new.number ≤ steps.old.count + size self.old.number + 7 }
+        ensures limit_turns { IsErrOf result RoundError.Limit
+            → steps.new.count ≤ steps.old.count + size self.old.number + 7 }
         ensures grows { steps.old.count ≤ steps.new.count }
     {
         let magnitude = self.magnitude;
         let mut counted = Counted::new(&mut self.digits, steps);
-        let first = round(&mut counted, magnitude, position, mode, increment)?.unwrap_or(0);
+        let first = round(&mut counted, magnitude, position, mode, increment)?;
         self.hi = highest_after(self.hi, position, first);
         self.lo = position.min(0);
         self.magnitude = first;
@@ -73,115 +79,159 @@ impl<D: DigitStore> UnsignedOver<D> {
     /// Rounds at a position to a multiple of an increment.
     ///
     /// `9.75` at -1, half-even by 5, becomes `10.0`. What a rounding does to the number and to the range, and when it
-    /// is refused, `round_counted` says; after Err the value is unchanged. The original's
-    /// `round_with_mode_and_increment`, which cannot be refused.
+    /// is refused, `round_counted` says; after Err the value is unchanged, range included. The original's
+    /// `round_with_mode_and_increment`, which cannot be refused: it puts 0 for what is too great.
     pub fn round_with_mode_and_increment(
         &mut self,
         position: i16,
         mode: UnsignedRoundingMode,
         increment: RoundingIncrement,
-    ) -> Result<(), AllocError>
-        ensures rounds { OnOk result (IsRounded self.old position mode increment self.new) }
+    ) -> Result<(), RoundError>
+        ensures rounds { OnOk result (IsRounded self.old position mode increment (Some self.new)) }
         ensures err { OnErr result (self.new ≡ self.old) }
-        ensures memory { OnErr result (RoundingWantsMemory D.L self.old position mode increment) }
-        ensures succeeds { increment ≢ RoundingIncrement.MultiplesOf25 → IsOk result }
+        ensures refused { IfErr result (λ e. RoundingRefuses D.L e self.old position mode increment) }
+        ensures succeeds { increment ≢ RoundingIncrement.MultiplesOf25 → IsErrOf result RoundError.Memory → ⊥ }
     {
         self.round_counted(position, mode, increment, &mut Steps::new())
     }
 
     /// Rounds at a position to a multiple of its power of ten.
     ///
-    /// `2.51` at 0, half-trunc, becomes `3`. The original's `round_with_mode`.
-    pub fn round_with_mode(&mut self, position: i16, mode: UnsignedRoundingMode)
-        ensures { IsRounded self.old position mode RoundingIncrement.MultiplesOf1 self.new }
+    /// `2.51` at 0, half-trunc, becomes `3`. Err: the multiple is 10 to the 32768 or more; the value then stays as it
+    /// was, range included. The original's `round_with_mode`, which puts 0 then.
+    pub fn round_with_mode(
+        &mut self,
+        position: i16,
+        mode: UnsignedRoundingMode,
+    ) -> Result<(), LimitError>
+        ensures rounds { OnOk result (IsRounded self.old position mode RoundingIncrement.MultiplesOf1 (Some self.new)) }
+        ensures limit { OnErr result (IsRounded self.old position mode RoundingIncrement.MultiplesOf1 None) }
+        ensures err { OnErr result (self.new ≡ self.old) }
     {
         self.round_with_mode_and_increment(position, mode, RoundingIncrement::MultiplesOf1)
-            .unwrap()
+            .map_err(|_| LimitError)
     }
 
     /// Rounds half-even at a position.
     ///
-    /// `1.5` at 0 becomes `2`, and so does `2.5`. The original's `round`.
-    pub fn round(&mut self, position: i16)
-        ensures { IsRounded self.old position UnsignedRoundingMode.HalfEven RoundingIncrement.MultiplesOf1 self.new }
+    /// `1.5` at 0 becomes `2`, and so does `2.5`. Err: the multiple is 10 to the 32768 or more; the value then stays as
+    /// it was, range included. The original's `round`, which puts 0 then.
+    pub fn round(&mut self, position: i16) -> Result<(), LimitError>
+        ensures rounds { OnOk result (IsRounded self.old position UnsignedRoundingMode.HalfEven
+            RoundingIncrement.MultiplesOf1 (Some self.new)) }
+        ensures limit { OnErr result (IsRounded self.old position UnsignedRoundingMode.HalfEven
+            RoundingIncrement.MultiplesOf1 None) }
+        ensures err { OnErr result (self.new ≡ self.old) }
     {
-        self.round_with_mode(position, UnsignedRoundingMode::HalfEven);
+        self.round_with_mode(position, UnsignedRoundingMode::HalfEven)
     }
 
     /// Rounds away from zero at a position.
     ///
-    /// `99.999` at 4 becomes `10000`. The original's `expand`.
-    pub fn expand(&mut self, position: i16)
-        ensures rounds { IsRounded self.old position UnsignedRoundingMode.Expand
-            RoundingIncrement.MultiplesOf1 self.new }
-        // Expanded once more, it has the number that the old value gets at the higher position.
-        ensures again { ExpandedAgain self.old position self.new }
+    /// `99.999` at 4 becomes `10000`. Err: the multiple is 10 to the 32768 or more; the value then stays as it was,
+    /// range included. The original's `expand`, which puts 0 then.
+    pub fn expand(&mut self, position: i16) -> Result<(), LimitError>
+        ensures rounds { OnOk result (IsRounded self.old position UnsignedRoundingMode.Expand
+            RoundingIncrement.MultiplesOf1 (Some self.new)) }
+        ensures limit { OnErr result (IsRounded self.old position UnsignedRoundingMode.Expand
+            RoundingIncrement.MultiplesOf1 None) }
+        ensures err { OnErr result (self.new ≡ self.old) }
+        // Expanded once more, it has the number that the old value gets at the higher position, or is refused where
+        // that one is.
+        ensures again { ExpandedAgain self.old position }
     {
-        self.round_with_mode(position, UnsignedRoundingMode::Expand);
+        self.round_with_mode(position, UnsignedRoundingMode::Expand)
     }
 
     /// Rounds toward zero at a position.
     ///
-    /// `1234.56` at -1 becomes `1234.5`. The original's `trunc`.
+    /// `1234.56` at -1 becomes `1234.5`. It is never refused, for the multiple is not above the number. The original's
+    /// `trunc`.
     pub fn trunc(&mut self, position: i16)
         ensures rounds { IsRounded self.old position UnsignedRoundingMode.Trunc
-            RoundingIncrement.MultiplesOf1 self.new }
+            RoundingIncrement.MultiplesOf1 (Some self.new) }
         // Joined in front of what `set_max_position` leaves at the position, this part gives the number back.
         ensures parts { PartsJoin self.old position self.new (cut self.old position) }
         // Truncated once more, it has the number that the old value gets at the higher position, and the range too
         // where the second position is that one.
         ensures again { TruncatedAgain self.old position self.new }
     {
-        self.round_with_mode(position, UnsignedRoundingMode::Trunc);
+        self.round_with_mode(position, UnsignedRoundingMode::Trunc)
+            .unwrap();
     }
 
-    /// `round_with_mode_and_increment` on a value; Err holds the value, unchanged.
+    /// `round_with_mode_and_increment` on a value: `9.75` at -1, half-even by 5, gives `10.0`.
     ///
-    /// The original's `rounded_with_mode_and_increment`, which cannot be refused.
+    /// Err: it was refused, for the limit or for memory; the error holds the value, unchanged, and why. The original's
+    /// `rounded_with_mode_and_increment`, which cannot be refused: it gives 0 for what is too great.
     pub fn rounded_with_mode_and_increment(
         mut self,
         position: i16,
         mode: UnsignedRoundingMode,
         increment: RoundingIncrement,
-    ) -> Result<Self, Self>
-        ensures rounds { IfOk result (λ v. IsRounded self position mode increment v) }
-        ensures err { IfErr result (λ v. v ≡ self) }
-        ensures memory { OnErr result (RoundingWantsMemory D.L self position mode increment) }
-        ensures succeeds { increment ≢ RoundingIncrement.MultiplesOf25 → IsOk result }
+    ) -> Result<Self, (Self, RoundError)>
+        ensures rounds { IfOk result (λ v. IsRounded self position mode increment (Some v)) }
+        ensures err { IfErr result (λ e. e.0 ≡ self) }
+        ensures refused { IfErr result (λ e. RoundingRefuses D.L e.1 self position mode increment) }
+        ensures succeeds { increment ≢ RoundingIncrement.MultiplesOf25
+            → IfErr result (λ e. e.1 ≡ RoundError.Memory → ⊥) }
     {
         match self.round_with_mode_and_increment(position, mode, increment) {
             Ok(()) => Ok(self),
-            Err(_) => Err(self),
+            Err(error) => Err((self, error)),
         }
     }
 
-    /// `round_with_mode` on a value: `2.51` at 0, half-trunc, gives `3`. The original's `rounded_with_mode`.
-    pub fn rounded_with_mode(mut self, position: i16, mode: UnsignedRoundingMode) -> Self
-        ensures { IsRounded self position mode RoundingIncrement.MultiplesOf1 result }
+    /// `round_with_mode` on a value: `2.51` at 0, half-trunc, gives `3`.
+    ///
+    /// Err: the multiple is 10 to the 32768 or more; it holds the value, unchanged. The original's `rounded_with_mode`,
+    /// which gives 0 then.
+    pub fn rounded_with_mode(
+        mut self,
+        position: i16,
+        mode: UnsignedRoundingMode,
+    ) -> Result<Self, Self>
+        ensures rounds { IfOk result (λ v. IsRounded self position mode RoundingIncrement.MultiplesOf1 (Some v)) }
+        ensures limit { OnErr result (IsRounded self position mode RoundingIncrement.MultiplesOf1 None) }
+        ensures err { IfErr result (λ v. v ≡ self) }
     {
-        self.round_with_mode(position, mode);
-        self
+        match self.round_with_mode(position, mode) {
+            Ok(()) => Ok(self),
+            Err(LimitError) => Err(self),
+        }
     }
 
-    /// `round` on a value: `1.5` at 0 gives `2`. The original's `rounded`.
-    pub fn rounded(mut self, position: i16) -> Self
-        ensures { IsRounded self position UnsignedRoundingMode.HalfEven RoundingIncrement.MultiplesOf1 result }
+    /// `round` on a value: `1.5` at 0 gives `2`.
+    ///
+    /// Err: the multiple is 10 to the 32768 or more; it holds the value, unchanged. The original's `rounded`, which
+    /// gives 0 then.
+    pub fn rounded(self, position: i16) -> Result<Self, Self>
+        ensures rounds { IfOk result (λ v. IsRounded self position UnsignedRoundingMode.HalfEven
+            RoundingIncrement.MultiplesOf1 (Some v)) }
+        ensures limit { OnErr result (IsRounded self position UnsignedRoundingMode.HalfEven
+            RoundingIncrement.MultiplesOf1 None) }
+        ensures err { IfErr result (λ v. v ≡ self) }
     {
-        self.round(position);
-        self
+        self.rounded_with_mode(position, UnsignedRoundingMode::HalfEven)
     }
 
-    /// `expand` on a value: `99.999` at 4 gives `10000`. The original's `expanded`.
-    pub fn expanded(mut self, position: i16) -> Self
-        ensures { IsRounded self position UnsignedRoundingMode.Expand RoundingIncrement.MultiplesOf1 result }
+    /// `expand` on a value: `99.999` at 4 gives `10000`.
+    ///
+    /// Err: the multiple is 10 to the 32768 or more; it holds the value, unchanged. The original's `expanded`, which
+    /// gives 0 then.
+    pub fn expanded(self, position: i16) -> Result<Self, Self>
+        ensures rounds { IfOk result (λ v. IsRounded self position UnsignedRoundingMode.Expand
+            RoundingIncrement.MultiplesOf1 (Some v)) }
+        ensures limit { OnErr result (IsRounded self position UnsignedRoundingMode.Expand
+            RoundingIncrement.MultiplesOf1 None) }
+        ensures err { IfErr result (λ v. v ≡ self) }
     {
-        self.expand(position);
-        self
+        self.rounded_with_mode(position, UnsignedRoundingMode::Expand)
     }
 
     /// `trunc` on a value: `1234.56` at -1 gives `1234.5`. The original's `trunced`.
     pub fn trunced(mut self, position: i16) -> Self
-        ensures { IsRounded self position UnsignedRoundingMode.Trunc RoundingIncrement.MultiplesOf1 result }
+        ensures { IsRounded self position UnsignedRoundingMode.Trunc RoundingIncrement.MultiplesOf1 (Some result) }
     {
         self.trunc(position);
         self

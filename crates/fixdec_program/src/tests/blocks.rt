@@ -49,6 +49,7 @@ const ROWS: &[(&str, usize, bool, u8, usize)] = &[
     ("250 shift:-2", 0, false, 3, 1),
     ("5.", 9, true, 1, 0),
     ("5 trim-start concat:1e99999", 9, true, 1, 0),
+    ("98765 shift:32763 shift:1", 9, true, 1, 0),
     ("5 up", 9, true, 2, 0),
 ];
 

@@ -21,6 +21,12 @@ const ROWS: &[Row] = &[
     ("250 shift:-2", ("2.50\n", 4), ("output\n", 0), 3),
     ("5.", ("", 0), ("start: syntax\n", 0), 1),
     ("5 concat:x", ("", 0), ("call 0: syntax\n", 3), 1),
+    (
+        "98765 shift:32763 shift:1",
+        ("", 0),
+        ("call 1: overflow\n", 9),
+        1,
+    ),
     ("5 up", ("", 0), ("usage: fixdec TEXT [CALL]..\n", 0), 2),
 ];
 

@@ -9,17 +9,24 @@ const REFUSALS: &[(&str, &str)] = &[
     ("", "1 start: syntax\n"),
     ("--5", "1 start: syntax\n"),
     ("-", "1 start: syntax\n"),
+    ("1e+ trim-end", "1 start: syntax\n"),
     ("shift:1", "1 start: syntax\n"),
     ("10e32767", "1 start: limit\n"),
     ("10e32767 shift:1", "1 start: limit\n"),
+    ("1e++5", "1 start: syntax\n"),
+    ("1e+-5", "1 start: syntax\n"),
+    ("1e-+5", "1 start: syntax\n"),
+    ("10e+32767", "1 start: limit\n"),
     ("120 concat:25", "1 call 0: overlap\n"),
     ("123456789 concat:123456789", "1 call 0: overlap\n"),
     ("5 concat:x", "1 call 0: syntax\n"),
     ("5 concat:", "1 call 0: syntax\n"),
     ("5 concat:a:b", "1 call 0: syntax\n"),
     ("5 concat:-7", "1 call 0: syntax\n"),
+    ("5 concat:1e+-5", "1 call 0: syntax\n"),
     ("5 concat:1e99999", "1 call 0: limit\n"),
     ("5 trim-start concat:1e99999", "1 call 1: limit\n"),
+    ("5 concat:1e+32768", "1 call 0: limit\n"),
     ("5 concat:5 concat:x", "1 call 0: overlap\n"),
     ("50 concat:5 concat:x", "1 call 1: syntax\n"),
     (
@@ -33,6 +40,26 @@ const REFUSALS: &[(&str, &str)] = &[
     (
         "5 max:9 max:9 max:9 max:9 max:9 max:9 max:9 max:9 max:9 max:9 concat:1e32768",
         "1 call 10: limit\n",
+    ),
+];
+
+/// Lines with a shift or a rounding that passes the limits: not the refusal of a text that does.
+const OVERFLOWS: &[(&str, &str)] = &[
+    ("98765 shift:32763 shift:1", "1 call 1: overflow\n"),
+    ("98765 shift:-32768 shift:-1", "1 call 1: overflow\n"),
+    ("123 shift:32767", "1 call 0: overflow\n"),
+    ("0 shift:32767 shift:1", "1 call 1: overflow\n"),
+    ("-0 shift:-32768 shift:-1", "1 call 1: overflow\n"),
+    ("7 shift:32767 round:32767:expand:5", "1 call 1: overflow\n"),
+    ("-7 shift:32767 round:32767:floor:5", "1 call 1: overflow\n"),
+    ("9.5e32767 round:32767:half-even:1", "1 call 0: overflow\n"),
+    ("1e-32768 round:32767:expand:25", "1 call 0: overflow\n"),
+    ("123 shift:32767 concat:x", "1 call 0: overflow\n"),
+    ("5 concat:1e32768 shift:32767", "1 call 0: limit\n"),
+    ("123 shift:32767 up", USAGE),
+    (
+        "5 max:9 max:9 max:9 max:9 max:9 max:9 max:9 max:9 max:9 max:9 shift:32767",
+        "1 call 10: overflow\n",
     ),
 ];
 
@@ -93,6 +120,15 @@ const USAGE: &str = "2 usage: fixdec TEXT [CALL]..\n";
 fn refuses(rt: HostRuntime) -> Result<(), Fail> {
     let alloc = rt.alloc();
     for (line, answer) in REFUSALS {
+        assert_shows(&rt, shown(alloc, line)?, answer);
+    }
+    Ok(())
+}
+
+#[test]
+fn refuses_overflow(rt: HostRuntime) -> Result<(), Fail> {
+    let alloc = rt.alloc();
+    for (line, answer) in OVERFLOWS {
         assert_shows(&rt, shown(alloc, line)?, answer);
     }
     Ok(())

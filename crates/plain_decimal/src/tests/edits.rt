@@ -17,9 +17,9 @@ enum Call {
 type Row = (&'static [u8], Call, &'static [u8]);
 
 /// Makes the call in place.
-fn change<D: DigitStore>(value: &mut UnsignedOver<D>, call: Call) {
+fn change<D: DigitStore>(value: &mut UnsignedOver<D>, call: Call) -> Result<(), LimitError> {
     match call {
-        Call::Shift(delta) => value.multiply_pow10(delta),
+        Call::Shift(delta) => return value.multiply_pow10(delta),
         Call::TrimStart => value.trim_start(),
         Call::TrimEnd => value.trim_end(),
         Call::TrimEndIfInteger => value.trim_end_if_integer(),
@@ -27,18 +27,22 @@ fn change<D: DigitStore>(value: &mut UnsignedOver<D>, call: Call) {
         Call::PadEnd(position) => value.pad_end(position),
         Call::Max(position) => value.set_max_position(position),
     }
+    Ok(())
 }
 
 /// Makes the call on the value.
-fn changed<D: DigitStore>(value: UnsignedOver<D>, call: Call) -> UnsignedOver<D> {
+fn changed<D: DigitStore>(
+    value: UnsignedOver<D>,
+    call: Call,
+) -> Result<UnsignedOver<D>, UnsignedOver<D>> {
     match call {
         Call::Shift(delta) => value.multiplied_pow10(delta),
-        Call::TrimStart => value.trimmed_start(),
-        Call::TrimEnd => value.trimmed_end(),
-        Call::TrimEndIfInteger => value.trimmed_end_if_integer(),
-        Call::PadStart(position) => value.padded_start(position),
-        Call::PadEnd(position) => value.padded_end(position),
-        Call::Max(position) => value.with_max_position(position),
+        Call::TrimStart => Ok(value.trimmed_start()),
+        Call::TrimEnd => Ok(value.trimmed_end()),
+        Call::TrimEndIfInteger => Ok(value.trimmed_end_if_integer()),
+        Call::PadStart(position) => Ok(value.padded_start(position)),
+        Call::PadEnd(position) => Ok(value.padded_end(position)),
+        Call::Max(position) => Ok(value.with_max_position(position)),
     }
 }
 
@@ -56,47 +60,34 @@ fn changed_plainly(text: &[u8], call: Call) -> Option<Plain> {
     }
 }
 
-/// What a text becomes by the call in place.
-fn text_in_place<D: DigitStore>(alloc: Global, text: &[u8], call: Call) -> Result<TextBuf, Fail> {
+/// What the call leaves of a text, in place.
+fn left_in_place<D: DigitStore>(alloc: Global, text: &[u8], call: Call) -> Result<Left, Fail> {
     let mut value = read::<D>(alloc, text)?;
-    change(&mut value, call);
-    printed(alloc, &value)
+    let answer = change(&mut value, call);
+    left_of(
+        alloc,
+        match answer {
+            Ok(()) => Ok(value),
+            Err(LimitError) => Err(value),
+        },
+    )
 }
 
-/// What a text becomes by the call on the value.
-fn text_by_value<D: DigitStore>(alloc: Global, text: &[u8], call: Call) -> Result<TextBuf, Fail> {
-    printed(alloc, &changed(read::<D>(alloc, text)?, call))
+/// What the call leaves of a text, on the value.
+fn left_by_value<D: DigitStore>(alloc: Global, text: &[u8], call: Call) -> Result<Left, Fail> {
+    left_of(alloc, changed(read::<D>(alloc, text)?, call))
 }
 
-/// What a text becomes by two calls on the value.
-fn text_by_two<D: DigitStore>(
-    alloc: Global,
-    text: &[u8],
-    first: Call,
-    second: Call,
-) -> Result<TextBuf, Fail> {
-    let value = changed(read::<D>(alloc, text)?, first);
-    printed(alloc, &changed(value, second))
-}
-
-/// Asserts what a text becomes, in place and by value.
+/// Asserts what the call leaves of a text, in place and by value.
 fn assert_changes<D: DigitStore>(
     rt: &impl Abort,
     alloc: Global,
     text: &[u8],
     call: Call,
-    becomes: &[u8],
+    becomes: Option<&[u8]>,
 ) -> Result<(), Fail> {
-    assert_bytes(
-        rt,
-        text_in_place::<D>(alloc, text, call)?.as_bytes(),
-        becomes,
-    );
-    assert_bytes(
-        rt,
-        text_by_value::<D>(alloc, text, call)?.as_bytes(),
-        becomes,
-    );
+    assert_left(rt, &left_in_place::<D>(alloc, text, call)?, text, becomes);
+    assert_left(rt, &left_by_value::<D>(alloc, text, call)?, text, becomes);
     Ok(())
 }
 
@@ -124,7 +115,6 @@ const ROWS: &[Row] = &[
     (b"0", Call::Shift(-2), b"0.00"),
     (b"0", Call::Shift(3), b"0000"),
     (b"500", Call::Shift(-4), b"0.0500"),
-    (b"123", Call::Shift(32767), b"0"),
     (b"0012.3400", Call::TrimStart, b"12.3400"),
     (b"0.0022", Call::TrimStart, b"0.0022"),
     (b"0012.3400", Call::TrimEnd, b"0012.34"),
@@ -154,43 +144,163 @@ const ROWS: &[Row] = &[
 fn changes(rt: HostRuntime) -> Result<(), Fail> {
     let alloc = rt.alloc();
     for (text, call, becomes) in ROWS {
-        assert_changes::<DecimalStore>(&rt, alloc, text, *call, becomes)?;
-        assert_changes::<DigitList>(&rt, alloc, text, *call, becomes)?;
+        assert_changes::<DecimalStore>(&rt, alloc, text, *call, Some(becomes))?;
+        assert_changes::<DigitList>(&rt, alloc, text, *call, Some(becomes))?;
         assert_changes_plainly(&rt, alloc, text, *call, becomes)?;
     }
     Ok(())
 }
 
-/// Two calls, one after the other.
-const PAIRS: &[(&[u8], Call, Call, &[u8])] = &[
-    (b"0012.3400", Call::TrimStart, Call::TrimEnd, b"12.34"),
-    (b"12.34", Call::TrimStart, Call::TrimEnd, b"12.34"),
-    (b"98765", Call::Shift(32763), Call::Shift(1), b"0"),
-    (b"98765", Call::Shift(-32768), Call::Shift(-1), b"0"),
+/// Short texts, and shifts that would leave the limits.
+const REFUSED: &[(&[u8], i16)] = &[
+    (b"123", 32767),
+    (b"10", 32767),
+    (b"0.5", -32768),
+    (b"0.00", -32768),
+    (b"000", 32766),
 ];
 
-#[test]
-fn changes_twice(rt: HostRuntime) -> Result<(), Fail> {
-    let alloc = rt.alloc();
-    for (text, first, second, becomes) in PAIRS {
-        assert_bytes(
-            &rt,
-            text_by_two::<DecimalStore>(alloc, text, *first, *second)?.as_bytes(),
-            becomes,
-        );
-        assert_bytes(
-            &rt,
-            text_by_two::<DigitList>(alloc, text, *first, *second)?.as_bytes(),
-            becomes,
-        );
-    }
+/// Asserts that a shift of a text is refused, by the plain program too.
+fn assert_refuses(rt: &impl Abort, alloc: Global, text: &[u8], delta: i16) -> Result<(), Fail> {
+    assert_changes::<DecimalStore>(rt, alloc, text, Call::Shift(delta), None)?;
+    assert_changes::<DigitList>(rt, alloc, text, Call::Shift(delta), None)?;
+    let value = Plain::read(text).ok_or("does not fit")?;
+    assert_holds(rt, value.leaves_limits(delta));
     Ok(())
 }
 
 #[test]
-fn changes_at_the_end(rt: HostRuntime) -> Result<(), Fail> {
+fn refuses_shifts(rt: HostRuntime) -> Result<(), Fail> {
     let alloc = rt.alloc();
-    let becomes = whole(alloc, &[(b"98765", 1), (b"0", 32_763)])?;
-    assert_changes::<DecimalStore>(&rt, alloc, b"98765", Call::Shift(32_763), &becomes)?;
-    assert_changes::<DigitList>(&rt, alloc, b"98765", Call::Shift(32_763), &becomes)
+    for (text, delta) in REFUSED {
+        assert_refuses(&rt, alloc, text, *delta)?;
+    }
+    Ok(())
+}
+
+/// A text, calls one after the other, whether each is made, and what they leave.
+type Chain = (Parts<'static>, &'static [(Call, bool)], Parts<'static>);
+
+/// Calls of which some are refused: the next ones go on from what stood before.
+const CHAINS: &[Chain] = &[
+    (
+        &[(b"0012.3400", 1)],
+        &[(Call::TrimStart, true), (Call::TrimEnd, true)],
+        &[(b"12.34", 1)],
+    ),
+    (
+        &[(b"12.34", 1)],
+        &[(Call::TrimStart, true), (Call::TrimEnd, true)],
+        &[(b"12.34", 1)],
+    ),
+    (
+        &[(b"98765", 1)],
+        &[(Call::Shift(32763), true), (Call::Shift(1), false)],
+        &[(b"98765", 1), (b"0", 32_763)],
+    ),
+    (
+        &[(b"98765", 1)],
+        &[
+            (Call::Shift(32763), true),
+            (Call::Shift(1), false),
+            (Call::Shift(32767), false),
+            (Call::Shift(-32763), true),
+        ],
+        &[(b"98765.", 1), (b"0", 32_763)],
+    ),
+    (
+        &[(b"98765", 1)],
+        &[(Call::Shift(-32768), true), (Call::Shift(-1), false)],
+        &[(b"0.", 1), (b"0", 32_763), (b"98765", 1)],
+    ),
+    (
+        &[(b"0", 1)],
+        &[(Call::Shift(32767), true), (Call::Shift(1), false)],
+        &[(b"0", 32_768)],
+    ),
+    (
+        &[(b"1", 1)],
+        &[
+            (Call::Shift(-32768), true),
+            (Call::Shift(32767), true),
+            (Call::Shift(1), false),
+        ],
+        &[(b"0", 32_768), (b".1", 1)],
+    ),
+    (
+        NINES,
+        &[(Call::Shift(1), false), (Call::Shift(-1), false)],
+        NINES,
+    ),
+];
+
+/// Makes the calls in place, and tells whether each was made or refused as it is to be.
+fn change_in_turn<D: DigitStore>(value: &mut UnsignedOver<D>, calls: &[(Call, bool)]) -> bool {
+    for (call, is_made) in calls {
+        if change(value, *call).is_ok() != *is_made {
+            return false;
+        }
+    }
+    true
+}
+
+/// Makes the calls on the value. None: one was not made or refused as it is to be.
+fn changed_in_turn<D: DigitStore>(
+    value: UnsignedOver<D>,
+    calls: &[(Call, bool)],
+) -> Option<UnsignedOver<D>> {
+    let mut value = value;
+    for (call, is_made) in calls {
+        value = match (changed(value, *call), *is_made) {
+            (Ok(made), true) => made,
+            (Err(kept), false) => kept,
+            _ => return None,
+        };
+    }
+    Some(value)
+}
+
+/// Whether the calls leave a text of another, in place and by value.
+fn leaves_in_turn<D: DigitStore>(
+    alloc: Global,
+    text: &[u8],
+    calls: &[(Call, bool)],
+    becomes: &[u8],
+) -> Result<bool, Fail> {
+    let mut value = read::<D>(alloc, text)?;
+    if !change_in_turn(&mut value, calls) || printed(alloc, &value)?.as_bytes() != becomes {
+        return Ok(false);
+    }
+    match changed_in_turn(read::<D>(alloc, text)?, calls) {
+        Some(left) => Ok(left == value),
+        None => Ok(false),
+    }
+}
+
+/// Asserts what the calls leave, over each store.
+fn assert_changes_in_turn(
+    rt: &impl Abort,
+    alloc: Global,
+    (text, calls, becomes): Chain,
+) -> Result<(), Fail> {
+    let text = whole(alloc, text)?;
+    let becomes = whole(alloc, becomes)?;
+    assert_holds(
+        rt,
+        leaves_in_turn::<DecimalStore>(alloc, &text, calls, &becomes)?,
+    );
+    assert_holds(
+        rt,
+        leaves_in_turn::<DigitList>(alloc, &text, calls, &becomes)?,
+    );
+    Ok(())
+}
+
+#[test]
+fn changes_in_turn(rt: HostRuntime) -> Result<(), Fail> {
+    let alloc = rt.alloc();
+    for row in CHAINS {
+        assert_changes_in_turn(&rt, alloc, *row)?;
+    }
+    Ok(())
 }

@@ -7,7 +7,7 @@ use decimal_digits::rounding::RoundingIncrement::{
 use decimal_digits::rounding::UnsignedRoundingMode::{
     Expand, HalfEven, HalfExpand, HalfTrunc, Trunc,
 };
-use decimal_digits::rounding::{RoundingIncrement, UnsignedRoundingMode};
+use decimal_digits::rounding::{RoundError, RoundingIncrement, UnsignedRoundingMode};
 
 /// A position, a mode and an increment.
 type Rounding = (i16, UnsignedRoundingMode, RoundingIncrement);
@@ -26,12 +26,12 @@ enum Way {
 
 const WAYS: &[Way] = &[Way::Counted, Way::InPlace, Way::ByValue];
 
-/// Makes a call that takes an increment: the rounded value, or the value that a want of memory leaves.
+/// Makes a call that takes an increment. Err: the value that the refusal leaves, and why.
 fn rounded<D: DigitStore>(
     mut value: UnsignedOver<D>,
     way: Way,
     (position, mode, increment): Rounding,
-) -> Result<UnsignedOver<D>, UnsignedOver<D>> {
+) -> Result<UnsignedOver<D>, (UnsignedOver<D>, RoundError)> {
     let done = match way {
         Way::Counted => value.round_counted(position, mode, increment, &mut Steps::new()),
         Way::InPlace => value.round_with_mode_and_increment(position, mode, increment),
@@ -39,39 +39,38 @@ fn rounded<D: DigitStore>(
     };
     match done {
         Ok(()) => Ok(value),
-        Err(_refused) => Err(value),
+        Err(error) => Err((value, error)),
     }
 }
 
-/// What a copy of a value becomes. Err: a want of memory, which leaves the value as it was.
+/// What a copy of a value becomes; Err where it is refused for the limit. A want of memory has to leave the value.
 fn rounded_copy<D: DigitStore>(
     value: &UnsignedOver<D>,
     way: Way,
     rounding: Rounding,
-) -> Result<UnsignedOver<D>, Fail> {
+) -> Result<Result<UnsignedOver<D>, UnsignedOver<D>>, Fail> {
     match rounded(value.clone()?, way, rounding) {
-        Ok(rounded) => Ok(rounded),
-        Err(left) => {
+        Ok(rounded) => Ok(Ok(rounded)),
+        Err((left, RoundError::Limit)) => Ok(Err(left)),
+        Err((left, RoundError::Memory)) => {
             if left == *value {
                 Err(Fail::new("memory was refused"))
             } else {
-                Ok(left)
+                Ok(Err(left))
             }
         }
     }
 }
 
-/// What a text becomes by one of the calls that take an increment.
-fn rounded_text<D: DigitStore>(
+/// What one of the calls that take an increment leaves of a text.
+fn left_by<D: DigitStore>(
     alloc: Global,
     text: &[u8],
     way: Way,
     rounding: Rounding,
-) -> Result<TextBuf, Fail> {
-    printed(
-        alloc,
-        &rounded_copy(&read::<D>(alloc, text)?, way, rounding)?,
-    )
+) -> Result<Left, Fail> {
+    let value = read::<D>(alloc, text)?;
+    left_of(alloc, rounded_copy(&value, way, rounding)?)
 }
 
 /// One of the calls that take no increment.
@@ -87,24 +86,30 @@ enum Call {
     Trunced,
 }
 
-/// Makes the call.
-fn becomes<D: DigitStore>(
+/// Makes the call. Err: the value that the refusal leaves.
+fn rounded_by_1<D: DigitStore>(
     mut value: UnsignedOver<D>,
     call: Call,
     position: i16,
     mode: UnsignedRoundingMode,
-) -> UnsignedOver<D> {
-    match call {
+) -> Result<UnsignedOver<D>, UnsignedOver<D>> {
+    let done = match call {
         Call::RoundWithMode => value.round_with_mode(position, mode),
         Call::Round => value.round(position),
         Call::Expand => value.expand(position),
-        Call::Trunc => value.trunc(position),
+        Call::Trunc => {
+            value.trunc(position);
+            Ok(())
+        }
         Call::RoundedWithMode => return value.rounded_with_mode(position, mode),
         Call::Rounded => return value.rounded(position),
         Call::Expanded => return value.expanded(position),
-        Call::Trunced => return value.trunced(position),
+        Call::Trunced => return Ok(value.trunced(position)),
+    };
+    match done {
+        Ok(()) => Ok(value),
+        Err(LimitError) => Err(value),
     }
-    value
 }
 
 /// The calls that round by a mode with no increment.
@@ -132,17 +137,15 @@ fn calls_of(mode: UnsignedRoundingMode) -> &'static [Call] {
     }
 }
 
-/// What a text becomes by a call that takes no increment.
-fn text_after<D: DigitStore>(
+/// What a call that takes no increment leaves of a text.
+fn left_by_1<D: DigitStore>(
     alloc: Global,
     text: &[u8],
     call: Call,
     (position, mode): (i16, UnsignedRoundingMode),
-) -> Result<TextBuf, Fail> {
-    printed(
-        alloc,
-        &becomes(read::<D>(alloc, text)?, call, position, mode),
-    )
+) -> Result<Left, Fail> {
+    let value = read::<D>(alloc, text)?;
+    left_of(alloc, rounded_by_1(value, call, position, mode))
 }
 
 /// Asserts what the calls that take an increment make of a text.
@@ -151,14 +154,11 @@ fn assert_rounds_by<D: DigitStore>(
     alloc: Global,
     text: &[u8],
     rounding: Rounding,
-    wanted: &[u8],
+    wanted: Option<&[u8]>,
 ) -> Result<(), Fail> {
     for way in WAYS {
-        assert_bytes(
-            rt,
-            rounded_text::<D>(alloc, text, *way, rounding)?.as_bytes(),
-            wanted,
-        );
+        let left = left_by::<D>(alloc, text, *way, rounding)?;
+        assert_left(rt, &left, text, wanted);
     }
     Ok(())
 }
@@ -169,26 +169,23 @@ fn assert_rounds_by_1<D: DigitStore>(
     alloc: Global,
     text: &[u8],
     rounding: (i16, UnsignedRoundingMode),
-    wanted: &[u8],
+    wanted: Option<&[u8]>,
 ) -> Result<(), Fail> {
     let (_, mode) = rounding;
     for call in calls_of(mode) {
-        assert_bytes(
-            rt,
-            text_after::<D>(alloc, text, *call, rounding)?.as_bytes(),
-            wanted,
-        );
+        let left = left_by_1::<D>(alloc, text, *call, rounding)?;
+        assert_left(rt, &left, text, wanted);
     }
     Ok(())
 }
 
-/// Asserts what each call that makes this rounding makes of a text, over each store.
+/// Asserts what each call that makes this rounding makes of a text, over each store: nothing, where it is refused.
 fn assert_rounds(
     rt: &impl Abort,
     alloc: Global,
     text: &[u8],
     rounding: Rounding,
-    wanted: &[u8],
+    wanted: Option<&[u8]>,
 ) -> Result<(), Fail> {
     assert_rounds_by::<DecimalStore>(rt, alloc, text, rounding, wanted)?;
     assert_rounds_by::<DigitList>(rt, alloc, text, rounding, wanted)?;
@@ -213,7 +210,7 @@ fn assert_rounds_plainly(
     rounding: Rounding,
     wanted: &[u8],
 ) -> Result<(), Fail> {
-    assert_rounds(rt, alloc, text, rounding, wanted)?;
+    assert_rounds(rt, alloc, text, rounding, Some(wanted))?;
     assert_bytes(rt, &printed_plainly(alloc, Plain::read(text))?, text);
     assert_bytes(
         rt,
@@ -311,7 +308,7 @@ fn assert_rounds_ones(rt: &impl Abort, alloc: Global, ones: usize) -> Result<(),
         alloc,
         &[(b"1", ones), (b"8", 1)],
         by_25,
-        &[(b"1", ones), (b"7.5", 1)],
+        Some(&[(b"1", ones), (b"7.5", 1)]),
     )
 }
 
@@ -320,7 +317,7 @@ fn rounds_by_25_to_one_digit_more(rt: HostRuntime) -> Result<(), Fail> {
     let alloc = rt.alloc();
     let long = b"1234567812345678";
     let by_25 = (-1, Trunc, MultiplesOf25);
-    assert_rounds(&rt, alloc, long, by_25, b"1234567812345677.5")?;
+    assert_rounds(&rt, alloc, long, by_25, Some(b"1234567812345677.5"))?;
     for ones in 0..64 {
         assert_rounds_ones(&rt, alloc, ones)?;
     }
@@ -358,7 +355,7 @@ fn assert_chain(
 ) -> Result<(), Fail> {
     let mut text: &[u8] = b"4235.970";
     for ((position, increment), wanted) in CHAIN.iter().zip(texts) {
-        assert_rounds(rt, alloc, text, (*position, mode, *increment), wanted)?;
+        assert_rounds(rt, alloc, text, (*position, mode, *increment), Some(wanted))?;
         text = wanted;
     }
     Ok(())
@@ -374,27 +371,26 @@ fn rounds_in_chains(rt: HostRuntime) -> Result<(), Fail> {
 }
 
 /// Integers that are shifted to the position, before the rounding and after it.
-const SHIFTED_ROWS: &[(&[u8], Rounding, &[u8])] = &[
-    (b"7", (-32768, Trunc, MultiplesOf2), b"6"),
-    (b"7", (-32768, HalfExpand, MultiplesOf2), b"8"),
-    (b"9", (-32768, Expand, MultiplesOf5), b"10"),
-    (b"70", (-32768, Trunc, MultiplesOf25), b"50"),
-    (b"70", (-32768, Expand, MultiplesOf25), b"75"),
-    (b"7", (32767, Trunc, MultiplesOf2), b"6"),
-    (b"7", (32767, Expand, MultiplesOf2), b"8"),
-    (b"7", (32767, Trunc, MultiplesOf5), b"5"),
-    (b"7", (32767, Expand, MultiplesOf5), b"0"),
-    (b"7", (32767, Trunc, MultiplesOf25), b"0"),
-    (b"7", (32767, Expand, MultiplesOf25), b"0"),
-    (b"9", (32766, Expand, MultiplesOf25), b"25"),
+const SHIFTED_ROWS: &[(&[u8], Rounding, Option<&[u8]>)] = &[
+    (b"7", (-32768, Trunc, MultiplesOf2), Some(b"6")),
+    (b"7", (-32768, HalfExpand, MultiplesOf2), Some(b"8")),
+    (b"9", (-32768, Expand, MultiplesOf5), Some(b"10")),
+    (b"70", (-32768, Trunc, MultiplesOf25), Some(b"50")),
+    (b"70", (-32768, Expand, MultiplesOf25), Some(b"75")),
+    (b"7", (32767, Trunc, MultiplesOf2), Some(b"6")),
+    (b"7", (32767, Expand, MultiplesOf2), Some(b"8")),
+    (b"7", (32767, Trunc, MultiplesOf5), Some(b"5")),
+    (b"7", (32767, Expand, MultiplesOf5), None),
+    (b"7", (32767, Trunc, MultiplesOf25), Some(b"0")),
+    (b"7", (32767, Expand, MultiplesOf25), None),
+    (b"9", (32766, Expand, MultiplesOf25), Some(b"25")),
 ];
 
 /// The text of an integer times 10 to a power.
 fn shifted(alloc: Global, integer: &[u8], position: i16) -> Result<TextBuf, Fail> {
-    printed(
-        alloc,
-        &read::<DecimalStore>(alloc, integer)?.multiplied_pow10(position),
-    )
+    let mut value = read::<DecimalStore>(alloc, integer)?;
+    value.multiply_pow10(position)?;
+    printed(alloc, &value)
 }
 
 /// Asserts what an integer becomes that is shifted to the position.
@@ -403,19 +399,28 @@ fn assert_rounds_shifted(
     alloc: Global,
     integer: &[u8],
     rounding: Rounding,
-    wanted: &[u8],
+    wanted: Option<&[u8]>,
 ) -> Result<(), Fail> {
     let (position, _, _) = rounding;
     let text = shifted(alloc, integer, position)?;
+    let Some(wanted) = wanted else {
+        return assert_rounds(rt, alloc, text.as_bytes(), rounding, None);
+    };
     let wanted = shifted(alloc, wanted, position)?;
-    assert_rounds(rt, alloc, text.as_bytes(), rounding, wanted.as_bytes())
+    assert_rounds(
+        rt,
+        alloc,
+        text.as_bytes(),
+        rounding,
+        Some(wanted.as_bytes()),
+    )
 }
 
 #[test]
 fn rounds_shifted_integers(rt: HostRuntime) -> Result<(), Fail> {
     let alloc = rt.alloc();
     for (integer, rounding, wanted) in SHIFTED_ROWS {
-        assert_rounds_shifted(&rt, alloc, integer, *rounding, wanted)?;
+        assert_rounds_shifted(&rt, alloc, integer, *rounding, *wanted)?;
     }
     Ok(())
 }
@@ -423,100 +428,88 @@ fn rounds_shifted_integers(rt: HostRuntime) -> Result<(), Fail> {
 /// Half more than the longest integer.
 const INTEGER_AND_HALF: Parts<'static> = &[(b"9", 32_768), (b".5", 1)];
 
-const LONG_ROWS: &[(Parts<'static>, Rounding, Parts<'static>)] = &[
-    (NINES, (-32768, Trunc, MultiplesOf1), NINES),
+/// The parts of a text, a rounding, and the parts of the text that it makes, unless it is refused.
+type LongRow = (Parts<'static>, Rounding, Option<Parts<'static>>);
+
+const LONG_ROWS: &[LongRow] = &[
+    (NINES, (-32768, Trunc, MultiplesOf1), Some(NINES)),
     (
         NINES,
         (-32768, Trunc, MultiplesOf2),
-        &[(b"9", 32_768), (b".", 1), (b"9", 32_767), (b"8", 1)],
+        Some(&[(b"9", 32_768), (b".", 1), (b"9", 32_767), (b"8", 1)]),
     ),
     (
         NINES,
         (-32768, Trunc, MultiplesOf5),
-        &[(b"9", 32_768), (b".", 1), (b"9", 32_767), (b"5", 1)],
+        Some(&[(b"9", 32_768), (b".", 1), (b"9", 32_767), (b"5", 1)]),
     ),
     (
         NINES,
         (-32768, Trunc, MultiplesOf25),
-        &[(b"9", 32_768), (b".", 1), (b"9", 32_766), (b"75", 1)],
+        Some(&[(b"9", 32_768), (b".", 1), (b"9", 32_766), (b"75", 1)]),
     ),
-    (
-        NINES,
-        (-32768, Expand, MultiplesOf2),
-        &[(b"0", 32_768), (b".", 1), (b"0", 32_768)],
-    ),
-    (
-        NINES,
-        (-32767, Expand, MultiplesOf1),
-        &[(b"0", 32_768), (b".", 1), (b"0", 32_767)],
-    ),
+    (NINES, (-32768, Expand, MultiplesOf2), None),
+    (NINES, (-32767, Expand, MultiplesOf1), None),
+    (NINES, (0, Expand, MultiplesOf1), None),
     (
         NINES,
         (32767, Trunc, MultiplesOf1),
-        &[(b"9", 1), (b"0", 32_767)],
+        Some(&[(b"9", 1), (b"0", 32_767)]),
     ),
     (
         NINES,
         (32767, Trunc, MultiplesOf2),
-        &[(b"8", 1), (b"0", 32_767)],
+        Some(&[(b"8", 1), (b"0", 32_767)]),
     ),
     (
         NINES,
         (32767, Trunc, MultiplesOf5),
-        &[(b"5", 1), (b"0", 32_767)],
+        Some(&[(b"5", 1), (b"0", 32_767)]),
     ),
-    (NINES, (32767, HalfExpand, MultiplesOf5), &[(b"0", 32_768)]),
+    (NINES, (32767, HalfExpand, MultiplesOf5), None),
     (
         NINES,
         (32766, Trunc, MultiplesOf25),
-        &[(b"75", 1), (b"0", 32_766)],
+        Some(&[(b"75", 1), (b"0", 32_766)]),
     ),
     (
         LEAST,
         (-32768, Expand, MultiplesOf25),
-        &[(b"0.", 1), (b"0", 32_766), (b"25", 1)],
+        Some(&[(b"0.", 1), (b"0", 32_766), (b"25", 1)]),
     ),
     (
         LEAST,
         (-32768, HalfEven, MultiplesOf2),
-        &[(b"0.", 1), (b"0", 32_768)],
+        Some(&[(b"0.", 1), (b"0", 32_768)]),
     ),
     (
         LEAST,
         (-32768, HalfExpand, MultiplesOf2),
-        &[(b"0.", 1), (b"0", 32_767), (b"2", 1)],
+        Some(&[(b"0.", 1), (b"0", 32_767), (b"2", 1)]),
     ),
     (
         LEAST,
         (32767, Expand, MultiplesOf1),
-        &[(b"1", 1), (b"0", 32_767)],
+        Some(&[(b"1", 1), (b"0", 32_767)]),
     ),
     (
         LEAST,
         (32767, Expand, MultiplesOf5),
-        &[(b"5", 1), (b"0", 32_767)],
+        Some(&[(b"5", 1), (b"0", 32_767)]),
     ),
-    (LEAST, (32767, Expand, MultiplesOf25), &[(b"0", 32_767)]),
+    (LEAST, (32767, Expand, MultiplesOf25), None),
     (
         INTEGER_AND_HALF,
         (0, HalfTrunc, MultiplesOf1),
-        &[(b"9", 32_768)],
+        Some(&[(b"9", 32_768)]),
     ),
-    (
-        INTEGER_AND_HALF,
-        (0, HalfEven, MultiplesOf1),
-        &[(b"0", 32_768)],
-    ),
-    (
-        INTEGER_AND_HALF,
-        (0, HalfExpand, MultiplesOf1),
-        &[(b"0", 32_768)],
-    ),
+    (INTEGER_AND_HALF, (0, HalfEven, MultiplesOf1), None),
+    (INTEGER_AND_HALF, (0, HalfExpand, MultiplesOf1), None),
     // The zeros above the dot stay when those below it go.
     (
         &[(b"0", 32_768), (b".", 1), (b"0", 32_767)],
         (0, Expand, MultiplesOf1),
-        &[(b"0", 32_768)],
+        Some(&[(b"0", 32_768)]),
     ),
 ];
 
@@ -526,18 +519,21 @@ fn assert_rounds_parts(
     alloc: Global,
     text: Parts,
     rounding: Rounding,
-    wanted: Parts,
+    wanted: Option<Parts>,
 ) -> Result<(), Fail> {
     let text = whole(alloc, text)?;
+    let Some(wanted) = wanted else {
+        return assert_rounds(rt, alloc, &text, rounding, None);
+    };
     let wanted = whole(alloc, wanted)?;
-    assert_rounds(rt, alloc, &text, rounding, &wanted)
+    assert_rounds(rt, alloc, &text, rounding, Some(&wanted))
 }
 
 #[test]
 fn rounds_long_numbers(rt: HostRuntime) -> Result<(), Fail> {
     let alloc = rt.alloc();
     for (text, rounding, wanted) in LONG_ROWS {
-        assert_rounds_parts(&rt, alloc, text, *rounding, wanted)?;
+        assert_rounds_parts(&rt, alloc, text, *rounding, *wanted)?;
     }
     Ok(())
 }
@@ -554,7 +550,7 @@ struct Kin {
     front: Parts<'static>,
     /// The fewest places of the small number's digits.
     places: usize,
-    /// The most places of its digits below the limit: with more the number is 0.
+    /// The most places of its digits below the limit: with more the rounding is refused.
     most: usize,
     /// The zeros behind them.
     zeros: usize,
@@ -670,23 +666,51 @@ const LEAST_KIN: &[Kin] = &[
     },
 ];
 
-/// The text that the plain program's rounding of the small number makes of the number's.
+/// The text that the plain program's rounding of the small number makes of the number's. None: it is refused.
 fn text_by_kin(
     alloc: Global,
     kin: &Kin,
     mode: UnsignedRoundingMode,
     increment: RoundingIncrement,
-) -> Result<Vec<u8>, Fail> {
+) -> Result<Option<Vec<u8>>, Fail> {
     let digits = printed_plainly(alloc, rounded_plainly(kin.small, (0, mode, increment)))?;
-    if digits.as_slice() == b"0".as_slice() || digits.len() > kin.most {
-        return whole(alloc, kin.zero);
+    if digits.len() > kin.most {
+        return Ok(None);
+    }
+    if digits.as_slice() == b"0".as_slice() {
+        return Ok(Some(whole(alloc, kin.zero)?));
     }
     let missing = kin.places.saturating_sub(digits.len());
     let mut text = whole(alloc, kin.front)?;
     push_part(&mut text, b"0", missing)?;
     push_part(&mut text, &digits, 1)?;
     push_part(&mut text, b"0", kin.zeros)?;
-    Ok(text)
+    Ok(Some(text))
+}
+
+/// Whether a call makes one value of another.
+fn makes<D: DigitStore>(
+    value: &UnsignedOver<D>,
+    way: Way,
+    rounding: Rounding,
+    wanted: &UnsignedOver<D>,
+) -> Result<bool, Fail> {
+    match rounded_copy(value, way, rounding)? {
+        Ok(rounded) => Ok(rounded == *wanted),
+        Err(_) => Ok(false),
+    }
+}
+
+/// Whether a call is refused, and leaves the value as it was.
+fn refuses<D: DigitStore>(
+    value: &UnsignedOver<D>,
+    way: Way,
+    rounding: Rounding,
+) -> Result<bool, Fail> {
+    match rounded_copy(value, way, rounding)? {
+        Ok(_) => Ok(false),
+        Err(left) => Ok(left == *value),
+    }
 }
 
 /// Whether each call makes one value of another.
@@ -696,11 +720,39 @@ fn rounds_each_way<D: DigitStore>(
     wanted: &UnsignedOver<D>,
 ) -> Result<bool, Fail> {
     for way in WAYS {
-        if rounded_copy(value, *way, rounding)? != *wanted {
+        if !makes(value, *way, rounding, wanted)? {
             return Ok(false);
         }
     }
     Ok(true)
+}
+
+/// Whether each call is refused, and leaves the value as it was.
+fn refuses_each_way<D: DigitStore>(
+    value: &UnsignedOver<D>,
+    rounding: Rounding,
+) -> Result<bool, Fail> {
+    for way in WAYS {
+        if !refuses(value, *way, rounding)? {
+            return Ok(false);
+        }
+    }
+    Ok(true)
+}
+
+/// Whether each call makes of a value, by a mode and an increment, what the small number says.
+fn rounds_by_increment<D: DigitStore>(
+    alloc: Global,
+    value: &UnsignedOver<D>,
+    kin: &Kin,
+    (mode, increment): (UnsignedRoundingMode, RoundingIncrement),
+) -> Result<bool, Fail> {
+    let rounding = (kin.position, mode, increment);
+    let Some(text) = text_by_kin(alloc, kin, mode, increment)? else {
+        return refuses_each_way(value, rounding);
+    };
+    let wanted = read::<D>(alloc, &text)?;
+    rounds_each_way(value, rounding, &wanted)
 }
 
 /// Whether each call makes of a value, by a mode and each increment, what the small number says.
@@ -711,9 +763,7 @@ fn rounds_by_mode<D: DigitStore>(
     mode: UnsignedRoundingMode,
 ) -> Result<bool, Fail> {
     for increment in INCREMENTS {
-        let text = text_by_kin(alloc, kin, mode, *increment)?;
-        let wanted = read::<D>(alloc, &text)?;
-        if !rounds_each_way(value, (kin.position, mode, *increment), &wanted)? {
+        if !rounds_by_increment(alloc, value, kin, (mode, *increment))? {
             return Ok(false);
         }
     }
@@ -757,4 +807,91 @@ fn rounds_the_longest_at_the_ends(rt: HostRuntime) -> Result<(), Fail> {
 #[test]
 fn rounds_the_least_at_the_ends(rt: HostRuntime) -> Result<(), Fail> {
     assert_rounds_as_kin(&rt, rt.alloc(), LEAST_KIN)
+}
+
+/// A text, roundings of which each is refused, and one that is not: what it makes of the text.
+type AfterRefusals = (
+    Parts<'static>,
+    &'static [Rounding],
+    Rounding,
+    Parts<'static>,
+);
+
+const AFTER_REFUSALS: &[AfterRefusals] = &[
+    (
+        NINES,
+        &[
+            (-32767, Expand, MultiplesOf1),
+            (-32767, Expand, MultiplesOf1),
+            (0, HalfEven, MultiplesOf1),
+            (32767, HalfExpand, MultiplesOf5),
+        ],
+        (-32767, Trunc, MultiplesOf1),
+        &[(b"9", 32_768), (b".", 1), (b"9", 32_767)],
+    ),
+    (
+        LEAST,
+        &[(32767, Expand, MultiplesOf25)],
+        (32767, Expand, MultiplesOf5),
+        &[(b"5", 1), (b"0", 32_767)],
+    ),
+    (
+        &[(b"7", 1), (b"0", 32_767)],
+        &[
+            (32767, Expand, MultiplesOf5),
+            (32767, Expand, MultiplesOf25),
+        ],
+        (32767, Trunc, MultiplesOf25),
+        &[(b"0", 32_768)],
+    ),
+];
+
+/// Whether each of these roundings is refused for the limit, on the value that the one before it left.
+fn are_refused<D: DigitStore>(value: &mut UnsignedOver<D>, roundings: &[Rounding]) -> bool {
+    for (position, mode, increment) in roundings {
+        let answer = value.round_with_mode_and_increment(*position, *mode, *increment);
+        if answer != Err(RoundError::Limit) {
+            return false;
+        }
+    }
+    true
+}
+
+/// What a rounding makes of a text after refused ones, and no text where one of these is not refused.
+fn text_after_refusals<D: DigitStore>(
+    alloc: Global,
+    text: &[u8],
+    refused: &[Rounding],
+    (position, mode, increment): Rounding,
+) -> Result<TextBuf, Fail> {
+    let mut value = read::<D>(alloc, text)?;
+    if !are_refused(&mut value, refused) {
+        return Ok(TextBuf::new(alloc));
+    }
+    value.round_with_mode_and_increment(position, mode, increment)?;
+    printed(alloc, &value)
+}
+
+/// Asserts what a rounding makes after refused ones, over each store.
+fn assert_rounds_after_refusals(
+    rt: &impl Abort,
+    alloc: Global,
+    (text, refused, rounding, becomes): AfterRefusals,
+) -> Result<(), Fail> {
+    let text = whole(alloc, text)?;
+    let becomes = whole(alloc, becomes)?;
+    let left = text_after_refusals::<DecimalStore>(alloc, &text, refused, rounding)?;
+    assert_bytes(rt, left.as_bytes(), &becomes);
+    let left = text_after_refusals::<DigitList>(alloc, &text, refused, rounding)?;
+    assert_bytes(rt, left.as_bytes(), &becomes);
+    Ok(())
+}
+
+#[test]
+fn rounds_after_refusals(rt: HostRuntime) -> Result<(), Fail> {
+    let alloc = rt.alloc();
+    for row in AFTER_REFUSALS {
+        assert_rounds_after_refusals(&rt, alloc, *row)?;
+    }
+    Ok(())
 }

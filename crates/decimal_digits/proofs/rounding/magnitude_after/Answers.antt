@@ -1,4 +1,4 @@
-use Rattle.std.proofs.Common.{◌+◌, ◌*◌, ◌<◌, ◌≤◌, length, subst, ap, ◌∙◌, arith, rules, w16}
+use Rattle.std.proofs.Common.{◌+◌, ◌*◌, ◌≤◌, length, subst, ap, ◌∙◌, arith, rules, w16}
 use Rattle.std.specs.Prelude.{negsuc, pos, ◌≤ℤ◌}
 use Rattle.std.specs.Int.RustNames.{FitsSigned}
 use Rattle.std.proofs.lemmas.Int.{ints, to_z-of_z}
@@ -7,30 +7,22 @@ use Rattle.decimal_digits.specs.Number.{place, weight}
 use Rattle.decimal_digits.specs.Left.{Spells}
 use Rattle.decimal_digits.proofs.NumberAt.{number_at-none}
 use Rattle.decimal_digits.proofs.Places.{place_is}
-use Rattle.decimal_digits.proofs.Parts.{spells, spells_none, number_up, past_limit}
+use Rattle.decimal_digits.proofs.Parts.{spells, spells_none, number_up}
 use Rattle.decimal_digits.proofs.rounding.magnitude_after.Goals as goal
 
-pub returns-then-len-eq0-clause-leaves : goal.returns-then-len-eq0-clause-leaves
-returns-then-len-eq0-clause-leaves g c =
+pub returns-then-len-eq0-clause-spells : goal.returns-then-len-eq0-clause-spells
+returns-then-len-eq0-clause-spells g c =
     let ds = g.D.DigitStore.digits c.args.counted.now.list.now in
     spells_none ds _ (omega arith) (ap (λ n. n * weight c.args.position) (number_at-none c.args.places ds (omega arith)) ∙ omega arith)
 
-pub returns-in_default-clause-leaves : goal.returns-in_default-clause-leaves
-returns-in_default-clause-leaves g c =
+pub returns-else-len-eq0-clause-spells : goal.returns-else-len-eq0-clause-spells
+returns-else-len-eq0-clause-spells g c =
     let fits = c.ranges.position in
-    let ds = g.D.DigitStore.digits c.args.counted.now.list.now in
-    let some : 0 < length ds = omega arith in
-    let above = simp to_z-of_z at c.in_default.ensures.none in
-    (past_limit c.args.position c.args.places ds (omega (arith, ints)) c.requires.fits some (c.requires.stripped.front some) above, c.clear.ensures.digits)
-
-pub returns-clause-leaves : goal.returns-clause-leaves
-returns-clause-leaves g c =
-    let fits = c.ranges.position in
-    let fits_m : FitsSigned w16 c.in-Some.magnitude = search rules in
+    let fits_m : FitsSigned w16 c.highest_of.result = search rules in
     let list = c.args.counted.now.list.now in
     let ds = g.D.DigitStore.digits list in
-    let m = c.in-Some.magnitude in
-    let at = simp to_z-of_z at c.in-Some.ensures.some in
+    let m = c.highest_of.result in
+    let at = simp to_z-of_z at c.highest_of.ensures in
     let low : negsuc 32767 ≤ℤ m = omega (arith, ints) in
     let high : m ≤ℤ pos 32767 = omega (arith, ints) in
     let low_p : negsuc 32767 ≤ℤ c.args.position = omega (arith, ints) in
@@ -38,9 +30,9 @@ returns-clause-leaves g c =
     let whole = spells m ds low high (recursion_from_All _ _ (g.met.D.DigitStore.are_digits list)) within c.requires.stripped (omega arith) in
     simp to_z-of_z (subst (λ n. Spells ds m n) (number_up c.args.position c.args.places ds low_p c.requires.fits m low at) whole)
 
-pub returns-clause-above : goal.returns-clause-above
-returns-clause-above g c some =
+pub returns-else-len-eq0-clause-above : goal.returns-else-len-eq0-clause-above
+returns-else-len-eq0-clause-above g c some =
     let fits = c.ranges.position in
-    let fits_m : FitsSigned w16 c.in-Some.magnitude = search rules in
-    let at = simp to_z-of_z at c.in-Some.ensures.some in
-    simp to_z-of_z (omega (arith, ints, c.requires.fits, place_is c.in-Some.magnitude, place_is c.args.position))
+    let fits_m : FitsSigned w16 c.highest_of.result = search rules in
+    let at = simp to_z-of_z at c.highest_of.ensures in
+    simp to_z-of_z (omega (arith, ints, c.requires.fits, place_is c.highest_of.result, place_is c.args.position))

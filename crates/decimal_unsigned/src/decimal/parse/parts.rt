@@ -104,6 +104,7 @@ fn exponent(text: &[u8]) -> Option<i32>
 {
     match text {
         [b'-', rest @ ..] => Some(-(numeral(rest)? as i32)),
+        [b'+', rest @ ..] => unsigned(rest),
         _ => unsigned(text),
     }
 }

@@ -1,23 +1,50 @@
-use Rattle.std.proofs.Common.{arith}
+use Rattle.std.proofs.Common.{◌≡◌, ◌^◌, ◌-◌, ◌≤◌, inl, inr, ap, arith}
+use Rattle.std.proofs.Math.Nat.{pow-le-pow_right}
+use Rattle.std.proofs.lemmas.Bool.{cases_lt}
 use Rattle.decimal_digits.specs.Digits.{number_at}
 use Rattle.decimal_digits.proofs.rounding.two.write_all.Goals as goal
+use Rattle.decimal_digits.proofs.rounding.two.write_all.Goals.{then-number-ge10, else-number-ge10}
 
-pub returns-then-number-eq0-clause-value : goal.returns-then-number-eq0-clause-value
-unfolding number_at
-returns-then-number-eq0-clause-value g c = rw c.clear.ensures.digits (omega arith)
+pub returns-then-places-room-clause-full : goal.returns-then-places-room-clause-full
+returns-then-places-room-clause-full g c =
+    let places = c.places_of-places.result in
+    let is = c.places_of-places.ensures in
+    let up : 10 ^ c.args.room ≤ 10 ^ (places - 1) = pow-le-pow_right (omega arith) (omega arith) in
+    let least : 10 ^ (places - 1) ≤ c.args.number = elim (cases_lt c.args.number 10) [
+      | inl small ↦ elim (cases_lt 0 c.args.number) [
+        | inl some ↦ omega (arith, ap (λ k. 10 ^ (k - 1)) (is.one some small))
+        | inr none ↦ absurd (omega (arith, is.none (omega arith)))
+      ]
+      | inr large ↦ elim (cases_lt c.args.number 100) [
+        | inl below ↦ omega (arith, ap (λ k. 10 ^ (k - 1)) (is.two large below))
+        | inr whole ↦ omega (arith, ap (λ k. 10 ^ (k - 1)) (is.three (omega arith)))
+      ]
+    ] in
+    omega arith
 
 pub returns-then-number-eq100-clause-value : goal.returns-then-number-eq100-clause-value
 unfolding number_at
-returns-then-number-eq100-clause-value g c = rw (c.push_in_room.ensures.digits, c.clear.ensures.digits) (omega arith)
-
-pub returns-then-number-lt10-clause-value : goal.returns-then-number-lt10-clause-value
-unfolding number_at
-returns-then-number-lt10-clause-value g c = rw (c.push_in_room-then-number-lt10.ensures.digits, c.clear.ensures.digits) (omega arith)
+returns-then-number-eq100-clause-value g c =
+    rw (c.push_in_room.ensures.digits, c.clear.ensures.digits, c.places_of-places.ensures.three c.if-number-eq100.true) (omega arith)
 
 pub returns-then-number-ne0-clause-value : goal.returns-then-number-ne0-clause-value
 unfolding number_at
-returns-then-number-ne0-clause-value g c = rw (c.push_in_room-then-number-ne0.ensures.digits, c.push_in_room-2.ensures.digits, c.clear.ensures.digits) (omega arith)
+returns-then-number-ne0-clause-value g c = elim c.if-number-ge10.branch [
+  | then-number-ge10 w ↦
+      let two : c.places_of-places.result ≡ 2 = c.places_of-places.ensures.two (omega (arith, w.if-number-ge10.true)) (omega arith) in
+      rw (c.push_in_room-then-number-ne0.ensures.digits, w.counted-is, w.push_in_room-then-number-ge10.ensures.digits, c.clear.ensures.digits, two) (omega arith)
+  | else-number-ge10 w ↦
+      let one : c.places_of-places.result ≡ 1 = c.places_of-places.ensures.one (omega arith) (omega (arith, w.if-number-ge10.false)) in
+      rw (c.push_in_room-then-number-ne0.ensures.digits, w.counted-is, c.clear.ensures.digits, one) (omega (arith, w.if-number-ge10.false))
+]
 
 pub returns-else-number-ne0-clause-value : goal.returns-else-number-ne0-clause-value
 unfolding number_at
-returns-else-number-ne0-clause-value g c = rw (c.push_in_room-2.ensures.digits, c.clear.ensures.digits) (omega arith)
+returns-else-number-ne0-clause-value g c = elim c.if-number-ge10.branch [
+  | then-number-ge10 w ↦
+      let two : c.places_of-places.result ≡ 2 = c.places_of-places.ensures.two (omega (arith, w.if-number-ge10.true)) (omega arith) in
+      rw (w.counted-is, w.push_in_room-then-number-ge10.ensures.digits, c.clear.ensures.digits, two) (omega arith)
+  | else-number-ge10 w ↦
+      let none : c.places_of-places.result ≡ 0 = c.places_of-places.ensures.none (omega (arith, w.if-number-ge10.false)) in
+      rw (w.counted-is, c.clear.ensures.digits, none) (omega (arith, w.if-number-ge10.false))
+]

@@ -11,15 +11,14 @@ use Rattle.decimal_unsigned.proofs.Shifts.{Moves, moved, shifted_is, shifted_ove
 use Rattle.decimal_unsigned.proofs.decimal.UnsignedOver.multiply_pow10.Goals as goal
 use Rattle.decimal_unsigned.proofs.decimal.UnsignedOver.multiply_pow10.Goals.{then-hi-gt32767-via-then-hi-gt32767, then-hi-gt32767-via-else-hi-gt32767+then-lo-ltminus32768, then-len-eq0, else-len-eq0}
 
-pub returns-then-hi-gt32767 : goal.returns-then-hi-gt32767
-returns-then-hi-gt32767 g c =
+pub returns-then-hi-gt32767-clause-limit : goal.returns-then-hi-gt32767-clause-limit
+returns-then-hi-gt32767-clause-limit g c =
     let t = c.self.invariant in
-    c.clear.ensures
-    ∙ sym (shifted_over _ c.args.delta t (elim c.then-hi-gt32767.branch [
+    ap (λ (v : Unsigned). shifted v c.args.delta) (sym c.self.view_is)
+    ∙ shifted_over _ c.args.delta t (elim c.then-hi-gt32767.branch [
       | then-hi-gt32767-via-then-hi-gt32767 w ↦ inl (omega (arith, ints, t.in_range, t.hi_in, w.if-hi-gt32767.true))
       | then-hi-gt32767-via-else-hi-gt32767+then-lo-ltminus32768 w ↦ inr (omega (arith, ints, t.in_range, t.lo_in, w.if-lo-ltminus32768.true))
-    ]))
-    ∙ ap (λ (v : Unsigned). shifted v c.args.delta) c.self.view_is
+    ])
 
 moves : (g : _) (c : goal.After-self-3-1 g) → Moves (g.D.DigitStore.digits c.self.inside.digits) c.self.inside.magnitude c.self.inside.hi c.self.inside.lo c.args.delta (to_z w16 c.if-len-eq0.magnitude-bits) (to_z w16 (of_z w16 c.at_least_zero-upper.result)) (to_z w16 (of_z w16 c.at_most_zero-lower.result))
 moves g c =
@@ -49,5 +48,5 @@ moves g c =
 pub invariant_of-self : goal.invariant_of-self
 invariant_of-self g c = moved c.self.invariant (moves g c)
 
-pub returns : goal.returns
-returns g c = shifted_is c.args.delta c.self.invariant (moves g c) ∙ ap (λ (v : Unsigned). shifted v c.args.delta) c.self.view_is
+pub returns-clause-ok : goal.returns-clause-ok
+returns-clause-ok g c = ap (λ (v : Unsigned). shifted v c.args.delta) (sym c.self.view_is) ∙ shifted_is c.args.delta c.self.invariant (moves g c)

@@ -1,18 +1,32 @@
-use Rattle.std.proofs.Common.{sym, subst, arith}
+use Rattle.std.proofs.Common.{refl, ap, subst, arith}
+use Rattle.std.specs.Prelude.{Result, Ok, Err, IsOk, OnErr}
+use Rattle.std.specs.Option.{unwrap_or}
 use Rattle.std.proofs.lemmas.Int.{ints, to_z-of_z}
+use Rattle.decimal_digits.specs.declared.rounding.RoundingIncrement.TheVariants.{MultiplesOf1}
 use Rattle.decimal_unsigned.specs.Edits.{cut}
 use Rattle.decimal_unsigned.specs.EditLaws.{PartsJoin, TruncatedAgain}
-use Rattle.decimal_unsigned.proofs.EditLaws.{parts}
+use Rattle.decimal_unsigned.proofs.EditLaws.{parts, trunc_not_refused}
 use Rattle.decimal_unsigned.proofs.RoundingLaws.{truncated_again}
 use Rattle.decimal_unsigned.proofs.decimal.UnsignedOver.trunc.Goals as goal
+
+ok_unless : {A E P : Type 0} (r : Result A E) → OnErr r P → (P → ⊥) → IsOk r
+ok_unless (Ok x) h n = refl
+ok_unless (Err e) h n = absurd (n h)
+
+pub unwrap-requires : goal.unwrap-requires
+unwrap-requires g c =
+    let p = c.ranges.position in
+    ok_unless c.round_with_mode.result (simp to_z-of_z at c.round_with_mode.ensures.limit) (λ r. trunc_not_refused c.args.self.now c.args.position r.valid MultiplesOf1 r.value)
 
 pub returns : goal.returns
 returns g c =
     let p = c.ranges.position in
     let v = c.args.self.now in
-    let rounds = simp to_z-of_z at c.round_with_mode.ensures in
+    let ok = rw c.unwrap.ensures at c.round_with_mode.ensures.rounds in
+    let rounds = simp to_z-of_z at ok in
+    let value = ap (λ o. unwrap_or o v) rounds.value in
     record {
       rounds = rounds;
-      parts = subst (λ t. PartsJoin v c.args.position t (cut v c.args.position)) (sym rounds.value) (parts v c.args.position rounds.valid);
-      again = subst (TruncatedAgain v c.args.position) (sym rounds.value) (truncated_again v c.args.position (omega (arith, ints)) rounds.valid);
+      parts = subst (λ t. PartsJoin v c.args.position t (cut v c.args.position)) value (parts v c.args.position rounds.valid);
+      again = subst (TruncatedAgain v c.args.position) value (truncated_again v c.args.position (omega (arith, ints)) rounds.valid);
     }

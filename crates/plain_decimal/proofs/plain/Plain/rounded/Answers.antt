@@ -1,4 +1,4 @@
-use Rattle.std.proofs.Common.{◌≡◌, ◌*◌, ◌^◌, w16, negsuc, sym, ◌∙◌, ap, subst, ◌<◌}
+use Rattle.std.proofs.Common.{◌≡◌, ◌*◌, ◌^◌, w16, Some, negsuc, sym, ◌∙◌, ap, subst, ◌<◌}
 use Rattle.std.proofs.Math.Nat.{mul-pos}
 use Rattle.std.proofs.lemmas.Int.{to_z-of_z}
 use Rattle.decimal_digits.specs.Number.{weight}
@@ -18,6 +18,5 @@ pub returns : goal.returns
 returns c =
     let p = to_z-of_z w16 c.args.position c.ranges.position in
     let unit : c.in_ok-unit.unit ≡ 10 ^ c.in_ok-above_unit.field-0 * step_of c.args.increment = c.in_ok-unit.ensures.1 ∙ (λ i. c.in_ok-scale.ensures.some i * c.step.ensures.value i) in
-    c.with_number.ensures
-    ∙ ap (λ q. with_number c.args.self.now q (c.rounded_number-number.result * weight (negsuc 9))) p
+    ap Some (c.with_number.ensures ∙ ap (λ q. with_number c.args.self.now q (c.rounded_number-number.result * weight (negsuc 9))) p)
     ∙ rounded_is c.args.self.now c.args.position c.args.mode c.args.increment c.self.inside.number c.in_ok-above_unit.field-0 c.in_ok-unit.unit c.rounded_number-number.result (ap (λ (v : Unsigned). v.number) c.self.view_is) (sym p ∙ c.in_ok-above_unit.ensures.some) unit c.rounded_number-number.ensures c.rounded_number-number.type_inv
