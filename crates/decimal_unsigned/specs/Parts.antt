@@ -10,7 +10,6 @@ abbrev pub view : Parts → Written
 view p = record { whole = p.whole.now; fraction = p.fraction.now; exponent = p.exponent }
 
 -- the same of parts that may not have been found
--- the same of parts that may not have been found
 abbrev pub views : Option Parts → Option Written
 views = option_map view
 
@@ -23,7 +22,6 @@ pub record IsSaturated (e : ℤ) : Type 0 where
   pub low : negsuc 69999 ≤ℤ e
   pub high : e ≤ℤ pos 70000
 
--- the parts with such an exponent
 -- the parts with such an exponent
 abbrev pub saturated_parts : Written → Written
 saturated_parts w = record w { exponent = option_map saturated w.exponent }
