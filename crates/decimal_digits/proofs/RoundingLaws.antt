@@ -62,10 +62,6 @@ trunc_le u n p = let (q, e, (low, great)) = rounded_number-named Trunc u n p in 
 pub le_expand : (u n : ℕ) → 0 < u → n ≤ rounded_number Expand u n
 le_expand u n p = let (q, e, (high, least)) = rounded_number-named Expand u n p in omega (arith, e)
 
--- a coarser unit expands at least as far
-pub expand-le-coarser : (u t n : ℕ) → 0 < u → 0 < t * u → rounded_number Expand u n ≤ rounded_number Expand (t * u) n
-expand-le-coarser u t n p pt = omega (arith, expand-coarser u t n p pt, le_expand (t * u) (rounded_number Expand u n) pt)
-
 monotone_named : (mode : UnsignedRoundingMode) (u n m a b : ℕ) → n < m → Named mode u n a → Named mode u m b → a ≤ b
 monotone_named Trunc u n m a b l (q, e, (low, great)) (k, f, (low', great')) = omega (arith, great' q)
 monotone_named Expand u n m a b l (q, e, (high, least)) (k, f, (high', least')) = omega (arith, least k)

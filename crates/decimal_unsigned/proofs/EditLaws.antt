@@ -1,6 +1,6 @@
 -- Laws of trims, and of the parts of a value at a position.
 use Rattle.std.proofs.Common.{◌≡◌, ℕ, ◌+◌, ◌-◌, ◌*◌, ◌%◌, ◌^◌, ◌<◌, ◌≤◌, ◌⊎◌, length, refl, sym, ◌∙◌, ap, subst, arith, inl, inr}
-use Rattle.std.specs.Prelude.{Some, None, ℤ, pos, ◌≤ℤ◌, ◌<ℤ◌}
+use Rattle.std.specs.Prelude.{None, ℤ, pos, ◌≤ℤ◌, ◌<ℤ◌}
 use Rattle.std.specs.Option.{unwrap_or}
 use Rattle.std.specs.Int.{int_max, int_min}
 use Rattle.std.proofs.Math.Nat.{pow-le-pow_right}
@@ -14,16 +14,14 @@ use Rattle.decimal_digits.specs.declared.rounding.RoundingIncrement.TheVariants.
 use Rattle.decimal_digits.specs.declared.rounding.UnsignedRoundingMode.TheVariants.{Trunc}
 use Rattle.decimal_digits.proofs.Ends.{last_zero, no_more_zeros}
 use Rattle.decimal_digits.proofs.Places.{place_is, gap_is}
-use Rattle.decimal_digits.proofs.RoundingLaws.{trunc_le}
-use Rattle.decimal_digits.proofs.Tails.{unit_pos}
 use Rattle.decimal_unsigned.specs.Unsigned.{Unsigned, IsValue}
 use Rattle.decimal_unsigned.specs.Edits.{cut}
-use Rattle.decimal_unsigned.specs.Rounded.{with_number, rounded_to, rounded}
+use Rattle.decimal_unsigned.specs.Rounded.{with_number, rounded}
 use Rattle.decimal_unsigned.specs.Text.{text}
-use Rattle.decimal_unsigned.specs.EditLaws.{trimmed, TrimmedAlike, IsShortest, after_rounding, truncated, PartsJoin}
+use Rattle.decimal_unsigned.specs.EditLaws.{trimmed, TrimmedAlike, IsShortest, truncated, PartsJoin}
 use Rattle.decimal_unsigned.proofs.FirstLast.{last_of, first_le}
 use Rattle.decimal_unsigned.proofs.JoiningLaws.{extent_of, parts_join, parts_number, parts_value}
-use Rattle.decimal_unsigned.proofs.Roundings.{rounded_to-small}
+use Rattle.decimal_unsigned.proofs.Roundings.{trunc_makes}
 use Rattle.decimal_unsigned.proofs.Lengths.{length-text_whole, length-text_dotted}
 
 -- ---- Trims.
@@ -82,17 +80,9 @@ module _ (v : Unsigned) (p : ℤ) (valid : IsValue v) where
       let m : 10 ^ (place v.hi + 1) ≤ number_limit = pow-le-pow_right (omega arith) k in
       omega (arith, valid.below, m)
 
-  -- a rounding toward zero makes a value
-  pub trunc_rounds : (increment : RoundingIncrement) → rounded v p Trunc increment ≡ Some (after_rounding v p Trunc increment)
-  trunc_rounds increment =
-      let u = unit_at increment p in
-      let small : rounded_number Trunc u v.number < number_limit = omega (arith, below_limit, trunc_le u v.number (unit_pos increment p)) in
-      let e = rounded_to-small v p (rounded_number Trunc u v.number) small in
-      e ∙ ap Some (sym (ap (λ o. unwrap_or o v) e))
-
-  -- it is never refused
+  -- a rounding toward zero is never refused
   pub trunc_not_refused : (increment : RoundingIncrement) → rounded v p Trunc increment ≡ None → ⊥
-  trunc_not_refused increment e = none-some (after_rounding v p Trunc increment) (sym e ∙ trunc_rounds increment)
+  trunc_not_refused increment e = none-some _ (sym e ∙ trunc_makes v p increment below_limit)
 
   -- it leaves the number without its part below the position
   truncated_number : rounded_number Trunc (unit_at MultiplesOf1 p) v.number ≡ v.number - v.number % weight p
@@ -100,9 +90,7 @@ module _ (v : Unsigned) (p : ℤ) (valid : IsValue v) where
   truncated_number = ap (λ u. v.number - v.number % u) (let e : 1 * weight p ≡ weight p = omega arith in e)
 
   truncated_is : truncated v p ≡ with_number v p (v.number - v.number % weight p)
-  truncated_is =
-      let e = rounded_to-small v p (v.number - v.number % weight p) (omega (arith, below_limit)) in
-      ap (λ n. unwrap_or (rounded_to v p n) v) truncated_number ∙ ap (λ o. unwrap_or o v) e
+  truncated_is = ap (λ o. unwrap_or o v) (trunc_makes v p MultiplesOf1 below_limit) ∙ ap (with_number v p) truncated_number
 
   -- the truncated value and the part below the position make the value
   pub parts : PartsJoin v p (truncated v p) (cut v p)

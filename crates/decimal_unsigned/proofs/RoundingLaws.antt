@@ -25,7 +25,7 @@ use Rattle.decimal_unsigned.specs.Rounded.{reaches_limit, with_number, rounded_t
 use Rattle.decimal_unsigned.specs.EditLaws.{after_rounding, truncated, expanded, number_of, TruncatedAgain, ExpandedAgain, RoundsInOrder}
 use Rattle.decimal_unsigned.proofs.EditLaws.{below_limit}
 use Rattle.decimal_unsigned.proofs.FirstLast.{first_le}
-use Rattle.decimal_unsigned.proofs.Roundings.{within, beyond, rounded_to-small, rounded_to-large}
+use Rattle.decimal_unsigned.proofs.Roundings.{within, beyond, rounded_to-small, rounded_to-large, trunc_makes}
 
 -- ---- What a rounding answers.
 
@@ -70,16 +70,14 @@ coarser p q low h =
     omega (arith, e)
 
 -- rounding by the coarser unit after the finer one is rounding by the coarser one
-Absorbs : UnsignedRoundingMode → ℕ → Type 0
+abbrev Absorbs : UnsignedRoundingMode → ℕ → Type 0
 Absorbs mode n = (u t : ℕ) → 0 < u → 0 < t * u → rounded_number mode (t * u) (rounded_number mode u n) ≡ rounded_number mode (t * u) n
 
 trunc_absorbs : (n : ℕ) → Absorbs Trunc n
-unfolding Absorbs
-trunc_absorbs n u t p r = trunc-coarser u t n p r
+trunc_absorbs n u t = trunc-coarser u t n
 
 expand_absorbs : (n : ℕ) → Absorbs Expand n
-unfolding Absorbs
-expand_absorbs n u t p r = expand-coarser u t n p r
+expand_absorbs n u t = expand-coarser u t n
 
 module _ (mode : UnsignedRoundingMode) (n : ℕ) (absorbs : Absorbs mode n) where
   -- the number after a rounding at p, and after one at q then
@@ -90,7 +88,7 @@ module _ (mode : UnsignedRoundingMode) (n : ℕ) (absorbs : Absorbs mode n) wher
   twice p q = rounded_number mode (unit_at MultiplesOf1 q) (rounded_number mode (unit_at MultiplesOf1 p) n)
 
   twice_up : (p q : ℤ) → negsuc 32767 ≤ℤ p → p ≤ℤ q → twice p q ≡ once q
-  unfolding once twice Absorbs
+  unfolding once twice
   twice_up p q low h =
       let u = unit_at MultiplesOf1 p in
       let e = coarser p q low h in
@@ -150,10 +148,7 @@ module _ (v : Unsigned) (p : ℤ) (low : negsuc 32767 ≤ℤ p) (valid : IsValue
 
   -- a number that is not above the value's makes a value again
   truncates : (w : Unsigned) (q : ℤ) → w.number ≤ v.number → truncated w q ≡ with_number w q (rounded_number Trunc (unit_at MultiplesOf1 q) w.number)
-  truncates w q l =
-      let u = unit_at MultiplesOf1 q in
-      let small : rounded_number Trunc u w.number < number_limit = omega (arith, below_limit v p valid, trunc_le u w.number (unit_pos MultiplesOf1 q)) in
-      ap (λ o. unwrap_or o w) (rounded_to-small w q (rounded_number Trunc u w.number) small)
+  truncates w q l = ap (λ o. unwrap_or o w) (trunc_makes w q MultiplesOf1 (omega (arith, l, below_limit v p valid)))
 
   once_truncated : truncated v p ≡ with_number v p left
   unfolding left

@@ -9,12 +9,17 @@ use Rattle.std.proofs.lemmas.Bool.Decides.{nat_tests}
 use Rattle.decimal_digits.specs.Number.{first, size, number_limit}
 use Rattle.decimal_digits.specs.Digits.{number_of}
 use Rattle.decimal_digits.specs.Left.{Spells, IsAbove}
+use Rattle.decimal_digits.specs.Rounding.{unit_at, rounded_number}
+use Rattle.decimal_digits.specs.declared.rounding.RoundingIncrement.{RoundingIncrement}
+use Rattle.decimal_digits.specs.declared.rounding.UnsignedRoundingMode.TheVariants.{Trunc}
+use Rattle.decimal_digits.proofs.RoundingLaws.{trunc_le}
+use Rattle.decimal_digits.proofs.Tails.{unit_pos}
 use Rattle.decimal_digits.proofs.Ends.{first_zero}
 use Rattle.decimal_digits.proofs.NumberAt.{number_of-none}
 use Rattle.decimal_digits.proofs.Places.{place_is}
 use Rattle.decimal_unsigned.specs.Unsigned.{Unsigned}
 use Rattle.decimal_unsigned.specs.Fields.{IsStored}
-use Rattle.decimal_unsigned.specs.Rounded.{with_number, rounded_to}
+use Rattle.decimal_unsigned.specs.Rounded.{with_number, rounded_to, rounded}
 use Rattle.decimal_unsigned.proofs.Values.{size-number_of}
 
 -- a number against a limit
@@ -32,6 +37,12 @@ rounded_to-small v p n h = let t = within n number_limit h in rw t refl
 -- and one that names a greater multiple makes none
 pub rounded_to-large : (v : Unsigned) (p : ℤ) (n : ℕ) → number_limit ≤ n → rounded_to v p n ≡ None
 rounded_to-large v p n h = let t = beyond n number_limit h in rw t refl
+
+-- a number below the limit is rounded toward zero to a value
+pub trunc_makes : (v : Unsigned) (p : ℤ) (increment : RoundingIncrement) → v.number < number_limit → rounded v p Trunc increment ≡ Some (with_number v p (rounded_number Trunc (unit_at increment p) v.number))
+trunc_makes v p increment h =
+    let u = unit_at increment p in
+    rounded_to-small v p (rounded_number Trunc u v.number) (omega (arith, h, trunc_le u v.number (unit_pos increment p)))
 
 -- no digits stand for 0, whose first magnitude is 0
 unspelled : {ds : List ℕ} {m : ℤ} {n : ℕ} → Spells ds m n → length ds ≡ 0 → m ≡ pos 0

@@ -18,10 +18,11 @@ use Rattle.decimal_unsigned.specs.Rounded as unsigned
 use Rattle.decimal_unsigned.specs.Rounded.{reaches_limit, with_number}
 use Rattle.decimal_unsigned.specs.EditLaws.{number_of, truncated}
 use Rattle.decimal_unsigned.proofs.EditLaws.{below_limit}
+use Rattle.decimal_unsigned.proofs.Roundings.{trunc_makes}
 use Rattle.decimal_unsigned.proofs.RoundingLaws.{truncated_again, expanded_again}
 use Rattle.fixed_decimal.specs.Decimal.{Decimal, with_absolute}
 use Rattle.fixed_decimal.specs.Outcome.{overflow, and_then, or_overflow, after_calls}
-use Rattle.fixed_decimal.proofs.SignedRoundings.{trunc_makes, trunc_is_some}
+use Rattle.fixed_decimal.proofs.SignedRoundings.{trunc_is_some}
 use Rattle.fixed_decimal.specs.RunLaws.{rounding_at, IsPosition, ComesTo, RoundsOnce, NeverOverflows}
 
 -- ---- One rounding, by the number alone.
@@ -131,9 +132,9 @@ module _ (v : Decimal) (valid : IsValue v.absolute) where
       let m = rounded_number Trunc (unit_at MultiplesOf1 p) a.number in
       let t = with_number a p m in
       let k : m < number_limit = omega (arith, below_limit a p valid, trunc_le (unit_at MultiplesOf1 p) a.number (unit_pos MultiplesOf1 p)) in
-      let first = trunc_makes a p (below_limit a p valid) in
-      let second = trunc_makes t q k in
-      let third = trunc_makes a (int_max p q) (below_limit a p valid) in
+      let first = trunc_makes a p MultiplesOf1 (below_limit a p valid) in
+      let second = trunc_makes t q MultiplesOf1 k in
+      let third = trunc_makes a (int_max p q) MultiplesOf1 (below_limit a p valid) in
       let again = (truncated_again a p l valid).number q l' in
       let x : (truncated (truncated a p) q).number ≡ rounded_number Trunc (unit_at MultiplesOf1 q) m = ap (λ o. (truncated (unwrap_or o a) q).number) first ∙ ap (λ o. (unwrap_or o t).number) second in
       let y : (truncated a (int_max p q)).number ≡ rounded_number Trunc (unit_at MultiplesOf1 (int_max p q)) a.number = ap (λ o. (unwrap_or o a).number) third in

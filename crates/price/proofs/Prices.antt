@@ -1,6 +1,6 @@
 -- A price meets no limit: its cents have 64 bits, its percent 32.
-use Rattle.std.proofs.Common.{◌≡◌, ℕ, ◌+◌, ◌*◌, ◌/◌, ◌^◌, ◌<◌, ◌≤◌, false, refl, ◌∙◌, ap, arith, rules}
-use Rattle.std.specs.Prelude.{pos, negsuc, ◌≤ℤ◌, Some, None, Result, Ok, Err, OnErr, IsOk}
+use Rattle.std.proofs.Common.{◌≡◌, ℕ, ◌+◌, ◌*◌, ◌/◌, ◌^◌, ◌<◌, ◌≤◌, false, refl, ◌∙◌, ap, arith}
+use Rattle.std.specs.Prelude.{pos, negsuc, ◌≤ℤ◌, Some, None}
 use Rattle.std.proofs.Math.Nat.{pow-le-pow_right, mul-le-mul_right, mul_assoc}
 use Rattle.std.proofs.lemmas.Int.{ints}
 use Rattle.std.proofs.lemmas.Nat.{pow-add}
@@ -35,11 +35,6 @@ far =
     let m : 10 ^ (32 + place (negsuc 1)) ≤ weight (pos 32768) = pow-le-pow_right (omega arith) k in
     let e : 10 ^ (32 + place (negsuc 1)) ≡ 10 ^ 32 * cent = pow-add 10 32 (place (negsuc 1)) in
     omega (arith, m, e, ten_pos (place (negsuc 1)))
-
--- a call that has no reason to refuse answers Ok
-pub ok_unless : {A E P : Type 0} (r : Result A E) → OnErr r P → (P → ⊥) → IsOk r
-ok_unless (Ok x) h never = search (rules)
-ok_unless (Err e) h never = absurd (never h)
 
 module _ (n : ℕ) (small : n < 2 ^ 96) where
   -- so many are few units

@@ -2,7 +2,8 @@ use Rattle.std.proofs.Common.{◌≡◌, ◌*◌, ◌^◌, ◌<◌, ◌-◌, Som
 use Rattle.std.specs.Prelude.{negsuc}
 use Rattle.std.proofs.lemmas.Nat.{mul-le}
 use Rattle.decimal_unsigned.specs.Edits.{shifted}
-use Rattle.price.proofs.Prices.{ok_unless, round_never_refused}
+use Rattle.decimal_digits.proofs.Results.{ok_unless}
+use Rattle.price.proofs.Prices.{round_never_refused}
 use Rattle.price.proofs.write_price.Goals as goal
 
 pub unwrap-requires-2 : goal.unwrap-requires-2

@@ -1,17 +1,13 @@
-use Rattle.std.proofs.Common.{refl, ap, subst, arith}
-use Rattle.std.specs.Prelude.{Result, Ok, Err, IsOk, OnErr}
+use Rattle.std.proofs.Common.{ap, subst, arith}
 use Rattle.std.specs.Option.{unwrap_or}
 use Rattle.std.proofs.lemmas.Int.{ints, to_z-of_z}
 use Rattle.decimal_digits.specs.declared.rounding.RoundingIncrement.TheVariants.{MultiplesOf1}
+use Rattle.decimal_digits.proofs.Results.{ok_unless}
 use Rattle.decimal_unsigned.specs.Edits.{cut}
 use Rattle.decimal_unsigned.specs.EditLaws.{PartsJoin, TruncatedAgain}
 use Rattle.decimal_unsigned.proofs.EditLaws.{parts, trunc_not_refused}
 use Rattle.decimal_unsigned.proofs.RoundingLaws.{truncated_again}
 use Rattle.decimal_unsigned.proofs.decimal.UnsignedOver.trunc.Goals as goal
-
-ok_unless : {A E P : Type 0} (r : Result A E) → OnErr r P → (P → ⊥) → IsOk r
-ok_unless (Ok x) h n = refl
-ok_unless (Err e) h n = absurd (n h)
 
 pub unwrap-requires : goal.unwrap-requires
 unwrap-requires g c =
