@@ -1,0 +1,514 @@
+#!/usr/bin/env python3
+"""Checks what the documents say of the tree, as far as a program can tell.
+
+Run from the repository's root: `python3 tools/check_documents.py`. Each thing that is false is one line; the last line is
+`N passed, M failed`, and the status is 1 where M is not 0. What it checks, each by a function below:
+
+- names: what stands in backticks and looks like a name of code or like a path exists in the tree;
+- links: each link points at a file that exists;
+- files: the tables and lists of files in README.md, docs/PROVED.md and docs/DESIGN.md are complete, and have nothing more;
+- counts: lines of definitions, clauses, and the words that a theorem cites are those of the tree;
+- proved: each row of docs/PROVED.md names functions and clauses that stand in the file that it names;
+- public: CALLING.md names each public item of the libraries;
+- widths: lines of code, cells of docs/PROVED.md, and the length of README.md;
+- examples: `$ fixdec ..` in README.md prints what README.md says, where the program is built.
+"""
+
+import os
+import re
+import subprocess
+import sys
+
+# ---- What is set by hand.
+
+# Lines of .rt and .antt, imports apart, that are longer than 120 columns. This number only goes down.
+LONG_LINES = 1133
+COLUMNS = 120
+README_LINES = 200
+CELL = 240
+
+DOCUMENTS = ["README.md", "CALLING.md"]
+LIBRARIES = ["decimal_digits", "decimal_unsigned", "fixed_decimal"]
+
+# Words of the original or of its world, of Rust, of Rattle and of the commands, which do not stand in the tree's code.
+FOREIGN = set(
+    """
+    FloatPrecision DoublePrecision WithInfinity try_from_f64 ryu writeable write_to_string LengthHint
+    FromStr non_exhaustive rustc release memcmp String rt ci fixdec TEXT CALL WORD INC MODE D P S K N
+    """.split()
+)
+
+failures = []
+passes = 0
+
+
+def check(good, message):
+    """Counts one check, and keeps the message where it fails."""
+    global passes
+    if good:
+        passes += 1
+    else:
+        failures.append(message)
+
+
+def read(path):
+    with open(path, encoding="utf-8") as file:
+        return file.read()
+
+
+def tracked():
+    listed = subprocess.run(["git", "ls-files"], capture_output=True, text=True, check=True)
+    return [path for path in listed.stdout.splitlines() if os.path.isfile(path)]
+
+
+# ---- The tree.
+
+
+class Tree:
+    """The tracked files, the words of their code, and the definitions of `specs/`."""
+
+    def __init__(self):
+        self.files = tracked()
+        self.code = [path for path in self.files if path.endswith((".rt", ".antt"))]
+        self.text = {path: read(path) for path in self.code}
+        self.words = set()
+        for text in self.text.values():
+            self.words.update(re.findall(r"[A-Za-z_][\w'-]*", text))
+            self.words.update(re.findall(r"[A-Za-z_]\w*", text))
+        self.folders = {os.path.dirname(path) for path in self.files}
+        for folder in list(self.folders):
+            while folder:
+                folder = os.path.dirname(folder)
+                self.folders.add(folder)
+        self.names = {os.path.basename(path) for path in self.files}
+        self.stems = {os.path.splitext(name)[0] for name in self.names}
+        self.stems.update(os.path.basename(folder) for folder in self.folders)
+
+    def specs(self, crate):
+        """The files of definitions of a crate by name, with `Lib` left out: text of each."""
+        head = f"crates/{crate}/specs/"
+        return {
+            path[len(head) : -len(".antt")]: self.text[path]
+            for path in self.code
+            if path.startswith(head) and path != head + "Lib.antt"
+        }
+
+    def is_private(self, text):
+        head = "\n".join(text.splitlines()[:3])
+        return "only the contracts of private functions" in head or "Only private contracts cite" in head
+
+    def has_path(self, path):
+        path = path.rstrip("/")
+        if path in self.files or path in self.folders:
+            return True
+        return any(file.endswith("/" + path) for file in self.files) or any(
+            folder.endswith("/" + path) for folder in self.folders
+        )
+
+
+# ---- Rattle's text.
+
+
+def without_tests(text):
+    """The text up to its module of tests."""
+    return text.split("\n#[cfg(test)]\nmod tests {")[0]
+
+
+def functions(text):
+    """The functions of a file: (name, the type or trait of its block, is it public, what it ensures)."""
+    found = []
+    block = ""
+    lines = without_tests(text).splitlines()
+    for index, line in enumerate(lines):
+        opening = re.match(r"(?:pub )?(impl|trait)\b(.*)\{$", line)
+        if opening:
+            block = opening.group(1) + opening.group(2)
+        elif line == "}":
+            block = ""
+        start = re.match(r"(\s*)(pub(?:\([a-z]+\))? )?(?:const )?fn (\w+)", line)
+        if not start:
+            continue
+        indent = start.group(1)
+        clauses = []
+        for below in lines[index:]:
+            clause = re.match(r"\s*(ensures|requires)\*? (?:(\w+) )?\{", below)
+            if clause and clause.group(1) == "ensures":
+                clauses.append(clause.group(2) or "ensures")
+            if below == indent + "{" or below.startswith(indent + "}") or below.endswith("};"):
+                break
+            if below.rstrip().endswith("{") and not clause and not below.lstrip().startswith(("ensures", "requires")):
+                break
+            if below.rstrip().endswith(";"):
+                break
+        found.append((start.group(3), block, (start.group(2) or "").strip() == "pub", clauses))
+    return found
+
+
+def ghosts(text):
+    """The ghost members of a file: what an `impl` of a trait of std promises, as `output` of a Display."""
+    return set(re.findall(r"^\s+ghost (\w+)\s*[=:]", text, re.M))
+
+
+def imports(text):
+    """What a file of definitions imports: name to (crate, file, name), and alias to (crate, file)."""
+    names, modules = {}, {}
+    for crate, file, rest in re.findall(
+        r"^(?:ghost )?use Rattle\.(\w+)\.specs\.(\w+)(\.\{[^}]*\}| as \w+)", text, re.M
+    ):
+        if rest.startswith(" as "):
+            modules[rest[4:]] = (crate, file)
+            continue
+        for name in rest[2:-1].split(","):
+            name, _, alias = name.strip().partition(" as ")
+            names[alias or name] = (crate, file, name)
+    return names, modules
+
+
+def definitions(text):
+    """The definitions of a file: name to the text of its paragraph. A constructor or field is its type's."""
+    found = {}
+    for paragraph in re.split(r"\n\s*\n", text):
+        lines = [line for line in paragraph.splitlines() if not line.startswith(("--", "use "))]
+        body = "\n".join(lines)
+        head = re.match(r"(?:abbrev |unfoldable |pub |data |record |inductive )*([^\s:({]+)", body)
+        if not head or not body.strip():
+            continue
+        found[head.group(1)] = body
+        if re.search(r"\bdata\b", lines[0]):
+            for constructor in re.findall(r"^  (\w+) :", body, re.M):
+                found[constructor] = body
+    return found
+
+
+def cited(tree, crates, seeds):
+    """The definitions that the seeds cite, and those that these cite: (crate, file) of each."""
+    known = {}
+    for crate in crates:
+        for file, text in tree.specs(crate).items():
+            known[(crate, file)] = (imports(text), definitions(text))
+    done, todo = set(), list(seeds)
+    while todo:
+        crate, file, name = todo.pop()
+        if (crate, file, name) in done or (crate, file) not in known:
+            continue
+        (names, modules), defined = known[(crate, file)]
+        if name not in defined:
+            continue
+        done.add((crate, file, name))
+        body = defined[name]
+        for word in set(re.findall(r"[^\s(){};,.:]+", body)):
+            if word in names:
+                todo.append(names[word])
+            elif word in defined:
+                todo.append((crate, file, word))
+        for alias, word in re.findall(r"(\w+)\.([^\s(){};,.]+)", body):
+            if alias in modules:
+                todo.append((*modules[alias], word))
+    return {(crate, file) for crate, file, _ in done}
+
+
+# ---- Markdown.
+
+
+def paragraphs(text):
+    """The lines of a document outside of its fenced blocks."""
+    fenced = False
+    for line in text.splitlines():
+        if line.startswith("```"):
+            fenced = not fenced
+        elif not fenced:
+            yield line
+
+
+def quoted(line):
+    return re.findall(r"`([^`]+)`", line)
+
+
+def cells(line):
+    """The cells of a row of a table, or None."""
+    if not line.startswith("|") or re.fullmatch(r"[|\-: ]+", line):
+        return None
+    return [cell.strip() for cell in line.strip().strip("|").split("|")]
+
+
+def tables(text):
+    """Each table: its head, its rows, and the paragraph in front."""
+    head, rows, before, last = None, [], "", ""
+    for line in [*paragraphs(text), ""]:
+        row = cells(line)
+        if row is None and not line.startswith("|"):
+            if head:
+                yield head, rows, before
+            head, rows = None, []
+            if line.strip():
+                last = line
+        elif row and head is None:
+            head, rows, before = row, [], last
+        elif row:
+            rows.append(row)
+
+
+# ---- The checks.
+
+
+def identifiers(word):
+    """The names in what stands in backticks, where it looks like code; else none."""
+    if re.search(r"[\s\"|]", word) and not re.fullmatch(r"[\w:<>&',\s]+(\([\w:<>&',\s-]*\))?", word):
+        return []
+    if re.fullmatch(r"[^A-Za-z]*", word) or re.fullmatch(r"[+-]?[\d.][\w.+-]*", word) or re.fullmatch(r"\.?e\d+", word):
+        return []
+    if re.match(r"\w+:|--|rt |fixdec |git |python3 |cargo |call |start:|usage:", word) and "::" not in word:
+        return []
+    return re.findall(r"[A-Za-z_]\w*(?:-[a-z_]\w*)*", word)
+
+
+def check_names(tree, documents):
+    allowed = tree.words | tree.names | tree.stems | FOREIGN
+    for path in documents:
+        for line in paragraphs(read(path)):
+            for word in quoted(line):
+                if re.search(r"[/]|\.(rt|antt|md|py|sh|txt|edit)$", word) and " " not in word:
+                    check(tree.has_path(word) or os.path.exists(word), f"{path}: there is no file `{word}`")
+                    continue
+                for name in identifiers(word):
+                    check(name in allowed, f"{path}: `{name}` of `{word}` stands nowhere in the tree's code")
+
+
+def check_links(documents):
+    for path in documents:
+        for target in re.findall(r"\]\(([^)#]+)[^)]*\)", read(path)):
+            if "://" in target:
+                continue
+            check(os.path.exists(os.path.join(os.path.dirname(path), target)), f"{path}: the link {target} leads nowhere")
+
+
+def check_believed(tree):
+    """README's table of definitions: complete, counted, and the main promise cites just the files that it says."""
+    text = read("README.md")
+    listed = {}
+    main, total = set(), {"main": 0, "all": 0}
+    for head, rows, _ in tables(text):
+        if len(head) != 5 or "main promise" not in head[1]:
+            continue
+        for crate, first, first_lines, rest, rest_lines in rows:
+            crate = crate.strip("`")
+            specs = tree.specs(crate)
+            for names, lines, is_main in ((first, first_lines, True), (rest, rest_lines, False)):
+                files = [name for name in re.split(r",\s*", names) if name and name != "-"]
+                count = 0
+                for name in files:
+                    check(name in specs, f"README.md: {crate} has no definitions {name}")
+                    count += len(specs.get(name, "").splitlines())
+                    listed.setdefault(crate, set()).add(name)
+                    if is_main:
+                        main.add((crate, name))
+                check(lines == str(count), f"README.md: the lines of {names} of {crate} are {count}, and not {lines}")
+                total["all"] += count
+                total["main"] += count if is_main else 0
+    for crate in [*LIBRARIES, "fixdec_program"]:
+        public = {name for name, body in tree.specs(crate).items() if not tree.is_private(body)}
+        modelled = {"Fields", "Parts", "Placing"} if crate == "decimal_unsigned" else set()
+        for name in sorted(public - modelled - listed.get(crate, set())):
+            check(False, f"README.md: the definitions {name} of {crate} are missing")
+        for name in sorted(listed.get(crate, set()) - public):
+            check(False, f"README.md: {crate} has no public definitions {name}")
+    runs = tree.text["crates/fixed_decimal/src/runs.rt"]
+    names, _ = imports(runs)
+    contract = runs[runs.index("pub fn run<") :]
+    seeds = [names[word] for word in set(re.findall(r"[^\s(){};,.:]+", contract)) if word in names]
+    needed = {(crate, file) for crate, file in cited(tree, LIBRARIES, seeds)}
+    for crate, name in sorted(needed - main):
+        check(False, f"README.md: the contract of `run` cites {name} of {crate}, which is not in the list")
+    for crate, name in sorted(main - needed):
+        check(False, f"README.md: the contract of `run` does not cite {name} of {crate}")
+    for kind, pattern in (("main", r"(\d[\d,]*) lines in (\d+) files"), ("all", r"(\d[\d,]*) lines in all")):
+        found = re.search(pattern, text)
+        check(found is not None, f"README.md: it does not say how many lines ({kind})")
+        if found:
+            check(
+                int(found.group(1).replace(",", "")) == total[kind],
+                f"README.md: {found.group(0)}, and counted are {total[kind]}",
+            )
+            if kind == "main":
+                check(int(found.group(2)) == len(main), f"README.md: {found.group(0)}, and listed are {len(main)} files")
+
+
+def check_design(tree):
+    """DESIGN's lists of definitions and of lemmas are complete."""
+    text = read("docs/DESIGN.md")
+    quotes = {word for line in paragraphs(text) for word in quoted(line)}
+    listed = set()
+    for line in paragraphs(text):
+        row = cells(line)
+        if not row or "/specs/" not in row[0]:
+            continue
+        crate = ""
+        for word in quoted(row[0]):
+            crate = word.split("/")[0] if "/specs/" in word else crate
+            listed.add((crate, os.path.splitext(os.path.basename(word))[0]))
+    for crate in [*LIBRARIES, "fixdec_program"]:
+        for name, body in sorted(tree.specs(crate).items()):
+            good = (crate, name) in listed or (tree.is_private(body) or name in ("Fields", "Parts", "Placing")) and name in quotes
+            check(good, f"docs/DESIGN.md: the definitions {name} of {crate} are missing")
+    for crate, name in sorted(listed):
+        check(name in tree.specs(crate), f"docs/DESIGN.md: {crate} has no definitions {name}")
+    for line in text.splitlines():
+        head = re.match(r"- `(\w+)/proofs`: (.*)", line)
+        if not head:
+            continue
+        crate, rest = head.groups()
+        folder = f"crates/{crate}/proofs/"
+        files = {
+            path[len(folder) : -len(".antt")]
+            for path in tree.code
+            if path.startswith(folder) and "/" not in path[len(folder) :] and not path.endswith("/Lib.antt")
+        }
+        named = {word for word in quoted(rest) if re.fullmatch(r"[A-Z]\w+", word) and word != "Steps"}
+        for name in sorted(files - named):
+            check(False, f"docs/DESIGN.md: the proof file {name} of {crate} is missing")
+        for name in sorted(named - files):
+            check(False, f"docs/DESIGN.md: {crate} has no proof file {name}")
+        check(bool(files), f"docs/DESIGN.md: {crate} has no proof files")
+    for crate in {path.split("/")[1] for path in tree.code if re.match(r"crates/\w+/proofs/[A-Z]", path)}:
+        check(f"- `{crate}/proofs`:" in text, f"docs/DESIGN.md: the proof files of {crate} are missing")
+
+
+def check_clause_counts(tree):
+    """`NAME` has N clauses."""
+    for path in [*DOCUMENTS, *documents_of(tree)]:
+        for name, count in re.findall(r"`(\w+)` has (\d+) clauses", read(path)):
+            counts = {
+                len(ensured)
+                for file, text in tree.text.items()
+                if file.endswith(".rt")
+                for function, block, public, ensured in functions(text)
+                if function == name and public
+            }
+            check(int(count) in counts, f"{path}: `{name}` has {count} clauses, and the tree {sorted(counts)}")
+
+
+def public_items(tree):
+    """The public functions of the libraries, with a contract: (file, name, block, clauses); and the public types."""
+    types, items = set(), []
+    private = re.compile(r"/src/(?:rounding/|digits/packed/|decimal/parse/plan|cut\.rt)")
+    for path, text in tree.text.items():
+        crate = path.split("/")[1]
+        if not path.endswith(".rt") or crate not in LIBRARIES or "/tests" in path or private.search(path):
+            continue
+        for name in re.findall(r"^pub (?:struct|enum|trait|type|const) (\w+)", text, re.M):
+            types.add((path, name))
+        for name, block, public, ensured in functions(text):
+            if path.endswith("decimal/parse/parts.rt") and name != "numeral":
+                continue
+            is_trait = block.startswith("trait") or " for " in block
+            if public or is_trait:
+                items.append((path, name, block, ensured))
+    return {(path, name) for path, name in types if not path.endswith("parse/parts.rt")}, items
+
+
+def check_proved(tree):
+    """Each row names what stands in its file, and each clause of a public function stands in a row."""
+    text = read("docs/PROVED.md")
+    covered = set()
+    for head, rows, before in tables(text):
+        if head[:4] != ["Promise", "Function", "Clauses", "File"]:
+            continue
+        below = re.search(r"`(crates/[\w/]*)`", before)
+        check(below is not None, f"docs/PROVED.md: no folder stands in front of a table")
+        folder = below.group(1) if below else ""
+        for promise, names, clauses, files in rows:
+            where = f"docs/PROVED.md: {promise[:50]}.."
+            paths = [folder + file for file in quoted(files)]
+            found, members = [], set()
+            for path in paths:
+                check(path in tree.text, f"{where}: there is no {path}")
+                here = tree.text.get(path, "")
+                members |= ghosts(here)
+                found += [(path, *function) for function in functions(here) if function[0] in quoted(names)]
+                types = [name for name in quoted(names) if re.search(rf"\b(?:trait|struct|enum) {name}\b", here)]
+                check(any(f[0] == path for f in found) or types, f"{where}: {path} has none of {names}")
+                found += [(path, name, "", False, []) for name in types]
+            for name in quoted(names):
+                check(any(name == function for _, function, *_ in found), f"{where}: there is no function {name}")
+            for clause in quoted(clauses):
+                good = clause in members or any(clause in ensured for *_, ensured in found)
+                check(good, f"{where}: {names} has no clause {clause}")
+            for path, name, block, _, ensured in found:
+                covered |= {(path, name, block, clause) for clause in quoted(clauses) if clause in ensured}
+    for path, name, block, ensured in public_items(tree)[1]:
+        for clause in ensured:
+            check((path, name, block, clause) in covered, f"docs/PROVED.md: no row has {clause} of {name} ({path})")
+
+
+def check_public(tree):
+    """CALLING.md names each public function and type."""
+    quotes = set()
+    for line in paragraphs(read("CALLING.md")):
+        for word in quoted(line):
+            quotes.update(re.findall(r"\w+", word))
+            # `try_from_u32`, `_u64` stands for `try_from_u64`.
+            if re.fullmatch(r"_\w+", word):
+                quotes.add("try_from" + word)
+    quotes.update(re.findall(r"\w+", "\n".join(re.findall(r"```rust\n(.*?)```", read("CALLING.md"), re.S))))
+    types, items = public_items(tree)
+    for path, name in sorted(types):
+        check(name in quotes, f"CALLING.md: {name} is missing ({path})")
+    for path, name, block, _ in items:
+        if " for " not in block:
+            check(name in quotes, f"CALLING.md: {name} is missing ({path})")
+
+
+def check_widths(tree):
+    long = 0
+    for path in tree.code:
+        for line in tree.text[path].splitlines():
+            is_import = re.match(r"\s*(?:pub )?(?:ghost )?use ", line)
+            long += len(line) > COLUMNS and not is_import
+    check(long <= LONG_LINES, f"{long} lines of code are longer than {COLUMNS} columns, where {LONG_LINES} were")
+    if long < LONG_LINES:
+        print(f"note: {long} lines of code are longer than {COLUMNS} columns: LONG_LINES may go down to it")
+    lines = len(read("README.md").splitlines())
+    check(lines <= README_LINES, f"README.md has {lines} lines, more than {README_LINES}")
+    for line in read("docs/PROVED.md").splitlines():
+        for cell in cells(line) or []:
+            check(len(cell) <= CELL, f"docs/PROVED.md: a cell has {len(cell)} characters: {cell[:60]}..")
+
+
+def check_examples():
+    """Runs each `$ fixdec ..` of README.md, and compares what it writes."""
+    program = "crates/fixdec/out/fixdec"
+    blocks = re.findall(r"```\n(\$ fixdec .*?)```", read("README.md"), re.S)
+    if not os.access(program, os.X_OK):
+        print(f"note: {program} is not built, so the examples of README.md were left out")
+        return
+    for block in blocks:
+        for command, expected in re.findall(r"^\$ fixdec (.*)\n((?:(?!\$ ).*\n)*)", block, re.M):
+            words = command.split(" ")
+            run = subprocess.run([program, *words], capture_output=True, text=True, check=False)
+            check(run.stdout + run.stderr == expected, f"README.md: fixdec {command} writes {run.stdout + run.stderr!r}")
+
+
+def documents_of(tree):
+    return [path for path in tree.files if re.fullmatch(r"docs/\w+\.md", path)]
+
+
+def main():
+    tree = Tree()
+    documents = [*DOCUMENTS, *documents_of(tree)]
+    check_names(tree, documents)
+    check_links(documents)
+    check_believed(tree)
+    check_design(tree)
+    check_clause_counts(tree)
+    check_proved(tree)
+    check_public(tree)
+    check_widths(tree)
+    check_examples()
+    for failure in failures:
+        print(failure)
+    print(f"{passes} passed, {len(failures)} failed")
+    return 1 if failures else 0
+
+
+if __name__ == "__main__":
+    sys.exit(main())
