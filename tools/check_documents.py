@@ -5,7 +5,8 @@ Run from the repository's root: `python3 tools/check_documents.py`. Each thing t
 `N passed, M failed`, and the status is 1 where M is not 0. What it checks, each by a function below:
 
 - names: what stands in backticks and looks like a name of code or like a path exists in the tree;
-- links: each link points at a file that exists;
+- links: each link and each command points at a file that exists;
+- quotes: definitions and clauses that are quoted stand in the tree as they are quoted;
 - files: the tables and lists of files in README.md, docs/PROVED.md and docs/DESIGN.md are complete, and have nothing more;
 - counts: lines of definitions, clauses, and the words that a theorem cites are those of the tree;
 - proved: each row of docs/PROVED.md names functions and clauses that stand in the file that it names;
@@ -280,6 +281,20 @@ def check_links(documents):
             if "://" in target:
                 continue
             check(os.path.exists(os.path.join(os.path.dirname(path), target)), f"{path}: the link {target} leads nowhere")
+        for script in re.findall(r"^(?:bash|python3) (\S+)", read(path), re.M):
+            check(os.path.exists(script), f"{path}: there is no script {script}")
+
+
+def check_quotes(tree, documents):
+    """What stands in a block of definitions, and each clause in a block of Rattle, stands in the tree."""
+    lines = {line.strip() for text in tree.text.values() for line in text.splitlines()}
+    for path in documents:
+        for kind, block in re.findall(r"```(rust|antt)\n(.*?)```", read(path), re.S):
+            in_clause = False
+            for line in block.splitlines():
+                in_clause = line.strip().startswith("ensures") or in_clause and line.startswith("        ")
+                if line.strip() and (kind == "antt" or in_clause):
+                    check(line.strip() in lines, f"{path}: this line stands nowhere in the tree: {line.strip()}")
 
 
 def check_believed(tree):
@@ -497,6 +512,7 @@ def main():
     documents = [*DOCUMENTS, *documents_of(tree)]
     check_names(tree, documents)
     check_links(documents)
+    check_quotes(tree, documents)
     check_believed(tree)
     check_design(tree)
     check_clause_counts(tree)
