@@ -31,11 +31,12 @@ CELL = 240
 DOCUMENTS = ["README.md", "CALLING.md"]
 LIBRARIES = ["decimal_digits", "decimal_unsigned", "fixed_decimal"]
 
-# Words of the original or of its world, of Rust, of Rattle and of the commands, which do not stand in the tree's code.
+# Words of the original or of its world, of Rust, of Rattle and of the commands, which do not stand in the tree's code,
+# and rows of docs/SPEED.md.
 FOREIGN = set(
     """
     FloatPrecision DoublePrecision WithInfinity try_from_f64 ryu writeable write_to_string LengthHint
-    FromStr non_exhaustive rustc release memcmp String rt ci fixdec TEXT CALL WORD INC MODE D P S K N
+    FromStr non_exhaustive rustc release memcmp String rt ci fixdec TEXT CALL WORD INC MODE D P S K N expand_nines
     """.split()
 )
 
