@@ -12,6 +12,7 @@ Run from the repository's root: `python3 tools/check_documents.py`. Each thing t
 - proved: each row of docs/PROVED.md names functions and clauses that stand in the file that it names;
 - public: CALLING.md names each public item of the libraries;
 - widths: lines of code, cells of docs/PROVED.md, and the length of README.md;
+- alone: nothing cites what is not in the repository;
 - examples: `$ fixdec ..` in README.md prints what README.md says, where the program is built.
 """
 
@@ -19,6 +20,7 @@ import os
 import re
 import subprocess
 import sys
+from collections import namedtuple
 
 # ---- What is set by hand.
 
@@ -30,6 +32,15 @@ CELL = 240
 
 DOCUMENTS = ["README.md", "CALLING.md"]
 LIBRARIES = ["decimal_digits", "decimal_unsigned", "fixed_decimal"]
+CRATES = [*LIBRARIES, "fixdec_program"]
+
+# The ghost lines by which an `impl` of a trait of std promises something; the others say how fields are seen.
+PROMISES = set(
+    "output styled_output eq laws deref_gives deref_mut_gives from_gives try_from_gives next_gives remaining text".split()
+)
+
+# Files that say how fields are seen: the models of values cite them, and no public contract does.
+SEEN = {"decimal_digits": {"Halves"}, "decimal_unsigned": {"Fields", "Parts", "Placing"}}
 
 # Words of the original or of its world, of Rust, of Rattle and of the commands, which do not stand in the tree's code,
 # and rows of docs/SPEED.md.
@@ -116,8 +127,11 @@ def without_tests(text):
     return text.split("\n#[cfg(test)]\nmod tests {")[0]
 
 
+Function = namedtuple("Function", "name block public ensured contract")
+
+
 def functions(text):
-    """The functions of a file: (name, the type or trait of its block, is it public, what it ensures)."""
+    """The functions of a file. `block` is the line of its `impl` or its trait, `ensured` has the names of its clauses."""
     found = []
     block = ""
     lines = without_tests(text).splitlines()
@@ -131,8 +145,9 @@ def functions(text):
         if not start:
             continue
         indent = start.group(1)
-        clauses = []
+        clauses, contract = [], []
         for below in lines[index:]:
+            contract.append(below)
             clause = re.match(r"\s*(ensures|requires)\*? (?:(\w+) )?\{", below)
             if clause and clause.group(1) == "ensures":
                 clauses.append(clause.group(2) or "ensures")
@@ -142,7 +157,8 @@ def functions(text):
                 break
             if below.rstrip().endswith(";"):
                 break
-        found.append((start.group(3), block, (start.group(2) or "").strip() == "pub", clauses))
+        public = (start.group(2) or "").strip() == "pub"
+        found.append(Function(start.group(3), block, public, clauses, "\n".join(contract)))
     return found
 
 
@@ -152,10 +168,10 @@ def ghosts(text):
 
 
 def imports(text):
-    """What a file of definitions imports: name to (crate, file, name), and alias to (crate, file)."""
+    """The definitions that a file imports: name to (crate, file, name), and alias to (crate, file)."""
     names, modules = {}, {}
     for crate, file, rest in re.findall(
-        r"^(?:ghost )?use Rattle\.(\w+)\.specs\.(\w+)(\.\{[^}]*\}| as \w+)", text, re.M
+        r"^\s*(?:ghost )?use Rattle\.(\w+)\.specs\.(\w+)(\.\{[^}]*\}| as \w+)", text, re.M
     ):
         if rest.startswith(" as "):
             modules[rest[4:]] = (crate, file)
@@ -182,8 +198,22 @@ def definitions(text):
     return found
 
 
+def words_of(text):
+    return set(re.findall(r"[^\s(){};,.:]+", text))
+
+
+def cited_by(tree, path, contract):
+    """The definitions that a contract in a file of Rattle cites."""
+    names, modules = imports(tree.text[path])
+    seeds = [names[word] for word in words_of(contract) if word in names]
+    for alias, word in re.findall(r"(\w+)\.([^\s(){};,.]+)", contract):
+        if alias in modules:
+            seeds.append((*modules[alias], word))
+    return seeds
+
+
 def cited(tree, crates, seeds):
-    """The definitions that the seeds cite, and those that these cite: (crate, file) of each."""
+    """The files of the definitions that the seeds are, and of those that these cite: (crate, file) of each."""
     known = {}
     for crate in crates:
         for file, text in tree.specs(crate).items():
@@ -198,7 +228,7 @@ def cited(tree, crates, seeds):
             continue
         done.add((crate, file, name))
         body = defined[name]
-        for word in set(re.findall(r"[^\s(){};,.:]+", body)):
+        for word in words_of(body):
             if word in names:
                 todo.append(names[word])
             elif word in defined:
@@ -298,6 +328,30 @@ def check_quotes(tree, documents):
                     check(line.strip() in lines, f"{path}: this line stands nowhere in the tree: {line.strip()}")
 
 
+def run_seeds(tree):
+    path = "crates/fixed_decimal/src/runs.rt"
+    run = next(function for function in functions(tree.text[path]) if function.name == "run" and function.public)
+    return cited_by(tree, path, run.contract)
+
+
+def public_seeds(tree):
+    """What the contracts of public functions cite, and the ghost lines by which an `impl` promises something."""
+    seeds = []
+    for path, function in public_items(tree)[1]:
+        seeds += cited_by(tree, path, function.contract)
+    for path, text in tree.text.items():
+        if not is_source(path, CRATES):
+            continue
+        for name, body in re.findall(r"^\s+ghost (\w+) = \{(.*?)\};", text, re.M | re.S):
+            if name in PROMISES:
+                seeds += cited_by(tree, path, body)
+    path = "crates/fixdec_program/src/command_line.rt"
+    for function in functions(tree.text[path]):
+        if function.public:
+            seeds += cited_by(tree, path, function.contract)
+    return seeds
+
+
 def check_believed(tree):
     """README's table of definitions: complete, counted, and the main promise cites just the files that it says."""
     text = read("README.md")
@@ -321,22 +375,15 @@ def check_believed(tree):
                 check(lines == str(count), f"README.md: the lines of {names} of {crate} are {count}, and not {lines}")
                 total["all"] += count
                 total["main"] += count if is_main else 0
-    for crate in [*LIBRARIES, "fixdec_program"]:
-        public = {name for name, body in tree.specs(crate).items() if not tree.is_private(body)}
-        modelled = {"Fields", "Parts", "Placing"} if crate == "decimal_unsigned" else set()
-        for name in sorted(public - modelled - listed.get(crate, set())):
-            check(False, f"README.md: the definitions {name} of {crate} are missing")
-        for name in sorted(listed.get(crate, set()) - public):
-            check(False, f"README.md: {crate} has no public definitions {name}")
-    runs = tree.text["crates/fixed_decimal/src/runs.rt"]
-    names, _ = imports(runs)
-    contract = runs[runs.index("pub fn run<") :]
-    seeds = [names[word] for word in set(re.findall(r"[^\s(){};,.:]+", contract)) if word in names]
-    needed = {(crate, file) for crate, file in cited(tree, LIBRARIES, seeds)}
-    for crate, name in sorted(needed - main):
-        check(False, f"README.md: the contract of `run` cites {name} of {crate}, which is not in the list")
-    for crate, name in sorted(main - needed):
-        check(False, f"README.md: the contract of `run` does not cite {name} of {crate}")
+    everything = {(crate, name) for crate, names in listed.items() for name in names}
+    for what, needed, found in (
+        ("public contracts cite", cited(tree, CRATES, public_seeds(tree)), everything),
+        ("the contract of `run` cites", cited(tree, CRATES, run_seeds(tree)), main),
+    ):
+        for crate, name in sorted(needed - found):
+            check(False, f"README.md: {what} {name} of {crate}, which is not in the list")
+        for crate, name in sorted(found - needed):
+            check(False, f"README.md: {name} of {crate} is in the list, but not among what {what}")
     for kind, pattern in (("main", r"(\d[\d,]*) lines in (\d+) files"), ("all", r"(\d[\d,]*) lines in all")):
         found = re.search(pattern, text)
         check(found is not None, f"README.md: it does not say how many lines ({kind})")
@@ -362,9 +409,10 @@ def check_design(tree):
         for word in quoted(row[0]):
             crate = word.split("/")[0] if "/specs/" in word else crate
             listed.add((crate, os.path.splitext(os.path.basename(word))[0]))
-    for crate in [*LIBRARIES, "fixdec_program"]:
+    for crate in CRATES:
         for name, body in sorted(tree.specs(crate).items()):
-            good = (crate, name) in listed or (tree.is_private(body) or name in ("Fields", "Parts", "Placing")) and name in quotes
+            hidden = tree.is_private(body) or name in SEEN.get(crate, ())
+            good = (crate, name) in listed or hidden and name in quotes
             check(good, f"docs/DESIGN.md: the definitions {name} of {crate} are missing")
     for crate, name in sorted(listed):
         check(name in tree.specs(crate), f"docs/DESIGN.md: {crate} has no definitions {name}")
@@ -394,32 +442,35 @@ def check_clause_counts(tree):
     for path in [*DOCUMENTS, *documents_of(tree)]:
         for name, count in re.findall(r"`(\w+)` has (\d+) clauses", read(path)):
             counts = {
-                len(ensured)
+                len(function.ensured)
                 for file, text in tree.text.items()
                 if file.endswith(".rt")
-                for function, block, public, ensured in functions(text)
-                if function == name and public
+                for function in functions(text)
+                if function.name == name and function.public
             }
             check(int(count) in counts, f"{path}: `{name}` has {count} clauses, and the tree {sorted(counts)}")
 
 
+def is_source(path, crates):
+    return path.endswith(".rt") and path.split("/")[1] in crates and "/src/" in path and "/tests" not in path
+
+
 def public_items(tree):
-    """The public functions of the libraries, with a contract: (file, name, block, clauses); and the public types."""
+    """The public types and the public functions of the libraries: (file, name) and (file, function)."""
     types, items = set(), []
     private = re.compile(r"/src/(?:rounding/|digits/packed/|decimal/parse/plan|cut\.rt)")
     for path, text in tree.text.items():
-        crate = path.split("/")[1]
-        if not path.endswith(".rt") or crate not in LIBRARIES or "/tests" in path or private.search(path):
+        if not is_source(path, LIBRARIES) or private.search(path):
             continue
+        of_parts = path.endswith("decimal/parse/parts.rt")
         for name in re.findall(r"^pub (?:struct|enum|trait|type|const) (\w+)", text, re.M):
-            types.add((path, name))
-        for name, block, public, ensured in functions(text):
-            if path.endswith("decimal/parse/parts.rt") and name != "numeral":
-                continue
-            is_trait = block.startswith("trait") or " for " in block
-            if public or is_trait:
-                items.append((path, name, block, ensured))
-    return {(path, name) for path, name in types if not path.endswith("parse/parts.rt")}, items
+            if not of_parts:
+                types.add((path, name))
+        for function in functions(text):
+            is_trait = function.block.startswith("trait") or " for " in function.block
+            if (function.public or is_trait) and (not of_parts or function.name == "numeral"):
+                items.append((path, function))
+    return types, items
 
 
 def check_proved(tree):
@@ -440,20 +491,25 @@ def check_proved(tree):
                 check(path in tree.text, f"{where}: there is no {path}")
                 here = tree.text.get(path, "")
                 members |= ghosts(here)
-                found += [(path, *function) for function in functions(here) if function[0] in quoted(names)]
-                types = [name for name in quoted(names) if re.search(rf"\b(?:trait|struct|enum) {name}\b", here)]
-                check(any(f[0] == path for f in found) or types, f"{where}: {path} has none of {names}")
-                found += [(path, name, "", False, []) for name in types]
+                mine = [(path, function) for function in functions(here) if function.name in quoted(names)]
+                for name in quoted(names):
+                    if re.search(rf"\b(?:trait|struct|enum) {name}\b", here):
+                        mine.append((path, Function(name, "", False, [], "")))
+                check(mine, f"{where}: {path} has none of {names}")
+                found += mine
             for name in quoted(names):
-                check(any(name == function for _, function, *_ in found), f"{where}: there is no function {name}")
+                check(any(name == function.name for _, function in found), f"{where}: there is no function {name}")
             for clause in quoted(clauses):
-                good = clause in members or any(clause in ensured for *_, ensured in found)
+                good = clause in members or any(clause in function.ensured for _, function in found)
                 check(good, f"{where}: {names} has no clause {clause}")
-            for path, name, block, _, ensured in found:
-                covered |= {(path, name, block, clause) for clause in quoted(clauses) if clause in ensured}
-    for path, name, block, ensured in public_items(tree)[1]:
-        for clause in ensured:
-            check((path, name, block, clause) in covered, f"docs/PROVED.md: no row has {clause} of {name} ({path})")
+            for path, function in found:
+                good = not function.ensured or set(quoted(clauses)) & ({*function.ensured} | members)
+                check(good, f"{where}: {function.name} ({path}) has none of {clauses}")
+                covered |= {(path, *function[:2], clause) for clause in quoted(clauses) if clause in function.ensured}
+    for path, function in public_items(tree)[1]:
+        for clause in function.ensured:
+            good = (path, *function[:2], clause) in covered
+            check(good, f"docs/PROVED.md: no row has {clause} of {function.name} ({path})")
 
 
 def check_public(tree):
@@ -469,9 +525,9 @@ def check_public(tree):
     types, items = public_items(tree)
     for path, name in sorted(types):
         check(name in quotes, f"CALLING.md: {name} is missing ({path})")
-    for path, name, block, _ in items:
-        if " for " not in block:
-            check(name in quotes, f"CALLING.md: {name} is missing ({path})")
+    for path, function in items:
+        if " for " not in function.block:
+            check(function.name in quotes, f"CALLING.md: {function.name} is missing ({path})")
 
 
 def check_widths(tree):
@@ -504,6 +560,18 @@ def check_examples():
             check(run.stdout + run.stderr == expected, f"README.md: fixdec {command} writes {run.stdout + run.stderr!r}")
 
 
+def check_alone(tree):
+    """The repository stands alone: nothing in it cites what is not in it."""
+    outside = re.compile(
+        r"\b(?:document|paper|issue|session|request|promise|definition) \d|\bstage \([a-z]\)|\b[DTRW]\d{1,2}\b|/(?:work|tmp|root|home)/"
+    )
+    for path in tree.files:
+        if path == "LICENSE" or path.startswith("tools/"):
+            continue
+        found = [line.strip()[:80] for line in read(path).splitlines() if outside.search(line)]
+        check(not found, f"{path}: this cites what is not in the repository: {found}")
+
+
 def documents_of(tree):
     return [path for path in tree.files if re.fullmatch(r"docs/\w+\.md", path)]
 
@@ -520,6 +588,7 @@ def main():
     check_proved(tree)
     check_public(tree)
     check_widths(tree)
+    check_alone(tree)
     check_examples()
     for failure in failures:
         print(failure)
