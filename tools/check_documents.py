@@ -308,10 +308,15 @@ def check_names(tree, documents):
 
 def check_links(documents):
     for path in documents:
-        for target in re.findall(r"\]\(([^)#]+)[^)]*\)", read(path)):
+        for target, heading in re.findall(r"\]\(([^)#]+)(#[^)]*)?\)", read(path)):
             if "://" in target:
                 continue
-            check(os.path.exists(os.path.join(os.path.dirname(path), target)), f"{path}: the link {target} leads nowhere")
+            there = os.path.join(os.path.dirname(path), target)
+            good = os.path.exists(there)
+            if good and heading:
+                heads = [head.lower().replace(" ", "-") for head in re.findall(r"^#+ (.*)", read(there), re.M)]
+                good = heading[1:] in heads
+            check(good, f"{path}: the link {target}{heading} leads nowhere")
         for script in re.findall(r"^(?:bash|python3) (\S+)", read(path), re.M):
             check(os.path.exists(script), f"{path}: there is no script {script}")
 
@@ -512,6 +517,17 @@ def check_proved(tree):
             check(good, f"docs/PROVED.md: no row has {clause} of {function.name} ({path})")
 
 
+def check_price(tree):
+    """docs/PROVED.md names the proof files of lower crates that the proofs of `price` cite."""
+    cited_files = set()
+    for path, text in tree.text.items():
+        if path.startswith("crates/price/"):
+            cited_files.update(re.findall(r"^use Rattle\.(?:decimal_\w+|fixed_decimal)\.proofs\.(\w+)", text, re.M))
+    line = next((line for line in read("docs/PROVED.md").splitlines() if line.startswith("- The code of `price`")), "")
+    named = {word for word in quoted(line) if re.fullmatch(r"[A-Z]\w+", word)}
+    check(named == cited_files, f"docs/PROVED.md: the proofs of price cite {sorted(cited_files)}, and not {sorted(named)}")
+
+
 def check_public(tree):
     """CALLING.md names each public function and type."""
     quotes = set()
@@ -586,6 +602,7 @@ def main():
     check_design(tree)
     check_clause_counts(tree)
     check_proved(tree)
+    check_price(tree)
     check_public(tree)
     check_widths(tree)
     check_alone(tree)
