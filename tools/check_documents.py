@@ -438,6 +438,8 @@ def check_design(tree):
         for name in sorted(named - files):
             check(False, f"docs/DESIGN.md: {crate} has no proof file {name}")
         check(bool(files), f"docs/DESIGN.md: {crate} has no proof files")
+    for crate in re.findall(r"^(\w+):", read("crates.txt"), re.M):
+        check(re.search(rf"\b{crate}\b", text), f"docs/DESIGN.md: the crate {crate} is missing")
     for crate in {path.split("/")[1] for path in tree.code if re.match(r"crates/\w+/proofs/[A-Z]", path)}:
         check(f"- `{crate}/proofs`:" in text, f"docs/DESIGN.md: the proof files of {crate} are missing")
 
