@@ -18,5 +18,7 @@ makes : {M : Type 1} {𝓤 : Ura M} (𝓛 : Logic 𝓤) → Makes 𝓛 row (Is r
 makes 𝓛 s vs is = makes_shadow 𝓛 (row.own_val s vs) (λ _. (tt, tt), tt) is
 
 -- a counter of any count is owned, out of nothing
-pub made : {M : Type 1} {𝓤 : Ura M} (𝓛 : Logic 𝓤) {K : Type 0} {Γ : List (Item 𝓤)} {G : Goal 𝓤 𝓛.H} → K → (s : Steps) → Step K 𝓛 (‵ (row.own_val s (bare ∷ [])) ∷ Γ) G Γ G
+pub made : {M : Type 1} {𝓤 : Ura M} (𝓛 : Logic 𝓤) {K : Type 0} {Γ : List (Item 𝓤)} {G : Goal 𝓤 𝓛.H} → K
+    → (s : Steps)
+    → Step K 𝓛 (‵ (row.own_val s (bare ∷ [])) ∷ Γ) G Γ G
 made 𝓛 t s = owned t row (Is row) (makes 𝓛) s (bare ∷ []) ((tt, (refl, tt)), tt)

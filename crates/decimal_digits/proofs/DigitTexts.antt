@@ -30,7 +30,8 @@ text_at places digits h written =
     let l : length front ≡ length places = length-take-le (length places) digits h in
     ext_get_or 0 places (text_of front) (sym (length-map front (λ d. 48 + d) ∙ l)) (λ k q.
     let lt : k < length front = omega arith in
-    written k q ∙ sym (get_or-map (λ d. 48 + d) front k 0 0 lt ∙ ap (λ d. 48 + d) (get_or-take (length places) digits k 0 q)))
+    written k q
+    ∙ sym (get_or-map (λ d. 48 + d) front k 0 0 lt ∙ ap (λ d. 48 + d) (get_or-take (length places) digits k 0 q)))
 
 -- bytes from each of which 48 was taken are the digits that they wrote
 pub read_from : (text digits : List ℕ) → length digits ≡ length text

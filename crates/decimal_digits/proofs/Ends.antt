@@ -8,7 +8,8 @@ use Rattle.decimal_digits.specs.Number.{greatest, first, last, magnitude_at}
 use Rattle.decimal_digits.proofs.DigitLists.{ten_pos}
 
 -- the greatest number that passes a test is the one that passes it and that none above does
-pub greatest_is : (test : ℕ → Bool) (n j : ℕ) → j < n → test j ≡ true → ((i : ℕ) → j < i → i < n → test i ≡ false) → greatest test n ≡ j
+pub greatest_is : (test : ℕ → Bool) (n j : ℕ) → j < n → test j ≡ true → ((i : ℕ) → j < i → i < n → test i ≡ false)
+    → greatest test n ≡ j
 unfolding greatest
 greatest_is test zero j h t f = absurd (omega arith)
 greatest_is test (suc k) j h t f = elim (cases_lt j k) [
@@ -23,13 +24,19 @@ pos_of_mod v h = omega (arith, mod-le v 10)
 pub first_is : (n k : ℕ) → 10 ^ k ≤ n → n < 10 ^ (k + 1) → k < 65536 → first n ≡ magnitude_at k
 unfolding first
 first_is zero k h l b = absurd (omega (arith, ten_pos k))
-first_is (suc n) k h l b = ap magnitude_at (greatest_is (λ i. nat_le (10 ^ i) (suc n)) 65536 k b (search (rules, h)) (λ i p q. let m : 10 ^ (k + 1) ≤ 10 ^ i = pow-le-pow_right (omega arith) (omega arith) in search rules))
+first_is (suc n) k h l b =
+    ap magnitude_at
+        (greatest_is (λ i. nat_le (10 ^ i) (suc n)) 65536 k b (search (rules, h))
+            (λ i p q. let m : 10 ^ (k + 1) ≤ 10 ^ i = pow-le-pow_right (omega arith) (omega arith) in search rules))
 
 -- the last digit of a number is at the highest power of ten that divides it
-pub last_at : (n k : ℕ) → 0 < n → n % 10 ^ k ≡ 0 → ((i : ℕ) → k < i → ¬ (n % 10 ^ i ≡ 0)) → k < 65536 → last n ≡ magnitude_at k
+pub last_at : (n k : ℕ) → 0 < n → n % 10 ^ k ≡ 0 → ((i : ℕ) → k < i → ¬ (n % 10 ^ i ≡ 0)) → k < 65536
+    → last n ≡ magnitude_at k
 unfolding last
 last_at zero k h d f b = absurd (omega arith)
-last_at (suc n) k h d f b = ap magnitude_at (greatest_is (λ i. suc n % 10 ^ i == 0) 65536 k b (search rules) (λ i p q. let m = f i p in search rules))
+last_at (suc n) k h d f b =
+    ap magnitude_at
+        (greatest_is (λ i. suc n % 10 ^ i == 0) 65536 k b (search rules) (λ i p q. let m = f i p in search rules))
 
 -- a number that ends in more zeros than v * 10 ^ e allows
 pub no_more_zeros : (v e i : ℕ) → 0 < v % 10 → e < i → ¬ ((v * 10 ^ e) % 10 ^ i ≡ 0)
@@ -37,17 +44,24 @@ no_more_zeros v e i h p z =
     let j = i - suc e in
     let q = v * 10 ^ e / 10 ^ i in
     let whole : q * 10 ^ i + (v * 10 ^ e) % 10 ^ i ≡ v * 10 ^ e = div-add-mod' (v * 10 ^ e) (10 ^ i) in
-    let split : 10 ^ i ≡ (10 ^ j * 10) * 10 ^ e = ap (λ n. 10 ^ n) (let k : i ≡ suc j + e = omega arith in k) ∙ pow-add 10 (suc j) e ∙ ap (λ n. n * 10 ^ e) (pow-suc 10 j) in
+    let split : 10 ^ i ≡ (10 ^ j * 10) * 10 ^ e =
+        ap (λ n. 10 ^ n) (let k : i ≡ suc j + e = omega arith in k)
+        ∙ pow-add 10 (suc j) e
+        ∙ ap (λ n. n * 10 ^ e) (pow-suc 10 j) in
     let same : v * 10 ^ e ≡ (q * 10 ^ j * 10) * 10 ^ e = sym whole ∙ rw (z, split) (omega arith) in
-    let cut : v ≡ q * 10 ^ j * 10 = sym (mul-div_cancel v (ten_pos e)) ∙ ap (λ n. n / 10 ^ e) same ∙ mul-div_cancel (q * 10 ^ j * 10) (ten_pos e) in
+    let cut : v ≡ q * 10 ^ j * 10 =
+        sym (mul-div_cancel v (ten_pos e)) ∙ ap (λ n. n / 10 ^ e) same ∙ mul-div_cancel (q * 10 ^ j * 10) (ten_pos e) in
     let ends : v % 10 ≡ 0 = ap (λ n. n % 10) cut ∙ mul-mod_left (q * 10 ^ j) 10 in
     omega arith
 
 -- the last digit of a number that ends in so many zeros
 pub last_is : (v e : ℕ) → 0 < v % 10 → e < 65536 → last (v * 10 ^ e) ≡ magnitude_at e
-last_is v e h b = last_at (v * 10 ^ e) e (let p : 0 < v = pos_of_mod v h in omega (arith, mul-pos p (ten_pos e))) (mul-mod_left v (10 ^ e)) (λ i p. no_more_zeros v e i h p) b
+last_is v e h b =
+    last_at (v * 10 ^ e) e (let p : 0 < v = pos_of_mod v h in omega (arith, mul-pos p (ten_pos e)))
+        (mul-mod_left v (10 ^ e)) (λ i p. no_more_zeros v e i h p) b
 
 -- ---- one digit of v * 10 ^ e
+-- the digit above all those of a number is 0
 pub digit_above : (n k m : ℕ) → n < 10 ^ k → k ≤ m → n / 10 ^ m % 10 ≡ 0
 digit_above n k m h p =
     let l : 10 ^ k ≤ 10 ^ m = pow-le-pow_right (omega arith) p in
@@ -57,21 +71,27 @@ digit_above n k m h p =
 -- digits shifted up and then further down
 pub shift_down : (v e m : ℕ) → e ≤ m → v * 10 ^ e / 10 ^ m ≡ v / 10 ^ (m - e)
 shift_down v e m h =
-    let split : 10 ^ m ≡ 10 ^ (m - e) * 10 ^ e = ap (λ n. 10 ^ n) (let k : m ≡ (m - e) + e = omega arith in k) ∙ pow-add 10 (m - e) e in
+    let split : 10 ^ m ≡ 10 ^ (m - e) * 10 ^ e =
+        ap (λ n. 10 ^ n) (let k : m ≡ (m - e) + e = omega arith in k) ∙ pow-add 10 (m - e) e in
     ap (λ n. v * 10 ^ e / n) split ∙ mul-div-mul_right v (10 ^ (m - e)) (ten_pos e)
 
 -- digits shifted up and then less far down
 pub shift_up : (v e m : ℕ) → m ≤ e → v * 10 ^ e / 10 ^ m ≡ v * 10 ^ (e - m)
 shift_up v e m h =
-    let split : 10 ^ e ≡ 10 ^ (e - m) * 10 ^ m = ap (λ n. 10 ^ n) (let k : e ≡ (e - m) + m = omega arith in k) ∙ pow-add 10 (e - m) m in
+    let split : 10 ^ e ≡ 10 ^ (e - m) * 10 ^ m =
+        ap (λ n. 10 ^ n) (let k : e ≡ (e - m) + m = omega arith in k) ∙ pow-add 10 (e - m) m in
     let same : v * 10 ^ e ≡ v * 10 ^ (e - m) * 10 ^ m = rw split (omega arith) in
     ap (λ n. n / 10 ^ m) same ∙ mul-div_cancel (v * 10 ^ (e - m)) (ten_pos m)
 
 -- below the zeros that a shift writes, each digit is 0
 pub digit_below : (v e m : ℕ) → m < e → v * 10 ^ e / 10 ^ m % 10 ≡ 0
 digit_below v e m h =
-    let split : 10 ^ (e - m) ≡ 10 ^ (e - m - 1) * 10 = ap (λ n. 10 ^ n) (let k : e - m ≡ suc (e - m - 1) = omega arith in k) ∙ pow-suc 10 (e - m - 1) in
-    ap (λ n. n % 10) (shift_up v e m (omega arith) ∙ (let s : v * 10 ^ (e - m) ≡ v * 10 ^ (e - m - 1) * 10 = rw split (omega arith) in s)) ∙ mul-mod_left (v * 10 ^ (e - m - 1)) 10
+    let split : 10 ^ (e - m) ≡ 10 ^ (e - m - 1) * 10 =
+        ap (λ n. 10 ^ n) (let k : e - m ≡ suc (e - m - 1) = omega arith in k) ∙ pow-suc 10 (e - m - 1) in
+    ap (λ n. n % 10)
+        (shift_up v e m (omega arith)
+            ∙ (let s : v * 10 ^ (e - m) ≡ v * 10 ^ (e - m - 1) * 10 = rw split (omega arith) in s))
+    ∙ mul-mod_left (v * 10 ^ (e - m - 1)) 10
 
 -- the first digit of 0 is at the magnitude 0
 pub first_zero : first 0 ≡ pos 0

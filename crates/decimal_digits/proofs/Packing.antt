@@ -12,7 +12,9 @@ pub holds : (bytes ds : List ℕ) (len : ℕ) → halves bytes ≡ ds ++ replica
     → All (λ d. d < 10) ds → Holds bytes len ds
 holds bytes ds len e n h =
     let t : digits_in bytes len ≡ ds = rw e (take_at ds (replicate (len % 2) 0) len n) in
-    let c : 2 * length bytes ≡ len + len % 2 = omega (arith, length-halves bytes, ap length e, length-append ds (replicate (len % 2) 0), length-replicate {A = ℕ} (len % 2) 0) in
+    let c : 2 * length bytes ≡ len + len % 2 =
+        omega (arith, length-halves bytes, ap length e, length-append ds (replicate (len % 2) 0),
+            length-replicate {A = ℕ} (len % 2) 0) in
     let u : halves bytes ≡ digits_in bytes len ++ replicate (len % 2) 0 = rw t e in
     record { packed = record { count = c; decimal = rw t h; unused = u }; digits = t }
 
@@ -61,7 +63,9 @@ fewer (suc i) (suc j) h = ap (λ l. 0 ∷ l) (fewer i j (omega arith))
 -- some of the zeros behind a list
 take_zeros : (xs : List ℕ) (i j : ℕ) → i ≤ j → take (length xs + i) (xs ++ replicate j 0) ≡ xs ++ replicate i 0
 take_zeros [] i j h = ap (λ n. take n (replicate j 0)) (zero-add i) ∙ fewer i j h
-take_zeros (x ∷ xs) i j h = let e : suc (length xs) + i ≡ suc (length xs + i) = omega arith in rw e (ap (λ l. x ∷ l) (take_zeros xs i j h))
+take_zeros (x ∷ xs) i j h =
+    let e : suc (length xs) + i ≡ suc (length xs + i) = omega arith in
+    rw e (ap (λ l. x ∷ l) (take_zeros xs i j h))
 
 -- the digits before a half that is made 0
 clear_last : (xs : List ℕ) (count : ℕ) → count < length xs
@@ -84,7 +88,8 @@ module _ (bs : List ℕ) (len : ℕ) (p : IsPacked bs len) where
       let l : index < length (digits_in bs len) = omega arith in
       let s : set (halves bs) index d ≡ set (digits_in bs len) index d ++ replicate (len % 2) 0 =
       ap (λ l. set l index d) p.unused ∙ set-append_left (digits_in bs len) (replicate (len % 2) 0) index d l in
-      holds bs' (set (digits_in bs len) index d) len (e ∙ s) (length-set (digits_in bs len) index d ∙ n) (decimal_set (digits_in bs len) index d p.decimal q)
+      holds bs' (set (digits_in bs len) index d) len (e ∙ s) (length-set (digits_in bs len) index d ∙ n)
+          (decimal_set (digits_in bs len) index d p.decimal q)
 
   -- a byte with a digit in its high half is appended
   pub holds_push_even : (d : ℕ) → len % 2 ≡ 0 → d < 10
@@ -99,7 +104,8 @@ module _ (bs : List ℕ) (len : ℕ) (p : IsPacked bs len) where
       halves-append bs ((d * 16) ∷ [])
       ∙ ap (λ l. l ++ (d * 16 / 16 ∷ (d * 16 % 16 ∷ []))) (even_halves h)
       ∙ rw (a, b, m) (sym (append_assoc (digits_in bs len) (d ∷ []) (0 ∷ []))) in
-      holds (bs ++ (d * 16) ∷ []) (digits_in bs len ++ d ∷ []) (len + 1) e (omega (arith, length-append (digits_in bs len) (d ∷ []))) (decimal_push (digits_in bs len) d p.decimal q)
+      holds (bs ++ (d * 16) ∷ []) (digits_in bs len ++ d ∷ []) (len + 1) e
+          (omega (arith, length-append (digits_in bs len) (d ∷ []))) (decimal_push (digits_in bs len) d p.decimal q)
 
   -- a digit is written into the half that was left over
   pub holds_push_odd : (bs' : List ℕ) (d : ℕ) → len % 2 ≡ 1 → d < 10 → halves bs' ≡ set (halves bs) len d
@@ -109,8 +115,11 @@ module _ (bs : List ℕ) (len : ℕ) (p : IsPacked bs len) where
       let m : (len + 1) % 2 ≡ 0 = omega arith in
       let f : halves bs ≡ digits_in bs len ++ 0 ∷ [] = p.unused ∙ ap (λ k. digits_in bs len ++ replicate k 0) h in
       let s : set (halves bs) len d ≡ (digits_in bs len ++ d ∷ []) ++ replicate ((len + 1) % 2) 0 =
-      ap (λ l. set l len d) f ∙ set_at (digits_in bs len) 0 [] d len n ∙ rw m (sym (append-nil (digits_in bs len ++ d ∷ []))) in
-      holds bs' (digits_in bs len ++ d ∷ []) (len + 1) (e ∙ s) (omega (arith, length-append (digits_in bs len) (d ∷ []))) (decimal_push (digits_in bs len) d p.decimal q)
+      ap (λ l. set l len d) f
+      ∙ set_at (digits_in bs len) 0 [] d len n
+      ∙ rw m (sym (append-nil (digits_in bs len ++ d ∷ []))) in
+      holds bs' (digits_in bs len ++ d ∷ []) (len + 1) (e ∙ s)
+          (omega (arith, length-append (digits_in bs len) (d ∷ []))) (decimal_push (digits_in bs len) d p.decimal q)
 
   -- the first bytes hold an even number of digits
   pub holds_take_even : (count k : ℕ) → count ≤ len → count % 2 ≡ 0 → k ≡ (count + 1) / 2
@@ -119,8 +128,10 @@ module _ (bs : List ℕ) (len : ℕ) (p : IsPacked bs len) where
       let n = length_digits bs len p in
       let t : 2 * k ≡ count = omega arith in
       let f : halves (take k bs) ≡ take count (digits_in bs len) ++ replicate (count % 2) 0 =
-      halves-take k bs ∙ rw (t, m) (sym (append-nil (take count (digits_in bs len)) ∙ take-take count len (halves bs) h)) in
-      holds (take k bs) (take count (digits_in bs len)) count f (length-take-le count (digits_in bs len) (omega arith)) (decimal_take (digits_in bs len) count p.decimal)
+      halves-take k bs
+      ∙ rw (t, m) (sym (append-nil (take count (digits_in bs len)) ∙ take-take count len (halves bs) h)) in
+      holds (take k bs) (take count (digits_in bs len)) count f (length-take-le count (digits_in bs len) (omega arith))
+          (decimal_take (digits_in bs len) count p.decimal)
 
   -- the first bytes hold an odd number of digits once their last half is 0
   pub holds_take_odd : (bs' : List ℕ) (count k : ℕ) → count ≤ len → count % 2 ≡ 1 → k ≡ (count + 1) / 2
@@ -134,7 +145,8 @@ module _ (bs : List ℕ) (len : ℕ) (p : IsPacked bs len) where
       ∙ ap (λ j. set (take j (halves bs)) count 0) t
       ∙ clear_last (halves bs) count lt
       ∙ rw m (ap (λ l. l ++ 0 ∷ []) (sym (take-take count len (halves bs) h))) in
-      holds bs' (take count (digits_in bs len)) count f (length-take-le count (digits_in bs len) (omega arith)) (decimal_take (digits_in bs len) count p.decimal)
+      holds bs' (take count (digits_in bs len)) count f (length-take-le count (digits_in bs len) (omega arith))
+          (decimal_take (digits_in bs len) count p.decimal)
 
   -- the bytes behind an even number of digits
   pub holds_drop_even : (count : ℕ) → count ≤ len → count % 2 ≡ 0
@@ -147,7 +159,8 @@ module _ (bs : List ℕ) (len : ℕ) (p : IsPacked bs len) where
       halves-drop (count / 2) bs ∙ ap (λ j. drop j (halves bs)) t ∙ ap (drop count) p.unused
       ∙ drop-append-le count (digits_in bs len) (replicate (len % 2) 0) (omega arith)
       ∙ ap (λ j. drop count (digits_in bs len) ++ replicate j 0) q in
-      holds (drop (count / 2) bs) (drop count (digits_in bs len)) (len - count) f (omega (arith, length-drop count (digits_in bs len))) (decimal_drop (digits_in bs len) count p.decimal)
+      holds (drop (count / 2) bs) (drop count (digits_in bs len)) (len - count) f
+          (omega (arith, length-drop count (digits_in bs len))) (decimal_drop (digits_in bs len) count p.decimal)
 
   -- the bytes behind an odd number of digits, shifted by a half
   pub holds_drop_odd : (bs' : List ℕ) (count k : ℕ) → count ≤ len → count % 2 ≡ 1 → k ≡ (len - count + 1) / 2
@@ -159,7 +172,10 @@ module _ (bs : List ℕ) (len : ℕ) (p : IsPacked bs len) where
       let ds = digits_in bs len in
       let l : length (drop count ds) ≡ len - count = omega (arith, length-drop count ds) in
       let a : drop 1 (halves (drop (count / 2) bs)) ≡ drop count ds ++ replicate (len % 2) 0 =
-      ap (drop 1) (halves-drop (count / 2) bs) ∙ drop-drop 1 (2 * (count / 2)) (halves bs) ∙ ap (λ j. drop j (halves bs)) t ∙ ap (drop count) p.unused
+      ap (drop 1) (halves-drop (count / 2) bs)
+      ∙ drop-drop 1 (2 * (count / 2)) (halves bs)
+      ∙ ap (λ j. drop j (halves bs)) t
+      ∙ ap (drop count) p.unused
       ∙ drop-append-le count ds (replicate (len % 2) 0) (omega arith) in
       let b : halves bs' ≡ drop count ds ++ replicate (len % 2 + 1) 0 =
       g ∙ ap (λ l. l ++ 0 ∷ []) a ∙ append_assoc (drop count ds) (replicate (len % 2) 0) (0 ∷ [])
@@ -180,11 +196,18 @@ module _ (bs : List ℕ) (len : ℕ) (p : IsPacked bs len) where
       let start = len + zeros in
       let w : len % 2 + 2 * k ≡ zeros + start % 2 = omega arith in
       let f : halves (bs ++ replicate k 0) ≡ (ds ++ replicate zeros 0) ++ replicate (start % 2) 0 =
-      halves-append bs (replicate k 0) ∙ ap (λ l. halves bs ++ l) (halves-zeros k) ∙ ap (λ l. l ++ replicate (2 * k) 0) p.unused
+      halves-append bs (replicate k 0)
+      ∙ ap (λ l. halves bs ++ l) (halves-zeros k)
+      ∙ ap (λ l. l ++ replicate (2 * k) 0) p.unused
       ∙ append_assoc ds (replicate (len % 2) 0) (replicate (2 * k) 0)
-      ∙ ap (λ l. ds ++ l) (replicate-append-replicate (len % 2) (2 * k) 0 ∙ ap (λ j. replicate j 0) w ∙ sym (replicate-append-replicate zeros (start % 2) 0))
+      ∙ ap (λ l. ds ++ l)
+          (replicate-append-replicate (len % 2) (2 * k) 0
+              ∙ ap (λ j. replicate j 0) w
+              ∙ sym (replicate-append-replicate zeros (start % 2) 0))
       ∙ sym (append_assoc ds (replicate zeros 0) (replicate (start % 2) 0)) in
-      holds (bs ++ replicate k 0) (ds ++ replicate zeros 0) start f (omega (arith, length-append ds (replicate zeros 0), length-replicate {A = ℕ} zeros 0)) (decimal_zeros ds zeros p.decimal)
+      holds (bs ++ replicate k 0) (ds ++ replicate zeros 0) start f
+          (omega (arith, length-append ds (replicate zeros 0), length-replicate {A = ℕ} zeros 0))
+          (decimal_zeros ds zeros p.decimal)
 
   -- digits are appended behind an even number of them
   pub holds_run : (bs' xs : List ℕ) → len % 2 ≡ 0 → All (λ d. d < 10) xs
@@ -196,7 +219,8 @@ module _ (bs : List ℕ) (len : ℕ) (p : IsPacked bs len) where
       let f : halves bs' ≡ (ds ++ xs) ++ replicate ((len + length xs) % 2) 0 =
       g ∙ ap (λ l. l ++ (xs ++ replicate (length xs % 2) 0)) (even_halves m)
       ∙ sym (append_assoc ds xs (replicate (length xs % 2) 0)) ∙ ap (λ k. (ds ++ xs) ++ replicate k 0) w in
-      holds bs' (ds ++ xs) (len + length xs) f (omega (arith, length-append ds xs, length_digits bs len p)) (decimal_append ds xs p.decimal h)
+      holds bs' (ds ++ xs) (len + length xs) f (omega (arith, length-append ds xs, length_digits bs len p))
+          (decimal_append ds xs p.decimal h)
 
   -- ---- two stores
   module _ (cs : List ℕ) (n : ℕ) (q : IsPacked cs n) where
@@ -205,8 +229,10 @@ module _ (bs : List ℕ) (len : ℕ) (p : IsPacked bs len) where
     holds_append_even m =
         let es = digits_in cs n in
         let l : length es ≡ n = length_digits cs n q in
-        let u : halves cs ≡ es ++ replicate (length es % 2) 0 = q.unused ∙ ap (λ k. es ++ replicate (k % 2) 0) (sym l) in
-        subst (λ k. Holds (bs ++ cs) (len + k) (digits_in bs len ++ es)) l (holds_run (bs ++ cs) es m q.decimal (halves-append bs cs ∙ ap (λ l. halves bs ++ l) u))
+        let u : halves cs ≡ es ++ replicate (length es % 2) 0 =
+            q.unused ∙ ap (λ k. es ++ replicate (k % 2) 0) (sym l) in
+        subst (λ k. Holds (bs ++ cs) (len + k) (digits_in bs len ++ es)) l
+            (holds_run (bs ++ cs) es m q.decimal (halves-append bs cs ∙ ap (λ l. halves bs ++ l) u))
 
     -- halves behind an odd number of digits
     pub holds_append_odd : (bs' : List ℕ) → len % 2 ≡ 1
@@ -218,17 +244,27 @@ module _ (bs : List ℕ) (len : ℕ) (p : IsPacked bs len) where
         let w : (n + 1) % 2 ≡ (len + n) % 2 = omega arith in
         let b : 2 * length bs - 1 ≡ len = omega arith in
         let f : halves bs' ≡ (digits_in bs len ++ es) ++ replicate ((len + n) % 2) 0 =
-        g ∙ ap (λ k. (take k (halves bs) ++ es) ++ replicate ((n + 1) % 2) 0) b ∙ ap (λ k. (digits_in bs len ++ es) ++ replicate k 0) w in
-        holds bs' (digits_in bs len ++ es) (len + n) f (omega (arith, length-append (digits_in bs len) es, length_digits bs len p, length_digits cs n q)) (decimal_append (digits_in bs len) es p.decimal q.decimal)
+        g
+        ∙ ap (λ k. (take k (halves bs) ++ es) ++ replicate ((n + 1) % 2) 0) b
+        ∙ ap (λ k. (digits_in bs len ++ es) ++ replicate k 0) w in
+        holds bs' (digits_in bs len ++ es) (len + n) f
+            (omega (arith, length-append (digits_in bs len) es, length_digits bs len p, length_digits cs n q))
+            (decimal_append (digits_in bs len) es p.decimal q.decimal)
 
     -- bytes that hold the same digits are the same
     pub same_store : digits_in bs len ≡ digits_in cs n → (len ≡ n) × (bs ≡ cs)
     same_store e =
         let k : len ≡ n = sym (length_digits bs len p) ∙ ap length e ∙ length_digits cs n q in
-        (k, same_bytes bs cs (p.unused ∙ ap (λ l. l ++ replicate (len % 2) 0) e ∙ ap (λ j. digits_in cs n ++ replicate (j % 2) 0) k ∙ sym q.unused))
+        (k,
+         same_bytes bs cs
+             (p.unused
+                 ∙ ap (λ l. l ++ replicate (len % 2) 0) e
+                 ∙ ap (λ j. digits_in cs n ++ replicate (j % 2) 0) k
+                 ∙ sym q.unused))
 
 -- a digit is written into the half that was left over, and digits are appended
-pub holds_run_odd : (bs : List ℕ) (len : ℕ) (p : IsPacked bs len) (mid bs' xs : List ℕ) (d : ℕ) → len % 2 ≡ 1 → d < 10 → All (λ d. d < 10) xs
+pub holds_run_odd : (bs : List ℕ) (len : ℕ) (p : IsPacked bs len) (mid bs' xs : List ℕ) (d : ℕ) → len % 2 ≡ 1
+    → d < 10 → All (λ d. d < 10) xs
     → halves mid ≡ set (halves bs) len d → halves bs' ≡ halves mid ++ (xs ++ replicate (length xs % 2) 0)
     → Holds bs' (len + length (d ∷ xs)) (digits_in bs len ++ (d ∷ xs))
 holds_run_odd bs len p mid bs' xs d m q h e g =

@@ -25,54 +25,75 @@ use Rattle.decimal_digits.proofs.Leading.{leading_none, leading_at}
 
 -- ---- before the rounding
 -- the first k digits and what follows, also where there are fewer
-split_at : (top k : ℕ) (ds : List ℕ) → length ds ≤ top → k ≤ top → number_at top ds ≡ leading k ds * 10 ^ (top - k) + number_at (top - k) (drop k ds)
+split_at : (top k : ℕ) (ds : List ℕ) → length ds ≤ top → k ≤ top
+    → number_at top ds ≡ leading k ds * 10 ^ (top - k) + number_at (top - k) (drop k ds)
 split_at top k ds fits h = elim (cases_lt k (length ds)) [
-  | inl l ↦ number_at-split top k ds (omega arith) fits ∙ ap (λ n. n + number_at (top - k) (drop k ds)) (leading_at top k ds h)
-  | inr l ↦ let z : number_at (top - k) (drop k ds) ≡ 0 = number_at-none (top - k) (drop k ds) (omega (arith, length-drop k ds)) in
+  | inl l ↦
+      number_at-split top k ds (omega arith) fits
+      ∙ ap (λ n. n + number_at (top - k) (drop k ds)) (leading_at top k ds h)
+  | inr l ↦
+      let z : number_at (top - k) (drop k ds) ≡ 0 =
+          number_at-none (top - k) (drop k ds) (omega (arith, length-drop k ds)) in
       omega (arith, ap (number_at top) (take_all k ds l), leading_at top k ds h)
 ]
 
 -- a position with k places at or above it
-pub parts_above : (m p : ℤ) (k : ℕ) (tail : Tail) (ds : List ℕ) → negsuc 32767 ≤ℤ m → negsuc 32767 ≤ℤ p → length ds ≤ place m + 1 → (p +ℤ pos k) ≡ (m +ℤ pos 1)
-    → ((top : ℕ) → length ds ≤ top → TailIs tail (number_at (top - k) (drop k ds)) (10 ^ (top - k))) → HasParts (number_of ds m) (weight p) (leading k ds) tail
+pub parts_above : (m p : ℤ) (k : ℕ) (tail : Tail) (ds : List ℕ) → negsuc 32767 ≤ℤ m → negsuc 32767 ≤ℤ p
+    → length ds ≤ place m + 1 → (p +ℤ pos k) ≡ (m +ℤ pos 1)
+    → ((top : ℕ) → length ds ≤ top → TailIs tail (number_at (top - k) (drop k ds)) (10 ^ (top - k)))
+    → HasParts (number_of ds m) (weight p) (leading k ds) tail
 unfolding number_of
 parts_above m p k tail ds low low' fits at is =
     let top = place m + 1 in
     let e : top - k ≡ place p = omega (arith, ints, place_is m, place_is p) in (
       number_at (top - k) (drop k ds),
-      split_at top k ds fits (omega (arith, ints, place_is m, place_is p)) ∙ ap (λ i. leading k ds * 10 ^ i + number_at (top - k) (drop k ds)) e,
+      split_at top k ds fits (omega (arith, ints, place_is m, place_is p))
+      ∙ ap (λ i. leading k ds * 10 ^ i + number_at (top - k) (drop k ds)) e,
       subst (λ i. TailIs tail (number_at (top - k) (drop k ds)) (10 ^ i)) e (is top fits),
     )
 
 -- a position above the place in front of the digits
-pub parts_below : (m p : ℤ) (ds : List ℕ) → negsuc 32767 ≤ℤ m → AllBelowBase 10 ds → 0 < length ds → 0 < get_or ds (length ds - 1) 0 → length ds ≤ place m + 1 → (m +ℤ pos 1) <ℤ p → HasParts (number_of ds m) (weight p) (leading 0 ds) BelowHalf
+pub parts_below : (m p : ℤ) (ds : List ℕ) → negsuc 32767 ≤ℤ m → AllBelowBase 10 ds → 0 < length ds
+    → 0 < get_or ds (length ds - 1) 0 → length ds ≤ place m + 1 → (m +ℤ pos 1) <ℤ p
+    → HasParts (number_of ds m) (weight p) (leading 0 ds) BelowHalf
 unfolding number_of
 parts_below m p ds low b some back fits above =
     let top = place m + 1 in
     let l : number_at top ds < 10 ^ top = number_at-lt top ds b fits in
-    let h : 10 ^ (top + 1) ≤ 10 ^ place p = pow-le-pow_right (omega arith) (omega (arith, ints, place_is m, place_is p)) in (
+    let h : 10 ^ (top + 1) ≤ 10 ^ place p =
+        pow-le-pow_right (omega arith) (omega (arith, ints, place_is m, place_is p)) in
+    (
       number_at top ds,
       omega (arith, ap (λ v. v * weight p) (leading_none 0 ds refl)),
       (number_at-pos top ds b some back, omega (arith, powers top 1 (top + 1) refl)),
     )
 
 -- ---- after it
-pub rounded_parts : (mode : UnsignedRoundingMode) (step : ℕ) (tail : Tail) (n u k v : ℕ) → 0 < u → HasParts n u k tail → RoundsTo mode step tail k v → rounded_number mode (step * u) n ≡ v * u
+-- what the parts of a number round to is what the number rounds to
+pub rounded_parts : (mode : UnsignedRoundingMode) (step : ℕ) (tail : Tail) (n u k v : ℕ) → 0 < u
+    → HasParts n u k tail → RoundsTo mode step tail k v
+    → rounded_number mode (step * u) n ≡ v * u
 rounded_parts mode step tail n u k v p (r, e, is) rounds = ap (rounded_number mode (step * u)) e ∙ rounds r u p is
 
-module _ (m : ℤ) (ds : List ℕ) (low : negsuc 32767 ≤ℤ m) (high : m ≤ℤ pos 32767) (b : AllBelowBase 10 ds) (fits : length ds ≤ place m + 1) (s : IsStripped ds) where
+module _ (m : ℤ) (ds : List ℕ) (low : negsuc 32767 ≤ℤ m) (high : m ≤ℤ pos 32767) (b : AllBelowBase 10 ds)
+    (fits : length ds ≤ place m + 1) (s : IsStripped ds) where
   -- a list of digits with no 0 at either end spells its number
   pub spells : 0 < length ds → Spells ds m (number_of ds m)
   unfolding number_of
   spells some =
       let less : number_at (place m + 1) ds < 10 ^ (place m + 1) = number_at-lt (place m + 1) ds b fits in
-      let least : 10 ^ (place m + 1 - 1) ≤ number_at (place m + 1) ds = number_at-ge (place m + 1) ds some (s.front some) fits in
+      let least : 10 ^ (place m + 1 - 1) ≤ number_at (place m + 1) ds =
+          number_at-ge (place m + 1) ds some (s.front some) fits in
       let e : place m + 1 - 1 ≡ place m = omega arith in
-      let at_most : 10 ^ (place m + 1) ≤ weight (pos 32768) = pow-le-pow_right (omega arith) (omega (arith, ints, place_is m, place_is (pos 32768))) in
+      let at_most : 10 ^ (place m + 1) ≤ weight (pos 32768) =
+          pow-le-pow_right (omega arith) (omega (arith, ints, place_is m, place_is (pos 32768))) in
       record {
         number = refl;
         below_limit = omega arith;
-        magnitude_is = first_is (number_at (place m + 1) ds) (place m) (omega (arith, ap (λ i. 10 ^ i) e)) less (omega (arith, ints, place_is m)) ∙ magnitude_at-place m low;
+        magnitude_is =
+            first_is (number_at (place m + 1) ds) (place m) (omega (arith, ap (λ i. 10 ^ i) e)) less
+                (omega (arith, ints, place_is m))
+            ∙ magnitude_at-place m low;
         stripped = s;
         fits = fits;
         least = low;
@@ -97,36 +118,48 @@ module _ (p : ℤ) (places : ℕ) (ds : List ℕ) (low : negsuc 32767 ≤ℤ p) 
   moved top e = ap (λ i. number_at i ds) e ∙ number_at-more places (place p) ds fits
 
   -- the highest of the places
-  pub number_up : (m : ℤ) → negsuc 32767 ≤ℤ m → (m +ℤ pos 1) ≡ (p +ℤ pos places) → number_of ds m ≡ number_at places ds * weight p
+  pub number_up : (m : ℤ) → negsuc 32767 ≤ℤ m → (m +ℤ pos 1) ≡ (p +ℤ pos places)
+      → number_of ds m ≡ number_at places ds * weight p
   unfolding number_of
   number_up m low' e = moved (place m + 1) (omega (arith, ints, place_is m, place_is p))
 
 -- ---- how many digits there are
-pub size_is : (p : ℤ) (k m : ℕ) → 0 < k → HasDigits k m → negsuc 32767 ≤ℤ p → place p + k ≤ 65536 → size (m * weight p) ≡ k
+-- a number of k digits, the last of which is not 0, has this size from each position on
+pub size_is : (p : ℤ) (k m : ℕ) → 0 < k → HasDigits k m → negsuc 32767 ≤ℤ p → place p + k ≤ 65536
+    → size (m * weight p) ≡ k
 size_is p k m some d low h =
     let n = m * weight p in
     let least : 10 ^ (k - 1) * weight p ≤ m * weight p = mul-le-mul_right (weight p) d.least in
     let most : m * weight p < 10 ^ k * weight p = mul-lt-mul_of_pos_right d.most (ten_pos (place p)) in
     let above : first (m * weight p) ≡ magnitude_at (k - 1 + place p) =
-    first_is (m * weight p) (k - 1 + place p) (omega (arith, powers (k - 1) (place p) (k - 1 + place p) refl)) (omega (arith, powers k (place p) (k - 1 + place p + 1) (omega arith))) (omega arith) in
+    first_is (m * weight p) (k - 1 + place p) (omega (arith, powers (k - 1) (place p) (k - 1 + place p) refl))
+        (omega (arith, powers k (place p) (k - 1 + place p + 1) (omega arith))) (omega arith) in
     let below : last (m * weight p) ≡ magnitude_at (place p) = last_is m (place p) d.ends (omega arith) in
-    let nonzero : (m * weight p == 0) ≡ false = (let q : 0 < m * weight p = omega (arith, mul-pos (ten_pos (k - 1)) (ten_pos (place p))) in search rules) in
+    let nonzero : (m * weight p == 0) ≡ false =
+        (let q : 0 < m * weight p = omega (arith, mul-pos (ten_pos (k - 1)) (ten_pos (place p))) in search rules) in
     rw (nonzero, above, below) (omega (arith, ints, gap_is (magnitude_at (place p)) (magnitude_at (k - 1 + place p))))
 
 -- ---- why a number is not rounded
 -- what is wrong with the digits that are kept is wrong with the number
-pub refuses : (e : RoundError) (mode : UnsignedRoundingMode) (increment : RoundingIncrement) (fit room k : ℕ) (ds : List ℕ) (tail : Tail) (n : ℕ) (p : ℤ) → negsuc 32767 ≤ℤ p → (p +ℤ pos room) ≡ pos 32768 → (0 < k → place p + k ≤ 65536)
-    → HasParts n (weight p) (leading k ds) tail → KeptRefuses e mode increment fit room k ds tail → Refuses e increment (length ds) (rounded_number mode (unit_at increment p) n) fit
+pub refuses : (e : RoundError) (mode : UnsignedRoundingMode) (increment : RoundingIncrement) (fit room k : ℕ)
+    (ds : List ℕ) (tail : Tail) (n : ℕ) (p : ℤ) → negsuc 32767 ≤ℤ p → (p +ℤ pos room) ≡ pos 32768
+    → (0 < k → place p + k ≤ 65536)
+    → HasParts n (weight p) (leading k ds) tail → KeptRefuses e mode increment fit room k ds tail
+    → Refuses e increment (length ds) (rounded_number mode (unit_at increment p) n) fit
 refuses Limit mode increment fit room k ds tail n p low top within parts (m, h, rounds) =
-    let e = rounded_parts mode (step_of increment) tail n (weight p) (leading k ds) m (ten_pos (place p)) parts rounds in
-    let up : number_limit ≡ 10 ^ room * weight p = powers room (place p) (place (pos 32768)) (omega (arith, ints, place_is p, place_is (pos 32768))) in
+    let e =
+        rounded_parts mode (step_of increment) tail n (weight p) (leading k ds) m (ten_pos (place p)) parts rounds in
+    let up : number_limit ≡ 10 ^ room * weight p =
+        powers room (place p) (place (pos 32768)) (omega (arith, ints, place_is p, place_is (pos 32768))) in
     let more : 10 ^ room * weight p ≤ m * weight p = mul-le-mul_right (weight p) h in
     omega (arith, e, up, more)
 refuses Memory mode increment fit room k ds tail n p low top within parts (by_25, full, at_end, (m, has, rounds)) =
-    let e = rounded_parts mode (step_of increment) tail n (weight p) (leading k ds) m (ten_pos (place p)) parts rounds in
+    let e =
+        rounded_parts mode (step_of increment) tail n (weight p) (leading k ds) m (ten_pos (place p)) parts rounds in
     let some : 0 < k = omega arith in
     let most : m * weight p < 10 ^ k * weight p = mul-lt-mul_of_pos_right has.most (ten_pos (place p)) in
-    let at_most : 10 ^ (k + place p) ≤ number_limit = pow-le-pow_right (omega arith) (omega (arith, ints, within some, place_is (pos 32768))) in
+    let at_most : 10 ^ (k + place p) ≤ number_limit =
+        pow-le-pow_right (omega arith) (omega (arith, ints, within some, place_is (pos 32768))) in
     record {
       by_25 = by_25;
       below_limit = omega (arith, e, most, at_most, powers k (place p) (k + place p) refl);

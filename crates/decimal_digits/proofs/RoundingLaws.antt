@@ -21,10 +21,12 @@ rounded_number-multiple mode u k p = sym (named_is mode u (k * u) (k * u) p (k, 
 
 -- 0 is rounded to 0
 pub rounded_number-zero : (mode : UnsignedRoundingMode) (u : ℕ) → 0 < u → rounded_number mode u 0 ≡ 0
-rounded_number-zero mode u p = subst (λ z. rounded_number mode u z ≡ z) (zero-mul u) (rounded_number-multiple mode u 0 p)
+rounded_number-zero mode u p =
+    subst (λ z. rounded_number mode u z ≡ z) (zero-mul u) (rounded_number-multiple mode u 0 p)
 
 -- the same rounding again
-pub rounded_number-again : (mode : UnsignedRoundingMode) (u n : ℕ) → 0 < u → rounded_number mode u (rounded_number mode u n) ≡ rounded_number mode u n
+pub rounded_number-again : (mode : UnsignedRoundingMode) (u n : ℕ) → 0 < u
+    → rounded_number mode u (rounded_number mode u n) ≡ rounded_number mode u n
 rounded_number-again mode u n p =
     let (q, e, c) = rounded_number-named mode u n p in
     ap (rounded_number mode u) e ∙ rounded_number-multiple mode u q p ∙ sym e
@@ -37,7 +39,8 @@ module _ (u t n : ℕ) (p : 0 < u) (pt : 0 < t * u) where
       let (q, e, (low, great)) = rounded_number-named Trunc u n p in
       let (k, f, (low', great')) = rounded_number-named Trunc (t * u) n pt in
       let fine : k * t * u ≤ n → k * t * u ≤ q * u = great (k * t) in
-      sym (named_is Trunc (t * u) (rounded_number Trunc u n) _ pt (k, f, (omega (arith, fine, mul_assoc k t u, e), λ j h. great' j (omega (arith, e)))))
+      sym (named_is Trunc (t * u) (rounded_number Trunc u n) _ pt
+          (k, f, (omega (arith, fine, mul_assoc k t u, e), λ j h. great' j (omega (arith, e)))))
 
   -- the coarser unit after the finer one, away from zero
   pub expand-coarser : rounded_number Expand (t * u) (rounded_number Expand u n) ≡ rounded_number Expand (t * u) n
@@ -45,16 +48,19 @@ module _ (u t n : ℕ) (p : 0 < u) (pt : 0 < t * u) where
       let (q, e, (high, least)) = rounded_number-named Expand u n p in
       let (k, f, (high', least')) = rounded_number-named Expand (t * u) n pt in
       let fine : n ≤ k * t * u → q * u ≤ k * t * u = least (k * t) in
-      sym (named_is Expand (t * u) (rounded_number Expand u n) _ pt (k, f, (omega (arith, fine, mul_assoc k t u, e), λ j h. least' j (omega (arith, e)))))
+      sym (named_is Expand (t * u) (rounded_number Expand u n) _ pt
+          (k, f, (omega (arith, fine, mul_assoc k t u, e), λ j h. least' j (omega (arith, e)))))
 
   -- the finer unit after the coarser one
-  pub rounded_number-finer : (mode : UnsignedRoundingMode) → rounded_number mode u (rounded_number mode (t * u) n) ≡ rounded_number mode (t * u) n
+  pub rounded_number-finer : (mode : UnsignedRoundingMode)
+      → rounded_number mode u (rounded_number mode (t * u) n) ≡ rounded_number mode (t * u) n
   rounded_number-finer mode =
       let (k, f, c) = rounded_number-named mode (t * u) n pt in
       let e : rounded_number mode (t * u) n ≡ k * t * u = f ∙ sym (mul_assoc k t u) in
       ap (rounded_number mode u) e ∙ rounded_number-multiple mode u (k * t) p ∙ sym e
 
 -- ---- Order.
+-- the multiple below is at most the number
 pub trunc_le : (u n : ℕ) → 0 < u → rounded_number Trunc u n ≤ n
 trunc_le u n p = let (q, e, (low, great)) = rounded_number-named Trunc u n p in omega (arith, e)
 
@@ -70,8 +76,10 @@ monotone_named HalfTrunc u n m a b l (q, e, (near, least)) (k, f, (near', least'
 monotone_named HalfEven u n m a b l (q, e, (near, even)) (k, f, (near', even')) = omega (arith, near k, near' q)
 
 -- a greater number is rounded to no less
-pub rounded_number-monotone : (mode : UnsignedRoundingMode) (u n m : ℕ) → 0 < u → n ≤ m → rounded_number mode u n ≤ rounded_number mode u m
+pub rounded_number-monotone : (mode : UnsignedRoundingMode) (u n m : ℕ) → 0 < u → n ≤ m
+    → rounded_number mode u n ≤ rounded_number mode u m
 rounded_number-monotone mode u n m p l = elim (cases_eq n m) [
   | inl e ↦ omega (arith, ap (rounded_number mode u) e)
-  | inr ne ↦ monotone_named mode u n m _ _ (omega arith) (rounded_number-named mode u n p) (rounded_number-named mode u m p)
+  | inr ne ↦
+      monotone_named mode u n m _ _ (omega arith) (rounded_number-named mode u n p) (rounded_number-named mode u m p)
 ]

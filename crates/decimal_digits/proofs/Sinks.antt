@@ -28,13 +28,16 @@ pub part_more : (a b : Option (List ℕ)) (xs ys : List ℕ) → AppendsBeginnin
 part_more a b xs ys (part, rest, e, p) = (part, rest ++ ys, sym (append_assoc part rest ys) ∙ ap (λ l. l ++ ys) e, p)
 
 -- a text, and then a beginning of the next
-pub then_part : (a b c : Option (List ℕ)) (xs ys : List ℕ) → Appends a b xs → AppendsBeginning b c ys → AppendsBeginning a c (xs ++ ys)
-then_part a b c xs ys q (part, rest, e, p) = (xs ++ part, rest, append_assoc xs part rest ∙ ap (λ l. xs ++ l) e, appends_both a b c xs part q p)
+pub then_part : (a b c : Option (List ℕ)) (xs ys : List ℕ) → Appends a b xs → AppendsBeginning b c ys
+    → AppendsBeginning a c (xs ++ ys)
+then_part a b c xs ys q (part, rest, e, p) =
+    (xs ++ part, rest, append_assoc xs part rest ∙ ap (λ l. xs ++ l) e, appends_both a b c xs part q p)
 
 -- nothing is a beginning of each text
 pub part_none : (a : Option (List ℕ)) (xs : List ℕ) → AppendsBeginning a a xs
 part_none a xs = ([], xs, (λ i. xs), appends_none a)
 
 -- a text of which the first bytes were taken, and no more
-pub part_kept : (a b c : Option (List ℕ)) (i : ℕ) (xs : List ℕ) → Appends a b (take i xs) → Keeps b c → AppendsBeginning a c xs
+pub part_kept : (a b c : Option (List ℕ)) (i : ℕ) (xs : List ℕ) → Appends a b (take i xs) → Keeps b c
+    → AppendsBeginning a c xs
 part_kept a b c i xs p q = (take i xs, drop i xs, take-append-drop i xs, appends_kept a b c _ p q)

@@ -22,17 +22,32 @@ abbrev quarters_of : Tail → ℕ
 quarters_of tail = tag_of the_type tail
 
 -- less than half of the step, from quarters
-pub part_below : (tail : Tail) (step rest : ℕ) → 4 * rest + quarters_of tail < 2 * step → ¬ (4 * rest + quarters_of tail ≡ 0) → (r place : ℕ) → 0 < place → TailIs tail r place → TailIs BelowHalf (rest * place + r) (step * place)
-part_below Zero step rest h k r place p is = let l : 2 * rest + 1 ≤ step = omega arith in let s : 1 ≤ rest = omega arith in (omega (arith, mul-le-mul_right place s), omega (arith, mul-le-mul_right place l))
-part_below BelowHalf step rest h k r place p is = let l : 2 * rest + 1 ≤ step = omega arith in (omega arith, omega (arith, mul-le-mul_right place l))
-part_below Half step rest h k r place p is = let l : 2 * rest + 2 ≤ step = omega arith in (omega arith, omega (arith, mul-le-mul_right place l))
-part_below AboveHalf step rest h k r place p is = let l : 2 * rest + 2 ≤ step = omega arith in (omega arith, omega (arith, mul-le-mul_right place l))
+pub part_below : (tail : Tail) (step rest : ℕ) → 4 * rest + quarters_of tail < 2 * step
+    → ¬ (4 * rest + quarters_of tail ≡ 0) → (r place : ℕ) → 0 < place → TailIs tail r place
+    → TailIs BelowHalf (rest * place + r) (step * place)
+part_below Zero step rest h k r place p is =
+    let l : 2 * rest + 1 ≤ step = omega arith in
+    let s : 1 ≤ rest = omega arith in
+    (omega (arith, mul-le-mul_right place s), omega (arith, mul-le-mul_right place l))
+part_below BelowHalf step rest h k r place p is =
+    let l : 2 * rest + 1 ≤ step = omega arith in
+    (omega arith, omega (arith, mul-le-mul_right place l))
+part_below Half step rest h k r place p is =
+    let l : 2 * rest + 2 ≤ step = omega arith in
+    (omega arith, omega (arith, mul-le-mul_right place l))
+part_below AboveHalf step rest h k r place p is =
+    let l : 2 * rest + 2 ≤ step = omega arith in
+    (omega arith, omega (arith, mul-le-mul_right place l))
 
 -- half of the step, from quarters
-pub part_half : (tail : Tail) (step rest : ℕ) → 4 * rest + quarters_of tail ≡ 2 * step → (r place : ℕ) → 0 < place → TailIs tail r place → TailIs Half (rest * place + r) (step * place)
+pub part_half : (tail : Tail) (step rest : ℕ) → 4 * rest + quarters_of tail ≡ 2 * step → (r place : ℕ) → 0 < place
+    → TailIs tail r place
+    → TailIs Half (rest * place + r) (step * place)
 part_half Zero step rest h r place p is = let l : 2 * rest ≡ step = omega arith in omega (arith, ap (λ v. v * place) l)
 part_half BelowHalf step rest h r place p is = absurd (omega arith)
-part_half Half step rest h r place p is = let l : 2 * rest + 1 ≡ step = omega arith in omega (arith, ap (λ v. v * place) l)
+part_half Half step rest h r place p is =
+    let l : 2 * rest + 1 ≡ step = omega arith in
+    omega (arith, ap (λ v. v * place) l)
 part_half AboveHalf step rest h r place p is = absurd (omega arith)
 
 below_unit : (tail : Tail) (r u : ℕ) → 0 < u → TailIs tail r u → r < u
@@ -42,10 +57,16 @@ below_unit Half r u p is = omega arith
 below_unit AboveHalf r u p is = omega arith
 
 -- more than half of the step, from quarters
-pub part_above : (tail : Tail) (step rest : ℕ) → rest < step → 2 * step < 4 * rest + quarters_of tail → (r place : ℕ) → 0 < place → TailIs tail r place → TailIs AboveHalf (rest * place + r) (step * place)
-part_above tail step rest l h r place p is = (over tail h is, let s : rest + 1 ≤ step = omega arith in omega (arith, mul-le-mul_right place s, below_unit tail r place p is))
+pub part_above : (tail : Tail) (step rest : ℕ) → rest < step → 2 * step < 4 * rest + quarters_of tail
+    → (r place : ℕ) → 0 < place → TailIs tail r place
+    → TailIs AboveHalf (rest * place + r) (step * place)
+part_above tail step rest l h r place p is =
+    (over tail h is,
+     let s : rest + 1 ≤ step = omega arith in
+     omega (arith, mul-le-mul_right place s, below_unit tail r place p is))
   where
-    over : (tail : Tail) → 2 * step < 4 * rest + quarters_of tail → TailIs tail r place → step * place < 2 * (rest * place + r)
+    over : (tail : Tail) → 2 * step < 4 * rest + quarters_of tail → TailIs tail r place
+        → step * place < 2 * (rest * place + r)
     over Zero h is = let s : step + 1 ≤ 2 * rest = omega arith in omega (arith, mul-le-mul_right place s)
     over BelowHalf h is = let s : step ≤ 2 * rest = omega arith in omega (arith, mul-le-mul_right place s)
     over Half h is = let s : step ≤ 2 * rest = omega arith in omega (arith, mul-le-mul_right place s)
@@ -59,7 +80,8 @@ module _ (q u r : ℕ) (odd : Bool) (l : r < u) (o : odd ≡ (q % 2 == 1)) where
   quotient : (q * u + r) / u ≡ q
   quotient = div-mul-add q u r l
 
-  rounded_by : (mode : UnsignedRoundingMode) (left : Tail) → TailIs left r u → rounded_number mode u (q * u + r) ≡ (q + cond (goes_up_of mode left odd) 1 0) * u
+  rounded_by : (mode : UnsignedRoundingMode) (left : Tail) → TailIs left r u
+      → rounded_number mode u (q * u + r) ≡ (q + cond (goes_up_of mode left odd) 1 0) * u
   unfolding rounded_number
   rounded_by Trunc Zero is = rw remainder (omega arith)
   rounded_by Trunc BelowHalf is = rw remainder (omega arith)
@@ -109,15 +131,22 @@ unit_pos increment position = mul-pos (step_pos increment) (ten_pos (place posit
 
 -- h times s is half of 100, and two is q times s and the rest
 module _ (h s q rest two hundreds place : ℕ) (half : 2 * h * s ≡ 100) (whole : q * s + rest ≡ two) where
-  taken_apart : (r : ℕ) → (100 * hundreds + two) * place + r ≡ (2 * (h * hundreds) + q) * (s * place) + (rest * place + r)
+  taken_apart : (r : ℕ)
+      → (100 * hundreds + two) * place + r ≡ (2 * (h * hundreds) + q) * (s * place) + (rest * place + r)
   taken_apart r = omega (arith, ap (λ v. v * (hundreds * place)) half, ap (λ v. v * place) whole)
 
-  put_together : (up : Bool) → (2 * (h * hundreds) + q + cond up 1 0) * (s * place) ≡ (100 * hundreds + (two - rest + cond up s 0)) * place
-  put_together true = let e : two - rest ≡ q * s = omega arith in rw e (omega (arith, ap (λ v. v * (hundreds * place)) half))
-  put_together false = let e : two - rest ≡ q * s = omega arith in rw e (omega (arith, ap (λ v. v * (hundreds * place)) half))
+  put_together : (up : Bool)
+      → (2 * (h * hundreds) + q + cond up 1 0) * (s * place) ≡ (100 * hundreds + (two - rest + cond up s 0)) * place
+  put_together true =
+      let e : two - rest ≡ q * s = omega arith in
+      rw e (omega (arith, ap (λ v. v * (hundreds * place)) half))
+  put_together false =
+      let e : two - rest ≡ q * s = omega arith in
+      rw e (omega (arith, ap (λ v. v * (hundreds * place)) half))
 
 -- the part of the step that is left, and the parity of its quotient, make the mode go up, or not
-pub two_by : (mode : UnsignedRoundingMode) (increment : RoundingIncrement) (tail left : Tail) (s two result : ℕ) (up : Bool) → s ≡ step_of increment
+pub two_by : (mode : UnsignedRoundingMode) (increment : RoundingIncrement) (tail left : Tail) (s two result : ℕ)
+    (up : Bool) → s ≡ step_of increment
     → ((r place : ℕ) → 0 < place → TailIs tail r place → TailIs left (two % s * place + r) (s * place))
     → up ≡ goes_up_of mode left (two / s % 2 == 1)
     → result ≡ two - two % s + cond up s 0
@@ -128,13 +157,17 @@ two_by mode increment tail left s two result up step part goes made hundreds r p
     let half : 2 * h * s ≡ 100 = ap (λ v. 2 * h * v) step ∙ hundred increment in
     let whole : two / s * s + two % s ≡ two = div-add-mod' two s in
     let pos : 0 < s = omega (arith, step_pos increment) in
-    let parity : (two / s % 2 == 1) ≡ (q % 2 == 1) = ap (λ v. v == 1) (let e : two / s % 2 ≡ q % 2 = omega arith in e) in
-    rw (← step, made, goes) (ap (rounded_number mode (s * place)) (taken_apart h s (two / s) (two % s) two hundreds place half whole r)
-    ∙ rounded_by q (s * place) (two % s * place + r) (two / s % 2 == 1) (below_unit left _ _ (mul-pos pos p) (part r place p is)) parity mode left (part r place p is)
+    let parity : (two / s % 2 == 1) ≡ (q % 2 == 1) =
+        ap (λ v. v == 1) (let e : two / s % 2 ≡ q % 2 = omega arith in e) in
+    rw (← step, made, goes)
+        (ap (rounded_number mode (s * place)) (taken_apart h s (two / s) (two % s) two hundreds place half whole r)
+    ∙ rounded_by q (s * place) (two % s * place + r) (two / s % 2 == 1)
+        (below_unit left _ _ (mul-pos pos p) (part r place p is)) parity mode left (part r place p is)
     ∙ put_together h s (two / s) (two % s) two hundreds place half whole (goes_up_of mode left (two / s % 2 == 1)))
 
 -- the same, where what is left over and the quotient's parity have names of their own
-pub two_split : (mode : UnsignedRoundingMode) (increment : RoundingIncrement) (tail left : Tail) (s two rest result : ℕ) (odd up : Bool) → s ≡ step_of increment
+pub two_split : (mode : UnsignedRoundingMode) (increment : RoundingIncrement) (tail left : Tail) (s two rest result : ℕ)
+    (odd up : Bool) → s ≡ step_of increment
     → rest ≡ two % step_of increment → odd ≡ (two / step_of increment % 2 == 1)
     → ((r place : ℕ) → 0 < place → TailIs tail r place → TailIs left (rest * place + r) (s * place))
     → up ≡ goes_up_of mode left odd
@@ -146,5 +179,7 @@ two_split mode increment tail left s two rest result odd up step is_rest is_odd 
     two_by mode increment tail left s two result up step (rw r at part) (rw o at goes) (rw r at made)
 
 -- a rounding, under equations of the two numbers
-pub rounds_as : (mode : UnsignedRoundingMode) (step : ℕ) (tail : Tail) (k m k' m' : ℕ) → RoundsTo mode step tail k m → k' ≡ k → m' ≡ m → RoundsTo mode step tail k' m'
+pub rounds_as : (mode : UnsignedRoundingMode) (step : ℕ) (tail : Tail) (k m k' m' : ℕ) → RoundsTo mode step tail k m
+    → k' ≡ k → m' ≡ m
+    → RoundsTo mode step tail k' m'
 rounds_as mode step tail k m k' m' rounds e f r place p is = rw (e, f) (rounds r place p is)

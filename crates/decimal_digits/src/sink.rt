@@ -42,8 +42,8 @@ pub trait Sink {
 
     /// Takes bytes, in order.
     ///
-    /// Err: a byte was refused; those in front of it were taken, and the sink has failed. A sink that has failed refuses
-    /// an empty slice too.
+    /// Err: a byte was refused; those in front of it were taken, and the sink has failed. A sink that has failed
+    /// refuses an empty slice too.
     fn put_bytes(&mut self, bytes: &[u8]) -> Result<(), SinkFault>
         ensures appends { OnOk result (Appends (contents self.old) (contents self.new) bytes.now) }
         ensures worked { OnOk result (has_failed self.old ≡ false) }

@@ -29,7 +29,8 @@ module _ (a k : ℕ) (xs ys : List ℕ) (fits : a + k ≤ length xs) (full : len
 
   part_within : (i : ℕ) → a ≤ i → i < a + k → get_or (take a xs ++ (ys ++ drop k (drop a xs))) i 0 ≡ get_or ys (i - a) 0
   part_within i h l =
-      get_or-append_right (take a xs) (ys ++ drop k (drop a xs)) a i 0 front h ∙ get_or-append ys (drop k (drop a xs)) 0 (i - a) (omega arith)
+      get_or-append_right (take a xs) (ys ++ drop k (drop a xs)) a i 0 front h
+      ∙ get_or-append ys (drop k (drop a xs)) 0 (i - a) (omega arith)
 
   part_behind : (i : ℕ) → a + k ≤ i → get_or (take a xs ++ (ys ++ drop k (drop a xs))) i 0 ≡ get_or xs i 0
   part_behind i h =
@@ -49,12 +50,15 @@ module _ (a : ℕ) (xs us : List ℕ) (us_full : length us ≡ a) (inside : a < 
   length-dotted = length-set (us ++ drop a xs) a 46 ∙ length-append us (drop a xs) ∙ (omega (arith, length-drop a xs))
 
   -- the places behind the dot
-  pub length-behind : length (take (length (dotted a us xs) - (a + 1)) (drop (a + 1) (dotted a us xs))) ≡ length xs - (a + 1)
+  pub length-behind : length (take (length (dotted a us xs) - (a + 1)) (drop (a + 1) (dotted a us xs)))
+      ≡ length xs - (a + 1)
   length-behind =
       let l = length-drop (a + 1) (dotted a us xs) in
-      length-take-le (length (dotted a us xs) - (a + 1)) (drop (a + 1) (dotted a us xs)) (omega (arith, l)) ∙ (omega (arith, length-dotted))
+      length-take-le (length (dotted a us xs) - (a + 1)) (drop (a + 1) (dotted a us xs)) (omega (arith, l))
+      ∙ (omega (arith, length-dotted))
 
-module _ (a : ℕ) (xs us ws : List ℕ) (us_full : length us ≡ a) (inside : a < length xs) (ws_full : length ws ≡ length xs - (a + 1)) where
+module _ (a : ℕ) (xs us ws : List ℕ) (us_full : length us ≡ a) (inside : a < length xs)
+    (ws_full : length ws ≡ length xs - (a + 1)) where
   dotted_length : length (dotted a us xs) ≡ length xs
   dotted_length = length-dotted a xs us us_full inside
 
@@ -64,39 +68,65 @@ module _ (a : ℕ) (xs us ws : List ℕ) (us_full : length us ≡ a) (inside : a
   full : length ws ≡ length (dotted a us xs) - (a + 1)
   full = omega (arith, dotted_length)
 
-  pub around_length : length (take (a + 1) (dotted a us xs) ++ (ws ++ drop (length (dotted a us xs) - (a + 1)) (drop (a + 1) (dotted a us xs)))) ≡ length xs
+  -- with the second part behind the dot there are as many places as before
+  pub around_length :
+      length (take (a + 1) (dotted a us xs)
+          ++ (ws ++ drop (length (dotted a us xs) - (a + 1)) (drop (a + 1) (dotted a us xs))))
+      ≡ length xs
   around_length = part_length (a + 1) _ (dotted a us xs) ws fits full ∙ dotted_length
 
-  pub around_before : (i : ℕ) → i < a → get_or (take (a + 1) (dotted a us xs) ++ (ws ++ drop (length (dotted a us xs) - (a + 1)) (drop (a + 1) (dotted a us xs)))) i 0 ≡ get_or us i 0
+  -- a byte in front of the dot is that of the first part
+  pub around_before : (i : ℕ) → i < a
+      → get_or
+          (take (a + 1) (dotted a us xs)
+              ++ (ws ++ drop (length (dotted a us xs) - (a + 1)) (drop (a + 1) (dotted a us xs)))) i 0
+          ≡ get_or us i 0
   around_before i h =
       part_before (a + 1) _ (dotted a us xs) ws fits full i (omega arith)
       ∙ get_or-set_other (us ++ drop a xs) a i 46 0 (omega arith)
       ∙ get_or-append us (drop a xs) 0 i (omega (arith, us_full))
 
-  pub around_dot : get_or (take (a + 1) (dotted a us xs) ++ (ws ++ drop (length (dotted a us xs) - (a + 1)) (drop (a + 1) (dotted a us xs)))) a 0 ≡ 46
+  -- at a stands the dot
+  pub around_dot :
+      get_or
+          (take (a + 1) (dotted a us xs)
+              ++ (ws ++ drop (length (dotted a us xs) - (a + 1)) (drop (a + 1) (dotted a us xs)))) a 0
+      ≡ 46
   around_dot =
       part_before (a + 1) _ (dotted a us xs) ws fits full a (omega arith)
-      ∙ get_or-set_same (us ++ drop a xs) a 46 0 (omega (arith, length-append us (drop a xs), length-drop a xs, us_full))
+      ∙ get_or-set_same (us ++ drop a xs) a 46 0
+          (omega (arith, length-append us (drop a xs), length-drop a xs, us_full))
 
-  pub around_behind : (i : ℕ) → a < i → i < length xs → get_or (take (a + 1) (dotted a us xs) ++ (ws ++ drop (length (dotted a us xs) - (a + 1)) (drop (a + 1) (dotted a us xs)))) i 0 ≡ get_or ws (i - (a + 1)) 0
-  around_behind i h l = part_within (a + 1) _ (dotted a us xs) ws fits full i (omega arith) (omega (arith, dotted_length))
+  -- a byte behind the dot is that of the second part
+  pub around_behind : (i : ℕ) → a < i → i < length xs
+      → get_or
+          (take (a + 1) (dotted a us xs)
+              ++ (ws ++ drop (length (dotted a us xs) - (a + 1)) (drop (a + 1) (dotted a us xs)))) i 0
+          ≡ get_or ws (i - (a + 1)) 0
+  around_behind i h l =
+      part_within (a + 1) _ (dotted a us xs) ws fits full i (omega arith) (omega (arith, dotted_length))
 
 -- ---- places that hold zeros, byte by byte
 all_zeros : (xs : List ℕ) → ((i : ℕ) → i < length xs → get_or xs i 0 ≡ 48) → xs ≡ replicate (length xs) 48
-all_zeros xs zero = ext_get_or 0 xs (replicate (length xs) 48) (sym (length-replicate (length xs) 48)) (λ i h. zero i h ∙ sym (get_or-replicate (length xs) i 48 0 h))
+all_zeros xs zero =
+    ext_get_or 0 xs (replicate (length xs) 48) (sym (length-replicate (length xs) 48))
+        (λ i h. zero i h ∙ sym (get_or-replicate (length xs) i 48 0 h))
 
 module _ (xs : List ℕ) (zeros : xs ≡ replicate (length xs) 48) where
   zero_at : (i : ℕ) → i < length xs → get_or xs i 0 ≡ 48
   zero_at i h = ap (λ l. get_or l i 0) zeros ∙ get_or-replicate (length xs) i 48 0 h
 
+  -- the first places hold zeros too
   pub zeros_front : (a : ℕ) → take a xs ≡ replicate (length (take a xs)) 48
   zeros_front a = all_zeros (take a xs) (λ i h.
       let l = length-take a xs in
       let k : i < a = omega arith in
       get_or-take a xs i 0 k ∙ zero_at i (omega arith))
 
+  -- and so do the places behind the dot
   pub zeros_behind : (a : ℕ) (us : List ℕ) → length us ≡ a → a < length xs
-      → take (length (dotted a us xs) - (a + 1)) (drop (a + 1) (dotted a us xs)) ≡ replicate (length (take (length (dotted a us xs) - (a + 1)) (drop (a + 1) (dotted a us xs)))) 48
+      → take (length (dotted a us xs) - (a + 1)) (drop (a + 1) (dotted a us xs))
+          ≡ replicate (length (take (length (dotted a us xs) - (a + 1)) (drop (a + 1) (dotted a us xs)))) 48
   zeros_behind a us full inside = all_zeros _ (λ i h.
       let l = length-behind a xs us full inside in
       let k : i < length (dotted a us xs) - (a + 1) = omega (arith, length-dotted a xs us full inside) in
@@ -111,32 +141,39 @@ module _ (xs : List ℕ) (zeros : xs ≡ replicate (length xs) 48) where
 abbrev pub block_of : ℕ → List ℕ
 block_of n = replicate n 48
 
+-- the first places of a block hold zeros
 pub zeros_first : (n a : ℕ) → take a (block_of n) ≡ replicate (length (take a (block_of n))) 48
 zeros_first n a = zeros_front (block_of n) (ap block_of (sym (length-replicate {A = ℕ} n 48))) a
 
 -- how far a magnitude lies below the first one, or 0
-pub index_gap : (index : Option ℕ) (first magnitude : ℤ) → IfSome index (λ i. magnitude +ℤ pos i ≡ first) → IfNone index (first <ℤ magnitude) → unwrap_or index 0 ≡ int_gap magnitude first
+pub index_gap : (index : Option ℕ) (first magnitude : ℤ) → IfSome index (λ i. magnitude +ℤ pos i ≡ first)
+    → IfNone index (first <ℤ magnitude)
+    → unwrap_or index 0 ≡ int_gap magnitude first
 index_gap None first magnitude some none = omega (arith, ints, gap_is magnitude first, none)
 index_gap (Some i) first magnitude some none = omega (arith, ints, gap_is magnitude first, some)
 
-module _ {ds : List ℕ} {m hi lo : ℤ} (t : IsStored ds m hi lo) (q : ℤ) (low : negsuc 32767 ≤ℤ q) (n from start count : ℕ) (few : n ≤ place q + 1)
-    (from_is : from ≡ min (int_gap q m) (length ds)) (start_is : start ≡ min (int_gap m q) n) (count_is : count ≡ min (length ds - from) (n - start)) where
+module _ {ds : List ℕ} {m hi lo : ℤ} (t : IsStored ds m hi lo) (q : ℤ) (low : negsuc 32767 ≤ℤ q)
+    (n from start count : ℕ) (few : n ≤ place q + 1) (from_is : from ≡ min (int_gap q m) (length ds))
+    (start_is : start ≡ min (int_gap m q) n) (count_is : count ≡ min (length ds - from) (n - start)) where
   length-copied : length (take count (drop from ds)) ≡ count
   length-copied = length-take-le count (drop from ds) (omega (arith, length-drop from ds))
 
   -- zeros, and the digits in their place
-  pub block_digit : (zeros ys : List ℕ) (k j : ℕ) → zeros ≡ replicate n 48 → k ≡ count → j ≡ count → ys ≡ text_of (take j (drop from ds))
+  pub block_digit : (zeros ys : List ℕ) (k j : ℕ) → zeros ≡ replicate n 48 → k ≡ count → j ≡ count
+      → ys ≡ text_of (take j (drop from ds))
       → (i : ℕ) → i < length (take start zeros ++ (ys ++ drop k (drop start zeros)))
       → get_or (take start zeros ++ (ys ++ drop k (drop start zeros))) i 0 ≡ 48 + digit (number_of ds m) (q -ℤ pos i)
   block_digit zeros ys k j zeros_are k_is j_is ys_are i inside = elim (cases_lt i start) [
     | inl before ↦
         part_before start k zeros ys fits full i before ∙ zero_byte
-        ∙ sym (ap (λ d. 48 + d) (digit-number_of-above t (q -ℤ pos i) (omega (arith, ints, gap_is m q, start_is)) in_range))
+        ∙ sym (ap (λ d. 48 + d)
+            (digit-number_of-above t (q -ℤ pos i) (omega (arith, ints, gap_is m q, start_is)) in_range))
     | inr from_start ↦ elim (cases_lt i (start + k)) [
       | inl within ↦
           let short : i - start < count = omega arith in
           let long : i - start < length (take count (drop from ds)) = omega (arith, length-copied) in
-          let e : (q -ℤ pos i) +ℤ pos (from + (i - start)) ≡ m = omega (arith, ints, gap_is m q, gap_is q m, from_is, start_is, count_is) in
+          let e : (q -ℤ pos i) +ℤ pos (from + (i - start)) ≡ m =
+              omega (arith, ints, gap_is m q, gap_is q m, from_is, start_is, count_is) in
           part_within start k zeros ys fits full i from_start within
           ∙ ap (λ l. get_or l (i - start) 0) letters
           ∙ get_or-map (λ d. 48 + d) (take count (drop from ds)) (i - start) 0 0 long
@@ -146,7 +183,9 @@ module _ {ds : List ℕ} {m hi lo : ℤ} (t : IsStored ds m hi lo) (q : ℤ) (lo
           let b = i + int_gap q m - int_gap m q in
           let e : (q -ℤ pos i) +ℤ pos b ≡ m = omega (arith, ints, gap_is m q, gap_is q m, start_is, h) in
           part_behind start k zeros ys fits full i behind ∙ zero_byte
-          ∙ sym (ap (λ d. 48 + d) (digit-number_of-below t (q -ℤ pos i) b e in_range (omega (arith, gap_is m q, gap_is q m, from_is, start_is, count_is, k_is, h))))
+          ∙ sym (ap (λ d. 48 + d)
+              (digit-number_of-below t (q -ℤ pos i) b e in_range
+                  (omega (arith, gap_is m q, gap_is q m, from_is, start_is, count_is, k_is, h))))
     ]
   ]
     where

@@ -18,16 +18,20 @@ use Rattle.decimal_unsigned.proofs.Plans.{over, under}
 pub saturated_in : (e : ℤ) → IsSaturated (saturated e)
 saturated_in e = record { low = omega (arith, ints, clamps); high = omega (arith, ints, clamps) }
 
-scaled_outside : (v : Unsigned) (e : ℤ) → is_outside e ≡ true → scaled v (Some e) ≡ cond (v.number == 0) (Ok v) (Err limit)
+scaled_outside : (v : Unsigned) (e : ℤ) → is_outside e ≡ true
+    → scaled v (Some e) ≡ cond (v.number == 0) (Ok v) (Err limit)
 unfolding scaled
 scaled_outside v e h = rw h refl
 
-far : (v : Unsigned) (e : ℤ) → (pos 32767 <ℤ e) ⊎ (e <ℤ negsuc 32767) → (pos 32767 <ℤ saturated e) ⊎ (saturated e <ℤ negsuc 32767) → scaled v (Some (saturated e)) ≡ scaled v (Some e)
+far : (v : Unsigned) (e : ℤ) → (pos 32767 <ℤ e) ⊎ (e <ℤ negsuc 32767)
+    → (pos 32767 <ℤ saturated e) ⊎ (saturated e <ℤ negsuc 32767)
+    → scaled v (Some (saturated e)) ≡ scaled v (Some e)
 far v e h k = scaled_outside v (saturated e) (out (saturated e) k) ∙ sym (scaled_outside v e (out e h))
   where
     out : (x : ℤ) → (pos 32767 <ℤ x) ⊎ (x <ℤ negsuc 32767) → is_outside x ≡ true
     out x (inl l) = rw (over x l) refl
-    out x (inr l) = rw (under x l) (elim (int_lt (pos 32767) x) as (λ b. (b || true) ≡ true) [ true ↦ refl | false ↦ refl ])
+    out x (inr l) =
+        rw (under x l) (elim (int_lt (pos 32767) x) as (λ b. (b || true) ≡ true) [ true ↦ refl | false ↦ refl ])
 
 scaled_saturated : (v : Unsigned) (o : Option ℤ) → scaled v (option_map saturated o) ≡ scaled v o
 scaled_saturated v None = refl
@@ -52,7 +56,8 @@ parts_none None h = refl
 parts_none (Some w) h = absurd (cc)
 
 -- the parts that were found are those of the text, saturated
-pub parts_some : (o : Option Written) (v : Written) → Some v ≡ option_map saturated_parts o → (w : Written) × (o ≡ Some w) × (saturated_parts w ≡ v)
+pub parts_some : (o : Option Written) (v : Written) → Some v ≡ option_map saturated_parts o
+    → (w : Written) × (o ≡ Some w) × (saturated_parts w ≡ v)
 parts_some None v h = absurd (cc)
 parts_some (Some w) v h = (w, refl, cc)
 
@@ -62,23 +67,29 @@ unfolding read value_or_syntax
 read_none text h = rw (parts_none (parts_of text) h) refl
 
 -- the value of a text is that of the parts which were found
-pub read_some : (text : List ℕ) (v : Written) → Some v ≡ option_map saturated_parts (parts_of text) → read text ≡ value_of v
+pub read_some : (text : List ℕ) (v : Written) → Some v ≡ option_map saturated_parts (parts_of text)
+    → read text ≡ value_of v
 unfolding read value_or_syntax
-read_some text v h = let w = parts_some (parts_of text) v h in ap value_or_syntax w.1 ∙ sym (value_saturated w.0) ∙ ap value_of w.2
+read_some text v h =
+    let w = parts_some (parts_of text) v h in
+    ap value_or_syntax w.1 ∙ sym (value_saturated w.0) ∙ ap value_of w.2
 
 append_digits : (a b : List ℕ) → AllDigits 10 a → AllDigits 10 b → AllDigits 10 (a ++ b)
 append_digits [] b h k = k
 append_digits (c ∷ a) b h k = (h.0, append_digits a b h.1 k)
 
 -- the parts that were found are digits
-pub digits_some : (text : List ℕ) (v : Written) → Some v ≡ option_map saturated_parts (parts_of text) → AllDigits 10 (v.whole ++ v.fraction)
+pub digits_some : (text : List ℕ) (v : Written) → Some v ≡ option_map saturated_parts (parts_of text)
+    → AllDigits 10 (v.whole ++ v.fraction)
 digits_some text v h =
     let w = parts_some (parts_of text) v h in
     let g = parts_takes text w.0 w.1 in
     subst (λ u. AllDigits 10 (u.whole ++ u.fraction)) w.2 (append_digits w.0.whole w.0.fraction g.whole g.fraction)
 
 -- the exponent that was found lies within the bounds
-pub saturated_some : (text : List ℕ) (v : Written) (e : ℤ) → Some v ≡ option_map saturated_parts (parts_of text) → v.exponent ≡ Some e → IsSaturated e
+pub saturated_some : (text : List ℕ) (v : Written) (e : ℤ) → Some v ≡ option_map saturated_parts (parts_of text)
+    → v.exponent ≡ Some e
+    → IsSaturated e
 saturated_some text v e h k =
     let w = parts_some (parts_of text) v h in
     go w.0.exponent (ap (λ u. u.exponent) w.2 ∙ k)
@@ -89,12 +100,14 @@ saturated_some text v e h k =
 
 -- ---- the same of what the code found
 -- the digits of what the code found, if it found something
-pub digits_found : (text : List ℕ) (r : Option Parts) → views r ≡ option_map saturated_parts (parts_of text) → IfSome r (λ p. AllDigits 10 (p.whole.now ++ p.fraction.now))
+pub digits_found : (text : List ℕ) (r : Option Parts) → views r ≡ option_map saturated_parts (parts_of text)
+    → IfSome r (λ p. AllDigits 10 (p.whole.now ++ p.fraction.now))
 digits_found text None h = tt
 digits_found text (Some p) h = digits_some text (view p) h
 
 -- the exponent of what the code found, if it found one
-pub exponent_found : (text : List ℕ) (r : Option Parts) → views r ≡ option_map saturated_parts (parts_of text) → IfSome r (λ p. IfSome p.exponent IsSaturated)
+pub exponent_found : (text : List ℕ) (r : Option Parts) → views r ≡ option_map saturated_parts (parts_of text)
+    → IfSome r (λ p. IfSome p.exponent IsSaturated)
 exponent_found text None h = tt
 exponent_found text (Some p) h = go p.exponent refl
   where

@@ -47,7 +47,16 @@ pub extent : (b n : ℕ) → 0 < n → n < 10 ^ b → b ≤ 65536 → Extent n
 extent b n p h l =
     let t = top_of b n p h in
     let e = bottom_of b n p h in
-    record { top = t.0; bottom = e.0; factor = e.1; is = e.2; odd = e.3; reaches = t.2; below = t.3; limit = omega (arith, t.1) }
+    record {
+      top = t.0;
+      bottom = e.0;
+      factor = e.1;
+      is = e.2;
+      odd = e.3;
+      reaches = t.2;
+      below = t.3;
+      limit = omega (arith, t.1)
+    }
 
 module _ {n : ℕ} (e : Extent n) where
   -- the last digit is not above the first
@@ -79,29 +88,39 @@ module _ {n : ℕ} (e : Extent n) where
 -- a number that a range up to hi holds has its first digit at hi or below
 pub first_le : (n : ℕ) (hi : ℤ) → n < 10 ^ (place hi + 1) → pos 0 ≤ℤ hi → hi ≤ℤ pos 32767 → first n ≤ℤ hi
 first_le n hi few low high = elim (cases_lt 0 n) [
-  | inl some ↦ let e = extent (place hi + 1) n some few (omega (arith, ints, place_is hi)) in omega (arith, ints, first_of e, top_lt e (place hi + 1) few, place_is hi)
-  | inr none ↦ let z : first n ≡ pos 0 = ap first (let y : n ≡ 0 = omega arith in y) ∙ first_zero in omega (arith, ints, z)
+  | inl some ↦
+      let e = extent (place hi + 1) n some few (omega (arith, ints, place_is hi)) in
+      omega (arith, ints, first_of e, top_lt e (place hi + 1) few, place_is hi)
+  | inr none ↦
+      let z : first n ≡ pos 0 = ap first (let y : n ≡ 0 = omega arith in y) ∙ first_zero in
+      omega (arith, ints, z)
 ]
 
 last_digit : (x y d : ℕ) → 0 < d → (x * 10 ^ d + y) % 10 ≡ y % 10
 last_digit x y zero h = absurd (omega arith)
-last_digit x y (suc d) h = let p : x * 10 ^ suc d ≡ (x * 10 ^ d) * 10 = rw (pow-suc 10 d) (omega arith) in rw p (mul-add-mod_self_right (x * 10 ^ d) 10 y)
+last_digit x y (suc d) h =
+    let p : x * 10 ^ suc d ≡ (x * 10 ^ d) * 10 = rw (pow-suc 10 d) (omega arith) in
+    rw p (mul-add-mod_self_right (x * 10 ^ d) 10 y)
 
 -- ---- the sum of two numbers of which the second lies below the last digit of the first
 module _ {m n : ℕ} (a : Extent m) (b : Extent n) (apart : b.top < a.bottom) where
   sum_is : m + n ≡ (a.factor * 10 ^ (a.bottom - b.bottom) + b.factor) * 10 ^ b.bottom
   sum_is =
       let k : a.bottom ≡ (a.bottom - b.bottom) + b.bottom = omega (arith, ordered b) in
-      let p : m ≡ a.factor * (10 ^ (a.bottom - b.bottom) * 10 ^ b.bottom) = a.is ∙ ap (λ x. a.factor * x) (ap (λ x. 10 ^ x) k ∙ pow-add 10 (a.bottom - b.bottom) b.bottom) in
+      let p : m ≡ a.factor * (10 ^ (a.bottom - b.bottom) * 10 ^ b.bottom) =
+          a.is ∙ ap (λ x. a.factor * x) (ap (λ x. 10 ^ x) k ∙ pow-add 10 (a.bottom - b.bottom) b.bottom) in
       let q = b.is in
       omega (arith, p, q)
 
   sum_below : m + n < 10 ^ (a.top + 1)
   sum_below =
       let k : a.top + 1 ≡ (a.top + 1 - a.bottom) + a.bottom = omega (arith, ordered a) in
-      let split : 10 ^ (a.top + 1) ≡ 10 ^ (a.top + 1 - a.bottom) * 10 ^ a.bottom = ap (λ x. 10 ^ x) k ∙ pow-add 10 (a.top + 1 - a.bottom) a.bottom in
-      let f : a.factor < 10 ^ (a.top + 1 - a.bottom) = lt_of_mul-lt-mul_right (10 ^ a.bottom) (omega (arith, a.is, a.below, split)) in
-      let g : (a.factor + 1) * 10 ^ a.bottom ≤ 10 ^ (a.top + 1 - a.bottom) * 10 ^ a.bottom = mul-le-mul_right (10 ^ a.bottom) (omega arith) in
+      let split : 10 ^ (a.top + 1) ≡ 10 ^ (a.top + 1 - a.bottom) * 10 ^ a.bottom =
+          ap (λ x. 10 ^ x) k ∙ pow-add 10 (a.top + 1 - a.bottom) a.bottom in
+      let f : a.factor < 10 ^ (a.top + 1 - a.bottom) =
+          lt_of_mul-lt-mul_right (10 ^ a.bottom) (omega (arith, a.is, a.below, split)) in
+      let g : (a.factor + 1) * 10 ^ a.bottom ≤ 10 ^ (a.top + 1 - a.bottom) * 10 ^ a.bottom =
+          mul-le-mul_right (10 ^ a.bottom) (omega arith) in
       let h : 10 ^ (b.top + 1) ≤ 10 ^ a.bottom = pow-le-pow_right (omega arith) (omega arith) in
       omega (arith, a.is, b.below, split, g, h)
 
@@ -112,8 +131,11 @@ module _ {m n : ℕ} (a : Extent m) (b : Extent n) (apart : b.top < a.bottom) wh
   -- and ends with the second
   pub last_sum : last (m + n) ≡ last n
   last_sum =
-      let odd : 0 < (a.factor * 10 ^ (a.bottom - b.bottom) + b.factor) % 10 = omega (arith, last_digit a.factor b.factor (a.bottom - b.bottom) (omega (arith, apart, ordered b)), b.odd) in
-      ap last sum_is ∙ last_is (a.factor * 10 ^ (a.bottom - b.bottom) + b.factor) b.bottom odd (omega (arith, ordered b, b.limit)) ∙ sym (last_of b)
+      let odd : 0 < (a.factor * 10 ^ (a.bottom - b.bottom) + b.factor) % 10 =
+          omega (arith, last_digit a.factor b.factor (a.bottom - b.bottom) (omega (arith, apart, ordered b)), b.odd) in
+      ap last sum_is
+      ∙ last_is (a.factor * 10 ^ (a.bottom - b.bottom) + b.factor) b.bottom odd (omega (arith, ordered b, b.limit))
+      ∙ sym (last_of b)
 
 -- ---- the part of a number that stands at and above a place, and the part below it
 module _ (n q b : ℕ) (few : n < 10 ^ b) (high : b ≤ 65536) where
@@ -128,7 +150,10 @@ module _ (n q b : ℕ) (few : n < 10 ^ b) (high : b ≤ 65536) where
     quotient_counts : 0 < n / 10 ^ q
     quotient_counts = elim (cases_lt 0 (n / 10 ^ q)) [
       | inl h ↦ h
-      | inr h ↦ let z : n / 10 ^ q * 10 ^ q ≡ 0 = ap (λ x. x * 10 ^ q) (let y : n / 10 ^ q ≡ 0 = omega arith in y) ∙ (omega arith) in absurd (omega (arith, above_is, z))
+      | inr h ↦
+          let z : n / 10 ^ q * 10 ^ q ≡ 0 =
+              ap (λ x. x * 10 ^ q) (let y : n / 10 ^ q ≡ 0 = omega arith in y) ∙ (omega arith) in
+          absurd (omega (arith, above_is, z))
     ]
 
     quotient : Extent (n / 10 ^ q)
@@ -142,7 +167,8 @@ module _ (n q b : ℕ) (few : n < 10 ^ b) (high : b ≤ 65536) where
       | inl h ↦ omega (arith, high)
       | inr h ↦
           let f : 0 < quotient.factor = omega (arith, quotient.odd) in
-          let p : 10 ^ (quotient.bottom + q) ≤ 10 ^ (quotient.bottom + q) * quotient.factor = le-mul_of_pos_right (10 ^ (quotient.bottom + q)) f in
+          let p : 10 ^ (quotient.bottom + q) ≤ 10 ^ (quotient.bottom + q) * quotient.factor =
+              le-mul_of_pos_right (10 ^ (quotient.bottom + q)) f in
           let r : 10 ^ b ≤ 10 ^ (quotient.bottom + q) = pow-le-pow_right (omega arith) h in
           absurd (omega (arith, p, r, few, above_factor))
     ]

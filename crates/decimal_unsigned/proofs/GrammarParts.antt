@@ -15,25 +15,37 @@ use Rattle.std.proofs.lemmas.Str.Parse.{digit_from_value}
 
 -- ---- runs of digits
 -- a run of digits is counted with what follows it
-pub prefix_len-run : (a rest : List ℕ) → AllDigits 10 a → prefix_len is_ascii_digit (a ++ rest) ≡ length a + prefix_len is_ascii_digit rest
+pub prefix_len-run : (a rest : List ℕ) → AllDigits 10 a
+    → prefix_len is_ascii_digit (a ++ rest) ≡ length a + prefix_len is_ascii_digit rest
 prefix_len-run [] rest h = omega arith
 prefix_len-run (c ∷ a) rest h = rw (is_digit-true c h.0) (omega (arith, prefix_len-run a rest h.1))
 
 -- a run of digits that something else follows is the leading one
-pub leading_run : (a rest : List ℕ) → AllDigits 10 a → prefix_len is_ascii_digit rest ≡ 0 → leading_digits (a ++ rest) ≡ a
-leading_run a rest h z = ap (λ n. take n (a ++ rest)) (let e : prefix_len is_ascii_digit (a ++ rest) ≡ length a = omega (arith, prefix_len-run a rest h) in e) ∙ take-append_seam a rest
+pub leading_run : (a rest : List ℕ) → AllDigits 10 a → prefix_len is_ascii_digit rest ≡ 0
+    → leading_digits (a ++ rest) ≡ a
+leading_run a rest h z =
+    ap (λ n. take n (a ++ rest))
+        (let e : prefix_len is_ascii_digit (a ++ rest) ≡ length a = omega (arith, prefix_len-run a rest h) in e)
+    ∙ take-append_seam a rest
 
 -- and that is what stands after it
-pub after_run : (a rest : List ℕ) → AllDigits 10 a → prefix_len is_ascii_digit rest ≡ 0 → after_digits (a ++ rest) ≡ rest
-after_run a rest h z = ap (λ n. drop n (a ++ rest)) (let e : prefix_len is_ascii_digit (a ++ rest) ≡ length a = omega (arith, prefix_len-run a rest h) in e) ∙ drop-append_seam a rest
+pub after_run : (a rest : List ℕ) → AllDigits 10 a → prefix_len is_ascii_digit rest ≡ 0
+    → after_digits (a ++ rest) ≡ rest
+after_run a rest h z =
+    ap (λ n. drop n (a ++ rest))
+        (let e : prefix_len is_ascii_digit (a ++ rest) ≡ length a = omega (arith, prefix_len-run a rest h) in e)
+    ∙ drop-append_seam a rest
 
 -- the leading digits are digits
 pub leading_are_digits : (text : List ℕ) → AllDigits 10 (leading_digits text)
 leading_are_digits [] = tt
 leading_are_digits (c ∷ text) = go (leading_are_digits text) (is_ascii_digit c) refl
   where
-    go : AllDigits 10 (leading_digits text) → (b : Bool) → is_ascii_digit c ≡ b → AllDigits 10 (take (cond b (1 + prefix_len is_ascii_digit text) 0) (c ∷ text))
-    go more true e = let s : 1 + prefix_len is_ascii_digit text ≡ suc (prefix_len is_ascii_digit text) = omega arith in rw s (true-is_digit c e, more)
+    go : AllDigits 10 (leading_digits text) → (b : Bool) → is_ascii_digit c ≡ b
+        → AllDigits 10 (take (cond b (1 + prefix_len is_ascii_digit text) 0) (c ∷ text))
+    go more true e =
+        let s : 1 + prefix_len is_ascii_digit text ≡ suc (prefix_len is_ascii_digit text) = omega arith in
+        rw s (true-is_digit c e, more)
     go more false e = tt
 
 -- the leading digits and what stands after them are the text
@@ -51,7 +63,9 @@ pub true-all_digits : (ds : List ℕ) → all_ascii_digits ds ≡ true → AllDi
 true-all_digits [] h = tt
 true-all_digits (c ∷ ds) h = go (λ k. true-all_digits ds k) (is_ascii_digit c) refl h
   where
-    go : (all_ascii_digits ds ≡ true → AllDigits 10 ds) → (b : Bool) → is_ascii_digit c ≡ b → (b && all_ascii_digits ds) ≡ true → AllDigits 10 (c ∷ ds)
+    go : (all_ascii_digits ds ≡ true → AllDigits 10 ds) → (b : Bool) → is_ascii_digit c ≡ b
+        → (b && all_ascii_digits ds) ≡ true
+        → AllDigits 10 (c ∷ ds)
     go more true e k = (true-is_digit c e, more k)
     go more false e k = absurd (cc)
 
@@ -65,13 +79,16 @@ pub numeral_takes : (ds : List ℕ) (n : ℕ) → numeral_of ds ≡ Some n → I
 unfolding numeral_of
 numeral_takes ds n h = go (nat_lt 0 (length ds)) refl (all_ascii_digits ds) refl h
   where
-    go : (b : Bool) → nat_lt 0 (length ds) ≡ b → (d : Bool) → all_ascii_digits ds ≡ d → cond (b && d) (Some (digits_value 10 ds)) None ≡ Some n → IsNumeral 10 ds × (n ≡ digits_value 10 ds)
+    go : (b : Bool) → nat_lt 0 (length ds) ≡ b → (d : Bool) → all_ascii_digits ds ≡ d
+        → cond (b && d) (Some (digits_value 10 ds)) None ≡ Some n
+        → IsNumeral 10 ds × (n ≡ digits_value 10 ds)
     go true p true q e = ((let l : 0 < length ds = grind (arith, nat_tests, p) in l, true-all_digits ds q), cc)
     go true p false q e = cc
     go false p d q e = cc
 
 -- ---- exponents
-option_map_takes : {A B : Type 0} (f : A → B) (o : Option A) (y : B) → option_map f o ≡ Some y → (x : A) × (o ≡ Some x) × (f x ≡ y)
+option_map_takes : {A B : Type 0} (f : A → B) (o : Option A) (y : B) → option_map f o ≡ Some y
+    → (x : A) × (o ≡ Some x) × (f x ≡ y)
 option_map_takes f None y h = absurd (cc)
 option_map_takes f (Some x) y h = (x, refl, cc)
 
@@ -85,31 +102,45 @@ not_plus c h = let r = digit_from_value c h in grind (arith, nat_tests, r)
 pub exponent_again : (text : List ℕ) (e : ℤ) → IsExponent text e → exponent_of text ≡ Some e
 unfolding exponent_of
 exponent_again [] e (unsigned n v) = absurd (omega (arith, n.0))
-exponent_again (c ∷ rest) e (unsigned n v) = rw (not_minus c n.1.0, not_plus c n.1.0, numeral_again (c ∷ rest) n, v) refl
+exponent_again (c ∷ rest) e (unsigned n v) =
+    rw (not_minus c n.1.0, not_plus c n.1.0, numeral_again (c ∷ rest) n, v) refl
 exponent_again text e (plus ds t n v) = ap exponent_of t ∙ (rw (numeral_again ds n, v) refl)
 exponent_again text e (minus ds t n v) = ap exponent_of t ∙ (rw (numeral_again ds n, v) refl)
 
 -- an exponent that is found is one of the grammar
 pub exponent_takes : (text : List ℕ) (e : ℤ) → exponent_of text ≡ Some e → IsExponent text e
 unfolding exponent_of
-exponent_takes [] e h = let k = option_map_takes pos (numeral_of []) e h in let n = numeral_takes [] k.0 k.1 in absurd (omega (arith, n.0.0))
+exponent_takes [] e h =
+    let k = option_map_takes pos (numeral_of []) e h in
+    let n = numeral_takes [] k.0 k.1 in
+    absurd (omega (arith, n.0.0))
 exponent_takes (c ∷ rest) e h = go (c == 45) refl (c == 43) refl h
   where
-    go : (m : Bool) → (c == 45) ≡ m → (p : Bool) → (c == 43) ≡ p → cond m (option_map (λ n. neg_ℤ (pos n)) (numeral_of rest)) (cond p (option_map pos (numeral_of rest)) (option_map pos (numeral_of (c ∷ rest)))) ≡ Some e → IsExponent (c ∷ rest) e
-    go true t p s k = let m = option_map_takes (λ n. neg_ℤ (pos n)) (numeral_of rest) e k in let n = numeral_takes rest m.0 m.1 in
+    go : (m : Bool) → (c == 45) ≡ m → (p : Bool) → (c == 43) ≡ p
+        → cond m (option_map (λ n. neg_ℤ (pos n)) (numeral_of rest))
+            (cond p (option_map pos (numeral_of rest)) (option_map pos (numeral_of (c ∷ rest))))
+            ≡ Some e
+        → IsExponent (c ∷ rest) e
+    go true t p s k =
+        let m = option_map_takes (λ n. neg_ℤ (pos n)) (numeral_of rest) e k in
+        let n = numeral_takes rest m.0 m.1 in
         minus rest (ap (λ x. x ∷ rest) (eqb-true c 45 t)) n.0 (sym m.2 ∙ ap (λ x. neg_ℤ (pos x)) n.1)
     go false t true s k = let m = option_map_takes pos (numeral_of rest) e k in let n = numeral_takes rest m.0 m.1 in
         plus rest (ap (λ x. x ∷ rest) (eqb-true c 43 s)) n.0 (sym m.2 ∙ ap pos n.1)
-    go false t false s k = let m = option_map_takes pos (numeral_of (c ∷ rest)) e k in let n = numeral_takes (c ∷ rest) m.0 m.1 in
+    go false t false s k =
+        let m = option_map_takes pos (numeral_of (c ∷ rest)) e k in
+        let n = numeral_takes (c ∷ rest) m.0 m.1 in
         unsigned n.0 (sym m.2 ∙ ap pos n.1)
 
 -- ---- what the grammar allows is found
 -- the parts of a text that begins with digits
-pub parts_split : (a rest : List ℕ) → AllDigits 10 a → prefix_len is_ascii_digit rest ≡ 0 → parts_of (a ++ rest) ≡ after_whole a rest
+pub parts_split : (a rest : List ℕ) → AllDigits 10 a → prefix_len is_ascii_digit rest ≡ 0
+    → parts_of (a ++ rest) ≡ after_whole a rest
 unfolding parts_of
 parts_split a rest h z = λ i. after_whole (leading_run a rest h z i) (after_run a rest h z i)
 
-fraction_split : (w a rest : List ℕ) → AllDigits 10 a → prefix_len is_ascii_digit rest ≡ 0 → after_fraction w (leading_digits (a ++ rest)) (after_digits (a ++ rest)) ≡ after_fraction w a rest
+fraction_split : (w a rest : List ℕ) → AllDigits 10 a → prefix_len is_ascii_digit rest ≡ 0
+    → after_fraction w (leading_digits (a ++ rest)) (after_digits (a ++ rest)) ≡ after_fraction w a rest
 fraction_split w a rest h z = λ i. after_fraction w (leading_run a rest h z i) (after_run a rest h z i)
 
 letter_stops : (c : ℕ) → (c ≡ 101) ⊎ (c ≡ 69) → is_ascii_digit c ≡ false
@@ -127,7 +158,8 @@ not_dot c (inr e) = rw e refl
 positive : (n : ℕ) → 0 < n → nat_lt 0 n ≡ true
 positive n h = grind (arith, nat_tests, h)
 
-found : (w : Written) (a b : List ℕ) (e : Option ℤ) → w.whole ≡ a → w.fraction ≡ b → w.exponent ≡ e → w ≡ record { whole = a; fraction = b; exponent = e }
+found : (w : Written) (a b : List ℕ) (e : Option ℤ) → w.whole ≡ a → w.fraction ≡ b → w.exponent ≡ e
+    → w ≡ record { whole = a; fraction = b; exponent = e }
 found w a b e p q r = λ i. record { whole = p i; fraction = q i; exponent = r i }
 
 -- the parts that the grammar allows are found
@@ -135,11 +167,14 @@ pub parts_again : (text : List ℕ) (w : Written) → Grammar text w → parts_o
 unfolding after_whole after_fraction with_exponent
 parts_again text w g = go g.form
   where
-    exponents : (mantissa exponent : List ℕ) (letter : ℕ) (e : ℤ) → IsMantissa mantissa w.whole w.fraction → (letter ≡ 101) ⊎ (letter ≡ 69) → IsExponent exponent e → w.exponent ≡ Some e → parts_of (mantissa ++ letter ∷ exponent) ≡ Some w
+    exponents : (mantissa exponent : List ℕ) (letter : ℕ) (e : ℤ) → IsMantissa mantissa w.whole w.fraction
+        → (letter ≡ 101) ⊎ (letter ≡ 69) → IsExponent exponent e → w.exponent ≡ Some e
+        → parts_of (mantissa ++ letter ∷ exponent) ≡ Some w
     exponents m x c e (undotted p f t) l n s =
         ap (λ y. parts_of (y ++ c ∷ x)) t
         ∙ parts_split w.whole (c ∷ x) g.whole (rw (letter_stops c l) refl)
-        ∙ (rw (not_dot c l, letter_is c l, positive (length w.whole) p, exponent_again x e n) (ap Some (sym (found w w.whole [] (Some e) refl f s))))
+        ∙ (rw (not_dot c l, letter_is c l, positive (length w.whole) p, exponent_again x e n)
+            (ap Some (sym (found w w.whole [] (Some e) refl f s))))
     exponents m x c e (dotted t) l n s =
         ap (λ y. parts_of (y ++ c ∷ x)) t
         ∙ ap parts_of (append_assoc w.whole (46 ∷ w.fraction) (c ∷ x))
@@ -148,7 +183,10 @@ parts_again text w g = go g.form
         ∙ (rw (letter_is c l, exponent_again x e n) (ap Some (sym (found w w.whole w.fraction (Some e) refl refl s))))
 
     go : Form text w → parts_of text ≡ Some w
-    go (integer p f s t) = ap parts_of (t ∙ sym (append-nil w.whole)) ∙ parts_split w.whole [] g.whole refl ∙ (rw (positive (length w.whole) p) (ap Some (sym (found w w.whole [] None refl f s))))
+    go (integer p f s t) =
+        ap parts_of (t ∙ sym (append-nil w.whole))
+        ∙ parts_split w.whole [] g.whole refl
+        ∙ (rw (positive (length w.whole) p) (ap Some (sym (found w w.whole [] None refl f s))))
     go (decimal p s t) =
         ap parts_of t
         ∙ parts_split w.whole (46 ∷ w.fraction) g.whole refl
@@ -165,47 +203,84 @@ letter_of c h = go (c == 101) refl h
     go true e k = inl (eqb-true c 101 e)
     go false e k = inr (eqb-true c 69 k)
 
-with_exponent_takes : (mantissa whole fraction text : List ℕ) (c : ℕ) (w : Written) → IsMantissa mantissa whole fraction → AllDigits 10 whole → AllDigits 10 fraction → is_letter c ≡ true → with_exponent whole fraction text ≡ Some w → Grammar (mantissa ++ c ∷ text) w
+with_exponent_takes : (mantissa whole fraction text : List ℕ) (c : ℕ) (w : Written)
+    → IsMantissa mantissa whole fraction → AllDigits 10 whole → AllDigits 10 fraction → is_letter c ≡ true
+    → with_exponent whole fraction text ≡ Some w
+    → Grammar (mantissa ++ c ∷ text) w
 unfolding with_exponent
 with_exponent_takes m a b x c w k p q l h =
-    let t = option_map_takes (λ (e : ℤ). let r : Written = record { whole = a; fraction = b; exponent = Some e } in r) (exponent_of x) w h in
-    subst (Grammar (m ++ c ∷ x)) t.2 (record { whole = p; fraction = q; form = scientific m x c t.0 k (letter_of c l) (exponent_takes x t.0 t.1) refl refl })
+    let t =
+        option_map_takes (λ (e : ℤ). let r : Written = record { whole = a; fraction = b; exponent = Some e } in r)
+            (exponent_of x) w h in
+    subst (Grammar (m ++ c ∷ x)) t.2
+        (record {
+          whole = p;
+          fraction = q;
+          form = scientific m x c t.0 k (letter_of c l) (exponent_takes x t.0 t.1) refl refl
+        })
 
-after_fraction_takes : (a b rest : List ℕ) (w : Written) → AllDigits 10 a → AllDigits 10 b → after_fraction a b rest ≡ Some w → Grammar ((a ++ 46 ∷ b) ++ rest) w
+after_fraction_takes : (a b rest : List ℕ) (w : Written) → AllDigits 10 a → AllDigits 10 b
+    → after_fraction a b rest ≡ Some w
+    → Grammar ((a ++ 46 ∷ b) ++ rest) w
 unfolding after_fraction
 after_fraction_takes a b [] w p q h = go (nat_lt 0 (length b)) refl h
   where
-    go : (t : Bool) → nat_lt 0 (length b) ≡ t → cond t (Some (record { whole = a; fraction = b; exponent = None })) None ≡ Some w → Grammar ((a ++ 46 ∷ b) ++ []) w
-    go true t e = let s : record { whole = a; fraction = b; exponent = None } ≡ w = cc in let l : 0 < length b = grind (arith, nat_tests, t) in
-        subst (Grammar ((a ++ 46 ∷ b) ++ [])) s (record { whole = p; fraction = q; form = decimal l refl (append-nil (a ++ 46 ∷ b)) })
+    go : (t : Bool) → nat_lt 0 (length b) ≡ t
+        → cond t (Some (record { whole = a; fraction = b; exponent = None })) None ≡ Some w
+        → Grammar ((a ++ 46 ∷ b) ++ []) w
+    go true t e =
+        let s : record { whole = a; fraction = b; exponent = None } ≡ w = cc in
+        let l : 0 < length b = grind (arith, nat_tests, t) in
+        subst (Grammar ((a ++ 46 ∷ b) ++ [])) s
+            (record { whole = p; fraction = q; form = decimal l refl (append-nil (a ++ 46 ∷ b)) })
     go false t e = absurd (cc)
 after_fraction_takes a b (c ∷ rest) w p q h = go (is_letter c) refl h
   where
-    go : (t : Bool) → is_letter c ≡ t → cond t (with_exponent a b rest) None ≡ Some w → Grammar ((a ++ 46 ∷ b) ++ c ∷ rest) w
+    go : (t : Bool) → is_letter c ≡ t → cond t (with_exponent a b rest) None ≡ Some w
+        → Grammar ((a ++ 46 ∷ b) ++ c ∷ rest) w
     go true t e = with_exponent_takes (a ++ 46 ∷ b) a b rest c w (dotted refl) p q t e
     go false t e = absurd (cc)
 
-after_whole_takes : (a rest : List ℕ) (w : Written) → AllDigits 10 a → after_whole a rest ≡ Some w → Grammar (a ++ rest) w
+after_whole_takes : (a rest : List ℕ) (w : Written) → AllDigits 10 a → after_whole a rest ≡ Some w
+    → Grammar (a ++ rest) w
 unfolding after_whole
 after_whole_takes a [] w p h = go (nat_lt 0 (length a)) refl h
   where
-    go : (t : Bool) → nat_lt 0 (length a) ≡ t → cond t (Some (record { whole = a; fraction = []; exponent = None })) None ≡ Some w → Grammar (a ++ []) w
-    go true t e = let s : record { whole = a; fraction = []; exponent = None } ≡ w = cc in let l : 0 < length a = grind (arith, nat_tests, t) in
+    go : (t : Bool) → nat_lt 0 (length a) ≡ t
+        → cond t (Some (record { whole = a; fraction = []; exponent = None })) None ≡ Some w
+        → Grammar (a ++ []) w
+    go true t e =
+        let s : record { whole = a; fraction = []; exponent = None } ≡ w = cc in
+        let l : 0 < length a = grind (arith, nat_tests, t) in
         subst (Grammar (a ++ [])) s (record { whole = p; fraction = tt; form = integer l refl refl (append-nil a) })
     go false t e = absurd (cc)
 after_whole_takes a (c ∷ rest) w p h = go (c == 46) refl h
   where
-    letters : (t l : Bool) → is_letter c ≡ t → nat_lt 0 (length a) ≡ l → cond (t && l) (with_exponent a [] rest) None ≡ Some w → Grammar (a ++ c ∷ rest) w
-    letters true true t l e = let n : 0 < length a = grind (arith, nat_tests, l) in with_exponent_takes a a [] rest c w (undotted n refl refl) p tt t e
+    letters : (t l : Bool) → is_letter c ≡ t → nat_lt 0 (length a) ≡ l
+        → cond (t && l) (with_exponent a [] rest) None ≡ Some w
+        → Grammar (a ++ c ∷ rest) w
+    letters true true t l e =
+        let n : 0 < length a = grind (arith, nat_tests, l) in
+        with_exponent_takes a a [] rest c w (undotted n refl refl) p tt t e
     letters true false t l e = absurd (cc)
     letters false l t k e = absurd (cc)
 
-    go : (t : Bool) → (c == 46) ≡ t → cond t (after_fraction a (leading_digits rest) (after_digits rest)) (cond (is_letter c && nat_lt 0 (length a)) (with_exponent a [] rest) None) ≡ Some w → Grammar (a ++ c ∷ rest) w
-    go true t e = let s : (a ++ 46 ∷ leading_digits rest) ++ after_digits rest ≡ a ++ c ∷ rest = append_assoc a (46 ∷ leading_digits rest) (after_digits rest) ∙ (λ i. a ++ (sym (eqb-true c 46 t) i) ∷ leading-after rest i) in
-        subst (λ x. Grammar x w) s (after_fraction_takes a (leading_digits rest) (after_digits rest) w p (leading_are_digits rest) e)
+    go : (t : Bool) → (c == 46) ≡ t
+        → cond t (after_fraction a (leading_digits rest) (after_digits rest))
+            (cond (is_letter c && nat_lt 0 (length a)) (with_exponent a [] rest) None)
+            ≡ Some w
+        → Grammar (a ++ c ∷ rest) w
+    go true t e =
+        let s : (a ++ 46 ∷ leading_digits rest) ++ after_digits rest ≡ a ++ c ∷ rest =
+            append_assoc a (46 ∷ leading_digits rest) (after_digits rest)
+            ∙ (λ i. a ++ (sym (eqb-true c 46 t) i) ∷ leading-after rest i) in
+        subst (λ x. Grammar x w) s
+            (after_fraction_takes a (leading_digits rest) (after_digits rest) w p (leading_are_digits rest) e)
     go false t e = letters (is_letter c) (nat_lt 0 (length a)) refl refl e
 
 -- the parts that are found are those of the grammar
 pub parts_takes : (text : List ℕ) (w : Written) → parts_of text ≡ Some w → Grammar text w
 unfolding parts_of
-parts_takes text w h = subst (λ x. Grammar x w) (leading-after text) (after_whole_takes (leading_digits text) (after_digits text) w (leading_are_digits text) h)
+parts_takes text w h =
+    subst (λ x. Grammar x w) (leading-after text)
+        (after_whole_takes (leading_digits text) (after_digits text) w (leading_are_digits text) h)

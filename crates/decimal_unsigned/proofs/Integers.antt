@@ -45,7 +45,11 @@ module _ {ds : List ℕ} {end : ℕ} (e : UpToLast ds end) where
       digits = below_take end ds all_digits;
       front = λ h. rw (get_or-take end ds 0 0 (omega (arith, long))) (e.front (omega (arith, long, e.within)));
       back = λ h. rw (long, get_or-take end ds (end - 1) 0 (omega (arith, long))) (e.found (omega (arith, long)));
-      empty = λ z. elim (cases_lt 0 (length ds)) [ inl h ↦ absurd (omega (arith, some h, long)) | inr h ↦ omega (arith, ints, at) ];
+      empty = λ z.
+          elim (cases_lt 0 (length ds)) [
+            | inl h ↦ absurd (omega (arith, some h, long))
+            | inr h ↦ omega (arith, ints, at)
+          ];
       hi_covers = omega (arith, ints);
       lo_covers = omega (arith, ints, at);
       fits = omega (arith, ints, at, long, e.within, place_is m, place_is (pos 0));
@@ -58,11 +62,22 @@ module _ {ds : List ℕ} {end : ℕ} (e : UpToLast ds end) where
     number_over : (b : ℕ) → b ≡ 0 → number_of (take end ds) m ≡ number_from_digits 10 ds * 10 ^ (32768 - b)
     number_over b z = elim (cases_lt 0 (length ds)) [
       | inl h ↦
-          let inner : IsInner ds 0 end = record { ordered = some h; within = e.within; before = λ k p. absurd (omega arith); after = e.zeros; front = e.front h; back = e.found (some h) } in
+          let inner : IsInner ds 0 end =
+              record {
+                ordered = some h;
+                within = e.within;
+                before = λ k p. absurd (omega arith);
+                after = e.zeros;
+                front = e.front h;
+                back = e.found (some h)
+              } in
           let all : middle 0 end ds ≡ take end ds = ap (λ n. take n ds) (let k : end - 0 ≡ end = omega arith in k) in
-          ap (λ l. number_of l m) (sym all) ∙ number_of-middle ds 0 end (length ds) b m inner (omega arith) (omega arith) (omega (arith, ints, at, h, place_is m))
+          ap (λ l. number_of l m) (sym all)
+          ∙ number_of-middle ds 0 end (length ds) b m inner (omega arith) (omega arith)
+              (omega (arith, ints, at, h, place_is m))
       | inr h ↦
-          let n : number_from_digits 10 ds ≡ 0 = omega (arith, number_lt 10 ds all_digits, ap (λ k. 10 ^ k) (let k : length ds ≡ 0 = omega arith in k)) in
+          let n : number_from_digits 10 ds ≡ 0 =
+              omega (arith, number_lt 10 ds all_digits, ap (λ k. 10 ^ k) (let k : length ds ≡ 0 = omega arith in k)) in
           number_of-none whole_stored (omega (arith, long, e.within)) ∙ (rw n (omega arith))
     ]
 
@@ -71,11 +86,17 @@ module _ {ds : List ℕ} {end : ℕ} (e : UpToLast ds end) where
     whole_number = go 0 refl
       where
         go : (b : ℕ) → b ≡ 0 → number_of (take end ds) m ≡ number_from_digits 10 ds * weight (pos 0)
-        go b z = number_over b z ∙ ap (λ k. number_from_digits 10 ds * 10 ^ k) (let k : 32768 - b ≡ place (pos 0) = omega (arith, ints, place_is (pos 0)) in k)
+        go b z =
+            number_over b z
+            ∙ ap (λ k. number_from_digits 10 ds * 10 ^ k)
+                (let k : 32768 - b ≡ place (pos 0) = omega (arith, ints, place_is (pos 0)) in k)
 
     -- they make its value
-    pub whole_value : record { number = number_of (take end ds) m; hi = m; lo = pos 0 } ≡ integer_value (number_from_digits 10 ds)
-    whole_value = let f = sym (first_of whole_stored) ∙ ap first whole_number in λ i. record { number = whole_number i; hi = f i; lo = pos 0 }
+    pub whole_value : record { number = number_of (take end ds) m; hi = m; lo = pos 0 }
+        ≡ integer_value (number_from_digits 10 ds)
+    whole_value =
+        let f = sym (first_of whole_stored) ∙ ap first whole_number in
+        λ i. record { number = whole_number i; hi = f i; lo = pos 0 }
 
     -- and are as many as its number has
     pub whole_size : length (take end ds) ≡ size (number_from_digits 10 ds * weight (pos 0))
@@ -83,8 +104,10 @@ module _ {ds : List ℕ} {end : ℕ} (e : UpToLast ds end) where
 
 -- ---- the digits of an integer, at the end of 39 places
 -- the digits from start to the end of the places
-pub digits_at_end : (places : List ℕ) (start n : ℕ) → drop start places ≡ digits_of 10 n → length places ≡ 39 → take (39 - start) (drop start places) ≡ digits_of 10 n
-digits_at_end places start n e l = take_all (39 - start) (drop start places) (omega (arith, l, length-drop start places)) ∙ e
+pub digits_at_end : (places : List ℕ) (start n : ℕ) → drop start places ≡ digits_of 10 n → length places ≡ 39
+    → take (39 - start) (drop start places) ≡ digits_of 10 n
+digits_at_end places start n e l =
+    take_all (39 - start) (drop start places) (omega (arith, l, length-drop start places)) ∙ e
 
 -- the digits of an integer are below ten
 pub digits_of-below : (n : ℕ) → All (λ d. d < 10) (digits_of 10 n)
@@ -103,5 +126,8 @@ first_power k h = first_is (10 ^ k) k (omega arith) (omega (arith, ten_pos k, po
 pub integer_value-one : integer_value 1 ≡ one_value
 integer_value-one =
     let n : 1 * weight (pos 0) ≡ weight (pos 0) = omega arith in
-    let f = ap first n ∙ first_power (place (pos 0)) (omega (arith, ints, place_is (pos 0))) ∙ magnitude_at-place (pos 0) (omega (arith, ints)) in
+    let f =
+        ap first n
+        ∙ first_power (place (pos 0)) (omega (arith, ints, place_is (pos 0)))
+        ∙ magnitude_at-place (pos 0) (omega (arith, ints)) in
     λ i. record { number = n i; hi = f i; lo = pos 0 }

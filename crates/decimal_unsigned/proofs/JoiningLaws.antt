@@ -45,12 +45,14 @@ more_in_sum : (m n : ℕ) → 0 < n → nat_lt 0 (m + n) ≡ nat_lt 0 n
 more_in_sum m n h = grind (arith, nat_tests)
 
 -- what is joined in front of a number does not change where that number ends
-front_absorbed : (u v w : Unsigned) → IsValue u → IsValue v → 0 < v.number → overlaps u v ≡ false → overlaps (joined u v) w ≡ overlaps v w
+front_absorbed : (u v w : Unsigned) → IsValue u → IsValue v → 0 < v.number → overlaps u v ≡ false
+    → overlaps (joined u v) w ≡ overlaps v w
 unfolding overlaps
 front_absorbed u v w p q n f = rw (more_in_sum u.number v.number n, last_joined u v p q f n) refl
 
 -- and what is joined behind it, where it begins
-back_absorbed : (u v w : Unsigned) → IsValue v → IsValue w → 0 < v.number → overlaps v w ≡ false → overlaps u (joined v w) ≡ overlaps u v
+back_absorbed : (u v w : Unsigned) → IsValue v → IsValue w → 0 < v.number → overlaps v w ≡ false
+    → overlaps u (joined v w) ≡ overlaps u v
 unfolding overlaps
 back_absorbed u v w p q n f = rw (some_in_sum v.number w.number n, first_joined v w p q f n) refl
 
@@ -66,7 +68,8 @@ module _ (u v w : Unsigned) (p : IsValue u) (q : IsValue v) (r : IsValue w) wher
         rw (overlaps_second_zero u v z, overlaps_first_zero v w z, a, b) refl
   ]
     where
-      go : 0 < v.number → (a : Bool) → overlaps u v ≡ a → (b : Bool) → overlaps v w ≡ b → (a || overlaps (joined u v) w) ≡ (b || overlaps u (joined v w))
+      go : 0 < v.number → (a : Bool) → overlaps u v ≡ a → (b : Bool) → overlaps v w ≡ b
+          → (a || overlaps (joined u v) w) ≡ (b || overlaps u (joined v w))
       go n true e true f = refl
       go n true e false f = sym (back_absorbed u v w q r n f ∙ e)
       go n false e true f = front_absorbed u v w p q n e ∙ f
@@ -88,7 +91,8 @@ module _ (u v w : Unsigned) (p : IsValue u) (q : IsValue v) (r : IsValue w) wher
       ∙ sym (both (overlaps v w) (overlaps u (joined v w)) (joined u (joined v w)))
       ∙ sym (bound (overlaps v w) (λ x. join u x) (joined v w))
     where
-      bound : (t : Bool) (f : Unsigned → Option Unsigned) (x : Unsigned) → option_and_then f (cond t None (Some x)) ≡ cond t None (f x)
+      bound : (t : Bool) (f : Unsigned → Option Unsigned) (x : Unsigned)
+          → option_and_then f (cond t None (Some x)) ≡ cond t None (f x)
       bound true f x = refl
       bound false f x = refl
 
@@ -112,9 +116,13 @@ module _ (v t : Unsigned) (p : ℤ) (valid : IsValue v) (e : t.number ≡ v.numb
   parts_number = ap (λ n. n + v.number % weight p) e ∙ parts_sum v.number (place p) (place v.hi + 1) valid.below high
 
   -- and their ranges, where the position lies in the range or at one of its ends
-  pub parts_value : t.hi ≡ int_max (int_max v.hi (p -ℤ pos 1)) (first t.number) → t.lo ≡ int_min p (pos 0) → v.lo ≤ℤ p → p ≤ℤ (v.hi +ℤ pos 1) → joined t (cut v p) ≡ v
+  pub parts_value : t.hi ≡ int_max (int_max v.hi (p -ℤ pos 1)) (first t.number) → t.lo ≡ int_min p (pos 0)
+      → v.lo ≤ℤ p → p ≤ℤ (v.hi +ℤ pos 1)
+      → joined t (cut v p) ≡ v
   parts_value hi lo above below =
-      let f : first t.number ≤ℤ v.hi = first_le t.number v.hi (omega (arith, valid.below, e)) valid.hi_in.0 valid.hi_in.1 in
-      let h : int_max t.hi (int_max (p -ℤ pos 1) (pos 0)) ≡ v.hi = omega (arith, ints, clamps, hi, f, below, valid.hi_in) in
+      let f : first t.number ≤ℤ v.hi =
+          first_le t.number v.hi (omega (arith, valid.below, e)) valid.hi_in.0 valid.hi_in.1 in
+      let h : int_max t.hi (int_max (p -ℤ pos 1) (pos 0)) ≡ v.hi =
+          omega (arith, ints, clamps, hi, f, below, valid.hi_in) in
       let l : int_min t.lo (int_min v.lo p) ≡ v.lo = omega (arith, ints, clamps, lo, above, valid.lo_in) in
       λ i. record { number = parts_number i; hi = h i; lo = l i }

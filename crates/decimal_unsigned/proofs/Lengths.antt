@@ -8,7 +8,8 @@ use Rattle.decimal_digits.specs.Number.{digit}
 use Rattle.decimal_unsigned.specs.Unsigned.{Unsigned, IsValue}
 use Rattle.decimal_unsigned.specs.Text.{dot_before, text_down, text}
 
-more : (number : ℕ) (m : ℤ) (n : ℕ) → length (text_down number m (suc n)) ≡ length (dot_before m) + 1 + length (text_down number (m -ℤ pos 1) n)
+more : (number : ℕ) (m : ℤ) (n : ℕ)
+    → length (text_down number m (suc n)) ≡ length (dot_before m) + 1 + length (text_down number (m -ℤ pos 1) n)
 unfolding text_down
 more number m n =
     length-append (dot_before m ++ (48 + digit number m) ∷ []) (text_down number (m -ℤ pos 1) n)
@@ -22,9 +23,12 @@ below_dot : (number k n : ℕ) → length (text_down number (negsuc (suc k)) n) 
 below_dot number k zero = none number (negsuc (suc k))
 below_dot number k (suc n) =
     let s : negsuc (suc k) -ℤ pos 1 ≡ negsuc (suc (suc k)) = omega (arith, ints) in
-    more number (negsuc (suc k)) n ∙ ap (λ m. 1 + length (text_down number m n)) s ∙ (omega (arith, below_dot number (suc k) n))
+    more number (negsuc (suc k)) n
+    ∙ ap (λ m. 1 + length (text_down number m n)) s
+    ∙ (omega (arith, below_dot number (suc k) n))
 
-above_dot : (number h n : ℕ) → length (text_down number (pos h) (suc h + n)) ≡ suc h + length (text_down number (negsuc 0) n)
+above_dot : (number h n : ℕ)
+    → length (text_down number (pos h) (suc h + n)) ≡ suc h + length (text_down number (negsuc 0) n)
 above_dot number zero n =
     let e : suc zero + n ≡ suc n = omega arith in
     ap (λ k. length (text_down number (pos 0) k)) e ∙ more number (pos 0) n
@@ -45,22 +49,28 @@ from_dot number b =
 pub length-text_whole : (v : Unsigned) → pos 0 ≤ℤ v.hi → v.lo ≡ pos 0 → length (text v) ≡ int_gap v.lo v.hi + 1
 length-text_whole v h l = go v.hi h (ap (λ lo. int_gap lo v.hi + 1) l)
   where
-    go : (hi : ℤ) → pos 0 ≤ℤ hi → int_gap v.lo hi + 1 ≡ int_gap (pos 0) hi + 1 → length (text_down v.number hi (int_gap v.lo hi + 1)) ≡ int_gap v.lo hi + 1
+    go : (hi : ℤ) → pos 0 ≤ℤ hi → int_gap v.lo hi + 1 ≡ int_gap (pos 0) hi + 1
+        → length (text_down v.number hi (int_gap v.lo hi + 1)) ≡ int_gap v.lo hi + 1
     go (negsuc n) p e = absurd (omega (arith, ints))
     go (pos n) p e =
         let k : int_gap v.lo (pos n) + 1 ≡ suc n + 0 = omega (arith, ints, e) in
-        ap (λ c. length (text_down v.number (pos n) c)) k ∙ above_dot v.number n 0 ∙ (omega (arith, none v.number (negsuc 0), k))
+        ap (λ c. length (text_down v.number (pos n) c)) k
+        ∙ above_dot v.number n 0
+        ∙ (omega (arith, none v.number (negsuc 0), k))
 
 -- and one more for the dot
 pub length-text_dotted : (v : Unsigned) → pos 0 ≤ℤ v.hi → v.lo <ℤ pos 0 → length (text v) ≡ int_gap v.lo v.hi + 1 + 1
 length-text_dotted v h l = go v.hi v.lo h l
   where
-    go : (hi lo : ℤ) → pos 0 ≤ℤ hi → lo <ℤ pos 0 → length (text_down v.number hi (int_gap lo hi + 1)) ≡ int_gap lo hi + 1 + 1
+    go : (hi lo : ℤ) → pos 0 ≤ℤ hi → lo <ℤ pos 0
+        → length (text_down v.number hi (int_gap lo hi + 1)) ≡ int_gap lo hi + 1 + 1
     go (negsuc n) lo p q = absurd (omega (arith, ints))
     go (pos n) (pos k) p q = absurd (omega (arith, ints))
     go (pos n) (negsuc b) p q =
         let k : int_gap (negsuc b) (pos n) + 1 ≡ suc n + suc b = omega (arith, ints) in
-        ap (λ c. length (text_down v.number (pos n) c)) k ∙ above_dot v.number n (suc b) ∙ (omega (arith, from_dot v.number b, k))
+        ap (λ c. length (text_down v.number (pos n) c)) k
+        ∙ above_dot v.number n (suc b)
+        ∙ (omega (arith, from_dot v.number b, k))
 
 gap_small : (lo hi : ℤ) → pos 0 ≤ℤ hi → hi ≤ℤ pos 32767 → negsuc 32767 ≤ℤ lo → lo ≤ℤ pos 0 → int_gap lo hi ≤ 65535
 gap_small lo (negsuc n) p q r s = absurd (omega (arith, ints))

@@ -21,7 +21,8 @@ pub number_zeros : (ds : List ℕ) → ((k : ℕ) → k < length ds → get_or d
 number_zeros [] h = refl
 number_zeros (d ∷ ds) h =
     let z : d ≡ 0 = h 0 (omega arith) in
-    let e : number_from_digits 10 (d ∷ ds) ≡ (0 * 10 + d) * 10 ^ length ds + number_from_digits 10 ds = after_is (0 * 10 + d) ds in
+    let e : number_from_digits 10 (d ∷ ds) ≡ (0 * 10 + d) * 10 ^ length ds + number_from_digits 10 ds =
+        after_is (0 * 10 + d) ds in
     let r = number_zeros ds (λ k l. h (suc k) (omega arith)) in
     rw (e, r, z) (omega arith)
 
@@ -38,11 +39,20 @@ module _ (ds : List ℕ) (start end : ℕ) (n : IsInner ds start end) where
   pub number_middle : number_from_digits 10 ds ≡ number_from_digits 10 (middle start end ds) * 10 ^ (length ds - end)
   number_middle =
       let a = number_split start ds (omega (arith, n.ordered, n.within)) in
-      let z : number_from_digits 10 (take start ds) ≡ 0 = number_zeros (take start ds) (λ k h. let l : k < start = omega (arith, length-take start ds) in get_or-take start ds k 0 l ∙ n.before k l) in
+      let z : number_from_digits 10 (take start ds) ≡ 0 =
+          number_zeros (take start ds)
+              (λ k h.
+                  let l : k < start = omega (arith, length-take start ds) in
+                  get_or-take start ds k 0 l ∙ n.before k l) in
       let m : end - start ≤ length (drop start ds) = omega (arith, n.ordered, n.within, length-drop start ds) in
       let b = number_split (end - start) (drop start ds) m in
-      let y : number_from_digits 10 (drop (end - start) (drop start ds)) ≡ 0 = number_zeros (drop (end - start) (drop start ds)) (λ k h. get_or-drop (end - start) (drop start ds) k 0 ∙ get_or-drop start ds (end - start + k) 0 ∙ n.after (start + (end - start + k)) (omega (arith, n.ordered))) in
-      let k : length (drop start ds) - (end - start) ≡ length ds - end = omega (arith, n.ordered, n.within, length-drop start ds) in
+      let y : number_from_digits 10 (drop (end - start) (drop start ds)) ≡ 0 =
+          number_zeros (drop (end - start) (drop start ds))
+              (λ k h. get_or-drop (end - start) (drop start ds) k 0
+                  ∙ get_or-drop start ds (end - start + k) 0
+                  ∙ n.after (start + (end - start + k)) (omega (arith, n.ordered))) in
+      let k : length (drop start ds) - (end - start) ≡ length ds - end =
+          omega (arith, n.ordered, n.within, length-drop start ds) in
       a ∙ (rw (z, b, y, k) (omega arith))
 
   -- they are below ten
@@ -50,22 +60,34 @@ module _ (ds : List ℕ) (start end : ℕ) (n : IsInner ds start end) where
   middle_below h = below_take (end - start) (drop start ds) (below_drop start ds h)
 
 -- the same of a places in front of the dot and b behind it
-pub number_of-middle : (ds : List ℕ) (start end a b : ℕ) (m : ℤ) → IsInner ds start end → length ds ≡ a + b → b ≤ 32768 → place m + (start + 1) ≡ 32768 + a → number_of (middle start end ds) m ≡ number_from_digits 10 ds * 10 ^ (32768 - b)
+pub number_of-middle : (ds : List ℕ) (start end a b : ℕ) (m : ℤ) → IsInner ds start end → length ds ≡ a + b
+    → b ≤ 32768 → place m + (start + 1) ≡ 32768 + a
+    → number_of (middle start end ds) m ≡ number_from_digits 10 ds * 10 ^ (32768 - b)
 unfolding number_of number_at
 number_of-middle ds start end a b m n whole few p =
     let l = middle_length ds start end n in
-    let k : place m + 1 - length (middle start end ds) ≡ (length ds - end) + (32768 - b) = omega (arith, n.ordered, n.within) in
-    let e : number_from_digits 10 (middle start end ds) * 10 ^ (place m + 1 - length (middle start end ds)) ≡ (number_from_digits 10 (middle start end ds) * 10 ^ (length ds - end)) * 10 ^ (32768 - b) = rw (k, pow-add 10 (length ds - end) (32768 - b)) (omega arith) in
+    let k : place m + 1 - length (middle start end ds) ≡ (length ds - end) + (32768 - b) =
+        omega (arith, n.ordered, n.within) in
+    let e : number_from_digits 10 (middle start end ds) * 10 ^ (place m + 1 - length (middle start end ds))
+            ≡ (number_from_digits 10 (middle start end ds) * 10 ^ (length ds - end)) * 10 ^ (32768 - b) =
+        rw (k, pow-add 10 (length ds - end) (32768 - b)) (omega arith) in
     e ∙ ap (λ x. x * 10 ^ (32768 - b)) (sym (number_middle ds start end n))
 
 -- the digits between the zeros, as a value holds them
-pub stored_middle : (ds : List ℕ) (start end a b : ℕ) (m : ℤ) → IsInner ds start end → AllBelowBase 10 ds → length ds ≡ a + b → a ≤ 32768 → b ≤ 32768 → m ≡ (pos a -ℤ pos 1) -ℤ pos start → IsStored (middle start end ds) m (pos (a - 1)) (pos 0 -ℤ pos b)
+pub stored_middle : (ds : List ℕ) (start end a b : ℕ) (m : ℤ) → IsInner ds start end → AllBelowBase 10 ds
+    → length ds ≡ a + b → a ≤ 32768 → b ≤ 32768 → m ≡ (pos a -ℤ pos 1) -ℤ pos start
+    → IsStored (middle start end ds) m (pos (a - 1)) (pos 0 -ℤ pos b)
 stored_middle ds start end a b m n d whole many few e =
     let l = middle_length ds start end n in
     record {
       digits = middle_below ds start end n d;
-      front = λ h. rw (middle_at ds start end n 0 (omega arith)) (subst (λ i. 0 < get_or ds i 0) (let k : start ≡ start + 0 = omega arith in k) n.front);
-      back = λ h. rw (l, middle_at ds start end n (end - start - 1) (omega arith)) (subst (λ i. 0 < get_or ds i 0) (let k : end - 1 ≡ start + (end - start - 1) = omega (arith, n.ordered) in k) n.back);
+      front = λ h.
+          rw (middle_at ds start end n 0 (omega arith))
+              (subst (λ i. 0 < get_or ds i 0) (let k : start ≡ start + 0 = omega arith in k) n.front);
+      back = λ h.
+          rw (l, middle_at ds start end n (end - start - 1) (omega arith))
+              (subst (λ i. 0 < get_or ds i 0)
+                  (let k : end - 1 ≡ start + (end - start - 1) = omega (arith, n.ordered) in k) n.back);
       empty = λ z. absurd (omega (arith, n.ordered));
       hi_covers = omega (arith, ints, e);
       lo_covers = omega (arith, ints, e, n.ordered, n.within);
@@ -76,7 +98,10 @@ stored_middle ds start end a b m n d whole many few e =
     }
 
 -- what the two searches found
-pub inner : (ds : List ℕ) (start end : ℕ) → 0 < end → end ≤ length ds → ((k : ℕ) → k < start → get_or ds k 0 ≡ 0) → (start < length ds → 0 < get_or ds start 0) → ((k : ℕ) → end ≤ k → get_or ds k 0 ≡ 0) → (0 < end → 0 < get_or ds (end - 1) 0) → IsInner ds start end
+pub inner : (ds : List ℕ) (start end : ℕ) → 0 < end → end ≤ length ds → ((k : ℕ) → k < start → get_or ds k 0 ≡ 0)
+    → (start < length ds → 0 < get_or ds start 0) → ((k : ℕ) → end ≤ k → get_or ds k 0 ≡ 0)
+    → (0 < end → 0 < get_or ds (end - 1) 0)
+    → IsInner ds start end
 inner ds start end p w before front after back =
     let s : start < end = elim (cases_lt (end - 1) start) [
       | inl h ↦ absurd (omega (arith, before (end - 1) h, back p))
@@ -85,19 +110,24 @@ inner ds start end p w before front after back =
     record { ordered = s; within = w; before = before; after = after; front = front (omega arith); back = back p }
 
 -- ---- The digits of two lists, one behind the other.
-middle_front : (a b : List ℕ) (start end : ℕ) → start ≤ end → end ≤ length a → middle start end (a ++ b) ≡ middle start end a
+middle_front : (a b : List ℕ) (start end : ℕ) → start ≤ end → end ≤ length a
+    → middle start end (a ++ b) ≡ middle start end a
 middle_front a b start end p q =
     let s : start ≤ length a = omega arith in
     rw (drop-append-le start a b s) (take-append-le (end - start) (drop start a) b (omega (arith, length-drop start a)))
 
-middle_both : (a b : List ℕ) (start end : ℕ) → start ≤ length a → length a ≤ end → middle start end (a ++ b) ≡ drop start a ++ take (end - length a) b
+middle_both : (a b : List ℕ) (start end : ℕ) → start ≤ length a → length a ≤ end
+    → middle start end (a ++ b) ≡ drop start a ++ take (end - length a) b
 middle_both a b start end p q =
     let n : end - start ≡ length (drop start a) + (end - length a) = omega (arith, length-drop start a) in
     rw (drop-append-le start a b p, n) (take-append-add (drop start a) b (end - length a))
 
-middle_behind : (a b : List ℕ) (start end : ℕ) → length a ≤ start → middle start end (a ++ b) ≡ middle (start - length a) (end - length a) b
+middle_behind : (a b : List ℕ) (start end : ℕ) → length a ≤ start
+    → middle start end (a ++ b) ≡ middle (start - length a) (end - length a) b
 middle_behind a b start end p =
-    let d : drop start (a ++ b) ≡ drop (start - length a) b = (let k : start ≡ length a + (start - length a) = omega arith in ap (λ k. drop k (a ++ b)) k) ∙ drop-append-add a b (start - length a) in
+    let d : drop start (a ++ b) ≡ drop (start - length a) b =
+        (let k : start ≡ length a + (start - length a) = omega arith in ap (λ k. drop k (a ++ b)) k)
+        ∙ drop-append-add a b (start - length a) in
     let n : end - start ≡ (end - length a) - (start - length a) = omega arith in
     rw (d, n) refl
 
@@ -115,7 +145,8 @@ middle_append a b start end p = elim (cases_lt (length a) end) [
         let s : min start (length a) ≡ start = omega arith in
         let e : min end (length a) ≡ length a = omega arith in
         let z : start - length a ≡ 0 = omega arith in
-        let whole : middle start (length a) a ≡ drop start a = take_all (length a - start) (drop start a) (omega (arith, length-drop start a)) in
+        let whole : middle start (length a) a ≡ drop start a =
+            take_all (length a - start) (drop start a) (omega (arith, length-drop start a)) in
         let y : (end - length a) - 0 ≡ end - length a = omega arith in
         rw (s, e, z, whole, y) (middle_both a b start end r (omega arith))
     | inl r ↦
@@ -127,13 +158,16 @@ middle_append a b start end p = elim (cases_lt (length a) end) [
 ]
 
 middle-map : (f : ℕ → ℕ) (start end : ℕ) (xs : List ℕ) → map f (middle start end xs) ≡ middle start end (map f xs)
-middle-map f start end xs = sym (take-map f (end - start) (drop start xs)) ∙ ap (take (end - start)) (sym (drop-map f start xs))
+middle-map f start end xs =
+    sym (take-map f (end - start) (drop start xs)) ∙ ap (take (end - start)) (sym (drop-map f start xs))
 
 -- the same of two texts and the digits that they write
 pub middle_written : (a b : List ℕ) (start end : ℕ) → start ≤ end
-    → map digit_value (middle (min start (length a)) (min end (length a)) a) ++ map digit_value (middle (start - length a) (end - length a) b)
+    → map digit_value (middle (min start (length a)) (min end (length a)) a)
+        ++ map digit_value (middle (start - length a) (end - length a) b)
     ≡ middle start end (map digit_value (a ++ b))
 middle_written a b start end p =
     let l : length (map digit_value a) ≡ length a = length-map a digit_value in
-    rw (middle-map digit_value (min start (length a)) (min end (length a)) a, middle-map digit_value (start - length a) (end - length a) b, map-append digit_value a b)
-    (sym (rw l at (middle_append (map digit_value a) (map digit_value b) start end p)))
+    rw (middle-map digit_value (min start (length a)) (min end (length a)) a,
+        middle-map digit_value (start - length a) (end - length a) b, map-append digit_value a b)
+        (sym (rw l at (middle_append (map digit_value a) (map digit_value b) start end p)))

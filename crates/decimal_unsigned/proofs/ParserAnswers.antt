@@ -23,7 +23,9 @@ tested false x y p q = q
 scaled_values : (v : Unsigned) (e : Option ℤ) → Values (scaled v e)
 unfolding scaled
 scaled_values v None = inl (v, refl)
-scaled_values v (Some e) = tested (v.number == 0) _ _ (inl (v, refl)) (tested (is_outside e || leaves_limits v e) _ _ (inr refl) (inl (_, refl)))
+scaled_values v (Some e) =
+    tested (v.number == 0) _ _ (inl (v, refl))
+        (tested (is_outside e || leaves_limits v e) _ _ (inr refl) (inl (_, refl)))
 
 value_of_values : (w : Written) → Values (value_of w)
 unfolding value_of
@@ -38,7 +40,8 @@ unfolding read value_or_syntax
 read_grammar text w g = ap value_or_syntax (parts_again text w g)
 
 -- what is not refused for its syntax has parts
-pub grammar_if : (text : List ℕ) → ¬ (read text ≡ Err syntax) → (w : Written) × Grammar text w × (read text ≡ value_of w)
+pub grammar_if : (text : List ℕ) → ¬ (read text ≡ Err syntax)
+    → (w : Written) × Grammar text w × (read text ≡ value_of w)
 unfolding read value_or_syntax
 grammar_if text n = go (parts_of text) refl
   where
@@ -51,7 +54,8 @@ pub syntax_is : (text : List ℕ) → (read text ≡ Err syntax) ↔ ((w : Writt
 unfolding read value_or_syntax
 syntax_is text = (λ e w g. not_syntax w (sym (read_grammar text w g) ∙ e), λ n. go n (parts_of text) refl)
   where
-    go : ((w : Written) → ¬ Grammar text w) → (o : Option Written) → parts_of text ≡ o → value_or_syntax (parts_of text) ≡ Err syntax
+    go : ((w : Written) → ¬ Grammar text w) → (o : Option Written) → parts_of text ≡ o
+        → value_or_syntax (parts_of text) ≡ Err syntax
     go n None e = ap value_or_syntax e
     go n (Some w) e = absurd (n w (parts_takes text w e))
 
@@ -73,25 +77,33 @@ value_is text v e = let k = grammar_if text (λ s. let never : ⊥ = cc in never
 -- ---- What a parser answered.
 
 -- it answers Syntax exactly where reading comes to that
-pub answers_syntax : {V : Type 0} (wants : V → Type 0) (r : Result V ParseError) (q : Result V Fault) → Answers wants r q → (r ≡ Err Syntax) ↔ (q ≡ Err syntax)
+pub answers_syntax : {V : Type 0} (wants : V → Type 0) (r : Result V ParseError) (q : Result V Fault)
+    → Answers wants r q
+    → (r ≡ Err Syntax) ↔ (q ≡ Err syntax)
 answers_syntax wants (Ok v) q a = (λ e. absurd (cc), λ e. absurd (cc))
 answers_syntax wants (Err Limit) q a = (λ e. absurd (cc), λ e. absurd (cc))
 answers_syntax wants (Err Syntax) q a = (λ e. a, λ e. refl)
 answers_syntax wants (Err Memory) q a = (λ e. absurd (cc), λ e. absurd (rw e at a))
 
 -- and Limit exactly where it comes to that
-pub answers_limit : {V : Type 0} (wants : V → Type 0) (r : Result V ParseError) (q : Result V Fault) → Answers wants r q → (r ≡ Err Limit) ↔ (q ≡ Err limit)
+pub answers_limit : {V : Type 0} (wants : V → Type 0) (r : Result V ParseError) (q : Result V Fault)
+    → Answers wants r q
+    → (r ≡ Err Limit) ↔ (q ≡ Err limit)
 answers_limit wants (Ok v) q a = (λ e. absurd (cc), λ e. absurd (cc))
 answers_limit wants (Err Limit) q a = (λ e. a, λ e. refl)
 answers_limit wants (Err Syntax) q a = (λ e. absurd (cc), λ e. absurd (cc))
 answers_limit wants (Err Memory) q a = (λ e. absurd (cc), λ e. absurd (rw e at a))
 
-answers_value : (wants : Unsigned → Type 0) (text : List ℕ) (r : Result Unsigned ParseError) → Answers wants r (read text) → IfOk r (λ v. (w : Written) × Grammar text w × (value_of w ≡ Ok v))
+answers_value : (wants : Unsigned → Type 0) (text : List ℕ) (r : Result Unsigned ParseError)
+    → Answers wants r (read text)
+    → IfOk r (λ v. (w : Written) × Grammar text w × (value_of w ≡ Ok v))
 answers_value wants text (Ok v) a = value_is text v a
 answers_value wants text (Err e) a = tt
 
 -- what answers as reading does answers by the grammar
-pub answers_grammar : (wants : Unsigned → Type 0) (text : List ℕ) (r : Result Unsigned ParseError) → Answers wants r (read text) → AnswersGrammar text r
+pub answers_grammar : (wants : Unsigned → Type 0) (text : List ℕ) (r : Result Unsigned ParseError)
+    → Answers wants r (read text)
+    → AnswersGrammar text r
 answers_grammar wants text r a =
     let s = answers_syntax wants r (read text) a in
     let t = syntax_is text in
@@ -104,5 +116,6 @@ answers_grammar wants text r a =
     }
 
 -- how many digits lie from start up to end
-pub middle_long : (start end : ℕ) (ds : List ℕ) → start ≤ end → end ≤ length ds → length (middle start end ds) ≡ end - start
+pub middle_long : (start end : ℕ) (ds : List ℕ) → start ≤ end → end ≤ length ds
+    → length (middle start end ds) ≡ end - start
 middle_long start end ds p q = length-take-le (end - start) (drop start ds) (omega (arith, length-drop start ds))

@@ -24,7 +24,9 @@ use Rattle.decimal_unsigned.specs.Placing.{digits_of, middle, Placed, IsInner, M
 use Rattle.decimal_unsigned.proofs.Middle.{number_zeros, middle_length, number_of-middle, stored_middle}
 
 -- the same digits, of which others are shown
-pub shown : {ds : List ℕ} {m hi lo : ℤ} (hi' lo' : ℤ) → IsStored ds m hi lo → 0 < length ds → m ≤ℤ hi' → pos 0 ≤ℤ hi' → hi' ≤ℤ pos 32767 → lo' ≤ℤ (m -ℤ pos (length ds - 1)) → lo' ≤ℤ pos 0 → negsuc 32767 ≤ℤ lo' → IsStored ds m hi' lo'
+pub shown : {ds : List ℕ} {m hi lo : ℤ} (hi' lo' : ℤ) → IsStored ds m hi lo → 0 < length ds → m ≤ℤ hi'
+    → pos 0 ≤ℤ hi' → hi' ≤ℤ pos 32767 → lo' ≤ℤ (m -ℤ pos (length ds - 1)) → lo' ≤ℤ pos 0 → negsuc 32767 ≤ℤ lo'
+    → IsStored ds m hi' lo'
 shown {ds} {m} {hi} {lo} hi' lo' t p a b c d e f = record {
   digits = t.digits;
   front = t.front;
@@ -56,24 +58,37 @@ or_true : (b : Bool) → (b || true) ≡ true
 or_true true = refl
 or_true false = refl
 
-out_of_reach : (a : Bool) (x y : ℤ) → (pos 32767 <ℤ x) ⊎ (y <ℤ negsuc 32767) → (a || (int_lt (pos 32767) x || int_lt y (negsuc 32767))) ≡ true
+out_of_reach : (a : Bool) (x y : ℤ) → (pos 32767 <ℤ x) ⊎ (y <ℤ negsuc 32767)
+    → (a || (int_lt (pos 32767) x || int_lt y (negsuc 32767))) ≡ true
 out_of_reach a x y (inl h) = rw (over x h) (or_true a)
 out_of_reach a x y (inr h) = rw (under y h, or_true (int_lt (pos 32767) x)) (or_true a)
 
 -- what is shown of digits that begin at x, of a range up to h
-upper_is : (x h h' : ℤ) → h' ≡ (if int_lt (pos 0) x then x else int_max h (pos 0)) → x ≤ℤ h → h ≤ℤ pos 32767 → (x ≤ℤ h') × (pos 0 ≤ℤ h') × (h' ≤ℤ pos 32767)
+upper_is : (x h h' : ℤ) → h' ≡ (if int_lt (pos 0) x then x else int_max h (pos 0)) → x ≤ℤ h → h ≤ℤ pos 32767
+    → (x ≤ℤ h') × (pos 0 ≤ℤ h') × (h' ≤ℤ pos 32767)
 upper_is x h h' e a b = go (int_lt (pos 0) x) refl e
   where
-    go : (t : Bool) → int_lt (pos 0) x ≡ t → h' ≡ cond t x (int_max h (pos 0)) → (x ≤ℤ h') × (pos 0 ≤ℤ h') × (h' ≤ℤ pos 32767)
-    go true t k = let l : pos 0 <ℤ x = grind (arith, ints, t) in (omega (arith, ints, k), omega (arith, ints, k), omega (arith, ints, k))
-    go false t k = let l : x ≤ℤ pos 0 = grind (arith, ints, t) in (omega (arith, ints, clamps, k), omega (arith, ints, clamps, k), omega (arith, ints, clamps, k))
+    go : (t : Bool) → int_lt (pos 0) x ≡ t → h' ≡ cond t x (int_max h (pos 0))
+        → (x ≤ℤ h') × (pos 0 ≤ℤ h') × (h' ≤ℤ pos 32767)
+    go true t k =
+        let l : pos 0 <ℤ x = grind (arith, ints, t) in
+        (omega (arith, ints, k), omega (arith, ints, k), omega (arith, ints, k))
+    go false t k =
+        let l : x ≤ℤ pos 0 = grind (arith, ints, t) in
+        (omega (arith, ints, clamps, k), omega (arith, ints, clamps, k), omega (arith, ints, clamps, k))
 
-lower_is : (x h h' : ℤ) → h' ≡ (if int_lt x (pos 0) then x else int_min h (pos 0)) → h ≤ℤ x → negsuc 32767 ≤ℤ h → (h' ≤ℤ x) × (h' ≤ℤ pos 0) × (negsuc 32767 ≤ℤ h')
+lower_is : (x h h' : ℤ) → h' ≡ (if int_lt x (pos 0) then x else int_min h (pos 0)) → h ≤ℤ x → negsuc 32767 ≤ℤ h
+    → (h' ≤ℤ x) × (h' ≤ℤ pos 0) × (negsuc 32767 ≤ℤ h')
 lower_is x h h' e a b = go (int_lt x (pos 0)) refl e
   where
-    go : (t : Bool) → int_lt x (pos 0) ≡ t → h' ≡ cond t x (int_min h (pos 0)) → (h' ≤ℤ x) × (h' ≤ℤ pos 0) × (negsuc 32767 ≤ℤ h')
-    go true t k = let l : x <ℤ pos 0 = grind (arith, ints, t) in (omega (arith, ints, k), omega (arith, ints, k), omega (arith, ints, k))
-    go false t k = let l : pos 0 ≤ℤ x = grind (arith, ints, t) in (omega (arith, ints, clamps, k), omega (arith, ints, clamps, k), omega (arith, ints, clamps, k))
+    go : (t : Bool) → int_lt x (pos 0) ≡ t → h' ≡ cond t x (int_min h (pos 0))
+        → (h' ≤ℤ x) × (h' ≤ℤ pos 0) × (negsuc 32767 ≤ℤ h')
+    go true t k =
+        let l : x <ℤ pos 0 = grind (arith, ints, t) in
+        (omega (arith, ints, k), omega (arith, ints, k), omega (arith, ints, k))
+    go false t k =
+        let l : pos 0 ≤ℤ x = grind (arith, ints, t) in
+        (omega (arith, ints, clamps, k), omega (arith, ints, clamps, k), omega (arith, ints, clamps, k))
 
 none_or_zero : (v : Unsigned) (e : Option ℤ) → v.number ≡ 0 → scaled v e ≡ Ok v
 unfolding scaled
@@ -89,9 +104,12 @@ long_whole w h = let t : nat_lt 32768 (length w.whole) ≡ true = grind (arith, 
 -- or behind it
 pub long_fraction : (w : Written) → 32768 < length w.fraction → value_of w ≡ Err limit
 unfolding value_of
-long_fraction w h = let t : nat_lt 32768 (length w.fraction) ≡ true = grind (arith, nat_tests, h) in rw (t, or_true (nat_lt 32768 (length w.whole))) refl
+long_fraction w h =
+    let t : nat_lt 32768 (length w.fraction) ≡ true = grind (arith, nat_tests, h) in
+    rw (t, or_true (nat_lt 32768 (length w.whole))) refl
 
-module _ (w : Written) (digits : AllDigits 10 (w.whole ++ w.fraction)) (few : length w.whole ≤ 32768) (short : length w.fraction ≤ 32768) where
+module _ (w : Written) (digits : AllDigits 10 (w.whole ++ w.fraction)) (few : length w.whole ≤ 32768)
+    (short : length w.fraction ≤ 32768) where
   all_digits : AllBelowBase 10 (digits_of w)
   all_digits = all_below_base_from_digits 10 (w.whole ++ w.fraction) digits
 
@@ -107,9 +125,12 @@ module _ (w : Written) (digits : AllDigits 10 (w.whole ++ w.fraction)) (few : le
       rw (a, b) refl
 
   -- ---- zero
-  pub makes_zero : ((k : ℕ) → k < length (digits_of w) → get_or (digits_of w) k 0 ≡ 0) → Makes w 0 0 (pos 0) (pos (length w.whole - 1)) (pos 0 -ℤ pos (length w.fraction))
+  -- digits that are all 0 make 0, in the range that is written
+  pub makes_zero : ((k : ℕ) → k < length (digits_of w) → get_or (digits_of w) k 0 ≡ 0)
+      → Makes w 0 0 (pos 0) (pos (length w.whole - 1)) (pos 0 -ℤ pos (length w.fraction))
   makes_zero h =
-      let z : digits_value 10 (w.whole ++ w.fraction) ≡ 0 = digits_value_is 10 (w.whole ++ w.fraction) ∙ number_zeros (digits_of w) h in
+      let z : digits_value 10 (w.whole ++ w.fraction) ≡ 0 =
+          digits_value_is 10 (w.whole ++ w.fraction) ∙ number_zeros (digits_of w) h in
       let n : (mantissa w.whole w.fraction).number ≡ 0 = rw z (omega arith) in
       record {
         ordered = omega arith;
@@ -126,15 +147,29 @@ module _ (w : Written) (digits : AllDigits 10 (w.whole ++ w.fraction)) (few : le
           lo_in = omega (arith, ints);
           in_range = (omega (arith, ints), omega (arith, ints));
         };
-        value = value_scaled ∙ none_or_zero (mantissa w.whole w.fraction) w.exponent n ∙ ap Ok (λ i. record { number = (n ∙ sym (number_of_empty (pos 0))) i; hi = pos (length w.whole - 1); lo = pos 0 -ℤ pos (length w.fraction) });
+        value =
+            value_scaled
+            ∙ none_or_zero (mantissa w.whole w.fraction) w.exponent n
+            ∙ ap Ok
+                (λ i. record {
+                  number = (n ∙ sym (number_of_empty (pos 0))) i;
+                  hi = pos (length w.whole - 1);
+                  lo = pos 0 -ℤ pos (length w.fraction)
+                });
       }
 
-  module _ (start end : ℕ) (n : IsInner (digits_of w) start end) (m : ℤ) (at : m ≡ (pos (length w.whole) -ℤ pos 1) -ℤ pos start) where
+  module _ (start end : ℕ) (n : IsInner (digits_of w) start end) (m : ℤ)
+      (at : m ≡ (pos (length w.whole) -ℤ pos 1) -ℤ pos start) where
     stored : IsStored (middle start end (digits_of w)) m (pos (length w.whole - 1)) (pos 0 -ℤ pos (length w.fraction))
-    stored = stored_middle (digits_of w) start end (length w.whole) (length w.fraction) m n all_digits length_digits few short at
+    stored =
+        stored_middle (digits_of w) start end (length w.whole) (length w.fraction) m n all_digits length_digits few
+            short at
 
     number_is : number_of (middle start end (digits_of w)) m ≡ (mantissa w.whole w.fraction).number
-    number_is = number_of-middle (digits_of w) start end (length w.whole) (length w.fraction) m n length_digits short (omega (arith, ints, at, place_is m, n.ordered, n.within, length_digits)) ∙ ap (λ x. x * 10 ^ (32768 - length w.fraction)) (sym (digits_value_is 10 (w.whole ++ w.fraction)))
+    number_is =
+        number_of-middle (digits_of w) start end (length w.whole) (length w.fraction) m n length_digits short
+            (omega (arith, ints, at, place_is m, n.ordered, n.within, length_digits))
+        ∙ ap (λ x. x * 10 ^ (32768 - length w.fraction)) (sym (digits_value_is 10 (w.whole ++ w.fraction)))
 
     some : 0 < length (middle start end (digits_of w))
     some = omega (arith, middle_length (digits_of w) start end n, n.ordered)
@@ -142,11 +177,20 @@ module _ (w : Written) (digits : AllDigits 10 (w.whole ++ w.fraction)) (few : le
     number_pos : 0 < (mantissa w.whole w.fraction).number
     number_pos = subst (λ x. 0 < x) number_is (number_of-pos stored some)
 
-    mantissa_is : record { number = number_of (middle start end (digits_of w)) m; hi = pos (length w.whole - 1); lo = pos 0 -ℤ pos (length w.fraction) } ≡ mantissa w.whole w.fraction
-    mantissa_is = λ i. record { number = number_is i; hi = pos (length w.whole - 1); lo = pos 0 -ℤ pos (length w.fraction) }
+    mantissa_is :
+        record {
+          number = number_of (middle start end (digits_of w)) m;
+          hi = pos (length w.whole - 1);
+          lo = pos 0 -ℤ pos (length w.fraction)
+        }
+        ≡ mantissa w.whole w.fraction
+    mantissa_is = λ i.
+        record { number = number_is i; hi = pos (length w.whole - 1); lo = pos 0 -ℤ pos (length w.fraction) }
 
     -- ---- no exponent
-    pub makes_plain : w.exponent ≡ None → Makes w start end m (pos (length w.whole - 1)) (pos 0 -ℤ pos (length w.fraction))
+    -- with no exponent the digits make the value, in the range that is written
+    pub makes_plain : w.exponent ≡ None
+        → Makes w start end m (pos (length w.whole - 1)) (pos 0 -ℤ pos (length w.fraction))
     unfolding scaled
     makes_plain e = record {
       ordered = omega (arith, n.ordered);
@@ -156,7 +200,10 @@ module _ (w : Written) (digits : AllDigits 10 (w.whole ++ w.fraction)) (few : le
     }
 
     -- ---- an exponent
-    pub limit_scaled : (e : ℤ) → w.exponent ≡ Some e → (pos 32767 <ℤ (pos (length w.whole - 1) +ℤ e)) ⊎ (((pos 0 -ℤ pos (length w.fraction)) +ℤ e) <ℤ negsuc 32767) → value_of w ≡ Err limit
+    -- an exponent that moves the written range past a limit is refused
+    pub limit_scaled : (e : ℤ) → w.exponent ≡ Some e
+        → (pos 32767 <ℤ (pos (length w.whole - 1) +ℤ e)) ⊎ (((pos 0 -ℤ pos (length w.fraction)) +ℤ e) <ℤ negsuc 32767)
+        → value_of w ≡ Err limit
     unfolding scaled
     limit_scaled e s o =
         let v = mantissa w.whole w.fraction in
@@ -165,18 +212,31 @@ module _ (w : Written) (digits : AllDigits 10 (w.whole ++ w.fraction)) (few : le
         value_scaled ∙ (rw (s, z, t) refl)
 
     -- the value of the digits times a power of ten
-    pub makes_scaled : (e : ℤ) (m' hi' lo' : ℤ) → w.exponent ≡ Some e → Placed m (pos (length w.whole) -ℤ pos end) (pos (length w.whole - 1)) (pos 0 -ℤ pos (length w.fraction)) e m' hi' lo' → Makes w start end m' hi' lo'
+    pub makes_scaled : (e : ℤ) (m' hi' lo' : ℤ) → w.exponent ≡ Some e
+        → Placed m (pos (length w.whole) -ℤ pos end) (pos (length w.whole - 1)) (pos 0 -ℤ pos (length w.fraction)) e m'
+            hi' lo'
+        → Makes w start end m' hi' lo'
     unfolding scaled
     makes_scaled e m' hi' lo' s p =
         let v = mantissa w.whole w.fraction in
         let ds = middle start end (digits_of w) in
         let hi = pos (length w.whole - 1) in
         let lo = pos 0 -ℤ pos (length w.fraction) in
-        let moves : Moves ds m hi lo e m' (int_max (hi +ℤ e) (pos 0)) (int_min (lo +ℤ e) (pos 0)) = record { some = λ h. p.magnitude; none = λ y. absurd (omega (arith, some)); hi_is = refl; lo_is = refl; hi_fits = p.upper; lo_fits = p.lower } in
+        let moves : Moves ds m hi lo e m' (int_max (hi +ℤ e) (pos 0)) (int_min (lo +ℤ e) (pos 0)) =
+            record {
+              some = λ h. p.magnitude;
+              none = λ y. absurd (omega (arith, some));
+              hi_is = refl;
+              lo_is = refl;
+              hi_fits = p.upper;
+              lo_fits = p.lower
+            } in
         let t = moved stored moves in
         let u = multiplied_is e stored moves ∙ ap (λ x. multiplied x e) mantissa_is in
         let f : first (number_of ds m') ≡ m +ℤ e = first-number_of t some ∙ p.magnitude in
-        let l : last (number_of ds m') ≡ (pos (length w.whole) -ℤ pos end) +ℤ e = last-number_of t some ∙ (omega (arith, ints, p.magnitude, at, middle_length (digits_of w) start end n, n.ordered)) in
+        let l : last (number_of ds m') ≡ (pos (length w.whole) -ℤ pos end) +ℤ e =
+            last-number_of t some
+            ∙ (omega (arith, ints, p.magnitude, at, middle_length (digits_of w) start end n, n.ordered)) in
         let z : (v.number == 0) ≡ false = let q = number_pos in grind (arith, nat_tests, q) in
         let a = not_over e (omega (arith, ints, p.upper)) in
         let b = not_under e (omega (arith, ints, p.lower)) in
@@ -184,21 +244,34 @@ module _ (w : Written) (digits : AllDigits 10 (w.whole ++ w.fraction)) (few : le
         let d = not_under (lo +ℤ e) p.lower in
         let tidy : tidied (multiplied v e) ≡ record { number = number_of ds m'; hi = hi'; lo = lo' } =
         ap tidied (sym u)
-        ∙ (λ i. record { number = number_of ds m'; hi = if int_lt (pos 0) (f i) then f i else int_max (hi +ℤ e) (pos 0); lo = if int_lt (l i) (pos 0) then l i else int_min (lo +ℤ e) (pos 0) })
+        ∙ (λ i. record {
+          number = number_of ds m';
+          hi = if int_lt (pos 0) (f i) then f i else int_max (hi +ℤ e) (pos 0);
+          lo = if int_lt (l i) (pos 0) then l i else int_min (lo +ℤ e) (pos 0)
+        })
         ∙ (λ i. record { number = number_of ds m'; hi = sym p.hi_is i; lo = sym p.lo_is i }) in
         let up = upper_is (m +ℤ e) (hi +ℤ e) hi' p.hi_is (omega (arith, ints, at, n.ordered)) p.upper in
-        let down = lower_is ((pos (length w.whole) -ℤ pos end) +ℤ e) (lo +ℤ e) lo' p.lo_is (omega (arith, ints, n.within, length_digits)) p.lower in
+        let down =
+            lower_is ((pos (length w.whole) -ℤ pos end) +ℤ e) (lo +ℤ e) lo' p.lo_is
+                (omega (arith, ints, n.within, length_digits)) p.lower in
         record {
           ordered = omega (arith, n.ordered);
           within = n.within;
-          stored = shown hi' lo' t some (omega (arith, ints, p.magnitude, up.0)) up.1 up.2 (omega (arith, ints, p.magnitude, at, down.0, middle_length (digits_of w) start end n, n.ordered)) down.1 down.2;
+          stored =
+              shown hi' lo' t some (omega (arith, ints, p.magnitude, up.0)) up.1 up.2
+                  (omega (arith, ints, p.magnitude, at, down.0, middle_length (digits_of w) start end n, n.ordered))
+                  down.1 down.2;
           value = value_scaled ∙ (rw (s, z, a, b, c, d) (ap Ok tidy));
         }
 
 -- the same of equal magnitudes
-pub makes_at : (w : Written) (start end : ℕ) (m hi lo m' hi' lo' : ℤ) → Makes w start end m hi lo → m' ≡ m → hi' ≡ hi → lo' ≡ lo → Makes w start end m' hi' lo'
+pub makes_at : (w : Written) (start end : ℕ) (m hi lo m' hi' lo' : ℤ) → Makes w start end m hi lo → m' ≡ m
+    → hi' ≡ hi → lo' ≡ lo
+    → Makes w start end m' hi' lo'
 makes_at w start end m hi lo m' hi' lo' k p q r = rw (p, q, r) k
 
 -- the same of equal magnitudes
-pub placed_at : (first last hi lo e m' hi' lo' f l h o x : ℤ) → Placed first last hi lo e m' hi' lo' → first ≡ f → last ≡ l → hi ≡ h → lo ≡ o → e ≡ x → Placed f l h o x m' hi' lo'
+pub placed_at : (first last hi lo e m' hi' lo' f l h o x : ℤ) → Placed first last hi lo e m' hi' lo' → first ≡ f
+    → last ≡ l → hi ≡ h → lo ≡ o → e ≡ x
+    → Placed f l h o x m' hi' lo'
 placed_at first last hi lo e m' hi' lo' f l h o x k p q r s t = rw (← p, ← q, ← r, ← s, ← t) k

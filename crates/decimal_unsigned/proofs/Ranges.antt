@@ -19,7 +19,10 @@ use Rattle.decimal_unsigned.proofs.Values.{number_of-ge, number_of-lt, number_of
 
 module _ {ds : List ℕ} {m hi lo : ℤ} (t : IsStored ds m hi lo) where
   some : 0 < number_of ds m → 0 < length ds
-  some p = elim (cases_lt 0 (length ds)) [ inl h ↦ h | inr h ↦ let z : length ds ≡ 0 = omega arith in absurd (omega (arith, number_of-none t z)) ]
+  some p = elim (cases_lt 0 (length ds)) [
+    | inl h ↦ h
+    | inr h ↦ let z : length ds ≡ 0 = omega arith in absurd (omega (arith, number_of-none t z))
+  ]
 
   -- the magnitude that is held is the first
   pub is_first : IsFirst (number_of ds m) m
@@ -33,7 +36,9 @@ module _ {ds : List ℕ} {m hi lo : ℤ} (t : IsStored ds m hi lo) where
   pub is_last : IsLast (number_of ds m) (last (number_of ds m))
   unfolding number_of number_at
   is_last = record {
-    divides = λ p. subst (λ k. number_of ds m % 10 ^ k ≡ 0) (sym (ends_at (some p))) (mul-mod_left (number_from_digits 10 ds) (10 ^ (place m + 1 - length ds)));
+    divides = λ p.
+        subst (λ k. number_of ds m % 10 ^ k ≡ 0) (sym (ends_at (some p)))
+            (mul-mod_left (number_from_digits 10 ds) (10 ^ (place m + 1 - length ds)));
     highest = λ p k h.
         let s = some p in
         let b : 0 < number_from_digits 10 ds % 10 = rw (number_back ds t.digits s) (t.back s) in
@@ -42,7 +47,9 @@ module _ {ds : List ℕ} {m hi lo : ℤ} (t : IsStored ds m hi lo) where
   }
     where
       ends_at : 0 < length ds → place (last (number_of ds m)) ≡ place m + 1 - length ds
-      ends_at h = let e = last-number_of t h in omega (arith, ints, e, t.fits, last_in t, lowest t, place_is m, place_is (last (number_of ds m)))
+      ends_at h =
+          let e = last-number_of t h in
+          omega (arith, ints, e, t.fits, last_in t, lowest t, place_is m, place_is (last (number_of ds m)))
 
 -- a value shows its first digit, and magnitude 0
 pub first_shown : (w : Unsigned) → IsValue w → int_max (first w.number) (pos 0) ≤ℤ w.hi
@@ -59,13 +66,15 @@ last_shown w m v f l = elim (cases_lt 0 w.number) [
 ]
 
 -- another upper end of what is shown
-module _ {v : Unsigned} {n : ℕ} {hi lo f : ℤ} (h : ℤ) (view : record { number = n; hi = hi; lo = lo } ≡ v) (at : first n ≡ f) where
+module _ {v : Unsigned} {n : ℕ} {hi lo f : ℤ} (h : ℤ) (view : record { number = n; hi = hi; lo = lo } ≡ v)
+    (at : first n ≡ f) where
   -- the end that trimming gives
   pub trimmed_start_is : h ≡ int_max f (pos 0) → record { number = n; hi = h; lo = lo } ≡ trimmed_start v
   trimmed_start_is e = subst (λ x. record { number = n; hi = h; lo = lo } ≡ trimmed_start x) view (rw (e, at) refl)
 
   -- the end that padding gives
-  pub padded_start_is : (p : ℤ) → pos 0 <ℤ p → h ≡ int_max (p -ℤ pos 1) f → record { number = n; hi = h; lo = lo } ≡ padded_start v p
+  pub padded_start_is : (p : ℤ) → pos 0 <ℤ p → h ≡ int_max (p -ℤ pos 1) f
+      → record { number = n; hi = h; lo = lo } ≡ padded_start v p
   padded_start_is p l e =
       let test : int_lt (pos 0) p ≡ true = grind (arith, ints, l) in
       subst (λ x. record { number = n; hi = h; lo = lo } ≡ padded_start x p) view (rw (test, e, at) refl)

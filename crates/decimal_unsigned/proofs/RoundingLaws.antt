@@ -30,21 +30,32 @@ use Rattle.decimal_unsigned.proofs.Roundings.{within, beyond, rounded_to-small, 
 -- ---- What a rounding answers.
 
 -- what the remainder gives is what the multiple gives that the mode names
-pub is_rounded : (v : Unsigned) (p : ℤ) (mode : UnsignedRoundingMode) (increment : RoundingIncrement) {new : Option Unsigned} → IsValue v → rounded v p mode increment ≡ new → IsRounded v p mode increment new
+pub is_rounded : (v : Unsigned) (p : ℤ) (mode : UnsignedRoundingMode) (increment : RoundingIncrement)
+    {new : Option Unsigned} → IsValue v → rounded v p mode increment ≡ new
+    → IsRounded v p mode increment new
 is_rounded v p mode increment valid e = record {
   valid = valid;
   value = e;
-  named = (rounded_number mode (unit_at increment p) v.number, rounded_number-named mode (unit_at increment p) v.number (unit_pos increment p), e);
+  named =
+      (rounded_number mode (unit_at increment p) v.number,
+       rounded_number-named mode (unit_at increment p) v.number (unit_pos increment p),
+       e);
 }
 
 -- why the digits are left as they were is why the value is
-pub refuses : (held : ℕ) (e : RoundError) (v : Unsigned) (p : ℤ) (mode : UnsignedRoundingMode) (increment : RoundingIncrement) → IsValue v → Refuses e increment (size v.number) (rounded_number mode (unit_at increment p) v.number) held → RoundingRefuses held e v p mode increment
-refuses held Limit v p mode increment valid r = is_rounded v p mode increment valid (rounded_to-large v p (rounded_number mode (unit_at increment p) v.number) r)
+pub refuses : (held : ℕ) (e : RoundError) (v : Unsigned) (p : ℤ) (mode : UnsignedRoundingMode)
+    (increment : RoundingIncrement) → IsValue v
+    → Refuses e increment (size v.number) (rounded_number mode (unit_at increment p) v.number) held
+    → RoundingRefuses held e v p mode increment
+refuses held Limit v p mode increment valid r =
+    is_rounded v p mode increment valid (rounded_to-large v p (rounded_number mode (unit_at increment p) v.number) r)
 refuses held Memory v p mode increment valid r = r
 
 -- ---- The same rounding again.
 
-settled : (v : Unsigned) (p : ℤ) (mode : UnsignedRoundingMode) (increment : RoundingIncrement) (m : ℕ) → m < number_limit → rounded_number mode (unit_at increment p) m ≡ m → rounded (with_number v p m) p mode increment ≡ Some (with_number v p m)
+settled : (v : Unsigned) (p : ℤ) (mode : UnsignedRoundingMode) (increment : RoundingIncrement) (m : ℕ)
+    → m < number_limit → rounded_number mode (unit_at increment p) m ≡ m
+    → rounded (with_number v p m) p mode increment ≡ Some (with_number v p m)
 settled v p mode increment m h e =
     let top = int_max (int_max v.hi (p -ℤ pos 1)) (first m) in
     let hi : int_max (int_max top (p -ℤ pos 1)) (first m) ≡ top = omega (arith, ints, clamps) in
@@ -52,26 +63,34 @@ settled v p mode increment m h e =
     ∙ (λ i. Some (record { number = m; hi = hi i; lo = int_min p (pos 0) }))
 
 -- the same rounding again changes nothing
-pub rounded_again : (v w : Unsigned) (p : ℤ) (mode : UnsignedRoundingMode) (increment : RoundingIncrement) → rounded v p mode increment ≡ Some w → rounded w p mode increment ≡ Some w
+pub rounded_again : (v w : Unsigned) (p : ℤ) (mode : UnsignedRoundingMode) (increment : RoundingIncrement)
+    → rounded v p mode increment ≡ Some w
+    → rounded w p mode increment ≡ Some w
 rounded_again v w p mode increment e =
     let u = unit_at increment p in
     let m = rounded_number mode u v.number in
     elim (cases_lt m number_limit) [
-      | inl h ↦ subst (λ x. rounded x p mode increment ≡ Some x) (same_Some _ _ (sym (rounded_to-small v p m h) ∙ e)) (settled v p mode increment m h (rounded_number-again mode u v.number (unit_pos increment p)))
+      | inl h ↦
+          subst (λ x. rounded x p mode increment ≡ Some x) (same_Some _ _ (sym (rounded_to-small v p m h) ∙ e))
+              (settled v p mode increment m h (rounded_number-again mode u v.number (unit_pos increment p)))
       | inr h ↦ absurd (none-some w (sym (rounded_to-large v p m h) ∙ e))
     ]
 
 -- ---- Two positions.
-coarser : (p q : ℤ) → negsuc 32767 ≤ℤ p → p ≤ℤ q → unit_at MultiplesOf1 q ≡ 10 ^ (place q - place p) * unit_at MultiplesOf1 p
+coarser : (p q : ℤ) → negsuc 32767 ≤ℤ p → p ≤ℤ q
+    → unit_at MultiplesOf1 q ≡ 10 ^ (place q - place p) * unit_at MultiplesOf1 p
 coarser p q low h =
     let l : place p ≤ place q = place_le p q low (omega (arith, ints)) h in
     let k : place q ≡ (place q - place p) + place p = omega arith in
-    let e : 10 ^ place q ≡ 10 ^ (place q - place p) * 10 ^ place p = ap (λ k. 10 ^ k) k ∙ pow-add 10 (place q - place p) (place p) in
+    let e : 10 ^ place q ≡ 10 ^ (place q - place p) * 10 ^ place p =
+        ap (λ k. 10 ^ k) k ∙ pow-add 10 (place q - place p) (place p) in
     omega (arith, e)
 
 -- rounding by the coarser unit after the finer one is rounding by the coarser one
 abbrev Absorbs : UnsignedRoundingMode → ℕ → Type 0
-Absorbs mode n = (u t : ℕ) → 0 < u → 0 < t * u → rounded_number mode (t * u) (rounded_number mode u n) ≡ rounded_number mode (t * u) n
+Absorbs mode n =
+    (u t : ℕ) → 0 < u → 0 < t * u
+    → rounded_number mode (t * u) (rounded_number mode u n) ≡ rounded_number mode (t * u) n
 
 trunc_absorbs : (n : ℕ) → Absorbs Trunc n
 trunc_absorbs n u t = trunc-coarser u t n
@@ -101,17 +120,21 @@ module _ (mode : UnsignedRoundingMode) (n : ℕ) (absorbs : Absorbs mode n) wher
       let u = unit_at MultiplesOf1 q in
       let e = coarser q p low h in
       subst (λ k. rounded_number mode u (rounded_number mode k n) ≡ rounded_number mode k n) (sym e)
-      (rounded_number-finer u (10 ^ (place p - place q)) n (unit_pos MultiplesOf1 q) (subst (λ k. 0 < k) e (unit_pos MultiplesOf1 p)) mode)
+          (rounded_number-finer u (10 ^ (place p - place q)) n (unit_pos MultiplesOf1 q)
+              (subst (λ k. 0 < k) e (unit_pos MultiplesOf1 p)) mode)
 
   twice_is : (p q : ℤ) → negsuc 32767 ≤ℤ p → negsuc 32767 ≤ℤ q → twice p q ≡ once (int_max p q)
-  twice_is p q low low' = by_lt_z p q
-      (λ l. twice_up p q low (omega (arith, ints)) ∙ ap once (let e : q ≡ int_max p q = omega (arith, ints, clamps) in e))
-      (λ l. twice_down p q low' l ∙ ap once (let e : p ≡ int_max p q = omega (arith, ints, clamps) in e))
+  twice_is p q low low' =
+      by_lt_z p q
+          (λ l. twice_up p q low (omega (arith, ints))
+              ∙ ap once (let e : q ≡ int_max p q = omega (arith, ints, clamps) in e))
+          (λ l. twice_down p q low' l ∙ ap once (let e : p ≡ int_max p q = omega (arith, ints, clamps) in e))
 
 -- ---- Expanding again.
 
 -- the number of what a rounding makes that names this multiple
-number_of-rounded_to : (v : Unsigned) (p : ℤ) (n : ℕ) → number_of (rounded_to v p n) ≡ if reaches_limit n then None else Some n
+number_of-rounded_to : (v : Unsigned) (p : ℤ) (n : ℕ)
+    → number_of (rounded_to v p n) ≡ if reaches_limit n then None else Some n
 number_of-rounded_to v p n = elim (cases_lt n number_limit) [
   | inl h ↦ let t = within n number_limit h in ap number_of (rounded_to-small v p n h) ∙ (rw t refl)
   | inr h ↦ let t = beyond n number_limit h in ap number_of (rounded_to-large v p n h) ∙ (rw t refl)
@@ -123,7 +146,8 @@ unfolding once twice
 expanded_again v p low q low' =
     let n = rounded_number Expand (unit_at MultiplesOf1 p) v.number in
     let far = rounded_number Expand (unit_at MultiplesOf1 (int_max p q)) v.number in
-    let same : rounded_number Expand (unit_at MultiplesOf1 q) n ≡ far = twice_is Expand v.number (expand_absorbs v.number) p q low low' in
+    let same : rounded_number Expand (unit_at MultiplesOf1 q) n ≡ far =
+        twice_is Expand v.number (expand_absorbs v.number) p q low low' in
     elim (cases_lt n number_limit) [
       | inl h ↦
           ap (λ o. number_of (option_and_then (λ w. expanded w q) o)) (rounded_to-small v p n h)
@@ -131,7 +155,8 @@ expanded_again v p low q low' =
           ∙ ap (λ k. if reaches_limit k then None else Some k) same
           ∙ sym (number_of-rounded_to v (int_max p q) far)
       | inr h ↦
-          let over : number_limit ≤ far = omega (arith, h, same, le_expand (unit_at MultiplesOf1 q) n (unit_pos MultiplesOf1 q)) in
+          let over : number_limit ≤ far =
+              omega (arith, h, same, le_expand (unit_at MultiplesOf1 q) n (unit_pos MultiplesOf1 q)) in
           ap (λ o. number_of (option_and_then (λ w. expanded w q) o)) (rounded_to-large v p n h)
           ∙ sym (ap number_of (rounded_to-large v (int_max p q) far over))
     ]
@@ -147,29 +172,37 @@ module _ (v : Unsigned) (p : ℤ) (low : negsuc 32767 ≤ℤ p) (valid : IsValue
   left_le = trunc_le (unit_at MultiplesOf1 p) v.number (unit_pos MultiplesOf1 p)
 
   -- a number that is not above the value's makes a value again
-  truncates : (w : Unsigned) (q : ℤ) → w.number ≤ v.number → truncated w q ≡ with_number w q (rounded_number Trunc (unit_at MultiplesOf1 q) w.number)
+  truncates : (w : Unsigned) (q : ℤ) → w.number ≤ v.number
+      → truncated w q ≡ with_number w q (rounded_number Trunc (unit_at MultiplesOf1 q) w.number)
   truncates w q l = ap (λ o. unwrap_or o w) (trunc_makes w q MultiplesOf1 (omega (arith, l, below_limit v p valid)))
 
   once_truncated : truncated v p ≡ with_number v p left
   unfolding left
   once_truncated = truncates v p (omega arith)
 
-  twice_truncated : (q : ℤ) → truncated (truncated v p) q ≡ with_number (with_number v p left) q (rounded_number Trunc (unit_at MultiplesOf1 q) left)
+  twice_truncated : (q : ℤ)
+      → truncated (truncated v p) q
+          ≡ with_number (with_number v p left) q (rounded_number Trunc (unit_at MultiplesOf1 q) left)
   twice_truncated q = ap (λ w. truncated w q) once_truncated ∙ truncates (with_number v p left) q left_le
 
   truncated_above : (q : ℤ) → p ≤ℤ q → truncated (truncated v p) q ≡ truncated v q
   unfolding left once twice
   truncated_above q h =
       let m = rounded_number Trunc (unit_at MultiplesOf1 q) v.number in
-      let same : rounded_number Trunc (unit_at MultiplesOf1 q) left ≡ m = twice_up Trunc v.number (trunc_absorbs v.number) p q low h in
-      let f : first left ≤ℤ v.hi = first_le left v.hi (omega (arith, left_le, valid.below)) valid.hi_in.0 valid.hi_in.1 in
-      let hi : int_max (int_max (int_max (int_max v.hi (p -ℤ pos 1)) (first left)) (q -ℤ pos 1)) (first m) ≡ int_max (int_max v.hi (q -ℤ pos 1)) (first m) = omega (arith, ints, clamps, f, h) in
+      let same : rounded_number Trunc (unit_at MultiplesOf1 q) left ≡ m =
+          twice_up Trunc v.number (trunc_absorbs v.number) p q low h in
+      let f : first left ≤ℤ v.hi =
+          first_le left v.hi (omega (arith, left_le, valid.below)) valid.hi_in.0 valid.hi_in.1 in
+      let hi : int_max (int_max (int_max (int_max v.hi (p -ℤ pos 1)) (first left)) (q -ℤ pos 1)) (first m)
+              ≡ int_max (int_max v.hi (q -ℤ pos 1)) (first m) =
+          omega (arith, ints, clamps, f, h) in
       twice_truncated q
       ∙ ap (with_number (with_number v p left) q) same
       ∙ (λ i. record { number = m; hi = hi i; lo = int_min q (pos 0) })
       ∙ sym (truncates v q (omega arith))
 
-  truncated_number : (q : ℤ) → negsuc 32767 ≤ℤ q → (truncated (truncated v p) q).number ≡ (truncated v (int_max p q)).number
+  truncated_number : (q : ℤ) → negsuc 32767 ≤ℤ q
+      → (truncated (truncated v p) q).number ≡ (truncated v (int_max p q)).number
   unfolding left once twice
   truncated_number q low' =
       ap (λ (w : Unsigned). w.number) (twice_truncated q)
@@ -187,10 +220,14 @@ abbrev pub standing : UnsignedRoundingMode → ℕ → ℕ → ℕ
 standing mode u n = if reaches_limit (rounded_number mode u n) then n else rounded_number mode u n
 
 -- it is the number of what stands after a rounding
-pub number-after_rounding : (v : Unsigned) (p : ℤ) (mode : UnsignedRoundingMode) (increment : RoundingIncrement) → (after_rounding v p mode increment).number ≡ standing mode (unit_at increment p) v.number
-number-after_rounding v p mode increment = at (reaches_limit (rounded_number mode (unit_at increment p) v.number)) (rounded_number mode (unit_at increment p) v.number)
+pub number-after_rounding : (v : Unsigned) (p : ℤ) (mode : UnsignedRoundingMode) (increment : RoundingIncrement)
+    → (after_rounding v p mode increment).number ≡ standing mode (unit_at increment p) v.number
+number-after_rounding v p mode increment =
+    at (reaches_limit (rounded_number mode (unit_at increment p) v.number))
+        (rounded_number mode (unit_at increment p) v.number)
   where
-    at : (t : Bool) (n : ℕ) → (unwrap_or (if t then None else Some (with_number v p n)) v).number ≡ if t then v.number else n
+    at : (t : Bool) (n : ℕ)
+        → (unwrap_or (if t then None else Some (with_number v p n)) v).number ≡ if t then v.number else n
     at true n = refl
     at false n = refl
 
@@ -211,10 +248,14 @@ module _ (mode : UnsignedRoundingMode) (u : ℕ) (pos_u : 0 < u) where
   -- is not refused where that is not
   pub standing-monotone : (n m : ℕ) → n ≤ m → standing mode u n ≤ standing mode u m
   standing-monotone n m l = elim (cases_lt (rounded_number mode u m) number_limit) [
-    | inl k ↦ let h : rounded_number mode u n < number_limit = omega (arith, up) in omega (arith, up, standing-small n h, standing-small m k)
+    | inl k ↦
+        let h : rounded_number mode u n < number_limit = omega (arith, up) in
+        omega (arith, up, standing-small n h, standing-small m k)
     | inr k ↦ elim (cases_lt (rounded_number mode u n) number_limit) [
       | inl h ↦ elim (cases_lt m (rounded_number mode u n)) [
-        | inl g ↦ absurd (omega (arith, h, k, rounded_number-again mode u n pos_u, rounded_number-monotone mode u m (rounded_number mode u n) pos_u (omega arith)))
+        | inl g ↦
+            absurd (omega (arith, h, k, rounded_number-again mode u n pos_u,
+                rounded_number-monotone mode u m (rounded_number mode u n) pos_u (omega arith)))
         | inr g ↦ omega (arith, g, standing-small n h, standing-large m k)
       ]
       | inr h ↦ omega (arith, l, standing-large n h, standing-large m k)
@@ -225,6 +266,8 @@ module _ (mode : UnsignedRoundingMode) (u : ℕ) (pos_u : 0 < u) where
       up = rounded_number-monotone mode u n m pos_u l
 
 -- what stands after a rounding of the greater number is no less
-pub rounds_in_order : (v w : Unsigned) (p : ℤ) (mode : UnsignedRoundingMode) (increment : RoundingIncrement) → RoundsInOrder v w p mode increment
+pub rounds_in_order : (v w : Unsigned) (p : ℤ) (mode : UnsignedRoundingMode) (increment : RoundingIncrement)
+    → RoundsInOrder v w p mode increment
 rounds_in_order v w p mode increment l =
-    omega (arith, number-after_rounding v p mode increment, number-after_rounding w p mode increment, standing-monotone mode (unit_at increment p) (unit_pos increment p) v.number w.number l)
+    omega (arith, number-after_rounding v p mode increment, number-after_rounding w p mode increment,
+        standing-monotone mode (unit_at increment p) (unit_pos increment p) v.number w.number l)

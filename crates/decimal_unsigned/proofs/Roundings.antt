@@ -39,18 +39,23 @@ pub rounded_to-large : (v : Unsigned) (p : ℤ) (n : ℕ) → number_limit ≤ n
 rounded_to-large v p n h = let t = beyond n number_limit h in rw t refl
 
 -- a number below the limit is rounded toward zero to a value
-pub trunc_makes : (v : Unsigned) (p : ℤ) (increment : RoundingIncrement) → v.number < number_limit → rounded v p Trunc increment ≡ Some (with_number v p (rounded_number Trunc (unit_at increment p) v.number))
+pub trunc_makes : (v : Unsigned) (p : ℤ) (increment : RoundingIncrement) → v.number < number_limit
+    → rounded v p Trunc increment ≡ Some (with_number v p (rounded_number Trunc (unit_at increment p) v.number))
 trunc_makes v p increment h =
     let u = unit_at increment p in
-    rounded_to-small v p (rounded_number Trunc u v.number) (omega (arith, h, trunc_le u v.number (unit_pos increment p)))
+    rounded_to-small v p (rounded_number Trunc u v.number)
+        (omega (arith, h, trunc_le u v.number (unit_pos increment p)))
 
 -- no digits stand for 0, whose first magnitude is 0
 unspelled : {ds : List ℕ} {m : ℤ} {n : ℕ} → Spells ds m n → length ds ≡ 0 → m ≡ pos 0
 unspelled {ds} {m} s z = sym s.magnitude_is ∙ ap first (sym s.number ∙ number_of-none ds m z) ∙ first_zero
 
-module _ {ds : List ℕ} {m : ℤ} {n : ℕ} (s : Spells ds m n) (p : ℤ) (hi hi' lo' : ℤ) (h : hi' ≡ int_max (int_max hi (p -ℤ pos 1)) m) (o : lo' ≡ int_min p (pos 0)) where
+module _ {ds : List ℕ} {m : ℤ} {n : ℕ} (s : Spells ds m n) (p : ℤ) (hi hi' lo' : ℤ)
+    (h : hi' ≡ int_max (int_max hi (p -ℤ pos 1)) m) (o : lo' ≡ int_min p (pos 0)) where
   -- the digits that are left, as a value holds them
-  pub stored_left : IsAbove p ds m → AllBelowBase 10 ds → pos 0 ≤ℤ hi → hi ≤ℤ pos 32767 → negsuc 32767 ≤ℤ p → p ≤ℤ pos 32767 → IsStored ds m hi' lo'
+  pub stored_left : IsAbove p ds m → AllBelowBase 10 ds → pos 0 ≤ℤ hi → hi ≤ℤ pos 32767 → negsuc 32767 ≤ℤ p
+      → p ≤ℤ pos 32767
+      → IsStored ds m hi' lo'
   stored_left above b f g l t = elim (cases_lt 0 (length ds)) [
     | inl some ↦ let a = above some in record {
       digits = b;
@@ -79,16 +84,24 @@ module _ {ds : List ℕ} {m : ℤ} {n : ℕ} (s : Spells ds m n) (p : ℤ) (hi h
   ]
 
   -- they make the rounded value
-  pub rounded_left : (v : Unsigned) → v.hi ≡ hi → rounded_to v p n ≡ Some (record { number = number_of ds m; hi = hi'; lo = lo' })
+  pub rounded_left : (v : Unsigned) → v.hi ≡ hi
+      → rounded_to v p n ≡ Some (record { number = number_of ds m; hi = hi'; lo = lo' })
   rounded_left v e =
       let a : number_of ds m ≡ n = s.number in
-      let b : hi' ≡ int_max (int_max v.hi (p -ℤ pos 1)) (first n) = h ∙ ap (λ x. int_max (int_max x (p -ℤ pos 1)) m) (sym e) ∙ ap (int_max (int_max v.hi (p -ℤ pos 1))) (sym s.magnitude_is) in
+      let b : hi' ≡ int_max (int_max v.hi (p -ℤ pos 1)) (first n) =
+          h
+          ∙ ap (λ x. int_max (int_max x (p -ℤ pos 1)) m) (sym e)
+          ∙ ap (int_max (int_max v.hi (p -ℤ pos 1))) (sym s.magnitude_is) in
       rounded_to-small v p n s.below_limit ∙ sym (λ i. Some (record { number = a i; hi = b i; lo = o i }))
 
 -- a value's list and magnitude, as they are read again, give the number and its size
-pub number_again : {ds es : List ℕ} {m k hi lo : ℤ} {v : Unsigned} → IsStored ds m hi lo → record { number = number_of ds m; hi = hi; lo = lo } ≡ v → es ≡ ds → k ≡ m → number_of es k ≡ v.number
+pub number_again : {ds es : List ℕ} {m k hi lo : ℤ} {v : Unsigned} → IsStored ds m hi lo
+    → record { number = number_of ds m; hi = hi; lo = lo } ≡ v → es ≡ ds → k ≡ m
+    → number_of es k ≡ v.number
 number_again {ds} {es} {m} {k} t e l n = (λ i. number_of (l i) (n i)) ∙ ap (λ (v : Unsigned). v.number) e
 
 -- the number has as many digits as the list
-pub size_again : {ds es : List ℕ} {m hi lo : ℤ} {v : Unsigned} → IsStored ds m hi lo → record { number = number_of ds m; hi = hi; lo = lo } ≡ v → es ≡ ds → length es ≡ size v.number
+pub size_again : {ds es : List ℕ} {m hi lo : ℤ} {v : Unsigned} → IsStored ds m hi lo
+    → record { number = number_of ds m; hi = hi; lo = lo } ≡ v → es ≡ ds
+    → length es ≡ size v.number
 size_again t e l = ap length l ∙ sym (size-number_of t) ∙ ap (λ (v : Unsigned). size v.number) e

@@ -36,7 +36,9 @@ module _ {ds : List ℕ} {m hi lo d m' hi' lo' : ℤ} (t : IsStored ds m hi lo) 
       empty = λ z. absurd (omega arith);
       hi_covers = omega (arith, ints, clamps, t.hi_covers, t.lo_covers, s.hi_is);
       lo_covers = omega (arith, ints, clamps, t.lo_covers, t.hi_in, t.lo_in, s.lo_is);
-      fits = omega (arith, ints, clamps, t.fits, t.lo_covers, t.in_range, s.lo_is, s.lo_fits, place_is lo, place_is m, place_is m', place_is lo');
+      fits =
+          omega (arith, ints, clamps, t.fits, t.lo_covers, t.in_range, s.lo_is, s.lo_fits, place_is lo, place_is m,
+              place_is m', place_is lo');
       hi_in = omega (arith, ints, clamps, s.hi_is);
       lo_in = omega (arith, ints, clamps, s.lo_is);
       in_range = (omega (arith, ints, clamps, s.lo_is, s.lo_fits), omega (arith, ints, clamps, s.hi_is, s.hi_fits));
@@ -55,24 +57,31 @@ module _ {ds : List ℕ} {m hi lo d m' hi' lo' : ℤ} (t : IsStored ds m hi lo) 
     }
   ]
 
-number_up : (ds : List ℕ) (m m' : ℤ) (n : ℕ) → length ds ≤ place m + 1 → place m' ≡ place m + n → number_of ds m' ≡ number_of ds m * 10 ^ n
+number_up : (ds : List ℕ) (m m' : ℤ) (n : ℕ) → length ds ≤ place m + 1 → place m' ≡ place m + n
+    → number_of ds m' ≡ number_of ds m * 10 ^ n
 unfolding number_of number_at
 number_up ds m m' n h e =
     let k : place m' + 1 - length ds ≡ (place m + 1 - length ds) + n = omega arith in
     ap (λ x. number_from_digits 10 ds * 10 ^ x) k ∙ (rw pow-add (omega arith))
 
-number_down : (ds : List ℕ) (m m' : ℤ) (n : ℕ) → length ds ≤ place m' + 1 → place m' + n ≡ place m → number_of ds m' ≡ number_of ds m / 10 ^ n
+number_down : (ds : List ℕ) (m m' : ℤ) (n : ℕ) → length ds ≤ place m' + 1 → place m' + n ≡ place m
+    → number_of ds m' ≡ number_of ds m / 10 ^ n
 unfolding number_of number_at
 number_down ds m m' n h e =
     let k : place m' + 1 - length ds ≡ (place m + 1 - length ds) - n = omega arith in
-    ap (λ x. number_from_digits 10 ds * 10 ^ x) k ∙ sym (shift_up (number_from_digits 10 ds) (place m + 1 - length ds) n (omega arith))
+    ap (λ x. number_from_digits 10 ds * 10 ^ x) k
+    ∙ sym (shift_up (number_from_digits 10 ds) (place m + 1 - length ds) n (omega arith))
 
 -- the moved digits are the number times the power
-pub multiplied_is : {ds : List ℕ} {m hi lo m' hi' lo' : ℤ} (d : ℤ) → IsStored ds m hi lo → Moves ds m hi lo d m' hi' lo' → record { number = number_of ds m'; hi = hi'; lo = lo' } ≡ multiplied (record { number = number_of ds m; hi = hi; lo = lo }) d
+pub multiplied_is : {ds : List ℕ} {m hi lo m' hi' lo' : ℤ} (d : ℤ) → IsStored ds m hi lo
+    → Moves ds m hi lo d m' hi' lo'
+    → record { number = number_of ds m'; hi = hi'; lo = lo' }
+        ≡ multiplied (record { number = number_of ds m; hi = hi; lo = lo }) d
 multiplied_is {ds} {m} {hi} {lo} {m'} {hi'} {lo'} (pos n) t s =
     let w = moved t s in
     let a : number_of ds m' ≡ number_of ds m * 10 ^ n = elim (cases_lt 0 (length ds)) [
-      | inl h ↦ number_up ds m m' n (omega (arith, t.fits)) (omega (arith, ints, s.some h, place_is m, place_is m', lowest t))
+      | inl h ↦
+          number_up ds m m' n (omega (arith, t.fits)) (omega (arith, ints, s.some h, place_is m, place_is m', lowest t))
       | inr h ↦ let z : length ds ≡ 0 = omega arith in rw (number_of-none w z, number_of-none t z) (omega arith)
     ] in
     let b = s.hi_is in
@@ -81,32 +90,44 @@ multiplied_is {ds} {m} {hi} {lo} {m'} {hi'} {lo'} (pos n) t s =
 multiplied_is {ds} {m} {hi} {lo} {m'} {hi'} {lo'} (negsuc n) t s =
     let w = moved t s in
     let a : number_of ds m' ≡ number_of ds m / 10 ^ suc n = elim (cases_lt 0 (length ds)) [
-      | inl h ↦ number_down ds m m' (suc n) (omega (arith, w.fits)) (omega (arith, ints, s.some h, place_is m, place_is m', lowest w, lowest t))
-      | inr h ↦ let z : length ds ≡ 0 = omega arith in rw (number_of-none w z, number_of-none t z) (sym (zero-div (10 ^ suc n)))
+      | inl h ↦
+          number_down ds m m' (suc n) (omega (arith, w.fits))
+              (omega (arith, ints, s.some h, place_is m, place_is m', lowest w, lowest t))
+      | inr h ↦
+          let z : length ds ≡ 0 = omega arith in
+          rw (number_of-none w z, number_of-none t z) (sym (zero-div (10 ^ suc n)))
     ] in
     let b = s.hi_is in
     let c = s.lo_is in
     cc
 
 -- the range fits
-pub stays_in : (v : Unsigned) (d : ℤ) → (v.hi +ℤ d) ≤ℤ pos 32767 → negsuc 32767 ≤ℤ (v.lo +ℤ d) → leaves_limits v d ≡ false
+pub stays_in : (v : Unsigned) (d : ℤ) → (v.hi +ℤ d) ≤ℤ pos 32767 → negsuc 32767 ≤ℤ (v.lo +ℤ d)
+    → leaves_limits v d ≡ false
 stays_in v d h l =
     let a : int_lt (pos 32767) (v.hi +ℤ d) ≡ false = grind (arith, ints, h) in
     let b : int_lt (v.lo +ℤ d) (negsuc 32767) ≡ false = grind (arith, ints, l) in
     rw (a, b) refl
 
 -- they make the shifted value
-pub shifted_is : {ds : List ℕ} {m hi lo m' hi' lo' : ℤ} (d : ℤ) → IsStored ds m hi lo → Moves ds m hi lo d m' hi' lo' → shifted (record { number = number_of ds m; hi = hi; lo = lo }) d ≡ Some (record { number = number_of ds m'; hi = hi'; lo = lo' })
+pub shifted_is : {ds : List ℕ} {m hi lo m' hi' lo' : ℤ} (d : ℤ) → IsStored ds m hi lo
+    → Moves ds m hi lo d m' hi' lo'
+    → shifted (record { number = number_of ds m; hi = hi; lo = lo }) d
+        ≡ Some (record { number = number_of ds m'; hi = hi'; lo = lo' })
 shifted_is {ds} {m} {hi} {lo} d t s =
     let test = stays_in (record { number = number_of ds m; hi = hi; lo = lo }) d s.hi_fits s.lo_fits in
     rw test (ap Some (sym (multiplied_is d t s)))
 
 -- a range that would not fit makes none
-pub shifted_over : {ds : List ℕ} {m hi lo : ℤ} (n : ℕ) (d : ℤ) → IsStored ds m hi lo → (pos 32767 <ℤ (hi +ℤ d)) ⊎ ((lo +ℤ d) <ℤ negsuc 32767) → shifted (record { number = n; hi = hi; lo = lo }) d ≡ None
+pub shifted_over : {ds : List ℕ} {m hi lo : ℤ} (n : ℕ) (d : ℤ) → IsStored ds m hi lo
+    → (pos 32767 <ℤ (hi +ℤ d)) ⊎ ((lo +ℤ d) <ℤ negsuc 32767)
+    → shifted (record { number = n; hi = hi; lo = lo }) d ≡ None
 shifted_over {ds} {m} {hi} {lo} n d t o = rw leaves refl
   where
     leaves : leaves_limits (record { number = n; hi = hi; lo = lo }) d ≡ true
     leaves = elim o [
       | inl h ↦ let a : int_lt (pos 32767) (hi +ℤ d) ≡ true = grind (arith, ints, h) in rw a refl
-      | inr h ↦ let b : int_lt (lo +ℤ d) (negsuc 32767) ≡ true = grind (arith, ints, h) in rw b (elim (int_lt (pos 32767) (hi +ℤ d)) as (λ x. (x || true) ≡ true) [ true ↦ refl | false ↦ refl ])
+      | inr h ↦
+          let b : int_lt (lo +ℤ d) (negsuc 32767) ≡ true = grind (arith, ints, h) in
+          rw b (elim (int_lt (pos 32767) (hi +ℤ d)) as (λ x. (x || true) ≡ true) [ true ↦ refl | false ↦ refl ])
     ]

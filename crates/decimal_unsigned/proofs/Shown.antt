@@ -13,18 +13,27 @@ use Rattle.decimal_digits.proofs.Places.{place_is}
 use Rattle.decimal_unsigned.proofs.Values.{number_of-lt, lowest}
 
 -- what the fields hold is a value
-pub value_of_stored : {ds : List ℕ} {m hi lo : ℤ} → IsStored ds m hi lo → IsValue (record { number = number_of ds m; hi = hi; lo = lo })
+pub value_of_stored : {ds : List ℕ} {m hi lo : ℤ} → IsStored ds m hi lo
+    → IsValue (record { number = number_of ds m; hi = hi; lo = lo })
 unfolding number_of number_at
 value_of_stored {ds} {m} {hi} {lo} t = record {
   hi_in = (t.hi_in, t.in_range.1);
   lo_in = (t.in_range.0, t.lo_in);
-  below = let p : 10 ^ (place m + 1) ≤ 10 ^ (place hi + 1) = pow-le-pow_right (omega arith) (omega (arith, ints, place_is m, place_is hi, t.hi_covers, lowest t)) in omega (arith, number_of-lt t);
+  below =
+      let p : 10 ^ (place m + 1) ≤ 10 ^ (place hi + 1) =
+          pow-le-pow_right (omega arith) (omega (arith, ints, place_is m, place_is hi, t.hi_covers, lowest t)) in
+      omega (arith, number_of-lt t);
   whole =
       let k : place m + 1 - length ds ≡ (place m + 1 - length ds - place lo) + place lo = omega (arith, t.fits) in
-      let e : number_from_digits 10 ds * 10 ^ (place m + 1 - length ds) ≡ (number_from_digits 10 ds * 10 ^ (place m + 1 - length ds - place lo)) * 10 ^ place lo = ap (λ x. number_from_digits 10 ds * 10 ^ x) k ∙ (rw pow-add (omega arith)) in
-      ap (λ x. x % 10 ^ place lo) e ∙ mul-mod_left (number_from_digits 10 ds * 10 ^ (place m + 1 - length ds - place lo)) (10 ^ place lo);
+      let e : number_from_digits 10 ds * 10 ^ (place m + 1 - length ds)
+              ≡ (number_from_digits 10 ds * 10 ^ (place m + 1 - length ds - place lo)) * 10 ^ place lo =
+          ap (λ x. number_from_digits 10 ds * 10 ^ x) k ∙ (rw pow-add (omega arith)) in
+      ap (λ x. x % 10 ^ place lo) e
+      ∙ mul-mod_left (number_from_digits 10 ds * 10 ^ (place m + 1 - length ds - place lo)) (10 ^ place lo);
 }
 
 -- what a contract sees of them is a value
-pub value_of_view : {ds : List ℕ} {m hi lo : ℤ} {v : Unsigned} → IsStored ds m hi lo → record { number = number_of ds m; hi = hi; lo = lo } ≡ v → IsValue v
+pub value_of_view : {ds : List ℕ} {m hi lo : ℤ} {v : Unsigned} → IsStored ds m hi lo
+    → record { number = number_of ds m; hi = hi; lo = lo } ≡ v
+    → IsValue v
 value_of_view t e = subst IsValue e (value_of_stored t)

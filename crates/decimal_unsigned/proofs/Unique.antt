@@ -18,7 +18,8 @@ use Rattle.decimal_unsigned.specs.Fields.{IsStored}
 use Rattle.decimal_digits.proofs.Places.{place_is}
 use Rattle.decimal_unsigned.proofs.Values.{first_of, last-number_of, none_of, number_of-none, lowest, digit-number_of-in}
 
-module _ {ds es : List ℕ} {m n hi lo hi' lo' : ℤ} (t : IsStored ds m hi lo) (u : IsStored es n hi' lo') (e : number_of ds m ≡ number_of es n) where
+module _ {ds es : List ℕ} {m n hi lo hi' lo' : ℤ} (t : IsStored ds m hi lo) (u : IsStored es n hi' lo')
+    (e : number_of ds m ≡ number_of es n) where
   -- one number has one first magnitude
   pub same_magnitude : m ≡ n
   same_magnitude = sym (first_of t) ∙ ap first e ∙ first_of u
@@ -27,7 +28,12 @@ module _ {ds es : List ℕ} {m n hi lo hi' lo' : ℤ} (t : IsStored ds m hi lo) 
   pub same_length : length ds ≡ length es
   same_length = elim (cases_lt 0 (length ds)) [
     | inl h ↦ elim (cases_lt 0 (length es)) [
-      | inl k ↦ let a = last-number_of t h in let b = last-number_of u k in let l = ap last e in let m' = same_magnitude in omega (arith, ints, a, b, l, m')
+      | inl k ↦
+          let a = last-number_of t h in
+          let b = last-number_of u k in
+          let l = ap last e in
+          let m' = same_magnitude in
+          omega (arith, ints, a, b, l, m')
       | inr k ↦ let z : length es ≡ 0 = omega arith in let y = none_of t (e ∙ number_of-none u z) in omega arith
     ]
     | inr h ↦ let z : length ds ≡ 0 = omega arith in let y = none_of u (sym e ∙ number_of-none t z) in omega arith
@@ -40,15 +46,20 @@ module _ {ds es : List ℕ} {m n hi lo hi' lo' : ℤ} (t : IsStored ds m hi lo) 
       let m' = same_magnitude in
       let p : (m -ℤ pos i) +ℤ pos i ≡ m = omega (arith, ints) in
       let q : (m -ℤ pos i) +ℤ pos i ≡ n = omega (arith, ints, m') in
-      let b : negsuc 32767 ≤ℤ (m -ℤ pos i) = omega (arith, ints, t.fits, place_is m, place_is lo, t.in_range, lowest t) in
-      sym (digit-number_of-in t (m -ℤ pos i) i p b h) ∙ ap (λ x. digit x (m -ℤ pos i)) e ∙ digit-number_of-in u (m -ℤ pos i) i q b k)
+      let b : negsuc 32767 ≤ℤ (m -ℤ pos i) =
+          omega (arith, ints, t.fits, place_is m, place_is lo, t.in_range, lowest t) in
+      sym (digit-number_of-in t (m -ℤ pos i) i p b h)
+      ∙ ap (λ x. digit x (m -ℤ pos i)) e
+      ∙ digit-number_of-in u (m -ℤ pos i) i q b k)
 
 -- what passes the test is equal
 pub same_is : (v w : Unsigned) → same v w ≡ true → v ≡ w
 same_is v w h = grind (arith, nat_tests, h)
 
 same_equiv : IsEquivalence same
-same_equiv = and_equiv (on_equiv (λ (v : Unsigned). v.number) nat_eq_equiv) (and_equiv (on_equiv (λ (v : Unsigned). v.hi) int_eq_equiv) (on_equiv (λ (v : Unsigned). v.lo) int_eq_equiv))
+same_equiv =
+    and_equiv (on_equiv (λ (v : Unsigned). v.number) nat_eq_equiv)
+        (and_equiv (on_equiv (λ (v : Unsigned). v.hi) int_eq_equiv) (on_equiv (λ (v : Unsigned). v.lo) int_eq_equiv))
 
 -- equal values pass the test
 pub is_same : (v w : Unsigned) → v ≡ w → same v w ≡ true
@@ -56,7 +67,9 @@ is_same v w e = subst (λ u. same v u ≡ true) e (same_equiv.refl v)
 
 -- other values fail it
 pub not_same : (v w : Unsigned) → ¬ (v ≡ w) → same v w ≡ false
-not_same v w n = elim (same v w) as (λ b. same v w ≡ b → b ≡ false) [ true ↦ λ e. absurd (n (same_is v w e)) | false ↦ λ e. refl ] refl
+not_same v w n =
+    elim (same v w) as (λ b. same v w ≡ b → b ≡ false) [ true ↦ λ e. absurd (n (same_is v w e)) | false ↦ λ e. refl ]
+        refl
 
 -- equal texts are those of equal values
 text_same : (v w : Unsigned) → IsValue v → IsValue w → text v ≡ text w → v ≡ w

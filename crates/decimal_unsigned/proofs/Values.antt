@@ -28,8 +28,11 @@ module _ {ds : List ℕ} {m hi lo : ℤ} (t : IsStored ds m hi lo) where
   unfolding number_of number_at
   number_of-lt =
       let n : number_from_digits 10 ds < 10 ^ length ds = number_lt 10 ds t.digits in
-      let below : number_from_digits 10 ds * 10 ^ ends ds m < 10 ^ length ds * 10 ^ ends ds m = mul-lt-mul_of_pos_right n (ten_pos (ends ds m)) in
-      let split : 10 ^ (place m + 1) ≡ 10 ^ length ds * 10 ^ ends ds m = ap (λ n. 10 ^ n) (let k : place m + 1 ≡ length ds + ends ds m = omega (arith, t.fits) in k) ∙ pow-add 10 (length ds) (ends ds m) in
+      let below : number_from_digits 10 ds * 10 ^ ends ds m < 10 ^ length ds * 10 ^ ends ds m =
+          mul-lt-mul_of_pos_right n (ten_pos (ends ds m)) in
+      let split : 10 ^ (place m + 1) ≡ 10 ^ length ds * 10 ^ ends ds m =
+          ap (λ n. 10 ^ n) (let k : place m + 1 ≡ length ds + ends ds m = omega (arith, t.fits) in k)
+          ∙ pow-add 10 (length ds) (ends ds m) in
       rw split below
 
   -- a 1 at the first digit is at most the number
@@ -37,8 +40,11 @@ module _ {ds : List ℕ} {m hi lo : ℤ} (t : IsStored ds m hi lo) where
   unfolding number_of number_at
   number_of-ge h =
       let n : 10 ^ (length ds - 1) ≤ number_from_digits 10 ds = number_front ds h (t.front h) in
-      let above : 10 ^ (length ds - 1) * 10 ^ ends ds m ≤ number_from_digits 10 ds * 10 ^ ends ds m = mul-le-mul_right (10 ^ ends ds m) n in
-      let split : 10 ^ place m ≡ 10 ^ (length ds - 1) * 10 ^ ends ds m = ap (λ n. 10 ^ n) (let k : place m ≡ length ds - 1 + ends ds m = omega (arith, t.fits) in k) ∙ pow-add 10 (length ds - 1) (ends ds m) in
+      let above : 10 ^ (length ds - 1) * 10 ^ ends ds m ≤ number_from_digits 10 ds * 10 ^ ends ds m =
+          mul-le-mul_right (10 ^ ends ds m) n in
+      let split : 10 ^ place m ≡ 10 ^ (length ds - 1) * 10 ^ ends ds m =
+          ap (λ n. 10 ^ n) (let k : place m ≡ length ds - 1 + ends ds m = omega (arith, t.fits) in k)
+          ∙ pow-add 10 (length ds - 1) (ends ds m) in
       rw split above
 
   -- a number with digits is not 0
@@ -74,20 +80,28 @@ module _ {ds : List ℕ} {m hi lo : ℤ} (t : IsStored ds m hi lo) where
 
   -- above the first digit there are zeros
   pub digit-number_of-above : (q : ℤ) → m <ℤ q → negsuc 32767 ≤ℤ q → digit (number_of ds m) q ≡ 0
-  digit-number_of-above q h l = digit_above _ (place m + 1) (place q) number_of-lt (omega (arith, ints, place_is m, place_is q, lowest))
+  digit-number_of-above q h l =
+      digit_above _ (place m + 1) (place q) number_of-lt (omega (arith, ints, place_is m, place_is q, lowest))
 
   -- the digits of the list are those of the number
-  pub digit-number_of-in : (q : ℤ) (i : ℕ) → q +ℤ pos i ≡ m → negsuc 32767 ≤ℤ q → i < length ds → digit (number_of ds m) q ≡ slice_index ds i
+  pub digit-number_of-in : (q : ℤ) (i : ℕ) → q +ℤ pos i ≡ m → negsuc 32767 ≤ℤ q → i < length ds
+      → digit (number_of ds m) q ≡ slice_index ds i
   unfolding number_of number_at
   digit-number_of-in q i e l h =
       let p : place q + i ≡ place m = omega (arith, ints, place_is m, place_is q, lowest) in
       let k : place q - ends ds m ≡ length ds - (i + 1) = omega (arith, t.fits) in
-      ap (λ x. x % 10) (shift_down (number_from_digits 10 ds) (ends ds m) (place q) (omega (arith, t.fits)) ∙ ap (λ n. number_from_digits 10 ds / 10 ^ n) k) ∙ number-digit i ds t.digits h
+      ap (λ x. x % 10)
+          (shift_down (number_from_digits 10 ds) (ends ds m) (place q) (omega (arith, t.fits))
+              ∙ ap (λ n. number_from_digits 10 ds / 10 ^ n) k)
+      ∙ number-digit i ds t.digits h
 
   -- below the last digit there are zeros
-  pub digit-number_of-below : (q : ℤ) (i : ℕ) → q +ℤ pos i ≡ m → negsuc 32767 ≤ℤ q → length ds ≤ i → digit (number_of ds m) q ≡ 0
+  pub digit-number_of-below : (q : ℤ) (i : ℕ) → q +ℤ pos i ≡ m → negsuc 32767 ≤ℤ q → length ds ≤ i
+      → digit (number_of ds m) q ≡ 0
   unfolding number_of number_at
-  digit-number_of-below q i e l h = digit_below (number_from_digits 10 ds) (ends ds m) (place q) (omega (arith, ints, place_is m, place_is q, lowest, t.fits))
+  digit-number_of-below q i e l h =
+      digit_below (number_from_digits 10 ds) (ends ds m) (place q)
+          (omega (arith, ints, place_is m, place_is q, lowest, t.fits))
 
   -- the magnitude of the first digit, of 0 too
   pub first_of : first (number_of ds m) ≡ m
@@ -131,12 +145,15 @@ pub wide_kept : {z : ℤ} → mag z < 2147483648 → to_z w32 (of_z w32 z) ≡ z
 wide_kept {z} h = to_z-of_z w32 z (record { sfits = h })
 
 -- how many magnitudes a range has, by its ends as they are read again
-pub counted : {l h lo hi : ℤ} {n : ℕ} → n ≡ int_gap (to_z w16 (of_z w16 l)) (to_z w16 (of_z w16 h)) + 1 → l ≡ lo → h ≡ hi → mag l < 32768 → mag h < 32768 → n ≡ int_gap lo hi + 1
+pub counted : {l h lo hi : ℤ} {n : ℕ} → n ≡ int_gap (to_z w16 (of_z w16 l)) (to_z w16 (of_z w16 h)) + 1 → l ≡ lo
+    → h ≡ hi → mag l < 32768 → mag h < 32768
+    → n ≡ int_gap lo hi + 1
 counted e p q a b = e ∙ (λ i. int_gap ((narrow_kept a ∙ p) i) ((narrow_kept b ∙ q) i) + 1)
 
 module _ {ds : List ℕ} {m hi lo : ℤ} (t : IsStored ds m hi lo) where
   -- a lower end that keeps the last digit
-  pub lower_stored : (low : ℤ) → low ≤ℤ pos 0 → low ≤ℤ last (number_of ds m) → negsuc 32767 ≤ℤ low → IsStored ds m hi low
+  pub lower_stored : (low : ℤ) → low ≤ℤ pos 0 → low ≤ℤ last (number_of ds m) → negsuc 32767 ≤ℤ low
+      → IsStored ds m hi low
   lower_stored low z l b = elim (cases_lt 0 (length ds)) [
     | inl h ↦ let e = last-number_of t h in record {
       digits = t.digits;
@@ -167,7 +184,9 @@ module _ {ds : List ℕ} {m hi lo : ℤ} (t : IsStored ds m hi lo) where
   -- the last digit stands at -32768 or above
   pub last_in : negsuc 32767 ≤ℤ last (number_of ds m)
   last_in = elim (cases_lt 0 (length ds)) [
-    | inl h ↦ let e = last-number_of t h in omega (arith, ints, e, t.fits, place_is m, place_is lo, t.in_range, lowest t)
+    | inl h ↦
+        let e = last-number_of t h in
+        omega (arith, ints, e, t.fits, place_is m, place_is lo, t.in_range, lowest t)
     | inr h ↦ let n : length ds ≡ 0 = omega arith in let e = last_of_none t n in omega (arith, ints, e)
   ]
 

@@ -11,7 +11,8 @@ use Rattle.decimal_digits.proofs.Sinks.{appends_both, part_more, then_part}
 use Rattle.decimal_unsigned.specs.Text.{dot_before, text_down}
 
 -- the text of one magnitude more
-pub text_down-suc : (number : ℕ) (m : ℤ) (n : ℕ) → text_down number m (suc n) ≡ (dot_before m ++ (48 + digit number m) ∷ []) ++ text_down number (m -ℤ pos 1) n
+pub text_down-suc : (number : ℕ) (m : ℤ) (n : ℕ)
+    → text_down number m (suc n) ≡ (dot_before m ++ (48 + digit number m) ∷ []) ++ text_down number (m -ℤ pos 1) n
 unfolding text_down
 text_down-suc number m n = refl
 
@@ -21,11 +22,17 @@ unfolding text_down
 text_down-zero number m = refl
 
 -- the first of the magnitudes from i below the highest
-pub text_down-step : (number : ℕ) (hi : ℤ) (count i : ℕ) → i < count → text_down number (hi -ℤ pos i) (count - i) ≡ (dot_before (hi -ℤ pos i) ++ (48 + digit number (hi -ℤ pos i)) ∷ []) ++ text_down number (hi -ℤ pos (i + 1)) (count - (i + 1))
+pub text_down-step : (number : ℕ) (hi : ℤ) (count i : ℕ) → i < count
+    → text_down number (hi -ℤ pos i) (count - i)
+        ≡ (dot_before (hi -ℤ pos i) ++ (48 + digit number (hi -ℤ pos i)) ∷ [])
+            ++ text_down number (hi -ℤ pos (i + 1)) (count - (i + 1))
 text_down-step number hi count i h =
     let n : count - i ≡ suc (count - (i + 1)) = omega arith in
     let m : (hi -ℤ pos i) -ℤ pos 1 ≡ hi -ℤ pos (i + 1) = omega (arith, ints) in
-    ap (text_down number (hi -ℤ pos i)) n ∙ text_down-suc number (hi -ℤ pos i) (count - (i + 1)) ∙ ap (λ k. (dot_before (hi -ℤ pos i) ++ (48 + digit number (hi -ℤ pos i)) ∷ []) ++ text_down number k (count - (i + 1))) m
+    ap (text_down number (hi -ℤ pos i)) n
+    ∙ text_down-suc number (hi -ℤ pos i) (count - (i + 1))
+    ∙ ap (λ k. (dot_before (hi -ℤ pos i) ++ (48 + digit number (hi -ℤ pos i)) ∷ [])
+            ++ text_down number k (count - (i + 1))) m
 
 -- and none
 pub text_down-end : (number : ℕ) (hi : ℤ) (count i : ℕ) → count ≤ i → text_down number (hi -ℤ pos i) (count - i) ≡ []
@@ -35,7 +42,8 @@ text_down-end number hi count i h =
 
 -- ---- the text, piece by piece
 -- a piece and what stands in front of it
-pub piece_taken : (all piece : List ℕ) (i k : ℕ) → i + k ≤ length all → piece ≡ take k (drop i all) → take i all ++ piece ≡ take (i + length piece) all
+pub piece_taken : (all piece : List ℕ) (i k : ℕ) → i + k ≤ length all → piece ≡ take k (drop i all)
+    → take i all ++ piece ≡ take (i + length piece) all
 piece_taken all piece i k h e =
     let n : length piece ≡ k = ap length e ∙ length-take-le k (drop i all) (omega (arith, length-drop i all)) in
     ap (λ l. take i all ++ l) e ∙ sym (take-add i k all) ∙ ap (λ m. take (i + m) all) (sym n)
@@ -45,16 +53,22 @@ pub byte_taken : (all : List ℕ) (i byte : ℕ) → i < length all → byte ≡
 byte_taken all i byte h e = ap (λ b. b ∷ []) e ∙ sym (ap (take 1) (drop_more all i 0 h))
 
 -- one piece more was written
-pub wrote_more : (a b c : Option (List ℕ)) (all piece : List ℕ) (i k : ℕ) → i + k ≤ length all → piece ≡ take k (drop i all) → Appends a b (take i all) → Appends b c piece → Appends a c (take (i + length piece) all)
-wrote_more a b c all piece i k h e p q = subst (Appends a c) (piece_taken all piece i k h e) (appends_both a b c (take i all) piece p q)
+pub wrote_more : (a b c : Option (List ℕ)) (all piece : List ℕ) (i k : ℕ) → i + k ≤ length all
+    → piece ≡ take k (drop i all) → Appends a b (take i all) → Appends b c piece
+    → Appends a c (take (i + length piece) all)
+wrote_more a b c all piece i k h e p q =
+    subst (Appends a c) (piece_taken all piece i k h e) (appends_both a b c (take i all) piece p q)
 
 -- the sink refused a byte of the next piece
-pub wrote_part : (a b c : Option (List ℕ)) (all piece : List ℕ) (i k : ℕ) → i + k ≤ length all → piece ≡ take k (drop i all) → Appends a b (take i all) → AppendsBeginning b c piece → AppendsBeginning a c all
+pub wrote_part : (a b c : Option (List ℕ)) (all piece : List ℕ) (i k : ℕ) → i + k ≤ length all
+    → piece ≡ take k (drop i all) → Appends a b (take i all) → AppendsBeginning b c piece
+    → AppendsBeginning a c all
 wrote_part a b c all piece i k h e p q =
     subst (AppendsBeginning a c) (take-append-drop (i + length piece) all)
     (part_more a c (take (i + length piece) all) (drop (i + length piece) all)
     (subst (AppendsBeginning a c) (piece_taken all piece i k h e) (then_part a b c (take i all) piece p q)))
 
 -- all pieces were written
-pub wrote_all : (a b : Option (List ℕ)) (all : List ℕ) (i : ℕ) → length all ≤ i → Appends a b (take i all) → Appends a b all
+pub wrote_all : (a b : Option (List ℕ)) (all : List ℕ) (i : ℕ) → length all ≤ i → Appends a b (take i all)
+    → Appends a b all
 wrote_all a b all i h p = subst (Appends a b) (take_all i all h) p

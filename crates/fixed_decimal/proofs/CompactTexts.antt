@@ -53,9 +53,13 @@ length-three n l h = length-more n h (omega arith) ∙ ap (λ k. k + 1) (length-
 -- ---- Reading it.
 digits-lacks : (p : ℕ → Bool) → PassesNone p → (ds : List ℕ) → AllDigits 10 ds → list_any p ds ≡ false
 digits-lacks p h [] d = refl
-digits-lacks p h (c ∷ ds) d = let r = digit_from_value c d.0 in let e = h.digits c (omega (arith, r.0)) (omega (arith, r.1)) in rw e (digits-lacks p h ds d.1)
+digits-lacks p h (c ∷ ds) d =
+    let r = digit_from_value c d.0 in
+    let e = h.digits c (omega (arith, r.0)) (omega (arith, r.1)) in
+    rw e (digits-lacks p h ds d.1)
 
-small_again : (ds : List ℕ) → IsNumeral 10 ds → 48 < get_or ds 0 0 → digits_value 10 ds ≤ 255 → small_number_of ds ≡ Ok (digits_value 10 ds)
+small_again : (ds : List ℕ) → IsNumeral 10 ds → 48 < get_or ds 0 0 → digits_value 10 ds ≤ 255
+    → small_number_of ds ≡ Ok (digits_value 10 ds)
 unfolding small_number_of
 small_again [] n h l = absurd (omega (arith, n.0))
 small_again (c ∷ ds) n h l =
@@ -86,19 +90,26 @@ exponent_again (suc n) h = small_reads_back (suc n) (omega arith) h
 exponent-plain : (n : ℕ) → n < 256 → list_any is_letter (with_c (exponent_part n)) ≡ false
 unfolding exponent_part
 exponent-plain zero h = refl
-exponent-plain (suc n) h = digits-lacks is_letter letter-none (decimal (suc n)) (decimal_is_IsNumeral (suc n) (below_64 (suc n) h)).0.1
+exponent-plain (suc n) h =
+    digits-lacks is_letter letter-none (decimal (suc n)) (decimal_is_IsNumeral (suc n) (below_64 (suc n) h)).0.1
 
 -- it is cut between its parts, and each part reads as itself
-pub compact_reads_back : (v : Compact) → IsValue v.significand.absolute → v.exponent < 256 → read_compact (compact_text v) ≡ Ok v
+pub compact_reads_back : (v : Compact) → IsValue v.significand.absolute → v.exponent < 256
+    → read_compact (compact_text v) ≡ Ok v
 compact_reads_back v h l =
-    ap (λ r. and_then r read_parts) (cut_is (compact_text v) (decimal_text v.significand) (exponent_part v.exponent) plain
-    (record { is = ap (λ t. decimal_text v.significand ++ t) (exponent_is v.exponent); first = decimal_text-lacks _ c-none v.significand }))
+    ap (λ r. and_then r read_parts)
+        (cut_is (compact_text v) (decimal_text v.significand) (exponent_part v.exponent) plain
+            (record {
+              is = ap (λ t. decimal_text v.significand ++ t) (exponent_is v.exponent);
+              first = decimal_text-lacks _ c-none v.significand
+            }))
     ∙ (rw (read_decimal_text v.significand h, exponent_again v.exponent l) refl)
   where
     plain : list_any is_letter (compact_text v) ≡ false
     plain =
         list_any-append is_letter (decimal_text v.significand) (exponent_text v.exponent)
-        ∙ (rw (decimal_text-lacks is_letter letter-none v.significand, exponent_is v.exponent, exponent-plain v.exponent l) refl)
+        ∙ (rw (decimal_text-lacks is_letter letter-none v.significand, exponent_is v.exponent,
+            exponent-plain v.exponent l) refl)
 
 -- nothing is a beginning
 pub keeps_part : (a b : Option (List ℕ)) (xs : List ℕ) → Keeps a b → AppendsBeginning a b xs

@@ -14,10 +14,13 @@ letter_uncut : (text : List ℕ) → list_any is_letter text ≡ true → cut_at
 unfolding cut_at_c
 letter_uncut text h = rw h refl
 
-has_letter : (text : List ℕ) → (list_any is_small_e text ≡ true) ⊎ (list_any is_capital_e text ≡ true) → list_any is_letter text ≡ true
+has_letter : (text : List ℕ) → (list_any is_small_e text ≡ true) ⊎ (list_any is_capital_e text ≡ true)
+    → list_any is_letter text ≡ true
 has_letter text h = go (list_any is_letter text) refl h
   where
-    go : (b : Bool) → list_any is_letter text ≡ b → (list_any is_small_e text ≡ true) ⊎ (list_any is_capital_e text ≡ true) → list_any is_letter text ≡ true
+    go : (b : Bool) → list_any is_letter text ≡ b
+        → (list_any is_small_e text ≡ true) ⊎ (list_any is_capital_e text ≡ true)
+        → list_any is_letter text ≡ true
     go true e h = e
     go false e (inl s) = let n = (lacks_e text e).0 in absurd (cc)
     go false e (inr s) = let n = (lacks_e text e).1 in absurd (cc)
@@ -30,11 +33,13 @@ small_uncut text h = letter_uncut text (has_letter text (inl h))
 pub capital_uncut : (text : List ℕ) → list_any is_capital_e text ≡ true → cut_at_c text ≡ Err syntax
 capital_uncut text h = letter_uncut text (has_letter text (inr h))
 
-plain_cut : (text : List ℕ) → list_any is_letter text ≡ false → list_any is_c text ≡ false → cut_at_c text ≡ Ok (text, None)
+plain_cut : (text : List ℕ) → list_any is_letter text ≡ false → list_any is_c text ≡ false
+    → cut_at_c text ≡ Ok (text, None)
 unfolding cut_at_c
 plain_cut text h l = rw (h, l) (λ i. Ok (front-none is_c text l i, None))
 
-first_cut : (text front behind : List ℕ) → list_any is_letter text ≡ false → IsFirstCut is_c text front 99 behind → cut_at_c text ≡ Ok (front, Some behind)
+first_cut : (text front behind : List ℕ) → list_any is_letter text ≡ false → IsFirstCut is_c text front 99 behind
+    → cut_at_c text ≡ Ok (front, Some behind)
 unfolding cut_at_c
 first_cut text front behind h c =
     let a : list_any is_c text ≡ true = ap (list_any is_c) c.is ∙ any-at is_c front 99 behind refl in
@@ -43,19 +48,29 @@ first_cut text front behind h c =
     rw (h, a) (λ i. Ok (f i, Some (b i)))
 
 -- a text with no letter is the significand
-pub no_c_cut : (text : List ℕ) → list_any is_small_e text ≡ false → list_any is_capital_e text ≡ false → list_any is_c text ≡ false → cut_at_c text ≡ Ok (text, None)
+pub no_c_cut : (text : List ℕ) → list_any is_small_e text ≡ false → list_any is_capital_e text ≡ false
+    → list_any is_c text ≡ false
+    → cut_at_c text ≡ Ok (text, None)
 no_c_cut text h k l = plain_cut text (lacks_letter text h k) l
 
 -- a text with no e and no E is cut at its first c
-pub c_cut : (text front behind : List ℕ) → list_any is_small_e text ≡ false → list_any is_capital_e text ≡ false → IsFirstCut is_c text front 99 behind → cut_at_c text ≡ Ok (front, Some behind)
+pub c_cut : (text front behind : List ℕ) → list_any is_small_e text ≡ false → list_any is_capital_e text ≡ false
+    → IsFirstCut is_c text front 99 behind
+    → cut_at_c text ≡ Ok (front, Some behind)
 c_cut text front behind h k c = first_cut text front behind (lacks_letter text h k) c
 
+-- when a text is cut at c, and when it is refused
 pub ruleset cuts = (small_uncut, capital_uncut, no_c_cut, c_cut)
 
 -- the cut finds the parts
-pub cut_is : (text front : List ℕ) (behind : Option (List ℕ)) → list_any is_letter text ≡ false → IsCutAtC text front behind → cut_at_c text ≡ Ok (front, behind)
-cut_is text front None h c = let e = c.is ∙ append-nil front in plain_cut text h (ap (list_any is_c) e ∙ c.first) ∙ (λ i. Ok (e i, None))
-cut_is text front (Some behind) h c = first_cut text front behind h (record { is = c.is; passes = refl; lacks = c.first })
+pub cut_is : (text front : List ℕ) (behind : Option (List ℕ)) → list_any is_letter text ≡ false
+    → IsCutAtC text front behind
+    → cut_at_c text ≡ Ok (front, behind)
+cut_is text front None h c =
+    let e = c.is ∙ append-nil front in
+    plain_cut text h (ap (list_any is_c) e ∙ c.first) ∙ (λ i. Ok (e i, None))
+cut_is text front (Some behind) h c =
+    first_cut text front behind h (record { is = c.is; passes = refl; lacks = c.first })
 
 -- reading is reading the parts
 pub compact_reads : (text : List ℕ) → ReadsCompact text (read_compact text)

@@ -34,31 +34,41 @@ dot-lacks p h (negsuc (suc k)) = refl
 digit-byte : (number : ℕ) (m : ℤ) → 48 + digit number m < 58
 digit-byte number m = let l = mod-lt (number / weight m) (let z : 0 < 10 = omega arith in z) in omega (arith, l)
 
-text_down-lacks : (p : ℕ → Bool) → PassesNone p → (number : ℕ) (m : ℤ) (n : ℕ) → list_any p (text_down number m n) ≡ false
+text_down-lacks : (p : ℕ → Bool) → PassesNone p → (number : ℕ) (m : ℤ) (n : ℕ)
+    → list_any p (text_down number m n) ≡ false
 text_down-lacks p h number m zero = ap (list_any p) (text_down-zero number m)
 text_down-lacks p h number m (suc n) =
     let d = h.digits (48 + digit number m) (omega arith) (digit-byte number m) in
     ap (list_any p) (text_down-suc number m n)
     ∙ list_any-append p (dot_before m ++ (48 + digit number m) ∷ []) (text_down number (m -ℤ pos 1) n)
-    ∙ (rw (list_any-append p (dot_before m) ((48 + digit number m) ∷ []), dot-lacks p h m, d, text_down-lacks p h number (m -ℤ pos 1) n) refl)
+    ∙ (rw (list_any-append p (dot_before m) ((48 + digit number m) ∷ []), dot-lacks p h m, d,
+        text_down-lacks p h number (m -ℤ pos 1) n) refl)
 
 -- the text of a decimal is made of digits, a dot and a sign
 pub decimal_text-lacks : (p : ℕ → Bool) → PassesNone p → (v : Decimal) → list_any p (decimal_text v) ≡ false
 decimal_text-lacks p h v =
     let t = text_down-lacks p h v.absolute.number v.absolute.hi (int_gap v.absolute.lo v.absolute.hi + 1) in
     list_any-append p (sign_text v.sign) (text v.absolute)
-    ∙ (rw t (elim v.sign as (λ s. (list_any p (sign_text s) || false) ≡ false) [ sign.None ↦ refl | sign.Negative ↦ rw h.minus refl | sign.Positive ↦ rw h.plus refl ]))
+    ∙ (rw t
+        (elim v.sign as (λ s. (list_any p (sign_text s) || false) ≡ false) [
+          | sign.None ↦ refl
+          | sign.Negative ↦ rw h.minus refl
+          | sign.Positive ↦ rw h.plus refl
+        ]))
 
--- these letters are none of them
+-- the test for e passes no digit, no dot and no sign
 pub small_e-none : PassesNone is_small_e
 small_e-none = record { digits = λ c a b. grind (arith, nat_tests); minus = refl; plus = refl }
 
+-- nor does the one for E
 pub capital_e-none : PassesNone is_capital_e
 capital_e-none = record { digits = λ c a b. grind (arith, nat_tests); minus = refl; plus = refl }
 
+-- nor does the one for either
 pub letter-none : PassesNone is_letter
 letter-none = record { digits = λ c a b. grind (arith, nat_tests); minus = refl; plus = refl }
 
+-- nor does the one for c
 pub c-none : PassesNone is_c
 c-none = record { digits = λ c a b. grind (arith, nat_tests); minus = refl; plus = refl }
 
@@ -71,4 +81,5 @@ whole_gap lo (negsuc b) e r s = absurd (omega (arith, ints))
 pub length-integer_most : (v : Decimal) → IsValue v.absolute → v.absolute.lo ≡ pos 0 → length (decimal_text v) ≤ 32769
 length-integer_most v h e =
     let g : int_gap v.absolute.lo v.absolute.hi ≤ 32767 = whole_gap v.absolute.lo v.absolute.hi e h.hi_in.0 h.hi_in.1 in
-    omega (arith, length-append (sign_text v.sign) (text v.absolute), sign_text_short v.sign, length-text_whole v.absolute h.hi_in.0 e, g)
+    omega (arith, length-append (sign_text v.sign) (text v.absolute), sign_text_short v.sign,
+        length-text_whole v.absolute h.hi_in.0 e, g)

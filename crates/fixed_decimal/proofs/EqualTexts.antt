@@ -11,10 +11,14 @@ module _ {V : Type 0} (text : V → List ℕ) (read : List ℕ → Result V Faul
   pub text_same : (v w : V) → read (text v) ≡ Ok v → read (text w) ≡ Ok w → text v ≡ text w → v ≡ w
   text_same v w p q e = let r = sym p ∙ ap read e ∙ q in cc
 
-  pub tells_texts : (r : Bool) (v w : V) → read (text v) ≡ Ok v → read (text w) ≡ Ok w → IsTrue r ↔ (v ≡ w) → IsTrue r ↔ (text v ≡ text w)
+  -- a test that tells whether two such values are equal tells whether their texts are
+  pub tells_texts : (r : Bool) (v w : V) → read (text v) ≡ Ok v → read (text w) ≡ Ok w → IsTrue r ↔ (v ≡ w)
+      → IsTrue r ↔ (text v ≡ text w)
   tells_texts r v w p q h = (λ x. ap text (h.0 x), λ e. h.1 (text_same v w p q e))
 
-  pub tells_same : (r : Bool) (v w : V) → read (text v) ≡ Ok v → read (text w) ≡ Ok w → IsTrue r ↔ (v ≡ w) → r ≡ same_text text v w
+  -- and it answers as the comparison of their texts does
+  pub tells_same : (r : Bool) (v w : V) → read (text v) ≡ Ok v → read (text w) ≡ Ok w → IsTrue r ↔ (v ≡ w)
+      → r ≡ same_text text v w
   tells_same r v w p q h =
       let d = bytes_eq-Decides (text v) (text w) in
       let t = tells_texts r v w p q h in

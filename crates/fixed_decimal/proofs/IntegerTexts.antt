@@ -12,7 +12,8 @@ use Rattle.fixed_decimal.specs.DecimalText.{decimal_text, Grammar, behind_sign, 
 use Rattle.fixed_decimal.specs.Integer.{integer_or_limit, read_integer, ReadsInteger}
 use Rattle.fixed_decimal.proofs.DecimalTexts.{decimal_syntax, grammar_cuts, read_decimal_text}
 
-decimal_found : (bytes : List ℕ) (s : Sign) (w : Written) → Grammar bytes s w → read_decimal bytes ≡ with_sign s (value_of w)
+decimal_found : (bytes : List ℕ) (s : Sign) (w : Written) → Grammar bytes s w
+    → read_decimal bytes ≡ with_sign s (value_of w)
 unfolding read_decimal
 decimal_found bytes s w g =
     let k = grammar_cuts bytes s w g in
@@ -26,5 +27,6 @@ integer_reads bytes = record {
 }
 
 -- the text of an integer reads as the integer
-pub integer_reads_back : (v : Decimal) → IsValue v.absolute → v.absolute.lo ≡ pos 0 → read_integer (decimal_text v) ≡ Ok v
+pub integer_reads_back : (v : Decimal) → IsValue v.absolute → v.absolute.lo ≡ pos 0
+    → read_integer (decimal_text v) ≡ Ok v
 integer_reads_back v h e = rw (read_decimal_text v h, e) refl

@@ -22,8 +22,13 @@ and_then-Ok (Err e) = refl
 after_calls-snoc : (at : ℕ) (v : Decimal) (xs : List Call) (x : Call)
     → after_calls at v (xs ++ x ∷ []) ≡ and_then (after_calls at v xs) (λ w. step (at + length xs) w x)
 after_calls-snoc at v [] x = and_then-Ok (step at v x) ∙ ap (λ k. step k v x) (let e : at ≡ at + 0 = omega arith in e)
-after_calls-snoc at v (y ∷ ys) x = elim (step at v y) as (λ r. and_then r (λ w. after_calls (at + 1) w (ys ++ x ∷ [])) ≡ and_then (and_then r (λ w. after_calls (at + 1) w ys)) (λ w. step (at + suc (length ys)) w x)) [
-  | Ok w ↦ after_calls-snoc (at + 1) w ys x ∙ ap (λ k. and_then (after_calls (at + 1) w ys) (λ u. step k u x)) (let e : at + 1 + length ys ≡ at + suc (length ys) = omega arith in e)
+after_calls-snoc at v (y ∷ ys) x = elim (step at v y) as
+    (λ r. and_then r (λ w. after_calls (at + 1) w (ys ++ x ∷ []))
+        ≡ and_then (and_then r (λ w. after_calls (at + 1) w ys)) (λ w. step (at + suc (length ys)) w x)) [
+  | Ok w ↦
+      after_calls-snoc (at + 1) w ys x
+      ∙ ap (λ k. and_then (after_calls (at + 1) w ys) (λ u. step k u x))
+          (let e : at + 1 + length ys ≡ at + suc (length ys) = omega arith in e)
   | Err e ↦ refl
 ]
 
@@ -32,8 +37,10 @@ pub record IsAt (first : Decimal) (calls : List Call) (at : ℕ) (v : Decimal) :
   pub before : after_calls 0 first (take at calls) ≡ Ok v
   pub rest : after_calls at v (drop at calls) ≡ after_calls 0 first calls
 
-module _ {first v : Decimal} {calls : List Call} {at : ℕ} (i : IsAt first calls at v) (d : Call) (h : at < length calls) where
-  next : after_calls at v (drop at calls) ≡ and_then (step at v (get_or calls at d)) (λ w. after_calls (at + 1) w (drop (at + 1) calls))
+module _ {first v : Decimal} {calls : List Call} {at : ℕ} (i : IsAt first calls at v) (d : Call)
+    (h : at < length calls) where
+  next : after_calls at v (drop at calls)
+      ≡ and_then (step at v (get_or calls at d)) (λ w. after_calls (at + 1) w (drop (at + 1) calls))
   next =
       let e : suc at ≡ at + 1 = omega arith in
       ap (after_calls at v) (drop-cons calls at d h ∙ ap (λ k. get_or calls at d ∷ drop k calls) e)

@@ -31,7 +31,8 @@ hundred =
 -- the limit is far above
 far : 10 ^ 31 * cent < weight (pos 32768)
 far =
-    let k : 32 + place (negsuc 1) ≤ place (pos 32768) = omega (arith, ints, place_is (pos 32768), place_is (negsuc 1)) in
+    let k : 32 + place (negsuc 1) ≤ place (pos 32768) =
+        omega (arith, ints, place_is (pos 32768), place_is (negsuc 1)) in
     let m : 10 ^ (32 + place (negsuc 1)) ≤ weight (pos 32768) = pow-le-pow_right (omega arith) k in
     let e : 10 ^ (32 + place (negsuc 1)) ≡ 10 ^ 32 * cent = pow-add 10 32 (place (negsuc 1)) in
     omega (arith, m, e, ten_pos (place (negsuc 1)))
@@ -46,13 +47,17 @@ module _ (n : ℕ) (small : n < 2 ^ 96) where
   -- a shift by -4 stays in the limits
   shift_fits : leaves_limits (integer_value n) (negsuc 3) ≡ false
   shift_fits =
-      let k : place (pos 32768) ≡ place (pos 32767) + 1 = omega (arith, ints, place_is (pos 32768), place_is (pos 32767)) in
+      let k : place (pos 32768) ≡ place (pos 32767) + 1 =
+          omega (arith, ints, place_is (pos 32768), place_is (pos 32767)) in
       let e : weight (pos 32768) ≡ 10 ^ (place (pos 32767) + 1) = ap (λ k. 10 ^ k) k in
-      let top : first (n * weight (pos 0)) ≤ℤ pos 32767 = first_le (n * weight (pos 0)) (pos 32767) (omega (arith, few, far, e)) (omega (arith, ints)) (omega (arith, ints)) in
+      let top : first (n * weight (pos 0)) ≤ℤ pos 32767 =
+          first_le (n * weight (pos 0)) (pos 32767) (omega (arith, few, far, e)) (omega (arith, ints))
+              (omega (arith, ints)) in
       stays_in (integer_value n) (negsuc 3) (omega (arith, ints, top)) (omega (arith, ints))
 
   -- a number of no more units is rounded to a cent below the limit
-  round_fits : (m : ℕ) → m ≤ n * weight (pos 0) → reaches_limit (rounded_number HalfEven (unit_at MultiplesOf1 (negsuc 1)) m) ≡ false
+  round_fits : (m : ℕ) → m ≤ n * weight (pos 0)
+      → reaches_limit (rounded_number HalfEven (unit_at MultiplesOf1 (negsuc 1)) m) ≡ false
   round_fits m h =
       let unit : 0 < unit_at MultiplesOf1 (negsuc 1) = omega (arith, ten_pos (place (negsuc 1))) in
       let top : m ≤ 10 ^ 31 * unit_at MultiplesOf1 (negsuc 1) = omega (arith, few) in
@@ -65,7 +70,9 @@ module _ (n : ℕ) (small : n < 2 ^ 96) where
   shifts = rw shift_fits refl
 
   -- what it makes is rounded to a cent
-  pub round_never_refused : (v w : Unsigned) → v ≡ integer_value n → shifted v (negsuc 3) ≡ Some w → rounded w (negsuc 1) HalfEven MultiplesOf1 ≡ None → ⊥
+  pub round_never_refused : (v w : Unsigned) → v ≡ integer_value n → shifted v (negsuc 3) ≡ Some w
+      → rounded w (negsuc 1) HalfEven MultiplesOf1 ≡ None
+      → ⊥
   round_never_refused v w is some none =
       let e : multiplied (integer_value n) (negsuc 3) ≡ w = (let f = rw is at some in cc (shifts)) in
       let number : n * weight (pos 0) / 10 ^ 4 ≡ w.number = ap (λ (x : Unsigned). x.number) e in

@@ -156,8 +156,8 @@ pub(super) fn push_zeros(bytes: &mut SmallVec<u8, 8>, count: usize)
 
 /// Keeps the first bytes.
 ///
-/// `smallvec` writes zeros over what it drops, by a call where their number varies. So a few are dropped by four, two and
-/// one, which take no call.
+/// `smallvec` writes zeros over what it drops, by a call where their number varies. So a few are dropped by four, two
+/// and one, which take no call.
 #[inline]
 pub(super) fn keep_bytes(bytes: &mut SmallVec<u8, 8>, count: usize)
     requires { count ≤ small_vec_len bytes.old }

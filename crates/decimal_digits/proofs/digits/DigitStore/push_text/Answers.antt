@@ -5,7 +5,8 @@ use Rattle.decimal_digits.proofs.DigitTexts.{letter_at}
 use Rattle.decimal_digits.proofs.digits.DigitStore.push_text.Goals as goal
 
 pub overflow_sub-letter : goal.overflow_sub-letter
-overflow_sub-letter g c = (letter_at c.args.text.now c.loop-letter.letter-index c.requires.are_digits c.loop-letter-test.true).low
+overflow_sub-letter g c =
+    (letter_at c.args.text.now c.loop-letter.letter-index c.requires.are_digits c.loop-letter-test.true).low
 
 pub push_in_room-requires-clause-is_digit : goal.push_in_room-requires-clause-is_digit
 push_in_room-requires-clause-is_digit g c =

@@ -4,6 +4,7 @@ use Rattle.decimal_digits.proofs.digits.DigitStore.push_text.Given as goal
 
 abbrev pub invariant-loop-letter : goal.invariant-loop-letter
 invariant-loop-letter g l = record {
-  digits : g.Self.DigitStore.digits l.self ≡ g.Self.DigitStore.digits l.initial.self ++ map digit_value (take l.letter-index l.text);
+  digits : g.Self.DigitStore.digits l.self
+      ≡ g.Self.DigitStore.digits l.initial.self ++ map digit_value (take l.letter-index l.text);
   room : g.Self.DigitStore.room l.initial.self ≤ g.Self.DigitStore.room l.self + l.letter-index;
 }

@@ -24,11 +24,20 @@ loop-letter-preserved c =
     let value : v ≡ digit_value (get_or c.args.letters.now i 0) = omega (arith, letter.value, same) in
     record {
       read = λ k q. elim (cases_eq k i) [
-        | inl s ↦ ap (λ j. get_or (set now i v) j 0) s ∙ get_or-set_same now i v 0 inside ∙ value ∙ ap (λ j. digit_value (get_or c.args.letters.now j 0)) (sym s)
+        | inl s ↦
+            ap (λ j. get_or (set now i v) j 0) s
+            ∙ get_or-set_same now i v 0 inside
+            ∙ value
+            ∙ ap (λ j. digit_value (get_or c.args.letters.now j 0)) (sym s)
         | inr s ↦ get_or-set_other now i k v 0 s ∙ c.loop-letter.invariant.read k (omega arith)
       ];
-      rest = λ k q. let ne : k ≢ i = omega arith in get_or-set_other now i k v 0 ne ∙ c.loop-letter.invariant.rest k (omega arith);
+      rest =
+          λ k q.
+              let ne : k ≢ i = omega arith in
+              get_or-set_other now i k v 0 ne ∙ c.loop-letter.invariant.rest k (omega arith);
     }
 
 pub returns : goal.returns
-returns c = read_from c.args.letters.now c.loop-letter.letters c.loop-letter.auto.letters (λ k q. c.loop-letter.invariant.read k (omega arith))
+returns c =
+    read_from c.args.letters.now c.loop-letter.letters c.loop-letter.auto.letters
+        (λ k q. c.loop-letter.invariant.read k (omega arith))

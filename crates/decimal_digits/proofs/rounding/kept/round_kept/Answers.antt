@@ -12,8 +12,9 @@ use Rattle.decimal_digits.proofs.rounding.kept.round_kept.Goals as goal
 pub returns-then-keep-le2-clause-value : goal.returns-then-keep-le2-clause-value
 returns-then-keep-le2-clause-value g c =
     let ds = g.D.DigitStore.digits c.args.counted.now.list.now in
-    rounds_as c.args.mode (step_of c.args.increment) c.args.tail _ _ _ _ (c.rounded_two-rounded.ensures.rounds (leading (c.args.keep - 2) ds)) c.two_at-two.ensures.value
-    (omega (arith, c.in-Some.ensures.value, leading_none (c.args.keep - 2) ds (omega arith)))
+    rounds_as c.args.mode (step_of c.args.increment) c.args.tail _ _ _ _
+        (c.rounded_two-rounded.ensures.rounds (leading (c.args.keep - 2) ds)) c.two_at-two.ensures.value
+        (omega (arith, c.in-Some.ensures.value, leading_none (c.args.keep - 2) ds (omega arith)))
 
 pub returns-in_default-clause-refused : goal.returns-in_default-clause-refused
 returns-in_default-clause-refused g c =
@@ -21,7 +22,8 @@ returns-in_default-clause-refused g c =
     let two = c.rounded_two-rounded in (
       two.result,
       c.in_default.ensures.full,
-      rounds_as c.args.mode (step_of c.args.increment) c.args.tail _ _ _ _ (two.ensures.rounds (leading (c.args.keep - 2) ds)) c.two_at-two.ensures.value
+      rounds_as c.args.mode (step_of c.args.increment) c.args.tail _ _ _ _
+          (two.ensures.rounds (leading (c.args.keep - 2) ds)) c.two_at-two.ensures.value
           (omega (arith, leading_none (c.args.keep - 2) ds (omega arith))),
     )
 
@@ -32,20 +34,25 @@ returns-in_default-add_one-clause-refused g c =
     let two = c.rounded_two-rounded in
     let same : g.D.DigitStore.digits c.two_at-two.new.counted.list.now ≡ ds = cc in
     let full = c.in_default-add_one.ensures.full in
-    let up : 10 ^ c.args.room ≡ 10 ^ (c.args.room - 2) * 10 ^ 2 = powers (c.args.room - 2) 2 c.args.room (omega arith) in (
+    let up : 10 ^ c.args.room ≡ 10 ^ (c.args.room - 2) * 10 ^ 2 =
+        powers (c.args.room - 2) 2 c.args.room (omega arith) in
+    (
       100 * leading (c.args.keep - 2) ds + two.result,
       omega (arith, full, up, ap (λ xs. leading (c.args.keep - 2) xs) same, c.if-rounded-eq100.true),
-      rounds_as c.args.mode (step_of c.args.increment) c.args.tail _ _ _ _ (two.ensures.rounds (leading (c.args.keep - 2) ds)) c.two_at-two.ensures.value refl,
+      rounds_as c.args.mode (step_of c.args.increment) c.args.tail _ _ _ _
+          (two.ensures.rounds (leading (c.args.keep - 2) ds)) c.two_at-two.ensures.value refl,
     )
 
 pub returns-then-rounded-eq100-clause-value : goal.returns-then-rounded-eq100-clause-value
 returns-then-rounded-eq100-clause-value g c =
     let ds = g.D.DigitStore.digits c.args.counted.now.list.now in
-    rounds_as c.args.mode (step_of c.args.increment) c.args.tail _ _ _ _ (c.rounded_two-rounded.ensures.rounds (leading (c.args.keep - 2) ds)) c.two_at-two.ensures.value
-    (let new = g.D.DigitStore.digits c.add_one.new.counted.list.now in
-    let same : g.D.DigitStore.digits c.two_at-two.new.counted.list.now ≡ ds = cc in
-    let more = number_at-more c.in-Some-add_one.places 2 new c.in-Some-add_one.ensures.length in
-    omega (arith, c.in-Some-add_one.ensures.value, more, ap (λ xs. leading (c.args.keep - 2) xs) same, c.if-rounded-eq100.true))
+    rounds_as c.args.mode (step_of c.args.increment) c.args.tail _ _ _ _
+        (c.rounded_two-rounded.ensures.rounds (leading (c.args.keep - 2) ds)) c.two_at-two.ensures.value
+        (let new = g.D.DigitStore.digits c.add_one.new.counted.list.now in
+         let same : g.D.DigitStore.digits c.two_at-two.new.counted.list.now ≡ ds = cc in
+         let more = number_at-more c.in-Some-add_one.places 2 new c.in-Some-add_one.ensures.length in
+         omega (arith, c.in-Some-add_one.ensures.value, more, ap (λ xs. leading (c.args.keep - 2) xs) same,
+             c.if-rounded-eq100.true))
 
 pub returns-in-Err-clause-refused : goal.returns-in-Err-clause-refused
 returns-in-Err-clause-refused g c =
@@ -59,8 +66,10 @@ returns-in-Err-clause-refused g c =
       at_end,
       (
         _,
-        one_more c.args.keep two.result ds (recursion_from_All _ _ (g.met.D.DigitStore.are_digits list)) (omega arith) at_end (c.requires.stripped.front (omega arith)) (omega arith) c.in-Err.ensures.ones,
-        rounds_as c.args.mode (step_of c.args.increment) c.args.tail _ _ _ _ (two.ensures.rounds (leading (c.args.keep - 2) ds)) c.two_at-two.ensures.value refl,
+        one_more c.args.keep two.result ds (recursion_from_All _ _ (g.met.D.DigitStore.are_digits list)) (omega arith)
+            at_end (c.requires.stripped.front (omega arith)) (omega arith) c.in-Err.ensures.ones,
+        rounds_as c.args.mode (step_of c.args.increment) c.args.tail _ _ _ _
+            (two.ensures.rounds (leading (c.args.keep - 2) ds)) c.two_at-two.ensures.value refl,
       ),
     )
 
@@ -71,5 +80,8 @@ returns-then-rounded-eq0-clause-value g c =
     let within : c.args.keep - 2 ≤ length ds = grind (arith, common_steps) in
     let is : xs ≡ take (c.args.keep - 2) ds = cc in
     let len : length xs ≡ c.args.keep - 2 = ap length is ∙ length-take-le (c.args.keep - 2) ds within in
-    rounds_as c.args.mode (step_of c.args.increment) c.args.tail _ _ _ _ (c.rounded_two-rounded.ensures.rounds (leading (c.args.keep - 2) ds)) c.two_at-two.ensures.value
-    (hundreds c.args.keep (length xs) c.args.keep 0 ds xs _ is within (omega arith) c.strip.ensures.length (omega (arith, c.strip.ensures.value)) ∙ omega arith)
+    rounds_as c.args.mode (step_of c.args.increment) c.args.tail _ _ _ _
+        (c.rounded_two-rounded.ensures.rounds (leading (c.args.keep - 2) ds)) c.two_at-two.ensures.value
+        (hundreds c.args.keep (length xs) c.args.keep 0 ds xs _ is within (omega arith) c.strip.ensures.length
+            (omega (arith, c.strip.ensures.value))
+            ∙ omega arith)

@@ -3,7 +3,8 @@ use Rattle.decimal_digits.proofs.Tails.{part_below, part_half, part_above}
 use Rattle.decimal_digits.proofs.rounding.tail.part_of.Goals as goal
 
 pub returns-then-quarters-step : goal.returns-then-quarters-step
-returns-then-quarters-step c = part_below c.args.tail c.args.step c.args.rest c.if-quarters-step.true c.if-quarters-eq0.false
+returns-then-quarters-step c =
+    part_below c.args.tail c.args.step c.args.rest c.if-quarters-step.true c.if-quarters-eq0.false
 
 pub returns-then-quarters-step-2 : goal.returns-then-quarters-step-2
 returns-then-quarters-step-2 c = part_half c.args.tail c.args.step c.args.rest c.if-quarters-step-2.true

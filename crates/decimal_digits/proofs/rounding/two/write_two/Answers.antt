@@ -8,6 +8,10 @@ pub returns-clause-value : goal.returns-clause-value
 returns-clause-value g c =
     let ds = g.D.DigitStore.digits c.args.counted.now.list.now in
     elim c.if-number-eq0.branch [
-      | then-number-eq0 w ↦ let value = tens_put c.args.keep ds (omega arith) c.requires.in_range c.args.number w.if-number-eq0.true in grind (arith, common_steps)
-      | else-number-eq0+in_ok-put_last w ↦ let value = both_put c.args.keep ds (omega arith) c.requires.in_range c.args.number in grind (arith, common_steps)
+      | then-number-eq0 w ↦
+          let value = tens_put c.args.keep ds (omega arith) c.requires.in_range c.args.number w.if-number-eq0.true in
+          grind (arith, common_steps)
+      | else-number-eq0+in_ok-put_last w ↦
+          let value = both_put c.args.keep ds (omega arith) c.requires.in_range c.args.number in
+          grind (arith, common_steps)
     ]

@@ -3,7 +3,9 @@ use Rattle.decimal_digits.proofs.Integers.{ascending_digits-step}
 use Rattle.decimal_digits.proofs.uint_iterator.IntIteratorIterator.next.Goals as goal
 
 pub returns-clause-steps : goal.returns-clause-steps
-returns-clause-steps g c = let s = c.in_ok-digit.ensures.some in sym c.self.view_is ∙ ascending_digits-step _ _ _ s.0 s.1 s.2
+returns-clause-steps g c =
+    let s = c.in_ok-digit.ensures.some in
+    sym c.self.view_is ∙ ascending_digits-step _ _ _ s.0 s.1 s.2
 
 pub returns-clause-goes : goal.returns-clause-goes
 returns-clause-goes g c =

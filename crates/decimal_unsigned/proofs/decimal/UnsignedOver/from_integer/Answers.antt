@@ -19,10 +19,12 @@ pub returns-clause-value : goal.returns-clause-value
 returns-clause-value g c =
     let n = g.T.UnsignedInteger.number c.args.integer in
     let w = c.write_digits-start in
-    rw (digits_at_end w.new.places w.result n w.ensures.digits (omega arith), number_digits_of 10 n (omega arith)) at c.from_digits.ensures.value
+    rw (digits_at_end w.new.places w.result n w.ensures.digits (omega arith), number_digits_of 10 n (omega arith)) at
+        c.from_digits.ensures.value
 
 pub returns-clause-succeeds : goal.returns-clause-succeeds
 returns-clause-succeeds g c =
     let n = g.T.UnsignedInteger.number c.args.integer in
     let w = c.write_digits-start in
-    rw (digits_at_end w.new.places w.result n w.ensures.digits (omega arith), number_digits_of 10 n (omega arith)) at c.from_digits.ensures.succeeds
+    rw (digits_at_end w.new.places w.result n w.ensures.digits (omega arith), number_digits_of 10 n (omega arith)) at
+        c.from_digits.ensures.succeeds

@@ -17,23 +17,40 @@ returns-then-hi-gt32767-clause-limit g c =
     ap (λ (v : Unsigned). shifted v c.args.delta) (sym c.self.view_is)
     ∙ shifted_over _ c.args.delta t (elim c.then-hi-gt32767.branch [
       | then-hi-gt32767-via-then-hi-gt32767 w ↦ inl (omega (arith, ints, t.in_range, t.hi_in, w.if-hi-gt32767.true))
-      | then-hi-gt32767-via-else-hi-gt32767+then-lo-ltminus32768 w ↦ inr (omega (arith, ints, t.in_range, t.lo_in, w.if-lo-ltminus32768.true))
+      | then-hi-gt32767-via-else-hi-gt32767+then-lo-ltminus32768 w ↦
+          inr (omega (arith, ints, t.in_range, t.lo_in, w.if-lo-ltminus32768.true))
     ])
 
-moves : (g : _) (c : goal.After-self-3-1 g) → Moves (g.D.DigitStore.digits c.self.inside.digits) c.self.inside.magnitude c.self.inside.hi c.self.inside.lo c.args.delta (to_z w16 c.if-len-eq0.magnitude-bits) (to_z w16 (of_z w16 c.at_least_zero-upper.result)) (to_z w16 (of_z w16 c.at_most_zero-lower.result))
+moves : (g : _) (c : goal.After-self-3-1 g)
+    → Moves (g.D.DigitStore.digits c.self.inside.digits) c.self.inside.magnitude c.self.inside.hi c.self.inside.lo
+        c.args.delta (to_z w16 c.if-len-eq0.magnitude-bits) (to_z w16 (of_z w16 c.at_least_zero-upper.result))
+        (to_z w16 (of_z w16 c.at_most_zero-lower.result))
 moves g c =
     let t = c.self.invariant in
     let d : to_z w16 (of_z w16 c.args.delta) ≡ c.args.delta = to_z-of_z w16 c.args.delta c.ranges.delta in
-    let h : (c.self.inside.hi +ℤ c.args.delta) ≤ℤ pos 32767 = omega (arith, ints, t.hi_in, t.in_range, c.if-hi-gt32767.false) in
+    let h : (c.self.inside.hi +ℤ c.args.delta) ≤ℤ pos 32767 =
+        omega (arith, ints, t.hi_in, t.in_range, c.if-hi-gt32767.false) in
     let f : c.sum-lo.result ≡ c.self.inside.lo +ℤ c.args.delta = c.sum-lo.ensures ∙ (rw (lo_kept t, d) refl) in
     let l : negsuc 32767 ≤ℤ (c.self.inside.lo +ℤ c.args.delta) = omega (arith, ints, f, c.if-lo-ltminus32768.false) in
     let e : c.sum-hi.result ≡ c.self.inside.hi +ℤ c.args.delta = c.sum-hi.ensures ∙ (rw (hi_kept t, d) refl) in
-    let u : to_z w16 (of_z w16 c.at_least_zero-upper.result) ≡ int_max (c.self.inside.hi +ℤ c.args.delta) (pos 0) = narrow_kept c.at_least_zero-upper.type_inv ∙ c.at_least_zero-upper.ensures ∙ ap (λ x. int_max x (pos 0)) (wide_kept c.sum-hi.type_inv ∙ e) in
-    let b : to_z w16 (of_z w16 c.at_most_zero-lower.result) ≡ int_min (c.self.inside.lo +ℤ c.args.delta) (pos 0) = narrow_kept c.at_most_zero-lower.type_inv ∙ c.at_most_zero-lower.ensures ∙ ap (λ x. int_min x (pos 0)) (wide_kept c.sum-lo.type_inv ∙ f) in
+    let u : to_z w16 (of_z w16 c.at_least_zero-upper.result) ≡ int_max (c.self.inside.hi +ℤ c.args.delta) (pos 0) =
+        narrow_kept c.at_least_zero-upper.type_inv
+        ∙ c.at_least_zero-upper.ensures
+        ∙ ap (λ x. int_max x (pos 0)) (wide_kept c.sum-hi.type_inv ∙ e) in
+    let b : to_z w16 (of_z w16 c.at_most_zero-lower.result) ≡ int_min (c.self.inside.lo +ℤ c.args.delta) (pos 0) =
+        narrow_kept c.at_most_zero-lower.type_inv
+        ∙ c.at_most_zero-lower.ensures
+        ∙ ap (λ x. int_min x (pos 0)) (wide_kept c.sum-lo.type_inv ∙ f) in
     record {
       some = λ p. elim c.if-len-eq0.branch [
         | then-len-eq0 w ↦ absurd (omega (arith, w.if-len-eq0.true, c.len.ensures))
-        | else-len-eq0 w ↦ w.magnitude-is ∙ narrow_kept w.narrowed-magnitude.type_inv ∙ w.narrowed-magnitude.ensures ∙ wide_kept w.sum.type_inv ∙ w.sum.ensures ∙ (rw (magnitude_kept t, d) refl)
+        | else-len-eq0 w ↦
+            w.magnitude-is
+            ∙ narrow_kept w.narrowed-magnitude.type_inv
+            ∙ w.narrowed-magnitude.ensures
+            ∙ wide_kept w.sum.type_inv
+            ∙ w.sum.ensures
+            ∙ (rw (magnitude_kept t, d) refl)
       ];
       none = λ z. elim c.if-len-eq0.branch [
         | then-len-eq0 w ↦ omega (arith, ints, w.magnitude-is)
@@ -49,4 +66,6 @@ pub invariant_of-self : goal.invariant_of-self
 invariant_of-self g c = moved c.self.invariant (moves g c)
 
 pub returns-clause-ok : goal.returns-clause-ok
-returns-clause-ok g c = ap (λ (v : Unsigned). shifted v c.args.delta) (sym c.self.view_is) ∙ shifted_is c.args.delta c.self.invariant (moves g c)
+returns-clause-ok g c =
+    ap (λ (v : Unsigned). shifted v c.args.delta) (sym c.self.view_is)
+    ∙ shifted_is c.args.delta c.self.invariant (moves g c)

@@ -14,4 +14,5 @@ invariant_of-self g c =
     let k = narrow_kept {z = c.min-self-inside.result} c.min-self-inside.type_inv in
     let r = narrow_kept {z = c.nonzero_magnitude_end.result} c.nonzero_magnitude_end.type_inv in
     let v = c.min-self-inside.ensures.value in
-    lower_stored t _ (omega (arith, ints, clamps, v)) (omega (arith, ints, clamps, v, r, e)) (omega (arith, ints, clamps, v, r, e, b))
+    lower_stored t _ (omega (arith, ints, clamps, v)) (omega (arith, ints, clamps, v, r, e))
+        (omega (arith, ints, clamps, v, r, e, b))

@@ -13,14 +13,23 @@ use Rattle.decimal_unsigned.proofs.decimal.UnsignedOver.set_max_position.Goals a
 use Rattle.decimal_unsigned.proofs.decimal.UnsignedOver.set_max_position.Goals.{then-start-len, else-start-len}
 
 pub magnitude_of-magnitude-requires : goal.magnitude_of-magnitude-requires
-magnitude_of-magnitude-requires g c = let t = c.self.invariant in omega (arith, ints, magnitude_kept t, c.if-start-len.true, c.len-len.ensures, t.fits, t.in_range, lowest t, place_is c.self.inside.magnitude, place_is c.self.inside.lo)
+magnitude_of-magnitude-requires g c =
+    let t = c.self.invariant in
+    omega (arith, ints, magnitude_kept t, c.if-start-len.true, c.len-len.ensures, t.fits, t.in_range, lowest t,
+        place_is c.self.inside.magnitude, place_is c.self.inside.lo)
 
-cuts : (g : _) (c : goal.After-self-3-1 g) → Cuts (g.D.DigitStore.digits c.self.inside.digits) c.self.inside.magnitude c.self.inside.lo c.args.position c.first_nonzero-start.result (to_z w16 c.if-start-len.magnitude-bits) (to_z w16 (of_z w16 c.at_least_zero-hi.result)) (to_z w16 (of_z w16 c.min-lo.result))
+cuts : (g : _) (c : goal.After-self-3-1 g)
+    → Cuts (g.D.DigitStore.digits c.self.inside.digits) c.self.inside.magnitude c.self.inside.lo c.args.position
+        c.first_nonzero-start.result (to_z w16 c.if-start-len.magnitude-bits)
+        (to_z w16 (of_z w16 c.at_least_zero-hi.result)) (to_z w16 (of_z w16 c.min-lo.result))
 cuts g c =
     let t = c.self.invariant in
     let p : to_z w16 (of_z w16 c.args.position) ≡ c.args.position = to_z-of_z w16 c.args.position c.ranges.position in
     let f = c.first_nonzero-start.ensures in
-    let from : c.min.result ≡ min (int_gap c.args.position (c.self.inside.magnitude +ℤ pos 1)) (length (g.D.DigitStore.digits c.self.inside.digits)) = c.min.ensures ∙ (rw (c.places_from-above.ensures, c.len-len.ensures, p, magnitude_kept t) refl) in
+    let from : c.min.result
+            ≡ min (int_gap c.args.position (c.self.inside.magnitude +ℤ pos 1))
+                (length (g.D.DigitStore.digits c.self.inside.digits)) =
+        c.min.ensures ∙ (rw (c.places_from-above.ensures, c.len-len.ensures, p, magnitude_kept t) refl) in
     let below : c.sum.result ≡ c.args.position -ℤ pos 1 = omega (arith, ints, c.sum.ensures, p) in
     record {
       from = subst (λ n. n ≤ c.first_nonzero-start.result) from f.from;
@@ -28,14 +37,21 @@ cuts g c =
       zeros = λ k l h. f.zeros k (subst (λ n. n ≤ k) (sym from) l) h;
       found = f.found;
       some = λ h. elim c.if-start-len.branch [
-        | then-start-len w ↦ w.magnitude-is ∙ narrow_kept w.magnitude_of-magnitude.type_inv ∙ w.magnitude_of-magnitude.ensures ∙ ap (λ m. m -ℤ pos c.first_nonzero-start.result) (magnitude_kept t)
+        | then-start-len w ↦
+            w.magnitude-is
+            ∙ narrow_kept w.magnitude_of-magnitude.type_inv
+            ∙ w.magnitude_of-magnitude.ensures
+            ∙ ap (λ m. m -ℤ pos c.first_nonzero-start.result) (magnitude_kept t)
         | else-start-len w ↦ absurd (omega (arith, w.if-start-len.false, c.len-len.ensures))
       ];
       none = λ h. elim c.if-start-len.branch [
         | then-start-len w ↦ absurd (omega (arith, w.if-start-len.true, c.len-len.ensures))
         | else-start-len w ↦ omega (arith, ints, w.magnitude-is)
       ];
-      hi_is = narrow_kept c.at_least_zero-hi.type_inv ∙ c.at_least_zero-hi.ensures ∙ ap (λ x. int_max x (pos 0)) (wide_kept c.sum.type_inv ∙ below);
+      hi_is =
+          narrow_kept c.at_least_zero-hi.type_inv
+          ∙ c.at_least_zero-hi.ensures
+          ∙ ap (λ x. int_max x (pos 0)) (wide_kept c.sum.type_inv ∙ below);
       lo_is = narrow_kept c.min-lo.type_inv ∙ c.min-lo.ensures.value ∙ (rw (lo_kept t, p) refl);
       position = (omega (arith, ints, p), omega (arith, ints, p));
     }
@@ -44,10 +60,13 @@ pub invariant_of-self : goal.invariant_of-self
 invariant_of-self g c = rw c.drop_front.ensures (stored_cut c.self.invariant (cuts g c))
 
 pub returns-clause-value : goal.returns-clause-value
-returns-clause-value g c = rw c.drop_front.ensures (cut_is c.self.invariant (cuts g c) ∙ ap (λ (v : Unsigned). cut v c.args.position) c.self.view_is)
+returns-clause-value g c =
+    rw c.drop_front.ensures
+        (cut_is c.self.invariant (cuts g c) ∙ ap (λ (v : Unsigned). cut v c.args.position) c.self.view_is)
 
 pub returns-clause-parts : goal.returns-clause-parts
 returns-clause-parts g c =
     let v = c.args.self.now in
     let p = c.args.position in
-    subst (PartsJoin v p (truncated v p)) (sym (returns-clause-value g c)) (parts v p (value_of_view c.self.invariant c.self.view_is))
+    subst (PartsJoin v p (truncated v p)) (sym (returns-clause-value g c))
+        (parts v p (value_of_view c.self.invariant c.self.view_is))

@@ -12,7 +12,8 @@ use Rattle.decimal_unsigned.proofs.decimal.UnsignedOver.trunc.Goals as goal
 pub unwrap-requires : goal.unwrap-requires
 unwrap-requires g c =
     let p = c.ranges.position in
-    ok_unless c.round_with_mode.result (simp to_z-of_z at c.round_with_mode.ensures.limit) (λ r. trunc_not_refused c.args.self.now c.args.position r.valid MultiplesOf1 r.value)
+    ok_unless c.round_with_mode.result (simp to_z-of_z at c.round_with_mode.ensures.limit)
+        (λ r. trunc_not_refused c.args.self.now c.args.position r.valid MultiplesOf1 r.value)
 
 pub returns : goal.returns
 returns g c =
@@ -23,6 +24,10 @@ returns g c =
     let value = ap (λ o. unwrap_or o v) rounds.value in
     record {
       rounds = rounds;
-      parts = subst (λ t. PartsJoin v c.args.position t (cut v c.args.position)) value (parts v c.args.position rounds.valid);
-      again = subst (TruncatedAgain v c.args.position) value (truncated_again v c.args.position (omega (arith, ints)) rounds.valid);
+      parts =
+          subst (λ t. PartsJoin v c.args.position t (cut v c.args.position)) value
+              (parts v c.args.position rounds.valid);
+      again =
+          subst (TruncatedAgain v c.args.position) value
+              (truncated_again v c.args.position (omega (arith, ints)) rounds.valid);
     }

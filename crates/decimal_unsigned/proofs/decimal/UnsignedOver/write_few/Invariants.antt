@@ -4,4 +4,5 @@ use Rattle.decimal_unsigned.specs.Text.{text}
 use Rattle.decimal_unsigned.proofs.decimal.UnsignedOver.write_few.Given as goal
 
 abbrev pub invariant-loop-index : goal.invariant-loop-index
-invariant-loop-index g l = Appends (g.W.Sink.contents l.initial.sink) (g.W.Sink.contents l.sink) (take l.index (text l.self))
+invariant-loop-index g l =
+    Appends (g.W.Sink.contents l.initial.sink) (g.W.Sink.contents l.sink) (take l.index (text l.self))

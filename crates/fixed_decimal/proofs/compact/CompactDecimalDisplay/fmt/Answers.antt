@@ -9,4 +9,6 @@ returns-clause-styled g c flush ok =
     let e : (c.self.inside.exponent == 0) ≡ false = grind (arith, nat_tests) in
     let p = c.in_ok-fmt.ensures.styled flush refl in
     let q = ascii_formatted 99 (omega arith) (c.in_ok-write_char.ensures.styled p.flush refl) in
-    rw (← c.self.view_is, e) (has_written_styled_append _ _ _ _ _ _ p (has_written_styled_append _ _ _ _ _ _ q (c.format_number.ensures q.flush ok)))
+    rw (← c.self.view_is, e)
+        (has_written_styled_append _ _ _ _ _ _ p
+            (has_written_styled_append _ _ _ _ _ _ q (c.format_number.ensures q.flush ok)))

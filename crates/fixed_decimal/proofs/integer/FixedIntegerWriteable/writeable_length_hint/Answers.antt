@@ -3,4 +3,6 @@ use Rattle.fixed_decimal.proofs.DecimalBytes.{length-integer_most}
 use Rattle.fixed_decimal.proofs.integer.FixedIntegerWriteable.writeable_length_hint.Goals as goal
 
 pub returns-clause-few : goal.returns-clause-few
-returns-clause-few c = omega (arith, length-integer_most c.self.inside.0 c.recall_value.ensures c.self.invariant, c.writeable_length_hint.ensures)
+returns-clause-few c =
+    omega (arith, length-integer_most c.self.inside.0 c.recall_value.ensures c.self.invariant,
+        c.writeable_length_hint.ensures)

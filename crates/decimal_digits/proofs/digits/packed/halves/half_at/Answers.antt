@@ -10,9 +10,12 @@ bounds-bytes-index c = omega (arith, c.requires, length-halves c.args.bytes.now)
 pub returns-then-index-eq0 : goal.returns-then-index-eq0
 returns-then-index-eq0 c =
     let h : c.args.index / 2 < length c.args.bytes.now = omega (arith, c.requires, length-halves c.args.bytes.now) in
-    sym (high_half c.args.bytes.now (c.args.index / 2) h) ∙ ap (λ i. get_or (halves c.args.bytes.now) i 0) (let e : 2 * (c.args.index / 2) ≡ c.args.index = omega arith in e)
+    sym (high_half c.args.bytes.now (c.args.index / 2) h)
+    ∙ ap (λ i. get_or (halves c.args.bytes.now) i 0) (let e : 2 * (c.args.index / 2) ≡ c.args.index = omega arith in e)
 
 pub returns-else-index-eq0 : goal.returns-else-index-eq0
 returns-else-index-eq0 c =
     let h : c.args.index / 2 < length c.args.bytes.now = omega (arith, c.requires, length-halves c.args.bytes.now) in
-    sym (low_half c.args.bytes.now (c.args.index / 2) h) ∙ ap (λ i. get_or (halves c.args.bytes.now) i 0) (let e : 2 * (c.args.index / 2) + 1 ≡ c.args.index = omega arith in e)
+    sym (low_half c.args.bytes.now (c.args.index / 2) h)
+    ∙ ap (λ i. get_or (halves c.args.bytes.now) i 0)
+        (let e : 2 * (c.args.index / 2) + 1 ≡ c.args.index = omega arith in e)

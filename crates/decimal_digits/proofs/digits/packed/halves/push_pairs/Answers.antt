@@ -11,7 +11,9 @@ loop-i-preserved c =
     let digits = c.args.digits.now in
     let lt : 2 * c.loop-i.i + 1 < length digits = omega arith in
     record {
-      pushed = ap halves c.push_reserved.ensures.items ∙ pushed_more _ c.loop-i.bytes.items digits c.loop-i.i lt c.loop-i.invariant.pushed;
+      pushed =
+          ap halves c.push_reserved.ensures.items
+          ∙ pushed_more _ c.loop-i.bytes.items digits c.loop-i.i lt c.loop-i.invariant.pushed;
       len = omega (arith, ap length c.push_reserved.ensures.items, length-append {A = ℕ}, c.loop-i.invariant.len);
       capacity = c.push_reserved.ensures.capacity ∙ c.loop-i.invariant.capacity;
     }
@@ -27,5 +29,7 @@ returns-clause-appended c =
           ap items w.bytes-is ∙ ap halves w.push_reserved-then-digits-eq1.ensures.items
           ∙ pushed_odd before c.loop-i.bytes.items digits c.loop-i.i all w.if-digits-eq1.true c.loop-i.invariant.pushed
       | else-digits-eq1 w ↦
-          ap items w.bytes-is ∙ pushed_even before c.loop-i.bytes.items digits c.loop-i.i c.loop-i-test.false w.if-digits-eq1.false c.loop-i.invariant.pushed
+          ap items w.bytes-is
+          ∙ pushed_even before c.loop-i.bytes.items digits c.loop-i.i c.loop-i-test.false w.if-digits-eq1.false
+              c.loop-i.invariant.pushed
     ]

@@ -10,7 +10,8 @@ loop-preserved c =
     record {
       items = e ∙ ap (λ l. l ++ replicate 64 0) c.loop.invariant.items
           ∙ append_assoc c.args.bytes.now.items (replicate (64 * c.loop.counter) 0) (replicate 64 0)
-          ∙ ap (λ l. c.args.bytes.now.items ++ l) (replicate-append-replicate (64 * c.loop.counter) 64 0 ∙ ap (λ n. replicate n 0) z);
+          ∙ ap (λ l. c.args.bytes.now.items ++ l)
+              (replicate-append-replicate (64 * c.loop.counter) 64 0 ∙ ap (λ n. replicate n 0) z);
       capacity = omega (arith, c.extend_from_slice.ensures.capacity, c.loop.invariant.capacity);
     }
 
@@ -22,4 +23,5 @@ returns-clause-items c =
     e ∙ ap (λ l. c.loop.bytes.items ++ l) (fewer (c.args.count % 64) 64 small)
     ∙ ap (λ l. l ++ replicate (c.args.count % 64) 0) c.loop.invariant.items
     ∙ append_assoc c.args.bytes.now.items (replicate (64 * c.loop.counter) 0) (replicate (c.args.count % 64) 0)
-    ∙ ap (λ l. c.args.bytes.now.items ++ l) (replicate-append-replicate (64 * c.loop.counter) (c.args.count % 64) 0 ∙ ap (λ n. replicate n 0) z)
+    ∙ ap (λ l. c.args.bytes.now.items ++ l)
+        (replicate-append-replicate (64 * c.loop.counter) (c.args.count % 64) 0 ∙ ap (λ n. replicate n 0) z)

@@ -7,7 +7,9 @@ pub returns-in_default-clause-fault : goal.returns-in_default-clause-fault
 returns-in_default-clause-fault c = read_none c.args.text.now c.in_default.ensures.parts
 
 pub returns-in_default-planned-clause-fault : goal.returns-in_default-planned-clause-fault
-returns-in_default-planned-clause-fault c = read_some c.args.text.now (view c.in-Some.parts) c.in-Some.ensures.parts ∙ c.in_default-planned.ensures.none
+returns-in_default-planned-clause-fault c =
+    read_some c.args.text.now (view c.in-Some.parts) c.in-Some.ensures.parts ∙ c.in_default-planned.ensures.none
 
 pub returns-clause-value : goal.returns-clause-value
-returns-clause-value c = read_some c.args.text.now (view c.in-Some.parts) c.in-Some.ensures.parts ∙ c.in-Some-planned.ensures.some.value
+returns-clause-value c =
+    read_some c.args.text.now (view c.in-Some.parts) c.in-Some.ensures.parts ∙ c.in-Some-planned.ensures.some.value

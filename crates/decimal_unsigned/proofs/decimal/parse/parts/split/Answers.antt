@@ -6,9 +6,12 @@ use Rattle.decimal_unsigned.specs.Parts.{views}
 use Rattle.decimal_unsigned.proofs.Exponents.{digits_found, exponent_found}
 use Rattle.decimal_unsigned.proofs.decimal.parse.parts.split.Goals as goal
 
-found : (c : goal.After-after_whole) → views c.after_whole.result ≡ option_map saturated_parts (parts_of c.args.text.now)
+found : (c : goal.After-after_whole)
+    → views c.after_whole.result ≡ option_map saturated_parts (parts_of c.args.text.now)
 unfolding parts_of
-found c = c.after_whole.ensures ∙ (λ i. option_map saturated_parts (after_whole (c.split_digits.ensures.front i) (c.split_digits.ensures.behind i)))
+found c =
+    c.after_whole.ensures
+    ∙ (λ i. option_map saturated_parts (after_whole (c.split_digits.ensures.front i) (c.split_digits.ensures.behind i)))
 
 pub returns-clause-digits : goal.returns-clause-digits
 returns-clause-digits c = digits_found c.args.text.now c.after_whole.result (found c)

@@ -6,12 +6,14 @@ use Rattle.decimal_unsigned.proofs.decimal.parse.parts.Parts.between.Goals as go
 pub returns-clause-front : goal.returns-clause-front
 returns-clause-front c =
     let p = c.args.self.now in
-    digits_take _ (drop c.min.result p.whole.now) (digits_drop c.min.result p.whole.now (digits_left p.whole.now p.fraction.now c.requires.digits))
+    digits_take _ (drop c.min.result p.whole.now)
+        (digits_drop c.min.result p.whole.now (digits_left p.whole.now p.fraction.now c.requires.digits))
 
 pub returns-clause-behind : goal.returns-clause-behind
 returns-clause-behind c =
     let p = c.args.self.now in
-    digits_take _ (drop c.saturating_sub.result p.fraction.now) (digits_drop c.saturating_sub.result p.fraction.now (digits_right p.whole.now p.fraction.now c.requires.digits))
+    digits_take _ (drop c.saturating_sub.result p.fraction.now)
+        (digits_drop c.saturating_sub.result p.fraction.now (digits_right p.whole.now p.fraction.now c.requires.digits))
 
 pub returns-clause-value : goal.returns-clause-value
 returns-clause-value c =
