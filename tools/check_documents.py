@@ -16,6 +16,7 @@ Run from the repository's root: `python3 tools/check_documents.py`. Each thing t
 - examples: `$ fixdec ..` in README.md prints what README.md says, where the program is built.
 """
 
+import glob
 import os
 import re
 import subprocess
@@ -302,6 +303,9 @@ def check_names(tree, documents):
     for path in documents:
         for line in paragraphs(read(path)):
             for word in quoted(line):
+                if "*" in word:
+                    check("/" not in word or glob.glob(word), f"{path}: no file is named like `{word}`")
+                    continue
                 if re.search(r"[/]|\.(rt|antt|md|py|sh|txt|edit)$", word) and " " not in word:
                     check(tree.has_path(word) or os.path.exists(word), f"{path}: there is no file `{word}`")
                     continue
