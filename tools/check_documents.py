@@ -16,6 +16,7 @@ Run from the repository's root: `python3 tools/check_documents.py`. Each thing t
 - examples: `$ fixdec ..` in README.md prints what README.md says, where the program is built.
 """
 
+import glob
 import os
 import re
 import subprocess
@@ -47,7 +48,7 @@ SEEN = {"decimal_digits": {"Halves"}, "decimal_unsigned": {"Fields", "Parts", "P
 FOREIGN = set(
     """
     FloatPrecision DoublePrecision WithInfinity try_from_f64 ryu writeable write_to_string LengthHint
-    FromStr non_exhaustive rustc release memcmp String rt ci fixdec TEXT CALL WORD INC MODE D P S K N expand_nines
+    FromStr ONE core non_exhaustive rustc release memcmp String rt ci fixdec TEXT CALL WORD INC MODE D P S K N expand_nines
     """.split()
 )
 
@@ -85,9 +86,10 @@ class Tree:
         self.code = [path for path in self.files if path.endswith((".rt", ".antt"))]
         self.text = {path: read(path) for path in self.code}
         self.words = set()
-        for text in self.text.values():
-            self.words.update(re.findall(r"[A-Za-z_][\w'-]*", text))
-            self.words.update(re.findall(r"[A-Za-z_]\w*", text))
+        for path, text in self.text.items():
+            code = re.sub(r"//.*" if path.endswith(".rt") else r"(?m)^--.*", "", text)
+            self.words.update(re.findall(r"[A-Za-z_][\w'-]*", code))
+            self.words.update(re.findall(r"[A-Za-z_]\w*", code))
         self.folders = {os.path.dirname(path) for path in self.files}
         for folder in list(self.folders):
             while folder:
@@ -127,6 +129,19 @@ def without_tests(text):
     return text.split("\n#[cfg(test)]\nmod tests {")[0]
 
 
+def contract_of(lines, indent):
+    """The first of the lines, up to the body of the function that begins there."""
+    contract = []
+    for line in lines:
+        contract.append(line)
+        is_clause = line.lstrip().startswith(("ensures", "requires"))
+        if line == indent + "{" or line.startswith(indent + "}") or line.endswith(";"):
+            break
+        if line.endswith("{") and not is_clause:
+            break
+    return "\n".join(contract)
+
+
 Function = namedtuple("Function", "name block public ensured contract")
 
 
@@ -144,21 +159,10 @@ def functions(text):
         start = re.match(r"(\s*)(pub(?:\([a-z]+\))? )?(?:const )?fn (\w+)", line)
         if not start:
             continue
-        indent = start.group(1)
-        clauses, contract = [], []
-        for below in lines[index:]:
-            contract.append(below)
-            clause = re.match(r"\s*(ensures|requires)\*? (?:(\w+) )?\{", below)
-            if clause and clause.group(1) == "ensures":
-                clauses.append(clause.group(2) or "ensures")
-            if below == indent + "{" or below.startswith(indent + "}") or below.endswith("};"):
-                break
-            if below.rstrip().endswith("{") and not clause and not below.lstrip().startswith(("ensures", "requires")):
-                break
-            if below.rstrip().endswith(";"):
-                break
+        contract = contract_of(lines[index:], start.group(1))
+        clauses = [name or "ensures" for name in re.findall(r"^\s*ensures\*? (?:(\w+) )?\{", contract, re.M)]
         public = (start.group(2) or "").strip() == "pub"
-        found.append(Function(start.group(3), block, public, clauses, "\n".join(contract)))
+        found.append(Function(start.group(3), block, public, clauses, contract))
     return found
 
 
@@ -299,6 +303,9 @@ def check_names(tree, documents):
     for path in documents:
         for line in paragraphs(read(path)):
             for word in quoted(line):
+                if "*" in word:
+                    check("/" not in word or glob.glob(word), f"{path}: no file is named like `{word}`")
+                    continue
                 if re.search(r"[/]|\.(rt|antt|md|py|sh|txt|edit)$", word) and " " not in word:
                     check(tree.has_path(word) or os.path.exists(word), f"{path}: there is no file `{word}`")
                     continue
@@ -357,30 +364,37 @@ def public_seeds(tree):
     return seeds
 
 
-def check_believed(tree):
-    """README's table of definitions: complete, counted, and the main promise cites just the files that it says."""
-    text = read("README.md")
-    listed = {}
-    main, total = set(), {"main": 0, "all": 0}
-    for head, rows, _ in tables(text):
+def believed(tree):
+    """README's table of definitions, with its counts checked: those of the main promise, and all, by (crate, file)."""
+    main, rest = set(), set()
+    for head, rows, _ in tables(read("README.md")):
         if len(head) != 5 or "main promise" not in head[1]:
             continue
-        for crate, first, first_lines, rest, rest_lines in rows:
+        for crate, first, first_lines, others, other_lines in rows:
             crate = crate.strip("`")
             specs = tree.specs(crate)
-            for names, lines, is_main in ((first, first_lines, True), (rest, rest_lines, False)):
+            for names, lines, listed in ((first, first_lines, main), (others, other_lines, rest)):
                 files = [name for name in re.split(r",\s*", names) if name and name != "-"]
-                count = 0
                 for name in files:
                     check(name in specs, f"README.md: {crate} has no definitions {name}")
-                    count += len(specs.get(name, "").splitlines())
-                    listed.setdefault(crate, set()).add(name)
-                    if is_main:
-                        main.add((crate, name))
+                    listed.add((crate, name))
+                count = sum(len(specs.get(name, "").splitlines()) for name in files)
                 check(lines == str(count), f"README.md: the lines of {names} of {crate} are {count}, and not {lines}")
-                total["all"] += count
-                total["main"] += count if is_main else 0
-    everything = {(crate, name) for crate, names in listed.items() for name in names}
+    return main, main | rest
+
+
+def check_sum(tree, pattern, files):
+    """README says how many lines, or how many lines in how many files."""
+    found = re.search(pattern, read("README.md"))
+    count = sum(len(tree.specs(crate).get(name, "").splitlines()) for crate, name in files)
+    numbers = [int(number.replace(",", "")) for number in found.groups()] if found else []
+    good = bool(numbers) and numbers == [count, len(files)][: len(numbers)]
+    check(good, f"README.md: counted are {count} lines in {len(files)} files")
+
+
+def check_believed(tree):
+    """README's table has what public contracts cite and nothing else, and so it is with the main promise."""
+    main, everything = believed(tree)
     for what, needed, found in (
         ("public contracts cite", cited(tree, CRATES, public_seeds(tree)), everything),
         ("the contract of `run` cites", cited(tree, CRATES, run_seeds(tree)), main),
@@ -389,22 +403,13 @@ def check_believed(tree):
             check(False, f"README.md: {what} {name} of {crate}, which is not in the list")
         for crate, name in sorted(found - needed):
             check(False, f"README.md: {name} of {crate} is in the list, but not among what {what}")
-    for kind, pattern in (("main", r"(\d[\d,]*) lines in (\d+) files"), ("all", r"(\d[\d,]*) lines in all")):
-        found = re.search(pattern, text)
-        check(found is not None, f"README.md: it does not say how many lines ({kind})")
-        if found:
-            check(
-                int(found.group(1).replace(",", "")) == total[kind],
-                f"README.md: {found.group(0)}, and counted are {total[kind]}",
-            )
-            if kind == "main":
-                check(int(found.group(2)) == len(main), f"README.md: {found.group(0)}, and listed are {len(main)} files")
+    check_sum(tree, r"(\d[\d,]*) lines in (\d+) files", main)
+    check_sum(tree, r"(\d[\d,]*) lines in all", everything)
 
 
-def check_design(tree):
-    """DESIGN's lists of definitions and of lemmas are complete."""
-    text = read("docs/DESIGN.md")
-    quotes = {word for line in paragraphs(text) for word in quoted(line)}
+def check_definition_list(tree, text):
+    """DESIGN has a row for each file of definitions, and names the others."""
+    names_in_text = {word for line in paragraphs(text) for word in quoted(line)}
     listed = set()
     for line in paragraphs(text):
         row = cells(line)
@@ -417,31 +422,36 @@ def check_design(tree):
     for crate in CRATES:
         for name, body in sorted(tree.specs(crate).items()):
             hidden = tree.is_private(body) or name in SEEN.get(crate, ())
-            good = (crate, name) in listed or hidden and name in quotes
+            good = (crate, name) in listed or hidden and name in names_in_text
             check(good, f"docs/DESIGN.md: the definitions {name} of {crate} are missing")
     for crate, name in sorted(listed):
         check(name in tree.specs(crate), f"docs/DESIGN.md: {crate} has no definitions {name}")
-    for line in text.splitlines():
-        head = re.match(r"- `(\w+)/proofs`: (.*)", line)
-        if not head:
-            continue
-        crate, rest = head.groups()
-        folder = f"crates/{crate}/proofs/"
-        files = {
-            path[len(folder) : -len(".antt")]
-            for path in tree.code
-            if path.startswith(folder) and "/" not in path[len(folder) :] and not path.endswith("/Lib.antt")
-        }
-        named = {word for word in quoted(rest) if re.fullmatch(r"[A-Z]\w+", word) and word != "Steps"}
-        for name in sorted(files - named):
+
+
+def check_lemma_lists(tree, text):
+    """DESIGN has a line for each crate with proofs, which names all files of lemmas and no other."""
+    files = {}
+    for path in tree.code:
+        found = re.fullmatch(r"crates/(\w+)/proofs/(\w+)\.antt", path)
+        if found and found.group(2) != "Lib":
+            files.setdefault(found.group(1), set()).add(found.group(2))
+    lines = dict(re.findall(r"^- `(\w+)/proofs`: (.*)", text, re.M))
+    for crate in sorted(files.keys() | lines.keys()):
+        named = {word for word in quoted(lines.get(crate, "")) if re.fullmatch(r"[A-Z]\w+", word) and word != "Steps"}
+        for name in sorted(files.get(crate, set()) - named):
             check(False, f"docs/DESIGN.md: the proof file {name} of {crate} is missing")
-        for name in sorted(named - files):
+        for name in sorted(named - files.get(crate, set())):
             check(False, f"docs/DESIGN.md: {crate} has no proof file {name}")
-        check(bool(files), f"docs/DESIGN.md: {crate} has no proof files")
+        check(crate in lines and crate in files, f"docs/DESIGN.md: the list of proof files of {crate}")
+
+
+def check_design(tree):
+    """DESIGN's lists of crates, of definitions and of lemmas are complete."""
+    text = read("docs/DESIGN.md")
     for crate in re.findall(r"^(\w+):", read("crates.txt"), re.M):
         check(re.search(rf"\b{crate}\b", text), f"docs/DESIGN.md: the crate {crate} is missing")
-    for crate in {path.split("/")[1] for path in tree.code if re.match(r"crates/\w+/proofs/[A-Z]", path)}:
-        check(f"- `{crate}/proofs`:" in text, f"docs/DESIGN.md: the proof files of {crate} are missing")
+    check_definition_list(tree, text)
+    check_lemma_lists(tree, text)
 
 
 def check_clause_counts(tree):
@@ -480,39 +490,47 @@ def public_items(tree):
     return types, items
 
 
+def named_in(tree, path, names):
+    """The functions of a file that have one of the names, and its types that do."""
+    text = tree.text.get(path, "")
+    found = [(path, function) for function in functions(text) if function.name in names]
+    for name in names:
+        if re.search(rf"\b(?:trait|struct|enum) {name}\b", text):
+            found.append((path, Function(name, "", False, [], "")))
+    return found
+
+
+def check_row(tree, folder, row):
+    """A row of docs/PROVED.md: gives the clauses of functions that it has."""
+    promise, names, clauses, files = row[0], *(quoted(cell) for cell in row[1:4])
+    where = f"docs/PROVED.md: {promise[:50]}.."
+    found, members = [], set()
+    for path in [folder + file for file in files]:
+        mine = named_in(tree, path, names)
+        check(mine, f"{where}: {path} has none of {names}")
+        found += mine
+        members |= ghosts(tree.text.get(path, ""))
+    for name in names:
+        check(any(name == function.name for _, function in found), f"{where}: there is no function {name}")
+    for clause in clauses:
+        good = clause in members or any(clause in function.ensured for _, function in found)
+        check(good, f"{where}: {names} has no clause {clause}")
+    for path, function in found:
+        good = not function.ensured or {*clauses} & ({*function.ensured} | members)
+        check(good, f"{where}: {function.name} ({path}) has none of {clauses}")
+    return {(path, *function[:2], clause) for path, function in found for clause in clauses if clause in function.ensured}
+
+
 def check_proved(tree):
     """Each row names what stands in its file, and each clause of a public function stands in a row."""
-    text = read("docs/PROVED.md")
     covered = set()
-    for head, rows, before in tables(text):
+    for head, rows, before in tables(read("docs/PROVED.md")):
         if head[:4] != ["Promise", "Function", "Clauses", "File"]:
             continue
         below = re.search(r"`(crates/[\w/]*)`", before)
-        check(below is not None, f"docs/PROVED.md: no folder stands in front of a table")
-        folder = below.group(1) if below else ""
-        for promise, names, clauses, files in rows:
-            where = f"docs/PROVED.md: {promise[:50]}.."
-            paths = [folder + file for file in quoted(files)]
-            found, members = [], set()
-            for path in paths:
-                check(path in tree.text, f"{where}: there is no {path}")
-                here = tree.text.get(path, "")
-                members |= ghosts(here)
-                mine = [(path, function) for function in functions(here) if function.name in quoted(names)]
-                for name in quoted(names):
-                    if re.search(rf"\b(?:trait|struct|enum) {name}\b", here):
-                        mine.append((path, Function(name, "", False, [], "")))
-                check(mine, f"{where}: {path} has none of {names}")
-                found += mine
-            for name in quoted(names):
-                check(any(name == function.name for _, function in found), f"{where}: there is no function {name}")
-            for clause in quoted(clauses):
-                good = clause in members or any(clause in function.ensured for _, function in found)
-                check(good, f"{where}: {names} has no clause {clause}")
-            for path, function in found:
-                good = not function.ensured or set(quoted(clauses)) & ({*function.ensured} | members)
-                check(good, f"{where}: {function.name} ({path}) has none of {clauses}")
-                covered |= {(path, *function[:2], clause) for clause in quoted(clauses) if clause in function.ensured}
+        check(below, "docs/PROVED.md: no folder stands in front of a table")
+        for row in rows:
+            covered |= check_row(tree, below.group(1) if below else "", row)
     for path, function in public_items(tree)[1]:
         for clause in function.ensured:
             good = (path, *function[:2], clause) in covered
@@ -536,9 +554,6 @@ def check_public(tree):
     for line in paragraphs(read("CALLING.md")):
         for word in quoted(line):
             quotes.update(re.findall(r"\w+", word))
-            # `try_from_u32`, `_u64` stands for `try_from_u64`.
-            if re.fullmatch(r"_\w+", word):
-                quotes.add("try_from" + word)
     quotes.update(re.findall(r"\w+", "\n".join(re.findall(r"```rust\n(.*?)```", read("CALLING.md"), re.S))))
     types, items = public_items(tree)
     for path, name in sorted(types):
@@ -555,8 +570,7 @@ def check_widths(tree):
             is_import = re.match(r"\s*(?:pub )?(?:ghost )?use ", line)
             long += len(line) > COLUMNS and not is_import
     check(long <= LONG_LINES, f"{long} lines of code are longer than {COLUMNS} columns, where {LONG_LINES} were")
-    if long < LONG_LINES:
-        print(f"note: {long} lines of code are longer than {COLUMNS} columns: LONG_LINES may go down to it")
+    print(f"note: {long} lines of code are longer than {COLUMNS} columns, imports apart; at most {LONG_LINES} may be")
     lines = len(read("README.md").splitlines())
     check(lines <= README_LINES, f"README.md has {lines} lines, more than {README_LINES}")
     for line in read("docs/PROVED.md").splitlines():
