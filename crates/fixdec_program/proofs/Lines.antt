@@ -1,16 +1,24 @@
 -- What a line holds that was written, and what a writer has taken of it.
-use Rattle.std.proofs.Common.{◌≡◌, ℕ, ◌+◌, ◌-◌, length, take, drop, Option, List, [], ◌++◌, Result, Ok, Err, OnOk, ap, sym, ◌∙◌}
-use Rattle.std.specs.Result.{is_ok}
+use Rattle.std.proofs.Common.{◌≡◌, ℕ, ◌+◌, ◌-◌, length, take, drop, Option, List, [], ◌++◌, Result, Ok, Err, OnOk, sym, ◌∙◌}
+use Rattle.std.proofs.Common.{Bool, false, true}
+use Rattle.std.specs.Prelude.{OnErr}
 use Rattle.std.proofs.lemmas.Bool.{false≢true}
-use Rattle.std.proofs.lemmas.List.{length-drop}
+use Rattle.std.proofs.lemmas.List.{length-drop, append-nil}
 use Rattle.std.proofs.Math.Seq.{take-add, take-length}
 use Rattle.std.specs.Io.KnownBytes.{Appends}
+use Rattle.decimal_digits.specs.Text.{AppendsBeginning}
 use Rattle.decimal_digits.proofs.Sinks.{appends_both}
+use Rattle.fixdec_program.specs.Faults.{TakesLine}
 
--- what was written behind nothing
-pub line_items : {U E F : Type 0} {X : Type 0} (r : Result U E) (q : Result U F) (x : U) (items start bytes : List X) → OnOk r (items ≡ start ++ bytes) → is_ok q ≡ is_ok r → q ≡ Ok x → start ≡ [] → items ≡ bytes
-line_items (Ok y) q x items start bytes h same is none = h ∙ ap (λ l. l ++ bytes) none
-line_items (Err e) q x items start bytes h same is none = absurd (false≢true (sym same ∙ ap is_ok is))
+-- a sink that takes all of a line or fails, takes it in the words of the contracts
+pub line_taken :
+    {U E : Type 0} (r : Result U E) (old new : Option (List ℕ)) (failed : Bool) (line : List ℕ)
+    → OnOk r (Appends old new line)
+    → OnErr r (AppendsBeginning old new line)
+    → OnErr r (failed ≡ true)
+    → TakesLine old new failed line
+line_taken (Ok x) old new failed line all begun fails = ((line, [], append-nil line, all), λ works. all)
+line_taken (Err e) old new failed line all begun fails = (begun, λ works. absurd (false≢true (sym works ∙ fails)))
 
 -- all that is left is handed to the writer
 all_left : (t : ℕ) (bytes : List ℕ) → take (length bytes - t) (drop t bytes) ≡ drop t bytes

@@ -1,8 +1,11 @@
 -- What a command line comes to.
-use Rattle.std.specs.Prelude.{◌≡◌, ℕ, ◌<◌, ◌⊎◌, ⊤, Any, List, [], ◌∷◌, ◌++◌, length, Option, String, string_bytes}
-use Rattle.std.specs.Prelude.{Result, Err, IsOk, IsOkAnd}
+use Rattle.std.specs.Prelude.{◌≡◌, ℕ, ◌<◌, ◌⊎◌, ⊤, Any, List, [], ◌∷◌, ◌++◌, length, drop, String, string_bytes}
+use Rattle.std.specs.Prelude.{Option, Some, None, Result, Ok, Err, IsOk, IsOkAnd}
+use Rattle.std.specs.Vec.Iter.{into_iter_items}
 use Rattle.std.specs.Io.KnownBytes.{Appends}
 use Rattle.std.specs.declared.alloc.Global.{Global}
+use Rattle.std.specs.declared.vec.IntoIter.{IntoIter}
+use Rattle.std.specs.declared.io.Error.{Error}
 use Rattle.decimal_digits.specs.Text.{AppendsBeginning}
 use Rattle.decimal_unsigned.specs.Reading.{syntax, limit}
 use Rattle.decimal_unsigned.specs.declared.decimal.TheConstants.{DIGITS_IN_PLACE}
@@ -12,6 +15,7 @@ use Rattle.fixed_decimal.specs.Outcome.{Refusal, outcome, start, operand, overla
 use Rattle.fixdec_program.specs.declared.fault.TextFault.TheVariants.{Syntax, Limit}
 use Rattle.fixdec_program.specs.declared.fault.Fault.{Fault}
 use Rattle.fixdec_program.specs.declared.fault.Fault.TheVariants.{Usage, Start, Operand, Overlap, Overflow, Memory, Output}
+use Rattle.fixdec_program.specs.Faults.{IsFaultOfArguments}
 use Rattle.fixdec_program.specs.Words.{Names}
 
 -- the words name these calls, one by one
@@ -68,3 +72,25 @@ Tells words (Overlap at) = ComesTo words (Err (overlap at))
 Tells words (Overflow at) = ComesTo words (Err (overflow at))
 Tells words Memory = Runs words MayWantMemory
 Tells words Output = Runs words (λ bytes calls. IsOk (outcome bytes calls))
+
+-- ---- The arguments that the system gives: the words, behind the name of the program.
+
+-- the arguments, or why they could not be had
+abbrev pub Arguments : Type 0
+Arguments = Result (IntoIter (String Global) Global) Error
+
+-- the words of the arguments
+abbrev pub words_of : IntoIter (String Global) Global → List (String Global)
+words_of arguments = drop 1 (into_iter_items arguments)
+
+-- the arguments could be had, and their words print, to a writer that is given back
+abbrev pub ArgumentsPrint : {O : Type 0} → (O → Option (List ℕ)) → Arguments → O → Option O → Type 0
+ArgumentsPrint contents (Ok arguments) old (Some new) = Prints (words_of arguments) (contents old) (contents new)
+ArgumentsPrint contents _ old _ = ⊥
+
+-- the fault is that of reading the arguments; or, where no writer is given back, want of memory for the list of words or
+-- for the buffer; or that of the words
+abbrev pub ArgumentsTell : {O : Type 0} → Arguments → Option O → Fault → Type 0
+ArgumentsTell (Err error) writer fault = IsFaultOfArguments error fault
+ArgumentsTell (Ok arguments) None fault = fault ≡ Memory
+ArgumentsTell (Ok arguments) (Some writer) fault = Tells (words_of arguments) fault

@@ -1,18 +1,20 @@
 //! The whole of the program's work, over any writers.
-ghost use Rattle.std.specs.Prelude.{◌≡◌, ◌≢◌, ◌≤◌, ◌<◌, [], true, false, Any, Err, IfOk, IfErr, OnOk, IsSomeAnd, List, String};
-ghost use Rattle.std.specs.declared.alloc.Global.{Global};
+ghost use Rattle.std.specs.Prelude.{◌≡◌, ◌≢◌, ◌≤◌, ◌<◌, [], true, false, Any, Err, IfOk, IfErr, OnOk, IfSome};
 ghost use Rattle.std.specs.Io.Buffered.{writer_contents, writer_inner};
-ghost use Rattle.decimal_digits.specs.Text.{AppendsBeginning};
+ghost use Rattle.std.specs.Process.{exit_status};
 ghost use Rattle.fixdec_program.specs.declared.fault.Fault.{Fault};
-ghost use Rattle.fixdec_program.specs.Faults.{status_of, line};
+ghost use Rattle.fixdec_program.specs.Faults.{status_of, line, TakesLine};
 ghost use Rattle.fixdec_program.specs.Program.{NameAll, AreCalls, IsUnknown, Prints, PrintsBeginning, Tells};
+ghost use Rattle.fixdec_program.specs.Program.{words_of, ArgumentsPrint, ArgumentsTell};
 
+use crate::LineSink;
 use crate::fault::Fault;
 use crate::words::call;
 use fixed_decimal::{Call, Out, Sink, run};
 use std::alloc::{AllocError, Global};
+use std::env::Args;
 use std::io::{BufWriter, Write};
-use std::rt::Env;
+use std::process::ExitCode;
 use std::{env, io};
 
 /// Tells whether each word names a call.
@@ -81,7 +83,7 @@ fn print<O: Write>(alloc: Global, words: &[String], out: &mut Out<O>) -> Result<
 ///
 /// `call K: limit` is a text to join whose value is beyond the limits, and `call K: overflow` a shift that would show a
 /// magnitude outside -32768 to 32767 or a rounding that would make 10 to the 32768 or more. Not in the original.
-pub fn program<O: Write, E: Write>(
+pub fn program<O: Write, E: Sink>(
     alloc: Global,
     words: &[String],
     out: &mut Out<O>,
@@ -91,9 +93,8 @@ pub fn program<O: Write, E: Write>(
     ensures printed { result ≡ 0 → Prints words.now (O.contents out.old.0) (O.contents out.new.0) }
     ensures works { result ≡ 0 → out.new.1 ≡ false }
     ensures silent { result ≡ 0 → err.new ≡ err.old }
-    // Of the line a beginning was taken, and all of it unless `err` failed.
     ensures told { 0 < result → (fault : Fault) × (result ≡ status_of fault) × Tells words.now fault
-        × AppendsBeginning (E.contents err.old) (E.contents err.new) (line fault)
+        × TakesLine (E.contents err.old) (E.contents err.new) (E.has_failed err.new) (line fault)
         × (fault ≢ Fault.Output → out.new ≡ out.old)
         × (fault ≡ Fault.Output → (out.new.1 ≡ true)
         × PrintsBeginning words.now (O.contents out.old.0) (O.contents out.new.0)) }
@@ -101,13 +102,13 @@ pub fn program<O: Write, E: Write>(
 {
     match print(alloc, words, out) {
         Ok(()) => 0,
-        Err(fault) => fault.report(alloc, err),
+        Err(fault) => fault.report(err),
     }
 }
 
 /// Does the program's work over a buffer, and gives back the writer behind it, which is called once a block. After a
 /// fault, what the buffer still holds is not written.
-pub(crate) fn program_in_blocks<O: Write + Drop, E: Write>(
+fn program_in_blocks<O: Write + Drop, E: Sink>(
     alloc: Global,
     words: &[String],
     buffer: BufWriter<O>,
@@ -117,7 +118,8 @@ pub(crate) fn program_in_blocks<O: Write + Drop, E: Write>(
     ensures printed { result.0 ≡ 0 → Prints words.now (writer_contents O.contents buffer) (O.contents result.1) }
     ensures silent { result.0 ≡ 0 → err.new ≡ err.old }
     ensures told { 0 < result.0 → (fault : Fault) × (result.0 ≡ status_of fault) × Tells words.now fault
-        × AppendsBeginning (E.contents err.old) (E.contents err.new) (line fault) }
+        × TakesLine (E.contents err.old) (E.contents err.new) (E.has_failed err.new) (line fault)
+        × (fault ≢ Fault.Output → result.1 ≡ writer_inner buffer) }
     ensures untouched { 0 < result.0 → result.0 < 3 → result.1 ≡ writer_inner buffer }
 {
     let mut out = Out::new(buffer);
@@ -131,45 +133,62 @@ pub(crate) fn program_in_blocks<O: Write + Drop, E: Write>(
         Ok(writer) => (0, writer),
         Err(error) => {
             let (writer, _unwritten) = error.into_inner().into_parts();
-            (Fault::Output.report(alloc, err), writer)
+            (Fault::Output.report(err), writer)
         }
     }
 }
 
-/// The words of the command line, without the program's name.
-fn arguments<R: Env + AllocGlobal>(rt: &R) -> io::Result<Vec<String>> {
-    let mut words = Vec::new(rt.alloc());
-    for word in env::args(rt)?.skip(1) {
-        words.push(word)?;
-    }
-    Ok(words)
+/// The words behind the program's name, each and in order.
+fn words(alloc: Global, arguments: Args) -> Result<Vec<String>, AllocError>
+    ensures { IfOk result (λ words. words.items ≡ words_of arguments) }
+{
+    arguments.skip(1).collect(alloc)
 }
 
-/// Does the program's work on the words of the command line: `program` over them, with a buffer before `out`, which
-/// is given back with the status.
+/// How many bytes are gathered for one write: a text of 65,536 digits takes nine.
+const BLOCK: usize = 8192;
+
+/// Does the program's work on the arguments that the system gives, the first of which is the program's name: `program`
+/// over the words behind it, with a buffer before `out`, which is given back with the status.
 ///
 /// Where memory for the words or for the buffer was refused, that is `memory`, whatever the words are, and `out` is
-/// gone; a word that is not UTF-8 is answered with the usage line. A text of 65,536 digits takes nine writes of `out`.
-/// Not in the original.
-pub fn run_command_line<R: Env + AllocGlobal, O: Write + Drop, E: Write>(
-    rt: &R,
+/// gone, with nothing written. Where the arguments could not be had, `out` is gone too: that is `memory`, where it was
+/// for want of memory, and else the usage line, as for a word that is not UTF-8. Not in the original.
+pub fn run_arguments<O: Write + Drop, E: Sink>(
+    alloc: Global,
+    arguments: io::Result<Args>,
     out: O,
     err: &mut E,
 ) -> (u8, Option<O>)
     ensures known { result.0 ≤ 3 }
-    ensures printed { result.0 ≡ 0 → (words : List (String Global))
-        × IsSomeAnd result.1 (λ writer. Prints words (O.contents out) (O.contents writer)) }
+    ensures printed { result.0 ≡ 0 → ArgumentsPrint O.contents arguments out result.1 }
     ensures silent { result.0 ≡ 0 → err.new ≡ err.old }
     ensures told { 0 < result.0 → (fault : Fault) × (result.0 ≡ status_of fault)
-        × AppendsBeginning (E.contents err.old) (E.contents err.new) (line fault) }
+        × ArgumentsTell arguments result.1 fault
+        × TakesLine (E.contents err.old) (E.contents err.new) (E.has_failed err.new) (line fault)
+        × (fault ≢ Fault.Output → IfSome result.1 (λ writer. writer ≡ out)) }
+    ensures untouched { 0 < result.0 → result.0 < 3 → IfSome result.1 (λ writer. writer ≡ out) }
 {
-    let words = match arguments(rt) {
-        Ok(words) => words,
-        Err(error) => return (Fault::of_arguments(&error).report(rt.alloc(), err), None),
+    let arguments = match arguments {
+        Ok(arguments) => arguments,
+        Err(error) => return (Fault::of_arguments(&error).report(err), None),
     };
-    let Ok(buffer) = BufWriter::new(rt.alloc(), out) else {
-        return (Fault::Memory.report(rt.alloc(), err), None);
+    let Ok(words) = words(alloc, arguments) else {
+        return (Fault::Memory.report(err), None);
     };
-    let (status, writer) = program_in_blocks(rt.alloc(), words.as_slice(), buffer, err);
+    let Ok(buffer) = BufWriter::with_capacity(alloc, BLOCK, out) else {
+        return (Fault::Memory.report(err), None);
+    };
+    let (status, writer) = program_in_blocks(alloc, words.as_slice(), buffer, err);
     (status, Some(writer))
+}
+
+/// Does all that the program does: `run_arguments` on its arguments, standard output and standard error. Not in the
+/// original.
+pub fn execute(rt: HostRuntime) -> ExitCode
+    ensures known { exit_status result ≤ 3 }
+{
+    let mut err = LineSink::new(rt.stderr());
+    let (status, _out) = run_arguments(rt.alloc(), env::args(&rt), rt.stdout(), &mut err);
+    ExitCode::from(status)
 }

@@ -1,40 +1,38 @@
 //! What ends the program without its text, and the line and the status that tell it.
-ghost use Rattle.std.specs.Prelude.{◌≡◌, ◌≢◌, ◌≤◌, ◌<◌, OnOk, OnErr};
-ghost use Rattle.std.specs.IoError.{error_kind};
+ghost use Rattle.std.specs.Prelude.{◌≡◌, ◌≢◌, ◌∷◌, ◌++◌, ◌≤◌, [], codes, length, false, true, OnOk, OnErr};
+ghost use Rattle.std.specs.Fmt.{decimal};
 ghost use Rattle.std.specs.Io.KnownBytes.{Appends};
 ghost use Rattle.decimal_digits.specs.Text.{AppendsBeginning};
-ghost use Rattle.fixdec_program.specs.Faults.{status_of, line};
+ghost use Rattle.fixdec_program.specs.Faults.{status_of, fault_word, line, IsFaultOfArguments, TakesLine};
 
-use fixed_decimal::{ParseError, RunError, SinkFault};
-use smallvec::SmallVec;
-use std::alloc::{AllocError, Global};
-use std::io::{ErrorKind, Write};
-use std::{fmt, io};
-use thiserror::Error;
+use arrayvec::ArrayString;
+use fixed_decimal::{ParseError, RunError, Sink, SinkFault};
+use itoa::Buffer;
+use std::alloc::AllocError;
+use std::io;
+use std::io::ErrorKind;
 
-/// Why a text was refused, memory apart. Its Display is one word.
-#[derive(Clone, Copy, Debug, PartialEq, Error)]
+/// Why a text was refused, memory apart.
+#[derive(Clone, Copy, Debug, PartialEq)]
 pub enum TextFault {
     Syntax,
     Limit,
 }
 
-impl fmt::Display for TextFault {
-    ghost use Rattle.std.specs.Prelude.{Some};
-    ghost use Rattle.fixdec_program.specs.Faults.{fault_word};
-
-    ghost output = { λ fault. Some (fault_word fault) };
-
-    fn fmt<W: fmt::Write>(&self, f: &mut fmt::Formatter<W>) -> fmt::Result {
+impl TextFault {
+    /// The word that tells it.
+    fn word(self) -> &'static str
+        ensures { result.now ≡ fault_word self }
+    {
         match self {
-            TextFault::Syntax => write!(f, "syntax"),
-            TextFault::Limit => write!(f, "limit"),
+            TextFault::Syntax => "syntax",
+            TextFault::Limit => "limit",
         }
     }
 }
 
-/// What ends the program without its text. Its Display is the line on standard error, without the line feed.
-#[derive(Debug, Drop, PartialEq, Error)]
+/// What ends the program without its text.
+#[derive(Debug, Drop, PartialEq)]
 pub enum Fault {
     Usage,
     Start(TextFault),
@@ -45,30 +43,44 @@ pub enum Fault {
     Output,
 }
 
-impl fmt::Display for Fault {
-    ghost use Rattle.std.specs.Prelude.{Some};
-    ghost use Rattle.fixdec_program.specs.Faults.{message};
+/// The bytes of the longest line: `call 18446744073709551615: overflow` and a line feed.
+const LONGEST_LINE: usize = 36;
 
-    ghost output = { λ fault. Some (message fault) };
+/// A line, which takes no memory.
+type Line = ArrayString<LONGEST_LINE>;
 
-    fn fmt<W: fmt::Write>(&self, f: &mut fmt::Formatter<W>) -> fmt::Result {
-        match self {
-            Fault::Usage => write!(f, "usage: fixdec TEXT [CALL].."),
-            Fault::Start(fault) => write!(f, "start: {fault}"),
-            Fault::Operand { at, fault } => write!(f, "call {at}: {fault}"),
-            Fault::Overlap { at } => write!(f, "call {at}: overlap"),
-            Fault::Overflow { at } => write!(f, "call {at}: overflow"),
-            Fault::Memory => write!(f, "memory"),
-            Fault::Output => write!(f, "output"),
-        }
-    }
+/// The line of a text in two parts.
+fn line_of(front: &str, back: &str) -> Line
+    requires front { length front.now ≤ 7 }
+    requires back { length back.now ≤ 27 }
+    ensures { result.bytes ≡ front.now ++ (back.now ++ (10 ∷ [])) }
+{
+    let mut line = Line::new();
+    line.push_str(front);
+    line.push_str(back);
+    line.push_str("\n");
+    line
+}
+
+/// The line of a call, by its number from 0 on, and of what befell it.
+fn line_of_call(at: usize, what: &str) -> Line
+    requires { length what.now ≤ 8 }
+    ensures { result.bytes ≡ codes "call " ++ (decimal at ++ (codes ": " ++ (what.now ++ (10 ∷ [])))) }
+{
+    let mut number = Buffer::new();
+    let mut line = Line::new();
+    line.push_str("call ");
+    line.push_str(number.format(at));
+    line.push_str(": ");
+    line.push_str(what);
+    line.push_str("\n");
+    line
 }
 
 impl Fault {
     /// The fault of reading the words: memory was refused, or a word is not text.
     pub fn of_arguments(error: &io::Error) -> Fault
-        ensures memory { error_kind error.now ≡ ErrorKind.OutOfMemory → result ≡ Fault.Memory }
-        ensures usage { error_kind error.now ≢ ErrorKind.OutOfMemory → result ≡ Fault.Usage }
+        ensures { IsFaultOfArguments error.now result }
     {
         if error.kind() == ErrorKind::OutOfMemory {
             Fault::Memory
@@ -91,40 +103,29 @@ impl Fault {
         }
     }
 
-    /// Writes the line. Err: the writer refused a byte of it, and has taken those in front.
-    fn tell<E: Write>(&self, alloc: Global, err: &mut E) -> Result<(), SinkFault>
-        ensures ok { OnOk result (Appends (E.contents err.old) (E.contents err.new) (line self.now)) }
-        ensures err { OnErr result (AppendsBeginning (E.contents err.old) (E.contents err.new) (line self.now)) }
+    /// The line that tells it, with its line feed.
+    fn line(&self) -> Line
+        ensures { result.bytes ≡ line self.now }
     {
-        // No line has more bytes than this holds without memory.
-        let mut line = SmallVec::<u8, 64>::new(alloc);
-        writeln!(line, "{self}").map_err(|_| SinkFault)?;
-        put(err, line.as_slice())
-    }
-
-    /// Writes the line, and gives the status. A fault of the writer changes no status.
-    pub fn report<E: Write>(&self, alloc: Global, err: &mut E) -> u8
-        ensures status { result ≡ status_of self.now }
-        ensures told { AppendsBeginning (E.contents err.old) (E.contents err.new) (line self.now) }
-    {
-        let _ = self.tell(alloc, err);
-        self.status()
-    }
-}
-
-/// Writes bytes. Err: the writer refused one, and has taken those in front.
-fn put<W: Write>(writer: &mut W, bytes: &[u8]) -> Result<(), SinkFault>
-    ensures ok { OnOk result (Appends (W.contents writer.old) (W.contents writer.new) bytes.now) }
-    ensures err { OnErr result (AppendsBeginning (W.contents writer.old) (W.contents writer.new) bytes.now) }
-{
-    let mut taken = 0;
-    while taken < bytes.len() {
-        match writer.write(&bytes[taken..]) {
-            Ok(count) if count > 0 => taken += count,
-            _ => return Err(SinkFault),
+        match self {
+            Fault::Usage => line_of("usage: ", "fixdec TEXT [CALL].."),
+            Fault::Start(fault) => line_of("start: ", fault.word()),
+            Fault::Operand { at, fault } => line_of_call(*at, fault.word()),
+            Fault::Overlap { at } => line_of_call(*at, "overlap"),
+            Fault::Overflow { at } => line_of_call(*at, "overflow"),
+            Fault::Memory => line_of("", "memory"),
+            Fault::Output => line_of("", "output"),
         }
     }
-    Ok(())
+
+    /// Writes the line, and gives the status. A fault of the sink changes no status.
+    pub fn report<E: Sink>(&self, err: &mut E) -> u8
+        ensures status { result ≡ status_of self.now }
+        ensures told { TakesLine (E.contents err.old) (E.contents err.new) (E.has_failed err.new) (line self.now) }
+    {
+        let _ = err.put_bytes(self.line().as_str().as_bytes());
+        self.status()
+    }
 }
 
 impl From<RunError> for Fault {

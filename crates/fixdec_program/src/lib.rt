@@ -1,12 +1,14 @@
 //! The work of `fixdec TEXT [CALL]..`: it reads a decimal, makes the calls in order, and prints what it comes to.
 //!
-//! The words `250` and `shift:-2` print `2.50`. The programs over this library have a `main` of one line.
+//! The words `250` and `shift:-2` print `2.50`. The programs over this library have a `main` of one call, `execute`.
 #![tactic(auto)]
 
 mod command_line;
 mod fault;
+mod line_sink;
 #[cfg(test)]
 mod tests;
 mod words;
 
-pub use command_line::{program, run_command_line};
+pub use command_line::{execute, program, run_arguments};
+pub use line_sink::LineSink;

@@ -1,14 +1,16 @@
 //! Command lines, and what they print.
 ghost use Rattle.std.specs.Prelude.{◌≤◌};
 
-use crate::program;
+use crate::{LineSink, program};
 use fixed_decimal::Out;
 use std::alloc::Global;
 use std::process::Abort;
 use std::test::Fail;
 
+mod arguments;
 mod blocks;
 mod full;
+mod many;
 mod prints;
 mod refuses;
 
@@ -40,10 +42,10 @@ fn told(mut out: Vec<u8>, err: &[u8], status: u8) -> Result<Vec<u8>, Fail>
 
 /// What the program tells, with room for so many bytes on standard output.
 fn answered(alloc: Global, words: &[String], room: usize) -> Result<Vec<u8>, Fail> {
-    let mut err = Vec::<u8>::with_capacity(alloc, ROOM)?;
+    let mut err = LineSink::new(Vec::<u8>::with_capacity(alloc, ROOM)?);
     let mut out = Out::new(Vec::<u8>::with_capacity(alloc, room)?);
     let status = program(alloc, words, &mut out, &mut err);
-    told(out.into_writer(), err.as_slice(), status)
+    told(out.into_writer(), err.into_writer().as_slice(), status)
 }
 
 /// What the program tells. Where memory was refused it has to say so with nothing else, and runs again.

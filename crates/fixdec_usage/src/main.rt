@@ -1,10 +1,9 @@
-//! The program `fixdec` once more, for a stored run with a word that names no call: a crate has one stored run.
+//! The program `fixdec` once more, for a stored run with no words: a crate has one stored run.
 #![tactic(auto)]
 
-use fixdec_program::run_command_line;
+use fixdec_program::execute;
 use std::process::ExitCode;
 
 fn main(rt: HostRuntime) -> ExitCode {
-    let (status, _writer) = run_command_line(&rt, rt.stdout(), &mut rt.stderr());
-    ExitCode::from(status)
+    execute(rt)
 }

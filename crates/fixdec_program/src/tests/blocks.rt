@@ -1,9 +1,9 @@
 //! Output through the buffer: how often the writer is called, and when no more.
 use super::words;
-use crate::command_line::program_in_blocks;
+use crate::{LineSink, run_arguments};
 use std::alloc::Global;
 use std::io;
-use std::io::{BufWriter, Write};
+use std::io::Write;
 use std::test::Fail;
 
 /// A writer that takes so many bytes and then answers an error, whose flush may fail, and which counts its writes.
@@ -35,7 +35,7 @@ impl Write for Counting {
 }
 
 /// A number of 65,536 digits: with its dot and the line feed 65,538 bytes.
-const LONGEST: &str = "1e32767 pad-end:-32768";
+const LONGEST: &str = "fixdec 1e32767 pad-end:-32768";
 
 /// A line, how many bytes the writer takes and whether its flush succeeds, the status, and how often it is called.
 const ROWS: &[(&str, usize, bool, u8, usize)] = &[
@@ -43,44 +43,44 @@ const ROWS: &[(&str, usize, bool, u8, usize)] = &[
     (LONGEST, 65_537, true, 3, 10),
     (LONGEST, 16_384, true, 3, 3),
     (LONGEST, 0, true, 3, 1),
-    ("250 shift:-2", 5, true, 0, 1),
-    ("250 shift:-2", 4, true, 3, 2),
-    ("250 shift:-2", 5, false, 3, 1),
-    ("250 shift:-2", 0, false, 3, 1),
-    ("5.", 9, true, 1, 0),
-    ("5 trim-start concat:1e99999", 9, true, 1, 0),
-    ("98765 shift:32763 shift:1", 9, true, 1, 0),
-    ("5 up", 9, true, 2, 0),
+    ("fixdec 250 shift:-2", 5, true, 0, 1),
+    ("fixdec 250 shift:-2", 4, true, 3, 2),
+    ("fixdec 250 shift:-2", 5, false, 3, 1),
+    ("fixdec 250 shift:-2", 0, false, 3, 1),
+    ("fixdec 5.", 9, true, 1, 0),
+    ("fixdec 5 trim-start concat:1e99999", 9, true, 1, 0),
+    ("fixdec 98765 shift:32763 shift:1", 9, true, 1, 0),
+    ("fixdec 5 up", 9, true, 2, 0),
 ];
 
-/// The status of words and how often the writer was called.
+/// The status of a line and how often the writer was called, where it was given back.
 fn counted(
     alloc: Global,
-    words: &[String],
+    line: &str,
     room: usize,
     flushes: bool,
-) -> Result<(u8, usize), Fail> {
+) -> Result<(u8, Option<usize>), Fail> {
     let out = Counting {
         room,
         flushes,
         writes: 0,
     };
-    let buffer = BufWriter::new(alloc, out)?;
-    let (status, out) = program_in_blocks(alloc, words, buffer, &mut io::sink());
-    Ok((status, out.writes))
+    let arguments = words(alloc, line)?.into_iter();
+    let mut err = LineSink::new(io::sink());
+    let (status, out) = run_arguments(alloc, Ok(arguments), out, &mut err);
+    Ok((status, out.map(|out| out.writes)))
 }
 
-/// The same of a line. It runs again where memory may have been refused.
-fn counted_line(
+/// The same. It runs again where memory may have been refused.
+fn counted_again(
     alloc: Global,
     line: &str,
     room: usize,
     flushes: bool,
-) -> Result<(u8, usize), Fail> {
-    let words = words(alloc, line)?;
-    let first = counted(alloc, words.as_slice(), room, flushes)?;
+) -> Result<(u8, Option<usize>), Fail> {
+    let first = counted(alloc, line, room, flushes)?;
     if first.0 == 3 {
-        return counted(alloc, words.as_slice(), room, flushes);
+        return counted(alloc, line, room, flushes);
     }
     Ok(first)
 }
@@ -89,8 +89,8 @@ fn counted_line(
 fn writes_blocks(rt: HostRuntime) -> Result<(), Fail> {
     let alloc = rt.alloc();
     for (line, room, flushes, status, writes) in ROWS {
-        let found = counted_line(alloc, line, *room, *flushes)?;
-        assert_eq!(rt; found, (*status, *writes));
+        let found = counted_again(alloc, line, *room, *flushes)?;
+        assert_eq!(rt; found, (*status, Some(*writes)));
     }
     Ok(())
 }

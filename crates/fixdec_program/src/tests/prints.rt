@@ -102,7 +102,7 @@ const JOINS: &[(&str, &str)] = &[
     ("100000000000000000000 concat:7", "100000000000000000007"),
     ("1e20 concat:7", "100000000000000000007"),
     ("1000 concat:1.2e+1", "1012"),
-    ("0 concat:123456789", "123456789"),
+    ("0 concat:12345678901234567890", "12345678901234567890"),
     ("123456789e10 concat:1234567890", "1234567891234567890"),
     (
         "5 shift:1 shift:1 shift:1 shift:1 shift:1 shift:1 shift:1 shift:1 shift:1 shift:1 shift:1 concat:7",
@@ -169,16 +169,17 @@ fn joins(rt: HostRuntime) -> Result<(), Fail> {
 /// The start, the operand and the joined digits are long, so that each asks for memory.
 #[test]
 fn joins_long_numbers(rt: HostRuntime) -> Result<(), Fail> {
-    let found = shown(rt.alloc(), "1234567890 concat:0.123456789")?;
-    assert_shows(&rt, found, "1234567890.123456789");
+    let line = "12345678901234567890 concat:0.12345678901234567895";
+    let found = shown(rt.alloc(), line)?;
+    assert_shows(&rt, found, "12345678901234567890.12345678901234567895");
     Ok(())
 }
 
 /// The rounding needs one digit more than is held without memory.
 #[test]
 fn rounds_to_one_digit_more(rt: HostRuntime) -> Result<(), Fail> {
-    let found = shown(rt.alloc(), "12345678 round:-1:trunc:25")?;
-    assert_shows(&rt, found, "12345677.5");
+    let found = shown(rt.alloc(), "1234567812345678 round:-1:trunc:25")?;
+    assert_shows(&rt, found, "1234567812345677.5");
     Ok(())
 }
 

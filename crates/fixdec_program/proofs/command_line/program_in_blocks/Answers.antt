@@ -1,4 +1,4 @@
-use Rattle.std.proofs.Common.{◌≡◌}
+use Rattle.std.proofs.Common.{◌≡◌, refl}
 use Rattle.fixdec_program.specs.declared.fault.Fault.TheVariants.{Output}
 use Rattle.fixdec_program.proofs.Programs.{prints_text}
 use Rattle.fixdec_program.proofs.command_line.program_in_blocks.Goals as goal
@@ -6,4 +6,11 @@ use Rattle.fixdec_program.proofs.command_line.program_in_blocks.Goals as goal
 pub returns-in-Err-clause-told : goal.returns-in-Err-clause-told
 returns-in-Err-clause-told g c =
     let silent : c.program-status.new.err ≡ c.args.err.now = c.program-status.ensures.silent c.if-status-ne0.false in
-    λ positive. (Output, c.report.ensures.status, prints_text c.args.words.now _ _ (c.program-status.ensures.printed c.if-status-ne0.false), rw silent at c.report.ensures.told)
+    let printed = c.program-status.ensures.printed c.if-status-ne0.false in
+    λ positive. (
+      Output,
+      c.report.ensures.status,
+      prints_text c.args.words.now _ _ printed,
+      rw silent at c.report.ensures.told,
+      λ other. absurd (other refl),
+    )

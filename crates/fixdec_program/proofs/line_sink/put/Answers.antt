@@ -2,7 +2,7 @@ use Rattle.std.proofs.Common.{◌+◌, drop, take, take-append-drop, arith}
 use Rattle.std.proofs.lemmas.List.{length-drop, length-take}
 use Rattle.decimal_digits.proofs.Sinks.{part_kept}
 use Rattle.fixdec_program.proofs.Lines.{took_more}
-use Rattle.fixdec_program.proofs.fault.put.Goals as goal
+use Rattle.fixdec_program.proofs.line_sink.put.Goals as goal
 
 pub loop-taken-preserved : goal.loop-taken-preserved
 loop-taken-preserved g c =

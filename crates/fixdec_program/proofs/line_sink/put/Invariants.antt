@@ -1,6 +1,6 @@
 use Rattle.std.proofs.Common.{◌≤◌, ◌-◌, length, take}
 use Rattle.std.specs.Io.KnownBytes.{Appends}
-use Rattle.fixdec_program.proofs.fault.put.Given as goal
+use Rattle.fixdec_program.proofs.line_sink.put.Given as goal
 
 -- the bytes so far were taken
 abbrev pub invariant-loop-taken : goal.invariant-loop-taken
