@@ -250,7 +250,7 @@ pushed_odd before bs ds i h m e =
     let k : 2 * i ≡ n = omega arith in
     let lt : n < length ds = omega arith in
     let all : lows ds ≡ lows (take n ds) ++ a ∷ [] =
-    ap lows (sym (take_all (n + 1) ds (omega arith))) ∙ map_more (λ d. d % 16) ds n 0 lt in
+        ap lows (sym (take_all (n + 1) ds (omega arith))) ∙ map_more (λ d. d % 16) ds n 0 lt in
     halves_more bs (a * 16)
     ∙ rw (high, low, m) (ap (λ l. l ++ (a ∷ (0 ∷ []))) (e ∙ ap (λ j. before ++ lows (take j ds)) k)
     ∙ append_assoc before (lows (take n ds)) (a ∷ (0 ∷ []))

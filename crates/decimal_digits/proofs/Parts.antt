@@ -132,8 +132,8 @@ size_is p k m some d low h =
     let least : 10 ^ (k - 1) * weight p ≤ m * weight p = mul-le-mul_right (weight p) d.least in
     let most : m * weight p < 10 ^ k * weight p = mul-lt-mul_of_pos_right d.most (ten_pos (place p)) in
     let above : first (m * weight p) ≡ magnitude_at (k - 1 + place p) =
-    first_is (m * weight p) (k - 1 + place p) (omega (arith, powers (k - 1) (place p) (k - 1 + place p) refl))
-        (omega (arith, powers k (place p) (k - 1 + place p + 1) (omega arith))) (omega arith) in
+        first_is (m * weight p) (k - 1 + place p) (omega (arith, powers (k - 1) (place p) (k - 1 + place p) refl))
+            (omega (arith, powers k (place p) (k - 1 + place p + 1) (omega arith))) (omega arith) in
     let below : last (m * weight p) ≡ magnitude_at (place p) = last_is m (place p) d.ends (omega arith) in
     let nonzero : (m * weight p == 0) ≡ false =
         (let q : 0 < m * weight p = omega (arith, mul-pos (ten_pos (k - 1)) (ten_pos (place p))) in search rules) in

@@ -32,10 +32,10 @@ pub returns-then-bytes-pairs-clause-equal : goal.returns-then-bytes-pairs-clause
 returns-then-bytes-pairs-clause-equal c =
     let same = c.count_bytes_back-same in
     let odd : c.args.count % 2 ≡ 1 → get_or c.args.bytes.now (c.args.count / 2) 0 / 16 ≡ c.args.half =
-    (elim c.else-odd-eq1.branch [
-      | else-odd-eq1-via-then-odd-eq1+else-bytes-count w ↦ λ m. w.if-bytes-count.false
-      | else-odd-eq1-via-else-odd-eq1 w ↦ λ m. absurd (w.if-odd-eq1.false m)
-    ]) in
+        (elim c.else-odd-eq1.branch [
+          | else-odd-eq1-via-then-odd-eq1+else-bytes-count w ↦ λ m. w.if-bytes-count.false
+          | else-odd-eq1-via-else-odd-eq1 w ↦ λ m. absurd (w.if-odd-eq1.false m)
+        ]) in
     let t =
         ends_in c.args.bytes.now c.args.count c.args.half same.result c.requires.in_range c.requires.is_half odd
             same.ensures.equal in
@@ -45,10 +45,10 @@ pub returns-then-bytes-pairs-clause-stops : goal.returns-then-bytes-pairs-clause
 returns-then-bytes-pairs-clause-stops c =
     let same = c.count_bytes_back-same in
     let odd : c.args.count % 2 ≡ 1 → get_or c.args.bytes.now (c.args.count / 2) 0 / 16 ≡ c.args.half =
-    (elim c.else-odd-eq1.branch [
-      | else-odd-eq1-via-then-odd-eq1+else-bytes-count w ↦ λ m. w.if-bytes-count.false
-      | else-odd-eq1-via-else-odd-eq1 w ↦ λ m. absurd (w.if-odd-eq1.false m)
-    ]) in
+        (elim c.else-odd-eq1.branch [
+          | else-odd-eq1-via-then-odd-eq1+else-bytes-count w ↦ λ m. w.if-bytes-count.false
+          | else-odd-eq1-via-else-odd-eq1 w ↦ λ m. absurd (w.if-odd-eq1.false m)
+        ]) in
     let t =
         ends_in c.args.bytes.now c.args.count c.args.half same.result c.requires.in_range c.requires.is_half odd
             same.ensures.equal in
@@ -61,10 +61,10 @@ pub returns-clause-equal : goal.returns-clause-equal
 returns-clause-equal c =
     let same = c.count_bytes_back-same in
     let odd : c.args.count % 2 ≡ 1 → get_or c.args.bytes.now (c.args.count / 2) 0 / 16 ≡ c.args.half =
-    (elim c.else-odd-eq1.branch [
-      | else-odd-eq1-via-then-odd-eq1+else-bytes-count w ↦ λ m. w.if-bytes-count.false
-      | else-odd-eq1-via-else-odd-eq1 w ↦ λ m. absurd (w.if-odd-eq1.false m)
-    ]) in
+        (elim c.else-odd-eq1.branch [
+          | else-odd-eq1-via-then-odd-eq1+else-bytes-count w ↦ λ m. w.if-bytes-count.false
+          | else-odd-eq1-via-else-odd-eq1 w ↦ λ m. absurd (w.if-odd-eq1.false m)
+        ]) in
     let t =
         ends_in c.args.bytes.now c.args.count c.args.half same.result c.requires.in_range c.requires.is_half odd
             same.ensures.equal in
@@ -74,10 +74,10 @@ pub returns-clause-stops : goal.returns-clause-stops
 returns-clause-stops c =
     let same = c.count_bytes_back-same in
     let odd : c.args.count % 2 ≡ 1 → get_or c.args.bytes.now (c.args.count / 2) 0 / 16 ≡ c.args.half =
-    (elim c.else-odd-eq1.branch [
-      | else-odd-eq1-via-then-odd-eq1+else-bytes-count w ↦ λ m. w.if-bytes-count.false
-      | else-odd-eq1-via-else-odd-eq1 w ↦ λ m. absurd (w.if-odd-eq1.false m)
-    ]) in
+        (elim c.else-odd-eq1.branch [
+          | else-odd-eq1-via-then-odd-eq1+else-bytes-count w ↦ λ m. w.if-bytes-count.false
+          | else-odd-eq1-via-else-odd-eq1 w ↦ λ m. absurd (w.if-odd-eq1.false m)
+        ]) in
     let t =
         ends_in c.args.bytes.now c.args.count c.args.half same.result c.requires.in_range c.requires.is_half odd
             same.ensures.equal in
