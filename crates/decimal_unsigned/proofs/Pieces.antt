@@ -111,7 +111,7 @@ module _ (v : Unsigned) (valid : IsValue v) (hi : ℤ) (hi_is : hi ≡ v.hi) (do
       → dot < from + n → length xs ≡ n → length us ≡ a → length ws ≡ n - (a + 1)
       → Digits v.number m us → Digits v.number (negsuc 0) ws
       → take (a + 1) (dotted a us xs)
-          ++ (ws ++ drop (length (dotted a us xs) - (a + 1)) (drop (a + 1) (dotted a us xs)))
+              ++ (ws ++ drop (length (dotted a us xs) - (a + 1)) (drop (a + 1) (dotted a us xs)))
           ≡ take n (drop from (text v))
   piece_over a m xs us ws a_is e h l xs_full us_full ws_full above behind =
       let b = below l in

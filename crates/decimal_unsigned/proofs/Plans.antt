@@ -243,13 +243,13 @@ module _ (w : Written) (digits : AllDigits 10 (w.whole ++ w.fraction)) (few : le
         let c = not_over (hi +ℤ e) p.upper in
         let d = not_under (lo +ℤ e) p.lower in
         let tidy : tidied (multiplied v e) ≡ record { number = number_of ds m'; hi = hi'; lo = lo' } =
-        ap tidied (sym u)
-        ∙ (λ i. record {
-          number = number_of ds m';
-          hi = if int_lt (pos 0) (f i) then f i else int_max (hi +ℤ e) (pos 0);
-          lo = if int_lt (l i) (pos 0) then l i else int_min (lo +ℤ e) (pos 0)
-        })
-        ∙ (λ i. record { number = number_of ds m'; hi = sym p.hi_is i; lo = sym p.lo_is i }) in
+            ap tidied (sym u)
+            ∙ (λ i. record {
+              number = number_of ds m';
+              hi = if int_lt (pos 0) (f i) then f i else int_max (hi +ℤ e) (pos 0);
+              lo = if int_lt (l i) (pos 0) then l i else int_min (lo +ℤ e) (pos 0)
+            })
+            ∙ (λ i. record { number = number_of ds m'; hi = sym p.hi_is i; lo = sym p.lo_is i }) in
         let up = upper_is (m +ℤ e) (hi +ℤ e) hi' p.hi_is (omega (arith, ints, at, n.ordered)) p.upper in
         let down =
             lower_is ((pos (length w.whole) -ℤ pos end) +ℤ e) (lo +ℤ e) lo' p.lo_is

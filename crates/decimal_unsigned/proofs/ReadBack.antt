@@ -54,10 +54,10 @@ places_worth number k (suc n) =
     let d = number / 10 ^ (k + n) % 10 in
     let cs = places number k n in
     let e : digits_value 10 ((48 + d) ∷ cs) ≡ d * 10 ^ n + number / 10 ^ k % 10 ^ n =
-    digits_value_is 10 ((48 + d) ∷ cs)
-    ∙ after_is (0 * 10 + digit_value (48 + d)) (map digit_value cs)
-    ∙ (rw (← digits_value_is 10 cs, places_worth number k n, digit_byte d (low_digit (number / 10 ^ (k + n))),
-        length-map_places number k n) (omega arith)) in
+        digits_value_is 10 ((48 + d) ∷ cs)
+        ∙ after_is (0 * 10 + digit_value (48 + d)) (map digit_value cs)
+        ∙ (rw (← digits_value_is 10 cs, places_worth number k n, digit_byte d (low_digit (number / 10 ^ (k + n))),
+            length-map_places number k n) (omega arith)) in
     let s : number / 10 ^ (k + n) ≡ number / 10 ^ k / 10 ^ n =
         ap (λ x. number / x) (pow-add 10 k n) ∙ sym (div-div-eq-div-mul number (10 ^ k) (10 ^ n)) in
     let m : number / 10 ^ k % (10 * 10 ^ n) ≡ (number / 10 ^ k / 10 ^ n % 10) * 10 ^ n + number / 10 ^ k % 10 ^ n =
@@ -150,7 +150,7 @@ module _ (number base low h b : ℕ) (is : base ≡ 32768) (split : low + b ≡ 
       let t : nat_lt 32768 (length (places number low b)) ≡ false = grind (arith, nat_tests, q, few) in
       let low_is : 32768 - b ≡ low = omega arith in
       let n : digits_value 10 (places number base (suc h) ++ places number low b)
-              * 10 ^ (32768 - length (places number low b))
+                  * 10 ^ (32768 - length (places number low b))
               ≡ number =
           rw (worth, q, low_is) cut in
       let h_is : length (places number base (suc h)) - 1 ≡ h = omega (arith, p) in
@@ -166,10 +166,10 @@ read_integer : (number base h : ℕ) → base ≡ 32768 → h ≤ 32767 → numb
 unfolding written
 read_integer number base h is high below whole =
     let t : text_down number (pos h) (suc h) ≡ places number base (suc h) =
-    ap (text_down number (pos h)) (let e : suc h ≡ suc h + 0 = omega arith in e)
-    ∙ text_above number base h 0 (place_pos base is)
-    ∙ ap (λ l. places number base (suc h) ++ l) (down-zero number (negsuc 0))
-    ∙ append-nil (places number base (suc h)) in
+        ap (text_down number (pos h)) (let e : suc h ≡ suc h + 0 = omega arith in e)
+        ∙ text_above number base h 0 (place_pos base is)
+        ∙ ap (λ l. places number base (suc h) ++ l) (down-zero number (negsuc 0))
+        ∙ append-nil (places number base (suc h)) in
     read_grammar (text_down number (pos h) (suc h)) (written number base base h 0)
         (record { whole = places_digits number base (suc h); fraction = tt; form = integer (omega arith) refl refl t })
     ∙ value_written number base base h 0 is (omega arith) high (omega arith) below whole
@@ -181,8 +181,8 @@ read_fraction : (number base low h b : ℕ) → base ≡ 32768 → low + suc b �
 unfolding written
 read_fraction number base low h b is split high below whole =
     let t : text_down number (pos h) (suc h + suc b) ≡ places number base (suc h) ++ 46 ∷ places number low (suc b) =
-    text_above number base h (suc b) (place_pos base is)
-    ∙ ap (λ l. places number base (suc h) ++ l) (text_dot number low b (omega arith)) in
+        text_above number base h (suc b) (place_pos base is)
+        ∙ ap (λ l. places number base (suc h) ++ l) (text_dot number low b (omega arith)) in
     let lo_is : pos 0 -ℤ pos (suc b) ≡ negsuc b = omega (arith, ints) in
     read_grammar (text_down number (pos h) (suc h + suc b)) (written number base low h (suc b))
         (record {
