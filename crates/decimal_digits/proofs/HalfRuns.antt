@@ -38,9 +38,9 @@ text_even bs len p bs' text m all g =
     let n : length ds ≡ length text = length-map text digit_value in
     let l : map (λ d. d % 16) text ≡ ds = low_letters text all in
     let f : halves bs' ≡ halves bs ++ (ds ++ replicate (length ds % 2) 0) =
-        g
-        ∙ ap (λ l. halves bs ++ (l ++ replicate (length text % 2) 0)) l
-        ∙ ap (λ k. halves bs ++ (ds ++ replicate (k % 2) 0)) (sym n) in
+    g
+    ∙ ap (λ l. halves bs ++ (l ++ replicate (length text % 2) 0)) l
+    ∙ ap (λ k. halves bs ++ (ds ++ replicate (k % 2) 0)) (sym n) in
     rw (← n) (holds_run bs len p bs' ds m (read_decimal text all) f)
 
 -- the digits of a text behind an odd number of them: the first is written into the half that was left over
@@ -54,9 +54,9 @@ text_odd bs len p mid bs' (x ∷ xs) m all h e g =
     let n : length ds ≡ length xs = length-map xs digit_value in
     let l : map (λ d. d % 16) xs ≡ ds = low_letters xs all.1 in
     let f : halves bs' ≡ halves mid ++ (ds ++ replicate (length ds % 2) 0) =
-        g
-        ∙ ap (λ l. halves mid ++ (l ++ replicate (length xs % 2) 0)) l
-        ∙ ap (λ k. halves mid ++ (ds ++ replicate (k % 2) 0)) (sym n) in
+    g
+    ∙ ap (λ l. halves mid ++ (l ++ replicate (length xs % 2) 0)) l
+    ∙ ap (λ k. halves mid ++ (ds ++ replicate (k % 2) 0)) (sym n) in
     let first : x % 16 ≡ digit_value x = ap (λ l. get_or l 0 0) (low_letters (x ∷ xs) all) in
     let e' : halves mid ≡ set (halves bs) len (digit_value x) = e ∙ ap (λ d. set (halves bs) len d) first in
     rw (← n) (holds_run_odd bs len p mid bs' ds (digit_value x) m all.0 (read_decimal xs all.1) e' f)
@@ -95,12 +95,12 @@ letters_from_odd bs (p ∷ ps) qs from m z h e =
     let n : suc (length ps) - 1 ≡ length ps = omega arith in
     let left : drop (suc (length ps) - 1) ps ≡ [] = drop_all (suc (length ps) - 1) ps (omega arith) in
     let count : length (take (suc (length ps) - 1) ps) ≡ length ps =
-        ap length (take_all (suc (length ps) - 1) ps (omega arith)) in
+    ap length (take_all (suc (length ps) - 1) ps (omega arith)) in
     let first : get_or bs (from / 2) 0 % 16 ≡ get_or (halves bs) from 0 =
-        sym (low_half bs (from / 2) byte) ∙ ap (λ j. get_or (halves bs) j 0) i in
+    sym (low_half bs (from / 2) byte) ∙ ap (λ j. get_or (halves bs) j 0) i in
     let rest : qs ≡ text_of (take (length ps) (drop (from + 1) (halves bs))) =
-        e ∙ ap (λ j. text_of (take j (halves (take (length bs - (from / 2 + 1)) (drop (from / 2 + 1) bs))))) count
-        ∙ ap (λ l. text_of (take (length ps) l)) (halves_behind_odd bs from m) in
+    e ∙ ap (λ j. text_of (take j (halves (take (length bs - (from / 2 + 1)) (drop (from / 2 + 1) bs))))) count
+    ∙ ap (λ l. text_of (take (length ps) l)) (halves_behind_odd bs from m) in
     ap (λ l. x ∷ (qs ++ l)) left ∙ ap (λ l. x ∷ l) (append-nil qs ∙ rest)
     ∙ ap (λ d. (48 + d) ∷ text_of (take (length ps) (drop (from + 1) (halves bs)))) first
     ∙ ap (λ l. text_of (take (suc (length ps)) l)) (sym (drop_more (halves bs) from 0 lt))
@@ -115,12 +115,12 @@ both_halves bs k half h s e =
       | inl m ↦
           let i : 2 * (k / 2) ≡ k = omega arith in
           let v : get_or (halves bs) k 0 ≡ get_or bs (k / 2) 0 / 16 =
-              ap (λ j. get_or (halves bs) j 0) (sym i) ∙ high_half bs (k / 2) lt in
+          ap (λ j. get_or (halves bs) j 0) (sym i) ∙ high_half bs (k / 2) lt in
           omega arith
       | inr m ↦
           let i : 2 * (k / 2) + 1 ≡ k = omega arith in
           let v : get_or (halves bs) k 0 ≡ get_or bs (k / 2) 0 % 16 =
-              ap (λ j. get_or (halves bs) j 0) (sym i) ∙ low_half bs (k / 2) lt in
+          ap (λ j. get_or (halves bs) j 0) (sym i) ∙ low_half bs (k / 2) lt in
           omega arith
     ]
 
@@ -139,7 +139,7 @@ pub ends_in : (bs : List ℕ) (count half same : ℕ) → count ≤ length (halv
     → EndsIn bs count half same
 ends_in bs count half same h q o f =
     let l : length (take (count / 2) bs) ≡ count / 2 =
-        length-take-le (count / 2) bs (omega (arith, length-halves bs)) in
+    length-take-le (count / 2) bs (omega (arith, length-halves bs)) in
     record {
       in_range = h;
       is_half = q;

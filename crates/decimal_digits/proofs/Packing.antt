@@ -13,8 +13,13 @@ pub holds : (bytes ds : List ℕ) (len : ℕ) → halves bytes ≡ ds ++ replica
 holds bytes ds len e n h =
     let t : digits_in bytes len ≡ ds = rw e (take_at ds (replicate (len % 2) 0) len n) in
     let c : 2 * length bytes ≡ len + len % 2 =
-        omega (arith, length-halves bytes, ap length e, length-append ds (replicate (len % 2) 0),
-            length-replicate {A = ℕ} (len % 2) 0) in
+    omega (
+      arith,
+      length-halves bytes,
+      ap length e,
+      length-append ds (replicate (len % 2) 0),
+      length-replicate {A = ℕ} (len % 2) 0,
+    ) in
     let u : halves bytes ≡ digits_in bytes len ++ replicate (len % 2) 0 = rw t e in
     record { packed = record { count = c; decimal = rw t h; unused = u }; digits = t }
 
@@ -87,9 +92,9 @@ module _ (bs : List ℕ) (len : ℕ) (p : IsPacked bs len) where
       let n = length_digits bs len p in
       let l : index < length (digits_in bs len) = omega arith in
       let s : set (halves bs) index d ≡ set (digits_in bs len) index d ++ replicate (len % 2) 0 =
-          ap (λ l. set l index d) p.unused ∙ set-append_left (digits_in bs len) (replicate (len % 2) 0) index d l in
+      ap (λ l. set l index d) p.unused ∙ set-append_left (digits_in bs len) (replicate (len % 2) 0) index d l in
       holds bs' (set (digits_in bs len) index d) len (e ∙ s) (length-set (digits_in bs len) index d ∙ n)
-          (decimal_set (digits_in bs len) index d p.decimal q)
+      (decimal_set (digits_in bs len) index d p.decimal q)
 
   -- a byte with a digit in its high half is appended
   pub holds_push_even : (d : ℕ) → len % 2 ≡ 0 → d < 10
@@ -101,11 +106,11 @@ module _ (bs : List ℕ) (len : ℕ) (p : IsPacked bs len) where
       let b : d * 16 % 16 ≡ 0 = omega arith in
       let m : (len + 1) % 2 ≡ 1 = omega arith in
       let e : halves (bs ++ (d * 16) ∷ []) ≡ (digits_in bs len ++ d ∷ []) ++ replicate ((len + 1) % 2) 0 =
-          halves-append bs ((d * 16) ∷ [])
-          ∙ ap (λ l. l ++ (d * 16 / 16 ∷ (d * 16 % 16 ∷ []))) (even_halves h)
-          ∙ rw (a, b, m) (sym (append_assoc (digits_in bs len) (d ∷ []) (0 ∷ []))) in
+      halves-append bs ((d * 16) ∷ [])
+      ∙ ap (λ l. l ++ (d * 16 / 16 ∷ (d * 16 % 16 ∷ []))) (even_halves h)
+      ∙ rw (a, b, m) (sym (append_assoc (digits_in bs len) (d ∷ []) (0 ∷ []))) in
       holds (bs ++ (d * 16) ∷ []) (digits_in bs len ++ d ∷ []) (len + 1) e
-          (omega (arith, length-append (digits_in bs len) (d ∷ []))) (decimal_push (digits_in bs len) d p.decimal q)
+      (omega (arith, length-append (digits_in bs len) (d ∷ []))) (decimal_push (digits_in bs len) d p.decimal q)
 
   -- a digit is written into the half that was left over
   pub holds_push_odd : (bs' : List ℕ) (d : ℕ) → len % 2 ≡ 1 → d < 10 → halves bs' ≡ set (halves bs) len d
@@ -115,11 +120,11 @@ module _ (bs : List ℕ) (len : ℕ) (p : IsPacked bs len) where
       let m : (len + 1) % 2 ≡ 0 = omega arith in
       let f : halves bs ≡ digits_in bs len ++ 0 ∷ [] = p.unused ∙ ap (λ k. digits_in bs len ++ replicate k 0) h in
       let s : set (halves bs) len d ≡ (digits_in bs len ++ d ∷ []) ++ replicate ((len + 1) % 2) 0 =
-          ap (λ l. set l len d) f
-          ∙ set_at (digits_in bs len) 0 [] d len n
-          ∙ rw m (sym (append-nil (digits_in bs len ++ d ∷ []))) in
+      ap (λ l. set l len d) f
+      ∙ set_at (digits_in bs len) 0 [] d len n
+      ∙ rw m (sym (append-nil (digits_in bs len ++ d ∷ []))) in
       holds bs' (digits_in bs len ++ d ∷ []) (len + 1) (e ∙ s)
-          (omega (arith, length-append (digits_in bs len) (d ∷ []))) (decimal_push (digits_in bs len) d p.decimal q)
+      (omega (arith, length-append (digits_in bs len) (d ∷ []))) (decimal_push (digits_in bs len) d p.decimal q)
 
   -- the first bytes hold an even number of digits
   pub holds_take_even : (count k : ℕ) → count ≤ len → count % 2 ≡ 0 → k ≡ (count + 1) / 2
@@ -128,10 +133,10 @@ module _ (bs : List ℕ) (len : ℕ) (p : IsPacked bs len) where
       let n = length_digits bs len p in
       let t : 2 * k ≡ count = omega arith in
       let f : halves (take k bs) ≡ take count (digits_in bs len) ++ replicate (count % 2) 0 =
-          halves-take k bs
-          ∙ rw (t, m) (sym (append-nil (take count (digits_in bs len)) ∙ take-take count len (halves bs) h)) in
+      halves-take k bs
+      ∙ rw (t, m) (sym (append-nil (take count (digits_in bs len)) ∙ take-take count len (halves bs) h)) in
       holds (take k bs) (take count (digits_in bs len)) count f (length-take-le count (digits_in bs len) (omega arith))
-          (decimal_take (digits_in bs len) count p.decimal)
+      (decimal_take (digits_in bs len) count p.decimal)
 
   -- the first bytes hold an odd number of digits once their last half is 0
   pub holds_take_odd : (bs' : List ℕ) (count k : ℕ) → count ≤ len → count % 2 ≡ 1 → k ≡ (count + 1) / 2
@@ -141,12 +146,12 @@ module _ (bs : List ℕ) (len : ℕ) (p : IsPacked bs len) where
       let t : 2 * k ≡ suc count = omega arith in
       let lt : count < length (halves bs) = omega (arith, length-halves bs, p.count) in
       let f : halves bs' ≡ take count (digits_in bs len) ++ replicate (count % 2) 0 =
-          g ∙ ap (λ l. set l count 0) (halves-take k bs)
-          ∙ ap (λ j. set (take j (halves bs)) count 0) t
-          ∙ clear_last (halves bs) count lt
-          ∙ rw m (ap (λ l. l ++ 0 ∷ []) (sym (take-take count len (halves bs) h))) in
+      g ∙ ap (λ l. set l count 0) (halves-take k bs)
+      ∙ ap (λ j. set (take j (halves bs)) count 0) t
+      ∙ clear_last (halves bs) count lt
+      ∙ rw m (ap (λ l. l ++ 0 ∷ []) (sym (take-take count len (halves bs) h))) in
       holds bs' (take count (digits_in bs len)) count f (length-take-le count (digits_in bs len) (omega arith))
-          (decimal_take (digits_in bs len) count p.decimal)
+      (decimal_take (digits_in bs len) count p.decimal)
 
   -- the bytes behind an even number of digits
   pub holds_drop_even : (count : ℕ) → count ≤ len → count % 2 ≡ 0
@@ -156,11 +161,11 @@ module _ (bs : List ℕ) (len : ℕ) (p : IsPacked bs len) where
       let t : 2 * (count / 2) ≡ count = omega arith in
       let q : len % 2 ≡ (len - count) % 2 = omega arith in
       let f : halves (drop (count / 2) bs) ≡ drop count (digits_in bs len) ++ replicate ((len - count) % 2) 0 =
-          halves-drop (count / 2) bs ∙ ap (λ j. drop j (halves bs)) t ∙ ap (drop count) p.unused
-          ∙ drop-append-le count (digits_in bs len) (replicate (len % 2) 0) (omega arith)
-          ∙ ap (λ j. drop count (digits_in bs len) ++ replicate j 0) q in
+      halves-drop (count / 2) bs ∙ ap (λ j. drop j (halves bs)) t ∙ ap (drop count) p.unused
+      ∙ drop-append-le count (digits_in bs len) (replicate (len % 2) 0) (omega arith)
+      ∙ ap (λ j. drop count (digits_in bs len) ++ replicate j 0) q in
       holds (drop (count / 2) bs) (drop count (digits_in bs len)) (len - count) f
-          (omega (arith, length-drop count (digits_in bs len))) (decimal_drop (digits_in bs len) count p.decimal)
+      (omega (arith, length-drop count (digits_in bs len))) (decimal_drop (digits_in bs len) count p.decimal)
 
   -- the bytes behind an odd number of digits, shifted by a half
   pub holds_drop_odd : (bs' : List ℕ) (count k : ℕ) → count ≤ len → count % 2 ≡ 1 → k ≡ (len - count + 1) / 2
@@ -172,18 +177,18 @@ module _ (bs : List ℕ) (len : ℕ) (p : IsPacked bs len) where
       let ds = digits_in bs len in
       let l : length (drop count ds) ≡ len - count = omega (arith, length-drop count ds) in
       let a : drop 1 (halves (drop (count / 2) bs)) ≡ drop count ds ++ replicate (len % 2) 0 =
-          ap (drop 1) (halves-drop (count / 2) bs)
-          ∙ drop-drop 1 (2 * (count / 2)) (halves bs)
-          ∙ ap (λ j. drop j (halves bs)) t
-          ∙ ap (drop count) p.unused
-          ∙ drop-append-le count ds (replicate (len % 2) 0) (omega arith) in
+      ap (drop 1) (halves-drop (count / 2) bs)
+      ∙ drop-drop 1 (2 * (count / 2)) (halves bs)
+      ∙ ap (λ j. drop j (halves bs)) t
+      ∙ ap (drop count) p.unused
+      ∙ drop-append-le count ds (replicate (len % 2) 0) (omega arith) in
       let b : halves bs' ≡ drop count ds ++ replicate (len % 2 + 1) 0 =
-          g ∙ ap (λ l. l ++ 0 ∷ []) a ∙ append_assoc (drop count ds) (replicate (len % 2) 0) (0 ∷ [])
-          ∙ ap (λ l. drop count ds ++ l) (replicate-append-replicate (len % 2) 1 0) in
+      g ∙ ap (λ l. l ++ 0 ∷ []) a ∙ append_assoc (drop count ds) (replicate (len % 2) 0) (0 ∷ [])
+      ∙ ap (λ l. drop count ds ++ l) (replicate-append-replicate (len % 2) 1 0) in
       let w : 2 * k ≡ length (drop count ds) + (len - count) % 2 = omega arith in
       let f : halves (take k bs') ≡ drop count ds ++ replicate ((len - count) % 2) 0 =
-          halves-take k bs' ∙ ap (take (2 * k)) b ∙ ap (λ j. take j (drop count ds ++ replicate (len % 2 + 1) 0)) w
-          ∙ take_zeros (drop count ds) ((len - count) % 2) (len % 2 + 1) (omega arith) in
+      halves-take k bs' ∙ ap (take (2 * k)) b ∙ ap (λ j. take j (drop count ds ++ replicate (len % 2 + 1) 0)) w
+      ∙ take_zeros (drop count ds) ((len - count) % 2) (len % 2 + 1) (omega arith) in
       holds (take k bs') (drop count ds) (len - count) f l (decimal_drop ds count p.decimal)
 
   -- zero bytes are appended
@@ -196,18 +201,18 @@ module _ (bs : List ℕ) (len : ℕ) (p : IsPacked bs len) where
       let start = len + zeros in
       let w : len % 2 + 2 * k ≡ zeros + start % 2 = omega arith in
       let f : halves (bs ++ replicate k 0) ≡ (ds ++ replicate zeros 0) ++ replicate (start % 2) 0 =
-          halves-append bs (replicate k 0)
-          ∙ ap (λ l. halves bs ++ l) (halves-zeros k)
-          ∙ ap (λ l. l ++ replicate (2 * k) 0) p.unused
-          ∙ append_assoc ds (replicate (len % 2) 0) (replicate (2 * k) 0)
-          ∙ ap (λ l. ds ++ l)
-              (replicate-append-replicate (len % 2) (2 * k) 0
-                  ∙ ap (λ j. replicate j 0) w
-                  ∙ sym (replicate-append-replicate zeros (start % 2) 0))
-          ∙ sym (append_assoc ds (replicate zeros 0) (replicate (start % 2) 0)) in
+      halves-append bs (replicate k 0)
+      ∙ ap (λ l. halves bs ++ l) (halves-zeros k)
+      ∙ ap (λ l. l ++ replicate (2 * k) 0) p.unused
+      ∙ append_assoc ds (replicate (len % 2) 0) (replicate (2 * k) 0)
+      ∙ ap (λ l. ds ++ l)
+      (replicate-append-replicate (len % 2) (2 * k) 0
+      ∙ ap (λ j. replicate j 0) w
+      ∙ sym (replicate-append-replicate zeros (start % 2) 0))
+      ∙ sym (append_assoc ds (replicate zeros 0) (replicate (start % 2) 0)) in
       holds (bs ++ replicate k 0) (ds ++ replicate zeros 0) start f
-          (omega (arith, length-append ds (replicate zeros 0), length-replicate {A = ℕ} zeros 0))
-          (decimal_zeros ds zeros p.decimal)
+      (omega (arith, length-append ds (replicate zeros 0), length-replicate {A = ℕ} zeros 0))
+      (decimal_zeros ds zeros p.decimal)
 
   -- digits are appended behind an even number of them
   pub holds_run : (bs' xs : List ℕ) → len % 2 ≡ 0 → All (λ d. d < 10) xs
@@ -217,10 +222,10 @@ module _ (bs : List ℕ) (len : ℕ) (p : IsPacked bs len) where
       let ds = digits_in bs len in
       let w : length xs % 2 ≡ (len + length xs) % 2 = omega arith in
       let f : halves bs' ≡ (ds ++ xs) ++ replicate ((len + length xs) % 2) 0 =
-          g ∙ ap (λ l. l ++ (xs ++ replicate (length xs % 2) 0)) (even_halves m)
-          ∙ sym (append_assoc ds xs (replicate (length xs % 2) 0)) ∙ ap (λ k. (ds ++ xs) ++ replicate k 0) w in
+      g ∙ ap (λ l. l ++ (xs ++ replicate (length xs % 2) 0)) (even_halves m)
+      ∙ sym (append_assoc ds xs (replicate (length xs % 2) 0)) ∙ ap (λ k. (ds ++ xs) ++ replicate k 0) w in
       holds bs' (ds ++ xs) (len + length xs) f (omega (arith, length-append ds xs, length_digits bs len p))
-          (decimal_append ds xs p.decimal h)
+      (decimal_append ds xs p.decimal h)
 
   -- ---- two stores
   module _ (cs : List ℕ) (n : ℕ) (q : IsPacked cs n) where
@@ -230,9 +235,9 @@ module _ (bs : List ℕ) (len : ℕ) (p : IsPacked bs len) where
         let es = digits_in cs n in
         let l : length es ≡ n = length_digits cs n q in
         let u : halves cs ≡ es ++ replicate (length es % 2) 0 =
-            q.unused ∙ ap (λ k. es ++ replicate (k % 2) 0) (sym l) in
+        q.unused ∙ ap (λ k. es ++ replicate (k % 2) 0) (sym l) in
         subst (λ k. Holds (bs ++ cs) (len + k) (digits_in bs len ++ es)) l
-            (holds_run (bs ++ cs) es m q.decimal (halves-append bs cs ∙ ap (λ l. halves bs ++ l) u))
+        (holds_run (bs ++ cs) es m q.decimal (halves-append bs cs ∙ ap (λ l. halves bs ++ l) u))
 
     -- halves behind an odd number of digits
     pub holds_append_odd : (bs' : List ℕ) → len % 2 ≡ 1
@@ -244,23 +249,24 @@ module _ (bs : List ℕ) (len : ℕ) (p : IsPacked bs len) where
         let w : (n + 1) % 2 ≡ (len + n) % 2 = omega arith in
         let b : 2 * length bs - 1 ≡ len = omega arith in
         let f : halves bs' ≡ (digits_in bs len ++ es) ++ replicate ((len + n) % 2) 0 =
-            g
-            ∙ ap (λ k. (take k (halves bs) ++ es) ++ replicate ((n + 1) % 2) 0) b
-            ∙ ap (λ k. (digits_in bs len ++ es) ++ replicate k 0) w in
+        g
+        ∙ ap (λ k. (take k (halves bs) ++ es) ++ replicate ((n + 1) % 2) 0) b
+        ∙ ap (λ k. (digits_in bs len ++ es) ++ replicate k 0) w in
         holds bs' (digits_in bs len ++ es) (len + n) f
-            (omega (arith, length-append (digits_in bs len) es, length_digits bs len p, length_digits cs n q))
-            (decimal_append (digits_in bs len) es p.decimal q.decimal)
+        (omega (arith, length-append (digits_in bs len) es, length_digits bs len p, length_digits cs n q))
+        (decimal_append (digits_in bs len) es p.decimal q.decimal)
 
     -- bytes that hold the same digits are the same
     pub same_store : digits_in bs len ≡ digits_in cs n → (len ≡ n) × (bs ≡ cs)
     same_store e =
-        let k : len ≡ n = sym (length_digits bs len p) ∙ ap length e ∙ length_digits cs n q in
-        (k,
-         same_bytes bs cs
-             (p.unused
-                 ∙ ap (λ l. l ++ replicate (len % 2) 0) e
-                 ∙ ap (λ j. digits_in cs n ++ replicate (j % 2) 0) k
-                 ∙ sym q.unused))
+        let k : len ≡ n = sym (length_digits bs len p) ∙ ap length e ∙ length_digits cs n q in (
+          k,
+          same_bytes bs cs
+              (p.unused
+              ∙ ap (λ l. l ++ replicate (len % 2) 0) e
+              ∙ ap (λ j. digits_in cs n ++ replicate (j % 2) 0) k
+              ∙ sym q.unused),
+        )
 
 -- a digit is written into the half that was left over, and digits are appended
 pub holds_run_odd : (bs : List ℕ) (len : ℕ) (p : IsPacked bs len) (mid bs' xs : List ℕ) (d : ℕ) → len % 2 ≡ 1
@@ -273,5 +279,5 @@ holds_run_odd bs len p mid bs' xs d m q h e g =
     let all = holds_run mid (len + 1) first.packed bs' xs even h g in
     let n : (len + 1) + length xs ≡ len + length (d ∷ xs) = omega arith in
     let l : digits_in mid (len + 1) ++ xs ≡ digits_in bs len ++ (d ∷ xs) =
-        ap (λ l. l ++ xs) first.digits ∙ append_assoc (digits_in bs len) (d ∷ []) xs in
+    ap (λ l. l ++ xs) first.digits ∙ append_assoc (digits_in bs len) (d ∷ []) xs in
     rw (← n, ← l) all

@@ -18,7 +18,7 @@ refill_end items s front more ys held n e a h m l =
     let d : drop (length s - held) (drop held s) ≡ [] = drop_all (length s - held) (drop held s) (omega arith) in
     let k : length ys ≡ length s - held = l ∙ length-take-le (length s - held) (drop held s) (omega arith) in
     let body : take held s ++ (ys ++ drop (length s - held) (drop held s)) ≡ front ++ ys =
-        rw (t, d) (ap (λ l. front ++ l) (append-nil ys)) in
+    rw (t, d) (ap (λ l. front ++ l) (append-nil ys)) in
     let whole_length : length s ≡ length front + length more = ap length whole ∙ length-append front more in
     let o : length (front ++ ys) ≡ n = omega (arith, length-append front ys, ap length e) in
     ap (refill n items) body ∙ refill_same items (front ++ ys) n o
