@@ -97,9 +97,9 @@ module _ (u n w : ℕ) (h : 0 < w) where
   above_scaled : above (u * w) (n * w) ≡ above u n * w
   above_scaled =
       let up : n * w - n % u * w + u * w ≡ (n - n % u + u) * w =
-          ap (λ x. x + u * w) (sym (sub-mul n (n % u) w)) ∙ sym (sum_scaled (n - n % u) u w) in
+      ap (λ x. x + u * w) (sym (sub-mul n (n % u) w)) ∙ sym (sum_scaled (n - n % u) u w) in
       rw (left_scaled, zero_scaled (n % u) w h)
-          (ap (λ x. if n % u == 0 then n * w else x) up ∙ if_scaled (n % u == 0) n (n - n % u + u) w)
+      (ap (λ x. if n % u == 0 then n * w else x) up ∙ if_scaled (n % u == 0) n (n - n % u + u) w)
 
   twice_left : 2 * (n * w % (u * w)) ≡ 2 * (n % u) * w
   twice_left = rw left_scaled (omega arith)
@@ -119,17 +119,17 @@ module _ (u n w : ℕ) (h : 0 < w) where
       ∙ if_scaled _ (above u n) (below u n) w
   rounded_scaled HalfEven =
       (λ i.
-          if nat_lt (twice_left i) (u * w) then below_scaled i
-          else if nat_lt (u * w) (twice_left i) then above_scaled i
-          else if mul-div-mul_right n u h i % 2 == 0 then below_scaled i
-          else above_scaled i)
+      if nat_lt (twice_left i) (u * w) then below_scaled i
+      else if nat_lt (u * w) (twice_left i) then above_scaled i
+      else if mul-div-mul_right n u h i % 2 == 0 then below_scaled i
+      else above_scaled i)
       ∙ (λ i.
-          if test_scaled (2 * (n % u)) u w h i then below u n * w
-          else if test_scaled u (2 * (n % u)) w h i then above u n * w
-          else if_scaled (n / u % 2 == 0) (below u n) (above u n) w i)
+      if test_scaled (2 * (n % u)) u w h i then below u n * w
+      else if test_scaled u (2 * (n % u)) w h i then above u n * w
+      else if_scaled (n / u % 2 == 0) (below u n) (above u n) w i)
       ∙ (λ i.
-          if nat_lt (2 * (n % u)) u then below u n * w
-          else if_scaled (nat_lt u (2 * (n % u))) (above u n) (if n / u % 2 == 0 then below u n else above u n) w i)
+      if nat_lt (2 * (n % u)) u then below u n * w
+      else if_scaled (nat_lt u (2 * (n % u))) (above u n) (if n / u % 2 == 0 then below u n else above u n) w i)
       ∙ if_scaled (nat_lt (2 * (n % u)) u) (below u n) _ w
 
 -- ---- a power of ten is at most the number
@@ -150,10 +150,10 @@ ends_at n k e d =
         | inr h ↦
             let b : q ≡ q / 10 * 10 = omega (arith, h) in
             let c : n ≡ q / 10 * 10 ^ (k + 1) =
-                a
-                ∙ ap (λ x. x * 10 ^ k) b
-                ∙ (let m : q / 10 * 10 * 10 ^ k ≡ q / 10 * (10 ^ k * 10) = omega arith in m)
-                ∙ ap (λ x. q / 10 * x) (power_more (10 ^ k) k refl) in
+            a
+            ∙ ap (λ x. x * 10 ^ k) b
+            ∙ (let m : q / 10 * 10 * 10 ^ k ≡ q / 10 * (10 ^ k * 10) = omega arith in m)
+            ∙ ap (λ x. q / 10 * x) (power_more (10 ^ k) k refl) in
             absurd (d (ap (λ x. x % 10 ^ (k + 1)) c ∙ mul-mod_left (q / 10) (10 ^ (k + 1))))
       ],
     )
@@ -169,8 +169,8 @@ module _ (n : ℕ) (unit m : ℤ) (least : negsuc 32767 ≤ℤ unit) where
   digit_down k e =
       let a = place_above k e in
       ap (λ x. x % 10)
-          (shift_down n (place unit) (place m) (omega arith)
-              ∙ ap (λ d. n / 10 ^ d) (let d : place m - place unit ≡ k = omega arith in d))
+      (shift_down n (place unit) (place m) (omega arith)
+      ∙ ap (λ d. n / 10 ^ d) (let d : place m - place unit ≡ k = omega arith in d))
 
   -- a digit below the unit is 0
   pub digit_under : negsuc 32767 ≤ℤ m → m <ℤ unit → digit (n * weight unit) m ≡ 0
@@ -189,8 +189,8 @@ module _ (n : ℕ) (unit m : ℤ) (least : negsuc 32767 ≤ℤ unit) where
       let a = place_above k e in
       let low : 10 ^ place m ≡ 10 ^ k * weight unit = weight_above k e in
       let high : 10 ^ (place m + 1) ≡ 10 ^ (k + 1) * weight unit =
-          ap (λ x. 10 ^ x) (let c : place m + 1 ≡ (k + 1) + place unit = omega arith in c)
-          ∙ pow-add 10 (k + 1) (place unit) in
+      ap (λ x. 10 ^ x) (let c : place m + 1 ≡ (k + 1) + place unit = omega arith in c)
+      ∙ pow-add 10 (k + 1) (place unit) in
       let f : 10 ^ place m ≤ n * weight unit = rw low (mul-le-mul_right (weight unit) least_is) in
       let g : n * weight unit < 10 ^ (place m + 1) = rw high (mul-lt-mul_of_pos_right most (ten_pos (place unit))) in
       let l : negsuc 32767 ≤ℤ m = omega (arith, ints, e, least) in
@@ -204,9 +204,9 @@ module _ (n : ℕ) (unit m : ℤ) (least : negsuc 32767 ≤ℤ unit) where
       let p = ends_at n k z d in
       let l : negsuc 32767 ≤ℤ m = omega (arith, ints, e, least) in
       let w : n * weight unit ≡ q * weight m =
-          ap (λ x. x * weight unit) p.0
-          ∙ mul_assoc q (10 ^ k) (weight unit)
-          ∙ ap (λ x. q * x) (sym (weight_above k e)) in
+      ap (λ x. x * weight unit) p.0
+      ∙ mul_assoc q (10 ^ k) (weight unit)
+      ∙ ap (λ x. q * x) (sym (weight_above k e)) in
       ap last w ∙ last_is q (place m) p.1 (omega (arith, ints, h, place_is m)) ∙ magnitude_at-place m l
 
   -- what is left of the number below a magnitude at the unit or above it
@@ -228,10 +228,10 @@ pub below_limit : (n : ℕ) → n < 2 ^ 64 → reaches_limit (n * weight (negsuc
 below_limit n h =
     let few : n < 10 ^ 20 = omega (arith, h) in
     let scaled : n * weight (negsuc 9) < 10 ^ 20 * weight (negsuc 9) =
-        mul-lt-mul_of_pos_right few (ten_pos (place (negsuc 9))) in
+    mul-lt-mul_of_pos_right few (ten_pos (place (negsuc 9))) in
     let joined : 10 ^ (20 + place (negsuc 9)) ≡ 10 ^ 20 * weight (negsuc 9) = pow-add 10 20 (place (negsuc 9)) in
     let most : 10 ^ (20 + place (negsuc 9)) ≤ weight (pos 32768) =
-        pow-le-pow_right (omega arith) (omega (arith, ints, place_is (negsuc 9), place_is (pos 32768))) in
+    pow-le-pow_right (omega arith) (omega (arith, ints, place_is (negsuc 9), place_is (pos 32768))) in
     let l : n * weight (negsuc 9) < weight (pos 32768) = omega (arith, scaled, joined, most) in
     search (rules, l)
 
@@ -246,11 +246,11 @@ rounded_is v p mode increment n k unit m number position unit_is multiple few =
     let wide = weight_above 0 (negsuc 9) p (omega (arith, ints)) k position in
     let scaled : unit * w ≡ unit_at increment p = rw (unit_is, wide) (omega arith) in
     let named : m * w ≡ rounded_number mode (unit_at increment p) v.number =
-        ap (λ x. x * w) multiple
-        ∙ sym (rounded_scaled unit n w (ten_pos (place (negsuc 9))) mode)
-        ∙ (λ i. rounded_number mode (scaled i) (number i)) in
+    ap (λ x. x * w) multiple
+    ∙ sym (rounded_scaled unit n w (ten_pos (place (negsuc 9))) mode)
+    ∙ (λ i. rounded_number mode (scaled i) (number i)) in
     let stays : rounded_to v p (m * w) ≡ Some (with_number v p (m * w)) =
-        ap (λ t. if t then None else Some (with_number v p (m * w))) (below_limit m few) in
+    ap (λ t. if t then None else Some (with_number v p (m * w))) (below_limit m few) in
     sym stays ∙ ap (rounded_to v p) named
 
 -- ---- the bytes so far, and those of the magnitudes from i below the highest, are the text
@@ -266,7 +266,7 @@ shown_more v old new i d m h e f g s =
     let rest = text_down v.number (v.hi -ℤ pos (i + 1)) (count - (i + 1)) in
     let byte = λ (k : ℤ). dot_before k ++ (48 + digit v.number k) ∷ [] in
     let b : dot_before m ++ (48 + d) ∷ [] ≡ byte (v.hi -ℤ pos i) =
-        ap (λ x. dot_before m ++ (48 + x) ∷ []) f ∙ ap byte e in
+    ap (λ x. dot_before m ++ (48 + x) ∷ []) f ∙ ap byte e in
     ap (λ l. l ++ rest) (g ∙ ap (λ l. old ++ l) b)
     ∙ append_assoc old (byte (v.hi -ℤ pos i)) rest
     ∙ ap (λ l. old ++ l) (sym (text_down-step v.number v.hi count i h))
