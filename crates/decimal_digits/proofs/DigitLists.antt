@@ -15,7 +15,7 @@ pub after_is : (n : ℕ) (ds : List ℕ) → number_from_digits_after 10 n ds �
 after_is n [] = omega arith
 after_is n (d ∷ ds) =
     let e : number_from_digits 10 (d ∷ ds) ≡ (0 * 10 + d) * 10 ^ length ds + number_from_digits 10 ds =
-        after_is (0 * 10 + d) ds in
+    after_is (0 * 10 + d) ds in
     let p : 10 ^ length (d ∷ ds) ≡ 10 ^ length ds * 10 = pow-suc 10 (length ds) in
     after_is (n * 10 + d) ds ∙ (rw (e, p) (omega arith))
 
@@ -39,7 +39,7 @@ below_take (suc k) (d ∷ ds) h = (h.0, below_take k ds h.1)
 -- the first k digits and the others
 pub number_split : (k : ℕ) (ds : List ℕ) → k ≤ length ds
     → number_from_digits 10 ds
-        ≡ number_from_digits 10 (take k ds) * 10 ^ (length ds - k) + number_from_digits 10 (drop k ds)
+    ≡ number_from_digits 10 (take k ds) * 10 ^ (length ds - k) + number_from_digits 10 (drop k ds)
 number_split k ds h =
     ap (number_from_digits 10) (sym (take-append-drop k ds))
     ∙ number-append (take k ds) (drop k ds)
@@ -50,7 +50,7 @@ pub number-drop-lt : (k : ℕ) (ds : List ℕ) → AllBelowBase 10 ds
     → number_from_digits 10 (drop k ds) < 10 ^ (length ds - k)
 number-drop-lt k ds h =
     subst (λ n. number_from_digits 10 (drop k ds) < 10 ^ n) (length-drop k ds)
-        (number_lt 10 (drop k ds) (below_drop k ds h))
+    (number_lt 10 (drop k ds) (below_drop k ds h))
 
 -- dividing by a power of ten keeps the digits in front
 pub number-div : (k : ℕ) (ds : List ℕ) → AllBelowBase 10 ds → k ≤ length ds
@@ -76,7 +76,7 @@ pub number_front : (ds : List ℕ) → 0 < length ds → 0 < get_or ds 0 0 → 1
 number_front [] h f = absurd (omega arith)
 number_front (d ∷ ds) h f =
     let e : number_from_digits 10 (d ∷ ds) ≡ (0 * 10 + d) * 10 ^ length ds + number_from_digits 10 ds =
-        after_is (0 * 10 + d) ds in
+    after_is (0 * 10 + d) ds in
     let q : length (d ∷ ds) - 1 ≡ length ds = omega arith in
     let m : 1 * 10 ^ length ds ≤ d * 10 ^ length ds = mul-le-mul_right (10 ^ length ds) f in
     rw (e, q) (omega arith)

@@ -26,8 +26,8 @@ unfolding first
 first_is zero k h l b = absurd (omega (arith, ten_pos k))
 first_is (suc n) k h l b =
     ap magnitude_at
-        (greatest_is (λ i. nat_le (10 ^ i) (suc n)) 65536 k b (search (rules, h))
-            (λ i p q. let m : 10 ^ (k + 1) ≤ 10 ^ i = pow-le-pow_right (omega arith) (omega arith) in search rules))
+    (greatest_is (λ i. nat_le (10 ^ i) (suc n)) 65536 k b (search (rules, h))
+    (λ i p q. let m : 10 ^ (k + 1) ≤ 10 ^ i = pow-le-pow_right (omega arith) (omega arith) in search rules))
 
 -- the last digit of a number is at the highest power of ten that divides it
 pub last_at : (n k : ℕ) → 0 < n → n % 10 ^ k ≡ 0 → ((i : ℕ) → k < i → ¬ (n % 10 ^ i ≡ 0)) → k < 65536
@@ -36,7 +36,7 @@ unfolding last
 last_at zero k h d f b = absurd (omega arith)
 last_at (suc n) k h d f b =
     ap magnitude_at
-        (greatest_is (λ i. suc n % 10 ^ i == 0) 65536 k b (search rules) (λ i p q. let m = f i p in search rules))
+    (greatest_is (λ i. suc n % 10 ^ i == 0) 65536 k b (search rules) (λ i p q. let m = f i p in search rules))
 
 -- a number that ends in more zeros than v * 10 ^ e allows
 pub no_more_zeros : (v e i : ℕ) → 0 < v % 10 → e < i → ¬ ((v * 10 ^ e) % 10 ^ i ≡ 0)
@@ -45,12 +45,12 @@ no_more_zeros v e i h p z =
     let q = v * 10 ^ e / 10 ^ i in
     let whole : q * 10 ^ i + (v * 10 ^ e) % 10 ^ i ≡ v * 10 ^ e = div-add-mod' (v * 10 ^ e) (10 ^ i) in
     let split : 10 ^ i ≡ (10 ^ j * 10) * 10 ^ e =
-        ap (λ n. 10 ^ n) (let k : i ≡ suc j + e = omega arith in k)
-        ∙ pow-add 10 (suc j) e
-        ∙ ap (λ n. n * 10 ^ e) (pow-suc 10 j) in
+    ap (λ n. 10 ^ n) (let k : i ≡ suc j + e = omega arith in k)
+    ∙ pow-add 10 (suc j) e
+    ∙ ap (λ n. n * 10 ^ e) (pow-suc 10 j) in
     let same : v * 10 ^ e ≡ (q * 10 ^ j * 10) * 10 ^ e = sym whole ∙ rw (z, split) (omega arith) in
     let cut : v ≡ q * 10 ^ j * 10 =
-        sym (mul-div_cancel v (ten_pos e)) ∙ ap (λ n. n / 10 ^ e) same ∙ mul-div_cancel (q * 10 ^ j * 10) (ten_pos e) in
+    sym (mul-div_cancel v (ten_pos e)) ∙ ap (λ n. n / 10 ^ e) same ∙ mul-div_cancel (q * 10 ^ j * 10) (ten_pos e) in
     let ends : v % 10 ≡ 0 = ap (λ n. n % 10) cut ∙ mul-mod_left (q * 10 ^ j) 10 in
     omega arith
 
@@ -58,7 +58,7 @@ no_more_zeros v e i h p z =
 pub last_is : (v e : ℕ) → 0 < v % 10 → e < 65536 → last (v * 10 ^ e) ≡ magnitude_at e
 last_is v e h b =
     last_at (v * 10 ^ e) e (let p : 0 < v = pos_of_mod v h in omega (arith, mul-pos p (ten_pos e)))
-        (mul-mod_left v (10 ^ e)) (λ i p. no_more_zeros v e i h p) b
+    (mul-mod_left v (10 ^ e)) (λ i p. no_more_zeros v e i h p) b
 
 -- ---- one digit of v * 10 ^ e
 -- the digit above all those of a number is 0
@@ -72,14 +72,14 @@ digit_above n k m h p =
 pub shift_down : (v e m : ℕ) → e ≤ m → v * 10 ^ e / 10 ^ m ≡ v / 10 ^ (m - e)
 shift_down v e m h =
     let split : 10 ^ m ≡ 10 ^ (m - e) * 10 ^ e =
-        ap (λ n. 10 ^ n) (let k : m ≡ (m - e) + e = omega arith in k) ∙ pow-add 10 (m - e) e in
+    ap (λ n. 10 ^ n) (let k : m ≡ (m - e) + e = omega arith in k) ∙ pow-add 10 (m - e) e in
     ap (λ n. v * 10 ^ e / n) split ∙ mul-div-mul_right v (10 ^ (m - e)) (ten_pos e)
 
 -- digits shifted up and then less far down
 pub shift_up : (v e m : ℕ) → m ≤ e → v * 10 ^ e / 10 ^ m ≡ v * 10 ^ (e - m)
 shift_up v e m h =
     let split : 10 ^ e ≡ 10 ^ (e - m) * 10 ^ m =
-        ap (λ n. 10 ^ n) (let k : e ≡ (e - m) + m = omega arith in k) ∙ pow-add 10 (e - m) m in
+    ap (λ n. 10 ^ n) (let k : e ≡ (e - m) + m = omega arith in k) ∙ pow-add 10 (e - m) m in
     let same : v * 10 ^ e ≡ v * 10 ^ (e - m) * 10 ^ m = rw split (omega arith) in
     ap (λ n. n / 10 ^ m) same ∙ mul-div_cancel (v * 10 ^ (e - m)) (ten_pos m)
 
@@ -87,10 +87,10 @@ shift_up v e m h =
 pub digit_below : (v e m : ℕ) → m < e → v * 10 ^ e / 10 ^ m % 10 ≡ 0
 digit_below v e m h =
     let split : 10 ^ (e - m) ≡ 10 ^ (e - m - 1) * 10 =
-        ap (λ n. 10 ^ n) (let k : e - m ≡ suc (e - m - 1) = omega arith in k) ∙ pow-suc 10 (e - m - 1) in
+    ap (λ n. 10 ^ n) (let k : e - m ≡ suc (e - m - 1) = omega arith in k) ∙ pow-suc 10 (e - m - 1) in
     ap (λ n. n % 10)
-        (shift_up v e m (omega arith)
-            ∙ (let s : v * 10 ^ (e - m) ≡ v * 10 ^ (e - m - 1) * 10 = rw split (omega arith) in s))
+    (shift_up v e m (omega arith)
+    ∙ (let s : v * 10 ^ (e - m) ≡ v * 10 ^ (e - m - 1) * 10 = rw split (omega arith) in s))
     ∙ mul-mod_left (v * 10 ^ (e - m - 1)) 10
 
 -- the first digit of 0 is at the magnitude 0

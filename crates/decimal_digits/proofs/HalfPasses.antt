@@ -59,7 +59,7 @@ shifted_at xs zs from n last k p e m written rest w q =
           let lt : k < n = omega arith in
           let l : suc k < length xs = omega arith in
           let g : get_or (xs ++ (last * 16) ∷ []) (suc k) 0 ≡ get_or xs (suc k) 0 =
-              get_or_append_left xs ((last * 16) ∷ []) 0 (suc k) l in
+          get_or_append_left xs ((last * 16) ∷ []) 0 (suc k) l in
           let o : get_or xs (k + 1) 0 ≡ get_or xs (suc k) 0 = ap (λ i. get_or xs i 0) (add-one k) in
           get_or-set_other zs n k v 0 s ∙ written k w lt ∙ ap (λ i. get_or xs k 0 % 16 * 16 + i / 16) (o ∙ sym g)
     ]
@@ -93,16 +93,16 @@ gap_closed bs cs at last h e f =
     let l2 : 2 * at + 1 < length N = omega arith in
     let o : 2 * at + 1 + 1 ≡ 2 * at + 2 = omega arith in
     let d : drop (2 * at + 1) N ≡ get_or N (2 * at + 1) 0 ∷ drop (2 * at + 2) N =
-        drop_more N (2 * at + 1) 0 l2 ∙ ap (λ i. get_or N (2 * at + 1) 0 ∷ drop i N) o in
+    drop_more N (2 * at + 1) 0 l2 ∙ ap (λ i. get_or N (2 * at + 1) 0 ∷ drop i N) o in
     let g : halves cs ≡ take (2 * at) N ++ (get_or N (2 * at + 1) 0 ∷ (drop (2 * at + 2) N ++ last ∷ [])) =
-        f ∙ ap (λ l. take (2 * at) N ++ (l ++ last ∷ [])) d in
+    f ∙ ap (λ l. take (2 * at) N ++ (l ++ last ∷ [])) d in
     let t : take (2 * at + 1) N ≡ take (2 * at) N ++ x ∷ [] =
-        take_more N (2 * at) 0 l1 ∙ ap (λ i. take (2 * at) N ++ i ∷ []) (high_half bs at h) in
+    take_more N (2 * at) 0 l1 ∙ ap (λ i. take (2 * at) N ++ i ∷ []) (high_half bs at h) in
     halves-set_high cs at x lt ∙ ap (λ l. set l (2 * at) x) g
     ∙ set_at (take (2 * at) N) (get_or N (2 * at + 1) 0) (drop (2 * at + 2) N ++ last ∷ []) x (2 * at)
-        (length-take-le (2 * at) N (omega arith))
+    (length-take-le (2 * at) N (omega arith))
     ∙ sym (ap (λ l. l ++ (drop (2 * at + 2) N ++ last ∷ [])) t
-        ∙ append_assoc (take (2 * at) N) (x ∷ []) (drop (2 * at + 2) N ++ last ∷ []))
+    ∙ append_assoc (take (2 * at) N) (x ∷ []) (drop (2 * at + 2) N ++ last ∷ []))
 
 -- halves that follow the high half of the last byte
 pub joined : (bs more cs : List ℕ) (count at last w : ℕ) → 0 < length bs → at ≡ length bs - 1 → w ≡ count / 2
@@ -114,19 +114,19 @@ pub joined : (bs more cs : List ℕ) (count at last w : ℕ) → 0 < length bs �
 joined bs more cs count at last w z e v h f g =
     let n = length-halves bs in
     let a : halves (bs ++ take w more) ≡ halves bs ++ take (2 * w) (halves more) =
-        halves-append bs (take w more) ∙ ap (λ l. halves bs ++ l) (halves-take w more) in
+    halves-append bs (take w more) ∙ ap (λ l. halves bs ++ l) (halves-take w more) in
     let i : 2 * at + 1 ≡ 2 * length bs - 1 = omega arith in
     let j : length (halves bs) ≡ 2 * at + 2 = omega arith in
     let k : 2 * at + 1 ≤ length (halves bs) = omega arith in
     f ∙ ap (λ l. take (2 * at + 1) l ++ (drop (2 * at + 2) l ++ last ∷ [])) a
     ∙ ap (λ l. l ++ (drop (2 * at + 2) (halves bs ++ take (2 * w) (halves more)) ++ last ∷ []))
-        (take-append-le (2 * at + 1) (halves bs) (take (2 * w) (halves more)) k)
+    (take-append-le (2 * at + 1) (halves bs) (take (2 * w) (halves more)) k)
     ∙ ap (λ l. take (2 * at + 1) (halves bs) ++ (l ++ last ∷ []))
-        (drop_at (halves bs) (take (2 * w) (halves more)) (2 * at + 2) j)
+    (drop_at (halves bs) (take (2 * w) (halves more)) (2 * at + 2) j)
     ∙ ap (λ l. take (2 * at + 1) (halves bs) ++ l) g
     ∙ ap (λ m. take m (halves bs) ++ (take count (halves more) ++ replicate ((count + 1) % 2) 0)) i
     ∙ sym (append_assoc (take (2 * length bs - 1) (halves bs)) (take count (halves more))
-        (replicate ((count + 1) % 2) 0))
+    (replicate ((count + 1) % 2) 0))
 
 -- whole bytes, and the high half of the next one
 pub last_odd : (more : List ℕ) (count w last : ℕ) → w ≡ count / 2 → count ≤ 2 * length more → count % 2 ≡ 1
@@ -180,7 +180,7 @@ pub pack_odd : (bs ds : List ℕ) (i : ℕ) → length bs ≡ (length ds + 1) / 
     → length ds / 2 ≤ i → length ds % 2 ≡ 1
     → ((k : ℕ) → k < i → get_or bs k 0 ≡ get_or ds (2 * k) 0 % 16 * 16 + get_or ds (2 * k + 1) 0 % 16)
     → halves (set bs (length ds / 2) (get_or ds (2 * (length ds / 2)) 0 % 16 * 16))
-        ≡ lows ds ++ replicate (length ds % 2) 0
+    ≡ lows ds ++ replicate (length ds % 2) 0
 pack_odd bs ds i e l m f =
     let n = length ds / 2 in
     let v = get_or ds (2 * n) 0 % 16 * 16 in
@@ -205,7 +205,7 @@ halves_more bs b = halves-append bs (b ∷ [])
 -- two more low halves
 lows_more : (ds : List ℕ) (i : ℕ) → 2 * i + 1 < length ds
     → lows (take (2 * (i + 1)) ds)
-        ≡ lows (take (2 * i) ds) ++ (get_or ds (2 * i) 0 % 16 ∷ (get_or ds (2 * i + 1) 0 % 16 ∷ []))
+    ≡ lows (take (2 * i) ds) ++ (get_or ds (2 * i) 0 % 16 ∷ (get_or ds (2 * i + 1) 0 % 16 ∷ []))
 lows_more ds i h =
     let low : ℕ → ℕ = λ d. d % 16 in
     let n : 2 * (i + 1) ≡ (2 * i + 1) + 1 = omega arith in

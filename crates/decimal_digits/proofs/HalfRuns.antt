@@ -95,7 +95,7 @@ letters_from_odd bs (p ∷ ps) qs from m z h e =
     let n : suc (length ps) - 1 ≡ length ps = omega arith in
     let left : drop (suc (length ps) - 1) ps ≡ [] = drop_all (suc (length ps) - 1) ps (omega arith) in
     let count : length (take (suc (length ps) - 1) ps) ≡ length ps =
-        ap length (take_all (suc (length ps) - 1) ps (omega arith)) in
+    ap length (take_all (suc (length ps) - 1) ps (omega arith)) in
     let first : get_or bs (from / 2) 0 % 16 ≡ get_or (halves bs) from 0 =
     sym (low_half bs (from / 2) byte) ∙ ap (λ j. get_or (halves bs) j 0) i in
     let rest : qs ≡ text_of (take (length ps) (drop (from + 1) (halves bs))) =
@@ -115,12 +115,12 @@ both_halves bs k half h s e =
       | inl m ↦
           let i : 2 * (k / 2) ≡ k = omega arith in
           let v : get_or (halves bs) k 0 ≡ get_or bs (k / 2) 0 / 16 =
-              ap (λ j. get_or (halves bs) j 0) (sym i) ∙ high_half bs (k / 2) lt in
+          ap (λ j. get_or (halves bs) j 0) (sym i) ∙ high_half bs (k / 2) lt in
           omega arith
       | inr m ↦
           let i : 2 * (k / 2) + 1 ≡ k = omega arith in
           let v : get_or (halves bs) k 0 ≡ get_or bs (k / 2) 0 % 16 =
-              ap (λ j. get_or (halves bs) j 0) (sym i) ∙ low_half bs (k / 2) lt in
+          ap (λ j. get_or (halves bs) j 0) (sym i) ∙ low_half bs (k / 2) lt in
           omega arith
     ]
 
@@ -139,7 +139,7 @@ pub ends_in : (bs : List ℕ) (count half same : ℕ) → count ≤ length (halv
     → EndsIn bs count half same
 ends_in bs count half same h q o f =
     let l : length (take (count / 2) bs) ≡ count / 2 =
-        length-take-le (count / 2) bs (omega (arith, length-halves bs)) in
+    length-take-le (count / 2) bs (omega (arith, length-halves bs)) in
     record {
       in_range = h;
       is_half = q;

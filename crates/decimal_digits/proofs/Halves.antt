@@ -120,7 +120,7 @@ halves_shifted (x ∷ (x' ∷ xs)) (y ∷ ys) last p z n b f =
     let l : y % 16 ≡ x' / 16 = omega arith in
     let r : halves ys ≡ x' % 16 ∷ (halves xs ++ last ∷ []) =
     halves_shifted (x' ∷ xs) ys last p (omega arith) (omega arith) (λ k q. b (suc k) (omega arith))
-        (λ k q. f (suc k) (omega arith)) in
+    (λ k q. f (suc k) (omega arith)) in
     rw (h, l, r) refl
 
 -- bytes that from one on each take a half from the byte behind have lost the first half of that one
@@ -140,7 +140,7 @@ halves_shifted_from (suc from) (x ∷ xs) (y ∷ ys) last p z n b s f =
     let d : suc (suc (2 * from)) + 1 ≡ suc (suc (2 * from + 1)) = omega arith in
     let r : halves ys ≡ take (2 * from) (halves xs) ++ (drop (2 * from + 1) (halves xs) ++ last ∷ []) =
     halves_shifted_from from xs ys last p (omega arith) (omega arith) (λ k q. b (suc k) (omega arith))
-        (λ k q. s (suc k) (omega arith)) (λ k w q. f (suc k) (omega arith) (omega arith)) in
+    (λ k q. s (suc k) (omega arith)) (λ k w q. f (suc k) (omega arith) (omega arith)) in
     rw (e, t, d, r) refl
 
 -- bytes that are made of digits, two at a time, have these as their halves
@@ -170,7 +170,7 @@ halves_packed (b ∷ bs) (d ∷ (d' ∷ ds)) n p f =
     halves_packed bs ds (omega arith) (λ k q. p (suc (suc k)) (omega arith))
     (λ k q. f (suc k) (omega arith)
     ∙ ap (λ i. get_or (d ∷ (d' ∷ ds)) i 0 * 16 + get_or (d ∷ (d' ∷ ds)) (2 * suc k + 1) 0)
-        (let e1 : 2 * suc k ≡ suc (suc (2 * k)) = omega arith in e1)
+    (let e1 : 2 * suc k ≡ suc (suc (2 * k)) = omega arith in e1)
     ∙ ap (λ i. get_or ds (2 * k) 0 * 16 + get_or (d ∷ (d' ∷ ds)) i 0)
-        (let e2 : 2 * suc k + 1 ≡ suc (suc (2 * k + 1)) = omega arith in e2)) in
+    (let e2 : 2 * suc k + 1 ≡ suc (suc (2 * k + 1)) = omega arith in e2)) in
     rw (h, l, r, m) refl

@@ -24,20 +24,34 @@ leading_at top k ds h =
 pub leading_more : (k : ℕ) (ds : List ℕ) → 0 < k → leading k ds ≡ leading (k - 1) ds * 10 + get_or ds (k - 1) 0
 leading_more k ds p = elim (cases_lt (k - 1) (length ds)) [
   | inl h ↦ let e : k - (k - 1) ≡ 1 = omega arith in let z : k - k ≡ 0 = omega arith in
-      omega (arith, number_at-take k k ds p (omega arith) (omega arith), ap (λ i. get_or ds (k - 1) 0 * 10 ^ i) z,
-          leading_at k (k - 1) ds (omega arith), ap (λ i. leading (k - 1) ds * 10 ^ i) e)
+      omega (
+        arith,
+        number_at-take k k ds p (omega arith) (omega arith),
+        ap (λ i. get_or ds (k - 1) 0 * 10 ^ i) z,
+        leading_at k (k - 1) ds (omega arith),
+        ap (λ i. leading (k - 1) ds * 10 ^ i) e,
+      )
   | inr h ↦
       let e : take k ds ≡ take (k - 1) ds = take_all k ds (omega arith) ∙ sym (take_all (k - 1) ds h) in
       let j : k - (k - 1) ≡ 1 = omega arith in
-      omega (arith, ap (number_at k) e, leading_at k (k - 1) ds (omega arith), ap (λ i. leading (k - 1) ds * 10 ^ i) j,
-          get_or_past ds (k - 1) 0 h)
+      omega (
+        arith,
+        ap (number_at k) e,
+        leading_at k (k - 1) ds (omega arith),
+        ap (λ i. leading (k - 1) ds * 10 ^ i) j,
+        get_or_past ds (k - 1) 0 h,
+      )
 ]
 
 -- of one digit, the last two are that digit
 pub leading_one : (k : ℕ) (ds : List ℕ) → k ≡ 1 → leading k ds ≡ 100 * leading (k - 2) ds + get_or ds (k - 1) 0
 leading_one k ds e =
-    omega (arith, leading_more k ds (omega arith), leading_none (k - 1) ds (omega arith),
-        leading_none (k - 2) ds (omega arith))
+    omega (
+      arith,
+      leading_more k ds (omega arith),
+      leading_none (k - 1) ds (omega arith),
+      leading_none (k - 2) ds (omega arith),
+    )
 
 -- the first k digits are hundreds and the last two
 pub leading_two : (k : ℕ) (ds : List ℕ) → 2 ≤ k
@@ -45,9 +59,9 @@ pub leading_two : (k : ℕ) (ds : List ℕ) → 2 ≤ k
 leading_two k ds h =
     let e : k - 1 - 1 ≡ k - 2 = omega arith in
     let more : leading (k - 1) ds ≡ leading (k - 1 - 1) ds * 10 + get_or ds (k - 1 - 1) 0 =
-        leading_more (k - 1) ds (omega arith) in
+    leading_more (k - 1) ds (omega arith) in
     let more' : leading (k - 1) ds ≡ leading (k - 2) ds * 10 + get_or ds (k - 2) 0 =
-        more ∙ ap (λ i. leading i ds * 10 + get_or ds i 0) e in
+    more ∙ ap (λ i. leading i ds * 10 + get_or ds i 0) e in
     omega (arith, leading_more k ds (omega arith))
 
 -- nines at the end of the first k digits, and one more, are one more in front of them
@@ -57,9 +71,8 @@ pub nines_in_front : (n j k : ℕ) (ds : List ℕ) → j + n ≡ k → k ≤ len
 nines_in_front n j k ds e h nine =
     let xs = take k ds in
     let len : length xs ≡ k = length-take-le k ds h in
-    let passed =
-        nines_passed n j xs (omega arith)
-            (λ i p q. get_or-take k ds i 0 (omega arith) ∙ nine i (omega arith) (omega arith)) in
+    let passed = nines_passed n j xs (omega arith)
+    (λ i p q. get_or-take k ds i 0 (omega arith) ∙ nine i (omega arith) (omega arith)) in
     let same : take j xs ≡ take j ds = take-take j k ds (omega arith) in
     ap (λ ys. number_at k ys + 10 ^ (k - j)) (sym same)
     ∙ subst (λ m. number_at m (take j xs) + 10 ^ (m - j) ≡ number_at m xs + 1) len passed
@@ -70,17 +83,22 @@ module _ (k : ℕ) (ds : List ℕ) (p : 2 ≤ k) (h : k ≤ length ds + 1) where
   put_tens tens =
       let i : k - 1 - 1 ≡ k - 2 = omega arith in
       let a : number_at k (set (take (k - 1) ds) (k - 1 - 1) tens)
-              ≡ number_at k (take (k - 1 - 1) ds) + tens * 10 ^ (k - (k - 1)) =
-          number_at-set k (k - 1) tens ds (omega arith) (omega arith) (omega arith) in
+      ≡ number_at k (take (k - 1 - 1) ds) + tens * 10 ^ (k - (k - 1)) =
+      number_at-set k (k - 1) tens ds (omega arith) (omega arith) (omega arith) in
       let b : number_at k (set (take (k - 1) ds) (k - 2) tens)
-              ≡ number_at k (take (k - 2) ds) + tens * 10 ^ (k - (k - 1)) =
-          ap (λ j. number_at k (set (take (k - 1) ds) j tens)) (sym i)
-          ∙ a
-          ∙ ap (λ j. number_at k (take j ds) + tens * 10 ^ (k - (k - 1))) i in
+      ≡ number_at k (take (k - 2) ds) + tens * 10 ^ (k - (k - 1)) =
+      ap (λ j. number_at k (set (take (k - 1) ds) j tens)) (sym i)
+      ∙ a
+      ∙ ap (λ j. number_at k (take j ds) + tens * 10 ^ (k - (k - 1))) i in
       let one : k - (k - 1) ≡ 1 = omega arith in
       let two : k - (k - 2) ≡ 2 = omega arith in
-      omega (arith, b, ap (λ j. tens * 10 ^ j) one, leading_at k (k - 2) ds (omega arith),
-          ap (λ j. leading (k - 2) ds * 10 ^ j) two)
+      omega (
+        arith,
+        b,
+        ap (λ j. tens * 10 ^ j) one,
+        leading_at k (k - 2) ds (omega arith),
+        ap (λ j. leading (k - 2) ds * 10 ^ j) two,
+      )
 
   -- a multiple of ten takes the place of the last two, and the list is one shorter
   pub tens_put : (number : ℕ) → number % 10 ≡ 0
@@ -90,18 +108,22 @@ module _ (k : ℕ) (ds : List ℕ) (p : 2 ≤ k) (h : k ≤ length ds + 1) where
   -- a number below 100 takes the place of the last two
   pub both_put : (number : ℕ)
       → number_at k (set (take (k - 1) ds ++ number % 10 ∷ []) (k - 2) (number / 10))
-          ≡ 100 * leading (k - 2) ds + number
+      ≡ 100 * leading (k - 2) ds + number
   both_put number =
       let len : length (take (k - 1) ds) ≡ k - 1 = length-take-le (k - 1) ds (omega arith) in
       let len' : length (set (take (k - 1) ds) (k - 2) (number / 10)) ≡ k - 1 =
-          length-set (take (k - 1) ds) (k - 2) (number / 10) ∙ len in
+      length-set (take (k - 1) ds) (k - 2) (number / 10) ∙ len in
       let e : set (take (k - 1) ds ++ number % 10 ∷ []) (k - 2) (number / 10)
-              ≡ set (take (k - 1) ds) (k - 2) (number / 10) ++ number % 10 ∷ [] =
-          set-append_left (take (k - 1) ds) (number % 10 ∷ []) (k - 2) (number / 10) (omega arith) in
+      ≡ set (take (k - 1) ds) (k - 2) (number / 10) ++ number % 10 ∷ [] =
+      set-append_left (take (k - 1) ds) (number % 10 ∷ []) (k - 2) (number / 10) (omega arith) in
       let z : k - (length (set (take (k - 1) ds) (k - 2) (number / 10)) + 1) ≡ 0 = omega arith in
       ap (number_at k) e
-      ∙ omega (arith, number_at-push k (number % 10) (set (take (k - 1) ds) (k - 2) (number / 10)) (omega arith),
-          ap (λ j. number % 10 * 10 ^ j) z, put_tens (number / 10))
+      ∙ omega (
+        arith,
+        number_at-push k (number % 10) (set (take (k - 1) ds) (k - 2) (number / 10)) (omega arith),
+        ap (λ j. number % 10 * 10 ^ j) z,
+        put_tens (number / 10),
+      )
 
 -- ---- what follows the first k digits
 module _ (top k : ℕ) (ds : List ℕ) (b : AllBelowBase 10 ds) (fits : length ds ≤ top) where
@@ -127,8 +149,8 @@ module _ (top k : ℕ) (ds : List ℕ) (b : AllBelowBase 10 ds) (fits : length d
     behind_pos l =
         let len : length (drop k ds) ≡ length ds - k = length-drop k ds in
         let last : get_or (drop k ds) (length (drop k ds) - 1) 0 ≡ get_or ds (length ds - 1) 0 =
-            get_or-drop k ds (length (drop k ds) - 1) 0
-            ∙ ap (λ i. get_or ds i 0) (let e : k + (length (drop k ds) - 1) ≡ length ds - 1 = omega arith in e) in
+        get_or-drop k ds (length (drop k ds) - 1) 0
+        ∙ ap (λ i. get_or ds i 0) (let e : k + (length (drop k ds) - 1) ≡ length ds - 1 = omega arith in e) in
         number_at-pos (top - k) (drop k ds) (below_drop k ds b) (omega arith) (rw last l)
 
 -- the first of them tells on which side of half of the place above they are
@@ -145,17 +167,28 @@ module _ (top k digit : ℕ) (ds : List ℕ) (b : AllBelowBase 10 ds) (fits : le
   below_half l =
       let d : digit ≤ 4 = omega arith in
       let rest : number_at (top - (k + 1)) (drop (k + 1) ds) < 10 ^ (top - (k + 1)) =
-          number_at-lt (top - (k + 1)) (drop (k + 1) ds) (below_drop (k + 1) ds b)
-              (omega (arith, length-drop (k + 1) ds)) in
-      (behind_pos top k ds b fits h back,
-       omega (arith, first_behind top k ds b fits h, ten_places, ap (λ v. v * 10 ^ (top - (k + 1))) is,
-           mul-le-mul_right (10 ^ (top - (k + 1))) d))
+      number_at-lt (top - (k + 1)) (drop (k + 1) ds) (below_drop (k + 1) ds b)
+      (omega (arith, length-drop (k + 1) ds)) in (
+        behind_pos top k ds b fits h back,
+        omega (
+          arith,
+          first_behind top k ds b fits h,
+          ten_places,
+          ap (λ v. v * 10 ^ (top - (k + 1))) is,
+          mul-le-mul_right (10 ^ (top - (k + 1))) d,
+        ),
+      )
 
   -- a 5 alone is half
   pub half : digit ≡ 5 → k + 1 ≡ length ds → TailIs Half (number_at (top - k) (drop k ds)) (10 ^ (top - k))
   half l e =
-      omega (arith, first_behind top k ds b fits h, ten_places, ap (λ v. v * 10 ^ (top - (k + 1))) (sym is ∙ l),
-          behind_none top (k + 1) ds b fits (omega arith))
+      omega (
+        arith,
+        first_behind top k ds b fits h,
+        ten_places,
+        ap (λ v. v * 10 ^ (top - (k + 1))) (sym is ∙ l),
+        behind_none top (k + 1) ds b fits (omega arith),
+      )
 
   -- a first digit above 5, or a 5 that more follows, is more than half
   pub above_half : 5 ≤ digit → (digit ≡ 5 → k + 1 < length ds)
@@ -165,11 +198,22 @@ module _ (top k digit : ℕ) (ds : List ℕ) (b : AllBelowBase 10 ds) (fits : le
       over : 10 ^ (top - k) < 2 * number_at (top - k) (drop k ds)
       over = elim (cases_lt 5 digit) [
         | inl m ↦
-            omega (arith, first_behind top k ds b fits h, ten_places, ap (λ v. v * 10 ^ (top - (k + 1))) is,
-                mul-le-mul_right (10 ^ (top - (k + 1))) m, ten_pos (top - (k + 1)))
+            omega (
+              arith,
+              first_behind top k ds b fits h,
+              ten_places,
+              ap (λ v. v * 10 ^ (top - (k + 1))) is,
+              mul-le-mul_right (10 ^ (top - (k + 1))) m,
+              ten_pos (top - (k + 1)),
+            )
         | inr m ↦ let five : digit ≡ 5 = omega arith in
-            omega (arith, first_behind top k ds b fits h, ten_places,
-                ap (λ v. v * 10 ^ (top - (k + 1))) (sym is ∙ five), behind_pos top (k + 1) ds b fits (more five) back)
+            omega (
+              arith,
+              first_behind top k ds b fits h,
+              ten_places,
+              ap (λ v. v * 10 ^ (top - (k + 1))) (sym is ∙ five),
+              behind_pos top (k + 1) ds b fits (more five) back,
+            )
       ]
 
 -- ---- what the digits in front of the last two become
@@ -188,10 +232,10 @@ pub one_more : (k n : ℕ) (ds : List ℕ) → AllBelowBase 10 ds → 3 ≤ k �
 one_more k n ds b p h first small ends =
     let len : length (take (k - 2) ds) ≡ k - 2 = length-take-le (k - 2) ds (omega arith) in
     let most : leading (k - 2) ds < 10 ^ (k - 2) =
-        number_at-lt (k - 2) (take (k - 2) ds) (below_take (k - 2) ds b) (omega arith) in
+    number_at-lt (k - 2) (take (k - 2) ds) (below_take (k - 2) ds b) (omega arith) in
     let least : 10 ^ (k - 2 - 1) ≤ leading (k - 2) ds =
-        number_at-ge (k - 2) (take (k - 2) ds) (omega arith) (omega (arith, get_or-take (k - 2) ds 0 0 (omega arith)))
-            (omega arith) in
+    number_at-ge (k - 2) (take (k - 2) ds) (omega arith) (omega (arith, get_or-take (k - 2) ds 0 0 (omega arith)))
+    (omega arith) in
     record {
       most = omega (arith, powers (k - 2) 2 k (omega arith));
       least = omega (arith, powers (k - 2 - 1) 2 (k - 1) (omega arith));

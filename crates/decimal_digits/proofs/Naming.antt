@@ -51,9 +51,11 @@ module _ (mode : UnsignedRoundingMode) (u n : ℕ) where
 
   named_above : 0 < n % u → Chooses mode u (n / u * u + n % u) (n / u + 1) → Named mode u n (above u n)
   named_above p c =
-      let e : (n % u == 0) ≡ false = grind (arith, nat_tests) in
-      (n / u + 1, rw e (omega (arith, div-add-mod' n u)),
-       subst (λ v. Chooses mode u v (n / u + 1)) (div-add-mod' n u) c)
+      let e : (n % u == 0) ≡ false = grind (arith, nat_tests) in (
+        n / u + 1,
+        rw e (omega (arith, div-add-mod' n u)),
+        subst (λ v. Chooses mode u v (n / u + 1)) (div-add-mod' n u) c,
+      )
 
 expand_named : (u n : ℕ) → n % u < u → Named Expand u n (above u n)
 expand_named u n l = elim (cases_eq (n % u) 0) [
@@ -72,40 +74,40 @@ rounded_number-named Expand u n p = expand_named u n (mod-lt n p)
 rounded_number-named HalfExpand u n p =
     let q = n / u in let r = n % u in let l = mod-lt n p in
     cond_both (nat_lt (2 * r) u) (below u n) (above u n) (Named HalfExpand u n)
-        (λ t.
-            let h = ltb-true _ _ t in
-            named_below HalfExpand u n
-                (near_below u q r l (omega arith), λ k e. omega (arith, one_below u q r l h k e)))
-        (λ t.
-            let h = ltb-false _ _ t in
-            named_above HalfExpand u n (omega arith) (near_above u q r l h, greatest_near u q r l h))
+    (λ t.
+    let h = ltb-true _ _ t in
+    named_below HalfExpand u n
+    (near_below u q r l (omega arith), λ k e. omega (arith, one_below u q r l h k e)))
+    (λ t.
+    let h = ltb-false _ _ t in
+    named_above HalfExpand u n (omega arith) (near_above u q r l h, greatest_near u q r l h))
 rounded_number-named HalfTrunc u n p =
     let q = n / u in let r = n % u in let l = mod-lt n p in
     cond_both (nat_lt u (2 * r)) (above u n) (below u n) (Named HalfTrunc u n)
-        (λ t.
-            let h = ltb-true _ _ t in
-            named_above HalfTrunc u n (omega arith)
-                (near_above u q r l (omega arith), λ k e. omega (arith, one_above u q r l h k e)))
-        (λ t. let h = ltb-false _ _ t in named_below HalfTrunc u n (near_below u q r l h, least_near u q r l h))
+    (λ t.
+    let h = ltb-true _ _ t in
+    named_above HalfTrunc u n (omega arith)
+    (near_above u q r l (omega arith), λ k e. omega (arith, one_above u q r l h k e)))
+    (λ t. let h = ltb-false _ _ t in named_below HalfTrunc u n (near_below u q r l h, least_near u q r l h))
 rounded_number-named HalfEven u n p =
     let q = n / u in let r = n % u in let l = mod-lt n p in
     cond_both (nat_lt (2 * r) u) (below u n) _ (Named HalfEven u n)
-        (λ t.
-            let h = ltb-true _ _ t in
-            named_below HalfEven u n
-                (near_below u q r l (omega arith), λ k e other. absurd (other (one_below u q r l h k e))))
-        (λ t. let h = ltb-false _ _ t in
+    (λ t.
+    let h = ltb-true _ _ t in
+    named_below HalfEven u n
+    (near_below u q r l (omega arith), λ k e other. absurd (other (one_below u q r l h k e))))
+    (λ t. let h = ltb-false _ _ t in
     cond_both (nat_lt u (2 * r)) (above u n) _ (Named HalfEven u n)
-        (λ s.
-            let g = ltb-true _ _ s in
-            named_above HalfEven u n (omega arith)
-                (near_above u q r l h, λ k e other. absurd (other (one_above u q r l g k e))))
-        (λ s. let g = ltb-false _ _ s in
+    (λ s.
+    let g = ltb-true _ _ s in
+    named_above HalfEven u n (omega arith)
+    (near_above u q r l h, λ k e other. absurd (other (one_above u q r l g k e))))
+    (λ s. let g = ltb-false _ _ s in
     cond_both (q % 2 == 0) (below u n) (above u n) (Named HalfEven u n)
-        (λ even. named_below HalfEven u n (near_below u q r l g, λ k e other. eqb-true _ _ even))
-        (λ odd.
-            let o = eqb-false _ _ odd in
-            named_above HalfEven u n (omega arith) (near_above u q r l h, λ k e other. omega arith))))
+    (λ even. named_below HalfEven u n (near_below u q r l g, λ k e other. eqb-true _ _ even))
+    (λ odd.
+    let o = eqb-false _ _ odd in
+    named_above HalfEven u n (omega arith) (near_above u q r l h, λ k e other. omega arith))))
 
 -- ---- a mode names one number
 -- of two even multiples at the same distance the one between them is nearer

@@ -53,15 +53,15 @@ pub number_at-push : (top d : ℕ) (ds : List ℕ) → length ds < top
 number_at-push top d ds h =
     number_at-append top ds (d ∷ []) (omega arith)
     ∙ ap (λ n. number_at top ds + n)
-        (number_at-one (top - length ds) d
-            ∙ ap (λ k. d * 10 ^ k) (let e : top - length ds - 1 ≡ top - (length ds + 1) = omega arith in e))
+    (number_at-one (top - length ds) d
+    ∙ ap (λ k. d * 10 ^ k) (let e : top - length ds - 1 ≡ top - (length ds + 1) = omega arith in e))
 
 -- digits are worth less than a 1 in front of them
 pub number_at-lt : (top : ℕ) (ds : List ℕ) → AllBelowBase 10 ds → length ds ≤ top → number_at top ds < 10 ^ top
 unfolding number_at
 number_at-lt top ds b h =
     rw (powers (length ds) (top - length ds) top (omega arith))
-        (mul-lt-mul_of_pos_right (number_lt 10 ds b) (ten_pos (top - length ds)))
+    (mul-lt-mul_of_pos_right (number_lt 10 ds b) (ten_pos (top - length ds)))
 
 -- digits whose first is not 0 are worth at least a 1 in its place
 pub number_at-ge : (top : ℕ) (ds : List ℕ) → 0 < length ds → 0 < get_or ds 0 0 → length ds ≤ top
@@ -69,7 +69,7 @@ pub number_at-ge : (top : ℕ) (ds : List ℕ) → 0 < length ds → 0 < get_or 
 unfolding number_at
 number_at-ge top ds p f h =
     rw (powers (length ds - 1) (top - length ds) (top - 1) (omega arith))
-        (mul-le-mul_right (10 ^ (top - length ds)) (number_front ds p f))
+    (mul-le-mul_right (10 ^ (top - length ds)) (number_front ds p f))
 
 -- ---- the last of the first k digits
 -- the first k digits are worth those before the last of them, and that one at its place
@@ -78,7 +78,7 @@ pub number_at-take : (top k : ℕ) (ds : List ℕ) → 0 < k → k ≤ length ds
 number_at-take top k ds p h l =
     let len : length (take (k - 1) ds) ≡ k - 1 = length-take-le (k - 1) ds (omega arith) in
     let e : take k ds ≡ take (k - 1) ds ++ get_or ds (k - 1) 0 ∷ [] =
-        ap (λ i. take i ds) (let j : k ≡ k - 1 + 1 = omega arith in j) ∙ take_more ds (k - 1) 0 (omega arith) in
+    ap (λ i. take i ds) (let j : k ≡ k - 1 + 1 = omega arith in j) ∙ take_more ds (k - 1) 0 (omega arith) in
     let s : top - (length (take (k - 1) ds) + 1) ≡ top - k = omega arith in
     ap (number_at top) e
     ∙ number_at-push top (get_or ds (k - 1) 0) (take (k - 1) ds) (omega arith)
@@ -90,7 +90,7 @@ pub take_set_last : (k x : ℕ) (ds : List ℕ) → 0 < k → k ≤ length ds
 take_set_last k x ds p h =
     let len : length (take k ds) ≡ k = length-take-le k ds h in
     let all : take (k - 1 + 1) (set (take k ds) (k - 1) x) ≡ set (take k ds) (k - 1) x =
-        take_all _ _ (omega (arith, length-set (take k ds) (k - 1) x)) in
+    take_all _ _ (omega (arith, length-set (take k ds) (k - 1) x)) in
     sym all
     ∙ take_more_set (take k ds) (k - 1) x (omega arith)
     ∙ ap (λ xs. xs ++ x ∷ []) (take-take (k - 1) k ds (omega arith))
@@ -117,8 +117,12 @@ pub nine_passed : (top k : ℕ) (ds : List ℕ) → 0 < k → k ≤ length ds �
     → number_at top (take k ds) + 10 ^ (top - k) ≡ number_at top ds + 1
     → number_at top (take (k - 1) ds) + 10 ^ (top - (k - 1)) ≡ number_at top ds + 1
 nine_passed top k ds p h l z e =
-    omega (arith, number_at-take top k ds p h l, ap (λ d. d * 10 ^ (top - k)) z,
-        powers (top - k) 1 (top - (k - 1)) (omega arith))
+    omega (
+      arith,
+      number_at-take top k ds p h l,
+      ap (λ d. d * 10 ^ (top - k)) z,
+      powers (top - k) 1 (top - (k - 1)) (omega arith),
+    )
 
 -- a run of zeros counts nothing
 pub zeros_passed : (n k : ℕ) (ds : List ℕ) → k + n ≡ length ds
@@ -130,7 +134,7 @@ zeros_passed (suc n) k ds e z =
     let zero_here : get_or ds (k + 1 - 1) 0 ≡ 0 = z (k + 1 - 1) (omega arith) (omega arith) in
     let more = zeros_passed n (k + 1) ds (omega arith) (λ i h. z i (omega arith)) in
     subst (λ j. number_at (length ds) (take j ds) ≡ number_at (length ds) ds) one
-        (zero_passed (length ds) (k + 1) ds (omega arith) (omega arith) (omega arith) zero_here more)
+    (zero_passed (length ds) (k + 1) ds (omega arith) (omega arith) (omega arith) zero_here more)
 
 -- a run of nines and one more are one more in front of it
 pub nines_passed : (n k : ℕ) (ds : List ℕ) → k + n ≡ length ds
@@ -144,7 +148,7 @@ nines_passed (suc n) k ds e z =
     let nine_here : get_or ds (k + 1 - 1) 0 ≡ 9 = z (k + 1 - 1) (omega arith) (omega arith) in
     let more = nines_passed n (k + 1) ds (omega arith) (λ i h. z i (omega arith)) in
     subst (λ j. number_at (length ds) (take j ds) + 10 ^ (length ds - j) ≡ number_at (length ds) ds + 1) one
-        (nine_passed (length ds) (k + 1) ds (omega arith) (omega arith) (omega arith) nine_here more)
+    (nine_passed (length ds) (k + 1) ds (omega arith) (omega arith) (omega arith) nine_here more)
 
 -- one more in the last digit
 pub nines_end : (top k d v : ℕ) (ds : List ℕ) → 0 < k → k ≤ length ds → k ≤ top → d ≡ get_or ds (k - 1) 0
@@ -157,7 +161,7 @@ nines_end top k d v ds p h l z e =
 pub nines_full : (top k v : ℕ) (ds : List ℕ) → k ≤ 0 → number_at top (take k ds) + 10 ^ (top - k) ≡ v → 10 ^ top ≡ v
 nines_full top k v ds z e =
     let n : number_at top (take k ds) ≡ 0 =
-        number_at-none top (take k ds) (omega (arith, length-take-le k ds (omega arith))) in
+    number_at-none top (take k ds) (omega (arith, length-take-le k ds (omega arith))) in
     let a : 10 ^ top ≡ 10 ^ (top - k) = ap (λ i. 10 ^ i) (let b : top ≡ top - k = omega arith in b) in
     omega arith
 
@@ -174,9 +178,9 @@ pub number_at-pos : (top : ℕ) (ds : List ℕ) → AllBelowBase 10 ds → 0 < l
 unfolding number_at
 number_at-pos top ds b p l =
     mul-pos
-        (let e : number_from_digits 10 ds % 10 ≡ get_or ds (length ds - 1) 0 = number_back ds b p in
-         omega (arith, mod-le (number_from_digits 10 ds) 10))
-        (ten_pos (top - length ds))
+    (let e : number_from_digits 10 ds % 10 ≡ get_or ds (length ds - 1) 0 = number_back ds b p in
+    omega (arith, mod-le (number_from_digits 10 ds) 10))
+    (ten_pos (top - length ds))
 
 -- no digits are worth 0 at each magnitude
 pub number_of-none : (ds : List ℕ) (m : ℤ) → length ds ≡ 0 → number_of ds m ≡ 0

@@ -13,8 +13,13 @@ pub holds : (bytes ds : List ℕ) (len : ℕ) → halves bytes ≡ ds ++ replica
 holds bytes ds len e n h =
     let t : digits_in bytes len ≡ ds = rw e (take_at ds (replicate (len % 2) 0) len n) in
     let c : 2 * length bytes ≡ len + len % 2 =
-        omega (arith, length-halves bytes, ap length e, length-append ds (replicate (len % 2) 0),
-            length-replicate {A = ℕ} (len % 2) 0) in
+    omega (
+      arith,
+      length-halves bytes,
+      ap length e,
+      length-append ds (replicate (len % 2) 0),
+      length-replicate {A = ℕ} (len % 2) 0,
+    ) in
     let u : halves bytes ≡ digits_in bytes len ++ replicate (len % 2) 0 = rw t e in
     record { packed = record { count = c; decimal = rw t h; unused = u }; digits = t }
 
@@ -89,7 +94,7 @@ module _ (bs : List ℕ) (len : ℕ) (p : IsPacked bs len) where
       let s : set (halves bs) index d ≡ set (digits_in bs len) index d ++ replicate (len % 2) 0 =
       ap (λ l. set l index d) p.unused ∙ set-append_left (digits_in bs len) (replicate (len % 2) 0) index d l in
       holds bs' (set (digits_in bs len) index d) len (e ∙ s) (length-set (digits_in bs len) index d ∙ n)
-          (decimal_set (digits_in bs len) index d p.decimal q)
+      (decimal_set (digits_in bs len) index d p.decimal q)
 
   -- a byte with a digit in its high half is appended
   pub holds_push_even : (d : ℕ) → len % 2 ≡ 0 → d < 10
@@ -105,7 +110,7 @@ module _ (bs : List ℕ) (len : ℕ) (p : IsPacked bs len) where
       ∙ ap (λ l. l ++ (d * 16 / 16 ∷ (d * 16 % 16 ∷ []))) (even_halves h)
       ∙ rw (a, b, m) (sym (append_assoc (digits_in bs len) (d ∷ []) (0 ∷ []))) in
       holds (bs ++ (d * 16) ∷ []) (digits_in bs len ++ d ∷ []) (len + 1) e
-          (omega (arith, length-append (digits_in bs len) (d ∷ []))) (decimal_push (digits_in bs len) d p.decimal q)
+      (omega (arith, length-append (digits_in bs len) (d ∷ []))) (decimal_push (digits_in bs len) d p.decimal q)
 
   -- a digit is written into the half that was left over
   pub holds_push_odd : (bs' : List ℕ) (d : ℕ) → len % 2 ≡ 1 → d < 10 → halves bs' ≡ set (halves bs) len d
@@ -119,7 +124,7 @@ module _ (bs : List ℕ) (len : ℕ) (p : IsPacked bs len) where
       ∙ set_at (digits_in bs len) 0 [] d len n
       ∙ rw m (sym (append-nil (digits_in bs len ++ d ∷ []))) in
       holds bs' (digits_in bs len ++ d ∷ []) (len + 1) (e ∙ s)
-          (omega (arith, length-append (digits_in bs len) (d ∷ []))) (decimal_push (digits_in bs len) d p.decimal q)
+      (omega (arith, length-append (digits_in bs len) (d ∷ []))) (decimal_push (digits_in bs len) d p.decimal q)
 
   -- the first bytes hold an even number of digits
   pub holds_take_even : (count k : ℕ) → count ≤ len → count % 2 ≡ 0 → k ≡ (count + 1) / 2
@@ -131,7 +136,7 @@ module _ (bs : List ℕ) (len : ℕ) (p : IsPacked bs len) where
       halves-take k bs
       ∙ rw (t, m) (sym (append-nil (take count (digits_in bs len)) ∙ take-take count len (halves bs) h)) in
       holds (take k bs) (take count (digits_in bs len)) count f (length-take-le count (digits_in bs len) (omega arith))
-          (decimal_take (digits_in bs len) count p.decimal)
+      (decimal_take (digits_in bs len) count p.decimal)
 
   -- the first bytes hold an odd number of digits once their last half is 0
   pub holds_take_odd : (bs' : List ℕ) (count k : ℕ) → count ≤ len → count % 2 ≡ 1 → k ≡ (count + 1) / 2
@@ -146,7 +151,7 @@ module _ (bs : List ℕ) (len : ℕ) (p : IsPacked bs len) where
       ∙ clear_last (halves bs) count lt
       ∙ rw m (ap (λ l. l ++ 0 ∷ []) (sym (take-take count len (halves bs) h))) in
       holds bs' (take count (digits_in bs len)) count f (length-take-le count (digits_in bs len) (omega arith))
-          (decimal_take (digits_in bs len) count p.decimal)
+      (decimal_take (digits_in bs len) count p.decimal)
 
   -- the bytes behind an even number of digits
   pub holds_drop_even : (count : ℕ) → count ≤ len → count % 2 ≡ 0
@@ -160,7 +165,7 @@ module _ (bs : List ℕ) (len : ℕ) (p : IsPacked bs len) where
       ∙ drop-append-le count (digits_in bs len) (replicate (len % 2) 0) (omega arith)
       ∙ ap (λ j. drop count (digits_in bs len) ++ replicate j 0) q in
       holds (drop (count / 2) bs) (drop count (digits_in bs len)) (len - count) f
-          (omega (arith, length-drop count (digits_in bs len))) (decimal_drop (digits_in bs len) count p.decimal)
+      (omega (arith, length-drop count (digits_in bs len))) (decimal_drop (digits_in bs len) count p.decimal)
 
   -- the bytes behind an odd number of digits, shifted by a half
   pub holds_drop_odd : (bs' : List ℕ) (count k : ℕ) → count ≤ len → count % 2 ≡ 1 → k ≡ (len - count + 1) / 2
@@ -201,13 +206,13 @@ module _ (bs : List ℕ) (len : ℕ) (p : IsPacked bs len) where
       ∙ ap (λ l. l ++ replicate (2 * k) 0) p.unused
       ∙ append_assoc ds (replicate (len % 2) 0) (replicate (2 * k) 0)
       ∙ ap (λ l. ds ++ l)
-          (replicate-append-replicate (len % 2) (2 * k) 0
-              ∙ ap (λ j. replicate j 0) w
-              ∙ sym (replicate-append-replicate zeros (start % 2) 0))
+      (replicate-append-replicate (len % 2) (2 * k) 0
+      ∙ ap (λ j. replicate j 0) w
+      ∙ sym (replicate-append-replicate zeros (start % 2) 0))
       ∙ sym (append_assoc ds (replicate zeros 0) (replicate (start % 2) 0)) in
       holds (bs ++ replicate k 0) (ds ++ replicate zeros 0) start f
-          (omega (arith, length-append ds (replicate zeros 0), length-replicate {A = ℕ} zeros 0))
-          (decimal_zeros ds zeros p.decimal)
+      (omega (arith, length-append ds (replicate zeros 0), length-replicate {A = ℕ} zeros 0))
+      (decimal_zeros ds zeros p.decimal)
 
   -- digits are appended behind an even number of them
   pub holds_run : (bs' xs : List ℕ) → len % 2 ≡ 0 → All (λ d. d < 10) xs
@@ -220,7 +225,7 @@ module _ (bs : List ℕ) (len : ℕ) (p : IsPacked bs len) where
       g ∙ ap (λ l. l ++ (xs ++ replicate (length xs % 2) 0)) (even_halves m)
       ∙ sym (append_assoc ds xs (replicate (length xs % 2) 0)) ∙ ap (λ k. (ds ++ xs) ++ replicate k 0) w in
       holds bs' (ds ++ xs) (len + length xs) f (omega (arith, length-append ds xs, length_digits bs len p))
-          (decimal_append ds xs p.decimal h)
+      (decimal_append ds xs p.decimal h)
 
   -- ---- two stores
   module _ (cs : List ℕ) (n : ℕ) (q : IsPacked cs n) where
@@ -230,9 +235,9 @@ module _ (bs : List ℕ) (len : ℕ) (p : IsPacked bs len) where
         let es = digits_in cs n in
         let l : length es ≡ n = length_digits cs n q in
         let u : halves cs ≡ es ++ replicate (length es % 2) 0 =
-            q.unused ∙ ap (λ k. es ++ replicate (k % 2) 0) (sym l) in
+        q.unused ∙ ap (λ k. es ++ replicate (k % 2) 0) (sym l) in
         subst (λ k. Holds (bs ++ cs) (len + k) (digits_in bs len ++ es)) l
-            (holds_run (bs ++ cs) es m q.decimal (halves-append bs cs ∙ ap (λ l. halves bs ++ l) u))
+        (holds_run (bs ++ cs) es m q.decimal (halves-append bs cs ∙ ap (λ l. halves bs ++ l) u))
 
     -- halves behind an odd number of digits
     pub holds_append_odd : (bs' : List ℕ) → len % 2 ≡ 1
@@ -248,19 +253,20 @@ module _ (bs : List ℕ) (len : ℕ) (p : IsPacked bs len) where
         ∙ ap (λ k. (take k (halves bs) ++ es) ++ replicate ((n + 1) % 2) 0) b
         ∙ ap (λ k. (digits_in bs len ++ es) ++ replicate k 0) w in
         holds bs' (digits_in bs len ++ es) (len + n) f
-            (omega (arith, length-append (digits_in bs len) es, length_digits bs len p, length_digits cs n q))
-            (decimal_append (digits_in bs len) es p.decimal q.decimal)
+        (omega (arith, length-append (digits_in bs len) es, length_digits bs len p, length_digits cs n q))
+        (decimal_append (digits_in bs len) es p.decimal q.decimal)
 
     -- bytes that hold the same digits are the same
     pub same_store : digits_in bs len ≡ digits_in cs n → (len ≡ n) × (bs ≡ cs)
     same_store e =
-        let k : len ≡ n = sym (length_digits bs len p) ∙ ap length e ∙ length_digits cs n q in
-        (k,
-         same_bytes bs cs
-             (p.unused
-                 ∙ ap (λ l. l ++ replicate (len % 2) 0) e
-                 ∙ ap (λ j. digits_in cs n ++ replicate (j % 2) 0) k
-                 ∙ sym q.unused))
+        let k : len ≡ n = sym (length_digits bs len p) ∙ ap length e ∙ length_digits cs n q in (
+          k,
+          same_bytes bs cs
+              (p.unused
+              ∙ ap (λ l. l ++ replicate (len % 2) 0) e
+              ∙ ap (λ j. digits_in cs n ++ replicate (j % 2) 0) k
+              ∙ sym q.unused),
+        )
 
 -- a digit is written into the half that was left over, and digits are appended
 pub holds_run_odd : (bs : List ℕ) (len : ℕ) (p : IsPacked bs len) (mid bs' xs : List ℕ) (d : ℕ) → len % 2 ≡ 1

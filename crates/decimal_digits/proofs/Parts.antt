@@ -33,7 +33,7 @@ split_at top k ds fits h = elim (cases_lt k (length ds)) [
       ∙ ap (λ n. n + number_at (top - k) (drop k ds)) (leading_at top k ds h)
   | inr l ↦
       let z : number_at (top - k) (drop k ds) ≡ 0 =
-          number_at-none (top - k) (drop k ds) (omega (arith, length-drop k ds)) in
+      number_at-none (top - k) (drop k ds) (omega (arith, length-drop k ds)) in
       omega (arith, ap (number_at top) (take_all k ds l), leading_at top k ds h)
 ]
 
@@ -48,7 +48,7 @@ parts_above m p k tail ds low low' fits at is =
     let e : top - k ≡ place p = omega (arith, ints, place_is m, place_is p) in (
       number_at (top - k) (drop k ds),
       split_at top k ds fits (omega (arith, ints, place_is m, place_is p))
-      ∙ ap (λ i. leading k ds * 10 ^ i + number_at (top - k) (drop k ds)) e,
+          ∙ ap (λ i. leading k ds * 10 ^ i + number_at (top - k) (drop k ds)) e,
       subst (λ i. TailIs tail (number_at (top - k) (drop k ds)) (10 ^ i)) e (is top fits),
     )
 
@@ -61,8 +61,7 @@ parts_below m p ds low b some back fits above =
     let top = place m + 1 in
     let l : number_at top ds < 10 ^ top = number_at-lt top ds b fits in
     let h : 10 ^ (top + 1) ≤ 10 ^ place p =
-        pow-le-pow_right (omega arith) (omega (arith, ints, place_is m, place_is p)) in
-    (
+    pow-le-pow_right (omega arith) (omega (arith, ints, place_is m, place_is p)) in (
       number_at top ds,
       omega (arith, ap (λ v. v * weight p) (leading_none 0 ds refl)),
       (number_at-pos top ds b some back, omega (arith, powers top 1 (top + 1) refl)),
@@ -83,16 +82,16 @@ module _ (m : ℤ) (ds : List ℕ) (low : negsuc 32767 ≤ℤ m) (high : m ≤�
   spells some =
       let less : number_at (place m + 1) ds < 10 ^ (place m + 1) = number_at-lt (place m + 1) ds b fits in
       let least : 10 ^ (place m + 1 - 1) ≤ number_at (place m + 1) ds =
-          number_at-ge (place m + 1) ds some (s.front some) fits in
+      number_at-ge (place m + 1) ds some (s.front some) fits in
       let e : place m + 1 - 1 ≡ place m = omega arith in
       let at_most : 10 ^ (place m + 1) ≤ weight (pos 32768) =
-          pow-le-pow_right (omega arith) (omega (arith, ints, place_is m, place_is (pos 32768))) in
+      pow-le-pow_right (omega arith) (omega (arith, ints, place_is m, place_is (pos 32768))) in
       record {
         number = refl;
         below_limit = omega arith;
         magnitude_is =
             first_is (number_at (place m + 1) ds) (place m) (omega (arith, ap (λ i. 10 ^ i) e)) less
-                (omega (arith, ints, place_is m))
+            (omega (arith, ints, place_is m))
             ∙ magnitude_at-place m low;
         stripped = s;
         fits = fits;
@@ -133,10 +132,10 @@ size_is p k m some d low h =
     let most : m * weight p < 10 ^ k * weight p = mul-lt-mul_of_pos_right d.most (ten_pos (place p)) in
     let above : first (m * weight p) ≡ magnitude_at (k - 1 + place p) =
     first_is (m * weight p) (k - 1 + place p) (omega (arith, powers (k - 1) (place p) (k - 1 + place p) refl))
-        (omega (arith, powers k (place p) (k - 1 + place p + 1) (omega arith))) (omega arith) in
+    (omega (arith, powers k (place p) (k - 1 + place p + 1) (omega arith))) (omega arith) in
     let below : last (m * weight p) ≡ magnitude_at (place p) = last_is m (place p) d.ends (omega arith) in
     let nonzero : (m * weight p == 0) ≡ false =
-        (let q : 0 < m * weight p = omega (arith, mul-pos (ten_pos (k - 1)) (ten_pos (place p))) in search rules) in
+    (let q : 0 < m * weight p = omega (arith, mul-pos (ten_pos (k - 1)) (ten_pos (place p))) in search rules) in
     rw (nonzero, above, below) (omega (arith, ints, gap_is (magnitude_at (place p)) (magnitude_at (k - 1 + place p))))
 
 -- ---- why a number is not rounded
@@ -148,18 +147,18 @@ pub refuses : (e : RoundError) (mode : UnsignedRoundingMode) (increment : Roundi
     → Refuses e increment (length ds) (rounded_number mode (unit_at increment p) n) fit
 refuses Limit mode increment fit room k ds tail n p low top within parts (m, h, rounds) =
     let e =
-        rounded_parts mode (step_of increment) tail n (weight p) (leading k ds) m (ten_pos (place p)) parts rounds in
+    rounded_parts mode (step_of increment) tail n (weight p) (leading k ds) m (ten_pos (place p)) parts rounds in
     let up : number_limit ≡ 10 ^ room * weight p =
-        powers room (place p) (place (pos 32768)) (omega (arith, ints, place_is p, place_is (pos 32768))) in
+    powers room (place p) (place (pos 32768)) (omega (arith, ints, place_is p, place_is (pos 32768))) in
     let more : 10 ^ room * weight p ≤ m * weight p = mul-le-mul_right (weight p) h in
     omega (arith, e, up, more)
 refuses Memory mode increment fit room k ds tail n p low top within parts (by_25, full, at_end, (m, has, rounds)) =
     let e =
-        rounded_parts mode (step_of increment) tail n (weight p) (leading k ds) m (ten_pos (place p)) parts rounds in
+    rounded_parts mode (step_of increment) tail n (weight p) (leading k ds) m (ten_pos (place p)) parts rounds in
     let some : 0 < k = omega arith in
     let most : m * weight p < 10 ^ k * weight p = mul-lt-mul_of_pos_right has.most (ten_pos (place p)) in
     let at_most : 10 ^ (k + place p) ≤ number_limit =
-        pow-le-pow_right (omega arith) (omega (arith, ints, within some, place_is (pos 32768))) in
+    pow-le-pow_right (omega arith) (omega (arith, ints, within some, place_is (pos 32768))) in
     record {
       by_25 = by_25;
       below_limit = omega (arith, e, most, at_most, powers k (place p) (k + place p) refl);

@@ -40,7 +40,7 @@ module _ (u t n : ℕ) (p : 0 < u) (pt : 0 < t * u) where
       let (k, f, (low', great')) = rounded_number-named Trunc (t * u) n pt in
       let fine : k * t * u ≤ n → k * t * u ≤ q * u = great (k * t) in
       sym (named_is Trunc (t * u) (rounded_number Trunc u n) _ pt
-          (k, f, (omega (arith, fine, mul_assoc k t u, e), λ j h. great' j (omega (arith, e)))))
+      (k, f, (omega (arith, fine, mul_assoc k t u, e), λ j h. great' j (omega (arith, e)))))
 
   -- the coarser unit after the finer one, away from zero
   pub expand-coarser : rounded_number Expand (t * u) (rounded_number Expand u n) ≡ rounded_number Expand (t * u) n
@@ -49,7 +49,7 @@ module _ (u t n : ℕ) (p : 0 < u) (pt : 0 < t * u) where
       let (k, f, (high', least')) = rounded_number-named Expand (t * u) n pt in
       let fine : n ≤ k * t * u → q * u ≤ k * t * u = least (k * t) in
       sym (named_is Expand (t * u) (rounded_number Expand u n) _ pt
-          (k, f, (omega (arith, fine, mul_assoc k t u, e), λ j h. least' j (omega (arith, e)))))
+      (k, f, (omega (arith, fine, mul_assoc k t u, e), λ j h. least' j (omega (arith, e)))))
 
   -- the finer unit after the coarser one
   pub rounded_number-finer : (mode : UnsignedRoundingMode)

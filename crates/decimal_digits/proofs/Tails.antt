@@ -60,10 +60,11 @@ below_unit AboveHalf r u p is = omega arith
 pub part_above : (tail : Tail) (step rest : ℕ) → rest < step → 2 * step < 4 * rest + quarters_of tail
     → (r place : ℕ) → 0 < place → TailIs tail r place
     → TailIs AboveHalf (rest * place + r) (step * place)
-part_above tail step rest l h r place p is =
-    (over tail h is,
-     let s : rest + 1 ≤ step = omega arith in
-     omega (arith, mul-le-mul_right place s, below_unit tail r place p is))
+part_above tail step rest l h r place p is = (
+  over tail h is,
+  let s : rest + 1 ≤ step = omega arith in
+      omega (arith, mul-le-mul_right place s, below_unit tail r place p is),
+)
   where
     over : (tail : Tail) → 2 * step < 4 * rest + quarters_of tail → TailIs tail r place
         → step * place < 2 * (rest * place + r)
@@ -158,11 +159,11 @@ two_by mode increment tail left s two result up step part goes made hundreds r p
     let whole : two / s * s + two % s ≡ two = div-add-mod' two s in
     let pos : 0 < s = omega (arith, step_pos increment) in
     let parity : (two / s % 2 == 1) ≡ (q % 2 == 1) =
-        ap (λ v. v == 1) (let e : two / s % 2 ≡ q % 2 = omega arith in e) in
+    ap (λ v. v == 1) (let e : two / s % 2 ≡ q % 2 = omega arith in e) in
     rw (← step, made, goes)
-        (ap (rounded_number mode (s * place)) (taken_apart h s (two / s) (two % s) two hundreds place half whole r)
+    (ap (rounded_number mode (s * place)) (taken_apart h s (two / s) (two % s) two hundreds place half whole r)
     ∙ rounded_by q (s * place) (two % s * place + r) (two / s % 2 == 1)
-        (below_unit left _ _ (mul-pos pos p) (part r place p is)) parity mode left (part r place p is)
+    (below_unit left _ _ (mul-pos pos p) (part r place p is)) parity mode left (part r place p is)
     ∙ put_together h s (two / s) (two % s) two hundreds place half whole (goes_up_of mode left (two / s % 2 == 1)))
 
 -- the same, where what is left over and the quotient's parity have names of their own

@@ -71,16 +71,16 @@ module _ (a : ℕ) (xs us ws : List ℕ) (us_full : length us ≡ a) (inside : a
   -- with the second part behind the dot there are as many places as before
   pub around_length :
       length (take (a + 1) (dotted a us xs)
-          ++ (ws ++ drop (length (dotted a us xs) - (a + 1)) (drop (a + 1) (dotted a us xs))))
+      ++ (ws ++ drop (length (dotted a us xs) - (a + 1)) (drop (a + 1) (dotted a us xs))))
       ≡ length xs
   around_length = part_length (a + 1) _ (dotted a us xs) ws fits full ∙ dotted_length
 
   -- a byte in front of the dot is that of the first part
   pub around_before : (i : ℕ) → i < a
       → get_or
-          (take (a + 1) (dotted a us xs)
-              ++ (ws ++ drop (length (dotted a us xs) - (a + 1)) (drop (a + 1) (dotted a us xs)))) i 0
-          ≡ get_or us i 0
+      (take (a + 1) (dotted a us xs)
+      ++ (ws ++ drop (length (dotted a us xs) - (a + 1)) (drop (a + 1) (dotted a us xs)))) i 0
+      ≡ get_or us i 0
   around_before i h =
       part_before (a + 1) _ (dotted a us xs) ws fits full i (omega arith)
       ∙ get_or-set_other (us ++ drop a xs) a i 46 0 (omega arith)
@@ -89,20 +89,20 @@ module _ (a : ℕ) (xs us ws : List ℕ) (us_full : length us ≡ a) (inside : a
   -- at a stands the dot
   pub around_dot :
       get_or
-          (take (a + 1) (dotted a us xs)
-              ++ (ws ++ drop (length (dotted a us xs) - (a + 1)) (drop (a + 1) (dotted a us xs)))) a 0
+      (take (a + 1) (dotted a us xs)
+      ++ (ws ++ drop (length (dotted a us xs) - (a + 1)) (drop (a + 1) (dotted a us xs)))) a 0
       ≡ 46
   around_dot =
       part_before (a + 1) _ (dotted a us xs) ws fits full a (omega arith)
       ∙ get_or-set_same (us ++ drop a xs) a 46 0
-          (omega (arith, length-append us (drop a xs), length-drop a xs, us_full))
+      (omega (arith, length-append us (drop a xs), length-drop a xs, us_full))
 
   -- a byte behind the dot is that of the second part
   pub around_behind : (i : ℕ) → a < i → i < length xs
       → get_or
-          (take (a + 1) (dotted a us xs)
-              ++ (ws ++ drop (length (dotted a us xs) - (a + 1)) (drop (a + 1) (dotted a us xs)))) i 0
-          ≡ get_or ws (i - (a + 1)) 0
+      (take (a + 1) (dotted a us xs)
+      ++ (ws ++ drop (length (dotted a us xs) - (a + 1)) (drop (a + 1) (dotted a us xs)))) i 0
+      ≡ get_or ws (i - (a + 1)) 0
   around_behind i h l =
       part_within (a + 1) _ (dotted a us xs) ws fits full i (omega arith) (omega (arith, dotted_length))
 
@@ -110,7 +110,7 @@ module _ (a : ℕ) (xs us ws : List ℕ) (us_full : length us ≡ a) (inside : a
 all_zeros : (xs : List ℕ) → ((i : ℕ) → i < length xs → get_or xs i 0 ≡ 48) → xs ≡ replicate (length xs) 48
 all_zeros xs zero =
     ext_get_or 0 xs (replicate (length xs) 48) (sym (length-replicate (length xs) 48))
-        (λ i h. zero i h ∙ sym (get_or-replicate (length xs) i 48 0 h))
+    (λ i h. zero i h ∙ sym (get_or-replicate (length xs) i 48 0 h))
 
 module _ (xs : List ℕ) (zeros : xs ≡ replicate (length xs) 48) where
   zero_at : (i : ℕ) → i < length xs → get_or xs i 0 ≡ 48
@@ -126,7 +126,7 @@ module _ (xs : List ℕ) (zeros : xs ≡ replicate (length xs) 48) where
   -- and so do the places behind the dot
   pub zeros_behind : (a : ℕ) (us : List ℕ) → length us ≡ a → a < length xs
       → take (length (dotted a us xs) - (a + 1)) (drop (a + 1) (dotted a us xs))
-          ≡ replicate (length (take (length (dotted a us xs) - (a + 1)) (drop (a + 1) (dotted a us xs)))) 48
+      ≡ replicate (length (take (length (dotted a us xs) - (a + 1)) (drop (a + 1) (dotted a us xs)))) 48
   zeros_behind a us full inside = all_zeros _ (λ i h.
       let l = length-behind a xs us full inside in
       let k : i < length (dotted a us xs) - (a + 1) = omega (arith, length-dotted a xs us full inside) in
@@ -167,13 +167,13 @@ module _ {ds : List ℕ} {m hi lo : ℤ} (t : IsStored ds m hi lo) (q : ℤ) (lo
     | inl before ↦
         part_before start k zeros ys fits full i before ∙ zero_byte
         ∙ sym (ap (λ d. 48 + d)
-            (digit-number_of-above t (q -ℤ pos i) (omega (arith, ints, gap_is m q, start_is)) in_range))
+        (digit-number_of-above t (q -ℤ pos i) (omega (arith, ints, gap_is m q, start_is)) in_range))
     | inr from_start ↦ elim (cases_lt i (start + k)) [
       | inl within ↦
           let short : i - start < count = omega arith in
           let long : i - start < length (take count (drop from ds)) = omega (arith, length-copied) in
           let e : (q -ℤ pos i) +ℤ pos (from + (i - start)) ≡ m =
-              omega (arith, ints, gap_is m q, gap_is q m, from_is, start_is, count_is) in
+          omega (arith, ints, gap_is m q, gap_is q m, from_is, start_is, count_is) in
           part_within start k zeros ys fits full i from_start within
           ∙ ap (λ l. get_or l (i - start) 0) letters
           ∙ get_or-map (λ d. 48 + d) (take count (drop from ds)) (i - start) 0 0 long
@@ -184,8 +184,8 @@ module _ {ds : List ℕ} {m hi lo : ℤ} (t : IsStored ds m hi lo) (q : ℤ) (lo
           let e : (q -ℤ pos i) +ℤ pos b ≡ m = omega (arith, ints, gap_is m q, gap_is q m, start_is, h) in
           part_behind start k zeros ys fits full i behind ∙ zero_byte
           ∙ sym (ap (λ d. 48 + d)
-              (digit-number_of-below t (q -ℤ pos i) b e in_range
-                  (omega (arith, gap_is m q, gap_is q m, from_is, start_is, count_is, k_is, h))))
+          (digit-number_of-below t (q -ℤ pos i) b e in_range
+          (omega (arith, gap_is m q, gap_is q m, from_is, start_is, count_is, k_is, h))))
     ]
   ]
     where

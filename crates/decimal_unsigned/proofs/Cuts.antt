@@ -21,7 +21,7 @@ use Rattle.decimal_unsigned.proofs.Values.{number_of-lt, number_of-none, lowest}
 number_cut : (ds : List ℕ) (a start : ℕ) → a ≤ start → start ≤ length ds
     → ((k : ℕ) → a ≤ k → k < start → get_or ds k 0 ≡ 0)
     → number_from_digits 10 ds
-        ≡ number_from_digits 10 (take a ds) * 10 ^ (length ds - a) + number_from_digits 10 (drop start ds)
+    ≡ number_from_digits 10 (take a ds) * 10 ^ (length ds - a) + number_from_digits 10 (drop start ds)
 number_cut ds a start h w zeros =
     let rest = drop a ds in
     let long : length rest ≡ length ds - a = length-drop a ds in
@@ -29,7 +29,7 @@ number_cut ds a start h w zeros =
     let b : k < start - a = omega (arith, length-take-le (start - a) rest (omega (arith, long))) in
     get_or-take (start - a) rest k 0 b ∙ get_or-drop a ds k 0 ∙ zeros (a + k) (omega arith) (omega arith)) in
     let tail : drop (start - a) rest ≡ drop start ds =
-        drop-drop (start - a) a ds ∙ ap (λ n. drop n ds) (let e : a + (start - a) ≡ start = omega arith in e) in
+    drop-drop (start - a) a ds ∙ ap (λ n. drop n ds) (let e : a + (start - a) ≡ start = omega arith in e) in
     let split = number_split (start - a) rest (omega (arith, long)) in
     number_split a ds (omega arith)
     ∙ ap (λ n. number_from_digits 10 (take a ds) * 10 ^ (length ds - a) + n) (split ∙ (rw (none, tail) (omega arith)))
@@ -62,23 +62,39 @@ module _ {ds : List ℕ} {m hi lo p m' hi' lo' : ℤ} {start : ℕ} (t : IsStore
       digits = below_drop start ds t.digits;
       front = λ q.
           subst (λ d. 0 < d) (sym (get_or-drop start ds 0 0))
-              (subst (λ k. 0 < get_or ds k 0) (let k : start ≡ start + 0 = omega arith in k) (c.found h));
+          (subst (λ k. 0 < get_or ds k 0) (let k : start ≡ start + 0 = omega arith in k) (c.found h));
       back = λ q.
           subst (λ d. 0 < d) (sym (get_or-drop start ds (length (drop start ds) - 1) 0))
-              (subst (λ k. 0 < get_or ds k 0)
-                  (let k : length ds - 1 ≡ start + (length (drop start ds) - 1) = omega (arith, left) in k)
-                  (t.back (omega arith)));
+          (subst (λ k. 0 < get_or ds k 0)
+          (let k : length ds - 1 ≡ start + (length (drop start ds) - 1) = omega (arith, left) in k)
+          (t.back (omega arith)));
       empty = λ z. absurd (omega (arith, left));
       hi_covers = omega (arith, ints, clamps, e, c.hi_is, c.from, h, gap_is p (m +ℤ pos 1));
       lo_covers = omega (arith, ints, clamps, e, c.lo_is, h, t.fits, place_is m, place_is lo, lowest t, t.in_range);
       fits =
-          omega (arith, ints, clamps, e, left, h, c.lo_is, t.fits, c.position, place_is m, place_is m', place_is lo,
-              place_is lo', lowest t, t.in_range);
+          omega (
+            arith,
+            ints,
+            clamps,
+            e,
+            left,
+            h,
+            c.lo_is,
+            t.fits,
+            c.position,
+            place_is m,
+            place_is m',
+            place_is lo,
+            place_is lo',
+            lowest t,
+            t.in_range,
+          );
       hi_in = omega (arith, ints, clamps, c.hi_is);
       lo_in = omega (arith, ints, clamps, c.lo_is, t.lo_in);
-      in_range =
-          (omega (arith, ints, clamps, c.lo_is, c.position, t.in_range),
-           omega (arith, ints, clamps, c.hi_is, c.position));
+      in_range = (
+        omega (arith, ints, clamps, c.lo_is, c.position, t.in_range),
+        omega (arith, ints, clamps, c.hi_is, c.position),
+      );
     }
     | inr h ↦ let e = c.none (omega arith) in record {
       digits = below_drop start ds t.digits;
@@ -91,9 +107,10 @@ module _ {ds : List ℕ} {m hi lo p m' hi' lo' : ℤ} {start : ℕ} (t : IsStore
           omega (arith, ints, clamps, e, left, h, c.lo_is, t.lo_in, c.position, t.in_range, place_is m', place_is lo');
       hi_in = omega (arith, ints, clamps, c.hi_is);
       lo_in = omega (arith, ints, clamps, c.lo_is, t.lo_in);
-      in_range =
-          (omega (arith, ints, clamps, c.lo_is, c.position, t.in_range),
-           omega (arith, ints, clamps, c.hi_is, c.position));
+      in_range = (
+        omega (arith, ints, clamps, c.lo_is, c.position, t.in_range),
+        omega (arith, ints, clamps, c.hi_is, c.position),
+      );
     }
   ]
 
@@ -115,10 +132,21 @@ module _ {ds : List ℕ} {m hi lo p m' hi' lo' : ℤ} {start : ℕ} (t : IsStore
     | inl h ↦
         number_of_is (drop start ds) m'
         ∙ ap (λ k. rest_value * 10 ^ k)
-            (let k : place m' + 1 - length (drop start ds) ≡ ends =
-                 omega (arith, ints, left, h, c.some h, t.fits, place_is m, place_is m', place_is lo, lowest t,
-                     t.in_range) in
-             k)
+        (let k : place m' + 1 - length (drop start ds) ≡ ends =
+        omega (
+          arith,
+          ints,
+          left,
+          h,
+          c.some h,
+          t.fits,
+          place_is m,
+          place_is m',
+          place_is lo,
+          lowest t,
+          t.in_range,
+        ) in
+        k)
     | inr h ↦
         let z = rest_none h in
         number_of-none stored_cut (omega (arith, left)) ∙ (rw z (omega arith))
@@ -143,16 +171,16 @@ module _ {ds : List ℕ} {m hi lo p m' hi' lo' : ℤ} {start : ℕ} (t : IsStore
   over : gap ≡ 0 → number_of ds m ≡ rest_value * 10 ^ ends → rest_value * 10 ^ ends ≡ number_of ds m % weight p
   over g e =
       let l : 10 ^ (place m + 1) ≤ 10 ^ place p =
-          pow-le-pow_right (omega arith)
-              (omega (arith, ints, g, gap_is p (m +ℤ pos 1), place_is p, place_is m, c.position, lowest t)) in
+      pow-le-pow_right (omega arith)
+      (omega (arith, ints, g, gap_is p (m +ℤ pos 1), place_is p, place_is m, c.position, lowest t)) in
       sym (mod-eq_of_lt (omega (arith, number_of-lt t, l)) ∙ e)
 
   inside : 0 < gap → gap ≤ length ds → rest_value * 10 ^ ends ≡ number_of ds m % weight p
   inside g h =
       let k : length ds - gap + ends ≡ place p =
-          omega (arith, ints, g, h, t.fits, gap_is p (m +ℤ pos 1), place_is p, place_is m, c.position, lowest t) in
+      omega (arith, ints, g, h, t.fits, gap_is p (m +ℤ pos 1), place_is p, place_is m, c.position, lowest t) in
       sym (ap (λ n. n % 10 ^ place p)
-          (whole gap (omega arith) ∙ ap (λ k. number_from_digits 10 (take gap ds) * 10 ^ k + rest_value * 10 ^ ends) k)
+      (whole gap (omega arith) ∙ ap (λ k. number_from_digits 10 (take gap ds) * 10 ^ k + rest_value * 10 ^ ends) k)
       ∙ mod-mul-add _ _ _ (subst (λ k. rest_value * 10 ^ ends < 10 ^ k) k (rest_below gap (omega (arith, c.from)))))
 
   under : length ds < gap → rest_value * 10 ^ ends ≡ number_of ds m % weight p
@@ -160,9 +188,9 @@ module _ {ds : List ℕ} {m hi lo p m' hi' lo' : ℤ} {start : ℕ} (t : IsStore
       let z : rest_value ≡ 0 = rest_none (omega (arith, c.from)) in
       let high = number_from_digits 10 ds * 10 ^ (ends - place p) in
       let k : ends ≡ ends - place p + place p =
-          omega (arith, ints, h, t.fits, gap_is p (m +ℤ pos 1), place_is p, place_is m, c.position, lowest t) in
+      omega (arith, ints, h, t.fits, gap_is p (m +ℤ pos 1), place_is p, place_is m, c.position, lowest t) in
       let e : number_of ds m ≡ high * 10 ^ place p =
-          number_of_is ds m ∙ ap (λ k. number_from_digits 10 ds * 10 ^ k) k ∙ (rw pow-add (omega arith)) in
+      number_of_is ds m ∙ ap (λ k. number_from_digits 10 ds * 10 ^ k) k ∙ (rw pow-add (omega arith)) in
       sym (ap (λ n. n % 10 ^ place p) e ∙ mul-mod_left high (10 ^ place p) ∙ (rw z (omega arith)))
 
   number_of-cut : number_of (drop start ds) m' ≡ number_of ds m % weight p

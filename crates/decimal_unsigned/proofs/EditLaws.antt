@@ -47,7 +47,7 @@ module _ (w : Unsigned) (valid : IsValue w) where
         elim (cases_lt e.bottom (place w.lo)) [
           | inl h ↦
               absurd (no_more_zeros e.factor e.bottom (place w.lo) e.odd h
-                  (ap (λ n. n % weight w.lo) (sym e.is) ∙ valid.whole))
+              (ap (λ n. n % weight w.lo) (sym e.is) ∙ valid.whole))
           | inr h ↦ omega (arith, ints, last_of e, h, place_is w.lo, valid.lo_in)
         ]
     | inr none ↦
@@ -61,15 +61,33 @@ shorter : (v w : Unsigned) → pos 0 ≤ℤ v.hi → v.lo ≤ℤ pos 0 → v.hi 
 shorter v w h l up down = elim (by_dot v l) [
   | inl whole ↦ elim (by_dot w (omega (arith, ints))) [
     | inl k ↦
-        omega (arith, ints, length-text_whole v h whole, length-text_whole w (omega (arith, ints)) k, gap_is v.lo v.hi,
-            gap_is w.lo w.hi)
+        omega (
+          arith,
+          ints,
+          length-text_whole v h whole,
+          length-text_whole w (omega (arith, ints)) k,
+          gap_is v.lo v.hi,
+          gap_is w.lo w.hi,
+        )
     | inr k ↦
-        omega (arith, ints, length-text_whole v h whole, length-text_dotted w (omega (arith, ints)) k, gap_is v.lo v.hi,
-            gap_is w.lo w.hi)
+        omega (
+          arith,
+          ints,
+          length-text_whole v h whole,
+          length-text_dotted w (omega (arith, ints)) k,
+          gap_is v.lo v.hi,
+          gap_is w.lo w.hi,
+        )
   ]
   | inr dotted ↦
-      omega (arith, ints, length-text_dotted v h dotted,
-          length-text_dotted w (omega (arith, ints)) (omega (arith, ints)), gap_is v.lo v.hi, gap_is w.lo w.hi)
+      omega (
+        arith,
+        ints,
+        length-text_dotted v h dotted,
+        length-text_dotted w (omega (arith, ints)) (omega (arith, ints)),
+        gap_is v.lo v.hi,
+        gap_is w.lo w.hi,
+      )
 ]
   where
     by_dot : (x : Unsigned) → x.lo ≤ℤ pos 0 → (x.lo ≡ pos 0) ⊎ (x.lo <ℤ pos 0)
@@ -81,7 +99,7 @@ shortest v w valid e =
     let f : first v.number ≤ℤ w.hi = subst (λ n. first n ≤ℤ w.hi) e (first_in w valid) in
     let l : w.lo ≤ℤ last v.number = subst (λ n. w.lo ≤ℤ last n) e (last_in w valid) in
     shorter (trimmed v) w (omega (arith, ints, clamps)) (omega (arith, ints, clamps))
-        (omega (arith, ints, clamps, valid.hi_in)) (omega (arith, ints, clamps, valid.lo_in))
+    (omega (arith, ints, clamps, valid.hi_in)) (omega (arith, ints, clamps, valid.lo_in))
 
 -- ---- The parts of a value at a position.
 module _ (v : Unsigned) (p : ℤ) (valid : IsValue v) where
@@ -89,7 +107,7 @@ module _ (v : Unsigned) (p : ℤ) (valid : IsValue v) where
   pub below_limit : v.number < number_limit
   below_limit =
       let k : place v.hi + 1 ≤ place (pos 32768) =
-          omega (arith, ints, place_is v.hi, place_is (pos 32768), valid.hi_in) in
+      omega (arith, ints, place_is v.hi, place_is (pos 32768), valid.hi_in) in
       let m : 10 ^ (place v.hi + 1) ≤ number_limit = pow-le-pow_right (omega arith) k in
       omega (arith, valid.below, m)
 

@@ -55,7 +55,7 @@ extent b n p h l =
       odd = e.3;
       reaches = t.2;
       below = t.3;
-      limit = omega (arith, t.1)
+      limit = omega (arith, t.1);
     }
 
 module _ {n : ℕ} (e : Extent n) where
@@ -108,7 +108,7 @@ module _ {m n : ℕ} (a : Extent m) (b : Extent n) (apart : b.top < a.bottom) wh
   sum_is =
       let k : a.bottom ≡ (a.bottom - b.bottom) + b.bottom = omega (arith, ordered b) in
       let p : m ≡ a.factor * (10 ^ (a.bottom - b.bottom) * 10 ^ b.bottom) =
-          a.is ∙ ap (λ x. a.factor * x) (ap (λ x. 10 ^ x) k ∙ pow-add 10 (a.bottom - b.bottom) b.bottom) in
+      a.is ∙ ap (λ x. a.factor * x) (ap (λ x. 10 ^ x) k ∙ pow-add 10 (a.bottom - b.bottom) b.bottom) in
       let q = b.is in
       omega (arith, p, q)
 
@@ -116,11 +116,11 @@ module _ {m n : ℕ} (a : Extent m) (b : Extent n) (apart : b.top < a.bottom) wh
   sum_below =
       let k : a.top + 1 ≡ (a.top + 1 - a.bottom) + a.bottom = omega (arith, ordered a) in
       let split : 10 ^ (a.top + 1) ≡ 10 ^ (a.top + 1 - a.bottom) * 10 ^ a.bottom =
-          ap (λ x. 10 ^ x) k ∙ pow-add 10 (a.top + 1 - a.bottom) a.bottom in
+      ap (λ x. 10 ^ x) k ∙ pow-add 10 (a.top + 1 - a.bottom) a.bottom in
       let f : a.factor < 10 ^ (a.top + 1 - a.bottom) =
-          lt_of_mul-lt-mul_right (10 ^ a.bottom) (omega (arith, a.is, a.below, split)) in
+      lt_of_mul-lt-mul_right (10 ^ a.bottom) (omega (arith, a.is, a.below, split)) in
       let g : (a.factor + 1) * 10 ^ a.bottom ≤ 10 ^ (a.top + 1 - a.bottom) * 10 ^ a.bottom =
-          mul-le-mul_right (10 ^ a.bottom) (omega arith) in
+      mul-le-mul_right (10 ^ a.bottom) (omega arith) in
       let h : 10 ^ (b.top + 1) ≤ 10 ^ a.bottom = pow-le-pow_right (omega arith) (omega arith) in
       omega (arith, a.is, b.below, split, g, h)
 
@@ -132,7 +132,7 @@ module _ {m n : ℕ} (a : Extent m) (b : Extent n) (apart : b.top < a.bottom) wh
   pub last_sum : last (m + n) ≡ last n
   last_sum =
       let odd : 0 < (a.factor * 10 ^ (a.bottom - b.bottom) + b.factor) % 10 =
-          omega (arith, last_digit a.factor b.factor (a.bottom - b.bottom) (omega (arith, apart, ordered b)), b.odd) in
+      omega (arith, last_digit a.factor b.factor (a.bottom - b.bottom) (omega (arith, apart, ordered b)), b.odd) in
       ap last sum_is
       ∙ last_is (a.factor * 10 ^ (a.bottom - b.bottom) + b.factor) b.bottom odd (omega (arith, ordered b, b.limit))
       ∙ sym (last_of b)
@@ -152,7 +152,7 @@ module _ (n q b : ℕ) (few : n < 10 ^ b) (high : b ≤ 65536) where
       | inl h ↦ h
       | inr h ↦
           let z : n / 10 ^ q * 10 ^ q ≡ 0 =
-              ap (λ x. x * 10 ^ q) (let y : n / 10 ^ q ≡ 0 = omega arith in y) ∙ (omega arith) in
+          ap (λ x. x * 10 ^ q) (let y : n / 10 ^ q ≡ 0 = omega arith in y) ∙ (omega arith) in
           absurd (omega (arith, above_is, z))
     ]
 
@@ -168,7 +168,7 @@ module _ (n q b : ℕ) (few : n < 10 ^ b) (high : b ≤ 65536) where
       | inr h ↦
           let f : 0 < quotient.factor = omega (arith, quotient.odd) in
           let p : 10 ^ (quotient.bottom + q) ≤ 10 ^ (quotient.bottom + q) * quotient.factor =
-              le-mul_of_pos_right (10 ^ (quotient.bottom + q)) f in
+          le-mul_of_pos_right (10 ^ (quotient.bottom + q)) f in
           let r : 10 ^ b ≤ 10 ^ (quotient.bottom + q) = pow-le-pow_right (omega arith) h in
           absurd (omega (arith, p, r, few, above_factor))
     ]

@@ -25,7 +25,7 @@ pub leading_run : (a rest : List ℕ) → AllDigits 10 a → prefix_len is_ascii
     → leading_digits (a ++ rest) ≡ a
 leading_run a rest h z =
     ap (λ n. take n (a ++ rest))
-        (let e : prefix_len is_ascii_digit (a ++ rest) ≡ length a = omega (arith, prefix_len-run a rest h) in e)
+    (let e : prefix_len is_ascii_digit (a ++ rest) ≡ length a = omega (arith, prefix_len-run a rest h) in e)
     ∙ take-append_seam a rest
 
 -- and that is what stands after it
@@ -33,7 +33,7 @@ pub after_run : (a rest : List ℕ) → AllDigits 10 a → prefix_len is_ascii_d
     → after_digits (a ++ rest) ≡ rest
 after_run a rest h z =
     ap (λ n. drop n (a ++ rest))
-        (let e : prefix_len is_ascii_digit (a ++ rest) ≡ length a = omega (arith, prefix_len-run a rest h) in e)
+    (let e : prefix_len is_ascii_digit (a ++ rest) ≡ length a = omega (arith, prefix_len-run a rest h) in e)
     ∙ drop-append_seam a rest
 
 -- the leading digits are digits
@@ -118,8 +118,8 @@ exponent_takes (c ∷ rest) e h = go (c == 45) refl (c == 43) refl h
   where
     go : (m : Bool) → (c == 45) ≡ m → (p : Bool) → (c == 43) ≡ p
         → cond m (option_map (λ n. neg_ℤ (pos n)) (numeral_of rest))
-            (cond p (option_map pos (numeral_of rest)) (option_map pos (numeral_of (c ∷ rest))))
-            ≡ Some e
+        (cond p (option_map pos (numeral_of rest)) (option_map pos (numeral_of (c ∷ rest))))
+        ≡ Some e
         → IsExponent (c ∷ rest) e
     go true t p s k =
         let m = option_map_takes (λ n. neg_ℤ (pos n)) (numeral_of rest) e k in
@@ -174,7 +174,7 @@ parts_again text w g = go g.form
         ap (λ y. parts_of (y ++ c ∷ x)) t
         ∙ parts_split w.whole (c ∷ x) g.whole (rw (letter_stops c l) refl)
         ∙ (rw (not_dot c l, letter_is c l, positive (length w.whole) p, exponent_again x e n)
-            (ap Some (sym (found w w.whole [] (Some e) refl f s))))
+        (ap Some (sym (found w w.whole [] (Some e) refl f s))))
     exponents m x c e (dotted t) l n s =
         ap (λ y. parts_of (y ++ c ∷ x)) t
         ∙ ap parts_of (append_assoc w.whole (46 ∷ w.fraction) (c ∷ x))
@@ -209,15 +209,14 @@ with_exponent_takes : (mantissa whole fraction text : List ℕ) (c : ℕ) (w : W
     → Grammar (mantissa ++ c ∷ text) w
 unfolding with_exponent
 with_exponent_takes m a b x c w k p q l h =
-    let t =
-        option_map_takes (λ (e : ℤ). let r : Written = record { whole = a; fraction = b; exponent = Some e } in r)
-            (exponent_of x) w h in
+    let t = option_map_takes (λ (e : ℤ). let r : Written = record { whole = a; fraction = b; exponent = Some e } in r)
+    (exponent_of x) w h in
     subst (Grammar (m ++ c ∷ x)) t.2
-        (record {
-          whole = p;
-          fraction = q;
-          form = scientific m x c t.0 k (letter_of c l) (exponent_takes x t.0 t.1) refl refl
-        })
+    (record {
+      whole = p;
+      fraction = q;
+      form = scientific m x c t.0 k (letter_of c l) (exponent_takes x t.0 t.1) refl refl;
+    })
 
 after_fraction_takes : (a b rest : List ℕ) (w : Written) → AllDigits 10 a → AllDigits 10 b
     → after_fraction a b rest ≡ Some w
@@ -232,7 +231,7 @@ after_fraction_takes a b [] w p q h = go (nat_lt 0 (length b)) refl h
         let s : record { whole = a; fraction = b; exponent = None } ≡ w = cc in
         let l : 0 < length b = grind (arith, nat_tests, t) in
         subst (Grammar ((a ++ 46 ∷ b) ++ [])) s
-            (record { whole = p; fraction = q; form = decimal l refl (append-nil (a ++ 46 ∷ b)) })
+        (record { whole = p; fraction = q; form = decimal l refl (append-nil (a ++ 46 ∷ b)) })
     go false t e = absurd (cc)
 after_fraction_takes a b (c ∷ rest) w p q h = go (is_letter c) refl h
   where
@@ -267,15 +266,15 @@ after_whole_takes a (c ∷ rest) w p h = go (c == 46) refl h
 
     go : (t : Bool) → (c == 46) ≡ t
         → cond t (after_fraction a (leading_digits rest) (after_digits rest))
-            (cond (is_letter c && nat_lt 0 (length a)) (with_exponent a [] rest) None)
-            ≡ Some w
+        (cond (is_letter c && nat_lt 0 (length a)) (with_exponent a [] rest) None)
+        ≡ Some w
         → Grammar (a ++ c ∷ rest) w
     go true t e =
         let s : (a ++ 46 ∷ leading_digits rest) ++ after_digits rest ≡ a ++ c ∷ rest =
-            append_assoc a (46 ∷ leading_digits rest) (after_digits rest)
-            ∙ (λ i. a ++ (sym (eqb-true c 46 t) i) ∷ leading-after rest i) in
+        append_assoc a (46 ∷ leading_digits rest) (after_digits rest)
+        ∙ (λ i. a ++ (sym (eqb-true c 46 t) i) ∷ leading-after rest i) in
         subst (λ x. Grammar x w) s
-            (after_fraction_takes a (leading_digits rest) (after_digits rest) w p (leading_are_digits rest) e)
+        (after_fraction_takes a (leading_digits rest) (after_digits rest) w p (leading_are_digits rest) e)
     go false t e = letters (is_letter c) (nat_lt 0 (length a)) refl refl e
 
 -- the parts that are found are those of the grammar
@@ -283,4 +282,4 @@ pub parts_takes : (text : List ℕ) (w : Written) → parts_of text ≡ Some w �
 unfolding parts_of
 parts_takes text w h =
     subst (λ x. Grammar x w) (leading-after text)
-        (after_whole_takes (leading_digits text) (after_digits text) w (leading_are_digits text) h)
+    (after_whole_takes (leading_digits text) (after_digits text) w (leading_are_digits text) h)

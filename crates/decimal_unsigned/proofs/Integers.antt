@@ -63,21 +63,21 @@ module _ {ds : List ℕ} {end : ℕ} (e : UpToLast ds end) where
     number_over b z = elim (cases_lt 0 (length ds)) [
       | inl h ↦
           let inner : IsInner ds 0 end =
-              record {
-                ordered = some h;
-                within = e.within;
-                before = λ k p. absurd (omega arith);
-                after = e.zeros;
-                front = e.front h;
-                back = e.found (some h)
-              } in
+          record {
+            ordered = some h;
+            within = e.within;
+            before = λ k p. absurd (omega arith);
+            after = e.zeros;
+            front = e.front h;
+            back = e.found (some h);
+          } in
           let all : middle 0 end ds ≡ take end ds = ap (λ n. take n ds) (let k : end - 0 ≡ end = omega arith in k) in
           ap (λ l. number_of l m) (sym all)
           ∙ number_of-middle ds 0 end (length ds) b m inner (omega arith) (omega arith)
-              (omega (arith, ints, at, h, place_is m))
+          (omega (arith, ints, at, h, place_is m))
       | inr h ↦
           let n : number_from_digits 10 ds ≡ 0 =
-              omega (arith, number_lt 10 ds all_digits, ap (λ k. 10 ^ k) (let k : length ds ≡ 0 = omega arith in k)) in
+          omega (arith, number_lt 10 ds all_digits, ap (λ k. 10 ^ k) (let k : length ds ≡ 0 = omega arith in k)) in
           number_of-none whole_stored (omega (arith, long, e.within)) ∙ (rw n (omega arith))
     ]
 
@@ -89,7 +89,7 @@ module _ {ds : List ℕ} {end : ℕ} (e : UpToLast ds end) where
         go b z =
             number_over b z
             ∙ ap (λ k. number_from_digits 10 ds * 10 ^ k)
-                (let k : 32768 - b ≡ place (pos 0) = omega (arith, ints, place_is (pos 0)) in k)
+            (let k : 32768 - b ≡ place (pos 0) = omega (arith, ints, place_is (pos 0)) in k)
 
     -- they make its value
     pub whole_value : record { number = number_of (take end ds) m; hi = m; lo = pos 0 }
@@ -127,7 +127,7 @@ pub integer_value-one : integer_value 1 ≡ one_value
 integer_value-one =
     let n : 1 * weight (pos 0) ≡ weight (pos 0) = omega arith in
     let f =
-        ap first n
-        ∙ first_power (place (pos 0)) (omega (arith, ints, place_is (pos 0)))
-        ∙ magnitude_at-place (pos 0) (omega (arith, ints)) in
+    ap first n
+    ∙ first_power (place (pos 0)) (omega (arith, ints, place_is (pos 0)))
+    ∙ magnitude_at-place (pos 0) (omega (arith, ints)) in
     λ i. record { number = n i; hi = f i; lo = pos 0 }

@@ -121,8 +121,8 @@ module _ (v t : Unsigned) (p : ℤ) (valid : IsValue v) (e : t.number ≡ v.numb
       → joined t (cut v p) ≡ v
   parts_value hi lo above below =
       let f : first t.number ≤ℤ v.hi =
-          first_le t.number v.hi (omega (arith, valid.below, e)) valid.hi_in.0 valid.hi_in.1 in
+      first_le t.number v.hi (omega (arith, valid.below, e)) valid.hi_in.0 valid.hi_in.1 in
       let h : int_max t.hi (int_max (p -ℤ pos 1) (pos 0)) ≡ v.hi =
-          omega (arith, ints, clamps, hi, f, below, valid.hi_in) in
+      omega (arith, ints, clamps, hi, f, below, valid.hi_in) in
       let l : int_min t.lo (int_min v.lo p) ≡ v.lo = omega (arith, ints, clamps, lo, above, valid.lo_in) in
       λ i. record { number = parts_number i; hi = h i; lo = l i }

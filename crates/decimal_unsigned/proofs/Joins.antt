@@ -42,15 +42,15 @@ pub taken : (v w : Unsigned) {ds es : List ℕ} {m hi lo n hi' lo' : ℤ} → Is
 taken v w {hi = hi} {lo = lo} {hi' = hi'} {lo' = lo'} t u p q =
     let up : hi ≡ int_max v.hi hi' = ap (λ (x : Unsigned). x.hi) p ∙ ap (λ (x : Unsigned). int_max v.hi x.hi) (sym q) in
     let down : lo ≡ int_min v.lo lo' =
-        ap (λ (x : Unsigned). x.lo) p ∙ ap (λ (x : Unsigned). int_min v.lo x.lo) (sym q) in
+    ap (λ (x : Unsigned). x.lo) p ∙ ap (λ (x : Unsigned). int_min v.lo x.lo) (sym q) in
     wider u (omega (arith, ints, clamps, up)) (omega (arith, ints, clamps, down)) t.in_range.1 t.in_range.0
 
 number-zeros : (n : ℕ) → number_from_digits 10 (replicate n 0) ≡ 0
 number-zeros zero = refl
 number-zeros (suc n) =
     let e : number_from_digits 10 (0 ∷ replicate n 0)
-            ≡ (0 * 10 + 0) * 10 ^ length (replicate n 0) + number_from_digits 10 (replicate n 0) =
-        after_is (0 * 10 + 0) (replicate n 0) in
+    ≡ (0 * 10 + 0) * 10 ^ length (replicate n 0) + number_from_digits 10 (replicate n 0) =
+    after_is (0 * 10 + 0) (replicate n 0) in
     e ∙ (rw (number-zeros n) (omega arith))
 
 below-zeros : (n : ℕ) → AllBelowBase 10 (replicate n 0)
@@ -66,15 +66,15 @@ module _ (ds es : List ℕ) (zeros : ℕ) where
   length-joined =
       length-append (ds ++ replicate zeros 0) es
       ∙ ap (λ n. n + length es)
-          (length-append ds (replicate zeros 0) ∙ ap (λ n. length ds + n) (length-replicate zeros 0))
+      (length-append ds (replicate zeros 0) ∙ ap (λ n. length ds + n) (length-replicate zeros 0))
 
   -- the first digits count for as many more places as digits follow
   number-joined : number_from_digits 10 ((ds ++ replicate zeros 0) ++ es)
       ≡ number_from_digits 10 ds * 10 ^ (zeros + length es) + number_from_digits 10 es
   number-joined =
       let front : number_from_digits 10 (ds ++ replicate zeros 0) ≡ number_from_digits 10 ds * 10 ^ zeros =
-          number-append ds (replicate zeros 0)
-          ∙ (rw (number-zeros zeros, length-replicate {A = ℕ} zeros 0) (omega arith)) in
+      number-append ds (replicate zeros 0)
+      ∙ (rw (number-zeros zeros, length-replicate {A = ℕ} zeros 0) (omega arith)) in
       number-append (ds ++ replicate zeros 0) es ∙ (rw (front, pow-add 10 zeros (length es)) (omega arith))
 
 -- the second digits begin below the last of the first, with so many zeros between
@@ -89,20 +89,29 @@ module _ {ds es : List ℕ} {m hi lo n hi' lo' : ℤ} (t : IsStored ds m hi lo) 
     front = λ h.
         let s : 0 < length (ds ++ replicate k 0) = omega (arith, some, length-append ds (replicate k 0)) in
         rw (get_or_append_left (ds ++ replicate k 0) es 0 0 s, get_or_append_left ds (replicate k 0) 0 0 some)
-            (t.front some);
+        (t.front some);
     back = λ h.
         let i : length ((ds ++ replicate k 0) ++ es) - 1 - length (ds ++ replicate k 0) ≡ length es - 1 =
-            omega (arith, more, length-append (ds ++ replicate k 0) es) in
+        omega (arith, more, length-append (ds ++ replicate k 0) es) in
         let l : length (ds ++ replicate k 0) ≤ length ((ds ++ replicate k 0) ++ es) - 1 =
-            omega (arith, more, length-append (ds ++ replicate k 0) es) in
+        omega (arith, more, length-append (ds ++ replicate k 0) es) in
         rw (get_or-append_right (ds ++ replicate k 0) es _ (length ((ds ++ replicate k 0) ++ es) - 1) 0 refl l, i)
-            (u.back more);
+        (u.back more);
     empty = λ z. absurd (omega (arith, length-joined ds es k));
     hi_covers = omega (arith, ints, clamps, t.hi_covers);
     lo_covers = omega (arith, ints, clamps, t.lo_covers);
     fits =
-        omega (arith, ints, clamps, places, u.fits, length-joined ds es k, place_is lo, place_is lo',
-            place_is (int_min lo lo'));
+        omega (
+          arith,
+          ints,
+          clamps,
+          places,
+          u.fits,
+          length-joined ds es k,
+          place_is lo,
+          place_is lo',
+          place_is (int_min lo lo'),
+        );
     hi_in = omega (arith, ints, clamps, t.hi_in);
     lo_in = omega (arith, ints, clamps, t.lo_in);
     in_range =
@@ -149,7 +158,7 @@ module _ {ds es : List ℕ} {m hi lo n hi' lo' : ℤ} {v w : Unsigned} (t : IsSt
   append_size =
       let f : first v.number ≡ m = sym (ap (λ (x : Unsigned). first x.number) p) ∙ first_of t in
       let l : last w.number ≡ n -ℤ pos (length es - 1) =
-          sym (ap (λ (x : Unsigned). last x.number) q) ∙ last-number_of u more in
+      sym (ap (λ (x : Unsigned). last x.number) q) ∙ last-number_of u more in
       let b = between in
       let s = more in
       omega (arith, ints, gap_is, f, l, b)
@@ -177,8 +186,8 @@ pub overlaps_second_zero : (v w : Unsigned) → w.number ≡ 0 → overlaps v w 
 unfolding overlaps
 overlaps_second_zero v w z =
     rw z
-        (elim (nat_lt 0 v.number) as (λ b. (b && false && int_le (last v.number) (first 0)) ≡ false)
-            [ true ↦ refl | false ↦ refl ])
+    (elim (nat_lt 0 v.number) as (λ b. (b && false && int_le (last v.number) (first 0)) ≡ false)
+    [ true ↦ refl | false ↦ refl ])
 
 -- two numbers other than 0 overlap by their digits alone
 pub overlaps_some : (v w : Unsigned) → 0 < v.number → 0 < w.number

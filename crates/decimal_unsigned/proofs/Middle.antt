@@ -22,7 +22,7 @@ number_zeros [] h = refl
 number_zeros (d ∷ ds) h =
     let z : d ≡ 0 = h 0 (omega arith) in
     let e : number_from_digits 10 (d ∷ ds) ≡ (0 * 10 + d) * 10 ^ length ds + number_from_digits 10 ds =
-        after_is (0 * 10 + d) ds in
+    after_is (0 * 10 + d) ds in
     let r = number_zeros ds (λ k l. h (suc k) (omega arith)) in
     rw (e, r, z) (omega arith)
 
@@ -40,19 +40,19 @@ module _ (ds : List ℕ) (start end : ℕ) (n : IsInner ds start end) where
   number_middle =
       let a = number_split start ds (omega (arith, n.ordered, n.within)) in
       let z : number_from_digits 10 (take start ds) ≡ 0 =
-          number_zeros (take start ds)
-              (λ k h.
-                  let l : k < start = omega (arith, length-take start ds) in
-                  get_or-take start ds k 0 l ∙ n.before k l) in
+      number_zeros (take start ds)
+      (λ k h.
+      let l : k < start = omega (arith, length-take start ds) in
+      get_or-take start ds k 0 l ∙ n.before k l) in
       let m : end - start ≤ length (drop start ds) = omega (arith, n.ordered, n.within, length-drop start ds) in
       let b = number_split (end - start) (drop start ds) m in
       let y : number_from_digits 10 (drop (end - start) (drop start ds)) ≡ 0 =
-          number_zeros (drop (end - start) (drop start ds))
-              (λ k h. get_or-drop (end - start) (drop start ds) k 0
-                  ∙ get_or-drop start ds (end - start + k) 0
-                  ∙ n.after (start + (end - start + k)) (omega (arith, n.ordered))) in
+      number_zeros (drop (end - start) (drop start ds))
+      (λ k h. get_or-drop (end - start) (drop start ds) k 0
+      ∙ get_or-drop start ds (end - start + k) 0
+      ∙ n.after (start + (end - start + k)) (omega (arith, n.ordered))) in
       let k : length (drop start ds) - (end - start) ≡ length ds - end =
-          omega (arith, n.ordered, n.within, length-drop start ds) in
+      omega (arith, n.ordered, n.within, length-drop start ds) in
       a ∙ (rw (z, b, y, k) (omega arith))
 
   -- they are below ten
@@ -67,10 +67,10 @@ unfolding number_of number_at
 number_of-middle ds start end a b m n whole few p =
     let l = middle_length ds start end n in
     let k : place m + 1 - length (middle start end ds) ≡ (length ds - end) + (32768 - b) =
-        omega (arith, n.ordered, n.within) in
+    omega (arith, n.ordered, n.within) in
     let e : number_from_digits 10 (middle start end ds) * 10 ^ (place m + 1 - length (middle start end ds))
-            ≡ (number_from_digits 10 (middle start end ds) * 10 ^ (length ds - end)) * 10 ^ (32768 - b) =
-        rw (k, pow-add 10 (length ds - end) (32768 - b)) (omega arith) in
+    ≡ (number_from_digits 10 (middle start end ds) * 10 ^ (length ds - end)) * 10 ^ (32768 - b) =
+    rw (k, pow-add 10 (length ds - end) (32768 - b)) (omega arith) in
     e ∙ ap (λ x. x * 10 ^ (32768 - b)) (sym (number_middle ds start end n))
 
 -- the digits between the zeros, as a value holds them
@@ -83,11 +83,11 @@ stored_middle ds start end a b m n d whole many few e =
       digits = middle_below ds start end n d;
       front = λ h.
           rw (middle_at ds start end n 0 (omega arith))
-              (subst (λ i. 0 < get_or ds i 0) (let k : start ≡ start + 0 = omega arith in k) n.front);
+          (subst (λ i. 0 < get_or ds i 0) (let k : start ≡ start + 0 = omega arith in k) n.front);
       back = λ h.
           rw (l, middle_at ds start end n (end - start - 1) (omega arith))
-              (subst (λ i. 0 < get_or ds i 0)
-                  (let k : end - 1 ≡ start + (end - start - 1) = omega (arith, n.ordered) in k) n.back);
+          (subst (λ i. 0 < get_or ds i 0)
+          (let k : end - 1 ≡ start + (end - start - 1) = omega (arith, n.ordered) in k) n.back);
       empty = λ z. absurd (omega (arith, n.ordered));
       hi_covers = omega (arith, ints, e);
       lo_covers = omega (arith, ints, e, n.ordered, n.within);
@@ -126,8 +126,8 @@ middle_behind : (a b : List ℕ) (start end : ℕ) → length a ≤ start
     → middle start end (a ++ b) ≡ middle (start - length a) (end - length a) b
 middle_behind a b start end p =
     let d : drop start (a ++ b) ≡ drop (start - length a) b =
-        (let k : start ≡ length a + (start - length a) = omega arith in ap (λ k. drop k (a ++ b)) k)
-        ∙ drop-append-add a b (start - length a) in
+    (let k : start ≡ length a + (start - length a) = omega arith in ap (λ k. drop k (a ++ b)) k)
+    ∙ drop-append-add a b (start - length a) in
     let n : end - start ≡ (end - length a) - (start - length a) = omega arith in
     rw (d, n) refl
 
@@ -146,7 +146,7 @@ middle_append a b start end p = elim (cases_lt (length a) end) [
         let e : min end (length a) ≡ length a = omega arith in
         let z : start - length a ≡ 0 = omega arith in
         let whole : middle start (length a) a ≡ drop start a =
-            take_all (length a - start) (drop start a) (omega (arith, length-drop start a)) in
+        take_all (length a - start) (drop start a) (omega (arith, length-drop start a)) in
         let y : (end - length a) - 0 ≡ end - length a = omega arith in
         rw (s, e, z, whole, y) (middle_both a b start end r (omega arith))
     | inl r ↦
@@ -164,10 +164,13 @@ middle-map f start end xs =
 -- the same of two texts and the digits that they write
 pub middle_written : (a b : List ℕ) (start end : ℕ) → start ≤ end
     → map digit_value (middle (min start (length a)) (min end (length a)) a)
-        ++ map digit_value (middle (start - length a) (end - length a) b)
+    ++ map digit_value (middle (start - length a) (end - length a) b)
     ≡ middle start end (map digit_value (a ++ b))
 middle_written a b start end p =
     let l : length (map digit_value a) ≡ length a = length-map a digit_value in
-    rw (middle-map digit_value (min start (length a)) (min end (length a)) a,
-        middle-map digit_value (start - length a) (end - length a) b, map-append digit_value a b)
-        (sym (rw l at (middle_append (map digit_value a) (map digit_value b) start end p)))
+    rw (
+      middle-map digit_value (min start (length a)) (min end (length a)) a,
+      middle-map digit_value (start - length a) (end - length a) b,
+      map-append digit_value a b,
+    )
+    (sym (rw l at (middle_append (map digit_value a) (map digit_value b) start end p)))

@@ -25,7 +25,7 @@ unfolding scaled
 scaled_values v None = inl (v, refl)
 scaled_values v (Some e) =
     tested (v.number == 0) _ _ (inl (v, refl))
-        (tested (is_outside e || leaves_limits v e) _ _ (inr refl) (inl (_, refl)))
+    (tested (is_outside e || leaves_limits v e) _ _ (inr refl) (inl (_, refl)))
 
 value_of_values : (w : Written) → Values (value_of w)
 unfolding value_of

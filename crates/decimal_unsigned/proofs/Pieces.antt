@@ -84,7 +84,7 @@ module _ (v : Unsigned) (valid : IsValue v) (hi : ℤ) (hi_is : hi ≡ v.hi) (do
       let b = below (omega arith) in
       ap (λ x. 48 + digit v.number x) e
       ∙ sym (text_below v valid from (from - dot - 1) (omega (arith, ints, dot_at))
-          (omega (arith, ints, dot_at, gap_is v.lo v.hi, valid.lo_in, b)))
+      (omega (arith, ints, dot_at, gap_is v.lo v.hi, valid.lo_in, b)))
 
   -- places that begin behind the dot and hold the digits are that piece of the text
   pub piece_below : (m : ℤ) (places : List ℕ) → m ≡ (negsuc 0 -ℤ pos (from - dot - 1)) → length places ≡ n
@@ -93,12 +93,12 @@ module _ (v : Unsigned) (valid : IsValue v) (hi : ℤ) (hi_is : hi ≡ v.hi) (do
   piece_below m places e l h digits =
       let b = below (omega arith) in
       piece_is places (text v) from n l inside (λ k q.
-          let j = from - dot - 1 + k in
-          let at : (m -ℤ pos k) ≡ (negsuc 0 -ℤ pos j) = omega (arith, ints) in
-          digits k (omega arith)
-          ∙ ap (λ x. 48 + digit v.number x) at
-          ∙ sym (text_below v valid (from + k) j (omega (arith, ints, dot_at))
-              (omega (arith, ints, dot_at, gap_is v.lo v.hi, valid.lo_in, b, q))))
+      let j = from - dot - 1 + k in
+      let at : (m -ℤ pos k) ≡ (negsuc 0 -ℤ pos j) = omega (arith, ints) in
+      digits k (omega arith)
+      ∙ ap (λ x. 48 + digit v.number x) at
+      ∙ sym (text_below v valid (from + k) j (omega (arith, ints, dot_at))
+      (omega (arith, ints, dot_at, gap_is v.lo v.hi, valid.lo_in, b, q))))
 
   -- where the dot is inside the piece, the digits behind it have magnitudes within the limits
   pub room_behind : (k : ℕ) → k ≤ n - (dot - from + 1) → from ≤ dot → dot < from + n → k ≤ place (negsuc 0) + 1
@@ -111,31 +111,31 @@ module _ (v : Unsigned) (valid : IsValue v) (hi : ℤ) (hi_is : hi ≡ v.hi) (do
       → dot < from + n → length xs ≡ n → length us ≡ a → length ws ≡ n - (a + 1)
       → Digits v.number m us → Digits v.number (negsuc 0) ws
       → take (a + 1) (dotted a us xs)
-          ++ (ws ++ drop (length (dotted a us xs) - (a + 1)) (drop (a + 1) (dotted a us xs)))
-          ≡ take n (drop from (text v))
+      ++ (ws ++ drop (length (dotted a us xs) - (a + 1)) (drop (a + 1) (dotted a us xs)))
+      ≡ take n (drop from (text v))
   piece_over a m xs us ws a_is e h l xs_full us_full ws_full above behind =
       let b = below l in
       let has_dot : a < length xs = omega arith in
       let rest : length ws ≡ length xs - (a + 1) = omega arith in
       piece_is _ (text v) from n (around_length a xs us ws us_full has_dot rest ∙ xs_full) inside
-          (λ k q. elim (cases_lt k a) [
-            | inl before ↦
-                around_before a xs us ws us_full has_dot rest k before
-                ∙ digit_above m us e above k (omega arith) (omega arith)
-            | inr from_dot ↦ elim (cases_lt a k) [
-              | inl after ↦
-                  let j = k - (a + 1) in
-                  around_behind a xs us ws us_full has_dot rest k after (omega arith) ∙ behind j (omega (arith, q))
-                  ∙ sym (text_below v valid (from + k) j (omega (arith, ints, dot_at))
-                      (omega (arith, ints, dot_at, gap_is v.lo v.hi, valid.lo_in, b, q)))
-              | inr at_dot ↦
-                  let same : k ≡ a = omega arith in
-                  let index : pos (from + k) ≡ (v.hi +ℤ pos 1) = omega (arith, ints, dot_at) in
-                  ap (λ i. get_or
-                          (take (a + 1) (dotted a us xs)
-                              ++ (ws ++ drop (length (dotted a us xs) - (a + 1)) (drop (a + 1) (dotted a us xs))))
-                          i 0)
-                      same
-                  ∙ around_dot a xs us ws us_full has_dot rest ∙ sym (text_dot v valid (from + k) index b.0)
-            ]
-          ])
+      (λ k q. elim (cases_lt k a) [
+        | inl before ↦
+            around_before a xs us ws us_full has_dot rest k before
+            ∙ digit_above m us e above k (omega arith) (omega arith)
+        | inr from_dot ↦ elim (cases_lt a k) [
+          | inl after ↦
+              let j = k - (a + 1) in
+              around_behind a xs us ws us_full has_dot rest k after (omega arith) ∙ behind j (omega (arith, q))
+              ∙ sym (text_below v valid (from + k) j (omega (arith, ints, dot_at))
+              (omega (arith, ints, dot_at, gap_is v.lo v.hi, valid.lo_in, b, q)))
+          | inr at_dot ↦
+              let same : k ≡ a = omega arith in
+              let index : pos (from + k) ≡ (v.hi +ℤ pos 1) = omega (arith, ints, dot_at) in
+              ap (λ i. get_or
+              (take (a + 1) (dotted a us xs)
+              ++ (ws ++ drop (length (dotted a us xs) - (a + 1)) (drop (a + 1) (dotted a us xs))))
+              i 0)
+              same
+              ∙ around_dot a xs us ws us_full has_dot rest ∙ sym (text_dot v valid (from + k) index b.0)
+        ]
+      ])

@@ -130,7 +130,7 @@ module _ (w : Written) (digits : AllDigits 10 (w.whole ++ w.fraction)) (few : le
       → Makes w 0 0 (pos 0) (pos (length w.whole - 1)) (pos 0 -ℤ pos (length w.fraction))
   makes_zero h =
       let z : digits_value 10 (w.whole ++ w.fraction) ≡ 0 =
-          digits_value_is 10 (w.whole ++ w.fraction) ∙ number_zeros (digits_of w) h in
+      digits_value_is 10 (w.whole ++ w.fraction) ∙ number_zeros (digits_of w) h in
       let n : (mantissa w.whole w.fraction).number ≡ 0 = rw z (omega arith) in
       record {
         ordered = omega arith;
@@ -151,11 +151,11 @@ module _ (w : Written) (digits : AllDigits 10 (w.whole ++ w.fraction)) (few : le
             value_scaled
             ∙ none_or_zero (mantissa w.whole w.fraction) w.exponent n
             ∙ ap Ok
-                (λ i. record {
-                  number = (n ∙ sym (number_of_empty (pos 0))) i;
-                  hi = pos (length w.whole - 1);
-                  lo = pos 0 -ℤ pos (length w.fraction)
-                });
+            (λ i. record {
+              number = (n ∙ sym (number_of_empty (pos 0))) i;
+              hi = pos (length w.whole - 1);
+              lo = pos 0 -ℤ pos (length w.fraction);
+            });
       }
 
   module _ (start end : ℕ) (n : IsInner (digits_of w) start end) (m : ℤ)
@@ -163,12 +163,12 @@ module _ (w : Written) (digits : AllDigits 10 (w.whole ++ w.fraction)) (few : le
     stored : IsStored (middle start end (digits_of w)) m (pos (length w.whole - 1)) (pos 0 -ℤ pos (length w.fraction))
     stored =
         stored_middle (digits_of w) start end (length w.whole) (length w.fraction) m n all_digits length_digits few
-            short at
+        short at
 
     number_is : number_of (middle start end (digits_of w)) m ≡ (mantissa w.whole w.fraction).number
     number_is =
         number_of-middle (digits_of w) start end (length w.whole) (length w.fraction) m n length_digits short
-            (omega (arith, ints, at, place_is m, n.ordered, n.within, length_digits))
+        (omega (arith, ints, at, place_is m, n.ordered, n.within, length_digits))
         ∙ ap (λ x. x * 10 ^ (32768 - length w.fraction)) (sym (digits_value_is 10 (w.whole ++ w.fraction)))
 
     some : 0 < length (middle start end (digits_of w))
@@ -181,7 +181,7 @@ module _ (w : Written) (digits : AllDigits 10 (w.whole ++ w.fraction)) (few : le
         record {
           number = number_of (middle start end (digits_of w)) m;
           hi = pos (length w.whole - 1);
-          lo = pos 0 -ℤ pos (length w.fraction)
+          lo = pos 0 -ℤ pos (length w.fraction);
         }
         ≡ mantissa w.whole w.fraction
     mantissa_is = λ i.
@@ -214,7 +214,7 @@ module _ (w : Written) (digits : AllDigits 10 (w.whole ++ w.fraction)) (few : le
     -- the value of the digits times a power of ten
     pub makes_scaled : (e : ℤ) (m' hi' lo' : ℤ) → w.exponent ≡ Some e
         → Placed m (pos (length w.whole) -ℤ pos end) (pos (length w.whole - 1)) (pos 0 -ℤ pos (length w.fraction)) e m'
-            hi' lo'
+        hi' lo'
         → Makes w start end m' hi' lo'
     unfolding scaled
     makes_scaled e m' hi' lo' s p =
@@ -223,20 +223,20 @@ module _ (w : Written) (digits : AllDigits 10 (w.whole ++ w.fraction)) (few : le
         let hi = pos (length w.whole - 1) in
         let lo = pos 0 -ℤ pos (length w.fraction) in
         let moves : Moves ds m hi lo e m' (int_max (hi +ℤ e) (pos 0)) (int_min (lo +ℤ e) (pos 0)) =
-            record {
-              some = λ h. p.magnitude;
-              none = λ y. absurd (omega (arith, some));
-              hi_is = refl;
-              lo_is = refl;
-              hi_fits = p.upper;
-              lo_fits = p.lower
-            } in
+        record {
+          some = λ h. p.magnitude;
+          none = λ y. absurd (omega (arith, some));
+          hi_is = refl;
+          lo_is = refl;
+          hi_fits = p.upper;
+          lo_fits = p.lower;
+        } in
         let t = moved stored moves in
         let u = multiplied_is e stored moves ∙ ap (λ x. multiplied x e) mantissa_is in
         let f : first (number_of ds m') ≡ m +ℤ e = first-number_of t some ∙ p.magnitude in
         let l : last (number_of ds m') ≡ (pos (length w.whole) -ℤ pos end) +ℤ e =
-            last-number_of t some
-            ∙ (omega (arith, ints, p.magnitude, at, middle_length (digits_of w) start end n, n.ordered)) in
+        last-number_of t some
+        ∙ (omega (arith, ints, p.magnitude, at, middle_length (digits_of w) start end n, n.ordered)) in
         let z : (v.number == 0) ≡ false = let q = number_pos in grind (arith, nat_tests, q) in
         let a = not_over e (omega (arith, ints, p.upper)) in
         let b = not_under e (omega (arith, ints, p.lower)) in
@@ -247,20 +247,19 @@ module _ (w : Written) (digits : AllDigits 10 (w.whole ++ w.fraction)) (few : le
         ∙ (λ i. record {
           number = number_of ds m';
           hi = if int_lt (pos 0) (f i) then f i else int_max (hi +ℤ e) (pos 0);
-          lo = if int_lt (l i) (pos 0) then l i else int_min (lo +ℤ e) (pos 0)
+          lo = if int_lt (l i) (pos 0) then l i else int_min (lo +ℤ e) (pos 0);
         })
         ∙ (λ i. record { number = number_of ds m'; hi = sym p.hi_is i; lo = sym p.lo_is i }) in
         let up = upper_is (m +ℤ e) (hi +ℤ e) hi' p.hi_is (omega (arith, ints, at, n.ordered)) p.upper in
-        let down =
-            lower_is ((pos (length w.whole) -ℤ pos end) +ℤ e) (lo +ℤ e) lo' p.lo_is
-                (omega (arith, ints, n.within, length_digits)) p.lower in
+        let down = lower_is ((pos (length w.whole) -ℤ pos end) +ℤ e) (lo +ℤ e) lo' p.lo_is
+        (omega (arith, ints, n.within, length_digits)) p.lower in
         record {
           ordered = omega (arith, n.ordered);
           within = n.within;
           stored =
               shown hi' lo' t some (omega (arith, ints, p.magnitude, up.0)) up.1 up.2
-                  (omega (arith, ints, p.magnitude, at, down.0, middle_length (digits_of w) start end n, n.ordered))
-                  down.1 down.2;
+              (omega (arith, ints, p.magnitude, at, down.0, middle_length (digits_of w) start end n, n.ordered))
+              down.1 down.2;
           value = value_scaled ∙ (rw (s, z, a, b, c, d) (ap Ok tidy));
         }
 

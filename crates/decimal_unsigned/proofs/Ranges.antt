@@ -38,7 +38,7 @@ module _ {ds : List ℕ} {m hi lo : ℤ} (t : IsStored ds m hi lo) where
   is_last = record {
     divides = λ p.
         subst (λ k. number_of ds m % 10 ^ k ≡ 0) (sym (ends_at (some p)))
-            (mul-mod_left (number_from_digits 10 ds) (10 ^ (place m + 1 - length ds)));
+        (mul-mod_left (number_from_digits 10 ds) (10 ^ (place m + 1 - length ds)));
     highest = λ p k h.
         let s = some p in
         let b : 0 < number_from_digits 10 ds % 10 = rw (number_back ds t.digits s) (t.back s) in

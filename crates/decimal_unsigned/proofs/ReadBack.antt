@@ -43,9 +43,11 @@ low_digit x = mod-lt x (omega arith)
 
 places_digits : (number k n : ℕ) → AllDigits 10 (places number k n)
 places_digits number k zero = tt
-places_digits number k (suc n) =
-    (let l = low_digit (number / 10 ^ (k + n)) in
-     omega (arith, digit_byte (number / 10 ^ (k + n) % 10) l, l), places_digits number k n)
+places_digits number k (suc n) = (
+  let l = low_digit (number / 10 ^ (k + n)) in
+      omega (arith, digit_byte (number / 10 ^ (k + n) % 10) l, l),
+  places_digits number k n,
+)
 
 -- what they are worth
 places_worth : (number k n : ℕ) → digits_value 10 (places number k n) ≡ number / 10 ^ k % 10 ^ n
@@ -56,12 +58,16 @@ places_worth number k (suc n) =
     let e : digits_value 10 ((48 + d) ∷ cs) ≡ d * 10 ^ n + number / 10 ^ k % 10 ^ n =
     digits_value_is 10 ((48 + d) ∷ cs)
     ∙ after_is (0 * 10 + digit_value (48 + d)) (map digit_value cs)
-    ∙ (rw (← digits_value_is 10 cs, places_worth number k n, digit_byte d (low_digit (number / 10 ^ (k + n))),
-        length-map_places number k n) (omega arith)) in
+    ∙ (rw (
+      ← digits_value_is 10 cs,
+      places_worth number k n,
+      digit_byte d (low_digit (number / 10 ^ (k + n))),
+      length-map_places number k n,
+    ) (omega arith)) in
     let s : number / 10 ^ (k + n) ≡ number / 10 ^ k / 10 ^ n =
-        ap (λ x. number / x) (pow-add 10 k n) ∙ sym (div-div-eq-div-mul number (10 ^ k) (10 ^ n)) in
+    ap (λ x. number / x) (pow-add 10 k n) ∙ sym (div-div-eq-div-mul number (10 ^ k) (10 ^ n)) in
     let m : number / 10 ^ k % (10 * 10 ^ n) ≡ (number / 10 ^ k / 10 ^ n % 10) * 10 ^ n + number / 10 ^ k % 10 ^ n =
-        mod-mul (number / 10 ^ k) (omega arith) (ten_pos n) in
+    mod-mul (number / 10 ^ k) (omega arith) (ten_pos n) in
     let p : 10 * 10 ^ n ≡ 10 ^ suc n = omega (arith, pow-suc 10 n) in
     e ∙ ap (λ x. x % 10 * 10 ^ n + number / 10 ^ k % 10 ^ n) s ∙ sym m ∙ ap (λ x. number / 10 ^ k % x) p
 
@@ -92,7 +98,7 @@ text_above number base (suc m) n at =
     ap (text_down number (pos (suc m))) (let e : suc (suc m) + n ≡ suc (suc m + n) = omega arith in e)
     ∙ down-suc number (pos (suc m)) (suc m + n)
     ∙ (let s : pos (suc m) -ℤ pos 1 ≡ pos m = omega (arith, ints) in
-       λ i. (48 + number / 10 ^ (at (suc m) i) % 10) ∷ text_down number (s i) (suc m + n))
+    λ i. (48 + number / 10 ^ (at (suc m) i) % 10) ∷ text_down number (s i) (suc m + n))
     ∙ ap (λ l. (48 + number / 10 ^ (base + suc m) % 10) ∷ l) (text_above number base m n at)
 
 text_below : (number low k n : ℕ) → low + n + suc k ≡ 32768 → text_down number (negsuc (suc k)) n ≡ places number low n
@@ -118,7 +124,7 @@ written : ℕ → ℕ → ℕ → ℕ → ℕ → Written
 written number base low h b = record {
   whole = places number base (suc h);
   fraction = places number low b;
-  exponent = None
+  exponent = None;
 }
 
 module _ (number base low h b : ℕ) (is : base ≡ 32768) (split : low + b ≡ base) (high : h ≤ 32767) (few : b ≤ 32768)
@@ -131,12 +137,12 @@ module _ (number base low h b : ℕ) (is : base ≡ 32768) (split : low + b ≡ 
   worth : digits_value 10 (places number base (suc h) ++ places number low b) ≡ number / 10 ^ low
   worth =
       let l : number / 10 ^ low < 10 ^ (suc h + b) =
-          (div-lt_iff_lt-mul (ten_pos low)).1
-              (subst (λ x. number < x)
-                  (ap (λ k. 10 ^ k) (let k : base + (h + 1) ≡ suc h + b + low = omega arith in k)
-                      ∙ pow-add 10 (suc h + b) low) below) in
+      (div-lt_iff_lt-mul (ten_pos low)).1
+      (subst (λ x. number < x)
+      (ap (λ k. 10 ^ k) (let k : base + (h + 1) ≡ suc h + b + low = omega arith in k)
+      ∙ pow-add 10 (suc h + b) low) below) in
       ap (digits_value 10)
-          (ap (λ k. places number k (suc h) ++ places number low b) (sym split) ∙ places-append number low b (suc h))
+      (ap (λ k. places number k (suc h) ++ places number low b) (sym split) ∙ places-append number low b (suc h))
       ∙ places_worth number low (suc h + b)
       ∙ mod-eq_of_lt l
 
@@ -150,9 +156,9 @@ module _ (number base low h b : ℕ) (is : base ≡ 32768) (split : low + b ≡ 
       let t : nat_lt 32768 (length (places number low b)) ≡ false = grind (arith, nat_tests, q, few) in
       let low_is : 32768 - b ≡ low = omega arith in
       let n : digits_value 10 (places number base (suc h) ++ places number low b)
-              * 10 ^ (32768 - length (places number low b))
-              ≡ number =
-          rw (worth, q, low_is) cut in
+      * 10 ^ (32768 - length (places number low b))
+      ≡ number =
+      rw (worth, q, low_is) cut in
       let h_is : length (places number base (suc h)) - 1 ≡ h = omega (arith, p) in
       rw (s, t) (λ i. Ok (record { number = n i; hi = pos (h_is i); lo = pos 0 -ℤ pos (q i) }))
 
@@ -171,7 +177,7 @@ read_integer number base h is high below whole =
     ∙ ap (λ l. places number base (suc h) ++ l) (down-zero number (negsuc 0))
     ∙ append-nil (places number base (suc h)) in
     read_grammar (text_down number (pos h) (suc h)) (written number base base h 0)
-        (record { whole = places_digits number base (suc h); fraction = tt; form = integer (omega arith) refl refl t })
+    (record { whole = places_digits number base (suc h); fraction = tt; form = integer (omega arith) refl refl t })
     ∙ value_written number base base h 0 is (omega arith) high (omega arith) below whole
 
 -- shown below the dot
@@ -185,11 +191,11 @@ read_fraction number base low h b is split high below whole =
     ∙ ap (λ l. places number base (suc h) ++ l) (text_dot number low b (omega arith)) in
     let lo_is : pos 0 -ℤ pos (suc b) ≡ negsuc b = omega (arith, ints) in
     read_grammar (text_down number (pos h) (suc h + suc b)) (written number base low h (suc b))
-        (record {
-          whole = places_digits number base (suc h);
-          fraction = places_digits number low (suc b);
-          form = decimal (omega arith) refl t
-        })
+    (record {
+      whole = places_digits number base (suc h);
+      fraction = places_digits number low (suc b);
+      form = decimal (omega arith) refl t;
+    })
     ∙ value_written number base low h (suc b) is split high (omega arith) below whole
     ∙ (λ i. Ok (record { number = number; hi = pos h; lo = lo_is i }))
 
@@ -200,16 +206,16 @@ over_base number base (pos h) (pos (suc l)) is v = absurd (omega (arith, ints, v
 over_base number base (pos h) (pos zero) is v =
     ap (λ n. read (text_down number (pos h) n)) (let e : int_gap (pos 0) (pos h) + 1 ≡ suc h = omega (arith, ints) in e)
     ∙ read_integer number base h is (omega (arith, ints, v.hi_in))
-        (subst (λ k. number < 10 ^ k)
-            (let e : place (pos h) + 1 ≡ base + (h + 1) = omega (arith, place_is (pos h)) in e) v.below)
-        (subst (λ k. number % 10 ^ k ≡ 0) (let e : place (pos 0) ≡ base = omega (arith, place_is (pos 0)) in e) v.whole)
+    (subst (λ k. number < 10 ^ k)
+    (let e : place (pos h) + 1 ≡ base + (h + 1) = omega (arith, place_is (pos h)) in e) v.below)
+    (subst (λ k. number % 10 ^ k ≡ 0) (let e : place (pos 0) ≡ base = omega (arith, place_is (pos 0)) in e) v.whole)
 over_base number base (pos h) (negsuc l) is v =
     ap (λ n. read (text_down number (pos h) n))
-        (let e : int_gap (negsuc l) (pos h) + 1 ≡ suc h + suc l = omega (arith, ints) in e)
+    (let e : int_gap (negsuc l) (pos h) + 1 ≡ suc h + suc l = omega (arith, ints) in e)
     ∙ read_fraction number base (place (negsuc l)) h l is (omega (arith, ints, v.lo_in, place_is (negsuc l)))
-        (omega (arith, ints, v.hi_in))
-        (subst (λ k. number < 10 ^ k)
-            (let e : place (pos h) + 1 ≡ base + (h + 1) = omega (arith, place_is (pos h)) in e) v.below) v.whole
+    (omega (arith, ints, v.hi_in))
+    (subst (λ k. number < 10 ^ k)
+    (let e : place (pos h) + 1 ≡ base + (h + 1) = omega (arith, place_is (pos h)) in e) v.below) v.whole
 
 -- the text of a value is read as that value
 pub read_text : (v : Unsigned) → IsValue v → read (text v) ≡ Ok v

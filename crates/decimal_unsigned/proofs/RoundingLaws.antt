@@ -36,10 +36,11 @@ pub is_rounded : (v : Unsigned) (p : ℤ) (mode : UnsignedRoundingMode) (increme
 is_rounded v p mode increment valid e = record {
   valid = valid;
   value = e;
-  named =
-      (rounded_number mode (unit_at increment p) v.number,
-       rounded_number-named mode (unit_at increment p) v.number (unit_pos increment p),
-       e);
+  named = (
+    rounded_number mode (unit_at increment p) v.number,
+    rounded_number-named mode (unit_at increment p) v.number (unit_pos increment p),
+    e,
+  );
 }
 
 -- why the digits are left as they were is why the value is
@@ -72,7 +73,7 @@ rounded_again v w p mode increment e =
     elim (cases_lt m number_limit) [
       | inl h ↦
           subst (λ x. rounded x p mode increment ≡ Some x) (same_Some _ _ (sym (rounded_to-small v p m h) ∙ e))
-              (settled v p mode increment m h (rounded_number-again mode u v.number (unit_pos increment p)))
+          (settled v p mode increment m h (rounded_number-again mode u v.number (unit_pos increment p)))
       | inr h ↦ absurd (none-some w (sym (rounded_to-large v p m h) ∙ e))
     ]
 
@@ -83,7 +84,7 @@ coarser p q low h =
     let l : place p ≤ place q = place_le p q low (omega (arith, ints)) h in
     let k : place q ≡ (place q - place p) + place p = omega arith in
     let e : 10 ^ place q ≡ 10 ^ (place q - place p) * 10 ^ place p =
-        ap (λ k. 10 ^ k) k ∙ pow-add 10 (place q - place p) (place p) in
+    ap (λ k. 10 ^ k) k ∙ pow-add 10 (place q - place p) (place p) in
     omega (arith, e)
 
 -- rounding by the coarser unit after the finer one is rounding by the coarser one
@@ -120,15 +121,15 @@ module _ (mode : UnsignedRoundingMode) (n : ℕ) (absorbs : Absorbs mode n) wher
       let u = unit_at MultiplesOf1 q in
       let e = coarser q p low h in
       subst (λ k. rounded_number mode u (rounded_number mode k n) ≡ rounded_number mode k n) (sym e)
-          (rounded_number-finer u (10 ^ (place p - place q)) n (unit_pos MultiplesOf1 q)
-              (subst (λ k. 0 < k) e (unit_pos MultiplesOf1 p)) mode)
+      (rounded_number-finer u (10 ^ (place p - place q)) n (unit_pos MultiplesOf1 q)
+      (subst (λ k. 0 < k) e (unit_pos MultiplesOf1 p)) mode)
 
   twice_is : (p q : ℤ) → negsuc 32767 ≤ℤ p → negsuc 32767 ≤ℤ q → twice p q ≡ once (int_max p q)
   twice_is p q low low' =
       by_lt_z p q
-          (λ l. twice_up p q low (omega (arith, ints))
-              ∙ ap once (let e : q ≡ int_max p q = omega (arith, ints, clamps) in e))
-          (λ l. twice_down p q low' l ∙ ap once (let e : p ≡ int_max p q = omega (arith, ints, clamps) in e))
+      (λ l. twice_up p q low (omega (arith, ints))
+      ∙ ap once (let e : q ≡ int_max p q = omega (arith, ints, clamps) in e))
+      (λ l. twice_down p q low' l ∙ ap once (let e : p ≡ int_max p q = omega (arith, ints, clamps) in e))
 
 -- ---- Expanding again.
 
@@ -147,7 +148,7 @@ expanded_again v p low q low' =
     let n = rounded_number Expand (unit_at MultiplesOf1 p) v.number in
     let far = rounded_number Expand (unit_at MultiplesOf1 (int_max p q)) v.number in
     let same : rounded_number Expand (unit_at MultiplesOf1 q) n ≡ far =
-        twice_is Expand v.number (expand_absorbs v.number) p q low low' in
+    twice_is Expand v.number (expand_absorbs v.number) p q low low' in
     elim (cases_lt n number_limit) [
       | inl h ↦
           ap (λ o. number_of (option_and_then (λ w. expanded w q) o)) (rounded_to-small v p n h)
@@ -156,7 +157,7 @@ expanded_again v p low q low' =
           ∙ sym (number_of-rounded_to v (int_max p q) far)
       | inr h ↦
           let over : number_limit ≤ far =
-              omega (arith, h, same, le_expand (unit_at MultiplesOf1 q) n (unit_pos MultiplesOf1 q)) in
+          omega (arith, h, same, le_expand (unit_at MultiplesOf1 q) n (unit_pos MultiplesOf1 q)) in
           ap (λ o. number_of (option_and_then (λ w. expanded w q) o)) (rounded_to-large v p n h)
           ∙ sym (ap number_of (rounded_to-large v (int_max p q) far over))
     ]
@@ -182,7 +183,7 @@ module _ (v : Unsigned) (p : ℤ) (low : negsuc 32767 ≤ℤ p) (valid : IsValue
 
   twice_truncated : (q : ℤ)
       → truncated (truncated v p) q
-          ≡ with_number (with_number v p left) q (rounded_number Trunc (unit_at MultiplesOf1 q) left)
+      ≡ with_number (with_number v p left) q (rounded_number Trunc (unit_at MultiplesOf1 q) left)
   twice_truncated q = ap (λ w. truncated w q) once_truncated ∙ truncates (with_number v p left) q left_le
 
   truncated_above : (q : ℤ) → p ≤ℤ q → truncated (truncated v p) q ≡ truncated v q
@@ -190,12 +191,12 @@ module _ (v : Unsigned) (p : ℤ) (low : negsuc 32767 ≤ℤ p) (valid : IsValue
   truncated_above q h =
       let m = rounded_number Trunc (unit_at MultiplesOf1 q) v.number in
       let same : rounded_number Trunc (unit_at MultiplesOf1 q) left ≡ m =
-          twice_up Trunc v.number (trunc_absorbs v.number) p q low h in
+      twice_up Trunc v.number (trunc_absorbs v.number) p q low h in
       let f : first left ≤ℤ v.hi =
-          first_le left v.hi (omega (arith, left_le, valid.below)) valid.hi_in.0 valid.hi_in.1 in
+      first_le left v.hi (omega (arith, left_le, valid.below)) valid.hi_in.0 valid.hi_in.1 in
       let hi : int_max (int_max (int_max (int_max v.hi (p -ℤ pos 1)) (first left)) (q -ℤ pos 1)) (first m)
-              ≡ int_max (int_max v.hi (q -ℤ pos 1)) (first m) =
-          omega (arith, ints, clamps, f, h) in
+      ≡ int_max (int_max v.hi (q -ℤ pos 1)) (first m) =
+      omega (arith, ints, clamps, f, h) in
       twice_truncated q
       ∙ ap (with_number (with_number v p left) q) same
       ∙ (λ i. record { number = m; hi = hi i; lo = int_min q (pos 0) })
@@ -224,7 +225,7 @@ pub number-after_rounding : (v : Unsigned) (p : ℤ) (mode : UnsignedRoundingMod
     → (after_rounding v p mode increment).number ≡ standing mode (unit_at increment p) v.number
 number-after_rounding v p mode increment =
     at (reaches_limit (rounded_number mode (unit_at increment p) v.number))
-        (rounded_number mode (unit_at increment p) v.number)
+    (rounded_number mode (unit_at increment p) v.number)
   where
     at : (t : Bool) (n : ℕ)
         → (unwrap_or (if t then None else Some (with_number v p n)) v).number ≡ if t then v.number else n
@@ -254,8 +255,13 @@ module _ (mode : UnsignedRoundingMode) (u : ℕ) (pos_u : 0 < u) where
     | inr k ↦ elim (cases_lt (rounded_number mode u n) number_limit) [
       | inl h ↦ elim (cases_lt m (rounded_number mode u n)) [
         | inl g ↦
-            absurd (omega (arith, h, k, rounded_number-again mode u n pos_u,
-                rounded_number-monotone mode u m (rounded_number mode u n) pos_u (omega arith)))
+            absurd (omega (
+              arith,
+              h,
+              k,
+              rounded_number-again mode u n pos_u,
+              rounded_number-monotone mode u m (rounded_number mode u n) pos_u (omega arith),
+            ))
         | inr g ↦ omega (arith, g, standing-small n h, standing-large m k)
       ]
       | inr h ↦ omega (arith, l, standing-large n h, standing-large m k)
@@ -269,5 +275,9 @@ module _ (mode : UnsignedRoundingMode) (u : ℕ) (pos_u : 0 < u) where
 pub rounds_in_order : (v w : Unsigned) (p : ℤ) (mode : UnsignedRoundingMode) (increment : RoundingIncrement)
     → RoundsInOrder v w p mode increment
 rounds_in_order v w p mode increment l =
-    omega (arith, number-after_rounding v p mode increment, number-after_rounding w p mode increment,
-        standing-monotone mode (unit_at increment p) (unit_pos increment p) v.number w.number l)
+    omega (
+      arith,
+      number-after_rounding v p mode increment,
+      number-after_rounding w p mode increment,
+      standing-monotone mode (unit_at increment p) (unit_pos increment p) v.number w.number l,
+    )

@@ -44,7 +44,7 @@ pub trunc_makes : (v : Unsigned) (p : ℤ) (increment : RoundingIncrement) → v
 trunc_makes v p increment h =
     let u = unit_at increment p in
     rounded_to-small v p (rounded_number Trunc u v.number)
-        (omega (arith, h, trunc_le u v.number (unit_pos increment p)))
+    (omega (arith, h, trunc_le u v.number (unit_pos increment p)))
 
 -- no digits stand for 0, whose first magnitude is 0
 unspelled : {ds : List ℕ} {m : ℤ} {n : ℕ} → Spells ds m n → length ds ≡ 0 → m ≡ pos 0
@@ -89,9 +89,9 @@ module _ {ds : List ℕ} {m : ℤ} {n : ℕ} (s : Spells ds m n) (p : ℤ) (hi h
   rounded_left v e =
       let a : number_of ds m ≡ n = s.number in
       let b : hi' ≡ int_max (int_max v.hi (p -ℤ pos 1)) (first n) =
-          h
-          ∙ ap (λ x. int_max (int_max x (p -ℤ pos 1)) m) (sym e)
-          ∙ ap (int_max (int_max v.hi (p -ℤ pos 1))) (sym s.magnitude_is) in
+      h
+      ∙ ap (λ x. int_max (int_max x (p -ℤ pos 1)) m) (sym e)
+      ∙ ap (int_max (int_max v.hi (p -ℤ pos 1))) (sym s.magnitude_is) in
       rounded_to-small v p n s.below_limit ∙ sym (λ i. Some (record { number = a i; hi = b i; lo = o i }))
 
 -- a value's list and magnitude, as they are read again, give the number and its size

@@ -37,8 +37,20 @@ module _ {ds : List ℕ} {m hi lo d m' hi' lo' : ℤ} (t : IsStored ds m hi lo) 
       hi_covers = omega (arith, ints, clamps, t.hi_covers, t.lo_covers, s.hi_is);
       lo_covers = omega (arith, ints, clamps, t.lo_covers, t.hi_in, t.lo_in, s.lo_is);
       fits =
-          omega (arith, ints, clamps, t.fits, t.lo_covers, t.in_range, s.lo_is, s.lo_fits, place_is lo, place_is m,
-              place_is m', place_is lo');
+          omega (
+            arith,
+            ints,
+            clamps,
+            t.fits,
+            t.lo_covers,
+            t.in_range,
+            s.lo_is,
+            s.lo_fits,
+            place_is lo,
+            place_is m,
+            place_is m',
+            place_is lo',
+          );
       hi_in = omega (arith, ints, clamps, s.hi_is);
       lo_in = omega (arith, ints, clamps, s.lo_is);
       in_range = (omega (arith, ints, clamps, s.lo_is, s.lo_fits), omega (arith, ints, clamps, s.hi_is, s.hi_fits));
@@ -76,7 +88,7 @@ number_down ds m m' n h e =
 pub multiplied_is : {ds : List ℕ} {m hi lo m' hi' lo' : ℤ} (d : ℤ) → IsStored ds m hi lo
     → Moves ds m hi lo d m' hi' lo'
     → record { number = number_of ds m'; hi = hi'; lo = lo' }
-        ≡ multiplied (record { number = number_of ds m; hi = hi; lo = lo }) d
+    ≡ multiplied (record { number = number_of ds m; hi = hi; lo = lo }) d
 multiplied_is {ds} {m} {hi} {lo} {m'} {hi'} {lo'} (pos n) t s =
     let w = moved t s in
     let a : number_of ds m' ≡ number_of ds m * 10 ^ n = elim (cases_lt 0 (length ds)) [
@@ -92,7 +104,7 @@ multiplied_is {ds} {m} {hi} {lo} {m'} {hi'} {lo'} (negsuc n) t s =
     let a : number_of ds m' ≡ number_of ds m / 10 ^ suc n = elim (cases_lt 0 (length ds)) [
       | inl h ↦
           number_down ds m m' (suc n) (omega (arith, w.fits))
-              (omega (arith, ints, s.some h, place_is m, place_is m', lowest w, lowest t))
+          (omega (arith, ints, s.some h, place_is m, place_is m', lowest w, lowest t))
       | inr h ↦
           let z : length ds ≡ 0 = omega arith in
           rw (number_of-none w z, number_of-none t z) (sym (zero-div (10 ^ suc n)))
@@ -113,7 +125,7 @@ stays_in v d h l =
 pub shifted_is : {ds : List ℕ} {m hi lo m' hi' lo' : ℤ} (d : ℤ) → IsStored ds m hi lo
     → Moves ds m hi lo d m' hi' lo'
     → shifted (record { number = number_of ds m; hi = hi; lo = lo }) d
-        ≡ Some (record { number = number_of ds m'; hi = hi'; lo = lo' })
+    ≡ Some (record { number = number_of ds m'; hi = hi'; lo = lo' })
 shifted_is {ds} {m} {hi} {lo} d t s =
     let test = stays_in (record { number = number_of ds m; hi = hi; lo = lo }) d s.hi_fits s.lo_fits in
     rw test (ap Some (sym (multiplied_is d t s)))

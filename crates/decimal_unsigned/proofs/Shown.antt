@@ -21,13 +21,13 @@ value_of_stored {ds} {m} {hi} {lo} t = record {
   lo_in = (t.in_range.0, t.lo_in);
   below =
       let p : 10 ^ (place m + 1) ≤ 10 ^ (place hi + 1) =
-          pow-le-pow_right (omega arith) (omega (arith, ints, place_is m, place_is hi, t.hi_covers, lowest t)) in
+      pow-le-pow_right (omega arith) (omega (arith, ints, place_is m, place_is hi, t.hi_covers, lowest t)) in
       omega (arith, number_of-lt t);
   whole =
       let k : place m + 1 - length ds ≡ (place m + 1 - length ds - place lo) + place lo = omega (arith, t.fits) in
       let e : number_from_digits 10 ds * 10 ^ (place m + 1 - length ds)
-              ≡ (number_from_digits 10 ds * 10 ^ (place m + 1 - length ds - place lo)) * 10 ^ place lo =
-          ap (λ x. number_from_digits 10 ds * 10 ^ x) k ∙ (rw pow-add (omega arith)) in
+      ≡ (number_from_digits 10 ds * 10 ^ (place m + 1 - length ds - place lo)) * 10 ^ place lo =
+      ap (λ x. number_from_digits 10 ds * 10 ^ x) k ∙ (rw pow-add (omega arith)) in
       ap (λ x. x % 10 ^ place lo) e
       ∙ mul-mod_left (number_from_digits 10 ds * 10 ^ (place m + 1 - length ds - place lo)) (10 ^ place lo);
 }

@@ -99,12 +99,11 @@ down_ascii : (number : ℕ) (m : ℤ) (n : ℕ) → IsAscii (text_down number m 
 down_ascii number m zero = subst IsAscii (sym (text_down-zero number m)) IsAscii-nil
 down_ascii number m (suc n) =
     let d : digit number m < 10 = mod-lt (number / weight m) (omega arith) in
-    let one =
-        IsAscii-append (dot_before m) (byte number m ∷ []) (dot_ascii m)
-            (IsAscii-cons (byte number m) [] (omega arith) IsAscii-nil) in
+    let one = IsAscii-append (dot_before m) (byte number m ∷ []) (dot_ascii m)
+    (IsAscii-cons (byte number m) [] (omega arith) IsAscii-nil) in
     subst IsAscii (sym (text_down-suc number m n))
-        (IsAscii-append (dot_before m ++ byte number m ∷ []) (text_down number (m -ℤ pos 1) n) one
-            (down_ascii number (m -ℤ pos 1) n))
+    (IsAscii-append (dot_before m ++ byte number m ∷ []) (text_down number (m -ℤ pos 1) n) one
+    (down_ascii number (m -ℤ pos 1) n))
 
 -- the text of a value is ASCII
 pub text_ascii : (v : Unsigned) → IsAscii (text v)
@@ -121,7 +120,7 @@ module _ (v : Unsigned) (valid : IsValue v) where
       go (negsuc m) p = absurd (omega (arith, ints))
       go (pos m) p =
           down_above v.number m (int_gap v.lo (pos m) + 1) i (omega (arith, ints))
-              (omega (arith, ints, gap_is v.lo (pos m), valid.lo_in))
+          (omega (arith, ints, gap_is v.lo (pos m), valid.lo_in))
 
   -- the dot, where digits follow it
   pub text_dot : (i : ℕ) → pos i ≡ (v.hi +ℤ pos 1) → v.lo <ℤ pos 0 → get_or (text v) i 0 ≡ 46
@@ -133,7 +132,7 @@ module _ (v : Unsigned) (valid : IsValue v) where
       go (pos m) (pos k) h e l = absurd (omega (arith, ints))
       go (pos m) (negsuc k) h e l =
           down_past v.number m (int_gap (negsuc k) (pos m) + 1) (suc k) i 0
-              (omega (arith, ints, gap_is (negsuc k) (pos m))) (omega (arith, ints))
+          (omega (arith, ints, gap_is (negsuc k) (pos m))) (omega (arith, ints))
           ∙ down_dot v.number (suc k) (omega arith)
 
   -- the bytes of the digits below it
@@ -147,7 +146,7 @@ module _ (v : Unsigned) (valid : IsValue v) where
       go (pos m) (pos k) h e l = absurd (omega (arith, ints))
       go (pos m) (negsuc k) h e l =
           down_past v.number m (int_gap (negsuc k) (pos m) + 1) (suc k) i (suc j)
-              (omega (arith, ints, gap_is (negsuc k) (pos m))) (omega (arith, ints))
+          (omega (arith, ints, gap_is (negsuc k) (pos m))) (omega (arith, ints))
           ∙ down_behind v.number (suc k) j (omega (arith, ints))
 
   -- a text that goes on past magnitude 0 goes on behind a dot
@@ -155,5 +154,10 @@ module _ (v : Unsigned) (valid : IsValue v) where
       → (v.lo <ℤ pos 0) × (i ≤ int_gap v.lo v.hi + 2)
   text_dotted i h l =
       by_lt_z v.lo (pos 0) (λ below. (below, omega (arith, length-text_dotted v valid.hi_in.0 below)))
-          (λ above. absurd (omega (arith, ints, gap_is v.lo v.hi, valid.lo_in,
-              length-text_whole v valid.hi_in.0 (omega (arith, ints, valid.lo_in)))))
+      (λ above. absurd (omega (
+        arith,
+        ints,
+        gap_is v.lo v.hi,
+        valid.lo_in,
+        length-text_whole v valid.hi_in.0 (omega (arith, ints, valid.lo_in)),
+      )))

@@ -47,7 +47,7 @@ module _ {ds es : List ℕ} {m n hi lo hi' lo' : ℤ} (t : IsStored ds m hi lo) 
       let p : (m -ℤ pos i) +ℤ pos i ≡ m = omega (arith, ints) in
       let q : (m -ℤ pos i) +ℤ pos i ≡ n = omega (arith, ints, m') in
       let b : negsuc 32767 ≤ℤ (m -ℤ pos i) =
-          omega (arith, ints, t.fits, place_is m, place_is lo, t.in_range, lowest t) in
+      omega (arith, ints, t.fits, place_is m, place_is lo, t.in_range, lowest t) in
       sym (digit-number_of-in t (m -ℤ pos i) i p b h)
       ∙ ap (λ x. digit x (m -ℤ pos i)) e
       ∙ digit-number_of-in u (m -ℤ pos i) i q b k)
@@ -59,7 +59,7 @@ same_is v w h = grind (arith, nat_tests, h)
 same_equiv : IsEquivalence same
 same_equiv =
     and_equiv (on_equiv (λ (v : Unsigned). v.number) nat_eq_equiv)
-        (and_equiv (on_equiv (λ (v : Unsigned). v.hi) int_eq_equiv) (on_equiv (λ (v : Unsigned). v.lo) int_eq_equiv))
+    (and_equiv (on_equiv (λ (v : Unsigned). v.hi) int_eq_equiv) (on_equiv (λ (v : Unsigned). v.lo) int_eq_equiv))
 
 -- equal values pass the test
 pub is_same : (v w : Unsigned) → v ≡ w → same v w ≡ true
@@ -69,7 +69,7 @@ is_same v w e = subst (λ u. same v u ≡ true) e (same_equiv.refl v)
 pub not_same : (v w : Unsigned) → ¬ (v ≡ w) → same v w ≡ false
 not_same v w n =
     elim (same v w) as (λ b. same v w ≡ b → b ≡ false) [ true ↦ λ e. absurd (n (same_is v w e)) | false ↦ λ e. refl ]
-        refl
+    refl
 
 -- equal texts are those of equal values
 text_same : (v w : Unsigned) → IsValue v → IsValue w → text v ≡ text w → v ≡ w

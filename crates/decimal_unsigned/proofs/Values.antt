@@ -29,10 +29,10 @@ module _ {ds : List ℕ} {m hi lo : ℤ} (t : IsStored ds m hi lo) where
   number_of-lt =
       let n : number_from_digits 10 ds < 10 ^ length ds = number_lt 10 ds t.digits in
       let below : number_from_digits 10 ds * 10 ^ ends ds m < 10 ^ length ds * 10 ^ ends ds m =
-          mul-lt-mul_of_pos_right n (ten_pos (ends ds m)) in
+      mul-lt-mul_of_pos_right n (ten_pos (ends ds m)) in
       let split : 10 ^ (place m + 1) ≡ 10 ^ length ds * 10 ^ ends ds m =
-          ap (λ n. 10 ^ n) (let k : place m + 1 ≡ length ds + ends ds m = omega (arith, t.fits) in k)
-          ∙ pow-add 10 (length ds) (ends ds m) in
+      ap (λ n. 10 ^ n) (let k : place m + 1 ≡ length ds + ends ds m = omega (arith, t.fits) in k)
+      ∙ pow-add 10 (length ds) (ends ds m) in
       rw split below
 
   -- a 1 at the first digit is at most the number
@@ -41,10 +41,10 @@ module _ {ds : List ℕ} {m hi lo : ℤ} (t : IsStored ds m hi lo) where
   number_of-ge h =
       let n : 10 ^ (length ds - 1) ≤ number_from_digits 10 ds = number_front ds h (t.front h) in
       let above : 10 ^ (length ds - 1) * 10 ^ ends ds m ≤ number_from_digits 10 ds * 10 ^ ends ds m =
-          mul-le-mul_right (10 ^ ends ds m) n in
+      mul-le-mul_right (10 ^ ends ds m) n in
       let split : 10 ^ place m ≡ 10 ^ (length ds - 1) * 10 ^ ends ds m =
-          ap (λ n. 10 ^ n) (let k : place m ≡ length ds - 1 + ends ds m = omega (arith, t.fits) in k)
-          ∙ pow-add 10 (length ds - 1) (ends ds m) in
+      ap (λ n. 10 ^ n) (let k : place m ≡ length ds - 1 + ends ds m = omega (arith, t.fits) in k)
+      ∙ pow-add 10 (length ds - 1) (ends ds m) in
       rw split above
 
   -- a number with digits is not 0
@@ -91,8 +91,8 @@ module _ {ds : List ℕ} {m hi lo : ℤ} (t : IsStored ds m hi lo) where
       let p : place q + i ≡ place m = omega (arith, ints, place_is m, place_is q, lowest) in
       let k : place q - ends ds m ≡ length ds - (i + 1) = omega (arith, t.fits) in
       ap (λ x. x % 10)
-          (shift_down (number_from_digits 10 ds) (ends ds m) (place q) (omega (arith, t.fits))
-              ∙ ap (λ n. number_from_digits 10 ds / 10 ^ n) k)
+      (shift_down (number_from_digits 10 ds) (ends ds m) (place q) (omega (arith, t.fits))
+      ∙ ap (λ n. number_from_digits 10 ds / 10 ^ n) k)
       ∙ number-digit i ds t.digits h
 
   -- below the last digit there are zeros
@@ -101,7 +101,7 @@ module _ {ds : List ℕ} {m hi lo : ℤ} (t : IsStored ds m hi lo) where
   unfolding number_of number_at
   digit-number_of-below q i e l h =
       digit_below (number_from_digits 10 ds) (ends ds m) (place q)
-          (omega (arith, ints, place_is m, place_is q, lowest, t.fits))
+      (omega (arith, ints, place_is m, place_is q, lowest, t.fits))
 
   -- the magnitude of the first digit, of 0 too
   pub first_of : first (number_of ds m) ≡ m

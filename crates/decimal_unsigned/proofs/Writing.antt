@@ -24,15 +24,15 @@ text_down-zero number m = refl
 -- the first of the magnitudes from i below the highest
 pub text_down-step : (number : ℕ) (hi : ℤ) (count i : ℕ) → i < count
     → text_down number (hi -ℤ pos i) (count - i)
-        ≡ (dot_before (hi -ℤ pos i) ++ (48 + digit number (hi -ℤ pos i)) ∷ [])
-            ++ text_down number (hi -ℤ pos (i + 1)) (count - (i + 1))
+    ≡ (dot_before (hi -ℤ pos i) ++ (48 + digit number (hi -ℤ pos i)) ∷ [])
+    ++ text_down number (hi -ℤ pos (i + 1)) (count - (i + 1))
 text_down-step number hi count i h =
     let n : count - i ≡ suc (count - (i + 1)) = omega arith in
     let m : (hi -ℤ pos i) -ℤ pos 1 ≡ hi -ℤ pos (i + 1) = omega (arith, ints) in
     ap (text_down number (hi -ℤ pos i)) n
     ∙ text_down-suc number (hi -ℤ pos i) (count - (i + 1))
     ∙ ap (λ k. (dot_before (hi -ℤ pos i) ++ (48 + digit number (hi -ℤ pos i)) ∷ [])
-            ++ text_down number k (count - (i + 1))) m
+    ++ text_down number k (count - (i + 1))) m
 
 -- and none
 pub text_down-end : (number : ℕ) (hi : ℤ) (count i : ℕ) → count ≤ i → text_down number (hi -ℤ pos i) (count - i) ≡ []

@@ -98,18 +98,21 @@ pub compact_reads_back : (v : Compact) → IsValue v.significand.absolute → v.
     → read_compact (compact_text v) ≡ Ok v
 compact_reads_back v h l =
     ap (λ r. and_then r read_parts)
-        (cut_is (compact_text v) (decimal_text v.significand) (exponent_part v.exponent) plain
-            (record {
-              is = ap (λ t. decimal_text v.significand ++ t) (exponent_is v.exponent);
-              first = decimal_text-lacks _ c-none v.significand
-            }))
+    (cut_is (compact_text v) (decimal_text v.significand) (exponent_part v.exponent) plain
+    (record {
+      is = ap (λ t. decimal_text v.significand ++ t) (exponent_is v.exponent);
+      first = decimal_text-lacks _ c-none v.significand;
+    }))
     ∙ (rw (read_decimal_text v.significand h, exponent_again v.exponent l) refl)
   where
     plain : list_any is_letter (compact_text v) ≡ false
     plain =
         list_any-append is_letter (decimal_text v.significand) (exponent_text v.exponent)
-        ∙ (rw (decimal_text-lacks is_letter letter-none v.significand, exponent_is v.exponent,
-            exponent-plain v.exponent l) refl)
+        ∙ (rw (
+          decimal_text-lacks is_letter letter-none v.significand,
+          exponent_is v.exponent,
+          exponent-plain v.exponent l,
+        ) refl)
 
 -- nothing is a beginning
 pub keeps_part : (a b : Option (List ℕ)) (xs : List ℕ) → Keeps a b → AppendsBeginning a b xs

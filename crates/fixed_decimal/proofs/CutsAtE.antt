@@ -35,7 +35,7 @@ pub second_e_uncut : (text front : List ℕ) (behind : List ℕ) → IsFirstCut 
     → cut_at_e text ≡ Err syntax
 second_e_uncut text front behind c h =
     let n : count_by is_small_e text ≡ 1 + count_by is_small_e behind =
-        ap (count_by is_small_e) c.is ∙ count-at is_small_e front 101 behind c.lacks refl in
+    ap (count_by is_small_e) c.is ∙ count-at is_small_e front 101 behind c.lacks refl in
     let more = count-some is_small_e behind h in
     let e : (count_by is_small_e text == 1) ≡ false = grind (arith, nat_tests, n, more) in
     other_count_uncut text e
@@ -47,7 +47,7 @@ pub one_e_cut : (text front behind : List ℕ) → list_any is_capital_e text �
 unfolding cut_at_e
 one_e_cut text front behind k c h =
     let n : count_by is_small_e text ≡ 1 + count_by is_small_e behind =
-        ap (count_by is_small_e) c.is ∙ count-at is_small_e front 101 behind c.lacks refl in
+    ap (count_by is_small_e) c.is ∙ count-at is_small_e front 101 behind c.lacks refl in
     let none = count-none is_small_e behind h in
     let e : (count_by is_small_e text == 1) ≡ true = grind (arith, nat_tests, n, none) in
     let f = ap (before_first is_small_e) c.is ∙ front-at is_small_e front 101 behind c.lacks refl in
@@ -69,7 +69,7 @@ cut_is text front behind c =
     let f = lacks_e front c.plain_significand in
     let b = lacks_e behind c.plain_exponent in
     let k : list_any is_capital_e text ≡ false =
-        ap (list_any is_capital_e) c.is ∙ list_any-append is_capital_e front (101 ∷ behind) ∙ (rw (f.1, b.1) refl) in
+    ap (list_any is_capital_e) c.is ∙ list_any-append is_capital_e front (101 ∷ behind) ∙ (rw (f.1, b.1) refl) in
     one_e_cut text front behind k (record { is = c.is; passes = refl; lacks = f.0 }) b.0
 
 -- a text with neither e nor E has no letter
@@ -77,9 +77,8 @@ pub lacks_letter : (text : List ℕ) → list_any is_small_e text ≡ false → 
     → list_any is_letter text ≡ false
 lacks_letter [] h k = refl
 lacks_letter (c ∷ text) h k =
-    let more =
-        lacks_letter text (or-right (c == 101) (list_any is_small_e text) h)
-            (or-right (c == 69) (list_any is_capital_e text) k) in
+    let more = lacks_letter text (or-right (c == 101) (list_any is_small_e text) h)
+    (or-right (c == 69) (list_any is_capital_e text) k) in
     rw (or-left (c == 101) (list_any is_small_e text) h, or-left (c == 69) (list_any is_capital_e text) k) more
 
 -- where no two parts are those of a cut at e, the text is refused
@@ -92,20 +91,20 @@ uncut_is text n = capitals (list_any is_capital_e text) refl
     seconds k a b c true e = second_e_uncut text a b c e
     seconds k a b c false e =
         let parts : (list_any is_capital_e a || list_any is_capital_e b) ≡ false =
-            sym (list_any-append is_capital_e a (101 ∷ b)) ∙ ap (list_any is_capital_e) (sym c.is) ∙ k in
+        sym (list_any-append is_capital_e a (101 ∷ b)) ∙ ap (list_any is_capital_e) (sym c.is) ∙ k in
         absurd (n a b
-            (record {
-              is = c.is;
-              plain_significand = lacks_letter a c.lacks (or-left _ _ parts);
-              plain_exponent = lacks_letter b e (or-right _ _ parts)
-            }))
+        (record {
+          is = c.is;
+          plain_significand = lacks_letter a c.lacks (or-left _ _ parts);
+          plain_exponent = lacks_letter b e (or-right _ _ parts);
+        }))
 
     smalls : list_any is_capital_e text ≡ false → (s : Bool) → list_any is_small_e text ≡ s → cut_at_e text ≡ Err syntax
     smalls k false e = without_e_uncut text e
     smalls k true e =
         let m = first-cut is_small_e text e in
         let c : IsFirstCut is_small_e text m.0 101 m.2 =
-            subst (λ c. IsFirstCut is_small_e text m.0 c m.2) (eqb-true m.1 101 m.3.passes) m.3 in
+        subst (λ c. IsFirstCut is_small_e text m.0 c m.2) (eqb-true m.1 101 m.3.passes) m.3 in
         seconds k m.0 m.2 c (list_any is_small_e m.2) refl
 
     capitals : (s : Bool) → list_any is_capital_e text ≡ s → cut_at_e text ≡ Err syntax
@@ -116,7 +115,7 @@ uncut_is text n = capitals (list_any is_capital_e text) refl
 pub scientific_reads : (text : List ℕ) → ReadsScientific text (read_scientific text)
 scientific_reads text = record {
   cut = λ a b c. ap (λ r. and_then r read_parts) (cut_is text a b c);
-  uncut = λ n. ap (λ r. and_then r read_parts) (uncut_is text n)
+  uncut = λ n. ap (λ r. and_then r read_parts) (uncut_is text n);
 }
 
 -- when a text is cut at e, and when it is refused

@@ -41,8 +41,12 @@ text_down-lacks p h number m (suc n) =
     let d = h.digits (48 + digit number m) (omega arith) (digit-byte number m) in
     ap (list_any p) (text_down-suc number m n)
     ∙ list_any-append p (dot_before m ++ (48 + digit number m) ∷ []) (text_down number (m -ℤ pos 1) n)
-    ∙ (rw (list_any-append p (dot_before m) ((48 + digit number m) ∷ []), dot-lacks p h m, d,
-        text_down-lacks p h number (m -ℤ pos 1) n) refl)
+    ∙ (rw (
+      list_any-append p (dot_before m) ((48 + digit number m) ∷ []),
+      dot-lacks p h m,
+      d,
+      text_down-lacks p h number (m -ℤ pos 1) n,
+    ) refl)
 
 -- the text of a decimal is made of digits, a dot and a sign
 pub decimal_text-lacks : (p : ℕ → Bool) → PassesNone p → (v : Decimal) → list_any p (decimal_text v) ≡ false
@@ -50,11 +54,11 @@ decimal_text-lacks p h v =
     let t = text_down-lacks p h v.absolute.number v.absolute.hi (int_gap v.absolute.lo v.absolute.hi + 1) in
     list_any-append p (sign_text v.sign) (text v.absolute)
     ∙ (rw t
-        (elim v.sign as (λ s. (list_any p (sign_text s) || false) ≡ false) [
-          | sign.None ↦ refl
-          | sign.Negative ↦ rw h.minus refl
-          | sign.Positive ↦ rw h.plus refl
-        ]))
+    (elim v.sign as (λ s. (list_any p (sign_text s) || false) ≡ false) [
+      | sign.None ↦ refl
+      | sign.Negative ↦ rw h.minus refl
+      | sign.Positive ↦ rw h.plus refl
+    ]))
 
 -- the test for e passes no digit, no dot and no sign
 pub small_e-none : PassesNone is_small_e
@@ -81,5 +85,10 @@ whole_gap lo (negsuc b) e r s = absurd (omega (arith, ints))
 pub length-integer_most : (v : Decimal) → IsValue v.absolute → v.absolute.lo ≡ pos 0 → length (decimal_text v) ≤ 32769
 length-integer_most v h e =
     let g : int_gap v.absolute.lo v.absolute.hi ≤ 32767 = whole_gap v.absolute.lo v.absolute.hi e h.hi_in.0 h.hi_in.1 in
-    omega (arith, length-append (sign_text v.sign) (text v.absolute), sign_text_short v.sign,
-        length-text_whole v.absolute h.hi_in.0 e, g)
+    omega (
+      arith,
+      length-append (sign_text v.sign) (text v.absolute),
+      sign_text_short v.sign,
+      length-text_whole v.absolute h.hi_in.0 e,
+      g,
+    )

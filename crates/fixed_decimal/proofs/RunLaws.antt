@@ -42,7 +42,7 @@ module _ (mode : UnsignedRoundingMode) where
   by_number q a =
       let m = rounded_number mode (unit_at MultiplesOf1 q) a.number in
       elim (reaches_limit m) as
-          (λ b. number_of (if b then None else Some (with_number a q m)) ≡ (if b then None else Some m)) [
+      (λ b. number_of (if b then None else Some (with_number a q m)) ≡ (if b then None else Some m)) [
         | true ↦ refl
         | false ↦ refl
       ]
@@ -109,15 +109,15 @@ module _ (mode : UnsignedRoundingMode) (v : Decimal) where
         let greater : IsPosition (int_max p q) = omega (arith, ints, clamps) in
         let rest = All-tail IsPosition q qs all in
         let made : number_of (after mode q w.absolute) ≡ number_of (once (int_max p q)) =
-            by_number mode q w.absolute
-            ∙ by_number_of mode q w.absolute.number (once p) n
-            ∙ absorbs p q l (All-head IsPosition q qs all) in
+        by_number mode q w.absolute
+        ∙ by_number_of mode q w.absolute.number (once p) n
+        ∙ absorbs p q l (All-head IsPosition q qs all) in
         elim (after mode q w.absolute) as
-            (λ o. number_of o ≡ number_of (once (int_max p q))
-                → ComesTo
-                    (and_then (or_overflow at (with_absolute w o))
-                        (λ u. after_calls (at + 1) u (map (rounding_at mode) qs)))
-                    (with_absolute v (once (fold int_max (int_max p q) qs)))) [
+        (λ o. number_of o ≡ number_of (once (int_max p q))
+        → ComesTo
+        (and_then (or_overflow at (with_absolute w o))
+        (λ u. after_calls (at + 1) u (map (rounding_at mode) qs)))
+        (with_absolute v (once (fold int_max (int_max p q) qs)))) [
           | Some a ↦ λ e. others_make_once (record w { absolute = a }) (int_max p q) qs e s greater rest (at + 1)
           | None ↦ λ e. nowhere at (once (fold int_max (int_max p q) qs)) (still_none (int_max p q) qs e greater rest)
         ] made
@@ -129,11 +129,11 @@ module _ (mode : UnsignedRoundingMode) (v : Decimal) where
         let low = All-head IsPosition p others all in
         let rest = All-tail IsPosition p others all in
         elim (once p) as
-            (λ o. o ≡ once p
-                → ComesTo
-                    (and_then (or_overflow at (with_absolute v o))
-                        (λ u. after_calls (at + 1) u (map (rounding_at mode) others)))
-                    (with_absolute v (once (fold int_max p others)))) [
+        (λ o. o ≡ once p
+        → ComesTo
+        (and_then (or_overflow at (with_absolute v o))
+        (λ u. after_calls (at + 1) u (map (rounding_at mode) others)))
+        (with_absolute v (once (fold int_max p others)))) [
           | Some a ↦ λ e. others_make_once (record v { absolute = a }) p others (ap number_of e) refl low rest (at + 1)
           | None ↦ λ e. nowhere at (once (fold int_max p others)) (still_none p others (ap number_of e) low rest)
         ] refl
@@ -148,15 +148,15 @@ module _ (v : Decimal) (valid : IsValue v.absolute) where
       let m = rounded_number Trunc (unit_at MultiplesOf1 p) a.number in
       let t = with_number a p m in
       let k : m < number_limit =
-          omega (arith, below_limit a p valid, trunc_le (unit_at MultiplesOf1 p) a.number (unit_pos MultiplesOf1 p)) in
+      omega (arith, below_limit a p valid, trunc_le (unit_at MultiplesOf1 p) a.number (unit_pos MultiplesOf1 p)) in
       let first = trunc_makes a p MultiplesOf1 (below_limit a p valid) in
       let second = trunc_makes t q MultiplesOf1 k in
       let third = trunc_makes a (int_max p q) MultiplesOf1 (below_limit a p valid) in
       let again = (truncated_again a p l valid).number q l' in
       let x : (truncated (truncated a p) q).number ≡ rounded_number Trunc (unit_at MultiplesOf1 q) m =
-          ap (λ o. (truncated (unwrap_or o a) q).number) first ∙ ap (λ o. (unwrap_or o t).number) second in
+      ap (λ o. (truncated (unwrap_or o a) q).number) first ∙ ap (λ o. (unwrap_or o t).number) second in
       let y : (truncated a (int_max p q)).number ≡ rounded_number Trunc (unit_at MultiplesOf1 (int_max p q)) a.number =
-          ap (λ o. (unwrap_or o a).number) third in
+      ap (λ o. (unwrap_or o a).number) third in
       ap (λ o. number_of (option_and_then (after Trunc q) o)) first
       ∙ ap number_of second
       ∙ ap Some (sym x ∙ again ∙ y)

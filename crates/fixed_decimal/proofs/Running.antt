@@ -24,13 +24,13 @@ after_calls-snoc : (at : ℕ) (v : Decimal) (xs : List Call) (x : Call)
 after_calls-snoc at v [] x = and_then-Ok (step at v x) ∙ ap (λ k. step k v x) (let e : at ≡ at + 0 = omega arith in e)
 after_calls-snoc at v (y ∷ ys) x = elim (step at v y) as
     (λ r. and_then r (λ w. after_calls (at + 1) w (ys ++ x ∷ []))
-        ≡ and_then (and_then r (λ w. after_calls (at + 1) w ys)) (λ w. step (at + suc (length ys)) w x)) [
-  | Ok w ↦
-      after_calls-snoc (at + 1) w ys x
-      ∙ ap (λ k. and_then (after_calls (at + 1) w ys) (λ u. step k u x))
+    ≡ and_then (and_then r (λ w. after_calls (at + 1) w ys)) (λ w. step (at + suc (length ys)) w x)) [
+      | Ok w ↦
+          after_calls-snoc (at + 1) w ys x
+          ∙ ap (λ k. and_then (after_calls (at + 1) w ys) (λ u. step k u x))
           (let e : at + 1 + length ys ≡ at + suc (length ys) = omega arith in e)
-  | Err e ↦ refl
-]
+      | Err e ↦ refl
+    ]
 
 -- so many of the calls made v of the first value, and the others make of it what all make of the first one
 pub record IsAt (first : Decimal) (calls : List Call) (at : ℕ) (v : Decimal) : Type 0 where

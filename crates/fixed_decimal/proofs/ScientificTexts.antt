@@ -16,10 +16,10 @@ pub scientific_reads_back : (v : Scientific) → IsValue v.significand.absolute 
     → read_scientific (scientific_text v) ≡ Ok v
 scientific_reads_back v h k e =
     ap (λ r. and_then r read_parts)
-        (cut_is (scientific_text v) (decimal_text v.significand) (decimal_text v.exponent)
-            (record {
-              is = refl;
-              plain_significand = decimal_text-lacks _ letter-none v.significand;
-              plain_exponent = decimal_text-lacks _ letter-none v.exponent
-            }))
+    (cut_is (scientific_text v) (decimal_text v.significand) (decimal_text v.exponent)
+    (record {
+      is = refl;
+      plain_significand = decimal_text-lacks _ letter-none v.significand;
+      plain_exponent = decimal_text-lacks _ letter-none v.exponent;
+    }))
     ∙ (rw (read_decimal_text v.significand h, integer_reads_back v.exponent k e) refl)

@@ -32,7 +32,7 @@ hundred =
 far : 10 ^ 31 * cent < weight (pos 32768)
 far =
     let k : 32 + place (negsuc 1) ≤ place (pos 32768) =
-        omega (arith, ints, place_is (pos 32768), place_is (negsuc 1)) in
+    omega (arith, ints, place_is (pos 32768), place_is (negsuc 1)) in
     let m : 10 ^ (32 + place (negsuc 1)) ≤ weight (pos 32768) = pow-le-pow_right (omega arith) k in
     let e : 10 ^ (32 + place (negsuc 1)) ≡ 10 ^ 32 * cent = pow-add 10 32 (place (negsuc 1)) in
     omega (arith, m, e, ten_pos (place (negsuc 1)))
@@ -48,11 +48,11 @@ module _ (n : ℕ) (small : n < 2 ^ 96) where
   shift_fits : leaves_limits (integer_value n) (negsuc 3) ≡ false
   shift_fits =
       let k : place (pos 32768) ≡ place (pos 32767) + 1 =
-          omega (arith, ints, place_is (pos 32768), place_is (pos 32767)) in
+      omega (arith, ints, place_is (pos 32768), place_is (pos 32767)) in
       let e : weight (pos 32768) ≡ 10 ^ (place (pos 32767) + 1) = ap (λ k. 10 ^ k) k in
       let top : first (n * weight (pos 0)) ≤ℤ pos 32767 =
-          first_le (n * weight (pos 0)) (pos 32767) (omega (arith, few, far, e)) (omega (arith, ints))
-              (omega (arith, ints)) in
+      first_le (n * weight (pos 0)) (pos 32767) (omega (arith, few, far, e)) (omega (arith, ints))
+      (omega (arith, ints)) in
       stays_in (integer_value n) (negsuc 3) (omega (arith, ints, top)) (omega (arith, ints))
 
   -- a number of no more units is rounded to a cent below the limit

@@ -14,7 +14,7 @@ pub returns-then-len-eq0-clause-spells : goal.returns-then-len-eq0-clause-spells
 returns-then-len-eq0-clause-spells g c =
     let ds = g.D.DigitStore.digits c.args.counted.now.list.now in
     spells_none ds _ (omega arith)
-        (ap (λ n. n * weight c.args.position) (number_at-none c.args.places ds (omega arith)) ∙ omega arith)
+    (ap (λ n. n * weight c.args.position) (number_at-none c.args.places ds (omega arith)) ∙ omega arith)
 
 pub returns-else-len-eq0-clause-spells : goal.returns-else-len-eq0-clause-spells
 returns-else-len-eq0-clause-spells g c =
@@ -29,10 +29,10 @@ returns-else-len-eq0-clause-spells g c =
     let low_p : negsuc 32767 ≤ℤ c.args.position = omega (arith, ints) in
     let within : length ds ≤ place m + 1 = omega (arith, ints, c.requires.fits, place_is m, place_is c.args.position) in
     let whole =
-        spells m ds low high (recursion_from_All _ _ (g.met.D.DigitStore.are_digits list)) within c.requires.stripped
-            (omega arith) in
+    spells m ds low high (recursion_from_All _ _ (g.met.D.DigitStore.are_digits list)) within c.requires.stripped
+    (omega arith) in
     simp to_z-of_z
-        (subst (λ n. Spells ds m n) (number_up c.args.position c.args.places ds low_p c.requires.fits m low at) whole)
+    (subst (λ n. Spells ds m n) (number_up c.args.position c.args.places ds low_p c.requires.fits m low at) whole)
 
 pub returns-else-len-eq0-clause-above : goal.returns-else-len-eq0-clause-above
 returns-else-len-eq0-clause-above g c some =

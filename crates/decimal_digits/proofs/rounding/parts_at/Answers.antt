@@ -10,8 +10,8 @@ returns-in-Some-clause-parts g c =
     let m = c.ranges.magnitude in let p = c.ranges.position in
     let places = simp to_z-of_z at c.in-Some.ensures.some in
     parts_above c.args.magnitude c.args.position c.in-Some.keep c.tail_after.result
-        (g.D.DigitStore.digits c.args.counted.now.list.now) (omega (arith, ints)) (omega (arith, ints)) c.requires.fits
-        places c.tail_after.ensures.tail
+    (g.D.DigitStore.digits c.args.counted.now.list.now) (omega (arith, ints)) (omega (arith, ints)) c.requires.fits
+    places c.tail_after.ensures.tail
 
 pub returns-in-Some-clause-below_limit : goal.returns-in-Some-clause-below_limit
 returns-in-Some-clause-below_limit g c some =
@@ -25,5 +25,5 @@ returns-in-None-clause-parts g c =
     let above = simp to_z-of_z at c.in-None.ensures.none in
     let list = c.args.counted.now.list.now in
     parts_below c.args.magnitude c.args.position (g.D.DigitStore.digits list) (omega (arith, ints))
-        (recursion_from_All _ _ (g.met.D.DigitStore.are_digits list)) c.requires.some
-        (c.requires.stripped.back c.requires.some) c.requires.fits above
+    (recursion_from_All _ _ (g.met.D.DigitStore.are_digits list)) c.requires.some
+    (c.requires.stripped.back c.requires.some) c.requires.fits above

@@ -19,17 +19,17 @@ use Rattle.decimal_digits.proofs.rounding.round.Goals as goal
 pub returns-then-len-eq0-clause-named : goal.returns-then-len-eq0-clause-named
 returns-then-len-eq0-clause-named g c =
     rounded_number-named c.args.mode (unit_at c.args.increment c.args.position) _
-        (unit_pos c.args.increment c.args.position)
+    (unit_pos c.args.increment c.args.position)
 
 pub returns-in_err-places-clause-named : goal.returns-in_err-places-clause-named
 returns-in_err-places-clause-named g c =
     rounded_number-named c.args.mode (unit_at c.args.increment c.args.position) _
-        (unit_pos c.args.increment c.args.position)
+    (unit_pos c.args.increment c.args.position)
 
 pub returns-clause-named : goal.returns-clause-named
 returns-clause-named g c =
     rounded_number-named c.args.mode (unit_at c.args.increment c.args.position) _
-        (unit_pos c.args.increment c.args.position)
+    (unit_pos c.args.increment c.args.position)
 
 pub returns-then-len-eq0-clause-ok : goal.returns-then-len-eq0-clause-ok
 returns-then-len-eq0-clause-ok g c =
@@ -37,8 +37,8 @@ returns-then-len-eq0-clause-ok g c =
     let none : length ds ≡ 0 = omega arith in
     let u = unit_at c.args.increment c.args.position in
     spells_none ds _ none
-        (ap (rounded_number c.args.mode u) (number_of-none ds c.args.magnitude none)
-            ∙ rounded_number-zero c.args.mode u (unit_pos c.args.increment c.args.position))
+    (ap (rounded_number c.args.mode u) (number_of-none ds c.args.magnitude none)
+    ∙ rounded_number-zero c.args.mode u (unit_pos c.args.increment c.args.position))
 
 pub round_kept-requires-clause-fits : goal.round_kept-requires-clause-fits
 round_kept-requires-clause-fits g c =
@@ -61,13 +61,13 @@ returns-in_err-places-clause-refused g c =
     let e = c.in_err-places.field-0.0 in
     let same : g.D.DigitStore.digits c.parts_at-keep.new.counted.list.now ≡ ds = cc in
     let refused =
-        subst (λ xs. KeptRefuses e c.args.mode c.args.increment g.D.DigitStore.L c.room_above.result keep xs tail) same
-            c.in_err-places.ensures.refused in
+    subst (λ xs. KeptRefuses e c.args.mode c.args.increment g.D.DigitStore.L c.room_above.result keep xs tail) same
+    c.in_err-places.ensures.refused in
     let k : Refuses e c.args.increment (length ds)
-            (rounded_number c.args.mode (unit_at c.args.increment c.args.position) (number_of ds c.args.magnitude))
-            g.D.DigitStore.L =
+    (rounded_number c.args.mode (unit_at c.args.increment c.args.position) (number_of ds c.args.magnitude))
+    g.D.DigitStore.L =
     refuses e c.args.mode c.args.increment g.D.DigitStore.L c.room_above.result keep ds tail
-        (number_of ds c.args.magnitude) c.args.position (omega (arith, ints)) room within parts refused in
+    (number_of ds c.args.magnitude) c.args.position (omega (arith, ints)) room within parts refused in
     search (rules, k)
 
 pub returns-clause-ok : goal.returns-clause-ok
@@ -80,12 +80,10 @@ returns-clause-ok g c =
     let keep = c.parts_at-keep.result.0 in let tail = c.parts_at-keep.result.1 in
     let left = number_at c.in_ok-places.places (g.D.DigitStore.digits c.round_kept.new.counted.list.now) in
     let same : g.D.DigitStore.digits c.parts_at-keep.new.counted.list.now ≡ ds = cc in
-    let rounds =
-        subst (λ xs. RoundsTo c.args.mode (step_of c.args.increment) tail (leading keep xs) left) same
-            c.in_ok-places.ensures.value in
-    let e =
-        rounded_parts c.args.mode (step_of c.args.increment) tail (number_of ds c.args.magnitude)
-            (weight c.args.position) (leading keep ds) left (ten_pos (place c.args.position)) parts rounds in
+    let rounds = subst (λ xs. RoundsTo c.args.mode (step_of c.args.increment) tail (leading keep xs) left) same
+    c.in_ok-places.ensures.value in
+    let e = rounded_parts c.args.mode (step_of c.args.increment) tail (number_of ds c.args.magnitude)
+    (weight c.args.position) (leading keep ds) left (ten_pos (place c.args.position)) parts rounds in
     simp to_z-of_z
-        (subst (λ n. Spells (g.D.DigitStore.digits c.round_kept.new.counted.list.now) c.magnitude_after.result n)
-            (sym e) spells)
+    (subst (λ n. Spells (g.D.DigitStore.digits c.round_kept.new.counted.list.now) c.magnitude_after.result n)
+    (sym e) spells)

@@ -11,16 +11,16 @@ returns-then-number-lt10-clause-ok g t c = rw (one_digit c.args.number c.if-numb
 pub returns-in_err-write_number-clause-err : goal.returns-in_err-write_number-clause-err
 returns-in_err-write_number-clause-err g t c =
     rw (last_digit c.args.number (omega arith) c.if-number-lt10.false)
-        (on_err c.from_residual.result _ (part_more _ _ _ _ c.in_err-write_number.ensures.err))
+    (on_err c.from_residual.result _ (part_more _ _ _ _ c.in_err-write_number.ensures.err))
 
 pub returns-clause-ok : goal.returns-clause-ok
 returns-clause-ok g t c =
     rw (last_digit c.args.number (omega arith) c.if-number-lt10.false)
-        (on_ok_weaker c.put_byte-2.result (appends_both _ _ _ _ _ c.in_ok-write_number.ensures.ok)
-            c.put_byte-2.ensures.appends)
+    (on_ok_weaker c.put_byte-2.result (appends_both _ _ _ _ _ c.in_ok-write_number.ensures.ok)
+    c.put_byte-2.ensures.appends)
 
 pub returns-clause-err : goal.returns-clause-err
 returns-clause-err g t c =
     rw (last_digit c.args.number (omega arith) c.if-number-lt10.false)
-        (on_err_weaker c.put_byte-2.result
-            (λ e. then_part _ _ _ _ _ c.in_ok-write_number.ensures.ok (keeps_part _ _ _ e)) c.put_byte-2.ensures.keeps)
+    (on_err_weaker c.put_byte-2.result
+    (λ e. then_part _ _ _ _ _ c.in_ok-write_number.ensures.ok (keeps_part _ _ _ e)) c.put_byte-2.ensures.keeps)

@@ -9,7 +9,7 @@ loop-at-init g c = record { before = refl; rest = refl }
 pub returns-in_err-make_call-clause-err : goal.returns-in_err-make_call-clause-err
 returns-in_err-make_call-clause-err g c =
     let k : CallsRefuse g.D.DigitStore.L c.in_err-make_call.field-0.0 c.args.value.now c.args.calls.now =
-        refused c.loop-at.invariant _ c.loop-at-test.true g.D.DigitStore.L _ c.in_err-make_call.ensures.err in
+    refused c.loop-at.invariant _ c.loop-at-test.true g.D.DigitStore.L _ c.in_err-make_call.ensures.err in
     search (rules, k)
 
 pub loop-at-preserved : goal.loop-at-preserved

@@ -33,11 +33,11 @@ loop-letter-preserved c =
       ];
       rest =
           λ k q.
-              let ne : k ≢ i = omega arith in
-              get_or-set_other now i k v 0 ne ∙ c.loop-letter.invariant.rest k (omega arith);
+          let ne : k ≢ i = omega arith in
+          get_or-set_other now i k v 0 ne ∙ c.loop-letter.invariant.rest k (omega arith);
     }
 
 pub returns : goal.returns
 returns c =
     read_from c.args.letters.now c.loop-letter.letters c.loop-letter.auto.letters
-        (λ k q. c.loop-letter.invariant.read k (omega arith))
+    (λ k q. c.loop-letter.invariant.read k (omega arith))

@@ -10,11 +10,10 @@ returns-then-places-room-clause-full g c =
     let ds = g.D.DigitStore.digits c.args.counted.now.list.now in
     let nines = c.count_back-nines in
     let k = c.args.places - nines.result in
-    let passed =
-        nines_in_front nines.result k c.args.places ds (omega arith) (omega arith)
-            (λ i h l. nines.ensures.equal i (omega arith) (omega arith)) in
+    let passed = nines_in_front nines.result k c.args.places ds (omega arith) (omega arith)
+    (λ i h l. nines.ensures.equal i (omega arith) (omega arith)) in
     let full : 10 ^ c.args.places ≡ leading c.args.places ds + 1 =
-        nines_full c.args.places k _ ds (omega arith) passed in
+    nines_full c.args.places k _ ds (omega arith) passed in
     omega (arith, ap (λ i. 10 ^ i) c.if-places-room.true)
 
 pub returns-then-nines-places-clause-value : goal.returns-then-nines-places-clause-value
@@ -22,9 +21,8 @@ returns-then-nines-places-clause-value g c =
     let ds = g.D.DigitStore.digits c.args.counted.now.list.now in
     let nines = c.count_back-nines in
     let k = c.args.places - nines.result in
-    let passed =
-        nines_in_front nines.result k c.args.places ds (omega arith) (omega arith)
-            (λ i h l. nines.ensures.equal i (omega arith) (omega arith)) in
+    let passed = nines_in_front nines.result k c.args.places ds (omega arith) (omega arith)
+    (λ i h l. nines.ensures.equal i (omega arith) (omega arith)) in
     let value = nines_alone c.args.places k _ ds (omega arith) passed in
     grind (arith, common_steps)
 
@@ -33,9 +31,8 @@ returns-clause-value g c =
     let ds = g.D.DigitStore.digits c.args.counted.now.list.now in
     let nines = c.count_back-nines in
     let k = c.args.places - nines.result in
-    let passed =
-        nines_in_front nines.result k c.args.places ds (omega arith) (omega arith)
-            (λ i h l. nines.ensures.equal i (omega arith) (omega arith)) in
+    let passed = nines_in_front nines.result k c.args.places ds (omega arith) (omega arith)
+    (λ i h l. nines.ensures.equal i (omega arith) (omega arith)) in
     let value =
-        nines_end c.args.places k c.get-digit.result _ ds (omega arith) (omega arith) (omega arith) (cc) passed in
+    nines_end c.args.places k c.get-digit.result _ ds (omega arith) (omega arith) (omega arith) (cc) passed in
     grind (arith, common_steps)

@@ -7,7 +7,6 @@ pub returns-clause-value : goal.returns-clause-value
 returns-clause-value g c =
     let ds = g.D.DigitStore.digits c.args.counted.now.list.now in
     let zeros = c.count_back-zeros in
-    let value =
-        zeros_passed zeros.result (length ds - zeros.result) ds (omega arith)
-            (λ i h l. zeros.ensures.equal i (omega arith) (omega arith)) in
+    let value = zeros_passed zeros.result (length ds - zeros.result) ds (omega arith)
+    (λ i h l. zeros.ensures.equal i (omega arith) (omega arith)) in
     grind (arith, common_steps)

@@ -13,8 +13,8 @@ pub returns-then-keep-le2-clause-value : goal.returns-then-keep-le2-clause-value
 returns-then-keep-le2-clause-value g c =
     let ds = g.D.DigitStore.digits c.args.counted.now.list.now in
     rounds_as c.args.mode (step_of c.args.increment) c.args.tail _ _ _ _
-        (c.rounded_two-rounded.ensures.rounds (leading (c.args.keep - 2) ds)) c.two_at-two.ensures.value
-        (omega (arith, c.in-Some.ensures.value, leading_none (c.args.keep - 2) ds (omega arith)))
+    (c.rounded_two-rounded.ensures.rounds (leading (c.args.keep - 2) ds)) c.two_at-two.ensures.value
+    (omega (arith, c.in-Some.ensures.value, leading_none (c.args.keep - 2) ds (omega arith)))
 
 pub returns-in_default-clause-refused : goal.returns-in_default-clause-refused
 returns-in_default-clause-refused g c =
@@ -35,8 +35,7 @@ returns-in_default-add_one-clause-refused g c =
     let same : g.D.DigitStore.digits c.two_at-two.new.counted.list.now ≡ ds = cc in
     let full = c.in_default-add_one.ensures.full in
     let up : 10 ^ c.args.room ≡ 10 ^ (c.args.room - 2) * 10 ^ 2 =
-        powers (c.args.room - 2) 2 c.args.room (omega arith) in
-    (
+    powers (c.args.room - 2) 2 c.args.room (omega arith) in (
       100 * leading (c.args.keep - 2) ds + two.result,
       omega (arith, full, up, ap (λ xs. leading (c.args.keep - 2) xs) same, c.if-rounded-eq100.true),
       rounds_as c.args.mode (step_of c.args.increment) c.args.tail _ _ _ _
@@ -47,12 +46,17 @@ pub returns-then-rounded-eq100-clause-value : goal.returns-then-rounded-eq100-cl
 returns-then-rounded-eq100-clause-value g c =
     let ds = g.D.DigitStore.digits c.args.counted.now.list.now in
     rounds_as c.args.mode (step_of c.args.increment) c.args.tail _ _ _ _
-        (c.rounded_two-rounded.ensures.rounds (leading (c.args.keep - 2) ds)) c.two_at-two.ensures.value
-        (let new = g.D.DigitStore.digits c.add_one.new.counted.list.now in
-         let same : g.D.DigitStore.digits c.two_at-two.new.counted.list.now ≡ ds = cc in
-         let more = number_at-more c.in-Some-add_one.places 2 new c.in-Some-add_one.ensures.length in
-         omega (arith, c.in-Some-add_one.ensures.value, more, ap (λ xs. leading (c.args.keep - 2) xs) same,
-             c.if-rounded-eq100.true))
+    (c.rounded_two-rounded.ensures.rounds (leading (c.args.keep - 2) ds)) c.two_at-two.ensures.value
+    (let new = g.D.DigitStore.digits c.add_one.new.counted.list.now in
+    let same : g.D.DigitStore.digits c.two_at-two.new.counted.list.now ≡ ds = cc in
+    let more = number_at-more c.in-Some-add_one.places 2 new c.in-Some-add_one.ensures.length in
+    omega (
+      arith,
+      c.in-Some-add_one.ensures.value,
+      more,
+      ap (λ xs. leading (c.args.keep - 2) xs) same,
+      c.if-rounded-eq100.true,
+    ))
 
 pub returns-in-Err-clause-refused : goal.returns-in-Err-clause-refused
 returns-in-Err-clause-refused g c =
@@ -81,7 +85,7 @@ returns-then-rounded-eq0-clause-value g c =
     let is : xs ≡ take (c.args.keep - 2) ds = cc in
     let len : length xs ≡ c.args.keep - 2 = ap length is ∙ length-take-le (c.args.keep - 2) ds within in
     rounds_as c.args.mode (step_of c.args.increment) c.args.tail _ _ _ _
-        (c.rounded_two-rounded.ensures.rounds (leading (c.args.keep - 2) ds)) c.two_at-two.ensures.value
-        (hundreds c.args.keep (length xs) c.args.keep 0 ds xs _ is within (omega arith) c.strip.ensures.length
-            (omega (arith, c.strip.ensures.value))
-            ∙ omega arith)
+    (c.rounded_two-rounded.ensures.rounds (leading (c.args.keep - 2) ds)) c.two_at-two.ensures.value
+    (hundreds c.args.keep (length xs) c.args.keep 0 ds xs _ is within (omega arith) c.strip.ensures.length
+    (omega (arith, c.strip.ensures.value))
+    ∙ omega arith)

@@ -9,8 +9,11 @@ returns-then-keep-eq0-clause-value g c =
 
 pub returns-then-keep-eq1-clause-value : goal.returns-then-keep-eq1-clause-value
 returns-then-keep-eq1-clause-value g c =
-    omega (arith, leading_one c.args.keep (g.D.DigitStore.digits c.args.counted.now.list.now) c.if-keep-eq1.true,
-        c.digit_at-ones.ensures.value)
+    omega (
+      arith,
+      leading_one c.args.keep (g.D.DigitStore.digits c.args.counted.now.list.now) c.if-keep-eq1.true,
+      c.digit_at-ones.ensures.value,
+    )
 
 pub returns-clause-value : goal.returns-clause-value
 returns-clause-value g c =

@@ -26,21 +26,26 @@ pub returns-then-number-eq100-clause-value : goal.returns-then-number-eq100-clau
 unfolding number_at
 returns-then-number-eq100-clause-value g c =
     rw (c.push_in_room.ensures.digits, c.clear.ensures.digits, c.places_of-places.ensures.three c.if-number-eq100.true)
-        (omega arith)
+    (omega arith)
 
 pub returns-then-number-ne0-clause-value : goal.returns-then-number-ne0-clause-value
 unfolding number_at
 returns-then-number-ne0-clause-value g c = elim c.if-number-ge10.branch [
   | then-number-ge10 w ↦
       let two : c.places_of-places.result ≡ 2 =
-          c.places_of-places.ensures.two (omega (arith, w.if-number-ge10.true)) (omega arith) in
-      rw (c.push_in_room-then-number-ne0.ensures.digits, w.counted-is, w.push_in_room-then-number-ge10.ensures.digits,
-          c.clear.ensures.digits, two) (omega arith)
+      c.places_of-places.ensures.two (omega (arith, w.if-number-ge10.true)) (omega arith) in
+      rw (
+        c.push_in_room-then-number-ne0.ensures.digits,
+        w.counted-is,
+        w.push_in_room-then-number-ge10.ensures.digits,
+        c.clear.ensures.digits,
+        two,
+      ) (omega arith)
   | else-number-ge10 w ↦
       let one : c.places_of-places.result ≡ 1 =
-          c.places_of-places.ensures.one (omega arith) (omega (arith, w.if-number-ge10.false)) in
+      c.places_of-places.ensures.one (omega arith) (omega (arith, w.if-number-ge10.false)) in
       rw (c.push_in_room-then-number-ne0.ensures.digits, w.counted-is, c.clear.ensures.digits, one)
-          (omega (arith, w.if-number-ge10.false))
+      (omega (arith, w.if-number-ge10.false))
 ]
 
 pub returns-else-number-ne0-clause-value : goal.returns-else-number-ne0-clause-value
@@ -48,10 +53,10 @@ unfolding number_at
 returns-else-number-ne0-clause-value g c = elim c.if-number-ge10.branch [
   | then-number-ge10 w ↦
       let two : c.places_of-places.result ≡ 2 =
-          c.places_of-places.ensures.two (omega (arith, w.if-number-ge10.true)) (omega arith) in
+      c.places_of-places.ensures.two (omega (arith, w.if-number-ge10.true)) (omega arith) in
       rw (w.counted-is, w.push_in_room-then-number-ge10.ensures.digits, c.clear.ensures.digits, two) (omega arith)
   | else-number-ge10 w ↦
       let none : c.places_of-places.result ≡ 0 =
-          c.places_of-places.ensures.none (omega (arith, w.if-number-ge10.false)) in
+      c.places_of-places.ensures.none (omega (arith, w.if-number-ge10.false)) in
       rw (w.counted-is, c.clear.ensures.digits, none) (omega (arith, w.if-number-ge10.false))
 ]

@@ -5,5 +5,5 @@ use Rattle.decimal_digits.proofs.sink.Sink.put_bytes.Goals as goal
 pub returns-in_err-put_byte-clause-begins : goal.returns-in_err-put_byte-clause-begins
 returns-in_err-put_byte-clause-begins g c =
     on_err c.from_residual.result _
-        (part_kept _ _ _ c.loop-byte.byte-index c.args.bytes.now c.loop-byte.invariant.taken
-            c.in_err-put_byte.ensures.keeps)
+    (part_kept _ _ _ c.loop-byte.byte-index c.args.bytes.now c.loop-byte.invariant.taken
+    c.in_err-put_byte.ensures.keeps)

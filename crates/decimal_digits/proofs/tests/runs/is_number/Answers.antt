@@ -10,4 +10,4 @@ loop-letter-preserved c =
     let low : 48 ≤ get_or text i 0 = omega (arith, c.if-letter-lt48.false) in
     let high : get_or text i 0 ≤ 57 = omega (arith, c.if-letter-gt57.false) in
     digits_more 10 text i c.loop-letter-test.true c.loop-letter.invariant
-        (omega (arith, digit_value_digit (get_or text i 0) (low, high)))
+    (omega (arith, digit_value_digit (get_or text i 0) (low, high)))

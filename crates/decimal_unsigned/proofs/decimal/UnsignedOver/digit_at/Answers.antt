@@ -10,19 +10,19 @@ returns-in-Some g c =
     let t = c.self.invariant in
     c.get.ensures
     ∙ sym (digit-number_of-in t c.args.magnitude c.in-Some.index
-        (omega (arith, ints, magnitude_kept t, c.in-Some.ensures.some)) (omega (arith, ints)) (search rules))
+    (omega (arith, ints, magnitude_kept t, c.in-Some.ensures.some)) (omega (arith, ints)) (search rules))
     ∙ ap (λ (v : Unsigned). digit v.number c.args.magnitude) c.self.view_is
 
 pub returns-in_default : goal.returns-in_default
 returns-in_default g c =
     let t = c.self.invariant in
     sym (digit-number_of-below t c.args.magnitude c.in-Some.index
-        (omega (arith, ints, magnitude_kept t, c.in-Some.ensures.some)) (omega (arith, ints)) (search rules))
+    (omega (arith, ints, magnitude_kept t, c.in-Some.ensures.some)) (omega (arith, ints)) (search rules))
     ∙ ap (λ (v : Unsigned). digit v.number c.args.magnitude) c.self.view_is
 
 pub returns-in_default-2 : goal.returns-in_default-2
 returns-in_default-2 g c =
     let t = c.self.invariant in
     sym (digit-number_of-above t c.args.magnitude (omega (arith, ints, magnitude_kept t, c.in_default.ensures.none))
-        (omega (arith, ints)))
+    (omega (arith, ints)))
     ∙ ap (λ (v : Unsigned). digit v.number c.args.magnitude) c.self.view_is

@@ -8,14 +8,14 @@ pub returns-in_err-nonzero-clause-succeeds : goal.returns-in_err-nonzero-clause-
 returns-in_err-nonzero-clause-succeeds g c h =
     let f = c.end_of.ensures in
     let e : UpToLast c.args.digits.now c.end_of.result =
-        record {
-          digits = c.requires.digits;
-          front = c.requires.front;
-          few = c.requires.few;
-          within = f.within;
-          zeros = f.zeros;
-          found = f.found
-        } in
+    record {
+      digits = c.requires.digits;
+      front = c.requires.front;
+      few = c.requires.few;
+      within = f.within;
+      zeros = f.zeros;
+      found = f.found;
+    } in
     let k = c.in_err-nonzero.ensures.succeeds (rw (whole_size e _ refl) h) in
     absurd (cc)
 
@@ -23,36 +23,48 @@ pub invariant_of-result : goal.invariant_of-result
 invariant_of-result g c =
     let f = c.end_of.ensures in
     let e : UpToLast c.args.digits.now c.end_of.result =
-        record {
-          digits = c.requires.digits;
-          front = c.requires.front;
-          few = c.requires.few;
-          within = f.within;
-          zeros = f.zeros;
-          found = f.found
-        } in
+    record {
+      digits = c.requires.digits;
+      front = c.requires.front;
+      few = c.requires.few;
+      within = f.within;
+      zeros = f.zeros;
+      found = f.found;
+    } in
     rw c.in_ok-nonzero.ensures.ok
-        (whole_stored e _
-            (omega (arith, ints, clamps,
-                narrow_kept {z = c.at_least_zero-magnitude.result} c.at_least_zero-magnitude.type_inv,
-                c.at_least_zero-magnitude.ensures, wide_kept {z = c.difference.result} c.difference.type_inv,
-                c.difference.ensures, e.few)))
+    (whole_stored e _
+    (omega (
+      arith,
+      ints,
+      clamps,
+      narrow_kept {z = c.at_least_zero-magnitude.result} c.at_least_zero-magnitude.type_inv,
+      c.at_least_zero-magnitude.ensures,
+      wide_kept {z = c.difference.result} c.difference.type_inv,
+      c.difference.ensures,
+      e.few,
+    )))
 
 pub returns-clause-value : goal.returns-clause-value
 returns-clause-value g c =
     let f = c.end_of.ensures in
     let e : UpToLast c.args.digits.now c.end_of.result =
-        record {
-          digits = c.requires.digits;
-          front = c.requires.front;
-          few = c.requires.few;
-          within = f.within;
-          zeros = f.zeros;
-          found = f.found
-        } in
+    record {
+      digits = c.requires.digits;
+      front = c.requires.front;
+      few = c.requires.few;
+      within = f.within;
+      zeros = f.zeros;
+      found = f.found;
+    } in
     rw c.in_ok-nonzero.ensures.ok
-        (whole_value e _
-            (omega (arith, ints, clamps,
-                narrow_kept {z = c.at_least_zero-magnitude.result} c.at_least_zero-magnitude.type_inv,
-                c.at_least_zero-magnitude.ensures, wide_kept {z = c.difference.result} c.difference.type_inv,
-                c.difference.ensures, e.few)))
+    (whole_value e _
+    (omega (
+      arith,
+      ints,
+      clamps,
+      narrow_kept {z = c.at_least_zero-magnitude.result} c.at_least_zero-magnitude.type_inv,
+      c.at_least_zero-magnitude.ensures,
+      wide_kept {z = c.difference.result} c.difference.type_inv,
+      c.difference.ensures,
+      e.few,
+    )))

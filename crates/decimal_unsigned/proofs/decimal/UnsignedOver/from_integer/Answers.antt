@@ -20,11 +20,11 @@ returns-clause-value g c =
     let n = g.T.UnsignedInteger.number c.args.integer in
     let w = c.write_digits-start in
     rw (digits_at_end w.new.places w.result n w.ensures.digits (omega arith), number_digits_of 10 n (omega arith)) at
-        c.from_digits.ensures.value
+    c.from_digits.ensures.value
 
 pub returns-clause-succeeds : goal.returns-clause-succeeds
 returns-clause-succeeds g c =
     let n = g.T.UnsignedInteger.number c.args.integer in
     let w = c.write_digits-start in
     rw (digits_at_end w.new.places w.result n w.ensures.digits (omega arith), number_digits_of 10 n (omega arith)) at
-        c.from_digits.ensures.succeeds
+    c.from_digits.ensures.succeeds

@@ -5,4 +5,4 @@ use Rattle.decimal_unsigned.proofs.decimal.UnsignedOver.from_u16.Goals as goal
 pub unwrap-requires : goal.unwrap-requires
 unwrap-requires g c =
     c.from_integer.ensures.short
-        (omega (arith, length-digits_of-le 10 5 c.args.integer (omega arith) (omega arith), g.met.D.DigitStore.enough))
+    (omega (arith, length-digits_of-le 10 5 c.args.integer (omega arith) (omega arith), g.met.D.DigitStore.enough))

@@ -23,24 +23,24 @@ returns-then-hi-gt32767-clause-limit g c =
 
 moves : (g : _) (c : goal.After-self-3-1 g)
     → Moves (g.D.DigitStore.digits c.self.inside.digits) c.self.inside.magnitude c.self.inside.hi c.self.inside.lo
-        c.args.delta (to_z w16 c.if-len-eq0.magnitude-bits) (to_z w16 (of_z w16 c.at_least_zero-upper.result))
-        (to_z w16 (of_z w16 c.at_most_zero-lower.result))
+    c.args.delta (to_z w16 c.if-len-eq0.magnitude-bits) (to_z w16 (of_z w16 c.at_least_zero-upper.result))
+    (to_z w16 (of_z w16 c.at_most_zero-lower.result))
 moves g c =
     let t = c.self.invariant in
     let d : to_z w16 (of_z w16 c.args.delta) ≡ c.args.delta = to_z-of_z w16 c.args.delta c.ranges.delta in
     let h : (c.self.inside.hi +ℤ c.args.delta) ≤ℤ pos 32767 =
-        omega (arith, ints, t.hi_in, t.in_range, c.if-hi-gt32767.false) in
+    omega (arith, ints, t.hi_in, t.in_range, c.if-hi-gt32767.false) in
     let f : c.sum-lo.result ≡ c.self.inside.lo +ℤ c.args.delta = c.sum-lo.ensures ∙ (rw (lo_kept t, d) refl) in
     let l : negsuc 32767 ≤ℤ (c.self.inside.lo +ℤ c.args.delta) = omega (arith, ints, f, c.if-lo-ltminus32768.false) in
     let e : c.sum-hi.result ≡ c.self.inside.hi +ℤ c.args.delta = c.sum-hi.ensures ∙ (rw (hi_kept t, d) refl) in
     let u : to_z w16 (of_z w16 c.at_least_zero-upper.result) ≡ int_max (c.self.inside.hi +ℤ c.args.delta) (pos 0) =
-        narrow_kept c.at_least_zero-upper.type_inv
-        ∙ c.at_least_zero-upper.ensures
-        ∙ ap (λ x. int_max x (pos 0)) (wide_kept c.sum-hi.type_inv ∙ e) in
+    narrow_kept c.at_least_zero-upper.type_inv
+    ∙ c.at_least_zero-upper.ensures
+    ∙ ap (λ x. int_max x (pos 0)) (wide_kept c.sum-hi.type_inv ∙ e) in
     let b : to_z w16 (of_z w16 c.at_most_zero-lower.result) ≡ int_min (c.self.inside.lo +ℤ c.args.delta) (pos 0) =
-        narrow_kept c.at_most_zero-lower.type_inv
-        ∙ c.at_most_zero-lower.ensures
-        ∙ ap (λ x. int_min x (pos 0)) (wide_kept c.sum-lo.type_inv ∙ f) in
+    narrow_kept c.at_most_zero-lower.type_inv
+    ∙ c.at_most_zero-lower.ensures
+    ∙ ap (λ x. int_min x (pos 0)) (wide_kept c.sum-lo.type_inv ∙ f) in
     record {
       some = λ p. elim c.if-len-eq0.branch [
         | then-len-eq0 w ↦ absurd (omega (arith, w.if-len-eq0.true, c.len.ensures))

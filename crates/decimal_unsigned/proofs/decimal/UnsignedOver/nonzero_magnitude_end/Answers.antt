@@ -10,8 +10,17 @@ use Rattle.decimal_unsigned.proofs.decimal.UnsignedOver.nonzero_magnitude_end.Go
 pub magnitude_of-requires : goal.magnitude_of-requires
 magnitude_of-requires g c =
     let t = c.self.invariant in
-    omega (arith, ints, c.len-len.ensures, t.hi_covers, t.lo_covers, t.fits, t.in_range,
-        place_is c.self.inside.magnitude, place_is c.self.inside.lo)
+    omega (
+      arith,
+      ints,
+      c.len-len.ensures,
+      t.hi_covers,
+      t.lo_covers,
+      t.fits,
+      t.in_range,
+      place_is c.self.inside.magnitude,
+      place_is c.self.inside.lo,
+    )
 
 pub returns-then-len-eq0 : goal.returns-then-len-eq0
 returns-then-len-eq0 g c =
@@ -21,22 +30,22 @@ returns-then-len-eq0 g c =
       value = value;
       defined =
           subst (IsLast c.args.self.now.number) (sym value)
-              (subst (λ (v : Unsigned). IsLast v.number (last v.number)) c.self.view_is (is_last t))
+          (subst (λ (v : Unsigned). IsLast v.number (last v.number)) c.self.view_is (is_last t));
     }
 
 pub returns-else-len-eq0 : goal.returns-else-len-eq0
 returns-else-len-eq0 g c =
     let t = c.self.invariant in
     let some : 0 < length (g.D.DigitStore.digits c.self.inside.digits) =
-        omega (arith, c.len-len.ensures, c.if-len-eq0.false) in
+    omega (arith, c.len-len.ensures, c.if-len-eq0.false) in
     let value =
-        narrow_kept c.magnitude_of.type_inv
-        ∙ c.magnitude_of.ensures
-        ∙ (rw (magnitude_kept t, c.len-len.ensures) (sym (last-number_of t some)))
-        ∙ ap (λ (v : Unsigned). last v.number) c.self.view_is in
+    narrow_kept c.magnitude_of.type_inv
+    ∙ c.magnitude_of.ensures
+    ∙ (rw (magnitude_kept t, c.len-len.ensures) (sym (last-number_of t some)))
+    ∙ ap (λ (v : Unsigned). last v.number) c.self.view_is in
     record {
       value = value;
       defined =
           subst (IsLast c.args.self.now.number) (sym value)
-              (subst (λ (v : Unsigned). IsLast v.number (last v.number)) c.self.view_is (is_last t))
+          (subst (λ (v : Unsigned). IsLast v.number (last v.number)) c.self.view_is (is_last t));
     }

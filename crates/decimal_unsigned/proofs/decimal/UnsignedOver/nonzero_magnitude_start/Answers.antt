@@ -14,4 +14,4 @@ returns-clause-value g c =
 pub returns-clause-defined : goal.returns-clause-defined
 returns-clause-defined g c =
     rw (magnitude_kept c.self.invariant)
-        (subst (λ (v : Unsigned). IsFirst v.number c.self.inside.magnitude) c.self.view_is (is_first c.self.invariant))
+    (subst (λ (v : Unsigned). IsFirst v.number c.self.inside.magnitude) c.self.view_is (is_first c.self.invariant))

@@ -15,4 +15,4 @@ invariant_of-self g c =
     let r = narrow_kept {z = c.nonzero_magnitude_end.result} c.nonzero_magnitude_end.type_inv in
     let v = c.min-self-inside.ensures.value in
     lower_stored t _ (omega (arith, ints, clamps, v)) (omega (arith, ints, clamps, v, r, e))
-        (omega (arith, ints, clamps, v, r, e, b))
+    (omega (arith, ints, clamps, v, r, e, b))

@@ -10,4 +10,4 @@ returns-then-position-gt0 g c =
     let p = to_z-of_z w16 c.args.position c.ranges.position in
     let k = narrow_kept {z = c.max-self-inside.result} c.max-self-inside.type_inv in
     padded_start_is _ c.self.view_is (first_of t) c.args.position (omega (arith, ints, c.if-position-gt0.true))
-        (omega (arith, ints, clamps, k, c.max-self-inside.ensures.value, magnitude_kept t, p))
+    (omega (arith, ints, clamps, k, c.max-self-inside.ensures.value, magnitude_kept t, p))

@@ -20,29 +20,28 @@ use Rattle.decimal_unsigned.proofs.decimal.UnsignedOver.round_counted.Goals as g
 -- the digits that the rounding left
 spells : (g : _) (c : goal.After-self-3-1 g)
     → Spells (g.D.DigitStore.digits c.round.new.counted.list.now) c.in_ok-first.first
-        (rounded_number c.args.mode (unit_at c.args.increment c.args.position) c.args.self.now.number)
+    (rounded_number c.args.mode (unit_at c.args.increment c.args.position) c.args.self.now.number)
 spells g c =
     let ds = g.D.DigitStore.digits c.round.new.counted.list.now in
     let p = to_z-of_z w16 c.args.position c.ranges.position in
-    let n =
-        number_again c.self.invariant c.self.view_is (ap g.D.DigitStore.digits c.new-counted.ensures.list)
-            (magnitude_kept c.self.invariant) in
+    let n = number_again c.self.invariant c.self.view_is (ap g.D.DigitStore.digits c.new-counted.ensures.list)
+    (magnitude_kept c.self.invariant) in
     subst (Spells ds c.in_ok-first.first) (λ i. rounded_number c.args.mode (unit_at c.args.increment (p i)) (n i))
-        c.in_ok-first.ensures.ok
+    c.in_ok-first.ensures.ok
 
 above : (g : _) (c : goal.After-self-3-1 g)
     → IsAbove c.args.position (g.D.DigitStore.digits c.round.new.counted.list.now) c.in_ok-first.first
 above g c =
     let p = to_z-of_z w16 c.args.position c.ranges.position in
     subst (λ q. IsAbove q (g.D.DigitStore.digits c.round.new.counted.list.now) c.in_ok-first.first) p
-        c.in_ok-first.ensures.above
+    c.in_ok-first.ensures.above
 
 first_kept : (g : _) (c : goal.After-self-3-1 g) → to_z w16 (of_z w16 c.in_ok-first.first) ≡ c.in_ok-first.first
 first_kept g c = let s = spells g c in omega (arith, ints, s.least, s.greatest)
 
 hi_is : (g : _) (c : goal.After-self-3-1 g)
     → to_z w16 (of_z w16 c.highest_after-self-inside.result)
-        ≡ int_max (int_max c.self.inside.hi (c.args.position -ℤ pos 1)) c.in_ok-first.first
+    ≡ int_max (int_max c.self.inside.hi (c.args.position -ℤ pos 1)) c.in_ok-first.first
 hi_is g c =
     let p = to_z-of_z w16 c.args.position c.ranges.position in
     narrow_kept c.highest_after-self-inside.type_inv ∙ c.highest_after-self-inside.ensures
@@ -57,33 +56,33 @@ lo_is g c =
 -- the fields together make the rounded value
 value : (g : _) (c : goal.After-self-3-1 g)
     → rounded c.args.self.now c.args.position c.args.mode c.args.increment
-        ≡ Some (record {
-          number =
-              number_of (g.D.DigitStore.digits c.round.new.counted.list.now) (to_z w16 (of_z w16 c.in_ok-first.first));
-          hi = to_z w16 (of_z w16 c.highest_after-self-inside.result);
-          lo = to_z w16 (of_z w16 c.min-self-inside.result)
-        })
+    ≡ Some (record {
+      number =
+          number_of (g.D.DigitStore.digits c.round.new.counted.list.now) (to_z w16 (of_z w16 c.in_ok-first.first));
+      hi = to_z w16 (of_z w16 c.highest_after-self-inside.result);
+      lo = to_z w16 (of_z w16 c.min-self-inside.result);
+    })
 value g c =
     rounded_left (spells g c) c.args.position c.self.inside.hi _ _ (hi_is g c) (lo_is g c) c.args.self.now
-        (sym (ap (λ (v : Unsigned). v.hi) c.self.view_is))
+    (sym (ap (λ (v : Unsigned). v.hi) c.self.view_is))
     ∙ ap (λ m. Some (record {
-          number = number_of (g.D.DigitStore.digits c.round.new.counted.list.now) m;
-          hi = to_z w16 (of_z w16 c.highest_after-self-inside.result);
-          lo = to_z w16 (of_z w16 c.min-self-inside.result)
-        })) (sym (first_kept g c))
+      number = number_of (g.D.DigitStore.digits c.round.new.counted.list.now) m;
+      hi = to_z w16 (of_z w16 c.highest_after-self-inside.result);
+      lo = to_z w16 (of_z w16 c.min-self-inside.result);
+    })) (sym (first_kept g c))
 
 stored : (g : _) (c : goal.After-self-3-1 g)
     → IsStored (g.D.DigitStore.digits c.round.new.counted.list.now) (to_z w16 (of_z w16 c.in_ok-first.first))
-        (to_z w16 (of_z w16 c.highest_after-self-inside.result)) (to_z w16 (of_z w16 c.min-self-inside.result))
+    (to_z w16 (of_z w16 c.highest_after-self-inside.result)) (to_z w16 (of_z w16 c.min-self-inside.result))
 stored g c =
     let t = c.self.invariant in
     let p = c.ranges.position in
     subst (λ m. IsStored (g.D.DigitStore.digits c.round.new.counted.list.now) m
-            (to_z w16 (of_z w16 c.highest_after-self-inside.result)) (to_z w16 (of_z w16 c.min-self-inside.result)))
-        (sym (first_kept g c))
-        (stored_left (spells g c) c.args.position c.self.inside.hi _ _ (hi_is g c) (lo_is g c) (above g c)
-            (recursion_from_All _ _ (g.met.D.DigitStore.are_digits c.round.new.counted.list.now)) t.hi_in t.in_range.1
-            (omega (arith, ints)) (omega (arith, ints)))
+    (to_z w16 (of_z w16 c.highest_after-self-inside.result)) (to_z w16 (of_z w16 c.min-self-inside.result)))
+    (sym (first_kept g c))
+    (stored_left (spells g c) c.args.position c.self.inside.hi _ _ (hi_is g c) (lo_is g c) (above g c)
+    (recursion_from_All _ _ (g.met.D.DigitStore.are_digits c.round.new.counted.list.now)) t.hi_in t.in_range.1
+    (omega (arith, ints)) (omega (arith, ints)))
 
 pub returns-in_err-first-clause-refused : goal.returns-in_err-first-clause-refused
 returns-in_err-first-clause-refused g c =
@@ -93,15 +92,15 @@ returns-in_err-first-clause-refused g c =
     let n = number_again c.self.invariant c.self.view_is lent (magnitude_kept c.self.invariant) in
     let s = size_again c.self.invariant c.self.view_is lent in
     rw (e.1, e.2)
-        (refuses _ _ c.args.self.now c.args.position c.args.mode c.args.increment
-            (value_of_view c.self.invariant c.self.view_is)
-            (subst (λ k. Refuses c.in_err-first.field-0.0 c.args.increment k
-                    (rounded_number c.args.mode (unit_at c.args.increment c.args.position) c.args.self.now.number)
-                    g.D.DigitStore.L) s
-                (subst (λ m. Refuses c.in_err-first.field-0.0 c.args.increment
-                        (length (g.D.DigitStore.digits c.new-counted.result.list.now)) m g.D.DigitStore.L)
-                    (λ i. rounded_number c.args.mode (unit_at c.args.increment (p i)) (n i))
-                    c.in_err-first.ensures.refused)))
+    (refuses _ _ c.args.self.now c.args.position c.args.mode c.args.increment
+    (value_of_view c.self.invariant c.self.view_is)
+    (subst (λ k. Refuses c.in_err-first.field-0.0 c.args.increment k
+    (rounded_number c.args.mode (unit_at c.args.increment c.args.position) c.args.self.now.number)
+    g.D.DigitStore.L) s
+    (subst (λ m. Refuses c.in_err-first.field-0.0 c.args.increment
+    (length (g.D.DigitStore.digits c.new-counted.result.list.now)) m g.D.DigitStore.L)
+    (λ i. rounded_number c.args.mode (unit_at c.args.increment (p i)) (n i))
+    c.in_err-first.ensures.refused)))
 
 pub returns-in_err-first-clause-limit_turns : goal.returns-in_err-first-clause-limit_turns
 returns-in_err-first-clause-limit_turns g c h =
@@ -119,7 +118,7 @@ invariant_of-self-2 g c = stored g c
 pub returns-clause-rounds : goal.returns-clause-rounds
 returns-clause-rounds g c =
     is_rounded c.args.self.now c.args.position c.args.mode c.args.increment
-        (value_of_view c.self.invariant c.self.view_is) (value g c)
+    (value_of_view c.self.invariant c.self.view_is) (value g c)
 
 pub returns-clause-again : goal.returns-clause-again
 returns-clause-again g c = rounded_again c.args.self.now _ c.args.position c.args.mode c.args.increment (value g c)

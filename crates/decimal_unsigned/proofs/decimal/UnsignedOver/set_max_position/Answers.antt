@@ -15,21 +15,31 @@ use Rattle.decimal_unsigned.proofs.decimal.UnsignedOver.set_max_position.Goals.{
 pub magnitude_of-magnitude-requires : goal.magnitude_of-magnitude-requires
 magnitude_of-magnitude-requires g c =
     let t = c.self.invariant in
-    omega (arith, ints, magnitude_kept t, c.if-start-len.true, c.len-len.ensures, t.fits, t.in_range, lowest t,
-        place_is c.self.inside.magnitude, place_is c.self.inside.lo)
+    omega (
+      arith,
+      ints,
+      magnitude_kept t,
+      c.if-start-len.true,
+      c.len-len.ensures,
+      t.fits,
+      t.in_range,
+      lowest t,
+      place_is c.self.inside.magnitude,
+      place_is c.self.inside.lo,
+    )
 
 cuts : (g : _) (c : goal.After-self-3-1 g)
     → Cuts (g.D.DigitStore.digits c.self.inside.digits) c.self.inside.magnitude c.self.inside.lo c.args.position
-        c.first_nonzero-start.result (to_z w16 c.if-start-len.magnitude-bits)
-        (to_z w16 (of_z w16 c.at_least_zero-hi.result)) (to_z w16 (of_z w16 c.min-lo.result))
+    c.first_nonzero-start.result (to_z w16 c.if-start-len.magnitude-bits)
+    (to_z w16 (of_z w16 c.at_least_zero-hi.result)) (to_z w16 (of_z w16 c.min-lo.result))
 cuts g c =
     let t = c.self.invariant in
     let p : to_z w16 (of_z w16 c.args.position) ≡ c.args.position = to_z-of_z w16 c.args.position c.ranges.position in
     let f = c.first_nonzero-start.ensures in
     let from : c.min.result
-            ≡ min (int_gap c.args.position (c.self.inside.magnitude +ℤ pos 1))
-                (length (g.D.DigitStore.digits c.self.inside.digits)) =
-        c.min.ensures ∙ (rw (c.places_from-above.ensures, c.len-len.ensures, p, magnitude_kept t) refl) in
+    ≡ min (int_gap c.args.position (c.self.inside.magnitude +ℤ pos 1))
+    (length (g.D.DigitStore.digits c.self.inside.digits)) =
+    c.min.ensures ∙ (rw (c.places_from-above.ensures, c.len-len.ensures, p, magnitude_kept t) refl) in
     let below : c.sum.result ≡ c.args.position -ℤ pos 1 = omega (arith, ints, c.sum.ensures, p) in
     record {
       from = subst (λ n. n ≤ c.first_nonzero-start.result) from f.from;
@@ -62,11 +72,11 @@ invariant_of-self g c = rw c.drop_front.ensures (stored_cut c.self.invariant (cu
 pub returns-clause-value : goal.returns-clause-value
 returns-clause-value g c =
     rw c.drop_front.ensures
-        (cut_is c.self.invariant (cuts g c) ∙ ap (λ (v : Unsigned). cut v c.args.position) c.self.view_is)
+    (cut_is c.self.invariant (cuts g c) ∙ ap (λ (v : Unsigned). cut v c.args.position) c.self.view_is)
 
 pub returns-clause-parts : goal.returns-clause-parts
 returns-clause-parts g c =
     let v = c.args.self.now in
     let p = c.args.position in
     subst (PartsJoin v p (truncated v p)) (sym (returns-clause-value g c))
-        (parts v p (value_of_view c.self.invariant c.self.view_is))
+    (parts v p (value_of_view c.self.invariant c.self.view_is))

@@ -6,5 +6,5 @@ use Rattle.decimal_unsigned.proofs.decimal.UnsignedOver.take_digits.Goals as goa
 pub invariant_of-self : goal.invariant_of-self
 invariant_of-self g c =
     rw (magnitude_kept c.other.invariant)
-        (taken c.args.self.now c.args.other c.self.invariant c.other.invariant (c.self.view_is ∙ c.widen.ensures)
-            c.other.view_is)
+    (taken c.args.self.now c.args.other c.self.invariant c.other.invariant (c.self.view_is ∙ c.widen.ensures)
+    c.other.view_is)

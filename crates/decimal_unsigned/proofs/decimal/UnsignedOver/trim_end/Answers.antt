@@ -17,16 +17,16 @@ invariant_of-self g c =
     let r = narrow_kept {z = c.nonzero_magnitude_end.result} c.nonzero_magnitude_end.type_inv in
     let v = c.min-self-inside.ensures.value in
     lower_stored t _ (omega (arith, ints, clamps, v)) (omega (arith, ints, clamps, v, r, e))
-        (omega (arith, ints, clamps, v, r, e, b))
+    (omega (arith, ints, clamps, v, r, e, b))
 
 pub returns-clause-greatest : goal.returns-clause-greatest
 returns-clause-greatest g c = λ w v e.
     let number = e ∙ ap (λ (x : Unsigned). x.number) c.self.view_is in
     let r = narrow_kept {z = c.nonzero_magnitude_end.result} c.nonzero_magnitude_end.type_inv in
     rw (narrow_kept {z = c.min-self-inside.result} c.min-self-inside.type_inv, c.min-self-inside.ensures.value, r)
-        (last_shown w _ v
-            (subst (λ n. IsLast n c.nonzero_magnitude_end.result) (sym number) c.nonzero_magnitude_end.ensures.defined)
-            (omega (arith, ints, r)))
+    (last_shown w _ v
+    (subst (λ n. IsLast n c.nonzero_magnitude_end.result) (sym number) c.nonzero_magnitude_end.ensures.defined)
+    (omega (arith, ints, r)))
 
 pub returns-clause-alike : goal.returns-clause-alike
 returns-clause-alike g c = trimmed_alike c.args.self.now
@@ -36,8 +36,8 @@ returns-clause-shortest g c =
     let e = c.nonzero_magnitude_end.ensures.value ∙ sym (ap (λ (v : Unsigned). last v.number) c.self.view_is) in
     let r = narrow_kept {z = c.nonzero_magnitude_end.result} c.nonzero_magnitude_end.type_inv in
     rw (narrow_kept {z = c.min-self-inside.result} c.min-self-inside.type_inv, c.min-self-inside.ensures.value, r, e)
-        (shortest (record {
-          number = number_of (g.D.DigitStore.digits c.self.inside.digits) c.self.inside.magnitude;
-          hi = pos 0;
-          lo = pos 0
-        }))
+    (shortest (record {
+      number = number_of (g.D.DigitStore.digits c.self.inside.digits) c.self.inside.magnitude;
+      hi = pos 0;
+      lo = pos 0;
+    }))

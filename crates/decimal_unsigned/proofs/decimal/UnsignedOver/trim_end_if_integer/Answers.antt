@@ -10,4 +10,4 @@ invariant_of-self g c =
     let e = c.nonzero_magnitude_end.ensures.value ∙ sym (ap (λ (v : Unsigned). last v.number) c.self.view_is) in
     let r = narrow_kept {z = c.nonzero_magnitude_end.result} c.nonzero_magnitude_end.type_inv in
     lower_stored c.self.invariant (pos 0) (omega (arith, ints))
-        (omega (arith, ints, r, e, c.if-nonzero_magnitude_end-ge0.true)) (omega (arith, ints))
+    (omega (arith, ints, r, e, c.if-nonzero_magnitude_end-ge0.true)) (omega (arith, ints))

@@ -13,9 +13,9 @@ pub returns : goal.returns
 returns g c =
     let t = c.self.invariant in
     let upper =
-        narrow_kept c.max-self-inside.type_inv
-        ∙ c.max-self-inside.ensures.value
-        ∙ ap (λ x. int_max x (pos 0)) (magnitude_kept t) in
+    narrow_kept c.max-self-inside.type_inv
+    ∙ c.max-self-inside.ensures.value
+    ∙ ap (λ x. int_max x (pos 0)) (magnitude_kept t) in
     let value = trimmed_start_is _ c.self.view_is (first_of t) upper in
     record {
       value = value;

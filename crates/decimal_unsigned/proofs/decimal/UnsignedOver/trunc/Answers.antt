@@ -13,7 +13,7 @@ pub unwrap-requires : goal.unwrap-requires
 unwrap-requires g c =
     let p = c.ranges.position in
     ok_unless c.round_with_mode.result (simp to_z-of_z at c.round_with_mode.ensures.limit)
-        (λ r. trunc_not_refused c.args.self.now c.args.position r.valid MultiplesOf1 r.value)
+    (λ r. trunc_not_refused c.args.self.now c.args.position r.valid MultiplesOf1 r.value)
 
 pub returns : goal.returns
 returns g c =
@@ -26,8 +26,8 @@ returns g c =
       rounds = rounds;
       parts =
           subst (λ t. PartsJoin v c.args.position t (cut v c.args.position)) value
-              (parts v c.args.position rounds.valid);
+          (parts v c.args.position rounds.valid);
       again =
           subst (TruncatedAgain v c.args.position) value
-              (truncated_again v c.args.position (omega (arith, ints)) rounds.valid);
+          (truncated_again v c.args.position (omega (arith, ints)) rounds.valid);
     }

@@ -7,5 +7,5 @@ pub invariant_of-self : goal.invariant_of-self
 invariant_of-self g c =
     let t = c.self.invariant in
     wider t (omega (arith, ints, clamps, t.in_range, t.hi_in, c.max-upper.ensures))
-        (omega (arith, ints, clamps, t.in_range, t.lo_in, c.min-lower.ensures)) (omega (arith, ints))
-        (omega (arith, ints))
+    (omega (arith, ints, clamps, t.in_range, t.lo_in, c.min-lower.ensures)) (omega (arith, ints))
+    (omega (arith, ints))

@@ -10,5 +10,5 @@ returns-clause-styled g c flush ok =
     let p = c.in_ok-fmt.ensures.styled flush refl in
     let q = ascii_formatted 99 (omega arith) (c.in_ok-write_char.ensures.styled p.flush refl) in
     rw (← c.self.view_is, e)
-        (has_written_styled_append _ _ _ _ _ _ p
-            (has_written_styled_append _ _ _ _ _ _ q (c.format_number.ensures q.flush ok)))
+    (has_written_styled_append _ _ _ _ _ _ p
+    (has_written_styled_append _ _ _ _ _ _ q (c.format_number.ensures q.flush ok)))

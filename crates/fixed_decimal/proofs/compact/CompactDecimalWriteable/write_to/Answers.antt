@@ -13,6 +13,6 @@ pub returns-clause-err : goal.returns-clause-err
 returns-clause-err g c =
     let e : (c.self.inside.exponent == 0) ≡ false = grind (arith, nat_tests) in
     rw (← c.self.view_is, e)
-        (on_err_weaker c.write_number.result
-            (λ e. then_part _ _ _ _ _ c.in_ok-write_to.ensures.ok
-                (then_part _ _ _ _ _ c.in_ok-put_byte.ensures.appends e)) c.write_number.ensures.err)
+    (on_err_weaker c.write_number.result
+    (λ e. then_part _ _ _ _ _ c.in_ok-write_to.ensures.ok
+    (then_part _ _ _ _ _ c.in_ok-put_byte.ensures.appends e)) c.write_number.ensures.err)

@@ -4,5 +4,8 @@ use Rattle.fixed_decimal.proofs.integer.FixedIntegerWriteable.writeable_length_h
 
 pub returns-clause-few : goal.returns-clause-few
 returns-clause-few c =
-    omega (arith, length-integer_most c.self.inside.0 c.recall_value.ensures c.self.invariant,
-        c.writeable_length_hint.ensures)
+    omega (
+      arith,
+      length-integer_most c.self.inside.0 c.recall_value.ensures c.self.invariant,
+      c.writeable_length_hint.ensures,
+    )

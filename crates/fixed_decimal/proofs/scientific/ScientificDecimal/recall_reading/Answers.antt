@@ -4,4 +4,4 @@ use Rattle.fixed_decimal.proofs.scientific.ScientificDecimal.recall_reading.Goal
 pub returns : goal.returns
 returns c =
     rw (← c.self.view_is)
-        (scientific_reads_back _ c.recall_value.ensures c.recall_value-2.ensures.value c.recall_value-2.ensures.integer)
+    (scientific_reads_back _ c.recall_value.ensures c.recall_value-2.ensures.value c.recall_value-2.ensures.integer)

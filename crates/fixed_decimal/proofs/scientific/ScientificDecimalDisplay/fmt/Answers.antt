@@ -8,5 +8,5 @@ returns-clause-styled g c flush ok =
     let p = c.in_ok-fmt.ensures.styled flush refl in
     let q = ascii_formatted 101 (omega arith) (c.in_ok-write_char.ensures.styled p.flush refl) in
     rw (← c.self.view_is)
-        (has_written_styled_append _ _ _ _ _ _ p
-            (has_written_styled_append _ _ _ _ _ _ q (c.fmt-2.ensures.styled q.flush ok)))
+    (has_written_styled_append _ _ _ _ _ _ p
+    (has_written_styled_append _ _ _ _ _ _ q (c.fmt-2.ensures.styled q.flush ok)))

@@ -10,6 +10,6 @@ returns-in_err-write_to-clause-err g c =
 pub returns-clause-err : goal.returns-clause-err
 returns-clause-err g c =
     rw (← c.self.view_is)
-        (on_err_weaker c.write_to-2.result
-            (λ e. then_part _ _ _ _ _ c.in_ok-write_to.ensures.ok
-                (then_part _ _ _ _ _ c.in_ok-put_byte.ensures.appends e)) c.write_to-2.ensures.err)
+    (on_err_weaker c.write_to-2.result
+    (λ e. then_part _ _ _ _ _ c.in_ok-write_to.ensures.ok
+    (then_part _ _ _ _ _ c.in_ok-put_byte.ensures.appends e)) c.write_to-2.ensures.err)

@@ -8,7 +8,8 @@ use Rattle.plain_decimal.proofs.plain.Plain.digit.Goals as goal
 
 pub returns-in-Some : goal.returns-in-Some
 returns-in-Some c =
-    let e : c.args.magnitude ≡ negsuc 9 +ℤ pos c.in-Some.places = sym (to_z-of_z w16 c.args.magnitude c.ranges.magnitude) ∙ c.in-Some.ensures.some in
+    let e : c.args.magnitude ≡ negsuc 9 +ℤ pos c.in-Some.places =
+    sym (to_z-of_z w16 c.args.magnitude c.ranges.magnitude) ∙ c.in-Some.ensures.some in
     ap (λ q. q % 10) c.quotient.ensures
     ∙ sym (digit_down c.self.inside.number (negsuc 9) c.args.magnitude (omega (arith, ints)) c.in-Some.places e)
     ∙ ap (λ (v : Unsigned). digit v.number c.args.magnitude) c.self.view_is
@@ -16,5 +17,6 @@ returns-in-Some c =
 pub returns-in-None : goal.returns-in-None
 returns-in-None c =
     let p = to_z-of_z w16 c.args.magnitude c.ranges.magnitude in
-    sym (digit_under c.self.inside.number (negsuc 9) c.args.magnitude (omega (arith, ints)) (omega (arith, ints, p)) (omega (arith, ints, p, c.in-None.ensures.none)))
+    sym (digit_under c.self.inside.number (negsuc 9) c.args.magnitude (omega (arith, ints)) (omega (arith, ints, p))
+    (omega (arith, ints, p, c.in-None.ensures.none)))
     ∙ ap (λ (v : Unsigned). digit v.number c.args.magnitude) c.self.view_is

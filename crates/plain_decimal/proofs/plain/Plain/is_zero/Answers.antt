@@ -8,6 +8,10 @@ use Rattle.plain_decimal.proofs.plain.Plain.is_zero.Goals as goal
 pub returns : goal.returns
 returns c =
     let n = ap (λ (v : Unsigned). v.number) c.self.view_is in (
-      λ h. let z : c.self.inside.number ≡ 0 = search (rules, h) in sym n ∙ ap (λ x. x * weight (negsuc 9)) z ∙ (omega arith),
-      λ h. let z : c.self.inside.number ≡ 0 = none_scaled _ (weight (negsuc 9)) (ten_pos _) (n ∙ h) in search (rules, z),
+      λ h.
+          let z : c.self.inside.number ≡ 0 = search (rules, h) in
+          sym n ∙ ap (λ x. x * weight (negsuc 9)) z ∙ (omega arith),
+      λ h.
+          let z : c.self.inside.number ≡ 0 = none_scaled _ (weight (negsuc 9)) (ten_pos _) (n ∙ h) in
+          search (rules, z),
     )

@@ -12,7 +12,18 @@ returns c =
     let a = c.self.inside.number in
     let b = c.other.inside.number in
     let s : c.in_ok-number.number ≡ a + b = omega (arith, c.in_ok-number.ensures) in
-    let n = ap (λ x. x * weight (negsuc 9)) s ∙ sum_scaled a b (weight (negsuc 9)) ∙ (λ i. (c.self.view_is i).number + (c.other.view_is i).number) in
-    let h = narrow_kept c.max.type_inv ∙ c.max.ensures.value ∙ (λ i. int_max (narrow_kept {z = c.self.inside.hi} hi_fits i) (narrow_kept {z = c.other.inside.hi} hi_fits' i)) ∙ (λ i. int_max (c.self.view_is i).hi (c.other.view_is i).hi) in
-    let l = narrow_kept c.min.type_inv ∙ c.min.ensures.value ∙ (λ i. int_min (narrow_kept {z = c.self.inside.lo} lo_fits i) (narrow_kept {z = c.other.inside.lo} lo_fits' i)) ∙ (λ i. int_min (c.self.view_is i).lo (c.other.view_is i).lo) in
+    let n =
+    ap (λ x. x * weight (negsuc 9)) s
+    ∙ sum_scaled a b (weight (negsuc 9))
+    ∙ (λ i. (c.self.view_is i).number + (c.other.view_is i).number) in
+    let h =
+    narrow_kept c.max.type_inv
+    ∙ c.max.ensures.value
+    ∙ (λ i. int_max (narrow_kept {z = c.self.inside.hi} hi_fits i) (narrow_kept {z = c.other.inside.hi} hi_fits' i))
+    ∙ (λ i. int_max (c.self.view_is i).hi (c.other.view_is i).hi) in
+    let l =
+    narrow_kept c.min.type_inv
+    ∙ c.min.ensures.value
+    ∙ (λ i. int_min (narrow_kept {z = c.self.inside.lo} lo_fits i) (narrow_kept {z = c.other.inside.lo} lo_fits' i))
+    ∙ (λ i. int_min (c.self.view_is i).lo (c.other.view_is i).lo) in
     λ i. record { number = n i; hi = h i; lo = l i }

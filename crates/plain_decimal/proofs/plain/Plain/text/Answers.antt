@@ -10,8 +10,12 @@ loop-below-preserved c =
     let hi = ap (λ (v : Unsigned). v.hi) c.self.view_is in
     let lo = ap (λ (v : Unsigned). v.lo) c.self.view_is in
     let n = counted c.count_between-below-end.ensures lo hi lo_fits hi_fits in
-    let m = narrow_kept c.lowered-magnitude.type_inv ∙ c.lowered-magnitude.ensures ∙ ap (λ x. x -ℤ pos c.loop-below.below) (narrow_kept hi_fits ∙ hi) in
-    shown_more c.args.self.now _ _ c.loop-below.below c.digit.result _ (omega (arith, n, c.loop-below-test.true)) m c.digit.ensures c.in_ok-push_digit.ensures c.loop-below.invariant
+    let m =
+    narrow_kept c.lowered-magnitude.type_inv
+    ∙ c.lowered-magnitude.ensures
+    ∙ ap (λ x. x -ℤ pos c.loop-below.below) (narrow_kept hi_fits ∙ hi) in
+    shown_more c.args.self.now _ _ c.loop-below.below c.digit.result _ (omega (arith, n, c.loop-below-test.true)) m
+    c.digit.ensures c.in_ok-push_digit.ensures c.loop-below.invariant
 
 pub returns : goal.returns
 returns c =

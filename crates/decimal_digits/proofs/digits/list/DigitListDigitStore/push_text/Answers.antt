@@ -8,18 +8,17 @@ pub read_letters-requires : goal.read_letters-requires
 read_letters-requires c =
     let items = rw c.unwrap.ensures at c.extend_from_slice.ensures.ok in
     rw (end_is _ _ c.args.self.now.bytes.items c.args.text.now _ c.as_mut_slice.ensures.value items
-            c.len-held.ensures.value)
-        c.requires.are_digits
+    c.len-held.ensures.value)
+    c.requires.are_digits
 
 pub invariant_of-self-clause-decimal : goal.invariant_of-self-clause-decimal
 invariant_of-self-clause-decimal c =
     let before = c.args.self.now.bytes.items in
     let items = rw c.unwrap.ensures at c.extend_from_slice.ensures.ok in
-    let e =
-        refill_end _ _ before _ c.read_letters.new.letters _ _ c.as_mut_slice.ensures.value items
-            c.len-held.ensures.value refl c.read_letters.auto.letters in
+    let e = refill_end _ _ before _ c.read_letters.new.letters _ _ c.as_mut_slice.ensures.value items
+    c.len-held.ensures.value refl c.read_letters.auto.letters in
     let read =
-        c.read_letters.ensures
-        ∙ ap (map digit_value)
-            (end_is _ _ before c.args.text.now _ c.as_mut_slice.ensures.value items c.len-held.ensures.value) in
+    c.read_letters.ensures
+    ∙ ap (map digit_value)
+    (end_is _ _ before c.args.text.now _ c.as_mut_slice.ensures.value items c.len-held.ensures.value) in
     decimal_read before c.args.text.now _ (e ∙ ap (λ l. before ++ l) read) c.args.self.now.decimal c.requires.are_digits

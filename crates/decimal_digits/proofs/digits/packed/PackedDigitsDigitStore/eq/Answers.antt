@@ -7,7 +7,7 @@ pub returns-then-self-other : goal.returns-then-self-other
 returns-then-self-other c = (
   λ t. let b : c.as_slice.result.now ≡ c.as_slice-then-self-other.result.now = c.are_equal.ensures.0 t in
       let e : c.args.self.now.bytes.items ≡ c.args.other.now.bytes.items =
-          sym c.as_slice.ensures ∙ b ∙ c.as_slice-then-self-other.ensures in
+      sym c.as_slice.ensures ∙ b ∙ c.as_slice-then-self-other.ensures in
       let n = c.if-self-other.true in
       cc,
   λ e. let s = same_store _ _ c.args.self.now.packed _ _ c.args.other.now.packed e in

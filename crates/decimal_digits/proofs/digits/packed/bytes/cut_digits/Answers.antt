@@ -7,9 +7,9 @@ pub returns-then-count-eq1-clause-holds : goal.returns-then-count-eq1-clause-hol
 returns-then-count-eq1-clause-holds c =
     let l = c.shift_halves.auto.bytes ∙ ap length c.as_mut_slice.ensures.value in
     rw (c.truncate.ensures.items, refill_same c.drop_bytes.new.bytes.items c.shift_halves.new.bytes _ l)
-        (holds_drop_odd _ _ c.requires.packed c.shift_halves.new.bytes c.args.count _ c.requires.in_range
-            c.if-count-eq1.true c.byte_count.ensures
-            (rw (c.as_mut_slice.ensures.value ∙ c.drop_bytes.ensures.items) at c.shift_halves.ensures))
+    (holds_drop_odd _ _ c.requires.packed c.shift_halves.new.bytes c.args.count _ c.requires.in_range
+    c.if-count-eq1.true c.byte_count.ensures
+    (rw (c.as_mut_slice.ensures.value ∙ c.drop_bytes.ensures.items) at c.shift_halves.ensures))
 
 pub returns-else-count-eq1-clause-holds : goal.returns-else-count-eq1-clause-holds
 returns-else-count-eq1-clause-holds c =

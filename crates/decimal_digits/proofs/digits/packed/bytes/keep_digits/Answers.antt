@@ -8,9 +8,14 @@ pub set_half-requires-clause-in_range : goal.set_half-requires-clause-in_range
 set_half-requires-clause-in_range c =
     let p = c.requires.packed.count in
     let l : c.byte_count.result ≤ length c.args.bytes.now.items =
-        omega (arith, c.requires.in_range, c.byte_count.ensures) in
-    omega (arith, c.byte_count.ensures, length-halves c.keep_bytes.new.bytes.items,
-        ap length c.keep_bytes.ensures.items, length-take-le _ _ l)
+    omega (arith, c.requires.in_range, c.byte_count.ensures) in
+    omega (
+      arith,
+      c.byte_count.ensures,
+      length-halves c.keep_bytes.new.bytes.items,
+      ap length c.keep_bytes.ensures.items,
+      length-take-le _ _ l,
+    )
 
 pub returns-then-count-eq1-clause-holds : goal.returns-then-count-eq1-clause-holds
 returns-then-count-eq1-clause-holds c =
@@ -21,4 +26,4 @@ pub returns-else-count-eq1-clause-holds : goal.returns-else-count-eq1-clause-hol
 returns-else-count-eq1-clause-holds c =
     let even : c.args.count % 2 ≡ 0 = omega (arith, c.if-count-eq1.false) in
     rw c.keep_bytes.ensures.items
-        (holds_take_even _ _ c.requires.packed c.args.count _ c.requires.in_range even c.byte_count.ensures)
+    (holds_take_even _ _ c.requires.packed c.args.count _ c.requires.in_range even c.byte_count.ensures)

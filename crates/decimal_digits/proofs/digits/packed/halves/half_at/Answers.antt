@@ -18,4 +18,4 @@ returns-else-index-eq0 c =
     let h : c.args.index / 2 < length c.args.bytes.now = omega (arith, c.requires, length-halves c.args.bytes.now) in
     sym (low_half c.args.bytes.now (c.args.index / 2) h)
     ∙ ap (λ i. get_or (halves c.args.bytes.now) i 0)
-        (let e : 2 * (c.args.index / 2) + 1 ≡ c.args.index = omega arith in e)
+    (let e : 2 * (c.args.index / 2) + 1 ≡ c.args.index = omega arith in e)

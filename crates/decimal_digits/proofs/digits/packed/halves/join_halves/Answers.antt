@@ -13,8 +13,8 @@ returns-clause-joined c =
     let l = c.close_gap.auto.bytes ∙ ap length c.as_mut_slice.ensures.value in
     ap halves (refill_same _ _ _ l)
     ∙ joined c.args.bytes.now.items c.args.more.now c.close_gap.new.bytes c.args.count _ c.if-count-eq1.last
-        (c.args.count / 2) c.requires.some (ap (λ n. n - 1) c.len-at.ensures.value) refl c.requires.in_range f
-        (elim c.if-count-eq1.branch [
+    (c.args.count / 2) c.requires.some (ap (λ n. n - 1) c.len-at.ensures.value) refl c.requires.in_range f
+    (elim c.if-count-eq1.branch [
       | then-count-eq1 w ↦ last_odd _ _ _ _ refl c.requires.in_range w.if-count-eq1.true w.last-is
       | else-count-eq1 w ↦ last_even _ _ _ _ refl w.if-count-eq1.false w.last-is
     ])

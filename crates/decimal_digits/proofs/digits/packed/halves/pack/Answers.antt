@@ -11,10 +11,10 @@ returns-then-digits-eq1 c =
     ∙ get_or-drop (2 * c.loop-i.i) c.args.digits.now 0 0
     ∙ ap (λ n. get_or c.args.digits.now n 0) i in
     rw last
-        (pack_odd _ _ _ (c.loop-i.auto.bytes ∙ c.requires) c.loop-i-test.false c.if-digits-eq1.true
-            c.loop-i.invariant.packed)
+    (pack_odd _ _ _ (c.loop-i.auto.bytes ∙ c.requires) c.loop-i-test.false c.if-digits-eq1.true
+    c.loop-i.invariant.packed)
 
 pub returns-else-digits-eq1 : goal.returns-else-digits-eq1
 returns-else-digits-eq1 c =
     pack_even _ _ _ (c.loop-i.auto.bytes ∙ c.requires) c.loop-i-test.false c.if-digits-eq1.false
-        c.loop-i.invariant.packed
+    c.loop-i.invariant.packed

@@ -9,6 +9,6 @@ returns-clause-appended c =
     let items = rw c.unwrap.ensures at c.extend_from_slice.ensures.ok in
     let before = c.args.bytes.now.items in
     ap halves
-        (refill_end _ _ before _ c.pack.new.bytes _ _ c.as_mut_slice.ensures.value items c.len-held.ensures.value refl
-            c.pack.auto.bytes)
+    (refill_end _ _ before _ c.pack.new.bytes _ _ c.as_mut_slice.ensures.value items c.len-held.ensures.value refl
+    c.pack.auto.bytes)
     ∙ halves-append before c.pack.new.bytes ∙ ap (λ l. halves before ++ l) c.pack.ensures

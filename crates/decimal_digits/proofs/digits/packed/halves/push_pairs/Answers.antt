@@ -31,5 +31,5 @@ returns-clause-appended c =
       | else-digits-eq1 w ↦
           ap items w.bytes-is
           ∙ pushed_even before c.loop-i.bytes.items digits c.loop-i.i c.loop-i-test.false w.if-digits-eq1.false
-              c.loop-i.invariant.pushed
+          c.loop-i.invariant.pushed
     ]

@@ -11,7 +11,7 @@ loop-preserved c =
       items = e ∙ ap (λ l. l ++ replicate 64 0) c.loop.invariant.items
           ∙ append_assoc c.args.bytes.now.items (replicate (64 * c.loop.counter) 0) (replicate 64 0)
           ∙ ap (λ l. c.args.bytes.now.items ++ l)
-              (replicate-append-replicate (64 * c.loop.counter) 64 0 ∙ ap (λ n. replicate n 0) z);
+          (replicate-append-replicate (64 * c.loop.counter) 64 0 ∙ ap (λ n. replicate n 0) z);
       capacity = omega (arith, c.extend_from_slice.ensures.capacity, c.loop.invariant.capacity);
     }
 
@@ -24,4 +24,4 @@ returns-clause-items c =
     ∙ ap (λ l. l ++ replicate (c.args.count % 64) 0) c.loop.invariant.items
     ∙ append_assoc c.args.bytes.now.items (replicate (64 * c.loop.counter) 0) (replicate (c.args.count % 64) 0)
     ∙ ap (λ l. c.args.bytes.now.items ++ l)
-        (replicate-append-replicate (64 * c.loop.counter) (c.args.count % 64) 0 ∙ ap (λ n. replicate n 0) z)
+    (replicate-append-replicate (64 * c.loop.counter) (c.args.count % 64) 0 ∙ ap (λ n. replicate n 0) z)

@@ -13,9 +13,18 @@ append_pairs-requires-then-not-is_empty c =
     let before = c.args.bytes.now.items in
     let after = c.set_half.new.bytes.items in
     let same : length (halves after) ≡ length (halves before) =
-        ap length c.set_half.ensures.written ∙ length-set (halves before) c.args.len _ in
-    omega (arith, c.requires.packed.count, c.requires.has_room, c.set_half.ensures.capacity, same, length-halves before,
-        length-halves after, ap length (rest_is 1 c.args.text.now), length-drop 1 c.args.text.now)
+    ap length c.set_half.ensures.written ∙ length-set (halves before) c.args.len _ in
+    omega (
+      arith,
+      c.requires.packed.count,
+      c.requires.has_room,
+      c.set_half.ensures.capacity,
+      same,
+      length-halves before,
+      length-halves after,
+      ap length (rest_is 1 c.args.text.now),
+      length-drop 1 c.args.text.now,
+    )
 
 pub returns-then-len-eq0-clause-holds : goal.returns-then-len-eq0-clause-holds
 returns-then-len-eq0-clause-holds c =
@@ -24,7 +33,7 @@ returns-then-len-eq0-clause-holds c =
 pub returns-then-len-eq0-clause-fits : goal.returns-then-len-eq0-clause-fits
 returns-then-len-eq0-clause-fits c =
     let h =
-        text_even _ _ c.requires.packed _ _ c.if-len-eq0.true c.requires.are_digits c.append_pairs.ensures.appended in
+    text_even _ _ c.requires.packed _ _ c.if-len-eq0.true c.requires.are_digits c.append_pairs.ensures.appended in
     omega (arith, c.append_pairs.ensures.few, h.packed.count)
 
 pub returns-then-not-is_empty-clause-holds : goal.returns-then-not-is_empty-clause-holds

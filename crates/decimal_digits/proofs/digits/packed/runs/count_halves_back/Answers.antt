@@ -14,15 +14,15 @@ pub returns-then-bytes-count-clause-stops : goal.returns-then-bytes-count-clause
 returns-then-bytes-count-clause-stops c some e =
     let i : c.args.count - 0 - 1 ≡ 2 * (c.args.count / 2) = omega (arith, c.if-odd-eq1.true) in
     let byte : c.args.count / 2 < length c.args.bytes.now =
-        omega (arith, c.requires.in_range, length-halves c.args.bytes.now) in
+    omega (arith, c.requires.in_range, length-halves c.args.bytes.now) in
     c.if-bytes-count.true
-        (sym (ap (λ j. get_or (halves c.args.bytes.now) j 0) i ∙ high_half c.args.bytes.now (c.args.count / 2) byte)
-            ∙ e)
+    (sym (ap (λ j. get_or (halves c.args.bytes.now) j 0) i ∙ high_half c.args.bytes.now (c.args.count / 2) byte)
+    ∙ e)
 
 pub slice_bounds-count_bytes_back-end : goal.slice_bounds-count_bytes_back-end
 slice_bounds-count_bytes_back-end c =
     let h : c.args.count / 2 ≤ length c.args.bytes.now =
-        omega (arith, c.requires.in_range, length-halves c.args.bytes.now) in
+    omega (arith, c.requires.in_range, length-halves c.args.bytes.now) in
     sym (length-take-le (c.args.count / 2) c.args.bytes.now h)
 
 pub bounds-bytes-pairs : goal.bounds-bytes-pairs
@@ -36,9 +36,8 @@ returns-then-bytes-pairs-clause-equal c =
       | else-odd-eq1-via-then-odd-eq1+else-bytes-count w ↦ λ m. w.if-bytes-count.false
       | else-odd-eq1-via-else-odd-eq1 w ↦ λ m. absurd (w.if-odd-eq1.false m)
     ]) in
-    let t =
-        ends_in c.args.bytes.now c.args.count c.args.half same.result c.requires.in_range c.requires.is_half odd
-            same.ensures.equal in
+    let t = ends_in c.args.bytes.now c.args.count c.args.half same.result c.requires.in_range c.requires.is_half odd
+    same.ensures.equal in
     equal_halves_more _ _ _ _ t c.if-same-pairs.true c.if-bytes-pairs.true
 
 pub returns-then-bytes-pairs-clause-stops : goal.returns-then-bytes-pairs-clause-stops
@@ -49,13 +48,12 @@ returns-then-bytes-pairs-clause-stops c =
       | else-odd-eq1-via-then-odd-eq1+else-bytes-count w ↦ λ m. w.if-bytes-count.false
       | else-odd-eq1-via-else-odd-eq1 w ↦ λ m. absurd (w.if-odd-eq1.false m)
     ]) in
-    let t =
-        ends_in c.args.bytes.now c.args.count c.args.half same.result c.requires.in_range c.requires.is_half odd
-            same.ensures.equal in
+    let t = ends_in c.args.bytes.now c.args.count c.args.half same.result c.requires.in_range c.requires.is_half odd
+    same.ensures.equal in
     let h : c.args.count / 2 ≤ length c.args.bytes.now =
-        omega (arith, c.requires.in_range, length-halves c.args.bytes.now) in
+    omega (arith, c.requires.in_range, length-halves c.args.bytes.now) in
     halves_end_more _ _ _ _ t c.if-same-pairs.true c.if-bytes-pairs.true
-        (byte_before _ _ _ _ h c.if-same-pairs.true same.ensures.stops)
+    (byte_before _ _ _ _ h c.if-same-pairs.true same.ensures.stops)
 
 pub returns-clause-equal : goal.returns-clause-equal
 returns-clause-equal c =
@@ -65,9 +63,8 @@ returns-clause-equal c =
       | else-odd-eq1-via-then-odd-eq1+else-bytes-count w ↦ λ m. w.if-bytes-count.false
       | else-odd-eq1-via-else-odd-eq1 w ↦ λ m. absurd (w.if-odd-eq1.false m)
     ]) in
-    let t =
-        ends_in c.args.bytes.now c.args.count c.args.half same.result c.requires.in_range c.requires.is_half odd
-            same.ensures.equal in
+    let t = ends_in c.args.bytes.now c.args.count c.args.half same.result c.requires.in_range c.requires.is_half odd
+    same.ensures.equal in
     equal_halves _ _ _ _ t
 
 pub returns-clause-stops : goal.returns-clause-stops
@@ -78,11 +75,10 @@ returns-clause-stops c =
       | else-odd-eq1-via-then-odd-eq1+else-bytes-count w ↦ λ m. w.if-bytes-count.false
       | else-odd-eq1-via-else-odd-eq1 w ↦ λ m. absurd (w.if-odd-eq1.false m)
     ]) in
-    let t =
-        ends_in c.args.bytes.now c.args.count c.args.half same.result c.requires.in_range c.requires.is_half odd
-            same.ensures.equal in
+    let t = ends_in c.args.bytes.now c.args.count c.args.half same.result c.requires.in_range c.requires.is_half odd
+    same.ensures.equal in
     let low : same.result < c.args.count / 2
-            → get_or c.args.bytes.now (c.args.count / 2 - 1 - same.result) 0 % 16 ≢ c.args.half =
+    → get_or c.args.bytes.now (c.args.count / 2 - 1 - same.result) 0 % 16 ≢ c.args.half =
     (elim c.else-same-pairs.branch [
       | else-same-pairs-via-then-same-pairs+else-bytes-pairs w ↦ λ lt. w.if-bytes-pairs.false
       | else-same-pairs-via-else-same-pairs w ↦ λ lt. absurd (omega (arith, w.if-same-pairs.false))

@@ -24,13 +24,13 @@ returns-then-places-eq1 c =
     let n = c.loop-i.auto.places in
     let lt : length c.loop-i.places ≤ length (halves c.args.bytes.now) = omega (arith, c.requires) in
     rw (← n)
-        (letters_odd c.args.bytes.now c.loop-i.places c.loop-i.i lt (omega arith) c.if-places-eq1.true
-            c.loop-i.invariant)
+    (letters_odd c.args.bytes.now c.loop-i.places c.loop-i.i lt (omega arith) c.if-places-eq1.true
+    c.loop-i.invariant)
 
 pub returns-else-places-eq1 : goal.returns-else-places-eq1
 returns-else-places-eq1 c =
     let n = c.loop-i.auto.places in
     let lt : length c.loop-i.places ≤ length (halves c.args.bytes.now) = omega (arith, c.requires) in
     rw (← n)
-        (letters_even c.args.bytes.now c.loop-i.places c.loop-i.i lt (omega arith) c.if-places-eq1.false
-            c.loop-i.invariant)
+    (letters_even c.args.bytes.now c.loop-i.places c.loop-i.i lt (omega arith) c.if-places-eq1.false
+    c.loop-i.invariant)

@@ -16,8 +16,12 @@ slice_bounds-write_pairs-start c = omega (arith, c.requires, length-halves c.arg
 
 pub write_pairs-requires : goal.write_pairs-requires
 write_pairs-requires c =
-    omega (arith, c.requires, ap length (halves_from_even c.args.bytes.now c.args.from c.if-from-eq0.true),
-        length-drop c.args.from (halves c.args.bytes.now))
+    omega (
+      arith,
+      c.requires,
+      ap length (halves_from_even c.args.bytes.now c.args.from c.if-from-eq0.true),
+      length-drop c.args.from (halves c.args.bytes.now),
+    )
 
 pub bounds-bytes-from : goal.bounds-bytes-from
 bounds-bytes-from c = grind (arith, nat_tests, c.requires, length-halves c.args.bytes.now)
@@ -35,18 +39,24 @@ write_pairs-requires-then-not-is_empty c =
     let some : 0 < length c.args.places.now = grind (arith, nat_tests) in
     let ps = set c.args.places.now 0 (48 + get_or c.args.bytes.now (c.args.from / 2) 0 % 16) in
     let n : length ps ≡ length c.args.places.now = length-set c.args.places.now 0 _ in
-    omega (arith, c.requires, n, ap length (rest_is 1 ps), length-drop 1 ps,
-        ap length (halves_behind_odd c.args.bytes.now c.args.from c.if-from-eq0.false),
-        length-drop (c.args.from + 1) (halves c.args.bytes.now))
+    omega (
+      arith,
+      c.requires,
+      n,
+      ap length (rest_is 1 ps),
+      length-drop 1 ps,
+      ap length (halves_behind_odd c.args.bytes.now c.args.from c.if-from-eq0.false),
+      length-drop (c.args.from + 1) (halves c.args.bytes.now),
+    )
 
 pub returns-then-from-eq0 : goal.returns-then-from-eq0
 returns-then-from-eq0 c =
     c.write_pairs.ensures
     ∙ ap (λ l. text_of (take (length c.args.places.now) l))
-        (halves_from_even c.args.bytes.now c.args.from c.if-from-eq0.true)
+    (halves_from_even c.args.bytes.now c.args.from c.if-from-eq0.true)
 
 pub returns-then-not-is_empty : goal.returns-then-not-is_empty
 returns-then-not-is_empty c =
     let some : 0 < length c.args.places.now = grind (arith, nat_tests) in
     letters_from_odd c.args.bytes.now c.args.places.now _ c.args.from c.if-from-eq0.false some c.requires
-        c.write_pairs-then-not-is_empty.ensures
+    c.write_pairs-then-not-is_empty.ensures

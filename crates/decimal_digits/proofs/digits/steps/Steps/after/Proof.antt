@@ -37,6 +37,6 @@ after_spec 𝓤 𝓛 𝓜 𝓡 wired =
     qed 𝓛 (given ∷ ‵ ftrue ∷ []) ∵ split ! $ keep ! (0 ∷ []) $
     enter ! _ _ _ _ _ $ alloc_all ! (λ l. pass_all ! refl ((tt, tt), tt) $
     sets ! (agg ! (no_more !)) refl (tt, tt) $ returns ! (look_at ! 0 refl) $ free_all ! refl $
-    suffices ! _ (ends_at 𝓛 f.ended stayed c ((κs, qs, bounds, a, (vs, tt)), tt) bare next (tt, tt) (tt, tt))
-    $ says ! refl $
+    suffices ! _ (ends_at 𝓛 f.ended stayed c ((κs, qs, bounds, a, (vs, tt)), tt) bare next (tt, tt) (tt, tt)) $
+    says ! refl $
     made 𝓛 ! next $ nothing ! $ nothing ! $ join ! $ move ! (2 ∷ []) $ done !))

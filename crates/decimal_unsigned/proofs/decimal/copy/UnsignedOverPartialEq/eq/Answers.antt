@@ -11,18 +11,17 @@ returns-then-self-other g c =
     let v = c.args.self.now in
     let w = c.args.other.now in
     let valid : IsValue v × IsValue w =
-        (value_of_view c.self.invariant c.self.view_is, value_of_view c.other.invariant c.other.view_is) in
-    let e =
-        sym (not_same v w
-            (λ e. c.if-self-other.true
-                (ap (of_z w16)
-                    (same_magnitude c.self.invariant c.other.invariant
-                        (ap (λ (v : Unsigned). v.number) (c.self.view_is ∙ e ∙ sym c.other.view_is)))))) in
+    (value_of_view c.self.invariant c.self.view_is, value_of_view c.other.invariant c.other.view_is) in
+    let e = sym (not_same v w
+    (λ e. c.if-self-other.true
+    (ap (of_z w16)
+    (same_magnitude c.self.invariant c.other.invariant
+    (ap (λ (v : Unsigned). v.number) (c.self.view_is ∙ e ∙ sym c.other.view_is)))))) in
     record {
       same = e;
       value = tells_values false v w e;
       texts = tells_texts false v w e valid.0 valid.1;
-      valid = valid
+      valid = valid;
     }
 
 pub returns-then-self-other-2 : goal.returns-then-self-other-2
@@ -30,16 +29,15 @@ returns-then-self-other-2 g c =
     let v = c.args.self.now in
     let w = c.args.other.now in
     let valid : IsValue v × IsValue w =
-        (value_of_view c.self.invariant c.self.view_is, value_of_view c.other.invariant c.other.view_is) in
-    let e =
-        sym (not_same v w
-            (λ e. c.if-self-other-2.true
-                (ap (λ (v : Unsigned). of_z w16 v.hi) (c.self.view_is ∙ e ∙ sym c.other.view_is)))) in
+    (value_of_view c.self.invariant c.self.view_is, value_of_view c.other.invariant c.other.view_is) in
+    let e = sym (not_same v w
+    (λ e. c.if-self-other-2.true
+    (ap (λ (v : Unsigned). of_z w16 v.hi) (c.self.view_is ∙ e ∙ sym c.other.view_is)))) in
     record {
       same = e;
       value = tells_values false v w e;
       texts = tells_texts false v w e valid.0 valid.1;
-      valid = valid
+      valid = valid;
     }
 
 pub returns-then-self-other-3 : goal.returns-then-self-other-3
@@ -47,16 +45,15 @@ returns-then-self-other-3 g c =
     let v = c.args.self.now in
     let w = c.args.other.now in
     let valid : IsValue v × IsValue w =
-        (value_of_view c.self.invariant c.self.view_is, value_of_view c.other.invariant c.other.view_is) in
-    let e =
-        sym (not_same v w
-            (λ e. c.if-self-other-3.true
-                (ap (λ (v : Unsigned). of_z w16 v.lo) (c.self.view_is ∙ e ∙ sym c.other.view_is)))) in
+    (value_of_view c.self.invariant c.self.view_is, value_of_view c.other.invariant c.other.view_is) in
+    let e = sym (not_same v w
+    (λ e. c.if-self-other-3.true
+    (ap (λ (v : Unsigned). of_z w16 v.lo) (c.self.view_is ∙ e ∙ sym c.other.view_is)))) in
     record {
       same = e;
       value = tells_values false v w e;
       texts = tells_texts false v w e valid.0 valid.1;
-      valid = valid
+      valid = valid;
     }
 
 pub returns : goal.returns
@@ -66,21 +63,20 @@ returns g c =
     let v = c.args.self.now in
     let w = c.args.other.now in
     let valid : IsValue v × IsValue w =
-        (value_of_view c.self.invariant c.self.view_is, value_of_view c.other.invariant c.other.view_is) in
+    (value_of_view c.self.invariant c.self.view_is, value_of_view c.other.invariant c.other.view_is) in
     let m : c.self.inside.magnitude ≡ c.other.inside.magnitude =
-        sym (magnitude_kept t) ∙ ap (to_z w16) c.if-self-other.false ∙ magnitude_kept u in
+    sym (magnitude_kept t) ∙ ap (to_z w16) c.if-self-other.false ∙ magnitude_kept u in
     let h : c.self.inside.hi ≡ c.other.inside.hi =
-        sym (hi_kept t) ∙ ap (to_z w16) c.if-self-other-2.false ∙ hi_kept u in
+    sym (hi_kept t) ∙ ap (to_z w16) c.if-self-other-2.false ∙ hi_kept u in
     let l : c.self.inside.lo ≡ c.other.inside.lo =
-        sym (lo_kept t) ∙ ap (to_z w16) c.if-self-other-3.false ∙ lo_kept u in
-    let e =
-        both_ways c.eq.result (same v w)
-            (λ e. is_same v w (sym c.self.view_is ∙ (let d = c.eq.ensures.0 e in cc) ∙ c.other.view_is))
-            (λ e. c.eq.ensures.1 (same_digits t u
-                (ap (λ (v : Unsigned). v.number) (c.self.view_is ∙ same_is v w e ∙ sym c.other.view_is)))) in
+    sym (lo_kept t) ∙ ap (to_z w16) c.if-self-other-3.false ∙ lo_kept u in
+    let e = both_ways c.eq.result (same v w)
+    (λ e. is_same v w (sym c.self.view_is ∙ (let d = c.eq.ensures.0 e in cc) ∙ c.other.view_is))
+    (λ e. c.eq.ensures.1 (same_digits t u
+    (ap (λ (v : Unsigned). v.number) (c.self.view_is ∙ same_is v w e ∙ sym c.other.view_is)))) in
     record {
       same = e;
       value = tells_values c.eq.result v w e;
       texts = tells_texts c.eq.result v w e valid.0 valid.1;
-      valid = valid
+      valid = valid;
     }

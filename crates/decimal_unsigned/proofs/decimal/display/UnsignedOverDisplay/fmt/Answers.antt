@@ -13,7 +13,7 @@ use Rattle.decimal_unsigned.proofs.decimal.display.UnsignedOverDisplay.fmt.Goals
 pub from_utf8_unchecked-requires : goal.from_utf8_unchecked-requires
 from_utf8_unchecked-requires g c =
     IsUtf8-from_ascii _
-        (subst IsAscii (sym c.copy_text.ensures) (IsAscii-take _ _ (IsAscii-drop _ _ (text_ascii c.args.self.now))))
+    (subst IsAscii (sym c.copy_text.ensures) (IsAscii-take _ _ (IsAscii-drop _ _ (text_ascii c.args.self.now))))
 
 pub copy_text-requires-clause-zeros : goal.copy_text-requires-clause-zeros
 copy_text-requires-clause-zeros g c = zeros_first 64 c.min.result
@@ -30,12 +30,11 @@ loop-written-preserved g c =
       within = omega (arith, few, c.copy_text.auto.places, c.min.ensures);
       wrote = λ flush.
           let w = c.loop-written.invariant.wrote flush in
-          let p =
-              subst (λ bs. HasWrittenStyled took c.loop-written.f bs new) c.from_utf8_unchecked.ensures
-                  (c.in_ok-write_str.ensures.styled w.flush refl) in
+          let p = subst (λ bs. HasWrittenStyled took c.loop-written.f bs new) c.from_utf8_unchecked.ensures
+          (c.in_ok-write_str.ensures.styled w.flush refl) in
           has_written_styled_of_eq took c.args.f.now (take i all ++ piece) (take (i + length piece) all) new
-              (piece_taken all piece i _
-                  (omega (arith, few, c.min.ensures, c.writeable_length_hint-length.ensures.length))
-                  c.copy_text.ensures)
-              (has_written_styled_append took c.args.f.now (take i all) c.loop-written.f piece new w p);
+          (piece_taken all piece i _
+          (omega (arith, few, c.min.ensures, c.writeable_length_hint-length.ensures.length))
+          c.copy_text.ensures)
+          (has_written_styled_append took c.args.f.now (take i all) c.loop-written.f piece new w p);
     }

@@ -12,5 +12,5 @@ returns-in_err-digits-clause-succeeds g c = λ few.
     let m = c.self.invariant.makes in
     let long = middle_long s.plan.start s.plan.end (digits_of (view s.parts)) m.ordered m.within in
     let fits : s.plan.end - s.plan.start ≤ g.D.DigitStore.L =
-        omega (arith, long, size-number_of m.stored, few, ap (λ v. size v.number) c.self.view_is) in
+    omega (arith, long, size-number_of m.stored, few, ap (λ v. size v.number) c.self.view_is) in
     let k = c.in_err-digits.ensures.succeeds fits in absurd (cc)

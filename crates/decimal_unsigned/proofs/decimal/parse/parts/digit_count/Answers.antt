@@ -9,17 +9,17 @@ use Rattle.decimal_unsigned.proofs.decimal.parse.parts.digit_count.Goals.{then-t
 pub loop-i-preserved : goal.loop-i-preserved
 loop-i-preserved c =
     count_more c.args.text.now c.loop-i.i c.loop-i-test.true
-        (sym c.is_ascii_digit.ensures.value ∙ c.if-not-is_ascii_digit.false) c.loop-i.invariant
+    (sym c.is_ascii_digit.ensures.value ∙ c.if-not-is_ascii_digit.false) c.loop-i.invariant
 
 pub returns-then-not-is_ascii_digit : goal.returns-then-not-is_ascii_digit
 returns-then-not-is_ascii_digit c =
     count_ends c.args.text.now c.loop-i.i c.loop-i-test.true
-        (sym c.is_ascii_digit.ensures.value ∙ c.if-not-is_ascii_digit.true) c.loop-i.invariant
+    (sym c.is_ascii_digit.ensures.value ∙ c.if-not-is_ascii_digit.true) c.loop-i.invariant
 
 pub returns : goal.returns
 returns c =
     let i : prefix_len is_ascii_digit (drop c.loop-i.i c.args.text.now) ≡ 0 =
-        prefix_len-drop_all is_ascii_digit c.args.text.now c.loop-i.i c.loop-i-test.false in
+    prefix_len-drop_all is_ascii_digit c.args.text.now c.loop-i.i c.loop-i-test.false in
     let within : c.if-text-lt-GROUP.grouped ≤ length c.args.text.now =
-        elim c.if-text-lt-GROUP.branch [ then-text-lt-GROUP w ↦ omega arith | else-text-lt-GROUP w ↦ omega arith ] in
+    elim c.if-text-lt-GROUP.branch [ then-text-lt-GROUP w ↦ omega arith | else-text-lt-GROUP w ↦ omega arith ] in
     omega (arith, c.loop-i.invariant)

@@ -6,7 +6,7 @@ use Rattle.decimal_unsigned.proofs.decimal.parse.parts.numeral.Goals as goal
 pub loop-byte-preserved : goal.loop-byte-preserved
 loop-byte-preserved c =
     let d : is_ascii_digit (get_or c.args.text.now c.loop-byte.byte-index 0) ≡ true =
-        sym c.is_ascii_digit.ensures.value ∙ c.if-not-is_ascii_digit.false in
+    sym c.is_ascii_digit.ensures.value ∙ c.if-not-is_ascii_digit.false in
     let s = digits_step c.args.text.now c.loop-byte.byte-index c.loop-byte-test.true in
     record {
       value =

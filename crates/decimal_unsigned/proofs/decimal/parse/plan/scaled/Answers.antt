@@ -8,21 +8,21 @@ use Rattle.decimal_unsigned.proofs.decimal.parse.plan.scaled.Goals as goal
 pub lowest_shown-requires-clause-last_in : goal.lowest_shown-requires-clause-last_in
 lowest_shown-requires-clause-last_in c =
     let last : to_z w32 (of_z w32 c.raised-last.result) ≡ c.args.last +ℤ c.args.exponent =
-        wide_kept {z = c.raised-last.result} c.raised-last.type_inv ∙ (omega (arith, ints, c.raised-last.ensures)) in
+    wide_kept {z = c.raised-last.result} c.raised-last.type_inv ∙ (omega (arith, ints, c.raised-last.ensures)) in
     let lo : to_z w32 (of_z w32 c.raised-lo.result) ≡ c.args.lo +ℤ c.args.exponent =
-        wide_kept {z = c.raised-lo.result} c.raised-lo.type_inv ∙ (omega (arith, ints, c.raised-lo.ensures)) in
+    wide_kept {z = c.raised-lo.result} c.raised-lo.type_inv ∙ (omega (arith, ints, c.raised-lo.ensures)) in
     omega (arith, ints, last, lo, c.if-lo-ltminus32768.false, c.requires.last_in)
 
 pub returns-clause-some : goal.returns-clause-some
 returns-clause-some c =
     let first : to_z w32 (of_z w32 c.raised-first.result) ≡ c.args.first +ℤ c.args.exponent =
-        wide_kept {z = c.raised-first.result} c.raised-first.type_inv ∙ (omega (arith, ints, c.raised-first.ensures)) in
+    wide_kept {z = c.raised-first.result} c.raised-first.type_inv ∙ (omega (arith, ints, c.raised-first.ensures)) in
     let last : to_z w32 (of_z w32 c.raised-last.result) ≡ c.args.last +ℤ c.args.exponent =
-        wide_kept {z = c.raised-last.result} c.raised-last.type_inv ∙ (omega (arith, ints, c.raised-last.ensures)) in
+    wide_kept {z = c.raised-last.result} c.raised-last.type_inv ∙ (omega (arith, ints, c.raised-last.ensures)) in
     let hi : to_z w32 (of_z w32 c.raised-hi.result) ≡ c.args.hi +ℤ c.args.exponent =
-        wide_kept {z = c.raised-hi.result} c.raised-hi.type_inv ∙ (omega (arith, ints, c.raised-hi.ensures)) in
+    wide_kept {z = c.raised-hi.result} c.raised-hi.type_inv ∙ (omega (arith, ints, c.raised-hi.ensures)) in
     let lo : to_z w32 (of_z w32 c.raised-lo.result) ≡ c.args.lo +ℤ c.args.exponent =
-        wide_kept {z = c.raised-lo.result} c.raised-lo.type_inv ∙ (omega (arith, ints, c.raised-lo.ensures)) in
+    wide_kept {z = c.raised-lo.result} c.raised-lo.type_inv ∙ (omega (arith, ints, c.raised-lo.ensures)) in
     record {
       magnitude = narrow_kept c.narrowed.type_inv ∙ c.narrowed.ensures ∙ first;
       upper = omega (arith, ints, hi, c.if-hi-gt32767.false);

@@ -18,17 +18,17 @@ loop-written-preserved g c =
       within = omega (arith, few, same, c.min.ensures);
       appended =
           wrote_more _ _ _ (text c.args.self.now) c.copy_text.new.places c.loop-written.written _
-              (omega (arith, few, c.min.ensures, c.writeable_length_hint-length.ensures.length)) c.copy_text.ensures
-              c.loop-written.invariant.appended c.in_ok-put_bytes.ensures.appends;
+          (omega (arith, few, c.min.ensures, c.writeable_length_hint-length.ensures.length)) c.copy_text.ensures
+          c.loop-written.invariant.appended c.in_ok-put_bytes.ensures.appends;
     }
 
 pub returns-in_err-put_bytes-clause-err : goal.returns-in_err-put_bytes-clause-err
 returns-in_err-put_bytes-clause-err g c =
     let few = length-take c.min.result (block_of 64) in
     on_err c.from_residual.result _
-        (wrote_part _ _ _ (text c.args.self.now) c.copy_text.new.places c.loop-written.written _
-            (omega (arith, few, c.min.ensures, c.writeable_length_hint-length.ensures.length)) c.copy_text.ensures
-            c.loop-written.invariant.appended c.in_err-put_bytes.ensures.begins)
+    (wrote_part _ _ _ (text c.args.self.now) c.copy_text.new.places c.loop-written.written _
+    (omega (arith, few, c.min.ensures, c.writeable_length_hint-length.ensures.length)) c.copy_text.ensures
+    c.loop-written.invariant.appended c.in_err-put_bytes.ensures.begins)
 
 pub returns-in_err-put_bytes-clause-reads_back : goal.returns-in_err-put_bytes-clause-reads_back
 returns-in_err-put_bytes-clause-reads_back g c = read_text c.args.self.now c.magnitude_range-range.ensures.valid

@@ -7,13 +7,13 @@ pub returns-clause-front : goal.returns-clause-front
 returns-clause-front c =
     let p = c.args.self.now in
     digits_take _ (drop c.min.result p.whole.now)
-        (digits_drop c.min.result p.whole.now (digits_left p.whole.now p.fraction.now c.requires.digits))
+    (digits_drop c.min.result p.whole.now (digits_left p.whole.now p.fraction.now c.requires.digits))
 
 pub returns-clause-behind : goal.returns-clause-behind
 returns-clause-behind c =
     let p = c.args.self.now in
     digits_take _ (drop c.saturating_sub.result p.fraction.now)
-        (digits_drop c.saturating_sub.result p.fraction.now (digits_right p.whole.now p.fraction.now c.requires.digits))
+    (digits_drop c.saturating_sub.result p.fraction.now (digits_right p.whole.now p.fraction.now c.requires.digits))
 
 pub returns-clause-value : goal.returns-clause-value
 returns-clause-value c =

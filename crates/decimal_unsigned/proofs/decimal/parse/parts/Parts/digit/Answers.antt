@@ -11,7 +11,7 @@ pub overflow_sub-result-else-index-self-2 : goal.overflow_sub-result-else-index-
 overflow_sub-result-else-index-self-2 c =
     let p = c.args.self.now in
     (writes_right p.whole.now p.fraction.now c.args.index c.requires.digits c.if-index-self.false
-        c.requires.in_range).low
+    c.requires.in_range).low
 
 pub returns-then-index-self-clause-value : goal.returns-then-index-self-clause-value
 returns-then-index-self-clause-value c =
@@ -27,11 +27,13 @@ pub returns-else-index-self-clause-value : goal.returns-else-index-self-clause-v
 returns-else-index-self-clause-value c =
     let p = c.args.self.now in
     (writes_right p.whole.now p.fraction.now c.args.index c.requires.digits c.if-index-self.false
-        c.requires.in_range).is
+    c.requires.in_range).is
 
 pub returns-else-index-self-clause-bound : goal.returns-else-index-self-clause-bound
 returns-else-index-self-clause-bound c =
     let p = c.args.self.now in
-    omega (arith,
-        (writes_right p.whole.now p.fraction.now c.args.index c.requires.digits c.if-index-self.false
-            c.requires.in_range).high)
+    omega (
+      arith,
+      (writes_right p.whole.now p.fraction.now c.args.index c.requires.digits c.if-index-self.false
+          c.requires.in_range).high,
+    )
