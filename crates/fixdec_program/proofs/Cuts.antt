@@ -15,6 +15,7 @@ use Rattle.fixdec_program.proofs.Numerals.{own}
 
 -- ---- Bytes that are the same.
 
+-- whether two texts have the same bytes, in a form that computes
 unfoldable pub same_bytes : List ℕ → List ℕ → Bool
 same_bytes [] [] = true
 same_bytes (x ∷ xs) (y ∷ ys) = x == y && same_bytes xs ys
@@ -25,6 +26,7 @@ unfolding same_bytes
 same_itself [] = refl
 same_itself (x ∷ xs) = and_from _ _ (eq-eqb x x refl) (same_itself xs)
 
+-- texts that are equal have the same bytes
 pub same_if : (xs ys : List ℕ) → xs ≡ ys → same_bytes xs ys ≡ true
 same_if xs ys e = rw e (same_itself ys)
 
@@ -35,14 +37,17 @@ abbrev pub free : List ℕ → Bool
 free [] = true
 free (x ∷ xs) = not (x == 58) && free xs
 
+-- no byte of it is a colon
 abbrev pub IsFree : List ℕ → Type 0
 IsFree xs = (i : ℕ) → i < length xs → get_or xs i 0 ≢ 58
 
+-- where the test finds no colon, no byte is one
 pub free_at : (xs : List ℕ) → free xs ≡ true → IsFree xs
 free_at [] h i l e = absurd (omega arith)
 free_at (x ∷ xs) h zero l e = both_ways _ (not-true _ ((and_parts _ _ h).0)) (eq-eqb x 58 e)
 free_at (x ∷ xs) h (suc i) l e = free_at xs ((and_parts _ _ h).1) i (omega arith) e
 
+-- the word of a mode has no colon
 pub mode_free : (mode : SignedRoundingMode) → IsFree (mode_word mode)
 mode_free Ceil = free_at (codes "ceil") refl
 mode_free Floor = free_at (codes "floor") refl
@@ -74,6 +79,7 @@ first_minus : (word : List ℕ) → get_or word 0 0 ≡ 45 → word ≡ 45 ∷ d
 first_minus [] e = absurd (grind arith)
 first_minus (w ∷ ws) e = ap (λ x. x ∷ ws) e
 
+-- a word that is read as a number has no colon
 pub number_free : (word : List ℕ) (p : ℤ) → number word ≡ Some p → IsFree word
 number_free word p e =
     elim (cases_Bool (get_or word 0 0 == 45)) [
@@ -86,6 +92,7 @@ number_free word p e =
 
 -- ---- A rounding, cut at its two colons.
 
+-- the two parts of a text that is cut
 abbrev pub Two : Type 0
 Two = Bor (List ℕ) × Bor (List ℕ)
 
@@ -98,46 +105,66 @@ abbrev pub RefusesRounding : List ℕ → Type 0
 RefusesRounding bytes = (p : ℤ) (mode : SignedRoundingMode) (i : RoundingIncrement) → IsRounding bytes p mode i → ⊥
 
 module _ (bytes : List ℕ) (r : Option Two) (split : IsSplitOnceResult 58 bytes r) where
-  cut_rounding : (p : ℤ) (mode : SignedRoundingMode) (i : RoundingIncrement) → (k : IsRounding bytes p mode i) → CutsTo r k.0 (mode_word mode ++ (58 ∷ increment_word i))
-  cut_rounding p mode i (digits, is, reads) = split_after 58 bytes digits _ r split (omega arith) is (number_free digits p reads)
+  cut_rounding :
+      (p : ℤ) (mode : SignedRoundingMode) (i : RoundingIncrement) → (k : IsRounding bytes p mode i)
+      → CutsTo r k.0 (mode_word mode ++ (58 ∷ increment_word i))
+  cut_rounding p mode i (digits, is, reads) =
+      split_after 58 bytes digits _ r split (omega arith) is (number_free digits p reads)
 
+  -- where there is no first colon, there is no rounding
   pub uncut : r ≡ None → RefusesRounding bytes
   uncut none p mode i k = rw none at (cut_rounding p mode i k)
 
   module _ (front back : Bor (List ℕ)) (some : r ≡ Some (front, back)) where
-    parts : (p : ℤ) (mode : SignedRoundingMode) (i : RoundingIncrement) → (k : IsRounding bytes p mode i) → (front.now ≡ k.0) × (back.now ≡ mode_word mode ++ (58 ∷ increment_word i))
+    parts :
+        (p : ℤ) (mode : SignedRoundingMode) (i : RoundingIncrement) → (k : IsRounding bytes p mode i)
+        → (front.now ≡ k.0) × (back.now ≡ mode_word mode ++ (58 ∷ increment_word i))
     parts p mode i k = rw some at (cut_rounding p mode i k)
 
+    -- where what stands in front of the first colon is no number, there is no rounding
     pub no_position : number front.now ≡ None → RefusesRounding bytes
     no_position none p mode i k =
         let h : number front.now ≡ Some p = ap number ((parts p mode i k).0) ∙ k.2 in
         let e : None ≡ Some p = sym none ∙ h in cc
 
     module _ (r2 : Option Two) (split2 : IsSplitOnceResult 58 back.now r2) where
-      cut_mode : (p : ℤ) (mode : SignedRoundingMode) (i : RoundingIncrement) → IsRounding bytes p mode i → CutsTo r2 (mode_word mode) (increment_word i)
-      cut_mode p mode i k = split_after 58 back.now (mode_word mode) (increment_word i) r2 split2 (omega arith) ((parts p mode i k).1) (mode_free mode)
+      cut_mode :
+          (p : ℤ) (mode : SignedRoundingMode) (i : RoundingIncrement) → IsRounding bytes p mode i
+          → CutsTo r2 (mode_word mode) (increment_word i)
+      cut_mode p mode i k =
+          split_after 58 back.now (mode_word mode) (increment_word i) r2 split2 (omega arith) ((parts p mode i k).1)
+          (mode_free mode)
 
+      -- where there is no second colon, there is no rounding
       pub uncut_mode : r2 ≡ None → RefusesRounding bytes
       uncut_mode none p mode i k = rw none at (cut_mode p mode i k)
 
       module _ (front2 back2 : Bor (List ℕ)) (some2 : r2 ≡ Some (front2, back2)) where
-        mode_parts : (p : ℤ) (mode : SignedRoundingMode) (i : RoundingIncrement) → IsRounding bytes p mode i → (front2.now ≡ mode_word mode) × (back2.now ≡ increment_word i)
+        mode_parts :
+            (p : ℤ) (mode : SignedRoundingMode) (i : RoundingIncrement) → IsRounding bytes p mode i
+            → (front2.now ≡ mode_word mode) × (back2.now ≡ increment_word i)
         mode_parts p mode i k = rw some2 at (cut_mode p mode i k)
 
+        -- where what stands between the colons is no mode, there is no rounding
         pub no_mode : ((mode : SignedRoundingMode) → front2.now ≢ mode_word mode) → RefusesRounding bytes
         no_mode h p mode i k = h mode ((mode_parts p mode i k).0)
 
+        -- where what stands behind the second colon is no increment, there is no rounding
         pub no_increment : ((i : RoundingIncrement) → back2.now ≢ increment_word i) → RefusesRounding bytes
         no_increment h p mode i k = h i ((mode_parts p mode i k).1)
 
         -- what is read is a rounding
-        pub is_rounding : (p : ℤ) (mode : SignedRoundingMode) (i : RoundingIncrement) → number front.now ≡ Some p → front2.now ≡ mode_word mode → back2.now ≡ increment_word i → IsRounding bytes p mode i
+        pub is_rounding :
+            (p : ℤ) (mode : SignedRoundingMode) (i : RoundingIncrement) → number front.now ≡ Some p
+            → front2.now ≡ mode_word mode → back2.now ≡ increment_word i → IsRounding bytes p mode i
         is_rounding p mode i reads m n =
             let (a, _) = rw some at (split_parts 58 bytes r split (omega arith)) in
             let (b, _) = rw some2 at (split_parts 58 back.now r2 split2 (omega arith)) in
             let e : back.now ≡ mode_word mode ++ (58 ∷ increment_word i) = rw (← m, ← n) b in
             (front.now, rw (← e) a, reads)
 
-pub refuse_rounding : {A : Type 0} (r : Option A) (bytes : List ℕ) → RefusesRounding bytes → IfNone r (RefusesRounding bytes)
+-- what is true of bytes that are no rounding, stated of an answer that may be none
+pub refuse_rounding :
+    {A : Type 0} (r : Option A) (bytes : List ℕ) → RefusesRounding bytes → IfNone r (RefusesRounding bytes)
 refuse_rounding None bytes h = h
 refuse_rounding (Some x) bytes h = tt

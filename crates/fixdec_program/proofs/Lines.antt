@@ -25,7 +25,9 @@ all_left : (t : ℕ) (bytes : List ℕ) → take (length bytes - t) (drop t byte
 all_left t bytes = rw (← length-drop t bytes) (take-length (drop t bytes))
 
 -- so many bytes more were taken
-pub took_more : (a b c : Option (List ℕ)) (t n : ℕ) (bytes : List ℕ) → Appends a b (take t bytes) → Appends b c (take n (take (length bytes - t) (drop t bytes))) → Appends a c (take (t + n) bytes)
+pub took_more :
+    (a b c : Option (List ℕ)) (t n : ℕ) (bytes : List ℕ) → Appends a b (take t bytes)
+    → Appends b c (take n (take (length bytes - t) (drop t bytes))) → Appends a c (take (t + n) bytes)
 took_more a b c t n bytes p q =
     let q2 : Appends b c (take n (drop t bytes)) = rw (all_left t bytes) at q in
     rw (take-add t n bytes) (appends_both a b c (take t bytes) (take n (drop t bytes)) p q2)

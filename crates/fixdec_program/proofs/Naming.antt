@@ -8,6 +8,7 @@ use Rattle.fixdec_program.specs.Words.{sign_word, display_word, Names}
 use Rattle.fixdec_program.specs.Parts.{name_of, HasArgument, PartsName}
 use Rattle.fixdec_program.proofs.Cuts.{Two, same_bytes, same_if, free_at, IsFree, RefusesRounding}
 
+-- the name of a call has no colon
 pub name_free : (call : Call) → IsFree (name_of call)
 name_free (MultiplyPow10 d) = free_at (codes "shift") refl
 name_free TrimStart = λ i l e. absurd (omega arith)
@@ -25,7 +26,10 @@ name_free (Concatenate text) = free_at (codes "concat") refl
 abbrev pub IsCut : List ℕ → Call → Type 0
 IsCut word call = (rest : List ℕ) × (word ≡ name_of call ++ (58 ∷ rest)) × HasArgument rest call
 
-pub cut_of : (word : List ℕ) → word ≢ codes "trim-start" → word ≢ codes "trim-end" → word ≢ codes "trim-end-if-integer" → (call : Call) → Names word call → IsCut word call
+-- a word that names a call and has a colon is cut there into its name and what it takes
+pub cut_of :
+    (word : List ℕ) → word ≢ codes "trim-start" → word ≢ codes "trim-end" → word ≢ codes "trim-end-if-integer"
+    → (call : Call) → Names word call → IsCut word call
 cut_of word a b t (MultiplyPow10 d) (digits, e, h) = (digits, e, h)
 cut_of word a b t TrimStart h = absurd (a h)
 cut_of word a b t TrimEnd h = absurd (b h)
@@ -38,7 +42,9 @@ cut_of word a b t (SetSign s) e = (sign_word s, e, refl)
 cut_of word a b t (ApplySignDisplay d) e = (display_word d, e, refl)
 cut_of word a b t (Concatenate text) e = (text.now, e, refl)
 
-names : (word front back : List ℕ) → word ≡ front ++ (58 ∷ back) → (call : Call) → PartsName front back call → Names word call
+names :
+    (word front back : List ℕ) → word ≡ front ++ (58 ∷ back) → (call : Call) → PartsName front back call
+    → Names word call
 names word front back e (MultiplyPow10 d) (f, h) = (back, rw f at e, h)
 names word front back e TrimStart (f, h) = absurd h
 names word front back e TrimEnd (f, h) = absurd h
@@ -52,7 +58,9 @@ names word front back e (ApplySignDisplay d) (f, h) = rw (f, h) at e
 names word front back e (Concatenate text) (f, h) = rw (f, h) at e
 
 -- the call, where there is one, is named so
-pub if_named : (o : Option Call) (word front back : List ℕ) → word ≡ front ++ (58 ∷ back) → IfSome o (PartsName front back) → IfSome o (Names word)
+pub if_named :
+    (o : Option Call) (word front back : List ℕ) → word ≡ front ++ (58 ∷ back) → IfSome o (PartsName front back)
+    → IfSome o (Names word)
 if_named None word front back e h = tt
 if_named (Some call) word front back e h = names word front back e call h
 
@@ -60,26 +68,41 @@ if_named (Some call) word front back e h = names word front back e call h
 abbrev pub Refuses : List ℕ → Type 0
 Refuses word = (call : Call) → Names word call → ⊥
 
+-- what is true where there is no answer follows from what is known there
 pub if_refused : {A : Type 0} (o : Option A) (P Q : Type 0) → (P → Q) → IfNone o P → IfNone o Q
 if_refused None P Q f h = f h
 if_refused (Some x) P Q f h = tt
 
-module _ (word : List ℕ) (r : Option Two) (split : IsSplitOnceResult 58 word r) (front back : Bor (List ℕ)) (some : r ≡ Some (front, back)) where
-  pub joined : word ≡ front.now ++ (58 ∷ back.now)
-  joined = (rw some at (split_parts 58 word r split (omega arith))).0
+module _
+    (word : List ℕ)
+    (r : Option Two)
+    (split : IsSplitOnceResult 58 word r)
+    (front back : Bor (List ℕ))
+    (some : r ≡ Some (front, back))
+  where
+    -- the word is its two parts with a colon between them
+    pub joined : word ≡ front.now ++ (58 ∷ back.now)
+    joined = (rw some at (split_parts 58 word r split (omega arith))).0
 
-  pub refuses : word ≢ codes "trim-start" → word ≢ codes "trim-end" → word ≢ codes "trim-end-if-integer" → ((call : Call) → PartsName front.now back.now call → ⊥) → Refuses word
-  refuses a b t never call h =
-      let (rest, e, argument) = cut_of word a b t call h in
-      let (f, k) = rw some at (split_after 58 word (name_of call) rest r split (omega arith) e (name_free call)) in
-      never call (f, rw k argument)
+    -- where the two parts name no call, the word names none
+    pub refuses :
+        word ≢ codes "trim-start" → word ≢ codes "trim-end" → word ≢ codes "trim-end-if-integer"
+        → ((call : Call) → PartsName front.now back.now call → ⊥) → Refuses word
+    refuses a b t never call h =
+        let (rest, e, argument) = cut_of word a b t call h in
+        let (f, k) = rw some at (split_after 58 word (name_of call) rest r split (omega arith) e (name_free call)) in
+        never call (f, rw k argument)
 
 -- ---- A rounding.
 
-no_round : (back : List ℕ) → RefusesRounding back → (call : Call) → same_bytes (codes "round") (name_of call) ≡ true → HasArgument back call → ⊥
+no_round :
+    (back : List ℕ) → RefusesRounding back → (call : Call) → same_bytes (codes "round") (name_of call) ≡ true
+    → HasArgument back call → ⊥
 unfolding same_bytes
 no_round back h (Round p mode i) e k = h p mode i k
 no_round back h call e k = false≢true e
 
-pub refuses_round : (front back : List ℕ) → front ≡ codes "round" → RefusesRounding back → (call : Call) → PartsName front back call → ⊥
+-- where what stands behind `round` is no rounding, the two parts name no call
+pub refuses_round :
+    (front back : List ℕ) → front ≡ codes "round" → RefusesRounding back → (call : Call) → PartsName front back call → ⊥
 refuses_round front back is h call (f, k) = no_round back h call (same_if _ _ (rw is at f)) k

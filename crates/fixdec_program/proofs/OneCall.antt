@@ -25,7 +25,9 @@ first_free x xs h e = h 0 (omega arith) e
 rest_free : (x : ℕ) (xs : List ℕ) → IsFree (x ∷ xs) → IsFree xs
 rest_free x xs h i l e = h (suc i) (omega arith) e
 
-same_cut : (xs ys front back : List ℕ) → IsFree xs → IsFree front → xs ++ (58 ∷ ys) ≡ front ++ (58 ∷ back) → (xs ≡ front) × (ys ≡ back)
+same_cut :
+    (xs ys front back : List ℕ) → IsFree xs → IsFree front → xs ++ (58 ∷ ys) ≡ front ++ (58 ∷ back)
+    → (xs ≡ front) × (ys ≡ back)
 same_cut [] ys [] back f g e = (refl, cc)
 same_cut [] ys (y ∷ front) back f g e = absurd (first_free y front g (cc))
 same_cut (x ∷ xs) ys [] back f g e = absurd (first_free x xs f (cc))
@@ -94,16 +96,22 @@ one_display m n e = absurd (false≢true e)
 one_number : (bytes : List ℕ) (m n : ℤ) → number bytes ≡ Some m → number bytes ≡ Some n → m ≡ n
 one_number bytes m n h k = let e : Some m ≡ Some n = sym h ∙ k in cc
 
-one_rounding : (bytes : List ℕ) (p q : ℤ) (m n : SignedRoundingMode) (i j : RoundingIncrement) → IsRounding bytes p m i → IsRounding bytes q n j → Round p m i ≡ Round q n j
+one_rounding :
+    (bytes : List ℕ) (p q : ℤ) (m n : SignedRoundingMode) (i j : RoundingIncrement) → IsRounding bytes p m i
+    → IsRounding bytes q n j → Round p m i ≡ Round q n j
 one_rounding bytes p q m n i j (xs, a, reads) (ys, b, reads2) =
     let (same, rest) = same_cut xs _ ys _ (number_free xs p reads) (number_free ys q reads2) (sym a ∙ b) in
-    let (mode, increment) = same_cut (mode_word m) (increment_word i) (mode_word n) (increment_word j) (mode_free m) (mode_free n) rest in
+    let (mode, increment) =
+    same_cut (mode_word m) (increment_word i) (mode_word n) (increment_word j) (mode_free m) (mode_free n) rest in
     let modes : m ≡ n = one_mode m n (same_if _ _ mode) in
     let increments : i ≡ j = one_increment i j (same_if _ _ increment) in
     let positions : p ≡ q = one_number xs p q reads (ap number same ∙ reads2) in
     cc
 
-one_argument : (bytes : List ℕ) (c d : Call) → same_bytes (name_of c) (name_of d) ≡ true → HasArgument bytes c → HasArgument bytes d → IsSame c d
+one_argument :
+    (bytes : List ℕ) (c d : Call) → same_bytes (name_of c) (name_of d) ≡ true → HasArgument bytes c → HasArgument bytes
+    d
+    → IsSame c d
 unfolding same_bytes
 one_argument bytes (MultiplyPow10 m) (MultiplyPow10 n) e h k = ap MultiplyPow10 (one_number bytes m n h k)
 one_argument bytes (PadStart m) (PadStart n) e h k = ap PadStart (one_number bytes m n h k)
@@ -111,7 +119,8 @@ one_argument bytes (PadEnd m) (PadEnd n) e h k = ap PadEnd (one_number bytes m n
 one_argument bytes (SetMaxPosition m) (SetMaxPosition n) e h k = ap SetMaxPosition (one_number bytes m n h k)
 one_argument bytes (Round p m i) (Round q n j) e h k = one_rounding bytes p q m n i j h k
 one_argument bytes (SetSign m) (SetSign n) e h k = ap SetSign (one_sign m n (same_if _ _ (sym h ∙ k)))
-one_argument bytes (ApplySignDisplay m) (ApplySignDisplay n) e h k = ap ApplySignDisplay (one_display m n (same_if _ _ (sym h ∙ k)))
+one_argument bytes (ApplySignDisplay m) (ApplySignDisplay n) e h k =
+    ap ApplySignDisplay (one_display m n (same_if _ _ (sym h ∙ k)))
 one_argument bytes (Concatenate s) (Concatenate t) e h k = sym h ∙ k
 one_argument bytes TrimStart d e h k = absurd h
 one_argument bytes TrimEnd d e h k = absurd h
@@ -153,7 +162,8 @@ bare_free TrimEnd h = free_at (codes "trim-end") refl
 bare_free TrimEndIfInteger h = free_at (codes "trim-end-if-integer") refl
 bare_free call h = absurd (false≢true (sym h))
 
-one_bare : (c d : Call) → same_bytes (bare_word c) [] ≡ false → same_bytes (bare_word c) (bare_word d) ≡ true → IsSame c d
+one_bare :
+    (c d : Call) → same_bytes (bare_word c) [] ≡ false → same_bytes (bare_word c) (bare_word d) ≡ true → IsSame c d
 unfolding same_bytes
 one_bare TrimStart TrimStart h e = refl
 one_bare TrimStart d h e = absurd (false≢true e)
@@ -177,5 +187,6 @@ alike word c d (bare a h) (full k) = absurd (mixed word c d a h k)
 alike word c d (full h) (bare b k) = absurd (mixed word d c b k h)
 alike word c d (full h) (full k) = full_alike word c d h k
 
+-- a word that names two calls names the same call twice
 pub at_most_one : (word : List ℕ) (first second : Call) → Names word first → Names word second → IsSame first second
 at_most_one word first second h k = alike word first second (form_of word first h) (form_of word second k)

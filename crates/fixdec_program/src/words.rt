@@ -71,7 +71,8 @@ fn increment(word: &str) -> Option<RoundingIncrement>
 /// The rounding whose position, mode and increment stand between colons.
 fn rounding<'a>(words: &str) -> Option<Call<'a>>
     ensures some { IfSome result (PartsName (codes "round") words.now) }
-    ensures none { IfNone result ((p : ℤ) (m : SignedRoundingMode) (i : RoundingIncrement) → ¬ IsRounding words.now p m i) }
+    ensures none { IfNone result
+        ((p : ℤ) (m : SignedRoundingMode) (i : RoundingIncrement) → ¬ IsRounding words.now p m i) }
 {
     let (position, words) = words.split_once(':')?;
     let (mode_word, increment_word) = words.split_once(':')?;

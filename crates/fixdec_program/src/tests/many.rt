@@ -17,7 +17,7 @@ const ROWS: &[(&str, &str, usize, &str, &str)] = &[
         "shift:32768",
         "2 usage: fixdec TEXT [CALL]..\n",
     ),
-    ("5", "max:9", 1_000, "shift:0", "5"),
+    ("5", "max:9", 1_000, "shift:0", "000000005"),
     ("5", "shift:32767", 1, "shift:1", "1 call 1: overflow\n"),
     ("5", "shift:127", 258, "shift:2", "1 call 258: overflow\n"),
 ];

@@ -6,7 +6,8 @@ use Rattle.fixdec_program.proofs.command_line.are_calls.Goals as goal
 
 pub returns-then-is_none-clause-unknown : goal.returns-then-is_none-clause-unknown
 returns-then-is_none-clause-unknown c =
-    let unknown : IsUnknown c.word-item.result = rw (← c.as_str.ensures.value) (at_none c.call.result c.if-is_none.ensures c.call.ensures.none) in
+    let unknown : IsUnknown c.word-item.result =
+    rw (← c.as_str.ensures.value) (at_none c.call.result c.if-is_none.ensures c.call.ensures.none) in
     λ e. (c.loop-word.word-index, c.word-item.result, c.loop-word-test.true, sym c.word-item.is, unknown)
 
 pub loop-word-preserved : goal.loop-word-preserved

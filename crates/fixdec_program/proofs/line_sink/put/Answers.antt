@@ -6,8 +6,11 @@ use Rattle.fixdec_program.proofs.line_sink.put.Goals as goal
 
 pub loop-taken-preserved : goal.loop-taken-preserved
 loop-taken-preserved g c =
-    let bound = simp (length-take, length-drop) at c.in-Ok.ensures.bound in
-    (omega (arith, bound), took_more _ _ _ c.loop-taken.taken c.in-Ok.count c.args.bytes.now c.loop-taken.invariant.1 c.in-Ok.ensures.bytes)
+    let bound = simp (length-take, length-drop) at c.in-Ok.ensures.bound in (
+      omega (arith, bound),
+      took_more _ _ _ c.loop-taken.taken c.in-Ok.count c.args.bytes.now c.loop-taken.invariant.1
+          c.in-Ok.ensures.bytes,
+    )
 
 pub returns-in_default-clause-err : goal.returns-in_default-clause-err
 returns-in_default-clause-err g c =
