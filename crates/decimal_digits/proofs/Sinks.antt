@@ -1,5 +1,5 @@
 -- What a sink has taken of a text, piece by piece.
-use Rattle.std.proofs.Common.{ℕ, List, [], ◌++◌, take, drop, Option, None, Some, sym, ◌∙◌, ap, append_assoc, take-append-drop}
+use Rattle.std.proofs.Common.{◌≡◌, ℕ, ◌<◌, ◌⊎◌, inl, inr, Bool, true, false, List, [], ◌++◌, take, drop, Option, None, Some, refl, sym, ◌∙◌, ap, subst, arith, append_assoc, take-append-drop}
 use Rattle.std.proofs.lemmas.List.{append-nil}
 use Rattle.std.specs.Io.KnownBytes.{Keeps, Appends}
 use Rattle.decimal_digits.specs.Text.{AppendsBeginning}
@@ -41,3 +41,42 @@ part_none a xs = ([], xs, (λ i. xs), appends_none a)
 pub part_kept : (a b c : Option (List ℕ)) (i : ℕ) (xs : List ℕ) → Appends a b (take i xs) → Keeps b c
     → AppendsBeginning a c xs
 part_kept a b c i xs p q = (take i xs, drop i xs, take-append-drop i xs, appends_kept a b c _ p q)
+
+-- ---- a sink that had failed before
+-- after so many pieces: the sink is as at first and none was put into it, or it had not failed at first
+abbrev pub IsFresh : {S : Type 0} → (S → Bool) → ℕ → S → S → Type 0
+IsFresh has_failed count first now = ((count ≡ 0) × (now ≡ first)) ⊎ (has_failed first ≡ false)
+
+-- where a piece was taken the sink had not failed at first
+pub fresh_more : {S : Type 0} (has_failed : S → Bool) (count : ℕ) (first now : S)
+    → IsFresh has_failed count first now → has_failed now ≡ false → has_failed first ≡ false
+fresh_more has_failed count first now fresh h =
+    elim fresh [ inl same ↦ ap has_failed (sym same.1) ∙ h | inr sound ↦ sound ]
+
+-- after a piece the sink had not failed at first
+pub fresh_some : {S : Type 0} (has_failed : S → Bool) (count : ℕ) (first now : S)
+    → IsFresh has_failed count first now → 0 < count → has_failed first ≡ false
+fresh_some has_failed count first now fresh h =
+    elim fresh [ inl same ↦ absurd (omega (arith, same.0, h)) | inr sound ↦ sound ]
+
+-- what a sink that has failed keeps is what it had at first
+pub fresh_keeps : {S : Type 0} (has_failed : S → Bool) (contents : S → Option (List ℕ)) (count : ℕ) (first now new : S)
+    → IsFresh has_failed count first now → (has_failed now ≡ true → Keeps (contents now) (contents new))
+    → has_failed first ≡ true → Keeps (contents first) (contents new)
+fresh_keeps has_failed contents count first now new fresh stays h =
+    elim fresh [
+      | inl same ↦ subst (λ s. Keeps (contents s) (contents new)) same.1 (stays (ap has_failed same.1 ∙ h))
+      | inr sound ↦ absurd (let n : true ≡ false = sym h ∙ sound in cc)
+    ]
+
+-- nor is there anything to keep for one that had
+pub fresh_ends : {S : Type 0} (has_failed : S → Bool) (contents : S → Option (List ℕ)) (count : ℕ) (first now : S)
+    → IsFresh has_failed count first now → 0 < count → has_failed first ≡ true → Keeps (contents first) (contents now)
+fresh_ends has_failed contents count first now fresh some h =
+    absurd (let n : true ≡ false = sym h ∙ fresh_some has_failed count first now fresh some in cc)
+
+-- before the first piece
+pub fresh_of : {S : Type 0} (has_failed : S → Bool) (first now : S)
+    → (now ≡ first) ⊎ (has_failed first ≡ false) → IsFresh has_failed 0 first now
+fresh_of has_failed first now (inl same) = inl (refl, same)
+fresh_of has_failed first now (inr sound) = inr sound

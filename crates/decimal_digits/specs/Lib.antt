@@ -4,6 +4,7 @@ pub mod Digits
 pub mod Text
 pub mod Integer
 pub mod Rounding
+pub mod Orders
 pub mod Counted
 pub mod Left
 pub mod Halves

@@ -18,8 +18,8 @@ pub use steps::Steps;
 /// A list of digits 0 to 9 and the room that it has for more.
 ///
 /// Contracts see the list, the room, and `L`, the number of digits that are held without memory. After a call that
-/// changes the list nothing more is known of the room than that it is at least `L` less the length, `reserve` and
-/// `push_in_room` apart. Not in the original.
+/// changes the list nothing more is known of the room than that it is at least `L` less the length, but for `reserve`,
+/// `push_in_room` and `push_text`. Not in the original.
 pub trait DigitStore: Drop {
     /// The digits.
     ghost digits: { Self → List ℕ };

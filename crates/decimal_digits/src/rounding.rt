@@ -9,6 +9,7 @@ ghost use Rattle.decimal_digits.specs.Tails.{leading, HasParts};
 
 mod ends;
 mod kept;
+mod laws;
 mod tail;
 mod two;
 

@@ -43,13 +43,14 @@ pub trait Sink {
     /// Takes bytes, in order.
     ///
     /// Err: a byte was refused; those in front of it were taken, and the sink has failed. A sink that has failed
-    /// refuses an empty slice too.
+    /// refuses an empty slice too, and its contents stay as they were.
     fn put_bytes(&mut self, bytes: &[u8]) -> Result<(), SinkFault>
         ensures appends { OnOk result (Appends (contents self.old) (contents self.new) bytes.now) }
         ensures worked { OnOk result (has_failed self.old ≡ false) }
         ensures works { OnOk result (has_failed self.new ≡ false) }
         ensures begins { OnErr result (AppendsBeginning (contents self.old) (contents self.new) bytes.now) }
         ensures fails { OnErr result (has_failed self.new ≡ true) }
+        ensures stays { has_failed self.old ≡ true → Keeps (contents self.old) (contents self.new) }
     {
         if self.failed() {
             return Err(SinkFault);
@@ -70,11 +71,14 @@ pub trait Writeable {
 
     /// Appends the text to a sink.
     ///
-    /// Err: the sink refused a byte, now or before. It has then taken a beginning of the text.
+    /// Err: the sink refused a byte, now or before. It has then taken a beginning of the text. A sink that has failed
+    /// refuses each text, and its contents stay as they were.
     fn write_to<W: Sink>(&self, sink: &mut W) -> Result<(), SinkFault>
         ensures ok { OnOk result (Appends (W.contents sink.old) (W.contents sink.new) (text self.now)) }
         ensures err { OnErr result (AppendsBeginning (W.contents sink.old) (W.contents sink.new) (text self.now)) }
-        ensures failed { OnErr result (W.has_failed sink.new ≡ true) };
+        ensures worked { OnOk result (W.has_failed sink.old ≡ false) }
+        ensures failed { OnErr result (W.has_failed sink.new ≡ true) }
+        ensures stays { W.has_failed sink.old ≡ true → Keeps (W.contents sink.old) (W.contents sink.new) };
 
     /// Counts the bytes of the text, exactly.
     fn writeable_length_hint(&self) -> usize

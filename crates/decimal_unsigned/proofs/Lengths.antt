@@ -1,5 +1,5 @@
 -- How many bytes the text of a value has.
-use Rattle.std.proofs.Common.{◌≡◌, ℕ, zero, suc, ◌+◌, ◌≤◌, [], ◌∷◌, ◌++◌, length, ◌∙◌, ap, arith}
+use Rattle.std.proofs.Common.{◌≡◌, ℕ, zero, suc, ◌+◌, ◌<◌, ◌≤◌, [], ◌∷◌, ◌++◌, length, ◌∙◌, ap, arith}
 use Rattle.std.specs.Prelude.{ℤ, pos, negsuc, ◌-ℤ◌, ◌≤ℤ◌, ◌<ℤ◌}
 use Rattle.std.specs.Int.{int_gap}
 use Rattle.std.proofs.lemmas.Int.{ints, by_lt_z}
@@ -85,3 +85,9 @@ text_short v valid = by_lt_z v.lo (pos 0)
   where
     gap : int_gap v.lo v.hi ≤ 65535
     gap = gap_small v.lo v.hi valid.hi_in.0 valid.hi_in.1 valid.lo_in.0 valid.lo_in.1
+
+-- no text of a value is empty
+pub text_some : (v : Unsigned) → IsValue v → 0 < length (text v)
+text_some v valid = by_lt_z v.lo (pos 0)
+    (λ below. omega (arith, length-text_dotted v valid.hi_in.0 below))
+    (λ above. omega (arith, length-text_whole v valid.hi_in.0 (omega (arith, ints, valid.lo_in))))

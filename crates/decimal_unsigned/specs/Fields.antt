@@ -1,4 +1,4 @@
--- Private: only the contracts of private functions speak of these.
+-- Private: only the contracts of private functions and the model of `UnsignedOver` speak of these.
 -- What the fields of a value hold: digits, the magnitude of the first one, and the range.
 use Rattle.std.specs.Prelude.{◌≡◌, ℕ, ◌+◌, ◌-◌, ◌<◌, ◌≤◌, List, length, slice_index, ℤ, pos, negsuc, ◌≤ℤ◌}
 use Rattle.std.specs.Int.Digits.{AllBelowBase}

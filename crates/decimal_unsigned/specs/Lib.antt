@@ -10,7 +10,7 @@ pub mod Grammar
 pub mod Reading
 pub mod Refusal
 pub mod ErrorText
--- Private: only the contracts of private functions speak of these.
+-- Private: only the contracts of private functions and the models of `UnsignedOver` and `Scan` speak of these.
 pub mod Fields
 pub mod Parts
 pub mod Placing

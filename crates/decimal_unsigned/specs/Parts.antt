@@ -1,4 +1,4 @@
--- Private: only the contracts of private functions speak of these.
+-- Private: only the contracts of private functions and the model of `Scan` speak of these.
 -- The parts of a text as the code finds them.
 use Rattle.std.specs.Prelude.{Option, option_map, ℤ, pos, negsuc, ◌≤ℤ◌}
 use Rattle.std.specs.Int.{int_max, int_min}

@@ -1,4 +1,4 @@
--- Private: only the contracts of private functions speak of these.
+-- Private: only the contracts of private functions and the model of `Scan` speak of these.
 -- Which digits of the parts make the value, and where they lie.
 use Rattle.std.specs.Prelude.{◌≡◌, ℕ, ◌-◌, ◌≤◌, ◌<◌, if◌then◌else◌, List, ◌++◌, length, take, drop, map, slice_index, ℤ, pos, negsuc, ◌+ℤ◌, ◌≤ℤ◌, int_lt, Ok}
 use Rattle.std.specs.Char.{digit_value}

@@ -52,6 +52,8 @@ pub type DecimalStore = PackedDigits;
 /// Not in the original.
 pub const DIGITS_IN_PLACE: usize = <DecimalStore as DigitStore>::L;
 
+const _: () = prove!(DIGITS_IN_PLACE == 16);
+
 /// An unsigned decimal.
 ///
 /// The original's `UnsignedDecimal`.
@@ -61,6 +63,8 @@ pub type UnsignedDecimal = UnsignedOver<DecimalStore>;
 ///
 /// It answers and prints as `UnsignedDecimal` does, want of memory apart. Not in the original.
 pub type ByteDecimal = UnsignedOver<DigitList>;
+
+const _: () = prove!(<DigitList as DigitStore>::L == 8);
 
 impl<D: DigitStore> Model for UnsignedOver<D> {
     ghost use Rattle.decimal_digits.specs.Digits.{number_of};

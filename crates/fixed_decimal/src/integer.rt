@@ -1,6 +1,6 @@
 //! The decimal without digits behind the dot.
-ghost use Rattle.std.specs.Prelude.{◌≡◌, ◌<◌, ◌≤◌, ◌↔◌, length, pos, ◌≤ℤ◌, true, IsTrue, Ok, OnOk, OnErr, IfOk, IfErr, IsOk};
-ghost use Rattle.std.specs.Io.KnownBytes.{Appends};
+ghost use Rattle.std.specs.Prelude.{◌≡◌, ◌<◌, ◌≤◌, ◌↔◌, length, pos, ◌≤ℤ◌, true, false, IsTrue, Ok, OnOk, OnErr, IfOk, IfErr, IsOk};
+ghost use Rattle.std.specs.Io.KnownBytes.{Keeps, Appends};
 ghost use Rattle.decimal_digits.specs.Number.{size};
 ghost use Rattle.decimal_digits.specs.Text.{AppendsBeginning};
 ghost use Rattle.decimal_unsigned.specs.Unsigned.{IsValue};
@@ -160,7 +160,9 @@ impl Writeable for FixedInteger {
         ensures ok { OnOk result (Appends (W.contents sink.old) (W.contents sink.new) (decimal_text self.now)) }
         ensures err { OnErr result
             (AppendsBeginning (W.contents sink.old) (W.contents sink.new) (decimal_text self.now)) }
+        ensures worked { OnOk result (W.has_failed sink.old ≡ false) }
         ensures failed { OnErr result (W.has_failed sink.new ≡ true) }
+        ensures stays { W.has_failed sink.old ≡ true → Keeps (W.contents sink.old) (W.contents sink.new) }
         ensures reads_back { read_integer (decimal_text self.now) ≡ Ok self.now }
     {
         self.recall_value();

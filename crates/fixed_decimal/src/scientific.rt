@@ -1,6 +1,6 @@
 //! A decimal times 10 to the power of an integer.
-ghost use Rattle.std.specs.Prelude.{◌≡◌, ◌≤◌, ◌↔◌, length, true, Ok, IsTrue, IsOk, IfOk, OnOk, OnErr, MatchResult};
-ghost use Rattle.std.specs.Io.KnownBytes.{Appends};
+ghost use Rattle.std.specs.Prelude.{◌≡◌, ◌≤◌, ◌↔◌, length, true, false, Ok, IsTrue, IsOk, IfOk, OnOk, OnErr, MatchResult};
+ghost use Rattle.std.specs.Io.KnownBytes.{Keeps, Appends};
 ghost use Rattle.decimal_digits.specs.Number.{size};
 ghost use Rattle.decimal_digits.specs.Text.{AppendsBeginning};
 ghost use Rattle.decimal_unsigned.specs.Refusal.{Refuses, Answers};
@@ -139,7 +139,9 @@ impl Writeable for ScientificDecimal {
         ensures ok { OnOk result (Appends (W.contents sink.old) (W.contents sink.new) (scientific_text self.now)) }
         ensures err { OnErr result
             (AppendsBeginning (W.contents sink.old) (W.contents sink.new) (scientific_text self.now)) }
+        ensures worked { OnOk result (W.has_failed sink.old ≡ false) }
         ensures failed { OnErr result (W.has_failed sink.new ≡ true) }
+        ensures stays { W.has_failed sink.old ≡ true → Keeps (W.contents sink.old) (W.contents sink.new) }
         ensures reads_back { read_scientific (scientific_text self.now) ≡ Ok self.now }
     {
         self.recall_reading();

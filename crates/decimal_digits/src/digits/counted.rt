@@ -7,9 +7,10 @@ use std::alloc::AllocError;
 
 /// A list of digits, lent together with the `Steps` that count its turns.
 ///
-/// `get`, `set` and `push_in_room` are one turn each; the other calls read and write no digit, and are none. The list
-/// and the count are changed in place. Contracts see the list, the turns so far, and that both are still the ones that
-/// were lent. Not in the original.
+/// `get`, `set` and `push_in_room` are one turn each, and `count_back` is one for each digit that it looks at. The
+/// other calls ask the list for no digit and hand it none, and are no turn; what the list does inside a call is not
+/// counted. The list and the count are changed in place. Contracts see the list, the turns so far, and that both are
+/// still the ones that were lent. Not in the original.
 #[derive(Drop)]
 pub struct Counted<'a, D: DigitStore> {
     list: &'a mut D,

@@ -6,8 +6,8 @@ use std::marker::Model;
 
 /// Counts turns. A turn is one read or one write of a single digit by a rounding.
 ///
-/// Contracts see `count`; at run time it has no bytes. `tick` adds one, and no other call changes a `Steps`, but its
-/// owner may put a new one in its place. Not in the original.
+/// Contracts see `count`; at run time it has no bytes. `tick` adds one and `tick_by` so many. No other call changes a
+/// `Steps`, but its owner may put a new one in its place. Not in the original.
 #[derive(Drop)]
 pub struct Steps {
     pub ghost count: { ℕ },
@@ -34,7 +34,9 @@ impl Steps {
         *self = self.after();
     }
 
-    /// Counts so many turns more. Nothing runs for them.
+    /// Counts so many turns more.
+    ///
+    /// The loop is there for its proof: it changes nothing that is there at run time, and a compiler may leave it out.
     #[inline]
     pub fn tick_by(&mut self, turns: usize)
         ensures { self.new.count ≡ self.old.count + turns }

@@ -1,5 +1,6 @@
 //! The two passes over the end of a list: both stop at the first digit that stays, so each digit that is read, but the
-//! last one, is paid by one that vanishes.
+//! last one, is paid by one that vanishes. Where adding one meets the limit, nothing vanishes, and each digit is read
+//! once at most.
 ghost use Rattle.std.specs.Prelude.{◌≡◌, ◌+◌, ◌^◌, ◌<◌, ◌≤◌, length, slice_index, IfSome, IfNone};
 ghost use Rattle.decimal_digits.specs.Counted.{list_of, turns_of, Continues, OnlyReads};
 ghost use Rattle.decimal_digits.specs.Digits.{number_at, IsStripped};

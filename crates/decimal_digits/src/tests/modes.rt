@@ -19,6 +19,14 @@ fn orders_modes(rt: HostRuntime) {
 }
 
 #[test]
+fn orders_signed_modes(rt: HostRuntime) {
+    assert!(rt; SignedRoundingMode::Unsigned(HalfEven) < SignedRoundingMode::Ceil);
+    assert!(rt; SignedRoundingMode::Ceil < SignedRoundingMode::Floor);
+    assert!(rt; SignedRoundingMode::Floor < SignedRoundingMode::HalfCeil);
+    assert!(rt; SignedRoundingMode::HalfCeil < SignedRoundingMode::HalfFloor);
+}
+
+#[test]
 fn rounds_to_single_units(rt: HostRuntime) {
     assert_eq!(rt;
         RoundingIncrement::default(),

@@ -122,3 +122,16 @@ fn clones_any_length(rt: HostRuntime) -> Result<(), Fail> {
     }
     Ok(())
 }
+
+#[test]
+fn makes_of_more_digits(rt: HostRuntime) -> Result<(), Fail> {
+    let alloc = rt.alloc();
+    let odd = PackedDigits::from_digits(
+        alloc,
+        &[1, 2, 3, 4, 5, 6, 7, 8, 9, 0, 1, 2, 3, 4, 5, 6, 7],
+    )?;
+    assert!(rt; is_text(&odd, b"12345678901234567"));
+    let long = PackedDigits::from_digits(alloc, &vec![in alloc; 7; 5_000]?)?;
+    assert!(rt; is_text(&long, &vec![in alloc; b'7'; 5_000]?));
+    Ok(())
+}

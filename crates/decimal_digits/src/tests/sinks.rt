@@ -165,6 +165,26 @@ fn fails_with_the_flush(rt: HostRuntime) {
     assert_eq!(rt; writer.flushes, 1, "a fault of the flush is kept");
 }
 
+#[test]
+fn flushes_once(rt: HostRuntime) {
+    let mut out = Out::new(Full {
+        room: 8,
+        calls: 0,
+        flushes: 0,
+        refusal: Refusal::Zero,
+    });
+    assert!(rt; out.put_bytes(b"-12").is_ok());
+    assert!(rt; out.flush().is_ok());
+    assert!(rt; out.put_byte(b'3').is_ok());
+    let writer = out.into_writer();
+    assert_eq!(rt; writer.calls, 4, "a flush is no write");
+    assert_eq!(rt;
+        writer.flushes,
+        1,
+        "a flush is one flush, and no other call is"
+    );
+}
+
 fn assert_counts_up(rt: &impl Abort, bytes: &[u8]) {
     assert_eq!(rt; bytes.len(), 256);
     for (byte, taken) in (0..=255).zip(bytes) {

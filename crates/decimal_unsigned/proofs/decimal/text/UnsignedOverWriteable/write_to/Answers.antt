@@ -1,6 +1,7 @@
-use Rattle.std.proofs.Common.{arith}
+use Rattle.std.proofs.Common.{inr, arith}
 use Rattle.std.proofs.lemmas.List.{length-take}
 use Rattle.decimal_digits.proofs.Results.{on_err}
+use Rattle.decimal_digits.proofs.Sinks.{fresh_more, fresh_some, fresh_keeps, fresh_ends}
 use Rattle.decimal_unsigned.specs.Text.{text}
 use Rattle.decimal_unsigned.proofs.ReadBack.{read_text}
 use Rattle.decimal_unsigned.proofs.Blocks.{block_of, zeros_first}
@@ -20,6 +21,8 @@ loop-written-preserved g c =
           wrote_more _ _ _ (text c.args.self.now) c.copy_text.new.places c.loop-written.written _
           (omega (arith, few, c.min.ensures, c.writeable_length_hint-length.ensures.length)) c.copy_text.ensures
           c.loop-written.invariant.appended c.in_ok-put_bytes.ensures.appends;
+      fresh = inr
+          (fresh_more g.W.Sink.has_failed _ _ _ c.loop-written.invariant.fresh c.in_ok-put_bytes.ensures.worked);
     }
 
 pub returns-in_err-put_bytes-clause-err : goal.returns-in_err-put_bytes-clause-err
@@ -38,3 +41,17 @@ returns-clause-reads_back g c = read_text c.args.self.now c.magnitude_range-rang
 
 pub returns-then-length-le-FEW-clause-reads_back : goal.returns-then-length-le-FEW-clause-reads_back
 returns-then-length-le-FEW-clause-reads_back g c = read_text c.args.self.now c.magnitude_range-range.ensures.valid
+
+pub returns-in_err-put_bytes-clause-stays : goal.returns-in_err-put_bytes-clause-stays
+returns-in_err-put_bytes-clause-stays g c =
+    fresh_keeps g.W.Sink.has_failed g.W.Sink.contents _ _ _ _ c.loop-written.invariant.fresh
+    c.in_err-put_bytes.ensures.stays
+
+pub returns-clause-worked : goal.returns-clause-worked
+returns-clause-worked g c =
+    fresh_some g.W.Sink.has_failed _ _ _ c.loop-written.invariant.fresh (omega (arith, c.if-length-le-FEW.false))
+
+pub returns-clause-stays : goal.returns-clause-stays
+returns-clause-stays g c =
+    fresh_ends g.W.Sink.has_failed g.W.Sink.contents _ _ _ c.loop-written.invariant.fresh
+    (omega (arith, c.if-length-le-FEW.false))

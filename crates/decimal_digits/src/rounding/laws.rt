@@ -1,0 +1,28 @@
+//! Laws of what is derived for the modes and the increment: nothing calls these functions, whose contracts are the laws.
+ghost use Rattle.std.specs.Prelude.{◌≡◌, Some};
+ghost use Rattle.std.specs.Ordering.{nat_cmp};
+ghost use Rattle.decimal_digits.specs.Orders.{unsigned_rank, signed_rank};
+
+use super::{RoundingIncrement, SignedRoundingMode, UnsignedRoundingMode};
+use std::cmp::Ordering;
+
+/// Without a choice numbers are rounded to multiples of 1.
+fn default_increment() -> RoundingIncrement
+    ensures { result ≡ RoundingIncrement.MultiplesOf1 }
+{
+    RoundingIncrement::default()
+}
+
+/// The modes of absolute values are ordered as they are declared.
+fn unsigned_order(left: UnsignedRoundingMode, right: UnsignedRoundingMode) -> Ordering
+    ensures { result ≡ nat_cmp (unsigned_rank left) (unsigned_rank right) }
+{
+    left.cmp(&right)
+}
+
+/// The modes are ordered as they are declared, and those of absolute values come first.
+fn signed_order(left: SignedRoundingMode, right: SignedRoundingMode) -> Ordering
+    ensures { result ≡ nat_cmp (signed_rank left) (signed_rank right) }
+{
+    left.cmp(&right)
+}
