@@ -33,6 +33,10 @@ pub struct TwentyOne;
 #[derive(Drop)]
 pub struct Hundred;
 
+/// The 65,536 digits of the greatest number.
+#[derive(Drop)]
+pub struct Greatest;
+
 impl Most for Eight {
     const MOST: usize = 8;
 }
@@ -59,4 +63,8 @@ impl Most for TwentyOne {
 
 impl Most for Hundred {
     const MOST: usize = 100;
+}
+
+impl Most for Greatest {
+    const MOST: usize = 65_536;
 }

@@ -3,6 +3,8 @@ ghost use Rattle.std.specs.Prelude.{None};
 
 use crate::wanted::Wanted;
 use decimal_digits::sink::{Sink, SinkFault, Writeable};
+use std::fmt;
+use std::fmt::Write;
 
 /// A sink that takes so many bytes, compares them with a text, and then fails.
 #[derive(Drop)]
@@ -52,8 +54,23 @@ impl Sink for Narrow<'_> {
     }
 }
 
+impl fmt::Write for Narrow<'_> {
+    fn write_str(&mut self, text: &str) -> fmt::Result {
+        match self.put_bytes(text.as_bytes()) {
+            Ok(()) => Ok(()),
+            Err(SinkFault) => Err(fmt::Error),
+        }
+    }
+}
+
 /// Tells whether a value has this text. It asks for no memory.
 pub fn shows<T: Writeable>(value: &T, text: &[u8]) -> bool {
     let mut sink = Narrow::new(text, usize::MAX);
     value.write_to(&mut sink).is_ok() && sink.has_all()
+}
+
+/// Tells whether `{}` writes this text of a value, whatever the width. It asks for no memory.
+pub fn displays<T: fmt::Display>(value: &T, text: &[u8]) -> bool {
+    let mut sink = Narrow::new(text, usize::MAX);
+    write!(sink, "{value:9}").is_ok() && sink.has_all()
 }

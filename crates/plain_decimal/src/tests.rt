@@ -11,10 +11,12 @@ use std::process::Abort;
 use std::test::Fail;
 
 mod concatenation;
+mod digits;
 mod edits;
 mod integers;
 mod printing;
 mod reading;
+mod requests;
 mod rounding;
 
 /// The value that a text writes.

@@ -3,7 +3,7 @@ use super::*;
 
 /// One call that edits a value.
 #[derive(Clone, Copy)]
-enum Call {
+pub enum Call {
     Shift(i16),
     TrimStart,
     TrimEnd,
@@ -14,10 +14,10 @@ enum Call {
 }
 
 /// A text, a call, and the text that it makes.
-type Row = (&'static [u8], Call, &'static [u8]);
+pub type Row = (&'static [u8], Call, &'static [u8]);
 
 /// Makes the call in place.
-fn change<D: DigitStore>(value: &mut UnsignedOver<D>, call: Call) -> Result<(), LimitError> {
+pub fn change<D: DigitStore>(value: &mut UnsignedOver<D>, call: Call) -> Result<(), LimitError> {
     match call {
         Call::Shift(delta) => return value.multiply_pow10(delta),
         Call::TrimStart => value.trim_start(),
@@ -31,7 +31,7 @@ fn change<D: DigitStore>(value: &mut UnsignedOver<D>, call: Call) -> Result<(), 
 }
 
 /// Makes the call on the value.
-fn changed<D: DigitStore>(
+pub fn changed<D: DigitStore>(
     value: UnsignedOver<D>,
     call: Call,
 ) -> Result<UnsignedOver<D>, UnsignedOver<D>> {
@@ -108,7 +108,7 @@ fn assert_changes_plainly(
     Ok(())
 }
 
-const ROWS: &[Row] = &[
+pub const ROWS: &[Row] = &[
     (b"250", Call::Shift(-2), b"2.50"),
     (b"51423", Call::Shift(-8), b"0.00051423"),
     (b"51423", Call::Shift(3), b"51423000"),

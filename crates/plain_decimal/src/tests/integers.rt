@@ -38,7 +38,12 @@ fn equals_text<D: DigitStore>(alloc: Global, integer: Integer, text: &[u8]) -> R
     Ok(value_of::<D>(alloc, integer)? == read(alloc, text)?)
 }
 
-/// Asserts what an integer's value prints, and that the value of that text equals it.
+/// The text of a copy of an integer's value.
+fn integer_copy_text<D: DigitStore>(alloc: Global, integer: Integer) -> Result<TextBuf, Fail> {
+    printed(alloc, &value_of::<D>(alloc, integer)?.clone()?)
+}
+
+/// Asserts what an integer's value and a copy print, and that the value of that text equals it.
 fn assert_integer<D: DigitStore>(
     rt: &impl Abort,
     alloc: Global,
@@ -46,6 +51,8 @@ fn assert_integer<D: DigitStore>(
     text: &[u8],
 ) -> Result<(), Fail> {
     assert_bytes(rt, integer_text::<D>(alloc, integer)?.as_bytes(), text);
+    let copy = integer_copy_text::<D>(alloc, integer)?;
+    assert_bytes(rt, copy.as_bytes(), text);
     assert_holds(rt, equals_text::<D>(alloc, integer, text)?);
     Ok(())
 }
