@@ -79,7 +79,8 @@ fn print<O: Write>(alloc: Global, words: &[String], out: &mut Out<O>) -> Result<
 /// status 1 `start: syntax`, `start: limit`, `call K: syntax`, `call K: limit`, `call K: overlap` or
 /// `call K: overflow`, the calls counted from 0, and nothing is printed; with status 2 the usage line, where there is
 /// no start or a word is no call, and nothing is printed; with status 3 `memory`, where memory was refused, and nothing
-/// is printed, or `output`, where `out` refused a byte or its flush failed. A fault of `err` changes no status.
+/// is printed, or `output`, where `out` refused a byte or its flush failed. A fault of `err` changes no status, and
+/// where there is none, `err` has the whole line.
 ///
 /// `call K: limit` is a text to join whose value is beyond the limits, and `call K: overflow` a shift that would show a
 /// magnitude outside -32768 to 32767 or a rounding that would make 10 to the 32768 or more. Not in the original.
@@ -151,9 +152,9 @@ const BLOCK: usize = 8192;
 /// Does the program's work on the arguments that the system gives, the first of which is the program's name: `program`
 /// over the words behind it, with a buffer before `out`, which is given back with the status.
 ///
-/// Where memory for the words or for the buffer was refused, that is `memory`, whatever the words are, and `out` is
-/// gone, with nothing written. Where the arguments could not be had, `out` is gone too: that is `memory`, where it was
-/// for want of memory, and else the usage line, as for a word that is not UTF-8. Not in the original.
+/// Where the arguments could not be had, that is `memory`, if it was for want of memory, and else the usage line, as for
+/// a word that is not UTF-8. Where memory for the list of words or for the buffer was refused, that is `memory`, whatever
+/// the words are, and `out` is gone. Not in the original.
 pub fn run_arguments<O: Write + Drop, E: Sink>(
     alloc: Global,
     arguments: io::Result<Args>,
@@ -171,7 +172,7 @@ pub fn run_arguments<O: Write + Drop, E: Sink>(
 {
     let arguments = match arguments {
         Ok(arguments) => arguments,
-        Err(error) => return (Fault::of_arguments(&error).report(err), None),
+        Err(error) => return (Fault::of_arguments(&error).report(err), Some(out)),
     };
     let Ok(words) = words(alloc, arguments) else {
         return (Fault::Memory.report(err), None);

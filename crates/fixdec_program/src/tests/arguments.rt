@@ -32,11 +32,11 @@ fn answered(alloc: Global, arguments: io::Result<Args>) -> Result<Vec<u8>, Fail>
     told(out, err.into_writer().as_slice(), status)
 }
 
-/// What a line tells. It runs again where memory was refused.
-fn shown(alloc: Global, line: &str) -> Result<Vec<u8>, Fail> {
-    let answer = answered(alloc, Ok(words(alloc, line)?.into_iter()))?;
+/// What words tell. They run again where memory was refused.
+pub fn shown(alloc: Global, words: &Vec<String>) -> Result<Vec<u8>, Fail> {
+    let answer = answered(alloc, Ok(words.clone()?.into_iter()))?;
     if answer.as_slice() == b"3 memory\n".as_slice() {
-        return answered(alloc, Ok(words(alloc, line)?.into_iter()));
+        return answered(alloc, Ok(words.clone()?.into_iter()));
     }
     Ok(answer)
 }
@@ -45,7 +45,8 @@ fn shown(alloc: Global, line: &str) -> Result<Vec<u8>, Fail> {
 fn takes_the_words_behind_the_name(rt: HostRuntime) -> Result<(), Fail> {
     let alloc = rt.alloc();
     for (line, answer) in LINES {
-        assert_shows(&rt, shown(alloc, line)?, answer);
+        let words = words(alloc, line)?;
+        assert_shows(&rt, shown(alloc, &words)?, answer);
     }
     Ok(())
 }

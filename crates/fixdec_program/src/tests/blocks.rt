@@ -94,3 +94,25 @@ fn writes_blocks(rt: HostRuntime) -> Result<(), Fail> {
     }
     Ok(())
 }
+
+/// How often the writer behind standard error is called for a line.
+fn writes_of_a_line(alloc: Global, line: &str) -> Result<usize, Fail> {
+    let mut err = LineSink::new(Counting {
+        room: 64,
+        flushes: true,
+        writes: 0,
+    });
+    let arguments = words(alloc, line)?.into_iter();
+    let (_, _) = run_arguments(alloc, Ok(arguments), io::sink(), &mut err);
+    Ok(err.into_writer().writes)
+}
+
+#[test]
+fn tells_a_line_in_one_write(rt: HostRuntime) -> Result<(), Fail> {
+    let alloc = rt.alloc();
+    for line in ["fixdec 5.", "fixdec", "fixdec 5 concat:x"] {
+        assert_eq!(rt; writes_of_a_line(alloc, line)?, 1);
+    }
+    assert_eq!(rt; writes_of_a_line(alloc, "fixdec 5")?, 0);
+    Ok(())
+}

@@ -1,5 +1,6 @@
 //! Command lines of some hundred calls.
-use super::{answer_of, assert_shows};
+use super::arguments::shown;
+use super::assert_shows;
 use std::alloc::Global;
 use std::test::Fail;
 
@@ -22,7 +23,7 @@ const ROWS: &[(&str, &str, usize, &str, &str)] = &[
     ("5", "shift:127", 258, "shift:2", "1 call 258: overflow\n"),
 ];
 
-/// The words of a row.
+/// The words of a row, behind the name of the program.
 fn words(
     alloc: Global,
     start: &str,
@@ -31,6 +32,7 @@ fn words(
     last: &str,
 ) -> Result<Vec<String>, Fail> {
     let mut words = Vec::new(alloc);
+    words.push(String::from_str(alloc, "fixdec")?)?;
     words.push(String::from_str(alloc, start)?)?;
     for _ in 0..count {
         words.push(String::from_str(alloc, call)?)?;
@@ -44,7 +46,7 @@ fn makes_some_hundred_calls(rt: HostRuntime) -> Result<(), Fail> {
     let alloc = rt.alloc();
     for (start, call, count, last, answer) in ROWS {
         let words = words(alloc, start, call, *count, last)?;
-        assert_shows(&rt, answer_of(alloc, words.as_slice(), 64)?, answer);
+        assert_shows(&rt, shown(alloc, &words)?, answer);
     }
     Ok(())
 }
