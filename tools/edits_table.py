@@ -305,7 +305,7 @@ def faults(sources, text, told):
         edits, rows = {it[: -len(".edit")] for it in files if it.endswith(".edit")}, tables.get(crate, {})
         found += [f"{crate}/{it}: no row" for it in sorted(edits - set(rows))]
         found += [f"{crate}/{it}: a row without an edit" for it in sorted(set(rows) - edits)]
-        found += [f"{crate}/{it}: not in the log" for it in sorted(edits - set(told.get(crate, {})))]
+        found += [f"{crate}/{it}: not in the log" for it in sorted(edits & set(rows) - set(told.get(crate, {})))]
         for edit, row in sorted(rows.items()):
             if (IN_PROOF in row[1] or row[1].startswith("no clause")) and not row[3]:
                 found.append(f"{crate}/{edit}: not refused at a clause alone, and without a witness")
