@@ -255,7 +255,7 @@ def table(sources, crate, told, old, wrong):
         function, clause = read_message(sources, crate, refused[1][:KEPT])
         witness = old[edit][3] if edit in old else ""
         if clause is None:
-            clause = old[edit][1] if edit in old else "?"
+            clause = old[edit][1].replace(IN_PROOF, "") if edit in old else "?"
         if clause == "?":
             wrong.append(f"{crate}/{edit}: the log cuts off which clause of {function} it is: write it into the row")
         row = f"| {function} | {clause} | `{edit}` | {witness + ' ' if witness else ''}|"
