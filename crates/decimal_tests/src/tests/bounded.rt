@@ -5,7 +5,7 @@
 use super::ends::GREATEST;
 use super::long::{Parts, long};
 use super::*;
-use decimal_testing::{Bounded, Eight, Hundred, Most};
+use decimal_testing::{Bounded, Eight, Greatest, Hundred, Most};
 use fixed_decimal::RoundingIncrement::MultiplesOf25;
 use fixed_decimal::SignedRoundingMode::{Ceil, Unsigned};
 use fixed_decimal::UnsignedRoundingMode::{Expand, HalfEven, Trunc};
@@ -183,16 +183,8 @@ fn rounded_by_value<D: DigitStore>(
     }
 }
 
-/// As many digits as a number can have.
-#[derive(Drop)]
-struct All;
-
-impl Most for All {
-    const MOST: usize = 65_536;
-}
-
 /// A value with memory for as many digits as a number can have, until it is bounded.
-type Whole<D> = UnsignedOver<Bounded<D, All>>;
+type Whole<D> = UnsignedOver<Bounded<D, Greatest>>;
 
 /// Nines from the highest magnitude down: more than any store holds without memory.
 const NINES: Parts = &[("9", 40), ("0", 32_728)];
@@ -362,6 +354,26 @@ fn refuses_roundings(rt: HostRuntime) -> Result<(), Fail> {
         assert!(rt; rounds::<DigitList>(rt.alloc(), most)?);
         assert!(rt; rounds::<PackedDigits>(rt.alloc(), most)?);
     }
+    Ok(())
+}
+
+/// A number of eight digits, and what it is rounded to at -1 by 25: one of nine.
+const NINE_DIGITS: (&str, &str) = ("12345678", "12345677.5");
+
+/// Whether each rounding of eight digits to nine has this word, where there is no memory.
+fn all_round_to_nine<D: DigitStore>(alloc: Global, word: &str) -> Result<bool, Fail> {
+    for form in FORMS {
+        if rounded::<D>(alloc, NINE_DIGITS, *form, 0)? != word {
+            return Ok(false);
+        }
+    }
+    Ok(rounded_by_value::<D>(alloc, NINE_DIGITS, 0)? == word)
+}
+
+#[test]
+fn refuses_nine_digits(rt: HostRuntime) -> Result<(), Fail> {
+    assert!(rt; all_round_to_nine::<DigitList>(rt.alloc(), "refused")?);
+    assert!(rt; all_round_to_nine::<PackedDigits>(rt.alloc(), "done")?);
     Ok(())
 }
 

@@ -41,7 +41,7 @@ const FAULTS: &[(&str, &str)] = &[
 ];
 
 /// The parts of the longest text.
-const LONGEST: Parts = &[
+pub const LONGEST: Parts = &[
     ("-", 1),
     ("9", 32_768),
     (".", 1),

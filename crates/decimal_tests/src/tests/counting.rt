@@ -1,6 +1,7 @@
-//! A store of digits that counts, and how many digits the roundings touch.
+//! How many digits the roundings touch, and how often they ask for memory, over a store that counts.
 use super::*;
 use decimal_digits::digits::{DigitList, DigitStore, PackedDigits};
+use decimal_testing::{Bounded, Greatest};
 use decimal_unsigned::decimal::UnsignedOver;
 use fixed_decimal::RoundingIncrement::{MultiplesOf1, MultiplesOf2, MultiplesOf5, MultiplesOf25};
 use fixed_decimal::SignedRoundingMode::{Ceil, Floor, HalfCeil, HalfFloor, Unsigned};
@@ -9,121 +10,8 @@ use fixed_decimal::{
     LimitError, RoundError, RoundingIncrement, Signed, SignedRoundingMode, Steps,
     UnsignedRoundingMode,
 };
-use std::alloc::AllocError;
-use std::cell::Cell;
-
-/// A store of digits that counts those that are read, written, compared or copied.
-///
-/// It is also an example of a store: the ghost members say which list a value stands for, how many more digits fit and
-/// how many are held without memory, and each method meets the contract of the trait.
-#[derive(Drop)]
-pub struct CountingStore<D: DigitStore> {
-    list: D,
-    touched: Cell<usize>,
-}
-
-/// What `restart` sets the count to, above all that a list which is made anew can have counted.
-const RESTART: usize = 1_000_000;
-
-impl<D: DigitStore> CountingStore<D> {
-    /// Counts so many digits more.
-    fn touch(&self, count: usize) {
-        self.touched.set(self.touched.get().saturating_add(count));
-    }
-
-    /// Counts from here on.
-    fn restart(&self) {
-        self.touched.set(RESTART);
-    }
-
-    /// How many digits were touched since the last `restart`, and None where this list was made after it.
-    fn touched(&self) -> Option<usize> {
-        self.touched.get().checked_sub(RESTART)
-    }
-}
-
-impl<D: DigitStore> DigitStore for CountingStore<D> {
-    ghost digits = { λ s. D.digits s.list };
-
-    ghost room = { λ s. D.room s.list };
-
-    ghost L = { D.L };
-
-    const L: usize = D::L;
-
-    fn empty(alloc: Global) -> Self {
-        CountingStore {
-            list: D::empty(alloc),
-            touched: Cell::new(0),
-        }
-    }
-
-    fn from_digits(alloc: Global, list: &[u8]) -> Result<Self, AllocError> {
-        Ok(CountingStore {
-            list: D::from_digits(alloc, list)?,
-            touched: Cell::new(list.len()),
-        })
-    }
-
-    fn clone(&self) -> Result<Self, AllocError> {
-        self.touch(self.list.len());
-        Ok(CountingStore {
-            list: self.list.clone()?,
-            touched: Cell::new(self.touched.get()),
-        })
-    }
-
-    fn len(&self) -> usize {
-        self.list.len()
-    }
-
-    fn get(&self, index: usize) -> u8 {
-        self.touch(1);
-        self.list.get(index)
-    }
-
-    fn set(&mut self, index: usize, digit: u8) {
-        self.touch(1);
-        self.list.set(index, digit);
-    }
-
-    fn push_in_room(&mut self, digit: u8) {
-        self.touch(1);
-        self.list.push_in_room(digit);
-    }
-
-    fn reserve(&mut self, count: usize) -> Result<(), AllocError> {
-        self.list.reserve(count)
-    }
-
-    fn truncate(&mut self, count: usize) {
-        self.list.truncate(count);
-    }
-
-    fn cut_front(&mut self, count: usize) {
-        self.list.cut_front(count);
-    }
-
-    fn clear(&mut self) {
-        self.list.clear();
-    }
-
-    fn append(&mut self, zeros: usize, other: &Self) -> Result<(), AllocError> {
-        self.touch(zeros.saturating_add(other.list.len()));
-        self.list.append(zeros, &other.list)
-    }
-
-    fn eq(&self, other: &Self) -> bool {
-        self.touch(self.list.len().saturating_add(other.list.len()));
-        self.list.eq(&other.list)
-    }
-
-    ghost enough = { D.enough };
-
-    ghost roomy = { λ s. D.roomy s.list };
-
-    ghost are_digits = { λ s. D.are_digits s.list };
-}
+/// A store with memory for every number, which counts.
+pub type CountingStore<D> = Bounded<D, Greatest>;
 
 /// A decimal over a store that counts.
 type Counting<D> = Signed<UnsignedOver<CountingStore<D>>>;
@@ -219,6 +107,49 @@ const BY_INCREMENTS: &[(&[u8], Rounding)] = &[
     (b"4225", (5, Unsigned(HalfEven), MultiplesOf5)),
     (b"00000", (2, Unsigned(HalfEven), MultiplesOf2)),
 ];
+
+/// A number, a rounding, and how many digits it touches: at most one below the position, the two above it, those
+/// that vanish and one more, and those that are written.
+const TURNS: &[(&[u8], Rounding, usize)] = &[
+    // Nothing changes: the last two are read.
+    (b"1234567", (0, Unsigned(Expand), MultiplesOf1), 2),
+    (b"12", (-5, Unsigned(Expand), MultiplesOf1), 0),
+    // Digits go: 6, 5 and 4 are read.
+    (b"1234567", (2, Unsigned(Trunc), MultiplesOf1), 3),
+    // Zeros go too: 6, 0 and 0 are read, and then 0, 0 and 3.
+    (b"1230067", (2, Unsigned(Trunc), MultiplesOf1), 6),
+    (b"1230024", (0, Unsigned(Trunc), MultiplesOf25), 5),
+    // 45 becomes 46: both are written, and 6 alone where it follows nothing that is kept.
+    (b"1234567", (2, Unsigned(Expand), MultiplesOf1), 5),
+    (b"1267", (2, Unsigned(Expand), MultiplesOf1), 5),
+    // 68 becomes 70: the 7 is written.
+    (b"1234568", (0, Unsigned(Expand), MultiplesOf5), 3),
+    // A carry: 9 and 2 are read behind the 99, the 2 once more, and a 3 is written.
+    (b"1299967", (2, Unsigned(Expand), MultiplesOf1), 7),
+    // A carry through nines alone: three more are read, and a 1 is written.
+    (b"9999967", (2, Unsigned(Expand), MultiplesOf1), 7),
+    // One digit more: 8 is read, 7 and 5 are written.
+    (b"12345678", (-1, Unsigned(Trunc), MultiplesOf25), 3),
+    // A position above all digits: a 1 is written.
+    (b"12", (5, Unsigned(Expand), MultiplesOf1), 1),
+    // The limit: nothing is written.
+    (b"9e32767", (32767, Unsigned(Expand), MultiplesOf5), 1),
+    (b"999e32765", (32765, Unsigned(Expand), MultiplesOf2), 3),
+];
+
+/// How many digits a rounding touches, whether it is made or refused.
+fn turns<D: DigitStore>(
+    alloc: Global,
+    text: &[u8],
+    (position, mode, increment): Rounding,
+) -> Result<Option<usize>, Fail> {
+    let mut value = read_counting::<D>(alloc, text)?;
+    value.store().restart();
+    match value.round_with_mode_and_increment(position, mode, increment) {
+        Err(RoundError::Memory) => Err(Fail::new("memory was refused")),
+        Ok(()) | Err(RoundError::Limit) => Ok(value.store().touched()),
+    }
+}
 
 /// The decimal that a text writes.
 fn read_counting<D: DigitStore>(alloc: Global, text: &[u8]) -> Result<Counting<D>, Fail> {
@@ -329,37 +260,53 @@ fn rounded_absolute_by_name<D: DigitStore>(
     }
 }
 
-/// Starts the count, and gives the most digits that a rounding may touch and leave, and a refused one may touch.
-fn most<D: DigitStore>(store: &CountingStore<D>) -> usize {
+/// What a rounding may do.
+#[derive(Clone, Copy)]
+struct Bound {
+    /// The most digits that it touches and leaves together, and that a refused one touches.
+    digits: usize,
+    /// The most requests for memory.
+    requests: usize,
+}
+
+/// Starts the count, and gives the bound of a rounding: by 25 alone it may ask for memory, once.
+fn restarted<D: DigitStore>(store: &CountingStore<D>, increment: RoundingIncrement) -> Bound {
     store.restart();
-    store.len().saturating_add(7)
+    Bound {
+        digits: store.len().saturating_add(7),
+        requests: if increment == MultiplesOf25 { 1 } else { 0 },
+    }
 }
 
-/// Whether the digits touched and left by a rounding are at most so many.
-fn is_within<D: DigitStore>(store: &CountingStore<D>, most: usize) -> bool {
+/// Whether a rounding that left so many digits stayed within its bound.
+fn left_within<D: DigitStore>(store: &CountingStore<D>, left: usize, bound: Bound) -> bool {
     match store.touched() {
-        Some(touched) => touched.saturating_add(store.len()) <= most,
+        Some(touched) => {
+            touched.saturating_add(left) <= bound.digits && store.requests() <= bound.requests
+        }
         None => false,
     }
 }
 
-/// Whether the digits touched by a refused rounding are at most so many.
-fn refuses_within<D: DigitStore>(store: &CountingStore<D>, most: usize) -> bool {
-    match store.touched() {
-        Some(touched) => touched <= most,
-        None => false,
-    }
+/// Whether a rounding stayed within its bound.
+fn is_within<D: DigitStore>(store: &CountingStore<D>, bound: Bound) -> bool {
+    left_within(store, store.len(), bound)
+}
+
+/// Whether a refused rounding stayed within its bound, whose digits it may touch all.
+fn refuses_within<D: DigitStore>(store: &CountingStore<D>, bound: Bound) -> bool {
+    left_within(store, 0, bound)
 }
 
 /// Whether a rounding stayed within the bound, as it was made or refused.
 fn answers_within<D: DigitStore>(
     answer: Result<(), RoundError>,
     store: &CountingStore<D>,
-    most: usize,
+    bound: Bound,
 ) -> Result<bool, Fail> {
     match answer {
-        Ok(()) => Ok(is_within(store, most)),
-        Err(RoundError::Limit) => Ok(refuses_within(store, most)),
+        Ok(()) => Ok(is_within(store, bound)),
+        Err(RoundError::Limit) => Ok(refuses_within(store, bound)),
         Err(RoundError::Memory) => Err(Fail::new("memory was refused")),
     }
 }
@@ -372,9 +319,10 @@ fn stays_within<D: DigitStore>(
     rounding: Rounding,
 ) -> Result<bool, Fail> {
     let mut value = read_counting::<D>(alloc, text)?;
-    let most = most(value.store());
+    let (_, _, increment) = rounding;
+    let bound = restarted(value.store(), increment);
     let answer = round_by(&mut value, form, rounding);
-    answers_within(answer, value.store(), most)
+    answers_within(answer, value.store(), bound)
 }
 
 /// Whether a rounding of the absolute value in place stays within the bound.
@@ -388,9 +336,9 @@ fn absolute_stays_within<D: DigitStore>(
         return Ok(true);
     };
     let mut value = read_counting::<D>(alloc, text)?;
-    let most = most(value.store());
+    let bound = restarted(value.store(), increment);
     let answer = round_absolute_by(&mut value.absolute, form, position, mode, increment);
-    answers_within(answer, value.store(), most)
+    answers_within(answer, value.store(), bound)
 }
 
 /// Whether a rounding of a value by increment stays within the bound.
@@ -400,10 +348,10 @@ fn by_value_stays_within<D: DigitStore>(
     (position, mode, increment): Rounding,
 ) -> Result<bool, Fail> {
     let value = read_counting::<D>(alloc, text)?;
-    let most = most(value.store());
+    let bound = restarted(value.store(), increment);
     match value.rounded_with_mode_and_increment(position, mode, increment) {
-        Ok(made) => Ok(is_within(made.store(), most)),
-        Err((left, error)) => answers_within(Err(error), left.store(), most),
+        Ok(made) => Ok(is_within(made.store(), bound)),
+        Err((left, error)) => answers_within(Err(error), left.store(), bound),
     }
 }
 
@@ -417,10 +365,10 @@ fn absolute_by_value_stays_within<D: DigitStore>(
         return Ok(true);
     };
     let Signed { sign: _, absolute } = read_counting::<D>(alloc, text)?;
-    let most = most(absolute.store());
+    let bound = restarted(absolute.store(), increment);
     match absolute.rounded_with_mode_and_increment(position, mode, increment) {
-        Ok(made) => Ok(is_within(made.store(), most)),
-        Err((left, error)) => answers_within(Err(error), left.store(), most),
+        Ok(made) => Ok(is_within(made.store(), bound)),
+        Err((left, error)) => answers_within(Err(error), left.store(), bound),
     }
 }
 
@@ -432,10 +380,10 @@ fn by_name_stays_within<D: DigitStore>(
     mode: SignedRoundingMode,
 ) -> Result<bool, Fail> {
     let value = read_counting::<D>(alloc, text)?;
-    let most = most(value.store());
+    let bound = restarted(value.store(), MultiplesOf1);
     match rounded_by_name(value, position, mode) {
-        Ok(made) => Ok(is_within(made.store(), most)),
-        Err(left) => Ok(refuses_within(left.store(), most)),
+        Ok(made) => Ok(is_within(made.store(), bound)),
+        Err(left) => Ok(refuses_within(left.store(), bound)),
     }
 }
 
@@ -450,10 +398,10 @@ fn absolute_by_name_stays_within<D: DigitStore>(
         return Ok(true);
     };
     let Signed { sign: _, absolute } = read_counting::<D>(alloc, text)?;
-    let most = most(absolute.store());
+    let bound = restarted(absolute.store(), MultiplesOf1);
     match rounded_absolute_by_name(absolute, position, mode) {
-        Ok(made) => Ok(is_within(made.store(), most)),
-        Err(left) => Ok(refuses_within(left.store(), most)),
+        Ok(made) => Ok(is_within(made.store(), bound)),
+        Err(left) => Ok(refuses_within(left.store(), bound)),
     }
 }
 
@@ -544,6 +492,16 @@ fn increments(rt: HostRuntime) -> Result<(), Fail> {
     for (text, rounding) in BY_INCREMENTS {
         assert!(rt; row_stays_within::<DigitList>(alloc, text, *rounding)?);
         assert!(rt; row_stays_within::<PackedDigits>(alloc, text, *rounding)?);
+    }
+    Ok(())
+}
+
+#[test]
+fn counts_turns(rt: HostRuntime) -> Result<(), Fail> {
+    let alloc = rt.alloc();
+    for (text, rounding, count) in TURNS {
+        assert!(rt; turns::<DigitList>(alloc, text, *rounding)? == Some(*count));
+        assert!(rt; turns::<PackedDigits>(alloc, text, *rounding)? == Some(*count));
     }
     Ok(())
 }

@@ -39,7 +39,7 @@ const FAULTS: &[(&str, &str)] = &[
 ];
 
 /// The parts of the longest text.
-const LONGEST: Parts = &[("-", 1), ("9", 32_768)];
+pub const LONGEST: Parts = &[("-", 1), ("9", 32_768)];
 
 /// Texts of one digit too many.
 const LONG_FAULTS: &[Parts] = &[&[("-", 1), ("9", 32_769)], &[("9", 32_768), (".0", 1)]];

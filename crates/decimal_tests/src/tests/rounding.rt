@@ -6,7 +6,8 @@ use fixed_decimal::RoundingIncrement::{MultiplesOf1, MultiplesOf2, MultiplesOf5,
 use fixed_decimal::SignedRoundingMode::{Ceil, Floor, HalfCeil, HalfFloor, Unsigned};
 use fixed_decimal::UnsignedRoundingMode::{Expand, HalfEven, HalfExpand, HalfTrunc, Trunc};
 use fixed_decimal::{
-    LimitError, RoundError, RoundingIncrement, SignedRoundingMode, Steps, UnsignedRoundingMode,
+    DigitList, DigitStore, LimitError, PackedDigits, RoundError, RoundingIncrement, Signed,
+    SignedRoundingMode, Steps, UnsignedOver, UnsignedRoundingMode,
 };
 
 /// The modes, in the order of the columns below.
@@ -130,6 +131,21 @@ fn assert_modes(rt: &impl Abort, alloc: Global, row: &str) -> Result<(), Fail> {
     Ok(())
 }
 
+/// A decimal over a store of digits.
+type Over<D> = Signed<UnsignedOver<D>>;
+
+/// The decimal over a store that a text writes.
+fn read_over<D: DigitStore>(alloc: Global, text: &str) -> Result<Over<D>, Fail> {
+    Ok(Over::<D>::try_from_str(alloc, text)?)
+}
+
+/// What a decimal over a store prints.
+fn printed_over<D: DigitStore>(alloc: Global, value: &Over<D>) -> Result<TextBuf, Fail> {
+    let mut sink = TextBuf::new(alloc);
+    value.write_to(&mut sink)?;
+    Ok(sink)
+}
+
 /// What is left of a text by a rounding that was not to be refused for the limit.
 fn left_by(answer: Result<(), RoundError>, left: TextBuf, text: &str) -> Result<TextBuf, Fail> {
     match answer {
@@ -140,48 +156,48 @@ fn left_by(answer: Result<(), RoundError>, left: TextBuf, text: &str) -> Result<
 }
 
 /// What a counted rounding leaves of a text.
-fn counted(
+fn counted<D: DigitStore>(
     alloc: Global,
     text: &str,
     (position, mode, increment): Rounding,
 ) -> Result<TextBuf, Fail> {
-    let mut value = read(alloc, text)?;
+    let mut value = read_over::<D>(alloc, text)?;
     let answer = value.round_counted(position, mode, increment, &mut Steps::new());
-    left_by(answer, printed(alloc, &value)?, text)
+    left_by(answer, printed_over(alloc, &value)?, text)
 }
 
 /// What a rounding in place leaves of a text.
-fn in_place(
+fn in_place<D: DigitStore>(
     alloc: Global,
     text: &str,
     (position, mode, increment): Rounding,
 ) -> Result<TextBuf, Fail> {
-    let mut value = read(alloc, text)?;
+    let mut value = read_over::<D>(alloc, text)?;
     let answer = value.round_with_mode_and_increment(position, mode, increment);
-    left_by(answer, printed(alloc, &value)?, text)
+    left_by(answer, printed_over(alloc, &value)?, text)
 }
 
 /// What a rounding on a value leaves of a text.
-fn by_value(
+fn by_value<D: DigitStore>(
     alloc: Global,
     text: &str,
     (position, mode, increment): Rounding,
 ) -> Result<TextBuf, Fail> {
-    match read(alloc, text)?.rounded_with_mode_and_increment(position, mode, increment) {
-        Ok(value) => printed(alloc, &value),
-        Err((value, error)) => left_by(Err(error), printed(alloc, &value)?, text),
+    match read_over::<D>(alloc, text)?.rounded_with_mode_and_increment(position, mode, increment) {
+        Ok(value) => printed_over(alloc, &value),
+        Err((value, error)) => left_by(Err(error), printed_over(alloc, &value)?, text),
     }
 }
 
-/// Asserts what a rounding leaves of a text, by each call.
-fn assert_rounds(
+/// Asserts what a rounding leaves of a text over a store, by each call.
+fn assert_rounds<D: DigitStore>(
     rt: &impl Abort,
     alloc: Global,
     (text, rounding, result_text): (&str, Rounding, &str),
 ) -> Result<(), Fail> {
-    assert_shows(rt, counted(alloc, text, rounding)?, result_text);
-    assert_shows(rt, in_place(alloc, text, rounding)?, result_text);
-    assert_shows(rt, by_value(alloc, text, rounding)?, result_text);
+    assert_shows(rt, counted::<D>(alloc, text, rounding)?, result_text);
+    assert_shows(rt, in_place::<D>(alloc, text, rounding)?, result_text);
+    assert_shows(rt, by_value::<D>(alloc, text, rounding)?, result_text);
     Ok(())
 }
 
@@ -198,7 +214,8 @@ fn nine_modes(rt: HostRuntime) -> Result<(), Fail> {
 fn increments(rt: HostRuntime) -> Result<(), Fail> {
     let alloc = rt.alloc();
     for row in BY_INCREMENTS {
-        assert_rounds(&rt, alloc, *row)?;
+        assert_rounds::<DigitList>(&rt, alloc, *row)?;
+        assert_rounds::<PackedDigits>(&rt, alloc, *row)?;
     }
     Ok(())
 }
