@@ -1,4 +1,6 @@
 //! A list that counts the digits that are read and written, and how many of them each call of `Counted` touches.
+ghost use Rattle.std.specs.Prelude.{◌≡◌};
+
 use crate::digits::{Counted, DigitList, DigitStore, Steps};
 use std::alloc::{AllocError, Global};
 use std::cell::Cell;
@@ -13,7 +15,9 @@ struct Watched<D: DigitStore> {
 
 impl<D: DigitStore> Watched<D> {
     /// Watches a list.
-    fn new(list: D) -> Self {
+    fn new(list: D) -> Self
+        ensures { result.list ≡ list }
+    {
         Watched {
             list,
             touched: Cell::new(0),
