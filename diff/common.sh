@@ -1,6 +1,7 @@
-# What diff/run.sh and bench/run.sh share. They are given the folder of the original, and set `crate`.
+# What diff/run.sh, diff/plants.sh and bench/run.sh share. Their first argument is the folder of the original.
 #
-# WORK, a folder outside the project, takes all that is made, and is used again by the next run.
+# WORK, a folder outside the project, takes all that is made, and is used again by the next run. JOBS: how many jobs rt
+# takes; it chooses where that is not set.
 
 die() { echo "$*" >&2; exit 2; }
 
@@ -42,7 +43,7 @@ add_library() {
     for file in "$here"/library/*.rt.txt; do
         cp -p "$file" "$scratch/crates/$name/src/$(basename "$file" .txt)"
     done
-    (cd "$scratch/crates/$name" && rt lib --jobs "${JOBS:-1}") >"$work/$name.txt" 2>&1 ||
+    (cd "$scratch/crates/$name" && rt lib ${JOBS:+--jobs "$JOBS"}) >"$work/$name.txt" 2>&1 ||
         { tail -n 30 "$work/$name.txt" >&2; die "$name was not built"; }
     export LIBRARY=$scratch/crates/$name/out
 }

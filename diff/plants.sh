@@ -1,12 +1,12 @@
 #!/usr/bin/env bash
 # Plants wrong rules in a copy of the reference, one at a time: each has to be noticed.
 #
-#   diff/plants.sh ORIGINAL [SECONDS]       after diff/run.sh with the same WORK
+#   diff/plants.sh ORIGINAL [SECONDS [THREADS]]       after diff/run.sh with the same WORK
 #
 # Status 0: every one was. ONLY=WORD plants those alone whose name holds the word.
 set -euo pipefail
 . "$(dirname "$0")/common.sh"
-seconds=${1:-8}
+seconds=${1:-8} threads=${2:-$(nproc)}
 scratch=$work/project
 export LIBRARY=$scratch/crates/decimal_calls/out
 unnoticed=0
@@ -15,7 +15,7 @@ unnoticed=0
 plant() {
     case $1 in *"${ONLY:-}"*) ;; *) return 0 ;; esac
     build_driver diff "$2" "$3" "${4:-reference.rs}"
-    if found=$("$work/target/release/diff" "$scratch/crates/fixdec/out/fixdec" "$seconds" "$(nproc)" 1); then
+    if found=$("$work/target/release/diff" "$scratch/crates/fixdec/out/fixdec" "$seconds" "$threads" 1); then
         echo "NOT NOTICED: $1"
         unnoticed=$((unnoticed + 1))
     else

@@ -4,6 +4,7 @@ use crate::original::worked;
 use bigdecimal::BigDecimal;
 use rust_decimal::{Decimal as RustDecimal, RoundingStrategy};
 use std::ffi::{c_char, c_int, c_void};
+use std::panic::{catch_unwind, AssertUnwindSafe};
 use std::process::Command;
 use std::ptr::null_mut;
 
@@ -64,7 +65,8 @@ impl Peer for BigDecimal {
     }
 
     fn round(number: &BigDecimal, decimals: u16) -> Option<BigDecimal> {
-        Some(number.round(decimals.into()))
+        // It panics where a tail of the digits is too long.
+        catch_unwind(AssertUnwindSafe(|| number.round(decimals.into()))).ok()
     }
 
     fn print(number: &BigDecimal) -> String {

@@ -87,9 +87,9 @@ impl Comparison {
             },
         };
         self.counts.add_case(family, wanted.0 != Answer::Ok);
-        let (answer, at, text) = self.library.run(&case.start, &raw, way, usize::MAX);
-        let wanted = (wanted.0, wanted.1, &wanted.2[..]);
-        self.counts.check("a run", (answer, at, text), wanted, || told(case));
+        let found = self.library.run(&case.start, &raw, way, usize::MAX);
+        let wanted = ((wanted.0, &wanted.2[..]), wanted.1);
+        self.counts.check("a run", found, wanted, || told(case));
     }
 
     fn single(&mut self, case: &Case, wanted: &Result<(Vec<Answer>, Value), Answer>) {
@@ -101,14 +101,14 @@ impl Comparison {
             Err(_) => Vec::new(),
         };
         let mut found = Shown { digits: vec![0; magnitudes.len()], ..Shown::default() };
-        let (start, answers, text) = self.library.single(&case.start, &raw, is_packed, form, &magnitudes, &mut found);
+        let ((start, text), answers) = self.library.single(&case.start, &raw, is_packed, form, &magnitudes, &mut found);
         match wanted {
             Err(fault) => self.counts.check("a start", start, *fault, || told(case)),
             Ok((wanted, value)) => {
-                let answers: Vec<Answer> = answers.collect();
+                let answers = &answers[..case.calls.len()];
                 let wanted_text = with_line_feed(value.text());
-                let wanted = (wanted, shown(value, &magnitudes), &wanted_text[..]);
-                self.counts.check("single calls", (&answers, found, text), wanted, || told(case));
+                let wanted = (&wanted[..], shown(value, &magnitudes), &wanted_text[..]);
+                self.counts.check("single calls", (answers, found, text), wanted, || told(case));
             }
         }
     }
@@ -168,8 +168,8 @@ impl Comparison {
             let wanted = made(&case.start, calls, Rules::Original);
             let wanted = wanted.map(|(answers, value)| (answers, value.text()));
             let found = ask(calls).map(|found| found.map(|(answers, _, text)| (answers, text.into_bytes())));
-            let what = if found == Some(wanted) { ", and agrees here" } else { "" };
-            self.counts.add(&format!("{row}{what}"), || told(case));
+            let what = if found == Some(wanted) { "agrees" } else { "differs" };
+            self.counts.add(&format!("{row}; {what}"), || told(case));
         }
     }
 
@@ -222,7 +222,7 @@ impl Comparison {
         let found = asked(question).map(|found| found.map(String::into_bytes));
         if found.as_ref() != Some(there) {
             match unclaimed_text(text) {
-                Some(row) => self.counts.add(row, input),
+                Some(row) => self.counts.add(&format!("{row}; differs"), input),
                 None => self.counts.check("the original's text", found.as_ref(), Some(there), input),
             }
         } else if here != there {
@@ -293,7 +293,7 @@ impl Comparison {
         }
         let found = self.library.integer(integer);
         let input = || integer.to_string();
-        self.counts.check("integers", found, wanted.as_bytes(), input);
+        self.counts.check("integers", found, (Answer::Ok, wanted.as_bytes()), input);
         let found = asked(|| original::integer(integer));
         self.counts.check("the original's integers", found, Some(wanted), input);
     }
@@ -313,7 +313,7 @@ impl Comparison {
         let way = self.dice.of(&WAYS[1..]);
         let raw = RawCalls::new(&case.calls);
         let found = self.library.run(&case.start, &raw, way, room);
-        let wanted = (Answer::Sink, 0, &text[..room]);
+        let wanted = ((Answer::Sink, &text[..room]), 0);
         self.counts.check("a failing sink", found, wanted, || told(case));
     }
 
@@ -327,10 +327,9 @@ impl Comparison {
         let raw = RawCalls::new(&case.calls);
         let library = &mut self.library;
         let mut found = Shown::default();
-        let ((start, answers, text), is_refused) =
+        let (((start, text), answers), is_refused) =
             refusing(number, || library.single(&case.start, &raw, is_packed, form, &[], &mut found));
         self.counts.add_case("memory that is refused", is_refused);
-        let answers: Vec<Answer> = answers.collect();
         let input = || format!("{number} {form:?} {in_place} {}", told(case));
         // The list of calls is the harness's own, and its memory may be what was refused.
         if start == Answer::Inconsistent {

@@ -114,41 +114,41 @@ pub struct Shown {
     pub ends: [i16; 5],
 }
 
+/// A list has fewer calls.
+pub const MOST_CALLS: usize = 8;
+
 /// The memory into which the library writes.
 pub struct Library {
     bytes: Vec<u8>,
-    answers: Vec<u8>,
 }
 
 impl Library {
     pub fn new() -> Self {
-        Library { bytes: vec![0; 400_000], answers: Vec::with_capacity(64) }
+        Library { bytes: vec![0; 400_000] }
     }
 
-    /// A run into a sink with so much room: its answer, the number of the call that refused, and the text.
-    pub fn run(&mut self, start: &[u8], raw: &RawCalls, way: Way, room: usize) -> (Answer, usize, &[u8]) {
-        let (mut length, mut at) = (0, 0);
-        let room = room.min(self.bytes.len());
-        // The slices live through the call, and none of them is kept.
-        let answer = unsafe {
-            decimal_run(
-                start.as_ptr(),
-                start.len(),
-                raw.calls.as_ptr(),
-                raw.calls.len(),
-                raw.texts.as_ptr(),
-                raw.texts.len(),
-                way as u8,
-                self.bytes.as_mut_ptr(),
-                room,
-                &mut length,
-                &mut at,
-            )
-        };
-        (ANSWERS[usize::from(answer)], at, &self.bytes[..length])
+    /// Makes a call that puts something into the memory. What it is passed lives through the call, and is not kept.
+    fn filled(&mut self, call: impl FnOnce(*mut u8, usize, &mut usize) -> u8) -> (Answer, &[u8]) {
+        let mut length = 0;
+        let answer = call(self.bytes.as_mut_ptr(), self.bytes.len(), &mut length);
+        (ANSWERS[usize::from(answer)], &self.bytes[..length])
     }
 
-    /// The calls one by one: the answer of the start, that of each call, and the text with a line feed.
+    /// A run into a sink with so much room: its answer and the text, and the number of the call that refused.
+    pub fn run(&mut self, start: &[u8], raw: &RawCalls, way: Way, room: usize) -> ((Answer, &[u8]), usize) {
+        let mut at = 0;
+        let (calls, texts) = (&raw.calls, &raw.texts);
+        let answer = self.filled(|text, all, length| unsafe {
+            let (start, start_length) = (start.as_ptr(), start.len());
+            let (calls, call_count, texts, texts_length) = (calls.as_ptr(), calls.len(), texts.as_ptr(), texts.len());
+            let (way, room) = (way as u8, room.min(all));
+            decimal_run(start, start_length, calls, call_count, texts, texts_length, way, text, room, length, &mut at)
+        });
+        (answer, at)
+    }
+
+    /// The calls one by one: the answer of the start and the text with a line feed, and the answer of each call. Nothing
+    /// here asks for memory but the library.
     pub fn single(
         &mut self,
         start: &[u8],
@@ -157,73 +157,52 @@ impl Library {
         form: Form,
         asked: &[i16],
         shown: &mut Shown,
-    ) -> (Answer, impl Iterator<Item = Answer> + '_, &[u8]) {
-        let mut length = 0;
-        self.answers.clear();
-        self.answers.resize(raw.calls.len(), 0);
-        // The slices live through the call, and none of them is kept.
-        let answer = unsafe {
+    ) -> ((Answer, &[u8]), [Answer; MOST_CALLS]) {
+        let mut answers = [0; MOST_CALLS];
+        let (calls, texts) = (&raw.calls, &raw.texts);
+        let answer = self.filled(|text, room, length| unsafe {
             decimal_single(
                 start.as_ptr(),
                 start.len(),
-                raw.calls.as_ptr(),
-                raw.calls.len(),
-                raw.texts.as_ptr(),
-                raw.texts.len(),
+                calls.as_ptr(),
+                calls.len(),
+                texts.as_ptr(),
+                texts.len(),
                 is_packed,
                 form as u8,
-                self.answers.as_mut_ptr(),
-                self.answers.len(),
+                answers.as_mut_ptr(),
+                answers.len(),
                 asked.as_ptr(),
                 asked.len(),
                 shown.digits.as_mut_ptr(),
                 shown.digits.len(),
                 shown.ends.as_mut_ptr(),
                 shown.ends.len(),
-                self.bytes.as_mut_ptr(),
-                self.bytes.len(),
-                &mut length,
+                text,
+                room,
+                length,
             )
-        };
-        let answers = self.answers.iter().map(|answer| ANSWERS[usize::from(*answer)]);
-        (ANSWERS[usize::from(answer)], answers, &self.bytes[..length])
+        });
+        (answer, answers.map(|answer| ANSWERS[usize::from(answer)]))
     }
 
     pub fn read(&mut self, kind: Kind, text: &[u8]) -> (Answer, &[u8]) {
-        let mut length = 0;
-        // The slices live through the call, and none of them is kept.
-        let answer = unsafe {
-            decimal_read(kind as u8, text.as_ptr(), text.len(), self.bytes.as_mut_ptr(), self.bytes.len(), &mut length)
-        };
-        (ANSWERS[usize::from(answer)], &self.bytes[..length])
+        self.filled(|found, room, length| unsafe {
+            decimal_read(kind as u8, text.as_ptr(), text.len(), found, room, length)
+        })
     }
 
     pub fn join(&mut self, one: &[u8], other: &[u8], exponent: u8) -> (Answer, &[u8]) {
-        let mut length = 0;
-        // The slices live through the call, and none of them is kept.
-        let answer = unsafe {
-            decimal_join(
-                one.as_ptr(),
-                one.len(),
-                other.as_ptr(),
-                other.len(),
-                exponent,
-                self.bytes.as_mut_ptr(),
-                self.bytes.len(),
-                &mut length,
-            )
-        };
-        (ANSWERS[usize::from(answer)], &self.bytes[..length])
+        self.filled(|found, room, length| unsafe {
+            decimal_join(one.as_ptr(), one.len(), other.as_ptr(), other.len(), exponent, found, room, length)
+        })
     }
 
-    pub fn integer(&mut self, integer: u128) -> &[u8] {
-        let mut length = 0;
-        let (high, low) = ((integer >> 64) as u64, integer as u64);
-        // The slice lives through the call, and is not kept.
-        unsafe {
-            decimal_integer(high, low, self.bytes.as_mut_ptr(), self.bytes.len(), &mut length);
-        }
-        &self.bytes[..length]
+    pub fn integer(&mut self, integer: u128) -> (Answer, &[u8]) {
+        self.filled(|found, room, length| unsafe {
+            decimal_integer((integer >> 64) as u64, integer as u64, found, room, length);
+            Answer::Ok as u8
+        })
     }
 }
 

@@ -12,6 +12,7 @@ mod memory;
 mod original;
 mod program;
 mod reference;
+#[allow(dead_code)]
 mod shared;
 
 use cases::{case, neighbour, text_of_kind, Case, Dice, Region, INCREMENTS, MODES};

@@ -10,26 +10,26 @@ use fixed_decimal::{
 use std::panic::{catch_unwind, AssertUnwindSafe};
 use writeable::Writeable;
 
-/// What `docs/DIFFERENCES.md` lists, as each of its rows begins.
-pub const PLUS: &str = "a plus in an exponent: Syntax there";
-pub const SHIFT: &str = "a shift beyond the limits: 0 there";
-pub const ROUNDING: &str = "a rounding beyond the limits: 0 there";
+/// The rows of `docs/DIFFERENCES.md` by which the original answers otherwise.
+pub const PLUS: &str = "listed: a plus in an exponent is Syntax";
+pub const SHIFT: &str = "listed: a shift beyond the limits makes 0";
+pub const ROUNDING: &str = "listed: a rounding beyond the limits makes 0";
 
 /// What `docs/DIFFERENCES.md` claims nothing of, of a value.
 pub fn unclaimed(value: &Value) -> Option<&'static str> {
     if value.digits.len() == 65536 {
-        return Some("nothing claimed: a value of 65,536 digits");
+        return Some("not claimed: a value of 65,536 digits");
     }
-    (value.first() == LOWEST).then_some("nothing claimed: a first digit at -32768")
+    (value.first() == LOWEST).then_some("not claimed: a first digit at -32768")
 }
 
 /// The same, of a call on a value.
 pub fn unclaimed_call(value: &Value, call: &Call) -> Option<&'static str> {
     match call {
         Call::Round(i16::MIN, _, 2 | 5 | 25) if value.first() == HIGHEST => {
-            Some("a first digit at 32767, rounded at -32768 by 2, 5 or 25: 0 there")
+            Some("listed: a first digit at 32767, rounded at -32768 by 2, 5 or 25")
         }
-        Call::Max(1) if value.is_zero() => Some("nothing claimed: 0 with set_max_position(1)"),
+        Call::Max(1) if value.is_zero() => Some("not claimed: 0 with set_max_position(1)"),
         _ => None,
     }
 }

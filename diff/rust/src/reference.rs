@@ -138,11 +138,15 @@ impl Value {
             Sign::Minus => text.push(b'-'),
             Sign::Plus => text.push(b'+'),
         }
-        for magnitude in (self.low..=self.high).rev() {
-            if magnitude == -1 {
-                text.push(b'.');
-            }
-            text.push(b'0' + self.digit_at(magnitude));
+        let mut shown = vec![b'0'; (self.high - self.low + 1) as usize];
+        for (magnitude, digit) in (self.last..=self.first()).rev().zip(&self.digits) {
+            shown[(self.high - magnitude) as usize] += digit;
+        }
+        let (whole, decimals) = shown.split_at(self.high as usize + 1);
+        text.extend_from_slice(whole);
+        if !decimals.is_empty() {
+            text.push(b'.');
+            text.extend_from_slice(decimals);
         }
         text
     }
