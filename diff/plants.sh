@@ -6,6 +6,7 @@
 # Status 0: every one was. ONLY=WORD plants those alone whose name holds the word.
 set -euo pipefail
 . "$(dirname "$0")/common.sh"
+export RUSTFLAGS="$RUSTFLAGS -A warnings"
 seconds=${1:-8} threads=${2:-$(nproc)}
 scratch=$work/project
 export LIBRARY=$scratch/crates/decimal_calls/out

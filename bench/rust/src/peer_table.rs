@@ -37,9 +37,11 @@ fn batch<T>(count: usize, mut call: impl FnMut() -> T) -> f64 {
 /// The same of a peer. None: it does not have this number, or an operation of this kind.
 fn peer_batch<P: Peer>(operation: Operation, text: &str, count: usize) -> Option<f64> {
     let number = P::read(text)?;
-    // What does not hold the number as it is written, or does not round it, has no time for it.
-    let holds = P::print(&number) == text && P::whole(text, DECIMALS).is_some();
-    holds.then_some(())?;
+    // What does not hold the number as it is written has no time for it.
+    (P::print(&number) == text).then_some(())?;
+    if matches!(operation, Operation::Round | Operation::Whole) {
+        P::whole(text, DECIMALS)?;
+    }
     Some(match operation {
         Operation::Parse => batch(count, || P::read(black_box(text))),
         Operation::MultiplyPow10 => batch(count, || P::shift(black_box(&number))),
