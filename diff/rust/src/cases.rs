@@ -86,7 +86,7 @@ fn digit_count(dice: &mut Dice, region: Region) -> usize {
             dice.below(most)
         }
         Region::Long => dice.of(&[0, 1, 5, 60, 200, 700, 1500]) + dice.below(60),
-        Region::Huge => dice.of(&[0, 1, 10, 16384, 32700, 32767, 32768, 32768, 32768, 32769]),
+        Region::Huge => dice.of(&[0, 1, 10, 16384, 32700, 32767, 32768, 32768, 32768, 32769, 32769]),
     }
 }
 
