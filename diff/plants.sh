@@ -65,6 +65,6 @@ plant 'one digit more in place' '[usize; 2] = [16, 8]' '[usize; 2] = [17, 9]'
 plant 'a rounding by 25 wants no memory' 'self.digits.len() >= in_place && after' 'self.digits.len() > in_place + 1 && after'
 plant 'a sink that fails has taken a byte less' '(Answer::Sink, 0, &text[..room])' \
     '(Answer::Sink, 0, &text[..room.saturating_sub(1)])' compare.rs
-plant 'the original makes 0 of no shift' '_ => (0, 0),' '_ => (0, 1),'
+plant 'the 0 of the original after a shift is 00' '_ => (0, 0),' '_ => (1, 0),'
 plant 'the program tells a refusal by status 2' '(1, format!(' '(2, format!(' program.rs
 [ $unnoticed = 0 ]
