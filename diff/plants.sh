@@ -62,9 +62,9 @@ plant 'an integer may have decimals' 'if value.low < 0 {
         return Err(Answer::Limit);' 'if value.low < -1 {
         return Err(Answer::Limit);'
 plant 'one digit more in place' '[usize; 2] = [16, 8]' '[usize; 2] = [17, 9]'
-plant 'a rounding by 25 wants no memory' 'self.digits.len() >= in_place && after' 'self.digits.len() > in_place + 1 && after'
-plant 'a sink that fails has taken a byte less' '(Answer::Sink, 0, &text[..room])' \
-    '(Answer::Sink, 0, &text[..room.saturating_sub(1)])' compare.rs
+plant 'a rounding by 25 wants no memory' 'Call::Round(_, _, 25) =>' 'Call::Round(_, _, 50) =>'
+plant 'a sink that fails has taken a byte less' '(Answer::Sink, &text[..room])' \
+    '(Answer::Sink, &text[..room.saturating_sub(1)])' compare.rs
 plant 'the 0 of the original after a shift is 00' '_ => (0, 0),' '_ => (1, 0),'
 plant 'the program tells a refusal by status 2' '(1, format!(' '(2, format!(' program.rs
 [ $unnoticed = 0 ]
