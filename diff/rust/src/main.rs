@@ -204,8 +204,13 @@ fn main() -> ExitCode {
     let number = |at: usize| arguments[at].parse::<u64>().expect("a number");
     let fixdec = PathBuf::from(&arguments[1]);
     let (seconds, threads, seed) = (number(2), number(3), number(4));
-    // Where the original panics, that is an answer.
-    std::panic::set_hook(Box::new(|_| {}));
+    // Where the original panics, that is an answer. A panic of the driver's own is told.
+    let hook = std::panic::take_hook();
+    std::panic::set_hook(Box::new(move |info| {
+        if info.location().is_some_and(|place| place.file().starts_with("diff/")) {
+            hook(info);
+        }
+    }));
     let start = Instant::now();
     let end = start + Duration::from_secs(seconds);
     let mut counts = Counts::default();
