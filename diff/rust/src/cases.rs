@@ -321,6 +321,16 @@ pub fn case(dice: &mut Dice, region: Region) -> Case {
     Case { start, calls }
 }
 
+/// As many digits as fit where they are, and a rounding by 25 that may make one more.
+pub fn full_case(dice: &mut Dice) -> Case {
+    let mut start = Vec::new();
+    let count = dice.of(&[8, 16, 32]);
+    push_digits(dice, count, &mut start);
+    start[0] = dice.of(b"123456789");
+    start[count - 1] = dice.of(b"123456789");
+    Case { start, calls: vec![Call::Round(dice.of(&[-1, -1, 0, -2]), dice.of(&MODES), 25)] }
+}
+
 /// A text of the same value, or of one that is not far from it.
 pub fn neighbour(dice: &mut Dice, text: &[u8]) -> Vec<u8> {
     let Ok(mut value) = read_decimal(text, Rules::Library) else {

@@ -15,7 +15,7 @@ mod reference;
 #[allow(dead_code)]
 mod shared;
 
-use cases::{case, neighbour, text_of_kind, Case, Dice, Region, INCREMENTS, MODES};
+use cases::{case, full_case, neighbour, text_of_kind, Case, Dice, Region, INCREMENTS, MODES};
 use compare::Comparison;
 use counts::Counts;
 use reference::Call;
@@ -172,7 +172,7 @@ impl Worker {
                 comparison.narrow_sink(&case);
             }
             Family::RefusedMemory(region) => {
-                let case = case(dice, region);
+                let case = if dice.one_in(4) { full_case(dice) } else { case(dice, region) };
                 comparison.refused_memory(&case);
             }
             Family::Program(region) => {
