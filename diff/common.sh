@@ -56,8 +56,8 @@ copy_original() {
     for folder in "$original" "$original/fixed_decimal" "$original/utils/fixed_decimal"; do
         [ ! -f "$folder/src/signed_decimal.rs" ] || cp "$folder"/src/*.rs "$made/src/"
     done
-    # The same files, named by their path, as src--signed_decimal.rs.txt, and cut off in front of their tests: an attribute
-    # of these may be the last line.
+    # The same files, named by their path, as src--signed_decimal.rs.txt, and cut off in front of their tests: an
+    # attribute of these may be the last line.
     for file in "$original"/src--*.rs.txt; do
         [ ! -f "$file" ] || { cat "$file"; echo 'mod end {}'; } >"$made/src/$(basename "${file##*--}" .txt)"
     done
@@ -96,7 +96,7 @@ copy_smallvec() {
     }' "$work/smallvec/src/lib.rs"
 }
 
-# build_driver NAME [OLD NEW FILE]: the program of rust/, without a network; with NEW for OLD, which stands once, in FILE.
+# build_driver NAME [OLD NEW FILE]: the program of rust/, without a network; in FILE with NEW for OLD, which stands once.
 build_driver() {
     rm -rf "$work/$1"
     cp -r "$here/rust" "$work/$1"

@@ -42,9 +42,11 @@ plant 'a rounding does not show what is above the position' 'self.high.max(posit
 plant 'a shift is refused one place too early' 'self.low + delta < LOWEST' 'self.low + delta <= LOWEST'
 plant 'a shift of 0 has no limit' 'if self.high + delta > HIGHEST' 'if !self.is_zero() && self.high + delta > HIGHEST'
 plant 'a cut leaves the lowest magnitude' 'self.low = self.low.min(position);' ''
-plant 'a pad at the end does nothing at 0' 'Call::PadEnd(position) if position <= 0' 'Call::PadEnd(position) if position < 0'
+plant 'a pad at the end does nothing at 0' 'Call::PadEnd(position) if position <= 0' \
+    'Call::PadEnd(position) if position < 0'
 plant 'numbers overlap only above' 'if self.last <= other.first()' 'if self.last < other.first()'
-plant 'what joins 0 is not shown' 'self.low = self.low.min(other.low);' 'if !other.is_zero() { self.low = self.low.min(other.low); }'
+plant 'what joins 0 is not shown' 'self.low = self.low.min(other.low);' \
+    'if !other.is_zero() { self.low = self.low.min(other.low); }'
 plant 'negative shows the sign of 0' 'shown(is_minus && !self.is_zero(), Sign::Minus)' 'shown(is_minus, Sign::Minus)'
 plant 'a trim leaves a zero in front' 'Call::TrimStart => self.high = self.first().max(0)' \
     'Call::TrimStart => self.high = self.first().max(self.high.min(1))'

@@ -147,8 +147,8 @@ impl Library {
         (answer, at)
     }
 
-    /// The calls one by one: the answer of the start and the text with a line feed, and the answer of each call. Nothing
-    /// here asks for memory but the library.
+    /// The calls one by one: the answer of the start and the text with a line feed, and the answer of each call.
+    /// Nothing here asks for memory but the library.
     pub fn single(
         &mut self,
         start: &[u8],
