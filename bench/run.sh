@@ -1,0 +1,27 @@
+#!/usr/bin/env bash
+# Times the library beside the original and its peers, and prints the tables of docs/SPEED.md:
+#
+#   bench/run.sh ORIGINAL [--passes N] [--only WORD]
+#
+# README.md says what ORIGINAL is.
+set -euo pipefail
+. "$(dirname "$0")/../diff/common.sh"
+passes=7 word=
+while [ $# -gt 0 ]; do
+    case $1 in
+        --passes) passes=$2 ;;
+        --only) word=$2 ;;
+        *) die "unknown option: $1" ;;
+    esac
+    shift 2
+done
+need_packages librust-smallvec-dev librust-rust-decimal-dev librust-bigdecimal-dev libicu-dev
+copy_project
+add_library decimal_times decimal_digits decimal_unsigned fixed_decimal libc
+copy_original
+export ICU_CALLS=$work/icu_calls MPDEC=$here/mpdec.py
+mkdir -p "$ICU_CALLS"
+cc -O2 -c -o "$ICU_CALLS/icu_calls.o" "$here/icu_calls.c"
+ar rcs "$ICU_CALLS/libicu_calls.a" "$ICU_CALLS/icu_calls.o"
+build_driver bench
+exec "$work/target/release/bench" "$passes" ${word:+"$word"}

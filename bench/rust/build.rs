@@ -1,0 +1,15 @@
+//! Links the library, whose folder is LIBRARY, the kit's C, whose folder is KIT_C, and the calls of ICU, in ICU_CALLS.
+
+fn main() {
+    for name in ["LIBRARY", "KIT_C", "ICU_CALLS"] {
+        let folder = std::env::var(name).expect("run.sh sets it");
+        println!("cargo:rustc-link-search=native={folder}");
+        println!("cargo:rerun-if-changed={folder}");
+        println!("cargo:rerun-if-env-changed={name}");
+    }
+    println!("cargo:rustc-link-lib=static=decimal_times");
+    println!("cargo:rustc-link-lib=static=libc_c");
+    println!("cargo:rustc-link-lib=static=icu_calls");
+    println!("cargo:rustc-link-lib=icui18n");
+    println!("cargo:rustc-link-lib=icuuc");
+}

@@ -1,0 +1,142 @@
+//! The tables of the library and its peers.
+
+use crate::peers::{answers, python, Icu, Peer};
+use crate::shared::Operation;
+use crate::table::{copies, digits, dotted, time, Case, Outcome};
+use bigdecimal::BigDecimal;
+use rust_decimal::Decimal as RustDecimal;
+use std::hint::black_box;
+use std::time::Instant;
+
+const SIZES: [usize; 6] = [4, 8, 16, 19, 100, 10_000];
+const DECIMALS: u16 = 2;
+
+/// The rows of the table: the operation here, and its name.
+const ROWS: [(Operation, &str); 5] = [
+    (Operation::Parse, "parse"),
+    (Operation::MultiplyPow10, "shift"),
+    (Operation::Round, "round"),
+    (Operation::WriteFresh, "print"),
+    (Operation::Whole, "whole"),
+];
+
+/// A number with at least three decimals.
+fn text(size: usize) -> String {
+    dotted(&digits(size), (size / 2).min(size - 3))
+}
+
+/// The nanoseconds of a call, on average over a batch.
+fn batch<T>(count: usize, mut call: impl FnMut() -> T) -> f64 {
+    let start = Instant::now();
+    for _ in 0..count {
+        black_box(call());
+    }
+    start.elapsed().as_nanos() as f64 / count as f64
+}
+
+/// The same of a peer. None: it does not have this number, or an operation of this kind.
+fn peer_batch<P: Peer>(operation: Operation, text: &str, count: usize) -> Option<f64> {
+    let number = P::read(text)?;
+    // What does not hold the number as it is written has no time for it.
+    (P::print(&number) == text).then_some(())?;
+    if matches!(operation, Operation::Round | Operation::Whole) {
+        P::whole(text, DECIMALS)?;
+    }
+    Some(match operation {
+        Operation::Parse => batch(count, || P::read(black_box(text))),
+        Operation::MultiplyPow10 => batch(count, || P::shift(black_box(&number))),
+        Operation::Round => batch(count, || P::round(black_box(&number), DECIMALS)),
+        Operation::WriteFresh => batch(count, || P::print(black_box(&number))),
+        _ => batch(count, || P::whole(black_box(text), DECIMALS)),
+    })
+}
+
+/// The same of ICU, which has only the whole.
+fn icu_batch(icu: &mut Icu, operation: Operation, text: &str, count: usize) -> Option<f64> {
+    icu.whole(text).filter(|_| operation == Operation::Whole)?;
+    Some(batch(count, || icu.whole(black_box(text)).map(<[u16]>::len)))
+}
+
+/// The least times of one operation and size: here, in rust_decimal, in bigdecimal, in Python's decimal, in ICU.
+fn cell(operation: Operation, name: &str, size: usize, passes: usize, python: &str) -> [Option<f64>; 5] {
+    let text = text(size);
+    let case = Case { operation, text, other: String::new(), position: -(DECIMALS as i16), copies: copies(size) };
+    let mut icu = Icu::new(DECIMALS);
+    let count = case.copies;
+    let mut least = [None; 5];
+    for _ in 0..passes * 10 {
+        let ours = time(&case, &mut Outcome::new(&case)) as f64 / count as f64;
+        let found = [
+            Some(ours),
+            peer_batch::<RustDecimal>(operation, &case.text, count),
+            peer_batch::<BigDecimal>(operation, &case.text, count),
+            None,
+            icu_batch(&mut icu, operation, &case.text, count),
+        ];
+        for (least, found) in least.iter_mut().zip(found) {
+            *least = match (*least, found) {
+                (Some(one), Some(other)) => Some(f64::min(one, other)),
+                (one, other) => one.or(other),
+            };
+        }
+    }
+    let line = format!("{name} {size} ");
+    least[3] = python.lines().find_map(|found| found.strip_prefix(&line)?.parse().ok());
+    least
+}
+
+/// Prints the time here over the time there, by operation, peer and size.
+pub fn print(passes: usize) {
+    let texts = SIZES.map(text);
+    let mut words = vec!["time"];
+    words.extend(texts.iter().map(String::as_str));
+    let python = python(&words).unwrap_or_default();
+    println!("| |{}", SIZES.map(|size| format!(" {size} |")).concat());
+    println!("|---|{}", "---|".repeat(SIZES.len()));
+    for (operation, name) in ROWS {
+        let cells = SIZES.map(|size| cell(operation, name, size, passes, &python));
+        for (peer, peer_name) in ["rust_decimal", "bigdecimal", "libmpdec, from Python", "ICU"].iter().enumerate() {
+            let ratio = |times: &[Option<f64>; 5]| match (times[0], times[peer + 1]) {
+                (Some(here), Some(there)) => format!(" {:.2} |", here / there),
+                _ => " |".to_owned(),
+            };
+            if cells.iter().any(|times| times[peer + 1].is_some()) {
+                println!("| {name}, {peer_name} |{}", cells.iter().map(ratio).collect::<String>());
+            }
+        }
+    }
+}
+
+/// What the table of answers is made of: a text, and the decimals to which a hundredth of it is rounded.
+const INPUTS: [(&str, u16); 9] = [
+    ("00750", 2),
+    ("-0.1", 2),
+    ("1e5", 0),
+    ("234.5", 2),
+    ("235.5", 2),
+    ("234.50000000000000000000000000001", 2),
+    ("123456789012345678901234567890123456789012", 2),
+    ("1e-8", 10),
+    ("1", 30),
+];
+
+/// What one call of the library answers, by the same way as the times.
+fn answer(text: &str, decimals: u16) -> String {
+    let position = -(decimals as i16);
+    let case = Case { operation: Operation::Whole, text: text.to_owned(), other: String::new(), position, copies: 1 };
+    let mut outcome = Outcome::new(&case);
+    time(&case, &mut outcome);
+    let length = outcome.answer.iter().position(|byte| *byte == 0).unwrap_or(outcome.answer.len());
+    String::from_utf8_lossy(&outcome.answer[..length]).into_owned()
+}
+
+/// Prints what each answers to some texts, read, shifted by -2, rounded half-even and printed.
+pub fn print_answers() {
+    println!("| Text | Decimals | Here | Original | rust_decimal | bigdecimal | libmpdec, from Python | ICU |");
+    println!("|---|---|---|---|---|---|---|---|");
+    for (text, decimals) in INPUTS {
+        let shown = |answer: Option<String>| answer.map_or(" refused |".to_owned(), |answer| format!(" `{answer}` |"));
+        let peers: String = answers(text, decimals).into_iter().map(shown).collect();
+        println!("| `{text}` | {decimals} | `{}` |{peers}", answer(text, decimals));
+    }
+}

@@ -1,0 +1,128 @@
+# What diff/run.sh, diff/plants.sh and bench/run.sh share. Their first argument is the folder of the original.
+#
+# WORK, a folder outside the project, takes all that is made, and is used again by the next run. JOBS: how many jobs rt
+# takes; it chooses where that is not set.
+
+die() { echo "$*" >&2; exit 2; }
+
+here=$(cd "$(dirname "$0")" && pwd)
+project=$(dirname "$here")
+[ $# -gt 0 ] || die "usage: $0 ORIGINAL [OPTION].. (see README.md)"
+original=$(cd "$1" && pwd)
+shift
+work=${WORK:-${TMPDIR:-/tmp}/fixed_decimal-beside}
+mkdir -p "$work"
+work=$(cd "$work" && pwd)
+registry=/usr/share/cargo/registry
+export KIT_C=$(dirname "$(rt doc)")/c RUSTFLAGS=${RUSTFLAGS-"-C target-cpu=x86-64-v2"}
+
+need_packages() {
+    for package in "$@"; do
+        dpkg -s "$package" >/dev/null 2>&1 || die "missing: apt-get install $*"
+    done
+}
+
+# The project as it is committed or changed, with what its checks have kept, so that nothing is proved twice.
+copy_project() {
+    scratch=$work/project
+    mkdir -p "$scratch/crates"
+    find "$scratch" -path '*/out' -prune -o -type f -exec rm {} +
+    (cd "$project" && git ls-files -z -- crates crates.txt HANDLES | tar cf - --null -T -) | tar xf - -C "$scratch"
+    for out in "$project"/crates/*/out; do
+        copy=$scratch/crates/$(basename "$(dirname "$out")")/out
+        [ ! -d "$out" ] || [ -d "$copy" ] || cp -r "$out" "$copy"
+    done
+}
+
+# add_library NAME DEP..: a static library over the project, from the files library/*.rt.txt.
+add_library() {
+    name=$1
+    shift
+    echo "$name staticlib: $*" >>"$scratch/crates.txt"
+    mkdir -p "$scratch/crates/$name/src"
+    for file in "$here"/library/*.rt.txt; do
+        cp -p "$file" "$scratch/crates/$name/src/$(basename "$file" .txt)"
+    done
+    (cd "$scratch/crates/$name" && rt lib ${JOBS:+--jobs "$JOBS"}) >"$work/$name.txt" 2>&1 ||
+        { tail -n 30 "$work/$name.txt" >&2; die "$name was not built"; }
+    export LIBRARY=$scratch/crates/$name/out
+}
+
+# The original, unchanged, with Debian's smallvec and stand-ins for two small crates.
+copy_original() {
+    made=$work/fixed_decimal
+    rm -rf "$made"
+    mkdir -p "$made/src"
+    for folder in "$original" "$original/fixed_decimal" "$original/utils/fixed_decimal"; do
+        [ ! -f "$folder/src/signed_decimal.rs" ] || cp "$folder"/src/*.rs "$made/src/"
+    done
+    # The same files, named by their path, as src--signed_decimal.rs.txt, and cut off in front of their tests: an
+    # attribute of these may be the last line.
+    for file in "$original"/src--*.rs.txt; do
+        [ ! -f "$file" ] || { cat "$file"; echo 'mod end {}'; } >"$made/src/$(basename "${file##*--}" .txt)"
+    done
+    [ -f "$made/src/signed_decimal.rs" ] || die "no src/signed_decimal.rs of the original below $original"
+    cat >"$made/Cargo.toml" <<TOML
+[package]
+name = "fixed_decimal"
+version = "0.7.3"
+edition = "2021"
+[features]
+ryu = []
+[dependencies]
+displaydoc = { path = "../displaydoc" }
+writeable = { path = "../writeable" }
+smallvec = { version = "1.9", default-features = false, features = ["const_new"] }
+TOML
+    for name in writeable displaydoc; do
+        mkdir -p "$work/$name/src"
+        cp "$project/diff/stand-ins/$name.rs" "$work/$name/src/lib.rs"
+        printf '[package]\nname = "%s"\nversion = "0.0.0"\nedition = "2021"\n' "$name" >"$work/$name/Cargo.toml"
+    done
+    printf '[lib]\nproc-macro = true\n' >>"$work/displaydoc/Cargo.toml"
+    copy_smallvec
+}
+
+# Debian's smallvec, with the one function that the original wants and 1.9 does not have.
+copy_smallvec() {
+    rm -rf "$work/smallvec"
+    cp -r "$registry"/smallvec-1.* "$work/smallvec"
+    rm -rf "$work"/smallvec/{benches,tests,.cargo-checksum.json}
+    grep -q from_const_with_len_unchecked "$work/smallvec/src/lib.rs" ||
+        sed -i '/^impl<T, const N: usize> SmallVec<\[T; N\]> {/a\
+    /// The first `len` items.\
+    pub const unsafe fn from_const_with_len_unchecked(items: [T; N], len: usize) -> Self {\
+        SmallVec { capacity: len, data: SmallVecData::from_const(MaybeUninit::new(items)) }\
+    }' "$work/smallvec/src/lib.rs"
+}
+
+# build_driver NAME [OLD NEW FILE]: the program of rust/, without a network; in FILE with NEW for OLD, which stands once.
+build_driver() {
+    rm -rf "$work/$1"
+    cp -r "$here/rust" "$work/$1"
+    [ $# = 1 ] || python3 - "${@:2:2}" "$work/$1/src/$4" <<'PY'
+import sys
+old, new, path = sys.argv[1:]
+text = open(path).read()
+assert text.count(old) == 1, (text.count(old), old)
+open(path, "w").write(text.replace(old, new))
+PY
+    [ ! -f "$here/library/shared.rt.txt" ] || cp "$here/library/shared.rt.txt" "$work/$1/src/shared.rs"
+    mkdir -p "$work/.cargo"
+    cat >"$work/.cargo/config.toml" <<TOML
+[source.crates-io]
+replace-with = "debian"
+[source.debian]
+directory = "$registry"
+TOML
+    cat >"$work/Cargo.toml" <<TOML
+[workspace]
+resolver = "2"
+members = ["$1"]
+[patch.crates-io]
+smallvec = { path = "smallvec" }
+[profile.release]
+opt-level = 3
+TOML
+    (cd "$work" && cargo build --offline --release --quiet --package "$1" >&2)
+}

@@ -1,0 +1,26 @@
+#!/usr/bin/env bash
+# Compares the library with the original and with a reference:
+#
+#   diff/run.sh ORIGINAL [--seconds N] [--threads N] [--seed N]
+#
+# README.md says what ORIGINAL is. Status 0: no difference was found but the listed ones.
+set -euo pipefail
+. "$(dirname "$0")/common.sh"
+seconds=540 threads=$(nproc) seed=1
+while [ $# -gt 0 ]; do
+    case $1 in
+        --seconds) seconds=$2 ;;
+        --threads) threads=$2 ;;
+        --seed) seed=$2 ;;
+        *) die "unknown option: $1" ;;
+    esac
+    shift 2
+done
+need_packages librust-smallvec-dev
+copy_project
+(cd "$scratch/crates/fixdec" && rt run ${JOBS:+--jobs "$JOBS"} -- 250 shift:-2) >"$work/fixdec.txt" 2>&1 ||
+    { tail -n 30 "$work/fixdec.txt" >&2; die "fixdec was not built"; }
+add_library decimal_calls decimal_digits decimal_unsigned fixed_decimal
+copy_original
+build_driver diff
+exec "$work/target/release/diff" "$scratch/crates/fixdec/out/fixdec" "$seconds" "$threads" "$seed"
