@@ -11,7 +11,7 @@ use Rattle.decimal_digits.specs.declared.rounding.tail.Tail.{Tail}
 use Rattle.decimal_digits.specs.declared.rounding.tail.Tail.TheVariants.{BelowHalf}
 use Rattle.decimal_digits.specs.Number.{place, weight, first, last, size, magnitude_at, number_limit}
 use Rattle.decimal_digits.specs.Digits.{number_at, number_of, IsStripped}
-use Rattle.decimal_digits.specs.Rounding.{step_of, unit_at, rounded_number, Refuses}
+use Rattle.decimal_digits.specs.Rounding.{step_of, unit_at, rounded_number, DigitRoundingRefuses}
 use Rattle.decimal_digits.specs.declared.rounding.RoundError.{RoundError}
 use Rattle.decimal_digits.specs.declared.rounding.RoundError.TheVariants.{Limit, Memory}
 use Rattle.decimal_digits.specs.declared.rounding.RoundingIncrement.{RoundingIncrement}
@@ -144,7 +144,7 @@ pub refuses : (e : RoundError) (mode : UnsignedRoundingMode) (increment : Roundi
     (ds : List ℕ) (tail : Tail) (n : ℕ) (p : ℤ) → negsuc 32767 ≤ℤ p → (p +ℤ pos room) ≡ pos 32768
     → (0 < k → place p + k ≤ 65536)
     → HasParts n (weight p) (leading k ds) tail → KeptRefuses e mode increment fit room k ds tail
-    → Refuses e increment (length ds) (rounded_number mode (unit_at increment p) n) fit
+    → DigitRoundingRefuses e increment (length ds) (rounded_number mode (unit_at increment p) n) fit
 refuses Limit mode increment fit room k ds tail n p low top within parts (m, h, rounds) =
     let e =
     rounded_parts mode (step_of increment) tail n (weight p) (leading k ds) m (ten_pos (place p)) parts rounds in

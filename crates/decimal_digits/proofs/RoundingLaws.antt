@@ -25,9 +25,9 @@ rounded_number-zero mode u p =
     subst (λ z. rounded_number mode u z ≡ z) (zero-mul u) (rounded_number-multiple mode u 0 p)
 
 -- the same rounding again
-pub rounded_number-again : (mode : UnsignedRoundingMode) (u n : ℕ) → 0 < u
+pub rounded_number-idempotent : (mode : UnsignedRoundingMode) (u n : ℕ) → 0 < u
     → rounded_number mode u (rounded_number mode u n) ≡ rounded_number mode u n
-rounded_number-again mode u n p =
+rounded_number-idempotent mode u n p =
     let (q, e, c) = rounded_number-named mode u n p in
     ap (rounded_number mode u) e ∙ rounded_number-multiple mode u q p ∙ sym e
 

@@ -72,13 +72,13 @@ rounded_number HalfEven u n =
 
 -- memory is wanted only by 25, and only where n stays below the limit and has one digit more than the `digits` before,
 -- of which there are as many as fit with no memory, or more
-pub record WantsMemory (increment : RoundingIncrement) (digits n fit : ℕ) : Type 0 where
+pub record DigitRoundingNeedsMemory (increment : RoundingIncrement) (digits n fit : ℕ) : Type 0 where
   pub by_25 : increment ≡ MultiplesOf25
   pub below_limit : n < number_limit
   pub longer : size n ≡ digits + 1
   pub full : fit ≤ digits
 
 -- why a number that is to become n is left as it was: n reaches the limit, or one digit more wants memory
-abbrev pub Refuses : RoundError → RoundingIncrement → ℕ → ℕ → ℕ → Type 0
-Refuses Limit increment digits n fit = number_limit ≤ n
-Refuses Memory increment digits n fit = WantsMemory increment digits n fit
+abbrev pub DigitRoundingRefuses : RoundError → RoundingIncrement → ℕ → ℕ → ℕ → Type 0
+DigitRoundingRefuses Limit increment digits n fit = number_limit ≤ n
+DigitRoundingRefuses Memory increment digits n fit = DigitRoundingNeedsMemory increment digits n fit

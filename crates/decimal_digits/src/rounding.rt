@@ -3,7 +3,7 @@ ghost use Rattle.std.specs.Prelude.{◌≡◌, ◌≢◌, ◌+◌, ◌*◌, ◌<
 ghost use Rattle.decimal_digits.specs.Counted.{list_of, turns_of, Continues, OnlyReads};
 ghost use Rattle.decimal_digits.specs.Number.{place, weight};
 ghost use Rattle.decimal_digits.specs.Digits.{number_at, number_of, IsStripped};
-ghost use Rattle.decimal_digits.specs.Rounding.{unit_at, Named, rounded_number, Refuses};
+ghost use Rattle.decimal_digits.specs.Rounding.{unit_at, Named, rounded_number, DigitRoundingRefuses};
 ghost use Rattle.decimal_digits.specs.Left.{Spells, IsAbove};
 ghost use Rattle.decimal_digits.specs.Tails.{leading, HasParts};
 
@@ -92,7 +92,7 @@ fn parts_at<D: DigitStore>(
     ensures parts { let digits = D.digits (list_of counted.old) in
         HasParts (number_of digits magnitude) (weight position) (leading result.0 digits) result.1 }
     ensures exact { (result.1 ≡ Tail.Zero) ↔ (length (D.digits (list_of counted.old)) ≤ result.0) }
-    ensures few { result.0 ≤ 65536 }
+    ensures at_most { result.0 ≤ 65536 }
     ensures below_limit { 0 < result.0 → place position + result.0 ≤ 65536 }
     ensures reads { OnlyReads 1 counted.old counted.new }
 {
@@ -150,7 +150,7 @@ pub fn round<D: DigitStore>(
 
     ensures err { OnErr result (D.digits (list_of counted.new) ≡ D.digits (list_of counted.old)) }
     ensures refused { let number = number_of (D.digits (list_of counted.old)) magnitude in
-        IfErr result (λ e. Refuses e increment (length (D.digits (list_of counted.old)))
+        IfErr result (λ e. DigitRoundingRefuses e increment (length (D.digits (list_of counted.old)))
         (rounded_number mode (unit_at increment position) number) D.L) }
     ensures succeeds { increment ≢ RoundingIncrement.MultiplesOf25 → IsErrOf result RoundError.Memory → ⊥ }
 

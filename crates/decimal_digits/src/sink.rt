@@ -1,7 +1,7 @@
 //! What takes the bytes of a text, and what has a text.
 ghost use Rattle.std.specs.Prelude.{◌≡◌, ℕ, List, [], ◌∷◌, length, Option, OnOk, OnErr, Bool, true, false};
 ghost use Rattle.std.specs.Io.KnownBytes.{Keeps, Appends};
-ghost use Rattle.decimal_digits.specs.Text.{AppendsBeginning};
+ghost use Rattle.decimal_digits.specs.Text.{AppendsPrefix};
 
 mod out;
 mod text_buf;
@@ -31,10 +31,10 @@ pub trait Sink {
     /// refuses each byte.
     fn put_byte(&mut self, byte: u8) -> Result<(), SinkFault>
         ensures appends { OnOk result (Appends (contents self.old) (contents self.new) (byte ∷ [])) }
-        ensures worked { OnOk result (has_failed self.old ≡ false) }
-        ensures works { OnOk result (has_failed self.new ≡ false) }
+        ensures had_not_failed { OnOk result (has_failed self.old ≡ false) }
+        ensures has_not_failed { OnOk result (has_failed self.new ≡ false) }
         ensures keeps { OnErr result (Keeps (contents self.old) (contents self.new)) }
-        ensures fails { OnErr result (has_failed self.new ≡ true) };
+        ensures failed { OnErr result (has_failed self.new ≡ true) };
 
     /// Tells whether a byte was refused.
     fn failed(&self) -> bool
@@ -46,10 +46,10 @@ pub trait Sink {
     /// refuses an empty slice too, and its contents stay as they were.
     fn put_bytes(&mut self, bytes: &[u8]) -> Result<(), SinkFault>
         ensures appends { OnOk result (Appends (contents self.old) (contents self.new) bytes.now) }
-        ensures worked { OnOk result (has_failed self.old ≡ false) }
-        ensures works { OnOk result (has_failed self.new ≡ false) }
-        ensures begins { OnErr result (AppendsBeginning (contents self.old) (contents self.new) bytes.now) }
-        ensures fails { OnErr result (has_failed self.new ≡ true) }
+        ensures had_not_failed { OnOk result (has_failed self.old ≡ false) }
+        ensures has_not_failed { OnOk result (has_failed self.new ≡ false) }
+        ensures prefix { OnErr result (AppendsPrefix (contents self.old) (contents self.new) bytes.now) }
+        ensures failed { OnErr result (has_failed self.new ≡ true) }
         ensures stays { has_failed self.old ≡ true → Keeps (contents self.old) (contents self.new) }
     {
         if self.failed() {
@@ -75,8 +75,8 @@ pub trait Writeable {
     /// refuses each text, and its contents stay as they were.
     fn write_to<W: Sink>(&self, sink: &mut W) -> Result<(), SinkFault>
         ensures ok { OnOk result (Appends (W.contents sink.old) (W.contents sink.new) (text self.now)) }
-        ensures err { OnErr result (AppendsBeginning (W.contents sink.old) (W.contents sink.new) (text self.now)) }
-        ensures worked { OnOk result (W.has_failed sink.old ≡ false) }
+        ensures err { OnErr result (AppendsPrefix (W.contents sink.old) (W.contents sink.new) (text self.now)) }
+        ensures had_not_failed { OnOk result (W.has_failed sink.old ≡ false) }
         ensures failed { OnErr result (W.has_failed sink.new ≡ true) }
         ensures stays { W.has_failed sink.old ≡ true → Keeps (W.contents sink.old) (W.contents sink.new) };
 

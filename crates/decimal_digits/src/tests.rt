@@ -1,8 +1,8 @@
 //! Each public call once, what no clause says, and sinks that fail.
 
+mod bulk;
 mod counted;
 mod lists;
 mod modes;
 mod packed;
-mod runs;
 mod sinks;

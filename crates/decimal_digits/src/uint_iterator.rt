@@ -50,7 +50,7 @@ impl<T: UnsignedInteger> IntIterator<T> {
     pub fn new(integer: T) -> Self
         requires { T.number integer < 2 ^ 128 }
         ensures digits { result ≡ ascending_digits (T.number integer) }
-        ensures few { length result ≤ MAX_DIGITS }
+        ensures at_most { length result ≤ MAX_DIGITS }
     {
         IntIterator { rest: integer }
     }

@@ -4,13 +4,16 @@
 //! None of them asks for memory of its own. Nothing but tests stands on this crate.
 #![tactic(auto)]
 
-mod bounded;
-mod full;
-mod most;
-mod narrow;
-mod wanted;
+mod digit_limit;
+mod expected_text;
+mod failing_writer;
+mod limited_sink;
+mod limited_store;
 
-pub use bounded::Bounded;
-pub use full::{Full, Refusal};
-pub use most::{Eight, Eighteen, Greatest, Hundred, Most, Nineteen, Seventeen, Sixteen, TwentyOne};
-pub use narrow::{Narrow, displays, shows};
+pub use digit_limit::{
+    DigitLimit, EightDigits, EighteenDigits, HundredDigits, MaxDigits, NineteenDigits,
+    SeventeenDigits, SixteenDigits, TwentyOneDigits,
+};
+pub use failing_writer::{FailingWriter, WriteFailure};
+pub use limited_sink::{LimitedSink, displays, shows};
+pub use limited_store::LimitedStore;

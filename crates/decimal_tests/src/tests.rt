@@ -6,8 +6,6 @@ use std::process::Abort;
 use std::test::Fail;
 
 mod asks;
-mod bounded;
-mod bounded_runs;
 mod changes;
 mod compact;
 mod constructors;
@@ -16,6 +14,8 @@ mod ends;
 mod equality;
 mod every_way;
 mod integer;
+mod limited_runs;
+mod limited_store;
 mod long;
 mod memory;
 mod reading;

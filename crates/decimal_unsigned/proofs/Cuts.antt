@@ -13,7 +13,7 @@ use Rattle.decimal_digits.specs.Digits.{number_of, number_at}
 use Rattle.decimal_digits.proofs.DigitLists.{ten_pos, number_split, number-drop-lt, below_drop}
 use Rattle.decimal_digits.proofs.Places.{place_is, gap_is}
 use Rattle.decimal_unsigned.specs.Fields.{IsStored}
-use Rattle.decimal_unsigned.specs.Edits.{cut}
+use Rattle.decimal_unsigned.specs.Edits.{with_max_position}
 use Rattle.decimal_unsigned.proofs.Middle.{number_zeros}
 use Rattle.decimal_unsigned.proofs.Values.{number_of-lt, number_of-none, lowest}
 
@@ -203,6 +203,6 @@ module _ {ds : List ℕ} {m hi lo p m' hi' lo' : ℤ} {start : ℕ} (t : IsStore
   ])
 
   -- they make the part below the position
-  pub cut_is : record { number = number_of (drop start ds) m'; hi = hi'; lo = lo' }
-      ≡ cut (record { number = number_of ds m; hi = hi; lo = lo }) p
-  cut_is = λ i. record { number = number_of-cut i; hi = c.hi_is i; lo = c.lo_is i }
+  pub with_max_position_is : record { number = number_of (drop start ds) m'; hi = hi'; lo = lo' }
+      ≡ with_max_position (record { number = number_of ds m; hi = hi; lo = lo }) p
+  with_max_position_is = λ i. record { number = number_of-cut i; hi = c.hi_is i; lo = c.lo_is i }

@@ -15,12 +15,12 @@ use Rattle.decimal_digits.specs.declared.rounding.UnsignedRoundingMode.TheVarian
 use Rattle.decimal_digits.proofs.Ends.{last_zero, no_more_zeros}
 use Rattle.decimal_digits.proofs.Places.{place_is, gap_is}
 use Rattle.decimal_unsigned.specs.Unsigned.{Unsigned, IsValue}
-use Rattle.decimal_unsigned.specs.Edits.{cut}
+use Rattle.decimal_unsigned.specs.Edits.{with_max_position}
 use Rattle.decimal_unsigned.specs.Rounded.{with_number, rounded}
 use Rattle.decimal_unsigned.specs.Text.{text}
-use Rattle.decimal_unsigned.specs.EditLaws.{trimmed, TrimmedAlike, IsShortest, truncated, PartsJoin}
+use Rattle.decimal_unsigned.specs.EditLaws.{trimmed, TrimmedIsNormalForm, IsShortest, trunced, PartsJoin}
 use Rattle.decimal_unsigned.proofs.FirstLast.{last_of, first_le}
-use Rattle.decimal_unsigned.proofs.JoiningLaws.{extent_of, parts_join, parts_number, parts_value}
+use Rattle.decimal_unsigned.proofs.ConcatenationLaws.{extent_of, parts_join, parts_number, parts_value}
 use Rattle.decimal_unsigned.proofs.Roundings.{trunc_makes}
 use Rattle.decimal_unsigned.proofs.Lengths.{length-text_whole, length-text_dotted}
 
@@ -31,9 +31,9 @@ bare : ℕ → Unsigned
 bare n = record { number = n; hi = int_max (first n) (pos 0); lo = int_min (last n) (pos 0) }
 
 -- equal numbers are equal after both trims, and the other way round
-pub trimmed_alike : (v w : Unsigned) → TrimmedAlike v w
+pub trimmed_is_normal_form : (v w : Unsigned) → TrimmedIsNormalForm v w
 unfolding bare
-trimmed_alike v w = (λ e. ap bare e, λ e. ap (λ (x : Unsigned). x.number) e)
+trimmed_is_normal_form v w = (λ e. ap bare e, λ e. ap (λ (x : Unsigned). x.number) e)
 
 module _ (w : Unsigned) (valid : IsValue w) where
   -- a value shows its first digit and its last one
@@ -120,14 +120,14 @@ module _ (v : Unsigned) (p : ℤ) (valid : IsValue v) where
   unfolding rounded_number
   truncated_number = ap (λ u. v.number - v.number % u) (let e : 1 * weight p ≡ weight p = omega arith in e)
 
-  truncated_is : truncated v p ≡ with_number v p (v.number - v.number % weight p)
-  truncated_is =
+  trunced_is : trunced v p ≡ with_number v p (v.number - v.number % weight p)
+  trunced_is =
       ap (λ o. unwrap_or o v) (trunc_makes v p MultiplesOf1 below_limit) ∙ ap (with_number v p) truncated_number
 
   -- the truncated value and the part below the position make the value
-  pub parts : PartsJoin v p (truncated v p) (cut v p)
-  parts = subst (λ t. PartsJoin v p t (cut v p)) (sym truncated_is) (record {
-    apart = parts_join v (with_number v p (v.number - v.number % weight p)) p valid refl;
+  pub parts : PartsJoin v p (trunced v p) (with_max_position v p)
+  parts = subst (λ t. PartsJoin v p t (with_max_position v p)) (sym trunced_is) (record {
+    disjoint = parts_join v (with_number v p (v.number - v.number % weight p)) p valid refl;
     number = parts_number v (with_number v p (v.number - v.number % weight p)) p valid refl;
     value = parts_value v (with_number v p (v.number - v.number % weight p)) p valid refl refl refl;
   })

@@ -103,7 +103,7 @@ last_digit x y (suc d) h =
     rw p (mul-add-mod_self_right (x * 10 ^ d) 10 y)
 
 -- ---- the sum of two numbers of which the second lies below the last digit of the first
-module _ {m n : ℕ} (a : Extent m) (b : Extent n) (apart : b.top < a.bottom) where
+module _ {m n : ℕ} (a : Extent m) (b : Extent n) (disjoint : b.top < a.bottom) where
   sum_is : m + n ≡ (a.factor * 10 ^ (a.bottom - b.bottom) + b.factor) * 10 ^ b.bottom
   sum_is =
       let k : a.bottom ≡ (a.bottom - b.bottom) + b.bottom = omega (arith, ordered b) in
@@ -132,7 +132,7 @@ module _ {m n : ℕ} (a : Extent m) (b : Extent n) (apart : b.top < a.bottom) wh
   pub last_sum : last (m + n) ≡ last n
   last_sum =
       let odd : 0 < (a.factor * 10 ^ (a.bottom - b.bottom) + b.factor) % 10 =
-      omega (arith, last_digit a.factor b.factor (a.bottom - b.bottom) (omega (arith, apart, ordered b)), b.odd) in
+      omega (arith, last_digit a.factor b.factor (a.bottom - b.bottom) (omega (arith, disjoint, ordered b)), b.odd) in
       ap last sum_is
       ∙ last_is (a.factor * 10 ^ (a.bottom - b.bottom) + b.factor) b.bottom odd (omega (arith, ordered b, b.limit))
       ∙ sym (last_of b)

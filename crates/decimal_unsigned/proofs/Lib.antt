@@ -3,9 +3,9 @@ pub mod Ranges
 pub mod Shifts
 pub mod Unique
 pub mod Shown
-pub mod Joins
+pub mod Concatenations
 pub mod FirstLast
-pub mod JoiningLaws
+pub mod ConcatenationLaws
 pub mod Writing
 pub mod TextBytes
 pub mod Blocks

@@ -6,17 +6,17 @@ use Rattle.decimal_unsigned.specs.Unsigned.{Unsigned}
 use Rattle.decimal_unsigned.specs.declared.error.ParseError.{ParseError}
 use Rattle.decimal_unsigned.specs.declared.error.ParseError.TheVariants.{Limit, Syntax, Memory}
 use Rattle.decimal_unsigned.specs.Grammar.{Written, Grammar}
-use Rattle.decimal_unsigned.specs.Reading.{Fault, parts_of, mantissa, is_outside, scaled, value_of, value_or_syntax, read, FollowsGrammar, syntax, limit}
+use Rattle.decimal_unsigned.specs.Reading.{ReadingFault, parts_of, mantissa, is_outside, scaled, value_of, value_or_syntax, read, FollowsGrammar, syntax, limit}
 use Rattle.decimal_unsigned.specs.Edits.{leaves_limits}
 use Rattle.decimal_unsigned.specs.Placing.{middle}
 use Rattle.decimal_unsigned.specs.Refusal.{Answers, AnswersGrammar}
 use Rattle.decimal_unsigned.proofs.GrammarParts.{parts_again, parts_takes}
 
 -- a value, or the limit
-abbrev Values : Result Unsigned Fault → Type 0
+abbrev Values : Result Unsigned ReadingFault → Type 0
 Values r = ((v : Unsigned) × (r ≡ Ok v)) ⊎ (r ≡ Err limit)
 
-tested : (b : Bool) (x y : Result Unsigned Fault) → Values x → Values y → Values (cond b x y)
+tested : (b : Bool) (x y : Result Unsigned ReadingFault) → Values x → Values y → Values (cond b x y)
 tested true x y p q = p
 tested false x y p q = q
 
@@ -77,7 +77,7 @@ value_is text v e = let k = grammar_if text (λ s. let never : ⊥ = cc in never
 -- ---- What a parser answered.
 
 -- it answers Syntax exactly where reading comes to that
-pub answers_syntax : {V : Type 0} (wants : V → Type 0) (r : Result V ParseError) (q : Result V Fault)
+pub answers_syntax : {V : Type 0} (wants : V → Type 0) (r : Result V ParseError) (q : Result V ReadingFault)
     → Answers wants r q
     → (r ≡ Err Syntax) ↔ (q ≡ Err syntax)
 answers_syntax wants (Ok v) q a = (λ e. absurd (cc), λ e. absurd (cc))
@@ -86,7 +86,7 @@ answers_syntax wants (Err Syntax) q a = (λ e. a, λ e. refl)
 answers_syntax wants (Err Memory) q a = (λ e. absurd (cc), λ e. absurd (rw e at a))
 
 -- and Limit exactly where it comes to that
-pub answers_limit : {V : Type 0} (wants : V → Type 0) (r : Result V ParseError) (q : Result V Fault)
+pub answers_limit : {V : Type 0} (wants : V → Type 0) (r : Result V ParseError) (q : Result V ReadingFault)
     → Answers wants r q
     → (r ≡ Err Limit) ↔ (q ≡ Err limit)
 answers_limit wants (Ok v) q a = (λ e. absurd (cc), λ e. absurd (cc))

@@ -8,7 +8,7 @@ use Rattle.std.proofs.lemmas.Nat.{pow-add}
 use Rattle.std.proofs.lemmas.Bool.{cases_lt}
 use Rattle.std.proofs.lemmas.Option.{none-some, same_Some}
 use Rattle.decimal_digits.specs.Number.{place, first, size, number_limit}
-use Rattle.decimal_digits.specs.Rounding.{unit_at, rounded_number, Refuses}
+use Rattle.decimal_digits.specs.Rounding.{unit_at, rounded_number, DigitRoundingRefuses}
 use Rattle.decimal_digits.specs.declared.rounding.RoundError.{RoundError}
 use Rattle.decimal_digits.specs.declared.rounding.RoundError.TheVariants.{Limit, Memory}
 use Rattle.decimal_digits.specs.declared.rounding.RoundingIncrement.{RoundingIncrement}
@@ -18,11 +18,11 @@ use Rattle.decimal_digits.specs.declared.rounding.UnsignedRoundingMode.TheVarian
 use Rattle.decimal_digits.proofs.DigitLists.{ten_pos}
 use Rattle.decimal_digits.proofs.Naming.{rounded_number-named}
 use Rattle.decimal_digits.proofs.Places.{place_le}
-use Rattle.decimal_digits.proofs.RoundingLaws.{rounded_number-again, rounded_number-zero, rounded_number-finer, rounded_number-monotone, trunc-coarser, expand-coarser, trunc_le, le_expand}
+use Rattle.decimal_digits.proofs.RoundingLaws.{rounded_number-idempotent, rounded_number-zero, rounded_number-finer, rounded_number-monotone, trunc-coarser, expand-coarser, trunc_le, le_expand}
 use Rattle.decimal_digits.proofs.Tails.{unit_pos}
 use Rattle.decimal_unsigned.specs.Unsigned.{Unsigned, IsValue}
 use Rattle.decimal_unsigned.specs.Rounded.{reaches_limit, with_number, rounded_to, rounded, IsRounded, RoundingRefuses}
-use Rattle.decimal_unsigned.specs.EditLaws.{after_rounding, truncated, expanded, number_of, TruncatedAgain, ExpandedAgain, RoundsInOrder}
+use Rattle.decimal_unsigned.specs.EditLaws.{after_rounding, trunced, expanded, number_if_any, TruncationsCompose, ExpansionsCompose, RoundingIsMonotone}
 use Rattle.decimal_unsigned.proofs.EditLaws.{below_limit}
 use Rattle.decimal_unsigned.proofs.FirstLast.{first_le}
 use Rattle.decimal_unsigned.proofs.Roundings.{within, beyond, rounded_to-small, rounded_to-large, trunc_makes}
@@ -46,7 +46,7 @@ is_rounded v p mode increment valid e = record {
 -- why the digits are left as they were is why the value is
 pub refuses : (held : ℕ) (e : RoundError) (v : Unsigned) (p : ℤ) (mode : UnsignedRoundingMode)
     (increment : RoundingIncrement) → IsValue v
-    → Refuses e increment (size v.number) (rounded_number mode (unit_at increment p) v.number) held
+    → DigitRoundingRefuses e increment (size v.number) (rounded_number mode (unit_at increment p) v.number) held
     → RoundingRefuses held e v p mode increment
 refuses held Limit v p mode increment valid r =
     is_rounded v p mode increment valid (rounded_to-large v p (rounded_number mode (unit_at increment p) v.number) r)
@@ -64,16 +64,16 @@ settled v p mode increment m h e =
     ∙ (λ i. Some (record { number = m; hi = hi i; lo = int_min p (pos 0) }))
 
 -- the same rounding again changes nothing
-pub rounded_again : (v w : Unsigned) (p : ℤ) (mode : UnsignedRoundingMode) (increment : RoundingIncrement)
+pub rounding_is_idempotent : (v w : Unsigned) (p : ℤ) (mode : UnsignedRoundingMode) (increment : RoundingIncrement)
     → rounded v p mode increment ≡ Some w
     → rounded w p mode increment ≡ Some w
-rounded_again v w p mode increment e =
+rounding_is_idempotent v w p mode increment e =
     let u = unit_at increment p in
     let m = rounded_number mode u v.number in
     elim (cases_lt m number_limit) [
       | inl h ↦
           subst (λ x. rounded x p mode increment ≡ Some x) (same_Some _ _ (sym (rounded_to-small v p m h) ∙ e))
-          (settled v p mode increment m h (rounded_number-again mode u v.number (unit_pos increment p)))
+          (settled v p mode increment m h (rounded_number-idempotent mode u v.number (unit_pos increment p)))
       | inr h ↦ absurd (none-some w (sym (rounded_to-large v p m h) ∙ e))
     ]
 
@@ -135,31 +135,31 @@ module _ (mode : UnsignedRoundingMode) (n : ℕ) (absorbs : Absorbs mode n) wher
 
 -- the number of what a rounding makes that names this multiple
 number_of-rounded_to : (v : Unsigned) (p : ℤ) (n : ℕ)
-    → number_of (rounded_to v p n) ≡ if reaches_limit n then None else Some n
+    → number_if_any (rounded_to v p n) ≡ if reaches_limit n then None else Some n
 number_of-rounded_to v p n = elim (cases_lt n number_limit) [
-  | inl h ↦ let t = within n number_limit h in ap number_of (rounded_to-small v p n h) ∙ (rw t refl)
-  | inr h ↦ let t = beyond n number_limit h in ap number_of (rounded_to-large v p n h) ∙ (rw t refl)
+  | inl h ↦ let t = within n number_limit h in ap number_if_any (rounded_to-small v p n h) ∙ (rw t refl)
+  | inr h ↦ let t = beyond n number_limit h in ap number_if_any (rounded_to-large v p n h) ∙ (rw t refl)
 ]
 
 -- expanding again
-pub expanded_again : (v : Unsigned) (p : ℤ) → negsuc 32767 ≤ℤ p → ExpandedAgain v p
+pub expansions_compose : (v : Unsigned) (p : ℤ) → negsuc 32767 ≤ℤ p → ExpansionsCompose v p
 unfolding once twice
-expanded_again v p low q low' =
+expansions_compose v p low q low' =
     let n = rounded_number Expand (unit_at MultiplesOf1 p) v.number in
     let far = rounded_number Expand (unit_at MultiplesOf1 (int_max p q)) v.number in
     let same : rounded_number Expand (unit_at MultiplesOf1 q) n ≡ far =
     twice_is Expand v.number (expand_absorbs v.number) p q low low' in
     elim (cases_lt n number_limit) [
       | inl h ↦
-          ap (λ o. number_of (option_and_then (λ w. expanded w q) o)) (rounded_to-small v p n h)
+          ap (λ o. number_if_any (option_and_then (λ w. expanded w q) o)) (rounded_to-small v p n h)
           ∙ number_of-rounded_to (with_number v p n) q (rounded_number Expand (unit_at MultiplesOf1 q) n)
           ∙ ap (λ k. if reaches_limit k then None else Some k) same
           ∙ sym (number_of-rounded_to v (int_max p q) far)
       | inr h ↦
           let over : number_limit ≤ far =
           omega (arith, h, same, le_expand (unit_at MultiplesOf1 q) n (unit_pos MultiplesOf1 q)) in
-          ap (λ o. number_of (option_and_then (λ w. expanded w q) o)) (rounded_to-large v p n h)
-          ∙ sym (ap number_of (rounded_to-large v (int_max p q) far over))
+          ap (λ o. number_if_any (option_and_then (λ w. expanded w q) o)) (rounded_to-large v p n h)
+          ∙ sym (ap number_if_any (rounded_to-large v (int_max p q) far over))
     ]
 
 -- ---- Truncating again.
@@ -174,19 +174,19 @@ module _ (v : Unsigned) (p : ℤ) (low : negsuc 32767 ≤ℤ p) (valid : IsValue
 
   -- a number that is not above the value's makes a value again
   truncates : (w : Unsigned) (q : ℤ) → w.number ≤ v.number
-      → truncated w q ≡ with_number w q (rounded_number Trunc (unit_at MultiplesOf1 q) w.number)
+      → trunced w q ≡ with_number w q (rounded_number Trunc (unit_at MultiplesOf1 q) w.number)
   truncates w q l = ap (λ o. unwrap_or o w) (trunc_makes w q MultiplesOf1 (omega (arith, l, below_limit v p valid)))
 
-  once_truncated : truncated v p ≡ with_number v p left
+  once_truncated : trunced v p ≡ with_number v p left
   unfolding left
   once_truncated = truncates v p (omega arith)
 
   twice_truncated : (q : ℤ)
-      → truncated (truncated v p) q
+      → trunced (trunced v p) q
       ≡ with_number (with_number v p left) q (rounded_number Trunc (unit_at MultiplesOf1 q) left)
-  twice_truncated q = ap (λ w. truncated w q) once_truncated ∙ truncates (with_number v p left) q left_le
+  twice_truncated q = ap (λ w. trunced w q) once_truncated ∙ truncates (with_number v p left) q left_le
 
-  truncated_above : (q : ℤ) → p ≤ℤ q → truncated (truncated v p) q ≡ truncated v q
+  truncated_above : (q : ℤ) → p ≤ℤ q → trunced (trunced v p) q ≡ trunced v q
   unfolding left once twice
   truncated_above q h =
       let m = rounded_number Trunc (unit_at MultiplesOf1 q) v.number in
@@ -203,7 +203,7 @@ module _ (v : Unsigned) (p : ℤ) (low : negsuc 32767 ≤ℤ p) (valid : IsValue
       ∙ sym (truncates v q (omega arith))
 
   truncated_number : (q : ℤ) → negsuc 32767 ≤ℤ q
-      → (truncated (truncated v p) q).number ≡ (truncated v (int_max p q)).number
+      → (trunced (trunced v p) q).number ≡ (trunced v (int_max p q)).number
   unfolding left once twice
   truncated_number q low' =
       ap (λ (w : Unsigned). w.number) (twice_truncated q)
@@ -211,8 +211,8 @@ module _ (v : Unsigned) (p : ℤ) (low : negsuc 32767 ≤ℤ p) (valid : IsValue
       ∙ sym (ap (λ (w : Unsigned). w.number) (truncates v (int_max p q) (omega arith)))
 
   -- truncating again
-  pub truncated_again : TruncatedAgain v p (truncated v p)
-  truncated_again = record { above = truncated_above; number = truncated_number }
+  pub truncations_compose : TruncationsCompose v p (trunced v p)
+  truncations_compose = record { above = truncated_above; number = truncated_number }
 
 -- ---- Order.
 
@@ -259,7 +259,7 @@ module _ (mode : UnsignedRoundingMode) (u : ℕ) (pos_u : 0 < u) where
               arith,
               h,
               k,
-              rounded_number-again mode u n pos_u,
+              rounded_number-idempotent mode u n pos_u,
               rounded_number-monotone mode u m (rounded_number mode u n) pos_u (omega arith),
             ))
         | inr g ↦ omega (arith, g, standing-small n h, standing-large m k)
@@ -272,9 +272,9 @@ module _ (mode : UnsignedRoundingMode) (u : ℕ) (pos_u : 0 < u) where
       up = rounded_number-monotone mode u n m pos_u l
 
 -- what stands after a rounding of the greater number is no less
-pub rounds_in_order : (v w : Unsigned) (p : ℤ) (mode : UnsignedRoundingMode) (increment : RoundingIncrement)
-    → RoundsInOrder v w p mode increment
-rounds_in_order v w p mode increment l =
+pub rounding_is_monotone : (v w : Unsigned) (p : ℤ) (mode : UnsignedRoundingMode) (increment : RoundingIncrement)
+    → RoundingIsMonotone v w p mode increment
+rounding_is_monotone v w p mode increment l =
     omega (
       arith,
       number-after_rounding v p mode increment,

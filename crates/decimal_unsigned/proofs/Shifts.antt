@@ -11,7 +11,7 @@ use Rattle.decimal_digits.specs.Number.{place}
 use Rattle.decimal_unsigned.specs.Unsigned.{Unsigned}
 use Rattle.decimal_digits.specs.Digits.{number_of, number_at}
 use Rattle.decimal_unsigned.specs.Fields.{IsStored}
-use Rattle.decimal_unsigned.specs.Edits.{leaves_limits, multiplied, shifted}
+use Rattle.decimal_unsigned.specs.Edits.{leaves_limits, multiplied, multiplied_pow10}
 use Rattle.decimal_digits.proofs.Places.{place_is}
 use Rattle.decimal_digits.proofs.Ends.{shift_up}
 use Rattle.decimal_unsigned.proofs.Values.{number_of-none, lowest}
@@ -122,19 +122,19 @@ stays_in v d h l =
     rw (a, b) refl
 
 -- they make the shifted value
-pub shifted_is : {ds : List ℕ} {m hi lo m' hi' lo' : ℤ} (d : ℤ) → IsStored ds m hi lo
+pub multiplied_pow10_is : {ds : List ℕ} {m hi lo m' hi' lo' : ℤ} (d : ℤ) → IsStored ds m hi lo
     → Moves ds m hi lo d m' hi' lo'
-    → shifted (record { number = number_of ds m; hi = hi; lo = lo }) d
+    → multiplied_pow10 (record { number = number_of ds m; hi = hi; lo = lo }) d
     ≡ Some (record { number = number_of ds m'; hi = hi'; lo = lo' })
-shifted_is {ds} {m} {hi} {lo} d t s =
+multiplied_pow10_is {ds} {m} {hi} {lo} d t s =
     let test = stays_in (record { number = number_of ds m; hi = hi; lo = lo }) d s.hi_fits s.lo_fits in
     rw test (ap Some (sym (multiplied_is d t s)))
 
 -- a range that would not fit makes none
-pub shifted_over : {ds : List ℕ} {m hi lo : ℤ} (n : ℕ) (d : ℤ) → IsStored ds m hi lo
+pub multiplied_pow10_over : {ds : List ℕ} {m hi lo : ℤ} (n : ℕ) (d : ℤ) → IsStored ds m hi lo
     → (pos 32767 <ℤ (hi +ℤ d)) ⊎ ((lo +ℤ d) <ℤ negsuc 32767)
-    → shifted (record { number = n; hi = hi; lo = lo }) d ≡ None
-shifted_over {ds} {m} {hi} {lo} n d t o = rw leaves refl
+    → multiplied_pow10 (record { number = n; hi = hi; lo = lo }) d ≡ None
+multiplied_pow10_over {ds} {m} {hi} {lo} n d t o = rw leaves refl
   where
     leaves : leaves_limits (record { number = n; hi = hi; lo = lo }) d ≡ true
     leaves = elim o [

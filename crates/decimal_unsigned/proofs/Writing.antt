@@ -6,7 +6,7 @@ use Rattle.std.proofs.Math.Seq.{take-add}
 use Rattle.std.proofs.lemmas.List.{length-take-le, length-drop, drop_more}
 use Rattle.std.specs.Io.KnownBytes.{Appends}
 use Rattle.decimal_digits.specs.Number.{digit}
-use Rattle.decimal_digits.specs.Text.{AppendsBeginning}
+use Rattle.decimal_digits.specs.Text.{AppendsPrefix}
 use Rattle.decimal_digits.proofs.Sinks.{appends_both, part_more, then_part}
 use Rattle.decimal_unsigned.specs.Text.{dot_before, text_down}
 
@@ -61,12 +61,12 @@ wrote_more a b c all piece i k h e p q =
 
 -- the sink refused a byte of the next piece
 pub wrote_part : (a b c : Option (List ℕ)) (all piece : List ℕ) (i k : ℕ) → i + k ≤ length all
-    → piece ≡ take k (drop i all) → Appends a b (take i all) → AppendsBeginning b c piece
-    → AppendsBeginning a c all
+    → piece ≡ take k (drop i all) → Appends a b (take i all) → AppendsPrefix b c piece
+    → AppendsPrefix a c all
 wrote_part a b c all piece i k h e p q =
-    subst (AppendsBeginning a c) (take-append-drop (i + length piece) all)
+    subst (AppendsPrefix a c) (take-append-drop (i + length piece) all)
     (part_more a c (take (i + length piece) all) (drop (i + length piece) all)
-    (subst (AppendsBeginning a c) (piece_taken all piece i k h e) (then_part a b c (take i all) piece p q)))
+    (subst (AppendsPrefix a c) (piece_taken all piece i k h e) (then_part a b c (take i all) piece p q)))
 
 -- all pieces were written
 pub wrote_all : (a b : Option (List ℕ)) (all : List ℕ) (i : ℕ) → length all ≤ i → Appends a b (take i all)

@@ -9,7 +9,7 @@ use Rattle.decimal_digits.specs.declared.rounding.UnsignedRoundingMode.TheVarian
 use Rattle.decimal_unsigned.specs.Unsigned.{Unsigned, IsValue}
 use Rattle.decimal_unsigned.specs.Edits.{trimmed_start, trimmed_end}
 use Rattle.decimal_unsigned.specs.Rounded.{rounded}
-use Rattle.decimal_unsigned.specs.Joining.{overlaps, joined}
+use Rattle.decimal_unsigned.specs.Concatenation.{overlaps, concatenated_end}
 use Rattle.decimal_unsigned.specs.Text.{text}
 
 -- ---- Trims.
@@ -19,8 +19,8 @@ abbrev pub trimmed : Unsigned → Unsigned
 trimmed v = trimmed_end (trimmed_start v)
 
 -- two values have one number exactly if they are equal after both trims
-abbrev pub TrimmedAlike : Unsigned → Unsigned → Type 0
-TrimmedAlike v w = (v.number ≡ w.number) ↔ (trimmed v ≡ trimmed w)
+abbrev pub TrimmedIsNormalForm : Unsigned → Unsigned → Type 0
+TrimmedIsNormalForm v w = (v.number ≡ w.number) ↔ (trimmed v ≡ trimmed w)
 
 -- no value of this number has a shorter text
 abbrev pub IsShortest : Unsigned → Type 0
@@ -33,15 +33,15 @@ abbrev pub after_rounding : Unsigned → ℤ → UnsignedRoundingMode → Roundi
 after_rounding v p mode increment = unwrap_or (rounded v p mode increment) v
 
 -- what stands after a rounding toward zero at a position
-abbrev pub truncated : Unsigned → ℤ → Unsigned
-truncated v p = after_rounding v p Trunc MultiplesOf1
+abbrev pub trunced : Unsigned → ℤ → Unsigned
+trunced v p = after_rounding v p Trunc MultiplesOf1
 
 -- the parts at and below a position can be joined, and have the number together; where the position lies in the range
 -- or at one of its ends, they make the value itself
 pub record PartsJoin (v : Unsigned) (p : ℤ) (upper lower : Unsigned) : Type 0 where
-  pub apart : overlaps upper lower ≡ false
-  pub number : (joined upper lower).number ≡ v.number
-  pub value : v.lo ≤ℤ p → p ≤ℤ (v.hi +ℤ pos 1) → joined upper lower ≡ v
+  pub disjoint : overlaps upper lower ≡ false
+  pub number : (concatenated_end upper lower).number ≡ v.number
+  pub value : v.lo ≤ℤ p → p ≤ℤ (v.hi +ℤ pos 1) → concatenated_end upper lower ≡ v
 
 -- ---- Roundings.
 
@@ -50,23 +50,23 @@ abbrev pub expanded : Unsigned → ℤ → Option Unsigned
 expanded v p = rounded v p Expand MultiplesOf1
 
 -- the number, where there is a value
-abbrev pub number_of : Option Unsigned → Option ℕ
-number_of = option_map (λ v. v.number)
+abbrev pub number_if_any : Option Unsigned → Option ℕ
+number_if_any = option_map (λ v. v.number)
 
 -- what truncating a value at p left, truncated at a position at or above p, is the value truncated there; and at any
 -- position it leaves the number of the value truncated at the higher of the two
-pub record TruncatedAgain (v : Unsigned) (p : ℤ) (new : Unsigned) : Type 0 where
-  pub above : (q : ℤ) → p ≤ℤ q → truncated new q ≡ truncated v q
-  pub number : (q : ℤ) → negsuc 32767 ≤ℤ q → (truncated new q).number ≡ (truncated v (int_max p q)).number
+pub record TruncationsCompose (v : Unsigned) (p : ℤ) (new : Unsigned) : Type 0 where
+  pub above : (q : ℤ) → p ≤ℤ q → trunced new q ≡ trunced v q
+  pub number : (q : ℤ) → negsuc 32767 ≤ℤ q → (trunced new q).number ≡ (trunced v (int_max p q)).number
 
 -- expanding a value at p and then at any position makes none exactly where expanding it at the higher of the two does,
 -- and else has its number
-abbrev pub ExpandedAgain : Unsigned → ℤ → Type 0
-ExpandedAgain v p =
+abbrev pub ExpansionsCompose : Unsigned → ℤ → Type 0
+ExpansionsCompose v p =
     (q : ℤ) → negsuc 32767 ≤ℤ q
-    → number_of (option_and_then (λ w. expanded w q) (expanded v p)) ≡ number_of (expanded v (int_max p q))
+    → number_if_any (option_and_then (λ w. expanded w q) (expanded v p)) ≡ number_if_any (expanded v (int_max p q))
 
 -- what stands after a rounding of the greater number is no less than what stands after one of the other
-abbrev pub RoundsInOrder : Unsigned → Unsigned → ℤ → UnsignedRoundingMode → RoundingIncrement → Type 0
-RoundsInOrder v w p mode increment =
+abbrev pub RoundingIsMonotone : Unsigned → Unsigned → ℤ → UnsignedRoundingMode → RoundingIncrement → Type 0
+RoundingIsMonotone v w p mode increment =
     v.number ≤ w.number → (after_rounding v p mode increment).number ≤ (after_rounding w p mode increment).number

@@ -22,8 +22,8 @@ multiplied v d = record {
 }
 
 -- a shift: none where the range would leave the limits
-abbrev pub shifted : Unsigned → ℤ → Option Unsigned
-shifted v d = if leaves_limits v d then None else Some (multiplied v d)
+abbrev pub multiplied_pow10 : Unsigned → ℤ → Option Unsigned
+multiplied_pow10 v d = if leaves_limits v d then None else Some (multiplied v d)
 
 -- no zero is shown in front of the first digit, or of magnitude 0
 abbrev pub trimmed_start : Unsigned → Unsigned
@@ -46,5 +46,5 @@ abbrev pub padded_end : Unsigned → ℤ → Unsigned
 padded_end v p = if int_lt (pos 0) p then v else record v { lo = int_min p (last v.number) }
 
 -- the part below a position: the remainder by 10 to its power
-abbrev pub cut : Unsigned → ℤ → Unsigned
-cut v p = record { number = v.number % weight p; hi = int_max (p -ℤ pos 1) (pos 0); lo = int_min v.lo p }
+abbrev pub with_max_position : Unsigned → ℤ → Unsigned
+with_max_position v p = record { number = v.number % weight p; hi = int_max (p -ℤ pos 1) (pos 0); lo = int_min v.lo p }

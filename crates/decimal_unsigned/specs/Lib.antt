@@ -4,8 +4,8 @@ pub mod Text
 pub mod Edits
 pub mod EditLaws
 pub mod Rounded
-pub mod Joining
-pub mod JoiningLaws
+pub mod Concatenation
+pub mod ConcatenationLaws
 pub mod Grammar
 pub mod Reading
 pub mod Refusal

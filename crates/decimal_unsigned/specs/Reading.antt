@@ -12,9 +12,9 @@ use Rattle.decimal_unsigned.specs.Grammar.{Written, Grammar}
 -- ---- The value of the parts.
 
 -- why a text has no value: it is not in the grammar, or it leaves the limits
-pub data Fault : Type 0 where
-  syntax : Fault
-  limit : Fault
+pub data ReadingFault : Type 0 where
+  syntax : ReadingFault
+  limit : ReadingFault
 
 -- the number written before an exponent, with all its digits shown
 abbrev pub mantissa : List ℕ → List ℕ → Unsigned
@@ -36,7 +36,7 @@ tidied v = record v {
 }
 
 -- the value times 10 to the exponent; at zero the exponent does not count
-unfoldable pub scaled : Unsigned → Option ℤ → Result Unsigned Fault
+unfoldable pub scaled : Unsigned → Option ℤ → Result Unsigned ReadingFault
 scaled v None = Ok v
 scaled v (Some e) =
     if v.number == 0 then Ok v
@@ -44,7 +44,7 @@ scaled v (Some e) =
     else Ok (tidied (multiplied v e))
 
 -- at most 32768 digits stand on each side of the dot
-unfoldable pub value_of : Written → Result Unsigned Fault
+unfoldable pub value_of : Written → Result Unsigned ReadingFault
 value_of w =
     if nat_lt 32768 (length w.whole) || nat_lt 32768 (length w.fraction) then Err limit
     else scaled (mantissa w.whole w.fraction) w.exponent
@@ -102,12 +102,12 @@ parts_of text = after_whole (leading_digits text) (after_digits text)
 -- ---- Reading.
 
 -- the value of the parts, and a fault where there are none
-unfoldable pub value_or_syntax : Option Written → Result Unsigned Fault
+unfoldable pub value_or_syntax : Option Written → Result Unsigned ReadingFault
 value_or_syntax None = Err syntax
 value_or_syntax (Some w) = value_of w
 
 -- the value of the parts where there are some
-unfoldable pub read : List ℕ → Result Unsigned Fault
+unfoldable pub read : List ℕ → Result Unsigned ReadingFault
 read text = value_or_syntax (parts_of text)
 
 -- reading follows the grammar: a text with parts has their value, and a text that has none is no number

@@ -4,19 +4,19 @@ use Rattle.decimal_unsigned.specs.declared.error.ParseError.{ParseError}
 use Rattle.decimal_unsigned.specs.declared.error.ParseError.TheVariants.{Limit, Syntax, Memory}
 use Rattle.decimal_unsigned.specs.Unsigned.{Unsigned}
 use Rattle.decimal_unsigned.specs.Grammar.{Written, Grammar}
-use Rattle.decimal_unsigned.specs.Reading.{Fault, syntax, limit, value_of}
+use Rattle.decimal_unsigned.specs.Reading.{ReadingFault, syntax, limit, value_of}
 
 -- the error is the fault that reading comes to, unless it is want of memory, which has this condition
-abbrev pub Refuses : {V : Type 0} → Type 0 → ParseError → Result V Fault → Type 0
-Refuses wanted Limit reading = reading ≡ Err limit
-Refuses wanted Syntax reading = reading ≡ Err syntax
-Refuses wanted Memory reading = wanted
+abbrev pub ParseRefuses : {V : Type 0} → Type 0 → ParseError → Result V ReadingFault → Type 0
+ParseRefuses wanted Limit reading = reading ≡ Err limit
+ParseRefuses wanted Syntax reading = reading ≡ Err syntax
+ParseRefuses wanted Memory reading = wanted
 
 -- the answer is what reading comes to, its value or its fault; or it is want of memory, where there is a value that
 -- wants it
-abbrev pub Answers : {V : Type 0} → (V → Type 0) → Result V ParseError → Result V Fault → Type 0
+abbrev pub Answers : {V : Type 0} → (V → Type 0) → Result V ParseError → Result V ReadingFault → Type 0
 Answers wants (Ok v) reading = reading ≡ Ok v
-Answers wants (Err e) reading = Refuses (IsOkAnd reading wants) e reading
+Answers wants (Err e) reading = ParseRefuses (IsOkAnd reading wants) e reading
 
 -- the answer by the grammar: Syntax for a text without parts and for no other, Limit where the parts are beyond the
 -- limits and nowhere else, and the value of the parts

@@ -2,7 +2,7 @@
 use Rattle.std.specs.Prelude.{◌≡◌, ℕ, Bool, nat_le, if◌then◌else◌, Option, Some, None, ℤ, pos, ◌-ℤ◌}
 use Rattle.std.specs.Int.{int_max, int_min}
 use Rattle.decimal_digits.specs.Number.{weight, first, size}
-use Rattle.decimal_digits.specs.Rounding.{unit_at, Named, rounded_number, WantsMemory}
+use Rattle.decimal_digits.specs.Rounding.{unit_at, Named, rounded_number, DigitRoundingNeedsMemory}
 use Rattle.decimal_digits.specs.declared.rounding.RoundError.{RoundError}
 use Rattle.decimal_digits.specs.declared.rounding.RoundError.TheVariants.{Limit, Memory}
 use Rattle.decimal_digits.specs.declared.rounding.RoundingIncrement.{RoundingIncrement}
@@ -46,12 +46,13 @@ pub record IsRounded
 
 -- the one want of memory of a rounding: by 25, of a number that has as many digits as are held without memory, or more,
 -- and that gets one digit more and stays below the limit
-abbrev pub RoundingWantsMemory : ℕ → Unsigned → ℤ → UnsignedRoundingMode → RoundingIncrement → Type 0
-RoundingWantsMemory held old position mode increment =
-    WantsMemory increment (size old.number) (rounded_number mode (unit_at increment position) old.number) held
+abbrev pub RoundingNeedsMemory : ℕ → Unsigned → ℤ → UnsignedRoundingMode → RoundingIncrement → Type 0
+RoundingNeedsMemory held old position mode increment =
+    DigitRoundingNeedsMemory increment (size old.number) (rounded_number mode (unit_at increment position) old.number)
+    held
 
 -- why a rounding leaves the value as it was: it makes none, or one digit more wants memory
 abbrev pub RoundingRefuses :
     ℕ → RoundError → Unsigned → ℤ → UnsignedRoundingMode → RoundingIncrement → Type 0
 RoundingRefuses held Limit old position mode increment = IsRounded old position mode increment None
-RoundingRefuses held Memory old position mode increment = RoundingWantsMemory held old position mode increment
+RoundingRefuses held Memory old position mode increment = RoundingNeedsMemory held old position mode increment

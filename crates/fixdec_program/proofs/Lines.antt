@@ -6,7 +6,7 @@ use Rattle.std.proofs.lemmas.Bool.{false≢true}
 use Rattle.std.proofs.lemmas.List.{length-drop, append-nil}
 use Rattle.std.proofs.Math.Seq.{take-add, take-length}
 use Rattle.std.specs.Io.KnownBytes.{Appends}
-use Rattle.decimal_digits.specs.Text.{AppendsBeginning}
+use Rattle.decimal_digits.specs.Text.{AppendsPrefix}
 use Rattle.decimal_digits.proofs.Sinks.{appends_both}
 use Rattle.fixdec_program.specs.Faults.{TakesLine}
 
@@ -14,11 +14,11 @@ use Rattle.fixdec_program.specs.Faults.{TakesLine}
 pub line_taken :
     {U E : Type 0} (r : Result U E) (old new : Option (List ℕ)) (failed : Bool) (line : List ℕ)
     → OnOk r (Appends old new line)
-    → OnErr r (AppendsBeginning old new line)
+    → OnErr r (AppendsPrefix old new line)
     → OnErr r (failed ≡ true)
     → TakesLine old new failed line
-line_taken (Ok x) old new failed line all begun fails = ((line, [], append-nil line, all), λ works. all)
-line_taken (Err e) old new failed line all begun fails = (begun, λ works. absurd (false≢true (sym works ∙ fails)))
+line_taken (Ok x) old new failed line all begun failed = ((line, [], append-nil line, all), λ works. all)
+line_taken (Err e) old new failed line all begun failed = (begun, λ works. absurd (false≢true (sym works ∙ fails)))
 
 -- all that is left is handed to the writer
 all_left : (t : ℕ) (bytes : List ℕ) → take (length bytes - t) (drop t bytes) ≡ drop t bytes

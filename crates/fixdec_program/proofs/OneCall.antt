@@ -14,10 +14,10 @@ use Rattle.fixed_decimal.specs.declared.runs.Call.{Call}
 use Rattle.fixed_decimal.specs.declared.runs.Call.TheVariants.{MultiplyPow10, TrimStart, TrimEnd, TrimEndIfInteger, PadStart, PadEnd, SetMaxPosition, Round, SetSign, ApplySignDisplay, Concatenate}
 use Rattle.fixdec_program.specs.Words.{number, mode_word, increment_word, sign_word, display_word, IsRounding, Names, IsSame}
 use Rattle.fixdec_program.specs.Parts.{name_of, HasArgument}
-use Rattle.fixdec_program.proofs.Cuts.{same_bytes, same_if, IsFree, free_at, mode_free, number_free}
+use Rattle.fixdec_program.proofs.Splits.{same_bytes, same_if, IsFree, free_at, mode_free, number_free}
 use Rattle.fixdec_program.proofs.Naming.{IsCut, name_free}
 
--- ---- A cut at the first colon is the only one.
+-- ---- A split at the first colon is the only one.
 
 first_free : (x : ℕ) (xs : List ℕ) → IsFree (x ∷ xs) → x ≢ 58
 first_free x xs h e = h 0 (omega arith) e
@@ -25,16 +25,16 @@ first_free x xs h e = h 0 (omega arith) e
 rest_free : (x : ℕ) (xs : List ℕ) → IsFree (x ∷ xs) → IsFree xs
 rest_free x xs h i l e = h (suc i) (omega arith) e
 
-same_cut :
+same_split :
     (xs ys front back : List ℕ) → IsFree xs → IsFree front → xs ++ (58 ∷ ys) ≡ front ++ (58 ∷ back)
     → (xs ≡ front) × (ys ≡ back)
-same_cut [] ys [] back f g e = (refl, cc)
-same_cut [] ys (y ∷ front) back f g e = absurd (first_free y front g (cc))
-same_cut (x ∷ xs) ys [] back f g e = absurd (first_free x xs f (cc))
-same_cut (x ∷ xs) ys (y ∷ front) back f g e =
+same_split [] ys [] back f g e = (refl, cc)
+same_split [] ys (y ∷ front) back f g e = absurd (first_free y front g (cc))
+same_split (x ∷ xs) ys [] back f g e = absurd (first_free x xs f (cc))
+same_split (x ∷ xs) ys (y ∷ front) back f g e =
     let head : x ≡ y = cc in
     let tail : xs ++ (58 ∷ ys) ≡ front ++ (58 ∷ back) = cc in
-    let (a, b) = same_cut xs ys front back (rest_free x xs f) (rest_free y front g) tail in
+    let (a, b) = same_split xs ys front back (rest_free x xs f) (rest_free y front g) tail in
     (cc, b)
 
 has_colon : (xs ys : List ℕ) → IsFree (xs ++ (58 ∷ ys)) → ⊥
@@ -100,9 +100,9 @@ one_rounding :
     (bytes : List ℕ) (p q : ℤ) (m n : SignedRoundingMode) (i j : RoundingIncrement) → IsRounding bytes p m i
     → IsRounding bytes q n j → Round p m i ≡ Round q n j
 one_rounding bytes p q m n i j (xs, a, reads) (ys, b, reads2) =
-    let (same, rest) = same_cut xs _ ys _ (number_free xs p reads) (number_free ys q reads2) (sym a ∙ b) in
+    let (same, rest) = same_split xs _ ys _ (number_free xs p reads) (number_free ys q reads2) (sym a ∙ b) in
     let (mode, increment) =
-    same_cut (mode_word m) (increment_word i) (mode_word n) (increment_word j) (mode_free m) (mode_free n) rest in
+    same_split (mode_word m) (increment_word i) (mode_word n) (increment_word j) (mode_free m) (mode_free n) rest in
     let modes : m ≡ n = one_mode m n (same_if _ _ mode) in
     let increments : i ≡ j = one_increment i j (same_if _ _ increment) in
     let positions : p ≡ q = one_number xs p q reads (ap number same ∙ reads2) in
@@ -176,17 +176,17 @@ one_bare c d h e = absurd (false≢true (sym h))
 mixed : (word : List ℕ) (c d : Call) → word ≡ bare_word c → same_bytes (bare_word c) [] ≡ false → IsCut word d → ⊥
 mixed word c d is h (rest, e, k) = has_colon (name_of d) rest (rw (sym is ∙ e) at (bare_free c h))
 
-full_alike : (word : List ℕ) (c d : Call) → IsCut word c → IsCut word d → IsSame c d
-full_alike word c d (xs, a, h) (ys, b, k) =
-    let (same, rest) = same_cut (name_of c) xs (name_of d) ys (name_free c) (name_free d) (sym a ∙ b) in
+full_unique : (word : List ℕ) (c d : Call) → IsCut word c → IsCut word d → IsSame c d
+full_unique word c d (xs, a, h) (ys, b, k) =
+    let (same, rest) = same_split (name_of c) xs (name_of d) ys (name_free c) (name_free d) (sym a ∙ b) in
     one_argument xs c d (same_if _ _ same) h (rw rest k)
 
-alike : (word : List ℕ) (c d : Call) → Form word c → Form word d → IsSame c d
-alike word c d (bare a h) (bare b k) = one_bare c d h (same_if _ _ (sym a ∙ b))
-alike word c d (bare a h) (full k) = absurd (mixed word c d a h k)
-alike word c d (full h) (bare b k) = absurd (mixed word d c b k h)
-alike word c d (full h) (full k) = full_alike word c d h k
+form_unique : (word : List ℕ) (c d : Call) → Form word c → Form word d → IsSame c d
+form_unique word c d (bare a h) (bare b k) = one_bare c d h (same_if _ _ (sym a ∙ b))
+form_unique word c d (bare a h) (full k) = absurd (mixed word c d a h k)
+form_unique word c d (full h) (bare b k) = absurd (mixed word d c b k h)
+form_unique word c d (full h) (full k) = full_unique word c d h k
 
 -- a word that names two calls names the same call twice
 pub at_most_one : (word : List ℕ) (first second : Call) → Names word first → Names word second → IsSame first second
-at_most_one word first second h k = alike word first second (form_of word first h) (form_of word second k)
+at_most_one word first second h k = form_unique word first second (form_of word first h) (form_of word second k)

@@ -6,10 +6,10 @@ use Rattle.std.specs.declared.alloc.Global.{Global}
 use Rattle.std.specs.Io.KnownBytes.{Keeps, Appends, append_known}
 use Rattle.std.proofs.Math.Seq.{take-suc, take-length}
 use Rattle.std.proofs.lemmas.List.{length-drop, append-nil}
-use Rattle.decimal_digits.specs.Text.{AppendsBeginning}
+use Rattle.decimal_digits.specs.Text.{AppendsPrefix}
 use Rattle.decimal_digits.proofs.Sinks.{appends_both, appends_kept}
 use Rattle.decimal_unsigned.specs.declared.decimal.TheConstants.{DIGITS_IN_PLACE}
-use Rattle.decimal_unsigned.specs.Reading.{Fault}
+use Rattle.decimal_unsigned.specs.Reading.{ReadingFault}
 use Rattle.decimal_unsigned.specs.declared.error.ParseError.TheVariants as parse
 use Rattle.fixed_decimal.specs.Decimal.{Decimal}
 use Rattle.fixed_decimal.specs.Outcome.{outcome}
@@ -21,7 +21,7 @@ use Rattle.fixdec_program.specs.declared.fault.Fault as own
 use Rattle.fixdec_program.specs.declared.fault.Fault.TheVariants.{Output}
 use Rattle.fixdec_program.specs.Words.{Names}
 use Rattle.fixdec_program.specs.Faults.{fault_of}
-use Rattle.fixdec_program.specs.Program.{NameAll, IsUnknown, Prints, IsUsage, Runs, MayWantMemory, Tells}
+use Rattle.fixdec_program.specs.Program.{NameAll, IsUnknown, Prints, IsUsage, HasRun, ProgramNeedsMemory, HasFault}
 
 -- ---- Words and calls, one by one.
 
@@ -82,7 +82,7 @@ usage_if (w ∷ ws) l h = rw (behind_is w ws) at h
 pub runs_if :
     (words : List (String Global)) (first : String Global) (calls : List Call) (P : List ℕ → List Call → Type 0)
     → 1 ≤ length words → first ≡ get_or words 0 first → NameAll (take (length words - 1) (drop 1 words)) calls
-    → P (string_bytes first) calls → Runs words P
+    → P (string_bytes first) calls → HasRun words P
 runs_if [] first calls P l is h p = absurd (omega arith)
 runs_if (w ∷ ws) first calls P l is h p = (calls, rw (behind_is w ws) at h, rw is at p)
 
@@ -93,7 +93,7 @@ some_call [] at call e = cc
 some_call (c ∷ calls) at call e = omega arith
 
 reaches_some :
-    (bytes : List ℕ) (calls : List Call) (at : ℕ) (P : Decimal → Call → Type 0) (r : Result Decimal Fault)
+    (bytes : List ℕ) (calls : List Call) (at : ℕ) (P : Decimal → Call → Type 0) (r : Result Decimal ReadingFault)
     → IsOkAnd r (λ first. Reaches first calls at P) → 0 < length calls
 reaches_some bytes calls at P (Ok first) (v, call, comes, p) = some_call calls at call comes.comes
 reaches_some bytes calls at P (Err e) h = absurd h
@@ -111,19 +111,19 @@ calls_some (w ∷ ws) (c ∷ cs) h some = omega arith
 pub told_error :
     (words : List (String Global)) (first : String Global) (calls : List Call) (e : RunError) → 1 ≤ length words
     → first ≡ get_or words 0 first → NameAll (take (length words - 1) (drop 1 words)) calls
-    → RunRefuses DIGITS_IN_PLACE e (string_bytes first) calls → Tells words (fault_of e)
+    → RunRefuses DIGITS_IN_PLACE e (string_bytes first) calls → HasFault words (fault_of e)
 told_error words first calls (error.Start parse.Syntax) l is h p = runs_if words first calls _ l is h p
 told_error words first calls (error.Start parse.Limit) l is h p = runs_if words first calls _ l is h p
 told_error words first calls (error.Start parse.Memory) l is h p =
-    runs_if words first calls MayWantMemory l is h (inr p)
+    runs_if words first calls ProgramNeedsMemory l is h (inr p)
 told_error words first calls (error.Operand at parse.Syntax) l is h p = runs_if words first calls _ l is h p
 told_error words first calls (error.Operand at parse.Limit) l is h p = runs_if words first calls _ l is h p
 told_error words first calls (error.Operand at parse.Memory) l is h p =
-    runs_if words first calls MayWantMemory l is h (inl (reaches_some (string_bytes first) calls at _ _ p))
+    runs_if words first calls ProgramNeedsMemory l is h (inl (reaches_some (string_bytes first) calls at _ _ p))
 told_error words first calls (error.Overlap at) l is h p = runs_if words first calls _ l is h p
 told_error words first calls (error.Limit at) l is h p = runs_if words first calls _ l is h p
 told_error words first calls (error.Memory at) l is h p =
-    runs_if words first calls MayWantMemory l is h (inl (reaches_some (string_bytes first) calls at _ _ p))
+    runs_if words first calls ProgramNeedsMemory l is h (inl (reaches_some (string_bytes first) calls at _ _ p))
 told_error words first calls error.Sink l is h p = runs_if words first calls _ l is h p
 
 -- the output fails only where the sink of a run does
@@ -168,7 +168,7 @@ ok_map P Q (Err e) f h = h
 
 -- where a text was taken and nothing more, a beginning of it and a line feed was taken
 pub text_begun :
-    (a b c : Option (List ℕ)) (text : List ℕ) → Appends a b text → Keeps b c → AppendsBeginning a c (text ++ (10 ∷ []))
+    (a b c : Option (List ℕ)) (text : List ℕ) → Appends a b text → Keeps b c → AppendsPrefix a c (text ++ (10 ∷ []))
 text_begun a b c text p q = (text, 10 ∷ [], refl, appends_kept a b c text p q)
 
 -- a text and then a line feed that were taken stay so while the writer keeps its bytes
@@ -180,7 +180,7 @@ line_kept a b c d text p q k = appends_kept a c d _ (appends_both a b c text (10
 -- the same, in the words for a beginning
 pub line_begun :
     (a b c d : Option (List ℕ)) (text : List ℕ) → Appends a b text → Appends b c (10 ∷ []) → Keeps c d
-    → AppendsBeginning a d (text ++ (10 ∷ []))
+    → AppendsPrefix a d (text ++ (10 ∷ []))
 line_begun a b c d text p q k = (text ++ (10 ∷ []), [], append-nil _, line_kept a b c d text p q k)
 
 -- what a writer keeps stays printed
@@ -197,7 +197,7 @@ prints_kept (w ∷ ws) a b c (calls, names, p) k = (
 -- what is printed is a text
 pub prints_text :
     (words : List (String Global)) (a b : Option (List ℕ)) → Prints words a b
-    → Runs words (λ bytes calls. IsOk (outcome bytes calls))
+    → HasRun words (λ bytes calls. IsOk (outcome bytes calls))
 prints_text [] a b p = absurd p
 prints_text (w ∷ ws) a b (calls, names, p) = (calls, names, ok_if _ _ p)
 

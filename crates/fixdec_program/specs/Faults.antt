@@ -5,7 +5,7 @@ use Rattle.std.specs.Io.KnownBytes.{Appends}
 use Rattle.std.specs.IoError.{error_kind}
 use Rattle.std.specs.declared.io.Error.{Error}
 use Rattle.std.specs.declared.io.ErrorKind.TheVariants.{OutOfMemory}
-use Rattle.decimal_digits.specs.Text.{AppendsBeginning}
+use Rattle.decimal_digits.specs.Text.{AppendsPrefix}
 use Rattle.decimal_unsigned.specs.declared.error.ParseError.TheVariants as parse
 use Rattle.fixed_decimal.specs.declared.runs.RunError.{RunError}
 use Rattle.fixed_decimal.specs.declared.runs.RunError.TheVariants as error
@@ -63,4 +63,4 @@ IsFaultOfArguments error fault =
 
 -- a beginning of the line was appended, and all of it by a sink that has not failed
 abbrev pub TakesLine : Option (List ℕ) → Option (List ℕ) → Bool → List ℕ → Type 0
-TakesLine old new failed line = AppendsBeginning old new line × (failed ≡ false → Appends old new line)
+TakesLine old new failed line = AppendsPrefix old new line × (failed ≡ false → Appends old new line)

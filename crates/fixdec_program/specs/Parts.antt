@@ -1,4 +1,4 @@
--- A word that is cut at its first colon. Only private contracts cite this file.
+-- A word that is split at its first colon. Only private contracts cite this file.
 use Rattle.std.specs.Prelude.{◌≡◌, ℕ, List, [], codes, Some}
 use Rattle.fixed_decimal.specs.declared.runs.Call.{Call}
 use Rattle.fixed_decimal.specs.declared.runs.Call.TheVariants.{MultiplyPow10, TrimStart, TrimEnd, TrimEndIfInteger}

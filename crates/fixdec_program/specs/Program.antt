@@ -6,12 +6,12 @@ use Rattle.std.specs.Io.KnownBytes.{Appends}
 use Rattle.std.specs.declared.alloc.Global.{Global}
 use Rattle.std.specs.declared.vec.IntoIter.{IntoIter}
 use Rattle.std.specs.declared.io.Error.{Error}
-use Rattle.decimal_digits.specs.Text.{AppendsBeginning}
+use Rattle.decimal_digits.specs.Text.{AppendsPrefix}
 use Rattle.decimal_unsigned.specs.Reading.{syntax, limit}
 use Rattle.decimal_unsigned.specs.declared.decimal.TheConstants.{DIGITS_IN_PLACE}
 use Rattle.fixed_decimal.specs.declared.runs.Call.{Call}
 use Rattle.fixed_decimal.specs.DecimalText.{read_decimal, IsLong}
-use Rattle.fixed_decimal.specs.Outcome.{Refusal, outcome, start, operand, overlap, overflow}
+use Rattle.fixed_decimal.specs.Outcome.{Refusal, outcome, start, operand, overlap, limit_exceeded}
 use Rattle.fixdec_program.specs.declared.fault.TextFault.TheVariants.{Syntax, Limit}
 use Rattle.fixdec_program.specs.declared.fault.Fault.{Fault}
 use Rattle.fixdec_program.specs.declared.fault.Fault.TheVariants.{Usage, Start, Operand, Overlap, Overflow, Memory, Output}
@@ -38,40 +38,40 @@ IsUsage [] = ⊤
 IsUsage (first ∷ words) = Any IsUnknown words
 
 -- the first word is a start and the others name calls, and of that start and these calls this holds
-abbrev pub Runs : List (String Global) → (List ℕ → List Call → Type 0) → Type 0
-Runs [] P = ⊥
-Runs (first ∷ words) P = (calls : List Call) × NameAll words calls × P (string_bytes first) calls
+abbrev pub HasRun : List (String Global) → (List ℕ → List Call → Type 0) → Type 0
+HasRun [] P = ⊥
+HasRun (first ∷ words) P = (calls : List Call) × NameAll words calls × P (string_bytes first) calls
 
 -- the run of the words comes to this
 abbrev pub ComesTo : List (String Global) → Result (List ℕ) Refusal → Type 0
-ComesTo words result = Runs words (λ bytes calls. outcome bytes calls ≡ result)
+ComesTo words result = HasRun words (λ bytes calls. outcome bytes calls ≡ result)
 
 -- the run has a text, and it and a line feed were appended, of a writer that tells its bytes
 abbrev pub Prints : List (String Global) → Option (List ℕ) → Option (List ℕ) → Type 0
 Prints words old new =
-    Runs words (λ bytes calls. IsOkAnd (outcome bytes calls) (λ text. Appends old new (text ++ (10 ∷ []))))
+    HasRun words (λ bytes calls. IsOkAnd (outcome bytes calls) (λ text. Appends old new (text ++ (10 ∷ []))))
 
 -- the run has a text, and a beginning of it and a line feed was appended
-abbrev pub PrintsBeginning : List (String Global) → Option (List ℕ) → Option (List ℕ) → Type 0
-PrintsBeginning words old new =
-    Runs words (λ bytes calls. IsOkAnd (outcome bytes calls) (λ text. AppendsBeginning old new (text ++ (10 ∷ []))))
+abbrev pub PrintsPrefix : List (String Global) → Option (List ℕ) → Option (List ℕ) → Type 0
+PrintsPrefix words old new =
+    HasRun words (λ bytes calls. IsOkAnd (outcome bytes calls) (λ text. AppendsPrefix old new (text ++ (10 ∷ []))))
 
 -- the list of the calls wants memory, or the start has more digits than are held without
-abbrev pub MayWantMemory : List ℕ → List Call → Type 0
-MayWantMemory bytes calls = (0 < length calls) ⊎ IsOkAnd (read_decimal bytes) (IsLong DIGITS_IN_PLACE)
+abbrev pub ProgramNeedsMemory : List ℕ → List Call → Type 0
+ProgramNeedsMemory bytes calls = (0 < length calls) ⊎ IsOkAnd (read_decimal bytes) (IsLong DIGITS_IN_PLACE)
 
 -- the fault is that of the words: of no start or of a word that is no call; the refusal that their run comes to; or
 -- want of memory, where the run may want it; or a fault of the output, and then the run has a text
-abbrev pub Tells : List (String Global) → Fault → Type 0
-Tells words Usage = IsUsage words
-Tells words (Start Syntax) = ComesTo words (Err (start syntax))
-Tells words (Start Limit) = ComesTo words (Err (start limit))
-Tells words (Operand at Syntax) = ComesTo words (Err (operand at syntax))
-Tells words (Operand at Limit) = ComesTo words (Err (operand at limit))
-Tells words (Overlap at) = ComesTo words (Err (overlap at))
-Tells words (Overflow at) = ComesTo words (Err (overflow at))
-Tells words Memory = Runs words MayWantMemory
-Tells words Output = Runs words (λ bytes calls. IsOk (outcome bytes calls))
+abbrev pub HasFault : List (String Global) → Fault → Type 0
+HasFault words Usage = IsUsage words
+HasFault words (Start Syntax) = ComesTo words (Err (start syntax))
+HasFault words (Start Limit) = ComesTo words (Err (start limit))
+HasFault words (Operand at Syntax) = ComesTo words (Err (operand at syntax))
+HasFault words (Operand at Limit) = ComesTo words (Err (operand at limit))
+HasFault words (Overlap at) = ComesTo words (Err (overlap at))
+HasFault words (Overflow at) = ComesTo words (Err (limit_exceeded at))
+HasFault words Memory = HasRun words ProgramNeedsMemory
+HasFault words Output = HasRun words (λ bytes calls. IsOk (outcome bytes calls))
 
 -- ---- The arguments that the system gives: the words, behind the name of the program.
 
@@ -88,10 +88,11 @@ abbrev pub ArgumentsPrint : {O : Type 0} → (O → Option (List ℕ)) → Argum
 ArgumentsPrint contents (Ok arguments) old (Some new) = Prints (words_of arguments) (contents old) (contents new)
 ArgumentsPrint contents _ old _ = ⊥
 
--- the fault is that of reading the arguments, and the writer is given back; or, where these could be had and no writer is
+-- the fault is that of reading the arguments, and the writer is given back; or, where these could be had and no
+-- writer is
 -- given back, want of memory for the list of words or for the buffer; or that of the words
 abbrev pub ArgumentsTell : {O : Type 0} → Arguments → Option O → Fault → Type 0
 ArgumentsTell (Err error) None fault = ⊥
 ArgumentsTell (Err error) (Some writer) fault = IsFaultOfArguments error fault
 ArgumentsTell (Ok arguments) None fault = fault ≡ Memory
-ArgumentsTell (Ok arguments) (Some writer) fault = Tells (words_of arguments) fault
+ArgumentsTell (Ok arguments) (Some writer) fault = HasFault (words_of arguments) fault

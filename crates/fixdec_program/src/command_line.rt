@@ -4,7 +4,7 @@ ghost use Rattle.std.specs.Io.Buffered.{writer_contents, writer_inner};
 ghost use Rattle.std.specs.Process.{exit_status};
 ghost use Rattle.fixdec_program.specs.declared.fault.Fault.{Fault};
 ghost use Rattle.fixdec_program.specs.Faults.{status_of, line, TakesLine};
-ghost use Rattle.fixdec_program.specs.Program.{NameAll, AreCalls, IsUnknown, Prints, PrintsBeginning, Tells};
+ghost use Rattle.fixdec_program.specs.Program.{NameAll, AreCalls, IsUnknown, Prints, PrintsPrefix, HasFault};
 ghost use Rattle.fixdec_program.specs.Program.{words_of, ArgumentsPrint, ArgumentsTell};
 
 use crate::LineSink;
@@ -46,12 +46,12 @@ fn calls<'a>(alloc: Global, words: &'a [String]) -> Result<Vec<Call<'a>>, AllocE
 /// Prints the text that the words come to, and a line feed. All words are checked before memory is asked for.
 fn print<O: Write>(alloc: Global, words: &[String], out: &mut Out<O>) -> Result<(), Fault>
     ensures printed { OnOk result (Prints words.now (O.contents out.old.0) (O.contents out.new.0)) }
-    ensures works { OnOk result (out.new.1 ≡ false) }
-    ensures fault { IfErr result (Tells words.now) }
+    ensures has_not_failed { OnOk result (out.new.1 ≡ false) }
+    ensures fault { IfErr result (HasFault words.now) }
     ensures untouched { IfErr result (λ fault. fault ≢ Fault.Output → out.new ≡ out.old) }
-    ensures broken { result ≡ Err Fault.Output → out.new.1 ≡ true }
-    ensures begun { result ≡ Err Fault.Output →
-        PrintsBeginning words.now (O.contents out.old.0) (O.contents out.new.0) }
+    ensures failed { result ≡ Err Fault.Output → out.new.1 ≡ true }
+    ensures prefix { result ≡ Err Fault.Output →
+        PrintsPrefix words.now (O.contents out.old.0) (O.contents out.new.0) }
 {
     let [start, words @ ..] = words else {
         return Err(Fault::Usage);
@@ -90,15 +90,15 @@ pub fn program<O: Write, E: Sink>(
     out: &mut Out<O>,
     err: &mut E,
 ) -> u8
-    ensures known { result ≤ 3 }
+    ensures at_most { result ≤ 3 }
     ensures printed { result ≡ 0 → Prints words.now (O.contents out.old.0) (O.contents out.new.0) }
-    ensures works { result ≡ 0 → out.new.1 ≡ false }
+    ensures has_not_failed { result ≡ 0 → out.new.1 ≡ false }
     ensures silent { result ≡ 0 → err.new ≡ err.old }
-    ensures told { 0 < result → (fault : Fault) × (result ≡ status_of fault) × Tells words.now fault
+    ensures reported { 0 < result → (fault : Fault) × (result ≡ status_of fault) × HasFault words.now fault
         × TakesLine (E.contents err.old) (E.contents err.new) (E.has_failed err.new) (line fault)
         × (fault ≢ Fault.Output → out.new ≡ out.old)
         × (fault ≡ Fault.Output → (out.new.1 ≡ true)
-        × PrintsBeginning words.now (O.contents out.old.0) (O.contents out.new.0)) }
+        × PrintsPrefix words.now (O.contents out.old.0) (O.contents out.new.0)) }
     ensures untouched { 0 < result → result < 3 → out.new ≡ out.old }
 {
     match print(alloc, words, out) {
@@ -115,10 +115,10 @@ fn program_in_blocks<O: Write + Drop, E: Sink>(
     buffer: BufWriter<O>,
     err: &mut E,
 ) -> (u8, O)
-    ensures known { result.0 ≤ 3 }
+    ensures at_most { result.0 ≤ 3 }
     ensures printed { result.0 ≡ 0 → Prints words.now (writer_contents O.contents buffer) (O.contents result.1) }
     ensures silent { result.0 ≡ 0 → err.new ≡ err.old }
-    ensures told { 0 < result.0 → (fault : Fault) × (result.0 ≡ status_of fault) × Tells words.now fault
+    ensures reported { 0 < result.0 → (fault : Fault) × (result.0 ≡ status_of fault) × HasFault words.now fault
         × TakesLine (E.contents err.old) (E.contents err.new) (E.has_failed err.new) (line fault)
         × (fault ≢ Fault.Output → result.1 ≡ writer_inner buffer) }
     ensures untouched { 0 < result.0 → result.0 < 3 → result.1 ≡ writer_inner buffer }
@@ -152,19 +152,19 @@ const BLOCK: usize = 8192;
 /// Does the program's work on the arguments that the system gives, the first of which is the program's name: `program`
 /// over the words behind it, with a buffer before `out`, which is given back with the status.
 ///
-/// Where the arguments could not be had, that is `memory`, if it was for want of memory, and else the usage line, as for
-/// a word that is not UTF-8. Where memory for the list of words or for the buffer was refused, that is `memory`, whatever
-/// the words are, and `out` is gone. Not in the original.
+/// Where the arguments could not be had, that is `memory`, if it was for want of memory, and else the usage line, as
+/// for a word that is not UTF-8. Where memory for the list of words or for the buffer was refused, that is `memory`,
+/// whatever the words are, and `out` is gone. Not in the original.
 pub fn run_arguments<O: Write + Drop, E: Sink>(
     alloc: Global,
     arguments: io::Result<Args>,
     out: O,
     err: &mut E,
 ) -> (u8, Option<O>)
-    ensures known { result.0 ≤ 3 }
+    ensures at_most { result.0 ≤ 3 }
     ensures printed { result.0 ≡ 0 → ArgumentsPrint O.contents arguments out result.1 }
     ensures silent { result.0 ≡ 0 → err.new ≡ err.old }
-    ensures told { 0 < result.0 → (fault : Fault) × (result.0 ≡ status_of fault)
+    ensures reported { 0 < result.0 → (fault : Fault) × (result.0 ≡ status_of fault)
         × ArgumentsTell arguments result.1 fault
         × TakesLine (E.contents err.old) (E.contents err.new) (E.has_failed err.new) (line fault)
         × (fault ≢ Fault.Output → IfSome result.1 (λ writer. writer ≡ out)) }
@@ -187,7 +187,7 @@ pub fn run_arguments<O: Write + Drop, E: Sink>(
 /// Does all that the program does: `run_arguments` on its arguments, standard output and standard error. Not in the
 /// original.
 pub fn execute(rt: HostRuntime) -> ExitCode
-    ensures known { exit_status result ≤ 3 }
+    ensures at_most { exit_status result ≤ 3 }
 {
     let mut err = LineSink::new(rt.stderr());
     let (status, _out) = run_arguments(rt.alloc(), env::args(&rt), rt.stdout(), &mut err);

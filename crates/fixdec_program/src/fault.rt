@@ -2,7 +2,7 @@
 ghost use Rattle.std.specs.Prelude.{◌≡◌, ◌≢◌, ◌∷◌, ◌++◌, ◌≤◌, [], codes, length, false, true, OnOk, OnErr};
 ghost use Rattle.std.specs.Fmt.{decimal};
 ghost use Rattle.std.specs.Io.KnownBytes.{Appends};
-ghost use Rattle.decimal_digits.specs.Text.{AppendsBeginning};
+ghost use Rattle.decimal_digits.specs.Text.{AppendsPrefix};
 ghost use Rattle.fixdec_program.specs.Faults.{status_of, fault_word, line, IsFaultOfArguments, TakesLine};
 
 use arrayvec::ArrayString;
@@ -121,7 +121,7 @@ impl Fault {
     /// Writes the line, and gives the status. A fault of the sink changes no status.
     pub fn report<E: Sink>(&self, err: &mut E) -> u8
         ensures status { result ≡ status_of self.now }
-        ensures told { TakesLine (E.contents err.old) (E.contents err.new) (E.has_failed err.new) (line self.now) }
+        ensures reported { TakesLine (E.contents err.old) (E.contents err.new) (E.has_failed err.new) (line self.now) }
     {
         let _ = err.put_bytes(self.line().as_str().as_bytes());
         self.status()

@@ -1,7 +1,7 @@
 //! A sink for lines.
 ghost use Rattle.std.specs.Prelude.{◌≡◌, OnOk, OnErr, Bool, true, false};
 ghost use Rattle.std.specs.Io.KnownBytes.{Appends};
-ghost use Rattle.decimal_digits.specs.Text.{AppendsBeginning};
+ghost use Rattle.decimal_digits.specs.Text.{AppendsPrefix};
 
 use fixed_decimal::{Sink, SinkFault};
 use std::io::Write;
@@ -78,7 +78,7 @@ impl<W: Write> Sink for LineSink<W> {
 /// Writes bytes. Err: the writer refused one, and has taken those in front.
 fn put<W: Write>(writer: &mut W, bytes: &[u8]) -> Result<(), SinkFault>
     ensures ok { OnOk result (Appends (W.contents writer.old) (W.contents writer.new) bytes.now) }
-    ensures err { OnErr result (AppendsBeginning (W.contents writer.old) (W.contents writer.new) bytes.now) }
+    ensures err { OnErr result (AppendsPrefix (W.contents writer.old) (W.contents writer.new) bytes.now) }
 {
     let mut taken = 0;
     while taken < bytes.len() {

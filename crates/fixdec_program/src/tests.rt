@@ -9,7 +9,7 @@ use std::test::Fail;
 
 mod arguments;
 mod blocks;
-mod full;
+mod failing_writers;
 mod many;
 mod prints;
 mod refuses;

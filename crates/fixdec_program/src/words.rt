@@ -133,7 +133,7 @@ fn call_with_argument<'a>(name: &str, argument: &'a str) -> Option<Call<'a>>
 pub fn call(word: &str) -> Option<Call<'_>>
     ensures some { IfSome result (Names word.now) }
     ensures none { IfNone result ((call : Call) → ¬ Names word.now call) }
-    ensures alone { (first second : Call) → Names word.now first → Names word.now second → IsSame first second }
+    ensures unique { (first second : Call) → Names word.now first → Names word.now second → IsSame first second }
 {
     match word {
         "trim-start" => Some(Call::TrimStart),

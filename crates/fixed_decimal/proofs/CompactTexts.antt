@@ -11,7 +11,7 @@ use Rattle.std.proofs.lemmas.List.{length_push}
 use Rattle.std.proofs.lemmas.List.Folds.{list_any-append}
 use Rattle.std.proofs.lemmas.Str.Parse.{digit_from_value}
 use Rattle.std.specs.Io.KnownBytes.{Keeps}
-use Rattle.decimal_digits.specs.Text.{AppendsBeginning}
+use Rattle.decimal_digits.specs.Text.{AppendsPrefix}
 use Rattle.decimal_unsigned.specs.Unsigned.{IsValue}
 use Rattle.decimal_unsigned.specs.Reading.{is_letter}
 use Rattle.decimal_unsigned.proofs.GrammarParts.{numeral_again}
@@ -20,7 +20,7 @@ use Rattle.fixed_decimal.specs.DecimalText.{decimal_text}
 use Rattle.fixed_decimal.specs.Compact.{Compact, exponent_text, compact_text, small_number_of, read_exponent, read_parts, read_compact, with_c}
 use Rattle.fixed_decimal.proofs.DecimalTexts.{read_decimal_text}
 use Rattle.fixed_decimal.proofs.DecimalBytes.{PassesNone, decimal_text-lacks, letter-none, c-none}
-use Rattle.fixed_decimal.proofs.CutsAtC.{cut_is}
+use Rattle.fixed_decimal.proofs.SplitsAtC.{split_is}
 
 below_64 : (n : ℕ) → n < 256 → n < 2 ^ 64
 below_64 n h = omega arith
@@ -93,12 +93,12 @@ exponent-plain zero h = refl
 exponent-plain (suc n) h =
     digits-lacks is_letter letter-none (decimal (suc n)) (decimal_is_IsNumeral (suc n) (below_64 (suc n) h)).0.1
 
--- it is cut between its parts, and each part reads as itself
+-- it is split between its parts, and each part reads as itself
 pub compact_reads_back : (v : Compact) → IsValue v.significand.absolute → v.exponent < 256
     → read_compact (compact_text v) ≡ Ok v
 compact_reads_back v h l =
     ap (λ r. and_then r read_parts)
-    (cut_is (compact_text v) (decimal_text v.significand) (exponent_part v.exponent) plain
+    (split_is (compact_text v) (decimal_text v.significand) (exponent_part v.exponent) plain
     (record {
       is = ap (λ t. decimal_text v.significand ++ t) (exponent_is v.exponent);
       first = decimal_text-lacks _ c-none v.significand;
@@ -115,7 +115,7 @@ compact_reads_back v h l =
         ) refl)
 
 -- nothing is a beginning
-pub keeps_part : (a b : Option (List ℕ)) (xs : List ℕ) → Keeps a b → AppendsBeginning a b xs
+pub keeps_part : (a b : Option (List ℕ)) (xs : List ℕ) → Keeps a b → AppendsPrefix a b xs
 keeps_part None b xs h = ([], xs, refl, tt)
 keeps_part (Some a) None xs h = absurd h
 keeps_part (Some a) (Some b) xs h = ([], xs, refl, h ∙ sym (append-nil a))

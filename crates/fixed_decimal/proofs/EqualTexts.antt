@@ -3,10 +3,10 @@ use Rattle.std.proofs.Common.{◌≡◌, ℕ, Bool, IsTrue, ◌↔◌, List, sym
 use Rattle.std.specs.Prelude.{Result, Ok}
 use Rattle.std.specs.Cmp.{both_ways}
 use Rattle.std.proofs.lemmas.Slice.Eq.{bytes_eq-Decides}
-use Rattle.decimal_unsigned.specs.Reading.{Fault}
+use Rattle.decimal_unsigned.specs.Reading.{ReadingFault}
 use Rattle.fixed_decimal.specs.Equal.{same_text}
 
-module _ {V : Type 0} (text : V → List ℕ) (read : List ℕ → Result V Fault) where
+module _ {V : Type 0} (text : V → List ℕ) (read : List ℕ → Result V ReadingFault) where
   -- of values whose texts read as these, equal texts are those of equal values
   pub text_same : (v w : V) → read (text v) ≡ Ok v → read (text w) ≡ Ok w → text v ≡ text w → v ≡ w
   text_same v w p q e = let r = sym p ∙ ap read e ∙ q in cc

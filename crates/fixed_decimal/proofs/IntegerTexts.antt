@@ -10,13 +10,13 @@ use Rattle.fixed_decimal.specs.Outcome.{and_then}
 use Rattle.fixed_decimal.specs.Decimal.{Decimal}
 use Rattle.fixed_decimal.specs.DecimalText.{decimal_text, Grammar, behind_sign, with_sign, read_decimal}
 use Rattle.fixed_decimal.specs.Integer.{integer_or_limit, read_integer, ReadsInteger}
-use Rattle.fixed_decimal.proofs.DecimalTexts.{decimal_syntax, grammar_cuts, read_decimal_text}
+use Rattle.fixed_decimal.proofs.DecimalTexts.{decimal_syntax, grammar_splits, read_decimal_text}
 
 decimal_found : (bytes : List ℕ) (s : Sign) (w : Written) → Grammar bytes s w
     → read_decimal bytes ≡ with_sign s (value_of w)
 unfolding read_decimal
 decimal_found bytes s w g =
-    let k = grammar_cuts bytes s w g in
+    let k = grammar_splits bytes s w g in
     rw (k.0, read_grammar (behind_sign bytes) w k.1) refl
 
 -- reading is reading the parts that the grammar finds

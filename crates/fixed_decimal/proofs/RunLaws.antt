@@ -16,14 +16,14 @@ use Rattle.decimal_digits.proofs.Tails.{unit_pos}
 use Rattle.decimal_unsigned.specs.Unsigned.{Unsigned as Absolute, IsValue}
 use Rattle.decimal_unsigned.specs.Rounded as unsigned
 use Rattle.decimal_unsigned.specs.Rounded.{reaches_limit, with_number}
-use Rattle.decimal_unsigned.specs.EditLaws.{number_of, truncated}
+use Rattle.decimal_unsigned.specs.EditLaws.{number_if_any, trunced}
 use Rattle.decimal_unsigned.proofs.EditLaws.{below_limit}
 use Rattle.decimal_unsigned.proofs.Roundings.{trunc_makes}
-use Rattle.decimal_unsigned.proofs.RoundingLaws.{truncated_again, expanded_again}
+use Rattle.decimal_unsigned.proofs.RoundingLaws.{truncations_compose, expansions_compose}
 use Rattle.fixed_decimal.specs.Decimal.{Decimal, with_absolute}
-use Rattle.fixed_decimal.specs.Outcome.{overflow, and_then, or_overflow, after_calls}
+use Rattle.fixed_decimal.specs.Outcome.{limit_exceeded, and_then, or_limit_exceeded, after_calls}
 use Rattle.fixed_decimal.proofs.SignedRoundings.{trunc_is_some}
-use Rattle.fixed_decimal.specs.RunLaws.{rounding_at, IsPosition, ComesTo, RoundsOnce, NeverOverflows}
+use Rattle.fixed_decimal.specs.RunLaws.{rounding_at, IsPosition, ComesToNumber, RoundsOnce, NeverExceedsLimit}
 
 -- ---- One rounding, by the number alone.
 module _ (mode : UnsignedRoundingMode) where
@@ -37,19 +37,19 @@ module _ (mode : UnsignedRoundingMode) where
       let m = rounded_number mode (unit_at MultiplesOf1 q) n in
       if reaches_limit m then None else Some m
 
-  by_number : (q : ℤ) (a : Absolute) → number_of (after q a) ≡ number_after q a.number
+  by_number : (q : ℤ) (a : Absolute) → number_if_any (after q a) ≡ number_after q a.number
   unfolding after number_after
   by_number q a =
       let m = rounded_number mode (unit_at MultiplesOf1 q) a.number in
       elim (reaches_limit m) as
-      (λ b. number_of (if b then None else Some (with_number a q m)) ≡ (if b then None else Some m)) [
+      (λ b. number_if_any (if b then None else Some (with_number a q m)) ≡ (if b then None else Some m)) [
         | true ↦ refl
         | false ↦ refl
       ]
 
   -- where there is a value of this number, it is made of that one
-  by_number_of : (q : ℤ) (n : ℕ) (made : Option Absolute) → Some n ≡ number_of made
-      → number_after q n ≡ number_of (option_and_then (after q) made)
+  by_number_of : (q : ℤ) (n : ℕ) (made : Option Absolute) → Some n ≡ number_if_any made
+      → number_after q n ≡ number_if_any (option_and_then (after q) made)
   by_number_of q n (Some a) e =
       let f : n ≡ a.number = cc in
       ap (number_after q) f ∙ sym (by_number q a)
@@ -66,28 +66,28 @@ module _ (mode : UnsignedRoundingMode) (v : Decimal) where
   Absorbs : Type 0
   Absorbs =
       (p q : ℤ) → IsPosition p → IsPosition q
-      → number_of (option_and_then (after mode q) (once p)) ≡ number_of (once (int_max p q))
+      → number_if_any (option_and_then (after mode q) (once p)) ≡ number_if_any (once (int_max p q))
 
   -- what calls by the mode make of w is what one rounding of v at this position makes
   MakesOnce : Decimal → List ℤ → ℤ → Type 0
   MakesOnce w positions p =
-      (at : ℕ) → ComesTo (after_calls at w (map (rounding_at mode) positions)) (with_absolute v (once p))
+      (at : ℕ) → ComesToNumber (after_calls at w (map (rounding_at mode) positions)) (with_absolute v (once p))
 
   -- a decimal of this number is what the roundings come to
-  here : (w : Decimal) (made : Option Absolute) → Some w.absolute.number ≡ number_of made → w.sign ≡ v.sign
-      → ComesTo (Ok w) (with_absolute v made)
+  here : (w : Decimal) (made : Option Absolute) → Some w.absolute.number ≡ number_if_any made → w.sign ≡ v.sign
+      → ComesToNumber (Ok w) (with_absolute v made)
   here w (Some a) e s = ((let f : w.absolute.number ≡ a.number = cc in f), s)
   here w None e s = absurd (cc)
 
-  nowhere : (at : ℕ) (made : Option Absolute) → None ≡ number_of made
-      → ComesTo (Err (overflow at)) (with_absolute v made)
+  nowhere : (at : ℕ) (made : Option Absolute) → None ≡ number_if_any made
+      → ComesToNumber (Err (limit_exceeded at)) (with_absolute v made)
   nowhere at (Some a) e = absurd (cc)
   nowhere at None e = tt
 
   module _ (absorbs : Absorbs) where
     -- where no rounding at p makes a value, none at a greater position does
-    still_none : (p : ℤ) (others : List ℤ) → None ≡ number_of (once p) → IsPosition p → All IsPosition others
-        → None ≡ number_of (once (fold int_max p others))
+    still_none : (p : ℤ) (others : List ℤ) → None ≡ number_if_any (once p) → IsPosition p → All IsPosition others
+        → None ≡ number_if_any (once (fold int_max p others))
     unfolding once Absorbs
     still_none p [] e l all = e
     still_none p (q ∷ qs) e l all =
@@ -95,27 +95,27 @@ module _ (mode : UnsignedRoundingMode) (v : Decimal) where
         let f = absorbs p q l (All-head IsPosition q qs all) in
         still_none (int_max p q) qs (none_after q (once p) e ∙ f) greater (All-tail IsPosition q qs all)
       where
-        none_after : (q : ℤ) (made : Option Absolute) → None ≡ number_of made
-            → None ≡ number_of (option_and_then (after mode q) made)
+        none_after : (q : ℤ) (made : Option Absolute) → None ≡ number_if_any made
+            → None ≡ number_if_any (option_and_then (after mode q) made)
         none_after q None e = refl
         none_after q (Some a) e = absurd (cc)
 
     others_make_once :
-        (w : Decimal) (p : ℤ) (others : List ℤ) → Some w.absolute.number ≡ number_of (once p) → w.sign ≡ v.sign
+        (w : Decimal) (p : ℤ) (others : List ℤ) → Some w.absolute.number ≡ number_if_any (once p) → w.sign ≡ v.sign
         → IsPosition p → All IsPosition others → MakesOnce w others (fold int_max p others)
     unfolding once after Absorbs MakesOnce
     others_make_once w p [] n s l all at = here w (once p) n s
     others_make_once w p (q ∷ qs) n s l all at =
         let greater : IsPosition (int_max p q) = omega (arith, ints, clamps) in
         let rest = All-tail IsPosition q qs all in
-        let made : number_of (after mode q w.absolute) ≡ number_of (once (int_max p q)) =
+        let made : number_if_any (after mode q w.absolute) ≡ number_if_any (once (int_max p q)) =
         by_number mode q w.absolute
         ∙ by_number_of mode q w.absolute.number (once p) n
         ∙ absorbs p q l (All-head IsPosition q qs all) in
         elim (after mode q w.absolute) as
-        (λ o. number_of o ≡ number_of (once (int_max p q))
-        → ComesTo
-        (and_then (or_overflow at (with_absolute w o))
+        (λ o. number_if_any o ≡ number_if_any (once (int_max p q))
+        → ComesToNumber
+        (and_then (or_limit_exceeded at (with_absolute w o))
         (λ u. after_calls (at + 1) u (map (rounding_at mode) qs)))
         (with_absolute v (once (fold int_max (int_max p q) qs)))) [
           | Some a ↦ λ e. others_make_once (record w { absolute = a }) (int_max p q) qs e s greater rest (at + 1)
@@ -130,12 +130,13 @@ module _ (mode : UnsignedRoundingMode) (v : Decimal) where
         let rest = All-tail IsPosition p others all in
         elim (once p) as
         (λ o. o ≡ once p
-        → ComesTo
-        (and_then (or_overflow at (with_absolute v o))
+        → ComesToNumber
+        (and_then (or_limit_exceeded at (with_absolute v o))
         (λ u. after_calls (at + 1) u (map (rounding_at mode) others)))
         (with_absolute v (once (fold int_max p others)))) [
-          | Some a ↦ λ e. others_make_once (record v { absolute = a }) p others (ap number_of e) refl low rest (at + 1)
-          | None ↦ λ e. nowhere at (once (fold int_max p others)) (still_none p others (ap number_of e) low rest)
+          | Some a ↦
+              λ e. others_make_once (record v { absolute = a }) p others (ap number_if_any e) refl low rest (at + 1)
+          | None ↦ λ e. nowhere at (once (fold int_max p others)) (still_none p others (ap number_if_any e) low rest)
         ] refl
 
 -- ---- The two modes.
@@ -152,22 +153,22 @@ module _ (v : Decimal) (valid : IsValue v.absolute) where
       let first = trunc_makes a p MultiplesOf1 (below_limit a p valid) in
       let second = trunc_makes t q MultiplesOf1 k in
       let third = trunc_makes a (int_max p q) MultiplesOf1 (below_limit a p valid) in
-      let again = (truncated_again a p l valid).number q l' in
-      let x : (truncated (truncated a p) q).number ≡ rounded_number Trunc (unit_at MultiplesOf1 q) m =
-      ap (λ o. (truncated (unwrap_or o a) q).number) first ∙ ap (λ o. (unwrap_or o t).number) second in
-      let y : (truncated a (int_max p q)).number ≡ rounded_number Trunc (unit_at MultiplesOf1 (int_max p q)) a.number =
+      let again = (truncations_compose a p l valid).number q l' in
+      let x : (trunced (trunced a p) q).number ≡ rounded_number Trunc (unit_at MultiplesOf1 q) m =
+      ap (λ o. (trunced (unwrap_or o a) q).number) first ∙ ap (λ o. (unwrap_or o t).number) second in
+      let y : (trunced a (int_max p q)).number ≡ rounded_number Trunc (unit_at MultiplesOf1 (int_max p q)) a.number =
       ap (λ o. (unwrap_or o a).number) third in
-      ap (λ o. number_of (option_and_then (after Trunc q) o)) first
-      ∙ ap number_of second
+      ap (λ o. number_if_any (option_and_then (after Trunc q) o)) first
+      ∙ ap number_if_any second
       ∙ ap Some (sym x ∙ again ∙ y)
-      ∙ sym (ap number_of third)
+      ∙ sym (ap number_if_any third)
 
 expand_absorbs : (v : Decimal) → Absorbs Expand v
 unfolding Absorbs once after
-expand_absorbs v p q l l' = expanded_again v.absolute p l q l'
+expand_absorbs v p q l l' = expansions_compose v.absolute p l q l'
 
 -- by Trunc and by Expand several roundings are one, and Trunc never passes the limit
-pub round_once : RoundsOnce Trunc × NeverOverflows Trunc × RoundsOnce Expand
+pub round_once : RoundsOnce Trunc × NeverExceedsLimit Trunc × RoundsOnce Expand
 unfolding once after MakesOnce
 round_once = (
   λ v p others valid all. make_once Trunc v (trunc_absorbs v valid) p others all,

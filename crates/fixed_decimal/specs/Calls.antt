@@ -7,8 +7,8 @@ use Rattle.fixed_decimal.specs.Decimal.{Decimal}
 use Rattle.fixed_decimal.specs.declared.runs.Call.{Call}
 use Rattle.fixed_decimal.specs.declared.runs.RunError.{RunError}
 use Rattle.fixed_decimal.specs.declared.runs.RunError.TheVariants.{Start, Operand, Overlap, Limit, Memory, Sink}
-use Rattle.fixed_decimal.specs.Outcome.{operand, overlap, overflow, step, after_calls}
-use Rattle.fixed_decimal.specs.Errors.{Reaches, HasLongOperand, MayWantMemory}
+use Rattle.fixed_decimal.specs.Outcome.{operand, overlap, limit_exceeded, step, after_calls}
+use Rattle.fixed_decimal.specs.Errors.{Reaches, HasLongOperand, CallNeedsMemory}
 
 -- the error is that of the call with this number, made of v
 abbrev pub CallRefuses : ℕ → RunError → ℕ → Decimal → Call → Type 0
@@ -16,8 +16,8 @@ CallRefuses held (Operand k parse.Limit) at v call = (k ≡ at) × (step at v ca
 CallRefuses held (Operand k parse.Syntax) at v call = (k ≡ at) × (step at v call ≡ Err (operand at syntax))
 CallRefuses held (Operand k parse.Memory) at v call = (k ≡ at) × HasLongOperand held call
 CallRefuses held (Overlap k) at v call = (k ≡ at) × (step at v call ≡ Err (overlap at))
-CallRefuses held (Limit k) at v call = (k ≡ at) × (step at v call ≡ Err (overflow at))
-CallRefuses held (Memory k) at v call = (k ≡ at) × MayWantMemory held v call
+CallRefuses held (Limit k) at v call = (k ≡ at) × (step at v call ≡ Err (limit_exceeded at))
+CallRefuses held (Memory k) at v call = (k ≡ at) × CallNeedsMemory held v call
 CallRefuses held (Start fault) at v call = ⊥
 CallRefuses held Sink at v call = ⊥
 
@@ -27,7 +27,7 @@ CallsRefuse held (Operand at parse.Limit) first calls = after_calls 0 first call
 CallsRefuse held (Operand at parse.Syntax) first calls = after_calls 0 first calls ≡ Err (operand at syntax)
 CallsRefuse held (Operand at parse.Memory) first calls = Reaches first calls at (λ v call. HasLongOperand held call)
 CallsRefuse held (Overlap at) first calls = after_calls 0 first calls ≡ Err (overlap at)
-CallsRefuse held (Limit at) first calls = after_calls 0 first calls ≡ Err (overflow at)
-CallsRefuse held (Memory at) first calls = Reaches first calls at (MayWantMemory held)
+CallsRefuse held (Limit at) first calls = after_calls 0 first calls ≡ Err (limit_exceeded at)
+CallsRefuse held (Memory at) first calls = Reaches first calls at (CallNeedsMemory held)
 CallsRefuse held (Start fault) first calls = ⊥
 CallsRefuse held Sink first calls = ⊥

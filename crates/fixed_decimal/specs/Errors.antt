@@ -1,17 +1,17 @@
 -- Which error a run may answer.
 use Rattle.std.specs.Prelude.{◌≡◌, ℕ, ◌<◌, List, take, slice_get, Some, Ok, Err, IsOk, IsOkAnd}
 use Rattle.decimal_digits.specs.Number.{size}
-use Rattle.decimal_unsigned.specs.Joining.{NeedsMemory}
+use Rattle.decimal_unsigned.specs.Concatenation.{ConcatenationNeedsMemory}
 use Rattle.decimal_unsigned.specs.Reading.{syntax, limit, read}
 use Rattle.decimal_unsigned.specs.declared.error.ParseError.TheVariants as parse
 use Rattle.fixed_decimal.specs.Decimal.{Decimal}
-use Rattle.fixed_decimal.specs.SignedRounding.{RoundingWantsMemory}
+use Rattle.fixed_decimal.specs.SignedRounding.{RoundingNeedsMemory}
 use Rattle.fixed_decimal.specs.DecimalText.{read_decimal, IsLong}
 use Rattle.fixed_decimal.specs.declared.runs.Call.{Call}
 use Rattle.fixed_decimal.specs.declared.runs.Call.TheVariants.{Round, Concatenate}
 use Rattle.fixed_decimal.specs.declared.runs.RunError.{RunError}
 use Rattle.fixed_decimal.specs.declared.runs.RunError.TheVariants.{Start, Operand, Overlap, Limit, Memory, Sink}
-use Rattle.fixed_decimal.specs.Outcome.{start, operand, overlap, overflow, after_calls, outcome}
+use Rattle.fixed_decimal.specs.Outcome.{start, operand, overlap, limit_exceeded, after_calls, outcome}
 
 -- the calls before the one with this number make v of the first value, and then comes this call
 pub record Comes (first : Decimal) (calls : List Call) (at : ℕ) (v : Decimal) (call : Call) : Type 0 where
@@ -28,10 +28,10 @@ HasLongOperand held (Concatenate text) = IsOkAnd (read text.now) (λ v. held < s
 HasLongOperand held _ = ⊥
 
 -- a call may need to allocate for what it makes of a decimal
-abbrev pub MayWantMemory : ℕ → Decimal → Call → Type 0
-MayWantMemory held v (Round position mode increment) = RoundingWantsMemory held v position mode increment
-MayWantMemory held v (Concatenate text) = IsOkAnd (read text.now) (NeedsMemory held v.absolute)
-MayWantMemory held v _ = ⊥
+abbrev pub CallNeedsMemory : ℕ → Decimal → Call → Type 0
+CallNeedsMemory held v (Round position mode increment) = RoundingNeedsMemory held v position mode increment
+CallNeedsMemory held v (Concatenate text) = IsOkAnd (read text.now) (ConcatenationNeedsMemory held v.absolute)
+CallNeedsMemory held v _ = ⊥
 
 -- the run reaches the call with this number, where the value and the call are so
 abbrev pub RunReaches : List ℕ → List Call → ℕ → (Decimal → Call → Type 0) → Type 0
@@ -47,6 +47,6 @@ RunRefuses held (Operand at parse.Limit) bytes calls = outcome bytes calls ≡ E
 RunRefuses held (Operand at parse.Syntax) bytes calls = outcome bytes calls ≡ Err (operand at syntax)
 RunRefuses held (Operand at parse.Memory) bytes calls = RunReaches bytes calls at (λ _ call. HasLongOperand held call)
 RunRefuses held (Overlap at) bytes calls = outcome bytes calls ≡ Err (overlap at)
-RunRefuses held (Limit at) bytes calls = outcome bytes calls ≡ Err (overflow at)
-RunRefuses held (Memory at) bytes calls = RunReaches bytes calls at (MayWantMemory held)
+RunRefuses held (Limit at) bytes calls = outcome bytes calls ≡ Err (limit_exceeded at)
+RunRefuses held (Memory at) bytes calls = RunReaches bytes calls at (CallNeedsMemory held)
 RunRefuses held Sink bytes calls = IsOk (outcome bytes calls)

@@ -1,11 +1,11 @@
 -- What a run of calls comes to, by the whole numbers alone: no memory and no sink occur here.
 use Rattle.std.specs.Prelude.{ℕ, ◌+◌, if◌then◌else◌, List, [], ◌∷◌, Option, Some, None, Result, Ok, Err}
 use Rattle.decimal_unsigned.specs.Unsigned.{Unsigned}
-use Rattle.decimal_unsigned.specs.Edits.{shifted, trimmed_start, trimmed_end, trimmed_end_if_integer}
-use Rattle.decimal_unsigned.specs.Edits.{padded_start, padded_end, cut}
-use Rattle.decimal_unsigned.specs.Joining.{overlaps, joined}
-use Rattle.decimal_unsigned.specs.Reading.{Fault, read}
-use Rattle.fixed_decimal.specs.Decimal.{Decimal, displayed, with_absolute}
+use Rattle.decimal_unsigned.specs.Edits.{multiplied_pow10, trimmed_start, trimmed_end, trimmed_end_if_integer}
+use Rattle.decimal_unsigned.specs.Edits.{padded_start, padded_end, with_max_position}
+use Rattle.decimal_unsigned.specs.Concatenation.{overlaps, concatenated_end}
+use Rattle.decimal_unsigned.specs.Reading.{ReadingFault, read}
+use Rattle.fixed_decimal.specs.Decimal.{Decimal, with_sign_display, with_absolute}
 use Rattle.fixed_decimal.specs.SignedRounding.{rounded}
 use Rattle.fixed_decimal.specs.DecimalText.{decimal_text, read_decimal}
 use Rattle.fixed_decimal.specs.declared.runs.Call.{Call}
@@ -16,10 +16,10 @@ use Rattle.fixed_decimal.specs.declared.runs.Call.TheVariants.{SetSign, ApplySig
 -- why a run has no text: the start is no value, the operand of the call with this number is none, what that call is to
 -- join overlaps, or what it is to make would pass the limits
 pub data Refusal : Type 0 where
-  start : Fault → Refusal
-  operand : ℕ → Fault → Refusal
+  start : ReadingFault → Refusal
+  operand : ℕ → ReadingFault → Refusal
   overlap : ℕ → Refusal
-  overflow : ℕ → Refusal
+  limit_exceeded : ℕ → Refusal
 
 -- goes on with what came out, or stays at the refusal
 abbrev pub and_then : {A B E : Type 0} → Result A E → (A → Result B E) → Result B E
@@ -33,28 +33,29 @@ abbrev pub changed : Decimal → Unsigned → Result Decimal Refusal
 changed v absolute = Ok (record v { absolute = absolute })
 
 -- what the call with this number made, where it made a decimal
-abbrev pub or_overflow : ℕ → Option Decimal → Result Decimal Refusal
-or_overflow at None = Err (overflow at)
-or_overflow at (Some v) = Ok v
+abbrev pub or_limit_exceeded : ℕ → Option Decimal → Result Decimal Refusal
+or_limit_exceeded at None = Err (limit_exceeded at)
+or_limit_exceeded at (Some v) = Ok v
 
 -- the decimal with what was read joined to its end, by the call with this number
-abbrev pub joined_with : ℕ → Decimal → Result Unsigned Fault → Result Decimal Refusal
-joined_with at v (Ok w) = if overlaps v.absolute w then Err (overlap at) else changed v (joined v.absolute w)
-joined_with at v (Err fault) = Err (operand at fault)
+abbrev pub concatenated_with : ℕ → Decimal → Result Unsigned ReadingFault → Result Decimal Refusal
+concatenated_with at v (Ok w) =
+    if overlaps v.absolute w then Err (overlap at) else changed v (concatenated_end v.absolute w)
+concatenated_with at v (Err fault) = Err (operand at fault)
 
 -- what the call with this number makes of a decimal
 abbrev pub step : ℕ → Decimal → Call → Result Decimal Refusal
-step at v (MultiplyPow10 delta) = or_overflow at (with_absolute v (shifted v.absolute delta))
+step at v (MultiplyPow10 delta) = or_limit_exceeded at (with_absolute v (multiplied_pow10 v.absolute delta))
 step at v TrimStart = changed v (trimmed_start v.absolute)
 step at v TrimEnd = changed v (trimmed_end v.absolute)
 step at v TrimEndIfInteger = changed v (trimmed_end_if_integer v.absolute)
 step at v (PadStart position) = changed v (padded_start v.absolute position)
 step at v (PadEnd position) = changed v (padded_end v.absolute position)
-step at v (SetMaxPosition position) = changed v (cut v.absolute position)
-step at v (Round position mode increment) = or_overflow at (rounded v position mode increment)
+step at v (SetMaxPosition position) = changed v (with_max_position v.absolute position)
+step at v (Round position mode increment) = or_limit_exceeded at (rounded v position mode increment)
 step at v (SetSign sign) = Ok (record v { sign = sign })
-step at v (ApplySignDisplay display) = Ok (displayed v display)
-step at v (Concatenate text) = joined_with at v (read text.now)
+step at v (ApplySignDisplay display) = Ok (with_sign_display v display)
+step at v (Concatenate text) = concatenated_with at v (read text.now)
 
 -- ---- The run.
 
@@ -64,7 +65,7 @@ after_calls at v [] = Ok v
 after_calls at v (call ∷ calls) = and_then (step at v call) (λ w. after_calls (at + 1) w calls)
 
 -- the decimal of the start
-abbrev pub started : Result Decimal Fault → Result Decimal Refusal
+abbrev pub started : Result Decimal ReadingFault → Result Decimal Refusal
 started (Ok v) = Ok v
 started (Err fault) = Err (start fault)
 

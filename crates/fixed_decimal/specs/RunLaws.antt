@@ -13,7 +13,7 @@ use Rattle.fixed_decimal.specs.declared.runs.Call.{Call}
 use Rattle.fixed_decimal.specs.declared.runs.Call.TheVariants.{Round}
 use Rattle.fixed_decimal.specs.declared.runs.RunError.{RunError}
 use Rattle.fixed_decimal.specs.declared.runs.RunError.TheVariants.{Start, Operand, Memory, Sink}
-use Rattle.fixed_decimal.specs.Outcome.{Refusal, overflow, after_calls, outcome}
+use Rattle.fixed_decimal.specs.Outcome.{Refusal, limit_exceeded, after_calls, outcome}
 use Rattle.fixed_decimal.specs.Errors.{RunRefuses}
 
 -- ---- Runs over two stores.
@@ -35,8 +35,8 @@ IsDecided answer = ⊤
 
 -- whatever a run of this start and these calls over any store answers, and whatever text it appends, this run answers
 -- the same and appends the same, unless want of memory or a fault of a sink is one of the two answers
-abbrev pub AnswersAlike : List ℕ → List Call → Result ⊤ RunError → (List ℕ → Type 0) → Type 0
-AnswersAlike start calls answer Appended =
+abbrev pub IsIndependentOfStore : List ℕ → List Call → Result ⊤ RunError → (List ℕ → Type 0) → Type 0
+IsIndependentOfStore start calls answer Appended =
     (held : ℕ) (other : Result ⊤ RunError) (text : List ℕ) → MayAnswer held start calls other text
     → IsDecided other → IsDecided answer → (other ≡ answer) × Appended text
 
@@ -54,21 +54,21 @@ IsPosition position = negsuc 32767 ≤ℤ position
 abbrev pub HasNumberOf : Decimal → Decimal → Type 0
 HasNumberOf v w = (v.absolute.number ≡ w.absolute.number) × (v.sign ≡ w.sign)
 
--- what calls come to has the number of this decimal; or it is an overflow exactly where there is none
-abbrev pub ComesTo : Result Decimal Refusal → Option Decimal → Type 0
-ComesTo (Ok w) (Some v) = HasNumberOf w v
-ComesTo (Err (overflow at)) None = ⊤
-ComesTo reached made = ⊥
+-- what calls come to has the number of this decimal; or the limit is exceeded exactly where there is none
+abbrev pub ComesToNumber : Result Decimal Refusal → Option Decimal → Type 0
+ComesToNumber (Ok w) (Some v) = HasNumberOf w v
+ComesToNumber (Err (limit_exceeded at)) None = ⊤
+ComesToNumber reached made = ⊥
 
 -- roundings by the mode at a position and then at others come to what one rounding makes at the greatest of these
 -- positions
 abbrev pub RoundsOnce : UnsignedRoundingMode → Type 0
 RoundsOnce mode =
     (v : Decimal) (position : ℤ) (others : List ℤ) → IsValue v.absolute → All IsPosition (position ∷ others)
-    → (at : ℕ) → ComesTo (after_calls at v (map (rounding_at mode) (position ∷ others)))
+    → (at : ℕ) → ComesToNumber (after_calls at v (map (rounding_at mode) (position ∷ others)))
     (rounded v (fold int_max position others) (Unsigned mode) MultiplesOf1)
 
 -- the mode makes a decimal of each, at each position
-abbrev pub NeverOverflows : UnsignedRoundingMode → Type 0
-NeverOverflows mode =
+abbrev pub NeverExceedsLimit : UnsignedRoundingMode → Type 0
+NeverExceedsLimit mode =
     (v : Decimal) (position : ℤ) → IsValue v.absolute → IsSome (rounded v position (Unsigned mode) MultiplesOf1)

@@ -2,7 +2,7 @@
 use Rattle.std.specs.Prelude.{◌≡◌, ℕ, ◌==◌, ◌⊎◌, ◌||◌, not, count_by, if◌then◌else◌, false, List, ◌∷◌, ◌++◌}
 use Rattle.std.specs.Prelude.{Result, Ok, Err}
 use Rattle.std.specs.List.{list_any, before_first, after_first}
-use Rattle.decimal_unsigned.specs.Reading.{Fault, syntax, is_letter}
+use Rattle.decimal_unsigned.specs.Reading.{ReadingFault, syntax, is_letter}
 use Rattle.fixed_decimal.specs.Outcome.{and_then}
 use Rattle.fixed_decimal.specs.Letters.{is_small_e, is_capital_e}
 use Rattle.fixed_decimal.specs.Decimal.{Decimal}
@@ -23,32 +23,32 @@ abbrev pub scientific_text : Scientific → List ℕ
 scientific_text v = decimal_text v.significand ++ 101 ∷ decimal_text v.exponent
 
 -- the texts in front of the e and behind it, where there is exactly one and no E
-unfoldable pub cut_at_e : List ℕ → Result (List ℕ × List ℕ) Fault
-cut_at_e bytes =
+unfoldable pub split_at_e : List ℕ → Result (List ℕ × List ℕ) ReadingFault
+split_at_e bytes =
     if list_any is_capital_e bytes || not (count_by is_small_e bytes == 1) then Err syntax
     else Ok (before_first is_small_e bytes, after_first is_small_e bytes)
 
 -- first the fault of the significand, and then that of the exponent
-abbrev pub read_parts : List ℕ × List ℕ → Result Scientific Fault
+abbrev pub read_parts : List ℕ × List ℕ → Result Scientific ReadingFault
 read_parts parts =
     and_then (read_decimal parts.0) (λ significand.
     and_then (read_integer parts.1) (λ exponent. Ok (scientific significand exponent)))
 
--- first that there is no cut, and then the faults of the parts
-abbrev pub read_scientific : List ℕ → Result Scientific Fault
-read_scientific bytes = and_then (cut_at_e bytes) read_parts
+-- first that there is no split, and then the faults of the parts
+abbrev pub read_scientific : List ℕ → Result Scientific ReadingFault
+read_scientific bytes = and_then (split_at_e bytes) read_parts
 
 -- the text is these two parts with an e between them, and has no other e and no E
-pub record IsCutAtE (bytes significand exponent : List ℕ) : Type 0 where
+pub record IsSplitAtE (bytes significand exponent : List ℕ) : Type 0 where
   pub is : bytes ≡ significand ++ 101 ∷ exponent
   pub plain_significand : list_any is_letter significand ≡ false
   pub plain_exponent : list_any is_letter exponent ≡ false
 
--- a text that can be cut so reads as its parts; in another one the fault is syntax
-pub record ReadsScientific (bytes : List ℕ) (reading : Result Scientific Fault) : Type 0 where
-  pub cut : (significand exponent : List ℕ) → IsCutAtE bytes significand exponent →
+-- a text that can be split so reads as its parts; in another one the fault is syntax
+pub record ReadsScientific (bytes : List ℕ) (reading : Result Scientific ReadingFault) : Type 0 where
+  pub split : (significand exponent : List ℕ) → IsSplitAtE bytes significand exponent →
       reading ≡ read_parts (significand, exponent)
-  pub uncut : ((significand exponent : List ℕ) → ¬ IsCutAtE bytes significand exponent) → reading ≡ Err syntax
+  pub unsplit : ((significand exponent : List ℕ) → ¬ IsSplitAtE bytes significand exponent) → reading ≡ Err syntax
 
 -- a part has more digits than are held without memory
 abbrev pub HasLongPart : ℕ → Scientific → Type 0

@@ -4,15 +4,15 @@ ghost use Rattle.std.specs.Fmt.{decimal, WritesStyledOnOk};
 ghost use Rattle.std.specs.Option.{option_copied};
 ghost use Rattle.std.specs.Io.KnownBytes.{Keeps, Appends};
 ghost use Rattle.decimal_digits.specs.Number.{size};
-ghost use Rattle.decimal_digits.specs.Text.{AppendsBeginning};
-ghost use Rattle.decimal_unsigned.specs.Refusal.{Refuses, Answers};
+ghost use Rattle.decimal_digits.specs.Text.{AppendsPrefix};
+ghost use Rattle.decimal_unsigned.specs.Refusal.{ParseRefuses, Answers};
 ghost use Rattle.fixed_decimal.specs.Equal.{same_text, same_text_laws};
-ghost use Rattle.fixed_decimal.specs.Compact.{compact, compact_text, small_number_of, cut_at_c, read_exponent};
+ghost use Rattle.fixed_decimal.specs.Compact.{compact, compact_text, small_number_of, split_at_c, read_exponent};
 ghost use Rattle.fixed_decimal.specs.Compact.{read_compact, ReadsCompact, HasLongSignificand};
 
-use crate::cut::cut_at;
 use crate::integer::recall_value;
 use crate::signed_decimal::{Decimal, scan_decimal};
+use crate::split::split_at_letter;
 use decimal_digits::sink::{Sink, SinkFault, Writeable};
 use decimal_unsigned::ParseError;
 use decimal_unsigned::decimal::{DIGITS_IN_PLACE, numeral};
@@ -64,10 +64,10 @@ fn read_exponent(text: Option<&[u8]>) -> Result<u8, ParseError>
 }
 
 /// The texts of the significand and of the exponent, where there is no `e` and no `E`.
-#[tactic(auto, using(crate::proofs::CutsAtC::cuts))]
-fn cut_at_c(text: &[u8]) -> Result<(&[u8], Option<&[u8]>), ParseError>
-    ensures { MatchResult result (λ parts. cut_at_c text.now ≡ Ok (parts.0.now, option_copied parts.1))
-        (λ e. Refuses ⊥ e (cut_at_c text.now)) }
+#[tactic(auto, using(crate::proofs::SplitsAtC::splits))]
+fn split_at_c(text: &[u8]) -> Result<(&[u8], Option<&[u8]>), ParseError>
+    ensures { MatchResult result (λ parts. split_at_c text.now ≡ Ok (parts.0.now, option_copied parts.1))
+        (λ e. ParseRefuses ⊥ e (split_at_c text.now)) }
 {
     if text.contains(&b'e') {
         return Err(ParseError::Syntax);
@@ -75,7 +75,7 @@ fn cut_at_c(text: &[u8]) -> Result<(&[u8], Option<&[u8]>), ParseError>
     if text.contains(&b'E') {
         return Err(ParseError::Syntax);
     }
-    match cut_at(text, b'c') {
+    match split_at_letter(text, b'c') {
         None => Ok((text, None)),
         Some((significand, exponent)) => Ok((significand, Some(exponent))),
     }
@@ -84,7 +84,7 @@ fn cut_at_c(text: &[u8]) -> Result<(&[u8], Option<&[u8]>), ParseError>
 /// Appends the digits of a number.
 fn write_number<W: Sink>(number: u8, sink: &mut W) -> Result<(), SinkFault>
     ensures ok { OnOk result (Appends (W.contents sink.old) (W.contents sink.new) (decimal number)) }
-    ensures err { OnErr result (AppendsBeginning (W.contents sink.old) (W.contents sink.new) (decimal number)) }
+    ensures err { OnErr result (AppendsPrefix (W.contents sink.old) (W.contents sink.new) (decimal number)) }
     ensures failed { OnErr result (W.has_failed sink.new ≡ true) }
 {
     if number < 10 {
@@ -108,7 +108,7 @@ fn format_number<W: fmt::Write>(number: u8, f: &mut fmt::Formatter<W>) -> fmt::R
 /// Counts the digits of a number.
 fn number_length(number: u8) -> usize
     ensures exact { result ≡ length (decimal number) }
-    ensures few { result ≤ 3 }
+    ensures at_most { result ≤ 3 }
 {
     match number {
         0..=9 => 1,
@@ -174,13 +174,13 @@ impl CompactDecimal {
     /// what stands behind it is empty, begins with `0`, or is not all digits, as in `1c01` and `1c1c1`; else `Limit`
     /// where it is above 255; else `Memory` where memory for more than `DIGITS_IN_PLACE` digits of the significand was
     /// refused. Every other fault is decided before memory is asked for. The original's `try_from_str` and `FromStr`.
-    #[tactic(auto, using(crate::proofs::CutsAtC::compact_reads))]
+    #[tactic(auto, using(crate::proofs::SplitsAtC::compact_reads))]
     pub fn try_from_str(alloc: Global, text: &str) -> Result<Self, ParseError>
         ensures answers { Answers (HasLongSignificand DIGITS_IN_PLACE) result (read_compact text.now) }
         // What reading comes to, by the parts of the text.
         ensures reads { ReadsCompact text.now (read_compact text.now) }
     {
-        let (significand, exponent) = cut_at_c(text.as_bytes())?;
+        let (significand, exponent) = split_at_c(text.as_bytes())?;
         let significand = scan_decimal(significand)?;
         let exponent = read_exponent(exponent)?;
         let significand = significand.decimal(alloc)?;
@@ -213,8 +213,8 @@ impl Writeable for CompactDecimal {
     fn write_to<W: Sink>(&self, sink: &mut W) -> Result<(), SinkFault>
         ensures ok { OnOk result (Appends (W.contents sink.old) (W.contents sink.new) (compact_text self.now)) }
         ensures err { OnErr result
-            (AppendsBeginning (W.contents sink.old) (W.contents sink.new) (compact_text self.now)) }
-        ensures worked { OnOk result (W.has_failed sink.old ≡ false) }
+            (AppendsPrefix (W.contents sink.old) (W.contents sink.new) (compact_text self.now)) }
+        ensures had_not_failed { OnOk result (W.has_failed sink.old ≡ false) }
         ensures failed { OnErr result (W.has_failed sink.new ≡ true) }
         ensures stays { W.has_failed sink.old ≡ true → Keeps (W.contents sink.old) (W.contents sink.new) }
         ensures reads_back { read_compact (compact_text self.now) ≡ Ok self.now }
@@ -233,7 +233,7 @@ impl Writeable for CompactDecimal {
     /// original.
     fn writeable_length_hint(&self) -> usize
         ensures exact { result ≡ length (compact_text self.now) }
-        ensures few { result ≤ 65542 }
+        ensures at_most { result ≤ 65542 }
     {
         let significand = self.significand.writeable_length_hint();
         if self.exponent == 0 {

@@ -2,9 +2,9 @@
 ghost use Rattle.std.specs.Prelude.{◌≡◌, ◌<◌, ◌≤◌, ◌↔◌, length, pos, ◌≤ℤ◌, true, false, IsTrue, Ok, OnOk, OnErr, IfOk, IfErr, IsOk};
 ghost use Rattle.std.specs.Io.KnownBytes.{Keeps, Appends};
 ghost use Rattle.decimal_digits.specs.Number.{size};
-ghost use Rattle.decimal_digits.specs.Text.{AppendsBeginning};
+ghost use Rattle.decimal_digits.specs.Text.{AppendsPrefix};
 ghost use Rattle.decimal_unsigned.specs.Unsigned.{IsValue};
-ghost use Rattle.decimal_unsigned.specs.Refusal.{Refuses, Answers};
+ghost use Rattle.decimal_unsigned.specs.Refusal.{ParseRefuses, Answers};
 ghost use Rattle.fixed_decimal.specs.Equal.{same_text, same_text_laws};
 ghost use Rattle.fixed_decimal.specs.Decimal.{zero_decimal};
 ghost use Rattle.fixed_decimal.specs.DecimalText.{decimal_text, IsLong};
@@ -43,7 +43,7 @@ impl Model for FixedInteger {
 pub(crate) fn scan_integer(text: &[u8]) -> Result<Signed<Scan<'_>>, ParseError>
     ensures value { IfOk result (λ scan. read_integer text.now ≡ Ok scan) }
     ensures integer { IfOk result (λ scan. pos 0 ≤ℤ scan.absolute.lo) }
-    ensures fault { IfErr result (λ e. Refuses ⊥ e (read_integer text.now)) }
+    ensures fault { IfErr result (λ e. ParseRefuses ⊥ e (read_integer text.now)) }
 {
     let scan = scan_decimal(text)?;
     if scan.absolute.lowest() < 0 {
@@ -159,8 +159,8 @@ impl Writeable for FixedInteger {
     fn write_to<W: Sink>(&self, sink: &mut W) -> Result<(), SinkFault>
         ensures ok { OnOk result (Appends (W.contents sink.old) (W.contents sink.new) (decimal_text self.now)) }
         ensures err { OnErr result
-            (AppendsBeginning (W.contents sink.old) (W.contents sink.new) (decimal_text self.now)) }
-        ensures worked { OnOk result (W.has_failed sink.old ≡ false) }
+            (AppendsPrefix (W.contents sink.old) (W.contents sink.new) (decimal_text self.now)) }
+        ensures had_not_failed { OnOk result (W.has_failed sink.old ≡ false) }
         ensures failed { OnErr result (W.has_failed sink.new ≡ true) }
         ensures stays { W.has_failed sink.old ≡ true → Keeps (W.contents sink.old) (W.contents sink.new) }
         ensures reads_back { read_integer (decimal_text self.now) ≡ Ok self.now }
@@ -172,7 +172,7 @@ impl Writeable for FixedInteger {
     /// Counts the bytes of the text, exactly: 3 for `-05`, and at most 32,769. `writeable_length_hint` of the original.
     fn writeable_length_hint(&self) -> usize
         ensures exact { result ≡ length (decimal_text self.now) }
-        ensures few { result ≤ 32769 }
+        ensures at_most { result ≤ 32769 }
     {
         recall_value(&self.0);
         self.0.writeable_length_hint()

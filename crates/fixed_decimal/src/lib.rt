@@ -25,11 +25,11 @@
 #![tactic(auto)]
 
 pub mod compact;
-mod cut;
 pub mod integer;
 mod runs;
 pub mod scientific;
 pub mod signed_decimal;
+mod split;
 pub mod variations;
 
 pub use compact::CompactDecimal;

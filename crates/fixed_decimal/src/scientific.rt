@@ -2,15 +2,15 @@
 ghost use Rattle.std.specs.Prelude.{◌≡◌, ◌≤◌, ◌↔◌, length, true, false, Ok, IsTrue, IsOk, IfOk, OnOk, OnErr, MatchResult};
 ghost use Rattle.std.specs.Io.KnownBytes.{Keeps, Appends};
 ghost use Rattle.decimal_digits.specs.Number.{size};
-ghost use Rattle.decimal_digits.specs.Text.{AppendsBeginning};
-ghost use Rattle.decimal_unsigned.specs.Refusal.{Refuses, Answers};
+ghost use Rattle.decimal_digits.specs.Text.{AppendsPrefix};
+ghost use Rattle.decimal_unsigned.specs.Refusal.{ParseRefuses, Answers};
 ghost use Rattle.fixed_decimal.specs.Equal.{same_text, same_text_laws};
-ghost use Rattle.fixed_decimal.specs.Scientific.{scientific, scientific_text, cut_at_e, read_scientific};
+ghost use Rattle.fixed_decimal.specs.Scientific.{scientific, scientific_text, split_at_e, read_scientific};
 ghost use Rattle.fixed_decimal.specs.Scientific.{ReadsScientific, HasLongPart};
 
-use crate::cut::cut_at;
 use crate::integer::{FixedInteger, recall_value, scan_integer};
 use crate::signed_decimal::{Decimal, scan_decimal};
+use crate::split::split_at_letter;
 use decimal_digits::sink::{Sink, SinkFault, Writeable};
 use decimal_unsigned::ParseError;
 use decimal_unsigned::decimal::DIGITS_IN_PLACE;
@@ -37,15 +37,15 @@ impl Model for ScientificDecimal {
 }
 
 /// The texts of the two parts, where there is one `e` and no `E`.
-#[tactic(auto, using(crate::proofs::CutsAtE::cuts))]
-fn cut_at_e(text: &[u8]) -> Result<(&[u8], &[u8]), ParseError>
-    ensures { MatchResult result (λ parts. cut_at_e text.now ≡ Ok (parts.0.now, parts.1.now))
-        (λ e. Refuses ⊥ e (cut_at_e text.now)) }
+#[tactic(auto, using(crate::proofs::SplitsAtE::splits))]
+fn split_at_e(text: &[u8]) -> Result<(&[u8], &[u8]), ParseError>
+    ensures { MatchResult result (λ parts. split_at_e text.now ≡ Ok (parts.0.now, parts.1.now))
+        (λ e. ParseRefuses ⊥ e (split_at_e text.now)) }
 {
     if text.contains(&b'E') {
         return Err(ParseError::Syntax);
     }
-    let Some((significand, exponent)) = cut_at(text, b'e') else {
+    let Some((significand, exponent)) = split_at_letter(text, b'e') else {
         return Err(ParseError::Syntax);
     };
     if exponent.contains(&b'e') {
@@ -89,13 +89,13 @@ impl ScientificDecimal {
     /// the text in front of the `e`; else the one that `FixedInteger` answers to the text behind it, as `Limit` to
     /// `1.0`; else `Memory` where memory for more than `DIGITS_IN_PLACE` digits of a part was refused, and nothing is
     /// left of the other part. Every other fault is decided before memory is asked for. The original's `try_from_utf8`.
-    #[tactic(auto, using(crate::proofs::CutsAtE::scientific_reads))]
+    #[tactic(auto, using(crate::proofs::SplitsAtE::scientific_reads))]
     pub fn try_from_utf8(alloc: Global, text: &[u8]) -> Result<Self, ParseError>
         ensures answers { Answers (HasLongPart DIGITS_IN_PLACE) result (read_scientific text.now) }
         // What reading comes to, by the parts of the text.
         ensures reads { ReadsScientific text.now (read_scientific text.now) }
     {
-        let (significand, exponent) = cut_at_e(text)?;
+        let (significand, exponent) = split_at_e(text)?;
         let significand = scan_decimal(significand)?;
         let exponent = scan_integer(exponent)?;
         let significand = significand.decimal(alloc)?;
@@ -104,7 +104,7 @@ impl ScientificDecimal {
     }
 
     /// Reads the value that a text writes: `try_from_utf8` of its bytes. The original's `try_from_str` and `FromStr`.
-    #[tactic(auto, using(crate::proofs::CutsAtE::scientific_reads))]
+    #[tactic(auto, using(crate::proofs::SplitsAtE::scientific_reads))]
     pub fn try_from_str(alloc: Global, text: &str) -> Result<Self, ParseError>
         ensures answers { Answers (HasLongPart DIGITS_IN_PLACE) result (read_scientific text.now) }
         ensures reads { ReadsScientific text.now (read_scientific text.now) }
@@ -138,8 +138,8 @@ impl Writeable for ScientificDecimal {
     fn write_to<W: Sink>(&self, sink: &mut W) -> Result<(), SinkFault>
         ensures ok { OnOk result (Appends (W.contents sink.old) (W.contents sink.new) (scientific_text self.now)) }
         ensures err { OnErr result
-            (AppendsBeginning (W.contents sink.old) (W.contents sink.new) (scientific_text self.now)) }
-        ensures worked { OnOk result (W.has_failed sink.old ≡ false) }
+            (AppendsPrefix (W.contents sink.old) (W.contents sink.new) (scientific_text self.now)) }
+        ensures had_not_failed { OnOk result (W.has_failed sink.old ≡ false) }
         ensures failed { OnErr result (W.has_failed sink.new ≡ true) }
         ensures stays { W.has_failed sink.old ≡ true → Keeps (W.contents sink.old) (W.contents sink.new) }
         ensures reads_back { read_scientific (scientific_text self.now) ≡ Ok self.now }
@@ -154,7 +154,7 @@ impl Writeable for ScientificDecimal {
     /// original.
     fn writeable_length_hint(&self) -> usize
         ensures exact { result ≡ length (scientific_text self.now) }
-        ensures few { result ≤ 98308 }
+        ensures at_most { result ≤ 98308 }
     {
         self.significand.writeable_length_hint() + 1 + self.exponent.writeable_length_hint()
     }

@@ -2,10 +2,10 @@
 ghost use Rattle.std.specs.Prelude.{◌≡◌, ◌+◌, ◌*◌, ◌<◌, ◌↔◌, IsTrue, negsuc, ◌∷◌, ◌++◌, [], Some, OnOk, IfOk, IfSome};
 ghost use Rattle.decimal_digits.specs.Number.{weight, digit, first, last};
 ghost use Rattle.decimal_unsigned.specs.Text.{dot_before, text};
-ghost use Rattle.decimal_unsigned.specs.Edits.{leaves_limits, shifted, trimmed_start, trimmed_end};
-ghost use Rattle.decimal_unsigned.specs.Edits.{trimmed_end_if_integer, padded_start, padded_end, cut};
+ghost use Rattle.decimal_unsigned.specs.Edits.{leaves_limits, multiplied_pow10, trimmed_start, trimmed_end};
+ghost use Rattle.decimal_unsigned.specs.Edits.{trimmed_end_if_integer, padded_start, padded_end, with_max_position};
 ghost use Rattle.decimal_unsigned.specs.Rounded.{with_number, rounded};
-ghost use Rattle.decimal_unsigned.specs.Joining.{overlaps, joined};
+ghost use Rattle.decimal_unsigned.specs.Concatenation.{overlaps, concatenated_end};
 
 use crate::arithmetic::{
     above_unit, power, quotient, remainder, rounded_number, step, times_power,
@@ -161,8 +161,8 @@ impl Plain {
     /// Gives the value times 10 to a power: `250` by -2 is `2.50`.
     ///
     /// None where the range would leave the limits, and where the product does not fit here.
-    pub fn shifted(&self, delta: i16) -> Option<Plain>
-        ensures { IfSome result (λ v. Some v ≡ shifted self.now delta) }
+    pub fn multiplied_pow10(&self, delta: i16) -> Option<Plain>
+        ensures { IfSome result (λ v. Some v ≡ multiplied_pow10 self.now delta) }
     {
         if self.leaves_limits(delta) {
             return None;
@@ -240,8 +240,8 @@ impl Plain {
     }
 
     /// Keeps the part below a position: `100.01` at 1 gives `0.01`.
-    pub fn cut(&self, position: i16) -> Plain
-        ensures { result ≡ cut self.now position }
+    pub fn with_max_position(&self, position: i16) -> Plain
+        ensures { result ≡ with_max_position self.now position }
     {
         let number = match above_unit(position) {
             Some(places) => remainder(self.number, places),
@@ -270,8 +270,8 @@ impl Plain {
     /// Gives the sum of the numbers, shown as far as either of them is: `12` and `0.5` give `12.5`.
     ///
     /// None beyond 64 bits.
-    pub fn joined(&self, other: &Plain) -> Option<Plain>
-        ensures { IfSome result (λ both. both ≡ joined self.now other.now) }
+    pub fn concatenated_end(&self, other: &Plain) -> Option<Plain>
+        ensures { IfSome result (λ both. both ≡ concatenated_end self.now other.now) }
     {
         let number = self.number.checked_add(other.number)?;
         Some(Plain {

@@ -12,7 +12,7 @@ use Rattle.decimal_digits.proofs.DigitLists.{ten_pos}
 use Rattle.decimal_digits.proofs.Places.{place_is}
 use Rattle.decimal_digits.proofs.RoundingLaws.{rounded_number-multiple, rounded_number-monotone}
 use Rattle.decimal_unsigned.specs.Unsigned.{Unsigned, integer_value}
-use Rattle.decimal_unsigned.specs.Edits.{leaves_limits, multiplied, shifted}
+use Rattle.decimal_unsigned.specs.Edits.{leaves_limits, multiplied, multiplied_pow10}
 use Rattle.decimal_unsigned.specs.Rounded.{reaches_limit, rounded}
 use Rattle.decimal_unsigned.proofs.FirstLast.{first_le}
 use Rattle.decimal_unsigned.proofs.Roundings.{within}
@@ -66,11 +66,11 @@ module _ (n : ℕ) (small : n < 2 ^ 96) where
       within _ (weight (pos 32768)) (omega (arith, below, stays, far))
 
   -- what a shift by -4 makes
-  shifts : shifted (integer_value n) (negsuc 3) ≡ Some (multiplied (integer_value n) (negsuc 3))
+  shifts : multiplied_pow10 (integer_value n) (negsuc 3) ≡ Some (multiplied (integer_value n) (negsuc 3))
   shifts = rw shift_fits refl
 
   -- what it makes is rounded to a cent
-  pub round_never_refused : (v w : Unsigned) → v ≡ integer_value n → shifted v (negsuc 3) ≡ Some w
+  pub round_never_refused : (v w : Unsigned) → v ≡ integer_value n → multiplied_pow10 v (negsuc 3) ≡ Some w
       → rounded w (negsuc 1) HalfEven MultiplesOf1 ≡ None
       → ⊥
   round_never_refused v w is some none =

@@ -6,7 +6,7 @@
 ghost use Rattle.std.specs.Prelude.{◌≡◌, ◌<◌, ◌*◌, Err, OnOk, IsSomeAnd, true};
 ghost use Rattle.std.specs.Io.KnownBytes.{Appends};
 ghost use Rattle.decimal_digits.specs.Number.{size};
-ghost use Rattle.decimal_digits.specs.Text.{AppendsBeginning};
+ghost use Rattle.decimal_digits.specs.Text.{AppendsPrefix};
 ghost use Rattle.decimal_unsigned.specs.Text.{text};
 ghost use Rattle.decimal_unsigned.specs.Unsigned.{integer_value};
 ghost use Rattle.price.specs.Price.{price};
@@ -43,10 +43,10 @@ pub fn write_price<W: Sink>(
     ensures memory { result ≡ Err PriceError.Memory
         → DIGITS_IN_PLACE < size (integer_value (cents * percent)).number }
     ensures untouched { result ≡ Err PriceError.Memory → sink.new ≡ sink.old }
-    ensures begun { result ≡ Err PriceError.Sink
+    ensures prefix { result ≡ Err PriceError.Sink
         → IsSomeAnd (price cents percent)
-        (λ value. AppendsBeginning (W.contents sink.old) (W.contents sink.new) (text value)) }
-    ensures broken { result ≡ Err PriceError.Sink → W.has_failed sink.new ≡ true }
+        (λ value. AppendsPrefix (W.contents sink.old) (W.contents sink.new) (text value)) }
+    ensures failed { result ≡ Err PriceError.Sink → W.has_failed sink.new ≡ true }
 {
     let product = cents as u128 * percent as u128;
     let Ok(mut value) = UnsignedDecimal::try_from_u128(alloc, product) else {

@@ -2,17 +2,17 @@
 ghost use Rattle.std.specs.Prelude.{ℕ, ◌-◌, ◌*◌, ◌≤◌};
 ghost use Rattle.decimal_digits.specs.Halves.{digits_in, IsPacked};
 
+mod bulk;
 mod bytes;
 mod halves;
-mod runs;
 
 use super::DigitStore;
+use bulk::{append_text, count_halves_back, write_text};
 use bytes::{
     append_digits, append_zeros, are_equal, copy_bytes, cut_digits, keep_digits, pack_digits,
     push_digit, reserve_digits, set_digit,
 };
 use halves::{half_at, keep_bytes};
-use runs::{append_text, count_halves_back, write_text};
 use smallvec::SmallVec;
 use std::alloc::{AllocError, Global};
 

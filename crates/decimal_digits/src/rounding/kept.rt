@@ -32,7 +32,7 @@ pub fn tail_after<D: DigitStore>(counted: &mut Counted<'_, D>, keep: usize) -> T
 }
 
 /// Keeps the first `keep` digits as they are, and drops the zeros at their end. The last of them is given.
-fn cut<D: DigitStore>(counted: &mut Counted<'_, D>, keep: usize, last: u8)
+fn keep_leading<D: DigitStore>(counted: &mut Counted<'_, D>, keep: usize, last: u8)
     requires fewer { keep < length (D.digits (list_of counted.old)) }
     requires last { 0 < keep → last ≡ slice_index (D.digits (list_of counted.old)) (keep - 1) }
     requires front { 0 < slice_index (D.digits (list_of counted.old)) 0 }
@@ -84,7 +84,7 @@ pub fn round_kept<D: DigitStore>(
     let rounded = rounded_two(two, tail, mode, increment);
     if rounded == two {
         if tail != Tail::Zero {
-            cut(counted, keep, two % 10);
+            keep_leading(counted, keep, two % 10);
         }
         return Ok(keep);
     }

@@ -40,9 +40,9 @@ impl<W: Write> Out<W> {
     /// then failed. Not in the original.
     pub fn flush(&mut self) -> Result<(), SinkFault>
         ensures keeps { Keeps (W.contents self.old.0) (W.contents self.new.0) }
-        ensures worked { OnOk result (self.old.1 ≡ false) }
-        ensures works { OnOk result (self.new.1 ≡ false) }
-        ensures fails { OnErr result (self.new.1 ≡ true) }
+        ensures had_not_failed { OnOk result (self.old.1 ≡ false) }
+        ensures has_not_failed { OnOk result (self.new.1 ≡ false) }
+        ensures failed { OnErr result (self.new.1 ≡ true) }
     {
         if self.failed || self.writer.flush().is_err() {
             return self.fail();
@@ -52,7 +52,7 @@ impl<W: Write> Out<W> {
 
     /// Remembers that the writer failed.
     fn fail(&mut self) -> Result<(), SinkFault>
-        ensures fails { self.new ≡ (self.old.0, true) }
+        ensures failed { self.new ≡ (self.old.0, true) }
         ensures answers { IsErr result }
     {
         self.failed = true;

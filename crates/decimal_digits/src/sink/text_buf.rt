@@ -44,7 +44,7 @@ impl TextBuf {
 
     /// Remembers that a byte was refused.
     fn fail(&mut self) -> Result<(), SinkFault>
-        ensures fails { self.new ≡ (self.old.0, true) }
+        ensures failed { self.new ≡ (self.old.0, true) }
         ensures answers { IsErr result }
     {
         self.failed = true;

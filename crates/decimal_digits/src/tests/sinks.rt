@@ -8,11 +8,11 @@ use std::test::Fail;
 
 /// What a writer answers to the call that it refuses.
 #[derive(Clone, Copy)]
-enum Refusal {
+enum WriteFailure {
     /// 0 bytes, now and later.
     Zero,
     /// An error, now and later.
-    Full,
+    Fault,
     /// The error `Interrupted`, once; it takes the bytes that come later.
     Interrupted,
     /// An error where it is flushed.
@@ -32,14 +32,14 @@ enum Way {
 
 /// A writer that takes so many bytes, one at each call, and then refuses.
 #[derive(Drop)]
-struct Full {
+struct FailingWriter {
     room: usize,
     calls: usize,
     flushes: usize,
-    refusal: Refusal,
+    refusal: WriteFailure,
 }
 
-impl Write for Full {
+impl Write for FailingWriter {
     fn write(&mut self, bytes: &[u8]) -> io::Result<usize> {
         let has_room = self.calls < self.room;
         self.calls = self.calls.saturating_add(1);
@@ -47,20 +47,20 @@ impl Write for Full {
             return Ok(bytes.len().min(1));
         }
         match self.refusal {
-            Refusal::Zero => Ok(0),
-            Refusal::Full => Err(io::Error::from(io::ErrorKind::StorageFull)),
-            Refusal::Interrupted => {
+            WriteFailure::Zero => Ok(0),
+            WriteFailure::Fault => Err(io::Error::from(io::ErrorKind::StorageFull)),
+            WriteFailure::Interrupted => {
                 self.room = usize::MAX;
                 Err(io::Error::from(io::ErrorKind::Interrupted))
             }
-            Refusal::Flush => Ok(bytes.len().min(1)),
+            WriteFailure::Flush => Ok(bytes.len().min(1)),
         }
     }
 
     fn flush(&mut self) -> io::Result<()> {
         self.flushes = self.flushes.saturating_add(1);
         match self.refusal {
-            Refusal::Flush => Err(io::Error::from(io::ErrorKind::BrokenPipe)),
+            WriteFailure::Flush => Err(io::Error::from(io::ErrorKind::BrokenPipe)),
             _ => Ok(()),
         }
     }
@@ -113,8 +113,8 @@ fn takes_bytes(rt: HostRuntime) {
     }
 }
 
-fn assert_fails_at(rt: &impl Abort, room: usize, way: Way, refusal: Refusal) {
-    let mut out = Out::new(Full {
+fn assert_fails_at(rt: &impl Abort, room: usize, way: Way, refusal: WriteFailure) {
+    let mut out = Out::new(FailingWriter {
         room,
         calls: 0,
         flushes: 0,
@@ -139,20 +139,20 @@ fn assert_fails_at(rt: &impl Abort, room: usize, way: Way, refusal: Refusal) {
 fn fails_with_the_writer(rt: HostRuntime) {
     for room in 0..8 {
         for way in WAYS {
-            assert_fails_at(&rt, room, way, Refusal::Zero);
-            assert_fails_at(&rt, room, way, Refusal::Full);
-            assert_fails_at(&rt, room, way, Refusal::Interrupted);
+            assert_fails_at(&rt, room, way, WriteFailure::Zero);
+            assert_fails_at(&rt, room, way, WriteFailure::Fault);
+            assert_fails_at(&rt, room, way, WriteFailure::Interrupted);
         }
     }
 }
 
 #[test]
 fn fails_with_the_flush(rt: HostRuntime) {
-    let mut out = Out::new(Full {
+    let mut out = Out::new(FailingWriter {
         room: 8,
         calls: 0,
         flushes: 0,
-        refusal: Refusal::Flush,
+        refusal: WriteFailure::Flush,
     });
     assert!(rt; out.put_bytes(b"").is_ok());
     assert!(rt; out.put_bytes(b"-1234.50").is_ok());
@@ -167,11 +167,11 @@ fn fails_with_the_flush(rt: HostRuntime) {
 
 #[test]
 fn flushes_once(rt: HostRuntime) {
-    let mut out = Out::new(Full {
+    let mut out = Out::new(FailingWriter {
         room: 8,
         calls: 0,
         flushes: 0,
-        refusal: Refusal::Zero,
+        refusal: WriteFailure::Zero,
     });
     assert!(rt; out.put_bytes(b"-12").is_ok());
     assert!(rt; out.flush().is_ok());

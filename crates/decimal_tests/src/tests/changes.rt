@@ -1,7 +1,7 @@
 //! Changes of the absolute value through `DerefMut`: the contracts here are proved from the one of `deref_mut`.
 ghost use Rattle.std.specs.Prelude.{◌≡◌, negsuc, Some, option_map, IfOk, OnOk, OnErr};
-ghost use Rattle.decimal_unsigned.specs.Edits.{shifted, trimmed_end};
-ghost use Rattle.decimal_unsigned.specs.Joining.{joined};
+ghost use Rattle.decimal_unsigned.specs.Edits.{multiplied_pow10, trimmed_end};
+ghost use Rattle.decimal_unsigned.specs.Concatenation.{concatenated_end};
 ghost use Rattle.fixed_decimal.specs.Decimal.{with_absolute};
 
 use super::*;
@@ -12,7 +12,7 @@ use fixed_decimal::{ConcatenateError, LimitError, Sign, Signed, UnsignedDecimal}
 /// Two calls in a row, of which the first may be refused, over any list of digits.
 fn to_cents<D: DigitStore>(value: &mut Signed<UnsignedOver<D>>) -> Result<(), LimitError>
     ensures ok { OnOk result (with_absolute value.old
-        (option_map trimmed_end (shifted value.old.absolute (negsuc 1))) ≡ Some value.new) }
+        (option_map trimmed_end (multiplied_pow10 value.old.absolute (negsuc 1))) ≡ Some value.new) }
     ensures err { OnErr result (value.new ≡ value.old) }
 {
     value.multiply_pow10(-2)?;
@@ -22,7 +22,7 @@ fn to_cents<D: DigitStore>(value: &mut Signed<UnsignedOver<D>>) -> Result<(), Li
 
 /// An explicit reference, at a decimal that is owned.
 fn owned_to_cents(mut value: Decimal) -> Result<Decimal, LimitError>
-    ensures { IfOk result (λ v. with_absolute value (shifted value.absolute (negsuc 1)) ≡ Some v) }
+    ensures { IfOk result (λ v. with_absolute value (multiplied_pow10 value.absolute (negsuc 1)) ≡ Some v) }
 {
     let inside: &mut UnsignedDecimal = &mut *value;
     inside.multiply_pow10(-2)?;
@@ -34,7 +34,7 @@ fn append(
     value: &mut Decimal,
     other: UnsignedDecimal,
 ) -> Result<(), ConcatenateError<UnsignedDecimal>>
-    ensures ok { OnOk result (value.new ≡ record value.old { absolute = joined value.old.absolute other }) }
+    ensures ok { OnOk result (value.new ≡ record value.old { absolute = concatenated_end value.old.absolute other }) }
     ensures err { OnErr result (value.new ≡ value.old) }
 {
     value.concatenate_end(other)
@@ -50,7 +50,7 @@ fn replace<T: Drop>(value: &mut Signed<T>, next: T)
 /// A sign that is set, and then a change.
 fn negated_cents(mut value: Decimal) -> Result<Decimal, LimitError>
     ensures { IfOk result (λ v. with_absolute (record value { sign = Sign.Negative })
-        (shifted value.absolute (negsuc 1)) ≡ Some v) }
+        (multiplied_pow10 value.absolute (negsuc 1)) ≡ Some v) }
 {
     value.set_sign(Sign::Negative);
     value.multiply_pow10(-2)?;

@@ -1,7 +1,7 @@
 //! How many digits the roundings touch, and how often they ask for memory, over a store that counts.
 use super::*;
 use decimal_digits::digits::{DigitList, DigitStore, PackedDigits};
-use decimal_testing::{Bounded, Greatest};
+use decimal_testing::{LimitedStore, MaxDigits};
 use decimal_unsigned::decimal::UnsignedOver;
 use fixed_decimal::RoundingIncrement::{MultiplesOf1, MultiplesOf2, MultiplesOf5, MultiplesOf25};
 use fixed_decimal::SignedRoundingMode::{Ceil, Floor, HalfCeil, HalfFloor, Unsigned};
@@ -11,7 +11,7 @@ use fixed_decimal::{
     UnsignedRoundingMode,
 };
 /// A store with memory for every number, which counts.
-pub type CountingStore<D> = Bounded<D, Greatest>;
+pub type CountingStore<D> = LimitedStore<D, MaxDigits>;
 
 /// A decimal over a store that counts.
 type Counting<D> = Signed<UnsignedOver<CountingStore<D>>>;

@@ -1,7 +1,7 @@
 //! Whole runs over each store, and sinks that fail.
 use super::counting::CountingStore;
 use super::*;
-use decimal_testing::{Full, Narrow, Refusal};
+use decimal_testing::{FailingWriter, LimitedSink, WriteFailure};
 use fixed_decimal::RoundingIncrement::{MultiplesOf1, MultiplesOf5, MultiplesOf25};
 use fixed_decimal::SignedRoundingMode::{Ceil, Floor, Unsigned};
 use fixed_decimal::UnsignedRoundingMode::{Expand, HalfEven, HalfTrunc, Trunc};
@@ -200,23 +200,23 @@ const REFUSED: &[Refused] = &[
 
 /// Runs that would pass the limits.
 const OVERFLOWS: &[Refused] = &[
-    ("123", &[Call::MultiplyPow10(32767)], "overflow", 0),
+    ("123", &[Call::MultiplyPow10(32767)], "limit exceeded", 0),
     (
         "98765",
         &[Call::MultiplyPow10(32763), Call::MultiplyPow10(1)],
-        "overflow",
+        "limit exceeded",
         1,
     ),
     (
         "-98765",
         &[Call::MultiplyPow10(-32768), Call::MultiplyPow10(-1)],
-        "overflow",
+        "limit exceeded",
         1,
     ),
     (
         "0",
         &[Call::MultiplyPow10(32767), Call::MultiplyPow10(1)],
-        "overflow",
+        "limit exceeded",
         1,
     ),
     (
@@ -225,7 +225,7 @@ const OVERFLOWS: &[Refused] = &[
             Call::MultiplyPow10(32767),
             Call::Round(32767, Unsigned(Expand), MultiplesOf5),
         ],
-        "overflow",
+        "limit exceeded",
         1,
     ),
     (
@@ -235,7 +235,7 @@ const OVERFLOWS: &[Refused] = &[
             Call::Round(32767, Ceil, MultiplesOf1),
             Call::Round(32767, Floor, MultiplesOf5),
         ],
-        "overflow",
+        "limit exceeded",
         2,
     ),
     // What comes behind the first refusal is not looked at.
@@ -246,7 +246,7 @@ const OVERFLOWS: &[Refused] = &[
             Call::Concatenate(b"x"),
             Call::MultiplyPow10(1),
         ],
-        "overflow",
+        "limit exceeded",
         0,
     ),
     // An operand beyond the limits is another refusal.
@@ -300,7 +300,7 @@ fn words(error: &RunError) -> (&'static str, usize) {
         RunError::Start(ParseError::Memory) => ("start: memory", 0),
         RunError::Operand { at, fault } => (fault_word(fault), *at),
         RunError::Overlap { at } => ("overlap", *at),
-        RunError::Limit { at } => ("overflow", *at),
+        RunError::Limit { at } => ("limit exceeded", *at),
         RunError::Memory { at } => ("memory", *at),
         RunError::Sink => ("sink", 0),
     }
@@ -397,8 +397,8 @@ fn assert_writes(rt: &impl Abort, alloc: Global, rows: &[Run]) -> Result<(), Fai
 
 /// Whether a run fails with a sink that has so much room, which takes a beginning of the text.
 fn fails_with_sink<D: DigitStore>(alloc: Global, (start, calls, text): Run, room: usize) -> bool {
-    let mut sink = Narrow::new(text.as_bytes(), room);
-    let answer = run_over::<D, Narrow<'_>>(alloc, start.as_bytes(), calls, &mut sink);
+    let mut sink = LimitedSink::new(text.as_bytes(), room);
+    let answer = run_over::<D, LimitedSink<'_>>(alloc, start.as_bytes(), calls, &mut sink);
     answer == Err(RunError::Sink) && sink.failed() && sink.has_taken(room)
 }
 
@@ -407,10 +407,10 @@ fn fails_with_writer<D: DigitStore>(
     alloc: Global,
     (start, calls, text): Run,
     room: usize,
-    refusal: Refusal,
+    refusal: WriteFailure,
 ) -> bool {
-    let mut sink = Out::new(Full::new(text.as_bytes(), room, refusal));
-    let answer = run_over::<D, Out<Full<'_>>>(alloc, start.as_bytes(), calls, &mut sink);
+    let mut sink = Out::new(FailingWriter::new(text.as_bytes(), room, refusal));
+    let answer = run_over::<D, Out<FailingWriter<'_>>>(alloc, start.as_bytes(), calls, &mut sink);
     let failed = sink.failed();
     let writer = sink.into_writer();
     answer == Err(RunError::Sink) && failed && writer.has_taken(room) && writer.refused() == 1
@@ -422,7 +422,11 @@ fn fails_with_each<D: DigitStore>(alloc: Global, row: Run) -> bool {
         if !fails_with_sink::<D>(alloc, row, room) {
             return false;
         }
-        for refusal in [Refusal::Zero, Refusal::Fault, Refusal::Interrupted] {
+        for refusal in [
+            WriteFailure::Zero,
+            WriteFailure::Fault,
+            WriteFailure::Interrupted,
+        ] {
             if !fails_with_writer::<D>(alloc, row, room, refusal) {
                 return false;
             }

@@ -2,8 +2,8 @@
 ghost use Rattle.std.specs.Int.{int_max, int_min};
 ghost use Rattle.std.specs.Prelude.{◌≡◌, ◌<◌, ◌≤◌, ◌<ℤ◌, ◌+ℤ◌, pos, ◌+◌, ◌↔◌, IsTrue, IsFalse, Ok, Err, IsOk, IfOk, IfErr, OnOk, OnErr};
 ghost use Rattle.decimal_digits.specs.Number.{first, last};
-ghost use Rattle.decimal_unsigned.specs.Joining.{overlaps, joined, joined_size, NeedsMemory, returned};
-ghost use Rattle.decimal_unsigned.specs.JoiningLaws.{JoinAlike};
+ghost use Rattle.decimal_unsigned.specs.Concatenation.{overlaps, concatenated_end, concatenated_size, ConcatenationNeedsMemory, returned};
+ghost use Rattle.decimal_unsigned.specs.ConcatenationLaws.{ConcatenationIsAssociative};
 ghost use Rattle.decimal_unsigned.specs.Unsigned.{Unsigned, IsValue};
 
 use super::UnsignedOver;
@@ -22,20 +22,20 @@ impl<D: DigitStore> UnsignedOver<D> {
     /// first of the other, as in `120` and `25`; else `Memory` where neither is 0 and memory for more than `L` joined
     /// digits, zeros between them included, was refused. Either hands the other back, and this value stays as it was.
     /// The original's `concatenate_end`, whose error is the other alone.
-    #[tactic(auto, using(crate::proofs::JoiningLaws::join_alike))]
+    #[tactic(auto, using(crate::proofs::ConcatenationLaws::concatenation_is_associative))]
     pub fn concatenate_end(&mut self, other: Self) -> Result<(), ConcatenateError<Self>>
-        ensures ok { OnOk result (self.new ≡ joined self.old other) }
+        ensures ok { OnOk result (self.new ≡ concatenated_end self.old other) }
         ensures overlap { (result ≡ Err (ConcatenateError.Overlap other))
             ↔ IsTrue (overlaps self.old other) }
         ensures memory { (result ≡ Err (ConcatenateError.Memory other))
-            → NeedsMemory D.L self.old other }
+            → ConcatenationNeedsMemory D.L self.old other }
         ensures succeeds { IsFalse (overlaps self.old other)
-            → ¬ NeedsMemory D.L self.old other → IsOk result }
+            → ¬ ConcatenationNeedsMemory D.L self.old other → IsOk result }
         ensures err { OnErr result (self.new ≡ self.old) }
-        ensures back { IfErr result (λ e. returned e ≡ other) }
+        ensures returned { IfErr result (λ e. returned e ≡ other) }
         // Three values can be joined from the front exactly where they can be from the back, and give the same.
         ensures associative { (u v w : Unsigned) → IsValue u → IsValue v → IsValue w
-            → JoinAlike u v w }
+            → ConcatenationIsAssociative u v w }
     {
         if self.overlaps(&other) {
             return Err(ConcatenateError::Overlap(other));
@@ -59,14 +59,14 @@ impl<D: DigitStore> UnsignedOver<D> {
     /// Err: `Overlap` or `Memory` as there, with both values as they were, this one first. The original's
     /// `concatenated_end`.
     pub fn concatenated_end(mut self, other: Self) -> Result<Self, ConcatenateError<(Self, Self)>>
-        ensures ok { IfOk result (λ v. v ≡ joined self other) }
+        ensures ok { IfOk result (λ v. v ≡ concatenated_end self other) }
         ensures overlap { (result ≡ Err (ConcatenateError.Overlap (self, other)))
             ↔ IsTrue (overlaps self other) }
         ensures memory { (result ≡ Err (ConcatenateError.Memory (self, other)))
-            → NeedsMemory D.L self other }
+            → ConcatenationNeedsMemory D.L self other }
         ensures succeeds { IsFalse (overlaps self other)
-            → ¬ NeedsMemory D.L self other → IsOk result }
-        ensures back { IfErr result (λ e. returned e ≡ (self, other)) }
+            → ¬ ConcatenationNeedsMemory D.L self other → IsOk result }
+        ensures returned { IfErr result (λ e. returned e ≡ (self, other)) }
     {
         match self.concatenate_end(other) {
             Ok(()) => Ok(self),
@@ -76,7 +76,7 @@ impl<D: DigitStore> UnsignedOver<D> {
     }
 
     /// Whether the other number has a digit that is not 0 at or above the last one of this number.
-    #[tactic(auto, unfolding(crate::specs::Joining::overlaps))]
+    #[tactic(auto, unfolding(crate::specs::Concatenation::overlaps))]
     fn overlaps(&self, other: &Self) -> bool
         ensures { result ≡ overlaps self.now other.now }
     {
@@ -89,7 +89,7 @@ impl<D: DigitStore> UnsignedOver<D> {
     /// Moves the digits of another number into 0.
     fn take_digits(&mut self, other: Self)
         requires { self.old.number ≡ 0 }
-        ensures { self.new ≡ joined self.old other }
+        ensures { self.new ≡ concatenated_end self.old other }
     {
         self.widen(&other);
         let UnsignedOver {
@@ -106,10 +106,10 @@ impl<D: DigitStore> UnsignedOver<D> {
     fn append(&mut self, other: &Self) -> Result<(), AllocError>
         requires first_counts { 0 < self.old.number }
         requires second_counts { 0 < other.now.number }
-        requires apart { first other.now.number <ℤ last self.old.number }
-        ensures ok { OnOk result (self.new ≡ joined self.old other.now) }
+        requires disjoint { first other.now.number <ℤ last self.old.number }
+        ensures ok { OnOk result (self.new ≡ concatenated_end self.old other.now) }
         ensures err { OnErr result (self.new ≡ self.old) }
-        ensures succeeds { joined_size self.old other.now ≤ D.L → IsOk result }
+        ensures succeeds { concatenated_size self.old other.now ≤ D.L → IsOk result }
     {
         let zeros = self.zeros_before(other);
         let hi = self.hi.max(other.hi);

@@ -2,8 +2,8 @@
 ghost use Rattle.std.specs.Prelude.{◌≡◌, ℕ, ◌<◌, ◌≤◌, length, drop, slice_index, pos, ◌+ℤ◌, Some, None, IfOk, IfErr, OnOk, OnErr};
 ghost use Rattle.std.specs.Int.{int_gap};
 ghost use Rattle.decimal_unsigned.specs.Unsigned.{Unsigned, IsLeastHi, IsGreatestLo};
-ghost use Rattle.decimal_unsigned.specs.Edits.{shifted, trimmed_start, trimmed_end, trimmed_end_if_integer, padded_start, padded_end, cut};
-ghost use Rattle.decimal_unsigned.specs.EditLaws.{TrimmedAlike, IsShortest, truncated, PartsJoin};
+ghost use Rattle.decimal_unsigned.specs.Edits.{multiplied_pow10, trimmed_start, trimmed_end, trimmed_end_if_integer, padded_start, padded_end, with_max_position};
+ghost use Rattle.decimal_unsigned.specs.EditLaws.{TrimmedIsNormalForm, IsShortest, trunced, PartsJoin};
 
 use super::UnsignedOver;
 use crate::error::LimitError;
@@ -20,8 +20,8 @@ impl<D: DigitStore> UnsignedOver<D> {
     /// Err: the range would leave the magnitudes -32768 to 32767, as that of `10` by 32767 would. The value then stays
     /// as it was, range included. The original's `multiply_pow10`, which makes such a value 0.
     pub fn multiply_pow10(&mut self, delta: i16) -> Result<(), LimitError>
-        ensures ok { OnOk result (shifted self.old delta ≡ Some self.new) }
-        ensures limit { OnErr result (shifted self.old delta ≡ None) }
+        ensures ok { OnOk result (multiplied_pow10 self.old delta ≡ Some self.new) }
+        ensures limit { OnErr result (multiplied_pow10 self.old delta ≡ None) }
         ensures err { OnErr result (self.new ≡ self.old) }
     {
         let hi = sum(self.hi, delta);
@@ -50,7 +50,7 @@ impl<D: DigitStore> UnsignedOver<D> {
         // No value of this number shows fewer magnitudes in front.
         ensures least { IsLeastHi self.new }
         // Another value has this number exactly if both are equal after both trims.
-        ensures alike { (other : Unsigned) → TrimmedAlike self.old other }
+        ensures normal_form { (other : Unsigned) → TrimmedIsNormalForm self.old other }
         // Trimmed behind too, the value has the shortest text of its number.
         ensures shortest { IsShortest (trimmed_end self.new) }
     {
@@ -65,7 +65,7 @@ impl<D: DigitStore> UnsignedOver<D> {
         // No value of this number shows fewer magnitudes behind.
         ensures greatest { IsGreatestLo self.new }
         // Another value has this number exactly if both are equal after both trims.
-        ensures alike { (other : Unsigned) → TrimmedAlike self.old other }
+        ensures normal_form { (other : Unsigned) → TrimmedIsNormalForm self.old other }
         // Trimmed in front too, the value has the shortest text of its number.
         ensures shortest { IsShortest (trimmed_start self.new) }
     {
@@ -114,9 +114,9 @@ impl<D: DigitStore> UnsignedOver<D> {
     /// shown, and magnitude 0 with them. `100.01` at 1 becomes `0.01`, `4235.970` at 5 becomes `04235.970`, and `0` at
     /// -2 becomes `0.00`. The original's `set_max_position`.
     pub fn set_max_position(&mut self, position: i16)
-        ensures value { self.new ≡ cut self.old position }
+        ensures value { self.new ≡ with_max_position self.old position }
         // Joined behind what `trunc` leaves at the position, this part gives the number back.
-        ensures parts { PartsJoin self.old position (truncated self.old position) self.new }
+        ensures parts { PartsJoin self.old position (trunced self.old position) self.new }
     {
         let len = self.digits.len();
         let above = places_from(position, self.magnitude);
@@ -139,8 +139,8 @@ impl<D: DigitStore> UnsignedOver<D> {
     /// Err: the range would leave the magnitudes -32768 to 32767; it holds the value, unchanged. The original's
     /// `multiplied_pow10`, which gives 0 then.
     pub fn multiplied_pow10(mut self, delta: i16) -> Result<Self, Self>
-        ensures ok { IfOk result (λ v. shifted self delta ≡ Some v) }
-        ensures limit { OnErr result (shifted self delta ≡ None) }
+        ensures ok { IfOk result (λ v. multiplied_pow10 self delta ≡ Some v) }
+        ensures limit { OnErr result (multiplied_pow10 self delta ≡ None) }
         ensures err { IfErr result (λ v. v ≡ self) }
     {
         match self.multiply_pow10(delta) {
@@ -191,7 +191,7 @@ impl<D: DigitStore> UnsignedOver<D> {
 
     /// `set_max_position` on a value: `100.01` at 1 gives `0.01`. The original's `with_max_position`.
     pub fn with_max_position(mut self, position: i16) -> Self
-        ensures { result ≡ cut self position }
+        ensures { result ≡ with_max_position self position }
     {
         self.set_max_position(position);
         self

@@ -134,7 +134,7 @@ impl<D: DigitStore> UnsignedOver<D> {
     fn from_digits(alloc: Global, digits: &[u8]) -> Result<Self, AllocError>
         requires digits { All (λ d. d < 10) digits.now }
         requires front { 0 < length digits.now → 0 < slice_index digits.now 0 }
-        requires few { length digits.now ≤ MAX_DIGITS }
+        requires at_most { length digits.now ≤ MAX_DIGITS }
         ensures value { IfOk result (λ v. v ≡ integer_value (number_from_digits 10 digits.now)) }
         ensures succeeds { size (integer_value (number_from_digits 10 digits.now)).number ≤ D.L → IsOk result }
         ensures short { length digits.now ≤ D.L → IsOk result }

@@ -3,7 +3,7 @@ ghost use Rattle.std.specs.Prelude.{◌≡◌, ℕ, ◌+◌, ◌-◌, ◌<◌, �
 ghost use Rattle.std.specs.Str.Parse.{AllDigits};
 ghost use Rattle.decimal_digits.specs.Number.{size};
 ghost use Rattle.decimal_unsigned.specs.Reading.{read, FollowsGrammar};
-ghost use Rattle.decimal_unsigned.specs.Refusal.{Refuses, Answers, AnswersGrammar};
+ghost use Rattle.decimal_unsigned.specs.Refusal.{ParseRefuses, Answers, AnswersGrammar};
 ghost use Rattle.decimal_unsigned.specs.Parts.{view};
 ghost use Rattle.decimal_unsigned.specs.Placing.{middle, digits_of};
 
@@ -50,7 +50,7 @@ impl<'a> Scan<'a> {
     /// original.
     pub fn new(text: &'a [u8]) -> Result<Scan<'a>, ParseError>
         ensures value { IfOk result (λ s. read text.now ≡ Ok s) }
-        ensures fault { IfErr result (λ e. Refuses ⊥ e (read text.now)) }
+        ensures fault { IfErr result (λ e. ParseRefuses ⊥ e (read text.now)) }
     {
         let Some(parts) = split(text) else {
             return Err(ParseError::Syntax);
@@ -97,7 +97,7 @@ impl<'a> Scan<'a> {
 #[tactic(auto, using(crate::proofs::ParserAnswers::follows_grammar))]
 pub fn lowest_of(text: &[u8]) -> Result<i16, ParseError>
     ensures value { IfOk result (λ lo. IsOkAnd (read text.now) (λ v. v.lo ≡ lo)) }
-    ensures fault { IfErr result (λ e. Refuses ⊥ e (read text.now)) }
+    ensures fault { IfErr result (λ e. ParseRefuses ⊥ e (read text.now)) }
     // Each text is read as the grammar says.
     ensures grammar { (any : List ℕ) → FollowsGrammar any }
 {

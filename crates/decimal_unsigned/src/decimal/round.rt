@@ -3,9 +3,9 @@ ghost use Rattle.std.specs.Prelude.{◌≡◌, ◌≢◌, ◌+◌, ◌≤◌, po
 ghost use Rattle.std.specs.Int.{int_max};
 ghost use Rattle.decimal_digits.specs.Number.{size};
 ghost use Rattle.decimal_unsigned.specs.Unsigned.{Unsigned};
-ghost use Rattle.decimal_unsigned.specs.Edits.{cut};
+ghost use Rattle.decimal_unsigned.specs.Edits.{with_max_position};
 ghost use Rattle.decimal_unsigned.specs.Rounded.{IsRounded, rounded, RoundingRefuses};
-ghost use Rattle.decimal_unsigned.specs.EditLaws.{PartsJoin, TruncatedAgain, ExpandedAgain, RoundsInOrder};
+ghost use Rattle.decimal_unsigned.specs.EditLaws.{PartsJoin, TruncationsCompose, ExpansionsCompose, RoundingIsMonotone};
 
 use super::UnsignedOver;
 use crate::error::LimitError;
@@ -42,7 +42,7 @@ impl<D: DigitStore> UnsignedOver<D> {
     /// Each read and each write of a digit is a turn. A rounding takes at most seven, and one for each digit that
     /// vanishes; one that is refused with Limit takes at most seven, and one for each digit. Not in the original, which
     /// counts nothing and puts 0 for what is too great.
-    #[tactic(auto, using(crate::proofs::RoundingLaws::rounds_in_order))]
+    #[tactic(auto, using(crate::proofs::RoundingLaws::rounding_is_monotone))]
     pub fn round_counted(
         &mut self,
         position: i16,
@@ -57,9 +57,9 @@ impl<D: DigitStore> UnsignedOver<D> {
         ensures succeeds { increment ≢ RoundingIncrement.MultiplesOf25 → IsErrOf result RoundError.Memory → ⊥ }
 
         // The same rounding once more changes nothing, range included.
-        ensures again { OnOk result (rounded self.new position mode increment ≡ Some self.new) }
+        ensures idempotent { OnOk result (rounded self.new position mode increment ≡ Some self.new) }
         // What stands after a rounding of the greater number is no less than what stands after one of the other.
-        ensures ordered { (v w : Unsigned) → RoundsInOrder v w position mode increment }
+        ensures monotone { (v w : Unsigned) → RoundingIsMonotone v w position mode increment }
 
         ensures turns { (IsErrOf result RoundError.Limit → ⊥)
             → steps.new.count + size self.new.number ≤ steps.old.count + size self.old.number + 7 }
@@ -138,7 +138,7 @@ impl<D: DigitStore> UnsignedOver<D> {
         ensures err { OnErr result (self.new ≡ self.old) }
         // Expanded once more, it has the number that the old value gets at the higher position, or is refused where
         // that one is.
-        ensures again { ExpandedAgain self.old position }
+        ensures composes { ExpansionsCompose self.old position }
     {
         self.round_with_mode(position, UnsignedRoundingMode::Expand)
     }
@@ -151,10 +151,10 @@ impl<D: DigitStore> UnsignedOver<D> {
         ensures rounds { IsRounded self.old position UnsignedRoundingMode.Trunc
             RoundingIncrement.MultiplesOf1 (Some self.new) }
         // Joined in front of what `set_max_position` leaves at the position, this part gives the number back.
-        ensures parts { PartsJoin self.old position self.new (cut self.old position) }
+        ensures parts { PartsJoin self.old position self.new (with_max_position self.old position) }
         // Truncated once more, it has the number that the old value gets at the higher position, and the range too
         // where the second position is that one.
-        ensures again { TruncatedAgain self.old position self.new }
+        ensures composes { TruncationsCompose self.old position self.new }
     {
         self.round_with_mode(position, UnsignedRoundingMode::Trunc)
             .unwrap();

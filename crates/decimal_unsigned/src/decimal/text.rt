@@ -2,7 +2,7 @@
 ghost use Rattle.std.specs.Prelude.{◌≡◌, ◌+◌, ◌-ℤ◌, ◌<◌, ◌≤◌, length, take, drop, replicate, slice_index, EachIndex, Ok, OnOk, OnErr, pos, true, false};
 ghost use Rattle.std.specs.Io.KnownBytes.{Keeps, Appends};
 ghost use Rattle.decimal_digits.specs.Number.{place, digit};
-ghost use Rattle.decimal_digits.specs.Text.{AppendsBeginning};
+ghost use Rattle.decimal_digits.specs.Text.{AppendsPrefix};
 ghost use Rattle.decimal_unsigned.specs.Text.{text};
 ghost use Rattle.decimal_unsigned.specs.Reading.{read};
 
@@ -60,8 +60,8 @@ impl<D: DigitStore> UnsignedOver<D> {
     /// Appends the text byte by byte.
     fn write_few<W: Sink>(&self, sink: &mut W) -> Result<(), SinkFault>
         ensures ok { OnOk result (Appends (W.contents sink.old) (W.contents sink.new) (text self.now)) }
-        ensures err { OnErr result (AppendsBeginning (W.contents sink.old) (W.contents sink.new) (text self.now)) }
-        ensures worked { OnOk result (W.has_failed sink.old ≡ false) }
+        ensures err { OnErr result (AppendsPrefix (W.contents sink.old) (W.contents sink.new) (text self.now)) }
+        ensures had_not_failed { OnOk result (W.has_failed sink.old ≡ false) }
         ensures failed { OnErr result (W.has_failed sink.new ≡ true) }
         ensures stays { W.has_failed sink.old ≡ true → Keeps (W.contents sink.old) (W.contents sink.new) }
     {
@@ -106,8 +106,8 @@ impl<D: DigitStore> Writeable for UnsignedOver<D> {
     /// very value. `write_to` of the original.
     fn write_to<W: Sink>(&self, sink: &mut W) -> Result<(), SinkFault>
         ensures ok { OnOk result (Appends (W.contents sink.old) (W.contents sink.new) (text self.now)) }
-        ensures err { OnErr result (AppendsBeginning (W.contents sink.old) (W.contents sink.new) (text self.now)) }
-        ensures worked { OnOk result (W.has_failed sink.old ≡ false) }
+        ensures err { OnErr result (AppendsPrefix (W.contents sink.old) (W.contents sink.new) (text self.now)) }
+        ensures had_not_failed { OnOk result (W.has_failed sink.old ≡ false) }
         ensures failed { OnErr result (W.has_failed sink.new ≡ true) }
         ensures stays { W.has_failed sink.old ≡ true → Keeps (W.contents sink.old) (W.contents sink.new) }
         ensures reads_back { read (text self.now) ≡ Ok self.now }
@@ -132,7 +132,7 @@ impl<D: DigitStore> Writeable for UnsignedOver<D> {
     fn writeable_length_hint(&self) -> usize
         ensures length { result ≡ length (text self.now) }
         // A text has at most 65,536 digits and a dot.
-        ensures few { result ≤ 65537 }
+        ensures at_most { result ≤ 65537 }
     {
         let lo = self.lowest();
         let digits = count_between(lo, self.highest()) as usize;

@@ -8,13 +8,13 @@ use std::test::Fail;
 
 /// A writer that takes so many bytes and then answers an error, whose flush may fail, and which counts its writes.
 #[derive(Drop)]
-struct Counting {
+struct CountingWriter {
     room: usize,
     flushes: bool,
     writes: usize,
 }
 
-impl Write for Counting {
+impl Write for CountingWriter {
     fn write(&mut self, bytes: &[u8]) -> io::Result<usize> {
         self.writes = self.writes.saturating_add(1);
         let taken = bytes.len().min(self.room);
@@ -60,7 +60,7 @@ fn counted(
     room: usize,
     flushes: bool,
 ) -> Result<(u8, Option<usize>), Fail> {
-    let out = Counting {
+    let out = CountingWriter {
         room,
         flushes,
         writes: 0,
@@ -97,7 +97,7 @@ fn writes_blocks(rt: HostRuntime) -> Result<(), Fail> {
 
 /// How often the writer behind standard error is called for a line.
 fn writes_of_a_line(alloc: Global, line: &str) -> Result<usize, Fail> {
-    let mut err = LineSink::new(Counting {
+    let mut err = LineSink::new(CountingWriter {
         room: 64,
         flushes: true,
         writes: 0,

@@ -72,7 +72,7 @@ fn joins_each_way(
 
 /// What the plain program joins two texts to.
 fn joined_plainly(front: &[u8], back: &[u8]) -> Option<Plain> {
-    Plain::read(front)?.joined(&Plain::read(back)?)
+    Plain::read(front)?.concatenated_end(&Plain::read(back)?)
 }
 
 /// Tells whether two texts overlap, by the plain program.

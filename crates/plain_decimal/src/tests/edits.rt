@@ -50,13 +50,13 @@ pub fn changed<D: DigitStore>(
 fn changed_plainly(text: &[u8], call: Call) -> Option<Plain> {
     let value = Plain::read(text)?;
     match call {
-        Call::Shift(delta) => value.shifted(delta),
+        Call::Shift(delta) => value.multiplied_pow10(delta),
         Call::TrimStart => Some(value.trimmed_start()),
         Call::TrimEnd => Some(value.trimmed_end()),
         Call::TrimEndIfInteger => Some(value.trimmed_end_if_integer()),
         Call::PadStart(position) => Some(value.padded_start(position)),
         Call::PadEnd(position) => Some(value.padded_end(position)),
-        Call::Max(position) => Some(value.cut(position)),
+        Call::Max(position) => Some(value.with_max_position(position)),
     }
 }
 

@@ -1,7 +1,7 @@
 //! Texts in strings, in sinks, and in sinks and writers that fail.
 use super::*;
 use decimal_digits::sink::Out;
-use decimal_testing::{Full, Narrow, Refusal};
+use decimal_testing::{FailingWriter, LimitedSink, WriteFailure};
 use decimal_unsigned::ParseError;
 
 /// What `{}` makes of the value that a text writes, without options and with some.
@@ -86,13 +86,13 @@ const TEXT: &[u8] = b"1234.50";
 
 /// Tells whether a sink with so much room takes a beginning of the text, and has failed.
 fn keeps_beginning<D: DigitStore>(value: &UnsignedOver<D>, room: usize) -> bool {
-    let mut sink = Narrow::new(TEXT, room);
+    let mut sink = LimitedSink::new(TEXT, room);
     value.write_to(&mut sink).is_err() && sink.failed() && sink.has_taken(room)
 }
 
 /// Tells whether a writer with so much room takes a beginning of the text, and is not called after its refusal.
-fn fills<D: DigitStore>(value: &UnsignedOver<D>, room: usize, refusal: Refusal) -> bool {
-    let mut sink = Out::new(Full::new(TEXT, room, refusal));
+fn fills<D: DigitStore>(value: &UnsignedOver<D>, room: usize, refusal: WriteFailure) -> bool {
+    let mut sink = Out::new(FailingWriter::new(TEXT, room, refusal));
     let first = value.write_to(&mut sink).is_err();
     let second = value.write_to(&mut sink).is_err();
     let refused = first && second && sink.failed();
@@ -105,9 +105,9 @@ fn all_keep_beginnings<D: DigitStore>(alloc: Global) -> Result<bool, Fail> {
     let value = read::<D>(alloc, TEXT)?;
     for room in 0..TEXT.len() {
         let keeps = keeps_beginning(&value, room)
-            && fills(&value, room, Refusal::Zero)
-            && fills(&value, room, Refusal::Fault)
-            && fills(&value, room, Refusal::Interrupted);
+            && fills(&value, room, WriteFailure::Zero)
+            && fills(&value, room, WriteFailure::Fault)
+            && fills(&value, room, WriteFailure::Interrupted);
         if !keeps {
             return Ok(false);
         }

@@ -1,10 +1,10 @@
 //! Calls that ask for no memory, over a store that counts the requests.
 use super::edits::{Call, ROWS, change, changed};
 use super::*;
-use decimal_testing::{Bounded, Greatest, shows};
+use decimal_testing::{LimitedStore, MaxDigits, shows};
 
 /// A store that counts, with memory for every number.
-type Counting<D> = Bounded<D, Greatest>;
+type Counting<D> = LimitedStore<D, MaxDigits>;
 
 /// Whether a call makes one text of another in place, and asks for nothing.
 fn changes_for_nothing<D: DigitStore>(

@@ -4,7 +4,7 @@ use Rattle.std.proofs.lemmas.Int.{ints, to_z-of_z}
 use Rattle.std.proofs.lemmas.Bool.{cases_lt}
 use Rattle.decimal_digits.specs.Number.{place, weight}
 use Rattle.decimal_digits.specs.Digits.{number_at, number_of}
-use Rattle.decimal_digits.specs.Rounding.{step_of, unit_at, rounded_number, Refuses}
+use Rattle.decimal_digits.specs.Rounding.{step_of, unit_at, rounded_number, DigitRoundingRefuses}
 use Rattle.decimal_digits.specs.Left.{Spells}
 use Rattle.decimal_digits.specs.Tails.{leading, RoundsTo, KeptRefuses}
 use Rattle.decimal_digits.proofs.DigitLists.{ten_pos}
@@ -63,7 +63,7 @@ returns-in_err-places-clause-refused g c =
     let refused =
     subst (λ xs. KeptRefuses e c.args.mode c.args.increment g.D.DigitStore.L c.room_above.result keep xs tail) same
     c.in_err-places.ensures.refused in
-    let k : Refuses e c.args.increment (length ds)
+    let k : DigitRoundingRefuses e c.args.increment (length ds)
     (rounded_number c.args.mode (unit_at c.args.increment c.args.position) (number_of ds c.args.magnitude))
     g.D.DigitStore.L =
     refuses e c.args.mode c.args.increment g.D.DigitStore.L c.room_above.result keep ds tail

@@ -30,7 +30,7 @@ pub(super) fn set_half(bytes: &mut SmallVec<u8, 8>, index: usize, half: u8)
     requires is_half { half < 16 }
     ensures written { halves bytes.new.items ≡ slice_set (halves bytes.old.items) index half }
     ensures capacity { bytes.new.capacity ≡ bytes.old.capacity }
-    ensures few { 2 * small_vec_len bytes.old < 2 ^ 64 }
+    ensures fits { 2 * small_vec_len bytes.old < 2 ^ 64 }
 {
     let byte = &mut bytes.as_mut_slice()[index / 2];
     if index % 2 == 0 {
@@ -65,7 +65,7 @@ pub(super) fn append_pairs(bytes: &mut SmallVec<u8, 8>, digits: &[u8])
     ensures appended { halves bytes.new.items
         ≡ halves bytes.old.items ++ (map (λ d. d % 16) digits.now ++ replicate (length digits.now % 2) 0) }
     ensures capacity { bytes.old.capacity ≤ bytes.new.capacity }
-    ensures few { small_vec_len bytes.new < 2 ^ 63 }
+    ensures fits { small_vec_len bytes.new < 2 ^ 63 }
 {
     if digits.len() <= 16 {
         // For so few a loop is quicker than a call.
@@ -82,7 +82,7 @@ pub(super) fn push_pairs(bytes: &mut SmallVec<u8, 8>, digits: &[u8])
     ensures appended { halves bytes.new.items
         ≡ halves bytes.old.items ++ (map (λ d. d % 16) digits.now ++ replicate (length digits.now % 2) 0) }
     ensures capacity { bytes.new.capacity ≡ bytes.old.capacity }
-    ensures few { small_vec_len bytes.new < 2 ^ 63 }
+    ensures fits { small_vec_len bytes.new < 2 ^ 63 }
 {
     let _at_most = bytes.len();
     let pairs = digits.len() / 2;
@@ -101,7 +101,7 @@ fn pack_behind(bytes: &mut SmallVec<u8, 8>, digits: &[u8])
     ensures appended { halves bytes.new.items
         ≡ halves bytes.old.items ++ (map (λ d. d % 16) digits.now ++ replicate (length digits.now % 2) 0) }
     ensures capacity { bytes.old.capacity ≤ bytes.new.capacity }
-    ensures few { small_vec_len bytes.new < 2 ^ 63 }
+    ensures fits { small_vec_len bytes.new < 2 ^ 63 }
 {
     let held = bytes.len();
     // The copy makes room, and is written over.

@@ -17,5 +17,5 @@ returns-in_ok-name-in_default-clause-none c =
     c.in_default.not-text c.in_default.not-text-2 c.in_default.not-text-3)
     c.call_with_argument.ensures.none
 
-pub returns-in_ok-name-in_default-clause-alone : goal.returns-in_ok-name-in_default-clause-alone
-returns-in_ok-name-in_default-clause-alone c = at_most_one c.args.word.now
+pub returns-in_ok-name-in_default-clause-unique : goal.returns-in_ok-name-in_default-clause-unique
+returns-in_ok-name-in_default-clause-unique c = at_most_one c.args.word.now

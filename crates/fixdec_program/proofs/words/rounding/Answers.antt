@@ -1,15 +1,15 @@
 use Rattle.std.proofs.Common.{sym, rules, w16, to_z-of_z, refl}
 use Rattle.std.specs.Prelude.{FitsSigned}
-use Rattle.fixdec_program.proofs.Cuts.{uncut, uncut_mode, no_position, no_mode, no_increment, is_rounding, refuse_rounding}
+use Rattle.fixdec_program.proofs.Splits.{unsplit, unsplit_mode, no_position, no_mode, no_increment, is_rounding, refuse_rounding}
 use Rattle.fixdec_program.proofs.words.rounding.Goals as goal
 
 pub returns-in_err-position-clause-none : goal.returns-in_err-position-clause-none
 returns-in_err-position-clause-none c =
-    refuse_rounding _ c.args.words.now (uncut c.args.words.now _ c.split_once.ensures.cases c.in_err-position.was)
+    refuse_rounding _ c.args.words.now (unsplit c.args.words.now _ c.split_once.ensures.cases c.in_err-position.was)
 
 pub returns-in_err-mode_word-clause-none : goal.returns-in_err-mode_word-clause-none
 returns-in_err-mode_word-clause-none c =
-    refuse_rounding _ c.args.words.now (uncut_mode c.args.words.now _ c.split_once.ensures.cases
+    refuse_rounding _ c.args.words.now (unsplit_mode c.args.words.now _ c.split_once.ensures.cases
     c.in_ok-position.position c.in_ok-position.words c.in_ok-position.was _ c.split_once-2.ensures.cases
     c.in_err-mode_word.was)
 

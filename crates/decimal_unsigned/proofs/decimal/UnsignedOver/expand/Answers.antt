@@ -1,6 +1,6 @@
 use Rattle.std.proofs.Common.{arith}
 use Rattle.std.proofs.lemmas.Int.{ints, to_z-of_z}
-use Rattle.decimal_unsigned.proofs.RoundingLaws.{expanded_again}
+use Rattle.decimal_unsigned.proofs.RoundingLaws.{expansions_compose}
 use Rattle.decimal_unsigned.proofs.decimal.UnsignedOver.expand.Goals as goal
 
 pub returns : goal.returns
@@ -11,5 +11,5 @@ returns g c =
       rounds = ensures.rounds;
       limit = ensures.limit;
       err = ensures.err;
-      again = expanded_again c.args.self.now c.args.position (omega (arith, ints));
+      composes = expansions_compose c.args.self.now c.args.position (omega (arith, ints));
     }

@@ -11,7 +11,7 @@ returns-in_err-nonzero-clause-succeeds g c h =
     record {
       digits = c.requires.digits;
       front = c.requires.front;
-      few = c.requires.few;
+      few = c.requires.at_most;
       within = f.within;
       zeros = f.zeros;
       found = f.found;
@@ -26,7 +26,7 @@ invariant_of-result g c =
     record {
       digits = c.requires.digits;
       front = c.requires.front;
-      few = c.requires.few;
+      few = c.requires.at_most;
       within = f.within;
       zeros = f.zeros;
       found = f.found;
@@ -51,7 +51,7 @@ returns-clause-value g c =
     record {
       digits = c.requires.digits;
       front = c.requires.front;
-      few = c.requires.few;
+      few = c.requires.at_most;
       within = f.within;
       zeros = f.zeros;
       found = f.found;

@@ -1,21 +1,21 @@
 use Rattle.std.proofs.Common.{◌≡◌, w16, pos, ◌+ℤ◌, ◌≤ℤ◌, to_z, of_z, refl, sym, ◌∙◌, ap, arith}
 use Rattle.std.proofs.lemmas.Int.{ints}
 use Rattle.decimal_unsigned.specs.Unsigned.{Unsigned}
-use Rattle.decimal_unsigned.specs.Edits.{shifted}
+use Rattle.decimal_unsigned.specs.Edits.{multiplied_pow10}
 use Rattle.std.proofs.Common.{inl, inr}
 use Rattle.std.specs.Prelude.{negsuc}
 use Rattle.std.specs.Int.{int_max, int_min}
 use Rattle.std.proofs.lemmas.Int.{to_z-of_z}
 use Rattle.decimal_unsigned.proofs.Values.{hi_kept, lo_kept, magnitude_kept, narrow_kept, wide_kept}
-use Rattle.decimal_unsigned.proofs.Shifts.{Moves, moved, shifted_is, shifted_over}
+use Rattle.decimal_unsigned.proofs.Shifts.{Moves, moved, multiplied_pow10_is, multiplied_pow10_over}
 use Rattle.decimal_unsigned.proofs.decimal.UnsignedOver.multiply_pow10.Goals as goal
 use Rattle.decimal_unsigned.proofs.decimal.UnsignedOver.multiply_pow10.Goals.{then-hi-gt32767-via-then-hi-gt32767, then-hi-gt32767-via-else-hi-gt32767+then-lo-ltminus32768, then-len-eq0, else-len-eq0}
 
 pub returns-then-hi-gt32767-clause-limit : goal.returns-then-hi-gt32767-clause-limit
 returns-then-hi-gt32767-clause-limit g c =
     let t = c.self.invariant in
-    ap (λ (v : Unsigned). shifted v c.args.delta) (sym c.self.view_is)
-    ∙ shifted_over _ c.args.delta t (elim c.then-hi-gt32767.branch [
+    ap (λ (v : Unsigned). multiplied_pow10 v c.args.delta) (sym c.self.view_is)
+    ∙ multiplied_pow10_over _ c.args.delta t (elim c.then-hi-gt32767.branch [
       | then-hi-gt32767-via-then-hi-gt32767 w ↦ inl (omega (arith, ints, t.in_range, t.hi_in, w.if-hi-gt32767.true))
       | then-hi-gt32767-via-else-hi-gt32767+then-lo-ltminus32768 w ↦
           inr (omega (arith, ints, t.in_range, t.lo_in, w.if-lo-ltminus32768.true))
@@ -67,5 +67,5 @@ invariant_of-self g c = moved c.self.invariant (moves g c)
 
 pub returns-clause-ok : goal.returns-clause-ok
 returns-clause-ok g c =
-    ap (λ (v : Unsigned). shifted v c.args.delta) (sym c.self.view_is)
-    ∙ shifted_is c.args.delta c.self.invariant (moves g c)
+    ap (λ (v : Unsigned). multiplied_pow10 v c.args.delta) (sym c.self.view_is)
+    ∙ multiplied_pow10_is c.args.delta c.self.invariant (moves g c)

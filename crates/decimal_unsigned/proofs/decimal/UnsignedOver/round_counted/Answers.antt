@@ -5,7 +5,7 @@ use Rattle.std.proofs.lemmas.Int.{ints, to_z-of_z}
 use Rattle.std.proofs.lemmas.Result.{err_from_is_err_and}
 use Rattle.std.proofs.lemmas.List.Elements.{recursion_from_All}
 use Rattle.decimal_digits.specs.Digits.{number_of}
-use Rattle.decimal_digits.specs.Rounding.{unit_at, rounded_number, Refuses}
+use Rattle.decimal_digits.specs.Rounding.{unit_at, rounded_number, DigitRoundingRefuses}
 use Rattle.decimal_digits.specs.declared.rounding.RoundError.TheVariants.{Limit}
 use Rattle.decimal_digits.specs.Left.{Spells, IsAbove}
 use Rattle.decimal_unsigned.specs.Fields.{IsStored}
@@ -14,7 +14,7 @@ use Rattle.decimal_unsigned.specs.Rounded.{rounded}
 use Rattle.decimal_unsigned.proofs.Values.{size-number_of, narrow_kept, magnitude_kept, hi_kept}
 use Rattle.decimal_unsigned.proofs.Roundings.{stored_left, rounded_left, number_again, size_again}
 use Rattle.decimal_unsigned.proofs.Shown.{value_of_view}
-use Rattle.decimal_unsigned.proofs.RoundingLaws.{is_rounded, refuses, rounded_again}
+use Rattle.decimal_unsigned.proofs.RoundingLaws.{is_rounded, refuses, rounding_is_idempotent}
 use Rattle.decimal_unsigned.proofs.decimal.UnsignedOver.round_counted.Goals as goal
 
 -- the digits that the rounding left
@@ -94,10 +94,10 @@ returns-in_err-first-clause-refused g c =
     rw (e.1, e.2)
     (refuses _ _ c.args.self.now c.args.position c.args.mode c.args.increment
     (value_of_view c.self.invariant c.self.view_is)
-    (subst (λ k. Refuses c.in_err-first.field-0.0 c.args.increment k
+    (subst (λ k. DigitRoundingRefuses c.in_err-first.field-0.0 c.args.increment k
     (rounded_number c.args.mode (unit_at c.args.increment c.args.position) c.args.self.now.number)
     g.D.DigitStore.L) s
-    (subst (λ m. Refuses c.in_err-first.field-0.0 c.args.increment
+    (subst (λ m. DigitRoundingRefuses c.in_err-first.field-0.0 c.args.increment
     (length (g.D.DigitStore.digits c.new-counted.result.list.now)) m g.D.DigitStore.L)
     (λ i. rounded_number c.args.mode (unit_at c.args.increment (p i)) (n i))
     c.in_err-first.ensures.refused)))
@@ -120,8 +120,9 @@ returns-clause-rounds g c =
     is_rounded c.args.self.now c.args.position c.args.mode c.args.increment
     (value_of_view c.self.invariant c.self.view_is) (value g c)
 
-pub returns-clause-again : goal.returns-clause-again
-returns-clause-again g c = rounded_again c.args.self.now _ c.args.position c.args.mode c.args.increment (value g c)
+pub returns-clause-idempotent : goal.returns-clause-idempotent
+returns-clause-idempotent g c =
+    rounding_is_idempotent c.args.self.now _ c.args.position c.args.mode c.args.increment (value g c)
 
 pub returns-clause-turns : goal.returns-clause-turns
 returns-clause-turns g c =

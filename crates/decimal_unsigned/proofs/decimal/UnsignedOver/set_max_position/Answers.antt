@@ -3,10 +3,10 @@ use Rattle.std.specs.Int.{int_max, int_gap}
 use Rattle.std.proofs.lemmas.Int.{ints, to_z-of_z}
 use Rattle.decimal_digits.proofs.Places.{place_is}
 use Rattle.decimal_unsigned.specs.Unsigned.{Unsigned}
-use Rattle.decimal_unsigned.specs.Edits.{cut}
+use Rattle.decimal_unsigned.specs.Edits.{with_max_position}
 use Rattle.decimal_unsigned.proofs.Values.{lo_kept, magnitude_kept, narrow_kept, wide_kept, lowest}
-use Rattle.decimal_unsigned.specs.EditLaws.{truncated, PartsJoin}
-use Rattle.decimal_unsigned.proofs.Cuts.{Cuts, stored_cut, cut_is}
+use Rattle.decimal_unsigned.specs.EditLaws.{trunced, PartsJoin}
+use Rattle.decimal_unsigned.proofs.Cuts.{Cuts, stored_cut, with_max_position_is}
 use Rattle.decimal_unsigned.proofs.Shown.{value_of_view}
 use Rattle.decimal_unsigned.proofs.EditLaws.{parts}
 use Rattle.decimal_unsigned.proofs.decimal.UnsignedOver.set_max_position.Goals as goal
@@ -72,11 +72,12 @@ invariant_of-self g c = rw c.drop_front.ensures (stored_cut c.self.invariant (cu
 pub returns-clause-value : goal.returns-clause-value
 returns-clause-value g c =
     rw c.drop_front.ensures
-    (cut_is c.self.invariant (cuts g c) ∙ ap (λ (v : Unsigned). cut v c.args.position) c.self.view_is)
+    (with_max_position_is c.self.invariant (cuts g c)
+    ∙ ap (λ (v : Unsigned). with_max_position v c.args.position) c.self.view_is)
 
 pub returns-clause-parts : goal.returns-clause-parts
 returns-clause-parts g c =
     let v = c.args.self.now in
     let p = c.args.position in
-    subst (PartsJoin v p (truncated v p)) (sym (returns-clause-value g c))
+    subst (PartsJoin v p (trunced v p)) (sym (returns-clause-value g c))
     (parts v p (value_of_view c.self.invariant c.self.view_is))

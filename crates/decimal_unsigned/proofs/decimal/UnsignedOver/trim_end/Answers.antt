@@ -5,7 +5,7 @@ use Rattle.decimal_digits.specs.Digits.{number_of}
 use Rattle.decimal_unsigned.specs.Unsigned.{Unsigned}
 use Rattle.decimal_unsigned.proofs.Values.{narrow_kept, lower_stored, last_in}
 use Rattle.decimal_unsigned.proofs.Ranges.{last_shown}
-use Rattle.decimal_unsigned.proofs.EditLaws.{trimmed_alike, shortest}
+use Rattle.decimal_unsigned.proofs.EditLaws.{trimmed_is_normal_form, shortest}
 use Rattle.decimal_unsigned.proofs.decimal.UnsignedOver.trim_end.Goals as goal
 
 pub invariant_of-self : goal.invariant_of-self
@@ -28,8 +28,8 @@ returns-clause-greatest g c = λ w v e.
     (subst (λ n. IsLast n c.nonzero_magnitude_end.result) (sym number) c.nonzero_magnitude_end.ensures.defined)
     (omega (arith, ints, r)))
 
-pub returns-clause-alike : goal.returns-clause-alike
-returns-clause-alike g c = trimmed_alike c.args.self.now
+pub returns-clause-normal_form : goal.returns-clause-normal_form
+returns-clause-normal_form g c = trimmed_is_normal_form c.args.self.now
 
 pub returns-clause-shortest : goal.returns-clause-shortest
 returns-clause-shortest g c =

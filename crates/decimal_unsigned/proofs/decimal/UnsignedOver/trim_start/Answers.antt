@@ -6,7 +6,7 @@ use Rattle.decimal_unsigned.proofs.Values.{first_of, narrow_kept, magnitude_kept
 use Rattle.decimal_unsigned.specs.Edits.{trimmed_end}
 use Rattle.decimal_unsigned.specs.EditLaws.{IsShortest}
 use Rattle.decimal_unsigned.proofs.Ranges.{first_shown, trimmed_start_is}
-use Rattle.decimal_unsigned.proofs.EditLaws.{trimmed_alike, shortest}
+use Rattle.decimal_unsigned.proofs.EditLaws.{trimmed_is_normal_form, shortest}
 use Rattle.decimal_unsigned.proofs.decimal.UnsignedOver.trim_start.Goals as goal
 
 pub returns : goal.returns
@@ -20,6 +20,6 @@ returns g c =
     record {
       value = value;
       least = λ w v e. rw upper (subst (λ k. int_max k (pos 0) ≤ℤ w.hi) (ap first e ∙ first_of t) (first_shown w v));
-      alike = trimmed_alike c.args.self.now;
+      normal_form = trimmed_is_normal_form c.args.self.now;
       shortest = subst (λ v. IsShortest (trimmed_end v)) (sym value) (shortest c.args.self.now);
     }

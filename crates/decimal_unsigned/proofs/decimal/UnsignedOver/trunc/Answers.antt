@@ -3,10 +3,10 @@ use Rattle.std.specs.Option.{unwrap_or}
 use Rattle.std.proofs.lemmas.Int.{ints, to_z-of_z}
 use Rattle.decimal_digits.specs.declared.rounding.RoundingIncrement.TheVariants.{MultiplesOf1}
 use Rattle.decimal_digits.proofs.Results.{ok_unless}
-use Rattle.decimal_unsigned.specs.Edits.{cut}
-use Rattle.decimal_unsigned.specs.EditLaws.{PartsJoin, TruncatedAgain}
+use Rattle.decimal_unsigned.specs.Edits.{with_max_position}
+use Rattle.decimal_unsigned.specs.EditLaws.{PartsJoin, TruncationsCompose}
 use Rattle.decimal_unsigned.proofs.EditLaws.{parts, trunc_not_refused}
-use Rattle.decimal_unsigned.proofs.RoundingLaws.{truncated_again}
+use Rattle.decimal_unsigned.proofs.RoundingLaws.{truncations_compose}
 use Rattle.decimal_unsigned.proofs.decimal.UnsignedOver.trunc.Goals as goal
 
 pub unwrap-requires : goal.unwrap-requires
@@ -25,9 +25,9 @@ returns g c =
     record {
       rounds = rounds;
       parts =
-          subst (λ t. PartsJoin v c.args.position t (cut v c.args.position)) value
+          subst (λ t. PartsJoin v c.args.position t (with_max_position v c.args.position)) value
           (parts v c.args.position rounds.valid);
       again =
-          subst (TruncatedAgain v c.args.position) value
-          (truncated_again v c.args.position (omega (arith, ints)) rounds.valid);
+          subst (TruncationsCompose v c.args.position) value
+          (truncations_compose v c.args.position (omega (arith, ints)) rounds.valid);
     }

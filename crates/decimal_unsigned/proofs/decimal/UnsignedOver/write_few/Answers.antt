@@ -15,7 +15,7 @@ loop-index-preserved g c =
     let i = c.loop-index.index in
     let inside : i < length all = omega (arith, c.writeable_length_hint-index-end.ensures.length) in
     let taken = byte_taken all i c.byte_at.result inside c.byte_at.ensures in
-    let worked = c.in_ok-put_byte.ensures.worked in
+    let worked = c.in_ok-put_byte.ensures.had_not_failed in
     record {
       appended = wrote_more _ _ _ all _ i 1 (omega arith) taken c.loop-index.invariant.appended
           c.in_ok-put_byte.ensures.appends;
@@ -38,8 +38,8 @@ returns-clause-ok g c =
     wrote_all _ _ (text c.args.self.now) c.loop-index.index
     (omega (arith, c.writeable_length_hint-index-end.ensures.length)) c.loop-index.invariant.appended
 
-pub returns-clause-worked : goal.returns-clause-worked
-returns-clause-worked g c =
+pub returns-clause-had_not_failed : goal.returns-clause-had_not_failed
+returns-clause-had_not_failed g c =
     let some = text_some c.args.self.now c.magnitude_range-range.ensures.valid in
     fresh_some g.W.Sink.has_failed _ _ _ c.loop-index.invariant.fresh
     (omega (arith, some, c.writeable_length_hint-index-end.ensures.length))

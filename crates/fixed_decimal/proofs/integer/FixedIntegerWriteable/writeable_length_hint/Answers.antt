@@ -2,8 +2,8 @@ use Rattle.std.proofs.Common.{arith}
 use Rattle.fixed_decimal.proofs.DecimalBytes.{length-integer_most}
 use Rattle.fixed_decimal.proofs.integer.FixedIntegerWriteable.writeable_length_hint.Goals as goal
 
-pub returns-clause-few : goal.returns-clause-few
-returns-clause-few c =
+pub returns-clause-at_most : goal.returns-clause-at_most
+returns-clause-at_most c =
     omega (
       arith,
       length-integer_most c.self.inside.0 c.recall_value.ensures c.self.invariant,

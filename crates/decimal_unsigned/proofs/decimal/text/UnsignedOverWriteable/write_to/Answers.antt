@@ -21,8 +21,9 @@ loop-written-preserved g c =
           wrote_more _ _ _ (text c.args.self.now) c.copy_text.new.places c.loop-written.written _
           (omega (arith, few, c.min.ensures, c.writeable_length_hint-length.ensures.length)) c.copy_text.ensures
           c.loop-written.invariant.appended c.in_ok-put_bytes.ensures.appends;
-      fresh = inr
-          (fresh_more g.W.Sink.has_failed _ _ _ c.loop-written.invariant.fresh c.in_ok-put_bytes.ensures.worked);
+      fresh =
+          inr (fresh_more g.W.Sink.has_failed _ _ _ c.loop-written.invariant.fresh
+          c.in_ok-put_bytes.ensures.had_not_failed);
     }
 
 pub returns-in_err-put_bytes-clause-err : goal.returns-in_err-put_bytes-clause-err
@@ -31,7 +32,7 @@ returns-in_err-put_bytes-clause-err g c =
     on_err c.from_residual.result _
     (wrote_part _ _ _ (text c.args.self.now) c.copy_text.new.places c.loop-written.written _
     (omega (arith, few, c.min.ensures, c.writeable_length_hint-length.ensures.length)) c.copy_text.ensures
-    c.loop-written.invariant.appended c.in_err-put_bytes.ensures.begins)
+    c.loop-written.invariant.appended c.in_err-put_bytes.ensures.prefix)
 
 pub returns-in_err-put_bytes-clause-reads_back : goal.returns-in_err-put_bytes-clause-reads_back
 returns-in_err-put_bytes-clause-reads_back g c = read_text c.args.self.now c.magnitude_range-range.ensures.valid
@@ -47,8 +48,8 @@ returns-in_err-put_bytes-clause-stays g c =
     fresh_keeps g.W.Sink.has_failed g.W.Sink.contents _ _ _ _ c.loop-written.invariant.fresh
     c.in_err-put_bytes.ensures.stays
 
-pub returns-clause-worked : goal.returns-clause-worked
-returns-clause-worked g c =
+pub returns-clause-had_not_failed : goal.returns-clause-had_not_failed
+returns-clause-had_not_failed g c =
     fresh_some g.W.Sink.has_failed _ _ _ c.loop-written.invariant.fresh (omega (arith, c.if-length-le-FEW.false))
 
 pub returns-clause-stays : goal.returns-clause-stays

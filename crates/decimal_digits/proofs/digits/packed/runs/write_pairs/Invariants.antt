@@ -1,6 +1,0 @@
-use Rattle.std.proofs.Common.{◌≡◌, ℕ, ◌+◌, ◌*◌, ◌<◌, get_or}
-use Rattle.decimal_digits.specs.Halves.{halves}
-use Rattle.decimal_digits.proofs.digits.packed.runs.write_pairs.Given as goal
-
-abbrev pub invariant-loop-i : goal.invariant-loop-i
-invariant-loop-i l = (k : ℕ) → k < 2 * l.i → get_or l.places k 0 ≡ 48 + get_or (halves l.bytes) k 0

@@ -1,0 +1,90 @@
+//! Many digits at once: text into bytes and back, and equal digits at an end.
+ghost use Rattle.std.specs.Prelude.{◌≡◌, ℕ, ◌+◌, ◌-◌, ◌*◌, ◌/◌, ◌%◌, ◌^◌, ◌<◌, ◌≤◌, ◌≢◌, ◌++◌, length, map, take, drop, replicate, slice_index};
+ghost use Rattle.std.specs.Char.{digit_value};
+ghost use Rattle.std.specs.Str.Parse.{AllDigits};
+ghost use Rattle.decimal_digits.specs.Digits.{text_of};
+ghost use Rattle.decimal_digits.specs.Halves.{halves, digits_in, IsPacked};
+ghost use Rattle.decimal_digits.specs.Packing.{Holds};
+
+use super::halves::{append_pairs, set_half};
+use smallvec::SmallVec;
+
+/// Appends the digits that a text writes, for which there is room.
+pub(super) fn append_text(bytes: &mut SmallVec<u8, 8>, len: usize, text: &[u8])
+    requires packed { IsPacked bytes.old.items len }
+    requires has_room { length text.now ≤ 2 * bytes.old.capacity - len }
+    requires are_digits { AllDigits 10 text.now }
+    ensures holds { Holds bytes.new.items (len + length text.now)
+        (digits_in bytes.old.items len ++ map digit_value text.now) }
+    ensures capacity { bytes.old.capacity ≤ bytes.new.capacity }
+    ensures fits { len + length text.now < 2 ^ 64 }
+{
+    if len % 2 == 0 {
+        append_pairs(bytes, text);
+    } else if !text.is_empty() {
+        set_half(bytes, len, text[0] % 16);
+        append_pairs(bytes, &text[1..]);
+    }
+}
+
+/// Writes the halves from an index on as text, as many as there are places.
+pub(super) fn write_text(bytes: &[u8], from: usize, places: &mut [u8])
+    requires { from + length places.old ≤ length (halves bytes.now) }
+    ensures { places.new ≡ text_of (take (length places.old) (drop from (halves bytes.now))) }
+{
+    if from % 2 == 0 {
+        write_pairs(&bytes[from / 2..], places);
+    } else if !places.is_empty() {
+        places[0] = b'0' + bytes[from / 2] % 16;
+        write_pairs(&bytes[from / 2 + 1..], &mut places[1..]);
+    }
+}
+
+/// Writes the first halves as text, as many as there are places.
+fn write_pairs(bytes: &[u8], places: &mut [u8])
+    requires { length places.old ≤ length (halves bytes.now) }
+    ensures { places.new ≡ text_of (take (length places.old) (halves bytes.now)) }
+{
+    let pairs = places.len() / 2;
+    for i in 0..pairs {
+        places[2 * i] = b'0' + bytes[i] / 16;
+        places[2 * i + 1] = b'0' + bytes[i] % 16;
+    }
+    if places.len() % 2 == 1 {
+        places[2 * pairs] = b'0' + bytes[pairs] / 16;
+    }
+}
+
+/// Counts the halves at the end of the first `count` that equal this one.
+pub(super) fn count_halves_back(bytes: &[u8], count: usize, half: u8) -> usize
+    requires in_range { count ≤ length (halves bytes.now) }
+    requires is_half { half < 16 }
+    ensures within { result ≤ count }
+    ensures equal { (k : ℕ) → count ≤ k + result → k < count → slice_index (halves bytes.now) k ≡ half }
+    ensures stops { result < count → slice_index (halves bytes.now) (count - result - 1) ≢ half }
+{
+    let odd = count % 2;
+    if odd == 1 && bytes[count / 2] / 16 != half {
+        return 0;
+    }
+    let pairs = count / 2;
+    let same = count_bytes_back(&bytes[..pairs], half * 17);
+    if same < pairs && bytes[pairs - 1 - same] % 16 == half {
+        return odd + 2 * same + 1;
+    }
+    odd + 2 * same
+}
+
+/// Counts the bytes at the end that equal this one.
+fn count_bytes_back(bytes: &[u8], byte: u8) -> usize
+    ensures within { result ≤ length bytes.now }
+    ensures equal { (k : ℕ) → length bytes.now ≤ k + result → k < length bytes.now → slice_index bytes.now k ≡ byte }
+    ensures stops { result < length bytes.now → slice_index bytes.now (length bytes.now - result - 1) ≢ byte }
+{
+    for index in (0..bytes.len()).rev() {
+        if bytes[index] != byte {
+            return bytes.len() - 1 - index;
+        }
+    }
+    bytes.len()
+}

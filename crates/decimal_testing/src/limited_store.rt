@@ -1,0 +1,191 @@
+//! A store of digits with little memory, which counts what it is asked for.
+ghost use Rattle.std.specs.Prelude.{◌≤◌, IsTrue};
+
+use crate::digit_limit::DigitLimit;
+use decimal_digits::digits::DigitStore;
+use std::alloc::{AllocError, Global};
+use std::cell::Cell;
+use std::marker::PhantomData;
+
+/// A store of digits with memory for `LIMIT` digits and no more, until it is bounded anew.
+///
+/// What needs memory for more is refused. So the growths of a run are refused in turn, from the smallest bound on: with
+/// 16 those to more than 16 digits, with 17 those to more than 17.
+///
+/// It counts the digits that are read, written, compared or copied, and the calls that may want memory: `from_digits`,
+/// `clone`, `reserve` and `append`, however few digits they are asked for.
+///
+/// It is also an example of a store: the ghost members say which list a value stands for, how many more digits fit and
+/// how many are held without memory, and each method meets the contract of the trait.
+#[derive(Drop)]
+pub struct LimitedStore<D: DigitStore, M: DigitLimit> {
+    list: D,
+    most: Cell<usize>,
+    touched: Cell<usize>,
+    requests: Cell<usize>,
+    is_restarted: Cell<bool>,
+    first: PhantomData<M>,
+}
+
+impl<D: DigitStore, M: DigitLimit> LimitedStore<D, M> {
+    /// Gives this list memory for `most` digits from now on.
+    pub fn bound(&self, most: usize) {
+        self.most.set(most);
+    }
+
+    /// Counts from 0 on.
+    pub fn restart(&self) {
+        self.touched.set(0);
+        self.requests.set(0);
+        self.is_restarted.set(true);
+    }
+
+    /// Gives the number of digits touched since the last `restart`, and None where this list was made after it.
+    pub fn touched(&self) -> Option<usize> {
+        if self.is_restarted.get() {
+            Some(self.touched.get())
+        } else {
+            None
+        }
+    }
+
+    /// Gives the number of requests for memory since the last `restart`, or else since this list was made.
+    pub fn requests(&self) -> usize {
+        self.requests.get()
+    }
+
+    /// Tells whether this very list was counted by the last `restart`, and has asked for no memory since.
+    pub fn asked_nothing(&self) -> bool {
+        self.is_restarted.get() && self.requests.get() == 0
+    }
+
+    /// Counts so many digits more.
+    fn touch(&self, count: usize) {
+        self.touched.set(self.touched.get().saturating_add(count));
+    }
+
+    /// Counts a request for memory.
+    fn ask(&self) {
+        self.requests.set(self.requests.get().saturating_add(1));
+    }
+
+    /// Whether there is memory for so many digits.
+    fn holds(&self, count: usize) -> bool
+        ensures { count ≤ D.L → IsTrue result }
+    {
+        count <= D::L || count <= self.most.get()
+    }
+}
+
+impl<D: DigitStore, M: DigitLimit> DigitStore for LimitedStore<D, M> {
+    ghost digits = { λ s. D.digits s.list };
+
+    ghost room = { λ s. D.room s.list };
+
+    ghost L = { D.L };
+
+    const L: usize = D::L;
+
+    fn empty(alloc: Global) -> Self {
+        LimitedStore {
+            list: D::empty(alloc),
+            most: Cell::new(M::LIMIT),
+            touched: Cell::new(0),
+            requests: Cell::new(0),
+            is_restarted: Cell::new(false),
+            first: PhantomData,
+        }
+    }
+
+    fn from_digits(alloc: Global, list: &[u8]) -> Result<Self, AllocError> {
+        if list.len() > D::L && list.len() > M::LIMIT {
+            return Err(AllocError);
+        }
+        Ok(LimitedStore {
+            list: D::from_digits(alloc, list)?,
+            most: Cell::new(M::LIMIT),
+            touched: Cell::new(list.len()),
+            requests: Cell::new(1),
+            is_restarted: Cell::new(false),
+            first: PhantomData,
+        })
+    }
+
+    fn clone(&self) -> Result<Self, AllocError> {
+        self.touch(self.list.len());
+        self.ask();
+        if !self.holds(self.list.len()) {
+            return Err(AllocError);
+        }
+        Ok(LimitedStore {
+            list: self.list.clone()?,
+            most: Cell::new(self.most.get()),
+            touched: Cell::new(self.touched.get()),
+            requests: Cell::new(self.requests.get()),
+            is_restarted: Cell::new(self.is_restarted.get()),
+            first: PhantomData,
+        })
+    }
+
+    fn len(&self) -> usize {
+        self.list.len()
+    }
+
+    fn get(&self, index: usize) -> u8 {
+        self.touch(1);
+        self.list.get(index)
+    }
+
+    fn set(&mut self, index: usize, digit: u8) {
+        self.touch(1);
+        self.list.set(index, digit);
+    }
+
+    fn push_in_room(&mut self, digit: u8) {
+        self.touch(1);
+        self.list.push_in_room(digit);
+    }
+
+    fn reserve(&mut self, count: usize) -> Result<(), AllocError> {
+        self.ask();
+        let total = self.list.len().saturating_add(count);
+        if !self.holds(total) {
+            return Err(AllocError);
+        }
+        self.list.reserve(count)
+    }
+
+    fn truncate(&mut self, count: usize) {
+        self.list.truncate(count);
+    }
+
+    fn cut_front(&mut self, count: usize) {
+        self.list.cut_front(count);
+    }
+
+    fn clear(&mut self) {
+        self.list.clear();
+    }
+
+    fn append(&mut self, zeros: usize, other: &Self) -> Result<(), AllocError> {
+        self.touch(zeros.saturating_add(other.list.len()));
+        self.ask();
+        let start = self.list.len().saturating_add(zeros);
+        let total = start.saturating_add(other.list.len());
+        if !self.holds(total) {
+            return Err(AllocError);
+        }
+        self.list.append(zeros, &other.list)
+    }
+
+    fn eq(&self, other: &Self) -> bool {
+        self.touch(self.list.len().saturating_add(other.list.len()));
+        self.list.eq(&other.list)
+    }
+
+    ghost enough = { D.enough };
+
+    ghost roomy = { λ s. D.roomy s.list };
+
+    ghost are_digits = { λ s. D.are_digits s.list };
+}

@@ -1,0 +1,129 @@
+-- Laws of joining.
+use Rattle.std.proofs.Common.{◌≡◌, ℕ, ◌+◌, ◌-◌, ◌%◌, ◌<◌, ◌≤◌, Bool, true, false, cond, nat_lt, ◌||◌, refl, sym, ◌∙◌, ap, arith, inl, inr}
+use Rattle.std.specs.Prelude.{ℤ, pos, ◌+ℤ◌, ◌-ℤ◌, ◌≤ℤ◌, Option, Some, None, option_and_then}
+use Rattle.std.specs.Int.{int_max, int_min}
+use Rattle.std.proofs.lemmas.Int.{ints, clamps}
+use Rattle.std.proofs.lemmas.Bool.{cases_lt}
+use Rattle.std.proofs.lemmas.Bool.Decides.{nat_tests}
+use Rattle.decimal_digits.specs.Number.{place, weight, first, last}
+use Rattle.decimal_digits.proofs.Places.{place_is}
+use Rattle.decimal_unsigned.specs.Unsigned.{Unsigned, IsValue}
+use Rattle.decimal_unsigned.specs.Concatenation.{overlaps, concatenated_end}
+use Rattle.decimal_unsigned.specs.Edits.{with_max_position}
+use Rattle.decimal_unsigned.specs.ConcatenationLaws.{concatenation, ConcatenationIsAssociative}
+use Rattle.decimal_unsigned.proofs.Concatenations.{overlaps_first_zero, overlaps_second_zero, disjoint, not_overlapping}
+use Rattle.decimal_unsigned.proofs.FirstLast.{Extent, extent, first_of, last_of, first_sum, last_sum, first_le, parts_sum, parts_apart}
+
+-- a value other than 0 has a first and a last digit
+pub extent_of : (v : Unsigned) → IsValue v → 0 < v.number → Extent v.number
+extent_of v h p = extent (place v.hi + 1) v.number p h.below (omega (arith, ints, place_is v.hi, h.hi_in))
+
+module _ (u v : Unsigned) (p : IsValue u) (q : IsValue v) (f : overlaps u v ≡ false) where
+  apart_at : (m : 0 < u.number) (n : 0 < v.number) → (extent_of v q n).top < (extent_of u p m).bottom
+  apart_at m n =
+      let a = disjoint u v m n f in
+      let b = last_of (extent_of u p m) in
+      let t = first_of (extent_of v q n) in
+      omega (arith, ints, a, b, t)
+
+  last_joined : 0 < v.number → last (u.number + v.number) ≡ last v.number
+  last_joined n = elim (cases_lt 0 u.number) [
+    | inl m ↦ last_sum (extent_of u p m) (extent_of v q n) (apart_at m n)
+    | inr m ↦ ap last (let e : u.number + v.number ≡ v.number = omega arith in e)
+  ]
+
+  first_joined : 0 < u.number → first (u.number + v.number) ≡ first u.number
+  first_joined m = elim (cases_lt 0 v.number) [
+    | inl n ↦ first_sum (extent_of u p m) (extent_of v q n) (apart_at m n)
+    | inr n ↦ ap first (let e : u.number + v.number ≡ u.number = omega arith in e)
+  ]
+
+some_in_sum : (m n : ℕ) → 0 < m → nat_lt 0 (m + n) ≡ nat_lt 0 m
+some_in_sum m n h = grind (arith, nat_tests)
+
+more_in_sum : (m n : ℕ) → 0 < n → nat_lt 0 (m + n) ≡ nat_lt 0 n
+more_in_sum m n h = grind (arith, nat_tests)
+
+-- what is joined in front of a number does not change where that number ends
+front_absorbed : (u v w : Unsigned) → IsValue u → IsValue v → 0 < v.number → overlaps u v ≡ false
+    → overlaps (concatenated_end u v) w ≡ overlaps v w
+unfolding overlaps
+front_absorbed u v w p q n f = rw (more_in_sum u.number v.number n, last_joined u v p q f n) refl
+
+-- and what is joined behind it, where it begins
+back_absorbed : (u v w : Unsigned) → IsValue v → IsValue w → 0 < v.number → overlaps v w ≡ false
+    → overlaps u (concatenated_end v w) ≡ overlaps u v
+unfolding overlaps
+back_absorbed u v w p q n f = rw (some_in_sum v.number w.number n, first_joined v w p q f n) refl
+
+module _ (u v w : Unsigned) (p : IsValue u) (q : IsValue v) (r : IsValue w) where
+  overlaps_associative : (overlaps u v || overlaps (concatenated_end u v) w)
+      ≡ (overlaps v w || overlaps u (concatenated_end v w))
+  unfolding overlaps
+  overlaps_associative = elim (cases_lt 0 v.number) [
+    | inl n ↦ go n (overlaps u v) refl (overlaps v w) refl
+    | inr n ↦
+        let z : v.number ≡ 0 = omega arith in
+        let a : u.number + v.number ≡ u.number = omega arith in
+        let b : v.number + w.number ≡ w.number = omega arith in
+        rw (overlaps_second_zero u v z, overlaps_first_zero v w z, a, b) refl
+  ]
+    where
+      go : 0 < v.number → (a : Bool) → overlaps u v ≡ a → (b : Bool) → overlaps v w ≡ b
+          → (a || overlaps (concatenated_end u v) w) ≡ (b || overlaps u (concatenated_end v w))
+      go n true e true f = refl
+      go n true e false f = sym (back_absorbed u v w q r n f ∙ e)
+      go n false e true f = front_absorbed u v w p q n e ∙ f
+      go n false e false f = front_absorbed u v w p q n e ∙ f ∙ sym (back_absorbed u v w q r n f ∙ e)
+
+  concatenated_end-assoc : concatenated_end (concatenated_end u v) w ≡ concatenated_end u (concatenated_end v w)
+  concatenated_end-assoc =
+      let n : u.number + v.number + w.number ≡ u.number + (v.number + w.number) = omega arith in
+      let hi : int_max (int_max u.hi v.hi) w.hi ≡ int_max u.hi (int_max v.hi w.hi) = omega (arith, ints, clamps) in
+      let lo : int_min (int_min u.lo v.lo) w.lo ≡ int_min u.lo (int_min v.lo w.lo) = omega (arith, ints, clamps) in
+      λ i. record { number = n i; hi = hi i; lo = lo i }
+
+  -- three values are joined alike from the front and from the back
+  pub concatenation_is_associative : ConcatenationIsAssociative u v w
+  concatenation_is_associative =
+      bound (overlaps u v) (λ x. concatenation x w) (concatenated_end u v)
+      ∙ both (overlaps u v) (overlaps (concatenated_end u v) w) (concatenated_end (concatenated_end u v) w)
+      ∙ (λ i. cond (overlaps_associative i) None (Some (concatenated_end-assoc i)))
+      ∙ sym (both (overlaps v w) (overlaps u (concatenated_end v w)) (concatenated_end u (concatenated_end v w)))
+      ∙ sym (bound (overlaps v w) (λ x. concatenation u x) (concatenated_end v w))
+    where
+      bound : (t : Bool) (f : Unsigned → Option Unsigned) (x : Unsigned)
+          → option_and_then f (cond t None (Some x)) ≡ cond t None (f x)
+      bound true f x = refl
+      bound false f x = refl
+
+      both : (s t : Bool) (x : Unsigned) → cond s None (cond t None (Some x)) ≡ cond (s || t) None (Some x)
+      both true t x = refl
+      both false t x = refl
+
+-- ---- the part at and above a position, and the part below it
+module _ (v t : Unsigned) (p : ℤ) (valid : IsValue v) (e : t.number ≡ v.number - v.number % weight p) where
+  high : place v.hi + 1 ≤ 65536
+  high = omega (arith, ints, place_is v.hi, valid.hi_in)
+
+  -- the two parts do not overlap
+  pub parts_join : overlaps t (with_max_position v p) ≡ false
+  parts_join = not_overlapping t (with_max_position v p) (λ some more.
+      let l = parts_apart v.number (place p) (place v.hi + 1) valid.below high (rw (← e) some) more in
+      rw e l)
+
+  -- together they have the number
+  pub parts_number : (concatenated_end t (with_max_position v p)).number ≡ v.number
+  parts_number = ap (λ n. n + v.number % weight p) e ∙ parts_sum v.number (place p) (place v.hi + 1) valid.below high
+
+  -- and their ranges, where the position lies in the range or at one of its ends
+  pub parts_value : t.hi ≡ int_max (int_max v.hi (p -ℤ pos 1)) (first t.number) → t.lo ≡ int_min p (pos 0)
+      → v.lo ≤ℤ p → p ≤ℤ (v.hi +ℤ pos 1)
+      → concatenated_end t (with_max_position v p) ≡ v
+  parts_value hi lo above below =
+      let f : first t.number ≤ℤ v.hi =
+      first_le t.number v.hi (omega (arith, valid.below, e)) valid.hi_in.0 valid.hi_in.1 in
+      let h : int_max t.hi (int_max (p -ℤ pos 1) (pos 0)) ≡ v.hi =
+      omega (arith, ints, clamps, hi, f, below, valid.hi_in) in
+      let l : int_min t.lo (int_min v.lo p) ≡ v.lo = omega (arith, ints, clamps, lo, above, valid.lo_in) in
+      λ i. record { number = parts_number i; hi = h i; lo = l i }

@@ -1,0 +1,216 @@
+-- Digits, zeros and then more digits.
+use Rattle.std.proofs.Common.{◌≡◌, ℕ, ◌+◌, ◌-◌, ◌*◌, ◌^◌, ◌<◌, ◌≤◌, zero, suc, true, false, List, [], ◌∷◌, ◌++◌, length, replicate, nat_lt, ◌&&◌, refl, sym, ◌∙◌, ap, arith, inl, inr}
+use Rattle.std.specs.Prelude.{ℤ, pos, negsuc, ◌+ℤ◌, ◌-ℤ◌, ◌≤ℤ◌, ◌<ℤ◌, int_le}
+use Rattle.std.specs.Int.{int_max, int_min}
+use Rattle.std.proofs.lemmas.Int.{ints, clamps}
+use Rattle.std.proofs.lemmas.Nat.{pow-add}
+use Rattle.std.proofs.lemmas.Bool.{cases_lt}
+use Rattle.std.proofs.lemmas.Bool.Decides.{nat_tests}
+use Rattle.std.proofs.lemmas.List.{length-append, length-replicate, get_or_append_left, get_or-append_right}
+use Rattle.std.specs.Int.Digits.{number_from_digits, AllBelowBase}
+use Rattle.decimal_digits.specs.Number.{place, first, last}
+use Rattle.decimal_digits.specs.Digits.{number_of, number_at}
+use Rattle.decimal_digits.proofs.DigitLists.{number-append, after_is}
+use Rattle.decimal_digits.proofs.Places.{place_is, gap_is}
+use Rattle.decimal_unsigned.specs.Fields.{IsStored}
+use Rattle.decimal_unsigned.specs.Unsigned.{Unsigned}
+use Rattle.decimal_unsigned.specs.Concatenation.{overlaps, concatenated_end, concatenated_size}
+use Rattle.decimal_unsigned.proofs.Values.{lowest, last-number_of, first_of, number_of-none}
+
+-- the same digits in a wider range
+pub wider : {ds : List ℕ} {m hi lo hi' lo' : ℤ} → IsStored ds m hi lo → hi ≤ℤ hi' → lo' ≤ℤ lo → hi' ≤ℤ pos 32767
+    → negsuc 32767 ≤ℤ lo'
+    → IsStored ds m hi' lo'
+wider {ds} {m} {hi} {lo} {hi'} {lo'} t up down high low = record {
+  digits = t.digits;
+  front = t.front;
+  back = t.back;
+  empty = t.empty;
+  hi_covers = omega (arith, ints, t.hi_covers);
+  lo_covers = omega (arith, ints, t.lo_covers);
+  fits = omega (arith, ints, t.fits, place_is lo, place_is lo');
+  hi_in = omega (arith, ints, t.hi_in);
+  lo_in = omega (arith, ints, t.lo_in);
+  in_range = (low, high);
+}
+
+-- digits in the range of another value, which has been widened to hold theirs
+pub taken : (v w : Unsigned) {ds es : List ℕ} {m hi lo n hi' lo' : ℤ} → IsStored ds m hi lo → IsStored es n hi' lo'
+    → record { number = number_of ds m; hi = hi; lo = lo } ≡ record v { hi = int_max v.hi w.hi; lo = int_min v.lo w.lo }
+    → record { number = number_of es n; hi = hi'; lo = lo' } ≡ w
+    → IsStored es n hi lo
+taken v w {hi = hi} {lo = lo} {hi' = hi'} {lo' = lo'} t u p q =
+    let up : hi ≡ int_max v.hi hi' = ap (λ (x : Unsigned). x.hi) p ∙ ap (λ (x : Unsigned). int_max v.hi x.hi) (sym q) in
+    let down : lo ≡ int_min v.lo lo' =
+    ap (λ (x : Unsigned). x.lo) p ∙ ap (λ (x : Unsigned). int_min v.lo x.lo) (sym q) in
+    wider u (omega (arith, ints, clamps, up)) (omega (arith, ints, clamps, down)) t.in_range.1 t.in_range.0
+
+number-zeros : (n : ℕ) → number_from_digits 10 (replicate n 0) ≡ 0
+number-zeros zero = refl
+number-zeros (suc n) =
+    let e : number_from_digits 10 (0 ∷ replicate n 0)
+    ≡ (0 * 10 + 0) * 10 ^ length (replicate n 0) + number_from_digits 10 (replicate n 0) =
+    after_is (0 * 10 + 0) (replicate n 0) in
+    e ∙ (rw (number-zeros n) (omega arith))
+
+below-zeros : (n : ℕ) → AllBelowBase 10 (replicate n 0)
+below-zeros zero = tt
+below-zeros (suc n) = (omega arith, below-zeros n)
+
+below-append : (xs ys : List ℕ) → AllBelowBase 10 xs → AllBelowBase 10 ys → AllBelowBase 10 (xs ++ ys)
+below-append [] ys h k = k
+below-append (x ∷ xs) ys h k = (h.0, below-append xs ys h.1 k)
+
+module _ (ds es : List ℕ) (zeros : ℕ) where
+  length-joined : length ((ds ++ replicate zeros 0) ++ es) ≡ length ds + zeros + length es
+  length-joined =
+      length-append (ds ++ replicate zeros 0) es
+      ∙ ap (λ n. n + length es)
+      (length-append ds (replicate zeros 0) ∙ ap (λ n. length ds + n) (length-replicate zeros 0))
+
+  -- the first digits count for as many more places as digits follow
+  number-joined : number_from_digits 10 ((ds ++ replicate zeros 0) ++ es)
+      ≡ number_from_digits 10 ds * 10 ^ (zeros + length es) + number_from_digits 10 es
+  number-joined =
+      let front : number_from_digits 10 (ds ++ replicate zeros 0) ≡ number_from_digits 10 ds * 10 ^ zeros =
+      number-append ds (replicate zeros 0)
+      ∙ (rw (number-zeros zeros, length-replicate {A = ℕ} zeros 0) (omega arith)) in
+      number-append (ds ++ replicate zeros 0) es ∙ (rw (front, pow-add 10 zeros (length es)) (omega arith))
+
+-- the second digits begin below the last of the first, with so many zeros between
+module _ {ds es : List ℕ} {m hi lo n hi' lo' : ℤ} (t : IsStored ds m hi lo) (u : IsStored es n hi' lo') (k : ℕ)
+    (some : 0 < length ds) (more : 0 < length es) (distance : m ≡ n +ℤ pos (length ds + k)) where
+  places : place m ≡ place n + (length ds + k)
+  places = omega (arith, ints, distance, place_is m, place_is n, lowest u)
+
+  stored : IsStored ((ds ++ replicate k 0) ++ es) m (int_max hi hi') (int_min lo lo')
+  stored = record {
+    digits = below-append (ds ++ replicate k 0) es (below-append ds (replicate k 0) t.digits (below-zeros k)) u.digits;
+    front = λ h.
+        let s : 0 < length (ds ++ replicate k 0) = omega (arith, some, length-append ds (replicate k 0)) in
+        rw (get_or_append_left (ds ++ replicate k 0) es 0 0 s, get_or_append_left ds (replicate k 0) 0 0 some)
+        (t.front some);
+    back = λ h.
+        let i : length ((ds ++ replicate k 0) ++ es) - 1 - length (ds ++ replicate k 0) ≡ length es - 1 =
+        omega (arith, more, length-append (ds ++ replicate k 0) es) in
+        let l : length (ds ++ replicate k 0) ≤ length ((ds ++ replicate k 0) ++ es) - 1 =
+        omega (arith, more, length-append (ds ++ replicate k 0) es) in
+        rw (get_or-append_right (ds ++ replicate k 0) es _ (length ((ds ++ replicate k 0) ++ es) - 1) 0 refl l, i)
+        (u.back more);
+    empty = λ z. absurd (omega (arith, length-joined ds es k));
+    hi_covers = omega (arith, ints, clamps, t.hi_covers);
+    lo_covers = omega (arith, ints, clamps, t.lo_covers);
+    fits =
+        omega (
+          arith,
+          ints,
+          clamps,
+          places,
+          u.fits,
+          length-joined ds es k,
+          place_is lo,
+          place_is lo',
+          place_is (int_min lo lo'),
+        );
+    hi_in = omega (arith, ints, clamps, t.hi_in);
+    lo_in = omega (arith, ints, clamps, t.lo_in);
+    in_range =
+        (omega (arith, ints, clamps, t.in_range, u.in_range), omega (arith, ints, clamps, t.in_range, u.in_range));
+  }
+
+  number_of-joined : number_of ((ds ++ replicate k 0) ++ es) m ≡ number_of ds m + number_of es n
+  unfolding number_of number_at
+  number_of-joined =
+      let e = place n + 1 - length es in
+      let a : place m + 1 - length ((ds ++ replicate k 0) ++ es) ≡ e = omega (arith, places, length-joined ds es k) in
+      let b : place m + 1 - length ds ≡ (k + length es) + e = omega (arith, places, u.fits) in
+      rw (a, number-joined ds es k, b, pow-add 10 (k + length es) e) (omega arith)
+
+some_digits : {ds : List ℕ} {m hi lo : ℤ} → IsStored ds m hi lo → 0 < number_of ds m → 0 < length ds
+some_digits {ds} t p = elim (cases_lt 0 (length ds)) [
+  | inl h ↦ h
+  | inr h ↦ absurd (omega (arith, number_of-none t (omega arith)))
+]
+
+-- two values that lie apart, with so many magnitudes between
+module _ {ds es : List ℕ} {m hi lo n hi' lo' : ℤ} {v w : Unsigned} (t : IsStored ds m hi lo) (u : IsStored es n hi' lo')
+    (p : record { number = number_of ds m; hi = hi; lo = lo } ≡ v)
+    (q : record { number = number_of es n; hi = hi'; lo = lo' } ≡ w) (k : ℕ) (first_counts : 0 < v.number)
+    (second_counts : 0 < w.number) (distance : last v.number ≡ first w.number +ℤ pos (k + 1)) where
+  some : 0 < length ds
+  some = some_digits t (rw (ap (λ (x : Unsigned). x.number) p) first_counts)
+
+  more : 0 < length es
+  more = some_digits u (rw (ap (λ (x : Unsigned). x.number) q) second_counts)
+
+  last_digit : last v.number ≡ m -ℤ pos (length ds - 1)
+  last_digit = sym (ap (λ (x : Unsigned). last x.number) p) ∙ last-number_of t some
+
+  between : m ≡ n +ℤ pos (length ds + k)
+  between =
+      let f : first w.number ≡ n = sym (ap (λ (x : Unsigned). first x.number) q) ∙ first_of u in
+      let l = last_digit in
+      let s = some in
+      omega (arith, ints, distance, f, l)
+
+  -- there are as many joined digits as digits with the zeros
+  pub append_size : concatenated_size v w ≡ length ds + k + length es
+  append_size =
+      let f : first v.number ≡ m = sym (ap (λ (x : Unsigned). first x.number) p) ∙ first_of t in
+      let l : last w.number ≡ n -ℤ pos (length es - 1) =
+      sym (ap (λ (x : Unsigned). last x.number) q) ∙ last-number_of u more in
+      let b = between in
+      let s = more in
+      omega (arith, ints, gap_is, f, l, b)
+
+  -- the joined digits, as a value holds them
+  pub append_stored : IsStored ((ds ++ replicate k 0) ++ es) m (int_max hi hi') (int_min lo lo')
+  append_stored = stored t u k some more between
+
+  -- they make the joined value
+  pub append_value :
+      record { number = number_of ((ds ++ replicate k 0) ++ es) m; hi = int_max hi hi'; lo = int_min lo lo' }
+      ≡ concatenated_end v w
+  append_value =
+      (λ i. record { number = number_of-joined t u k some more between i; hi = int_max hi hi'; lo = int_min lo lo' })
+      ∙ (λ i. concatenated_end (p i) (q i))
+
+-- ---- overlaps
+-- 0 overlaps nothing
+pub overlaps_first_zero : (v w : Unsigned) → v.number ≡ 0 → overlaps v w ≡ false
+unfolding overlaps
+overlaps_first_zero v w z = rw z refl
+
+-- nothing overlaps 0
+pub overlaps_second_zero : (v w : Unsigned) → w.number ≡ 0 → overlaps v w ≡ false
+unfolding overlaps
+overlaps_second_zero v w z =
+    rw z
+    (elim (nat_lt 0 v.number) as (λ b. (b && false && int_le (last v.number) (first 0)) ≡ false)
+    [ true ↦ refl | false ↦ refl ])
+
+-- two numbers other than 0 overlap by their digits alone
+pub overlaps_some : (v w : Unsigned) → 0 < v.number → 0 < w.number
+    → overlaps v w ≡ int_le (last v.number) (first w.number)
+unfolding overlaps
+overlaps_some v w p q =
+    let a : nat_lt 0 v.number ≡ true = grind (arith, nat_tests, p) in
+    let b : nat_lt 0 w.number ≡ true = grind (arith, nat_tests, q) in
+    rw (a, b) refl
+
+-- where two numbers do not overlap, the second begins below the end of the first
+pub disjoint : (v w : Unsigned) → 0 < v.number → 0 < w.number → overlaps v w ≡ false → first w.number <ℤ last v.number
+disjoint v w p q f =
+    let e : int_le (last v.number) (first w.number) ≡ false = sym (overlaps_some v w p q) ∙ f in
+    grind (arith, ints, e)
+
+-- and the other way round
+pub not_overlapping : (v w : Unsigned) → (0 < v.number → 0 < w.number → first w.number <ℤ last v.number)
+    → overlaps v w ≡ false
+not_overlapping v w h = elim (cases_lt 0 v.number) [
+  | inl p ↦ elim (cases_lt 0 w.number) [
+    | inl q ↦ let l = h p q in overlaps_some v w p q ∙ (grind (arith, ints, l))
+    | inr q ↦ overlaps_second_zero v w (omega arith)
+  ]
+  | inr p ↦ overlaps_first_zero v w (omega arith)
+]

@@ -1,0 +1,31 @@
+-- One number joined to the end of another.
+use Rattle.std.specs.Prelude.{◌≡◌, ℕ, ◌+◌, ◌<◌, nat_lt, Bool, false, ◌&&◌, int_le}
+use Rattle.std.specs.Int.{int_max, int_min, int_gap}
+use Rattle.decimal_digits.specs.Number.{first, last}
+use Rattle.decimal_unsigned.specs.Unsigned.{Unsigned}
+use Rattle.decimal_unsigned.specs.declared.error.ConcatenateError.{ConcatenateError}
+use Rattle.decimal_unsigned.specs.declared.error.ConcatenateError.TheVariants.{Overlap, Memory}
+
+-- neither number is 0, and the second begins at or above the last digit of the first that is not 0
+unfoldable pub overlaps : Unsigned → Unsigned → Bool
+overlaps v w = nat_lt 0 v.number && nat_lt 0 w.number && int_le (last v.number) (first w.number)
+
+-- the sum of the numbers, shown as far as either of them is
+abbrev pub concatenated_end : Unsigned → Unsigned → Unsigned
+concatenated_end v w = record { number = v.number + w.number; hi = int_max v.hi w.hi; lo = int_min v.lo w.lo }
+
+-- how many digits there are from the first of the one to the last of the other, zeros between them included
+abbrev pub concatenated_size : Unsigned → Unsigned → ℕ
+concatenated_size v w = int_gap (last w.number) (first v.number) + 1
+
+-- neither number is 0, the two do not overlap, and their joined digits are more than are held without memory
+pub record ConcatenationNeedsMemory (held : ℕ) (v w : Unsigned) : Type 0 where
+  pub first_counts : 0 < v.number
+  pub second_counts : 0 < w.number
+  pub disjoint : overlaps v w ≡ false
+  pub more : held < concatenated_size v w
+
+-- what a refusal hands back
+abbrev pub returned : {T : Type 0} → ConcatenateError T → T
+returned (Overlap x) = x
+returned (Memory x) = x
