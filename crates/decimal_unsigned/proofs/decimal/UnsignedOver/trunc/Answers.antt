@@ -27,7 +27,7 @@ returns g c =
       parts =
           subst (λ t. PartsJoin v c.args.position t (with_max_position v c.args.position)) value
           (parts v c.args.position rounds.valid);
-      again =
+      composes =
           subst (TruncationsCompose v c.args.position) value
           (truncations_compose v c.args.position (omega (arith, ints)) rounds.valid);
     }
