@@ -1,7 +1,7 @@
 -- What a rounding makes of a value.
 use Rattle.std.specs.Prelude.{◌≡◌, ℕ, Bool, nat_le, if◌then◌else◌, Option, Some, None, ℤ, pos, ◌-ℤ◌}
 use Rattle.std.specs.Int.{int_max, int_min}
-use Rattle.decimal_digits.specs.Number.{weight, first, size}
+use Rattle.decimal_digits.specs.Number.{number_limit, first, size}
 use Rattle.decimal_digits.specs.Rounding.{unit_at, Named, rounded_number, DigitRoundingNeedsMemory}
 use Rattle.decimal_digits.specs.declared.rounding.RoundError.{RoundError}
 use Rattle.decimal_digits.specs.declared.rounding.RoundError.TheVariants.{Limit, Memory}
@@ -11,7 +11,7 @@ use Rattle.decimal_unsigned.specs.Unsigned.{Unsigned, IsValue}
 
 -- the number is 10 to the 32768 or more
 abbrev pub reaches_limit : ℕ → Bool
-reaches_limit number = nat_le (weight (pos 32768)) number
+reaches_limit number = nat_le number_limit number
 
 -- a number in the place of the value's, shown from the highest of the old range, the magnitude just below the position
 -- and the first digit, down to the position

@@ -15,8 +15,7 @@ use Rattle.decimal_digits.specs.Text.{AppendsPrefix}
 use Rattle.decimal_unsigned.specs.Unsigned.{IsValue}
 use Rattle.decimal_unsigned.specs.Reading.{is_letter}
 use Rattle.decimal_unsigned.proofs.GrammarParts.{numeral_again}
-use Rattle.fixed_decimal.specs.Outcome.{and_then}
-use Rattle.fixed_decimal.specs.DecimalText.{decimal_text}
+use Rattle.fixed_decimal.specs.DecimalText.{decimal_text, and_then}
 use Rattle.fixed_decimal.specs.Compact.{Compact, exponent_text, compact_text, small_number_of, read_exponent, read_parts, read_compact, with_c}
 use Rattle.fixed_decimal.proofs.DecimalTexts.{read_decimal_text}
 use Rattle.fixed_decimal.proofs.DecimalBytes.{PassesNone, decimal_text-lacks, letter-none, c-none}

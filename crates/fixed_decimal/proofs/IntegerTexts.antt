@@ -6,9 +6,8 @@ use Rattle.decimal_unsigned.specs.Grammar.{Written}
 use Rattle.decimal_unsigned.specs.Reading.{value_of}
 use Rattle.decimal_unsigned.proofs.ParserAnswers.{read_grammar}
 use Rattle.fixed_decimal.specs.declared.variations.Sign.{Sign}
-use Rattle.fixed_decimal.specs.Outcome.{and_then}
 use Rattle.fixed_decimal.specs.Decimal.{Decimal}
-use Rattle.fixed_decimal.specs.DecimalText.{decimal_text, Grammar, behind_sign, with_sign, read_decimal}
+use Rattle.fixed_decimal.specs.DecimalText.{decimal_text, Grammar, behind_sign, with_sign, read_decimal, and_then}
 use Rattle.fixed_decimal.specs.Integer.{integer_or_limit, read_integer, ReadsInteger}
 use Rattle.fixed_decimal.proofs.DecimalTexts.{decimal_syntax, grammar_splits, read_decimal_text}
 

@@ -21,7 +21,8 @@ use Rattle.decimal_unsigned.proofs.EditLaws.{below_limit}
 use Rattle.decimal_unsigned.proofs.Roundings.{trunc_makes}
 use Rattle.decimal_unsigned.proofs.RoundingLaws.{truncations_compose, expansions_compose}
 use Rattle.fixed_decimal.specs.Decimal.{Decimal, with_absolute}
-use Rattle.fixed_decimal.specs.Outcome.{limit_exceeded, and_then, or_limit_exceeded, after_calls}
+use Rattle.fixed_decimal.specs.Outcome.{limit_exceeded, or_limit_exceeded, after_calls}
+use Rattle.fixed_decimal.specs.DecimalText.{and_then}
 use Rattle.fixed_decimal.proofs.SignedRoundings.{trunc_is_some}
 use Rattle.fixed_decimal.specs.RunLaws.{rounding_at, IsPosition, ComesToNumber, RoundsOnce, NeverExceedsLimit}
 

@@ -10,7 +10,8 @@ use Rattle.decimal_unsigned.specs.declared.error.ParseError.TheVariants as parse
 use Rattle.fixed_decimal.specs.declared.runs.Call.{Call}
 use Rattle.fixed_decimal.specs.declared.runs.RunError.{RunError}
 use Rattle.fixed_decimal.specs.declared.runs.RunError.TheVariants.{Start, Operand, Overlap, Limit, Memory, Sink}
-use Rattle.fixed_decimal.specs.Outcome.{Refusal, and_then, step, after_calls}
+use Rattle.fixed_decimal.specs.Outcome.{Refusal, step, after_calls}
+use Rattle.fixed_decimal.specs.DecimalText.{and_then}
 use Rattle.fixed_decimal.specs.Errors.{Comes}
 use Rattle.fixed_decimal.specs.Calls.{CallRefuses, CallsRefuse}
 

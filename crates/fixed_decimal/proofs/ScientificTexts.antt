@@ -2,8 +2,7 @@
 use Rattle.std.proofs.Common.{◌≡◌, refl, ◌∙◌, ap, Ok}
 use Rattle.std.specs.Prelude.{pos}
 use Rattle.decimal_unsigned.specs.Unsigned.{IsValue}
-use Rattle.fixed_decimal.specs.Outcome.{and_then}
-use Rattle.fixed_decimal.specs.DecimalText.{decimal_text}
+use Rattle.fixed_decimal.specs.DecimalText.{decimal_text, and_then}
 use Rattle.fixed_decimal.specs.Scientific.{Scientific, scientific_text, read_parts, read_scientific}
 use Rattle.fixed_decimal.proofs.DecimalTexts.{read_decimal_text}
 use Rattle.fixed_decimal.proofs.DecimalBytes.{decimal_text-lacks, letter-none}

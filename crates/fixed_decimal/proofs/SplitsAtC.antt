@@ -5,7 +5,7 @@ use Rattle.std.specs.List.{list_any, before_first, after_first}
 use Rattle.decimal_unsigned.specs.Reading.{syntax, is_letter}
 use Rattle.fixed_decimal.specs.Letters.{is_small_e, is_capital_e, is_c}
 use Rattle.fixed_decimal.specs.Split.{IsFirstSplit}
-use Rattle.fixed_decimal.specs.Outcome.{and_then}
+use Rattle.fixed_decimal.specs.DecimalText.{and_then}
 use Rattle.fixed_decimal.specs.Compact.{split_at_c, read_parts, read_compact, IsSplitAtC, ReadsCompact}
 use Rattle.fixed_decimal.proofs.Splitting.{front-at, behind-at, any-at, front-none}
 use Rattle.fixed_decimal.proofs.SplitsAtE.{lacks_e, lacks_letter}

@@ -7,7 +7,7 @@ use Rattle.std.proofs.lemmas.List.Folds.{list_any-append}
 use Rattle.decimal_unsigned.specs.Reading.{syntax, is_letter}
 use Rattle.fixed_decimal.specs.Letters.{is_small_e, is_capital_e}
 use Rattle.fixed_decimal.specs.Split.{IsFirstSplit}
-use Rattle.fixed_decimal.specs.Outcome.{and_then}
+use Rattle.fixed_decimal.specs.DecimalText.{and_then}
 use Rattle.fixed_decimal.specs.Scientific.{split_at_e, read_parts, read_scientific, IsSplitAtE, ReadsScientific}
 use Rattle.fixed_decimal.proofs.Splitting.{or-left, or-right, front-at, behind-at, count-none, count-some, count-at, first-split}
 

@@ -4,9 +4,8 @@ use Rattle.decimal_unsigned.specs.Grammar.{Written}
 use Rattle.decimal_unsigned.specs.Reading.{ReadingFault, syntax, limit, value_of}
 use Rattle.decimal_unsigned.specs.declared.error.LimitError.{LimitError}
 use Rattle.fixed_decimal.specs.declared.variations.Sign.{Sign}
-use Rattle.fixed_decimal.specs.Outcome.{and_then}
 use Rattle.fixed_decimal.specs.Decimal.{Decimal}
-use Rattle.fixed_decimal.specs.DecimalText.{Grammar, read_decimal, with_sign}
+use Rattle.fixed_decimal.specs.DecimalText.{Grammar, read_decimal, with_sign, and_then}
 
 -- a decimal that shows a digit behind the dot is beyond the limits of an integer
 abbrev pub integer_or_limit : Decimal → Result Decimal ReadingFault

@@ -7,7 +7,7 @@ use Rattle.decimal_unsigned.specs.Concatenation.{overlaps, concatenated_end}
 use Rattle.decimal_unsigned.specs.Reading.{ReadingFault, read}
 use Rattle.fixed_decimal.specs.Decimal.{Decimal, with_sign_display, with_absolute}
 use Rattle.fixed_decimal.specs.SignedRounding.{rounded}
-use Rattle.fixed_decimal.specs.DecimalText.{decimal_text, read_decimal}
+use Rattle.fixed_decimal.specs.DecimalText.{decimal_text, read_decimal, and_then}
 use Rattle.fixed_decimal.specs.declared.runs.Call.{Call}
 use Rattle.fixed_decimal.specs.declared.runs.Call.TheVariants.{MultiplyPow10, TrimStart, TrimEnd, TrimEndIfInteger}
 use Rattle.fixed_decimal.specs.declared.runs.Call.TheVariants.{PadStart, PadEnd, SetMaxPosition, Round}
@@ -20,11 +20,6 @@ pub data Refusal : Type 0 where
   operand : ℕ → ReadingFault → Refusal
   overlap : ℕ → Refusal
   limit_exceeded : ℕ → Refusal
-
--- goes on with what came out, or stays at the refusal
-abbrev pub and_then : {A B E : Type 0} → Result A E → (A → Result B E) → Result B E
-and_then (Ok x) next = next x
-and_then (Err refusal) next = Err refusal
 
 -- ---- One call.
 

@@ -3,10 +3,9 @@ use Rattle.std.specs.Prelude.{◌≡◌, ℕ, ◌==◌, ◌⊎◌, ◌||◌, not
 use Rattle.std.specs.Prelude.{Result, Ok, Err}
 use Rattle.std.specs.List.{list_any, before_first, after_first}
 use Rattle.decimal_unsigned.specs.Reading.{ReadingFault, syntax, is_letter}
-use Rattle.fixed_decimal.specs.Outcome.{and_then}
 use Rattle.fixed_decimal.specs.Letters.{is_small_e, is_capital_e}
 use Rattle.fixed_decimal.specs.Decimal.{Decimal}
-use Rattle.fixed_decimal.specs.DecimalText.{decimal_text, read_decimal, IsLong}
+use Rattle.fixed_decimal.specs.DecimalText.{decimal_text, read_decimal, IsLong, and_then}
 use Rattle.fixed_decimal.specs.Integer.{read_integer}
 
 -- the significand, and the exponent, which is an integer

@@ -45,7 +45,7 @@ fn small_number(text: &[u8]) -> Result<u8, ParseError>
 {
     match text {
         [] | [b'0', ..] => Err(ParseError::Syntax),
-        _ => match numeral(text) {
+        _ => match numeral(text, 256) {
             None => Err(ParseError::Syntax),
             Some(number) if number > 255 => Err(ParseError::Limit),
             Some(number) => Ok(number as u8),

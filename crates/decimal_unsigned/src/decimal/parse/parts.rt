@@ -71,13 +71,13 @@ fn split_digits(text: &[u8]) -> (&[u8], &[u8])
     text.split_at(digit_count(text))
 }
 
-/// Gives the number that a text of digits writes, or 70,000 where it is greater.
+/// Gives the number that a text of digits writes, or `most` where it is greater.
 ///
-/// `0012` gives 12, and `123456` gives 70000, which is no magnitude either. None: the text is empty, or has a byte that
-/// is no digit. Not in the original.
+/// With 255, `0012` gives 12, and `123456` gives 255. None: the text is empty, or has a byte that is no digit. Not in
+/// the original.
 #[tactic(auto, unfolding(crate::specs::Reading::numeral_of))]
-pub fn numeral(text: &[u8]) -> Option<u32>
-    ensures { result ≡ option_map (min 70000) (read.numeral_of text.now) }
+pub fn numeral(text: &[u8], most: u32) -> Option<u32>
+    ensures { result ≡ option_map (min most) (read.numeral_of text.now) }
 {
     if text.is_empty() {
         return None;
@@ -87,7 +87,10 @@ pub fn numeral(text: &[u8]) -> Option<u32>
         if !byte.is_ascii_digit() {
             return None;
         }
-        value = (10 * value + u32::from(*byte - b'0')).min(70_000);
+        value = value
+            .saturating_mul(10)
+            .saturating_add(u32::from(*byte - b'0'))
+            .min(most);
     }
     Some(value)
 }
@@ -95,7 +98,7 @@ pub fn numeral(text: &[u8]) -> Option<u32>
 fn unsigned(text: &[u8]) -> Option<i32>
     ensures { result ≡ option_map saturated (option_map pos (read.numeral_of text.now)) }
 {
-    Some(numeral(text)? as i32)
+    Some(numeral(text, 70_000)? as i32)
 }
 
 #[tactic(auto, unfolding(crate::specs::Reading::exponent_of))]
@@ -103,7 +106,7 @@ fn exponent(text: &[u8]) -> Option<i32>
     ensures { result ≡ option_map saturated (read.exponent_of text.now) }
 {
     match text {
-        [b'-', rest @ ..] => Some(-(numeral(rest)? as i32)),
+        [b'-', rest @ ..] => Some(-(numeral(rest, 70_000)? as i32)),
         [b'+', rest @ ..] => unsigned(rest),
         _ => unsigned(text),
     }

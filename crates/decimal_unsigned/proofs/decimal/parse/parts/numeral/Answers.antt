@@ -1,4 +1,4 @@
-use Rattle.std.proofs.Common.{◌≡◌, sym, ◌∙◌, refl, get_or, true}
+use Rattle.std.proofs.Common.{◌≡◌, sym, ◌∙◌, refl, get_or, true, arith}
 use Rattle.std.specs.Char.{is_ascii_digit}
 use Rattle.decimal_unsigned.proofs.Numerals.{numeral_more, digits_step}
 use Rattle.decimal_unsigned.proofs.decimal.parse.parts.numeral.Goals as goal
@@ -11,6 +11,8 @@ loop-byte-preserved c =
     record {
       value =
           c.min-value.ensures
-          ∙ (rw c.from.ensures (numeral_more _ _ _ c.loop-byte-test.true d c.loop-byte.invariant.value));
+          ∙ (rw (c.saturating_add.ensures, c.saturating_mul.ensures, c.from.ensures)
+          (numeral_more _ _ _ c.args.most _ c.loop-byte-test.true (omega (arith, c.ranges.most)) d
+          c.loop-byte.invariant.value));
       digits = c.loop-byte.invariant.digits ∙ s ∙ (rw d refl);
     }
