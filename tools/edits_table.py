@@ -161,7 +161,7 @@ class Sources:
             here = (it for it in self.functions(crate) if it.file == path and it.first <= number <= it.last)
             return next(here, None)
         parts = path.split("/")
-        if len(parts) < 4:
+        if len(parts) < 3:
             return None
         named = [it for it in self.functions(crate) if it.name == parts[-2].lstrip("+")]
         exact = [it for it in named if parts[-3] in it.folders()]
