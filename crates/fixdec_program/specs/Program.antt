@@ -88,9 +88,8 @@ abbrev pub ArgumentsPrint : {O : Type 0} → (O → Option (List ℕ)) → Argum
 ArgumentsPrint contents (Ok arguments) old (Some new) = Prints (words_of arguments) (contents old) (contents new)
 ArgumentsPrint contents _ old _ = ⊥
 
--- the fault is that of reading the arguments, and the writer is given back; or, where these could be had and no
--- writer is
--- given back, want of memory for the list of words or for the buffer; or that of the words
+-- the fault is that of reading the arguments, and the writer is given back; or, where these could be had and no writer
+-- is given back, want of memory for the list of words or for the buffer; or that of the words
 abbrev pub ArgumentsTell : {O : Type 0} → Arguments → Option O → Fault → Type 0
 ArgumentsTell (Err error) None fault = ⊥
 ArgumentsTell (Err error) (Some writer) fault = IsFaultOfArguments error fault
