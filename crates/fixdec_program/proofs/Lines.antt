@@ -17,8 +17,8 @@ pub line_taken :
     → OnErr r (AppendsPrefix old new line)
     → OnErr r (failed ≡ true)
     → TakesLine old new failed line
-line_taken (Ok x) old new failed line all begun failed = ((line, [], append-nil line, all), λ works. all)
-line_taken (Err e) old new failed line all begun failed = (begun, λ works. absurd (false≢true (sym works ∙ fails)))
+line_taken (Ok x) old new failed line all begun fault = ((line, [], append-nil line, all), λ works. all)
+line_taken (Err e) old new failed line all begun fault = (begun, λ works. absurd (false≢true (sym works ∙ fault)))
 
 -- all that is left is handed to the writer
 all_left : (t : ℕ) (bytes : List ℕ) → take (length bytes - t) (drop t bytes) ≡ drop t bytes
