@@ -129,7 +129,11 @@ fn length(number: usize) -> usize {
 }
 
 /// Whether each text of so many digits between two others is read, copied and printed.
-fn reads_lengths<T: Value>(alloc: Global, front: &str, back: &str) -> Result<bool, Fail> {
+fn reads_lengths<T: Value>(
+    alloc: Global,
+    front: &'static str,
+    back: &'static str,
+) -> Result<bool, Fail> {
     for number in 1..249 {
         let text = long(alloc, &[(front, 1), ("7", length(number)), (back, 1)])?;
         if !reads::<T>(alloc, text.as_str()) {
