@@ -1,0 +1,132 @@
+//! Values of each type that are read, made of integers, and copied.
+use crate::outcome::Outcome;
+use decimal_testing::shows;
+use fixed_decimal::{
+    CompactDecimal, Decimal, DigitStore, FixedInteger, ParseError, ScientificDecimal, Signed,
+    UnsignedDecimal, UnsignedOver, Writeable,
+};
+use std::alloc::{AllocError, Global};
+
+/// A type of values that are read and copied.
+trait Value: Writeable + Drop {
+    /// The value that a text writes.
+    fn read(alloc: Global, text: &str) -> Result<Self, ParseError>;
+
+    /// A second value.
+    fn copy(&self) -> Result<Self, AllocError>;
+}
+
+impl<D: DigitStore> Value for UnsignedOver<D> {
+    fn read(alloc: Global, text: &str) -> Result<Self, ParseError> {
+        Self::try_from_str(alloc, text)
+    }
+
+    fn copy(&self) -> Result<Self, AllocError> {
+        self.clone()
+    }
+}
+
+impl<D: DigitStore> Value for Signed<UnsignedOver<D>> {
+    fn read(alloc: Global, text: &str) -> Result<Self, ParseError> {
+        Self::try_from_str(alloc, text)
+    }
+
+    fn copy(&self) -> Result<Self, AllocError> {
+        self.clone()
+    }
+}
+
+impl Value for FixedInteger {
+    fn read(alloc: Global, text: &str) -> Result<Self, ParseError> {
+        Self::try_from_str(alloc, text)
+    }
+
+    fn copy(&self) -> Result<Self, AllocError> {
+        self.clone()
+    }
+}
+
+impl Value for ScientificDecimal {
+    fn read(alloc: Global, text: &str) -> Result<Self, ParseError> {
+        Self::try_from_str(alloc, text)
+    }
+
+    fn copy(&self) -> Result<Self, AllocError> {
+        self.clone()
+    }
+}
+
+impl Value for CompactDecimal {
+    fn read(alloc: Global, text: &str) -> Result<Self, ParseError> {
+        Self::try_from_str(alloc, text)
+    }
+
+    fn copy(&self) -> Result<Self, AllocError> {
+        self.clone()
+    }
+}
+
+/// How the copy of a value goes.
+fn copied<T: Value>(value: &T, text: &str) -> Outcome {
+    match value.copy() {
+        Ok(copy) => Outcome::first(shows(&copy, text.as_bytes())),
+        Err(AllocError) => {
+            Outcome::second(shows(value, text.as_bytes()) && is_made(value.copy(), text))
+        }
+    }
+}
+
+/// Whether a value was made and has a text.
+fn is_made<T: Value>(answer: Result<T, AllocError>, text: &str) -> bool {
+    match answer {
+        Ok(value) => shows(&value, text.as_bytes()),
+        Err(AllocError) => false,
+    }
+}
+
+/// How it goes where a text was read, and its value copied.
+fn read_and_copied<T: Value>(answer: Result<T, ParseError>, text: &str) -> Outcome {
+    match answer {
+        Ok(value) => Outcome::first(shows(&value, text.as_bytes())).and(copied(&value, text)),
+        Err(_) => Outcome::Wrong,
+    }
+}
+
+/// How the reading of a text goes, and the copy of its value.
+fn read<T: Value>(alloc: Global, text: &str) -> Outcome {
+    match T::read(alloc, text) {
+        Err(ParseError::Memory) => Outcome::Again.and(read_and_copied(T::read(alloc, text), text)),
+        answer => read_and_copied(answer, text),
+    }
+}
+
+/// How the making of an integer's decimal goes.
+fn decimal_of(alloc: Global, integer: i128, text: &str) -> Outcome {
+    match Decimal::try_from_i128(alloc, integer) {
+        Err(AllocError) => Outcome::second(is_made(Decimal::try_from_i128(alloc, integer), text)),
+        answer => Outcome::first(is_made(answer, text)),
+    }
+}
+
+/// How the making of an integer's fixed integer goes.
+fn integer_of(alloc: Global, integer: u128, text: &str) -> Outcome {
+    match FixedInteger::try_from_u128(alloc, integer) {
+        Err(AllocError) => {
+            Outcome::second(is_made(FixedInteger::try_from_u128(alloc, integer), text))
+        }
+        answer => Outcome::first(is_made(answer, text)),
+    }
+}
+
+/// How the making of all values goes.
+pub fn outcome(alloc: Global) -> Outcome {
+    read::<UnsignedDecimal>(alloc, "00123456789012345678.90")
+        .and(read::<Decimal>(alloc, "-123456789012345678.90"))
+        .and(read::<FixedInteger>(alloc, "-0012345678901234567890"))
+        .and(read::<CompactDecimal>(alloc, "+12345678901234567890.5c12"))
+        .and(read::<ScientificDecimal>(alloc, "12345678901234567890e-12345678901234567891"))
+        .and(read::<ScientificDecimal>(alloc, "1e12345678901234567890"))
+        .and(read::<ScientificDecimal>(alloc, "12345678901234567890e1"))
+        .and(decimal_of(alloc, i128::MIN, "-170141183460469231731687303715884105728"))
+        .and(integer_of(alloc, u128::MAX, "340282366920938463463374607431768211455"))
+}
