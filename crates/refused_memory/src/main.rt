@@ -1,5 +1,5 @@
-//! Every kind of call that asks for memory. Where it is refused once, the call has to leave all as it was, and to succeed
-//! when it is made again.
+//! Every kind of call that asks for memory. Where it is refused once, the call has to leave all as it was, and to
+//! succeed when it is made again.
 //!
 //! It prints `right` where nothing was refused, `right when asked again` where something was and all went as it has to,
 //! and else `wrong`. `tests/refused_allocations.sh` refuses each request in turn, over the real allocator.

@@ -42,8 +42,8 @@ fn takes(alloc: Global) -> bool {
     put_pieces(&mut sink) == TIMES && !sink.failed() && has_taken(&sink, TIMES)
 }
 
-/// The outcome of a sink that takes pieces. Where a growth is refused, it has failed, takes nothing more, and keeps what
-/// it took; another sink then takes all.
+/// The outcome of a sink that takes pieces. Where a growth is refused, it has failed, takes nothing more, and keeps
+/// what it took; another sink then takes all.
 pub fn outcome(alloc: Global) -> Outcome {
     let mut sink = TextBuf::new(alloc);
     let taken = put_pieces(&mut sink);
