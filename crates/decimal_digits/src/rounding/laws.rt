@@ -1,5 +1,5 @@
 //! Laws of what is derived for the modes and the increment. Nothing calls these functions; their clauses are the laws.
-ghost use Rattle.std.specs.Prelude.{◌≡◌, Some};
+ghost use Rattle.std.specs.Prelude.{◌≡◌};
 ghost use Rattle.std.specs.Ordering.{nat_cmp};
 ghost use Rattle.decimal_digits.specs.Orders.{unsigned_rank, signed_rank};
 
