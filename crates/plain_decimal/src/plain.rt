@@ -257,7 +257,7 @@ impl Plain {
     /// Tells whether neither number is 0 and the other one begins at or above the last digit of this one.
     ///
     /// So it is with `120` and `25`.
-    #[tactic(auto, unfolding(decimal_unsigned::specs::Joining::overlaps))]
+    #[tactic(auto, unfolding(decimal_unsigned::specs::Concatenation::overlaps))]
     pub fn overlaps(&self, other: &Plain) -> bool
         ensures { result ≡ overlaps self.now other.now }
     {
