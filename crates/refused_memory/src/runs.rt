@@ -1,6 +1,6 @@
 //! Whole runs: the start, the operands and the calls ask for memory.
 use crate::outcome::Outcome;
-use decimal_testing::Narrow;
+use decimal_testing::LimitedSink;
 use fixed_decimal::RoundingIncrement::MultiplesOf25;
 use fixed_decimal::SignedRoundingMode::Unsigned;
 use fixed_decimal::UnsignedRoundingMode::Trunc;
@@ -45,13 +45,13 @@ fn wants_memory(error: &RunError) -> bool {
 
 /// Whether a run writes its text.
 fn writes(alloc: Global, (start, calls, text): Run) -> bool {
-    let mut sink = Narrow::new(text.as_bytes(), usize::MAX);
+    let mut sink = LimitedSink::new(text.as_bytes(), usize::MAX);
     run(alloc, start.as_bytes(), calls, &mut sink).is_ok() && sink.has_all()
 }
 
 /// The outcome of a run. A refused one has to write nothing.
 fn of_run(alloc: Global, (start, calls, text): Run) -> Outcome {
-    let mut sink = Narrow::new(text.as_bytes(), usize::MAX);
+    let mut sink = LimitedSink::new(text.as_bytes(), usize::MAX);
     match run(alloc, start.as_bytes(), calls, &mut sink) {
         Ok(()) => Outcome::first(sink.has_all()),
         Err(error) => {
