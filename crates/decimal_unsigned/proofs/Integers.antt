@@ -1,6 +1,7 @@
 -- Digits whose last stands at magnitude 0, without their zeros at the end.
-use Rattle.std.proofs.Common.{◌≡◌, ℕ, zero, suc, ◌-◌, ◌*◌, ◌^◌, ◌<◌, ◌≤◌, List, length, get_or, take, drop, refl, sym, ◌∙◌, ap, arith, inl, inr}
-use Rattle.std.specs.Prelude.{All, ℤ, pos}
+use Rattle.std.proofs.Common.{◌≡◌, ℕ, zero, suc, ◌+◌, ◌-◌, ◌*◌, ◌^◌, ◌<◌, ◌≤◌, List, length, get_or, take, drop, refl, sym, ◌∙◌, ap, subst, arith, inl, inr}
+use Rattle.std.specs.Prelude.{All, Result, Ok, Err, IfOk, ℤ, pos, ◌≤ℤ◌}
+use Rattle.std.proofs.Math.Nat.{mul-le-mul_right}
 use Rattle.std.proofs.lemmas.Int.{ints}
 use Rattle.std.proofs.lemmas.Nat.{pow-add}
 use Rattle.std.proofs.lemmas.Bool.{cases_lt}
@@ -14,8 +15,9 @@ use Rattle.decimal_digits.proofs.Places.{place_is, magnitude_at-place}
 use Rattle.decimal_digits.proofs.DigitLists.{ten_pos, below_take}
 use Rattle.decimal_digits.proofs.Ends.{first_is}
 use Rattle.decimal_unsigned.specs.Fields.{IsStored}
-use Rattle.decimal_unsigned.specs.Unsigned.{integer_value, one_value}
+use Rattle.decimal_unsigned.specs.Unsigned.{Unsigned, integer_value, one_value}
 use Rattle.decimal_unsigned.specs.Placing.{middle, IsInner}
+use Rattle.decimal_unsigned.proofs.FirstLast.{first_le}
 use Rattle.decimal_unsigned.proofs.Middle.{number_of-middle}
 use Rattle.decimal_unsigned.proofs.Values.{first_of, number_of-none, size-number_of}
 
@@ -117,6 +119,31 @@ digits_of-below n = All-from_recursion (λ d. d < 10) (digits_of 10 n) (all_belo
 pub digits_of-front : (n : ℕ) → 0 < length (digits_of 10 n) → 0 < get_or (digits_of 10 n) 0 0
 digits_of-front zero h = absurd (omega arith)
 digits_of-front (suc n) h = first_digits_of 10 (suc n) (omega arith) (omega arith)
+
+-- ---- where the value of an integer is shown
+-- an integer of at most d + 1 digits is shown from the magnitude d down, or from a lower one
+shown_from : (n d : ℕ) → n < 10 ^ (d + 1) → d < 32768 → (integer_value n).hi ≤ℤ pos d
+shown_from n d few small =
+    let k : place (pos d) + 1 ≡ (d + 1) + place (pos 0) = omega (arith, ints, place_is (pos d), place_is (pos 0)) in
+    let split : 10 ^ (place (pos d) + 1) ≡ 10 ^ (d + 1) * weight (pos 0) =
+    ap (λ i. 10 ^ i) k ∙ pow-add 10 (d + 1) (place (pos 0)) in
+    let more : (n + 1) * weight (pos 0) ≤ 10 ^ (d + 1) * weight (pos 0) =
+    mul-le-mul_right (weight (pos 0)) (let m : n + 1 ≤ 10 ^ (d + 1) = omega (arith, few) in m) in
+    first_le (n * weight (pos 0)) (pos d) (omega (arith, more, split, ten_pos (place (pos 0)))) (omega (arith, ints))
+    (omega (arith, ints))
+
+-- its value is shown from there to magnitude 0
+pub shown_at_most : {v : Unsigned} (n d : ℕ) → n < 10 ^ (d + 1) → d < 32768 → v ≡ integer_value n
+    → (v.hi ≤ℤ pos d) × (v.lo ≡ pos 0)
+shown_at_most n d few small e =
+    subst (λ (w : Unsigned). (w.hi ≤ℤ pos d) × (w.lo ≡ pos 0)) (sym e) (shown_from n d few small, refl)
+
+-- and so is one that an answer holds
+pub answer_at_most : {E : Type 0} (answer : Result Unsigned E) (n d : ℕ) → n < 10 ^ (d + 1) → d < 32768
+    → IfOk answer (λ v. v ≡ integer_value n)
+    → IfOk answer (λ v. (v.hi ≤ℤ pos d) × (v.lo ≡ pos 0))
+answer_at_most (Ok v) n d few small e = shown_at_most n d few small e
+answer_at_most (Err x) n d few small e = tt
 
 -- ---- the number 1
 first_power : (k : ℕ) → k < 65536 → first (10 ^ k) ≡ magnitude_at k

@@ -23,4 +23,5 @@ pub mod ParserAnswers
 pub mod ReadBack
 pub mod Roundings
 pub mod RoundingLaws
+pub mod NeverRefused
 pub mod Pieces

@@ -1,5 +1,5 @@
 -- What the calls that change a value make of it.
-use Rattle.std.specs.Prelude.{ℕ, suc, ◌*◌, ◌/◌, ◌%◌, ◌^◌, Bool, ◌||◌, if◌then◌else◌, Option, Some, None, ℤ, pos, negsuc, ◌+ℤ◌, ◌-ℤ◌, int_lt}
+use Rattle.std.specs.Prelude.{ℕ, suc, ◌*◌, ◌/◌, ◌%◌, ◌^◌, Bool, ◌||◌, if◌then◌else◌, Option, Some, None, ℤ, pos, negsuc, ◌+ℤ◌, ◌-ℤ◌, ◌≤ℤ◌, int_lt}
 use Rattle.std.specs.Int.{int_max, int_min}
 use Rattle.decimal_digits.specs.Number.{weight, first, last}
 use Rattle.decimal_unsigned.specs.Unsigned.{Unsigned}
@@ -7,6 +7,10 @@ use Rattle.decimal_unsigned.specs.Unsigned.{Unsigned}
 -- the shown range, moved by d, would leave the magnitudes -32768 to 32767
 abbrev pub leaves_limits : Unsigned → ℤ → Bool
 leaves_limits v d = int_lt (pos 32767) (v.hi +ℤ d) || int_lt (v.lo +ℤ d) (negsuc 32767)
+
+-- the shown range, moved by d, stays in them
+abbrev pub StaysInLimits : Unsigned → ℤ → Type 0
+StaysInLimits v d = ((v.hi +ℤ d) ≤ℤ pos 32767) × (negsuc 32767 ≤ℤ (v.lo +ℤ d))
 
 -- the number times 10 to the power d
 abbrev pub times_power : ℕ → ℤ → ℕ

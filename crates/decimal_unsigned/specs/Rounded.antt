@@ -1,11 +1,12 @@
 -- What a rounding makes of a value.
-use Rattle.std.specs.Prelude.{◌≡◌, ℕ, Bool, nat_le, if◌then◌else◌, Option, Some, None, ℤ, pos, ◌-ℤ◌}
+use Rattle.std.specs.Prelude.{◌≡◌, ℕ, ◌<◌, Bool, nat_le, if◌then◌else◌, Option, Some, None, ℤ, pos, ◌-ℤ◌, ◌<ℤ◌}
 use Rattle.std.specs.Int.{int_max, int_min}
 use Rattle.decimal_digits.specs.Number.{number_limit, first, size}
 use Rattle.decimal_digits.specs.Rounding.{unit_at, Named, rounded_number, DigitRoundingNeedsMemory}
 use Rattle.decimal_digits.specs.declared.rounding.RoundError.{RoundError}
 use Rattle.decimal_digits.specs.declared.rounding.RoundError.TheVariants.{Limit, Memory}
 use Rattle.decimal_digits.specs.declared.rounding.RoundingIncrement.{RoundingIncrement}
+use Rattle.decimal_digits.specs.declared.rounding.RoundingIncrement.TheVariants.{MultiplesOf25}
 use Rattle.decimal_digits.specs.declared.rounding.UnsignedRoundingMode.{UnsignedRoundingMode}
 use Rattle.decimal_unsigned.specs.Unsigned.{Unsigned, IsValue}
 
@@ -56,3 +57,14 @@ abbrev pub RoundingRefuses :
     ℕ → RoundError → Unsigned → ℤ → UnsignedRoundingMode → RoundingIncrement → Type 0
 RoundingRefuses held Limit old position mode increment = IsRounded old position mode increment None
 RoundingRefuses held Memory old position mode increment = RoundingNeedsMemory held old position mode increment
+
+-- no rounding reaches the limit: the value shows no digit at the highest magnitude, and 25 at the position is below the
+-- limit
+abbrev pub HasRoom : Unsigned → ℤ → RoundingIncrement → Type 0
+HasRoom v position MultiplesOf25 = (v.hi <ℤ pos 32767) × (position <ℤ pos 32767)
+HasRoom v position increment = v.hi <ℤ pos 32767
+
+-- no rounding wants memory: by 25, one digit more is held without it
+abbrev pub HoldsOneMore : ℕ → Unsigned → RoundingIncrement → Type 0
+HoldsOneMore held v MultiplesOf25 = size v.number < held
+HoldsOneMore held v increment = Unit {0}

@@ -1,6 +1,6 @@
 //! Joining one number to the end of another.
 ghost use Rattle.std.specs.Int.{int_max, int_min};
-ghost use Rattle.std.specs.Prelude.{◌≡◌, ◌<◌, ◌≤◌, ◌<ℤ◌, ◌+ℤ◌, pos, ◌+◌, ◌↔◌, IsTrue, IsFalse, Ok, Err, IsOk, IfOk, IfErr, OnOk, OnErr};
+ghost use Rattle.std.specs.Prelude.{◌≡◌, ◌≢◌, ◌<◌, ◌≤◌, ◌<ℤ◌, ◌+ℤ◌, pos, ◌+◌, ◌↔◌, IsTrue, IsFalse, Ok, Err, IsOk, IfOk, IfErr, OnOk, OnErr};
 ghost use Rattle.decimal_digits.specs.Number.{first, last};
 ghost use Rattle.decimal_unsigned.specs.Concatenation.{overlaps, concatenated_end, concatenated_size, ConcatenationNeedsMemory, returned};
 ghost use Rattle.decimal_unsigned.specs.ConcatenationLaws.{ConcatenationIsAssociative};
@@ -31,6 +31,11 @@ impl<D: DigitStore> UnsignedOver<D> {
             → ConcatenationNeedsMemory D.L self.old other }
         ensures succeeds { IsFalse (overlaps self.old other)
             → ¬ ConcatenationNeedsMemory D.L self.old other → IsOk result }
+        // Numbers of which the second begins below the last digit of the first are joined, or want memory.
+        ensures apart { first other.number <ℤ last self.old.number
+            → result ≢ Err (ConcatenateError.Overlap other) }
+        ensures fits { first other.number <ℤ last self.old.number
+            → concatenated_size self.old other ≤ D.L → IsOk result }
         ensures err { OnErr result (self.new ≡ self.old) }
         ensures returned { IfErr result (λ e. returned e ≡ other) }
         // Three values can be joined from the front exactly where they can be from the back, and give the same.
@@ -66,6 +71,9 @@ impl<D: DigitStore> UnsignedOver<D> {
             → ConcatenationNeedsMemory D.L self other }
         ensures succeeds { IsFalse (overlaps self other)
             → ¬ ConcatenationNeedsMemory D.L self other → IsOk result }
+        ensures apart { first other.number <ℤ last self.number
+            → result ≢ Err (ConcatenateError.Overlap (self, other)) }
+        ensures fits { first other.number <ℤ last self.number → concatenated_size self other ≤ D.L → IsOk result }
         ensures returned { IfErr result (λ e. returned e ≡ (self, other)) }
     {
         match self.concatenate_end(other) {

@@ -1,8 +1,8 @@
 //! Shifts, and edits of the range that is shown.
-ghost use Rattle.std.specs.Prelude.{◌≡◌, ℕ, ◌<◌, ◌≤◌, length, drop, slice_index, pos, ◌+ℤ◌, Some, None, IfOk, IfErr, OnOk, OnErr};
+ghost use Rattle.std.specs.Prelude.{◌≡◌, ℕ, ◌<◌, ◌≤◌, length, drop, slice_index, pos, ◌+ℤ◌, Some, None, IsOk, IfOk, IfErr, OnOk, OnErr, ◌↔◌};
 ghost use Rattle.std.specs.Int.{int_gap};
 ghost use Rattle.decimal_unsigned.specs.Unsigned.{Unsigned, IsLeastHi, IsGreatestLo};
-ghost use Rattle.decimal_unsigned.specs.Edits.{multiplied_pow10, trimmed_start, trimmed_end, trimmed_end_if_integer, padded_start, padded_end, with_max_position};
+ghost use Rattle.decimal_unsigned.specs.Edits.{multiplied, multiplied_pow10, StaysInLimits, trimmed_start, trimmed_end, trimmed_end_if_integer, padded_start, padded_end, with_max_position};
 ghost use Rattle.decimal_unsigned.specs.EditLaws.{TrimmedIsNormalForm, IsShortest, trunced, PartsJoin};
 
 use super::UnsignedOver;
@@ -23,6 +23,8 @@ impl<D: DigitStore> UnsignedOver<D> {
         ensures ok { OnOk result (multiplied_pow10 self.old delta ≡ Some self.new) }
         ensures limit { OnErr result (multiplied_pow10 self.old delta ≡ None) }
         ensures err { OnErr result (self.new ≡ self.old) }
+        ensures fits { IsOk result ↔ StaysInLimits self.old delta }
+        ensures moved { OnOk result (self.new ≡ multiplied self.old delta) }
     {
         let hi = sum(self.hi, delta);
         let lo = sum(self.lo, delta);
@@ -142,6 +144,8 @@ impl<D: DigitStore> UnsignedOver<D> {
         ensures ok { IfOk result (λ v. multiplied_pow10 self delta ≡ Some v) }
         ensures limit { OnErr result (multiplied_pow10 self delta ≡ None) }
         ensures err { IfErr result (λ v. v ≡ self) }
+        ensures fits { IsOk result ↔ StaysInLimits self delta }
+        ensures moved { IfOk result (λ v. v ≡ multiplied self delta) }
     {
         match self.multiply_pow10(delta) {
             Ok(()) => Ok(self),

@@ -1,5 +1,5 @@
 //! Values of integers.
-ghost use Rattle.std.specs.Prelude.{◌≡◌, ℕ, ◌-◌, ◌^◌, ◌<◌, ◌≤◌, length, drop, slice_index, All, IsOk, IfOk};
+ghost use Rattle.std.specs.Prelude.{◌≡◌, ℕ, ◌-◌, ◌^◌, ◌<◌, ◌≤◌, length, drop, slice_index, All, IsOk, IfOk, pos, ◌≤ℤ◌};
 ghost use Rattle.std.specs.Int.Digits.{digits_of, number_from_digits};
 ghost use Rattle.decimal_digits.specs.Number.{size};
 ghost use Rattle.decimal_unsigned.specs.Unsigned.{integer_value, one_value};
@@ -50,65 +50,71 @@ impl<D: DigitStore> UnsignedOver<D> {
 
     /// Makes the value of a `u8`, and asks for no memory.
     ///
-    /// 200 prints `200`. In the place of the original's `From<u8>`.
+    /// 200 prints `200`, and shows magnitudes up to 2 at most. In the place of the original's `From<u8>`.
     pub fn from_u8(alloc: Global, integer: u8) -> Self
-        ensures { result ≡ integer_value integer }
+        ensures value { result ≡ integer_value integer }
+        ensures range { (result.hi ≤ℤ pos 2) × (result.lo ≡ pos 0) }
     {
         Self::from_u16(alloc, integer as u16)
     }
 
     /// Makes the value of a `u16`, and asks for no memory.
     ///
-    /// 65535 prints `65535`. In the place of the original's `From<u16>`.
+    /// 65535 prints `65535`, and shows magnitudes up to 4 at most. In the place of the original's `From<u16>`.
     pub fn from_u16(alloc: Global, integer: u16) -> Self
-        ensures { result ≡ integer_value integer }
+        ensures value { result ≡ integer_value integer }
+        ensures range { (result.hi ≤ℤ pos 4) × (result.lo ≡ pos 0) }
     {
         Self::from_integer(alloc, integer).unwrap()
     }
 
-    /// Makes the value of a `u32`: 250 prints `250`.
+    /// Makes the value of a `u32`, which shows magnitudes up to 9 at most: 250 prints `250`.
     ///
     /// Err: memory for more than `L` digits was refused; the zeros at the end of the integer are not counted. In the
     /// place of the original's `From<u32>`.
     #[inline]
     pub fn try_from_u32(alloc: Global, integer: u32) -> Result<Self, AllocError>
         ensures value { IfOk result (λ v. v ≡ integer_value integer) }
+        ensures range { IfOk result (λ v. (v.hi ≤ℤ pos 9) × (v.lo ≡ pos 0)) }
         ensures succeeds { size (integer_value integer).number ≤ D.L → IsOk result }
     {
         Self::from_integer::<u32>(alloc, integer)
     }
 
-    /// Makes the value of a `u64`: 250 prints `250`.
+    /// Makes the value of a `u64`, which shows magnitudes up to 19 at most: 250 prints `250`.
     ///
     /// Err: memory for more than `L` digits was refused; the zeros at the end of the integer are not counted. In the
     /// place of the original's `From<u64>`.
     #[inline]
     pub fn try_from_u64(alloc: Global, integer: u64) -> Result<Self, AllocError>
         ensures value { IfOk result (λ v. v ≡ integer_value integer) }
+        ensures range { IfOk result (λ v. (v.hi ≤ℤ pos 19) × (v.lo ≡ pos 0)) }
         ensures succeeds { size (integer_value integer).number ≤ D.L → IsOk result }
     {
         Self::from_integer::<u64>(alloc, integer)
     }
 
-    /// Makes the value of a `u128`: 250 prints `250`.
+    /// Makes the value of a `u128`, which shows magnitudes up to 38 at most: 250 prints `250`.
     ///
     /// Err: memory for more than `L` digits was refused; the zeros at the end of the integer are not counted. In the
     /// place of the original's `From<u128>`.
     #[inline]
     pub fn try_from_u128(alloc: Global, integer: u128) -> Result<Self, AllocError>
         ensures value { IfOk result (λ v. v ≡ integer_value integer) }
+        ensures range { IfOk result (λ v. (v.hi ≤ℤ pos 38) × (v.lo ≡ pos 0)) }
         ensures succeeds { size (integer_value integer).number ≤ D.L → IsOk result }
     {
         Self::from_integer::<u128>(alloc, integer)
     }
 
-    /// Makes the value of a `usize`: 250 prints `250`.
+    /// Makes the value of a `usize`, which shows magnitudes up to 19 at most: 250 prints `250`.
     ///
     /// Err: memory for more than `L` digits was refused; the zeros at the end of the integer are not counted. In the
     /// place of the original's `From<usize>`.
     #[inline]
     pub fn try_from_usize(alloc: Global, integer: usize) -> Result<Self, AllocError>
         ensures value { IfOk result (λ v. v ≡ integer_value integer) }
+        ensures range { IfOk result (λ v. (v.hi ≤ℤ pos 19) × (v.lo ≡ pos 0)) }
         ensures succeeds { size (integer_value integer).number ≤ D.L → IsOk result }
     {
         Self::from_integer::<usize>(alloc, integer)

@@ -1,10 +1,10 @@
 //! Rounding at a position.
-ghost use Rattle.std.specs.Prelude.{◌≡◌, ◌≢◌, ◌+◌, ◌≤◌, pos, ◌-ℤ◌, ◌≤ℤ◌, Some, None, IsErrOf, IfOk, IfErr, OnOk, OnErr};
+ghost use Rattle.std.specs.Prelude.{◌≡◌, ◌≢◌, ◌+◌, ◌≤◌, pos, ◌-ℤ◌, ◌≤ℤ◌, Some, None, ◌<ℤ◌, IsErrOf, IsOk, IfOk, IfErr, OnOk, OnErr};
 ghost use Rattle.std.specs.Int.{int_max};
 ghost use Rattle.decimal_digits.specs.Number.{size};
 ghost use Rattle.decimal_unsigned.specs.Unsigned.{Unsigned};
 ghost use Rattle.decimal_unsigned.specs.Edits.{with_max_position};
-ghost use Rattle.decimal_unsigned.specs.Rounded.{IsRounded, rounded, RoundingRefuses};
+ghost use Rattle.decimal_unsigned.specs.Rounded.{IsRounded, rounded, RoundingRefuses, HasRoom, HoldsOneMore};
 ghost use Rattle.decimal_unsigned.specs.EditLaws.{PartsJoin, TruncationsCompose, ExpansionsCompose, RoundingIsMonotone};
 
 use super::UnsignedOver;
@@ -35,9 +35,10 @@ impl<D: DigitStore> UnsignedOver<D> {
     /// digit, whichever is highest. `9.75` at -1, half-even by 5, becomes `10.0`, and `99.999` at 4, half-expand,
     /// becomes `0000`, for 0 is nearer.
     ///
-    /// Limit: the multiple is 10 to the 32768 or more, as that of 7 times 10 to the 32767 is at 32767, expand by 5.
-    /// Memory: memory was refused for one digit more, which only `MultiplesOf25` may need, and only where the multiple
-    /// is below that limit and the number has at least `L` digits. After either the value is as it was, range included.
+    /// Limit: the multiple is 10 to the 32768 or more, as that of 7 times 10 to the 32767 is at 32767, expand by 5. No
+    /// value that shows no digit at 32767 meets it, but for one by 25 at 32767. Memory: memory was refused for one
+    /// digit more, which only `MultiplesOf25` may need, and only where the multiple is below that limit and the number
+    /// has at least `L` digits. After either the value is as it was, range included.
     ///
     /// Each read and each write of a digit is a turn. A rounding takes at most seven, and one for each digit that
     /// vanishes; one that is refused with Limit takes at most seven, and one for each digit. Not in the original, which
@@ -55,6 +56,9 @@ impl<D: DigitStore> UnsignedOver<D> {
         ensures err { OnErr result (self.new ≡ self.old) }
         ensures refused { IfErr result (λ e. RoundingRefuses D.L e self.old position mode increment) }
         ensures succeeds { increment ≢ RoundingIncrement.MultiplesOf25 → IsErrOf result RoundError.Memory → ⊥ }
+        // Below the highest magnitude there is room for each multiple, but not for 25 times 10 to the 32767.
+        ensures room { HasRoom self.old position increment → IsErrOf result RoundError.Limit → ⊥ }
+        ensures fits { HasRoom self.old position increment → HoldsOneMore D.L self.old increment → IsOk result }
 
         // The same rounding once more changes nothing, range included.
         ensures idempotent { OnOk result (rounded self.new position mode increment ≡ Some self.new) }
@@ -91,14 +95,18 @@ impl<D: DigitStore> UnsignedOver<D> {
         ensures err { OnErr result (self.new ≡ self.old) }
         ensures refused { IfErr result (λ e. RoundingRefuses D.L e self.old position mode increment) }
         ensures succeeds { increment ≢ RoundingIncrement.MultiplesOf25 → IsErrOf result RoundError.Memory → ⊥ }
+        // Below the highest magnitude there is room for each multiple, but not for 25 times 10 to the 32767.
+        ensures room { HasRoom self.old position increment → IsErrOf result RoundError.Limit → ⊥ }
+        ensures fits { HasRoom self.old position increment → HoldsOneMore D.L self.old increment → IsOk result }
     {
         self.round_counted(position, mode, increment, &mut Steps::new())
     }
 
     /// Rounds at a position to a multiple of its power of ten.
     ///
-    /// `2.51` at 0, half-trunc, becomes `3`. Err: the multiple is 10 to the 32768 or more; the value then stays as it
-    /// was, range included. The original's `round_with_mode`, which puts 0 then.
+    /// `2.51` at 0, half-trunc, becomes `3`. Err: the multiple is 10 to the 32768 or more, which it is of no value that
+    /// shows no digit at 32767; the value then stays as it was, range included. The original's `round_with_mode`, which
+    /// puts 0 then.
     pub fn round_with_mode(
         &mut self,
         position: i16,
@@ -107,6 +115,8 @@ impl<D: DigitStore> UnsignedOver<D> {
         ensures rounds { OnOk result (IsRounded self.old position mode RoundingIncrement.MultiplesOf1 (Some self.new)) }
         ensures limit { OnErr result (IsRounded self.old position mode RoundingIncrement.MultiplesOf1 None) }
         ensures err { OnErr result (self.new ≡ self.old) }
+        // Below the highest magnitude there is room for each multiple.
+        ensures fits { self.old.hi <ℤ pos 32767 → IsOk result }
     {
         self.round_with_mode_and_increment(position, mode, RoundingIncrement::MultiplesOf1)
             .map_err(|_| LimitError)
@@ -114,28 +124,32 @@ impl<D: DigitStore> UnsignedOver<D> {
 
     /// Rounds half-even at a position.
     ///
-    /// `1.5` at 0 becomes `2`, and so does `2.5`. Err: the multiple is 10 to the 32768 or more; the value then stays as
-    /// it was, range included. The original's `round`, which puts 0 then.
+    /// `1.5` at 0 becomes `2`, and so does `2.5`. Err: as for `round_with_mode`; the value then stays as it was, range
+    /// included. The original's `round`, which puts 0 then.
     pub fn round(&mut self, position: i16) -> Result<(), LimitError>
         ensures rounds { OnOk result (IsRounded self.old position UnsignedRoundingMode.HalfEven
             RoundingIncrement.MultiplesOf1 (Some self.new)) }
         ensures limit { OnErr result (IsRounded self.old position UnsignedRoundingMode.HalfEven
             RoundingIncrement.MultiplesOf1 None) }
         ensures err { OnErr result (self.new ≡ self.old) }
+        // Below the highest magnitude there is room for each multiple.
+        ensures fits { self.old.hi <ℤ pos 32767 → IsOk result }
     {
         self.round_with_mode(position, UnsignedRoundingMode::HalfEven)
     }
 
     /// Rounds away from zero at a position.
     ///
-    /// `99.999` at 4 becomes `10000`. Err: the multiple is 10 to the 32768 or more; the value then stays as it was,
-    /// range included. The original's `expand`, which puts 0 then.
+    /// `99.999` at 4 becomes `10000`. Err: as for `round_with_mode`; the value then stays as it was, range included.
+    /// The original's `expand`, which puts 0 then.
     pub fn expand(&mut self, position: i16) -> Result<(), LimitError>
         ensures rounds { OnOk result (IsRounded self.old position UnsignedRoundingMode.Expand
             RoundingIncrement.MultiplesOf1 (Some self.new)) }
         ensures limit { OnErr result (IsRounded self.old position UnsignedRoundingMode.Expand
             RoundingIncrement.MultiplesOf1 None) }
         ensures err { OnErr result (self.new ≡ self.old) }
+        // Below the highest magnitude there is room for each multiple.
+        ensures fits { self.old.hi <ℤ pos 32767 → IsOk result }
         // Expanded once more, it has the number that the old value gets at the higher position, or is refused where
         // that one is.
         ensures composes { ExpansionsCompose self.old position }
@@ -175,6 +189,8 @@ impl<D: DigitStore> UnsignedOver<D> {
         ensures refused { IfErr result (λ e. RoundingRefuses D.L e.1 self position mode increment) }
         ensures succeeds { increment ≢ RoundingIncrement.MultiplesOf25
             → IfErr result (λ e. e.1 ≡ RoundError.Memory → ⊥) }
+        ensures room { HasRoom self position increment → IfErr result (λ e. e.1 ≡ RoundError.Limit → ⊥) }
+        ensures fits { HasRoom self position increment → HoldsOneMore D.L self increment → IsOk result }
     {
         match self.round_with_mode_and_increment(position, mode, increment) {
             Ok(()) => Ok(self),
@@ -194,6 +210,7 @@ impl<D: DigitStore> UnsignedOver<D> {
         ensures rounds { IfOk result (λ v. IsRounded self position mode RoundingIncrement.MultiplesOf1 (Some v)) }
         ensures limit { OnErr result (IsRounded self position mode RoundingIncrement.MultiplesOf1 None) }
         ensures err { IfErr result (λ v. v ≡ self) }
+        ensures fits { self.hi <ℤ pos 32767 → IsOk result }
     {
         match self.round_with_mode(position, mode) {
             Ok(()) => Ok(self),
@@ -211,6 +228,7 @@ impl<D: DigitStore> UnsignedOver<D> {
         ensures limit { OnErr result (IsRounded self position UnsignedRoundingMode.HalfEven
             RoundingIncrement.MultiplesOf1 None) }
         ensures err { IfErr result (λ v. v ≡ self) }
+        ensures fits { self.hi <ℤ pos 32767 → IsOk result }
     {
         self.rounded_with_mode(position, UnsignedRoundingMode::HalfEven)
     }
@@ -225,6 +243,7 @@ impl<D: DigitStore> UnsignedOver<D> {
         ensures limit { OnErr result (IsRounded self position UnsignedRoundingMode.Expand
             RoundingIncrement.MultiplesOf1 None) }
         ensures err { IfErr result (λ v. v ≡ self) }
+        ensures fits { self.hi <ℤ pos 32767 → IsOk result }
     {
         self.rounded_with_mode(position, UnsignedRoundingMode::Expand)
     }

@@ -11,5 +11,6 @@ returns g c =
       rounds = ensures.rounds;
       limit = ensures.limit;
       err = ensures.err;
+      fits = ensures.fits;
       composes = expansions_compose c.args.self.now c.args.position (omega (arith, ints));
     }

@@ -1,13 +1,13 @@
 use Rattle.std.proofs.Common.{◌≡◌, w16, pos, ◌+ℤ◌, ◌≤ℤ◌, to_z, of_z, refl, sym, ◌∙◌, ap, arith}
 use Rattle.std.proofs.lemmas.Int.{ints}
 use Rattle.decimal_unsigned.specs.Unsigned.{Unsigned}
-use Rattle.decimal_unsigned.specs.Edits.{multiplied_pow10}
+use Rattle.decimal_unsigned.specs.Edits.{multiplied, multiplied_pow10}
 use Rattle.std.proofs.Common.{inl, inr}
 use Rattle.std.specs.Prelude.{negsuc}
 use Rattle.std.specs.Int.{int_max, int_min}
 use Rattle.std.proofs.lemmas.Int.{to_z-of_z}
 use Rattle.decimal_unsigned.proofs.Values.{hi_kept, lo_kept, magnitude_kept, narrow_kept, wide_kept}
-use Rattle.decimal_unsigned.proofs.Shifts.{Moves, moved, multiplied_pow10_is, multiplied_pow10_over}
+use Rattle.decimal_unsigned.proofs.Shifts.{Moves, moved, multiplied_is, multiplied_pow10_is, multiplied_pow10_over}
 use Rattle.decimal_unsigned.proofs.decimal.UnsignedOver.multiply_pow10.Goals as goal
 use Rattle.decimal_unsigned.proofs.decimal.UnsignedOver.multiply_pow10.Goals.{then-hi-gt32767-via-then-hi-gt32767, then-hi-gt32767-via-else-hi-gt32767+then-lo-ltminus32768, then-len-eq0, else-len-eq0}
 
@@ -20,6 +20,20 @@ returns-then-hi-gt32767-clause-limit g c =
       | then-hi-gt32767-via-else-hi-gt32767+then-lo-ltminus32768 w ↦
           inr (omega (arith, ints, t.in_range, t.lo_in, w.if-lo-ltminus32768.true))
     ])
+
+pub returns-then-hi-gt32767-clause-fits : goal.returns-then-hi-gt32767-clause-fits
+returns-then-hi-gt32767-clause-fits g c =
+    let t = c.self.invariant in
+    let hi = ap (λ (v : Unsigned). v.hi) c.self.view_is in
+    let lo = ap (λ (v : Unsigned). v.lo) c.self.view_is in (
+      λ ok. absurd (cc),
+      λ stays. elim c.then-hi-gt32767.branch [
+        | then-hi-gt32767-via-then-hi-gt32767 w ↦
+            absurd (omega (arith, ints, t.in_range, t.hi_in, w.if-hi-gt32767.true, hi, stays))
+        | then-hi-gt32767-via-else-hi-gt32767+then-lo-ltminus32768 w ↦
+            absurd (omega (arith, ints, t.in_range, t.lo_in, w.if-lo-ltminus32768.true, lo, stays))
+      ],
+    )
 
 moves : (g : _) (c : goal.After-self-3-1 g)
     → Moves (g.D.DigitStore.digits c.self.inside.digits) c.self.inside.magnitude c.self.inside.hi c.self.inside.lo
@@ -69,3 +83,15 @@ pub returns-clause-ok : goal.returns-clause-ok
 returns-clause-ok g c =
     ap (λ (v : Unsigned). multiplied_pow10 v c.args.delta) (sym c.self.view_is)
     ∙ multiplied_pow10_is c.args.delta c.self.invariant (moves g c)
+
+pub returns-clause-fits : goal.returns-clause-fits
+returns-clause-fits g c =
+    let hi = ap (λ (v : Unsigned). v.hi) c.self.view_is in
+    let lo = ap (λ (v : Unsigned). v.lo) c.self.view_is in
+    let m = moves g c in
+    (λ ok. (omega (arith, ints, hi, m.hi_fits), omega (arith, ints, lo, m.lo_fits)), λ stays. refl)
+
+pub returns-clause-moved : goal.returns-clause-moved
+returns-clause-moved g c =
+    multiplied_is c.args.delta c.self.invariant (moves g c)
+    ∙ ap (λ (v : Unsigned). multiplied v c.args.delta) c.self.view_is

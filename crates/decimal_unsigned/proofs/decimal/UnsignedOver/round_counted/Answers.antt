@@ -15,6 +15,7 @@ use Rattle.decimal_unsigned.proofs.Values.{size-number_of, narrow_kept, magnitud
 use Rattle.decimal_unsigned.proofs.Roundings.{stored_left, rounded_left, number_again, size_again}
 use Rattle.decimal_unsigned.proofs.Shown.{value_of_view}
 use Rattle.decimal_unsigned.proofs.RoundingLaws.{is_rounded, refuses, rounding_is_idempotent}
+use Rattle.decimal_unsigned.proofs.NeverRefused.{not_limited, not_refused}
 use Rattle.decimal_unsigned.proofs.decimal.UnsignedOver.round_counted.Goals as goal
 
 -- the digits that the rounding left
@@ -101,6 +102,18 @@ returns-in_err-first-clause-refused g c =
     (length (g.D.DigitStore.digits c.new-counted.result.list.now)) m g.D.DigitStore.L)
     (λ i. rounded_number c.args.mode (unit_at c.args.increment (p i)) (n i))
     c.in_err-first.ensures.refused)))
+
+pub returns-in_err-first-clause-room : goal.returns-in_err-first-clause-room
+returns-in_err-first-clause-room g c =
+    let p = c.ranges.position in
+    not_limited g.D.DigitStore.L c.args.self.now c.args.position c.args.mode c.args.increment (omega (arith, ints))
+    (omega (arith, ints)) c.from_residual.result (returns-in_err-first-clause-refused g c)
+
+pub returns-in_err-first-clause-fits : goal.returns-in_err-first-clause-fits
+returns-in_err-first-clause-fits g c =
+    let p = c.ranges.position in
+    not_refused g.D.DigitStore.L c.args.self.now c.args.position c.args.mode c.args.increment (omega (arith, ints))
+    (omega (arith, ints)) c.from_residual.result (returns-in_err-first-clause-refused g c)
 
 pub returns-in_err-first-clause-limit_turns : goal.returns-in_err-first-clause-limit_turns
 returns-in_err-first-clause-limit_turns g c h =
