@@ -74,7 +74,8 @@ read_some text v h =
     let w = parts_some (parts_of text) v h in
     ap value_or_syntax w.1 ∙ sym (value_saturated w.0) ∙ ap value_of w.2
 
-append_digits : (a b : List ℕ) → AllDigits 10 a → AllDigits 10 b → AllDigits 10 (a ++ b)
+-- digits behind digits are digits
+pub append_digits : (a b : List ℕ) → AllDigits 10 a → AllDigits 10 b → AllDigits 10 (a ++ b)
 append_digits [] b h k = k
 append_digits (c ∷ a) b h k = (h.0, append_digits a b h.1 k)
 

@@ -20,6 +20,7 @@ pub mod Integers
 pub mod Plans
 pub mod Exponents
 pub mod ParserAnswers
+pub mod FewDigits
 pub mod ReadBack
 pub mod Roundings
 pub mod RoundingLaws

@@ -110,14 +110,16 @@ long_fraction w h =
 
 module _ (w : Written) (digits : AllDigits 10 (w.whole ++ w.fraction)) (few : length w.whole ≤ 32768)
     (short : length w.fraction ≤ 32768) where
-  all_digits : AllBelowBase 10 (digits_of w)
+  -- they are digits
+  pub all_digits : AllBelowBase 10 (digits_of w)
   all_digits = all_below_base_from_digits 10 (w.whole ++ w.fraction) digits
 
   -- how many digits there are on both sides of the dot
   pub length_digits : length (digits_of w) ≡ length w.whole + length w.fraction
   length_digits = length-map (w.whole ++ w.fraction) digit_value ∙ length-append w.whole w.fraction
 
-  value_scaled : value_of w ≡ scaled (mantissa w.whole w.fraction) w.exponent
+  -- the value is that of the digits, times the power of ten
+  pub value_scaled : value_of w ≡ scaled (mantissa w.whole w.fraction) w.exponent
   unfolding value_of
   value_scaled =
       let a : nat_lt 32768 (length w.whole) ≡ false = grind (arith, nat_tests, few) in

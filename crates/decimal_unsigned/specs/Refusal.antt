@@ -1,5 +1,5 @@
 -- How a parser answers a text: its value, or why the text is refused.
-use Rattle.std.specs.Prelude.{◌≡◌, Result, Ok, Err, List, ℕ, IfOk, IsOkAnd, ◌↔◌}
+use Rattle.std.specs.Prelude.{◌≡◌, Result, Ok, Err, None, List, length, ℕ, ◌+◌, ◌≤◌, IfOk, IsOkAnd, ◌↔◌}
 use Rattle.decimal_unsigned.specs.declared.error.ParseError.{ParseError}
 use Rattle.decimal_unsigned.specs.declared.error.ParseError.TheVariants.{Limit, Syntax, Memory}
 use Rattle.decimal_unsigned.specs.Unsigned.{Unsigned}
@@ -24,3 +24,11 @@ pub record AnswersGrammar (text : List ℕ) (answer : Result Unsigned ParseError
   pub syntax : (answer ≡ Err Syntax) ↔ ((w : Written) → ¬ Grammar text w)
   pub limit : (answer ≡ Err Limit) ↔ ((w : Written) × Grammar text w × (value_of w ≡ Err limit))
   pub found : IfOk answer (λ v. (w : Written) × Grammar text w × (value_of w ≡ Ok v))
+
+-- parts without an exponent, and with at most 32768 digits on each side of the dot
+abbrev pub IsPlain : Written → Type 0
+IsPlain w = (w.exponent ≡ None) × (length w.whole ≤ 32768) × (length w.fraction ≤ 32768)
+
+-- how many digits stand in front of an exponent
+abbrev pub digit_count : Written → ℕ
+digit_count w = length w.whole + length w.fraction

@@ -1,9 +1,10 @@
 //! Reading a value from a text: every fault is decided before memory is asked for.
-ghost use Rattle.std.specs.Prelude.{◌≡◌, ℕ, ◌+◌, ◌-◌, ◌<◌, ◌≤◌, ◌++◌, List, length, IfOk, IfErr, Ok, IsOk, IsOkAnd};
+ghost use Rattle.std.specs.Prelude.{◌≡◌, ◌≢◌, ℕ, ◌+◌, ◌-◌, ◌<◌, ◌≤◌, ◌++◌, List, length, IfOk, IfErr, Ok, Err, IsOk, IsOkAnd};
 ghost use Rattle.std.specs.Str.Parse.{AllDigits};
 ghost use Rattle.decimal_digits.specs.Number.{size};
+ghost use Rattle.decimal_unsigned.specs.Grammar.{Written, Grammar};
 ghost use Rattle.decimal_unsigned.specs.Reading.{read, FollowsGrammar};
-ghost use Rattle.decimal_unsigned.specs.Refusal.{ParseRefuses, Answers, AnswersGrammar};
+ghost use Rattle.decimal_unsigned.specs.Refusal.{ParseRefuses, Answers, AnswersGrammar, IsPlain, digit_count};
 ghost use Rattle.decimal_unsigned.specs.Parts.{view};
 ghost use Rattle.decimal_unsigned.specs.Placing.{middle, digits_of};
 
@@ -143,6 +144,9 @@ impl<D: DigitStore> UnsignedOver<D> {
         ensures answers { Answers (λ v. D.L < size v.number) result (read text.now) }
         // Syntax, Limit and the value are those of the grammar.
         ensures grammar { AnswersGrammar text.now result }
+        // Without an exponent only the number of digits meets the limit, and few digits want no memory.
+        ensures plain { (w : Written) → Grammar text.now w → IsPlain w → result ≢ Err ParseError.Limit }
+        ensures few { (w : Written) → Grammar text.now w → digit_count w ≤ D.L → result ≢ Err ParseError.Memory }
     {
         Self::read_from(alloc, text)
     }
@@ -151,6 +155,8 @@ impl<D: DigitStore> UnsignedOver<D> {
     pub fn try_from_str(alloc: Global, text: &str) -> Result<Self, ParseError>
         ensures answers { Answers (λ v. D.L < size v.number) result (read text.now) }
         ensures grammar { AnswersGrammar text.now result }
+        ensures plain { (w : Written) → Grammar text.now w → IsPlain w → result ≢ Err ParseError.Limit }
+        ensures few { (w : Written) → Grammar text.now w → digit_count w ≤ D.L → result ≢ Err ParseError.Memory }
     {
         Self::try_from_utf8(alloc, text.as_bytes())
     }

@@ -3,3 +3,9 @@ use Rattle.decimal_unsigned.proofs.decimal.UnsignedOver.try_from_str.Goals as go
 
 pub returns-clause-grammar : goal.returns-clause-grammar
 returns-clause-grammar g c = rw (sym c.as_bytes.ensures.value) c.try_from_utf8.ensures.grammar
+
+pub returns-clause-plain : goal.returns-clause-plain
+returns-clause-plain g c = rw (sym c.as_bytes.ensures.value) c.try_from_utf8.ensures.plain
+
+pub returns-clause-few : goal.returns-clause-few
+returns-clause-few g c = rw (sym c.as_bytes.ensures.value) c.try_from_utf8.ensures.few

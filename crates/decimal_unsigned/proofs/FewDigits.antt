@@ -1,0 +1,180 @@
+-- How many digits the value of a text has, and where a text has one.
+use Rattle.std.proofs.Common.{◌≡◌, ℕ, suc, ◌+◌, ◌-◌, ◌*◌, ◌/◌, ◌%◌, ◌^◌, ◌<◌, ◌≤◌, ◌==◌, nat_lt, Bool, true, false, ◌||◌, List, ◌++◌, length, refl, sym, ◌∙◌, ap, subst, arith, rules, inl, inr}
+use Rattle.std.specs.Prelude.{Result, Ok, Err, IsOkAnd, IsErrOf, Option, Some, None, ℤ, pos, negsuc, ◌+ℤ◌, ◌-ℤ◌, ◌≤ℤ◌, int_lt, nat_eq}
+use Rattle.std.proofs.Math.Nat.{mul-mod_left, mul-le-mul_right, mul_assoc}
+use Rattle.std.proofs.lemmas.Int.{ints}
+use Rattle.std.proofs.lemmas.Nat.{pow-add}
+use Rattle.std.proofs.lemmas.Bool.{cases_lt}
+use Rattle.std.proofs.lemmas.Bool.Decides.{nat_tests}
+use Rattle.std.proofs.lemmas.Int.Digits.{number_lt, digits_value_is}
+use Rattle.std.specs.Str.Parse.{AllDigits, digits_value}
+use Rattle.decimal_digits.specs.Number.{size, first, last}
+use Rattle.decimal_digits.proofs.DigitLists.{ten_pos}
+use Rattle.decimal_digits.proofs.Ends.{no_more_zeros, shift_up}
+use Rattle.decimal_digits.proofs.Places.{gap_is}
+use Rattle.decimal_unsigned.specs.declared.error.ParseError.{ParseError}
+use Rattle.decimal_unsigned.specs.declared.error.ParseError.TheVariants.{Limit, Memory}
+use Rattle.decimal_unsigned.specs.Unsigned.{Unsigned}
+use Rattle.decimal_unsigned.specs.Edits.{leaves_limits, StaysInLimits, times_power, multiplied}
+use Rattle.decimal_unsigned.specs.Grammar.{Written, Grammar}
+use Rattle.decimal_unsigned.specs.Reading.{ReadingFault, limit, mantissa, is_outside, tidied, scaled, value_of, read}
+use Rattle.decimal_unsigned.specs.Refusal.{Answers, IsPlain, digit_count}
+use Rattle.decimal_unsigned.specs.Placing.{digits_of}
+use Rattle.decimal_unsigned.proofs.FirstLast.{Extent, extent, ordered, top_lt, first_of, last_of}
+use Rattle.decimal_unsigned.proofs.Exponents.{append_digits}
+use Rattle.decimal_unsigned.proofs.ParserAnswers.{read_grammar, answers_limit}
+use Rattle.decimal_unsigned.proofs.Plans.{long_whole, long_fraction, all_digits, length_digits, value_scaled}
+
+-- ---- Numbers.
+
+-- a number whose first digit stands below len + k, and whose last stands at k or above, has at most len digits
+size_between : {n : ℕ} (x : Extent n) (k len : ℕ) → 0 < n → x.top < len + k → k ≤ x.bottom → size n ≤ len
+size_between {n} x k len some high low =
+    let e : nat_eq n 0 ≡ false = search rules in
+    let f : first n ≡ pos x.top -ℤ pos 32768 = first_of x in
+    let l : last n ≡ pos x.bottom -ℤ pos 32768 = last_of x in
+    rw e (omega (arith, ints, gap_is (last n) (first n), f, l, ordered x))
+
+-- so has one of at most len digits with k zeros behind it
+size_le : (n m k len : ℕ) → n ≡ m * 10 ^ k → m < 10 ^ len → len + k ≤ 65536 → size n ≤ len
+size_le n m k len is few top = elim (cases_lt 0 n) [
+  | inl some ↦
+      let b : (m + 1) * 10 ^ k ≤ 10 ^ len * 10 ^ k =
+      mul-le-mul_right (10 ^ k) (let l : m + 1 ≤ 10 ^ len = omega arith in l) in
+      let below : n < 10 ^ (len + k) = omega (arith, is, b, pow-add 10 len k, ten_pos k) in
+      go some (extent (len + k) n some below top) below
+  | inr none ↦ let z : n ≡ 0 = omega arith in rw z (omega arith)
+]
+  where
+    go : 0 < n → (x : Extent n) → n < 10 ^ (len + k) → size n ≤ len
+    go some x below = size_between x k len some (top_lt x (len + k) below) (elim (cases_lt x.bottom k) [
+      | inl h ↦
+          absurd (no_more_zeros x.factor x.bottom k x.odd h
+          (ap (λ y. y % 10 ^ k) (sym x.is ∙ is) ∙ mul-mod_left m (10 ^ k)))
+      | inr h ↦ h
+    ])
+
+or_left : (a b : Bool) → (a || b) ≡ false → a ≡ false
+or_left true b e = cc
+or_left false b e = refl
+
+or_right : (a b : Bool) → (a || b) ≡ false → b ≡ false
+or_right true b e = absurd (cc)
+or_right false b e = e
+
+-- a range that does not leave the limits stays in them
+stays : (v : Unsigned) (d : ℤ) → leaves_limits v d ≡ false → StaysInLimits v d
+stays v d e =
+    let a : int_lt (pos 32767) (v.hi +ℤ d) ≡ false = or_left _ _ e in
+    let b : int_lt (v.lo +ℤ d) (negsuc 32767) ≡ false = or_right (int_lt (pos 32767) (v.hi +ℤ d)) _ e in
+    (grind (arith, ints, a), grind (arith, ints, b))
+
+-- ---- The parts of a text.
+module _ (w : Written) (digits : AllDigits 10 (w.whole ++ w.fraction)) (few : length w.whole ≤ 32768)
+    (short : length w.fraction ≤ 32768) where
+  written : ℕ
+  written = digits_value 10 (w.whole ++ w.fraction)
+
+  written_lt : written < 10 ^ (length w.whole + length w.fraction)
+  unfolding written
+  written_lt =
+      let l = length_digits w digits few short in
+      let n = number_lt 10 (digits_of w) (all_digits w digits few short) in
+      let e : digits_value 10 (w.whole ++ w.fraction) < 10 ^ length (digits_of w) =
+      rw (digits_value_is 10 (w.whole ++ w.fraction)) n in
+      subst (λ k. digits_value 10 (w.whole ++ w.fraction) < 10 ^ k) l e
+
+  -- the number before an exponent
+  size_mantissa : size (mantissa w.whole w.fraction).number ≤ length w.whole + length w.fraction
+  unfolding written
+  size_mantissa =
+      size_le (mantissa w.whole w.fraction).number written (32768 - length w.fraction)
+      (length w.whole + length w.fraction) refl written_lt (omega arith)
+
+  -- and that number times a power of ten
+  size_times : (d : ℤ) → StaysInLimits (mantissa w.whole w.fraction) d
+      → size (times_power (mantissa w.whole w.fraction).number d) ≤ length w.whole + length w.fraction
+  unfolding written
+  size_times (pos d) stay =
+      size_le _ written (32768 - length w.fraction + d) (length w.whole + length w.fraction)
+      (mul_assoc written (10 ^ (32768 - length w.fraction)) (10 ^ d)
+      ∙ ap (λ x. written * x) (sym (pow-add 10 (32768 - length w.fraction) d))) written_lt
+      (omega (arith, ints, stay.0))
+  size_times (negsuc d) stay =
+      size_le _ written (32768 - length w.fraction - suc d) (length w.whole + length w.fraction)
+      (shift_up written (32768 - length w.fraction) (suc d) (omega (arith, ints, stay.1))) written_lt (omega arith)
+
+  size_scaled : (e : Option ℤ) (v : Unsigned) → scaled (mantissa w.whole w.fraction) e ≡ Ok v
+      → size v.number ≤ length w.whole + length w.fraction
+  unfolding scaled
+  size_scaled None v is =
+      let same : mantissa w.whole w.fraction ≡ v = cc in
+      subst (λ (x : Unsigned). size x.number ≤ length w.whole + length w.fraction) same size_mantissa
+  size_scaled (Some d) v is =
+      go (nat_eq (mantissa w.whole w.fraction).number 0) refl
+      (is_outside d || leaves_limits (mantissa w.whole w.fraction) d) refl
+    where
+      go : (z : Bool) → nat_eq (mantissa w.whole w.fraction).number 0 ≡ z → (o : Bool)
+          → (is_outside d || leaves_limits (mantissa w.whole w.fraction) d) ≡ o
+          → size v.number ≤ length w.whole + length w.fraction
+      go true z o e =
+          let same : mantissa w.whole w.fraction ≡ v = (let k = rw z at is in cc) in
+          subst (λ (x : Unsigned). size x.number ≤ length w.whole + length w.fraction) same size_mantissa
+      go false z true e = absurd (let k = rw (z, e) at is in cc)
+      go false z false e =
+          let same : tidied (multiplied (mantissa w.whole w.fraction) d) ≡ v = (let k = rw (z, e) at is in cc) in
+          subst (λ (x : Unsigned). size x.number ≤ length w.whole + length w.fraction) same
+          (size_times d (stays (mantissa w.whole w.fraction) d (or_right (is_outside d) _ e)))
+
+-- the value of the parts has no more digits than they have
+size_value : (w : Written) (v : Unsigned) → AllDigits 10 (w.whole ++ w.fraction) → value_of w ≡ Ok v
+    → size v.number ≤ length w.whole + length w.fraction
+size_value w v digits is = elim (cases_lt 32768 (length w.whole)) [
+  | inl h ↦ absurd (let e = long_whole w h in cc)
+  | inr h ↦ elim (cases_lt 32768 (length w.fraction)) [
+    | inl k ↦ absurd (let e = long_fraction w k in cc)
+    | inr k ↦ size_scaled w digits h k w.exponent v (sym (value_scaled w digits h k) ∙ is)
+  ]
+]
+
+-- parts without an exponent have a value
+plain_value : (w : Written) → AllDigits 10 (w.whole ++ w.fraction) → IsPlain w → value_of w ≡ Ok (mantissa w.whole w.fraction)
+unfolding scaled
+plain_value w digits plain =
+    value_scaled w digits plain.1 plain.2
+    ∙ ap (scaled (mantissa w.whole w.fraction)) plain.0
+
+-- ---- What a parser answers.
+
+parts_digits : (text : List ℕ) (w : Written) → Grammar text w → AllDigits 10 (w.whole ++ w.fraction)
+parts_digits text w g = append_digits w.whole w.fraction g.whole g.fraction
+
+-- parts without an exponent do not meet the limit
+pub plain_is_read : (text : List ℕ) (w : Written) → Grammar text w → IsPlain w → read text ≡ Err limit → ⊥
+plain_is_read text w g plain e =
+    let r = read_grammar text w g in
+    let v = plain_value w (parts_digits text w g) plain in
+    cc
+
+-- the value of parts with few digits is not long
+pub few_are_held : (held : ℕ) (text : List ℕ) (w : Written) → Grammar text w → digit_count w ≤ held
+    → IsOkAnd (read text) (λ v. held < size v.number)
+    → ⊥
+few_are_held held text w g few long = go (value_of w) refl (rw (read_grammar text w g) at long)
+  where
+    go : (q : Result Unsigned ReadingFault) → value_of w ≡ q → IsOkAnd q (λ v. held < size v.number) → ⊥
+    go (Ok v) e l = omega (arith, size_value w v (parts_digits text w g) e, l, few)
+    go (Err x) e l = absurd l
+
+-- so a parser does not answer Limit
+pub never_limit : (wants : Unsigned → Type 0) (text : List ℕ) (r : Result Unsigned ParseError)
+    → Answers wants r (read text) → (w : Written) → Grammar text w → IsPlain w → r ≡ Err Limit
+    → ⊥
+never_limit wants text r a w g plain e = plain_is_read text w g plain ((answers_limit wants r (read text) a).0 e)
+
+-- and not Memory
+pub never_memory : (held : ℕ) (text : List ℕ) (r : Result Unsigned ParseError)
+    → Answers (λ v. held < size v.number) r (read text) → (w : Written) → Grammar text w → digit_count w ≤ held
+    → r ≡ Err Memory
+    → ⊥
+never_memory held text r a w g few e = few_are_held held text w g few (rw e at a)
