@@ -5,6 +5,7 @@ pub mod Text
 pub mod Integer
 pub mod Rounding
 pub mod Orders
+pub mod ErrorText
 pub mod Counted
 pub mod Left
 pub mod Halves

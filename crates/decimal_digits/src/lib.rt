@@ -4,6 +4,7 @@
 #![tactic(auto)]
 
 pub mod digits;
+mod error;
 pub mod ops;
 pub mod rounding;
 pub mod sink;

@@ -2,6 +2,7 @@
 
 mod bulk;
 mod counted;
+mod errors;
 mod lists;
 mod modes;
 mod packed;

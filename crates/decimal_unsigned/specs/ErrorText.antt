@@ -1,14 +1,22 @@
 -- What the errors print.
 use Rattle.std.specs.Prelude.{ℕ, List, codes}
+use Rattle.decimal_digits.specs.ErrorText.{limit_text, memory_text}
 use Rattle.decimal_unsigned.specs.declared.error.ParseError.{ParseError}
 use Rattle.decimal_unsigned.specs.declared.error.ParseError.TheVariants.{Limit, Syntax, Memory}
-
--- the sentence for what is beyond the limits
-abbrev pub limit_text : List ℕ
-limit_text = codes "Magnitude or number of digits exceeded"
+use Rattle.decimal_unsigned.specs.declared.error.ConcatenateError.{ConcatenateError}
+use Rattle.decimal_unsigned.specs.declared.error.ConcatenateError.TheVariants as concatenate
 
 -- the sentence that says why a text was refused
 abbrev pub error_text : ParseError → List ℕ
 error_text Limit = limit_text
 error_text Syntax = codes "Failed to parse the input string"
-error_text Memory = codes "Out of memory"
+error_text Memory = memory_text
+
+-- the sentence for two numbers that overlap
+abbrev pub overlap_text : List ℕ
+overlap_text = codes "The numbers overlap"
+
+-- the sentence that says why two numbers were not joined
+abbrev pub concatenate_error_text : {T : Type 0} → ConcatenateError T → List ℕ
+concatenate_error_text (concatenate.Overlap x) = overlap_text
+concatenate_error_text (concatenate.Memory x) = memory_text

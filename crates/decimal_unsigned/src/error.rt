@@ -1,6 +1,6 @@
 //! Why a call was refused.
 ghost use Rattle.std.specs.Prelude.{◌≡◌};
-ghost use Rattle.decimal_unsigned.specs.ErrorText.{error_text};
+ghost use Rattle.decimal_unsigned.specs.ErrorText.{error_text, concatenate_error_text};
 
 use std::error::Error;
 use std::fmt;
@@ -14,7 +14,7 @@ pub struct LimitError;
 
 impl fmt::Display for LimitError {
     ghost use Rattle.std.specs.Prelude.{Some};
-    ghost use Rattle.decimal_unsigned.specs.ErrorText.{limit_text};
+    ghost use Rattle.decimal_digits.specs.ErrorText.{limit_text};
 
     ghost output = { λ _. Some limit_text };
 
@@ -27,6 +27,8 @@ impl fmt::Display for LimitError {
         f.write_str(ParseError::Limit.text())
     }
 }
+
+impl Error for LimitError {}
 
 /// Why a text was refused.
 ///
@@ -83,3 +85,34 @@ pub enum ConcatenateError<T> {
     /// Memory for the joined digits was refused.
     Memory(T),
 }
+
+impl<T> ConcatenateError<T> {
+    /// The sentence that says why.
+    fn text(&self) -> &'static str
+        ensures { result.now ≡ concatenate_error_text self.now }
+    {
+        match self {
+            ConcatenateError::Overlap(_) => "The numbers overlap",
+            ConcatenateError::Memory(_) => "Out of memory",
+        }
+    }
+}
+
+impl<T> fmt::Display for ConcatenateError<T> {
+    ghost use Rattle.std.specs.Prelude.{Some};
+    ghost use Rattle.decimal_unsigned.specs.ErrorText.{concatenate_error_text};
+
+    ghost output = { λ e. Some (concatenate_error_text e) };
+
+    ghost styled_output = { λ e _. Some (concatenate_error_text e) };
+
+    /// Writes the sentence that says why, without what was handed in: `The numbers overlap` or `Out of memory`. It looks
+    /// at no option of the format.
+    ///
+    /// Err: the formatter refused it. Not in the original.
+    fn fmt<W: fmt::Write>(&self, f: &mut fmt::Formatter<W>) -> fmt::Result {
+        f.write_str(self.text())
+    }
+}
+
+impl<T: fmt::Debug + Drop> Error for ConcatenateError<T> {}
