@@ -35,23 +35,6 @@ pub enum UnsignedRoundingMode {
     HalfEven,
 }
 
-/// How a number with a sign is rounded.
-///
-/// The original's enum of this name.
-#[derive(Clone, Copy, Debug, PartialEq, Eq, PartialOrd, Ord)]
-pub enum SignedRoundingMode {
-    /// Rounds the absolute value.
-    Unsigned(UnsignedRoundingMode),
-    /// Takes the multiple above, toward plus infinity.
-    Ceil,
-    /// Takes the multiple below, toward minus infinity.
-    Floor,
-    /// Takes the nearest multiple, and the upper of two that are as near.
-    HalfCeil,
-    /// Takes the nearest multiple, and the lower of two that are as near.
-    HalfFloor,
-}
-
 /// What the results of a rounding are multiples of, in units of the position.
 ///
 /// 9.75 is rounded at the position -1 to 9.8 by 1 and by 2, to 10.0 by 5 and to 10.0 by 25, in the mode `HalfExpand`.

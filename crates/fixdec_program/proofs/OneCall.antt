@@ -1,8 +1,8 @@
 -- A word names at most one call.
 use Rattle.std.proofs.Common.{◌≡◌, ◌≢◌, ℕ, true, false, ℤ, List, [], ◌∷◌, ◌++◌, Some, refl, ap, sym, ◌∙◌, arith, codes, suc}
 use Rattle.std.proofs.lemmas.Bool.{false≢true}
-use Rattle.decimal_digits.specs.declared.rounding.SignedRoundingMode.{SignedRoundingMode}
-use Rattle.decimal_digits.specs.declared.rounding.SignedRoundingMode.TheVariants.{Ceil, Floor, HalfCeil, HalfFloor, Unsigned}
+use Rattle.fixed_decimal.specs.declared.rounding.SignedRoundingMode.{SignedRoundingMode}
+use Rattle.fixed_decimal.specs.declared.rounding.SignedRoundingMode.TheVariants.{Ceil, Floor, HalfCeil, HalfFloor, Unsigned}
 use Rattle.decimal_digits.specs.declared.rounding.UnsignedRoundingMode.TheVariants.{Expand, Trunc, HalfExpand, HalfTrunc, HalfEven}
 use Rattle.decimal_digits.specs.declared.rounding.RoundingIncrement.{RoundingIncrement}
 use Rattle.decimal_digits.specs.declared.rounding.RoundingIncrement.TheVariants.{MultiplesOf1, MultiplesOf2, MultiplesOf5, MultiplesOf25}

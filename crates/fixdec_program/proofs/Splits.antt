@@ -6,8 +6,8 @@ use Rattle.std.specs.Str.Parse.{digits_value}
 use Rattle.std.proofs.lemmas.Bool.{cases_Bool, and_from, and_parts, both_ways, not-true, eqb-true}
 use Rattle.std.proofs.lemmas.Str.Parse.{not_in_digits}
 use Rattle.std.proofs.lemmas.Str.Pattern.{IsSplitOnceResult, split_after, split_parts}
-use Rattle.decimal_digits.specs.declared.rounding.SignedRoundingMode.{SignedRoundingMode}
-use Rattle.decimal_digits.specs.declared.rounding.SignedRoundingMode.TheVariants.{Ceil, Floor, HalfCeil, HalfFloor, Unsigned}
+use Rattle.fixed_decimal.specs.declared.rounding.SignedRoundingMode.{SignedRoundingMode}
+use Rattle.fixed_decimal.specs.declared.rounding.SignedRoundingMode.TheVariants.{Ceil, Floor, HalfCeil, HalfFloor, Unsigned}
 use Rattle.decimal_digits.specs.declared.rounding.UnsignedRoundingMode.TheVariants.{Expand, Trunc, HalfExpand, HalfTrunc, HalfEven}
 use Rattle.decimal_digits.specs.declared.rounding.RoundingIncrement.{RoundingIncrement}
 use Rattle.fixdec_program.specs.Words.{are_digits, digits_up_to, number, mode_word, increment_word, IsRounding}

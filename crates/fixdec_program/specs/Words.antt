@@ -4,8 +4,8 @@ use Rattle.std.specs.Prelude.{List, ◌++◌, length, drop, slice_index, codes, 
 use Rattle.std.specs.Str.{all_ascii_digits}
 use Rattle.std.specs.Str.Parse.{digits_value}
 use Rattle.decimal_digits.specs.declared.rounding.UnsignedRoundingMode.TheVariants as unsigned
-use Rattle.decimal_digits.specs.declared.rounding.SignedRoundingMode.{SignedRoundingMode}
-use Rattle.decimal_digits.specs.declared.rounding.SignedRoundingMode.TheVariants as mode
+use Rattle.fixed_decimal.specs.declared.rounding.SignedRoundingMode.{SignedRoundingMode}
+use Rattle.fixed_decimal.specs.declared.rounding.SignedRoundingMode.TheVariants as mode
 use Rattle.decimal_digits.specs.declared.rounding.RoundingIncrement.{RoundingIncrement}
 use Rattle.decimal_digits.specs.declared.rounding.RoundingIncrement.TheVariants.{MultiplesOf1, MultiplesOf2, MultiplesOf5, MultiplesOf25}
 use Rattle.fixed_decimal.specs.declared.variations.Sign.{Sign}

@@ -1,7 +1,7 @@
 //! The words of the command line as calls.
 ghost use Rattle.std.specs.Prelude.{◌≡◌, ◌≢◌, ◌<◌, ◌≤◌, length, ℤ, codes, IfSome, IfNone};
 ghost use Rattle.decimal_digits.specs.declared.rounding.UnsignedRoundingMode.{UnsignedRoundingMode};
-ghost use Rattle.decimal_digits.specs.declared.rounding.SignedRoundingMode.{SignedRoundingMode};
+ghost use Rattle.fixed_decimal.specs.declared.rounding.SignedRoundingMode.{SignedRoundingMode};
 ghost use Rattle.decimal_digits.specs.declared.rounding.RoundingIncrement.{RoundingIncrement};
 ghost use Rattle.fixed_decimal.specs.declared.variations.Sign.{Sign};
 ghost use Rattle.fixed_decimal.specs.declared.variations.SignDisplay.{SignDisplay};

@@ -25,7 +25,9 @@
 #![tactic(auto)]
 
 pub mod compact;
+mod error;
 pub mod integer;
+pub mod rounding;
 mod runs;
 pub mod scientific;
 pub mod signed_decimal;
@@ -34,15 +36,14 @@ pub mod variations;
 
 pub use compact::CompactDecimal;
 pub use decimal_digits::digits::{DigitList, DigitStore, PackedDigits, Steps};
-pub use decimal_digits::rounding::{
-    RoundError, RoundingIncrement, SignedRoundingMode, UnsignedRoundingMode,
-};
+pub use decimal_digits::rounding::{RoundError, RoundingIncrement, UnsignedRoundingMode};
 pub use decimal_digits::sink::{Out, Sink, SinkFault, TextBuf, Writeable};
 pub use decimal_unsigned::decimal::{
     ByteDecimal, DIGITS_IN_PLACE, DecimalStore, UnsignedDecimal, UnsignedOver,
 };
 pub use decimal_unsigned::{ConcatenateError, LimitError, ParseError};
 pub use integer::FixedInteger;
+pub use rounding::SignedRoundingMode;
 pub use runs::{Call, RunError, run, run_over};
 pub use scientific::ScientificDecimal;
 pub use signed_decimal::Decimal;

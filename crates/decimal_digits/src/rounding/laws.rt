@@ -1,9 +1,9 @@
 //! Laws of what is derived for the modes and the increment. Nothing calls these functions; their clauses are the laws.
 ghost use Rattle.std.specs.Prelude.{◌≡◌};
 ghost use Rattle.std.specs.Ordering.{nat_cmp};
-ghost use Rattle.decimal_digits.specs.Orders.{unsigned_rank, signed_rank};
+ghost use Rattle.decimal_digits.specs.Orders.{unsigned_rank};
 
-use super::{RoundingIncrement, SignedRoundingMode, UnsignedRoundingMode};
+use super::{RoundingIncrement, UnsignedRoundingMode};
 use std::cmp::Ordering;
 
 /// Without a choice numbers are rounded to multiples of 1.
@@ -16,13 +16,6 @@ fn default_increment() -> RoundingIncrement
 /// The modes of absolute values are ordered as they are declared.
 fn unsigned_order(left: UnsignedRoundingMode, right: UnsignedRoundingMode) -> Ordering
     ensures { result ≡ nat_cmp (unsigned_rank left) (unsigned_rank right) }
-{
-    left.cmp(&right)
-}
-
-/// The modes are ordered as they are declared, and those of absolute values come first.
-fn signed_order(left: SignedRoundingMode, right: SignedRoundingMode) -> Ordering
-    ensures { result ≡ nat_cmp (signed_rank left) (signed_rank right) }
 {
     left.cmp(&right)
 }

@@ -1,12 +1,11 @@
 //! The order of the modes, and the increment that is the default.
 use crate::rounding::UnsignedRoundingMode::{Expand, HalfEven, HalfExpand, HalfTrunc, Trunc};
-use crate::rounding::{RoundingIncrement, SignedRoundingMode, UnsignedRoundingMode};
+use crate::rounding::{RoundingIncrement, UnsignedRoundingMode};
 use std::cmp::Ordering;
 use std::process::Abort;
 
 fn assert_order(rt: &impl Abort, low: UnsignedRoundingMode, high: UnsignedRoundingMode) {
     assert!(rt; low < high);
-    assert!(rt; SignedRoundingMode::Unsigned(low) < SignedRoundingMode::Unsigned(high));
     assert_eq!(rt; high.cmp(&low), Ordering::Greater);
 }
 
@@ -16,14 +15,6 @@ fn orders_modes(rt: HostRuntime) {
     assert_order(&rt, Trunc, HalfExpand);
     assert_order(&rt, HalfExpand, HalfTrunc);
     assert_order(&rt, HalfTrunc, HalfEven);
-}
-
-#[test]
-fn orders_signed_modes(rt: HostRuntime) {
-    assert!(rt; SignedRoundingMode::Unsigned(HalfEven) < SignedRoundingMode::Ceil);
-    assert!(rt; SignedRoundingMode::Ceil < SignedRoundingMode::Floor);
-    assert!(rt; SignedRoundingMode::Floor < SignedRoundingMode::HalfCeil);
-    assert!(rt; SignedRoundingMode::HalfCeil < SignedRoundingMode::HalfFloor);
 }
 
 #[test]

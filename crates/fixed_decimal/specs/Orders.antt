@@ -1,0 +1,13 @@
+-- The order of the modes.
+use Rattle.std.specs.Prelude.{ℕ}
+use Rattle.decimal_digits.specs.Orders.{unsigned_rank}
+use Rattle.fixed_decimal.specs.declared.rounding.SignedRoundingMode.{SignedRoundingMode}
+use Rattle.fixed_decimal.specs.declared.rounding.SignedRoundingMode.TheVariants.{Unsigned, Ceil, Floor, HalfCeil, HalfFloor}
+
+-- how many modes come before this one: those of absolute values come first
+abbrev pub signed_rank : SignedRoundingMode → ℕ
+signed_rank (Unsigned mode) = unsigned_rank mode
+signed_rank Ceil = 5
+signed_rank Floor = 6
+signed_rank HalfCeil = 7
+signed_rank HalfFloor = 8
