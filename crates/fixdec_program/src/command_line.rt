@@ -7,7 +7,6 @@ ghost use Rattle.fixdec_program.specs.Faults.{status_of, line, TakesLine};
 ghost use Rattle.fixdec_program.specs.Program.{NameAll, AreCalls, IsUnknown, Prints, PrintsPrefix, HasFault};
 ghost use Rattle.fixdec_program.specs.Program.{words_of, ArgumentsPrint, ArgumentsTell};
 
-use crate::LineSink;
 use crate::fault::Fault;
 use crate::words::call;
 use fixed_decimal::{Call, Out, Sink, run};
@@ -189,7 +188,7 @@ pub fn run_arguments<O: Write + Drop, E: Sink>(
 pub fn execute(rt: HostRuntime) -> ExitCode
     ensures at_most { exit_status result ≤ 3 }
 {
-    let mut err = LineSink::new(rt.stderr());
+    let mut err = Out::new(rt.stderr());
     let (status, _out) = run_arguments(rt.alloc(), env::args(&rt), rt.stdout(), &mut err);
     ExitCode::from(status)
 }
