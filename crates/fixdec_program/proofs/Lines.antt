@@ -1,5 +1,5 @@
 -- What a sink has taken of a line.
-use Rattle.std.proofs.Common.{◌≡◌, ℕ, Bool, false, true, Option, List, [], Result, Ok, Err, OnOk, sym, ◌∙◌}
+use Rattle.std.proofs.Common.{◌≡◌, ℕ, Bool, true, Option, List, [], Result, Ok, Err, OnOk, sym, ◌∙◌}
 use Rattle.std.specs.Prelude.{OnErr}
 use Rattle.std.proofs.lemmas.Bool.{false≢true}
 use Rattle.std.proofs.lemmas.List.{append-nil}
