@@ -1,6 +1,7 @@
 -- What a sink has taken of a text, piece by piece.
-use Rattle.std.proofs.Common.{◌≡◌, ℕ, ◌<◌, ◌⊎◌, inl, inr, Bool, true, false, List, [], ◌++◌, take, drop, Option, None, Some, refl, sym, ◌∙◌, ap, subst, arith, append_assoc, take-append-drop}
-use Rattle.std.proofs.lemmas.List.{append-nil}
+use Rattle.std.proofs.Common.{◌≡◌, ℕ, ◌+◌, ◌-◌, ◌<◌, ◌⊎◌, inl, inr, Bool, true, false, List, [], ◌++◌, length, take, drop, Option, None, Some, refl, sym, ◌∙◌, ap, subst, arith, append_assoc, take-append-drop}
+use Rattle.std.proofs.lemmas.List.{append-nil, length-drop}
+use Rattle.std.proofs.Math.Seq.{take-add, take-length}
 use Rattle.std.specs.Io.KnownBytes.{Keeps, Appends}
 use Rattle.decimal_digits.specs.Text.{AppendsPrefix}
 
@@ -41,6 +42,18 @@ part_none a xs = ([], xs, (λ i. xs), appends_none a)
 pub part_kept : (a b c : Option (List ℕ)) (i : ℕ) (xs : List ℕ) → Appends a b (take i xs) → Keeps b c
     → AppendsPrefix a c xs
 part_kept a b c i xs p q = (take i xs, drop i xs, take-append-drop i xs, appends_kept a b c _ p q)
+
+-- all that is left is handed to a writer
+all_left : (t : ℕ) (bytes : List ℕ) → take (length bytes - t) (drop t bytes) ≡ drop t bytes
+all_left t bytes = rw (← length-drop t bytes) (take-length (drop t bytes))
+
+-- of what is left so many bytes more were taken
+pub took_more :
+    (a b c : Option (List ℕ)) (t n : ℕ) (bytes : List ℕ) → Appends a b (take t bytes)
+    → Appends b c (take n (take (length bytes - t) (drop t bytes))) → Appends a c (take (t + n) bytes)
+took_more a b c t n bytes p q =
+    let q2 : Appends b c (take n (drop t bytes)) = rw (all_left t bytes) at q in
+    rw (take-add t n bytes) (appends_both a b c (take t bytes) (take n (drop t bytes)) p q2)
 
 -- ---- a sink that had failed before
 -- after so many pieces: the sink is as at first and none was put into it, or it had not failed at first

@@ -1,20 +1,18 @@
 -- What a command line comes to.
-use Rattle.std.specs.Prelude.{◌≡◌, ℕ, ◌<◌, ◌⊎◌, ⊤, Any, List, [], ◌∷◌, ◌++◌, length, drop, String, string_bytes}
-use Rattle.std.specs.Prelude.{Option, Some, None, Result, Ok, Err, IsOk, IsOkAnd}
+use Rattle.std.specs.Prelude.{◌≡◌, ℕ, ◌<◌, ⊤, Any, List, [], ◌∷◌, ◌++◌, length, drop, String, string_bytes}
+use Rattle.std.specs.Prelude.{Option, Some, None, Result, Ok, Err, IsOkAnd}
 use Rattle.std.specs.Vec.Iter.{into_iter_items}
 use Rattle.std.specs.Io.KnownBytes.{Appends}
 use Rattle.std.specs.declared.alloc.Global.{Global}
 use Rattle.std.specs.declared.vec.IntoIter.{IntoIter}
 use Rattle.std.specs.declared.io.Error.{Error}
 use Rattle.decimal_digits.specs.Text.{AppendsPrefix}
-use Rattle.decimal_unsigned.specs.Reading.{syntax, limit}
 use Rattle.decimal_unsigned.specs.declared.decimal.TheConstants.{DIGITS_IN_PLACE}
 use Rattle.fixed_decimal.specs.declared.runs.Call.{Call}
-use Rattle.fixed_decimal.specs.DecimalText.{read_decimal, IsLong}
-use Rattle.fixed_decimal.specs.Outcome.{Refusal, outcome, start, operand, overlap, limit_exceeded}
-use Rattle.fixdec_program.specs.declared.fault.TextFault.TheVariants.{Syntax, Limit}
+use Rattle.fixed_decimal.specs.Outcome.{outcome}
+use Rattle.fixed_decimal.specs.Errors.{RunRefuses}
 use Rattle.fixdec_program.specs.declared.fault.Fault.{Fault}
-use Rattle.fixdec_program.specs.declared.fault.Fault.TheVariants.{Usage, Start, Operand, Overlap, Overflow, Memory, Output}
+use Rattle.fixdec_program.specs.declared.fault.Fault.TheVariants.{Usage, Memory, Run}
 use Rattle.fixdec_program.specs.Faults.{IsFaultOfArguments}
 use Rattle.fixdec_program.specs.Words.{Names}
 
@@ -42,36 +40,30 @@ abbrev pub HasRun : List (String Global) → (List ℕ → List Call → Type 0)
 HasRun [] P = ⊥
 HasRun (first ∷ words) P = (calls : List Call) × NameAll words calls × P (string_bytes first) calls
 
--- the run of the words comes to this
-abbrev pub ComesTo : List (String Global) → Result (List ℕ) Refusal → Type 0
-ComesTo words result = HasRun words (λ bytes calls. outcome bytes calls ≡ result)
+-- a run has a text, and it and a line feed were appended, of a writer that tells its bytes
+abbrev pub RunPrints : Option (List ℕ) → Option (List ℕ) → List ℕ → List Call → Type 0
+RunPrints old new bytes calls = IsOkAnd (outcome bytes calls) (λ text. Appends old new (text ++ (10 ∷ [])))
 
--- the run has a text, and it and a line feed were appended, of a writer that tells its bytes
+-- a run has a text, and a beginning of it and a line feed was appended
+abbrev pub RunPrintsPrefix : Option (List ℕ) → Option (List ℕ) → List ℕ → List Call → Type 0
+RunPrintsPrefix old new bytes calls =
+    IsOkAnd (outcome bytes calls) (λ text. AppendsPrefix old new (text ++ (10 ∷ [])))
+
+-- the run of the words prints
 abbrev pub Prints : List (String Global) → Option (List ℕ) → Option (List ℕ) → Type 0
-Prints words old new =
-    HasRun words (λ bytes calls. IsOkAnd (outcome bytes calls) (λ text. Appends old new (text ++ (10 ∷ []))))
+Prints words old new = HasRun words (RunPrints old new)
 
--- the run has a text, and a beginning of it and a line feed was appended
+-- the run of the words prints a beginning
 abbrev pub PrintsPrefix : List (String Global) → Option (List ℕ) → Option (List ℕ) → Type 0
-PrintsPrefix words old new =
-    HasRun words (λ bytes calls. IsOkAnd (outcome bytes calls) (λ text. AppendsPrefix old new (text ++ (10 ∷ []))))
+PrintsPrefix words old new = HasRun words (RunPrintsPrefix old new)
 
--- the list of the calls wants memory, or the start has more digits than are held without
-abbrev pub ProgramNeedsMemory : List ℕ → List Call → Type 0
-ProgramNeedsMemory bytes calls = (0 < length calls) ⊎ IsOkAnd (read_decimal bytes) (IsLong DIGITS_IN_PLACE)
-
--- the fault is that of the words: of no start or of a word that is no call; the refusal that their run comes to; or
--- want of memory, where the run may want it; or a fault of the output, and then the run has a text
+-- the fault is that of the words: of no start or of a word that is no call; want of memory for the list of the calls;
+-- or the error of the run, as the library names it: the refusal that the run comes to; want of memory, where the run
+-- may want it; or a fault of the output, and then the run has a text
 abbrev pub HasFault : List (String Global) → Fault → Type 0
 HasFault words Usage = IsUsage words
-HasFault words (Start Syntax) = ComesTo words (Err (start syntax))
-HasFault words (Start Limit) = ComesTo words (Err (start limit))
-HasFault words (Operand at Syntax) = ComesTo words (Err (operand at syntax))
-HasFault words (Operand at Limit) = ComesTo words (Err (operand at limit))
-HasFault words (Overlap at) = ComesTo words (Err (overlap at))
-HasFault words (Overflow at) = ComesTo words (Err (limit_exceeded at))
-HasFault words Memory = HasRun words ProgramNeedsMemory
-HasFault words Output = HasRun words (λ bytes calls. IsOk (outcome bytes calls))
+HasFault words Memory = HasRun words (λ bytes calls. 0 < length calls)
+HasFault words (Run error) = HasRun words (RunRefuses DIGITS_IN_PLACE error)
 
 -- ---- The arguments that the system gives: the words, behind the name of the program.
 

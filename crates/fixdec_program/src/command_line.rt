@@ -1,16 +1,18 @@
 //! The whole of the program's work, over any writers.
-ghost use Rattle.std.specs.Prelude.{◌≡◌, ◌≢◌, ◌≤◌, ◌<◌, [], true, false, Any, Err, IfOk, IfErr, OnOk, IfSome};
+ghost use Rattle.std.specs.Prelude.{◌≡◌, ◌≢◌, ◌≤◌, ◌<◌, [], true, false, Any, Ok, Err, None, IfOk, IfErr, OnOk, IfSome};
 ghost use Rattle.std.specs.Io.Buffered.{writer_contents, writer_inner};
 ghost use Rattle.std.specs.Process.{exit_status};
+ghost use Rattle.decimal_unsigned.specs.declared.decimal.TheConstants.{DIGITS_IN_PLACE};
+ghost use Rattle.fixed_decimal.specs.Errors.{RunRefuses};
 ghost use Rattle.fixdec_program.specs.declared.fault.Fault.{Fault};
-ghost use Rattle.fixdec_program.specs.Faults.{status_of, line, TakesLine};
-ghost use Rattle.fixdec_program.specs.Program.{NameAll, AreCalls, IsUnknown, Prints, PrintsPrefix, HasFault};
+ghost use Rattle.fixdec_program.specs.Faults.{status_of, line, output, TakesLine};
+ghost use Rattle.fixdec_program.specs.Program.{NameAll, AreCalls, IsUnknown, RunPrints, RunPrintsPrefix};
+ghost use Rattle.fixdec_program.specs.Program.{Prints, PrintsPrefix, HasFault};
 ghost use Rattle.fixdec_program.specs.Program.{words_of, ArgumentsPrint, ArgumentsTell};
 
-use crate::LineSink;
 use crate::fault::Fault;
 use crate::words::call;
-use fixed_decimal::{Call, Out, Sink, run};
+use fixed_decimal::{Call, Out, RunError, Sink, run};
 use std::alloc::{AllocError, Global};
 use std::env::Args;
 use std::io::{BufWriter, Write};
@@ -30,38 +32,67 @@ fn are_calls(words: &[String]) -> bool
     true
 }
 
-/// The calls that the words name, in order.
-fn calls<'a>(alloc: Global, words: &'a [String]) -> Result<Vec<Call<'a>>, AllocError>
-    requires { AreCalls words.now }
-    ensures ok { IfOk result (λ calls. NameAll words.now calls.items) }
-    ensures err { IfErr result (λ _. words.now ≢ []) }
+/// The calls that the words name, in order, or None where a word names none.
+///
+/// Err: each word names a call, and memory for the list was refused.
+fn calls<'a>(alloc: Global, words: &'a [String]) -> Result<Option<Vec<Call<'a>>>, AllocError>
+    ensures some { IfOk result (λ found. IfSome found (λ calls. NameAll words.now calls.items)) }
+    ensures none { result ≡ Ok None → Any IsUnknown words.now }
+    ensures err { IfErr result (λ _. AreCalls words.now × (words.now ≢ [])) }
 {
-    let mut calls = Vec::new(alloc);
+    let Ok(mut calls) = Vec::with_capacity(alloc, words.len()) else {
+        return if are_calls(words) {
+            Err(AllocError)
+        } else {
+            Ok(None)
+        };
+    };
     for word in words {
-        calls.push(call(word.as_str()).unwrap())?;
+        let Some(call) = call(word.as_str()) else {
+            return Ok(None);
+        };
+        calls.push_reserved(call);
     }
-    Ok(calls)
+    Ok(Some(calls))
 }
 
-/// Prints the text that the words come to, and a line feed. All words are checked before memory is asked for.
+/// Makes a run, and puts its text and a line feed into a sink.
+fn print_run<W: Sink>(
+    alloc: Global,
+    start: &[u8],
+    calls: &[Call<'_>],
+    sink: &mut W,
+) -> Result<(), RunError>
+    ensures printed { OnOk result (RunPrints (W.contents sink.old) (W.contents sink.new) start.now calls.now) }
+    ensures refused { IfErr result (λ error. RunRefuses DIGITS_IN_PLACE error start.now calls.now) }
+    ensures untouched { IfErr result (λ error. error ≢ RunError.Sink → sink.new ≡ sink.old) }
+    ensures failed { result ≡ Err RunError.Sink → W.has_failed sink.new ≡ true }
+    ensures prefix { result ≡ Err RunError.Sink →
+        RunPrintsPrefix (W.contents sink.old) (W.contents sink.new) start.now calls.now }
+{
+    run(alloc, start, calls, sink)?;
+    match sink.put_byte(b'\n') {
+        Ok(()) => Ok(()),
+        Err(_) => Err(RunError::Sink),
+    }
+}
+
+/// Prints the text that the words come to, and a line feed.
 fn print<O: Write>(alloc: Global, words: &[String], out: &mut Out<O>) -> Result<(), Fault>
     ensures printed { OnOk result (Prints words.now (O.contents out.old.0) (O.contents out.new.0)) }
     ensures has_not_failed { OnOk result (out.new.1 ≡ false) }
     ensures fault { IfErr result (HasFault words.now) }
-    ensures untouched { IfErr result (λ fault. fault ≢ Fault.Output → out.new ≡ out.old) }
-    ensures failed { result ≡ Err Fault.Output → out.new.1 ≡ true }
-    ensures prefix { result ≡ Err Fault.Output →
-        PrintsPrefix words.now (O.contents out.old.0) (O.contents out.new.0) }
+    ensures untouched { IfErr result (λ fault. fault ≢ output → out.new ≡ out.old) }
+    ensures failed { result ≡ Err output → out.new.1 ≡ true }
+    ensures prefix { result ≡ Err output → PrintsPrefix words.now (O.contents out.old.0) (O.contents out.new.0) }
 {
     let [start, words @ ..] = words else {
         return Err(Fault::Usage);
     };
-    if !are_calls(words) {
+    let Some(calls) = calls(alloc, words)? else {
         return Err(Fault::Usage);
-    }
-    let calls = calls(alloc, words)?;
-    run(alloc, start.as_bytes(), calls.as_slice(), out)?;
-    out.put_byte(b'\n')?;
+    };
+    print_run(alloc, start.as_bytes(), calls.as_slice(), out)?;
     out.flush()?;
     Ok(())
 }
@@ -96,8 +127,8 @@ pub fn program<O: Write, E: Sink>(
     ensures silent { result ≡ 0 → err.new ≡ err.old }
     ensures reported { 0 < result → (fault : Fault) × (result ≡ status_of fault) × HasFault words.now fault
         × TakesLine (E.contents err.old) (E.contents err.new) (E.has_failed err.new) (line fault)
-        × (fault ≢ Fault.Output → out.new ≡ out.old)
-        × (fault ≡ Fault.Output → (out.new.1 ≡ true)
+        × (fault ≢ output → out.new ≡ out.old)
+        × (fault ≡ output → (out.new.1 ≡ true)
         × PrintsPrefix words.now (O.contents out.old.0) (O.contents out.new.0)) }
     ensures untouched { 0 < result → result < 3 → out.new ≡ out.old }
 {
@@ -107,34 +138,29 @@ pub fn program<O: Write, E: Sink>(
     }
 }
 
-/// Does the program's work over a buffer, and gives back the writer behind it, which is called once a block. After a
-/// fault, what the buffer still holds is not written.
-fn program_in_blocks<O: Write + Drop, E: Sink>(
+/// Prints over a buffer, and gives back the writer behind it, which is called once a block. After a fault, what the
+/// buffer still holds is not written.
+fn print_in_blocks<O: Write + Drop>(
     alloc: Global,
     words: &[String],
     buffer: BufWriter<O>,
-    err: &mut E,
-) -> (u8, O)
-    ensures at_most { result.0 ≤ 3 }
-    ensures printed { result.0 ≡ 0 → Prints words.now (writer_contents O.contents buffer) (O.contents result.1) }
-    ensures silent { result.0 ≡ 0 → err.new ≡ err.old }
-    ensures reported { 0 < result.0 → (fault : Fault) × (result.0 ≡ status_of fault) × HasFault words.now fault
-        × TakesLine (E.contents err.old) (E.contents err.new) (E.has_failed err.new) (line fault)
-        × (fault ≢ Fault.Output → result.1 ≡ writer_inner buffer) }
-    ensures untouched { 0 < result.0 → result.0 < 3 → result.1 ≡ writer_inner buffer }
+) -> (Result<(), Fault>, O)
+    ensures printed { OnOk result.0 (Prints words.now (writer_contents O.contents buffer) (O.contents result.1)) }
+    ensures fault { IfErr result.0 (HasFault words.now) }
+    ensures untouched { IfErr result.0 (λ fault. fault ≢ output → result.1 ≡ writer_inner buffer) }
 {
     let mut out = Out::new(buffer);
-    let status = program(alloc, words, &mut out, err);
+    let printed = print(alloc, words, &mut out);
     let buffer = out.into_writer();
-    if status != 0 {
+    if printed.is_err() {
         let (writer, _unwritten) = buffer.into_parts();
-        return (status, writer);
+        return (printed, writer);
     }
     match buffer.into_inner() {
-        Ok(writer) => (0, writer),
+        Ok(writer) => (Ok(()), writer),
         Err(error) => {
             let (writer, _unwritten) = error.into_inner().into_parts();
-            (Fault::Output.report(err), writer)
+            (Err(Fault::Run(RunError::Sink)), writer)
         }
     }
 }
@@ -148,6 +174,31 @@ fn words(alloc: Global, arguments: Args) -> Result<Vec<String>, AllocError>
 
 /// How many bytes are gathered for one write: a text of 65,536 digits takes nine.
 const BLOCK: usize = 8192;
+
+/// Prints the text that the words of the arguments come to, through a buffer, and gives `out` back, unless memory for
+/// the list of words or for the buffer was refused.
+fn print_arguments<O: Write + Drop>(
+    alloc: Global,
+    arguments: io::Result<Args>,
+    out: O,
+) -> (Result<(), Fault>, Option<O>)
+    ensures printed { OnOk result.0 (ArgumentsPrint O.contents arguments out result.1) }
+    ensures fault { IfErr result.0 (ArgumentsTell arguments result.1) }
+    ensures untouched { IfErr result.0 (λ fault. fault ≢ output → IfSome result.1 (λ writer. writer ≡ out)) }
+{
+    let arguments = match arguments {
+        Ok(arguments) => arguments,
+        Err(error) => return (Err(Fault::of_arguments(&error)), Some(out)),
+    };
+    let Ok(words) = words(alloc, arguments) else {
+        return (Err(Fault::Memory), None);
+    };
+    let Ok(buffer) = BufWriter::with_capacity(alloc, BLOCK, out) else {
+        return (Err(Fault::Memory), None);
+    };
+    let (printed, writer) = print_in_blocks(alloc, words.as_slice(), buffer);
+    (printed, Some(writer))
+}
 
 /// Does the program's work on the arguments that the system gives, the first of which is the program's name: `program`
 /// over the words behind it, with a buffer before `out`, which is given back with the status.
@@ -167,21 +218,13 @@ pub fn run_arguments<O: Write + Drop, E: Sink>(
     ensures reported { 0 < result.0 → (fault : Fault) × (result.0 ≡ status_of fault)
         × ArgumentsTell arguments result.1 fault
         × TakesLine (E.contents err.old) (E.contents err.new) (E.has_failed err.new) (line fault)
-        × (fault ≢ Fault.Output → IfSome result.1 (λ writer. writer ≡ out)) }
+        × (fault ≢ output → IfSome result.1 (λ writer. writer ≡ out)) }
     ensures untouched { 0 < result.0 → result.0 < 3 → IfSome result.1 (λ writer. writer ≡ out) }
 {
-    let arguments = match arguments {
-        Ok(arguments) => arguments,
-        Err(error) => return (Fault::of_arguments(&error).report(err), Some(out)),
-    };
-    let Ok(words) = words(alloc, arguments) else {
-        return (Fault::Memory.report(err), None);
-    };
-    let Ok(buffer) = BufWriter::with_capacity(alloc, BLOCK, out) else {
-        return (Fault::Memory.report(err), None);
-    };
-    let (status, writer) = program_in_blocks(alloc, words.as_slice(), buffer, err);
-    (status, Some(writer))
+    match print_arguments(alloc, arguments, out) {
+        (Ok(()), out) => (0, out),
+        (Err(fault), out) => (fault.report(err), out),
+    }
 }
 
 /// Does all that the program does: `run_arguments` on its arguments, standard output and standard error. Not in the
@@ -189,7 +232,7 @@ pub fn run_arguments<O: Write + Drop, E: Sink>(
 pub fn execute(rt: HostRuntime) -> ExitCode
     ensures at_most { exit_status result ≤ 3 }
 {
-    let mut err = LineSink::new(rt.stderr());
+    let mut err = Out::new(rt.stderr());
     let (status, _out) = run_arguments(rt.alloc(), env::args(&rt), rt.stdout(), &mut err);
     ExitCode::from(status)
 }

@@ -1,9 +1,8 @@
 //! What ends the program without its text, and the line and the status that tell it.
-ghost use Rattle.std.specs.Prelude.{◌≡◌, ◌≢◌, ◌∷◌, ◌++◌, ◌≤◌, [], codes, length, false, true, OnOk, OnErr};
+ghost use Rattle.std.specs.Prelude.{◌≡◌, ◌∷◌, ◌++◌, ◌≤◌, [], codes, length};
 ghost use Rattle.std.specs.Fmt.{decimal};
-ghost use Rattle.std.specs.Io.KnownBytes.{Appends};
-ghost use Rattle.decimal_digits.specs.Text.{AppendsPrefix};
-ghost use Rattle.fixdec_program.specs.Faults.{status_of, fault_word, line, IsFaultOfArguments, TakesLine};
+ghost use Rattle.fixdec_program.specs.Faults.{status_of, status_of_run, line, message_of_run};
+ghost use Rattle.fixdec_program.specs.Faults.{IsFaultOfArguments, TakesLine};
 
 use arrayvec::ArrayString;
 use fixed_decimal::{ParseError, RunError, Sink, SinkFault};
@@ -12,35 +11,15 @@ use std::alloc::AllocError;
 use std::io;
 use std::io::ErrorKind;
 
-/// Why a text was refused, memory apart.
-#[derive(Clone, Copy, Debug, PartialEq)]
-pub enum TextFault {
-    Syntax,
-    Limit,
-}
-
-impl TextFault {
-    /// The word that tells it.
-    fn word(self) -> &'static str
-        ensures { result.now ≡ fault_word self }
-    {
-        match self {
-            TextFault::Syntax => "syntax",
-            TextFault::Limit => "limit",
-        }
-    }
-}
-
 /// What ends the program without its text.
 #[derive(Debug, Drop, PartialEq)]
 pub enum Fault {
+    /// There is no start, a word is no call, or one is not UTF-8.
     Usage,
-    Start(TextFault),
-    Operand { at: usize, fault: TextFault },
-    Overlap { at: usize },
-    Overflow { at: usize },
+    /// Memory for the words, for their calls or for the buffer was refused.
     Memory,
-    Output,
+    /// The run answered this error, or the flush behind it failed, which is a fault of the sink too.
+    Run(RunError),
 }
 
 /// The bytes of the longest line: `call 18446744073709551615: overflow` and a line feed.
@@ -49,15 +28,13 @@ const LONGEST_LINE: usize = 36;
 /// A line, which takes no memory.
 type Line = ArrayString<LONGEST_LINE>;
 
-/// The line of a text in two parts.
-fn line_of(front: &str, back: &str) -> Line
-    requires front { length front.now ≤ 7 }
-    requires back { length back.now ≤ 27 }
-    ensures { result.bytes ≡ front.now ++ (back.now ++ (10 ∷ [])) }
+/// The line of a text.
+fn line_of(text: &str) -> Line
+    requires { length text.now ≤ 35 }
+    ensures { result.bytes ≡ text.now ++ (10 ∷ []) }
 {
     let mut line = Line::new();
-    line.push_str(front);
-    line.push_str(back);
+    line.push_str(text);
     line.push_str("\n");
     line
 }
@@ -77,6 +54,49 @@ fn line_of_call(at: usize, what: &str) -> Line
     line
 }
 
+/// The line that tells an error of a run.
+fn line_of_run(error: &RunError) -> Line
+    ensures { result.bytes ≡ message_of_run error.now ++ (10 ∷ []) }
+{
+    match error {
+        RunError::Start(ParseError::Syntax) => line_of("start: syntax"),
+        RunError::Start(ParseError::Limit) => line_of("start: limit"),
+        RunError::Operand {
+            at,
+            fault: ParseError::Syntax,
+        } => line_of_call(*at, "syntax"),
+        RunError::Operand {
+            at,
+            fault: ParseError::Limit,
+        } => line_of_call(*at, "limit"),
+        RunError::Overlap { at } => line_of_call(*at, "overlap"),
+        RunError::Limit { at } => line_of_call(*at, "overflow"),
+        RunError::Start(ParseError::Memory)
+        | RunError::Operand {
+            fault: ParseError::Memory,
+            ..
+        }
+        | RunError::Memory { .. } => line_of("memory"),
+        RunError::Sink => line_of("output"),
+    }
+}
+
+/// The exit status of an error of a run.
+fn status_of_run(error: &RunError) -> u8
+    ensures { result ≡ status_of_run error.now }
+{
+    match error {
+        RunError::Start(ParseError::Memory)
+        | RunError::Operand {
+            fault: ParseError::Memory,
+            ..
+        }
+        | RunError::Memory { .. }
+        | RunError::Sink => 3,
+        _ => 1,
+    }
+}
+
 impl Fault {
     /// The fault of reading the words: memory was refused, or a word is not text.
     pub fn of_arguments(error: &io::Error) -> Fault
@@ -94,12 +114,9 @@ impl Fault {
         ensures { result ≡ status_of self.now }
     {
         match self {
-            Fault::Start(_)
-            | Fault::Operand { .. }
-            | Fault::Overlap { .. }
-            | Fault::Overflow { .. } => 1,
             Fault::Usage => 2,
-            Fault::Memory | Fault::Output => 3,
+            Fault::Memory => 3,
+            Fault::Run(error) => status_of_run(error),
         }
     }
 
@@ -108,13 +125,9 @@ impl Fault {
         ensures { result.bytes ≡ line self.now }
     {
         match self {
-            Fault::Usage => line_of("usage: ", "fixdec TEXT [CALL].."),
-            Fault::Start(fault) => line_of("start: ", fault.word()),
-            Fault::Operand { at, fault } => line_of_call(*at, fault.word()),
-            Fault::Overlap { at } => line_of_call(*at, "overlap"),
-            Fault::Overflow { at } => line_of_call(*at, "overflow"),
-            Fault::Memory => line_of("", "memory"),
-            Fault::Output => line_of("", "output"),
+            Fault::Usage => line_of("usage: fixdec TEXT [CALL].."),
+            Fault::Memory => line_of("memory"),
+            Fault::Run(error) => line_of_run(error),
         }
     }
 
@@ -128,42 +141,6 @@ impl Fault {
     }
 }
 
-impl From<RunError> for Fault {
-    ghost use Rattle.fixdec_program.specs.Faults.{fault_of};
-
-    ghost from_gives = { λ error fault. fault ≡ fault_of error };
-
-    fn from(error: RunError) -> Fault {
-        match error {
-            RunError::Start(ParseError::Syntax) => Fault::Start(TextFault::Syntax),
-            RunError::Start(ParseError::Limit) => Fault::Start(TextFault::Limit),
-            RunError::Operand {
-                at,
-                fault: ParseError::Syntax,
-            } => Fault::Operand {
-                at,
-                fault: TextFault::Syntax,
-            },
-            RunError::Operand {
-                at,
-                fault: ParseError::Limit,
-            } => Fault::Operand {
-                at,
-                fault: TextFault::Limit,
-            },
-            RunError::Overlap { at } => Fault::Overlap { at },
-            RunError::Limit { at } => Fault::Overflow { at },
-            RunError::Sink => Fault::Output,
-            RunError::Start(ParseError::Memory)
-            | RunError::Operand {
-                fault: ParseError::Memory,
-                ..
-            }
-            | RunError::Memory { .. } => Fault::Memory,
-        }
-    }
-}
-
 impl From<AllocError> for Fault {
     ghost use Rattle.fixdec_program.specs.declared.fault.Fault.TheVariants.{Memory};
 
@@ -174,12 +151,22 @@ impl From<AllocError> for Fault {
     }
 }
 
-impl From<SinkFault> for Fault {
-    ghost use Rattle.fixdec_program.specs.declared.fault.Fault.TheVariants.{Output};
+impl From<RunError> for Fault {
+    ghost use Rattle.fixdec_program.specs.declared.fault.Fault.TheVariants.{Run};
 
-    ghost from_gives = { λ _ fault. fault ≡ Output };
+    ghost from_gives = { λ error fault. fault ≡ Run error };
+
+    fn from(error: RunError) -> Fault {
+        Fault::Run(error)
+    }
+}
+
+impl From<SinkFault> for Fault {
+    ghost use Rattle.fixdec_program.specs.Faults.{output};
+
+    ghost from_gives = { λ _ fault. fault ≡ output };
 
     fn from(_error: SinkFault) -> Fault {
-        Fault::Output
+        Fault::Run(RunError::Sink)
     }
 }

@@ -5,10 +5,8 @@
 
 mod command_line;
 mod fault;
-mod line_sink;
 #[cfg(test)]
 mod tests;
 mod words;
 
 pub use command_line::{execute, program, run_arguments};
-pub use line_sink::LineSink;

@@ -1,7 +1,7 @@
 //! Command lines, and what they print.
 ghost use Rattle.std.specs.Prelude.{◌≤◌};
 
-use crate::{LineSink, program};
+use crate::program;
 use fixed_decimal::Out;
 use std::alloc::Global;
 use std::process::Abort;
@@ -42,7 +42,7 @@ fn told(mut out: Vec<u8>, err: &[u8], status: u8) -> Result<Vec<u8>, Fail>
 
 /// What the program tells, with room for so many bytes on standard output.
 fn answered(alloc: Global, words: &[String], room: usize) -> Result<Vec<u8>, Fail> {
-    let mut err = LineSink::new(Vec::<u8>::with_capacity(alloc, ROOM)?);
+    let mut err = Out::new(Vec::<u8>::with_capacity(alloc, ROOM)?);
     let mut out = Out::new(Vec::<u8>::with_capacity(alloc, room)?);
     let status = program(alloc, words, &mut out, &mut err);
     told(out.into_writer(), err.into_writer().as_slice(), status)

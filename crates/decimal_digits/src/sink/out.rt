@@ -1,12 +1,13 @@
 //! A sink over a writer.
 ghost use Rattle.std.specs.Prelude.{◌≡◌, IsErr, OnOk, OnErr, Bool, true, false};
-ghost use Rattle.std.specs.Io.KnownBytes.{Keeps};
+ghost use Rattle.std.specs.Io.KnownBytes.{Keeps, Appends};
+ghost use Rattle.decimal_digits.specs.Text.{AppendsPrefix};
 
 use super::{Sink, SinkFault};
 use std::io::Write;
 use std::marker::Model;
 
-/// A sink over a writer: each byte is one write, and nothing is repeated.
+/// A sink over a writer: the bytes of a call are one write, and those that the writer leaves are the next.
 ///
 /// An answer of 0 bytes or an error is a fault, after which the writer is not called again. Contracts see the writer,
 /// and whether the sink has failed. Over a `Vec<u8>`, `Out` takes the bytes of a number's text, and `into_writer` gives
@@ -83,7 +84,29 @@ impl<W: Write> Sink for Out<W> {
         }
     }
 
+    fn put_bytes(&mut self, bytes: &[u8]) -> Result<(), SinkFault> {
+        if self.failed || write_whole(&mut self.writer, bytes).is_err() {
+            return self.fail();
+        }
+        Ok(())
+    }
+
     fn failed(&self) -> bool {
         self.failed
     }
+}
+
+/// Writes bytes. Err: the writer refused one, and has taken those in front.
+fn write_whole<W: Write>(writer: &mut W, bytes: &[u8]) -> Result<(), SinkFault>
+    ensures ok { OnOk result (Appends (W.contents writer.old) (W.contents writer.new) bytes.now) }
+    ensures err { OnErr result (AppendsPrefix (W.contents writer.old) (W.contents writer.new) bytes.now) }
+{
+    let mut taken = 0;
+    while taken < bytes.len() {
+        match writer.write(&bytes[taken..]) {
+            Ok(count) if count > 0 => taken += count,
+            _ => return Err(SinkFault),
+        }
+    }
+    Ok(())
 }

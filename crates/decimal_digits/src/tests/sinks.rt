@@ -15,7 +15,7 @@ enum WriteFailure {
     Fault,
     /// The error `Interrupted`, once; it takes the bytes that come later.
     Interrupted,
-    /// An error where it is flushed.
+    /// An error where it is flushed, and 0 bytes before.
     Flush,
 }
 
@@ -30,10 +30,11 @@ enum Way {
     InPieces(usize),
 }
 
-/// A writer that takes so many bytes, one at each call, and then refuses.
+/// A writer that takes so many bytes, at most `width` at each call, and then refuses.
 #[derive(Drop)]
 struct FailingWriter {
     room: usize,
+    width: usize,
     calls: usize,
     flushes: usize,
     refusal: WriteFailure,
@@ -41,10 +42,11 @@ struct FailingWriter {
 
 impl Write for FailingWriter {
     fn write(&mut self, bytes: &[u8]) -> io::Result<usize> {
-        let has_room = self.calls < self.room;
+        let taken = bytes.len().min(self.room).min(self.width);
         self.calls = self.calls.saturating_add(1);
-        if has_room {
-            return Ok(bytes.len().min(1));
+        if taken > 0 {
+            self.room -= taken;
+            return Ok(taken);
         }
         match self.refusal {
             WriteFailure::Zero => Ok(0),
@@ -53,7 +55,7 @@ impl Write for FailingWriter {
                 self.room = usize::MAX;
                 Err(io::Error::from(io::ErrorKind::Interrupted))
             }
-            WriteFailure::Flush => Ok(bytes.len().min(1)),
+            WriteFailure::Flush => Ok(0),
         }
     }
 
@@ -116,6 +118,7 @@ fn takes_bytes(rt: HostRuntime) {
 fn assert_fails_at(rt: &impl Abort, room: usize, way: Way, refusal: WriteFailure) {
     let mut out = Out::new(FailingWriter {
         room,
+        width: 1,
         calls: 0,
         flushes: 0,
         refusal,
@@ -130,7 +133,7 @@ fn assert_fails_at(rt: &impl Abort, room: usize, way: Way, refusal: WriteFailure
     assert_eq!(rt;
         writer.calls,
         room.saturating_add(1),
-        "one call for each byte, and none after the fault"
+        "one call for each byte that it takes, and none after the fault"
     );
     assert_eq!(rt; writer.flushes, 0);
 }
@@ -150,6 +153,7 @@ fn fails_with_the_writer(rt: HostRuntime) {
 fn fails_with_the_flush(rt: HostRuntime) {
     let mut out = Out::new(FailingWriter {
         room: 8,
+        width: 1,
         calls: 0,
         flushes: 0,
         refusal: WriteFailure::Flush,
@@ -165,10 +169,42 @@ fn fails_with_the_flush(rt: HostRuntime) {
     assert_eq!(rt; writer.flushes, 1, "a fault of the flush is kept");
 }
 
+/// How often a writer that takes so many bytes at a call is called for a text of eight.
+fn calls_for(width: usize, way: Way) -> Option<usize> {
+    let mut out = Out::new(FailingWriter {
+        room: 8,
+        width,
+        calls: 0,
+        flushes: 0,
+        refusal: WriteFailure::Fault,
+    });
+    put_all(&mut out, way, b"-1234.50").ok()?;
+    Some(out.into_writer().calls)
+}
+
+/// How many bytes the writer takes at a call, how the text is put, and how often the writer is called.
+const CALLS: &[(usize, Way, usize)] = &[
+    (8, Way::AtOnce, 1),
+    (7, Way::AtOnce, 2),
+    (3, Way::AtOnce, 3),
+    (1, Way::AtOnce, 8),
+    (8, Way::InPieces(3), 3),
+    (2, Way::InPieces(3), 5),
+    (8, Way::ByteByByte, 8),
+];
+
+#[test]
+fn hands_slices_on(rt: HostRuntime) {
+    for (width, way, calls) in CALLS {
+        assert_eq!(rt; calls_for(*width, *way), Some(*calls));
+    }
+}
+
 #[test]
 fn flushes_once(rt: HostRuntime) {
     let mut out = Out::new(FailingWriter {
         room: 8,
+        width: 1,
         calls: 0,
         flushes: 0,
         refusal: WriteFailure::Zero,

@@ -1,6 +1,7 @@
 //! The arguments that the system gives: the words behind the name of the program, or why they could not be had.
 use super::{assert_shows, told, words};
-use crate::{LineSink, run_arguments};
+use crate::run_arguments;
+use fixed_decimal::Out;
 use std::alloc::Global;
 use std::env::Args;
 use std::io;
@@ -25,7 +26,7 @@ const LINES: &[(&str, &str)] = &[
 
 /// What arguments tell, or why they could not be had.
 fn answered(alloc: Global, arguments: io::Result<Args>) -> Result<Vec<u8>, Fail> {
-    let mut err = LineSink::new(Vec::<u8>::with_capacity(alloc, 64)?);
+    let mut err = Out::new(Vec::<u8>::with_capacity(alloc, 64)?);
     let out = Vec::<u8>::with_capacity(alloc, 64)?;
     let (status, out) = run_arguments(alloc, arguments, out, &mut err);
     let out = out.unwrap_or(Vec::new(alloc));

@@ -1,6 +1,7 @@
 //! Output through the buffer: how often the writer is called, and when no more.
 use super::words;
-use crate::{LineSink, run_arguments};
+use crate::run_arguments;
+use fixed_decimal::Out;
 use std::alloc::Global;
 use std::io;
 use std::io::Write;
@@ -66,7 +67,7 @@ fn counted(
         writes: 0,
     };
     let arguments = words(alloc, line)?.into_iter();
-    let mut err = LineSink::new(io::sink());
+    let mut err = Out::new(io::sink());
     let (status, out) = run_arguments(alloc, Ok(arguments), out, &mut err);
     Ok((status, out.map(|out| out.writes)))
 }
@@ -97,7 +98,7 @@ fn writes_blocks(rt: HostRuntime) -> Result<(), Fail> {
 
 /// How often the writer behind standard error is called for a line.
 fn writes_of_a_line(alloc: Global, line: &str) -> Result<usize, Fail> {
-    let mut err = LineSink::new(CountingWriter {
+    let mut err = Out::new(CountingWriter {
         room: 64,
         flushes: true,
         writes: 0,

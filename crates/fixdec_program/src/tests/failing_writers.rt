@@ -1,6 +1,6 @@
 //! Outputs that take so many bytes and no more, and memory that is refused once.
 use super::words;
-use crate::{LineSink, program};
+use crate::program;
 use decimal_testing::{FailingWriter, WriteFailure};
 use fixed_decimal::Out;
 use std::alloc::Global;
@@ -53,7 +53,7 @@ fn answers(
     (_, (out_text, room), (err_text, err_room), status): Row,
 ) -> bool {
     let mut out = Out::new(FailingWriter::new(out_text.as_bytes(), room, refusal));
-    let mut err = LineSink::new(FailingWriter::new(err_text.as_bytes(), err_room, refusal));
+    let mut err = Out::new(FailingWriter::new(err_text.as_bytes(), err_room, refusal));
     let answer = program(alloc, words, &mut out, &mut err);
     let (out, err) = (out.into_writer(), err.into_writer());
     answer == status && out.has_taken(room) && err.has_taken(err_room.min(err_text.len()))
@@ -86,7 +86,7 @@ fn answers_with_full_outputs(rt: HostRuntime) -> Result<(), Fail> {
 /// The status of words whose outputs take all, where these have the text, or the line of memory alone.
 fn status_of(alloc: Global, words: &[String], text: &str) -> Option<u8> {
     let mut out = Out::new(FailingWriter::new(text.as_bytes(), usize::MAX, WriteFailure::Fault));
-    let mut err = LineSink::new(FailingWriter::new(b"memory\n", usize::MAX, WriteFailure::Fault));
+    let mut err = Out::new(FailingWriter::new(b"memory\n", usize::MAX, WriteFailure::Fault));
     let status = program(alloc, words, &mut out, &mut err);
     let (out, err) = (out.into_writer(), err.into_writer());
     match status {

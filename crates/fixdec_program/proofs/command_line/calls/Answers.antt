@@ -1,24 +1,23 @@
-use Rattle.std.proofs.Common.{◌≡◌, ◌∷◌, [], ◌++◌, rules, string_bytes, IfNone}
-use Rattle.fixed_decimal.specs.declared.runs.Call.{Call}
+use Rattle.std.proofs.Common.{sym, string_bytes, arith}
 use Rattle.fixdec_program.specs.Words.{Names}
-use Rattle.fixdec_program.proofs.Programs.{some_unless, named_at, names_more, taken}
+use Rattle.fixdec_program.specs.Program.{IsUnknown}
+use Rattle.fixdec_program.proofs.Programs.{names_more, taken}
 use Rattle.fixdec_program.proofs.command_line.calls.Goals as goal
 
-pub unwrap-requires : goal.unwrap-requires
-unwrap-requires c =
-    let (calls, names) = c.requires in
-    let (call, named) =
-    named_at c.args.words.now calls c.loop-word.word-index c.word-item.result names c.loop-word-test.true
-    c.word-item.is in
-    let none : IfNone c.call.result ((call : Call) → Names (string_bytes c.word-item.result) call → ⊥) =
-    rw c.as_str.ensures.value at c.call.ensures.none in
-    some_unless c.call.result none (λ unknown. unknown call named)
+pub returns-in_default-call-clause-none : goal.returns-in_default-call-clause-none
+returns-in_default-call-clause-none c =
+    let unknown : IsUnknown c.word-item.result = rw (← c.as_str.ensures.value) c.in_default-call.ensures.none in
+    λ e. (c.loop-word.word-index, c.word-item.result, c.loop-word-test.true, sym c.word-item.is, unknown)
 
 pub loop-word-preserved : goal.loop-word-preserved
 loop-word-preserved c =
     let w = c.word-item.result in
     let t = taken c.args.words.now c.loop-word.word-index w c.loop-word-test.true c.word-item.is in
-    let named : Names (string_bytes w) c.unwrap.result =
-    rw (c.unwrap.ensures, c.as_str.ensures.value) at c.call.ensures.some in
-    let items : c.push.new.self.items ≡ c.loop-word.calls.items ++ (c.unwrap.result ∷ []) = search rules in
-    rw (t, items) (names_more _ _ w c.unwrap.result c.loop-word.invariant named)
+    let named : Names (string_bytes w) c.in-Some.call = rw c.as_str.ensures.value at c.in-Some.ensures.some in
+    let capacity = c.push_reserved.ensures.capacity in
+    record {
+      names = rw (t, c.push_reserved.ensures.items)
+          (names_more _ _ w c.in-Some.call c.loop-word.invariant.names named);
+      count = omega (arith, c.push_reserved.ensures.len, c.loop-word.invariant.count);
+      room = omega (arith, capacity, c.loop-word.invariant.room);
+    }
