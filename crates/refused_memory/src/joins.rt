@@ -1,16 +1,9 @@
 //! Numbers that are joined to one of more digits.
 use crate::outcome::Outcome;
+use crate::values::read;
 use decimal_testing::shows;
 use fixed_decimal::{ConcatenateError, ParseError, UnsignedDecimal};
 use std::alloc::Global;
-
-/// The value of a text. It is asked for again where memory was refused.
-fn read(alloc: Global, text: &str) -> Result<UnsignedDecimal, ParseError> {
-    match UnsignedDecimal::try_from_str(alloc, text) {
-        Err(ParseError::Memory) => UnsignedDecimal::try_from_str(alloc, text),
-        answer => answer,
-    }
-}
 
 /// The outcome of a join that was refused, has to have left both numbers, and is asked for again.
 fn joined_again(
@@ -54,12 +47,13 @@ fn joined_by_value(
 /// The outcome of both joins of two texts, which are read first.
 fn joined(alloc: Global, row: (&str, &str, &str), join: Join) -> Result<Outcome, ParseError> {
     let (front, back, _) = row;
-    let value = read(alloc, front)?;
-    let other = read(alloc, back)?;
-    Ok(match join {
+    let (value, of_front) = read::<UnsignedDecimal>(alloc, front)?;
+    let (other, of_back) = read::<UnsignedDecimal>(alloc, back)?;
+    let of_join = match join {
         Join::InPlace => joined_in_place(value, other, row),
         Join::ByValue => joined_by_value(value, other, row),
-    })
+    };
+    Ok(of_front.and(of_back).and(of_join))
 }
 
 /// A call that joins.

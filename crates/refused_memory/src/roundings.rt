@@ -1,5 +1,6 @@
 //! Roundings that make a number of one digit more.
 use crate::outcome::Outcome;
+use crate::values::read;
 use decimal_testing::shows;
 use fixed_decimal::RoundingIncrement::MultiplesOf25;
 use fixed_decimal::SignedRoundingMode::Unsigned;
@@ -12,14 +13,6 @@ const NUMBERS: &[(&str, &str)] = &[
     ("-1234567812345678", "-1234567812345677.5"),
     ("12345678123456789013", "12345678123456789012.5"),
 ];
-
-/// The decimal of a text. It is asked for again where memory was refused.
-fn read(alloc: Global, text: &str) -> Result<Decimal, ParseError> {
-    match Decimal::try_from_str(alloc, text) {
-        Err(ParseError::Memory) => Decimal::try_from_str(alloc, text),
-        answer => answer,
-    }
-}
 
 /// The outcome of a rounding that was refused, has to have left the decimal, and is asked for again.
 fn rounded_again(mut value: Decimal, (text, wanted): (&str, &str)) -> Outcome {
@@ -48,8 +41,11 @@ fn rounded_by_value(value: Decimal, row: (&str, &str)) -> Outcome {
 
 /// The outcome of both roundings of a text.
 fn rounded(alloc: Global, row: (&str, &str)) -> Result<Outcome, ParseError> {
-    let in_place = rounded_in_place(read(alloc, row.0)?, row);
-    Ok(in_place.and(rounded_by_value(read(alloc, row.0)?, row)))
+    let (value, of_first) = read::<Decimal>(alloc, row.0)?;
+    let in_place = rounded_in_place(value, row);
+    let (value, of_second) = read::<Decimal>(alloc, row.0)?;
+    let by_value = rounded_by_value(value, row);
+    Ok(of_first.and(in_place).and(of_second).and(by_value))
 }
 
 /// The outcome of all roundings.

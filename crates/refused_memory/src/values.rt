@@ -8,7 +8,7 @@ use fixed_decimal::{
 use std::alloc::{AllocError, Global};
 
 /// A type of values that are read and copied.
-trait Value: Writeable + Drop {
+pub trait Value: Writeable + Drop {
     /// The value that a text writes.
     fn read(alloc: Global, text: &str) -> Result<Self, ParseError>;
 
@@ -84,19 +84,21 @@ fn is_made<T: Value>(answer: Result<T, AllocError>, text: &str) -> bool {
     }
 }
 
-/// How it goes where a text was read, and its value copied.
-fn read_and_copied<T: Value>(answer: Result<T, ParseError>, text: &str) -> Outcome {
-    match answer {
-        Ok(value) => Outcome::first(shows(&value, text.as_bytes())).and(copied(&value, text)),
-        Err(_) => Outcome::Wrong,
+/// The value of a text, which is asked for again where memory was refused, and how that went.
+pub fn read<T: Value>(alloc: Global, text: &str) -> Result<(T, Outcome), ParseError> {
+    match T::read(alloc, text) {
+        Err(ParseError::Memory) => Ok((T::read(alloc, text)?, Outcome::Again)),
+        answer => Ok((answer?, Outcome::Done)),
     }
 }
 
 /// How the reading of a text goes, and the copy of its value.
-fn read<T: Value>(alloc: Global, text: &str) -> Outcome {
-    match T::read(alloc, text) {
-        Err(ParseError::Memory) => Outcome::Again.and(read_and_copied(T::read(alloc, text), text)),
-        answer => read_and_copied(answer, text),
+fn read_and_copied<T: Value>(alloc: Global, text: &str) -> Outcome {
+    match read::<T>(alloc, text) {
+        Ok((value, outcome)) => outcome
+            .and(Outcome::first(shows(&value, text.as_bytes())))
+            .and(copied(&value, text)),
+        Err(_) => Outcome::Wrong,
     }
 }
 
@@ -120,13 +122,13 @@ fn integer_of(alloc: Global, integer: u128, text: &str) -> Outcome {
 
 /// How the making of all values goes.
 pub fn outcome(alloc: Global) -> Outcome {
-    read::<UnsignedDecimal>(alloc, "00123456789012345678.90")
-        .and(read::<Decimal>(alloc, "-123456789012345678.90"))
-        .and(read::<FixedInteger>(alloc, "-0012345678901234567890"))
-        .and(read::<CompactDecimal>(alloc, "+12345678901234567890.5c12"))
-        .and(read::<ScientificDecimal>(alloc, "12345678901234567890e-12345678901234567891"))
-        .and(read::<ScientificDecimal>(alloc, "1e12345678901234567890"))
-        .and(read::<ScientificDecimal>(alloc, "12345678901234567890e1"))
+    read_and_copied::<UnsignedDecimal>(alloc, "00123456789012345678.90")
+        .and(read_and_copied::<Decimal>(alloc, "-123456789012345678.90"))
+        .and(read_and_copied::<FixedInteger>(alloc, "-0012345678901234567890"))
+        .and(read_and_copied::<CompactDecimal>(alloc, "+12345678901234567890.5c12"))
+        .and(read_and_copied::<ScientificDecimal>(alloc, "12345678901234567890e-12345678901234567891"))
+        .and(read_and_copied::<ScientificDecimal>(alloc, "1e12345678901234567890"))
+        .and(read_and_copied::<ScientificDecimal>(alloc, "12345678901234567890e1"))
         .and(decimal_of(alloc, i128::MIN, "-170141183460469231731687303715884105728"))
         .and(integer_of(alloc, u128::MAX, "340282366920938463463374607431768211455"))
 }
