@@ -26,7 +26,7 @@ need_packages() {
 copy_project() {
     scratch=$work/project
     mkdir -p "$scratch/crates"
-    find "$scratch" -path '*/out' -prune -o -type f -exec rm {} +
+    find "$scratch" -regex "$scratch/crates/[^/]*/out" -prune -o -type f -exec rm {} +
     (cd "$project" && git ls-files -z -- crates crates.txt HANDLES | tar cf - --null -T -) | tar xf - -C "$scratch"
     for out in "$project"/crates/*/out; do
         copy=$scratch/crates/$(basename "$(dirname "$out")")/out
