@@ -106,8 +106,8 @@ impl<T> fmt::Display for ConcatenateError<T> {
 
     ghost styled_output = { λ e _. Some (concatenate_error_text e) };
 
-    /// Writes the sentence that says why, without what was handed in: `The numbers overlap` or `Out of memory`. It looks
-    /// at no option of the format.
+    /// Writes the sentence that says why, without what was handed in: `The numbers overlap` or `Out of memory`. It
+    /// looks at no option of the format.
     ///
     /// Err: the formatter refused it. Not in the original.
     fn fmt<W: fmt::Write>(&self, f: &mut fmt::Formatter<W>) -> fmt::Result {
