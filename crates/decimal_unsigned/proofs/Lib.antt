@@ -24,3 +24,5 @@ pub mod ReadBack
 pub mod Roundings
 pub mod RoundingLaws
 pub mod Pieces
+pub mod Comparing
+pub mod WholeNumbers
