@@ -58,7 +58,8 @@ module _ (xs ys : List ℕ) (i : ℕ) (h : i < length xs) (k : i < length ys) wh
       decided (nat_cmp (get_or xs i 0) (get_or ys i 0)) (ranked (get_or xs i 0) (get_or ys i 0) _ refl) ∙ sym at_index
     where
       decided : (r : Ordering)
-          → MatchOrdering r (get_or xs i 0 < get_or ys i 0) (get_or xs i 0 ≡ get_or ys i 0) (get_or ys i 0 < get_or xs i 0)
+          → MatchOrdering r (get_or xs i 0 < get_or ys i 0) (get_or xs i 0 ≡ get_or ys i 0)
+          (get_or ys i 0 < get_or xs i 0)
           → r ≡ ordering_then r (slice_cmp nat_cmp (drop (i + 1) xs) (drop (i + 1) ys))
       decided Less e = refl
       decided Equal e = absurd (differ e)

@@ -105,8 +105,8 @@ fn leading_longest<D: DigitStore>(digits: &D) -> Result<u128, IntegerError>
 impl<D: DigitStore> UnsignedOver<D> {
     /// Gives the integer that the number is, whatever zeros it shows.
     ///
-    /// Of `012.00` it is 12. Err: `NotWhole` where a digit behind the dot is not 0, as in `1.5`; else `OutOfRange` where
-    /// the number is 2 to the 64 or more. It asks for no memory. Not in the original.
+    /// Of `012.00` it is 12. Err: `NotWhole` where a digit behind the dot is not 0, as in `1.5`; else `OutOfRange`
+    /// where the number is 2 to the 64 or more. It asks for no memory. Not in the original.
     pub fn try_to_u64(&self) -> Result<u64, IntegerError>
         ensures { result ≡ as_integer (2 ^ 64) self.now.number }
     {
@@ -119,8 +119,8 @@ impl<D: DigitStore> UnsignedOver<D> {
 
     /// Gives the integer that the number is, whatever zeros it shows.
     ///
-    /// Of `012.00` it is 12. Err: `NotWhole` where a digit behind the dot is not 0, as in `1.5`; else `OutOfRange` where
-    /// the number is 2 to the 128 or more. It asks for no memory. Not in the original.
+    /// Of `012.00` it is 12. Err: `NotWhole` where a digit behind the dot is not 0, as in `1.5`; else `OutOfRange`
+    /// where the number is 2 to the 128 or more. It asks for no memory. Not in the original.
     #[inline]
     pub fn try_to_u128(&self) -> Result<u128, IntegerError>
         ensures { result ≡ as_integer (2 ^ 128) self.now.number }

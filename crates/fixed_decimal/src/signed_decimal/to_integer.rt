@@ -37,7 +37,8 @@ impl<D: DigitStore> Signed<UnsignedOver<D>> {
     /// Gives the integer that the number is, whatever zeros it shows.
     ///
     /// Of `+12.00` it is 12, and of `-0` it is 0. Err: `NotWhole` where a digit behind the dot is not 0, as in `-1.5`;
-    /// else `OutOfRange` where the number is below 0, or 2 to the 64 or more. It asks for no memory. Not in the original.
+    /// else `OutOfRange` where the number is below 0, or 2 to the 64 or more. It asks for no memory. Not in the
+    /// original.
     pub fn try_to_u64(&self) -> Result<u64, IntegerError>
         ensures { result ≡ as_unsigned (2 ^ 64) self.now }
     {
@@ -82,8 +83,8 @@ impl<D: DigitStore> Signed<UnsignedOver<D>> {
     /// Gives the integer that the number is, whatever zeros it shows.
     ///
     /// Of `-12.00` it is -12, and of `-0` it is 0. Err: `NotWhole` where a digit behind the dot is not 0, as in `-1.5`;
-    /// else `OutOfRange` where the number is below -2 to the 127, or 2 to the 127 or more. It asks for no memory. Not in
-    /// the original.
+    /// else `OutOfRange` where the number is below -2 to the 127, or 2 to the 127 or more. It asks for no memory. Not
+    /// in the original.
     pub fn try_to_i128(&self) -> Result<i128, IntegerError>
         ensures { result ≡ as_signed (2 ^ 127) self.now }
     {

@@ -10,7 +10,8 @@ returns g c =
     let ds = g.D.DigitStore.digits c.args.digits.now in
     let es = g.E.DigitStore.digits c.args.other.now in
     let i = c.loop-index.index in
-    let end : i ≡ min (length ds) (length es) = omega (arith, c.min-index-end.ensures, c.len.ensures, c.len-2.ensures) in
+    let end : i ≡ min (length ds) (length es) =
+    omega (arith, c.min-index-end.ensures, c.len.ensures, c.len-2.ensures) in
     let left : nat_cmp (length ds) (length es) ≡ slice_cmp nat_cmp ds es =
     lengths_decide ds es i end ∙ sym c.loop-index.invariant in
     c.cmp-2.ensures ∙ (λ k. nat_cmp (c.len-3.ensures k) (c.len-4.ensures k)) ∙ left

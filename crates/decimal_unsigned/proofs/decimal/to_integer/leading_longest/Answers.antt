@@ -16,7 +16,14 @@ returns-in-Some-checked_add g c =
     let ds = g.D.DigitStore.digits c.args.digits.now in
     let next = leading_next 38 ds in
     let is : c.in-Some-checked_add.number ≡ leading 39 ds =
-    omega (arith, next, c.leading_long.ensures, c.in-Some.ensures.1, c.digit_or_zero.ensures.value, c.in-Some-checked_add.ensures.1) in
+    omega (
+      arith,
+      next,
+      c.leading_long.ensures,
+      c.in-Some.ensures.1,
+      c.digit_or_zero.ensures.value,
+      c.in-Some-checked_add.ensures.1,
+    ) in
     let small : leading 39 ds < 2 ^ 128 = omega (arith, is) in
     ap Ok is ∙ sym (in_range-below (2 ^ 128) (leading 39 ds) small)
 
@@ -25,5 +32,12 @@ returns-in-None g c =
     let ds = g.D.DigitStore.digits c.args.digits.now in
     let next = leading_next 38 ds in
     let over : 2 ^ 128 ≤ leading 39 ds =
-    omega (arith, next, c.leading_long.ensures, c.in-Some.ensures.1, c.digit_or_zero.ensures.value, c.in-None.ensures) in
+    omega (
+      arith,
+      next,
+      c.leading_long.ensures,
+      c.in-Some.ensures.1,
+      c.digit_or_zero.ensures.value,
+      c.in-None.ensures,
+    ) in
     sym (in_range-above (2 ^ 128) (leading 39 ds) over)
