@@ -26,3 +26,5 @@ pub mod Roundings
 pub mod RoundingLaws
 pub mod NeverRefused
 pub mod Pieces
+pub mod Comparing
+pub mod WholeNumbers

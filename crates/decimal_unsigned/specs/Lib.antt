@@ -10,6 +10,7 @@ pub mod Grammar
 pub mod Reading
 pub mod Refusal
 pub mod ErrorText
+pub mod ToInteger
 -- Private: only the contracts of private functions and the models of `UnsignedOver` and `Scan` speak of these.
 pub mod Fields
 pub mod Parts

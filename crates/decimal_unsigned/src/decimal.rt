@@ -5,6 +5,7 @@ ghost use Rattle.decimal_digits.specs.Digits.{number_of, IsStripped};
 ghost use Rattle.decimal_digits.specs.Number.{digit, first, last, size, IsFirst, IsLast};
 ghost use Rattle.decimal_unsigned.specs.Unsigned.{zero_value, IsValue};
 
+mod compare;
 mod concatenate;
 mod copy;
 mod display;
@@ -13,6 +14,8 @@ mod integer;
 mod parse;
 mod round;
 mod text;
+mod to_integer;
+mod write_digits;
 
 use decimal_digits::digits::{DigitList, DigitStore, PackedDigits};
 use decimal_digits::ops::{index_of, magnitude_of};
@@ -20,6 +23,7 @@ pub use parse::{Scan, lowest_of, numeral};
 use std::alloc::Global;
 use std::marker::Model;
 use std::ops::RangeInclusive;
+pub use to_integer::IntegerError;
 
 /// A number of at least 0 with the highest and the lowest magnitude that it shows, over a store of digits.
 ///

@@ -6,4 +6,5 @@
 pub mod decimal;
 mod error;
 
+pub use decimal::IntegerError;
 pub use error::{ConcatenateError, LimitError, ParseError};

@@ -41,7 +41,7 @@ pub use decimal_digits::sink::{Out, Sink, SinkFault, TextBuf, Writeable};
 pub use decimal_unsigned::decimal::{
     ByteDecimal, DIGITS_IN_PLACE, DecimalStore, UnsignedDecimal, UnsignedOver,
 };
-pub use decimal_unsigned::{ConcatenateError, LimitError, ParseError};
+pub use decimal_unsigned::{ConcatenateError, IntegerError, LimitError, ParseError};
 pub use integer::FixedInteger;
 pub use rounding::SignedRoundingMode;
 pub use runs::{Call, RunError, run, run_over};

@@ -67,6 +67,29 @@ impl ScientificDecimal {
         }
     }
 
+    /// Gives the significand, to be read: `-1.20` of `-1.20e+05`. Not in the original.
+    pub fn significand(&self) -> &Decimal
+        ensures { result.now ≡ self.now.significand }
+    {
+        &self.significand
+    }
+
+    /// Gives the exponent, to be read: `+05` of `-1.20e+05`. Not in the original.
+    pub fn exponent(&self) -> &FixedInteger
+        ensures { result.now ≡ self.now.exponent }
+    {
+        &self.exponent
+    }
+
+    /// Takes the value apart, and gives the significand and the exponent as they were joined.
+    ///
+    /// `-1.20e+05` gives `-1.20` and `+05`. Not in the original.
+    pub fn into_parts(self) -> (Decimal, FixedInteger)
+        ensures { scientific result.0 result.1 ≡ self }
+    {
+        (self.significand, self.exponent)
+    }
+
     /// Makes a second value that equals this one.
     ///
     /// The copy of `1.20e05` prints `1.20e05`. Err: memory for more than `DIGITS_IN_PLACE` digits of a part was

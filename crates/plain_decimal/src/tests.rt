@@ -10,6 +10,7 @@ use std::alloc::Global;
 use std::process::Abort;
 use std::test::Fail;
 
+mod compare;
 mod concatenation;
 mod digits;
 mod edits;
@@ -18,6 +19,7 @@ mod printing;
 mod reading;
 mod requests;
 mod rounding;
+mod to_integer;
 
 /// The value that a text writes.
 fn read<D: DigitStore>(alloc: Global, text: &[u8]) -> Result<UnsignedOver<D>, Fail> {

@@ -22,7 +22,7 @@ impl<D: DigitStore> UnsignedOver<D> {
     ///
     /// Requires zeros, and magnitudes of at least -32768.
     #[inline]
-    fn copy_digits(&self, magnitude: i16, places: &mut [u8])
+    pub(super) fn copy_digits(&self, magnitude: i16, places: &mut [u8])
         requires zeros { places.old ≡ replicate (length places.old) 48 }
         requires in_limits { length places.old ≤ place magnitude + 1 }
         ensures { EachIndex places.new

@@ -1,0 +1,181 @@
+-- The order of two numbers, by their digits.
+use Rattle.std.proofs.Common.{◌≡◌, ℕ, suc, ◌+◌, ◌-◌, ◌*◌, ◌^◌, ◌<◌, ◌≤◌, List, [], ◌∷◌, length, get_or, drop, refl, sym, ◌∙◌, ap, arith, ◌⊎◌, inl, inr}
+use Rattle.std.specs.Prelude.{min, ℤ, ◌<ℤ◌}
+use Rattle.std.specs.declared.cmp.Ordering.{Ordering}
+use Rattle.std.specs.declared.cmp.Ordering.TheVariants.{Less, Equal, Greater}
+use Rattle.std.specs.Ordering.{MatchOrdering, ordering_then, nat_cmp, int_cmp}
+use Rattle.std.specs.Cmp.{ranked, int_ranked, nat_cmp_is}
+use Rattle.std.specs.Cmp.Lexicographic.{slice_cmp}
+use Rattle.std.proofs.Math.Nat.{mul-le-mul_right, pow-le-pow_right}
+use Rattle.std.proofs.lemmas.Bool.{cases_lt}
+use Rattle.std.proofs.lemmas.Int.{ints}
+use Rattle.std.proofs.lemmas.List.{length-drop, drop_more}
+use Rattle.std.specs.Int.Digits.{AllBelowBase}
+use Rattle.decimal_digits.specs.Number.{place}
+use Rattle.decimal_digits.specs.Digits.{number_of, number_at}
+use Rattle.decimal_digits.proofs.Places.{place_is}
+use Rattle.decimal_digits.proofs.NumberAt.{number_at-none, number_at-one, number_at-append, number_at-lt, number_at-pos}
+use Rattle.decimal_unsigned.specs.Fields.{IsStored}
+use Rattle.decimal_unsigned.proofs.Values.{number_of-lt, number_of-ge, number_of-pos, number_of-none, lowest}
+
+-- ---- one order that goes with another
+module _ {P Q R P' Q' R' : Type 0} (less : P → P') (equal : Q → Q') (greater : R → R') where
+  pub carried : (r : Ordering) → MatchOrdering r P Q R → MatchOrdering r P' Q' R'
+  carried Less h = less h
+  carried Equal h = equal h
+  carried Greater h = greater h
+
+-- two numbers have the order of two others
+pub same_order : (a b x y : ℕ) → (a < b → x < y) → (a ≡ b → x ≡ y) → (b < a → y < x) → nat_cmp a b ≡ nat_cmp x y
+same_order a b x y less equal greater =
+    nat_cmp_is x y (nat_cmp a b) (carried less equal greater (nat_cmp a b) (ranked a b (nat_cmp a b) refl))
+
+-- two numbers have the order of two integers
+pub same_int_order : (a b : ℤ) (x y : ℕ) → (a <ℤ b → x < y) → (a ≡ b → x ≡ y) → (b <ℤ a → y < x)
+    → int_cmp a b ≡ nat_cmp x y
+same_int_order a b x y less equal greater =
+    nat_cmp_is x y (int_cmp a b) (carried less equal greater (int_cmp a b) (int_ranked a b (int_cmp a b) refl))
+
+-- ---- two lists, from the front
+module _ (xs ys : List ℕ) (i : ℕ) (h : i < length xs) (k : i < length ys) where
+  -- what is left is compared by its first items, and then by the others
+  at_index : slice_cmp nat_cmp (drop i xs) (drop i ys)
+      ≡ ordering_then (nat_cmp (get_or xs i 0) (get_or ys i 0)) (slice_cmp nat_cmp (drop (i + 1) xs) (drop (i + 1) ys))
+  at_index = rw (drop_more xs i 0 h, drop_more ys i 0 k) refl
+
+  -- items that are equal leave it to the others
+  pub equal_items : get_or xs i 0 ≡ get_or ys i 0
+      → slice_cmp nat_cmp (drop i xs) (drop i ys) ≡ slice_cmp nat_cmp (drop (i + 1) xs) (drop (i + 1) ys)
+  equal_items e =
+      at_index
+      ∙ ap (λ o. ordering_then o (slice_cmp nat_cmp (drop (i + 1) xs) (drop (i + 1) ys)))
+      (sym (nat_cmp_is (get_or xs i 0) (get_or ys i 0) Equal e))
+
+  -- items that differ decide
+  pub unequal_items : ¬ (get_or xs i 0 ≡ get_or ys i 0)
+      → nat_cmp (get_or xs i 0) (get_or ys i 0) ≡ slice_cmp nat_cmp (drop i xs) (drop i ys)
+  unequal_items differ =
+      decided (nat_cmp (get_or xs i 0) (get_or ys i 0)) (ranked (get_or xs i 0) (get_or ys i 0) _ refl) ∙ sym at_index
+    where
+      decided : (r : Ordering)
+          → MatchOrdering r (get_or xs i 0 < get_or ys i 0) (get_or xs i 0 ≡ get_or ys i 0)
+          (get_or ys i 0 < get_or xs i 0)
+          → r ≡ ordering_then r (slice_cmp nat_cmp (drop (i + 1) xs) (drop (i + 1) ys))
+      decided Less e = refl
+      decided Equal e = absurd (differ e)
+      decided Greater e = refl
+
+-- where one list has no items left, the lengths decide
+none_left : (xs ys : List ℕ) → (length xs ≡ 0) ⊎ (length ys ≡ 0)
+    → nat_cmp (length xs) (length ys) ≡ slice_cmp nat_cmp xs ys
+none_left [] [] h = refl
+none_left [] (y ∷ ys) h = sym (nat_cmp_is 0 (length (y ∷ ys)) Less (omega arith))
+none_left (x ∷ xs) [] h = sym (nat_cmp_is (length (x ∷ xs)) 0 Greater (omega arith))
+none_left (x ∷ xs) (y ∷ ys) (inl e) = absurd (omega (arith, e))
+none_left (x ∷ xs) (y ∷ ys) (inr e) = absurd (omega (arith, e))
+
+-- and so they do behind as many items as the shorter one has
+pub lengths_decide : (xs ys : List ℕ) (i : ℕ) → i ≡ min (length xs) (length ys)
+    → nat_cmp (length xs) (length ys) ≡ slice_cmp nat_cmp (drop i xs) (drop i ys)
+lengths_decide xs ys i e =
+    let l = length-drop i xs in
+    let k = length-drop i ys in
+    same_order (length xs) (length ys) (length (drop i xs)) (length (drop i ys)) (λ h. omega arith) (λ h. omega arith)
+    (λ h. omega arith)
+    ∙ none_left (drop i xs) (drop i ys) (one_is_empty l k)
+  where
+    one_is_empty : length (drop i xs) ≡ length xs - i → length (drop i ys) ≡ length ys - i
+        → (length (drop i xs) ≡ 0) ⊎ (length (drop i ys) ≡ 0)
+    one_is_empty l k = elim (cases_lt (length xs) (length ys)) [
+      | inl h ↦ inl (omega arith)
+      | inr h ↦ inr (omega arith)
+    ]
+
+-- ---- two lists of digits in the same places, whose last digit is not 0
+abbrev EndsInDigit : List ℕ → Type 0
+EndsInDigit ds = 0 < length ds → 0 < get_or ds (length ds - 1) 0
+
+others_end : (d : ℕ) (ds : List ℕ) → EndsInDigit (d ∷ ds) → EndsInDigit ds
+others_end d ds ends some =
+    let k : length (d ∷ ds) - 1 ≡ suc (length ds - 1) = omega arith in
+    let e = ends (omega arith) in
+    (rw k at e)
+
+first_and_others : (top d : ℕ) (ds : List ℕ) → length (d ∷ ds) ≤ top
+    → number_at top (d ∷ ds) ≡ d * 10 ^ (top - 1) + number_at (top - 1) ds
+first_and_others top d ds h =
+    number_at-append top (d ∷ []) ds (omega arith) ∙ ap (λ n. n + number_at (top - 1) ds) (number_at-one top d)
+
+-- the order of the first digits, and where these are equal that of the others
+module _ (top d e : ℕ) (ds es : List ℕ) (b : AllBelowBase 10 ds) (c : AllBelowBase 10 es)
+    (f : length (d ∷ ds) ≤ top) (g : length (e ∷ es) ≤ top)
+    (others : MatchOrdering (slice_cmp nat_cmp ds es) (number_at (top - 1) ds < number_at (top - 1) es)
+    (number_at (top - 1) ds ≡ number_at (top - 1) es) (number_at (top - 1) es < number_at (top - 1) ds)) where
+  firsts : (r : Ordering) → MatchOrdering r (d < e) (d ≡ e) (e < d)
+      → MatchOrdering (ordering_then r (slice_cmp nat_cmp ds es)) (number_at top (d ∷ ds) < number_at top (e ∷ es))
+      (number_at top (d ∷ ds) ≡ number_at top (e ∷ es)) (number_at top (e ∷ es) < number_at top (d ∷ ds))
+  firsts Less h =
+      let behind : number_at (top - 1) ds < 10 ^ (top - 1) = number_at-lt (top - 1) ds b (omega arith) in
+      let more : (d + 1) * 10 ^ (top - 1) ≤ e * 10 ^ (top - 1) = mul-le-mul_right (10 ^ (top - 1)) (omega arith) in
+      omega (arith, first_and_others top d ds f, first_and_others top e es g, behind, more)
+  firsts Equal h =
+      let same : d * 10 ^ (top - 1) ≡ e * 10 ^ (top - 1) = ap (λ n. n * 10 ^ (top - 1)) h in
+      let left = first_and_others top d ds f in
+      let right = first_and_others top e es g in
+      carried (λ l. omega arith) (λ l. omega arith) (λ l. omega arith) (slice_cmp nat_cmp ds es) others
+  firsts Greater h =
+      let behind : number_at (top - 1) es < 10 ^ (top - 1) = number_at-lt (top - 1) es c (omega arith) in
+      let more : (e + 1) * 10 ^ (top - 1) ≤ d * 10 ^ (top - 1) = mul-le-mul_right (10 ^ (top - 1)) (omega arith) in
+      omega (arith, first_and_others top d ds f, first_and_others top e es g, behind, more)
+
+-- they have the order of their numbers
+pub digits_order : (top : ℕ) (ds es : List ℕ) → AllBelowBase 10 ds → AllBelowBase 10 es → length ds ≤ top
+    → length es ≤ top → EndsInDigit ds → EndsInDigit es
+    → slice_cmp nat_cmp ds es ≡ nat_cmp (number_at top ds) (number_at top es)
+digits_order top [] [] b c f g p q = nat_cmp_is (number_at top []) (number_at top []) Equal refl
+digits_order top [] (e ∷ es) b c f g p q =
+    nat_cmp_is (number_at top []) (number_at top (e ∷ es)) Less
+    (omega (arith, number_at-none top [] refl, number_at-pos top (e ∷ es) c (omega arith) (q (omega arith))))
+digits_order top (d ∷ ds) [] b c f g p q =
+    nat_cmp_is (number_at top (d ∷ ds)) (number_at top []) Greater
+    (omega (arith, number_at-none top [] refl, number_at-pos top (d ∷ ds) b (omega arith) (p (omega arith))))
+digits_order top (d ∷ ds) (e ∷ es) b c f g p q =
+    let others =
+    ranked (number_at (top - 1) ds) (number_at (top - 1) es) (slice_cmp nat_cmp ds es)
+    (digits_order (top - 1) ds es b.1 c.1 (omega arith) (omega arith) (others_end d ds p) (others_end e es q)) in
+    nat_cmp_is (number_at top (d ∷ ds)) (number_at top (e ∷ es)) (ordering_then (nat_cmp d e) (slice_cmp nat_cmp ds es))
+    (firsts top d e ds es b.1 c.1 f g others (nat_cmp d e) (ranked d e (nat_cmp d e) refl))
+
+-- ---- two values
+module _ {ds es : List ℕ} {m m' hi lo hi' lo' : ℤ} (s : IsStored ds m hi lo) (t : IsStored es m' hi' lo') where
+  -- digits from one magnitude down have the order of the numbers
+  pub numbers_order : m ≡ m' → slice_cmp nat_cmp ds es ≡ nat_cmp (number_of ds m) (number_of es m')
+  unfolding number_of
+  numbers_order same =
+      let place_same = ap place same in
+      digits_order (place m + 1) ds es s.digits t.digits (omega (arith, s.fits)) (omega (arith, t.fits, place_same))
+      s.back t.back
+      ∙ ap (λ k. nat_cmp (number_at (place m + 1) ds) (number_at (place k + 1) es)) same
+
+  -- where one has no digits, their counts have the order of the numbers
+  pub none_order : (length ds ≡ 0) ⊎ (length es ≡ 0)
+      → nat_cmp (length ds) (length es) ≡ nat_cmp (number_of ds m) (number_of es m')
+  none_order none =
+      same_order (length ds) (length es) (number_of ds m) (number_of es m')
+      (λ l. let z : length ds ≡ 0 = omega arith in omega (arith, number_of-none s z, number_of-pos t (omega arith)))
+      (λ e. let z : length ds ≡ 0 = omega arith in number_of-none s z ∙ sym (number_of-none t (omega arith)))
+      (λ l. let z : length es ≡ 0 = omega arith in omega (arith, number_of-none t z, number_of-pos s (omega arith)))
+
+  -- first digits at two magnitudes have the order of the numbers
+  pub magnitudes_order : 0 < length ds → 0 < length es → ¬ (m ≡ m')
+      → int_cmp m m' ≡ nat_cmp (number_of ds m) (number_of es m')
+  magnitudes_order some some' differ =
+      same_int_order m m' (number_of ds m) (number_of es m') (λ l.
+      let up : place m + 1 ≤ place m' = omega (arith, ints, place_is m, place_is m', lowest s, lowest t) in
+      let higher : 10 ^ (place m + 1) ≤ 10 ^ place m' = pow-le-pow_right (omega arith) up in
+      omega (arith, number_of-lt s, number_of-ge t some', higher))
+      (λ e. absurd (differ e))
+      (λ l.
+      let up : place m' + 1 ≤ place m = omega (arith, ints, place_is m, place_is m', lowest s, lowest t) in
+      let higher : 10 ^ (place m' + 1) ≤ 10 ^ place m = pow-le-pow_right (omega arith) up in
+      omega (arith, number_of-lt t, number_of-ge s some, higher))

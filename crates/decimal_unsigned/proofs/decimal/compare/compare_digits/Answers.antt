@@ -1,0 +1,17 @@
+use Rattle.std.proofs.Common.{◌≡◌, length, sym, ◌∙◌, arith}
+use Rattle.std.specs.Prelude.{min}
+use Rattle.std.specs.Cmp.Lexicographic.{slice_cmp}
+use Rattle.std.specs.Ordering.{nat_cmp}
+use Rattle.decimal_unsigned.proofs.Comparing.{lengths_decide}
+use Rattle.decimal_unsigned.proofs.decimal.compare.compare_digits.Goals as goal
+
+pub returns : goal.returns
+returns g c =
+    let ds = g.D.DigitStore.digits c.args.digits.now in
+    let es = g.E.DigitStore.digits c.args.other.now in
+    let i = c.loop-index.index in
+    let end : i ≡ min (length ds) (length es) =
+    omega (arith, c.min-index-end.ensures, c.len.ensures, c.len-2.ensures) in
+    let left : nat_cmp (length ds) (length es) ≡ slice_cmp nat_cmp ds es =
+    lengths_decide ds es i end ∙ sym c.loop-index.invariant in
+    c.cmp-2.ensures ∙ (λ k. nat_cmp (c.len-3.ensures k) (c.len-4.ensures k)) ∙ left

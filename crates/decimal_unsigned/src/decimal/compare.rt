@@ -1,0 +1,44 @@
+//! The order of two values, by their numbers.
+ghost use Rattle.std.specs.Prelude.{◌≡◌};
+ghost use Rattle.std.specs.Cmp.Lexicographic.{slice_cmp};
+ghost use Rattle.std.specs.Ordering.{nat_cmp};
+
+use super::UnsignedOver;
+use decimal_digits::digits::DigitStore;
+use std::cmp::Ordering;
+
+/// Compares two lists of digits by the first that differ; where all of one are the first of the other, the longer one
+/// is greater.
+fn compare_digits<D: DigitStore, E: DigitStore>(digits: &D, other: &E) -> Ordering
+    ensures { result ≡ slice_cmp nat_cmp (D.digits digits.now) (E.digits other.now) }
+{
+    for index in 0..digits.len().min(other.len()) {
+        let digit = digits.get(index);
+        let other_digit = other.get(index);
+        if digit != other_digit {
+            return digit.cmp(&other_digit);
+        }
+    }
+    digits.len().cmp(&other.len())
+}
+
+impl<D: DigitStore> UnsignedOver<D> {
+    /// Compares the numbers of two values, over any two stores, and not the zeros that they show.
+    ///
+    /// `0.5` is less than `2`, and `1.0` and `1` are `Equal`. It is not `Ord`, which would have to tell apart what `==`
+    /// tells apart: two values are equal where their texts are. It asks for no memory. Not in the original.
+    pub fn compare<E: DigitStore>(&self, other: &UnsignedOver<E>) -> Ordering
+        ensures { result ≡ nat_cmp self.now.number other.now.number }
+    {
+        let len = self.digits.len();
+        let other_len = other.digits.len();
+        if len == 0 || other_len == 0 {
+            // Only the number 0 has no digits.
+            return len.cmp(&other_len);
+        }
+        if self.magnitude != other.magnitude {
+            return self.magnitude.cmp(&other.magnitude);
+        }
+        compare_digits(&self.digits, &other.digits)
+    }
+}

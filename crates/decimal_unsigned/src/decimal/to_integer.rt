@@ -1,0 +1,141 @@
+//! Integers of values.
+ghost use Rattle.std.specs.Prelude.{◌≡◌, ◌*◌, ◌^◌, ◌<◌, ◌≤◌, length, slice_index};
+ghost use Rattle.decimal_digits.specs.Tails.{leading};
+ghost use Rattle.decimal_unsigned.specs.ToInteger.{in_range, as_integer, integer_error_text};
+
+use super::UnsignedOver;
+use decimal_digits::digits::DigitStore;
+use decimal_digits::ops::places_above;
+use std::error::Error;
+use std::fmt;
+
+/// Why a number is no integer of a type.
+///
+/// `1.5` is `NotWhole` for each type, and 300 digits are `OutOfRange` where no digit behind the dot is other than 0.
+/// Not in the original.
+#[derive(Clone, Copy, Debug, PartialEq, Eq)]
+pub enum IntegerError {
+    /// There is a digit behind the dot that is not 0.
+    NotWhole,
+    /// The number is whole, and the type does not hold it.
+    OutOfRange,
+}
+
+impl IntegerError {
+    /// The sentence that says why.
+    fn text(&self) -> &'static str
+        ensures { result.now ≡ integer_error_text self.now }
+    {
+        match self {
+            IntegerError::NotWhole => "Not a whole number",
+            IntegerError::OutOfRange => "Integer out of range",
+        }
+    }
+}
+
+impl fmt::Display for IntegerError {
+    ghost use Rattle.std.specs.Prelude.{Some};
+    ghost use Rattle.decimal_unsigned.specs.ToInteger.{integer_error_text};
+
+    ghost output = { λ e. Some (integer_error_text e) };
+
+    ghost styled_output = { λ e _. Some (integer_error_text e) };
+
+    /// Writes the sentence that says why: `Not a whole number` for `NotWhole`. It looks at no option of the format.
+    ///
+    /// Err: the formatter refused it. Not in the original.
+    fn fmt<W: fmt::Write>(&self, f: &mut fmt::Formatter<W>) -> fmt::Result {
+        f.write_str(self.text())
+    }
+}
+
+impl Error for IntegerError {}
+
+/// The digit at an index, and 0 behind the last one.
+#[inline]
+fn digit_or_zero<D: DigitStore>(digits: &D, index: usize) -> u8
+    ensures value { result ≡ slice_index (D.digits digits.now) index }
+    ensures is_digit { result < 10 }
+{
+    if index < digits.len() {
+        digits.get(index)
+    } else {
+        0
+    }
+}
+
+/// The number that the first digits write, with zeros behind the last one. In 64 bits there is room for 19 digits.
+#[inline]
+fn leading_short<D: DigitStore>(digits: &D, count: usize) -> u64
+    requires { count ≤ 19 }
+    ensures { result ≡ leading count (D.digits digits.now) }
+{
+    let mut number = 0;
+    for index in 0..count {
+        number = number * 10 + digit_or_zero(digits, index) as u64;
+    }
+    number
+}
+
+/// The number that the first digits write, with zeros behind the last one. In 128 bits there is room for 38 digits.
+fn leading_long<D: DigitStore>(digits: &D, count: usize) -> u128
+    requires { count ≤ 38 }
+    ensures { result ≡ leading count (D.digits digits.now) }
+{
+    let mut number = 0;
+    for index in 0..count {
+        number = number * 10 + digit_or_zero(digits, index) as u128;
+    }
+    number
+}
+
+/// The number that the first 39 digits write, with zeros behind the last one, where 128 bits hold it.
+fn leading_longest<D: DigitStore>(digits: &D) -> Result<u128, IntegerError>
+    ensures { result ≡ in_range (2 ^ 128) (leading 39 (D.digits digits.now)) }
+{
+    let Some(front) = leading_long(digits, 38).checked_mul(10) else {
+        return Err(IntegerError::OutOfRange);
+    };
+    match front.checked_add(digit_or_zero(digits, 38) as u128) {
+        Some(number) => Ok(number),
+        None => Err(IntegerError::OutOfRange),
+    }
+}
+
+impl<D: DigitStore> UnsignedOver<D> {
+    /// Gives the integer that the number is, whatever zeros it shows.
+    ///
+    /// Of `012.00` it is 12. Err: `NotWhole` where a digit behind the dot is not 0, as in `1.5`; else `OutOfRange`
+    /// where the number is 2 to the 64 or more. It asks for no memory. Not in the original.
+    pub fn try_to_u64(&self) -> Result<u64, IntegerError>
+        ensures { result ≡ as_integer (2 ^ 64) self.now.number }
+    {
+        let integer = self.try_to_u128()?;
+        if integer > u64::MAX as u128 {
+            return Err(IntegerError::OutOfRange);
+        }
+        Ok(integer as u64)
+    }
+
+    /// Gives the integer that the number is, whatever zeros it shows.
+    ///
+    /// Of `012.00` it is 12. Err: `NotWhole` where a digit behind the dot is not 0, as in `1.5`; else `OutOfRange`
+    /// where the number is 2 to the 128 or more. It asks for no memory. Not in the original.
+    #[inline]
+    pub fn try_to_u128(&self) -> Result<u128, IntegerError>
+        ensures { result ≡ as_integer (2 ^ 128) self.now.number }
+    {
+        let Some(places) = places_above(0, self.magnitude) else {
+            return Err(IntegerError::NotWhole);
+        };
+        if places < self.digits.len() {
+            return Err(IntegerError::NotWhole);
+        }
+        match places {
+            0..=19 => Ok(leading_short(&self.digits, places) as u128),
+            20..=38 => Ok(leading_long(&self.digits, places)),
+            39 => leading_longest(&self.digits),
+            _ => Err(IntegerError::OutOfRange),
+        }
+    }
+}

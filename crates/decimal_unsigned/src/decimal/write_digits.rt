@@ -1,0 +1,22 @@
+//! The digits at consecutive magnitudes.
+ghost use Rattle.std.specs.Prelude.{◌≡◌, ◌+◌, ◌+ℤ◌, ◌-ℤ◌, ◌≤ℤ◌, length, slice_index, EachIndex, pos};
+ghost use Rattle.decimal_digits.specs.Number.{digit};
+
+use super::UnsignedOver;
+use decimal_digits::digits::DigitStore;
+
+impl<D: DigitStore> UnsignedOver<D> {
+    /// Writes the digits at consecutive magnitudes as text, from one down, as many as there are places.
+    ///
+    /// Each place gets a byte from `b'0'` to `b'9'`, which is `b'0'` at each magnitude that is not shown, and none gets
+    /// a dot: of `12.5` four places from 2 down get `0125`. It asks for no memory. Requires magnitudes of at least
+    /// -32768. Not in the original.
+    pub fn write_digits(&self, highest: i16, places: &mut [u8])
+        requires { pos (length places.old) ≤ℤ (highest +ℤ pos 32769) }
+        ensures { EachIndex places.new
+            (λ k. slice_index places.new k ≡ 48 + digit self.now.number (highest -ℤ pos k)) }
+    {
+        places.fill(b'0');
+        self.copy_digits(highest, places);
+    }
+}

@@ -1,0 +1,32 @@
+//! The order of two decimals, by their numbers.
+ghost use Rattle.std.specs.Prelude.{◌≡◌};
+ghost use Rattle.std.specs.Ordering.{int_cmp};
+ghost use Rattle.fixed_decimal.specs.Decimal.{signed_number};
+
+use crate::variations::{Sign, Signed};
+use decimal_digits::digits::DigitStore;
+use decimal_unsigned::decimal::UnsignedOver;
+use std::cmp::Ordering;
+
+impl<D: DigitStore> Signed<UnsignedOver<D>> {
+    /// Compares the numbers of two decimals with their signs, over any two stores, and not the zeros that they show.
+    ///
+    /// `-2` is less than `-1.5`; `1.0`, `1` and `+1` are `Equal`, and so are `-0` and `0`. It is not `Ord`, which would
+    /// have to tell apart what `==` tells apart: two decimals are equal where their texts are. It asks for no memory.
+    /// Not in the original.
+    pub fn compare<E: DigitStore>(&self, other: &Signed<UnsignedOver<E>>) -> Ordering
+        ensures { result ≡ int_cmp (signed_number self.now) (signed_number other.now) }
+    {
+        let is_zero = self.absolute.is_zero();
+        let other_is_zero = other.absolute.is_zero();
+        if is_zero && other_is_zero {
+            return Ordering::Equal;
+        }
+        match (self.sign, other.sign) {
+            (Sign::Negative, Sign::Negative) => other.absolute.compare(&self.absolute),
+            (Sign::Negative, _) => Ordering::Less,
+            (_, Sign::Negative) => Ordering::Greater,
+            _ => self.absolute.compare(&other.absolute),
+        }
+    }
+}

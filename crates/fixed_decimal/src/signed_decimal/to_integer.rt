@@ -1,0 +1,97 @@
+//! Integers of decimals.
+ghost use Rattle.std.specs.Prelude.{◌≡◌, ◌^◌, ◌<◌, ◌≤◌, pos, neg_ℤ};
+ghost use Rattle.fixed_decimal.specs.ToInteger.{signed_in_range, as_unsigned, as_signed};
+
+use crate::variations::{Sign, Signed};
+use decimal_digits::digits::DigitStore;
+use decimal_unsigned::IntegerError;
+use decimal_unsigned::decimal::UnsignedOver;
+
+/// The integer of at least 0 with an absolute value, where it is below a bound.
+fn positive(absolute: u128, bound: u128) -> Result<i128, IntegerError>
+    requires { bound ≤ 2 ^ 127 }
+    ensures { result ≡ signed_in_range bound (pos absolute) }
+{
+    if absolute >= bound {
+        return Err(IntegerError::OutOfRange);
+    }
+    Ok(absolute as i128)
+}
+
+/// The integer of at most 0 with an absolute value, where that is at most a bound.
+fn negative(absolute: u128, bound: u128) -> Result<i128, IntegerError>
+    requires some { 0 < bound }
+    requires in_range { bound ≤ 2 ^ 127 }
+    ensures { result ≡ signed_in_range bound (neg_ℤ (pos absolute)) }
+{
+    if absolute == 0 {
+        return Ok(0);
+    }
+    if absolute > bound {
+        return Err(IntegerError::OutOfRange);
+    }
+    Ok(-1 - (absolute - 1) as i128)
+}
+
+impl<D: DigitStore> Signed<UnsignedOver<D>> {
+    /// Gives the integer that the number is, whatever zeros it shows.
+    ///
+    /// Of `+12.00` it is 12, and of `-0` it is 0. Err: `NotWhole` where a digit behind the dot is not 0, as in `-1.5`;
+    /// else `OutOfRange` where the number is below 0, or 2 to the 64 or more. It asks for no memory. Not in the
+    /// original.
+    pub fn try_to_u64(&self) -> Result<u64, IntegerError>
+        ensures { result ≡ as_unsigned (2 ^ 64) self.now }
+    {
+        let integer = self.absolute.try_to_u64()?;
+        match self.sign {
+            Sign::Negative if integer != 0 => Err(IntegerError::OutOfRange),
+            _ => Ok(integer),
+        }
+    }
+
+    /// Gives the integer that the number is, whatever zeros it shows.
+    ///
+    /// Of `+12.00` it is 12, and of `-0` it is 0. Err: `NotWhole` where a digit behind the dot is not 0, as in `-1.5`;
+    /// else `OutOfRange` where the number is below 0, or 2 to the 128 or more. It asks for no memory. Not in the
+    /// original.
+    pub fn try_to_u128(&self) -> Result<u128, IntegerError>
+        ensures { result ≡ as_unsigned (2 ^ 128) self.now }
+    {
+        let integer = self.absolute.try_to_u128()?;
+        match self.sign {
+            Sign::Negative if integer != 0 => Err(IntegerError::OutOfRange),
+            _ => Ok(integer),
+        }
+    }
+
+    /// Gives the integer that the number is, whatever zeros it shows.
+    ///
+    /// Of `-12.00` it is -12, and of `-0` it is 0. Err: `NotWhole` where a digit behind the dot is not 0, as in `-1.5`;
+    /// else `OutOfRange` where the number is below -2 to the 63, or 2 to the 63 or more. It asks for no memory. Not in
+    /// the original.
+    pub fn try_to_i64(&self) -> Result<i64, IntegerError>
+        ensures { result ≡ as_signed (2 ^ 63) self.now }
+    {
+        let absolute = self.absolute.try_to_u128()?;
+        let integer = match self.sign {
+            Sign::Negative => negative(absolute, 1 << 63)?,
+            Sign::None | Sign::Positive => positive(absolute, 1 << 63)?,
+        };
+        Ok(integer as i64)
+    }
+
+    /// Gives the integer that the number is, whatever zeros it shows.
+    ///
+    /// Of `-12.00` it is -12, and of `-0` it is 0. Err: `NotWhole` where a digit behind the dot is not 0, as in `-1.5`;
+    /// else `OutOfRange` where the number is below -2 to the 127, or 2 to the 127 or more. It asks for no memory. Not
+    /// in the original.
+    pub fn try_to_i128(&self) -> Result<i128, IntegerError>
+        ensures { result ≡ as_signed (2 ^ 127) self.now }
+    {
+        let absolute = self.absolute.try_to_u128()?;
+        match self.sign {
+            Sign::Negative => negative(absolute, 1 << 127),
+            Sign::None | Sign::Positive => positive(absolute, 1 << 127),
+        }
+    }
+}
