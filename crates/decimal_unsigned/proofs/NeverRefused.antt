@@ -1,6 +1,6 @@
 -- When a rounding is not refused: each multiple that a mode names is below the limit.
 use Rattle.std.proofs.Common.{◌≡◌, ℕ, ◌+◌, ◌-◌, ◌*◌, ◌^◌, ◌<◌, ◌≤◌, refl, sym, ◌∙◌, ap, arith, inl, inr}
-use Rattle.std.specs.Prelude.{Result, Ok, Err, IfErr, IsErrOf, IsOk, Some, None, ℤ, pos, negsuc, ◌+ℤ◌, ◌≤ℤ◌, ◌<ℤ◌}
+use Rattle.std.specs.Prelude.{Result, Ok, Err, IsErrOf, IsOk, None, ℤ, pos, negsuc, ◌+ℤ◌, ◌≤ℤ◌, ◌<ℤ◌}
 use Rattle.std.proofs.Math.Nat.{pow-le-pow_right, mul-le-mul_right}
 use Rattle.std.proofs.lemmas.Int.{ints}
 use Rattle.std.proofs.lemmas.Nat.{pow-add}
@@ -18,7 +18,7 @@ use Rattle.decimal_digits.proofs.Places.{place_is}
 use Rattle.decimal_digits.proofs.RoundingLaws.{rounded_number-multiple, rounded_number-monotone}
 use Rattle.decimal_digits.proofs.Tails.{unit_pos}
 use Rattle.decimal_unsigned.specs.Unsigned.{Unsigned, IsValue}
-use Rattle.decimal_unsigned.specs.Rounded.{rounded, HasRoom, HoldsOneMore, RoundingNeedsMemory, RoundingRefuses, IsRounded}
+use Rattle.decimal_unsigned.specs.Rounded.{HasRoom, HoldsOneMore, RoundingNeedsMemory, RoundsInPlace, IsRounded}
 use Rattle.decimal_unsigned.proofs.Roundings.{rounded_to-small}
 
 -- ---- Numbers.
@@ -111,17 +111,17 @@ module _ (held : ℕ) (v : Unsigned) (q : ℤ) (mode : UnsignedRoundingMode) (in
       (sym r.value ∙ rounded_to-small v q m (below_limit v q least greatest mode r.valid increment room))
 
   -- the limit does not refuse it
-  pub not_limited : {A : Type 0} (answer : Result A RoundError)
-      → IfErr answer (λ e. RoundingRefuses held e v q mode increment) → HasRoom v q increment
+  pub not_limited : {A : Type 0} (new : Unsigned) (answer : Result A RoundError)
+      → RoundsInPlace held v q mode increment new answer → HasRoom v q increment
       → IsErrOf answer Limit → ⊥
-  not_limited (Ok x) r room e = cc
-  not_limited (Err Limit) r room e = no_limit room r
-  not_limited (Err Memory) r room e = cc
+  not_limited new (Ok x) r room e = cc
+  not_limited new (Err Limit) r room e = no_limit room r.0
+  not_limited new (Err Memory) r room e = cc
 
   -- nor does want of memory, where one digit more is held without it
-  pub not_refused : {A : Type 0} (answer : Result A RoundError)
-      → IfErr answer (λ e. RoundingRefuses held e v q mode increment) → HasRoom v q increment
+  pub not_refused : {A : Type 0} (new : Unsigned) (answer : Result A RoundError)
+      → RoundsInPlace held v q mode increment new answer → HasRoom v q increment
       → HoldsOneMore held v increment → IsOk answer
-  not_refused (Ok x) r room more = refl
-  not_refused (Err Limit) r room more = absurd (no_limit room r)
-  not_refused (Err Memory) r room more = absurd (no_memory held v q mode increment r more)
+  not_refused new (Ok x) r room more = refl
+  not_refused new (Err Limit) r room more = absurd (no_limit room r.0)
+  not_refused new (Err Memory) r room more = absurd (no_memory held v q mode increment r.0 more)

@@ -1,6 +1,6 @@
 -- What the fields hold after a rounding.
 use Rattle.std.proofs.Common.{◌≡◌, ℕ, ◌<◌, ◌≤◌, nat_le, true, false, List, length, refl, sym, ◌∙◌, ap, arith, inl, inr}
-use Rattle.std.specs.Prelude.{Some, None, ℤ, pos, negsuc, ◌-ℤ◌, ◌≤ℤ◌}
+use Rattle.std.specs.Prelude.{Option, Some, None, Result, Ok, Err, IsOk, ℤ, pos, negsuc, ◌-ℤ◌, ◌≤ℤ◌}
 use Rattle.std.specs.Int.{int_max, int_min}
 use Rattle.std.specs.Int.Digits.{AllBelowBase}
 use Rattle.std.proofs.lemmas.Int.{ints, clamps}
@@ -11,7 +11,12 @@ use Rattle.decimal_digits.specs.Digits.{number_of}
 use Rattle.decimal_digits.specs.Left.{Spells, IsAbove}
 use Rattle.decimal_digits.specs.Rounding.{unit_at, rounded_number}
 use Rattle.decimal_digits.specs.declared.rounding.RoundingIncrement.{RoundingIncrement}
+use Rattle.decimal_digits.specs.declared.rounding.RoundingIncrement.TheVariants.{MultiplesOf1}
+use Rattle.decimal_digits.specs.declared.rounding.RoundError.{RoundError}
+use Rattle.decimal_digits.specs.declared.rounding.RoundError.TheVariants.{Limit, Memory}
+use Rattle.decimal_digits.specs.declared.rounding.UnsignedRoundingMode.{UnsignedRoundingMode}
 use Rattle.decimal_digits.specs.declared.rounding.UnsignedRoundingMode.TheVariants.{Trunc}
+use Rattle.std.specs.Result.{is_ok}
 use Rattle.decimal_digits.proofs.RoundingLaws.{trunc_le}
 use Rattle.decimal_digits.proofs.Tails.{unit_pos}
 use Rattle.decimal_digits.proofs.Ends.{first_zero}
@@ -19,7 +24,7 @@ use Rattle.decimal_digits.proofs.NumberAt.{number_of-none}
 use Rattle.decimal_digits.proofs.Places.{place_is}
 use Rattle.decimal_unsigned.specs.Unsigned.{Unsigned}
 use Rattle.decimal_unsigned.specs.Fields.{IsStored}
-use Rattle.decimal_unsigned.specs.Rounded.{with_number, rounded_to, rounded}
+use Rattle.decimal_unsigned.specs.Rounded.{with_number, rounded_to, rounded, IsRounded, AnswersInPlace, RoundsInPlace}
 use Rattle.decimal_unsigned.proofs.Values.{size-number_of}
 
 -- a number against a limit
@@ -45,6 +50,24 @@ trunc_makes v p increment h =
     let u = unit_at increment p in
     rounded_to-small v p (rounded_number Trunc u v.number)
     (omega (arith, h, trunc_le u v.number (unit_pos increment p)))
+
+-- an answer that has no reason to refuse is Ok
+pub made_unless : {A E V : Type 0} (makes : Option V → Type 0) (old new : V) (r : Result A E)
+    → AnswersInPlace makes old new r → (makes None → ⊥)
+    → IsOk r
+made_unless makes old new (Ok x) a never = refl
+made_unless makes old new (Err e) a never = absurd (never a.0)
+
+-- by 1 only the limit refuses
+pub answers_by_1 : {A B E : Type 0} (held : ℕ) (v : Unsigned) (p : ℤ) (mode : UnsignedRoundingMode) (new : Unsigned)
+    (r : Result A RoundError) (s : Result B E) → is_ok s ≡ is_ok r
+    → RoundsInPlace held v p mode MultiplesOf1 new r
+    → AnswersInPlace (IsRounded v p mode MultiplesOf1) v new s
+answers_by_1 held v p mode new (Ok x) (Ok y) e a = a
+answers_by_1 held v p mode new (Ok x) (Err y) e a = absurd (cc)
+answers_by_1 held v p mode new (Err x) (Ok y) e a = absurd (cc)
+answers_by_1 held v p mode new (Err Limit) (Err y) e a = a
+answers_by_1 held v p mode new (Err Memory) (Err y) e a = absurd (let by_25 = a.0.by_25 in cc)
 
 -- no digits stand for 0, whose first magnitude is 0
 unspelled : {ds : List ℕ} {m : ℤ} {n : ℕ} → Spells ds m n → length ds ≡ 0 → m ≡ pos 0

@@ -1,5 +1,5 @@
 -- What a rounding makes of a value.
-use Rattle.std.specs.Prelude.{◌≡◌, ℕ, ◌<◌, Bool, nat_le, if◌then◌else◌, Option, Some, None, ℤ, pos, ◌-ℤ◌, ◌<ℤ◌}
+use Rattle.std.specs.Prelude.{◌≡◌, ℕ, ◌<◌, Bool, nat_le, if◌then◌else◌, Option, Some, None, Result, MatchResult, ℤ, pos, ◌-ℤ◌, ◌<ℤ◌}
 use Rattle.std.specs.Int.{int_max, int_min}
 use Rattle.decimal_digits.specs.Number.{number_limit, first, size}
 use Rattle.decimal_digits.specs.Rounding.{unit_at, Named, rounded_number, DigitRoundingNeedsMemory}
@@ -68,3 +68,30 @@ HasRoom v position increment = v.hi <ℤ pos 32767
 abbrev pub HoldsOneMore : ℕ → Unsigned → RoundingIncrement → Type 0
 HoldsOneMore held v MultiplesOf25 = size v.number < held
 HoldsOneMore held v increment = Unit {0}
+
+-- ---- Answers.
+
+-- what a call in place answers, where `makes` says which value it makes, or that it makes none: it has made the new
+-- value, or there is none, and the value is as it was
+abbrev pub AnswersInPlace : {A E V : Type 0} → (Option V → Type 0) → V → V → Result A E → Type 0
+AnswersInPlace makes old new answer = MatchResult answer (λ _. makes (Some new)) (λ _. makes None × (new ≡ old))
+
+-- the same of a value that is handed in, and handed back where there is none
+abbrev pub AnswersByValue : {V : Type 0} → (Option V → Type 0) → V → Result V V → Type 0
+AnswersByValue makes old answer = MatchResult answer (λ v. makes (Some v)) (λ v. makes None × (v ≡ old))
+
+-- what a rounding in place answers: it has made the new value, or it refuses, and the value is as it was
+abbrev pub RoundsInPlace : {A : Type 0} → ℕ → Unsigned → ℤ → UnsignedRoundingMode → RoundingIncrement → Unsigned
+    → Result A RoundError
+    → Type 0
+RoundsInPlace held old position mode increment new answer =
+    MatchResult answer (λ _. IsRounded old position mode increment (Some new))
+    (λ e. RoundingRefuses held e old position mode increment × (new ≡ old))
+
+-- and a rounding of a value that is handed in, and handed back where it refuses
+abbrev pub RoundsByValue : ℕ → Unsigned → ℤ → UnsignedRoundingMode → RoundingIncrement
+    → Result Unsigned (Unsigned × RoundError)
+    → Type 0
+RoundsByValue held old position mode increment answer =
+    MatchResult answer (λ v. IsRounded old position mode increment (Some v))
+    (λ e. RoundingRefuses held e.1 old position mode increment × (e.0 ≡ old))

@@ -1,10 +1,10 @@
 //! Rounding at a position.
-ghost use Rattle.std.specs.Prelude.{◌≡◌, ◌≢◌, ◌+◌, ◌≤◌, pos, ◌-ℤ◌, ◌≤ℤ◌, Some, None, ◌<ℤ◌, IsErrOf, IsOk, IfOk, IfErr, OnOk, OnErr};
+ghost use Rattle.std.specs.Prelude.{◌≡◌, ◌≢◌, ◌+◌, ◌≤◌, pos, ◌-ℤ◌, ◌≤ℤ◌, Some, ◌<ℤ◌, IsErrOf, IsOk, IfErr, OnOk};
 ghost use Rattle.std.specs.Int.{int_max};
 ghost use Rattle.decimal_digits.specs.Number.{size};
 ghost use Rattle.decimal_unsigned.specs.Unsigned.{Unsigned};
 ghost use Rattle.decimal_unsigned.specs.Edits.{with_max_position};
-ghost use Rattle.decimal_unsigned.specs.Rounded.{IsRounded, rounded, RoundingRefuses, HasRoom, HoldsOneMore};
+ghost use Rattle.decimal_unsigned.specs.Rounded.{IsRounded, rounded, AnswersInPlace, AnswersByValue, RoundsInPlace, RoundsByValue, HasRoom, HoldsOneMore};
 ghost use Rattle.decimal_unsigned.specs.EditLaws.{PartsJoin, TruncationsCompose, ExpansionsCompose, RoundingIsMonotone};
 
 use super::UnsignedOver;
@@ -51,10 +51,7 @@ impl<D: DigitStore> UnsignedOver<D> {
         increment: RoundingIncrement,
         steps: &mut Steps,
     ) -> Result<(), RoundError>
-        ensures rounds { OnOk result (IsRounded self.old position mode increment (Some self.new)) }
-
-        ensures err { OnErr result (self.new ≡ self.old) }
-        ensures refused { IfErr result (λ e. RoundingRefuses D.L e self.old position mode increment) }
+        ensures answers { RoundsInPlace D.L self.old position mode increment self.new result }
         ensures succeeds { increment ≢ RoundingIncrement.MultiplesOf25 → IsErrOf result RoundError.Memory → ⊥ }
         // Below the highest magnitude there is room for each multiple, but not for 25 times 10 to the 32767.
         ensures room { HasRoom self.old position increment → IsErrOf result RoundError.Limit → ⊥ }
@@ -91,9 +88,7 @@ impl<D: DigitStore> UnsignedOver<D> {
         mode: UnsignedRoundingMode,
         increment: RoundingIncrement,
     ) -> Result<(), RoundError>
-        ensures rounds { OnOk result (IsRounded self.old position mode increment (Some self.new)) }
-        ensures err { OnErr result (self.new ≡ self.old) }
-        ensures refused { IfErr result (λ e. RoundingRefuses D.L e self.old position mode increment) }
+        ensures answers { RoundsInPlace D.L self.old position mode increment self.new result }
         ensures succeeds { increment ≢ RoundingIncrement.MultiplesOf25 → IsErrOf result RoundError.Memory → ⊥ }
         // Below the highest magnitude there is room for each multiple, but not for 25 times 10 to the 32767.
         ensures room { HasRoom self.old position increment → IsErrOf result RoundError.Limit → ⊥ }
@@ -112,9 +107,9 @@ impl<D: DigitStore> UnsignedOver<D> {
         position: i16,
         mode: UnsignedRoundingMode,
     ) -> Result<(), LimitError>
-        ensures rounds { OnOk result (IsRounded self.old position mode RoundingIncrement.MultiplesOf1 (Some self.new)) }
-        ensures limit { OnErr result (IsRounded self.old position mode RoundingIncrement.MultiplesOf1 None) }
-        ensures err { OnErr result (self.new ≡ self.old) }
+        ensures answers { AnswersInPlace
+            (IsRounded self.old position mode RoundingIncrement.MultiplesOf1)
+            self.old self.new result }
         // Below the highest magnitude there is room for each multiple.
         ensures fits { self.old.hi <ℤ pos 32767 → IsOk result }
     {
@@ -127,11 +122,9 @@ impl<D: DigitStore> UnsignedOver<D> {
     /// `1.5` at 0 becomes `2`, and so does `2.5`. Err: as for `round_with_mode`; the value then stays as it was, range
     /// included. The original's `round`, which puts 0 then.
     pub fn round(&mut self, position: i16) -> Result<(), LimitError>
-        ensures rounds { OnOk result (IsRounded self.old position UnsignedRoundingMode.HalfEven
-            RoundingIncrement.MultiplesOf1 (Some self.new)) }
-        ensures limit { OnErr result (IsRounded self.old position UnsignedRoundingMode.HalfEven
-            RoundingIncrement.MultiplesOf1 None) }
-        ensures err { OnErr result (self.new ≡ self.old) }
+        ensures answers { AnswersInPlace
+            (IsRounded self.old position UnsignedRoundingMode.HalfEven RoundingIncrement.MultiplesOf1)
+            self.old self.new result }
         // Below the highest magnitude there is room for each multiple.
         ensures fits { self.old.hi <ℤ pos 32767 → IsOk result }
     {
@@ -143,11 +136,9 @@ impl<D: DigitStore> UnsignedOver<D> {
     /// `99.999` at 4 becomes `10000`. Err: as for `round_with_mode`; the value then stays as it was, range included.
     /// The original's `expand`, which puts 0 then.
     pub fn expand(&mut self, position: i16) -> Result<(), LimitError>
-        ensures rounds { OnOk result (IsRounded self.old position UnsignedRoundingMode.Expand
-            RoundingIncrement.MultiplesOf1 (Some self.new)) }
-        ensures limit { OnErr result (IsRounded self.old position UnsignedRoundingMode.Expand
-            RoundingIncrement.MultiplesOf1 None) }
-        ensures err { OnErr result (self.new ≡ self.old) }
+        ensures answers { AnswersInPlace
+            (IsRounded self.old position UnsignedRoundingMode.Expand RoundingIncrement.MultiplesOf1)
+            self.old self.new result }
         // Below the highest magnitude there is room for each multiple.
         ensures fits { self.old.hi <ℤ pos 32767 → IsOk result }
         // Expanded once more, it has the number that the old value gets at the higher position, or is refused where
@@ -184,9 +175,7 @@ impl<D: DigitStore> UnsignedOver<D> {
         mode: UnsignedRoundingMode,
         increment: RoundingIncrement,
     ) -> Result<Self, (Self, RoundError)>
-        ensures rounds { IfOk result (λ v. IsRounded self position mode increment (Some v)) }
-        ensures err { IfErr result (λ e. e.0 ≡ self) }
-        ensures refused { IfErr result (λ e. RoundingRefuses D.L e.1 self position mode increment) }
+        ensures answers { RoundsByValue D.L self position mode increment result }
         ensures succeeds { increment ≢ RoundingIncrement.MultiplesOf25
             → IfErr result (λ e. e.1 ≡ RoundError.Memory → ⊥) }
         ensures room { HasRoom self position increment → IfErr result (λ e. e.1 ≡ RoundError.Limit → ⊥) }
@@ -207,9 +196,7 @@ impl<D: DigitStore> UnsignedOver<D> {
         position: i16,
         mode: UnsignedRoundingMode,
     ) -> Result<Self, Self>
-        ensures rounds { IfOk result (λ v. IsRounded self position mode RoundingIncrement.MultiplesOf1 (Some v)) }
-        ensures limit { OnErr result (IsRounded self position mode RoundingIncrement.MultiplesOf1 None) }
-        ensures err { IfErr result (λ v. v ≡ self) }
+        ensures answers { AnswersByValue (IsRounded self position mode RoundingIncrement.MultiplesOf1) self result }
         ensures fits { self.hi <ℤ pos 32767 → IsOk result }
     {
         match self.round_with_mode(position, mode) {
@@ -223,11 +210,9 @@ impl<D: DigitStore> UnsignedOver<D> {
     /// Err: the multiple is 10 to the 32768 or more; it holds the value, unchanged. The original's `rounded`, which
     /// gives 0 then.
     pub fn rounded(self, position: i16) -> Result<Self, Self>
-        ensures rounds { IfOk result (λ v. IsRounded self position UnsignedRoundingMode.HalfEven
-            RoundingIncrement.MultiplesOf1 (Some v)) }
-        ensures limit { OnErr result (IsRounded self position UnsignedRoundingMode.HalfEven
-            RoundingIncrement.MultiplesOf1 None) }
-        ensures err { IfErr result (λ v. v ≡ self) }
+        ensures answers { AnswersByValue
+            (IsRounded self position UnsignedRoundingMode.HalfEven RoundingIncrement.MultiplesOf1)
+            self result }
         ensures fits { self.hi <ℤ pos 32767 → IsOk result }
     {
         self.rounded_with_mode(position, UnsignedRoundingMode::HalfEven)
@@ -238,11 +223,9 @@ impl<D: DigitStore> UnsignedOver<D> {
     /// Err: the multiple is 10 to the 32768 or more; it holds the value, unchanged. The original's `expanded`, which
     /// gives 0 then.
     pub fn expanded(self, position: i16) -> Result<Self, Self>
-        ensures rounds { IfOk result (λ v. IsRounded self position UnsignedRoundingMode.Expand
-            RoundingIncrement.MultiplesOf1 (Some v)) }
-        ensures limit { OnErr result (IsRounded self position UnsignedRoundingMode.Expand
-            RoundingIncrement.MultiplesOf1 None) }
-        ensures err { IfErr result (λ v. v ≡ self) }
+        ensures answers { AnswersByValue
+            (IsRounded self position UnsignedRoundingMode.Expand RoundingIncrement.MultiplesOf1)
+            self result }
         ensures fits { self.hi <ℤ pos 32767 → IsOk result }
     {
         self.rounded_with_mode(position, UnsignedRoundingMode::Expand)

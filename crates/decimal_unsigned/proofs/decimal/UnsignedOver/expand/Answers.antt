@@ -8,9 +8,7 @@ returns g c =
     let p = c.ranges.position in
     let ensures = simp to_z-of_z at c.round_with_mode.ensures in
     record {
-      rounds = ensures.rounds;
-      limit = ensures.limit;
-      err = ensures.err;
+      answers = ensures.answers;
       fits = ensures.fits;
       composes = expansions_compose c.args.self.now c.args.position (omega (arith, ints));
     }

@@ -1,4 +1,4 @@
-use Rattle.std.proofs.Common.{◌≡◌, length, w16, to_z, of_z, sym, ◌∙◌, ap, subst, arith, rules}
+use Rattle.std.proofs.Common.{◌≡◌, ℕ, List, length, w16, to_z, of_z, sym, ◌∙◌, ap, subst, arith, rules}
 use Rattle.std.specs.Prelude.{Err, Some, pos, ◌-ℤ◌}
 use Rattle.std.specs.Int.{int_max, int_min}
 use Rattle.std.proofs.lemmas.Int.{ints, to_z-of_z}
@@ -85,35 +85,39 @@ stored g c =
     (recursion_from_All _ _ (g.met.D.DigitStore.are_digits c.round.new.counted.list.now)) t.hi_in t.in_range.1
     (omega (arith, ints)) (omega (arith, ints)))
 
-pub returns-in_err-first-clause-refused : goal.returns-in_err-first-clause-refused
-returns-in_err-first-clause-refused g c =
+pub returns-in_err-first-clause-answers : goal.returns-in_err-first-clause-answers
+returns-in_err-first-clause-answers g c =
     let e = err_from_is_err_and c.from_residual.result c.from_residual.ensures.1 in
     let p = to_z-of_z w16 c.args.position c.ranges.position in
     let lent = ap g.D.DigitStore.digits c.new-counted.ensures.list in
     let n = number_again c.self.invariant c.self.view_is lent (magnitude_kept c.self.invariant) in
     let s = size_again c.self.invariant c.self.view_is lent in
-    rw (e.1, e.2)
-    (refuses _ _ c.args.self.now c.args.position c.args.mode c.args.increment
-    (value_of_view c.self.invariant c.self.view_is)
-    (subst (λ k. DigitRoundingRefuses c.in_err-first.field-0.0 c.args.increment k
-    (rounded_number c.args.mode (unit_at c.args.increment c.args.position) c.args.self.now.number)
-    g.D.DigitStore.L) s
-    (subst (λ m. DigitRoundingRefuses c.in_err-first.field-0.0 c.args.increment
-    (length (g.D.DigitStore.digits c.new-counted.result.list.now)) m g.D.DigitStore.L)
-    (λ i. rounded_number c.args.mode (unit_at c.args.increment (p i)) (n i))
-    c.in_err-first.ensures.refused)))
+    let shown : List ℕ → Unsigned = λ ds.
+    record { number = number_of ds c.self.inside.magnitude; hi = c.self.inside.hi; lo = c.self.inside.lo } in
+    rw (e.1, e.2) (
+      refuses _ _ c.args.self.now c.args.position c.args.mode c.args.increment
+          (value_of_view c.self.invariant c.self.view_is)
+          (subst (λ k. DigitRoundingRefuses c.in_err-first.field-0.0 c.args.increment k
+          (rounded_number c.args.mode (unit_at c.args.increment c.args.position) c.args.self.now.number)
+          g.D.DigitStore.L) s
+          (subst (λ m. DigitRoundingRefuses c.in_err-first.field-0.0 c.args.increment
+          (length (g.D.DigitStore.digits c.new-counted.result.list.now)) m g.D.DigitStore.L)
+          (λ i. rounded_number c.args.mode (unit_at c.args.increment (p i)) (n i))
+          c.in_err-first.ensures.refused)),
+      ap shown (c.in_err-first.ensures.err ∙ lent) ∙ c.self.view_is,
+    )
 
 pub returns-in_err-first-clause-room : goal.returns-in_err-first-clause-room
 returns-in_err-first-clause-room g c =
     let p = c.ranges.position in
     not_limited g.D.DigitStore.L c.args.self.now c.args.position c.args.mode c.args.increment (omega (arith, ints))
-    (omega (arith, ints)) c.from_residual.result (returns-in_err-first-clause-refused g c)
+    (omega (arith, ints)) _ c.from_residual.result (returns-in_err-first-clause-answers g c)
 
 pub returns-in_err-first-clause-fits : goal.returns-in_err-first-clause-fits
 returns-in_err-first-clause-fits g c =
     let p = c.ranges.position in
     not_refused g.D.DigitStore.L c.args.self.now c.args.position c.args.mode c.args.increment (omega (arith, ints))
-    (omega (arith, ints)) c.from_residual.result (returns-in_err-first-clause-refused g c)
+    (omega (arith, ints)) _ c.from_residual.result (returns-in_err-first-clause-answers g c)
 
 pub returns-in_err-first-clause-limit_turns : goal.returns-in_err-first-clause-limit_turns
 returns-in_err-first-clause-limit_turns g c h =
@@ -128,8 +132,8 @@ returns-in_err-first-clause-limit_turns g c h =
 pub invariant_of-self-2 : goal.invariant_of-self-2
 invariant_of-self-2 g c = stored g c
 
-pub returns-clause-rounds : goal.returns-clause-rounds
-returns-clause-rounds g c =
+pub returns-clause-answers : goal.returns-clause-answers
+returns-clause-answers g c =
     is_rounded c.args.self.now c.args.position c.args.mode c.args.increment
     (value_of_view c.self.invariant c.self.view_is) (value g c)
 

@@ -2,7 +2,9 @@ use Rattle.std.proofs.Common.{ap, subst, arith}
 use Rattle.std.specs.Option.{unwrap_or}
 use Rattle.std.proofs.lemmas.Int.{ints, to_z-of_z}
 use Rattle.decimal_digits.specs.declared.rounding.RoundingIncrement.TheVariants.{MultiplesOf1}
-use Rattle.decimal_digits.proofs.Results.{ok_unless}
+use Rattle.decimal_digits.specs.declared.rounding.UnsignedRoundingMode.TheVariants.{Trunc}
+use Rattle.decimal_unsigned.specs.Rounded.{IsRounded}
+use Rattle.decimal_unsigned.proofs.Roundings.{made_unless}
 use Rattle.decimal_unsigned.specs.Edits.{with_max_position}
 use Rattle.decimal_unsigned.specs.EditLaws.{PartsJoin, TruncationsCompose}
 use Rattle.decimal_unsigned.proofs.EditLaws.{parts, trunc_not_refused}
@@ -12,14 +14,15 @@ use Rattle.decimal_unsigned.proofs.decimal.UnsignedOver.trunc.Goals as goal
 pub unwrap-requires : goal.unwrap-requires
 unwrap-requires g c =
     let p = c.ranges.position in
-    ok_unless c.round_with_mode.result (simp to_z-of_z at c.round_with_mode.ensures.limit)
+    made_unless (IsRounded c.args.self.now c.args.position Trunc MultiplesOf1) c.args.self.now
+    c.round_with_mode.new.self c.round_with_mode.result (simp to_z-of_z at c.round_with_mode.ensures.answers)
     (λ r. trunc_not_refused c.args.self.now c.args.position r.valid MultiplesOf1 r.value)
 
 pub returns : goal.returns
 returns g c =
     let p = c.ranges.position in
     let v = c.args.self.now in
-    let ok = rw c.unwrap.ensures at c.round_with_mode.ensures.rounds in
+    let ok = rw c.unwrap.ensures at c.round_with_mode.ensures.answers in
     let rounds = simp to_z-of_z at ok in
     let value = ap (λ o. unwrap_or o v) rounds.value in
     record {
