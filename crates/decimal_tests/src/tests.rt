@@ -18,6 +18,8 @@ mod limited_runs;
 mod limited_store;
 mod long;
 mod memory;
+mod order;
+mod parts;
 mod reading;
 mod rounding;
 mod runs;
