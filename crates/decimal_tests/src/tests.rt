@@ -20,6 +20,8 @@ mod limited_store;
 mod long;
 mod memory;
 mod modes;
+mod order;
+mod parts;
 mod reading;
 mod rounding;
 mod runs;
