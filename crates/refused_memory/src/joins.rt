@@ -1,6 +1,6 @@
 //! Numbers that are joined to one of more digits.
 use crate::outcome::Outcome;
-use decimal_testing::shows;
+use decimal_doubles::shows;
 use fixed_decimal::{ConcatenateError, ParseError, UnsignedDecimal};
 use std::alloc::Global;
 

@@ -1,6 +1,6 @@
 //! Roundings that make a number of one digit more.
 use crate::outcome::Outcome;
-use decimal_testing::shows;
+use decimal_doubles::shows;
 use fixed_decimal::RoundingIncrement::MultiplesOf25;
 use fixed_decimal::SignedRoundingMode::Unsigned;
 use fixed_decimal::UnsignedRoundingMode::Trunc;
