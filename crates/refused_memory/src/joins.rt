@@ -1,7 +1,7 @@
 //! Numbers that are joined to one of more digits.
 use crate::outcome::Outcome;
 use crate::values::read;
-use decimal_testing::shows;
+use decimal_doubles::shows;
 use fixed_decimal::{ConcatenateError, ParseError, UnsignedDecimal};
 use std::alloc::Global;
 

@@ -1,7 +1,7 @@
 //! Roundings that make a number of one digit more.
 use crate::outcome::Outcome;
 use crate::values::read;
-use decimal_testing::shows;
+use decimal_doubles::shows;
 use fixed_decimal::RoundingIncrement::MultiplesOf25;
 use fixed_decimal::SignedRoundingMode::Unsigned;
 use fixed_decimal::UnsignedRoundingMode::Trunc;

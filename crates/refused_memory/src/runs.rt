@@ -1,6 +1,6 @@
 //! Whole runs: the start, the operands and the calls ask for memory.
 use crate::outcome::Outcome;
-use decimal_testing::LimitedSink;
+use decimal_doubles::LimitedSink;
 use fixed_decimal::RoundingIncrement::MultiplesOf25;
 use fixed_decimal::SignedRoundingMode::Unsigned;
 use fixed_decimal::UnsignedRoundingMode::Trunc;

@@ -1,70 +1,10 @@
 //! Values of each type that are read, made of integers, and copied.
 use crate::outcome::Outcome;
-use decimal_testing::shows;
+use decimal_doubles::{Value, shows};
 use fixed_decimal::{
-    CompactDecimal, Decimal, DigitStore, FixedInteger, ParseError, ScientificDecimal, Signed,
-    UnsignedDecimal, UnsignedOver, Writeable,
+    CompactDecimal, Decimal, FixedInteger, ParseError, ScientificDecimal, UnsignedDecimal,
 };
 use std::alloc::{AllocError, Global};
-
-/// A type of values that are read and copied.
-pub trait Value: Writeable + Drop {
-    /// The value that a text writes.
-    fn read(alloc: Global, text: &str) -> Result<Self, ParseError>;
-
-    /// A second value.
-    fn copy(&self) -> Result<Self, AllocError>;
-}
-
-impl<D: DigitStore> Value for UnsignedOver<D> {
-    fn read(alloc: Global, text: &str) -> Result<Self, ParseError> {
-        Self::try_from_str(alloc, text)
-    }
-
-    fn copy(&self) -> Result<Self, AllocError> {
-        self.clone()
-    }
-}
-
-impl<D: DigitStore> Value for Signed<UnsignedOver<D>> {
-    fn read(alloc: Global, text: &str) -> Result<Self, ParseError> {
-        Self::try_from_str(alloc, text)
-    }
-
-    fn copy(&self) -> Result<Self, AllocError> {
-        self.clone()
-    }
-}
-
-impl Value for FixedInteger {
-    fn read(alloc: Global, text: &str) -> Result<Self, ParseError> {
-        Self::try_from_str(alloc, text)
-    }
-
-    fn copy(&self) -> Result<Self, AllocError> {
-        self.clone()
-    }
-}
-
-impl Value for ScientificDecimal {
-    fn read(alloc: Global, text: &str) -> Result<Self, ParseError> {
-        Self::try_from_str(alloc, text)
-    }
-
-    fn copy(&self) -> Result<Self, AllocError> {
-        self.clone()
-    }
-}
-
-impl Value for CompactDecimal {
-    fn read(alloc: Global, text: &str) -> Result<Self, ParseError> {
-        Self::try_from_str(alloc, text)
-    }
-
-    fn copy(&self) -> Result<Self, AllocError> {
-        self.clone()
-    }
-}
 
 /// How the copy of a value goes.
 fn copied<T: Value>(value: &T, text: &str) -> Outcome {

@@ -1,0 +1,123 @@
+//! The types of values, as one trait.
+use decimal_digits::digits::DigitStore;
+use decimal_digits::sink::Writeable;
+use decimal_unsigned::ParseError;
+use decimal_unsigned::decimal::UnsignedOver;
+use fixed_decimal::{CompactDecimal, FixedInteger, ScientificDecimal, Signed};
+use std::alloc::{AllocError, Global};
+use std::fmt::Display;
+
+/// A type of values that are read, copied, compared and printed.
+pub trait Value: Writeable + Display + Drop {
+    /// The value that a text writes.
+    fn read(alloc: Global, text: &str) -> Result<Self, ParseError>;
+
+    /// The same by the call for bytes, where the type has one.
+    fn read_bytes(alloc: Global, text: &str) -> Result<Self, ParseError>;
+
+    /// A second value.
+    fn copy(&self) -> Result<Self, AllocError>;
+
+    /// Whether two values are equal.
+    fn equals(&self, other: &Self) -> bool;
+}
+
+/// Says how the reading of a text went: `read`, or why it did not.
+pub fn reading_word<T: Drop>(answer: Result<T, ParseError>) -> &'static str {
+    match answer {
+        Ok(_) => "read",
+        Err(ParseError::Limit) => "limit",
+        Err(ParseError::Syntax) => "syntax",
+        Err(ParseError::Memory) => "memory",
+    }
+}
+
+impl<D: DigitStore> Value for UnsignedOver<D> {
+    fn read(alloc: Global, text: &str) -> Result<Self, ParseError> {
+        Self::try_from_str(alloc, text)
+    }
+
+    fn read_bytes(alloc: Global, text: &str) -> Result<Self, ParseError> {
+        Self::try_from_utf8(alloc, text.as_bytes())
+    }
+
+    fn copy(&self) -> Result<Self, AllocError> {
+        self.clone()
+    }
+
+    fn equals(&self, other: &Self) -> bool {
+        self == other
+    }
+}
+
+impl<D: DigitStore> Value for Signed<UnsignedOver<D>> {
+    fn read(alloc: Global, text: &str) -> Result<Self, ParseError> {
+        Self::try_from_str(alloc, text)
+    }
+
+    fn read_bytes(alloc: Global, text: &str) -> Result<Self, ParseError> {
+        Self::try_from_utf8(alloc, text.as_bytes())
+    }
+
+    fn copy(&self) -> Result<Self, AllocError> {
+        self.clone()
+    }
+
+    fn equals(&self, other: &Self) -> bool {
+        self == other
+    }
+}
+
+impl Value for FixedInteger {
+    fn read(alloc: Global, text: &str) -> Result<Self, ParseError> {
+        Self::try_from_str(alloc, text)
+    }
+
+    fn read_bytes(alloc: Global, text: &str) -> Result<Self, ParseError> {
+        Self::try_from_utf8(alloc, text.as_bytes())
+    }
+
+    fn copy(&self) -> Result<Self, AllocError> {
+        self.clone()
+    }
+
+    fn equals(&self, other: &Self) -> bool {
+        self == other
+    }
+}
+
+impl Value for ScientificDecimal {
+    fn read(alloc: Global, text: &str) -> Result<Self, ParseError> {
+        Self::try_from_str(alloc, text)
+    }
+
+    fn read_bytes(alloc: Global, text: &str) -> Result<Self, ParseError> {
+        Self::try_from_utf8(alloc, text.as_bytes())
+    }
+
+    fn copy(&self) -> Result<Self, AllocError> {
+        self.clone()
+    }
+
+    fn equals(&self, other: &Self) -> bool {
+        self == other
+    }
+}
+
+impl Value for CompactDecimal {
+    fn read(alloc: Global, text: &str) -> Result<Self, ParseError> {
+        Self::try_from_str(alloc, text)
+    }
+
+    fn read_bytes(alloc: Global, text: &str) -> Result<Self, ParseError> {
+        Self::try_from_str(alloc, text)
+    }
+
+    fn copy(&self) -> Result<Self, AllocError> {
+        self.clone()
+    }
+
+    fn equals(&self, other: &Self) -> bool {
+        self == other
+    }
+}

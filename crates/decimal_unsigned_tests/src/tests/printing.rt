@@ -1,0 +1,99 @@
+//! Texts in strings, in sinks, and in sinks and writers that fail.
+use super::*;
+use decimal_digits::sink::{Out, Sink, TextBuf};
+use decimal_doubles::{FailingWriter, LimitedSink, WriteFailure};
+use decimal_unsigned::ParseError;
+
+/// Texts in parts, which `{}` writes of their values.
+const DISPLAYED: &[&str] = &["0", "0.00", "2.50", "0012.3400", NINES];
+
+/// Whether `{}` writes a text in parts of its value.
+fn displays_parts(alloc: Global, parts: &str) -> Result<bool, Fail> {
+    let text = long(alloc, parts)?;
+    let value = read::<DecimalStore>(alloc, text.as_str())?;
+    Ok(displays(&value, text.as_bytes()))
+}
+
+#[test]
+fn displays_values(rt: HostRuntime) -> Result<(), Fail> {
+    for parts in DISPLAYED {
+        assert!(rt; displays_parts(rt.alloc(), parts)?, "{parts}");
+    }
+    Ok(())
+}
+
+#[test]
+fn displays_faults(rt: HostRuntime) {
+    let limit = b"Magnitude or number of digits exceeded";
+    assert!(rt; displays(&ParseError::Limit, limit));
+    assert!(rt; displays(&ParseError::Syntax, b"Failed to parse the input string"));
+    assert!(rt; displays(&ParseError::Memory, b"Out of memory"));
+}
+
+/// What a sink takes of a value three times.
+fn printed_thrice(alloc: Global, text: &str) -> Result<TextBuf, Fail> {
+    let value = read::<DecimalStore>(alloc, text)?;
+    let mut sink = TextBuf::new(alloc);
+    for _ in 0..3 {
+        value.write_to(&mut sink)?;
+    }
+    Ok(sink)
+}
+
+/// Whether a sink takes the longest text three times.
+fn takes_long_texts(alloc: Global) -> Result<bool, Fail> {
+    let text = long(alloc, NINES)?;
+    let thrice = text.as_str().repeat(alloc, 3)?;
+    Ok(printed_thrice(alloc, text.as_str())?.as_bytes() == thrice.as_bytes())
+}
+
+#[test]
+fn takes_texts(rt: HostRuntime) -> Result<(), Fail> {
+    assert!(rt; takes_long_texts(rt.alloc())?);
+    Ok(())
+}
+
+/// A text that sinks and writers with too little room refuse.
+const TEXT: &str = "1234.50";
+
+/// Whether a sink with so much room takes a beginning of the text, and has failed.
+fn keeps_beginning<D: DigitStore>(value: &UnsignedOver<D>, room: usize) -> bool {
+    let mut sink = LimitedSink::new(TEXT.as_bytes(), room);
+    value.write_to(&mut sink).is_err() && sink.failed() && sink.has_taken(room)
+}
+
+/// Whether a writer with so much room takes a beginning of the text, and is not called after its refusal.
+fn fills<D: DigitStore>(value: &UnsignedOver<D>, room: usize, refusal: WriteFailure) -> bool {
+    let mut sink = Out::new(FailingWriter::new(TEXT.as_bytes(), room, refusal));
+    let first = value.write_to(&mut sink).is_err();
+    let second = value.write_to(&mut sink).is_err();
+    let refused = first && second && sink.failed();
+    let writer = sink.into_writer();
+    refused && writer.has_taken(room) && writer.refused() == 1
+}
+
+/// Whether each sink and each writer with so much room takes a beginning of the text.
+fn keeps_beginnings<D: DigitStore>(alloc: Global, room: usize) -> Result<bool, Fail> {
+    let value = read::<D>(alloc, TEXT)?;
+    Ok(
+        keeps_beginning(&value, room)
+            && fills(&value, room, WriteFailure::Zero)
+            && fills(&value, room, WriteFailure::Fault)
+            && fills(&value, room, WriteFailure::Interrupted),
+    )
+}
+
+#[test]
+fn keeps_what_fits(rt: HostRuntime) -> Result<(), Fail> {
+    for room in 0..TEXT.len() {
+        assert!(rt;
+            keeps_beginnings::<DecimalStore>(rt.alloc(), room)?,
+            "room for {room}"
+        );
+        assert!(rt;
+            keeps_beginnings::<DigitList>(rt.alloc(), room)?,
+            "room for {room}"
+        );
+    }
+    Ok(())
+}

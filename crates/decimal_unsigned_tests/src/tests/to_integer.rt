@@ -1,0 +1,148 @@
+//! Integers of values, and the digits at consecutive magnitudes, over each store.
+use super::*;
+use decimal_unsigned::IntegerError;
+use std::process::Abort;
+
+/// The integers of the value that a text writes, in 64 and in 128 bits.
+type Integers = (Result<u64, IntegerError>, Result<u128, IntegerError>);
+
+/// The integers of the value that a text writes.
+fn integers_of<D: DigitStore>(alloc: Global, text: &str) -> Result<Integers, Fail> {
+    let value = read::<D>(alloc, text)?;
+    Ok((value.try_to_u64(), value.try_to_u128()))
+}
+
+const NOT_WHOLE: Integers = (Err(IntegerError::NotWhole), Err(IntegerError::NotWhole));
+
+const OUT_OF_RANGE: Integers = (Err(IntegerError::OutOfRange), Err(IntegerError::OutOfRange));
+
+/// A text, and the integers of its value.
+const INTEGERS: &[(&str, Integers)] = &[
+    ("0", (Ok(0), Ok(0))),
+    ("000.000", (Ok(0), Ok(0))),
+    ("1", (Ok(1), Ok(1))),
+    ("012.00", (Ok(12), Ok(12))),
+    ("1.2e1", (Ok(12), Ok(12))),
+    (
+        "25e18",
+        (
+            Err(IntegerError::OutOfRange),
+            Ok(25_000_000_000_000_000_000),
+        ),
+    ),
+    (
+        "9999999999999999999",
+        (Ok(9_999_999_999_999_999_999), Ok(9_999_999_999_999_999_999)),
+    ),
+    (
+        "10000000000000000000",
+        (
+            Ok(10_000_000_000_000_000_000),
+            Ok(10_000_000_000_000_000_000),
+        ),
+    ),
+    (
+        "18446744073709551615",
+        (Ok(u64::MAX), Ok(18_446_744_073_709_551_615)),
+    ),
+    (
+        "18446744073709551616.0",
+        (
+            Err(IntegerError::OutOfRange),
+            Ok(18_446_744_073_709_551_616),
+        ),
+    ),
+    (
+        "99999999999999999999999999999999999999",
+        (
+            Err(IntegerError::OutOfRange),
+            Ok(99_999_999_999_999_999_999_999_999_999_999_999_999),
+        ),
+    ),
+    (
+        "340282366920938463463374607431768211455",
+        (Err(IntegerError::OutOfRange), Ok(u128::MAX)),
+    ),
+    ("340282366920938463463374607431768211456", OUT_OF_RANGE),
+    ("340282366920938463463374607431768211460", OUT_OF_RANGE),
+    ("999999999999999999999999999999999999999", OUT_OF_RANGE),
+    ("1e39", OUT_OF_RANGE),
+    ("1e32767", OUT_OF_RANGE),
+    ("0.5", NOT_WHOLE),
+    ("0.05", NOT_WHOLE),
+    ("1e-32768", NOT_WHOLE),
+    ("1.5", NOT_WHOLE),
+    ("340282366920938463463374607431768211456.000001", NOT_WHOLE),
+];
+
+/// Asserts the integers of the value that a text writes.
+fn assert_integers<D: DigitStore>(
+    rt: &impl Abort,
+    alloc: Global,
+    text: &str,
+    (short, long): Integers,
+) -> Result<(), Fail> {
+    let (found_short, found_long) = integers_of::<D>(alloc, text)?;
+    assert!(rt; found_short == short, "{text} in 64 bits");
+    assert!(rt; found_long == long, "{text} in 128 bits");
+    Ok(())
+}
+
+#[test]
+fn integers(rt: HostRuntime) -> Result<(), Fail> {
+    let alloc = rt.alloc();
+    for (text, answers) in INTEGERS {
+        assert_integers::<DecimalStore>(&rt, alloc, text, *answers)?;
+        assert_integers::<DigitList>(&rt, alloc, text, *answers)?;
+    }
+    Ok(())
+}
+
+/// What an error prints.
+fn told(alloc: Global, error: IntegerError) -> Result<String, Fail> {
+    Ok(format!(in alloc; "{error}")?)
+}
+
+#[test]
+fn errors(rt: HostRuntime) -> Result<(), Fail> {
+    let alloc = rt.alloc();
+    assert_eq!(rt; told(alloc, IntegerError::NotWhole)?.as_str(), "Not a whole number");
+    assert_eq!(rt; told(alloc, IntegerError::OutOfRange)?.as_str(), "Integer out of range");
+    Ok(())
+}
+
+/// Eight places with the digits of the value that a text writes, from a magnitude down.
+fn digits_of<D: DigitStore>(alloc: Global, text: &str, highest: i16) -> Result<[u8; 8], Fail> {
+    if highest < -32761 {
+        return Err(Fail::new("below the magnitudes"));
+    }
+    let value = read::<D>(alloc, text)?;
+    let mut places = [b'x'; 8];
+    value.write_digits(highest, &mut places);
+    Ok(places)
+}
+
+/// A text, a magnitude, and the digits from there down.
+const DIGITS: &[(&str, i16, &[u8; 8])] = &[
+    ("12.5", 2, b"01250000"),
+    ("12.5", 0, b"25000000"),
+    ("12.5", -2, b"00000000"),
+    ("0", 3, b"00000000"),
+    ("1234567890.123", 9, b"12345678"),
+    ("1234567890.123", 4, b"67890123"),
+    ("1234567890.123", 12, b"00012345"),
+    ("9e32767", 32767, b"90000000"),
+    ("1e-32768", -32761, b"00000001"),
+];
+
+#[test]
+fn digits(rt: HostRuntime) -> Result<(), Fail> {
+    let alloc = rt.alloc();
+    for (text, highest, digits) in DIGITS {
+        let packed = digits_of::<DecimalStore>(alloc, text, *highest)?;
+        assert!(rt; packed == **digits, "{text} from {highest}");
+        let listed = digits_of::<DigitList>(alloc, text, *highest)?;
+        assert!(rt; listed == **digits, "{text} from {highest}, a digit to a byte");
+    }
+    Ok(())
+}

@@ -1,0 +1,126 @@
+//! Changes of the absolute value through `DerefMut`: the contracts here are proved from the one of `deref_mut`.
+ghost use Rattle.std.specs.Prelude.{◌≡◌, negsuc, Some, option_map, IfOk, OnOk, OnErr};
+ghost use Rattle.decimal_unsigned.specs.Edits.{multiplied_pow10, trimmed_end};
+ghost use Rattle.decimal_unsigned.specs.Concatenation.{concatenated_end};
+ghost use Rattle.fixed_decimal.specs.Decimal.{with_absolute};
+
+use super::*;
+use decimal_digits::digits::DigitStore;
+use decimal_unsigned::decimal::UnsignedOver;
+use fixed_decimal::{ConcatenateError, LimitError, Sign, Signed, UnsignedDecimal};
+
+/// Two calls in a row, of which the first may be refused, over any list of digits.
+fn to_cents<D: DigitStore>(value: &mut Signed<UnsignedOver<D>>) -> Result<(), LimitError>
+    ensures ok { OnOk result (with_absolute value.old
+        (option_map trimmed_end (multiplied_pow10 value.old.absolute (negsuc 1))) ≡ Some value.new) }
+    ensures err { OnErr result (value.new ≡ value.old) }
+{
+    value.multiply_pow10(-2)?;
+    value.trim_end();
+    Ok(())
+}
+
+/// An explicit reference, at a decimal that is owned.
+fn owned_to_cents(mut value: Decimal) -> Result<Decimal, LimitError>
+    ensures { IfOk result (λ v. with_absolute value (multiplied_pow10 value.absolute (negsuc 1)) ≡ Some v) }
+{
+    let inside: &mut UnsignedDecimal = &mut *value;
+    inside.multiply_pow10(-2)?;
+    Ok(value)
+}
+
+/// A call that may be refused.
+fn append(
+    value: &mut Decimal,
+    other: UnsignedDecimal,
+) -> Result<(), ConcatenateError<UnsignedDecimal>>
+    ensures ok { OnOk result (value.new ≡ record value.old { absolute = concatenated_end value.old.absolute other }) }
+    ensures err { OnErr result (value.new ≡ value.old) }
+{
+    value.concatenate_end(other)
+}
+
+/// Another value in the place of the absolute one, of any type.
+fn replace<T: Drop>(value: &mut Signed<T>, next: T)
+    ensures { value.new ≡ record value.old { absolute = next } }
+{
+    **value = next;
+}
+
+/// A sign that is set, and then a change.
+fn negated_cents(mut value: Decimal) -> Result<Decimal, LimitError>
+    ensures { IfOk result (λ v. with_absolute (record value { sign = Sign.Negative })
+        (multiplied_pow10 value.absolute (negsuc 1)) ≡ Some v) }
+{
+    value.set_sign(Sign::Negative);
+    value.multiply_pow10(-2)?;
+    Ok(value)
+}
+
+/// What is left of the least `i16` after a shift by -2, and after cuts at each of these positions.
+fn cut_cents(alloc: Global, positions: &[i16]) -> Result<Decimal, LimitError> {
+    let mut value = Decimal::from_i16(alloc, i16::MIN);
+    value.multiply_pow10(-2)?;
+    for position in positions {
+        value.set_max_position(*position);
+    }
+    Ok(value)
+}
+
+/// What is left of `-250` where 300 is put in the place of 250, and moved by two magnitudes.
+fn replaced(alloc: Global) -> Result<Decimal, LimitError> {
+    let mut value = Decimal::from_i16(alloc, -250);
+    replace(&mut value, UnsignedDecimal::from_u16(alloc, 300));
+    to_cents(&mut value)?;
+    Ok(value)
+}
+
+/// `-120` after a number is joined to it, which may be refused.
+fn appended(alloc: Global, other: u8) -> Decimal {
+    let mut value = Decimal::from_i16(alloc, -120);
+    let _ = append(&mut value, UnsignedDecimal::from_u8(alloc, other));
+    value
+}
+
+/// Whether a call was made, and left a decimal with this text.
+fn leaves(answer: Result<Decimal, LimitError>, text: &str) -> bool {
+    match answer {
+        Ok(value) => prints(value, text),
+        Err(LimitError) => false,
+    }
+}
+
+/// Whether cuts at these positions leave this text.
+fn cuts_to(alloc: Global, positions: &[i16], text: &str) -> bool {
+    leaves(cut_cents(alloc, positions), text)
+}
+
+/// Whether an integer is moved by two magnitudes to this text.
+fn moves_to(alloc: Global, integer: i16, text: &str) -> bool {
+    leaves(owned_to_cents(Decimal::from_i16(alloc, integer)), text)
+}
+
+/// Whether an integer is negated and moved by two magnitudes to this text.
+fn negates_to(alloc: Global, integer: u8, text: &str) -> bool {
+    leaves(negated_cents(Decimal::from_u8(alloc, integer)), text)
+}
+
+/// Positions of cuts, and what they leave of `-327.68`.
+const CUTS: &[(&[i16], &str)] = &[(&[], "-327.68"), (&[0], "-0.68"), (&[0, -2], "-0.00")];
+
+/// Numbers that are joined to `-120`, and what it is then.
+const APPENDED: &[(u8, &str)] = &[(25, "-120"), (5, "-125")];
+
+#[test]
+fn changes(rt: HostRuntime) {
+    let alloc = rt.alloc();
+    for (positions, text) in CUTS {
+        assert!(rt; cuts_to(alloc, positions, text), "{text}");
+    }
+    for (other, text) in APPENDED {
+        assert!(rt; prints(appended(alloc, *other), text), "{text}");
+    }
+    assert!(rt; moves_to(alloc, -250, "-2.50"));
+    assert!(rt; leaves(replaced(alloc), "-3"));
+    assert!(rt; negates_to(alloc, 7, "-0.07"));
+}

@@ -1,0 +1,137 @@
+//! Decimals and fixed integers of integers, at both ends of their types, and decimals of parts.
+use super::*;
+use fixed_decimal::{FixedInteger, Sign, UnsignedDecimal};
+use std::alloc::AllocError;
+
+/// An integer, by its type.
+#[derive(Clone, Copy)]
+enum Integer {
+    U8(u8),
+    I8(i8),
+    U16(u16),
+    I16(i16),
+    U32(u32),
+    I32(i32),
+    U64(u64),
+    I64(i64),
+    U128(u128),
+    I128(i128),
+    Usize(usize),
+    Isize(isize),
+}
+
+/// Integers and their texts.
+const INTEGERS: &[(Integer, &str)] = &[
+    (Integer::U8(0), "0"),
+    (Integer::U8(u8::MAX), "255"),
+    (Integer::I8(i8::MIN), "-128"),
+    (Integer::I8(i8::MAX), "127"),
+    (Integer::U16(0), "0"),
+    (Integer::U16(u16::MAX), "65535"),
+    (Integer::I16(i16::MIN), "-32768"),
+    (Integer::I16(i16::MAX), "32767"),
+    (Integer::U32(0), "0"),
+    (Integer::U32(u32::MAX), "4294967295"),
+    (Integer::I32(i32::MIN), "-2147483648"),
+    (Integer::I32(i32::MAX), "2147483647"),
+    (Integer::U64(0), "0"),
+    (Integer::U64(u64::MAX), "18446744073709551615"),
+    (Integer::I64(i64::MIN), "-9223372036854775808"),
+    (Integer::I64(i64::MAX), "9223372036854775807"),
+    (Integer::U128(0), "0"),
+    (
+        Integer::U128(u128::MAX),
+        "340282366920938463463374607431768211455",
+    ),
+    (
+        Integer::I128(i128::MIN),
+        "-170141183460469231731687303715884105728",
+    ),
+    (
+        Integer::I128(i128::MAX),
+        "170141183460469231731687303715884105727",
+    ),
+    (Integer::Usize(0), "0"),
+    (Integer::Usize(usize::MAX), "18446744073709551615"),
+    (Integer::Isize(isize::MIN), "-9223372036854775808"),
+    (Integer::Isize(isize::MAX), "9223372036854775807"),
+];
+
+/// The decimal of an integer.
+fn decimal(alloc: Global, integer: Integer) -> Result<Decimal, AllocError> {
+    match integer {
+        Integer::U8(integer) => Ok(Decimal::from_u8(alloc, integer)),
+        Integer::I8(integer) => Ok(Decimal::from_i8(alloc, integer)),
+        Integer::U16(integer) => Ok(Decimal::from_u16(alloc, integer)),
+        Integer::I16(integer) => Ok(Decimal::from_i16(alloc, integer)),
+        Integer::U32(integer) => Decimal::try_from_u32(alloc, integer),
+        Integer::I32(integer) => Decimal::try_from_i32(alloc, integer),
+        Integer::U64(integer) => Decimal::try_from_u64(alloc, integer),
+        Integer::I64(integer) => Decimal::try_from_i64(alloc, integer),
+        Integer::U128(integer) => Decimal::try_from_u128(alloc, integer),
+        Integer::I128(integer) => Decimal::try_from_i128(alloc, integer),
+        Integer::Usize(integer) => Decimal::try_from_usize(alloc, integer),
+        Integer::Isize(integer) => Decimal::try_from_isize(alloc, integer),
+    }
+}
+
+/// The fixed integer of an integer.
+fn fixed(alloc: Global, integer: Integer) -> Result<FixedInteger, AllocError> {
+    match integer {
+        Integer::U8(integer) => Ok(FixedInteger::from_u8(alloc, integer)),
+        Integer::I8(integer) => Ok(FixedInteger::from_i8(alloc, integer)),
+        Integer::U16(integer) => Ok(FixedInteger::from_u16(alloc, integer)),
+        Integer::I16(integer) => Ok(FixedInteger::from_i16(alloc, integer)),
+        Integer::U32(integer) => FixedInteger::try_from_u32(alloc, integer),
+        Integer::I32(integer) => FixedInteger::try_from_i32(alloc, integer),
+        Integer::U64(integer) => FixedInteger::try_from_u64(alloc, integer),
+        Integer::I64(integer) => FixedInteger::try_from_i64(alloc, integer),
+        Integer::U128(integer) => FixedInteger::try_from_u128(alloc, integer),
+        Integer::I128(integer) => FixedInteger::try_from_i128(alloc, integer),
+        Integer::Usize(integer) => FixedInteger::try_from_usize(alloc, integer),
+        Integer::Isize(integer) => FixedInteger::try_from_isize(alloc, integer),
+    }
+}
+
+/// Whether the decimal of an integer has its text. It is asked for again where memory was refused.
+fn makes_decimal(alloc: Global, integer: Integer, text: &str) -> Result<bool, Fail> {
+    let answer = match decimal(alloc, integer) {
+        Err(AllocError) => decimal(alloc, integer),
+        made => made,
+    };
+    Ok(shows(&answer?, text.as_bytes()))
+}
+
+/// Whether the fixed integer of an integer has its text. It is asked for again where memory was refused.
+fn makes_fixed(alloc: Global, integer: Integer, text: &str) -> Result<bool, Fail> {
+    let answer = match fixed(alloc, integer) {
+        Err(AllocError) => fixed(alloc, integer),
+        made => made,
+    };
+    Ok(shows(&answer?, text.as_bytes()))
+}
+
+/// Whether the decimal of a sign and an absolute value has this text.
+fn makes_parts(alloc: Global, sign: Sign, absolute: u8, text: &str) -> bool {
+    let absolute = UnsignedDecimal::from_u8(alloc, absolute);
+    prints(Decimal::new(sign, absolute), text)
+}
+
+#[test]
+fn of_integers(rt: HostRuntime) -> Result<(), Fail> {
+    let alloc = rt.alloc();
+    for (integer, text) in INTEGERS {
+        assert!(rt; makes_decimal(alloc, *integer, text)?, "{text}");
+        assert!(rt; makes_fixed(alloc, *integer, text)?, "{text}");
+    }
+    Ok(())
+}
+
+#[test]
+fn of_parts(rt: HostRuntime) {
+    let alloc = rt.alloc();
+    assert!(rt; makes_parts(alloc, Sign::Negative, 250, "-250"));
+    assert!(rt; makes_parts(alloc, Sign::None, 0, "0"));
+    assert!(rt; prints(Decimal::zero(alloc), "0"));
+    assert!(rt; prints(FixedInteger::zero(alloc), "0"));
+}

@@ -1,0 +1,199 @@
+//! Runs over stores with little memory: each growth is refused in turn, until a run comes to its text.
+use super::*;
+use decimal_doubles::{
+    EightDigits, EighteenDigits, LimitedSink, LimitedStore, NineteenDigits, SeventeenDigits,
+    SixteenDigits, TwentyOneDigits,
+};
+use fixed_decimal::Call::{Concatenate, MultiplyPow10 as Shift, Round, TrimEnd};
+use fixed_decimal::RoundingIncrement::MultiplesOf25 as By25;
+use fixed_decimal::SignedRoundingMode::Unsigned;
+use fixed_decimal::UnsignedRoundingMode::{Expand, Trunc};
+use fixed_decimal::{Call, DigitList, DigitStore, PackedDigits, RunError, run_over};
+
+/// What a run wanted memory for.
+#[derive(Clone, Copy, PartialEq)]
+enum Want {
+    /// The start.
+    Start,
+    /// The operand of the call with this number.
+    Operand(usize),
+    /// The call with this number.
+    Call(usize),
+    /// Nothing: the text came.
+    Nothing,
+    /// Nothing: the call with this number would pass the limits.
+    Limit(usize),
+    /// Another answer, or a sink that is not as the answer says.
+    Other,
+}
+
+/// A start, calls, the text, and what is wanted where there is memory for so many digits.
+type Run = (
+    &'static str,
+    &'static [Call<'static>],
+    &'static str,
+    &'static [(usize, Want)],
+);
+
+/// Runs that want memory for more than sixteen digits.
+const RUNS: &[Run] = &[
+    (
+        "922337203685477580898230948203840239384.9823094820384023938423424",
+        &[],
+        "922337203685477580898230948203840239384.9823094820384023938423424",
+        &[(16, Want::Start), (21, Want::Start), (64, Want::Nothing)],
+    ),
+    (
+        "1e20",
+        &[Concatenate(b"7")],
+        "100000000000000000007",
+        &[
+            (16, Want::Call(0)),
+            (19, Want::Call(0)),
+            (21, Want::Nothing),
+        ],
+    ),
+    (
+        "1",
+        &[Concatenate(b"0.12345678901234567")],
+        "1.12345678901234567",
+        &[
+            (16, Want::Operand(0)),
+            (17, Want::Call(0)),
+            (18, Want::Nothing),
+        ],
+    ),
+    (
+        "1234567812345678",
+        &[Round(-1, Unsigned(Trunc), By25)],
+        "1234567812345677.5",
+        &[(16, Want::Call(0)), (17, Want::Nothing)],
+    ),
+    (
+        "9999999999999999e32752",
+        &[TrimEnd, Round(32751, Unsigned(Expand), By25)],
+        "",
+        &[(16, Want::Limit(1)), (17, Want::Limit(1))],
+    ),
+    (
+        "9999999999999999e32752",
+        &[TrimEnd, Round(32751, Unsigned(Trunc), By25), Shift(1)],
+        "",
+        &[(16, Want::Call(1)), (17, Want::Limit(2))],
+    ),
+    (
+        "12345678901234567",
+        &[Concatenate(b"0.5"), Concatenate(b"0.05")],
+        "12345678901234567.55",
+        &[
+            (16, Want::Start),
+            (17, Want::Call(0)),
+            (18, Want::Call(1)),
+            (19, Want::Nothing),
+        ],
+    ),
+];
+
+/// Runs that want memory for more than eight digits.
+const BYTE_RUNS: &[Run] = &[
+    (
+        "12345678",
+        &[Round(-1, Unsigned(Trunc), By25)],
+        "12345677.5",
+        &[(8, Want::Call(0)), (16, Want::Nothing)],
+    ),
+    (
+        "1e20",
+        &[TrimEnd, Concatenate(b"7")],
+        "100000000000000000007",
+        &[(8, Want::Call(1)), (21, Want::Nothing)],
+    ),
+    (
+        "5",
+        &[TrimEnd, Concatenate(b"0.123456789")],
+        "5.123456789",
+        &[(8, Want::Operand(1)), (16, Want::Nothing)],
+    ),
+];
+
+/// What a run over a store with memory for so many digits answers, and writes.
+fn run_bounded<D: DigitStore>(
+    alloc: Global,
+    most: usize,
+    (start, calls): (&str, &[Call<'_>]),
+    sink: &mut LimitedSink<'_>,
+) -> Result<(), RunError> {
+    let start = start.as_bytes();
+    match most {
+        8 => run_over::<LimitedStore<D, EightDigits>, LimitedSink<'_>>(alloc, start, calls, sink),
+        16 => run_over::<LimitedStore<D, SixteenDigits>, LimitedSink<'_>>(
+            alloc, start, calls, sink,
+        ),
+        17 => run_over::<LimitedStore<D, SeventeenDigits>, LimitedSink<'_>>(
+            alloc, start, calls, sink,
+        ),
+        18 => run_over::<LimitedStore<D, EighteenDigits>, LimitedSink<'_>>(
+            alloc, start, calls, sink,
+        ),
+        19 => run_over::<LimitedStore<D, NineteenDigits>, LimitedSink<'_>>(
+            alloc, start, calls, sink,
+        ),
+        21 => run_over::<LimitedStore<D, TwentyOneDigits>, LimitedSink<'_>>(
+            alloc, start, calls, sink,
+        ),
+        _ => run_over::<D, LimitedSink<'_>>(alloc, start, calls, sink),
+    }
+}
+
+/// What a run that was refused wanted memory for.
+fn wanted_for(error: &RunError) -> Want {
+    match error {
+        RunError::Start(ParseError::Memory) => Want::Start,
+        RunError::Operand {
+            at,
+            fault: ParseError::Memory,
+        } => Want::Operand(*at),
+        RunError::Memory { at } => Want::Call(*at),
+        RunError::Limit { at } => Want::Limit(*at),
+        _ => Want::Other,
+    }
+}
+
+/// What a run wants memory for where there is some for so many digits, and leaves its sink as the answer says.
+fn wanted<D: DigitStore>(
+    alloc: Global,
+    most: usize,
+    (start, calls, text): (&str, &[Call<'_>], &str),
+) -> Want {
+    let mut sink = LimitedSink::new(text.as_bytes(), usize::MAX);
+    match run_bounded::<D>(alloc, most, (start, calls), &mut sink) {
+        Ok(()) if sink.has_all() => Want::Nothing,
+        Err(error) if sink.has_taken(0) && !sink.failed() => wanted_for(&error),
+        _ => Want::Other,
+    }
+}
+
+/// Whether a run wants memory for each of these, and for one that was refused before where it is made again.
+fn wants<D: DigitStore>(alloc: Global, (start, calls, text, wants): Run) -> bool {
+    for (most, want) in wants {
+        let first = wanted::<D>(alloc, *most, (start, calls, text));
+        if first == Want::Other {
+            return false;
+        }
+        if first != *want && wanted::<D>(alloc, *most, (start, calls, text)) != *want {
+            return false;
+        }
+    }
+    true
+}
+
+#[test]
+fn refuses_in_turn(rt: HostRuntime) {
+    for row in RUNS {
+        assert!(rt; wants::<DigitList>(rt.alloc(), *row), "{}", row.0);
+        assert!(rt; wants::<PackedDigits>(rt.alloc(), *row), "{}", row.0);
+    }
+    for row in BYTE_RUNS {
+        assert!(rt; wants::<DigitList>(rt.alloc(), *row), "{}", row.0);
+    }
+}

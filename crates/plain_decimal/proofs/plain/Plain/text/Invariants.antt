@@ -1,5 +1,0 @@
-use Rattle.plain_decimal.proofs.Scaled.{Shown}
-use Rattle.plain_decimal.proofs.plain.Plain.text.Given as goal
-
-abbrev pub invariant-loop-below : goal.invariant-loop-below
-invariant-loop-below l = Shown l.self l.bytes.items l.below
