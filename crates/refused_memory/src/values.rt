@@ -66,7 +66,10 @@ pub fn outcome(alloc: Global) -> Outcome {
         .and(read_and_copied::<Decimal>(alloc, "-123456789012345678.90"))
         .and(read_and_copied::<FixedInteger>(alloc, "-0012345678901234567890"))
         .and(read_and_copied::<CompactDecimal>(alloc, "+12345678901234567890.5c12"))
-        .and(read_and_copied::<ScientificDecimal>(alloc, "12345678901234567890e-12345678901234567891"))
+        .and(read_and_copied::<ScientificDecimal>(
+            alloc,
+            "12345678901234567890e-12345678901234567891",
+        ))
         .and(read_and_copied::<ScientificDecimal>(alloc, "1e12345678901234567890"))
         .and(read_and_copied::<ScientificDecimal>(alloc, "12345678901234567890e1"))
         .and(decimal_of(alloc, i128::MIN, "-170141183460469231731687303715884105728"))

@@ -19,8 +19,14 @@ fn assert_order<D: DigitStore, E: DigitStore>(
     (left, right): (&str, &str),
     order: Ordering,
 ) -> Result<(), Fail> {
-    assert!(rt; compared::<D, E>(alloc, left, right)? == order, "{left} and {right}");
-    assert!(rt; compared::<E, D>(alloc, right, left)? == order.reverse(), "{right} and {left}");
+    assert!(rt;
+        compared::<D, E>(alloc, left, right)? == order,
+        "{left} and {right}"
+    );
+    assert!(rt;
+        compared::<E, D>(alloc, right, left)? == order.reverse(),
+        "{right} and {left}"
+    );
     Ok(())
 }
 

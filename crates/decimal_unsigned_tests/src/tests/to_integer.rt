@@ -106,8 +106,14 @@ fn told(alloc: Global, error: IntegerError) -> Result<String, Fail> {
 #[test]
 fn errors(rt: HostRuntime) -> Result<(), Fail> {
     let alloc = rt.alloc();
-    assert_eq!(rt; told(alloc, IntegerError::NotWhole)?.as_str(), "Not a whole number");
-    assert_eq!(rt; told(alloc, IntegerError::OutOfRange)?.as_str(), "Integer out of range");
+    assert_eq!(rt;
+        told(alloc, IntegerError::NotWhole)?.as_str(),
+        "Not a whole number"
+    );
+    assert_eq!(rt;
+        told(alloc, IntegerError::OutOfRange)?.as_str(),
+        "Integer out of range"
+    );
     Ok(())
 }
 
@@ -142,7 +148,10 @@ fn digits(rt: HostRuntime) -> Result<(), Fail> {
         let packed = digits_of::<DecimalStore>(alloc, text, *highest)?;
         assert!(rt; packed == **digits, "{text} from {highest}");
         let listed = digits_of::<DigitList>(alloc, text, *highest)?;
-        assert!(rt; listed == **digits, "{text} from {highest}, a digit to a byte");
+        assert!(rt;
+            listed == **digits,
+            "{text} from {highest}, a digit to a byte"
+        );
     }
     Ok(())
 }

@@ -36,9 +36,18 @@ const ORDERS: &[(&str, &str, Ordering)] = &[
 fn orders(rt: HostRuntime) -> Result<(), Fail> {
     let alloc = rt.alloc();
     for (left, right, order) in ORDERS {
-        assert!(rt; compared::<PackedDigits, PackedDigits>(alloc, left, right)? == *order, "{left} and {right}");
-        assert!(rt; compared::<DigitList, PackedDigits>(alloc, left, right)? == *order, "{left} and {right}");
-        assert!(rt; compared::<PackedDigits, DigitList>(alloc, right, left)? == order.reverse(), "{right} and {left}");
+        assert!(rt;
+            compared::<PackedDigits, PackedDigits>(alloc, left, right)? == *order,
+            "{left} and {right}"
+        );
+        assert!(rt;
+            compared::<DigitList, PackedDigits>(alloc, left, right)? == *order,
+            "{left} and {right}"
+        );
+        assert!(rt;
+            compared::<PackedDigits, DigitList>(alloc, right, left)? == order.reverse(),
+            "{right} and {left}"
+        );
     }
     Ok(())
 }
@@ -142,8 +151,14 @@ const INTEGERS: &[(&str, Integers)] = &[
 fn integers(rt: HostRuntime) -> Result<(), Fail> {
     let alloc = rt.alloc();
     for (text, integers) in INTEGERS {
-        assert!(rt; integers_of::<PackedDigits>(alloc, text)? == *integers, "{text}");
-        assert!(rt; integers_of::<DigitList>(alloc, text)? == *integers, "{text}");
+        assert!(rt;
+            integers_of::<PackedDigits>(alloc, text)? == *integers,
+            "{text}"
+        );
+        assert!(rt;
+            integers_of::<DigitList>(alloc, text)? == *integers,
+            "{text}"
+        );
     }
     Ok(())
 }
