@@ -138,7 +138,7 @@ size_value w v digits is = elim (cases_lt 32768 (length w.whole)) [
 
 -- parts without an exponent have a value
 plain_value : (w : Written) → AllDigits 10 (w.whole ++ w.fraction) → IsPlain w
-  → value_of w ≡ Ok (mantissa w.whole w.fraction)
+    → value_of w ≡ Ok (mantissa w.whole w.fraction)
 unfolding scaled
 plain_value w digits plain =
     value_scaled w digits plain.1 plain.2

@@ -40,7 +40,8 @@ returns-in-0-to-19 g c =
     let kept = magnitude_kept t in
     ap Ok c.leading_short.ensures
     ∙ few_answer t c.in-Some.places (omega (arith, ints, kept, c.in-Some.ensures.some))
-    (omega (arith, c.len.ensures)) 19 (2 ^ 128) (g.met.D.DigitStore.are_digits c.self.inside.digits) (omega arith) (omega arith)
+    (omega (arith, c.len.ensures)) 19 (2 ^ 128) (g.met.D.DigitStore.are_digits c.self.inside.digits)
+    (omega arith) (omega arith)
     ∙ ap (λ (v : Unsigned). as_integer (2 ^ 128) v.number) c.self.view_is
 
 pub returns-in-20-to-38 : goal.returns-in-20-to-38
@@ -49,7 +50,8 @@ returns-in-20-to-38 g c =
     let kept = magnitude_kept t in
     ap Ok c.leading_long.ensures
     ∙ few_answer t c.in-Some.places (omega (arith, ints, kept, c.in-Some.ensures.some))
-    (omega (arith, c.len.ensures)) 38 (2 ^ 128) (g.met.D.DigitStore.are_digits c.self.inside.digits) (omega arith) (omega arith)
+    (omega (arith, c.len.ensures)) 38 (2 ^ 128) (g.met.D.DigitStore.are_digits c.self.inside.digits)
+    (omega arith) (omega arith)
     ∙ ap (λ (v : Unsigned). as_integer (2 ^ 128) v.number) c.self.view_is
 
 pub returns-in_default-places : goal.returns-in_default-places
