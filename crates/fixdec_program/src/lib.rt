@@ -5,8 +5,6 @@
 
 mod command_line;
 mod fault;
-#[cfg(test)]
-mod tests;
 mod words;
 
 pub use command_line::{execute, program, run_arguments};

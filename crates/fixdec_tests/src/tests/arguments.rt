@@ -1,6 +1,6 @@
 //! The arguments that the system gives: the words behind the name of the program, or why they could not be had.
 use super::{assert_shows, told, words};
-use crate::run_arguments;
+use fixdec_program::run_arguments;
 use fixed_decimal::Out;
 use std::alloc::Global;
 use std::env::Args;

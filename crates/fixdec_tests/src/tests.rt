@@ -1,7 +1,7 @@
 //! Command lines, and what they print.
 ghost use Rattle.std.specs.Prelude.{◌≤◌};
 
-use crate::program;
+use fixdec_program::program;
 use fixed_decimal::Out;
 use std::alloc::Global;
 use std::process::Abort;

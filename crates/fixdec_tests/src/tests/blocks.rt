@@ -1,6 +1,6 @@
 //! Output through the buffer: how often the writer is called, and when no more.
 use super::words;
-use crate::run_arguments;
+use fixdec_program::run_arguments;
 use fixed_decimal::Out;
 use std::alloc::Global;
 use std::io;
