@@ -6,6 +6,7 @@ mod original;
 mod peer_table;
 mod peers;
 mod shared;
+mod sizes;
 mod table;
 
 fn main() {
@@ -21,6 +22,8 @@ fn main() {
                 hook(info);
             }
         }));
+        println!();
+        sizes::print();
         println!();
         peer_table::print(passes);
         println!();

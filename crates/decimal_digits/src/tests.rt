@@ -2,6 +2,7 @@
 
 mod bulk;
 mod counted;
+mod halves;
 mod lists;
 mod modes;
 mod packed;

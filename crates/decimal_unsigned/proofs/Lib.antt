@@ -24,3 +24,4 @@ pub mod ReadBack
 pub mod Roundings
 pub mod RoundingLaws
 pub mod Pieces
+pub mod ShortNumbers

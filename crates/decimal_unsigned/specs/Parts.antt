@@ -1,6 +1,7 @@
 -- Private: only the contracts of private functions and the model of `Scan` speak of these.
 -- The parts of a text as the code finds them.
-use Rattle.std.specs.Prelude.{Option, option_map, ℤ, pos, negsuc, ◌≤ℤ◌}
+use Rattle.std.specs.Prelude.{◌≡◌, ℕ, ◌%◌, ◌^◌, ◌≤◌, List, length, Option, option_map, ℤ, pos, negsuc, ◌≤ℤ◌}
+use Rattle.std.specs.Str.Parse.{digits_value}
 use Rattle.std.specs.Int.{int_max, int_min}
 use Rattle.decimal_unsigned.specs.declared.decimal.parse.parts.Parts.{Parts}
 use Rattle.decimal_unsigned.specs.Grammar.{Written}
@@ -25,3 +26,7 @@ pub record IsSaturated (e : ℤ) : Type 0 where
 -- the parts with such an exponent
 abbrev pub saturated_parts : Written → Written
 saturated_parts w = record w { exponent = option_map saturated w.exponent }
+
+-- up to sixteen digits write this number in base 16
+pub record Writes (digits : List ℕ) (number : ℕ) : Type 0 where
+  pub value : length digits ≤ 16 → number ≡ digits_value 16 digits % 2 ^ 64

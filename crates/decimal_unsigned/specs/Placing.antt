@@ -9,6 +9,7 @@ use Rattle.decimal_unsigned.specs.Fields.{IsStored}
 use Rattle.decimal_unsigned.specs.Unsigned.{Unsigned}
 use Rattle.decimal_unsigned.specs.Grammar.{Written}
 use Rattle.decimal_unsigned.specs.Reading.{value_of}
+use Rattle.decimal_unsigned.specs.Parts.{Writes}
 
 -- all the digits, those in front of the dot first
 abbrev pub digits_of : Written → List ℕ
@@ -47,7 +48,8 @@ pub record Makes (w : Written) (start end : ℕ) (magnitude hi lo : ℤ) : Type 
   pub stored : IsStored (middle start end (digits_of w)) magnitude hi lo
   pub value : value_of w ≡ Ok (made w start end magnitude hi lo)
 
--- the parts are digits, and their value is made of these
-pub record IsScanned (w : Written) (start end : ℕ) (magnitude hi lo : ℤ) : Type 0 where
+-- the parts are digits, which write this number in base 16 where they are few, and their value is made of these
+pub record IsScanned (w : Written) (number start end : ℕ) (magnitude hi lo : ℤ) : Type 0 where
   pub digits : AllDigits 10 (w.whole ++ w.fraction)
+  pub number_is : Writes (w.whole ++ w.fraction) number
   pub makes : Makes w start end magnitude hi lo

@@ -4,7 +4,7 @@ ghost use Rattle.std.specs.Str.Parse.{AllDigits};
 ghost use Rattle.decimal_digits.specs.Number.{size};
 ghost use Rattle.decimal_unsigned.specs.Reading.{read, FollowsGrammar};
 ghost use Rattle.decimal_unsigned.specs.Refusal.{ParseRefuses, Answers, AnswersGrammar};
-ghost use Rattle.decimal_unsigned.specs.Parts.{view};
+ghost use Rattle.decimal_unsigned.specs.Parts.{view, Writes};
 ghost use Rattle.decimal_unsigned.specs.Placing.{middle, digits_of};
 
 mod parts;
@@ -39,7 +39,7 @@ impl<'a> Model for Scan<'a> {
     ghost view = { λ s. made (found.view s.parts) s.plan.start s.plan.end
         s.plan.place.magnitude s.plan.place.hi s.plan.place.lo };
 
-    ghost invariant = { λ s. IsScanned (found.view s.parts) s.plan.start s.plan.end
+    ghost invariant = { λ s. IsScanned (found.view s.parts) s.parts.number s.plan.start s.plan.end
         s.plan.place.magnitude s.plan.place.hi s.plan.place.lo };
 }
 
@@ -48,9 +48,13 @@ impl<'a> Scan<'a> {
     ///
     /// `012.50` is found, and `5.` is refused. Err: `Syntax` or `Limit`, as `try_from_utf8` answers. Not in the
     /// original.
+    #[inline]
+    #[tactic(auto, using(crate::proofs::ParserAnswers::follows_grammar))]
     pub fn new(text: &'a [u8]) -> Result<Scan<'a>, ParseError>
         ensures value { IfOk result (λ s. read text.now ≡ Ok s) }
         ensures fault { IfErr result (λ e. ParseRefuses ⊥ e (read text.now)) }
+        // Each text is read as the grammar says.
+        ensures grammar { (any : List ℕ) → FollowsGrammar any }
     {
         let Some(parts) = split(text) else {
             return Err(ParseError::Syntax);
@@ -75,6 +79,7 @@ impl<'a> Scan<'a> {
     ///
     /// Of `012.50` it is the value that prints `012.50`. Err: memory for more than `L` digits was refused; the scan
     /// stays as it is, and may be asked again. Not in the original.
+    #[inline]
     pub fn value<D: DigitStore>(&self, alloc: Global) -> Result<UnsignedOver<D>, AllocError>
         ensures value { IfOk result (λ v. v ≡ self.now) }
         ensures succeeds { size self.now.number ≤ D.L → IsOk result }
@@ -94,18 +99,42 @@ impl<'a> Scan<'a> {
 ///
 /// Of `1.50` it is -2, of `100e-2` it is -2, of `5.0e1` it is 0. Err: `Syntax` or `Limit`, as reading the text answers.
 /// Not in the original.
-#[tactic(auto, using(crate::proofs::ParserAnswers::follows_grammar))]
 pub fn lowest_of(text: &[u8]) -> Result<i16, ParseError>
     ensures value { IfOk result (λ lo. IsOkAnd (read text.now) (λ v. v.lo ≡ lo)) }
     ensures fault { IfErr result (λ e. ParseRefuses ⊥ e (read text.now)) }
-    // Each text is read as the grammar says.
-    ensures grammar { (any : List ℕ) → FollowsGrammar any }
 {
     Ok(Scan::new(text)?.lowest())
 }
 
-/// The digits from `start` up to `end`, in two runs: that in front of the dot, and that behind it.
+/// The digits from `start` up to `end`.
+#[inline]
 fn digits_between<D: DigitStore>(
+    alloc: Global,
+    parts: &Parts<'_>,
+    start: usize,
+    end: usize,
+) -> Result<D, AllocError>
+    requires digits { AllDigits 10 (parts.now.whole.now ++ parts.now.fraction.now) }
+    requires number { Writes (parts.now.whole.now ++ parts.now.fraction.now) parts.now.number }
+    requires ordered { start ≤ end }
+    requires within { end ≤ length (digits_of (view parts.now)) }
+    ensures ok { IfOk result (λ d. D.digits d ≡ middle start end (digits_of (view parts.now))) }
+    ensures succeeds { end - start ≤ D.L → IsOk result }
+{
+    if start == end {
+        return Ok(D::empty(alloc));
+    }
+    let count = parts.len();
+    if count > 16 {
+        return digits_in_runs(alloc, parts, start, end);
+    }
+    // The shift back drops the digits in front, and brings the first of the others to the highest place.
+    let number = parts.number >> (4 * (count - end)) << (4 * (16 - (end - start)));
+    D::from_halves(alloc, number, end - start)
+}
+
+/// The digits from `start` up to `end`, in two runs: that in front of the dot, and that behind it.
+fn digits_in_runs<D: DigitStore>(
     alloc: Global,
     parts: &Parts<'_>,
     start: usize,

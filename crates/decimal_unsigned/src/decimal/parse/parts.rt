@@ -1,19 +1,22 @@
 //! The parts of a text.
-ghost use Rattle.std.specs.Prelude.{◌≡◌, ℕ, ◌+◌, ◌++◌, ◌-◌, ◌<◌, ◌≤◌, min, length, drop, map, option_map, pos, slice_index, IfSome};
-ghost use Rattle.std.specs.Str.Parse.{AllDigits};
+ghost use Rattle.std.specs.Prelude.{◌≡◌, ℕ, ◌+◌, ◌++◌, ◌-◌, ◌*◌, ◌%◌, ◌^◌, ◌<◌, ◌≤◌, min, length, take, drop, map, option_map, pos, slice_index, IfSome};
+ghost use Rattle.std.specs.Str.Parse.{AllDigits, digits_value_after};
 ghost use Rattle.decimal_unsigned.specs.Placing.{digits_of, middle};
 ghost use Rattle.std.specs.Char.{is_ascii_digit, digit_value};
 ghost use Rattle.std.specs.List.{prefix_len};
 ghost use Rattle.std.specs.Str.{all_ascii_digits};
 ghost use Rattle.decimal_unsigned.specs.Reading as read;
-ghost use Rattle.decimal_unsigned.specs.Parts.{view, views, saturated, IsSaturated, saturated_parts};
+ghost use Rattle.decimal_unsigned.specs.Parts.{view, views, saturated, IsSaturated, saturated_parts, Writes};
 
 /// The digits in front of the dot and behind it, and the exponent.
+///
+/// Up to sixteen digits are also kept as `number`, which they write in base 16.
 #[derive(Clone, Copy, Debug)]
 pub struct Parts<'a> {
     pub whole: &'a [u8],
     pub fraction: &'a [u8],
     pub exponent: Option<i32>,
+    pub number: u64,
 }
 
 /// How many bytes are tested at once.
@@ -36,6 +39,7 @@ fn are_digits(group: &[u8]) -> bool
 fn grouped_digit_count(text: &[u8]) -> usize
     ensures within { result ≤ length text.now }
     ensures digits { prefix_len is_ascii_digit text.now ≡ result + prefix_len is_ascii_digit (drop result text.now) }
+    ensures many { 0 < result → 32 ≤ result }
 {
     let mut count = 0;
     while text.len() - count >= GROUP && are_digits(&text[count..count + GROUP]) {
@@ -44,31 +48,40 @@ fn grouped_digit_count(text: &[u8]) -> usize
     count
 }
 
-/// How many digits stand in front.
+/// How many digits stand in front, and what up to sixteen of them write in base 16 behind the digits of a number.
 #[inline]
-fn digit_count(text: &[u8]) -> usize
-    ensures { result ≡ prefix_len is_ascii_digit text.now }
+fn count_digits(before: u64, text: &[u8]) -> (usize, u64)
+    ensures count { result.0 ≡ prefix_len is_ascii_digit text.now }
+    ensures number { result.0 ≤ 16 → result.1 ≡ digits_value_after 16 before (take result.0 text.now) % 2 ^ 64 }
 {
     let grouped = if text.len() < GROUP {
         0
     } else {
         grouped_digit_count(text)
     };
+    let mut number = before;
     for i in grouped..text.len() {
         if !text[i].is_ascii_digit() {
-            return i;
+            return (i, number);
         }
+        number = number
+            .wrapping_mul(16)
+            .wrapping_add(u64::from(text[i] - b'0'));
     }
-    text.len()
+    (text.len(), number)
 }
 
-/// The digits in front, and what stands behind them.
+/// The digits in front, what stands behind them, and what up to sixteen of them write in base 16 behind the digits of a
+/// number.
 #[inline]
-fn split_digits(text: &[u8]) -> (&[u8], &[u8])
+fn split_digits(before: u64, text: &[u8]) -> (&[u8], &[u8], u64)
     ensures front { result.0.now ≡ read.leading_digits text.now }
     ensures behind { result.1.now ≡ read.after_digits text.now }
+    ensures number { length result.0.now ≤ 16 → result.2 ≡ digits_value_after 16 before result.0.now % 2 ^ 64 }
 {
-    text.split_at(digit_count(text))
+    let (count, number) = count_digits(before, text);
+    let (front, behind) = text.split_at(count);
+    (front, behind, number)
 }
 
 /// Gives the number that a text of digits writes, or `most` where it is greater.
@@ -113,70 +126,98 @@ fn exponent(text: &[u8]) -> Option<i32>
 }
 
 #[tactic(auto, unfolding(crate::specs::Reading::with_exponent))]
-fn with_exponent<'a>(whole: &'a [u8], fraction: &'a [u8], text: &[u8]) -> Option<Parts<'a>>
-    ensures { views result ≡ option_map saturated_parts (read.with_exponent whole.now fraction.now text.now) }
+fn with_exponent<'a>(
+    whole: &'a [u8],
+    fraction: &'a [u8],
+    number: u64,
+    text: &[u8],
+) -> Option<Parts<'a>>
+    requires { Writes (whole.now ++ fraction.now) number }
+    ensures parts { views result ≡ option_map saturated_parts (read.with_exponent whole.now fraction.now text.now) }
+    ensures number { IfSome result (λ p. Writes (p.whole.now ++ p.fraction.now) p.number) }
 {
     let exponent = exponent(text)?;
     Some(Parts {
         whole,
         fraction,
         exponent: Some(exponent),
+        number,
     })
 }
 
+#[inline]
 #[tactic(auto, unfolding(crate::specs::Reading::after_fraction))]
-fn after_fraction<'a>(whole: &'a [u8], fraction: &'a [u8], text: &[u8]) -> Option<Parts<'a>>
-    ensures { views result ≡ option_map saturated_parts (read.after_fraction whole.now fraction.now text.now) }
+fn after_fraction<'a>(
+    whole: &'a [u8],
+    fraction: &'a [u8],
+    number: u64,
+    text: &[u8],
+) -> Option<Parts<'a>>
+    requires { Writes (whole.now ++ fraction.now) number }
+    ensures parts { views result ≡ option_map saturated_parts (read.after_fraction whole.now fraction.now text.now) }
+    ensures number { IfSome result (λ p. Writes (p.whole.now ++ p.fraction.now) p.number) }
 {
     match text {
         [] if !fraction.is_empty() => Some(Parts {
             whole,
             fraction,
             exponent: None,
+            number,
         }),
-        [b'e' | b'E', rest @ ..] => with_exponent(whole, fraction, rest),
+        [b'e' | b'E', rest @ ..] => with_exponent(whole, fraction, number, rest),
         _ => None,
     }
 }
 
+#[inline]
 #[tactic(auto, unfolding(crate::specs::Reading::after_whole))]
-fn after_whole<'a>(whole: &'a [u8], text: &'a [u8]) -> Option<Parts<'a>>
-    ensures { views result ≡ option_map saturated_parts (read.after_whole whole.now text.now) }
+fn after_whole<'a>(whole: &'a [u8], number: u64, text: &'a [u8]) -> Option<Parts<'a>>
+    requires { Writes whole.now number }
+    ensures parts { views result ≡ option_map saturated_parts (read.after_whole whole.now text.now) }
+    ensures number { IfSome result (λ p. Writes (p.whole.now ++ p.fraction.now) p.number) }
 {
     match text {
         [] if !whole.is_empty() => Some(Parts {
             whole,
             fraction: text,
             exponent: None,
+            number,
         }),
         [b'.', rest @ ..] => {
-            let (fraction, rest) = split_digits(rest);
-            after_fraction(whole, fraction, rest)
+            let (fraction, rest, number) = split_digits(number, rest);
+            after_fraction(whole, fraction, number, rest)
         }
-        [b'e' | b'E', rest @ ..] if !whole.is_empty() => with_exponent(whole, &text[..0], rest),
+        [b'e' | b'E', rest @ ..] if !whole.is_empty() => {
+            with_exponent(whole, &text[..0], number, rest)
+        }
         _ => None,
     }
 }
 
 /// The parts of the text, if it is in the grammar.
+#[inline]
 #[tactic(auto, unfolding(crate::specs::Reading::parts_of))]
 pub fn split(text: &[u8]) -> Option<Parts<'_>>
     ensures parts { views result ≡ option_map saturated_parts (read.parts_of text.now) }
     ensures digits { IfSome result (λ p. AllDigits 10 (p.whole.now ++ p.fraction.now)) }
     ensures exponent { IfSome result (λ p. IfSome p.exponent IsSaturated) }
+    ensures number { IfSome result (λ p. Writes (p.whole.now ++ p.fraction.now) p.number) }
 {
-    let (whole, rest) = split_digits(text);
-    after_whole(whole, rest)
+    let (whole, rest, number) = split_digits(0, text);
+    after_whole(whole, number, rest)
 }
 
 impl Parts<'_> {
-    fn len(&self) -> usize
+    /// How many digits there are.
+    #[inline]
+    pub fn len(&self) -> usize
         ensures { result ≡ length (digits_of (view self.now)) }
     {
         self.whole.len() + self.fraction.len()
     }
 
     /// The digit at an index into all the digits.
+    #[inline]
     pub fn digit(&self, index: usize) -> u8
         requires in_range { index < length (digits_of (view self.now)) }
         requires digits { AllDigits 10 (self.now.whole.now ++ self.now.fraction.now) }
@@ -207,6 +248,7 @@ impl Parts<'_> {
     }
 
     /// The index of the first digit that is not 0, or the number of digits.
+    #[inline]
     pub fn start(&self) -> usize
         requires { AllDigits 10 (self.now.whole.now ++ self.now.fraction.now) }
         ensures within { result ≤ length (digits_of (view self.now)) }
@@ -223,6 +265,7 @@ impl Parts<'_> {
     }
 
     /// The index behind the last digit that is not 0, or 0.
+    #[inline]
     pub fn end(&self) -> usize
         requires { AllDigits 10 (self.now.whole.now ++ self.now.fraction.now) }
         ensures within { result ≤ length (digits_of (view self.now)) }

@@ -95,6 +95,7 @@ pub struct Plan {
 }
 
 /// The plan of the parts, unless they are beyond a limit.
+#[inline]
 pub fn planned(parts: &Parts<'_>) -> Option<Plan>
     requires digits { AllDigits 10 (parts.now.whole.now ++ parts.now.fraction.now) }
     requires exponent { IfSome parts.now.exponent IsSaturated }

@@ -13,4 +13,5 @@ loop-count-preserved c =
     record {
       within = omega arith;
       digits = count_group text i 32 c.loop-count-test.true digits c.loop-count.invariant.digits;
+      many = λ h. omega arith;
     }

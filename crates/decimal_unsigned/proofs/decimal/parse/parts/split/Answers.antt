@@ -10,8 +10,9 @@ found : (c : goal.After-after_whole)
     → views c.after_whole.result ≡ option_map saturated_parts (parts_of c.args.text.now)
 unfolding parts_of
 found c =
-    c.after_whole.ensures
-    ∙ (λ i. option_map saturated_parts (after_whole (c.split_digits.ensures.front i) (c.split_digits.ensures.behind i)))
+    c.after_whole.ensures.parts
+    ∙ (λ i. option_map saturated_parts
+    (after_whole (c.split_digits-number.ensures.front i) (c.split_digits-number.ensures.behind i)))
 
 pub returns-clause-digits : goal.returns-clause-digits
 returns-clause-digits c = digits_found c.args.text.now c.after_whole.result (found c)
