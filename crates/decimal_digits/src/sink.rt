@@ -7,6 +7,7 @@ mod out;
 mod text_buf;
 
 pub use out::Out;
+use std::io::Write;
 pub use text_buf::TextBuf;
 
 /// Says that a sink refused a byte.
@@ -83,4 +84,19 @@ pub trait Writeable {
     /// Counts the bytes of the text, exactly.
     fn writeable_length_hint(&self) -> usize
         ensures { result ≡ length (text self.now) };
+}
+
+/// Writes bytes. Err: the writer refused one, and has taken those in front.
+fn write_whole<W: Write>(writer: &mut W, bytes: &[u8]) -> Result<(), SinkFault>
+    ensures ok { OnOk result (Appends (W.contents writer.old) (W.contents writer.new) bytes.now) }
+    ensures err { OnErr result (AppendsPrefix (W.contents writer.old) (W.contents writer.new) bytes.now) }
+{
+    let mut taken = 0;
+    while taken < bytes.len() {
+        match writer.write(&bytes[taken..]) {
+            Ok(count) if count > 0 => taken += count,
+            _ => return Err(SinkFault),
+        }
+    }
+    Ok(())
 }

@@ -1,9 +1,8 @@
 //! A sink over a writer.
 ghost use Rattle.std.specs.Prelude.{◌≡◌, IsErr, OnOk, OnErr, Bool, true, false};
-ghost use Rattle.std.specs.Io.KnownBytes.{Keeps, Appends};
-ghost use Rattle.decimal_digits.specs.Text.{AppendsPrefix};
+ghost use Rattle.std.specs.Io.KnownBytes.{Keeps};
 
-use super::{Sink, SinkFault};
+use super::{Sink, SinkFault, write_whole};
 use std::io::Write;
 use std::marker::Model;
 
@@ -94,19 +93,4 @@ impl<W: Write> Sink for Out<W> {
     fn failed(&self) -> bool {
         self.failed
     }
-}
-
-/// Writes bytes. Err: the writer refused one, and has taken those in front.
-fn write_whole<W: Write>(writer: &mut W, bytes: &[u8]) -> Result<(), SinkFault>
-    ensures ok { OnOk result (Appends (W.contents writer.old) (W.contents writer.new) bytes.now) }
-    ensures err { OnErr result (AppendsPrefix (W.contents writer.old) (W.contents writer.new) bytes.now) }
-{
-    let mut taken = 0;
-    while taken < bytes.len() {
-        match writer.write(&bytes[taken..]) {
-            Ok(count) if count > 0 => taken += count,
-            _ => return Err(SinkFault),
-        }
-    }
-    Ok(())
 }

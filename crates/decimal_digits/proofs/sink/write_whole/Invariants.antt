@@ -1,6 +1,6 @@
 use Rattle.std.proofs.Common.{◌≤◌, ◌-◌, length, take}
 use Rattle.std.specs.Io.KnownBytes.{Appends}
-use Rattle.decimal_digits.proofs.sink.out.write_whole.Given as goal
+use Rattle.decimal_digits.proofs.sink.write_whole.Given as goal
 
 -- the bytes so far were taken
 abbrev pub invariant-loop-taken : goal.invariant-loop-taken

@@ -1,7 +1,7 @@
 use Rattle.std.proofs.Common.{◌+◌, drop, take, take-append-drop, arith}
 use Rattle.std.proofs.lemmas.List.{length-drop, length-take}
 use Rattle.decimal_digits.proofs.Sinks.{part_kept, took_more}
-use Rattle.decimal_digits.proofs.sink.out.write_whole.Goals as goal
+use Rattle.decimal_digits.proofs.sink.write_whole.Goals as goal
 
 pub loop-taken-preserved : goal.loop-taken-preserved
 loop-taken-preserved g c =
