@@ -3,6 +3,7 @@
 mpdec.py version               the version of libmpdec
 mpdec.py whole TEXT DECIMALS   reads a text, shifts it by -2, rounds it half-even and prints it
 mpdec.py time TEXT..           a line for each text and operation: OPERATION SIZE NANOSECONDS
+                               (to_u64 is of the text without its dot)
 """
 import decimal
 import sys
@@ -29,11 +30,17 @@ def main(word, *texts):
     for text in texts if word == "time" else ():
         size = sum(byte.isdigit() for byte in text)
         number, cent = decimal.Decimal(text), decimal.Decimal("0.01")
+        twin, other = decimal.Decimal(text), decimal.Decimal(text[:-1] + "8")
         print("parse", size, least(lambda: decimal.Decimal(text), size))
         print("shift", size, least(lambda: number.scaleb(-2), size))
         print("round", size, least(lambda: number.quantize(cent), size))
         print("print", size, least(lambda: str(number), size))
         print("whole", size, least(lambda: whole(text, cent), size))
+        print("compare", size, least(lambda: number.compare(twin), size))
+        print("compare_last", size, least(lambda: number.compare(other), size))
+        if size < 20:
+            integer = decimal.Decimal(text.replace(".", ""))
+            print("to_u64", size, least(lambda: int(integer), size))
 
 
 main(*sys.argv[1:])

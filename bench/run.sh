@@ -17,11 +17,12 @@ while [ $# -gt 0 ]; do
 done
 need_packages librust-smallvec-dev librust-rust-decimal-dev librust-bigdecimal-dev libicu-dev
 copy_project
-add_library decimal_times decimal_digits decimal_unsigned fixed_decimal libc
+add_library decimal_times decimal_digits decimal_unsigned fixed_decimal plural_rules libc
 copy_original
 export ICU_CALLS=$work/icu_calls MPDEC=$here/mpdec.py
 mkdir -p "$ICU_CALLS"
 cc -O2 -c -o "$ICU_CALLS/icu_calls.o" "$here/icu_calls.c"
-ar rcs "$ICU_CALLS/libicu_calls.a" "$ICU_CALLS/icu_calls.o"
+c++ -O2 -c -o "$ICU_CALLS/icu_plurals.o" "$here/icu_plurals.cc"
+ar rcs "$ICU_CALLS/libicu_calls.a" "$ICU_CALLS/icu_calls.o" "$ICU_CALLS/icu_plurals.o"
 build_driver bench
 exec "$work/target/release/bench" "$passes" ${word:+"$word"}

@@ -13,7 +13,7 @@ Run from the repository's root: `python3 tools/check_documents.py`. Each thing t
 - public: CALLING.md names each public item of the libraries;
 - widths: lines of code, cells of docs/PROVED.md, and the length of README.md;
 - alone: nothing cites what is not in the repository;
-- examples: `$ fixdec ..` in README.md prints what README.md says, where the program is built.
+- examples: each `$ ..` in README.md and docs/PROGRAMS.md writes what stands below it, where its program is built.
 """
 
 import glob
@@ -21,6 +21,7 @@ import os
 import re
 import subprocess
 import sys
+import tempfile
 from collections import namedtuple
 
 # ---- What is set by hand.
@@ -32,8 +33,24 @@ README_LINES = 200
 CELL = 240
 
 DOCUMENTS = ["README.md", "CALLING.md"]
+# The crates whose proofs know of the libraries what every caller does.
+CALLERS = ["uses", "plural_rules", "program_parts", "plural_program", "fixdec_lines_program"]
 LIBRARIES = ["decimal_digits", "decimal_unsigned", "fixed_decimal"]
-CRATES = [*LIBRARIES, "fixdec_program"]
+CRATES = [*LIBRARIES, "program_parts", "fixdec_program", "fixdec_lines_program", "plural_rules", "plural_program"]
+
+# The files above the libraries whose public functions are promises.
+ABOVE = [
+    "crates/program_parts/src/arguments.rt",
+    "crates/program_parts/src/lines.rt",
+    "crates/fixdec_program/src/command_line.rt",
+    "crates/fixdec_lines_program/src/command_line.rt",
+    "crates/fixdec_lines_program/src/filter.rt",
+    "crates/plural_program/src/command_line.rt",
+    "crates/plural_rules/src/operands.rt",
+    "crates/plural_rules/src/parse.rt",
+    "crates/plural_rules/src/rules.rt",
+    "crates/plural_rules/src/rules/category.rt",
+]
 
 # The ghost lines by which an `impl` of a trait of std promises something; the others say how fields are seen.
 PROMISES = set(
@@ -41,14 +58,15 @@ PROMISES = set(
 )
 
 # Files that say how fields are seen: the models of values cite them, and no public contract does.
-SEEN = {"decimal_digits": {"Halves"}, "decimal_unsigned": {"Fields", "Parts", "Placing"}}
+SEEN = {"decimal_unsigned": {"Fields", "Parts", "Placing"}}
 
-# Words of the original or of its world, of Rust, of Rattle and of the commands, which do not stand in the tree's code,
+# Words of the original or of its world, of C, of Rust, of Rattle and of the commands, which do not stand in the code,
 # and rows of docs/SPEED.md.
 FOREIGN = set(
     """
     FloatPrecision DoublePrecision WithInfinity try_from_f64 ryu writeable write_to_string LengthHint
     FromStr ONE core non_exhaustive rustc release memcmp String rt ci fixdec TEXT CALL WORD INC MODE D P S K N expand_nines
+    compare_last to_u64 puts argv mmap brk SIGPIPE double int32_t FormattedNumber select
     """.split()
 )
 
@@ -357,10 +375,10 @@ def public_seeds(tree):
         for name, body in re.findall(r"^\s+ghost (\w+) = \{(.*?)\};", text, re.M | re.S):
             if name in PROMISES:
                 seeds += cited_by(tree, path, body)
-    path = "crates/fixdec_program/src/command_line.rt"
-    for function in functions(tree.text[path]):
-        if function.public:
-            seeds += cited_by(tree, path, function.contract)
+    for path in ABOVE:
+        for function in functions(tree.text[path]):
+            if function.public:
+                seeds += cited_by(tree, path, function.contract)
     return seeds
 
 
@@ -475,7 +493,7 @@ def is_source(path, crates):
 def public_items(tree):
     """The public types and the public functions of the libraries: (file, name) and (file, function)."""
     types, items = set(), []
-    private = re.compile(r"/src/(?:rounding/|digits/packed/|decimal/parse/plan|cut\.rt)")
+    private = re.compile(r"/src/(?:rounding/|digits/packed/|decimal/parse/plan|decimal/parse/short|cut\.rt)")
     for path, text in tree.text.items():
         if not is_source(path, LIBRARIES) or private.search(path):
             continue
@@ -537,15 +555,14 @@ def check_proved(tree):
             check(good, f"docs/PROVED.md: no row has {clause} of {function.name} ({path})")
 
 
-def check_price(tree):
-    """docs/PROVED.md names the proof files of lower crates that the proofs of `price` cite."""
-    cited_files = set()
+def check_callers(tree):
+    """The proofs of crates that stand on the libraries cite of these the lemmas of `Calling` alone."""
     for path, text in tree.text.items():
-        if path.startswith("crates/price/"):
-            cited_files.update(re.findall(r"^use Rattle\.(?:decimal_\w+|fixed_decimal)\.proofs\.(\w+)", text, re.M))
-    line = next((line for line in read("docs/PROVED.md").splitlines() if line.startswith("- The code of `price`")), "")
-    named = {word for word in quoted(line) if re.fullmatch(r"[A-Z]\w+", word)}
-    check(named == cited_files, f"docs/PROVED.md: the proofs of price cite {sorted(cited_files)}, and not {sorted(named)}")
+        crate = path.split("/")[1] if path.startswith("crates/") else ""
+        if crate not in CALLERS:
+            continue
+        for cited in re.findall(r"^(?:pub )?use Rattle\.(?:decimal_\w+|fixed_decimal)\.proofs\.(\w+)", text, re.M):
+            check(cited == "Calling", f"{path}: cites {cited}, and callers cite Calling alone")
 
 
 def check_public(tree):
@@ -579,17 +596,27 @@ def check_widths(tree):
 
 
 def check_examples():
-    """Runs each `$ fixdec ..` of README.md, and compares what it writes."""
-    program = "crates/fixdec/out/fixdec"
-    blocks = re.findall(r"```\n(\$ fixdec .*?)```", read("README.md"), re.S)
-    if not os.access(program, os.X_OK):
-        print(f"note: {program} is not built, so the examples of README.md were left out")
-        return
-    for block in blocks:
-        for command, expected in re.findall(r"^\$ fixdec (.*)\n((?:(?!\$ ).*\n)*)", block, re.M):
-            words = command.split(" ")
-            run = subprocess.run([program, *words], capture_output=True, text=True, check=False)
-            check(run.stdout + run.stderr == expected, f"README.md: fixdec {command} writes {run.stdout + run.stderr!r}")
+    """Runs each `$ ..` of the documents that show a shell, and compares what it writes. `cat FILE` shows an input."""
+    programs = {name: os.path.abspath(f"crates/{name}/out") for name in ["fixdec", "fixdec_lines", "plural"]}
+    unbuilt = {name for name, folder in programs.items() if not os.access(f"{folder}/{name}", os.X_OK)}
+    for name in sorted(unbuilt):
+        print(f"note: {name} is not built, so the examples that call it were left out")
+    path = ":".join([*programs.values(), "/usr/bin", "/bin"])
+    for document in ["README.md", "docs/PROGRAMS.md"]:
+        with tempfile.TemporaryDirectory() as room:
+            for block in re.findall(r"```\n(\$ .*?)```", read(document), re.S):
+                for command, expected in re.findall(r"^\$ (.*)\n((?:(?!\$ ).*\n)*)", block, re.M):
+                    if command.startswith("cat "):
+                        with open(f"{room}/{command[4:]}", "w") as file:
+                            file.write(expected)
+                    elif not unbuilt.intersection(command.split(" ")):
+                        check_example(document, command, expected, {"cwd": room, "env": {"PATH": path}})
+
+
+def check_example(document, command, expected, how):
+    run = subprocess.run(["bash", "-c", command], capture_output=True, text=True, check=False, **how)
+    written = run.stdout + run.stderr
+    check(written == expected, f"{document}: `{command}` writes {written!r}")
 
 
 def check_alone(tree):
@@ -618,7 +645,7 @@ def main():
     check_design(tree)
     check_clause_counts(tree)
     check_proved(tree)
-    check_price(tree)
+    check_callers(tree)
     check_public(tree)
     check_widths(tree)
     check_alone(tree)

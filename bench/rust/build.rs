@@ -12,4 +12,5 @@ fn main() {
     println!("cargo:rustc-link-lib=static=icu_calls");
     println!("cargo:rustc-link-lib=icui18n");
     println!("cargo:rustc-link-lib=icuuc");
+    println!("cargo:rustc-link-lib=stdc++");
 }

@@ -5,7 +5,9 @@
 mod original;
 mod peer_table;
 mod peers;
+mod plurals;
 mod shared;
+mod sizes;
 mod table;
 
 fn main() {
@@ -22,9 +24,17 @@ fn main() {
             }
         }));
         println!();
+        sizes::print();
+        println!();
         peer_table::print(passes);
         println!();
         peer_table::print_answers();
+        println!();
+        plurals::print(passes);
+        println!();
+        plurals::print_differences();
+        println!();
+        plurals::print_remainders(passes);
         println!("\nlibmpdec {}", peers::python(&["version"]).unwrap_or_default());
     }
 }

@@ -231,5 +231,8 @@ pub fn time(case: &Case, outcome: &mut Outcome) -> u64 {
             outcome.put(worked(&case.text, position).as_bytes());
             took
         }
+        Operation::Compare | Operation::ToU64 | Operation::Category | Operation::Remainder => {
+            unreachable!("the original does not have it")
+        }
     }
 }

@@ -2,6 +2,7 @@
 
 use crate::original::worked;
 use bigdecimal::BigDecimal;
+use rust_decimal::prelude::ToPrimitive;
 use rust_decimal::{Decimal as RustDecimal, RoundingStrategy};
 use std::ffi::{c_char, c_int, c_void};
 use std::panic::{catch_unwind, AssertUnwindSafe};
@@ -10,7 +11,7 @@ use std::ptr::null_mut;
 
 /// A library of numbers. A call answers None where it has no answer.
 pub trait Peer {
-    type Number;
+    type Number: Ord + ToPrimitive;
 
     fn read(text: &str) -> Option<Self::Number>;
 

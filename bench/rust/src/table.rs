@@ -115,7 +115,9 @@ fn name(operation: Operation) -> Option<&'static str> {
         Operation::Concatenate => "concatenate",
         Operation::FromU64 => "from_u64",
         Operation::FromU128 => "from_u128",
-        Operation::Whole => return None,
+        // The original has no rows of these, and of the whole there is a table beside more libraries.
+        Operation::Whole | Operation::Compare | Operation::ToU64 => return None,
+        Operation::Category | Operation::Remainder => return None,
     })
 }
 

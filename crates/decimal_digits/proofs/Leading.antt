@@ -1,5 +1,5 @@
 -- The digits that are kept, and the last two of them.
-use Rattle.std.proofs.Common.{◌≡◌, ℕ, ◌+◌, ◌-◌, ◌*◌, ◌/◌, ◌%◌, ◌^◌, ◌<◌, ◌≤◌, List, [], ◌∷◌, ◌++◌, length, get_or, take, drop, set, refl, sym, ◌∙◌, ap, subst, arith, inl, inr}
+use Rattle.std.proofs.Common.{◌≡◌, ℕ, ◌+◌, ◌-◌, ◌*◌, ◌/◌, ◌%◌, ◌^◌, ◌<◌, ◌≤◌, ◌==◌, List, [], ◌∷◌, ◌++◌, length, get_or, take, drop, set, refl, sym, ◌∙◌, ap, subst, arith, inl, inr}
 use Rattle.std.proofs.lemmas.Bool.{cases_lt}
 use Rattle.std.proofs.lemmas.List.{length-drop, length-take, length-take-le, length-set, take_all, take-take, get_or_past, get_or-take, get_or-drop, drop_more, set-append_left}
 use Rattle.std.proofs.Math.Nat.{mul-le-mul_right}
@@ -7,7 +7,7 @@ use Rattle.std.specs.Int.Digits.{AllBelowBase}
 use Rattle.decimal_digits.specs.Digits.{number_at}
 use Rattle.decimal_digits.specs.declared.rounding.tail.Tail.TheVariants.{BelowHalf, Half, AboveHalf}
 use Rattle.decimal_digits.specs.Tails.{leading, TailIs, HasDigits}
-use Rattle.decimal_digits.proofs.NumberAt.{powers, number_at-none, number_at-more, number_at-take, number_at-set, number_at-push, number_at-append, number_at-one, number_at-lt, number_at-ge, number_at-pos, nines_passed}
+use Rattle.decimal_digits.proofs.NumberAt.{powers, number_at-none, number_at-more, number_at-take, number_at-set, number_at-push, number_at-append, number_at-one, number_at-lt, number_at-ge, number_at-pos, nines_passed, nines_end}
 use Rattle.decimal_digits.proofs.DigitLists.{below_drop, below_take, ten_pos}
 
 -- no digit writes 0
@@ -76,6 +76,24 @@ nines_in_front n j k ds e h nine =
     let same : take j xs ≡ take j ds = take-take j k ds (omega arith) in
     ap (λ ys. number_at k ys + 10 ^ (k - j)) (sym same)
     ∙ subst (λ m. number_at m (take j xs) + 10 ^ (m - j) ≡ number_at m xs + 1) len passed
+
+-- the last of the first k digits tells whether their number is odd
+pub last_odd : (k last : ℕ) (ds : List ℕ) → (0 < k → last ≡ get_or ds (k - 1) 0) → (k ≡ 0 → last ≡ 0)
+    → (last % 2 == 1) ≡ (leading k ds % 2 == 1)
+last_odd k last ds is none = ap (λ v. v == 1) same
+  where
+    same : last % 2 ≡ leading k ds % 2
+    same = elim (cases_lt 0 k) [
+      | inl p ↦ omega (arith, is p, leading_more k ds p)
+      | inr h ↦ omega (arith, none (omega arith), leading_none k ds (omega arith))
+    ]
+
+-- one more in the last of the first k digits is one more in their number
+pub last_raised : (k d : ℕ) (ds : List ℕ) → 0 < k → k ≤ length ds → d ≡ get_or ds (k - 1) 0
+    → number_at k (set (take k ds) (k - 1) (d + 1)) ≡ leading k ds + 1
+last_raised k d ds p h is =
+    let none : k - k ≡ 0 = omega arith in
+    nines_end k k d _ ds p h (omega arith) is (ap (λ i. leading k ds + 10 ^ i) none)
 
 -- ---- the last two are replaced
 module _ (k : ℕ) (ds : List ℕ) (p : 2 ≤ k) (h : k ≤ length ds + 1) where

@@ -17,3 +17,4 @@ pub mod Sinks
 pub mod Refills
 pub mod DigitTexts
 pub mod HalfRuns
+pub mod FrontBytes

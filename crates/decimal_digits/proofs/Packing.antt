@@ -66,7 +66,7 @@ fewer (suc i) zero h = absurd (omega arith)
 fewer (suc i) (suc j) h = ap (λ l. 0 ∷ l) (fewer i j (omega arith))
 
 -- some of the zeros behind a list
-take_zeros : (xs : List ℕ) (i j : ℕ) → i ≤ j → take (length xs + i) (xs ++ replicate j 0) ≡ xs ++ replicate i 0
+pub take_zeros : (xs : List ℕ) (i j : ℕ) → i ≤ j → take (length xs + i) (xs ++ replicate j 0) ≡ xs ++ replicate i 0
 take_zeros [] i j h = ap (λ n. take n (replicate j 0)) (zero-add i) ∙ fewer i j h
 take_zeros (x ∷ xs) i j h =
     let e : suc (length xs) + i ≡ suc (length xs + i) = omega arith in

@@ -1,6 +1,6 @@
 -- Outcomes.
 use Rattle.std.proofs.Common.{refl}
-use Rattle.std.specs.Prelude.{Result, Ok, Err, IsOk, OnErr}
+use Rattle.std.specs.Prelude.{Result, Ok, Err, IsOk, IfErr, OnErr, Option, None, Some, IfNone, ok_or}
 
 -- what holds anyway holds on an error
 pub on_err : {A E : Type 0} (r : Result A E) (P : Type 0) → P → OnErr r P
@@ -11,3 +11,15 @@ on_err (Err e) P p = p
 pub ok_unless : {A E P : Type 0} (r : Result A E) → OnErr r P → (P → ⊥) → IsOk r
 ok_unless (Ok x) reason never = refl
 ok_unless (Err e) reason never = absurd (never reason)
+
+-- what holds anyway holds where there is nothing
+pub if_none : {A : Type 0} (r : Option A) (P : Type 0) → P → IfNone r P
+if_none None P p = p
+if_none (Some x) P p = tt
+
+-- what follows from two facts that hold where there is nothing is the error's, where there is one in its place
+pub none_is_error : {A E : Type 0} (r : Option A) (e : E) {P Q : Type 0} (R : E → Type 0) → IfNone r P → IfNone r Q
+    → (P → Q → R e)
+    → IfErr (ok_or r e) R
+none_is_error None e R p q f = f p q
+none_is_error (Some x) e R p q f = tt

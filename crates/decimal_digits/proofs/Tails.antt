@@ -179,6 +179,21 @@ two_split mode increment tail left s two rest result odd up step is_rest is_odd 
     let o : odd ≡ (two / s % 2 == 1) = is_odd ∙ ap (λ v. two / v % 2 == 1) (sym step) in
     two_by mode increment tail left s two result up step (rw r at part) (rw o at goes) (rw r at made)
 
+-- by one, the number's parity and the tail make the mode go up, or not
+pub one_by : (mode : UnsignedRoundingMode) (tail : Tail) (k m : ℕ) (odd up : Bool) → odd ≡ (k % 2 == 1)
+    → up ≡ goes_up_of mode tail odd
+    → m ≡ k + cond up 1 0
+    → RoundsTo mode 1 tail k m
+one_by mode tail k m odd up is_odd goes made r place p is =
+    let one : 1 * place ≡ place = omega arith in
+    rw (one, made, goes) (rounded_by k place r odd (below_unit tail r place p is) is_odd mode tail is)
+
+-- with nothing below it, a number stays
+pub exact_stays : (mode : UnsignedRoundingMode) (tail : Tail) (k m : ℕ) → tail ≡ Zero → m ≡ k
+    → RoundsTo mode 1 tail k m
+exact_stays mode tail k m is same =
+    one_by mode tail k m (k % 2 == 1) false refl (rw is refl) (omega (arith, same))
+
 -- a rounding, under equations of the two numbers
 pub rounds_as : (mode : UnsignedRoundingMode) (step : ℕ) (tail : Tail) (k m k' m' : ℕ) → RoundsTo mode step tail k m
     → k' ≡ k → m' ≡ m

@@ -1,5 +1,6 @@
 -- Two digits to a byte, the first of them in the high half.
 use Rattle.std.specs.Prelude.{◌≡◌, ℕ, ◌+◌, ◌*◌, ◌/◌, ◌%◌, ◌<◌, List, [], ◌∷◌, ◌++◌, length, take, replicate, All}
+use Rattle.std.specs.Int.{w64, to_be_bytes}
 
 -- the high half of each byte, and then its low half
 unfoldable pub halves : List ℕ → List ℕ
@@ -15,3 +16,7 @@ pub record IsPacked (bytes : List ℕ) (len : ℕ) : Type 0 where
   pub count : 2 * length bytes ≡ len + len % 2
   pub decimal : All (λ d. d < 10) (digits_in bytes len)
   pub unused : halves bytes ≡ digits_in bytes len ++ replicate (len % 2) 0
+
+-- the first bytes of a number of 64 bits, the highest one first, as many as so many digits fill
+unfoldable pub front_bytes : ℕ → ℕ → List ℕ
+front_bytes number len = take ((len + 1) / 2) (to_be_bytes w64 number)

@@ -3,6 +3,7 @@ ghost use Rattle.std.specs.Prelude.{◌≡◌, ℕ, ◌+◌, ◌-◌, ◌<◌, �
 ghost use Rattle.std.specs.Char.{digit_value};
 ghost use Rattle.std.specs.Str.Parse.{AllDigits};
 ghost use Rattle.decimal_digits.specs.Digits.{text_of};
+ghost use Rattle.decimal_digits.specs.Halves.{digits_in, front_bytes, IsPacked};
 
 mod counted;
 mod list;
@@ -12,6 +13,7 @@ mod steps;
 pub use counted::Counted;
 pub use list::DigitList;
 pub use packed::PackedDigits;
+use packed::half_at;
 use std::alloc::{AllocError, Global};
 pub use steps::Steps;
 
@@ -43,6 +45,24 @@ pub trait DigitStore: Drop {
         requires { All (λ d. d < 10) list.now }
         ensures ok { IfOk result (λ s. digits s ≡ list.now) }
         ensures succeeds { length list.now ≤ L → IsOk result };
+
+    /// Makes the list of the first digits of a number in base 16 with sixteen places.
+    ///
+    /// Requires at most sixteen digits, 0 to 9, and behind an odd number of them a 0. Of `0x2500_0000_0000_0000` the
+    /// first two are 2 and 5. Err: memory was refused, which needs more than `L` digits.
+    fn from_halves(alloc: Global, number: u64, len: usize) -> Result<Self, AllocError>
+        requires { IsPacked (front_bytes number len) len }
+        ensures ok { IfOk result (λ s. digits s ≡ digits_in (front_bytes number len) len) }
+        ensures succeeds { len ≤ L → IsOk result }
+    {
+        let bytes = number.to_be_bytes();
+        let mut list = Self::empty(alloc);
+        list.reserve(len)?;
+        for index in 0..len {
+            list.push_in_room(half_at(&bytes, index));
+        }
+        Ok(list)
+    }
 
     /// Makes a second list of the same digits.
     ///

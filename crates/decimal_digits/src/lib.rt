@@ -8,6 +8,4 @@ mod error;
 pub mod ops;
 pub mod rounding;
 pub mod sink;
-#[cfg(test)]
-mod tests;
 pub mod uint_iterator;

@@ -1,23 +1,29 @@
 //! Doubles for tests: a store with little memory, which counts, a sink and a writer with little room, the types of
-//! values as one trait, and long texts.
+//! values as one trait, their rounding calls as another, and long texts.
 //!
 //! The store, the sink and the writer ask for no memory of their own. Nothing but tests stands on this crate.
 #![tactic(auto)]
 
+mod counts;
 mod digit_limit;
 mod expected_text;
 mod failing_writer;
+mod joins;
 mod limited_sink;
 mod limited_store;
 mod parts;
+mod rounds;
 mod value;
 
+pub use counts::{Counts, all_stay_within};
 pub use digit_limit::{
     DigitLimit, EightDigits, EighteenDigits, HundredDigits, MaxDigits, NineteenDigits,
     SeventeenDigits, SixteenDigits, TwentyOneDigits,
 };
 pub use failing_writer::{FailingWriter, WriteFailure};
+pub use joins::{Join, Joined, Joins};
 pub use limited_sink::{LimitedSink, displays, shows};
-pub use limited_store::LimitedStore;
+pub use limited_store::{CountingStore, LimitedStore};
 pub use parts::long;
-pub use value::{Value, reading_word};
+pub use rounds::{Left, Rounding, Rounds, Way, rounded, rounds_each_way, ways};
+pub use value::{Value, has_text, reading_word};

@@ -27,21 +27,36 @@ pub struct LimitedStore<D: DigitStore, M: DigitLimit> {
     first: PhantomData<M>,
 }
 
-impl<D: DigitStore, M: DigitLimit> LimitedStore<D, M> {
+/// A store that counts what it is asked for.
+pub trait CountingStore: DigitStore {
     /// Gives this list memory for `most` digits from now on.
-    pub fn bound(&self, most: usize) {
+    fn bound(&self, most: usize);
+
+    /// Counts from 0 on.
+    fn restart(&self);
+
+    /// Gives the number of digits touched since the last `restart`, and None where this list was made after it.
+    fn touched(&self) -> Option<usize>;
+
+    /// Gives the number of requests for memory since the last `restart`, or else since this list was made.
+    fn requests(&self) -> usize;
+
+    /// Tells whether this very list was counted by the last `restart`, and has asked for no memory since.
+    fn asked_nothing(&self) -> bool;
+}
+
+impl<D: DigitStore, M: DigitLimit> CountingStore for LimitedStore<D, M> {
+    fn bound(&self, most: usize) {
         self.most.set(most);
     }
 
-    /// Counts from 0 on.
-    pub fn restart(&self) {
+    fn restart(&self) {
         self.touched.set(0);
         self.requests.set(0);
         self.is_restarted.set(true);
     }
 
-    /// Gives the number of digits touched since the last `restart`, and None where this list was made after it.
-    pub fn touched(&self) -> Option<usize> {
+    fn touched(&self) -> Option<usize> {
         if self.is_restarted.get() {
             Some(self.touched.get())
         } else {
@@ -49,16 +64,16 @@ impl<D: DigitStore, M: DigitLimit> LimitedStore<D, M> {
         }
     }
 
-    /// Gives the number of requests for memory since the last `restart`, or else since this list was made.
-    pub fn requests(&self) -> usize {
+    fn requests(&self) -> usize {
         self.requests.get()
     }
 
-    /// Tells whether this very list was counted by the last `restart`, and has asked for no memory since.
-    pub fn asked_nothing(&self) -> bool {
+    fn asked_nothing(&self) -> bool {
         self.is_restarted.get() && self.requests.get() == 0
     }
+}
 
+impl<D: DigitStore, M: DigitLimit> LimitedStore<D, M> {
     /// Counts so many digits more.
     fn touch(&self, count: usize) {
         self.touched.set(self.touched.get().saturating_add(count));

@@ -1,19 +1,21 @@
-//! The types of values, as one trait.
+//! The types of values, as one trait, and how their texts are read and shown.
+use crate::limited_sink::shows;
 use decimal_digits::digits::DigitStore;
 use decimal_digits::sink::Writeable;
 use decimal_unsigned::ParseError;
 use decimal_unsigned::decimal::UnsignedOver;
 use fixed_decimal::{CompactDecimal, FixedInteger, ScientificDecimal, Signed};
 use std::alloc::{AllocError, Global};
-use std::fmt::Display;
 
 /// A type of values that are read, copied, compared and printed.
-pub trait Value: Writeable + Display + Drop {
+pub trait Value: Writeable + Drop {
     /// The value that a text writes.
     fn read(alloc: Global, text: &str) -> Result<Self, ParseError>;
 
     /// The same by the call for bytes, where the type has one.
-    fn read_bytes(alloc: Global, text: &str) -> Result<Self, ParseError>;
+    fn read_bytes(alloc: Global, text: &str) -> Result<Self, ParseError> {
+        Self::read(alloc, text)
+    }
 
     /// A second value.
     fn copy(&self) -> Result<Self, AllocError>;
@@ -30,6 +32,11 @@ pub fn reading_word<T: Drop>(answer: Result<T, ParseError>) -> &'static str {
         Err(ParseError::Syntax) => "syntax",
         Err(ParseError::Memory) => "memory",
     }
+}
+
+/// Tells whether a value has this text, and its length as the hint.
+pub fn has_text<T: Writeable>(value: &T, text: &str) -> bool {
+    value.writeable_length_hint() == text.len() && shows(value, text.as_bytes())
 }
 
 impl<D: DigitStore> Value for UnsignedOver<D> {
@@ -106,10 +113,6 @@ impl Value for ScientificDecimal {
 
 impl Value for CompactDecimal {
     fn read(alloc: Global, text: &str) -> Result<Self, ParseError> {
-        Self::try_from_str(alloc, text)
-    }
-
-    fn read_bytes(alloc: Global, text: &str) -> Result<Self, ParseError> {
         Self::try_from_str(alloc, text)
     }
 

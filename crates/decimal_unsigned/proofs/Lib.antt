@@ -28,3 +28,5 @@ pub mod NeverRefused
 pub mod Pieces
 pub mod Comparing
 pub mod WholeNumbers
+pub mod ShortNumbers
+pub mod ShortTexts

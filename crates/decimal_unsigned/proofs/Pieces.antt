@@ -67,34 +67,38 @@ module _ (v : Unsigned) (valid : IsValue v) (hi : ℤ) (hi_is : hi ≡ v.hi) (do
   below : dot < from + n → (v.lo <ℤ pos 0) × (from + n ≤ int_gap v.lo v.hi + 2)
   below h = text_dotted v valid (from + n) (omega (arith, ints, dot_at)) inside
 
-  -- the magnitude of a byte behind the dot is within the limits
-  pub limit_below : dot < from → negsuc 32767 ≤ℤ (negsuc 0 -ℤ pos (from - dot - 1))
+  -- the magnitude of a byte behind the dot, counted from the dot
+  from_dot : (m : ℤ) → m ≡ (hi -ℤ pos (from - 1)) → dot < from → m ≡ (negsuc 0 -ℤ pos (from - dot - 1))
+  from_dot m e h = omega (arith, ints, dot_at)
+
+  -- it is within the limits
+  pub limit_below : dot < from → negsuc 32767 ≤ℤ (hi -ℤ pos (from - 1))
   limit_below h = let b = below (omega arith) in omega (arith, ints, dot_at, gap_is v.lo v.hi, valid.lo_in, b)
 
   -- so are those of the digits that follow it in the piece
-  pub room_below : (m : ℤ) → m ≡ (negsuc 0 -ℤ pos (from - dot - 1)) → dot < from → n ≤ place m + 1
+  pub room_below : (m : ℤ) → m ≡ (hi -ℤ pos (from - 1)) → dot < from → n ≤ place m + 1
   room_below m e h =
       let b = below (omega arith) in
       omega (arith, ints, place_is m, dot_at, gap_is v.lo v.hi, valid.lo_in, b)
 
   -- a byte behind the dot writes the digit of its magnitude
-  pub byte_below : (m : ℤ) → m ≡ (negsuc 0 -ℤ pos (from - dot - 1)) → dot < from
+  pub byte_below : (m : ℤ) → m ≡ (hi -ℤ pos (from - 1)) → dot < from
       → 48 + digit v.number m ≡ get_or (text v) from 0
   byte_below m e h =
       let b = below (omega arith) in
-      ap (λ x. 48 + digit v.number x) e
+      ap (λ x. 48 + digit v.number x) (from_dot m e h)
       ∙ sym (text_below v valid from (from - dot - 1) (omega (arith, ints, dot_at))
       (omega (arith, ints, dot_at, gap_is v.lo v.hi, valid.lo_in, b)))
 
   -- places that begin behind the dot and hold the digits are that piece of the text
-  pub piece_below : (m : ℤ) (places : List ℕ) → m ≡ (negsuc 0 -ℤ pos (from - dot - 1)) → length places ≡ n
+  pub piece_below : (m : ℤ) (places : List ℕ) → m ≡ (hi -ℤ pos (from - 1)) → length places ≡ n
       → dot < from → Digits v.number m places
       → places ≡ take n (drop from (text v))
   piece_below m places e l h digits =
       let b = below (omega arith) in
       piece_is places (text v) from n l inside (λ k q.
       let j = from - dot - 1 + k in
-      let at : (m -ℤ pos k) ≡ (negsuc 0 -ℤ pos j) = omega (arith, ints) in
+      let at : (m -ℤ pos k) ≡ (negsuc 0 -ℤ pos j) = omega (arith, ints, from_dot m e h) in
       digits k (omega arith)
       ∙ ap (λ x. 48 + digit v.number x) at
       ∙ sym (text_below v valid (from + k) j (omega (arith, ints, dot_at))

@@ -1,5 +1,5 @@
 -- The first and the last digit of a value, and the ranges that show them.
-use Rattle.std.proofs.Common.{◌≡◌, ℕ, ◌+◌, ◌-◌, ◌%◌, ◌^◌, ◌<◌, true, List, length, refl, sym, subst, arith, inl, inr}
+use Rattle.std.proofs.Common.{◌≡◌, ℕ, ◌+◌, ◌-◌, ◌%◌, ◌^◌, ◌<◌, true, false, List, length, refl, sym, subst, arith, inl, inr}
 use Rattle.std.specs.Prelude.{ℤ, pos, negsuc, ◌-ℤ◌, ◌≤ℤ◌, ◌<ℤ◌, int_lt}
 use Rattle.std.specs.Int.{int_max, int_min}
 use Rattle.std.proofs.Math.Nat.{mul-mod_left}
@@ -13,7 +13,7 @@ use Rattle.decimal_digits.proofs.Ends.{no_more_zeros}
 use Rattle.decimal_digits.proofs.DigitLists.{number_back}
 use Rattle.decimal_unsigned.specs.Fields.{IsStored}
 use Rattle.decimal_unsigned.specs.Unsigned.{Unsigned, IsValue}
-use Rattle.decimal_unsigned.specs.Edits.{trimmed_start, padded_start}
+use Rattle.decimal_unsigned.specs.Edits.{trimmed_start, padded_start, padded_end}
 use Rattle.decimal_unsigned.proofs.FirstLast.{first_le}
 use Rattle.decimal_unsigned.proofs.Values.{number_of-ge, number_of-lt, number_of-none, none_of, lowest, last-number_of, last_of_none, last_in}
 
@@ -78,3 +78,11 @@ module _ {v : Unsigned} {n : ℕ} {hi lo f : ℤ} (h : ℤ) (view : record { num
   padded_start_is p l e =
       let test : int_lt (pos 0) p ≡ true = grind (arith, ints, l) in
       subst (λ x. record { number = n; hi = h; lo = lo } ≡ padded_start x p) view (rw (test, e, at) refl)
+
+-- another lower end: the one that padding gives
+pub padded_end_is : {v : Unsigned} {n : ℕ} {hi lo : ℤ} (h p : ℤ) → record { number = n; hi = hi; lo = lo } ≡ v
+    → p ≤ℤ pos 0 → h ≡ int_min p (last n)
+    → record { number = n; hi = hi; lo = h } ≡ padded_end v p
+padded_end_is {v} {n} {hi} h p view l e =
+    let test : int_lt (pos 0) p ≡ false = grind (arith, ints, l) in
+    subst (λ x. record { number = n; hi = hi; lo = h } ≡ padded_end x p) view (rw (test, e) refl)

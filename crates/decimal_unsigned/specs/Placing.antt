@@ -1,14 +1,15 @@
 -- Private: only the contracts of private functions and the model of `Scan` speak of these.
 -- Which digits of the parts make the value, and where they lie.
-use Rattle.std.specs.Prelude.{◌≡◌, ℕ, ◌-◌, ◌≤◌, ◌<◌, if◌then◌else◌, List, ◌++◌, length, take, drop, map, slice_index, ℤ, pos, negsuc, ◌+ℤ◌, ◌≤ℤ◌, int_lt, Ok}
+use Rattle.std.specs.Prelude.{◌≡◌, ℕ, ◌-◌, ◌≤◌, ◌<◌, if◌then◌else◌, List, ◌++◌, length, take, drop, map, slice_index, ℤ, pos, negsuc, ◌+ℤ◌, ◌≤ℤ◌, int_lt, Result, Ok}
 use Rattle.std.specs.Char.{digit_value}
 use Rattle.std.specs.Str.Parse.{AllDigits}
 use Rattle.std.specs.Int.{int_max, int_min}
 use Rattle.decimal_digits.specs.Digits.{number_of}
+use Rattle.decimal_digits.specs.Halves.{digits_in, front_bytes, IsPacked}
 use Rattle.decimal_unsigned.specs.Fields.{IsStored}
 use Rattle.decimal_unsigned.specs.Unsigned.{Unsigned}
 use Rattle.decimal_unsigned.specs.Grammar.{Written}
-use Rattle.decimal_unsigned.specs.Reading.{value_of}
+use Rattle.decimal_unsigned.specs.Reading.{ReadingFault, value_of}
 
 -- all the digits, those in front of the dot first
 abbrev pub digits_of : Written → List ℕ
@@ -51,3 +52,10 @@ pub record Makes (w : Written) (start end : ℕ) (magnitude hi lo : ℤ) : Type 
 pub record IsScanned (w : Written) (start end : ℕ) (magnitude hi lo : ℤ) : Type 0 where
   pub digits : AllDigits 10 (w.whole ++ w.fraction)
   pub makes : Makes w start end magnitude hi lo
+
+-- reading comes to the value of so many digits of a number in base 16, the highest ones
+pub record IsShort (reading : Result Unsigned ReadingFault) (number len : ℕ) (magnitude hi lo : ℤ) : Type 0 where
+  pub packed : IsPacked (front_bytes number len) len
+  pub stored : IsStored (digits_in (front_bytes number len) len) magnitude hi lo
+  pub value : reading
+      ≡ Ok (record { number = number_of (digits_in (front_bytes number len) len) magnitude; hi = hi; lo = lo })

@@ -101,7 +101,8 @@ impl<D: DigitStore> UnsignedOver<D> {
     ///
     /// Of `2.50` the digit at -1 is 5. The original's `digit_at`.
     pub fn digit_at(&self, magnitude: i16) -> u8
-        ensures { result ≡ digit self.now.number magnitude }
+        ensures value { result ≡ digit self.now.number magnitude }
+        ensures valid { IsValue self.now }
     {
         match index_of(self.magnitude, magnitude) {
             Some(index) if index < self.digits.len() => self.digits.get(index),
@@ -131,6 +132,7 @@ impl<D: DigitStore> UnsignedOver<D> {
     pub fn nonzero_magnitude_start(&self) -> i16
         ensures value { result ≡ first self.now.number }
         ensures defined { IsFirst self.now.number result }
+        ensures valid { IsValue self.now }
     {
         self.magnitude
     }
@@ -141,6 +143,7 @@ impl<D: DigitStore> UnsignedOver<D> {
     pub fn nonzero_magnitude_end(&self) -> i16
         ensures value { result ≡ last self.now.number }
         ensures defined { IsLast self.now.number result }
+        ensures valid { IsValue self.now }
     {
         let len = self.digits.len();
         if len == 0 {
@@ -155,7 +158,8 @@ impl<D: DigitStore> UnsignedOver<D> {
     /// True of `0.00`. The original's `is_zero`.
     #[inline]
     pub fn is_zero(&self) -> bool
-        ensures { IsTrue result ↔ (self.now.number ≡ 0) }
+        ensures zero { IsTrue result ↔ (self.now.number ≡ 0) }
+        ensures valid { IsValue self.now }
     {
         self.digits.len() == 0
     }
@@ -188,6 +192,7 @@ impl<D: DigitStore> UnsignedOver<D> {
         ensures length { length (D.digits result.now) ≡ size self.now.number }
         // Neither the first nor the last of them is 0.
         ensures stripped { IsStripped (D.digits result.now) }
+        ensures valid { IsValue self.now }
     {
         &self.digits
     }

@@ -1,9 +1,10 @@
 //! Tables of texts, calls and results, over each store of digits and by the oracle.
 //!
-//! A helper holds one value, or two where a call takes two, and answers whether all is as its row says.
+//! A helper holds one value, or two where a call takes two, and answers whether all is as its row says. Where a trait
+//! has the calls it is generic over the type of its values, and a function over any store names that type once.
 use decimal_digits::digits::{DigitList, DigitStore};
 use decimal_digits::sink::Writeable;
-use decimal_doubles::{displays, long, shows};
+use decimal_doubles::{Value, displays, has_text, long};
 use decimal_oracle::Plain;
 use decimal_unsigned::LimitError;
 use decimal_unsigned::decimal::{DecimalStore, UnsignedOver};
@@ -28,14 +29,14 @@ const NINES: &str = "9*32768 . 9*32768";
 /// The least number above 0, in parts.
 const LEAST: &str = "0. 0*32767 1";
 
-/// The value that a text writes.
-fn read<D: DigitStore>(alloc: Global, text: &str) -> Result<UnsignedOver<D>, Fail> {
+/// The value over a store that a text writes.
+fn read_over<D: DigitStore>(alloc: Global, text: &str) -> Result<UnsignedOver<D>, Fail> {
     Ok(UnsignedOver::<D>::try_from_str(alloc, text)?)
 }
 
-/// Whether a value has this text, and its length as the hint.
-fn has_text<D: DigitStore>(value: &UnsignedOver<D>, text: &str) -> bool {
-    value.writeable_length_hint() == text.len() && shows(value, text.as_bytes())
+/// The value that a text writes.
+fn read<T: Value>(alloc: Global, text: &str) -> Result<T, Fail> {
+    Ok(T::read(alloc, text)?)
 }
 
 /// Whether the oracle gives this text.

@@ -2,5 +2,4 @@ pub mod Numerals
 pub mod Splits
 pub mod Naming
 pub mod OneCall
-pub mod Lines
 pub mod Programs

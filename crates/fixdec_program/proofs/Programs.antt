@@ -7,7 +7,7 @@ use Rattle.std.specs.Io.KnownBytes.{Keeps, Appends}
 use Rattle.std.proofs.Math.Seq.{take-suc, take-length}
 use Rattle.std.proofs.lemmas.List.{length-drop, append-nil}
 use Rattle.decimal_digits.specs.Text.{AppendsPrefix}
-use Rattle.decimal_digits.proofs.Sinks.{appends_both, appends_kept, part_more}
+use Rattle.fixed_decimal.proofs.Calling.{appends_both, appends_kept, part_more}
 use Rattle.fixed_decimal.specs.Outcome.{outcome}
 use Rattle.fixed_decimal.specs.declared.runs.Call.{Call}
 use Rattle.fixdec_program.specs.declared.fault.Fault.{Fault}

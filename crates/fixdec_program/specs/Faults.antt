@@ -1,11 +1,6 @@
 -- What ends the program without its text: the line that tells it, and the status.
-use Rattle.std.specs.Prelude.{◌≡◌, ◌≢◌, ℕ, Bool, false, List, [], ◌∷◌, ◌++◌, codes, Option}
+use Rattle.std.specs.Prelude.{ℕ, List, [], ◌∷◌, ◌++◌, codes}
 use Rattle.std.specs.Fmt.{decimal}
-use Rattle.std.specs.Io.KnownBytes.{Appends}
-use Rattle.std.specs.IoError.{error_kind}
-use Rattle.std.specs.declared.io.Error.{Error}
-use Rattle.std.specs.declared.io.ErrorKind.TheVariants.{OutOfMemory}
-use Rattle.decimal_digits.specs.Text.{AppendsPrefix}
 use Rattle.decimal_unsigned.specs.declared.error.ParseError.TheVariants as parse
 use Rattle.fixed_decimal.specs.declared.runs.RunError.{RunError}
 use Rattle.fixed_decimal.specs.declared.runs.RunError.TheVariants.{Start, Operand, Overlap, Limit, Sink}
@@ -62,12 +57,3 @@ message (Run error) = message_of_run error
 -- the line of a fault: what is told, and one line feed
 abbrev pub line : Fault → List ℕ
 line fault = message fault ++ (10 ∷ [])
-
--- the fault of an error of reading the words: of want of memory, or else of a word that is not UTF-8
-abbrev pub IsFaultOfArguments : Error → Fault → Type 0
-IsFaultOfArguments error fault =
-    (error_kind error ≡ OutOfMemory → fault ≡ Memory) × (error_kind error ≢ OutOfMemory → fault ≡ Usage)
-
--- a beginning of the line was appended, and all of it by a sink that has not failed
-abbrev pub TakesLine : Option (List ℕ) → Option (List ℕ) → Bool → List ℕ → Type 0
-TakesLine old new failed line = AppendsPrefix old new line × (failed ≡ false → Appends old new line)

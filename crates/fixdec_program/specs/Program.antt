@@ -1,19 +1,16 @@
 -- What a command line comes to.
-use Rattle.std.specs.Prelude.{◌≡◌, ℕ, ◌<◌, ⊤, Any, List, [], ◌∷◌, ◌++◌, length, drop, String, string_bytes}
-use Rattle.std.specs.Prelude.{Option, Some, None, Result, Ok, Err, IsOkAnd}
-use Rattle.std.specs.Vec.Iter.{into_iter_items}
+use Rattle.std.specs.Prelude.{◌≡◌, ℕ, ◌<◌, ⊤, Any, List, [], ◌∷◌, ◌++◌, length, String, string_bytes}
+use Rattle.std.specs.Prelude.{Option, Some, None, Ok, Err, IsOkAnd}
 use Rattle.std.specs.Io.KnownBytes.{Appends}
 use Rattle.std.specs.declared.alloc.Global.{Global}
-use Rattle.std.specs.declared.vec.IntoIter.{IntoIter}
-use Rattle.std.specs.declared.io.Error.{Error}
 use Rattle.decimal_digits.specs.Text.{AppendsPrefix}
 use Rattle.decimal_unsigned.specs.declared.decimal.TheConstants.{DIGITS_IN_PLACE}
 use Rattle.fixed_decimal.specs.declared.runs.Call.{Call}
 use Rattle.fixed_decimal.specs.Outcome.{outcome}
 use Rattle.fixed_decimal.specs.Errors.{RunRefuses}
+use Rattle.program_parts.specs.Arguments.{Arguments, words_of, IsFaultOfArguments}
 use Rattle.fixdec_program.specs.declared.fault.Fault.{Fault}
 use Rattle.fixdec_program.specs.declared.fault.Fault.TheVariants.{Usage, Memory, Run}
-use Rattle.fixdec_program.specs.Faults.{IsFaultOfArguments}
 use Rattle.fixdec_program.specs.Words.{Names}
 
 -- the words name these calls, one by one
@@ -67,14 +64,6 @@ HasFault words (Run error) = HasRun words (RunRefuses DIGITS_IN_PLACE error)
 
 -- ---- The arguments that the system gives: the words, behind the name of the program.
 
--- the arguments, or why they could not be had
-abbrev pub Arguments : Type 0
-Arguments = Result (IntoIter (String Global) Global) Error
-
--- the words of the arguments
-abbrev pub words_of : IntoIter (String Global) Global → List (String Global)
-words_of arguments = drop 1 (into_iter_items arguments)
-
 -- the arguments could be had, and their words print, to a writer that is given back
 abbrev pub ArgumentsPrint : {O : Type 0} → (O → Option (List ℕ)) → Arguments → O → Option O → Type 0
 ArgumentsPrint contents (Ok arguments) old (Some new) = Prints (words_of arguments) (contents old) (contents new)
@@ -84,6 +73,6 @@ ArgumentsPrint contents _ old _ = ⊥
 -- is given back, want of memory for the list of words or for the buffer; or that of the words
 abbrev pub ArgumentsTell : {O : Type 0} → Arguments → Option O → Fault → Type 0
 ArgumentsTell (Err error) None fault = ⊥
-ArgumentsTell (Err error) (Some writer) fault = IsFaultOfArguments error fault
+ArgumentsTell (Err error) (Some writer) fault = IsFaultOfArguments Usage Memory error fault
 ArgumentsTell (Ok arguments) None fault = fault ≡ Memory
 ArgumentsTell (Ok arguments) (Some writer) fault = HasFault (words_of arguments) fault

@@ -4,15 +4,17 @@ ghost use Rattle.std.specs.Io.Buffered.{writer_contents, writer_inner};
 ghost use Rattle.std.specs.Process.{exit_status};
 ghost use Rattle.decimal_unsigned.specs.declared.decimal.TheConstants.{DIGITS_IN_PLACE};
 ghost use Rattle.fixed_decimal.specs.Errors.{RunRefuses};
+ghost use Rattle.program_parts.specs.Lines.{TakesLine};
 ghost use Rattle.fixdec_program.specs.declared.fault.Fault.{Fault};
-ghost use Rattle.fixdec_program.specs.Faults.{status_of, line, output, TakesLine};
+ghost use Rattle.fixdec_program.specs.Faults.{status_of, line, output};
 ghost use Rattle.fixdec_program.specs.Program.{NameAll, AreCalls, IsUnknown, RunPrints, RunPrintsPrefix};
 ghost use Rattle.fixdec_program.specs.Program.{Prints, PrintsPrefix, HasFault};
-ghost use Rattle.fixdec_program.specs.Program.{words_of, ArgumentsPrint, ArgumentsTell};
+ghost use Rattle.fixdec_program.specs.Program.{ArgumentsPrint, ArgumentsTell};
 
 use crate::fault::Fault;
 use crate::words::call;
 use fixed_decimal::{Call, Out, RunError, Sink, run};
+use program_parts::{fault_of_arguments, words};
 use std::alloc::{AllocError, Global};
 use std::env::Args;
 use std::io::{BufWriter, Write};
@@ -35,7 +37,7 @@ fn are_calls(words: &[String]) -> bool
 /// The calls that the words name, in order, or None where a word names none.
 ///
 /// Err: each word names a call, and memory for the list was refused.
-fn calls<'a>(alloc: Global, words: &'a [String]) -> Result<Option<Vec<Call<'a>>>, AllocError>
+pub fn calls<'a>(alloc: Global, words: &'a [String]) -> Result<Option<Vec<Call<'a>>>, AllocError>
     ensures some { IfOk result (λ found. IfSome found (λ calls. NameAll words.now calls.items)) }
     ensures none { result ≡ Ok None → Any IsUnknown words.now }
     ensures err { IfErr result (λ _. AreCalls words.now × (words.now ≢ [])) }
@@ -57,7 +59,7 @@ fn calls<'a>(alloc: Global, words: &'a [String]) -> Result<Option<Vec<Call<'a>>>
 }
 
 /// Makes a run, and puts its text and a line feed into a sink.
-fn print_run<W: Sink>(
+pub fn print_run<W: Sink>(
     alloc: Global,
     start: &[u8],
     calls: &[Call<'_>],
@@ -165,13 +167,6 @@ fn print_in_blocks<O: Write + Drop>(
     }
 }
 
-/// The words behind the program's name, each and in order.
-fn words(alloc: Global, arguments: Args) -> Result<Vec<String>, AllocError>
-    ensures { IfOk result (λ words. words.items ≡ words_of arguments) }
-{
-    arguments.skip(1).collect(alloc)
-}
-
 /// How many bytes are gathered for one write: a text of 65,536 digits takes nine.
 const BLOCK: usize = 8192;
 
@@ -188,7 +183,10 @@ fn print_arguments<O: Write + Drop>(
 {
     let arguments = match arguments {
         Ok(arguments) => arguments,
-        Err(error) => return (Err(Fault::of_arguments(&error)), Some(out)),
+        Err(error) => {
+            let fault = fault_of_arguments(&error, Fault::Usage, Fault::Memory);
+            return (Err(fault), Some(out));
+        }
     };
     let Ok(words) = words(alloc, arguments) else {
         return (Err(Fault::Memory), None);

@@ -1,18 +1,14 @@
 //! What ends the program without its text, and the line and the status that tell it.
-ghost use Rattle.std.specs.Prelude.{◌≡◌, ◌∷◌, ◌++◌, ◌≤◌, [], codes, length};
-ghost use Rattle.std.specs.Fmt.{decimal};
+ghost use Rattle.std.specs.Prelude.{◌≡◌, ◌∷◌, ◌++◌, ◌≤◌, [], length};
+ghost use Rattle.program_parts.specs.Lines.{TakesLine};
 ghost use Rattle.fixdec_program.specs.Faults.{status_of, status_of_run, line, message_of_run};
-ghost use Rattle.fixdec_program.specs.Faults.{IsFaultOfArguments, TakesLine};
 
-use arrayvec::ArrayString;
 use fixed_decimal::{ParseError, RunError, Sink, SinkFault};
-use itoa::Buffer;
+use program_parts::{Line, line_of, numbered_line, tell};
 use std::alloc::AllocError;
-use std::io;
-use std::io::ErrorKind;
 
 /// What ends the program without its text.
-#[derive(Debug, Drop, PartialEq)]
+#[derive(Drop)]
 pub enum Fault {
     /// There is no start, a word is no call, or one is not UTF-8.
     Usage,
@@ -22,67 +18,36 @@ pub enum Fault {
     Run(RunError),
 }
 
-/// The bytes of the longest line: `call 18446744073709551615: overflow` and a line feed.
-const LONGEST_LINE: usize = 36;
-
-/// A line, which takes no memory.
-type Line = ArrayString<LONGEST_LINE>;
-
-/// The line of a text.
-fn line_of(text: &str) -> Line
-    requires { length text.now ≤ 35 }
-    ensures { result.bytes ≡ text.now ++ (10 ∷ []) }
-{
-    let mut line = Line::new();
-    line.push_str(text);
-    line.push_str("\n");
-    line
-}
-
-/// The line of a call, by its number from 0 on, and of what befell it.
-fn line_of_call(at: usize, what: &str) -> Line
-    requires { length what.now ≤ 8 }
-    ensures { result.bytes ≡ codes "call " ++ (decimal at ++ (codes ": " ++ (what.now ++ (10 ∷ [])))) }
-{
-    let mut number = Buffer::new();
-    let mut line = Line::new();
-    line.push_str("call ");
-    line.push_str(number.format(at));
-    line.push_str(": ");
-    line.push_str(what);
-    line.push_str("\n");
-    line
-}
-
-/// The line that tells an error of a run.
-fn line_of_run(error: &RunError) -> Line
-    ensures { result.bytes ≡ message_of_run error.now ++ (10 ∷ []) }
+/// The line that tells an error of a run, of at most 36 bytes.
+pub fn line_of_run(error: &RunError) -> Line
+    ensures bytes { result.bytes ≡ message_of_run error.now ++ (10 ∷ []) }
+    ensures short { length result.bytes ≤ 36 }
 {
     match error {
-        RunError::Start(ParseError::Syntax) => line_of("start: syntax"),
-        RunError::Start(ParseError::Limit) => line_of("start: limit"),
+        RunError::Start(ParseError::Syntax) => line_of("start: syntax\n"),
+        RunError::Start(ParseError::Limit) => line_of("start: limit\n"),
         RunError::Operand {
             at,
             fault: ParseError::Syntax,
-        } => line_of_call(*at, "syntax"),
+        } => numbered_line("call ", *at as u64, ": syntax\n"),
         RunError::Operand {
             at,
             fault: ParseError::Limit,
-        } => line_of_call(*at, "limit"),
-        RunError::Overlap { at } => line_of_call(*at, "overlap"),
-        RunError::Limit { at } => line_of_call(*at, "overflow"),
+        } => numbered_line("call ", *at as u64, ": limit\n"),
+        RunError::Overlap { at } => numbered_line("call ", *at as u64, ": overlap\n"),
+        RunError::Limit { at } => numbered_line("call ", *at as u64, ": overflow\n"),
         RunError::Start(ParseError::Memory)
         | RunError::Operand {
             fault: ParseError::Memory,
             ..
         }
-        | RunError::Memory { .. } => line_of("memory"),
-        RunError::Sink => line_of("output"),
+        | RunError::Memory { .. } => line_of("memory\n"),
+        RunError::Sink => line_of("output\n"),
     }
 }
 
 /// The exit status of an error of a run.
-fn status_of_run(error: &RunError) -> u8
+pub fn status_of_run(error: &RunError) -> u8
     ensures { result ≡ status_of_run error.now }
 {
     match error {
@@ -98,17 +63,6 @@ fn status_of_run(error: &RunError) -> u8
 }
 
 impl Fault {
-    /// The fault of reading the words: memory was refused, or a word is not text.
-    pub fn of_arguments(error: &io::Error) -> Fault
-        ensures { IsFaultOfArguments error.now result }
-    {
-        if error.kind() == ErrorKind::OutOfMemory {
-            Fault::Memory
-        } else {
-            Fault::Usage
-        }
-    }
-
     /// The exit status that goes with the line.
     fn status(&self) -> u8
         ensures { result ≡ status_of self.now }
@@ -125,8 +79,8 @@ impl Fault {
         ensures { result.bytes ≡ line self.now }
     {
         match self {
-            Fault::Usage => line_of("usage: fixdec TEXT [CALL].."),
-            Fault::Memory => line_of("memory"),
+            Fault::Usage => line_of("usage: fixdec TEXT [CALL]..\n"),
+            Fault::Memory => line_of("memory\n"),
             Fault::Run(error) => line_of_run(error),
         }
     }
@@ -136,7 +90,7 @@ impl Fault {
         ensures status { result ≡ status_of self.now }
         ensures reported { TakesLine (E.contents err.old) (E.contents err.new) (E.has_failed err.new) (line self.now) }
     {
-        let _ = err.put_bytes(self.line().as_str().as_bytes());
+        tell(self.line().as_str(), err);
         self.status()
     }
 }

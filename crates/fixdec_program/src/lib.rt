@@ -7,4 +7,5 @@ mod command_line;
 mod fault;
 mod words;
 
-pub use command_line::{execute, program, run_arguments};
+pub use command_line::{calls, execute, print_run, program, run_arguments};
+pub use fault::{line_of_run, status_of_run};

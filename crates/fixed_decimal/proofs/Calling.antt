@@ -1,16 +1,28 @@
 -- The lemmas for callers: what a proof outside these libraries cites of them, each with its use.
-use Rattle.std.proofs.Common.{◌≡◌, ℕ, ◌+◌, ◌-◌, ◌*◌, ◌/◌, ◌%◌, ◌^◌, ◌<◌, ◌≤◌, false, inl, inr, List, [], ◌∷◌, ◌++◌, length, refl, ◌∙◌, ap, arith, rules}
-use Rattle.std.specs.Prelude.{Ok, None, nat_lt, ℤ, pos, negsuc, ◌+ℤ◌, ◌≤ℤ◌}
+use Rattle.std.proofs.Common.{◌≡◌, ℕ, zero, suc, ◌+◌, ◌-◌, ◌*◌, ◌/◌, ◌%◌, ◌^◌, ◌<◌, ◌≤◌, Bool, true, false, inl, inr, List, [], ◌∷◌, ◌++◌, length, refl, sym, ◌∙◌, ap, arith, rules}
+use Rattle.std.specs.Prelude.{Ok, Err, Some, None, if◌then◌else◌, ◌↔◌, nat_lt, unsigned_abs, ℤ, pos, negsuc, ◌+ℤ◌, ◌-ℤ◌, ◌≤ℤ◌}
+use Rattle.std.specs.Int.{int_gap, abs_diff}
 use Rattle.std.specs.Str.Parse.{AllDigits}
-use Rattle.std.proofs.Math.Nat.{mul-le-mul_right, div-add-mod', mod-lt}
-use Rattle.std.proofs.lemmas.Int.{ints}
-use Rattle.std.proofs.lemmas.Bool.{cases_lt}
+use Rattle.std.proofs.Math.Nat.{mul_assoc, mul-le-mul_right, mul-lt-mul_of_pos_right, mul-div_cancel, mul-mod_left, div-add-mod', mod-lt, mod-eq_of_lt, pow-le-pow_right}
+use Rattle.std.proofs.Math.Arith.{mod-mul}
+use Rattle.std.proofs.lemmas.Int.{ints, clamps}
+use Rattle.std.proofs.lemmas.Bool.{cases_lt, cases_eq}
 use Rattle.decimal_digits.specs.Number.{place, weight, digit, magnitude_at, first, last}
-use Rattle.decimal_digits.proofs.Ends.{shift_down, shift_up}
-use Rattle.decimal_digits.proofs.NumberAt.{powers}
+use Rattle.decimal_digits.specs.Rounding.{IsNearest}
+use Rattle.decimal_digits.proofs.Ends.{shift_up}
 use Rattle.decimal_unsigned.specs.Grammar.{Written, decimal, integer}
 use Rattle.decimal_unsigned.specs.Reading.{mantissa, scaled, value_of, value_or_syntax, read}
+use Rattle.decimal_unsigned.specs.EditLaws.{trimmed}
+use Rattle.decimal_unsigned.specs.Rounded.{reaches_limit, with_number, rounded_to}
+use Rattle.decimal_unsigned.specs.Text.{dot_before, text_down, text}
 use Rattle.decimal_unsigned.specs.ToInteger.{as_integer}
+use Rattle.decimal_unsigned.specs.Unsigned.{Unsigned, IsValue}
+use Rattle.decimal_unsigned.specs.declared.decimal.to_integer.IntegerError.TheVariants.{NotWhole, OutOfRange}
+use Rattle.fixed_decimal.specs.Decimal.{Decimal, signed, signed_number, with_absolute}
+use Rattle.fixed_decimal.specs.declared.variations.Sign.{Sign}
+use Rattle.fixed_decimal.specs.declared.variations.Sign.TheVariants as sign
+use Rattle.decimal_unsigned.proofs.ConcatenationLaws.{extent_of}
+use Rattle.decimal_unsigned.proofs.FirstLast.{first_of, last_of}
 use Rattle.decimal_unsigned.proofs.GrammarParts.{parts_again}
 use Rattle.decimal_unsigned.proofs.WholeNumbers as whole_numbers
 -- for `omega`: a place is the magnitude and 32768
@@ -19,10 +31,22 @@ pub use Rattle.decimal_digits.proofs.Places.{place_is}
 pub use Rattle.decimal_digits.proofs.Places.{gap_is}
 -- a power of ten is above 0, as a divisor has to be
 pub use Rattle.decimal_digits.proofs.DigitLists.{ten_pos}
+-- a power of ten is the product of two
+pub use Rattle.decimal_digits.proofs.NumberAt.{powers}
+-- what digits and then digits are worth
+pub use Rattle.decimal_digits.proofs.DigitLists.{number-append}
+-- a magnitude that 16 bits hold is read as it was written
+pub use Rattle.decimal_unsigned.proofs.Values.{narrow_kept}
+-- the greatest number that passes a test
+pub use Rattle.decimal_digits.proofs.Ends.{greatest_is}
+-- a number times a power of ten, without its digits below a place
+pub use Rattle.decimal_digits.proofs.Ends.{shift_down}
 -- the first digit of a number between two powers of ten
 pub use Rattle.decimal_digits.proofs.Ends.{first_is}
 -- the last digit of a number that ends in so many zeros
 pub use Rattle.decimal_digits.proofs.Ends.{last_is}
+-- the last digit of a number that a power of ten divides, and no higher one
+pub use Rattle.decimal_digits.proofs.Ends.{last_at, last_zero}
 -- a number that a range up to hi holds has its first digit at hi or below
 pub use Rattle.decimal_unsigned.proofs.FirstLast.{first_le}
 -- a text is made digit by digit: one magnitude, and then the others
@@ -31,12 +55,20 @@ pub use Rattle.decimal_unsigned.proofs.Writing.{text_down-suc}
 pub use Rattle.decimal_unsigned.proofs.Writing.{text_down-zero}
 -- the text of a value reads as the value
 pub use Rattle.decimal_unsigned.proofs.ReadBack.{read_text}
+-- each text is read as the grammar says
+pub use Rattle.decimal_unsigned.proofs.ParserAnswers.{follows_grammar}
 -- two values have one number exactly if they are equal after both trims
 pub use Rattle.decimal_unsigned.proofs.EditLaws.{trimmed_is_normal_form}
 -- a multiple of the unit is rounded to itself
 pub use Rattle.decimal_digits.proofs.RoundingLaws.{rounded_number-multiple}
 -- a greater number is rounded to no less
 pub use Rattle.decimal_digits.proofs.RoundingLaws.{rounded_number-monotone}
+-- what is appended to what was appended; nothing is appended; what was appended stays
+pub use Rattle.decimal_digits.proofs.Sinks.{appends_both, appends_none, appends_kept}
+-- a beginning of a text is one of a longer text; a text, and then a beginning of the next; nothing is one of each text
+pub use Rattle.decimal_digits.proofs.Sinks.{part_more, then_part, part_none}
+-- what holds anyway holds on an error
+pub use Rattle.decimal_digits.proofs.Results.{on_err}
 
 -- ---- Magnitudes. `omega (arith, ints, place_is m)` compares the places of magnitudes.
 -- a magnitude that is k higher counts 10 to the k times as much
@@ -89,7 +121,148 @@ pub integer_of : (bound n : ℕ) → n < bound → as_integer bound (n * weight 
 integer_of bound n h =
     whole_numbers.as_integer-whole bound (n * weight (pos 0)) n refl ∙ whole_numbers.in_range-below bound n h
 
+-- the first digit of an integer's value: at k for an integer of k + 1 digits
+pub first_of_integer : (n k : ℕ) → 10 ^ k ≤ n → n < 10 ^ (k + 1) → k < 32768 → first (n * weight (pos 0)) ≡ pos k
+first_of_integer n k least most few =
+    let top = k + place (pos 0) in
+    let low : 10 ^ top ≡ 10 ^ k * weight (pos 0) = powers k (place (pos 0)) top refl in
+    let high : 10 ^ (top + 1) ≡ 10 ^ (k + 1) * weight (pos 0) =
+    powers (k + 1) (place (pos 0)) (top + 1) (omega arith) in
+    let reaches : 10 ^ k * weight (pos 0) ≤ n * weight (pos 0) = mul-le-mul_right (weight (pos 0)) least in
+    let below : n * weight (pos 0) < 10 ^ (k + 1) * weight (pos 0) =
+    mul-lt-mul_of_pos_right most (ten_pos (place (pos 0))) in
+    first_is (n * weight (pos 0)) top (omega (arith, low, reaches)) (omega (arith, high, below))
+    (omega (arith, place_is (pos 0)))
+    ∙ (let e : magnitude_at top ≡ pos k = omega (arith, ints, place_is (pos 0)) in e)
+
+-- so many whole ones, shifted down by k, are so many ones at -k
+pub integer_down : (n k : ℕ) → k < 32768 → n * weight (pos 0) / 10 ^ suc k ≡ n * weight (negsuc k)
+integer_down n k h =
+    let split : weight (pos 0) ≡ weight (negsuc k) * 10 ^ suc k =
+    powers (place (negsuc k)) (suc k) (place (pos 0)) (omega (arith, ints, place_is (negsuc k), place_is (pos 0))) in
+    let all : n * weight (pos 0) ≡ n * weight (negsuc k) * 10 ^ suc k =
+    ap (λ w. n * w) split ∙ sym (mul_assoc n (weight (negsuc k)) (10 ^ suc k)) in
+    ap (λ m. m / 10 ^ suc k) all ∙ mul-div_cancel (n * weight (negsuc k)) (ten_pos (suc k))
+
+-- ---- What `try_to_u64` and `try_to_u128` answer, at 2 to the 64 and to the 128, says of the number.
+module _ (bound number : ℕ) where
+  -- an integer: the number is so many whole ones
+  pub integer_is : (n : ℕ) → as_integer bound number ≡ Ok n → number ≡ n * weight (pos 0)
+  integer_is n h = elim (cases_eq (number % weight (pos 0)) 0) [
+    | inl e ↦
+        let whole : number ≡ number / weight (pos 0) * weight (pos 0) =
+        omega (arith, div-add-mod' number (weight (pos 0)), e) in
+        elim (cases_lt (number / weight (pos 0)) bound) [
+          | inl l ↦
+              let k =
+              sym h
+              ∙ whole_numbers.as_integer-whole bound number (number / weight (pos 0)) whole
+              ∙ whole_numbers.in_range-below bound (number / weight (pos 0)) l in
+              let same : number / weight (pos 0) ≡ n = cc in
+              whole ∙ ap (λ q. q * weight (pos 0)) same
+          | inr g ↦
+              let k =
+              sym h
+              ∙ whole_numbers.as_integer-whole bound number (number / weight (pos 0)) whole
+              ∙ whole_numbers.in_range-above bound (number / weight (pos 0)) g in
+              absurd (cc)
+        ]
+    | inr part ↦
+        let k = sym h ∙ whole_numbers.as_integer-part bound number part in absurd (cc)
+  ]
+
+  -- not whole: a digit behind the dot is not 0
+  pub not_whole : as_integer bound number ≡ Err NotWhole → ¬ (number % weight (pos 0) ≡ 0)
+  not_whole h e =
+      let whole : number ≡ number / weight (pos 0) * weight (pos 0) =
+      omega (arith, div-add-mod' number (weight (pos 0)), e) in
+      let k = sym h ∙ whole_numbers.as_integer-whole bound number (number / weight (pos 0)) whole in
+      elim (cases_lt (number / weight (pos 0)) bound) [
+        | inl l ↦
+            let m = k ∙ whole_numbers.in_range-below bound (number / weight (pos 0)) l in absurd (cc)
+        | inr g ↦
+            let m = k ∙ whole_numbers.in_range-above bound (number / weight (pos 0)) g in absurd (cc)
+      ]
+
+  -- out of range: the number is the bound or more
+  pub out_of_range : as_integer bound number ≡ Err OutOfRange → bound * weight (pos 0) ≤ number
+  out_of_range h = elim (cases_eq (number % weight (pos 0)) 0) [
+    | inl e ↦
+        let whole : number ≡ number / weight (pos 0) * weight (pos 0) =
+        omega (arith, div-add-mod' number (weight (pos 0)), e) in
+        elim (cases_lt (number / weight (pos 0)) bound) [
+          | inl l ↦
+              let k =
+              sym h
+              ∙ whole_numbers.as_integer-whole bound number (number / weight (pos 0)) whole
+              ∙ whole_numbers.in_range-below bound (number / weight (pos 0)) l in
+              absurd (cc)
+          | inr g ↦
+              let m : bound * weight (pos 0) ≤ number / weight (pos 0) * weight (pos 0) =
+              mul-le-mul_right (weight (pos 0)) g in
+              omega (arith, m, whole)
+        ]
+    | inr part ↦ let k = sym h ∙ whole_numbers.as_integer-part bound number part in absurd (cc)
+  ]
+
+-- ---- The digits of a value.
+-- what the digits at so many magnitudes from m down are worth together
+unfoldable pub worth_down : ℕ → ℤ → ℕ → ℕ
+worth_down number m zero = 0
+worth_down number m (suc k) = digit number m * weight m + worth_down number (m -ℤ pos 1) k
+
+digits_worth : (number count p : ℕ) (m : ℤ) → (0 < count → place m + 1 ≡ p) → count ≤ p
+    → worth_down number m count + number % 10 ^ (p - count) ≡ number % 10 ^ p
+unfolding worth_down
+digits_worth number zero p m at h =
+    let e : p - 0 ≡ p = omega arith in ap (λ k. 0 + number % 10 ^ k) e ∙ (omega arith)
+digits_worth number (suc k) p m at h =
+    let here : place m ≡ p - 1 = omega (arith, at (omega arith)) in
+    let below : 0 < k → place (m -ℤ pos 1) + 1 ≡ p - 1 =
+    λ some. omega (arith, ints, here, place_is m, place_is (m -ℤ pos 1)) in
+    let rest = digits_worth number k (p - 1) (m -ℤ pos 1) below (omega arith) in
+    let last : p - 1 - k ≡ p - suc k = omega arith in
+    let split : 10 ^ p ≡ 10 * 10 ^ (p - 1) = powers 1 (p - 1) p (omega arith) in
+    let cut : number % (10 * 10 ^ (p - 1)) ≡ number / 10 ^ (p - 1) % 10 * 10 ^ (p - 1) + number % 10 ^ (p - 1) =
+    mod-mul number (omega arith) (ten_pos (p - 1)) in
+    rw (here, split, cut, ← last) (omega (arith, rest))
+
+-- the digits that a value shows make its number
+pub digits_make_number : (v : Unsigned) → IsValue v → worth_down v.number v.hi (int_gap v.lo v.hi + 1) ≡ v.number
+digits_make_number v valid =
+    let count = int_gap v.lo v.hi + 1 in
+    let rest : place v.hi + 1 - count ≡ place v.lo =
+    omega (arith, ints, gap_is v.lo v.hi, place_is v.hi, place_is v.lo, valid.hi_in, valid.lo_in) in
+    let fits : count ≤ place v.hi + 1 =
+    omega (arith, ints, gap_is v.lo v.hi, place_is v.hi, place_is v.lo, valid.hi_in, valid.lo_in) in
+    let all = digits_worth v.number count (place v.hi + 1) v.hi (λ h. refl) fits in
+    let none : v.number % 10 ^ (place v.hi + 1 - count) ≡ 0 = ap (λ k. v.number % 10 ^ k) rest ∙ valid.whole in
+    omega (arith, all, none, mod-eq_of_lt valid.below)
+
 -- ---- Texts.
+-- the bytes of the digits of n at so many magnitudes from m down, of which n has the last one at its end
+abbrev pub digits_down : ℕ → ℤ → ℕ → List ℕ
+digits_down n m zero = []
+digits_down n m (suc k) = (dot_before m ++ (48 + n / 10 ^ k % 10) ∷ []) ++ digits_down n (m -ℤ pos 1) k
+
+-- so many ones at the lowest magnitude are printed by their digits, which compute where all three are literals
+pub text_of_literal : (n : ℕ) (hi lo : ℤ) → negsuc 32767 ≤ℤ lo → lo ≤ℤ hi
+    → text (record { number = n * weight lo; hi = hi; lo = lo }) ≡ digits_down n hi (int_gap lo hi + 1)
+text_of_literal n hi lo low order = down (int_gap lo hi + 1) hi (omega (arith, ints, gap_is lo hi))
+  where
+    down : (count : ℕ) (m : ℤ) → m +ℤ pos 1 ≡ lo +ℤ pos count
+        → text_down (n * weight lo) m count ≡ digits_down n m count
+    down zero m e = text_down-zero (n * weight lo) m
+    down (suc k) m e =
+        let height : place m - place lo ≡ k = omega (arith, ints, place_is m, place_is lo) in
+        let above : place lo ≤ place m = omega (arith, ints, place_is m, place_is lo) in
+        let here : digit (n * weight lo) m ≡ n / 10 ^ k % 10 =
+        ap (λ i. i % 10) (shift_down n (place lo) (place m) above ∙ ap (λ i. n / 10 ^ i) height) in
+        text_down-suc (n * weight lo) m k
+        ∙ ap (λ d. (dot_before m ++ (48 + d) ∷ []) ++ text_down (n * weight lo) (m -ℤ pos 1) k) here
+        ∙ ap (λ rest. (dot_before m ++ (48 + n / 10 ^ k % 10) ∷ []) ++ rest)
+        (down k (m -ℤ pos 1) (omega (arith, ints)))
+
 -- a text without a dot and without an exponent reads as the number that its digits write
 pub read_integer_text : (whole : List ℕ) → AllDigits 10 whole → 0 < length whole → length whole ≤ 32768
     → read whole ≡ Ok (mantissa whole [])
@@ -115,3 +288,90 @@ read_decimal_text whole fraction digits decimals some few few_decimals =
     rw (parts, long, long_decimals) refl
 
 -- ---- Normal forms, roundings.
+
+-- after both trims a value is one still
+pub trimmed_valid : (v : Unsigned) → IsValue v → IsValue (trimmed v)
+trimmed_valid v valid =
+    let few = first_le v.number v.hi valid.below valid.hi_in.0 valid.hi_in.1 in
+    elim (cases_lt 0 v.number) [
+      | inl some ↦
+          let e = extent_of v valid some in
+          let top : 10 ^ (e.top + 1) ≤ 10 ^ (place (trimmed v).hi + 1) =
+          pow-le-pow_right (omega arith) (omega (arith, ints, clamps, first_of e, place_is (trimmed v).hi)) in
+          let low : place (trimmed v).lo ≤ e.bottom =
+          omega (arith, ints, clamps, last_of e, place_is (trimmed v).lo) in
+          record {
+            hi_in = omega (arith, ints, clamps, few, valid.hi_in);
+            lo_in = (omega (arith, ints, clamps, last_of e), omega (arith, ints, clamps));
+            below = omega (arith, e.below, top);
+            whole = ends_low e.factor e.bottom (place (trimmed v).lo) low e.is;
+          }
+      | inr none ↦
+          let zero : v.number ≡ 0 * 10 ^ place (trimmed v).lo = omega arith in
+          let end : last v.number ≡ pos 0 = ap last (let z : v.number ≡ 0 = omega arith in z) ∙ last_zero in
+          record {
+            hi_in = omega (arith, ints, clamps, few, valid.hi_in);
+            lo_in = omega (arith, ints, clamps, end);
+            below = omega (arith, ten_pos (place (trimmed v).hi + 1));
+            whole = ap (λ n. n % 10 ^ place (trimmed v).lo) zero ∙ mul-mod_left 0 (10 ^ place (trimmed v).lo);
+          }
+    ]
+  where
+    ends_low : (factor bottom low : ℕ) → low ≤ bottom → v.number ≡ factor * 10 ^ bottom → v.number % 10 ^ low ≡ 0
+    ends_low factor bottom low h is =
+        let split = ap (λ x. factor * x) (powers (bottom - low) low bottom (omega arith)) in
+        let all = is ∙ split ∙ sym (mul_assoc factor (10 ^ (bottom - low)) (10 ^ low)) in
+        ap (λ n. n % 10 ^ low) all ∙ mul-mod_left (factor * 10 ^ (bottom - low)) (10 ^ low)
+
+-- two values have one number exactly if their texts are equal after both trims
+pub trimmed_texts : (v w : Unsigned) → IsValue v → IsValue w
+    → (v.number ≡ w.number) ↔ (text (trimmed v) ≡ text (trimmed w))
+trimmed_texts v w p q = (
+  λ e. ap text ((trimmed_is_normal_form v w).0 e),
+  λ t.
+      let r = sym (read_text (trimmed v) (trimmed_valid v p)) ∙ ap read t ∙ read_text (trimmed w) (trimmed_valid w q) in
+      (trimmed_is_normal_form v w).1 (cc),
+)
+
+only_some : {A : Type 0} (b : Bool) (x y : A) → (if b then None else Some x) ≡ Some y → x ≡ y
+only_some true x y e = absurd (cc)
+only_some false x y e = cc
+
+-- a rounding that names this multiple and makes a value makes this one
+pub rounded_to-some : (v new : Unsigned) (position : ℤ) (multiple : ℕ) → rounded_to v position multiple ≡ Some new
+    → with_number v position multiple ≡ new
+rounded_to-some v new position multiple e =
+    only_some (reaches_limit multiple) (with_number v position multiple) new e
+
+-- the same of a decimal, behind its old sign
+pub signed_rounded_to-some : (v new : Decimal) (position : ℤ) (multiple : ℕ)
+    → with_absolute v (rounded_to v.absolute position multiple) ≡ Some new
+    → record v { absolute = with_number v.absolute position multiple } ≡ new
+signed_rounded_to-some v new position multiple e = go (reaches_limit multiple) e
+  where
+    go : (b : Bool)
+        → with_absolute v (if b then None else Some (with_number v.absolute position multiple)) ≡ Some new
+        → record v { absolute = with_number v.absolute position multiple } ≡ new
+    go true e = absurd (cc)
+    go false e = cc
+
+-- without its sign the number of a decimal is that of its absolute value
+pub absolute_number : (v : Decimal) → unsigned_abs (signed_number v) ≡ v.absolute.number
+absolute_number v = go v.sign v.absolute.number
+  where
+    go : (sign : Sign) (number : ℕ) → unsigned_abs (signed sign number) ≡ number
+    go sign.None number = refl
+    go sign.Positive number = refl
+    go sign.Negative zero = refl
+    go sign.Negative (suc number) = refl
+
+-- no number is more than half a unit away from the nearest multiple
+pub nearest_within : (unit n multiple : ℕ) → 0 < unit → IsNearest unit n multiple → 2 * abs_diff n multiple ≤ unit
+nearest_within unit n multiple some nearest =
+    omega (
+      arith,
+      nearest (n / unit),
+      nearest (n / unit + 1),
+      div-add-mod' n unit,
+      mod-lt n some,
+    )

@@ -12,12 +12,10 @@ use Rattle.std.proofs.lemmas.List.Folds.{list_any-append}
 use Rattle.std.proofs.lemmas.Str.Parse.{digit_from_value}
 use Rattle.std.specs.Io.KnownBytes.{Keeps}
 use Rattle.decimal_digits.specs.Text.{AppendsPrefix}
-use Rattle.decimal_unsigned.specs.Unsigned.{IsValue}
 use Rattle.decimal_unsigned.specs.Reading.{is_letter}
 use Rattle.decimal_unsigned.proofs.GrammarParts.{numeral_again}
-use Rattle.fixed_decimal.specs.DecimalText.{decimal_text, and_then}
+use Rattle.fixed_decimal.specs.DecimalText.{decimal_text, read_decimal, and_then}
 use Rattle.fixed_decimal.specs.Compact.{Compact, exponent_text, compact_text, small_number_of, read_exponent, read_parts, read_compact, with_c}
-use Rattle.fixed_decimal.proofs.DecimalTexts.{read_decimal_text}
 use Rattle.fixed_decimal.proofs.DecimalBytes.{PassesNone, decimal_text-lacks, letter-none, c-none}
 use Rattle.fixed_decimal.proofs.SplitsAtC.{split_is}
 
@@ -93,7 +91,7 @@ exponent-plain (suc n) h =
     digits-lacks is_letter letter-none (decimal (suc n)) (decimal_is_IsNumeral (suc n) (below_64 (suc n) h)).0.1
 
 -- it is split between its parts, and each part reads as itself
-pub compact_reads_back : (v : Compact) → IsValue v.significand.absolute → v.exponent < 256
+pub compact_reads_back : (v : Compact) → read_decimal (decimal_text v.significand) ≡ Ok v.significand → v.exponent < 256
     → read_compact (compact_text v) ≡ Ok v
 compact_reads_back v h l =
     ap (λ r. and_then r read_parts)
@@ -102,7 +100,7 @@ compact_reads_back v h l =
       is = ap (λ t. decimal_text v.significand ++ t) (exponent_is v.exponent);
       first = decimal_text-lacks _ c-none v.significand;
     }))
-    ∙ (rw (read_decimal_text v.significand h, exponent_again v.exponent l) refl)
+    ∙ (rw (h, exponent_again v.exponent l) refl)
   where
     plain : list_any is_letter (compact_text v) ≡ false
     plain =

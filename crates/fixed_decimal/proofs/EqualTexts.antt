@@ -16,10 +16,9 @@ module _ {V : Type 0} (text : V → List ℕ) (read : List ℕ → Result V Read
       → IsTrue r ↔ (text v ≡ text w)
   tells_texts r v w p q h = (λ x. ap text (h.0 x), λ e. h.1 (text_same v w p q e))
 
-  -- and it answers as the comparison of their texts does
-  pub tells_same : (r : Bool) (v w : V) → read (text v) ≡ Ok v → read (text w) ≡ Ok w → IsTrue r ↔ (v ≡ w)
-      → r ≡ same_text text v w
-  tells_same r v w p q h =
-      let d = bytes_eq-Decides (text v) (text w) in
-      let t = tells_texts r v w p q h in
-      both_ways r (same_text text v w) (λ e. d.1 (t.0 e)) (λ e. t.1 (d.0 e))
+-- a test that tells whether two texts are equal answers as their comparison does
+pub tells_same : {V : Type 0} (text : V → List ℕ) (r : Bool) (v w : V) → IsTrue r ↔ (text v ≡ text w)
+    → r ≡ same_text text v w
+tells_same text r v w t =
+    let d = bytes_eq-Decides (text v) (text w) in
+    both_ways r (same_text text v w) (λ e. d.1 (t.0 e)) (λ e. t.1 (d.0 e))

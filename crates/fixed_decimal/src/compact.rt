@@ -5,12 +5,12 @@ ghost use Rattle.std.specs.Option.{option_copied};
 ghost use Rattle.std.specs.Io.KnownBytes.{Keeps, Appends};
 ghost use Rattle.decimal_digits.specs.Number.{size};
 ghost use Rattle.decimal_digits.specs.Text.{AppendsPrefix};
+ghost use Rattle.decimal_unsigned.specs.Unsigned.{IsValue};
 ghost use Rattle.decimal_unsigned.specs.Refusal.{ParseRefuses, Answers};
 ghost use Rattle.fixed_decimal.specs.Equal.{same_text, same_text_laws};
 ghost use Rattle.fixed_decimal.specs.Compact.{compact, compact_text, small_number_of, split_at_c, read_exponent};
 ghost use Rattle.fixed_decimal.specs.Compact.{read_compact, ReadsCompact, HasLongSignificand};
 
-use crate::integer::recall_value;
 use crate::signed_decimal::{Decimal, scan_decimal};
 use crate::split::split_at_letter;
 use decimal_digits::sink::{Sink, SinkFault, Writeable};
@@ -187,19 +187,13 @@ impl CompactDecimal {
         Ok(Self::from_significand_and_exponent(significand, exponent))
     }
 
-    /// Recalls, for proofs, that the text of each value reads as the value.
-    fn recall_reading(&self)
-        ensures { read_compact (compact_text self.now) ≡ Ok self.now }
-    {
-        recall_value(&self.significand);
-        let _exponent = self.exponent;
-    }
-
     /// Whether the parts of two values are equal.
     fn has_same_parts(&self, other: &Self) -> bool
-        ensures { IsTrue result ↔ (self.now ≡ other.now) }
+        ensures value { IsTrue result ↔ (self.now ≡ other.now) }
+        ensures texts { IsTrue result ↔ (compact_text self.now ≡ compact_text other.now) }
     {
-        self.significand == other.significand && self.exponent == other.exponent
+        let same_exponent = self.exponent == other.exponent;
+        self.significand.has_same_text(&other.significand) && same_exponent
     }
 }
 
@@ -219,7 +213,6 @@ impl Writeable for CompactDecimal {
         ensures stays { W.has_failed sink.old ≡ true → Keeps (W.contents sink.old) (W.contents sink.new) }
         ensures reads_back { read_compact (compact_text self.now) ≡ Ok self.now }
     {
-        self.recall_reading();
         let exponent = self.exponent;
         self.significand.write_to(sink)?;
         if exponent == 0 {
@@ -234,6 +227,7 @@ impl Writeable for CompactDecimal {
     fn writeable_length_hint(&self) -> usize
         ensures exact { result ≡ length (compact_text self.now) }
         ensures at_most { result ≤ 65542 }
+        ensures valid { IsValue self.now.significand.absolute }
     {
         let significand = self.significand.writeable_length_hint();
         if self.exponent == 0 {
@@ -256,8 +250,6 @@ impl PartialEq for CompactDecimal {
         ensures value { IsTrue result ↔ (self.now ≡ other.now) }
         ensures texts { IsTrue result ↔ (compact_text self.now ≡ compact_text other.now) }
     {
-        self.recall_reading();
-        other.recall_reading();
         self.has_same_parts(other)
     }
 }

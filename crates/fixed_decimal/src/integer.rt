@@ -52,13 +52,6 @@ pub(crate) fn scan_integer(text: &[u8]) -> Result<Signed<Scan<'_>>, ParseError>
     Ok(scan)
 }
 
-/// Recalls, for proofs, what each decimal keeps: the range that it shows holds its number.
-pub(crate) fn recall_value(decimal: &Decimal)
-    ensures { IsValue decimal.now.absolute }
-{
-    let _range = decimal.absolute.magnitude_range();
-}
-
 impl FixedInteger {
     /// Makes the number 0 without a sign, which shows magnitude 0 alone, and asks for no memory.
     ///
@@ -111,16 +104,8 @@ impl FixedInteger {
         ensures { Answers (IsLong DIGITS_IN_PLACE) result (Ok scan.now) }
     {
         let decimal: Decimal = scan.decimal(alloc)?;
-        recall_value(&decimal);
+        prove!(*decimal.absolute.magnitude_range().start() == 0);
         Ok(FixedInteger(decimal))
-    }
-
-    /// Recalls, for proofs, what each integer keeps.
-    pub(crate) fn recall_value(&self)
-        ensures value { IsValue self.now.absolute }
-        ensures integer { self.now.absolute.lo ≡ pos 0 }
-    {
-        recall_value(&self.0);
     }
 }
 
@@ -165,7 +150,6 @@ impl Writeable for FixedInteger {
         ensures stays { W.has_failed sink.old ≡ true → Keeps (W.contents sink.old) (W.contents sink.new) }
         ensures reads_back { read_integer (decimal_text self.now) ≡ Ok self.now }
     {
-        self.recall_value();
         self.0.write_to(sink)
     }
 
@@ -173,8 +157,9 @@ impl Writeable for FixedInteger {
     fn writeable_length_hint(&self) -> usize
         ensures exact { result ≡ length (decimal_text self.now) }
         ensures at_most { result ≤ 32769 }
+        ensures valid { IsValue self.now.absolute }
+        ensures integer { self.now.absolute.lo ≡ pos 0 }
     {
-        recall_value(&self.0);
         self.0.writeable_length_hint()
     }
 }
@@ -192,9 +177,7 @@ impl PartialEq for FixedInteger {
         ensures value { IsTrue result ↔ (self.now ≡ other.now) }
         ensures texts { IsTrue result ↔ (decimal_text self.now ≡ decimal_text other.now) }
     {
-        self.recall_value();
-        other.recall_value();
-        self.0 == other.0
+        self.0.has_same_text(&other.0)
     }
 }
 

@@ -3,12 +3,13 @@ ghost use Rattle.std.specs.Prelude.{◌≡◌, ◌≤◌, ◌↔◌, length, tru
 ghost use Rattle.std.specs.Io.KnownBytes.{Keeps, Appends};
 ghost use Rattle.decimal_digits.specs.Number.{size};
 ghost use Rattle.decimal_digits.specs.Text.{AppendsPrefix};
+ghost use Rattle.decimal_unsigned.specs.Unsigned.{IsValue};
 ghost use Rattle.decimal_unsigned.specs.Refusal.{ParseRefuses, Answers};
 ghost use Rattle.fixed_decimal.specs.Equal.{same_text, same_text_laws};
 ghost use Rattle.fixed_decimal.specs.Scientific.{scientific, scientific_text, split_at_e, read_scientific};
 ghost use Rattle.fixed_decimal.specs.Scientific.{ReadsScientific, HasLongPart};
 
-use crate::integer::{FixedInteger, recall_value, scan_integer};
+use crate::integer::{FixedInteger, scan_integer};
 use crate::signed_decimal::{Decimal, scan_decimal};
 use crate::split::split_at_letter;
 use decimal_digits::sink::{Sink, SinkFault, Writeable};
@@ -135,19 +136,12 @@ impl ScientificDecimal {
         Self::try_from_utf8(alloc, text.as_bytes())
     }
 
-    /// Recalls, for proofs, that the text of each value reads as the value.
-    fn recall_reading(&self)
-        ensures { read_scientific (scientific_text self.now) ≡ Ok self.now }
-    {
-        recall_value(&self.significand);
-        self.exponent.recall_value();
-    }
-
     /// Whether the parts of two values are equal.
     fn has_same_parts(&self, other: &Self) -> bool
-        ensures { IsTrue result ↔ (self.now ≡ other.now) }
+        ensures value { IsTrue result ↔ (self.now ≡ other.now) }
+        ensures texts { IsTrue result ↔ (scientific_text self.now ≡ scientific_text other.now) }
     {
-        self.significand == other.significand && self.exponent == other.exponent
+        self.significand.has_same_text(&other.significand) && self.exponent == other.exponent
     }
 }
 
@@ -167,7 +161,7 @@ impl Writeable for ScientificDecimal {
         ensures stays { W.has_failed sink.old ≡ true → Keeps (W.contents sink.old) (W.contents sink.new) }
         ensures reads_back { read_scientific (scientific_text self.now) ≡ Ok self.now }
     {
-        self.recall_reading();
+        prove!(self.exponent.writeable_length_hint() <= 32769);
         self.significand.write_to(sink)?;
         sink.put_byte(b'e')?;
         self.exponent.write_to(sink)
@@ -178,6 +172,7 @@ impl Writeable for ScientificDecimal {
     fn writeable_length_hint(&self) -> usize
         ensures exact { result ≡ length (scientific_text self.now) }
         ensures at_most { result ≤ 98308 }
+        ensures valid { IsValue self.now.significand.absolute × IsValue self.now.exponent.absolute }
     {
         self.significand.writeable_length_hint() + 1 + self.exponent.writeable_length_hint()
     }
@@ -196,8 +191,6 @@ impl PartialEq for ScientificDecimal {
         ensures value { IsTrue result ↔ (self.now ≡ other.now) }
         ensures texts { IsTrue result ↔ (scientific_text self.now ≡ scientific_text other.now) }
     {
-        self.recall_reading();
-        other.recall_reading();
         self.has_same_parts(other)
     }
 }

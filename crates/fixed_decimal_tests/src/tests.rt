@@ -1,5 +1,5 @@
 //! Tables of texts, calls and results. A helper holds one value and answers whether it is as its row says.
-use decimal_doubles::{Value, displays, long, reading_word, shows};
+use decimal_doubles::{Value, displays, has_text, long, reading_word, shows};
 use fixed_decimal::{Decimal, ParseError, Sink, TextBuf, Writeable};
 use std::alloc::Global;
 use std::process::Abort;

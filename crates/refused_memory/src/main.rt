@@ -8,6 +8,7 @@
 mod joins;
 mod outcome;
 mod roundings;
+mod rules;
 mod runs;
 mod sinks;
 mod values;
@@ -22,6 +23,7 @@ fn of_all(alloc: Global) -> Outcome {
         .and(roundings::outcome(alloc))
         .and(runs::outcome(alloc))
         .and(sinks::outcome(alloc))
+        .and(rules::outcome(alloc))
 }
 
 fn main(rt: HostRuntime) {

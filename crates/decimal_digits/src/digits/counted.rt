@@ -119,6 +119,7 @@ impl<'a, D: DigitStore> Counted<'a, D> {
     /// Keeps the first `count` digits.
     ///
     /// Requires at least so many.
+    #[inline]
     pub fn truncate(&mut self, count: usize)
         requires { count ≤ length (D.digits (list_of self.old)) }
         ensures digits { D.digits (list_of self.new) ≡ take count (D.digits (list_of self.old)) }
@@ -135,30 +136,5 @@ impl<'a, D: DigitStore> Counted<'a, D> {
         ensures lent { Continues self.old self.new }
     {
         self.list.clear();
-    }
-}
-
-#[cfg(test)]
-mod tests {
-    use crate::digits::{Counted, DigitList, DigitStore, Steps};
-    use std::mem::size_of;
-    use std::test::Fail;
-
-    #[test]
-    fn runs(rt: HostRuntime) -> Result<(), Fail> {
-        let mut list = DigitList::from_digits(rt.alloc(), &[2, 5, 0])?;
-        let mut steps = Steps::new();
-        let mut counted = Counted::new(&mut list, &mut steps);
-        counted.truncate(2);
-        counted.reserve(1)?;
-        counted.push_in_room(7);
-        let last = counted.get(2);
-        counted.set(0, last);
-        assert_eq!(rt; counted.len(), 3);
-        assert!(rt; list.eq(&DigitList::from_digits(rt.alloc(), &[7, 5, 7])?));
-        Counted::new(&mut list, &mut steps).clear();
-        assert_eq!(rt; list.len(), 0);
-        assert_eq!(rt; size_of::<Steps>(), 0);
-        Ok(())
     }
 }

@@ -9,10 +9,11 @@ mod halves;
 use super::DigitStore;
 use bulk::{append_text, count_halves_back, write_text};
 use bytes::{
-    append_digits, append_zeros, are_equal, copy_bytes, cut_digits, keep_digits, pack_digits,
-    push_digit, reserve_digits, set_digit,
+    append_digits, append_zeros, are_equal, copy_bytes, cut_digits, first_bytes, keep_digits,
+    pack_digits, push_digit, reserve_digits, set_digit,
 };
-use halves::{half_at, keep_bytes};
+pub(super) use halves::half_at;
+use halves::{byte_count, keep_bytes};
 use smallvec::SmallVec;
 use std::alloc::{AllocError, Global};
 
@@ -61,6 +62,14 @@ impl DigitStore for PackedDigits {
         Ok(PackedDigits {
             bytes,
             len: list.len(),
+        })
+    }
+
+    #[inline]
+    fn from_halves(alloc: Global, number: u64, len: usize) -> Result<Self, AllocError> {
+        Ok(PackedDigits {
+            bytes: first_bytes(alloc, number, byte_count(len)),
+            len,
         })
     }
 
@@ -145,6 +154,3 @@ impl DigitStore for PackedDigits {
         self.len == other.len && are_equal(self.bytes.as_slice(), other.bytes.as_slice())
     }
 }
-
-#[cfg(test)]
-mod tests;

@@ -1,12 +1,12 @@
 //! Rounding of the digits that are kept, by what follows them.
-ghost use Rattle.std.specs.Prelude.{◌≡◌, ℕ, ◌+◌, ◌-◌, ◌^◌, ◌<◌, ◌≤◌, ◌↔◌, length, drop, slice_index, IsErrOf, IfOk, IfErr, OnErr};
+ghost use Rattle.std.specs.Prelude.{◌≡◌, ℕ, ◌+◌, ◌-◌, ◌^◌, ◌<◌, ◌≤◌, ◌↔◌, length, drop, slice_index, IsErrOf, IfOk, IfErr, IfSome, IfNone, OnErr};
 ghost use Rattle.decimal_digits.specs.Counted.{list_of, turns_of, Continues, OnlyReads};
 ghost use Rattle.decimal_digits.specs.Digits.{number_at, IsStripped};
 ghost use Rattle.decimal_digits.specs.Rounding.{step_of};
 ghost use Rattle.decimal_digits.specs.Tails.{leading, TailIs, RoundsTo, KeptRefuses};
 
 use super::ends::{add_one, strip};
-use super::tail::{Tail, rounded_two};
+use super::tail::{Tail, goes_up, rounded_two};
 use super::two::{two_at, write_all, write_two};
 use super::{RoundError, RoundingIncrement, UnsignedRoundingMode};
 use crate::digits::{Counted, DigitStore};
@@ -49,6 +49,61 @@ fn keep_leading<D: DigitStore>(counted: &mut Counted<'_, D>, keep: usize, last: 
     }
 }
 
+/// Gives the last of the first `keep` digits, and 0 where none is kept.
+fn last_of<D: DigitStore>(counted: &mut Counted<'_, D>, keep: usize) -> u8
+    requires { keep ≤ length (D.digits (list_of counted.old)) }
+    ensures last { 0 < keep → result ≡ slice_index (D.digits (list_of counted.old)) (keep - 1) }
+    ensures none { keep ≡ 0 → result ≡ 0 }
+    ensures is_digit { result < 10 }
+    ensures reads { OnlyReads 1 counted.old counted.new }
+{
+    if keep > 0 { counted.get(keep - 1) } else { 0 }
+}
+
+/// Rounds the number of the first `keep` digits to a multiple of one, by the tail below them, and says how many places
+/// the digits have then.
+///
+/// The last of them tells the parity alone. None: there is room for fewer places. The list then stays as it was.
+fn round_by_one<D: DigitStore>(
+    counted: &mut Counted<'_, D>,
+    keep: usize,
+    room: usize,
+    tail: Tail,
+    mode: UnsignedRoundingMode,
+) -> Option<usize>
+    requires exact { (tail ≡ Tail.Zero) ↔ (length (D.digits (list_of counted.old)) ≤ keep) }
+    requires fits { keep ≤ room }
+    requires short { room ≤ 65536 }
+    requires stripped { IsStripped (D.digits (list_of counted.old)) }
+    ensures value { IfSome result (λ places. RoundsTo mode 1 tail
+        (leading keep (D.digits (list_of counted.old))) (number_at places (D.digits (list_of counted.new)))) }
+    ensures room { IfSome result (λ places. places ≤ room) }
+    ensures length { IfSome result (λ places. length (D.digits (list_of counted.new)) ≤ places) }
+    ensures stripped { IfSome result (λ places. IsStripped (D.digits (list_of counted.new))) }
+    ensures turns { IfSome result (λ places. turns_of counted.new + length (D.digits (list_of counted.new))
+        ≤ turns_of counted.old + length (D.digits (list_of counted.old)) + 6) }
+    ensures up { IfNone result (RoundsTo mode 1 tail (leading keep (D.digits (list_of counted.old)))
+        (leading keep (D.digits (list_of counted.old)) + 1)) }
+    ensures full { IfNone result (10 ^ room ≤ leading keep (D.digits (list_of counted.old)) + 1) }
+    ensures reads { IfNone result (OnlyReads (length (D.digits (list_of counted.old)) + 1) counted.old counted.new) }
+    ensures lent { Continues counted.old counted.new }
+{
+    if tail == Tail::Zero {
+        return Some(keep);
+    }
+    let last = last_of(counted, keep);
+    if !goes_up(mode, tail, last % 2 == 1) {
+        keep_leading(counted, keep, last);
+        return Some(keep);
+    }
+    if keep == 0 || last == 9 {
+        return add_one(counted, keep, room);
+    }
+    counted.truncate(keep);
+    counted.set(keep - 1, last + 1);
+    Some(keep)
+}
+
 /// Rounds the number of the first `keep` digits by the tail below them, and says how many places the digits have then.
 ///
 /// Err: there is room for fewer places; or memory was refused, which needs that by 25 the number gets a digit more than
@@ -80,6 +135,9 @@ pub fn round_kept<D: DigitStore>(
         → turns_of counted.new ≤ turns_of counted.old + length (D.digits (list_of counted.old)) + 6 }
     ensures lent { Continues counted.old counted.new }
 {
+    if matches!(increment, RoundingIncrement::MultiplesOf1) {
+        return round_by_one(counted, keep, room, tail, mode).ok_or(RoundError::Limit);
+    }
     let two = two_at(counted, keep);
     let rounded = rounded_two(two, tail, mode, increment);
     if rounded == two {

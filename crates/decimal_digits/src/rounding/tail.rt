@@ -68,7 +68,7 @@ fn part_of(step: u8, rest: u8, tail: Tail) -> Tail
 }
 
 /// Tells whether the mode takes the multiple above, by what is left of the unit and by the quotient's parity.
-fn goes_up(mode: UnsignedRoundingMode, left: Tail, odd: bool) -> bool
+pub fn goes_up(mode: UnsignedRoundingMode, left: Tail, odd: bool) -> bool
     ensures { result ≡ goes_up_of mode left odd }
 {
     match left {

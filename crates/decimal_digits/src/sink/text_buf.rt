@@ -105,20 +105,3 @@ impl Sink for TextBuf {
         self.failed
     }
 }
-
-#[cfg(test)]
-mod tests {
-    use crate::sink::{Sink, SinkFault, TextBuf};
-
-    #[test]
-    fn takes_nothing_after_a_fault(rt: HostRuntime) {
-        let mut text = TextBuf::new(rt.alloc());
-        assert!(rt; text.put_bytes(b"-12").is_ok());
-        assert!(rt; text.fail().is_err());
-        assert_eq!(rt; text.put_bytes(b"34"), Err(SinkFault));
-        assert_eq!(rt; text.put_bytes(b""), Err(SinkFault));
-        assert_eq!(rt; text.put_byte(b'5'), Err(SinkFault));
-        assert!(rt; text.failed());
-        assert_eq!(rt; text.as_bytes(), b"-12".as_slice());
-    }
-}

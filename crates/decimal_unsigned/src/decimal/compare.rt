@@ -2,6 +2,7 @@
 ghost use Rattle.std.specs.Prelude.{◌≡◌};
 ghost use Rattle.std.specs.Cmp.Lexicographic.{slice_cmp};
 ghost use Rattle.std.specs.Ordering.{nat_cmp};
+ghost use Rattle.decimal_unsigned.specs.Unsigned.{IsValue};
 
 use super::UnsignedOver;
 use decimal_digits::digits::DigitStore;
@@ -28,7 +29,8 @@ impl<D: DigitStore> UnsignedOver<D> {
     /// `0.5` is less than `2`, and `1.0` and `1` are `Equal`. It is not `Ord`, which would have to tell apart what `==`
     /// tells apart: two values are equal where their texts are. It asks for no memory. Not in the original.
     pub fn compare<E: DigitStore>(&self, other: &UnsignedOver<E>) -> Ordering
-        ensures { result ≡ nat_cmp self.now.number other.now.number }
+        ensures order { result ≡ nat_cmp self.now.number other.now.number }
+        ensures valid { IsValue self.now × IsValue other.now }
     {
         let len = self.digits.len();
         let other_len = other.digits.len();

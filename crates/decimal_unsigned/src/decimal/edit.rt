@@ -1,7 +1,7 @@
 //! Shifts, and edits of the range that is shown.
 ghost use Rattle.std.specs.Prelude.{◌≡◌, ℕ, ◌<◌, ◌≤◌, length, drop, slice_index, pos, ◌+ℤ◌, Some, None, IsOk, IfOk, IfErr, OnOk, OnErr, ◌↔◌};
 ghost use Rattle.std.specs.Int.{int_gap};
-ghost use Rattle.decimal_unsigned.specs.Unsigned.{Unsigned, IsLeastHi, IsGreatestLo};
+ghost use Rattle.decimal_unsigned.specs.Unsigned.{Unsigned, IsValue, IsLeastHi, IsGreatestLo};
 ghost use Rattle.decimal_unsigned.specs.Edits.{multiplied, multiplied_pow10, StaysInLimits, trimmed_start, trimmed_end, trimmed_end_if_integer, padded_start, padded_end, with_max_position};
 ghost use Rattle.decimal_unsigned.specs.EditLaws.{TrimmedIsNormalForm, IsShortest, trunced, PartsJoin};
 
@@ -55,6 +55,7 @@ impl<D: DigitStore> UnsignedOver<D> {
         ensures normal_form { (other : Unsigned) → TrimmedIsNormalForm self.old other }
         // Trimmed behind too, the value has the shortest text of its number.
         ensures shortest { IsShortest (trimmed_end self.new) }
+        ensures valid { IsValue self.old }
     {
         self.hi = self.magnitude.max(0);
     }
@@ -70,6 +71,7 @@ impl<D: DigitStore> UnsignedOver<D> {
         ensures normal_form { (other : Unsigned) → TrimmedIsNormalForm self.old other }
         // Trimmed in front too, the value has the shortest text of its number.
         ensures shortest { IsShortest (trimmed_start self.new) }
+        ensures valid { IsValue self.old }
     {
         self.lo = self.nonzero_magnitude_end().min(0);
     }

@@ -1,5 +1,5 @@
 //! Reading a value from a text: every fault is decided before memory is asked for.
-ghost use Rattle.std.specs.Prelude.{◌≡◌, ◌≢◌, ℕ, ◌+◌, ◌-◌, ◌<◌, ◌≤◌, ◌++◌, List, length, IfOk, IfErr, Ok, Err, IsOk, IsOkAnd};
+ghost use Rattle.std.specs.Prelude.{◌≡◌, ◌≢◌, ℕ, ◌+◌, ◌-◌, ◌<◌, ◌≤◌, ◌++◌, List, length, IfSome, IfOk, IfErr, Ok, Err, IsOk, IsOkAnd};
 ghost use Rattle.std.specs.Str.Parse.{AllDigits};
 ghost use Rattle.decimal_digits.specs.Number.{size};
 ghost use Rattle.decimal_unsigned.specs.Grammar.{Written, Grammar};
@@ -10,6 +10,7 @@ ghost use Rattle.decimal_unsigned.specs.Placing.{middle, digits_of};
 
 mod parts;
 mod plan;
+mod short;
 
 use super::UnsignedOver;
 use crate::ParseError;
@@ -17,6 +18,7 @@ use decimal_digits::digits::DigitStore;
 pub use parts::numeral;
 use parts::{Parts, split};
 use plan::{Plan, planned};
+use short::short_value;
 use std::alloc::{AllocError, Global};
 use std::marker::Model;
 
@@ -49,9 +51,12 @@ impl<'a> Scan<'a> {
     ///
     /// `012.50` is found, and `5.` is refused. Err: `Syntax` or `Limit`, as `try_from_utf8` answers. Not in the
     /// original.
+    #[tactic(auto, using(crate::proofs::ParserAnswers::follows_grammar))]
     pub fn new(text: &'a [u8]) -> Result<Scan<'a>, ParseError>
         ensures value { IfOk result (λ s. read text.now ≡ Ok s) }
         ensures fault { IfErr result (λ e. ParseRefuses ⊥ e (read text.now)) }
+        // Each text is read as the grammar says.
+        ensures grammar { (any : List ℕ) → FollowsGrammar any }
     {
         let Some(parts) = split(text) else {
             return Err(ParseError::Syntax);
@@ -95,12 +100,9 @@ impl<'a> Scan<'a> {
 ///
 /// Of `1.50` it is -2, of `100e-2` it is -2, of `5.0e1` it is 0. Err: `Syntax` or `Limit`, as reading the text answers.
 /// Not in the original.
-#[tactic(auto, using(crate::proofs::ParserAnswers::follows_grammar))]
 pub fn lowest_of(text: &[u8]) -> Result<i16, ParseError>
     ensures value { IfOk result (λ lo. IsOkAnd (read text.now) (λ v. v.lo ≡ lo)) }
     ensures fault { IfErr result (λ e. ParseRefuses ⊥ e (read text.now)) }
-    // Each text is read as the grammar says.
-    ensures grammar { (any : List ℕ) → FollowsGrammar any }
 {
     Ok(Scan::new(text)?.lowest())
 }
@@ -161,10 +163,39 @@ impl<D: DigitStore> UnsignedOver<D> {
         Self::try_from_utf8(alloc, text.as_bytes())
     }
 
-    /// The value that a text writes, by reading it from left to right.
+    /// Reads the value that a short text writes, and is faster than `try_from_utf8`: up to sixteen digits, with a dot
+    /// or without one.
+    ///
+    /// `012.50` is short. None where a text is longer, has an exponent or is not in the grammar, or where it has more
+    /// than `L` digits: `try_from_utf8` says why, or reads it. It asks for no memory. Not in the original.
+    // Behind a call its parts would be stored one by one and copied together, for which the processor waits.
+    #[inline(always)]
+    pub fn from_short_text(alloc: Global, text: &[u8]) -> Option<Self>
+        ensures { IfSome result (λ v. read text.now ≡ Ok v) }
+    {
+        let short = short_value(text)?;
+        if short.len > D::L {
+            return None;
+        }
+        let Ok(digits) = D::from_halves(alloc, short.number, short.len) else {
+            return None;
+        };
+        let place = short.place;
+        Some(UnsignedOver {
+            digits,
+            magnitude: place.magnitude,
+            hi: place.hi,
+            lo: place.lo,
+        })
+    }
+
+    /// The value that a text writes.
     fn read_from(alloc: Global, text: &[u8]) -> Result<Self, ParseError>
         ensures { Answers (λ v. D.L < size v.number) result (read text.now) }
     {
+        if let Some(value) = Self::from_short_text(alloc, text) {
+            return Ok(value);
+        }
         let scan = Scan::new(text)?;
         let Ok(value) = scan.value(alloc) else {
             return Err(ParseError::Memory);

@@ -1,8 +1,10 @@
 //! The text of a value.
-ghost use Rattle.std.specs.Prelude.{◌≡◌, ◌+◌, ◌-ℤ◌, ◌<◌, ◌≤◌, length, take, drop, replicate, slice_index, EachIndex, Ok, OnOk, OnErr, pos, true, false};
+ghost use Rattle.std.specs.Prelude.{◌≡◌, ◌+◌, ◌-◌, ◌-ℤ◌, ◌<◌, ◌≤◌, length, take, drop, replicate, slice_index, EachIndex, Ok, OnOk, OnErr, pos, true, false};
+ghost use Rattle.std.specs.Int.{int_gap};
 ghost use Rattle.std.specs.Io.KnownBytes.{Keeps, Appends};
 ghost use Rattle.decimal_digits.specs.Number.{place, digit};
 ghost use Rattle.decimal_digits.specs.Text.{AppendsPrefix};
+ghost use Rattle.decimal_unsigned.specs.Unsigned.{IsValue};
 ghost use Rattle.decimal_unsigned.specs.Text.{text};
 ghost use Rattle.decimal_unsigned.specs.Reading.{read};
 
@@ -25,8 +27,9 @@ impl<D: DigitStore> UnsignedOver<D> {
     pub(super) fn copy_digits(&self, magnitude: i16, places: &mut [u8])
         requires zeros { places.old ≡ replicate (length places.old) 48 }
         requires in_limits { length places.old ≤ place magnitude + 1 }
-        ensures { EachIndex places.new
+        ensures value { EachIndex places.new
             (λ k. slice_index places.new k ≡ 48 + digit self.now.number (magnitude -ℤ pos k)) }
+        ensures valid { IsValue self.now }
     {
         let digits = self.digits.len();
         let from = index_of(self.magnitude, magnitude).unwrap_or(0).min(digits);
@@ -38,6 +41,33 @@ impl<D: DigitStore> UnsignedOver<D> {
             .copy_text(from, &mut places[start..start + count]);
     }
 
+    /// Gives the index of the dot, which is the number of digits above it; a text without a dot ends there.
+    #[inline]
+    fn dot(&self) -> usize
+        ensures value { result ≡ int_gap (pos 0) self.now.hi + 1 }
+        ensures valid { IsValue self.now }
+    {
+        count_between(0, self.highest()) as usize
+    }
+
+    /// Gives the magnitude of the digit at an index of the text; at the dot it is that of the digit behind it.
+    ///
+    /// Requires an index in range.
+    #[inline]
+    fn magnitude_at(&self, index: usize) -> i16
+        requires { index < length (text self.now) }
+        ensures above { index ≤ int_gap (pos 0) self.now.hi + 1 → result ≡ self.now.hi -ℤ pos index }
+        ensures below { int_gap (pos 0) self.now.hi + 1 < index → result ≡ self.now.hi -ℤ pos (index - 1) }
+    {
+        let dot = self.dot();
+        let hi = self.highest();
+        if index <= dot {
+            magnitude_of(hi, index)
+        } else {
+            magnitude_of(hi, index - 1)
+        }
+    }
+
     /// Gives the byte of the text at an index.
     ///
     /// Requires an index in range.
@@ -46,14 +76,11 @@ impl<D: DigitStore> UnsignedOver<D> {
         requires { index < length (text self.now) }
         ensures { result ≡ slice_index (text self.now) index }
     {
-        let hi = self.highest();
-        let dot = count_between(0, hi) as usize;
-        if index < dot {
-            b'0' + self.digit_at(magnitude_of(hi, index))
-        } else if index == dot {
+        let dot = self.dot();
+        if index == dot {
             b'.'
         } else {
-            b'0' + self.digit_at(magnitude_of(-1, index - dot - 1))
+            b'0' + self.digit_at(self.magnitude_at(index))
         }
     }
 
@@ -65,7 +92,6 @@ impl<D: DigitStore> UnsignedOver<D> {
         ensures failed { OnErr result (W.has_failed sink.new ≡ true) }
         ensures stays { W.has_failed sink.old ≡ true → Keeps (W.contents sink.old) (W.contents sink.new) }
     {
-        let _range = self.magnitude_range();
         for index in 0..self.writeable_length_hint() {
             sink.put_byte(self.byte_at(index))?;
         }
@@ -82,15 +108,14 @@ impl<D: DigitStore> UnsignedOver<D> {
         requires in_text { from + length places.old ≤ length (text self.now) }
         ensures { places.new ≡ take (length places.old) (drop from (text self.now)) }
     {
-        let hi = self.highest();
-        let dot = count_between(0, hi) as usize;
-        if from + places.len() <= dot {
-            self.copy_digits(magnitude_of(hi, from), places);
-        } else if dot < from {
-            self.copy_digits(magnitude_of(-1, from - dot - 1), places);
+        let dot = self.dot();
+        let magnitude = self.magnitude_at(from);
+        let end = from + places.len();
+        if dot < from || end <= dot {
+            self.copy_digits(magnitude, places);
         } else {
             let above = dot - from;
-            self.copy_digits(magnitude_of(hi, from), &mut places[..above]);
+            self.copy_digits(magnitude, &mut places[..above]);
             places[above] = b'.';
             self.copy_digits(-1, &mut places[above + 1..]);
         }
@@ -112,7 +137,6 @@ impl<D: DigitStore> Writeable for UnsignedOver<D> {
         ensures stays { W.has_failed sink.old ≡ true → Keeps (W.contents sink.old) (W.contents sink.new) }
         ensures reads_back { read (text self.now) ≡ Ok self.now }
     {
-        let _range = self.magnitude_range();
         let length = self.writeable_length_hint();
         if length <= FEW {
             return self.write_few(sink);
@@ -133,6 +157,7 @@ impl<D: DigitStore> Writeable for UnsignedOver<D> {
         ensures length { result ≡ length (text self.now) }
         // A text has at most 65,536 digits and a dot.
         ensures at_most { result ≤ 65537 }
+        ensures valid { IsValue self.now }
     {
         let lo = self.lowest();
         let digits = count_between(lo, self.highest()) as usize;

@@ -2,6 +2,7 @@
 ghost use Rattle.std.specs.Prelude.{◌≡◌, ◌*◌, ◌^◌, ◌<◌, ◌≤◌, length, slice_index};
 ghost use Rattle.decimal_digits.specs.Tails.{leading};
 ghost use Rattle.decimal_unsigned.specs.ToInteger.{in_range, as_integer, integer_error_text};
+ghost use Rattle.decimal_unsigned.specs.Unsigned.{IsValue};
 
 use super::UnsignedOver;
 use decimal_digits::digits::DigitStore;
@@ -108,7 +109,8 @@ impl<D: DigitStore> UnsignedOver<D> {
     /// Of `012.00` it is 12. Err: `NotWhole` where a digit behind the dot is not 0, as in `1.5`; else `OutOfRange`
     /// where the number is 2 to the 64 or more. It asks for no memory. Not in the original.
     pub fn try_to_u64(&self) -> Result<u64, IntegerError>
-        ensures { result ≡ as_integer (2 ^ 64) self.now.number }
+        ensures value { result ≡ as_integer (2 ^ 64) self.now.number }
+        ensures valid { IsValue self.now }
     {
         let integer = self.try_to_u128()?;
         if integer > u64::MAX as u128 {
@@ -123,7 +125,8 @@ impl<D: DigitStore> UnsignedOver<D> {
     /// where the number is 2 to the 128 or more. It asks for no memory. Not in the original.
     #[inline]
     pub fn try_to_u128(&self) -> Result<u128, IntegerError>
-        ensures { result ≡ as_integer (2 ^ 128) self.now.number }
+        ensures value { result ≡ as_integer (2 ^ 128) self.now.number }
+        ensures valid { IsValue self.now }
     {
         let Some(places) = places_above(0, self.magnitude) else {
             return Err(IntegerError::NotWhole);

@@ -1,6 +1,7 @@
 //! The digits at consecutive magnitudes.
 ghost use Rattle.std.specs.Prelude.{◌≡◌, ◌+◌, ◌+ℤ◌, ◌-ℤ◌, ◌≤ℤ◌, length, slice_index, EachIndex, pos};
 ghost use Rattle.decimal_digits.specs.Number.{digit};
+ghost use Rattle.decimal_unsigned.specs.Unsigned.{IsValue};
 
 use super::UnsignedOver;
 use decimal_digits::digits::DigitStore;
@@ -13,8 +14,9 @@ impl<D: DigitStore> UnsignedOver<D> {
     /// -32768. Not in the original.
     pub fn write_digits(&self, highest: i16, places: &mut [u8])
         requires { pos (length places.old) ≤ℤ (highest +ℤ pos 32769) }
-        ensures { EachIndex places.new
+        ensures value { EachIndex places.new
             (λ k. slice_index places.new k ≡ 48 + digit self.now.number (highest -ℤ pos k)) }
+        ensures valid { IsValue self.now }
     {
         places.fill(b'0');
         self.copy_digits(highest, places);

@@ -1,7 +1,6 @@
 //! The order of two values by their numbers, over each pair of stores.
 use super::*;
 use std::cmp::Ordering;
-use std::process::Abort;
 
 /// The order of the values that two texts write.
 fn compared<D: DigitStore, E: DigitStore>(
@@ -9,28 +8,34 @@ fn compared<D: DigitStore, E: DigitStore>(
     left: &str,
     right: &str,
 ) -> Result<Ordering, Fail> {
-    Ok(read::<D>(alloc, left)?.compare(&read::<E>(alloc, right)?))
+    Ok(read_over::<D>(alloc, left)?.compare(&read_over::<E>(alloc, right)?))
 }
 
-/// Asserts the order of the values that two texts write, and that of the second and the first.
-fn assert_order<D: DigitStore, E: DigitStore>(
-    rt: &impl Abort,
+/// Whether the values of two texts have an order, and in turn the reverse one.
+fn have_order<D: DigitStore, E: DigitStore>(
     alloc: Global,
     (left, right): (&str, &str),
     order: Ordering,
-) -> Result<(), Fail> {
-    assert!(rt;
-        compared::<D, E>(alloc, left, right)? == order,
-        "{left} and {right}"
-    );
-    assert!(rt;
-        compared::<E, D>(alloc, right, left)? == order.reverse(),
-        "{right} and {left}"
-    );
-    Ok(())
+) -> Result<bool, Fail> {
+    Ok(
+        compared::<D, E>(alloc, left, right)? == order
+            && compared::<E, D>(alloc, right, left)? == order.reverse(),
+    )
 }
 
-/// Two texts, and the order of their values.
+/// Whether the values of two texts in parts have an order, over each pair of stores.
+fn are_ordered(alloc: Global, (left, right): (&str, &str), order: Ordering) -> Result<bool, Fail> {
+    let left = long(alloc, left)?;
+    let right = long(alloc, right)?;
+    let texts = (left.as_str(), right.as_str());
+    Ok(
+        have_order::<DecimalStore, DecimalStore>(alloc, texts, order)?
+            && have_order::<DecimalStore, DigitList>(alloc, texts, order)?
+            && have_order::<DigitList, DigitList>(alloc, texts, order)?,
+    )
+}
+
+/// Two texts in parts, and the order of their values.
 const ORDERS: &[((&str, &str), Ordering)] = &[
     (("1", "1"), Ordering::Equal),
     (("1.0", "1"), Ordering::Equal),
@@ -58,29 +63,20 @@ const ORDERS: &[((&str, &str), Ordering)] = &[
         Ordering::Greater,
     ),
     (("4e3", "4000.000"), Ordering::Equal),
+    ((NINES, NINES), Ordering::Equal),
+    ((LEAST, NINES), Ordering::Less),
+    ((NINES, LEAST), Ordering::Greater),
 ];
 
 #[test]
 fn orders(rt: HostRuntime) -> Result<(), Fail> {
-    let alloc = rt.alloc();
     for (texts, order) in ORDERS {
-        assert_order::<DecimalStore, DecimalStore>(&rt, alloc, *texts, *order)?;
-        assert_order::<DecimalStore, DigitList>(&rt, alloc, *texts, *order)?;
-        assert_order::<DigitList, DigitList>(&rt, alloc, *texts, *order)?;
+        assert!(rt;
+            are_ordered(rt.alloc(), *texts, *order)?,
+            "{} and {}",
+            texts.0,
+            texts.1
+        );
     }
-    Ok(())
-}
-
-#[test]
-fn longest(rt: HostRuntime) -> Result<(), Fail> {
-    let alloc = rt.alloc();
-    let nines = long(alloc, NINES)?;
-    let least = long(alloc, LEAST)?;
-    let order = compared::<DecimalStore, DigitList>(alloc, nines.as_str(), nines.as_str())?;
-    assert!(rt; order == Ordering::Equal);
-    let order = compared::<DecimalStore, DigitList>(alloc, least.as_str(), nines.as_str())?;
-    assert!(rt; order == Ordering::Less);
-    let order = compared::<DigitList, DecimalStore>(alloc, nines.as_str(), least.as_str())?;
-    assert!(rt; order == Ordering::Greater);
     Ok(())
 }

@@ -1,73 +1,57 @@
 //! One number joined to the end of another.
 use super::*;
+use decimal_doubles::{Join, Joined, Joins};
 use decimal_unsigned::ConcatenateError;
 
 /// Whether two values have these texts.
-fn have_texts<D: DigitStore>(
-    value: &UnsignedOver<D>,
-    other: &UnsignedOver<D>,
-    (front, back): (&str, &str),
-) -> bool {
-    has_text(value, front) && has_text(other, back)
+fn have_texts<T: Value>((value, other): (T, T), (front, back): (&str, &str)) -> bool {
+    has_text(&value, front) && has_text(&other, back)
 }
 
-/// Whether two texts join in place to another; `!` where they overlap, and both values are left.
-fn joins_in_place<D: DigitStore>(
-    alloc: Global,
-    texts: (&str, &str),
-    joined: &str,
-) -> Result<bool, Fail> {
-    let mut value = read::<D>(alloc, texts.0)?;
-    match value.concatenate_end(read(alloc, texts.1)?) {
-        Ok(()) => Ok(has_text(&value, joined)),
-        Err(ConcatenateError::Overlap(other)) => {
-            Ok(joined == "!" && have_texts(&value, &other, texts))
-        }
-        Err(ConcatenateError::Memory(other)) => wants_memory(have_texts(&value, &other, texts)),
-    }
-}
-
-/// What a join by value answers: the joined value, or why there is none, with both values.
-type Joined<D> = Result<UnsignedOver<D>, ConcatenateError<(UnsignedOver<D>, UnsignedOver<D>)>>;
-
-/// What joining two texts by value answers.
-fn joined<D: DigitStore>(alloc: Global, (front, back): (&str, &str)) -> Result<Joined<D>, Fail> {
-    Ok(read::<D>(alloc, front)?.concatenated_end(read(alloc, back)?))
-}
-
-/// Whether an answer is a text; `!` where the two overlap, and both values come back.
-fn is_joined<D: DigitStore>(
-    answer: Joined<D>,
-    texts: (&str, &str),
-    joined: &str,
-) -> Result<bool, Fail> {
+/// Whether an answer is a text; `!` where the two overlap, and both values are left.
+fn is_joined<T: Value>(answer: Joined<T>, texts: (&str, &str), joined: &str) -> Result<bool, Fail> {
     match answer {
         Ok(value) => Ok(has_text(&value, joined)),
-        Err(ConcatenateError::Overlap((value, other))) => {
-            Ok(joined == "!" && have_texts(&value, &other, texts))
-        }
-        Err(ConcatenateError::Memory((value, other))) => {
-            wants_memory(have_texts(&value, &other, texts))
-        }
+        Err(ConcatenateError::Overlap(left)) => Ok(joined == "!" && have_texts(left, texts)),
+        Err(ConcatenateError::Memory(left)) => wants_memory(have_texts(left, texts)),
     }
 }
 
-/// Whether two texts join by value to another.
-fn joins_by_value<D: DigitStore>(
+/// What a join of two texts answers.
+fn joined<T: Value + Joins>(
+    alloc: Global,
+    (front, back): (&str, &str),
+    join: Join,
+) -> Result<Joined<T>, Fail> {
+    Ok(read::<T>(alloc, front)?.joined_by(read(alloc, back)?, join))
+}
+
+/// Whether two texts join to another by both calls.
+fn joins_both_ways<T: Value + Joins>(
     alloc: Global,
     texts: (&str, &str),
     wanted: &str,
 ) -> Result<bool, Fail> {
-    is_joined(joined::<D>(alloc, texts)?, texts, wanted)
+    Ok(
+        is_joined(joined::<T>(alloc, texts, Join::InPlace)?, texts, wanted)?
+            && is_joined(joined::<T>(alloc, texts, Join::ByValue)?, texts, wanted)?,
+    )
 }
 
-/// Whether two texts join to another both ways and over each store.
-fn joins(alloc: Global, texts: (&str, &str), joined: &str) -> Result<bool, Fail> {
+/// The same over a store.
+fn joins_over<D: DigitStore>(
+    alloc: Global,
+    texts: (&str, &str),
+    wanted: &str,
+) -> Result<bool, Fail> {
+    joins_both_ways::<UnsignedOver<D>>(alloc, texts, wanted)
+}
+
+/// The same over each store.
+fn joins(alloc: Global, texts: (&str, &str), wanted: &str) -> Result<bool, Fail> {
     Ok(
-        joins_in_place::<DecimalStore>(alloc, texts, joined)?
-            && joins_in_place::<DigitList>(alloc, texts, joined)?
-            && joins_by_value::<DecimalStore>(alloc, texts, joined)?
-            && joins_by_value::<DigitList>(alloc, texts, joined)?,
+        joins_over::<DecimalStore>(alloc, texts, wanted)?
+            && joins_over::<DigitList>(alloc, texts, wanted)?,
     )
 }
 
@@ -87,6 +71,20 @@ fn joined_plainly(front: &str, back: &str) -> Option<Plain> {
 /// Whether two texts overlap, by the oracle.
 fn overlaps_plainly(front: &str, back: &str) -> Option<bool> {
     Some(Plain::read(front.as_bytes())?.overlaps(&Plain::read(back.as_bytes())?))
+}
+
+/// Whether two texts that do not overlap join to another, by the library and by the oracle.
+fn joins_plainly(alloc: Global, (front, back): (&str, &str), joined: &str) -> Result<bool, Fail> {
+    Ok(
+        joins(alloc, (front, back), joined)?
+            && overlaps_plainly(front, back) == Some(false)
+            && says(alloc, joined_plainly(front, back), joined)?,
+    )
+}
+
+/// Whether two texts overlap, by the library and by the oracle.
+fn overlap(alloc: Global, (front, back): (&str, &str)) -> Result<bool, Fail> {
+    Ok(joins(alloc, (front, back), "!")? && overlaps_plainly(front, back) == Some(true))
 }
 
 /// Two texts, and what they join to.
@@ -111,15 +109,11 @@ const JOINS: &[(&str, &str, &str)] = &[
 
 #[test]
 fn joins_numbers(rt: HostRuntime) -> Result<(), Fail> {
-    let alloc = rt.alloc();
     for (front, back, joined) in JOINS {
-        assert!(rt; joins(alloc, (front, back), joined)?, "{front} and {back}");
         assert!(rt;
-            overlaps_plainly(front, back) == Some(false),
+            joins_plainly(rt.alloc(), (front, back), joined)?,
             "{front} and {back}"
         );
-        let holds = says(alloc, joined_plainly(front, back), joined)?;
-        assert!(rt; holds, "{front} and {back}");
     }
     Ok(())
 }
@@ -137,14 +131,7 @@ const OVERLAPS: &[(&str, &str)] = &[
 #[test]
 fn refuses_overlaps(rt: HostRuntime) -> Result<(), Fail> {
     for (front, back) in OVERLAPS {
-        assert!(rt;
-            joins(rt.alloc(), (front, back), "!")?,
-            "{front} and {back}"
-        );
-        assert!(rt;
-            overlaps_plainly(front, back) == Some(true),
-            "{front} and {back}"
-        );
+        assert!(rt; overlap(rt.alloc(), (front, back))?, "{front} and {back}");
     }
     Ok(())
 }

@@ -32,63 +32,72 @@ const ZEROS: &[(&str, bool)] = &[
     ("0.00", true),
 ];
 
-/// Whether the number of a text has these digits from a magnitude down.
-fn has_digits<D: DigitStore>(
-    alloc: Global,
-    text: &str,
-    magnitude: i16,
-    digits: &str,
-) -> Result<bool, Fail> {
-    let value = read::<D>(alloc, text)?;
+/// Whether a number has these digits from a magnitude down.
+fn has_digits<D: DigitStore>(value: &UnsignedOver<D>, magnitude: i16, digits: &str) -> bool {
     let mut magnitude = magnitude;
     for digit in digits.as_bytes() {
         if b'0'.saturating_add(value.digit_at(magnitude)) != *digit {
-            return Ok(false);
+            return false;
         }
         magnitude = magnitude.saturating_sub(1);
     }
-    Ok(true)
+    true
 }
 
-/// Whether the number of a text is 0.
-fn is_zero<D: DigitStore>(alloc: Global, text: &str) -> Result<bool, Fail> {
-    Ok(read::<D>(alloc, text)?.is_zero())
+/// Whether the number of a text has these digits from a magnitude down, over each store.
+fn gives(alloc: Global, text: &str, magnitude: i16, digits: &str) -> Result<bool, Fail> {
+    Ok(
+        has_digits(&read_over::<DecimalStore>(alloc, text)?, magnitude, digits)
+            && has_digits(&read_over::<DigitList>(alloc, text)?, magnitude, digits),
+    )
 }
 
 #[test]
 fn gives_digits(rt: HostRuntime) -> Result<(), Fail> {
-    let alloc = rt.alloc();
     for (text, top, digits) in DIGITS {
-        assert!(rt;
-            has_digits::<DecimalStore>(alloc, text, *top, digits)?,
-            "{text} at {top}"
-        );
-        assert!(rt;
-            has_digits::<DigitList>(alloc, text, *top, digits)?,
-            "{text} at {top}"
-        );
-    }
-    for (text, wanted) in ZEROS {
-        assert!(rt; is_zero::<DecimalStore>(alloc, text)? == *wanted, "{text}");
-        assert!(rt; is_zero::<DigitList>(alloc, text)? == *wanted, "{text}");
+        assert!(rt; gives(rt.alloc(), text, *top, digits)?, "{text} at {top}");
     }
     Ok(())
 }
 
-/// Whether the longest number has a 9 at each magnitude.
-fn has_nines<D: DigitStore>(alloc: Global) -> Result<bool, Fail> {
-    let value = read::<D>(alloc, long(alloc, NINES)?.as_str())?;
+/// Whether the number of a text is 0, over each store.
+fn is_zero(alloc: Global, text: &str) -> Result<(bool, bool), Fail> {
+    Ok((
+        read_over::<DecimalStore>(alloc, text)?.is_zero(),
+        read_over::<DigitList>(alloc, text)?.is_zero(),
+    ))
+}
+
+#[test]
+fn tells_zeros(rt: HostRuntime) -> Result<(), Fail> {
+    for (text, wanted) in ZEROS {
+        assert!(rt; is_zero(rt.alloc(), text)? == (*wanted, *wanted), "{text}");
+    }
+    Ok(())
+}
+
+/// Whether a number has a 9 at each magnitude that it shows.
+fn has_nines<D: DigitStore>(value: &UnsignedOver<D>) -> bool {
     for magnitude in value.magnitude_range() {
         if value.digit_at(magnitude) != 9 {
-            return Ok(false);
+            return false;
         }
     }
-    Ok(!value.is_zero())
+    !value.is_zero()
+}
+
+/// Whether the longest number has a 9 at each magnitude, over each store.
+fn gives_nines(alloc: Global) -> Result<bool, Fail> {
+    let text = long(alloc, NINES)?;
+    let text = text.as_str();
+    Ok(
+        has_nines(&read_over::<DecimalStore>(alloc, text)?)
+            && has_nines(&read_over::<DigitList>(alloc, text)?),
+    )
 }
 
 #[test]
 fn gives_each_digit(rt: HostRuntime) -> Result<(), Fail> {
-    assert!(rt; has_nines::<DecimalStore>(rt.alloc())?);
-    assert!(rt; has_nines::<DigitList>(rt.alloc())?);
+    assert!(rt; gives_nines(rt.alloc())?);
     Ok(())
 }

@@ -47,25 +47,33 @@ const INTEGERS: &[(Integer, &str)] = &[
 ];
 
 /// Whether a copy of a value has its text, and equals it.
-fn is_copied<D: DigitStore>(value: &UnsignedOver<D>, text: &str) -> Result<bool, Fail> {
-    let copy = value.clone()?;
-    Ok(has_text(&copy, text) && copy == *value)
+fn is_copied<T: Value>(value: &T, text: &str) -> Result<bool, Fail> {
+    let copy = value.copy()?;
+    Ok(has_text(&copy, text) && copy.equals(value))
 }
 
-/// Whether an integer's value has this text, is copied, and equals the value that the text writes.
-fn makes<D: DigitStore>(alloc: Global, integer: Integer, text: &str) -> Result<bool, Fail> {
-    let value = value_of::<D>(alloc, integer)?;
-    Ok(has_text(&value, text) && is_copied(&value, text)? && value == read(alloc, text)?)
+/// Whether a value has this text, is copied, and equals the value that the text writes.
+fn is_value_of<T: Value>(value: T, alloc: Global, text: &str) -> Result<bool, Fail> {
+    Ok(has_text(&value, text) && is_copied(&value, text)? && value.equals(&read(alloc, text)?))
+}
+
+/// Whether an integer's value is that of a text over a store.
+fn makes_over<D: DigitStore>(alloc: Global, integer: Integer, text: &str) -> Result<bool, Fail> {
+    is_value_of(value_of::<D>(alloc, integer)?, alloc, text)
+}
+
+/// The same over each store.
+fn makes(alloc: Global, integer: Integer, text: &str) -> Result<bool, Fail> {
+    Ok(
+        makes_over::<DecimalStore>(alloc, integer, text)?
+            && makes_over::<DigitList>(alloc, integer, text)?,
+    )
 }
 
 #[test]
 fn of_integers(rt: HostRuntime) -> Result<(), Fail> {
     for (integer, text) in INTEGERS {
-        assert!(rt;
-            makes::<DecimalStore>(rt.alloc(), *integer, text)?,
-            "{text}"
-        );
-        assert!(rt; makes::<DigitList>(rt.alloc(), *integer, text)?, "{text}");
+        assert!(rt; makes(rt.alloc(), *integer, text)?, "{text}");
     }
     Ok(())
 }
@@ -73,17 +81,24 @@ fn of_integers(rt: HostRuntime) -> Result<(), Fail> {
 /// Texts in parts: of 1, 7, 8, 9, 16, 17, 64 and 65,536 digits.
 const COPIES: &[&str] = &["9", "9*7", "9*8", "9*9", "9*16", "9*17", "9*64", NINES];
 
-/// Whether the value of a text in parts is copied.
-fn copies<D: DigitStore>(alloc: Global, parts: &str) -> Result<bool, Fail> {
+/// Whether the value of a text is copied over a store.
+fn copies_over<D: DigitStore>(alloc: Global, text: &str) -> Result<bool, Fail> {
+    is_copied(&read_over::<D>(alloc, text)?, text)
+}
+
+/// The same of a text in parts, over each store.
+fn copies(alloc: Global, parts: &str) -> Result<bool, Fail> {
     let text = long(alloc, parts)?;
-    is_copied(&read::<D>(alloc, text.as_str())?, text.as_str())
+    Ok(
+        copies_over::<DecimalStore>(alloc, text.as_str())?
+            && copies_over::<DigitList>(alloc, text.as_str())?,
+    )
 }
 
 #[test]
 fn copies_values(rt: HostRuntime) -> Result<(), Fail> {
     for parts in COPIES {
-        assert!(rt; copies::<DecimalStore>(rt.alloc(), parts)?, "{parts}");
-        assert!(rt; copies::<DigitList>(rt.alloc(), parts)?, "{parts}");
+        assert!(rt; copies(rt.alloc(), parts)?, "{parts}");
     }
     Ok(())
 }
@@ -101,12 +116,12 @@ const PAIRS: &[(&str, &str, bool, bool)] = &[
 
 /// Whether the values of two texts are equal.
 fn equals<D: DigitStore>(alloc: Global, left: &str, right: &str) -> Result<bool, Fail> {
-    Ok(read::<D>(alloc, left)? == read(alloc, right)?)
+    Ok(read_over::<D>(alloc, left)? == read_over(alloc, right)?)
 }
 
 /// The value that a text writes, after both trims.
 fn trimmed<D: DigitStore>(alloc: Global, text: &str) -> Result<UnsignedOver<D>, Fail> {
-    Ok(read::<D>(alloc, text)?.trimmed_start().trimmed_end())
+    Ok(read_over::<D>(alloc, text)?.trimmed_start().trimmed_end())
 }
 
 /// Whether the values of two texts are equal after both trims.
@@ -114,22 +129,35 @@ fn equals_trimmed<D: DigitStore>(alloc: Global, left: &str, right: &str) -> Resu
     Ok(trimmed::<D>(alloc, left)? == trimmed(alloc, right)?)
 }
 
+/// Whether the values of two texts are equal, and whether they are after both trims.
+fn equals_over<D: DigitStore>(
+    alloc: Global,
+    left: &str,
+    right: &str,
+) -> Result<(bool, bool), Fail> {
+    Ok((
+        equals::<D>(alloc, left, right)?,
+        equals_trimmed::<D>(alloc, left, right)?,
+    ))
+}
+
+/// Whether the values of two texts are as equal as they are to be, over each store.
+fn compares(
+    alloc: Global,
+    (left, right): (&str, &str),
+    wanted: (bool, bool),
+) -> Result<bool, Fail> {
+    Ok(
+        equals_over::<DecimalStore>(alloc, left, right)? == wanted
+            && equals_over::<DigitList>(alloc, left, right)? == wanted,
+    )
+}
+
 #[test]
-fn compares(rt: HostRuntime) -> Result<(), Fail> {
-    let alloc = rt.alloc();
+fn compares_values(rt: HostRuntime) -> Result<(), Fail> {
     for (left, right, same, same_trimmed) in PAIRS {
-        assert!(rt;
-            equals::<DecimalStore>(alloc, left, right)? == *same,
-            "{left}, {right}"
-        );
-        assert!(rt;
-            equals::<DigitList>(alloc, left, right)? == *same,
-            "{left}, {right}"
-        );
-        let trimmed = equals_trimmed::<DecimalStore>(alloc, left, right)?;
-        assert!(rt; trimmed == *same_trimmed, "{left}, {right}");
-        let trimmed = equals_trimmed::<DigitList>(alloc, left, right)?;
-        assert!(rt; trimmed == *same_trimmed, "{left}, {right}");
+        let holds = compares(rt.alloc(), (left, right), (*same, *same_trimmed))?;
+        assert!(rt; holds, "{left}, {right}");
     }
     Ok(())
 }

@@ -8,16 +8,18 @@ use decimal_unsigned::ParseError;
 const DISPLAYED: &[&str] = &["0", "0.00", "2.50", "0012.3400", NINES];
 
 /// Whether `{}` writes a text in parts of its value.
-fn displays_parts(alloc: Global, parts: &str) -> Result<bool, Fail> {
+fn displays_parts<D: DigitStore>(alloc: Global, parts: &str) -> Result<bool, Fail> {
     let text = long(alloc, parts)?;
-    let value = read::<DecimalStore>(alloc, text.as_str())?;
-    Ok(displays(&value, text.as_bytes()))
+    Ok(displays(&read_over::<D>(alloc, text.as_str())?, text.as_bytes()))
 }
 
 #[test]
 fn displays_values(rt: HostRuntime) -> Result<(), Fail> {
     for parts in DISPLAYED {
-        assert!(rt; displays_parts(rt.alloc(), parts)?, "{parts}");
+        assert!(rt;
+            displays_parts::<DecimalStore>(rt.alloc(), parts)?,
+            "{parts}"
+        );
     }
     Ok(())
 }
@@ -31,8 +33,8 @@ fn displays_faults(rt: HostRuntime) {
 }
 
 /// What a sink takes of a value three times.
-fn printed_thrice(alloc: Global, text: &str) -> Result<TextBuf, Fail> {
-    let value = read::<DecimalStore>(alloc, text)?;
+fn printed_thrice<T: Value>(alloc: Global, text: &str) -> Result<TextBuf, Fail> {
+    let value = read::<T>(alloc, text)?;
     let mut sink = TextBuf::new(alloc);
     for _ in 0..3 {
         value.write_to(&mut sink)?;
@@ -44,7 +46,10 @@ fn printed_thrice(alloc: Global, text: &str) -> Result<TextBuf, Fail> {
 fn takes_long_texts(alloc: Global) -> Result<bool, Fail> {
     let text = long(alloc, NINES)?;
     let thrice = text.as_str().repeat(alloc, 3)?;
-    Ok(printed_thrice(alloc, text.as_str())?.as_bytes() == thrice.as_bytes())
+    Ok(
+        printed_thrice::<UnsignedOver<DecimalStore>>(alloc, text.as_str())?.as_bytes()
+            == thrice.as_bytes(),
+    )
 }
 
 #[test]
@@ -57,13 +62,13 @@ fn takes_texts(rt: HostRuntime) -> Result<(), Fail> {
 const TEXT: &str = "1234.50";
 
 /// Whether a sink with so much room takes a beginning of the text, and has failed.
-fn keeps_beginning<D: DigitStore>(value: &UnsignedOver<D>, room: usize) -> bool {
+fn keeps_beginning<T: Value>(value: &T, room: usize) -> bool {
     let mut sink = LimitedSink::new(TEXT.as_bytes(), room);
     value.write_to(&mut sink).is_err() && sink.failed() && sink.has_taken(room)
 }
 
 /// Whether a writer with so much room takes a beginning of the text, and is not called after its refusal.
-fn fills<D: DigitStore>(value: &UnsignedOver<D>, room: usize, refusal: WriteFailure) -> bool {
+fn fills<T: Value>(value: &T, room: usize, refusal: WriteFailure) -> bool {
     let mut sink = Out::new(FailingWriter::new(TEXT.as_bytes(), room, refusal));
     let first = value.write_to(&mut sink).is_err();
     let second = value.write_to(&mut sink).is_err();
@@ -73,8 +78,8 @@ fn fills<D: DigitStore>(value: &UnsignedOver<D>, room: usize, refusal: WriteFail
 }
 
 /// Whether each sink and each writer with so much room takes a beginning of the text.
-fn keeps_beginnings<D: DigitStore>(alloc: Global, room: usize) -> Result<bool, Fail> {
-    let value = read::<D>(alloc, TEXT)?;
+fn keeps_beginnings<T: Value>(alloc: Global, room: usize) -> Result<bool, Fail> {
+    let value = read::<T>(alloc, TEXT)?;
     Ok(
         keeps_beginning(&value, room)
             && fills(&value, room, WriteFailure::Zero)
@@ -83,15 +88,20 @@ fn keeps_beginnings<D: DigitStore>(alloc: Global, room: usize) -> Result<bool, F
     )
 }
 
+/// The same over a store.
+fn keeps_over<D: DigitStore>(alloc: Global, room: usize) -> Result<bool, Fail> {
+    keeps_beginnings::<UnsignedOver<D>>(alloc, room)
+}
+
 #[test]
 fn keeps_what_fits(rt: HostRuntime) -> Result<(), Fail> {
     for room in 0..TEXT.len() {
         assert!(rt;
-            keeps_beginnings::<DecimalStore>(rt.alloc(), room)?,
+            keeps_over::<DecimalStore>(rt.alloc(), room)?,
             "room for {room}"
         );
         assert!(rt;
-            keeps_beginnings::<DigitList>(rt.alloc(), room)?,
+            keeps_over::<DigitList>(rt.alloc(), room)?,
             "room for {room}"
         );
     }

@@ -6,8 +6,10 @@ use decimal_unsigned::decimal::lowest_of;
 /// The magnitudes `hi`, `first`, `last` and `lo` of a value.
 type Magnitudes = (i16, i16, i16, i16);
 
-/// A text, what its value prints, and the magnitudes of the value.
-const READ: &[(&str, &str, Magnitudes)] = &[
+/// A text, what its value prints, and the magnitudes of the value. The texts are in parts.
+type Row = (&'static str, &'static str, Magnitudes);
+
+const READ: &[Row] = &[
     ("00123400", "00123400", (7, 5, 2, 0)),
     ("0012.3400", "0012.3400", (3, 1, -2, -4)),
     ("1000000", "1000000", (6, 6, 6, 0)),
@@ -48,11 +50,7 @@ const READ: &[(&str, &str, Magnitudes)] = &[
     ("1e+0005", "100000", (5, 5, 5, 0)),
     ("0e+99999", "0", (0, 0, 0, 0)),
     (".e+5", "0", (0, 0, 0, 0)),
-];
-
-/// The same in parts, at the limits.
-const LONG_READ: &[(&str, &str, Magnitudes)] = &[
-    // Zeros at each magnitude, and the least number above 0.
+    // At the limits: zeros at each magnitude, and the least number above 0.
     (WIDEST, WIDEST, (32767, 0, 0, -32768)),
     (LEAST, LEAST, (0, -32768, -32768, -32768)),
     ("1e-32768", LEAST, (0, -32768, -32768, -32768)),
@@ -74,40 +72,44 @@ fn has_magnitudes<D: DigitStore>(value: &UnsignedOver<D>, wanted: Magnitudes) ->
     (*range.end(), first, last, *range.start()) == wanted
 }
 
-/// Whether a text, and its bytes, are read over a store as a value that prints another, with these magnitudes.
+/// Whether a text, and its bytes, are read as equal values that print another text. It gives the first of them.
+fn read_both_ways<T: Value>(alloc: Global, text: &str, prints: &str) -> Result<Option<T>, Fail> {
+    let value = read::<T>(alloc, text)?;
+    if has_text(&value, prints) && value.equals(&T::read_bytes(alloc, text)?) {
+        Ok(Some(value))
+    } else {
+        Ok(None)
+    }
+}
+
+/// Whether a text is read over a store as a value that prints another, with these magnitudes.
 fn reads_over<D: DigitStore>(
     alloc: Global,
     text: &str,
     (prints, wanted): (&str, Magnitudes),
 ) -> Result<bool, Fail> {
-    let value = read::<D>(alloc, text)?;
-    let other = UnsignedOver::<D>::try_from_utf8(alloc, text.as_bytes())?;
-    Ok(has_text(&value, prints) && has_magnitudes(&value, wanted) && value == other)
+    match read_both_ways::<UnsignedOver<D>>(alloc, text, prints)? {
+        Some(value) => Ok(has_magnitudes(&value, wanted)),
+        None => Ok(false),
+    }
 }
 
 /// Whether a text is read so over each store, and has the lowest magnitude where nothing but that is asked for.
-fn reads(alloc: Global, text: &str, row: (&str, Magnitudes)) -> Result<bool, Fail> {
-    Ok(
-        lowest_of(text.as_bytes()) == Ok(row.1.3)
-            && reads_over::<DecimalStore>(alloc, text, row)?
-            && reads_over::<DigitList>(alloc, text, row)?,
-    )
-}
-
-/// The same of texts in parts.
-fn reads_parts(alloc: Global, text: &str, prints: &str, wanted: Magnitudes) -> Result<bool, Fail> {
+fn reads(alloc: Global, (text, prints, wanted): Row) -> Result<bool, Fail> {
     let text = long(alloc, text)?;
     let prints = long(alloc, prints)?;
-    reads(alloc, text.as_str(), (prints.as_str(), wanted))
+    let row = (prints.as_str(), wanted);
+    Ok(
+        lowest_of(text.as_bytes()) == Ok(wanted.3)
+            && reads_over::<DecimalStore>(alloc, text.as_str(), row)?
+            && reads_over::<DigitList>(alloc, text.as_str(), row)?,
+    )
 }
 
 #[test]
 fn reads_texts(rt: HostRuntime) -> Result<(), Fail> {
-    for (text, prints, wanted) in READ {
-        assert!(rt; reads(rt.alloc(), text, (prints, *wanted))?, "{text}");
-    }
-    for (text, prints, wanted) in LONG_READ {
-        assert!(rt; reads_parts(rt.alloc(), text, prints, *wanted)?, "{text}");
+    for row in READ {
+        assert!(rt; reads(rt.alloc(), *row)?, "{}", row.0);
     }
     Ok(())
 }
@@ -122,7 +124,7 @@ const SHOWN: &[(&str, &[i16])] = &[
 
 /// Whether the value of a text shows these magnitudes, from the lowest up.
 fn shows_each(alloc: Global, text: &str, wanted: &[i16]) -> Result<bool, Fail> {
-    let mut range = read::<DecimalStore>(alloc, text)?.magnitude_range();
+    let mut range = read_over::<DecimalStore>(alloc, text)?.magnitude_range();
     for magnitude in wanted {
         if range.next() != Some(*magnitude) {
             return Ok(false);
@@ -203,10 +205,14 @@ const LONG_REFUSED: &[(&str, &str)] = &[
     ("1e 9*100000", "limit"),
 ];
 
-/// Whether a text and its bytes are refused so over a store.
+/// Whether a text and its bytes are refused so.
+fn refuses_both<T: Value>(alloc: Global, text: &str, word: &str) -> bool {
+    reading_word(T::read(alloc, text)) == word && reading_word(T::read_bytes(alloc, text)) == word
+}
+
+/// The same over a store.
 fn refuses_over<D: DigitStore>(alloc: Global, text: &str, word: &str) -> bool {
-    reading_word(UnsignedOver::<D>::try_from_str(alloc, text)) == word
-        && reading_word(UnsignedOver::<D>::try_from_utf8(alloc, text.as_bytes())) == word
+    refuses_both::<UnsignedOver<D>>(alloc, text, word)
 }
 
 /// Whether a text is refused so by each call that reads it, and where only its lowest magnitude is asked for.

@@ -1,37 +1,40 @@
 //! Calls that ask for no memory, over a store that counts the requests.
-use super::edits::{Call, ROWS, change, changed};
+use super::edits::{Call, Edited, ROWS, Row};
 use super::*;
-use decimal_doubles::{LimitedStore, MaxDigits};
+use decimal_doubles::{CountingStore, Counts, Join, Joins, LimitedStore, MaxDigits};
 
 /// A store that counts, with memory for every number.
 pub type Counting<D> = LimitedStore<D, MaxDigits>;
 
-/// Whether a call makes one text of another in place, and asks for nothing.
-fn changes_for_nothing<D: DigitStore>(
-    alloc: Global,
-    (text, call, becomes): (&str, Call, &str),
-) -> Result<bool, Fail> {
-    let mut value = read::<Counting<D>>(alloc, text)?;
-    value.store().restart();
-    let is_made = change(&mut value, call).is_ok();
-    Ok(is_made && value.store().asked_nothing() && has_text(&value, becomes))
+/// Whether a value has a text, and has asked for nothing since it was counted.
+fn has_for_nothing<T: Value + Counts>(value: &T, text: &str) -> bool {
+    value.counted().asked_nothing() && has_text(value, text)
 }
 
-/// Whether a call makes one text of another by value, and asks for nothing.
-fn is_changed_for_nothing<D: DigitStore>(
+/// The value of a text, counted from now on.
+fn counted<T: Value + Counts>(alloc: Global, text: &str) -> Result<T, Fail> {
+    let value = read::<T>(alloc, text)?;
+    value.counted().restart();
+    Ok(value)
+}
+
+/// Whether a call makes one text of another in place and by value, and asks for nothing.
+fn changes_for_nothing<T: Value + Edited + Counts>(
     alloc: Global,
-    (text, call, becomes): (&str, Call, &str),
+    (text, call, becomes): Row<'_>,
 ) -> Result<bool, Fail> {
-    let value = read::<Counting<D>>(alloc, text)?;
-    value.store().restart();
-    match changed(value, call) {
-        Ok(value) => Ok(value.store().asked_nothing() && has_text(&value, becomes)),
+    let mut value = counted::<T>(alloc, text)?;
+    if value.change(call).is_err() || !has_for_nothing(&value, becomes) {
+        return Ok(false);
+    }
+    match counted::<T>(alloc, text)?.changed(call) {
+        Ok(value) => Ok(has_for_nothing(&value, becomes)),
         Err(_) => Ok(false),
     }
 }
 
 /// Edits of texts of more digits than any store holds without memory.
-const LONG_EDITS: &[(&str, Call, &str)] = &[
+const LONG_EDITS: &[Row<'static>] = &[
     (
         "12345678901234567890.1",
         Call::Shift(-2),
@@ -65,33 +68,30 @@ const LONG_EDITS: &[(&str, Call, &str)] = &[
     ("12345678901234567890", Call::Max(18), "345678901234567890"),
 ];
 
-/// Whether an edit asks for nothing, over each store, in place and by value.
-fn edits_for_nothing(alloc: Global, row: (&str, Call, &str)) -> Result<bool, Fail> {
+/// Whether an edit asks for nothing over a store.
+fn edits_over<S: CountingStore>(alloc: Global, row: Row<'_>) -> Result<bool, Fail> {
+    changes_for_nothing::<UnsignedOver<S>>(alloc, row)
+}
+
+/// The same over each store.
+fn edits_for_nothing(alloc: Global, row: Row<'_>) -> Result<bool, Fail> {
     Ok(
-        changes_for_nothing::<DecimalStore>(alloc, row)?
-            && changes_for_nothing::<DigitList>(alloc, row)?
-            && is_changed_for_nothing::<DecimalStore>(alloc, row)?
-            && is_changed_for_nothing::<DigitList>(alloc, row)?,
+        edits_over::<Counting<DecimalStore>>(alloc, row)?
+            && edits_over::<Counting<DigitList>>(alloc, row)?,
     )
 }
 
 #[test]
 fn edits_ask_for_nothing(rt: HostRuntime) -> Result<(), Fail> {
-    for row in ROWS {
-        assert!(rt;
-            edits_for_nothing(rt.alloc(), *row)?,
-            "{} to {}",
-            row.0,
-            row.2
-        );
-    }
-    for row in LONG_EDITS {
-        assert!(rt;
-            edits_for_nothing(rt.alloc(), *row)?,
-            "{} to {}",
-            row.0,
-            row.2
-        );
+    for rows in [ROWS, LONG_EDITS] {
+        for row in rows {
+            assert!(rt;
+                edits_for_nothing(rt.alloc(), *row)?,
+                "{} to {}",
+                row.0,
+                row.2
+            );
+        }
     }
     Ok(())
 }
@@ -105,29 +105,32 @@ const PAIRS: &[(&str, &str, bool)] = &[
 ];
 
 /// Whether the values of two texts are equal as they are to be, and asking it asks for nothing.
-fn equal_for_nothing<D: DigitStore>(
+fn equal_for_nothing<T: Value + Counts>(
     alloc: Global,
     (left, right, same): (&str, &str, bool),
 ) -> Result<bool, Fail> {
-    let left = read::<Counting<D>>(alloc, left)?;
-    let right = read::<Counting<D>>(alloc, right)?;
-    left.store().restart();
-    right.store().restart();
-    let is_right = (left == right) == same;
-    Ok(is_right && left.store().asked_nothing() && right.store().asked_nothing())
+    let left = counted::<T>(alloc, left)?;
+    let right = counted::<T>(alloc, right)?;
+    let is_right = left.equals(&right) == same;
+    Ok(is_right && left.counted().asked_nothing() && right.counted().asked_nothing())
+}
+
+/// The same over a store.
+fn equal_over<S: CountingStore>(alloc: Global, row: (&str, &str, bool)) -> Result<bool, Fail> {
+    equal_for_nothing::<UnsignedOver<S>>(alloc, row)
 }
 
 #[test]
 fn equality_asks_for_nothing(rt: HostRuntime) -> Result<(), Fail> {
     for row in PAIRS {
         assert!(rt;
-            equal_for_nothing::<DecimalStore>(rt.alloc(), *row)?,
+            equal_over::<Counting<DecimalStore>>(rt.alloc(), *row)?,
             "{}, {}",
             row.0,
             row.1
         );
         assert!(rt;
-            equal_for_nothing::<DigitList>(rt.alloc(), *row)?,
+            equal_over::<Counting<DigitList>>(rt.alloc(), *row)?,
             "{}, {}",
             row.0,
             row.1
@@ -136,47 +139,42 @@ fn equality_asks_for_nothing(rt: HostRuntime) -> Result<(), Fail> {
     Ok(())
 }
 
-/// Whether 0, as it is made, has asked for nothing.
-fn zero_for_nothing<D: DigitStore>(alloc: Global) -> bool {
-    UnsignedOver::<Counting<D>>::zero(alloc).store().requests() == 0
-}
-
-/// Whether the number of a text is moved into 0 in place: its very list, which asks for nothing.
-fn moves_into_zero<D: DigitStore>(alloc: Global, text: &str) -> Result<bool, Fail> {
-    let mut value = UnsignedOver::<Counting<D>>::zero(alloc);
-    let other = read::<Counting<D>>(alloc, text)?;
-    other.store().restart();
-    let is_joined = value.concatenate_end(other).is_ok();
-    Ok(is_joined && value.store().asked_nothing() && has_text(&value, text))
-}
-
-/// Whether the number of a text stays as it is where 0 is joined to it, and asks for nothing.
-fn takes_zero<D: DigitStore>(alloc: Global, text: &str) -> Result<bool, Fail> {
-    let value = read::<Counting<D>>(alloc, text)?;
-    value.store().restart();
-    match value.concatenated_end(UnsignedOver::<Counting<D>>::zero(alloc)) {
-        Ok(value) => Ok(value.store().asked_nothing() && has_text(&value, text)),
-        Err(_) => Ok(false),
+/// Whether the number of a text is moved into 0, its very list, and stays as it is where 0 is joined to it. Neither 0
+/// nor the joins ask for anything.
+fn joins_zero_for_nothing<T: Value + Joins + Counts>(
+    alloc: Global,
+    (zero, other_zero): (T, T),
+    text: &str,
+) -> Result<bool, Fail> {
+    let is_made = zero.counted().requests() == 0 && other_zero.counted().requests() == 0;
+    let moved = zero.joined_by(counted(alloc, text)?, Join::InPlace);
+    let taken = counted::<T>(alloc, text)?.joined_by(other_zero, Join::ByValue);
+    match (moved, taken) {
+        (Ok(moved), Ok(taken)) => {
+            Ok(is_made && has_for_nothing(&moved, text) && has_for_nothing(&taken, text))
+        }
+        _ => Ok(false),
     }
 }
 
 /// Whether zeros ask for nothing, over a store.
-fn zeros_for_nothing<D: DigitStore>(alloc: Global, text: &str) -> Result<bool, Fail> {
-    Ok(
-        zero_for_nothing::<D>(alloc)
-            && moves_into_zero::<D>(alloc, text)?
-            && takes_zero::<D>(alloc, text)?,
-    )
+fn zeros_for_nothing<S: CountingStore>(alloc: Global, text: &str) -> Result<bool, Fail> {
+    let zero = UnsignedOver::<S>::zero(alloc);
+    let other = UnsignedOver::<S>::zero(alloc);
+    joins_zero_for_nothing(alloc, (zero, other), text)
 }
 
 #[test]
 fn zeros_ask_for_nothing(rt: HostRuntime) -> Result<(), Fail> {
     for text in ["7", "12345678901234567890.5"] {
         assert!(rt;
-            zeros_for_nothing::<DecimalStore>(rt.alloc(), text)?,
+            zeros_for_nothing::<Counting<DecimalStore>>(rt.alloc(), text)?,
             "{text}"
         );
-        assert!(rt; zeros_for_nothing::<DigitList>(rt.alloc(), text)?, "{text}");
+        assert!(rt;
+            zeros_for_nothing::<Counting<DigitList>>(rt.alloc(), text)?,
+            "{text}"
+        );
     }
     Ok(())
 }

@@ -1,6 +1,5 @@
 //! Roundings by each mode and each increment.
 use super::*;
-use decimal_digits::digits::Steps;
 use decimal_digits::rounding::RoundingIncrement::{
     MultiplesOf1 as By1, MultiplesOf2 as By2, MultiplesOf5 as By5, MultiplesOf25 as By25,
 };
@@ -8,152 +7,20 @@ use decimal_digits::rounding::UnsignedRoundingMode::{
     Expand, HalfEven, HalfExpand, HalfTrunc, Trunc,
 };
 use decimal_digits::rounding::{RoundError, RoundingIncrement, UnsignedRoundingMode};
+use decimal_doubles::{Rounds, Way, rounds_each_way};
 
 /// A position, a mode and an increment.
-pub type Rounding = (i16, UnsignedRoundingMode, RoundingIncrement);
+pub type Rounding = decimal_doubles::Rounding<UnsignedRoundingMode>;
 
-/// A rounding call.
-#[derive(Clone, Copy)]
-pub enum Way {
-    Counted,
-    ByIncrement,
-    ByIncrementOnValue,
-    ByMode,
-    ByModeOnValue,
-    ByName,
-    ByNameOnValue,
-}
-
-/// The calls that make a rounding.
-pub fn ways(increment: RoundingIncrement) -> &'static [Way] {
-    if increment != By1 {
-        return &[Way::Counted, Way::ByIncrement, Way::ByIncrementOnValue];
-    }
-    &[
-        Way::Counted,
-        Way::ByIncrement,
-        Way::ByIncrementOnValue,
-        Way::ByMode,
-        Way::ByModeOnValue,
-        Way::ByName,
-        Way::ByNameOnValue,
-    ]
-}
-
-/// The rounded value, or the one that a refusal leaves, and why.
-pub type Left<D> = Result<UnsignedOver<D>, (UnsignedOver<D>, RoundError)>;
-
-/// Rounds by the call that bears the mode's name, where there is one.
-fn round_by_name<D: DigitStore>(
-    value: &mut UnsignedOver<D>,
-    position: i16,
-    mode: UnsignedRoundingMode,
-) -> Result<(), LimitError> {
-    match mode {
-        Expand => value.expand(position),
-        Trunc => {
-            value.trunc(position);
-            Ok(())
-        }
-        HalfEven => value.round(position),
-        HalfExpand | HalfTrunc => value.round_with_mode(position, mode),
-    }
-}
-
-/// The same on a value.
-fn rounded_by_name<D: DigitStore>(
-    value: UnsignedOver<D>,
-    position: i16,
-    mode: UnsignedRoundingMode,
-) -> Result<UnsignedOver<D>, UnsignedOver<D>> {
-    match mode {
-        Expand => value.expanded(position),
-        Trunc => Ok(value.trunced(position)),
-        HalfEven => value.rounded(position),
-        HalfExpand | HalfTrunc => value.rounded_with_mode(position, mode),
-    }
-}
-
-/// The answer of a call that may be refused for the limit alone.
-fn limited<T>(answer: Result<T, LimitError>) -> Result<T, RoundError> {
-    match answer {
-        Ok(value) => Ok(value),
-        Err(LimitError) => Err(RoundError::Limit),
-    }
-}
-
-/// The same of a call on a value.
-fn limited_on_value<D: DigitStore>(answer: Result<UnsignedOver<D>, UnsignedOver<D>>) -> Left<D> {
-    match answer {
-        Ok(value) => Ok(value),
-        Err(value) => Err((value, RoundError::Limit)),
-    }
-}
-
-/// Rounds in place, by the call that a way names, or by increment.
-fn round<D: DigitStore>(
-    value: &mut UnsignedOver<D>,
-    way: Way,
-    (position, mode, increment): Rounding,
-) -> Result<(), RoundError> {
-    match way {
-        Way::Counted => value.round_counted(position, mode, increment, &mut Steps::new()),
-        Way::ByMode => limited(value.round_with_mode(position, mode)),
-        Way::ByName => limited(round_by_name(value, position, mode)),
-        _ => value.round_with_mode_and_increment(position, mode, increment),
-    }
-}
-
-/// Rounds in place a value that is given back.
-fn left_in_place<D: DigitStore>(value: UnsignedOver<D>, way: Way, rounding: Rounding) -> Left<D> {
-    let mut value = value;
-    match round(&mut value, way, rounding) {
-        Ok(()) => Ok(value),
-        Err(error) => Err((value, error)),
-    }
-}
-
-/// Makes a rounding call.
-pub fn rounded<D: DigitStore>(value: UnsignedOver<D>, way: Way, rounding: Rounding) -> Left<D> {
-    let (position, mode, increment) = rounding;
-    match way {
-        Way::ByIncrementOnValue => {
-            value.rounded_with_mode_and_increment(position, mode, increment)
-        }
-        Way::ByModeOnValue => limited_on_value(value.rounded_with_mode(position, mode)),
-        Way::ByNameOnValue => limited_on_value(rounded_by_name(value, position, mode)),
-        _ => left_in_place(value, way, rounding),
-    }
-}
-
-/// Whether a call makes another text of a value with this text; `!` where it is refused for the limit, and leaves it.
-fn rounds_by<D: DigitStore>(
-    (value, text): (&UnsignedOver<D>, &str),
-    way: Way,
-    rounding: Rounding,
-    wanted: &str,
-) -> Result<bool, Fail> {
-    match rounded(value.clone()?, way, rounding) {
-        Ok(value) => Ok(has_text(&value, wanted)),
-        Err((left, RoundError::Limit)) => Ok(wanted == "!" && has_text(&left, text)),
-        Err((left, RoundError::Memory)) => wants_memory(has_text(&left, text)),
-    }
-}
-
-/// Whether each call that makes the rounding makes one text of another over a store.
+/// Whether each call that makes the rounding makes one text of another over a store; `!` where it is refused for the
+/// limit, and leaves the text.
 fn rounds_over<D: DigitStore>(
     alloc: Global,
     text: &str,
     rounding: Rounding,
     wanted: &str,
 ) -> Result<bool, Fail> {
-    let value = read::<D>(alloc, text)?;
-    for way in ways(rounding.2) {
-        if !rounds_by((&value, text), *way, rounding, wanted)? {
-            return Ok(false);
-        }
-    }
-    Ok(true)
+    Ok(rounds_each_way(&read_over::<D>(alloc, text)?, text, rounding, wanted)?)
 }
 
 /// The same over each store.
@@ -475,9 +342,9 @@ const AFTER_REFUSALS: &[AfterRefusals] = &[
 ];
 
 /// Whether each of these roundings is refused for the limit, on the value that the one before it left.
-fn are_refused<D: DigitStore>(value: &mut UnsignedOver<D>, roundings: &[Rounding]) -> bool {
+fn are_refused<T: Rounds<UnsignedRoundingMode>>(value: &mut T, roundings: &[Rounding]) -> bool {
     for rounding in roundings {
-        if round(value, Way::ByIncrement, *rounding) != Err(RoundError::Limit) {
+        if value.round_by(Way::ByIncrement, *rounding) != Err(RoundError::Limit) {
             return false;
         }
     }
@@ -491,10 +358,10 @@ fn rounds_after<D: DigitStore>(
     (refused, rounding): (&[Rounding], Rounding),
     wanted: &str,
 ) -> Result<bool, Fail> {
-    let mut value = read::<D>(alloc, text)?;
+    let mut value = read_over::<D>(alloc, text)?;
     Ok(
         are_refused(&mut value, refused)
-            && round(&mut value, Way::ByIncrement, rounding).is_ok()
+            && value.round_by(Way::ByIncrement, rounding).is_ok()
             && has_text(&value, wanted),
     )
 }

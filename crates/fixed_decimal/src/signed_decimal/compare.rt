@@ -1,6 +1,7 @@
 //! The order of two decimals, by their numbers.
 ghost use Rattle.std.specs.Prelude.{◌≡◌};
 ghost use Rattle.std.specs.Ordering.{int_cmp};
+ghost use Rattle.decimal_unsigned.specs.Unsigned.{IsValue};
 ghost use Rattle.fixed_decimal.specs.Decimal.{signed_number};
 
 use crate::variations::{Sign, Signed};
@@ -15,7 +16,8 @@ impl<D: DigitStore> Signed<UnsignedOver<D>> {
     /// have to tell apart what `==` tells apart: two decimals are equal where their texts are. It asks for no memory.
     /// Not in the original.
     pub fn compare<E: DigitStore>(&self, other: &Signed<UnsignedOver<E>>) -> Ordering
-        ensures { result ≡ int_cmp (signed_number self.now) (signed_number other.now) }
+        ensures order { result ≡ int_cmp (signed_number self.now) (signed_number other.now) }
+        ensures valid { IsValue self.now.absolute × IsValue other.now.absolute }
     {
         let is_zero = self.absolute.is_zero();
         let other_is_zero = other.absolute.is_zero();

@@ -1,5 +1,6 @@
 //! Integers of decimals.
 ghost use Rattle.std.specs.Prelude.{◌≡◌, ◌^◌, ◌<◌, ◌≤◌, pos, neg_ℤ};
+ghost use Rattle.decimal_unsigned.specs.Unsigned.{IsValue};
 ghost use Rattle.fixed_decimal.specs.ToInteger.{signed_in_range, as_unsigned, as_signed};
 
 use crate::variations::{Sign, Signed};
@@ -40,7 +41,8 @@ impl<D: DigitStore> Signed<UnsignedOver<D>> {
     /// else `OutOfRange` where the number is below 0, or 2 to the 64 or more. It asks for no memory. Not in the
     /// original.
     pub fn try_to_u64(&self) -> Result<u64, IntegerError>
-        ensures { result ≡ as_unsigned (2 ^ 64) self.now }
+        ensures value { result ≡ as_unsigned (2 ^ 64) self.now }
+        ensures valid { IsValue self.now.absolute }
     {
         let integer = self.absolute.try_to_u64()?;
         match self.sign {
@@ -55,7 +57,8 @@ impl<D: DigitStore> Signed<UnsignedOver<D>> {
     /// else `OutOfRange` where the number is below 0, or 2 to the 128 or more. It asks for no memory. Not in the
     /// original.
     pub fn try_to_u128(&self) -> Result<u128, IntegerError>
-        ensures { result ≡ as_unsigned (2 ^ 128) self.now }
+        ensures value { result ≡ as_unsigned (2 ^ 128) self.now }
+        ensures valid { IsValue self.now.absolute }
     {
         let integer = self.absolute.try_to_u128()?;
         match self.sign {
@@ -70,7 +73,8 @@ impl<D: DigitStore> Signed<UnsignedOver<D>> {
     /// else `OutOfRange` where the number is below -2 to the 63, or 2 to the 63 or more. It asks for no memory. Not in
     /// the original.
     pub fn try_to_i64(&self) -> Result<i64, IntegerError>
-        ensures { result ≡ as_signed (2 ^ 63) self.now }
+        ensures value { result ≡ as_signed (2 ^ 63) self.now }
+        ensures valid { IsValue self.now.absolute }
     {
         let absolute = self.absolute.try_to_u128()?;
         let integer = match self.sign {
@@ -86,7 +90,8 @@ impl<D: DigitStore> Signed<UnsignedOver<D>> {
     /// else `OutOfRange` where the number is below -2 to the 127, or 2 to the 127 or more. It asks for no memory. Not
     /// in the original.
     pub fn try_to_i128(&self) -> Result<i128, IntegerError>
-        ensures { result ≡ as_signed (2 ^ 127) self.now }
+        ensures value { result ≡ as_signed (2 ^ 127) self.now }
+        ensures valid { IsValue self.now.absolute }
     {
         let absolute = self.absolute.try_to_u128()?;
         match self.sign {

@@ -1,5 +1,5 @@
 //! Compact decimals: what is read, printed, joined, taken apart, copied and refused.
-use super::values::{assert_compares, assert_refuses, assert_refuses_long, is_long, reads};
+use super::values::{Kind, assert_compares, assert_refuses, assert_refuses_long, is_long, reads};
 use super::*;
 use fixed_decimal::CompactDecimal;
 
@@ -68,7 +68,7 @@ fn has_exponent(alloc: Global, text: &str, exponent: u8) -> Result<bool, Fail> {
 #[test]
 fn reads_texts(rt: HostRuntime) -> Result<(), Fail> {
     for (text, exponent) in TEXTS {
-        assert!(rt; reads::<CompactDecimal>(rt.alloc(), text, text), "{text}");
+        assert!(rt; reads(rt.alloc(), Kind::Compact, text, text), "{text}");
         assert!(rt; has_exponent(rt.alloc(), text, *exponent)?, "{text}");
     }
     Ok(())
@@ -76,18 +76,18 @@ fn reads_texts(rt: HostRuntime) -> Result<(), Fail> {
 
 #[test]
 fn refuses(rt: HostRuntime) -> Result<(), Fail> {
-    assert_refuses::<CompactDecimal>(&rt, rt.alloc(), FAULTS);
-    assert_refuses_long::<CompactDecimal>(&rt, rt.alloc(), LONG_FAULTS)
+    assert_refuses(&rt, rt.alloc(), Kind::Compact, FAULTS);
+    assert_refuses_long(&rt, rt.alloc(), Kind::Compact, LONG_FAULTS)
 }
 
 #[test]
 fn compares(rt: HostRuntime) -> Result<(), Fail> {
-    assert_compares::<CompactDecimal>(&rt, rt.alloc(), PAIRS)
+    assert_compares(&rt, rt.alloc(), Kind::Compact, PAIRS)
 }
 
 #[test]
 fn reads_the_longest(rt: HostRuntime) -> Result<(), Fail> {
-    assert!(rt; is_long::<CompactDecimal>(rt.alloc(), LONGEST, 65_542)?);
+    assert!(rt; is_long(rt.alloc(), Kind::Compact, LONGEST, 65_542)?);
     Ok(())
 }
 

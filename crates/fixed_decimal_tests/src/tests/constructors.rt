@@ -1,6 +1,6 @@
 //! Decimals and fixed integers of integers, at both ends of their types, and decimals of parts.
 use super::*;
-use fixed_decimal::{FixedInteger, Sign, UnsignedDecimal};
+use fixed_decimal::{DigitStore, FixedInteger, PackedDigits, Sign, Signed, UnsignedOver};
 use std::alloc::AllocError;
 
 /// An integer, by its type.
@@ -58,20 +58,23 @@ const INTEGERS: &[(Integer, &str)] = &[
 ];
 
 /// The decimal of an integer.
-fn decimal(alloc: Global, integer: Integer) -> Result<Decimal, AllocError> {
+fn decimal<D: DigitStore>(
+    alloc: Global,
+    integer: Integer,
+) -> Result<Signed<UnsignedOver<D>>, AllocError> {
     match integer {
-        Integer::U8(integer) => Ok(Decimal::from_u8(alloc, integer)),
-        Integer::I8(integer) => Ok(Decimal::from_i8(alloc, integer)),
-        Integer::U16(integer) => Ok(Decimal::from_u16(alloc, integer)),
-        Integer::I16(integer) => Ok(Decimal::from_i16(alloc, integer)),
-        Integer::U32(integer) => Decimal::try_from_u32(alloc, integer),
-        Integer::I32(integer) => Decimal::try_from_i32(alloc, integer),
-        Integer::U64(integer) => Decimal::try_from_u64(alloc, integer),
-        Integer::I64(integer) => Decimal::try_from_i64(alloc, integer),
-        Integer::U128(integer) => Decimal::try_from_u128(alloc, integer),
-        Integer::I128(integer) => Decimal::try_from_i128(alloc, integer),
-        Integer::Usize(integer) => Decimal::try_from_usize(alloc, integer),
-        Integer::Isize(integer) => Decimal::try_from_isize(alloc, integer),
+        Integer::U8(integer) => Ok(Signed::<UnsignedOver<D>>::from_u8(alloc, integer)),
+        Integer::I8(integer) => Ok(Signed::<UnsignedOver<D>>::from_i8(alloc, integer)),
+        Integer::U16(integer) => Ok(Signed::<UnsignedOver<D>>::from_u16(alloc, integer)),
+        Integer::I16(integer) => Ok(Signed::<UnsignedOver<D>>::from_i16(alloc, integer)),
+        Integer::U32(integer) => Signed::<UnsignedOver<D>>::try_from_u32(alloc, integer),
+        Integer::I32(integer) => Signed::<UnsignedOver<D>>::try_from_i32(alloc, integer),
+        Integer::U64(integer) => Signed::<UnsignedOver<D>>::try_from_u64(alloc, integer),
+        Integer::I64(integer) => Signed::<UnsignedOver<D>>::try_from_i64(alloc, integer),
+        Integer::U128(integer) => Signed::<UnsignedOver<D>>::try_from_u128(alloc, integer),
+        Integer::I128(integer) => Signed::<UnsignedOver<D>>::try_from_i128(alloc, integer),
+        Integer::Usize(integer) => Signed::<UnsignedOver<D>>::try_from_usize(alloc, integer),
+        Integer::Isize(integer) => Signed::<UnsignedOver<D>>::try_from_isize(alloc, integer),
     }
 }
 
@@ -94,16 +97,20 @@ fn fixed(alloc: Global, integer: Integer) -> Result<FixedInteger, AllocError> {
 }
 
 /// Whether the decimal of an integer has its text. It is asked for again where memory was refused.
-fn makes_decimal(alloc: Global, integer: Integer, text: &str) -> Result<bool, Fail> {
-    let answer = match decimal(alloc, integer) {
-        Err(AllocError) => decimal(alloc, integer),
+fn makes_decimal<D: DigitStore>(
+    alloc: Global,
+    integer: Integer,
+    text: &str,
+) -> Result<bool, AllocError> {
+    let answer = match decimal::<D>(alloc, integer) {
+        Err(AllocError) => decimal::<D>(alloc, integer),
         made => made,
     };
     Ok(shows(&answer?, text.as_bytes()))
 }
 
 /// Whether the fixed integer of an integer has its text. It is asked for again where memory was refused.
-fn makes_fixed(alloc: Global, integer: Integer, text: &str) -> Result<bool, Fail> {
+fn makes_fixed(alloc: Global, integer: Integer, text: &str) -> Result<bool, AllocError> {
     let answer = match fixed(alloc, integer) {
         Err(AllocError) => fixed(alloc, integer),
         made => made,
@@ -112,17 +119,26 @@ fn makes_fixed(alloc: Global, integer: Integer, text: &str) -> Result<bool, Fail
 }
 
 /// Whether the decimal of a sign and an absolute value has this text.
-fn makes_parts(alloc: Global, sign: Sign, absolute: u8, text: &str) -> bool {
-    let absolute = UnsignedDecimal::from_u8(alloc, absolute);
-    prints(Decimal::new(sign, absolute), text)
+fn makes_parts<D: DigitStore>(alloc: Global, (sign, absolute): (Sign, u8), text: &str) -> bool {
+    let absolute = UnsignedOver::<D>::from_u8(alloc, absolute);
+    prints(Signed::<UnsignedOver<D>>::new(sign, absolute), text)
 }
+
+/// Whether the decimal 0 has its text.
+fn makes_zero<D: DigitStore>(alloc: Global) -> bool {
+    prints(Signed::<UnsignedOver<D>>::zero(alloc), "0")
+}
+
+/// Signs and absolute values, and the texts of their decimals.
+const PARTS: &[((Sign, u8), &str)] = &[((Sign::Negative, 250), "-250"), ((Sign::None, 0), "0")];
 
 #[test]
 fn of_integers(rt: HostRuntime) -> Result<(), Fail> {
     let alloc = rt.alloc();
     for (integer, text) in INTEGERS {
-        assert!(rt; makes_decimal(alloc, *integer, text)?, "{text}");
-        assert!(rt; makes_fixed(alloc, *integer, text)?, "{text}");
+        let holds = makes_decimal::<PackedDigits>(alloc, *integer, text)?
+            && makes_fixed(alloc, *integer, text)?;
+        assert!(rt; holds, "{text}");
     }
     Ok(())
 }
@@ -130,8 +146,9 @@ fn of_integers(rt: HostRuntime) -> Result<(), Fail> {
 #[test]
 fn of_parts(rt: HostRuntime) {
     let alloc = rt.alloc();
-    assert!(rt; makes_parts(alloc, Sign::Negative, 250, "-250"));
-    assert!(rt; makes_parts(alloc, Sign::None, 0, "0"));
-    assert!(rt; prints(Decimal::zero(alloc), "0"));
+    for (parts, text) in PARTS {
+        assert!(rt; makes_parts::<PackedDigits>(alloc, *parts, text), "{text}");
+    }
+    assert!(rt; makes_zero::<PackedDigits>(alloc));
     assert!(rt; prints(FixedInteger::zero(alloc), "0"));
 }

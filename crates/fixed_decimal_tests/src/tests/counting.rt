@@ -1,16 +1,18 @@
 //! How many digits the roundings touch, and how often they ask for memory, over a store that counts.
-use super::rounding::{MODES, NINE_MODES, Rounding, Way, read_over, rounded, ways};
+use super::rounding::{MODES, NINE_MODES, Rounding};
 use super::*;
-use decimal_doubles::{LimitedStore, MaxDigits};
+use decimal_doubles::{
+    CountingStore, Counts, LimitedStore, MaxDigits, Rounds, Way, all_stay_within, rounded,
+};
 use fixed_decimal::RoundingIncrement::{
     MultiplesOf1 as By1, MultiplesOf2 as By2, MultiplesOf5 as By5, MultiplesOf25 as By25,
 };
-use fixed_decimal::SignedRoundingMode::Unsigned;
+use fixed_decimal::SignedRoundingMode::{self, Unsigned};
 use fixed_decimal::UnsignedRoundingMode::{Expand, HalfEven, HalfExpand, HalfTrunc, Trunc};
-use fixed_decimal::{DigitList, DigitStore, PackedDigits, RoundError};
+use fixed_decimal::{DigitList, PackedDigits, RoundError, Signed, UnsignedOver};
 
 /// A store with memory for every number, which counts.
-pub type CountingStore<D> = LimitedStore<D, MaxDigits>;
+pub type Counting<D> = LimitedStore<D, MaxDigits>;
 
 /// Texts and roundings by each increment, at the ends of the range too.
 const ROWS: &[(&str, Rounding)] = &[
@@ -67,26 +69,35 @@ const ROWS: &[(&str, Rounding)] = &[
     ("00000", (2, Unsigned(HalfEven), By2)),
 ];
 
-/// A number, a rounding, and how many digits it touches: at most one below the position, the two above it, those
-/// that vanish and one more, and those that are written.
+/// A number, a rounding, and how many digits it touches: at most one below the position, the one above it (by 1) or the
+/// two (by 2, 5 and 25), those that vanish and one more, and those that are written.
 const TURNS: &[(&str, Rounding, usize)] = &[
-    // Nothing changes: the last two are read.
-    ("1234567", (0, Unsigned(Expand), By1), 2),
+    // Nothing follows the position: by 1 none is read, by 5 the last two.
+    ("1234567", (0, Unsigned(Expand), By1), 0),
+    ("1234565", (0, Unsigned(Expand), By5), 2),
     ("12", (-5, Unsigned(Expand), By1), 0),
-    // Digits go: 6, 5 and 4 are read.
-    ("1234567", (2, Unsigned(Trunc), By1), 3),
-    // Zeros go too: 6, 0 and 0 are read, and then 0, 0 and 3.
-    ("1230067", (2, Unsigned(Trunc), By1), 6),
+    // Digits go: 6 and 5 are read, and by 5 the 4 too.
+    ("1234567", (2, Unsigned(Trunc), By1), 2),
+    ("1234567", (2, Unsigned(Trunc), By5), 3),
+    // Zeros go too: 6 and 0 are read, by 5 one more, and then 0, 0 and 3.
+    ("1230067", (2, Unsigned(Trunc), By1), 5),
+    ("1230067", (2, Unsigned(Trunc), By5), 6),
     ("1230024", (0, Unsigned(Trunc), By25), 5),
-    // 45 becomes 46: both are written, and 6 alone where it follows nothing that is kept.
-    ("1234567", (2, Unsigned(Expand), By1), 5),
-    ("1267", (2, Unsigned(Expand), By1), 5),
+    // 45 becomes 46: by 1 the 6 is written, by 2 both are.
+    ("1234567", (2, Unsigned(Expand), By1), 3),
+    ("1234567", (2, Unsigned(Expand), By2), 5),
+    // The same of all digits that are kept: 12 becomes 13, and by 2 14.
+    ("1267", (2, Unsigned(Expand), By1), 3),
+    ("1267", (2, Unsigned(Expand), By2), 5),
     // 68 becomes 70: the 7 is written.
     ("1234568", (0, Unsigned(Expand), By5), 3),
-    // A carry: 9 and 2 are read behind the 99, the 2 once more, and a 3 is written.
-    ("1299967", (2, Unsigned(Expand), By1), 7),
-    // A carry through nines alone: three more are read, and a 1 is written.
-    ("9999967", (2, Unsigned(Expand), By1), 7),
+    // A carry: by 1 the 999 and the 2 are read behind the 9, by 2 a 9 and the 2 behind the 99; the 2 once more, and a
+    // 3 is written.
+    ("1299967", (2, Unsigned(Expand), By1), 8),
+    ("1299967", (2, Unsigned(Expand), By2), 7),
+    // A carry through nines alone: by 1 all five are read, by 2 three more, and a 1 is written.
+    ("9999967", (2, Unsigned(Expand), By1), 8),
+    ("9999967", (2, Unsigned(Expand), By2), 7),
     // One digit more: 8 is read, 7 and 5 are written.
     ("12345678", (-1, Unsigned(Trunc), By25), 3),
     // A position above all digits: a 1 is written.
@@ -96,56 +107,31 @@ const TURNS: &[(&str, Rounding, usize)] = &[
     ("999e32765", (32765, Unsigned(Expand), By2), 3),
 ];
 
-/// Whether a store that held so many digits, and that a rounding left with so many, was touched within the bound: at
-/// most seven digits more, touched and left together, and one request for memory by 25 alone.
-fn is_within<D: DigitStore>(
-    store: &CountingStore<D>,
-    (held, left): (usize, usize),
-    rounding: Rounding,
-) -> bool {
-    let requests = if rounding.2 == By25 { 1 } else { 0 };
-    match store.touched() {
-        Some(touched) => {
-            touched.saturating_add(left) <= held.saturating_add(7) && store.requests() <= requests
-        }
-        None => false,
-    }
-}
-
-/// Whether a call stays within the bound, where a refused one may touch all digits.
-fn stays_within<D: DigitStore>(
+/// Whether each call that makes a rounding stays within the bound over a store.
+fn stays_within_over<S: CountingStore>(
     alloc: Global,
     text: &str,
-    way: Way,
     rounding: Rounding,
 ) -> Result<bool, Fail> {
-    let value = read_over::<CountingStore<D>>(alloc, text)?;
-    let held = value.store().len();
-    value.store().restart();
-    match rounded(value, way, rounding) {
-        Ok(made) => Ok(is_within(made.store(), (held, made.store().len()), rounding)),
-        Err((left, RoundError::Limit)) => Ok(is_within(left.store(), (held, 0), rounding)),
-        Err((_, RoundError::Memory)) => Err(Fail::new("memory was refused")),
-    }
+    Ok(all_stay_within(
+        &Signed::<UnsignedOver<S>>::try_from_str(alloc, text)?,
+        rounding,
+    )?)
 }
 
-/// Whether each call that makes the rounding stays within its bound, over each store.
-fn all_stay_within(alloc: Global, text: &str, rounding: Rounding) -> Result<bool, Fail> {
-    for way in ways(rounding.2) {
-        if !stays_within::<DigitList>(alloc, text, *way, rounding)? {
-            return Ok(false);
-        }
-        if !stays_within::<PackedDigits>(alloc, text, *way, rounding)? {
-            return Ok(false);
-        }
-    }
-    Ok(true)
+/// The same of a text in parts, over each store.
+fn stays_within(alloc: Global, parts: &str, rounding: Rounding) -> Result<bool, Fail> {
+    let text = long(alloc, parts)?;
+    Ok(
+        stays_within_over::<Counting<DigitList>>(alloc, text.as_str(), rounding)?
+            && stays_within_over::<Counting<PackedDigits>>(alloc, text.as_str(), rounding)?,
+    )
 }
 
 /// The same by each mode to multiples of 1.
-fn modes_stay_within(alloc: Global, text: &str, position: i16) -> Result<bool, Fail> {
+fn stays_within_by_modes(alloc: Global, parts: &str, position: i16) -> Result<bool, Fail> {
     for mode in MODES {
-        if !all_stay_within(alloc, text, (position, mode, By1))? {
+        if !stays_within(alloc, parts, (position, mode, By1))? {
             return Ok(false);
         }
     }
@@ -155,7 +141,7 @@ fn modes_stay_within(alloc: Global, text: &str, position: i16) -> Result<bool, F
 #[test]
 fn stays_within_by_each_mode(rt: HostRuntime) -> Result<(), Fail> {
     for (text, _) in NINE_MODES {
-        assert!(rt; modes_stay_within(rt.alloc(), text, 0)?, "{text}");
+        assert!(rt; stays_within_by_modes(rt.alloc(), text, 0)?, "{text}");
     }
     Ok(())
 }
@@ -164,7 +150,7 @@ fn stays_within_by_each_mode(rt: HostRuntime) -> Result<(), Fail> {
 fn stays_within_by_each_increment(rt: HostRuntime) -> Result<(), Fail> {
     for (text, rounding) in ROWS {
         assert!(rt;
-            all_stay_within(rt.alloc(), text, *rounding)?,
+            stays_within(rt.alloc(), text, *rounding)?,
             "{text} at {}",
             rounding.0
         );
@@ -172,45 +158,51 @@ fn stays_within_by_each_increment(rt: HostRuntime) -> Result<(), Fail> {
     Ok(())
 }
 
-/// Whether the roundings of a long number in parts by each mode stay within their bound.
-fn long_stays_within(alloc: Global, parts: &str) -> Result<bool, Fail> {
-    modes_stay_within(alloc, long(alloc, parts)?.as_str(), -32767)
-}
-
 #[test]
 fn stays_within_for_all_digits(rt: HostRuntime) -> Result<(), Fail> {
     for parts in [GREATEST, "1*32768 . 1*32768"] {
-        assert!(rt; long_stays_within(rt.alloc(), parts)?, "{parts}");
+        assert!(rt;
+            stays_within_by_modes(rt.alloc(), parts, -32767)?,
+            "{parts}"
+        );
     }
     Ok(())
 }
 
 /// Whether a rounding by increment touches so many digits, made or refused.
-fn touches<D: DigitStore>(
+fn touches<T: Value + Rounds<SignedRoundingMode> + Counts>(
     alloc: Global,
-    text: &str,
-    rounding: Rounding,
-    digits: usize,
+    (text, rounding, digits): (&str, Rounding, usize),
 ) -> Result<bool, Fail> {
-    let value = read_over::<CountingStore<D>>(alloc, text)?;
-    value.store().restart();
+    let value = T::read(alloc, text)?;
+    value.counted().restart();
     match rounded(value, Way::ByIncrement, rounding) {
-        Ok(made) => Ok(made.store().touched() == Some(digits)),
-        Err((left, RoundError::Limit)) => Ok(left.store().touched() == Some(digits)),
+        Ok(left) => Ok(left.counted().touched() == Some(digits)),
+        Err((left, RoundError::Limit)) => Ok(left.counted().touched() == Some(digits)),
         Err((_, RoundError::Memory)) => Err(Fail::new("memory was refused")),
     }
 }
 
+/// The same over a store.
+fn touches_over<S: CountingStore>(
+    alloc: Global,
+    row: (&str, Rounding, usize),
+) -> Result<bool, Fail> {
+    touches::<Signed<UnsignedOver<S>>>(alloc, row)
+}
+
 #[test]
 fn counts_turns(rt: HostRuntime) -> Result<(), Fail> {
-    for (text, rounding, digits) in TURNS {
+    for row in TURNS {
         assert!(rt;
-            touches::<DigitList>(rt.alloc(), text, *rounding, *digits)?,
-            "{text}"
+            touches_over::<Counting<DigitList>>(rt.alloc(), *row)?,
+            "{}",
+            row.0
         );
         assert!(rt;
-            touches::<PackedDigits>(rt.alloc(), text, *rounding, *digits)?,
-            "{text}"
+            touches_over::<Counting<PackedDigits>>(rt.alloc(), *row)?,
+            "{}",
+            row.0
         );
     }
     Ok(())

@@ -25,42 +25,23 @@ const RUN_ERRORS: &[(RunError, &str)] = &[
     (RunError::Sink, "The sink refused a byte"),
 ];
 
-/// What `{}` writes of an error, whatever the options.
-fn text_of<E: Error>(alloc: Global, error: E) -> Result<String, Fail> {
-    Ok(format!(in alloc; "{error:60}")?)
-}
-
-/// What `{}` writes of the error of a run, whatever the options.
-fn run_text(alloc: Global, error: &RunError) -> Result<String, Fail> {
-    Ok(format!(in alloc; "{error:60}")?)
-}
-
-/// Asserts what `{}` wrote.
-fn assert_text(rt: &impl Abort, found: String, text: &str) {
-    assert_eq!(rt; found.as_bytes(), text.as_bytes());
+/// Whether `{}` writes this text of an error, whatever the options.
+fn tells<E: Error>(error: &E, text: &str) -> bool {
+    displays(error, text.as_bytes())
 }
 
 #[test]
-fn says_why(rt: HostRuntime) -> Result<(), Fail> {
-    let alloc = rt.alloc();
-    let overlap = text_of(alloc, ConcatenateError::Overlap(5))?;
-    assert_text(&rt, overlap, "The numbers overlap");
-    let memory = text_of(alloc, ConcatenateError::Memory(5))?;
-    assert_text(&rt, memory, "Out of memory");
-    let limit = text_of(alloc, LimitError)?;
-    assert_text(&rt, limit, "Magnitude or number of digits exceeded");
-    let rounding = text_of(alloc, RoundError::Memory)?;
-    assert_text(&rt, rounding, "Out of memory");
-    let sink = text_of(alloc, SinkFault)?;
-    assert_text(&rt, sink, "The sink refused a byte");
-    Ok(())
+fn says_why(rt: HostRuntime) {
+    assert!(rt; tells(&ConcatenateError::Overlap(5), "The numbers overlap"));
+    assert!(rt; tells(&ConcatenateError::Memory(5), "Out of memory"));
+    assert!(rt; tells(&LimitError, "Magnitude or number of digits exceeded"));
+    assert!(rt; tells(&RoundError::Memory, "Out of memory"));
+    assert!(rt; tells(&SinkFault, "The sink refused a byte"));
 }
 
 #[test]
-fn says_why_a_run_was_refused(rt: HostRuntime) -> Result<(), Fail> {
-    let alloc = rt.alloc();
+fn says_why_a_run_was_refused(rt: HostRuntime) {
     for (error, text) in RUN_ERRORS {
-        assert_text(&rt, run_text(alloc, error)?, text);
+        assert!(rt; tells(error, text), "{text}");
     }
-    Ok(())
 }

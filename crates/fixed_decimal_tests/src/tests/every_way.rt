@@ -1,5 +1,5 @@
 //! Roundings at both ends of the magnitudes, by each mode and each increment, and the number that each leaves.
-use super::rounding::{MODES, rounds_parts};
+use super::rounding::{MODES, Rounding, rounds_parts};
 use super::*;
 use fixed_decimal::RoundingIncrement::{
     MultiplesOf1 as By1, MultiplesOf2 as By2, MultiplesOf5 as By5, MultiplesOf25 as By25,
@@ -99,6 +99,28 @@ fn text_of(alloc: Global, (_, _, front, back, zero): End, word: &str) -> Result<
     Ok(format!(in alloc; "{front} {word} {back}")?)
 }
 
+/// Whether a rounding of the negative of a number makes the negative of a text; `!` where it is refused.
+fn rounds_negative(
+    alloc: Global,
+    start: &str,
+    (position, mode, increment): Rounding,
+    wanted: &str,
+) -> Result<bool, Fail> {
+    let minus = if wanted == "!" { "" } else { "- " };
+    let negative = format!(in alloc; "- {start}")?;
+    let below = format!(in alloc; "{minus}{wanted}")?;
+    let rounding = (position, behind_minus(mode), increment);
+    rounds_parts(alloc, negative.as_str(), rounding, below.as_str())
+}
+
+/// Whether a rounding of a number, and one of its negative, make a text; `!` where they are refused.
+fn rounds_both(alloc: Global, start: &str, rounding: Rounding, wanted: &str) -> Result<bool, Fail> {
+    Ok(
+        rounds_parts(alloc, start, rounding, wanted)?
+            && rounds_negative(alloc, start, rounding, wanted)?,
+    )
+}
+
 /// Whether a rounding of a number, and one of its negative, make what a word says.
 fn rounds_to(
     alloc: Global,
@@ -107,21 +129,12 @@ fn rounds_to(
     word: &str,
 ) -> Result<bool, Fail> {
     let (start, position, _, _, _) = end;
-    let negative = format!(in alloc; "- {start}")?;
     let rounding = (position, mode, increment);
-    let behind = (position, behind_minus(mode), increment);
     if word == "!" {
-        return Ok(
-            rounds_parts(alloc, start, rounding, "!")?
-                && rounds_parts(alloc, negative.as_str(), behind, "!")?,
-        );
+        return rounds_both(alloc, start, rounding, "!");
     }
     let wanted = text_of(alloc, end, word)?;
-    let below = format!(in alloc; "- {wanted}")?;
-    Ok(
-        rounds_parts(alloc, start, rounding, wanted.as_str())?
-            && rounds_parts(alloc, negative.as_str(), behind, below.as_str())?,
-    )
+    rounds_both(alloc, start, rounding, wanted.as_str())
 }
 
 /// The same by each mode.

@@ -1,5 +1,7 @@
 //! Fixed integers: what is read, printed, converted, copied and refused.
-use super::values::{assert_compares, assert_reads, assert_refuses, assert_refuses_long, is_long};
+use super::values::{
+    Kind, assert_compares, assert_reads, assert_refuses, assert_refuses_long, is_long,
+};
 use super::*;
 use fixed_decimal::{FixedInteger, LimitError};
 use std::convert::TryFrom;
@@ -56,23 +58,23 @@ const PAIRS: &[(&str, &str, bool)] = &[
 
 #[test]
 fn reads_texts(rt: HostRuntime) {
-    assert_reads::<FixedInteger>(&rt, rt.alloc(), READ);
+    assert_reads(&rt, rt.alloc(), Kind::Integer, READ);
 }
 
 #[test]
 fn refuses(rt: HostRuntime) -> Result<(), Fail> {
-    assert_refuses::<FixedInteger>(&rt, rt.alloc(), FAULTS);
-    assert_refuses_long::<FixedInteger>(&rt, rt.alloc(), LONG_FAULTS)
+    assert_refuses(&rt, rt.alloc(), Kind::Integer, FAULTS);
+    assert_refuses_long(&rt, rt.alloc(), Kind::Integer, LONG_FAULTS)
 }
 
 #[test]
 fn compares(rt: HostRuntime) -> Result<(), Fail> {
-    assert_compares::<FixedInteger>(&rt, rt.alloc(), PAIRS)
+    assert_compares(&rt, rt.alloc(), Kind::Integer, PAIRS)
 }
 
 #[test]
 fn reads_the_longest(rt: HostRuntime) -> Result<(), Fail> {
-    assert!(rt; is_long::<FixedInteger>(rt.alloc(), LONGEST, 32_769)?);
+    assert!(rt; is_long(rt.alloc(), Kind::Integer, LONGEST, 32_769)?);
     Ok(())
 }
 

@@ -116,35 +116,6 @@ const BYTE_RUNS: &[Run] = &[
     ),
 ];
 
-/// What a run over a store with memory for so many digits answers, and writes.
-fn run_bounded<D: DigitStore>(
-    alloc: Global,
-    most: usize,
-    (start, calls): (&str, &[Call<'_>]),
-    sink: &mut LimitedSink<'_>,
-) -> Result<(), RunError> {
-    let start = start.as_bytes();
-    match most {
-        8 => run_over::<LimitedStore<D, EightDigits>, LimitedSink<'_>>(alloc, start, calls, sink),
-        16 => run_over::<LimitedStore<D, SixteenDigits>, LimitedSink<'_>>(
-            alloc, start, calls, sink,
-        ),
-        17 => run_over::<LimitedStore<D, SeventeenDigits>, LimitedSink<'_>>(
-            alloc, start, calls, sink,
-        ),
-        18 => run_over::<LimitedStore<D, EighteenDigits>, LimitedSink<'_>>(
-            alloc, start, calls, sink,
-        ),
-        19 => run_over::<LimitedStore<D, NineteenDigits>, LimitedSink<'_>>(
-            alloc, start, calls, sink,
-        ),
-        21 => run_over::<LimitedStore<D, TwentyOneDigits>, LimitedSink<'_>>(
-            alloc, start, calls, sink,
-        ),
-        _ => run_over::<D, LimitedSink<'_>>(alloc, start, calls, sink),
-    }
-}
-
 /// What a run that was refused wanted memory for.
 fn wanted_for(error: &RunError) -> Want {
     match error {
@@ -159,17 +130,29 @@ fn wanted_for(error: &RunError) -> Want {
     }
 }
 
-/// What a run wants memory for where there is some for so many digits, and leaves its sink as the answer says.
-fn wanted<D: DigitStore>(
+/// What a run over a store wants memory for, where it leaves its sink as the answer says.
+fn wanted_over<S: DigitStore>(
     alloc: Global,
-    most: usize,
     (start, calls, text): (&str, &[Call<'_>], &str),
 ) -> Want {
     let mut sink = LimitedSink::new(text.as_bytes(), usize::MAX);
-    match run_bounded::<D>(alloc, most, (start, calls), &mut sink) {
+    match run_over::<S, LimitedSink<'_>>(alloc, start.as_bytes(), calls, &mut sink) {
         Ok(()) if sink.has_all() => Want::Nothing,
         Err(error) if sink.has_taken(0) && !sink.failed() => wanted_for(&error),
         _ => Want::Other,
+    }
+}
+
+/// The same where there is memory for so many digits.
+fn wanted<D: DigitStore>(alloc: Global, most: usize, run: (&str, &[Call<'_>], &str)) -> Want {
+    match most {
+        8 => wanted_over::<LimitedStore<D, EightDigits>>(alloc, run),
+        16 => wanted_over::<LimitedStore<D, SixteenDigits>>(alloc, run),
+        17 => wanted_over::<LimitedStore<D, SeventeenDigits>>(alloc, run),
+        18 => wanted_over::<LimitedStore<D, EighteenDigits>>(alloc, run),
+        19 => wanted_over::<LimitedStore<D, NineteenDigits>>(alloc, run),
+        21 => wanted_over::<LimitedStore<D, TwentyOneDigits>>(alloc, run),
+        _ => wanted_over::<D>(alloc, run),
     }
 }
 
@@ -187,11 +170,15 @@ fn wants<D: DigitStore>(alloc: Global, (start, calls, text, wants): Run) -> bool
     true
 }
 
+/// The same over each store.
+fn wants_over_each(alloc: Global, row: Run) -> bool {
+    wants::<DigitList>(alloc, row) && wants::<PackedDigits>(alloc, row)
+}
+
 #[test]
 fn refuses_in_turn(rt: HostRuntime) {
     for row in RUNS {
-        assert!(rt; wants::<DigitList>(rt.alloc(), *row), "{}", row.0);
-        assert!(rt; wants::<PackedDigits>(rt.alloc(), *row), "{}", row.0);
+        assert!(rt; wants_over_each(rt.alloc(), *row), "{}", row.0);
     }
     for row in BYTE_RUNS {
         assert!(rt; wants::<DigitList>(rt.alloc(), *row), "{}", row.0);

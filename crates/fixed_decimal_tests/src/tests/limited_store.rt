@@ -3,32 +3,26 @@
 //! A word says how it went: `done`, or `refused` where memory was refused, all was left as it was, and the same call
 //! made again with memory did its work.
 use super::*;
-use decimal_doubles::{DigitLimit, EightDigits, HundredDigits, LimitedStore, MaxDigits};
+use decimal_doubles::{
+    CountingStore, Counts, DigitLimit, EightDigits, HundredDigits, Join, Joins, LimitedStore,
+    MaxDigits, Rounds, Way, rounded, ways,
+};
 use fixed_decimal::RoundingIncrement::MultiplesOf25;
-use fixed_decimal::SignedRoundingMode::{Ceil, Unsigned};
-use fixed_decimal::UnsignedRoundingMode::{Expand, HalfEven, Trunc};
+use fixed_decimal::SignedRoundingMode::{self, Ceil, Unsigned};
+use fixed_decimal::UnsignedRoundingMode::{self, Expand, HalfEven, Trunc};
 use fixed_decimal::{
-    ConcatenateError, DigitList, DigitStore, PackedDigits, RoundError, Sign, Signed,
-    SignedRoundingMode, Steps, UnsignedOver,
+    ConcatenateError, DigitList, DigitStore, PackedDigits, RoundError, Signed, UnsignedOver,
 };
 use std::alloc::AllocError;
 
 /// Memory for more digits than any number has here.
 const AMPLE: usize = HundredDigits::LIMIT;
 
-/// A value that can be bounded.
-type Roomy<D> = UnsignedOver<LimitedStore<D, HundredDigits>>;
+/// Memory for so many digits, and the word of a call that needs some.
+const MEMORY: &[(usize, &str)] = &[(AMPLE, "done"), (0, "refused")];
 
-/// A rounding call that may want memory.
-#[derive(Clone, Copy)]
-enum Form {
-    Counted,
-    InPlace,
-    Absolute,
-}
-
-/// The rounding calls in place that may want memory.
-const FORMS: &[Form] = &[Form::Counted, Form::InPlace, Form::Absolute];
+/// A store that can be bounded.
+type Roomy<D> = LimitedStore<D, HundredDigits>;
 
 /// A number, and what it is rounded to at -1 by 25: a number of one digit more.
 const ROUNDINGS: &[(&str, &str)] = &[
@@ -46,12 +40,19 @@ fn seen<T: Writeable>(value: &T, text: &str, word: &'static str) -> &'static str
     }
 }
 
-/// The value of a text. It is asked for again where memory was refused.
-fn roomy<D: DigitStore>(alloc: Global, text: &str) -> Result<Roomy<D>, Fail> {
-    match Roomy::<D>::try_from_str(alloc, text) {
-        Err(ParseError::Memory) => Ok(Roomy::<D>::try_from_str(alloc, text)?),
-        answer => Ok(answer?),
-    }
+/// Whether a call went as its word says. Where there is ample memory, some may have been refused all the same.
+fn is_right(found: &str, most: usize, word: &str) -> bool {
+    found == word || (most == AMPLE && found == "refused")
+}
+
+/// The value of a text, with memory for so many digits from now on. It is asked for again where memory was refused.
+fn bounded<T: Value + Counts>(alloc: Global, text: &str, most: usize) -> Result<T, Fail> {
+    let value = match T::read(alloc, text) {
+        Err(ParseError::Memory) => T::read(alloc, text)?,
+        answer => answer?,
+    };
+    value.counted().bound(most);
+    Ok(value)
 }
 
 /// A wide integer.
@@ -84,105 +85,200 @@ fn of_integer<D: DigitStore>(alloc: Global, integer: Wide) -> Result<UnsignedOve
     }
 }
 
+/// A word where an integer's value over a store has this text.
+fn made_over<S: DigitStore>(
+    alloc: Global,
+    (integer, text): (Wide, &str),
+    word: &'static str,
+) -> Result<&'static str, AllocError> {
+    Ok(seen(&of_integer::<S>(alloc, integer)?, text, word))
+}
+
 /// An integer's word, where there is memory for eight digits, and then for all.
-fn made<D: DigitStore>(alloc: Global, integer: Wide, text: &str) -> Result<&'static str, Fail> {
-    match of_integer::<LimitedStore<D, EightDigits>>(alloc, integer) {
-        Ok(value) => Ok(seen(&value, text, "done")),
-        Err(AllocError) => Ok(seen(&of_integer::<D>(alloc, integer)?, text, "refused")),
+fn made<D: DigitStore>(alloc: Global, row: (Wide, &str)) -> Result<&'static str, AllocError> {
+    match made_over::<LimitedStore<D, EightDigits>>(alloc, row, "done") {
+        Ok(word) => Ok(word),
+        Err(AllocError) => made_over::<D>(alloc, row, "refused"),
     }
 }
 
 /// Whether the integers that a store does not hold without memory are refused, and no others.
-fn makes<D: DigitStore>(alloc: Global) -> Result<bool, Fail> {
-    for (integer, text) in INTEGERS {
-        let word = made::<D>(alloc, *integer, text)?;
-        if word != (if text.len() > D::L { "refused" } else { "done" }) {
+fn makes<D: DigitStore>(alloc: Global) -> Result<bool, AllocError> {
+    for row in INTEGERS {
+        let word = made::<D>(alloc, *row)?;
+        if word
+            != (if row.1.len() > D::L {
+                "refused"
+            } else {
+                "done"
+            })
+        {
             return Ok(false);
         }
     }
     Ok(true)
 }
 
+#[test]
+fn refuses_integers(rt: HostRuntime) -> Result<(), Fail> {
+    assert!(rt; makes::<DigitList>(rt.alloc())?);
+    assert!(rt; makes::<PackedDigits>(rt.alloc())?);
+    Ok(())
+}
+
 /// A copy's word, of a number that may have memory for so many digits.
-fn copied<D: DigitStore>(alloc: Global, text: &str, most: usize) -> Result<&'static str, Fail> {
-    let value = roomy::<D>(alloc, text)?;
-    value.store().bound(most);
-    match value.clone() {
+fn copied<T: Value + Counts>(alloc: Global, text: &str, most: usize) -> Result<&'static str, Fail> {
+    let value = bounded::<T>(alloc, text, most)?;
+    match value.copy() {
         Ok(copy) => Ok(seen(&copy, text, "done")),
         Err(AllocError) => copied_again(&value, text),
     }
 }
 
 /// The word of a copy that is asked for again.
-fn copied_again<D: DigitStore>(value: &Roomy<D>, text: &str) -> Result<&'static str, Fail> {
+fn copied_again<T: Value + Counts>(value: &T, text: &str) -> Result<&'static str, Fail> {
     if !shows(value, text.as_bytes()) {
         return Ok("changed");
     }
-    value.store().bound(AMPLE);
-    Ok(seen(&value.clone()?, text, "refused"))
+    value.counted().bound(AMPLE);
+    Ok(seen(&value.copy()?, text, "refused"))
 }
 
-/// Rounds at -1 by 25, in place.
-fn round<D: DigitStore>(value: &mut Signed<Roomy<D>>, form: Form) -> Result<(), RoundError> {
-    let mode = Unsigned(Trunc);
-    match form {
-        Form::Counted => value.round_counted(-1, mode, MultiplesOf25, &mut Steps::new()),
-        Form::InPlace => value.round_with_mode_and_increment(-1, mode, MultiplesOf25),
-        Form::Absolute => {
-            let absolute = &mut value.absolute;
-            absolute.round_with_mode_and_increment(-1, Trunc, MultiplesOf25)
+/// Whether the copy of a number has this word over a store.
+fn copies<S: CountingStore>(
+    alloc: Global,
+    text: &str,
+    (most, word): (usize, &str),
+) -> Result<bool, Fail> {
+    Ok(is_right(copied::<UnsignedOver<S>>(alloc, text, most)?, most, word))
+}
+
+/// The same over each store.
+fn copies_over_each(alloc: Global, text: &str, memory: (usize, &str)) -> Result<bool, Fail> {
+    Ok(
+        copies::<Roomy<DigitList>>(alloc, text, memory)?
+            && copies::<Roomy<PackedDigits>>(alloc, text, memory)?,
+    )
+}
+
+#[test]
+fn refuses_copies(rt: HostRuntime) -> Result<(), Fail> {
+    for memory in MEMORY {
+        for (text, _) in &ROUNDINGS[1..] {
+            assert!(rt; copies_over_each(rt.alloc(), text, *memory)?, "{text}");
         }
     }
+    Ok(())
 }
 
 /// A rounding's word, of a number that may have memory for so many digits.
-fn rounded<D: DigitStore>(
+fn rounded_once<M: Copy, T: Value + Rounds<M> + Counts>(
     alloc: Global,
     (text, wanted): (&str, &str),
-    form: Form,
+    (way, mode): (Way, M),
     most: usize,
 ) -> Result<&'static str, Fail> {
-    let mut value = Signed::new(Sign::None, roomy::<D>(alloc, text)?);
-    value.store().bound(most);
-    match round(&mut value, form) {
-        Ok(()) => Ok(seen(&value, wanted, "done")),
-        Err(RoundError::Limit) => Ok("limit"),
-        Err(RoundError::Memory) => rounded_again(value, (text, wanted), form),
+    let value = bounded::<T>(alloc, text, most)?;
+    match rounded(value, way, (-1, mode, MultiplesOf25)) {
+        Ok(value) => Ok(seen(&value, wanted, "done")),
+        Err((_, RoundError::Limit)) => Ok("limit"),
+        Err((value, RoundError::Memory)) => rounded_again(value, (text, wanted), mode),
     }
 }
 
 /// The word of a rounding that is made again.
-fn rounded_again<D: DigitStore>(
-    value: Signed<Roomy<D>>,
+fn rounded_again<M: Copy, T: Value + Rounds<M> + Counts>(
+    value: T,
     (text, wanted): (&str, &str),
-    form: Form,
+    mode: M,
 ) -> Result<&'static str, Fail> {
     let mut value = value;
     if !shows(&value, text.as_bytes()) {
         return Ok("changed");
     }
-    value.store().bound(AMPLE);
-    round(&mut value, form)?;
+    value.counted().bound(AMPLE);
+    value.round_by(Way::ByIncrement, (-1, mode, MultiplesOf25))?;
     Ok(seen(&value, wanted, "refused"))
 }
 
-/// The word of a rounding that takes the value, which may have memory for so many digits.
-fn rounded_by_value<D: DigitStore>(
+/// Whether each rounding by 25 of a number has this word.
+fn all_round<M: Copy, T: Value + Rounds<M> + Counts>(
     alloc: Global,
-    (text, wanted): (&str, &str),
-    most: usize,
-) -> Result<&'static str, Fail> {
-    let value = Signed::new(Sign::None, roomy::<D>(alloc, text)?);
-    value.store().bound(most);
-    match value.rounded_with_mode_and_increment(-1, Unsigned(Trunc), MultiplesOf25) {
-        Ok(rounded) => Ok(seen(&rounded, wanted, "done")),
-        Err((_, RoundError::Limit)) => Ok("limit"),
-        Err((value, RoundError::Memory)) => rounded_again(value, (text, wanted), Form::InPlace),
+    row: (&str, &str),
+    mode: M,
+    (most, word): (usize, &str),
+) -> Result<bool, Fail> {
+    for way in ways(MultiplesOf25) {
+        if !is_right(
+            rounded_once::<M, T>(alloc, row, (*way, mode), most)?,
+            most,
+            word,
+        ) {
+            return Ok(false);
+        }
     }
+    Ok(true)
 }
 
-/// A value with memory for as many digits as a number can have, until it is bounded.
-type Whole<D> = UnsignedOver<LimitedStore<D, MaxDigits>>;
+/// The same of values without a sign over a store.
+fn rounds_absolute<S: CountingStore>(
+    alloc: Global,
+    row: (&str, &str),
+    memory: (usize, &str),
+) -> Result<bool, Fail> {
+    all_round::<UnsignedRoundingMode, UnsignedOver<S>>(alloc, row, Trunc, memory)
+}
+
+/// The same of decimals over a store.
+fn rounds_signed<S: CountingStore>(
+    alloc: Global,
+    row: (&str, &str),
+    memory: (usize, &str),
+) -> Result<bool, Fail> {
+    all_round::<SignedRoundingMode, Signed<UnsignedOver<S>>>(alloc, row, Unsigned(Trunc), memory)
+}
+
+/// The same of both.
+fn rounds<S: CountingStore>(
+    alloc: Global,
+    row: (&str, &str),
+    memory: (usize, &str),
+) -> Result<bool, Fail> {
+    Ok(rounds_absolute::<S>(alloc, row, memory)? && rounds_signed::<S>(alloc, row, memory)?)
+}
+
+/// The same over each store.
+fn rounds_over_each(alloc: Global, row: (&str, &str), memory: (usize, &str)) -> Result<bool, Fail> {
+    Ok(
+        rounds::<Roomy<DigitList>>(alloc, row, memory)?
+            && rounds::<Roomy<PackedDigits>>(alloc, row, memory)?,
+    )
+}
+
+#[test]
+fn refuses_roundings(rt: HostRuntime) -> Result<(), Fail> {
+    for memory in MEMORY {
+        for row in ROUNDINGS {
+            assert!(rt; rounds_over_each(rt.alloc(), *row, *memory)?, "{}", row.0);
+        }
+    }
+    Ok(())
+}
+
+/// A number of eight digits, and what it is rounded to at -1 by 25: one of nine.
+///
+/// A packed list holds nine digits without memory: a double that refuses what needs no memory fails here.
+const NINE_DIGITS: (&str, &str) = ("12345678", "12345677.5");
+
+#[test]
+fn refuses_nine_digits(rt: HostRuntime) -> Result<(), Fail> {
+    assert!(rt; rounds::<Roomy<DigitList>>(rt.alloc(), NINE_DIGITS, (0, "refused"))?);
+    assert!(rt; rounds::<Roomy<PackedDigits>>(rt.alloc(), NINE_DIGITS, (0, "done"))?);
+    Ok(())
+}
+
+/// A store with memory for as many digits as a number can have, until it is bounded.
+type Whole<D> = LimitedStore<D, MaxDigits>;
 
 /// Nines from the highest magnitude down: more than any store holds without memory.
 const NINES: &str = "9*40 0*32728";
@@ -200,195 +296,135 @@ const WITHOUT_MEMORY: &[(&str, i16, SignedRoundingMode, &str)] = &[
     (NINES, 32_727, Unsigned(Trunc), "memory"),
 ];
 
+/// The word of an error.
+fn word_of(error: RoundError) -> &'static str {
+    match error {
+        RoundError::Limit => "limit",
+        RoundError::Memory => "memory",
+    }
+}
+
 /// The word of a rounding by 25, where there is no memory: a refusal has to leave the value, also where it is taken.
-fn answered<D: DigitStore>(
+fn answered<T: Value + Rounds<SignedRoundingMode> + Counts>(
     alloc: Global,
-    (number, position, mode, _): (&str, i16, SignedRoundingMode, &str),
+    text: &str,
+    (position, mode): (i16, SignedRoundingMode),
 ) -> Result<&'static str, Fail> {
-    let text = long(alloc, number)?;
-    let mut value = Signed::new(Sign::None, Whole::<D>::try_from_str(alloc, text.as_str())?);
-    value.store().bound(0);
-    let answer = value.round_with_mode_and_increment(position, mode, MultiplesOf25);
+    let mut value = T::read(alloc, text)?;
+    value.counted().bound(0);
+    let rounding = (position, mode, MultiplesOf25);
+    let answer = value.round_by(Way::ByIncrement, rounding);
     if answer.is_ok() {
         return Ok("done");
     }
-    let second = value.rounded_with_mode_and_increment(position, mode, MultiplesOf25);
-    let Err((left, error)) = second else {
-        return Ok("another answer");
-    };
-    let word = match error {
-        RoundError::Limit => "limit",
-        RoundError::Memory => "memory",
-    };
-    if answer == Err(error) {
-        Ok(seen(&left, text.as_str(), word))
-    } else {
-        Ok("another answer")
-    }
-}
-
-/// Two numbers that join, and what they join to: more than sixteen digits.
-type Join = (&'static str, &'static str, &'static str);
-
-/// Numbers that join.
-const JOINS: &[Join] = &[
-    ("100000000000000000000", "7", "100000000000000000007"),
-    ("1", "0.12345678901234567", "1.12345678901234567"),
-    ("12345678901234567000", "890.5", "12345678901234567890.5"),
-];
-
-/// A join's word, of a number that may have memory for so many digits.
-fn joined<D: DigitStore>(
-    alloc: Global,
-    (front, back, both): Join,
-    most: usize,
-) -> Result<&'static str, Fail> {
-    let mut value = roomy::<D>(alloc, front)?;
-    let other = roomy::<D>(alloc, back)?;
-    value.store().bound(most);
-    match value.concatenate_end(other) {
-        Ok(()) => Ok(seen(&value, both, "done")),
-        Err(ConcatenateError::Overlap(_)) => Ok("overlap"),
-        Err(ConcatenateError::Memory(other)) => joined_again(value, other, (front, back, both)),
-    }
-}
-
-/// A join's word where both numbers are taken, of which the first may have memory for so many digits.
-fn joined_by_value<D: DigitStore>(
-    alloc: Global,
-    (front, back, both): Join,
-    most: usize,
-) -> Result<&'static str, Fail> {
-    let value = roomy::<D>(alloc, front)?;
-    let other = roomy::<D>(alloc, back)?;
-    value.store().bound(most);
-    match value.concatenated_end(other) {
-        Ok(value) => Ok(seen(&value, both, "done")),
-        Err(ConcatenateError::Overlap(_)) => Ok("overlap"),
-        Err(ConcatenateError::Memory((value, other))) => {
-            joined_again(value, other, (front, back, both))
-        }
-    }
-}
-
-/// The word of a join that is made again.
-fn joined_again<D: DigitStore>(
-    value: Roomy<D>,
-    other: Roomy<D>,
-    (front, back, both): Join,
-) -> Result<&'static str, Fail> {
-    if !shows(&value, front.as_bytes()) || !shows(&other, back.as_bytes()) {
-        return Ok("changed");
-    }
-    value.store().bound(AMPLE);
-    match value.concatenated_end(other) {
-        Ok(value) => Ok(seen(&value, both, "refused")),
-        Err(_) => Err(Fail::new("memory was refused")),
-    }
-}
-
-/// Whether a word is that of a call with no memory, or with ample memory, of which none or some may be there.
-fn is_right(word: &str, most: usize) -> bool {
-    word == "refused" || (most == AMPLE && word == "done")
-}
-
-/// Whether the copies of each text go as they are to, with memory for so many digits.
-fn copies<D: DigitStore>(alloc: Global, most: usize) -> Result<bool, Fail> {
-    for (text, _) in &ROUNDINGS[1..] {
-        if !is_right(copied::<D>(alloc, text, most)?, most) {
-            return Ok(false);
-        }
-    }
-    Ok(true)
-}
-
-/// Whether the roundings of each number go as they are to, with memory for so many digits.
-fn rounds<D: DigitStore>(alloc: Global, most: usize) -> Result<bool, Fail> {
-    for row in ROUNDINGS {
-        for form in FORMS {
-            if !is_right(rounded::<D>(alloc, *row, *form, most)?, most) {
-                return Ok(false);
+    match rounded(value, Way::ByIncrementOnValue, rounding) {
+        Err((left, error)) => {
+            if answer == Err(error) {
+                return Ok(seen(&left, text, word_of(error)));
             }
+            Ok("another answer")
         }
-        if !is_right(rounded_by_value::<D>(alloc, *row, most)?, most) {
-            return Ok(false);
-        }
+        Ok(_) => Ok("another answer"),
     }
-    Ok(true)
 }
 
-/// Whether the joins go as they are to, with memory for so many digits.
-fn joins<D: DigitStore>(alloc: Global, most: usize) -> Result<bool, Fail> {
-    for row in JOINS {
-        if !is_right(joined::<D>(alloc, *row, most)?, most) {
-            return Ok(false);
-        }
-        if !is_right(joined_by_value::<D>(alloc, *row, most)?, most) {
-            return Ok(false);
-        }
-    }
-    Ok(true)
+/// Whether a rounding answers over a store what its row says.
+fn answers<S: CountingStore>(
+    alloc: Global,
+    (number, position, mode, word): (&str, i16, SignedRoundingMode, &str),
+) -> Result<bool, Fail> {
+    let text = long(alloc, number)?;
+    let rounding = (position, mode);
+    Ok(answered::<Signed<UnsignedOver<S>>>(alloc, text.as_str(), rounding)? == word)
 }
 
-#[test]
-fn refuses_integers(rt: HostRuntime) -> Result<(), Fail> {
-    assert!(rt; makes::<DigitList>(rt.alloc())?);
-    assert!(rt; makes::<PackedDigits>(rt.alloc())?);
-    Ok(())
-}
-
-#[test]
-fn refuses_copies(rt: HostRuntime) -> Result<(), Fail> {
-    for most in [AMPLE, 0] {
-        assert!(rt; copies::<DigitList>(rt.alloc(), most)?);
-        assert!(rt; copies::<PackedDigits>(rt.alloc(), most)?);
-    }
-    Ok(())
-}
-
-#[test]
-fn refuses_roundings(rt: HostRuntime) -> Result<(), Fail> {
-    for most in [AMPLE, 0] {
-        assert!(rt; rounds::<DigitList>(rt.alloc(), most)?);
-        assert!(rt; rounds::<PackedDigits>(rt.alloc(), most)?);
-    }
-    Ok(())
-}
-
-/// A number of eight digits, and what it is rounded to at -1 by 25: one of nine.
-const NINE_DIGITS: (&str, &str) = ("12345678", "12345677.5");
-
-/// Whether each rounding of eight digits to nine has this word, where there is no memory.
-fn all_round_to_nine<D: DigitStore>(alloc: Global, word: &str) -> Result<bool, Fail> {
-    for form in FORMS {
-        if rounded::<D>(alloc, NINE_DIGITS, *form, 0)? != word {
-            return Ok(false);
-        }
-    }
-    Ok(rounded_by_value::<D>(alloc, NINE_DIGITS, 0)? == word)
-}
-
-#[test]
-fn refuses_nine_digits(rt: HostRuntime) -> Result<(), Fail> {
-    assert!(rt; all_round_to_nine::<DigitList>(rt.alloc(), "refused")?);
-    assert!(rt; all_round_to_nine::<PackedDigits>(rt.alloc(), "done")?);
-    Ok(())
+/// The same over each store.
+fn answers_over_each(
+    alloc: Global,
+    row: (&str, i16, SignedRoundingMode, &str),
+) -> Result<bool, Fail> {
+    Ok(answers::<Whole<DigitList>>(alloc, row)? && answers::<Whole<PackedDigits>>(alloc, row)?)
 }
 
 #[test]
 fn refuses_for_the_limit_first(rt: HostRuntime) -> Result<(), Fail> {
     for row in WITHOUT_MEMORY {
-        assert_eq!(rt; answered::<DigitList>(rt.alloc(), *row)?, row.3);
-        assert_eq!(rt; answered::<PackedDigits>(rt.alloc(), *row)?, row.3);
+        assert!(rt; answers_over_each(rt.alloc(), *row)?, "at {}", row.1);
     }
     Ok(())
 }
 
+/// Two numbers that join, and what they join to: more than sixteen digits.
+type Row = (&'static str, &'static str, &'static str);
+
+/// Numbers that join.
+const JOINS: &[Row] = &[
+    ("100000000000000000000", "7", "100000000000000000007"),
+    ("1", "0.12345678901234567", "1.12345678901234567"),
+    ("12345678901234567000", "890.5", "12345678901234567890.5"),
+];
+
+/// A join's word, of numbers of which the first may have memory for so many digits.
+fn joined<T: Value + Joins + Counts>(
+    alloc: Global,
+    (front, back, both): Row,
+    join: Join,
+    most: usize,
+) -> Result<&'static str, Fail> {
+    let value = bounded::<T>(alloc, front, most)?;
+    match value.joined_by(bounded(alloc, back, AMPLE)?, join) {
+        Ok(value) => Ok(seen(&value, both, "done")),
+        Err(ConcatenateError::Overlap(_)) => Ok("overlap"),
+        Err(ConcatenateError::Memory(left)) => Ok(joined_again(left, (front, back, both))),
+    }
+}
+
+/// The word of a join that is made again.
+fn joined_again<T: Value + Joins + Counts>(
+    (value, other): (T, T),
+    (front, back, both): Row,
+) -> &'static str {
+    if !shows(&value, front.as_bytes()) || !shows(&other, back.as_bytes()) {
+        return "changed";
+    }
+    value.counted().bound(AMPLE);
+    match value.joined_by(other, Join::ByValue) {
+        Ok(value) => seen(&value, both, "refused"),
+        Err(_) => "memory",
+    }
+}
+
+/// Whether both joins of two numbers have this word.
+fn both_join<T: Value + Joins + Counts>(
+    alloc: Global,
+    row: Row,
+    (most, word): (usize, &str),
+) -> Result<bool, Fail> {
+    Ok(
+        is_right(joined::<T>(alloc, row, Join::InPlace, most)?, most, word)
+            && is_right(joined::<T>(alloc, row, Join::ByValue, most)?, most, word),
+    )
+}
+
+/// The same over a store.
+fn joins<S: CountingStore>(alloc: Global, row: Row, memory: (usize, &str)) -> Result<bool, Fail> {
+    both_join::<UnsignedOver<S>>(alloc, row, memory)
+}
+
+/// The same over each store.
+fn joins_over_each(alloc: Global, row: Row, memory: (usize, &str)) -> Result<bool, Fail> {
+    Ok(
+        joins::<Roomy<DigitList>>(alloc, row, memory)?
+            && joins::<Roomy<PackedDigits>>(alloc, row, memory)?,
+    )
+}
+
 #[test]
 fn refuses_joins(rt: HostRuntime) -> Result<(), Fail> {
-    for most in [AMPLE, 0] {
-        assert!(rt; joins::<DigitList>(rt.alloc(), most)?);
-        assert!(rt; joins::<PackedDigits>(rt.alloc(), most)?);
+    for memory in MEMORY {
+        for row in JOINS {
+            assert!(rt; joins_over_each(rt.alloc(), *row, *memory)?, "{}", row.0);
+        }
     }
     Ok(())
 }

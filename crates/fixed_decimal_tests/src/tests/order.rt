@@ -32,22 +32,19 @@ const ORDERS: &[(&str, &str, Ordering)] = &[
     ("+2", "3", Ordering::Less),
 ];
 
+/// Whether two texts have an order over pairs of stores, and in turn the reverse one.
+fn have_order(alloc: Global, (left, right, order): (&str, &str, Ordering)) -> Result<bool, Fail> {
+    Ok(
+        compared::<PackedDigits, PackedDigits>(alloc, left, right)? == order
+            && compared::<DigitList, PackedDigits>(alloc, left, right)? == order
+            && compared::<PackedDigits, DigitList>(alloc, right, left)? == order.reverse(),
+    )
+}
+
 #[test]
 fn orders(rt: HostRuntime) -> Result<(), Fail> {
-    let alloc = rt.alloc();
-    for (left, right, order) in ORDERS {
-        assert!(rt;
-            compared::<PackedDigits, PackedDigits>(alloc, left, right)? == *order,
-            "{left} and {right}"
-        );
-        assert!(rt;
-            compared::<DigitList, PackedDigits>(alloc, left, right)? == *order,
-            "{left} and {right}"
-        );
-        assert!(rt;
-            compared::<PackedDigits, DigitList>(alloc, right, left)? == order.reverse(),
-            "{right} and {left}"
-        );
+    for row in ORDERS {
+        assert!(rt; have_order(rt.alloc(), *row)?, "{} and {}", row.0, row.1);
     }
     Ok(())
 }
@@ -147,18 +144,18 @@ const INTEGERS: &[(&str, Integers)] = &[
     ("+1.5", NOT_WHOLE),
 ];
 
+/// Whether the decimal that a text writes has these integers, over each store.
+fn has_integers(alloc: Global, text: &str, wanted: Integers) -> Result<bool, Fail> {
+    Ok(
+        integers_of::<PackedDigits>(alloc, text)? == wanted
+            && integers_of::<DigitList>(alloc, text)? == wanted,
+    )
+}
+
 #[test]
 fn integers(rt: HostRuntime) -> Result<(), Fail> {
-    let alloc = rt.alloc();
-    for (text, integers) in INTEGERS {
-        assert!(rt;
-            integers_of::<PackedDigits>(alloc, text)? == *integers,
-            "{text}"
-        );
-        assert!(rt;
-            integers_of::<DigitList>(alloc, text)? == *integers,
-            "{text}"
-        );
+    for (text, wanted) in INTEGERS {
+        assert!(rt; has_integers(rt.alloc(), text, *wanted)?, "{text}");
     }
     Ok(())
 }

@@ -26,8 +26,8 @@ fn joins_again(alloc: Global, text: &str) -> Result<bool, Fail> {
 fn gives_the_parts(rt: HostRuntime) -> Result<(), Fail> {
     let alloc = rt.alloc();
     for (text, significand, exponent) in PARTS {
-        assert!(rt; has_parts(alloc, text, (significand, exponent))?, "{text}");
-        assert!(rt; joins_again(alloc, text)?, "{text}");
+        let holds = has_parts(alloc, text, (significand, exponent))? && joins_again(alloc, text)?;
+        assert!(rt; holds, "{text}");
     }
     Ok(())
 }

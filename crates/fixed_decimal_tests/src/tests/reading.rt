@@ -1,5 +1,5 @@
 //! Decimals: what is read, printed, copied and refused, and which are equal.
-use super::values::{assert_compares, assert_reads, assert_refuses, reads};
+use super::values::{Kind, assert_compares, assert_reads, assert_refuses, reads};
 use super::*;
 
 /// Texts that their decimals print.
@@ -66,14 +66,14 @@ const PAIRS: &[(&str, &str, bool)] = &[
 #[test]
 fn reads_texts(rt: HostRuntime) {
     for text in TEXTS {
-        assert!(rt; reads::<Decimal>(rt.alloc(), text, text), "{text}");
+        assert!(rt; reads(rt.alloc(), Kind::Signed, text, text), "{text}");
     }
-    assert_reads::<Decimal>(&rt, rt.alloc(), READ);
+    assert_reads(&rt, rt.alloc(), Kind::Signed, READ);
 }
 
 #[test]
 fn refuses(rt: HostRuntime) {
-    assert_refuses::<Decimal>(&rt, rt.alloc(), FAULTS);
+    assert_refuses(&rt, rt.alloc(), Kind::Signed, FAULTS);
 }
 
 /// Whether two texts write decimals with the same text.
@@ -83,7 +83,11 @@ fn have_same_text(alloc: Global, left: &str, right: &str) -> Result<bool, Fail> 
 
 #[test]
 fn compares(rt: HostRuntime) -> Result<(), Fail> {
-    assert_compares::<Decimal>(&rt, rt.alloc(), PAIRS)?;
+    assert_compares(&rt, rt.alloc(), Kind::Signed, PAIRS)
+}
+
+#[test]
+fn compares_texts(rt: HostRuntime) -> Result<(), Fail> {
     for (left, right, same) in PAIRS {
         assert!(rt;
             have_same_text(rt.alloc(), left, right)? == *same,

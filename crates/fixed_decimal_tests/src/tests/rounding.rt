@@ -2,171 +2,30 @@
 ghost use Rattle.std.specs.Prelude.{◌≡◌, true};
 
 use super::*;
+use decimal_doubles::rounds_each_way;
 use fixed_decimal::RoundingIncrement::{
     MultiplesOf1 as By1, MultiplesOf2 as By2, MultiplesOf5 as By5, MultiplesOf25 as By25,
 };
 use fixed_decimal::SignedRoundingMode::{Ceil, Floor, HalfCeil, HalfFloor, Unsigned};
 use fixed_decimal::UnsignedRoundingMode::{Expand, HalfEven, HalfExpand, HalfTrunc, Trunc};
 use fixed_decimal::{
-    DigitList, DigitStore, LimitError, PackedDigits, RoundError, RoundingIncrement, Signed,
-    SignedRoundingMode, Steps, UnsignedOver, UnsignedRoundingMode,
+    DigitList, DigitStore, PackedDigits, Signed, SignedRoundingMode, UnsignedOver,
+    UnsignedRoundingMode,
 };
 
-/// A decimal over a store of digits.
-pub type Over<D> = Signed<UnsignedOver<D>>;
-
 /// A position, a mode and an increment.
-pub type Rounding = (i16, SignedRoundingMode, RoundingIncrement);
+pub type Rounding = decimal_doubles::Rounding<SignedRoundingMode>;
 
-/// A rounding call.
-#[derive(Clone, Copy)]
-pub enum Way {
-    Counted,
-    ByIncrement,
-    ByIncrementOnValue,
-    ByMode,
-    ByModeOnValue,
-    ByName,
-    ByNameOnValue,
-}
-
-/// The calls that make a rounding.
-pub fn ways(increment: RoundingIncrement) -> &'static [Way] {
-    if increment != By1 {
-        return &[Way::Counted, Way::ByIncrement, Way::ByIncrementOnValue];
-    }
-    &[
-        Way::Counted,
-        Way::ByIncrement,
-        Way::ByIncrementOnValue,
-        Way::ByMode,
-        Way::ByModeOnValue,
-        Way::ByName,
-        Way::ByNameOnValue,
-    ]
-}
-
-/// The rounded value, or the one that a refusal leaves, and why.
-pub type Left<D> = Result<Over<D>, (Over<D>, RoundError)>;
-
-/// Rounds by the call that bears the mode's name, where there is one.
-fn round_by_name<D: DigitStore>(
-    value: &mut Over<D>,
-    position: i16,
-    mode: SignedRoundingMode,
-) -> Result<(), LimitError> {
-    match mode {
-        Ceil => value.ceil(position),
-        Floor => value.floor(position),
-        Unsigned(Expand) => value.expand(position),
-        Unsigned(Trunc) => {
-            value.trunc(position);
-            Ok(())
-        }
-        Unsigned(HalfEven) => value.round(position),
-        _ => value.round_with_mode(position, mode),
-    }
-}
-
-/// The same on a value.
-fn rounded_by_name<D: DigitStore>(
-    value: Over<D>,
-    position: i16,
-    mode: SignedRoundingMode,
-) -> Result<Over<D>, Over<D>> {
-    match mode {
-        Ceil => value.ceiled(position),
-        Floor => value.floored(position),
-        Unsigned(Expand) => value.expanded(position),
-        Unsigned(Trunc) => Ok(value.trunced(position)),
-        Unsigned(HalfEven) => value.rounded(position),
-        _ => value.rounded_with_mode(position, mode),
-    }
-}
-
-/// The answer of a call that may be refused for the limit alone.
-fn limited(answer: Result<(), LimitError>) -> Result<(), RoundError> {
-    match answer {
-        Ok(()) => Ok(()),
-        Err(LimitError) => Err(RoundError::Limit),
-    }
-}
-
-/// The same of a call on a value.
-fn limited_on_value<D: DigitStore>(answer: Result<Over<D>, Over<D>>) -> Left<D> {
-    match answer {
-        Ok(value) => Ok(value),
-        Err(value) => Err((value, RoundError::Limit)),
-    }
-}
-
-/// Rounds in place, by the call that a way names, or by increment.
-fn round<D: DigitStore>(
-    value: &mut Over<D>,
-    way: Way,
-    (position, mode, increment): Rounding,
-) -> Result<(), RoundError> {
-    match way {
-        Way::Counted => value.round_counted(position, mode, increment, &mut Steps::new()),
-        Way::ByMode => limited(value.round_with_mode(position, mode)),
-        Way::ByName => limited(round_by_name(value, position, mode)),
-        _ => value.round_with_mode_and_increment(position, mode, increment),
-    }
-}
-
-/// Rounds in place a value that is given back.
-fn left_in_place<D: DigitStore>(value: Over<D>, way: Way, rounding: Rounding) -> Left<D> {
-    let mut value = value;
-    match round(&mut value, way, rounding) {
-        Ok(()) => Ok(value),
-        Err(error) => Err((value, error)),
-    }
-}
-
-/// Makes a rounding call.
-pub fn rounded<D: DigitStore>(value: Over<D>, way: Way, rounding: Rounding) -> Left<D> {
-    let (position, mode, increment) = rounding;
-    match way {
-        Way::ByIncrementOnValue => value.rounded_with_mode_and_increment(position, mode, increment),
-        Way::ByModeOnValue => limited_on_value(value.rounded_with_mode(position, mode)),
-        Way::ByNameOnValue => limited_on_value(rounded_by_name(value, position, mode)),
-        _ => left_in_place(value, way, rounding),
-    }
-}
-
-/// The decimal over a store that a text writes.
-pub fn read_over<D: DigitStore>(alloc: Global, text: &str) -> Result<Over<D>, Fail> {
-    Ok(Over::<D>::try_from_str(alloc, text)?)
-}
-
-/// Whether a call makes another text of a value with this text; `!` where it is refused for the limit, and leaves it.
-fn rounds_by<D: DigitStore>(
-    (value, text): (&Over<D>, &str),
-    way: Way,
-    rounding: Rounding,
-    wanted: &str,
-) -> Result<bool, Fail> {
-    match rounded(value.clone()?, way, rounding) {
-        Ok(value) => Ok(shows(&value, wanted.as_bytes())),
-        Err((left, RoundError::Limit)) => Ok(wanted == "!" && shows(&left, text.as_bytes())),
-        Err((left, RoundError::Memory)) => wants_memory(shows(&left, text.as_bytes())),
-    }
-}
-
-/// Whether each call that makes the rounding makes one text of another over a store.
+/// Whether each call that makes the rounding makes one text of another over a store; `!` where it is refused for the
+/// limit, and leaves the text.
 fn rounds_over<D: DigitStore>(
     alloc: Global,
     text: &str,
     rounding: Rounding,
     wanted: &str,
 ) -> Result<bool, Fail> {
-    let value = read_over::<D>(alloc, text)?;
-    for way in ways(rounding.2) {
-        if !rounds_by((&value, text), *way, rounding, wanted)? {
-            return Ok(false);
-        }
-    }
-    Ok(true)
+    let value = Signed::<UnsignedOver<D>>::try_from_str(alloc, text)?;
+    Ok(rounds_each_way(&value, text, rounding, wanted)?)
 }
 
 /// The same over each store.

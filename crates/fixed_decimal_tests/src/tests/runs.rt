@@ -1,5 +1,5 @@
 //! Whole runs over each store, and sinks that fail.
-use super::counting::CountingStore;
+use super::counting::Counting;
 use super::*;
 use decimal_doubles::{FailingWriter, LimitedSink, WriteFailure};
 use fixed_decimal::Call::{
@@ -222,24 +222,18 @@ fn writes_over<D: DigitStore>(alloc: Global, (start, calls, text): Run) -> bool 
     answer.is_ok() && sink.has_all()
 }
 
+/// Whether a run writes its text into a sink that grows, and over each store.
+fn writes_over_each(alloc: Global, row: Run) -> bool {
+    writes(alloc, row)
+        && writes_over::<DigitList>(alloc, row)
+        && writes_over::<PackedDigits>(alloc, row)
+        && writes_over::<Counting<DigitList>>(alloc, row)
+}
+
 /// Asserts what runs write, over each store.
 fn assert_writes(rt: &impl Abort, alloc: Global, rows: &[Run]) {
     for row in rows {
-        assert!(rt; writes(alloc, *row), "{} to {}", row.0, row.2);
-        assert!(rt;
-            writes_over::<DigitList>(alloc, *row),
-            "{} to {}",
-            row.0,
-            row.2
-        );
-        assert!(rt;
-            writes_over::<PackedDigits>(alloc, *row),
-            "{} to {}",
-            row.0,
-            row.2
-        );
-        let holds = writes_over::<CountingStore<DigitList>>(alloc, *row);
-        assert!(rt; holds, "{} to {}", row.0, row.2);
+        assert!(rt; writes_over_each(alloc, *row), "{} to {}", row.0, row.2);
     }
 }
 
@@ -263,22 +257,17 @@ fn refuses_over<D: DigitStore>(alloc: Global, (start, calls, fault, at): Refused
     }
 }
 
+/// Whether a run is refused so by a sink that grows, and over each store.
+fn refuses_over_each(alloc: Global, row: Refused) -> bool {
+    refuses(alloc, row)
+        && refuses_over::<DigitList>(alloc, row)
+        && refuses_over::<PackedDigits>(alloc, row)
+}
+
 /// Asserts how runs are refused, over each store.
 fn assert_refuses(rt: &impl Abort, alloc: Global, rows: &[Refused]) {
     for row in rows {
-        assert!(rt; refuses(alloc, *row), "{}: {}", row.0, row.2);
-        assert!(rt;
-            refuses_over::<DigitList>(alloc, *row),
-            "{}: {}",
-            row.0,
-            row.2
-        );
-        assert!(rt;
-            refuses_over::<PackedDigits>(alloc, *row),
-            "{}: {}",
-            row.0,
-            row.2
-        );
+        assert!(rt; refuses_over_each(alloc, *row), "{}: {}", row.0, row.2);
     }
 }
 
@@ -317,6 +306,11 @@ fn fails_with_each<D: DigitStore>(alloc: Global, row: Run) -> bool {
     true
 }
 
+/// The same over each store.
+fn fails_over_each(alloc: Global, row: Run) -> bool {
+    fails_with_each::<DigitList>(alloc, row) && fails_with_each::<PackedDigits>(alloc, row)
+}
+
 #[test]
 fn makes_calls(rt: HostRuntime) {
     assert_writes(&rt, rt.alloc(), EDITS);
@@ -335,11 +329,6 @@ fn refuses_runs(rt: HostRuntime) {
 #[test]
 fn fails_with_the_sink(rt: HostRuntime) {
     for row in BROKEN {
-        assert!(rt; fails_with_each::<DigitList>(rt.alloc(), *row), "{}", row.0);
-        assert!(rt;
-            fails_with_each::<PackedDigits>(rt.alloc(), *row),
-            "{}",
-            row.0
-        );
+        assert!(rt; fails_over_each(rt.alloc(), *row), "{}", row.0);
     }
 }

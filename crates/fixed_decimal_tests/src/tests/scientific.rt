@@ -1,5 +1,5 @@
 //! Scientific decimals: what is read, printed, joined, copied and refused.
-use super::values::{assert_compares, assert_refuses, assert_refuses_long, is_long, reads};
+use super::values::{Kind, assert_compares, assert_refuses, assert_refuses_long, is_long, reads};
 use super::*;
 use fixed_decimal::{FixedInteger, ScientificDecimal};
 
@@ -66,28 +66,25 @@ const PAIRS: &[(&str, &str, bool)] = &[
 #[test]
 fn reads_texts(rt: HostRuntime) {
     for text in TEXTS {
-        assert!(rt;
-            reads::<ScientificDecimal>(rt.alloc(), text, text),
-            "{text}"
-        );
+        assert!(rt; reads(rt.alloc(), Kind::Scientific, text, text), "{text}");
     }
-    assert!(rt; reads::<ScientificDecimal>(rt.alloc(), ".5e1", "0.5e1"));
+    assert!(rt; reads(rt.alloc(), Kind::Scientific, ".5e1", "0.5e1"));
 }
 
 #[test]
 fn refuses(rt: HostRuntime) -> Result<(), Fail> {
-    assert_refuses::<ScientificDecimal>(&rt, rt.alloc(), FAULTS);
-    assert_refuses_long::<ScientificDecimal>(&rt, rt.alloc(), LONG_FAULTS)
+    assert_refuses(&rt, rt.alloc(), Kind::Scientific, FAULTS);
+    assert_refuses_long(&rt, rt.alloc(), Kind::Scientific, LONG_FAULTS)
 }
 
 #[test]
 fn compares(rt: HostRuntime) -> Result<(), Fail> {
-    assert_compares::<ScientificDecimal>(&rt, rt.alloc(), PAIRS)
+    assert_compares(&rt, rt.alloc(), Kind::Scientific, PAIRS)
 }
 
 #[test]
 fn reads_the_longest(rt: HostRuntime) -> Result<(), Fail> {
-    assert!(rt; is_long::<ScientificDecimal>(rt.alloc(), LONGEST, 98_308)?);
+    assert!(rt; is_long(rt.alloc(), Kind::Scientific, LONGEST, 98_308)?);
     Ok(())
 }
 

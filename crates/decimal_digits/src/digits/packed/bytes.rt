@@ -1,5 +1,6 @@
 //! Lists of digits packed into bytes, two to a byte.
 ghost use Rattle.std.specs.Prelude.{◌≡◌, ℕ, ◌+◌, ◌-◌, ◌*◌, ◌^◌, ◌<◌, ◌≤◌, ◌↔◌, [], ◌∷◌, ◌++◌, length, take, drop, replicate, slice_set, All, IsTrue, IsOk, IfOk, OnOk};
+ghost use Rattle.std.specs.Int.{w64, to_be_bytes};
 ghost use Rattle.smallvec.specs.SmallVec.{small_vec_len};
 ghost use Rattle.decimal_digits.specs.Halves.{digits_in, IsPacked};
 ghost use Rattle.decimal_digits.specs.Packing.{Holds};
@@ -30,6 +31,29 @@ pub(super) fn pack_digits(alloc: Global, digits: &[u8]) -> Result<SmallVec<u8, 8
     let mut bytes = SmallVec::from_vec(copy);
     pack(bytes.as_mut_slice(), digits);
     Ok(bytes)
+}
+
+/// The first bytes of a number, the highest one first.
+///
+/// Each cut has a constant length, so that the bytes stay in a register.
+#[inline]
+pub(super) fn first_bytes(alloc: Global, number: u64, count: usize) -> SmallVec<u8, 8>
+    ensures items { result.items ≡ take count (to_be_bytes w64 number) }
+    ensures capacity { result.capacity ≡ 8 }
+{
+    let mut bytes = SmallVec::from_buf(alloc, number.to_be_bytes());
+    match count {
+        0 => bytes.truncate(0),
+        1 => bytes.truncate(1),
+        2 => bytes.truncate(2),
+        3 => bytes.truncate(3),
+        4 => bytes.truncate(4),
+        5 => bytes.truncate(5),
+        6 => bytes.truncate(6),
+        7 => bytes.truncate(7),
+        _ => {}
+    }
+    bytes
 }
 
 /// Copies bytes.

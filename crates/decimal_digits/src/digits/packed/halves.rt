@@ -15,7 +15,7 @@ pub(super) fn byte_count(digits: usize) -> usize
 
 /// Gives the half at an index.
 #[inline]
-pub(super) fn half_at(bytes: &[u8], index: usize) -> u8
+pub(crate) fn half_at(bytes: &[u8], index: usize) -> u8
     requires { index < length (halves bytes.now) }
     ensures { result ≡ slice_index (halves bytes.now) index }
 {

@@ -71,7 +71,8 @@ fn scaled(first: i32, last: i32, hi: i32, lo: i32, exponent: i32) -> Option<Plac
 }
 
 /// The magnitudes as they are.
-fn unscaled(magnitude: i32, hi: i32, lo: i32) -> Place
+#[inline]
+pub fn unscaled(magnitude: i32, hi: i32, lo: i32) -> Place
     requires magnitude_in { (negsuc 32767 ≤ℤ magnitude) × (magnitude ≤ℤ pos 32767) }
     requires hi_in { (negsuc 32767 ≤ℤ hi) × (hi ≤ℤ pos 32767) }
     requires lo_in { (negsuc 32767 ≤ℤ lo) × (lo ≤ℤ pos 32767) }

@@ -2,12 +2,23 @@ use Rattle.std.proofs.Common.{◌≡◌, ◌+◌, ◌-◌, ◌*◌, ◌^◌, ◌
 use Rattle.std.proofs.lemmas.Grind.{common_steps}
 use Rattle.std.proofs.lemmas.List.{length-take-le}
 use Rattle.std.proofs.lemmas.List.Elements.{recursion_from_All}
+use Rattle.decimal_digits.specs.declared.rounding.RoundError.TheVariants.{Limit}
+use Rattle.decimal_digits.specs.declared.rounding.RoundingIncrement.TheVariants.{MultiplesOf1}
 use Rattle.decimal_digits.specs.Rounding.{step_of}
 use Rattle.decimal_digits.specs.Tails.{leading}
 use Rattle.decimal_digits.proofs.NumberAt.{powers, number_at-more}
 use Rattle.decimal_digits.proofs.Tails.{rounds_as}
 use Rattle.decimal_digits.proofs.Leading.{leading_none, hundreds, one_more}
+use Rattle.decimal_digits.proofs.Results.{none_is_error}
 use Rattle.decimal_digits.proofs.rounding.kept.round_kept.Goals as goal
+
+pub returns-then-matches-clause-refused : goal.returns-then-matches-clause-refused
+returns-then-matches-clause-refused g c =
+    let ds = g.D.DigitStore.digits c.args.counted.now.list.now in
+    let one : c.args.increment ≡ MultiplesOf1 = search rules in
+    rw (c.ok_or.ensures.value, one)
+    (none_is_error c.round_by_one.result Limit _ c.round_by_one.ensures.full c.round_by_one.ensures.up
+    (λ full up. (leading c.args.keep ds + 1, full, up)))
 
 pub returns-then-keep-le2-clause-value : goal.returns-then-keep-le2-clause-value
 returns-then-keep-le2-clause-value g c =
@@ -16,12 +27,12 @@ returns-then-keep-le2-clause-value g c =
     (c.rounded_two-rounded.ensures.rounds (leading (c.args.keep - 2) ds)) c.two_at-two.ensures.value
     (omega (arith, c.in-Some.ensures.value, leading_none (c.args.keep - 2) ds (omega arith)))
 
-pub returns-in_default-clause-refused : goal.returns-in_default-clause-refused
-returns-in_default-clause-refused g c =
+pub returns-in_default-write_all-clause-refused : goal.returns-in_default-write_all-clause-refused
+returns-in_default-write_all-clause-refused g c =
     let ds = g.D.DigitStore.digits c.args.counted.now.list.now in
     let two = c.rounded_two-rounded in (
       two.result,
-      c.in_default.ensures.full,
+      c.in_default-write_all.ensures.full,
       rounds_as c.args.mode (step_of c.args.increment) c.args.tail _ _ _ _
           (two.ensures.rounds (leading (c.args.keep - 2) ds)) c.two_at-two.ensures.value
           (omega (arith, leading_none (c.args.keep - 2) ds (omega arith))),

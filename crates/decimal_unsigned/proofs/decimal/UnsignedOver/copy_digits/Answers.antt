@@ -6,11 +6,12 @@ use Rattle.std.specs.Int.{int_gap}
 use Rattle.decimal_digits.specs.Number.{place, digit}
 use Rattle.decimal_unsigned.specs.Unsigned.{Unsigned}
 use Rattle.decimal_unsigned.proofs.Values.{magnitude_kept}
+use Rattle.decimal_unsigned.proofs.Shown.{value_of_view}
 use Rattle.decimal_unsigned.proofs.Blocks.{index_gap, block_digit}
 use Rattle.decimal_unsigned.proofs.decimal.UnsignedOver.copy_digits.Goals as goal
 
-pub returns : goal.returns
-returns g c i h =
+pub returns-clause-value : goal.returns-clause-value
+returns-clause-value g c i h =
     let t = c.self.invariant in
     let q = c.args.magnitude in
     let m = c.self.inside.magnitude in
@@ -47,3 +48,6 @@ returns g c i h =
     from_is start_is count_is zeros c.copy_text.new.places (start + count - start) _ c.requires.zeros (omega arith)
     part c.copy_text.ensures i h
     ∙ ap (λ (v : Unsigned). 48 + digit v.number (q -ℤ pos i)) c.self.view_is
+
+pub returns-clause-valid : goal.returns-clause-valid
+returns-clause-valid g c = value_of_view c.self.invariant c.self.view_is

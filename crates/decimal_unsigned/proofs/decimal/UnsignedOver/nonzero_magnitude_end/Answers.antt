@@ -5,6 +5,7 @@ use Rattle.decimal_digits.proofs.Places.{place_is}
 use Rattle.decimal_unsigned.specs.Unsigned.{Unsigned}
 use Rattle.decimal_unsigned.proofs.Values.{last-number_of, last_of_none, magnitude_kept, narrow_kept}
 use Rattle.decimal_unsigned.proofs.Ranges.{is_last}
+use Rattle.decimal_unsigned.proofs.Shown.{value_of_view}
 use Rattle.decimal_unsigned.proofs.decimal.UnsignedOver.nonzero_magnitude_end.Goals as goal
 
 pub magnitude_of-requires : goal.magnitude_of-requires
@@ -31,6 +32,7 @@ returns-then-len-eq0 g c =
       defined =
           subst (IsLast c.args.self.now.number) (sym value)
           (subst (λ (v : Unsigned). IsLast v.number (last v.number)) c.self.view_is (is_last t));
+      valid = value_of_view t c.self.view_is;
     }
 
 pub returns-else-len-eq0 : goal.returns-else-len-eq0
@@ -48,4 +50,5 @@ returns-else-len-eq0 g c =
       defined =
           subst (IsLast c.args.self.now.number) (sym value)
           (subst (λ (v : Unsigned). IsLast v.number (last v.number)) c.self.view_is (is_last t));
+      valid = value_of_view t c.self.view_is;
     }

@@ -3,6 +3,7 @@ use Rattle.decimal_digits.specs.Digits.{number_of}
 use Rattle.decimal_digits.specs.Number.{first, size}
 use Rattle.decimal_unsigned.specs.Unsigned.{Unsigned}
 use Rattle.decimal_unsigned.proofs.Values.{first_of, size-number_of}
+use Rattle.decimal_unsigned.proofs.Shown.{value_of_view}
 use Rattle.decimal_unsigned.proofs.decimal.UnsignedOver.store.Goals as goal
 
 pub returns-clause-number : goal.returns-clause-number
@@ -13,3 +14,6 @@ returns-clause-number g c =
 
 pub returns-clause-length : goal.returns-clause-length
 returns-clause-length g c = sym (size-number_of c.self.invariant) ∙ ap (λ (v : Unsigned). size v.number) c.self.view_is
+
+pub returns-clause-valid : goal.returns-clause-valid
+returns-clause-valid g c = value_of_view c.self.invariant c.self.view_is

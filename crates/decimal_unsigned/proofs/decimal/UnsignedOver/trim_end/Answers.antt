@@ -6,6 +6,7 @@ use Rattle.decimal_unsigned.specs.Unsigned.{Unsigned}
 use Rattle.decimal_unsigned.proofs.Values.{narrow_kept, lower_stored, last_in}
 use Rattle.decimal_unsigned.proofs.Ranges.{last_shown}
 use Rattle.decimal_unsigned.proofs.EditLaws.{trimmed_is_normal_form, shortest}
+use Rattle.decimal_unsigned.proofs.Shown.{value_of_view}
 use Rattle.decimal_unsigned.proofs.decimal.UnsignedOver.trim_end.Goals as goal
 
 pub invariant_of-self : goal.invariant_of-self
@@ -41,3 +42,6 @@ returns-clause-shortest g c =
       hi = pos 0;
       lo = pos 0;
     }))
+
+pub returns-clause-valid : goal.returns-clause-valid
+returns-clause-valid g c = value_of_view c.self.invariant c.self.view_is

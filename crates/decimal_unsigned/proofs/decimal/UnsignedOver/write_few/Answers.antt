@@ -40,12 +40,12 @@ returns-clause-ok g c =
 
 pub returns-clause-had_not_failed : goal.returns-clause-had_not_failed
 returns-clause-had_not_failed g c =
-    let some = text_some c.args.self.now c.magnitude_range-range.ensures.valid in
+    let some = text_some c.args.self.now c.writeable_length_hint-index-end.ensures.valid in
     fresh_some g.W.Sink.has_failed _ _ _ c.loop-index.invariant.fresh
     (omega (arith, some, c.writeable_length_hint-index-end.ensures.length))
 
 pub returns-clause-stays : goal.returns-clause-stays
 returns-clause-stays g c =
-    let some = text_some c.args.self.now c.magnitude_range-range.ensures.valid in
+    let some = text_some c.args.self.now c.writeable_length_hint-index-end.ensures.valid in
     fresh_ends g.W.Sink.has_failed g.W.Sink.contents _ _ _ c.loop-index.invariant.fresh
     (omega (arith, some, c.writeable_length_hint-index-end.ensures.length))

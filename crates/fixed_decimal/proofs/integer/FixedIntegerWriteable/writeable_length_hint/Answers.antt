@@ -6,6 +6,6 @@ pub returns-clause-at_most : goal.returns-clause-at_most
 returns-clause-at_most c =
     omega (
       arith,
-      length-integer_most c.self.inside.0 c.recall_value.ensures c.self.invariant,
-      c.writeable_length_hint.ensures,
+      length-integer_most c.self.inside.0 c.writeable_length_hint.ensures.valid c.self.invariant,
+      c.writeable_length_hint.ensures.exact,
     )

@@ -35,13 +35,14 @@ returns-in_err-put_bytes-clause-err g c =
     c.loop-written.invariant.appended c.in_err-put_bytes.ensures.prefix)
 
 pub returns-in_err-put_bytes-clause-reads_back : goal.returns-in_err-put_bytes-clause-reads_back
-returns-in_err-put_bytes-clause-reads_back g c = read_text c.args.self.now c.magnitude_range-range.ensures.valid
+returns-in_err-put_bytes-clause-reads_back g c = read_text c.args.self.now c.writeable_length_hint-length.ensures.valid
 
 pub returns-clause-reads_back : goal.returns-clause-reads_back
-returns-clause-reads_back g c = read_text c.args.self.now c.magnitude_range-range.ensures.valid
+returns-clause-reads_back g c = read_text c.args.self.now c.writeable_length_hint-length.ensures.valid
 
 pub returns-then-length-le-FEW-clause-reads_back : goal.returns-then-length-le-FEW-clause-reads_back
-returns-then-length-le-FEW-clause-reads_back g c = read_text c.args.self.now c.magnitude_range-range.ensures.valid
+returns-then-length-le-FEW-clause-reads_back g c =
+    read_text c.args.self.now c.writeable_length_hint-length.ensures.valid
 
 pub returns-in_err-put_bytes-clause-stays : goal.returns-in_err-put_bytes-clause-stays
 returns-in_err-put_bytes-clause-stays g c =

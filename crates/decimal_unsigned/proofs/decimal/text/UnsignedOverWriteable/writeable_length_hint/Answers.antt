@@ -14,7 +14,7 @@ returns-then-lo-lt0 g c =
     ap (λ k. k + 1) n
     ∙ sym (length-text_dotted c.args.self.now v.hi_in.0
     (omega (arith, ints, c.if-lo-lt0.true, c.lowest-lo.ensures.value))) in
-    record { length = length; at_most = omega (arith, length, text_short c.args.self.now v) }
+    record { length = length; at_most = omega (arith, length, text_short c.args.self.now v); valid = v }
 
 pub returns-else-lo-lt0 : goal.returns-else-lo-lt0
 returns-else-lo-lt0 g c =
@@ -26,4 +26,4 @@ returns-else-lo-lt0 g c =
     n
     ∙ sym (length-text_whole c.args.self.now v.hi_in.0
     (omega (arith, ints, c.if-lo-lt0.false, c.lowest-lo.ensures.value, v.lo_in))) in
-    record { length = length; at_most = omega (arith, length, text_short c.args.self.now v) }
+    record { length = length; at_most = omega (arith, length, text_short c.args.self.now v); valid = v }

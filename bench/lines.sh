@@ -1,0 +1,118 @@
+#!/usr/bin/env bash
+# Times the filter `fixdec_lines` beside what a shell user might take instead, side by side on the same lines:
+#
+#   bench/lines.sh [LINES] [PASSES]
+#
+# LINES lines `dddd.ddd` (5,000,000 if nothing is said) are rounded to two decimals, ties to even, by `fixdec_lines`,
+# `numfmt`, `mawk`, Python's `decimal`, and `strtod`, a C program of `getline`, `strtod` and `printf`. In each of PASSES
+# passes (5) they take turns. A row has the least processor time of a program, that time over the filter's, the middle
+# one of the ratios of the passes, and the greatest memory. numfmt, mawk and the C program round a binary fraction, and
+# numfmt rounds ties away from zero, so some of their lines differ: the last column counts them. The lines of the filter
+# have to be those of Python.
+#
+# The second table has the instructions of a line: of the filter, of the filter with no call, which reads each line as a
+# number and prints it, of the C program, and of one that only copies each line by `getline` and `fwrite`.
+#
+# Needs bash, the toolchain, a C compiler, and Debian's time, mawk, python3 and valgrind. Take it on a machine that does
+# nothing else.
+set -euo pipefail
+lines=${1:-5000000} passes=${2:-5}
+cd "$(dirname "$0")/.."
+(cd crates/fixdec_lines && rt run) > /dev/null 2>&1
+room=$(mktemp -d)
+trap 'rm -rf "$room"' EXIT
+cp crates/fixdec_lines/out/fixdec_lines "$room/fixdec_lines"
+chmod +x "$room/fixdec_lines"
+
+cat > "$room/lines.py" <<'PYTHON'
+import random, sys
+random.seed(7)
+for _ in range(int(sys.argv[1])):
+    n = random.randrange(1000000, 10000000)
+    print("%d.%03d" % (n // 1000, n % 1000))
+PYTHON
+cat > "$room/rounded.py" <<'PYTHON'
+import sys
+from decimal import Decimal, ROUND_HALF_EVEN
+unit = Decimal("0.01")
+write = sys.stdout.write
+for line in sys.stdin:
+    write(str(Decimal(line).quantize(unit, rounding=ROUND_HALF_EVEN)) + "\n")
+PYTHON
+cat > "$room/strtod.c" <<'C'
+#define _GNU_SOURCE
+#include <stdio.h>
+#include <stdlib.h>
+int main(void) {
+    char *line = 0;
+    size_t room = 0;
+    while (getline(&line, &room, stdin) > 0)
+        printf("%.2f\n", strtod(line, 0));
+}
+C
+cat > "$room/copy.c" <<'C'
+#define _GNU_SOURCE
+#include <stdio.h>
+int main(void) {
+    char *line = 0;
+    size_t room = 0;
+    for (ssize_t length; (length = getline(&line, &room, stdin)) > 0;)
+        fwrite(line, 1, length, stdout);
+}
+C
+for name in strtod copy; do
+  cc -O2 -o "$room/$name" "$room/$name.c"
+done
+cat > "$room/table.py" <<'PYTHON'
+import sys
+from statistics import median
+room, passes, names = sys.argv[1], int(sys.argv[2]), sys.argv[3:]
+rows = {n: [tuple(map(float, l.split())) for l in open(f"{room}/{n}.times")] for n in names}
+cpu = {n: [user + system for user, system, _ in rows[n]] for n in names}
+ours = open(f"{room}/{names[0]}.out").read().split("\n")
+print("| Program | CPU seconds | over ours | middle ratio | peak KiB | lines that differ |")
+print("|---|---|---|---|---|---|")
+for n in names:
+    ratios = [a / b for a, b in zip(cpu[n], cpu[names[0]])]
+    theirs = open(f"{room}/{n}.out").read().split("\n")
+    differ = sum(a != b for a, b in zip(ours, theirs)) + abs(len(ours) - len(theirs))
+    print("| %s | %.2f | %.2f | %.2f | %d | %d |" % (n, min(cpu[n]), min(cpu[n]) / min(cpu[names[0]]),
+        median(ratios), max(r[2] for r in rows[n]), differ))
+    if n == "python3" and differ:
+        sys.exit("the filter and Python's decimal differ")
+PYTHON
+
+# The real interpreter: a shim before it would be timed too.
+python=$(python3 -c 'import sys; print(sys.executable)')
+"$python" "$room/lines.py" "$lines" > "$room/in"
+# timed NAME COMMAND..: runs a command on the lines, and notes its user and system time and its greatest memory.
+timed() {
+  /usr/bin/time -a -o "$room/$1.times" -f '%U %S %M' "${@:2}" < "$room/in" > "$room/$1.out"
+}
+for ((pass = 0; pass < passes; pass++)); do
+  timed fixdec_lines "$room/fixdec_lines" round:-2:half-even:1
+  timed numfmt numfmt --format=%.2f --round=nearest
+  timed mawk mawk '{printf "%.2f\n", $1}'
+  timed python3 "$python" "$room/rounded.py"
+  timed strtod "$room/strtod"
+done
+"$python" "$room/table.py" "$room" "$passes" fixdec_lines numfmt mawk python3 strtod
+
+some=$((lines < 100000 ? lines : 100000))
+head -n "$some" "$room/in" > "$room/some"
+# instructions PROGRAM [WORD]..: those of a line, on average over some of them, without those of a run on no line.
+instructions() {
+  local counted=()
+  for input in "$room/some" /dev/null; do
+    counted+=("$(valgrind --tool=callgrind --callgrind-out-file=/dev/null "$@" 2>&1 > /dev/null < "$input" |
+      sed -n 's/.*Collected : //p')")
+  done
+  echo $(((counted[0] - counted[1]) / some))
+}
+echo
+echo "| Program | instructions a line |"
+echo "|---|---|"
+echo "| fixdec_lines | $(instructions "$room/fixdec_lines" round:-2:half-even:1) |"
+echo "| fixdec_lines with no call | $(instructions "$room/fixdec_lines") |"
+echo "| strtod | $(instructions "$room/strtod") |"
+echo "| a copy of each line | $(instructions "$room/copy") |"

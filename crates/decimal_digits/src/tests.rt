@@ -1,9 +1,0 @@
-//! Each public call once, what no clause says, and sinks that fail.
-
-mod bulk;
-mod counted;
-mod errors;
-mod lists;
-mod modes;
-mod packed;
-mod sinks;

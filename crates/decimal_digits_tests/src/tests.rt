@@ -1,0 +1,53 @@
+//! Each public call once, what no clause says, and sinks that fail. A helper holds one list, or two where a call takes
+//! two, and answers whether all is as its row says.
+use decimal_digits::digits::{DigitList, DigitStore, PackedDigits};
+use std::alloc::{AllocError, Global};
+use std::test::Fail;
+
+mod bulk;
+mod changes;
+mod copies;
+mod counted;
+mod errors;
+mod modes;
+mod sinks;
+
+/// Makes the list of a text's digits, one at a time.
+fn list_of<D: DigitStore>(alloc: Global, text: &[u8]) -> Result<D, AllocError> {
+    let mut list = D::empty(alloc);
+    for letter in text {
+        list.reserve(1)?;
+        list.push_in_room(*letter % 16 % 10);
+    }
+    Ok(list)
+}
+
+/// Puts the digits of a text behind a list and so many zeros.
+fn append_text<D: DigitStore>(
+    list: &mut D,
+    alloc: Global,
+    zeros: usize,
+    text: &[u8],
+) -> Result<(), AllocError> {
+    let other = list_of::<D>(alloc, text)?;
+    list.append(zeros, &other)
+}
+
+/// Whether a list equals the list of a text's digits, which has seen no change.
+fn equals_text<D: DigitStore>(list: &D, alloc: Global, text: &[u8]) -> Result<bool, AllocError> {
+    let other = list_of::<D>(alloc, text)?;
+    Ok(list.eq(&other))
+}
+
+/// Whether a list has the digits of a text, each by its index.
+fn has_digits<D: DigitStore>(list: &D, text: &[u8]) -> bool {
+    if list.len() != text.len() {
+        return false;
+    }
+    for (index, digit) in text.iter().enumerate() {
+        if list.get(index) != *digit % 16 {
+            return false;
+        }
+    }
+    true
+}

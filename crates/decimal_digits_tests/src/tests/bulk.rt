@@ -1,0 +1,192 @@
+//! Runs of digits, over both stores: text that comes in, text that goes out, and equal digits at an end.
+ghost use Rattle.std.specs.Prelude.{IsTrue};
+ghost use Rattle.std.specs.Str.Parse.{AllDigits};
+
+use super::*;
+use decimal_digits::digits::{Counted, Steps};
+
+/// The first fifty digits of pi.
+const PI: &[u8] = b"31415926535897932384626433832795028841971693993751";
+
+/// The first digits of pi.
+fn first(count: usize) -> &'static [u8] {
+    if count < PI.len() { &PI[..count] } else { PI }
+}
+
+/// Tells whether a text has digits alone.
+fn is_number(text: &[u8]) -> bool
+    ensures { IsTrue result → AllDigits 10 text.now }
+{
+    for letter in text {
+        if *letter < b'0' || b'9' < *letter {
+            return false;
+        }
+    }
+    true
+}
+
+/// Whether the rest of a text, pushed behind the list of its first digits, makes the list of all of them.
+fn pushes<D: DigitStore>(alloc: Global, all: &[u8], held: usize) -> Result<bool, AllocError> {
+    let (front, rest) = all.split_at(held.min(all.len()));
+    let mut list: D = list_of(alloc, front)?;
+    list.reserve(rest.len())?;
+    if is_number(rest) {
+        list.push_text(rest);
+    }
+    Ok(has_digits(&list, all))
+}
+
+/// The same over each store.
+fn pushes_over_each(alloc: Global, all: &[u8], held: usize) -> Result<bool, AllocError> {
+    Ok(pushes::<PackedDigits>(alloc, all, held)? && pushes::<DigitList>(alloc, all, held)?)
+}
+
+/// Whether a list writes these digits from an index on.
+fn copies<D: DigitStore>(
+    alloc: Global,
+    text: &[u8],
+    from: usize,
+    digits: &[u8],
+) -> Result<bool, AllocError> {
+    let list: D = list_of(alloc, text)?;
+    let mut places = vec![in alloc; b'-'; digits.len()]?;
+    if from <= list.len() && digits.len() <= list.len() - from {
+        list.copy_text(from, places.as_mut_slice());
+    }
+    Ok(places.as_slice() == digits)
+}
+
+/// The same over each store.
+fn copies_over_each(
+    alloc: Global,
+    text: &[u8],
+    from: usize,
+    digits: &[u8],
+) -> Result<bool, AllocError> {
+    Ok(
+        copies::<PackedDigits>(alloc, text, from, digits)?
+            && copies::<DigitList>(alloc, text, from, digits)?,
+    )
+}
+
+/// Whether so many digits at the end of the first `count` of a list equal a digit, also where each is a turn.
+fn counts_back<D: DigitStore>(
+    alloc: Global,
+    (text, count, digit, equal): (&[u8], usize, u8, usize),
+) -> Result<bool, AllocError> {
+    let mut list: D = list_of(alloc, text)?;
+    if count > list.len() || list.count_back(count, digit) != equal {
+        return Ok(false);
+    }
+    let mut steps = Steps::new();
+    Ok(Counted::new(&mut list, &mut steps).count_back(count, digit) == equal)
+}
+
+/// The same over each store.
+fn counts_back_over_each(
+    alloc: Global,
+    row: (&[u8], usize, u8, usize),
+) -> Result<bool, AllocError> {
+    Ok(counts_back::<PackedDigits>(alloc, row)? && counts_back::<DigitList>(alloc, row)?)
+}
+
+/// How many digits are held.
+const HELD: &[usize] = &[0, 1, 7, 8, 15, 16, 17];
+
+/// How long a text is pushed onto them.
+const PUSHED: &[usize] = &[0, 1, 2, 9, 33];
+
+#[test]
+fn pushes_text(rt: HostRuntime) -> Result<(), Fail> {
+    for held in HELD {
+        for count in PUSHED {
+            let all = first(held.saturating_add(*count));
+            assert!(rt;
+                pushes_over_each(rt.alloc(), all, *held)?,
+                "{held} and {count}"
+            );
+        }
+    }
+    Ok(())
+}
+
+/// A text, an index, and the digits from there on, as many as are to be written.
+const COPIES: &[(&[u8], usize, &[u8])] = &[
+    (b"", 0, b""),
+    (b"7", 0, b"7"),
+    (b"7", 1, b""),
+    (b"31415", 0, b"31415"),
+    (b"31415", 0, b"3141"),
+    (b"31415", 1, b"1415"),
+    (b"31415", 1, b"141"),
+    (b"31415", 2, b"415"),
+    (b"31415", 3, b"1"),
+    (b"31415", 4, b"5"),
+    (b"31415", 3, b""),
+    (
+        b"31415926535897932384626433832795",
+        0,
+        b"31415926535897932384626433832795",
+    ),
+    (
+        b"31415926535897932384626433832795",
+        7,
+        b"6535897932384626433832795",
+    ),
+    (
+        b"31415926535897932384626433832795",
+        8,
+        b"535897932384626433832795",
+    ),
+    (b"31415926535897932384626433832795", 15, b"323846264338327"),
+];
+
+#[test]
+fn copies_text(rt: HostRuntime) -> Result<(), Fail> {
+    for (text, from, digits) in COPIES {
+        assert!(rt;
+            copies_over_each(rt.alloc(), text, *from, digits)?,
+            "from {from}"
+        );
+    }
+    Ok(())
+}
+
+/// A text, how many of its first digits are looked at, a digit, and how many at their end equal it.
+const RUNS: &[(&[u8], usize, u8, usize)] = &[
+    (b"", 0, 0, 0),
+    (b"9", 1, 9, 1),
+    (b"9", 1, 0, 0),
+    (b"99", 2, 9, 2),
+    (b"999", 3, 9, 3),
+    (b"199", 3, 9, 2),
+    (b"1999", 4, 9, 3),
+    (b"9199", 4, 9, 2),
+    (b"91999", 5, 9, 3),
+    (b"9990", 4, 9, 0),
+    (b"9990", 3, 9, 3),
+    (b"99095", 4, 9, 1),
+    (b"25000", 5, 0, 3),
+    (b"25000", 4, 0, 2),
+    (b"25000", 2, 0, 0),
+    (b"25000", 0, 0, 0),
+    (b"20500", 5, 5, 0),
+    (b"20555", 5, 5, 3),
+    (b"1999999999999999999999", 22, 9, 21),
+    (b"19999999999999999999999", 23, 9, 22),
+    (b"19999999999999999999999", 22, 9, 21),
+    (b"25000", 5, 10, 0),
+    (b"25000", 5, 255, 0),
+];
+
+#[test]
+fn counts_equal_digits_back(rt: HostRuntime) -> Result<(), Fail> {
+    for row in RUNS {
+        let (_, count, digit, _) = *row;
+        assert!(rt;
+            counts_back_over_each(rt.alloc(), *row)?,
+            "{digit} in {count} digits"
+        );
+    }
+    Ok(())
+}

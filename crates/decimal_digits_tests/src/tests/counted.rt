@@ -1,0 +1,119 @@
+//! The digits that each call of `Counted` reads and writes, over a list that counts them, and what is left of them.
+use super::*;
+use decimal_digits::digits::{Counted, Steps};
+use decimal_doubles::{CountingStore, LimitedStore, MaxDigits};
+use std::mem::size_of;
+
+/// A list that counts the digits that are read or written.
+type Watched = LimitedStore<DigitList, MaxDigits>;
+
+/// A call of `Counted`.
+#[derive(Clone, Copy)]
+enum Call {
+    New,
+    Len,
+    Get(usize),
+    CountBack(usize, u8),
+    Set(usize, u8),
+    Push(u8),
+    Reserve(usize),
+    Truncate(usize),
+    Clear,
+}
+
+/// Makes a call, where the list has so many digits.
+fn make<D: DigitStore>(counted: &mut Counted<'_, D>, call: Call) -> Result<usize, AllocError> {
+    let len = counted.len();
+    match call {
+        Call::Get(index) if index < len => {
+            counted.get(index);
+        }
+        Call::CountBack(count, digit) if count <= len => return Ok(counted.count_back(
+            count, digit,
+        )),
+        Call::Set(index, digit) if index < len && digit < 10 => counted.set(index, digit),
+        Call::Push(digit) if digit < 10 => {
+            counted.reserve(1)?;
+            counted.push_in_room(digit);
+        }
+        Call::Reserve(count) => counted.reserve(count)?,
+        Call::Truncate(count) if count <= len => counted.truncate(count),
+        Call::Clear => counted.clear(),
+        _ => {}
+    }
+    Ok(counted.len())
+}
+
+/// Makes a call of the list 2, 5, 9 and 9, and gives the digits that it touched and its answer or the length then.
+fn touched<S: CountingStore>(
+    alloc: Global,
+    call: Call,
+) -> Result<(Option<usize>, usize), AllocError> {
+    let mut list = S::from_digits(alloc, &[2, 5, 9, 9])?;
+    list.restart();
+    let answer = make(&mut Counted::new(&mut list, &mut Steps::new()), call)?;
+    Ok((list.touched(), answer))
+}
+
+/// A call, the digits that it touches, and its count or the length that it leaves.
+const CALLS: &[(Call, usize, usize)] = &[
+    (Call::New, 0, 4),
+    (Call::Len, 0, 4),
+    (Call::Get(0), 1, 4),
+    (Call::Get(3), 1, 4),
+    (Call::CountBack(0, 9), 0, 0),
+    (Call::CountBack(1, 2), 1, 1),
+    (Call::CountBack(2, 9), 1, 0),
+    (Call::CountBack(3, 9), 2, 1),
+    (Call::CountBack(4, 9), 3, 2),
+    (Call::CountBack(4, 0), 1, 0),
+    (Call::Set(1, 5), 1, 4),
+    (Call::Set(1, 7), 1, 4),
+    (Call::Push(9), 1, 5),
+    (Call::Push(0), 1, 5),
+    (Call::Reserve(0), 0, 4),
+    (Call::Reserve(100), 0, 4),
+    (Call::Truncate(0), 0, 0),
+    (Call::Truncate(3), 0, 3),
+    (Call::Truncate(4), 0, 4),
+    (Call::Clear, 0, 0),
+];
+
+#[test]
+fn touches_what_it_counts(rt: HostRuntime) -> Result<(), Fail> {
+    for (call, digits, answer) in CALLS {
+        let holds = touched::<Watched>(rt.alloc(), *call)? == (Some(*digits), *answer);
+        assert!(rt; holds, "{digits} and {answer}");
+    }
+    Ok(())
+}
+
+/// Changes a list of three digits in turn: the last becomes 7, and so does the first. It tells whether there are three.
+fn change_in_turn<D: DigitStore>(counted: &mut Counted<'_, D>) -> Result<bool, AllocError> {
+    if counted.len() != 3 {
+        return Ok(false);
+    }
+    counted.truncate(2);
+    counted.reserve(1)?;
+    counted.push_in_room(7);
+    let last = counted.get(2);
+    counted.set(0, last);
+    Ok(counted.len() == 3)
+}
+
+/// Whether calls in a row make 7, 5 and 7 of a list 2, 5 and 0, and then nothing.
+fn changes_in_turn<D: DigitStore>(alloc: Global) -> Result<bool, AllocError> {
+    let mut list = D::from_digits(alloc, &[2, 5, 0])?;
+    let mut steps = Steps::new();
+    let is_made = change_in_turn(&mut Counted::new(&mut list, &mut steps))?;
+    let is_changed = equals_text(&list, alloc, b"757")?;
+    Counted::new(&mut list, &mut steps).clear();
+    Ok(is_made && is_changed && list.len() == 0)
+}
+
+#[test]
+fn changes(rt: HostRuntime) -> Result<(), Fail> {
+    assert!(rt; changes_in_turn::<DigitList>(rt.alloc())?);
+    assert_eq!(rt; size_of::<Steps>(), 0);
+    Ok(())
+}

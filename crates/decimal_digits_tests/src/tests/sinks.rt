@@ -1,0 +1,218 @@
+//! Sinks in memory and over writers, and writers that fail.
+use super::*;
+use decimal_digits::sink::{Out, Sink, SinkFault, TextBuf};
+use decimal_doubles::{FailingWriter, WriteFailure};
+
+/// The text that is put into sinks.
+const TEXT: &[u8] = b"-1234.50";
+
+/// How a text is put into a sink.
+#[derive(Clone, Copy)]
+enum Way {
+    /// By a call for each byte.
+    ByteByByte,
+    /// By one call.
+    AtOnce,
+    /// By a call for so many bytes, and one for none.
+    InPieces(usize),
+}
+
+const WAYS: [Way; 4] = [
+    Way::ByteByByte,
+    Way::AtOnce,
+    Way::InPieces(1),
+    Way::InPieces(3),
+];
+
+/// Puts the text byte by byte, up to the first refusal.
+fn put_each<W: Sink>(sink: &mut W) -> Result<(), SinkFault> {
+    for byte in TEXT {
+        sink.put_byte(*byte)?;
+    }
+    Ok(())
+}
+
+/// Puts the text in pieces of so many bytes, each with an empty one behind it, up to the first refusal.
+fn put_pieces<W: Sink>(sink: &mut W, size: usize) -> Result<(), SinkFault> {
+    for piece in TEXT.chunks(size.max(1)) {
+        sink.put_bytes(piece)?;
+        sink.put_bytes(b"")?;
+    }
+    Ok(())
+}
+
+/// Puts the text, up to the first refusal.
+fn put_all<W: Sink>(sink: &mut W, way: Way) -> Result<(), SinkFault> {
+    match way {
+        Way::ByteByByte => put_each(sink),
+        Way::AtOnce => sink.put_bytes(TEXT),
+        Way::InPieces(size) => put_pieces(sink, size),
+    }
+}
+
+/// Whether a sink in memory takes the text.
+fn keeps_text(alloc: Global, way: Way) -> bool {
+    let mut text = TextBuf::new(alloc);
+    put_all(&mut text, way).is_ok() && !text.failed() && text.as_bytes() == TEXT
+}
+
+/// Whether a sink over a writer in memory takes the text.
+fn hands_text_on(alloc: Global, way: Way) -> bool {
+    let mut out = Out::new(Vec::<u8>::new(alloc));
+    let is_taken = put_all(&mut out, way).is_ok() && out.flush().is_ok() && !out.failed();
+    is_taken && out.into_writer().as_slice() == TEXT
+}
+
+#[test]
+fn takes_bytes(rt: HostRuntime) {
+    for way in WAYS {
+        assert!(rt; keeps_text(rt.alloc(), way));
+        assert!(rt; hands_text_on(rt.alloc(), way));
+    }
+}
+
+/// Whether a sink has failed, and refuses a byte, bytes and no bytes.
+fn refuses_all<W: Sink>(sink: &mut W) -> bool {
+    sink.failed()
+        && sink.put_byte(b'0').is_err()
+        && sink.put_bytes(b"0").is_err()
+        && sink.put_bytes(b"").is_err()
+}
+
+/// Whether a sink fails with its writer, which has so much room, and does not call it after the fault.
+fn fails_at(room: usize, way: Way, refusal: WriteFailure) -> bool {
+    let mut out = Out::new(FailingWriter::new(TEXT, room, refusal));
+    let fails = put_all(&mut out, way).is_err() && refuses_all(&mut out) && out.flush().is_err();
+    let writer = out.into_writer();
+    fails
+        && writer.has_taken(room)
+        && writer.writes() == room.saturating_add(1)
+        && writer.flushes() == 0
+}
+
+#[test]
+fn fails_with_the_writer(rt: HostRuntime) {
+    for room in 0..8 {
+        for way in WAYS {
+            assert!(rt; fails_at(room, way, WriteFailure::Zero), "{room}");
+            assert!(rt; fails_at(room, way, WriteFailure::Fault), "{room}");
+            assert!(rt; fails_at(room, way, WriteFailure::Interrupted), "{room}");
+        }
+    }
+}
+
+/// Whether a sink fails with the flush of its writer, and keeps the fault. An empty slice is no write.
+fn fails_with_flush() -> bool {
+    let mut out = Out::new(FailingWriter::new(TEXT, 8, WriteFailure::Flush));
+    let is_taken = out.put_bytes(b"").is_ok() && out.put_bytes(TEXT).is_ok();
+    let fails = out.flush().is_err() && refuses_all(&mut out) && out.flush().is_err();
+    let writer = out.into_writer();
+    is_taken && fails && writer.has_all() && writer.writes() == 8 && writer.flushes() == 1
+}
+
+/// Whether a flush is one flush and no write, and no other call is a flush.
+fn flushes_between() -> bool {
+    let mut out = Out::new(FailingWriter::new(b"-123", 8, WriteFailure::Zero));
+    let is_taken = out.put_bytes(b"-12").is_ok()
+        && out.flush().is_ok()
+        && out.put_byte(b'3').is_ok();
+    let writer = out.into_writer();
+    is_taken && writer.has_all() && writer.writes() == 4 && writer.flushes() == 1
+}
+
+#[test]
+fn flushes(rt: HostRuntime) {
+    assert!(rt; fails_with_flush());
+    assert!(rt; flushes_between());
+}
+
+/// How often a writer that takes so many bytes at a call is called for the text.
+fn writes_for(width: usize, way: Way) -> Option<usize> {
+    let mut out = Out::new(FailingWriter::new(TEXT, 8, WriteFailure::Fault).with_width(width));
+    put_all(&mut out, way).ok()?;
+    Some(out.into_writer().writes())
+}
+
+/// How many bytes the writer takes at a call, how the text is put, and how often the writer is called.
+const WRITES: &[(usize, Way, usize)] = &[
+    (8, Way::AtOnce, 1),
+    (7, Way::AtOnce, 2),
+    (3, Way::AtOnce, 3),
+    (1, Way::AtOnce, 8),
+    (8, Way::InPieces(3), 3),
+    (2, Way::InPieces(3), 5),
+    (8, Way::ByteByByte, 8),
+];
+
+#[test]
+fn hands_slices_on(rt: HostRuntime) {
+    for (width, way, writes) in WRITES {
+        assert!(rt; writes_for(*width, *way) == Some(*writes), "{width}");
+    }
+}
+
+/// Puts each byte from 0 to 255, and tells whether all were taken.
+fn puts_each_byte<W: Sink>(sink: &mut W) -> bool {
+    for byte in 0..=255 {
+        if sink.put_byte(byte).is_err() {
+            return false;
+        }
+    }
+    true
+}
+
+/// Whether bytes are those from 0 to 255.
+fn counts_up(bytes: &[u8]) -> bool {
+    for (byte, taken) in (0..=255).zip(bytes) {
+        if *taken != byte {
+            return false;
+        }
+    }
+    bytes.len() == 256
+}
+
+#[test]
+fn takes_each_byte(rt: HostRuntime) {
+    let mut text = TextBuf::new(rt.alloc());
+    assert!(rt; puts_each_byte(&mut text) && counts_up(text.as_bytes()));
+    let mut out = Out::new(Vec::<u8>::new(rt.alloc()));
+    assert!(rt; puts_each_byte(&mut out) && counts_up(out.into_writer().as_slice()));
+}
+
+/// Whether a sink has so many bytes, and one more that it takes.
+fn takes_one_more(text: &mut TextBuf, count: usize) -> bool {
+    text.as_bytes().len() == count
+        && text.put_byte(b'.').is_ok()
+        && text.as_bytes().len() == count.saturating_add(1)
+        && text.as_bytes().last() == Some(&b'.')
+}
+
+/// Whether a sink takes the first byte of some, the first two, and so on up to all.
+fn grows(alloc: Global, bytes: &[u8]) -> bool {
+    let mut text = TextBuf::new(alloc);
+    let mut count: usize = 0;
+    for size in 0..=bytes.len() {
+        count = count.saturating_add(size);
+        if text.put_bytes(&bytes[..size]).is_err() || text.as_bytes().len() != count {
+            return false;
+        }
+    }
+    takes_one_more(&mut text, count)
+}
+
+/// Whether a sink takes so many bytes, one by one.
+fn takes_long(alloc: Global, count: usize) -> bool {
+    let mut text = TextBuf::new(alloc);
+    for _ in 0..count {
+        if text.put_byte(b'7').is_err() {
+            return false;
+        }
+    }
+    takes_one_more(&mut text, count)
+}
+
+#[test]
+fn takes_long_texts(rt: HostRuntime) {
+    assert!(rt; grows(rt.alloc(), &[b'7'; 500]));
+    assert!(rt; takes_long(rt.alloc(), 131_100));
+}

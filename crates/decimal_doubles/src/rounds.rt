@@ -1,0 +1,251 @@
+//! The rounding calls of values with a sign and without, by their names.
+use self::Way::{
+    ByIncrement, ByIncrementOnValue, ByMode, ByModeOnValue, ByName, ByNameOnValue, Counted,
+};
+use crate::value::{Value, has_text};
+use decimal_digits::digits::{DigitStore, Steps};
+use decimal_digits::rounding::RoundingIncrement::MultiplesOf1;
+use decimal_digits::rounding::UnsignedRoundingMode::{self, Expand, HalfEven, Trunc};
+use decimal_digits::rounding::{RoundError, RoundingIncrement};
+use decimal_unsigned::LimitError;
+use decimal_unsigned::decimal::UnsignedOver;
+use fixed_decimal::Signed;
+use fixed_decimal::SignedRoundingMode::{self, Ceil, Floor, Unsigned};
+use std::alloc::AllocError;
+
+/// A rounding call.
+#[derive(Clone, Copy)]
+pub enum Way {
+    Counted,
+    ByIncrement,
+    ByIncrementOnValue,
+    ByMode,
+    ByModeOnValue,
+    ByName,
+    ByNameOnValue,
+}
+
+/// The calls that take an increment.
+const BY_INCREMENT: &[Way] = &[Counted, ByIncrement, ByIncrementOnValue];
+
+/// All calls.
+const ALL: &[Way] = &[
+    Counted,
+    ByIncrement,
+    ByIncrementOnValue,
+    ByMode,
+    ByModeOnValue,
+    ByName,
+    ByNameOnValue,
+];
+
+/// Gives the calls that round by an increment.
+pub fn ways(increment: RoundingIncrement) -> &'static [Way] {
+    if increment == MultiplesOf1 {
+        ALL
+    } else {
+        BY_INCREMENT
+    }
+}
+
+/// A position, a mode and an increment.
+pub type Rounding<M> = (i16, M, RoundingIncrement);
+
+/// The rounded value, or the one that a refusal leaves, and why.
+pub type Left<T> = Result<T, (T, RoundError)>;
+
+/// A type of values that are rounded by modes of a type.
+pub trait Rounds<M: Copy>: Drop {
+    /// Rounds in place by the call that a way names, or else by increment.
+    fn round_by(&mut self, way: Way, rounding: Rounding<M>) -> Result<(), RoundError>;
+
+    /// Rounds the value by the call that a way names, or else by increment.
+    fn rounded_by(self, way: Way, rounding: Rounding<M>) -> Left<Self>;
+}
+
+/// The answer of a call that may be refused for the limit alone.
+fn limited(answer: Result<(), LimitError>) -> Result<(), RoundError> {
+    match answer {
+        Ok(()) => Ok(()),
+        Err(LimitError) => Err(RoundError::Limit),
+    }
+}
+
+/// The same of a call on a value.
+fn limited_on_value<T: Drop>(answer: Result<T, T>) -> Left<T> {
+    match answer {
+        Ok(value) => Ok(value),
+        Err(value) => Err((value, RoundError::Limit)),
+    }
+}
+
+/// Rounds by the call that bears the mode's name, where there is one.
+fn round_by_name<D: DigitStore>(
+    value: &mut UnsignedOver<D>,
+    position: i16,
+    mode: UnsignedRoundingMode,
+) -> Result<(), LimitError> {
+    match mode {
+        Expand => value.expand(position),
+        Trunc => {
+            value.trunc(position);
+            Ok(())
+        }
+        HalfEven => value.round(position),
+        _ => value.round_with_mode(position, mode),
+    }
+}
+
+/// The same on a value.
+fn rounded_by_name<D: DigitStore>(
+    value: UnsignedOver<D>,
+    position: i16,
+    mode: UnsignedRoundingMode,
+) -> Result<UnsignedOver<D>, UnsignedOver<D>> {
+    match mode {
+        Expand => value.expanded(position),
+        Trunc => Ok(value.trunced(position)),
+        HalfEven => value.rounded(position),
+        _ => value.rounded_with_mode(position, mode),
+    }
+}
+
+/// Rounds a value with a sign by the call that bears the mode's name, where there is one.
+fn round_signed_by_name<D: DigitStore>(
+    value: &mut Signed<UnsignedOver<D>>,
+    position: i16,
+    mode: SignedRoundingMode,
+) -> Result<(), LimitError> {
+    match mode {
+        Ceil => value.ceil(position),
+        Floor => value.floor(position),
+        Unsigned(Expand) => value.expand(position),
+        Unsigned(Trunc) => {
+            value.trunc(position);
+            Ok(())
+        }
+        Unsigned(HalfEven) => value.round(position),
+        _ => value.round_with_mode(position, mode),
+    }
+}
+
+/// The same on a value.
+fn rounded_signed_by_name<D: DigitStore>(
+    value: Signed<UnsignedOver<D>>,
+    position: i16,
+    mode: SignedRoundingMode,
+) -> Result<Signed<UnsignedOver<D>>, Signed<UnsignedOver<D>>> {
+    match mode {
+        Ceil => value.ceiled(position),
+        Floor => value.floored(position),
+        Unsigned(Expand) => value.expanded(position),
+        Unsigned(Trunc) => Ok(value.trunced(position)),
+        Unsigned(HalfEven) => value.rounded(position),
+        _ => value.rounded_with_mode(position, mode),
+    }
+}
+
+impl<D: DigitStore> Rounds<UnsignedRoundingMode> for UnsignedOver<D> {
+    fn round_by(
+        &mut self,
+        way: Way,
+        (position, mode, increment): Rounding<UnsignedRoundingMode>,
+    ) -> Result<(), RoundError> {
+        match way {
+            Counted => self.round_counted(position, mode, increment, &mut Steps::new()),
+            ByMode => limited(self.round_with_mode(position, mode)),
+            ByName => limited(round_by_name(self, position, mode)),
+            _ => self.round_with_mode_and_increment(position, mode, increment),
+        }
+    }
+
+    fn rounded_by(
+        self,
+        way: Way,
+        (position, mode, increment): Rounding<UnsignedRoundingMode>,
+    ) -> Left<Self> {
+        match way {
+            ByModeOnValue => limited_on_value(self.rounded_with_mode(position, mode)),
+            ByNameOnValue => limited_on_value(rounded_by_name(self, position, mode)),
+            _ => self.rounded_with_mode_and_increment(position, mode, increment),
+        }
+    }
+}
+
+impl<D: DigitStore> Rounds<SignedRoundingMode> for Signed<UnsignedOver<D>> {
+    fn round_by(
+        &mut self,
+        way: Way,
+        (position, mode, increment): Rounding<SignedRoundingMode>,
+    ) -> Result<(), RoundError> {
+        match way {
+            Counted => self.round_counted(position, mode, increment, &mut Steps::new()),
+            ByMode => limited(self.round_with_mode(position, mode)),
+            ByName => limited(round_signed_by_name(self, position, mode)),
+            _ => self.round_with_mode_and_increment(position, mode, increment),
+        }
+    }
+
+    fn rounded_by(
+        self,
+        way: Way,
+        (position, mode, increment): Rounding<SignedRoundingMode>,
+    ) -> Left<Self> {
+        match way {
+            ByModeOnValue => limited_on_value(self.rounded_with_mode(position, mode)),
+            ByNameOnValue => limited_on_value(rounded_signed_by_name(self, position, mode)),
+            _ => self.rounded_with_mode_and_increment(position, mode, increment),
+        }
+    }
+}
+
+/// Rounds in place a value that is given back.
+fn left_in_place<M: Copy, T: Rounds<M>>(value: T, way: Way, rounding: Rounding<M>) -> Left<T> {
+    let mut value = value;
+    match value.round_by(way, rounding) {
+        Ok(()) => Ok(value),
+        Err(error) => Err((value, error)),
+    }
+}
+
+/// Rounds a value by the call that a way names.
+pub fn rounded<M: Copy, T: Rounds<M>>(value: T, way: Way, rounding: Rounding<M>) -> Left<T> {
+    match way {
+        Counted | ByIncrement | ByMode | ByName => left_in_place(value, way, rounding),
+        ByIncrementOnValue | ByModeOnValue | ByNameOnValue => value.rounded_by(way, rounding),
+    }
+}
+
+/// Tells whether an answer is a text; `!` where it was refused for the limit, and left another text.
+///
+/// Err: memory was refused, and left the other text.
+fn is_rounded<T: Value>(answer: Left<T>, text: &str, wanted: &str) -> Result<bool, AllocError> {
+    match answer {
+        Ok(value) => Ok(has_text(&value, wanted)),
+        Err((left, RoundError::Limit)) => Ok(wanted == "!" && has_text(&left, text)),
+        Err((left, RoundError::Memory)) => {
+            if has_text(&left, text) {
+                return Err(AllocError);
+            }
+            Ok(false)
+        }
+    }
+}
+
+/// Tells whether each call that makes a rounding makes one text of another; `!` where it is refused for the limit, and
+/// leaves the other text.
+///
+/// Err: memory was refused.
+pub fn rounds_each_way<M: Copy, T: Value + Rounds<M>>(
+    value: &T,
+    text: &str,
+    rounding: Rounding<M>,
+    wanted: &str,
+) -> Result<bool, AllocError> {
+    for way in ways(rounding.2) {
+        if !is_rounded(rounded(value.copy()?, *way, rounding), text, wanted)? {
+            return Ok(false);
+        }
+    }
+    Ok(true)
+}

@@ -1,0 +1,4 @@
+pub mod Refusals
+pub mod Splitting
+pub mod Filtering
+pub mod Programs

@@ -1,0 +1,125 @@
+//! Long texts that are held as a piece and how often it stands: as an input, and as what an output is to take.
+ghost use Rattle.std.specs.Prelude.{◌≤◌, length};
+
+use std::io;
+use std::io::{ErrorKind, Read, Write};
+
+/// A text: a beginning, a piece that stands so often, and an end.
+#[derive(Clone, Copy)]
+pub struct Pattern<'a> {
+    front: &'a [u8],
+    piece: &'a [u8],
+    count: usize,
+    back: &'a [u8],
+}
+
+impl<'a> Pattern<'a> {
+    /// A text of its parts.
+    pub fn new(front: &'a [u8], piece: &'a [u8], count: usize, back: &'a [u8]) -> Self {
+        Pattern {
+            front,
+            piece,
+            count,
+            back,
+        }
+    }
+
+    /// A text of one part.
+    pub fn of(text: &'a [u8]) -> Self {
+        Pattern::new(text, b"", 0, b"")
+    }
+
+    /// The next bytes, at most so many: none only at the end, or where none are asked for.
+    fn take(&mut self, most: usize) -> &'a [u8]
+        ensures { length result.now ≤ most }
+    {
+        if self.front.is_empty() && self.count > 0 {
+            self.count -= 1;
+            self.front = self.piece;
+        }
+        if self.front.is_empty() {
+            self.front = self.back;
+            self.back = b"";
+        }
+        let (taken, rest) = self.front.split_at(most.min(self.front.len()));
+        self.front = rest;
+        taken
+    }
+
+    /// Tells whether no byte is left.
+    fn is_empty(&self) -> bool {
+        self.front.is_empty() && self.back.is_empty() && (self.count == 0 || self.piece.is_empty())
+    }
+}
+
+/// A reader of a text, which gives so many bytes at a read, and answers an error at the end where it is broken.
+#[derive(Drop)]
+pub struct PatternReader<'a> {
+    text: Pattern<'a>,
+    most: usize,
+    is_broken: bool,
+}
+
+impl<'a> PatternReader<'a> {
+    /// A reader of a text.
+    pub fn new(text: Pattern<'a>, most: usize, is_broken: bool) -> Self {
+        PatternReader {
+            text,
+            most,
+            is_broken,
+        }
+    }
+
+    /// Tells whether no byte is left.
+    pub fn is_spent(&self) -> bool {
+        self.text.is_empty()
+    }
+}
+
+impl Read for PatternReader<'_> {
+    fn read(&mut self, buf: &mut [u8]) -> io::Result<usize> {
+        let taken = self.text.take(self.most.min(buf.len()));
+        if taken.is_empty() && self.is_broken {
+            return Err(io::Error::from(ErrorKind::BrokenPipe));
+        }
+        buf[..taken.len()].copy_from_slice(taken);
+        Ok(taken.len())
+    }
+}
+
+/// A writer that compares what it takes with a text.
+#[derive(Drop)]
+pub struct PatternWriter<'a> {
+    text: Pattern<'a>,
+    is_other: bool,
+}
+
+impl<'a> PatternWriter<'a> {
+    /// A writer that is to take this text.
+    pub fn new(text: Pattern<'a>) -> Self {
+        PatternWriter {
+            text,
+            is_other: false,
+        }
+    }
+
+    /// Tells whether the text was taken, whole and alone.
+    pub fn has_all(&self) -> bool {
+        !self.is_other && self.text.is_empty()
+    }
+}
+
+impl Write for PatternWriter<'_> {
+    fn write(&mut self, bytes: &[u8]) -> io::Result<usize> {
+        let expected = self.text.take(bytes.len());
+        if expected.is_empty() || &bytes[..expected.len()] != expected {
+            self.is_other = true;
+            return Ok(bytes.len());
+        }
+        Ok(expected.len())
+    }
+
+    fn flush(&mut self) -> io::Result<()> {
+        Ok(())
+    }
+}

@@ -1,0 +1,77 @@
+-- The operands are those of the digits that the text shows.
+use Rattle.std.proofs.Common.{◌≡◌, ℕ, ◌+◌, ◌-◌, ◌*◌, ◌/◌, ◌%◌, ◌^◌, ◌<◌, ◌≤◌, nat_lt, ◌||◌, cond, Bool, true, false, List, ◌++◌, length, map, refl, sym, ◌∙◌, ap, subst, arith}
+use Rattle.std.specs.Prelude.{None, Ok, Err, pos, ◌-ℤ◌}
+use Rattle.std.specs.Int.{int_gap}
+use Rattle.std.specs.Int.Digits.{number_from_digits}
+use Rattle.std.specs.Char.{digit_value}
+use Rattle.std.specs.Str.Parse.{AllDigits, digits_value}
+use Rattle.std.proofs.lemmas.Int.{ints}
+use Rattle.std.proofs.lemmas.Int.Digits.{digits_value_is, digits_value-lt}
+use Rattle.std.proofs.lemmas.List.{map-append, length-map}
+use Rattle.std.proofs.lemmas.Nat.{div-mul-add, mod-mul-add}
+use Rattle.std.proofs.lemmas.Bool.Decides.{nat_tests}
+use Rattle.std.proofs.Math.Nat.{mul-div_cancel, mul-div-mul_right}
+use Rattle.decimal_digits.specs.Number.{place, weight}
+use Rattle.decimal_unsigned.specs.Grammar.{Written, Grammar}
+use Rattle.decimal_unsigned.specs.Reading.{limit, mantissa, scaled, value_of, read, FollowsGrammar}
+use Rattle.decimal_unsigned.specs.Unsigned.{Unsigned}
+use Rattle.decimal_unsigned.specs.Text.{text}
+use Rattle.fixed_decimal.proofs.Calling.{ten_pos, place_is, gap_is, powers, number-append}
+use Rattle.plural_rules.specs.Operands.{IsOfDigits}
+
+-- digits and then digits
+numeral_append : (xs ys : List ℕ)
+    → digits_value 10 (xs ++ ys) ≡ digits_value 10 xs * 10 ^ length ys + digits_value 10 ys
+numeral_append xs ys =
+    digits_value_is 10 (xs ++ ys)
+    ∙ ap (number_from_digits 10) (map-append digit_value xs ys)
+    ∙ number-append (map digit_value xs) (map digit_value ys)
+    ∙ (λ i. sym (digits_value_is 10 xs) i * 10 ^ length-map ys digit_value i + sym (digits_value_is 10 ys) i)
+
+-- a text without an exponent reads as its digits
+parts_is : (w : Written) (v : Unsigned) → w.exponent ≡ None → value_of w ≡ Ok v
+    → (length w.fraction ≤ 32768) × (mantissa w.whole w.fraction ≡ v)
+unfolding value_of scaled
+parts_is w v none e = go _ refl _ refl (rw none at e)
+  where
+    go : (a : Bool) → nat_lt 32768 (length w.whole) ≡ a → (b : Bool) → nat_lt 32768 (length w.fraction) ≡ b
+        → cond (a || b) (Err limit) (Ok (mantissa w.whole w.fraction)) ≡ Ok v
+        → (length w.fraction ≤ 32768) × (mantissa w.whole w.fraction ≡ v)
+    go true p b q e = absurd (cc)
+    go false p true q e = absurd (cc)
+    go false p false q e = (grind (arith, nat_tests, q), cc)
+
+-- the operands of a value that these digits write
+of_mantissa : (w : Written) → AllDigits 10 w.fraction → length w.fraction ≤ 32768
+    → IsOfDigits (mantissa w.whole w.fraction) w
+of_mantissa w digits h =
+    let n = length w.fraction in
+    let a = digits_value 10 w.whole in
+    let b = digits_value 10 w.fraction in
+    let few : b < 10 ^ n = digits_value-lt 10 w.fraction digits in
+    let both = numeral_append w.whole w.fraction in
+    let low : place (pos 0 -ℤ pos n) ≡ 32768 - n = omega (arith, ints, place_is (pos 0 -ℤ pos n)) in
+    let zero_place : place (pos 0) ≡ n + (32768 - n) = omega (arith, ints, place_is (pos 0)) in
+    let shown : int_gap (pos 0 -ℤ pos n) (pos 0) ≡ n = omega (arith, ints, gap_is (pos 0 -ℤ pos n) (pos 0)) in
+    let one : weight (pos 0) ≡ 10 ^ n * 10 ^ (32768 - n) = powers n (32768 - n) (place (pos 0)) zero_place in
+    let d = digits_value 10 (w.whole ++ w.fraction) in
+    record {
+      i_is =
+          ap (λ k. d * 10 ^ (32768 - n) / k) one
+          ∙ mul-div-mul_right d (10 ^ n) (ten_pos (32768 - n))
+          ∙ ap (λ k. k / 10 ^ n) both
+          ∙ div-mul-add a (10 ^ n) b few;
+      v_is = shown;
+      f_is =
+          (λ i. d * 10 ^ (32768 - n) / 10 ^ low i % 10 ^ shown i)
+          ∙ ap (λ k. k % 10 ^ n) (mul-div_cancel d (ten_pos (32768 - n)) ∙ both)
+          ∙ mod-mul-add a (10 ^ n) b few;
+    }
+
+-- the operands are those of the digits of the text, wherever the dot is found
+pub by_text : (v : Unsigned) → read (text v) ≡ Ok v → FollowsGrammar (text v)
+    → (w : Written) → Grammar (text v) w → w.exponent ≡ None → IsOfDigits v w
+by_text v reads follows w g none =
+    let e : value_of w ≡ Ok v = sym (follows.value w g) ∙ reads in
+    let p = parts_is w v none e in
+    subst (λ u. IsOfDigits u w) p.1 (of_mantissa w g.fraction p.0)

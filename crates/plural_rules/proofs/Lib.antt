@@ -1,0 +1,12 @@
+pub mod Parts
+pub mod Moved
+pub mod ByText
+pub mod Conditions
+pub mod RulesRead
+pub mod RulesFound
+pub mod RulesMoves
+pub mod RulesChecked
+pub mod RulesAlive
+pub mod RulesNumbers
+pub mod RulesBuilt
+pub mod RulesFit

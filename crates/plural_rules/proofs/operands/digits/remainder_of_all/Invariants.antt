@@ -1,0 +1,10 @@
+use Rattle.std.proofs.Common.{◌≡◌, ◌+◌, ◌%◌, ◌^◌, ◌<◌}
+use Rattle.decimal_digits.specs.Number.{place}
+use Rattle.plural_rules.specs.Parts.{part}
+use Rattle.plural_rules.proofs.operands.digits.remainder_of_all.Given as goal
+
+abbrev pub invariant-loop-below : goal.invariant-loop-below
+invariant-loop-below g l = record {
+  small : l.rest < 10 ^ 18;
+  is : l.rest ≡ part l.value.number (place l.top + 1) l.below % l.modulus;
+}

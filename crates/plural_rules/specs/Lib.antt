@@ -1,0 +1,8 @@
+pub mod Operands
+pub mod Parts
+pub mod Rules
+pub mod RulesGrammar
+pub mod RulesReader
+pub mod RulesRefusal
+pub mod RulesBuilder
+pub mod RulesNumbers

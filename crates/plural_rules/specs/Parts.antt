@@ -1,0 +1,10 @@
+-- Some of the digits of a number. Only private contracts cite this file.
+use Rattle.std.specs.Prelude.{◌≡◌, ℕ, ◌-◌, ◌/◌, ◌%◌, ◌^◌, ◌<◌, Option, MatchOption}
+
+-- of the digits below a place, the first k as an integer
+abbrev pub part : ℕ → ℕ → ℕ → ℕ
+part number top k = number / 10 ^ (top - k) % 10 ^ k
+
+-- an integer, where it is at most this one; None stands for each greater one
+abbrev pub IsUpTo : ℕ → Option ℕ → ℕ → Type 0
+IsUpTo most found n = MatchOption found (most < n) (λ k. k ≡ n)

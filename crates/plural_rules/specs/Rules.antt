@@ -1,0 +1,89 @@
+-- Plural rules, and what they mean.
+use Rattle.std.specs.Prelude.{ℕ, ◌%◌, ◌==◌, nat_le, Bool, true, ◌&&◌, not, if◌then◌else◌, List, codes, Option, Some, None, find}
+use Rattle.std.specs.List.{list_any, list_all}
+use Rattle.std.specs.Option.{option_map_or}
+use Rattle.plural_rules.specs.declared.rules.PluralCategory.{PluralCategory}
+use Rattle.plural_rules.specs.declared.rules.PluralCategory.TheVariants.{Zero, One, Two, Few, Many, Other}
+use Rattle.plural_rules.specs.declared.rules.Operand.{Operand}
+use Rattle.plural_rules.specs.declared.rules.Operand.TheVariants.{N, I, V, W, F, T, C}
+use Rattle.plural_rules.specs.declared.rules.Range.{Range}
+use Rattle.plural_rules.specs.Operands as of
+use Rattle.plural_rules.specs.Operands.{Operands}
+
+-- ---- What rules are.
+
+-- the name of a category
+abbrev pub name_of : PluralCategory → List ℕ
+name_of Zero = codes "zero"
+name_of One = codes "one"
+name_of Two = codes "two"
+name_of Few = codes "few"
+name_of Many = codes "many"
+name_of Other = codes "other"
+
+-- a relation: an operand, a modulus if there is one, whether it is = and not !=, and the ranges
+pub record RelationParts : Type 0 where
+  pub operand : Operand
+  pub modulus : Option ℕ
+  pub is_equal : Bool
+  pub ranges : List Range
+
+-- the relation of these parts
+abbrev pub relation : Operand → Option ℕ → Bool → List Range → RelationParts
+relation operand modulus is_equal ranges =
+    record { operand = operand; modulus = modulus; is_equal = is_equal; ranges = ranges }
+
+-- a rule: a category and its condition, an `or` of `and`s of relations
+pub record RuleParts : Type 0 where
+  pub category : PluralCategory
+  pub alternatives : List (List RelationParts)
+
+-- the rule of these parts
+abbrev pub rule : PluralCategory → List (List RelationParts) → RuleParts
+rule category alternatives = record { category = category; alternatives = alternatives }
+
+-- ---- What they mean.
+
+-- an operand of a number, where it is an integer
+abbrev pub integer_of : Operands → Operand → ℕ
+integer_of number N = of.i number.value
+integer_of number I = of.i number.value
+integer_of number V = of.v number.value
+integer_of number W = of.w number.value
+integer_of number F = of.f number.value
+integer_of number T = of.t number.value
+integer_of number C = number.exponent
+
+-- n is an integer only where all digits behind the dot are 0, and each other operand always is one
+abbrev pub is_integer : Operands → Operand → Bool
+is_integer number N = of.w number.value == 0
+is_integer number operand = true
+
+-- the remainder by the modulus, where there is one
+abbrev pub by_modulus : Option ℕ → ℕ → ℕ
+by_modulus None n = n
+by_modulus (Some modulus) n = n % modulus
+
+-- the integer that a relation looks at: an operand, or its remainder
+abbrev pub term_of : Operands → RelationParts → ℕ
+term_of number r = by_modulus r.modulus (integer_of number r.operand)
+
+-- an integer lies in a range
+abbrev pub in_range : ℕ → Range → Bool
+in_range n range = nat_le range.low n && nat_le n range.high
+
+-- what a relation looks at is an integer, and lies in one of the ranges
+abbrev pub equals : Operands → RelationParts → Bool
+equals number r = is_integer number r.operand && list_any (in_range (term_of number r)) r.ranges
+
+-- a relation holds; != is the opposite of =
+abbrev pub holds : Operands → RelationParts → Bool
+holds number r = if r.is_equal then equals number r else not (equals number r)
+
+-- in one of the alternatives each relation holds
+abbrev pub is_met : Operands → RuleParts → Bool
+is_met number r = list_any (list_all (holds number)) r.alternatives
+
+-- the category of the first rule whose condition is met, and Other where none is
+abbrev pub category_of : List RuleParts → Operands → PluralCategory
+category_of rules number = option_map_or (λ r. r.category) (find (is_met number) rules) Other

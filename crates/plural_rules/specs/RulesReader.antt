@@ -1,0 +1,283 @@
+-- The parser as a machine: what each byte does at each state, and what the rules are so far.
+-- Only private contracts cite this file.
+use Rattle.std.specs.Prelude.{ℕ, ◌+◌, ◌-◌, ◌*◌, ◌==◌, nat_lt, Bool, true, false, ◌||◌, ◌&&◌, if◌then◌else◌, List, [], ◌∷◌, ◌++◌, length, get_or, Option, Some, None, option_map}
+use Rattle.std.specs.Char.{is_ascii_digit}
+use Rattle.plural_rules.specs.declared.rules.PluralCategory.{PluralCategory}
+use Rattle.plural_rules.specs.declared.rules.PluralCategory.TheVariants.{Zero, One as CategoryOne, Two, Few, Many, Other}
+use Rattle.plural_rules.specs.declared.rules.Operand.{Operand}
+use Rattle.plural_rules.specs.declared.rules.Operand.TheVariants.{N, I, V, W, F, T, C}
+use Rattle.plural_rules.specs.declared.rules.Range.{Range}
+use Rattle.plural_rules.specs.declared.parse.state.State.{State}
+use Rattle.plural_rules.specs.declared.parse.state.State.TheVariants as state
+use Rattle.plural_rules.specs.declared.parse.state.Event.{Event}
+use Rattle.plural_rules.specs.declared.parse.state.Event.TheVariants as event
+use Rattle.plural_rules.specs.declared.parse.state.Categories.{Categories}
+use Rattle.plural_rules.specs.Rules.{name_of, RelationParts, relation, RuleParts, rule}
+use Rattle.plural_rules.specs.RulesGrammar.{is_blank}
+
+-- ---- The categories so far.
+
+abbrev pub has : Categories → PluralCategory → Bool
+has seen Zero = seen.zero
+has seen CategoryOne = seen.one
+has seen Two = seen.two
+has seen Few = seen.few
+has seen Many = seen.many
+has seen Other = seen.other
+
+abbrev pub with : Categories → PluralCategory → Categories
+with seen Zero = record seen { zero = true }
+with seen CategoryOne = record seen { one = true }
+with seen Two = record seen { two = true }
+with seen Few = record seen { few = true }
+with seen Many = record seen { many = true }
+with seen Other = record seen { other = true }
+
+-- all six
+abbrev pub is_full : Categories → Bool
+is_full seen = seen.zero && seen.one && seen.two && seen.few && seen.many && seen.other
+
+abbrev pub no_categories : Categories
+no_categories =
+    record { zero = false; one = false; two = false; few = false; many = false; other = false }
+
+-- ---- What a byte does: the state behind it and what it says, or nothing where no rules go on so.
+
+abbrev pub Move : Type 0
+Move = Option (State × Event)
+
+-- a blank changes nothing, if another byte does so
+abbrev pub skip : State → ℕ → Move → Move
+skip s c otherwise = if is_blank c then Some (s, event.Nothing) else otherwise
+
+-- a category that was not read before
+abbrev pub fresh : Categories → PluralCategory → Move
+fresh seen category = if has seen category then None else Some (state.Letters category 1, event.Nothing)
+
+-- the first letter of a category
+abbrev pub category_letter : Categories → ℕ → Move
+category_letter seen c =
+    if c == 122 then fresh seen Zero
+    else if c == 111 then (if seen.one && seen.other then None else Some (state.One, event.Nothing))
+    else if c == 116 then fresh seen Two
+    else if c == 102 then fresh seen Few
+    else if c == 109 then fresh seen Many
+    else None
+
+-- the second letter of a category that begins with o
+abbrev pub second_letter : Categories → ℕ → Move
+second_letter seen c =
+    if c == 110 then (if seen.one then None else Some (state.Letters CategoryOne 2, event.Nothing))
+    else if c == 116 then (if seen.other then None else Some (state.Letters Other 2, event.Nothing))
+    else None
+
+-- a further letter of a category
+abbrev pub letter : PluralCategory → ℕ → ℕ → Move
+letter category n c =
+    if nat_lt n (length (name_of category)) && get_or (name_of category) n 0 == c then
+    (if n + 1 == length (name_of category) then Some (state.Colon category, event.Category category)
+    else Some (state.Letters category (n + 1), event.Nothing))
+    else None
+
+-- what stands behind a category's colon
+abbrev pub condition_of : PluralCategory → State
+condition_of Other = state.OtherCondition
+condition_of category = state.Operand
+
+-- the letter of an operand
+abbrev pub operand_letter : ℕ → Option Operand
+operand_letter c =
+    if c == 110 then Some N
+    else if c == 105 then Some I
+    else if c == 118 then Some V
+    else if c == 119 then Some W
+    else if c == 102 then Some F
+    else if c == 116 then Some T
+    else if c == 99 || c == 101 then Some C
+    else None
+
+abbrev pub operand : ℕ → Move
+operand c = option_map (λ o. (state.Percent, event.Operand o)) (operand_letter c)
+
+-- the end of a rule, which says so, before another one or before samples
+abbrev pub rule_end : Categories → ℕ → Event → Move
+rule_end seen c e =
+    if c == 59 then (if is_full seen then None else Some (state.Category, e))
+    else if c == 64 then Some (state.Samples, e)
+    else None
+
+abbrev pub comparison : ℕ → Move
+comparison c =
+    if c == 61 then Some (state.Low, event.Equal true)
+    else if c == 33 then Some (state.NotEqual, event.Nothing)
+    else None
+
+-- what stands behind a range and its blanks
+abbrev pub follows_range : Categories → ℕ → Move
+follows_range seen c =
+    if c == 44 then Some (state.Low, event.Comma)
+    else if c == 97 then Some (state.And, event.And)
+    else if c == 111 then Some (state.OrEnd, event.Or)
+    else rule_end seen c event.End
+
+abbrev pub behind_low : Categories → ℕ → Move
+behind_low seen c =
+    skip state.BehindLow c (if c == 46 then Some (state.Dot, event.Nothing) else follows_range seen c)
+
+abbrev pub behind_high : Categories → ℕ → Move
+behind_high seen c = skip state.BehindHigh c (follows_range seen c)
+
+-- one byte, and nothing else
+abbrev pub only : ℕ → ℕ → State → Event → Move
+only wanted c s e = if c == wanted then Some (s, e) else None
+
+-- a digit, or something else
+abbrev pub digit : ℕ → State → Move → Move
+digit c s otherwise = if is_ascii_digit c then Some (s, event.Digit (c - 48)) else otherwise
+
+-- a modulus of which all digits were 0, if there were some
+abbrev pub zeros : ℕ → Move
+zeros c = if c == 48 then Some (state.Zeros, event.Digit 0) else digit c state.ModulusDigits None
+
+abbrev pub next : Categories → State → ℕ → Move
+next seen state.Category c = skip state.Category c (category_letter seen c)
+next seen state.One c = second_letter seen c
+next seen (state.Letters category n) c = letter category n c
+next seen (state.Colon category) c = skip (state.Colon category) c (only 58 c (condition_of category) event.Nothing)
+next seen state.OtherCondition c =
+    skip state.OtherCondition c
+    (if c == 59 || c == 64 then rule_end seen c event.EndOther else operand c)
+next seen state.Operand c = skip state.Operand c (operand c)
+next seen state.Percent c =
+    skip state.Percent c (if c == 37 then Some (state.Modulus, event.Percent) else comparison c)
+next seen state.Modulus c = skip state.Modulus c (zeros c)
+next seen state.Zeros c = zeros c
+next seen state.ModulusDigits c = digit c state.ModulusDigits (skip state.Comparison c (comparison c))
+next seen state.Comparison c = skip state.Comparison c (comparison c)
+next seen state.NotEqual c = only 61 c state.Low (event.Equal false)
+next seen state.Low c = skip state.Low c (digit c state.LowDigits None)
+next seen state.LowDigits c = digit c state.LowDigits (behind_low seen c)
+next seen state.BehindLow c = behind_low seen c
+next seen state.Dot c = only 46 c state.High event.To
+next seen state.High c = skip state.High c (digit c state.HighDigits None)
+next seen state.HighDigits c = digit c state.HighDigits (behind_high seen c)
+next seen state.BehindHigh c = behind_high seen c
+next seen state.And c = only 110 c state.AndEnd event.Nothing
+next seen state.AndEnd c = only 100 c state.Blank event.Nothing
+next seen state.OrEnd c = only 114 c state.Blank event.Nothing
+next seen state.Blank c = skip state.Operand c None
+next seen state.Samples c =
+    if c == 59 then (if is_full seen then None else Some (state.Category, event.Nothing))
+    else Some (state.Samples, event.Nothing)
+
+-- what the end of the text says, where rules may end
+abbrev pub at_end : State → Option Event
+at_end state.OtherCondition = Some event.EndOther
+at_end state.LowDigits = Some event.End
+at_end state.BehindLow = Some event.End
+at_end state.HighDigits = Some event.End
+at_end state.BehindHigh = Some event.End
+at_end state.Samples = Some event.Nothing
+at_end s = None
+
+-- ---- The rules so far.
+
+-- whole rules, and of the one that is read the category, the alternatives, the relations of the alternative that is
+-- read, and the parts of the relation that is read
+pub record Partial : Type 0 where
+  pub seen : Categories
+  pub rules : List RuleParts
+  pub category : PluralCategory
+  pub alternatives : List (List RelationParts)
+  pub relations : List RelationParts
+  pub operand : Operand
+  pub is_divided : Bool
+  pub modulus : Option ℕ
+  pub is_equal : Bool
+  pub ranges : List Range
+  pub low : Option ℕ
+  pub number : ℕ
+
+abbrev pub no_rules : Partial
+no_rules = record {
+  seen = no_categories;
+  rules = [];
+  category = Other;
+  alternatives = [];
+  relations = [];
+  operand = N;
+  is_divided = false;
+  modulus = None;
+  is_equal = true;
+  ranges = [];
+  low = None;
+  number = 0;
+}
+
+-- the range that is read
+abbrev pub range_of : Option ℕ → ℕ → Range
+range_of None n = record { low = n; high = n }
+range_of (Some low) n = record { low = low; high = n }
+
+-- the modulus that was read, if there was one
+abbrev pub modulus_of : Bool → ℕ → Option ℕ
+modulus_of is_divided n = if is_divided then Some n else None
+
+abbrev pub end_range : Partial → Partial
+end_range p = record p { ranges = p.ranges ++ range_of p.low p.number ∷ []; low = None; number = 0 }
+
+abbrev pub end_relation : Partial → Partial
+end_relation p =
+    record p { relations = p.relations ++ relation p.operand p.modulus p.is_equal p.ranges ∷ []; ranges = [] }
+
+abbrev pub end_alternative : Partial → Partial
+end_alternative p = record p { alternatives = p.alternatives ++ p.relations ∷ []; relations = [] }
+
+abbrev pub end_rule : Partial → Partial
+end_rule p = record p { rules = p.rules ++ rule p.category p.alternatives ∷ []; alternatives = [] }
+
+-- what an event makes of the rules so far
+abbrev pub after : Event → Partial → Partial
+after event.Nothing p = p
+after (event.Category category) p =
+    record p { seen = with p.seen category; category = category; alternatives = []; relations = [] }
+after (event.Operand operand) p = record p { operand = operand; is_divided = false; ranges = [] }
+after event.Percent p = record p { is_divided = true; number = 0 }
+after (event.Digit d) p = record p { number = p.number * 10 + d }
+after (event.Equal is_equal) p =
+    record p { is_equal = is_equal; modulus = modulus_of p.is_divided p.number; low = None; number = 0 }
+after event.To p = record p { low = Some p.number; number = 0 }
+after event.Comma p = end_range p
+after event.And p = end_relation (end_range p)
+after event.Or p = end_alternative (end_relation (end_range p))
+after event.End p = end_rule (end_alternative (end_relation (end_range p)))
+after event.EndOther p = end_rule p
+
+-- ---- The rules of a text.
+
+abbrev pub finished : Option Event → Partial → Option (List RuleParts)
+finished None p = None
+finished (Some e) p = Some (after e p).rules
+
+abbrev pub proceed : Move → Partial → (State → Partial → Option (List RuleParts)) → Option (List RuleParts)
+proceed None p go = None
+proceed (Some move) p go = go move.0 (after move.1 p)
+
+abbrev pub read : State → Partial → List ℕ → Option (List RuleParts)
+read s p [] = finished (at_end s) p
+read s p (c ∷ text) = proceed (next p.seen s c) p (λ s q. read s q text)
+
+-- the same without the rules: the state and the categories behind a text
+abbrev pub seen_after : Event → Categories → Categories
+seen_after (event.Category category) seen = with seen category
+seen_after e seen = seen
+
+-- the categories and the state behind a text, if rules may begin so
+abbrev pub advance_on : Move → Categories → (Categories → State → Option (Categories × State))
+    → Option (Categories × State)
+advance_on None seen go = None
+advance_on (Some move) seen go = go (seen_after move.1 seen) move.0
+
+abbrev pub advance : Categories → State → List ℕ → Option (Categories × State)
+advance seen s [] = Some (seen, s)
+advance seen s (c ∷ text) = advance_on (next seen s c) seen (λ seen s. advance seen s text)

@@ -1,0 +1,70 @@
+-- How a parser answers a text of rules: the rules, or why the text is refused.
+use Rattle.std.specs.Prelude.{◌≡◌, ℕ, ◌+◌, ◌-◌, ◌^◌, ◌<◌, ◌≤◌, true, false, List, ◌++◌, length, take, get_or, IfSome, Result, Ok, Err}
+use Rattle.std.specs.Char.{is_ascii_digit}
+use Rattle.std.specs.List.{AllByRecursion}
+use Rattle.plural_rules.specs.declared.parse.RulesError.{RulesError}
+use Rattle.plural_rules.specs.declared.parse.RulesError.TheVariants.{Syntax, Limit, Memory}
+use Rattle.plural_rules.specs.declared.rules.Range.{Range}
+use Rattle.plural_rules.specs.Rules.{RelationParts, RuleParts}
+use Rattle.plural_rules.specs.RulesGrammar.{Grammar}
+
+-- some rules begin with these bytes
+abbrev pub CanGoOn : List ℕ → Type 0
+CanGoOn begin = (more : List ℕ) × (rules : List RuleParts) × Grammar (begin ++ more) rules
+
+-- the text is no rules; some begin with the bytes in front of this place, but none with those and the byte there
+pub record NoRulesFrom (text : List ℕ) (at : ℕ) : Type 0 where
+  pub within : at ≤ length text
+  pub refused : (rules : List RuleParts) → ¬ Grammar text rules
+  pub alive : CanGoOn (take at text)
+  pub dead : at < length text → (more : List ℕ) (rules : List RuleParts) → ¬ Grammar (take (at + 1) text ++ more) rules
+
+-- numbers below 2^64
+abbrev pub RangeFits : Range → Type 0
+RangeFits range = (range.low < 2 ^ 64) × (range.high < 2 ^ 64)
+
+-- and a modulus of at most 10^18
+abbrev pub RelationFits : RelationParts → Type 0
+RelationFits r = IfSome r.modulus (λ m. m ≤ 10 ^ 18) × AllByRecursion RangeFits r.ranges
+
+abbrev pub ConjunctionFits : List RelationParts → Type 0
+ConjunctionFits rs = AllByRecursion RelationFits rs
+
+abbrev pub RuleFits : RuleParts → Type 0
+RuleFits r = AllByRecursion ConjunctionFits r.alternatives
+
+-- no number is too great
+abbrev pub Fits : List RuleParts → Type 0
+Fits rules = AllByRecursion RuleFits rules
+
+-- some rules with no number too great begin with these bytes
+abbrev pub CanFit : List ℕ → Type 0
+CanFit begin = (more : List ℕ) × (rules : List RuleParts) × Grammar (begin ++ more) rules × Fits rules
+
+-- each byte from this place up to that one is a digit
+abbrev pub AreDigits : List ℕ → ℕ → ℕ → Type 0
+AreDigits text from end = (i : ℕ) → from ≤ i → i < end → is_ascii_digit (get_or text i 0) ≡ true
+
+-- the byte in front of this place, if there is one, is no digit
+abbrev pub IsBehindNoDigit : List ℕ → ℕ → Type 0
+IsBehindNoDigit text at = 0 < at → is_ascii_digit (get_or text (at - 1) 0) ≡ false
+
+-- a number of the rules is too great, and the first such number begins at this place: rules that fit begin with the
+-- bytes in front of it, but none with those and the digits there, up to some place
+pub record HasGreatNumber (text : List ℕ) (at : ℕ) : Type 0 where
+  pub rules : List RuleParts
+  pub grammar : Grammar text rules
+  pub great : ¬ Fits rules
+  pub within : at < length text
+  pub begins : IsBehindNoDigit text at
+  pub alive : CanFit (take at text)
+  pub end : ℕ
+  pub digits : (at < end) × (end ≤ length text) × AreDigits text at end
+  pub dead : ¬ CanFit (take end text)
+
+-- the rules that the grammar names, or why there are none; memory is wanted only for rules that fit
+abbrev pub Answers : List ℕ → Result (List RuleParts) RulesError → Type 0
+Answers text (Ok rules) = Grammar text rules
+Answers text (Err (Syntax at)) = NoRulesFrom text at
+Answers text (Err (Limit at)) = HasGreatNumber text at
+Answers text (Err Memory) = (rules : List RuleParts) × Grammar text rules × Fits rules

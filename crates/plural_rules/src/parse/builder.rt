@@ -1,0 +1,205 @@
+//! Rules as they are read, from what the bytes say.
+ghost use Rattle.std.specs.Prelude.{◌≡◌, ◌<◌, ◌≤◌, ◌^◌, IfSome, OnOk};
+ghost use Rattle.plural_rules.specs.declared.parse.state.Categories.{Categories};
+ghost use Rattle.plural_rules.specs.RulesReader as reader;
+ghost use Rattle.plural_rules.specs.RulesBuilder.{partial, IsSmall};
+
+use crate::parse::state::Event;
+use crate::rules::{Modulus, Operand, PluralCategory, PluralRules, Range, Relation, Rule};
+use std::alloc::{AllocError, Global};
+use std::mem;
+
+/// Whole rules, and the parts of the one that is read.
+#[derive(Drop)]
+pub struct Builder {
+    alloc: Global,
+    rules: Vec<Rule>,
+    category: PluralCategory,
+    alternatives: Vec<Vec<Relation>>,
+    relations: Vec<Relation>,
+    operand: Operand,
+    is_divided: bool,
+    modulus: Option<Modulus>,
+    is_equal: bool,
+    ranges: Vec<Range>,
+    low: Option<u64>,
+    number: u64,
+}
+
+/// The modulus that was read, if there was one.
+fn modulus_read(is_divided: bool, number: u64) -> Option<Modulus>
+    requires { IfSome (reader.modulus_of is_divided number) (λ m. (0 < m) × (m ≤ 10 ^ 18)) }
+    ensures { result ≡ reader.modulus_of is_divided number }
+{
+    if is_divided {
+        Modulus::new(number)
+    } else {
+        None
+    }
+}
+
+impl Builder {
+    /// No rules.
+    pub fn new(alloc: Global) -> Self
+        ensures { partial reader.no_categories result ≡ reader.no_rules }
+    {
+        Builder {
+            alloc,
+            rules: Vec::new(alloc),
+            category: PluralCategory::Other,
+            alternatives: Vec::new(alloc),
+            relations: Vec::new(alloc),
+            operand: Operand::N,
+            is_divided: false,
+            modulus: None,
+            is_equal: true,
+            ranges: Vec::new(alloc),
+            low: None,
+            number: 0,
+        }
+    }
+
+    /// The rules that were read to their end.
+    pub fn into_rules(self) -> PluralRules
+        ensures { (seen : Categories) → result ≡ (partial seen self).rules }
+    {
+        PluralRules::new(self.rules)
+    }
+
+    /// Takes a category, whose condition begins.
+    fn begin_rule(&mut self, category: PluralCategory)
+        ensures { (seen : Categories) → partial (reader.with seen category) self.new
+            ≡ reader.after (Event.Category category) (partial seen self.old) }
+    {
+        self.category = category;
+        self.alternatives = Vec::new(self.alloc);
+        self.relations = Vec::new(self.alloc);
+    }
+
+    /// Takes an operand, whose relation begins.
+    fn begin_relation(&mut self, operand: Operand)
+        ensures { (seen : Categories)
+            → partial seen self.new ≡ reader.after (Event.Operand operand) (partial seen self.old) }
+    {
+        self.operand = operand;
+        self.is_divided = false;
+        self.ranges = Vec::new(self.alloc);
+    }
+
+    /// Takes a comparison, whose ranges begin.
+    fn begin_ranges(&mut self, is_equal: bool)
+        requires { IsSmall (Event.Equal is_equal) (partial reader.no_categories self.old) }
+        ensures { (seen : Categories)
+            → partial seen self.new ≡ reader.after (Event.Equal is_equal) (partial seen self.old) }
+    {
+        self.is_equal = is_equal;
+        self.modulus = modulus_read(self.is_divided, self.number);
+        self.low = None;
+        self.number = 0;
+    }
+
+    /// Ends a range.
+    fn end_range(&mut self) -> Result<(), AllocError>
+        ensures { OnOk result ((seen : Categories) → partial seen self.new ≡ reader.end_range (partial seen self.old)) }
+    {
+        let high = self.number;
+        let low = self.low.unwrap_or(high);
+        self.ranges.push(Range { low, high })?;
+        self.low = None;
+        self.number = 0;
+        Ok(())
+    }
+
+    /// Ends a relation, whose ranges have ended.
+    fn end_relation(&mut self) -> Result<(), AllocError>
+        ensures { OnOk result ((seen : Categories)
+            → partial seen self.new ≡ reader.end_relation (partial seen self.old)) }
+    {
+        let ranges = mem::replace(&mut self.ranges, Vec::new(self.alloc));
+        let relation = Relation::new(self.operand, self.modulus, self.is_equal, ranges);
+        self.relations.push(relation)?;
+        Ok(())
+    }
+
+    /// Ends an alternative, whose relations have ended.
+    fn end_alternative(&mut self) -> Result<(), AllocError>
+        ensures { OnOk result ((seen : Categories)
+            → partial seen self.new ≡ reader.end_alternative (partial seen self.old)) }
+    {
+        let relations = mem::replace(&mut self.relations, Vec::new(self.alloc));
+        self.alternatives.push(relations)?;
+        Ok(())
+    }
+
+    /// Ends a rule, whose alternatives have ended.
+    fn end_rule(&mut self) -> Result<(), AllocError>
+        ensures { OnOk result ((seen : Categories) → partial seen self.new ≡ reader.end_rule (partial seen self.old)) }
+    {
+        let alternatives = mem::replace(&mut self.alternatives, Vec::new(self.alloc));
+        self.rules.push(Rule::new(self.category, alternatives))?;
+        Ok(())
+    }
+
+    /// Ends a range and the relation around it.
+    fn end_ranges(&mut self) -> Result<(), AllocError>
+        ensures { OnOk result ((seen : Categories) → partial seen self.new
+            ≡ reader.end_relation (reader.end_range (partial seen self.old))) }
+    {
+        self.end_range()?;
+        self.end_relation()
+    }
+
+    /// Ends a range, and the relation and the alternative around it.
+    fn end_relations(&mut self) -> Result<(), AllocError>
+        ensures { OnOk result ((seen : Categories) → partial seen self.new
+            ≡ reader.end_alternative (reader.end_relation (reader.end_range (partial seen self.old)))) }
+    {
+        self.end_ranges()?;
+        self.end_alternative()
+    }
+
+    /// Takes what a byte says. Err: memory was refused.
+    pub fn take(&mut self, event: Event) -> Result<(), AllocError>
+        requires { IsSmall event (partial reader.no_categories self.old) }
+        ensures { OnOk result ((seen : Categories) → partial (reader.seen_after event seen) self.new
+            ≡ reader.after event (partial seen self.old)) }
+    {
+        match event {
+            Event::Nothing => Ok(()),
+            Event::Category(category) => {
+                self.begin_rule(category);
+                Ok(())
+            }
+            Event::Operand(operand) => {
+                self.begin_relation(operand);
+                Ok(())
+            }
+            Event::Percent => {
+                self.is_divided = true;
+                self.number = 0;
+                Ok(())
+            }
+            Event::Digit(digit) => {
+                self.number = self.number * 10 + digit as u64;
+                Ok(())
+            }
+            Event::Equal(is_equal) => {
+                self.begin_ranges(is_equal);
+                Ok(())
+            }
+            Event::To => {
+                self.low = Some(self.number);
+                self.number = 0;
+                Ok(())
+            }
+            Event::Comma => self.end_range(),
+            Event::And => self.end_ranges(),
+            Event::Or => self.end_relations(),
+            Event::End => {
+                self.end_relations()?;
+                self.end_rule()
+            }
+            Event::EndOther => self.end_rule(),
+        }
+    }
+}

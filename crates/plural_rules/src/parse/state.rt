@@ -1,0 +1,458 @@
+//! How far a text of rules has been read, and what each byte does.
+
+ghost use Rattle.std.specs.Prelude.{◌≡◌};
+ghost use Rattle.plural_rules.specs.RulesGrammar.{is_blank};
+ghost use Rattle.plural_rules.specs.Rules.{name_of};
+ghost use Rattle.plural_rules.specs.RulesNumbers.{starts_number, most};
+ghost use Rattle.plural_rules.specs.RulesReader as reader;
+
+use crate::rules::{GREATEST_MODULUS, Operand, PluralCategory};
+
+/// What may come behind the bytes that have been read.
+#[derive(Clone, Copy)]
+pub enum State {
+    /// A rule, by its category.
+    Category,
+    /// The rest of `one` or of `other`, of which the first letter was read.
+    One,
+    /// The letters of a category's name, from this one on.
+    Letters(PluralCategory, usize),
+    /// The colon behind a category.
+    Colon(PluralCategory),
+    /// The condition of `other`, or none.
+    OtherCondition,
+    /// An operand.
+    Operand,
+    /// A percent sign, or a comparison.
+    Percent,
+    /// A modulus.
+    Modulus,
+    /// More of a modulus, of which all digits were 0.
+    Zeros,
+    /// More digits of a modulus, or a comparison.
+    ModulusDigits,
+    /// A comparison.
+    Comparison,
+    /// The second byte of `!=`.
+    NotEqual,
+    /// The number that a range begins with.
+    Low,
+    /// More digits of it, or what follows it.
+    LowDigits,
+    /// Two dots, or what follows a range.
+    BehindLow,
+    /// The second dot.
+    Dot,
+    /// The number that a range ends with.
+    High,
+    /// More digits of it, or what follows a range.
+    HighDigits,
+    /// What follows a range.
+    BehindHigh,
+    /// The last two letters of `and`.
+    And,
+    /// The last letter of `and`.
+    AndEnd,
+    /// The last letter of `or`.
+    OrEnd,
+    /// The blank behind `and` or `or`.
+    Blank,
+    /// Samples, which are not looked at.
+    Samples,
+}
+
+/// What a byte says of the rules.
+#[derive(Clone, Copy)]
+pub enum Event {
+    /// Nothing yet.
+    Nothing,
+    /// A category's name is complete.
+    Category(PluralCategory),
+    /// A relation begins.
+    Operand(Operand),
+    /// A modulus begins.
+    Percent,
+    /// A digit of a number.
+    Digit(u8),
+    /// The ranges begin, behind `=` or, if false, behind `!=`.
+    Equal(bool),
+    /// The second number of a range begins.
+    To,
+    /// A range ends.
+    Comma,
+    /// A relation ends.
+    And,
+    /// An alternative ends.
+    Or,
+    /// A condition ends, and its rule.
+    End,
+    /// A rule ends that has no condition.
+    EndOther,
+}
+
+/// The categories that rules have been read for.
+#[derive(Clone, Copy)]
+pub struct Categories {
+    pub zero: bool,
+    pub one: bool,
+    pub two: bool,
+    pub few: bool,
+    pub many: bool,
+    pub other: bool,
+}
+
+impl Categories {
+    /// No category.
+    pub fn none() -> Self
+        ensures { result ≡ reader.no_categories }
+    {
+        Categories {
+            zero: false,
+            one: false,
+            two: false,
+            few: false,
+            many: false,
+            other: false,
+        }
+    }
+
+    /// Tells whether a category is among them.
+    fn has(self, category: PluralCategory) -> bool
+        ensures { result ≡ reader.has self category }
+    {
+        match category {
+            PluralCategory::Zero => self.zero,
+            PluralCategory::One => self.one,
+            PluralCategory::Two => self.two,
+            PluralCategory::Few => self.few,
+            PluralCategory::Many => self.many,
+            PluralCategory::Other => self.other,
+        }
+    }
+
+    /// These categories and one more.
+    fn with(mut self, category: PluralCategory) -> Self
+        ensures { result ≡ reader.with self category }
+    {
+        match category {
+            PluralCategory::Zero => self.zero = true,
+            PluralCategory::One => self.one = true,
+            PluralCategory::Two => self.two = true,
+            PluralCategory::Few => self.few = true,
+            PluralCategory::Many => self.many = true,
+            PluralCategory::Other => self.other = true,
+        }
+        self
+    }
+
+    /// These categories, and the one that an event names.
+    pub fn after(self, event: Event) -> Self
+        ensures { result ≡ reader.seen_after event self }
+    {
+        match event {
+            Event::Category(category) => self.with(category),
+            _ => self,
+        }
+    }
+
+    /// Tells whether all six are among them.
+    fn is_full(self) -> bool
+        ensures { result ≡ reader.is_full self }
+    {
+        self.zero && self.one && self.two && self.few && self.many && self.other
+    }
+}
+
+/// The state behind a byte and what the byte says, or None where no rules go on so.
+type Move = Option<(State, Event)>;
+
+/// Tells whether a byte is a blank.
+fn is_blank(byte: u8) -> bool
+    ensures { result ≡ is_blank byte }
+{
+    byte == b' ' || byte == b'\t' || byte == b'\n' || byte == b'\r'
+}
+
+/// A blank stays in the state; another byte does something else.
+fn skip(state: State, byte: u8, otherwise: Move) -> Move
+    ensures { result ≡ reader.skip state byte otherwise }
+{
+    if is_blank(byte) {
+        Some((state, Event::Nothing))
+    } else {
+        otherwise
+    }
+}
+
+/// The first letter of a category, which must be a new one.
+fn fresh(seen: Categories, category: PluralCategory) -> Move
+    ensures { result ≡ reader.fresh seen category }
+{
+    if seen.has(category) {
+        None
+    } else {
+        Some((State::Letters(category, 1), Event::Nothing))
+    }
+}
+
+/// The first letter of a category. Both `one` and `other` begin with `o`.
+fn category_letter(seen: Categories, byte: u8) -> Move
+    ensures { result ≡ reader.category_letter seen byte }
+{
+    match byte {
+        b'z' => fresh(seen, PluralCategory::Zero),
+        b'o' if seen.one && seen.other => None,
+        b'o' => Some((State::One, Event::Nothing)),
+        b't' => fresh(seen, PluralCategory::Two),
+        b'f' => fresh(seen, PluralCategory::Few),
+        b'm' => fresh(seen, PluralCategory::Many),
+        _ => None,
+    }
+}
+
+/// The second letter of `one` or of `other`.
+fn second_letter(seen: Categories, byte: u8) -> Move
+    ensures { result ≡ reader.second_letter seen byte }
+{
+    match byte {
+        b'n' if !seen.one => Some((State::Letters(PluralCategory::One, 2), Event::Nothing)),
+        b't' if !seen.other => Some((State::Letters(PluralCategory::Other, 2), Event::Nothing)),
+        _ => None,
+    }
+}
+
+/// A further letter of a category's name, of which some were read.
+fn letter(category: PluralCategory, read: usize, byte: u8) -> Move
+    ensures { result ≡ reader.letter category read byte }
+{
+    let word = category.name().as_bytes();
+    if read >= word.len() || word[read] != byte {
+        None
+    } else if read + 1 == word.len() {
+        Some((State::Colon(category), Event::Category(category)))
+    } else {
+        Some((State::Letters(category, read + 1), Event::Nothing))
+    }
+}
+
+/// What stands behind the colon of a category.
+fn condition_of(category: PluralCategory) -> State
+    ensures { result ≡ reader.condition_of category }
+{
+    match category {
+        PluralCategory::Other => State::OtherCondition,
+        _ => State::Operand,
+    }
+}
+
+/// The letter of an operand.
+fn operand(byte: u8) -> Move
+    ensures { result ≡ reader.operand byte }
+{
+    let operand = match byte {
+        b'n' => Operand::N,
+        b'i' => Operand::I,
+        b'v' => Operand::V,
+        b'w' => Operand::W,
+        b'f' => Operand::F,
+        b't' => Operand::T,
+        b'c' | b'e' => Operand::C,
+        _ => return None,
+    };
+    Some((State::Percent, Event::Operand(operand)))
+}
+
+/// The end of a rule: a semicolon, if a further category is left, or samples.
+fn rule_end(seen: Categories, byte: u8, event: Event) -> Move
+    ensures { result ≡ reader.rule_end seen byte event }
+{
+    match byte {
+        b';' if !seen.is_full() => Some((State::Category, event)),
+        b'@' => Some((State::Samples, event)),
+        _ => None,
+    }
+}
+
+/// The first byte of a comparison.
+fn comparison(byte: u8) -> Move
+    ensures { result ≡ reader.comparison byte }
+{
+    match byte {
+        b'=' => Some((State::Low, Event::Equal(true))),
+        b'!' => Some((State::NotEqual, Event::Nothing)),
+        _ => None,
+    }
+}
+
+/// What stands behind a range and its blanks.
+fn follows_range(seen: Categories, byte: u8) -> Move
+    ensures { result ≡ reader.follows_range seen byte }
+{
+    match byte {
+        b',' => Some((State::Low, Event::Comma)),
+        b'a' => Some((State::And, Event::And)),
+        b'o' => Some((State::OrEnd, Event::Or)),
+        _ => rule_end(seen, byte, Event::End),
+    }
+}
+
+/// What stands behind the first number of a range.
+fn behind_low(seen: Categories, byte: u8) -> Move
+    ensures { result ≡ reader.behind_low seen byte }
+{
+    let dot_or_end = if byte == b'.' {
+        Some((State::Dot, Event::Nothing))
+    } else {
+        follows_range(seen, byte)
+    };
+    skip(State::BehindLow, byte, dot_or_end)
+}
+
+/// What stands behind the second number of a range.
+fn behind_high(seen: Categories, byte: u8) -> Move
+    ensures { result ≡ reader.behind_high seen byte }
+{
+    skip(State::BehindHigh, byte, follows_range(seen, byte))
+}
+
+/// One byte and no other.
+fn only(wanted: u8, byte: u8, state: State, event: Event) -> Move
+    ensures { result ≡ reader.only wanted byte state event }
+{
+    if byte == wanted {
+        Some((state, event))
+    } else {
+        None
+    }
+}
+
+/// A digit leads to the state; another byte does something else.
+fn digit(byte: u8, state: State, otherwise: Move) -> Move
+    ensures { result ≡ reader.digit byte state otherwise }
+{
+    if byte.is_ascii_digit() {
+        Some((state, Event::Digit(byte - b'0')))
+    } else {
+        otherwise
+    }
+}
+
+/// A digit of a modulus of which all digits so far were 0.
+fn zeros(byte: u8) -> Move
+    ensures { result ≡ reader.zeros byte }
+{
+    if byte == b'0' {
+        Some((State::Zeros, Event::Digit(0)))
+    } else {
+        digit(byte, State::ModulusDigits, None)
+    }
+}
+
+/// What stands behind an operand.
+fn percent(byte: u8) -> Move
+    ensures { result ≡ reader.next reader.no_categories State.Percent byte }
+{
+    let rest = if byte == b'%' {
+        Some((State::Modulus, Event::Percent))
+    } else {
+        comparison(byte)
+    };
+    skip(State::Percent, byte, rest)
+}
+
+/// What stands behind the colon of `other`.
+fn other_condition(seen: Categories, byte: u8) -> Move
+    ensures { result ≡ reader.next seen State.OtherCondition byte }
+{
+    let rest = if byte == b';' || byte == b'@' {
+        rule_end(seen, byte, Event::EndOther)
+    } else {
+        operand(byte)
+    };
+    skip(State::OtherCondition, byte, rest)
+}
+
+/// A byte of samples, or the semicolon behind them.
+fn sample(seen: Categories, byte: u8) -> Move
+    ensures { result ≡ reader.next seen State.Samples byte }
+{
+    match byte {
+        b';' if seen.is_full() => None,
+        b';' => Some((State::Category, Event::Nothing)),
+        _ => Some((State::Samples, Event::Nothing)),
+    }
+}
+
+impl State {
+    /// Gives what a byte does here, behind rules for some categories.
+    pub fn next(self, seen: Categories, byte: u8) -> Option<(State, Event)>
+        ensures { result ≡ reader.next seen self byte }
+    {
+        match self {
+            State::Category => skip(self, byte, category_letter(seen, byte)),
+            State::One => second_letter(seen, byte),
+            State::Letters(category, read) => letter(category, read, byte),
+            State::Colon(category) => {
+                let colon = only(b':', byte, condition_of(category), Event::Nothing);
+                skip(self, byte, colon)
+            }
+            State::OtherCondition => other_condition(seen, byte),
+            State::Operand => skip(self, byte, operand(byte)),
+            State::Percent => percent(byte),
+            State::Modulus => skip(self, byte, zeros(byte)),
+            State::Zeros => zeros(byte),
+            State::ModulusDigits => {
+                let rest = skip(State::Comparison, byte, comparison(byte));
+                digit(byte, self, rest)
+            }
+            State::Comparison => skip(self, byte, comparison(byte)),
+            State::NotEqual => only(b'=', byte, State::Low, Event::Equal(false)),
+            State::Low => skip(self, byte, digit(byte, State::LowDigits, None)),
+            State::LowDigits => digit(byte, self, behind_low(seen, byte)),
+            State::BehindLow => behind_low(seen, byte),
+            State::Dot => only(b'.', byte, State::High, Event::To),
+            State::High => skip(self, byte, digit(byte, State::HighDigits, None)),
+            State::HighDigits => digit(byte, self, behind_high(seen, byte)),
+            State::BehindHigh => behind_high(seen, byte),
+            State::And => only(b'n', byte, State::AndEnd, Event::Nothing),
+            State::AndEnd => only(b'd', byte, State::Blank, Event::Nothing),
+            State::OrEnd => only(b'r', byte, State::Blank, Event::Nothing),
+            State::Blank => skip(State::Operand, byte, None),
+            State::Samples => sample(seen, byte),
+        }
+    }
+
+    /// Tells whether the digits of a number come next.
+    pub fn starts_number(self) -> bool
+        ensures { result ≡ starts_number self }
+    {
+        match self {
+            State::Modulus | State::Low | State::High => true,
+            _ => false,
+        }
+    }
+
+    /// Gives the greatest number that may be read up to here: a modulus is at most 10 to the 18.
+    pub fn most(self) -> u64
+        ensures { result ≡ most self }
+    {
+        match self {
+            State::Zeros | State::ModulusDigits => GREATEST_MODULUS,
+            _ => u64::MAX,
+        }
+    }
+
+    /// Gives what the end of the text says here. None where rules do not end so.
+    pub fn at_end(self) -> Option<Event>
+        ensures { result ≡ reader.at_end self }
+    {
+        match self {
+            State::LowDigits | State::BehindLow | State::HighDigits | State::BehindHigh => {
+                Some(Event::End)
+            }
+            State::OtherCondition => Some(Event::EndOther),
+            State::Samples => Some(Event::Nothing),
+            _ => None,
+        }
+    }
+}

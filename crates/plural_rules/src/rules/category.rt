@@ -1,0 +1,137 @@
+//! Which category a number takes by some rules.
+ghost use Rattle.std.specs.Prelude.{◌≡◌, ℕ, ◌%◌, ◌^◌, ◌<◌, ◌≤◌};
+ghost use Rattle.std.specs.List.{list_any, list_all};
+ghost use Rattle.plural_rules.specs.Parts.{IsUpTo};
+ghost use Rattle.plural_rules.specs.Rules.{integer_of, in_range, equals, holds, is_met, category_of};
+
+use super::{Operand, PluralCategory, PluralRules, Range, Relation, Rule};
+use crate::operands::PluralOperands;
+use fixed_decimal::DigitStore;
+
+/// An operand of a number, where it is an integer: n is i there. None where it is above this.
+fn integer<D: DigitStore>(
+    number: &PluralOperands<'_, D>,
+    operand: Operand,
+    most: u64,
+) -> Option<u64>
+    ensures { IsUpTo most result (integer_of number.now operand) }
+{
+    match operand {
+        Operand::N | Operand::I => number.i_up_to(most),
+        Operand::V => Some(number.v() as u64),
+        Operand::W => Some(number.w() as u64),
+        Operand::F => number.f_up_to(most),
+        Operand::T => number.t_up_to(most),
+        Operand::C => Some(number.c() as u64),
+    }
+}
+
+/// The remainder of an operand by a modulus.
+fn remainder<D: DigitStore>(number: &PluralOperands<'_, D>, operand: Operand, modulus: u64) -> u64
+    requires some { 0 < modulus }
+    requires small { modulus ≤ 10 ^ 18 }
+    ensures { result ≡ integer_of number.now operand % modulus }
+{
+    match operand {
+        Operand::N | Operand::I => number.i_modulo(modulus),
+        Operand::V => number.v() as u64 % modulus,
+        Operand::W => number.w() as u64 % modulus,
+        Operand::F => number.f_modulo(modulus),
+        Operand::T => number.t_modulo(modulus),
+        Operand::C => number.c() as u64 % modulus,
+    }
+}
+
+impl Range {
+    /// Whether an integer lies in the range. None stands for one above the range.
+    fn contains(&self, number: Option<u64>) -> bool
+        ensures { (n : ℕ) → IsUpTo self.now.high number n → result ≡ in_range n self.now }
+    {
+        match number {
+            None => false,
+            Some(number) => self.low <= number && number <= self.high,
+        }
+    }
+}
+
+/// Whether an operand, where it is an integer, lies in one of the ranges.
+fn operand_is_in<D: DigitStore>(
+    number: &PluralOperands<'_, D>,
+    operand: Operand,
+    ranges: &[Range],
+) -> bool
+    ensures { result ≡ list_any (in_range (integer_of number.now operand)) ranges.now }
+{
+    ranges.iter().any(|range| range.contains(integer(number, operand, range.high)))
+}
+
+/// Whether a remainder lies in one of the ranges.
+fn remainder_is_in(remainder: u64, ranges: &[Range]) -> bool
+    ensures { result ≡ list_any (in_range remainder) ranges.now }
+{
+    ranges
+        .iter()
+        .any(|range| range.low <= remainder && remainder <= range.high)
+}
+
+impl Relation {
+    /// Whether what the relation looks at is an integer in one of the ranges.
+    fn equals<D: DigitStore>(&self, number: &PluralOperands<'_, D>) -> bool
+        ensures { result ≡ equals number.now self.now }
+    {
+        if self.operand == Operand::N && number.w() != 0 {
+            return false;
+        }
+        match self.modulus {
+            None => operand_is_in(number, self.operand, &self.ranges),
+            Some(modulus) => {
+                let remainder = remainder(number, self.operand, modulus.divisor());
+                remainder_is_in(remainder, &self.ranges)
+            }
+        }
+    }
+
+    /// Whether the relation holds.
+    fn holds<D: DigitStore>(&self, number: &PluralOperands<'_, D>) -> bool
+        ensures { result ≡ holds number.now self.now }
+    {
+        if self.is_equal {
+            self.equals(number)
+        } else {
+            !self.equals(number)
+        }
+    }
+}
+
+/// Whether each of the relations holds.
+fn all_hold<D: DigitStore>(relations: &[Relation], number: &PluralOperands<'_, D>) -> bool
+    ensures { result ≡ list_all (holds number.now) relations.now }
+{
+    relations.iter().all(|relation| relation.holds(number))
+}
+
+impl Rule {
+    /// Whether the condition is met.
+    fn is_met<D: DigitStore>(&self, number: &PluralOperands<'_, D>) -> bool
+        ensures { result ≡ is_met number.now self.now }
+    {
+        self.alternatives
+            .iter()
+            .any(|relations| all_hold(relations, number))
+    }
+}
+
+impl PluralRules {
+    /// Gives the category of the first rule, in the order of the text, whose condition the number meets.
+    ///
+    /// By `one: i = 1 and v = 0`, `1` is `One`, and `1.0` is `Other`, as is each number that meets no condition. It
+    /// takes no memory, and is exact however long the number is. Not in the original.
+    pub fn category<D: DigitStore>(&self, number: &PluralOperands<'_, D>) -> PluralCategory
+        ensures { result ≡ category_of self.now number.now }
+    {
+        match self.rules.iter().find(|rule| rule.is_met(number)) {
+            None => PluralCategory::Other,
+            Some(rule) => rule.category,
+        }
+    }
+}

@@ -1,0 +1,49 @@
+use Rattle.std.proofs.Common.{◌≡◌, ℕ, ◌*◌, ◌/◌, ◌%◌, ◌^◌, ◌≤◌, Ok, Err, inl, sym, ◌∙◌, ap, arith}
+use Rattle.std.specs.Prelude.{pos, negsuc}
+use Rattle.std.proofs.Math.Nat.{div-add-mod', mul-mod_left}
+use Rattle.std.proofs.lemmas.Int.{ints}
+use Rattle.decimal_digits.specs.Number.{weight}
+use Rattle.decimal_unsigned.specs.ToInteger.{as_integer}
+use Rattle.decimal_unsigned.specs.Unsigned.{Unsigned}
+use Rattle.decimal_unsigned.specs.declared.decimal.to_integer.IntegerError.TheVariants.{NotWhole, OutOfRange}
+use Rattle.fixed_decimal.proofs.Calling.{weight_up, integer_is, not_whole, out_of_range}
+use Rattle.uses.specs.Bill.{cent}
+use Rattle.uses.proofs.bill.total_cents.Goals as goal
+
+-- a hundred cents are a whole one
+hundred : weight (pos 0) ≡ cent * 10 ^ 2
+hundred = weight_up (negsuc 1) 2 (omega (arith, ints))
+
+module _ (n m : ℕ) (e : m ≡ n * 10 ^ 2) where
+  all_cents : (total : ℕ) → Ok total ≡ as_integer (2 ^ 64) m → n ≡ total * cent
+  all_cents total h = omega (arith, e, integer_is (2 ^ 64) m total (sym h), ap (λ k. total * k) hundred)
+
+  part_of_a_cent : Err NotWhole ≡ as_integer (2 ^ 64) m → ¬ (n % cent ≡ 0)
+  part_of_a_cent h z =
+      let whole : m ≡ n / cent * weight (pos 0) =
+      omega (arith, e, z, div-add-mod' n cent, ap (λ k. n / cent * k) hundred) in
+      not_whole (2 ^ 64) m (sym h) (ap (λ k. k % weight (pos 0)) whole ∙ mul-mod_left (n / cent) (weight (pos 0)))
+
+  too_great : Err OutOfRange ≡ as_integer (2 ^ 64) m → 2 ^ 64 * cent ≤ n
+  too_great h = omega (arith, e, out_of_range (2 ^ 64) m (sym h), hundred)
+
+pub returns-in-Ok-try_to_u64-clause-ok : goal.returns-in-Ok-try_to_u64-clause-ok
+returns-in-Ok-try_to_u64-clause-ok c =
+    all_cents c.args.amount.now.number c.multiply_pow10.new.self.number
+    (ap (λ (v : Unsigned). v.number) c.in-Ok-multiply_pow10.ensures.moved
+    ∙ ap (λ (v : Unsigned). v.number * 10 ^ 2) c.in-Ok.ensures.value)
+    c.in-Ok-try_to_u64.total c.in-Ok-try_to_u64.ensures.value
+
+pub returns-in-Err-NotWhole-clause-err : goal.returns-in-Err-NotWhole-clause-err
+returns-in-Err-NotWhole-clause-err c = λ count.
+    part_of_a_cent c.args.amount.now.number c.multiply_pow10.new.self.number
+    (ap (λ (v : Unsigned). v.number) c.in-Ok-multiply_pow10.ensures.moved
+    ∙ ap (λ (v : Unsigned). v.number * 10 ^ 2) c.in-Ok.ensures.value)
+    (rw c.in-Err-NotWhole.field-0-is at c.in-Err-NotWhole.ensures.value)
+
+pub returns-clause-err : goal.returns-clause-err
+returns-clause-err c = λ count.
+    inl (too_great c.args.amount.now.number c.multiply_pow10.new.self.number
+    (ap (λ (v : Unsigned). v.number) c.in-Ok-multiply_pow10.ensures.moved
+    ∙ ap (λ (v : Unsigned). v.number * 10 ^ 2) c.in-Ok.ensures.value)
+    (rw c.in-Err-OutOfRange.field-0-is at c.in-Err-OutOfRange.ensures.value))

@@ -1,0 +1,39 @@
+-- The parts of a bill.
+use Rattle.std.specs.Prelude.{◌≡◌, ℕ, zero, suc, ◌+◌, ◌*◌, ◌/◌, ◌%◌, ◌^◌, ◌≤◌, ◌⊎◌, nat_lt, if◌then◌else◌, List, [], ◌∷◌, ◌++◌, sum_by, negsuc, pos}
+use Rattle.decimal_digits.specs.Number.{weight}
+use Rattle.decimal_unsigned.specs.Unsigned.{Unsigned, integer_value}
+use Rattle.decimal_unsigned.specs.Edits.{multiplied, StaysInLimits}
+use Rattle.uses.specs.declared.bill.BillError.{BillError}
+use Rattle.uses.specs.declared.bill.BillError.TheVariants.{NoPart, PartOfACent, TooGreat, Memory}
+
+-- what a cent counts, in units; negsuc 1 is -2
+abbrev pub cent : ℕ
+cent = weight (negsuc 1)
+
+-- so many cents with two decimals
+abbrev pub cents_value : ℕ → Unsigned
+cents_value cents = multiplied (integer_value cents) (negsuc 1)
+
+-- the cents of the part with this number, from 0 on: the first parts get the cents that are left over
+abbrev pub part_cents : ℕ → ℕ → ℕ → ℕ
+part_cents total count part = if nat_lt part (total % count) then total / count + 1 else total / count
+
+-- the first so many parts
+abbrev pub parts_of : ℕ → ℕ → ℕ → List Unsigned
+parts_of total count zero = []
+parts_of total count (suc part) = parts_of total count part ++ (cents_value (part_cents total count part) ∷ [])
+
+-- so many parts of whole cents, no two of which differ by more than a cent; they add up to the amount
+pub record IsSplit (amount : Unsigned) (count : ℕ) (parts : List Unsigned) : Type 0 where
+  pub total : ℕ
+  pub whole : amount.number ≡ total * cent
+  pub each : parts ≡ parts_of total count count
+  pub adds_up : sum_by (λ v. v.number) parts ≡ amount.number
+
+-- why an amount is not split: there is no part, the amount ends below the cents, or it is too great or memory is
+-- refused; too great is 2 to the 64 cents, and what shows a digit above the magnitude 32765
+abbrev pub Refuses : BillError → Unsigned → ℕ → Type 0
+Refuses NoPart amount count = count ≡ 0
+Refuses PartOfACent amount count = ¬ (amount.number % cent ≡ 0)
+Refuses TooGreat amount count = (2 ^ 64 * cent ≤ amount.number) ⊎ (¬ StaysInLimits amount (pos 2))
+Refuses Memory amount count = Unit {0}

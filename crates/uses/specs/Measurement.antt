@@ -1,0 +1,21 @@
+-- A measured value with at most so many decimals.
+use Rattle.std.specs.Prelude.{◌≡◌, ◌*◌, ◌≤◌, if◌then◌else◌, Option, Some, ℤ, int_lt, ◌≤ℤ◌}
+use Rattle.std.specs.Int.{abs_diff}
+use Rattle.decimal_digits.specs.Number.{weight}
+use Rattle.decimal_digits.specs.declared.rounding.RoundingIncrement.TheVariants.{MultiplesOf1}
+use Rattle.decimal_digits.specs.declared.rounding.UnsignedRoundingMode.TheVariants.{HalfEven}
+use Rattle.fixed_decimal.specs.Decimal.{Decimal}
+use Rattle.fixed_decimal.specs.SignedRounding.{rounded}
+use Rattle.fixed_decimal.specs.declared.rounding.SignedRoundingMode.TheVariants.{Unsigned}
+
+-- rounded half-even at a position where digits are shown below it, and as it is where none are
+abbrev pub shortened : Decimal → ℤ → Option Decimal
+shortened v position =
+    if int_lt v.absolute.lo position then rounded v position (Unsigned HalfEven) MultiplesOf1 else Some v
+
+-- no digit is shown below the position, and the number is at most half a unit there from the measured one, on the same
+-- side of 0
+pub record IsNear (measured : Decimal) (position : ℤ) (v : Decimal) : Type 0 where
+  pub shown : position ≤ℤ v.absolute.lo
+  pub near : 2 * abs_diff measured.absolute.number v.absolute.number ≤ weight position
+  pub sign : v.sign ≡ measured.sign

@@ -1,0 +1,15 @@
+-- What a person is told of a run.
+use Rattle.std.specs.Prelude.{◌≡◌, ◌≢◌, ℕ, ◌⊎◌, List, Ok}
+use Rattle.decimal_unsigned.specs.declared.decimal.TheConstants.{DIGITS_IN_PLACE}
+use Rattle.fixed_decimal.specs.Outcome.{outcome}
+use Rattle.fixed_decimal.specs.Errors.{RunRefuses}
+use Rattle.fixed_decimal.specs.ErrorText.{run_error_text}
+use Rattle.fixed_decimal.specs.declared.runs.Call.{Call}
+use Rattle.fixed_decimal.specs.declared.runs.RunError.{RunError}
+use Rattle.fixed_decimal.specs.declared.runs.RunError.TheVariants.{Sink}
+
+-- the text that the calls come to, or the sentence of an error that the run may answer
+abbrev pub IsTold : List ℕ → List Call → List ℕ → Type 0
+IsTold start calls told =
+    (outcome start calls ≡ Ok told)
+    ⊎ ((e : RunError) × RunRefuses DIGITS_IN_PLACE e start calls × (e ≢ Sink) × (told ≡ run_error_text e))

@@ -1,0 +1,67 @@
+//! So many percent of an amount, printed.
+ghost use Rattle.std.specs.Prelude.{◌≡◌, ◌<◌, ◌*◌, Err, OnOk, IsSomeAnd, codes, true};
+ghost use Rattle.std.specs.Io.KnownBytes.{Appends};
+ghost use Rattle.decimal_digits.specs.Number.{size};
+ghost use Rattle.decimal_digits.specs.Text.{AppendsPrefix};
+ghost use Rattle.decimal_unsigned.specs.Text.{text};
+ghost use Rattle.decimal_unsigned.specs.Unsigned.{integer_value};
+ghost use Rattle.uses.specs.Price.{price};
+
+use fixed_decimal::{DIGITS_IN_PLACE, Sink, SinkFault, UnsignedDecimal, Writeable};
+use std::alloc::Global;
+
+/// Why a price was not printed.
+#[derive(Debug, Drop, PartialEq)]
+pub enum PriceError {
+    /// Memory for the digits was refused. Nothing was printed.
+    Memory,
+    /// The sink refused a byte, and has taken a beginning of the price.
+    Sink,
+}
+
+/// Prints so many percent of a number of cents, rounded half-even to a cent.
+///
+/// 1250 cents at 5 percent print `0.62`. Err: `Memory` where memory was refused, which is asked for only where the
+/// product of cents and percent has more than `DIGITS_IN_PLACE` digits from the first to the last that is not 0, and
+/// then nothing is printed; `Sink` where the sink refused a byte, now or before. The limits of a decimal refuse no
+/// price: the product of 64 bits of cents and 32 bits of percent has at most 29 digits.
+pub fn write_price<W: Sink>(
+    alloc: Global,
+    cents: u64,
+    percent: u32,
+    sink: &mut W,
+) -> Result<(), PriceError>
+    ensures written { OnOk result (IsSomeAnd (price cents percent)
+        (λ value. Appends (W.contents sink.old) (W.contents sink.new) (text value))) }
+    ensures memory { result ≡ Err PriceError.Memory
+        → DIGITS_IN_PLACE < size (integer_value (cents * percent)).number }
+    ensures untouched { result ≡ Err PriceError.Memory → sink.new ≡ sink.old }
+    ensures prefix { result ≡ Err PriceError.Sink
+        → IsSomeAnd (price cents percent)
+        (λ value. AppendsPrefix (W.contents sink.old) (W.contents sink.new) (text value)) }
+    ensures failed { result ≡ Err PriceError.Sink → W.has_failed sink.new ≡ true }
+{
+    let product = cents as u128 * percent as u128;
+    let Ok(mut value) = UnsignedDecimal::try_from_u128(alloc, product) else {
+        return Err(PriceError::Memory);
+    };
+    // So few digits meet no limit.
+    value.multiply_pow10(-4).unwrap();
+    value.round(-2).unwrap();
+    match value.write_to(sink) {
+        Ok(()) => Ok(()),
+        Err(_) => Err(PriceError::Sink),
+    }
+}
+
+/// Prints the fee for shipping, `4.90`.
+///
+/// Err: the sink refused a byte, and has taken a beginning of it.
+pub fn write_shipping_fee<W: Sink>(alloc: Global, sink: &mut W) -> Result<(), SinkFault>
+    ensures { OnOk result (Appends (W.contents sink.old) (W.contents sink.new) (codes "4.90")) }
+{
+    let mut fee = UnsignedDecimal::from_u16(alloc, 490);
+    // So few digits meet no limit.
+    fee.multiply_pow10(-2).unwrap();
+    fee.write_to(sink)
+}

@@ -1,0 +1,61 @@
+//! A run of calls that tells a person why it is refused.
+ghost use Rattle.std.specs.Prelude.{◌≡◌, ℕ, List, Err, OnOk, true};
+ghost use Rattle.std.specs.Io.KnownBytes.{Appends};
+ghost use Rattle.decimal_digits.specs.Text.{AppendsPrefix};
+ghost use Rattle.fixed_decimal.specs.ErrorText.{run_error_text};
+ghost use Rattle.uses.specs.Refusal.{IsTold};
+
+use fixed_decimal::{Call, RunError, Sink, SinkFault, run};
+use std::alloc::Global;
+
+/// Why a person was not told.
+#[derive(Clone, Copy, Debug, PartialEq, Eq)]
+pub enum TellError {
+    /// Memory for the sentence was refused. Nothing was written.
+    Memory,
+    /// The sink refused a byte, now or before, and has taken a beginning of what was to be told.
+    Sink,
+}
+
+/// Writes the sentence that says why a run was refused.
+fn tell<W: Sink>(alloc: Global, error: &RunError, sink: &mut W) -> Result<(), TellError>
+    ensures told { OnOk result (Appends (W.contents sink.old) (W.contents sink.new) (run_error_text error.now)) }
+    ensures untouched { result ≡ Err TellError.Memory → sink.new ≡ sink.old }
+    ensures prefix { result ≡ Err TellError.Sink
+        → AppendsPrefix (W.contents sink.old) (W.contents sink.new) (run_error_text error.now) }
+    ensures failed { result ≡ Err TellError.Sink → W.has_failed sink.new ≡ true }
+{
+    let Ok(sentence) = format!(in alloc; "{error}") else {
+        return Err(TellError::Memory);
+    };
+    match sink.put_bytes(sentence.as_bytes()) {
+        Ok(()) => Ok(()),
+        Err(SinkFault) => Err(TellError::Sink),
+    }
+}
+
+/// Makes a run, and writes its text, or where it is refused the sentence that says why.
+///
+/// From `1e5` the call `MultiplyPow10(-2)` writes `1000.00`, and from `1,5` any calls write
+/// `Start: Failed to parse the input string`.
+pub fn write_or_tell<W: Sink>(
+    alloc: Global,
+    start: &[u8],
+    calls: &[Call<'_>],
+    sink: &mut W,
+) -> Result<(), TellError>
+    ensures told { OnOk result ((told : List ℕ) × IsTold start.now calls.now told
+        × Appends (W.contents sink.old) (W.contents sink.new) told) }
+    ensures untouched { result ≡ Err TellError.Memory → sink.new ≡ sink.old }
+    ensures prefix { result ≡ Err TellError.Sink → (told : List ℕ) × IsTold start.now calls.now told
+        × AppendsPrefix (W.contents sink.old) (W.contents sink.new) told }
+    ensures failed { result ≡ Err TellError.Sink → W.has_failed sink.new ≡ true }
+{
+    let Err(error) = run(alloc, start, calls, sink) else {
+        return Ok(());
+    };
+    match error {
+        RunError::Sink => Err(TellError::Sink),
+        _ => tell(alloc, &error, sink),
+    }
+}
