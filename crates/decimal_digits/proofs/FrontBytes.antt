@@ -1,34 +1,19 @@
 -- The halves of a number in base 16, the highest one first.
-use Rattle.std.proofs.Common.{◌≡◌, ℕ, zero, suc, ◌+◌, ◌-◌, ◌*◌, ◌/◌, ◌%◌, ◌^◌, ◌<◌, ◌≤◌, List, [], ◌∷◌, ◌++◌, length, get_or, take, replicate, refl, sym, ◌∙◌, ap, subst, arith}
+use Rattle.std.proofs.Common.{◌≡◌, ℕ, zero, suc, ◌+◌, ◌-◌, ◌*◌, ◌/◌, ◌%◌, ◌^◌, ◌<◌, ◌≤◌, List, [], ◌∷◌, ◌++◌, length, get_or, take, drop, replicate, refl, sym, ◌∙◌, ap, subst, arith}
 use Rattle.std.specs.Prelude.{All}
 use Rattle.std.specs.Int.{w64, to_be_bytes, bytes_high_first, byte_at}
 use Rattle.std.specs.Int.Digits.{number_from_digits_after, number_from_digits, AllBelowBase}
-use Rattle.std.proofs.Math.Nat.{pow-suc}
-use Rattle.std.proofs.lemmas.Nat.{div-mul-add, mod-mul-add}
-use Rattle.std.proofs.lemmas.List.{length-append, length-replicate, length-take, take-take, get_or-take}
-use Rattle.std.proofs.lemmas.List.Elements.{All-from_recursion}
-use Rattle.std.proofs.lemmas.Int.Digits.{number_lt, number_after_append}
-use Rattle.decimal_digits.specs.Halves.{halves, digits_in, front_bytes, IsPacked}
+use Rattle.std.proofs.Math.Nat.{pow-suc, pow-le-pow_right}
+use Rattle.std.proofs.Math.Seq.{get_or-append_right}
+use Rattle.std.proofs.lemmas.Nat.{div-mul-add, mod-mul-add, from_be_bytes-to_be_bytes_8}
+use Rattle.std.proofs.lemmas.List.{length-append, length-replicate, length-take, length-take-le, take_all, take-take, get_or-take, drop_all, drop_more, append_assoc, replicate-append-replicate, get_or_append_left, get_or-replicate}
+use Rattle.std.proofs.lemmas.List.Elements.{All-from_recursion, recursion_from_All}
+use Rattle.std.proofs.lemmas.Int.Digits.{number_lt, number_after_append, number_more}
+use Rattle.decimal_digits.specs.Halves.{halves, digits_in, front_bytes, halves_number, IsPacked}
 use Rattle.decimal_digits.specs.Packing.{Holds, length-halves, length_digits}
-use Rattle.decimal_digits.proofs.Halves.{halves-take}
+use Rattle.decimal_digits.proofs.Halves.{halves-take, halves-append, halves-zeros}
+use Rattle.decimal_digits.proofs.DigitLists.{below_take, number_after, number_zeros}
 use Rattle.decimal_digits.proofs.Packing.{holds, take_zeros}
-
--- a number in front of halves counts for as many places as there are halves
-pub after_halves : (n : ℕ) (ds : List ℕ)
-    → number_from_digits_after 16 n ds ≡ n * 16 ^ length ds + number_from_digits 16 ds
-after_halves n [] = omega arith
-after_halves n (d ∷ ds) =
-    let e : number_from_digits 16 (d ∷ ds) ≡ (0 * 16 + d) * 16 ^ length ds + number_from_digits 16 ds =
-    after_halves (0 * 16 + d) ds in
-    let p : 16 ^ length (d ∷ ds) ≡ 16 ^ length ds * 16 = pow-suc 16 (length ds) in
-    after_halves (n * 16 + d) ds ∙ (rw (e, p) (omega arith))
-
--- zeros behind a number move it up
-pub after_zeros : (n k : ℕ) → number_from_digits_after 16 n (replicate k 0) ≡ n * 16 ^ k
-after_zeros n zero = omega arith
-after_zeros n (suc k) =
-    let p : 16 ^ suc k ≡ 16 ^ k * 16 = pow-suc 16 k in
-    after_zeros (n * 16 + 0) k ∙ (rw p (omega arith))
 
 -- two halves to a byte
 squares : (k : ℕ) → 16 ^ (2 * k) ≡ 256 ^ k
@@ -50,7 +35,7 @@ byte_is (suc k) high x low n l s e =
     ∙ mod-mul-add high 256 x s
 
 -- the lowest halves of a number are those that it was made of
-halves_of_bytes : (k high : ℕ) (ds : List ℕ) → length ds ≡ 2 * k → AllBelowBase 16 ds
+pub halves_of_bytes : (k high : ℕ) (ds : List ℕ) → length ds ≡ 2 * k → AllBelowBase 16 ds
     → halves (bytes_high_first k (number_from_digits_after 16 high ds)) ≡ ds
 unfolding halves
 halves_of_bytes zero high [] l h = refl
@@ -68,7 +53,7 @@ halves_of_bytes (suc k) high (a ∷ (b ∷ r)) l h =
     subst (λ p. number_from_digits 16 r < p) places (number_lt 16 r h.1.1) in
     let same : front ≡ high * 256 + (a * 16 + b) = omega arith in
     let is : n ≡ (high * 256 + (a * 16 + b)) * 256 ^ k + number_from_digits 16 r =
-    after_halves front r ∙ ap (λ p. front * p + number_from_digits 16 r) places
+    number_after 16 front r ∙ ap (λ p. front * p + number_from_digits 16 r) places
     ∙ ap (λ f. f * 256 ^ k + number_from_digits 16 r) same in
     let byte : byte_at k n ≡ a * 16 + b =
     byte_is k high (a * 16 + b) (number_from_digits 16 r) n low (omega arith) is in
@@ -77,11 +62,16 @@ halves_of_bytes (suc k) high (a ∷ (b ∷ r)) l h =
     ap (λ v. v / 16 ∷ (v % 16 ∷ halves (bytes_high_first k n))) byte
     ∙ rw (x, y) (ap (λ l. a ∷ (b ∷ l)) (halves_of_bytes k front r len h.1.1))
 
--- digits are halves, and so are zeros behind them
-below_halves : (ds : List ℕ) (k : ℕ) → AllBelowBase 10 ds → AllBelowBase 16 (ds ++ replicate k 0)
-below_halves [] zero h = tt
-below_halves [] (suc k) h = (omega arith, below_halves [] k tt)
-below_halves (d ∷ ds) k h = (let small : d < 10 = h.0 in omega arith, below_halves ds k h.1)
+-- digits are halves
+pub below_sixteen : (ds : List ℕ) → AllBelowBase 10 ds → AllBelowBase 16 ds
+below_sixteen [] h = tt
+below_sixteen (d ∷ ds) h = (let small : d < 10 = h.0 in omega arith, below_sixteen ds h.1)
+
+-- and so are zeros behind them
+below_zeros : (ds : List ℕ) (k : ℕ) → AllBelowBase 10 ds → AllBelowBase 10 (ds ++ replicate k 0)
+below_zeros [] zero h = tt
+below_zeros [] (suc k) h = (omega arith, below_zeros [] k tt)
+below_zeros (d ∷ ds) k h = (h.0, below_zeros ds k h.1)
 
 -- up to sixteen digits, as the highest halves of a number, are packed in its first bytes
 pub front_holds : (ds : List ℕ) (len n : ℕ) → length ds ≡ len → len ≤ 16 → AllBelowBase 10 ds
@@ -94,11 +84,12 @@ front_holds ds len n l few h e =
     let all = ds ++ replicate (16 - len) 0 in
     let v : number_from_digits 16 all ≡ n =
     number_after_append 16 0 ds (replicate (16 - len) 0)
-    ∙ after_zeros (number_from_digits 16 ds) (16 - len) ∙ sym e in
+    ∙ number_zeros 16 (number_from_digits 16 ds) (16 - len) ∙ sym e in
     let sixteen : length all ≡ 2 * 8 =
     omega (arith, length-append ds (replicate (16 - len) 0), length-replicate {A = ℕ} (16 - len) 0) in
     let whole : halves bytes ≡ all =
-    ap (λ m. halves (to_be_bytes w64 m)) (sym v) ∙ halves_of_bytes 8 0 all sixteen (below_halves ds (16 - len) h) in
+    ap (λ m. halves (to_be_bytes w64 m)) (sym v) ∙ halves_of_bytes 8 0 all sixteen
+    (below_sixteen all (below_zeros ds (16 - len) h)) in
     let places : 2 * k ≡ length ds + len % 2 = omega arith in
     let f : halves (take k bytes) ≡ ds ++ replicate (len % 2) 0 =
     halves-take k bytes ∙ ap (take (2 * k)) whole ∙ ap (λ j. take j all) places
@@ -138,3 +129,100 @@ pub front_is : (number len count : ℕ) (bytes : List ℕ) → bytes ≡ take co
     → count ≡ (len + 1) / 2 → bytes ≡ front_bytes number len
 unfolding front_bytes
 front_is number len count bytes e k = e ∙ ap (λ n. take n (to_be_bytes w64 number)) k
+
+-- ---- bytes and zeros behind them
+-- so many bytes, from one on
+abbrev pub bytes_from : ℕ → ℕ → List ℕ → List ℕ
+bytes_from zero i bs = []
+bytes_from (suc n) i bs = get_or bs i 0 ∷ bytes_from n (i + 1) bs
+
+-- the bytes from one on, up to the last
+pub bytes_from_is : (n i : ℕ) (bs : List ℕ) → i + n ≡ length bs → bytes_from n i bs ≡ drop i bs
+bytes_from_is zero i bs e = sym (drop_all i bs (omega arith))
+bytes_from_is (suc n) i bs e =
+    ap (λ l. get_or bs i 0 ∷ l) (bytes_from_is n (i + 1) bs (omega arith)) ∙ sym (drop_more bs i 0 (omega arith))
+
+-- the bytes one by one, and zeros up to the eighth
+pub padded_is : (n : ℕ) (bs : List ℕ) → n ≡ length bs
+    → bytes_from n 0 bs ++ replicate (8 - n) 0 ≡ bs ++ replicate (8 - length bs) 0
+padded_is n bs e = (λ k. bytes_from_is n 0 bs (omega arith) k ++ replicate (8 - e k) 0)
+
+-- two halves of a byte count as much as the byte
+bytes_number : (n : ℕ) (bs : List ℕ) → number_from_digits_after 16 n (halves bs) ≡ number_from_digits_after 256 n bs
+unfolding halves
+bytes_number n [] = refl
+bytes_number n (b ∷ bs) =
+    let e : (n * 16 + b / 16) * 16 + b % 16 ≡ n * 256 + b = omega arith in
+    ap (λ m. number_from_digits_after 16 m (halves bs)) e ∙ bytes_number (n * 256 + b) bs
+
+-- the bytes of a number, by their places
+by_places : (a b c d e f g h : ℕ)
+    → number_from_digits 256 (a ∷ (b ∷ (c ∷ (d ∷ (e ∷ (f ∷ (g ∷ (h ∷ []))))))))
+    ≡ a * 72057594037927936 + b * 281474976710656 + c * 1099511627776 + d * 4294967296 + e * 16777216 + f * 65536 + g * 256 + h
+by_places a b c d e f g h = omega arith
+
+-- the halves of a number of 64 bits write it
+pub number_of_halves : (n : ℕ) → n < 2 ^ 64 → number_from_digits 16 (halves (to_be_bytes w64 n)) ≡ n
+number_of_halves n fits =
+    bytes_number 0 (to_be_bytes w64 n)
+    ∙ by_places (byte_at 7 n) (byte_at 6 n) (byte_at 5 n) (byte_at 4 n) (byte_at 3 n) (byte_at 2 n) (byte_at 1 n) (byte_at 0 n)
+    ∙ from_be_bytes-to_be_bytes_8 n fits
+
+-- packed bytes in front of a number are its digits
+pub word_holds : (bytes : List ℕ) (len n : ℕ) → IsPacked bytes len → len ≤ 16 → n < 2 ^ 64
+    → to_be_bytes w64 n ≡ bytes ++ replicate (8 - length bytes) 0 → n ≡ halves_number (digits_in bytes len)
+unfolding halves_number
+word_holds bytes len n p few fits e =
+    let ds = digits_in bytes len in
+    let l : length ds ≡ len = length_digits bytes len p in
+    let zeros : len % 2 + 2 * (8 - length bytes) ≡ 16 - length ds = omega (arith, p.count) in
+    let all : halves (to_be_bytes w64 n) ≡ ds ++ replicate (16 - length ds) 0 =
+    ap halves e ∙ halves-append bytes (replicate (8 - length bytes) 0)
+    ∙ ap (λ l. halves bytes ++ l) (halves-zeros (8 - length bytes))
+    ∙ ap (λ l. l ++ replicate (2 * (8 - length bytes)) 0) p.unused
+    ∙ append_assoc ds (replicate (len % 2) 0) (replicate (2 * (8 - length bytes)) 0)
+    ∙ ap (λ l. ds ++ l) (replicate-append-replicate (len % 2) (2 * (8 - length bytes)) 0)
+    ∙ ap (λ k. ds ++ replicate k 0) zeros in
+    sym (number_of_halves n fits) ∙ ap (number_from_digits 16) all
+
+-- ---- up to sixteen digits, and zeros behind them
+module _ (ds : List ℕ) (h : All (λ d. d < 10) ds) (few : length ds ≤ 16) where
+  abbrev pub sixteen : List ℕ
+  sixteen = ds ++ replicate (16 - length ds) 0
+
+  pub sixteen_are : length sixteen ≡ 16
+  sixteen_are = omega (arith, length-append ds (replicate (16 - length ds) 0), length-replicate {A = ℕ} (16 - length ds) 0)
+
+  -- they are digits
+  pub sixteen_digits : AllBelowBase 10 sixteen
+  sixteen_digits = below_zeros ds (16 - length ds) (recursion_from_All (λ d. d < 10) ds h)
+
+  -- up to fifteen of them leave room for one more
+  pub fifteen_lt : (i n : ℕ) → i < 16 → n ≡ number_from_digits 16 (take i sixteen) → n < 16 ^ 15
+  fifteen_lt i m l e =
+      let n : length (take i sixteen) ≡ i = length-take-le i sixteen (omega (arith, sixteen_are)) in
+      let fits : length (take i sixteen) ≤ 15 = omega arith in
+      let top : 16 ^ length (take i sixteen) ≤ 16 ^ 15 = pow-le-pow_right (omega arith) fits in
+      omega (arith, number_lt 16 (take i sixteen) (below_sixteen (take i sixteen) (below_take 10 i sixteen sixteen_digits)), top)
+
+  -- the digits come first
+  pub sixteen_digit : (i : ℕ) → i < length ds → get_or ds i 0 ≡ get_or sixteen i 0
+  sixteen_digit i l = sym (get_or_append_left ds (replicate (16 - length ds) 0) 0 i l)
+
+  -- and zeros follow them
+  pub sixteen_zero : (i : ℕ) → length ds ≤ i → i < 16 → 0 ≡ get_or sixteen i 0
+  sixteen_zero i l k =
+      sym (get_or-append_right ds (replicate (16 - length ds) 0) i 0 l
+      ∙ get_or-replicate (16 - length ds) (i - length ds) 0 0 (omega arith))
+
+  -- one place more
+  pub sixteen_next : (i d : ℕ) → i < 16 → d ≡ get_or sixteen i 0
+      → number_from_digits 16 (take i sixteen) * 16 + d ≡ number_from_digits 16 (take (i + 1) sixteen)
+  sixteen_next i d l e =
+      ap (λ x. number_from_digits 16 (take i sixteen) * 16 + x) e
+      ∙ sym (number_more 16 sixteen i (omega (arith, sixteen_are)))
+
+  -- all places
+  pub sixteen_all : (i : ℕ) → ¬ (i < 16) → number_from_digits 16 (take i sixteen) ≡ halves_number ds
+  unfolding halves_number
+  sixteen_all i l = ap (number_from_digits 16) (take_all i sixteen (omega (arith, sixteen_are)))

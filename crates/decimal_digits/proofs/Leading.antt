@@ -161,7 +161,7 @@ module _ (top k : ℕ) (ds : List ℕ) (b : AllBelowBase 10 ds) (fits : length d
         ∙ ap (λ i. get_or ds k 0 * 10 ^ i + number_at i (drop (k + 1) ds)) e
 
     behind_lt : number_at (top - k) (drop k ds) < 10 ^ (top - k)
-    behind_lt = number_at-lt (top - k) (drop k ds) (below_drop k ds b) (omega (arith, length-drop k ds))
+    behind_lt = number_at-lt (top - k) (drop k ds) (below_drop 10 k ds b) (omega (arith, length-drop k ds))
 
     behind_pos : 0 < get_or ds (length ds - 1) 0 → 0 < number_at (top - k) (drop k ds)
     behind_pos l =
@@ -169,7 +169,7 @@ module _ (top k : ℕ) (ds : List ℕ) (b : AllBelowBase 10 ds) (fits : length d
         let last : get_or (drop k ds) (length (drop k ds) - 1) 0 ≡ get_or ds (length ds - 1) 0 =
         get_or-drop k ds (length (drop k ds) - 1) 0
         ∙ ap (λ i. get_or ds i 0) (let e : k + (length (drop k ds) - 1) ≡ length ds - 1 = omega arith in e) in
-        number_at-pos (top - k) (drop k ds) (below_drop k ds b) (omega arith) (rw last l)
+        number_at-pos (top - k) (drop k ds) (below_drop 10 k ds b) (omega arith) (rw last l)
 
 -- the first of them tells on which side of half of the place above they are
 module _ (top k digit : ℕ) (ds : List ℕ) (b : AllBelowBase 10 ds) (fits : length ds ≤ top) (h : k < length ds)
@@ -185,7 +185,7 @@ module _ (top k digit : ℕ) (ds : List ℕ) (b : AllBelowBase 10 ds) (fits : le
   below_half l =
       let d : digit ≤ 4 = omega arith in
       let rest : number_at (top - (k + 1)) (drop (k + 1) ds) < 10 ^ (top - (k + 1)) =
-      number_at-lt (top - (k + 1)) (drop (k + 1) ds) (below_drop (k + 1) ds b)
+      number_at-lt (top - (k + 1)) (drop (k + 1) ds) (below_drop 10 (k + 1) ds b)
       (omega (arith, length-drop (k + 1) ds)) in (
         behind_pos top k ds b fits h back,
         omega (
@@ -250,7 +250,7 @@ pub one_more : (k n : ℕ) (ds : List ℕ) → AllBelowBase 10 ds → 3 ≤ k �
 one_more k n ds b p h first small ends =
     let len : length (take (k - 2) ds) ≡ k - 2 = length-take-le (k - 2) ds (omega arith) in
     let most : leading (k - 2) ds < 10 ^ (k - 2) =
-    number_at-lt (k - 2) (take (k - 2) ds) (below_take (k - 2) ds b) (omega arith) in
+    number_at-lt (k - 2) (take (k - 2) ds) (below_take 10 (k - 2) ds b) (omega arith) in
     let least : 10 ^ (k - 2 - 1) ≤ leading (k - 2) ds =
     number_at-ge (k - 2) (take (k - 2) ds) (omega arith) (omega (arith, get_or-take (k - 2) ds 0 0 (omega arith)))
     (omega arith) in

@@ -1,6 +1,7 @@
 -- Two digits to a byte, the first of them in the high half.
-use Rattle.std.specs.Prelude.{◌≡◌, ℕ, ◌+◌, ◌*◌, ◌/◌, ◌%◌, ◌<◌, List, [], ◌∷◌, ◌++◌, length, take, replicate, All}
+use Rattle.std.specs.Prelude.{◌≡◌, ℕ, ◌+◌, ◌-◌, ◌*◌, ◌/◌, ◌%◌, ◌<◌, List, [], ◌∷◌, ◌++◌, length, take, replicate, All}
 use Rattle.std.specs.Int.{w64, to_be_bytes}
+use Rattle.std.specs.Int.Digits.{number_from_digits}
 
 -- the high half of each byte, and then its low half
 unfoldable pub halves : List ℕ → List ℕ
@@ -20,3 +21,7 @@ pub record IsPacked (bytes : List ℕ) (len : ℕ) : Type 0 where
 -- the first bytes of a number of 64 bits, the highest one first, as many as so many digits fill
 unfoldable pub front_bytes : ℕ → ℕ → List ℕ
 front_bytes number len = take ((len + 1) / 2) (to_be_bytes w64 number)
+
+-- the number that digits, and zeros behind them up to sixteen places, write in base 16
+unfoldable pub halves_number : List ℕ → ℕ
+halves_number digits = number_from_digits 16 (digits ++ replicate (16 - length digits) 0)

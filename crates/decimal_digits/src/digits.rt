@@ -1,9 +1,9 @@
 //! Lists of digits, most significant first, however they are stored.
-ghost use Rattle.std.specs.Prelude.{◌≡◌, ℕ, ◌+◌, ◌-◌, ◌<◌, ◌≤◌, ◌≢◌, ◌↔◌, List, [], ◌∷◌, ◌++◌, length, take, drop, map, replicate, slice_set, slice_index, All, IsTrue, IsOk, IfOk, OnOk, OnErr};
+ghost use Rattle.std.specs.Prelude.{◌≡◌, ℕ, ◌+◌, ◌-◌, ◌<◌, ◌≤◌, ◌≢◌, ◌↔◌, List, [], ◌∷◌, ◌++◌, length, take, drop, map, replicate, slice_set, slice_index, All, IsTrue, IsOk, IfOk, IfSome, IfNone, OnOk, OnErr};
 ghost use Rattle.std.specs.Char.{digit_value};
 ghost use Rattle.std.specs.Str.Parse.{AllDigits};
 ghost use Rattle.decimal_digits.specs.Digits.{text_of};
-ghost use Rattle.decimal_digits.specs.Halves.{digits_in, front_bytes, IsPacked};
+ghost use Rattle.decimal_digits.specs.Halves.{digits_in, front_bytes, halves_number, IsPacked};
 
 mod counted;
 mod list;
@@ -62,6 +62,26 @@ pub trait DigitStore: Drop {
             list.push_in_room(half_at(&bytes, index));
         }
         Ok(list)
+    }
+
+    /// Gives the number in base 16 with sixteen places whose first digits these are, as `from_halves` takes it.
+    ///
+    /// Of 2 and 5 it is `0x2500_0000_0000_0000`. None: there are more than sixteen digits.
+    fn to_halves(&self) -> Option<u64>
+        ensures number { IfSome result (λ number. number ≡ halves_number (digits self.now)) }
+        ensures few { IfSome result (λ number. length (digits self.now) ≤ 16) }
+        ensures many { IfNone result (16 < length (digits self.now)) }
+    {
+        let len = self.len();
+        if len > 16 {
+            return None;
+        }
+        let mut number = 0;
+        for index in 0..16 {
+            let digit = if index < len { self.get(index) } else { 0 };
+            number = number * 16 + u64::from(digit);
+        }
+        Some(number)
     }
 
     /// Makes a second list of the same digits.

@@ -9,6 +9,7 @@ mod changes;
 mod copies;
 mod counted;
 mod errors;
+mod halves;
 mod modes;
 mod sinks;
 

@@ -1,20 +1,25 @@
 -- The order of two numbers, by their digits.
-use Rattle.std.proofs.Common.{◌≡◌, ℕ, suc, ◌+◌, ◌-◌, ◌*◌, ◌^◌, ◌<◌, ◌≤◌, List, [], ◌∷◌, length, get_or, drop, refl, sym, ◌∙◌, ap, arith, ◌⊎◌, inl, inr}
-use Rattle.std.specs.Prelude.{min, ℤ, ◌<ℤ◌}
+use Rattle.std.proofs.Common.{◌≡◌, ℕ, suc, ◌+◌, ◌-◌, ◌*◌, ◌^◌, ◌<◌, ◌≤◌, List, [], ◌∷◌, length, get_or, drop, replicate, refl, sym, ◌∙◌, ap, subst, arith, ◌⊎◌, inl, inr}
+use Rattle.std.specs.Prelude.{All, min, ℤ, ◌<ℤ◌}
 use Rattle.std.specs.declared.cmp.Ordering.{Ordering}
 use Rattle.std.specs.declared.cmp.Ordering.TheVariants.{Less, Equal, Greater}
 use Rattle.std.specs.Ordering.{MatchOrdering, ordering_then, nat_cmp, int_cmp}
 use Rattle.std.specs.Cmp.{ranked, int_ranked, nat_cmp_is}
 use Rattle.std.specs.Cmp.Lexicographic.{slice_cmp}
-use Rattle.std.proofs.Math.Nat.{mul-le-mul_right, pow-le-pow_right}
+use Rattle.std.proofs.Math.Nat.{one-le-pow, mul-le-mul_right, mul-lt-mul_of_pos_right, mul-pos, pow-le-pow_right}
 use Rattle.std.proofs.lemmas.Bool.{cases_lt}
 use Rattle.std.proofs.lemmas.Int.{ints}
 use Rattle.std.proofs.lemmas.List.{length-drop, drop_more}
-use Rattle.std.specs.Int.Digits.{AllBelowBase}
+use Rattle.std.proofs.lemmas.List.Elements.{recursion_from_All}
+use Rattle.std.proofs.lemmas.Int.Digits.{number_lt, number_after_append}
+use Rattle.std.proofs.lemmas.Nat.{pow-add}
+use Rattle.std.specs.Int.Digits.{number_from_digits, AllBelowBase}
 use Rattle.decimal_digits.specs.Number.{place}
 use Rattle.decimal_digits.specs.Digits.{number_of, number_at}
+use Rattle.decimal_digits.specs.Halves.{halves_number}
+use Rattle.decimal_digits.proofs.DigitLists.{number_first, number_zeros}
+use Rattle.decimal_digits.proofs.FrontBytes.{below_sixteen}
 use Rattle.decimal_digits.proofs.Places.{place_is}
-use Rattle.decimal_digits.proofs.NumberAt.{number_at-none, number_at-one, number_at-append, number_at-lt, number_at-pos}
 use Rattle.decimal_unsigned.specs.Fields.{IsStored}
 use Rattle.decimal_unsigned.proofs.Values.{number_of-lt, number_of-ge, number_of-pos, number_of-none, lowest}
 
@@ -91,7 +96,7 @@ lengths_decide xs ys i e =
       | inr h ↦ inr (omega arith)
     ]
 
--- ---- two lists of digits in the same places, whose last digit is not 0
+-- ---- two lists of digits in the same places, in any base, whose last digit is not 0
 abbrev EndsInDigit : List ℕ → Type 0
 EndsInDigit ds = 0 < length ds → 0 < get_or ds (length ds - 1) 0
 
@@ -101,59 +106,108 @@ others_end d ds ends some =
     let e = ends (omega arith) in
     (rw k at e)
 
-first_and_others : (top d : ℕ) (ds : List ℕ) → length (d ∷ ds) ≤ top
-    → number_at top (d ∷ ds) ≡ d * 10 ^ (top - 1) + number_at (top - 1) ds
-first_and_others top d ds h =
-    number_at-append top (d ∷ []) ds (omega arith) ∙ ap (λ n. n + number_at (top - 1) ds) (number_at-one top d)
+module _ (base : ℕ) (above : 0 < base) where
+  -- what the digits are worth where the first is that of base ^ (top - 1)
+  abbrev worth : ℕ → List ℕ → ℕ
+  worth top ds = number_from_digits base ds * base ^ (top - length ds)
 
--- the order of the first digits, and where these are equal that of the others
-module _ (top d e : ℕ) (ds es : List ℕ) (b : AllBelowBase 10 ds) (c : AllBelowBase 10 es)
-    (f : length (d ∷ ds) ≤ top) (g : length (e ∷ es) ≤ top)
-    (others : MatchOrdering (slice_cmp nat_cmp ds es) (number_at (top - 1) ds < number_at (top - 1) es)
-    (number_at (top - 1) ds ≡ number_at (top - 1) es) (number_at (top - 1) es < number_at (top - 1) ds)) where
-  firsts : (r : Ordering) → MatchOrdering r (d < e) (d ≡ e) (e < d)
-      → MatchOrdering (ordering_then r (slice_cmp nat_cmp ds es)) (number_at top (d ∷ ds) < number_at top (e ∷ es))
-      (number_at top (d ∷ ds) ≡ number_at top (e ∷ es)) (number_at top (e ∷ es) < number_at top (d ∷ ds))
-  firsts Less h =
-      let behind : number_at (top - 1) ds < 10 ^ (top - 1) = number_at-lt (top - 1) ds b (omega arith) in
-      let more : (d + 1) * 10 ^ (top - 1) ≤ e * 10 ^ (top - 1) = mul-le-mul_right (10 ^ (top - 1)) (omega arith) in
-      omega (arith, first_and_others top d ds f, first_and_others top e es g, behind, more)
-  firsts Equal h =
-      let same : d * 10 ^ (top - 1) ≡ e * 10 ^ (top - 1) = ap (λ n. n * 10 ^ (top - 1)) h in
-      let left = first_and_others top d ds f in
-      let right = first_and_others top e es g in
-      carried (λ l. omega arith) (λ l. omega arith) (λ l. omega arith) (slice_cmp nat_cmp ds es) others
-  firsts Greater h =
-      let behind : number_at (top - 1) es < 10 ^ (top - 1) = number_at-lt (top - 1) es c (omega arith) in
-      let more : (e + 1) * 10 ^ (top - 1) ≤ d * 10 ^ (top - 1) = mul-le-mul_right (10 ^ (top - 1)) (omega arith) in
-      omega (arith, first_and_others top d ds f, first_and_others top e es g, behind, more)
+  power_pos : (k : ℕ) → 0 < base ^ k
+  power_pos k = omega (arith, one-le-pow k base (omega arith))
 
--- they have the order of their numbers
-pub digits_order : (top : ℕ) (ds es : List ℕ) → AllBelowBase 10 ds → AllBelowBase 10 es → length ds ≤ top
-    → length es ≤ top → EndsInDigit ds → EndsInDigit es
-    → slice_cmp nat_cmp ds es ≡ nat_cmp (number_at top ds) (number_at top es)
-digits_order top [] [] b c f g p q = nat_cmp_is (number_at top []) (number_at top []) Equal refl
-digits_order top [] (e ∷ es) b c f g p q =
-    nat_cmp_is (number_at top []) (number_at top (e ∷ es)) Less
-    (omega (arith, number_at-none top [] refl, number_at-pos top (e ∷ es) c (omega arith) (q (omega arith))))
-digits_order top (d ∷ ds) [] b c f g p q =
-    nat_cmp_is (number_at top (d ∷ ds)) (number_at top []) Greater
-    (omega (arith, number_at-none top [] refl, number_at-pos top (d ∷ ds) b (omega arith) (p (omega arith))))
-digits_order top (d ∷ ds) (e ∷ es) b c f g p q =
-    let others =
-    ranked (number_at (top - 1) ds) (number_at (top - 1) es) (slice_cmp nat_cmp ds es)
-    (digits_order (top - 1) ds es b.1 c.1 (omega arith) (omega arith) (others_end d ds p) (others_end e es q)) in
-    nat_cmp_is (number_at top (d ∷ ds)) (number_at top (e ∷ es)) (ordering_then (nat_cmp d e) (slice_cmp nat_cmp ds es))
-    (firsts top d e ds es b.1 c.1 f g others (nat_cmp d e) (ranked d e (nat_cmp d e) refl))
+  worth_lt : (top : ℕ) (ds : List ℕ) → AllBelowBase base ds → length ds ≤ top → worth top ds < base ^ top
+  worth_lt top ds b h =
+      let e : top ≡ length ds + (top - length ds) = omega arith in
+      let p : base ^ top ≡ base ^ length ds * base ^ (top - length ds) =
+      ap (λ k. base ^ k) e ∙ pow-add base (length ds) (top - length ds) in
+      subst (λ x. worth top ds < x) (sym p)
+      (mul-lt-mul_of_pos_right (number_lt base ds b) (power_pos (top - length ds)))
+
+  number_pos : (d : ℕ) (ds : List ℕ) → EndsInDigit (d ∷ ds) → 0 < number_from_digits base (d ∷ ds)
+  number_pos d [] ends = let e : 0 < d = ends (omega arith) in omega (arith, number_first base d [])
+  number_pos d (e ∷ es) ends =
+      omega (arith, number_first base d (e ∷ es), number_pos e es (others_end d (e ∷ es) ends))
+
+  worth_pos : (top d : ℕ) (ds : List ℕ) → EndsInDigit (d ∷ ds) → 0 < worth top (d ∷ ds)
+  worth_pos top d ds ends = mul-pos (number_pos d ds ends) (power_pos (top - length (d ∷ ds)))
+
+  first_and_others : (top d : ℕ) (ds : List ℕ) → length (d ∷ ds) ≤ top
+      → worth top (d ∷ ds) ≡ d * base ^ (top - 1) + worth (top - 1) ds
+  first_and_others top d ds h =
+      let rest = top - 1 - length ds in
+      let k : top - length (d ∷ ds) ≡ rest = omega arith in
+      let e : top - 1 ≡ length ds + rest = omega arith in
+      let p : base ^ (top - 1) ≡ base ^ length ds * base ^ rest = ap (λ j. base ^ j) e ∙ pow-add base (length ds) rest in
+      ap (λ j. number_from_digits base (d ∷ ds) * base ^ j) k
+      ∙ ap (λ n. n * base ^ rest) (number_first base d ds)
+      ∙ (let q : (d * base ^ length ds + number_from_digits base ds) * base ^ rest
+      ≡ d * (base ^ length ds * base ^ rest) + number_from_digits base ds * base ^ rest = omega arith in q)
+      ∙ ap (λ x. d * x + number_from_digits base ds * base ^ rest) (sym p)
+
+  -- the order of the first digits, and where these are equal that of the others
+  module _ (top d e : ℕ) (ds es : List ℕ) (b : AllBelowBase base ds) (c : AllBelowBase base es)
+      (f : length (d ∷ ds) ≤ top) (g : length (e ∷ es) ≤ top)
+      (others : MatchOrdering (slice_cmp nat_cmp ds es) (worth (top - 1) ds < worth (top - 1) es)
+      (worth (top - 1) ds ≡ worth (top - 1) es) (worth (top - 1) es < worth (top - 1) ds)) where
+    firsts : (r : Ordering) → MatchOrdering r (d < e) (d ≡ e) (e < d)
+        → MatchOrdering (ordering_then r (slice_cmp nat_cmp ds es)) (worth top (d ∷ ds) < worth top (e ∷ es))
+        (worth top (d ∷ ds) ≡ worth top (e ∷ es)) (worth top (e ∷ es) < worth top (d ∷ ds))
+    firsts Less h =
+        let behind : worth (top - 1) ds < base ^ (top - 1) = worth_lt (top - 1) ds b (omega arith) in
+        let more : (d + 1) * base ^ (top - 1) ≤ e * base ^ (top - 1) =
+        mul-le-mul_right (base ^ (top - 1)) (omega arith) in
+        omega (arith, first_and_others top d ds f, first_and_others top e es g, behind, more)
+    firsts Equal h =
+        let same : d * base ^ (top - 1) ≡ e * base ^ (top - 1) = ap (λ n. n * base ^ (top - 1)) h in
+        let left = first_and_others top d ds f in
+        let right = first_and_others top e es g in
+        carried (λ l. omega arith) (λ l. omega arith) (λ l. omega arith) (slice_cmp nat_cmp ds es) others
+    firsts Greater h =
+        let behind : worth (top - 1) es < base ^ (top - 1) = worth_lt (top - 1) es c (omega arith) in
+        let more : (e + 1) * base ^ (top - 1) ≤ d * base ^ (top - 1) =
+        mul-le-mul_right (base ^ (top - 1)) (omega arith) in
+        omega (arith, first_and_others top d ds f, first_and_others top e es g, behind, more)
+
+  -- they have the order of their numbers
+  pub digits_order : (top : ℕ) (ds es : List ℕ) → AllBelowBase base ds → AllBelowBase base es → length ds ≤ top
+      → length es ≤ top → EndsInDigit ds → EndsInDigit es
+      → slice_cmp nat_cmp ds es ≡ nat_cmp (worth top ds) (worth top es)
+  digits_order top [] [] b c f g p q = nat_cmp_is (worth top []) (worth top []) Equal refl
+  digits_order top [] (e ∷ es) b c f g p q =
+      nat_cmp_is (worth top []) (worth top (e ∷ es)) Less (omega (arith, worth_pos top e es q))
+  digits_order top (d ∷ ds) [] b c f g p q =
+      nat_cmp_is (worth top (d ∷ ds)) (worth top []) Greater (omega (arith, worth_pos top d ds p))
+  digits_order top (d ∷ ds) (e ∷ es) b c f g p q =
+      let others =
+      ranked (worth (top - 1) ds) (worth (top - 1) es) (slice_cmp nat_cmp ds es)
+      (digits_order (top - 1) ds es b.1 c.1 (omega arith) (omega arith) (others_end d ds p) (others_end e es q)) in
+      nat_cmp_is (worth top (d ∷ ds)) (worth top (e ∷ es)) (ordering_then (nat_cmp d e) (slice_cmp nat_cmp ds es))
+      (firsts top d e ds es b.1 c.1 f g others (nat_cmp d e) (ranked d e (nat_cmp d e) refl))
+
+-- ---- up to sixteen digits as the halves of a number
+halves_worth : (ds : List ℕ) → halves_number ds ≡ number_from_digits 16 ds * 16 ^ (16 - length ds)
+unfolding halves_number
+halves_worth ds =
+    number_after_append 16 0 ds (replicate (16 - length ds) 0)
+    ∙ number_zeros 16 (number_from_digits 16 ds) (16 - length ds)
+
+-- the digits have the order of these numbers
+pub halves_order : (ds es : List ℕ) → All (λ d. d < 10) ds → All (λ d. d < 10) es → length ds ≤ 16 → length es ≤ 16
+    → EndsInDigit ds → EndsInDigit es
+    → nat_cmp (halves_number ds) (halves_number es) ≡ slice_cmp nat_cmp ds es
+halves_order ds es b c f g p q =
+    let below = below_sixteen ds (recursion_from_All (λ d. d < 10) ds b) in
+    let other_below = below_sixteen es (recursion_from_All (λ d. d < 10) es c) in
+    (λ k. nat_cmp (halves_worth ds k) (halves_worth es k))
+    ∙ sym (digits_order 16 (omega arith) 16 ds es below other_below f g p q)
 
 -- ---- two values
 module _ {ds es : List ℕ} {m m' hi lo hi' lo' : ℤ} (s : IsStored ds m hi lo) (t : IsStored es m' hi' lo') where
   -- digits from one magnitude down have the order of the numbers
   pub numbers_order : m ≡ m' → slice_cmp nat_cmp ds es ≡ nat_cmp (number_of ds m) (number_of es m')
-  unfolding number_of
+  unfolding number_of number_at
   numbers_order same =
       let place_same = ap place same in
-      digits_order (place m + 1) ds es s.digits t.digits (omega (arith, s.fits)) (omega (arith, t.fits, place_same))
+      digits_order 10 (omega arith) (place m + 1) ds es s.digits t.digits (omega (arith, s.fits)) (omega (arith, t.fits, place_same))
       s.back t.back
       ∙ ap (λ k. nat_cmp (number_at (place m + 1) ds) (number_at (place k + 1) es)) same
 

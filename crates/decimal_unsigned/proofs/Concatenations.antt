@@ -10,7 +10,7 @@ use Rattle.std.proofs.lemmas.List.{length-append, length-replicate, get_or_appen
 use Rattle.std.specs.Int.Digits.{number_from_digits, AllBelowBase}
 use Rattle.decimal_digits.specs.Number.{place, first, last}
 use Rattle.decimal_digits.specs.Digits.{number_of, number_at}
-use Rattle.decimal_digits.proofs.DigitLists.{number-append, after_is}
+use Rattle.decimal_digits.proofs.DigitLists.{number-append, number_after}
 use Rattle.decimal_digits.proofs.Places.{place_is, gap_is}
 use Rattle.decimal_unsigned.specs.Fields.{IsStored}
 use Rattle.decimal_unsigned.specs.Unsigned.{Unsigned}
@@ -50,7 +50,7 @@ number-zeros zero = refl
 number-zeros (suc n) =
     let e : number_from_digits 10 (0 ∷ replicate n 0)
     ≡ (0 * 10 + 0) * 10 ^ length (replicate n 0) + number_from_digits 10 (replicate n 0) =
-    after_is (0 * 10 + 0) (replicate n 0) in
+    number_after 10 (0 * 10 + 0) (replicate n 0) in
     e ∙ (rw (number-zeros n) (omega arith))
 
 below-zeros : (n : ℕ) → AllBelowBase 10 (replicate n 0)

@@ -30,8 +30,8 @@ number_cut ds a start h w zeros =
     get_or-take (start - a) rest k 0 b ∙ get_or-drop a ds k 0 ∙ zeros (a + k) (omega arith) (omega arith)) in
     let tail : drop (start - a) rest ≡ drop start ds =
     drop-drop (start - a) a ds ∙ ap (λ n. drop n ds) (let e : a + (start - a) ≡ start = omega arith in e) in
-    let split = number_split (start - a) rest (omega (arith, long)) in
-    number_split a ds (omega arith)
+    let split = number_split 10 (start - a) rest (omega (arith, long)) in
+    number_split 10 a ds (omega arith)
     ∙ ap (λ n. number_from_digits 10 (take a ds) * 10 ^ (length ds - a) + n) (split ∙ (rw (none, tail) (omega arith)))
 
 number_of_is : (ds : List ℕ) (m : ℤ) → number_of ds m ≡ number_from_digits 10 ds * 10 ^ (place m + 1 - length ds)
@@ -59,7 +59,7 @@ module _ {ds : List ℕ} {m hi lo p m' hi' lo' : ℤ} {start : ℕ} (t : IsStore
   pub stored_cut : IsStored (drop start ds) m' hi' lo'
   stored_cut = elim (cases_lt start (length ds)) [
     | inl h ↦ let e = c.some h in record {
-      digits = below_drop start ds t.digits;
+      digits = below_drop 10 start ds t.digits;
       front = λ q.
           subst (λ d. 0 < d) (sym (get_or-drop start ds 0 0))
           (subst (λ k. 0 < get_or ds k 0) (let k : start ≡ start + 0 = omega arith in k) (c.found h));
@@ -97,7 +97,7 @@ module _ {ds : List ℕ} {m hi lo p m' hi' lo' : ℤ} {start : ℕ} (t : IsStore
       );
     }
     | inr h ↦ let e = c.none (omega arith) in record {
-      digits = below_drop start ds t.digits;
+      digits = below_drop 10 start ds t.digits;
       front = λ q. absurd (omega (arith, left));
       back = λ q. absurd (omega (arith, left));
       empty = λ z. e;
@@ -121,7 +121,7 @@ module _ {ds : List ℕ} {m hi lo p m' hi' lo' : ℤ} {start : ℕ} (t : IsStore
   rest_value = number_from_digits 10 (drop start ds)
 
   rest_lt : rest_value < 10 ^ (length ds - start)
-  rest_lt = number-drop-lt start ds t.digits
+  rest_lt = number-drop-lt 10 start ds t.digits
 
   rest_none : length ds ≤ start → rest_value ≡ 0
   rest_none h = omega (arith, rest_lt, ap (λ k. 10 ^ k) (let z : length ds - start ≡ 0 = omega arith in z))

@@ -44,7 +44,7 @@ module _ {ds : List ℕ} {end : ℕ} (e : UpToLast ds end) where
     -- the digits up to the last one that is not 0, as a value holds them
     pub whole_stored : IsStored (take end ds) m m (pos 0)
     whole_stored = record {
-      digits = below_take end ds all_digits;
+      digits = below_take 10 end ds all_digits;
       front = λ h. rw (get_or-take end ds 0 0 (omega (arith, long))) (e.front (omega (arith, long, e.within)));
       back = λ h. rw (long, get_or-take end ds (end - 1) 0 (omega (arith, long))) (e.found (omega (arith, long)));
       empty = λ z.

@@ -13,7 +13,7 @@ use Rattle.decimal_digits.specs.Number.{place}
 use Rattle.decimal_digits.specs.Digits.{number_of, number_at}
 use Rattle.decimal_unsigned.specs.Fields.{IsStored}
 use Rattle.decimal_digits.proofs.Places.{place_is}
-use Rattle.decimal_digits.proofs.DigitLists.{after_is, number_split, below_take, below_drop}
+use Rattle.decimal_digits.proofs.DigitLists.{number_after, number_split, below_take, below_drop}
 use Rattle.decimal_unsigned.specs.Placing.{middle, IsInner}
 
 -- zeros are worth nothing
@@ -22,7 +22,7 @@ number_zeros [] h = refl
 number_zeros (d ∷ ds) h =
     let z : d ≡ 0 = h 0 (omega arith) in
     let e : number_from_digits 10 (d ∷ ds) ≡ (0 * 10 + d) * 10 ^ length ds + number_from_digits 10 ds =
-    after_is (0 * 10 + d) ds in
+    number_after 10 (0 * 10 + d) ds in
     let r = number_zeros ds (λ k l. h (suc k) (omega arith)) in
     rw (e, r, z) (omega arith)
 
@@ -38,14 +38,14 @@ module _ (ds : List ℕ) (start end : ℕ) (n : IsInner ds start end) where
   -- what all the digits are worth, by them
   pub number_middle : number_from_digits 10 ds ≡ number_from_digits 10 (middle start end ds) * 10 ^ (length ds - end)
   number_middle =
-      let a = number_split start ds (omega (arith, n.ordered, n.within)) in
+      let a = number_split 10 start ds (omega (arith, n.ordered, n.within)) in
       let z : number_from_digits 10 (take start ds) ≡ 0 =
       number_zeros (take start ds)
       (λ k h.
       let l : k < start = omega (arith, length-take start ds) in
       get_or-take start ds k 0 l ∙ n.before k l) in
       let m : end - start ≤ length (drop start ds) = omega (arith, n.ordered, n.within, length-drop start ds) in
-      let b = number_split (end - start) (drop start ds) m in
+      let b = number_split 10 (end - start) (drop start ds) m in
       let y : number_from_digits 10 (drop (end - start) (drop start ds)) ≡ 0 =
       number_zeros (drop (end - start) (drop start ds))
       (λ k h. get_or-drop (end - start) (drop start ds) k 0
@@ -57,7 +57,7 @@ module _ (ds : List ℕ) (start end : ℕ) (n : IsInner ds start end) where
 
   -- they are below ten
   pub middle_below : AllBelowBase 10 ds → AllBelowBase 10 (middle start end ds)
-  middle_below h = below_take (end - start) (drop start ds) (below_drop start ds h)
+  middle_below h = below_take 10 (end - start) (drop start ds) (below_drop 10 start ds h)
 
 -- the same of a places in front of the dot and b behind it
 pub number_of-middle : (ds : List ℕ) (start end a b : ℕ) (m : ℤ) → IsInner ds start end → length ds ≡ a + b

@@ -16,7 +16,7 @@ use Rattle.decimal_digits.specs.Number.{place, digit}
 use Rattle.decimal_unsigned.specs.Unsigned.{Unsigned}
 use Rattle.decimal_unsigned.specs.Text.{dot_before, text_down, text}
 use Rattle.decimal_unsigned.specs.Unsigned.{IsValue}
-use Rattle.decimal_digits.proofs.DigitLists.{ten_pos, after_is}
+use Rattle.decimal_digits.proofs.DigitLists.{ten_pos, number_after}
 use Rattle.decimal_digits.proofs.Places.{place_is}
 use Rattle.decimal_unsigned.specs.Grammar.{Written, integer, decimal}
 use Rattle.decimal_unsigned.specs.Reading.{scaled, value_of, read}
@@ -57,7 +57,7 @@ places_worth number k (suc n) =
     let cs = places number k n in
     let e : digits_value 10 ((48 + d) ∷ cs) ≡ d * 10 ^ n + number / 10 ^ k % 10 ^ n =
     digits_value_is 10 ((48 + d) ∷ cs)
-    ∙ after_is (0 * 10 + digit_value (48 + d)) (map digit_value cs)
+    ∙ number_after 10 (0 * 10 + digit_value (48 + d)) (map digit_value cs)
     ∙ (rw (
       ← digits_value_is 10 cs,
       places_worth number k n,

@@ -1,23 +1,26 @@
 -- Up to sixteen digits as a number in base 16.
-use Rattle.std.proofs.Common.{◌≡◌, ℕ, zero, suc, ◌+◌, ◌-◌, ◌*◌, ◌/◌, ◌%◌, ◌^◌, ◌<◌, ◌≤◌, inl, inr, true, List, [], ◌∷◌, ◌++◌, length, get_or, take, drop, refl, sym, ◌∙◌, ap, subst, arith}
-use Rattle.std.specs.Prelude.{map}
-use Rattle.std.specs.Int.{w64, bit_at, leading_zeros, trailing_zeros}
+use Rattle.std.proofs.Common.{◌≡◌, ℕ, zero, suc, ◌+◌, ◌-◌, ◌*◌, ◌/◌, ◌%◌, ◌^◌, ◌<◌, ◌≤◌, inl, inr, true, List, [], ◌∷◌, ◌++◌, length, get_or, take, drop, replicate, refl, sym, ◌∙◌, ap, subst, arith}
+use Rattle.std.specs.Prelude.{All, map}
+use Rattle.std.specs.Int.{w64, to_be_bytes, bit_at, leading_zeros, trailing_zeros}
 use Rattle.std.proofs.Math.Nat.{pow-suc, mul-lt-mul_of_pos_right, one-le-pow, pow-le-pow_right, mod-eq_of_lt, add-mul-div_right, div-div-eq-div-mul, div-eq_of_lt-le, zero-div}
 use Rattle.std.proofs.Math.ListN.{get_or-eq_default}
 use Rattle.std.proofs.lemmas.Bool.{cases_lt}
 use Rattle.std.proofs.lemmas.Nat.{pow-add, div-mul-add, mod-mul-add, leading_top}
 use Rattle.std.proofs.lemmas.Nat.Bits.{bit_at_above, bit_at-trailing_zeros}
-use Rattle.std.proofs.lemmas.List.{length-drop, length-take-le, length-map, take-append-drop}
-use Rattle.std.proofs.lemmas.Int.Digits.{number_lt, number_after_append, digits_value_is, all_below_base_from_digits}
+use Rattle.std.proofs.lemmas.List.{length-append, length-replicate, length-drop, length-take-le, length-map, take-append-drop}
+use Rattle.std.proofs.lemmas.Int.Digits.{number_lt, number_after_append, number_more as number_more_digits, digits_value_is, all_below_base_from_digits}
 use Rattle.std.specs.Char.{is_ascii_digit, digit_value}
 use Rattle.std.specs.Int.Digits.{number_from_digits_after, number_from_digits, AllBelowBase}
 use Rattle.std.specs.Str.Parse.{AllDigits, digits_value_after, digits_value}
-use Rattle.decimal_digits.specs.Halves.{front_bytes}
+use Rattle.decimal_digits.specs.Halves.{halves, halves_number, front_bytes}
+use Rattle.decimal_digits.specs.Tails.{leading}
 use Rattle.decimal_digits.specs.Packing.{Holds}
-use Rattle.decimal_digits.proofs.DigitLists.{below_take, below_drop}
-use Rattle.decimal_digits.proofs.FrontBytes.{after_halves, front_holds}
+use Rattle.decimal_digits.proofs.DigitLists.{below_take, below_drop, number_after, number_zeros, number-div}
+use Rattle.decimal_digits.proofs.Leading.{leading_none}
+use Rattle.decimal_digits.proofs.FrontBytes.{below_sixteen, front_holds, halves_of_bytes, sixteen, sixteen_are, sixteen_digits, sixteen_digit, sixteen_zero}
 use Rattle.decimal_unsigned.specs.Placing.{middle, IsInner}
 use Rattle.decimal_unsigned.proofs.Numerals.{value_of_digit}
+use Rattle.decimal_unsigned.proofs.WholeNumbers.{leading_next}
 
 -- ---- The loop over a text.
 -- one digit more
@@ -75,11 +78,6 @@ hex_pow (suc k) =
     let h = hex_pow k in
     rw (e, f) (omega arith)
 
--- digits below ten are below sixteen
-below_sixteen : (ds : List ℕ) → AllBelowBase 10 ds → AllBelowBase 16 ds
-below_sixteen [] h = tt
-below_sixteen (d ∷ ds) h = (let small : d < 10 = h.0 in omega arith, below_sixteen ds h.1)
-
 -- a shift drops the digits behind, and a shift back those in front
 pub shifted_middle : (ds : List ℕ) (start end : ℕ) → AllBelowBase 10 ds → start < end → end ≤ length ds → length ds ≤ 16
     → number_from_digits 16 ds / 2 ^ (4 * (length ds - end)) * 2 ^ (4 * (16 - (end - start))) % 2 ^ 64
@@ -99,21 +97,21 @@ shifted_middle ds start end h s w few =
     let n_rest : length rest ≡ length ds - start = length-drop start ds in
     let n_mid : length mid ≡ len = length-take-le len rest (omega arith) in
     let n_back : length back ≡ j = omega (arith, length-drop len rest) in
-    let below_rest : AllBelowBase 16 rest = below_sixteen rest (below_drop start ds h) in
+    let below_rest : AllBelowBase 16 rest = below_sixteen rest (below_drop 10 start ds h) in
     let m_lt : m < 16 ^ len =
     subst (λ i. m < 16 ^ i) n_mid
-    (number_lt 16 mid (below_sixteen mid (below_take len rest (below_drop start ds h)))) in
+    (number_lt 16 mid (below_sixteen mid (below_take 10 len rest (below_drop 10 start ds h)))) in
     let b_lt : b < 16 ^ j =
     subst (λ i. b < 16 ^ i) n_back
-    (number_lt 16 back (below_sixteen back (below_drop len rest (below_drop start ds h)))) in
+    (number_lt 16 back (below_sixteen back (below_drop 10 len rest (below_drop 10 start ds h)))) in
     let whole : number_from_digits 16 ds ≡ number_from_digits_after 16 top back =
     ap (number_from_digits 16) (sym (take-append-drop start ds)) ∙ number_after_append 16 0 front rest
     ∙ ap (number_from_digits_after 16 a) (sym (take-append-drop len rest)) ∙ number_after_append 16 a mid back in
     let split : number_from_digits 16 ds ≡ top * 16 ^ j + b =
-    whole ∙ after_halves top back ∙ ap (λ i. top * 16 ^ i + b) n_back in
+    whole ∙ number_after 16 top back ∙ ap (λ i. top * 16 ^ i + b) n_back in
     let shifted : number_from_digits 16 ds / 2 ^ (4 * j) ≡ top =
     ap (λ p. number_from_digits 16 ds / p) (hex_pow j) ∙ ap (λ n. n / 16 ^ j) split ∙ div-mul-add top (16 ^ j) b b_lt in
-    let top_is : top ≡ a * 16 ^ len + m = after_halves a mid ∙ ap (λ i. a * 16 ^ i + m) n_mid in
+    let top_is : top ≡ a * 16 ^ len + m = number_after 16 a mid ∙ ap (λ i. a * 16 ^ i + m) n_mid in
     let places : 16 ^ len * 16 ^ k ≡ 2 ^ 64 =
     sym (pow-add 16 len k) ∙ ap (λ i. 16 ^ i) (let e : len + k ≡ 16 = omega arith in e) in
     let pos : 0 < 16 ^ k = omega (arith, one-le-pow k 16 (omega arith)) in
@@ -147,7 +145,7 @@ middle_holds ds number start end below is s within few =
     let rest : length (drop start ds) ≡ length ds - start = length-drop start ds in
     let l : length (middle start end ds) ≡ end - start = length-take-le (end - start) (drop start ds) (omega arith) in
     front_holds (middle start end ds) (end - start) _ l (omega arith)
-    (below_take (end - start) (drop start ds) (below_drop start ds below))
+    (below_take 10 (end - start) (drop start ds) (below_drop 10 start ds below))
     (rw is (shifted_middle ds start end below s within few))
 
 -- ---- The bits of a number and its digits.
@@ -188,7 +186,7 @@ digit_is [] k h l = absurd (omega arith)
 digit_is (d ∷ ds) zero h l =
     let small : d < 16 = h.0 in
     let e : number_from_digits 16 (d ∷ ds) ≡ (0 * 16 + d) * 16 ^ length ds + number_from_digits 16 ds =
-    after_halves (0 * 16 + d) ds in
+    number_after 16 (0 * 16 + d) ds in
     let q : number_from_digits 16 (d ∷ ds) / 16 ^ length ds ≡ 0 * 16 + d =
     ap (λ n. n / 16 ^ length ds) e
     ∙ div-mul-add (0 * 16 + d) (16 ^ length ds) (number_from_digits 16 ds) (number_lt 16 ds h.1) in
@@ -203,7 +201,7 @@ digit_is (d ∷ ds) (suc k) h l =
     ap (λ i. 16 ^ i) (let e : length ds ≡ suc k + j = omega arith in e) ∙ pow-add 16 (suc k) j
     ∙ ap (λ q. q * p) (pow-suc 16 k) in
     let e : number_from_digits 16 (d ∷ ds) ≡ x + (0 * 16 + d) * 16 ^ k * 16 * p =
-    after_halves (0 * 16 + d) ds ∙ ap (λ q. (0 * 16 + d) * q + x) places ∙ (omega arith) in
+    number_after 16 (0 * 16 + d) ds ∙ ap (λ q. (0 * 16 + d) * q + x) places ∙ (omega arith) in
     let q : number_from_digits 16 (d ∷ ds) / p ≡ x / p + (0 * 16 + d) * 16 ^ k * 16 =
     ap (λ n. n / p) e ∙ add-mul-div_right x ((0 * 16 + d) * 16 ^ k * 16) pos in
     let last : length (d ∷ ds) - 1 - suc k ≡ j = omega arith in
@@ -268,3 +266,84 @@ pub zero_digits : (ds : List ℕ) → AllBelowBase 10 ds → number_from_digits 
 zero_digits ds below z k h =
     digit_is ds k (below_sixteen ds below) h ∙ ap (λ n. n / 16 ^ (length ds - 1 - k) % 16) z
     ∙ ap (λ q. q % 16) (zero-div (16 ^ (length ds - 1 - k)))
+
+-- ---- The integer that the halves of a number write.
+-- two digits
+abbrev two : ℕ → ℕ
+two byte = byte / 16 * 10 + byte % 16
+
+-- the digits of eight bytes, by pairs
+pub by_pairs : (a b c d e f g h : ℕ)
+    → ((two a * 100 + two b) * 10000 + (two c * 100 + two d)) * 100000000
+    + ((two e * 100 + two f) * 10000 + (two g * 100 + two h))
+    ≡ number_from_digits 10 (halves (a ∷ (b ∷ (c ∷ (d ∷ (e ∷ (f ∷ (g ∷ (h ∷ [])))))))))
+unfolding halves
+by_pairs a b c d e f g h = omega arith
+
+-- zeros in front count nothing
+zeros_in_front : (base k : ℕ) (xs : List ℕ) → number_from_digits base (replicate k 0 ++ xs) ≡ number_from_digits base xs
+zeros_in_front base k xs =
+    number_after_append base 0 (replicate k 0) xs
+    ∙ ap (λ n. number_from_digits_after base n xs) (number_zeros base 0 k ∙ (let e : 0 * base ^ k ≡ 0 = omega arith in e))
+
+zeros_below : (k : ℕ) (xs : List ℕ) → AllBelowBase 16 xs → AllBelowBase 16 (replicate k 0 ++ xs)
+zeros_below zero xs h = h
+zeros_below (suc k) xs h = (omega arith, zeros_below k xs h)
+
+module _ (ds : List ℕ) (h : All (λ d. d < 10) ds) (few : length ds ≤ 16) where
+  abbrev all : List ℕ
+  all = sixteen ds h few
+
+  all_hex : AllBelowBase 16 all
+  all_hex = below_sixteen all (sixteen_digits ds h few)
+
+  -- a shift keeps the first of them
+  shifted_front : (count : ℕ) → count ≤ 16
+      → halves_number ds / 2 ^ (4 * (16 - count)) ≡ number_from_digits 16 (take count all)
+  unfolding halves_number
+  shifted_front count l =
+      let n = sixteen_are ds h few in
+      let k : 16 - count ≡ length all - count = omega arith in
+      ap (λ p. number_from_digits 16 all / p) (hex_pow (16 - count) ∙ ap (λ j. 16 ^ j) k)
+      ∙ number-div 16 count all all_hex (omega arith)
+
+  -- these are the last of its halves
+  front_halves_are : (count : ℕ) → count ≤ 16
+      → halves (to_be_bytes w64 (number_from_digits 16 (take count all))) ≡ replicate (16 - count) 0 ++ take count all
+  front_halves_are count l =
+      let xs = take count all in
+      let zs = replicate (16 - count) 0 ++ xs in
+      let n : length xs ≡ count = length-take-le count all (omega (arith, sixteen_are ds h few)) in
+      let len : length zs ≡ 2 * 8 =
+      omega (arith, length-append (replicate (16 - count) 0) xs, length-replicate {A = ℕ} (16 - count) 0) in
+      ap (λ m. halves (to_be_bytes w64 m)) (sym (zeros_in_front 16 (16 - count) xs))
+      ∙ halves_of_bytes 8 0 zs len (zeros_below (16 - count) xs (below_take 16 count all all_hex))
+
+  -- a place beyond the digits holds 0
+  place_of : (i : ℕ) → i < 16 → get_or all i 0 ≡ get_or ds i 0
+  place_of i l = elim (cases_lt i (length ds)) [
+    | inl k ↦ sym (sixteen_digit ds h few i k)
+    | inr k ↦ sym (sixteen_zero ds h few i k l) ∙ sym (get_or-eq_default ds 0 k)
+  ]
+
+  -- the first of them write the number that the first digits write
+  front_leading : (i : ℕ) → i ≤ 16 → number_from_digits 10 (take i all) ≡ leading i ds
+  front_leading zero l = sym (leading_none 0 ds refl)
+  front_leading (suc i) l =
+      let k : suc i ≡ i + 1 = omega arith in
+      let place = place_of i (omega arith) in
+      let before = front_leading i (omega arith) in
+      ap (λ j. number_from_digits 10 (take j all)) k
+      ∙ number_more_digits 10 all i (omega (arith, sixteen_are ds h few))
+      ∙ (λ j. before j * 10 + place j)
+      ∙ sym (leading_next i ds)
+      ∙ ap (λ j. leading j ds) (sym k)
+
+  -- what a shift keeps, read as digits
+  pub few_leading : (count m n : ℕ) → count ≤ 16 → m ≡ halves_number ds / 2 ^ (4 * (16 - count))
+      → n ≡ number_from_digits 10 (halves (to_be_bytes w64 m)) → n ≡ leading count ds
+  few_leading count m n l e f =
+      f ∙ ap (λ m. number_from_digits 10 (halves (to_be_bytes w64 m))) (e ∙ shifted_front count l)
+      ∙ ap (number_from_digits 10) (front_halves_are count l)
+      ∙ zeros_in_front 10 (16 - count) (take count all)
+      ∙ front_leading count l

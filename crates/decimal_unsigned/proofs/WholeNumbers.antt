@@ -50,7 +50,7 @@ leading_next i ds =
 -- so many digits are below that power of ten
 pub leading_lt : (i : ℕ) (ds : List ℕ) → All (λ d. d < 10) ds → leading i ds < 10 ^ i
 leading_lt i ds h =
-    number_at-lt i (take i ds) (below_take i ds (recursion_from_All (λ d. d < 10) ds h))
+    number_at-lt i (take i ds) (below_take 10 i ds (recursion_from_All (λ d. d < 10) ds h))
     (omega (arith, length-take i ds))
 
 -- and so is the number of fewer

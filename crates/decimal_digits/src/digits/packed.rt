@@ -10,7 +10,7 @@ use super::DigitStore;
 use bulk::{append_text, count_halves_back, write_text};
 use bytes::{
     append_digits, append_zeros, are_equal, copy_bytes, cut_digits, first_bytes, keep_digits,
-    pack_digits, push_digit, reserve_digits, set_digit,
+    pack_digits, push_digit, reserve_digits, set_digit, word,
 };
 pub(super) use halves::half_at;
 use halves::{byte_count, keep_bytes};
@@ -71,6 +71,14 @@ impl DigitStore for PackedDigits {
             bytes: first_bytes(alloc, number, byte_count(len)),
             len,
         })
+    }
+
+    #[inline]
+    fn to_halves(&self) -> Option<u64> {
+        if self.len > 16 {
+            return None;
+        }
+        Some(word(self.bytes.as_slice()))
     }
 
     fn clone(&self) -> Result<Self, AllocError> {

@@ -2,6 +2,7 @@
 ghost use Rattle.std.specs.Prelude.{◌≡◌};
 ghost use Rattle.std.specs.Cmp.Lexicographic.{slice_cmp};
 ghost use Rattle.std.specs.Ordering.{nat_cmp};
+ghost use Rattle.decimal_digits.specs.Digits.{IsStripped};
 ghost use Rattle.decimal_unsigned.specs.Unsigned.{IsValue};
 
 use super::UnsignedOver;
@@ -9,10 +10,15 @@ use decimal_digits::digits::DigitStore;
 use std::cmp::Ordering;
 
 /// Compares two lists of digits by the first that differ; where all of one are the first of the other, the longer one
-/// is greater.
+/// is greater. No list ends in 0.
 fn compare_digits<D: DigitStore, E: DigitStore>(digits: &D, other: &E) -> Ordering
+    requires stripped { IsStripped (D.digits digits.now) }
+    requires other_stripped { IsStripped (E.digits other.now) }
     ensures { result ≡ slice_cmp nat_cmp (D.digits digits.now) (E.digits other.now) }
 {
+    if let (Some(number), Some(other_number)) = (digits.to_halves(), other.to_halves()) {
+        return number.cmp(&other_number);
+    }
     for index in 0..digits.len().min(other.len()) {
         let digit = digits.get(index);
         let other_digit = other.get(index);

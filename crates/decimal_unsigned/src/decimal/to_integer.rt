@@ -1,5 +1,8 @@
 //! Integers of values.
-ghost use Rattle.std.specs.Prelude.{◌≡◌, ◌*◌, ◌^◌, ◌<◌, ◌≤◌, length, slice_index};
+ghost use Rattle.std.specs.Prelude.{◌≡◌, ◌+◌, ◌*◌, ◌/◌, ◌%◌, ◌^◌, ◌<◌, ◌≤◌, length, slice_index, IfSome};
+ghost use Rattle.std.specs.Int.{w64, to_be_bytes};
+ghost use Rattle.std.specs.Int.Digits.{number_from_digits};
+ghost use Rattle.decimal_digits.specs.Halves.{halves};
 ghost use Rattle.decimal_digits.specs.Tails.{leading};
 ghost use Rattle.decimal_unsigned.specs.ToInteger.{in_range, as_integer, integer_error_text};
 ghost use Rattle.decimal_unsigned.specs.Unsigned.{IsValue};
@@ -65,12 +68,46 @@ fn digit_or_zero<D: DigitStore>(digits: &D, index: usize) -> u8
     }
 }
 
+/// The number that four digits write, one in each half of two bytes.
+#[inline]
+fn four_digits(first: u8, second: u8) -> u64
+    ensures { result ≡ (first / 16 * 10 + first % 16) * 100 + (second / 16 * 10 + second % 16) }
+{
+    u64::from(first / 16 * 10 + first % 16) * 100 + u64::from(second / 16 * 10 + second % 16)
+}
+
+/// The number that sixteen digits write, one in each half of a number of 64 bits.
+#[inline]
+fn sixteen_digits(number: u64) -> u64
+    ensures { result ≡ number_from_digits 10 (halves (to_be_bytes w64 number)) }
+{
+    let [a, b, c, d, e, f, g, h] = number.to_be_bytes();
+    let high = four_digits(a, b) * 10_000 + four_digits(c, d);
+    let low = four_digits(e, f) * 10_000 + four_digits(g, h);
+    high * 100_000_000 + low
+}
+
+/// The number that the first digits write, with zeros behind the last one, where they are sixteen at most.
+#[inline]
+fn leading_few<D: DigitStore>(digits: &D, count: usize) -> Option<u64>
+    ensures { IfSome result (λ number. number ≡ leading count (D.digits digits.now)) }
+{
+    if count == 0 || count > 16 {
+        return None;
+    }
+    let number = digits.to_halves()?;
+    Some(sixteen_digits(number >> (4 * (16 - count))))
+}
+
 /// The number that the first digits write, with zeros behind the last one. In 64 bits there is room for 19 digits.
 #[inline]
 fn leading_short<D: DigitStore>(digits: &D, count: usize) -> u64
     requires { count ≤ 19 }
     ensures { result ≡ leading count (D.digits digits.now) }
 {
+    if let Some(number) = leading_few(digits, count) {
+        return number;
+    }
     let mut number = 0;
     for index in 0..count {
         number = number * 10 + digit_or_zero(digits, index) as u64;

@@ -50,6 +50,11 @@ const ORDERS: &[((&str, &str), Ordering)] = &[
     (("1.2", "1.20001"), Ordering::Less),
     (("1.19999", "1.2"), Ordering::Less),
     (("1e32767", "9e32767"), Ordering::Less),
+    // Sixteen digits, and sixteen beside one more.
+    (("123456789.0123456", "123456789.0123457"), Ordering::Less),
+    (("9999999999999999", "9999999999999998"), Ordering::Greater),
+    (("1.234567890123456", "1.2345678901234561"), Ordering::Less),
+    (("2", "1.2345678901234567"), Ordering::Greater),
     (("1e-32768", "1e32767"), Ordering::Less),
     (
         (

@@ -117,6 +117,36 @@ pub(super) fn push_digit(bytes: &mut SmallVec<u8, 8>, len: usize, digit: u8)
     }
 }
 
+/// Up to eight bytes, and zeros behind them.
+///
+/// Each has a constant place, so that the bytes stay in a register.
+#[inline]
+fn padded(bytes: &[u8]) -> [u8; 8]
+    requires { length bytes.now ≤ 8 }
+    ensures { result ≡ bytes.now ++ replicate (8 - length bytes.now) 0 }
+{
+    match *bytes {
+        [] => [0; 8],
+        [a] => [a, 0, 0, 0, 0, 0, 0, 0],
+        [a, b] => [a, b, 0, 0, 0, 0, 0, 0],
+        [a, b, c] => [a, b, c, 0, 0, 0, 0, 0],
+        [a, b, c, d] => [a, b, c, d, 0, 0, 0, 0],
+        [a, b, c, d, e] => [a, b, c, d, e, 0, 0, 0],
+        [a, b, c, d, e, f] => [a, b, c, d, e, f, 0, 0],
+        [a, b, c, d, e, f, g] => [a, b, c, d, e, f, g, 0],
+        [a, b, c, d, e, f, g, h, ..] => [a, b, c, d, e, f, g, h],
+    }
+}
+
+/// The number whose first bytes these are, the highest one first, and whose others are 0.
+#[inline]
+pub(super) fn word(bytes: &[u8]) -> u64
+    requires { length bytes.now ≤ 8 }
+    ensures { to_be_bytes w64 result ≡ bytes.now ++ replicate (8 - length bytes.now) 0 }
+{
+    u64::from_be_bytes(padded(bytes))
+}
+
 /// How many bytes are compared with no call: those of 48 digits.
 const FEW: usize = 24;
 
@@ -128,13 +158,13 @@ pub(super) fn are_equal(left: &[u8], right: &[u8]) -> bool
     if left.len() != right.len() {
         return false;
     }
-    if left.len() < 4 || left.len() > FEW {
+    if left.len() > FEW {
         return left == right;
     }
     let (mut left, mut right) = (left, right);
     while let (Some((first, left_rest)), Some((second, right_rest))) = (
-        left.split_first_chunk::<4>(),
-        right.split_first_chunk::<4>(),
+        left.split_first_chunk::<8>(),
+        right.split_first_chunk::<8>(),
     ) {
         if first != second {
             return false;
@@ -142,7 +172,7 @@ pub(super) fn are_equal(left: &[u8], right: &[u8]) -> bool
         left = left_rest;
         right = right_rest;
     }
-    left == right
+    word(left) == word(right)
 }
 
 /// Keeps the first digits.

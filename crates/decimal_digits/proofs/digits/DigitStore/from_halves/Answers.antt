@@ -1,6 +1,5 @@
-use Rattle.std.proofs.Common.{◌≡◌, ◌<◌, ◌≤◌, ◌++◌, ◌∷◌, [], length, get_or, take, sym, ◌∙◌, ap, subst, arith}
-use Rattle.std.specs.Int.{w64, to_be_bytes}
-use Rattle.std.proofs.lemmas.List.{take_more, get_or-take}
+use Rattle.std.proofs.Common.{◌≡◌, ◌<◌, ◌++◌, ◌∷◌, [], length, take, sym, ◌∙◌, ap, arith}
+use Rattle.std.proofs.lemmas.List.{take_more}
 use Rattle.decimal_digits.specs.Halves.{halves}
 use Rattle.decimal_digits.proofs.FrontBytes.{front_halves, front_few, front_digit, front_length}
 use Rattle.decimal_digits.proofs.digits.DigitStore.from_halves.Goals as goal

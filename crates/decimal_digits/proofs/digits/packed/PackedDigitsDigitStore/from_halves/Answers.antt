@@ -1,5 +1,5 @@
-use Rattle.std.proofs.Common.{◌≡◌, ap}
-use Rattle.decimal_digits.specs.Halves.{digits_in, front_bytes}
+use Rattle.std.proofs.Common.{ap}
+use Rattle.decimal_digits.specs.Halves.{digits_in}
 use Rattle.decimal_digits.proofs.FrontBytes.{front_is}
 use Rattle.decimal_digits.proofs.digits.packed.PackedDigitsDigitStore.from_halves.Goals as goal
 
