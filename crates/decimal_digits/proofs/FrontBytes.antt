@@ -1,12 +1,12 @@
 -- The halves of a number in base 16, the highest one first.
-use Rattle.std.proofs.Common.{◌≡◌, ℕ, zero, suc, ◌+◌, ◌-◌, ◌*◌, ◌/◌, ◌%◌, ◌^◌, ◌<◌, ◌≤◌, List, [], ◌∷◌, ◌++◌, length, get_or, take, drop, replicate, refl, sym, ◌∙◌, ap, subst, arith}
+use Rattle.std.proofs.Common.{◌≡◌, ℕ, zero, suc, ◌+◌, ◌-◌, ◌*◌, ◌/◌, ◌%◌, ◌^◌, ◌<◌, ◌≤◌, List, [], ◌∷◌, ◌++◌, length, get_or, take, replicate, refl, sym, ◌∙◌, ap, subst, arith}
 use Rattle.std.specs.Prelude.{All}
-use Rattle.std.specs.Int.{w64, to_be_bytes, bytes_high_first, byte_at}
+use Rattle.std.specs.Int.{w32, w64, to_be_bytes, from_be_bytes, bytes_high_first, byte_at}
 use Rattle.std.specs.Int.Digits.{number_from_digits_after, number_from_digits, AllBelowBase}
 use Rattle.std.proofs.Math.Nat.{pow-suc, pow-le-pow_right}
 use Rattle.std.proofs.Math.Seq.{get_or-append_right}
-use Rattle.std.proofs.lemmas.Nat.{div-mul-add, mod-mul-add, from_be_bytes-to_be_bytes_8}
-use Rattle.std.proofs.lemmas.List.{length-append, length-replicate, length-take, length-take-le, take_all, take-take, get_or-take, drop_all, drop_more, append_assoc, replicate-append-replicate, get_or_append_left, get_or-replicate}
+use Rattle.std.proofs.lemmas.Nat.{div-mul-add, mod-mul-add}
+use Rattle.std.proofs.lemmas.List.{length-append, length-replicate, length-take, length-take-le, take_all, take-take, get_or-take, append_assoc, replicate-append-replicate, get_or_append_left, get_or-replicate}
 use Rattle.std.proofs.lemmas.List.Elements.{All-from_recursion, recursion_from_All}
 use Rattle.std.proofs.lemmas.Int.Digits.{number_lt, number_after_append, number_more}
 use Rattle.decimal_digits.specs.Halves.{halves, digits_in, front_bytes, halves_number, IsPacked}
@@ -131,59 +131,65 @@ unfolding front_bytes
 front_is number len count bytes e k = e ∙ ap (λ n. take n (to_be_bytes w64 number)) k
 
 -- ---- bytes and zeros behind them
--- so many bytes, from one on
-abbrev pub bytes_from : ℕ → ℕ → List ℕ → List ℕ
-bytes_from zero i bs = []
-bytes_from (suc n) i bs = get_or bs i 0 ∷ bytes_from n (i + 1) bs
+-- four bytes, and zeros behind the others up to the eighth
+pub behind_four : (front rest : List ℕ) → length front ≡ 4 → length rest ≤ 4
+    → from_be_bytes w32 front * 2 ^ 32 + number_from_digits 256 (rest ++ replicate (4 - length rest) 0)
+    ≡ number_from_digits 256 ((front ++ rest) ++ replicate (8 - length (front ++ rest)) 0)
+behind_four [] rest four few = absurd (omega arith)
+behind_four (a ∷ []) rest four few = absurd (omega arith)
+behind_four (a ∷ (b ∷ [])) rest four few = absurd (omega arith)
+behind_four (a ∷ (b ∷ (c ∷ []))) rest four few = absurd (omega arith)
+behind_four (a ∷ (b ∷ (c ∷ (d ∷ [])))) rest four few =
+    let front = a ∷ (b ∷ (c ∷ (d ∷ []))) in
+    let zs : List ℕ = replicate (4 - length rest) 0 in
+    let k : 4 - length rest ≡ 8 - length (front ++ rest) = omega arith in
+    let n : length (rest ++ zs) ≡ 4 =
+    omega (arith, length-append rest zs, length-replicate {A = ℕ} (4 - length rest) 0) in
+    let e : from_be_bytes w32 front ≡ number_from_digits 256 front = omega arith in
+    ap (λ x. x * 2 ^ 32 + number_from_digits 256 (rest ++ zs)) e
+    ∙ ap (λ j. number_from_digits 256 front * 256 ^ j + number_from_digits 256 (rest ++ zs)) (sym n)
+    ∙ sym (number_after 256 (number_from_digits 256 front) (rest ++ zs))
+    ∙ ap (λ j. number_from_digits 256 (front ++ (rest ++ replicate j 0))) k
+behind_four (a ∷ (b ∷ (c ∷ (d ∷ (x ∷ xs))))) rest four few = absurd (omega arith)
 
--- the bytes from one on, up to the last
-pub bytes_from_is : (n i : ℕ) (bs : List ℕ) → i + n ≡ length bs → bytes_from n i bs ≡ drop i bs
-bytes_from_is zero i bs e = sym (drop_all i bs (omega arith))
-bytes_from_is (suc n) i bs e =
-    ap (λ l. get_or bs i 0 ∷ l) (bytes_from_is n (i + 1) bs (omega arith)) ∙ sym (drop_more bs i 0 (omega arith))
-
--- the bytes one by one, and zeros up to the eighth
-pub padded_is : (n : ℕ) (bs : List ℕ) → n ≡ length bs
-    → bytes_from n 0 bs ++ replicate (8 - n) 0 ≡ bs ++ replicate (8 - length bs) 0
-padded_is n bs e = (λ k. bytes_from_is n 0 bs (omega arith) k ++ replicate (8 - e k) 0)
+-- up to four bytes, and zeros up to the eighth
+pub before_four : (bs : List ℕ) → length bs ≤ 4
+    → number_from_digits 256 (bs ++ replicate (4 - length bs) 0) * 2 ^ 32
+    ≡ number_from_digits 256 (bs ++ replicate (8 - length bs) 0)
+before_four bs few =
+    let k : 4 - length bs + 4 ≡ 8 - length bs = omega arith in
+    let zs : List ℕ = replicate (4 - length bs) 0 in
+    sym (number_zeros 256 (number_from_digits 256 (bs ++ zs)) 4)
+    ∙ sym (number_after_append 256 0 (bs ++ zs) (replicate 4 0))
+    ∙ ap (number_from_digits 256)
+    (append_assoc bs zs (replicate 4 0)
+    ∙ ap (λ l. bs ++ l) (replicate-append-replicate (4 - length bs) 4 0 ∙ ap (λ j. replicate j 0) k))
 
 -- two halves of a byte count as much as the byte
-bytes_number : (n : ℕ) (bs : List ℕ) → number_from_digits_after 16 n (halves bs) ≡ number_from_digits_after 256 n bs
+bytes_number : (n : ℕ) (bs : List ℕ)
+    → number_from_digits_after 16 n (halves bs) ≡ number_from_digits_after 256 n bs
 unfolding halves
 bytes_number n [] = refl
 bytes_number n (b ∷ bs) =
     let e : (n * 16 + b / 16) * 16 + b % 16 ≡ n * 256 + b = omega arith in
     ap (λ m. number_from_digits_after 16 m (halves bs)) e ∙ bytes_number (n * 256 + b) bs
 
--- the bytes of a number, by their places
-by_places : (a b c d e f g h : ℕ)
-    → number_from_digits 256 (a ∷ (b ∷ (c ∷ (d ∷ (e ∷ (f ∷ (g ∷ (h ∷ []))))))))
-    ≡ a * 72057594037927936 + b * 281474976710656 + c * 1099511627776 + d * 4294967296 + e * 16777216 + f * 65536 + g * 256 + h
-by_places a b c d e f g h = omega arith
-
--- the halves of a number of 64 bits write it
-pub number_of_halves : (n : ℕ) → n < 2 ^ 64 → number_from_digits 16 (halves (to_be_bytes w64 n)) ≡ n
-number_of_halves n fits =
-    bytes_number 0 (to_be_bytes w64 n)
-    ∙ by_places (byte_at 7 n) (byte_at 6 n) (byte_at 5 n) (byte_at 4 n) (byte_at 3 n) (byte_at 2 n) (byte_at 1 n) (byte_at 0 n)
-    ∙ from_be_bytes-to_be_bytes_8 n fits
-
--- packed bytes in front of a number are its digits
-pub word_holds : (bytes : List ℕ) (len n : ℕ) → IsPacked bytes len → len ≤ 16 → n < 2 ^ 64
-    → to_be_bytes w64 n ≡ bytes ++ replicate (8 - length bytes) 0 → n ≡ halves_number (digits_in bytes len)
+-- packed bytes, and zeros behind them up to the eighth, write the number of their digits
+pub word_holds : (bytes : List ℕ) (len : ℕ) → IsPacked bytes len → len ≤ 16
+    → number_from_digits 256 (bytes ++ replicate (8 - length bytes) 0) ≡ halves_number (digits_in bytes len)
 unfolding halves_number
-word_holds bytes len n p few fits e =
+word_holds bytes len p few =
     let ds = digits_in bytes len in
     let l : length ds ≡ len = length_digits bytes len p in
     let zeros : len % 2 + 2 * (8 - length bytes) ≡ 16 - length ds = omega (arith, p.count) in
-    let all : halves (to_be_bytes w64 n) ≡ ds ++ replicate (16 - length ds) 0 =
-    ap halves e ∙ halves-append bytes (replicate (8 - length bytes) 0)
+    let all : halves (bytes ++ replicate (8 - length bytes) 0) ≡ ds ++ replicate (16 - length ds) 0 =
+    halves-append bytes (replicate (8 - length bytes) 0)
     ∙ ap (λ l. halves bytes ++ l) (halves-zeros (8 - length bytes))
     ∙ ap (λ l. l ++ replicate (2 * (8 - length bytes)) 0) p.unused
     ∙ append_assoc ds (replicate (len % 2) 0) (replicate (2 * (8 - length bytes)) 0)
     ∙ ap (λ l. ds ++ l) (replicate-append-replicate (len % 2) (2 * (8 - length bytes)) 0)
     ∙ ap (λ k. ds ++ replicate k 0) zeros in
-    sym (number_of_halves n fits) ∙ ap (number_from_digits 16) all
+    sym (bytes_number 0 (bytes ++ replicate (8 - length bytes) 0)) ∙ ap (number_from_digits 16) all
 
 -- ---- up to sixteen digits, and zeros behind them
 module _ (ds : List ℕ) (h : All (λ d. d < 10) ds) (few : length ds ≤ 16) where

@@ -1,6 +1,7 @@
 //! Lists of digits packed into bytes, two to a byte.
 ghost use Rattle.std.specs.Prelude.{◌≡◌, ℕ, ◌+◌, ◌-◌, ◌*◌, ◌^◌, ◌<◌, ◌≤◌, ◌↔◌, [], ◌∷◌, ◌++◌, length, take, drop, replicate, slice_set, All, IsTrue, IsOk, IfOk, OnOk};
 ghost use Rattle.std.specs.Int.{w64, to_be_bytes};
+ghost use Rattle.std.specs.Int.Digits.{number_from_digits};
 ghost use Rattle.smallvec.specs.SmallVec.{small_vec_len};
 ghost use Rattle.decimal_digits.specs.Halves.{digits_in, IsPacked};
 ghost use Rattle.decimal_digits.specs.Packing.{Holds};
@@ -117,34 +118,39 @@ pub(super) fn push_digit(bytes: &mut SmallVec<u8, 8>, len: usize, digit: u8)
     }
 }
 
-/// Up to eight bytes, and zeros behind them.
-///
-/// Each has a constant place, so that the bytes stay in a register.
+/// The number that up to four bytes write, with zeros behind them up to the fourth.
 #[inline]
-fn padded(bytes: &[u8]) -> [u8; 8]
-    requires { length bytes.now ≤ 8 }
-    ensures { result ≡ bytes.now ++ replicate (8 - length bytes.now) 0 }
+fn half_word(bytes: &[u8]) -> u32
+    requires { length bytes.now ≤ 4 }
+    ensures { result ≡ number_from_digits 256 (bytes.now ++ replicate (4 - length bytes.now) 0) }
 {
     match *bytes {
-        [] => [0; 8],
-        [a] => [a, 0, 0, 0, 0, 0, 0, 0],
-        [a, b] => [a, b, 0, 0, 0, 0, 0, 0],
-        [a, b, c] => [a, b, c, 0, 0, 0, 0, 0],
-        [a, b, c, d] => [a, b, c, d, 0, 0, 0, 0],
-        [a, b, c, d, e] => [a, b, c, d, e, 0, 0, 0],
-        [a, b, c, d, e, f] => [a, b, c, d, e, f, 0, 0],
-        [a, b, c, d, e, f, g] => [a, b, c, d, e, f, g, 0],
-        [a, b, c, d, e, f, g, h, ..] => [a, b, c, d, e, f, g, h],
+        [] => 0,
+        [a] => u32::from(a) << 24,
+        [a, b] => (u32::from(a) << 24) + (u32::from(b) << 16),
+        [a, b, c] => (u32::from(a) << 24) + (u32::from(b) << 16) + (u32::from(c) << 8),
+        [a, b, c, d, ..] => u32::from_be_bytes([a, b, c, d]),
     }
 }
 
-/// The number whose first bytes these are, the highest one first, and whose others are 0.
+/// A number of 32 bits in front of another.
+#[inline]
+fn joined(front: u32, behind: u32) -> u64
+    ensures { result ≡ front * 2 ^ 32 + behind }
+{
+    (u64::from(front) << 32) + u64::from(behind)
+}
+
+/// The number that up to eight bytes write, with zeros behind them up to the eighth.
 #[inline]
 pub(super) fn word(bytes: &[u8]) -> u64
     requires { length bytes.now ≤ 8 }
-    ensures { to_be_bytes w64 result ≡ bytes.now ++ replicate (8 - length bytes.now) 0 }
+    ensures { result ≡ number_from_digits 256 (bytes.now ++ replicate (8 - length bytes.now) 0) }
 {
-    u64::from_be_bytes(padded(bytes))
+    match bytes.split_first_chunk::<4>() {
+        Some((front, rest)) => joined(u32::from_be_bytes(*front), half_word(rest)),
+        None => joined(half_word(bytes), 0),
+    }
 }
 
 /// How many bytes are compared with no call: those of 48 digits.
@@ -158,13 +164,13 @@ pub(super) fn are_equal(left: &[u8], right: &[u8]) -> bool
     if left.len() != right.len() {
         return false;
     }
-    if left.len() > FEW {
+    if left.len() < 4 || left.len() > FEW {
         return left == right;
     }
     let (mut left, mut right) = (left, right);
     while let (Some((first, left_rest)), Some((second, right_rest))) = (
-        left.split_first_chunk::<8>(),
-        right.split_first_chunk::<8>(),
+        left.split_first_chunk::<4>(),
+        right.split_first_chunk::<4>(),
     ) {
         if first != second {
             return false;
@@ -172,7 +178,7 @@ pub(super) fn are_equal(left: &[u8], right: &[u8]) -> bool
         left = left_rest;
         right = right_rest;
     }
-    word(left) == word(right)
+    left == right
 }
 
 /// Keeps the first digits.
