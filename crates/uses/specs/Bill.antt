@@ -1,8 +1,9 @@
 -- The parts of a bill.
-use Rattle.std.specs.Prelude.{◌≡◌, ℕ, zero, suc, ◌+◌, ◌*◌, ◌/◌, ◌%◌, ◌^◌, ◌≤◌, ◌⊎◌, nat_lt, if◌then◌else◌, List, [], ◌∷◌, ◌++◌, sum_by, negsuc, pos}
-use Rattle.decimal_digits.specs.Number.{weight}
+use Rattle.std.specs.Prelude.{◌≡◌, ℕ, zero, suc, ◌+◌, ◌*◌, ◌/◌, ◌%◌, ◌^◌, ◌<◌, ◌≤◌, ◌⊎◌, nat_lt, if◌then◌else◌, List, [], ◌∷◌, ◌++◌, sum_by, negsuc, pos}
+use Rattle.decimal_digits.specs.Number.{weight, size}
 use Rattle.decimal_unsigned.specs.Unsigned.{Unsigned, integer_value}
 use Rattle.decimal_unsigned.specs.Edits.{multiplied, StaysInLimits}
+use Rattle.decimal_unsigned.specs.declared.decimal.TheConstants.{DIGITS_IN_PLACE}
 use Rattle.uses.specs.declared.bill.BillError.{BillError}
 use Rattle.uses.specs.declared.bill.BillError.TheVariants.{NoPart, PartOfACent, TooGreat, Memory}
 
@@ -30,10 +31,15 @@ pub record IsSplit (amount : Unsigned) (count : ℕ) (parts : List Unsigned) : T
   pub each : parts ≡ parts_of total count count
   pub adds_up : sum_by (λ v. v.number) parts ≡ amount.number
 
--- why an amount is not split: there is no part, the amount ends below the cents, or it is too great or memory is
--- refused; too great is 2 to the 64 cents, and what shows a digit above the magnitude 32765
+-- so many whole cents, below 2 to the 64
+abbrev pub IsWholeCents : Unsigned → Type 0
+IsWholeCents amount = (total : ℕ) × (total < 2 ^ 64) × (amount.number ≡ total * cent)
+
+-- why an amount is not split: there is no part, or there are some and the amount ends below the cents, or it is too
+-- great or memory is refused; too great is 2 to the 64 cents, and what shows a digit above the magnitude 32765. Memory
+-- is wanted for a copy of an amount with more digits than are held without it, and for parts of whole cents
 abbrev pub Refuses : BillError → Unsigned → ℕ → Type 0
 Refuses NoPart amount count = count ≡ 0
-Refuses PartOfACent amount count = ¬ (amount.number % cent ≡ 0)
-Refuses TooGreat amount count = (2 ^ 64 * cent ≤ amount.number) ⊎ (¬ StaysInLimits amount (pos 2))
-Refuses Memory amount count = Unit {0}
+Refuses PartOfACent amount count = (0 < count) × (¬ (amount.number % cent ≡ 0))
+Refuses TooGreat amount count = (0 < count) × ((2 ^ 64 * cent ≤ amount.number) ⊎ (¬ StaysInLimits amount (pos 2)))
+Refuses Memory amount count = (0 < count) × ((DIGITS_IN_PLACE < size amount.number) ⊎ IsWholeCents amount)

@@ -1,6 +1,8 @@
 -- A column of amounts in their normal form.
-use Rattle.std.specs.Prelude.{◌≡◌, ℕ, ◌<◌, ◌↔◌, List, [], ◌∷◌, ◌++◌, Result, Ok, IsOkAnd}
+use Rattle.std.specs.Prelude.{◌≡◌, ℕ, ◌<◌, ◌↔◌, List, [], ◌∷◌, ◌++◌, Option, Result, Ok, IsOkAnd}
 use Rattle.std.specs.Borrow.{Bor}
+use Rattle.std.specs.Io.KnownBytes.{Appends}
+use Rattle.decimal_digits.specs.Text.{AppendsPrefix}
 use Rattle.decimal_unsigned.specs.Unsigned.{Unsigned, IsValue}
 use Rattle.decimal_unsigned.specs.Text.{text}
 use Rattle.decimal_unsigned.specs.EditLaws.{trimmed}
@@ -36,3 +38,14 @@ abbrev pub column_text : List (Bor (List ℕ)) → Result (List ℕ) ReadingFaul
 column_text [] = Ok []
 column_text (amount ∷ rest) =
     and_then (normal_form amount.now) (λ form. and_then (column_text rest) (λ lines. Ok ((form ++ 10 ∷ []) ++ lines)))
+
+-- why a column is not written: an amount is refused, and the lines of those in front of it were appended; or the sink
+-- failed, and a beginning of the lines of some of the first amounts was
+abbrev pub Stops : List (Bor (List ℕ)) → Option (List ℕ) → Option (List ℕ) → ColumnError → Type 0
+Stops amounts old new (Amount fault) =
+    (front : List (Bor (List ℕ))) × (amount : Bor (List ℕ)) × (back : List (Bor (List ℕ)))
+    × (amounts ≡ front ++ amount ∷ back) × AmountRefuses (Amount fault) amount.now
+    × IsOkAnd (column_text front) (Appends old new)
+Stops amounts old new Sink =
+    (front : List (Bor (List ℕ))) × (back : List (Bor (List ℕ))) × (amounts ≡ front ++ back)
+    × IsOkAnd (column_text front) (AppendsPrefix old new)

@@ -8,6 +8,10 @@ use Rattle.fixed_decimal.specs.declared.runs.Call.{Call}
 use Rattle.fixed_decimal.specs.declared.runs.RunError.{RunError}
 use Rattle.fixed_decimal.specs.declared.runs.RunError.TheVariants.{Sink}
 
+-- the run may answer an error that is no fault of the sink
+abbrev pub IsRefused : List ℕ → List Call → Type 0
+IsRefused start calls = (e : RunError) × RunRefuses DIGITS_IN_PLACE e start calls × (e ≢ Sink)
+
 -- the text that the calls come to, or the sentence of an error that the run may answer
 abbrev pub IsTold : List ℕ → List Call → List ℕ → Type 0
 IsTold start calls told =

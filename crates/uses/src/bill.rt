@@ -1,5 +1,5 @@
 //! An amount split into parts of whole cents that add up to it.
-ghost use Rattle.std.specs.Prelude.{◌≡◌, ℕ, ◌*◌, IfOk, IfErr};
+ghost use Rattle.std.specs.Prelude.{◌≡◌, ℕ, ◌<◌, ◌*◌, IfOk, IfErr};
 ghost use Rattle.uses.specs.Bill.{cent, cents_value, IsSplit, Refuses};
 
 use fixed_decimal::{IntegerError, UnsignedDecimal};
@@ -21,7 +21,7 @@ pub enum BillError {
 /// The cents that an amount is.
 fn total_cents(amount: &UnsignedDecimal) -> Result<u64, BillError>
     ensures ok { IfOk result (λ total. amount.now.number ≡ total * cent) }
-    ensures err { IfErr result (λ e. (count : ℕ) → Refuses e amount.now count) }
+    ensures err { IfErr result (λ e. (count : ℕ) → 0 < count → Refuses e amount.now count) }
 {
     let Ok(mut cents) = amount.clone() else {
         return Err(BillError::Memory);
@@ -48,8 +48,8 @@ fn cents_value(alloc: Global, cents: u64) -> Result<UnsignedDecimal, AllocError>
 
 /// Splits an amount into so many parts of whole cents that add up to it, and differ by at most a cent.
 ///
-/// `100.00` in three parts is `33.34`, `33.33` and `33.33`. Err: as `BillError` says; a fault of the amount is told
-/// before want of memory for the parts. The amount stays as it is.
+/// `100.00` in three parts is `33.34`, `33.33` and `33.33`. Err: as `BillError` says; that there is no part is told
+/// before all else, and a fault of the amount before want of memory for the parts. The amount stays as it is.
 pub fn split_bill(
     alloc: Global,
     amount: &UnsignedDecimal,

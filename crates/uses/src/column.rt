@@ -1,8 +1,9 @@
 //! A column of amounts, checked and brought to normal form.
 ghost use Rattle.std.specs.Prelude.{◌≡◌, Err, OnOk, IfErr, IsOkAnd, true};
 ghost use Rattle.std.specs.Io.KnownBytes.{Appends};
+ghost use Rattle.decimal_digits.specs.Text.{AppendsPrefix};
 ghost use Rattle.decimal_unsigned.specs.Reading.{read};
-ghost use Rattle.uses.specs.Column.{normal_form, column_text, IsToldByForm, AmountRefuses};
+ghost use Rattle.uses.specs.Column.{normal_form, column_text, IsToldByForm, AmountRefuses, Stops};
 
 use fixed_decimal::{ParseError, Sink, UnsignedDecimal, Writeable};
 use std::alloc::Global;
@@ -12,7 +13,7 @@ use std::alloc::Global;
 pub enum ColumnError {
     /// The text was refused so. Nothing of it was written.
     Amount(ParseError),
-    /// The sink refused a byte, now or before.
+    /// The sink refused a byte, now or before, and has taken a beginning of what was to be written.
     Sink,
 }
 
@@ -29,6 +30,8 @@ pub fn write_normal_form<W: Sink>(
     ensures told { OnOk result (IsOkAnd (read amount.now) IsToldByForm) }
     ensures refused { IfErr result (λ e. AmountRefuses e amount.now) }
     ensures untouched { IfErr result (λ e. (e ≡ ColumnError.Sink → ⊥) → sink.new ≡ sink.old) }
+    ensures prefix { result ≡ Err ColumnError.Sink → IsOkAnd (normal_form amount.now)
+        (AppendsPrefix (W.contents sink.old) (W.contents sink.new)) }
     ensures failed { result ≡ Err ColumnError.Sink → W.has_failed sink.new ≡ true }
 {
     let mut value = match UnsignedDecimal::try_from_str(alloc, amount) {
@@ -46,7 +49,7 @@ pub fn write_normal_form<W: Sink>(
 /// Writes amounts in their normal form, a line each, up to the first that is refused.
 ///
 /// `007.50` and `1e2` are written as `7.5` and `100`. Err: the first amount that was refused, and the lines in front of
-/// it were written; or a fault of the sink.
+/// it were written; or a fault of the sink, which has taken a beginning of the lines.
 pub fn write_column<W: Sink>(
     alloc: Global,
     amounts: &[&str],
@@ -54,6 +57,8 @@ pub fn write_column<W: Sink>(
 ) -> Result<(), ColumnError>
     ensures written { OnOk result (IsOkAnd (column_text amounts.now)
         (Appends (W.contents sink.old) (W.contents sink.new))) }
+    ensures stopped { IfErr result (Stops amounts.now (W.contents sink.old) (W.contents sink.new)) }
+    ensures failed { result ≡ Err ColumnError.Sink → W.has_failed sink.new ≡ true }
 {
     for amount in amounts {
         write_normal_form(alloc, amount, sink)?;

@@ -1,5 +1,5 @@
 //! So many percent of an amount, printed.
-ghost use Rattle.std.specs.Prelude.{◌≡◌, ◌<◌, ◌*◌, Err, OnOk, IsSomeAnd, codes, true};
+ghost use Rattle.std.specs.Prelude.{◌≡◌, ◌<◌, ◌*◌, Err, OnOk, OnErr, IsSomeAnd, codes, true};
 ghost use Rattle.std.specs.Io.KnownBytes.{Appends};
 ghost use Rattle.decimal_digits.specs.Number.{size};
 ghost use Rattle.decimal_digits.specs.Text.{AppendsPrefix};
@@ -58,7 +58,9 @@ pub fn write_price<W: Sink>(
 ///
 /// Err: the sink refused a byte, and has taken a beginning of it.
 pub fn write_shipping_fee<W: Sink>(alloc: Global, sink: &mut W) -> Result<(), SinkFault>
-    ensures { OnOk result (Appends (W.contents sink.old) (W.contents sink.new) (codes "4.90")) }
+    ensures written { OnOk result (Appends (W.contents sink.old) (W.contents sink.new) (codes "4.90")) }
+    ensures prefix { OnErr result (AppendsPrefix (W.contents sink.old) (W.contents sink.new) (codes "4.90")) }
+    ensures failed { OnErr result (W.has_failed sink.new ≡ true) }
 {
     let mut fee = UnsignedDecimal::from_u16(alloc, 490);
     // So few digits meet no limit.

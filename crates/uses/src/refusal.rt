@@ -3,7 +3,7 @@ ghost use Rattle.std.specs.Prelude.{◌≡◌, ℕ, List, Err, OnOk, true};
 ghost use Rattle.std.specs.Io.KnownBytes.{Appends};
 ghost use Rattle.decimal_digits.specs.Text.{AppendsPrefix};
 ghost use Rattle.fixed_decimal.specs.ErrorText.{run_error_text};
-ghost use Rattle.uses.specs.Refusal.{IsTold};
+ghost use Rattle.uses.specs.Refusal.{IsRefused, IsTold};
 
 use fixed_decimal::{Call, RunError, Sink, SinkFault, run};
 use std::alloc::Global;
@@ -37,7 +37,8 @@ fn tell<W: Sink>(alloc: Global, error: &RunError, sink: &mut W) -> Result<(), Te
 /// Makes a run, and writes its text, or where it is refused the sentence that says why.
 ///
 /// From `1e5` the call `MultiplyPow10(-2)` writes `1000.00`, and from `1,5` any calls write
-/// `Start: Failed to parse the input string`.
+/// `Start: Failed to parse the input string`. Err: as `TellError` says; `Memory` only where the run is refused, for
+/// want of memory or for another reason.
 pub fn write_or_tell<W: Sink>(
     alloc: Global,
     start: &[u8],
@@ -46,6 +47,7 @@ pub fn write_or_tell<W: Sink>(
 ) -> Result<(), TellError>
     ensures told { OnOk result ((told : List ℕ) × IsTold start.now calls.now told
         × Appends (W.contents sink.old) (W.contents sink.new) told) }
+    ensures memory { result ≡ Err TellError.Memory → IsRefused start.now calls.now }
     ensures untouched { result ≡ Err TellError.Memory → sink.new ≡ sink.old }
     ensures prefix { result ≡ Err TellError.Sink → (told : List ℕ) × IsTold start.now calls.now told
         × AppendsPrefix (W.contents sink.old) (W.contents sink.new) told }

@@ -35,15 +35,19 @@ returns-in-Ok-try_to_u64-clause-ok c =
     c.in-Ok-try_to_u64.total c.in-Ok-try_to_u64.ensures.value
 
 pub returns-in-Err-NotWhole-clause-err : goal.returns-in-Err-NotWhole-clause-err
-returns-in-Err-NotWhole-clause-err c = λ count.
-    part_of_a_cent c.args.amount.now.number c.multiply_pow10.new.self.number
-    (ap (λ (v : Unsigned). v.number) c.in-Ok-multiply_pow10.ensures.moved
-    ∙ ap (λ (v : Unsigned). v.number * 10 ^ 2) c.in-Ok.ensures.value)
-    (rw c.in-Err-NotWhole.field-0-is at c.in-Err-NotWhole.ensures.value)
+returns-in-Err-NotWhole-clause-err c = λ count some. (
+  some,
+  part_of_a_cent c.args.amount.now.number c.multiply_pow10.new.self.number
+      (ap (λ (v : Unsigned). v.number) c.in-Ok-multiply_pow10.ensures.moved
+      ∙ ap (λ (v : Unsigned). v.number * 10 ^ 2) c.in-Ok.ensures.value)
+      (rw c.in-Err-NotWhole.field-0-is at c.in-Err-NotWhole.ensures.value),
+)
 
 pub returns-clause-err : goal.returns-clause-err
-returns-clause-err c = λ count.
-    inl (too_great c.args.amount.now.number c.multiply_pow10.new.self.number
-    (ap (λ (v : Unsigned). v.number) c.in-Ok-multiply_pow10.ensures.moved
-    ∙ ap (λ (v : Unsigned). v.number * 10 ^ 2) c.in-Ok.ensures.value)
-    (rw c.in-Err-OutOfRange.field-0-is at c.in-Err-OutOfRange.ensures.value))
+returns-clause-err c = λ count some. (
+  some,
+  inl (too_great c.args.amount.now.number c.multiply_pow10.new.self.number
+      (ap (λ (v : Unsigned). v.number) c.in-Ok-multiply_pow10.ensures.moved
+      ∙ ap (λ (v : Unsigned). v.number * 10 ^ 2) c.in-Ok.ensures.value)
+      (rw c.in-Err-OutOfRange.field-0-is at c.in-Err-OutOfRange.ensures.value)),
+)

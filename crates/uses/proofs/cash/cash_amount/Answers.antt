@@ -1,10 +1,11 @@
-use Rattle.std.proofs.Common.{◌≡◌, ℕ, ◌*◌, ◌/◌, ◌^◌, sym, ◌∙◌, ap, subst, arith}
+use Rattle.std.proofs.Common.{◌≡◌, ℕ, ◌*◌, sym, ◌∙◌, ap, subst, arith}
 use Rattle.std.specs.Prelude.{Some, negsuc}
-use Rattle.decimal_digits.specs.Number.{weight}
+use Rattle.std.proofs.lemmas.Int.{ints, clamps}
+use Rattle.decimal_digits.specs.Number.{weight, first}
 use Rattle.decimal_digits.specs.Rounding.{Named}
 use Rattle.decimal_digits.specs.declared.rounding.RoundingIncrement.TheVariants.{MultiplesOf5}
 use Rattle.decimal_digits.specs.declared.rounding.UnsignedRoundingMode.TheVariants.{HalfEven}
-use Rattle.decimal_unsigned.specs.Unsigned.{Unsigned}
+use Rattle.decimal_unsigned.specs.Unsigned.{Unsigned, integer_value}
 use Rattle.decimal_unsigned.specs.Edits.{multiplied}
 use Rattle.decimal_unsigned.specs.Rounded.{IsRounded}
 use Rattle.fixed_decimal.proofs.Calling.{integer_down, rounded_to-some}
@@ -12,16 +13,27 @@ use Rattle.uses.specs.Cash.{IsCash}
 use Rattle.uses.proofs.cash.cash_amount.Goals as goal
 
 -- what rounding a number of hundredths of cents by 5 at -2 makes is cash
-rounded_cash : (hundredths : ℕ) (old new : Unsigned) → old.number ≡ hundredths * weight (negsuc 3)
+rounded_cash : (hundredths : ℕ) (old new : Unsigned) → old ≡ multiplied (integer_value hundredths) (negsuc 3)
     → IsRounded old (negsuc 1) HalfEven MultiplesOf5 (Some new) → IsCash hundredths new
 rounded_cash hundredths old new e r =
     let is = rounded_to-some old new (negsuc 1) r.named.0 r.named.2 in
+    let number : old.number ≡ hundredths * weight (negsuc 3) =
+    ap (λ (v : Unsigned). v.number) e ∙ integer_down hundredths 3 (omega arith) in
     record {
       nearest =
           subst (Named HalfEven (5 * weight (negsuc 1)) (hundredths * weight (negsuc 3)))
           (ap (λ (v : Unsigned). v.number) is)
-          (subst (λ n. Named HalfEven (5 * weight (negsuc 1)) n r.named.0) e r.named.1);
+          (subst (λ n. Named HalfEven (5 * weight (negsuc 1)) n r.named.0) number r.named.1);
       decimals = sym (ap (λ (v : Unsigned). v.lo) is);
+      front =
+          omega (
+            arith,
+            ints,
+            clamps,
+            ap (λ (v : Unsigned). v.hi) is,
+            ap (λ (v : Unsigned). v.hi) e,
+            ap (λ (v : Unsigned). first v.number) is,
+          );
     }
 
 pub returns-clause-cash : goal.returns-clause-cash
@@ -29,7 +41,5 @@ returns-clause-cash c =
     let moved : c.multiply_pow10.new.self ≡ multiplied c.in_ok-amount.amount (negsuc 3) =
     rw c.unwrap.ensures at c.multiply_pow10.ensures.moved in
     rounded_cash (c.args.cents * c.args.percent) c.multiply_pow10.new.self c.round_with_mode_and_increment.new.self
-    (ap (λ (v : Unsigned). v.number) moved
-    ∙ ap (λ (v : Unsigned). v.number / 10 ^ 4) c.in_ok-amount.ensures.value
-    ∙ integer_down (c.args.cents * c.args.percent) 3 (omega arith))
+    (moved ∙ ap (λ v. multiplied v (negsuc 3)) c.in_ok-amount.ensures.value)
     (rw c.unwrap-2.ensures at c.round_with_mode_and_increment.ensures.answers)

@@ -1,8 +1,9 @@
 use Rattle.std.proofs.Common.{◌≡◌, lit<, lit≤, refl, ◌∙◌, ap, subst, arith}
-use Rattle.std.specs.Prelude.{◌*◌, OnOk, codes, pos, negsuc}
+use Rattle.std.specs.Prelude.{◌*◌, OnOk, OnErr, codes, pos, negsuc}
 use Rattle.std.specs.Io.KnownBytes.{Appends}
 use Rattle.std.proofs.lemmas.Int.{ints}
 use Rattle.decimal_digits.specs.Number.{weight}
+use Rattle.decimal_digits.specs.Text.{AppendsPrefix}
 use Rattle.decimal_unsigned.specs.Unsigned.{integer_value}
 use Rattle.decimal_unsigned.specs.Edits.{multiplied}
 use Rattle.decimal_unsigned.specs.Text.{text}
@@ -26,7 +27,10 @@ returns g c =
     let moved = rw c.unwrap.ensures at c.multiply_pow10.ensures.moved in
     let fee = moved ∙ ap (λ v. multiplied v (negsuc 1)) c.from_u16-fee.ensures.value in
     let shown = ap text fee ∙ fee_text in
-    subst
-    (λ t. OnOk c.write_to.result
-    (Appends (g.W.Sink.contents c.args.sink.now) (g.W.Sink.contents c.write_to.new.sink) t))
-    shown c.write_to.ensures.ok
+    let old = g.W.Sink.contents c.args.sink.now in
+    let new = g.W.Sink.contents c.write_to.new.sink in
+    record {
+      written = subst (λ t. OnOk c.write_to.result (Appends old new t)) shown c.write_to.ensures.ok;
+      prefix = subst (λ t. OnErr c.write_to.result (AppendsPrefix old new t)) shown c.write_to.ensures.err;
+      failed = c.write_to.ensures.failed;
+    }

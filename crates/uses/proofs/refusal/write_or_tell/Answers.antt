@@ -26,6 +26,7 @@ returns-in_default-error g c =
     record {
       told =
           on_ok_weaker c.tell.result (λ p. (run_error_text c.in-Err.error, told, p)) (rw same at c.tell.ensures.told);
+      memory = λ e. (c.in-Err.error, c.in-Err.ensures.refused, c.in_default-error.not-Sink);
       untouched = λ e. c.tell.ensures.untouched e ∙ same;
       prefix = λ e. (run_error_text c.in-Err.error, told, rw same at (c.tell.ensures.prefix e));
       failed = c.tell.ensures.failed;
