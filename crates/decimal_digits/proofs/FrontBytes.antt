@@ -197,7 +197,8 @@ module _ (ds : List ℕ) (h : All (λ d. d < 10) ds) (few : length ds ≤ 16) wh
   sixteen = ds ++ replicate (16 - length ds) 0
 
   pub sixteen_are : length sixteen ≡ 16
-  sixteen_are = omega (arith, length-append ds (replicate (16 - length ds) 0), length-replicate {A = ℕ} (16 - length ds) 0)
+  sixteen_are =
+      omega (arith, length-append ds (replicate (16 - length ds) 0), length-replicate {A = ℕ} (16 - length ds) 0)
 
   -- they are digits
   pub sixteen_digits : AllBelowBase 10 sixteen
@@ -209,7 +210,8 @@ module _ (ds : List ℕ) (h : All (λ d. d < 10) ds) (few : length ds ≤ 16) wh
       let n : length (take i sixteen) ≡ i = length-take-le i sixteen (omega (arith, sixteen_are)) in
       let fits : length (take i sixteen) ≤ 15 = omega arith in
       let top : 16 ^ length (take i sixteen) ≤ 16 ^ 15 = pow-le-pow_right (omega arith) fits in
-      omega (arith, number_lt 16 (take i sixteen) (below_sixteen (take i sixteen) (below_take 10 i sixteen sixteen_digits)), top)
+      let below = below_sixteen (take i sixteen) (below_take 10 i sixteen sixteen_digits) in
+      omega (arith, number_lt 16 (take i sixteen) below, top)
 
   -- the digits come first
   pub sixteen_digit : (i : ℕ) → i < length ds → get_or ds i 0 ≡ get_or sixteen i 0

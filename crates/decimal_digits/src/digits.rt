@@ -69,7 +69,7 @@ pub trait DigitStore: Drop {
     /// Of 2 and 5 it is `0x2500_0000_0000_0000`. None: there are more than sixteen digits.
     fn to_halves(&self) -> Option<u64>
         ensures number { IfSome result (λ number. number ≡ halves_number (digits self.now)) }
-        ensures few { IfSome result (λ number. length (digits self.now) ≤ 16) }
+        ensures at_most { IfSome result (λ number. length (digits self.now) ≤ 16) }
         ensures many { IfNone result (16 < length (digits self.now)) }
     {
         let len = self.len();

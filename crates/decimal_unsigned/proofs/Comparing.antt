@@ -136,7 +136,8 @@ module _ (base : ℕ) (above : 0 < base) where
       let rest = top - 1 - length ds in
       let k : top - length (d ∷ ds) ≡ rest = omega arith in
       let e : top - 1 ≡ length ds + rest = omega arith in
-      let p : base ^ (top - 1) ≡ base ^ length ds * base ^ rest = ap (λ j. base ^ j) e ∙ pow-add base (length ds) rest in
+      let p : base ^ (top - 1) ≡ base ^ length ds * base ^ rest =
+      ap (λ j. base ^ j) e ∙ pow-add base (length ds) rest in
       ap (λ j. number_from_digits base (d ∷ ds) * base ^ j) k
       ∙ ap (λ n. n * base ^ rest) (number_first base d ds)
       ∙ (let q : (d * base ^ length ds + number_from_digits base ds) * base ^ rest
@@ -207,7 +208,8 @@ module _ {ds es : List ℕ} {m m' hi lo hi' lo' : ℤ} (s : IsStored ds m hi lo)
   unfolding number_of number_at
   numbers_order same =
       let place_same = ap place same in
-      digits_order 10 (omega arith) (place m + 1) ds es s.digits t.digits (omega (arith, s.fits)) (omega (arith, t.fits, place_same))
+      digits_order 10 (omega arith) (place m + 1) ds es s.digits t.digits (omega (arith, s.fits))
+      (omega (arith, t.fits, place_same))
       s.back t.back
       ∙ ap (λ k. nat_cmp (number_at (place m + 1) ds) (number_at (place k + 1) es)) same
 

@@ -284,7 +284,8 @@ by_pairs a b c d e f g h = omega arith
 zeros_in_front : (base k : ℕ) (xs : List ℕ) → number_from_digits base (replicate k 0 ++ xs) ≡ number_from_digits base xs
 zeros_in_front base k xs =
     number_after_append base 0 (replicate k 0) xs
-    ∙ ap (λ n. number_from_digits_after base n xs) (number_zeros base 0 k ∙ (let e : 0 * base ^ k ≡ 0 = omega arith in e))
+    ∙ ap (λ n. number_from_digits_after base n xs)
+    (number_zeros base 0 k ∙ (let e : 0 * base ^ k ≡ 0 = omega arith in e))
 
 zeros_below : (k : ℕ) (xs : List ℕ) → AllBelowBase 16 xs → AllBelowBase 16 (replicate k 0 ++ xs)
 zeros_below zero xs h = h

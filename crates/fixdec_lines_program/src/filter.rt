@@ -59,7 +59,7 @@ fn skip_line<W: Sink, E: Sink>(
     out: &mut W,
     err: &mut E,
 ) -> Result<(), SinkFault>
-    ensures told { TakesMore (E.contents err.old) (E.has_failed err.old) (E.contents err.new) (E.has_failed err.new)
+    ensures reported { TakesMore (E.contents err.old) (E.has_failed err.old) (E.contents err.new) (E.has_failed err.new)
         (line_of_error error.now) }
     ensures printed { OnOk result (Appends (W.contents out.old) (W.contents out.new) (10 ∷ [])) }
     ensures prefix { OnErr result (AppendsPrefix (W.contents out.old) (W.contents out.new) (10 ∷ [])) }
@@ -82,7 +82,7 @@ fn print_line<W: Sink, E: Sink>(
 ) -> Result<bool, LinesError>
     ensures printed { OnOk result (Appends (W.contents out.old) (W.contents out.new)
         (output_of_line (outcome line.now calls.now))) }
-    ensures told { OnOk result (TakesMore (E.contents err.old) (E.has_failed err.old)
+    ensures reported { OnOk result (TakesMore (E.contents err.old) (E.has_failed err.old)
         (E.contents err.new) (E.has_failed err.new) (told_of_line number (outcome line.now calls.now))) }
     ensures text { result ≡ Ok true → IsOk (outcome line.now calls.now) × (err.new ≡ err.old) }
     ensures refused { result ≡ Ok false → IsErr (outcome line.now calls.now) × (on_refusal ≡ OnRefusal.Skip) }
@@ -91,7 +91,7 @@ fn print_line<W: Sink, E: Sink>(
     ensures failed { result ≡ Err LinesError.Output → W.has_failed out.new ≡ true }
     ensures prefix { result ≡ Err LinesError.Output →
         AppendsPrefix (W.contents out.old) (W.contents out.new) (output_of_line (outcome line.now calls.now)) }
-    ensures told_prefix { result ≡ Err LinesError.Output → TakesMore (E.contents err.old) (E.has_failed err.old)
+    ensures reported_prefix { result ≡ Err LinesError.Output → TakesMore (E.contents err.old) (E.has_failed err.old)
         (E.contents err.new) (E.has_failed err.new) (told_of_line number (outcome line.now calls.now)) }
 {
     let error = match print_run(alloc, line, calls, out) {

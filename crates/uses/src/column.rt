@@ -27,7 +27,7 @@ pub fn write_normal_form<W: Sink>(
 ) -> Result<(), ColumnError>
     ensures written { OnOk result (IsOkAnd (normal_form amount.now)
         (Appends (W.contents sink.old) (W.contents sink.new))) }
-    ensures told { OnOk result (IsOkAnd (read amount.now) IsToldByForm) }
+    ensures reported { OnOk result (IsOkAnd (read amount.now) IsToldByForm) }
     ensures refused { IfErr result (λ e. AmountRefuses e amount.now) }
     ensures untouched { IfErr result (λ e. (e ≡ ColumnError.Sink → ⊥) → sink.new ≡ sink.old) }
     ensures prefix { result ≡ Err ColumnError.Sink → IsOkAnd (normal_form amount.now)

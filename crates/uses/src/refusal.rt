@@ -19,7 +19,7 @@ pub enum TellError {
 
 /// Writes the sentence that says why a run was refused.
 fn tell<W: Sink>(alloc: Global, error: &RunError, sink: &mut W) -> Result<(), TellError>
-    ensures told { OnOk result (Appends (W.contents sink.old) (W.contents sink.new) (run_error_text error.now)) }
+    ensures reported { OnOk result (Appends (W.contents sink.old) (W.contents sink.new) (run_error_text error.now)) }
     ensures untouched { result ≡ Err TellError.Memory → sink.new ≡ sink.old }
     ensures prefix { result ≡ Err TellError.Sink
         → AppendsPrefix (W.contents sink.old) (W.contents sink.new) (run_error_text error.now) }
@@ -45,7 +45,7 @@ pub fn write_or_tell<W: Sink>(
     calls: &[Call<'_>],
     sink: &mut W,
 ) -> Result<(), TellError>
-    ensures told { OnOk result ((told : List ℕ) × IsTold start.now calls.now told
+    ensures reported { OnOk result ((told : List ℕ) × IsTold start.now calls.now told
         × Appends (W.contents sink.old) (W.contents sink.new) told) }
     ensures memory { result ≡ Err TellError.Memory → IsRefused start.now calls.now }
     ensures untouched { result ≡ Err TellError.Memory → sink.new ≡ sink.old }

@@ -32,7 +32,7 @@ impl<D: DigitStore> UnsignedOver<D> {
         ensures succeeds { IsFalse (overlaps self.old other)
             → ¬ ConcatenationNeedsMemory D.L self.old other → IsOk result }
         // Numbers of which the second begins below the last digit of the first are joined, or want memory.
-        ensures apart { first other.number <ℤ last self.old.number
+        ensures disjoint { first other.number <ℤ last self.old.number
             → result ≢ Err (ConcatenateError.Overlap other) }
         ensures fits { first other.number <ℤ last self.old.number
             → concatenated_size self.old other ≤ D.L → IsOk result }
@@ -71,7 +71,7 @@ impl<D: DigitStore> UnsignedOver<D> {
             → ConcatenationNeedsMemory D.L self other }
         ensures succeeds { IsFalse (overlaps self other)
             → ¬ ConcatenationNeedsMemory D.L self other → IsOk result }
-        ensures apart { first other.number <ℤ last self.number
+        ensures disjoint { first other.number <ℤ last self.number
             → result ≢ Err (ConcatenateError.Overlap (self, other)) }
         ensures fits { first other.number <ℤ last self.number → concatenated_size self other ≤ D.L → IsOk result }
         ensures returned { IfErr result (λ e. returned e ≡ (self, other)) }

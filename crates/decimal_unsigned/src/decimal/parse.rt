@@ -148,7 +148,7 @@ impl<D: DigitStore> UnsignedOver<D> {
         ensures grammar { AnswersGrammar text.now result }
         // Without an exponent only the number of digits meets the limit, and few digits want no memory.
         ensures plain { (w : Written) → Grammar text.now w → IsPlain w → result ≢ Err ParseError.Limit }
-        ensures few { (w : Written) → Grammar text.now w → digit_count w ≤ D.L → result ≢ Err ParseError.Memory }
+        ensures at_most { (w : Written) → Grammar text.now w → digit_count w ≤ D.L → result ≢ Err ParseError.Memory }
     {
         Self::read_from(alloc, text)
     }
@@ -158,7 +158,7 @@ impl<D: DigitStore> UnsignedOver<D> {
         ensures answers { Answers (λ v. D.L < size v.number) result (read text.now) }
         ensures grammar { AnswersGrammar text.now result }
         ensures plain { (w : Written) → Grammar text.now w → IsPlain w → result ≢ Err ParseError.Limit }
-        ensures few { (w : Written) → Grammar text.now w → digit_count w ≤ D.L → result ≢ Err ParseError.Memory }
+        ensures at_most { (w : Written) → Grammar text.now w → digit_count w ≤ D.L → result ≢ Err ParseError.Memory }
     {
         Self::try_from_utf8(alloc, text.as_bytes())
     }

@@ -89,7 +89,7 @@ fn split(text: &[u8]) -> Option<(Parts<'_>, u64)>
 #[inline]
 fn placed(parts: &Parts<'_>, number: u64) -> Short
     requires plain { parts.now.exponent ≡ None }
-    requires few { length parts.now.whole.now + length parts.now.fraction.now ≤ 16 }
+    requires at_most { length parts.now.whole.now + length parts.now.fraction.now ≤ 16 }
     requires digits { AllDigits 10 (parts.now.whole.now ++ parts.now.fraction.now) }
     requires number { number ≡ digits_value 16 (parts.now.whole.now ++ parts.now.fraction.now) % 2 ^ 64 }
     ensures { IsShort (read.value_of (view parts.now)) result.number result.len

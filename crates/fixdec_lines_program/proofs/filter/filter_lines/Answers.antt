@@ -33,7 +33,7 @@ returns-in_err-has_text-clause-ended g c =
     (g.E.Sink.has_failed c.print_line.new.err) e read h.error
     (λ other. let (out, err) = h.untouched other in
     (ap g.W.Sink.contents out, ap g.E.Sink.contents err, ap g.E.Sink.has_failed err))
-    (λ is. h.prefix (ap Err is)) (λ is. h.told_prefix (ap Err is)))
+    (λ is. h.prefix (ap Err is)) (λ is. h.reported_prefix (ap Err is)))
 
 pub loop-count-preserved : goal.loop-count-preserved
 loop-count-preserved g c =
@@ -46,7 +46,7 @@ loop-count-preserved g c =
     record {
       filtered = filtered_more _ _ _ _ _ _ _ _ _ _ _ c.loop-count.invariant.filtered u line
           (remaining c.read_line.new.input) (g.W.Sink.contents c.print_line.new.out)
-          (g.E.Sink.contents c.print_line.new.err) (g.E.Sink.has_failed c.print_line.new.err) read h.printed h.told
+          (g.E.Sink.contents c.print_line.new.err) (g.E.Sink.has_failed c.print_line.new.err) read h.printed h.reported
           (λ is. (h.text (ap Ok is)).0) (λ is. h.refused (ap Ok is));
       silent = λ both.
           let (one, two) = and_parts c.loop-count.have_texts u both in

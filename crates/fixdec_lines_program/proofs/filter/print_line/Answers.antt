@@ -19,8 +19,8 @@ returns-in-Err-skip_line-clause-prefix g c = λ _.
     subst (AppendsPrefix (contents c.args.out.now) (contents c.skip_line.new.out))
     (sym (skipped_output c.in-Err.error line calls h s)) empty
 
-pub returns-in-Err-skip_line-clause-told_prefix : goal.returns-in-Err-skip_line-clause-told_prefix
-returns-in-Err-skip_line-clause-told_prefix g c = λ _.
+pub returns-in-Err-skip_line-clause-reported_prefix : goal.returns-in-Err-skip_line-clause-reported_prefix
+returns-in-Err-skip_line-clause-reported_prefix g c = λ _.
     let contents = g.E.Sink.contents in
     let has_failed = g.E.Sink.has_failed in
     let s : status_of_run c.in-Err.error ≡ 1 = search rules in
@@ -28,4 +28,4 @@ returns-in-Err-skip_line-clause-told_prefix g c = λ _.
     (TakesMore (contents c.args.err.now) (has_failed c.args.err.now)
     (contents c.skip_line.new.err) (has_failed c.skip_line.new.err))
     (sym (skipped_told c.in-Err.error c.args.line.now c.args.calls.now c.in-Err.ensures.refused s c.args.number))
-    c.skip_line.ensures.told
+    c.skip_line.ensures.reported

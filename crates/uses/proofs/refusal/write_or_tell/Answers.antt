@@ -24,8 +24,9 @@ returns-in_default-error g c =
     let same = c.in-Err.ensures.untouched c.in_default-error.not-Sink in
     let told = inr (c.in-Err.error, c.in-Err.ensures.refused, c.in_default-error.not-Sink, refl) in
     record {
-      told =
-          on_ok_weaker c.tell.result (λ p. (run_error_text c.in-Err.error, told, p)) (rw same at c.tell.ensures.told);
+      reported =
+          on_ok_weaker c.tell.result (λ p. (run_error_text c.in-Err.error, told, p))
+          (rw same at c.tell.ensures.reported);
       memory = λ e. (c.in-Err.error, c.in-Err.ensures.refused, c.in_default-error.not-Sink);
       untouched = λ e. c.tell.ensures.untouched e ∙ same;
       prefix = λ e. (run_error_text c.in-Err.error, told, rw same at (c.tell.ensures.prefix e));

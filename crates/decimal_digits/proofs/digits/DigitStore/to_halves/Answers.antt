@@ -33,8 +33,10 @@ loop-index-preserved g c =
     let few : length ds ≤ 16 = omega (arith, c.len-len.ensures) in
     let i = c.loop-index.index in
     let digit : c.if-index-len.digit ≡ get_or (sixteen ds digits few) i 0 = elim c.if-index-len.branch [
-      | then-index-len w ↦ w.digit-is ∙ w.get-digit.ensures ∙ sixteen_digit ds digits few i (omega (arith, c.len-len.ensures))
-      | else-index-len w ↦ w.digit-is ∙ sixteen_zero ds digits few i (omega (arith, c.len-len.ensures)) c.loop-index-test.true
+      | then-index-len w ↦
+          w.digit-is ∙ w.get-digit.ensures ∙ sixteen_digit ds digits few i (omega (arith, c.len-len.ensures))
+      | else-index-len w ↦
+          w.digit-is ∙ sixteen_zero ds digits few i (omega (arith, c.len-len.ensures)) c.loop-index-test.true
     ] in
     ap (λ n. n * 16 + c.from.result) c.loop-index.invariant
     ∙ sixteen_next ds digits few i c.from.result c.loop-index-test.true (c.from.ensures ∙ digit)

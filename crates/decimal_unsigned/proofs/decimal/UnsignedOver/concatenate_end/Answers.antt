@@ -9,8 +9,8 @@ append-requires-clause-disjoint g c =
     disjoint c.args.self.now c.args.other p q (sym c.overlaps.ensures ∙ c.if-overlaps.false)
 
 -- the branch is not reached where the second number begins below the last digit of the first
-pub returns-then-overlaps-clause-apart : goal.returns-then-overlaps-clause-apart
-returns-then-overlaps-clause-apart g c = λ below e.
+pub returns-then-overlaps-clause-disjoint : goal.returns-then-overlaps-clause-disjoint
+returns-then-overlaps-clause-disjoint g c = λ below e.
     let f = not_overlapping c.args.self.now c.args.other (λ p q. below) in
     cc (c.overlaps.ensures, c.if-overlaps.true)
 

@@ -7,5 +7,5 @@ returns-clause-grammar g c = rw (sym c.as_bytes.ensures.value) c.try_from_utf8.e
 pub returns-clause-plain : goal.returns-clause-plain
 returns-clause-plain g c = rw (sym c.as_bytes.ensures.value) c.try_from_utf8.ensures.plain
 
-pub returns-clause-few : goal.returns-clause-few
-returns-clause-few g c = rw (sym c.as_bytes.ensures.value) c.try_from_utf8.ensures.few
+pub returns-clause-at_most : goal.returns-clause-at_most
+returns-clause-at_most g c = rw (sym c.as_bytes.ensures.value) c.try_from_utf8.ensures.at_most

@@ -8,5 +8,5 @@ returns-clause-grammar g c = answers_grammar _ c.args.text.now _ c.read_from.ens
 pub returns-clause-plain : goal.returns-clause-plain
 returns-clause-plain g c = never_limit _ c.args.text.now _ c.read_from.ensures
 
-pub returns-clause-few : goal.returns-clause-few
-returns-clause-few g c = never_memory g.D.DigitStore.L c.args.text.now _ c.read_from.ensures
+pub returns-clause-at_most : goal.returns-clause-at_most
+returns-clause-at_most g c = never_memory g.D.DigitStore.L c.args.text.now _ c.read_from.ensures

@@ -23,5 +23,5 @@ returns-in-Some-Some g c =
     c.cmp.ensures
     ∙ (λ k. nat_cmp (c.in-Some-Some.ensures.number k) (c.in-Some-Some.ensures'.number k))
     ∙ halves_order ds es (g.met.D.DigitStore.are_digits c.args.digits.now)
-    (g.met.E.DigitStore.are_digits c.args.other.now) c.in-Some-Some.ensures.few c.in-Some-Some.ensures'.few
+    (g.met.E.DigitStore.are_digits c.args.other.now) c.in-Some-Some.ensures.at_most c.in-Some-Some.ensures'.at_most
     c.requires.stripped.back c.requires.other_stripped.back
