@@ -87,7 +87,9 @@ fn sixteen_digits(number: u64) -> u64
     high * 100_000_000 + low
 }
 
-/// The number that the first digits write, with zeros behind the last one, where they are sixteen at most.
+/// The number that the first digits write, with zeros behind the last one, by one look at all of them.
+///
+/// None: no digits are asked for, or there are more than sixteen, asked for or in the list.
 #[inline]
 fn leading_few<D: DigitStore>(digits: &D, count: usize) -> Option<u64>
     ensures { IfSome result (λ number. number ≡ leading count (D.digits digits.now)) }
