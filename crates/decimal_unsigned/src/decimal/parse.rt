@@ -190,12 +190,24 @@ impl<D: DigitStore> UnsignedOver<D> {
     }
 
     /// The value that a text writes.
+    #[inline]
     fn read_from(alloc: Global, text: &[u8]) -> Result<Self, ParseError>
         ensures { Answers (λ v. D.L < size v.number) result (read text.now) }
     {
         if let Some(value) = Self::from_short_text(alloc, text) {
             return Ok(value);
         }
+        // A `Result` handed on as it is would be copied through memory for a short text too.
+        let value = Self::scan_from(alloc, text)?;
+        Ok(value)
+    }
+
+    /// The value that a text of any length writes.
+    // Behind a call it has its own place for what it makes, which a short text then does not fill with zeros.
+    #[inline(never)]
+    fn scan_from(alloc: Global, text: &[u8]) -> Result<Self, ParseError>
+        ensures { Answers (λ v. D.L < size v.number) result (read text.now) }
+    {
         let scan = Scan::new(text)?;
         let Ok(value) = scan.value(alloc) else {
             return Err(ParseError::Memory);
