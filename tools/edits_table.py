@@ -6,7 +6,7 @@
   edits_table.py --open        lists the public clauses that stand in no row
 
 A row's function, clause and edit come from the log. Its witness is written by hand, and stays with its edit. Where the
-log cuts the name of a goal off before it names a clause, the clause of the row stays too. What the log does not name of
+log does not name a clause, or cuts its name off, the clause of the row stays too. What the log does not name of
 the crates stays as it is.
 """
 import difflib
@@ -172,16 +172,16 @@ class Sources:
 
 
 def clause_of(goal, clauses, is_cut):
-    """The clause that a goal belongs to, or None where its name is cut off too early to tell."""
+    """The clause that a goal belongs to, or None where its name does not tell, or is cut off too early."""
     told = re.search(r"-clause-(\w*)$", goal)
     if told:
         fit = [it for it in clauses if it == told[1]] or [it for it in clauses if is_cut and it.startswith(told[1])]
         if len(fit) == 1 or not is_cut:
             return f"`{fit[0] if fit else told[1]}`"
         return None
-    if is_cut and len(clauses) > 1:
+    if len(clauses) != 1:
         return None
-    return f"`{clauses[0]}`" if len(clauses) == 1 and clauses[0] else ONLY
+    return f"`{clauses[0]}`" if clauses[0] else ONLY
 
 
 def read_message(sources, crate, message):
@@ -201,6 +201,9 @@ def read_message(sources, crate, message):
         return label, (f"`{named[1]}`" if named else "a lemma") + IN_PROOF
     if "what the function ensures" in said:
         return label, None
+    asked = re.search(r"\(`(\w+)-requires-clause-(\w+)`", said)
+    if asked:
+        return label, f"no clause: `{asked[2]}` of `{asked[1]}`, which it calls"
     return label, "no clause: " + re.split(r" \(`|;", said)[0].replace("it is not proved that ", "")
 
 
