@@ -5,13 +5,13 @@ use Rattle.std.specs.Int.{w32, w64, to_be_bytes, from_be_bytes, bytes_high_first
 use Rattle.std.specs.Int.Digits.{number_from_digits_after, number_from_digits, AllBelowBase}
 use Rattle.std.proofs.Math.Nat.{pow-suc, pow-le-pow_right}
 use Rattle.std.proofs.Math.Seq.{get_or-append_right}
-use Rattle.std.proofs.lemmas.Nat.{div-mul-add, mod-mul-add}
+use Rattle.std.proofs.lemmas.Nat.{div-mul-add, mod-mul-add, pow-add}
 use Rattle.std.proofs.lemmas.List.{length-append, length-replicate, length-take, length-take-le, take_all, take-take, get_or-take, append_assoc, replicate-append-replicate, get_or_append_left, get_or-replicate}
 use Rattle.std.proofs.lemmas.List.Elements.{All-from_recursion, recursion_from_All}
 use Rattle.std.proofs.lemmas.Int.Digits.{number_lt, number_after_append, number_more}
 use Rattle.decimal_digits.specs.Halves.{halves, digits_in, front_bytes, halves_number, IsPacked}
-use Rattle.decimal_digits.specs.Packing.{Holds, length-halves, length_digits}
-use Rattle.decimal_digits.proofs.Halves.{halves-take, halves-append, halves-zeros}
+use Rattle.decimal_digits.specs.Packing.{Holds, IsHeld, held_digits, length-halves, length_digits, halves-take}
+use Rattle.decimal_digits.proofs.Halves.{halves-append, halves-zeros}
 use Rattle.decimal_digits.proofs.DigitLists.{below_take, number_after, number_zeros}
 use Rattle.decimal_digits.proofs.Packing.{holds, take_zeros}
 
@@ -25,6 +25,17 @@ squares (suc k) =
     let q : 16 ^ suc (2 * k) ≡ 16 ^ (2 * k) * 16 = pow-suc 16 (2 * k) in
     let r : 256 ^ suc k ≡ 256 ^ k * 256 = pow-suc 256 k in
     rw e (omega arith)
+
+-- a digit takes four bits
+pub hex_pow : (k : ℕ) → 2 ^ (4 * k) ≡ 16 ^ k
+hex_pow zero = refl
+hex_pow (suc k) =
+    let e : 4 * suc k ≡ 4 * k + 4 = omega arith in
+    let f : suc k ≡ k + 1 = omega arith in
+    let a : 2 ^ (4 * k + 4) ≡ 2 ^ (4 * k) * 2 ^ 4 = pow-add 2 (4 * k) 4 in
+    let b : 16 ^ (k + 1) ≡ 16 ^ k * 16 ^ 1 = pow-add 16 k 1 in
+    let h = hex_pow k in
+    rw (e, f) (omega arith)
 
 -- one byte of a number
 byte_is : (k high x low n : ℕ) → low < 256 ^ k → x < 256 → n ≡ (high * 256 + x) * 256 ^ k + low → byte_at k n ≡ x
@@ -124,11 +135,16 @@ front_digit number len i p h =
     ap (λ ds. get_or ds i 0) (front_halves number len) ∙ get_or-take len (halves (to_be_bytes w64 number)) i 0 h in
     subst (λ d. d < 10) e (p.decimal i 0 l)
 
--- as many bytes of a number as so many digits fill are its first bytes
-pub front_is : (number len count : ℕ) (bytes : List ℕ) → bytes ≡ take count (to_be_bytes w64 number)
-    → count ≡ (len + 1) / 2 → bytes ≡ front_bytes number len
+-- all bytes of the number hold them
+pub front_held : (number len : ℕ) → IsPacked (front_bytes number len) len → IsHeld (to_be_bytes w64 number) len
 unfolding front_bytes
-front_is number len count bytes e k = e ∙ ap (λ n. take n (to_be_bytes w64 number)) k
+front_held number len p = record { front = p; many = λ m. absurd (omega (arith, m)) }
+
+-- and no others
+pub front_digits : (number len : ℕ)
+    → digits_in (to_be_bytes w64 number) len ≡ digits_in (front_bytes number len) len
+unfolding front_bytes
+front_digits number len = sym (held_digits (to_be_bytes w64 number) len)
 
 -- ---- bytes and zeros behind them
 -- four bytes, and zeros behind the others up to the eighth
@@ -166,7 +182,7 @@ before_four bs few =
     ∙ ap (λ l. bs ++ l) (replicate-append-replicate (4 - length bs) 4 0 ∙ ap (λ j. replicate j 0) k))
 
 -- two halves of a byte count as much as the byte
-bytes_number : (n : ℕ) (bs : List ℕ)
+pub bytes_number : (n : ℕ) (bs : List ℕ)
     → number_from_digits_after 16 n (halves bs) ≡ number_from_digits_after 256 n bs
 unfolding halves
 bytes_number n [] = refl

@@ -8,11 +8,11 @@ use Rattle.std.specs.Char.{digit_value}
 use Rattle.std.specs.Str.Parse.{AllDigits}
 use Rattle.std.specs.List.{refill}
 use Rattle.decimal_digits.specs.Halves.{halves}
-use Rattle.decimal_digits.specs.Packing.{length-halves}
+use Rattle.decimal_digits.specs.Packing.{length-halves, halves-take}
 use Rattle.decimal_digits.proofs.Refills.{refill_same}
 use Rattle.decimal_digits.specs.Digits.{text_of}
 use Rattle.decimal_digits.proofs.DigitTexts.{letter_at, text_at}
-use Rattle.decimal_digits.proofs.Halves.{high_half, low_half, halves-set_high, halves-set_low, halves-append, halves-take, halves_shifted_from, halves_packed}
+use Rattle.decimal_digits.proofs.Halves.{high_half, low_half, halves-set_high, halves-set_low, halves-append, halves_shifted_from, halves_packed}
 
 -- a vector of which one element is written through its slice
 refill-set : (bs : List ℕ) (i v : ℕ) → refill (length bs) bs (set bs i v) ≡ set bs i v

@@ -52,15 +52,6 @@ unfolding halves
 halves-append [] ys = refl
 halves-append (x ∷ xs) ys = ap (λ l. x / 16 ∷ (x % 16 ∷ l)) (halves-append xs ys)
 
--- the halves of the first bytes
-pub halves-take : (k : ℕ) (bs : List ℕ) → halves (take k bs) ≡ take (2 * k) (halves bs)
-unfolding halves
-halves-take zero bs = refl
-halves-take (suc k) [] = let e : 2 * suc k ≡ suc (suc (2 * k)) = omega arith in rw e refl
-halves-take (suc k) (b ∷ bs) =
-    let e : 2 * suc k ≡ suc (suc (2 * k)) = omega arith in
-    rw e (ap (λ l. b / 16 ∷ (b % 16 ∷ l)) (halves-take k bs))
-
 -- the halves of the bytes behind them
 pub halves-drop : (k : ℕ) (bs : List ℕ) → halves (drop k bs) ≡ drop (2 * k) (halves bs)
 unfolding halves

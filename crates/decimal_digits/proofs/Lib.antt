@@ -18,3 +18,4 @@ pub mod Refills
 pub mod DigitTexts
 pub mod HalfRuns
 pub mod FrontBytes
+pub mod InPlace

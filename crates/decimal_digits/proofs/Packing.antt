@@ -1,11 +1,11 @@
 -- The digits that packed bytes hold.
 use Rattle.std.proofs.Common.{◌≡◌, ℕ, zero, suc, ◌+◌, ◌-◌, ◌*◌, ◌/◌, ◌%◌, ◌<◌, ◌≤◌, List, [], ◌∷◌, ◌++◌, length, set, take, drop, replicate, refl, sym, ◌∙◌, ap, subst, zero-add, arith, rules}
-use Rattle.std.proofs.lemmas.List.{length-append, length-take-le, length-drop, length-replicate, length-set, take_at, take-take, append-nil, append_assoc, drop-append-le, replicate-append-replicate, set-append_left, set_at, drop-drop}
+use Rattle.std.proofs.lemmas.List.{length-append, length-take-le, length-drop, length-replicate, length-set, take_at, take-take, append-nil, append_assoc, drop-append-le, replicate-append-replicate, set-append_left, set_at, drop-drop, drop-take, length-take}
 use Rattle.std.specs.Prelude.{All}
 use Rattle.std.proofs.lemmas.Grind.{elements}
 use Rattle.decimal_digits.specs.Halves.{halves, digits_in, IsPacked}
-use Rattle.decimal_digits.specs.Packing.{Holds, length-halves, length_digits}
-use Rattle.decimal_digits.proofs.Halves.{halves-append, halves-take, halves-drop, halves-zeros, same_bytes}
+use Rattle.decimal_digits.specs.Packing.{Holds, IsHeld, length-halves, length_digits, halves-take, held_digits}
+use Rattle.decimal_digits.proofs.Halves.{halves-append, halves-drop, halves-zeros, same_bytes}
 
 -- digits that are the halves of the bytes, but for a zero behind an odd number of them, are those that the bytes hold
 pub holds : (bytes ds : List ℕ) (len : ℕ) → halves bytes ≡ ds ++ replicate (len % 2) 0 → length ds ≡ len
@@ -281,3 +281,120 @@ holds_run_odd bs len p mid bs' xs d m q h e g =
     let l : digits_in mid (len + 1) ++ xs ≡ digits_in bs len ++ (d ∷ xs) =
     ap (λ l. l ++ xs) first.digits ∙ append_assoc (digits_in bs len) (d ∷ []) xs in
     rw (← n, ← l) all
+
+-- ---- bytes that hold digits in front of others
+-- the first of some places that are written
+take_written : (xs : List ℕ) (i m d : ℕ) → i < m → take m (set xs i d) ≡ set (take m xs) i d
+take_written [] i m d h = grind (arith, elements)
+take_written (x ∷ xs) i zero d h = absurd (omega arith)
+take_written (x ∷ xs) zero (suc m) d h = refl
+take_written (x ∷ xs) (suc i) (suc m) d h = ap (λ l. x ∷ l) (take_written xs i m d (omega arith))
+
+-- some of the first places
+take_between : (xs : List ℕ) (n from count : ℕ) → from + count ≤ length (take n xs)
+    → take count (drop from xs) ≡ take count (drop from (take n xs))
+take_between xs n from count h =
+    let few : from + count ≤ n = omega (arith, length-take n xs) in
+    let whole : from + (n - from) ≡ n = omega arith in
+    sym
+    (ap (λ k. take count (drop from (take k xs))) (sym whole)
+    ∙ ap (take count) (drop-take from (n - from) xs)
+    ∙ take-take count (n - from) (drop from xs) (omega arith))
+
+-- digits that lie between others
+pub digits_between : (bytes : List ℕ) (len from count : ℕ) → from + count ≤ length (digits_in bytes len)
+    → take count (drop from (halves bytes)) ≡ take count (drop from (digits_in bytes len))
+digits_between bytes len from count h = take_between (halves bytes) len from count h
+
+-- the digits of the first bytes, and of all, are the same where those are
+pub same_digits : (bs cs : List ℕ) (len n : ℕ) → len ≡ n → take ((len + 1) / 2) bs ≡ take ((n + 1) / 2) cs
+    → digits_in bs len ≡ digits_in cs n
+same_digits bs cs len n k e =
+    sym (held_digits bs len) ∙ ap (λ l. digits_in l len) e ∙ ap (digits_in (take ((n + 1) / 2) cs)) k ∙ held_digits cs n
+
+-- up to eight bytes hold no digits
+pub held_none : (bs : List ℕ) → (8 < length bs → length bs ≡ 0) → IsHeld bs 0
+held_none bs many = record { front = holds_none.packed; many = many }
+
+module _ (bs : List ℕ) (len : ℕ) (p : IsHeld bs len) where
+  abbrev front : List ℕ
+  front = take ((len + 1) / 2) bs
+
+  -- the first bytes hold the digits
+  pub front_holds_digits : Holds (take ((len + 1) / 2) bs) len (digits_in bs len)
+  front_holds_digits = record { packed = p.front; digits = held_digits bs len }
+
+  -- a digit is written
+  pub held_set : (bs' : List ℕ) (index d : ℕ) → index < len → d < 10 → halves bs' ≡ set (halves bs) index d
+      → IsHeld bs' len × (digits_in bs' len ≡ set (digits_in bs len) index d)
+  held_set bs' index d h q e =
+      let k = (len + 1) / 2 in
+      let f : halves (take k bs') ≡ set (halves front) index d =
+      halves-take k bs'
+      ∙ ap (take (2 * k)) e
+      ∙ take_written (halves bs) index (2 * k) d (omega arith)
+      ∙ ap (λ l. set l index d) (sym (halves-take k bs)) in
+      let w = holds_set front len p.front (take k bs') index d h q f in
+      let same : length bs' ≡ length bs =
+      omega (arith, length-halves bs, length-halves bs', ap length e, length-set (halves bs) index d) in (
+        record { front = w.packed; many = λ m. same ∙ p.many (omega arith) },
+        sym (held_digits bs' len) ∙ w.digits ∙ ap (λ l. set l index d) (held_digits bs len),
+      )
+
+  -- the first bytes of the first
+  front_take : (count k : ℕ) → count ≤ len → k ≡ (count + 1) / 2 → take k front ≡ take k bs
+  front_take count k h e = take-take k ((len + 1) / 2) bs (omega arith)
+
+  -- the first bytes that stay hold an even number of digits
+  pub held_keep_even : (mid : List ℕ) (count : ℕ) → count ≤ len → count % 2 ≡ 0
+      → take ((count + 1) / 2) mid ≡ take ((count + 1) / 2) bs
+      → (8 < length mid → length mid ≡ (count + 1) / 2)
+      → IsHeld mid count × (digits_in mid count ≡ take count (digits_in bs len))
+  held_keep_even mid count h m e many =
+      let k = (count + 1) / 2 in
+      let w = holds_take_even front len p.front count k h m refl in
+      let same : take k mid ≡ take k front = e ∙ sym (front_take count k h refl) in (
+        record { front = rw same w.packed; many = many },
+        sym (held_digits mid count)
+            ∙ ap (λ l. digits_in l count) same
+            ∙ w.digits
+            ∙ ap (take count) (held_digits bs len),
+      )
+
+  -- the first bytes that stay hold an odd number of digits once their last half is 0
+  pub held_keep_odd : (mid bs' : List ℕ) (count : ℕ) → count ≤ len → count % 2 ≡ 1
+      → take ((count + 1) / 2) mid ≡ take ((count + 1) / 2) bs
+      → (8 < length mid → length mid ≡ (count + 1) / 2) → halves bs' ≡ set (halves mid) count 0
+      → IsHeld bs' count × (digits_in bs' count ≡ take count (digits_in bs len))
+  held_keep_odd mid bs' count h m e many g =
+      let k = (count + 1) / 2 in
+      let f : halves (take k bs') ≡ set (halves (take k front)) count 0 =
+      halves-take k bs'
+      ∙ ap (take (2 * k)) g
+      ∙ take_written (halves mid) count (2 * k) 0 (omega arith)
+      ∙ ap (λ l. set l count 0) (sym (halves-take k mid) ∙ ap halves (e ∙ sym (front_take count k h refl))) in
+      let w = holds_take_odd front len p.front (take k bs') count k h m refl f in
+      let same : length bs' ≡ length mid =
+      omega (arith, length-halves mid, length-halves bs', ap length g, length-set (halves mid) count 0) in (
+        record { front = w.packed; many = λ l. same ∙ many (omega arith) },
+        sym (held_digits bs' count) ∙ w.digits ∙ ap (take count) (held_digits bs len),
+      )
+
+  -- the first bytes behind an even number of digits
+  pub held_drop_even : (count : ℕ) → count ≤ len → count % 2 ≡ 0
+      → Holds (drop (count / 2) (take ((len + 1) / 2) bs)) (len - count) (drop count (digits_in bs len))
+  held_drop_even count h m = rw (← held_digits bs len) (holds_drop_even front len p.front count h m)
+
+  -- the first bytes behind an odd number of digits, shifted by a half
+  pub held_drop_odd : (bs' : List ℕ) (count k : ℕ) → count ≤ len → count % 2 ≡ 1 → k ≡ (len - count + 1) / 2
+      → halves bs' ≡ drop 1 (halves (drop (count / 2) (take ((len + 1) / 2) bs))) ++ 0 ∷ []
+      → Holds (take k bs') (len - count) (drop count (digits_in bs len))
+  held_drop_odd bs' count k h m e g =
+      rw (← held_digits bs len) (holds_drop_odd front len p.front bs' count k h m e g)
+
+  -- the first bytes that hold the same digits are the same
+  pub same_front : (cs : List ℕ) (n : ℕ) → IsHeld cs n → digits_in bs len ≡ digits_in cs n
+      → (len ≡ n) × (take ((len + 1) / 2) bs ≡ take ((n + 1) / 2) cs)
+  same_front cs n q e =
+      same_store front len p.front (take ((n + 1) / 2) cs) n q.front
+      (held_digits bs len ∙ e ∙ sym (held_digits cs n))

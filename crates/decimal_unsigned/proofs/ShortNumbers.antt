@@ -17,7 +17,7 @@ use Rattle.decimal_digits.specs.Tails.{leading}
 use Rattle.decimal_digits.specs.Packing.{Holds}
 use Rattle.decimal_digits.proofs.DigitLists.{below_take, below_drop, number_after, number_zeros, number-div}
 use Rattle.decimal_digits.proofs.Leading.{leading_none}
-use Rattle.decimal_digits.proofs.FrontBytes.{below_sixteen, front_holds, halves_of_bytes, sixteen, sixteen_are, sixteen_digits, sixteen_digit, sixteen_zero}
+use Rattle.decimal_digits.proofs.FrontBytes.{hex_pow, below_sixteen, front_holds, halves_of_bytes, sixteen, sixteen_are, sixteen_digits, sixteen_digit, sixteen_zero}
 use Rattle.decimal_unsigned.specs.Placing.{middle, IsInner}
 use Rattle.decimal_unsigned.proofs.Numerals.{value_of_digit}
 use Rattle.decimal_unsigned.proofs.WholeNumbers.{leading_next}
@@ -67,17 +67,6 @@ both_write front behind number more e f =
     ∙ after_mod (digits_value 16 front) behind ∙ ap (λ m. m % 2 ^ 64) (sym (after_append 0 front behind))
 
 -- ---- The digits from one up to another.
--- a digit takes four bits
-hex_pow : (k : ℕ) → 2 ^ (4 * k) ≡ 16 ^ k
-hex_pow zero = refl
-hex_pow (suc k) =
-    let e : 4 * suc k ≡ 4 * k + 4 = omega arith in
-    let f : suc k ≡ k + 1 = omega arith in
-    let a : 2 ^ (4 * k + 4) ≡ 2 ^ (4 * k) * 2 ^ 4 = pow-add 2 (4 * k) 4 in
-    let b : 16 ^ (k + 1) ≡ 16 ^ k * 16 ^ 1 = pow-add 16 k 1 in
-    let h = hex_pow k in
-    rw (e, f) (omega arith)
-
 -- a shift drops the digits behind, and a shift back those in front
 pub shifted_middle : (ds : List ℕ) (start end : ℕ) → AllBelowBase 10 ds → start < end → end ≤ length ds → length ds ≤ 16
     → number_from_digits 16 ds / 2 ^ (4 * (length ds - end)) * 2 ^ (4 * (16 - (end - start))) % 2 ^ 64

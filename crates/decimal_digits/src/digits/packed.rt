@@ -1,6 +1,7 @@
 //! A list of digits with two digits to a byte.
-ghost use Rattle.std.specs.Prelude.{ℕ, ◌-◌, ◌*◌, ◌≤◌};
-ghost use Rattle.decimal_digits.specs.Halves.{digits_in, IsPacked};
+ghost use Rattle.std.specs.Prelude.{◌≡◌, ℕ, ◌+◌, ◌-◌, ◌*◌, ◌/◌, ◌≤◌, take};
+ghost use Rattle.decimal_digits.specs.Halves.{digits_in};
+ghost use Rattle.decimal_digits.specs.Packing.{IsHeld};
 
 mod bulk;
 mod bytes;
@@ -9,11 +10,11 @@ mod halves;
 use super::DigitStore;
 use bulk::{append_text, count_halves_back, write_text};
 use bytes::{
-    append_digits, append_zeros, are_equal, copy_bytes, cut_digits, first_bytes, keep_digits,
-    pack_digits, push_digit, reserve_digits, set_digit, word,
+    append_digits, append_zeros, are_equal, copy_bytes, cut_digits, drop_many, drop_unused,
+    in_place, keep_digits, pack_digits, push_digit, reserve_digits, set_digit, word,
 };
+use halves::byte_count;
 pub(super) use halves::half_at;
-use halves::{byte_count, keep_bytes};
 use smallvec::SmallVec;
 use std::alloc::{AllocError, Global};
 
@@ -21,19 +22,29 @@ use std::alloc::{AllocError, Global};
 ///
 /// The digit at index `i` is in byte `i / 2`, that at an even index in the high half, and with an odd number of digits
 /// the low half of the last byte is 0. The list that `from_digits` makes of 2, 5 and 0 has the bytes 0x25 and 0x00 and
-/// no allocation. Not in the original.
+/// no allocation. What stands behind them in the eight bytes in place means nothing. Not in the original.
 #[derive(Debug, Drop)]
 pub struct PackedDigits {
     bytes: SmallVec<u8, 8>,
     len: usize,
     ghost inline: { 8 ≤ bytes.capacity },
-    ghost packed: { IsPacked bytes.items len },
+    ghost held: { IsHeld bytes.items len },
 }
 
-#[tactic(auto, using(crate::specs::Packing::length_digits))]
+impl PackedDigits {
+    /// The bytes of the digits.
+    #[inline]
+    fn front(&self) -> &[u8]
+        ensures { result.now ≡ take ((self.now.len + 1) / 2) self.now.bytes.items }
+    {
+        &self.bytes.as_slice()[..byte_count(self.len)]
+    }
+}
+
+#[tactic(auto, using(crate::specs::Packing::held))]
 impl DigitStore for PackedDigits {
     ghost use Rattle.std.proofs.Common.{arith};
-    ghost use Rattle.decimal_digits.specs.Packing.{roomy};
+    ghost use Rattle.decimal_digits.specs.Packing.{roomy, held_decimal};
 
     ghost digits = { λ s. digits_in s.bytes.items s.len };
 
@@ -45,9 +56,9 @@ impl DigitStore for PackedDigits {
 
     ghost enough = { Prim.omega arith };
 
-    ghost roomy = { λ s. roomy s.bytes.items s.bytes.capacity s.len s.inline s.packed };
+    ghost roomy = { λ s. roomy s.bytes.items s.bytes.capacity s.len s.inline s.held };
 
-    ghost are_digits = { λ s. s.packed.decimal };
+    ghost are_digits = { λ s. held_decimal s.bytes.items s.len s.held };
 
     #[inline]
     fn empty(alloc: Global) -> Self {
@@ -67,8 +78,9 @@ impl DigitStore for PackedDigits {
 
     #[inline]
     fn from_halves(alloc: Global, number: u64, len: usize) -> Result<Self, AllocError> {
+        // All eight bytes stay, since to cut them would take longer than all else.
         Ok(PackedDigits {
-            bytes: first_bytes(alloc, number, byte_count(len)),
+            bytes: SmallVec::from_buf(alloc, number.to_be_bytes()),
             len,
         })
     }
@@ -78,7 +90,10 @@ impl DigitStore for PackedDigits {
         if self.len > 16 {
             return None;
         }
-        Some(word(self.bytes.as_slice()))
+        match in_place(&self.bytes, self.len) {
+            Some(number) => Some(number),
+            None => Some(word(self.front())),
+        }
     }
 
     fn clone(&self) -> Result<Self, AllocError> {
@@ -106,11 +121,13 @@ impl DigitStore for PackedDigits {
 
     #[inline]
     fn push_in_room(&mut self, digit: u8) {
+        drop_unused(&mut self.bytes, self.len);
         push_digit(&mut self.bytes, self.len, digit);
         self.len += 1;
     }
 
     fn push_text(&mut self, text: &[u8]) {
+        drop_unused(&mut self.bytes, self.len);
         append_text(&mut self.bytes, self.len, text);
         self.len += text.len();
     }
@@ -129,6 +146,7 @@ impl DigitStore for PackedDigits {
 
     fn reserve(&mut self, count: usize) -> Result<(), AllocError> {
         let total = self.len.checked_add(count).ok_or(AllocError)?;
+        drop_unused(&mut self.bytes, self.len);
         reserve_digits(&mut self.bytes, total)
     }
 
@@ -143,22 +161,32 @@ impl DigitStore for PackedDigits {
     }
 
     fn clear(&mut self) {
-        keep_bytes(&mut self.bytes, 0);
+        drop_many(&mut self.bytes, 0);
         self.len = 0;
     }
 
     fn append(&mut self, zeros: usize, other: &Self) -> Result<(), AllocError> {
         let start = self.len.checked_add(zeros).ok_or(AllocError)?;
         let total = start.checked_add(other.len).ok_or(AllocError)?;
+        drop_unused(&mut self.bytes, self.len);
         reserve_digits(&mut self.bytes, total)?;
         append_zeros(&mut self.bytes, self.len, zeros);
-        append_digits(&mut self.bytes, start, other.bytes.as_slice(), other.len);
+        append_digits(&mut self.bytes, start, other.front(), other.len);
         self.len = total;
         Ok(())
     }
 
     #[inline]
     fn eq(&self, other: &Self) -> bool {
-        self.len == other.len && are_equal(self.bytes.as_slice(), other.bytes.as_slice())
+        if self.len != other.len {
+            return false;
+        }
+        match (
+            in_place(&self.bytes, self.len),
+            in_place(&other.bytes, other.len),
+        ) {
+            (Some(left), Some(right)) => left == right,
+            _ => are_equal(self.front(), other.front()),
+        }
     }
 }

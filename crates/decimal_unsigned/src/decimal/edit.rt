@@ -1,6 +1,6 @@
 //! Shifts, and edits of the range that is shown.
-ghost use Rattle.std.specs.Prelude.{◌≡◌, ℕ, ◌<◌, ◌≤◌, length, drop, slice_index, pos, ◌+ℤ◌, Some, None, IsOk, IfOk, IfErr, OnOk, OnErr, ◌↔◌};
-ghost use Rattle.std.specs.Int.{int_gap};
+ghost use Rattle.std.specs.Prelude.{◌≡◌, ℕ, ◌<◌, ◌≤◌, ◌⊎◌, length, drop, slice_index, pos, negsuc, ◌+ℤ◌, ◌≤ℤ◌, ◌<ℤ◌, Some, None, IsOk, IfOk, IfErr, IfSome, IfNone, OnOk, OnErr, ◌↔◌};
+ghost use Rattle.std.specs.Int.{int_gap, int_max, int_min};
 ghost use Rattle.decimal_unsigned.specs.Unsigned.{Unsigned, IsValue, IsLeastHi, IsGreatestLo};
 ghost use Rattle.decimal_unsigned.specs.Edits.{multiplied, multiplied_pow10, StaysInLimits, trimmed_start, trimmed_end, trimmed_end_if_integer, padded_start, padded_end, with_max_position};
 ghost use Rattle.decimal_unsigned.specs.EditLaws.{TrimmedIsNormalForm, IsShortest, trunced, PartsJoin};
@@ -26,21 +26,17 @@ impl<D: DigitStore> UnsignedOver<D> {
         ensures fits { IsOk result ↔ StaysInLimits self.old delta }
         ensures moved { OnOk result (self.new ≡ multiplied self.old delta) }
     {
-        let hi = sum(self.hi, delta);
-        let lo = sum(self.lo, delta);
-        if hi > 32767 || lo < -32768 {
+        let Some((hi, lo)) = moved_range(self.hi, self.lo, delta) else {
             return Err(LimitError);
-        }
+        };
         let magnitude = if self.digits.len() == 0 {
             0
         } else {
             narrowed(sum(self.magnitude, delta))
         };
-        let upper = at_least_zero(hi);
-        let lower = at_most_zero(lo);
         self.magnitude = magnitude;
-        self.hi = upper;
-        self.lo = lower;
+        self.hi = hi;
+        self.lo = lo;
         Ok(())
     }
 
@@ -209,6 +205,32 @@ fn places_from(position: i16, magnitude: i16) -> usize
     ensures { result ≡ int_gap position (magnitude +ℤ pos 1) }
 {
     places_above(position, magnitude).unwrap_or(0)
+}
+
+/// Gives the range from `hi` to `lo` moved by a distance, with magnitude 0 still in it.
+///
+/// None where the moved range would leave the magnitudes -32768 to 32767.
+#[inline]
+fn moved_range(hi: i16, lo: i16, delta: i16) -> Option<(i16, i16)>
+    requires highest { pos 0 ≤ℤ hi }
+    requires lowest { lo ≤ℤ pos 0 }
+    ensures hi { IfSome result (λ range. range.0 ≡ int_max (hi +ℤ delta) (pos 0)) }
+    ensures lo { IfSome result (λ range. range.1 ≡ int_min (lo +ℤ delta) (pos 0)) }
+    ensures fits { IfSome result (λ _. ((hi +ℤ delta) ≤ℤ pos 32767) × (negsuc 32767 ≤ℤ (lo +ℤ delta))) }
+    ensures none { IfNone result ((pos 32767 <ℤ (hi +ℤ delta)) ⊎ ((lo +ℤ delta) <ℤ negsuc 32767)) }
+{
+    if delta < 0 {
+        let lower = sum(lo, delta);
+        if lower < -32768 {
+            return None;
+        }
+        return Some((at_least_zero(sum(hi, delta)), narrowed(lower)));
+    }
+    let upper = sum(hi, delta);
+    if upper > 32767 {
+        return None;
+    }
+    Some((narrowed(upper), at_most_zero(sum(lo, delta))))
 }
 
 /// Finds the first digit from an index on that is not 0: its index, or the number of digits where there is none.

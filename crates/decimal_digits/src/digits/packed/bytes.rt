@@ -1,10 +1,9 @@
 //! Lists of digits packed into bytes, two to a byte.
-ghost use Rattle.std.specs.Prelude.{◌≡◌, ℕ, ◌+◌, ◌-◌, ◌*◌, ◌^◌, ◌<◌, ◌≤◌, ◌↔◌, [], ◌∷◌, ◌++◌, length, take, drop, replicate, slice_set, All, IsTrue, IsOk, IfOk, OnOk};
-ghost use Rattle.std.specs.Int.{w64, to_be_bytes};
+ghost use Rattle.std.specs.Prelude.{◌≡◌, ℕ, ◌+◌, ◌-◌, ◌*◌, ◌^◌, ◌<◌, ◌≤◌, ◌↔◌, [], ◌∷◌, ◌++◌, length, take, drop, replicate, slice_set, All, IsTrue, IsOk, IfOk, IfSome, OnOk};
 ghost use Rattle.std.specs.Int.Digits.{number_from_digits};
 ghost use Rattle.smallvec.specs.SmallVec.{small_vec_len};
-ghost use Rattle.decimal_digits.specs.Halves.{digits_in, IsPacked};
-ghost use Rattle.decimal_digits.specs.Packing.{Holds};
+ghost use Rattle.decimal_digits.specs.Halves.{digits_in, halves_number, IsPacked};
+ghost use Rattle.decimal_digits.specs.Packing.{Holds, IsHeld};
 
 use super::halves::{
     byte_count, drop_bytes, join_halves, keep_bytes, pack, push_pairs, push_zeros, set_half,
@@ -34,27 +33,14 @@ pub(super) fn pack_digits(alloc: Global, digits: &[u8]) -> Result<SmallVec<u8, 8
     Ok(bytes)
 }
 
-/// The first bytes of a number, the highest one first.
-///
-/// Each cut has a constant length, so that the bytes stay in a register.
+/// Drops the bytes behind those of the digits.
 #[inline]
-pub(super) fn first_bytes(alloc: Global, number: u64, count: usize) -> SmallVec<u8, 8>
-    ensures items { result.items ≡ take count (to_be_bytes w64 number) }
-    ensures capacity { result.capacity ≡ 8 }
+pub(super) fn drop_unused(bytes: &mut SmallVec<u8, 8>, len: usize)
+    requires { IsHeld bytes.old.items len }
+    ensures holds { Holds bytes.new.items len (digits_in bytes.old.items len) }
+    ensures capacity { bytes.new.capacity ≡ bytes.old.capacity }
 {
-    let mut bytes = SmallVec::from_buf(alloc, number.to_be_bytes());
-    match count {
-        0 => bytes.truncate(0),
-        1 => bytes.truncate(1),
-        2 => bytes.truncate(2),
-        3 => bytes.truncate(3),
-        4 => bytes.truncate(4),
-        5 => bytes.truncate(5),
-        6 => bytes.truncate(6),
-        7 => bytes.truncate(7),
-        _ => {}
-    }
-    bytes
+    keep_bytes(bytes, byte_count(len));
 }
 
 /// Copies bytes.
@@ -68,6 +54,9 @@ pub(super) fn copy_bytes(bytes: &SmallVec<u8, 8>) -> Result<SmallVec<u8, 8>, All
     let items = bytes.as_slice();
     if items.len() > 8 {
         return Ok(SmallVec::from_vec(Vec::from_slice(alloc, items)?));
+    }
+    if let Some(all) = items.first_chunk::<8>() {
+        return Ok(SmallVec::from_buf(alloc, *all));
     }
     // For so few a loop is quicker than a call.
     let mut copy = SmallVec::new(alloc);
@@ -92,10 +81,11 @@ pub(super) fn reserve_digits(bytes: &mut SmallVec<u8, 8>, total: usize) -> Resul
 /// Puts a digit in the place of the one at an index.
 #[inline]
 pub(super) fn set_digit(bytes: &mut SmallVec<u8, 8>, len: usize, index: usize, digit: u8)
-    requires packed { IsPacked bytes.old.items len }
+    requires held { IsHeld bytes.old.items len }
     requires in_range { index < len }
     requires is_digit { digit < 10 }
-    ensures holds { Holds bytes.new.items len (slice_set (digits_in bytes.old.items len) index digit) }
+    ensures held { IsHeld bytes.new.items len }
+    ensures digits { digits_in bytes.new.items len ≡ slice_set (digits_in bytes.old.items len) index digit }
     ensures capacity { bytes.new.capacity ≡ bytes.old.capacity }
 {
     set_half(bytes, index, digit);
@@ -153,6 +143,22 @@ pub(super) fn word(bytes: &[u8]) -> u64
     }
 }
 
+/// The number in base 16 with sixteen places whose first digits these are, where eight bytes lie in place.
+#[inline]
+pub(super) fn in_place(bytes: &SmallVec<u8, 8>, len: usize) -> Option<u64>
+    requires { IsHeld bytes.now.items len }
+    ensures number { IfSome result (λ number. number ≡ halves_number (digits_in bytes.now.items len)) }
+    ensures at_most { IfSome result (λ number. len ≤ 16) }
+{
+    let items = bytes.as_slice();
+    if len == 0 || len > 16 || items.len() != 8 {
+        return None;
+    }
+    // What stands behind the digits means nothing.
+    let unused = 4 * (16 - len);
+    Some(word(items) >> unused << unused)
+}
+
 /// How many bytes are compared with no call: those of 48 digits.
 const FEW: usize = 24;
 
@@ -181,14 +187,29 @@ pub(super) fn are_equal(left: &[u8], right: &[u8]) -> bool
     left == right
 }
 
-/// Keeps the first digits.
-pub(super) fn keep_digits(bytes: &mut SmallVec<u8, 8>, len: usize, count: usize)
-    requires packed { IsPacked bytes.old.items len }
-    requires in_range { count ≤ len }
-    ensures holds { Holds bytes.new.items count (take count (digits_in bytes.old.items len)) }
+/// Keeps the first bytes, and all bytes in place, of which those behind the digits mean nothing.
+#[inline]
+pub(super) fn drop_many(bytes: &mut SmallVec<u8, 8>, count: usize)
+    requires { count ≤ small_vec_len bytes.old }
+    ensures front { take count bytes.new.items ≡ take count bytes.old.items }
+    ensures within { count ≤ small_vec_len bytes.new }
+    ensures many { 8 < small_vec_len bytes.new → small_vec_len bytes.new ≡ count }
     ensures capacity { bytes.new.capacity ≡ bytes.old.capacity }
 {
-    keep_bytes(bytes, byte_count(count));
+    if bytes.len() > 8 {
+        keep_bytes(bytes, count);
+    }
+}
+
+/// Keeps the first digits.
+pub(super) fn keep_digits(bytes: &mut SmallVec<u8, 8>, len: usize, count: usize)
+    requires held { IsHeld bytes.old.items len }
+    requires in_range { count ≤ len }
+    ensures held { IsHeld bytes.new.items count }
+    ensures digits { digits_in bytes.new.items count ≡ take count (digits_in bytes.old.items len) }
+    ensures capacity { bytes.new.capacity ≡ bytes.old.capacity }
+{
+    drop_many(bytes, byte_count(count));
     if count % 2 == 1 {
         set_half(bytes, count, 0);
     }
@@ -196,12 +217,12 @@ pub(super) fn keep_digits(bytes: &mut SmallVec<u8, 8>, len: usize, count: usize)
 
 /// Drops the first digits.
 pub(super) fn cut_digits(bytes: &mut SmallVec<u8, 8>, len: usize, count: usize)
-    requires packed { IsPacked bytes.old.items len }
+    requires held { IsHeld bytes.old.items len }
     requires in_range { count ≤ len }
     ensures holds { Holds bytes.new.items (len - count) (drop count (digits_in bytes.old.items len)) }
     ensures capacity { bytes.new.capacity ≡ bytes.old.capacity }
 {
-    drop_bytes(bytes, count / 2);
+    drop_bytes(bytes, count / 2, byte_count(len) - count / 2);
     if count % 2 == 1 {
         shift_halves(bytes.as_mut_slice(), 0, 0);
         bytes.truncate(byte_count(len - count));

@@ -182,14 +182,13 @@ pub(super) fn keep_bytes(bytes: &mut SmallVec<u8, 8>, count: usize)
     }
 }
 
-/// Drops the first bytes.
-pub(super) fn drop_bytes(bytes: &mut SmallVec<u8, 8>, count: usize)
-    requires { count ≤ small_vec_len bytes.old }
-    ensures items { bytes.new.items ≡ drop count bytes.old.items }
+/// Drops the first bytes, and keeps as many behind them.
+pub(super) fn drop_bytes(bytes: &mut SmallVec<u8, 8>, count: usize, left: usize)
+    requires { count + left ≤ small_vec_len bytes.old }
+    ensures items { bytes.new.items ≡ drop count (take (count + left) bytes.old.items) }
     ensures capacity { bytes.new.capacity ≡ bytes.old.capacity }
 {
-    let left = bytes.len() - count;
-    bytes.as_mut_slice().copy_within(count.., 0);
+    bytes.as_mut_slice().copy_within(count..count + left, 0);
     bytes.truncate(left);
 }
 

@@ -1,5 +1,5 @@
-use Rattle.decimal_digits.proofs.Packing.{holds_none}
+use Rattle.decimal_digits.proofs.Packing.{held_none}
 use Rattle.decimal_digits.proofs.digits.packed.PackedDigitsDigitStore.clear.Goals as goal
 
-pub invariant_of-self-clause-packed : goal.invariant_of-self-clause-packed
-invariant_of-self-clause-packed c = rw c.keep_bytes.ensures.items holds_none.packed
+pub invariant_of-self-clause-held : goal.invariant_of-self-clause-held
+invariant_of-self-clause-held c = held_none _ c.drop_many.ensures.many

@@ -1,21 +1,30 @@
-use Rattle.std.proofs.Common.{◌≡◌, sym, ◌∙◌}
+use Rattle.std.proofs.Common.{sym, ◌∙◌, ap, arith}
 use Rattle.std.proofs.lemmas.Bool.Decides.{Decides-eqb}
-use Rattle.decimal_digits.proofs.Packing.{same_store}
+use Rattle.decimal_digits.specs.Halves.{halves_number}
+use Rattle.decimal_digits.specs.Packing.{length_held, held_decimal}
+use Rattle.decimal_digits.proofs.InPlace.{same_number}
+use Rattle.decimal_digits.proofs.Packing.{same_front, same_digits}
 use Rattle.decimal_digits.proofs.digits.packed.PackedDigitsDigitStore.eq.Goals as goal
 
-pub returns-then-self-other : goal.returns-then-self-other
-returns-then-self-other c = (
-  λ t. let b : c.as_slice.result.now ≡ c.as_slice-then-self-other.result.now = c.are_equal.ensures.0 t in
-      let e : c.args.self.now.bytes.items ≡ c.args.other.now.bytes.items =
-      sym c.as_slice.ensures ∙ b ∙ c.as_slice-then-self-other.ensures in
-      let n = c.if-self-other.true in
-      cc,
-  λ e. let s = same_store _ _ c.args.self.now.packed _ _ c.args.other.now.packed e in
-      c.are_equal.ensures.1 (c.as_slice.ensures ∙ s.1 ∙ sym c.as_slice-then-self-other.ensures),
-)
+pub returns-in-Some-Some : goal.returns-in-Some-Some
+returns-in-Some-Some c =
+    let left = c.args.self.now in
+    let right = c.args.other.now in
+    let n = length_held _ _ left.held in
+    let m = length_held _ _ right.held in
+    let w = c.in-Some-Some.ensures in
+    let v = c.in-Some-Some.ensures' in (
+      λ t. same_number _ _ (held_decimal _ _ left.held) (held_decimal _ _ right.held)
+          (n ∙ c.if-self-other.false ∙ sym m) (omega (arith, w.at_most)) (omega (arith, v.at_most))
+          (sym w.number ∙ (Decides-eqb c.in-Some-Some.left c.in-Some-Some.right).0 t ∙ v.number),
+      λ e. (Decides-eqb c.in-Some-Some.left c.in-Some-Some.right).1
+          (w.number ∙ ap halves_number e ∙ sym v.number),
+    )
 
-pub returns-else-self-other : goal.returns-else-self-other
-returns-else-self-other c = (
-  λ t. absurd (c.if-self-other.false ((Decides-eqb c.args.self.now.len c.args.other.now.len).0 t)),
-  λ e. absurd (c.if-self-other.false (same_store _ _ c.args.self.now.packed _ _ c.args.other.now.packed e).0),
+pub returns-in_default : goal.returns-in_default
+returns-in_default c = (
+  λ t. same_digits _ _ _ _ c.if-self-other.false
+      (sym c.front.ensures ∙ c.are_equal.ensures.0 t ∙ c.front-in_default.ensures),
+  λ e. let s = same_front _ _ c.args.self.now.held _ _ c.args.other.now.held e in
+      c.are_equal.ensures.1 (c.front.ensures ∙ s.1 ∙ sym c.front-in_default.ensures),
 )
