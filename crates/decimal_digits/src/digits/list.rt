@@ -12,11 +12,20 @@ use std::alloc::{AllocError, Global};
 ///
 /// The list that `from_digits` makes of 2, 5 and 0 has three digits and no allocation. The original keeps its digits
 /// so.
-#[derive(Debug, Drop)]
+#[derive(Debug)]
 pub struct DigitList {
     bytes: SmallVec<u8, 8>,
     ghost inline: { 8 ≤ bytes.capacity },
     ghost decimal: { All (λ d. d < 10) bytes.items },
+}
+
+// Written out, since a derived drop is proved once more in each crate above.
+impl Drop for DigitList {
+    #[inline]
+    fn drop(self) {
+        let DigitList { bytes } = self;
+        drop(bytes);
+    }
 }
 
 impl DigitStore for DigitList {

@@ -23,12 +23,21 @@ use std::alloc::{AllocError, Global};
 /// The digit at index `i` is in byte `i / 2`, that at an even index in the high half, and with an odd number of digits
 /// the low half of the last byte is 0. The list that `from_digits` makes of 2, 5 and 0 has the bytes 0x25 and 0x00 and
 /// no allocation. What stands behind them in the eight bytes in place means nothing. Not in the original.
-#[derive(Debug, Drop)]
+#[derive(Debug)]
 pub struct PackedDigits {
     bytes: SmallVec<u8, 8>,
     len: usize,
     ghost inline: { 8 ≤ bytes.capacity },
     ghost held: { IsHeld bytes.items len },
+}
+
+// Written out, since a derived drop is proved once more in each crate above.
+impl Drop for PackedDigits {
+    #[inline]
+    fn drop(self) {
+        let PackedDigits { bytes, len: _ } = self;
+        drop(bytes);
+    }
 }
 
 impl PackedDigits {
