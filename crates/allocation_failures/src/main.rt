@@ -1,8 +1,8 @@
-//! Every kind of call that asks for memory. Where it is refused once, the call has to leave all as it was, and to
-//! succeed when it is made again.
+//! Each kind of call that allocates. Where it is out of memory once, it has to change nothing, and to succeed when it
+//! is made again.
 //!
-//! It prints `right` where nothing was refused, `right when asked again` where something was and all went as it has to,
-//! and else `wrong`. `tests/refused_allocations.sh` refuses each request in turn, over the real allocator.
+//! Prints `right` where each allocation succeeded, `right when asked again` where one failed and all went as it has to,
+//! and `wrong` otherwise. `tests/allocation_failures.sh` makes each allocation fail in turn.
 #![tactic(auto)]
 
 mod joins;
@@ -16,12 +16,13 @@ mod values;
 use outcome::Outcome;
 use std::alloc::Global;
 
-/// How all of the calls go.
+/// The outcome of all calls.
 fn of_all(alloc: Global) -> Outcome {
     values::outcome(alloc)
         .and(joins::outcome(alloc))
         .and(roundings::outcome(alloc))
         .and(runs::outcome(alloc))
+        .and(sinks::of_run(alloc))
         .and(sinks::outcome(alloc))
         .and(rules::outcome(alloc))
 }

@@ -1,14 +1,14 @@
 //! What the callers print, and why they refuse.
-use crate::bill::{BillError, split_bill};
-use crate::cash::cash_amount;
-use crate::column::{write_column, write_normal_form};
-use crate::measurement::limit_decimals;
-use crate::price::{write_price, write_shipping_fee};
-use crate::refusal::write_or_tell;
 use fixed_decimal::{Call, Decimal, Sink, TextBuf, UnsignedDecimal, Writeable};
 use std::alloc::Global;
 use std::process::Abort;
 use std::test::Fail;
+use uses::bill::{BillError, split_bill};
+use uses::cash::cash_amount;
+use uses::column::{write_column, write_normal_form};
+use uses::measurement::limit_decimals;
+use uses::price::{write_price, write_shipping_fee};
+use uses::refusal::write_or_tell;
 
 /// A number of cents, a rate in percent, and the price.
 const PRICES: &[(u64, u32, &[u8])] = &[

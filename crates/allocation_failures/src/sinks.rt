@@ -1,6 +1,6 @@
 //! The sink that grows: it fails where its growth is refused, and takes nothing afterwards.
 use crate::outcome::Outcome;
-use fixed_decimal::{Sink, TextBuf};
+use fixed_decimal::{RunError, Sink, TextBuf, run};
 use std::alloc::Global;
 
 /// The bytes that are put, so many times.
@@ -52,4 +52,27 @@ pub fn outcome(alloc: Global) -> Outcome {
     }
     let has_failed = sink.failed() && refuses_all(&mut sink) && has_taken(&sink, taken);
     Outcome::second(has_failed && takes(alloc))
+}
+
+/// A text that is read without an allocation.
+const TEXT: &[u8] = b"-1234.50";
+
+/// Whether a run writes the text into a new sink.
+fn writes(alloc: Global) -> bool {
+    let mut sink = TextBuf::new(alloc);
+    run(alloc, TEXT, &[], &mut sink).is_ok() && sink.as_bytes() == TEXT
+}
+
+/// The outcome of a run into a sink. Where the sink cannot grow, the run returns `Sink`, and the sink has failed with a
+/// prefix of the text in it.
+pub fn of_run(alloc: Global) -> Outcome {
+    let mut sink = TextBuf::new(alloc);
+    match run(alloc, TEXT, &[], &mut sink) {
+        Ok(()) => Outcome::first(sink.as_bytes() == TEXT),
+        Err(error) => {
+            let is_prefix = TEXT.starts_with(sink.as_bytes());
+            let has_failed = error == RunError::Sink && sink.failed() && is_prefix;
+            Outcome::second(has_failed && writes(alloc))
+        }
+    }
 }

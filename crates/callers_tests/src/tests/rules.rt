@@ -3,9 +3,6 @@
 use plural_rules::{PluralRules, RulesError};
 use std::test::Fail;
 
-mod cldr;
-mod samples;
-
 /// Texts that are rules.
 const RULES: &[&str] = &[
     "one: i = 1 and v = 0",
