@@ -15,7 +15,7 @@ mod parts;
 mod rounds;
 mod value;
 
-pub use counts::{Counts, all_stay_within};
+pub use counts::Counts;
 pub use digit_limit::{
     DigitLimit, EightDigits, EighteenDigits, HundredDigits, MaxDigits, NineteenDigits,
     SeventeenDigits, SixteenDigits, TwentyOneDigits,
@@ -25,5 +25,5 @@ pub use joins::{Join, Joined, Joins};
 pub use limited_sink::{LimitedSink, displays, shows};
 pub use limited_store::{CountingStore, LimitedStore};
 pub use parts::long;
-pub use rounds::{Left, Rounding, Rounds, Way, rounded, rounds_each_way, ways};
+pub use rounds::{Left, Rounding, Rounds, Way, rounded, ways};
 pub use value::{Value, has_text, reading_word};
