@@ -1,7 +1,7 @@
 //! Doubles for tests: a store with little memory, which counts, a sink and a writer with little room, the types of
 //! values as one trait, their rounding calls as another, and long texts.
 //!
-//! The store, the sink and the writer ask for no memory of their own. Nothing but tests stands on this crate.
+//! The store, the sink and the writer do not allocate. Only tests, and programs that are tests, depend on this crate.
 #![tactic(auto)]
 
 mod counts;
@@ -15,7 +15,7 @@ mod parts;
 mod rounds;
 mod value;
 
-pub use counts::{Counts, all_stay_within};
+pub use counts::Counts;
 pub use digit_limit::{
     DigitLimit, EightDigits, EighteenDigits, HundredDigits, MaxDigits, NineteenDigits,
     SeventeenDigits, SixteenDigits, TwentyOneDigits,
@@ -25,5 +25,5 @@ pub use joins::{Join, Joined, Joins};
 pub use limited_sink::{LimitedSink, displays, shows};
 pub use limited_store::{CountingStore, LimitedStore};
 pub use parts::long;
-pub use rounds::{Left, Rounding, Rounds, Way, rounded, rounds_each_way, ways};
+pub use rounds::{Left, Rounding, Rounds, Way, rounded, ways};
 pub use value::{Value, has_text, reading_word};

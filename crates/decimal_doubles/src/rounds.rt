@@ -2,7 +2,6 @@
 use self::Way::{
     ByIncrement, ByIncrementOnValue, ByMode, ByModeOnValue, ByName, ByNameOnValue, Counted,
 };
-use crate::value::{Value, has_text};
 use decimal_digits::digits::{DigitStore, Steps};
 use decimal_digits::rounding::RoundingIncrement::MultiplesOf1;
 use decimal_digits::rounding::UnsignedRoundingMode::{self, Expand, HalfEven, Trunc};
@@ -11,7 +10,6 @@ use decimal_unsigned::LimitError;
 use decimal_unsigned::decimal::UnsignedOver;
 use fixed_decimal::Signed;
 use fixed_decimal::SignedRoundingMode::{self, Ceil, Floor, Unsigned};
-use std::alloc::AllocError;
 
 /// A rounding call.
 #[derive(Clone, Copy)]
@@ -214,38 +212,4 @@ pub fn rounded<M: Copy, T: Rounds<M>>(value: T, way: Way, rounding: Rounding<M>)
         Counted | ByIncrement | ByMode | ByName => left_in_place(value, way, rounding),
         ByIncrementOnValue | ByModeOnValue | ByNameOnValue => value.rounded_by(way, rounding),
     }
-}
-
-/// Tells whether an answer is a text; `!` where it was refused for the limit, and left another text.
-///
-/// Err: memory was refused, and left the other text.
-fn is_rounded<T: Value>(answer: Left<T>, text: &str, wanted: &str) -> Result<bool, AllocError> {
-    match answer {
-        Ok(value) => Ok(has_text(&value, wanted)),
-        Err((left, RoundError::Limit)) => Ok(wanted == "!" && has_text(&left, text)),
-        Err((left, RoundError::Memory)) => {
-            if has_text(&left, text) {
-                return Err(AllocError);
-            }
-            Ok(false)
-        }
-    }
-}
-
-/// Tells whether each call that makes a rounding makes one text of another; `!` where it is refused for the limit, and
-/// leaves the other text.
-///
-/// Err: memory was refused.
-pub fn rounds_each_way<M: Copy, T: Value + Rounds<M>>(
-    value: &T,
-    text: &str,
-    rounding: Rounding<M>,
-    wanted: &str,
-) -> Result<bool, AllocError> {
-    for way in ways(rounding.2) {
-        if !is_rounded(rounded(value.copy()?, *way, rounding), text, wanted)? {
-            return Ok(false);
-        }
-    }
-    Ok(true)
 }

@@ -1,77 +1,20 @@
-//! How many digits the roundings touch, and how often they ask for memory, over a store that counts.
-use super::rounding::{MODES, NINE_MODES, Rounding};
+//! The exact number of digits that roundings access, over a store that counts.
+use super::requests::Counting;
 use super::*;
-use decimal_doubles::{
-    CountingStore, Counts, LimitedStore, MaxDigits, Rounds, Way, all_stay_within, rounded,
-};
+use decimal_doubles::{CountingStore, Counts, Rounds, Way, rounded};
 use fixed_decimal::RoundingIncrement::{
     MultiplesOf1 as By1, MultiplesOf2 as By2, MultiplesOf5 as By5, MultiplesOf25 as By25,
 };
 use fixed_decimal::SignedRoundingMode::{self, Unsigned};
 use fixed_decimal::UnsignedRoundingMode::{Expand, HalfEven, HalfExpand, HalfTrunc, Trunc};
-use fixed_decimal::{DigitList, PackedDigits, RoundError, Signed, UnsignedOver};
+use fixed_decimal::{RoundError, Signed};
 
-/// A store with memory for every number, which counts.
-pub type Counting<D> = LimitedStore<D, MaxDigits>;
-
-/// Texts and roundings by each increment, at the ends of the range too.
-const ROWS: &[(&str, Rounding)] = &[
-    ("-7.266", (-2, Unsigned(Expand), By1)),
-    ("-7.266", (-2, Unsigned(Expand), By2)),
-    ("-7.266", (-2, Unsigned(Expand), By5)),
-    ("-7.266", (-2, Unsigned(Expand), By25)),
-    ("5.455", (-2, Unsigned(HalfExpand), By1)),
-    ("5.455", (-2, Unsigned(HalfExpand), By5)),
-    ("9.75", (-1, Unsigned(HalfEven), By1)),
-    ("1.25", (-1, Unsigned(HalfEven), By5)),
-    ("1.75", (-1, Unsigned(HalfEven), By5)),
-    ("2.51", (0, Unsigned(HalfTrunc), By1)),
-    ("0.009", (-1, Unsigned(Expand), By5)),
-    ("0.60", (-2, Unsigned(Trunc), By25)),
-    ("0.40", (-2, Unsigned(Trunc), By25)),
-    ("0.60", (-2, Unsigned(Expand), By25)),
-    ("0.7000000099", (-3, Unsigned(Trunc), By2)),
-    ("0.7000000099", (-3, Unsigned(Expand), By2)),
-    ("0.1", (0, Unsigned(Expand), By2)),
-    ("0", (0, Unsigned(Expand), By25)),
-    ("99.999", (-2, Unsigned(Expand), By1)),
-    ("99.999", (-5, Unsigned(Expand), By1)),
-    ("12.34", (1, Unsigned(Trunc), By1)),
-    ("12.34", (-1, Unsigned(Trunc), By1)),
-    ("7e-32768", (-32768, Unsigned(Trunc), By2)),
-    ("7e-32768", (-32768, Unsigned(HalfExpand), By2)),
-    ("9e-32768", (-32768, Unsigned(Expand), By5)),
-    ("70e-32768", (-32768, Unsigned(Trunc), By25)),
-    ("70e-32768", (-32768, Unsigned(Expand), By25)),
-    ("7e32767", (32767, Unsigned(Trunc), By2)),
-    ("7e32767", (32767, Unsigned(Expand), By2)),
-    ("7e32767", (32767, Unsigned(Trunc), By5)),
-    ("7e32767", (32767, Unsigned(Expand), By5)),
-    ("7e32767", (32767, Unsigned(Trunc), By25)),
-    ("7e32767", (32767, Unsigned(Expand), By25)),
-    ("9e32766", (32766, Unsigned(Expand), By25)),
-    ("0", (0, Unsigned(Expand), By1)),
-    // The steps of chains from `4235.970`, each from what the step before leaves.
-    ("4235.970", (-2, Unsigned(Trunc), By2)),
-    ("4235.96", (-1, Unsigned(Trunc), By5)),
-    ("4235.5", (0, Unsigned(Trunc), By25)),
-    ("4225", (5, Unsigned(Trunc), By5)),
-    ("00000", (2, Unsigned(Trunc), By2)),
-    ("4235.970", (-2, Unsigned(Expand), By2)),
-    ("4235.98", (-1, Unsigned(Expand), By5)),
-    ("4236.0", (0, Unsigned(Expand), By25)),
-    ("4250", (5, Unsigned(Expand), By5)),
-    ("500000", (2, Unsigned(Expand), By2)),
-    ("4235.970", (-2, Unsigned(HalfEven), By2)),
-    ("4235.96", (-1, Unsigned(HalfEven), By5)),
-    ("4236.0", (0, Unsigned(HalfEven), By25)),
-    ("4225", (5, Unsigned(HalfEven), By5)),
-    ("00000", (2, Unsigned(HalfEven), By2)),
-];
+/// A position, a mode and an increment.
+type Rounding = decimal_doubles::Rounding<SignedRoundingMode>;
 
 /// A number, a rounding, and how many digits it touches: at most one below the position, the one above it (by 1) or the
 /// two (by 2, 5 and 25), those that vanish and one more, and those that are written.
-const TURNS: &[(&str, Rounding, usize)] = &[
+const ACCESSES: &[(&str, Rounding, usize)] = &[
     // Nothing follows the position: by 1 none is read, by 5 the last two.
     ("1234567", (0, Unsigned(Expand), By1), 0),
     ("1234565", (0, Unsigned(Expand), By5), 2),
@@ -107,68 +50,6 @@ const TURNS: &[(&str, Rounding, usize)] = &[
     ("999e32765", (32765, Unsigned(Expand), By2), 3),
 ];
 
-/// Whether each call that makes a rounding stays within the bound over a store.
-fn stays_within_over<S: CountingStore>(
-    alloc: Global,
-    text: &str,
-    rounding: Rounding,
-) -> Result<bool, Fail> {
-    Ok(all_stay_within(
-        &Signed::<UnsignedOver<S>>::try_from_str(alloc, text)?,
-        rounding,
-    )?)
-}
-
-/// The same of a text in parts, over each store.
-fn stays_within(alloc: Global, parts: &str, rounding: Rounding) -> Result<bool, Fail> {
-    let text = long(alloc, parts)?;
-    Ok(
-        stays_within_over::<Counting<DigitList>>(alloc, text.as_str(), rounding)?
-            && stays_within_over::<Counting<PackedDigits>>(alloc, text.as_str(), rounding)?,
-    )
-}
-
-/// The same by each mode to multiples of 1.
-fn stays_within_by_modes(alloc: Global, parts: &str, position: i16) -> Result<bool, Fail> {
-    for mode in MODES {
-        if !stays_within(alloc, parts, (position, mode, By1))? {
-            return Ok(false);
-        }
-    }
-    Ok(true)
-}
-
-#[test]
-fn stays_within_by_each_mode(rt: HostRuntime) -> Result<(), Fail> {
-    for (text, _) in NINE_MODES {
-        assert!(rt; stays_within_by_modes(rt.alloc(), text, 0)?, "{text}");
-    }
-    Ok(())
-}
-
-#[test]
-fn stays_within_by_each_increment(rt: HostRuntime) -> Result<(), Fail> {
-    for (text, rounding) in ROWS {
-        assert!(rt;
-            stays_within(rt.alloc(), text, *rounding)?,
-            "{text} at {}",
-            rounding.0
-        );
-    }
-    Ok(())
-}
-
-#[test]
-fn stays_within_for_all_digits(rt: HostRuntime) -> Result<(), Fail> {
-    for parts in [GREATEST, "1*32768 . 1*32768"] {
-        assert!(rt;
-            stays_within_by_modes(rt.alloc(), parts, -32767)?,
-            "{parts}"
-        );
-    }
-    Ok(())
-}
-
 /// Whether a rounding by increment touches so many digits, made or refused.
 fn touches<T: Value + Rounds<SignedRoundingMode> + Counts>(
     alloc: Global,
@@ -192,8 +73,8 @@ fn touches_over<S: CountingStore>(
 }
 
 #[test]
-fn counts_turns(rt: HostRuntime) -> Result<(), Fail> {
-    for row in TURNS {
+fn counts_accesses(rt: HostRuntime) -> Result<(), Fail> {
+    for row in ACCESSES {
         assert!(rt;
             touches_over::<Counting<DigitList>>(rt.alloc(), *row)?,
             "{}",

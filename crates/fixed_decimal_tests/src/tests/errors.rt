@@ -1,6 +1,6 @@
 //! What `{}` writes of each error.
 use super::*;
-use fixed_decimal::{ConcatenateError, LimitError, RoundError, RunError, SinkFault};
+use fixed_decimal::{ConcatenateError, IntegerError, LimitError, RoundError, RunError, SinkFault};
 use std::error::Error;
 
 /// Errors of runs, and what they print.
@@ -35,6 +35,11 @@ fn says_why(rt: HostRuntime) {
     assert!(rt; tells(&ConcatenateError::Overlap(5), "The numbers overlap"));
     assert!(rt; tells(&ConcatenateError::Memory(5), "Out of memory"));
     assert!(rt; tells(&LimitError, "Magnitude or number of digits exceeded"));
+    assert!(rt; tells(&ParseError::Limit, "Magnitude or number of digits exceeded"));
+    assert!(rt; tells(&ParseError::Syntax, "Failed to parse the input string"));
+    assert!(rt; tells(&ParseError::Memory, "Out of memory"));
+    assert!(rt; tells(&IntegerError::NotWhole, "Not a whole number"));
+    assert!(rt; tells(&IntegerError::OutOfRange, "Integer out of range"));
     assert!(rt; tells(&RoundError::Memory, "Out of memory"));
     assert!(rt; tells(&SinkFault, "The sink refused a byte"));
 }

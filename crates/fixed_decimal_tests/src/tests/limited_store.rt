@@ -5,7 +5,7 @@
 use super::*;
 use decimal_doubles::{
     CountingStore, Counts, DigitLimit, EightDigits, HundredDigits, Join, Joins, LimitedStore,
-    MaxDigits, Rounds, Way, rounded, ways,
+    MaxDigits, Rounds, Way, reading_word, rounded, ways,
 };
 use fixed_decimal::RoundingIncrement::MultiplesOf25;
 use fixed_decimal::SignedRoundingMode::{self, Ceil, Unsigned};
@@ -123,6 +123,20 @@ fn makes<D: DigitStore>(alloc: Global) -> Result<bool, AllocError> {
 fn refuses_integers(rt: HostRuntime) -> Result<(), Fail> {
     assert!(rt; makes::<DigitList>(rt.alloc())?);
     assert!(rt; makes::<PackedDigits>(rt.alloc())?);
+    Ok(())
+}
+
+/// Whether a text of too many digits fails for the limit, and not for memory, where there is memory for eight digits.
+fn fails_for_limit<D: DigitStore>(alloc: Global, text: &str) -> bool {
+    let value = UnsignedOver::<LimitedStore<D, EightDigits>>::try_from_str(alloc, text);
+    reading_word(value) == "limit"
+}
+
+#[test]
+fn counts_digits_before_it_allocates(rt: HostRuntime) -> Result<(), Fail> {
+    let text = long(rt.alloc(), "9*32769")?;
+    assert!(rt; fails_for_limit::<DigitList>(rt.alloc(), text.as_str()));
+    assert!(rt; fails_for_limit::<PackedDigits>(rt.alloc(), text.as_str()));
     Ok(())
 }
 

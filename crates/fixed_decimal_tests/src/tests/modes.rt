@@ -1,6 +1,9 @@
-//! The order of the modes.
+//! The order of the modes, and the defaults of signs.
+ghost use Rattle.std.specs.Prelude.{◌≡◌, true};
+
 use fixed_decimal::SignedRoundingMode::{self, Ceil, Floor, HalfCeil, HalfFloor, Unsigned};
 use fixed_decimal::UnsignedRoundingMode::{Expand, HalfEven, HalfExpand, HalfTrunc, Trunc};
+use fixed_decimal::{Sign, SignDisplay, UnsignedRoundingMode};
 use std::cmp::Ordering;
 use std::process::Abort;
 
@@ -20,4 +23,17 @@ fn orders_modes(rt: HostRuntime) {
     assert_order(&rt, Ceil, Floor);
     assert_order(&rt, Floor, HalfCeil);
     assert_order(&rt, HalfCeil, HalfFloor);
+}
+
+/// The modes are ordered as they are written.
+fn modes_in_order(mode: UnsignedRoundingMode) -> bool
+    ensures { result ≡ true }
+{
+    Unsigned(mode) < Ceil && Ceil < Floor && Floor < HalfCeil && HalfCeil < HalfFloor
+}
+
+#[test]
+fn has_defaults(rt: HostRuntime) {
+    assert!(rt; Sign::default() == Sign::None);
+    assert!(rt; SignDisplay::default() == SignDisplay::Auto);
 }

@@ -1,0 +1,80 @@
+//! Values into sinks, and into sinks and writers that fail.
+use super::*;
+use decimal_doubles::{FailingWriter, LimitedSink, WriteFailure};
+use fixed_decimal::Out;
+
+/// What a sink takes of a value three times.
+fn printed_thrice<T: Value>(alloc: Global, text: &str) -> Result<TextBuf, Fail> {
+    let value = read::<T>(alloc, text)?;
+    let mut sink = TextBuf::new(alloc);
+    for _ in 0..3 {
+        value.write_to(&mut sink)?;
+    }
+    Ok(sink)
+}
+
+/// Whether a sink takes the longest text three times.
+fn takes_long_texts(alloc: Global) -> Result<bool, Fail> {
+    let text = long(alloc, GREATEST)?;
+    let thrice = text.as_str().repeat(alloc, 3)?;
+    Ok(
+        printed_thrice::<UnsignedOver<PackedDigits>>(alloc, text.as_str())?.as_bytes()
+            == thrice.as_bytes(),
+    )
+}
+
+#[test]
+fn takes_texts(rt: HostRuntime) -> Result<(), Fail> {
+    assert!(rt; takes_long_texts(rt.alloc())?);
+    Ok(())
+}
+
+/// A text that sinks and writers with too little room refuse.
+const TEXT: &str = "1234.50";
+
+/// Whether a sink with so much room takes a beginning of the text, and has failed.
+fn keeps_beginning<T: Value>(value: &T, room: usize) -> bool {
+    let mut sink = LimitedSink::new(TEXT.as_bytes(), room);
+    value.write_to(&mut sink).is_err() && sink.failed() && sink.has_taken(room)
+}
+
+/// Whether a writer with so much room takes a beginning of the text, and is not called after its refusal.
+fn fills<T: Value>(value: &T, room: usize, refusal: WriteFailure) -> bool {
+    let mut sink = Out::new(FailingWriter::new(TEXT.as_bytes(), room, refusal));
+    let first = value.write_to(&mut sink).is_err();
+    let second = value.write_to(&mut sink).is_err();
+    let refused = first && second && sink.failed();
+    let writer = sink.into_writer();
+    refused && writer.has_taken(room) && writer.refused() == 1
+}
+
+/// Whether each sink and each writer with so much room takes a beginning of the text.
+fn keeps_beginnings<T: Value>(alloc: Global, room: usize) -> Result<bool, Fail> {
+    let value = read::<T>(alloc, TEXT)?;
+    Ok(
+        keeps_beginning(&value, room)
+            && fills(&value, room, WriteFailure::Zero)
+            && fills(&value, room, WriteFailure::Fault)
+            && fills(&value, room, WriteFailure::Interrupted),
+    )
+}
+
+/// The same over a store.
+fn keeps_over<D: DigitStore>(alloc: Global, room: usize) -> Result<bool, Fail> {
+    keeps_beginnings::<UnsignedOver<D>>(alloc, room)
+}
+
+#[test]
+fn keeps_what_fits(rt: HostRuntime) -> Result<(), Fail> {
+    for room in 0..TEXT.len() {
+        assert!(rt;
+            keeps_over::<PackedDigits>(rt.alloc(), room)?,
+            "room for {room}"
+        );
+        assert!(rt;
+            keeps_over::<DigitList>(rt.alloc(), room)?,
+            "room for {room}"
+        );
+    }
+    Ok(())
+}

@@ -1,0 +1,101 @@
+//! Calls that do not allocate, over a store that counts the requests.
+use super::*;
+use decimal_doubles::{CountingStore, Counts, Join, Joins, LimitedStore, MaxDigits};
+
+/// A store that counts, with memory for every number.
+pub type Counting<D> = LimitedStore<D, MaxDigits>;
+
+/// Whether a value has a text, and has asked for nothing since it was counted.
+fn has_for_nothing<T: Value + Counts>(value: &T, text: &str) -> bool {
+    value.counted().asked_nothing() && has_text(value, text)
+}
+
+/// The value of a text, counted from now on.
+fn counted<T: Value + Counts>(alloc: Global, text: &str) -> Result<T, Fail> {
+    let value = read::<T>(alloc, text)?;
+    value.counted().restart();
+    Ok(value)
+}
+
+/// Two texts, and whether their values are equal.
+const PAIRS: &[(&str, &str, bool)] = &[
+    ("12345678901234567890", "12345678901234567890", true),
+    ("12345678901234567890", "12345678901234567891", false),
+    ("2.50", "2.50", true),
+    ("2.50", "2.5", false),
+];
+
+/// Whether the values of two texts are equal as they are to be, and asking it asks for nothing.
+fn equal_for_nothing<T: Value + Counts>(
+    alloc: Global,
+    (left, right, same): (&str, &str, bool),
+) -> Result<bool, Fail> {
+    let left = counted::<T>(alloc, left)?;
+    let right = counted::<T>(alloc, right)?;
+    let is_right = left.equals(&right) == same;
+    Ok(is_right && left.counted().asked_nothing() && right.counted().asked_nothing())
+}
+
+/// The same over a store.
+fn equal_over<S: CountingStore>(alloc: Global, row: (&str, &str, bool)) -> Result<bool, Fail> {
+    equal_for_nothing::<UnsignedOver<S>>(alloc, row)
+}
+
+#[test]
+fn equality_asks_for_nothing(rt: HostRuntime) -> Result<(), Fail> {
+    for row in PAIRS {
+        assert!(rt;
+            equal_over::<Counting<PackedDigits>>(rt.alloc(), *row)?,
+            "{}, {}",
+            row.0,
+            row.1
+        );
+        assert!(rt;
+            equal_over::<Counting<DigitList>>(rt.alloc(), *row)?,
+            "{}, {}",
+            row.0,
+            row.1
+        );
+    }
+    Ok(())
+}
+
+/// Whether the number of a text is moved into 0, its very list, and stays as it is where 0 is joined to it. Neither 0
+/// nor the joins ask for anything.
+fn joins_zero_for_nothing<T: Value + Joins + Counts>(
+    alloc: Global,
+    (zero, other_zero): (T, T),
+    text: &str,
+) -> Result<bool, Fail> {
+    let is_made = zero.counted().requests() == 0 && other_zero.counted().requests() == 0;
+    let moved = zero.joined_by(counted(alloc, text)?, Join::InPlace);
+    let taken = counted::<T>(alloc, text)?.joined_by(other_zero, Join::ByValue);
+    match (moved, taken) {
+        (Ok(moved), Ok(taken)) => {
+            Ok(is_made && has_for_nothing(&moved, text) && has_for_nothing(&taken, text))
+        }
+        _ => Ok(false),
+    }
+}
+
+/// Whether zeros ask for nothing, over a store.
+fn zeros_for_nothing<S: CountingStore>(alloc: Global, text: &str) -> Result<bool, Fail> {
+    let zero = UnsignedOver::<S>::zero(alloc);
+    let other = UnsignedOver::<S>::zero(alloc);
+    joins_zero_for_nothing(alloc, (zero, other), text)
+}
+
+#[test]
+fn zeros_ask_for_nothing(rt: HostRuntime) -> Result<(), Fail> {
+    for text in ["7", "12345678901234567890.5"] {
+        assert!(rt;
+            zeros_for_nothing::<Counting<PackedDigits>>(rt.alloc(), text)?,
+            "{text}"
+        );
+        assert!(rt;
+            zeros_for_nothing::<Counting<DigitList>>(rt.alloc(), text)?,
+            "{text}"
+        );
+    }
+    Ok(())
+}

@@ -1,0 +1,103 @@
+//! The digits of values, and the integers that they are.
+use crate::edited::has_sign;
+use fixed_decimal::{DigitList, DigitStore, IntegerError, PackedDigits, Signed, UnsignedOver};
+use std::alloc::Global;
+use std::str::FromStr;
+
+/// Whether a number has these digits from a magnitude down.
+fn has_each<D: DigitStore>(value: &UnsignedOver<D>, highest: i16, digits: &str) -> bool {
+    let mut magnitude = highest;
+    for digit in digits.as_bytes() {
+        if b'0'.saturating_add(value.digit_at(magnitude)) != *digit {
+            return false;
+        }
+        magnitude = magnitude.saturating_sub(1);
+    }
+    true
+}
+
+/// Whether a number has these digits from a magnitude down, one by one and written at once.
+fn has_digits_over<D: DigitStore>(alloc: Global, text: &str, highest: i16, digits: &str) -> bool {
+    if digits.len() > (i32::from(highest) + 32769) as usize {
+        return false;
+    }
+    let Ok(value) = UnsignedOver::<D>::try_from_str(alloc, text) else {
+        return false;
+    };
+    let Ok(mut places) = vec![in alloc; b'x'; digits.len()] else {
+        return false;
+    };
+    value.write_digits(highest, places.as_mut_slice());
+    places.as_slice() == digits.as_bytes() && has_each(&value, highest, digits)
+}
+
+/// The same over each store.
+pub fn has_digits(alloc: Global, text: &str, magnitude: &str, digits: &str) -> bool {
+    match magnitude.parse() {
+        Ok(highest) => {
+            has_digits_over::<DigitList>(alloc, text, highest, digits)
+                && has_digits_over::<PackedDigits>(alloc, text, highest, digits)
+        }
+        Err(_) => false,
+    }
+}
+
+/// Whether an integer, or the error in its place, is the one that a word names.
+fn is_named<T: FromStr + PartialEq + Drop>(found: Result<T, IntegerError>, word: &str) -> bool
+where
+    T::Err: Drop,
+{
+    match (found, word.parse::<T>()) {
+        (Ok(found), Ok(wanted)) => found == wanted,
+        (Err(IntegerError::OutOfRange), _) => word == "range",
+        (Err(IntegerError::NotWhole), _) => word == "whole",
+        _ => false,
+    }
+}
+
+/// Words of integers: of 64 bits, without a sign and with one, and of 128.
+type Words<'a> = ((&'a str, &'a str), (&'a str, &'a str));
+
+/// Whether the number of a text is these integers without a sign.
+fn has_unsigned<D: DigitStore>(alloc: Global, text: &str, (narrow, wide): Words<'_>) -> bool {
+    match UnsignedOver::<D>::try_from_str(alloc, text) {
+        Ok(value) => {
+            is_named(value.try_to_u64(), narrow.0) && is_named(value.try_to_u128(), wide.0)
+        }
+        Err(_) => has_sign(text),
+    }
+}
+
+/// Whether the decimal of a text is these integers.
+fn has_signed<D: DigitStore>(alloc: Global, text: &str, (narrow, wide): Words<'_>) -> bool {
+    match Signed::<UnsignedOver<D>>::try_from_str(alloc, text) {
+        Ok(value) => {
+            is_named(value.try_to_u64(), narrow.0)
+                && is_named(value.try_to_i64(), narrow.1)
+                && is_named(value.try_to_u128(), wide.0)
+                && is_named(value.try_to_i128(), wide.1)
+        }
+        Err(_) => false,
+    }
+}
+
+/// Splits four words.
+fn split(words: &str) -> Option<Words<'_>> {
+    let (first, words) = words.split_once(' ')?;
+    let (second, words) = words.split_once(' ')?;
+    let (third, fourth) = words.split_once(' ')?;
+    Some(((first, second), (third, fourth)))
+}
+
+/// Whether the number of a text is the integers of words, over each store.
+pub fn has_integers(alloc: Global, text: &str, words: &str) -> bool {
+    match split(words) {
+        Some(words) => {
+            has_unsigned::<DigitList>(alloc, text, words)
+                && has_unsigned::<PackedDigits>(alloc, text, words)
+                && has_signed::<DigitList>(alloc, text, words)
+                && has_signed::<PackedDigits>(alloc, text, words)
+        }
+        None => false,
+    }
+}

@@ -1,0 +1,159 @@
+//! Texts that are read, and the parts of their values.
+use crate::calls::sign;
+use decimal_doubles::{Value, displays, has_text, reading_word};
+use decimal_unsigned::decimal::lowest_of;
+use fixed_decimal::{
+    CompactDecimal, Decimal, DigitList, DigitStore, FixedInteger, LimitError, PackedDigits,
+    ScientificDecimal, Signed, UnsignedOver,
+};
+use std::alloc::Global;
+use std::convert::TryFrom;
+use std::fmt::Display;
+
+/// Whether a value has a text, also for `{}`.
+fn is_shown<T: Value + Display>(value: &T, text: &str) -> bool {
+    has_text(value, text) && displays(value, text.as_bytes())
+}
+
+/// Whether a second value was made that equals the first and has its text.
+fn is_again<T: Value + Display, E: Drop>(again: Result<T, E>, value: &T, text: &str) -> bool {
+    match again {
+        Ok(other) => other.equals(value) && is_shown(&other, text),
+        Err(_) => false,
+    }
+}
+
+/// Whether a text and its bytes are read as a value that prints a text and is copied, or fail with a word.
+fn reads_as<T: Value + Display>(alloc: Global, text: &str, wanted: &str) -> bool {
+    match T::read(alloc, text) {
+        Ok(value) => {
+            is_shown(&value, wanted)
+                && is_again(value.copy(), &value, wanted)
+                && is_again(T::read_bytes(alloc, text), &value, wanted)
+        }
+        error => {
+            reading_word(error) == wanted && reading_word(T::read_bytes(alloc, text)) == wanted
+        }
+    }
+}
+
+/// Whether a value without a sign shows magnitudes, the last of which is also that of the text: the highest shown, the
+/// first and the last digit that is not 0, the lowest shown, and `zero` for 0.
+fn has_magnitudes<D: DigitStore>(alloc: Global, text: &str, wanted: &str) -> bool {
+    let Ok(value) = UnsignedOver::<D>::try_from_str(alloc, text) else {
+        return wanted.is_empty();
+    };
+    let range = value.magnitude_range();
+    let first = value.nonzero_magnitude_start();
+    let last = value.nonzero_magnitude_end();
+    let (high, low) = (*range.end(), *range.start());
+    let zero = if value.is_zero() { " zero" } else { "" };
+    let shown = format!(in alloc; "{high} {first} {last} {low}{zero}");
+    wanted.is_empty()
+        || (lowest_of(text.as_bytes()) == Ok(low) && shown.is_ok_and(|t| t.as_str() == wanted))
+}
+
+/// Whether a value without a sign is read over a store.
+fn reads_unsigned<D: DigitStore>(alloc: Global, text: &str, (wanted, facts): (&str, &str)) -> bool {
+    reads_as::<UnsignedOver<D>>(alloc, text, wanted) && has_magnitudes::<D>(alloc, text, facts)
+}
+
+/// Whether the lowest magnitude of a text is found, or fails with the word of the text.
+fn finds_lowest(text: &str, wanted: &str) -> bool {
+    let found = reading_word(lowest_of(text.as_bytes()));
+    found == wanted || found == "read"
+}
+
+/// Whether a decimal is read over a store, and has a sign.
+fn reads_signed<D: DigitStore>(alloc: Global, text: &str, (wanted, facts): (&str, &str)) -> bool {
+    let has_sign = match Signed::<UnsignedOver<D>>::try_from_str(alloc, text) {
+        Ok(value) => facts.is_empty() || Some(value.sign()) == sign(facts),
+        Err(_) => facts.is_empty(),
+    };
+    has_sign && reads_as::<Signed<UnsignedOver<D>>>(alloc, text, wanted)
+}
+
+/// Whether the decimal of a text becomes an integer that prints a text and becomes a decimal again, or fails with a
+/// word.
+fn becomes_integer(alloc: Global, text: &str, wanted: &str) -> bool {
+    let decimal = match Decimal::try_from_str(alloc, text) {
+        Ok(decimal) => decimal,
+        error => return reading_word(error) == wanted,
+    };
+    match FixedInteger::try_from(decimal) {
+        Ok(integer) => has_text(&integer, wanted) && has_text(&Decimal::from(integer), wanted),
+        Err(LimitError) => wanted == "limit",
+    }
+}
+
+/// Whether a compact value has the parts of its text, and is made of them.
+fn has_compact_parts(alloc: Global, text: &str, significand: &str, exponent: u8) -> bool {
+    let (Ok(value), Ok(decimal)) = (
+        CompactDecimal::try_from_str(alloc, text),
+        Decimal::try_from_str(alloc, significand),
+    ) else {
+        return false;
+    };
+    let made = CompactDecimal::from_significand_and_exponent(decimal, exponent);
+    has_text(&made, text)
+        && value.exponent() == exponent
+        && has_text(value.significand(), significand)
+        && has_text(&value.into_significand(), significand)
+}
+
+/// Whether a scientific value has the parts of its text, and is made of them.
+fn has_scientific_parts(alloc: Global, text: &str, significand: &str, exponent: &str) -> bool {
+    let (Ok(value), Ok(decimal), Ok(integer)) = (
+        ScientificDecimal::try_from_str(alloc, text),
+        Decimal::try_from_str(alloc, significand),
+        FixedInteger::try_from_str(alloc, exponent),
+    ) else {
+        return false;
+    };
+    let has_parts = has_text(value.significand(), significand)
+        && has_text(value.exponent(), exponent);
+    let (first, second) = value.into_parts();
+    has_parts
+        && has_text(&first, significand)
+        && has_text(&second, exponent)
+        && has_text(&ScientificDecimal::from(decimal, integer), text)
+}
+
+/// Whether a compact or a scientific value has parts.
+fn has_parts(alloc: Global, kind: &str, text: &str, parts: &str) -> bool {
+    match parts.split_once(' ') {
+        Some((significand, exponent)) if kind == "compact" => match exponent.parse::<u8>() {
+            Ok(exponent) => has_compact_parts(alloc, text, significand, exponent),
+            Err(_) => false,
+        },
+        Some((significand, exponent)) => has_scientific_parts(alloc, text, significand, exponent),
+        None => parts.is_empty(),
+    }
+}
+
+/// Whether a text is read as a value of a kind that prints a text, or fails with a word, and has parts.
+pub fn reads(alloc: Global, kind: &str, text: &str, (wanted, facts): (&str, &str)) -> bool {
+    let row = (wanted, facts);
+    match kind {
+        "unsigned" => {
+            reads_unsigned::<DigitList>(alloc, text, row)
+                && reads_unsigned::<PackedDigits>(alloc, text, row)
+                && finds_lowest(text, wanted)
+        }
+        "signed" => {
+            reads_signed::<DigitList>(alloc, text, row)
+                && reads_signed::<PackedDigits>(alloc, text, row)
+        }
+        "integer" => {
+            reads_as::<FixedInteger>(alloc, text, wanted) && becomes_integer(alloc, text, wanted)
+        }
+        "scientific" => {
+            reads_as::<ScientificDecimal>(alloc, text, wanted)
+                && has_parts(alloc, kind, wanted, facts)
+        }
+        "compact" => {
+            reads_as::<CompactDecimal>(alloc, text, wanted) && has_parts(alloc, kind, wanted, facts)
+        }
+        _ => false,
+    }
+}

@@ -1,0 +1,87 @@
+//! Whole runs.
+use crate::calls::calls;
+use decimal_doubles::{LimitedSink, LimitedStore, MaxDigits};
+use fixed_decimal::{
+    Call, DigitList, DigitStore, PackedDigits, ParseError, RunError, Sink, TextBuf, run, run_over,
+};
+use std::alloc::{AllocError, Global};
+
+/// The word of an error of a text.
+fn parse_word(error: &ParseError) -> &'static str {
+    match error {
+        ParseError::Limit => "limit",
+        ParseError::Syntax => "syntax",
+        ParseError::Memory => "memory",
+    }
+}
+
+/// The words of an error.
+fn words_of(alloc: Global, error: &RunError) -> Result<String, AllocError> {
+    let (at, word) = match error {
+        RunError::Start(fault) => {
+            let word = parse_word(fault);
+            return format!(in alloc; "start: {word}");
+        }
+        RunError::Operand { at, fault } => (*at, parse_word(fault)),
+        RunError::Overlap { at } => (*at, "overlap"),
+        RunError::Limit { at } => (*at, "overflow"),
+        RunError::Memory { at } => (*at, "memory"),
+        RunError::Sink => return format!(in alloc; "sink"),
+    };
+    format!(in alloc; "call {at}: {word}")
+}
+
+/// Whether an error has these words.
+fn is_error(alloc: Global, error: &RunError, wanted: &str) -> bool {
+    match words_of(alloc, error) {
+        Ok(words) => words.as_str() == wanted,
+        Err(_) => false,
+    }
+}
+
+/// Whether a run over a store writes a text, or nothing and fails with the error that the text names.
+fn comes_to_over<D: DigitStore>(
+    alloc: Global,
+    start: &str,
+    calls: &[Call<'_>],
+    wanted: &str,
+) -> bool {
+    let mut sink = LimitedSink::new(wanted.as_bytes(), usize::MAX);
+    match run_over::<D, LimitedSink<'_>>(alloc, start.as_bytes(), calls, &mut sink) {
+        Ok(()) => sink.has_all(),
+        Err(error) => sink.has_taken(0) && !sink.failed() && is_error(alloc, &error, wanted),
+    }
+}
+
+/// The same of a sink in memory.
+fn comes_to_in_memory(alloc: Global, start: &str, calls: &[Call<'_>], wanted: &str) -> bool {
+    let mut sink = TextBuf::new(alloc);
+    match run(alloc, start.as_bytes(), calls, &mut sink) {
+        Ok(()) => sink.as_bytes() == wanted.as_bytes(),
+        Err(error) => {
+            sink.as_bytes().is_empty() && !sink.failed() && is_error(alloc, &error, wanted)
+        }
+    }
+}
+
+/// The same of a sink in memory, and over each store.
+pub fn comes_to(alloc: Global, start: &str, words: &str, wanted: &str) -> bool {
+    let Some(calls) = calls(alloc, words) else {
+        return false;
+    };
+    let calls = calls.as_slice();
+    comes_to_in_memory(alloc, start, calls, wanted)
+        && comes_to_over::<DigitList>(alloc, start, calls, wanted)
+        && comes_to_over::<PackedDigits>(alloc, start, calls, wanted)
+        && comes_to_over::<LimitedStore<DigitList, MaxDigits>>(alloc, start, calls, wanted)
+}
+
+/// The text that a run writes, or the words of its error.
+pub fn outcome(alloc: Global, start: &str, words: &str) -> Result<String, AllocError> {
+    let calls = calls(alloc, words).unwrap_or(Vec::new(alloc));
+    let mut sink = TextBuf::new(alloc);
+    match run(alloc, start.as_bytes(), calls.as_slice(), &mut sink) {
+        Ok(()) => String::from_str(alloc, str::from_utf8(sink.as_bytes()).unwrap_or("")),
+        Err(error) => words_of(alloc, &error),
+    }
+}
