@@ -9,10 +9,10 @@ use Rattle.std.specs.Io.Buffered.{reader_inner, reader_buffer, reader_capacity, 
 use Rattle.std.proofs.Math.Seq.{take-length}
 use Rattle.std.proofs.lemmas.List.{append-nil, length-drop}
 use Rattle.fixed_decimal.specs.declared.runs.Call.{Call}
-use Rattle.fixdec_program.specs.Words.{Names}
-use Rattle.fixdec_program.specs.Program.{NameAll, IsUnknown}
-use Rattle.cli.specs.declared.error.FilterError.{FilterError}
-use Rattle.cli.specs.declared.error.FilterError.TheVariants.{Usage, Memory, Operation, LongLine, Input, Output}
+use Rattle.cli.specs.Words.{Names}
+use Rattle.cli.specs.Words.{NameAll, IsUnknown}
+use Rattle.cli.specs.declared.errors.FilterError.{FilterError}
+use Rattle.cli.specs.declared.errors.FilterError.TheVariants.{Usage, Memory, Operation, LongLine, Input, Output}
 use Rattle.cli.specs.declared.filter.OnRefusal.{OnRefusal}
 use Rattle.cli.specs.declared.filter.OnRefusal.TheVariants.{Stop, Skip}
 use Rattle.cli.specs.Filter.{Asks, IsUsage, FilterEnds, FilterFails, IsEarly}
@@ -124,3 +124,8 @@ module _
 pub err_map : {X E : Type 0} {P Q : E → Type 0} (r : Result X E) → ((e : E) → P e → Q e) → IfErr r P → IfErr r Q
 err_map (Ok x) f h = tt
 err_map (Err e) f h = f e h
+
+-- the error of which it is true
+pub at_err : {X E : Type 0} (P : E → Type 0) (r : Result X E) (e : E) → r ≡ Err e → IfErr r P → P e
+at_err P (Ok x) e is h = cc
+at_err P (Err x) e is h = let same : x ≡ e = cc in subst P same h

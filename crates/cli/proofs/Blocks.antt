@@ -8,8 +8,8 @@ use Rattle.decimal_digits.specs.Text.{AppendsPrefix}
 use Rattle.fixed_decimal.proofs.Calling.{appends_kept}
 use Rattle.fixed_decimal.specs.declared.runs.Call.{Call}
 use Rattle.fixed_decimal.specs.Outcome.{Refusal, outcome}
-use Rattle.cli.specs.declared.error.FilterError.{FilterError}
-use Rattle.cli.specs.declared.error.FilterError.TheVariants.{Usage, Memory, Operation, LongLine, Input, Output}
+use Rattle.cli.specs.declared.errors.FilterError.{FilterError}
+use Rattle.cli.specs.declared.errors.FilterError.TheVariants.{Usage, Memory, Operation, LongLine, Input, Output}
 use Rattle.cli.specs.declared.filter.OnRefusal.{OnRefusal}
 use Rattle.cli.specs.declared.filter.OnRefusal.TheVariants.{Stop, Skip}
 use Rattle.cli.specs.Lines.{errors_of_line, errors_of, IsAll, AreFirst, HaveTexts, Prints, EndsWith, Skips, Ends}

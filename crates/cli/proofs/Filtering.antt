@@ -13,8 +13,8 @@ use Rattle.fixed_decimal.proofs.Calling.{appends_both, appends_none, then_part}
 use Rattle.fixed_decimal.specs.declared.runs.Call.{Call}
 use Rattle.fixed_decimal.specs.Outcome.{outcome}
 use Rattle.std.specs.List.{FoldsTo}
-use Rattle.cli.specs.declared.error.FilterError.{FilterError}
-use Rattle.cli.specs.declared.error.FilterError.TheVariants.{Usage, Memory, Operation, LongLine, Input, Output}
+use Rattle.cli.specs.declared.errors.FilterError.{FilterError}
+use Rattle.cli.specs.declared.errors.FilterError.TheVariants.{Usage, Memory, Operation, LongLine, Input, Output}
 use Rattle.cli.specs.declared.filter.OnRefusal.{OnRefusal}
 use Rattle.cli.specs.declared.filter.OnRefusal.TheVariants.{Stop, Skip}
 use Rattle.cli.specs.Lines.{lines_of, output_of_line, output_of, errors_of_line, errors_of, IsAll, AreFirst, HaveTexts, HaveRefusal, Prints, EndsAfter, Skips, Ends}

@@ -1,3 +1,8 @@
+pub mod Numerals
+pub mod Splits
+pub mod Naming
+pub mod OneCall
+pub mod Programs
 pub mod Asking
 pub mod Blocks
 pub mod Filtering

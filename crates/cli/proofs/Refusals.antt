@@ -13,9 +13,9 @@ use Rattle.fixed_decimal.specs.declared.runs.RunError.TheVariants.{Start, Operan
 use Rattle.fixed_decimal.specs.declared.runs.RunError.TheVariants as error
 use Rattle.fixed_decimal.specs.Outcome.{Refusal, outcome, start, operand, overlap, limit_exceeded}
 use Rattle.fixed_decimal.specs.Errors.{RunRefuses}
-use Rattle.cli.specs.declared.error.OperationError.{OperationError}
-use Rattle.cli.specs.declared.error.OperationError.TheVariants.{Output}
-use Rattle.cli.specs.declared.error.FilterError.TheVariants.{Operation}
+use Rattle.cli.specs.declared.errors.OperationError.{OperationError}
+use Rattle.cli.specs.declared.errors.OperationError.TheVariants.{Output}
+use Rattle.cli.specs.declared.errors.FilterError.TheVariants.{Operation}
 use Rattle.cli.specs.Errors.{error_of_run, status_of_operation}
 use Rattle.cli.specs.Fixdec.{OperationsFail}
 use Rattle.cli.specs.Lines.{error_of, output_of_line, errors_of_line}

@@ -5,13 +5,13 @@ use Rattle.fixed_decimal.specs.declared.runs.RunError.{RunError}
 use Rattle.fixed_decimal.specs.declared.runs.RunError.TheVariants as run
 use Rattle.cli.specs.declared.arguments.ArgumentsError.{ArgumentsError}
 use Rattle.cli.specs.declared.arguments.ArgumentsError.TheVariants as arguments
-use Rattle.cli.specs.declared.error.Reason.TheVariants.{Syntax, Limit}
-use Rattle.cli.specs.declared.error.OperationError.{OperationError}
-use Rattle.cli.specs.declared.error.OperationError.TheVariants.{Start, Operand, Overlap, Overflow, Memory, Output}
-use Rattle.cli.specs.declared.error.FixdecError.{FixdecError}
-use Rattle.cli.specs.declared.error.FixdecError.TheVariants as fixdec
-use Rattle.cli.specs.declared.error.FilterError.{FilterError}
-use Rattle.cli.specs.declared.error.FilterError.TheVariants as filter
+use Rattle.cli.specs.declared.errors.Reason.TheVariants.{Syntax, Limit}
+use Rattle.cli.specs.declared.errors.OperationError.{OperationError}
+use Rattle.cli.specs.declared.errors.OperationError.TheVariants.{Start, Operand, Overlap, Overflow, Memory, Output}
+use Rattle.cli.specs.declared.errors.FixdecError.{FixdecError}
+use Rattle.cli.specs.declared.errors.FixdecError.TheVariants as fixdec
+use Rattle.cli.specs.declared.errors.FilterError.{FilterError}
+use Rattle.cli.specs.declared.errors.FilterError.TheVariants as filter
 
 -- the error of a run, as the programs name it
 abbrev pub error_of_run : RunError → OperationError

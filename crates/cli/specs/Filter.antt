@@ -1,10 +1,10 @@
 -- What the words of `fixdec_lines` ask for, and what comes of them and of an input.
-use Rattle.std.specs.Prelude.{◌≡◌, ℕ, ⊤, List, [], ◌∷◌, codes, String, string_bytes, Option, MatchOption}
+use Rattle.std.specs.Prelude.{◌≡◌, ℕ, ⊤, Bool, true, List, [], ◌∷◌, codes, String, string_bytes, Option, MatchOption}
 use Rattle.std.specs.declared.alloc.Global.{Global}
 use Rattle.fixed_decimal.specs.declared.runs.Call.{Call}
-use Rattle.fixdec_program.specs.Program.{NameAll}
-use Rattle.cli.specs.declared.error.FilterError.{FilterError}
-use Rattle.cli.specs.declared.error.FilterError.TheVariants.{Usage, Memory, Operation, LongLine, Input, Output}
+use Rattle.cli.specs.Words.{NameAll}
+use Rattle.cli.specs.declared.errors.FilterError.{FilterError}
+use Rattle.cli.specs.declared.errors.FilterError.TheVariants.{Usage, Memory, Operation, LongLine, Input, Output}
 use Rattle.cli.specs.declared.filter.OnRefusal.{OnRefusal}
 use Rattle.cli.specs.declared.filter.OnRefusal.TheVariants.{Stop, Skip}
 use Rattle.cli.specs.Lines.{IsAll, Prints, Skips}
@@ -65,10 +65,12 @@ module _ {D : Type 0} (reports : D → FilterError → D → Type 0) where
   FilterFails words input out_old out_new old new Input = FilterEnds words input out_old out_new old new Input
   FilterFails words input out_old out_new old new Output = FilterEnds words input out_old out_new old new Output
 
-  -- the same; or want of memory for the block before the writer, and then it is not given back
+  -- the block before the writer cannot be allocated, and nothing is reported before this error; or the filter fails so,
+  -- at `output` because the writer failed
   abbrev pub LinesFail :
-      {O : Type 0} → (O → Option (List ℕ)) → Option (List ℕ) → O → D → D → List (String Global) → Option O → FilterError
-      → Type 0
+      {O : Type 0} → (O → Option (List ℕ)) → Option (List ℕ) → O → D → D → List (String Global) → Option (O × Bool)
+      → FilterError → Type 0
   LinesFail contents input out old new words back error =
       MatchOption back ((error ≡ Memory) × (new ≡ old))
-      (λ writer. FilterFails words input (contents out) (contents writer) old new error)
+      (λ closed. FilterFails words input (contents out) (contents closed.0) old new error
+      × (error ≡ Output → closed.1 ≡ true))

@@ -7,11 +7,11 @@ use Rattle.decimal_digits.specs.Text.{AppendsPrefix}
 use Rattle.decimal_unsigned.specs.Reading.{syntax, limit}
 use Rattle.fixed_decimal.specs.declared.runs.Call.{Call}
 use Rattle.fixed_decimal.specs.Outcome.{Refusal, outcome, start, operand, overlap, limit_exceeded}
-use Rattle.cli.specs.declared.error.Reason.TheVariants as reason
-use Rattle.cli.specs.declared.error.OperationError.{OperationError}
-use Rattle.cli.specs.declared.error.OperationError.TheVariants as operation
-use Rattle.cli.specs.declared.error.FilterError.{FilterError}
-use Rattle.cli.specs.declared.error.FilterError.TheVariants.{Usage, Memory, Operation, LongLine, Input, Output}
+use Rattle.cli.specs.declared.errors.Reason.TheVariants as reason
+use Rattle.cli.specs.declared.errors.OperationError.{OperationError}
+use Rattle.cli.specs.declared.errors.OperationError.TheVariants as operation
+use Rattle.cli.specs.declared.errors.FilterError.{FilterError}
+use Rattle.cli.specs.declared.errors.FilterError.TheVariants.{Usage, Memory, Operation, LongLine, Input, Output}
 use Rattle.cli.specs.declared.filter.OnRefusal.{OnRefusal}
 use Rattle.cli.specs.declared.filter.OnRefusal.TheVariants.{Stop, Skip}
 use Rattle.cli.specs.Errors.{status_of_operation}

@@ -7,16 +7,16 @@ use std::env::Args;
 use std::io;
 use std::io::ErrorKind;
 
-/// Why there are no words.
+/// Why the words cannot be had.
 #[derive(Clone, Copy)]
 pub enum ArgumentsError {
     /// One is not UTF-8.
     NotText,
-    /// Memory for them was refused.
+    /// The program is out of memory.
     Memory,
 }
 
-/// The words behind the program's name, each and in order.
+/// Returns the words after the program's name, in order.
 ///
 /// Of the arguments `fixdec`, `250` and `trim-end` they are `250` and `trim-end`.
 pub fn words(alloc: Global, arguments: io::Result<Args>) -> Result<Vec<String>, ArgumentsError>
@@ -28,7 +28,7 @@ pub fn words(alloc: Global, arguments: io::Result<Args>) -> Result<Vec<String>, 
         Err(error) if error.kind() == ErrorKind::OutOfMemory => return Err(ArgumentsError::Memory),
         Err(_) => return Err(ArgumentsError::NotText),
     };
-    match program_parts::words(alloc, arguments) {
+    match arguments.skip(1).collect(alloc) {
         Ok(words) => Ok(words),
         Err(_) => Err(ArgumentsError::Memory),
     }

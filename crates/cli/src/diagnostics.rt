@@ -1,35 +1,31 @@
-//! Where programs report their errors.
-ghost use Rattle.std.specs.Prelude.{◌≡◌, ◌<◌, ◌≤◌, false, IfErr, OnOk, OnErr};
+//! Reports of errors.
+ghost use Rattle.std.specs.Prelude.{◌≡◌, ◌<◌, ◌≤◌, Bool, false, IfErr, OnOk, OnErr};
 ghost use Rattle.std.specs.Io.KnownBytes.{Appends};
 ghost use Rattle.decimal_digits.specs.Text.{AppendsPrefix};
 ghost use Rattle.cli.specs.Diagnostics.{IsLineOf, Reports};
 
-use crate::error::ProgramError;
+use crate::errors::ProgramError;
 use arrayvec::ArrayString;
 use decimal_digits::sink::SinkFault;
 use std::fmt::{Display, InlineText};
 use std::io::Write;
 
-/// The bytes of the longest text of an error that is shown in full:
-/// `line 18446744073709551615: call 18446744073709551615: overflow`, and more.
-const LONGEST: usize = 80;
-
-/// A line with its line feed, which takes no memory.
+/// A line of at most 80 bytes and its line feed. The longest text of an error has 62 bytes.
 type Line = ArrayString<81>;
 
-/// What takes reports of errors.
+/// Takes reports of errors.
 ///
-/// Contracts name the errors that were reported, in order, by `reports`, whatever becomes of them.
+/// A caller that is generic in `D` can prove `D.reports old error new` only by one call of `report` with that error.
 pub trait Diagnostics<E> {
-    /// Relates the diagnostics before a report, the error, and the diagnostics after it.
+    /// The relation of the diagnostics before a report, the error, and the diagnostics after it.
     ghost reports: { Self → E → Self → Type 0 };
 
-    /// Reports an error. Whether anyone reads it is told nowhere.
+    /// Reports an error. A failure to do so is not returned.
     fn report(&mut self, error: &E)
         ensures { reports self.old error.now self.new };
 }
 
-/// The line of an error: its text, cut where it is very long, and a line feed.
+/// Returns the text of an error, cut after 80 bytes, and a line feed.
 fn line_of<E: Display>(error: &E) -> Line
     ensures { IsLineOf (E.output error.now) result.bytes }
 {
@@ -40,7 +36,11 @@ fn line_of<E: Display>(error: &E) -> Line
     line
 }
 
-/// Writes bytes. Err: the writer refused one, and has taken those in front.
+/// Writes bytes.
+///
+/// # Errors
+///
+/// A write fails or takes no byte; a prefix of the bytes is written.
 fn write_whole<W: Write>(writer: &mut W, bytes: &[u8]) -> Result<(), SinkFault>
     ensures ok { OnOk result (Appends (W.contents writer.old) (W.contents writer.new) bytes.now) }
     ensures err { OnErr result (AppendsPrefix (W.contents writer.old) (W.contents writer.new) bytes.now) }
@@ -55,8 +55,9 @@ fn write_whole<W: Write>(writer: &mut W, bytes: &[u8]) -> Result<(), SinkFault>
     Ok(())
 }
 
-/// The errors as lines of a writer that is lent: a report is the line of the error, in one write, of which the writer
-/// may take a part. After a byte that it refuses it is not called again.
+/// Reports errors as lines of a writer, each in one write where the writer takes it whole.
+///
+/// After a failed write the writer is not called again.
 #[derive(Drop)]
 pub struct ErrorLines<'a, W> {
     pub(crate) writer: &'a mut W,
@@ -64,7 +65,7 @@ pub struct ErrorLines<'a, W> {
 }
 
 impl<'a, W> ErrorLines<'a, W> {
-    /// Lines of this writer.
+    /// Reports to a writer.
     pub fn new(writer: &'a mut W) -> Self
         ensures { result ≡ record { writer = writer.entry; has_failed = false } }
     {
@@ -90,7 +91,7 @@ impl<W: Write, E: Display> Diagnostics<E> for ErrorLines<'_, W> {
     }
 }
 
-/// Reports the error, if there is one, and answers the exit status.
+/// Reports the error, if there is one, and returns the exit status.
 pub fn conclude<E: ProgramError, D: Diagnostics<E>>(done: Result<(), E>, diagnostics: &mut D) -> u8
     ensures at_most { result ≤ 3 }
     ensures done { OnOk done ((result ≡ 0) × (diagnostics.new ≡ diagnostics.old)) }
@@ -104,4 +105,19 @@ pub fn conclude<E: ProgramError, D: Diagnostics<E>>(done: Result<(), E>, diagnos
             error.status()
         }
     }
+}
+
+/// Reports an error as a line of a writer, and returns its exit status.
+pub fn report<E: ProgramError + Display, W: Write>(error: E, err: &mut W) -> u8
+    ensures some { 0 < result }
+    ensures at_most { result ≤ 3 }
+    ensures status { result ≡ E.status_of error }
+    ensures line { (failed : Bool)
+        × Reports (E.output error) (W.contents err.old) false (W.contents err.new) failed }
+{
+    let mut lines = ErrorLines::new(err);
+    lines.report(&error);
+    // Proof hint: the contents of `err` follow from this use of the writer.
+    let _ = &*lines.writer;
+    error.status()
 }

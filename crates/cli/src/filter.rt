@@ -10,9 +10,9 @@ ghost use Rattle.std.specs.Io.Buffered.{writer_contents};
 ghost use Rattle.cli.specs.Steps.{IsRead, IsErrorOfLine, IsErrorOfReading, EndsInBlocks};
 
 use crate::diagnostics::Diagnostics;
-use crate::error::{FilterError, OperationError};
+use crate::errors::{FilterError, OperationError};
 use crate::fixdec::print_run;
-use crate::output::{Blocks, close};
+use crate::output::{Blocks, Closed, close};
 use fixed_decimal::{Call, Sink, SinkFault};
 use std::alloc::Global;
 use std::io;
@@ -173,8 +173,7 @@ pub fn filter_lines<R: BufRead, W: Sink, D: Diagnostics<FilterError>>(
     Err(FilterError::Input)
 }
 
-/// Filters in blocks, and gives back the writer, which is called once a block and is flushed at the end. After a failed
-/// output, what the block still holds is not written.
+/// Runs `filter_lines` behind a block, and returns the writer after its last call.
 pub fn filter_in_blocks<R: BufRead, O: Write + Drop, D: Diagnostics<FilterError>>(
     alloc: Global,
     on_refusal: OnRefusal,
@@ -182,18 +181,21 @@ pub fn filter_in_blocks<R: BufRead, O: Write + Drop, D: Diagnostics<FilterError>
     input: &mut R,
     mut blocks: Blocks<O>,
     diagnostics: &mut D,
-) -> (Result<bool, FilterError>, O)
+) -> (Result<bool, FilterError>, Closed<O>)
     ensures printed { result.0 ≡ Ok true → ((lines : List (List ℕ)) × IsAll (R.remaining input.old) lines
-        × Prints calls.now lines (writer_contents O.contents blocks.0) (O.contents result.1)) }
+        × Prints calls.now lines (writer_contents O.contents blocks.0) (O.contents result.1.0)) }
     ensures silent { result.0 ≡ Ok true → diagnostics.new ≡ diagnostics.old }
     ensures skipped { result.0 ≡ Ok false → Skips D.reports on_refusal calls.now (R.remaining input.old)
-        (writer_contents O.contents blocks.0) (O.contents result.1) diagnostics.old diagnostics.new }
+        (writer_contents O.contents blocks.0) (O.contents result.1.0) diagnostics.old diagnostics.new }
     ensures ended { IfErr result.0 (EndsInBlocks D.reports on_refusal calls.now (R.remaining input.old)
-        (writer_contents O.contents blocks.0) (O.contents result.1) diagnostics.old diagnostics.new) }
+        (writer_contents O.contents blocks.0) (O.contents result.1.0) diagnostics.old diagnostics.new) }
+    ensures works { OnOk result.0 (result.1.1 ≡ false) }
+    ensures failed { result.0 ≡ Err FilterError.Output → result.1.1 ≡ true }
 {
     let filtered = filter_lines(alloc, on_refusal, calls, input, &mut blocks, diagnostics);
-    match close(blocks) {
-        Ok(writer) => (filtered, writer),
-        Err(writer) => (Err(FilterError::Output), writer),
+    let closed = close(blocks);
+    if closed.has_failed() {
+        return (Err(FilterError::Output), closed);
     }
+    (filtered, closed)
 }

@@ -1,19 +1,18 @@
-//! `fixdec TEXT [CALL]..`: it reads a decimal, makes the calls in order, and prints what it comes to.
+//! `fixdec TEXT [CALL]..`: reads a decimal, makes the calls in order, and prints the text of the result.
 ghost use Rattle.std.specs.Prelude.{◌≡◌, ◌≢◌, ◌≤◌, ◌<◌, Bool, true, false, Err, IfErr, IfSome, OnOk, IsSomeAnd};
-ghost use Rattle.cli.specs.declared.error.FixdecError.{FixdecError};
 ghost use Rattle.std.specs.Process.{exit_status};
+ghost use Rattle.cli.specs.declared.errors.FixdecError.{FixdecError};
 ghost use Rattle.cli.specs.Arguments.{HaveWords, ArgumentsFail};
 ghost use Rattle.cli.specs.Diagnostics.{Reports};
 ghost use Rattle.cli.specs.Errors.{status_of_fixdec, fixdec_of_arguments, output};
 ghost use Rattle.cli.specs.Fixdec.{OperationsFail, HasError, WordsFail};
-ghost use Rattle.fixdec_program.specs.Program.{RunPrints, RunPrintsPrefix, Prints, PrintsPrefix};
+ghost use Rattle.cli.specs.Fixdec.{RunPrints, RunPrintsPrefix, Prints, PrintsPrefix};
 
-use crate::arguments::words;
-use crate::diagnostics::{Diagnostics, ErrorLines, conclude};
-use crate::error::{FixdecError, OperationError};
-use crate::output::{abandon, close, in_blocks};
-use fixdec_program::calls;
-use fixed_decimal::{Call, Out, Sink, SinkFault};
+use crate::calls::parse_calls;
+use crate::diagnostics::{Diagnostics, ErrorLines, conclude, report};
+use crate::errors::{FixdecError, OperationError};
+use crate::output::{Closed, abandon, close, open};
+use fixed_decimal::{Call, Out, Sink, SinkFault, run};
 use std::alloc::Global;
 use std::env::Args;
 use std::fmt::Display;
@@ -21,7 +20,7 @@ use std::io::Write;
 use std::process::ExitCode;
 use std::{env, io};
 
-/// Makes a run, and puts its text and a line feed into a sink.
+/// Runs the calls on a start, and writes the text of the result and a line feed to a sink.
 pub fn print_run<W: Sink>(
     alloc: Global,
     start: &[u8],
@@ -35,13 +34,14 @@ pub fn print_run<W: Sink>(
     ensures prefix { result ≡ Err OperationError.Output →
         RunPrintsPrefix (W.contents sink.old) (W.contents sink.new) start.now calls.now }
 {
-    match fixdec_program::print_run(alloc, start, calls, sink) {
+    run(alloc, start, calls, sink)?;
+    match sink.put_byte(b'\n') {
         Ok(()) => Ok(()),
-        Err(error) => Err(OperationError::from(error)),
+        Err(_) => Err(OperationError::Output),
     }
 }
 
-/// Prints the text that the words come to, and a line feed.
+/// Prints the text of the run that the words ask for, and a line feed.
 fn print<O: Write>(alloc: Global, words: &[String], out: &mut Out<O>) -> Result<(), FixdecError>
     ensures printed { OnOk result (Prints words.now (O.contents out.old.0) (O.contents out.new.0)) }
     ensures has_not_failed { OnOk result (out.new.1 ≡ false) }
@@ -53,7 +53,7 @@ fn print<O: Write>(alloc: Global, words: &[String], out: &mut Out<O>) -> Result<
     let [start, words @ ..] = words else {
         return Err(FixdecError::Usage);
     };
-    let Some(calls) = calls(alloc, words)? else {
+    let Some(calls) = parse_calls(alloc, words)? else {
         return Err(FixdecError::Usage);
     };
     print_run(alloc, start.as_bytes(), calls.as_slice(), out)?;
@@ -61,7 +61,7 @@ fn print<O: Write>(alloc: Global, words: &[String], out: &mut Out<O>) -> Result<
     Ok(())
 }
 
-/// Does the program's work over any diagnostics, and answers the exit status.
+/// Runs `program` over any diagnostics: it reports the error, once, and nothing else.
 pub fn operate<O: Write, D: Diagnostics<FixdecError>>(
     alloc: Global,
     words: &[String],
@@ -82,7 +82,20 @@ pub fn operate<O: Write, D: Diagnostics<FixdecError>>(
     conclude(print(alloc, words, out), diagnostics)
 }
 
-/// Does the program's work: reads the words after its name, prints, and answers the exit status.
+/// Runs the program on the words after its name, and returns the exit status.
+///
+/// The first word is the start. Each other word is a call: `shift:D`, `trim-start`, `trim-end`, `trim-end-if-integer`,
+/// `pad-start:P`, `pad-end:P`, `max:P`, `round:P:MODE:INC`, `sign:SIGN`, `display:DISPLAY` or `concat:TEXT`, whose text
+/// is all that follows the colon. D and P are an optional minus and one to six digits, from -32768 to 32767. The words
+/// `250` and `shift:-2` print `2.50`.
+///
+/// # Errors
+///
+/// The error is a line of `err`, of which a prefix is written where a write fails:
+///
+/// - Status 1: the run fails with `start: syntax`, `call 7: overlap` and others of [`OperationError`].
+/// - Status 2: no start, or a word that names no call.
+/// - Status 3: `memory`, or `output` where a write or the flush of `out` fails.
 pub fn program<O: Write, E: Write>(
     alloc: Global,
     words: &[String],
@@ -106,79 +119,48 @@ pub fn program<O: Write, E: Write>(
         has_failed: false,
     };
     let status = operate(alloc, words, out, &mut diagnostics);
-    // No effect at run time. The proof reads what `err` holds from this use of the writer.
+    // Proof hint: the contents of `err` follow from this use of the writer.
     let _ = &*diagnostics.writer;
     status
 }
 
-/// Prints the text that the words come to in blocks, and gives the writer back, unless memory for the block was refused.
-fn print_words<O: Write + Drop>(
-    alloc: Global,
-    words: &[String],
-    out: O,
-) -> (Result<(), FixdecError>, Option<O>)
-    ensures printed { OnOk result.0 (IsSomeAnd result.1
-        (λ writer. Prints words.now (O.contents out) (O.contents writer))) }
-    ensures error { IfErr result.0 (WordsFail words.now result.1) }
-    ensures untouched { IfErr result.0 (λ error. error ≢ output → IfSome result.1 (λ writer. writer ≡ out)) }
-{
-    let Some(mut blocks) = in_blocks(alloc, out) else {
-        return (Err(FixdecError::Memory), None);
-    };
-    if let Err(error) = print(alloc, words, &mut blocks) {
-        return (Err(error), Some(abandon(blocks)));
-    }
-    match close(blocks) {
-        Ok(writer) => (Ok(()), Some(writer)),
-        Err(writer) => (Err(FixdecError::from(SinkFault)), Some(writer)),
-    }
-}
-
-/// Prints the text that the words of the arguments come to.
-fn print_arguments<O: Write + Drop>(
+/// Runs `program` on the arguments of the process, with a block before `out`, which is returned after its last call.
+pub fn run_arguments<O: Write + Drop, E: Write>(
     alloc: Global,
     arguments: io::Result<Args>,
     out: O,
-) -> (Result<(), FixdecError>, Option<O>)
-    ensures printed { OnOk result.0 (HaveWords arguments (λ words. IsSomeAnd result.1
-        (λ writer. Prints words (O.contents out) (O.contents writer)))) }
-    ensures error { IfErr result.0 (ArgumentsFail fixdec_of_arguments arguments result.1 WordsFail) }
-    ensures untouched { IfErr result.0 (λ error. error ≢ output → IfSome result.1 (λ writer. writer ≡ out)) }
-{
-    match words(alloc, arguments) {
-        Ok(words) => print_words(alloc, words.as_slice(), out),
-        Err(error) => (Err(FixdecError::from(error)), Some(out)),
-    }
-}
-
-/// Does the program's work on the arguments that the system gives, the first of which is the program's name: `operate`
-/// over the words behind it, with a block before `out`, which is given back with the status.
-pub fn run_arguments<O: Write + Drop, D: Diagnostics<FixdecError>>(
-    alloc: Global,
-    arguments: io::Result<Args>,
-    out: O,
-    diagnostics: &mut D,
-) -> (u8, Option<O>)
+    err: &mut E,
+) -> (u8, Option<Closed<O>>)
     ensures at_most { result.0 ≤ 3 }
     ensures printed { result.0 ≡ 0 → HaveWords arguments (λ words. IsSomeAnd result.1
-        (λ writer. Prints words (O.contents out) (O.contents writer))) }
-    ensures silent { result.0 ≡ 0 → diagnostics.new ≡ diagnostics.old }
+        (λ closed. Prints words (O.contents out) (O.contents closed.0) × (closed.1 ≡ false))) }
+    ensures silent { result.0 ≡ 0 → err.new ≡ err.old }
     ensures reported { 0 < result.0 → (error : FixdecError) × (result.0 ≡ status_of_fixdec error)
-        × ArgumentsFail fixdec_of_arguments arguments result.1 WordsFail error
-        × D.reports diagnostics.old error diagnostics.new
-        × (error ≢ output → IfSome result.1 (λ writer. writer ≡ out)) }
-    ensures untouched { 0 < result.0 → result.0 < 3 → IfSome result.1 (λ writer. writer ≡ out) }
+        × ArgumentsFail fixdec_of_arguments arguments result.1 (WordsFail O.contents out) error
+        × ((failed : Bool)
+        × Reports (⟦<FixdecError as Display>⟧.output error) (E.contents err.old) false (E.contents err.new) failed)
+        × (error ≢ output → IfSome result.1 (λ closed. closed ≡ (out, false))) }
+    ensures untouched { 0 < result.0 → result.0 < 3 → IfSome result.1 (λ closed. closed ≡ (out, false)) }
 {
-    let (printed, out) = print_arguments(alloc, arguments, out);
-    (conclude(printed, diagnostics), out)
+    let (words, mut blocks) = match open(alloc, arguments, out) {
+        Ok(opened) => opened,
+        Err((error, out)) => return (report(FixdecError::from(error), err), out),
+    };
+    let status = program(alloc, words.as_slice(), &mut blocks, err);
+    if status != 0 {
+        return (status, Some(abandon(blocks)));
+    }
+    let closed = close(blocks);
+    if closed.has_failed() {
+        return (report(FixdecError::from(SinkFault), err), Some(closed));
+    }
+    (0, Some(closed))
 }
 
-/// Does all that the program does: `run_arguments` on its arguments, standard output and standard error.
+/// Runs the process: `run_arguments` on its arguments, standard output and standard error.
 pub fn execute(rt: HostRuntime) -> ExitCode
     ensures at_most { exit_status result ≤ 3 }
 {
-    let mut err = rt.stderr();
-    let mut diagnostics = ErrorLines::new(&mut err);
-    let (status, _out) = run_arguments(rt.alloc(), env::args(&rt), rt.stdout(), &mut diagnostics);
+    let (status, _out) = run_arguments(rt.alloc(), env::args(&rt), rt.stdout(), &mut rt.stderr());
     ExitCode::from(status)
 }

@@ -1,18 +1,20 @@
-//! The programs: what each does with its words, and the errors that it reports.
+//! The work of the programs `fixdec`, `fixdec_lines` and `plural`.
+//!
+//! Each module of a program has `execute`, the body of its `main`.
 #![tactic(auto)]
 
 mod arguments;
+mod calls;
 mod diagnostics;
-mod error;
+mod errors;
 mod filter;
-mod fixdec;
+pub mod fixdec;
 pub mod fixdec_lines;
-pub mod output;
+mod output;
 
+pub use arguments::ArgumentsError;
+pub use calls::parse_calls;
 pub use diagnostics::{Diagnostics, ErrorLines};
-pub use error::{FilterError, FixdecError, OperationError, ProgramError, Reason};
+pub use errors::{FilterError, FixdecError, OperationError, ProgramError, Reason};
 pub use filter::{OnRefusal, filter_in_blocks, filter_lines};
-pub use fixdec::{execute, operate, print_run, program, run_arguments};
-
-#[cfg(test)]
-mod tests;
+pub use output::{Blocks, Closed, abandon, close, open};

@@ -1,29 +1,30 @@
+use Rattle.std.proofs.Common.{rules}
 use Rattle.std.specs.Io.Buffered.{writer_contents}
 use Rattle.cli.proofs.Blocks.{printed_kept, skips_kept, ends_kept, ends_missing}
 use Rattle.cli.proofs.filter.filter_in_blocks.Goals as goal
 
-pub returns-in-Ok-clause-printed : goal.returns-in-Ok-clause-printed
-returns-in-Ok-clause-printed g c = λ is.
+pub returns-clause-printed : goal.returns-clause-printed
+returns-clause-printed g c = λ is.
     printed_kept g.D.Diagnostics.reports c.args.on_refusal c.args.calls.now (g.R.Read.remaining c.args.input.now) _
     (writer_contents g.O.Write.contents c.filter_lines-filtered.new.out.0) _
     c.args.diagnostics.now c.filter_lines-filtered.new.diagnostics
-    (c.filter_lines-filtered.ensures.printed is) c.in-Ok.ensures.ok
+    (c.filter_lines-filtered.ensures.printed is) (c.close-closed.ensures.written (search rules))
 
-pub returns-in-Ok-clause-skipped : goal.returns-in-Ok-clause-skipped
-returns-in-Ok-clause-skipped g c = λ is.
+pub returns-clause-skipped : goal.returns-clause-skipped
+returns-clause-skipped g c = λ is.
     skips_kept g.D.Diagnostics.reports c.args.on_refusal c.args.calls.now (g.R.Read.remaining c.args.input.now) _
     (writer_contents g.O.Write.contents c.filter_lines-filtered.new.out.0) _ _ _
-    (c.filter_lines-filtered.ensures.skipped is) c.in-Ok.ensures.ok
+    (c.filter_lines-filtered.ensures.skipped is) (c.close-closed.ensures.written (search rules))
 
-pub returns-in-Ok-clause-ended : goal.returns-in-Ok-clause-ended
-returns-in-Ok-clause-ended g c =
+pub returns-clause-ended : goal.returns-clause-ended
+returns-clause-ended g c =
     ends_kept g.D.Diagnostics.reports c.args.on_refusal c.args.calls.now (g.R.Read.remaining c.args.input.now) _
     (writer_contents g.O.Write.contents c.filter_lines-filtered.new.out.0) _ _ _
-    c.filter_lines-filtered.result c.filter_lines-filtered.ensures.ended c.in-Ok.ensures.ok
+    c.filter_lines-filtered.result c.filter_lines-filtered.ensures.ended (c.close-closed.ensures.written (search rules))
 
-pub returns-in-Err-clause-ended : goal.returns-in-Err-clause-ended
-returns-in-Err-clause-ended g c =
+pub returns-then-has_failed-clause-ended : goal.returns-then-has_failed-clause-ended
+returns-then-has_failed-clause-ended g c =
     let h = c.filter_lines-filtered.ensures in
     ends_missing g.D.Diagnostics.reports c.args.on_refusal c.args.calls.now (g.R.Read.remaining c.args.input.now) _
     (writer_contents g.O.Write.contents c.filter_lines-filtered.new.out.0) _ _ _
-    c.filter_lines-filtered.result h.printed h.silent h.skipped h.ended c.in-Err.ensures.err
+    c.filter_lines-filtered.result h.printed h.silent h.skipped h.ended c.close-closed.ensures.prefix

@@ -1,12 +1,13 @@
 use Rattle.std.proofs.Common.{◌≡◌, ◌-◌, Ok, None, rules, take, drop, length, string_bytes}
-use Rattle.fixdec_program.specs.Program.{NameAll, RunPrints, RunPrintsPrefix}
-use Rattle.fixdec_program.proofs.Programs.{usage_if, runs_if, run_begun}
+use Rattle.cli.specs.Words.{NameAll}
+use Rattle.cli.specs.Fixdec.{RunPrints, RunPrintsPrefix}
+use Rattle.cli.proofs.Programs.{usage_if, runs_if, run_begun}
 use Rattle.cli.proofs.fixdec.print.Goals as goal
 
 pub returns-in_default-2-clause-error : goal.returns-in_default-2-clause-error
 returns-in_default-2-clause-error g c =
-    let none : c.calls.result ≡ Ok None = search rules in
-    usage_if c.args.words.now c.in-len1-up.len_at_least (c.calls.ensures.none none)
+    let none : c.parse_calls.result ≡ Ok None = search rules in
+    usage_if c.args.words.now c.in-len1-up.len_at_least (c.parse_calls.ensures.none none)
 
 pub returns-in_err-flush-clause-prefix : goal.returns-in_err-flush-clause-prefix
 returns-in_err-flush-clause-prefix g c =

@@ -1,5 +1,5 @@
 use Rattle.std.proofs.Common.{rules}
-use Rattle.cli.specs.contracts.error.FixdecErrorDisplay.TheImpl.{ghosts}
+use Rattle.cli.specs.contracts.errors.FixdecErrorDisplay.TheImpl.{ghosts}
 use Rattle.cli.proofs.Reporting.{reports_along}
 use Rattle.cli.proofs.fixdec.program.Goals as goal
 
