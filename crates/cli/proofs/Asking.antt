@@ -1,12 +1,13 @@
 -- What the words of a command line ask for.
-use Rattle.std.proofs.Common.{◌≡◌, ℕ, zero, suc, ◌-◌, ◌≤◌, List, [], ◌∷◌, length, take, drop, get_or, String, string_bytes, codes, Option, Some, None, Result, Ok, Err, refl, ap, subst, arith}
+use Rattle.std.proofs.Common.{◌≡◌, ℕ, zero, suc, ◌-◌, ◌≤◌, List, [], ◌∷◌, length, take, drop, get_or, String, string_bytes, codes, Option, Some, None, Result, Ok, Err, Bool, true, false, refl, sym, ap, subst, arith}
 use Rattle.std.specs.Prelude.{Any, IfErr}
 use Rattle.std.specs.declared.alloc.Global.{Global}
 use Rattle.std.specs.declared.io.buffered.BufReader.{BufReader}
 use Rattle.std.specs.declared.io.buffered.BufWriter.{BufWriter}
-use Rattle.std.specs.Io.KnownBytes.{prepend_known, append_known}
+use Rattle.std.specs.Io.KnownBytes.{Keeps, prepend_known, append_known}
 use Rattle.std.specs.Io.Buffered.{reader_inner, reader_buffer, reader_capacity, reader_remaining, writer_inner, writer_buffer, writer_contents}
 use Rattle.std.proofs.Math.Seq.{take-length}
+use Rattle.std.proofs.lemmas.Bool.{false≢true}
 use Rattle.std.proofs.lemmas.List.{append-nil, length-drop}
 use Rattle.fixed_decimal.specs.declared.runs.Call.{Call}
 use Rattle.cli.specs.Words.{Names}
@@ -79,7 +80,8 @@ nothing_before : (known : Option (List ℕ)) → prepend_known [] known ≡ know
 nothing_before None = refl
 nothing_before (Some xs) = refl
 
-nothing_behind : (known : Option (List ℕ)) → append_known known [] ≡ known
+-- no bytes are unwritten
+pub nothing_behind : (known : Option (List ℕ)) → append_known known [] ≡ known
 nothing_behind None = refl
 nothing_behind (Some xs) = ap Some (append-nil xs)
 
@@ -129,3 +131,11 @@ err_map (Err e) f h = f e h
 pub at_err : {X E : Type 0} (P : E → Type 0) (r : Result X E) (e : E) → r ≡ Err e → IfErr r P → P e
 at_err P (Ok x) e is h = cc
 at_err P (Err x) e is h = let same : x ≡ e = cc in subst P same h
+
+-- after the last call of a writer that has not failed no bytes are unwritten
+pub settled :
+    (old new : Option (List ℕ)) (failed : Bool) → (failed ≡ false → Keeps old new)
+    → (unwritten : List ℕ) × Keeps old (append_known new unwritten)
+    → (unwritten : List ℕ) × (failed ≡ false → unwritten ≡ []) × Keeps old (append_known new unwritten)
+settled old new true written (unwritten, k) = (unwritten, (λ is. absurd (false≢true (sym is))), k)
+settled old new false written prefix = ([], (λ _. refl), subst (Keeps old) (sym (nothing_behind new)) (written refl))

@@ -14,11 +14,8 @@ use Rattle.cli.specs.declared.filter.OnRefusal.{OnRefusal}
 use Rattle.cli.specs.declared.filter.OnRefusal.TheVariants.{Stop, Skip}
 use Rattle.cli.specs.Lines.{errors_of_line, errors_of, IsAll, AreFirst, HaveTexts, Prints, EndsWith, Skips, Ends}
 use Rattle.cli.specs.Steps.{EndsInBlocks}
+use Rattle.cli.proofs.Asking.{nothing_behind}
 use Rattle.cli.proofs.Refusals.{whole}
-
-nothing_behind : (known : Option (List ℕ)) → append_known known [] ≡ known
-nothing_behind None = refl
-nothing_behind (Some xs) = ap Some (append-nil xs)
 
 prefix_kept :
     (a b c : Option (List ℕ)) (text : List ℕ) → AppendsPrefix a b text → Keeps b c → AppendsPrefix a c text

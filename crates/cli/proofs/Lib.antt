@@ -9,3 +9,4 @@ pub mod Filtering
 pub mod Refusals
 pub mod Reporting
 pub mod Splitting
+pub mod Printing

@@ -1,10 +1,14 @@
 -- The errors of the programs, and the exit status that goes with each.
 use Rattle.std.specs.Prelude.{ℕ}
 use Rattle.decimal_unsigned.specs.declared.error.ParseError.TheVariants as parse
+use Rattle.decimal_unsigned.specs.Reading.{ReadingFault, syntax, limit}
+use Rattle.plural_rules.specs.declared.parse.RulesError.{RulesError}
+use Rattle.plural_rules.specs.declared.parse.RulesError.TheVariants as rules
 use Rattle.fixed_decimal.specs.declared.runs.RunError.{RunError}
 use Rattle.fixed_decimal.specs.declared.runs.RunError.TheVariants as run
 use Rattle.cli.specs.declared.arguments.ArgumentsError.{ArgumentsError}
 use Rattle.cli.specs.declared.arguments.ArgumentsError.TheVariants as arguments
+use Rattle.cli.specs.declared.errors.Reason.{Reason}
 use Rattle.cli.specs.declared.errors.Reason.TheVariants.{Syntax, Limit}
 use Rattle.cli.specs.declared.errors.OperationError.{OperationError}
 use Rattle.cli.specs.declared.errors.OperationError.TheVariants.{Start, Operand, Overlap, Overflow, Memory, Output}
@@ -12,6 +16,8 @@ use Rattle.cli.specs.declared.errors.FixdecError.{FixdecError}
 use Rattle.cli.specs.declared.errors.FixdecError.TheVariants as fixdec
 use Rattle.cli.specs.declared.errors.FilterError.{FilterError}
 use Rattle.cli.specs.declared.errors.FilterError.TheVariants as filter
+use Rattle.cli.specs.declared.errors.PluralError.{PluralError}
+use Rattle.cli.specs.declared.errors.PluralError.TheVariants as plural
 
 -- the error of a run, as the programs name it
 abbrev pub error_of_run : RunError → OperationError
@@ -63,3 +69,27 @@ status_of_filter filter.Output = 3
 abbrev pub filter_of_arguments : ArgumentsError → FilterError
 filter_of_arguments arguments.NotText = filter.Usage
 filter_of_arguments arguments.Memory = filter.Memory
+
+-- the status of an error of `plural`
+abbrev pub status_of_plural : PluralError → ℕ
+status_of_plural plural.Usage = 2
+status_of_plural plural.Memory = 3
+status_of_plural (plural.Rules at reason) = 1
+status_of_plural (plural.Text number reason) = 1
+status_of_plural plural.Output = 3
+
+-- the words cannot be had
+abbrev pub plural_of_arguments : ArgumentsError → PluralError
+plural_of_arguments arguments.NotText = plural.Usage
+plural_of_arguments arguments.Memory = plural.Memory
+
+-- the error of rules that are rejected
+abbrev pub error_of_rules : RulesError → PluralError
+error_of_rules (rules.Syntax at) = plural.Rules at Syntax
+error_of_rules (rules.Limit at) = plural.Rules at Limit
+error_of_rules rules.Memory = plural.Memory
+
+-- the reason, as the libraries name it
+abbrev pub reading_fault_of : Reason → ReadingFault
+reading_fault_of Syntax = syntax
+reading_fault_of Limit = limit

@@ -1,67 +1,68 @@
-//! The errors that programs report, each on one line, and the exit status that goes with each.
+//! The errors of the programs: a line on standard error and an exit status each.
 ghost use Rattle.std.specs.Prelude.{◌≡◌, ◌<◌, ◌≤◌, ℕ};
-ghost use Rattle.cli.specs.Errors.{status_of_operation, status_of_fixdec, status_of_filter};
+ghost use Rattle.cli.specs.Errors.{status_of_operation, status_of_fixdec, status_of_filter, status_of_plural};
 
 use crate::arguments::ArgumentsError;
 use fixed_decimal::{ParseError, RunError, SinkFault};
+use plural_rules::RulesError;
 use std::alloc::AllocError;
 use std::error;
 use thiserror::Error;
 
-/// Why a text was refused.
+/// Why a text or rules are rejected.
 #[derive(Clone, Copy, Debug, PartialEq, Error)]
 pub enum Reason {
-    /// It is in no grammar.
+    /// No grammar has it.
     #[error("syntax")]
     Syntax,
-    /// It is in the grammar, and names a number beyond the limits.
+    /// The grammar has it, and it names a number beyond the limits.
     #[error("limit")]
     Limit,
 }
 
-/// Why the operations on a text gave no text. Operations are numbered from 0 on.
+/// The error of the calls on a text. Calls have 0-based numbers.
 #[derive(Clone, Copy, Debug, PartialEq, Error)]
 pub enum OperationError {
-    /// The text was refused.
+    /// The text is rejected.
     #[error("start: {0}")]
     Start(Reason),
-    /// The text that this operation was to join was refused.
+    /// The text that this call joins is rejected.
     #[error("call {at}: {reason}")]
     Operand { at: usize, reason: Reason },
-    /// The numbers that this operation was to join overlap.
+    /// The numbers that this call joins overlap.
     #[error("call {at}: overlap")]
     Overlap { at: usize },
-    /// What this operation was to make is beyond the limits.
+    /// The result of this call is beyond the limits.
     #[error("call {at}: overflow")]
     Overflow { at: usize },
-    /// Memory was refused.
+    /// Out of memory.
     #[error("memory")]
     Memory,
-    /// The output refused a byte, or its flush failed.
+    /// A write or the flush of the output failed.
     #[error("output")]
     Output,
 }
 
-/// Why `fixdec` printed no text.
+/// The error of `fixdec`.
 #[derive(Debug, Drop, PartialEq, Error)]
 pub enum FixdecError {
-    /// There is no start, a word names no operation, or one is not UTF-8.
+    /// There is no start, or a word names no call or is not UTF-8.
     #[error("usage: fixdec TEXT [CALL]..")]
     Usage,
-    /// Memory for the words, for their operations or for the buffer was refused.
+    /// Out of memory for the words, for their calls or for the block.
     #[error("memory")]
     Memory,
-    /// The operations gave no text.
+    /// The calls fail.
     #[error(transparent)]
     Operation(OperationError),
 }
 
 /// An error that a program reports.
 pub trait ProgramError: error::Error {
-    /// The exit status that goes with it.
+    /// The exit status.
     ghost status_of: { Self → ℕ };
 
-    /// The exit status that goes with it.
+    /// The exit status.
     fn status(&self) -> u8
         ensures status { result ≡ status_of self.now }
         ensures some { 0 < result }
@@ -69,7 +70,7 @@ pub trait ProgramError: error::Error {
 }
 
 impl OperationError {
-    /// The exit status that goes with the line.
+    /// Returns the exit status.
     pub fn status(&self) -> u8
         ensures status { result ≡ status_of_operation self.now }
         ensures some { 0 < result }
@@ -176,25 +177,25 @@ impl From<ArgumentsError> for FixdecError {
     }
 }
 
-/// Why `fixdec_lines` did not write a text for each line. Lines are numbered from 1 on.
+/// The error of `fixdec_lines`. Lines have 1-based numbers.
 #[derive(Clone, Copy, Debug, PartialEq, Error)]
 pub enum FilterError {
-    /// A word names no operation, or one is not UTF-8.
+    /// A word names no call or is not UTF-8.
     #[error("usage: fixdec_lines [skip] [CALL]..")]
     Usage,
-    /// Memory for the words, for their operations or for the buffers was refused, before the first line.
+    /// Out of memory before the first line.
     #[error("memory")]
     Memory,
-    /// The operations on this line gave no text.
+    /// The calls on this line fail.
     #[error("line {line}: {error}")]
     Operation { line: u64, error: OperationError },
-    /// Memory to hold this line was refused.
+    /// Out of memory to hold this line.
     #[error("line {line}: memory")]
     LongLine { line: u64 },
-    /// The input could not be read.
+    /// A read of the input failed.
     #[error("input")]
     Input,
-    /// The output refused a byte, or its flush failed.
+    /// A write or the flush of the output failed.
     #[error("output")]
     Output,
 }
@@ -223,6 +224,81 @@ impl From<ArgumentsError> for FilterError {
         match error {
             ArgumentsError::NotText => FilterError::Usage,
             ArgumentsError::Memory => FilterError::Memory,
+        }
+    }
+}
+
+/// The error of `plural`.
+#[derive(Clone, Copy, Debug, PartialEq, Error)]
+pub enum PluralError {
+    /// There are no rules or no text, or a word is not UTF-8.
+    #[error("usage: plural RULES TEXT..")]
+    Usage,
+    /// Out of memory.
+    #[error("memory")]
+    Memory,
+    /// The rules are rejected at the byte with this 0-based index.
+    #[error("rules: {reason} at {at}")]
+    Rules { at: usize, reason: Reason },
+    /// The text with this 1-based number is rejected.
+    #[error("text {number}: {reason}")]
+    Text { number: usize, reason: Reason },
+    /// A write or the flush of the output failed.
+    #[error("output")]
+    Output,
+}
+
+impl ProgramError for PluralError {
+    ghost status_of = { status_of_plural };
+
+    fn status(&self) -> u8 {
+        match self {
+            PluralError::Rules { .. } | PluralError::Text { .. } => 1,
+            PluralError::Usage => 2,
+            PluralError::Memory | PluralError::Output => 3,
+        }
+    }
+}
+
+impl From<RulesError> for PluralError {
+    ghost use Rattle.cli.specs.Errors.{error_of_rules};
+
+    ghost from_gives = { λ error result. result ≡ error_of_rules error };
+
+    fn from(error: RulesError) -> PluralError {
+        match error {
+            RulesError::Syntax { at } => PluralError::Rules {
+                at,
+                reason: Reason::Syntax,
+            },
+            RulesError::Limit { at } => PluralError::Rules {
+                at,
+                reason: Reason::Limit,
+            },
+            RulesError::Memory => PluralError::Memory,
+        }
+    }
+}
+
+impl From<SinkFault> for PluralError {
+    ghost use Rattle.cli.specs.declared.errors.PluralError.TheVariants.{Output};
+
+    ghost from_gives = { λ _ result. result ≡ Output };
+
+    fn from(_error: SinkFault) -> PluralError {
+        PluralError::Output
+    }
+}
+
+impl From<ArgumentsError> for PluralError {
+    ghost use Rattle.cli.specs.Errors.{plural_of_arguments};
+
+    ghost from_gives = { λ error result. result ≡ plural_of_arguments error };
+
+    fn from(error: ArgumentsError) -> PluralError {
+        match error {
+            ArgumentsError::NotText => PluralError::Usage,
+            ArgumentsError::Memory => PluralError::Memory,
         }
     }
 }
