@@ -11,6 +11,7 @@ ghost use Rattle.cli.specs.Fixdec.{RunPrints, RunPrintsPrefix, Prints, PrintsPre
 use crate::calls::parse_calls;
 use crate::diagnostics::{Diagnostics, ErrorLines, conclude, report};
 use crate::errors::{FixdecError, OperationError};
+use crate::help::{CALLS, help};
 use crate::output::{Closed, abandon, close, open};
 use fixed_decimal::{Call, Out, Sink, SinkFault, run};
 use std::alloc::Global;
@@ -161,6 +162,10 @@ pub fn run_arguments<O: Write + Drop, E: Write>(
 pub fn execute(rt: HostRuntime) -> ExitCode
     ensures at_most { exit_status result ≤ 3 }
 {
+    let usage = "usage: fixdec TEXT [CALL]..\n";
+    if let Some(status) = help(rt.alloc(), env::args(&rt), usage, CALLS, &mut rt.stdout()) {
+        return ExitCode::from(status);
+    }
     let (status, _out) = run_arguments(rt.alloc(), env::args(&rt), rt.stdout(), &mut rt.stderr());
     ExitCode::from(status)
 }

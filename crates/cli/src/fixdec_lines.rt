@@ -12,6 +12,7 @@ use crate::calls::parse_calls;
 use crate::diagnostics::{Diagnostics, ErrorLines};
 use crate::errors::{FilterError, ProgramError};
 use crate::filter::{OnRefusal, filter_in_blocks};
+use crate::help::{CALLS, help};
 use crate::output::{Blocks, Closed, abandon, open};
 use std::alloc::Global;
 use std::env::Args;
@@ -125,6 +126,10 @@ pub fn run_arguments<R: Read, O: Write + Drop, D: Diagnostics<FilterError>>(
 pub fn execute(rt: HostRuntime) -> ExitCode
     ensures at_most { exit_status result ≤ 3 }
 {
+    let usage = "usage: fixdec_lines [skip] [CALL]..\n";
+    if let Some(status) = help(rt.alloc(), env::args(&rt), usage, CALLS, &mut rt.stdout()) {
+        return ExitCode::from(status);
+    }
     let mut err = rt.stderr();
     let arguments = env::args(&rt);
     let (status, _out) = run_arguments(

@@ -11,6 +11,7 @@ mod errors;
 mod filter;
 pub mod fixdec;
 pub mod fixdec_lines;
+mod help;
 mod output;
 pub mod plural;
 

@@ -9,6 +9,7 @@ ghost use Rattle.cli.specs.Plural.{Prints, Stops, PluralFails};
 use crate::categories::print_categories;
 use crate::diagnostics::{Diagnostics, ErrorLines, conclude};
 use crate::errors::PluralError;
+use crate::help::{OPERANDS, help};
 use crate::output::{Closed, close, open};
 use fixed_decimal::Out;
 use plural_rules::PluralRules;
@@ -101,6 +102,10 @@ pub fn run_arguments<O: Write + Drop, D: Diagnostics<PluralError>>(
 pub fn execute(rt: HostRuntime) -> ExitCode
     ensures at_most { exit_status result ≤ 3 }
 {
+    let usage = "usage: plural RULES TEXT..\n";
+    if let Some(status) = help(rt.alloc(), env::args(&rt), usage, OPERANDS, &mut rt.stdout()) {
+        return ExitCode::from(status);
+    }
     let mut err = rt.stderr();
     let mut diagnostics = ErrorLines::new(&mut err);
     let (status, _out) = run_arguments(rt.alloc(), env::args(&rt), rt.stdout(), &mut diagnostics);
