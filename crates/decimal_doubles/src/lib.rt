@@ -1,7 +1,7 @@
 //! Doubles for tests: a store with little memory, which counts, a sink and a writer with little room, the types of
 //! values as one trait, their rounding calls as another, and long texts.
 //!
-//! The store, the sink and the writer ask for no memory of their own. Nothing but tests stands on this crate.
+//! The store, the sink and the writer do not allocate. Only tests, and programs that are tests, depend on this crate.
 #![tactic(auto)]
 
 mod counts;

@@ -1,8 +1,9 @@
-//! What rows of texts do not test: types, failing sinks, refused memory, and counts. A helper holds one value and answers
+//! What rows of texts do not test: types, failing sinks, refused memory, and counts. A helper holds one value and returns
 //! whether it is as its row says.
 use decimal_doubles::{Value, displays, has_text, long, shows};
 use fixed_decimal::{
-    Decimal, DigitList, DigitStore, PackedDigits, ParseError, TextBuf, UnsignedOver, Writeable,
+    Decimal, DigitList, DigitStore, PackedDigits, ParseError, Sink, TextBuf, UnsignedOver,
+    Writeable,
 };
 use std::alloc::Global;
 use std::test::Fail;

@@ -1,8 +1,6 @@
 //! What `{}` writes of each error.
 use super::*;
-use fixed_decimal::{
-    ConcatenateError, IntegerError, LimitError, RoundError, RunError, SinkFault,
-};
+use fixed_decimal::{ConcatenateError, IntegerError, LimitError, RoundError, RunError, SinkFault};
 use std::error::Error;
 
 /// Errors of runs, and what they print.

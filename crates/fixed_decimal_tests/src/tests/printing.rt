@@ -1,7 +1,7 @@
 //! Values into sinks, and into sinks and writers that fail.
 use super::*;
 use decimal_doubles::{FailingWriter, LimitedSink, WriteFailure};
-use fixed_decimal::{Out, Sink};
+use fixed_decimal::Out;
 
 /// What a sink takes of a value three times.
 fn printed_thrice<T: Value>(alloc: Global, text: &str) -> Result<TextBuf, Fail> {

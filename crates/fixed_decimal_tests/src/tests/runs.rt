@@ -1,7 +1,7 @@
 //! Whole runs into sinks that fail, over each store.
 use super::*;
 use decimal_doubles::{FailingWriter, LimitedSink, WriteFailure};
-use fixed_decimal::{Call, Out, RunError, Sink, run_over};
+use fixed_decimal::{Call, Out, RunError, run_over};
 
 /// A start, calls, and the text that they come to.
 type Run = (&'static str, &'static [Call<'static>], &'static str);
