@@ -282,11 +282,16 @@ pub fn has_sign(text: &str) -> bool {
 
 /// Whether calls start from a value with a sign, or are for one alone.
 fn needs_sign(start: &str, words: &str) -> bool {
+    for word in words.split(',') {
+        match step(word) {
+            Some((Call::Round(_, SignedRoundingMode::Unsigned(_), _), _)) => {}
+            Some((Call::Round(_, _, _) | Call::SetSign(_) | Call::ApplySignDisplay(_), _)) => {
+                return true;
+            }
+            _ => {}
+        }
+    }
     has_sign(start)
-        || words.contains("sign:")
-        || words.contains("display:")
-        || words.contains("ceil")
-        || words.contains("floor")
 }
 
 /// A store that counts, with memory for every number.
