@@ -34,18 +34,19 @@ CELL = 240
 
 DOCUMENTS = ["README.md", "CALLING.md"]
 # The crates whose proofs know of the libraries what every caller does.
-CALLERS = ["uses", "plural_rules", "program_parts", "plural_program", "fixdec_lines_program"]
+CALLERS = ["uses", "plural_rules", "cli"]
 LIBRARIES = ["decimal_digits", "decimal_unsigned", "fixed_decimal"]
-CRATES = [*LIBRARIES, "program_parts", "fixdec_program", "fixdec_lines_program", "plural_rules", "plural_program"]
+CRATES = [*LIBRARIES, "plural_rules", "cli"]
 
 # The files above the libraries whose public functions are promises.
 ABOVE = [
-    "crates/program_parts/src/arguments.rt",
-    "crates/program_parts/src/lines.rt",
-    "crates/fixdec_program/src/command_line.rt",
-    "crates/fixdec_lines_program/src/command_line.rt",
-    "crates/fixdec_lines_program/src/filter.rt",
-    "crates/plural_program/src/command_line.rt",
+    "crates/cli/src/calls.rt",
+    "crates/cli/src/diagnostics.rt",
+    "crates/cli/src/filter.rt",
+    "crates/cli/src/fixdec.rt",
+    "crates/cli/src/fixdec_lines.rt",
+    "crates/cli/src/output.rt",
+    "crates/cli/src/plural.rt",
     "crates/plural_rules/src/operands.rt",
     "crates/plural_rules/src/parse.rt",
     "crates/plural_rules/src/rules.rt",
