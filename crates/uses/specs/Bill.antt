@@ -36,8 +36,8 @@ abbrev pub IsWholeCents : Unsigned → Type 0
 IsWholeCents amount = (total : ℕ) × (total < 2 ^ 64) × (amount.number ≡ total * cent)
 
 -- why an amount is not split, the first of these that holds: there is no part; the amount shows a digit above the
--- magnitude 32765; it has a part of a cent; it is 2 to the 64 cents or more. Out of memory: for a copy of an amount with
--- more digits than are stored in place, or for parts of whole cents
+-- magnitude 32765; it has a part of a cent; it is 2 to the 64 cents or more. Out of memory: for a copy of an amount
+-- with more digits than are stored in place, or for parts of whole cents
 abbrev pub Refuses : BillError → Unsigned → ℕ → Type 0
 Refuses NoPart amount count = count ≡ 0
 Refuses PartOfACent amount count = (0 < count) × StaysInLimits amount (pos 2) × (¬ (amount.number % cent ≡ 0))

@@ -52,8 +52,8 @@ fn cents_value(alloc: Global, cents: u64) -> Result<UnsignedDecimal, AllocError>
 ///
 /// # Errors
 ///
-/// The first that applies: `NoPart`; `Memory` for a copy of the amount; `TooGreat` for a digit above the magnitude 32765;
-/// `PartOfACent`; `TooGreat` for 2 to the 64 cents or more; `Memory` for the parts.
+/// The first that applies: `NoPart`; `Memory` for a copy of the amount; `TooGreat` for a digit above the magnitude
+/// 32765; `PartOfACent`; `TooGreat` for 2 to the 64 cents or more; `Memory` for the parts.
 pub fn split_bill(
     alloc: Global,
     amount: &UnsignedDecimal,

@@ -207,8 +207,8 @@ fn leaves<T: Value + Edited>(alloc: Global, start: &str, words: &str, wanted: &s
     true
 }
 
-/// Whether a call on a list of a length accessed few digits and allocated little: an edit none, a rounding at most seven
-/// digits more than the list had, those counted that it left, and one allocation by 25 alone.
+/// Whether a call on a list of a length accessed few digits and allocated little: an edit none, a rounding at most
+/// seven digits more than the list had, those counted that it left, and one allocation by 25 alone.
 fn is_within<S: CountingStore>(store: &S, call: Call<'_>, length: usize, is_made: bool) -> bool {
     match call {
         Call::Round(_, _, increment) => {
@@ -269,7 +269,7 @@ fn needs_sign(start: &str, words: &str) -> bool {
     has_sign(start) || signed.iter().any(|word| words.contains(*word))
 }
 
-/// Whether calls leave a text of another, over each store, in each way and in a run; `!` where each of them is rejected.
+/// Whether calls leave a text of another, over each store, in each form and in a run; `!` where each is rejected.
 pub fn holds(alloc: Global, start: &str, words: &str, wanted: &str) -> bool {
     let is_signed = signed_leaves::<DigitList>(alloc, start, words, wanted)
         && signed_leaves::<PackedDigits>(alloc, start, words, wanted);

@@ -22,9 +22,9 @@
 //! plural | RULES | CATEGORY | SAMPLES       The plural category of each sample, as CLDR writes rules and samples.
 //! ```
 //!
-//! Rows of `decimal`, `order`, `pair decimal` and `integers` are checked on values with a sign, and on values without one
-//! where their texts have none. The calls are those of `fixdec`, separated by commas. A field with a `*` is written in
-//! parts, separated by spaces: `9*3 .5` is `999.5`. A row with `*n` is a row for each length up to 200, and for each
+//! Rows of `decimal`, `order`, `pair decimal` and `integers` are checked on values with a sign, and where their texts
+//! have none on values without one. The calls are those of `fixdec`, separated by commas. A field with a `*` is written
+//! in parts, separated by spaces: `9*3 .5` is `999.5`. A row with `*n` is a row for each length up to 200, and for each
 //! hundredth up to 5,000; one with the mode `each` is a row for each mode, with a result for each. A row whose kind
 //! begins with `not`, as `not run`, has a wrong result, and holds where the check rejects it.
 #![tactic(auto)]
