@@ -3,7 +3,7 @@ use Rattle.std.proofs.Common.{◌≡◌, ◌≢◌, ℕ, ◌+◌, List, [], ◌�
 use Rattle.std.specs.Prelude.{⊤, IsOk, IsErr, IsErrAnd, IfErr, IfSome, Any}
 use Rattle.std.proofs.lemmas.Bool.{false≢true, and_parts, cases_Bool}
 use Rattle.std.specs.List.{AllByRecursion}
-use Rattle.std.specs.Io.KnownBytes.{Appends}
+use Rattle.std.specs.Io.KnownBytes.{Appends, IsAtEnd}
 use Rattle.std.specs.Io.BufRead.{drop_through}
 use Rattle.std.specs.declared.io.Error.{Error}
 use Rattle.std.proofs.lemmas.List.{append-nil}
@@ -53,7 +53,16 @@ read_all :
     → IfSome b (λ rest. IsRead false rest line c) → IsAll a lines
 read_all None b c lines line h is = tt
 read_all (Some bytes) None c lines line h is = absurd h
-read_all (Some bytes) (Some rest) c lines line h is = h ∙ (ap (λ r. lines ++ lines_of r) is ∙ append-nil lines)
+read_all (Some bytes) (Some rest) c lines line h (none, end) =
+    h ∙ (ap (λ r. lines ++ lines_of r) none ∙ append-nil lines)
+
+-- and the input is at its end
+read_end :
+    (a b c : Option (List ℕ)) (lines : List (List ℕ)) (line : List ℕ) → HasRead a b lines
+    → IfSome b (λ rest. IsRead false rest line c) → IfSome a (λ _. IsAtEnd c)
+read_end None b c lines line h is = tt
+read_end (Some bytes) None c lines line h is = absurd h
+read_end (Some bytes) (Some rest) c lines line h (none, end) = subst IsAtEnd (sym end) refl
 
 -- what was read are the first lines
 read_first : (a b : Option (List ℕ)) (lines : List (List ℕ)) → HasRead a b lines → AreFirst a lines
@@ -202,6 +211,12 @@ module _
         (line : List ℕ) (c : Option (List ℕ)) → t ≡ true → IfSome b (λ rest. IsRead false rest line c)
         → (lines : List (List ℕ)) × IsAll a lines × Prints calls lines o p
     filtered_all line c all is = (h.lines, read_all a b c h.lines line h.read is, (h.texts all, h.output))
+
+    -- no line is left, and the input is at its end
+    pub filtered_end :
+        (line : List ℕ) (c : Option (List ℕ)) → IfSome b (λ rest. IsRead false rest line c)
+        → IfSome a (λ _. IsAtEnd c)
+    filtered_end line c is = read_end a b c h.lines line h.read is
 
     -- where the first refusal ends it, none was refused so far
     stop_texts : on_refusal ≡ Stop → HaveTexts calls h.lines

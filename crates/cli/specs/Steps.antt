@@ -22,7 +22,7 @@ use Rattle.cli.specs.Fixdec.{OperationsFail}
 -- the first line of the bytes was read and these bytes are left, or there is none
 abbrev pub IsRead : Bool → List ℕ → List ℕ → Option (List ℕ) → Type 0
 IsRead true bytes line rest = (bytes ≢ []) × (line ≡ first_piece 10 bytes) × (rest ≡ Some (drop_through 10 bytes))
-IsRead false bytes line rest = bytes ≡ []
+IsRead false bytes line rest = (bytes ≡ []) × (rest ≡ Some [])
 
 -- the error is that of reading the line with this number: want of memory for it, or else a failed input
 abbrev pub IsErrorOfReading : ℕ → Error → FilterError → Type 0

@@ -1,7 +1,7 @@
 //! The filter: the operations on each line of an input.
 ghost use Rattle.std.specs.Prelude.{◌≡◌, ◌≢◌, ◌++◌, ◌∷◌, [], List, ℕ, true, false, Ok, Err, IsOk, IsErr, IfOk, IfErr, IfSome, OnOk, OnErr};
 ghost use Rattle.std.specs.List.{FoldsTo};
-ghost use Rattle.std.specs.Io.KnownBytes.{Appends};
+ghost use Rattle.std.specs.Io.KnownBytes.{Appends, IsAtEnd};
 ghost use Rattle.std.specs.Io.BufRead.{strip_last};
 ghost use Rattle.decimal_digits.specs.Text.{AppendsPrefix};
 ghost use Rattle.fixed_decimal.specs.Outcome.{outcome};
@@ -148,6 +148,7 @@ pub fn filter_lines<R: BufRead, W: Sink, D: Diagnostics<FilterError>>(
     ensures ended { IfErr result (Ends D.reports on_refusal calls.now (R.remaining input.old)
         (W.contents out.old) (W.contents out.new) diagnostics.old diagnostics.new) }
     ensures failed { result ≡ Err FilterError.Output → W.has_failed out.new ≡ true }
+    ensures at_end { OnOk result (IfSome (R.remaining input.old) (λ _. IsAtEnd (R.remaining input.new))) }
 {
     let mut line = Vec::new(alloc);
     let mut have_texts = true;
