@@ -35,6 +35,8 @@ CELL = 240
 DOCUMENTS = ["README.md", "CALLING.md"]
 # The crates whose proofs know of the libraries what every caller does.
 CALLERS = ["uses", "plural_rules", "cli"]
+# What writes to a writer itself cites the lemmas on writers.
+WRITES = "crates/cli/proofs/diagnostics/write_whole/Answers.antt"
 LIBRARIES = ["decimal_digits", "decimal_unsigned", "fixed_decimal"]
 CRATES = [*LIBRARIES, "plural_rules", "cli"]
 
@@ -563,7 +565,7 @@ def check_callers(tree):
         if crate not in CALLERS:
             continue
         for cited in re.findall(r"^(?:pub )?use Rattle\.(?:decimal_\w+|fixed_decimal)\.proofs\.(\w+)", text, re.M):
-            check(cited == "Calling", f"{path}: cites {cited}, and callers cite Calling alone")
+            check(cited == "Calling" or path == WRITES, f"{path}: cites {cited}, and callers cite Calling alone")
 
 
 def check_public(tree):
