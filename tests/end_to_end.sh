@@ -282,6 +282,7 @@ row plural 0 $'one\none\none\n' '' "$one" 1 01 -1
 
 # Status 1: the rules or a text are rejected; the categories of the texts before are printed.
 row plural 1 '' $'rules: syntax at 4\n' 'one i = 1' 1
+row plural 1 '' $'rules: limit at 9\n' 'one: n = 18446744073709551616' 1
 row plural 1 '' $'text 1: syntax\n' "$one" x
 row plural 1 $'one\n' $'text 2: syntax\n' "$one" 1 x 1
 row plural 1 $'one\nother\n' $'text 3: limit\n' "$one" 1 2 1e99999 1
