@@ -25,7 +25,6 @@ run rt ci
 # The scripts take the programs that the gate has just built.
 export BUILT_BY_GATE=1
 run bash tests/end_to_end.sh
-run bash tests/filter_end_to_end.sh
 run bash tests/allocation_failures.sh
 run python3 tools/check_documents.py
 

@@ -1,7 +1,7 @@
 #!/usr/bin/env bash
 # Runs the built programs `fixdec`, `fixdec_lines` and `plural`, and compares standard output, standard error and the
-# status: a row for each line of an error, and words and inputs that only a real command line has. A program that is not
-# built is proved and built first, by `rt run`. Needs bash, and prlimit of util-linux. The last line is
+# status: a row for each line of an error, and words and inputs that only a real command line has. `rt run`
+# proves and builds them first, but where the gate just did. Needs bash, and prlimit of util-linux. The last line is
 # `N passed, M failed`; the status is 0 if M is 0.
 set -u
 cd "$(dirname "$0")/.." || exit 1
@@ -9,7 +9,7 @@ room=$(mktemp -d) || exit 1
 trap 'rm -rf "$room"' EXIT
 for name in fixdec fixdec_lines plural; do
   program=crates/$name/out/$name
-  [ -f "$program" ] || (cd "crates/$name" && rt run) > /dev/null 2>&1
+  [ -n "${BUILT_BY_GATE:-}" ] || (cd "crates/$name" && rt run) > /dev/null 2>&1 < /dev/null
   if [ ! -f "$program" ]; then
     echo "the program was not built: try rt run in crates/$name"
     echo "0 passed, 1 failed"
@@ -167,7 +167,7 @@ lines 1 '1\r\n' '' $'line 1: start: syntax\n'
 lines 1 '1\0002\n' '' $'line 1: start: syntax\n'
 lines 1 '\0377\n' '' $'line 1: start: syntax\n'
 lines 1 '1\n10e32767' $'1\n' $'line 2: start: limit\n'
-lines 1 '10\n11\n' $'17\n' $'line 2: call 1: overlap\n' trim-end concat:7
+lines 1 '0.0\n10\n110.00\n11\n120\n' $'7\n17\n117\n' $'line 4: call 1: overlap\n' trim-end concat:7
 lines 1 '1\n' '' $'line 1: call 0: syntax\n' concat:x
 lines 1 '1\n' '' $'line 1: call 0: limit\n' concat:1e99999
 lines 1 '1\n' '' $'line 1: call 1: overflow\n' shift:32767 shift:1
@@ -182,7 +182,7 @@ lines 2 '1\n' '' "$usage" trim
 lines 2 '1\n' '' "$usage" ''
 lines 2 '1\n' '' "$usage" --
 lines 2 '1\n' '' "$usage" skip skip
-lines 2 '1\n' '' "$usage" shift:1 skip
+lines 2 '250\n' '' "$usage" shift:-2 skip
 lines 2 '1\n' '' "$usage" $'concat:\xc3\x28'
 printf '1\n2\n' > "$room/in"
 { "$room/fixdec_lines" up > /dev/null 2>&1; [ "$(cat)" = $'1\n2' ]; } < "$room/in"
@@ -282,6 +282,7 @@ row plural 0 $'one\none\none\n' '' "$one" 1 01 -1
 
 # Status 1: the rules or a text are rejected; the categories of the texts before are printed.
 row plural 1 '' $'rules: syntax at 4\n' 'one i = 1' 1
+row plural 1 '' $'rules: limit at 9\n' 'one: n = 18446744073709551616' 1
 row plural 1 '' $'text 1: syntax\n' "$one" x
 row plural 1 $'one\n' $'text 2: syntax\n' "$one" 1 x 1
 row plural 1 $'one\nother\n' $'text 3: limit\n' "$one" 1 2 1e99999 1

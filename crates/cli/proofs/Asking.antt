@@ -21,7 +21,7 @@ use Rattle.cli.specs.Steps.{IsSplit}
 
 -- ---- Words.
 
--- the first word is `skip`, and the others are behind it
+-- the first word is `skip`, and the others are after it
 pub split_first :
     (words : List (String Global)) (first : String Global) → 1 ≤ length words → first ≡ get_or words 0 first
     → string_bytes first ≡ codes "skip" → IsSplit words Skip (take (length words - 1) (drop 1 words))
@@ -29,7 +29,7 @@ split_first [] first some is same = absurd (omega arith)
 split_first (w ∷ ws) first some is same =
     (subst (λ x. string_bytes x ≡ codes "skip") is same, rw (← length-drop 1 (w ∷ ws)) (take-length ws))
 
--- the calls that the words behind `skip` name are those that the words ask for
+-- the calls that the words after `skip` name are those that the words ask for
 pub asks_of :
     (words : List (String Global)) (on_refusal : OnRefusal) (others : List (String Global)) (calls : List Call)
     → IsSplit words on_refusal others → NameAll others calls → Asks words on_refusal calls
@@ -51,7 +51,7 @@ unknown_behind :
 unknown_behind w ws [] some names = absurd names
 unknown_behind w ws (c ∷ cs) some (name, names) = unknown_names ws cs some names
 
--- where one of the words behind `skip` names no call, the words ask for nothing
+-- where one of the words after `skip` names no call, the words ask for nothing
 pub usage_of :
     (words : List (String Global)) (on_refusal : OnRefusal) (others : List (String Global))
     → IsSplit words on_refusal others → Any IsUnknown others → IsUsage words
@@ -85,13 +85,13 @@ pub nothing_behind : (known : Option (List ℕ)) → append_known known [] ≡ k
 nothing_behind None = refl
 nothing_behind (Some xs) = ap Some (append-nil xs)
 
--- what is left for a new buffer is what is left for the reader behind it
+-- what is left for a new buffer is what is left for the reader after it
 pub new_reader :
     {T A : Type 0} (f : T → Option (List ℕ)) (r : BufReader T A) (x : T) → reader_inner r ≡ x → reader_buffer r ≡ []
     → reader_capacity r ≡ 65536 → reader_remaining f r ≡ f x
 new_reader f r x inner empty room = rw (room, empty, inner) (nothing_before (f x))
 
--- what a new buffer has taken is what the writer behind it has
+-- what a new buffer has taken is what the writer after it has
 pub new_writer :
     {T A : Type 0} (f : T → Option (List ℕ)) (w : BufWriter T A) (x : T) → writer_inner w ≡ x → writer_buffer w ≡ []
     → writer_contents f w ≡ f x

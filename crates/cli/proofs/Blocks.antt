@@ -1,4 +1,4 @@
--- How the filter ends behind a block.
+-- How the filter ends after a block.
 use Rattle.std.proofs.Common.{◌≡◌, ℕ, ◌+◌, List, [], ◌∷◌, ◌++◌, append_assoc, Option, Some, None, Result, Ok, Err, Bool, true, false, refl, sym, ap, subst, ◌∙◌}
 use Rattle.std.specs.Prelude.{IsOk, IfErr}
 use Rattle.std.specs.List.{FoldsTo}
@@ -57,13 +57,13 @@ module _
     {D : Type 0} (reports : D → FilterError → D → Type 0) (on_refusal : OnRefusal) (calls : List Call)
     (i a b d : Option (List ℕ)) (e f : D)
   where
-    -- all lines were printed, and the block was handed on
+    -- all lines were printed, and the block was written
     pub printed_kept :
         (lines : List (List ℕ)) × IsAll i lines × Prints calls lines a b → Keeps b d
         → (lines : List (List ℕ)) × IsAll i lines × Prints calls lines a d
     printed_kept (lines, all, (texts, p)) k = (lines, all, (texts, appends_kept a b d _ p k))
 
-    -- lines were skipped, and the block was handed on
+    -- lines were skipped, and the block was written
     pub skips_kept : Skips reports on_refusal calls i a b e f → Keeps b d → Skips reports on_refusal calls i a d e f
     skips_kept (skip, lines, all, some, p, folds) k = (skip, lines, all, some, appends_kept a b d _ p k, folds)
 
@@ -81,7 +81,7 @@ module _
       folds,
     )
 
-    -- the filter ended so, and the block was handed on
+    -- the filter ended so, and the block was written
     pub ends_kept :
         {A : Type 0} (r : Result A FilterError) → IfErr r (Ends reports on_refusal calls i a b e f) → Keeps b d
         → IfErr r (EndsInBlocks reports on_refusal calls i a d e f)

@@ -13,11 +13,12 @@ use Rattle.fixed_decimal.proofs.Calling.{appends_both, appends_none, then_part}
 use Rattle.fixed_decimal.specs.declared.runs.Call.{Call}
 use Rattle.fixed_decimal.specs.Outcome.{outcome}
 use Rattle.std.specs.List.{FoldsTo}
+use Rattle.cli.specs.declared.errors.OperationError.{OperationError}
 use Rattle.cli.specs.declared.errors.FilterError.{FilterError}
 use Rattle.cli.specs.declared.errors.FilterError.TheVariants.{Usage, Memory, Operation, LongLine, Input, Output}
 use Rattle.cli.specs.declared.filter.OnRefusal.{OnRefusal}
 use Rattle.cli.specs.declared.filter.OnRefusal.TheVariants.{Stop, Skip}
-use Rattle.cli.specs.Lines.{lines_of, output_of_line, output_of, errors_of_line, errors_of, IsAll, AreFirst, HaveTexts, HaveRefusal, Prints, EndsAfter, Skips, Ends}
+use Rattle.cli.specs.Lines.{lines_of, output_of_line, output_of, errors_of_line, errors_of, IsAll, AreFirst, HaveTexts, HaveRefusal, Prints, EndsAfter, Skips, Ends, IsConsumed}
 use Rattle.cli.specs.Steps.{IsRead, IsErrorOfLine, IsErrorOfReading}
 use Rattle.cli.proofs.Splitting.{lines_first}
 use Rattle.cli.proofs.Refusals.{whole, folds_both}
@@ -70,6 +71,14 @@ read_first None b lines h = tt
 read_first (Some bytes) None lines h = absurd h
 read_first (Some bytes) (Some rest) lines h = (lines_of rest, h)
 
+-- the lines that were read, and those that are left
+read_up_to :
+    (a c : Option (List ℕ)) (front : List (List ℕ)) (at : ℕ) (error : OperationError) → length front ≡ at
+    → HasRead a c front → IsConsumed (Operation at error) a c
+read_up_to None c front at error number h = tt
+read_up_to (Some bytes) None front at error number h = tt
+read_up_to (Some bytes) (Some rest) front at error number h = (front, number, h)
+
 -- ---- What was written.
 
 output_more :
@@ -97,7 +106,7 @@ errors_more calls number (x ∷ xs) line =
 
 -- ---- What was filtered.
 
--- so many lines were read and what they come to was written
+-- the lines were read and what they come to was written
 pub record Filtered
     {D : Type 0} (reports : D → FilterError → D → Type 0) (on_refusal : OnRefusal) (calls : List Call) (count : ℕ)
     (have_texts : Bool) (input left out_old out_new : Option (List ℕ)) (old new : D) : Type 0
@@ -249,6 +258,31 @@ module _
     ends_reading error Memory never = absurd never
     ends_reading error (Operation at e) never = absurd never
     ends_reading error Output never = absurd never
+
+    -- the lines before the one that could not be read say nothing of what is left
+    pub consumed_reading :
+        (error : Error) (ended : FilterError) (c : Option (List ℕ)) → IsErrorOfReading (count + 1) error ended
+        → IsConsumed ended a c
+    consumed_reading error (Operation at e) c never = absurd never
+    consumed_reading error Usage c is = tt
+    consumed_reading error Memory c is = tt
+    consumed_reading error (LongLine at) c is = tt
+    consumed_reading error Input c is = tt
+    consumed_reading error Output c is = tt
+
+    -- the next line was read, and the lines after it are left
+    pub consumed_line :
+        (line : List ℕ) (c : Option (List ℕ)) (error : FilterError) → IfSome b (λ rest. IsRead true rest line c)
+        → IsErrorOfLine on_refusal (count + 1) line calls error → IsConsumed error a c
+    consumed_line line c (Operation at error) is (same, other, real, fails) =
+        let number : length (h.lines ++ (line ∷ [])) ≡ at =
+        length-append h.lines (line ∷ []) ∙ (ap (λ n. n + 1) h.number ∙ sym same) in
+        read_up_to a c (h.lines ++ (line ∷ [])) at error number (read_more a b c h.lines line h.read is)
+    consumed_line line c Usage is why = tt
+    consumed_line line c Memory is why = tt
+    consumed_line line c (LongLine at) is why = tt
+    consumed_line line c Input is why = tt
+    consumed_line line c Output is why = tt
 
     -- there are more lines than can be counted
     pub ends_input : Ends reports on_refusal calls a o p e f Input

@@ -102,7 +102,7 @@ unfolding same_bytes
 no_round back h (Round p mode i) e k = h p mode i k
 no_round back h call e k = false≢true e
 
--- where what stands behind `round` is no rounding, the two parts name no call
+-- where what follows `round` is no rounding, the two parts name no call
 pub refuses_round :
     (front back : List ℕ) → front ≡ codes "round" → NamesNoRounding back → (call : Call) → PartsName front back call → ⊥
 refuses_round front back is h call (f, k) = no_round back h call (same_if _ _ (rw is at f)) k

@@ -74,7 +74,7 @@ pub without_minus :
 without_minus (Some x) word h = inl h
 without_minus None word h = inr (refl, first_is _ h)
 
--- where the digits behind an optional minus are not one to six digits, the word is no number
+-- where the digits after an optional minus are not one to six digits, the word is no number
 pub number_refused :
     (word digits : List ℕ) → IsWithoutMinus word digits → (are_digits digits ≡ true → ⊥) → None ≡ number word
 number_refused word digits (inl e) never = rw e (refused (λ n. neg_ℤ (pos n)) 32768 digits never)
@@ -98,6 +98,6 @@ number_reads word digits r (inr (e, minus)) short first h =
 pub long_number_refused : (word digits : List ℕ) → IsWithoutMinus word digits → 6 < length digits → None ≡ number word
 long_number_refused word digits is long = number_refused word digits is (too_long digits long)
 
--- a word with a plus in front of its digits is no number
+-- a word with a plus before its digits is no number
 pub plus_refused : (word digits : List ℕ) → IsWithoutMinus word digits → get_or digits 0 0 ≡ 43 → None ≡ number word
 plus_refused word digits is first = number_refused word digits is (plus digits first)

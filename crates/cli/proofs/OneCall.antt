@@ -136,7 +136,7 @@ bare_word TrimEnd = codes "trim-end"
 bare_word TrimEndIfInteger = codes "trim-end-if-integer"
 bare_word _ = []
 
--- the call takes nothing, or something behind a colon
+-- the call takes nothing, or something after a colon
 data Form (word : List ℕ) (call : Call) : Type 0 where
   bare : word ≡ bare_word call → same_bytes (bare_word call) [] ≡ false → Form word call
   full : IsCut word call → Form word call

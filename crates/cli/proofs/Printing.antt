@@ -24,7 +24,7 @@ ok_and : {X E : Type 0} (r : Result X E) (P : X → Type 0) → IsOkAnd r P → 
 ok_and (Ok x) P h = (x, refl, h)
 ok_and (Err e) P h = absurd h
 
--- what is true of a error is true of the error that is that error
+-- what is true of an error is true of the error that is that error
 pub err_with :
     {A : Type 0} (Q : PluralError → Type 0) (r : Result A PluralError) (error : PluralError) → IsErrAnd r (λ x. x ≡ error) → Q error
     → IfErr r Q
@@ -50,7 +50,7 @@ taken : (texts : List (String Global)) (i : ℕ) (text : String Global) → i < 
     → take (i + 1) texts ≡ take i texts ++ (text ∷ [])
 taken texts i text l e = rw add-one (take-suc texts i text l ∙ ap (λ x. take i texts ++ (x ∷ [])) (sym e))
 
--- the line of the next text, behind those of the first
+-- the line of the next text, after those of the first
 pub prints_more :
     (rules : List RuleParts) (texts : List (String Global)) (i : ℕ) (text : String Global)
     (old mid new : Option (List ℕ)) → i < length texts → text ≡ get_or texts i text
@@ -65,12 +65,12 @@ prints_more rules texts i text old mid new l e (lines, have, appends) printed =
       appends_both old mid new lines (line_of category) appends line,
     )
 
--- the texts in front of one, that one and the others
+-- the texts before one, that one and the others
 cut : (texts : List (String Global)) (i : ℕ) (text : String Global) → i < length texts → text ≡ get_or texts i text
     → texts ≡ take i texts ++ text ∷ drop (suc i) texts
 cut texts i text l e = split_at texts i text l ∙ ap (λ x. take i texts ++ x ∷ drop (suc i) texts) (sym e)
 
--- a error of the next text, before which the lines of the first are printed
+-- an error of the next text, before which the lines of the first are printed
 stops_before :
     (rules : List RuleParts) (texts : List (String Global)) (i : ℕ) (text : String Global)
     (old new : Option (List ℕ)) (P : ℕ → List ℕ → Type 0)
@@ -103,7 +103,7 @@ stops_within rules texts i text old mid new l e (lines, have, appends) part =
       then_part old mid new lines (line_of category) appends line,
     )
 
--- a error of the next text
+-- an error of the next text
 pub stops_here :
     (rules : List RuleParts) (texts : List (String Global)) (i : ℕ) (text : String Global)
     (old mid new : Option (List ℕ)) (error : PluralError) → i < length texts → text ≡ get_or texts i text
@@ -138,31 +138,31 @@ pub all_kept : (rules : List RuleParts) (texts : List (String Global)) (old mid 
     → PrintsAll rules texts old mid → Keeps mid new → PrintsAll rules texts old new
 all_kept rules texts old mid new (lines, have, appends) k = (lines, have, appends_kept old mid new lines appends k)
 
--- the lines of the first texts are a beginning
+-- the lines of the first texts are a prefix
 begun : (rules : List RuleParts) (texts front back : List (String Global)) (old mid new : Option (List ℕ))
     → texts ≡ front ++ back → PrintsAll rules front old mid → Keeps mid new → PrintsPart rules texts old new
 begun rules texts front back old mid new e (lines, have, appends) k =
     (front, back, lines, e, have, (lines, [], append-nil lines, appends_kept old mid new lines appends k))
 
--- all lines are a beginning
+-- all lines are a prefix
 pub all_begun : (rules : List RuleParts) (texts : List (String Global)) (old mid new : Option (List ℕ))
     → PrintsAll rules texts old mid → Keeps mid new → PrintsPart rules texts old new
 all_begun rules texts old mid new printed k =
     begun rules texts texts [] old mid new (sym (append-nil texts)) printed k
 
--- what stands in front of a text that stops stays printed
+-- what precedes a text that stops stays printed
 before_kept : (rules : List RuleParts) (texts : List (String Global)) (old mid new : Option (List ℕ))
     (P : ℕ → List ℕ → Type 0) → StopsBefore rules texts old mid P → Keeps mid new → StopsBefore rules texts old new P
 before_kept rules texts old mid new P (front, text, back, e, p, printed) k =
     (front, text, back, e, p, all_kept rules front old mid new printed k)
 
--- and is a beginning
+-- and is a prefix
 before_begun : (rules : List RuleParts) (texts : List (String Global)) (old mid new : Option (List ℕ))
     (P : ℕ → List ℕ → Type 0) → StopsBefore rules texts old mid P → Keeps mid new → PrintsPart rules texts old new
 before_begun rules texts old mid new P (front, text, back, e, p, printed) k =
     begun rules texts front (text ∷ back) old mid new e printed k
 
--- what was printed up to a error stays printed
+-- what was printed up to an error stays printed
 pub stop_kept : (rules : List RuleParts) (texts : List (String Global)) (old mid new : Option (List ℕ)) (error : PluralError)
     → StopsAt rules texts old mid error → Keeps mid new → StopsAt rules texts old new error
 stop_kept rules texts old mid new Usage stop k =
@@ -176,7 +176,7 @@ stop_kept rules texts old mid new (Text at reason) stop k =
 stop_kept rules texts old mid new Output (front, back, lines, e, have, part) k =
     (front, back, lines, e, have, part_kept old mid new lines part k)
 
--- and is a beginning
+-- and is a prefix
 pub stop_begun : (rules : List RuleParts) (texts : List (String Global)) (old mid new : Option (List ℕ)) (error : PluralError)
     → StopsAt rules texts old mid error → Keeps mid new → PrintsPart rules texts old new
 stop_begun rules texts old mid new Usage stop k =
@@ -190,7 +190,7 @@ stop_begun rules texts old mid new (Text at reason) stop k =
 stop_begun rules texts old mid new Output (front, back, lines, e, have, part) k =
     (front, back, lines, e, have, part_kept old mid new lines part k)
 
--- whatever printing the lines came to, they are a beginning
+-- whatever printing the lines came to, they are a prefix
 pub either_begun : {U : Type 0} (rules : List RuleParts) (texts : List (String Global)) (old mid new : Option (List ℕ))
     (r : Result U PluralError) → OnOk r (PrintsAll rules texts old mid) → IfErr r (StopsAt rules texts old mid)
     → Keeps mid new → PrintsPart rules texts old new
@@ -208,7 +208,7 @@ has_rules words first [] rules P e some grammar p = absurd (omega (arith, some))
 has_rules words first (text ∷ texts) rules P e some grammar p =
     subst (λ ws. HasRules ws P) (sym e) (rules, grammar, p)
 
--- rules with a text behind them fail as they are refused
+-- rules with a text after them fail as they are refused
 pub rules_fail : (words : List (String Global)) (first : String Global) (texts : List (String Global))
     (why : RulesError) (error : PluralError) → words ≡ first ∷ texts → 0 < length texts → error ≡ error_of_rules why
     → Answers (string_bytes first) (Err why) → RulesFail words error

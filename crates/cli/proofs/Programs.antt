@@ -44,14 +44,14 @@ pub at_some : {A : Type 0} {Q : A → Type 0} (o : Option A) → is_some o ≡ t
 at_some None e q = cc
 at_some (Some x) e q = (x, q)
 
--- ---- The words behind the first.
+-- ---- The words after the first.
 
 behind_is :
     (first : String Global) (words : List (String Global))
     → take (length (first ∷ words) - 1) (drop 1 (first ∷ words)) ≡ words
 behind_is first words = rw (← length-drop 1 (first ∷ words)) (take-length words)
 
--- where a word behind the first names no call, that is the fault of usage
+-- where a word after the first names no call, that is the error of usage
 pub usage_if :
     (words : List (String Global)) → 1 ≤ length words → Any IsUnknown (take (length words - 1) (drop 1 words))
     → IsUsage words
@@ -99,7 +99,7 @@ pub feed_refused :
     → Keeps b c → IsOkAnd r (λ text. AppendsPrefix a c (text ++ (10 ∷ [])))
 feed_refused r a b c p k = ok_map _ _ r (λ text h. (text, 10 ∷ [], refl, appends_kept a b c text h k)) p
 
--- a beginning of a text was taken
+-- a prefix of a text was taken
 pub text_begun :
     {E : Type 0} (r : Result (List ℕ) E) (a b : Option (List ℕ)) → IsOkAnd r (λ text. AppendsPrefix a b text)
     → IsOkAnd r (λ text. AppendsPrefix a b (text ++ (10 ∷ [])))

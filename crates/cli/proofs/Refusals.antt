@@ -20,7 +20,7 @@ use Rattle.cli.specs.Errors.{error_of_run, status_of_operation}
 use Rattle.cli.specs.Fixdec.{OperationsFail}
 use Rattle.cli.specs.Lines.{error_of, output_of_line, errors_of_line}
 
--- an error with the status of a refusal is the refusal that the run comes to
+-- an error with the status of a refusal is the error that the run comes to
 run_refused :
     (e : RunError) (line : List ℕ) (calls : List Call) → RunRefuses DIGITS_IN_PLACE e line calls
     → status_of_operation (error_of_run e) ≡ 1
@@ -36,7 +36,7 @@ run_refused (Limit at) line calls h s = (limit_exceeded at, h, refl)
 run_refused (error.Memory at) line calls h s = absurd (cc)
 run_refused Sink line calls h s = absurd (cc)
 
--- all that was appended is a beginning
+-- all that was appended is a prefix
 pub whole : (a b : Option (List ℕ)) (text : List ℕ) → Appends a b text → AppendsPrefix a b text
 whole a b text p = (text, [], append-nil text, p)
 

@@ -1,4 +1,4 @@
--- What stands in front of a colon of a word, and what behind it.
+-- What precedes a colon of a word, and what follows it.
 use Rattle.std.proofs.Common.{◌≡◌, ◌≢◌, ℕ, ◌<◌, ◌==◌, ◌&&◌, inl, inr, Bool, true, false, not, nat_le, ℤ, List, [], ◌∷◌, ◌++◌, length, get_or, drop, Option, Some, None, Bor, refl, ap, sym, ◌∙◌, arith, codes, eq-eqb, IfNone, zero, suc}
 use Rattle.std.specs.Option.{option_map, MatchOption}
 use Rattle.std.specs.Str.{all_ascii_digits}
@@ -121,7 +121,7 @@ module _ (bytes : List ℕ) (r : Option Two) (split : IsSplitOnceResult 58 bytes
         → (front.now ≡ k.0) × (back.now ≡ mode_word mode ++ (58 ∷ increment_word i))
     parts p mode i k = rw some at (split_rounding p mode i k)
 
-    -- where what stands in front of the first colon is no number, there is no rounding
+    -- where what precedes the first colon is no number, there is no rounding
     pub no_position : number front.now ≡ None → NamesNoRounding bytes
     no_position none p mode i k =
         let h : number front.now ≡ Some p = ap number ((parts p mode i k).0) ∙ k.2 in
@@ -149,7 +149,7 @@ module _ (bytes : List ℕ) (r : Option Two) (split : IsSplitOnceResult 58 bytes
         pub no_mode : ((mode : SignedRoundingMode) → front2.now ≢ mode_word mode) → NamesNoRounding bytes
         no_mode h p mode i k = h mode ((mode_parts p mode i k).0)
 
-        -- where what stands behind the second colon is no increment, there is no rounding
+        -- where what follows the second colon is no increment, there is no rounding
         pub no_increment : ((i : RoundingIncrement) → back2.now ≢ increment_word i) → NamesNoRounding bytes
         no_increment h p mode i k = h i ((mode_parts p mode i k).1)
 

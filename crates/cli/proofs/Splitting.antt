@@ -46,7 +46,7 @@ at_feed x xs e =
     (ap (λ b. strip_last 10 (if b then x ∷ [] else x ∷ take_through 10 xs)) e ∙ ap (λ b. if b then [] else x ∷ []) e)
     (ap (λ b. if b then xs else drop_through 10 xs) e)
 
--- what is taken behind a byte, whichever is next
+-- what is taken after a byte, whichever is next
 behind :
     (b : Bool) (x y : ℕ) (ys : List ℕ) → (y == 10) ≡ b
     → strip_last 10 (x ∷ take_through 10 (y ∷ ys)) ≡ x ∷ strip_last 10 (take_through 10 (y ∷ ys))
@@ -59,7 +59,7 @@ behind false x y ys e =
     ap (λ l. strip_last 10 (x ∷ l)) t
     ∙ (strip_more x y (take_through 10 ys) ∙ sym (ap (λ l. x ∷ strip_last 10 l) t))
 
--- what is taken behind another byte
+-- what is taken after another byte
 piece_more : (x : ℕ) (xs : List ℕ) → (x == 10) ≡ false → xs ≢ [] → first_piece 10 (x ∷ xs) ≡ x ∷ first_piece 10 xs
 piece_more x [] e some = absurd (some refl)
 piece_more x (y ∷ ys) e some =

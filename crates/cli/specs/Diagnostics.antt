@@ -8,7 +8,7 @@ use Rattle.decimal_digits.specs.Text.{AppendsPrefix}
 abbrev pub IsLineOf : Option (List ℕ) → List ℕ → Type 0
 IsLineOf output line = (text : List ℕ) × (line ≡ text ++ (10 ∷ [])) × IfSome output (λ whole. IsTextOrCut 80 whole text)
 
--- one line is written: a prefix of it, all of it where the writer has not failed, and nothing where it had failed before
+-- one line is written: a prefix of it, all of it where the writer has not failed, nothing where it had failed before
 abbrev pub Reports : Option (List ℕ) → Option (List ℕ) → Bool → Option (List ℕ) → Bool → Type 0
 Reports output old had_failed new failed =
     (line : List ℕ) × IsLineOf output line × AppendsPrefix old new line × (failed ≡ false → Appends old new line)

@@ -32,7 +32,7 @@ error_of_run (run.Limit at) = Overflow at
 error_of_run (run.Memory at) = Memory
 error_of_run run.Sink = Output
 
--- the status of an error of operations: of a refusal, or of want of memory and of a failed output
+-- the status of an error of operations: of a refusal, or of out of memory and of a failed output
 abbrev pub status_of_operation : OperationError → ℕ
 status_of_operation (Start reason) = 1
 status_of_operation (Operand at reason) = 1

@@ -10,18 +10,18 @@ use Rattle.cli.specs.declared.filter.OnRefusal.TheVariants.{Stop, Skip}
 use Rattle.cli.specs.Lines.{IsAll, Prints, Skips}
 use Rattle.cli.specs.Steps.{EndsInBlocks}
 
--- the words ask for these calls, and for this at a refusal: `Skip` by a first word `skip`, behind which the others name
+-- the words ask for these calls, and for this at an error: `Skip` by a first word `skip`, after which the others name
 -- the calls
 abbrev pub Asks : List (String Global) → OnRefusal → List Call → Type 0
 Asks words Stop calls = NameAll words calls
 Asks [] Skip calls = ⊥
 Asks (first ∷ words) Skip calls = (string_bytes first ≡ codes "skip") × NameAll words calls
 
--- the words ask for nothing: behind a first word `skip` or from the first word on, one names no call
+-- the words ask for nothing: after a first word `skip` or from the first word on, one names no call
 abbrev pub IsUsage : List (String Global) → Type 0
 IsUsage words = (on_refusal : OnRefusal) (calls : List Call) → Asks words on_refusal calls → ⊥
 
--- the words ask for calls, of which and of what is to be done at a refusal this holds
+-- the words ask for calls, of which and of what is to be done at an error this holds
 abbrev pub HasFilter : List (String Global) → (OnRefusal → List Call → Type 0) → Type 0
 HasFilter words P = (on_refusal : OnRefusal) × (calls : List Call) × Asks words on_refusal calls × P on_refusal calls
 
@@ -52,7 +52,7 @@ module _ {D : Type 0} (reports : D → FilterError → D → Type 0) where
   FilterEnds words input out_old out_new old new error =
       HasFilter words (λ on_refusal calls. EndsInBlocks reports on_refusal calls input out_old out_new old new error)
 
-  -- the error is that of the words, or want of memory before the first line, and nothing was reported before it; or the
+  -- the error is that of the words, or out of memory before the first line, and nothing was reported before it; or the
   -- filter ended so
   abbrev pub FilterFails :
       List (String Global) → Option (List ℕ) → Option (List ℕ) → Option (List ℕ) → D → D → FilterError → Type 0

@@ -1,6 +1,6 @@
 -- What is written and what is reported for the lines of an input.
 use Rattle.std.specs.Prelude.{◌≡◌, ◌≢◌, ℕ, ◌+◌, ◌==◌, if◌then◌else◌, List, [], ◌∷◌, ◌++◌, length, flat_map, Any}
-use Rattle.std.specs.Prelude.{Option, Result, Ok, Err, IsOk, IsErr, IfSome}
+use Rattle.std.specs.Prelude.{⊤, Option, Result, Ok, Err, IsOk, IsErr, IfSome}
 use Rattle.std.specs.List.{AllByRecursion, FoldsTo}
 use Rattle.std.specs.Io.KnownBytes.{Appends}
 use Rattle.decimal_digits.specs.Text.{AppendsPrefix}
@@ -19,27 +19,27 @@ use Rattle.cli.specs.Fixdec.{OperationsFail}
 
 -- ---- The lines of an input.
 
--- the byte in front of the first line
+-- a byte before the first line
 abbrev pub onto_first : ℕ → List (List ℕ) → List (List ℕ)
 onto_first byte [] = (byte ∷ []) ∷ []
 onto_first byte (line ∷ lines) = (byte ∷ line) ∷ lines
 
--- what stands in front of each line feed, and what stands behind the last one where that is not empty
+-- the bytes before each line feed, and those after the last one if there are any
 abbrev pub lines_of : List ℕ → List (List ℕ)
 lines_of [] = []
 lines_of (byte ∷ bytes) = if byte == 10 then [] ∷ lines_of bytes else onto_first byte (lines_of bytes)
 
--- these are all lines of an input, where it tells its bytes
+-- these are all lines of an input, where its bytes are known
 abbrev pub IsAll : Option (List ℕ) → List (List ℕ) → Type 0
 IsAll input lines = IfSome input (λ bytes. lines_of bytes ≡ lines)
 
--- these are the first lines of an input, where it tells its bytes
+-- these are the first lines of an input, where its bytes are known
 abbrev pub AreFirst : Option (List ℕ) → List (List ℕ) → Type 0
 AreFirst input lines = IfSome input (λ bytes. (rest : List (List ℕ)) × (lines_of bytes ≡ lines ++ rest))
 
 -- ---- What is written and what is reported for them.
 
--- what a line comes to: its text and a line feed, or an empty line where it is refused
+-- what a line comes to: its text and a line feed, or an empty line where its run fails
 abbrev pub output_of_line : Result (List ℕ) Refusal → List ℕ
 output_of_line (Ok text) = text ++ (10 ∷ [])
 output_of_line (Err refusal) = 10 ∷ []
@@ -68,22 +68,22 @@ errors_of calls number [] = []
 errors_of calls number (line ∷ lines) =
     errors_of_line number (outcome line calls) ++ errors_of calls (number + 1) lines
 
--- no line is refused
+-- no run fails
 abbrev pub HaveTexts : List Call → List (List ℕ) → Type 0
 HaveTexts calls lines = AllByRecursion (λ line. IsOk (outcome line calls)) lines
 
--- a line is refused
+-- a run fails
 abbrev pub HaveRefusal : List Call → List (List ℕ) → Type 0
 HaveRefusal calls lines = Any (λ line. IsErr (outcome line calls)) lines
 
--- no line is refused, and what they come to was appended, of a writer that tells its bytes
+-- no run fails, and what they come to was appended, of a writer whose bytes are known
 abbrev pub Prints : List Call → List (List ℕ) → Option (List ℕ) → Option (List ℕ) → Type 0
 Prints calls lines old new = HaveTexts calls lines × Appends old new (output_of calls lines)
 
 -- ---- Where it ends.
 
--- the filter ends behind these lines, with this error: the run of the next line has an error, with `Skip` only for want
--- of memory; or memory for the next line, a read or a write is refused
+-- the filter ends after these lines, with this error: the run of the next line has an error, with `Skip` only for want
+-- of memory; or memory for the next line, a read or a write fails
 abbrev pub EndsWith : OnRefusal → List Call → Option (List ℕ) → List (List ℕ) → FilterError → Type 0
 EndsWith on_refusal calls input lines Usage = ⊥
 EndsWith on_refusal calls input lines Memory = ⊥
@@ -94,20 +94,26 @@ EndsWith on_refusal calls input lines (LongLine number) = (number ≡ length lin
 EndsWith on_refusal calls input lines Input = AreFirst input lines
 EndsWith on_refusal calls input lines Output = AreFirst input lines
 
--- the same, and with `Stop` no line before is refused
+-- the same, and with `Stop` no line before fails
 abbrev pub EndsAfter : OnRefusal → List Call → Option (List ℕ) → List (List ℕ) → FilterError → Type 0
 EndsAfter on_refusal calls input lines error =
     (on_refusal ≡ Stop → HaveTexts calls lines) × EndsWith on_refusal calls input lines error
 
+-- after an error of the run of a line, the lines up to it are read, and the others are left
+abbrev pub IsConsumed : FilterError → Option (List ℕ) → Option (List ℕ) → Type 0
+IsConsumed (Operation number error) input left = IfSome input (λ bytes. IfSome left (λ rest.
+    (front : List (List ℕ)) × (length front ≡ number) × (lines_of bytes ≡ front ++ lines_of rest)))
+IsConsumed _ input left = ⊤
+
 module _ {D : Type 0} (reports : D → FilterError → D → Type 0) where
-  -- all lines were read, and one was refused: what they come to was appended, and the refusals were reported in order
+  -- all lines were read, and one failed: what they come to was appended, and the errors were reported in order
   abbrev pub Skips :
       OnRefusal → List Call → Option (List ℕ) → Option (List ℕ) → Option (List ℕ) → D → D → Type 0
   Skips on_refusal calls input out_old out_new old new =
       (on_refusal ≡ Skip) × (lines : List (List ℕ)) × IsAll input lines × HaveRefusal calls lines
       × Appends out_old out_new (output_of calls lines) × FoldsTo reports old (errors_of calls 1 lines) new
 
-  -- the filter ended so: what some first lines come to was appended, at a failed output a beginning of it, and their
+  -- the filter ended so: what some first lines come to was appended, at a failed output a prefix of it, and their
   -- refusals were reported in order
   abbrev pub Ends :
       OnRefusal → List Call → Option (List ℕ) → Option (List ℕ) → Option (List ℕ) → D → D → FilterError → Type 0

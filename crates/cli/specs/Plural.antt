@@ -47,4 +47,3 @@ PluralFails contents out words back error =
     MatchOption back (error ≡ Memory) (λ closed. (error ≡ Output → closed.1 ≡ true)
     × ((unwritten : List ℕ) × (closed.1 ≡ false → unwritten ≡ [])
     × StopsInBlocks words (contents out) (append_known (contents closed.0) unwritten) error))
-

@@ -1,4 +1,4 @@
--- One line, and the words in front of the calls. Only private contracts cite this file.
+-- One line, and the words before the calls. Only private contracts cite this file.
 use Rattle.std.specs.Prelude.{◌≡◌, ◌≢◌, ℕ, Bool, true, false, List, [], ◌∷◌, codes, String, string_bytes, Option, Some, IsOk}
 use Rattle.std.specs.List.{FoldsTo}
 use Rattle.std.specs.Io.KnownBytes.{Appends, append_known}
@@ -24,7 +24,7 @@ abbrev pub IsRead : Bool → List ℕ → List ℕ → Option (List ℕ) → Typ
 IsRead true bytes line rest = (bytes ≢ []) × (line ≡ first_piece 10 bytes) × (rest ≡ Some (drop_through 10 bytes))
 IsRead false bytes line rest = (bytes ≡ []) × (rest ≡ Some [])
 
--- the error is that of reading the line with this number: want of memory for it, or else a failed input
+-- the error is that of reading the line with this number: out of memory for it, or else a failed input
 abbrev pub IsErrorOfReading : ℕ → Error → FilterError → Type 0
 IsErrorOfReading number error (LongLine at) = (at ≡ number) × (error_kind error ≡ OutOfMemory)
 IsErrorOfReading number error Input = error_kind error ≢ OutOfMemory
@@ -45,12 +45,12 @@ IsSplit (first ∷ words) Skip others = (string_bytes first ≡ codes "skip") ×
 IsSplit [] Stop others = others ≡ []
 IsSplit (first ∷ words) Stop others = (string_bytes first ≢ codes "skip") × (others ≡ first ∷ words)
 
--- what was appended is this text; at a failed output it is, with bytes that are missing, a beginning of it
+-- what was appended is this text; at a failed output it is, with bytes that are missing, a prefix of it
 abbrev pub AppendsUnlessOutput : FilterError → Option (List ℕ) → Option (List ℕ) → List ℕ → Type 0
 AppendsUnlessOutput error old new text =
     (error ≢ Output → Appends old new text) × (missing : List ℕ) × AppendsPrefix old (append_known new missing) text
 
--- the filter ended so behind some lines: what they come to was appended, and their refusals were reported in order; the
+-- the filter ended so after some lines: what they come to was appended, and their errors were reported in order; the
 -- output is one behind a block
 abbrev pub EndsInBlocks :
     {D : Type 0} → (D → FilterError → D → Type 0) → OnRefusal → List Call → Option (List ℕ) → Option (List ℕ)

@@ -165,7 +165,10 @@ fn are_calls(words: &[String]) -> bool
 /// # Errors
 ///
 /// Each word names a call, and the program is out of memory for the list.
-pub fn parse_calls<'a>(alloc: Global, words: &'a [String]) -> Result<Option<Vec<Call<'a>>>, AllocError>
+pub fn parse_calls<'a>(
+    alloc: Global,
+    words: &'a [String],
+) -> Result<Option<Vec<Call<'a>>>, AllocError>
     ensures some { IfOk result (λ found. IfSome found (λ calls. NameAll words.now calls.items)) }
     ensures none { result ≡ Ok None → Any IsUnknown words.now }
     ensures err { IfErr result (λ _. AreCalls words.now × (words.now ≢ [])) }

@@ -78,7 +78,8 @@ impl<'a, W> ErrorLines<'a, W> {
 
 impl<W: Write, E: Display> Diagnostics<E> for ErrorLines<'_, W> {
     ghost reports = { λ old error new. (new.writer.ghost_name ≡ old.writer.ghost_name)
-        × Reports (E.output error) (W.contents old.writer.now) old.has_failed (W.contents new.writer.now) new.has_failed };
+        × Reports (E.output error) (W.contents old.writer.now) old.has_failed
+        (W.contents new.writer.now) new.has_failed };
 
     fn report(&mut self, error: &E) {
         let line = line_of(error);

@@ -1,11 +1,11 @@
-//! The filter: the operations on each line of an input.
+//! The filter: the calls on each line of an input.
 ghost use Rattle.std.specs.Prelude.{◌≡◌, ◌≢◌, ◌++◌, ◌∷◌, [], List, ℕ, true, false, Ok, Err, IsOk, IsErr, IfOk, IfErr, IfSome, OnOk, OnErr};
 ghost use Rattle.std.specs.List.{FoldsTo};
 ghost use Rattle.std.specs.Io.KnownBytes.{Appends, IsAtEnd};
 ghost use Rattle.std.specs.Io.BufRead.{strip_last};
 ghost use Rattle.decimal_digits.specs.Text.{AppendsPrefix};
 ghost use Rattle.fixed_decimal.specs.Outcome.{outcome};
-ghost use Rattle.cli.specs.Lines.{output_of_line, errors_of_line, IsAll, Prints, Skips, Ends};
+ghost use Rattle.cli.specs.Lines.{output_of_line, errors_of_line, IsAll, Prints, Skips, Ends, IsConsumed};
 ghost use Rattle.std.specs.Io.Buffered.{writer_contents};
 ghost use Rattle.cli.specs.Steps.{IsRead, IsErrorOfLine, IsErrorOfReading, EndsInBlocks};
 
@@ -18,16 +18,16 @@ use std::alloc::Global;
 use std::io;
 use std::io::{BufRead, ErrorKind, Write};
 
-/// What a filter does at a line whose run is refused.
+/// What a filter does at a line whose run fails.
 #[derive(Clone, Copy, Debug, PartialEq)]
 pub enum OnRefusal {
     /// It ends.
     Stop,
-    /// It reports the refusal, writes an empty line, and goes on.
+    /// It reports the error, writes an empty line, and goes on.
     Skip,
 }
 
-/// Takes a line feed off the end.
+/// Removes a trailing line feed.
 fn pop_line_feed(line: &mut Vec<u8>)
     ensures { line.new.items ≡ strip_last 10 line.old.items }
 {
@@ -41,7 +41,7 @@ fn pop_line_feed(line: &mut Vec<u8>)
     line.truncate(len - 1);
 }
 
-/// Reads the next line in place of what `line` holds, and tells whether there is one.
+/// Reads the next line into `line`, and returns whether there is one.
 fn read_line<R: BufRead>(input: &mut R, line: &mut Vec<u8>) -> io::Result<bool>
     ensures { IfOk result (λ is_line. IfSome (R.remaining input.old)
         (λ bytes. IsRead is_line bytes line.new.items (R.remaining input.new))) }
@@ -54,7 +54,7 @@ fn read_line<R: BufRead>(input: &mut R, line: &mut Vec<u8>) -> io::Result<bool>
     Ok(true)
 }
 
-/// The error of reading the line with this number: memory was refused, or the input could not be read.
+/// Returns the error of a failed read of the line with this number.
 fn error_of_reading(line: u64, error: &io::Error) -> FilterError
     ensures { IsErrorOfReading line error.now result }
 {
@@ -65,7 +65,7 @@ fn error_of_reading(line: u64, error: &io::Error) -> FilterError
     }
 }
 
-/// Reports a refusal, and puts an empty line.
+/// Reports an error, and writes an empty line.
 fn skip_line<W: Sink, D: Diagnostics<FilterError>>(
     error: &FilterError,
     out: &mut W,
@@ -80,8 +80,8 @@ fn skip_line<W: Sink, D: Diagnostics<FilterError>>(
     out.put_byte(b'\n')
 }
 
-/// Prints the text that a line comes to and a line feed, and tells whether it has a text. With `Skip` a refusal is
-/// reported, and an empty line stands for the text.
+/// Writes the text of the run of a line and a line feed, and returns whether it has a text. With `Skip` an error of the
+/// run is reported, and an empty line is written.
 fn print_line<W: Sink, D: Diagnostics<FilterError>>(
     alloc: Global,
     on_refusal: OnRefusal,
@@ -125,13 +125,19 @@ fn print_line<W: Sink, D: Diagnostics<FilterError>>(
     }
 }
 
-/// Makes the calls on each line of the input, and puts the texts into `out`, each with a line feed behind it.
+/// Makes the calls on each line of the input, writes the texts to `out`, each with a line feed, and returns whether each
+/// line has a text.
 ///
-/// A line is all bytes up to a line feed; what stands behind the last line feed is one too, where it is not empty.
-/// Ok: all lines were read, and the answer tells whether each has a text. With `Stop` the first line that is refused
-/// ends it: the lines before are in `out`, and nothing of this one. With `Skip` the refusal is reported, an empty line
-/// is put in place of the text, and the filter goes on. Want of memory and a failed input end both; after `Output` the
-/// sink has failed and has taken a beginning of the texts of some lines.
+/// A line is all bytes up to a line feed; the bytes after the last line feed are a line if there are any. With `Skip`
+/// the error of a line is reported, and an empty line is written.
+///
+/// # Errors
+///
+/// - `Operation`: with `Stop`, the run of a line fails; with either, it is out of memory.
+/// - `LongLine`, `Input`: a read fails.
+/// - `Output`: the sink failed, after a prefix of the texts of some lines.
+///
+/// Else the texts of all lines before the error are in `out`.
 pub fn filter_lines<R: BufRead, W: Sink, D: Diagnostics<FilterError>>(
     alloc: Global,
     on_refusal: OnRefusal,
@@ -148,6 +154,7 @@ pub fn filter_lines<R: BufRead, W: Sink, D: Diagnostics<FilterError>>(
     ensures ended { IfErr result (Ends D.reports on_refusal calls.now (R.remaining input.old)
         (W.contents out.old) (W.contents out.new) diagnostics.old diagnostics.new) }
     ensures failed { result ≡ Err FilterError.Output → W.has_failed out.new ≡ true }
+    ensures consumed { IfErr result (λ error. IsConsumed error (R.remaining input.old) (R.remaining input.new)) }
     ensures at_end { OnOk result (IfSome (R.remaining input.old) (λ _. IsAtEnd (R.remaining input.new))) }
 {
     let mut line = Vec::new(alloc);
@@ -170,7 +177,7 @@ pub fn filter_lines<R: BufRead, W: Sink, D: Diagnostics<FilterError>>(
         )?;
         have_texts = have_texts & has_text;
     }
-    // So many lines come from no input.
+    // No input has 2^64 lines.
     Err(FilterError::Input)
 }
 

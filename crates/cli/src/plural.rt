@@ -93,7 +93,10 @@ pub fn run_arguments<O: Write + Drop, D: Diagnostics<PluralError>>(
     }
     let closed = close(blocks);
     if closed.has_failed() {
-        return (conclude(Err(PluralError::Output), diagnostics), Some(closed));
+        return (
+            conclude(Err(PluralError::Output), diagnostics),
+            Some(closed),
+        );
     }
     (0, Some(closed))
 }
@@ -103,7 +106,13 @@ pub fn execute(rt: HostRuntime) -> ExitCode
     ensures at_most { exit_status result ≤ 3 }
 {
     let usage = "usage: plural RULES TEXT..\n";
-    if let Some(status) = help(rt.alloc(), env::args(&rt), usage, OPERANDS, &mut rt.stdout()) {
+    if let Some(status) = help(
+        rt.alloc(),
+        env::args(&rt),
+        usage,
+        OPERANDS,
+        &mut rt.stdout(),
+    ) {
         return ExitCode::from(status);
     }
     let mut err = rt.stderr();

@@ -1,7 +1,10 @@
 //! The line of each error, in one write, and the errors that a filter reports.
 ghost use Rattle.std.specs.Prelude.{◌≡◌, true, [], ◌∷◌, ◌++◌};
 
-use cli::{Diagnostics, ErrorLines, FilterError, FixdecError, OnRefusal, OperationError, PluralError, Reason, filter_lines};
+use cli::{
+    Diagnostics, ErrorLines, FilterError, FixdecError, OnRefusal, OperationError, PluralError,
+    Reason, filter_lines,
+};
 use fixed_decimal::{Call, TextBuf};
 use std::alloc::Global;
 use std::fmt::Display;

@@ -1,9 +1,10 @@
 //! Command lines, and what they print.
 ghost use Rattle.std.specs.Prelude.{◌≤◌};
 
-use fixed_decimal::Out;
 use cli::ErrorLines;
 use cli::plural::program;
+use decimal_doubles::{FailingWriter, WriteFailure};
+use fixed_decimal::Out;
 use std::alloc::Global;
 use std::process::Abort;
 use std::test::Fail;
@@ -22,6 +23,7 @@ const LINES: &[(&str, &str)] = &[
     ),
     ("one: i = 1 and v = 0", "2 usage: plural RULES TEXT..\n"),
     ("one i = 1|1", "1 rules: syntax at 4\n"),
+    ("one: n = 18446744073709551616|1", "1 rules: limit at 9\n"),
     ("one: i = 1|1|x|1", "one\n1 text 2: syntax\n"),
     ("one: i = 1|1c1e1", "1 text 1: syntax\n"),
     ("one: i = 1|1|2|1e99999|1", "one\nother\n1 text 3: limit\n"),
@@ -67,6 +69,23 @@ fn lines(rt: HostRuntime) -> Result<(), Fail> {
     let alloc = rt.alloc();
     for (line, text) in LINES {
         assert_prints(&rt, printed(alloc, line)?, text);
+    }
+    Ok(())
+}
+
+#[test]
+fn reports_a_failed_output(rt: HostRuntime) -> Result<(), Fail> {
+    let alloc = rt.alloc();
+    let words = words(alloc, "one: i = 1|1|2")?;
+    for room in 0..10 {
+        let writer = FailingWriter::new(b"one\nother\n", room, WriteFailure::Fault);
+        let mut out = Out::new(writer);
+        let mut err = Vec::<u8>::new(alloc);
+        let mut lines = ErrorLines::new(&mut err);
+        let status = program(alloc, words.as_slice(), &mut out, &mut lines);
+        assert_eq!(rt; status, 3);
+        assert_eq!(rt; err.as_slice(), b"output\n".as_slice());
+        assert!(rt; out.into_writer().has_taken(room));
     }
     Ok(())
 }

@@ -1,88 +1,123 @@
 //! The words of calls.
-use fixed_decimal::RoundingIncrement::{MultiplesOf1, MultiplesOf2, MultiplesOf5, MultiplesOf25};
+use fixed_decimal::RoundingIncrement::{
+    self, MultiplesOf1, MultiplesOf2, MultiplesOf5, MultiplesOf25,
+};
 use fixed_decimal::SignedRoundingMode::{self, Ceil, Floor, HalfCeil, HalfFloor, Unsigned};
 use fixed_decimal::UnsignedRoundingMode::{Expand, HalfEven, HalfExpand, HalfTrunc, Trunc};
 use fixed_decimal::{Call, Sign, SignDisplay};
 use std::alloc::Global;
 
-/// The mode that a word names.
-fn mode(word: &str) -> Option<SignedRoundingMode> {
-    match word {
-        "ceil" => Some(Ceil),
-        "floor" => Some(Floor),
-        "half-ceil" => Some(HalfCeil),
-        "half-floor" => Some(HalfFloor),
-        "expand" => Some(Unsigned(Expand)),
-        "trunc" => Some(Unsigned(Trunc)),
-        "half-expand" => Some(Unsigned(HalfExpand)),
-        "half-trunc" => Some(Unsigned(HalfTrunc)),
-        "half-even" => Some(Unsigned(HalfEven)),
-        _ => None,
+/// What a word names in a table.
+pub fn named<T: Copy>(table: &[(&str, T)], word: &str) -> Option<T> {
+    for (name, value) in table {
+        if *name == word {
+            return Some(*value);
+        }
     }
+    None
 }
 
-/// The rounding of a position, a mode and an increment, with colons between them.
+/// The modes, in the order of the results of a row by each mode.
+pub const MODES: &[(&str, SignedRoundingMode)] = &[
+    ("ceil", Ceil),
+    ("expand", Unsigned(Expand)),
+    ("floor", Floor),
+    ("trunc", Unsigned(Trunc)),
+    ("half-ceil", HalfCeil),
+    ("half-expand", Unsigned(HalfExpand)),
+    ("half-floor", HalfFloor),
+    ("half-trunc", Unsigned(HalfTrunc)),
+    ("half-even", Unsigned(HalfEven)),
+];
+
+const INCREMENTS: &[(&str, RoundingIncrement)] = &[
+    ("1", MultiplesOf1),
+    ("2", MultiplesOf2),
+    ("5", MultiplesOf5),
+    ("25", MultiplesOf25),
+];
+
+pub const SIGNS: &[(&str, Sign)] = &[
+    ("none", Sign::None),
+    ("minus", Sign::Negative),
+    ("plus", Sign::Positive),
+];
+
+const DISPLAYS: &[(&str, SignDisplay)] = &[
+    ("auto", SignDisplay::Auto),
+    ("never", SignDisplay::Never),
+    ("always", SignDisplay::Always),
+    ("except-zero", SignDisplay::ExceptZero),
+    ("negative", SignDisplay::Negative),
+];
+
+/// The calls without their arguments.
+#[derive(Clone, Copy)]
+enum Name {
+    TrimStart,
+    TrimEnd,
+    TrimEndIfInteger,
+    Shift,
+    PadStart,
+    PadEnd,
+    Max,
+    Round,
+    Sign,
+    Display,
+    Concat,
+}
+
+const NAMES: &[(&str, Name)] = &[
+    ("trim-start", Name::TrimStart),
+    ("trim-end", Name::TrimEnd),
+    ("trim-end-if-integer", Name::TrimEndIfInteger),
+    ("shift", Name::Shift),
+    ("pad-start", Name::PadStart),
+    ("pad-end", Name::PadEnd),
+    ("max", Name::Max),
+    ("round", Name::Round),
+    ("sign", Name::Sign),
+    ("display", Name::Display),
+    ("concat", Name::Concat),
+];
+
+/// The rounding of a position, a mode and an increment, separated by colons.
 fn rounding<'a>(words: &str) -> Option<Call<'a>> {
     let (position, words) = words.split_once(':')?;
-    let (mode_word, increment) = words.split_once(':')?;
-    let increment = match increment {
-        "1" => MultiplesOf1,
-        "2" => MultiplesOf2,
-        "5" => MultiplesOf5,
-        "25" => MultiplesOf25,
-        _ => return None,
-    };
-    Some(Call::Round(position.parse().ok()?, mode(mode_word)?, increment))
+    let (mode, increment) = words.split_once(':')?;
+    Some(Call::Round(
+        position.parse().ok()?,
+        named(MODES, mode)?,
+        named(INCREMENTS, increment)?,
+    ))
 }
 
-/// The sign that a word names.
-pub fn sign(word: &str) -> Option<Sign> {
-    match word {
-        "none" => Some(Sign::None),
-        "minus" => Some(Sign::Negative),
-        "plus" => Some(Sign::Positive),
-        _ => None,
-    }
-}
-
-/// The sign display that a word names.
-fn display(word: &str) -> Option<SignDisplay> {
-    match word {
-        "auto" => Some(SignDisplay::Auto),
-        "never" => Some(SignDisplay::Never),
-        "always" => Some(SignDisplay::Always),
-        "except-zero" => Some(SignDisplay::ExceptZero),
-        "negative" => Some(SignDisplay::Negative),
-        _ => None,
-    }
-}
-
-/// The call that a word names.
-fn call(word: &str) -> Option<Call<'_>> {
-    let (name, argument) = word.split_once(':').unwrap_or((word, ""));
+/// The call of a name and an argument.
+fn call(name: Name, argument: &str) -> Option<Call<'_>> {
     match name {
-        "trim-start" => Some(Call::TrimStart),
-        "trim-end" => Some(Call::TrimEnd),
-        "trim-end-if-integer" => Some(Call::TrimEndIfInteger),
-        "shift" => Some(Call::MultiplyPow10(argument.parse().ok()?)),
-        "pad-start" => Some(Call::PadStart(argument.parse().ok()?)),
-        "pad-end" => Some(Call::PadEnd(argument.parse().ok()?)),
-        "max" => Some(Call::SetMaxPosition(argument.parse().ok()?)),
-        "round" => rounding(argument),
-        "sign" => Some(Call::SetSign(sign(argument)?)),
-        "display" => Some(Call::ApplySignDisplay(display(argument)?)),
-        "concat" => Some(Call::Concatenate(argument.as_bytes())),
-        _ => None,
+        Name::TrimStart => Some(Call::TrimStart),
+        Name::TrimEnd => Some(Call::TrimEnd),
+        Name::TrimEndIfInteger => Some(Call::TrimEndIfInteger),
+        Name::Shift => Some(Call::MultiplyPow10(argument.parse().ok()?)),
+        Name::PadStart => Some(Call::PadStart(argument.parse().ok()?)),
+        Name::PadEnd => Some(Call::PadEnd(argument.parse().ok()?)),
+        Name::Max => Some(Call::SetMaxPosition(argument.parse().ok()?)),
+        Name::Round => rounding(argument),
+        Name::Sign => Some(Call::SetSign(named(SIGNS, argument)?)),
+        Name::Display => Some(Call::ApplySignDisplay(named(DISPLAYS, argument)?)),
+        Name::Concat => Some(Call::Concatenate(argument.as_bytes())),
     }
 }
 
 /// The call that a word names, and whether it is rejected: then a `!` follows it.
 pub fn step(word: &str) -> Option<(Call<'_>, bool)> {
     let word = word.trim_start();
-    match word.strip_suffix('!') {
-        Some(word) => Some((call(word)?, true)),
-        None => Some((call(word)?, false)),
-    }
+    let (word, is_rejected) = match word.strip_suffix('!') {
+        Some(word) => (word, true),
+        None => (word, false),
+    };
+    let (name, argument) = word.split_once(':').unwrap_or((word, ""));
+    Some((call(named(NAMES, name)?, argument)?, is_rejected))
 }
 
 /// The calls that words name.

@@ -1,5 +1,7 @@
 //! The order of two values, and which are equal.
+use crate::calls::named;
 use crate::edited::{Edited, has_sign};
+use crate::rows::Kind;
 use decimal_doubles::{Value, Way};
 use fixed_decimal::{
     Call, CompactDecimal, Decimal, DigitList, DigitStore, FixedInteger, PackedDigits,
@@ -45,23 +47,35 @@ fn have_order<D: DigitStore, E: DigitStore>(
     is_signed && is_unsigned
 }
 
+const ORDERS: &[(&str, Ordering)] = &[
+    ("<", Ordering::Less),
+    ("=", Ordering::Equal),
+    (">", Ordering::Greater),
+];
+
 /// Whether the values of two texts have an order over each pair of stores.
-pub fn are_ordered(alloc: Global, texts: (&str, &str), order: &str) -> bool {
-    let order = match order {
-        "<" => Ordering::Less,
-        "=" => Ordering::Equal,
-        ">" => Ordering::Greater,
-        _ => return false,
-    };
-    have_order::<DigitList, DigitList>(alloc, texts, order)
-        && have_order::<DigitList, PackedDigits>(alloc, texts, order)
-        && have_order::<PackedDigits, PackedDigits>(alloc, texts, order)
+pub fn are_ordered(alloc: Global, texts: (&str, &str), word: &str) -> bool {
+    match named(ORDERS, word) {
+        Some(order) => {
+            have_order::<DigitList, DigitList>(alloc, texts, order)
+                && have_order::<DigitList, PackedDigits>(alloc, texts, order)
+                && have_order::<PackedDigits, PackedDigits>(alloc, texts, order)
+        }
+        None => false,
+    }
 }
 
-/// Whether the values of two texts are as equal as a word says.
-fn are_equal<T: Value>(alloc: Global, (left, right): (&str, &str), word: &str) -> bool {
+/// Words, and whether two values are equal, and are so after both trims.
+const EQUALITIES: &[(&str, (bool, bool))] = &[
+    ("equal", (true, true)),
+    ("trimmed", (false, true)),
+    ("different", (false, false)),
+];
+
+/// Whether the values of two texts are equal or not.
+fn are_equal<T: Value>(alloc: Global, (left, right): (&str, &str), is_equal: bool) -> bool {
     match (T::read(alloc, left), T::read(alloc, right)) {
-        (Ok(left), Ok(right)) => left.equals(&right) == (word == "equal"),
+        (Ok(left), Ok(right)) => left.equals(&right) == is_equal,
         _ => false,
     }
 }
@@ -74,52 +88,69 @@ fn trimmed<T: Value + Edited>(alloc: Global, text: &str) -> Option<T> {
     Some(value)
 }
 
-/// Whether the values of two texts are as equal as a word says, now and after both trims.
-fn are_equal_trimmed<T: Value + Edited>(alloc: Global, texts: (&str, &str), word: &str) -> bool {
+/// Whether the values of two texts are equal or not, now and after both trims.
+fn are_equal_trimmed<T: Value + Edited>(
+    alloc: Global,
+    texts: (&str, &str),
+    equality: (bool, bool),
+) -> bool {
     match (trimmed::<T>(alloc, texts.0), trimmed::<T>(alloc, texts.1)) {
         (Some(left), Some(right)) => {
-            left.equals(&right) == (word != "different") && are_equal::<T>(alloc, texts, word)
+            left.equals(&right) == equality.1 && are_equal::<T>(alloc, texts, equality.0)
         }
         _ => false,
     }
 }
 
-/// The same of the values without a sign over a store.
-fn are_equal_unsigned<D: DigitStore>(alloc: Global, texts: (&str, &str), word: &str) -> bool {
-    are_equal_trimmed::<UnsignedOver<D>>(alloc, texts, word)
+/// The same of the values without a sign over a store, where the texts have none.
+fn are_equal_unsigned<D: DigitStore>(
+    alloc: Global,
+    texts: (&str, &str),
+    equality: (bool, bool),
+) -> bool {
+    has_sign(texts.0)
+        || has_sign(texts.1)
+        || are_equal_trimmed::<UnsignedOver<D>>(alloc, texts, equality)
 }
 
 /// The same of the values with a sign.
-fn are_equal_signed<D: DigitStore>(alloc: Global, texts: (&str, &str), word: &str) -> bool {
-    are_equal_trimmed::<Signed<UnsignedOver<D>>>(alloc, texts, word)
+fn are_equal_signed<D: DigitStore>(
+    alloc: Global,
+    texts: (&str, &str),
+    equality: (bool, bool),
+) -> bool {
+    are_equal_trimmed::<Signed<UnsignedOver<D>>>(alloc, texts, equality)
 }
 
-/// Whether two texts write decimals with the same text.
-fn have_same_text(alloc: Global, (left, right): (&str, &str)) -> Option<bool> {
-    let left = Decimal::try_from_str(alloc, left).ok()?;
-    let right = Decimal::try_from_str(alloc, right).ok()?;
-    Some(left.has_same_text(&right))
+/// Whether two texts write decimals with the same text or not.
+fn have_same_text(alloc: Global, (left, right): (&str, &str), is_same: bool) -> bool {
+    match (
+        Decimal::try_from_str(alloc, left),
+        Decimal::try_from_str(alloc, right),
+    ) {
+        (Ok(left), Ok(right)) => left.has_same_text(&right) == is_same,
+        _ => false,
+    }
+}
+
+/// Whether the decimals of two texts are equal or not, now and after both trims, with a sign and without one.
+fn are_equal_decimals(alloc: Global, texts: (&str, &str), equality: (bool, bool)) -> bool {
+    are_equal_unsigned::<DigitList>(alloc, texts, equality)
+        && are_equal_unsigned::<PackedDigits>(alloc, texts, equality)
+        && are_equal_signed::<DigitList>(alloc, texts, equality)
+        && are_equal_signed::<PackedDigits>(alloc, texts, equality)
+        && have_same_text(alloc, texts, equality.0)
 }
 
 /// Whether the values of a kind of two texts are as equal as a word says.
-pub fn is_pair(alloc: Global, kind: &str, texts: (&str, &str), word: &str) -> bool {
-    if !matches!(word, "equal" | "trimmed" | "different") {
-        return false;
-    }
-    match kind {
-        "decimal" => {
-            let is_unsigned = has_sign(texts.0)
-                || has_sign(texts.1)
-                || (are_equal_unsigned::<DigitList>(alloc, texts, word)
-                    && are_equal_unsigned::<PackedDigits>(alloc, texts, word));
-            is_unsigned
-                && are_equal_signed::<DigitList>(alloc, texts, word)
-                && are_equal_signed::<PackedDigits>(alloc, texts, word)
-                && have_same_text(alloc, texts) == Some(word == "equal")
+pub fn is_pair(alloc: Global, kind: Kind, texts: (&str, &str), word: &str) -> bool {
+    match (kind, named(EQUALITIES, word)) {
+        (Kind::DecimalPair, Some(equality)) => are_equal_decimals(alloc, texts, equality),
+        (Kind::IntegerPair, Some((same, _))) => are_equal::<FixedInteger>(alloc, texts, same),
+        (Kind::ScientificPair, Some((same, _))) => {
+            are_equal::<ScientificDecimal>(alloc, texts, same)
         }
-        "integer" => are_equal::<FixedInteger>(alloc, texts, word),
-        "scientific" => are_equal::<ScientificDecimal>(alloc, texts, word),
-        "compact" => are_equal::<CompactDecimal>(alloc, texts, word),
+        (Kind::CompactPair, Some((same, _))) => are_equal::<CompactDecimal>(alloc, texts, same),
         _ => false,
     }
 }

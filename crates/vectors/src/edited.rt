@@ -169,7 +169,21 @@ fn ways_of(words: &str) -> &'static [Way] {
     found
 }
 
-/// What calls leave of a value. None: one of them was not made or rejected as it has to be.
+/// Makes a call on a value. None: it is not made or rejected as it has to be.
+fn stepped<T: Edited>(
+    alloc: Global,
+    value: T,
+    way: Way,
+    (word, all_rejected): (&str, bool),
+) -> Option<T> {
+    let (call, is_rejected) = step(word)?;
+    match value.called(alloc, way, call) {
+        Some((next, is_made)) if is_made != (is_rejected || all_rejected) => Some(next),
+        _ => None,
+    }
+}
+
+/// What calls leave of a value. None: one of them is not made or rejected as it has to be.
 fn left<T: Edited>(
     alloc: Global,
     value: T,
@@ -178,12 +192,7 @@ fn left<T: Edited>(
 ) -> Option<T> {
     let mut value = value;
     for word in words.split(',') {
-        let (call, is_rejected) = step(word)?;
-        let (next, is_made) = value.called(alloc, way, call)?;
-        if is_made == (is_rejected || all_rejected) {
-            return None;
-        }
-        value = next;
+        value = stepped(alloc, value, way, (word, all_rejected))?;
     }
     Some(value)
 }
@@ -207,8 +216,8 @@ fn leaves<T: Value + Edited>(alloc: Global, start: &str, words: &str, wanted: &s
     true
 }
 
-/// Whether a call on a list of a length accessed few digits and allocated little: an edit none, a rounding at most
-/// seven digits more than the list had, those counted that it left, and one allocation by 25 alone.
+/// Whether a call on a list of a length accesses few digits and allocates little: an edit does neither, a rounding
+/// accesses at most seven digits more than the list has, those counted that it leaves, and only one by 25 may allocate.
 fn is_within<S: CountingStore>(store: &S, call: Call<'_>, length: usize, is_made: bool) -> bool {
     match call {
         Call::Round(_, _, increment) => {
@@ -246,16 +255,24 @@ fn stays_within<T: Value + Edited + Counts>(alloc: Global, start: &str, words: &
     true
 }
 
-/// Whether calls leave a text of a value without a sign, over a store and over one that counts.
+/// Whether calls leave a text of a value without a sign, over a store.
 fn unsigned_leaves<D: DigitStore>(alloc: Global, start: &str, words: &str, wanted: &str) -> bool {
     leaves::<UnsignedOver<D>>(alloc, start, words, wanted)
-        && stays_within::<UnsignedOver<LimitedStore<D, MaxDigits>>>(alloc, start, words)
 }
 
 /// The same of a value with a sign.
 fn signed_leaves<D: DigitStore>(alloc: Global, start: &str, words: &str, wanted: &str) -> bool {
     leaves::<Signed<UnsignedOver<D>>>(alloc, start, words, wanted)
-        && stays_within::<Signed<UnsignedOver<LimitedStore<D, MaxDigits>>>>(alloc, start, words)
+}
+
+/// Whether a call, where it is the only one of a row, accesses few digits of a value without a sign.
+fn unsigned_stays<S: CountingStore>(alloc: Global, start: &str, words: &str) -> bool {
+    stays_within::<UnsignedOver<S>>(alloc, start, words)
+}
+
+/// The same of a value with a sign.
+fn signed_stays<S: CountingStore>(alloc: Global, start: &str, words: &str) -> bool {
+    stays_within::<Signed<UnsignedOver<S>>>(alloc, start, words)
 }
 
 /// Whether a text has a sign.
@@ -265,17 +282,41 @@ pub fn has_sign(text: &str) -> bool {
 
 /// Whether calls start from a value with a sign, or are for one alone.
 fn needs_sign(start: &str, words: &str) -> bool {
-    let signed = ["sign:", "display:", "ceil", "floor"];
-    has_sign(start) || signed.iter().any(|word| words.contains(*word))
+    for word in words.split(',') {
+        match step(word) {
+            Some((Call::Round(_, SignedRoundingMode::Unsigned(_), _), _)) => {}
+            Some((Call::Round(_, _, _) | Call::SetSign(_) | Call::ApplySignDisplay(_), _)) => {
+                return true;
+            }
+            _ => {}
+        }
+    }
+    has_sign(start)
 }
 
-/// Whether calls leave a text of another, over each store, in each form and in a run; `!` where each is rejected.
+/// A store that counts, with memory for every number.
+pub type Counting<D> = LimitedStore<D, MaxDigits>;
+
+/// Whether calls leave a text of a value without a sign, over each store.
+fn holds_unsigned(alloc: Global, start: &str, words: &str, wanted: &str) -> bool {
+    unsigned_leaves::<DigitList>(alloc, start, words, wanted)
+        && unsigned_leaves::<PackedDigits>(alloc, start, words, wanted)
+        && unsigned_stays::<Counting<DigitList>>(alloc, start, words)
+        && unsigned_stays::<Counting<PackedDigits>>(alloc, start, words)
+}
+
+/// The same of a value with a sign.
+fn holds_signed(alloc: Global, start: &str, words: &str, wanted: &str) -> bool {
+    signed_leaves::<DigitList>(alloc, start, words, wanted)
+        && signed_leaves::<PackedDigits>(alloc, start, words, wanted)
+        && signed_stays::<Counting<DigitList>>(alloc, start, words)
+        && signed_stays::<Counting<PackedDigits>>(alloc, start, words)
+}
+
+/// Whether calls leave a text of another over each store, in each way and in a run; `!` where each of them is rejected.
 pub fn holds(alloc: Global, start: &str, words: &str, wanted: &str) -> bool {
-    let is_signed = signed_leaves::<DigitList>(alloc, start, words, wanted)
-        && signed_leaves::<PackedDigits>(alloc, start, words, wanted);
-    let is_unsigned = needs_sign(start, words)
-        || (unsigned_leaves::<DigitList>(alloc, start, words, wanted)
-            && unsigned_leaves::<PackedDigits>(alloc, start, words, wanted));
     let is_rejected = words.contains('!') || wanted == "!";
-    is_signed && is_unsigned && (is_rejected || runs::comes_to(alloc, start, words, wanted))
+    holds_signed(alloc, start, words, wanted)
+        && (needs_sign(start, words) || holds_unsigned(alloc, start, words, wanted))
+        && (is_rejected || runs::comes_to(alloc, start, words, wanted))
 }

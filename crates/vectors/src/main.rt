@@ -23,8 +23,9 @@
 //! ```
 //!
 //! Rows of `decimal`, `order`, `pair decimal` and `integers` are checked on values with a sign, and where their texts
-//! have none on values without one. The calls are those of `fixdec`, separated by commas. A field with a `*` is written
-//! in parts, separated by spaces: `9*3 .5` is `999.5`. A row with `*n` is a row for each length up to 200, and for each
+//! have none on values without one too. Roundings are made by each call that makes them, and the digits that a single
+//! call accesses are counted. The calls are those of `fixdec`, separated by commas. A field with a `*` is written in
+//! parts, separated by spaces: `9*3 .5` is `999.5`. A line with `*n` is a row for each length up to 200, and for each
 //! hundredth up to 5,000; one with the mode `each` is a row for each mode, with a result for each. A row whose kind
 //! begins with `not`, as `not run`, has a wrong result, and holds where the check rejects it.
 #![tactic(auto)]
@@ -38,6 +39,8 @@ mod reading;
 mod rows;
 mod runs;
 
+use calls::MODES;
+use std::alloc::{AllocError, Global};
 use std::io;
 use std::process::ExitCode;
 
@@ -49,19 +52,29 @@ struct Tally {
 }
 
 /// Checks a row, and prints it where it fails.
-fn check_row<R: AllocGlobal + Print>(
-    rt: &R,
-    number: usize,
-    row: &str,
-    tally: &mut Tally,
-) -> io::Result<()> {
+fn check_row<R: AllocGlobal + Print>(rt: &R, number: usize, row: &str, tally: &mut Tally) {
     if rows::holds(rt.alloc(), row) {
         tally.hold = tally.hold.saturating_add(1);
-        return Ok(());
+        return;
     }
     tally.fail = tally.fail.saturating_add(1);
-    let found = rows::came_to(rt.alloc(), row)?;
-    println!(rt; "line {number}: {row}: came to {found}")
+    let _ = match rows::came_to(rt.alloc(), row) {
+        Some(found) => println!(rt; "line {number}: {row}: came to {found}"),
+        None => println!(rt; "line {number}: {row}"),
+    };
+}
+
+/// Checks a row that was made of a line.
+fn check_made<R: AllocGlobal + Print>(
+    rt: &R,
+    number: usize,
+    row: Result<String, AllocError>,
+    tally: &mut Tally,
+) {
+    match row {
+        Ok(row) => check_row(rt, number, row.as_str(), tally),
+        Err(AllocError) => tally.fail = tally.fail.saturating_add(1),
+    }
 }
 
 /// The lengths that `*n` stands for: each up to 200, and then each hundredth up to 5,000.
@@ -73,84 +86,62 @@ fn length(number: u32) -> u32 {
     }
 }
 
-/// Checks a row for each length.
-fn check_lengths<R: AllocGlobal + Print>(
-    rt: &R,
-    number: usize,
-    line: &str,
-    tally: &mut Tally,
-) -> io::Result<()> {
-    for index in 1..249 {
-        let length = length(index);
-        let times = format!(in rt.alloc(); "*{length}")?;
-        let row = line.replace(rt.alloc(), "*n", times.as_str())?;
-        check_row(rt, number, row.as_str(), tally)?;
-    }
-    Ok(())
+/// The row of a line with a length.
+fn of_length(alloc: Global, line: &str, length: u32) -> Result<String, AllocError> {
+    line.replace(alloc, "*n", format!(in alloc; "*{length}")?.as_str())
 }
 
-/// The modes, in the order of the results of a row by each mode.
-const MODES: &[&str] = &[
-    "ceil",
-    "expand",
-    "floor",
-    "trunc",
-    "half-ceil",
-    "half-expand",
-    "half-floor",
-    "half-trunc",
-    "half-even",
-];
+/// Checks a row for each length.
+fn check_lengths<R: AllocGlobal + Print>(rt: &R, number: usize, line: &str, tally: &mut Tally) {
+    for index in 1..249 {
+        let row = of_length(rt.alloc(), line, length(index));
+        check_made(rt, number, row, tally);
+    }
+}
 
-/// Checks a row for each mode: what is in front of the mode, and what follows it.
+/// Checks a row for each mode: the text before the mode, and the text after it.
 fn check_modes<R: AllocGlobal + Print>(
     rt: &R,
     number: usize,
     (front, back): (&str, &str),
     tally: &mut Tally,
-) -> io::Result<()> {
+) {
     let (increment, results) = back.split_once(" | ").unwrap_or((back, ""));
-    for (mode, result) in MODES.iter().zip(results.split(" | ")) {
-        let row = format!(in rt.alloc(); "{front}:{mode}:{increment} | {result}")?;
-        check_row(rt, number, row.as_str(), tally)?;
+    for ((mode, _), result) in MODES.iter().zip(results.split(" | ")) {
+        let row = format!(in rt.alloc(); "{front}:{mode}:{increment} | {result}");
+        check_made(rt, number, row, tally);
     }
-    Ok(())
 }
 
 /// Checks the rows of a line.
-fn check_line<R: AllocGlobal + Print>(
-    rt: &R,
-    number: usize,
-    line: &str,
-    tally: &mut Tally,
-) -> io::Result<()> {
+fn check_line<R: AllocGlobal + Print>(rt: &R, number: usize, line: &str, tally: &mut Tally) {
     if line.is_empty() || line.starts_with('#') {
-        return Ok(());
+        return;
     }
-    if let Some(parts) = line.split_once(":each:") {
-        return check_modes(rt, number, parts, tally);
+    match line.split_once(":each:") {
+        Some(parts) => check_modes(rt, number, parts, tally),
+        None if line.contains("*n") => check_lengths(rt, number, line, tally),
+        None => check_row(rt, number, line, tally),
     }
-    if line.contains("*n") {
-        return check_lengths(rt, number, line, tally);
-    }
-    check_row(rt, number, line, tally)
 }
 
-/// Checks the rows of standard input, and tells whether each of them holds.
-fn check<R: AllocGlobal + Print + Input>(rt: &R) -> io::Result<bool> {
-    let text = io::read_to_string(rt.alloc(), rt.reader())?;
+/// Checks the rows of a text, and prints their numbers.
+fn check_lines<R: AllocGlobal + Print>(rt: &R, text: &str) -> ExitCode {
     let mut tally = Tally { hold: 0, fail: 0 };
-    for (index, line) in text.as_str().lines().enumerate() {
-        check_line(rt, index.saturating_add(1), line, &mut tally)?;
+    for (index, line) in text.lines().enumerate() {
+        check_line(rt, index.saturating_add(1), line, &mut tally);
     }
     let Tally { hold, fail } = tally;
-    println!(rt; "{hold} rows hold, {fail} fail")?;
-    Ok(fail == 0)
+    if println!(rt; "{hold} rows hold, {fail} fail").is_ok() && fail == 0 {
+        ExitCode::SUCCESS
+    } else {
+        ExitCode::FAILURE
+    }
 }
 
 fn main(rt: HostRuntime) -> ExitCode {
-    match check(&rt) {
-        Ok(true) => ExitCode::SUCCESS,
-        _ => ExitCode::FAILURE,
+    match io::read_to_string(rt.alloc(), rt.reader()) {
+        Ok(text) => check_lines(&rt, text.as_str()),
+        Err(_) => ExitCode::FAILURE,
     }
 }

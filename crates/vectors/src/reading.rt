@@ -1,5 +1,6 @@
 //! Texts that are read, and the parts of their values.
-use crate::calls::sign;
+use crate::calls::{SIGNS, named};
+use crate::rows::Kind;
 use decimal_doubles::{Value, displays, has_text, reading_word};
 use decimal_unsigned::decimal::lowest_of;
 use fixed_decimal::{
@@ -37,37 +38,49 @@ fn reads_as<T: Value + Display>(alloc: Global, text: &str, wanted: &str) -> bool
     }
 }
 
-/// Whether a value without a sign shows magnitudes, the last of which is also that of the text: the highest shown, the
-/// first and the last digit that is not 0, the lowest shown, and `zero` for 0.
-fn has_magnitudes<D: DigitStore>(alloc: Global, text: &str, wanted: &str) -> bool {
-    let Ok(value) = UnsignedOver::<D>::try_from_str(alloc, text) else {
-        return wanted.is_empty();
-    };
+/// The magnitudes of a value: the highest shown, the first and the last digit that is not 0, the lowest shown, and
+/// `zero` for 0.
+fn magnitudes<D: DigitStore>(alloc: Global, value: &UnsignedOver<D>) -> Option<String> {
     let range = value.magnitude_range();
+    let (high, low) = (*range.end(), *range.start());
     let first = value.nonzero_magnitude_start();
     let last = value.nonzero_magnitude_end();
-    let (high, low) = (*range.end(), *range.start());
     let zero = if value.is_zero() { " zero" } else { "" };
-    let shown = format!(in alloc; "{high} {first} {last} {low}{zero}");
-    wanted.is_empty()
-        || (lowest_of(text.as_bytes()) == Ok(low) && shown.is_ok_and(|t| t.as_str() == wanted))
+    format!(in alloc; "{high} {first} {last} {low}{zero}").ok()
+}
+
+/// Whether the value of a text has magnitudes, and the lowest is also that of the text.
+fn has_magnitudes<D: DigitStore>(alloc: Global, text: &str, wanted: &str) -> bool {
+    let Ok(value) = UnsignedOver::<D>::try_from_str(alloc, text) else {
+        return false;
+    };
+    match magnitudes(alloc, &value) {
+        Some(found) => {
+            found.as_str() == wanted
+                && lowest_of(text.as_bytes()) == Ok(*value.magnitude_range().start())
+        }
+        None => false,
+    }
 }
 
 /// Whether a value without a sign is read over a store.
 fn reads_unsigned<D: DigitStore>(alloc: Global, text: &str, (wanted, facts): (&str, &str)) -> bool {
-    reads_as::<UnsignedOver<D>>(alloc, text, wanted) && has_magnitudes::<D>(alloc, text, facts)
+    reads_as::<UnsignedOver<D>>(alloc, text, wanted)
+        && (facts.is_empty() || has_magnitudes::<D>(alloc, text, facts))
 }
 
-/// Whether the lowest magnitude of a text is found, or fails with the word of the text.
+/// Whether the lowest magnitude of a text is found, or fails with the word that the text is to fail with.
 fn finds_lowest(text: &str, wanted: &str) -> bool {
-    let found = reading_word(lowest_of(text.as_bytes()));
-    found == wanted || found == "read"
+    match reading_word(lowest_of(text.as_bytes())) {
+        "read" => wanted != "syntax" && wanted != "limit",
+        word => word == wanted,
+    }
 }
 
 /// Whether a decimal is read over a store, and has a sign.
 fn reads_signed<D: DigitStore>(alloc: Global, text: &str, (wanted, facts): (&str, &str)) -> bool {
     let has_sign = match Signed::<UnsignedOver<D>>::try_from_str(alloc, text) {
-        Ok(value) => facts.is_empty() || Some(value.sign()) == sign(facts),
+        Ok(value) => facts.is_empty() || Some(value.sign()) == named(SIGNS, facts),
         Err(_) => facts.is_empty(),
     };
     has_sign && reads_as::<Signed<UnsignedOver<D>>>(alloc, text, wanted)
@@ -119,40 +132,48 @@ fn has_scientific_parts(alloc: Global, text: &str, significand: &str, exponent: 
         && has_text(&ScientificDecimal::from(decimal, integer), text)
 }
 
-/// Whether a compact or a scientific value has parts.
-fn has_parts(alloc: Global, kind: &str, text: &str, parts: &str) -> bool {
+/// Whether a compact value has parts.
+fn has_compact_words(alloc: Global, text: &str, parts: &str) -> bool {
     match parts.split_once(' ') {
-        Some((significand, exponent)) if kind == "compact" => match exponent.parse::<u8>() {
+        Some((significand, exponent)) => match exponent.parse() {
             Ok(exponent) => has_compact_parts(alloc, text, significand, exponent),
             Err(_) => false,
         },
+        None => parts.is_empty(),
+    }
+}
+
+/// Whether a scientific value has parts.
+fn has_scientific_words(alloc: Global, text: &str, parts: &str) -> bool {
+    match parts.split_once(' ') {
         Some((significand, exponent)) => has_scientific_parts(alloc, text, significand, exponent),
         None => parts.is_empty(),
     }
 }
 
 /// Whether a text is read as a value of a kind that prints a text, or fails with a word, and has parts.
-pub fn reads(alloc: Global, kind: &str, text: &str, (wanted, facts): (&str, &str)) -> bool {
+pub fn reads(alloc: Global, kind: Kind, text: &str, (wanted, facts): (&str, &str)) -> bool {
     let row = (wanted, facts);
     match kind {
-        "unsigned" => {
+        Kind::Unsigned => {
             reads_unsigned::<DigitList>(alloc, text, row)
                 && reads_unsigned::<PackedDigits>(alloc, text, row)
                 && finds_lowest(text, wanted)
         }
-        "signed" => {
+        Kind::Signed => {
             reads_signed::<DigitList>(alloc, text, row)
                 && reads_signed::<PackedDigits>(alloc, text, row)
         }
-        "integer" => {
+        Kind::Integer => {
             reads_as::<FixedInteger>(alloc, text, wanted) && becomes_integer(alloc, text, wanted)
         }
-        "scientific" => {
+        Kind::Scientific => {
             reads_as::<ScientificDecimal>(alloc, text, wanted)
-                && has_parts(alloc, kind, wanted, facts)
+                && has_scientific_words(alloc, wanted, facts)
         }
-        "compact" => {
-            reads_as::<CompactDecimal>(alloc, text, wanted) && has_parts(alloc, kind, wanted, facts)
+        Kind::Compact => {
+            reads_as::<CompactDecimal>(alloc, text, wanted)
+                && has_compact_words(alloc, wanted, facts)
         }
         _ => false,
     }

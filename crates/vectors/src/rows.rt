@@ -1,7 +1,46 @@
 //! Rows by their kinds.
+use crate::calls::named;
 use crate::{comparing, digits, edited, plural, reading, runs};
 use decimal_doubles::long;
 use std::alloc::{AllocError, Global};
+
+/// The kind of a row.
+#[derive(Clone, Copy)]
+pub enum Kind {
+    Unsigned,
+    Signed,
+    Integer,
+    Scientific,
+    Compact,
+    Decimal,
+    Run,
+    Order,
+    DecimalPair,
+    IntegerPair,
+    ScientificPair,
+    CompactPair,
+    Integers,
+    Digits,
+    Plural,
+}
+
+const KINDS: &[(&str, Kind)] = &[
+    ("unsigned", Kind::Unsigned),
+    ("signed", Kind::Signed),
+    ("integer", Kind::Integer),
+    ("scientific", Kind::Scientific),
+    ("compact", Kind::Compact),
+    ("decimal", Kind::Decimal),
+    ("run", Kind::Run),
+    ("order", Kind::Order),
+    ("pair decimal", Kind::DecimalPair),
+    ("pair integer", Kind::IntegerPair),
+    ("pair scientific", Kind::ScientificPair),
+    ("pair compact", Kind::CompactPair),
+    ("integers", Kind::Integers),
+    ("digits", Kind::Digits),
+    ("plural", Kind::Plural),
+];
 
 /// The text of a field, which is in parts where it has a star.
 fn text_of(alloc: Global, field: &str) -> Result<String, AllocError> {
@@ -12,8 +51,11 @@ fn text_of(alloc: Global, field: &str) -> Result<String, AllocError> {
     }
 }
 
-/// Splits a row into its kind and three fields, of which the last may be empty.
-fn split(row: &str) -> Option<(&str, &str, &str, &str)> {
+/// A row: its kind, and three fields, of which the last may be empty.
+type Row<'a> = (&'a str, &'a str, &'a str, &'a str);
+
+/// Splits a row.
+fn split(row: &str) -> Option<Row<'_>> {
     let (kind, fields) = row.split_once(" | ")?;
     let (first, fields) = fields.split_once(" | ")?;
     let (second, third) = fields.split_once(" | ").unwrap_or((fields, ""));
@@ -21,31 +63,23 @@ fn split(row: &str) -> Option<(&str, &str, &str, &str)> {
 }
 
 /// Whether the fields of a row of a kind are as they have to be.
-fn holds_by_kind(alloc: Global, kind: &str, (first, second, third): (&str, &str, &str)) -> bool {
+fn holds_by_kind(alloc: Global, kind: Kind, (first, second, third): (&str, &str, &str)) -> bool {
     match kind {
-        "decimal" => edited::holds(alloc, first, second, third),
-        "run" => runs::comes_to(alloc, first, second, third),
-        "order" => comparing::are_ordered(alloc, (first, second), third),
-        "integers" => digits::has_integers(alloc, first, second),
-        "digits" => digits::has_digits(alloc, first, second, third),
-        "plural" => plural::take(alloc, first, second, third),
-        _ => match kind.strip_prefix("pair ") {
-            Some(kind) => comparing::is_pair(alloc, kind, (first, second), third),
-            None => reading::reads(alloc, kind, first, (second, third)),
-        },
+        Kind::Decimal => edited::holds(alloc, first, second, third),
+        Kind::Run => runs::comes_to(alloc, first, second, third),
+        Kind::Order => comparing::are_ordered(alloc, (first, second), third),
+        Kind::DecimalPair | Kind::IntegerPair | Kind::ScientificPair | Kind::CompactPair => {
+            comparing::is_pair(alloc, kind, (first, second), third)
+        }
+        Kind::Integers => digits::has_integers(alloc, first, second),
+        Kind::Digits => digits::has_digits(alloc, first, second, third),
+        Kind::Plural => plural::take(alloc, first, second, third),
+        _ => reading::reads(alloc, kind, first, (second, third)),
     }
 }
 
-/// Whether a row holds, or does not where its kind begins with `not`. A row that is of no kind, or for which memory is
-/// refused, does not.
-pub fn holds(alloc: Global, row: &str) -> bool {
-    let Some((kind, first, second, third)) = split(row) else {
-        return false;
-    };
-    let (kind, is_wanted) = match kind.strip_prefix("not ") {
-        Some(kind) => (kind, false),
-        None => (kind, true),
-    };
+/// Whether a row of a kind holds. Where memory is refused it does not.
+fn holds_as(alloc: Global, kind: Kind, (first, second, third): (&str, &str, &str)) -> bool {
     match (
         text_of(alloc, first),
         text_of(alloc, second),
@@ -53,20 +87,29 @@ pub fn holds(alloc: Global, row: &str) -> bool {
     ) {
         (Ok(first), Ok(second), Ok(third)) => {
             let fields = (first.as_str(), second.as_str(), third.as_str());
-            holds_by_kind(alloc, kind, fields) == is_wanted
+            holds_by_kind(alloc, kind, fields)
         }
         _ => false,
     }
 }
 
+/// Whether a row holds, or does not where its kind begins with `not`. A row of no kind does not hold.
+pub fn holds(alloc: Global, row: &str) -> bool {
+    let Some((word, first, second, third)) = split(row) else {
+        return false;
+    };
+    let kind = word.strip_prefix("not ").unwrap_or(word);
+    match named(KINDS, kind) {
+        Some(found) => holds_as(alloc, found, (first, second, third)) == (kind.len() == word.len()),
+        None => false,
+    }
+}
+
 /// What a run of a row comes to.
-pub fn came_to(alloc: Global, row: &str) -> Result<String, AllocError> {
-    match split(row) {
-        Some((_, first, second, _)) => {
-            let start = text_of(alloc, first)?;
-            let calls = text_of(alloc, second)?;
-            runs::outcome(alloc, start.as_str(), calls.as_str())
-        }
-        None => String::from_str(alloc, "no row"),
+pub fn came_to(alloc: Global, row: &str) -> Option<String> {
+    let (_, first, second, _) = split(row)?;
+    match (text_of(alloc, first), text_of(alloc, second)) {
+        (Ok(start), Ok(calls)) => runs::outcome(alloc, start.as_str(), calls.as_str()).ok(),
+        _ => None,
     }
 }

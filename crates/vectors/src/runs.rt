@@ -1,6 +1,7 @@
 //! Whole runs.
 use crate::calls::calls;
-use decimal_doubles::{LimitedSink, LimitedStore, MaxDigits};
+use crate::edited::Counting;
+use decimal_doubles::LimitedSink;
 use fixed_decimal::{
     Call, DigitList, DigitStore, PackedDigits, ParseError, RunError, Sink, TextBuf, run, run_over,
 };
@@ -66,14 +67,16 @@ fn comes_to_in_memory(alloc: Global, start: &str, calls: &[Call<'_>], wanted: &s
 
 /// The same of a sink in memory, and over each store.
 pub fn comes_to(alloc: Global, start: &str, words: &str, wanted: &str) -> bool {
-    let Some(calls) = calls(alloc, words) else {
-        return false;
-    };
-    let calls = calls.as_slice();
-    comes_to_in_memory(alloc, start, calls, wanted)
-        && comes_to_over::<DigitList>(alloc, start, calls, wanted)
-        && comes_to_over::<PackedDigits>(alloc, start, calls, wanted)
-        && comes_to_over::<LimitedStore<DigitList, MaxDigits>>(alloc, start, calls, wanted)
+    match calls(alloc, words) {
+        Some(calls) => {
+            let calls = calls.as_slice();
+            comes_to_in_memory(alloc, start, calls, wanted)
+                && comes_to_over::<DigitList>(alloc, start, calls, wanted)
+                && comes_to_over::<PackedDigits>(alloc, start, calls, wanted)
+                && comes_to_over::<Counting<DigitList>>(alloc, start, calls, wanted)
+        }
+        None => false,
+    }
 }
 
 /// The text that a run writes, or the words of its error.

@@ -1,8 +1,8 @@
 //! Output through the buffer: how often the writer is called, and when no more.
 use super::words;
+use cli::fixdec::run_arguments;
 use decimal_doubles::FailingWriter;
 use decimal_doubles::WriteFailure::{self, Fault, Flush};
-use cli::fixdec::run_arguments;
 use std::alloc::Global;
 use std::io;
 use std::test::Fail;

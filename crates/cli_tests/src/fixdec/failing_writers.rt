@@ -1,7 +1,7 @@
 //! Outputs that take so many bytes and no more, and memory that is refused once.
 use super::words;
-use decimal_doubles::{FailingWriter, WriteFailure};
 use cli::fixdec::program;
+use decimal_doubles::{FailingWriter, WriteFailure};
 use fixed_decimal::Out;
 use std::alloc::Global;
 use std::test::Fail;

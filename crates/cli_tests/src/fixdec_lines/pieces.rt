@@ -1,9 +1,9 @@
 //! Inputs of a few lines, read in pieces: what is written and told for them.
 use super::pattern::{Pattern, PatternReader};
 use super::words;
-use decimal_doubles::{FailingWriter, WriteFailure};
 use cli::ErrorLines;
 use cli::fixdec_lines::run_arguments;
+use decimal_doubles::{FailingWriter, WriteFailure};
 use std::alloc::Global;
 use std::test::Fail;
 

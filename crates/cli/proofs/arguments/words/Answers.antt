@@ -15,5 +15,6 @@ returns-in-Ok-collect-clause-words c =
     let found : c.collect.result ≡ Ok c.in-Ok-collect.words = search rules in
     let all : IfOk c.collect.result (λ words. words.items ≡ words_of c.in-Ok.arguments) =
     items_from_collect _ c.collect.ensures.ran
-    (YieldsList-from_skip 1 (YieldsList-from_vec (into_iter_items c.in-Ok.arguments) items count) c.skip.ensures.count) in
+    (YieldsList-from_skip 1 (YieldsList-from_vec (into_iter_items c.in-Ok.arguments) items count)
+    c.skip.ensures.count) in
     rw is (rw found at all)

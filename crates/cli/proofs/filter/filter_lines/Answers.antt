@@ -1,7 +1,7 @@
 use Rattle.std.proofs.Common.{◌∙◌, ap, Ok, Err, true, IfSome, refl}
 use Rattle.std.proofs.lemmas.Bool.{and_parts}
 use Rattle.cli.specs.Steps.{IsRead}
-use Rattle.cli.proofs.Filtering.{filtered_start, filtered_more, ends_reading, ends_input, ends_line, err_with}
+use Rattle.cli.proofs.Filtering.{filtered_start, filtered_more, ends_reading, ends_input, ends_line, consumed_reading, consumed_line, err_with}
 use Rattle.cli.proofs.filter.filter_lines.Goals as goal
 
 pub loop-count-init : goal.loop-count-init
@@ -49,3 +49,18 @@ loop-count-preserved g c =
           let (one, two) = and_parts c.loop-count.have_texts u both in
           (h.text (ap Ok two)).1 ∙ c.loop-count.invariant.silent one;
     }
+
+pub returns-in_err-has_text-clause-consumed : goal.returns-in_err-has_text-clause-consumed
+returns-in_err-has_text-clause-consumed g c =
+    let remaining = g.R.Read.remaining in
+    let line = c.as_slice.result.now in
+    let read : IfSome (remaining c.loop-count.input) (λ rest. IsRead true rest line (remaining c.read_line.new.input)) =
+    rw (c.in-Ok-true.field-0-test, ← c.as_slice.ensures.value) at c.in-Ok-true.ensures in
+    err_with _ c.from_residual.result c.in_err-has_text.field-0.0 c.from_residual.ensures.1
+    (consumed_line _ _ _ _ _ _ _ _ _ _ _ c.loop-count.invariant.filtered line (remaining c.read_line.new.input)
+    c.in_err-has_text.field-0.0 read c.in_err-has_text.ensures.error)
+
+pub returns-in-Err-clause-consumed : goal.returns-in-Err-clause-consumed
+returns-in-Err-clause-consumed g c =
+    consumed_reading _ _ _ _ _ _ _ _ _ _ _ c.loop-count.invariant.filtered c.in-Err.error c.error_of_reading.result
+    _ c.error_of_reading.ensures

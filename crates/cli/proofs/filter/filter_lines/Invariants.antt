@@ -2,7 +2,7 @@ use Rattle.std.proofs.Common.{◌≡◌, true}
 use Rattle.cli.proofs.Filtering.{Filtered}
 use Rattle.cli.proofs.filter.filter_lines.Given as goal
 
--- so many lines were read and shown, and where none was refused, nothing was reported
+-- the lines were read and shown, and where none was refused, nothing was reported
 abbrev pub invariant-loop-count : goal.invariant-loop-count
 invariant-loop-count g l = record {
   filtered : Filtered g.D.Diagnostics.reports l.on_refusal l.calls l.count l.have_texts

@@ -46,8 +46,8 @@ returns-clause-error g c =
     let written = contents c.filter_in_blocks.result.1.0 in
     err_map c.filter_in_blocks.result.0
     (λ error ends.
-    let q : EndsInBlocks reports split.0 calls (remaining c.args.input.now) (writer_contents contents c.args.blocks.0) written
-    c.args.diagnostics.now new error = rw read at ends in
+    let q : EndsInBlocks reports split.0 calls (remaining c.args.input.now) (writer_contents contents c.args.blocks.0)
+    written c.args.diagnostics.now new error = rw read at ends in
     fails_of reports c.args.words.now (remaining c.args.input.now) (writer_contents contents c.args.blocks.0) written
     c.args.diagnostics.now new error (split.0, calls, asks, q))
     c.filter_in_blocks.ensures.ended

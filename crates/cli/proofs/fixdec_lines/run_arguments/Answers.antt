@@ -19,7 +19,8 @@ returns-clause-reported g c = λ _.
     let taken : writer_contents contents c.in-Ok.opened.1.0 ≡ contents c.args.out =
     new_writer contents c.in-Ok.opened.1.0 c.args.out c.in-Ok.ensures.inner c.in-Ok.ensures.empty in
     let fails : FilterFails reports words input (contents c.args.out) (contents closed.0) c.args.diagnostics.now before
-    error = rw (taken, c.as_slice.ensures.value) at (at_err _ c.filter_words.result.0 error is c.filter_words.ensures.error) in
+    error =
+    rw (taken, c.as_slice.ensures.value) at (at_err _ c.filter_words.result.0 error is c.filter_words.ensures.error) in
     let failed : error ≡ Output → closed.1 ≡ true = λ e. c.filter_words.ensures.failed (is ∙ ap Err e) in
     let early : IsEarly error → closed ≡ (c.args.out, false) = λ e.
     rw (c.in-Ok.ensures.inner, c.in-Ok.ensures.works) at

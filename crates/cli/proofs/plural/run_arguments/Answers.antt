@@ -24,8 +24,8 @@ returns-then-status-ne0-clause-reported g c = λ some.
       h.0,
       h.1,
       inr (have_words c.args.arguments words _ c.in-Ok.ensures.words (
-          (λ e. c.close.ensures.stays (h.4 e)),
-          (unwritten, all, stops_kept words old mid _ h.0 stops keeps),
+        (λ e. c.close.ensures.stays (h.4 e)),
+        (unwritten, all, stops_kept words old mid _ h.0 stops keeps),
       )),
       h.3,
     )
@@ -47,8 +47,8 @@ returns-then-has_failed-clause-reported g c = λ _.
       Output,
       reported.1,
       inr (have_words c.args.arguments words _ c.in-Ok.ensures.words (
-          (λ _. failed),
-          (unwritten, (λ works. absurd (false≢true (sym works ∙ failed))), prints_begun words old mid _ printed keeps),
+        (λ _. failed),
+        (unwritten, (λ works. absurd (false≢true (sym works ∙ failed))), prints_begun words old mid _ printed keeps),
       )),
       reported.2,
     )
