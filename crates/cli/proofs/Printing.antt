@@ -26,8 +26,8 @@ ok_and (Err e) P h = absurd h
 
 -- what is true of an error is true of the error that is that error
 pub err_with :
-    {A : Type 0} (Q : PluralError → Type 0) (r : Result A PluralError) (error : PluralError) → IsErrAnd r (λ x. x ≡ error) → Q error
-    → IfErr r Q
+    {A : Type 0} (Q : PluralError → Type 0) (r : Result A PluralError) (error : PluralError)
+    → IsErrAnd r (λ x. x ≡ error) → Q error → IfErr r Q
 err_with Q (Ok x) error h q = absurd h
 err_with Q (Err e) error h q = subst Q (sym h) q
 
@@ -163,8 +163,8 @@ before_begun rules texts old mid new P (front, text, back, e, p, printed) k =
     begun rules texts front (text ∷ back) old mid new e printed k
 
 -- what was printed up to an error stays printed
-pub stop_kept : (rules : List RuleParts) (texts : List (String Global)) (old mid new : Option (List ℕ)) (error : PluralError)
-    → StopsAt rules texts old mid error → Keeps mid new → StopsAt rules texts old new error
+pub stop_kept : (rules : List RuleParts) (texts : List (String Global)) (old mid new : Option (List ℕ))
+    (error : PluralError) → StopsAt rules texts old mid error → Keeps mid new → StopsAt rules texts old new error
 stop_kept rules texts old mid new Usage stop k =
     before_kept rules texts old mid new (λ number bytes. TextFails rules bytes number Usage) stop k
 stop_kept rules texts old mid new Memory stop k =
@@ -177,8 +177,8 @@ stop_kept rules texts old mid new Output (front, back, lines, e, have, part) k =
     (front, back, lines, e, have, part_kept old mid new lines part k)
 
 -- and is a prefix
-pub stop_begun : (rules : List RuleParts) (texts : List (String Global)) (old mid new : Option (List ℕ)) (error : PluralError)
-    → StopsAt rules texts old mid error → Keeps mid new → PrintsPart rules texts old new
+pub stop_begun : (rules : List RuleParts) (texts : List (String Global)) (old mid new : Option (List ℕ))
+    (error : PluralError) → StopsAt rules texts old mid error → Keeps mid new → PrintsPart rules texts old new
 stop_begun rules texts old mid new Usage stop k =
     before_begun rules texts old mid new (λ number bytes. TextFails rules bytes number Usage) stop k
 stop_begun rules texts old mid new Memory stop k =

@@ -13,9 +13,13 @@ keeps_itself (Some bytes) = refl
 pub reports_none :
     (output known : Option (List ℕ)) (line : List ℕ) (failed : Bool) → failed ≡ true → IsLineOf output line
     → Reports output known failed known failed
-reports_none output known line failed is line_is =
-    (line, line_is, ([], line, refl, appends_none known), (λ works. absurd (false≢true (sym works ∙ is))),
-    λ _. (keeps_itself known, is))
+reports_none output known line failed is line_is = (
+  line,
+  line_is,
+  ([], line, refl, appends_none known),
+  (λ works. absurd (false≢true (sym works ∙ is))),
+  λ _. (keeps_itself known, is),
+)
 
 -- the writer is this one
 pub reports_along :

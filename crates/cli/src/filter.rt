@@ -93,8 +93,8 @@ fn print_line<W: Sink, D: Diagnostics<FilterError>>(
 ) -> Result<bool, FilterError>
     ensures printed { OnOk result (Appends (W.contents out.old) (W.contents out.new)
         (output_of_line (outcome line.now calls.now))) }
-    ensures reported { OnOk result (FoldsTo D.reports diagnostics.old (errors_of_line number (outcome line.now calls.now))
-        diagnostics.new) }
+    ensures reported { OnOk result (FoldsTo D.reports diagnostics.old
+        (errors_of_line number (outcome line.now calls.now)) diagnostics.new) }
     ensures text { result ≡ Ok true → IsOk (outcome line.now calls.now) × (diagnostics.new ≡ diagnostics.old) }
     ensures refused { result ≡ Ok false → IsErr (outcome line.now calls.now) × (on_refusal ≡ OnRefusal.Skip) }
     ensures error { IfErr result (IsErrorOfLine on_refusal number line.now calls.now) }
@@ -125,8 +125,8 @@ fn print_line<W: Sink, D: Diagnostics<FilterError>>(
     }
 }
 
-/// Makes the calls on each line of the input, writes the texts to `out`, each with a line feed, and returns whether each
-/// line has a text.
+/// Makes the calls on each line of the input, writes the texts to `out`, each with a line feed, and returns whether
+/// each line has a text.
 ///
 /// A line is all bytes up to a line feed; the bytes after the last line feed are a line if there are any. With `Skip`
 /// the error of a line is reported, and an empty line is written.
