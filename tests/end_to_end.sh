@@ -1,71 +1,99 @@
 #!/usr/bin/env bash
-# Runs the built program `fixdec` and looks at its standard output, its standard error and its status: a row of each
-# line that it tells, and words that only a real command line has. The program is proved and built first, by `rt run`.
-# Needs bash, and prlimit of util-linux. The last line is `N passed, M failed`; the status is 0 if M is 0.
+# Runs the built programs `fixdec`, `fixdec_lines` and `plural`, and compares standard output, standard error and the
+# status: a row for each line of an error, and words and inputs that only a real command line has. `rt run`
+# proves and builds them first, but where the gate just did. Needs bash, and prlimit of util-linux. The last line is
+# `N passed, M failed`; the status is 0 if M is 0.
 set -u
 cd "$(dirname "$0")/.." || exit 1
-(cd crates/fixdec && rt run) > /dev/null 2>&1
-program=$PWD/crates/fixdec/out/fixdec
-if [ ! -f "$program" ]; then
-  echo "the program was not built: try rt run in crates/fixdec"
-  echo "0 passed, 1 failed"
-  exit 1
-fi
 room=$(mktemp -d) || exit 1
 trap 'rm -rf "$room"' EXIT
-cp "$program" "$room/fixdec" && chmod +x "$room/fixdec"
+for name in fixdec fixdec_lines plural; do
+  program=crates/$name/out/$name
+  [ -n "${BUILT_BY_GATE:-}" ] || (cd "crates/$name" && rt run) > /dev/null 2>&1 < /dev/null
+  if [ ! -f "$program" ]; then
+    echo "the program was not built: try rt run in crates/$name"
+    echo "0 passed, 1 failed"
+    exit 1
+  fi
+  cp "$program" "$room/$name" && chmod +x "$room/$name"
+done
 passed=0
 failed=0
 
-# compare STATUS TEXT LINE: what the program answered, in $found, $room/out and $room/err, is this.
-compare() {
-  printf '%s' "$2" > "$room/text"
-  printf '%s' "$3" > "$room/line"
-  if [ "$found" = "$1" ] && cmp -s "$room/out" "$room/text" && cmp -s "$room/err" "$room/line"; then
+# judge NAME: counts the status of the last command.
+judge() {
+  if [ $? = 0 ]; then
     passed=$((passed + 1))
   else
     failed=$((failed + 1))
-    echo "failed: $name: status $found, standard output and standard error:"
-    head -c 200 "$room/out"
-    head -c 200 "$room/err"
+    echo "failed: $1"
   fi
 }
 
-# row STATUS TEXT LINE WORD..: the words are answered so.
-row() {
-  name="fixdec ${*:4:8}"
-  "$room/fixdec" "${@:4}" > "$room/out" 2> "$room/err" < /dev/null
-  found=$?
-  compare "$1" "$2" "$3"
+# compare STATUS TEXT LINES: the result of a program, in $found, $room/out and $room/err, is this.
+compare() {
+  printf '%s' "$2" > "$room/text"
+  printf '%s' "$3" > "$room/lines"
+  [ "$found" = "$1" ] && cmp -s "$room/out" "$room/text" && cmp -s "$room/err" "$room/lines"
+  judge "$name: status $found, $(head -c 200 "$room/out" | tr '\n' '|'), $(head -c 200 "$room/err" | tr '\n' '|')"
 }
+
+# row PROGRAM STATUS TEXT LINES WORD..: the result of the words is this.
+row() {
+  name="${*:1:1} ${*:5:8}"
+  "$room/$1" "${@:5}" > "$room/out" 2> "$room/err" < /dev/null
+  found=$?
+  compare "$2" "$3" "$4"
+}
+
+# lines STATUS INPUT TEXT LINES WORD..: the result of `fixdec_lines` on the input, in which printf reads escapes, and
+# the words is this.
+lines() {
+  name="printf '${2:0:40}' | fixdec_lines ${*:5:8}"
+  printf '%b' "$2" > "$room/in"
+  "$room/fixdec_lines" "${@:5}" > "$room/out" 2> "$room/err" < "$room/in"
+  found=$?
+  compare "$1" "$3" "$4"
+}
+
+# help PROGRAM LINE: the only words `--help` and `-h` print the usage line and a table.
+help() {
+  for word in --help -h; do
+    "$room/$1" "$word" > "$room/out" 2> "$room/err" < /dev/null \
+      && [ "$(head -n 1 "$room/out")" = "$2" ] && [ "$(wc -l < "$room/out")" -gt 5 ] && [ ! -s "$room/err" ]
+    judge "$1 $word"
+  done
+}
+
+# ---- fixdec
 
 usage=$'usage: fixdec TEXT [CALL]..\n'
 
 # Status 0.
-row 0 $'2.50\n' '' 250 shift:-2
-row 0 $'-35.970\n' '' 4235.970 max:2 sign:minus
-row 0 $'12345678901234567890.5\n' '' 12345678901234567890 trim-start concat:0.5
+row fixdec 0 $'2.50\n' '' 250 shift:-2
+row fixdec 0 $'-35.970\n' '' 4235.970 max:2 sign:minus
+row fixdec 0 $'12345678901234567890.5\n' '' 12345678901234567890 trim-start concat:0.5
 
-# Status 1: a text or a call is refused.
-row 1 '' $'start: syntax\n' 5.
-row 1 '' $'start: syntax\n' ''
-row 1 '' $'start: syntax\n' --
-row 1 '' $'start: limit\n' 10e32767
-row 1 '' $'call 0: syntax\n' 5 concat:x
-row 1 '' $'call 1: limit\n' 5 trim-start concat:1e99999
-row 1 '' $'call 0: overlap\n' 120 concat:25
-row 1 '' $'call 1: overflow\n' 98765 shift:32763 shift:1
+# Status 1: the start or a call fails.
+row fixdec 1 '' $'start: syntax\n' 5.
+row fixdec 1 '' $'start: syntax\n' ''
+row fixdec 1 '' $'start: syntax\n' --
+row fixdec 1 '' $'start: limit\n' 10e32767
+row fixdec 1 '' $'call 0: syntax\n' 5 concat:x
+row fixdec 1 '' $'call 1: limit\n' 5 trim-start concat:1e99999
+row fixdec 1 '' $'call 0: overlap\n' 120 concat:25
+row fixdec 1 '' $'call 1: overflow\n' 98765 shift:32763 shift:1
 
-# Status 2: no start, or a word that is no call, or is not UTF-8.
-row 2 '' "$usage"
-row 2 '' "$usage" 5 trim
-row 2 '' "$usage" 5 ''
-row 2 '' "$usage" 5 --
-row 2 '' "$usage" '' 5
-row 2 '' "$usage" $'5\xff'
-row 2 '' "$usage" 5 $'concat:\xc3\x28'
+# Status 2: no start, or a word that names no call or is not UTF-8.
+row fixdec 2 '' "$usage"
+row fixdec 2 '' "$usage" 5 trim
+row fixdec 2 '' "$usage" 5 ''
+row fixdec 2 '' "$usage" 5 --
+row fixdec 2 '' "$usage" '' 5
+row fixdec 2 '' "$usage" $'5\xff'
+row fixdec 2 '' "$usage" 5 $'concat:\xc3\x28'
 
-# Status 3: standard output or memory is refused.
+# Status 3: standard output fails.
 name='fixdec 250 > /dev/full'
 "$room/fixdec" 250 > /dev/full 2> "$room/err" < /dev/null
 found=$?
@@ -76,7 +104,7 @@ name='fixdec 250 >&-'
 found=$?
 compare 3 '' $'output\n'
 
-# A fault of standard error changes no status.
+# A failed standard error changes no status.
 name='fixdec 5. 2> /dev/full'
 "$room/fixdec" 5. > "$room/out" 2> /dev/full < /dev/null
 found=$?
@@ -90,33 +118,219 @@ compare 0 $'250\n' ''
 # Many words, and a long text.
 calls=()
 for ((i = 0; i < 300; i++)); do calls+=(shift:0); done
-row 0 $'50\n' '' 5 "${calls[@]}" shift:1
-row 1 '' $'call 300: syntax\n' 5 "${calls[@]}" concat:x
-row 2 '' "$usage" 5 "${calls[@]}" x
+row fixdec 0 $'50\n' '' 5 "${calls[@]}" shift:1
+row fixdec 1 '' $'call 300: syntax\n' 5 "${calls[@]}" concat:x
+row fixdec 2 '' "$usage" 5 "${calls[@]}" x
 zeros=$(printf '%032768d' 0)
-row 0 "1${zeros:1}.$zeros"$'\n' '' 1e32767 pad-end:-32768
+row fixdec 0 "1${zeros:1}.$zeros"$'\n' '' 1e32767 pad-end:-32768
 
-# Little memory: the system cannot start the program, or it tells `memory`, or it prints. Some limits are of each kind.
+# Little memory: the system cannot start the program, or it reports `memory`, or it prints. Some limits are of each kind.
 many=()
 for ((i = 0; i < 50000; i++)); do many+=(shift:0); done
-told=0
+reported=0
 printed=0
 for ((limit = 4000; limit <= 64000; limit += 4000)); do
   name="fixdec 5 and 50000 words within $limit KiB"
   prlimit --as=$((limit * 1024)) "$room/fixdec" 5 "${many[@]}" > "$room/out" 2> "$room/err" < /dev/null
   found=$?
   if [ "$found" = 3 ]; then
-    told=$((told + 1))
+    reported=$((reported + 1))
     compare 3 '' $'memory\n'
   elif [ "$found" = 0 ]; then
     printed=$((printed + 1))
     compare 0 $'5\n' ''
   fi
 done 2> /dev/null
-if [ "$told" = 0 ] || [ "$printed" = 0 ]; then
-  failed=$((failed + 1))
-  echo "failed: with little memory it told memory $told times and printed $printed times"
-fi
+[ "$reported" != 0 ] && [ "$printed" != 0 ]
+judge "with little memory it reported memory $reported times and printed $printed times"
+
+help fixdec 'usage: fixdec TEXT [CALL]..'
+row fixdec 1 '' $'start: syntax\n' --help shift:1
+row fixdec 2 '' "$usage" --help 5
+
+# ---- fixdec_lines
+
+usage=$'usage: fixdec_lines [skip] [CALL]..\n'
+
+# Status 0.
+lines 0 '250\n7\n' $'2.50\n0.07\n' '' shift:-2
+lines 0 '250\n7' $'2.50\n0.07\n' '' shift:-2
+lines 0 '-0012.3400\n' $'-0012.3400\n' ''
+lines 0 '' '' '' shift:-2
+lines 0 '' '' '' skip
+lines 0 '12345678901234567890.125\n' $'12345678901234567890.12\n' '' skip round:-2:half-even:1
+
+# Status 1: the first line that fails ends the run.
+lines 1 '1\nx\n2\n' $'1\n' $'line 2: start: syntax\n'
+lines 1 '1\n\n2\n' $'1\n' $'line 2: start: syntax\n'
+lines 1 '1\r\n' '' $'line 1: start: syntax\n'
+lines 1 '1\0002\n' '' $'line 1: start: syntax\n'
+lines 1 '\0377\n' '' $'line 1: start: syntax\n'
+lines 1 '1\n10e32767' $'1\n' $'line 2: start: limit\n'
+lines 1 '0.0\n10\n110.00\n11\n120\n' $'7\n17\n117\n' $'line 4: call 1: overlap\n' trim-end concat:7
+lines 1 '1\n' '' $'line 1: call 0: syntax\n' concat:x
+lines 1 '1\n' '' $'line 1: call 0: limit\n' concat:1e99999
+lines 1 '1\n' '' $'line 1: call 1: overflow\n' shift:32767 shift:1
+
+# Status 1, and each line that fails is skipped.
+lines 1 '250\n\nx\n7' $'2.50\n\n\n0.07\n' $'line 2: start: syntax\nline 3: start: syntax\n' skip shift:-2
+skipped=$'line 2: start: syntax\nline 3: start: syntax\nline 4: start: limit\nline 6: call 0: overflow\n'
+lines 1 '250\n7\r\nx\n10e32767\n-12\n1e-32767\n4' $'2.50\n\n\n\n-0.12\n\n0.04\n' "$skipped" skip shift:-2
+
+# Status 2: a word names no call or is not UTF-8; nothing is read.
+lines 2 '1\n' '' "$usage" trim
+lines 2 '1\n' '' "$usage" ''
+lines 2 '1\n' '' "$usage" --
+lines 2 '1\n' '' "$usage" skip skip
+lines 2 '250\n' '' "$usage" shift:-2 skip
+lines 2 '1\n' '' "$usage" $'concat:\xc3\x28'
+printf '1\n2\n' > "$room/in"
+{ "$room/fixdec_lines" up > /dev/null 2>&1; [ "$(cat)" = $'1\n2' ]; } < "$room/in"
+judge 'the input is not read where a word names no call'
+
+# Status 3: standard output or standard input fails.
+printf '250\n' > "$room/in"
+: > "$room/out"
+name='fixdec_lines > /dev/full'
+"$room/fixdec_lines" > /dev/full 2> "$room/err" < "$room/in"
+found=$?
+compare 3 '' $'output\n'
+name='fixdec_lines >&-'
+"$room/fixdec_lines" 2> "$room/err" >&- < "$room/in"
+found=$?
+compare 3 '' $'output\n'
+name='fixdec_lines < /'
+"$room/fixdec_lines" > "$room/out" 2> "$room/err" < /
+found=$?
+compare 3 '' $'input\n'
+name='fixdec_lines <&-'
+"$room/fixdec_lines" > "$room/out" 2> "$room/err" <&-
+found=$?
+[ "$found" = 0 ] || [ "$found" = 3 ]
+judge "$name: status $found"
+
+# A failed standard error changes no status.
+name='fixdec_lines skip 2> /dev/full'
+printf '1\nx\n2\n' > "$room/in"
+: > "$room/err"
+"$room/fixdec_lines" skip > "$room/out" 2> /dev/full < "$room/in"
+found=$?
+compare 1 $'1\n\n2\n' ''
+
+# Through pipes, a line at a time: each line is read whole.
+name='a slow pipe'
+slowly() { printf '1'; sleep 0.2; printf '2\n3'; sleep 0.2; printf '4\n'; }
+slowly | "$room/fixdec_lines" shift:-1 > "$room/out" 2> "$room/err"
+found=$?
+compare 0 $'1.2\n3.4\n' ''
+
+# A column cut out of a table, rounded and pasted back.
+name='a column of a table'
+printf 'tea,2.345\nmilk,0.995\n' > "$room/table"
+cut -d, -f2 "$room/table" | "$room/fixdec_lines" round:-2:half-even:1 \
+  | paste -d, <(cut -d, -f1 "$room/table") - > "$room/out"
+found=$?
+: > "$room/err"
+compare 0 $'tea,2.34\nmilk,1.00\n' ''
+
+# Long lines: 65,537 bytes with a text, 200,000 bytes with one, and 200,000 bytes without.
+zeros=$(printf '%032767d' 0)
+lines 0 "1$zeros.0$zeros"'\n7\n' "1$zeros.0$zeros"$'\n7\n' ''
+lines 0 "1e$(printf '%0199997d' 3)"'\n7\n' $'1000\n7\n' ''
+lines 1 "7\n$(printf '%0200000d' 0)"'\n8\n' $'7\n' $'line 2: start: limit\n'
+
+# Many lines.
+for ((i = 0; i < 20000; i++)); do echo "$i.125"; done > "$room/many"
+"$room/fixdec_lines" round:-2:half-even:1 < "$room/many" > "$room/out" 2> "$room/err"
+[ $? = 0 ] && [ "$(wc -l < "$room/out")" = 20000 ] && [ "$(tail -n 1 "$room/out")" = 19999.12 ]
+judge 'many lines'
+
+# Little memory: the system cannot start the program, or it reports `memory` or `line 2: memory` with the line before, or
+# it prints. Some limits are of the last two kinds.
+{ echo 7; head -c 30000000 /dev/zero | tr '\0' x; echo; } > "$room/in"
+early=0
+reported=0
+printed=0
+for ((limit = 2000; limit <= 130000; limit += 4000)); do
+  name="a line of 30,000,000 bytes within $limit KiB"
+  prlimit --as=$((limit * 1024)) "$room/fixdec_lines" > "$room/out" 2> "$room/err" < "$room/in"
+  found=$?
+  if [ "$found" = 3 ] && [ "$(cat "$room/err")" = memory ]; then
+    early=$((early + 1))
+    compare 3 '' $'memory\n'
+  elif [ "$found" = 3 ]; then
+    reported=$((reported + 1))
+    compare 3 $'7\n' $'line 2: memory\n'
+  elif [ "$found" = 1 ]; then
+    printed=$((printed + 1))
+    compare 1 $'7\n' $'line 2: start: syntax\n'
+  fi
+done 2> /dev/null
+[ "$reported" != 0 ] && [ "$printed" != 0 ]
+judge "with little memory it reported memory $early times, that of a line $reported times, and read the line $printed times"
+
+help fixdec_lines 'usage: fixdec_lines [skip] [CALL]..'
+
+# ---- plural
+
+usage=$'usage: plural RULES TEXT..\n'
+one='one: i = 1 and v = 0'
+
+# Status 0.
+row plural 0 $'one\nother\nother\n' '' "$one" 1 1.0 1c6
+row plural 0 $'one\none\none\n' '' "$one" 1 01 -1
+
+# Status 1: the rules or a text are rejected; the categories of the texts before are printed.
+row plural 1 '' $'rules: syntax at 4\n' 'one i = 1' 1
+row plural 1 '' $'rules: limit at 9\n' 'one: n = 18446744073709551616' 1
+row plural 1 '' $'text 1: syntax\n' "$one" x
+row plural 1 $'one\n' $'text 2: syntax\n' "$one" 1 x 1
+row plural 1 $'one\nother\n' $'text 3: limit\n' "$one" 1 2 1e99999 1
+row plural 1 '' $'text 1: limit\n' "$one" 1c256
+
+# Status 2: no rules or no text, or a word is not UTF-8.
+row plural 2 '' "$usage"
+row plural 2 '' "$usage" "$one"
+row plural 2 '' "$usage" "$one" $'1\xff'
+
+# Status 3: standard output fails.
+: > "$room/out"
+name='plural > /dev/full'
+"$room/plural" "$one" 1 > /dev/full 2> "$room/err" < /dev/null
+found=$?
+compare 3 '' $'output\n'
+name='plural x > /dev/full'
+"$room/plural" "$one" 1 x > /dev/full 2> "$room/err" < /dev/null
+found=$?
+compare 3 '' $'output\n'
+
+# A failed standard error changes no status.
+: > "$room/err"
+name='plural x 2> /dev/full'
+"$room/plural" "$one" 1 x > "$room/out" 2> /dev/full < /dev/null
+found=$?
+compare 1 $'one\n' ''
+
+# Little memory: the system cannot start the program, or it reports `memory`, or it prints. Some limits are of each kind.
+digits=$(printf '%020000d' 7)
+reported=0
+printed=0
+for ((limit = 1000; limit <= 64000; limit += 250)); do
+  name="plural and texts of 20000 digits within $limit KiB"
+  prlimit --as=$((limit * 1024)) "$room/plural" "$one" "$digits" "$digits" > "$room/out" 2> "$room/err" < /dev/null
+  found=$?
+  if [ "$found" = 3 ]; then
+    reported=$((reported + 1))
+    compare 3 "$(cat "$room/out")" $'memory\n'
+  elif [ "$found" = 0 ]; then
+    printed=$((printed + 1))
+    compare 0 $'other\nother\n' ''
+  fi
+done 2> /dev/null
+[ "$reported" != 0 ] && [ "$printed" != 0 ]
+judge "with little memory it reported memory $reported times and printed $printed times"
+
+help plural 'usage: plural RULES TEXT..'
 
 echo "$passed passed, $failed failed"
 [ "$failed" -eq 0 ]

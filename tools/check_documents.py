@@ -34,18 +34,21 @@ CELL = 240
 
 DOCUMENTS = ["README.md", "CALLING.md"]
 # The crates whose proofs know of the libraries what every caller does.
-CALLERS = ["uses", "plural_rules", "program_parts", "plural_program", "fixdec_lines_program"]
+CALLERS = ["uses", "plural_rules", "cli"]
+# What writes to a writer itself cites the lemmas on writers.
+WRITES = "crates/cli/proofs/diagnostics/write_whole/Answers.antt"
 LIBRARIES = ["decimal_digits", "decimal_unsigned", "fixed_decimal"]
-CRATES = [*LIBRARIES, "program_parts", "fixdec_program", "fixdec_lines_program", "plural_rules", "plural_program"]
+CRATES = [*LIBRARIES, "plural_rules", "cli"]
 
 # The files above the libraries whose public functions are promises.
 ABOVE = [
-    "crates/program_parts/src/arguments.rt",
-    "crates/program_parts/src/lines.rt",
-    "crates/fixdec_program/src/command_line.rt",
-    "crates/fixdec_lines_program/src/command_line.rt",
-    "crates/fixdec_lines_program/src/filter.rt",
-    "crates/plural_program/src/command_line.rt",
+    "crates/cli/src/calls.rt",
+    "crates/cli/src/diagnostics.rt",
+    "crates/cli/src/filter.rt",
+    "crates/cli/src/fixdec.rt",
+    "crates/cli/src/fixdec_lines.rt",
+    "crates/cli/src/output.rt",
+    "crates/cli/src/plural.rt",
     "crates/plural_rules/src/operands.rt",
     "crates/plural_rules/src/parse.rt",
     "crates/plural_rules/src/rules.rt",
@@ -562,7 +565,7 @@ def check_callers(tree):
         if crate not in CALLERS:
             continue
         for cited in re.findall(r"^(?:pub )?use Rattle\.(?:decimal_\w+|fixed_decimal)\.proofs\.(\w+)", text, re.M):
-            check(cited == "Calling", f"{path}: cites {cited}, and callers cite Calling alone")
+            check(cited == "Calling" or path == WRITES, f"{path}: cites {cited}, and callers cite Calling alone")
 
 
 def check_public(tree):

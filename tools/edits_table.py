@@ -1,7 +1,7 @@
 #!/usr/bin/env python3
-"""Keeps the tables of docs/EDITS.md: which clause of which function refuses each edit of crates/*/must-fail.
+"""Keeps the tables of docs/EDITS.md: which clause rejects each edit of crates/CRATE/must-fail and wrong_bodies/CRATE.
 
-  edits_table.py LOG           writes the tables anew from LOG, what `rt must-fail` or `rt ci` printed
+  edits_table.py LOG           writes the tables anew from LOG, what `rt must-fail` printed for all edits of some crates
   edits_table.py --check LOG   says whether they are what LOG says, and each edit and each public clause has its row
   edits_table.py --open        lists the public clauses that stand in no row
 
@@ -17,6 +17,7 @@ import sys
 
 ROOT = os.path.dirname(os.path.dirname(os.path.abspath(__file__)))
 CRATES = os.path.join(ROOT, "crates")
+WRONG_BODIES = os.path.join(ROOT, "wrong_bodies")
 TABLES = os.path.join(ROOT, "docs", "EDITS.md")
 HEAD = ["| Function | Clause | Edit | Witness |", "|---|---|---|---|"]
 ONLY = "its only clause"
@@ -221,8 +222,15 @@ def read_log(path):
 # ---- The document.
 
 
+def edits_of(crate):
+    """The edits of a crate: those of the gate, and the other wrong bodies."""
+    folders = [os.path.join(CRATES, crate, "must-fail"), os.path.join(WRONG_BODIES, crate)]
+    files = [file for folder in folders if os.path.isdir(folder) for file in os.listdir(folder)]
+    return {it[: -len(".edit")] for it in files if it.endswith(".edit")}
+
+
 def is_crate(name):
-    return bool(name) and os.path.isdir(os.path.join(CRATES, name, "must-fail"))
+    return bool(name) and bool(edits_of(name))
 
 
 def sections_of(text):
@@ -303,12 +311,11 @@ def open_clauses(sources, text):
 def faults(sources, text, told):
     """What is wrong with the rows, beside what the log says of them."""
     found, tables = [], {heading: rows_of(lines) for heading, lines in sections_of(text) if is_crate(heading)}
-    for crate in filter(is_crate, sorted(os.listdir(CRATES))):
-        files = os.listdir(os.path.join(CRATES, crate, "must-fail"))
-        edits, rows = {it[: -len(".edit")] for it in files if it.endswith(".edit")}, tables.get(crate, {})
+    for crate in sorted(told):
+        edits, rows = edits_of(crate), tables.get(crate, {})
         found += [f"{crate}/{it}: no row" for it in sorted(edits - set(rows))]
         found += [f"{crate}/{it}: a row without an edit" for it in sorted(set(rows) - edits)]
-        found += [f"{crate}/{it}: not in the log" for it in sorted(edits & set(rows) - set(told.get(crate, {})))]
+        found += [f"{crate}/{it}: not in the log" for it in sorted(edits & set(rows) - set(told[crate]))]
         for edit, row in sorted(rows.items()):
             if (IN_PROOF in row[1] or row[1].startswith("no clause")) and not row[3]:
                 found.append(f"{crate}/{edit}: not refused at a clause alone, and without a witness")

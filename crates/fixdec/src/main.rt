@@ -1,10 +1,9 @@
-//! `fixdec TEXT [CALL]..` reads a decimal, makes the calls in order, and prints what it comes to.
+//! `fixdec TEXT [CALL]..` reads a decimal, makes the calls in order, and prints the text of the result.
 //!
-//! `fixdec 250 shift:-2` prints `2.50`. The words, the lines on standard error and the statuses are those of `program`
-//! in `fixdec_program`.
+//! `fixdec 250 shift:-2` prints `2.50`.
 #![tactic(auto)]
 
-use fixdec_program::execute;
+use cli::fixdec::execute;
 use std::process::ExitCode;
 
 fn main(rt: HostRuntime) -> ExitCode {

@@ -1,10 +1,9 @@
 //! `fixdec_lines [skip] [CALL]..` makes the same calls on each line of standard input, and writes a line for each.
 //!
-//! `printf '250\n7\n' | fixdec_lines shift:-2` prints `2.50` and `0.07`. The words are those of `fixdec`; the lines on
-//! standard error and the statuses are those of `run_arguments` in `fixdec_lines_program`.
+//! `printf '250\n7\n' | fixdec_lines shift:-2` prints `2.50` and `0.07`.
 #![tactic(auto)]
 
-use fixdec_lines_program::execute;
+use cli::fixdec_lines::execute;
 use std::process::ExitCode;
 
 fn main(rt: HostRuntime) -> ExitCode {

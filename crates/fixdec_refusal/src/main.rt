@@ -1,7 +1,7 @@
-//! The program `fixdec` once more, for a stored run that is refused: a crate has one stored run.
+//! The program `fixdec` with a stored run of status 1: a crate has one stored run.
 #![tactic(auto)]
 
-use fixdec_program::execute;
+use cli::fixdec::execute;
 use std::process::ExitCode;
 
 fn main(rt: HostRuntime) -> ExitCode {

@@ -205,6 +205,13 @@ module _ (bound number : ℕ) where
     | inr part ↦ let k = sym h ∙ whole_numbers.as_integer-part bound number part in absurd (cc)
   ]
 
+  -- out of range: each fraction digit is 0
+  pub out_of_range_whole : as_integer bound number ≡ Err OutOfRange → number % weight (pos 0) ≡ 0
+  out_of_range_whole h = elim (cases_eq (number % weight (pos 0)) 0) [
+    | inl e ↦ e
+    | inr part ↦ let k = sym h ∙ whole_numbers.as_integer-part bound number part in absurd (cc)
+  ]
+
 -- ---- The digits of a value.
 -- what the digits at so many magnitudes from m down are worth together
 unfoldable pub worth_down : ℕ → ℤ → ℕ → ℕ

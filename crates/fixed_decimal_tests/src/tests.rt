@@ -1,6 +1,5 @@
-//! What rows of texts do not test: types, failing sinks, refused memory, and counts.
-//!
-//! A helper holds one value and returns whether it is as its row says.
+//! What rows of texts do not test: types, failing sinks, failing allocations, and counts. A helper holds one value and
+//! returns whether it is as its row says.
 use decimal_doubles::{Value, displays, has_text, long, shows};
 use fixed_decimal::{
     Decimal, DigitList, DigitStore, PackedDigits, ParseError, Sink, TextBuf, UnsignedOver,

@@ -1,10 +1,9 @@
 //! `plural RULES TEXT..` reads plural rules, and prints the category of each text on a line.
 //!
-//! `plural 'one: i = 1 and v = 0' 1 1.0 1c6` prints `one`, `other` and `other`. The lines on standard error and the
-//! statuses are those of `program` in `plural_program`.
+//! `plural 'one: i = 1 and v = 0' 1 1.0 1c6` prints `one`, `other` and `other`.
 #![tactic(auto)]
 
-use plural_program::execute;
+use cli::plural::execute;
 use std::process::ExitCode;
 
 fn main(rt: HostRuntime) -> ExitCode {

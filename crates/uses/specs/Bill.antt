@@ -35,11 +35,12 @@ pub record IsSplit (amount : Unsigned) (count : ℕ) (parts : List Unsigned) : T
 abbrev pub IsWholeCents : Unsigned → Type 0
 IsWholeCents amount = (total : ℕ) × (total < 2 ^ 64) × (amount.number ≡ total * cent)
 
--- why an amount is not split: there is no part, or there are some and the amount ends below the cents, or it is too
--- great or memory is refused; too great is 2 to the 64 cents, and what shows a digit above the magnitude 32765. Memory
--- is wanted for a copy of an amount with more digits than are held without it, and for parts of whole cents
+-- why an amount is not split, the first of these that holds: there is no part; the amount shows a digit above the
+-- magnitude 32765; it has a part of a cent; it is 2 to the 64 cents or more. Out of memory: for a copy of an amount
+-- with more digits than are stored in place, or for parts of whole cents
 abbrev pub Refuses : BillError → Unsigned → ℕ → Type 0
 Refuses NoPart amount count = count ≡ 0
-Refuses PartOfACent amount count = (0 < count) × (¬ (amount.number % cent ≡ 0))
-Refuses TooGreat amount count = (0 < count) × ((2 ^ 64 * cent ≤ amount.number) ⊎ (¬ StaysInLimits amount (pos 2)))
+Refuses PartOfACent amount count = (0 < count) × StaysInLimits amount (pos 2) × (¬ (amount.number % cent ≡ 0))
+Refuses TooGreat amount count =
+    (0 < count) × ((¬ StaysInLimits amount (pos 2)) ⊎ ((amount.number % cent ≡ 0) × (2 ^ 64 * cent ≤ amount.number)))
 Refuses Memory amount count = (0 < count) × ((DIGITS_IN_PLACE < size amount.number) ⊎ IsWholeCents amount)

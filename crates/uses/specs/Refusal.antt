@@ -1,4 +1,4 @@
--- What a person is told of a run.
+-- What is written of a run.
 use Rattle.std.specs.Prelude.{◌≡◌, ◌≢◌, ℕ, ◌⊎◌, List, Ok}
 use Rattle.decimal_unsigned.specs.declared.decimal.TheConstants.{DIGITS_IN_PLACE}
 use Rattle.fixed_decimal.specs.Outcome.{outcome}
@@ -8,11 +8,12 @@ use Rattle.fixed_decimal.specs.declared.runs.Call.{Call}
 use Rattle.fixed_decimal.specs.declared.runs.RunError.{RunError}
 use Rattle.fixed_decimal.specs.declared.runs.RunError.TheVariants.{Sink}
 
--- the run may answer an error that is no fault of the sink
+-- the run may return an error other than that of the sink
 abbrev pub IsRefused : List ℕ → List Call → Type 0
 IsRefused start calls = (e : RunError) × RunRefuses DIGITS_IN_PLACE e start calls × (e ≢ Sink)
 
--- the text that the calls come to, or the sentence of an error that the run may answer
+-- the outcome's text; or the sentence of the outcome's refusal, which is that of the first call that fails; or that the
+-- run is out of memory at the start or at a call that it reaches, so each call before that one succeeds
 abbrev pub IsTold : List ℕ → List Call → List ℕ → Type 0
 IsTold start calls told =
     (outcome start calls ≡ Ok told)

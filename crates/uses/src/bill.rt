@@ -10,7 +10,7 @@ use std::alloc::{AllocError, Global};
 pub enum BillError {
     /// There is no part to split it into.
     NoPart,
-    /// The amount has a digit below the cents that is not 0.
+    /// The amount has a nonzero digit below the cents.
     PartOfACent,
     /// The amount is 2 to the 64 cents or more, or shows a digit above the magnitude 32765.
     TooGreat,
@@ -46,10 +46,14 @@ fn cents_value(alloc: Global, cents: u64) -> Result<UnsignedDecimal, AllocError>
     Ok(value)
 }
 
-/// Splits an amount into so many parts of whole cents that add up to it, and differ by at most a cent.
+/// Splits an amount into the given number of parts of whole cents that add up to it, and differ by at most a cent.
 ///
-/// `100.00` in three parts is `33.34`, `33.33` and `33.33`. Err: as `BillError` says; that there is no part is told
-/// before all else, and a fault of the amount before want of memory for the parts. The amount stays as it is.
+/// `100.00` in three parts is `33.34`, `33.33` and `33.33`.
+///
+/// # Errors
+///
+/// The first that applies: `NoPart`; `Memory` for a copy of the amount; `TooGreat` for a digit above the magnitude
+/// 32765; `PartOfACent`; `TooGreat` for 2 to the 64 cents or more; `Memory` for the parts.
 pub fn split_bill(
     alloc: Global,
     amount: &UnsignedDecimal,

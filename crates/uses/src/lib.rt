@@ -19,5 +19,3 @@ pub mod column;
 pub mod measurement;
 pub mod price;
 pub mod refusal;
-#[cfg(test)]
-mod tests;

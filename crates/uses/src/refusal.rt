@@ -1,4 +1,4 @@
-//! A run of calls that tells a person why it is refused.
+//! A run of calls that reports its first error in words.
 ghost use Rattle.std.specs.Prelude.{◌≡◌, ℕ, List, Err, OnOk, true};
 ghost use Rattle.std.specs.Io.KnownBytes.{Appends};
 ghost use Rattle.decimal_digits.specs.Text.{AppendsPrefix};
@@ -8,16 +8,16 @@ ghost use Rattle.uses.specs.Refusal.{IsRefused, IsTold};
 use fixed_decimal::{Call, RunError, Sink, SinkFault, run};
 use std::alloc::Global;
 
-/// Why a person was not told.
+/// Why nothing, or not all, was written.
 #[derive(Clone, Copy, Debug, PartialEq, Eq)]
 pub enum TellError {
-    /// Memory for the sentence was refused. Nothing was written.
+    /// Out of memory for the sentence. Nothing was written.
     Memory,
-    /// The sink refused a byte, now or before, and has taken a beginning of what was to be told.
+    /// The sink failed, now or before, and has taken a prefix of what was to be written.
     Sink,
 }
 
-/// Writes the sentence that says why a run was refused.
+/// Writes the sentence of an error.
 fn tell<W: Sink>(alloc: Global, error: &RunError, sink: &mut W) -> Result<(), TellError>
     ensures reported { OnOk result (Appends (W.contents sink.old) (W.contents sink.new) (run_error_text error.now)) }
     ensures untouched { result ≡ Err TellError.Memory → sink.new ≡ sink.old }
@@ -34,11 +34,14 @@ fn tell<W: Sink>(alloc: Global, error: &RunError, sink: &mut W) -> Result<(), Te
     }
 }
 
-/// Makes a run, and writes its text, or where it is refused the sentence that says why.
+/// Makes a run, and writes its text, or the sentence of the first call that fails.
 ///
 /// From `1e5` the call `MultiplyPow10(-2)` writes `1000.00`, and from `1,5` any calls write
-/// `Start: Failed to parse the input string`. Err: as `TellError` says; `Memory` only where the run is refused, for
-/// want of memory or for another reason.
+/// `Start: Failed to parse the input string`.
+///
+/// # Errors
+///
+/// As `TellError` says; `Memory` only where the run returns an error.
 pub fn write_or_tell<W: Sink>(
     alloc: Global,
     start: &[u8],

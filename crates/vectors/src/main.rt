@@ -19,6 +19,7 @@
 //! pair KIND | TEXT | TEXT | EQUALITY        EQUALITY: `equal`, `trimmed` (after both trims) or `different`.
 //! integers | TEXT | U64 I64 U128 I128       Each an integer, `range` or `whole`, by the error.
 //! digits | TEXT | MAGNITUDE | DIGITS        The digits from the magnitude down.
+//! plural | RULES | CATEGORY | SAMPLES       The plural category of each sample, as CLDR writes rules and samples.
 //! ```
 //!
 //! Rows of `decimal`, `order`, `pair decimal` and `integers` are checked on values with a sign, and where their texts
@@ -33,6 +34,7 @@ mod calls;
 mod comparing;
 mod digits;
 mod edited;
+mod plural;
 mod reading;
 mod rows;
 mod runs;

@@ -1,6 +1,6 @@
 //! Rows by their kinds.
 use crate::calls::named;
-use crate::{comparing, digits, edited, reading, runs};
+use crate::{comparing, digits, edited, plural, reading, runs};
 use decimal_doubles::long;
 use std::alloc::{AllocError, Global};
 
@@ -21,6 +21,7 @@ pub enum Kind {
     CompactPair,
     Integers,
     Digits,
+    Plural,
 }
 
 const KINDS: &[(&str, Kind)] = &[
@@ -38,6 +39,7 @@ const KINDS: &[(&str, Kind)] = &[
     ("pair compact", Kind::CompactPair),
     ("integers", Kind::Integers),
     ("digits", Kind::Digits),
+    ("plural", Kind::Plural),
 ];
 
 /// The text of a field, which is in parts where it has a star.
@@ -71,6 +73,7 @@ fn holds_by_kind(alloc: Global, kind: Kind, (first, second, third): (&str, &str,
         }
         Kind::Integers => digits::has_integers(alloc, first, second),
         Kind::Digits => digits::has_digits(alloc, first, second, third),
+        Kind::Plural => plural::take(alloc, first, second, third),
         _ => reading::reads(alloc, kind, first, (second, third)),
     }
 }

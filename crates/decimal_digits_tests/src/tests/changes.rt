@@ -44,9 +44,26 @@ fn changed<D: DigitStore>(alloc: Global, text: &[u8], changes: &[Change]) -> Res
     Ok(list)
 }
 
-/// Whether a list has the digits of a text, and equals the list of them, which has seen no change.
+/// Up to sixteen digits as packed BCD, the first in the highest nibble: the bytes in place, whose unused nibbles are 0.
+fn nibbles(text: &[u8]) -> Option<u64> {
+    if text.len() > 16 {
+        return None;
+    }
+    let mut number = 0u64;
+    for index in 0..16 {
+        let digit = text.get(index).map_or(0, |letter| *letter % 16);
+        number = number << 4 | u64::from(digit);
+    }
+    Some(number)
+}
+
+/// Whether a list has the digits of a text and its bytes, and equals the list of them that was never changed.
 fn is_text<D: DigitStore>(list: &D, alloc: Global, text: &[u8]) -> Result<bool, AllocError> {
-    Ok(has_digits(list, text) && equals_text(list, alloc, text)?)
+    Ok(
+        has_digits(list, text)
+            && list.to_halves() == nibbles(text)
+            && equals_text(list, alloc, text)?,
+    )
 }
 
 /// Whether changes of a text's list leave another text's over a store.
@@ -130,6 +147,10 @@ const ELSEWHERE: &[Row] = &[
     ("123456789012345", &[Append(1, "7")], "12345678901234507"),
     ("1234567890123456", &[Append(0, "7")], "12345678901234567"),
     ("12345678901234567890", &[CutFront(19)], "0"),
+    ("123456789012345678", &[CutFront(2)], "3456789012345678"),
+    ("123456789012345678", &[CutFront(3)], "456789012345678"),
+    ("12345678901234567", &[Truncate(16)], "1234567890123456"),
+    ("12345678901234567", &[Truncate(15)], "123456789012345"),
     ("123456789012345", &[Append(0, "67")], "12345678901234567"),
     (
         "1234567890123456",

@@ -1,7 +1,7 @@
 //! Laws of what is derived for signs: nothing calls these functions, whose contracts are the laws.
-ghost use Rattle.std.specs.Prelude.{◌≡◌, IsTrue, ◌↔◌};
+ghost use Rattle.std.specs.Prelude.{◌≡◌};
 
-use super::{Sign, SignDisplay, Signed};
+use super::{Sign, SignDisplay};
 
 /// Without a choice there is no sign.
 fn default_sign() -> Sign
@@ -15,11 +15,4 @@ fn default_display() -> SignDisplay
     ensures { result ≡ SignDisplay.Auto }
 {
     SignDisplay::default()
-}
-
-/// Two values are equal exactly where their signs and their absolute values are.
-fn equality(first: &Signed<u8>, second: &Signed<u8>) -> bool
-    ensures { IsTrue result ↔ (first.now ≡ second.now) }
-{
-    first == second
 }

@@ -1,12 +1,13 @@
-use Rattle.std.proofs.Common.{◌≡◌, ℕ, ◌*◌, ◌/◌, ◌%◌, ◌^◌, ◌≤◌, Ok, Err, inl, sym, ◌∙◌, ap, arith}
+use Rattle.std.proofs.Common.{◌≡◌, ℕ, ◌*◌, ◌/◌, ◌%◌, ◌^◌, ◌≤◌, Ok, Err, inr, subst, sym, ◌∙◌, ap, arith, rules}
 use Rattle.std.specs.Prelude.{pos, negsuc}
 use Rattle.std.proofs.Math.Nat.{div-add-mod', mul-mod_left}
 use Rattle.std.proofs.lemmas.Int.{ints}
 use Rattle.decimal_digits.specs.Number.{weight}
+use Rattle.decimal_unsigned.specs.Edits.{StaysInLimits}
 use Rattle.decimal_unsigned.specs.ToInteger.{as_integer}
 use Rattle.decimal_unsigned.specs.Unsigned.{Unsigned}
 use Rattle.decimal_unsigned.specs.declared.decimal.to_integer.IntegerError.TheVariants.{NotWhole, OutOfRange}
-use Rattle.fixed_decimal.proofs.Calling.{weight_up, integer_is, not_whole, out_of_range}
+use Rattle.fixed_decimal.proofs.Calling.{weight_up, integer_is, not_whole, out_of_range, out_of_range_whole}
 use Rattle.uses.specs.Bill.{cent}
 use Rattle.uses.proofs.bill.total_cents.Goals as goal
 
@@ -27,6 +28,14 @@ module _ (n m : ℕ) (e : m ≡ n * 10 ^ 2) where
   too_great : Err OutOfRange ≡ as_integer (2 ^ 64) m → 2 ^ 64 * cent ≤ n
   too_great h = omega (arith, e, out_of_range (2 ^ 64) m (sym h), hundred)
 
+  whole_cents : Err OutOfRange ≡ as_integer (2 ^ 64) m → n % cent ≡ 0
+  whole_cents h =
+      let q = m / weight (pos 0) in
+      let z = out_of_range_whole (2 ^ 64) m (sym h) in
+      let whole : m ≡ q * weight (pos 0) = omega (arith, div-add-mod' m (weight (pos 0)), z) in
+      let all : n ≡ q * cent = omega (arith, e, whole, ap (λ k. q * k) hundred) in
+      ap (λ k. k % cent) all ∙ mul-mod_left q cent
+
 pub returns-in-Ok-try_to_u64-clause-ok : goal.returns-in-Ok-try_to_u64-clause-ok
 returns-in-Ok-try_to_u64-clause-ok c =
     all_cents c.args.amount.now.number c.multiply_pow10.new.self.number
@@ -37,6 +46,7 @@ returns-in-Ok-try_to_u64-clause-ok c =
 pub returns-in-Err-NotWhole-clause-err : goal.returns-in-Err-NotWhole-clause-err
 returns-in-Err-NotWhole-clause-err c = λ count some. (
   some,
+  subst (λ v. StaysInLimits v (pos 2)) c.in-Ok.ensures.value (c.in-Ok-multiply_pow10.ensures.fits.0 (search rules)),
   part_of_a_cent c.args.amount.now.number c.multiply_pow10.new.self.number
       (ap (λ (v : Unsigned). v.number) c.in-Ok-multiply_pow10.ensures.moved
       ∙ ap (λ (v : Unsigned). v.number * 10 ^ 2) c.in-Ok.ensures.value)
@@ -44,10 +54,11 @@ returns-in-Err-NotWhole-clause-err c = λ count some. (
 )
 
 pub returns-clause-err : goal.returns-clause-err
-returns-clause-err c = λ count some. (
-  some,
-  inl (too_great c.args.amount.now.number c.multiply_pow10.new.self.number
-      (ap (λ (v : Unsigned). v.number) c.in-Ok-multiply_pow10.ensures.moved
-      ∙ ap (λ (v : Unsigned). v.number * 10 ^ 2) c.in-Ok.ensures.value)
-      (rw c.in-Err-OutOfRange.field-0-is at c.in-Err-OutOfRange.ensures.value)),
-)
+returns-clause-err c = λ count some.
+    let n = c.args.amount.now.number in
+    let m = c.multiply_pow10.new.self.number in
+    let e =
+    ap (λ (v : Unsigned). v.number) c.in-Ok-multiply_pow10.ensures.moved
+    ∙ ap (λ (v : Unsigned). v.number * 10 ^ 2) c.in-Ok.ensures.value in
+    let is = rw c.in-Err-OutOfRange.field-0-is at c.in-Err-OutOfRange.ensures.value in
+    (some, inr (whole_cents n m e is, too_great n m e is))

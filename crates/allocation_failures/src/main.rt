@@ -1,0 +1,33 @@
+//! Each kind of call that allocates. Where it is out of memory once, it has to change nothing, and to succeed when it
+//! is made again.
+//!
+//! Prints `right` where each allocation succeeded, `right when asked again` where one failed and all went as it has to,
+//! and `wrong` otherwise. `tests/allocation_failures.sh` makes each allocation fail in turn.
+#![tactic(auto)]
+
+mod joins;
+mod outcome;
+mod roundings;
+mod rules;
+mod runs;
+mod sinks;
+mod values;
+
+use outcome::Outcome;
+use std::alloc::Global;
+
+/// The outcome of all calls.
+fn of_all(alloc: Global) -> Outcome {
+    values::outcome(alloc)
+        .and(joins::outcome(alloc))
+        .and(roundings::outcome(alloc))
+        .and(runs::outcome(alloc))
+        .and(sinks::of_run(alloc))
+        .and(sinks::outcome(alloc))
+        .and(rules::outcome(alloc))
+}
+
+fn main(rt: HostRuntime) {
+    let word = of_all(rt.alloc()).word();
+    let _ = println!(rt; "{word}");
+}

@@ -1,0 +1,11 @@
+use Rattle.std.proofs.Common.{◌≡◌, ◌≤◌, length, take, vec_len, vec_capacity}
+use Rattle.cli.specs.Words.{NameAll}
+use Rattle.cli.proofs.calls.parse_calls.Given as goal
+
+-- the words so far name the calls, and there is room for those of all words
+abbrev pub invariant-loop-word : goal.invariant-loop-word
+invariant-loop-word l = record {
+  names : NameAll (take l.word-index l.words) l.calls.items;
+  count : vec_len l.calls ≡ l.word-index;
+  room : length l.words ≤ vec_capacity l.calls;
+}

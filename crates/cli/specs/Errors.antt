@@ -1,0 +1,95 @@
+-- The errors of the programs, and the exit status that goes with each.
+use Rattle.std.specs.Prelude.{ℕ}
+use Rattle.decimal_unsigned.specs.declared.error.ParseError.TheVariants as parse
+use Rattle.decimal_unsigned.specs.Reading.{ReadingFault, syntax, limit}
+use Rattle.plural_rules.specs.declared.parse.RulesError.{RulesError}
+use Rattle.plural_rules.specs.declared.parse.RulesError.TheVariants as rules
+use Rattle.fixed_decimal.specs.declared.runs.RunError.{RunError}
+use Rattle.fixed_decimal.specs.declared.runs.RunError.TheVariants as run
+use Rattle.cli.specs.declared.arguments.ArgumentsError.{ArgumentsError}
+use Rattle.cli.specs.declared.arguments.ArgumentsError.TheVariants as arguments
+use Rattle.cli.specs.declared.errors.Reason.{Reason}
+use Rattle.cli.specs.declared.errors.Reason.TheVariants.{Syntax, Limit}
+use Rattle.cli.specs.declared.errors.OperationError.{OperationError}
+use Rattle.cli.specs.declared.errors.OperationError.TheVariants.{Start, Operand, Overlap, Overflow, Memory, Output}
+use Rattle.cli.specs.declared.errors.FixdecError.{FixdecError}
+use Rattle.cli.specs.declared.errors.FixdecError.TheVariants as fixdec
+use Rattle.cli.specs.declared.errors.FilterError.{FilterError}
+use Rattle.cli.specs.declared.errors.FilterError.TheVariants as filter
+use Rattle.cli.specs.declared.errors.PluralError.{PluralError}
+use Rattle.cli.specs.declared.errors.PluralError.TheVariants as plural
+
+-- the error of a run, as the programs name it
+abbrev pub error_of_run : RunError → OperationError
+error_of_run (run.Start parse.Syntax) = Start Syntax
+error_of_run (run.Start parse.Limit) = Start Limit
+error_of_run (run.Start parse.Memory) = Memory
+error_of_run (run.Operand at parse.Syntax) = Operand at Syntax
+error_of_run (run.Operand at parse.Limit) = Operand at Limit
+error_of_run (run.Operand at parse.Memory) = Memory
+error_of_run (run.Overlap at) = Overlap at
+error_of_run (run.Limit at) = Overflow at
+error_of_run (run.Memory at) = Memory
+error_of_run run.Sink = Output
+
+-- the status of an error of operations: of a refusal, or of out of memory and of a failed output
+abbrev pub status_of_operation : OperationError → ℕ
+status_of_operation (Start reason) = 1
+status_of_operation (Operand at reason) = 1
+status_of_operation (Overlap at) = 1
+status_of_operation (Overflow at) = 1
+status_of_operation Memory = 3
+status_of_operation Output = 3
+
+-- the status of an error of `fixdec`
+abbrev pub status_of_fixdec : FixdecError → ℕ
+status_of_fixdec fixdec.Usage = 2
+status_of_fixdec fixdec.Memory = 3
+status_of_fixdec (fixdec.Operation error) = status_of_operation error
+
+-- the output failed
+abbrev pub output : FixdecError
+output = fixdec.Operation Output
+
+-- there are no words
+abbrev pub fixdec_of_arguments : ArgumentsError → FixdecError
+fixdec_of_arguments arguments.NotText = fixdec.Usage
+fixdec_of_arguments arguments.Memory = fixdec.Memory
+
+-- the status of an error of the filter
+abbrev pub status_of_filter : FilterError → ℕ
+status_of_filter filter.Usage = 2
+status_of_filter filter.Memory = 3
+status_of_filter (filter.Operation line error) = status_of_operation error
+status_of_filter (filter.LongLine line) = 3
+status_of_filter filter.Input = 3
+status_of_filter filter.Output = 3
+
+-- there are no words
+abbrev pub filter_of_arguments : ArgumentsError → FilterError
+filter_of_arguments arguments.NotText = filter.Usage
+filter_of_arguments arguments.Memory = filter.Memory
+
+-- the status of an error of `plural`
+abbrev pub status_of_plural : PluralError → ℕ
+status_of_plural plural.Usage = 2
+status_of_plural plural.Memory = 3
+status_of_plural (plural.Rules at reason) = 1
+status_of_plural (plural.Text number reason) = 1
+status_of_plural plural.Output = 3
+
+-- the words cannot be had
+abbrev pub plural_of_arguments : ArgumentsError → PluralError
+plural_of_arguments arguments.NotText = plural.Usage
+plural_of_arguments arguments.Memory = plural.Memory
+
+-- the error of rules that are rejected
+abbrev pub error_of_rules : RulesError → PluralError
+error_of_rules (rules.Syntax at) = plural.Rules at Syntax
+error_of_rules (rules.Limit at) = plural.Rules at Limit
+error_of_rules rules.Memory = plural.Memory
+
+-- the reason, as the libraries name it
+abbrev pub reading_fault_of : Reason → ReadingFault
+reading_fault_of Syntax = syntax
+reading_fault_of Limit = limit

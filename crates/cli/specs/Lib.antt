@@ -1,0 +1,11 @@
+pub mod Arguments
+pub mod Categories
+pub mod Diagnostics
+pub mod Errors
+pub mod Filter
+pub mod Fixdec
+pub mod Lines
+pub mod Parts
+pub mod Plural
+pub mod Steps
+pub mod Words

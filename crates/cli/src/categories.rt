@@ -1,0 +1,128 @@
+//! The categories of texts, printed a line each.
+ghost use Rattle.std.specs.Prelude.{◌≡◌, ◌≢◌, Ok, Err, IfOk, IfErr, OnOk, OnErr, IsOkAnd, true};
+ghost use Rattle.std.specs.Io.KnownBytes.{Appends};
+ghost use Rattle.decimal_digits.specs.Text.{AppendsPrefix};
+ghost use Rattle.decimal_unsigned.specs.Refusal.{ParseRefuses};
+ghost use Rattle.std.specs.List.{list_any};
+ghost use Rattle.decimal_unsigned.specs.declared.decimal.TheConstants.{DIGITS_IN_PLACE};
+ghost use Rattle.fixed_decimal.specs.Letters.{is_c};
+ghost use Rattle.fixed_decimal.specs.Compact.{read_compact, HasLongSignificand};
+ghost use Rattle.fixed_decimal.specs.DecimalText.{read_decimal, IsLong};
+ghost use Rattle.cli.specs.Categories.{category_of_compact, category_of_decimal};
+ghost use Rattle.cli.specs.Categories.{IsLongText, read_category, line_of};
+ghost use Rattle.cli.specs.Categories.{TextFails, PrintsAll, StopsAt};
+ghost use Rattle.cli.specs.declared.errors.PluralError.{PluralError};
+
+use crate::errors::{PluralError, Reason};
+use fixed_decimal::{CompactDecimal, Decimal, ParseError, Sink, SinkFault};
+use plural_rules::{PluralCategory, PluralOperands, PluralRules};
+use std::alloc::Global;
+
+/// Whether a text has a `c`, as a compact decimal does.
+fn has_c(text: &str) -> bool
+    ensures { result ≡ list_any is_c text.now }
+{
+    text.as_bytes().iter().any(|byte| *byte == b'c')
+}
+
+/// The category of a compact decimal.
+fn category_of_compact(
+    alloc: Global,
+    rules: &PluralRules,
+    text: &str,
+) -> Result<PluralCategory, ParseError>
+    ensures found { IfOk result (λ category.
+        IsOkAnd (read_compact text.now) (λ v. category ≡ category_of_compact rules.now v)) }
+    ensures refused { IfErr result (λ error.
+        ParseRefuses (IsOkAnd (read_compact text.now) (HasLongSignificand DIGITS_IN_PLACE)) error
+        (read_compact text.now)) }
+{
+    let number = CompactDecimal::try_from_str(alloc, text)?;
+    Ok(rules.category(&PluralOperands::of_compact(&number)))
+}
+
+/// The category of a decimal.
+fn category_of_decimal(
+    alloc: Global,
+    rules: &PluralRules,
+    text: &str,
+) -> Result<PluralCategory, ParseError>
+    ensures found { IfOk result (λ category.
+        IsOkAnd (read_decimal text.now) (λ v. category ≡ category_of_decimal rules.now v)) }
+    ensures refused { IfErr result (λ error.
+        ParseRefuses (IsOkAnd (read_decimal text.now) (IsLong DIGITS_IN_PLACE)) error (read_decimal text.now)) }
+{
+    let number = Decimal::try_from_str(alloc, text)?;
+    Ok(rules.category(&PluralOperands::of_decimal(&number)))
+}
+
+/// The category of a text by rules: with a `c` it is a compact decimal, and else a decimal.
+fn category(alloc: Global, rules: &PluralRules, text: &str) -> Result<PluralCategory, ParseError>
+    ensures found { IfOk result (λ category. read_category rules.now text.now ≡ Ok category) }
+    ensures refused { IfErr result
+        (λ error. ParseRefuses (IsLongText text.now) error (read_category rules.now text.now)) }
+{
+    if has_c(text) {
+        category_of_compact(alloc, rules, text)
+    } else {
+        category_of_decimal(alloc, rules, text)
+    }
+}
+
+/// Puts the name of a category and a line feed into a sink.
+fn print_line<W: Sink>(category: PluralCategory, sink: &mut W) -> Result<(), SinkFault>
+    ensures ok { OnOk result (Appends (W.contents sink.old) (W.contents sink.new) (line_of category)) }
+    ensures err { OnErr result (AppendsPrefix (W.contents sink.old) (W.contents sink.new) (line_of category)) }
+    ensures failed { OnErr result (W.has_failed sink.new ≡ true) }
+{
+    sink.put_bytes(category.name().as_bytes())?;
+    sink.put_byte(b'\n')
+}
+
+/// Prints the category of a text, which has this number from 1 on.
+fn print_category<W: Sink>(
+    alloc: Global,
+    rules: &PluralRules,
+    text: &str,
+    number: usize,
+    sink: &mut W,
+) -> Result<(), PluralError>
+    ensures printed { OnOk result (IsOkAnd (read_category rules.now text.now)
+        (λ category. Appends (W.contents sink.old) (W.contents sink.new) (line_of category))) }
+    ensures error { IfErr result (TextFails rules.now text.now number) }
+    ensures untouched { IfErr result (λ error. error ≢ PluralError.Output → sink.new ≡ sink.old) }
+    ensures prefix { result ≡ Err PluralError.Output → IsOkAnd (read_category rules.now text.now)
+        (λ category. AppendsPrefix (W.contents sink.old) (W.contents sink.new) (line_of category)) }
+    ensures failed { result ≡ Err PluralError.Output → W.has_failed sink.new ≡ true }
+{
+    match category(alloc, rules, text) {
+        Ok(category) => Ok(print_line(category, sink)?),
+        Err(ParseError::Memory) => Err(PluralError::Memory),
+        Err(ParseError::Syntax) => Err(PluralError::Text {
+            number,
+            reason: Reason::Syntax,
+        }),
+        Err(ParseError::Limit) => Err(PluralError::Text {
+            number,
+            reason: Reason::Limit,
+        }),
+    }
+}
+
+/// Prints the categories of texts, a line each. Err: the categories of the texts in front of one were printed; or the
+/// sink refused a byte.
+pub fn print_categories<W: Sink>(
+    alloc: Global,
+    rules: &PluralRules,
+    texts: &[String],
+    sink: &mut W,
+) -> Result<(), PluralError>
+    ensures printed { OnOk result (PrintsAll rules.now texts.now (W.contents sink.old) (W.contents sink.new)) }
+    ensures stopped { IfErr result (StopsAt rules.now texts.now (W.contents sink.old) (W.contents sink.new)) }
+    ensures failed { result ≡ Err PluralError.Output → W.has_failed sink.new ≡ true }
+{
+    for (index, text) in texts.iter().enumerate() {
+        print_category(alloc, rules, text.as_str(), index + 1, sink)?;
+    }
+    Ok(())
+}

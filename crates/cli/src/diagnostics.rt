@@ -1,0 +1,124 @@
+//! Reports of errors.
+ghost use Rattle.std.specs.Prelude.{◌≡◌, ◌<◌, ◌≤◌, Bool, false, IfErr, OnOk, OnErr};
+ghost use Rattle.std.specs.Io.KnownBytes.{Appends};
+ghost use Rattle.decimal_digits.specs.Text.{AppendsPrefix};
+ghost use Rattle.cli.specs.Diagnostics.{IsLineOf, Reports};
+
+use crate::errors::ProgramError;
+use arrayvec::ArrayString;
+use decimal_digits::sink::SinkFault;
+use std::fmt::{Display, InlineText};
+use std::io::Write;
+
+/// A line of at most 80 bytes and its line feed. The longest text of an error has 62 bytes.
+type Line = ArrayString<81>;
+
+/// Takes reports of errors.
+///
+/// A caller that is generic in `D` can prove `D.reports old error new` only by one call of `report` with that error.
+pub trait Diagnostics<E> {
+    /// The relation of the diagnostics before a report, the error, and the diagnostics after it.
+    ghost reports: { Self → E → Self → Type 0 };
+
+    /// Reports an error. A failure to do so is not returned.
+    fn report(&mut self, error: &E)
+        ensures { reports self.old error.now self.new };
+}
+
+/// Returns the text of an error, cut after 80 bytes, and a line feed.
+fn line_of<E: Display>(error: &E) -> Line
+    ensures { IsLineOf (E.output error.now) result.bytes }
+{
+    let text = InlineText::<80>::of(error);
+    let mut line = Line::new();
+    line.push_str(text.as_str());
+    line.push_str("\n");
+    line
+}
+
+/// Writes bytes.
+///
+/// # Errors
+///
+/// A write fails or takes no byte; a prefix of the bytes is written.
+pub(crate) fn write_whole<W: Write>(writer: &mut W, bytes: &[u8]) -> Result<(), SinkFault>
+    ensures ok { OnOk result (Appends (W.contents writer.old) (W.contents writer.new) bytes.now) }
+    ensures err { OnErr result (AppendsPrefix (W.contents writer.old) (W.contents writer.new) bytes.now) }
+{
+    let mut taken = 0;
+    while taken < bytes.len() {
+        match writer.write(&bytes[taken..]) {
+            Ok(count) if count > 0 => taken += count,
+            _ => return Err(SinkFault),
+        }
+    }
+    Ok(())
+}
+
+/// Reports errors as lines of a writer, each in one write where the writer takes it whole.
+///
+/// After a failed write the writer is not called again.
+#[derive(Drop)]
+pub struct ErrorLines<'a, W> {
+    pub(crate) writer: &'a mut W,
+    pub(crate) has_failed: bool,
+}
+
+impl<'a, W> ErrorLines<'a, W> {
+    /// Reports to a writer.
+    pub fn new(writer: &'a mut W) -> Self
+        ensures { result ≡ record { writer = writer.entry; has_failed = false } }
+    {
+        ErrorLines {
+            writer,
+            has_failed: false,
+        }
+    }
+}
+
+impl<W: Write, E: Display> Diagnostics<E> for ErrorLines<'_, W> {
+    ghost reports = { λ old error new. (new.writer.ghost_name ≡ old.writer.ghost_name)
+        × Reports (E.output error) (W.contents old.writer.now) old.has_failed
+        (W.contents new.writer.now) new.has_failed };
+
+    fn report(&mut self, error: &E) {
+        let line = line_of(error);
+        if self.has_failed {
+            return;
+        }
+        if write_whole(self.writer, line.as_bytes()).is_err() {
+            self.has_failed = true;
+        }
+    }
+}
+
+/// Reports the error, if there is one, and returns the exit status.
+pub fn conclude<E: ProgramError, D: Diagnostics<E>>(done: Result<(), E>, diagnostics: &mut D) -> u8
+    ensures at_most { result ≤ 3 }
+    ensures done { OnOk done ((result ≡ 0) × (diagnostics.new ≡ diagnostics.old)) }
+    ensures reported { IfErr done (λ error. (0 < result) × (result ≡ E.status_of error)
+        × D.reports diagnostics.old error diagnostics.new) }
+{
+    match done {
+        Ok(()) => 0,
+        Err(error) => {
+            diagnostics.report(&error);
+            error.status()
+        }
+    }
+}
+
+/// Reports an error as a line of a writer, and returns its exit status.
+pub fn report<E: ProgramError + Display, W: Write>(error: E, err: &mut W) -> u8
+    ensures some { 0 < result }
+    ensures at_most { result ≤ 3 }
+    ensures status { result ≡ E.status_of error }
+    ensures line { (failed : Bool)
+        × Reports (E.output error) (W.contents err.old) false (W.contents err.new) failed }
+{
+    let mut lines = ErrorLines::new(err);
+    lines.report(&error);
+    // Proof hint: the contents of `err` follow from this use of the writer.
+    let _ = &*lines.writer;
+    error.status()
+}

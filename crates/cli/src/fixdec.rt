@@ -1,0 +1,171 @@
+//! `fixdec TEXT [CALL]..`: reads a decimal, makes the calls in order, and prints the text of the result.
+ghost use Rattle.std.specs.Prelude.{◌≡◌, ◌≢◌, ◌≤◌, ◌<◌, Bool, true, false, Err, IfErr, IfSome, OnOk, IsSomeAnd};
+ghost use Rattle.std.specs.Process.{exit_status};
+ghost use Rattle.cli.specs.declared.errors.FixdecError.{FixdecError};
+ghost use Rattle.cli.specs.Arguments.{HaveWords, ArgumentsFail};
+ghost use Rattle.cli.specs.Diagnostics.{Reports};
+ghost use Rattle.cli.specs.Errors.{status_of_fixdec, fixdec_of_arguments, output};
+ghost use Rattle.cli.specs.Fixdec.{OperationsFail, HasError, WordsFail};
+ghost use Rattle.cli.specs.Fixdec.{RunPrints, RunPrintsPrefix, Prints, PrintsPrefix};
+
+use crate::calls::parse_calls;
+use crate::diagnostics::{Diagnostics, ErrorLines, conclude, report};
+use crate::errors::{FixdecError, OperationError};
+use crate::help::{CALLS, help};
+use crate::output::{Closed, abandon, close, open};
+use fixed_decimal::{Call, Out, Sink, SinkFault, run};
+use std::alloc::Global;
+use std::env::Args;
+use std::fmt::Display;
+use std::io::Write;
+use std::process::ExitCode;
+use std::{env, io};
+
+/// Runs the calls on a start, and writes the text of the result and a line feed to a sink.
+pub fn print_run<W: Sink>(
+    alloc: Global,
+    start: &[u8],
+    calls: &[Call<'_>],
+    sink: &mut W,
+) -> Result<(), OperationError>
+    ensures printed { OnOk result (RunPrints (W.contents sink.old) (W.contents sink.new) start.now calls.now) }
+    ensures fails { IfErr result (λ error. OperationsFail error start.now calls.now) }
+    ensures untouched { IfErr result (λ error. error ≢ OperationError.Output → sink.new ≡ sink.old) }
+    ensures failed { result ≡ Err OperationError.Output → W.has_failed sink.new ≡ true }
+    ensures prefix { result ≡ Err OperationError.Output →
+        RunPrintsPrefix (W.contents sink.old) (W.contents sink.new) start.now calls.now }
+{
+    run(alloc, start, calls, sink)?;
+    match sink.put_byte(b'\n') {
+        Ok(()) => Ok(()),
+        Err(_) => Err(OperationError::Output),
+    }
+}
+
+/// Prints the text of the run that the words ask for, and a line feed.
+fn print<O: Write>(alloc: Global, words: &[String], out: &mut Out<O>) -> Result<(), FixdecError>
+    ensures printed { OnOk result (Prints words.now (O.contents out.old.0) (O.contents out.new.0)) }
+    ensures has_not_failed { OnOk result (out.new.1 ≡ false) }
+    ensures error { IfErr result (HasError words.now) }
+    ensures untouched { IfErr result (λ error. error ≢ output → out.new ≡ out.old) }
+    ensures failed { result ≡ Err output → out.new.1 ≡ true }
+    ensures prefix { result ≡ Err output → PrintsPrefix words.now (O.contents out.old.0) (O.contents out.new.0) }
+{
+    let [start, words @ ..] = words else {
+        return Err(FixdecError::Usage);
+    };
+    let Some(calls) = parse_calls(alloc, words)? else {
+        return Err(FixdecError::Usage);
+    };
+    print_run(alloc, start.as_bytes(), calls.as_slice(), out)?;
+    out.flush()?;
+    Ok(())
+}
+
+/// Runs `program` over any diagnostics: it reports the error, once, and nothing else.
+pub fn operate<O: Write, D: Diagnostics<FixdecError>>(
+    alloc: Global,
+    words: &[String],
+    out: &mut Out<O>,
+    diagnostics: &mut D,
+) -> u8
+    ensures at_most { result ≤ 3 }
+    ensures printed { result ≡ 0 → Prints words.now (O.contents out.old.0) (O.contents out.new.0) }
+    ensures has_not_failed { result ≡ 0 → out.new.1 ≡ false }
+    ensures silent { result ≡ 0 → diagnostics.new ≡ diagnostics.old }
+    ensures reported { 0 < result → (error : FixdecError) × (result ≡ status_of_fixdec error) × HasError words.now error
+        × D.reports diagnostics.old error diagnostics.new
+        × (error ≢ output → out.new ≡ out.old)
+        × (error ≡ output → (out.new.1 ≡ true)
+        × PrintsPrefix words.now (O.contents out.old.0) (O.contents out.new.0)) }
+    ensures untouched { 0 < result → result < 3 → out.new ≡ out.old }
+{
+    conclude(print(alloc, words, out), diagnostics)
+}
+
+/// Runs the program on the words after its name, and returns the exit status.
+///
+/// The first word is the start. Each other word is a call: `shift:D`, `trim-start`, `trim-end`, `trim-end-if-integer`,
+/// `pad-start:P`, `pad-end:P`, `max:P`, `round:P:MODE:INC`, `sign:SIGN`, `display:DISPLAY` or `concat:TEXT`, whose text
+/// is all that follows the colon. D and P are an optional minus and one to six digits, from -32768 to 32767. The words
+/// `250` and `shift:-2` print `2.50`.
+///
+/// # Errors
+///
+/// The error is a line of `err`, of which a prefix is written where a write fails:
+///
+/// - Status 1: the run fails with `start: syntax`, `call 7: overlap` and others of [`OperationError`].
+/// - Status 2: no start, or a word that names no call.
+/// - Status 3: `memory`, or `output` where a write or the flush of `out` fails.
+pub fn program<O: Write, E: Write>(
+    alloc: Global,
+    words: &[String],
+    out: &mut Out<O>,
+    err: &mut E,
+) -> u8
+    ensures at_most { result ≤ 3 }
+    ensures printed { result ≡ 0 → Prints words.now (O.contents out.old.0) (O.contents out.new.0) }
+    ensures has_not_failed { result ≡ 0 → out.new.1 ≡ false }
+    ensures silent { result ≡ 0 → err.new ≡ err.old }
+    ensures reported { 0 < result → (error : FixdecError) × (result ≡ status_of_fixdec error) × HasError words.now error
+        × ((failed : Bool)
+        × Reports (⟦<FixdecError as Display>⟧.output error) (E.contents err.old) false (E.contents err.new) failed)
+        × (error ≢ output → out.new ≡ out.old)
+        × (error ≡ output → (out.new.1 ≡ true)
+        × PrintsPrefix words.now (O.contents out.old.0) (O.contents out.new.0)) }
+    ensures untouched { 0 < result → result < 3 → out.new ≡ out.old }
+{
+    let mut diagnostics = ErrorLines {
+        writer: err,
+        has_failed: false,
+    };
+    let status = operate(alloc, words, out, &mut diagnostics);
+    // Proof hint: the contents of `err` follow from this use of the writer.
+    let _ = &*diagnostics.writer;
+    status
+}
+
+/// Runs `program` on the arguments of the process, with a block before `out`, which is returned after its last call.
+pub fn run_arguments<O: Write + Drop, E: Write>(
+    alloc: Global,
+    arguments: io::Result<Args>,
+    out: O,
+    err: &mut E,
+) -> (u8, Option<Closed<O>>)
+    ensures at_most { result.0 ≤ 3 }
+    ensures printed { result.0 ≡ 0 → HaveWords arguments (λ words. IsSomeAnd result.1
+        (λ closed. Prints words (O.contents out) (O.contents closed.0) × (closed.1 ≡ false))) }
+    ensures silent { result.0 ≡ 0 → err.new ≡ err.old }
+    ensures reported { 0 < result.0 → (error : FixdecError) × (result.0 ≡ status_of_fixdec error)
+        × ArgumentsFail fixdec_of_arguments arguments result.1 (WordsFail O.contents out) error
+        × ((failed : Bool)
+        × Reports (⟦<FixdecError as Display>⟧.output error) (E.contents err.old) false (E.contents err.new) failed)
+        × (error ≢ output → IfSome result.1 (λ closed. closed ≡ (out, false))) }
+    ensures untouched { 0 < result.0 → result.0 < 3 → IfSome result.1 (λ closed. closed ≡ (out, false)) }
+{
+    let (words, mut blocks) = match open(alloc, arguments, out) {
+        Ok(opened) => opened,
+        Err((error, out)) => return (report(FixdecError::from(error), err), out),
+    };
+    let status = program(alloc, words.as_slice(), &mut blocks, err);
+    if status != 0 {
+        return (status, Some(abandon(blocks)));
+    }
+    let closed = close(blocks);
+    if closed.has_failed() {
+        return (report(FixdecError::from(SinkFault), err), Some(closed));
+    }
+    (0, Some(closed))
+}
+
+/// Runs the process: `run_arguments` on its arguments, standard output and standard error.
+pub fn execute(rt: HostRuntime) -> ExitCode
+    ensures at_most { exit_status result ≤ 3 }
+{
+    let usage = "usage: fixdec TEXT [CALL]..\n";
+    if let Some(status) = help(rt.alloc(), env::args(&rt), usage, CALLS, &mut rt.stdout()) {
+        return ExitCode::from(status);
+    }
+    let (status, _out) = run_arguments(rt.alloc(), env::args(&rt), rt.stdout(), &mut rt.stderr());
+    ExitCode::from(status)
+}

@@ -1,0 +1,143 @@
+//! `fixdec_lines [skip] [CALL]..`: makes the same calls on each line of its input, and writes a line for each.
+ghost use Rattle.std.specs.Prelude.{◌≡◌, ◌≤◌, ◌<◌, ◌⊎◌, Ok, Err, true, false, IfErr, IfSome, OnOk, IsSomeAnd};
+ghost use Rattle.std.specs.Process.{exit_status};
+ghost use Rattle.std.specs.Io.Buffered.{writer_contents, writer_inner};
+ghost use Rattle.cli.specs.declared.errors.FilterError.{FilterError};
+ghost use Rattle.cli.specs.Arguments.{HaveWords, ArgumentsFail};
+ghost use Rattle.cli.specs.Errors.{status_of_filter, filter_of_arguments};
+ghost use Rattle.cli.specs.Filter.{PrintsAll, SkipsSome, FilterFails, IsEarly, LinesFail};
+ghost use Rattle.cli.specs.Steps.{IsSplit};
+
+use crate::calls::parse_calls;
+use crate::diagnostics::{Diagnostics, ErrorLines};
+use crate::errors::{FilterError, ProgramError};
+use crate::filter::{OnRefusal, filter_in_blocks};
+use crate::help::{CALLS, help};
+use crate::output::{Blocks, Closed, abandon, open};
+use std::alloc::Global;
+use std::env::Args;
+use std::io::{BufReader, Read, Write};
+use std::process::ExitCode;
+use std::{env, io};
+
+/// The bytes of a read.
+const BLOCK: usize = 65_536;
+
+/// Splits off a first word `skip`, and returns the words of the calls.
+fn split_skip(words: &[String]) -> (OnRefusal, &[String])
+    ensures { IsSplit words.now result.0 result.1.now }
+{
+    match words {
+        [first, words @ ..] if first.as_str() == "skip" => (OnRefusal::Skip, words),
+        _ => (OnRefusal::Stop, words),
+    }
+}
+
+/// Runs the filter that the words ask for, behind a block, and returns the writer after its last call.
+fn filter_words<R: Read, O: Write + Drop, D: Diagnostics<FilterError>>(
+    alloc: Global,
+    words: &[String],
+    input: &mut R,
+    blocks: Blocks<O>,
+    diagnostics: &mut D,
+) -> (Result<bool, FilterError>, Closed<O>)
+    ensures printed { result.0 ≡ Ok true → PrintsAll words.now (R.remaining input.old)
+        (writer_contents O.contents blocks.0) (O.contents result.1.0) }
+    ensures silent { result.0 ≡ Ok true → diagnostics.new ≡ diagnostics.old }
+    ensures skipped { result.0 ≡ Ok false → SkipsSome D.reports words.now (R.remaining input.old)
+        (writer_contents O.contents blocks.0) (O.contents result.1.0) diagnostics.old diagnostics.new }
+    ensures works { OnOk result.0 (result.1.1 ≡ false) }
+    ensures error { IfErr result.0 (FilterFails D.reports words.now (R.remaining input.old)
+        (writer_contents O.contents blocks.0) (O.contents result.1.0) diagnostics.old diagnostics.new) }
+    ensures failed { result.0 ≡ Err FilterError.Output → result.1.1 ≡ true }
+    ensures untouched { IfErr result.0 (λ error. IsEarly error → result.1 ≡ (writer_inner blocks.0, blocks.1)) }
+    ensures unread { result.0 ≡ Err FilterError.Usage → input.new ≡ input.old }
+{
+    let (on_refusal, words) = split_skip(words);
+    let calls = match parse_calls(alloc, words) {
+        Ok(Some(calls)) => calls,
+        Ok(None) => return (Err(FilterError::Usage), abandon(blocks)),
+        Err(_) => return (Err(FilterError::Memory), abandon(blocks)),
+    };
+    let Ok(mut reader) = BufReader::with_capacity(alloc, BLOCK, input) else {
+        return (Err(FilterError::Memory), abandon(blocks));
+    };
+    filter_in_blocks(
+        alloc,
+        on_refusal,
+        calls.as_slice(),
+        &mut reader,
+        blocks,
+        diagnostics,
+    )
+}
+
+/// Runs the program on the arguments of the process, over any diagnostics, with a block before `out`, which is returned
+/// after its last call. With `skip` the lines that fail are reported, and the status is 1.
+///
+/// # Errors
+///
+/// The last report is the error:
+///
+/// - Status 1: `line 3: call 1: overflow` and others of [`FilterError::Operation`].
+/// - Status 2: a word names no call; nothing is read.
+/// - Status 3: `memory`, `line 7: memory`, `input`, or `output` where a write or the flush of `out` fails.
+pub fn run_arguments<R: Read, O: Write + Drop, D: Diagnostics<FilterError>>(
+    alloc: Global,
+    arguments: io::Result<Args>,
+    input: &mut R,
+    out: O,
+    diagnostics: &mut D,
+) -> (u8, Option<Closed<O>>)
+    ensures at_most { result.0 ≤ 3 }
+    ensures printed { result.0 ≡ 0 → HaveWords arguments (λ words. IsSomeAnd result.1 (λ closed.
+        PrintsAll words (R.remaining input.old) (O.contents out) (O.contents closed.0) × (closed.1 ≡ false))) }
+    ensures silent { result.0 ≡ 0 → diagnostics.new ≡ diagnostics.old }
+    ensures reported { 0 < result.0 →
+        ((result.0 ≡ 1) × HaveWords arguments (λ words. IsSomeAnd result.1 (λ closed.
+        SkipsSome D.reports words (R.remaining input.old) (O.contents out) (O.contents closed.0)
+        diagnostics.old diagnostics.new × (closed.1 ≡ false))))
+        ⊎ ((error : FilterError) × (before : D) × (result.0 ≡ status_of_filter error)
+        × ArgumentsFail filter_of_arguments arguments result.1
+        (LinesFail D.reports O.contents (R.remaining input.old) out diagnostics.old before) error
+        × D.reports before error diagnostics.new
+        × (IsEarly error → IfSome result.1 (λ closed. closed ≡ (out, false)))) }
+    ensures untouched { result.0 ≡ 2 → (input.new ≡ input.old) × IfSome result.1 (λ closed. closed ≡ (out, false)) }
+{
+    let (words, blocks) = match open(alloc, arguments, out) {
+        Ok(opened) => opened,
+        Err((error, out)) => {
+            let error = FilterError::from(error);
+            diagnostics.report(&error);
+            return (error.status(), out);
+        }
+    };
+    match filter_words(alloc, words.as_slice(), input, blocks, diagnostics) {
+        (Ok(true), closed) => (0, Some(closed)),
+        (Ok(false), closed) => (1, Some(closed)),
+        (Err(error), closed) => {
+            diagnostics.report(&error);
+            (error.status(), Some(closed))
+        }
+    }
+}
+
+/// Runs the process: `run_arguments` on its arguments, standard input and both outputs.
+pub fn execute(rt: HostRuntime) -> ExitCode
+    ensures at_most { exit_status result ≤ 3 }
+{
+    let usage = "usage: fixdec_lines [skip] [CALL]..\n";
+    if let Some(status) = help(rt.alloc(), env::args(&rt), usage, CALLS, &mut rt.stdout()) {
+        return ExitCode::from(status);
+    }
+    let mut err = rt.stderr();
+    let arguments = env::args(&rt);
+    let (status, _out) = run_arguments(
+        rt.alloc(),
+        arguments,
+        &mut rt.stdin(),
+        rt.stdout(),
+        &mut ErrorLines::new(&mut err),
+    );
+    ExitCode::from(status)
+}

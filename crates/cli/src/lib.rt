@@ -1,0 +1,23 @@
+//! The work of the programs `fixdec`, `fixdec_lines` and `plural`.
+//!
+//! Each module of a program has `execute`, the body of its `main`.
+#![tactic(auto)]
+
+mod arguments;
+mod calls;
+mod categories;
+mod diagnostics;
+mod errors;
+mod filter;
+pub mod fixdec;
+pub mod fixdec_lines;
+mod help;
+mod output;
+pub mod plural;
+
+pub use arguments::ArgumentsError;
+pub use calls::parse_calls;
+pub use diagnostics::{Diagnostics, ErrorLines};
+pub use errors::{FilterError, FixdecError, OperationError, PluralError, ProgramError, Reason};
+pub use filter::{OnRefusal, filter_in_blocks, filter_lines};
+pub use output::{Blocks, Closed, abandon, close, open};

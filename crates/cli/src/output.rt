@@ -1,0 +1,116 @@
+//! Standard output behind a block of bytes.
+ghost use Rattle.std.specs.Prelude.{◌≡◌, List, [], ℕ, Bool, true, false, IfOk, IfErr, IfSome};
+ghost use Rattle.std.specs.Io.KnownBytes.{Keeps, append_known};
+ghost use Rattle.std.specs.Io.Buffered.{writer_contents, writer_inner, writer_buffer};
+ghost use Rattle.cli.specs.Arguments.{HaveWords, OpeningFails};
+
+use crate::arguments::{ArgumentsError, words};
+use fixed_decimal::{Out, Sink};
+use std::alloc::Global;
+use std::env::Args;
+use std::io;
+use std::io::{BufWriter, Write};
+use std::marker::Model;
+
+/// The bytes of a block.
+const BLOCK: usize = 65_536;
+
+/// A sink over a writer that is called once a block.
+pub type Blocks<O> = Out<BufWriter<O>>;
+
+/// A writer after its last call, and whether a call failed.
+#[derive(Drop)]
+pub struct Closed<O> {
+    writer: O,
+    has_failed: bool,
+}
+
+impl<O> Model for Closed<O> {
+    ghost Value = { O × Bool };
+
+    ghost view = { λ s. (s.writer, s.has_failed) };
+}
+
+impl<O> Closed<O> {
+    /// Returns whether a call of the writer failed.
+    pub fn has_failed(&self) -> bool
+        ensures { result ≡ self.now.1 }
+    {
+        self.has_failed
+    }
+
+    /// Returns the writer.
+    pub fn into_writer(self) -> O
+        ensures { result ≡ self.0 }
+    {
+        self.writer
+    }
+
+    /// A writer that is not called.
+    pub fn uncalled(writer: O) -> Self
+        ensures { result ≡ (writer, false) }
+    {
+        Closed {
+            writer,
+            has_failed: false,
+        }
+    }
+}
+
+/// Reads the words of the arguments, and allocates the block before a writer.
+///
+/// # Errors
+///
+/// - The words cannot be had; the writer is returned.
+/// - Out of memory for the block; the writer is dropped.
+pub fn open<O: Write + Drop>(
+    alloc: Global,
+    arguments: io::Result<Args>,
+    out: O,
+) -> Result<(Vec<String>, Blocks<O>), (ArgumentsError, Option<Closed<O>>)>
+    ensures words { IfOk result (λ opened. HaveWords arguments (λ words. opened.0.items ≡ words)) }
+    ensures inner { IfOk result (λ opened. writer_inner opened.1.0 ≡ out) }
+    ensures empty { IfOk result (λ opened. writer_buffer opened.1.0 ≡ []) }
+    ensures works { IfOk result (λ opened. opened.1.1 ≡ false) }
+    ensures none { IfErr result (λ failed. OpeningFails arguments out failed.0 failed.1) }
+{
+    let words = match words(alloc, arguments) {
+        Ok(words) => words,
+        Err(error) => return Err((error, Some(Closed::uncalled(out)))),
+    };
+    match BufWriter::with_capacity(alloc, BLOCK, out) {
+        Ok(buffer) => Ok((words, Out::new(buffer))),
+        Err(_) => Err((ArgumentsError::Memory, None)),
+    }
+}
+
+/// Drops the block, and does not call the writer.
+pub fn abandon<O: Write + Drop>(blocks: Blocks<O>) -> Closed<O>
+    ensures { result ≡ (writer_inner blocks.0, blocks.1) }
+{
+    let has_failed = blocks.failed();
+    let (writer, _unwritten) = blocks.into_writer().into_parts();
+    Closed { writer, has_failed }
+}
+
+/// Writes what the block holds, and flushes. After a failed call the writer is not called again.
+pub fn close<O: Write + Drop>(mut blocks: Blocks<O>) -> Closed<O>
+    ensures written { result.1 ≡ false → Keeps (writer_contents O.contents blocks.0) (O.contents result.0) }
+    ensures prefix { (missing : List ℕ)
+        × Keeps (writer_contents O.contents blocks.0) (append_known (O.contents result.0) missing) }
+    ensures stays { blocks.1 ≡ true → result.1 ≡ true }
+{
+    if blocks.flush().is_err() {
+        return abandon(blocks);
+    }
+    match blocks.into_writer().into_inner() {
+        Ok(writer) => Closed::uncalled(writer),
+        Err(error) => {
+            let (writer, _unwritten) = error.into_inner().into_parts();
+            Closed {
+                writer,
+                has_failed: true,
+            }
+        }
+    }
+}

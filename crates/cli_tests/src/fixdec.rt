@@ -1,0 +1,69 @@
+//! Command lines, and what they print.
+ghost use Rattle.std.specs.Prelude.{◌≤◌};
+
+use cli::fixdec::program;
+use fixed_decimal::Out;
+use std::alloc::Global;
+use std::process::Abort;
+use std::test::Fail;
+
+mod arguments;
+mod blocks;
+mod failing_writers;
+mod many;
+mod prints;
+mod refuses;
+
+/// More bytes than most answers have.
+const ROOM: usize = 64;
+
+/// The words of a line, with a blank between any two.
+fn words(alloc: Global, line: &str) -> Result<Vec<String>, Fail> {
+    let mut words = Vec::new(alloc);
+    for word in line.split(' ') {
+        words.push(String::from_str(alloc, word)?)?;
+    }
+    Ok(words)
+}
+
+/// What a status and two outputs say: at status 0 the text alone, without its line feed, and else all of it, as
+/// `1 start: syntax` with its line feed, which what standard output took stands before.
+fn told(mut out: Vec<u8>, err: &[u8], status: u8) -> Result<Vec<u8>, Fail>
+    requires { status ≤ 3 }
+{
+    if status == 0 && err.is_empty() && out.pop() == Some(b'\n') {
+        return Ok(out);
+    }
+    out.push(b'0' + status)?;
+    out.push(b' ')?;
+    out.extend_from_slice(err)?;
+    Ok(out)
+}
+
+/// What the program tells, with room for so many bytes on standard output.
+fn answered(alloc: Global, words: &[String], room: usize) -> Result<Vec<u8>, Fail> {
+    let mut err = Vec::<u8>::with_capacity(alloc, ROOM)?;
+    let mut out = Out::new(Vec::<u8>::with_capacity(alloc, room)?);
+    let status = program(alloc, words, &mut out, &mut err);
+    told(out.into_writer(), err.as_slice(), status)
+}
+
+/// What the program tells. Where memory was refused it has to say so with nothing else, and runs again.
+fn answer_of(alloc: Global, words: &[String], room: usize) -> Result<Vec<u8>, Fail> {
+    let answer = answered(alloc, words, room)?;
+    if answer.as_slice() == b"3 memory\n".as_slice() {
+        return answered(alloc, words, room);
+    }
+    Ok(answer)
+}
+
+/// What a line tells.
+fn shown(alloc: Global, line: &str) -> Result<Vec<u8>, Fail> {
+    let words = words(alloc, line)?;
+    answer_of(alloc, words.as_slice(), ROOM)
+}
+
+/// Asserts what was told.
+fn assert_shows(rt: &impl Abort, found: Vec<u8>, text: &str) {
+    assert_eq!(rt; found.as_slice(), text.as_bytes());
+}

@@ -1,0 +1,64 @@
+//! The arguments that the system gives: the words behind the name of the program, or why they could not be had.
+use super::{assert_shows, told, words};
+use cli::fixdec::run_arguments;
+use std::alloc::Global;
+use std::env::Args;
+use std::io;
+use std::io::ErrorKind;
+use std::test::Fail;
+
+const USAGE: &str = "2 usage: fixdec TEXT [CALL]..\n";
+
+/// Lines whose first word is the name of the program.
+const LINES: &[(&str, &str)] = &[
+    ("fixdec 250 shift:-2", "2.50"),
+    ("250 250 shift:-2", "2.50"),
+    ("fixdec 5 shift:1 shift:2 shift:3", "5000000"),
+    ("fixdec", USAGE),
+    ("fixdec up", "1 start: syntax\n"),
+    ("fixdec ", "1 start: syntax\n"),
+    ("fixdec 5 ", USAGE),
+    ("fixdec  5", USAGE),
+    ("fixdec -- 5", USAGE),
+    ("fixdec 5 --", USAGE),
+];
+
+/// What arguments tell, or why they could not be had.
+fn answered(alloc: Global, arguments: io::Result<Args>) -> Result<Vec<u8>, Fail> {
+    let mut err = Vec::<u8>::with_capacity(alloc, 64)?;
+    let out = Vec::<u8>::with_capacity(alloc, 64)?;
+    let (status, out) = run_arguments(alloc, arguments, out, &mut err);
+    let out = match out {
+        Some(closed) => closed.into_writer(),
+        None => Vec::new(alloc),
+    };
+    told(out, err.as_slice(), status)
+}
+
+/// What words tell. They run again where memory was refused.
+pub fn shown(alloc: Global, words: &Vec<String>) -> Result<Vec<u8>, Fail> {
+    let answer = answered(alloc, Ok(words.clone()?.into_iter()))?;
+    if answer.as_slice() == b"3 memory\n".as_slice() {
+        return answered(alloc, Ok(words.clone()?.into_iter()));
+    }
+    Ok(answer)
+}
+
+#[test]
+fn takes_the_words_behind_the_name(rt: HostRuntime) -> Result<(), Fail> {
+    let alloc = rt.alloc();
+    for (line, answer) in LINES {
+        let words = words(alloc, line)?;
+        assert_shows(&rt, shown(alloc, &words)?, answer);
+    }
+    Ok(())
+}
+
+#[test]
+fn tells_why_there_are_no_words(rt: HostRuntime) -> Result<(), Fail> {
+    let refused = Err(io::Error::from(ErrorKind::OutOfMemory));
+    assert_shows(&rt, answered(rt.alloc(), refused)?, "3 memory\n");
+    let not_text = Err(io::Error::from(ErrorKind::InvalidData));
+    assert_shows(&rt, answered(rt.alloc(), not_text)?, USAGE);
+    Ok(())
+}

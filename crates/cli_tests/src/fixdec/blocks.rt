@@ -1,0 +1,87 @@
+//! Output through the buffer: how often the writer is called, and when no more.
+use super::words;
+use cli::fixdec::run_arguments;
+use decimal_doubles::FailingWriter;
+use decimal_doubles::WriteFailure::{self, Fault, Flush};
+use std::alloc::Global;
+use std::io;
+use std::test::Fail;
+
+/// A number of 65,536 digits: with its dot and the line feed 65,538 bytes.
+const LONGEST: &str = "fixdec 1e32767 pad-end:-32768";
+
+/// A line, how many bytes the writer takes and what it refuses, the status, and how often it is called.
+const ROWS: &[(&str, usize, WriteFailure, u8, usize)] = &[
+    (LONGEST, 65_538, Fault, 0, 2),
+    (LONGEST, 65_537, Fault, 3, 3),
+    (LONGEST, 16_384, Fault, 3, 2),
+    (LONGEST, 0, Fault, 3, 1),
+    ("fixdec 250 shift:-2", 5, Fault, 0, 1),
+    ("fixdec 250 shift:-2", 4, Fault, 3, 2),
+    ("fixdec 250 shift:-2", 5, Flush, 3, 1),
+    ("fixdec 250 shift:-2", 0, Flush, 3, 1),
+    ("fixdec 5.", 9, Fault, 1, 0),
+    ("fixdec 5 trim-start concat:1e99999", 9, Fault, 1, 0),
+    ("fixdec 98765 shift:32763 shift:1", 9, Fault, 1, 0),
+    ("fixdec 5 up", 9, Fault, 2, 0),
+];
+
+/// A writer that takes so many bytes, whatever they are, and any number of them at a call.
+fn writer(room: usize, refusal: WriteFailure) -> FailingWriter<'static> {
+    FailingWriter::new(b"", room, refusal).with_width(usize::MAX)
+}
+
+/// The status of a line and how often the writer was called, where it was given back.
+fn counted(
+    alloc: Global,
+    line: &str,
+    room: usize,
+    refusal: WriteFailure,
+) -> Result<(u8, Option<usize>), Fail> {
+    let arguments = words(alloc, line)?.into_iter();
+    let out = writer(room, refusal);
+    let (status, out) = run_arguments(alloc, Ok(arguments), out, &mut io::sink());
+    Ok((status, out.map(|closed| closed.into_writer().writes())))
+}
+
+/// The same. It runs again where memory may have been refused.
+fn counted_again(
+    alloc: Global,
+    line: &str,
+    room: usize,
+    refusal: WriteFailure,
+) -> Result<(u8, Option<usize>), Fail> {
+    let first = counted(alloc, line, room, refusal)?;
+    if first.0 == 3 {
+        return counted(alloc, line, room, refusal);
+    }
+    Ok(first)
+}
+
+#[test]
+fn writes_blocks(rt: HostRuntime) -> Result<(), Fail> {
+    let alloc = rt.alloc();
+    for (line, room, refusal, status, writes) in ROWS {
+        let found = counted_again(alloc, line, *room, *refusal)?;
+        assert_eq!(rt; found, (*status, Some(*writes)));
+    }
+    Ok(())
+}
+
+/// How often the writer behind standard error is called for a line.
+fn writes_of_a_line(alloc: Global, line: &str) -> Result<usize, Fail> {
+    let mut err = writer(64, Fault);
+    let arguments = words(alloc, line)?.into_iter();
+    let (_, _) = run_arguments(alloc, Ok(arguments), io::sink(), &mut err);
+    Ok(err.writes())
+}
+
+#[test]
+fn tells_a_line_in_one_write(rt: HostRuntime) -> Result<(), Fail> {
+    let alloc = rt.alloc();
+    for line in ["fixdec 5.", "fixdec", "fixdec 5 concat:x"] {
+        assert_eq!(rt; writes_of_a_line(alloc, line)?, 1);
+    }
+    assert_eq!(rt; writes_of_a_line(alloc, "fixdec 5")?, 0);
+    Ok(())
+}

@@ -1,0 +1,109 @@
+//! Outputs that take so many bytes and no more.
+use super::pattern::{Pattern, PatternReader};
+use super::words;
+use cli::ErrorLines;
+use cli::fixdec_lines::run_arguments;
+use decimal_doubles::{FailingWriter, WriteFailure};
+use std::alloc::Global;
+use std::test::Fail;
+
+/// Words and an input, what standard output is to take and how much of it, the same of standard error, and the status.
+type Row = (
+    &'static str,
+    &'static [u8],
+    (&'static [u8], usize),
+    (&'static [u8], usize),
+    u8,
+);
+
+/// What is answered where an output has no more room. A fault of standard error changes no status.
+const ROWS: &[Row] = &[
+    (
+        "fixdec_lines shift:-2",
+        b"250\n7\n",
+        (b"2.50\n0.07\n", 10),
+        (b"", 0),
+        0,
+    ),
+    (
+        "fixdec_lines shift:-2",
+        b"250\n7\n",
+        (b"2.50\n0.07\n", 9),
+        (b"output\n", 7),
+        3,
+    ),
+    (
+        "fixdec_lines shift:-2",
+        b"250\n7\n",
+        (b"2.50\n0.07\n", 6),
+        (b"output\n", 3),
+        3,
+    ),
+    (
+        "fixdec_lines shift:-2",
+        b"250\n7\n",
+        (b"2.50\n0.07\n", 4),
+        (b"output\n", 0),
+        3,
+    ),
+    (
+        "fixdec_lines shift:-2",
+        b"250\n7\n",
+        (b"2.50\n0.07\n", 0),
+        (b"output\n", 7),
+        3,
+    ),
+    (
+        "fixdec_lines",
+        b"7\nx\n",
+        (b"7\n", 2),
+        (b"line 2: start: syntax\n", 9),
+        1,
+    ),
+    ("fixdec_lines", b"7\nx\n", (b"7\n", 1), (b"output\n", 7), 3),
+    (
+        "fixdec_lines skip",
+        b"x\ny\n7\n",
+        (b"\n\n7\n", 4),
+        (b"line 1: start: syntax\nline 2: start: syntax\n", 30),
+        1,
+    ),
+    (
+        "fixdec_lines skip",
+        b"x\n7\n",
+        (b"\n7\n", 1),
+        (b"line 1: start: syntax\noutput\n", 29),
+        3,
+    ),
+    (
+        "fixdec_lines up",
+        b"7\n",
+        (b"", 0),
+        (b"usage: fixdec_lines [skip] [CALL]..\n", 0),
+        2,
+    ),
+];
+
+/// Whether a row holds, and each output has taken as much as there is room for.
+fn holds(alloc: Global, row: Row, refusal: WriteFailure) -> Result<bool, Fail> {
+    let arguments = words(alloc, row.0)?.into_iter();
+    let (text, room) = row.2;
+    let (told, err_room) = row.3;
+    let mut input = PatternReader::new(Pattern::of(row.1), 100, false);
+    let out = FailingWriter::new(text, room, refusal);
+    let mut err = FailingWriter::new(told, err_room, refusal);
+    let mut lines = ErrorLines::new(&mut err);
+    let (status, out) = run_arguments(alloc, Ok(arguments), &mut input, out, &mut lines);
+    let has_taken = out.is_some_and(|closed| closed.into_writer().has_taken(room));
+    Ok(status == row.4 && has_taken && err.has_taken(err_room))
+}
+
+#[test]
+fn answers_with_full_outputs(rt: HostRuntime) -> Result<(), Fail> {
+    for refusal in [WriteFailure::Zero, WriteFailure::Fault] {
+        for row in ROWS {
+            assert!(rt; holds(rt.alloc(), *row, refusal)?, "{}", row.0);
+        }
+    }
+    Ok(())
+}

@@ -1,0 +1,173 @@
+//! Inputs of a few lines, read in pieces: what is written and told for them.
+use super::pattern::{Pattern, PatternReader};
+use super::words;
+use cli::ErrorLines;
+use cli::fixdec_lines::run_arguments;
+use decimal_doubles::{FailingWriter, WriteFailure};
+use std::alloc::Global;
+use std::test::Fail;
+
+/// Words, an input, what standard output and standard error take, and the status.
+type Row = (
+    &'static str,
+    &'static [u8],
+    &'static [u8],
+    &'static [u8],
+    u8,
+);
+
+/// What is answered where reading does not fail.
+const ROWS: &[Row] = &[
+    (
+        "fixdec_lines shift:-2",
+        b"250\n7\n",
+        b"2.50\n0.07\n",
+        b"",
+        0,
+    ),
+    ("fixdec_lines shift:-2", b"250\n7", b"2.50\n0.07\n", b"", 0),
+    ("fixdec_lines", b"+007.0\n.5\n", b"+007.0\n0.5\n", b"", 0),
+    ("fixdec_lines", b"", b"", b"", 0),
+    ("fixdec_lines skip", b"", b"", b"", 0),
+    ("fixdec_lines skip", b"5", b"5\n", b"", 0),
+    ("fixdec_lines", b"\n", b"", b"line 1: start: syntax\n", 1),
+    (
+        "fixdec_lines",
+        b"1\n\n2\n",
+        b"1\n",
+        b"line 2: start: syntax\n",
+        1,
+    ),
+    (
+        "fixdec_lines",
+        b"1\n2\n\n",
+        b"1\n2\n",
+        b"line 3: start: syntax\n",
+        1,
+    ),
+    (
+        "fixdec_lines",
+        b"1\r\n2\n",
+        b"",
+        b"line 1: start: syntax\n",
+        1,
+    ),
+    (
+        "fixdec_lines",
+        b"1\n2\x00\n3\n",
+        b"1\n",
+        b"line 2: start: syntax\n",
+        1,
+    ),
+    ("fixdec_lines", b"\xff", b"", b"line 1: start: syntax\n", 1),
+    ("fixdec_lines", b"1 \n", b"", b"line 1: start: syntax\n", 1),
+    (
+        "fixdec_lines",
+        b"1\n10e32767\n",
+        b"1\n",
+        b"line 2: start: limit\n",
+        1,
+    ),
+    (
+        "fixdec_lines trim-end concat:7",
+        b"0.0\n10\n11\n12\n",
+        b"7\n17\n",
+        b"line 3: call 1: overlap\n",
+        1,
+    ),
+    (
+        "fixdec_lines shift:1 shift:32767",
+        b"0\n1\n5.5\n",
+        b"",
+        b"line 1: call 1: overflow\n",
+        1,
+    ),
+    (
+        "fixdec_lines concat:x",
+        b"0\n",
+        b"",
+        b"line 1: call 0: syntax\n",
+        1,
+    ),
+    ("fixdec_lines up", b"1\n", b"", USAGE, 2),
+    ("fixdec_lines shift:-2 skip", b"1\n", b"", USAGE, 2),
+    ("fixdec_lines skip skip", b"1\n", b"", USAGE, 2),
+    ("fixdec_lines 250", b"1\n", b"", USAGE, 2),
+    ("fixdec_lines ", b"1\n", b"", USAGE, 2),
+    (
+        "fixdec_lines skip shift:-2",
+        b"250\n\nx\n7",
+        b"2.50\n\n\n0.07\n",
+        b"line 2: start: syntax\nline 3: start: syntax\n",
+        1,
+    ),
+    (
+        "fixdec_lines skip concat:7 shift:1",
+        b"1\n10\n10e32767",
+        b"\n170\n\n",
+        b"line 1: call 0: overlap\nline 3: start: limit\n",
+        1,
+    ),
+];
+
+/// What is answered where the reader fails behind the input.
+const BROKEN: &[Row] = &[
+    (
+        "fixdec_lines shift:-2",
+        b"250\n7\n",
+        b"2.50\n0.07\n",
+        b"input\n",
+        3,
+    ),
+    ("fixdec_lines shift:-2", b"250\n7", b"2.50\n", b"input\n", 3),
+    ("fixdec_lines shift:-2", b"", b"", b"input\n", 3),
+    (
+        "fixdec_lines",
+        b"x\n7\n",
+        b"",
+        b"line 1: start: syntax\n",
+        1,
+    ),
+    (
+        "fixdec_lines skip",
+        b"x\n7\n",
+        b"\n7\n",
+        b"line 1: start: syntax\ninput\n",
+        3,
+    ),
+    ("fixdec_lines up", b"", b"", USAGE, 2),
+];
+
+const USAGE: &[u8] = b"usage: fixdec_lines [skip] [CALL]..\n";
+
+/// Whether a row holds with so many bytes at a read.
+fn holds(alloc: Global, row: Row, most: usize, is_broken: bool) -> Result<bool, Fail> {
+    let arguments = words(alloc, row.0)?.into_iter();
+    let mut input = PatternReader::new(Pattern::of(row.1), most, is_broken);
+    let out = FailingWriter::new(row.2, usize::MAX, WriteFailure::Fault);
+    let mut err = FailingWriter::new(row.3, usize::MAX, WriteFailure::Fault);
+    let mut lines = ErrorLines::new(&mut err);
+    let (status, out) = run_arguments(alloc, Ok(arguments), &mut input, out, &mut lines);
+    let has_all = out.is_some_and(|closed| closed.into_writer().has_all()) && err.has_all();
+    Ok(status == row.4 && has_all && (status != 2 || input.is_spent() == row.1.is_empty()))
+}
+
+#[test]
+fn answers_in_pieces(rt: HostRuntime) -> Result<(), Fail> {
+    for most in [1, 2, 5, 100] {
+        for row in ROWS {
+            assert!(rt; holds(rt.alloc(), *row, most, false)?, "{} {most}", row.0);
+        }
+    }
+    Ok(())
+}
+
+#[test]
+fn tells_a_broken_input(rt: HostRuntime) -> Result<(), Fail> {
+    for most in [1, 2, 5, 100] {
+        for row in BROKEN {
+            assert!(rt; holds(rt.alloc(), *row, most, true)?, "{} {most}", row.0);
+        }
+    }
+    Ok(())
+}

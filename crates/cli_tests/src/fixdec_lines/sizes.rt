@@ -1,0 +1,88 @@
+//! Long lines, and many lines.
+use super::pattern::{Pattern, PatternReader, PatternWriter};
+use super::words;
+use cli::ErrorLines;
+use cli::fixdec_lines::run_arguments;
+use std::alloc::Global;
+use std::test::Fail;
+
+/// A text: a beginning, a piece and how often it stands, and an end.
+type Text = (&'static [u8], &'static [u8], usize, &'static [u8]);
+
+/// Words, an input, what standard output and standard error take, and the status.
+type Row = (&'static str, Text, Text, Text, u8);
+
+const NONE: Text = (b"", b"", 0, b"");
+
+/// Lines of 65,537 and of 200,000 bytes, and 5,000 lines.
+const ROWS: &[Row] = &[
+    (
+        "fixdec_lines",
+        (b"8\n", b"5", 32_768, b".123\n9\n"),
+        (b"8\n", b"5", 32_768, b".123\n9\n"),
+        NONE,
+        0,
+    ),
+    (
+        "fixdec_lines skip trim-end",
+        (b"8\n1.5", b"0", 65_534, b"\n9"),
+        (b"8\n", b"", 0, b"\n9\n"),
+        (b"line 2: start: limit\n", b"", 0, b""),
+        1,
+    ),
+    (
+        "fixdec_lines",
+        (b"1e", b"0", 199_997, b"3\n7\n"),
+        (b"1000\n7\n", b"", 0, b""),
+        NONE,
+        0,
+    ),
+    (
+        "fixdec_lines",
+        (b"7\n", b"x", 200_000, b"\n8\n"),
+        (b"7\n", b"", 0, b""),
+        (b"line 2: start: syntax\n", b"", 0, b""),
+        1,
+    ),
+    (
+        "fixdec_lines round:-2:half-even:1",
+        (b"", b"1234.565\n-9.995\n", 2_500, b"7"),
+        (b"", b"1234.56\n-10.00\n", 2_500, b"7.00\n"),
+        NONE,
+        0,
+    ),
+    (
+        "fixdec_lines shift:1",
+        (b"", b"5\n", 4_999, b"-\n5\n"),
+        (b"", b"50\n", 4_999, b""),
+        (b"line 5000: start: syntax\n", b"", 0, b""),
+        1,
+    ),
+];
+
+/// The text of its parts.
+fn text(parts: Text) -> Pattern<'static> {
+    Pattern::new(parts.0, parts.1, parts.2, parts.3)
+}
+
+/// Whether a row holds with so many bytes at a read.
+fn holds(alloc: Global, row: Row, most: usize) -> Result<bool, Fail> {
+    let arguments = words(alloc, row.0)?.into_iter();
+    let mut input = PatternReader::new(text(row.1), most, false);
+    let out = PatternWriter::new(text(row.2));
+    let mut err = PatternWriter::new(text(row.3));
+    let mut lines = ErrorLines::new(&mut err);
+    let (status, out) = run_arguments(alloc, Ok(arguments), &mut input, out, &mut lines);
+    let has_all = out.is_some_and(|closed| closed.into_writer().has_all()) && err.has_all();
+    Ok(status == row.4 && has_all)
+}
+
+#[test]
+fn takes_long_inputs(rt: HostRuntime) -> Result<(), Fail> {
+    for most in [1, 100_000] {
+        for row in ROWS {
+            assert!(rt; holds(rt.alloc(), *row, most)?, "{} {most}", row.0);
+        }
+    }
+    Ok(())
+}

@@ -1,0 +1,46 @@
+//! The filter as a library's call: over a slice and two sinks in memory.
+use cli::{ErrorLines, FilterError, OnRefusal, filter_lines};
+use fixed_decimal::{Call, TextBuf};
+use std::alloc::Global;
+use std::test::Fail;
+
+/// What a filter does at a refusal, an input, what the sinks take, and the answer.
+type Row = (
+    OnRefusal,
+    &'static [u8],
+    &'static [u8],
+    &'static [u8],
+    Result<bool, FilterError>,
+);
+
+/// Inputs that are shifted by -2.
+const ROWS: &[Row] = &[
+    (OnRefusal::Stop, b"250\n7\n", b"2.50\n0.07\n", b"", Ok(true)),
+    (OnRefusal::Skip, b"250\n7\n", b"2.50\n0.07\n", b"", Ok(true)),
+    (
+        OnRefusal::Skip,
+        b"250\nx\n7",
+        b"2.50\n\n0.07\n",
+        b"line 2: start: syntax\n",
+        Ok(false),
+    ),
+];
+
+/// Whether a row holds.
+fn holds(alloc: Global, row: &Row) -> bool {
+    let mut input = row.1;
+    let mut out = TextBuf::new(alloc);
+    let mut err = Vec::<u8>::new(alloc);
+    let mut lines = ErrorLines::new(&mut err);
+    let calls = [Call::MultiplyPow10(-2)];
+    let answer = filter_lines(alloc, row.0, &calls, &mut input, &mut out, &mut lines);
+    answer == row.4 && out.as_bytes() == row.2 && err.as_slice() == row.3
+}
+
+#[test]
+fn filters_slices(rt: HostRuntime) -> Result<(), Fail> {
+    for row in ROWS {
+        assert!(rt; holds(rt.alloc(), row));
+    }
+    Ok(())
+}

@@ -1,0 +1,91 @@
+//! Command lines, and what they print.
+ghost use Rattle.std.specs.Prelude.{◌≤◌};
+
+use cli::ErrorLines;
+use cli::plural::program;
+use decimal_doubles::{FailingWriter, WriteFailure};
+use fixed_decimal::Out;
+use std::alloc::Global;
+use std::process::Abort;
+use std::test::Fail;
+
+/// Words, with a bar between any two, and what is printed: what standard output took, the status, and what standard
+/// error took.
+const LINES: &[(&str, &str)] = &[
+    (
+        "one: i = 1 and v = 0|1|01|-1|1.0|1c6",
+        "one\none\none\nother\nother\n0 ",
+    ),
+    ("one: n = 1|1e0|1.00|1.5", "one\none\nother\n0 "),
+    (
+        "one: i = 0,1; many: e = 0 and i != 0 and i % 1000000 = 0 and v = 0 or e != 0..5|1.5|1000000|1c6|1.1c6|1c3",
+        "one\nmany\nmany\nmany\nother\n0 ",
+    ),
+    ("one: i = 1 and v = 0", "2 usage: plural RULES TEXT..\n"),
+    ("one i = 1|1", "1 rules: syntax at 4\n"),
+    ("one: n = 18446744073709551616|1", "1 rules: limit at 9\n"),
+    ("one: i = 1|1|x|1", "one\n1 text 2: syntax\n"),
+    ("one: i = 1|1c1e1", "1 text 1: syntax\n"),
+    ("one: i = 1|1|2|1e99999|1", "one\nother\n1 text 3: limit\n"),
+    ("one: i = 1|1c256", "1 text 1: limit\n"),
+];
+
+/// The words of a line.
+fn words(alloc: Global, line: &str) -> Result<Vec<String>, Fail> {
+    let mut words = Vec::new(alloc);
+    for word in line.split('|') {
+        words.push(String::from_str(alloc, word)?)?;
+    }
+    Ok(words)
+}
+
+/// What standard output took, the status, and what standard error took.
+fn told(mut out: Vec<u8>, status: u8, err: &[u8]) -> Result<Vec<u8>, Fail>
+    requires { status ≤ 3 }
+{
+    out.push(b'0' + status)?;
+    out.push(b' ')?;
+    out.extend_from_slice(err)?;
+    Ok(out)
+}
+
+/// What a line prints.
+fn printed(alloc: Global, line: &str) -> Result<Vec<u8>, Fail> {
+    let words = words(alloc, line)?;
+    let mut out = Out::new(Vec::<u8>::new(alloc));
+    let mut err = Vec::<u8>::new(alloc);
+    let mut lines = ErrorLines::new(&mut err);
+    let status = program(alloc, words.as_slice(), &mut out, &mut lines);
+    told(out.into_writer(), status, err.as_slice())
+}
+
+/// Asserts what was printed.
+fn assert_prints(rt: &impl Abort, found: Vec<u8>, text: &str) {
+    assert_eq!(rt; found.as_slice(), text.as_bytes());
+}
+
+#[test]
+fn lines(rt: HostRuntime) -> Result<(), Fail> {
+    let alloc = rt.alloc();
+    for (line, text) in LINES {
+        assert_prints(&rt, printed(alloc, line)?, text);
+    }
+    Ok(())
+}
+
+#[test]
+fn reports_a_failed_output(rt: HostRuntime) -> Result<(), Fail> {
+    let alloc = rt.alloc();
+    let words = words(alloc, "one: i = 1|1|2")?;
+    for room in 0..10 {
+        let writer = FailingWriter::new(b"one\nother\n", room, WriteFailure::Fault);
+        let mut out = Out::new(writer);
+        let mut err = Vec::<u8>::new(alloc);
+        let mut lines = ErrorLines::new(&mut err);
+        let status = program(alloc, words.as_slice(), &mut out, &mut lines);
+        assert_eq!(rt; status, 3);
+        assert_eq!(rt; err.as_slice(), b"output\n".as_slice());
+        assert!(rt; out.into_writer().has_taken(room));
+    }
+    Ok(())
+}

@@ -1,4 +1,0 @@
-pub mod Refusals
-pub mod Splitting
-pub mod Filtering
-pub mod Programs

@@ -1,5 +1,0 @@
-pub mod Numerals
-pub mod Splits
-pub mod Naming
-pub mod OneCall
-pub mod Programs

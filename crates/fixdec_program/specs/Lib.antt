@@ -1,4 +1,0 @@
-pub mod Words
-pub mod Parts
-pub mod Faults
-pub mod Program

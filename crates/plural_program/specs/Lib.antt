@@ -1,4 +1,0 @@
-pub mod Texts
-pub mod Faults
-pub mod Lines
-pub mod Program

@@ -1,0 +1,95 @@
+#!/usr/bin/env bash
+# Makes each allocation of two built programs fail in turn, by a debugger that stops where the allocator is called:
+#
+# - `allocation_failures` makes each kind of call that allocates. It has to print `right when asked again`: the call
+#   reported that it is out of memory, changed nothing, and succeeded when it was made again.
+# - `fixdec_lines` has to end with status 3, and `memory` with nothing written, or `line N: memory` with the lines
+#   before; and it allocates no more for a thousand lines of at most 16 digits than for one.
+#
+# Needs bash and gdb, which it installs where it may. The last line is `N passed, M failed`; the status is 0 if M is 0.
+set -u
+cd "$(dirname "$0")/.." || exit 1
+if ! command -v gdb > /dev/null; then
+  (apt-get update && apt-get install -y gdb) > /dev/null 2>&1
+fi
+scratch=$(mktemp -d) || exit 1
+trap 'rm -rf "$scratch"' EXIT
+for program in allocation_failures fixdec_lines; do
+  [ -n "${BUILT_BY_GATE:-}" ] || (cd "crates/$program" && rt run) > /dev/null 2>&1 < /dev/null
+  if ! cp "crates/$program/out/$program" "$scratch/" || ! command -v gdb > /dev/null; then
+    echo "$program was not built, or there is no gdb"
+    echo "0 passed, 1 failed"
+    exit 1
+  fi
+done
+chmod +x "$scratch"/*
+cd "$scratch" || exit 1
+passed=0
+failed=0
+
+# judge NAME: counts what the last command returned.
+judge() {
+  if [ $? = 0 ]; then
+    passed=$((passed + 1))
+  else
+    failed=$((failed + 1))
+    echo "failed: $1"
+  fi
+}
+
+# fail_at INPUT AT PROGRAM WORD..: runs a program with the allocation of this number failing. Leaves what it wrote in
+# AT.out and AT.err, and `ALLOCATIONS STATUS` in AT.end.
+fail_at() {
+  gdb -q -batch -ex 'set $n = 0' -ex "break rattle_alloc if ++\$n == $2" -ex "break rattle_realloc if ++\$n == $2" \
+    -ex "run ${*:4} < $1 > $2.out 2> $2.err" -ex 'return (void *) 0' -ex 'continue' \
+    -ex 'printf "\nallocations %d status %d\n", $n, $_exitcode' "./$3" 2>&1 < /dev/null \
+    | sed -n 's/^allocations \([0-9]*\) status \([0-9]*\)$/\1 \2/p' > "$2.end"
+}
+export -f fail_at
+
+# fail_each INPUT PROGRAM WORD..: counts the allocations of a program into $all, and makes each of them fail.
+fail_each() {
+  rm -f ./*.end
+  fail_at "$1" 0 "${@:2}"
+  read -r all _ < 0.end
+  words="$*"
+  [ -n "$all" ] && [ "$all" -gt 10 ]
+  judge "$words: $all allocations"
+  seq 1 "${all:-0}" | xargs -P "$(nproc)" -I{} bash -c "fail_at ${1@Q} {} ${*:2}"
+}
+
+fail_each /dev/null allocation_failures
+for ((at = 1; at <= ${all:-0}; at++)); do
+  [ "$(cat "$at.out")" = 'right when asked again' ]
+  judge "allocation $at of $all: $(cat "$at.out")"
+done
+
+# No allocation more for more lines.
+call=round:-2:half-even:25
+for ((i = 0; i < 1000; i++)); do echo 12345678901234.56; done > many
+head -n 1 many > one
+fail_at one 0 fixdec_lines "$call"
+read -r few _ < 0.end
+fail_at many 0 fixdec_lines "$call"
+read -r all _ < 0.end
+[ -n "$few" ] && [ "$all" = "$few" ]
+judge "$few allocations for one line, and $all for a thousand"
+
+# Those of the words, of their calls, of the buffers, of lines that get longer, of long numbers and of concatenations.
+printf '70\n12345678901234567890.125\nx\n1e20\n%0200d\n' 5 > in
+for mode in '' skip; do
+  fail_each in fixdec_lines $mode concat:0.12345678901234567 round:-2:half-even:25
+  for ((at = 1; at <= ${all:-0}; at++)); do
+    read -r _ status < "$at.end"
+    line=$(sed -n 's/^line \([0-9]*\): memory$/\1/p' "$at.err")
+    if [ "$(cat "$at.err")" = memory ]; then
+      [ "$status" = 3 ] && [ ! -s "$at.out" ]
+    else
+      [ "$status" = 3 ] && [ -n "$line" ] && cmp -s "$at.out" <(head -n $((line - 1)) 0.out)
+    fi
+    judge "$words, allocation $at of $all: status $status, $(head -c 100 "$at.err" | tr '\n' '|')"
+  done
+done
+
+echo "$passed passed, $failed failed"
+[ "$failed" -eq 0 ]
