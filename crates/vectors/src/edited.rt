@@ -5,8 +5,8 @@ use decimal_digits::digits::{DigitList, DigitStore, PackedDigits};
 use decimal_digits::rounding::RoundError;
 use decimal_digits::rounding::RoundingIncrement::{MultiplesOf1, MultiplesOf25};
 use decimal_doubles::{
-    CountingStore, Counts, Join, Joins, Left, LimitedStore, MaxDigits, Rounds, Value, Way,
-    has_text, rounded, ways,
+    CountingStore, Counts, Join, Joins, Left, LimitedStore, MaxDigits, Value, Way, has_text,
+    rounded, ways,
 };
 use decimal_unsigned::ConcatenateError;
 use decimal_unsigned::decimal::UnsignedOver;

@@ -6,7 +6,7 @@ use fixed_decimal::RoundingIncrement::{
     MultiplesOf1 as By1, MultiplesOf2 as By2, MultiplesOf5 as By5, MultiplesOf25 as By25,
 };
 use fixed_decimal::SignedRoundingMode::{self, Unsigned};
-use fixed_decimal::UnsignedRoundingMode::{Expand, HalfEven, HalfExpand, HalfTrunc, Trunc};
+use fixed_decimal::UnsignedRoundingMode::{Expand, Trunc};
 use fixed_decimal::{RoundError, Signed};
 
 /// A position, a mode and an increment.
