@@ -1,4 +1,4 @@
--- One line, and the words before the calls. Only private contracts cite this file.
+-- One line, the words before the calls, and where a filter behind a block ends.
 use Rattle.std.specs.Prelude.{◌≡◌, ◌≢◌, ℕ, Bool, true, false, List, [], ◌∷◌, codes, String, string_bytes, Option, Some, IsOk}
 use Rattle.std.specs.List.{FoldsTo}
 use Rattle.std.specs.Io.KnownBytes.{Appends, append_known}
