@@ -12,30 +12,14 @@ cd "$(dirname "$0")/.." || exit 1
 if ! command -v gdb > /dev/null; then
   (apt-get update && apt-get install -y gdb) > /dev/null 2>&1
 fi
-scratch=$(mktemp -d) || exit 1
-trap 'rm -rf "$scratch"' EXIT
-for program in allocation_failures fixdec_lines; do
-  [ -n "${BUILT_BY_GATE:-}" ] || (cd "crates/$program" && rt run) > /dev/null 2>&1 < /dev/null
-  if ! cp "crates/$program/out/$program" "$scratch/" || ! command -v gdb > /dev/null; then
-    echo "$program was not built, or there is no gdb"
-    echo "0 passed, 1 failed"
-    exit 1
-  fi
-done
-chmod +x "$scratch"/*
-cd "$scratch" || exit 1
-passed=0
-failed=0
-
-# judge NAME: counts what the last command returned.
-judge() {
-  if [ $? = 0 ]; then
-    passed=$((passed + 1))
-  else
-    failed=$((failed + 1))
-    echo "failed: $1"
-  fi
-}
+if ! command -v gdb > /dev/null; then
+  echo "there is no gdb"
+  echo "0 passed, 1 failed"
+  exit 1
+fi
+. tests/programs.sh
+copy_programs allocation_failures fixdec_lines
+cd "$room" || exit 1
 
 # fail_at INPUT AT PROGRAM WORD..: runs a program with the allocation of this number failing. Leaves what it wrote in
 # AT.out and AT.err, and `ALLOCATIONS STATUS` in AT.end.
@@ -91,5 +75,4 @@ for mode in '' skip; do
   done
 done
 
-echo "$passed passed, $failed failed"
-[ "$failed" -eq 0 ]
+finish

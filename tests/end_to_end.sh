@@ -5,30 +5,8 @@
 # `N passed, M failed`; the status is 0 if M is 0.
 set -u
 cd "$(dirname "$0")/.." || exit 1
-room=$(mktemp -d) || exit 1
-trap 'rm -rf "$room"' EXIT
-for name in fixdec fixdec_lines plural; do
-  program=crates/$name/out/$name
-  [ -n "${BUILT_BY_GATE:-}" ] || (cd "crates/$name" && rt run) > /dev/null 2>&1 < /dev/null
-  if [ ! -f "$program" ]; then
-    echo "the program was not built: try rt run in crates/$name"
-    echo "0 passed, 1 failed"
-    exit 1
-  fi
-  cp "$program" "$room/$name" && chmod +x "$room/$name"
-done
-passed=0
-failed=0
-
-# judge NAME: counts the status of the last command.
-judge() {
-  if [ $? = 0 ]; then
-    passed=$((passed + 1))
-  else
-    failed=$((failed + 1))
-    echo "failed: $1"
-  fi
-}
+. tests/programs.sh
+copy_programs fixdec fixdec_lines plural
 
 # compare STATUS TEXT LINES: the result of a program, in $found, $room/out and $room/err, is this.
 compare() {
@@ -332,5 +310,4 @@ judge "with little memory it reported memory $reported times and printed $printe
 
 help plural 'usage: plural RULES TEXT..'
 
-echo "$passed passed, $failed failed"
-[ "$failed" -eq 0 ]
+finish
