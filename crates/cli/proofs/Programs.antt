@@ -1,6 +1,6 @@
 -- What the words of a command line name, and what their run comes to.
 use Rattle.std.proofs.Common.{◌≡◌, ◌≢◌, ℕ, ◌+◌, ◌-◌, ◌<◌, ◌≤◌, List, [], ◌∷◌, ◌++◌, length, take, drop, get_or, String, string_bytes, Option, Some, None, Result, Ok, Err, IfNone, IfSome, IfErr, true, false, rules, refl, sym, ap, subst, ◌∙◌, arith, add-one}
-use Rattle.std.specs.Prelude.{Any, IsOk, IsOkAnd, IsErrAnd}
+use Rattle.std.specs.Prelude.{Any, IsOk, IsOkAnd, IsErrAnd, OnOk}
 use Rattle.std.specs.Option.{is_some}
 use Rattle.std.specs.declared.alloc.Global.{Global}
 use Rattle.std.specs.Io.KnownBytes.{Keeps, Appends}
@@ -84,6 +84,29 @@ ok_if P (Err e) h = absurd h
 pub ok_map : {X E : Type 0} (P Q : X → Type 0) (r : Result X E) → ((x : X) → P x → Q x) → IsOkAnd r P → IsOkAnd r Q
 ok_map P Q (Ok x) f h = f x h
 ok_map P Q (Err e) f h = h
+
+-- what is true of an error is true of the answer that has it
+pub err_with : {A E : Type 0} (Q : E → Type 0) (r : Result A E) (f : E) → IsErrAnd r (λ x. x ≡ f) → Q f → IfErr r Q
+err_with Q (Ok x) f h q = absurd h
+err_with Q (Err e) f h q = subst Q (sym h) q
+
+-- what follows of an error is true of it
+pub err_map :
+    {X E : Type 0} {P Q : E → Type 0} (r : Result X E) → ((e : E) → r ≡ Err e → P e → Q e) → IfErr r P → IfErr r Q
+err_map (Ok x) f h = tt
+err_map (Err e) f h = f e refl h
+
+-- without an error, what is true of Ok is true
+pub at_ok :
+    {X E : Type 0} {P : Type 0} (Q : E → Type 0) (r : Result X E) (status : ℕ)
+    → IfErr r (λ e. (0 < status) × Q e) → status ≡ 0 → OnOk r P → P
+at_ok Q (Ok x) status h zero p = p
+at_ok Q (Err e) status (some, q) zero p = absurd (omega (arith, some, zero))
+
+-- and so is what follows of it
+pub ok_weaker : {X E : Type 0} {P Q : Type 0} (r : Result X E) → (P → Q) → OnOk r P → OnOk r Q
+ok_weaker (Ok x) f h = f h
+ok_weaker (Err e) f h = h
 
 -- ---- What was printed.
 

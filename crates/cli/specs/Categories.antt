@@ -1,5 +1,5 @@
 -- The category of a text, and what `plural` prints before an error.
-use Rattle.std.specs.Prelude.{◌≡◌, ℕ, ◌+◌, if◌then◌else◌, List, [], ◌∷◌, ◌++◌, length, String, string_bytes}
+use Rattle.std.specs.Prelude.{◌≡◌, ◌≢◌, ℕ, ◌+◌, if◌then◌else◌, List, [], ◌∷◌, ◌++◌, length, String, string_bytes}
 use Rattle.std.specs.Prelude.{Option, Result, Ok, Err, IsOk, IsOkAnd, MatchBool}
 use Rattle.std.specs.List.{list_any}
 use Rattle.decimal_unsigned.specs.declared.decimal.TheConstants.{DIGITS_IN_PLACE}
@@ -14,9 +14,8 @@ use Rattle.plural_rules.specs.Rules.{RuleParts, category_of, name_of}
 use Rattle.std.specs.Io.KnownBytes.{Appends}
 use Rattle.std.specs.declared.alloc.Global.{Global}
 use Rattle.decimal_digits.specs.Text.{AppendsPrefix}
-use Rattle.plural_rules.specs.Rules.{RuleParts}
 use Rattle.cli.specs.declared.errors.PluralError.{PluralError}
-use Rattle.cli.specs.declared.errors.PluralError.TheVariants.{Usage, Memory, Rules, Text, Output}
+use Rattle.cli.specs.declared.errors.PluralError.TheVariants.{Memory, Text, Output}
 use Rattle.cli.specs.Errors.{reading_fault_of}
 
 -- the text has more digits than are held without allocation
@@ -55,31 +54,23 @@ HaveLines rules (text ∷ texts) lines =
 abbrev pub PrintsAll : List RuleParts → List (String Global) → Option (List ℕ) → Option (List ℕ) → Type 0
 PrintsAll rules texts old new = (lines : List ℕ) × HaveLines rules texts lines × Appends old new lines
 
--- the lines of the texts before one are appended, and P holds of the number of that one, starting at 1, and its bytes
-abbrev pub StopsBefore :
-    List RuleParts → List (String Global) → Option (List ℕ) → Option (List ℕ) → (ℕ → List ℕ → Type 0) → Type 0
-StopsBefore rules texts old new P =
-    (front : List (String Global)) × (text : String Global) × (back : List (String Global))
-    × (texts ≡ front ++ text ∷ back) × P (length front + 1) (string_bytes text) × PrintsAll rules front old new
-
--- a prefix of the lines of some of the first texts is appended
-abbrev pub PrintsPart : List RuleParts → List (String Global) → Option (List ℕ) → Option (List ℕ) → Type 0
-PrintsPart rules texts old new =
-    (front : List (String Global)) × (back : List (String Global)) × (lines : List ℕ)
-    × (texts ≡ front ++ back) × HaveLines rules front lines × AppendsPrefix old new lines
-
 -- the text of a number has no line: it is rejected, or the program is out of memory for its digits
 abbrev pub TextFails : List RuleParts → List ℕ → ℕ → PluralError → Type 0
-TextFails rules bytes number Usage = ⊥
 TextFails rules bytes number Memory = IsLongText bytes
-TextFails rules bytes number (Rules at reason) = ⊥
 TextFails rules bytes number (Text at reason) =
     (at ≡ number) × (read_category rules bytes ≡ Err (reading_fault_of reason))
 TextFails rules bytes number Output = IsOk (read_category rules bytes)
+TextFails rules bytes number _ = ⊥
 
--- what is printed before an error: the lines of the texts before the one that it is about, or a prefix at `Output`
+-- there is a first text, which has this number and fails so
+abbrev pub FirstFails : List RuleParts → List (String Global) → ℕ → PluralError → Type 0
+FirstFails rules [] number error = ⊥
+FirstFails rules (text ∷ texts) number error = TextFails rules (string_bytes text) number error
+
+-- what is printed before an error: the lines of the texts before the one that fails; at `Output` a prefix of lines
 abbrev pub StopsAt :
     List RuleParts → List (String Global) → Option (List ℕ) → Option (List ℕ) → PluralError → Type 0
-StopsAt rules texts old new Output = PrintsPart rules texts old new
 StopsAt rules texts old new error =
-    StopsBefore rules texts old new (λ number bytes. TextFails rules bytes number error)
+    (front : List (String Global)) × (back : List (String Global)) × (lines : List ℕ)
+    × (texts ≡ front ++ back) × HaveLines rules front lines × AppendsPrefix old new lines
+    × (error ≢ Output → Appends old new lines × FirstFails rules back (length front + 1) error)

@@ -6,8 +6,6 @@ use Rattle.plural_rules.specs.declared.parse.RulesError.{RulesError}
 use Rattle.plural_rules.specs.declared.parse.RulesError.TheVariants as rules
 use Rattle.fixed_decimal.specs.declared.runs.RunError.{RunError}
 use Rattle.fixed_decimal.specs.declared.runs.RunError.TheVariants as run
-use Rattle.cli.specs.declared.arguments.ArgumentsError.{ArgumentsError}
-use Rattle.cli.specs.declared.arguments.ArgumentsError.TheVariants as arguments
 use Rattle.cli.specs.declared.errors.Reason.{Reason}
 use Rattle.cli.specs.declared.errors.Reason.TheVariants.{Syntax, Limit}
 use Rattle.cli.specs.declared.errors.OperationError.{OperationError}
@@ -51,11 +49,6 @@ status_of_fixdec (fixdec.Operation error) = status_of_operation error
 abbrev pub output : FixdecError
 output = fixdec.Operation Output
 
--- there are no words
-abbrev pub fixdec_of_arguments : ArgumentsError → FixdecError
-fixdec_of_arguments arguments.NotText = fixdec.Usage
-fixdec_of_arguments arguments.Memory = fixdec.Memory
-
 -- the status of an error of the filter
 abbrev pub status_of_filter : FilterError → ℕ
 status_of_filter filter.Usage = 2
@@ -65,11 +58,6 @@ status_of_filter (filter.LongLine line) = 3
 status_of_filter filter.Input = 3
 status_of_filter filter.Output = 3
 
--- there are no words
-abbrev pub filter_of_arguments : ArgumentsError → FilterError
-filter_of_arguments arguments.NotText = filter.Usage
-filter_of_arguments arguments.Memory = filter.Memory
-
 -- the status of an error of `plural`
 abbrev pub status_of_plural : PluralError → ℕ
 status_of_plural plural.Usage = 2
@@ -77,11 +65,6 @@ status_of_plural plural.Memory = 3
 status_of_plural (plural.Rules at reason) = 1
 status_of_plural (plural.Text number reason) = 1
 status_of_plural plural.Output = 3
-
--- the words cannot be had
-abbrev pub plural_of_arguments : ArgumentsError → PluralError
-plural_of_arguments arguments.NotText = plural.Usage
-plural_of_arguments arguments.Memory = plural.Memory
 
 -- the error of rules that are rejected
 abbrev pub error_of_rules : RulesError → PluralError

@@ -36,11 +36,7 @@ fn line_of<E: Display>(error: &E) -> Line
     line
 }
 
-/// Writes bytes.
-///
-/// # Errors
-///
-/// A write fails or takes no byte; a prefix of the bytes is written.
+/// Writes bytes. TEMPORARY
 pub(crate) fn write_whole<W: Write>(writer: &mut W, bytes: &[u8]) -> Result<(), SinkFault>
     ensures ok { OnOk result (Appends (W.contents writer.old) (W.contents writer.new) bytes.now) }
     ensures err { OnErr result (AppendsPrefix (W.contents writer.old) (W.contents writer.new) bytes.now) }
@@ -108,17 +104,16 @@ pub fn conclude<E: ProgramError, D: Diagnostics<E>>(done: Result<(), E>, diagnos
     }
 }
 
-/// Reports an error as a line of a writer, and returns its exit status.
-pub fn report<E: ProgramError + Display, W: Write>(error: E, err: &mut W) -> u8
-    ensures some { 0 < result }
+/// Reports the error, if there is one, as a line of a writer, and returns the exit status.
+pub fn conclude_on<E: ProgramError + Display, W: Write>(done: Result<(), E>, err: &mut W) -> u8
     ensures at_most { result ≤ 3 }
-    ensures status { result ≡ E.status_of error }
-    ensures line { (failed : Bool)
-        × Reports (E.output error) (W.contents err.old) false (W.contents err.new) failed }
+    ensures done { OnOk done ((result ≡ 0) × (err.new ≡ err.old)) }
+    ensures reported { IfErr done (λ error. (0 < result) × (result ≡ E.status_of error) × ((failed : Bool)
+        × Reports (E.output error) (W.contents err.old) false (W.contents err.new) failed)) }
 {
     let mut lines = ErrorLines::new(err);
-    lines.report(&error);
+    let status = conclude(done, &mut lines);
     // Proof hint: the contents of `err` follow from this use of the writer.
     let _ = &*lines.writer;
-    error.status()
+    status
 }

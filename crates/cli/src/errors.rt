@@ -2,7 +2,6 @@
 ghost use Rattle.std.specs.Prelude.{◌≡◌, ◌<◌, ◌≤◌, ℕ};
 ghost use Rattle.cli.specs.Errors.{status_of_operation, status_of_fixdec, status_of_filter, status_of_plural};
 
-use crate::arguments::ArgumentsError;
 use fixed_decimal::{ParseError, RunError, SinkFault};
 use plural_rules::RulesError;
 use std::alloc::AllocError;
@@ -134,6 +133,16 @@ impl From<RunError> for OperationError {
     }
 }
 
+impl From<SinkFault> for OperationError {
+    ghost use Rattle.cli.specs.declared.errors.OperationError.TheVariants.{Output};
+
+    ghost from_gives = { λ _ result. result ≡ Output };
+
+    fn from(_error: SinkFault) -> OperationError {
+        OperationError::Output
+    }
+}
+
 impl From<OperationError> for FixdecError {
     ghost use Rattle.cli.specs.declared.errors.FixdecError.TheVariants.{Operation};
 
@@ -161,19 +170,6 @@ impl From<SinkFault> for FixdecError {
 
     fn from(_error: SinkFault) -> FixdecError {
         FixdecError::Operation(OperationError::Output)
-    }
-}
-
-impl From<ArgumentsError> for FixdecError {
-    ghost use Rattle.cli.specs.Errors.{fixdec_of_arguments};
-
-    ghost from_gives = { λ error result. result ≡ fixdec_of_arguments error };
-
-    fn from(error: ArgumentsError) -> FixdecError {
-        match error {
-            ArgumentsError::NotText => FixdecError::Usage,
-            ArgumentsError::Memory => FixdecError::Memory,
-        }
     }
 }
 
@@ -211,19 +207,6 @@ impl ProgramError for FilterError {
             | FilterError::LongLine { .. }
             | FilterError::Input
             | FilterError::Output => 3,
-        }
-    }
-}
-
-impl From<ArgumentsError> for FilterError {
-    ghost use Rattle.cli.specs.Errors.{filter_of_arguments};
-
-    ghost from_gives = { λ error result. result ≡ filter_of_arguments error };
-
-    fn from(error: ArgumentsError) -> FilterError {
-        match error {
-            ArgumentsError::NotText => FilterError::Usage,
-            ArgumentsError::Memory => FilterError::Memory,
         }
     }
 }
@@ -287,18 +270,5 @@ impl From<SinkFault> for PluralError {
 
     fn from(_error: SinkFault) -> PluralError {
         PluralError::Output
-    }
-}
-
-impl From<ArgumentsError> for PluralError {
-    ghost use Rattle.cli.specs.Errors.{plural_of_arguments};
-
-    ghost from_gives = { λ error result. result ≡ plural_of_arguments error };
-
-    fn from(error: ArgumentsError) -> PluralError {
-        match error {
-            ArgumentsError::NotText => PluralError::Usage,
-            ArgumentsError::Memory => PluralError::Memory,
-        }
     }
 }

@@ -4,12 +4,13 @@ ghost use Rattle.std.specs.Process.{exit_status};
 ghost use Rattle.cli.specs.declared.errors.FixdecError.{FixdecError};
 ghost use Rattle.cli.specs.Arguments.{HaveWords, ArgumentsFail};
 ghost use Rattle.cli.specs.Diagnostics.{Reports};
-ghost use Rattle.cli.specs.Errors.{status_of_fixdec, fixdec_of_arguments, output};
+ghost use Rattle.cli.specs.Errors.{status_of_fixdec, output};
 ghost use Rattle.cli.specs.Fixdec.{OperationsFail, HasError, WordsFail};
 ghost use Rattle.cli.specs.Fixdec.{RunPrints, RunPrintsPrefix, Prints, PrintsPrefix};
 
+use crate::arguments::words;
 use crate::calls::parse_calls;
-use crate::diagnostics::{Diagnostics, ErrorLines, conclude, report};
+use crate::diagnostics::conclude_on;
 use crate::errors::{FixdecError, OperationError};
 use crate::help::{CALLS, help};
 use crate::output::{Closed, abandon, close, open};
@@ -36,10 +37,8 @@ pub fn print_run<W: Sink>(
         RunPrintsPrefix (W.contents sink.old) (W.contents sink.new) start.now calls.now }
 {
     run(alloc, start, calls, sink)?;
-    match sink.put_byte(b'\n') {
-        Ok(()) => Ok(()),
-        Err(_) => Err(OperationError::Output),
-    }
+    sink.put_byte(b'\n')?;
+    Ok(())
 }
 
 /// Prints the text of the run that the words ask for, and a line feed.
@@ -60,27 +59,6 @@ fn print<O: Write>(alloc: Global, words: &[String], out: &mut Out<O>) -> Result<
     print_run(alloc, start.as_bytes(), calls.as_slice(), out)?;
     out.flush()?;
     Ok(())
-}
-
-/// Runs `program` over any diagnostics: it reports the error, once, and nothing else.
-pub fn operate<O: Write, D: Diagnostics<FixdecError>>(
-    alloc: Global,
-    words: &[String],
-    out: &mut Out<O>,
-    diagnostics: &mut D,
-) -> u8
-    ensures at_most { result ≤ 3 }
-    ensures printed { result ≡ 0 → Prints words.now (O.contents out.old.0) (O.contents out.new.0) }
-    ensures has_not_failed { result ≡ 0 → out.new.1 ≡ false }
-    ensures silent { result ≡ 0 → diagnostics.new ≡ diagnostics.old }
-    ensures reported { 0 < result → (error : FixdecError) × (result ≡ status_of_fixdec error) × HasError words.now error
-        × D.reports diagnostics.old error diagnostics.new
-        × (error ≢ output → out.new ≡ out.old)
-        × (error ≡ output → (out.new.1 ≡ true)
-        × PrintsPrefix words.now (O.contents out.old.0) (O.contents out.new.0)) }
-    ensures untouched { 0 < result → result < 3 → out.new ≡ out.old }
-{
-    conclude(print(alloc, words, out), diagnostics)
 }
 
 /// Runs the program on the words after its name, and returns the exit status.
@@ -115,14 +93,7 @@ pub fn program<O: Write, E: Write>(
         × PrintsPrefix words.now (O.contents out.old.0) (O.contents out.new.0)) }
     ensures untouched { 0 < result → result < 3 → out.new ≡ out.old }
 {
-    let mut diagnostics = ErrorLines {
-        writer: err,
-        has_failed: false,
-    };
-    let status = operate(alloc, words, out, &mut diagnostics);
-    // Proof hint: the contents of `err` follow from this use of the writer.
-    let _ = &*diagnostics.writer;
-    status
+    conclude_on(print(alloc, words, out), err)
 }
 
 /// Runs `program` on the arguments of the process, with a block before `out`, which is returned after its last call.
@@ -137,15 +108,19 @@ pub fn run_arguments<O: Write + Drop, E: Write>(
         (λ closed. Prints words (O.contents out) (O.contents closed.0) × (closed.1 ≡ false))) }
     ensures silent { result.0 ≡ 0 → err.new ≡ err.old }
     ensures reported { 0 < result.0 → (error : FixdecError) × (result.0 ≡ status_of_fixdec error)
-        × ArgumentsFail fixdec_of_arguments arguments result.1 (WordsFail O.contents out) error
+        × ArgumentsFail FixdecError.Usage FixdecError.Memory arguments result.1 (WordsFail O.contents out) error
         × ((failed : Bool)
         × Reports (⟦<FixdecError as Display>⟧.output error) (E.contents err.old) false (E.contents err.new) failed)
         × (error ≢ output → IfSome result.1 (λ closed. closed ≡ (out, false))) }
     ensures untouched { 0 < result.0 → result.0 < 3 → IfSome result.1 (λ closed. closed ≡ (out, false)) }
 {
-    let (words, mut blocks) = match open(alloc, arguments, out) {
-        Ok(opened) => opened,
-        Err((error, out)) => return (report(FixdecError::from(error), err), out),
+    let words = match words(alloc, arguments) {
+        Ok(Some(words)) => words,
+        Ok(None) => return (conclude_on(Err(FixdecError::Usage), err), Some(Closed::uncalled(out))),
+        Err(_) => return (conclude_on(Err(FixdecError::Memory), err), Some(Closed::uncalled(out))),
+    };
+    let Ok(mut blocks) = open(alloc, out) else {
+        return (conclude_on(Err(FixdecError::Memory), err), None);
     };
     let status = program(alloc, words.as_slice(), &mut blocks, err);
     if status != 0 {
@@ -153,7 +128,7 @@ pub fn run_arguments<O: Write + Drop, E: Write>(
     }
     let closed = close(blocks);
     if closed.has_failed() {
-        return (report(FixdecError::from(SinkFault), err), Some(closed));
+        return (conclude_on(Err(FixdecError::from(SinkFault)), err), Some(closed));
     }
     (0, Some(closed))
 }

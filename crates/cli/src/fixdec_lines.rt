@@ -1,19 +1,19 @@
 //! `fixdec_lines [skip] [CALL]..`: makes the same calls on each line of its input, and writes a line for each.
 ghost use Rattle.std.specs.Prelude.{◌≡◌, ◌≤◌, ◌<◌, ◌⊎◌, Ok, Err, true, false, IfErr, IfSome, OnOk, IsSomeAnd};
 ghost use Rattle.std.specs.Process.{exit_status};
-ghost use Rattle.std.specs.Io.Buffered.{writer_contents, writer_inner};
 ghost use Rattle.cli.specs.declared.errors.FilterError.{FilterError};
 ghost use Rattle.cli.specs.Arguments.{HaveWords, ArgumentsFail};
-ghost use Rattle.cli.specs.Errors.{status_of_filter, filter_of_arguments};
-ghost use Rattle.cli.specs.Filter.{PrintsAll, SkipsSome, FilterFails, IsEarly, LinesFail};
+ghost use Rattle.cli.specs.Errors.{status_of_filter};
+ghost use Rattle.cli.specs.Filter.{PrintsAll, SkipsSome, IsEarly, LinesFail};
 ghost use Rattle.cli.specs.Steps.{IsSplit};
 
+use crate::arguments::words;
 use crate::calls::parse_calls;
-use crate::diagnostics::{Diagnostics, ErrorLines};
-use crate::errors::{FilterError, ProgramError};
+use crate::diagnostics::{Diagnostics, ErrorLines, conclude};
+use crate::errors::FilterError;
 use crate::filter::{OnRefusal, filter_in_blocks};
 use crate::help::{CALLS, help};
-use crate::output::{Blocks, Closed, abandon, open};
+use crate::output::{Closed, open};
 use std::alloc::Global;
 use std::env::Args;
 use std::io::{BufReader, Read, Write};
@@ -33,43 +33,47 @@ fn split_skip(words: &[String]) -> (OnRefusal, &[String])
     }
 }
 
-/// Runs the filter that the words ask for, behind a block, and returns the writer after its last call.
+/// Runs the filter that the words ask for, with a block before `out`, which is returned after its last call.
 fn filter_words<R: Read, O: Write + Drop, D: Diagnostics<FilterError>>(
     alloc: Global,
     words: &[String],
     input: &mut R,
-    blocks: Blocks<O>,
+    out: O,
     diagnostics: &mut D,
-) -> (Result<bool, FilterError>, Closed<O>)
-    ensures printed { result.0 ≡ Ok true → PrintsAll words.now (R.remaining input.old)
-        (writer_contents O.contents blocks.0) (O.contents result.1.0) }
+) -> (Result<bool, FilterError>, Option<Closed<O>>)
+    ensures printed { result.0 ≡ Ok true → IsSomeAnd result.1 (λ closed. PrintsAll words.now (R.remaining input.old)
+        (O.contents out) (O.contents closed.0) × (closed.1 ≡ false)) }
     ensures silent { result.0 ≡ Ok true → diagnostics.new ≡ diagnostics.old }
-    ensures skipped { result.0 ≡ Ok false → SkipsSome D.reports words.now (R.remaining input.old)
-        (writer_contents O.contents blocks.0) (O.contents result.1.0) diagnostics.old diagnostics.new }
-    ensures works { OnOk result.0 (result.1.1 ≡ false) }
-    ensures error { IfErr result.0 (FilterFails D.reports words.now (R.remaining input.old)
-        (writer_contents O.contents blocks.0) (O.contents result.1.0) diagnostics.old diagnostics.new) }
-    ensures failed { result.0 ≡ Err FilterError.Output → result.1.1 ≡ true }
-    ensures untouched { IfErr result.0 (λ error. IsEarly error → result.1 ≡ (writer_inner blocks.0, blocks.1)) }
+    ensures skipped { result.0 ≡ Ok false → IsSomeAnd result.1 (λ closed. SkipsSome D.reports words.now
+        (R.remaining input.old) (O.contents out) (O.contents closed.0) diagnostics.old diagnostics.new
+        × (closed.1 ≡ false)) }
+    ensures error { IfErr result.0 (LinesFail D.reports O.contents (R.remaining input.old) out diagnostics.old
+        diagnostics.new words.now result.1) }
+    ensures untouched { IfErr result.0
+        (λ error. IsEarly error → IfSome result.1 (λ closed. closed ≡ (out, false))) }
     ensures unread { result.0 ≡ Err FilterError.Usage → input.new ≡ input.old }
 {
     let (on_refusal, words) = split_skip(words);
     let calls = match parse_calls(alloc, words) {
         Ok(Some(calls)) => calls,
-        Ok(None) => return (Err(FilterError::Usage), abandon(blocks)),
-        Err(_) => return (Err(FilterError::Memory), abandon(blocks)),
+        Ok(None) => return (Err(FilterError::Usage), Some(Closed::uncalled(out))),
+        Err(_) => return (Err(FilterError::Memory), Some(Closed::uncalled(out))),
     };
     let Ok(mut reader) = BufReader::with_capacity(alloc, BLOCK, input) else {
-        return (Err(FilterError::Memory), abandon(blocks));
+        return (Err(FilterError::Memory), Some(Closed::uncalled(out)));
     };
-    filter_in_blocks(
+    let Ok(blocks) = open(alloc, out) else {
+        return (Err(FilterError::Memory), None);
+    };
+    let (filtered, closed) = filter_in_blocks(
         alloc,
         on_refusal,
         calls.as_slice(),
         &mut reader,
         blocks,
         diagnostics,
-    )
+    );
+    (filtered, Some(closed))
 }
 
 /// Runs the program on the arguments of the process, over any diagnostics, with a block before `out`, which is returned
@@ -98,27 +102,22 @@ pub fn run_arguments<R: Read, O: Write + Drop, D: Diagnostics<FilterError>>(
         SkipsSome D.reports words (R.remaining input.old) (O.contents out) (O.contents closed.0)
         diagnostics.old diagnostics.new × (closed.1 ≡ false))))
         ⊎ ((error : FilterError) × (before : D) × (result.0 ≡ status_of_filter error)
-        × ArgumentsFail filter_of_arguments arguments result.1
+        × ArgumentsFail FilterError.Usage FilterError.Memory arguments result.1
         (LinesFail D.reports O.contents (R.remaining input.old) out diagnostics.old before) error
         × D.reports before error diagnostics.new
         × (IsEarly error → IfSome result.1 (λ closed. closed ≡ (out, false)))) }
     ensures untouched { result.0 ≡ 2 → (input.new ≡ input.old) × IfSome result.1 (λ closed. closed ≡ (out, false)) }
 {
-    let (words, blocks) = match open(alloc, arguments, out) {
-        Ok(opened) => opened,
-        Err((error, out)) => {
-            let error = FilterError::from(error);
-            diagnostics.report(&error);
-            return (error.status(), out);
-        }
+    let words = match words(alloc, arguments) {
+        Ok(Some(words)) => words,
+        Ok(None) => return (conclude(Err(FilterError::Usage), diagnostics), Some(Closed::uncalled(out))),
+        Err(_) => return (conclude(Err(FilterError::Memory), diagnostics), Some(Closed::uncalled(out))),
     };
-    match filter_words(alloc, words.as_slice(), input, blocks, diagnostics) {
-        (Ok(true), closed) => (0, Some(closed)),
-        (Ok(false), closed) => (1, Some(closed)),
-        (Err(error), closed) => {
-            diagnostics.report(&error);
-            (error.status(), Some(closed))
-        }
+    let (filtered, closed) = filter_words(alloc, words.as_slice(), input, out, diagnostics);
+    match filtered {
+        Ok(true) => (0, closed),
+        Ok(false) => (1, closed),
+        Err(error) => (conclude(Err(error), diagnostics), closed),
     }
 }
 

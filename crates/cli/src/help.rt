@@ -48,7 +48,7 @@ pub fn help<O: Write>(
         Appends (O.contents out.old) (O.contents out.new) (usage.now ++ table.now) }
     ensures silent { result ≡ None → out.new ≡ out.old }
 {
-    let words = words(alloc, arguments).ok()?;
+    let words = words(alloc, arguments).ok()??;
     match words.as_slice() {
         [word] if word.as_str() == "--help" || word.as_str() == "-h" => {}
         _ => return None,

@@ -15,7 +15,6 @@ mod help;
 mod output;
 pub mod plural;
 
-pub use arguments::ArgumentsError;
 pub use calls::parse_calls;
 pub use diagnostics::{Diagnostics, ErrorLines};
 pub use errors::{FilterError, FixdecError, OperationError, PluralError, ProgramError, Reason};

@@ -1,14 +1,10 @@
 //! Standard output behind a block of bytes.
-ghost use Rattle.std.specs.Prelude.{◌≡◌, List, [], ℕ, Bool, true, false, IfOk, IfErr, IfSome};
+ghost use Rattle.std.specs.Prelude.{◌≡◌, List, [], ℕ, Bool, true, false, IfOk};
 ghost use Rattle.std.specs.Io.KnownBytes.{Keeps, append_known};
 ghost use Rattle.std.specs.Io.Buffered.{writer_contents, writer_inner, writer_buffer};
-ghost use Rattle.cli.specs.Arguments.{HaveWords, OpeningFails};
 
-use crate::arguments::{ArgumentsError, words};
 use fixed_decimal::{Out, Sink};
-use std::alloc::Global;
-use std::env::Args;
-use std::io;
+use std::alloc::{AllocError, Global};
 use std::io::{BufWriter, Write};
 use std::marker::Model;
 
@@ -57,30 +53,19 @@ impl<O> Closed<O> {
     }
 }
 
-/// Reads the words of the arguments, and allocates the block before a writer.
+/// Allocates the block before a writer.
 ///
 /// # Errors
 ///
-/// - The words cannot be had; the writer is returned.
-/// - Out of memory for the block; the writer is dropped.
-pub fn open<O: Write + Drop>(
-    alloc: Global,
-    arguments: io::Result<Args>,
-    out: O,
-) -> Result<(Vec<String>, Blocks<O>), (ArgumentsError, Option<Closed<O>>)>
-    ensures words { IfOk result (λ opened. HaveWords arguments (λ words. opened.0.items ≡ words)) }
-    ensures inner { IfOk result (λ opened. writer_inner opened.1.0 ≡ out) }
-    ensures empty { IfOk result (λ opened. writer_buffer opened.1.0 ≡ []) }
-    ensures works { IfOk result (λ opened. opened.1.1 ≡ false) }
-    ensures none { IfErr result (λ failed. OpeningFails arguments out failed.0 failed.1) }
+/// Out of memory; the writer is dropped.
+pub fn open<O: Write + Drop>(alloc: Global, out: O) -> Result<Blocks<O>, AllocError>
+    ensures inner { IfOk result (λ blocks. writer_inner blocks.0 ≡ out) }
+    ensures empty { IfOk result (λ blocks. writer_buffer blocks.0 ≡ []) }
+    ensures works { IfOk result (λ blocks. blocks.1 ≡ false) }
 {
-    let words = match words(alloc, arguments) {
-        Ok(words) => words,
-        Err(error) => return Err((error, Some(Closed::uncalled(out)))),
-    };
     match BufWriter::with_capacity(alloc, BLOCK, out) {
-        Ok(buffer) => Ok((words, Out::new(buffer))),
-        Err(_) => Err((ArgumentsError::Memory, None)),
+        Ok(buffer) => Ok(Out::new(buffer)),
+        Err(_) => Err(AllocError),
     }
 }
 

@@ -1,17 +1,17 @@
 //! `plural RULES TEXT..`: reads plural rules, and prints the category of each text on a line.
-ghost use Rattle.std.specs.Prelude.{◌≡◌, ◌<◌, ◌≤◌, Err, IfErr, IfSome, OnOk, IsSomeAnd, true, false};
+ghost use Rattle.std.specs.Prelude.{◌≡◌, ◌<◌, ◌≤◌, IfOk, IfErr, OnOk, IsSomeAnd, false};
 ghost use Rattle.std.specs.Process.{exit_status};
 ghost use Rattle.cli.specs.declared.errors.PluralError.{PluralError};
 ghost use Rattle.cli.specs.Arguments.{HaveWords, ArgumentsFail};
-ghost use Rattle.cli.specs.Errors.{status_of_plural, plural_of_arguments};
-ghost use Rattle.cli.specs.Plural.{Prints, Stops, PluralFails};
+ghost use Rattle.cli.specs.Errors.{status_of_plural};
+ghost use Rattle.cli.specs.Plural.{HasRules, RulesFail, Prints, PluralFails};
 
+use crate::arguments::words;
 use crate::categories::print_categories;
 use crate::diagnostics::{Diagnostics, ErrorLines, conclude};
 use crate::errors::PluralError;
 use crate::help::{OPERANDS, help};
 use crate::output::{Closed, close, open};
-use fixed_decimal::Out;
 use plural_rules::PluralRules;
 use std::alloc::Global;
 use std::env::Args;
@@ -19,12 +19,15 @@ use std::io::Write;
 use std::process::ExitCode;
 use std::{env, io};
 
-/// Prints the categories of the texts after the rules.
-fn print<O: Write>(alloc: Global, words: &[String], out: &mut Out<O>) -> Result<(), PluralError>
-    ensures printed { OnOk result (Prints words.now (O.contents out.old.0) (O.contents out.new.0)) }
-    ensures has_not_failed { OnOk result (out.new.1 ≡ false) }
-    ensures stopped { IfErr result (Stops words.now (O.contents out.old.0) (O.contents out.new.0)) }
-    ensures failed { result ≡ Err PluralError.Output → out.new.1 ≡ true }
+/// Parses the first word as rules, and returns them with the other words.
+///
+/// # Errors
+///
+/// There are no rules or no texts, the rules are rejected, or memory for them.
+fn rules_and_texts(alloc: Global, words: &[String]) -> Result<(PluralRules, &[String]), PluralError>
+    ensures found { IfOk result (λ found. HasRules words.now (λ rules texts. (rules ≡ found.0)
+        × (texts ≡ found.1.now))) }
+    ensures error { IfErr result (RulesFail words.now) }
 {
     let Some((rules, texts)) = words.split_first() else {
         return Err(PluralError::Usage);
@@ -33,12 +36,36 @@ fn print<O: Write>(alloc: Global, words: &[String], out: &mut Out<O>) -> Result<
         return Err(PluralError::Usage);
     }
     let rules = PluralRules::try_from_str(alloc, rules.as_str())?;
-    let printed = print_categories(alloc, &rules, texts, out);
-    out.flush()?;
-    printed
+    Ok((rules, texts))
 }
 
-/// Runs the program on the words after its name, over any diagnostics, and returns the exit status.
+/// Prints the categories of the texts after the rules through a block, and returns the writer after its last call.
+fn print<O: Write + Drop>(
+    alloc: Global,
+    words: &[String],
+    out: O,
+) -> (Result<(), PluralError>, Option<Closed<O>>)
+    ensures printed { OnOk result.0 (IsSomeAnd result.1 (λ closed.
+        Prints words.now (O.contents out) (O.contents closed.0) × (closed.1 ≡ false))) }
+    ensures error { IfErr result.0 (PluralFails O.contents out words.now result.1) }
+{
+    let (rules, texts) = match rules_and_texts(alloc, words) {
+        Ok(found) => found,
+        Err(error) => return (Err(error), Some(Closed::uncalled(out))),
+    };
+    let Ok(mut blocks) = open(alloc, out) else {
+        return (Err(PluralError::Memory), None);
+    };
+    let printed = print_categories(alloc, &rules, texts, &mut blocks);
+    let closed = close(blocks);
+    if closed.has_failed() {
+        return (Err(PluralError::Output), Some(closed));
+    }
+    (printed, Some(closed))
+}
+
+/// Runs the program on the arguments of the process, over any diagnostics, with a block before `out`, which is returned
+/// after its last call.
 ///
 /// The first word is rules, and each other word a text: a compact decimal where it has a `c`, and else a decimal. The
 /// words `one: i = 1 and v = 0`, `1` and `1.0` print `one` and `other`.
@@ -50,25 +77,6 @@ fn print<O: Write>(alloc: Global, words: &[String], out: &mut Out<O>) -> Result<
 /// - Status 1: the rules or a text are rejected, as `rules: syntax at 4` and `text 2: limit`.
 /// - Status 2: no rules or no text.
 /// - Status 3: `memory`, or `output` where a write or the flush of `out` fails.
-pub fn program<O: Write, D: Diagnostics<PluralError>>(
-    alloc: Global,
-    words: &[String],
-    out: &mut Out<O>,
-    diagnostics: &mut D,
-) -> u8
-    ensures at_most { result ≤ 3 }
-    ensures printed { result ≡ 0 → Prints words.now (O.contents out.old.0) (O.contents out.new.0) }
-    ensures has_not_failed { result ≡ 0 → out.new.1 ≡ false }
-    ensures silent { result ≡ 0 → diagnostics.new ≡ diagnostics.old }
-    ensures reported { 0 < result → (error : PluralError) × (result ≡ status_of_plural error)
-        × Stops words.now (O.contents out.old.0) (O.contents out.new.0) error
-        × D.reports diagnostics.old error diagnostics.new
-        × (error ≡ PluralError.Output → out.new.1 ≡ true) }
-{
-    conclude(print(alloc, words, out), diagnostics)
-}
-
-/// Runs `program` on the arguments of the process, with a block before `out`, which is returned after its last call.
 pub fn run_arguments<O: Write + Drop, D: Diagnostics<PluralError>>(
     alloc: Global,
     arguments: io::Result<Args>,
@@ -80,25 +88,17 @@ pub fn run_arguments<O: Write + Drop, D: Diagnostics<PluralError>>(
         (λ closed. Prints words (O.contents out) (O.contents closed.0) × (closed.1 ≡ false))) }
     ensures silent { result.0 ≡ 0 → diagnostics.new ≡ diagnostics.old }
     ensures reported { 0 < result.0 → (error : PluralError) × (result.0 ≡ status_of_plural error)
-        × ArgumentsFail plural_of_arguments arguments result.1 (PluralFails O.contents out) error
+        × ArgumentsFail PluralError.Usage PluralError.Memory arguments result.1 (PluralFails O.contents out) error
         × D.reports diagnostics.old error diagnostics.new }
 {
-    let (words, mut blocks) = match open(alloc, arguments, out) {
-        Ok(opened) => opened,
-        Err((error, out)) => return (conclude(Err(PluralError::from(error)), diagnostics), out),
+    let words = match words(alloc, arguments) {
+        Ok(Some(words)) => words,
+        Ok(None) => return (conclude(Err(PluralError::Usage), diagnostics), Some(Closed::uncalled(out))),
+        Err(_) => return (conclude(Err(PluralError::Memory), diagnostics), Some(Closed::uncalled(out))),
     };
-    let status = program(alloc, words.as_slice(), &mut blocks, diagnostics);
-    if status != 0 {
-        return (status, Some(close(blocks)));
-    }
-    let closed = close(blocks);
-    if closed.has_failed() {
-        return (
-            conclude(Err(PluralError::Output), diagnostics),
-            Some(closed),
-        );
-    }
-    (0, Some(closed))
+    let (printed, closed) = print(alloc, words.as_slice(), out);
+    let status = conclude(printed, diagnostics);
+    (status, closed)
 }
 
 /// Runs the process: `run_arguments` on its arguments, standard output and standard error.

@@ -2,10 +2,12 @@
 ghost use Rattle.std.specs.Prelude.{◌≤◌};
 
 use cli::ErrorLines;
-use cli::plural::program;
+use cli::plural::run_arguments;
 use decimal_doubles::{FailingWriter, WriteFailure};
-use fixed_decimal::Out;
 use std::alloc::Global;
+use std::env::Args;
+use std::io;
+use std::io::ErrorKind;
 use std::process::Abort;
 use std::test::Fail;
 
@@ -30,13 +32,14 @@ const LINES: &[(&str, &str)] = &[
     ("one: i = 1|1c256", "1 text 1: limit\n"),
 ];
 
-/// The words of a line.
-fn words(alloc: Global, line: &str) -> Result<Vec<String>, Fail> {
+/// The arguments of a line: the name of the program, and its words.
+fn arguments(alloc: Global, line: &str) -> Result<Args, Fail> {
     let mut words = Vec::new(alloc);
+    words.push(String::from_str(alloc, "plural")?)?;
     for word in line.split('|') {
         words.push(String::from_str(alloc, word)?)?;
     }
-    Ok(words)
+    Ok(words.into_iter())
 }
 
 /// What standard output took, the status, and what standard error took.
@@ -49,14 +52,13 @@ fn told(mut out: Vec<u8>, status: u8, err: &[u8]) -> Result<Vec<u8>, Fail>
     Ok(out)
 }
 
-/// What a line prints.
-fn printed(alloc: Global, line: &str) -> Result<Vec<u8>, Fail> {
-    let words = words(alloc, line)?;
-    let mut out = Out::new(Vec::<u8>::new(alloc));
+/// What arguments print.
+fn printed(alloc: Global, arguments: io::Result<Args>) -> Result<Vec<u8>, Fail> {
     let mut err = Vec::<u8>::new(alloc);
     let mut lines = ErrorLines::new(&mut err);
-    let status = program(alloc, words.as_slice(), &mut out, &mut lines);
-    told(out.into_writer(), status, err.as_slice())
+    let (status, out) = run_arguments(alloc, arguments, Vec::<u8>::new(alloc), &mut lines);
+    let out = out.map_or(Vec::new(alloc), |closed| closed.into_writer());
+    told(out, status, err.as_slice())
 }
 
 /// Asserts what was printed.
@@ -68,24 +70,32 @@ fn assert_prints(rt: &impl Abort, found: Vec<u8>, text: &str) {
 fn lines(rt: HostRuntime) -> Result<(), Fail> {
     let alloc = rt.alloc();
     for (line, text) in LINES {
-        assert_prints(&rt, printed(alloc, line)?, text);
+        assert_prints(&rt, printed(alloc, Ok(arguments(alloc, line)?))?, text);
     }
+    Ok(())
+}
+
+#[test]
+fn reports_why_there_are_no_words(rt: HostRuntime) -> Result<(), Fail> {
+    let no_memory = Err(io::Error::from(ErrorKind::OutOfMemory));
+    assert_prints(&rt, printed(rt.alloc(), no_memory)?, "3 memory\n");
+    let not_text = Err(io::Error::from(ErrorKind::InvalidData));
+    assert_prints(&rt, printed(rt.alloc(), not_text)?, "2 usage: plural RULES TEXT..\n");
     Ok(())
 }
 
 #[test]
 fn reports_a_failed_output(rt: HostRuntime) -> Result<(), Fail> {
     let alloc = rt.alloc();
-    let words = words(alloc, "one: i = 1|1|2")?;
     for room in 0..10 {
+        let arguments = arguments(alloc, "one: i = 1|1|2")?;
         let writer = FailingWriter::new(b"one\nother\n", room, WriteFailure::Fault);
-        let mut out = Out::new(writer);
         let mut err = Vec::<u8>::new(alloc);
         let mut lines = ErrorLines::new(&mut err);
-        let status = program(alloc, words.as_slice(), &mut out, &mut lines);
+        let (status, out) = run_arguments(alloc, Ok(arguments), writer, &mut lines);
         assert_eq!(rt; status, 3);
         assert_eq!(rt; err.as_slice(), b"output\n".as_slice());
-        assert!(rt; out.into_writer().has_taken(room));
+        assert!(rt; out.is_some_and(|closed| closed.into_writer().has_taken(room)));
     }
     Ok(())
 }

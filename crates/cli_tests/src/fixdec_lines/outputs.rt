@@ -89,7 +89,7 @@ fn holds(alloc: Global, row: Row, refusal: WriteFailure) -> Result<bool, Fail> {
     let arguments = words(alloc, row.0)?.into_iter();
     let (text, room) = row.2;
     let (told, err_room) = row.3;
-    let mut input = PatternReader::new(Pattern::of(row.1), 100, false);
+    let mut input = PatternReader::new(Pattern::of(row.1), 100);
     let out = FailingWriter::new(text, room, refusal);
     let mut err = FailingWriter::new(told, err_room, refusal);
     let mut lines = ErrorLines::new(&mut err);

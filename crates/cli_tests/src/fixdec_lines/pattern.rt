@@ -52,21 +52,26 @@ impl<'a> Pattern<'a> {
     }
 }
 
-/// A reader of a text, which gives so many bytes at a read, and answers an error at the end where it is broken.
+/// A reader of a text, which gives so many bytes at a read, and may fail at the end.
 #[derive(Drop)]
 pub struct PatternReader<'a> {
     text: Pattern<'a>,
     most: usize,
-    is_broken: bool,
+    failure: Option<ErrorKind>,
 }
 
 impl<'a> PatternReader<'a> {
-    /// A reader of a text.
-    pub fn new(text: Pattern<'a>, most: usize, is_broken: bool) -> Self {
+    /// A reader of a text that does not fail.
+    pub fn new(text: Pattern<'a>, most: usize) -> Self {
+        PatternReader::failing(text, most, None)
+    }
+
+    /// A reader of a text that fails so at the end.
+    pub fn failing(text: Pattern<'a>, most: usize, failure: Option<ErrorKind>) -> Self {
         PatternReader {
             text,
             most,
-            is_broken,
+            failure,
         }
     }
 
@@ -79,8 +84,10 @@ impl<'a> PatternReader<'a> {
 impl Read for PatternReader<'_> {
     fn read(&mut self, buf: &mut [u8]) -> io::Result<usize> {
         let taken = self.text.take(self.most.min(buf.len()));
-        if taken.is_empty() && self.is_broken {
-            return Err(io::Error::from(ErrorKind::BrokenPipe));
+        if let Some(failure) = self.failure
+            && taken.is_empty()
+        {
+            return Err(io::Error::from(failure));
         }
         buf[..taken.len()].copy_from_slice(taken);
         Ok(taken.len())

@@ -5,6 +5,7 @@ use cli::ErrorLines;
 use cli::fixdec_lines::run_arguments;
 use decimal_doubles::{FailingWriter, WriteFailure};
 use std::alloc::Global;
+use std::io::ErrorKind;
 use std::test::Fail;
 
 /// Words, an input, what standard output and standard error take, and the status.
@@ -140,10 +141,17 @@ const BROKEN: &[Row] = &[
 
 const USAGE: &[u8] = b"usage: fixdec_lines [skip] [CALL]..\n";
 
-/// Whether a row holds with so many bytes at a read.
-fn holds(alloc: Global, row: Row, most: usize, is_broken: bool) -> Result<bool, Fail> {
+/// What is answered where the reader is out of memory behind the input.
+const NO_MEMORY: &[Row] = &[
+    ("fixdec_lines", b"", b"", b"line 1: memory\n", 3),
+    ("fixdec_lines", b"7\n8", b"7\n", b"line 2: memory\n", 3),
+    ("fixdec_lines skip", b"x\n", b"\n", b"line 1: start: syntax\nline 2: memory\n", 3),
+];
+
+/// Whether a row holds with so many bytes at a read, of a reader that fails so behind the input.
+fn holds(alloc: Global, row: Row, most: usize, failure: Option<ErrorKind>) -> Result<bool, Fail> {
     let arguments = words(alloc, row.0)?.into_iter();
-    let mut input = PatternReader::new(Pattern::of(row.1), most, is_broken);
+    let mut input = PatternReader::failing(Pattern::of(row.1), most, failure);
     let out = FailingWriter::new(row.2, usize::MAX, WriteFailure::Fault);
     let mut err = FailingWriter::new(row.3, usize::MAX, WriteFailure::Fault);
     let mut lines = ErrorLines::new(&mut err);
@@ -152,22 +160,23 @@ fn holds(alloc: Global, row: Row, most: usize, is_broken: bool) -> Result<bool, 
     Ok(status == row.4 && has_all && (status != 2 || input.is_spent() == row.1.is_empty()))
 }
 
-#[test]
-fn answers_in_pieces(rt: HostRuntime) -> Result<(), Fail> {
+/// Asserts that rows hold, with a few bytes at a read and with many.
+fn assert_rows(
+    rt: &HostRuntime,
+    rows: &[Row],
+    failure: Option<ErrorKind>,
+) -> Result<(), Fail> {
     for most in [1, 2, 5, 100] {
-        for row in ROWS {
-            assert!(rt; holds(rt.alloc(), *row, most, false)?, "{} {most}", row.0);
+        for row in rows {
+            assert!(rt; holds(rt.alloc(), *row, most, failure)?, "{} {most}", row.0);
         }
     }
     Ok(())
 }
 
 #[test]
-fn tells_a_broken_input(rt: HostRuntime) -> Result<(), Fail> {
-    for most in [1, 2, 5, 100] {
-        for row in BROKEN {
-            assert!(rt; holds(rt.alloc(), *row, most, true)?, "{} {most}", row.0);
-        }
-    }
-    Ok(())
+fn answers_in_pieces(rt: HostRuntime) -> Result<(), Fail> {
+    assert_rows(&rt, ROWS, None)?;
+    assert_rows(&rt, BROKEN, Some(ErrorKind::BrokenPipe))?;
+    assert_rows(&rt, NO_MEMORY, Some(ErrorKind::OutOfMemory))
 }

@@ -68,7 +68,7 @@ fn text(parts: Text) -> Pattern<'static> {
 /// Whether a row holds with so many bytes at a read.
 fn holds(alloc: Global, row: Row, most: usize) -> Result<bool, Fail> {
     let arguments = words(alloc, row.0)?.into_iter();
-    let mut input = PatternReader::new(text(row.1), most, false);
+    let mut input = PatternReader::new(text(row.1), most);
     let out = PatternWriter::new(text(row.2));
     let mut err = PatternWriter::new(text(row.3));
     let mut lines = ErrorLines::new(&mut err);

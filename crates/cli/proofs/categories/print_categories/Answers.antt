@@ -5,7 +5,8 @@ use Rattle.decimal_digits.specs.Text.{AppendsPrefix}
 use Rattle.cli.specs.declared.errors.PluralError.TheVariants.{Output}
 use Rattle.cli.specs.Categories.{read_category, line_of}
 use Rattle.cli.specs.Categories.{TextFails, StopsAt}
-use Rattle.cli.proofs.Printing.{err_with, prints_more, stops_here}
+use Rattle.cli.proofs.Printing.{prints_more, stops_here}
+use Rattle.cli.proofs.Programs.{err_with}
 use Rattle.cli.proofs.categories.print_categories.Goals as goal
 
 pub returns-in_err-print_category-clause-stopped : goal.returns-in_err-print_category-clause-stopped
@@ -23,8 +24,8 @@ returns-in_err-print_category-clause-stopped g c =
     err_with (StopsAt rules c.args.texts.now (contents c.args.sink.now) (contents c.print_category.new.sink))
     c.from_residual.result error c.from_residual.ensures.1
     (stops_here rules c.args.texts.now c.loop-index.index text (contents c.args.sink.now) (contents c.loop-index.sink)
-    (contents c.print_category.new.sink) error c.loop-index-test.true c.index-texts-index.is c.loop-index.invariant
-    fails (λ other. ap contents (c.in_err-print_category.ensures.untouched other)) part)
+    (contents c.print_category.new.sink) c.loop-index-test.true c.index-texts-index.is c.loop-index.invariant
+    error fails (λ other. ap contents (c.in_err-print_category.ensures.untouched other)) part)
 
 pub loop-index-preserved : goal.loop-index-preserved
 loop-index-preserved g c =

@@ -1,73 +1,70 @@
-use Rattle.std.proofs.Common.{◌≡◌, ◌<◌, ◌∷◌, length, string_bytes, Err, refl, subst, inl, inr, rules}
-use Rattle.plural_rules.specs.RulesGrammar.{Grammar}
-use Rattle.plural_rules.specs.RulesRefusal.{Answers}
+use Rattle.std.proofs.Common.{◌≡◌, Err, inr, sym, ap, true, false, ◌∙◌, rules}
+use Rattle.std.proofs.lemmas.Bool.{false≢true}
+use Rattle.std.specs.Io.KnownBytes.{append_known}
+use Rattle.std.specs.Io.Buffered.{writer_contents}
 use Rattle.cli.specs.declared.errors.PluralError.TheVariants.{Output}
 use Rattle.cli.specs.Categories.{PrintsAll, StopsAt}
-use Rattle.cli.specs.Plural.{Stops}
-use Rattle.cli.specs.Errors.{error_of_rules}
-use Rattle.cli.proofs.Printing.{err_with, rules_fail, all_kept, stop_kept, either_begun, has_rules, ok_weaker, err_weaker}
+use Rattle.cli.proofs.Asking.{new_writer, settled}
+use Rattle.cli.proofs.Programs.{err_map, ok_weaker}
+use Rattle.cli.proofs.Printing.{all_kept, stop_kept, begun, has_rules}
 use Rattle.cli.proofs.plural.print.Goals as goal
 
-pub returns-in_err-rules-clause-stopped : goal.returns-in_err-rules-clause-stopped
-returns-in_err-rules-clause-stopped g c =
-    let words = c.args.words.now in
-    let first = c.in-Some.rules.now in
-    let texts = c.in-Some.texts.now in
-    let old = g.O.Write.contents c.args.out.now.0 in
-    let error = c.in_err-rules.field-0.0 in
-    let is : words ≡ first ∷ texts = search rules in
-    let some : 0 < length texts = search rules in
-    let answers : Answers (string_bytes first) (Err error) =
-    subst (λ text. Answers text (Err error)) c.as_str.ensures.value c.in_err-rules.ensures in
-    err_with (Stops words old old) c.from_residual.result (error_of_rules error) c.from_residual.ensures.1
-    (inl (rules_fail words first texts error (error_of_rules error) is some refl answers, refl))
-
-pub returns-in_err-flush-clause-stopped : goal.returns-in_err-flush-clause-stopped
-returns-in_err-flush-clause-stopped g c =
-    let words = c.args.words.now in
-    let first = c.in-Some.rules.now in
-    let texts = c.in-Some.texts.now in
-    let meaning = c.in_ok-rules.rules in
-    let old = g.O.Write.contents c.args.out.now.0 in
-    let mid = g.O.Write.contents c.print_categories-printed.new.sink.0 in
-    let new = g.O.Write.contents c.flush.new.self.0 in
-    let is : words ≡ first ∷ texts = search rules in
-    let some : 0 < length texts = search rules in
-    let grammar : Grammar (string_bytes first) meaning = rw c.as_str.ensures.value at c.in_ok-rules.ensures in
-    err_with (Stops words old new) c.from_residual-in_err-flush.result Output c.from_residual-in_err-flush.ensures.1
-    (inr (has_rules words first texts meaning (λ rules texts. StopsAt rules texts old new Output) is some grammar
-    (either_begun meaning texts old mid new c.print_categories-printed.result c.print_categories-printed.ensures.printed
-    c.print_categories-printed.ensures.stopped c.flush.ensures.keeps)))
+pub returns-then-has_failed-clause-error : goal.returns-then-has_failed-clause-error
+returns-then-has_failed-clause-error g c =
+    let contents = g.O.Write.contents in
+    let rules = c.in-Ok.found.0 in
+    let texts = c.in-Ok.found.1.now in
+    let old = contents c.args.out in
+    let new = contents c.close-closed.result.0 in
+    let mid = writer_contents contents c.print_categories-printed.new.sink.0 in
+    let taken : writer_contents contents c.in-Ok-open.blocks.0 ≡ old =
+    new_writer contents c.in-Ok-open.blocks.0 c.args.out c.in-Ok-open.ensures.inner c.in-Ok-open.ensures.empty in
+    let printed = c.print_categories-printed in
+    let (unwritten, keeps) = c.close-closed.ensures.prefix in
+    let failed : c.close-closed.result.1 ≡ true = search rules in
+    let stop : StopsAt rules texts old (append_known new unwritten) Output =
+    begun rules texts old mid (append_known new unwritten) keeps printed.result (rw taken at printed.ensures.printed)
+    (rw taken at printed.ensures.stopped) in
+    inr (unwritten, (λ works. absurd (false≢true (sym works ∙ failed))), (λ _. failed),
+    has_rules c.args.words.now rules texts (λ rules texts. StopsAt rules texts old (append_known new unwritten) Output)
+    c.in-Ok.ensures.found stop)
 
 pub returns-clause-printed : goal.returns-clause-printed
 returns-clause-printed g c =
-    let words = c.args.words.now in
-    let first = c.in-Some.rules.now in
-    let texts = c.in-Some.texts.now in
-    let meaning = c.in_ok-rules.rules in
-    let old = g.O.Write.contents c.args.out.now.0 in
-    let mid = g.O.Write.contents c.print_categories-printed.new.sink.0 in
-    let new = g.O.Write.contents c.flush.new.self.0 in
-    let is : words ≡ first ∷ texts = search rules in
-    let some : 0 < length texts = search rules in
-    let grammar : Grammar (string_bytes first) meaning = rw c.as_str.ensures.value at c.in_ok-rules.ensures in
+    let contents = g.O.Write.contents in
+    let rules = c.in-Ok.found.0 in
+    let texts = c.in-Ok.found.1.now in
+    let old = contents c.args.out in
+    let new = contents c.close-closed.result.0 in
+    let mid = writer_contents contents c.print_categories-printed.new.sink.0 in
+    let taken : writer_contents contents c.in-Ok-open.blocks.0 ≡ old =
+    new_writer contents c.in-Ok-open.blocks.0 c.args.out c.in-Ok-open.ensures.inner c.in-Ok-open.ensures.empty in
+    let works : c.close-closed.result.1 ≡ false = search rules in
     ok_weaker c.print_categories-printed.result
-    (λ printed. has_rules words first texts meaning (λ rules texts. PrintsAll rules texts old new) is some grammar
-    (all_kept meaning texts old mid new printed c.flush.ensures.keeps)) c.print_categories-printed.ensures.printed
+    (λ all.
+    let q : PrintsAll rules texts old mid = rw taken at all in (
+      has_rules c.args.words.now rules texts (λ rules texts. PrintsAll rules texts old new) c.in-Ok.ensures.found
+          (all_kept rules texts old mid new (c.close-closed.ensures.written works) q),
+      works,
+    ))
+    c.print_categories-printed.ensures.printed
 
-pub returns-clause-stopped : goal.returns-clause-stopped
-returns-clause-stopped g c =
-    let words = c.args.words.now in
-    let first = c.in-Some.rules.now in
-    let texts = c.in-Some.texts.now in
-    let meaning = c.in_ok-rules.rules in
-    let old = g.O.Write.contents c.args.out.now.0 in
-    let mid = g.O.Write.contents c.print_categories-printed.new.sink.0 in
-    let new = g.O.Write.contents c.flush.new.self.0 in
-    let is : words ≡ first ∷ texts = search rules in
-    let some : 0 < length texts = search rules in
-    let grammar : Grammar (string_bytes first) meaning = rw c.as_str.ensures.value at c.in_ok-rules.ensures in
-    err_weaker c.print_categories-printed.result
-    (λ error stop. inr (has_rules words first texts meaning (λ rules texts. StopsAt rules texts old new error) is some
-    grammar (stop_kept meaning texts old mid new error stop c.flush.ensures.keeps)))
+pub returns-clause-error : goal.returns-clause-error
+returns-clause-error g c =
+    let contents = g.O.Write.contents in
+    let rules = c.in-Ok.found.0 in
+    let texts = c.in-Ok.found.1.now in
+    let old = contents c.args.out in
+    let new = contents c.close-closed.result.0 in
+    let mid = writer_contents contents c.print_categories-printed.new.sink.0 in
+    let taken : writer_contents contents c.in-Ok-open.blocks.0 ≡ old =
+    new_writer contents c.in-Ok-open.blocks.0 c.args.out c.in-Ok-open.ensures.inner c.in-Ok-open.ensures.empty in
+    let closed = c.close-closed.ensures in
+    let (unwritten, all, keeps) = settled mid new c.close-closed.result.1 closed.written closed.prefix in
+    err_map c.print_categories-printed.result
+    (λ error is stops.
+    let q : StopsAt rules texts old mid error = rw taken at stops in
+    inr (unwritten, all, (λ e. closed.stays (c.print_categories-printed.ensures.failed (is ∙ ap Err e))),
+    has_rules c.args.words.now rules texts (λ rules texts. StopsAt rules texts old (append_known new unwritten) error)
+    c.in-Ok.ensures.found (stop_kept rules texts old mid (append_known new unwritten) keeps error q)))
     c.print_categories-printed.ensures.stopped

@@ -1,0 +1,31 @@
+use Rattle.std.proofs.Common.{◌≡◌, ◌≢◌, ◌<◌, [], ◌∷◌, length, string_bytes, Err, inr, refl, ap, subst, arith, rules}
+use Rattle.plural_rules.specs.RulesGrammar.{Grammar}
+use Rattle.plural_rules.specs.RulesRefusal.{Answers}
+use Rattle.cli.specs.Errors.{error_of_rules}
+use Rattle.cli.specs.Plural.{RulesFail}
+use Rattle.cli.proofs.Programs.{err_with}
+use Rattle.cli.proofs.plural.rules_and_texts.Goals as goal
+
+pub returns-in_err-rules-clause-error : goal.returns-in_err-rules-clause-error
+returns-in_err-rules-clause-error c =
+    let first = c.in-Some.rules.now in
+    let texts = c.in-Some.texts.now in
+    let error = c.in_err-rules.field-0.0 in
+    let is : c.args.words.now ≡ first ∷ texts = search rules in
+    let some : 0 < length texts = search rules in
+    let others : texts ≢ [] = λ none. absurd (omega (arith, some, ap length none)) in
+    let answers : Answers (string_bytes first) (Err error) =
+    subst (λ text. Answers text (Err error)) c.as_str.ensures.value c.in_err-rules.ensures in
+    err_with (RulesFail c.args.words.now) c.from_residual.result (error_of_rules error) c.from_residual.ensures.1
+    (inr (first, texts, is, others, (error, refl, answers)))
+
+pub returns-clause-found : goal.returns-clause-found
+returns-clause-found c =
+    let first = c.in-Some.rules.now in
+    let texts = c.in-Some.texts.now in
+    let meaning = c.in_ok-rules.rules in
+    let is : c.args.words.now ≡ first ∷ texts = search rules in
+    let some : 0 < length texts = search rules in
+    let others : texts ≢ [] = λ none. absurd (omega (arith, some, ap length none)) in
+    let grammar : Grammar (string_bytes first) meaning = rw c.as_str.ensures.value at c.in_ok-rules.ensures in
+    (first, texts, is, others, (meaning, grammar, (refl, refl)))
