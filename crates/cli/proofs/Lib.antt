@@ -4,9 +4,7 @@ pub mod Naming
 pub mod OneCall
 pub mod Programs
 pub mod Asking
-pub mod Blocks
 pub mod Filtering
-pub mod Refusals
 pub mod Reporting
 pub mod Splitting
 pub mod Printing

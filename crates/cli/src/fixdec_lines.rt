@@ -5,15 +5,15 @@ ghost use Rattle.std.specs.Io.Buffered.{writer_contents, writer_inner};
 ghost use Rattle.cli.specs.declared.errors.FilterError.{FilterError};
 ghost use Rattle.cli.specs.Arguments.{HaveWords, ArgumentsFail};
 ghost use Rattle.cli.specs.Errors.{status_of_filter, filter_of_arguments};
-ghost use Rattle.cli.specs.Filter.{PrintsAll, SkipsSome, FilterFails, IsEarly, LinesFail};
+ghost use Rattle.cli.specs.Filter.{IsEarly, WordsFilter, LinesFail};
 ghost use Rattle.cli.specs.Steps.{IsSplit};
 
 use crate::calls::parse_calls;
 use crate::diagnostics::{Diagnostics, ErrorLines};
 use crate::errors::{FilterError, ProgramError};
-use crate::filter::{OnRefusal, filter_in_blocks};
+use crate::filter::{OnError, filter_lines};
 use crate::help::{CALLS, help};
-use crate::output::{Blocks, Closed, abandon, open};
+use crate::output::{Blocks, Closed, abandon, close, open};
 use std::alloc::Global;
 use std::env::Args;
 use std::io::{BufReader, Read, Write};
@@ -24,12 +24,12 @@ use std::{env, io};
 const BLOCK: usize = 65_536;
 
 /// Splits off a first word `skip`, and returns the words of the calls.
-fn split_skip(words: &[String]) -> (OnRefusal, &[String])
+fn split_skip(words: &[String]) -> (OnError, &[String])
     ensures { IsSplit words.now result.0 result.1.now }
 {
     match words {
-        [first, words @ ..] if first.as_str() == "skip" => (OnRefusal::Skip, words),
-        _ => (OnRefusal::Stop, words),
+        [first, words @ ..] if first.as_str() == "skip" => (OnError::Skip, words),
+        _ => (OnError::Stop, words),
     }
 }
 
@@ -38,22 +38,18 @@ fn filter_words<R: Read, O: Write + Drop, D: Diagnostics<FilterError>>(
     alloc: Global,
     words: &[String],
     input: &mut R,
-    blocks: Blocks<O>,
+    mut blocks: Blocks<O>,
     diagnostics: &mut D,
 ) -> (Result<bool, FilterError>, Closed<O>)
-    ensures printed { result.0 ≡ Ok true → PrintsAll words.now (R.remaining input.old)
-        (writer_contents O.contents blocks.0) (O.contents result.1.0) }
+    ensures filtered { WordsFilter D.reports words.now (R.remaining input.old)
+        (writer_contents O.contents blocks.0) (O.contents result.1.0) diagnostics.old diagnostics.new result.0 }
     ensures silent { result.0 ≡ Ok true → diagnostics.new ≡ diagnostics.old }
-    ensures skipped { result.0 ≡ Ok false → SkipsSome D.reports words.now (R.remaining input.old)
-        (writer_contents O.contents blocks.0) (O.contents result.1.0) diagnostics.old diagnostics.new }
     ensures works { OnOk result.0 (result.1.1 ≡ false) }
-    ensures error { IfErr result.0 (FilterFails D.reports words.now (R.remaining input.old)
-        (writer_contents O.contents blocks.0) (O.contents result.1.0) diagnostics.old diagnostics.new) }
     ensures failed { result.0 ≡ Err FilterError.Output → result.1.1 ≡ true }
     ensures untouched { IfErr result.0 (λ error. IsEarly error → result.1 ≡ (writer_inner blocks.0, blocks.1)) }
     ensures unread { result.0 ≡ Err FilterError.Usage → input.new ≡ input.old }
 {
-    let (on_refusal, words) = split_skip(words);
+    let (on_error, words) = split_skip(words);
     let calls = match parse_calls(alloc, words) {
         Ok(Some(calls)) => calls,
         Ok(None) => return (Err(FilterError::Usage), abandon(blocks)),
@@ -62,14 +58,19 @@ fn filter_words<R: Read, O: Write + Drop, D: Diagnostics<FilterError>>(
     let Ok(mut reader) = BufReader::with_capacity(alloc, BLOCK, input) else {
         return (Err(FilterError::Memory), abandon(blocks));
     };
-    filter_in_blocks(
+    let filtered = filter_lines(
         alloc,
-        on_refusal,
+        on_error,
         calls.as_slice(),
         &mut reader,
-        blocks,
+        &mut blocks,
         diagnostics,
-    )
+    );
+    let closed = close(blocks);
+    if closed.has_failed() {
+        return (Err(FilterError::Output), closed);
+    }
+    (filtered, closed)
 }
 
 /// Runs the program on the arguments of the process, over any diagnostics, with a block before `out`, which is returned
@@ -91,12 +92,13 @@ pub fn run_arguments<R: Read, O: Write + Drop, D: Diagnostics<FilterError>>(
 ) -> (u8, Option<Closed<O>>)
     ensures at_most { result.0 ≤ 3 }
     ensures printed { result.0 ≡ 0 → HaveWords arguments (λ words. IsSomeAnd result.1 (λ closed.
-        PrintsAll words (R.remaining input.old) (O.contents out) (O.contents closed.0) × (closed.1 ≡ false))) }
+        WordsFilter D.reports words (R.remaining input.old) (O.contents out) (O.contents closed.0)
+        diagnostics.old diagnostics.new (Ok true) × (closed.1 ≡ false))) }
     ensures silent { result.0 ≡ 0 → diagnostics.new ≡ diagnostics.old }
     ensures reported { 0 < result.0 →
         ((result.0 ≡ 1) × HaveWords arguments (λ words. IsSomeAnd result.1 (λ closed.
-        SkipsSome D.reports words (R.remaining input.old) (O.contents out) (O.contents closed.0)
-        diagnostics.old diagnostics.new × (closed.1 ≡ false))))
+        WordsFilter D.reports words (R.remaining input.old) (O.contents out) (O.contents closed.0)
+        diagnostics.old diagnostics.new (Ok false) × (closed.1 ≡ false))))
         ⊎ ((error : FilterError) × (before : D) × (result.0 ≡ status_of_filter error)
         × ArgumentsFail filter_of_arguments arguments result.1
         (LinesFail D.reports O.contents (R.remaining input.old) out diagnostics.old before) error

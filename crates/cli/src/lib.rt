@@ -19,5 +19,5 @@ pub use arguments::ArgumentsError;
 pub use calls::parse_calls;
 pub use diagnostics::{Diagnostics, ErrorLines};
 pub use errors::{FilterError, FixdecError, OperationError, PluralError, ProgramError, Reason};
-pub use filter::{OnRefusal, filter_in_blocks, filter_lines};
+pub use filter::{OnError, filter_lines};
 pub use output::{Blocks, Closed, abandon, close, open};

@@ -1,16 +1,14 @@
-use Rattle.std.proofs.Common.{◌≡◌, Err, inr, ap, true, false, ◌∙◌, rules}
-use Rattle.std.specs.Io.Buffered.{writer_contents, writer_inner}
+use Rattle.std.proofs.Common.{◌≡◌, Err, inr, ap, true, false, ◌∙◌}
+use Rattle.std.specs.Io.Buffered.{writer_contents}
 use Rattle.cli.specs.declared.errors.FilterError.TheVariants.{Output}
-use Rattle.cli.specs.Filter.{FilterFails, IsEarly}
-use Rattle.cli.proofs.Asking.{new_writer, at_err}
+use Rattle.cli.specs.Filter.{IsEarly, WordsFilter}
+use Rattle.cli.proofs.Asking.{new_writer}
 use Rattle.cli.proofs.Programs.{have_words}
 use Rattle.cli.proofs.fixdec_lines.run_arguments.Goals as goal
 
 pub returns-clause-reported : goal.returns-clause-reported
 returns-clause-reported g c = λ _.
     let contents = g.O.Write.contents in
-    let reports = g.D.Diagnostics.reports in
-    let input = g.R.Read.remaining c.args.input.now in
     let words = c.in-Ok.opened.0.items in
     let closed = c.filter_words.result.1 in
     let error = c.in-Err-default.error in
@@ -18,13 +16,12 @@ returns-clause-reported g c = λ _.
     let is : c.filter_words.result.0 ≡ Err error = c.in-Err-default.is-0 in
     let taken : writer_contents contents c.in-Ok.opened.1.0 ≡ contents c.args.out =
     new_writer contents c.in-Ok.opened.1.0 c.args.out c.in-Ok.ensures.inner c.in-Ok.ensures.empty in
-    let fails : FilterFails reports words input (contents c.args.out) (contents closed.0) c.args.diagnostics.now before
-    error =
-    rw (taken, c.as_slice.ensures.value) at (at_err _ c.filter_words.result.0 error is c.filter_words.ensures.error) in
+    let fails : WordsFilter g.D.Diagnostics.reports words (g.R.Read.remaining c.args.input.now) (contents c.args.out)
+    (contents closed.0) c.args.diagnostics.now before (Err error) =
+    rw (taken, c.as_slice.ensures.value, is) at c.filter_words.ensures.filtered in
     let failed : error ≡ Output → closed.1 ≡ true = λ e. c.filter_words.ensures.failed (is ∙ ap Err e) in
-    let early : IsEarly error → closed ≡ (c.args.out, false) = λ e.
-    rw (c.in-Ok.ensures.inner, c.in-Ok.ensures.works) at
-    (at_err _ c.filter_words.result.0 error is c.filter_words.ensures.untouched e) in
+    let early : IsEarly error → closed ≡ (c.args.out, false) =
+    rw (is, c.in-Ok.ensures.inner, c.in-Ok.ensures.works) at c.filter_words.ensures.untouched in
     inr (
       error,
       before,
