@@ -30,13 +30,9 @@ fn pop_line_feed(line: &mut Vec<u8>)
     ensures { line.new.items ≡ strip_last 10 line.old.items }
 {
     let len = line.len();
-    if len == 0 {
-        return;
+    if len > 0 && line[len - 1] == b'\n' {
+        line.truncate(len - 1);
     }
-    if line[len - 1] != b'\n' {
-        return;
-    }
-    line.truncate(len - 1);
 }
 
 /// Reads the next line into `line`, and returns whether there is one.
@@ -76,8 +72,8 @@ fn print_line<W: Sink, D: Diagnostics<FilterError>>(
 ) -> Result<bool, FilterError>
     ensures printed { OnOk result (Appends (W.contents out.old) (W.contents out.new)
         (output_of_line (outcome line.now calls.now))) }
-    ensures reported { OnOk result (FoldsTo D.reports diagnostics.old
-        (errors_of_line number (outcome line.now calls.now)) diagnostics.new) }
+    ensures reported { IfErr result (λ error. error ≡ FilterError.Output) →
+        FoldsTo D.reports diagnostics.old (errors_of_line number (outcome line.now calls.now)) diagnostics.new }
     ensures text { IfOk result (λ has_text. (has_text ≡ is_ok (outcome line.now calls.now))
         × (on_error ≡ OnError.Stop → has_text ≡ true)) }
     ensures silent { result ≡ Ok true → diagnostics.new ≡ diagnostics.old }
@@ -87,8 +83,6 @@ fn print_line<W: Sink, D: Diagnostics<FilterError>>(
     ensures failed { result ≡ Err FilterError.Output → W.has_failed out.new ≡ true }
     ensures prefix { result ≡ Err FilterError.Output →
         AppendsPrefix (W.contents out.old) (W.contents out.new) (output_of_line (outcome line.now calls.now)) }
-    ensures reported_last { result ≡ Err FilterError.Output →
-        FoldsTo D.reports diagnostics.old (errors_of_line number (outcome line.now calls.now)) diagnostics.new }
 {
     let error = match print_run(alloc, line, calls, out) {
         Ok(()) => return Ok(true),

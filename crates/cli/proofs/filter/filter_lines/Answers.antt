@@ -15,7 +15,7 @@ loop-count-preserved g c =
     record {
       filtered =
           filtered_more c.loop-count.invariant.filtered c.in_ok-has_text.has_text c.as_slice.result.now _ _ _ read
-          h.printed h.reported h.text;
+          h.printed (h.reported tt) h.text;
       silent = λ both.
           let (one, two) = and_parts c.loop-count.have_texts c.in_ok-has_text.has_text both in
           h.silent (ap Ok two) ∙ c.loop-count.invariant.silent one;
@@ -47,7 +47,7 @@ returns-in_err-has_text-clause-filtered g c =
     (filters_line c.loop-count.invariant.filtered c.as_slice.result.now (g.R.Read.remaining c.read_line.new.input)
     (g.W.Sink.contents c.print_line.new.out) c.print_line.new.diagnostics c.in_err-has_text.field-0.0 read h.error
     (λ other. let (out, err) = h.untouched other in (ap g.W.Sink.contents out, err))
-    (λ is. h.prefix (ap Err is)) (λ is. h.reported_last (ap Err is)))
+    (λ is. h.prefix (ap Err is)) h.reported)
 
 pub returns-in_err-has_text-clause-consumed : goal.returns-in_err-has_text-clause-consumed
 returns-in_err-has_text-clause-consumed g c =
