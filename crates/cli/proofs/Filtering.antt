@@ -209,10 +209,3 @@ module _
       read_more a b c h.lines line h.read is,
     )
     consumed_line line c error is why = tt
-
--- an error of reading says nothing of what is left
-pub consumed_reading :
-    (number : ℕ) (error : Error) (ended : FilterError) (a c : Option (List ℕ)) → IsErrorOfReading number error ended
-    → IsConsumed ended a c
-consumed_reading number error (Operation at e) a c never = absurd never
-consumed_reading number error ended a c is = tt

@@ -1,30 +1,15 @@
 -- The first line of some bytes, and the others.
-use Rattle.std.proofs.Common.{◌≡◌, ◌≢◌, ℕ, suc, ◌-◌, List, [], ◌∷◌, length, take, get_or, Bool, true, false, inl, inr, refl, sym, ap, ◌∙◌, arith, rules}
-use Rattle.std.specs.Prelude.{◌==◌, if◌then◌else◌, nat_lt}
+use Rattle.std.proofs.Common.{◌≡◌, ◌≢◌, ℕ, List, [], ◌∷◌, inl, inr, refl, sym, ap, ◌∙◌, arith}
+use Rattle.std.specs.Prelude.{◌==◌}
 use Rattle.std.specs.List.{onto_first}
 use Rattle.std.specs.Io.BufRead.{take_through, drop_through, strip_last, first_piece}
 use Rattle.std.proofs.lemmas.Bool.{cases_Bool}
+use Rattle.std.proofs.lemmas.Grind.{common_steps}
 use Rattle.cli.specs.Lines.{lines_of}
-
--- a list that has a last byte
-strip_is :
-    (xs : List ℕ) (n : ℕ) → length xs ≡ suc n
-    → strip_last 10 xs ≡ (if get_or xs n 0 == 10 then take n xs else xs)
-strip_is xs n e =
-    let some : nat_lt 0 (length xs) ≡ true = search (rules, arith) in
-    let last : length xs - 1 ≡ n = omega (arith, e) in
-    rw (some, last) refl
-
-pushed : (b : Bool) (x : ℕ) (p q : List ℕ) → (if b then x ∷ p else x ∷ q) ≡ x ∷ (if b then p else q)
-pushed true x p q = refl
-pushed false x p q = refl
 
 -- a byte before other bytes changes nothing of their end
 strip_more : (x y : ℕ) (t : List ℕ) → strip_last 10 (x ∷ y ∷ t) ≡ x ∷ strip_last 10 (y ∷ t)
-strip_more x y t =
-    strip_is (x ∷ y ∷ t) (suc (length t)) refl
-    ∙ (pushed (get_or (y ∷ t) (length t) 0 == 10) x (take (length t) (y ∷ t)) (y ∷ t)
-    ∙ ap (λ l. x ∷ l) (sym (strip_is (y ∷ t) (length t) refl)))
+strip_more x y t = grind (arith, common_steps)
 
 -- nor of the end of what is taken of them
 piece_more : (x y : ℕ) (ys : List ℕ)

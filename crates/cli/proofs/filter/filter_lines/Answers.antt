@@ -1,8 +1,8 @@
-use Rattle.std.proofs.Common.{◌+◌, ◌∙◌, ap, Ok, Err, refl}
+use Rattle.std.proofs.Common.{◌∙◌, ap, Ok, Err, refl}
 use Rattle.std.proofs.lemmas.Bool.{and_parts}
 use Rattle.std.proofs.lemmas.Result.{err_from_is_err_and}
 use Rattle.cli.specs.declared.errors.FilterError.TheVariants.{Input}
-use Rattle.cli.proofs.Filtering.{filtered_start, filtered_more, filters, filters_all, filters_reading, filters_line, consumed_reading, consumed_line}
+use Rattle.cli.proofs.Filtering.{filtered_start, filtered_more, filters, filters_all, filters_reading, filters_line, consumed_line}
 use Rattle.cli.proofs.filter.filter_lines.Goals as goal
 
 pub loop-count-init : goal.loop-count-init
@@ -29,10 +29,6 @@ returns-in-Ok-false-clause-filtered g c =
 pub returns-in-Err-clause-filtered : goal.returns-in-Err-clause-filtered
 returns-in-Err-clause-filtered g c =
     filters_reading c.loop-count.invariant.filtered c.in-Err.error c.error_of_reading.result c.error_of_reading.ensures
-
-pub returns-in-Err-clause-consumed : goal.returns-in-Err-clause-consumed
-returns-in-Err-clause-consumed g c =
-    consumed_reading (c.loop-count.count + 1) c.in-Err.error c.error_of_reading.result _ _ c.error_of_reading.ensures
 
 pub returns-clause-filtered : goal.returns-clause-filtered
 returns-clause-filtered g c =

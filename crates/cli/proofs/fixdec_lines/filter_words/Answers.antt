@@ -1,4 +1,4 @@
-use Rattle.std.proofs.Common.{◌≡◌, ℕ, List, [], MutBor, String, Option, None, Some, Result, Ok, Err, Bool, refl, rules}
+use Rattle.std.proofs.Common.{◌≡◌, ℕ, List, [], MutBor, String, Option, Some, Result, Ok, Err, Bool, refl, rules}
 use Rattle.std.specs.declared.alloc.Global.{Global}
 use Rattle.std.specs.Io.Buffered.{reader_remaining, writer_contents}
 use Rattle.std.specs.Io.KnownBytes.{Keeps, append_known}
@@ -60,17 +60,6 @@ module _
           unwritten a b d _ missing part k,
           folds,
         )
-
-pub returns-in-Ok-None-clause-filtered : goal.returns-in-Ok-None-clause-filtered
-returns-in-Ok-None-clause-filtered g c =
-    let none : c.parse_calls.result ≡ Ok None = search rules in
-    let split = c.split_skip-on_error in
-    ((split.result.0, split.result.1.now, split.ensures, c.parse_calls.ensures.none none), refl)
-
-pub returns-in_default-clause-filtered : goal.returns-in_default-clause-filtered
-returns-in_default-clause-filtered g c =
-    let split = c.split_skip-on_error in
-    (split.result.0, split.result.1.now, c.in-Ok-Some.calls.items, split.ensures, search rules, refl)
 
 pub returns-clause-filtered : goal.returns-clause-filtered
 returns-clause-filtered g c =
