@@ -4,6 +4,7 @@ use Rattle.std.specs.Prelude.{is_ok, IfSome}
 use Rattle.std.proofs.lemmas.Bool.{and_from}
 use Rattle.std.proofs.lemmas.List.{append-nil, flat_map_more}
 use Rattle.std.proofs.lemmas.List.Folds.{list_all-append}
+use Rattle.std.proofs.lemmas.Grind.{common_steps}
 use Rattle.std.specs.List.{FoldsTo}
 use Rattle.std.specs.Io.KnownBytes.{Appends}
 use Rattle.std.specs.Io.BufRead.{drop_through}
@@ -23,8 +24,7 @@ use Rattle.cli.proofs.Splitting.{lines_first}
 -- ---- What was read.
 
 read_none : (a : Option (List ℕ)) → AreRead a [] a
-read_none None = tt
-read_none (Some bytes) = refl
+read_none a = grind (arith, common_steps)
 
 -- one line more was read
 read_more :
@@ -41,9 +41,7 @@ read_more (Some bytes) (Some rest) c lines line h (some, is, left) =
 read_all :
     (a b c : Option (List ℕ)) (lines : List (List ℕ)) → AreRead a lines b → IfSome b (λ rest. IsRead false rest [] c)
     → AreRead a lines (Some [])
-read_all None b c lines h is = tt
-read_all (Some bytes) None c lines h is = absurd h
-read_all (Some bytes) (Some rest) c lines h (none, end) = h ∙ ap (λ r. lines ++ lines_of r) none
+read_all a b c lines h is = grind (arith, common_steps)
 
 -- ---- What was filtered.
 
@@ -86,13 +84,7 @@ errors_more calls number (x ∷ xs) line =
 texts_more :
     (calls : List Call) (lines : List (List ℕ)) (line : List ℕ)
     → have_texts calls (lines ++ (line ∷ [])) ≡ (have_texts calls lines && is_ok (outcome line calls))
-texts_more calls lines line =
-    list_all-append (λ line. is_ok (outcome line calls)) lines (line ∷ [])
-    ∙ ap (λ b. have_texts calls lines && b) (and_true (is_ok (outcome line calls)))
-  where
-    and_true : (b : Bool) → (b && true) ≡ b
-    and_true true = refl
-    and_true false = refl
+texts_more calls lines line = grind (arith, common_steps, list_all-append)
 
 -- before the first line
 pub filtered_start :

@@ -14,19 +14,13 @@ strip_more x y t = grind (arith, common_steps)
 -- nor of the end of what is taken of them
 piece_more : (x y : ℕ) (ys : List ℕ)
     → strip_last 10 (x ∷ take_through 10 (y ∷ ys)) ≡ x ∷ first_piece 10 (y ∷ ys)
-piece_more x y ys = elim (cases_Bool (y == 10)) [
-  | inl e ↦ rw (e, e) refl
-  | inr e ↦ rw e (strip_more x y (take_through 10 ys))
-]
+piece_more x y ys = grind (arith, common_steps, strip_more)
 
 -- the first line of bytes is their first piece, and the others are the lines of what is left
 pub lines_first :
     (bytes : List ℕ) → bytes ≢ [] → lines_of bytes ≡ first_piece 10 bytes ∷ lines_of (drop_through 10 bytes)
 lines_first [] some = absurd (some refl)
-lines_first (x ∷ []) some = elim (cases_Bool (x == 10)) [
-  | inl e ↦ rw (e, e) refl
-  | inr e ↦ rw (e, e) refl
-]
+lines_first (x ∷ []) some = grind (arith, common_steps)
 lines_first (x ∷ y ∷ ys) some = elim (cases_Bool (x == 10)) [
   | inl e ↦ rw (e, e) refl
   | inr e ↦
