@@ -73,13 +73,8 @@ errors_more :
     (calls : List Call) (number : ℕ) (lines : List (List ℕ)) (line : List ℕ)
     → errors_of calls number (lines ++ (line ∷ []))
     ≡ errors_of calls number lines ++ errors_of_line (number + length lines) (outcome line calls)
-errors_more calls number [] line =
-    let same : number + 0 ≡ number = omega arith in
-    rw (same, append-nil (errors_of_line number (outcome line calls))) refl
-errors_more calls number (x ∷ xs) line =
-    let same : number + length (x ∷ xs) ≡ (number + 1) + length xs = omega arith in
-    rw (same, errors_more calls (number + 1) xs line)
-    (sym (append_assoc (errors_of_line number (outcome x calls)) (errors_of calls (number + 1) xs) _))
+errors_more calls number [] line = grind (arith, common_steps)
+errors_more calls number (x ∷ xs) line = grind (arith, common_steps, errors_more calls (number + 1) xs line)
 
 texts_more :
     (calls : List Call) (lines : List (List ℕ)) (line : List ℕ)

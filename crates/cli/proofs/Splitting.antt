@@ -1,9 +1,6 @@
 -- The first line of some bytes, and the others.
-use Rattle.std.proofs.Common.{◌≡◌, ◌≢◌, ℕ, List, [], ◌∷◌, inl, inr, refl, sym, ap, ◌∙◌, arith}
-use Rattle.std.specs.Prelude.{◌==◌}
-use Rattle.std.specs.List.{onto_first}
+use Rattle.std.proofs.Common.{◌≡◌, ◌≢◌, ℕ, List, [], ◌∷◌, refl, arith}
 use Rattle.std.specs.Io.BufRead.{take_through, drop_through, strip_last, first_piece}
-use Rattle.std.proofs.lemmas.Bool.{cases_Bool}
 use Rattle.std.proofs.lemmas.Grind.{common_steps}
 use Rattle.cli.specs.Lines.{lines_of}
 
@@ -21,10 +18,5 @@ pub lines_first :
     (bytes : List ℕ) → bytes ≢ [] → lines_of bytes ≡ first_piece 10 bytes ∷ lines_of (drop_through 10 bytes)
 lines_first [] some = absurd (some refl)
 lines_first (x ∷ []) some = grind (arith, common_steps)
-lines_first (x ∷ y ∷ ys) some = elim (cases_Bool (x == 10)) [
-  | inl e ↦ rw (e, e) refl
-  | inr e ↦
-      rw e
-      (ap (onto_first x) (lines_first (y ∷ ys) (λ e. cc))
-      ∙ ap (λ l. l ∷ lines_of (drop_through 10 (y ∷ ys))) (sym (piece_more x y ys)))
-]
+lines_first (x ∷ y ∷ ys) some =
+    grind (arith, common_steps, piece_more x y ys, lines_first (y ∷ ys) (λ e. cc))
