@@ -32,7 +32,8 @@ returns-in-Err-clause-filtered g c =
 
 pub returns-clause-filtered : goal.returns-clause-filtered
 returns-clause-filtered g c =
-    let h = c.loop-count.invariant.filtered in filters h (Err Input) ((g.R.Read.remaining c.loop-count.input, h.read), tt)
+    let h = c.loop-count.invariant.filtered in
+    filters h (Err Input) ((g.R.Read.remaining c.loop-count.input, h.read), tt)
 
 pub returns-in_err-has_text-clause-filtered : goal.returns-in_err-has_text-clause-filtered
 returns-in_err-has_text-clause-filtered g c =
