@@ -3,10 +3,8 @@ pub mod Splits
 pub mod Naming
 pub mod OneCall
 pub mod Programs
-pub mod Asking
-pub mod Blocks
+pub mod Buffers
 pub mod Filtering
-pub mod Refusals
 pub mod Reporting
 pub mod Splitting
 pub mod Printing

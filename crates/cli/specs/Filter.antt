@@ -1,69 +1,42 @@
 -- What the words of `fixdec_lines` ask for, and what comes of them and of an input.
-use Rattle.std.specs.Prelude.{◌≡◌, ℕ, ⊤, Bool, true, List, [], ◌∷◌, codes, String, string_bytes, Option, MatchOption}
+use Rattle.std.specs.Prelude.{◌≡◌, ℕ, ⊤, Any, Bool, true, List, String, Option, MatchOption, Result, Err}
 use Rattle.std.specs.declared.alloc.Global.{Global}
 use Rattle.fixed_decimal.specs.declared.runs.Call.{Call}
-use Rattle.cli.specs.Words.{NameAll}
+use Rattle.cli.specs.Words.{NameAll, IsUnknown}
 use Rattle.cli.specs.declared.errors.FilterError.{FilterError}
-use Rattle.cli.specs.declared.errors.FilterError.TheVariants.{Usage, Memory, Operation, LongLine, Input, Output}
-use Rattle.cli.specs.declared.filter.OnRefusal.{OnRefusal}
-use Rattle.cli.specs.declared.filter.OnRefusal.TheVariants.{Stop, Skip}
-use Rattle.cli.specs.Lines.{IsAll, Prints, Skips}
-use Rattle.cli.specs.Steps.{EndsInBlocks}
+use Rattle.cli.specs.declared.errors.FilterError.TheVariants.{Usage, Memory, Output}
+use Rattle.cli.specs.declared.filter.OnError.{OnError}
+use Rattle.cli.specs.Lines.{AppendsUnwritten, Filters}
+use Rattle.cli.specs.Steps.{IsSplit}
 
--- the words ask for these calls, and for this at an error: `Skip` by a first word `skip`, after which the others name
--- the calls
-abbrev pub Asks : List (String Global) → OnRefusal → List Call → Type 0
-Asks words Stop calls = NameAll words calls
-Asks [] Skip calls = ⊥
-Asks (first ∷ words) Skip calls = (string_bytes first ≡ codes "skip") × NameAll words calls
-
--- the words ask for nothing: after a first word `skip` or from the first word on, one names no call
+-- after a first word `skip`, or from the first word on, a word names no call
 abbrev pub IsUsage : List (String Global) → Type 0
-IsUsage words = (on_refusal : OnRefusal) (calls : List Call) → Asks words on_refusal calls → ⊥
+IsUsage words =
+    (on_error : OnError) × (others : List (String Global)) × IsSplit words on_error others × Any IsUnknown others
 
--- the words ask for calls, of which and of what is to be done at an error this holds
-abbrev pub HasFilter : List (String Global) → (OnRefusal → List Call → Type 0) → Type 0
-HasFilter words P = (on_refusal : OnRefusal) × (calls : List Call) × Asks words on_refusal calls × P on_refusal calls
-
--- each line of the input has a text, and the texts were appended
-abbrev pub PrintsAll : List (String Global) → Option (List ℕ) → Option (List ℕ) → Option (List ℕ) → Type 0
-PrintsAll words input old new =
-    HasFilter words (λ _ calls. (lines : List (List ℕ)) × IsAll input lines × Prints calls lines old new)
+-- after a first word `skip`, or from the first word on, the words name calls, of which this holds
+abbrev pub HasFilter : List (String Global) → (OnError → List Call → Type 0) → Type 0
+HasFilter words P =
+    (on_error : OnError) × (others : List (String Global)) × (calls : List Call) × IsSplit words on_error others
+    × NameAll others calls × P on_error calls
 
 -- the error comes before the first line
 abbrev pub IsEarly : FilterError → Type 0
 IsEarly Usage = ⊤
 IsEarly Memory = ⊤
-IsEarly (Operation line error) = ⊥
-IsEarly (LongLine line) = ⊥
-IsEarly Input = ⊥
-IsEarly Output = ⊥
+IsEarly _ = ⊥
 
 module _ {D : Type 0} (reports : D → FilterError → D → Type 0) where
-  -- all lines of the input were read, and some were skipped
-  abbrev pub SkipsSome :
-      List (String Global) → Option (List ℕ) → Option (List ℕ) → Option (List ℕ) → D → D → Type 0
-  SkipsSome words input out_old out_new old new =
-      HasFilter words (λ on_refusal calls. Skips reports on_refusal calls input out_old out_new old new)
-
-  -- the filter that the words ask for ended so
-  abbrev pub FilterEnds :
-      List (String Global) → Option (List ℕ) → Option (List ℕ) → Option (List ℕ) → D → D → FilterError → Type 0
-  FilterEnds words input out_old out_new old new error =
-      HasFilter words (λ on_refusal calls. EndsInBlocks reports on_refusal calls input out_old out_new old new error)
-
   -- the error is that of the words, or out of memory before the first line, and nothing was reported before it; or the
-  -- filter ended so
-  abbrev pub FilterFails :
-      List (String Global) → Option (List ℕ) → Option (List ℕ) → Option (List ℕ) → D → D → FilterError → Type 0
-  FilterFails words input out_old out_new old new Usage = IsUsage words × (new ≡ old)
-  FilterFails words input out_old out_new old new Memory = HasFilter words (λ _ _. new ≡ old)
-  FilterFails words input out_old out_new old new (Operation line error) =
-      FilterEnds words input out_old out_new old new (Operation line error)
-  FilterFails words input out_old out_new old new (LongLine line) =
-      FilterEnds words input out_old out_new old new (LongLine line)
-  FilterFails words input out_old out_new old new Input = FilterEnds words input out_old out_new old new Input
-  FilterFails words input out_old out_new old new Output = FilterEnds words input out_old out_new old new Output
+  -- filter that the words ask for returned this
+  abbrev pub WordsFilter :
+      List (String Global) → Option (List ℕ) → Option (List ℕ) → Option (List ℕ) → D → D → Result Bool FilterError
+      → Type 0
+  WordsFilter words input out_old out_new old new (Err Usage) = IsUsage words × (new ≡ old)
+  WordsFilter words input out_old out_new old new (Err Memory) = HasFilter words (λ _ _. new ≡ old)
+  WordsFilter words input out_old out_new old new result =
+      HasFilter words (λ on_error calls.
+      Filters AppendsUnwritten reports on_error calls input out_old out_new old new result)
 
   -- the block before the writer cannot be allocated, and nothing is reported before this error; or the filter fails so,
   -- at `output` because the writer failed
@@ -72,5 +45,5 @@ module _ {D : Type 0} (reports : D → FilterError → D → Type 0) where
       → FilterError → Type 0
   LinesFail contents input out old new words back error =
       MatchOption back ((error ≡ Memory) × (new ≡ old))
-      (λ closed. FilterFails words input (contents out) (contents closed.0) old new error
+      (λ closed. WordsFilter words input (contents out) (contents closed.0) old new (Err error)
       × (error ≡ Output → closed.1 ≡ true))

@@ -1,8 +1,7 @@
 -- What is written and what is reported for the lines of an input.
-use Rattle.std.specs.Prelude.{◌≡◌, ◌≢◌, ℕ, ◌+◌, ◌==◌, if◌then◌else◌, List, [], ◌∷◌, ◌++◌, length, flat_map, Any}
-use Rattle.std.specs.Prelude.{⊤, Option, Result, Ok, Err, IsOk, IsErr, IfSome}
-use Rattle.std.specs.List.{AllByRecursion, FoldsTo}
-use Rattle.std.specs.Io.KnownBytes.{Appends}
+use Rattle.std.specs.Prelude.{◌≡◌, ◌≢◌, ℕ, ◌+◌, ◌==◌, if◌then◌else◌, List, [], ◌∷◌, ◌++◌, length, flat_map, Bool, true, ⊤, Option, Some, Result, Ok, Err, is_ok, IfSome, IsSomeAnd}
+use Rattle.std.specs.List.{FoldsTo, list_all, onto_first}
+use Rattle.std.specs.Io.KnownBytes.{Appends, append_known}
 use Rattle.decimal_digits.specs.Text.{AppendsPrefix}
 use Rattle.decimal_unsigned.specs.Reading.{syntax, limit}
 use Rattle.fixed_decimal.specs.declared.runs.Call.{Call}
@@ -11,31 +10,29 @@ use Rattle.cli.specs.declared.errors.Reason.TheVariants as reason
 use Rattle.cli.specs.declared.errors.OperationError.{OperationError}
 use Rattle.cli.specs.declared.errors.OperationError.TheVariants as operation
 use Rattle.cli.specs.declared.errors.FilterError.{FilterError}
-use Rattle.cli.specs.declared.errors.FilterError.TheVariants.{Usage, Memory, Operation, LongLine, Input, Output}
-use Rattle.cli.specs.declared.filter.OnRefusal.{OnRefusal}
-use Rattle.cli.specs.declared.filter.OnRefusal.TheVariants.{Stop, Skip}
-use Rattle.cli.specs.Errors.{status_of_operation}
-use Rattle.cli.specs.Fixdec.{OperationsFail}
+use Rattle.cli.specs.declared.errors.FilterError.TheVariants.{Operation, LongLine, Input, Output}
+use Rattle.cli.specs.declared.filter.OnError.{OnError}
+use Rattle.cli.specs.declared.filter.OnError.TheVariants.{Stop}
+use Rattle.cli.specs.Steps.{IsErrorOfLine}
 
 -- ---- The lines of an input.
-
--- a byte before the first line
-abbrev pub onto_first : ℕ → List (List ℕ) → List (List ℕ)
-onto_first byte [] = (byte ∷ []) ∷ []
-onto_first byte (line ∷ lines) = (byte ∷ line) ∷ lines
 
 -- the bytes before each line feed, and those after the last one if there are any
 abbrev pub lines_of : List ℕ → List (List ℕ)
 lines_of [] = []
 lines_of (byte ∷ bytes) = if byte == 10 then [] ∷ lines_of bytes else onto_first byte (lines_of bytes)
 
--- these are all lines of an input, where its bytes are known
-abbrev pub IsAll : Option (List ℕ) → List (List ℕ) → Type 0
-IsAll input lines = IfSome input (λ bytes. lines_of bytes ≡ lines)
+-- these are the first lines of an input whose bytes are known, and the others are the lines of the bytes that are left
+abbrev pub AreRead : Option (List ℕ) → List (List ℕ) → Option (List ℕ) → Type 0
+AreRead input lines left = IfSome input (λ bytes. IsSomeAnd left (λ rest. lines_of bytes ≡ lines ++ lines_of rest))
 
--- these are the first lines of an input, where its bytes are known
+-- these are all lines of an input: no byte is left
+abbrev pub AreAll : Option (List ℕ) → List (List ℕ) → Type 0
+AreAll input lines = AreRead input lines (Some [])
+
+-- these are the first lines of an input
 abbrev pub AreFirst : Option (List ℕ) → List (List ℕ) → Type 0
-AreFirst input lines = IfSome input (λ bytes. (rest : List (List ℕ)) × (lines_of bytes ≡ lines ++ rest))
+AreFirst input lines = (left : Option (List ℕ)) × AreRead input lines left
 
 -- ---- What is written and what is reported for them.
 
@@ -68,57 +65,46 @@ errors_of calls number [] = []
 errors_of calls number (line ∷ lines) =
     errors_of_line number (outcome line calls) ++ errors_of calls (number + 1) lines
 
--- no run fails
-abbrev pub HaveTexts : List Call → List (List ℕ) → Type 0
-HaveTexts calls lines = AllByRecursion (λ line. IsOk (outcome line calls)) lines
+-- whether each line has a text
+abbrev pub have_texts : List Call → List (List ℕ) → Bool
+have_texts calls lines = list_all (λ line. is_ok (outcome line calls)) lines
 
--- a run fails
-abbrev pub HaveRefusal : List Call → List (List ℕ) → Type 0
-HaveRefusal calls lines = Any (λ line. IsErr (outcome line calls)) lines
+-- ---- What a filter returns.
 
--- no run fails, and what they come to was appended, of a writer whose bytes are known
-abbrev pub Prints : List Call → List (List ℕ) → Option (List ℕ) → Option (List ℕ) → Type 0
-Prints calls lines old new = HaveTexts calls lines × Appends old new (output_of calls lines)
+-- the error ends the filter after these lines: the run of the next line has it; or out of memory for the next line, a
+-- failed read or a failed write
+abbrev pub EndsWith : OnError → List Call → Option (List ℕ) → List (List ℕ) → FilterError → Type 0
+EndsWith on_error calls input lines (Operation number error) =
+    (line : List ℕ) × AreFirst input (lines ++ (line ∷ []))
+    × IsErrorOfLine on_error (length lines + 1) line calls (Operation number error)
+EndsWith on_error calls input lines (LongLine number) = number ≡ length lines + 1
+EndsWith on_error calls input lines Input = ⊤
+EndsWith on_error calls input lines Output = ⊤
+EndsWith on_error calls input lines _ = ⊥
 
--- ---- Where it ends.
+-- the filter returns this after these lines: whether each has a text, after all lines; or an error, after some
+abbrev pub Returns : OnError → List Call → Option (List ℕ) → List (List ℕ) → Result Bool FilterError → Type 0
+Returns on_error calls input lines (Ok texts) = AreAll input lines × (texts ≡ have_texts calls lines)
+Returns on_error calls input lines (Err error) = AreFirst input lines × EndsWith on_error calls input lines error
 
--- the filter ends after these lines, with this error: the run of the next line has an error, with `Skip` only for want
--- of memory; or memory for the next line, a read or a write fails
-abbrev pub EndsWith : OnRefusal → List Call → Option (List ℕ) → List (List ℕ) → FilterError → Type 0
-EndsWith on_refusal calls input lines Usage = ⊥
-EndsWith on_refusal calls input lines Memory = ⊥
-EndsWith on_refusal calls input lines (Operation number error) =
-    (number ≡ length lines + 1) × (on_refusal ≡ Skip → status_of_operation error ≢ 1) × (error ≢ operation.Output)
-    × (line : List ℕ) × AreFirst input (lines ++ (line ∷ [])) × OperationsFail error line calls
-EndsWith on_refusal calls input lines (LongLine number) = (number ≡ length lines + 1) × AreFirst input lines
-EndsWith on_refusal calls input lines Input = AreFirst input lines
-EndsWith on_refusal calls input lines Output = AreFirst input lines
+-- the filter returned this: what the lines come to was appended, at a failed output a part of it, and their errors were
+-- reported in order; with `Stop` each line has a text
+abbrev pub Filters :
+    {D : Type 0} → (Option (List ℕ) → Option (List ℕ) → List ℕ → Type 0) → (D → FilterError → D → Type 0) → OnError
+    → List Call → Option (List ℕ) → Option (List ℕ) → Option (List ℕ) → D → D → Result Bool FilterError → Type 0
+Filters AppendsPart reports on_error calls input out_old out_new old new result =
+    (lines : List (List ℕ)) × Returns on_error calls input lines result
+    × (on_error ≡ Stop → have_texts calls lines ≡ true)
+    × (result ≢ Err Output → Appends out_old out_new (output_of calls lines))
+    × AppendsPart out_old out_new (output_of calls lines)
+    × FoldsTo reports old (errors_of calls 1 lines) new
 
--- the same, and with `Stop` no line before fails
-abbrev pub EndsAfter : OnRefusal → List Call → Option (List ℕ) → List (List ℕ) → FilterError → Type 0
-EndsAfter on_refusal calls input lines error =
-    (on_refusal ≡ Stop → HaveTexts calls lines) × EndsWith on_refusal calls input lines error
+-- a prefix of the text was appended, without its last bytes, which a block did not write
+abbrev pub AppendsUnwritten : Option (List ℕ) → Option (List ℕ) → List ℕ → Type 0
+AppendsUnwritten old new text = (missing : List ℕ) × AppendsPrefix old (append_known new missing) text
 
 -- after an error of the run of a line, the lines up to it are read, and the others are left
 abbrev pub IsConsumed : FilterError → Option (List ℕ) → Option (List ℕ) → Type 0
-IsConsumed (Operation number error) input left = IfSome input (λ bytes. IfSome left (λ rest.
-    (front : List (List ℕ)) × (length front ≡ number) × (lines_of bytes ≡ front ++ lines_of rest)))
+IsConsumed (Operation number error) input left =
+    (lines : List (List ℕ)) × (length lines ≡ number) × AreRead input lines left
 IsConsumed _ input left = ⊤
-
-module _ {D : Type 0} (reports : D → FilterError → D → Type 0) where
-  -- all lines were read, and one failed: what they come to was appended, and the errors were reported in order
-  abbrev pub Skips :
-      OnRefusal → List Call → Option (List ℕ) → Option (List ℕ) → Option (List ℕ) → D → D → Type 0
-  Skips on_refusal calls input out_old out_new old new =
-      (on_refusal ≡ Skip) × (lines : List (List ℕ)) × IsAll input lines × HaveRefusal calls lines
-      × Appends out_old out_new (output_of calls lines) × FoldsTo reports old (errors_of calls 1 lines) new
-
-  -- the filter ended so: what some first lines come to was appended, at a failed output a prefix of it, and their
-  -- refusals were reported in order
-  abbrev pub Ends :
-      OnRefusal → List Call → Option (List ℕ) → Option (List ℕ) → Option (List ℕ) → D → D → FilterError → Type 0
-  Ends on_refusal calls input out_old out_new old new error =
-      (lines : List (List ℕ)) × EndsAfter on_refusal calls input lines error
-      × (error ≢ Output → Appends out_old out_new (output_of calls lines))
-      × AppendsPrefix out_old out_new (output_of calls lines)
-      × FoldsTo reports old (errors_of calls 1 lines) new

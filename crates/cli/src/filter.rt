@@ -1,26 +1,24 @@
 //! The filter: the calls on each line of an input.
-ghost use Rattle.std.specs.Prelude.{◌≡◌, ◌≢◌, ◌++◌, ◌∷◌, [], List, ℕ, true, false, Ok, Err, IsOk, IsErr, IfOk, IfErr, IfSome, OnOk, OnErr};
+ghost use Rattle.std.specs.Prelude.{◌≡◌, ◌≢◌, Ok, Err, true, is_ok, IfOk, IfErr, IfSome, OnOk};
 ghost use Rattle.std.specs.List.{FoldsTo};
 ghost use Rattle.std.specs.Io.KnownBytes.{Appends, IsAtEnd};
 ghost use Rattle.std.specs.Io.BufRead.{strip_last};
 ghost use Rattle.decimal_digits.specs.Text.{AppendsPrefix};
 ghost use Rattle.fixed_decimal.specs.Outcome.{outcome};
-ghost use Rattle.cli.specs.Lines.{output_of_line, errors_of_line, IsAll, Prints, Skips, Ends, IsConsumed};
-ghost use Rattle.std.specs.Io.Buffered.{writer_contents};
-ghost use Rattle.cli.specs.Steps.{IsRead, IsErrorOfLine, IsErrorOfReading, EndsInBlocks};
+ghost use Rattle.cli.specs.Lines.{output_of_line, errors_of_line, Filters, IsConsumed};
+ghost use Rattle.cli.specs.Steps.{IsRead, IsErrorOfLine, IsErrorOfReading};
 
 use crate::diagnostics::Diagnostics;
 use crate::errors::{FilterError, OperationError};
 use crate::fixdec::print_run;
-use crate::output::{Blocks, Closed, close};
-use fixed_decimal::{Call, Sink, SinkFault};
+use fixed_decimal::{Call, Sink};
 use std::alloc::Global;
 use std::io;
-use std::io::{BufRead, ErrorKind, Write};
+use std::io::{BufRead, ErrorKind};
 
 /// What a filter does at a line whose run fails.
 #[derive(Clone, Copy, Debug, PartialEq)]
-pub enum OnRefusal {
+pub enum OnError {
     /// It ends.
     Stop,
     /// It reports the error, writes an empty line, and goes on.
@@ -32,13 +30,9 @@ fn pop_line_feed(line: &mut Vec<u8>)
     ensures { line.new.items ≡ strip_last 10 line.old.items }
 {
     let len = line.len();
-    if len == 0 {
-        return;
+    if len > 0 && line[len - 1] == b'\n' {
+        line.truncate(len - 1);
     }
-    if line[len - 1] != b'\n' {
-        return;
-    }
-    line.truncate(len - 1);
 }
 
 /// Reads the next line into `line`, and returns whether there is one.
@@ -65,26 +59,11 @@ fn error_of_reading(line: u64, error: &io::Error) -> FilterError
     }
 }
 
-/// Reports an error, and writes an empty line.
-fn skip_line<W: Sink, D: Diagnostics<FilterError>>(
-    error: &FilterError,
-    out: &mut W,
-    diagnostics: &mut D,
-) -> Result<(), SinkFault>
-    ensures reported { D.reports diagnostics.old error.now diagnostics.new }
-    ensures printed { OnOk result (Appends (W.contents out.old) (W.contents out.new) (10 ∷ [])) }
-    ensures prefix { OnErr result (AppendsPrefix (W.contents out.old) (W.contents out.new) (10 ∷ [])) }
-    ensures failed { OnErr result (W.has_failed out.new ≡ true) }
-{
-    diagnostics.report(error);
-    out.put_byte(b'\n')
-}
-
 /// Writes the text of the run of a line and a line feed, and returns whether it has a text. With `Skip` an error of the
 /// run is reported, and an empty line is written.
 fn print_line<W: Sink, D: Diagnostics<FilterError>>(
     alloc: Global,
-    on_refusal: OnRefusal,
+    on_error: OnError,
     number: u64,
     line: &[u8],
     calls: &[Call<'_>],
@@ -93,18 +72,17 @@ fn print_line<W: Sink, D: Diagnostics<FilterError>>(
 ) -> Result<bool, FilterError>
     ensures printed { OnOk result (Appends (W.contents out.old) (W.contents out.new)
         (output_of_line (outcome line.now calls.now))) }
-    ensures reported { OnOk result (FoldsTo D.reports diagnostics.old
-        (errors_of_line number (outcome line.now calls.now)) diagnostics.new) }
-    ensures text { result ≡ Ok true → IsOk (outcome line.now calls.now) × (diagnostics.new ≡ diagnostics.old) }
-    ensures refused { result ≡ Ok false → IsErr (outcome line.now calls.now) × (on_refusal ≡ OnRefusal.Skip) }
-    ensures error { IfErr result (IsErrorOfLine on_refusal number line.now calls.now) }
+    ensures reported { IfErr result (λ error. error ≡ FilterError.Output) →
+        FoldsTo D.reports diagnostics.old (errors_of_line number (outcome line.now calls.now)) diagnostics.new }
+    ensures text { IfOk result (λ has_text. (has_text ≡ is_ok (outcome line.now calls.now))
+        × (on_error ≡ OnError.Stop → has_text ≡ true)) }
+    ensures silent { result ≡ Ok true → diagnostics.new ≡ diagnostics.old }
+    ensures error { IfErr result (IsErrorOfLine on_error number line.now calls.now) }
     ensures untouched { IfErr result (λ error. error ≢ FilterError.Output →
         (out.new ≡ out.old) × (diagnostics.new ≡ diagnostics.old)) }
     ensures failed { result ≡ Err FilterError.Output → W.has_failed out.new ≡ true }
     ensures prefix { result ≡ Err FilterError.Output →
         AppendsPrefix (W.contents out.old) (W.contents out.new) (output_of_line (outcome line.now calls.now)) }
-    ensures reported_last { result ≡ Err FilterError.Output →
-        FoldsTo D.reports diagnostics.old (errors_of_line number (outcome line.now calls.now)) diagnostics.new }
 {
     let error = match print_run(alloc, line, calls, out) {
         Ok(()) => return Ok(true),
@@ -116,10 +94,11 @@ fn print_line<W: Sink, D: Diagnostics<FilterError>>(
         line: number,
         error,
     };
-    if on_refusal == OnRefusal::Stop || !is_refusal {
+    if on_error == OnError::Stop || !is_refusal {
         return Err(error);
     }
-    match skip_line(&error, out, diagnostics) {
+    diagnostics.report(&error);
+    match out.put_byte(b'\n') {
         Ok(()) => Ok(false),
         Err(_) => Err(FilterError::Output),
     }
@@ -140,19 +119,15 @@ fn print_line<W: Sink, D: Diagnostics<FilterError>>(
 /// Else the texts of all lines before the error are in `out`.
 pub fn filter_lines<R: BufRead, W: Sink, D: Diagnostics<FilterError>>(
     alloc: Global,
-    on_refusal: OnRefusal,
+    on_error: OnError,
     calls: &[Call<'_>],
     input: &mut R,
     out: &mut W,
     diagnostics: &mut D,
 ) -> Result<bool, FilterError>
-    ensures printed { result ≡ Ok true → ((lines : List (List ℕ)) × IsAll (R.remaining input.old) lines
-        × Prints calls.now lines (W.contents out.old) (W.contents out.new)) }
+    ensures filtered { Filters AppendsPrefix D.reports on_error calls.now (R.remaining input.old)
+        (W.contents out.old) (W.contents out.new) diagnostics.old diagnostics.new result }
     ensures silent { result ≡ Ok true → diagnostics.new ≡ diagnostics.old }
-    ensures skipped { result ≡ Ok false → Skips D.reports on_refusal calls.now (R.remaining input.old)
-        (W.contents out.old) (W.contents out.new) diagnostics.old diagnostics.new }
-    ensures ended { IfErr result (Ends D.reports on_refusal calls.now (R.remaining input.old)
-        (W.contents out.old) (W.contents out.new) diagnostics.old diagnostics.new) }
     ensures failed { result ≡ Err FilterError.Output → W.has_failed out.new ≡ true }
     ensures consumed { IfErr result (λ error. IsConsumed error (R.remaining input.old) (R.remaining input.new)) }
     ensures at_end { OnOk result (IfSome (R.remaining input.old) (λ _. IsAtEnd (R.remaining input.new))) }
@@ -168,7 +143,7 @@ pub fn filter_lines<R: BufRead, W: Sink, D: Diagnostics<FilterError>>(
         }
         let has_text = print_line(
             alloc,
-            on_refusal,
+            on_error,
             number,
             line.as_slice(),
             calls,
@@ -179,31 +154,4 @@ pub fn filter_lines<R: BufRead, W: Sink, D: Diagnostics<FilterError>>(
     }
     // No input has 2^64 lines.
     Err(FilterError::Input)
-}
-
-/// Runs `filter_lines` behind a block, and returns the writer after its last call.
-pub fn filter_in_blocks<R: BufRead, O: Write + Drop, D: Diagnostics<FilterError>>(
-    alloc: Global,
-    on_refusal: OnRefusal,
-    calls: &[Call<'_>],
-    input: &mut R,
-    mut blocks: Blocks<O>,
-    diagnostics: &mut D,
-) -> (Result<bool, FilterError>, Closed<O>)
-    ensures printed { result.0 ≡ Ok true → ((lines : List (List ℕ)) × IsAll (R.remaining input.old) lines
-        × Prints calls.now lines (writer_contents O.contents blocks.0) (O.contents result.1.0)) }
-    ensures silent { result.0 ≡ Ok true → diagnostics.new ≡ diagnostics.old }
-    ensures skipped { result.0 ≡ Ok false → Skips D.reports on_refusal calls.now (R.remaining input.old)
-        (writer_contents O.contents blocks.0) (O.contents result.1.0) diagnostics.old diagnostics.new }
-    ensures ended { IfErr result.0 (EndsInBlocks D.reports on_refusal calls.now (R.remaining input.old)
-        (writer_contents O.contents blocks.0) (O.contents result.1.0) diagnostics.old diagnostics.new) }
-    ensures works { OnOk result.0 (result.1.1 ≡ false) }
-    ensures failed { result.0 ≡ Err FilterError.Output → result.1.1 ≡ true }
-{
-    let filtered = filter_lines(alloc, on_refusal, calls, input, &mut blocks, diagnostics);
-    let closed = close(blocks);
-    if closed.has_failed() {
-        return (Err(FilterError::Output), closed);
-    }
-    (filtered, closed)
 }

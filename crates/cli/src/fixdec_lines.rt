@@ -1,19 +1,20 @@
 //! `fixdec_lines [skip] [CALL]..`: makes the same calls on each line of its input, and writes a line for each.
 ghost use Rattle.std.specs.Prelude.{◌≡◌, ◌≤◌, ◌<◌, ◌⊎◌, Ok, Err, true, false, IfErr, IfSome, OnOk, IsSomeAnd};
 ghost use Rattle.std.specs.Process.{exit_status};
+ghost use Rattle.std.specs.Io.Buffered.{writer_contents, writer_inner};
 ghost use Rattle.cli.specs.declared.errors.FilterError.{FilterError};
 ghost use Rattle.cli.specs.Arguments.{HaveWords, ArgumentsFail};
 ghost use Rattle.cli.specs.Errors.{status_of_filter};
-ghost use Rattle.cli.specs.Filter.{PrintsAll, SkipsSome, IsEarly, LinesFail};
+ghost use Rattle.cli.specs.Filter.{IsEarly, WordsFilter, LinesFail};
 ghost use Rattle.cli.specs.Steps.{IsSplit};
 
 use crate::arguments::words;
 use crate::calls::parse_calls;
 use crate::diagnostics::{Diagnostics, ErrorLines, conclude};
 use crate::errors::FilterError;
-use crate::filter::{OnRefusal, filter_in_blocks};
+use crate::filter::{OnError, filter_lines};
 use crate::help::{CALLS, help};
-use crate::output::{Closed, open};
+use crate::output::{Blocks, Closed, abandon, close, open};
 use std::alloc::Global;
 use std::env::Args;
 use std::io::{BufReader, Read, Write};
@@ -24,56 +25,53 @@ use std::{env, io};
 const BLOCK: usize = 65_536;
 
 /// Splits off a first word `skip`, and returns the words of the calls.
-fn split_skip(words: &[String]) -> (OnRefusal, &[String])
+fn split_skip(words: &[String]) -> (OnError, &[String])
     ensures { IsSplit words.now result.0 result.1.now }
 {
     match words {
-        [first, words @ ..] if first.as_str() == "skip" => (OnRefusal::Skip, words),
-        _ => (OnRefusal::Stop, words),
+        [first, words @ ..] if first.as_str() == "skip" => (OnError::Skip, words),
+        _ => (OnError::Stop, words),
     }
 }
 
-/// Runs the filter that the words ask for, with a block before `out`, which is returned after its last call.
+/// Runs the filter that the words ask for, behind a block, and returns the writer after its last call.
 fn filter_words<R: Read, O: Write + Drop, D: Diagnostics<FilterError>>(
     alloc: Global,
     words: &[String],
     input: &mut R,
-    out: O,
+    mut blocks: Blocks<O>,
     diagnostics: &mut D,
-) -> (Result<bool, FilterError>, Option<Closed<O>>)
-    ensures printed { result.0 ≡ Ok true → IsSomeAnd result.1 (λ closed. PrintsAll words.now (R.remaining input.old)
-        (O.contents out) (O.contents closed.0) × (closed.1 ≡ false)) }
+) -> (Result<bool, FilterError>, Closed<O>)
+    ensures filtered { WordsFilter D.reports words.now (R.remaining input.old)
+        (writer_contents O.contents blocks.0) (O.contents result.1.0) diagnostics.old diagnostics.new result.0 }
     ensures silent { result.0 ≡ Ok true → diagnostics.new ≡ diagnostics.old }
-    ensures skipped { result.0 ≡ Ok false → IsSomeAnd result.1 (λ closed. SkipsSome D.reports words.now
-        (R.remaining input.old) (O.contents out) (O.contents closed.0) diagnostics.old diagnostics.new
-        × (closed.1 ≡ false)) }
-    ensures error { IfErr result.0 (LinesFail D.reports O.contents (R.remaining input.old) out diagnostics.old
-        diagnostics.new words.now result.1) }
-    ensures untouched { IfErr result.0
-        (λ error. IsEarly error → IfSome result.1 (λ closed. closed ≡ (out, false))) }
+    ensures works { OnOk result.0 (result.1.1 ≡ false) }
+    ensures failed { result.0 ≡ Err FilterError.Output → result.1.1 ≡ true }
+    ensures untouched { IfErr result.0 (λ error. IsEarly error → result.1 ≡ (writer_inner blocks.0, blocks.1)) }
     ensures unread { result.0 ≡ Err FilterError.Usage → input.new ≡ input.old }
 {
-    let (on_refusal, words) = split_skip(words);
+    let (on_error, words) = split_skip(words);
     let calls = match parse_calls(alloc, words) {
         Ok(Some(calls)) => calls,
-        Ok(None) => return (Err(FilterError::Usage), Some(Closed::uncalled(out))),
-        Err(_) => return (Err(FilterError::Memory), Some(Closed::uncalled(out))),
+        Ok(None) => return (Err(FilterError::Usage), abandon(blocks)),
+        Err(_) => return (Err(FilterError::Memory), abandon(blocks)),
     };
     let Ok(mut reader) = BufReader::with_capacity(alloc, BLOCK, input) else {
-        return (Err(FilterError::Memory), Some(Closed::uncalled(out)));
+        return (Err(FilterError::Memory), abandon(blocks));
     };
-    let Ok(blocks) = open(alloc, out) else {
-        return (Err(FilterError::Memory), None);
-    };
-    let (filtered, closed) = filter_in_blocks(
+    let filtered = filter_lines(
         alloc,
-        on_refusal,
+        on_error,
         calls.as_slice(),
         &mut reader,
-        blocks,
+        &mut blocks,
         diagnostics,
     );
-    (filtered, Some(closed))
+    let closed = close(blocks);
+    if closed.has_failed() {
+        return (Err(FilterError::Output), closed);
+    }
+    (filtered, closed)
 }
 
 /// Runs the program on the arguments of the process, over any diagnostics, with a block before `out`, which is returned
@@ -95,12 +93,13 @@ pub fn run_arguments<R: Read, O: Write + Drop, D: Diagnostics<FilterError>>(
 ) -> (u8, Option<Closed<O>>)
     ensures at_most { result.0 ≤ 3 }
     ensures printed { result.0 ≡ 0 → HaveWords arguments (λ words. IsSomeAnd result.1 (λ closed.
-        PrintsAll words (R.remaining input.old) (O.contents out) (O.contents closed.0) × (closed.1 ≡ false))) }
+        WordsFilter D.reports words (R.remaining input.old) (O.contents out) (O.contents closed.0)
+        diagnostics.old diagnostics.new (Ok true) × (closed.1 ≡ false))) }
     ensures silent { result.0 ≡ 0 → diagnostics.new ≡ diagnostics.old }
     ensures reported { 0 < result.0 →
         ((result.0 ≡ 1) × HaveWords arguments (λ words. IsSomeAnd result.1 (λ closed.
-        SkipsSome D.reports words (R.remaining input.old) (O.contents out) (O.contents closed.0)
-        diagnostics.old diagnostics.new × (closed.1 ≡ false))))
+        WordsFilter D.reports words (R.remaining input.old) (O.contents out) (O.contents closed.0)
+        diagnostics.old diagnostics.new (Ok false) × (closed.1 ≡ false))))
         ⊎ ((error : FilterError) × (before : D) × (result.0 ≡ status_of_filter error)
         × ArgumentsFail FilterError.Usage FilterError.Memory arguments result.1
         (LinesFail D.reports O.contents (R.remaining input.old) out diagnostics.old before) error
@@ -113,11 +112,13 @@ pub fn run_arguments<R: Read, O: Write + Drop, D: Diagnostics<FilterError>>(
         Ok(None) => return (conclude(Err(FilterError::Usage), diagnostics), Some(Closed::uncalled(out))),
         Err(_) => return (conclude(Err(FilterError::Memory), diagnostics), Some(Closed::uncalled(out))),
     };
-    let (filtered, closed) = filter_words(alloc, words.as_slice(), input, out, diagnostics);
-    match filtered {
-        Ok(true) => (0, closed),
-        Ok(false) => (1, closed),
-        Err(error) => (conclude(Err(error), diagnostics), closed),
+    let Ok(blocks) = open(alloc, out) else {
+        return (conclude(Err(FilterError::Memory), diagnostics), None);
+    };
+    match filter_words(alloc, words.as_slice(), input, blocks, diagnostics) {
+        (Ok(true), closed) => (0, Some(closed)),
+        (Ok(false), closed) => (1, Some(closed)),
+        (Err(error), closed) => (conclude(Err(error), diagnostics), Some(closed)),
     }
 }
 

@@ -18,5 +18,5 @@ pub mod plural;
 pub use calls::parse_calls;
 pub use diagnostics::{Diagnostics, ErrorLines};
 pub use errors::{FilterError, FixdecError, OperationError, PluralError, ProgramError, Reason};
-pub use filter::{OnRefusal, filter_in_blocks, filter_lines};
+pub use filter::{OnError, filter_lines};
 pub use output::{Blocks, Closed, abandon, close, open};

@@ -2,7 +2,7 @@
 ghost use Rattle.std.specs.Prelude.{◌≡◌, true, [], ◌∷◌, ◌++◌};
 
 use cli::{
-    Diagnostics, ErrorLines, FilterError, FixdecError, OnRefusal, OperationError, PluralError,
+    Diagnostics, ErrorLines, FilterError, FixdecError, OnError, OperationError, PluralError,
     Reason, filter_lines,
 };
 use fixed_decimal::{Call, TextBuf};
@@ -147,14 +147,7 @@ fn a_skipping_filter_reports_each_refusal(rt: HostRuntime) -> Result<(), Fail> {
         is_whole: true,
     };
     let calls = [Call::MultiplyPow10(-2)];
-    let answer = filter_lines(
-        alloc,
-        OnRefusal::Skip,
-        &calls,
-        &mut input,
-        &mut out,
-        &mut log,
-    );
+    let answer = filter_lines(alloc, OnError::Skip, &calls, &mut input, &mut out, &mut log);
     assert_eq!(rt; answer, Ok(false));
     assert_eq!(rt; out.as_bytes(), b"2.50\n\n0.07\n\n".as_slice());
     let wanted = [

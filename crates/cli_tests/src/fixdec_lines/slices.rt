@@ -1,12 +1,12 @@
 //! The filter as a library's call: over a slice and two sinks in memory.
-use cli::{ErrorLines, FilterError, OnRefusal, filter_lines};
+use cli::{ErrorLines, FilterError, OnError, filter_lines};
 use fixed_decimal::{Call, TextBuf};
 use std::alloc::Global;
 use std::test::Fail;
 
 /// What a filter does at a refusal, an input, what the sinks take, and the answer.
 type Row = (
-    OnRefusal,
+    OnError,
     &'static [u8],
     &'static [u8],
     &'static [u8],
@@ -15,10 +15,10 @@ type Row = (
 
 /// Inputs that are shifted by -2.
 const ROWS: &[Row] = &[
-    (OnRefusal::Stop, b"250\n7\n", b"2.50\n0.07\n", b"", Ok(true)),
-    (OnRefusal::Skip, b"250\n7\n", b"2.50\n0.07\n", b"", Ok(true)),
+    (OnError::Stop, b"250\n7\n", b"2.50\n0.07\n", b"", Ok(true)),
+    (OnError::Skip, b"250\n7\n", b"2.50\n0.07\n", b"", Ok(true)),
     (
-        OnRefusal::Skip,
+        OnError::Skip,
         b"250\nx\n7",
         b"2.50\n\n0.07\n",
         b"line 2: start: syntax\n",

@@ -1,19 +1,12 @@
-use Rattle.std.proofs.Common.{◌≡◌, [], ◌∷◌, sym, subst, rules}
-use Rattle.decimal_digits.specs.Text.{AppendsPrefix}
+use Rattle.std.proofs.Common.{◌≡◌, [], refl, sym, ap, ◌∙◌, rules}
+use Rattle.fixed_decimal.proofs.Calling.{appends_none, appends_kept}
 use Rattle.cli.specs.Errors.{status_of_operation}
-use Rattle.cli.proofs.Refusals.{not_output, skipped_output}
 use Rattle.cli.proofs.filter.print_line.Goals as goal
 
-pub returns-in-Err-skip_line-clause-prefix : goal.returns-in-Err-skip_line-clause-prefix
-returns-in-Err-skip_line-clause-prefix g c = λ _.
-    let contents = g.W.Sink.contents in
-    let line = c.args.line.now in
-    let calls = c.args.calls.now in
-    let h = c.in-Err.ensures.fails in
+pub returns-in-Err-put_byte-clause-prefix : goal.returns-in-Err-put_byte-clause-prefix
+returns-in-Err-put_byte-clause-prefix g c = λ _.
     let s : status_of_operation c.in-Err.error ≡ 1 = search rules in
     let still : c.print_run.new.sink ≡ c.args.out.now =
-    c.in-Err.ensures.untouched (not_output c.in-Err.error line calls h s) in
-    let empty : AppendsPrefix (contents c.args.out.now) (contents c.skip_line.new.out) (10 ∷ []) =
-    rw still at c.in-Err-skip_line.ensures.prefix in
-    subst (AppendsPrefix (contents c.args.out.now) (contents c.skip_line.new.out))
-    (sym (skipped_output c.in-Err.error line calls h s)) empty
+    c.in-Err.ensures.untouched (λ is. let n : 3 ≡ 1 = ap status_of_operation (sym is) ∙ s in cc) in
+    let none = appends_none (g.W.Sink.contents c.print_run.new.sink) in
+    ([], _, refl, rw still at (appends_kept _ _ _ [] none c.in-Err-put_byte.ensures.keeps))

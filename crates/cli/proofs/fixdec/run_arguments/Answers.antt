@@ -4,7 +4,7 @@ use Rattle.cli.specs.declared.errors.FixdecError.TheVariants.{Memory}
 use Rattle.cli.specs.Arguments.{HaveWords}
 use Rattle.cli.specs.Errors.{status_of_fixdec, output}
 use Rattle.cli.specs.Fixdec.{Prints}
-use Rattle.cli.proofs.Asking.{new_writer}
+use Rattle.cli.proofs.Buffers.{new_writer}
 use Rattle.cli.proofs.Programs.{have_words, unwritten_fails}
 use Rattle.cli.proofs.fixdec.run_arguments.Goals as goal
 

@@ -1,92 +1,92 @@
-use Rattle.std.proofs.Common.{◌≡◌, MutBor, Ok, Err, None, ap, refl, false, ◌∙◌, rules}
+use Rattle.std.proofs.Common.{◌≡◌, ℕ, List, [], MutBor, String, Option, Some, Result, Ok, Err, Bool, refl, rules}
+use Rattle.std.specs.declared.alloc.Global.{Global}
 use Rattle.std.specs.Io.Buffered.{reader_remaining, writer_contents}
+use Rattle.std.specs.Io.KnownBytes.{Keeps, append_known}
+use Rattle.decimal_digits.specs.Text.{AppendsPrefix}
+use Rattle.fixed_decimal.proofs.Calling.{appends_kept}
+use Rattle.fixed_decimal.specs.declared.runs.Call.{Call}
 use Rattle.cli.specs.Words.{NameAll}
-use Rattle.cli.specs.Filter.{Asks}
-use Rattle.cli.specs.Steps.{EndsInBlocks}
-use Rattle.cli.proofs.Asking.{asks_of, usage_of, new_reader, new_writer, fails_of}
-use Rattle.cli.proofs.Programs.{err_map}
+use Rattle.cli.specs.declared.errors.FilterError.{FilterError}
+use Rattle.cli.specs.declared.errors.FilterError.TheVariants.{Usage, Memory, Output}
+use Rattle.cli.specs.declared.filter.OnError.{OnError}
+use Rattle.cli.specs.Lines.{AreFirst, Returns, Filters, AppendsUnwritten}
+use Rattle.cli.specs.Filter.{WordsFilter}
+use Rattle.cli.specs.Steps.{IsSplit}
+use Rattle.cli.proofs.Buffers.{nothing_behind, new_reader}
 use Rattle.cli.proofs.fixdec_lines.filter_words.Goals as goal
 
-pub returns-in-Ok-None-clause-error : goal.returns-in-Ok-None-clause-error
-returns-in-Ok-None-clause-error g c =
-    let none : c.parse_calls.result ≡ Ok None = search rules in (
-      (usage_of c.args.words.now c.split_skip-on_refusal.result.0 c.split_skip-on_refusal.result.1.now
-          c.split_skip-on_refusal.ensures (c.parse_calls.ensures.none none), refl),
-      λ is. cc,
-    )
+unwritten :
+    (a b d : Option (List ℕ)) (text missing : List ℕ) → AppendsPrefix a b text → Keeps b (append_known d missing)
+    → AppendsUnwritten a d text
+unwritten a b d text missing (part, rest, e, p) k = (missing, (part, rest, e, appends_kept a b _ part p k))
 
-pub returns-in_default-clause-error : goal.returns-in_default-clause-error
-returns-in_default-clause-error g c =
-    let split = c.split_skip-on_refusal.result in
-    let calls = c.in-Ok-Some.calls.items in
-    let names : NameAll split.1.now calls = search rules in (
-      (split.0, calls, asks_of c.args.words.now split.0 split.1.now calls c.split_skip-on_refusal.ensures names, refl),
-      λ is. cc,
-    )
+are_first :
+    (on_error : OnError) (calls : List Call) (i : Option (List ℕ)) (lines : List (List ℕ))
+    (r : Result Bool FilterError) → Returns on_error calls i lines r → AreFirst i lines
+are_first on_error calls i lines (Ok texts) (all, same) = (Some [], all)
+are_first on_error calls i lines (Err error) (first, how) = first
 
-pub returns-clause-printed : goal.returns-clause-printed
-returns-clause-printed g c = λ is.
-    let remaining = g.R.Read.remaining in
+module _
+    {D : Type 0} (reports : D → FilterError → D → Type 0) (words others : List (String Global)) (on_error : OnError)
+    (calls : List Call) (i a b d : Option (List ℕ)) (e f : D) (split : IsSplit words on_error others)
+    (names : NameAll others calls)
+  where
+    asked :
+        (r : Result Bool FilterError) → Filters AppendsUnwritten reports on_error calls i a d e f r
+        → WordsFilter reports words i a d e f r
+    asked (Err Usage) (lines, (first, never), texts, output, part, reported) = absurd never
+    asked (Err Memory) (lines, (first, never), texts, output, part, reported) = absurd never
+    asked r h = (on_error, others, calls, split, names, h)
+
+    -- the filter returned this, and the block was written
+    filters_kept :
+        (r : Result Bool FilterError) → Filters AppendsPrefix reports on_error calls i a b e f r → Keeps b d
+        → WordsFilter reports words i a d e f r
+    filters_kept r (lines, how, stop, text, part, folds) k =
+        let all : Keeps b (append_known d []) = rw (nothing_behind d) k in
+        asked r
+        (lines, how, stop, (λ other. appends_kept a b d _ (text other) k), unwritten a b d _ [] part all, folds)
+
+    -- whatever the filter returned, bytes of the block are missing
+    filters_missing :
+        (r : Result Bool FilterError) → Filters AppendsPrefix reports on_error calls i a b e f r
+        → (missing : List ℕ) × Keeps b (append_known d missing) → WordsFilter reports words i a d e f (Err Output)
+    filters_missing r (lines, how, stop, text, part, folds) (missing, k) =
+        asked (Err Output) (
+          lines,
+          (are_first on_error calls i lines r how, tt),
+          stop,
+          (λ other. absurd (other refl)),
+          unwritten a b d _ missing part k,
+          folds,
+        )
+
+pub returns-clause-filtered : goal.returns-clause-filtered
+returns-clause-filtered g c =
     let contents = g.O.Write.contents in
-    let through = λ (m : MutBor _). remaining m.now in
-    let split = c.split_skip-on_refusal.result in
-    let calls = c.as_slice.result.now in
-    let names : NameAll split.1.now calls = search rules in
-    let asks : Asks c.args.words.now split.0 calls =
-    asks_of c.args.words.now split.0 split.1.now calls c.split_skip-on_refusal.ensures names in
-    let read : reader_remaining through c.in-Ok.reader ≡ remaining c.args.input.now =
+    let through = λ (m : MutBor _). g.R.Read.remaining m.now in
+    let split = c.split_skip-on_error in
+    let filter = c.filter_lines-filtered in
+    let read : reader_remaining through c.in-Ok.reader ≡ g.R.Read.remaining c.args.input.now =
     new_reader through c.in-Ok.reader _ c.in-Ok.ensures.inner c.in-Ok.ensures.empty c.in-Ok.ensures.capacity in
-    let blocks = c.in-Ok-open.blocks.0 in
-    let taken : writer_contents contents blocks ≡ contents c.args.out =
-    new_writer contents blocks c.args.out c.in-Ok-open.ensures.inner c.in-Ok-open.ensures.empty in
-    let works : c.filter_in_blocks-filtered.result.1.1 ≡ false = search (rules, is) in
-    let printed = c.filter_in_blocks-filtered.ensures.printed is in
-    ((split.0, calls, asks, rw (read, taken) at printed), works)
+    rw read at
+    (filters_kept g.D.Diagnostics.reports c.args.words.now split.result.1.now split.result.0 c.as_slice.result.now
+    (reader_remaining through c.in-Ok.reader) (writer_contents contents c.args.blocks.0)
+    (writer_contents contents filter.new.out.0) (contents c.close-closed.result.0) c.args.diagnostics.now
+    filter.new.diagnostics split.ensures (search rules) filter.result filter.ensures.filtered
+    (c.close-closed.ensures.written (search rules)))
 
-pub returns-clause-skipped : goal.returns-clause-skipped
-returns-clause-skipped g c = λ is.
-    let remaining = g.R.Read.remaining in
+pub returns-then-has_failed-clause-filtered : goal.returns-then-has_failed-clause-filtered
+returns-then-has_failed-clause-filtered g c =
     let contents = g.O.Write.contents in
-    let through = λ (m : MutBor _). remaining m.now in
-    let split = c.split_skip-on_refusal.result in
-    let calls = c.as_slice.result.now in
-    let names : NameAll split.1.now calls = search rules in
-    let asks : Asks c.args.words.now split.0 calls =
-    asks_of c.args.words.now split.0 split.1.now calls c.split_skip-on_refusal.ensures names in
-    let read : reader_remaining through c.in-Ok.reader ≡ remaining c.args.input.now =
+    let through = λ (m : MutBor _). g.R.Read.remaining m.now in
+    let split = c.split_skip-on_error in
+    let filter = c.filter_lines-filtered in
+    let read : reader_remaining through c.in-Ok.reader ≡ g.R.Read.remaining c.args.input.now =
     new_reader through c.in-Ok.reader _ c.in-Ok.ensures.inner c.in-Ok.ensures.empty c.in-Ok.ensures.capacity in
-    let blocks = c.in-Ok-open.blocks.0 in
-    let taken : writer_contents contents blocks ≡ contents c.args.out =
-    new_writer contents blocks c.args.out c.in-Ok-open.ensures.inner c.in-Ok-open.ensures.empty in
-    let works : c.filter_in_blocks-filtered.result.1.1 ≡ false = search (rules, is) in
-    let skipped = c.filter_in_blocks-filtered.ensures.skipped is in
-    ((split.0, calls, asks, rw (read, taken) at skipped), works)
-
-pub returns-clause-error : goal.returns-clause-error
-returns-clause-error g c =
-    let remaining = g.R.Read.remaining in
-    let contents = g.O.Write.contents in
-    let reports = g.D.Diagnostics.reports in
-    let through = λ (m : MutBor _). remaining m.now in
-    let split = c.split_skip-on_refusal.result in
-    let calls = c.as_slice.result.now in
-    let names : NameAll split.1.now calls = search rules in
-    let asks : Asks c.args.words.now split.0 calls =
-    asks_of c.args.words.now split.0 split.1.now calls c.split_skip-on_refusal.ensures names in
-    let read : reader_remaining through c.in-Ok.reader ≡ remaining c.args.input.now =
-    new_reader through c.in-Ok.reader _ c.in-Ok.ensures.inner c.in-Ok.ensures.empty c.in-Ok.ensures.capacity in
-    let blocks = c.in-Ok-open.blocks.0 in
-    let taken : writer_contents contents blocks ≡ contents c.args.out =
-    new_writer contents blocks c.args.out c.in-Ok-open.ensures.inner c.in-Ok-open.ensures.empty in
-    let filtered = c.filter_in_blocks-filtered in
-    let new = filtered.new.diagnostics in
-    let written = contents filtered.result.1.0 in
-    err_map filtered.result.0
-    (λ error is ends.
-    let q : EndsInBlocks reports split.0 calls (remaining c.args.input.now) (contents c.args.out) written
-    c.args.diagnostics.now new error = rw (read, taken) at ends in (
-      fails_of reports c.args.words.now (remaining c.args.input.now) (contents c.args.out) written
-          c.args.diagnostics.now new error (split.0, calls, asks, q),
-      λ output. filtered.ensures.failed (is ∙ ap Err output),
-    ))
-    filtered.ensures.ended
+    rw read at
+    (filters_missing g.D.Diagnostics.reports c.args.words.now split.result.1.now split.result.0 c.as_slice.result.now
+    (reader_remaining through c.in-Ok.reader) (writer_contents contents c.args.blocks.0)
+    (writer_contents contents filter.new.out.0) (contents c.close-closed.result.0) c.args.diagnostics.now
+    filter.new.diagnostics split.ensures (search rules) filter.result filter.ensures.filtered
+    c.close-closed.ensures.prefix)

@@ -4,7 +4,7 @@ use Rattle.std.specs.Io.KnownBytes.{append_known}
 use Rattle.std.specs.Io.Buffered.{writer_contents}
 use Rattle.cli.specs.declared.errors.PluralError.TheVariants.{Output}
 use Rattle.cli.specs.Categories.{PrintsAll, StopsAt}
-use Rattle.cli.proofs.Asking.{new_writer, settled}
+use Rattle.cli.proofs.Buffers.{new_writer, settled}
 use Rattle.cli.proofs.Programs.{err_map, ok_weaker}
 use Rattle.cli.proofs.Printing.{all_kept, stop_kept, begun, has_rules}
 use Rattle.cli.proofs.plural.print.Goals as goal

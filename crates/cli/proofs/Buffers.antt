@@ -1,0 +1,37 @@
+-- What buffers hold that are new or written.
+use Rattle.std.proofs.Common.{◌≡◌, ℕ, List, [], Option, Some, None, Bool, true, false, refl, sym, ap, subst}
+use Rattle.std.specs.declared.io.buffered.BufReader.{BufReader}
+use Rattle.std.specs.declared.io.buffered.BufWriter.{BufWriter}
+use Rattle.std.specs.Io.KnownBytes.{Keeps, prepend_known, append_known}
+use Rattle.std.specs.Io.Buffered.{reader_inner, reader_buffer, reader_capacity, reader_remaining, writer_inner, writer_buffer, writer_contents}
+use Rattle.std.proofs.lemmas.Bool.{false≢true}
+use Rattle.std.proofs.lemmas.List.{append-nil}
+
+nothing_before : (known : Option (List ℕ)) → prepend_known [] known ≡ known
+nothing_before None = refl
+nothing_before (Some xs) = refl
+
+-- no bytes are unwritten
+pub nothing_behind : (known : Option (List ℕ)) → append_known known [] ≡ known
+nothing_behind None = refl
+nothing_behind (Some xs) = ap Some (append-nil xs)
+
+-- what is left for a new buffer is what is left for the reader after it
+pub new_reader :
+    {T A : Type 0} (f : T → Option (List ℕ)) (r : BufReader T A) (x : T) → reader_inner r ≡ x → reader_buffer r ≡ []
+    → reader_capacity r ≡ 65536 → reader_remaining f r ≡ f x
+new_reader f r x inner empty room = rw (room, empty, inner) (nothing_before (f x))
+
+-- what a new buffer has taken is what the writer after it has
+pub new_writer :
+    {T A : Type 0} (f : T → Option (List ℕ)) (w : BufWriter T A) (x : T) → writer_inner w ≡ x → writer_buffer w ≡ []
+    → writer_contents f w ≡ f x
+new_writer f w x inner empty = rw (empty, inner) (nothing_behind (f x))
+
+-- after the last call of a writer that has not failed no bytes are unwritten
+pub settled :
+    (old new : Option (List ℕ)) (failed : Bool) → (failed ≡ false → Keeps old new)
+    → (unwritten : List ℕ) × Keeps old (append_known new unwritten)
+    → (unwritten : List ℕ) × (failed ≡ false → unwritten ≡ []) × Keeps old (append_known new unwritten)
+settled old new true written (unwritten, k) = (unwritten, (λ is. absurd (false≢true (sym is))), k)
+settled old new false written prefix = ([], (λ _. refl), subst (Keeps old) (sym (nothing_behind new)) (written refl))
