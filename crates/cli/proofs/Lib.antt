@@ -1,7 +1,5 @@
 pub mod Numerals
 pub mod Splits
-pub mod Naming
-pub mod OneCall
 pub mod Programs
 pub mod Buffers
 pub mod Filtering

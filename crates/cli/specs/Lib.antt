@@ -5,7 +5,6 @@ pub mod Errors
 pub mod Filter
 pub mod Fixdec
 pub mod Lines
-pub mod Parts
 pub mod Plural
 pub mod Steps
 pub mod Words

@@ -1,6 +1,5 @@
 -- The call that each word of a command line names, by its bytes.
-use Rattle.std.specs.Prelude.{◌≡◌, ℕ, ◌==◌, ◌&&◌, ⊤, Bool, nat_le, nat_lt, if◌then◌else◌, ℤ, pos, neg_ℤ}
-use Rattle.std.specs.Prelude.{List, [], ◌∷◌, ◌++◌, length, drop, slice_index, codes, String, string_bytes, Option, Some, None, option_map}
+use Rattle.std.specs.Prelude.{◌≡◌, ℕ, ◌==◌, ◌&&◌, ⊤, Bool, nat_le, nat_lt, if◌then◌else◌, ℤ, pos, neg_ℤ, List, [], ◌∷◌, ◌++◌, length, drop, slice_index, codes, String, string_bytes, Option, Some, None, option_map}
 use Rattle.std.specs.Str.{all_ascii_digits}
 use Rattle.std.specs.Str.Parse.{digits_value}
 use Rattle.std.specs.declared.alloc.Global.{Global}
@@ -14,9 +13,7 @@ use Rattle.fixed_decimal.specs.declared.variations.Sign.TheVariants as sign
 use Rattle.fixed_decimal.specs.declared.variations.SignDisplay.{SignDisplay}
 use Rattle.fixed_decimal.specs.declared.variations.SignDisplay.TheVariants as display
 use Rattle.fixed_decimal.specs.declared.runs.Call.{Call}
-use Rattle.fixed_decimal.specs.declared.runs.Call.TheVariants.{MultiplyPow10, TrimStart, TrimEnd, TrimEndIfInteger}
-use Rattle.fixed_decimal.specs.declared.runs.Call.TheVariants.{PadStart, PadEnd, SetMaxPosition, Round}
-use Rattle.fixed_decimal.specs.declared.runs.Call.TheVariants.{SetSign, ApplySignDisplay, Concatenate}
+use Rattle.fixed_decimal.specs.declared.runs.Call.TheVariants.{MultiplyPow10, TrimStart, TrimEnd, TrimEndIfInteger, PadStart, PadEnd, SetMaxPosition, Round, SetSign, ApplySignDisplay, Concatenate}
 
 -- ---- What stands behind a colon.
 
@@ -75,13 +72,6 @@ display_word display.Negative = codes "negative"
 abbrev pub HasNumber : List ℕ → List ℕ → ℤ → Type 0
 HasNumber name word n = (digits : List ℕ) × (word ≡ name ++ digits) × (number digits ≡ Some n)
 
--- a position, a mode and an increment, with colons between them
-abbrev pub IsRounding : List ℕ → ℤ → SignedRoundingMode → RoundingIncrement → Type 0
-IsRounding bytes position mode increment =
-    (digits : List ℕ)
-    × (bytes ≡ digits ++ (codes ":" ++ (mode_word mode ++ (codes ":" ++ increment_word increment))))
-    × (number digits ≡ Some position)
-
 -- the word names this call; a text to join is all that follows the first colon
 abbrev pub Names : List ℕ → Call → Type 0
 Names word (MultiplyPow10 delta) = HasNumber (codes "shift:") word delta
@@ -92,7 +82,9 @@ Names word (PadStart position) = HasNumber (codes "pad-start:") word position
 Names word (PadEnd position) = HasNumber (codes "pad-end:") word position
 Names word (SetMaxPosition position) = HasNumber (codes "max:") word position
 Names word (Round position mode increment) =
-    (rest : List ℕ) × (word ≡ codes "round:" ++ rest) × IsRounding rest position mode increment
+    (digits : List ℕ)
+    × (word ≡ codes "round:" ++ (digits ++ (codes ":" ++ (mode_word mode ++ (codes ":" ++ increment_word increment)))))
+    × (number digits ≡ Some position)
 Names word (SetSign sign) = word ≡ codes "sign:" ++ sign_word sign
 Names word (ApplySignDisplay display) = word ≡ codes "display:" ++ display_word display
 Names word (Concatenate text) = word ≡ codes "concat:" ++ text.now

@@ -1,14 +1,10 @@
 //! The calls that the words of a command line name.
-ghost use Rattle.std.specs.Prelude.{◌≡◌, ◌≢◌, ◌<◌, ◌≤◌, [], length, ℤ, codes, IfSome, IfNone, IfOk, IfErr, Ok, None, Any, true, false};
-ghost use Rattle.decimal_digits.specs.declared.rounding.UnsignedRoundingMode.{UnsignedRoundingMode};
+ghost use Rattle.std.specs.Prelude.{◌≡◌, ◌≢◌, [], ℤ, IfSome, IfNone, IfOk, IfErr, Ok, Some, None, Any, true, false};
 ghost use Rattle.fixed_decimal.specs.declared.rounding.SignedRoundingMode.{SignedRoundingMode};
 ghost use Rattle.decimal_digits.specs.declared.rounding.RoundingIncrement.{RoundingIncrement};
-ghost use Rattle.fixed_decimal.specs.declared.variations.Sign.{Sign};
-ghost use Rattle.fixed_decimal.specs.declared.variations.SignDisplay.{SignDisplay};
 ghost use Rattle.fixed_decimal.specs.declared.runs.Call.{Call};
-ghost use Rattle.cli.specs.Words.{number, mode_word, increment_word, sign_word, display_word};
-ghost use Rattle.cli.specs.Words.{IsRounding, Names, IsSame, NameAll, AreCalls, IsUnknown};
-ghost use Rattle.cli.specs.Parts.{name_of, HasArgument, PartsName};
+ghost use Rattle.fixed_decimal.specs.declared.runs.Call.TheVariants.{Round};
+ghost use Rattle.cli.specs.Words.{number, mode_word, increment_word, HasNumber, Names, IsSame, NameAll, AreCalls, IsUnknown};
 
 use fixed_decimal::{
     Call, RoundingIncrement, Sign, SignDisplay, SignedRoundingMode, UnsignedRoundingMode,
@@ -26,31 +22,29 @@ fn number(word: &str) -> Option<i16>
     word.parse().ok()
 }
 
+/// Parses the number after a prefix.
+fn number_after(prefix: &str, word: &str) -> Option<i16>
+    ensures some { IfSome result (HasNumber prefix.now word.now) }
+    ensures only { (n : ℤ) → HasNumber prefix.now word.now n → result ≡ Some n }
+{
+    number(word.strip_prefix(prefix)?)
+}
+
 /// Parses the mode of a rounding.
 fn mode(word: &str) -> Option<SignedRoundingMode>
     ensures some { IfSome result (λ m. word.now ≡ mode_word m) }
-    ensures none { IfNone result ((m : SignedRoundingMode) → word.now ≢ mode_word m) }
+    ensures only { (m : SignedRoundingMode) → word.now ≡ mode_word m → result ≡ Some m }
 {
     match word {
         "ceil" => Some(SignedRoundingMode::Ceil),
         "floor" => Some(SignedRoundingMode::Floor),
+        "expand" => Some(SignedRoundingMode::Unsigned(UnsignedRoundingMode::Expand)),
+        "trunc" => Some(SignedRoundingMode::Unsigned(UnsignedRoundingMode::Trunc)),
         "half-ceil" => Some(SignedRoundingMode::HalfCeil),
         "half-floor" => Some(SignedRoundingMode::HalfFloor),
-        _ => unsigned_mode(word).map(SignedRoundingMode::Unsigned),
-    }
-}
-
-/// Parses the mode of a rounding that ignores the sign.
-fn unsigned_mode(word: &str) -> Option<UnsignedRoundingMode>
-    ensures some { IfSome result (λ m. word.now ≡ mode_word (SignedRoundingMode.Unsigned m)) }
-    ensures none { IfNone result ((m : UnsignedRoundingMode) → word.now ≢ mode_word (SignedRoundingMode.Unsigned m)) }
-{
-    match word {
-        "expand" => Some(UnsignedRoundingMode::Expand),
-        "trunc" => Some(UnsignedRoundingMode::Trunc),
-        "half-expand" => Some(UnsignedRoundingMode::HalfExpand),
-        "half-trunc" => Some(UnsignedRoundingMode::HalfTrunc),
-        "half-even" => Some(UnsignedRoundingMode::HalfEven),
+        "half-expand" => Some(SignedRoundingMode::Unsigned(UnsignedRoundingMode::HalfExpand)),
+        "half-trunc" => Some(SignedRoundingMode::Unsigned(UnsignedRoundingMode::HalfTrunc)),
+        "half-even" => Some(SignedRoundingMode::Unsigned(UnsignedRoundingMode::HalfEven)),
         _ => None,
     }
 }
@@ -58,7 +52,7 @@ fn unsigned_mode(word: &str) -> Option<UnsignedRoundingMode>
 /// Parses the increment of a rounding.
 fn increment(word: &str) -> Option<RoundingIncrement>
     ensures some { IfSome result (λ i. word.now ≡ increment_word i) }
-    ensures none { IfNone result ((i : RoundingIncrement) → word.now ≢ increment_word i) }
+    ensures only { (i : RoundingIncrement) → word.now ≡ increment_word i → result ≡ Some i }
 {
     match word {
         "1" => Some(RoundingIncrement::MultiplesOf1),
@@ -69,65 +63,20 @@ fn increment(word: &str) -> Option<RoundingIncrement>
     }
 }
 
-/// Parses the position, the mode and the increment of a rounding, with colons between them.
-fn rounding<'a>(words: &str) -> Option<Call<'a>>
-    ensures some { IfSome result (PartsName (codes "round") words.now) }
-    ensures none { IfNone result
-        ((p : ℤ) (m : SignedRoundingMode) (i : RoundingIncrement) → ¬ IsRounding words.now p m i) }
+/// Parses the position, the mode and the increment of a rounding.
+fn rounding(word: &str) -> Option<(i16, SignedRoundingMode, RoundingIncrement)>
+    ensures some { IfSome result (λ x. Names word.now (Round x.0 x.1 x.2)) }
+    ensures only { (p : ℤ) (m : SignedRoundingMode) (i : RoundingIncrement) → Names word.now (Round p m i)
+        → result ≡ Some (p, m, i) }
 {
-    let (position, words) = words.split_once(':')?;
+    let parts = word.strip_prefix("round:")?;
+    let (position, words) = parts.split_once(':')?;
     let (mode_word, increment_word) = words.split_once(':')?;
-    Some(Call::Round(
+    Some((
         number(position)?,
         mode(mode_word)?,
         increment(increment_word)?,
     ))
-}
-
-/// Parses the sign that is set.
-fn sign(word: &str) -> Option<Sign>
-    ensures some { IfSome result (λ s. word.now ≡ sign_word s) }
-    ensures none { IfNone result ((s : Sign) → word.now ≢ sign_word s) }
-{
-    match word {
-        "none" => Some(Sign::None),
-        "minus" => Some(Sign::Negative),
-        "plus" => Some(Sign::Positive),
-        _ => None,
-    }
-}
-
-/// Parses a sign display.
-fn display(word: &str) -> Option<SignDisplay>
-    ensures some { IfSome result (λ d. word.now ≡ display_word d) }
-    ensures none { IfNone result ((d : SignDisplay) → word.now ≢ display_word d) }
-{
-    match word {
-        "auto" => Some(SignDisplay::Auto),
-        "never" => Some(SignDisplay::Never),
-        "always" => Some(SignDisplay::Always),
-        "except-zero" => Some(SignDisplay::ExceptZero),
-        "negative" => Some(SignDisplay::Negative),
-        _ => None,
-    }
-}
-
-/// Parses a call of the name before a colon and the argument after it.
-fn call_with_argument<'a>(name: &str, argument: &'a str) -> Option<Call<'a>>
-    ensures some { IfSome result (PartsName name.now argument.now) }
-    ensures none { IfNone result ((call : Call) → ¬ PartsName name.now argument.now call) }
-{
-    match name {
-        "shift" => Some(Call::MultiplyPow10(number(argument)?)),
-        "pad-start" => Some(Call::PadStart(number(argument)?)),
-        "pad-end" => Some(Call::PadEnd(number(argument)?)),
-        "max" => Some(Call::SetMaxPosition(number(argument)?)),
-        "round" => rounding(argument),
-        "sign" => Some(Call::SetSign(sign(argument)?)),
-        "display" => Some(Call::ApplySignDisplay(display(argument)?)),
-        "concat" => Some(Call::Concatenate(argument.as_bytes())),
-        _ => None,
-    }
 }
 
 /// Parses a word, which names one call at most.
@@ -140,9 +89,30 @@ fn call(word: &str) -> Option<Call<'_>>
         "trim-start" => Some(Call::TrimStart),
         "trim-end" => Some(Call::TrimEnd),
         "trim-end-if-integer" => Some(Call::TrimEndIfInteger),
+        "sign:none" => Some(Call::SetSign(Sign::None)),
+        "sign:minus" => Some(Call::SetSign(Sign::Negative)),
+        "sign:plus" => Some(Call::SetSign(Sign::Positive)),
+        "display:auto" => Some(Call::ApplySignDisplay(SignDisplay::Auto)),
+        "display:never" => Some(Call::ApplySignDisplay(SignDisplay::Never)),
+        "display:always" => Some(Call::ApplySignDisplay(SignDisplay::Always)),
+        "display:except-zero" => Some(Call::ApplySignDisplay(SignDisplay::ExceptZero)),
+        "display:negative" => Some(Call::ApplySignDisplay(SignDisplay::Negative)),
         _ => {
-            let (name, argument) = word.split_once(':')?;
-            call_with_argument(name, argument)
+            if let Some(distance) = number_after("shift:", word) {
+                Some(Call::MultiplyPow10(distance))
+            } else if let Some(position) = number_after("pad-start:", word) {
+                Some(Call::PadStart(position))
+            } else if let Some(position) = number_after("pad-end:", word) {
+                Some(Call::PadEnd(position))
+            } else if let Some(position) = number_after("max:", word) {
+                Some(Call::SetMaxPosition(position))
+            } else if let Some(text) = word.strip_prefix("concat:") {
+                Some(Call::Concatenate(text.as_bytes()))
+            } else if let Some((position, mode, increment)) = rounding(word) {
+                Some(Call::Round(position, mode, increment))
+            } else {
+                None
+            }
         }
     }
 }
