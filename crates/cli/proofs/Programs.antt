@@ -98,10 +98,9 @@ err_map (Err e) f h = f e refl h
 
 -- without an error, what is true of Ok is true
 pub at_ok :
-    {X E : Type 0} {P : Type 0} (Q : E → Type 0) (r : Result X E) (status : ℕ)
-    → IfErr r (λ e. (0 < status) × Q e) → status ≡ 0 → OnOk r P → P
-at_ok Q (Ok x) status h zero p = p
-at_ok Q (Err e) status (some, q) zero p = absurd (omega (arith, some, zero))
+    {X E : Type 0} {P : Type 0} (r : Result X E) (status : ℕ) → IfErr r (λ _. 0 < status) → status ≡ 0 → OnOk r P → P
+at_ok (Ok x) status h zero p = p
+at_ok (Err e) status some zero p = absurd (omega (arith, some, zero))
 
 -- and so is what follows of it
 pub ok_weaker : {X E : Type 0} {P Q : Type 0} (r : Result X E) → (P → Q) → OnOk r P → OnOk r Q

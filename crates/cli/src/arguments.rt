@@ -14,10 +14,7 @@ use std::io::ErrorKind;
 /// # Errors
 ///
 /// The program is out of memory, for the arguments or for the words.
-pub fn words(
-    alloc: Global,
-    arguments: io::Result<Args>,
-) -> Result<Option<Vec<String>>, AllocError>
+pub fn words(alloc: Global, arguments: io::Result<Args>) -> Result<Option<Vec<String>>, AllocError>
     ensures words { IfOk result (λ found. IfSome found (λ words. HaveWords arguments (λ all. words.items ≡ all))) }
     ensures none { result ≡ Ok None → IsNotText arguments }
     ensures err { IfErr result (λ _. IsOutOfMemory arguments) }

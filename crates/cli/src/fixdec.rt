@@ -116,8 +116,14 @@ pub fn run_arguments<O: Write + Drop, E: Write>(
 {
     let words = match words(alloc, arguments) {
         Ok(Some(words)) => words,
-        Ok(None) => return (conclude_on(Err(FixdecError::Usage), err), Some(Closed::uncalled(out))),
-        Err(_) => return (conclude_on(Err(FixdecError::Memory), err), Some(Closed::uncalled(out))),
+        Ok(None) => return (
+            conclude_on(Err(FixdecError::Usage), err),
+            Some(Closed::uncalled(out)),
+        ),
+        Err(_) => return (
+            conclude_on(Err(FixdecError::Memory), err),
+            Some(Closed::uncalled(out)),
+        ),
     };
     let Ok(mut blocks) = open(alloc, out) else {
         return (conclude_on(Err(FixdecError::Memory), err), None);
@@ -128,7 +134,10 @@ pub fn run_arguments<O: Write + Drop, E: Write>(
     }
     let closed = close(blocks);
     if closed.has_failed() {
-        return (conclude_on(Err(FixdecError::from(SinkFault)), err), Some(closed));
+        return (
+            conclude_on(Err(FixdecError::from(SinkFault)), err),
+            Some(closed),
+        );
     }
     (0, Some(closed))
 }

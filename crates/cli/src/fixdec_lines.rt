@@ -109,8 +109,14 @@ pub fn run_arguments<R: Read, O: Write + Drop, D: Diagnostics<FilterError>>(
 {
     let words = match words(alloc, arguments) {
         Ok(Some(words)) => words,
-        Ok(None) => return (conclude(Err(FilterError::Usage), diagnostics), Some(Closed::uncalled(out))),
-        Err(_) => return (conclude(Err(FilterError::Memory), diagnostics), Some(Closed::uncalled(out))),
+        Ok(None) => return (
+            conclude(Err(FilterError::Usage), diagnostics),
+            Some(Closed::uncalled(out)),
+        ),
+        Err(_) => return (
+            conclude(Err(FilterError::Memory), diagnostics),
+            Some(Closed::uncalled(out)),
+        ),
     };
     let Ok(blocks) = open(alloc, out) else {
         return (conclude(Err(FilterError::Memory), diagnostics), None);

@@ -93,8 +93,14 @@ pub fn run_arguments<O: Write + Drop, D: Diagnostics<PluralError>>(
 {
     let words = match words(alloc, arguments) {
         Ok(Some(words)) => words,
-        Ok(None) => return (conclude(Err(PluralError::Usage), diagnostics), Some(Closed::uncalled(out))),
-        Err(_) => return (conclude(Err(PluralError::Memory), diagnostics), Some(Closed::uncalled(out))),
+        Ok(None) => return (
+            conclude(Err(PluralError::Usage), diagnostics),
+            Some(Closed::uncalled(out)),
+        ),
+        Err(_) => return (
+            conclude(Err(PluralError::Memory), diagnostics),
+            Some(Closed::uncalled(out)),
+        ),
     };
     let (printed, closed) = print(alloc, words.as_slice(), out);
     let status = conclude(printed, diagnostics);

@@ -8,7 +8,13 @@ returns-clause-reported g c =
     let after = c.conclude-status.new.diagnostics in
     err_map c.args.done
     (λ error is h.
-    let (some, status, (named, reports)) = h in
-    (some, status, (after.has_failed, reports_along g.W.Write.contents (g.E.Display.output error) _ _ after.writer.now
-    _ _ (search (rules, named)) reports)))
+    let (some, status, (named, reports)) = h in (
+      some,
+      status,
+      (
+        after.has_failed,
+        reports_along g.W.Write.contents (g.E.Display.output error) _ _ after.writer.now
+            _ _ (search (rules, named)) reports,
+      ),
+    ))
     (rw c.new-lines.ensures at c.conclude-status.ensures.reported)

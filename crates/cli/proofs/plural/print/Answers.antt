@@ -1,4 +1,4 @@
-use Rattle.std.proofs.Common.{◌≡◌, Err, inr, sym, ap, true, false, ◌∙◌, rules}
+use Rattle.std.proofs.Common.{◌≡◌, Err, inr, sym, ap, true, false, ◌∙◌}
 use Rattle.std.proofs.lemmas.Bool.{false≢true}
 use Rattle.std.specs.Io.KnownBytes.{append_known}
 use Rattle.std.specs.Io.Buffered.{writer_contents}
@@ -25,9 +25,13 @@ returns-then-has_failed-clause-error g c =
     let stop : StopsAt rules texts old (append_known new unwritten) Output =
     begun rules texts old mid (append_known new unwritten) keeps printed.result (rw taken at printed.ensures.printed)
     (rw taken at printed.ensures.stopped) in
-    inr (unwritten, (λ works. absurd (false≢true (sym works ∙ failed))), (λ _. failed),
-    has_rules c.args.words.now rules texts (λ rules texts. StopsAt rules texts old (append_known new unwritten) Output)
-    c.in-Ok.ensures.found stop)
+    inr (
+      unwritten,
+      (λ works. absurd (false≢true (sym works ∙ failed))),
+      (λ _. failed),
+      has_rules c.args.words.now rules texts (λ rules texts. StopsAt rules texts old (append_known new unwritten) Output)
+          c.in-Ok.ensures.found stop,
+    )
 
 pub returns-clause-printed : goal.returns-clause-printed
 returns-clause-printed g c =
@@ -64,7 +68,11 @@ returns-clause-error g c =
     err_map c.print_categories-printed.result
     (λ error is stops.
     let q : StopsAt rules texts old mid error = rw taken at stops in
-    inr (unwritten, all, (λ e. closed.stays (c.print_categories-printed.ensures.failed (is ∙ ap Err e))),
-    has_rules c.args.words.now rules texts (λ rules texts. StopsAt rules texts old (append_known new unwritten) error)
-    c.in-Ok.ensures.found (stop_kept rules texts old mid (append_known new unwritten) keeps error q)))
+    inr (
+      unwritten,
+      all,
+      (λ e. closed.stays (c.print_categories-printed.ensures.failed (is ∙ ap Err e))),
+      has_rules c.args.words.now rules texts (λ rules texts. StopsAt rules texts old (append_known new unwritten) error)
+          c.in-Ok.ensures.found (stop_kept rules texts old mid (append_known new unwritten) keeps error q),
+    ))
     c.print_categories-printed.ensures.stopped
