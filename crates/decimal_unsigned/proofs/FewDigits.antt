@@ -4,7 +4,7 @@ use Rattle.std.specs.Prelude.{Result, Ok, Err, IsOkAnd, Option, Some, None, ℤ,
 use Rattle.std.proofs.Math.Nat.{mul-mod_left, mul-le-mul_right, mul_assoc}
 use Rattle.std.proofs.lemmas.Int.{ints}
 use Rattle.std.proofs.lemmas.Nat.{pow-add}
-use Rattle.std.proofs.lemmas.Bool.{cases_lt}
+use Rattle.std.proofs.lemmas.Bool.{cases_lt, or_parts}
 use Rattle.std.proofs.lemmas.Int.Digits.{number_lt, digits_value_is}
 use Rattle.std.specs.Str.Parse.{AllDigits, digits_value}
 use Rattle.decimal_digits.specs.Number.{size, first, last}
@@ -53,20 +53,11 @@ size_le n m k len is few top = elim (cases_lt 0 n) [
       | inr h ↦ h
     ])
 
-or_left : (a b : Bool) → (a || b) ≡ false → a ≡ false
-or_left true b e = cc
-or_left false b e = refl
-
-or_right : (a b : Bool) → (a || b) ≡ false → b ≡ false
-or_right true b e = absurd (cc)
-or_right false b e = e
-
 -- a range that does not leave the limits stays in them
 stays : (v : Unsigned) (d : ℤ) → leaves_limits v d ≡ false → StaysInLimits v d
 stays v d e =
-    let a : int_lt (pos 32767) (v.hi +ℤ d) ≡ false = or_left _ _ e in
-    let b : int_lt (v.lo +ℤ d) (negsuc 32767) ≡ false = or_right (int_lt (pos 32767) (v.hi +ℤ d)) _ e in
-    (grind (arith, ints, a), grind (arith, ints, b))
+    let p = or_parts (int_lt (pos 32767) (v.hi +ℤ d)) (int_lt (v.lo +ℤ d) (negsuc 32767)) e in
+    (grind (arith, ints, p), grind (arith, ints, p))
 
 -- ---- The parts of a text.
 module _ (w : Written) (digits : AllDigits 10 (w.whole ++ w.fraction)) (few : length w.whole ≤ 32768)
@@ -123,7 +114,7 @@ module _ (w : Written) (digits : AllDigits 10 (w.whole ++ w.fraction)) (few : le
       go false z false e =
           let same : tidied (multiplied (mantissa w.whole w.fraction) d) ≡ v = (let k = rw (z, e) at is in cc) in
           subst (λ (x : Unsigned). size x.number ≤ length w.whole + length w.fraction) same
-          (size_times d (stays (mantissa w.whole w.fraction) d (or_right (is_outside d) _ e)))
+          (size_times d (stays (mantissa w.whole w.fraction) d (or_parts (is_outside d) _ e).1))
 
 -- the value of the parts has no more digits than they have
 size_value : (w : Written) (v : Unsigned) → AllDigits 10 (w.whole ++ w.fraction) → value_of w ≡ Ok v

@@ -19,7 +19,7 @@ use Rattle.decimal_unsigned.specs.Unsigned.{Unsigned, integer_value, one_value}
 use Rattle.decimal_unsigned.specs.Placing.{middle, IsInner}
 use Rattle.decimal_unsigned.proofs.FirstLast.{first_le}
 use Rattle.decimal_unsigned.proofs.Middle.{number_of-middle}
-use Rattle.decimal_unsigned.proofs.Values.{first_of, number_of-none, size-number_of}
+use Rattle.decimal_unsigned.proofs.Values.{first_of, number_of-none, size-number_of, stored_as}
 
 -- the digits up to the last one that is not 0
 pub record UpToLast (ds : List ℕ) (end : ℕ) : Type 0 where
@@ -43,22 +43,16 @@ module _ {ds : List ℕ} {end : ℕ} (e : UpToLast ds end) where
   module _ (m : ℤ) (at : m ≡ pos (length ds - 1)) where
     -- the digits up to the last one that is not 0, as a value holds them
     pub whole_stored : IsStored (take end ds) m m (pos 0)
-    whole_stored = record {
-      digits = below_take 10 end ds all_digits;
-      front = λ h. rw (get_or-take end ds 0 0 (omega (arith, long))) (e.front (omega (arith, long, e.within)));
-      back = λ h. rw (long, get_or-take end ds (end - 1) 0 (omega (arith, long))) (e.found (omega (arith, long)));
-      empty = λ z.
-          elim (cases_lt 0 (length ds)) [
-            | inl h ↦ absurd (omega (arith, some h, long))
-            | inr h ↦ omega (arith, ints, at)
-          ];
-      hi_covers = omega (arith, ints);
-      lo_covers = omega (arith, ints, at);
-      fits = omega (arith, ints, at, long, e.within, place_is m, place_is (pos 0));
-      hi_in = omega (arith, ints, at);
-      lo_in = omega (arith, ints);
-      in_range = (omega (arith, ints), omega (arith, ints, at, e.few));
-    }
+    whole_stored =
+        stored_as (below_take 10 end ds all_digits)
+        (λ h. rw (get_or-take end ds 0 0 (omega (arith, long))) (e.front (omega (arith, long, e.within))))
+        (λ h. rw (long, get_or-take end ds (end - 1) 0 (omega (arith, long))) (e.found (omega (arith, long))))
+        (λ z. elim (cases_lt 0 (length ds)) [
+          | inl h ↦ absurd (omega (arith, some h, long))
+          | inr h ↦ omega (arith, ints, at)
+        ])
+        (λ h. (omega (arith, ints), omega (arith, ints, at, long, e.within)))
+        (omega (arith, ints, at), omega (arith, ints, at, e.few)) (omega (arith, ints), omega (arith, ints))
 
     -- b is 0: a power of ten at a numeral would be computed
     number_over : (b : ℕ) → b ≡ 0 → number_of (take end ds) m ≡ number_from_digits 10 ds * 10 ^ (32768 - b)

@@ -29,4 +29,3 @@ pub mod Pieces
 pub mod Comparing
 pub mod WholeNumbers
 pub mod ShortNumbers
-pub mod ShortTexts

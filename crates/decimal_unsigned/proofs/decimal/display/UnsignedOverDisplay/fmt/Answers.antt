@@ -16,7 +16,7 @@ from_utf8_unchecked-requires g c =
     (subst IsAscii (sym c.copy_text.ensures) (IsAscii-take _ _ (IsAscii-drop _ _ (text_ascii c.args.self.now))))
 
 pub copy_text-requires-clause-zeros : goal.copy_text-requires-clause-zeros
-copy_text-requires-clause-zeros g c = zeros_first 64 c.min.result
+copy_text-requires-clause-zeros g c = zeros_first 64 c.min.result (omega (arith, c.min.ensures))
 
 pub loop-written-preserved : goal.loop-written-preserved
 loop-written-preserved g c =

@@ -9,7 +9,7 @@ use Rattle.decimal_unsigned.proofs.Writing.{wrote_more, wrote_part}
 use Rattle.decimal_unsigned.proofs.decimal.text.UnsignedOverWriteable.write_to.Goals as goal
 
 pub copy_text-requires-clause-zeros : goal.copy_text-requires-clause-zeros
-copy_text-requires-clause-zeros g c = zeros_first 64 c.min.result
+copy_text-requires-clause-zeros g c = zeros_first 64 c.min.result (omega (arith, c.min.ensures))
 
 pub loop-written-preserved : goal.loop-written-preserved
 loop-written-preserved g c =

@@ -1,11 +1,11 @@
-use Rattle.std.proofs.Common.{◌≡◌, ◌+◌, ◌%◌, ◌^◌, take, drop}
+use Rattle.std.proofs.Common.{◌≡◌, ◌+◌, ◌%◌, ◌^◌, ◌<◌, length, take, drop}
 use Rattle.std.specs.Char.{is_ascii_digit}
 use Rattle.std.specs.List.{prefix_len}
 use Rattle.std.specs.Str.Parse.{digits_value_after}
-use Rattle.decimal_unsigned.proofs.decimal.parse.short.count_digits.Given as goal
+use Rattle.decimal_unsigned.proofs.decimal.parse.parts.count_digits.Given as goal
 
 abbrev pub invariant-loop-i : goal.invariant-loop-i
 invariant-loop-i l = record {
   count : prefix_len is_ascii_digit l.text ≡ l.i + prefix_len is_ascii_digit (drop l.i l.text);
-  number : l.number ≡ digits_value_after 16 l.before (take l.i l.text) % 2 ^ 64;
+  number : length l.text < 32 → l.number ≡ digits_value_after 16 l.before (take l.i l.text) % 2 ^ 64;
 }
