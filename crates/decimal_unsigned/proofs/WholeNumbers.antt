@@ -22,6 +22,7 @@ use Rattle.decimal_digits.proofs.Ends.{no_more_zeros}
 use Rattle.decimal_digits.proofs.Leading.{leading_none, leading_more}
 use Rattle.decimal_unsigned.specs.declared.decimal.to_integer.IntegerError.TheVariants.{NotWhole, OutOfRange}
 use Rattle.decimal_unsigned.specs.Fields.{IsStored}
+use Rattle.decimal_unsigned.specs.Unsigned.{Unsigned}
 use Rattle.decimal_unsigned.specs.ToInteger.{in_range, as_integer}
 
 -- ---- which answer there is
@@ -87,9 +88,15 @@ module _ {ds : List ℕ} {m hi lo : ℤ} (t : IsStored ds m hi lo) where
   pub some_digits : ¬ (m ≡ pos 0) → 0 < length ds
   some_digits h = elim (cases_lt 0 (length ds)) [ inl some ↦ some | inr none ↦ absurd (h (t.empty (omega arith))) ]
 
+-- ---- which answer a value has
+module _ {ds : List ℕ} {m hi lo : ℤ} {v : Unsigned} (t : IsStored ds m hi lo)
+    (view : record { number = number_of ds m; hi = hi; lo = lo } ≡ v) (bound : ℕ) where
+  of_value : as_integer bound (number_of ds m) ≡ as_integer bound v.number
+  of_value = ap (λ (w : Unsigned). as_integer bound w.number) view
+
   -- a part behind the dot is the answer
-  pub part_answer : (bound : ℕ) → (m +ℤ pos 1) <ℤ pos (length ds) → Err NotWhole ≡ as_integer bound (number_of ds m)
-  part_answer bound below = sym (as_integer-part bound (number_of ds m) (part_behind some below))
+  pub part_answer : (m +ℤ pos 1) <ℤ pos (length ds) → Err NotWhole ≡ as_integer bound v.number
+  part_answer below = sym (as_integer-part bound (number_of ds m) (part_behind t some below)) ∙ of_value
     where
       some : 0 < length ds
       some = elim (cases_lt 0 (length ds)) [
@@ -99,26 +106,27 @@ module _ {ds : List ℕ} {m hi lo : ℤ} (t : IsStored ds m hi lo) where
 
   module _ (places : ℕ) (at : pos 0 +ℤ pos places ≡ m +ℤ pos 1) (few : length ds ≤ places) where
     -- the integer that the digits write is the answer, or it is out of range
-    pub whole_answer : (bound : ℕ) → in_range bound (leading places ds) ≡ as_integer bound (number_of ds m)
-    whole_answer bound = sym (as_integer-whole bound (number_of ds m) (leading places ds) (whole_number places at few))
+    pub whole_answer : in_range bound (leading places ds) ≡ as_integer bound v.number
+    whole_answer =
+        sym (as_integer-whole bound (number_of ds m) (leading places ds) (whole_number t places at few)) ∙ of_value
 
     -- a few digits write an integer that is in range
-    pub few_answer : (top bound : ℕ) → All (λ d. d < 10) ds → places ≤ top → 10 ^ top ≤ bound
-        → Ok (leading places ds) ≡ as_integer bound (number_of ds m)
-    few_answer top bound digits l h =
+    pub few_answer : (top : ℕ) → All (λ d. d < 10) ds → places ≤ top → 10 ^ top ≤ bound
+        → Ok (leading places ds) ≡ as_integer bound v.number
+    few_answer top digits l h =
         sym (in_range-below bound (leading places ds)
         (omega (arith, few_digits places (leading places ds) top ds digits refl l)))
-        ∙ whole_answer bound
+        ∙ whole_answer
 
     -- more digits than the bound has write one that is not
-    pub many_answer : (top bound : ℕ) → top < places → 0 < top → bound ≤ 10 ^ top
-        → Err OutOfRange ≡ as_integer bound (number_of ds m)
-    many_answer top bound l p h =
-        let some : 0 < length ds = some_digits (λ z. absurd (omega (arith, ints, z))) in
+    pub many_answer : (top : ℕ) → top < places → 0 < top → bound ≤ 10 ^ top
+        → Err OutOfRange ≡ as_integer bound v.number
+    many_answer top l p h =
+        let some : 0 < length ds = some_digits t (λ z. absurd (omega (arith, ints, z))) in
         let least : 10 ^ (places - 1) ≤ number_at places ds = number_at-ge places ds some (t.front some) few in
         let higher : 10 ^ top ≤ 10 ^ (places - 1) = pow-le-pow_right (omega arith) (omega arith) in
         let all = ap (number_at places) (take_all places ds few) in
-        sym (in_range-above bound (leading places ds) (omega (arith, least, higher, all))) ∙ whole_answer bound
+        sym (in_range-above bound (leading places ds) (omega (arith, least, higher, all))) ∙ whole_answer
 
 -- ---- The integer that the halves of a number write.
 -- two digits
