@@ -1,19 +1,10 @@
 -- The part of a number below a position, by its digits.
-use Rattle.std.proofs.Common.{◌≡◌, ℕ, ◌+◌, ◌-◌, ◌*◌, ◌%◌, ◌^◌, ◌<◌, ◌≤◌, min, List, length, get_or, take, drop, refl, sym, ◌∙◌, ap, subst, arith, inl, inr}
-use Rattle.std.specs.Prelude.{ℤ, pos, negsuc, ◌+ℤ◌, ◌-ℤ◌, ◌≤ℤ◌}
-use Rattle.std.specs.Int.{int_max, int_min, int_gap}
-use Rattle.std.proofs.Math.Nat.{mul-mod_left, mod-eq_of_lt, mul-lt-mul_of_pos_right, pow-le-pow_right}
-use Rattle.std.proofs.lemmas.Int.{ints, clamps}
-use Rattle.std.proofs.lemmas.Bool.{cases_lt}
-use Rattle.std.proofs.lemmas.Nat.{pow-add, mod-mul-add}
-use Rattle.std.proofs.lemmas.List.{length-drop, length-take-le, get_or-take, get_or-drop, drop-drop}
-use Rattle.std.specs.Int.Digits.{number_from_digits}
-use Rattle.decimal_digits.specs.Number.{place, weight}
+use Rattle.decimal_unsigned.proofs.Common.{◌≡◌, ℕ, ◌+◌, ◌-◌, ◌*◌, ◌%◌, ◌^◌, ◌<◌, ◌≤◌, min, List, length, get_or, take, drop, refl, sym, ◌∙◌, ap, subst, arith, inl, inr, ℤ, pos, negsuc, ◌+ℤ◌, ◌-ℤ◌, ◌≤ℤ◌, int_max, int_min, int_gap, mul-mod_left, mul-lt-mul_of_pos_right, pow-le-pow_right, ints, clamps, cases_lt, pow-add, length-drop, length-take-le, get_or-take, get_or-drop, number_from_digits, place, weight, ten_pos, place_is, gap_is, IsStored, with_max_position}
+use Rattle.std.proofs.Math.Nat.{mod-eq_of_lt}
+use Rattle.std.proofs.lemmas.Nat.{mod-mul-add}
+use Rattle.std.proofs.lemmas.List.{drop-drop}
 use Rattle.decimal_digits.specs.Digits.{number_of, number_at}
-use Rattle.decimal_digits.proofs.DigitLists.{ten_pos, number_split, number-drop-lt, below_drop}
-use Rattle.decimal_digits.proofs.Places.{place_is, gap_is}
-use Rattle.decimal_unsigned.specs.Fields.{IsStored}
-use Rattle.decimal_unsigned.specs.Edits.{with_max_position}
+use Rattle.decimal_digits.proofs.DigitLists.{number_split, number-drop-lt, below_drop}
 use Rattle.decimal_unsigned.proofs.Middle.{number_zeros}
 use Rattle.decimal_unsigned.proofs.Values.{number_of-lt, number_of-none, lowest, stored_as, last_covered}
 

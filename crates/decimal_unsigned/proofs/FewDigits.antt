@@ -1,22 +1,14 @@
 -- How many digits the value of a text has, and where a text has one.
-use Rattle.std.proofs.Common.{◌≡◌, ℕ, suc, ◌+◌, ◌-◌, ◌*◌, ◌%◌, ◌^◌, ◌<◌, ◌≤◌, Bool, true, false, ◌||◌, List, ◌++◌, length, refl, sym, ◌∙◌, ap, subst, arith, rules, inl, inr}
-use Rattle.std.specs.Prelude.{Result, Ok, Err, IsOkAnd, Option, Some, None, ℤ, pos, negsuc, ◌+ℤ◌, ◌-ℤ◌, int_lt, nat_eq}
-use Rattle.std.proofs.Math.Nat.{mul-mod_left, mul-le-mul_right, mul_assoc}
-use Rattle.std.proofs.lemmas.Int.{ints}
-use Rattle.std.proofs.lemmas.Nat.{pow-add}
-use Rattle.std.proofs.lemmas.Bool.{cases_lt, or_parts}
-use Rattle.std.proofs.lemmas.Int.Digits.{number_lt, digits_value_is}
-use Rattle.std.specs.Str.Parse.{AllDigits, digits_value}
-use Rattle.decimal_digits.specs.Number.{size, first, last}
-use Rattle.decimal_digits.proofs.DigitLists.{ten_pos}
-use Rattle.decimal_digits.proofs.Ends.{no_more_zeros, shift_up}
-use Rattle.decimal_digits.proofs.Places.{gap_is}
+use Rattle.decimal_unsigned.proofs.Common.{◌≡◌, ℕ, suc, ◌+◌, ◌-◌, ◌*◌, ◌%◌, ◌^◌, ◌<◌, ◌≤◌, Bool, true, false, ◌||◌, List, ◌++◌, length, refl, sym, ◌∙◌, ap, subst, arith, rules, inl, inr, Result, Ok, Err, Option, Some, None, ℤ, pos, negsuc, ◌+ℤ◌, ◌-ℤ◌, int_lt, mul-mod_left, mul-le-mul_right, ints, pow-add, cases_lt, number_lt, digits_value_is, AllDigits, digits_value, size, first, last, ten_pos, no_more_zeros, gap_is, Unsigned, leaves_limits, multiplied, Written, limit, is_outside, value_of, read}
+use Rattle.std.specs.Prelude.{IsOkAnd, nat_eq}
+use Rattle.std.proofs.Math.Nat.{mul_assoc}
+use Rattle.std.proofs.lemmas.Bool.{or_parts}
+use Rattle.decimal_digits.proofs.Ends.{shift_up}
 use Rattle.decimal_unsigned.specs.declared.error.ParseError.{ParseError}
 use Rattle.decimal_unsigned.specs.declared.error.ParseError.TheVariants.{Limit, Memory}
-use Rattle.decimal_unsigned.specs.Unsigned.{Unsigned}
-use Rattle.decimal_unsigned.specs.Edits.{leaves_limits, StaysInLimits, times_power, multiplied}
-use Rattle.decimal_unsigned.specs.Grammar.{Written, Grammar}
-use Rattle.decimal_unsigned.specs.Reading.{ReadingFault, limit, mantissa, is_outside, tidied, scaled, value_of, read}
+use Rattle.decimal_unsigned.specs.Edits.{StaysInLimits, times_power}
+use Rattle.decimal_unsigned.specs.Grammar.{Grammar}
+use Rattle.decimal_unsigned.specs.Reading.{ReadingFault, mantissa, tidied, scaled}
 use Rattle.decimal_unsigned.specs.Refusal.{Answers, IsPlain, digit_count}
 use Rattle.decimal_unsigned.specs.Placing.{digits_of}
 use Rattle.decimal_unsigned.proofs.FirstLast.{Extent, extent, ordered, top_lt, first_of, last_of}

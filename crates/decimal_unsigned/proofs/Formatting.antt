@@ -1,5 +1,5 @@
 -- What is formatted by a character.
-use Rattle.std.proofs.Common.{ℕ, ◌<◌, List, [], ◌∷◌}
+use Rattle.decimal_unsigned.proofs.Common.{ℕ, ◌<◌, List, [], ◌∷◌}
 use Rattle.std.specs.Prelude.{encode_utf8}
 use Rattle.std.proofs.lemmas.Str.{encode_ascii}
 use Rattle.std.specs.declared.fmt.Formatter.{Formatter}

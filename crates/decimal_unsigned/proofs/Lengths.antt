@@ -1,12 +1,6 @@
 -- How many bytes the text of a value has.
-use Rattle.std.proofs.Common.{◌≡◌, ℕ, suc, ◌+◌, ◌<◌, ◌≤◌, length, ◌∙◌, ap, arith}
-use Rattle.std.specs.Prelude.{ℤ, pos, negsuc, ◌≤ℤ◌, ◌<ℤ◌}
-use Rattle.std.specs.Int.{int_gap}
-use Rattle.std.proofs.lemmas.Int.{ints, by_lt_z}
-use Rattle.std.proofs.lemmas.List.{length-append}
-use Rattle.decimal_digits.proofs.Places.{gap_is}
-use Rattle.decimal_unsigned.specs.Unsigned.{Unsigned, IsValue}
-use Rattle.decimal_unsigned.specs.Text.{text}
+use Rattle.decimal_unsigned.proofs.Common.{◌≡◌, ℕ, suc, ◌+◌, ◌<◌, ◌≤◌, length, ◌∙◌, ap, arith, ℤ, pos, negsuc, ◌≤ℤ◌, ◌<ℤ◌, int_gap, ints, length-append, gap_is, Unsigned, IsValue, text}
+use Rattle.std.proofs.lemmas.Int.{by_lt_z}
 use Rattle.decimal_unsigned.proofs.TextBytes.{bytes_down, length-bytes_down, fraction_text, text_is}
 
 length-fraction : (number : ℕ) (lo : ℤ) → lo <ℤ pos 0 → length (fraction_text number lo) ≡ int_gap lo (pos 0) + 1

@@ -1,14 +1,7 @@
 -- The bytes from an index on of the text of a value.
-use Rattle.std.proofs.Common.{◌≡◌, ℕ, suc, ◌+◌, ◌-◌, ◌<◌, ◌≤◌, List, [], ◌∷◌, ◌++◌, length, get_or, take, drop, refl, sym, ◌∙◌, ap, arith}
-use Rattle.std.specs.Prelude.{ℤ, pos, negsuc, ◌+ℤ◌, ◌-ℤ◌, ◌≤ℤ◌}
-use Rattle.std.specs.Int.{int_gap}
-use Rattle.std.proofs.lemmas.Int.{ints}
+use Rattle.decimal_unsigned.proofs.Common.{◌≡◌, ℕ, suc, ◌+◌, ◌-◌, ◌<◌, ◌≤◌, List, [], ◌∷◌, ◌++◌, length, get_or, take, drop, refl, sym, ◌∙◌, ap, arith, ℤ, pos, negsuc, ◌+ℤ◌, ◌-ℤ◌, ◌≤ℤ◌, int_gap, ints, length-append, length-drop, take_all, get_or-take, get_or-drop, place, place_is, gap_is, Unsigned, IsValue, text}
 use Rattle.std.proofs.Math.Seq.{take-append-add, drop-append-add}
-use Rattle.std.proofs.lemmas.List.{length-append, length-drop, take_all, take-append-le, drop-append-le, get_or-take, get_or-drop}
-use Rattle.decimal_digits.specs.Number.{place}
-use Rattle.decimal_digits.proofs.Places.{place_is, gap_is}
-use Rattle.decimal_unsigned.specs.Unsigned.{Unsigned, IsValue}
-use Rattle.decimal_unsigned.specs.Text.{text}
+use Rattle.std.proofs.lemmas.List.{take-append-le, drop-append-le}
 use Rattle.decimal_unsigned.proofs.TextBytes.{byte, bytes_down, length-bytes_down, bytes_down-part, fraction_text, text_is}
 
 -- a piece of one byte

@@ -1,24 +1,11 @@
 -- The text of a value is read as that value.
-use Rattle.std.proofs.Common.{◌≡◌, ℕ, zero, suc, ◌+◌, ◌-◌, ◌*◌, ◌/◌, ◌%◌, ◌^◌, ◌<◌, ◌≤◌, nat_lt, false, List, [], ◌∷◌, ◌++◌, length, map, refl, sym, ◌∙◌, ap, subst, arith, append-nil}
-use Rattle.std.specs.Prelude.{ℤ, pos, negsuc, ◌+ℤ◌, ◌-ℤ◌, ◌≤ℤ◌, None, Ok}
-use Rattle.std.proofs.lemmas.Int.{ints}
-use Rattle.std.proofs.lemmas.Bool.Decides.{nat_tests}
-use Rattle.std.proofs.lemmas.Nat.{pow-add}
-use Rattle.std.proofs.lemmas.List.{length-map}
+use Rattle.decimal_unsigned.proofs.Common.{◌≡◌, ℕ, zero, suc, ◌+◌, ◌-◌, ◌*◌, ◌/◌, ◌%◌, ◌^◌, ◌<◌, ◌≤◌, nat_lt, false, List, [], ◌∷◌, ◌++◌, length, map, refl, sym, ◌∙◌, ap, subst, arith, append-nil, ℤ, pos, negsuc, ◌+ℤ◌, ◌-ℤ◌, ◌≤ℤ◌, None, Ok, ints, nat_tests, pow-add, length-map, digit_value, int_gap, AllDigits, digits_value, digits_value_is, place, weight, digit, ten_pos, place_is, gap_is, Unsigned, IsValue, text, Written, read}
 use Rattle.std.proofs.Math.Arith.{mod-mul}
 use Rattle.std.proofs.Math.Nat.{pow-suc, mod-lt, mod-eq_of_lt, div-div-eq-div-mul, div-lt_iff_lt-mul, div-add-mod'}
 use Rattle.std.proofs.lemmas.Str.{digit_value_digit}
-use Rattle.std.specs.Char.{digit_value}
-use Rattle.std.specs.Int.{int_gap}
-use Rattle.std.specs.Str.Parse.{AllDigits, digits_value}
-use Rattle.std.proofs.lemmas.Int.Digits.{digits_value_is}
-use Rattle.decimal_digits.specs.Number.{place, weight, digit}
-use Rattle.decimal_digits.proofs.DigitLists.{ten_pos, number_first}
-use Rattle.decimal_digits.proofs.Places.{place_is, gap_is}
-use Rattle.decimal_unsigned.specs.Unsigned.{Unsigned, IsValue}
-use Rattle.decimal_unsigned.specs.Text.{text}
-use Rattle.decimal_unsigned.specs.Grammar.{Written, integer, decimal}
-use Rattle.decimal_unsigned.specs.Reading.{scaled, value_of, read}
+use Rattle.decimal_digits.proofs.DigitLists.{number_first}
+use Rattle.decimal_unsigned.specs.Grammar.{integer, decimal}
+use Rattle.decimal_unsigned.specs.Reading.{scaled, value_of}
 use Rattle.decimal_unsigned.proofs.ParserAnswers.{read_grammar}
 use Rattle.decimal_unsigned.proofs.TextBytes.{byte, bytes_down, length-bytes_down, fraction_text, text_is}
 

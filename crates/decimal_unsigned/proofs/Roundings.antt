@@ -1,29 +1,17 @@
 -- What the fields hold after a rounding.
-use Rattle.std.proofs.Common.{◌≡◌, ℕ, ◌<◌, ◌≤◌, nat_le, true, false, List, length, refl, sym, ◌∙◌, ap, arith}
-use Rattle.std.specs.Prelude.{Option, Some, None, Result, Ok, Err, IsOk, ℤ, pos, negsuc, ◌-ℤ◌, ◌≤ℤ◌}
-use Rattle.std.specs.Int.{int_max, int_min}
-use Rattle.std.specs.Int.Digits.{AllBelowBase}
-use Rattle.std.proofs.lemmas.Int.{ints, clamps}
-use Rattle.std.proofs.lemmas.Bool.Decides.{nat_tests}
-use Rattle.decimal_digits.specs.Number.{first, size, number_limit}
-use Rattle.decimal_digits.specs.Digits.{number_of}
+use Rattle.decimal_unsigned.proofs.Common.{◌≡◌, ℕ, ◌<◌, ◌≤◌, true, false, List, length, refl, sym, ◌∙◌, ap, arith, Option, Some, None, Result, Ok, Err, ℤ, pos, negsuc, ◌-ℤ◌, ◌≤ℤ◌, int_max, int_min, AllBelowBase, ints, clamps, nat_tests, first, size, number_limit, number_of, unit_at, rounded_number, RoundingIncrement, MultiplesOf1, Trunc, place_is, Unsigned, IsStored, rounded, IsRounded}
+use Rattle.std.proofs.Common.{nat_le}
+use Rattle.std.specs.Prelude.{IsOk}
 use Rattle.decimal_digits.specs.Left.{Spells, IsAbove}
-use Rattle.decimal_digits.specs.Rounding.{unit_at, rounded_number}
-use Rattle.decimal_digits.specs.declared.rounding.RoundingIncrement.{RoundingIncrement}
-use Rattle.decimal_digits.specs.declared.rounding.RoundingIncrement.TheVariants.{MultiplesOf1}
 use Rattle.decimal_digits.specs.declared.rounding.RoundError.{RoundError}
 use Rattle.decimal_digits.specs.declared.rounding.RoundError.TheVariants.{Limit, Memory}
 use Rattle.decimal_digits.specs.declared.rounding.UnsignedRoundingMode.{UnsignedRoundingMode}
-use Rattle.decimal_digits.specs.declared.rounding.UnsignedRoundingMode.TheVariants.{Trunc}
 use Rattle.std.specs.Result.{is_ok}
 use Rattle.decimal_digits.proofs.RoundingLaws.{trunc_le}
 use Rattle.decimal_digits.proofs.Tails.{unit_pos}
 use Rattle.decimal_digits.proofs.Ends.{first_zero}
 use Rattle.decimal_digits.proofs.NumberAt.{number_of-none}
-use Rattle.decimal_digits.proofs.Places.{place_is}
-use Rattle.decimal_unsigned.specs.Unsigned.{Unsigned}
-use Rattle.decimal_unsigned.specs.Fields.{IsStored}
-use Rattle.decimal_unsigned.specs.Rounded.{with_number, rounded_to, rounded, IsRounded, AnswersInPlace, RoundsInPlace}
+use Rattle.decimal_unsigned.specs.Rounded.{with_number, rounded_to, AnswersInPlace, RoundsInPlace}
 use Rattle.decimal_unsigned.proofs.Values.{size-number_of, stored_as}
 
 -- a number against a limit

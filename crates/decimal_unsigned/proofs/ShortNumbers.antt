@@ -1,27 +1,19 @@
 -- Short texts: up to sixteen digits as a number in base 16, and the value of their parts.
-use Rattle.std.proofs.Common.{◌≡◌, ℕ, zero, suc, ◌+◌, ◌-◌, ◌*◌, ◌/◌, ◌%◌, ◌^◌, ◌<◌, ◌≤◌, inl, inr, true, List, [], ◌∷◌, ◌++◌, length, get_or, take, drop, map, refl, sym, ◌∙◌, ap, subst, arith}
-use Rattle.std.specs.Prelude.{None, Ok, ℤ, pos, ◌-ℤ◌}
+use Rattle.decimal_unsigned.proofs.Common.{◌≡◌, ℕ, zero, suc, ◌+◌, ◌-◌, ◌*◌, ◌/◌, ◌%◌, ◌^◌, ◌<◌, ◌≤◌, inl, inr, true, List, [], ◌∷◌, ◌++◌, length, get_or, take, drop, map, refl, sym, ◌∙◌, ap, subst, arith, None, Ok, ℤ, pos, ◌-ℤ◌, mul-lt-mul_of_pos_right, pow-le-pow_right, cases_lt, ints, pow-add, length-append, length-drop, length-take-le, length-map, number_lt, digits_value_is, is_ascii_digit, digit_value, number_from_digits, AllBelowBase, AllDigits, digits_value, number_of, below_take, Written, value_of, middle, IsInner}
 use Rattle.std.specs.Int.{w64, bit_at, leading_zeros, trailing_zeros}
-use Rattle.std.proofs.Math.Nat.{pow-suc, mul-lt-mul_of_pos_right, one-le-pow, pow-le-pow_right, mod-eq_of_lt, div-div-eq-div-mul, div-eq_of_lt-le, zero-div}
+use Rattle.std.proofs.Math.Nat.{pow-suc, one-le-pow, mod-eq_of_lt, div-div-eq-div-mul, div-eq_of_lt-le, zero-div}
 use Rattle.std.proofs.Math.ListN.{get_or-eq_default}
-use Rattle.std.proofs.lemmas.Bool.{cases_lt}
-use Rattle.std.proofs.lemmas.Int.{ints}
-use Rattle.std.proofs.lemmas.Nat.{pow-add, mod-mul-add, leading_top}
+use Rattle.std.proofs.lemmas.Nat.{mod-mul-add, leading_top}
 use Rattle.std.proofs.lemmas.Nat.Bits.{bit_at_above, bit_at-trailing_zeros}
-use Rattle.std.proofs.lemmas.List.{length-append, length-drop, length-take-le, length-map, drop-take}
-use Rattle.std.proofs.lemmas.Int.Digits.{number_lt, number_more as number_more_digits, digits_value_is, all_below_base_from_digits}
-use Rattle.std.specs.Char.{is_ascii_digit, digit_value}
-use Rattle.std.specs.Int.Digits.{number_from_digits, AllBelowBase}
-use Rattle.std.specs.Str.Parse.{AllDigits, digits_value_after, digits_value}
-use Rattle.decimal_digits.specs.Digits.{number_of}
+use Rattle.std.proofs.lemmas.List.{drop-take}
+use Rattle.std.proofs.lemmas.Int.Digits.{number_more as number_more_digits, all_below_base_from_digits}
+use Rattle.std.specs.Str.Parse.{digits_value_after}
 use Rattle.decimal_digits.specs.Halves.{front_bytes}
 use Rattle.decimal_digits.specs.Packing.{Holds}
-use Rattle.decimal_digits.proofs.DigitLists.{below_at, below_take, below_drop, number_split, number-div}
+use Rattle.decimal_digits.proofs.DigitLists.{below_at, below_drop, number_split, number-div}
 use Rattle.decimal_digits.proofs.FrontBytes.{hex_pow, below_sixteen, front_holds}
-use Rattle.decimal_unsigned.specs.Grammar.{Written}
-use Rattle.decimal_unsigned.specs.Reading.{value_of}
 use Rattle.decimal_unsigned.specs.Parts.{in_base_16}
-use Rattle.decimal_unsigned.specs.Placing.{middle, digits_of, IsInner, Makes, IsShort}
+use Rattle.decimal_unsigned.specs.Placing.{digits_of, Makes, IsShort}
 use Rattle.decimal_unsigned.proofs.Numerals.{value_of_digit}
 use Rattle.decimal_unsigned.proofs.Plans.{all_digits, length_digits, makes_zero, makes_plain, makes_at}
 

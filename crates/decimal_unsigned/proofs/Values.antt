@@ -1,19 +1,12 @@
 -- What the digits of a value say of its number.
-use Rattle.std.proofs.Common.{◌≡◌, ℕ, ◌+◌, ◌-◌, ◌*◌, ◌/◌, ◌%◌, ◌^◌, ◌<◌, ◌≤◌, List, [], length, sym, ◌∙◌, ap, arith, rules, inl, inr, w16, w32, to_z, of_z}
-use Rattle.std.specs.Prelude.{ℤ, pos, negsuc, ◌+ℤ◌, ◌-ℤ◌, ◌≤ℤ◌, ◌<ℤ◌, slice_index, nat_eq, false}
-use Rattle.std.proofs.Math.Nat.{mul-le-mul_right, mul-lt-mul_of_pos_right}
-use Rattle.std.proofs.lemmas.Nat.{pow-add}
-use Rattle.std.proofs.lemmas.Int.{ints, to_z-of_z}
+use Rattle.decimal_unsigned.proofs.Common.{◌≡◌, ℕ, ◌+◌, ◌-◌, ◌*◌, ◌/◌, ◌%◌, ◌^◌, ◌<◌, ◌≤◌, List, [], length, sym, ◌∙◌, ap, arith, rules, inl, inr, w16, to_z, of_z, ℤ, pos, negsuc, ◌+ℤ◌, ◌-ℤ◌, ◌≤ℤ◌, ◌<ℤ◌, false, mul-le-mul_right, mul-lt-mul_of_pos_right, pow-add, ints, to_z-of_z, int_gap, number_lt, number_from_digits, AllBelowBase, place, digit, first, last, size, IsStored, ten_pos, place_is, gap_is, cases_lt}
+use Rattle.std.proofs.Common.{w32}
+use Rattle.std.specs.Prelude.{slice_index, nat_eq}
 use lib.Signed.{mag}
-use Rattle.std.specs.Int.{int_gap}
-use Rattle.std.proofs.lemmas.Int.Digits.{number_lt}
-use Rattle.std.specs.Int.Digits.{number_from_digits, AllBelowBase}
-use Rattle.decimal_digits.specs.Number.{place, digit, first, last, magnitude_at, size}
+use Rattle.decimal_digits.specs.Number.{magnitude_at}
 use Rattle.decimal_digits.specs.Digits.{number_of, number_at}
-use Rattle.decimal_unsigned.specs.Fields.{IsStored}
-use Rattle.decimal_digits.proofs.DigitLists.{ten_pos, number_front, number_back, number-digit}
-use Rattle.decimal_digits.proofs.Places.{place_is, magnitude_at-place, gap_is}
-use Rattle.std.proofs.lemmas.Bool.{cases_lt}
+use Rattle.decimal_digits.proofs.DigitLists.{number_front, number_back, number-digit}
+use Rattle.decimal_digits.proofs.Places.{magnitude_at-place}
 use Rattle.decimal_digits.proofs.Ends.{first_is, last_is, first_zero, last_zero, digit_above, digit_below, shift_down}
 
 -- the place of the last digit, and one

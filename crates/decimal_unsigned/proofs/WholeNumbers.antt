@@ -1,28 +1,20 @@
 -- The integer that the digits of a value write.
-use Rattle.std.proofs.Common.{zero, suc, [], ◌∷◌, ◌++◌, replicate, w64, ◌≡◌, ℕ, ◌+◌, ◌-◌, ◌*◌, ◌/◌, ◌%◌, ◌^◌, ◌<◌, ◌≤◌, ◌==◌, true, false, List, length, get_or, take, refl, sym, ◌∙◌, ap, arith, rules, inl, inr}
-use Rattle.std.specs.Prelude.{All, Ok, Err, nat_lt, ℤ, pos, ◌+ℤ◌, ◌<ℤ◌}
-use Rattle.std.proofs.Math.Nat.{mul-mod_left, mul-div_cancel, pow-le-pow_right}
-use Rattle.std.proofs.lemmas.Bool.{cases_lt}
-use Rattle.std.proofs.lemmas.Int.{ints}
+use Rattle.decimal_unsigned.proofs.Common.{zero, suc, [], ◌∷◌, ◌++◌, replicate, ◌≡◌, ℕ, ◌+◌, ◌-◌, ◌*◌, ◌/◌, ◌%◌, ◌^◌, ◌<◌, ◌≤◌, ◌==◌, true, false, List, length, get_or, take, refl, sym, ◌∙◌, ap, arith, rules, inl, inr, Ok, Err, nat_lt, ℤ, pos, ◌+ℤ◌, ◌<ℤ◌, mul-mod_left, pow-le-pow_right, cases_lt, ints, length-append, length-take, length-take-le, take_all, recursion_from_All, number_from_digits, AllBelowBase, place, weight, leading, place_is, ten_pos, below_take, no_more_zeros, IsStored, Unsigned}
+use Rattle.std.proofs.Common.{w64}
+use Rattle.std.specs.Prelude.{All}
+use Rattle.std.proofs.Math.Nat.{mul-div_cancel}
 use Rattle.std.specs.Int.{to_be_bytes}
 use Rattle.std.proofs.Math.ListN.{get_or-eq_default}
-use Rattle.std.proofs.lemmas.List.{length-append, length-replicate, length-take, length-take-le, take_all}
-use Rattle.std.proofs.lemmas.List.Elements.{recursion_from_All}
+use Rattle.std.proofs.lemmas.List.{length-replicate}
 use Rattle.std.proofs.lemmas.Int.Digits.{number_after_append, number_more as number_more_digits}
-use Rattle.std.specs.Int.Digits.{number_from_digits_after, number_from_digits, AllBelowBase}
+use Rattle.std.specs.Int.Digits.{number_from_digits_after}
 use Rattle.decimal_digits.specs.Halves.{halves, halves_number}
-use Rattle.decimal_digits.specs.Number.{place, weight}
 use Rattle.decimal_digits.specs.Digits.{number_of, number_at}
-use Rattle.decimal_digits.specs.Tails.{leading}
-use Rattle.decimal_digits.proofs.Places.{place_is}
-use Rattle.decimal_digits.proofs.DigitLists.{ten_pos, below_take, number_back, number_zeros, number-div}
+use Rattle.decimal_digits.proofs.DigitLists.{number_back, number_zeros, number-div}
 use Rattle.decimal_digits.proofs.FrontBytes.{hex_pow, below_sixteen, halves_of_bytes, sixteen, sixteen_are, sixteen_digits, sixteen_digit, sixteen_zero}
 use Rattle.decimal_digits.proofs.NumberAt.{number_at-more, number_at-lt, number_at-ge}
-use Rattle.decimal_digits.proofs.Ends.{no_more_zeros}
 use Rattle.decimal_digits.proofs.Leading.{leading_none, leading_more}
 use Rattle.decimal_unsigned.specs.declared.decimal.to_integer.IntegerError.TheVariants.{NotWhole, OutOfRange}
-use Rattle.decimal_unsigned.specs.Fields.{IsStored}
-use Rattle.decimal_unsigned.specs.Unsigned.{Unsigned}
 use Rattle.decimal_unsigned.specs.ToInteger.{in_range, as_integer}
 
 -- ---- which answer there is

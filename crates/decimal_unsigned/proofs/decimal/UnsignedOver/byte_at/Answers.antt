@@ -1,5 +1,4 @@
-use Rattle.std.proofs.Common.{◌+◌, ◌∙◌, ap, arith, inl, inr}
-use Rattle.std.proofs.lemmas.Bool.{cases_lt}
+use Rattle.decimal_unsigned.proofs.Common.{◌+◌, ◌∙◌, ap, arith, inl, inr, cases_lt}
 use Rattle.decimal_unsigned.proofs.Values.{narrow_kept}
 use Rattle.decimal_unsigned.proofs.TextBytes.{byte}
 use Rattle.decimal_unsigned.proofs.Pieces.{byte_above, byte_dot, byte_below}

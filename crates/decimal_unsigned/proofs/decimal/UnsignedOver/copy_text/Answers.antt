@@ -1,6 +1,5 @@
-use Rattle.std.proofs.Common.{◌≡◌, ◌+◌, suc, ◌++◌, ◌∷◌, length, take, drop, refl, sym, ◌∙◌, ap, arith, append-nil}
+use Rattle.decimal_unsigned.proofs.Common.{◌≡◌, ◌+◌, suc, ◌++◌, ◌∷◌, length, take, drop, refl, sym, ◌∙◌, ap, arith, append-nil, text}
 use Rattle.std.proofs.lemmas.List.{nil_from_length}
-use Rattle.decimal_unsigned.specs.Text.{text}
 use Rattle.decimal_unsigned.proofs.Values.{narrow_kept}
 use Rattle.decimal_unsigned.proofs.TextBytes.{bytes_are}
 use Rattle.decimal_unsigned.proofs.Blocks.{zeros_front, zeros_behind, zeros_rest}

@@ -1,5 +1,4 @@
-use Rattle.std.proofs.Common.{refl, arith}
-use Rattle.std.proofs.lemmas.Int.{ints, clamps}
+use Rattle.decimal_unsigned.proofs.Common.{refl, arith, ints, clamps}
 use Rattle.decimal_unsigned.proofs.Integers.{UpToLast, whole_stored, whole_value, whole_size}
 use Rattle.decimal_unsigned.proofs.Values.{narrow_kept, wide_kept}
 use Rattle.decimal_unsigned.proofs.decimal.UnsignedOver.from_digits.Goals as goal

@@ -1,6 +1,5 @@
-use Rattle.std.proofs.Common.{◌∙◌}
+use Rattle.decimal_unsigned.proofs.Common.{◌∙◌, view}
 use Rattle.std.proofs.lemmas.Option.{IfSome_then}
-use Rattle.decimal_unsigned.specs.Parts.{view}
 use Rattle.decimal_unsigned.proofs.Exponents.{read_some}
 use Rattle.decimal_unsigned.proofs.decimal.UnsignedOver.from_short_text.Goals as goal
 

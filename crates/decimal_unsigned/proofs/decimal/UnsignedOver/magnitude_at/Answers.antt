@@ -1,5 +1,4 @@
-use Rattle.std.proofs.Common.{◌∙◌, arith}
-use Rattle.std.proofs.lemmas.Int.{ints}
+use Rattle.decimal_unsigned.proofs.Common.{◌∙◌, arith, ints}
 use Rattle.decimal_unsigned.proofs.Values.{narrow_kept}
 use Rattle.decimal_unsigned.proofs.Pieces.{room_below}
 use Rattle.decimal_unsigned.proofs.decimal.UnsignedOver.magnitude_at.Goals as goal

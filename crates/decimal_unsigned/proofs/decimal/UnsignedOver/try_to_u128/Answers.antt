@@ -1,7 +1,4 @@
-use Rattle.std.proofs.Common.{◌≡◌, ◌^◌, ◌∙◌, ap, arith}
-use Rattle.std.specs.Prelude.{Ok}
-use Rattle.std.proofs.lemmas.Int.{ints}
-use Rattle.decimal_digits.specs.Tails.{leading}
+use Rattle.decimal_unsigned.proofs.Common.{◌≡◌, ◌^◌, ◌∙◌, ap, arith, Ok, ints, leading}
 use Rattle.decimal_unsigned.specs.ToInteger.{in_range}
 use Rattle.decimal_unsigned.proofs.Values.{magnitude_kept}
 use Rattle.decimal_unsigned.proofs.WholeNumbers.{part_answer, whole_answer, few_answer, many_answer}

@@ -1,4 +1,4 @@
-use Rattle.std.proofs.Common.{◌-◌, ◌*◌, ◌/◌, ◌^◌, ap, arith}
+use Rattle.decimal_unsigned.proofs.Common.{◌-◌, ◌*◌, ◌/◌, ◌^◌, ap, arith}
 use Rattle.decimal_unsigned.proofs.WholeNumbers.{few_leading}
 use Rattle.decimal_unsigned.proofs.decimal.to_integer.leading_few.Goals as goal
 

@@ -1,5 +1,4 @@
-use Rattle.std.proofs.Common.{◌-◌, length, drop, arith}
-use Rattle.std.proofs.lemmas.List.{length-take, length-drop}
+use Rattle.decimal_unsigned.proofs.Common.{◌-◌, length, drop, arith, length-take, length-drop}
 use Rattle.decimal_unsigned.proofs.ShortNumbers.{fraction_numbered}
 use Rattle.decimal_unsigned.proofs.decimal.parse.parts.after_whole.Goals as goal
 

@@ -1,6 +1,4 @@
-use Rattle.std.proofs.Common.{◌≡◌, ◌+◌, ◌%◌, ◌^◌, ◌<◌, length, take, drop}
-use Rattle.std.specs.Char.{is_ascii_digit}
-use Rattle.std.specs.List.{prefix_len}
+use Rattle.decimal_unsigned.proofs.Common.{◌≡◌, ◌+◌, ◌%◌, ◌^◌, ◌<◌, length, take, drop, is_ascii_digit, prefix_len}
 use Rattle.std.specs.Str.Parse.{digits_value_after}
 use Rattle.decimal_unsigned.proofs.decimal.parse.parts.count_digits.Given as goal
 

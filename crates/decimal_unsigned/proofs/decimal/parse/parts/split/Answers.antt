@@ -1,8 +1,5 @@
-use Rattle.std.proofs.Common.{◌≡◌, length, ap, ◌∙◌, arith}
+use Rattle.decimal_unsigned.proofs.Common.{◌≡◌, length, ap, ◌∙◌, arith, is_ascii_digit, prefix_len, length-drop}
 use Rattle.std.specs.Prelude.{option_map}
-use Rattle.std.specs.Char.{is_ascii_digit}
-use Rattle.std.specs.List.{prefix_len}
-use Rattle.std.proofs.lemmas.List.{length-drop}
 use Rattle.decimal_unsigned.specs.Reading.{after_whole, parts_of}
 use Rattle.decimal_unsigned.specs.Parts.{views, saturated_parts}
 use Rattle.decimal_unsigned.proofs.Exponents.{digits_found, exponent_found}

@@ -1,7 +1,5 @@
-use Rattle.std.proofs.Common.{arith, refl}
-use Rattle.std.proofs.lemmas.Int.{ints}
-use Rattle.decimal_unsigned.specs.Parts.{view}
-use Rattle.decimal_unsigned.specs.Placing.{digits_of, IsInner}
+use Rattle.decimal_unsigned.proofs.Common.{arith, refl, ints, view, IsInner}
+use Rattle.decimal_unsigned.specs.Placing.{digits_of}
 use Rattle.decimal_unsigned.proofs.Plans.{long_whole, long_fraction, makes_zero, makes_plain, makes_at, length_digits}
 use Rattle.decimal_unsigned.proofs.decimal.parse.plan.planned.Goals as goal
 

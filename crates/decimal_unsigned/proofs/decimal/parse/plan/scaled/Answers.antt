@@ -1,8 +1,6 @@
+use Rattle.decimal_unsigned.proofs.Common.{◌≡◌, ℕ, ◌<◌, ◌≤◌, ◌+◌, ◌-◌, ◌∙◌, length, to_z, of_z, refl, arith, inl, inr, ℤ, pos, negsuc, ◌+ℤ◌, ◌-ℤ◌, ◌≤ℤ◌, ints, view}
 use lib.Signed.{mag}
-use Rattle.std.proofs.Common.{◌≡◌, ℕ, ◌<◌, ◌≤◌, ◌+◌, ◌-◌, ◌∙◌, length, w32, to_z, of_z, refl, arith, inl, inr}
-use Rattle.std.specs.Prelude.{ℤ, pos, negsuc, ◌+ℤ◌, ◌-ℤ◌, ◌≤ℤ◌}
-use Rattle.std.proofs.lemmas.Int.{ints}
-use Rattle.decimal_unsigned.specs.Parts.{view}
+use Rattle.std.proofs.Common.{w32}
 use Rattle.decimal_unsigned.proofs.Plans.{length_digits, limit_scaled, makes_scaled}
 use Rattle.decimal_unsigned.proofs.Values.{narrow_kept, wide_kept}
 use Rattle.decimal_unsigned.proofs.decimal.parse.plan.scaled.Goals as goal

@@ -1,6 +1,4 @@
-use Rattle.std.proofs.Common.{refl, arith}
-use Rattle.std.proofs.lemmas.Int.{ints}
-use Rattle.decimal_unsigned.specs.Parts.{view}
+use Rattle.decimal_unsigned.proofs.Common.{refl, arith, ints, view}
 use Rattle.decimal_unsigned.proofs.ShortNumbers.{short_zero, short_sizes, short_plain}
 use Rattle.decimal_unsigned.proofs.decimal.parse.short.short_value.Goals as goal
 

@@ -1,8 +1,6 @@
-use Rattle.std.proofs.Common.{inr, arith}
-use Rattle.std.proofs.lemmas.List.{length-take}
+use Rattle.decimal_unsigned.proofs.Common.{inr, arith, length-take, text}
 use Rattle.decimal_digits.proofs.Results.{on_err}
 use Rattle.decimal_digits.proofs.Sinks.{fresh_more, fresh_some, fresh_keeps, fresh_ends}
-use Rattle.decimal_unsigned.specs.Text.{text}
 use Rattle.decimal_unsigned.proofs.ReadBack.{read_text}
 use Rattle.decimal_unsigned.proofs.Blocks.{block_of, zeros_first}
 use Rattle.decimal_unsigned.proofs.Writing.{wrote_more, wrote_part}

@@ -1,5 +1,4 @@
-use Rattle.std.proofs.Common.{◌≡◌, ℕ, ◌<◌, ◌≤◌, length, get_or}
-use Rattle.decimal_unsigned.specs.Parts.{view}
+use Rattle.decimal_unsigned.proofs.Common.{◌≡◌, ℕ, ◌<◌, ◌≤◌, length, get_or, view}
 use Rattle.decimal_unsigned.specs.Placing.{digits_of}
 use Rattle.decimal_unsigned.proofs.decimal.parse.parts.Parts.kept_range.Given as goal
 
