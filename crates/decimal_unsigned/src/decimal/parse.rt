@@ -169,6 +169,7 @@ impl<D: DigitStore> UnsignedOver<D> {
     /// `012.50` is short. None where a text is longer, has an exponent or is not in the grammar, or where it has more
     /// than `L` digits: `try_from_utf8` says why, or reads it. It asks for no memory. Not in the original.
     // Behind a call its parts would be stored one by one and copied together, for which the processor waits.
+    #[doc(hidden)]
     #[inline(always)]
     pub fn from_short_text(alloc: Global, text: &[u8]) -> Option<Self>
         ensures { IfSome result (λ v. read text.now ≡ Ok v) }

@@ -71,7 +71,7 @@ fn count_digits(before: u64, text: &[u8]) -> (usize, u64)
 }
 
 /// Splits a text after its leading digits, with the number of `count_digits`.
-#[inline]
+#[inline(always)]
 fn split_digits(before: u64, text: &[u8]) -> (&[u8], &[u8], u64)
     ensures front { result.0.now ≡ read.leading_digits text.now }
     ensures behind { result.1.now ≡ read.after_digits text.now }
@@ -145,7 +145,7 @@ fn with_exponent<'a>(
     })
 }
 
-#[inline]
+#[inline(always)]
 #[tactic(auto, unfolding(crate::specs::Reading::after_fraction))]
 fn after_fraction<'a>(
     whole: &'a [u8],
@@ -168,7 +168,7 @@ fn after_fraction<'a>(
     }
 }
 
-#[inline]
+#[inline(always)]
 #[tactic(auto, unfolding(crate::specs::Reading::after_whole))]
 fn after_whole<'a>(whole: &'a [u8], number: u64, text: &'a [u8]) -> Option<Parts<'a>>
     ensures parts { views result ≡ option_map saturated_parts (read.after_whole whole.now text.now) }
@@ -196,7 +196,8 @@ fn after_whole<'a>(whole: &'a [u8], number: u64, text: &'a [u8]) -> Option<Parts
 }
 
 /// The parts of the text, if it is in the grammar.
-#[inline]
+// In its caller, as what it calls: so the parts of a short text stay in registers.
+#[inline(always)]
 #[tactic(auto, unfolding(crate::specs::Reading::parts_of))]
 pub fn split(text: &[u8]) -> Option<Parts<'_>>
     ensures parts { views result ≡ option_map saturated_parts (read.parts_of text.now) }
