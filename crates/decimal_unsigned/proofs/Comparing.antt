@@ -33,35 +33,6 @@ pub same_int_order : (a b : ℤ) (x y : ℕ) → (a <ℤ b → x < y) → (a ≡
 same_int_order a b x y less equal greater =
     nat_cmp_is x y (int_cmp a b) (carried less equal greater (int_cmp a b) (int_ranked a b (int_cmp a b) refl))
 
--- ---- two lists, from the front
-module _ (xs ys : List ℕ) (i : ℕ) (h : i < length xs) (k : i < length ys) where
-  -- what is left is compared by its first items, and then by the others
-  at_index : slice_cmp nat_cmp (drop i xs) (drop i ys)
-      ≡ ordering_then (nat_cmp (get_or xs i 0) (get_or ys i 0)) (slice_cmp nat_cmp (drop (i + 1) xs) (drop (i + 1) ys))
-  at_index = rw (drop_more xs i 0 h, drop_more ys i 0 k) refl
-
-  -- items that are equal leave it to the others
-  pub equal_items : get_or xs i 0 ≡ get_or ys i 0
-      → slice_cmp nat_cmp (drop i xs) (drop i ys) ≡ slice_cmp nat_cmp (drop (i + 1) xs) (drop (i + 1) ys)
-  equal_items e =
-      at_index
-      ∙ ap (λ o. ordering_then o (slice_cmp nat_cmp (drop (i + 1) xs) (drop (i + 1) ys)))
-      (sym (nat_cmp_is (get_or xs i 0) (get_or ys i 0) Equal e))
-
-  -- items that differ decide
-  pub unequal_items : ¬ (get_or xs i 0 ≡ get_or ys i 0)
-      → nat_cmp (get_or xs i 0) (get_or ys i 0) ≡ slice_cmp nat_cmp (drop i xs) (drop i ys)
-  unequal_items differ =
-      decided (nat_cmp (get_or xs i 0) (get_or ys i 0)) (ranked (get_or xs i 0) (get_or ys i 0) _ refl) ∙ sym at_index
-    where
-      decided : (r : Ordering)
-          → MatchOrdering r (get_or xs i 0 < get_or ys i 0) (get_or xs i 0 ≡ get_or ys i 0)
-          (get_or ys i 0 < get_or xs i 0)
-          → r ≡ ordering_then r (slice_cmp nat_cmp (drop (i + 1) xs) (drop (i + 1) ys))
-      decided Less e = refl
-      decided Equal e = absurd (differ e)
-      decided Greater e = refl
-
 -- where one list has no items left, the lengths decide
 none_left : (xs ys : List ℕ) → (length xs ≡ 0) ⊎ (length ys ≡ 0)
     → nat_cmp (length xs) (length ys) ≡ slice_cmp nat_cmp xs ys

@@ -49,7 +49,9 @@ module _ {ds : List ℕ} {m hi lo p m' hi' lo' : ℤ} {start : ℕ} (t : IsStore
   -- the digits below the position, as a value holds them
   pub stored_cut : IsStored (drop start ds) m' hi' lo'
   stored_cut =
-      stored_as (below_drop 10 start ds t.digits) (λ q. rw get_or-drop (subst (λ k. 0 < get_or ds k 0) (let k : start ≡ start + 0 = omega arith in k) (c.found (omega (arith, left)))))
+      stored_as (below_drop 10 start ds t.digits)
+      (λ q. rw get_or-drop
+      (subst (λ k. 0 < get_or ds k 0) (let k : start ≡ start + 0 = omega arith in k) (c.found (omega (arith, left)))))
       (λ q. rw get_or-drop
       (subst (λ k. 0 < get_or ds k 0)
       (let k : length ds - 1 ≡ start + (length (drop start ds) - 1) = omega (arith, left) in k)

@@ -39,7 +39,8 @@ module _ (v : Unsigned) (valid : IsValue v) (dot : ℕ) (dot_is : dot ≡ int_ga
           × (b ≤ 32768)
       go (pos k) e low = absurd (omega (arith, e, whole_length))
       go (negsuc b) e low =
-          (suc b, refl, omega (arith, e, whole_length, length-bytes_down v.number (negsuc 0) (suc b)), omega (arith, ints))
+          let some = length-bytes_down v.number (negsuc 0) (suc b) in
+          (suc b, refl, omega (arith, e, whole_length, some), omega (arith, ints))
 
   -- a piece above the dot
   pub piece_above : (from n : ℕ) → from + n ≤ dot

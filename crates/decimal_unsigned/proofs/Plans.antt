@@ -211,7 +211,8 @@ module _ (w : Written) (digits : AllDigits 10 (w.whole ++ w.fraction)) (few : le
         })
         ∙ (λ i. record { number = number_of ds m'; hi = sym hi_is i; lo = sym lo_is i }) in
         let up = upper_is top high hi' hi_is (omega (arith, ints, top_is, high_is, at, n.ordered)) upper in
-        let down = lower_is bottom low lo' lo_is (omega (arith, ints, bottom_is, low_is, n.within, length_digits)) lower in
+        let down =
+        lower_is bottom low lo' lo_is (omega (arith, ints, bottom_is, low_is, n.within, length_digits)) lower in
         record {
           ordered = omega (arith, n.ordered);
           within = n.within;

@@ -65,7 +65,8 @@ bytes-append number m k (suc a) b e =
 
 -- ---- The value of a text of digits.
 module _ (number : ℕ) (hi : ℤ) (dot b low : ℕ) (dot_is : pos dot ≡ hi +ℤ pos 1) (positive : pos 0 ≤ℤ hi)
-    (high : hi ≤ℤ pos 32767) (split : low + b ≡ 32768) (below : number < 10 ^ (place hi + 1)) (none : number % 10 ^ low ≡ 0) where
+    (high : hi ≤ℤ pos 32767) (split : low + b ≡ 32768) (below : number < 10 ^ (place hi + 1))
+    (none : number % 10 ^ low ≡ 0) where
   abbrev whole : List ℕ
   whole = bytes_down number hi dot
 

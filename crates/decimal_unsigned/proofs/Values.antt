@@ -167,7 +167,8 @@ stored_as {ds} {m} {hi} {lo} digits front back empty shown up down = record {
           (s.0, omega (arith, ints, s.1), omega (arith, ints, s.1, h, down.0, place_is lo, place_is m))
       | inr h ↦
           let e = empty (omega arith) in
-          (omega (arith, ints, e, up.0), omega (arith, ints, e, down.1), omega (arith, ints, e, h, down, place_is lo, place_is m))
+          let places = place_is m in
+          (omega (arith, ints, e, up.0), omega (arith, ints, e, down.1), omega (arith, ints, e, h, down, place_is lo))
     ]
 
 module _ {ds : List ℕ} {m hi lo : ℤ} (t : IsStored ds m hi lo) where

@@ -1,5 +1,5 @@
 -- What has been written of a text.
-use Rattle.decimal_unsigned.proofs.Common.{◌≡◌, ℕ, suc, ◌+◌, ◌-◌, ◌<◌, ◌≤◌, List, [], ◌∷◌, ◌++◌, length, get_or, take, drop, Option, refl, sym, ◌∙◌, ap, subst, arith, take_all, ℤ, pos, ◌-ℤ◌, ints, length-take-le, length-drop, digit}
+use Rattle.decimal_unsigned.proofs.Common.{◌≡◌, ℕ, suc, ◌+◌, ◌<◌, ◌≤◌, List, [], ◌∷◌, ◌++◌, length, get_or, take, drop, Option, refl, sym, ◌∙◌, ap, subst, arith, take_all, ℤ, pos, ◌-ℤ◌, length-take-le, length-drop, digit}
 use Rattle.std.proofs.Common.{take-append-drop}
 use Rattle.std.proofs.Math.Seq.{take-add}
 use Rattle.std.proofs.lemmas.List.{drop_more}
@@ -18,25 +18,6 @@ text_down-suc number m n = refl
 pub text_down-zero : (number : ℕ) (m : ℤ) → text_down number m 0 ≡ []
 unfolding text_down
 text_down-zero number m = refl
-
--- the first of the magnitudes from i below the highest
-pub text_down-step : (number : ℕ) (hi : ℤ) (count i : ℕ) → i < count
-    → text_down number (hi -ℤ pos i) (count - i)
-    ≡ (dot_before (hi -ℤ pos i) ++ (48 + digit number (hi -ℤ pos i)) ∷ [])
-    ++ text_down number (hi -ℤ pos (i + 1)) (count - (i + 1))
-text_down-step number hi count i h =
-    let n : count - i ≡ suc (count - (i + 1)) = omega arith in
-    let m : (hi -ℤ pos i) -ℤ pos 1 ≡ hi -ℤ pos (i + 1) = omega (arith, ints) in
-    ap (text_down number (hi -ℤ pos i)) n
-    ∙ text_down-suc number (hi -ℤ pos i) (count - (i + 1))
-    ∙ ap (λ k. (dot_before (hi -ℤ pos i) ++ (48 + digit number (hi -ℤ pos i)) ∷ [])
-    ++ text_down number k (count - (i + 1))) m
-
--- and none
-pub text_down-end : (number : ℕ) (hi : ℤ) (count i : ℕ) → count ≤ i → text_down number (hi -ℤ pos i) (count - i) ≡ []
-text_down-end number hi count i h =
-    let n : count - i ≡ 0 = omega arith in
-    ap (text_down number (hi -ℤ pos i)) n ∙ text_down-zero number (hi -ℤ pos i)
 
 -- ---- the text, piece by piece
 -- a piece and what stands in front of it

@@ -131,6 +131,7 @@ impl<D: DigitStore> Writeable for UnsignedOver<D> {
     ///
     /// Err: the sink refused a byte, now or before, and has taken a beginning of the text. The text reads as this
     /// very value. `write_to` of the original.
+    #[tactic(auto, using(crate::proofs::ReadBack::read_text))]
     fn write_to<W: Sink>(&self, sink: &mut W) -> Result<(), SinkFault>
         ensures ok { OnOk result (Appends (W.contents sink.old) (W.contents sink.new) (text self.now)) }
         ensures err { OnErr result (AppendsPrefix (W.contents sink.old) (W.contents sink.new) (text self.now)) }

@@ -40,8 +40,8 @@ copy_digits-requires-2-clause-in_limits g c =
 
 pub copy_digits-requires-in-Some-clause-zeros : goal.copy_digits-requires-in-Some-clause-zeros
 copy_digits-requires-in-Some-clause-zeros g c =
-    let places = c.args.places.now in
-    let behind = rw (← c.split_at_mut-whole.ensures.back) at (zeros_behind places c.requires.zeros c.min-above.result) in
+    let zeros = zeros_behind c.args.places.now c.requires.zeros c.min-above.result in
+    let behind = rw (← c.split_at_mut-whole.ensures.back) at zeros in
     zeros_rest _ _ _ behind c.in-Some.ensures.cases.0
 
 pub copy_digits-requires-in-Some-clause-in_limits : goal.copy_digits-requires-in-Some-clause-in_limits
