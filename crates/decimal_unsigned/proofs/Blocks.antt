@@ -1,8 +1,8 @@
 -- The digits of a value in a block of its text.
-use Rattle.decimal_unsigned.proofs.Common.{◌≡◌, ℕ, ◌+◌, ◌-◌, ◌<◌, ◌≤◌, List, ◌∷◌, ◌++◌, length, get_or, take, drop, replicate, sym, ◌∙◌, ap, arith, inl, inr, min, ℤ, pos, negsuc, ◌+ℤ◌, ◌-ℤ◌, ◌≤ℤ◌, ◌<ℤ◌, Option, None, Some, unwrap_or, int_gap, ints, cases_lt, get_or-take, get_or-drop, length-append, length-take-le, length-drop, length-map, place, digit, number_of, place_is, gap_is, IsStored}
+use Rattle.decimal_unsigned.proofs.Common.{◌≡◌, ℕ, ◌+◌, ◌-◌, ◌<◌, ◌≤◌, List, ◌∷◌, ◌++◌, length, get_or, take, drop, replicate, sym, ◌∙◌, ap, arith, inl, inr, min, ℤ, pos, negsuc, ◌+ℤ◌, ◌-ℤ◌, ◌≤ℤ◌, ◌<ℤ◌, Option, None, Some, unwrap_or, int_gap, ints, cases_lt, get_or-take, get_or-drop, length-append, length-take-le, length-drop, length-map, place, digit, number_of, place_is, gap_is, IsStored, length-replicate}
 use Rattle.std.specs.Prelude.{IfSome, IfNone}
 use Rattle.std.proofs.Math.ListN.{get_or-append}
-use Rattle.std.proofs.lemmas.List.{get_or-append_right, get_or-replicate, get_or-map, take-replicate, drop-replicate, length-replicate}
+use Rattle.std.proofs.lemmas.List.{get_or-append_right, get_or-replicate, get_or-map, take-replicate, drop-replicate}
 use Rattle.decimal_digits.specs.Digits.{text_of}
 use Rattle.decimal_unsigned.proofs.Values.{digit-number_of-above, digit-number_of-in, digit-number_of-below}
 

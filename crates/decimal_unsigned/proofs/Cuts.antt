@@ -1,10 +1,9 @@
 -- The part of a number below a position, by its digits.
-use Rattle.decimal_unsigned.proofs.Common.{◌≡◌, ℕ, ◌+◌, ◌-◌, ◌*◌, ◌%◌, ◌^◌, ◌<◌, ◌≤◌, min, List, length, get_or, take, drop, refl, sym, ◌∙◌, ap, subst, arith, inl, inr, ℤ, pos, negsuc, ◌+ℤ◌, ◌-ℤ◌, ◌≤ℤ◌, int_max, int_min, int_gap, mul-mod_left, mul-lt-mul_of_pos_right, pow-le-pow_right, ints, clamps, cases_lt, pow-add, length-drop, length-take-le, get_or-take, get_or-drop, number_from_digits, place, weight, ten_pos, place_is, gap_is, IsStored, with_max_position}
-use Rattle.std.proofs.Math.Nat.{mod-eq_of_lt}
+use Rattle.decimal_unsigned.proofs.Common.{◌≡◌, ℕ, ◌+◌, ◌-◌, ◌*◌, ◌%◌, ◌^◌, ◌<◌, ◌≤◌, min, List, length, get_or, take, drop, refl, sym, ◌∙◌, ap, subst, arith, inl, inr, ℤ, pos, negsuc, ◌+ℤ◌, ◌-ℤ◌, ◌≤ℤ◌, int_max, int_min, int_gap, mul-mod_left, mul-lt-mul_of_pos_right, pow-le-pow_right, ints, clamps, cases_lt, pow-add, length-drop, length-take-le, get_or-take, get_or-drop, number_from_digits, place, weight, ten_pos, place_is, gap_is, IsStored, with_max_position, mod-eq_of_lt, number_split, below_drop}
 use Rattle.std.proofs.lemmas.Nat.{mod-mul-add}
 use Rattle.std.proofs.lemmas.List.{drop-drop}
 use Rattle.decimal_digits.specs.Digits.{number_of, number_at}
-use Rattle.decimal_digits.proofs.DigitLists.{number_split, number-drop-lt, below_drop}
+use Rattle.decimal_digits.proofs.DigitLists.{number-drop-lt}
 use Rattle.decimal_unsigned.proofs.Middle.{number_zeros}
 use Rattle.decimal_unsigned.proofs.Values.{number_of-lt, number_of-none, lowest, stored_as, last_covered}
 

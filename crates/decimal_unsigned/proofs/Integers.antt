@@ -1,12 +1,10 @@
 -- Digits whose last stands at magnitude 0, without their zeros at the end.
-use Rattle.decimal_unsigned.proofs.Common.{◌≡◌, ℕ, zero, suc, ◌+◌, ◌-◌, ◌*◌, ◌^◌, ◌<◌, ◌≤◌, List, length, get_or, take, drop, refl, sym, ◌∙◌, ap, subst, arith, inl, inr, Result, Ok, Err, ℤ, pos, ◌≤ℤ◌, mul-le-mul_right, ints, pow-add, cases_lt, number_lt, length-take-le, length-drop, get_or-take, take_all, recursion_from_All, number_from_digits, AllBelowBase, place, weight, first, size, number_of, place_is, ten_pos, below_take, IsStored, Unsigned, middle, IsInner}
-use Rattle.std.specs.Prelude.{All, IfOk}
+use Rattle.decimal_unsigned.proofs.Common.{◌≡◌, ℕ, zero, suc, ◌+◌, ◌-◌, ◌*◌, ◌^◌, ◌<◌, ◌≤◌, List, length, get_or, take, drop, refl, sym, ◌∙◌, ap, subst, arith, inl, inr, Result, Ok, Err, ℤ, pos, ◌≤ℤ◌, mul-le-mul_right, ints, pow-add, cases_lt, number_lt, length-take-le, length-drop, get_or-take, take_all, recursion_from_All, number_from_digits, AllBelowBase, place, weight, first, size, number_of, place_is, ten_pos, below_take, IsStored, Unsigned, middle, IsInner, All, magnitude_at, first_is}
+use Rattle.std.specs.Prelude.{IfOk}
 use Rattle.std.proofs.lemmas.Int.Digits.{all_below_base_digits_of, first_digits_of}
 use Rattle.std.proofs.lemmas.List.Elements.{All-from_recursion}
 use Rattle.std.specs.Int.Digits.{digits_of}
-use Rattle.decimal_digits.specs.Number.{magnitude_at}
 use Rattle.decimal_digits.proofs.Places.{magnitude_at-place}
-use Rattle.decimal_digits.proofs.Ends.{first_is}
 use Rattle.decimal_unsigned.specs.Unsigned.{integer_value, one_value}
 use Rattle.decimal_unsigned.proofs.FirstLast.{first_le}
 use Rattle.decimal_unsigned.proofs.Middle.{number_of-middle}

@@ -1,6 +1,5 @@
 -- How many bytes the text of a value has.
-use Rattle.decimal_unsigned.proofs.Common.{◌≡◌, ℕ, suc, ◌+◌, ◌<◌, ◌≤◌, length, ◌∙◌, ap, arith, ℤ, pos, negsuc, ◌≤ℤ◌, ◌<ℤ◌, int_gap, ints, length-append, gap_is, Unsigned, IsValue, text}
-use Rattle.std.proofs.lemmas.Int.{by_lt_z}
+use Rattle.decimal_unsigned.proofs.Common.{◌≡◌, ℕ, suc, ◌+◌, ◌<◌, ◌≤◌, length, ◌∙◌, ap, arith, ℤ, pos, negsuc, ◌≤ℤ◌, ◌<ℤ◌, int_gap, ints, length-append, gap_is, Unsigned, IsValue, text, by_lt_z}
 use Rattle.decimal_unsigned.proofs.TextBytes.{bytes_down, length-bytes_down, fraction_text, text_is}
 
 length-fraction : (number : ℕ) (lo : ℤ) → lo <ℤ pos 0 → length (fraction_text number lo) ≡ int_gap lo (pos 0) + 1

@@ -1,9 +1,9 @@
 -- What the digits between the zeros are worth.
-use Rattle.decimal_unsigned.proofs.Common.{inl, inr, ◌≡◌, ℕ, suc, ◌+◌, ◌-◌, ◌*◌, ◌^◌, ◌<◌, ◌≤◌, List, [], ◌∷◌, length, get_or, take, drop, ◌++◌, map, min, refl, sym, ◌∙◌, ap, subst, arith, ℤ, pos, ◌-ℤ◌, ints, pow-add, cases_lt, append-nil, length-map, take_all, length-drop, length-take, length-take-le, get_or-take, get_or-drop, digit_value, number_from_digits, AllBelowBase, place, IsStored, below_take, middle, IsInner}
+use Rattle.decimal_unsigned.proofs.Common.{inl, inr, ◌≡◌, ℕ, suc, ◌+◌, ◌-◌, ◌*◌, ◌^◌, ◌<◌, ◌≤◌, List, [], ◌∷◌, length, get_or, take, drop, ◌++◌, map, min, refl, sym, ◌∙◌, ap, subst, arith, ℤ, pos, ◌-ℤ◌, ints, pow-add, cases_lt, append-nil, length-map, take_all, length-drop, length-take, length-take-le, get_or-take, get_or-drop, digit_value, number_from_digits, AllBelowBase, place, IsStored, below_take, middle, IsInner, number_split, below_drop}
 use Rattle.std.proofs.Math.Seq.{drop-append-add, take-append-add}
 use Rattle.std.proofs.lemmas.List.{map-append, take-map, drop-map, drop-append-le, take-append-le}
 use Rattle.decimal_digits.specs.Digits.{number_of, number_at}
-use Rattle.decimal_digits.proofs.DigitLists.{number_after, number_split, below_drop}
+use Rattle.decimal_digits.proofs.DigitLists.{number_after}
 use Rattle.decimal_unsigned.proofs.Values.{stored_as}
 
 -- zeros are worth nothing

@@ -1,8 +1,7 @@
 -- The first and the last digit of a value, and the ranges that show them.
-use Rattle.decimal_unsigned.proofs.Common.{◌≡◌, ℕ, ◌+◌, ◌-◌, ◌%◌, ◌^◌, ◌<◌, true, false, List, length, refl, sym, subst, arith, inl, inr, ℤ, pos, negsuc, ◌-ℤ◌, ◌≤ℤ◌, ◌<ℤ◌, int_lt, int_max, int_min, mul-mod_left, ints, clamps, cases_lt, number_from_digits, place, first, last, place_is, no_more_zeros, IsStored, Unsigned, IsValue}
-use Rattle.decimal_digits.specs.Number.{IsFirst, IsLast}
+use Rattle.decimal_unsigned.proofs.Common.{◌≡◌, ℕ, ◌+◌, ◌-◌, ◌%◌, ◌^◌, ◌<◌, true, false, List, length, refl, sym, subst, arith, inl, inr, ℤ, pos, negsuc, ◌-ℤ◌, ◌≤ℤ◌, ◌<ℤ◌, int_lt, int_max, int_min, mul-mod_left, ints, clamps, cases_lt, number_from_digits, place, first, last, place_is, no_more_zeros, IsStored, Unsigned, IsValue, IsLast, number_back}
+use Rattle.decimal_digits.specs.Number.{IsFirst}
 use Rattle.decimal_digits.specs.Digits.{number_of, number_at}
-use Rattle.decimal_digits.proofs.DigitLists.{number_back}
 use Rattle.decimal_unsigned.specs.Edits.{trimmed_start, padded_start, padded_end}
 use Rattle.decimal_unsigned.proofs.FirstLast.{first_le}
 use Rattle.decimal_unsigned.proofs.Values.{number_of-ge, number_of-lt, number_of-none, none_of, lowest, last-number_of, last_of_none, last_in}

@@ -1,7 +1,7 @@
 -- The text of a value is read as that value.
-use Rattle.decimal_unsigned.proofs.Common.{◌≡◌, ℕ, zero, suc, ◌+◌, ◌-◌, ◌*◌, ◌/◌, ◌%◌, ◌^◌, ◌<◌, ◌≤◌, nat_lt, false, List, [], ◌∷◌, ◌++◌, length, map, refl, sym, ◌∙◌, ap, subst, arith, append-nil, ℤ, pos, negsuc, ◌+ℤ◌, ◌-ℤ◌, ◌≤ℤ◌, None, Ok, ints, nat_tests, pow-add, length-map, digit_value, int_gap, AllDigits, digits_value, digits_value_is, place, weight, digit, ten_pos, place_is, gap_is, Unsigned, IsValue, text, Written, read}
+use Rattle.decimal_unsigned.proofs.Common.{◌≡◌, ℕ, zero, suc, ◌+◌, ◌-◌, ◌*◌, ◌/◌, ◌%◌, ◌^◌, ◌<◌, ◌≤◌, nat_lt, false, List, [], ◌∷◌, ◌++◌, length, map, refl, sym, ◌∙◌, ap, subst, arith, append-nil, ℤ, pos, negsuc, ◌+ℤ◌, ◌-ℤ◌, ◌≤ℤ◌, None, Ok, ints, nat_tests, pow-add, length-map, digit_value, int_gap, AllDigits, digits_value, digits_value_is, place, weight, digit, ten_pos, place_is, gap_is, Unsigned, IsValue, text, Written, read, pow-suc, mod-lt, mod-eq_of_lt}
 use Rattle.std.proofs.Math.Arith.{mod-mul}
-use Rattle.std.proofs.Math.Nat.{pow-suc, mod-lt, mod-eq_of_lt, div-div-eq-div-mul, div-lt_iff_lt-mul, div-add-mod'}
+use Rattle.std.proofs.Math.Nat.{div-div-eq-div-mul, div-lt_iff_lt-mul, div-add-mod'}
 use Rattle.std.proofs.lemmas.Str.{digit_value_digit}
 use Rattle.decimal_digits.proofs.DigitLists.{number_first}
 use Rattle.decimal_unsigned.specs.Grammar.{integer, decimal}

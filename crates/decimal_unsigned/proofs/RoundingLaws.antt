@@ -1,19 +1,15 @@
 -- Laws of rounding, on values.
-use Rattle.decimal_unsigned.proofs.Common.{◌≡◌, ℕ, ◌+◌, ◌-◌, ◌*◌, ◌^◌, ◌<◌, ◌≤◌, true, false, refl, sym, ◌∙◌, ap, subst, arith, inl, inr, Bool, Option, Some, None, ℤ, pos, negsuc, ◌-ℤ◌, ◌≤ℤ◌, unwrap_or, int_max, int_min, ints, clamps, pow-add, cases_lt, place, first, size, number_limit, unit_at, rounded_number, RoundingIncrement, MultiplesOf1, Trunc, ten_pos, Unsigned, IsValue, rounded, IsRounded}
+use Rattle.decimal_unsigned.proofs.Common.{◌≡◌, ℕ, ◌+◌, ◌-◌, ◌*◌, ◌^◌, ◌<◌, ◌≤◌, true, false, refl, sym, ◌∙◌, ap, subst, arith, inl, inr, Bool, Option, Some, None, ℤ, pos, negsuc, ◌-ℤ◌, ◌≤ℤ◌, unwrap_or, int_max, int_min, ints, clamps, pow-add, cases_lt, place, first, size, number_limit, unit_at, rounded_number, RoundingIncrement, MultiplesOf1, Trunc, ten_pos, Unsigned, IsValue, rounded, IsRounded, by_lt_z, none-some, RoundError, UnsignedRoundingMode, unit_pos, with_number, trunced}
 use Rattle.std.specs.Prelude.{option_and_then, if◌then◌else◌}
-use Rattle.std.proofs.lemmas.Int.{by_lt_z}
-use Rattle.std.proofs.lemmas.Option.{none-some, same_Some}
+use Rattle.std.proofs.lemmas.Option.{same_Some}
 use Rattle.decimal_digits.specs.Rounding.{DigitRoundingRefuses}
-use Rattle.decimal_digits.specs.declared.rounding.RoundError.{RoundError}
 use Rattle.decimal_digits.specs.declared.rounding.RoundError.TheVariants.{Limit, Memory}
-use Rattle.decimal_digits.specs.declared.rounding.UnsignedRoundingMode.{UnsignedRoundingMode}
 use Rattle.decimal_digits.specs.declared.rounding.UnsignedRoundingMode.TheVariants.{Expand}
 use Rattle.decimal_digits.proofs.Naming.{rounded_number-named}
 use Rattle.decimal_digits.proofs.Places.{place_le}
 use Rattle.decimal_digits.proofs.RoundingLaws.{rounded_number-idempotent, rounded_number-zero, rounded_number-finer, rounded_number-monotone, trunc-coarser, expand-coarser, trunc_le, le_expand}
-use Rattle.decimal_digits.proofs.Tails.{unit_pos}
-use Rattle.decimal_unsigned.specs.Rounded.{reaches_limit, with_number, rounded_to, RoundingRefuses}
-use Rattle.decimal_unsigned.specs.EditLaws.{after_rounding, trunced, expanded, number_if_any, TruncationsCompose, ExpansionsCompose, RoundingIsMonotone}
+use Rattle.decimal_unsigned.specs.Rounded.{reaches_limit, rounded_to, RoundingRefuses}
+use Rattle.decimal_unsigned.specs.EditLaws.{after_rounding, expanded, number_if_any, TruncationsCompose, ExpansionsCompose, RoundingIsMonotone}
 use Rattle.decimal_unsigned.proofs.EditLaws.{below_limit}
 use Rattle.decimal_unsigned.proofs.FirstLast.{first_le}
 use Rattle.decimal_unsigned.proofs.Roundings.{within, beyond, rounded_to-small, rounded_to-large, trunc_makes}

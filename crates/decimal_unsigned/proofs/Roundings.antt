@@ -1,17 +1,13 @@
 -- What the fields hold after a rounding.
-use Rattle.decimal_unsigned.proofs.Common.{◌≡◌, ℕ, ◌<◌, ◌≤◌, true, false, List, length, refl, sym, ◌∙◌, ap, arith, Option, Some, None, Result, Ok, Err, ℤ, pos, negsuc, ◌-ℤ◌, ◌≤ℤ◌, int_max, int_min, AllBelowBase, ints, clamps, nat_tests, first, size, number_limit, number_of, unit_at, rounded_number, RoundingIncrement, MultiplesOf1, Trunc, place_is, Unsigned, IsStored, rounded, IsRounded}
+use Rattle.decimal_unsigned.proofs.Common.{◌≡◌, ℕ, ◌<◌, ◌≤◌, true, false, List, length, refl, sym, ◌∙◌, ap, arith, Option, Some, None, Result, Ok, Err, ℤ, pos, negsuc, ◌-ℤ◌, ◌≤ℤ◌, int_max, int_min, AllBelowBase, ints, clamps, nat_tests, first, size, number_limit, number_of, unit_at, rounded_number, RoundingIncrement, MultiplesOf1, Trunc, place_is, Unsigned, IsStored, rounded, IsRounded, RoundError, UnsignedRoundingMode, unit_pos, first_zero, with_number}
 use Rattle.std.proofs.Common.{nat_le}
 use Rattle.std.specs.Prelude.{IsOk}
 use Rattle.decimal_digits.specs.Left.{Spells, IsAbove}
-use Rattle.decimal_digits.specs.declared.rounding.RoundError.{RoundError}
 use Rattle.decimal_digits.specs.declared.rounding.RoundError.TheVariants.{Limit, Memory}
-use Rattle.decimal_digits.specs.declared.rounding.UnsignedRoundingMode.{UnsignedRoundingMode}
 use Rattle.std.specs.Result.{is_ok}
 use Rattle.decimal_digits.proofs.RoundingLaws.{trunc_le}
-use Rattle.decimal_digits.proofs.Tails.{unit_pos}
-use Rattle.decimal_digits.proofs.Ends.{first_zero}
 use Rattle.decimal_digits.proofs.NumberAt.{number_of-none}
-use Rattle.decimal_unsigned.specs.Rounded.{with_number, rounded_to, AnswersInPlace, RoundsInPlace}
+use Rattle.decimal_unsigned.specs.Rounded.{rounded_to, AnswersInPlace, RoundsInPlace}
 use Rattle.decimal_unsigned.proofs.Values.{size-number_of, stored_as}
 
 -- a number against a limit

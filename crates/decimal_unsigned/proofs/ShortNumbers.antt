@@ -1,17 +1,16 @@
 -- Short texts: up to sixteen digits as a number in base 16, and the value of their parts.
-use Rattle.decimal_unsigned.proofs.Common.{◌≡◌, ℕ, zero, suc, ◌+◌, ◌-◌, ◌*◌, ◌/◌, ◌%◌, ◌^◌, ◌<◌, ◌≤◌, inl, inr, true, List, [], ◌∷◌, ◌++◌, length, get_or, take, drop, map, refl, sym, ◌∙◌, ap, subst, arith, None, Ok, ℤ, pos, ◌-ℤ◌, mul-lt-mul_of_pos_right, pow-le-pow_right, cases_lt, ints, pow-add, length-append, length-drop, length-take-le, length-map, number_lt, digits_value_is, is_ascii_digit, digit_value, number_from_digits, AllBelowBase, AllDigits, digits_value, number_of, below_take, Written, value_of, middle, IsInner}
+use Rattle.decimal_unsigned.proofs.Common.{◌≡◌, ℕ, zero, suc, ◌+◌, ◌-◌, ◌*◌, ◌/◌, ◌%◌, ◌^◌, ◌<◌, ◌≤◌, inl, inr, true, List, [], ◌∷◌, ◌++◌, length, get_or, take, drop, map, refl, sym, ◌∙◌, ap, subst, arith, None, Ok, ℤ, pos, ◌-ℤ◌, mul-lt-mul_of_pos_right, pow-le-pow_right, cases_lt, ints, pow-add, length-append, length-drop, length-take-le, length-map, number_lt, digits_value_is, is_ascii_digit, digit_value, number_from_digits, AllBelowBase, AllDigits, digits_value, number_of, below_take, Written, value_of, middle, IsInner, pow-suc, mod-eq_of_lt, digits_value_after, below_drop, number_split, below_sixteen}
 use Rattle.std.specs.Int.{w64, bit_at, leading_zeros, trailing_zeros}
-use Rattle.std.proofs.Math.Nat.{pow-suc, one-le-pow, mod-eq_of_lt, div-div-eq-div-mul, div-eq_of_lt-le, zero-div}
+use Rattle.std.proofs.Math.Nat.{one-le-pow, div-div-eq-div-mul, div-eq_of_lt-le, zero-div}
 use Rattle.std.proofs.Math.ListN.{get_or-eq_default}
 use Rattle.std.proofs.lemmas.Nat.{mod-mul-add, leading_top}
 use Rattle.std.proofs.lemmas.Nat.Bits.{bit_at_above, bit_at-trailing_zeros}
 use Rattle.std.proofs.lemmas.List.{drop-take}
 use Rattle.std.proofs.lemmas.Int.Digits.{number_more as number_more_digits, all_below_base_from_digits}
-use Rattle.std.specs.Str.Parse.{digits_value_after}
 use Rattle.decimal_digits.specs.Halves.{front_bytes}
 use Rattle.decimal_digits.specs.Packing.{Holds}
-use Rattle.decimal_digits.proofs.DigitLists.{below_at, below_drop, number_split, number-div}
-use Rattle.decimal_digits.proofs.FrontBytes.{hex_pow, below_sixteen, front_holds}
+use Rattle.decimal_digits.proofs.DigitLists.{below_at, number-div}
+use Rattle.decimal_digits.proofs.FrontBytes.{hex_pow, front_holds}
 use Rattle.decimal_unsigned.specs.Parts.{in_base_16}
 use Rattle.decimal_unsigned.specs.Placing.{digits_of, Makes, IsShort}
 use Rattle.decimal_unsigned.proofs.Numerals.{value_of_digit}

@@ -1,13 +1,12 @@
 -- What the digits of a value say of its number.
-use Rattle.decimal_unsigned.proofs.Common.{◌≡◌, ℕ, ◌+◌, ◌-◌, ◌*◌, ◌/◌, ◌%◌, ◌^◌, ◌<◌, ◌≤◌, List, [], length, sym, ◌∙◌, ap, arith, rules, inl, inr, w16, to_z, of_z, ℤ, pos, negsuc, ◌+ℤ◌, ◌-ℤ◌, ◌≤ℤ◌, ◌<ℤ◌, false, mul-le-mul_right, mul-lt-mul_of_pos_right, pow-add, ints, to_z-of_z, int_gap, number_lt, number_from_digits, AllBelowBase, place, digit, first, last, size, IsStored, ten_pos, place_is, gap_is, cases_lt}
+use Rattle.decimal_unsigned.proofs.Common.{◌≡◌, ℕ, ◌+◌, ◌-◌, ◌*◌, ◌/◌, ◌%◌, ◌^◌, ◌<◌, ◌≤◌, List, [], length, sym, ◌∙◌, ap, arith, rules, inl, inr, w16, to_z, of_z, ℤ, pos, negsuc, ◌+ℤ◌, ◌-ℤ◌, ◌≤ℤ◌, ◌<ℤ◌, false, mul-le-mul_right, mul-lt-mul_of_pos_right, pow-add, ints, to_z-of_z, int_gap, number_lt, number_from_digits, AllBelowBase, place, digit, first, last, size, IsStored, ten_pos, place_is, gap_is, cases_lt, magnitude_at, number_back, first_is, first_zero}
 use Rattle.std.proofs.Common.{w32}
 use Rattle.std.specs.Prelude.{slice_index, nat_eq}
 use lib.Signed.{mag}
-use Rattle.decimal_digits.specs.Number.{magnitude_at}
 use Rattle.decimal_digits.specs.Digits.{number_of, number_at}
-use Rattle.decimal_digits.proofs.DigitLists.{number_front, number_back, number-digit}
+use Rattle.decimal_digits.proofs.DigitLists.{number_front, number-digit}
 use Rattle.decimal_digits.proofs.Places.{magnitude_at-place}
-use Rattle.decimal_digits.proofs.Ends.{first_is, last_is, first_zero, last_zero, digit_above, digit_below, shift_down}
+use Rattle.decimal_digits.proofs.Ends.{last_is, last_zero, digit_above, digit_below, shift_down}
 
 -- the place of the last digit, and one
 abbrev ends : List ℕ → ℤ → ℕ

@@ -1,19 +1,17 @@
 -- The integer that the digits of a value write.
-use Rattle.decimal_unsigned.proofs.Common.{zero, suc, [], ◌∷◌, ◌++◌, replicate, ◌≡◌, ℕ, ◌+◌, ◌-◌, ◌*◌, ◌/◌, ◌%◌, ◌^◌, ◌<◌, ◌≤◌, ◌==◌, true, false, List, length, get_or, take, refl, sym, ◌∙◌, ap, arith, rules, inl, inr, Ok, Err, nat_lt, ℤ, pos, ◌+ℤ◌, ◌<ℤ◌, mul-mod_left, pow-le-pow_right, cases_lt, ints, length-append, length-take, length-take-le, take_all, recursion_from_All, number_from_digits, AllBelowBase, place, weight, leading, place_is, ten_pos, below_take, no_more_zeros, IsStored, Unsigned}
+use Rattle.decimal_unsigned.proofs.Common.{zero, suc, [], ◌∷◌, ◌++◌, replicate, ◌≡◌, ℕ, ◌+◌, ◌-◌, ◌*◌, ◌/◌, ◌%◌, ◌^◌, ◌<◌, ◌≤◌, ◌==◌, true, false, List, length, get_or, take, refl, sym, ◌∙◌, ap, arith, rules, inl, inr, Ok, Err, nat_lt, ℤ, pos, ◌+ℤ◌, ◌<ℤ◌, mul-mod_left, pow-le-pow_right, cases_lt, ints, length-append, length-take, length-take-le, take_all, recursion_from_All, number_from_digits, AllBelowBase, place, weight, leading, place_is, ten_pos, below_take, no_more_zeros, IsStored, Unsigned, All, length-replicate, number_back, below_sixteen, leading_none}
 use Rattle.std.proofs.Common.{w64}
-use Rattle.std.specs.Prelude.{All}
 use Rattle.std.proofs.Math.Nat.{mul-div_cancel}
 use Rattle.std.specs.Int.{to_be_bytes}
 use Rattle.std.proofs.Math.ListN.{get_or-eq_default}
-use Rattle.std.proofs.lemmas.List.{length-replicate}
 use Rattle.std.proofs.lemmas.Int.Digits.{number_after_append, number_more as number_more_digits}
 use Rattle.std.specs.Int.Digits.{number_from_digits_after}
 use Rattle.decimal_digits.specs.Halves.{halves, halves_number}
 use Rattle.decimal_digits.specs.Digits.{number_of, number_at}
-use Rattle.decimal_digits.proofs.DigitLists.{number_back, number_zeros, number-div}
-use Rattle.decimal_digits.proofs.FrontBytes.{hex_pow, below_sixteen, halves_of_bytes, sixteen, sixteen_are, sixteen_digits, sixteen_digit, sixteen_zero}
+use Rattle.decimal_digits.proofs.DigitLists.{number_zeros, number-div}
+use Rattle.decimal_digits.proofs.FrontBytes.{hex_pow, halves_of_bytes, sixteen, sixteen_are, sixteen_digits, sixteen_digit, sixteen_zero}
 use Rattle.decimal_digits.proofs.NumberAt.{number_at-more, number_at-lt, number_at-ge}
-use Rattle.decimal_digits.proofs.Leading.{leading_none, leading_more}
+use Rattle.decimal_digits.proofs.Leading.{leading_more}
 use Rattle.decimal_unsigned.specs.declared.decimal.to_integer.IntegerError.TheVariants.{NotWhole, OutOfRange}
 use Rattle.decimal_unsigned.specs.ToInteger.{in_range, as_integer}
 

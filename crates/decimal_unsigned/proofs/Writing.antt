@@ -1,9 +1,7 @@
 -- What has been written of a text.
-use Rattle.decimal_unsigned.proofs.Common.{◌≡◌, ℕ, suc, ◌+◌, ◌<◌, ◌≤◌, List, [], ◌∷◌, ◌++◌, length, get_or, take, drop, Option, refl, sym, ◌∙◌, ap, subst, arith, take_all, ℤ, pos, ◌-ℤ◌, length-take-le, length-drop, digit}
-use Rattle.std.proofs.Common.{take-append-drop}
+use Rattle.decimal_unsigned.proofs.Common.{◌≡◌, ℕ, suc, ◌+◌, ◌<◌, ◌≤◌, List, [], ◌∷◌, ◌++◌, length, get_or, take, drop, Option, refl, sym, ◌∙◌, ap, subst, arith, take_all, ℤ, pos, ◌-ℤ◌, length-take-le, length-drop, digit, take-append-drop, Appends}
 use Rattle.std.proofs.Math.Seq.{take-add}
 use Rattle.std.proofs.lemmas.List.{drop_more}
-use Rattle.std.specs.Io.KnownBytes.{Appends}
 use Rattle.decimal_digits.specs.Text.{AppendsPrefix}
 use Rattle.decimal_digits.proofs.Sinks.{appends_both, part_more, then_part}
 use Rattle.decimal_unsigned.specs.Text.{dot_before, text_down}

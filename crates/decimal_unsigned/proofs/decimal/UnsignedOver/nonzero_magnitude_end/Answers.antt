@@ -1,5 +1,4 @@
-use Rattle.decimal_unsigned.proofs.Common.{◌<◌, length, sym, ◌∙◌, ap, subst, arith, rules, ints, last, place_is, Unsigned}
-use Rattle.decimal_digits.specs.Number.{IsLast}
+use Rattle.decimal_unsigned.proofs.Common.{◌<◌, length, sym, ◌∙◌, ap, subst, arith, rules, ints, last, place_is, Unsigned, IsLast}
 use Rattle.decimal_unsigned.proofs.Values.{last-number_of, last_of_none, magnitude_kept, narrow_kept}
 use Rattle.decimal_unsigned.proofs.Ranges.{is_last}
 use Rattle.decimal_unsigned.proofs.Shown.{value_of_view}

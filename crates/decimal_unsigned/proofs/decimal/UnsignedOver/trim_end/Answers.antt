@@ -1,5 +1,4 @@
-use Rattle.decimal_unsigned.proofs.Common.{pos, sym, ◌∙◌, ap, subst, arith, ints, clamps, last, number_of, Unsigned}
-use Rattle.decimal_digits.specs.Number.{IsLast}
+use Rattle.decimal_unsigned.proofs.Common.{pos, sym, ◌∙◌, ap, subst, arith, ints, clamps, last, number_of, Unsigned, IsLast}
 use Rattle.decimal_unsigned.proofs.Values.{narrow_kept, lower_stored, last_in}
 use Rattle.decimal_unsigned.proofs.Ranges.{last_shown}
 use Rattle.decimal_unsigned.proofs.EditLaws.{trimmed_is_normal_form, shortest}

@@ -1,5 +1,4 @@
-use Rattle.decimal_unsigned.proofs.Common.{◌≡◌, drop, nat_cmp}
-use Rattle.std.specs.Cmp.Lexicographic.{slice_cmp}
+use Rattle.decimal_unsigned.proofs.Common.{◌≡◌, drop, nat_cmp, slice_cmp}
 use Rattle.decimal_unsigned.proofs.decimal.compare.compare_digits.Given as goal
 
 -- the digits from the index on decide

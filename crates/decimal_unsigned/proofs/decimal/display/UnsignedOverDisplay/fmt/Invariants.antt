@@ -1,5 +1,5 @@
-use Rattle.decimal_unsigned.proofs.Common.{◌-◌, ◌≤◌, take, text}
-use Rattle.std.specs.Fmt.{IsFlush, HasWrittenStyled}
+use Rattle.decimal_unsigned.proofs.Common.{◌-◌, ◌≤◌, take, text, HasWrittenStyled}
+use Rattle.std.specs.Fmt.{IsFlush}
 use Rattle.decimal_unsigned.proofs.decimal.display.UnsignedOverDisplay.fmt.Given as goal
 
 abbrev pub invariant-loop-written : goal.invariant-loop-written

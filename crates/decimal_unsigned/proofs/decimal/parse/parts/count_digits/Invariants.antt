@@ -1,5 +1,4 @@
-use Rattle.decimal_unsigned.proofs.Common.{◌≡◌, ◌+◌, ◌%◌, ◌^◌, ◌<◌, length, take, drop, is_ascii_digit, prefix_len}
-use Rattle.std.specs.Str.Parse.{digits_value_after}
+use Rattle.decimal_unsigned.proofs.Common.{◌≡◌, ◌+◌, ◌%◌, ◌^◌, ◌<◌, length, take, drop, is_ascii_digit, prefix_len, digits_value_after}
 use Rattle.decimal_unsigned.proofs.decimal.parse.parts.count_digits.Given as goal
 
 abbrev pub invariant-loop-i : goal.invariant-loop-i

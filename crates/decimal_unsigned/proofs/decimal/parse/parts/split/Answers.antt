@@ -1,5 +1,4 @@
-use Rattle.decimal_unsigned.proofs.Common.{◌≡◌, length, ap, ◌∙◌, arith, is_ascii_digit, prefix_len, length-drop}
-use Rattle.std.specs.Prelude.{option_map}
+use Rattle.decimal_unsigned.proofs.Common.{◌≡◌, length, ap, ◌∙◌, arith, is_ascii_digit, prefix_len, length-drop, option_map}
 use Rattle.decimal_unsigned.specs.Reading.{after_whole, parts_of}
 use Rattle.decimal_unsigned.specs.Parts.{views, saturated_parts}
 use Rattle.decimal_unsigned.proofs.Exponents.{digits_found, exponent_found}

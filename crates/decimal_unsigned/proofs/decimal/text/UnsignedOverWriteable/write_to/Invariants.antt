@@ -1,5 +1,4 @@
-use Rattle.decimal_unsigned.proofs.Common.{◌-◌, ◌≤◌, take, text}
-use Rattle.std.specs.Io.KnownBytes.{Appends}
+use Rattle.decimal_unsigned.proofs.Common.{◌-◌, ◌≤◌, take, text, Appends}
 use Rattle.decimal_digits.proofs.Sinks.{IsFresh}
 use Rattle.decimal_unsigned.proofs.decimal.text.UnsignedOverWriteable.write_to.Given as goal
 
