@@ -1,16 +1,9 @@
 -- The digits of a value in a block of its text.
-use Rattle.std.proofs.Common.{◌≡◌, ℕ, ◌+◌, ◌-◌, ◌<◌, ◌≤◌, List, ◌++◌, length, get_or, take, drop, replicate, set, sym, ◌∙◌, ap, arith, inl, inr}
-use Rattle.std.specs.Prelude.{min, ℤ, pos, negsuc, ◌+ℤ◌, ◌-ℤ◌, ◌≤ℤ◌, ◌<ℤ◌, Option, None, Some, IfSome, IfNone}
-use Rattle.std.specs.Option.{unwrap_or}
-use Rattle.std.specs.Int.{int_gap}
+use Rattle.decimal_unsigned.proofs.Common.{◌≡◌, ℕ, ◌+◌, ◌-◌, ◌<◌, ◌≤◌, List, ◌∷◌, ◌++◌, length, get_or, take, drop, replicate, sym, ◌∙◌, ap, arith, inl, inr, min, ℤ, pos, negsuc, ◌+ℤ◌, ◌-ℤ◌, ◌≤ℤ◌, ◌<ℤ◌, Option, None, Some, unwrap_or, int_gap, ints, cases_lt, get_or-take, get_or-drop, length-append, length-take-le, length-drop, length-map, place, digit, number_of, place_is, gap_is, IsStored, length-replicate}
+use Rattle.std.specs.Prelude.{IfSome, IfNone}
 use Rattle.std.proofs.Math.ListN.{get_or-append}
-use Rattle.std.proofs.lemmas.Int.{ints}
-use Rattle.std.proofs.lemmas.Bool.{cases_lt}
-use Rattle.std.proofs.lemmas.List.{ext_get_or, get_or-append_right, get_or-replicate, get_or-map, get_or-take, get_or-drop, get_or-set_same, get_or-set_other, length-set, length-append, length-take, length-take-le, length-drop, length-map, length-replicate}
-use Rattle.decimal_digits.specs.Number.{place, digit}
-use Rattle.decimal_digits.specs.Digits.{text_of, number_of}
-use Rattle.decimal_digits.proofs.Places.{place_is, gap_is}
-use Rattle.decimal_unsigned.specs.Fields.{IsStored}
+use Rattle.std.proofs.lemmas.List.{get_or-append_right, get_or-replicate, get_or-map, take-replicate, drop-replicate}
+use Rattle.decimal_digits.specs.Digits.{text_of}
 use Rattle.decimal_unsigned.proofs.Values.{digit-number_of-above, digit-number_of-in, digit-number_of-below}
 
 -- ---- an element of a list after a write to the k places from a on
@@ -40,110 +33,31 @@ module _ (a k : ℕ) (xs ys : List ℕ) (fits : a + k ≤ length xs) (full : len
       ∙ get_or-drop a xs (k + (i - a - k)) 0
       ∙ ap (λ j. get_or xs j 0) (let e : a + (k + (i - a - k)) ≡ i = omega arith in e)
 
--- ---- two parts and a dot between them
--- the first part, then the dot in the place of what stood at a
-abbrev pub dotted : ℕ → List ℕ → List ℕ → List ℕ
-dotted a us xs = set (us ++ drop a xs) a 46
-
-module _ (a : ℕ) (xs us : List ℕ) (us_full : length us ≡ a) (inside : a < length xs) where
-  length-dotted : length (dotted a us xs) ≡ length xs
-  length-dotted = length-set (us ++ drop a xs) a 46 ∙ length-append us (drop a xs) ∙ (omega (arith, length-drop a xs))
-
-  -- the places behind the dot
-  pub length-behind : length (take (length (dotted a us xs) - (a + 1)) (drop (a + 1) (dotted a us xs)))
-      ≡ length xs - (a + 1)
-  length-behind =
-      let l = length-drop (a + 1) (dotted a us xs) in
-      length-take-le (length (dotted a us xs) - (a + 1)) (drop (a + 1) (dotted a us xs)) (omega (arith, l))
-      ∙ (omega (arith, length-dotted))
-
-module _ (a : ℕ) (xs us ws : List ℕ) (us_full : length us ≡ a) (inside : a < length xs)
-    (ws_full : length ws ≡ length xs - (a + 1)) where
-  dotted_length : length (dotted a us xs) ≡ length xs
-  dotted_length = length-dotted a xs us us_full inside
-
-  fits : a + 1 + (length (dotted a us xs) - (a + 1)) ≤ length (dotted a us xs)
-  fits = omega (arith, dotted_length)
-
-  full : length ws ≡ length (dotted a us xs) - (a + 1)
-  full = omega (arith, dotted_length)
-
-  -- with the second part behind the dot there are as many places as before
-  pub around_length :
-      length (take (a + 1) (dotted a us xs)
-      ++ (ws ++ drop (length (dotted a us xs) - (a + 1)) (drop (a + 1) (dotted a us xs))))
-      ≡ length xs
-  around_length = part_length (a + 1) _ (dotted a us xs) ws fits full ∙ dotted_length
-
-  -- a byte in front of the dot is that of the first part
-  pub around_before : (i : ℕ) → i < a
-      → get_or
-      (take (a + 1) (dotted a us xs)
-      ++ (ws ++ drop (length (dotted a us xs) - (a + 1)) (drop (a + 1) (dotted a us xs)))) i 0
-      ≡ get_or us i 0
-  around_before i h =
-      part_before (a + 1) _ (dotted a us xs) ws fits full i (omega arith)
-      ∙ get_or-set_other (us ++ drop a xs) a i 46 0 (omega arith)
-      ∙ get_or-append us (drop a xs) 0 i (omega (arith, us_full))
-
-  -- at a stands the dot
-  pub around_dot :
-      get_or
-      (take (a + 1) (dotted a us xs)
-      ++ (ws ++ drop (length (dotted a us xs) - (a + 1)) (drop (a + 1) (dotted a us xs)))) a 0
-      ≡ 46
-  around_dot =
-      part_before (a + 1) _ (dotted a us xs) ws fits full a (omega arith)
-      ∙ get_or-set_same (us ++ drop a xs) a 46 0
-      (omega (arith, length-append us (drop a xs), length-drop a xs, us_full))
-
-  -- a byte behind the dot is that of the second part
-  pub around_behind : (i : ℕ) → a < i → i < length xs
-      → get_or
-      (take (a + 1) (dotted a us xs)
-      ++ (ws ++ drop (length (dotted a us xs) - (a + 1)) (drop (a + 1) (dotted a us xs)))) i 0
-      ≡ get_or ws (i - (a + 1)) 0
-  around_behind i h l =
-      part_within (a + 1) _ (dotted a us xs) ws fits full i (omega arith) (omega (arith, dotted_length))
-
 -- ---- places that hold zeros, byte by byte
-all_zeros : (xs : List ℕ) → ((i : ℕ) → i < length xs → get_or xs i 0 ≡ 48) → xs ≡ replicate (length xs) 48
-all_zeros xs zero =
-    ext_get_or 0 xs (replicate (length xs) 48) (sym (length-replicate (length xs) 48))
-    (λ i h. zero i h ∙ sym (get_or-replicate (length xs) i 48 0 h))
-
-module _ (xs : List ℕ) (zeros : xs ≡ replicate (length xs) 48) where
-  zero_at : (i : ℕ) → i < length xs → get_or xs i 0 ≡ 48
-  zero_at i h = ap (λ l. get_or l i 0) zeros ∙ get_or-replicate (length xs) i 48 0 h
-
-  -- the first places hold zeros too
-  pub zeros_front : (a : ℕ) → take a xs ≡ replicate (length (take a xs)) 48
-  zeros_front a = all_zeros (take a xs) (λ i h.
-      let l = length-take a xs in
-      let k : i < a = omega arith in
-      get_or-take a xs i 0 k ∙ zero_at i (omega arith))
-
-  -- and so do the places behind the dot
-  pub zeros_behind : (a : ℕ) (us : List ℕ) → length us ≡ a → a < length xs
-      → take (length (dotted a us xs) - (a + 1)) (drop (a + 1) (dotted a us xs))
-      ≡ replicate (length (take (length (dotted a us xs) - (a + 1)) (drop (a + 1) (dotted a us xs)))) 48
-  zeros_behind a us full inside = all_zeros _ (λ i h.
-      let l = length-behind a xs us full inside in
-      let k : i < length (dotted a us xs) - (a + 1) = omega (arith, length-dotted a xs us full inside) in
-      get_or-take (length (dotted a us xs) - (a + 1)) (drop (a + 1) (dotted a us xs)) i 0 k
-      ∙ get_or-drop (a + 1) (dotted a us xs) i 0
-      ∙ get_or-set_other (us ++ drop a xs) a (a + 1 + i) 46 0 (omega arith)
-      ∙ get_or-append_right us (drop a xs) a (a + 1 + i) 0 full (omega arith)
-      ∙ get_or-drop a xs (a + 1 + i - a) 0
-      ∙ zero_at (a + (a + 1 + i - a)) (omega arith))
-
 -- a block of so many
 abbrev pub block_of : ℕ → List ℕ
 block_of n = replicate n 48
 
+module _ (xs : List ℕ) (zeros : xs ≡ replicate (length xs) 48) where
+  -- the first places hold zeros too
+  pub zeros_front : (a : ℕ) → a ≤ length xs → take a xs ≡ replicate (length (take a xs)) 48
+  zeros_front a h =
+      ap (take a) zeros ∙ take-replicate a (length xs) 48 h ∙ ap block_of (sym (length-take-le a xs h))
+
+  -- and so do those behind them
+  pub zeros_behind : (a : ℕ) → drop a xs ≡ replicate (length (drop a xs)) 48
+  zeros_behind a = ap (drop a) zeros ∙ drop-replicate a (length xs) 48 ∙ ap block_of (sym (length-drop a xs))
+
+-- and all but one
+pub zeros_rest : (xs ys : List ℕ) (x : ℕ) → xs ≡ replicate (length xs) 48 → xs ≡ x ∷ ys
+    → ys ≡ replicate (length ys) 48
+zeros_rest xs ys x zeros e = ap (drop 1) (sym e ∙ zeros ∙ ap (λ l. block_of (length l)) e)
+
 -- the first places of a block hold zeros
-pub zeros_first : (n a : ℕ) → take a (block_of n) ≡ replicate (length (take a (block_of n))) 48
-zeros_first n a = zeros_front (block_of n) (ap block_of (sym (length-replicate {A = ℕ} n 48))) a
+pub zeros_first : (n a : ℕ) → a ≤ n → take a (block_of n) ≡ replicate (length (take a (block_of n))) 48
+zeros_first n a h =
+    let l = length-replicate {A = ℕ} n 48 in
+    zeros_front (block_of n) (ap block_of (sym l)) a (omega (arith, l))
 
 -- how far a magnitude lies below the first one, or 0
 pub index_gap : (index : Option ℕ) (first magnitude : ℤ) → IfSome index (λ i. magnitude +ℤ pos i ≡ first)

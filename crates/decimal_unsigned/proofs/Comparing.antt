@@ -1,26 +1,14 @@
 -- The order of two numbers, by their digits.
-use Rattle.std.proofs.Common.{◌≡◌, ℕ, suc, ◌+◌, ◌-◌, ◌*◌, ◌^◌, ◌<◌, ◌≤◌, List, [], ◌∷◌, length, get_or, drop, replicate, refl, sym, ◌∙◌, ap, subst, arith, ◌⊎◌, inl, inr}
-use Rattle.std.specs.Prelude.{All, min, ℤ, ◌<ℤ◌}
+use Rattle.decimal_unsigned.proofs.Common.{◌≡◌, ℕ, suc, ◌+◌, ◌-◌, ◌*◌, ◌^◌, ◌<◌, ◌≤◌, List, [], ◌∷◌, length, get_or, drop, replicate, refl, sym, ◌∙◌, ap, subst, arith, ◌⊎◌, inl, inr, min, ℤ, ◌<ℤ◌, nat_cmp, mul-le-mul_right, mul-lt-mul_of_pos_right, pow-le-pow_right, cases_lt, ints, length-drop, recursion_from_All, number_lt, pow-add, number_from_digits, AllBelowBase, place, place_is, IsStored, All, slice_cmp, below_sixteen}
 use Rattle.std.specs.declared.cmp.Ordering.{Ordering}
 use Rattle.std.specs.declared.cmp.Ordering.TheVariants.{Less, Equal, Greater}
-use Rattle.std.specs.Ordering.{MatchOrdering, ordering_then, nat_cmp, int_cmp}
+use Rattle.std.specs.Ordering.{MatchOrdering, ordering_then, int_cmp}
 use Rattle.std.specs.Cmp.{ranked, int_ranked, nat_cmp_is}
-use Rattle.std.specs.Cmp.Lexicographic.{slice_cmp}
-use Rattle.std.proofs.Math.Nat.{one-le-pow, mul-le-mul_right, mul-lt-mul_of_pos_right, mul-pos, pow-le-pow_right}
-use Rattle.std.proofs.lemmas.Bool.{cases_lt}
-use Rattle.std.proofs.lemmas.Int.{ints}
-use Rattle.std.proofs.lemmas.List.{length-drop, drop_more}
-use Rattle.std.proofs.lemmas.List.Elements.{recursion_from_All}
-use Rattle.std.proofs.lemmas.Int.Digits.{number_lt, number_after_append}
-use Rattle.std.proofs.lemmas.Nat.{pow-add}
-use Rattle.std.specs.Int.Digits.{number_from_digits, AllBelowBase}
-use Rattle.decimal_digits.specs.Number.{place}
+use Rattle.std.proofs.Math.Nat.{one-le-pow, mul-pos}
+use Rattle.std.proofs.lemmas.Int.Digits.{number_after_append}
 use Rattle.decimal_digits.specs.Digits.{number_of, number_at}
 use Rattle.decimal_digits.specs.Halves.{halves_number}
 use Rattle.decimal_digits.proofs.DigitLists.{number_first, number_zeros}
-use Rattle.decimal_digits.proofs.FrontBytes.{below_sixteen}
-use Rattle.decimal_digits.proofs.Places.{place_is}
-use Rattle.decimal_unsigned.specs.Fields.{IsStored}
 use Rattle.decimal_unsigned.proofs.Values.{number_of-lt, number_of-ge, number_of-pos, number_of-none, lowest}
 
 -- ---- one order that goes with another
@@ -40,35 +28,6 @@ pub same_int_order : (a b : ℤ) (x y : ℕ) → (a <ℤ b → x < y) → (a ≡
     → int_cmp a b ≡ nat_cmp x y
 same_int_order a b x y less equal greater =
     nat_cmp_is x y (int_cmp a b) (carried less equal greater (int_cmp a b) (int_ranked a b (int_cmp a b) refl))
-
--- ---- two lists, from the front
-module _ (xs ys : List ℕ) (i : ℕ) (h : i < length xs) (k : i < length ys) where
-  -- what is left is compared by its first items, and then by the others
-  at_index : slice_cmp nat_cmp (drop i xs) (drop i ys)
-      ≡ ordering_then (nat_cmp (get_or xs i 0) (get_or ys i 0)) (slice_cmp nat_cmp (drop (i + 1) xs) (drop (i + 1) ys))
-  at_index = rw (drop_more xs i 0 h, drop_more ys i 0 k) refl
-
-  -- items that are equal leave it to the others
-  pub equal_items : get_or xs i 0 ≡ get_or ys i 0
-      → slice_cmp nat_cmp (drop i xs) (drop i ys) ≡ slice_cmp nat_cmp (drop (i + 1) xs) (drop (i + 1) ys)
-  equal_items e =
-      at_index
-      ∙ ap (λ o. ordering_then o (slice_cmp nat_cmp (drop (i + 1) xs) (drop (i + 1) ys)))
-      (sym (nat_cmp_is (get_or xs i 0) (get_or ys i 0) Equal e))
-
-  -- items that differ decide
-  pub unequal_items : ¬ (get_or xs i 0 ≡ get_or ys i 0)
-      → nat_cmp (get_or xs i 0) (get_or ys i 0) ≡ slice_cmp nat_cmp (drop i xs) (drop i ys)
-  unequal_items differ =
-      decided (nat_cmp (get_or xs i 0) (get_or ys i 0)) (ranked (get_or xs i 0) (get_or ys i 0) _ refl) ∙ sym at_index
-    where
-      decided : (r : Ordering)
-          → MatchOrdering r (get_or xs i 0 < get_or ys i 0) (get_or xs i 0 ≡ get_or ys i 0)
-          (get_or ys i 0 < get_or xs i 0)
-          → r ≡ ordering_then r (slice_cmp nat_cmp (drop (i + 1) xs) (drop (i + 1) ys))
-      decided Less e = refl
-      decided Equal e = absurd (differ e)
-      decided Greater e = refl
 
 -- where one list has no items left, the lengths decide
 none_left : (xs ys : List ℕ) → (length xs ≡ 0) ⊎ (length ys ≡ 0)

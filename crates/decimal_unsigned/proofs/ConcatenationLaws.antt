@@ -1,15 +1,7 @@
 -- Laws of joining.
-use Rattle.std.proofs.Common.{◌≡◌, ℕ, ◌+◌, ◌-◌, ◌%◌, ◌<◌, ◌≤◌, Bool, true, false, cond, nat_lt, ◌||◌, refl, sym, ◌∙◌, ap, arith, inl, inr}
-use Rattle.std.specs.Prelude.{ℤ, pos, ◌+ℤ◌, ◌-ℤ◌, ◌≤ℤ◌, Option, Some, None, option_and_then}
-use Rattle.std.specs.Int.{int_max, int_min}
-use Rattle.std.proofs.lemmas.Int.{ints, clamps}
-use Rattle.std.proofs.lemmas.Bool.{cases_lt}
-use Rattle.std.proofs.lemmas.Bool.Decides.{nat_tests}
-use Rattle.decimal_digits.specs.Number.{place, weight, first, last}
-use Rattle.decimal_digits.proofs.Places.{place_is}
-use Rattle.decimal_unsigned.specs.Unsigned.{Unsigned, IsValue}
+use Rattle.decimal_unsigned.proofs.Common.{◌≡◌, ℕ, ◌+◌, ◌-◌, ◌%◌, ◌<◌, ◌≤◌, Bool, true, false, cond, nat_lt, ◌||◌, refl, sym, ◌∙◌, ap, arith, inl, inr, ℤ, pos, ◌+ℤ◌, ◌-ℤ◌, ◌≤ℤ◌, Option, Some, None, int_max, int_min, ints, clamps, cases_lt, nat_tests, place, weight, first, last, place_is, Unsigned, IsValue, with_max_position}
+use Rattle.std.specs.Prelude.{option_and_then}
 use Rattle.decimal_unsigned.specs.Concatenation.{overlaps, concatenated_end}
-use Rattle.decimal_unsigned.specs.Edits.{with_max_position}
 use Rattle.decimal_unsigned.specs.ConcatenationLaws.{concatenation, ConcatenationIsAssociative}
 use Rattle.decimal_unsigned.proofs.Concatenations.{overlaps_first_zero, overlaps_second_zero, disjoint, not_overlapping}
 use Rattle.decimal_unsigned.proofs.FirstLast.{Extent, extent, first_of, last_of, first_sum, last_sum, first_le, parts_sum, parts_apart}

@@ -1,38 +1,20 @@
 -- Digits, zeros and then more digits.
-use Rattle.std.proofs.Common.{◌≡◌, ℕ, ◌+◌, ◌-◌, ◌*◌, ◌^◌, ◌<◌, ◌≤◌, zero, suc, true, false, List, [], ◌∷◌, ◌++◌, length, replicate, nat_lt, ◌&&◌, refl, sym, ◌∙◌, ap, arith, inl, inr}
-use Rattle.std.specs.Prelude.{ℤ, pos, negsuc, ◌+ℤ◌, ◌-ℤ◌, ◌≤ℤ◌, ◌<ℤ◌, int_le}
-use Rattle.std.specs.Int.{int_max, int_min}
-use Rattle.std.proofs.lemmas.Int.{ints, clamps}
-use Rattle.std.proofs.lemmas.Nat.{pow-add}
-use Rattle.std.proofs.lemmas.Bool.{cases_lt}
-use Rattle.std.proofs.lemmas.Bool.Decides.{nat_tests}
-use Rattle.std.proofs.lemmas.List.{length-append, length-replicate, get_or_append_left, get_or-append_right}
-use Rattle.std.specs.Int.Digits.{number_from_digits, AllBelowBase}
-use Rattle.decimal_digits.specs.Number.{place, first, last}
+use Rattle.decimal_unsigned.proofs.Common.{◌≡◌, ℕ, ◌+◌, ◌-◌, ◌*◌, ◌^◌, ◌<◌, ◌≤◌, zero, suc, true, false, List, [], ◌∷◌, ◌++◌, length, replicate, nat_lt, refl, sym, ◌∙◌, ap, arith, inl, inr, ℤ, pos, negsuc, ◌+ℤ◌, ◌-ℤ◌, ◌≤ℤ◌, ◌<ℤ◌, int_max, int_min, ints, clamps, pow-add, cases_lt, nat_tests, length-append, number_from_digits, AllBelowBase, place, first, last, place_is, gap_is, IsStored, Unsigned, ◌&&◌, length-replicate}
+use Rattle.std.specs.Prelude.{int_le}
+use Rattle.std.proofs.lemmas.List.{get_or_append_left, get_or-append_right}
 use Rattle.decimal_digits.specs.Digits.{number_of, number_at}
 use Rattle.decimal_digits.proofs.DigitLists.{number-append, number_after}
-use Rattle.decimal_digits.proofs.Places.{place_is, gap_is}
-use Rattle.decimal_unsigned.specs.Fields.{IsStored}
-use Rattle.decimal_unsigned.specs.Unsigned.{Unsigned}
 use Rattle.decimal_unsigned.specs.Concatenation.{overlaps, concatenated_end, concatenated_size}
-use Rattle.decimal_unsigned.proofs.Values.{lowest, last-number_of, first_of, number_of-none}
+use Rattle.decimal_unsigned.proofs.Values.{lowest, last-number_of, first_of, number_of-none, stored_as, last_covered}
 
 -- the same digits in a wider range
 pub wider : {ds : List ℕ} {m hi lo hi' lo' : ℤ} → IsStored ds m hi lo → hi ≤ℤ hi' → lo' ≤ℤ lo → hi' ≤ℤ pos 32767
     → negsuc 32767 ≤ℤ lo'
     → IsStored ds m hi' lo'
-wider {ds} {m} {hi} {lo} {hi'} {lo'} t up down high low = record {
-  digits = t.digits;
-  front = t.front;
-  back = t.back;
-  empty = t.empty;
-  hi_covers = omega (arith, ints, t.hi_covers);
-  lo_covers = omega (arith, ints, t.lo_covers);
-  fits = omega (arith, ints, t.fits, place_is lo, place_is lo');
-  hi_in = omega (arith, ints, t.hi_in);
-  lo_in = omega (arith, ints, t.lo_in);
-  in_range = (low, high);
-}
+wider t up down high low =
+    stored_as t.digits t.front t.back t.empty
+    (λ h. (omega (arith, ints, t.hi_covers, up), omega (arith, ints, last_covered t h, down)))
+    (omega (arith, ints, t.hi_in, up), high) (low, omega (arith, ints, t.lo_in, down))
 
 -- digits in the range of another value, which has been widened to hold theirs
 pub taken : (v w : Unsigned) {ds es : List ℕ} {m hi lo n hi' lo' : ℤ} → IsStored ds m hi lo → IsStored es n hi' lo'
@@ -84,39 +66,27 @@ module _ {ds es : List ℕ} {m hi lo n hi' lo' : ℤ} (t : IsStored ds m hi lo) 
   places = omega (arith, ints, distance, place_is m, place_is n, lowest u)
 
   stored : IsStored ((ds ++ replicate k 0) ++ es) m (int_max hi hi') (int_min lo lo')
-  stored = record {
-    digits = below-append (ds ++ replicate k 0) es (below-append ds (replicate k 0) t.digits (below-zeros k)) u.digits;
-    front = λ h.
-        let s : 0 < length (ds ++ replicate k 0) = omega (arith, some, length-append ds (replicate k 0)) in
-        rw (get_or_append_left (ds ++ replicate k 0) es 0 0 s, get_or_append_left ds (replicate k 0) 0 0 some)
-        (t.front some);
-    back = λ h.
-        let i : length ((ds ++ replicate k 0) ++ es) - 1 - length (ds ++ replicate k 0) ≡ length es - 1 =
-        omega (arith, more, length-append (ds ++ replicate k 0) es) in
-        let l : length (ds ++ replicate k 0) ≤ length ((ds ++ replicate k 0) ++ es) - 1 =
-        omega (arith, more, length-append (ds ++ replicate k 0) es) in
-        rw (get_or-append_right (ds ++ replicate k 0) es _ (length ((ds ++ replicate k 0) ++ es) - 1) 0 refl l, i)
-        (u.back more);
-    empty = λ z. absurd (omega (arith, length-joined ds es k));
-    hi_covers = omega (arith, ints, clamps, t.hi_covers);
-    lo_covers = omega (arith, ints, clamps, t.lo_covers);
-    fits =
-        omega (
-          arith,
-          ints,
-          clamps,
-          places,
-          u.fits,
-          length-joined ds es k,
-          place_is lo,
-          place_is lo',
-          place_is (int_min lo lo'),
-        );
-    hi_in = omega (arith, ints, clamps, t.hi_in);
-    lo_in = omega (arith, ints, clamps, t.lo_in);
-    in_range =
-        (omega (arith, ints, clamps, t.in_range, u.in_range), omega (arith, ints, clamps, t.in_range, u.in_range));
-  }
+  stored =
+      stored_as
+      (below-append (ds ++ replicate k 0) es (below-append ds (replicate k 0) t.digits (below-zeros k)) u.digits)
+      (λ h.
+      let s : 0 < length (ds ++ replicate k 0) = omega (arith, some, length-append ds (replicate k 0)) in
+      rw (get_or_append_left (ds ++ replicate k 0) es 0 0 s, get_or_append_left ds (replicate k 0) 0 0 some)
+      (t.front some))
+      (λ h.
+      let i : length ((ds ++ replicate k 0) ++ es) - 1 - length (ds ++ replicate k 0) ≡ length es - 1 =
+      omega (arith, more, length-append (ds ++ replicate k 0) es) in
+      let l : length (ds ++ replicate k 0) ≤ length ((ds ++ replicate k 0) ++ es) - 1 =
+      omega (arith, more, length-append (ds ++ replicate k 0) es) in
+      rw (get_or-append_right (ds ++ replicate k 0) es _ (length ((ds ++ replicate k 0) ++ es) - 1) 0 refl l, i)
+      (u.back more))
+      (λ z. absurd (omega (arith, length-joined ds es k)))
+      (λ h. (
+        omega (arith, ints, clamps, t.hi_covers),
+        omega (arith, ints, clamps, distance, more, last_covered u more, length-joined ds es k),
+      ))
+      (omega (arith, ints, clamps, t.hi_in), omega (arith, ints, clamps, t.in_range, u.in_range))
+      (omega (arith, ints, clamps, t.in_range, u.in_range), omega (arith, ints, clamps, t.lo_in))
 
   number_of-joined : number_of ((ds ++ replicate k 0) ++ es) m ≡ number_of ds m + number_of es n
   unfolding number_of number_at

@@ -1,21 +1,11 @@
 -- The part of a number below a position, by its digits.
-use Rattle.std.proofs.Common.{◌≡◌, ℕ, ◌+◌, ◌-◌, ◌*◌, ◌%◌, ◌^◌, ◌<◌, ◌≤◌, min, List, length, get_or, take, drop, refl, sym, ◌∙◌, ap, subst, arith, inl, inr}
-use Rattle.std.specs.Prelude.{ℤ, pos, negsuc, ◌+ℤ◌, ◌-ℤ◌, ◌≤ℤ◌}
-use Rattle.std.specs.Int.{int_max, int_min, int_gap}
-use Rattle.std.proofs.Math.Nat.{mul-mod_left, mod-eq_of_lt, mul-lt-mul_of_pos_right, pow-le-pow_right}
-use Rattle.std.proofs.lemmas.Int.{ints, clamps}
-use Rattle.std.proofs.lemmas.Bool.{cases_lt}
-use Rattle.std.proofs.lemmas.Nat.{pow-add, mod-mul-add}
-use Rattle.std.proofs.lemmas.List.{length-drop, length-take-le, get_or-take, get_or-drop, drop-drop}
-use Rattle.std.specs.Int.Digits.{number_from_digits}
-use Rattle.decimal_digits.specs.Number.{place, weight}
+use Rattle.decimal_unsigned.proofs.Common.{◌≡◌, ℕ, ◌+◌, ◌-◌, ◌*◌, ◌%◌, ◌^◌, ◌<◌, ◌≤◌, min, List, length, get_or, take, drop, refl, sym, ◌∙◌, ap, subst, arith, inl, inr, ℤ, pos, negsuc, ◌+ℤ◌, ◌-ℤ◌, ◌≤ℤ◌, int_max, int_min, int_gap, mul-mod_left, mul-lt-mul_of_pos_right, pow-le-pow_right, ints, clamps, cases_lt, pow-add, length-drop, length-take-le, get_or-take, get_or-drop, number_from_digits, place, weight, ten_pos, place_is, gap_is, IsStored, with_max_position, mod-eq_of_lt, number_split, below_drop}
+use Rattle.std.proofs.lemmas.Nat.{mod-mul-add}
+use Rattle.std.proofs.lemmas.List.{drop-drop}
 use Rattle.decimal_digits.specs.Digits.{number_of, number_at}
-use Rattle.decimal_digits.proofs.DigitLists.{ten_pos, number_split, number-drop-lt, below_drop}
-use Rattle.decimal_digits.proofs.Places.{place_is, gap_is}
-use Rattle.decimal_unsigned.specs.Fields.{IsStored}
-use Rattle.decimal_unsigned.specs.Edits.{with_max_position}
+use Rattle.decimal_digits.proofs.DigitLists.{number-drop-lt}
 use Rattle.decimal_unsigned.proofs.Middle.{number_zeros}
-use Rattle.decimal_unsigned.proofs.Values.{number_of-lt, number_of-none, lowest}
+use Rattle.decimal_unsigned.proofs.Values.{number_of-lt, number_of-none, lowest, stored_as, last_covered}
 
 -- digits in front, zeros, and the others
 number_cut : (ds : List ℕ) (a start : ℕ) → a ≤ start → start ≤ length ds
@@ -57,62 +47,22 @@ module _ {ds : List ℕ} {m hi lo p m' hi' lo' : ℤ} {start : ℕ} (t : IsStore
 
   -- the digits below the position, as a value holds them
   pub stored_cut : IsStored (drop start ds) m' hi' lo'
-  stored_cut = elim (cases_lt start (length ds)) [
-    | inl h ↦ let e = c.some h in record {
-      digits = below_drop 10 start ds t.digits;
-      front = λ q.
-          subst (λ d. 0 < d) (sym (get_or-drop start ds 0 0))
-          (subst (λ k. 0 < get_or ds k 0) (let k : start ≡ start + 0 = omega arith in k) (c.found h));
-      back = λ q.
-          subst (λ d. 0 < d) (sym (get_or-drop start ds (length (drop start ds) - 1) 0))
-          (subst (λ k. 0 < get_or ds k 0)
-          (let k : length ds - 1 ≡ start + (length (drop start ds) - 1) = omega (arith, left) in k)
-          (t.back (omega arith)));
-      empty = λ z. absurd (omega (arith, left));
-      hi_covers = omega (arith, ints, clamps, e, c.hi_is, c.from, h, gap_is p (m +ℤ pos 1));
-      lo_covers = omega (arith, ints, clamps, e, c.lo_is, h, t.fits, place_is m, place_is lo, lowest t, t.in_range);
-      fits =
-          omega (
-            arith,
-            ints,
-            clamps,
-            e,
-            left,
-            h,
-            c.lo_is,
-            t.fits,
-            c.position,
-            place_is m,
-            place_is m',
-            place_is lo,
-            place_is lo',
-            lowest t,
-            t.in_range,
-          );
-      hi_in = omega (arith, ints, clamps, c.hi_is);
-      lo_in = omega (arith, ints, clamps, c.lo_is, t.lo_in);
-      in_range = (
-        omega (arith, ints, clamps, c.lo_is, c.position, t.in_range),
-        omega (arith, ints, clamps, c.hi_is, c.position),
-      );
-    }
-    | inr h ↦ let e = c.none (omega arith) in record {
-      digits = below_drop 10 start ds t.digits;
-      front = λ q. absurd (omega (arith, left));
-      back = λ q. absurd (omega (arith, left));
-      empty = λ z. e;
-      hi_covers = omega (arith, ints, clamps, e, c.hi_is);
-      lo_covers = omega (arith, ints, clamps, e, c.lo_is, t.lo_in);
-      fits =
-          omega (arith, ints, clamps, e, left, h, c.lo_is, t.lo_in, c.position, t.in_range, place_is m', place_is lo');
-      hi_in = omega (arith, ints, clamps, c.hi_is);
-      lo_in = omega (arith, ints, clamps, c.lo_is, t.lo_in);
-      in_range = (
-        omega (arith, ints, clamps, c.lo_is, c.position, t.in_range),
-        omega (arith, ints, clamps, c.hi_is, c.position),
-      );
-    }
-  ]
+  stored_cut =
+      stored_as (below_drop 10 start ds t.digits)
+      (λ q. rw get_or-drop
+      (subst (λ k. 0 < get_or ds k 0) (let k : start ≡ start + 0 = omega arith in k) (c.found (omega (arith, left)))))
+      (λ q. rw get_or-drop
+      (subst (λ k. 0 < get_or ds k 0)
+      (let k : length ds - 1 ≡ start + (length (drop start ds) - 1) = omega (arith, left) in k)
+      (t.back (omega (arith, left)))))
+      (λ z. c.none (omega (arith, left)))
+      (λ q.
+      let e = c.some (omega (arith, left)) in (
+        omega (arith, ints, clamps, e, c.hi_is, c.from, left, gap_is p (m +ℤ pos 1)),
+        omega (arith, ints, clamps, e, c.lo_is, left, last_covered t (omega (arith, left))),
+      ))
+      (omega (arith, ints, clamps, c.hi_is), omega (arith, ints, clamps, c.hi_is, c.position))
+      (omega (arith, ints, clamps, c.lo_is, c.position, t.in_range), omega (arith, ints, clamps, c.lo_is, t.lo_in))
 
   abbrev ends : ℕ
   ends = place m + 1 - length ds

@@ -1,24 +1,8 @@
 -- Laws of trims, and of the parts of a value at a position.
-use Rattle.std.proofs.Common.{◌≡◌, ℕ, ◌+◌, ◌-◌, ◌*◌, ◌%◌, ◌^◌, ◌<◌, ◌≤◌, ◌⊎◌, length, refl, sym, ◌∙◌, ap, subst, arith, inl, inr}
-use Rattle.std.specs.Prelude.{None, ℤ, pos, ◌≤ℤ◌, ◌<ℤ◌}
-use Rattle.std.specs.Option.{unwrap_or}
-use Rattle.std.specs.Int.{int_max, int_min}
-use Rattle.std.proofs.Math.Nat.{pow-le-pow_right}
-use Rattle.std.proofs.lemmas.Int.{ints, clamps, by_lt_z}
-use Rattle.std.proofs.lemmas.Bool.{cases_lt}
-use Rattle.std.proofs.lemmas.Option.{none-some}
-use Rattle.decimal_digits.specs.Number.{place, weight, first, last, number_limit}
-use Rattle.decimal_digits.specs.Rounding.{unit_at, rounded_number}
-use Rattle.decimal_digits.specs.declared.rounding.RoundingIncrement.{RoundingIncrement}
-use Rattle.decimal_digits.specs.declared.rounding.RoundingIncrement.TheVariants.{MultiplesOf1}
-use Rattle.decimal_digits.specs.declared.rounding.UnsignedRoundingMode.TheVariants.{Trunc}
-use Rattle.decimal_digits.proofs.Ends.{last_zero, no_more_zeros}
-use Rattle.decimal_digits.proofs.Places.{place_is, gap_is}
-use Rattle.decimal_unsigned.specs.Unsigned.{Unsigned, IsValue}
-use Rattle.decimal_unsigned.specs.Edits.{with_max_position}
-use Rattle.decimal_unsigned.specs.Rounded.{with_number, rounded}
-use Rattle.decimal_unsigned.specs.Text.{text}
-use Rattle.decimal_unsigned.specs.EditLaws.{trimmed, TrimmedIsNormalForm, IsShortest, trunced, PartsJoin}
+use Rattle.decimal_unsigned.proofs.Common.{◌≡◌, ℕ, ◌+◌, ◌-◌, ◌*◌, ◌%◌, ◌^◌, ◌<◌, ◌≤◌, ◌⊎◌, length, refl, sym, ◌∙◌, ap, subst, arith, inl, inr, None, ℤ, pos, ◌≤ℤ◌, ◌<ℤ◌, unwrap_or, int_max, int_min, pow-le-pow_right, ints, clamps, cases_lt, place, weight, first, last, number_limit, unit_at, RoundingIncrement, MultiplesOf1, Trunc, no_more_zeros, place_is, gap_is, Unsigned, IsValue, with_max_position, rounded, text, by_lt_z, none-some, with_number, trunced, PartsJoin}
+use Rattle.decimal_digits.specs.Rounding.{rounded_number}
+use Rattle.decimal_digits.proofs.Ends.{last_zero}
+use Rattle.decimal_unsigned.specs.EditLaws.{trimmed, TrimmedIsNormalForm, IsShortest}
 use Rattle.decimal_unsigned.proofs.FirstLast.{last_of, first_le}
 use Rattle.decimal_unsigned.proofs.ConcatenationLaws.{extent_of, parts_join, parts_number, parts_value}
 use Rattle.decimal_unsigned.proofs.Roundings.{trunc_makes}

@@ -1,16 +1,10 @@
 -- An exponent of any length, and what the code keeps of it.
-use Rattle.std.proofs.Common.{◌≡◌, ℕ, ◌==◌, true, false, cond, ◌||◌, ◌⊎◌, inl, inr, List, [], ◌∷◌, ◌++◌, refl, sym, ◌∙◌, ap, subst, arith}
-use Rattle.std.specs.Prelude.{ℤ, pos, negsuc, ◌<ℤ◌, int_lt, Option, Some, None, option_map, Ok, Err}
-use Rattle.std.proofs.lemmas.Int.{ints, clamps}
-use Rattle.std.proofs.lemmas.Bool.{cases_lt}
-use Rattle.std.specs.Str.Parse.{AllDigits}
-use Rattle.decimal_unsigned.specs.Unsigned.{Unsigned}
-use Rattle.decimal_unsigned.specs.Grammar.{Written}
-use Rattle.decimal_unsigned.specs.Reading.{parts_of, is_outside, scaled, value_of, value_or_syntax, read, syntax, limit}
+use Rattle.decimal_unsigned.proofs.Common.{◌≡◌, ℕ, ◌==◌, true, false, cond, ◌||◌, ◌⊎◌, inl, inr, List, [], ◌∷◌, ◌++◌, refl, sym, ◌∙◌, ap, subst, arith, ℤ, pos, negsuc, ◌<ℤ◌, int_lt, Option, Some, None, Ok, Err, ints, clamps, cases_lt, AllDigits, Unsigned, Written, parts_of, is_outside, limit, view, option_map}
+use Rattle.decimal_unsigned.specs.Reading.{scaled, value_of, value_or_syntax, read, syntax}
 use Rattle.decimal_unsigned.specs.Parts.{saturated, saturated_parts, IsSaturated}
 use Rattle.std.specs.Prelude.{IfSome}
 use Rattle.decimal_unsigned.specs.declared.decimal.parse.parts.Parts.{Parts}
-use Rattle.decimal_unsigned.specs.Parts.{view, views}
+use Rattle.decimal_unsigned.specs.Parts.{views}
 use Rattle.decimal_unsigned.proofs.GrammarParts.{parts_takes}
 use Rattle.decimal_unsigned.proofs.Plans.{over, under}
 

@@ -1,22 +1,13 @@
 -- How many digits the value of a text has, and where a text has one.
-use Rattle.std.proofs.Common.{◌≡◌, ℕ, suc, ◌+◌, ◌-◌, ◌*◌, ◌%◌, ◌^◌, ◌<◌, ◌≤◌, Bool, true, false, ◌||◌, List, ◌++◌, length, refl, sym, ◌∙◌, ap, subst, arith, rules, inl, inr}
-use Rattle.std.specs.Prelude.{Result, Ok, Err, IsOkAnd, Option, Some, None, ℤ, pos, negsuc, ◌+ℤ◌, ◌-ℤ◌, int_lt, nat_eq}
-use Rattle.std.proofs.Math.Nat.{mul-mod_left, mul-le-mul_right, mul_assoc}
-use Rattle.std.proofs.lemmas.Int.{ints}
-use Rattle.std.proofs.lemmas.Nat.{pow-add}
-use Rattle.std.proofs.lemmas.Bool.{cases_lt}
-use Rattle.std.proofs.lemmas.Int.Digits.{number_lt, digits_value_is}
-use Rattle.std.specs.Str.Parse.{AllDigits, digits_value}
-use Rattle.decimal_digits.specs.Number.{size, first, last}
-use Rattle.decimal_digits.proofs.DigitLists.{ten_pos}
-use Rattle.decimal_digits.proofs.Ends.{no_more_zeros, shift_up}
-use Rattle.decimal_digits.proofs.Places.{gap_is}
+use Rattle.decimal_unsigned.proofs.Common.{◌≡◌, ℕ, suc, ◌+◌, ◌-◌, ◌*◌, ◌%◌, ◌^◌, ◌<◌, ◌≤◌, Bool, true, false, ◌||◌, List, ◌++◌, length, refl, sym, ◌∙◌, ap, subst, arith, rules, inl, inr, Result, Ok, Err, Option, Some, None, ℤ, pos, negsuc, ◌+ℤ◌, ◌-ℤ◌, int_lt, mul-mod_left, mul-le-mul_right, ints, pow-add, cases_lt, number_lt, digits_value_is, AllDigits, digits_value, size, first, last, ten_pos, no_more_zeros, gap_is, Unsigned, leaves_limits, multiplied, Written, limit, is_outside, value_of, read, Grammar, mantissa}
+use Rattle.std.specs.Prelude.{IsOkAnd, nat_eq}
+use Rattle.std.proofs.Math.Nat.{mul_assoc}
+use Rattle.std.proofs.lemmas.Bool.{or_parts}
+use Rattle.decimal_digits.proofs.Ends.{shift_up}
 use Rattle.decimal_unsigned.specs.declared.error.ParseError.{ParseError}
 use Rattle.decimal_unsigned.specs.declared.error.ParseError.TheVariants.{Limit, Memory}
-use Rattle.decimal_unsigned.specs.Unsigned.{Unsigned}
-use Rattle.decimal_unsigned.specs.Edits.{leaves_limits, StaysInLimits, times_power, multiplied}
-use Rattle.decimal_unsigned.specs.Grammar.{Written, Grammar}
-use Rattle.decimal_unsigned.specs.Reading.{ReadingFault, limit, mantissa, is_outside, tidied, scaled, value_of, read}
+use Rattle.decimal_unsigned.specs.Edits.{StaysInLimits, times_power}
+use Rattle.decimal_unsigned.specs.Reading.{ReadingFault, tidied, scaled}
 use Rattle.decimal_unsigned.specs.Refusal.{Answers, IsPlain, digit_count}
 use Rattle.decimal_unsigned.specs.Placing.{digits_of}
 use Rattle.decimal_unsigned.proofs.FirstLast.{Extent, extent, ordered, top_lt, first_of, last_of}
@@ -53,20 +44,11 @@ size_le n m k len is few top = elim (cases_lt 0 n) [
       | inr h ↦ h
     ])
 
-or_left : (a b : Bool) → (a || b) ≡ false → a ≡ false
-or_left true b e = cc
-or_left false b e = refl
-
-or_right : (a b : Bool) → (a || b) ≡ false → b ≡ false
-or_right true b e = absurd (cc)
-or_right false b e = e
-
 -- a range that does not leave the limits stays in them
 stays : (v : Unsigned) (d : ℤ) → leaves_limits v d ≡ false → StaysInLimits v d
 stays v d e =
-    let a : int_lt (pos 32767) (v.hi +ℤ d) ≡ false = or_left _ _ e in
-    let b : int_lt (v.lo +ℤ d) (negsuc 32767) ≡ false = or_right (int_lt (pos 32767) (v.hi +ℤ d)) _ e in
-    (grind (arith, ints, a), grind (arith, ints, b))
+    let p = or_parts (int_lt (pos 32767) (v.hi +ℤ d)) (int_lt (v.lo +ℤ d) (negsuc 32767)) e in
+    (grind (arith, ints, p), grind (arith, ints, p))
 
 -- ---- The parts of a text.
 module _ (w : Written) (digits : AllDigits 10 (w.whole ++ w.fraction)) (few : length w.whole ≤ 32768)
@@ -123,7 +105,7 @@ module _ (w : Written) (digits : AllDigits 10 (w.whole ++ w.fraction)) (few : le
       go false z false e =
           let same : tidied (multiplied (mantissa w.whole w.fraction) d) ≡ v = (let k = rw (z, e) at is in cc) in
           subst (λ (x : Unsigned). size x.number ≤ length w.whole + length w.fraction) same
-          (size_times d (stays (mantissa w.whole w.fraction) d (or_right (is_outside d) _ e)))
+          (size_times d (stays (mantissa w.whole w.fraction) d (or_parts (is_outside d) _ e).1))
 
 -- the value of the parts has no more digits than they have
 size_value : (w : Written) (v : Unsigned) → AllDigits 10 (w.whole ++ w.fraction) → value_of w ≡ Ok v

@@ -1,15 +1,8 @@
 -- Each number other than 0 has a first and a last digit.
-use Rattle.std.proofs.Common.{◌≡◌, ℕ, zero, suc, ◌+◌, ◌-◌, ◌*◌, ◌/◌, ◌%◌, ◌^◌, ◌<◌, ◌≤◌, sym, ◌∙◌, ap, subst, arith, inl, inr}
-use Rattle.std.proofs.Math.Nat.{mul_assoc, pow-suc, pow-le-pow_right, div-add-mod', le-mul_of_pos_right, lt_of_mul-lt-mul_right, mul-add-mod_self_right, mul-le-mul_right}
-use Rattle.std.proofs.Math.Nat.{mod-le, mod-lt, div-le_self}
-use Rattle.std.proofs.lemmas.Int.{ints}
-use Rattle.std.specs.Prelude.{ℤ, pos, ◌<ℤ◌, ◌≤ℤ◌}
-use Rattle.std.proofs.lemmas.Nat.{pow-add}
-use Rattle.std.proofs.lemmas.Bool.{cases_lt}
-use Rattle.decimal_digits.specs.Number.{place, first, last, magnitude_at}
-use Rattle.decimal_digits.proofs.DigitLists.{ten_pos}
-use Rattle.decimal_digits.proofs.Ends.{first_is, last_is, first_zero}
-use Rattle.decimal_digits.proofs.Places.{place_is}
+use Rattle.decimal_unsigned.proofs.Common.{◌≡◌, ℕ, zero, suc, ◌+◌, ◌-◌, ◌*◌, ◌/◌, ◌%◌, ◌^◌, ◌<◌, ◌≤◌, sym, ◌∙◌, ap, subst, arith, inl, inr, pow-le-pow_right, mul-le-mul_right, ints, ℤ, pos, ◌<ℤ◌, ◌≤ℤ◌, pow-add, cases_lt, place, first, last, ten_pos, place_is, pow-suc, mod-lt, magnitude_at, first_is, first_zero}
+use Rattle.std.proofs.Math.Nat.{mul_assoc, div-add-mod', le-mul_of_pos_right, lt_of_mul-lt-mul_right, mul-add-mod_self_right}
+use Rattle.std.proofs.Math.Nat.{mod-le, div-le_self}
+use Rattle.decimal_digits.proofs.Ends.{last_is}
 
 -- the number has its first digit at one place and its last at another, and is a multiple of that one's weight
 pub record Extent (n : ℕ) : Type 0 where

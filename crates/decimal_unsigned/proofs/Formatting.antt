@@ -1,9 +1,8 @@
 -- What is formatted by a character.
-use Rattle.std.proofs.Common.{ℕ, ◌<◌, List, [], ◌∷◌}
+use Rattle.decimal_unsigned.proofs.Common.{ℕ, ◌<◌, List, [], ◌∷◌, HasWrittenStyled}
 use Rattle.std.specs.Prelude.{encode_utf8}
 use Rattle.std.proofs.lemmas.Str.{encode_ascii}
 use Rattle.std.specs.declared.fmt.Formatter.{Formatter}
-use Rattle.std.specs.Fmt.{HasWrittenStyled}
 use Rattle.std.proofs.Output.{has_written_styled_of_eq}
 
 -- an ASCII character is one byte

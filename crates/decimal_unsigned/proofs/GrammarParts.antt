@@ -1,25 +1,15 @@
 -- The parts of a text are those of the grammar.
-use Rattle.std.proofs.Common.{◌≡◌, ℕ, suc, ◌+◌, ◌<◌, Bool, true, false, cond, ◌&&◌, ◌||◌, ◌⊎◌, inl, inr, List, [], ◌∷◌, ◌++◌, length, take, drop, refl, sym, ◌∙◌, ap, subst, arith, nat_lt, ◌==◌, append_assoc, append-nil, eqb-true}
-use Rattle.std.specs.Prelude.{Option, Some, None, option_map, ℤ, pos, neg_ℤ}
-use Rattle.std.proofs.lemmas.Bool.Decides.{nat_tests}
-use Rattle.std.specs.Char.{is_ascii_digit, digit_value}
-use Rattle.std.specs.List.{prefix_len}
-use Rattle.std.specs.Str.{all_ascii_digits}
-use Rattle.std.specs.Str.Parse.{AllDigits, IsNumeral, digits_value}
-use Rattle.std.proofs.lemmas.List.{take-append-drop}
+use Rattle.decimal_unsigned.proofs.Common.{◌≡◌, ℕ, suc, ◌+◌, ◌<◌, Bool, true, false, cond, ◌||◌, ◌⊎◌, inl, inr, List, [], ◌∷◌, ◌++◌, length, take, drop, refl, sym, ◌∙◌, ap, subst, arith, nat_lt, ◌==◌, append-nil, Option, Some, None, ℤ, pos, nat_tests, is_ascii_digit, digit_value, prefix_len, all_ascii_digits, AllDigits, digits_value, Written, ◌&&◌, option_map, take-append-drop, Grammar}
+use Rattle.std.proofs.Common.{append_assoc, eqb-true}
+use Rattle.std.specs.Prelude.{neg_ℤ}
+use Rattle.std.specs.Str.Parse.{IsNumeral}
 use Rattle.std.proofs.Math.Seq.{take-append_seam, drop-append_seam}
-use Rattle.decimal_unsigned.specs.Grammar.{Written, IsMantissa, undotted, dotted, IsExponent, unsigned, plus, minus, Form, integer, decimal, scientific, Grammar}
+use Rattle.decimal_unsigned.specs.Grammar.{IsMantissa, undotted, dotted, IsExponent, unsigned, plus, minus, Form, integer, decimal, scientific}
 use Rattle.decimal_unsigned.specs.Reading.{leading_digits, after_digits, numeral_of, exponent_of, is_letter, with_exponent, after_fraction, after_whole, parts_of}
-use Rattle.decimal_unsigned.proofs.Numerals.{is_digit-true, true-is_digit}
+use Rattle.decimal_unsigned.proofs.Numerals.{true-is_digit, tests_digits, prefix_len-run}
 use Rattle.std.proofs.lemmas.Str.Parse.{digit_from_value}
 
 -- ---- runs of digits
--- a run of digits is counted with what follows it
-pub prefix_len-run : (a rest : List ℕ) → AllDigits 10 a
-    → prefix_len is_ascii_digit (a ++ rest) ≡ length a + prefix_len is_ascii_digit rest
-prefix_len-run [] rest h = omega arith
-prefix_len-run (c ∷ a) rest h = rw (is_digit-true c h.0) (omega (arith, prefix_len-run a rest h.1))
-
 -- a run of digits that something else follows is the leading one
 pub leading_run : (a rest : List ℕ) → AllDigits 10 a → prefix_len is_ascii_digit rest ≡ 0
     → leading_digits (a ++ rest) ≡ a
@@ -53,26 +43,10 @@ pub leading-after : (text : List ℕ) → leading_digits text ++ after_digits te
 leading-after text = take-append-drop (prefix_len is_ascii_digit text) text
 
 -- ---- numerals
--- digits pass the test
-pub all_digits-true : (ds : List ℕ) → AllDigits 10 ds → all_ascii_digits ds ≡ true
-all_digits-true [] h = refl
-all_digits-true (c ∷ ds) h = rw (is_digit-true c h.0) (all_digits-true ds h.1)
-
--- what passes the test is digits
-pub true-all_digits : (ds : List ℕ) → all_ascii_digits ds ≡ true → AllDigits 10 ds
-true-all_digits [] h = tt
-true-all_digits (c ∷ ds) h = go (λ k. true-all_digits ds k) (is_ascii_digit c) refl h
-  where
-    go : (all_ascii_digits ds ≡ true → AllDigits 10 ds) → (b : Bool) → is_ascii_digit c ≡ b
-        → (b && all_ascii_digits ds) ≡ true
-        → AllDigits 10 (c ∷ ds)
-    go more true e k = (true-is_digit c e, more k)
-    go more false e k = absurd (cc)
-
 -- a numeral has its number
 pub numeral_again : (ds : List ℕ) → IsNumeral 10 ds → numeral_of ds ≡ Some (digits_value 10 ds)
 unfolding numeral_of
-numeral_again ds h = let a = all_digits-true ds h.1 in grind (arith, nat_tests, h.0, a)
+numeral_again ds h = let a = tests_digits.from ds h.1 in grind (arith, nat_tests, h.0, a)
 
 -- what has a number is a numeral
 pub numeral_takes : (ds : List ℕ) (n : ℕ) → numeral_of ds ≡ Some n → IsNumeral 10 ds × (n ≡ digits_value 10 ds)
@@ -82,7 +56,7 @@ numeral_takes ds n h = go (nat_lt 0 (length ds)) refl (all_ascii_digits ds) refl
     go : (b : Bool) → nat_lt 0 (length ds) ≡ b → (d : Bool) → all_ascii_digits ds ≡ d
         → cond (b && d) (Some (digits_value 10 ds)) None ≡ Some n
         → IsNumeral 10 ds × (n ≡ digits_value 10 ds)
-    go true p true q e = ((let l : 0 < length ds = grind (arith, nat_tests, p) in l, true-all_digits ds q), cc)
+    go true p true q e = ((let l : 0 < length ds = grind (arith, nat_tests, p) in l, tests_digits.to ds q), cc)
     go true p false q e = cc
     go false p d q e = cc
 

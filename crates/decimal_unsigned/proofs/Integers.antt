@@ -1,25 +1,14 @@
 -- Digits whose last stands at magnitude 0, without their zeros at the end.
-use Rattle.std.proofs.Common.{◌≡◌, ℕ, zero, suc, ◌+◌, ◌-◌, ◌*◌, ◌^◌, ◌<◌, ◌≤◌, List, length, get_or, take, drop, refl, sym, ◌∙◌, ap, subst, arith, inl, inr}
-use Rattle.std.specs.Prelude.{All, Result, Ok, Err, IfOk, ℤ, pos, ◌≤ℤ◌}
-use Rattle.std.proofs.Math.Nat.{mul-le-mul_right}
-use Rattle.std.proofs.lemmas.Int.{ints}
-use Rattle.std.proofs.lemmas.Nat.{pow-add}
-use Rattle.std.proofs.lemmas.Bool.{cases_lt}
-use Rattle.std.proofs.lemmas.Int.Digits.{number_lt, all_below_base_digits_of, first_digits_of}
-use Rattle.std.proofs.lemmas.List.{length-take-le, length-drop, get_or-take, take_all}
-use Rattle.std.proofs.lemmas.List.Elements.{All-from_recursion, recursion_from_All}
-use Rattle.std.specs.Int.Digits.{digits_of, number_from_digits, AllBelowBase}
-use Rattle.decimal_digits.specs.Number.{place, weight, magnitude_at, first, size}
-use Rattle.decimal_digits.specs.Digits.{number_of}
-use Rattle.decimal_digits.proofs.Places.{place_is, magnitude_at-place}
-use Rattle.decimal_digits.proofs.DigitLists.{ten_pos, below_take}
-use Rattle.decimal_digits.proofs.Ends.{first_is}
-use Rattle.decimal_unsigned.specs.Fields.{IsStored}
-use Rattle.decimal_unsigned.specs.Unsigned.{Unsigned, integer_value, one_value}
-use Rattle.decimal_unsigned.specs.Placing.{middle, IsInner}
+use Rattle.decimal_unsigned.proofs.Common.{◌≡◌, ℕ, zero, suc, ◌+◌, ◌-◌, ◌*◌, ◌^◌, ◌<◌, ◌≤◌, List, length, get_or, take, drop, refl, sym, ◌∙◌, ap, subst, arith, inl, inr, Result, Ok, Err, ℤ, pos, ◌≤ℤ◌, mul-le-mul_right, ints, pow-add, cases_lt, number_lt, length-take-le, length-drop, get_or-take, take_all, recursion_from_All, number_from_digits, AllBelowBase, place, weight, first, size, number_of, place_is, ten_pos, below_take, IsStored, Unsigned, middle, IsInner, All, magnitude_at, first_is}
+use Rattle.std.specs.Prelude.{IfOk}
+use Rattle.std.proofs.lemmas.Int.Digits.{all_below_base_digits_of, first_digits_of}
+use Rattle.std.proofs.lemmas.List.Elements.{All-from_recursion}
+use Rattle.std.specs.Int.Digits.{digits_of}
+use Rattle.decimal_digits.proofs.Places.{magnitude_at-place}
+use Rattle.decimal_unsigned.specs.Unsigned.{integer_value, one_value}
 use Rattle.decimal_unsigned.proofs.FirstLast.{first_le}
 use Rattle.decimal_unsigned.proofs.Middle.{number_of-middle}
-use Rattle.decimal_unsigned.proofs.Values.{first_of, number_of-none, size-number_of}
+use Rattle.decimal_unsigned.proofs.Values.{first_of, number_of-none, size-number_of, stored_as}
 
 -- the digits up to the last one that is not 0
 pub record UpToLast (ds : List ℕ) (end : ℕ) : Type 0 where
@@ -43,22 +32,16 @@ module _ {ds : List ℕ} {end : ℕ} (e : UpToLast ds end) where
   module _ (m : ℤ) (at : m ≡ pos (length ds - 1)) where
     -- the digits up to the last one that is not 0, as a value holds them
     pub whole_stored : IsStored (take end ds) m m (pos 0)
-    whole_stored = record {
-      digits = below_take 10 end ds all_digits;
-      front = λ h. rw (get_or-take end ds 0 0 (omega (arith, long))) (e.front (omega (arith, long, e.within)));
-      back = λ h. rw (long, get_or-take end ds (end - 1) 0 (omega (arith, long))) (e.found (omega (arith, long)));
-      empty = λ z.
-          elim (cases_lt 0 (length ds)) [
-            | inl h ↦ absurd (omega (arith, some h, long))
-            | inr h ↦ omega (arith, ints, at)
-          ];
-      hi_covers = omega (arith, ints);
-      lo_covers = omega (arith, ints, at);
-      fits = omega (arith, ints, at, long, e.within, place_is m, place_is (pos 0));
-      hi_in = omega (arith, ints, at);
-      lo_in = omega (arith, ints);
-      in_range = (omega (arith, ints), omega (arith, ints, at, e.few));
-    }
+    whole_stored =
+        stored_as (below_take 10 end ds all_digits)
+        (λ h. rw (get_or-take end ds 0 0 (omega (arith, long))) (e.front (omega (arith, long, e.within))))
+        (λ h. rw (long, get_or-take end ds (end - 1) 0 (omega (arith, long))) (e.found (omega (arith, long))))
+        (λ z. elim (cases_lt 0 (length ds)) [
+          | inl h ↦ absurd (omega (arith, some h, long))
+          | inr h ↦ omega (arith, ints, at)
+        ])
+        (λ h. (omega (arith, ints), omega (arith, ints, at, long, e.within)))
+        (omega (arith, ints, at), omega (arith, ints, at, e.few)) (omega (arith, ints), omega (arith, ints))
 
     -- b is 0: a power of ten at a numeral would be computed
     number_over : (b : ℕ) → b ≡ 0 → number_of (take end ds) m ≡ number_from_digits 10 ds * 10 ^ (32768 - b)

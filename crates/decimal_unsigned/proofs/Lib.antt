@@ -1,3 +1,4 @@
+pub mod Common
 pub mod Values
 pub mod Ranges
 pub mod Shifts
@@ -29,4 +30,3 @@ pub mod Pieces
 pub mod Comparing
 pub mod WholeNumbers
 pub mod ShortNumbers
-pub mod ShortTexts

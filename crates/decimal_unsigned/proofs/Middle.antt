@@ -1,20 +1,10 @@
 -- What the digits between the zeros are worth.
-use Rattle.std.proofs.Common.{◌≡◌, ℕ, suc, ◌+◌, ◌-◌, ◌*◌, ◌^◌, ◌<◌, ◌≤◌, List, [], ◌∷◌, length, get_or, take, drop, ◌++◌, map, min, refl, sym, ◌∙◌, ap, subst, arith}
-use Rattle.std.specs.Prelude.{ℤ, pos, ◌-ℤ◌}
-use Rattle.std.proofs.lemmas.Int.{ints}
-use Rattle.std.proofs.lemmas.Nat.{pow-add}
-use Rattle.std.proofs.Common.{inl, inr}
-use Rattle.std.proofs.lemmas.Bool.{cases_lt}
+use Rattle.decimal_unsigned.proofs.Common.{inl, inr, ◌≡◌, ℕ, suc, ◌+◌, ◌-◌, ◌*◌, ◌^◌, ◌<◌, ◌≤◌, List, [], ◌∷◌, length, get_or, take, drop, ◌++◌, map, min, refl, sym, ◌∙◌, ap, subst, arith, ℤ, pos, ◌-ℤ◌, ints, pow-add, cases_lt, append-nil, length-map, take_all, length-drop, length-take, length-take-le, get_or-take, get_or-drop, digit_value, number_from_digits, AllBelowBase, place, IsStored, below_take, middle, IsInner, number_split, below_drop}
 use Rattle.std.proofs.Math.Seq.{drop-append-add, take-append-add}
-use Rattle.std.proofs.lemmas.List.{append-nil, length-map, map-append, take-map, drop-map, drop-append-le, take-append-le, take_all, length-drop, length-take, length-take-le, get_or-take, get_or-drop}
-use Rattle.std.specs.Char.{digit_value}
-use Rattle.std.specs.Int.Digits.{number_from_digits, AllBelowBase}
-use Rattle.decimal_digits.specs.Number.{place}
+use Rattle.std.proofs.lemmas.List.{map-append, take-map, drop-map, drop-append-le, take-append-le}
 use Rattle.decimal_digits.specs.Digits.{number_of, number_at}
-use Rattle.decimal_unsigned.specs.Fields.{IsStored}
-use Rattle.decimal_digits.proofs.Places.{place_is}
-use Rattle.decimal_digits.proofs.DigitLists.{number_after, number_split, below_take, below_drop}
-use Rattle.decimal_unsigned.specs.Placing.{middle, IsInner}
+use Rattle.decimal_digits.proofs.DigitLists.{number_after}
+use Rattle.decimal_unsigned.proofs.Values.{stored_as}
 
 -- zeros are worth nothing
 pub number_zeros : (ds : List ℕ) → ((k : ℕ) → k < length ds → get_or ds k 0 ≡ 0) → number_from_digits 10 ds ≡ 0
@@ -79,35 +69,17 @@ pub stored_middle : (ds : List ℕ) (start end a b : ℕ) (m : ℤ) → IsInner 
     → IsStored (middle start end ds) m (pos (a - 1)) (pos 0 -ℤ pos b)
 stored_middle ds start end a b m n d whole many few e =
     let l = middle_length ds start end n in
-    record {
-      digits = middle_below ds start end n d;
-      front = λ h.
-          rw (middle_at ds start end n 0 (omega arith))
-          (subst (λ i. 0 < get_or ds i 0) (let k : start ≡ start + 0 = omega arith in k) n.front);
-      back = λ h.
-          rw (l, middle_at ds start end n (end - start - 1) (omega arith))
-          (subst (λ i. 0 < get_or ds i 0)
-          (let k : end - 1 ≡ start + (end - start - 1) = omega (arith, n.ordered) in k) n.back);
-      empty = λ z. absurd (omega (arith, n.ordered));
-      hi_covers = omega (arith, ints, e);
-      lo_covers = omega (arith, ints, e, n.ordered, n.within);
-      fits = omega (arith, ints, e, n.ordered, n.within, place_is m, place_is (pos 0 -ℤ pos b));
-      hi_in = omega (arith, ints);
-      lo_in = omega (arith, ints);
-      in_range = (omega (arith, ints), omega (arith, ints));
-    }
-
--- what the two searches found
-pub inner : (ds : List ℕ) (start end : ℕ) → 0 < end → end ≤ length ds → ((k : ℕ) → k < start → get_or ds k 0 ≡ 0)
-    → (start < length ds → 0 < get_or ds start 0) → ((k : ℕ) → end ≤ k → get_or ds k 0 ≡ 0)
-    → (0 < end → 0 < get_or ds (end - 1) 0)
-    → IsInner ds start end
-inner ds start end p w before front after back =
-    let s : start < end = elim (cases_lt (end - 1) start) [
-      | inl h ↦ absurd (omega (arith, before (end - 1) h, back p))
-      | inr h ↦ omega arith
-    ] in
-    record { ordered = s; within = w; before = before; after = after; front = front (omega arith); back = back p }
+    stored_as (middle_below ds start end n d)
+    (λ h.
+    rw (middle_at ds start end n 0 (omega arith))
+    (subst (λ i. 0 < get_or ds i 0) (let k : start ≡ start + 0 = omega arith in k) n.front))
+    (λ h.
+    rw (l, middle_at ds start end n (end - start - 1) (omega arith))
+    (subst (λ i. 0 < get_or ds i 0)
+    (let k : end - 1 ≡ start + (end - start - 1) = omega (arith, n.ordered) in k) n.back))
+    (λ z. absurd (omega (arith, n.ordered)))
+    (λ h. (omega (arith, ints, e), omega (arith, ints, e, l, n.ordered, n.within)))
+    (omega (arith, ints), omega (arith, ints)) (omega (arith, ints), omega (arith, ints))
 
 -- ---- The digits of two lists, one behind the other.
 middle_front : (a b : List ℕ) (start end : ℕ) → start ≤ end → end ≤ length a

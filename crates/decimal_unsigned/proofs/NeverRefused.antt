@@ -1,24 +1,10 @@
 -- When a rounding is not refused: each multiple that a mode names is below the limit.
-use Rattle.std.proofs.Common.{◌≡◌, ℕ, ◌+◌, ◌-◌, ◌*◌, ◌^◌, ◌<◌, ◌≤◌, refl, sym, ◌∙◌, ap, arith, inl, inr}
-use Rattle.std.specs.Prelude.{Result, Ok, Err, IsErrOf, IsOk, None, ℤ, pos, negsuc, ◌+ℤ◌, ◌≤ℤ◌, ◌<ℤ◌}
-use Rattle.std.proofs.Math.Nat.{pow-le-pow_right, mul-le-mul_right}
-use Rattle.std.proofs.lemmas.Int.{ints}
-use Rattle.std.proofs.lemmas.Nat.{pow-add}
-use Rattle.std.proofs.lemmas.Bool.{cases_lt}
-use Rattle.std.proofs.lemmas.Option.{none-some}
-use Rattle.decimal_digits.specs.Number.{place, weight, number_limit}
-use Rattle.decimal_digits.specs.Rounding.{unit_at, rounded_number}
-use Rattle.decimal_digits.specs.declared.rounding.RoundError.{RoundError}
+use Rattle.decimal_unsigned.proofs.Common.{◌≡◌, ℕ, ◌+◌, ◌-◌, ◌*◌, ◌^◌, ◌<◌, ◌≤◌, refl, sym, ◌∙◌, ap, arith, inl, inr, Result, Ok, Err, None, ℤ, pos, negsuc, ◌+ℤ◌, ◌≤ℤ◌, ◌<ℤ◌, pow-le-pow_right, mul-le-mul_right, ints, pow-add, cases_lt, place, weight, number_limit, unit_at, rounded_number, RoundingIncrement, MultiplesOf1, ten_pos, place_is, Unsigned, IsValue, IsRounded, none-some, RoundError, UnsignedRoundingMode, unit_pos}
+use Rattle.std.specs.Prelude.{IsErrOf, IsOk}
 use Rattle.decimal_digits.specs.declared.rounding.RoundError.TheVariants.{Limit, Memory}
-use Rattle.decimal_digits.specs.declared.rounding.RoundingIncrement.{RoundingIncrement}
-use Rattle.decimal_digits.specs.declared.rounding.RoundingIncrement.TheVariants.{MultiplesOf1, MultiplesOf2, MultiplesOf5, MultiplesOf25}
-use Rattle.decimal_digits.specs.declared.rounding.UnsignedRoundingMode.{UnsignedRoundingMode}
-use Rattle.decimal_digits.proofs.DigitLists.{ten_pos}
-use Rattle.decimal_digits.proofs.Places.{place_is}
+use Rattle.decimal_digits.specs.declared.rounding.RoundingIncrement.TheVariants.{MultiplesOf2, MultiplesOf5, MultiplesOf25}
 use Rattle.decimal_digits.proofs.RoundingLaws.{rounded_number-multiple, rounded_number-monotone}
-use Rattle.decimal_digits.proofs.Tails.{unit_pos}
-use Rattle.decimal_unsigned.specs.Unsigned.{Unsigned, IsValue}
-use Rattle.decimal_unsigned.specs.Rounded.{HasRoom, HoldsOneMore, RoundingNeedsMemory, RoundsInPlace, IsRounded}
+use Rattle.decimal_unsigned.specs.Rounded.{HasRoom, HoldsOneMore, RoundingNeedsMemory, RoundsInPlace}
 use Rattle.decimal_unsigned.proofs.Roundings.{rounded_to-small}
 
 -- ---- Numbers.

@@ -1,14 +1,9 @@
 -- Reading and the grammar.
-use Rattle.std.proofs.Common.{◌≡◌, ℕ, ◌≤◌, ◌-◌, ◌==◌, Bool, true, false, cond, ◌||◌, ◌⊎◌, inl, inr, List, length, drop, refl, sym, ◌∙◌, ap, arith}
-use Rattle.std.specs.Prelude.{ℤ, Option, Some, None, Result, Ok, Err, IfOk, ◌↔◌}
-use Rattle.std.proofs.lemmas.List.{length-take-le, length-drop}
-use Rattle.decimal_unsigned.specs.Unsigned.{Unsigned}
+use Rattle.decimal_unsigned.proofs.Common.{◌≡◌, ℕ, ◌≤◌, ◌-◌, ◌==◌, Bool, true, false, cond, ◌||◌, ◌⊎◌, inl, inr, List, length, drop, refl, sym, ◌∙◌, ap, arith, ℤ, Option, Some, None, Result, Ok, Err, length-take-le, length-drop, Unsigned, Written, parts_of, is_outside, limit, leaves_limits, middle, Grammar, mantissa}
+use Rattle.std.specs.Prelude.{IfOk, ◌↔◌}
 use Rattle.decimal_unsigned.specs.declared.error.ParseError.{ParseError}
 use Rattle.decimal_unsigned.specs.declared.error.ParseError.TheVariants.{Limit, Syntax, Memory}
-use Rattle.decimal_unsigned.specs.Grammar.{Written, Grammar}
-use Rattle.decimal_unsigned.specs.Reading.{ReadingFault, parts_of, mantissa, is_outside, scaled, value_of, value_or_syntax, read, FollowsGrammar, syntax, limit}
-use Rattle.decimal_unsigned.specs.Edits.{leaves_limits}
-use Rattle.decimal_unsigned.specs.Placing.{middle}
+use Rattle.decimal_unsigned.specs.Reading.{ReadingFault, scaled, value_of, value_or_syntax, read, FollowsGrammar, syntax}
 use Rattle.decimal_unsigned.specs.Refusal.{Answers, AnswersGrammar}
 use Rattle.decimal_unsigned.proofs.GrammarParts.{parts_again, parts_takes}
 

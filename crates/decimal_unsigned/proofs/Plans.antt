@@ -1,44 +1,13 @@
 -- The value of the parts, by the digits that are kept.
-use Rattle.std.proofs.Common.{◌≡◌, ℕ, ◌+◌, ◌-◌, ◌*◌, ◌^◌, ◌<◌, ◌≤◌, ◌==◌, nat_lt, Bool, true, false, cond, ◌||◌, ◌⊎◌, inl, inr, List, ◌++◌, length, get_or, refl, sym, ◌∙◌, ap, subst, arith}
-use Rattle.std.specs.Prelude.{ℤ, pos, negsuc, ◌+ℤ◌, ◌-ℤ◌, ◌≤ℤ◌, ◌<ℤ◌, int_lt, Option, Some, None, Ok, Err, if◌then◌else◌}
-use Rattle.std.specs.Int.{int_max, int_min}
-use Rattle.std.proofs.lemmas.Int.{ints, clamps}
-use Rattle.std.proofs.lemmas.Bool.Decides.{nat_tests}
-use Rattle.std.proofs.lemmas.List.{length-map, length-append}
-use Rattle.std.specs.Char.{digit_value}
-use Rattle.std.specs.Str.Parse.{AllDigits, digits_value}
-use Rattle.std.specs.Int.Digits.{AllBelowBase}
-use Rattle.std.proofs.lemmas.Int.Digits.{digits_value_is, all_below_base_from_digits}
-use Rattle.decimal_digits.specs.Number.{first, last}
-use Rattle.decimal_unsigned.specs.Unsigned.{Unsigned}
-use Rattle.decimal_digits.specs.Digits.{number_of}
-use Rattle.decimal_unsigned.specs.Fields.{IsStored}
-use Rattle.decimal_unsigned.specs.Edits.{multiplied}
-use Rattle.decimal_digits.proofs.Places.{place_is}
-use Rattle.decimal_unsigned.proofs.Values.{number_of-pos, first-number_of, last-number_of, number_of_empty, lowest}
+use Rattle.decimal_unsigned.proofs.Common.{◌≡◌, ℕ, ◌+◌, ◌-◌, ◌*◌, ◌^◌, ◌<◌, ◌≤◌, ◌==◌, nat_lt, Bool, true, false, cond, ◌||◌, ◌⊎◌, inl, inr, ◌++◌, length, get_or, refl, sym, ◌∙◌, ap, subst, arith, ℤ, pos, negsuc, ◌+ℤ◌, ◌-ℤ◌, ◌≤ℤ◌, ◌<ℤ◌, int_lt, Option, Some, None, Ok, Err, int_max, int_min, ints, clamps, nat_tests, length-map, length-append, digit_value, AllDigits, digits_value, AllBelowBase, digits_value_is, first, last, Unsigned, number_of, place_is, IsStored, Written, is_outside, limit, leaves_limits, multiplied, middle, IsInner, mantissa}
+use Rattle.std.specs.Prelude.{if◌then◌else◌}
+use Rattle.std.proofs.lemmas.Bool.{or_left, or_right}
+use Rattle.std.proofs.lemmas.Int.Digits.{all_below_base_from_digits}
+use Rattle.decimal_unsigned.proofs.Values.{number_of-pos, first-number_of, last-number_of, number_of_empty, stored_as}
 use Rattle.decimal_unsigned.proofs.Shifts.{Moves, moved, multiplied_is}
-use Rattle.decimal_unsigned.specs.Grammar.{Written}
-use Rattle.decimal_unsigned.specs.Reading.{mantissa, is_outside, tidied, scaled, value_of, limit}
-use Rattle.decimal_unsigned.specs.Edits.{leaves_limits}
-use Rattle.decimal_unsigned.specs.Placing.{digits_of, middle, Placed, IsInner, Makes}
+use Rattle.decimal_unsigned.specs.Reading.{tidied, scaled, value_of}
+use Rattle.decimal_unsigned.specs.Placing.{digits_of, Makes}
 use Rattle.decimal_unsigned.proofs.Middle.{number_zeros, middle_length, number_of-middle, stored_middle}
-
--- the same digits, of which others are shown
-pub shown : {ds : List ℕ} {m hi lo : ℤ} (hi' lo' : ℤ) → IsStored ds m hi lo → 0 < length ds → m ≤ℤ hi'
-    → pos 0 ≤ℤ hi' → hi' ≤ℤ pos 32767 → lo' ≤ℤ (m -ℤ pos (length ds - 1)) → lo' ≤ℤ pos 0 → negsuc 32767 ≤ℤ lo'
-    → IsStored ds m hi' lo'
-shown {ds} {m} {hi} {lo} hi' lo' t p a b c d e f = record {
-  digits = t.digits;
-  front = t.front;
-  back = t.back;
-  empty = t.empty;
-  hi_covers = a;
-  lo_covers = omega (arith, ints);
-  fits = omega (arith, ints, place_is m, place_is lo', p, lowest t);
-  hi_in = b;
-  lo_in = e;
-  in_range = (f, c);
-}
 
 -- a magnitude above 32767 fails the test
 pub over : (a : ℤ) → pos 32767 <ℤ a → int_lt (pos 32767) a ≡ true
@@ -54,41 +23,37 @@ not_over a h = grind (arith, ints, h)
 not_under : (a : ℤ) → negsuc 32767 ≤ℤ a → int_lt a (negsuc 32767) ≡ false
 not_under a h = grind (arith, ints, h)
 
-or_true : (b : Bool) → (b || true) ≡ true
-or_true true = refl
-or_true false = refl
-
 out_of_reach : (a : Bool) (x y : ℤ) → (pos 32767 <ℤ x) ⊎ (y <ℤ negsuc 32767)
     → (a || (int_lt (pos 32767) x || int_lt y (negsuc 32767))) ≡ true
-out_of_reach a x y (inl h) = rw (over x h) (or_true a)
-out_of_reach a x y (inr h) = rw (under y h, or_true (int_lt (pos 32767) x)) (or_true a)
+out_of_reach a x y (inl h) = or_right a _ (or_left _ _ (over x h))
+out_of_reach a x y (inr h) = or_right a _ (or_right (int_lt (pos 32767) x) _ (under y h))
 
 -- what is shown of digits that begin at x, of a range up to h
 upper_is : (x h h' : ℤ) → h' ≡ (if int_lt (pos 0) x then x else int_max h (pos 0)) → x ≤ℤ h → h ≤ℤ pos 32767
-    → (x ≤ℤ h') × (pos 0 ≤ℤ h') × (h' ≤ℤ pos 32767)
+    → (x ≤ℤ h') × ((pos 0 ≤ℤ h') × (h' ≤ℤ pos 32767))
 upper_is x h h' e a b = go (int_lt (pos 0) x) refl e
   where
     go : (t : Bool) → int_lt (pos 0) x ≡ t → h' ≡ cond t x (int_max h (pos 0))
-        → (x ≤ℤ h') × (pos 0 ≤ℤ h') × (h' ≤ℤ pos 32767)
+        → (x ≤ℤ h') × ((pos 0 ≤ℤ h') × (h' ≤ℤ pos 32767))
     go true t k =
         let l : pos 0 <ℤ x = grind (arith, ints, t) in
-        (omega (arith, ints, k), omega (arith, ints, k), omega (arith, ints, k))
+        (omega (arith, ints, k), (omega (arith, ints, k), omega (arith, ints, k)))
     go false t k =
         let l : x ≤ℤ pos 0 = grind (arith, ints, t) in
-        (omega (arith, ints, clamps, k), omega (arith, ints, clamps, k), omega (arith, ints, clamps, k))
+        (omega (arith, ints, clamps, k), (omega (arith, ints, clamps, k), omega (arith, ints, clamps, k)))
 
 lower_is : (x h h' : ℤ) → h' ≡ (if int_lt x (pos 0) then x else int_min h (pos 0)) → h ≤ℤ x → negsuc 32767 ≤ℤ h
-    → (h' ≤ℤ x) × (h' ≤ℤ pos 0) × (negsuc 32767 ≤ℤ h')
+    → (h' ≤ℤ x) × ((negsuc 32767 ≤ℤ h') × (h' ≤ℤ pos 0))
 lower_is x h h' e a b = go (int_lt x (pos 0)) refl e
   where
     go : (t : Bool) → int_lt x (pos 0) ≡ t → h' ≡ cond t x (int_min h (pos 0))
-        → (h' ≤ℤ x) × (h' ≤ℤ pos 0) × (negsuc 32767 ≤ℤ h')
+        → (h' ≤ℤ x) × ((negsuc 32767 ≤ℤ h') × (h' ≤ℤ pos 0))
     go true t k =
         let l : x <ℤ pos 0 = grind (arith, ints, t) in
-        (omega (arith, ints, k), omega (arith, ints, k), omega (arith, ints, k))
+        (omega (arith, ints, k), (omega (arith, ints, k), omega (arith, ints, k)))
     go false t k =
         let l : pos 0 ≤ℤ x = grind (arith, ints, t) in
-        (omega (arith, ints, clamps, k), omega (arith, ints, clamps, k), omega (arith, ints, clamps, k))
+        (omega (arith, ints, clamps, k), (omega (arith, ints, clamps, k), omega (arith, ints, clamps, k)))
 
 none_or_zero : (v : Unsigned) (e : Option ℤ) → v.number ≡ 0 → scaled v e ≡ Ok v
 unfolding scaled
@@ -106,7 +71,7 @@ pub long_fraction : (w : Written) → 32768 < length w.fraction → value_of w �
 unfolding value_of
 long_fraction w h =
     let t : nat_lt 32768 (length w.fraction) ≡ true = grind (arith, nat_tests, h) in
-    rw (t, or_true (nat_lt 32768 (length w.whole))) refl
+    rw (or_right (nat_lt 32768 (length w.whole)) _ t) refl
 
 module _ (w : Written) (digits : AllDigits 10 (w.whole ++ w.fraction)) (few : length w.whole ≤ 32768)
     (short : length w.fraction ≤ 32768) where
@@ -137,18 +102,9 @@ module _ (w : Written) (digits : AllDigits 10 (w.whole ++ w.fraction)) (few : le
       record {
         ordered = omega arith;
         within = omega arith;
-        stored = record {
-          digits = tt;
-          front = λ p. absurd (omega arith);
-          back = λ p. absurd (omega arith);
-          empty = λ p. refl;
-          hi_covers = omega (arith, ints);
-          lo_covers = omega (arith, ints);
-          fits = omega (arith, ints, place_is (pos 0), place_is (pos 0 -ℤ pos (length w.fraction)));
-          hi_in = omega (arith, ints);
-          lo_in = omega (arith, ints);
-          in_range = (omega (arith, ints), omega (arith, ints));
-        };
+        stored =
+            stored_as tt (λ p. absurd (omega arith)) (λ p. absurd (omega arith)) (λ p. refl) (λ p. absurd (omega arith))
+            (omega (arith, ints), omega (arith, ints)) (omega (arith, ints), omega (arith, ints));
         value =
             value_scaled
             ∙ none_or_zero (mantissa w.whole w.fraction) w.exponent n
@@ -213,55 +169,60 @@ module _ (w : Written) (digits : AllDigits 10 (w.whole ++ w.fraction)) (few : le
         let t : (is_outside e || leaves_limits v e) ≡ true = out_of_reach (is_outside e) _ _ o in
         value_scaled ∙ (rw (s, z, t) refl)
 
-    -- the value of the digits times a power of ten
-    pub makes_scaled : (e : ℤ) (m' hi' lo' : ℤ) → w.exponent ≡ Some e
-        → Placed m (pos (length w.whole) -ℤ pos end) (pos (length w.whole - 1)) (pos 0 -ℤ pos (length w.fraction)) e m'
-        hi' lo'
+    -- the value of the digits times a power of ten, by the magnitudes that the exponent moves
+    pub makes_scaled : (e top bottom high low m' hi' lo' : ℤ) → w.exponent ≡ Some e → top ≡ m +ℤ e
+        → bottom ≡ (pos (length w.whole) -ℤ pos end) +ℤ e → high ≡ pos (length w.whole - 1) +ℤ e
+        → low ≡ (pos 0 -ℤ pos (length w.fraction)) +ℤ e → high ≤ℤ pos 32767 → negsuc 32767 ≤ℤ low → m' ≡ top
+        → hi' ≡ (if int_lt (pos 0) top then top else int_max high (pos 0))
+        → lo' ≡ (if int_lt bottom (pos 0) then bottom else int_min low (pos 0))
         → Makes w start end m' hi' lo'
     unfolding scaled
-    makes_scaled e m' hi' lo' s p =
+    makes_scaled e top bottom high low m' hi' lo' s top_is bottom_is high_is low_is upper lower m_is hi_is lo_is =
         let v = mantissa w.whole w.fraction in
         let ds = middle start end (digits_of w) in
+        let long = middle_length (digits_of w) start end n in
         let hi = pos (length w.whole - 1) in
         let lo = pos 0 -ℤ pos (length w.fraction) in
         let moves : Moves ds m hi lo e m' (int_max (hi +ℤ e) (pos 0)) (int_min (lo +ℤ e) (pos 0)) =
         record {
-          some = λ h. p.magnitude;
+          some = λ h. m_is ∙ top_is;
           none = λ y. absurd (omega (arith, some));
           hi_is = refl;
           lo_is = refl;
-          hi_fits = p.upper;
-          lo_fits = p.lower;
+          hi_fits = omega (arith, ints, high_is, upper);
+          lo_fits = omega (arith, ints, low_is, lower);
         } in
         let t = moved stored moves in
         let u = multiplied_is e stored moves ∙ ap (λ x. multiplied x e) mantissa_is in
-        let f : first (number_of ds m') ≡ m +ℤ e = first-number_of t some ∙ p.magnitude in
-        let l : last (number_of ds m') ≡ (pos (length w.whole) -ℤ pos end) +ℤ e =
-        last-number_of t some
-        ∙ (omega (arith, ints, p.magnitude, at, middle_length (digits_of w) start end n, n.ordered)) in
+        let f : first (number_of ds m') ≡ top = first-number_of t some ∙ m_is in
+        let l : last (number_of ds m') ≡ bottom =
+        last-number_of t some ∙ (omega (arith, ints, m_is, top_is, bottom_is, at, long, n.ordered)) in
         let z : (v.number == 0) ≡ false = let q = number_pos in grind (arith, nat_tests, q) in
-        let a = not_over e (omega (arith, ints, p.upper)) in
-        let b = not_under e (omega (arith, ints, p.lower)) in
-        let c = not_over (hi +ℤ e) p.upper in
-        let d = not_under (lo +ℤ e) p.lower in
+        let a = not_over e (omega (arith, ints, high_is, upper)) in
+        let b = not_under e (omega (arith, ints, low_is, lower)) in
+        let c = not_over (hi +ℤ e) (omega (arith, ints, high_is, upper)) in
+        let d = not_under (lo +ℤ e) (omega (arith, ints, low_is, lower)) in
         let tidy : tidied (multiplied v e) ≡ record { number = number_of ds m'; hi = hi'; lo = lo' } =
         ap tidied (sym u)
         ∙ (λ i. record {
           number = number_of ds m';
-          hi = if int_lt (pos 0) (f i) then f i else int_max (hi +ℤ e) (pos 0);
-          lo = if int_lt (l i) (pos 0) then l i else int_min (lo +ℤ e) (pos 0);
+          hi = if int_lt (pos 0) (f i) then f i else int_max (sym high_is i) (pos 0);
+          lo = if int_lt (l i) (pos 0) then l i else int_min (sym low_is i) (pos 0);
         })
-        ∙ (λ i. record { number = number_of ds m'; hi = sym p.hi_is i; lo = sym p.lo_is i }) in
-        let up = upper_is (m +ℤ e) (hi +ℤ e) hi' p.hi_is (omega (arith, ints, at, n.ordered)) p.upper in
-        let down = lower_is ((pos (length w.whole) -ℤ pos end) +ℤ e) (lo +ℤ e) lo' p.lo_is
-        (omega (arith, ints, n.within, length_digits)) p.lower in
+        ∙ (λ i. record { number = number_of ds m'; hi = sym hi_is i; lo = sym lo_is i }) in
+        let up = upper_is top high hi' hi_is (omega (arith, ints, top_is, high_is, at, n.ordered)) upper in
+        let down =
+        lower_is bottom low lo' lo_is (omega (arith, ints, bottom_is, low_is, n.within, length_digits)) lower in
         record {
           ordered = omega (arith, n.ordered);
           within = n.within;
           stored =
-              shown hi' lo' t some (omega (arith, ints, p.magnitude, up.0)) up.1 up.2
-              (omega (arith, ints, p.magnitude, at, down.0, middle_length (digits_of w) start end n, n.ordered))
-              down.1 down.2;
+              stored_as t.digits t.front t.back t.empty
+              (λ h. (
+                omega (arith, ints, m_is, up.0),
+                omega (arith, ints, m_is, top_is, bottom_is, at, down.0, long, n.ordered),
+              ))
+              up.1 down.1;
           value = value_scaled ∙ (rw (s, z, a, b, c, d) (ap Ok tidy));
         }
 
@@ -270,9 +231,3 @@ pub makes_at : (w : Written) (start end : ℕ) (m hi lo m' hi' lo' : ℤ) → Ma
     → hi' ≡ hi → lo' ≡ lo
     → Makes w start end m' hi' lo'
 makes_at w start end m hi lo m' hi' lo' k p q r = rw (p, q, r) k
-
--- the same of equal magnitudes
-pub placed_at : (first last hi lo e m' hi' lo' f l h o x : ℤ) → Placed first last hi lo e m' hi' lo' → first ≡ f
-    → last ≡ l → hi ≡ h → lo ≡ o → e ≡ x
-    → Placed f l h o x m' hi' lo'
-placed_at first last hi lo e m' hi' lo' f l h o x k p q r s t = rw (← p, ← q, ← r, ← s, ← t) k

@@ -1,18 +1,7 @@
 -- The first and the last digit of a value, and the ranges that show them.
-use Rattle.std.proofs.Common.{◌≡◌, ℕ, ◌+◌, ◌-◌, ◌%◌, ◌^◌, ◌<◌, true, false, List, length, refl, sym, subst, arith, inl, inr}
-use Rattle.std.specs.Prelude.{ℤ, pos, negsuc, ◌-ℤ◌, ◌≤ℤ◌, ◌<ℤ◌, int_lt}
-use Rattle.std.specs.Int.{int_max, int_min}
-use Rattle.std.proofs.Math.Nat.{mul-mod_left}
-use Rattle.std.proofs.lemmas.Int.{ints, clamps}
-use Rattle.std.proofs.lemmas.Bool.{cases_lt}
-use Rattle.std.specs.Int.Digits.{number_from_digits}
-use Rattle.decimal_digits.specs.Number.{place, first, last, IsFirst, IsLast}
+use Rattle.decimal_unsigned.proofs.Common.{◌≡◌, ℕ, ◌+◌, ◌-◌, ◌%◌, ◌^◌, ◌<◌, true, false, List, length, refl, sym, subst, arith, inl, inr, ℤ, pos, negsuc, ◌-ℤ◌, ◌≤ℤ◌, ◌<ℤ◌, int_lt, int_max, int_min, mul-mod_left, ints, clamps, cases_lt, number_from_digits, place, first, last, place_is, no_more_zeros, IsStored, Unsigned, IsValue, IsLast, number_back}
+use Rattle.decimal_digits.specs.Number.{IsFirst}
 use Rattle.decimal_digits.specs.Digits.{number_of, number_at}
-use Rattle.decimal_digits.proofs.Places.{place_is}
-use Rattle.decimal_digits.proofs.Ends.{no_more_zeros}
-use Rattle.decimal_digits.proofs.DigitLists.{number_back}
-use Rattle.decimal_unsigned.specs.Fields.{IsStored}
-use Rattle.decimal_unsigned.specs.Unsigned.{Unsigned, IsValue}
 use Rattle.decimal_unsigned.specs.Edits.{trimmed_start, padded_start, padded_end}
 use Rattle.decimal_unsigned.proofs.FirstLast.{first_le}
 use Rattle.decimal_unsigned.proofs.Values.{number_of-ge, number_of-lt, number_of-none, none_of, lowest, last-number_of, last_of_none, last_in}

@@ -1,28 +1,15 @@
 -- Laws of rounding, on values.
-use Rattle.std.proofs.Common.{◌≡◌, ℕ, ◌+◌, ◌-◌, ◌*◌, ◌^◌, ◌<◌, ◌≤◌, true, false, refl, sym, ◌∙◌, ap, subst, arith, inl, inr}
-use Rattle.std.specs.Prelude.{Bool, Option, Some, None, option_and_then, if◌then◌else◌, ℤ, pos, negsuc, ◌-ℤ◌, ◌≤ℤ◌}
-use Rattle.std.specs.Option.{unwrap_or}
-use Rattle.std.specs.Int.{int_max, int_min}
-use Rattle.std.proofs.lemmas.Int.{ints, clamps, by_lt_z}
-use Rattle.std.proofs.lemmas.Nat.{pow-add}
-use Rattle.std.proofs.lemmas.Bool.{cases_lt}
-use Rattle.std.proofs.lemmas.Option.{none-some, same_Some}
-use Rattle.decimal_digits.specs.Number.{place, first, size, number_limit}
-use Rattle.decimal_digits.specs.Rounding.{unit_at, rounded_number, DigitRoundingRefuses}
-use Rattle.decimal_digits.specs.declared.rounding.RoundError.{RoundError}
+use Rattle.decimal_unsigned.proofs.Common.{◌≡◌, ℕ, ◌+◌, ◌-◌, ◌*◌, ◌^◌, ◌<◌, ◌≤◌, true, false, refl, sym, ◌∙◌, ap, subst, arith, inl, inr, Bool, Option, Some, None, ℤ, pos, negsuc, ◌-ℤ◌, ◌≤ℤ◌, unwrap_or, int_max, int_min, ints, clamps, pow-add, cases_lt, place, first, size, number_limit, unit_at, rounded_number, RoundingIncrement, MultiplesOf1, Trunc, ten_pos, Unsigned, IsValue, rounded, IsRounded, by_lt_z, none-some, RoundError, UnsignedRoundingMode, unit_pos, with_number, trunced}
+use Rattle.std.specs.Prelude.{option_and_then, if◌then◌else◌}
+use Rattle.std.proofs.lemmas.Option.{same_Some}
+use Rattle.decimal_digits.specs.Rounding.{DigitRoundingRefuses}
 use Rattle.decimal_digits.specs.declared.rounding.RoundError.TheVariants.{Limit, Memory}
-use Rattle.decimal_digits.specs.declared.rounding.RoundingIncrement.{RoundingIncrement}
-use Rattle.decimal_digits.specs.declared.rounding.RoundingIncrement.TheVariants.{MultiplesOf1}
-use Rattle.decimal_digits.specs.declared.rounding.UnsignedRoundingMode.{UnsignedRoundingMode}
-use Rattle.decimal_digits.specs.declared.rounding.UnsignedRoundingMode.TheVariants.{Expand, Trunc}
-use Rattle.decimal_digits.proofs.DigitLists.{ten_pos}
+use Rattle.decimal_digits.specs.declared.rounding.UnsignedRoundingMode.TheVariants.{Expand}
 use Rattle.decimal_digits.proofs.Naming.{rounded_number-named}
 use Rattle.decimal_digits.proofs.Places.{place_le}
 use Rattle.decimal_digits.proofs.RoundingLaws.{rounded_number-idempotent, rounded_number-zero, rounded_number-finer, rounded_number-monotone, trunc-coarser, expand-coarser, trunc_le, le_expand}
-use Rattle.decimal_digits.proofs.Tails.{unit_pos}
-use Rattle.decimal_unsigned.specs.Unsigned.{Unsigned, IsValue}
-use Rattle.decimal_unsigned.specs.Rounded.{reaches_limit, with_number, rounded_to, rounded, IsRounded, RoundingRefuses}
-use Rattle.decimal_unsigned.specs.EditLaws.{after_rounding, trunced, expanded, number_if_any, TruncationsCompose, ExpansionsCompose, RoundingIsMonotone}
+use Rattle.decimal_unsigned.specs.Rounded.{reaches_limit, rounded_to, RoundingRefuses}
+use Rattle.decimal_unsigned.specs.EditLaws.{after_rounding, expanded, number_if_any, TruncationsCompose, ExpansionsCompose, RoundingIsMonotone}
 use Rattle.decimal_unsigned.proofs.EditLaws.{below_limit}
 use Rattle.decimal_unsigned.proofs.FirstLast.{first_le}
 use Rattle.decimal_unsigned.proofs.Roundings.{within, beyond, rounded_to-small, rounded_to-large, trunc_makes}

@@ -1,31 +1,14 @@
 -- What the fields hold after a rounding.
-use Rattle.std.proofs.Common.{◌≡◌, ℕ, ◌<◌, ◌≤◌, nat_le, true, false, List, length, refl, sym, ◌∙◌, ap, arith, inl, inr}
-use Rattle.std.specs.Prelude.{Option, Some, None, Result, Ok, Err, IsOk, ℤ, pos, negsuc, ◌-ℤ◌, ◌≤ℤ◌}
-use Rattle.std.specs.Int.{int_max, int_min}
-use Rattle.std.specs.Int.Digits.{AllBelowBase}
-use Rattle.std.proofs.lemmas.Int.{ints, clamps}
-use Rattle.std.proofs.lemmas.Bool.{cases_lt}
-use Rattle.std.proofs.lemmas.Bool.Decides.{nat_tests}
-use Rattle.decimal_digits.specs.Number.{first, size, number_limit}
-use Rattle.decimal_digits.specs.Digits.{number_of}
+use Rattle.decimal_unsigned.proofs.Common.{◌≡◌, ℕ, ◌<◌, ◌≤◌, true, false, List, length, refl, sym, ◌∙◌, ap, arith, Option, Some, None, Result, Ok, Err, ℤ, pos, negsuc, ◌-ℤ◌, ◌≤ℤ◌, int_max, int_min, AllBelowBase, ints, clamps, nat_tests, first, size, number_limit, number_of, unit_at, rounded_number, RoundingIncrement, MultiplesOf1, Trunc, place_is, Unsigned, IsStored, rounded, IsRounded, RoundError, UnsignedRoundingMode, unit_pos, first_zero, with_number}
+use Rattle.std.proofs.Common.{nat_le}
+use Rattle.std.specs.Prelude.{IsOk}
 use Rattle.decimal_digits.specs.Left.{Spells, IsAbove}
-use Rattle.decimal_digits.specs.Rounding.{unit_at, rounded_number}
-use Rattle.decimal_digits.specs.declared.rounding.RoundingIncrement.{RoundingIncrement}
-use Rattle.decimal_digits.specs.declared.rounding.RoundingIncrement.TheVariants.{MultiplesOf1}
-use Rattle.decimal_digits.specs.declared.rounding.RoundError.{RoundError}
 use Rattle.decimal_digits.specs.declared.rounding.RoundError.TheVariants.{Limit, Memory}
-use Rattle.decimal_digits.specs.declared.rounding.UnsignedRoundingMode.{UnsignedRoundingMode}
-use Rattle.decimal_digits.specs.declared.rounding.UnsignedRoundingMode.TheVariants.{Trunc}
 use Rattle.std.specs.Result.{is_ok}
 use Rattle.decimal_digits.proofs.RoundingLaws.{trunc_le}
-use Rattle.decimal_digits.proofs.Tails.{unit_pos}
-use Rattle.decimal_digits.proofs.Ends.{first_zero}
 use Rattle.decimal_digits.proofs.NumberAt.{number_of-none}
-use Rattle.decimal_digits.proofs.Places.{place_is}
-use Rattle.decimal_unsigned.specs.Unsigned.{Unsigned}
-use Rattle.decimal_unsigned.specs.Fields.{IsStored}
-use Rattle.decimal_unsigned.specs.Rounded.{with_number, rounded_to, rounded, IsRounded, AnswersInPlace, RoundsInPlace}
-use Rattle.decimal_unsigned.proofs.Values.{size-number_of}
+use Rattle.decimal_unsigned.specs.Rounded.{rounded_to, AnswersInPlace, RoundsInPlace}
+use Rattle.decimal_unsigned.proofs.Values.{size-number_of, stored_as}
 
 -- a number against a limit
 pub within : (n limit : ℕ) → n < limit → nat_le limit n ≡ false
@@ -79,32 +62,14 @@ module _ {ds : List ℕ} {m : ℤ} {n : ℕ} (s : Spells ds m n) (p : ℤ) (hi h
   pub stored_left : IsAbove p ds m → AllBelowBase 10 ds → pos 0 ≤ℤ hi → hi ≤ℤ pos 32767 → negsuc 32767 ≤ℤ p
       → p ≤ℤ pos 32767
       → IsStored ds m hi' lo'
-  stored_left above b f g l t = elim (cases_lt 0 (length ds)) [
-    | inl some ↦ let a = above some in record {
-      digits = b;
-      front = s.stripped.front;
-      back = s.stripped.back;
-      empty = unspelled s;
-      hi_covers = omega (arith, ints, clamps, h);
-      lo_covers = omega (arith, ints, clamps, o, a, some, place_is p, place_is m, s.least);
-      fits = omega (arith, ints, clamps, o, a, l, place_is p, place_is lo');
-      hi_in = omega (arith, ints, clamps, h, f);
-      lo_in = omega (arith, ints, clamps, o);
-      in_range = (omega (arith, ints, clamps, o, l), omega (arith, ints, clamps, h, g, t, s.greatest));
-    }
-    | inr none ↦ let z : length ds ≡ 0 = omega arith in let e = unspelled s z in record {
-      digits = b;
-      front = s.stripped.front;
-      back = s.stripped.back;
-      empty = unspelled s;
-      hi_covers = omega (arith, ints, clamps, h);
-      lo_covers = omega (arith, ints, clamps, o, e);
-      fits = omega (arith, ints, clamps, o, e, l, z, place_is m, place_is lo');
-      hi_in = omega (arith, ints, clamps, h, f);
-      lo_in = omega (arith, ints, clamps, o);
-      in_range = (omega (arith, ints, clamps, o, l), omega (arith, ints, clamps, h, g, t, s.greatest));
-    }
-  ]
+  stored_left above b f g l t =
+      stored_as b s.stripped.front s.stripped.back (unspelled s)
+      (λ some. (
+        omega (arith, ints, clamps, h),
+        omega (arith, ints, clamps, o, above some, some, l, s.least, place_is p, place_is m),
+      ))
+      (omega (arith, ints, clamps, h, f), omega (arith, ints, clamps, h, g, t, s.greatest))
+      (omega (arith, ints, clamps, o, l), omega (arith, ints, clamps, o))
 
   -- they make the rounded value
   pub rounded_left : (v : Unsigned) → v.hi ≡ hi

@@ -1,20 +1,10 @@
 -- A value times a power of ten.
-use Rattle.std.proofs.Common.{◌≡◌, ℕ, suc, ◌+◌, ◌-◌, ◌*◌, ◌/◌, ◌^◌, ◌<◌, ◌≤◌, true, false, ◌||◌, List, length, refl, sym, ◌∙◌, ap, arith, inl, inr, ◌⊎◌}
-use Rattle.std.specs.Prelude.{Some, None, ℤ, pos, negsuc, ◌+ℤ◌, ◌≤ℤ◌, ◌<ℤ◌, int_lt}
-use Rattle.std.specs.Int.{int_max, int_min}
+use Rattle.decimal_unsigned.proofs.Common.{◌≡◌, ℕ, suc, ◌+◌, ◌-◌, ◌*◌, ◌/◌, ◌^◌, ◌<◌, ◌≤◌, true, false, ◌||◌, List, length, refl, sym, ◌∙◌, ap, arith, inl, inr, ◌⊎◌, Some, None, ℤ, pos, negsuc, ◌+ℤ◌, ◌≤ℤ◌, ◌<ℤ◌, int_lt, int_max, int_min, pow-add, ints, clamps, cases_lt, number_from_digits, place, Unsigned, IsStored, leaves_limits, multiplied, place_is}
 use Rattle.std.proofs.Math.Nat.{zero-div}
-use Rattle.std.proofs.lemmas.Nat.{pow-add}
-use Rattle.std.proofs.lemmas.Int.{ints, clamps}
-use Rattle.std.proofs.lemmas.Bool.{cases_lt}
-use Rattle.std.specs.Int.Digits.{number_from_digits}
-use Rattle.decimal_digits.specs.Number.{place}
-use Rattle.decimal_unsigned.specs.Unsigned.{Unsigned}
 use Rattle.decimal_digits.specs.Digits.{number_of, number_at}
-use Rattle.decimal_unsigned.specs.Fields.{IsStored}
-use Rattle.decimal_unsigned.specs.Edits.{leaves_limits, multiplied, multiplied_pow10}
-use Rattle.decimal_digits.proofs.Places.{place_is}
+use Rattle.decimal_unsigned.specs.Edits.{multiplied_pow10}
 use Rattle.decimal_digits.proofs.Ends.{shift_up}
-use Rattle.decimal_unsigned.proofs.Values.{number_of-none, lowest}
+use Rattle.decimal_unsigned.proofs.Values.{number_of-none, lowest, stored_as, last_covered}
 
 -- the range of a shifted value
 pub record Moves (ds : List ℕ) (m hi lo d m' hi' lo' : ℤ) : Type 0 where
@@ -28,46 +18,14 @@ pub record Moves (ds : List ℕ) (m hi lo d m' hi' lo' : ℤ) : Type 0 where
 module _ {ds : List ℕ} {m hi lo d m' hi' lo' : ℤ} (t : IsStored ds m hi lo) (s : Moves ds m hi lo d m' hi' lo') where
   -- the moved digits, as a value holds them
   pub moved : IsStored ds m' hi' lo'
-  moved = elim (cases_lt 0 (length ds)) [
-    | inl h ↦ let e = s.some h in record {
-      digits = t.digits;
-      front = t.front;
-      back = t.back;
-      empty = λ z. absurd (omega arith);
-      hi_covers = omega (arith, ints, clamps, t.hi_covers, t.lo_covers, s.hi_is);
-      lo_covers = omega (arith, ints, clamps, t.lo_covers, t.hi_in, t.lo_in, s.lo_is);
-      fits =
-          omega (
-            arith,
-            ints,
-            clamps,
-            t.fits,
-            t.lo_covers,
-            t.in_range,
-            s.lo_is,
-            s.lo_fits,
-            place_is lo,
-            place_is m,
-            place_is m',
-            place_is lo',
-          );
-      hi_in = omega (arith, ints, clamps, s.hi_is);
-      lo_in = omega (arith, ints, clamps, s.lo_is);
-      in_range = (omega (arith, ints, clamps, s.lo_is, s.lo_fits), omega (arith, ints, clamps, s.hi_is, s.hi_fits));
-    }
-    | inr h ↦ let z : length ds ≡ 0 = omega arith in let e = s.none z in record {
-      digits = t.digits;
-      front = t.front;
-      back = t.back;
-      empty = s.none;
-      hi_covers = omega (arith, ints, clamps, s.hi_is);
-      lo_covers = omega (arith, ints, clamps, s.lo_is);
-      fits = omega (arith, ints, clamps, s.lo_is, s.lo_fits, place_is m', place_is lo');
-      hi_in = omega (arith, ints, clamps, s.hi_is);
-      lo_in = omega (arith, ints, clamps, s.lo_is);
-      in_range = (omega (arith, ints, clamps, s.lo_is, s.lo_fits), omega (arith, ints, clamps, s.hi_is, s.hi_fits));
-    }
-  ]
+  moved =
+      stored_as t.digits t.front t.back s.none
+      (λ h. (
+        omega (arith, ints, clamps, t.hi_covers, s.some h, s.hi_is),
+        omega (arith, ints, clamps, last_covered t h, s.some h, s.lo_is),
+      ))
+      (omega (arith, ints, clamps, s.hi_is), omega (arith, ints, clamps, s.hi_is, s.hi_fits))
+      (omega (arith, ints, clamps, s.lo_is, s.lo_fits), omega (arith, ints, clamps, s.lo_is))
 
 number_up : (ds : List ℕ) (m m' : ℤ) (n : ℕ) → length ds ≤ place m + 1 → place m' ≡ place m + n
     → number_of ds m' ≡ number_of ds m * 10 ^ n

@@ -1,15 +1,6 @@
 -- The values that the code holds are those that their range shows whole.
-use Rattle.std.proofs.Common.{◌≡◌, ℕ, ◌+◌, ◌-◌, ◌*◌, ◌%◌, ◌^◌, ◌≤◌, List, length, ◌∙◌, ap, subst, arith}
-use Rattle.std.specs.Prelude.{ℤ}
-use Rattle.std.proofs.lemmas.Int.{ints}
-use Rattle.std.proofs.lemmas.Nat.{pow-add}
-use Rattle.std.proofs.Math.Nat.{pow-le-pow_right, mul-mod_left}
-use Rattle.std.specs.Int.Digits.{number_from_digits}
-use Rattle.decimal_digits.specs.Number.{place}
+use Rattle.decimal_unsigned.proofs.Common.{◌≡◌, ℕ, ◌+◌, ◌-◌, ◌*◌, ◌%◌, ◌^◌, ◌≤◌, List, length, ◌∙◌, ap, subst, arith, ℤ, ints, pow-add, pow-le-pow_right, mul-mod_left, number_from_digits, place, IsStored, Unsigned, IsValue, place_is}
 use Rattle.decimal_digits.specs.Digits.{number_of, number_at}
-use Rattle.decimal_unsigned.specs.Fields.{IsStored}
-use Rattle.decimal_unsigned.specs.Unsigned.{Unsigned, IsValue}
-use Rattle.decimal_digits.proofs.Places.{place_is}
 use Rattle.decimal_unsigned.proofs.Values.{number_of-lt, lowest}
 
 -- what the fields hold is a value

@@ -1,95 +1,115 @@
--- Which byte stands where in the text of a value.
-use Rattle.std.proofs.Common.{◌≡◌, ℕ, zero, suc, ◌+◌, ◌/◌, ◌<◌, ◌≤◌, [], ◌∷◌, ◌++◌, length, get_or, subst, sym, ◌∙◌, ap, arith}
-use Rattle.std.specs.Prelude.{ℤ, pos, negsuc, ◌+ℤ◌, ◌-ℤ◌, ◌≤ℤ◌, ◌<ℤ◌}
-use Rattle.std.specs.Int.{int_gap}
+-- The text of a value as the bytes of its integer digits, and a dot with those of its fraction digits.
+use Rattle.decimal_unsigned.proofs.Common.{◌≡◌, ℕ, zero, suc, ◌+◌, ◌/◌, ◌<◌, ◌≤◌, List, [], ◌∷◌, ◌++◌, length, get_or, take, drop, subst, refl, sym, ◌∙◌, ap, arith, ℤ, pos, negsuc, ◌-ℤ◌, ◌≤ℤ◌, int_gap, ints, get_or-take, get_or-drop, length-take-le, length-drop, weight, digit, Unsigned, text, mod-lt}
+use Rattle.std.specs.Prelude.{EachIndex, slice_index}
 use Rattle.std.specs.Str.{IsAscii}
-use Rattle.std.proofs.lemmas.Int.{ints, by_lt_z}
-use Rattle.std.proofs.Math.Nat.{mod-lt}
+use Rattle.std.proofs.lemmas.List.{ext_get_or}
 use Rattle.std.proofs.lemmas.Str.{IsAscii-append}
 use Rattle.std.proofs.lemmas.Str.Ascii.{IsAscii-nil, IsAscii-cons}
-use Rattle.decimal_digits.specs.Number.{weight, digit}
-use Rattle.decimal_digits.proofs.Places.{gap_is}
-use Rattle.decimal_unsigned.specs.Unsigned.{Unsigned, IsValue}
-use Rattle.decimal_unsigned.specs.Text.{dot_before, text_down, text}
-use Rattle.decimal_unsigned.proofs.Lengths.{length-text_whole, length-text_dotted}
+use Rattle.decimal_unsigned.specs.Text.{dot_before, text_down}
 use Rattle.decimal_unsigned.proofs.Writing.{text_down-suc, text_down-zero}
 
 -- the byte of a digit
-abbrev byte : ℕ → ℤ → ℕ
+abbrev pub byte : ℕ → ℤ → ℕ
 byte number m = 48 + digit number m
 
-same_byte : (number : ℕ) (m k : ℤ) → m ≡ k → byte number m ≡ byte number k
-same_byte number m k e = ap (byte number) e
+-- the bytes of the digits of n magnitudes, from m down
+abbrev pub bytes_down : ℕ → ℤ → ℕ → List ℕ
+bytes_down number m zero = []
+bytes_down number m (suc n) = byte number m ∷ bytes_down number (m -ℤ pos 1) n
 
--- above the dot
-down_above : (number m n i : ℕ) → i ≤ m → i < n → get_or (text_down number (pos m) n) i 0 ≡ byte number (pos m -ℤ pos i)
-down_above number m zero i h l = absurd (omega arith)
-down_above number m (suc n) zero h l =
-    ap (λ t. get_or t 0 0) (text_down-suc number (pos m) n)
-    ∙ same_byte number (pos m) (pos m -ℤ pos 0) (omega (arith, ints))
-down_above number zero (suc n) (suc i) h l = absurd (omega arith)
-down_above number (suc m) (suc n) (suc i) h l =
-    let s : pos (suc m) -ℤ pos 1 ≡ pos m = omega (arith, ints) in
-    ap (λ t. get_or t (suc i) 0) (text_down-suc number (pos (suc m)) n)
-    ∙ ap (λ k. get_or (text_down number k n) i 0) s
-    ∙ down_above number m n i (omega arith) (omega arith)
-    ∙ same_byte number (pos m -ℤ pos i) (pos (suc m) -ℤ pos (suc i)) (omega (arith, ints))
+-- there are n of them
+pub length-bytes_down : (number : ℕ) (m : ℤ) (n : ℕ) → length (bytes_down number m n) ≡ n
+length-bytes_down number m zero = refl
+length-bytes_down number m (suc n) = ap suc (length-bytes_down number (m -ℤ pos 1) n)
 
--- from the dot on
-down_past : (number m c n j i : ℕ) → c ≡ suc m + n → j ≡ suc m + i
-    → get_or (text_down number (pos m) c) j 0 ≡ get_or (text_down number (negsuc 0) n) i 0
-down_past number zero c n j i e f =
-    let s : pos 0 -ℤ pos 1 ≡ negsuc 0 = omega (arith, ints) in
-    let c_is : c ≡ suc n = omega arith in
-    let j_is : j ≡ suc i = omega arith in
-    ap (λ k. get_or (text_down number (pos 0) k) j 0) c_is
-    ∙ ap (λ k. get_or (text_down number (pos 0) (suc n)) k 0) j_is
-    ∙ ap (λ t. get_or t (suc i) 0) (text_down-suc number (pos 0) n)
-    ∙ ap (λ k. get_or (text_down number k n) i 0) s
-down_past number (suc m) c n j i e f =
-    let s : pos (suc m) -ℤ pos 1 ≡ pos m = omega (arith, ints) in
-    let c_is : c ≡ suc (suc m + n) = omega arith in
-    let j_is : j ≡ suc (suc m + i) = omega arith in
-    ap (λ k. get_or (text_down number (pos (suc m)) k) j 0) c_is
-    ∙ ap (λ k. get_or (text_down number (pos (suc m)) (suc (suc m + n))) k 0) j_is
-    ∙ ap (λ t. get_or t (suc (suc m + i)) 0) (text_down-suc number (pos (suc m)) (suc m + n))
-    ∙ ap (λ k. get_or (text_down number k (suc m + n)) (suc m + i) 0) s
-    ∙ down_past number m (suc m + n) n (suc m + i) i (omega arith) (omega arith)
+-- the byte at an index
+pub bytes_down-at : (number : ℕ) (m : ℤ) (n i : ℕ) → i < n
+    → get_or (bytes_down number m n) i 0 ≡ byte number (m -ℤ pos i)
+bytes_down-at number m zero i h = absurd (omega arith)
+bytes_down-at number m (suc n) zero h = ap (byte number) (let e : m ≡ m -ℤ pos 0 = omega (arith, ints) in e)
+bytes_down-at number m (suc n) (suc i) h =
+    bytes_down-at number (m -ℤ pos 1) n i (omega arith)
+    ∙ ap (byte number) (let e : (m -ℤ pos 1) -ℤ pos i ≡ m -ℤ pos (suc i) = omega (arith, ints) in e)
 
--- below magnitude -1
-down_below : (number k n i : ℕ) → i < n
-    → get_or (text_down number (negsuc (suc k)) n) i 0 ≡ byte number (negsuc (suc k) -ℤ pos i)
-down_below number k zero i l = absurd (omega arith)
-down_below number k (suc n) zero l =
-    ap (λ t. get_or t 0 0) (text_down-suc number (negsuc (suc k)) n)
-    ∙ same_byte number (negsuc (suc k)) (negsuc (suc k) -ℤ pos 0) (omega (arith, ints))
-down_below number k (suc n) (suc i) l =
+-- bytes that are so at each index
+pub bytes_are : (number : ℕ) (m top : ℤ) (n : ℕ) (xs : List ℕ)
+    → EachIndex xs (λ k. slice_index xs k ≡ byte number (m -ℤ pos k)) → m ≡ top → length xs ≡ n
+    → xs ≡ bytes_down number top n
+bytes_are number m top n xs h e l =
+    ext_get_or 0 xs (bytes_down number m (length xs)) (sym (length-bytes_down number m (length xs)))
+    (λ i l. h i l ∙ sym (bytes_down-at number m (length xs) i l))
+    ∙ (λ i. bytes_down number (e i) (l i))
+
+-- k of them from an index on
+pub bytes_down-part : (number : ℕ) (m : ℤ) (n i k : ℕ) → i + k ≤ n
+    → take k (drop i (bytes_down number m n)) ≡ bytes_down number (m -ℤ pos i) k
+bytes_down-part number m n i k h =
+    let all = bytes_down number m n in
+    let long : length (take k (drop i all)) ≡ k =
+    length-take-le k (drop i all) (omega (arith, length-drop i all, length-bytes_down number m n)) in
+    bytes_are number (m -ℤ pos i) (m -ℤ pos i) k (take k (drop i all)) (λ j l.
+    get_or-take k (drop i all) j 0 (omega (arith, long))
+    ∙ get_or-drop i all j 0
+    ∙ bytes_down-at number m n (i + j) (omega (arith, long))
+    ∙ ap (byte number) (let e : m -ℤ pos (i + j) ≡ (m -ℤ pos i) -ℤ pos j = omega (arith, ints) in e)) refl long
+
+-- ---- The text.
+text_above : (number h n : ℕ)
+    → text_down number (pos h) (suc h + n) ≡ bytes_down number (pos h) (suc h) ++ text_down number (negsuc 0) n
+text_above number zero n =
+    ap (text_down number (pos 0)) (let e : suc zero + n ≡ suc n = omega arith in e) ∙ text_down-suc number (pos 0) n
+text_above number (suc h) n =
+    let s : pos (suc h) -ℤ pos 1 ≡ pos h = omega (arith, ints) in
+    ap (text_down number (pos (suc h))) (let e : suc (suc h) + n ≡ suc (suc h + n) = omega arith in e)
+    ∙ text_down-suc number (pos (suc h)) (suc h + n)
+    ∙ ap (λ l. byte number (pos (suc h)) ∷ l)
+    (ap (λ m. text_down number m (suc h + n)) s
+    ∙ text_above number h n
+    ∙ ap (λ m. bytes_down number m (suc h) ++ text_down number (negsuc 0) n) (sym s))
+
+text_below : (number k n : ℕ) → text_down number (negsuc (suc k)) n ≡ bytes_down number (negsuc (suc k)) n
+text_below number k zero = text_down-zero number (negsuc (suc k))
+text_below number k (suc n) =
     let s : negsuc (suc k) -ℤ pos 1 ≡ negsuc (suc (suc k)) = omega (arith, ints) in
-    ap (λ t. get_or t (suc i) 0) (text_down-suc number (negsuc (suc k)) n)
-    ∙ ap (λ m. get_or (text_down number m n) i 0) s
-    ∙ down_below number (suc k) n i (omega arith)
-    ∙ same_byte number (negsuc (suc (suc k)) -ℤ pos i) (negsuc (suc k) -ℤ pos (suc i)) (omega (arith, ints))
+    text_down-suc number (negsuc (suc k)) n
+    ∙ ap (λ l. byte number (negsuc (suc k)) ∷ l)
+    (ap (λ m. text_down number m n) s ∙ text_below number (suc k) n ∙ ap (λ m. bytes_down number m n) (sym s))
 
--- the dot
-down_dot : (number n : ℕ) → 0 < n → get_or (text_down number (negsuc 0) n) 0 0 ≡ 46
-down_dot number zero l = absurd (omega arith)
-down_dot number (suc n) l = ap (λ t. get_or t 0 0) (text_down-suc number (negsuc 0) n)
-
--- and behind it
-down_behind : (number n i : ℕ) → i < n
-    → get_or (text_down number (negsuc 0) n) (suc i) 0 ≡ byte number (negsuc 0 -ℤ pos i)
-down_behind number zero i l = absurd (omega arith)
-down_behind number (suc n) zero l =
-    ap (λ t. get_or t 1 0) (text_down-suc number (negsuc 0) n)
-    ∙ same_byte number (negsuc 0) (negsuc 0 -ℤ pos 0) (omega (arith, ints))
-down_behind number (suc n) (suc i) l =
+text_dot : (number b : ℕ) → text_down number (negsuc 0) (suc b) ≡ 46 ∷ bytes_down number (negsuc 0) (suc b)
+text_dot number b =
     let s : negsuc 0 -ℤ pos 1 ≡ negsuc 1 = omega (arith, ints) in
-    ap (λ t. get_or t (suc (suc i)) 0) (text_down-suc number (negsuc 0) n)
-    ∙ ap (λ m. get_or (text_down number m n) i 0) s
-    ∙ down_below number 0 n i (omega arith)
-    ∙ same_byte number (negsuc 1 -ℤ pos i) (negsuc 0 -ℤ pos (suc i)) (omega (arith, ints))
+    text_down-suc number (negsuc 0) b
+    ∙ ap (λ l. 46 ∷ byte number (negsuc 0) ∷ l)
+    (ap (λ m. text_down number m b) s ∙ text_below number 0 b ∙ ap (λ m. bytes_down number m b) (sym s))
 
--- ---- each byte is ASCII
+-- what follows the integer digits of a value shown to this magnitude: nothing, or a dot and the fraction digits
+abbrev pub fraction_text : ℕ → ℤ → List ℕ
+fraction_text number (pos k) = []
+fraction_text number (negsuc b) = 46 ∷ bytes_down number (negsuc 0) (suc b)
+
+-- the text is the integer digits and what follows them
+pub text_is : (v : Unsigned) → pos 0 ≤ℤ v.hi → v.lo ≤ℤ pos 0
+    → text v ≡ bytes_down v.number v.hi (int_gap (pos 0) v.hi + 1) ++ fraction_text v.number v.lo
+text_is v h l = go v.hi v.lo h l
+  where
+    go : (hi lo : ℤ) → pos 0 ≤ℤ hi → lo ≤ℤ pos 0
+        → text_down v.number hi (int_gap lo hi + 1)
+        ≡ bytes_down v.number hi (int_gap (pos 0) hi + 1) ++ fraction_text v.number lo
+    go (negsuc h) lo p q = absurd (omega (arith, ints))
+    go (pos h) (pos k) p q =
+        let n : int_gap (pos k) (pos h) + 1 ≡ suc h + 0 = omega (arith, ints) in
+        let dot : int_gap (pos 0) (pos h) + 1 ≡ suc h = omega (arith, ints) in
+        ap (text_down v.number (pos h)) n
+        ∙ text_above v.number h 0
+        ∙ (λ i. bytes_down v.number (pos h) (sym dot i) ++ text_down-zero v.number (negsuc 0) i)
+    go (pos h) (negsuc b) p q =
+        let n : int_gap (negsuc b) (pos h) + 1 ≡ suc h + suc b = omega (arith, ints) in
+        let dot : int_gap (pos 0) (pos h) + 1 ≡ suc h = omega (arith, ints) in
+        ap (text_down v.number (pos h)) n
+        ∙ text_above v.number h (suc b)
+        ∙ (λ i. bytes_down v.number (pos h) (sym dot i) ++ text_dot v.number b i)
+
+-- ---- Each byte is ASCII.
 dot_ascii : (m : ℤ) → IsAscii (dot_before m)
 dot_ascii (pos k) = IsAscii-nil
 dot_ascii (negsuc zero) = IsAscii-cons 46 [] (omega arith) IsAscii-nil
@@ -108,56 +128,3 @@ down_ascii number m (suc n) =
 -- the text of a value is ASCII
 pub text_ascii : (v : Unsigned) → IsAscii (text v)
 text_ascii v = down_ascii v.number v.hi (int_gap v.lo v.hi + 1)
-
--- ---- in the text of a value
-module _ (v : Unsigned) (valid : IsValue v) where
-  -- the bytes of the digits above the dot
-  pub text_above : (i : ℕ) → pos i ≤ℤ v.hi → get_or (text v) i 0 ≡ 48 + digit v.number (v.hi -ℤ pos i)
-  text_above i h = go v.hi h
-    where
-      go : (hi : ℤ) → pos i ≤ℤ hi
-          → get_or (text_down v.number hi (int_gap v.lo hi + 1)) i 0 ≡ byte v.number (hi -ℤ pos i)
-      go (negsuc m) p = absurd (omega (arith, ints))
-      go (pos m) p =
-          down_above v.number m (int_gap v.lo (pos m) + 1) i (omega (arith, ints))
-          (omega (arith, ints, gap_is v.lo (pos m), valid.lo_in))
-
-  -- the dot, where digits follow it
-  pub text_dot : (i : ℕ) → pos i ≡ (v.hi +ℤ pos 1) → v.lo <ℤ pos 0 → get_or (text v) i 0 ≡ 46
-  text_dot i e l = go v.hi v.lo valid.hi_in.0 e l
-    where
-      go : (hi lo : ℤ) → pos 0 ≤ℤ hi → pos i ≡ (hi +ℤ pos 1) → lo <ℤ pos 0
-          → get_or (text_down v.number hi (int_gap lo hi + 1)) i 0 ≡ 46
-      go (negsuc m) lo h e l = absurd (omega (arith, ints))
-      go (pos m) (pos k) h e l = absurd (omega (arith, ints))
-      go (pos m) (negsuc k) h e l =
-          down_past v.number m (int_gap (negsuc k) (pos m) + 1) (suc k) i 0
-          (omega (arith, ints, gap_is (negsuc k) (pos m))) (omega (arith, ints))
-          ∙ down_dot v.number (suc k) (omega arith)
-
-  -- the bytes of the digits below it
-  pub text_below : (i j : ℕ) → pos i ≡ (v.hi +ℤ pos (j + 2)) → v.lo ≤ℤ (negsuc 0 -ℤ pos j)
-      → get_or (text v) i 0 ≡ 48 + digit v.number (negsuc 0 -ℤ pos j)
-  text_below i j e l = go v.hi v.lo valid.hi_in.0 e l
-    where
-      go : (hi lo : ℤ) → pos 0 ≤ℤ hi → pos i ≡ (hi +ℤ pos (j + 2)) → lo ≤ℤ (negsuc 0 -ℤ pos j)
-          → get_or (text_down v.number hi (int_gap lo hi + 1)) i 0 ≡ byte v.number (negsuc 0 -ℤ pos j)
-      go (negsuc m) lo h e l = absurd (omega (arith, ints))
-      go (pos m) (pos k) h e l = absurd (omega (arith, ints))
-      go (pos m) (negsuc k) h e l =
-          down_past v.number m (int_gap (negsuc k) (pos m) + 1) (suc k) i (suc j)
-          (omega (arith, ints, gap_is (negsuc k) (pos m))) (omega (arith, ints))
-          ∙ down_behind v.number (suc k) j (omega (arith, ints))
-
-  -- a text that goes on past magnitude 0 goes on behind a dot
-  pub text_dotted : (i : ℕ) → (v.hi +ℤ pos 1) <ℤ pos i → i ≤ length (text v)
-      → (v.lo <ℤ pos 0) × (i ≤ int_gap v.lo v.hi + 2)
-  text_dotted i h l =
-      by_lt_z v.lo (pos 0) (λ below. (below, omega (arith, length-text_dotted v valid.hi_in.0 below)))
-      (λ above. absurd (omega (
-        arith,
-        ints,
-        gap_is v.lo v.hi,
-        valid.lo_in,
-        length-text_whole v valid.hi_in.0 (omega (arith, ints, valid.lo_in)),
-      )))

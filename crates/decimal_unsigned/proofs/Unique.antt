@@ -1,21 +1,10 @@
 -- A number has one list of digits.
-use Rattle.std.proofs.Common.{◌≡◌, ℕ, ◌<◌, List, length, refl, sym, ◌∙◌, ap, subst, arith, inl, inr}
-use Rattle.std.specs.Prelude.{ℤ, pos, negsuc, ◌+ℤ◌, ◌-ℤ◌, ◌≤ℤ◌}
-use Rattle.std.proofs.lemmas.Int.{ints}
-use Rattle.std.proofs.lemmas.Bool.{cases_lt}
+use Rattle.decimal_unsigned.proofs.Common.{◌≡◌, ℕ, ◌<◌, List, length, refl, sym, ◌∙◌, ap, subst, arith, inl, inr, ℤ, pos, negsuc, ◌+ℤ◌, ◌-ℤ◌, ◌≤ℤ◌, ints, cases_lt, Bool, true, false, IsValue, text, read, nat_tests, Unsigned, digit, first, last, number_of, IsStored, place_is}
 use Rattle.std.proofs.lemmas.List.{ext_get_or}
-use Rattle.std.proofs.Common.{Bool, true, false, IsTrue, ◌↔◌}
-use Rattle.decimal_unsigned.specs.Unsigned.{IsValue}
-use Rattle.decimal_unsigned.specs.Text.{text}
-use Rattle.decimal_unsigned.specs.Reading.{read}
+use Rattle.std.proofs.Common.{IsTrue, ◌↔◌}
 use Rattle.decimal_unsigned.proofs.ReadBack.{read_text}
-use Rattle.std.proofs.lemmas.Bool.Decides.{nat_tests}
 use Rattle.std.specs.Cmp.{IsEquivalence, and_equiv, on_equiv, nat_eq_equiv, int_eq_equiv}
-use Rattle.decimal_unsigned.specs.Unsigned.{Unsigned, same}
-use Rattle.decimal_digits.specs.Number.{digit, first, last}
-use Rattle.decimal_digits.specs.Digits.{number_of}
-use Rattle.decimal_unsigned.specs.Fields.{IsStored}
-use Rattle.decimal_digits.proofs.Places.{place_is}
+use Rattle.decimal_unsigned.specs.Unsigned.{same}
 use Rattle.decimal_unsigned.proofs.Values.{first_of, last-number_of, none_of, number_of-none, lowest, digit-number_of-in}
 
 module _ {ds es : List ℕ} {m n hi lo hi' lo' : ℤ} (t : IsStored ds m hi lo) (u : IsStored es n hi' lo')

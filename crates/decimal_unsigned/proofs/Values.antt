@@ -1,22 +1,12 @@
 -- What the digits of a value say of its number.
-use Rattle.std.proofs.Common.{◌≡◌, ℕ, ◌+◌, ◌-◌, ◌*◌, ◌/◌, ◌%◌, ◌^◌, ◌<◌, ◌≤◌, List, [], length, sym, ◌∙◌, ap, arith, rules, inl, inr, w16, w32, to_z, of_z}
-use Rattle.std.specs.Prelude.{ℤ, pos, negsuc, ◌+ℤ◌, ◌-ℤ◌, ◌≤ℤ◌, ◌<ℤ◌, slice_index}
-use Rattle.std.proofs.Math.Nat.{mul-le-mul_right, mul-lt-mul_of_pos_right}
-use Rattle.std.proofs.lemmas.Nat.{pow-add}
-use Rattle.std.proofs.lemmas.Int.{ints, to_z-of_z}
+use Rattle.decimal_unsigned.proofs.Common.{◌≡◌, ℕ, ◌+◌, ◌-◌, ◌*◌, ◌/◌, ◌%◌, ◌^◌, ◌<◌, ◌≤◌, List, [], length, sym, ◌∙◌, ap, arith, rules, inl, inr, w16, to_z, of_z, ℤ, pos, negsuc, ◌+ℤ◌, ◌-ℤ◌, ◌≤ℤ◌, ◌<ℤ◌, false, mul-le-mul_right, mul-lt-mul_of_pos_right, pow-add, ints, to_z-of_z, int_gap, number_lt, number_from_digits, AllBelowBase, place, digit, first, last, size, IsStored, ten_pos, place_is, gap_is, cases_lt, magnitude_at, number_back, first_is, first_zero}
+use Rattle.std.proofs.Common.{w32}
+use Rattle.std.specs.Prelude.{slice_index, nat_eq}
 use lib.Signed.{mag}
-use Rattle.std.specs.Int.{int_gap}
-use Rattle.std.proofs.lemmas.Int.Digits.{number_lt}
-use Rattle.std.specs.Int.Digits.{number_from_digits}
-use Rattle.decimal_digits.specs.Number.{place, digit, first, last, magnitude_at}
 use Rattle.decimal_digits.specs.Digits.{number_of, number_at}
-use Rattle.decimal_unsigned.specs.Fields.{IsStored}
-use Rattle.decimal_digits.specs.Number.{size}
-use Rattle.decimal_digits.proofs.DigitLists.{ten_pos, number_front, number_back, number-digit}
-use Rattle.std.specs.Prelude.{nat_eq, false}
-use Rattle.decimal_digits.proofs.Places.{place_is, magnitude_at-place, gap_is}
-use Rattle.std.proofs.lemmas.Bool.{cases_lt}
-use Rattle.decimal_digits.proofs.Ends.{first_is, last_is, first_zero, last_zero, digit_above, digit_below, shift_down}
+use Rattle.decimal_digits.proofs.DigitLists.{number_front, number-digit}
+use Rattle.decimal_digits.proofs.Places.{magnitude_at-place}
+use Rattle.decimal_digits.proofs.Ends.{last_is, last_zero, digit_above, digit_below, shift_down}
 
 -- the place of the last digit, and one
 abbrev ends : List ℕ → ℤ → ℕ
@@ -150,44 +140,53 @@ pub counted : {l h lo hi : ℤ} {n : ℕ} → n ≡ int_gap (to_z w16 (of_z w16 
     → n ≡ int_gap lo hi + 1
 counted e p q a b = e ∙ (λ i. int_gap ((narrow_kept a ∙ p) i) ((narrow_kept b ∙ q) i) + 1)
 
+-- digits with no zero at either end, in a range that shows them
+pub stored_as : {ds : List ℕ} {m hi lo : ℤ} → AllBelowBase 10 ds → (0 < length ds → 0 < slice_index ds 0)
+    → (0 < length ds → 0 < slice_index ds (length ds - 1)) → (length ds ≡ 0 → m ≡ pos 0)
+    → (0 < length ds → (m ≤ℤ hi) × (lo ≤ℤ (m -ℤ pos (length ds - 1)))) → (pos 0 ≤ℤ hi) × (hi ≤ℤ pos 32767)
+    → (negsuc 32767 ≤ℤ lo) × (lo ≤ℤ pos 0)
+    → IsStored ds m hi lo
+stored_as {ds} {m} {hi} {lo} digits front back empty shown up down = record {
+  digits = digits;
+  front = front;
+  back = back;
+  empty = empty;
+  hi_covers = covers.0;
+  lo_covers = covers.1;
+  fits = covers.2;
+  hi_in = up.0;
+  lo_in = down.1;
+  in_range = (down.0, up.1);
+}
+  where
+    covers : (m ≤ℤ hi) × (lo ≤ℤ m) × (place lo + length ds ≤ place m + 1)
+    covers = elim (cases_lt 0 (length ds)) [
+      | inl h ↦
+          let s = shown h in
+          (s.0, omega (arith, ints, s.1), omega (arith, ints, s.1, h, down.0, place_is lo, place_is m))
+      | inr h ↦
+          let e = empty (omega arith) in
+          let places = place_is m in
+          (omega (arith, ints, e, up.0), omega (arith, ints, e, down.1), omega (arith, ints, e, h, down, place_is lo))
+    ]
+
 module _ {ds : List ℕ} {m hi lo : ℤ} (t : IsStored ds m hi lo) where
+  -- the range shows the last digit
+  pub last_covered : 0 < length ds → lo ≤ℤ (m -ℤ pos (length ds - 1))
+  last_covered h = omega (arith, ints, h, t.fits, t.in_range, lowest t, place_is m, place_is lo)
+
   -- a lower end that keeps the last digit
   pub lower_stored : (low : ℤ) → low ≤ℤ pos 0 → low ≤ℤ last (number_of ds m) → negsuc 32767 ≤ℤ low
       → IsStored ds m hi low
-  lower_stored low z l b = elim (cases_lt 0 (length ds)) [
-    | inl h ↦ let e = last-number_of t h in record {
-      digits = t.digits;
-      front = t.front;
-      back = t.back;
-      empty = t.empty;
-      hi_covers = t.hi_covers;
-      lo_covers = omega (arith, ints, e, l);
-      fits = omega (arith, ints, e, l, b, t.fits, place_is m, place_is low, lowest t);
-      hi_in = t.hi_in;
-      lo_in = z;
-      in_range = (b, t.in_range.1);
-    }
-    | inr h ↦ let n : length ds ≡ 0 = omega arith in let e = last_of_none t n in let w = t.empty n in record {
-      digits = t.digits;
-      front = t.front;
-      back = t.back;
-      empty = t.empty;
-      hi_covers = t.hi_covers;
-      lo_covers = omega (arith, ints, w, z);
-      fits = omega (arith, ints, n, w, b, z, place_is m, place_is low);
-      hi_in = t.hi_in;
-      lo_in = z;
-      in_range = (b, t.in_range.1);
-    }
-  ]
+  lower_stored low z l b =
+      stored_as t.digits t.front t.back t.empty (λ h. (t.hi_covers, omega (arith, ints, last-number_of t h, l)))
+      (t.hi_in, t.in_range.1) (b, z)
 
   -- the last digit stands at -32768 or above
   pub last_in : negsuc 32767 ≤ℤ last (number_of ds m)
   last_in = elim (cases_lt 0 (length ds)) [
-    | inl h ↦
-        let e = last-number_of t h in
-        omega (arith, ints, e, t.fits, place_is m, place_is lo, t.in_range, lowest t)
-    | inr h ↦ let n : length ds ≡ 0 = omega arith in let e = last_of_none t n in omega (arith, ints, e)
+    | inl h ↦ omega (arith, ints, last-number_of t h, last_covered h, t.in_range)
+    | inr h ↦ let e = last_of_none t (omega arith) in omega (arith, ints, e)
   ]
 
 -- the number has as many digits as the list

@@ -1,22 +1,18 @@
 -- The integer that the digits of a value write.
-use Rattle.std.proofs.Common.{◌≡◌, ℕ, ◌+◌, ◌-◌, ◌*◌, ◌/◌, ◌%◌, ◌^◌, ◌<◌, ◌≤◌, ◌==◌, true, false, List, length, get_or, take, refl, sym, ◌∙◌, ap, arith, rules, inl, inr}
-use Rattle.std.specs.Prelude.{All, Ok, Err, nat_lt, ℤ, pos, ◌+ℤ◌, ◌<ℤ◌}
-use Rattle.std.proofs.Math.Nat.{mul-mod_left, mul-div_cancel, pow-le-pow_right}
-use Rattle.std.proofs.lemmas.Bool.{cases_lt}
-use Rattle.std.proofs.lemmas.Int.{ints}
-use Rattle.std.proofs.lemmas.List.{length-take, take_all}
-use Rattle.std.proofs.lemmas.List.Elements.{recursion_from_All}
-use Rattle.std.specs.Int.Digits.{number_from_digits}
-use Rattle.decimal_digits.specs.Number.{place, weight}
+use Rattle.decimal_unsigned.proofs.Common.{zero, suc, [], ◌∷◌, ◌++◌, replicate, ◌≡◌, ℕ, ◌+◌, ◌-◌, ◌*◌, ◌/◌, ◌%◌, ◌^◌, ◌<◌, ◌≤◌, ◌==◌, true, false, List, length, get_or, take, refl, sym, ◌∙◌, ap, arith, rules, inl, inr, Ok, Err, nat_lt, ℤ, pos, ◌+ℤ◌, ◌<ℤ◌, mul-mod_left, pow-le-pow_right, cases_lt, ints, length-append, length-take, length-take-le, take_all, recursion_from_All, number_from_digits, AllBelowBase, place, weight, leading, place_is, ten_pos, below_take, no_more_zeros, IsStored, Unsigned, All, length-replicate, number_back, below_sixteen, leading_none}
+use Rattle.std.proofs.Common.{w64}
+use Rattle.std.proofs.Math.Nat.{mul-div_cancel}
+use Rattle.std.specs.Int.{to_be_bytes}
+use Rattle.std.proofs.Math.ListN.{get_or-eq_default}
+use Rattle.std.proofs.lemmas.Int.Digits.{number_after_append, number_more as number_more_digits}
+use Rattle.std.specs.Int.Digits.{number_from_digits_after}
+use Rattle.decimal_digits.specs.Halves.{halves, halves_number}
 use Rattle.decimal_digits.specs.Digits.{number_of, number_at}
-use Rattle.decimal_digits.specs.Tails.{leading}
-use Rattle.decimal_digits.proofs.Places.{place_is}
-use Rattle.decimal_digits.proofs.DigitLists.{ten_pos, below_take, number_back}
+use Rattle.decimal_digits.proofs.DigitLists.{number_zeros, number-div}
+use Rattle.decimal_digits.proofs.FrontBytes.{hex_pow, halves_of_bytes, sixteen, sixteen_are, sixteen_digits, sixteen_digit, sixteen_zero}
 use Rattle.decimal_digits.proofs.NumberAt.{number_at-more, number_at-lt, number_at-ge}
-use Rattle.decimal_digits.proofs.Ends.{no_more_zeros}
 use Rattle.decimal_digits.proofs.Leading.{leading_more}
 use Rattle.decimal_unsigned.specs.declared.decimal.to_integer.IntegerError.TheVariants.{NotWhole, OutOfRange}
-use Rattle.decimal_unsigned.specs.Fields.{IsStored}
 use Rattle.decimal_unsigned.specs.ToInteger.{in_range, as_integer}
 
 -- ---- which answer there is
@@ -82,9 +78,15 @@ module _ {ds : List ℕ} {m hi lo : ℤ} (t : IsStored ds m hi lo) where
   pub some_digits : ¬ (m ≡ pos 0) → 0 < length ds
   some_digits h = elim (cases_lt 0 (length ds)) [ inl some ↦ some | inr none ↦ absurd (h (t.empty (omega arith))) ]
 
+-- ---- which answer a value has
+module _ {ds : List ℕ} {m hi lo : ℤ} {v : Unsigned} (t : IsStored ds m hi lo)
+    (view : record { number = number_of ds m; hi = hi; lo = lo } ≡ v) (bound : ℕ) where
+  of_value : as_integer bound (number_of ds m) ≡ as_integer bound v.number
+  of_value = ap (λ (w : Unsigned). as_integer bound w.number) view
+
   -- a part behind the dot is the answer
-  pub part_answer : (bound : ℕ) → (m +ℤ pos 1) <ℤ pos (length ds) → Err NotWhole ≡ as_integer bound (number_of ds m)
-  part_answer bound below = sym (as_integer-part bound (number_of ds m) (part_behind some below))
+  pub part_answer : (m +ℤ pos 1) <ℤ pos (length ds) → Err NotWhole ≡ as_integer bound v.number
+  part_answer below = sym (as_integer-part bound (number_of ds m) (part_behind t some below)) ∙ of_value
     where
       some : 0 < length ds
       some = elim (cases_lt 0 (length ds)) [
@@ -94,23 +96,106 @@ module _ {ds : List ℕ} {m hi lo : ℤ} (t : IsStored ds m hi lo) where
 
   module _ (places : ℕ) (at : pos 0 +ℤ pos places ≡ m +ℤ pos 1) (few : length ds ≤ places) where
     -- the integer that the digits write is the answer, or it is out of range
-    pub whole_answer : (bound : ℕ) → in_range bound (leading places ds) ≡ as_integer bound (number_of ds m)
-    whole_answer bound = sym (as_integer-whole bound (number_of ds m) (leading places ds) (whole_number places at few))
+    pub whole_answer : in_range bound (leading places ds) ≡ as_integer bound v.number
+    whole_answer =
+        sym (as_integer-whole bound (number_of ds m) (leading places ds) (whole_number t places at few)) ∙ of_value
 
     -- a few digits write an integer that is in range
-    pub few_answer : (top bound : ℕ) → All (λ d. d < 10) ds → places ≤ top → 10 ^ top ≤ bound
-        → Ok (leading places ds) ≡ as_integer bound (number_of ds m)
-    few_answer top bound digits l h =
+    pub few_answer : (top : ℕ) → All (λ d. d < 10) ds → places ≤ top → 10 ^ top ≤ bound
+        → Ok (leading places ds) ≡ as_integer bound v.number
+    few_answer top digits l h =
         sym (in_range-below bound (leading places ds)
         (omega (arith, few_digits places (leading places ds) top ds digits refl l)))
-        ∙ whole_answer bound
+        ∙ whole_answer
 
     -- more digits than the bound has write one that is not
-    pub many_answer : (top bound : ℕ) → top < places → 0 < top → bound ≤ 10 ^ top
-        → Err OutOfRange ≡ as_integer bound (number_of ds m)
-    many_answer top bound l p h =
-        let some : 0 < length ds = some_digits (λ z. absurd (omega (arith, ints, z))) in
+    pub many_answer : (top : ℕ) → top < places → 0 < top → bound ≤ 10 ^ top
+        → Err OutOfRange ≡ as_integer bound v.number
+    many_answer top l p h =
+        let some : 0 < length ds = some_digits t (λ z. absurd (omega (arith, ints, z))) in
         let least : 10 ^ (places - 1) ≤ number_at places ds = number_at-ge places ds some (t.front some) few in
         let higher : 10 ^ top ≤ 10 ^ (places - 1) = pow-le-pow_right (omega arith) (omega arith) in
         let all = ap (number_at places) (take_all places ds few) in
-        sym (in_range-above bound (leading places ds) (omega (arith, least, higher, all))) ∙ whole_answer bound
+        sym (in_range-above bound (leading places ds) (omega (arith, least, higher, all))) ∙ whole_answer
+
+-- ---- The integer that the halves of a number write.
+-- two digits
+abbrev two : ℕ → ℕ
+two byte = byte / 16 * 10 + byte % 16
+
+-- the digits of eight bytes, by pairs
+pub by_pairs : (a b c d e f g h : ℕ)
+    → ((two a * 100 + two b) * 10000 + (two c * 100 + two d)) * 100000000
+    + ((two e * 100 + two f) * 10000 + (two g * 100 + two h))
+    ≡ number_from_digits 10 (halves (a ∷ (b ∷ (c ∷ (d ∷ (e ∷ (f ∷ (g ∷ (h ∷ [])))))))))
+unfolding halves
+by_pairs a b c d e f g h = omega arith
+
+-- zeros in front count nothing
+zeros_in_front : (base k : ℕ) (xs : List ℕ) → number_from_digits base (replicate k 0 ++ xs) ≡ number_from_digits base xs
+zeros_in_front base k xs =
+    number_after_append base 0 (replicate k 0) xs
+    ∙ ap (λ n. number_from_digits_after base n xs)
+    (number_zeros base 0 k ∙ (let e : 0 * base ^ k ≡ 0 = omega arith in e))
+
+zeros_below : (k : ℕ) (xs : List ℕ) → AllBelowBase 16 xs → AllBelowBase 16 (replicate k 0 ++ xs)
+zeros_below zero xs h = h
+zeros_below (suc k) xs h = (omega arith, zeros_below k xs h)
+
+module _ (ds : List ℕ) (h : All (λ d. d < 10) ds) (few : length ds ≤ 16) where
+  abbrev all : List ℕ
+  all = sixteen ds h few
+
+  all_hex : AllBelowBase 16 all
+  all_hex = below_sixteen all (sixteen_digits ds h few)
+
+  -- a shift keeps the first of them
+  shifted_front : (count : ℕ) → count ≤ 16
+      → halves_number ds / 2 ^ (4 * (16 - count)) ≡ number_from_digits 16 (take count all)
+  unfolding halves_number
+  shifted_front count l =
+      let n = sixteen_are ds h few in
+      let k : 16 - count ≡ length all - count = omega arith in
+      ap (λ p. number_from_digits 16 all / p) (hex_pow (16 - count) ∙ ap (λ j. 16 ^ j) k)
+      ∙ number-div 16 count all all_hex (omega arith)
+
+  -- these are the last of its halves
+  front_halves_are : (count : ℕ) → count ≤ 16
+      → halves (to_be_bytes w64 (number_from_digits 16 (take count all))) ≡ replicate (16 - count) 0 ++ take count all
+  front_halves_are count l =
+      let xs = take count all in
+      let zs = replicate (16 - count) 0 ++ xs in
+      let n : length xs ≡ count = length-take-le count all (omega (arith, sixteen_are ds h few)) in
+      let len : length zs ≡ 2 * 8 =
+      omega (arith, length-append (replicate (16 - count) 0) xs, length-replicate {A = ℕ} (16 - count) 0) in
+      ap (λ m. halves (to_be_bytes w64 m)) (sym (zeros_in_front 16 (16 - count) xs))
+      ∙ halves_of_bytes 8 0 zs len (zeros_below (16 - count) xs (below_take 16 count all all_hex))
+
+  -- a place beyond the digits holds 0
+  place_of : (i : ℕ) → i < 16 → get_or all i 0 ≡ get_or ds i 0
+  place_of i l = elim (cases_lt i (length ds)) [
+    | inl k ↦ sym (sixteen_digit ds h few i k)
+    | inr k ↦ sym (sixteen_zero ds h few i k l) ∙ sym (get_or-eq_default ds 0 k)
+  ]
+
+  -- the first of them write the number that the first digits write
+  front_leading : (i : ℕ) → i ≤ 16 → number_from_digits 10 (take i all) ≡ leading i ds
+  front_leading zero l = sym (leading_none 0 ds refl)
+  front_leading (suc i) l =
+      let k : suc i ≡ i + 1 = omega arith in
+      let place = place_of i (omega arith) in
+      let before = front_leading i (omega arith) in
+      ap (λ j. number_from_digits 10 (take j all)) k
+      ∙ number_more_digits 10 all i (omega (arith, sixteen_are ds h few))
+      ∙ (λ j. before j * 10 + place j)
+      ∙ sym (leading_next i ds)
+      ∙ ap (λ j. leading j ds) (sym k)
+
+  -- what a shift keeps, read as digits
+  pub few_leading : (count m n : ℕ) → count ≤ 16 → m ≡ halves_number ds / 2 ^ (4 * (16 - count))
+      → n ≡ number_from_digits 10 (halves (to_be_bytes w64 m)) → n ≡ leading count ds
+  few_leading count m n l e f =
+      f ∙ ap (λ m. number_from_digits 10 (halves (to_be_bytes w64 m))) (e ∙ shifted_front count l)
+      ∙ ap (number_from_digits 10) (front_halves_are count l)
+      ∙ zeros_in_front 10 (16 - count) (take count all)
+      ∙ front_leading count l

@@ -1,11 +1,7 @@
 -- What has been written of a text.
-use Rattle.std.proofs.Common.{◌≡◌, ℕ, suc, ◌+◌, ◌-◌, ◌<◌, ◌≤◌, List, [], ◌∷◌, ◌++◌, length, get_or, take, drop, Option, refl, sym, ◌∙◌, ap, subst, arith, take_all, take-append-drop}
-use Rattle.std.specs.Prelude.{ℤ, pos, ◌-ℤ◌}
-use Rattle.std.proofs.lemmas.Int.{ints}
+use Rattle.decimal_unsigned.proofs.Common.{◌≡◌, ℕ, suc, ◌+◌, ◌<◌, ◌≤◌, List, [], ◌∷◌, ◌++◌, length, get_or, take, drop, Option, refl, sym, ◌∙◌, ap, subst, arith, take_all, ℤ, pos, ◌-ℤ◌, length-take-le, length-drop, digit, take-append-drop, Appends}
 use Rattle.std.proofs.Math.Seq.{take-add}
-use Rattle.std.proofs.lemmas.List.{length-take-le, length-drop, drop_more}
-use Rattle.std.specs.Io.KnownBytes.{Appends}
-use Rattle.decimal_digits.specs.Number.{digit}
+use Rattle.std.proofs.lemmas.List.{drop_more}
 use Rattle.decimal_digits.specs.Text.{AppendsPrefix}
 use Rattle.decimal_digits.proofs.Sinks.{appends_both, part_more, then_part}
 use Rattle.decimal_unsigned.specs.Text.{dot_before, text_down}
@@ -20,25 +16,6 @@ text_down-suc number m n = refl
 pub text_down-zero : (number : ℕ) (m : ℤ) → text_down number m 0 ≡ []
 unfolding text_down
 text_down-zero number m = refl
-
--- the first of the magnitudes from i below the highest
-pub text_down-step : (number : ℕ) (hi : ℤ) (count i : ℕ) → i < count
-    → text_down number (hi -ℤ pos i) (count - i)
-    ≡ (dot_before (hi -ℤ pos i) ++ (48 + digit number (hi -ℤ pos i)) ∷ [])
-    ++ text_down number (hi -ℤ pos (i + 1)) (count - (i + 1))
-text_down-step number hi count i h =
-    let n : count - i ≡ suc (count - (i + 1)) = omega arith in
-    let m : (hi -ℤ pos i) -ℤ pos 1 ≡ hi -ℤ pos (i + 1) = omega (arith, ints) in
-    ap (text_down number (hi -ℤ pos i)) n
-    ∙ text_down-suc number (hi -ℤ pos i) (count - (i + 1))
-    ∙ ap (λ k. (dot_before (hi -ℤ pos i) ++ (48 + digit number (hi -ℤ pos i)) ∷ [])
-    ++ text_down number k (count - (i + 1))) m
-
--- and none
-pub text_down-end : (number : ℕ) (hi : ℤ) (count i : ℕ) → count ≤ i → text_down number (hi -ℤ pos i) (count - i) ≡ []
-text_down-end number hi count i h =
-    let n : count - i ≡ 0 = omega arith in
-    ap (text_down number (hi -ℤ pos i)) n ∙ text_down-zero number (hi -ℤ pos i)
 
 -- ---- the text, piece by piece
 -- a piece and what stands in front of it

@@ -1,11 +1,10 @@
 -- Private: only the contracts of private functions and the model of `Scan` speak of these.
 -- The parts of a text as the code finds them.
-use Rattle.std.specs.Prelude.{◌≡◌, ℕ, ◌%◌, ◌^◌, List, ◌++◌, Option, Some, None, option_map, ℤ, pos, negsuc, ◌≤ℤ◌}
-use Rattle.std.specs.Str.Parse.{digits_value}
+use Rattle.std.specs.Prelude.{◌≡◌, ℕ, ◌%◌, ◌^◌, List, Option, option_map, ℤ, pos, negsuc, ◌≤ℤ◌}
+use Rattle.std.specs.Str.Parse.{digits_value, digits_value_after}
 use Rattle.std.specs.Int.{int_max, int_min}
 use Rattle.decimal_unsigned.specs.declared.decimal.parse.parts.Parts.{Parts}
 use Rattle.decimal_unsigned.specs.Grammar.{Written}
-use Rattle.decimal_unsigned.specs.Reading.{parts_of}
 
 -- the parts, without where they lie in memory
 abbrev pub view : Parts → Written
@@ -28,8 +27,10 @@ pub record IsSaturated (e : ℤ) : Type 0 where
 abbrev pub saturated_parts : Written → Written
 saturated_parts w = record w { exponent = option_map saturated w.exponent }
 
--- the parts of a text, which have no exponent, and the number that their digits write in base 16
-pub record IsShortParts (text : List ℕ) (w : Written) (number : ℕ) : Type 0 where
-  pub parts : parts_of text ≡ Some w
-  pub plain : w.exponent ≡ None
-  pub written : number ≡ digits_value 16 (w.whole ++ w.fraction) % 2 ^ 64
+-- what the integer digits and then the fraction digits write in base 16, in 64 bits
+abbrev pub in_base_16 : List ℕ → List ℕ → ℕ
+in_base_16 whole fraction = digits_value_after 16 (digits_value 16 whole) fraction % 2 ^ 64
+
+-- the parts have the number that their digits write
+abbrev pub IsNumbered : Parts → Type 0
+IsNumbered p = p.number ≡ in_base_16 p.whole.now p.fraction.now

@@ -1,9 +1,8 @@
 -- Private: only the contracts of private functions and the model of `Scan` speak of these.
 -- Which digits of the parts make the value, and where they lie.
-use Rattle.std.specs.Prelude.{◌≡◌, ℕ, ◌-◌, ◌≤◌, ◌<◌, if◌then◌else◌, List, ◌++◌, length, take, drop, map, slice_index, ℤ, pos, negsuc, ◌+ℤ◌, ◌≤ℤ◌, int_lt, Result, Ok}
+use Rattle.std.specs.Prelude.{◌≡◌, ℕ, ◌-◌, ◌≤◌, ◌<◌, List, ◌++◌, length, take, drop, map, slice_index, ℤ, Result, Ok}
 use Rattle.std.specs.Char.{digit_value}
 use Rattle.std.specs.Str.Parse.{AllDigits}
-use Rattle.std.specs.Int.{int_max, int_min}
 use Rattle.decimal_digits.specs.Digits.{number_of}
 use Rattle.decimal_digits.specs.Halves.{digits_in, front_bytes, IsPacked}
 use Rattle.decimal_unsigned.specs.Fields.{IsStored}
@@ -18,14 +17,6 @@ digits_of w = map digit_value (w.whole ++ w.fraction)
 -- those from start up to end
 abbrev pub middle : ℕ → ℕ → List ℕ → List ℕ
 middle start end ds = take (end - start) (drop start ds)
-
--- the range of digits from first to last, of which hi to lo are shown, times a power of ten
-pub record Placed (first last hi lo e m' hi' lo' : ℤ) : Type 0 where
-  pub magnitude : m' ≡ first +ℤ e
-  pub upper : (hi +ℤ e) ≤ℤ pos 32767
-  pub lower : negsuc 32767 ≤ℤ (lo +ℤ e)
-  pub hi_is : hi' ≡ (if int_lt (pos 0) (first +ℤ e) then first +ℤ e else int_max (hi +ℤ e) (pos 0))
-  pub lo_is : lo' ≡ (if int_lt (last +ℤ e) (pos 0) then last +ℤ e else int_min (lo +ℤ e) (pos 0))
 
 -- the digits from start up to end are those from the first to the last that is not 0
 pub record IsInner (ds : List ℕ) (start end : ℕ) : Type 0 where

@@ -3,9 +3,9 @@ ghost use Rattle.std.specs.Prelude.{◌≡◌, ◌≢◌, ℕ, ◌+◌, ◌-◌,
 ghost use Rattle.std.specs.Str.Parse.{AllDigits};
 ghost use Rattle.decimal_digits.specs.Number.{size};
 ghost use Rattle.decimal_unsigned.specs.Grammar.{Written, Grammar};
-ghost use Rattle.decimal_unsigned.specs.Reading.{read, FollowsGrammar};
+ghost use Rattle.decimal_unsigned.specs.Reading.{value_of, read, FollowsGrammar};
 ghost use Rattle.decimal_unsigned.specs.Refusal.{ParseRefuses, Answers, AnswersGrammar, IsPlain, digit_count};
-ghost use Rattle.decimal_unsigned.specs.Parts.{view};
+ghost use Rattle.decimal_unsigned.specs.Parts.{view, IsSaturated, IsNumbered};
 ghost use Rattle.decimal_unsigned.specs.Placing.{middle, digits_of};
 
 mod parts;
@@ -18,7 +18,7 @@ use decimal_digits::digits::DigitStore;
 pub use parts::numeral;
 use parts::{Parts, split};
 use plan::{Plan, planned};
-use short::short_value;
+use short::{FEW, short_value};
 use std::alloc::{AllocError, Global};
 use std::marker::Model;
 
@@ -169,11 +169,25 @@ impl<D: DigitStore> UnsignedOver<D> {
     /// `012.50` is short. None where a text is longer, has an exponent or is not in the grammar, or where it has more
     /// than `L` digits: `try_from_utf8` says why, or reads it. It asks for no memory. Not in the original.
     // Behind a call its parts would be stored one by one and copied together, for which the processor waits.
+    #[doc(hidden)]
     #[inline(always)]
     pub fn from_short_text(alloc: Global, text: &[u8]) -> Option<Self>
         ensures { IfSome result (λ v. read text.now ≡ Ok v) }
     {
-        let short = short_value(text)?;
+        if text.len() > FEW {
+            return None;
+        }
+        Self::from_short_parts(alloc, &split(text)?)
+    }
+
+    /// The value of parts with few digits and without an exponent.
+    #[inline(always)]
+    fn from_short_parts(alloc: Global, parts: &Parts<'_>) -> Option<Self>
+        requires digits { AllDigits 10 (parts.now.whole.now ++ parts.now.fraction.now) }
+        requires number { IsNumbered parts.now }
+        ensures { IfSome result (λ v. value_of (view parts.now) ≡ Ok v) }
+    {
+        let short = short_value(parts)?;
         if short.len > D::L {
             return None;
         }
@@ -194,22 +208,33 @@ impl<D: DigitStore> UnsignedOver<D> {
     fn read_from(alloc: Global, text: &[u8]) -> Result<Self, ParseError>
         ensures { Answers (λ v. D.L < size v.number) result (read text.now) }
     {
-        if let Some(value) = Self::from_short_text(alloc, text) {
+        let Some(written) = split(text) else {
+            return Err(ParseError::Syntax);
+        };
+        if text.len() <= FEW
+            && let Some(value) = Self::from_short_parts(alloc, &written)
+        {
             return Ok(value);
         }
         // A `Result` handed on as it is would be copied through memory for a short text too.
-        let value = Self::scan_from(alloc, text)?;
-        Ok(value)
+        match Self::from_parts(alloc, written) {
+            Ok(value) => Ok(value),
+            Err(error) => Err(error),
+        }
     }
 
-    /// The value that a text of any length writes.
+    /// The value of any parts.
     // Behind a call it has its own place for what it makes, which a short text then does not fill with zeros.
     #[inline(never)]
-    fn scan_from(alloc: Global, text: &[u8]) -> Result<Self, ParseError>
-        ensures { Answers (λ v. D.L < size v.number) result (read text.now) }
+    fn from_parts(alloc: Global, parts: Parts<'_>) -> Result<Self, ParseError>
+        requires digits { AllDigits 10 (parts.whole.now ++ parts.fraction.now) }
+        requires exponent { IfSome parts.exponent IsSaturated }
+        ensures { Answers (λ v. D.L < size v.number) result (value_of (view parts.entry)) }
     {
-        let scan = Scan::new(text)?;
-        let Ok(value) = scan.value(alloc) else {
+        let Some(plan) = planned(&parts) else {
+            return Err(ParseError::Limit);
+        };
+        let Ok(value) = (Scan { parts, plan }).value(alloc) else {
             return Err(ParseError::Memory);
         };
         Ok(value)

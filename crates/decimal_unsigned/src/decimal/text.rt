@@ -110,14 +110,16 @@ impl<D: DigitStore> UnsignedOver<D> {
     {
         let dot = self.dot();
         let magnitude = self.magnitude_at(from);
-        let end = from + places.len();
-        if dot < from || end <= dot {
+        if dot < from {
             self.copy_digits(magnitude, places);
-        } else {
-            let above = dot - from;
-            self.copy_digits(magnitude, &mut places[..above]);
-            places[above] = b'.';
-            self.copy_digits(-1, &mut places[above + 1..]);
+            return;
+        }
+        let above = places.len().min(dot - from);
+        let (whole, rest) = places.split_at_mut(above);
+        self.copy_digits(magnitude, whole);
+        if let Some((point, fraction)) = rest.split_first_mut() {
+            *point = b'.';
+            self.copy_digits(-1, fraction);
         }
     }
 }
@@ -129,6 +131,7 @@ impl<D: DigitStore> Writeable for UnsignedOver<D> {
     ///
     /// Err: the sink refused a byte, now or before, and has taken a beginning of the text. The text reads as this
     /// very value. `write_to` of the original.
+    #[tactic(auto, using(crate::proofs::ReadBack::read_text))]
     fn write_to<W: Sink>(&self, sink: &mut W) -> Result<(), SinkFault>
         ensures ok { OnOk result (Appends (W.contents sink.old) (W.contents sink.new) (text self.now)) }
         ensures err { OnErr result (AppendsPrefix (W.contents sink.old) (W.contents sink.new) (text self.now)) }

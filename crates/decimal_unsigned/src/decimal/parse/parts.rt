@@ -1,19 +1,21 @@
 //! The parts of a text.
-ghost use Rattle.std.specs.Prelude.{◌≡◌, ℕ, ◌+◌, ◌++◌, ◌-◌, ◌<◌, ◌≤◌, min, length, drop, map, option_map, pos, slice_index, IfSome};
-ghost use Rattle.std.specs.Str.Parse.{AllDigits};
-ghost use Rattle.decimal_unsigned.specs.Placing.{digits_of, middle};
+ghost use Rattle.std.specs.Prelude.{◌≡◌, ℕ, ◌+◌, ◌++◌, ◌-◌, ◌%◌, ◌^◌, ◌<◌, ◌≤◌, min, List, [], length, take, drop, map, option_map, pos, slice_index, IfSome, IfNone};
+ghost use Rattle.std.specs.Str.Parse.{AllDigits, digits_value, digits_value_after};
+ghost use Rattle.decimal_unsigned.specs.Placing.{digits_of, middle, IsInner};
 ghost use Rattle.std.specs.Char.{is_ascii_digit, digit_value};
 ghost use Rattle.std.specs.List.{prefix_len};
 ghost use Rattle.std.specs.Str.{all_ascii_digits};
 ghost use Rattle.decimal_unsigned.specs.Reading as read;
-ghost use Rattle.decimal_unsigned.specs.Parts.{view, views, saturated, IsSaturated, saturated_parts};
+ghost use Rattle.decimal_unsigned.specs.Parts.{view, views, saturated, IsSaturated, saturated_parts, in_base_16, IsNumbered};
 
-/// The digits in front of the dot and behind it, and the exponent.
+/// The integer digits, the fraction digits and the exponent, and what the digits of a text below 32 bytes write in base
+/// 16, in 64 bits.
 #[derive(Clone, Copy, Debug)]
 pub struct Parts<'a> {
     pub whole: &'a [u8],
     pub fraction: &'a [u8],
     pub exponent: Option<i32>,
+    pub number: u64,
 }
 
 /// How many bytes are tested at once.
@@ -44,31 +46,40 @@ fn grouped_digit_count(text: &[u8]) -> usize
     count
 }
 
-/// How many digits stand in front.
+/// Counts the leading digits; of a text below 32 bytes, gives what they write in base 16 after the digits of a number.
 #[inline]
-fn digit_count(text: &[u8]) -> usize
-    ensures { result ≡ prefix_len is_ascii_digit text.now }
+fn count_digits(before: u64, text: &[u8]) -> (usize, u64)
+    ensures count { result.0 ≡ prefix_len is_ascii_digit text.now }
+    ensures number { length text.now < 32
+        → result.1 ≡ digits_value_after 16 before (take result.0 text.now) % 2 ^ 64 }
 {
     let grouped = if text.len() < GROUP {
         0
     } else {
         grouped_digit_count(text)
     };
+    let mut number = before;
     for i in grouped..text.len() {
         if !text[i].is_ascii_digit() {
-            return i;
+            return (i, number);
         }
+        number = number
+            .wrapping_mul(16)
+            .wrapping_add(u64::from(text[i] - b'0'));
     }
-    text.len()
+    (text.len(), number)
 }
 
-/// The digits in front, and what stands behind them.
-#[inline]
-fn split_digits(text: &[u8]) -> (&[u8], &[u8])
+/// Splits a text after its leading digits, with the number of `count_digits`.
+#[inline(always)]
+fn split_digits(before: u64, text: &[u8]) -> (&[u8], &[u8], u64)
     ensures front { result.0.now ≡ read.leading_digits text.now }
     ensures behind { result.1.now ≡ read.after_digits text.now }
+    ensures number { length text.now < 32 → result.2 ≡ digits_value_after 16 before result.0.now % 2 ^ 64 }
 {
-    text.split_at(digit_count(text))
+    let (count, number) = count_digits(before, text);
+    let (front, behind) = text.split_at(count);
+    (front, behind, number)
 }
 
 /// Gives the number that a text of digits writes, or `most` where it is greater.
@@ -101,6 +112,8 @@ fn unsigned(text: &[u8]) -> Option<i32>
     Some(numeral(text, 70_000)? as i32)
 }
 
+// Behind a call, and its answer in a register: a short text does without it.
+#[inline(never)]
 #[tactic(auto, unfolding(crate::specs::Reading::exponent_of))]
 fn exponent(text: &[u8]) -> Option<i32>
     ensures { result ≡ option_map saturated (read.exponent_of text.now) }
@@ -112,82 +125,117 @@ fn exponent(text: &[u8]) -> Option<i32>
     }
 }
 
+#[inline]
 #[tactic(auto, unfolding(crate::specs::Reading::with_exponent))]
-fn with_exponent<'a>(whole: &'a [u8], fraction: &'a [u8], text: &[u8]) -> Option<Parts<'a>>
-    ensures { views result ≡ option_map saturated_parts (read.with_exponent whole.now fraction.now text.now) }
+fn with_exponent<'a>(
+    whole: &'a [u8],
+    fraction: &'a [u8],
+    number: u64,
+    text: &[u8],
+) -> Option<Parts<'a>>
+    ensures parts { views result ≡ option_map saturated_parts (read.with_exponent whole.now fraction.now text.now) }
+    ensures number { number ≡ in_base_16 whole.now fraction.now → IfSome result IsNumbered }
 {
     let exponent = exponent(text)?;
     Some(Parts {
         whole,
         fraction,
         exponent: Some(exponent),
+        number,
     })
 }
 
+#[inline(always)]
 #[tactic(auto, unfolding(crate::specs::Reading::after_fraction))]
-fn after_fraction<'a>(whole: &'a [u8], fraction: &'a [u8], text: &[u8]) -> Option<Parts<'a>>
-    ensures { views result ≡ option_map saturated_parts (read.after_fraction whole.now fraction.now text.now) }
+fn after_fraction<'a>(
+    whole: &'a [u8],
+    fraction: &'a [u8],
+    number: u64,
+    text: &[u8],
+) -> Option<Parts<'a>>
+    ensures parts { views result ≡ option_map saturated_parts (read.after_fraction whole.now fraction.now text.now) }
+    ensures number { number ≡ in_base_16 whole.now fraction.now → IfSome result IsNumbered }
 {
     match text {
         [] if !fraction.is_empty() => Some(Parts {
             whole,
             fraction,
             exponent: None,
+            number,
         }),
-        [b'e' | b'E', rest @ ..] => with_exponent(whole, fraction, rest),
+        [b'e' | b'E', rest @ ..] => with_exponent(whole, fraction, number, rest),
         _ => None,
     }
 }
 
+#[inline(always)]
 #[tactic(auto, unfolding(crate::specs::Reading::after_whole))]
-fn after_whole<'a>(whole: &'a [u8], text: &'a [u8]) -> Option<Parts<'a>>
-    ensures { views result ≡ option_map saturated_parts (read.after_whole whole.now text.now) }
+fn after_whole<'a>(whole: &'a [u8], number: u64, text: &'a [u8]) -> Option<Parts<'a>>
+    ensures parts { views result ≡ option_map saturated_parts (read.after_whole whole.now text.now) }
+    ensures number { length text.now < 32 → number ≡ in_base_16 whole.now [] → IfSome result IsNumbered }
 {
     match text {
         [] if !whole.is_empty() => Some(Parts {
             whole,
-            fraction: text,
+            fraction: &text[..0],
             exponent: None,
+            number,
         }),
         [b'.', rest @ ..] => {
-            let (fraction, rest) = split_digits(rest);
-            after_fraction(whole, fraction, rest)
+            let (fraction, rest, number) = split_digits(number, rest);
+            after_fraction(whole, fraction, number, rest)
         }
-        [b'e' | b'E', rest @ ..] if !whole.is_empty() => with_exponent(whole, &text[..0], rest),
+        [b'e' | b'E', rest @ ..] if !whole.is_empty() => with_exponent(
+            whole,
+            &text[..0],
+            number,
+            rest,
+        ),
         _ => None,
     }
 }
 
 /// The parts of the text, if it is in the grammar.
+// In its caller, as what it calls: so the parts of a short text stay in registers.
+#[inline(always)]
 #[tactic(auto, unfolding(crate::specs::Reading::parts_of))]
 pub fn split(text: &[u8]) -> Option<Parts<'_>>
     ensures parts { views result ≡ option_map saturated_parts (read.parts_of text.now) }
     ensures digits { IfSome result (λ p. AllDigits 10 (p.whole.now ++ p.fraction.now)) }
     ensures exponent { IfSome result (λ p. IfSome p.exponent IsSaturated) }
+    ensures number { length text.now < 32 → IfSome result IsNumbered }
 {
-    let (whole, rest) = split_digits(text);
-    after_whole(whole, rest)
+    let (whole, rest, number) = split_digits(0, text);
+    after_whole(whole, number, rest)
 }
 
 impl Parts<'_> {
-    fn len(&self) -> usize
+    /// The number of digits.
+    pub fn len(&self) -> usize
         ensures { result ≡ length (digits_of (view self.now)) }
     {
         self.whole.len() + self.fraction.len()
     }
 
-    /// The digit at an index into all the digits.
-    pub fn digit(&self, index: usize) -> u8
-        requires in_range { index < length (digits_of (view self.now)) }
-        requires digits { AllDigits 10 (self.now.whole.now ++ self.now.fraction.now) }
-        ensures value { result ≡ slice_index (digits_of (view self.now)) index }
-        ensures bound { result < 10 }
+    /// The byte at an index into all the digits.
+    fn byte(&self, index: usize) -> u8
+        requires { index < length (self.now.whole.now ++ self.now.fraction.now) }
+        ensures { result ≡ slice_index (self.now.whole.now ++ self.now.fraction.now) index }
     {
         if index < self.whole.len() {
-            self.whole[index] - b'0'
+            self.whole[index]
         } else {
-            self.fraction[index - self.whole.len()] - b'0'
+            self.fraction[index - self.whole.len()]
         }
+    }
+
+    /// The digit at an index into all the digits.
+    fn digit(&self, index: usize) -> u8
+        requires in_range { index < length (digits_of (view self.now)) }
+        requires digits { AllDigits 10 (self.now.whole.now ++ self.now.fraction.now) }
+        ensures { result ≡ slice_index (digits_of (view self.now)) index }
+    {
+        self.byte(index) - b'0'
     }
 
     /// The texts of the digits from `start` up to `end`, in front of the dot and behind it.
@@ -206,33 +254,21 @@ impl Parts<'_> {
         (whole, fraction)
     }
 
-    /// The index of the first digit that is not 0, or the number of digits.
-    pub fn start(&self) -> usize
+    /// The range of the digits without the zeros at both ends; none where all digits are 0.
+    pub fn kept_range(&self) -> Option<(usize, usize)>
         requires { AllDigits 10 (self.now.whole.now ++ self.now.fraction.now) }
-        ensures within { result ≤ length (digits_of (view self.now)) }
-        ensures before { (k : ℕ) → k < result → slice_index (digits_of (view self.now)) k ≡ 0 }
-        ensures found { result < length (digits_of (view self.now))
-            → 0 < slice_index (digits_of (view self.now)) result }
-    {
-        for i in 0..self.len() {
-            if self.digit(i) != 0 {
-                return i;
-            }
-        }
-        self.len()
-    }
-
-    /// The index behind the last digit that is not 0, or 0.
-    pub fn end(&self) -> usize
-        requires { AllDigits 10 (self.now.whole.now ++ self.now.fraction.now) }
-        ensures within { result ≤ length (digits_of (view self.now)) }
-        ensures after { (k : ℕ) → result ≤ k → slice_index (digits_of (view self.now)) k ≡ 0 }
-        ensures found { 0 < result → 0 < slice_index (digits_of (view self.now)) (result - 1) }
+        ensures none { IfNone result ((k : ℕ) → slice_index (digits_of (view self.now)) k ≡ 0) }
+        ensures some { IfSome result (λ r. IsInner (digits_of (view self.now)) r.0 r.1) }
     {
         let mut end = self.len();
         while end > 0 && self.digit(end - 1) == 0 {
             end -= 1;
         }
-        end
+        for start in 0..end {
+            if self.digit(start) != 0 {
+                return Some((start, end));
+            }
+        }
+        None
     }
 }

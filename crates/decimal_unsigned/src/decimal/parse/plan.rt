@@ -1,12 +1,10 @@
 //! Which digits make the value, and where they lie.
-ghost use Rattle.std.specs.Prelude.{◌≡◌, ℕ, ◌+◌, ◌-◌, ◌<◌, ◌≤◌, ◌⊎◌, length, slice_index, IfSome, IfNone, pos, negsuc, ◌+ℤ◌, ◌-ℤ◌, ◌≤ℤ◌, ◌<ℤ◌, int_lt, if◌then◌else◌};
+ghost use Rattle.std.specs.Prelude.{◌≡◌, ◌≤◌, ◌++◌, length, Err, Some, IfSome, IfNone, pos, negsuc, ◌≤ℤ◌, int_lt, if◌then◌else◌};
 ghost use Rattle.std.specs.Int.{int_max, int_min};
-ghost use Rattle.std.specs.Prelude.{◌++◌, Err};
 ghost use Rattle.std.specs.Str.Parse.{AllDigits};
-ghost use Rattle.decimal_unsigned.specs.Placing.{Placed, Makes};
+ghost use Rattle.decimal_unsigned.specs.Placing.{digits_of, IsInner, Makes};
 ghost use Rattle.decimal_unsigned.specs.Reading.{value_of, limit};
-ghost use Rattle.decimal_unsigned.specs.Parts.{IsSaturated};
-ghost use Rattle.decimal_unsigned.specs.Parts.{view};
+ghost use Rattle.decimal_unsigned.specs.Parts.{view, IsSaturated};
 
 use super::parts::Parts;
 use decimal_digits::ops::{at_least_zero, at_most_zero, difference, narrowed, raised};
@@ -45,31 +43,6 @@ fn lowest_shown(last: i32, lo: i32) -> i16
     }
 }
 
-/// The digits from `first` to `last`, of which `hi` to `lo` are shown, times a power of ten.
-fn scaled(first: i32, last: i32, hi: i32, lo: i32, exponent: i32) -> Option<Place>
-    requires first_in { first ≤ℤ hi }
-    requires ordered { last ≤ℤ first }
-    requires last_in { lo ≤ℤ last }
-    requires hi_in { (pos 0 ≤ℤ hi) × (hi ≤ℤ pos 32767) }
-    requires lo_in { (negsuc 32767 ≤ℤ lo) × (lo ≤ℤ pos 0) }
-    requires exponent_in { (negsuc 69999 ≤ℤ exponent) × (exponent ≤ℤ pos 70000) }
-    ensures none { IfNone result ((pos 32767 <ℤ (hi +ℤ exponent)) ⊎ ((lo +ℤ exponent) <ℤ negsuc 32767)) }
-    ensures some { IfSome result (λ p. Placed first last hi lo exponent p.magnitude p.hi p.lo) }
-{
-    let hi = raised(hi, exponent);
-    let lo = raised(lo, exponent);
-    if hi > 32767 || lo < -32768 {
-        return None;
-    }
-    let first = raised(first, exponent);
-    let last = raised(last, exponent);
-    Some(Place {
-        magnitude: narrowed(first),
-        hi: highest_shown(first, hi),
-        lo: lowest_shown(last, lo),
-    })
-}
-
 /// The magnitudes as they are.
 #[inline]
 pub fn unscaled(magnitude: i32, hi: i32, lo: i32) -> Place
@@ -95,6 +68,33 @@ pub struct Plan {
     pub place: Place,
 }
 
+/// The plan of parts that have an exponent and are not 0.
+fn scaled(parts: &Parts<'_>, start: usize, end: usize, exponent: i32) -> Option<Plan>
+    requires digits { AllDigits 10 (parts.now.whole.now ++ parts.now.fraction.now) }
+    requires few { length parts.now.whole.now ≤ 32768 }
+    requires short { length parts.now.fraction.now ≤ 32768 }
+    requires kept { IsInner (digits_of (view parts.now)) start end }
+    requires exponent { parts.now.exponent ≡ Some exponent }
+    requires saturated { IsSaturated exponent }
+    ensures none { IfNone result (value_of (view parts.now) ≡ Err limit) }
+    ensures some { IfSome result (λ p. Makes (view parts.now) p.start p.end p.place.magnitude p.place.hi p.place.lo) }
+{
+    let whole = parts.whole.len();
+    let hi = raised(difference(whole.max(1), 1), exponent);
+    let lo = raised(difference(0, parts.fraction.len()), exponent);
+    let first = raised(difference(whole, start + 1), exponent);
+    let last = raised(difference(whole, end), exponent);
+    if hi > 32767 || lo < -32768 {
+        return None;
+    }
+    let place = Place {
+        magnitude: narrowed(first),
+        hi: highest_shown(first, hi),
+        lo: lowest_shown(last, lo),
+    };
+    Some(Plan { start, end, place })
+}
+
 /// The plan of the parts, unless they are beyond a limit.
 pub fn planned(parts: &Parts<'_>) -> Option<Plan>
     requires digits { AllDigits 10 (parts.now.whole.now ++ parts.now.fraction.now) }
@@ -110,27 +110,21 @@ pub fn planned(parts: &Parts<'_>) -> Option<Plan>
     if fraction > 32768 {
         return None;
     }
-    let end = parts.end();
-    let start = parts.start();
     let hi = difference(whole.max(1), 1);
     let lo = difference(0, fraction);
-    if end == 0 {
+    let Some((start, end)) = parts.kept_range() else {
         return Some(Plan {
             start: 0,
             end: 0,
             place: unscaled(0, hi, lo),
         });
-    }
-    let first = difference(whole, start + 1);
+    };
     match parts.exponent {
         None => Some(Plan {
             start,
             end,
-            place: unscaled(first, hi, lo),
+            place: unscaled(difference(whole, start + 1), hi, lo),
         }),
-        Some(exponent) => {
-            let place = scaled(first, difference(whole, end), hi, lo, exponent)?;
-            Some(Plan { start, end, place })
-        }
+        Some(exponent) => scaled(parts, start, end, exponent),
     }
 }

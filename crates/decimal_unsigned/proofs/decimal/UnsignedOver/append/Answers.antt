@@ -1,5 +1,4 @@
-use Rattle.std.proofs.Common.{◌≡◌, ◌∙◌, w16, to_z, of_z, refl, arith}
-use Rattle.std.specs.Int.{int_max, int_min}
+use Rattle.decimal_unsigned.proofs.Common.{◌≡◌, ◌∙◌, w16, to_z, of_z, refl, arith, int_max, int_min}
 use Rattle.std.proofs.lemmas.Bool.{false≢true}
 use Rattle.decimal_unsigned.proofs.Values.{narrow_kept, hi_kept, lo_kept}
 use Rattle.decimal_unsigned.proofs.Concatenations.{append_size, append_stored, append_value}

@@ -1,6 +1,4 @@
-use Rattle.std.proofs.Common.{sym, ◌∙◌, ap}
-use Rattle.decimal_unsigned.specs.Unsigned.{Unsigned}
-use Rattle.decimal_digits.specs.Number.{size}
+use Rattle.decimal_unsigned.proofs.Common.{sym, ◌∙◌, ap, Unsigned, size}
 use Rattle.decimal_unsigned.proofs.Values.{size-number_of}
 use Rattle.decimal_unsigned.proofs.decimal.UnsignedOver.clone.Goals as goal
 

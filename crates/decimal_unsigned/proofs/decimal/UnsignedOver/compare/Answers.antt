@@ -1,6 +1,4 @@
-use Rattle.std.proofs.Common.{◌≡◌, length, w16, to_z, of_z, sym, ◌∙◌, ap, arith, ◌⊎◌, inl, inr}
-use Rattle.std.specs.Ordering.{nat_cmp}
-use Rattle.decimal_unsigned.specs.Unsigned.{Unsigned}
+use Rattle.decimal_unsigned.proofs.Common.{◌≡◌, length, w16, to_z, of_z, sym, ◌∙◌, ap, arith, ◌⊎◌, inl, inr, nat_cmp, Unsigned}
 use Rattle.decimal_unsigned.proofs.Values.{magnitude_kept}
 use Rattle.decimal_unsigned.proofs.Comparing.{none_order, magnitudes_order, numbers_order}
 use Rattle.decimal_unsigned.proofs.Shown.{value_of_view}

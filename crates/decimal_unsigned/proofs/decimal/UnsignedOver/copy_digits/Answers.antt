@@ -1,10 +1,4 @@
-use Rattle.std.proofs.Common.{◌≡◌, ◌+◌, ◌-◌, length, take, drop, w16, of_z, to_z, ◌∙◌, ap, arith}
-use Rattle.std.specs.Prelude.{min, ◌-ℤ◌, pos}
-use Rattle.std.proofs.lemmas.Int.{ints, to_z-of_z}
-use Rattle.std.proofs.lemmas.List.{length-take-le, length-drop}
-use Rattle.std.specs.Int.{int_gap}
-use Rattle.decimal_digits.specs.Number.{place, digit}
-use Rattle.decimal_unsigned.specs.Unsigned.{Unsigned}
+use Rattle.decimal_unsigned.proofs.Common.{◌≡◌, ◌+◌, ◌-◌, length, take, drop, w16, of_z, to_z, ◌∙◌, ap, arith, min, ◌-ℤ◌, pos, ints, to_z-of_z, length-take-le, length-drop, int_gap, place, digit, Unsigned}
 use Rattle.decimal_unsigned.proofs.Values.{magnitude_kept}
 use Rattle.decimal_unsigned.proofs.Shown.{value_of_view}
 use Rattle.decimal_unsigned.proofs.Blocks.{index_gap, block_digit}

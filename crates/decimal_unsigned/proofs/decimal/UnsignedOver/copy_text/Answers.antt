@@ -1,99 +1,87 @@
-use Rattle.std.proofs.Common.{◌≡◌, ◌-◌, length, refl, ◌∙◌, arith, inl, inr}
-use Rattle.std.proofs.lemmas.List.{length-take-le}
+use Rattle.decimal_unsigned.proofs.Common.{◌≡◌, ◌+◌, suc, ◌++◌, ◌∷◌, length, take, drop, refl, sym, ◌∙◌, ap, arith, append-nil, text}
+use Rattle.std.proofs.lemmas.List.{nil_from_length}
 use Rattle.decimal_unsigned.proofs.Values.{narrow_kept}
-use Rattle.decimal_unsigned.proofs.Lengths.{text_short}
-use Rattle.decimal_unsigned.proofs.Blocks.{length-behind, zeros_front, zeros_behind}
-use Rattle.decimal_unsigned.proofs.Pieces.{room_above, piece_above, room_below, piece_below, room_behind, piece_over}
+use Rattle.decimal_unsigned.proofs.TextBytes.{bytes_are}
+use Rattle.decimal_unsigned.proofs.Blocks.{zeros_front, zeros_behind, zeros_rest}
+use Rattle.decimal_unsigned.proofs.Pieces.{piece_above, piece_over, piece_below, room_above, room_behind, room_below}
 use Rattle.decimal_unsigned.proofs.decimal.UnsignedOver.copy_text.Goals as goal
-
-pub overflow_add-end : goal.overflow_add-end
-overflow_add-end g c = omega (arith, text_short c.args.self.now c.dot-dot.ensures.valid)
 
 pub copy_digits-requires-clause-in_limits : goal.copy_digits-requires-clause-in_limits
 copy_digits-requires-clause-in_limits g c =
-    elim c.if-end-dot.either [
-      | inl h ↦
-          room_below c.args.self.now c.dot-dot.ensures.valid _ refl _ c.dot-dot.ensures.value c.args.from
-          (length c.args.places.now) c.requires.some c.requires.in_text _
-          (narrow_kept c.magnitude_at-magnitude.type_inv
-          ∙ c.magnitude_at-magnitude.ensures.below (omega (arith, c.dot-dot.ensures.value))) h
-      | inr h ↦
-          room_above c.args.self.now c.dot-dot.ensures.valid _ refl _ c.dot-dot.ensures.value c.args.from
-          (length c.args.places.now) c.requires.some c.requires.in_text _ _
-          (narrow_kept c.magnitude_at-magnitude.type_inv
-          ∙ c.magnitude_at-magnitude.ensures.above (omega (arith, c.dot-dot.ensures.value, h.1))) h.1
-    ]
+    let dot_is = c.dot-dot.ensures.value in
+    let m = narrow_kept c.magnitude_at-magnitude.type_inv
+    ∙ c.magnitude_at-magnitude.ensures.below (omega (arith, dot_is)) in
+    rw m (room_below c.args.self.now c.dot-dot.ensures.valid _ dot_is c.args.from (length c.args.places.now)
+    c.if-dot-from.true c.requires.in_text).0
 
-pub copy_digits-requires-else-end-dot-clause-in_limits : goal.copy_digits-requires-else-end-dot-clause-in_limits
-copy_digits-requires-else-end-dot-clause-in_limits g c =
-    let before = c.if-end-dot.false.0 in
-    let behind = c.if-end-dot.false.1 in
-    let few = length-take-le (c.dot-dot.result - c.args.from) c.args.places.now (omega (arith, before, behind)) in
-    room_above c.args.self.now c.dot-dot.ensures.valid _ refl _ c.dot-dot.ensures.value c.args.from
-    (length c.args.places.now) c.requires.some c.requires.in_text _ _
-    (narrow_kept c.magnitude_at-magnitude.type_inv
-    ∙ c.magnitude_at-magnitude.ensures.above (omega (arith, c.dot-dot.ensures.value, before, behind)))
-    (omega (arith, few, before, behind))
+pub returns-then-dot-from : goal.returns-then-dot-from
+returns-then-dot-from g c =
+    let dot_is = c.dot-dot.ensures.value in
+    let m = narrow_kept c.magnitude_at-magnitude.type_inv
+    ∙ c.magnitude_at-magnitude.ensures.below (omega (arith, dot_is)) in
+    bytes_are c.args.self.now.number _ _ _ c.copy_digits.new.places c.copy_digits.ensures.value m
+    c.copy_digits.auto.places
+    ∙ sym (piece_below c.args.self.now c.dot-dot.ensures.valid _ dot_is c.args.from (length c.args.places.now)
+    c.if-dot-from.true c.requires.some c.requires.in_text)
 
-pub copy_digits-requires-else-end-dot-2-clause-in_limits : goal.copy_digits-requires-else-end-dot-2-clause-in_limits
-copy_digits-requires-else-end-dot-2-clause-in_limits g c =
-    let before = c.if-end-dot.false.0 in
-    let behind = c.if-end-dot.false.1 in
-    let a = c.dot-dot.result - c.args.from in
-    let us = c.copy_digits-else-end-dot.new.places in
-    let us_full : length us ≡ a =
-    c.copy_digits-else-end-dot.auto.places ∙ length-take-le a c.args.places.now (omega (arith, before, behind)) in
-    let places = length-behind a c.args.places.now us us_full (omega (arith, before, behind)) in
-    room_behind c.args.self.now c.dot-dot.ensures.valid _ refl _ c.dot-dot.ensures.value c.args.from
-    (length c.args.places.now) c.requires.some c.requires.in_text _ (omega (arith, places)) before behind
+pub copy_digits-requires-2-clause-zeros : goal.copy_digits-requires-2-clause-zeros
+copy_digits-requires-2-clause-zeros g c =
+    rw c.split_at_mut-whole.ensures.front
+    (zeros_front c.args.places.now c.requires.zeros c.min-above.result (omega (arith, c.min-above.ensures)))
 
-pub copy_digits-requires-else-end-dot-clause-zeros : goal.copy_digits-requires-else-end-dot-clause-zeros
-copy_digits-requires-else-end-dot-clause-zeros g c =
-    zeros_front c.args.places.now c.requires.zeros (c.dot-dot.result - c.args.from)
+pub copy_digits-requires-2-clause-in_limits : goal.copy_digits-requires-2-clause-in_limits
+copy_digits-requires-2-clause-in_limits g c =
+    let dot_is = c.dot-dot.ensures.value in
+    let m = narrow_kept c.magnitude_at-magnitude.type_inv
+    ∙ c.magnitude_at-magnitude.ensures.above (omega (arith, dot_is)) in
+    rw (m, c.split_at_mut-whole.ensures.front_len)
+    (room_above c.args.self.now c.dot-dot.ensures.valid _ dot_is c.args.from c.min-above.result
+    (omega (arith, c.min-above.ensures)))
 
-pub copy_digits-requires-else-end-dot-2-clause-zeros : goal.copy_digits-requires-else-end-dot-2-clause-zeros
-copy_digits-requires-else-end-dot-2-clause-zeros g c =
-    let before = c.if-end-dot.false.0 in
-    let behind = c.if-end-dot.false.1 in
-    let a = c.dot-dot.result - c.args.from in
-    let us = c.copy_digits-else-end-dot.new.places in
-    let us_full : length us ≡ a =
-    c.copy_digits-else-end-dot.auto.places ∙ length-take-le a c.args.places.now (omega (arith, before, behind)) in
-    zeros_behind c.args.places.now c.requires.zeros a us us_full (omega (arith, before, behind))
+pub copy_digits-requires-in-Some-clause-zeros : goal.copy_digits-requires-in-Some-clause-zeros
+copy_digits-requires-in-Some-clause-zeros g c =
+    let zeros = zeros_behind c.args.places.now c.requires.zeros c.min-above.result in
+    let behind = rw (← c.split_at_mut-whole.ensures.back) at zeros in
+    zeros_rest _ _ _ behind c.in-Some.ensures.cases.0
 
-pub returns-then-end-dot : goal.returns-then-end-dot
-returns-then-end-dot g c =
-    elim c.if-end-dot.either [
-      | inl h ↦
-          piece_below c.args.self.now c.dot-dot.ensures.valid _ refl _ c.dot-dot.ensures.value c.args.from
-          (length c.args.places.now) c.requires.some c.requires.in_text _ c.copy_digits.new.places
-          (narrow_kept c.magnitude_at-magnitude.type_inv
-          ∙ c.magnitude_at-magnitude.ensures.below (omega (arith, c.dot-dot.ensures.value)))
-          c.copy_digits.auto.places h c.copy_digits.ensures.value
-      | inr h ↦
-          piece_above c.args.self.now c.dot-dot.ensures.valid _ refl _ c.dot-dot.ensures.value c.args.from
-          (length c.args.places.now) c.requires.some c.requires.in_text _ c.copy_digits.new.places
-          (narrow_kept c.magnitude_at-magnitude.type_inv
-          ∙ c.magnitude_at-magnitude.ensures.above (omega (arith, c.dot-dot.ensures.value, h.1)))
-          c.copy_digits.auto.places h.1 c.copy_digits.ensures.value
-    ]
+pub copy_digits-requires-in-Some-clause-in_limits : goal.copy_digits-requires-in-Some-clause-in_limits
+copy_digits-requires-in-Some-clause-in_limits g c =
+    let rest = c.in-Some.ensures.cases.1 in
+    let whole = c.split_at_mut-whole.ensures.back_len in
+    room_behind c.args.self.now c.dot-dot.ensures.valid _ c.dot-dot.ensures.value c.args.from c.min-above.result _
+    (omega (arith, rest, whole, c.min-above.ensures)) (omega (arith, rest, whole, c.requires.in_text))
 
-pub returns-else-end-dot : goal.returns-else-end-dot
-returns-else-end-dot g c =
-    let before = c.if-end-dot.false.0 in
-    let behind = c.if-end-dot.false.1 in
-    let a = c.dot-dot.result - c.args.from in
-    let us = c.copy_digits-else-end-dot.new.places in
-    let us_full : length us ≡ a =
-    c.copy_digits-else-end-dot.auto.places ∙ length-take-le a c.args.places.now (omega (arith, before, behind)) in
-    let ws_full =
-    c.copy_digits-else-end-dot-2.auto.places ∙ length-behind a c.args.places.now us us_full
-    (omega (arith, before, behind)) in
-    piece_over c.args.self.now c.dot-dot.ensures.valid _ refl _ c.dot-dot.ensures.value c.args.from
-    (length c.args.places.now) c.requires.some c.requires.in_text a _ c.args.places.now us
-    c.copy_digits-else-end-dot-2.new.places refl
-    (narrow_kept c.magnitude_at-magnitude.type_inv
-    ∙ c.magnitude_at-magnitude.ensures.above (omega (arith, c.dot-dot.ensures.value, before, behind)))
-    before behind refl
-    us_full ws_full c.copy_digits-else-end-dot.ensures.value
-    c.copy_digits-else-end-dot-2.ensures.value
+pub returns-in-Some : goal.returns-in-Some
+returns-in-Some g c =
+    let dot_is = c.dot-dot.ensures.value in
+    let number = c.args.self.now.number in
+    let m = narrow_kept c.magnitude_at-magnitude.type_inv
+    ∙ c.magnitude_at-magnitude.ensures.above (omega (arith, dot_is)) in
+    let rest = c.in-Some.ensures.cases.1 in
+    let whole = c.split_at_mut-whole.ensures.back_len in
+    let a = c.min-above.result in
+    let k = length c.in-Some.fraction.now in
+    let all : a + suc k ≡ length c.args.places.now = omega (arith, rest, whole) in
+    let above = bytes_are number _ _ _ c.copy_digits-2.new.places c.copy_digits-2.ensures.value m
+    (c.copy_digits-2.auto.places ∙ c.split_at_mut-whole.ensures.front_len) in
+    let below = bytes_are number _ _ k c.copy_digits-in-Some.new.places c.copy_digits-in-Some.ensures.value refl
+    c.copy_digits-in-Some.auto.places in
+    (λ i. above i ++ 46 ∷ below i)
+    ∙ sym (piece_over c.args.self.now c.dot-dot.ensures.valid _ dot_is c.args.from a k
+    (omega (arith, rest, whole, c.min-above.ensures)) (omega (arith, rest, whole, c.requires.in_text)))
+    ∙ ap (λ n. take n (drop c.args.from (text c.args.self.now))) all
+
+pub returns-in_default : goal.returns-in_default
+returns-in_default g c =
+    let dot_is = c.dot-dot.ensures.value in
+    let m = narrow_kept c.magnitude_at-magnitude.type_inv
+    ∙ c.magnitude_at-magnitude.ensures.above (omega (arith, dot_is)) in
+    let none = nil_from_length c.split_at_mut-whole.result.1.now c.in_default.ensures.cases in
+    let whole = c.split_at_mut-whole.ensures.back_len in
+    let all : c.min-above.result ≡ length c.args.places.now = omega (arith, whole, c.in_default.ensures.cases) in
+    ap (λ l. c.copy_digits-2.new.places ++ l) none
+    ∙ append-nil c.copy_digits-2.new.places
+    ∙ bytes_are c.args.self.now.number _ _ _ c.copy_digits-2.new.places c.copy_digits-2.ensures.value m
+    (c.copy_digits-2.auto.places ∙ c.split_at_mut-whole.ensures.front_len ∙ all)
+    ∙ sym (piece_above c.args.self.now c.dot-dot.ensures.valid _ dot_is c.args.from (length c.args.places.now)
+    (omega (arith, all, c.min-above.ensures)))

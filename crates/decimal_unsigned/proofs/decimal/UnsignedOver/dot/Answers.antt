@@ -1,6 +1,4 @@
-use Rattle.std.proofs.Common.{◌+◌, ◌∙◌, ap}
-use Rattle.std.specs.Prelude.{pos}
-use Rattle.std.specs.Int.{int_gap}
+use Rattle.decimal_unsigned.proofs.Common.{◌+◌, ◌∙◌, ap, pos, int_gap}
 use Rattle.decimal_unsigned.proofs.Values.{narrow_kept}
 use Rattle.decimal_unsigned.proofs.decimal.UnsignedOver.dot.Goals as goal
 

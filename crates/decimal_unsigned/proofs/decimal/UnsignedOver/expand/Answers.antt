@@ -1,5 +1,4 @@
-use Rattle.std.proofs.Common.{arith}
-use Rattle.std.proofs.lemmas.Int.{ints, to_z-of_z}
+use Rattle.decimal_unsigned.proofs.Common.{arith, ints, to_z-of_z}
 use Rattle.decimal_unsigned.proofs.RoundingLaws.{expansions_compose}
 use Rattle.decimal_unsigned.proofs.decimal.UnsignedOver.expand.Goals as goal
 

@@ -1,4 +1,4 @@
-use Rattle.std.proofs.Common.{arith}
+use Rattle.decimal_unsigned.proofs.Common.{arith}
 use Rattle.std.proofs.lemmas.Int.Digits.{number_digits_of}
 use Rattle.decimal_unsigned.proofs.Integers.{digits_at_end, digits_of-below, digits_of-front}
 use Rattle.decimal_unsigned.proofs.decimal.UnsignedOver.from_integer.Goals as goal

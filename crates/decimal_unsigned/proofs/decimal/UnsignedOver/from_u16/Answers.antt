@@ -1,4 +1,4 @@
-use Rattle.std.proofs.Common.{arith}
+use Rattle.decimal_unsigned.proofs.Common.{arith}
 use Rattle.std.proofs.lemmas.Int.Digits.{length-digits_of-le}
 use Rattle.decimal_unsigned.proofs.Integers.{shown_at_most}
 use Rattle.decimal_unsigned.proofs.decimal.UnsignedOver.from_u16.Goals as goal

@@ -1,5 +1,4 @@
-use Rattle.std.proofs.Common.{sym, ◌∙◌, ap, rules}
-use Rattle.decimal_unsigned.specs.Unsigned.{Unsigned}
+use Rattle.decimal_unsigned.proofs.Common.{sym, ◌∙◌, ap, rules, Unsigned}
 use Rattle.decimal_unsigned.proofs.Values.{none_of, number_of-none}
 use Rattle.decimal_unsigned.proofs.Shown.{value_of_view}
 use Rattle.decimal_unsigned.proofs.decimal.UnsignedOver.is_zero.Goals as goal

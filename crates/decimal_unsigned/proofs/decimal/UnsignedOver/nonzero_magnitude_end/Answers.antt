@@ -1,8 +1,4 @@
-use Rattle.std.proofs.Common.{◌<◌, length, sym, ◌∙◌, ap, subst, arith, rules}
-use Rattle.std.proofs.lemmas.Int.{ints}
-use Rattle.decimal_digits.specs.Number.{last, IsLast}
-use Rattle.decimal_digits.proofs.Places.{place_is}
-use Rattle.decimal_unsigned.specs.Unsigned.{Unsigned}
+use Rattle.decimal_unsigned.proofs.Common.{◌<◌, length, sym, ◌∙◌, ap, subst, arith, rules, ints, last, place_is, Unsigned, IsLast}
 use Rattle.decimal_unsigned.proofs.Values.{last-number_of, last_of_none, magnitude_kept, narrow_kept}
 use Rattle.decimal_unsigned.proofs.Ranges.{is_last}
 use Rattle.decimal_unsigned.proofs.Shown.{value_of_view}

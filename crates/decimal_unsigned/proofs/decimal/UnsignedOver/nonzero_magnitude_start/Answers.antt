@@ -1,6 +1,5 @@
-use Rattle.std.proofs.Common.{sym, ◌∙◌, ap, subst}
-use Rattle.decimal_digits.specs.Number.{first, IsFirst}
-use Rattle.decimal_unsigned.specs.Unsigned.{Unsigned}
+use Rattle.decimal_unsigned.proofs.Common.{sym, ◌∙◌, ap, subst, first, Unsigned}
+use Rattle.decimal_digits.specs.Number.{IsFirst}
 use Rattle.decimal_unsigned.proofs.Values.{first_of, magnitude_kept}
 use Rattle.decimal_unsigned.proofs.Ranges.{is_first}
 use Rattle.decimal_unsigned.proofs.Shown.{value_of_view}

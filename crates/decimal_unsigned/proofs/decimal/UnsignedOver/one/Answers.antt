@@ -1,4 +1,4 @@
-use Rattle.std.proofs.Common.{◌∙◌}
+use Rattle.decimal_unsigned.proofs.Common.{◌∙◌}
 use Rattle.decimal_unsigned.proofs.Integers.{integer_value-one}
 use Rattle.decimal_unsigned.proofs.decimal.UnsignedOver.one.Goals as goal
 

@@ -1,7 +1,4 @@
-use Rattle.std.proofs.Common.{w16, sym, ◌∙◌, ap, arith}
-use Rattle.std.proofs.lemmas.Int.{ints, clamps, to_z-of_z}
-use Rattle.decimal_digits.specs.Number.{last}
-use Rattle.decimal_unsigned.specs.Unsigned.{Unsigned}
+use Rattle.decimal_unsigned.proofs.Common.{w16, sym, ◌∙◌, ap, arith, ints, clamps, to_z-of_z, last, Unsigned}
 use Rattle.decimal_unsigned.proofs.Values.{narrow_kept, lower_stored, last_in}
 use Rattle.decimal_unsigned.proofs.Ranges.{padded_end_is}
 use Rattle.decimal_unsigned.proofs.decimal.UnsignedOver.pad_end.Goals as goal

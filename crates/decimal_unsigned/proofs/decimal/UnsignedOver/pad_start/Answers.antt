@@ -1,5 +1,4 @@
-use Rattle.std.proofs.Common.{w16, arith}
-use Rattle.std.proofs.lemmas.Int.{ints, clamps, to_z-of_z}
+use Rattle.decimal_unsigned.proofs.Common.{w16, arith, ints, clamps, to_z-of_z}
 use Rattle.decimal_unsigned.proofs.Values.{first_of, narrow_kept, magnitude_kept}
 use Rattle.decimal_unsigned.proofs.Ranges.{padded_start_is}
 use Rattle.decimal_unsigned.proofs.decimal.UnsignedOver.pad_start.Goals as goal

@@ -1,16 +1,8 @@
-use Rattle.std.proofs.Common.{◌≡◌, ℕ, List, length, w16, to_z, of_z, sym, ◌∙◌, ap, subst, arith, rules}
-use Rattle.std.specs.Prelude.{Err, Some, pos, ◌-ℤ◌}
-use Rattle.std.specs.Int.{int_max, int_min}
-use Rattle.std.proofs.lemmas.Int.{ints, to_z-of_z}
+use Rattle.decimal_unsigned.proofs.Common.{◌≡◌, ℕ, List, length, w16, to_z, of_z, sym, ◌∙◌, ap, subst, arith, rules, Err, Some, pos, ◌-ℤ◌, int_max, int_min, ints, to_z-of_z, recursion_from_All, number_of, unit_at, rounded_number, IsStored, Unsigned, rounded}
 use Rattle.std.proofs.lemmas.Result.{err_from_is_err_and}
-use Rattle.std.proofs.lemmas.List.Elements.{recursion_from_All}
-use Rattle.decimal_digits.specs.Digits.{number_of}
-use Rattle.decimal_digits.specs.Rounding.{unit_at, rounded_number, DigitRoundingRefuses}
+use Rattle.decimal_digits.specs.Rounding.{DigitRoundingRefuses}
 use Rattle.decimal_digits.specs.declared.rounding.RoundError.TheVariants.{Limit}
 use Rattle.decimal_digits.specs.Left.{Spells, IsAbove}
-use Rattle.decimal_unsigned.specs.Fields.{IsStored}
-use Rattle.decimal_unsigned.specs.Unsigned.{Unsigned}
-use Rattle.decimal_unsigned.specs.Rounded.{rounded}
 use Rattle.decimal_unsigned.proofs.Values.{size-number_of, narrow_kept, magnitude_kept, hi_kept}
 use Rattle.decimal_unsigned.proofs.Roundings.{stored_left, rounded_left, number_again, size_again}
 use Rattle.decimal_unsigned.proofs.Shown.{value_of_view}

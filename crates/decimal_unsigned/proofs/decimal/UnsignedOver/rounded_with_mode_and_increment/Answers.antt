@@ -1,6 +1,4 @@
-use Rattle.std.proofs.Common.{ap}
-use Rattle.std.specs.Prelude.{Err}
-use Rattle.std.proofs.lemmas.Int.{to_z-of_z}
+use Rattle.decimal_unsigned.proofs.Common.{ap, Err, to_z-of_z}
 use Rattle.decimal_unsigned.proofs.decimal.UnsignedOver.rounded_with_mode_and_increment.Goals as goal
 
 pub returns-in-Ok-clause-answers : goal.returns-in-Ok-clause-answers

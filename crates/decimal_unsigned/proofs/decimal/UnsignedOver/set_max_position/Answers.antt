@@ -1,11 +1,5 @@
-use Rattle.std.proofs.Common.{◌≡◌, ◌≤◌, min, length, w16, pos, ◌+ℤ◌, ◌-ℤ◌, to_z, of_z, refl, sym, ◌∙◌, ap, subst, arith}
-use Rattle.std.specs.Int.{int_max, int_gap}
-use Rattle.std.proofs.lemmas.Int.{ints, to_z-of_z}
-use Rattle.decimal_digits.proofs.Places.{place_is}
-use Rattle.decimal_unsigned.specs.Unsigned.{Unsigned}
-use Rattle.decimal_unsigned.specs.Edits.{with_max_position}
+use Rattle.decimal_unsigned.proofs.Common.{◌≡◌, ◌≤◌, min, length, w16, pos, ◌+ℤ◌, ◌-ℤ◌, to_z, of_z, refl, sym, ◌∙◌, ap, subst, arith, int_max, int_gap, ints, to_z-of_z, place_is, Unsigned, with_max_position, trunced, PartsJoin}
 use Rattle.decimal_unsigned.proofs.Values.{lo_kept, magnitude_kept, narrow_kept, wide_kept, lowest}
-use Rattle.decimal_unsigned.specs.EditLaws.{trunced, PartsJoin}
 use Rattle.decimal_unsigned.proofs.Cuts.{Cuts, stored_cut, with_max_position_is}
 use Rattle.decimal_unsigned.proofs.Shown.{value_of_view}
 use Rattle.decimal_unsigned.proofs.EditLaws.{parts}

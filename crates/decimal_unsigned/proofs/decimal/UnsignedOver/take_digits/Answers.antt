@@ -1,4 +1,4 @@
-use Rattle.std.proofs.Common.{◌∙◌}
+use Rattle.decimal_unsigned.proofs.Common.{◌∙◌}
 use Rattle.decimal_unsigned.proofs.Values.{magnitude_kept}
 use Rattle.decimal_unsigned.proofs.Concatenations.{taken}
 use Rattle.decimal_unsigned.proofs.decimal.UnsignedOver.take_digits.Goals as goal

@@ -1,8 +1,4 @@
-use Rattle.std.proofs.Common.{pos, sym, ◌∙◌, ap, subst, arith}
-use Rattle.std.proofs.lemmas.Int.{ints, clamps}
-use Rattle.decimal_digits.specs.Number.{last, IsLast}
-use Rattle.decimal_digits.specs.Digits.{number_of}
-use Rattle.decimal_unsigned.specs.Unsigned.{Unsigned}
+use Rattle.decimal_unsigned.proofs.Common.{pos, sym, ◌∙◌, ap, subst, arith, ints, clamps, last, number_of, Unsigned, IsLast}
 use Rattle.decimal_unsigned.proofs.Values.{narrow_kept, lower_stored, last_in}
 use Rattle.decimal_unsigned.proofs.Ranges.{last_shown}
 use Rattle.decimal_unsigned.proofs.EditLaws.{trimmed_is_normal_form, shortest}

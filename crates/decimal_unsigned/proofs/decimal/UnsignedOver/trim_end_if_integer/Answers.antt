@@ -1,7 +1,4 @@
-use Rattle.std.proofs.Common.{pos, sym, ◌∙◌, ap, arith}
-use Rattle.std.proofs.lemmas.Int.{ints}
-use Rattle.decimal_digits.specs.Number.{last}
-use Rattle.decimal_unsigned.specs.Unsigned.{Unsigned}
+use Rattle.decimal_unsigned.proofs.Common.{pos, sym, ◌∙◌, ap, arith, ints, last, Unsigned}
 use Rattle.decimal_unsigned.proofs.Values.{narrow_kept, lower_stored}
 use Rattle.decimal_unsigned.proofs.decimal.UnsignedOver.trim_end_if_integer.Goals as goal
 

@@ -1,7 +1,4 @@
-use Rattle.std.proofs.Common.{pos, sym, ◌∙◌, ap, subst}
-use Rattle.std.specs.Prelude.{◌≤ℤ◌}
-use Rattle.std.specs.Int.{int_max}
-use Rattle.decimal_digits.specs.Number.{first}
+use Rattle.decimal_unsigned.proofs.Common.{pos, sym, ◌∙◌, ap, subst, ◌≤ℤ◌, int_max, first}
 use Rattle.decimal_unsigned.proofs.Values.{first_of, narrow_kept, magnitude_kept}
 use Rattle.decimal_unsigned.specs.Edits.{trimmed_end}
 use Rattle.decimal_unsigned.specs.EditLaws.{IsShortest}

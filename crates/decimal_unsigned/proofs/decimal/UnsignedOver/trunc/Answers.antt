@@ -1,12 +1,6 @@
-use Rattle.std.proofs.Common.{ap, subst, arith}
-use Rattle.std.specs.Option.{unwrap_or}
-use Rattle.std.proofs.lemmas.Int.{ints, to_z-of_z}
-use Rattle.decimal_digits.specs.declared.rounding.RoundingIncrement.TheVariants.{MultiplesOf1}
-use Rattle.decimal_digits.specs.declared.rounding.UnsignedRoundingMode.TheVariants.{Trunc}
-use Rattle.decimal_unsigned.specs.Rounded.{IsRounded}
+use Rattle.decimal_unsigned.proofs.Common.{ap, subst, arith, unwrap_or, ints, to_z-of_z, MultiplesOf1, Trunc, IsRounded, with_max_position, PartsJoin}
 use Rattle.decimal_unsigned.proofs.Roundings.{made_unless}
-use Rattle.decimal_unsigned.specs.Edits.{with_max_position}
-use Rattle.decimal_unsigned.specs.EditLaws.{PartsJoin, TruncationsCompose}
+use Rattle.decimal_unsigned.specs.EditLaws.{TruncationsCompose}
 use Rattle.decimal_unsigned.proofs.EditLaws.{parts, trunc_not_refused}
 use Rattle.decimal_unsigned.proofs.RoundingLaws.{truncations_compose}
 use Rattle.decimal_unsigned.proofs.decimal.UnsignedOver.trunc.Goals as goal

@@ -1,4 +1,4 @@
-use Rattle.std.proofs.Common.{arith}
+use Rattle.decimal_unsigned.proofs.Common.{arith}
 use Rattle.decimal_unsigned.proofs.Integers.{answer_at_most}
 use Rattle.decimal_unsigned.proofs.decimal.UnsignedOver.try_from_u64.Goals as goal
 

@@ -1,6 +1,4 @@
-use Rattle.std.proofs.Common.{w16, to_z, of_z, arith}
-use Rattle.std.proofs.lemmas.Int.{ints}
-use Rattle.decimal_digits.proofs.Places.{place_is}
+use Rattle.decimal_unsigned.proofs.Common.{w16, to_z, of_z, arith, ints, place_is}
 use Rattle.decimal_unsigned.proofs.decimal.UnsignedOver.write_digits.Goals as goal
 
 pub copy_digits-requires-clause-in_limits : goal.copy_digits-requires-clause-in_limits

@@ -1,7 +1,6 @@
-use Rattle.std.proofs.Common.{◌<◌, inl, inr, refl, length, arith}
+use Rattle.decimal_unsigned.proofs.Common.{◌<◌, inl, inr, refl, length, arith, text}
 use Rattle.decimal_digits.proofs.Results.{on_err}
 use Rattle.decimal_digits.proofs.Sinks.{appends_none, part_kept, fresh_more, fresh_some, fresh_keeps, fresh_ends}
-use Rattle.decimal_unsigned.specs.Text.{text}
 use Rattle.decimal_unsigned.proofs.Lengths.{text_some}
 use Rattle.decimal_unsigned.proofs.Writing.{byte_taken, wrote_more, wrote_all}
 use Rattle.decimal_unsigned.proofs.decimal.UnsignedOver.write_few.Goals as goal

@@ -1,7 +1,5 @@
-use Rattle.std.proofs.Common.{take}
-use Rattle.std.specs.Io.KnownBytes.{Appends}
+use Rattle.decimal_unsigned.proofs.Common.{take, text, Appends}
 use Rattle.decimal_digits.proofs.Sinks.{IsFresh}
-use Rattle.decimal_unsigned.specs.Text.{text}
 use Rattle.decimal_unsigned.proofs.decimal.UnsignedOver.write_few.Given as goal
 
 abbrev pub invariant-loop-index : goal.invariant-loop-index

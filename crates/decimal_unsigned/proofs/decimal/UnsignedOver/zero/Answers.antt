@@ -1,4 +1,4 @@
-use Rattle.std.proofs.Common.{pos, ap}
+use Rattle.decimal_unsigned.proofs.Common.{pos, ap}
 use Rattle.decimal_unsigned.proofs.Values.{number_of_empty}
 use Rattle.decimal_unsigned.proofs.decimal.UnsignedOver.zero.Goals as goal
 

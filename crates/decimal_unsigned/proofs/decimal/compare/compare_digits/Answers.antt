@@ -1,7 +1,4 @@
-use Rattle.std.proofs.Common.{◌≡◌, length, sym, ◌∙◌, arith}
-use Rattle.std.specs.Prelude.{min}
-use Rattle.std.specs.Cmp.Lexicographic.{slice_cmp}
-use Rattle.std.specs.Ordering.{nat_cmp}
+use Rattle.decimal_unsigned.proofs.Common.{◌≡◌, length, sym, ◌∙◌, arith, min, nat_cmp, slice_cmp}
 use Rattle.decimal_unsigned.proofs.Comparing.{lengths_decide, halves_order}
 use Rattle.decimal_unsigned.proofs.decimal.compare.compare_digits.Goals as goal
 

@@ -1,6 +1,4 @@
-use Rattle.std.proofs.Common.{◌≡◌, drop}
-use Rattle.std.specs.Ordering.{nat_cmp}
-use Rattle.std.specs.Cmp.Lexicographic.{slice_cmp}
+use Rattle.decimal_unsigned.proofs.Common.{◌≡◌, drop, nat_cmp, slice_cmp}
 use Rattle.decimal_unsigned.proofs.decimal.compare.compare_digits.Given as goal
 
 -- the digits from the index on decide

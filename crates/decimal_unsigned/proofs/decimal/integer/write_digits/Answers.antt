@@ -1,4 +1,4 @@
-use Rattle.std.proofs.Common.{refl, rules, arith}
+use Rattle.decimal_unsigned.proofs.Common.{refl, rules, arith}
 use Rattle.std.proofs.lemmas.List.{drop_all}
 use Rattle.decimal_unsigned.proofs.decimal.integer.write_digits.Goals as goal
 

@@ -1,4 +1,4 @@
-use Rattle.std.proofs.Common.{◌≡◌, ◌+◌, ◌++◌, drop, length}
+use Rattle.decimal_unsigned.proofs.Common.{◌≡◌, ◌+◌, ◌++◌, drop, length}
 use Rattle.std.specs.Prelude.{reverse}
 use Rattle.decimal_digits.specs.Integer.{ascending_digits}
 use Rattle.decimal_unsigned.proofs.decimal.integer.write_digits.Given as goal

@@ -1,5 +1,5 @@
-use Rattle.std.proofs.Common.{◌-◌, ◌*◌, ◌/◌, ◌^◌, ap, arith}
-use Rattle.decimal_unsigned.proofs.ShortNumbers.{few_leading}
+use Rattle.decimal_unsigned.proofs.Common.{◌-◌, ◌*◌, ◌/◌, ◌^◌, ap, arith}
+use Rattle.decimal_unsigned.proofs.WholeNumbers.{few_leading}
 use Rattle.decimal_unsigned.proofs.decimal.to_integer.leading_few.Goals as goal
 
 pub returns : goal.returns

@@ -1,5 +1,4 @@
-use Rattle.std.proofs.Common.{◌+◌, ◌*◌, ◌^◌, ◌<◌, refl, sym, ◌∙◌, arith}
-use Rattle.decimal_digits.proofs.Leading.{leading_none}
+use Rattle.decimal_unsigned.proofs.Common.{◌+◌, ◌*◌, ◌^◌, ◌<◌, refl, sym, ◌∙◌, arith, leading_none}
 use Rattle.decimal_unsigned.proofs.WholeNumbers.{leading_next, few_digits}
 use Rattle.decimal_unsigned.proofs.decimal.to_integer.leading_long.Goals as goal
 

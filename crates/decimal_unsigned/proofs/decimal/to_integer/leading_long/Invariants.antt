@@ -1,5 +1,4 @@
-use Rattle.std.proofs.Common.{◌≡◌}
-use Rattle.decimal_digits.specs.Tails.{leading}
+use Rattle.decimal_unsigned.proofs.Common.{◌≡◌, leading}
 use Rattle.decimal_unsigned.proofs.decimal.to_integer.leading_long.Given as goal
 
 -- the digits before the index are read

@@ -1,6 +1,4 @@
-use Rattle.std.proofs.Common.{◌≡◌, ◌^◌, ◌<◌, ◌≤◌, sym, ◌∙◌, ap, arith}
-use Rattle.std.specs.Prelude.{Ok}
-use Rattle.decimal_digits.specs.Tails.{leading}
+use Rattle.decimal_unsigned.proofs.Common.{◌≡◌, ◌^◌, ◌<◌, ◌≤◌, sym, ◌∙◌, ap, arith, Ok, leading}
 use Rattle.decimal_unsigned.proofs.WholeNumbers.{leading_next, in_range-below, in_range-above}
 use Rattle.decimal_unsigned.proofs.decimal.to_integer.leading_longest.Goals as goal
 

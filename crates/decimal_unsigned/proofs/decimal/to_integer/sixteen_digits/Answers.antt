@@ -1,7 +1,6 @@
-use Rattle.std.proofs.Common.{◌+◌, ◌*◌, [], ◌∷◌, get_or, ◌∙◌, ap}
-use Rattle.std.specs.Int.Digits.{number_from_digits}
+use Rattle.decimal_unsigned.proofs.Common.{◌+◌, ◌*◌, [], ◌∷◌, get_or, ◌∙◌, ap, number_from_digits}
 use Rattle.decimal_digits.specs.Halves.{halves}
-use Rattle.decimal_unsigned.proofs.ShortNumbers.{by_pairs}
+use Rattle.decimal_unsigned.proofs.WholeNumbers.{by_pairs}
 use Rattle.decimal_unsigned.proofs.decimal.to_integer.sixteen_digits.Goals as goal
 
 pub returns : goal.returns

@@ -1,6 +1,6 @@
-use Rattle.std.proofs.Common.{◌≡◌, false, w16, to_z, of_z, sym, ◌∙◌, ap}
+use Rattle.decimal_unsigned.proofs.Common.{◌≡◌, false, w16, to_z, of_z, sym, ◌∙◌, ap, Unsigned, IsValue}
 use Rattle.std.specs.Cmp.{both_ways}
-use Rattle.decimal_unsigned.specs.Unsigned.{Unsigned, IsValue, same}
+use Rattle.decimal_unsigned.specs.Unsigned.{same}
 use Rattle.decimal_unsigned.proofs.Shown.{value_of_view}
 use Rattle.decimal_unsigned.proofs.Values.{magnitude_kept, hi_kept, lo_kept}
 use Rattle.decimal_unsigned.proofs.Unique.{same_magnitude, same_digits, same_is, is_same, not_same, tells_values, tells_texts}

@@ -1,10 +1,7 @@
-use Rattle.std.proofs.Common.{◌+◌, ◌++◌, length, take, refl, sym, subst, arith}
-use Rattle.std.proofs.lemmas.List.{length-take}
+use Rattle.decimal_unsigned.proofs.Common.{◌+◌, ◌++◌, length, take, refl, sym, subst, arith, length-take, text, HasWrittenStyled}
 use Rattle.std.proofs.lemmas.Str.{IsUtf8-from_ascii, IsAscii-take, IsAscii-drop}
 use Rattle.std.proofs.Output.{has_written_styled_append, has_written_styled_of_eq}
-use Rattle.std.specs.Fmt.{HasWrittenStyled}
 use Rattle.std.specs.Str.{IsAscii}
-use Rattle.decimal_unsigned.specs.Text.{text}
 use Rattle.decimal_unsigned.proofs.TextBytes.{text_ascii}
 use Rattle.decimal_unsigned.proofs.Blocks.{block_of, zeros_first}
 use Rattle.decimal_unsigned.proofs.Writing.{piece_taken}
@@ -16,7 +13,7 @@ from_utf8_unchecked-requires g c =
     (subst IsAscii (sym c.copy_text.ensures) (IsAscii-take _ _ (IsAscii-drop _ _ (text_ascii c.args.self.now))))
 
 pub copy_text-requires-clause-zeros : goal.copy_text-requires-clause-zeros
-copy_text-requires-clause-zeros g c = zeros_first 64 c.min.result
+copy_text-requires-clause-zeros g c = zeros_first 64 c.min.result (omega (arith, c.min.ensures))
 
 pub loop-written-preserved : goal.loop-written-preserved
 loop-written-preserved g c =

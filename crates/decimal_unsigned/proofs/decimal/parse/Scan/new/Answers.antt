@@ -1,5 +1,4 @@
-use Rattle.std.proofs.Common.{◌∙◌}
-use Rattle.decimal_unsigned.specs.Parts.{view}
+use Rattle.decimal_unsigned.proofs.Common.{◌∙◌, view}
 use Rattle.decimal_unsigned.proofs.Exponents.{read_none, read_some}
 use Rattle.decimal_unsigned.proofs.decimal.parse.Scan.new.Goals as goal
 

@@ -1,6 +1,4 @@
-use Rattle.std.proofs.Common.{◌≤◌, ◌-◌, ap, arith}
-use Rattle.decimal_digits.specs.Number.{size}
-use Rattle.decimal_unsigned.specs.Parts.{view}
+use Rattle.decimal_unsigned.proofs.Common.{◌≤◌, ◌-◌, ap, arith, size, view}
 use Rattle.decimal_unsigned.specs.Placing.{digits_of}
 use Rattle.decimal_unsigned.proofs.Values.{size-number_of}
 use Rattle.decimal_unsigned.proofs.ParserAnswers.{middle_long}

@@ -1,6 +1,4 @@
-use Rattle.std.proofs.Common.{◌≡◌, ◌+◌, ◌-◌, ◌≤◌, drop, length}
-use Rattle.std.specs.Char.{is_ascii_digit}
-use Rattle.std.specs.List.{prefix_len}
+use Rattle.decimal_unsigned.proofs.Common.{◌≡◌, ◌+◌, ◌-◌, ◌≤◌, drop, length, is_ascii_digit, prefix_len}
 use Rattle.decimal_unsigned.proofs.decimal.parse.parts.grouped_digit_count.Given as goal
 
 abbrev pub invariant-loop-count : goal.invariant-loop-count

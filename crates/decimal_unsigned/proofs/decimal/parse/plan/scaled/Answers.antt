@@ -1,38 +1,111 @@
-use Rattle.std.proofs.Common.{◌≡◌, arith, w32, to_z, of_z, ◌∙◌}
-use Rattle.std.specs.Prelude.{pos, ◌+ℤ◌, int_lt, if◌then◌else◌}
-use Rattle.std.specs.Int.{int_max, int_min}
-use Rattle.std.proofs.lemmas.Int.{ints}
+use Rattle.decimal_unsigned.proofs.Common.{◌≡◌, ℕ, ◌<◌, ◌≤◌, ◌+◌, ◌-◌, ◌∙◌, length, to_z, of_z, refl, arith, inl, inr, ℤ, pos, negsuc, ◌+ℤ◌, ◌-ℤ◌, ◌≤ℤ◌, ints, view}
+use lib.Signed.{mag}
+use Rattle.std.proofs.Common.{w32}
+use Rattle.decimal_unsigned.proofs.Plans.{length_digits, limit_scaled, makes_scaled}
 use Rattle.decimal_unsigned.proofs.Values.{narrow_kept, wide_kept}
 use Rattle.decimal_unsigned.proofs.decimal.parse.plan.scaled.Goals as goal
+use Rattle.decimal_unsigned.proofs.decimal.parse.plan.scaled.Goals.{After-difference-4, then-hi-gt32767-via-then-hi-gt32767, then-hi-gt32767-via-else-hi-gt32767+then-lo-ltminus32768}
+
+-- ---- The moved magnitudes, as they are read again.
+hi_is : (c : After-difference-4)
+    → to_z w32 (of_z w32 c.raised-hi.result) ≡ pos (length c.args.parts.now.whole.now - 1) +ℤ c.args.exponent
+hi_is c =
+    let s = c.requires.saturated in
+    wide_kept {z = c.raised-hi.result} c.raised-hi.type_inv
+    ∙ (omega (arith, ints, c.raised-hi.ensures, c.difference.ensures, c.max.ensures, c.requires.few, s.low, s.high))
+
+lo_is : (c : After-difference-4)
+    → to_z w32 (of_z w32 c.raised-lo.result) ≡ (pos 0 -ℤ pos (length c.args.parts.now.fraction.now)) +ℤ c.args.exponent
+lo_is c =
+    let s = c.requires.saturated in
+    wide_kept {z = c.raised-lo.result} c.raised-lo.type_inv
+    ∙ (omega (arith, ints, c.raised-lo.ensures, c.difference-2.ensures, c.requires.short, s.low, s.high))
+
+first_is : (c : After-difference-4)
+    → to_z w32 (of_z w32 c.raised-first.result)
+    ≡ ((pos (length c.args.parts.now.whole.now) -ℤ pos 1) -ℤ pos c.args.start) +ℤ c.args.exponent
+first_is c =
+    let s = c.requires.saturated in
+    let n = c.requires.kept in
+    let l = length_digits (view c.args.parts.now) c.requires.digits c.requires.few c.requires.short in
+    wide_kept {z = c.raised-first.result} c.raised-first.type_inv
+    ∙ (omega (arith, ints, c.raised-first.ensures, c.difference-3.ensures, n.ordered, n.within, l, s.low, s.high))
+
+last_is : (c : After-difference-4) {r : ℤ} → mag r < 2147483648
+    → r ≡ to_z w32 (of_z w32 c.difference-4.result) +ℤ to_z w32 (of_z w32 c.args.exponent)
+    → to_z w32 (of_z w32 r) ≡ (pos (length c.args.parts.now.whole.now) -ℤ pos c.args.end) +ℤ c.args.exponent
+last_is c {r} kept is =
+    let s = c.requires.saturated in
+    let l = length_digits (view c.args.parts.now) c.requires.digits c.requires.few c.requires.short in
+    wide_kept {z = r} kept
+    ∙ (omega (arith, ints, is, c.difference-4.ensures, c.requires.kept.within, l, s.low, s.high))
+
+above_low : (whole fraction end : ℕ) (e last lo : ℤ) → last ≡ (pos whole -ℤ pos end) +ℤ e
+    → lo ≡ (pos 0 -ℤ pos fraction) +ℤ e → end ≤ whole + fraction → negsuc 32767 ≤ℤ lo
+    → negsuc 32767 ≤ℤ last
+above_low whole fraction end e last lo a b within low = omega (arith, ints)
+
+pub raised-first-requires-clause-magnitude_in : goal.raised-first-requires-clause-magnitude_in
+raised-first-requires-clause-magnitude_in c =
+    let l = length_digits (view c.args.parts.now) c.requires.digits c.requires.few c.requires.short in
+    let n = c.requires.kept in (
+      omega (arith, ints, l, n.ordered, n.within, c.difference-3.ensures),
+      omega (arith, ints, l, n.ordered, n.within, c.difference-3.ensures),
+    )
+
+pub raised-last-requires-clause-magnitude_in : goal.raised-last-requires-clause-magnitude_in
+raised-last-requires-clause-magnitude_in c =
+    let l = length_digits (view c.args.parts.now) c.requires.digits c.requires.few c.requires.short in (
+      omega (arith, ints, l, c.requires.kept.within, c.difference-4.ensures),
+      omega (arith, ints, l, c.requires.kept.within, c.difference-4.ensures),
+    )
+
+pub returns-then-hi-gt32767-clause-none : goal.returns-then-hi-gt32767-clause-none
+returns-then-hi-gt32767-clause-none c =
+    let b = (goal.at.returns-then-hi-gt32767-clause-none c).After-difference-4 in
+    limit_scaled (view c.args.parts.now) c.requires.digits c.requires.few c.requires.short c.args.start c.args.end
+    c.requires.kept _ refl c.args.exponent c.requires.exponent (elim c.then-hi-gt32767.branch [
+      | then-hi-gt32767-via-then-hi-gt32767 w ↦ inl (omega (arith, ints, w.if-hi-gt32767.true, hi_is b))
+      | then-hi-gt32767-via-else-hi-gt32767+then-lo-ltminus32768 w ↦
+          inr (omega (arith, ints, w.if-lo-ltminus32768.true, lo_is b))
+    ])
+
+pub narrowed-requires-clause-low : goal.narrowed-requires-clause-low
+narrowed-requires-clause-low c =
+    let b = (goal.at.narrowed-requires-clause-low c).After-difference-4 in
+    let l = length_digits (view c.args.parts.now) c.requires.digits c.requires.few c.requires.short in
+    omega (
+      arith,
+      ints,
+      first_is b,
+      lo_is b,
+      l,
+      c.requires.kept.ordered,
+      c.requires.kept.within,
+      c.if-lo-ltminus32768.false,
+    )
+
+pub narrowed-requires-clause-high : goal.narrowed-requires-clause-high
+narrowed-requires-clause-high c =
+    let b = (goal.at.narrowed-requires-clause-high c).After-difference-4 in
+    omega (arith, ints, first_is b, hi_is b, c.if-hi-gt32767.false)
 
 pub lowest_shown-requires-clause-last_in : goal.lowest_shown-requires-clause-last_in
 lowest_shown-requires-clause-last_in c =
-    let last : to_z w32 (of_z w32 c.raised-last.result) ≡ c.args.last +ℤ c.args.exponent =
-    wide_kept {z = c.raised-last.result} c.raised-last.type_inv ∙ (omega (arith, ints, c.raised-last.ensures)) in
-    let lo : to_z w32 (of_z w32 c.raised-lo.result) ≡ c.args.lo +ℤ c.args.exponent =
-    wide_kept {z = c.raised-lo.result} c.raised-lo.type_inv ∙ (omega (arith, ints, c.raised-lo.ensures)) in
-    omega (arith, ints, last, lo, c.if-lo-ltminus32768.false, c.requires.last_in)
+    let b = (goal.at.lowest_shown-requires-clause-last_in c).After-difference-4 in
+    let w = view c.args.parts.now in
+    let l = length_digits w c.requires.digits c.requires.few c.requires.short in
+    above_low (length w.whole) (length w.fraction) c.args.end _ _ _
+    (last_is b {r = c.raised-last.result} c.raised-last.type_inv c.raised-last.ensures) (lo_is b)
+    (omega (arith, l, c.requires.kept.within)) (omega (arith, ints, c.if-lo-ltminus32768.false))
 
 pub returns-clause-some : goal.returns-clause-some
 returns-clause-some c =
-    let first : to_z w32 (of_z w32 c.raised-first.result) ≡ c.args.first +ℤ c.args.exponent =
-    wide_kept {z = c.raised-first.result} c.raised-first.type_inv ∙ (omega (arith, ints, c.raised-first.ensures)) in
-    let last : to_z w32 (of_z w32 c.raised-last.result) ≡ c.args.last +ℤ c.args.exponent =
-    wide_kept {z = c.raised-last.result} c.raised-last.type_inv ∙ (omega (arith, ints, c.raised-last.ensures)) in
-    let hi : to_z w32 (of_z w32 c.raised-hi.result) ≡ c.args.hi +ℤ c.args.exponent =
-    wide_kept {z = c.raised-hi.result} c.raised-hi.type_inv ∙ (omega (arith, ints, c.raised-hi.ensures)) in
-    let lo : to_z w32 (of_z w32 c.raised-lo.result) ≡ c.args.lo +ℤ c.args.exponent =
-    wide_kept {z = c.raised-lo.result} c.raised-lo.type_inv ∙ (omega (arith, ints, c.raised-lo.ensures)) in
-    record {
-      magnitude = narrow_kept c.narrowed.type_inv ∙ c.narrowed.ensures ∙ first;
-      upper = omega (arith, ints, hi, c.if-hi-gt32767.false);
-      lower = omega (arith, ints, lo, c.if-lo-ltminus32768.false);
-      hi_is =
-          narrow_kept c.highest_shown.type_inv
-          ∙ c.highest_shown.ensures
-          ∙ (λ i. if int_lt (pos 0) (first i) then first i else int_max (hi i) (pos 0));
-      lo_is =
-          narrow_kept c.lowest_shown.type_inv
-          ∙ c.lowest_shown.ensures
-          ∙ (λ i. if int_lt (last i) (pos 0) then last i else int_min (lo i) (pos 0));
-    }
+    let b = (goal.at.returns-clause-some c).After-difference-4 in
+    makes_scaled (view c.args.parts.now) c.requires.digits c.requires.few c.requires.short c.args.start c.args.end
+    c.requires.kept _ refl c.args.exponent _ _ _ _ _ _ _ c.requires.exponent (first_is b)
+    (last_is b c.raised-last.type_inv c.raised-last.ensures) (hi_is b) (lo_is b)
+    (omega (arith, ints, c.if-hi-gt32767.false)) (omega (arith, ints, c.if-lo-ltminus32768.false))
+    (narrow_kept c.narrowed.type_inv ∙ c.narrowed.ensures)
+    (narrow_kept c.highest_shown.type_inv ∙ c.highest_shown.ensures)
+    (narrow_kept c.lowest_shown.type_inv ∙ c.lowest_shown.ensures)

@@ -1,10 +1,28 @@
-use Rattle.decimal_unsigned.specs.Parts.{view}
-use Rattle.decimal_unsigned.proofs.ShortTexts.{short_digits, short_read}
+use Rattle.decimal_unsigned.proofs.Common.{refl, arith, ints, view}
+use Rattle.decimal_unsigned.proofs.ShortNumbers.{short_zero, short_sizes, short_plain}
 use Rattle.decimal_unsigned.proofs.decimal.parse.short.short_value.Goals as goal
 
-pub placed-requires-clause-digits : goal.placed-requires-clause-digits
-placed-requires-clause-digits c = short_digits c.args.text.now (view c.in_ok-parts.parts) c.in_ok-parts.ensures.parts
+pub returns-then-number-eq0 : goal.returns-then-number-eq0
+returns-then-number-eq0 c =
+    short_zero (view c.args.parts.now) c.args.parts.now.number c.requires.digits c.if-parts-gt16.false
+    c.requires.number _ _ _ (omega arith) (omega (arith, ints, c.unscaled-place.ensures.magnitude))
+    (omega (arith, ints, c.unscaled-place.ensures.hi)) (omega (arith, ints, c.unscaled-place.ensures.lo))
+
+pub overflow_sub-len : goal.overflow_sub-len
+overflow_sub-len c =
+    let n = short_sizes (view c.args.parts.now) c.args.parts.now.number c.requires.digits c.if-parts-gt16.false
+    c.requires.number (omega arith) in
+    omega (arith, n.0)
+
+pub overflow_shl-result : goal.overflow_shl-result
+overflow_shl-result c =
+    let n = short_sizes (view c.args.parts.now) c.args.parts.now.number c.requires.digits c.if-parts-gt16.false
+    c.requires.number (omega arith) in
+    omega (arith, n.0)
 
 pub returns : goal.returns
 returns c =
-    short_read c.args.text.now (view c.in_ok-parts.parts) _ _ _ _ _ c.in_ok-parts.ensures.parts c.placed.ensures
+    short_plain (view c.args.parts.now) c.args.parts.now.number c.requires.digits c.if-parts-gt16.false
+    c.requires.number (omega arith) _ _ _ _ _ refl refl c.in-None.is
+    (omega (arith, ints, c.unscaled.ensures.magnitude)) (omega (arith, ints, c.unscaled.ensures.hi))
+    (omega (arith, ints, c.unscaled.ensures.lo))

@@ -1,15 +1,12 @@
-use Rattle.std.proofs.Common.{inr, arith}
-use Rattle.std.proofs.lemmas.List.{length-take}
+use Rattle.decimal_unsigned.proofs.Common.{inr, arith, length-take, text}
 use Rattle.decimal_digits.proofs.Results.{on_err}
 use Rattle.decimal_digits.proofs.Sinks.{fresh_more, fresh_some, fresh_keeps, fresh_ends}
-use Rattle.decimal_unsigned.specs.Text.{text}
-use Rattle.decimal_unsigned.proofs.ReadBack.{read_text}
 use Rattle.decimal_unsigned.proofs.Blocks.{block_of, zeros_first}
 use Rattle.decimal_unsigned.proofs.Writing.{wrote_more, wrote_part}
 use Rattle.decimal_unsigned.proofs.decimal.text.UnsignedOverWriteable.write_to.Goals as goal
 
 pub copy_text-requires-clause-zeros : goal.copy_text-requires-clause-zeros
-copy_text-requires-clause-zeros g c = zeros_first 64 c.min.result
+copy_text-requires-clause-zeros g c = zeros_first 64 c.min.result (omega (arith, c.min.ensures))
 
 pub loop-written-preserved : goal.loop-written-preserved
 loop-written-preserved g c =
@@ -33,16 +30,6 @@ returns-in_err-put_bytes-clause-err g c =
     (wrote_part _ _ _ (text c.args.self.now) c.copy_text.new.places c.loop-written.written _
     (omega (arith, few, c.min.ensures, c.writeable_length_hint-length.ensures.length)) c.copy_text.ensures
     c.loop-written.invariant.appended c.in_err-put_bytes.ensures.prefix)
-
-pub returns-in_err-put_bytes-clause-reads_back : goal.returns-in_err-put_bytes-clause-reads_back
-returns-in_err-put_bytes-clause-reads_back g c = read_text c.args.self.now c.writeable_length_hint-length.ensures.valid
-
-pub returns-clause-reads_back : goal.returns-clause-reads_back
-returns-clause-reads_back g c = read_text c.args.self.now c.writeable_length_hint-length.ensures.valid
-
-pub returns-then-length-le-FEW-clause-reads_back : goal.returns-then-length-le-FEW-clause-reads_back
-returns-then-length-le-FEW-clause-reads_back g c =
-    read_text c.args.self.now c.writeable_length_hint-length.ensures.valid
 
 pub returns-in_err-put_bytes-clause-stays : goal.returns-in_err-put_bytes-clause-stays
 returns-in_err-put_bytes-clause-stays g c =

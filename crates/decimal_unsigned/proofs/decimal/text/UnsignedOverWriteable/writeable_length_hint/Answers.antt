@@ -1,5 +1,4 @@
-use Rattle.std.proofs.Common.{◌+◌, sym, ◌∙◌, ap, arith}
-use Rattle.std.proofs.lemmas.Int.{ints}
+use Rattle.decimal_unsigned.proofs.Common.{◌+◌, sym, ◌∙◌, ap, arith, ints}
 use Rattle.decimal_unsigned.proofs.Values.{counted}
 use Rattle.decimal_unsigned.proofs.Lengths.{length-text_whole, length-text_dotted, text_short}
 use Rattle.decimal_unsigned.proofs.decimal.text.UnsignedOverWriteable.writeable_length_hint.Goals as goal

@@ -1,7 +1,6 @@
-use Rattle.std.proofs.Common.{◌≡◌, ℕ, ◌≤◌, length, get_or}
-use Rattle.decimal_unsigned.specs.Parts.{view}
+use Rattle.decimal_unsigned.proofs.Common.{◌≡◌, ℕ, ◌<◌, ◌≤◌, length, get_or, view}
 use Rattle.decimal_unsigned.specs.Placing.{digits_of}
-use Rattle.decimal_unsigned.proofs.decimal.parse.parts.Parts.end.Given as goal
+use Rattle.decimal_unsigned.proofs.decimal.parse.parts.Parts.kept_range.Given as goal
 
 abbrev pub invariant-loop-end : goal.invariant-loop-end
 invariant-loop-end l = record {
@@ -11,3 +10,6 @@ invariant-loop-end l = record {
 
 abbrev pub decreases-loop-end : goal.decreases-loop-end
 decreases-loop-end l = l.end
+
+abbrev pub invariant-loop-start : goal.invariant-loop-start
+invariant-loop-start l = (k : ℕ) → k < l.start → get_or (digits_of (view l.self)) k 0 ≡ 0

@@ -1,0 +1,48 @@
+-- The names that several proofs of this crate cite, passed on from one place. Declares nothing.
+pub use Rattle.decimal_digits.proofs.DigitLists.{below_drop, below_take, number_back, number_split, ten_pos}
+pub use Rattle.decimal_digits.proofs.Ends.{first_is, first_zero, no_more_zeros}
+pub use Rattle.decimal_digits.proofs.FrontBytes.{below_sixteen}
+pub use Rattle.decimal_digits.proofs.Leading.{leading_none}
+pub use Rattle.decimal_digits.proofs.Places.{gap_is, place_is}
+pub use Rattle.decimal_digits.proofs.Tails.{unit_pos}
+pub use Rattle.decimal_digits.specs.Digits.{number_at, number_of}
+pub use Rattle.decimal_digits.specs.Number.{IsLast, digit, first, last, magnitude_at, number_limit, place, size, weight}
+pub use Rattle.decimal_digits.specs.Rounding.{rounded_number, unit_at}
+pub use Rattle.decimal_digits.specs.Tails.{leading}
+pub use Rattle.decimal_digits.specs.declared.rounding.RoundError.{RoundError}
+pub use Rattle.decimal_digits.specs.declared.rounding.RoundingIncrement.{RoundingIncrement}
+pub use Rattle.decimal_digits.specs.declared.rounding.RoundingIncrement.TheVariants.{MultiplesOf1}
+pub use Rattle.decimal_digits.specs.declared.rounding.UnsignedRoundingMode.{UnsignedRoundingMode}
+pub use Rattle.decimal_digits.specs.declared.rounding.UnsignedRoundingMode.TheVariants.{Trunc}
+pub use Rattle.decimal_unsigned.specs.EditLaws.{PartsJoin, trunced}
+pub use Rattle.decimal_unsigned.specs.Edits.{leaves_limits, multiplied, with_max_position}
+pub use Rattle.decimal_unsigned.specs.Fields.{IsStored}
+pub use Rattle.decimal_unsigned.specs.Grammar.{Grammar, Written}
+pub use Rattle.decimal_unsigned.specs.Parts.{view}
+pub use Rattle.decimal_unsigned.specs.Placing.{IsInner, middle}
+pub use Rattle.decimal_unsigned.specs.Reading.{is_outside, limit, mantissa, parts_of, read, scaled, value_of}
+pub use Rattle.decimal_unsigned.specs.Rounded.{IsRounded, rounded, with_number}
+pub use Rattle.decimal_unsigned.specs.Text.{text}
+pub use Rattle.decimal_unsigned.specs.Unsigned.{IsValue, Unsigned}
+pub use Rattle.std.proofs.Common.{Bool, List, [], ap, append-nil, arith, cond, drop, false, get_or, inl, inr, length, map, min, nat_lt, of_z, refl, replicate, rules, subst, suc, sym, take, to_z, true, w16, zero, ℕ, ◌%◌, ◌&&◌, ◌*◌, ◌++◌, ◌+◌, ◌-◌, ◌/◌, ◌<◌, ◌==◌, ◌^◌, ◌||◌, ◌∙◌, ◌∷◌, ◌≡◌, ◌≤◌, ◌⊎◌}
+pub use Rattle.std.proofs.Math.Nat.{mod-eq_of_lt, mod-lt, mul-le-mul_right, mul-lt-mul_of_pos_right, mul-mod_left, pow-le-pow_right, pow-suc}
+pub use Rattle.std.proofs.lemmas.Bool.{cases_lt}
+pub use Rattle.std.proofs.lemmas.Bool.Decides.{nat_tests}
+pub use Rattle.std.proofs.lemmas.Int.{by_lt_z, clamps, ints, to_z-of_z}
+pub use Rattle.std.proofs.lemmas.Int.Digits.{digits_value_is, number_lt}
+pub use Rattle.std.proofs.lemmas.List.{get_or-drop, get_or-take, length-append, length-drop, length-map, length-replicate, length-take, length-take-le, take-append-drop, take_all}
+pub use Rattle.std.proofs.lemmas.List.Elements.{recursion_from_All}
+pub use Rattle.std.proofs.lemmas.Nat.{pow-add}
+pub use Rattle.std.proofs.lemmas.Option.{none-some}
+pub use Rattle.std.specs.Char.{digit_value, is_ascii_digit}
+pub use Rattle.std.specs.Cmp.Lexicographic.{slice_cmp}
+pub use Rattle.std.specs.Fmt.{HasWrittenStyled}
+pub use Rattle.std.specs.Int.{int_gap, int_max, int_min}
+pub use Rattle.std.specs.Int.Digits.{AllBelowBase, number_from_digits}
+pub use Rattle.std.specs.Io.KnownBytes.{Appends}
+pub use Rattle.std.specs.List.{prefix_len}
+pub use Rattle.std.specs.Option.{unwrap_or}
+pub use Rattle.std.specs.Ordering.{nat_cmp}
+pub use Rattle.std.specs.Prelude.{All, Err, None, Ok, Option, Result, Some, int_lt, negsuc, option_map, pos, ℤ, ◌+ℤ◌, ◌-ℤ◌, ◌<ℤ◌, ◌≤ℤ◌}
+pub use Rattle.std.specs.Str.{all_ascii_digits}
+pub use Rattle.std.specs.Str.Parse.{AllDigits, digits_value, digits_value_after}
