@@ -14,7 +14,7 @@ use Rattle.plural_rules.specs.RulesGrammar.{Grammar}
 use Rattle.plural_rules.specs.RulesReader.{no_rules, Partial, after, next, at_end, limit}
 use Rattle.plural_rules.specs.RulesBuilder.{partial, IsSmall}
 use Rattle.plural_rules.specs.RulesRefusal.{Fits}
-use Rattle.plural_rules.proofs.RulesRun.{allowed, move_on, run, finish, finished, run_more, FitsSoFar, in_64_bits, reached_fits}
+use Rattle.plural_rules.proofs.RulesRun.{allowed, move_on, run, finish, finished, run_more, FitsSoFar, in_64_bits}
 use Rattle.plural_rules.proofs.RulesRead.{grammar_is_read}
 use Rattle.plural_rules.proofs.RulesAlive.{stopped}
 

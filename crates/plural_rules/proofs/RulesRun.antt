@@ -91,19 +91,6 @@ was_allowed : (a : Bool) (y : Reached) (x : State × Partial) → cond a y None 
 was_allowed true y x h = (refl, h)
 was_allowed false y x h = absurd (cc)
 
-pub any_run : (text : List ℕ) (s : State) (p : Partial) (x : State × Partial) → run true s p text ≡ Some x
-    → run false s p text ≡ Some x
-any_run [] s p x h = h
-any_run (c ∷ text) s p x h = go (any_run text) (next p.seen s c) h
-  where
-    go : ((s : State) (p : Partial) (x : State × Partial) → run true s p text ≡ Some x → run false s p text ≡ Some x)
-        → (m : Move) → move_on true m p (λ s q. run true s q text) ≡ Some x
-        → move_on false m p (λ s q. run false s q text) ≡ Some x
-    go ih None h = h
-    go ih (Some move) h =
-        moves false (Some move) move.0 move.1 p (λ s q. run false s q text) refl (any_allowed move.1 p)
-        ∙ ih move.0 (after move.1 p) x (was_allowed (allowed true move.1 p) _ x h).1
-
 -- all that was read so far fits
 abbrev pub FitsSoFar : Partial → Type 0
 FitsSoFar p =
@@ -171,22 +158,28 @@ fits_on event.End p h a =
     (alternative_ends (after event.And p) (relation_ends (end_range p) (range_ends p h)))
 fits_on event.EndOther p h a = rule_ends p h
 
-run_fits : (text : List ℕ) (s : State) (p : Partial) (x : State × Partial) → FitsSoFar p → run true s p text ≡ Some x
-    → FitsSoFar x.1
-run_fits [] s p x f h = let same : ◌≡◌ {A = State × Partial} (s, p) x = cc in rw (← same) f
-run_fits (c ∷ text) s p x f h = go (run_fits text) (next p.seen s c) h
+-- what is read strictly fits, and is read
+strict_run : (text : List ℕ) (s : State) (p : Partial) (x : State × Partial) → FitsSoFar p
+    → run true s p text ≡ Some x → FitsSoFar x.1 × (run false s p text ≡ Some x)
+strict_run [] s p x f h = let same : ◌≡◌ {A = State × Partial} (s, p) x = cc in (rw (← same) f, h)
+strict_run (c ∷ text) s p x f h = go (strict_run text) (next p.seen s c) h
   where
-    go : ((s : State) (p : Partial) (x : State × Partial) → FitsSoFar p → run true s p text ≡ Some x → FitsSoFar x.1)
-        → (m : Move) → move_on true m p (λ s q. run true s q text) ≡ Some x → FitsSoFar x.1
+    go : ((s : State) (p : Partial) (x : State × Partial) → FitsSoFar p → run true s p text ≡ Some x
+        → FitsSoFar x.1 × (run false s p text ≡ Some x))
+        → (m : Move) → move_on true m p (λ s q. run true s q text) ≡ Some x
+        → FitsSoFar x.1 × (move_on false m p (λ s q. run false s q text) ≡ Some x)
     go ih None h = absurd (cc)
     go ih (Some move) h =
         let was = was_allowed (allowed true move.1 p) _ x h in
-        ih move.0 (after move.1 p) x (fits_on move.1 p f was.0) was.1
+        let rest = ih move.0 (after move.1 p) x (fits_on move.1 p f was.0) was.1 in
+        let any = moves false (Some move) move.0 move.1 p (λ s q. run false s q text) refl (any_allowed move.1 p) in
+        (rest.0, any ∙ rest.1)
 
-pub reached_fits : (text : List ℕ) (s : State) (p : Partial)
-    → run true state.Category no_rules text ≡ Some (s, p) → FitsSoFar p
-reached_fits text s p h =
-    run_fits text state.Category no_rules (s, p) (tt, tt, tt, tt, tt, tt, omega arith) h
+pub reached_strictly : (text : List ℕ) (s : State) (p : Partial)
+    → run true state.Category no_rules text ≡ Some (s, p)
+    → FitsSoFar p × (run false state.Category no_rules text ≡ Some (s, p))
+reached_strictly text s p h =
+    strict_run text state.Category no_rules (s, p) (tt, tt, tt, tt, tt, tt, omega arith) h
 
 -- what holds of the three events at the end of a text
 pub at_end_all : (P : Event → Type 0) → P event.EndOther → P event.End → P event.Nothing → (s : State) (e : Event)
@@ -215,7 +208,6 @@ read_fits text rules h = go (run true state.Category no_rules text) refl h
     go : (x : Reached) → run true state.Category no_rules text ≡ x → finish x ≡ Some rules
         → Fits rules × (read false state.Category no_rules text ≡ Some rules)
     go None is h = absurd (cc)
-    go (Some x) is h = (
-      ended x.0 x.1 (reached_fits text x.0 x.1 is) (at_end x.0) refl h,
-      ap finish (any_run text state.Category no_rules x is) ∙ h,
-    )
+    go (Some x) is h =
+        let strictly = reached_strictly text x.0 x.1 is in
+        (ended x.0 x.1 strictly.0 (at_end x.0) refl h, ap finish strictly.1 ∙ h)

@@ -21,11 +21,12 @@ pub(super) fn integer<D: DigitStore>(
     let mut found: u64 = 0;
     for below in 0..count {
         let magnitude = lowered(top, below);
-        let digit = value.digit_at(magnitude) as u64;
-        found = found.checked_mul(10)?.checked_add(digit)?;
-        if found > most {
+        let digit = value.digit_at(magnitude);
+        let longer = found as u128 * 10 + digit as u128;
+        if longer > most as u128 {
             return None;
         }
+        found = longer as u64;
     }
     Some(found)
 }

@@ -139,24 +139,6 @@ impl Builder {
         Ok(())
     }
 
-    /// Ends a range and the relation around it.
-    fn end_ranges(&mut self) -> Result<(), AllocError>
-        ensures { OnOk result ((seen : Categories) → partial seen self.new
-            ≡ reader.end_relation (reader.end_range (partial seen self.old))) }
-    {
-        self.end_range()?;
-        self.end_relation()
-    }
-
-    /// Ends a range, and the relation and the alternative around it.
-    fn end_relations(&mut self) -> Result<(), AllocError>
-        ensures { OnOk result ((seen : Categories) → partial seen self.new
-            ≡ reader.end_alternative (reader.end_relation (reader.end_range (partial seen self.old)))) }
-    {
-        self.end_ranges()?;
-        self.end_alternative()
-    }
-
     /// Takes what a byte says. Err: memory was refused.
     pub fn take(&mut self, event: Event) -> Result<(), AllocError>
         requires { IsSmall event self.old }
@@ -195,10 +177,19 @@ impl Builder {
                 Ok(())
             }
             Event::Comma => self.end_range(),
-            Event::And => self.end_ranges(),
-            Event::Or => self.end_relations(),
+            Event::And => {
+                self.end_range()?;
+                self.end_relation()
+            }
+            Event::Or => {
+                self.end_range()?;
+                self.end_relation()?;
+                self.end_alternative()
+            }
             Event::End => {
-                self.end_relations()?;
+                self.end_range()?;
+                self.end_relation()?;
+                self.end_alternative()?;
                 self.end_rule()
             }
             Event::EndOther => self.end_rule(),

@@ -2,7 +2,7 @@ use Rattle.std.proofs.Common.{◌≡◌, take, get_or, sym, ◌∙◌, ap}
 use Rattle.std.specs.Prelude.{Some, None}
 use Rattle.plural_rules.specs.RulesReader.{next, after, at_end, seen_after}
 use Rattle.plural_rules.specs.RulesBuilder.{partial, IsSmall}
-use Rattle.plural_rules.proofs.RulesRun.{finished, at_end_all, reached_fits}
+use Rattle.plural_rules.proofs.RulesRun.{finished, at_end_all, reached_strictly}
 use Rattle.plural_rules.proofs.RulesBuilt.{moves_on, goes_on, ends, small}
 use Rattle.plural_rules.proofs.parse.build.Goals as goal
 
@@ -19,9 +19,9 @@ take-requires c =
     let more = goes_on c.args.text.now c.loop-byte.byte-index c.loop-byte.state
     (partial c.loop-byte.seen c.loop-byte.builder) c.requires.0 c.requires.1 c.requires.2 c.loop-byte.invariant
     c.in-Some.next c.in-Some.event c.loop-byte-test.true to in
-    let fits = reached_fits (take c.loop-byte.byte-index c.args.text.now) c.loop-byte.state
+    let strictly = reached_strictly (take c.loop-byte.byte-index c.args.text.now) c.loop-byte.state
     (partial c.loop-byte.seen c.loop-byte.builder) c.loop-byte.invariant in
-    small c.in-Some.event c.loop-byte.seen c.loop-byte.builder fits more.0
+    small c.in-Some.event c.loop-byte.seen c.loop-byte.builder strictly.0 more.0
 
 pub loop-byte-preserved : goal.loop-byte-preserved
 loop-byte-preserved c =
