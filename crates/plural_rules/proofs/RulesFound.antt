@@ -24,7 +24,7 @@ use Rattle.plural_rules.specs.RulesGrammar.{is_blank, operand_word, BeginsWithNo
 use Rattle.plural_rules.specs.RulesReader as reader
 use Rattle.plural_rules.specs.RulesReader.{has, with, is_full, no_categories, Move, Partial, no_rules, after, next, follows_range, condition_of, modulus_state}
 use Rattle.plural_rules.proofs.RulesRun.{any_allowed, move_on, finish, run, read}
-use Rattle.plural_rules.proofs.RulesRead.{IsFresh, AreFresh, digit_is, grows, is_read, stays_read, grammar_is_any}
+use Rattle.plural_rules.proofs.RulesRead.{IsFresh, AreFresh, digit_is, grows, grammar_is_any}
 
 -- ---- What may stand behind each form.
 
@@ -231,11 +231,31 @@ alternatives_from seen {rest = rest} {rs} first (no_or behind) = (rs ∷ [], res
 alternatives_from seen {rs = rs} first (or_more {rest = rest} {more} jt list behind) =
     (rs ∷ more, rest, g.or first jt list, behind)
 
+-- a category that is new after another one was so before, and is not that one
+older : (seen : Categories) (c d : PluralCategory) → has (with seen c) d ≡ false → (has seen d ≡ false) × (d ≢ c)
+older seen category.Zero category.Zero h = absurd (false≢true (sym h))
+older seen category.One category.One h = absurd (false≢true (sym h))
+older seen category.Two category.Two h = absurd (false≢true (sym h))
+older seen category.Few category.Few h = absurd (false≢true (sym h))
+older seen category.Many category.Many h = absurd (false≢true (sym h))
+older seen category.Other category.Other h = absurd (false≢true (sym h))
+older seen c d h = (h, λ e. cc)
+
+fresh_before : (seen : Categories) (k : PluralCategory) (rs : List RuleParts)
+    → AllByRecursion (λ r. IsFresh (with seen k) r.category) rs
+    → AllByRecursion (λ r. IsFresh seen r.category) rs × AllByRecursion (λ r. r.category ≢ k) rs
+fresh_before seen k [] h = (tt, tt)
+fresh_before seen k (r ∷ rs) h =
+    let others = fresh_before seen k rs h.1 in
+    let one = older seen k r.category h.0 in
+    ((one.0, others.0), (one.1, others.1))
+
 rules_from : (seen : Categories) (k : PluralCategory) (alternatives : List (List RelationParts)) {text rest : List ℕ}
     → IsFresh seen k → g.OneRule text (rule k alternatives) rest → BehindRule (with seen k) rest → Ruled seen text
-rules_from seen k alternatives fresh one ended = (rule k alternatives ∷ [], g.last one, (fresh, tt))
-rules_from seen k alternatives fresh one (further {more = more} tok others fresh_others) =
-    (rule k alternatives ∷ more, g.semicolon one tok others, (fresh, fresh_others))
+rules_from seen k alternatives fresh one ended = (rule k alternatives ∷ [], g.last one, ((fresh, tt), (tt, tt)))
+rules_from seen k alternatives fresh one (further {more = more} tok others later) =
+    let new = fresh_before seen k more later.0 in
+    (rule k alternatives ∷ more, g.semicolon one tok others, ((fresh, new.0), (new.1, later.1)))
 
 conditioned : (seen : Categories) (k : PluralCategory) {text colon begin : List ℕ} → IsFresh seen k
     → g.Token (name_of k) text colon → g.Token (codes ":") colon begin → Conjoined (with seen k) begin
@@ -609,23 +629,6 @@ found : (meaning : List RuleParts) (text : List ℕ) (s : State) (p : Partial) �
 found meaning [] s p h = at_the_end meaning s p h
 found meaning (c ∷ t) s p h = one_byte meaning c t (found meaning t) p s h
 
--- rules whose categories are new stand for different ones
-others_differ :
-    (seen : Categories) (k : PluralCategory) (rs : List RuleParts) → has seen k ≡ true → AreFresh seen rs
-    → AllByRecursion (λ r. r.category ≢ k) rs
-others_differ seen k [] was h = tt
-others_differ seen k (r ∷ rs) was h = (
-  λ e. false≢true (sym (h.0) ∙ ap (has seen) e ∙ was),
-  others_differ (with seen r.category) k rs (stays_read seen r.category k was) h.1,
-)
-
-no_two : (seen : Categories) (rs : List RuleParts) → AreFresh seen rs → HasNoTwo rs
-no_two seen [] h = tt
-no_two seen (r ∷ rs) h = (
-  others_differ (with seen r.category) r.category rs (is_read seen r.category) h.1,
-  no_two (with seen r.category) rs h.1,
-)
-
 -- what is read is in the grammar, with this meaning
 pub read_is_in_grammar :
     {text : List ℕ} {meaning : List RuleParts} → read false state.Category no_rules text ≡ Some meaning
@@ -633,8 +636,9 @@ pub read_is_in_grammar :
 read_is_in_grammar {text} {meaning} h =
     let i = found meaning text state.Category no_rules h in
     let r = i.2 in
+    let fresh = r.2 in
     let grammar : Grammar text r.0 =
-    record { begin = i.0; blanks = i.1; rules = r.1; distinct = no_two no_categories r.0 r.2 } in
+    record { begin = i.0; blanks = i.1; rules = r.1; distinct = fresh.1 } in
     let same : r.0 ≡ meaning = some_is_some (sym (grammar_is_any grammar) ∙ h) in
     rw (← same) grammar
   where

@@ -121,20 +121,16 @@ module _ {s : State} {seen : Categories} {c : ℕ} where
 blank_is_no_digit : (c : ℕ) → is_blank c ≡ true → not (is_ascii_digit c) ≡ true
 blank_is_no_digit c h = let is : is_ascii_digit c ≡ false = grind (arith, nat_tests) in rw is refl
 
--- the state behind a digit of a modulus is one of two
+-- the state behind a digit of a modulus is one of two, and so is that behind a colon
 modulus_fine : (P : State → Type 0) (b : Bool) → P state.Zeros → P state.ModulusDigits
     → P (cond b state.Zeros state.ModulusDigits)
 modulus_fine P true h i = h
 modulus_fine P false h i = i
 
-fine_condition : (k : PluralCategory) (n : ℕ) (b : Bool)
-    → is_fine (state.Letters k n) (event.Category k) (reader.condition_of k) b ≡ true
-fine_condition category.Zero n b = refl
-fine_condition k n b = refl
-
-open_condition : (seen : Categories) (k : PluralCategory) → is_open seen (reader.condition_of k) ≡ true
-open_condition seen category.Zero = refl
-open_condition seen k = refl
+condition_fine : (P : State → Type 0) (k : PluralCategory) → P state.Operand → P state.OtherCondition
+    → P (reader.condition_of k)
+condition_fine P category.Other h i = i
+condition_fine P k h i = h
 
 fine_next : (seen : Categories) (s : State) (c : ℕ) → Fine s seen c (next seen s c)
 fine_next seen state.Category c =
@@ -150,8 +146,9 @@ fine_next seen (state.Letters k n) c =
     fine_if (nat_lt n (length (name_of k)))
     (fine_only (get_or (name_of k) n 0) (state.Letters k (n + 1)) event.Nothing (λ b. refl) (λ o. refl))
     (fine_skip (state.Letters k n) (λ b. refl) (λ o. refl)
-    (fine_only 58 (reader.condition_of k) (event.Category k) (λ b. fine_condition k n (is_ascii_digit c))
-    (λ o. open_condition (with seen k) k)))
+    (condition_fine (λ t. Fine (state.Letters k n) seen c (reader.only 58 c t (event.Category k))) k
+    (fine_only 58 state.Operand (event.Category k) (λ b. refl) (λ o. refl))
+    (fine_only 58 state.OtherCondition (event.Category k) (λ b. refl) (λ o. refl))))
 fine_next seen state.OtherCondition c =
     fine_skip state.OtherCondition (λ b. refl) (λ o. refl)
     (fine_if (c == 59 || c == 64) (fine_rule_end event.EndOther refl refl refl)

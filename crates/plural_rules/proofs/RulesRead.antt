@@ -111,8 +111,7 @@ IsFresh seen c = has seen c ≡ false
 
 -- no category stands twice, and none was there before
 abbrev pub AreFresh : Categories → List RuleParts → Type 0
-AreFresh seen [] = Unit {0}
-AreFresh seen (r ∷ rs) = IsFresh seen r.category × AreFresh (with seen r.category) rs
+AreFresh seen rs = AllByRecursion (λ r. IsFresh seen r.category) rs × HasNoTwo rs
 
 -- the state behind a category's name
 abbrev pub colon : PluralCategory → State
@@ -150,19 +149,41 @@ pub record Ended (s : State) (e : Event) (p : Partial) (rules : List RuleParts) 
   pub seen_is : p.seen ≡ seen
   pub seen_stays : (after e p).seen ≡ seen
 
+-- a category is still new after another one
+stays_new :
+    (seen : Categories) (c d : PluralCategory) → d ≢ c → has seen d ≡ false → has (with seen c) d ≡ false
+stays_new seen category.Zero category.Zero ne h = absurd (ne refl)
+stays_new seen category.One category.One ne h = absurd (ne refl)
+stays_new seen category.Two category.Two ne h = absurd (ne refl)
+stays_new seen category.Few category.Few ne h = absurd (ne refl)
+stays_new seen category.Many category.Many ne h = absurd (ne refl)
+stays_new seen category.Other category.Other ne h = absurd (ne refl)
+stays_new seen c d ne h = h
+
+all_stay_new :
+    (seen : Categories) (c : PluralCategory) (rs : List RuleParts)
+    → AllByRecursion (λ other. other.category ≢ c) rs → AllByRecursion (λ r. IsFresh seen r.category) rs
+    → AllByRecursion (λ r. IsFresh (with seen c) r.category) rs
+all_stay_new seen c [] others h = tt
+all_stay_new seen c (r ∷ rs) others h =
+    (stays_new seen c r.category others.0 h.0, all_stay_new seen c rs others.1 h.1)
+
+stay_fresh : (seen : Categories) (r : RuleParts) (rs : List RuleParts) → AreFresh seen (r ∷ rs)
+    → AreFresh (with seen r.category) rs
+stay_fresh seen r rs h =
+    let new = h.0 in
+    let none = h.1 in
+    (all_stay_new seen r.category rs none.0 new.1, none.1)
+
 -- where a category is new, not all are there
 not_full : (seen : Categories) (c : PluralCategory) → IsFresh seen c → is_full seen ≡ false
 not_full seen category.Zero h = rw h refl
-not_full seen category.One h = grind (arith, h)
-not_full seen category.Two h = grind (arith, h)
-not_full seen category.Few h = grind (arith, h)
-not_full seen category.Many h = grind (arith, h)
-not_full seen category.Other h = grind (arith, h)
+not_full seen c h = grind (arith, h)
 
 first_fresh : (seen : Categories) (text : List ℕ) (rs : List RuleParts) → g.AllRules text rs → AreFresh seen rs
     → is_full seen ≡ false
 first_fresh seen text [] is h = elim is [ ]
-first_fresh seen text (r ∷ rs) is h = not_full seen r.category h.0
+first_fresh seen text (r ∷ rs) is h = let new = h.0 in not_full seen r.category new.0
 
 -- the operand that a condition begins with
 abbrev Begins : List ℕ → Type 0
@@ -588,63 +609,24 @@ module _ (strict : Bool) where
       {text : List ℕ} {rs : List RuleParts} → g.AllRules text rs → (p : Partial) → (strict ≡ true → Fits rs)
       → AreFresh p.seen rs → read strict state.Category p text ≡ Some (p.rules ++ rs)
   all_rules (g.last {r} {text} one) p fits fresh =
-      one_rule one p (Some (p.rules ++ r ∷ [])) (λ e. (fits e).0) fresh.0 (λ s e q ended.
+      let new = fresh.0 in
+      one_rule one p (Some (p.rules ++ r ∷ [])) (λ e. (fits e).0) new.0 (λ s e q ended.
       ap (λ m. finished m q) ended.may_end.0 ∙ ap Some ended.rules_are)
   all_rules (g.semicolon {r} {rs} {text} {semicolon} {behind} one (g.token after_semicolon is blanks) others) p fits
       fresh =
-      one_rule one p (Some (p.rules ++ r ∷ rs)) (λ e. (fits e).0) fresh.0 (λ s e q ended.
+      let new = fresh.0 in
+      let later = stay_fresh p.seen r rs fresh in
+      one_rule one p (Some (p.rules ++ r ∷ rs)) (λ e. (fits e).0) new.0 (λ s e q ended.
       let full : is_full q.seen ≡ false =
-      ap is_full ended.seen_is ∙ first_fresh (with p.seen r.category) behind rs others fresh.1 in
+      ap is_full ended.seen_is ∙ first_fresh (with p.seen r.category) behind rs others later in
       let to : next q.seen s 59 ≡ Some (state.Category, e) = ended.may_end.1 q.seen ∙ rw full refl in
-      let fresh2 : AreFresh (after e q).seen rs = rw ended.seen_stays fresh.1 in
+      let fresh2 : AreFresh (after e q).seen rs = rw ended.seen_stays later in
       ap (read strict s q) is
       ∙ step s q 59 after_semicolon state.Category e to (ended.is_allowed strict)
       ∙ skips state.Category (λ seen c b. rw b refl) blanks (after e q)
       ∙ all_rules others (after e q) (λ e. (fits e).1) fresh2
       ∙ ap (λ front. Some (front ++ rs)) ended.rules_are
       ∙ ap Some (append_assoc p.rules (r ∷ []) rs))
-
--- ---- Categories that stand once.
-
--- a category is still new after another one
-stays_new :
-    (seen : Categories) (c d : PluralCategory) → d ≢ c → has seen d ≡ false → has (with seen c) d ≡ false
-stays_new seen category.Zero category.Zero ne h = absurd (ne refl)
-stays_new seen category.One category.One ne h = absurd (ne refl)
-stays_new seen category.Two category.Two ne h = absurd (ne refl)
-stays_new seen category.Few category.Few ne h = absurd (ne refl)
-stays_new seen category.Many category.Many ne h = absurd (ne refl)
-stays_new seen category.Other category.Other ne h = absurd (ne refl)
-stays_new seen c d ne h = h
-
-pub is_read : (seen : Categories) (c : PluralCategory) → has (with seen c) c ≡ true
-is_read seen category.Zero = refl
-is_read seen c = refl
-
--- and one that was read stays so
-pub stays_read : (seen : Categories) (c d : PluralCategory) → has seen d ≡ true → has (with seen c) d ≡ true
-stays_read seen category.Zero category.Zero h = refl
-stays_read seen category.One category.One h = refl
-stays_read seen category.Two category.Two h = refl
-stays_read seen category.Few category.Few h = refl
-stays_read seen category.Many category.Many h = refl
-stays_read seen category.Other category.Other h = refl
-stays_read seen c d h = h
-
-all_stay_new :
-    (seen : Categories) (c : PluralCategory) (rs : List RuleParts)
-    → AllByRecursion (λ other. other.category ≢ c) rs → AllByRecursion (λ r. IsFresh seen r.category) rs
-    → AllByRecursion (λ r. IsFresh (with seen c) r.category) rs
-all_stay_new seen c [] others h = tt
-all_stay_new seen c (r ∷ rs) others h =
-    (stays_new seen c r.category others.0 h.0, all_stay_new seen c rs others.1 h.1)
-
-fresh_if_no_two :
-    (seen : Categories) (rs : List RuleParts) → HasNoTwo rs → AllByRecursion (λ r. IsFresh seen r.category) rs
-    → AreFresh seen rs
-fresh_if_no_two seen [] none h = tt
-fresh_if_no_two seen (r ∷ rs) none h =
-    (h.0, fresh_if_no_two (with seen r.category) rs none.1 (all_stay_new seen r.category rs none.0 h.1))
 
 none_read : (rs : List RuleParts) → AllByRecursion (λ r. IsFresh no_categories r.category) rs
 none_read [] = tt
@@ -659,7 +641,7 @@ pub grammar_is_read : (strict : Bool) {text : List ℕ} {rs : List RuleParts} �
     → (strict ≡ true → Fits rs) → read strict state.Category no_rules text ≡ Some rs
 grammar_is_read strict {text} {rs} h fits =
     skips strict state.Category (λ seen c b. rw b refl) h.blanks no_rules
-    ∙ all_rules strict h.rules no_rules fits (fresh_if_no_two no_categories rs h.distinct (none_read rs))
+    ∙ all_rules strict h.rules no_rules fits (none_read rs, h.distinct)
 
 pub grammar_is_any : {text : List ℕ} {rs : List RuleParts} → Grammar text rs
     → read false state.Category no_rules text ≡ Some rs
