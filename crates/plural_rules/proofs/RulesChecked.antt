@@ -1,6 +1,6 @@
 -- What the pass over the states knows of a text behind each byte.
-use Rattle.std.proofs.Common.{◌≡◌, ℕ, ◌+◌, ◌-◌, ◌*◌, ◌<◌, ◌≤◌, nat_le, Bool, true, false, not, cond, ◌&&◌, ◌||◌, List, ◌++◌, length, take, drop, get_or, refl, sym, ◌∙◌, ap, arith, inl, inr}
-use Rattle.std.specs.Prelude.{Option, Some, None}
+use Rattle.std.proofs.Common.{◌≡◌, ℕ, ◌+◌, ◌-◌, ◌*◌, ◌<◌, ◌≤◌, nat_le, Bool, true, false, not, cond, List, length, take, drop, get_or, refl, sym, ◌∙◌, ap, arith, inl, inr}
+use Rattle.std.specs.Prelude.{Some, None}
 use Rattle.std.specs.Char.{is_ascii_digit}
 use Rattle.std.proofs.lemmas.Bool.{and_parts, cases_lt, false≢true}
 use Rattle.std.proofs.lemmas.List.{take_all, take-append-drop}
@@ -11,12 +11,11 @@ use Rattle.plural_rules.specs.declared.parse.state.Event.TheVariants as event
 use Rattle.plural_rules.specs.declared.parse.state.Categories.{Categories}
 use Rattle.plural_rules.specs.declared.parse.numbers.Numbers.{Numbers}
 use Rattle.plural_rules.specs.declared.parse.numbers.Numbers.TheVariants.{Fit, Great}
-use Rattle.plural_rules.specs.Rules.{RuleParts}
 use Rattle.plural_rules.specs.RulesGrammar.{Grammar}
-use Rattle.plural_rules.specs.RulesReader.{no_categories, no_rules, Move, Partial, after, seen_after, next, at_end, limit, counted, numbers_after, AreNumbersOf}
-use Rattle.plural_rules.specs.RulesRefusal.{CanFit, Fits, AreDigits, IsBehindNoDigit, HasGreatNumber}
+use Rattle.plural_rules.specs.RulesReader.{no_categories, no_rules, Partial, after, seen_after, next, at_end, limit, counted, numbers_after, AreNumbersOf}
+use Rattle.plural_rules.specs.RulesRefusal.{CanFit, AreDigits, IsBehindNoDigit}
 use Rattle.plural_rules.proofs.RulesMoves.{is_open, starts_number, is_digits, is_fine, moves_so}
-use Rattle.plural_rules.proofs.RulesRun.{Reached, allowed, any_allowed, move_on, run, finish, finished, read, run_more, moves, read_fits}
+use Rattle.plural_rules.proofs.RulesRun.{allowed, any_allowed, move_on, run, finish, finished, read, run_more, moves, read_fits}
 use Rattle.plural_rules.proofs.RulesFound.{read_is_in_grammar}
 use Rattle.plural_rules.proofs.RulesAlive.{can_fit, stopped}
 

@@ -18,7 +18,7 @@ use Rattle.plural_rules.specs.declared.parse.state.State.TheVariants as state
 use Rattle.plural_rules.specs.declared.parse.state.Event.{Event}
 use Rattle.plural_rules.specs.declared.parse.state.Event.TheVariants as event
 use Rattle.plural_rules.specs.declared.parse.state.Categories.{Categories}
-use Rattle.plural_rules.specs.Rules.{name_of, RelationParts, relation, RuleParts, rule}
+use Rattle.plural_rules.specs.Rules.{name_of, RelationParts, RuleParts, rule}
 use Rattle.plural_rules.specs.RulesGrammar as g
 use Rattle.plural_rules.specs.RulesGrammar.{is_blank, operand_word, BeginsWithNoDigit, HasNoTwo, Grammar}
 use Rattle.plural_rules.specs.RulesReader as reader

@@ -1,5 +1,5 @@
 -- What is read of a text, byte by byte: of any text or, if strict, only as far as each number fits.
-use Rattle.std.proofs.Common.{◌≡◌, ℕ, ◌+◌, ◌-◌, ◌*◌, ◌^◌, ◌<◌, ◌≤◌, nat_le, nat_lt, Bool, true, false, not, cond, ◌&&◌, ◌||◌, List, [], ◌∷◌, ◌++◌, length, take, get_or, refl, sym, ◌∙◌, ap, arith}
+use Rattle.std.proofs.Common.{◌≡◌, ℕ, ◌+◌, ◌*◌, ◌^◌, ◌<◌, ◌≤◌, nat_le, nat_lt, Bool, true, false, not, cond, ◌&&◌, ◌||◌, List, [], ◌∷◌, ◌++◌, length, take, get_or, refl, ◌∙◌, ap, arith}
 use Rattle.std.specs.Prelude.{Option, Some, None, IfSome}
 use Rattle.std.specs.List.{AllByRecursion}
 use Rattle.std.proofs.lemmas.Bool.{leb-true}
@@ -9,7 +9,7 @@ use Rattle.plural_rules.specs.declared.parse.state.State.TheVariants as state
 use Rattle.plural_rules.specs.declared.parse.state.Event.{Event}
 use Rattle.plural_rules.specs.declared.parse.state.Event.TheVariants as event
 use Rattle.plural_rules.specs.Rules.{relation, RuleParts, rule}
-use Rattle.plural_rules.specs.RulesReader.{Move, Partial, no_rules, range_of, modulus_of, end_range, end_relation, end_alternative, end_rule, after, next, at_end, limit}
+use Rattle.plural_rules.specs.RulesReader.{Move, Partial, no_rules, range_of, end_range, end_relation, end_alternative, end_rule, after, next, at_end, limit}
 use Rattle.plural_rules.specs.RulesRefusal.{RangeFits, RelationFits, ConjunctionFits, RuleFits, Fits}
 
 -- what an event says may be read

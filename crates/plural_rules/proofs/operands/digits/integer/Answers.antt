@@ -1,4 +1,4 @@
-use Rattle.std.proofs.Common.{◌≡◌, ◌+◌, ◌^◌, ◌≤◌, w16, to_z, of_z, ◌∙◌, ap, arith}
+use Rattle.std.proofs.Common.{◌≡◌, ◌+◌, ◌≤◌, w16, to_z, of_z, ◌∙◌, ap, arith}
 use Rattle.plural_rules.specs.Parts.{part}
 use Rattle.std.proofs.lemmas.Int.{ints, to_z-of_z}
 use Rattle.decimal_digits.specs.Number.{place}
