@@ -1,7 +1,6 @@
 pub mod Parts
 pub mod Moved
 pub mod ByText
-pub mod Conditions
 pub mod RulesRun
 pub mod RulesRead
 pub mod RulesFound

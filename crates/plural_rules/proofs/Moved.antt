@@ -45,15 +45,6 @@ whole_of o x m c count is first_is low high small e =
       ],
     )
 
--- the digits from just below that magnitude down to another
-digits_to : (number : ℕ) (m lo : ℤ) (c count : ℕ)
-    → c < 256 → place m + 1 + c ≡ 32768 → negsuc 32767 ≤ℤ lo → c ≤ place lo → lo ≤ℤ pos 0 → count ≡ int_gap lo (pos 0)
-    → part number (place m + 1) count ≡ number * 10 ^ c / weight lo % 10 ^ int_gap lo (pos 0)
-digits_to number m lo c count small top low fits high e =
-    let p : place m + 1 - count ≡ place lo - c = omega (arith, ints, e, place_is lo, gap_is lo (pos 0)) in
-    (λ k. number / 10 ^ p k % 10 ^ e k)
-    ∙ ap (λ y. y % 10 ^ int_gap lo (pos 0)) (sym (shift_down number c (place lo) fits))
-
 -- the fraction digits of a value that has the digits of a number times a power of ten
 fraction_at : (y : Unsigned) (number : ℕ) (m : ℤ) (c count : ℕ) → number * 10 ^ c ≡ y.number → y.lo ≤ℤ pos 0
     → m ≡ negsuc c → c < 256 → count ≡ v y → count + c ≤ 32768
@@ -61,9 +52,12 @@ fraction_at : (y : Unsigned) (number : ℕ) (m : ℤ) (c count : ℕ) → number
 fraction_at y number m c count is high below small e few =
     let top : place m + 1 + c ≡ 32768 = omega (arith, ints, place_is m, below) in
     let low : negsuc 32767 ≤ℤ y.lo = omega (arith, ints, e, gap_is y.lo (pos 0)) in
-    let fits : c ≤ place y.lo = omega (arith, ints, e, gap_is y.lo (pos 0), place_is y.lo) in (
+    let fits : c ≤ place y.lo = omega (arith, ints, e, gap_is y.lo (pos 0), place_is y.lo) in
+    let p : place m + 1 - count ≡ place y.lo - c = omega (arith, ints, e, place_is y.lo, gap_is y.lo (pos 0)) in (
       omega (arith, top),
-      digits_to number m y.lo c count small top low fits high e ∙ ap (λ n. n / weight y.lo % 10 ^ v y) is,
+      (λ k. number / 10 ^ p k % 10 ^ e k)
+          ∙ ap (λ z. z % 10 ^ v y) (sym (shift_down number c (place y.lo) fits))
+          ∙ ap (λ n. n / weight y.lo % 10 ^ v y) is,
     )
 
 -- a remainder of a product with one factor of the modulus

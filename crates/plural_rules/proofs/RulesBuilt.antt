@@ -18,8 +18,8 @@ use Rattle.plural_rules.proofs.RulesRun.{allowed, move_on, run, finish, finished
 use Rattle.plural_rules.proofs.RulesRead.{grammar_is_read}
 use Rattle.plural_rules.proofs.RulesAlive.{stopped}
 
-module _ (text : List ℕ) (i : ℕ) (s : State) (p : Partial) (rules : List RuleParts) (grammar : Grammar text rules)
-    (fits : Fits rules) (runs : run true state.Category no_rules (take i text) ≡ Some (s, p)) where
+module _ (i : ℕ) {text : List ℕ} {rules : List RuleParts} (grammar : Grammar text rules) (fits : Fits rules)
+    {s : State} {p : Partial} (runs : run true state.Category no_rules (take i text) ≡ Some (s, p)) where
   never_stops : run true state.Category no_rules (take (i + 1) text) ≡ None → ⊥
   never_stops none =
       stopped true (take (i + 1) text) (drop (i + 1) text) rules none (rw (take-append-drop (i + 1) text) grammar)

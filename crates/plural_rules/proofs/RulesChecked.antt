@@ -160,10 +160,10 @@ module _ (text : List ℕ) (i : ℕ) (s : State) (p : Partial) (s2 : State) (les
   numbers_more e (Fit n is_modulus begin) to h = (run_on e to refl h.0, h.1, h.2, apart e to refl)
 
 pub checked_more :
-    (text : List ℕ) (i : ℕ) (s : State) (seen : Categories) (numbers : Numbers) (s2 : State) (e : Event)
+    {text : List ℕ} {i : ℕ} {s : State} {seen : Categories} {numbers : Numbers} (s2 : State) (e : Event)
     → i < length text → Checked text i s seen numbers → next seen s (get_or text i 0) ≡ Some (s2, e)
     → Checked text (i + 1) s2 (seen_after e seen) (numbers_after numbers i e)
-checked_more text i s seen numbers s2 e less h to =
+checked_more {text} {i} {s} {seen} {numbers} s2 e less h to =
     let to2 : next h.p.seen s (get_or text i 0) ≡ Some (s2, e) =
     ap (λ x. next x s (get_or text i 0)) h.seen_is ∙ to in
     let so = moves_so h.p.seen s (get_or text i 0) s2 e to2 in
@@ -183,9 +183,9 @@ checked_more text i s seen numbers s2 e less h to =
 
 -- a whole text that may end is rules, with these numbers
 pub checked_whole :
-    (text : List ℕ) (i : ℕ) (s : State) (seen : Categories) (numbers : Numbers) (e : Event) → length text ≤ i
+    {text : List ℕ} {i : ℕ} {s : State} {seen : Categories} {numbers : Numbers} (e : Event) → length text ≤ i
     → Checked text i s seen numbers → at_end s ≡ Some e → AreNumbersOf text numbers
-checked_whole text i s seen numbers e least h end = go numbers h.numbers_are
+checked_whole {text} {i} {s} {seen} {numbers} e least h end = go numbers h.numbers_are
   where
     all : take i text ≡ text
     all = take_all i text least

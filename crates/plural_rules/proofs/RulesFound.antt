@@ -521,6 +521,13 @@ module _ (meaning : List RuleParts) (c : ℕ) (t : List ℕ)
   comparison_here : Goes (reader.skip state.Comparison c (reader.comparison c)) → Spaced (Compared p.seen) (c ∷ t)
   comparison_here = on_skip (Compared p.seen) state.Comparison _ (λ i. i) compares
 
+  on_letter : (letter : ℕ) (letters : List ℕ) (s : State) → (At p.seen s t → AtBlank letters p.seen t)
+      → Goes (reader.only letter c s event.Nothing) → AtBlank (letter ∷ letters) p.seen (c ∷ t)
+  on_letter letter letters s same h =
+      let o = on_only letter s event.Nothing h in
+      let i = same (ih s p o.1) in
+      (i.0, i.1, front letter o.0 i.2, i.3, i.4)
+
   one_byte : (s : State) → Goes (next p.seen s c) → At p.seen s (c ∷ t)
   one_byte state.Category h = on_skip (Ruled p.seen) state.Category _ (λ i. i) category_here h
   one_byte state.One h = elim (on_if (c == 110) _ _ h) [
@@ -580,18 +587,9 @@ module _ (meaning : List RuleParts) (c : ℕ) (t : List ℕ)
       (digits_value 10 (c ∷ m.digits), i.0, number_of d.0 m, i.2)) h
   one_byte state.HighDigits h = on_digits (BehindRange p.seen) state.HighDigits _ (λ i. i) behind_high h
   one_byte state.BehindHigh h = behind_high h
-  one_byte state.And h =
-      let o = on_only 110 state.AndEnd event.Nothing h in
-      let i = ih state.AndEnd p o.1 in
-      (i.0, i.1, front 110 o.0 i.2, i.3, i.4)
-  one_byte state.AndEnd h =
-      let o = on_only 100 state.Blank event.Nothing h in
-      let i = ih state.Blank p o.1 in
-      (i.0, i.1, front 100 o.0 i.2, i.3, i.4)
-  one_byte state.OrEnd h =
-      let o = on_only 114 state.Blank event.Nothing h in
-      let i = ih state.Blank p o.1 in
-      (i.0, i.1, front 114 o.0 i.2, i.3, i.4)
+  one_byte state.And h = on_letter 110 (codes "d") state.AndEnd (λ i. i) h
+  one_byte state.AndEnd h = on_letter 100 [] state.Blank (λ i. i) h
+  one_byte state.OrEnd h = on_letter 114 [] state.Blank (λ i. i) h
   one_byte state.Blank h = elim (on_if (is_blank c) (Some (state.Operand, event.Nothing)) None h) [
     | inl b ↦ (c, t, refl, b.0, ih state.Operand p b.1)
     | inr b ↦ absurd (none_is_none b.1)

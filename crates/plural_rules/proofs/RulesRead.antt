@@ -44,10 +44,6 @@ grows from (d ∷ ds) =
     grows (from * 10 + digit_value d) ds in
     omega arith
 
--- in this state a first digit leads to that one
-abbrev pub Starts : State → State → Type 0
-Starts s t = (seen : Categories) (c : ℕ) → is_ascii_digit c ≡ true → next seen s c ≡ Some (t, event.First (c - 48))
-
 -- in this state a digit leads to it again
 abbrev pub Counts : State → Type 0
 Counts s = (seen : Categories) (c : ℕ) → is_ascii_digit c ≡ true → next seen s c ≡ Some (s, event.Digit (c - 48))
@@ -186,20 +182,12 @@ first_fresh seen text [] is h = elim is [ ]
 first_fresh seen text (r ∷ rs) is h = let new = h.0 in not_full seen r.category new.0
 
 -- the operand that a condition begins with
-abbrev Begins : List ℕ → Type 0
-Begins text = (o : Operand) × (behind : List ℕ) × g.Letter text o behind
-
-relation_begins : {text rest : List ℕ} {r : RelationParts} → g.Related text r rest → Begins text
-relation_begins (g.related {operand = o} {percent = percent} l d c rs) = (o, percent, l)
-
-conjunction_begins : {text rest : List ℕ} {rs : List RelationParts} → g.Conjunction text rs rest → Begins text
-conjunction_begins (g.Conjunction.one r) = relation_begins r
-conjunction_begins (g.and r word others) = relation_begins r
-
 begins : {text rest : List ℕ} {alternatives : List (List RelationParts)} → g.Condition text alternatives rest
-    → Begins text
-begins (g.Condition.one rs) = conjunction_begins rs
-begins (g.or rs word others) = conjunction_begins rs
+    → (o : Operand) × (behind : List ℕ) × g.Letter text o behind
+begins (g.Condition.one (g.Conjunction.one (g.related {operand = o} {percent = z} l d c rs))) = (o, z, l)
+begins (g.Condition.one (g.and (g.related {operand = o} {percent = z} l d c rs) word more)) = (o, z, l)
+begins (g.or (g.Conjunction.one (g.related {operand = o} {percent = z} l d c rs)) word others) = (o, z, l)
+begins (g.or (g.and (g.related {operand = o} {percent = z} l d c rs) jt more) word others) = (o, z, l)
 
 -- what is to come of a text
 abbrev Rest : Type 0
@@ -266,20 +254,24 @@ module _ (strict : Bool) where
       let same : d - 48 ≡ 0 * 10 + digit_value d = omega arith in
       ap (λ v. digits_value_after 10 v ds) same
 
+  -- a number in front of its blanks: its first digit leads to a state, where its further digits are read
   number :
-      (s0 s1 s2 : State) → Starts s0 s1 → Counts s1 → Leaves s1 s2 → Skips s2
-      → {text rest : List ℕ} {n : ℕ} → g.Number text n rest → (p : Partial) → May p n
+      (s0 s1 s2 : State) (to : ℕ → State)
+      → ((seen : Categories) (c : ℕ) → is_ascii_digit c ≡ true → next seen s0 c ≡ Some (to c, event.First (c - 48)))
+      → Leaves s1 s2 → Skips s2 → {text rest : List ℕ} {n : ℕ} → g.Number text n rest → (p : Partial) → May p n
+      → ((d : ℕ) (ds behind : List ℕ) → all_ascii_digits ds ≡ true → digits_value_after 10 (d - 48) ds ≡ n
+      → read strict (to d) (numbered p (d - 48)) (ds ++ behind)
+      ≡ read strict s1 (numbered p (digits_value_after 10 (d - 48) ds)) behind)
       → read strict s0 p text ≡ read strict s2 (numbered p n) rest
-  number s0 s1 s2 h0 h1 leaves skips2 (g.number [] behind e some all no_digit value blanks) p may =
+  number s0 s1 s2 to h0 leaves skips2 (g.number [] behind e some all no_digit value blanks) p may others =
       absurd (omega arith)
-  number s0 s1 s2 h0 h1 leaves skips2 {n = n} (g.number (d ∷ ds) behind e some all no_digit value blanks) p may =
+  number s0 s1 s2 to h0 leaves skips2 {n = n} (g.number (d ∷ ds) behind e some all no_digit value blanks) p may others =
       let parts = and_parts (is_ascii_digit d) (all_ascii_digits ds) all in
       let same : digits_value_after 10 (d - 48) ds ≡ n = value_is d ds parts.0 ∙ sym value in
-      let may_all : May p (digits_value_after 10 (d - 48) ds) = λ x. rw same (may x) in
       ap (read strict s0 p) e
-      ∙ step s0 p d (ds ++ behind) s1 (event.First (d - 48)) (h0 p.seen d parts.0)
-      (may_read strict _ _ (first_may p.is_divided (d - 48) ds may_all))
-      ∙ digits s1 h1 ds behind parts.1 (numbered p (d - 48)) may_all
+      ∙ step s0 p d (ds ++ behind) (to d) (event.First (d - 48)) (h0 p.seen d parts.0)
+      (may_read strict _ _ (first_may p.is_divided (d - 48) ds (λ x. rw same (may x))))
+      ∙ others d ds behind parts.1 same
       ∙ ap (λ v. read strict s1 (numbered p v) behind) same
       ∙ leaves (numbered p n) behind no_digit
       ∙ skips s2 skips2 blanks (numbered p n)
@@ -299,16 +291,20 @@ module _ (strict : Bool) where
   number_low :
       {text rest : List ℕ} {n : ℕ} → g.Number text n rest → (p : Partial) → May p n
       → read strict state.Low p text ≡ read strict state.BehindLow (numbered p n) rest
-  number_low =
-      number state.Low state.LowDigits state.BehindLow (λ seen c d. rw (digit_is_no_blank c d, d) refl)
-      (λ seen c d. rw d refl) leaves_low (λ seen c b. rw b refl)
+  number_low nm p may =
+      number state.Low state.LowDigits state.BehindLow (λ c. state.LowDigits)
+      (λ seen c d. rw (digit_is_no_blank c d, d) refl) leaves_low (λ seen c b. rw b refl) nm p may
+      (λ d ds behind all same. digits state.LowDigits (λ seen c d. rw d refl) ds behind all (numbered p (d - 48))
+      (λ x. rw same (may x)))
 
   number_high :
       {text rest : List ℕ} {n : ℕ} → g.Number text n rest → (p : Partial) → May p n
       → read strict state.High p text ≡ read strict state.BehindHigh (numbered p n) rest
-  number_high =
-      number state.High state.HighDigits state.BehindHigh (λ seen c d. rw (digit_is_no_blank c d, d) refl)
-      (λ seen c d. rw d refl) leaves_high (λ seen c b. rw b refl)
+  number_high nm p may =
+      number state.High state.HighDigits state.BehindHigh (λ c. state.HighDigits)
+      (λ seen c d. rw (digit_is_no_blank c d, d) refl) leaves_high (λ seen c b. rw b refl) nm p may
+      (λ d ds behind all same. digits state.HighDigits (λ seen c d. rw d refl) ds behind all (numbered p (d - 48))
+      (λ x. rw same (may x)))
 
   -- the digits of a modulus that is not 0, behind one that is 0 or not
   modulus_rest :
@@ -335,20 +331,11 @@ module _ (strict : Bool) where
   modulus :
       {text rest : List ℕ} {n : ℕ} → g.Number text n rest → 0 < n → (p : Partial) → May p n
       → read strict state.Modulus p text ≡ read strict state.Comparison (numbered p n) rest
-  modulus (g.number [] behind e some all no_digit value blanks) positive p may = absurd (omega arith)
-  modulus {n = n} (g.number (d ∷ ds) behind e some all no_digit value blanks) positive p may =
-      let parts = and_parts (is_ascii_digit d) (all_ascii_digits ds) all in
-      let same : digits_value_after 10 (d - 48) ds ≡ n = value_is d ds parts.0 ∙ sym value in
-      let may_all : May p (digits_value_after 10 (d - 48) ds) = λ x. rw same (may x) in
-      ap (read strict state.Modulus p) e
-      ∙ step state.Modulus p d (ds ++ behind) (modulus_state d) (event.First (d - 48))
-      (rw (digit_is_no_blank d parts.0, parts.0) refl)
-      (may_read strict _ _ (first_may p.is_divided (d - 48) ds may_all))
-      ∙ modulus_rest (d == 48) ds behind parts.1 (numbered p (d - 48))
-      (λ e. let is : d ≡ 48 = eqb-true d 48 e in omega arith) (rw same positive) may_all
-      ∙ ap (λ v. read strict state.ModulusDigits (numbered p v) behind) same
-      ∙ leaves_modulus (numbered p n) behind no_digit
-      ∙ skips state.Comparison (λ seen c b. rw b refl) blanks (numbered p n)
+  modulus nm positive p may =
+      number state.Modulus state.ModulusDigits state.Comparison modulus_state
+      (λ seen c d. rw (digit_is_no_blank c d, d) refl) leaves_modulus (λ seen c b. rw b refl) nm p may
+      (λ d ds behind all same. modulus_rest (d == 48) ds behind all (numbered p (d - 48))
+      (λ e. let is : d ≡ 48 = eqb-true d 48 e in omega arith) (rw same positive) (λ x. rw same (may x)))
 
   -- ---- Ranges.
 

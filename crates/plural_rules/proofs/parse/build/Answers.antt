@@ -9,16 +9,14 @@ use Rattle.plural_rules.proofs.parse.build.Goals as goal
 pub unreachable-requires : goal.unreachable-requires
 unreachable-requires c =
     let none : next c.loop-byte.seen c.loop-byte.state (get_or c.args.text.now c.loop-byte.byte-index 0) ≡ None = cc in
-    moves_on c.args.text.now c.loop-byte.byte-index c.loop-byte.state (partial c.loop-byte.seen c.loop-byte.builder)
-    c.requires.0 c.requires.1 c.requires.2 c.loop-byte.invariant c.loop-byte-test.true none
+    moves_on c.loop-byte.byte-index c.requires.1 c.requires.2 c.loop-byte.invariant c.loop-byte-test.true none
 
 pub take-requires : goal.take-requires
 take-requires c =
     let to : next c.loop-byte.seen c.loop-byte.state (get_or c.args.text.now c.loop-byte.byte-index 0)
     ≡ Some (c.in-Some.next, c.in-Some.event) = cc in
-    let more = goes_on c.args.text.now c.loop-byte.byte-index c.loop-byte.state
-    (partial c.loop-byte.seen c.loop-byte.builder) c.requires.0 c.requires.1 c.requires.2 c.loop-byte.invariant
-    c.in-Some.next c.in-Some.event c.loop-byte-test.true to in
+    let more = goes_on c.loop-byte.byte-index c.requires.1 c.requires.2 c.loop-byte.invariant c.in-Some.next
+    c.in-Some.event c.loop-byte-test.true to in
     let strictly = reached_strictly (take c.loop-byte.byte-index c.args.text.now) c.loop-byte.state
     (partial c.loop-byte.seen c.loop-byte.builder) c.loop-byte.invariant in
     small c.in-Some.event c.loop-byte.seen c.loop-byte.builder strictly.0 more.0
@@ -27,9 +25,8 @@ pub loop-byte-preserved : goal.loop-byte-preserved
 loop-byte-preserved c =
     let to : next c.loop-byte.seen c.loop-byte.state (get_or c.args.text.now c.loop-byte.byte-index 0)
     ≡ Some (c.in-Some.next, c.in-Some.event) = cc in
-    let more = goes_on c.args.text.now c.loop-byte.byte-index c.loop-byte.state
-    (partial c.loop-byte.seen c.loop-byte.builder) c.requires.0 c.requires.1 c.requires.2 c.loop-byte.invariant
-    c.in-Some.next c.in-Some.event c.loop-byte-test.true to in
+    let more = goes_on c.loop-byte.byte-index c.requires.1 c.requires.2 c.loop-byte.invariant c.in-Some.next
+    c.in-Some.event c.loop-byte-test.true to in
     let built : partial c.after-seen.result c.take.new.self
     ≡ after c.in-Some.event (partial c.loop-byte.seen c.loop-byte.builder) =
     ap (λ z. partial z c.take.new.self) c.after-seen.ensures ∙ c.in_ok-take.ensures c.loop-byte.seen in
@@ -39,8 +36,7 @@ pub unreachable-requires-in_default-at_end : goal.unreachable-requires-in_defaul
 unreachable-requires-in_default-at_end c =
     let p = partial c.loop-byte.seen c.loop-byte.builder in
     let end : finished (at_end c.loop-byte.state) p ≡ Some c.requires.0 =
-    ends c.args.text.now c.loop-byte.byte-index c.loop-byte.state p c.requires.0 c.requires.1 c.requires.2
-    c.loop-byte.invariant c.loop-byte-test.false in
+    ends c.loop-byte.byte-index c.requires.1 c.requires.2 c.loop-byte.invariant c.loop-byte-test.false in
     let none : at_end c.loop-byte.state ≡ None = cc in
     let stops : finished (at_end c.loop-byte.state) p ≡ None = ap (λ m. finished m p) none in
     absurd (cc)
@@ -54,8 +50,7 @@ pub returns : goal.returns
 returns c =
     let p = partial c.loop-byte.seen c.loop-byte.builder in
     let end : finished (at_end c.loop-byte.state) p ≡ Some c.requires.0 =
-    ends c.args.text.now c.loop-byte.byte-index c.loop-byte.state p c.requires.0 c.requires.1 c.requires.2
-    c.loop-byte.invariant c.loop-byte-test.false in
+    ends c.loop-byte.byte-index c.requires.1 c.requires.2 c.loop-byte.invariant c.loop-byte-test.false in
     let some : at_end c.loop-byte.state ≡ Some c.in-Some-at_end.event = cc in
     let last : finished (Some c.in-Some-at_end.event) p ≡ Some c.requires.0 =
     sym (ap (λ m. finished m p) some) ∙ end in

@@ -23,14 +23,12 @@ loop-at-preserved c =
     let to : next c.loop-at.seen c.loop-at.state (get_or c.args.text.now c.loop-at.at 0)
     ≡ Some (c.in-Some.next, c.in-Some.event) = cc in
     rw (c.after-seen.ensures, c.after-numbers.ensures)
-    (checked_more c.args.text.now c.loop-at.at c.loop-at.state c.loop-at.seen c.loop-at.numbers c.in-Some.next
-    c.in-Some.event c.loop-at-test.true c.loop-at.invariant to)
+    (checked_more c.in-Some.next c.in-Some.event c.loop-at-test.true c.loop-at.invariant to)
 
 pub returns-in-Some-at_end-clause-ok : goal.returns-in-Some-at_end-clause-ok
 returns-in-Some-at_end-clause-ok c =
     let ends : at_end c.loop-at.state ≡ Some c.in-Some-at_end.field-0 = cc in
-    checked_whole c.args.text.now c.loop-at.at c.loop-at.state c.loop-at.seen c.loop-at.numbers
-    c.in-Some-at_end.field-0 c.loop-at-test.false c.loop-at.invariant ends
+    checked_whole c.in-Some-at_end.field-0 c.loop-at-test.false c.loop-at.invariant ends
 
 pub returns-in-None-clause-err : goal.returns-in-None-clause-err
 returns-in-None-clause-err c =
