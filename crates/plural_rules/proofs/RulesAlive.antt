@@ -202,24 +202,23 @@ stopped strict text more rules none grammar fits =
     ∙ ap (λ x. bind x (λ s q. run strict s q more)) none) in
     absurd (cc)
 
-not_strict : {A : Type 0} → ◌≡◌ {A = Bool} false true → A
-not_strict h = absurd (false≢true h)
-
 -- a text that may not end
 pub unended_text :
-    (text : List ℕ) (s : State) (p : Partial) → run false state.Category no_rules text ≡ Some (s, p)
-    → is_open p.seen s ≡ true → at_end s ≡ None → NoRulesFrom text (length text)
-unended_text text s p h opens e =
-    let all : take (length text) text ≡ text = take_all (length text) text (omega arith) in
+    (text : List ℕ) (i : ℕ) (s : State) (p : Partial) → length text ≤ i
+    → run false state.Category no_rules (take i text) ≡ Some (s, p) → is_open p.seen s ≡ true → at_end s ≡ None
+    → NoRulesFrom text (length text)
+unended_text text i s p least h opens e =
+    let runs : run false state.Category no_rules text ≡ Some (s, p) =
+    ap (run false state.Category no_rules) (sym (take_all i text least)) ∙ h in
     record {
       within = omega arith;
-      refused = λ rules grammar. none_is_none (sym (ap finish h ∙ ap (λ m. finished m p) e) ∙ grammar_is_any grammar);
-      alive = rw all (alive text s p h opens);
+      refused = λ rules grammar.
+          let none : read false state.Category no_rules text ≡ None = ap finish runs ∙ ap (λ m. finished m p) e in
+          let some : read false state.Category no_rules text ≡ Some rules = grammar_is_any grammar in
+          absurd (cc);
+      alive = rw (take_all (length text) text (omega arith)) (alive text s p runs opens);
       dead = λ less. absurd (omega arith);
     }
-  where
-    none_is_none : {rules : List RuleParts} → ◌≡◌ {A = Option (List RuleParts)} None (Some rules) → ⊥
-    none_is_none h = cc
 
 -- and one that stops at a byte
 pub stopped_text :
@@ -232,7 +231,8 @@ stopped_text text at s p less h opens none =
     record {
       within = omega arith;
       refused = λ rules grammar. stopped false (take (at + 1) text) (drop (at + 1) text) rules all
-          (rw (take-append-drop (at + 1) text) grammar) not_strict;
+          (rw (take-append-drop (at + 1) text) grammar) (λ e. absurd (false≢true e));
       alive = alive (take at text) s p h opens;
-      dead = λ less more rules grammar. stopped false (take (at + 1) text) more rules all grammar not_strict;
+      dead = λ less more rules grammar. stopped false (take (at + 1) text) more rules all grammar
+          (λ e. absurd (false≢true e));
     }

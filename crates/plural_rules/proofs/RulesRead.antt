@@ -276,24 +276,18 @@ module _ (strict : Bool) where
       ∙ leaves (numbered p n) behind no_digit
       ∙ skips s2 skips2 blanks (numbered p n)
 
-  leaves_low : Leaves state.LowDigits state.BehindLow
-  leaves_low p [] h = refl
-  leaves_low p (c ∷ text) h = rw h refl
-
-  leaves_high : Leaves state.HighDigits state.BehindHigh
-  leaves_high p [] h = refl
-  leaves_high p (c ∷ text) h = rw h refl
-
-  leaves_modulus : Leaves state.ModulusDigits state.Comparison
-  leaves_modulus p [] h = refl
-  leaves_modulus p (c ∷ text) h = rw h refl
+  leaves : (s t : State) → ((p : Partial) → read strict s p [] ≡ read strict t p [])
+      → ((p : Partial) (c : ℕ) (text : List ℕ) → is_ascii_digit c ≡ false
+      → read strict s p (c ∷ text) ≡ read strict t p (c ∷ text)) → Leaves s t
+  leaves s t none some p [] h = none p
+  leaves s t none some p (c ∷ text) h = some p c text h
 
   number_low :
       {text rest : List ℕ} {n : ℕ} → g.Number text n rest → (p : Partial) → May p n
       → read strict state.Low p text ≡ read strict state.BehindLow (numbered p n) rest
   number_low nm p may =
       number state.Low state.LowDigits state.BehindLow (λ c. state.LowDigits)
-      (λ seen c d. rw (digit_is_no_blank c d, d) refl) leaves_low (λ seen c b. rw b refl) nm p may
+      (λ seen c d. rw (digit_is_no_blank c d, d) refl) (leaves _ _ (λ p. refl) (λ p c text h. rw h refl)) (λ seen c b. rw b refl) nm p may
       (λ d ds behind all same. digits state.LowDigits (λ seen c d. rw d refl) ds behind all (numbered p (d - 48))
       (λ x. rw same (may x)))
 
@@ -302,7 +296,7 @@ module _ (strict : Bool) where
       → read strict state.High p text ≡ read strict state.BehindHigh (numbered p n) rest
   number_high nm p may =
       number state.High state.HighDigits state.BehindHigh (λ c. state.HighDigits)
-      (λ seen c d. rw (digit_is_no_blank c d, d) refl) leaves_high (λ seen c b. rw b refl) nm p may
+      (λ seen c d. rw (digit_is_no_blank c d, d) refl) (leaves _ _ (λ p. refl) (λ p c text h. rw h refl)) (λ seen c b. rw b refl) nm p may
       (λ d ds behind all same. digits state.HighDigits (λ seen c d. rw d refl) ds behind all (numbered p (d - 48))
       (λ x. rw same (may x)))
 
@@ -333,7 +327,7 @@ module _ (strict : Bool) where
       → read strict state.Modulus p text ≡ read strict state.Comparison (numbered p n) rest
   modulus nm positive p may =
       number state.Modulus state.ModulusDigits state.Comparison modulus_state
-      (λ seen c d. rw (digit_is_no_blank c d, d) refl) leaves_modulus (λ seen c b. rw b refl) nm p may
+      (λ seen c d. rw (digit_is_no_blank c d, d) refl) (leaves _ _ (λ p. refl) (λ p c text h. rw h refl)) (λ seen c b. rw b refl) nm p may
       (λ d ds behind all same. modulus_rest (d == 48) ds behind all (numbered p (d - 48))
       (λ e. let is : d ≡ 48 = eqb-true d 48 e in omega arith) (rw same positive) (λ x. rw same (may x)))
 

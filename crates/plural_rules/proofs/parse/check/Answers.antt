@@ -1,11 +1,8 @@
-use Rattle.std.proofs.Common.{◌≡◌, false, get_or, take, sym, ◌∙◌, ap}
+use Rattle.std.proofs.Common.{◌≡◌, get_or, ◌∙◌, ap}
 use Rattle.std.specs.Prelude.{Some, None}
-use Rattle.std.proofs.lemmas.List.{take_all}
-use Rattle.plural_rules.specs.declared.parse.state.State.TheVariants as state
-use Rattle.plural_rules.specs.RulesReader.{no_rules, next, at_end}
+use Rattle.plural_rules.specs.RulesReader.{next, at_end}
 use Rattle.plural_rules.proofs.RulesAlive.{stopped_text, unended_text}
 use Rattle.plural_rules.proofs.RulesChecked.{checked_first, checked_more, checked_whole}
-use Rattle.plural_rules.proofs.RulesRun.{run}
 use Rattle.plural_rules.proofs.parse.check.Goals as goal
 
 pub loop-at-init : goal.loop-at-init
@@ -33,8 +30,5 @@ returns-in-Some-at_end-clause-ok c =
 pub returns-in-None-clause-err : goal.returns-in-None-clause-err
 returns-in-None-clause-err c =
     let h = c.loop-at.invariant in
-    let all : take c.loop-at.at c.args.text.now ≡ c.args.text.now =
-    take_all c.loop-at.at c.args.text.now c.loop-at-test.false in
     let none : at_end c.loop-at.state ≡ None = cc in
-    unended_text c.args.text.now c.loop-at.state h.p (ap (run false state.Category no_rules) (sym all) ∙ h.runs)
-    h.opens none
+    unended_text c.args.text.now c.loop-at.at c.loop-at.state h.p c.loop-at-test.false h.runs h.opens none
