@@ -203,7 +203,8 @@ zero_more {seen} {c} {text} is m = (m.0, m.1, zero m.2, m.3, m.4)
     zero : {n : ℕ} {rest : List ℕ} → g.Number text n rest → g.Number (c ∷ text) n rest
     zero (g.number ds behind e some all no_digit value blanks) =
         let first : c ≡ 48 = eqb-true c 48 is in
-        g.number (c ∷ ds) behind (ap (λ x. c ∷ x) e) (omega arith) (rw (first, all) refl) no_digit (rw first value) blanks
+        g.number (c ∷ ds) behind (ap (λ x. c ∷ x) e) (omega arith) (rw (first, all) refl) no_digit (rw first value)
+        blanks
 
 -- ---- Forms in front of what stands behind them.
 

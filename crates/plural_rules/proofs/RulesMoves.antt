@@ -84,7 +84,8 @@ module _ {s : State} {seen : Categories} {c : ℕ} where
 
   fine_comparison : Fine s seen c (reader.comparison c)
   fine_comparison =
-      fine_by (c == 61) (λ h. goes (no_digit c 61 refl h) (λ o. refl)) (λ h. fine_if (c == 33) (goes refl (λ o. refl)) stops)
+      fine_by (c == 61) (λ h. goes (no_digit c 61 refl h) (λ o. refl))
+      (λ h. fine_if (c == 33) (goes refl (λ o. refl)) stops)
 
   fine_follows : Fine s seen c (reader.follows_range seen c)
   fine_follows =

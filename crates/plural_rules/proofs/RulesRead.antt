@@ -287,7 +287,8 @@ module _ (strict : Bool) where
       → read strict state.Low p text ≡ read strict state.BehindLow (numbered p n) rest
   number_low nm p may =
       number state.Low state.LowDigits state.BehindLow (λ c. state.LowDigits)
-      (λ seen c d. rw (digit_is_no_blank c d, d) refl) (leaves _ _ (λ p. refl) (λ p c text h. rw h refl)) (λ seen c b. rw b refl) nm p may
+      (λ seen c d. rw (digit_is_no_blank c d, d) refl) (leaves _ _ (λ p. refl) (λ p c text h. rw h refl))
+      (λ seen c b. rw b refl) nm p may
       (λ d ds behind all same. digits state.LowDigits (λ seen c d. rw d refl) ds behind all (numbered p (d - 48))
       (λ x. rw same (may x)))
 
@@ -296,7 +297,8 @@ module _ (strict : Bool) where
       → read strict state.High p text ≡ read strict state.BehindHigh (numbered p n) rest
   number_high nm p may =
       number state.High state.HighDigits state.BehindHigh (λ c. state.HighDigits)
-      (λ seen c d. rw (digit_is_no_blank c d, d) refl) (leaves _ _ (λ p. refl) (λ p c text h. rw h refl)) (λ seen c b. rw b refl) nm p may
+      (λ seen c d. rw (digit_is_no_blank c d, d) refl) (leaves _ _ (λ p. refl) (λ p c text h. rw h refl))
+      (λ seen c b. rw b refl) nm p may
       (λ d ds behind all same. digits state.HighDigits (λ seen c d. rw d refl) ds behind all (numbered p (d - 48))
       (λ x. rw same (may x)))
 
@@ -327,7 +329,8 @@ module _ (strict : Bool) where
       → read strict state.Modulus p text ≡ read strict state.Comparison (numbered p n) rest
   modulus nm positive p may =
       number state.Modulus state.ModulusDigits state.Comparison modulus_state
-      (λ seen c d. rw (digit_is_no_blank c d, d) refl) (leaves _ _ (λ p. refl) (λ p c text h. rw h refl)) (λ seen c b. rw b refl) nm p may
+      (λ seen c d. rw (digit_is_no_blank c d, d) refl) (leaves _ _ (λ p. refl) (λ p c text h. rw h refl))
+      (λ seen c b. rw b refl) nm p may
       (λ d ds behind all same. modulus_rest (d == 48) ds behind all (numbered p (d - 48))
       (λ e. let is : d ≡ 48 = eqb-true d 48 e in omega arith) (rw same positive) (λ x. rw same (may x)))
 
@@ -410,8 +413,8 @@ module _ (strict : Bool) where
       → read strict state.Percent (record p { is_divided = false }) text ≡ x
   divided g.undivided compares p x fits k =
       (comparison_read compares (record p { is_divided = false })).1 ∙ k p.number
-  divided {rest = rest} {is_equal = is_equal} (g.divided {modulus = n} (g.token after_percent e blanks) nm positive) compares p
-      x fits k =
+  divided {rest = rest} {is_equal = is_equal} (g.divided {modulus = n} (g.token z e blanks) nm positive) compares p x
+      fits k =
       let q : Partial = record p { is_divided = true; number = 0 } in
       ap (read strict state.Percent (record p { is_divided = false })) e
       ∙ skips state.Modulus (λ seen c b. rw b refl) blanks q
