@@ -1,12 +1,10 @@
 //! Reports of errors.
-ghost use Rattle.std.specs.Prelude.{◌≡◌, ◌<◌, ◌≤◌, Bool, false, IfErr, OnOk, OnErr};
-ghost use Rattle.std.specs.Io.KnownBytes.{Appends};
-ghost use Rattle.decimal_digits.specs.Text.{AppendsPrefix};
+ghost use Rattle.std.specs.Prelude.{◌≡◌, ◌<◌, ◌≤◌, Bool, false, IfErr, OnOk};
 ghost use Rattle.cli.specs.Diagnostics.{IsLineOf, Reports};
 
 use crate::errors::ProgramError;
 use arrayvec::ArrayString;
-use decimal_digits::sink::SinkFault;
+use decimal_digits::sink::write_whole;
 use std::fmt::{Display, InlineText};
 use std::io::Write;
 
@@ -34,21 +32,6 @@ fn line_of<E: Display>(error: &E) -> Line
     line.push_str(text.as_str());
     line.push_str("\n");
     line
-}
-
-/// Writes bytes. TEMPORARY
-pub(crate) fn write_whole<W: Write>(writer: &mut W, bytes: &[u8]) -> Result<(), SinkFault>
-    ensures ok { OnOk result (Appends (W.contents writer.old) (W.contents writer.new) bytes.now) }
-    ensures err { OnErr result (AppendsPrefix (W.contents writer.old) (W.contents writer.new) bytes.now) }
-{
-    let mut taken = 0;
-    while taken < bytes.len() {
-        match writer.write(&bytes[taken..]) {
-            Ok(count) if count > 0 => taken += count,
-            _ => return Err(SinkFault),
-        }
-    }
-    Ok(())
 }
 
 /// Reports errors as lines of a writer, each in one write where the writer takes it whole.

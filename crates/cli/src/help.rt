@@ -3,7 +3,7 @@ ghost use Rattle.std.specs.Prelude.{◌≡◌, ◌≤◌, ◌++◌, Some, None, 
 ghost use Rattle.std.specs.Io.KnownBytes.{Appends};
 
 use crate::arguments::words;
-use crate::diagnostics::write_whole;
+use decimal_digits::sink::write_whole;
 use std::alloc::Global;
 use std::env::Args;
 use std::io;

@@ -86,8 +86,12 @@ pub trait Writeable {
         ensures { result ≡ length (text self.now) };
 }
 
-/// Writes bytes. Err: the writer refused one, and has taken those in front.
-fn write_whole<W: Write>(writer: &mut W, bytes: &[u8]) -> Result<(), SinkFault>
+/// Writes all bytes.
+///
+/// # Errors
+///
+/// A write fails or takes no byte; a prefix of the bytes is written, which `write_all` of `std` does not state.
+pub fn write_whole<W: Write>(writer: &mut W, bytes: &[u8]) -> Result<(), SinkFault>
     ensures ok { OnOk result (Appends (W.contents writer.old) (W.contents writer.new) bytes.now) }
     ensures err { OnErr result (AppendsPrefix (W.contents writer.old) (W.contents writer.new) bytes.now) }
 {

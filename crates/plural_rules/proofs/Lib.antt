@@ -1,12 +1,10 @@
 pub mod Parts
 pub mod Moved
 pub mod ByText
-pub mod Conditions
+pub mod RulesRun
 pub mod RulesRead
 pub mod RulesFound
 pub mod RulesMoves
-pub mod RulesChecked
 pub mod RulesAlive
-pub mod RulesNumbers
+pub mod RulesChecked
 pub mod RulesBuilt
-pub mod RulesFit

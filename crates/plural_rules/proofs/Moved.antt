@@ -1,13 +1,13 @@
 -- The digits of a number times a power of ten.
 use Rattle.std.proofs.Common.{◌≡◌, ℕ, zero, suc, ◌+◌, ◌-◌, ◌*◌, ◌/◌, ◌%◌, ◌^◌, ◌<◌, ◌≤◌, ◌==◌, refl, sym, ◌∙◌, ap, subst, arith, rules, inl, inr}
 use Rattle.std.specs.Prelude.{ℤ, pos, negsuc, ◌+ℤ◌, ◌≤ℤ◌}
-use Rattle.std.specs.Int.{int_gap, int_max, int_min}
+use Rattle.std.specs.Int.{int_max, int_min}
 use Rattle.std.proofs.Math.Nat.{mul-mod_left, mul-pos, mul-div-mul_right, mod-eq-sub-div-mul, mul_assoc, mul_comm, mul-sub, div-add-mod', div-eq_of_lt, pow-le-pow_right}
 use Rattle.std.proofs.lemmas.Int.{ints, clamps}
 use Rattle.std.proofs.lemmas.Bool.{cases_lt}
 use Rattle.decimal_digits.specs.Number.{place, weight, last, magnitude_at, IsFirst, IsLast}
 use Rattle.decimal_unsigned.specs.Unsigned.{Unsigned}
-use Rattle.decimal_unsigned.specs.Edits.{multiplied}
+use Rattle.decimal_unsigned.specs.Edits.{trimmed_end}
 use Rattle.fixed_decimal.proofs.Calling.{ten_pos, place_is, gap_is, shift_down, last_at, last_zero, greatest_is, powers}
 use Rattle.plural_rules.specs.Operands.{Operands, compact, i, v, w, f, t}
 use Rattle.plural_rules.specs.Parts.{part}
@@ -21,14 +21,15 @@ below_first n m first_is = elim (cases_lt 0 n) [
 ]
 
 -- the digits from the first down to the magnitude that becomes 0
-pub whole_at : (x : Unsigned) (m : ℤ) (c count : ℕ)
+pub whole_of : (o : Operands) (x : Unsigned) (m : ℤ) (c count : ℕ) → compact x c ≡ o
     → IsFirst x.number m → negsuc 32767 ≤ℤ m → m ≤ℤ pos 32767 → c < 256
     → pos count ≡ int_max (m +ℤ pos (c + 1)) (pos 0)
-    → (count ≤ place m + 1) × (part x.number (place m + 1) count ≡ i (multiplied x (pos c)))
-whole_at x m c count first_is low high small e =
+    → (count ≤ place m + 1) × (part x.number (place m + 1) count ≡ i o.value)
+whole_of o x m c count is first_is low high small e =
     let n = x.number in
     let few : count ≤ place m + 1 = omega (arith, ints, clamps, e, place_is m) in
-    let down = shift_down n c (place (pos 0)) (omega (arith, ints, place_is (pos 0))) in (
+    let down =
+    ap (λ p. i p.value) (sym is) ∙ shift_down n c (place (pos 0)) (omega (arith, ints, place_is (pos 0))) in (
       few,
       elim (cases_lt 0 count) [
         | inl p ↦
@@ -44,35 +45,20 @@ whole_at x m c count first_is low high small e =
       ],
     )
 
--- the digits from just below that magnitude down to another
-digits_to : (number : ℕ) (m lo : ℤ) (c count : ℕ)
-    → c < 256 → place m + 1 + c ≡ 32768 → negsuc 32767 ≤ℤ lo → c ≤ place lo → lo ≤ℤ pos 0 → count ≡ int_gap lo (pos 0)
-    → part number (place m + 1) count ≡ number * 10 ^ c / weight lo % 10 ^ int_gap lo (pos 0)
-digits_to number m lo c count small top low fits high e =
-    let p : place m + 1 - count ≡ place lo - c = omega (arith, ints, e, place_is lo, gap_is lo (pos 0)) in
-    (λ k. number / 10 ^ p k % 10 ^ e k)
-    ∙ ap (λ y. y % 10 ^ int_gap lo (pos 0)) (sym (shift_down number c (place lo) fits))
-
--- the digits behind the dot
-pub fraction_at : (x : Unsigned) (m : ℤ) (c count : ℕ)
-    → c < 256 → place m + 1 + c ≡ 32768 → count + c ≤ 32768 → count ≡ v (multiplied x (pos c))
-    → part x.number (place m + 1) count ≡ f (multiplied x (pos c))
-fraction_at x m c count small top few e =
-    let lo = int_min (x.lo +ℤ pos c) (pos 0) in
-    let high : lo ≤ℤ pos 0 = omega (arith, ints, clamps) in
-    let low : negsuc 32767 ≤ℤ lo = omega (arith, ints, e, gap_is lo (pos 0)) in
-    digits_to x.number m lo c count small top low (omega (arith, ints, e, gap_is lo (pos 0), place_is lo)) high e
-
--- the same, without zeros at the end
-pub needed_at : (x : Unsigned) (m : ℤ) (c count : ℕ)
-    → c < 256 → place m + 1 + c ≡ 32768 → count + c ≤ 32768
-    → count ≡ int_gap (int_min (last (x.number * 10 ^ c)) (pos 0)) (pos 0)
-    → part x.number (place m + 1) count ≡ t (multiplied x (pos c))
-needed_at x m c count small top few e =
-    let lo = int_min (last (x.number * 10 ^ c)) (pos 0) in
-    let high : lo ≤ℤ pos 0 = omega (arith, ints, clamps) in
-    let low : negsuc 32767 ≤ℤ lo = omega (arith, ints, e, gap_is lo (pos 0)) in
-    digits_to x.number m lo c count small top low (omega (arith, ints, e, gap_is lo (pos 0), place_is lo)) high e
+-- the fraction digits of a value that has the digits of a number times a power of ten
+fraction_at : (y : Unsigned) (number : ℕ) (m : ℤ) (c count : ℕ) → number * 10 ^ c ≡ y.number → y.lo ≤ℤ pos 0
+    → m ≡ negsuc c → c < 256 → count ≡ v y → count + c ≤ 32768
+    → (count ≤ place m + 1) × (part number (place m + 1) count ≡ f y)
+fraction_at y number m c count is high below small e few =
+    let top : place m + 1 + c ≡ 32768 = omega (arith, ints, place_is m, below) in
+    let low : negsuc 32767 ≤ℤ y.lo = omega (arith, ints, e, gap_is y.lo (pos 0)) in
+    let fits : c ≤ place y.lo = omega (arith, ints, e, gap_is y.lo (pos 0), place_is y.lo) in
+    let p : place m + 1 - count ≡ place y.lo - c = omega (arith, ints, e, place_is y.lo, gap_is y.lo (pos 0)) in (
+      omega (arith, top),
+      (λ k. number / 10 ^ p k % 10 ^ e k)
+          ∙ ap (λ z. z % 10 ^ v y) (sym (shift_down number c (place y.lo) fits))
+          ∙ ap (λ n. n / weight y.lo % 10 ^ v y) is,
+    )
 
 -- a remainder of a product with one factor of the modulus
 mod-scaled : (n p k : ℕ) → 0 < k → n * k % (p * k) ≡ n % p * k
@@ -158,36 +144,20 @@ last_moved n c m l low high small = elim (cases_lt 0 n) [
         let top = last_top (n * 10 ^ c) k e more d in
         omega (arith, ints, clamps, top, place_is m)
 
--- ---- The same of the operands of a value and an exponent.
--- the digits in front of the dot
-pub whole_of : (o : Operands) (x : Unsigned) (m : ℤ) (c count : ℕ)
-    → compact x c ≡ o → IsFirst x.number m → negsuc 32767 ≤ℤ m → m ≤ℤ pos 32767 → c < 256
-    → pos count ≡ int_max (m +ℤ pos (c + 1)) (pos 0)
-    → (count ≤ place m + 1) × (part x.number (place m + 1) count ≡ i o.value)
-whole_of o x m c count is first_is low high small e =
-    let found = whole_at x m c count first_is low high small e in
-    (found.0, found.1 ∙ ap (λ p. i p.value) is)
-
--- the digits behind it
+-- the fraction digits
 pub fraction_of : (o : Operands) (x : Unsigned) (m : ℤ) (c count : ℕ)
     → compact x c ≡ o → m ≡ negsuc c → c < 256 → count ≡ v o.value → count + o.exponent ≤ 32768
     → (count ≤ place m + 1) × (part x.number (place m + 1) count ≡ f o.value)
 fraction_of o x m c count is below small e few =
-    let top : place m + 1 + c ≡ 32768 = omega (arith, ints, place_is m, below) in
-    let exponent : c ≡ o.exponent = ap (λ p. p.exponent) is in
-    let counted : count ≡ v (multiplied x (pos c)) = e ∙ sym (ap (λ p. v p.value) is) in (
-      omega (arith, top, exponent),
-      fraction_at x m c count small top (omega (arith, exponent)) counted ∙ ap (λ p. f p.value) is,
-    )
+    let high : o.value.lo ≤ℤ pos 0 = omega (arith, ints, clamps, ap (λ p. p.value.lo) is) in
+    fraction_at o.value x.number m c count (ap (λ p. p.value.number) is) high below small e
+    (omega (arith, ap (λ p. p.exponent) is))
 
--- the same, without zeros at the end
+-- the same, without trailing zeros
 pub needed_of : (o : Operands) (x : Unsigned) (m : ℤ) (c count : ℕ)
     → compact x c ≡ o → m ≡ negsuc c → c < 256 → count ≡ w o.value → count + o.exponent ≤ 32768
     → (count ≤ place m + 1) × (part x.number (place m + 1) count ≡ t o.value)
 needed_of o x m c count is below small e few =
-    let top : place m + 1 + c ≡ 32768 = omega (arith, ints, place_is m, below) in
-    let exponent : c ≡ o.exponent = ap (λ p. p.exponent) is in
-    let counted : count ≡ w (multiplied x (pos c)) = e ∙ sym (ap (λ p. w p.value) is) in (
-      omega (arith, top, exponent),
-      needed_at x m c count small top (omega (arith, exponent)) counted ∙ ap (λ p. t p.value) is,
-    )
+    let high : (trimmed_end o.value).lo ≤ℤ pos 0 = omega (arith, ints, clamps) in
+    fraction_at (trimmed_end o.value) x.number m c count (ap (λ p. p.value.number) is) high below small e
+    (omega (arith, ap (λ p. p.exponent) is))

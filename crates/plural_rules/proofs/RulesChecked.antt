@@ -1,113 +1,216 @@
--- Whether a text is rules is decided without the rules: by the states and the categories that were read.
-use Rattle.std.proofs.Common.{◌≡◌, ℕ, ◌+◌, ◌<◌, List, [], ◌∷◌, ◌++◌, length, take, get_or, refl, ◌∙◌, ap}
+-- What the pass over the states knows of a text behind each byte.
+use Rattle.std.proofs.Common.{◌≡◌, ℕ, ◌+◌, ◌-◌, ◌*◌, ◌<◌, ◌≤◌, nat_le, Bool, true, false, not, cond, List, length, take, drop, get_or, refl, sym, ◌∙◌, ap, arith, inl, inr}
 use Rattle.std.specs.Prelude.{Some, None}
-use Rattle.std.proofs.lemmas.List.{take_more}
+use Rattle.std.specs.Char.{is_ascii_digit}
+use Rattle.std.proofs.lemmas.Bool.{and_parts, cases_lt, false≢true}
+use Rattle.std.proofs.lemmas.List.{take_all, take-append-drop}
 use Rattle.plural_rules.specs.declared.parse.state.State.{State}
 use Rattle.plural_rules.specs.declared.parse.state.State.TheVariants as state
 use Rattle.plural_rules.specs.declared.parse.state.Event.{Event}
 use Rattle.plural_rules.specs.declared.parse.state.Event.TheVariants as event
 use Rattle.plural_rules.specs.declared.parse.state.Categories.{Categories}
-use Rattle.plural_rules.specs.Rules.{RuleParts}
+use Rattle.plural_rules.specs.declared.parse.numbers.Numbers.{Numbers}
+use Rattle.plural_rules.specs.declared.parse.numbers.Numbers.TheVariants.{Fit, Great}
 use Rattle.plural_rules.specs.RulesGrammar.{Grammar}
-use Rattle.plural_rules.specs.RulesReader.{no_categories, Move, Partial, no_rules, after, seen_after, finished, proceed, next, at_end, read, advance, advance_on}
-use Rattle.plural_rules.proofs.RulesRead.{grammar_is_read}
+use Rattle.plural_rules.specs.RulesReader.{no_categories, no_rules, Partial, after, seen_after, next, at_end, limit, counted, numbers_after, AreNumbersOf}
+use Rattle.plural_rules.specs.RulesRefusal.{CanFit, AreDigits, IsBehindNoDigit}
+use Rattle.plural_rules.proofs.RulesMoves.{is_open, starts_number, is_digits, is_fine, moves_so}
+use Rattle.plural_rules.proofs.RulesRun.{allowed, any_allowed, move_on, run, finish, finished, read, run_more, moves, read_fits}
+use Rattle.plural_rules.proofs.RulesFound.{read_is_in_grammar}
+use Rattle.plural_rules.proofs.RulesAlive.{can_fit, stopped}
+
+-- a number begins at this place, where rules that fit can go on, and all bytes from there up to another are its digits
+pub record Begun (text : List ℕ) (begin end : ℕ) : Type 0 where
+  pub begins : IsBehindNoDigit text begin
+  pub alive : CanFit (take begin text)
+  pub some : begin < end
+  pub digits : AreDigits text begin end
+
+-- all numbers fit, and the last one is this, or the first one that is too great begins at this place
+abbrev pub NumbersAre : List ℕ → ℕ → State → Partial → Numbers → Type 0
+NumbersAre text i s p (Fit n is_modulus begin) =
+    (run true state.Category no_rules (take i text) ≡ Some (s, p)) × (n ≡ p.number) × (is_modulus ≡ p.is_divided)
+    × (is_digits s ≡ true → Begun text begin i)
+NumbersAre text i s p (Great begin) =
+    (end : ℕ) × Begun text begin end × (end ≤ length text) × ¬ CanFit (take end text)
+
+-- what the code knows behind some bytes
+pub record Checked (text : List ℕ) (i : ℕ) (s : State) (seen : Categories) (numbers : Numbers) : Type 0 where
+  pub p : Partial
+  pub runs : run false state.Category no_rules (take i text) ≡ Some (s, p)
+  pub seen_is : p.seen ≡ seen
+  pub opens : is_open p.seen s ≡ true
+  pub front : starts_number s ≡ true → IsBehindNoDigit text i
+  pub numbers_are : NumbersAre text i s p numbers
+
+pub checked_first : (text : List ℕ) → Checked text 0 state.Category no_categories (Fit 0 false 0)
+checked_first text = record {
+  p = no_rules;
+  runs = refl;
+  seen_is = refl;
+  opens = refl;
+  front = λ h. absurd (false≢true h);
+  numbers_are = (refl, refl, refl, λ h. absurd (false≢true h));
+}
 
 -- an event makes of the categories what it makes of those of the rules
-pub seen_is : (e : Event) (p : Partial) → seen_after e p.seen ≡ (after e p).seen
-seen_is event.Nothing p = refl
-seen_is (event.Category k) p = refl
-seen_is (event.Operand o) p = refl
-seen_is event.Percent p = refl
-seen_is (event.Digit d) p = refl
-seen_is (event.Equal b) p = refl
-seen_is event.To p = refl
-seen_is event.Comma p = refl
-seen_is event.And p = refl
-seen_is event.Or p = refl
-seen_is event.End p = refl
-seen_is event.EndOther p = refl
+seen_after_is : (e : Event) (p : Partial) → (after e p).seen ≡ seen_after e p.seen
+seen_after_is event.Nothing p = refl
+seen_after_is e p = refl
 
--- a text that stops is not read, whatever follows
-pub stops :
-    (text more : List ℕ) (s : State) (p : Partial) → advance p.seen s text ≡ None → read s p (text ++ more) ≡ None
-stops [] more s p h = absurd (cc)
-stops (c ∷ text) more s p h = go (stops text more) (next p.seen s c) h
-  where
-    go : ((s : State) (p : Partial) → advance p.seen s text ≡ None → read s p (text ++ more) ≡ None) → (m : Move)
-        → advance_on m p.seen (λ seen s. advance seen s text) ≡ None
-        → proceed m p (λ s q. read s q (text ++ more)) ≡ None
-    go ih None h = refl
-    go ih (Some move) h = ih move.0 (after move.1 p) (rw (← seen_is move.1 p) h)
+not_true : (b : Bool) → not b ≡ true → b ≡ false
+not_true true h = absurd (false≢true h)
+not_true false h = refl
 
--- a text that does not stop is read up to a state
-pub goes :
-    (text : List ℕ) (s : State) (p : Partial) (seen : Categories) (s2 : State) → advance p.seen s text ≡ Some (seen, s2)
-    → (q : Partial) × (read s p text ≡ finished (at_end s2) q)
-goes [] s p seen s2 h =
-    let same : ◌≡◌ {A = Categories × State} (p.seen, s) (seen, s2) = cc in
-    (p, ap (λ x. finished (at_end x.1) p) same)
-goes (c ∷ text) s p seen s2 h = go (goes text) (next p.seen s c) h
-  where
-    go : ((s : State) (p : Partial) (seen : Categories) (s2 : State) → advance p.seen s text ≡ Some (seen, s2)
-        → (q : Partial) × (read s p text ≡ finished (at_end s2) q)) → (m : Move)
-        → advance_on m p.seen (λ seen s. advance seen s text) ≡ Some (seen, s2)
-        → (q : Partial) × (proceed m p (λ s q. read s q text) ≡ finished (at_end s2) q)
-    go ih None h = absurd (cc)
-    go ih (Some move) h = ih move.0 (after move.1 p) seen s2 (rw (← seen_is move.1 p) h)
+digit_more :
+    (text : List ℕ) (begin i : ℕ) → AreDigits text begin i → is_ascii_digit (get_or text i 0) ≡ true
+    → AreDigits text begin (i + 1)
+digit_more text begin i before is j from less = elim (cases_lt j i) [
+  | inl h ↦ before j from h
+  | inr h ↦ let same : j ≡ i = omega arith in rw same is
+]
+
+-- a digit comes only with its event, and no digit in front of a number
+no_digits : (t : State) (d : Bool) → cond (starts_number t) (not d) (not (is_digits t)) ≡ true → is_digits t ≡ true → ⊥
+no_digits state.Zeros d h i = false≢true h
+no_digits state.ModulusDigits d h i = false≢true h
+no_digits state.LowDigits d h i = false≢true h
+no_digits state.HighDigits d h i = false≢true h
+no_digits t d h i = false≢true i
+
+front_more : (e : Event) (s t : State) (d : Bool) → is_fine s e t d ≡ true → starts_number t ≡ true → d ≡ false
+front_more (event.First n) s t d h i = absurd (false≢true (rw i at (and_parts (not (starts_number t)) _ h).0))
+front_more (event.Digit n) s t d h i = absurd (false≢true (rw i at (and_parts (not (starts_number t)) _ h).0))
+front_more e s t d h i = not_true d (rw i at h)
 
 -- one byte more
-pub advance_more :
-    (text : List ℕ) (seen : Categories) (s : State) (c : ℕ) (seen2 : Categories) (s2 : State)
-    → advance seen s text ≡ Some (seen2, s2)
-    → advance seen s (text ++ c ∷ []) ≡ advance_on (next seen2 s2 c) seen2 (λ seen s. Some (seen, s))
-advance_more [] seen s c seen2 s2 h =
-    let same : ◌≡◌ {A = Categories × State} (seen, s) (seen2, s2) = cc in
-    ap (λ x. advance_on (next x.0 x.1 c) x.0 (λ seen s. Some (seen, s))) same
-advance_more (d ∷ text) seen s c seen2 s2 h = go (advance_more text) (next seen s d) h
+module _ (text : List ℕ) (i : ℕ) (s : State) (p : Partial) (s2 : State) (less : i < length text)
+    (front : starts_number s ≡ true → IsBehindNoDigit text i) where
+  run_on : (e : Event) → next p.seen s (get_or text i 0) ≡ Some (s2, e) → allowed true e p ≡ true
+      → run true state.Category no_rules (take i text) ≡ Some (s, p)
+      → run true state.Category no_rules (take (i + 1) text) ≡ Some (s2, after e p)
+  run_on e to may runs =
+      run_more true text i s p less runs
+      ∙ moves true (next p.seen s (get_or text i 0)) s2 e p (λ s q. Some (s, q)) to may
+
+  apart : (e : Event) → next p.seen s (get_or text i 0) ≡ Some (s2, e)
+      → is_fine s e s2 (is_ascii_digit (get_or text i 0))
+      ≡ cond (starts_number s2) (not (is_ascii_digit (get_or text i 0))) (not (is_digits s2))
+      → {begin : ℕ} → is_digits s2 ≡ true → Begun text begin (i + 1)
+  apart e to other digits =
+      absurd (no_digits s2 (is_ascii_digit (get_or text i 0))
+      (sym other ∙ (moves_so p.seen s (get_or text i 0) s2 e to).0) digits)
+
+  -- a number, one digit further
+  count :
+      (e : Event) (is_modulus : Bool) (begin n : ℕ) → next p.seen s (get_or text i 0) ≡ Some (s2, e)
+      → run true state.Category no_rules (take i text) ≡ Some (s, p) → n ≡ (after e p).number
+      → is_modulus ≡ (after e p).is_divided → allowed true e p ≡ nat_le n (limit is_modulus)
+      → Begun text begin (i + 1) → NumbersAre text (i + 1) s2 (after e p) (counted is_modulus begin n)
+  count e is_modulus begin n to runs number divided may begun = go (nat_le n (limit is_modulus)) refl
+    where
+      more : run true state.Category no_rules (take (i + 1) text)
+          ≡ cond (nat_le n (limit is_modulus)) (Some (s2, after e p)) None
+      more =
+          run_more true text i s p less runs ∙ ap (λ m. move_on true m p (λ s q. Some (s, q))) to
+          ∙ ap (λ b. cond b (Some (s2, after e p)) None) may
+
+      go : (b : Bool) → nat_le n (limit is_modulus) ≡ b
+          → NumbersAre text (i + 1) s2 (after e p) (cond b (Fit n is_modulus begin) (Great begin))
+      go true is = (more ∙ ap (λ b. cond b (Some (s2, after e p)) None) is, number, divided, λ h. begun)
+      go false is = (
+        i + 1,
+        begun,
+        omega arith,
+        λ can. stopped true (take (i + 1) text) can.0 can.1
+            (more ∙ ap (λ b. cond b (Some (s2, after e p)) None) is) can.2 (λ e. can.3),
+      )
+
+  numbers_more :
+      (e : Event) (numbers : Numbers) → next p.seen s (get_or text i 0) ≡ Some (s2, e) → NumbersAre text i s p numbers
+      → NumbersAre text (i + 1) s2 (after e p) (numbers_after numbers i e)
+  numbers_more e (Great begin) to h = h
+  numbers_more (event.First d) (Fit n is_modulus begin) to h =
+      let fine = (and_parts _ _ (moves_so p.seen s (get_or text i 0) s2 (event.First d) to).0).1 in
+      let digit = and_parts (starts_number s) (is_ascii_digit (get_or text i 0)) fine in
+      count (event.First d) is_modulus i d to h.0 refl h.2 (ap (λ b. nat_le d (limit b)) (sym h.2)) (record {
+        begins = front digit.0;
+        alive = can_fit (take i text) s p h.0 digit.0;
+        some = omega arith;
+        digits = digit_more text i i (λ j from less. absurd (omega arith)) digit.1;
+      })
+  numbers_more (event.Digit d) (Fit n is_modulus begin) to h =
+      let fine = (and_parts _ _ (moves_so p.seen s (get_or text i 0) s2 (event.Digit d) to).0).1 in
+      let digit = and_parts (is_digits s) (is_ascii_digit (get_or text i 0)) fine in
+      let begun : Begun text begin i = h.3 digit.0 in
+      let number : n * 10 + d ≡ p.number * 10 + d = ap (λ m. m * 10 + d) h.1 in
+      count (event.Digit d) is_modulus begin (n * 10 + d) to h.0 number h.2
+      ((λ k. nat_le (sym number k) (limit (sym h.2 k)))) (record {
+        begins = begun.begins;
+        alive = begun.alive;
+        some = omega (arith, begun.some);
+        digits = digit_more text begin i begun.digits digit.1;
+      })
+  numbers_more event.Percent (Fit n is_modulus begin) to h =
+      (run_on event.Percent to refl h.0, refl, refl, apart event.Percent to refl)
+  numbers_more (event.Equal b) (Fit n is_modulus begin) to h =
+      (run_on (event.Equal b) to refl h.0, h.1, refl, apart (event.Equal b) to refl)
+  numbers_more (event.Operand o) (Fit n is_modulus begin) to h =
+      (run_on (event.Operand o) to refl h.0, h.1, refl, apart (event.Operand o) to refl)
+  numbers_more e (Fit n is_modulus begin) to h = (run_on e to refl h.0, h.1, h.2, apart e to refl)
+
+pub checked_more :
+    {text : List ℕ} {i : ℕ} {s : State} {seen : Categories} {numbers : Numbers} (s2 : State) (e : Event)
+    → i < length text → Checked text i s seen numbers → next seen s (get_or text i 0) ≡ Some (s2, e)
+    → Checked text (i + 1) s2 (seen_after e seen) (numbers_after numbers i e)
+checked_more {text} {i} {s} {seen} {numbers} s2 e less h to =
+    let to2 : next h.p.seen s (get_or text i 0) ≡ Some (s2, e) =
+    ap (λ x. next x s (get_or text i 0)) h.seen_is ∙ to in
+    let so = moves_so h.p.seen s (get_or text i 0) s2 e to2 in
+    let same : i + 1 - 1 ≡ i = omega arith in
+    record {
+      p = after e h.p;
+      runs =
+          run_more false text i s h.p less h.runs
+          ∙ moves false (next h.p.seen s (get_or text i 0)) s2 e h.p (λ s q. Some (s, q)) to2 (any_allowed e h.p);
+      seen_is = seen_after_is e h.p ∙ ap (seen_after e) h.seen_is;
+      opens = ap (λ x. is_open x s2) (seen_after_is e h.p) ∙ so.1 h.opens;
+      front = λ starts some.
+          ap (λ n. is_ascii_digit (get_or text n 0)) same
+          ∙ front_more e s s2 (is_ascii_digit (get_or text i 0)) so.0 starts;
+      numbers_are = numbers_more text i s h.p s2 less h.front e numbers to2 h.numbers_are;
+    }
+
+-- a whole text that may end is rules, with these numbers
+pub checked_whole :
+    {text : List ℕ} {i : ℕ} {s : State} {seen : Categories} {numbers : Numbers} (e : Event) → length text ≤ i
+    → Checked text i s seen numbers → at_end s ≡ Some e → AreNumbersOf text numbers
+checked_whole {text} {i} {s} {seen} {numbers} e least h end = go numbers h.numbers_are
   where
-    go : ((seen : Categories) (s : State) (c : ℕ) (seen2 : Categories) (s2 : State)
-        → advance seen s text ≡ Some (seen2, s2)
-        → advance seen s (text ++ c ∷ []) ≡ advance_on (next seen2 s2 c) seen2 (λ seen s. Some (seen, s)))
-        → (m : Move) → advance_on m seen (λ seen s. advance seen s text) ≡ Some (seen2, s2)
-        → advance_on m seen (λ seen s. advance seen s (text ++ c ∷ []))
-        ≡ advance_on (next seen2 s2 c) seen2 (λ seen s. Some (seen, s))
-    go ih None h = absurd (cc)
-    go ih (Some move) h = ih (seen_after move.1 seen) move.0 c seen2 s2 h
+    all : take i text ≡ text
+    all = take_all i text least
 
--- no rules begin with a text that stops
-pub stopped : (text more : List ℕ) (rules : List RuleParts) → advance no_categories state.Category text ≡ None
-    → ¬ Grammar (text ++ more) rules
-stopped text more rules h grammar =
-    let one : read state.Category no_rules (text ++ more) ≡ None = stops text more state.Category no_rules h in
-    let two : read state.Category no_rules (text ++ more) ≡ Some rules = grammar_is_read grammar in
-    absurd (cc)
+    reads : (strict : Bool) → run strict state.Category no_rules (take i text) ≡ Some (s, h.p)
+        → read strict state.Category no_rules text ≡ Some (after e h.p).rules
+    reads strict runs =
+        ap finish (ap (run strict state.Category no_rules) (sym all) ∙ runs) ∙ ap (λ m. finished m h.p) end
 
--- and a text is no rules where they may not end
-pub unended :
-    (text : List ℕ) (seen : Categories) (s : State) (rules : List RuleParts)
-    → advance no_categories state.Category text ≡ Some (seen, s) → at_end s ≡ None → ¬ Grammar text rules
-unended text seen s rules h e grammar =
-    let g = goes text state.Category no_rules seen s h in
-    let one : read state.Category no_rules text ≡ None = g.1 ∙ ap (λ m. finished m g.0) e in
-    let two : read state.Category no_rules text ≡ Some rules = grammar_is_read grammar in
-    absurd (cc)
+    grammar : Grammar text (after e h.p).rules
+    grammar = read_is_in_grammar (reads false h.runs)
 
--- one byte more of a text
-pub goes_on :
-    (text : List ℕ) (at : ℕ) (seen : Categories) (s : State) (s2 : State) (e : Event) → at < length text
-    → advance no_categories state.Category (take at text) ≡ Some (seen, s)
-    → next seen s (get_or text at 0) ≡ Some (s2, e)
-    → advance no_categories state.Category (take (at + 1) text) ≡ Some (seen_after e seen, s2)
-goes_on text at seen s s2 e less h moves =
-    ap (advance no_categories state.Category) (take_more text at 0 less)
-    ∙ advance_more (take at text) no_categories state.Category (get_or text at 0) seen s h
-    ∙ ap (λ m. advance_on m seen (λ seen s. Some (seen, s))) moves
-
--- where they may, it is
-pub is_read :
-    (text : List ℕ) (seen : Categories) (s : State) (e : Event)
-    → advance no_categories state.Category text ≡ Some (seen, s)
-    → at_end s ≡ Some e → (rules : List RuleParts) × (read state.Category no_rules text ≡ Some rules)
-is_read text seen s e h end =
-    let g = goes text state.Category no_rules seen s h in
-    ((after e g.0).rules, g.1 ∙ ap (λ m. finished m g.0) end)
+    go : (numbers : Numbers) → NumbersAre text i s h.p numbers → AreNumbersOf text numbers
+    go (Fit n is_modulus begin) f =
+        ((after e h.p).rules, grammar, (read_fits text (after e h.p).rules (reads true f.0)).0)
+    go (Great begin) f =
+        let begun : Begun text begin f.0 = f.1 in
+        record {
+          rules = (after e h.p).rules;
+          grammar = grammar;
+          great = λ fits. f.3 (drop f.0 text, (after e h.p).rules, rw (take-append-drop f.0 text) grammar, fits);
+          within = omega (arith, begun.some, f.2);
+          begins = begun.begins;
+          alive = begun.alive;
+          end = f.0;
+          digits = (begun.some, f.2, begun.digits);
+          dead = f.3;
+        }

@@ -1,6 +1,6 @@
 -- The parser as a machine: what each byte does at each state, and what the rules are so far.
 -- Only private contracts cite this file.
-use Rattle.std.specs.Prelude.{ℕ, ◌+◌, ◌-◌, ◌*◌, ◌==◌, nat_lt, Bool, true, false, ◌||◌, ◌&&◌, if◌then◌else◌, List, [], ◌∷◌, ◌++◌, length, get_or, Option, Some, None, option_map}
+use Rattle.std.specs.Prelude.{ℕ, ◌+◌, ◌-◌, ◌*◌, ◌^◌, ◌==◌, nat_lt, nat_le, Bool, true, false, ◌||◌, ◌&&◌, if◌then◌else◌, List, [], ◌∷◌, ◌++◌, length, get_or, Option, Some, None, option_map}
 use Rattle.std.specs.Char.{is_ascii_digit}
 use Rattle.plural_rules.specs.declared.rules.PluralCategory.{PluralCategory}
 use Rattle.plural_rules.specs.declared.rules.PluralCategory.TheVariants.{Zero, One as CategoryOne, Two, Few, Many, Other}
@@ -12,8 +12,11 @@ use Rattle.plural_rules.specs.declared.parse.state.State.TheVariants as state
 use Rattle.plural_rules.specs.declared.parse.state.Event.{Event}
 use Rattle.plural_rules.specs.declared.parse.state.Event.TheVariants as event
 use Rattle.plural_rules.specs.declared.parse.state.Categories.{Categories}
+use Rattle.plural_rules.specs.declared.parse.numbers.Numbers.{Numbers}
+use Rattle.plural_rules.specs.declared.parse.numbers.Numbers.TheVariants.{Fit, Great}
 use Rattle.plural_rules.specs.Rules.{name_of, RelationParts, relation, RuleParts, rule}
-use Rattle.plural_rules.specs.RulesGrammar.{is_blank}
+use Rattle.plural_rules.specs.RulesGrammar.{is_blank, Grammar}
+use Rattle.plural_rules.specs.RulesRefusal.{Fits, HasGreatNumber}
 
 -- ---- The categories so far.
 
@@ -71,14 +74,6 @@ second_letter seen c =
     else if c == 116 then (if seen.other then None else Some (state.Letters Other 2, event.Nothing))
     else None
 
--- a further letter of a category
-abbrev pub letter : PluralCategory → ℕ → ℕ → Move
-letter category n c =
-    if nat_lt n (length (name_of category)) && get_or (name_of category) n 0 == c then
-    (if n + 1 == length (name_of category) then Some (state.Colon category, event.Category category)
-    else Some (state.Letters category (n + 1), event.Nothing))
-    else None
-
 -- what stands behind a category's colon
 abbrev pub condition_of : PluralCategory → State
 condition_of Other = state.OtherCondition
@@ -131,35 +126,45 @@ behind_high seen c = skip state.BehindHigh c (follows_range seen c)
 abbrev pub only : ℕ → ℕ → State → Event → Move
 only wanted c s e = if c == wanted then Some (s, e) else None
 
--- a digit, or something else
+-- a further letter of a category, or the colon behind the last one
+abbrev pub letter : PluralCategory → ℕ → ℕ → Move
+letter category n c =
+    if nat_lt n (length (name_of category)) then
+    only (get_or (name_of category) n 0) c (state.Letters category (n + 1)) event.Nothing
+    else skip (state.Letters category n) c (only 58 c (condition_of category) (event.Category category))
+
+-- the first digit of a number
+abbrev pub first : ℕ → State → Move
+first c s = if is_ascii_digit c then Some (s, event.First (c - 48)) else None
+
+-- a further digit, or something else
 abbrev pub digit : ℕ → State → Move → Move
 digit c s otherwise = if is_ascii_digit c then Some (s, event.Digit (c - 48)) else otherwise
 
--- a modulus of which all digits were 0, if there were some
-abbrev pub zeros : ℕ → Move
-zeros c = if c == 48 then Some (state.Zeros, event.Digit 0) else digit c state.ModulusDigits None
+-- behind a digit of a modulus of which all digits so far were 0, if there were some
+abbrev pub modulus_state : ℕ → State
+modulus_state c = if c == 48 then state.Zeros else state.ModulusDigits
 
 abbrev pub next : Categories → State → ℕ → Move
 next seen state.Category c = skip state.Category c (category_letter seen c)
 next seen state.One c = second_letter seen c
 next seen (state.Letters category n) c = letter category n c
-next seen (state.Colon category) c = skip (state.Colon category) c (only 58 c (condition_of category) event.Nothing)
 next seen state.OtherCondition c =
     skip state.OtherCondition c
     (if c == 59 || c == 64 then rule_end seen c event.EndOther else operand c)
 next seen state.Operand c = skip state.Operand c (operand c)
 next seen state.Percent c =
     skip state.Percent c (if c == 37 then Some (state.Modulus, event.Percent) else comparison c)
-next seen state.Modulus c = skip state.Modulus c (zeros c)
-next seen state.Zeros c = zeros c
+next seen state.Modulus c = skip state.Modulus c (first c (modulus_state c))
+next seen state.Zeros c = digit c (modulus_state c) None
 next seen state.ModulusDigits c = digit c state.ModulusDigits (skip state.Comparison c (comparison c))
 next seen state.Comparison c = skip state.Comparison c (comparison c)
 next seen state.NotEqual c = only 61 c state.Low (event.Equal false)
-next seen state.Low c = skip state.Low c (digit c state.LowDigits None)
+next seen state.Low c = skip state.Low c (first c state.LowDigits)
 next seen state.LowDigits c = digit c state.LowDigits (behind_low seen c)
 next seen state.BehindLow c = behind_low seen c
 next seen state.Dot c = only 46 c state.High event.To
-next seen state.High c = skip state.High c (digit c state.HighDigits None)
+next seen state.High c = skip state.High c (first c state.HighDigits)
 next seen state.HighDigits c = digit c state.HighDigits (behind_high seen c)
 next seen state.BehindHigh c = behind_high seen c
 next seen state.And c = only 110 c state.AndEnd event.Nothing
@@ -219,12 +224,12 @@ abbrev pub range_of : Option ℕ → ℕ → Range
 range_of None n = record { low = n; high = n }
 range_of (Some low) n = record { low = low; high = n }
 
--- the modulus that was read, if there was one
+-- the modulus that was read, if there was one; it is not 0
 abbrev pub modulus_of : Bool → ℕ → Option ℕ
-modulus_of is_divided n = if is_divided then Some n else None
+modulus_of is_divided n = if is_divided && nat_lt 0 n then Some n else None
 
 abbrev pub end_range : Partial → Partial
-end_range p = record p { ranges = p.ranges ++ range_of p.low p.number ∷ []; low = None; number = 0 }
+end_range p = record p { ranges = p.ranges ++ range_of p.low p.number ∷ []; low = None }
 
 abbrev pub end_relation : Partial → Partial
 end_relation p =
@@ -243,41 +248,44 @@ after (event.Category category) p =
     record p { seen = with p.seen category; category = category; alternatives = []; relations = [] }
 after (event.Operand operand) p = record p { operand = operand; is_divided = false; ranges = [] }
 after event.Percent p = record p { is_divided = true; number = 0 }
+after (event.First d) p = record p { number = d }
 after (event.Digit d) p = record p { number = p.number * 10 + d }
 after (event.Equal is_equal) p =
-    record p { is_equal = is_equal; modulus = modulus_of p.is_divided p.number; low = None; number = 0 }
-after event.To p = record p { low = Some p.number; number = 0 }
+    record p { is_equal = is_equal; modulus = modulus_of p.is_divided p.number; is_divided = false; low = None }
+after event.To p = record p { low = Some p.number }
 after event.Comma p = end_range p
 after event.And p = end_relation (end_range p)
 after event.Or p = end_alternative (end_relation (end_range p))
 after event.End p = end_rule (end_alternative (end_relation (end_range p)))
 after event.EndOther p = end_rule p
 
--- ---- The rules of a text.
+-- ---- The categories behind an event.
 
-abbrev pub finished : Option Event → Partial → Option (List RuleParts)
-finished None p = None
-finished (Some e) p = Some (after e p).rules
-
-abbrev pub proceed : Move → Partial → (State → Partial → Option (List RuleParts)) → Option (List RuleParts)
-proceed None p go = None
-proceed (Some move) p go = go move.0 (after move.1 p)
-
-abbrev pub read : State → Partial → List ℕ → Option (List RuleParts)
-read s p [] = finished (at_end s) p
-read s p (c ∷ text) = proceed (next p.seen s c) p (λ s q. read s q text)
-
--- the same without the rules: the state and the categories behind a text
 abbrev pub seen_after : Event → Categories → Categories
 seen_after (event.Category category) seen = with seen category
 seen_after e seen = seen
 
--- the categories and the state behind a text, if rules may begin so
-abbrev pub advance_on : Move → Categories → (Categories → State → Option (Categories × State))
-    → Option (Categories × State)
-advance_on None seen go = None
-advance_on (Some move) seen go = go (seen_after move.1 seen) move.0
+-- ---- The numbers so far.
 
-abbrev pub advance : Categories → State → List ℕ → Option (Categories × State)
-advance seen s [] = Some (seen, s)
-advance seen s (c ∷ text) = advance_on (next seen s c) seen (λ seen s. advance seen s text)
+-- the greatest modulus, or the greatest other number
+abbrev pub limit : Bool → ℕ
+limit is_modulus = if is_modulus then 10 ^ 18 else 2 ^ 64 - 1
+
+-- a number, as far as it was read
+abbrev pub counted : Bool → ℕ → ℕ → Numbers
+counted is_modulus begin n = if nat_le n (limit is_modulus) then Fit n is_modulus begin else Great begin
+
+-- the numbers behind the event of the byte at this place
+abbrev pub numbers_after : Numbers → ℕ → Event → Numbers
+numbers_after (Great begin) at e = Great begin
+numbers_after (Fit n is_modulus begin) at (event.First d) = counted is_modulus at d
+numbers_after (Fit n is_modulus begin) at (event.Digit d) = counted is_modulus begin (n * 10 + d)
+numbers_after (Fit n is_modulus begin) at event.Percent = Fit 0 true begin
+numbers_after (Fit n is_modulus begin) at (event.Equal is_equal) = Fit n false begin
+numbers_after (Fit n is_modulus begin) at (event.Operand operand) = Fit n false begin
+numbers_after (Fit n is_modulus begin) at e = Fit n is_modulus begin
+
+-- the numbers of a whole text of rules: all fit, or the first one that is too great
+abbrev pub AreNumbersOf : List ℕ → Numbers → Type 0
+AreNumbersOf text (Fit n is_modulus begin) = (rules : List RuleParts) × Grammar text rules × Fits rules
+AreNumbersOf text (Great begin) = HasGreatNumber text begin

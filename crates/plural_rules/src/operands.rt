@@ -9,7 +9,7 @@ ghost use Rattle.plural_rules.specs.Parts.{IsUpTo};
 mod digits;
 
 use decimal_digits::ops::{at_most_zero, count_between, places_above, sum};
-use digits::{integer, remainder};
+use digits::Digits;
 use fixed_decimal::{CompactDecimal, DecimalStore, DigitStore, Signed, UnsignedOver};
 use std::marker::Model;
 
@@ -123,6 +123,28 @@ impl<'a, D: DigitStore> PluralOperands<'a, D> {
         decimals_to(self.value.nonzero_magnitude_end(), self.exponent)
     }
 
+    /// The integer digits.
+    fn whole(&self) -> Digits<'a, D>
+        ensures { result ≡ i self.now.value }
+    {
+        let first = self.value.nonzero_magnitude_start();
+        Digits::new(self.value, first, places_from(first, self.exponent))
+    }
+
+    /// The fraction digits that are shown.
+    fn fraction(&self) -> Digits<'a, D>
+        ensures { result ≡ f self.now.value }
+    {
+        Digits::new(self.value, below_dot(self.exponent), self.v())
+    }
+
+    /// The fraction digits without trailing zeros.
+    fn trimmed_fraction(&self) -> Digits<'a, D>
+        ensures { result ≡ t self.now.value }
+    {
+        Digits::new(self.value, below_dot(self.exponent), self.w())
+    }
+
     /// Gives i, the digits in front of the dot as an integer: 2 of `2.50`. None from 2 to the 64 on.
     ///
     /// Not in the original.
@@ -159,13 +181,7 @@ impl<'a, D: DigitStore> PluralOperands<'a, D> {
         requires small { modulus ≤ 10 ^ 18 }
         ensures { result ≡ i self.now.value % modulus }
     {
-        let first = self.value.nonzero_magnitude_start();
-        remainder(
-            self.value,
-            first,
-            places_from(first, self.exponent),
-            modulus,
-        )
+        self.whole().modulo(modulus)
     }
 
     /// Gives the remainder of f by a modulus, however long f is: 30 of `0.1230` by 100.
@@ -176,7 +192,7 @@ impl<'a, D: DigitStore> PluralOperands<'a, D> {
         requires small { modulus ≤ 10 ^ 18 }
         ensures { result ≡ f self.now.value % modulus }
     {
-        remainder(self.value, below_dot(self.exponent), self.v(), modulus)
+        self.fraction().modulo(modulus)
     }
 
     /// Gives the remainder of t by a modulus, however long t is: 23 of `0.1230` by 100.
@@ -187,28 +203,27 @@ impl<'a, D: DigitStore> PluralOperands<'a, D> {
         requires small { modulus ≤ 10 ^ 18 }
         ensures { result ≡ t self.now.value % modulus }
     {
-        remainder(self.value, below_dot(self.exponent), self.w(), modulus)
+        self.trimmed_fraction().modulo(modulus)
     }
 
     /// The operand i, where it is at most this. No digit is read behind the one that tells that it is more.
     pub(crate) fn i_up_to(&self, most: u64) -> Option<u64>
         ensures { IsUpTo most result (i self.now.value) }
     {
-        let first = self.value.nonzero_magnitude_start();
-        integer(self.value, first, places_from(first, self.exponent), most)
+        self.whole().up_to(most)
     }
 
     /// The operand f, where it is at most this.
     pub(crate) fn f_up_to(&self, most: u64) -> Option<u64>
         ensures { IsUpTo most result (f self.now.value) }
     {
-        integer(self.value, below_dot(self.exponent), self.v(), most)
+        self.fraction().up_to(most)
     }
 
     /// The operand t, where it is at most this.
     pub(crate) fn t_up_to(&self, most: u64) -> Option<u64>
         ensures { IsUpTo most result (t self.now.value) }
     {
-        integer(self.value, below_dot(self.exponent), self.w(), most)
+        self.trimmed_fraction().up_to(most)
     }
 }

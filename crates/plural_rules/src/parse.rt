@@ -1,9 +1,9 @@
 //! Rules from their text.
-ghost use Rattle.std.specs.Prelude.{◌≡◌, Some, OnOk, IfOk, IfErr, IfSome, IfNone, List};
+ghost use Rattle.std.specs.Prelude.{◌≡◌, IfOk, IfErr, List};
 ghost use Rattle.plural_rules.specs.Rules.{RuleParts};
-ghost use Rattle.plural_rules.specs.RulesReader as reader;
+ghost use Rattle.plural_rules.specs.RulesReader.{AreNumbersOf};
 ghost use Rattle.plural_rules.specs.RulesGrammar.{Grammar};
-ghost use Rattle.plural_rules.specs.RulesRefusal.{NoRulesFrom, Fits, HasGreatNumber, Answers};
+ghost use Rattle.plural_rules.specs.RulesRefusal.{NoRulesFrom, Fits, Answers};
 
 mod builder;
 mod numbers;
@@ -11,56 +11,34 @@ mod state;
 
 use crate::rules::PluralRules;
 use builder::Builder;
-use numbers::next_number;
+use numbers::Numbers;
 use state::{Categories, State};
 use std::alloc::{AllocError, Global};
 
-/// Whether a text is rules. Err: where none can go on so.
-fn check(text: &[u8]) -> Result<(), usize>
-    ensures ok { OnOk result
-        ((rules : List RuleParts) × (reader.read State.Category reader.no_rules text.now ≡ Some rules)) }
+/// The numbers of a text of rules. Err: where no rules can go on so.
+fn check(text: &[u8]) -> Result<Numbers, usize>
+    ensures ok { IfOk result (AreNumbersOf text.now) }
     ensures err { IfErr result (NoRulesFrom text.now) }
 {
     let mut state = State::Category;
     let mut seen = Categories::none();
+    let mut numbers = Numbers::Fit {
+        number: 0,
+        is_modulus: false,
+        begin: 0,
+    };
     for (at, byte) in text.iter().enumerate() {
         let Some((next, event)) = state.next(seen, *byte) else {
             return Err(at);
         };
-        state = next;
+        numbers = numbers.after(at, event);
         seen = seen.after(event);
+        state = next;
     }
     match state.at_end() {
-        Some(_) => Ok(()),
+        Some(_) => Ok(numbers),
         None => Err(text.len()),
     }
-}
-
-/// Where the first number begins that is too great, in a text of rules.
-fn excess(text: &[u8]) -> Option<usize>
-    requires { (rules : List RuleParts) × Grammar text.now rules }
-    ensures some { IfSome result (HasGreatNumber text.now) }
-    ensures none { IfNone result ((rules : List RuleParts) → Grammar text.now rules → Fits rules) }
-{
-    let mut number = 0;
-    let mut seen = Categories::none();
-    let mut state = State::Category;
-    let mut begun = 0;
-    for (at, byte) in text.iter().enumerate() {
-        let Some((next, event)) = state.next(seen, *byte) else {
-            unreachable!()
-        };
-        if state.starts_number() {
-            begun = at;
-        }
-        let Some(after) = next_number(number, event, next.most()) else {
-            return Some(begun);
-        };
-        number = after;
-        seen = seen.after(event);
-        state = next;
-    }
-    None
 }
 
 /// The rules of a text with no number too great. Err: memory was refused.
@@ -115,10 +93,11 @@ impl PluralRules {
         ensures unique { (first second : List RuleParts) → Grammar text.now first → Grammar text.now second
             → first ≡ second }
     {
-        if let Err(at) = check(text) {
-            return Err(RulesError::Syntax { at });
-        }
-        if let Some(at) = excess(text) {
+        let numbers = match check(text) {
+            Ok(numbers) => numbers,
+            Err(at) => return Err(RulesError::Syntax { at }),
+        };
+        if let Numbers::Great(at) = numbers {
             return Err(RulesError::Limit { at });
         }
         match build(alloc, text) {

@@ -1,5 +1,5 @@
 //! Rules as they are read, from what the bytes say.
-ghost use Rattle.std.specs.Prelude.{◌≡◌, ◌<◌, ◌≤◌, ◌^◌, IfSome, OnOk};
+ghost use Rattle.std.specs.Prelude.{◌≡◌, ◌≤◌, ◌^◌, true, OnOk};
 ghost use Rattle.plural_rules.specs.declared.parse.state.Categories.{Categories};
 ghost use Rattle.plural_rules.specs.RulesReader as reader;
 ghost use Rattle.plural_rules.specs.RulesBuilder.{partial, IsSmall};
@@ -28,7 +28,7 @@ pub struct Builder {
 
 /// The modulus that was read, if there was one.
 fn modulus_read(is_divided: bool, number: u64) -> Option<Modulus>
-    requires { IfSome (reader.modulus_of is_divided number) (λ m. (0 < m) × (m ≤ 10 ^ 18)) }
+    requires { is_divided ≡ true → number ≤ 10 ^ 18 }
     ensures { result ≡ reader.modulus_of is_divided number }
 {
     if is_divided {
@@ -88,14 +88,14 @@ impl Builder {
 
     /// Takes a comparison, whose ranges begin.
     fn begin_ranges(&mut self, is_equal: bool)
-        requires { IsSmall (Event.Equal is_equal) (partial reader.no_categories self.old) }
+        requires { IsSmall (Event.Equal is_equal) self.old }
         ensures { (seen : Categories)
             → partial seen self.new ≡ reader.after (Event.Equal is_equal) (partial seen self.old) }
     {
         self.is_equal = is_equal;
         self.modulus = modulus_read(self.is_divided, self.number);
+        self.is_divided = false;
         self.low = None;
-        self.number = 0;
     }
 
     /// Ends a range.
@@ -106,7 +106,6 @@ impl Builder {
         let low = self.low.unwrap_or(high);
         self.ranges.push(Range { low, high })?;
         self.low = None;
-        self.number = 0;
         Ok(())
     }
 
@@ -140,27 +139,9 @@ impl Builder {
         Ok(())
     }
 
-    /// Ends a range and the relation around it.
-    fn end_ranges(&mut self) -> Result<(), AllocError>
-        ensures { OnOk result ((seen : Categories) → partial seen self.new
-            ≡ reader.end_relation (reader.end_range (partial seen self.old))) }
-    {
-        self.end_range()?;
-        self.end_relation()
-    }
-
-    /// Ends a range, and the relation and the alternative around it.
-    fn end_relations(&mut self) -> Result<(), AllocError>
-        ensures { OnOk result ((seen : Categories) → partial seen self.new
-            ≡ reader.end_alternative (reader.end_relation (reader.end_range (partial seen self.old)))) }
-    {
-        self.end_ranges()?;
-        self.end_alternative()
-    }
-
     /// Takes what a byte says. Err: memory was refused.
     pub fn take(&mut self, event: Event) -> Result<(), AllocError>
-        requires { IsSmall event (partial reader.no_categories self.old) }
+        requires { IsSmall event self.old }
         ensures { OnOk result ((seen : Categories) → partial (reader.seen_after event seen) self.new
             ≡ reader.after event (partial seen self.old)) }
     {
@@ -179,6 +160,10 @@ impl Builder {
                 self.number = 0;
                 Ok(())
             }
+            Event::First(digit) => {
+                self.number = digit as u64;
+                Ok(())
+            }
             Event::Digit(digit) => {
                 self.number = self.number * 10 + digit as u64;
                 Ok(())
@@ -189,14 +174,22 @@ impl Builder {
             }
             Event::To => {
                 self.low = Some(self.number);
-                self.number = 0;
                 Ok(())
             }
             Event::Comma => self.end_range(),
-            Event::And => self.end_ranges(),
-            Event::Or => self.end_relations(),
+            Event::And => {
+                self.end_range()?;
+                self.end_relation()
+            }
+            Event::Or => {
+                self.end_range()?;
+                self.end_relation()?;
+                self.end_alternative()
+            }
             Event::End => {
-                self.end_relations()?;
+                self.end_range()?;
+                self.end_relation()?;
+                self.end_alternative()?;
                 self.end_rule()
             }
             Event::EndOther => self.end_rule(),

@@ -1,23 +1,78 @@
 //! The numbers of a text of rules, as they are read.
-ghost use Rattle.std.specs.Prelude.{◌≡◌, Some, None, if◌then◌else◌};
-ghost use Rattle.plural_rules.specs.RulesNumbers.{is_below, number_after};
+ghost use Rattle.std.specs.Prelude.{◌≡◌};
+ghost use Rattle.plural_rules.specs.RulesReader as reader;
 
 use crate::parse::state::Event;
+use crate::rules::GREATEST_MODULUS;
 
-/// Takes what a byte says of a number. None where that makes it greater than the most.
-pub fn next_number(number: u64, event: Event, most: u64) -> Option<u64>
-    ensures { result ≡ (if is_below most event number then Some (number_after event number) else None) }
+/// How far the numbers of a text were read.
+#[derive(Clone, Copy)]
+pub enum Numbers {
+    /// None is too great: the last one, as far as it was read, whether it is a modulus, and where it begins.
+    Fit {
+        number: u64,
+        is_modulus: bool,
+        begin: usize,
+    },
+    /// Where the first one begins that is too great.
+    Great(usize),
+}
+
+/// The greatest modulus, or the greatest other number.
+fn limit(is_modulus: bool) -> u64
+    ensures { result ≡ reader.limit is_modulus }
 {
-    match event {
-        Event::Digit(digit) => {
-            let read = number as u128 * 10 + digit as u128;
-            if read > most as u128 {
-                None
-            } else {
-                Some(read as u64)
-            }
+    if is_modulus {
+        GREATEST_MODULUS
+    } else {
+        u64::MAX
+    }
+}
+
+/// A number, as far as it was read.
+fn counted(is_modulus: bool, begin: usize, number: u128) -> Numbers
+    ensures { result ≡ reader.counted is_modulus begin number }
+{
+    if number <= limit(is_modulus) as u128 {
+        Numbers::Fit {
+            number: number as u64,
+            is_modulus,
+            begin,
         }
-        Event::Nothing | Event::Category(_) | Event::Operand(_) | Event::EndOther => Some(number),
-        _ => Some(0),
+    } else {
+        Numbers::Great(begin)
+    }
+}
+
+impl Numbers {
+    /// The numbers behind the event of the byte at a place.
+    pub fn after(self, at: usize, event: Event) -> Self
+        ensures { result ≡ reader.numbers_after self at event }
+    {
+        let Numbers::Fit {
+            number,
+            is_modulus,
+            begin,
+        } = self
+        else {
+            return self;
+        };
+        match event {
+            Event::First(digit) => counted(is_modulus, at, digit as u128),
+            Event::Digit(digit) => {
+                counted(is_modulus, begin, number as u128 * 10 + digit as u128)
+            }
+            Event::Percent => Numbers::Fit {
+                number: 0,
+                is_modulus: true,
+                begin,
+            },
+            Event::Equal(_) | Event::Operand(_) => Numbers::Fit {
+                number,
+                is_modulus: false,
+                begin,
+            },
+            _ => self,
+        }
     }
 }

@@ -3,10 +3,9 @@
 ghost use Rattle.std.specs.Prelude.{◌≡◌};
 ghost use Rattle.plural_rules.specs.RulesGrammar.{is_blank};
 ghost use Rattle.plural_rules.specs.Rules.{name_of};
-ghost use Rattle.plural_rules.specs.RulesNumbers.{starts_number, most};
 ghost use Rattle.plural_rules.specs.RulesReader as reader;
 
-use crate::rules::{GREATEST_MODULUS, Operand, PluralCategory};
+use crate::rules::{Operand, PluralCategory};
 
 /// What may come behind the bytes that have been read.
 #[derive(Clone, Copy)]
@@ -15,10 +14,8 @@ pub enum State {
     Category,
     /// The rest of `one` or of `other`, of which the first letter was read.
     One,
-    /// The letters of a category's name, from this one on.
+    /// The letters of a category's name, from this one on, or the colon behind them.
     Letters(PluralCategory, usize),
-    /// The colon behind a category.
-    Colon(PluralCategory),
     /// The condition of `other`, or none.
     OtherCondition,
     /// An operand.
@@ -66,13 +63,15 @@ pub enum State {
 pub enum Event {
     /// Nothing yet.
     Nothing,
-    /// A category's name is complete.
+    /// A category was read, and its colon.
     Category(PluralCategory),
     /// A relation begins.
     Operand(Operand),
     /// A modulus begins.
     Percent,
-    /// A digit of a number.
+    /// The first digit of a number.
+    First(u8),
+    /// A further digit of a number.
     Digit(u8),
     /// The ranges begin, behind `=` or, if false, behind `!=`.
     Equal(bool),
@@ -221,20 +220,6 @@ fn second_letter(seen: Categories, byte: u8) -> Move
     }
 }
 
-/// A further letter of a category's name, of which some were read.
-fn letter(category: PluralCategory, read: usize, byte: u8) -> Move
-    ensures { result ≡ reader.letter category read byte }
-{
-    let word = category.name().as_bytes();
-    if read >= word.len() || word[read] != byte {
-        None
-    } else if read + 1 == word.len() {
-        Some((State::Colon(category), Event::Category(category)))
-    } else {
-        Some((State::Letters(category, read + 1), Event::Nothing))
-    }
-}
-
 /// What stands behind the colon of a category.
 fn condition_of(category: PluralCategory) -> State
     ensures { result ≡ reader.condition_of category }
@@ -326,7 +311,41 @@ fn only(wanted: u8, byte: u8, state: State, event: Event) -> Move
     }
 }
 
-/// A digit leads to the state; another byte does something else.
+/// A further letter of a category's name, of which some were read, or the colon behind the last one.
+fn letter(category: PluralCategory, read: usize, byte: u8) -> Move
+    ensures { result ≡ reader.letter category read byte }
+{
+    let word = category.name().as_bytes();
+    if read < word.len() {
+        only(
+            word[read],
+            byte,
+            State::Letters(category, read + 1),
+            Event::Nothing,
+        )
+    } else {
+        let colon = only(
+            b':',
+            byte,
+            condition_of(category),
+            Event::Category(category),
+        );
+        skip(State::Letters(category, read), byte, colon)
+    }
+}
+
+/// The first digit of a number leads to the state.
+fn first(byte: u8, state: State) -> Move
+    ensures { result ≡ reader.first byte state }
+{
+    if byte.is_ascii_digit() {
+        Some((state, Event::First(byte - b'0')))
+    } else {
+        None
+    }
+}
+
+/// A further digit leads to the state; another byte does something else.
 fn digit(byte: u8, state: State, otherwise: Move) -> Move
     ensures { result ≡ reader.digit byte state otherwise }
 {
@@ -337,14 +356,14 @@ fn digit(byte: u8, state: State, otherwise: Move) -> Move
     }
 }
 
-/// A digit of a modulus of which all digits so far were 0.
-fn zeros(byte: u8) -> Move
-    ensures { result ≡ reader.zeros byte }
+/// The state behind a digit of a modulus of which all digits so far were 0, if there were some.
+fn modulus_state(byte: u8) -> State
+    ensures { result ≡ reader.modulus_state byte }
 {
     if byte == b'0' {
-        Some((State::Zeros, Event::Digit(0)))
+        State::Zeros
     } else {
-        digit(byte, State::ModulusDigits, None)
+        State::ModulusDigits
     }
 }
 
@@ -392,26 +411,22 @@ impl State {
             State::Category => skip(self, byte, category_letter(seen, byte)),
             State::One => second_letter(seen, byte),
             State::Letters(category, read) => letter(category, read, byte),
-            State::Colon(category) => {
-                let colon = only(b':', byte, condition_of(category), Event::Nothing);
-                skip(self, byte, colon)
-            }
             State::OtherCondition => other_condition(seen, byte),
             State::Operand => skip(self, byte, operand(byte)),
             State::Percent => percent(byte),
-            State::Modulus => skip(self, byte, zeros(byte)),
-            State::Zeros => zeros(byte),
+            State::Modulus => skip(self, byte, first(byte, modulus_state(byte))),
+            State::Zeros => digit(byte, modulus_state(byte), None),
             State::ModulusDigits => {
                 let rest = skip(State::Comparison, byte, comparison(byte));
                 digit(byte, self, rest)
             }
             State::Comparison => skip(self, byte, comparison(byte)),
             State::NotEqual => only(b'=', byte, State::Low, Event::Equal(false)),
-            State::Low => skip(self, byte, digit(byte, State::LowDigits, None)),
+            State::Low => skip(self, byte, first(byte, State::LowDigits)),
             State::LowDigits => digit(byte, self, behind_low(seen, byte)),
             State::BehindLow => behind_low(seen, byte),
             State::Dot => only(b'.', byte, State::High, Event::To),
-            State::High => skip(self, byte, digit(byte, State::HighDigits, None)),
+            State::High => skip(self, byte, first(byte, State::HighDigits)),
             State::HighDigits => digit(byte, self, behind_high(seen, byte)),
             State::BehindHigh => behind_high(seen, byte),
             State::And => only(b'n', byte, State::AndEnd, Event::Nothing),
@@ -419,26 +434,6 @@ impl State {
             State::OrEnd => only(b'r', byte, State::Blank, Event::Nothing),
             State::Blank => skip(State::Operand, byte, None),
             State::Samples => sample(seen, byte),
-        }
-    }
-
-    /// Tells whether the digits of a number come next.
-    pub fn starts_number(self) -> bool
-        ensures { result ≡ starts_number self }
-    {
-        match self {
-            State::Modulus | State::Low | State::High => true,
-            _ => false,
-        }
-    }
-
-    /// Gives the greatest number that may be read up to here: a modulus is at most 10 to the 18.
-    pub fn most(self) -> u64
-        ensures { result ≡ most self }
-    {
-        match self {
-            State::Zeros | State::ModulusDigits => GREATEST_MODULUS,
-            _ => u64::MAX,
         }
     }
 

@@ -1,71 +1,61 @@
-use Rattle.std.proofs.Common.{◌≡◌, ◌+◌, drop, get_or, sym, ◌∙◌, ap}
+use Rattle.std.proofs.Common.{◌≡◌, take, get_or, sym, ◌∙◌, ap}
 use Rattle.std.specs.Prelude.{Some, None}
-use Rattle.plural_rules.specs.RulesReader.{Partial, next, after, at_end, seen_after, read}
-use Rattle.plural_rules.specs.RulesBuilder.{partial}
-use Rattle.plural_rules.proofs.RulesRead.{grammar_is_read}
-use Rattle.plural_rules.proofs.RulesBuilt.{moves, moves_to, move_small, still_divided, small_alone, ends}
+use Rattle.plural_rules.specs.RulesReader.{next, after, at_end, seen_after}
+use Rattle.plural_rules.specs.RulesBuilder.{partial, IsSmall}
+use Rattle.plural_rules.proofs.RulesRun.{finished, at_end_all, reached_strictly}
+use Rattle.plural_rules.proofs.RulesBuilt.{moves_on, goes_on, ends, small}
 use Rattle.plural_rules.proofs.parse.build.Goals as goal
 
 pub unreachable-requires : goal.unreachable-requires
 unreachable-requires c =
-    let m = moves c.args.text.now c.loop-byte.byte-index c.loop-byte.state
-    (partial c.loop-byte.seen c.loop-byte.builder) c.requires.0 c.loop-byte-test.true
-    (c.loop-byte.invariant.reads ∙ grammar_is_read c.requires.1) in
     let none : next c.loop-byte.seen c.loop-byte.state (get_or c.args.text.now c.loop-byte.byte-index 0) ≡ None = cc in
-    let some : next c.loop-byte.seen c.loop-byte.state (get_or c.args.text.now c.loop-byte.byte-index 0)
-    ≡ Some (m.0, m.1) = m.2 in
-    absurd (cc)
+    moves_on c.loop-byte.byte-index c.requires.1 c.requires.2 c.loop-byte.invariant c.loop-byte-test.true none
 
 pub take-requires : goal.take-requires
 take-requires c =
-    let p : Partial = partial c.loop-byte.seen c.loop-byte.builder in
     let to : next c.loop-byte.seen c.loop-byte.state (get_or c.args.text.now c.loop-byte.byte-index 0)
     ≡ Some (c.in-Some.next, c.in-Some.event) = cc in
-    let reads = moves_to c.args.text.now c.loop-byte.byte-index c.loop-byte.state p c.requires.0 c.in-Some.next
-    c.in-Some.event c.loop-byte-test.true (c.loop-byte.invariant.reads ∙ grammar_is_read c.requires.1) to in
-    small_alone c.in-Some.event c.loop-byte.seen c.loop-byte.builder
-    (move_small c.args.text.now c.loop-byte.byte-index c.loop-byte.state p c.requires.0 c.in-Some.next c.in-Some.event
-    c.requires.1 c.requires.2 c.loop-byte.invariant.divided to reads)
+    let more = goes_on c.loop-byte.byte-index c.requires.1 c.requires.2 c.loop-byte.invariant c.in-Some.next
+    c.in-Some.event c.loop-byte-test.true to in
+    let strictly = reached_strictly (take c.loop-byte.byte-index c.args.text.now) c.loop-byte.state
+    (partial c.loop-byte.seen c.loop-byte.builder) c.loop-byte.invariant in
+    small c.in-Some.event c.loop-byte.seen c.loop-byte.builder strictly.0 more.0
 
 pub loop-byte-preserved : goal.loop-byte-preserved
 loop-byte-preserved c =
-    let p : Partial = partial c.loop-byte.seen c.loop-byte.builder in
     let to : next c.loop-byte.seen c.loop-byte.state (get_or c.args.text.now c.loop-byte.byte-index 0)
     ≡ Some (c.in-Some.next, c.in-Some.event) = cc in
-    let reads = moves_to c.args.text.now c.loop-byte.byte-index c.loop-byte.state p c.requires.0 c.in-Some.next
-    c.in-Some.event c.loop-byte-test.true (c.loop-byte.invariant.reads ∙ grammar_is_read c.requires.1) to in
-    record {
-      reads =
-          ap (λ z. read c.in-Some.next (partial z c.take.new.self) (drop (c.loop-byte.byte-index + 1) c.args.text.now))
-          c.after-seen.ensures
-          ∙ ap (λ q. read c.in-Some.next q (drop (c.loop-byte.byte-index + 1) c.args.text.now))
-          (c.in_ok-take.ensures c.loop-byte.seen)
-          ∙ reads ∙ sym (grammar_is_read c.requires.1);
-      divided = λ d.
-          ap (λ q. q.is_divided) (c.in_ok-take.ensures c.loop-byte.seen)
-          ∙ still_divided c.args.text.now c.loop-byte.byte-index c.loop-byte.state p c.in-Some.next c.in-Some.event
-          c.loop-byte.invariant.divided to d;
-    }
+    let more = goes_on c.loop-byte.byte-index c.requires.1 c.requires.2 c.loop-byte.invariant c.in-Some.next
+    c.in-Some.event c.loop-byte-test.true to in
+    let built : partial c.after-seen.result c.take.new.self
+    ≡ after c.in-Some.event (partial c.loop-byte.seen c.loop-byte.builder) =
+    ap (λ z. partial z c.take.new.self) c.after-seen.ensures ∙ c.in_ok-take.ensures c.loop-byte.seen in
+    more.1 ∙ ap (λ q. Some (c.in-Some.next, q)) (sym built)
 
 pub unreachable-requires-in_default-at_end : goal.unreachable-requires-in_default-at_end
 unreachable-requires-in_default-at_end c =
-    let e = ends c.args.text.now c.loop-byte.byte-index c.loop-byte.state
-    (partial c.loop-byte.seen c.loop-byte.builder) c.requires.0 c.loop-byte-test.false
-    (c.loop-byte.invariant.reads ∙ grammar_is_read c.requires.1) in
+    let p = partial c.loop-byte.seen c.loop-byte.builder in
+    let end : finished (at_end c.loop-byte.state) p ≡ Some c.requires.0 =
+    ends c.loop-byte.byte-index c.requires.1 c.requires.2 c.loop-byte.invariant c.loop-byte-test.false in
     let none : at_end c.loop-byte.state ≡ None = cc in
-    let some : at_end c.loop-byte.state ≡ Some e.0 = e.1 in
+    let stops : finished (at_end c.loop-byte.state) p ≡ None = ap (λ m. finished m p) none in
     absurd (cc)
+
+pub take-requires-2 : goal.take-requires-2
+take-requires-2 c =
+    let some : at_end c.loop-byte.state ≡ Some c.in-Some-at_end.event = cc in
+    at_end_all (λ e. IsSmall e c.loop-byte.builder) tt tt tt c.loop-byte.state c.in-Some-at_end.event some
 
 pub returns : goal.returns
 returns c =
-    let p : Partial = partial c.loop-byte.seen c.loop-byte.builder in
-    let e = ends c.args.text.now c.loop-byte.byte-index c.loop-byte.state p c.requires.0 c.loop-byte-test.false
-    (c.loop-byte.invariant.reads ∙ grammar_is_read c.requires.1) in
-    let some : at_end c.loop-byte.state ≡ Some e.0 = e.1 in
-    let here : at_end c.loop-byte.state ≡ Some c.in-Some-at_end.event = cc in
-    let same : c.in-Some-at_end.event ≡ e.0 = cc in
-    let is : c.into_rules.result ≡ c.requires.0 =
+    let p = partial c.loop-byte.seen c.loop-byte.builder in
+    let end : finished (at_end c.loop-byte.state) p ≡ Some c.requires.0 =
+    ends c.loop-byte.byte-index c.requires.1 c.requires.2 c.loop-byte.invariant c.loop-byte-test.false in
+    let some : at_end c.loop-byte.state ≡ Some c.in-Some-at_end.event = cc in
+    let last : finished (Some c.in-Some-at_end.event) p ≡ Some c.requires.0 =
+    sym (ap (λ m. finished m p) some) ∙ end in
+    let built : c.into_rules.result ≡ (after c.in-Some-at_end.event p).rules =
     c.into_rules.ensures (seen_after c.in-Some-at_end.event c.loop-byte.seen)
-    ∙ ap (λ q. q.rules) (c.in_ok-take-2.ensures c.loop-byte.seen)
-    ∙ ap (λ x. (after x p).rules) same ∙ e.2 in
+    ∙ ap (λ q. q.rules) (c.in_ok-take-2.ensures c.loop-byte.seen) in
+    let is : c.into_rules.result ≡ c.requires.0 = cc in
     rw is c.requires.1

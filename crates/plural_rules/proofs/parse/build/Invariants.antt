@@ -1,13 +1,12 @@
-use Rattle.std.proofs.Common.{◌≡◌, true, drop}
+use Rattle.std.proofs.Common.{◌≡◌, true, take}
+use Rattle.std.specs.Prelude.{Some}
 use Rattle.plural_rules.specs.declared.parse.state.State.TheVariants as state
-use Rattle.plural_rules.specs.RulesReader.{read, no_rules}
+use Rattle.plural_rules.specs.RulesReader.{no_rules}
 use Rattle.plural_rules.specs.RulesBuilder.{partial}
-use Rattle.plural_rules.proofs.RulesMoves.{is_modulus}
+use Rattle.plural_rules.proofs.RulesRun.{run}
 use Rattle.plural_rules.proofs.parse.build.Given as goal
 
--- what is built, and what the rest of the text adds to it, are what the text is read as
+-- what is built is what is read of the bytes so far
 abbrev pub invariant-loop-byte : goal.invariant-loop-byte
-invariant-loop-byte l = record {
-  reads : read l.state (partial l.seen l.builder) (drop l.byte-index l.text) ≡ read state.Category no_rules l.text;
-  divided : is_modulus l.state ≡ true → l.builder.is_divided ≡ true;
-}
+invariant-loop-byte l =
+    run true state.Category no_rules (take l.byte-index l.text) ≡ Some (l.state, partial l.seen l.builder)

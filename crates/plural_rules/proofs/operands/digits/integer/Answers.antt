@@ -1,4 +1,4 @@
-use Rattle.std.proofs.Common.{◌≡◌, ◌+◌, ◌^◌, ◌≤◌, w16, to_z, of_z, ◌∙◌, ap, arith}
+use Rattle.std.proofs.Common.{◌≡◌, ◌+◌, ◌≤◌, w16, to_z, of_z, ◌∙◌, ap, arith}
 use Rattle.plural_rules.specs.Parts.{part}
 use Rattle.std.proofs.lemmas.Int.{ints, to_z-of_z}
 use Rattle.decimal_digits.specs.Number.{place}
@@ -9,34 +9,6 @@ use Rattle.plural_rules.proofs.operands.digits.integer.Goals as goal
 pub lowered-magnitude-requires : goal.lowered-magnitude-requires
 lowered-magnitude-requires g c = omega (arith, ints, place_is c.args.top, c.loop-below-test.true)
 
-pub returns-in_err-checked_mul : goal.returns-in_err-checked_mul
-returns-in_err-checked_mul g c =
-    let n = c.args.value.now.number in
-    let t = to_z w16 (of_z w16 c.args.top) in
-    let k = c.loop-below.below in
-    let same : place t ≡ place c.args.top = ap place (to_z-of_z w16 c.args.top c.ranges.top) in
-    let m = narrow_kept c.lowered-magnitude.type_inv ∙ c.lowered-magnitude.ensures in
-    let more = step n t _ k _ c.digit_at-digit.ensures.value m (omega (arith, same, c.loop-below-test.true)) in
-    let known : c.loop-below.found ≡ part n (place t + 1) k = c.loop-below.invariant in
-    let big : 2 ^ 64 ≤ part n (place t + 1) c.args.count =
-    over n (place t + 1) k c.args.count (2 ^ 64) c.loop-below-test.true (omega (arith, same, c.requires.in_limits))
-    (omega (arith, more, known, c.in_err-checked_mul.ensures)) in
-    rw c.from_residual.ensures (omega (arith, big, ap (λ i. part n (i + 1) c.args.count) same))
-
-pub returns-in_err-found : goal.returns-in_err-found
-returns-in_err-found g c =
-    let n = c.args.value.now.number in
-    let t = to_z w16 (of_z w16 c.args.top) in
-    let k = c.loop-below.below in
-    let same : place t ≡ place c.args.top = ap place (to_z-of_z w16 c.args.top c.ranges.top) in
-    let m = narrow_kept c.lowered-magnitude.type_inv ∙ c.lowered-magnitude.ensures in
-    let more = step n t _ k _ c.digit_at-digit.ensures.value m (omega (arith, same, c.loop-below-test.true)) in
-    let known : c.loop-below.found ≡ part n (place t + 1) k = c.loop-below.invariant in
-    let big : 2 ^ 64 ≤ part n (place t + 1) c.args.count =
-    over n (place t + 1) k c.args.count (2 ^ 64) c.loop-below-test.true (omega (arith, same, c.requires.in_limits))
-    (omega (arith, more, known, c.in_err-found.ensures, c.in_ok-checked_mul.ensures)) in
-    rw c.from_residual-in_err-found.ensures (omega (arith, big, ap (λ i. part n (i + 1) c.args.count) same))
-
 pub loop-below-preserved : goal.loop-below-preserved
 loop-below-preserved g c =
     let t = to_z w16 (of_z w16 c.args.top) in
@@ -45,10 +17,10 @@ loop-below-preserved g c =
     let more =
     step c.args.value.now.number t _ c.loop-below.below _ c.digit_at-digit.ensures.value m
     (omega (arith, same, c.loop-below-test.true)) in
-    omega (arith, more, c.in_ok-found.ensures, c.in_ok-checked_mul.ensures)
+    omega (arith, more)
 
-pub returns-then-found-most : goal.returns-then-found-most
-returns-then-found-most g c =
+pub returns-then-longer-most : goal.returns-then-longer-most
+returns-then-longer-most g c =
     let n = c.args.value.now.number in
     let t = to_z w16 (of_z w16 c.args.top) in
     let k = c.loop-below.below in
@@ -57,7 +29,7 @@ returns-then-found-most g c =
     let more = step n t _ k _ c.digit_at-digit.ensures.value m (omega (arith, same, c.loop-below-test.true)) in
     let known : c.loop-below.found ≡ part n (place t + 1) k = c.loop-below.invariant in
     let reached : c.args.most + 1 ≤ part n (place t + 1) (k + 1) =
-    omega (arith, more, known, c.in_ok-found.ensures, c.in_ok-checked_mul.ensures, c.if-found-most.true) in
+    omega (arith, more, known, c.if-longer-most.true) in
     let big : c.args.most + 1 ≤ part n (place t + 1) c.args.count =
     over n (place t + 1) k c.args.count (c.args.most + 1) c.loop-below-test.true
     (omega (arith, same, c.requires.in_limits)) reached in

@@ -1,10 +1,15 @@
-use Rattle.std.proofs.Common.{rules, tests, sym, ◌∙◌, ap}
+use Rattle.std.proofs.Common.{◌≡◌, Bool, ◌||◌, List, [], ◌∷◌, map, rules, tests, refl, sym, ◌∙◌, ap}
 use Rattle.std.proofs.lemmas.Iterator.{YieldsList-from_slice}
 use Rattle.std.proofs.lemmas.Iterator.Search.{any_from_yields_List}
-use Rattle.std.specs.List.{list_all}
+use Rattle.std.specs.List.{list_any, list_all}
 use Rattle.plural_rules.specs.Rules.{holds, is_met}
-use Rattle.plural_rules.proofs.Conditions.{list_any-map}
 use Rattle.plural_rules.proofs.rules.Rule.is_met.Goals as goal
+
+-- a test of what a function makes
+list_any-map : {X Y : Type 0} (test : Y → Bool) (f : X → Y) (xs : List X)
+    → list_any test (map f xs) ≡ list_any (λ x. test (f x)) xs
+list_any-map test f [] = refl
+list_any-map test f (x ∷ xs) = ap (λ b. test (f x) || b) (list_any-map test f xs)
 
 pub returns : goal.returns
 returns g c =

@@ -1,16 +1,15 @@
-use Rattle.std.proofs.Common.{subst, ◌∙◌, arith}
-use Rattle.plural_rules.specs.Parts.{IsUpTo}
+use Rattle.std.proofs.Common.{◌∙◌, arith}
 use Rattle.plural_rules.proofs.Moved.{needed_of}
 use Rattle.fixed_decimal.proofs.Calling.{narrow_kept}
-use Rattle.plural_rules.proofs.operands.PluralOperands.t_up_to.Goals as goal
+use Rattle.plural_rules.proofs.operands.PluralOperands.trimmed_fraction.Goals as goal
 
-pub integer-requires : goal.integer-requires
-integer-requires g c =
+pub new-requires : goal.new-requires
+new-requires g c =
     let below = narrow_kept c.below_dot.type_inv ∙ c.below_dot.ensures in
     let found =
     needed_of c.args.self.now c.self.inside.value.now _ c.self.inside.exponent c.w.result c.self.view_is below
     (omega arith) c.w.ensures.value c.w.ensures.at_most in
-    record { in_limits = found.0 }
+    found.0
 
 pub returns : goal.returns
 returns g c =
@@ -18,4 +17,4 @@ returns g c =
     let found =
     needed_of c.args.self.now c.self.inside.value.now _ c.self.inside.exponent c.w.result c.self.view_is below
     (omega arith) c.w.ensures.value c.w.ensures.at_most in
-    subst (λ p. IsUpTo c.args.most c.integer.result p) found.1 c.integer.ensures
+    c.new.ensures ∙ found.1

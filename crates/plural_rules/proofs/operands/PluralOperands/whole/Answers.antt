@@ -1,14 +1,13 @@
-use Rattle.std.proofs.Common.{w16, to_z, of_z, sym, subst, arith}
+use Rattle.std.proofs.Common.{w16, to_z, of_z, sym, ◌∙◌, subst, arith}
 use Rattle.std.specs.Prelude.{pos, negsuc, ◌≤ℤ◌}
 use Rattle.std.proofs.lemmas.Int.{ints}
 use Rattle.decimal_digits.specs.Number.{IsFirst}
-use Rattle.plural_rules.specs.Parts.{IsUpTo}
 use Rattle.plural_rules.proofs.Moved.{whole_of}
 use Rattle.fixed_decimal.proofs.Calling.{narrow_kept}
-use Rattle.plural_rules.proofs.operands.PluralOperands.i_up_to.Goals as goal
+use Rattle.plural_rules.proofs.operands.PluralOperands.whole.Goals as goal
 
-pub integer-requires : goal.integer-requires
-integer-requires g c =
+pub new-requires : goal.new-requires
+new-requires g c =
     let x = c.self.inside.value.now in
     let kept = narrow_kept c.nonzero_magnitude_start-first.type_inv in
     let m = to_z w16 (of_z w16 c.nonzero_magnitude_start-first.result) in
@@ -18,7 +17,7 @@ integer-requires g c =
     let found =
     whole_of c.args.self.now x m c.self.inside.exponent c.places_from.result c.self.view_is first_is low high
     (omega arith) c.places_from.ensures in
-    record { in_limits = found.0 }
+    found.0
 
 pub returns : goal.returns
 returns g c =
@@ -31,4 +30,4 @@ returns g c =
     let found =
     whole_of c.args.self.now x m c.self.inside.exponent c.places_from.result c.self.view_is first_is low high
     (omega arith) c.places_from.ensures in
-    subst (λ p. IsUpTo c.args.most c.integer.result p) found.1 c.integer.ensures
+    c.new.ensures ∙ found.1

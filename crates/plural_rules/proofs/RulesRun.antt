@@ -1,0 +1,213 @@
+-- What is read of a text, byte by byte: of any text or, if strict, only as far as each number fits.
+use Rattle.std.proofs.Common.{◌≡◌, ℕ, ◌+◌, ◌*◌, ◌^◌, ◌<◌, ◌≤◌, nat_le, nat_lt, Bool, true, false, not, cond, ◌&&◌, ◌||◌, List, [], ◌∷◌, ◌++◌, length, take, get_or, refl, ◌∙◌, ap, arith}
+use Rattle.std.specs.Prelude.{Option, Some, None, IfSome}
+use Rattle.std.specs.List.{AllByRecursion}
+use Rattle.std.proofs.lemmas.Bool.{leb-true}
+use Rattle.std.proofs.lemmas.List.{take_more}
+use Rattle.plural_rules.specs.declared.parse.state.State.{State}
+use Rattle.plural_rules.specs.declared.parse.state.State.TheVariants as state
+use Rattle.plural_rules.specs.declared.parse.state.Event.{Event}
+use Rattle.plural_rules.specs.declared.parse.state.Event.TheVariants as event
+use Rattle.plural_rules.specs.Rules.{relation, RuleParts, rule}
+use Rattle.plural_rules.specs.RulesReader.{Move, Partial, no_rules, range_of, end_range, end_relation, end_alternative, end_rule, after, next, at_end, limit}
+use Rattle.plural_rules.specs.RulesRefusal.{RangeFits, RelationFits, ConjunctionFits, RuleFits, Fits}
+
+-- what an event says may be read
+abbrev pub allowed : Bool → Event → Partial → Bool
+allowed strict (event.First d) p = not strict || nat_le d (limit p.is_divided)
+allowed strict (event.Digit d) p = not strict || nat_le (p.number * 10 + d) (limit p.is_divided)
+allowed strict e p = true
+
+-- the state behind a text and the rules so far, if rules may begin so
+abbrev pub Reached : Type 0
+Reached = Option (State × Partial)
+
+abbrev pub move_on : Bool → Move → Partial → (State → Partial → Reached) → Reached
+move_on strict None p go = None
+move_on strict (Some move) p go = cond (allowed strict move.1 p) (go move.0 (after move.1 p)) None
+
+abbrev pub run : Bool → State → Partial → List ℕ → Reached
+run strict s p [] = Some (s, p)
+run strict s p (c ∷ text) = move_on strict (next p.seen s c) p (λ s q. run strict s q text)
+
+abbrev pub finished : Option Event → Partial → Option (List RuleParts)
+finished None p = None
+finished (Some e) p = Some (after e p).rules
+
+abbrev pub finish : Reached → Option (List RuleParts)
+finish None = None
+finish (Some x) = finished (at_end x.0) x.1
+
+-- the rules of a text
+abbrev pub read : Bool → State → Partial → List ℕ → Option (List RuleParts)
+read strict s p text = finish (run strict s p text)
+
+-- ---- Texts in a row.
+
+abbrev pub bind : Reached → (State → Partial → Reached) → Reached
+bind None go = None
+bind (Some x) go = go x.0 x.1
+
+bind_cond : (a : Bool) (x y : Reached) (go : State → Partial → Reached) → x ≡ bind y go
+    → cond a x None ≡ bind (cond a y None) go
+bind_cond true x y go h = h
+bind_cond false x y go h = refl
+
+pub run_append : (strict : Bool) (text more : List ℕ) (s : State) (p : Partial)
+    → run strict s p (text ++ more) ≡ bind (run strict s p text) (λ s q. run strict s q more)
+run_append strict [] more s p = refl
+run_append strict (c ∷ text) more s p = go (run_append strict text more) (next p.seen s c)
+  where
+    go : ((s : State) (p : Partial)
+        → run strict s p (text ++ more) ≡ bind (run strict s p text) (λ s q. run strict s q more))
+        → (m : Move) → move_on strict m p (λ s q. run strict s q (text ++ more))
+        ≡ bind (move_on strict m p (λ s q. run strict s q text)) (λ s q. run strict s q more)
+    go ih None = refl
+    go ih (Some move) = bind_cond (allowed strict move.1 p) _ _ _ (ih move.0 (after move.1 p))
+
+-- one byte more
+pub run_more : (strict : Bool) (text : List ℕ) (i : ℕ) (s : State) (p : Partial) → i < length text
+    → run strict state.Category no_rules (take i text) ≡ Some (s, p)
+    → run strict state.Category no_rules (take (i + 1) text)
+    ≡ move_on strict (next p.seen s (get_or text i 0)) p (λ s q. Some (s, q))
+run_more strict text i s p less h =
+    ap (run strict state.Category no_rules) (take_more text i 0 less)
+    ∙ run_append strict (take i text) (get_or text i 0 ∷ []) state.Category no_rules
+    ∙ ap (λ x. bind x (λ s q. run strict s q (get_or text i 0 ∷ []))) h
+
+-- a move that may be made
+pub moves : (strict : Bool) (m : Move) (s2 : State) (e : Event) (p : Partial) (go : State → Partial → Reached)
+    → m ≡ Some (s2, e) → allowed strict e p ≡ true → move_on strict m p go ≡ go s2 (after e p)
+moves strict m s2 e p go h a =
+    ap (λ m. move_on strict m p go) h ∙ ap (λ b. cond b (go s2 (after e p)) None) a
+
+-- ---- What is read strictly fits, and is read.
+
+pub any_allowed : (e : Event) (p : Partial) → allowed false e p ≡ true
+any_allowed (event.First d) p = refl
+any_allowed e p = refl
+
+was_allowed : (a : Bool) (y : Reached) (x : State × Partial) → cond a y None ≡ Some x → (a ≡ true) × (y ≡ Some x)
+was_allowed true y x h = (refl, h)
+was_allowed false y x h = absurd (cc)
+
+-- all that was read so far fits
+abbrev pub FitsSoFar : Partial → Type 0
+FitsSoFar p =
+    Fits p.rules × AllByRecursion ConjunctionFits p.alternatives × ConjunctionFits p.relations
+    × IfSome p.modulus (λ m. m ≤ 10 ^ 18) × AllByRecursion RangeFits p.ranges × IfSome p.low (λ n. n < 2 ^ 64)
+    × (p.number ≤ limit p.is_divided)
+
+all_more : {X : Type 0} (P : X → Type 0) (xs : List X) (y : X) → AllByRecursion P xs → P y
+    → AllByRecursion P (xs ++ y ∷ [])
+all_more P [] y h i = (i, tt)
+all_more P (x ∷ xs) y h i = (h.0, all_more P xs y h.1 i)
+
+pub in_64_bits : (b : Bool) (n : ℕ) → n ≤ limit b → n < 2 ^ 64
+in_64_bits true n h = omega arith
+in_64_bits false n h = omega arith
+
+at_most : (b : Bool) (n : ℕ) → n ≤ limit b → n ≤ limit false
+at_most b n h = let less : n < 2 ^ 64 = in_64_bits b n h in omega arith
+
+modulus_fits : (b c : Bool) (n : ℕ) → n ≤ limit b → IfSome (cond (b && c) (Some n) None) (λ m. m ≤ 10 ^ 18)
+modulus_fits true true n h = h
+modulus_fits true false n h = tt
+modulus_fits false c n h = tt
+
+range_fits : (low : Option ℕ) (n : ℕ) → IfSome low (λ m. m < 2 ^ 64) → n < 2 ^ 64 → RangeFits (range_of low n)
+range_fits None n h i = (i, i)
+range_fits (Some low) n h i = (h, i)
+
+range_ends : (p : Partial) → FitsSoFar p → FitsSoFar (end_range p)
+range_ends p h =
+    let range = range_fits p.low p.number h.5 (in_64_bits p.is_divided p.number h.6) in
+    (h.0, h.1, h.2, h.3, all_more RangeFits p.ranges (range_of p.low p.number) h.4 range, tt, h.6)
+
+relation_ends : (p : Partial) → FitsSoFar p → FitsSoFar (end_relation p)
+relation_ends p h =
+    let r = relation p.operand p.modulus p.is_equal p.ranges in
+    (h.0, h.1, all_more RelationFits p.relations r h.2 (h.3, h.4), h.3, tt, h.5, h.6)
+
+alternative_ends : (p : Partial) → FitsSoFar p → FitsSoFar (end_alternative p)
+alternative_ends p h =
+    (h.0, all_more ConjunctionFits p.alternatives p.relations h.1 h.2, tt, h.3, h.4, h.5, h.6)
+
+rule_ends : (p : Partial) → FitsSoFar p → FitsSoFar (end_rule p)
+rule_ends p h =
+    (all_more RuleFits p.rules (rule p.category p.alternatives) h.0 h.1, tt, h.2, h.3, h.4, h.5, h.6)
+
+-- what an event adds fits, where it may be read
+pub fits_on : (e : Event) (p : Partial) → FitsSoFar p → allowed true e p ≡ true → FitsSoFar (after e p)
+fits_on event.Nothing p h a = h
+fits_on (event.Category k) p h a = (h.0, tt, tt, h.3, h.4, h.5, h.6)
+fits_on (event.Operand o) p h a = (h.0, h.1, h.2, h.3, tt, h.5, at_most p.is_divided p.number h.6)
+fits_on event.Percent p h a = (h.0, h.1, h.2, h.3, h.4, h.5, omega arith)
+fits_on (event.First d) p h a = (h.0, h.1, h.2, h.3, h.4, h.5, leb-true d (limit p.is_divided) a)
+fits_on (event.Digit d) p h a =
+    (h.0, h.1, h.2, h.3, h.4, h.5, leb-true (p.number * 10 + d) (limit p.is_divided) a)
+fits_on (event.Equal e) p h a =
+    let modulus = modulus_fits p.is_divided (nat_lt 0 p.number) p.number h.6 in
+    (h.0, h.1, h.2, modulus, h.4, tt, at_most p.is_divided p.number h.6)
+fits_on event.To p h a = (h.0, h.1, h.2, h.3, h.4, in_64_bits p.is_divided p.number h.6, h.6)
+fits_on event.Comma p h a = range_ends p h
+fits_on event.And p h a = relation_ends (end_range p) (range_ends p h)
+fits_on event.Or p h a = alternative_ends (after event.And p) (relation_ends (end_range p) (range_ends p h))
+fits_on event.End p h a =
+    rule_ends (after event.Or p)
+    (alternative_ends (after event.And p) (relation_ends (end_range p) (range_ends p h)))
+fits_on event.EndOther p h a = rule_ends p h
+
+-- what is read strictly fits, and is read
+strict_run : (text : List ℕ) (s : State) (p : Partial) (x : State × Partial) → FitsSoFar p
+    → run true s p text ≡ Some x → FitsSoFar x.1 × (run false s p text ≡ Some x)
+strict_run [] s p x f h = let same : ◌≡◌ {A = State × Partial} (s, p) x = cc in (rw (← same) f, h)
+strict_run (c ∷ text) s p x f h = go (strict_run text) (next p.seen s c) h
+  where
+    go : ((s : State) (p : Partial) (x : State × Partial) → FitsSoFar p → run true s p text ≡ Some x
+        → FitsSoFar x.1 × (run false s p text ≡ Some x))
+        → (m : Move) → move_on true m p (λ s q. run true s q text) ≡ Some x
+        → FitsSoFar x.1 × (move_on false m p (λ s q. run false s q text) ≡ Some x)
+    go ih None h = absurd (cc)
+    go ih (Some move) h =
+        let was = was_allowed (allowed true move.1 p) _ x h in
+        let rest = ih move.0 (after move.1 p) x (fits_on move.1 p f was.0) was.1 in
+        let any = moves false (Some move) move.0 move.1 p (λ s q. run false s q text) refl (any_allowed move.1 p) in
+        (rest.0, any ∙ rest.1)
+
+pub reached_strictly : (text : List ℕ) (s : State) (p : Partial)
+    → run true state.Category no_rules text ≡ Some (s, p)
+    → FitsSoFar p × (run false state.Category no_rules text ≡ Some (s, p))
+reached_strictly text s p h =
+    strict_run text state.Category no_rules (s, p) (tt, tt, tt, tt, tt, tt, omega arith) h
+
+-- what holds of the three events at the end of a text
+pub at_end_all : (P : Event → Type 0) → P event.EndOther → P event.End → P event.Nothing → (s : State) (e : Event)
+    → at_end s ≡ Some e → P e
+at_end_all P o d n state.OtherCondition e h = let same : event.EndOther ≡ e = cc in rw (← same) o
+at_end_all P o d n state.LowDigits e h = let same : event.End ≡ e = cc in rw (← same) d
+at_end_all P o d n state.BehindLow e h = let same : event.End ≡ e = cc in rw (← same) d
+at_end_all P o d n state.HighDigits e h = let same : event.End ≡ e = cc in rw (← same) d
+at_end_all P o d n state.BehindHigh e h = let same : event.End ≡ e = cc in rw (← same) d
+at_end_all P o d n state.Samples e h = let same : event.Nothing ≡ e = cc in rw (← same) n
+at_end_all P o d n s e h = absurd (cc)
+
+-- rules that are read strictly fit, and are those that are read of any text
+pub read_fits : (text : List ℕ) (rules : List RuleParts) → read true state.Category no_rules text ≡ Some rules
+    → Fits rules × (read false state.Category no_rules text ≡ Some rules)
+read_fits text rules h = go (run true state.Category no_rules text) refl h
+  where
+    ended : (s : State) (p : Partial) → FitsSoFar p → (end : Option Event) → at_end s ≡ end
+        → finished end p ≡ Some rules → Fits rules
+    ended s p f None is h = absurd (cc)
+    ended s p f (Some e) is h =
+        let same : (after e p).rules ≡ rules = cc in
+        let fits = fits_on e p f (at_end_all (λ e. allowed true e p ≡ true) refl refl refl s e is) in
+        rw (← same) (fits.0)
+
+    go : (x : Reached) → run true state.Category no_rules text ≡ x → finish x ≡ Some rules
+        → Fits rules × (read false state.Category no_rules text ≡ Some rules)
+    go None is h = absurd (cc)
+    go (Some x) is h =
+        let strictly = reached_strictly text x.0 x.1 is in
+        (ended x.0 x.1 strictly.0 (at_end x.0) refl h, ap finish strictly.1 ∙ h)
