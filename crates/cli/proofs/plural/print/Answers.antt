@@ -29,8 +29,8 @@ returns-then-has_failed-clause-error g c =
       unwritten,
       (λ works. absurd (false≢true (sym works ∙ failed))),
       (λ _. failed),
-      has_rules c.args.words.now rules texts (λ rules texts. StopsAt rules texts old (append_known new unwritten) Output)
-          c.in-Ok.ensures.found stop,
+      has_rules c.args.words.now rules texts
+          (λ rules texts. StopsAt rules texts old (append_known new unwritten) Output) c.in-Ok.ensures.found stop,
     )
 
 pub returns-clause-printed : goal.returns-clause-printed
