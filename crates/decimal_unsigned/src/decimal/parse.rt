@@ -208,12 +208,14 @@ impl<D: DigitStore> UnsignedOver<D> {
     fn read_from(alloc: Global, text: &[u8]) -> Result<Self, ParseError>
         ensures { Answers (λ v. D.L < size v.number) result (read text.now) }
     {
+        if text.len() > FEW {
+            let value = Self::scan_from(alloc, text)?;
+            return Ok(value);
+        }
         let Some(written) = split(text) else {
             return Err(ParseError::Syntax);
         };
-        if text.len() <= FEW
-            && let Some(value) = Self::from_short_parts(alloc, &written)
-        {
+        if let Some(value) = Self::from_short_parts(alloc, &written) {
             return Ok(value);
         }
         // A `Result` handed on as it is would be copied through memory for a short text too.
@@ -221,6 +223,19 @@ impl<D: DigitStore> UnsignedOver<D> {
             Ok(value) => Ok(value),
             Err(error) => Err(error),
         }
+    }
+
+    /// The value that a long text writes.
+    // Behind a call, so that a short text does not test whether it is one.
+    #[inline(never)]
+    fn scan_from(alloc: Global, text: &[u8]) -> Result<Self, ParseError>
+        ensures { Answers (λ v. D.L < size v.number) result (read text.now) }
+    {
+        let scan = Scan::new(text)?;
+        let Ok(value) = scan.value(alloc) else {
+            return Err(ParseError::Memory);
+        };
+        Ok(value)
     }
 
     /// The value of any parts.
