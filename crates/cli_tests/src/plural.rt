@@ -80,7 +80,11 @@ fn reports_why_there_are_no_words(rt: HostRuntime) -> Result<(), Fail> {
     let no_memory = Err(io::Error::from(ErrorKind::OutOfMemory));
     assert_prints(&rt, printed(rt.alloc(), no_memory)?, "3 memory\n");
     let not_text = Err(io::Error::from(ErrorKind::InvalidData));
-    assert_prints(&rt, printed(rt.alloc(), not_text)?, "2 usage: plural RULES TEXT..\n");
+    assert_prints(
+        &rt,
+        printed(rt.alloc(), not_text)?,
+        "2 usage: plural RULES TEXT..\n",
+    );
     Ok(())
 }
 

@@ -6,6 +6,7 @@ use cli::fixdec_lines::run_arguments;
 use decimal_doubles::{FailingWriter, WriteFailure};
 use std::alloc::Global;
 use std::io::ErrorKind;
+use std::process::Abort;
 use std::test::Fail;
 
 /// Words, an input, what standard output and standard error take, and the status.
@@ -145,7 +146,13 @@ const USAGE: &[u8] = b"usage: fixdec_lines [skip] [CALL]..\n";
 const NO_MEMORY: &[Row] = &[
     ("fixdec_lines", b"", b"", b"line 1: memory\n", 3),
     ("fixdec_lines", b"7\n8", b"7\n", b"line 2: memory\n", 3),
-    ("fixdec_lines skip", b"x\n", b"\n", b"line 1: start: syntax\nline 2: memory\n", 3),
+    (
+        "fixdec_lines skip",
+        b"x\n",
+        b"\n",
+        b"line 1: start: syntax\nline 2: memory\n",
+        3,
+    ),
 ];
 
 /// Whether a row holds with so many bytes at a read, of a reader that fails so behind the input.
@@ -162,13 +169,14 @@ fn holds(alloc: Global, row: Row, most: usize, failure: Option<ErrorKind>) -> Re
 
 /// Asserts that rows hold, with a few bytes at a read and with many.
 fn assert_rows(
-    rt: &HostRuntime,
+    rt: &impl Abort,
+    alloc: Global,
     rows: &[Row],
     failure: Option<ErrorKind>,
 ) -> Result<(), Fail> {
     for most in [1, 2, 5, 100] {
         for row in rows {
-            assert!(rt; holds(rt.alloc(), *row, most, failure)?, "{} {most}", row.0);
+            assert!(rt; holds(alloc, *row, most, failure)?, "{} {most}", row.0);
         }
     }
     Ok(())
@@ -176,7 +184,8 @@ fn assert_rows(
 
 #[test]
 fn answers_in_pieces(rt: HostRuntime) -> Result<(), Fail> {
-    assert_rows(&rt, ROWS, None)?;
-    assert_rows(&rt, BROKEN, Some(ErrorKind::BrokenPipe))?;
-    assert_rows(&rt, NO_MEMORY, Some(ErrorKind::OutOfMemory))
+    let alloc = rt.alloc();
+    assert_rows(&rt, alloc, ROWS, None)?;
+    assert_rows(&rt, alloc, BROKEN, Some(ErrorKind::BrokenPipe))?;
+    assert_rows(&rt, alloc, NO_MEMORY, Some(ErrorKind::OutOfMemory))
 }
