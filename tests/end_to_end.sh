@@ -102,7 +102,7 @@ row fixdec 2 '' "$usage" 5 "${calls[@]}" x
 zeros=$(printf '%032768d' 0)
 row fixdec 0 "1${zeros:1}.$zeros"$'\n' '' 1e32767 pad-end:-32768
 
-# Little memory: the system cannot start the program, or it reports `memory`, or it prints. Some limits are of each kind.
+# Little memory: the system cannot start the program, or it reports `memory`, or it prints. Each occurs.
 many=()
 for ((i = 0; i < 50000; i++)); do many+=(shift:0); done
 reported=0
@@ -223,7 +223,7 @@ for ((i = 0; i < 20000; i++)); do echo "$i.125"; done > "$room/many"
 [ $? = 0 ] && [ "$(wc -l < "$room/out")" = 20000 ] && [ "$(tail -n 1 "$room/out")" = 19999.12 ]
 judge 'many lines'
 
-# Little memory: the system cannot start the program, or it reports `memory` or `line 2: memory` with the line before, or
+# Little memory: the system cannot start the program; it reports `memory`, or `line 2: memory` with the line before; or
 # it prints. Some limits are of the last two kinds.
 { echo 7; head -c 30000000 /dev/zero | tr '\0' x; echo; } > "$room/in"
 early=0
@@ -245,7 +245,7 @@ for ((limit = 2000; limit <= 130000; limit += 4000)); do
   fi
 done 2> /dev/null
 [ "$reported" != 0 ] && [ "$printed" != 0 ]
-judge "with little memory it reported memory $early times, that of a line $reported times, and read the line $printed times"
+judge "with little memory it reported memory $early times, that of a line $reported times, and read it $printed times"
 
 help fixdec_lines 'usage: fixdec_lines [skip] [CALL]..'
 
@@ -289,7 +289,7 @@ name='plural x 2> /dev/full'
 found=$?
 compare 1 $'one\n' ''
 
-# Little memory: the system cannot start the program, or it reports `memory`, or it prints. Some limits are of each kind.
+# Little memory: the system cannot start the program, or it reports `memory`, or it prints. Each occurs.
 digits=$(printf '%020000d' 7)
 reported=0
 printed=0

@@ -1,6 +1,6 @@
 #!/usr/bin/env bash
 # Tries each wrong body of the named crates, or of all: those of wrong_bodies/CRATE, which the gate does not read, and
-# those of crates/CRATE/must-fail. The prover has to reject each at the clause that docs/EDITS.md names.
+# those of crates/CRATE/must-fail. The prover has to reject each at the clause that its comment `# rejected:` names.
 #
 # Run it before a contract of a crate changes, and after. Needs bash and python3. A wrong body takes half a processor
 # minute, and each crate its own proof first. The last line is `N passed, M failed`; the status is 0 if M is 0.
@@ -20,6 +20,6 @@ done
 passed=$(grep -c '^rt: must-fail .*: refused, as it must be' "$scratch/log")
 tried=$(for crate in "$@"; do ls "$scratch/crates/$crate/must-fail"; done | wc -l)
 failed=$((tried - passed))
-python3 tools/edits_table.py --check "$scratch/log" || failed=$((failed + 1))
+python3 tools/wrong_bodies.py "$scratch/log" || failed=$((failed + 1))
 echo "$passed passed, $failed failed"
 [ "$failed" -eq 0 ]

@@ -1,13 +1,13 @@
-//! How a call went.
+//! The outcome of calls that allocate.
 
-/// How a call went, or several: the worst of them.
+/// The outcome of a call, or the worst of several.
 #[derive(Clone, Copy, PartialEq)]
 pub enum Outcome {
-    /// It did its work at once.
+    /// It succeeded at once.
     Done,
-    /// It was refused memory, left all as it was, and did its work when it was made again.
+    /// It reported that it was out of memory, changed nothing, and succeeded when it was made again.
     Again,
-    /// It answered otherwise.
+    /// It did anything else.
     Wrong,
 }
 

@@ -1,58 +1,65 @@
-//! Roundings that make a number of one digit more.
+//! Roundings to a number of one digit more.
 use crate::outcome::Outcome;
 use crate::values::read;
-use decimal_doubles::shows;
+use decimal_doubles::{Rounds, Value, Way, rounded, shows, ways};
 use fixed_decimal::RoundingIncrement::MultiplesOf25;
-use fixed_decimal::SignedRoundingMode::Unsigned;
-use fixed_decimal::UnsignedRoundingMode::Trunc;
-use fixed_decimal::{Decimal, ParseError, RoundError};
+use fixed_decimal::SignedRoundingMode::{self, Unsigned};
+use fixed_decimal::UnsignedRoundingMode::{self, Trunc};
+use fixed_decimal::{ByteDecimal, Decimal, ParseError, RoundError, Signed, UnsignedDecimal};
 use std::alloc::Global;
 
 /// A number, and what it is rounded to at -1 by 25.
-const NUMBERS: &[(&str, &str)] = &[
-    ("-1234567812345678", "-1234567812345677.5"),
+type Row = (&'static str, &'static str);
+
+const ABSOLUTE: &[Row] = &[
+    ("1234567812345678", "1234567812345677.5"),
     ("12345678123456789013", "12345678123456789012.5"),
+    ("1111111111111111111118", "1111111111111111111117.5"),
 ];
 
-/// The outcome of a rounding that was refused, has to have left the decimal, and is asked for again.
-fn rounded_again(mut value: Decimal, (text, wanted): (&str, &str)) -> Outcome {
-    let is_left = shows(&value, text.as_bytes());
-    let answer = value.round_with_mode_and_increment(-1, Unsigned(Trunc), MultiplesOf25);
-    Outcome::second(is_left && answer.is_ok() && shows(&value, wanted.as_bytes()))
+const NEGATIVE: &[Row] = &[("-1234567812345678", "-1234567812345677.5")];
+
+/// The outcome of a rounding that failed: the value has to be unchanged, and it is rounded again.
+fn round_again<M: Copy, T: Value + Rounds<M>>(value: T, (text, wanted): Row, mode: M) -> Outcome {
+    let mut value = value;
+    let is_unchanged = shows(&value, text.as_bytes());
+    let result = value.round_by(Way::ByIncrement, (-1, mode, MultiplesOf25));
+    Outcome::second(is_unchanged && result.is_ok() && shows(&value, wanted.as_bytes()))
 }
 
-/// The outcome of a rounding in place.
-fn rounded_in_place(mut value: Decimal, row: (&str, &str)) -> Outcome {
-    match value.round_with_mode_and_increment(-1, Unsigned(Trunc), MultiplesOf25) {
-        Ok(()) => Outcome::first(shows(&value, row.1.as_bytes())),
-        Err(RoundError::Limit) => Outcome::Wrong,
-        Err(RoundError::Memory) => rounded_again(value, row),
-    }
-}
-
-/// The outcome of a rounding by value.
-fn rounded_by_value(value: Decimal, row: (&str, &str)) -> Outcome {
-    match value.rounded_with_mode_and_increment(-1, Unsigned(Trunc), MultiplesOf25) {
+/// The outcome of a rounding by a call, with that of reading the number.
+fn round<M: Copy, T: Value + Rounds<M>>(
+    alloc: Global,
+    row: Row,
+    (call, mode): (Way, M),
+) -> Result<Outcome, ParseError> {
+    let (value, of_read) = read::<T>(alloc, row.0)?;
+    let of_rounding = match rounded(value, call, (-1, mode, MultiplesOf25)) {
         Ok(value) => Outcome::first(shows(&value, row.1.as_bytes())),
         Err((_, RoundError::Limit)) => Outcome::Wrong,
-        Err((value, RoundError::Memory)) => rounded_again(value, row),
-    }
+        Err((value, RoundError::Memory)) => round_again(value, row, mode),
+    };
+    Ok(of_read.and(of_rounding))
 }
 
-/// The outcome of both roundings of a text.
-fn rounded(alloc: Global, row: (&str, &str)) -> Result<Outcome, ParseError> {
-    let (value, of_first) = read::<Decimal>(alloc, row.0)?;
-    let in_place = rounded_in_place(value, row);
-    let (value, of_second) = read::<Decimal>(alloc, row.0)?;
-    let by_value = rounded_by_value(value, row);
-    Ok(of_first.and(in_place).and(of_second).and(by_value))
+/// The outcome of the roundings of some numbers of a type by each call.
+fn roundings<M: Copy, T: Value + Rounds<M>>(alloc: Global, rows: &[Row], mode: M) -> Outcome {
+    let mut outcome = Outcome::Done;
+    for row in rows {
+        for call in ways(MultiplesOf25) {
+            let of_row = round::<M, T>(alloc, *row, (*call, mode));
+            outcome = outcome.and(of_row.unwrap_or(Outcome::Wrong));
+        }
+    }
+    outcome
 }
 
 /// The outcome of all roundings.
 pub fn outcome(alloc: Global) -> Outcome {
-    let mut outcome = Outcome::Done;
-    for row in NUMBERS {
-        outcome = outcome.and(rounded(alloc, *row).unwrap_or(Outcome::Wrong));
-    }
-    outcome
+    let mode = Unsigned(Trunc);
+    roundings::<UnsignedRoundingMode, UnsignedDecimal>(alloc, ABSOLUTE, Trunc)
+        .and(roundings::<UnsignedRoundingMode, ByteDecimal>(alloc, ABSOLUTE, Trunc))
+        .and(roundings::<SignedRoundingMode, Decimal>(alloc, ABSOLUTE, mode))
+        .and(roundings::<SignedRoundingMode, Decimal>(alloc, NEGATIVE, mode))
+        .and(roundings::<SignedRoundingMode, Signed<ByteDecimal>>(alloc, ABSOLUTE, mode))
 }

@@ -1,4 +1,4 @@
-//! Whole runs: the start, the operands and the calls ask for memory.
+//! Runs whose start, operands and calls allocate.
 use crate::outcome::Outcome;
 use decimal_doubles::LimitedSink;
 use fixed_decimal::RoundingIncrement::MultiplesOf25;
@@ -10,7 +10,7 @@ use std::alloc::Global;
 /// A start, calls, and the text that they come to.
 type Run = (&'static str, &'static [Call<'static>], &'static str);
 
-/// Runs that ask for memory.
+/// Runs that allocate.
 const RUNS: &[Run] = &[
     (
         "922337203685477580898230948203840239384.9823094820384023938423424",
@@ -30,8 +30,8 @@ const RUNS: &[Run] = &[
     ),
 ];
 
-/// Whether a run was refused memory.
-fn wants_memory(error: &RunError) -> bool {
+/// Whether a run was out of memory.
+fn is_out_of_memory(error: &RunError) -> bool {
     matches!(
         error,
         RunError::Start(ParseError::Memory)
@@ -49,14 +49,14 @@ fn writes(alloc: Global, (start, calls, text): Run) -> bool {
     run(alloc, start.as_bytes(), calls, &mut sink).is_ok() && sink.has_all()
 }
 
-/// The outcome of a run. A refused one has to write nothing.
+/// The outcome of a run. Where it fails it has to write nothing.
 fn of_run(alloc: Global, (start, calls, text): Run) -> Outcome {
     let mut sink = LimitedSink::new(text.as_bytes(), usize::MAX);
     match run(alloc, start.as_bytes(), calls, &mut sink) {
         Ok(()) => Outcome::first(sink.has_all()),
         Err(error) => {
-            let is_refused = wants_memory(&error) && sink.has_taken(0) && !sink.failed();
-            Outcome::second(is_refused && writes(alloc, (start, calls, text)))
+            let is_unwritten = is_out_of_memory(&error) && sink.has_taken(0) && !sink.failed();
+            Outcome::second(is_unwritten && writes(alloc, (start, calls, text)))
         }
     }
 }

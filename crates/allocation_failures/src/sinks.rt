@@ -1,15 +1,15 @@
-//! The sink that grows: it fails where its growth is refused, and takes nothing afterwards.
+//! The sink that grows: where its growth fails, it has failed and takes nothing afterwards.
 use crate::outcome::Outcome;
 use fixed_decimal::{RunError, Sink, TextBuf, run};
 use std::alloc::Global;
 
-/// The bytes that are put, so many times.
+/// The bytes that are written repeatedly.
 const PIECE: &[u8] = b"0123456789";
 
-/// How often the bytes are put: the sink grows several times.
+/// How often the bytes are written: the sink grows several times.
 const TIMES: usize = 20;
 
-/// Whether a sink has taken so many pieces, and nothing else.
+/// Whether a sink has taken `count` pieces, and nothing else.
 fn has_taken(sink: &TextBuf, count: usize) -> bool {
     let mut rest = sink.as_bytes();
     for _ in 0..count {
@@ -21,7 +21,7 @@ fn has_taken(sink: &TextBuf, count: usize) -> bool {
     rest.is_empty()
 }
 
-/// Puts pieces until one is refused, and counts those that were taken.
+/// Writes pieces until one is rejected, and counts those that were taken.
 fn put_pieces(sink: &mut TextBuf) -> usize {
     for taken in 0..TIMES {
         if sink.put_bytes(PIECE).is_err() {
@@ -31,8 +31,8 @@ fn put_pieces(sink: &mut TextBuf) -> usize {
     TIMES
 }
 
-/// Whether a sink refuses a byte, bytes and no bytes.
-fn refuses_all(sink: &mut TextBuf) -> bool {
+/// Whether a sink rejects a byte, bytes and no bytes.
+fn rejects_all(sink: &mut TextBuf) -> bool {
     sink.put_byte(b'x').is_err() && sink.put_bytes(PIECE).is_err() && sink.put_bytes(b"").is_err()
 }
 
@@ -42,15 +42,15 @@ fn takes(alloc: Global) -> bool {
     put_pieces(&mut sink) == TIMES && !sink.failed() && has_taken(&sink, TIMES)
 }
 
-/// The outcome of a sink that takes pieces. Where a growth is refused, it has failed, takes nothing more, and keeps
-/// what it took; another sink then takes all.
+/// The outcome of a sink that takes pieces. Where a growth fails, it has failed, takes nothing more, and keeps what it
+/// took; another sink then takes all.
 pub fn outcome(alloc: Global) -> Outcome {
     let mut sink = TextBuf::new(alloc);
     let taken = put_pieces(&mut sink);
     if taken == TIMES {
         return Outcome::first(!sink.failed() && has_taken(&sink, TIMES));
     }
-    let has_failed = sink.failed() && refuses_all(&mut sink) && has_taken(&sink, taken);
+    let has_failed = sink.failed() && rejects_all(&mut sink) && has_taken(&sink, taken);
     Outcome::second(has_failed && takes(alloc))
 }
 

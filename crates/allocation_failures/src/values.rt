@@ -2,29 +2,28 @@
 use crate::outcome::Outcome;
 use decimal_doubles::{Value, shows};
 use fixed_decimal::{
-    CompactDecimal, Decimal, FixedInteger, ParseError, ScientificDecimal, UnsignedDecimal,
+    ByteDecimal, CompactDecimal, Decimal, DigitList, DigitStore, FixedInteger, PackedDigits,
+    ParseError, ScientificDecimal, UnsignedDecimal, UnsignedOver,
 };
 use std::alloc::{AllocError, Global};
 
-/// How the copy of a value goes.
-fn copied<T: Value>(value: &T, text: &str) -> Outcome {
-    match value.copy() {
-        Ok(copy) => Outcome::first(shows(&copy, text.as_bytes())),
-        Err(AllocError) => {
-            Outcome::second(shows(value, text.as_bytes()) && is_made(value.copy(), text))
-        }
-    }
-}
-
 /// Whether a value was made and has a text.
-fn is_made<T: Value>(answer: Result<T, AllocError>, text: &str) -> bool {
-    match answer {
+fn is_made<T: Value>(made: Result<T, AllocError>, text: &str) -> bool {
+    match made {
         Ok(value) => shows(&value, text.as_bytes()),
         Err(AllocError) => false,
     }
 }
 
-/// The value of a text, which is asked for again where memory was refused, and how that went.
+/// The outcome of a call that makes a value with a text. It is made again where its allocation failed.
+fn making<T: Value, F: Fn() -> Result<T, AllocError>>(make: F, text: &str) -> Outcome {
+    match make() {
+        Err(AllocError) => Outcome::second(is_made(make(), text)),
+        made => Outcome::first(is_made(made, text)),
+    }
+}
+
+/// The value of a text, which is read again where an allocation failed, and the outcome.
 pub fn read<T: Value>(alloc: Global, text: &str) -> Result<(T, Outcome), ParseError> {
     match T::read(alloc, text) {
         Err(ParseError::Memory) => Ok((T::read(alloc, text)?, Outcome::Again)),
@@ -32,46 +31,55 @@ pub fn read<T: Value>(alloc: Global, text: &str) -> Result<(T, Outcome), ParseEr
     }
 }
 
-/// How the reading of a text goes, and the copy of its value.
-fn read_and_copied<T: Value>(alloc: Global, text: &str) -> Outcome {
+/// The outcome of reading a text and of copying its value, which has to be unchanged.
+fn reading<T: Value>(alloc: Global, text: &str) -> Outcome {
     match read::<T>(alloc, text) {
         Ok((value, outcome)) => outcome
-            .and(Outcome::first(shows(&value, text.as_bytes())))
-            .and(copied(&value, text)),
+            .and(making(|| value.copy(), text))
+            .and(Outcome::first(shows(&value, text.as_bytes()))),
         Err(_) => Outcome::Wrong,
     }
 }
 
-/// How the making of an integer's decimal goes.
-fn decimal_of(alloc: Global, integer: i128, text: &str) -> Outcome {
-    match Decimal::try_from_i128(alloc, integer) {
-        Err(AllocError) => Outcome::second(is_made(Decimal::try_from_i128(alloc, integer), text)),
-        answer => Outcome::first(is_made(answer, text)),
-    }
+/// The outcome of the widest integers over a store.
+fn integers<D: DigitStore>(alloc: Global) -> Outcome {
+    making(
+        || UnsignedOver::<D>::try_from_u32(alloc, u32::MAX),
+        "4294967295",
+    )
+    .and(making(
+        || UnsignedOver::<D>::try_from_u64(alloc, u64::MAX),
+        "18446744073709551615",
+    ))
+    .and(making(
+        || UnsignedOver::<D>::try_from_usize(alloc, usize::MAX),
+        "18446744073709551615",
+    ))
+    .and(making(
+        || UnsignedOver::<D>::try_from_u128(alloc, u128::MAX),
+        "340282366920938463463374607431768211455",
+    ))
 }
 
-/// How the making of an integer's fixed integer goes.
-fn integer_of(alloc: Global, integer: u128, text: &str) -> Outcome {
-    match FixedInteger::try_from_u128(alloc, integer) {
-        Err(AllocError) => {
-            Outcome::second(is_made(FixedInteger::try_from_u128(alloc, integer), text))
-        }
-        answer => Outcome::first(is_made(answer, text)),
-    }
-}
-
-/// How the making of all values goes.
+/// The outcome of all values.
 pub fn outcome(alloc: Global) -> Outcome {
-    read_and_copied::<UnsignedDecimal>(alloc, "00123456789012345678.90")
-        .and(read_and_copied::<Decimal>(alloc, "-123456789012345678.90"))
-        .and(read_and_copied::<FixedInteger>(alloc, "-0012345678901234567890"))
-        .and(read_and_copied::<CompactDecimal>(alloc, "+12345678901234567890.5c12"))
-        .and(read_and_copied::<ScientificDecimal>(
-            alloc,
-            "12345678901234567890e-12345678901234567891",
+    reading::<UnsignedDecimal>(alloc, "00123456789012345678.90")
+        .and(reading::<UnsignedDecimal>(alloc, "1111111111111111111118"))
+        .and(reading::<ByteDecimal>(alloc, "1111111111111111111118"))
+        .and(reading::<Decimal>(alloc, "-123456789012345678.90"))
+        .and(reading::<FixedInteger>(alloc, "-0012345678901234567890"))
+        .and(reading::<CompactDecimal>(alloc, "+12345678901234567890.5c12"))
+        .and(reading::<ScientificDecimal>(alloc, "12345678901234567890e-12345678901234567891"))
+        .and(reading::<ScientificDecimal>(alloc, "1e12345678901234567890"))
+        .and(reading::<ScientificDecimal>(alloc, "12345678901234567890e1"))
+        .and(integers::<PackedDigits>(alloc))
+        .and(integers::<DigitList>(alloc))
+        .and(making(
+            || Decimal::try_from_i128(alloc, i128::MIN),
+            "-170141183460469231731687303715884105728",
         ))
-        .and(read_and_copied::<ScientificDecimal>(alloc, "1e12345678901234567890"))
-        .and(read_and_copied::<ScientificDecimal>(alloc, "12345678901234567890e1"))
-        .and(decimal_of(alloc, i128::MIN, "-170141183460469231731687303715884105728"))
-        .and(integer_of(alloc, u128::MAX, "340282366920938463463374607431768211455"))
+        .and(making(
+            || FixedInteger::try_from_u128(alloc, u128::MAX),
+            "340282366920938463463374607431768211455",
+        ))
 }

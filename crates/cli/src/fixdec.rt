@@ -114,16 +114,9 @@ pub fn run_arguments<O: Write + Drop, E: Write>(
         × (error ≢ output → IfSome result.1 (λ closed. closed ≡ (out, false))) }
     ensures untouched { 0 < result.0 → result.0 < 3 → IfSome result.1 (λ closed. closed ≡ (out, false)) }
 {
-    let words = match words(alloc, arguments) {
-        Ok(Some(words)) => words,
-        Ok(None) => return (
-            conclude_on(Err(FixdecError::Usage), err),
-            Some(Closed::uncalled(out)),
-        ),
-        Err(_) => return (
-            conclude_on(Err(FixdecError::Memory), err),
-            Some(Closed::uncalled(out)),
-        ),
+    let words = match words(alloc, arguments, FixdecError::Usage, FixdecError::Memory) {
+        Ok(words) => words,
+        Err(error) => return (conclude_on(Err(error), err), Some(Closed::uncalled(out))),
     };
     let Ok(mut blocks) = open(alloc, out) else {
         return (conclude_on(Err(FixdecError::Memory), err), None);

@@ -107,14 +107,10 @@ pub fn run_arguments<R: Read, O: Write + Drop, D: Diagnostics<FilterError>>(
         × (IsEarly error → IfSome result.1 (λ closed. closed ≡ (out, false)))) }
     ensures untouched { result.0 ≡ 2 → (input.new ≡ input.old) × IfSome result.1 (λ closed. closed ≡ (out, false)) }
 {
-    let words = match words(alloc, arguments) {
-        Ok(Some(words)) => words,
-        Ok(None) => return (
-            conclude(Err(FilterError::Usage), diagnostics),
-            Some(Closed::uncalled(out)),
-        ),
-        Err(_) => return (
-            conclude(Err(FilterError::Memory), diagnostics),
+    let words = match words(alloc, arguments, FilterError::Usage, FilterError::Memory) {
+        Ok(words) => words,
+        Err(error) => return (
+            conclude(Err(error), diagnostics),
             Some(Closed::uncalled(out)),
         ),
     };

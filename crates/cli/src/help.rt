@@ -1,6 +1,7 @@
 //! The texts of `--help`.
-ghost use Rattle.std.specs.Prelude.{◌≡◌, ◌≤◌, ◌++◌, Some, None, IfSome};
+ghost use Rattle.std.specs.Prelude.{◌≡◌, ◌⊎◌, ◌++◌, Some, None, IfSome};
 ghost use Rattle.std.specs.Io.KnownBytes.{Appends};
+ghost use Rattle.cli.specs.Arguments.{HaveWords, IsHelp};
 
 use crate::arguments::words;
 use decimal_digits::sink::write_whole;
@@ -43,12 +44,12 @@ pub fn help<O: Write>(
     table: &str,
     out: &mut O,
 ) -> Option<u8>
-    ensures at_most { IfSome result (λ status. status ≤ 3) }
+    ensures asked { IfSome result (λ status. HaveWords arguments IsHelp × ((status ≡ 0) ⊎ (status ≡ 3))) }
     ensures printed { result ≡ Some 0 →
         Appends (O.contents out.old) (O.contents out.new) (usage.now ++ table.now) }
     ensures silent { result ≡ None → out.new ≡ out.old }
 {
-    let words = words(alloc, arguments).ok()??;
+    let words = words(alloc, arguments, (), ()).ok()?;
     match words.as_slice() {
         [word] if word.as_str() == "--help" || word.as_str() == "-h" => {}
         _ => return None,

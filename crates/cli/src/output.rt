@@ -1,7 +1,7 @@
 //! Standard output behind a block of bytes.
-ghost use Rattle.std.specs.Prelude.{◌≡◌, List, [], ℕ, Bool, true, false, IfOk};
+ghost use Rattle.std.specs.Prelude.{◌≡◌, List, ℕ, Bool, true, false, IfOk};
 ghost use Rattle.std.specs.Io.KnownBytes.{Keeps, append_known};
-ghost use Rattle.std.specs.Io.Buffered.{writer_contents, writer_inner, writer_buffer};
+ghost use Rattle.std.specs.Io.Buffered.{writer_contents, writer_inner};
 
 use fixed_decimal::{Out, Sink};
 use std::alloc::{AllocError, Global};
@@ -60,7 +60,7 @@ impl<O> Closed<O> {
 /// Out of memory; the writer is dropped.
 pub fn open<O: Write + Drop>(alloc: Global, out: O) -> Result<Blocks<O>, AllocError>
     ensures inner { IfOk result (λ blocks. writer_inner blocks.0 ≡ out) }
-    ensures empty { IfOk result (λ blocks. writer_buffer blocks.0 ≡ []) }
+    ensures contents { IfOk result (λ blocks. writer_contents O.contents blocks.0 ≡ O.contents out) }
     ensures works { IfOk result (λ blocks. blocks.1 ≡ false) }
 {
     match BufWriter::with_capacity(alloc, BLOCK, out) {

@@ -23,7 +23,7 @@ use std::{env, io};
 ///
 /// # Errors
 ///
-/// There are no rules or no texts, the rules are rejected, or memory for them.
+/// There are no rules or no texts, the rules are rejected, or the program is out of memory for them.
 fn rules_and_texts(alloc: Global, words: &[String]) -> Result<(PluralRules, &[String]), PluralError>
     ensures found { IfOk result (λ found. HasRules words.now (λ rules texts. (rules ≡ found.0)
         × (texts ≡ found.1.now))) }
@@ -91,14 +91,10 @@ pub fn run_arguments<O: Write + Drop, D: Diagnostics<PluralError>>(
         × ArgumentsFail PluralError.Usage PluralError.Memory arguments result.1 (PluralFails O.contents out) error
         × D.reports diagnostics.old error diagnostics.new }
 {
-    let words = match words(alloc, arguments) {
-        Ok(Some(words)) => words,
-        Ok(None) => return (
-            conclude(Err(PluralError::Usage), diagnostics),
-            Some(Closed::uncalled(out)),
-        ),
-        Err(_) => return (
-            conclude(Err(PluralError::Memory), diagnostics),
+    let words = match words(alloc, arguments, PluralError::Usage, PluralError::Memory) {
+        Ok(words) => words,
+        Err(error) => return (
+            conclude(Err(error), diagnostics),
             Some(Closed::uncalled(out)),
         ),
     };

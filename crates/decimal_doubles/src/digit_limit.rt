@@ -29,10 +29,6 @@ pub struct NineteenDigits;
 #[derive(Drop)]
 pub struct TwentyOneDigits;
 
-/// A hundred digits.
-#[derive(Drop)]
-pub struct HundredDigits;
-
 /// The 65,536 digits of the greatest number.
 #[derive(Drop)]
 pub struct MaxDigits;
@@ -59,10 +55,6 @@ impl DigitLimit for NineteenDigits {
 
 impl DigitLimit for TwentyOneDigits {
     const LIMIT: usize = 21;
-}
-
-impl DigitLimit for HundredDigits {
-    const LIMIT: usize = 100;
 }
 
 impl DigitLimit for MaxDigits {

@@ -17,8 +17,8 @@ mod value;
 
 pub use counts::Counts;
 pub use digit_limit::{
-    DigitLimit, EightDigits, EighteenDigits, HundredDigits, MaxDigits, NineteenDigits,
-    SeventeenDigits, SixteenDigits, TwentyOneDigits,
+    DigitLimit, EightDigits, EighteenDigits, MaxDigits, NineteenDigits, SeventeenDigits,
+    SixteenDigits, TwentyOneDigits,
 };
 pub use failing_writer::{FailingWriter, WriteFailure};
 pub use joins::{Join, Joined, Joins};

@@ -17,7 +17,6 @@ use std::marker::PhantomData;
 ///
 /// It is also an example of a store: the ghost members say which list a value stands for, how many more digits fit and
 /// how many are held without memory, and each method meets the contract of the trait.
-#[derive(Drop)]
 pub struct LimitedStore<D: DigitStore, M: DigitLimit> {
     list: D,
     most: Cell<usize>,
@@ -25,6 +24,21 @@ pub struct LimitedStore<D: DigitStore, M: DigitLimit> {
     requests: Cell<usize>,
     is_restarted: Cell<bool>,
     first: PhantomData<M>,
+}
+
+// Written out, since a derived drop is proved once more in each crate above.
+impl<D: DigitStore, M: DigitLimit> Drop for LimitedStore<D, M> {
+    fn drop(self) {
+        let LimitedStore {
+            list,
+            most: _,
+            touched: _,
+            requests: _,
+            is_restarted: _,
+            first: _,
+        } = self;
+        drop(list);
+    }
 }
 
 /// A store that counts what it is asked for.

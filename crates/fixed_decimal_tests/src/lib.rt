@@ -1,6 +1,5 @@
-//! The tests of values and of runs that are no rows of texts: those are the input of `vectors`.
-//!
-//! They stand in a crate of their own, so that the library is not proved a second time with them.
+//! The tests of values, runs, plural rules and the small callers that are no rows of texts: rows are the input of
+//! `vectors`. In a crate of their own, the libraries are not proved a second time with them.
 #![tactic(auto)]
 
 #[cfg(test)]

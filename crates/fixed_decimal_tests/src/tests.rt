@@ -1,5 +1,5 @@
-//! What rows of texts do not test: types, failing sinks, failing allocations, and counts. A helper holds one value and
-//! returns whether it is as its row says.
+//! What rows of texts do not test: types, failing sinks, stores out of memory, and counts. A helper holds one value
+//! and returns whether it is as its row says.
 use decimal_doubles::{Value, displays, has_text, long, shows};
 use fixed_decimal::{
     Decimal, DigitList, DigitStore, PackedDigits, ParseError, Sink, TextBuf, UnsignedOver,
@@ -8,6 +8,7 @@ use fixed_decimal::{
 use std::alloc::Global;
 use std::test::Fail;
 
+mod callers;
 mod changes;
 mod constructors;
 mod counting;
@@ -15,8 +16,10 @@ mod errors;
 mod limited_runs;
 mod limited_store;
 mod modes;
+mod operands;
 mod printing;
 mod requests;
+mod rules;
 mod runs;
 mod unsigned_integers;
 

@@ -116,12 +116,25 @@ impl Modulus {
 }
 
 /// That an operand, or its remainder by a modulus, lies in one of some ranges, or in none of them: `i % 10 = 2..4`.
-#[derive(Debug, Drop)]
+#[derive(Debug)]
 pub struct Relation {
     operand: Operand,
     modulus: Option<Modulus>,
     is_equal: bool,
     ranges: Vec<Range>,
+}
+
+// Written out, since a derived drop is proved once more in each crate above.
+impl Drop for Relation {
+    fn drop(self) {
+        let Relation {
+            operand: _,
+            modulus: _,
+            is_equal: _,
+            ranges,
+        } = self;
+        drop(ranges);
+    }
 }
 
 impl Model for Relation {
@@ -152,10 +165,21 @@ impl Relation {
 }
 
 /// A category and its condition: in one of the alternatives each relation holds. With no alternatives it never holds.
-#[derive(Debug, Drop)]
+#[derive(Debug)]
 pub struct Rule {
     category: PluralCategory,
     alternatives: Vec<Vec<Relation>>,
+}
+
+// Written out, since a derived drop is proved once more in each crate above.
+impl Drop for Rule {
+    fn drop(self) {
+        let Rule {
+            category: _,
+            alternatives,
+        } = self;
+        drop(alternatives);
+    }
 }
 
 impl Model for Rule {

@@ -75,16 +75,9 @@ fn touches_over<S: CountingStore>(
 #[test]
 fn counts_accesses(rt: HostRuntime) -> Result<(), Fail> {
     for row in ACCESSES {
-        assert!(rt;
-            touches_over::<Counting<DigitList>>(rt.alloc(), *row)?,
-            "{}",
-            row.0
-        );
-        assert!(rt;
-            touches_over::<Counting<PackedDigits>>(rt.alloc(), *row)?,
-            "{}",
-            row.0
-        );
+        let holds = touches_over::<Counting<DigitList>>(rt.alloc(), *row)?
+            && touches_over::<Counting<PackedDigits>>(rt.alloc(), *row)?;
+        assert!(rt; holds, "{}", row.0);
     }
     Ok(())
 }

@@ -67,14 +67,9 @@ fn keeps_over<D: DigitStore>(alloc: Global, room: usize) -> Result<bool, Fail> {
 #[test]
 fn keeps_what_fits(rt: HostRuntime) -> Result<(), Fail> {
     for room in 0..TEXT.len() {
-        assert!(rt;
-            keeps_over::<PackedDigits>(rt.alloc(), room)?,
-            "room for {room}"
-        );
-        assert!(rt;
-            keeps_over::<DigitList>(rt.alloc(), room)?,
-            "room for {room}"
-        );
+        let holds = keeps_over::<PackedDigits>(rt.alloc(), room)?
+            && keeps_over::<DigitList>(rt.alloc(), room)?;
+        assert!(rt; holds, "room for {room}");
     }
     Ok(())
 }

@@ -44,21 +44,15 @@ fn equal_over<S: CountingStore>(alloc: Global, row: (&str, &str, bool)) -> Resul
 #[test]
 fn equality_asks_for_nothing(rt: HostRuntime) -> Result<(), Fail> {
     for row in PAIRS {
-        assert!(rt;
-            equal_over::<Counting<PackedDigits>>(rt.alloc(), *row)?,
-            "{}, {}",
-            row.0,
-            row.1
-        );
-        assert!(rt;
-            equal_over::<Counting<DigitList>>(rt.alloc(), *row)?,
-            "{}, {}",
-            row.0,
-            row.1
-        );
+        let holds = equal_over::<Counting<PackedDigits>>(rt.alloc(), *row)?
+            && equal_over::<Counting<DigitList>>(rt.alloc(), *row)?;
+        assert!(rt; holds, "{}", row.1);
     }
     Ok(())
 }
+
+/// Numbers that are concatenated to 0.
+const NUMBERS: &[&str] = &["7", "12345678901234567890.5"];
 
 /// Whether the number of a text is moved into 0, its very list, and stays as it is where 0 is joined to it. Neither 0
 /// nor the joins ask for anything.
@@ -87,15 +81,10 @@ fn zeros_for_nothing<S: CountingStore>(alloc: Global, text: &str) -> Result<bool
 
 #[test]
 fn zeros_ask_for_nothing(rt: HostRuntime) -> Result<(), Fail> {
-    for text in ["7", "12345678901234567890.5"] {
-        assert!(rt;
-            zeros_for_nothing::<Counting<PackedDigits>>(rt.alloc(), text)?,
-            "{text}"
-        );
-        assert!(rt;
-            zeros_for_nothing::<Counting<DigitList>>(rt.alloc(), text)?,
-            "{text}"
-        );
+    for text in NUMBERS {
+        let holds = zeros_for_nothing::<Counting<PackedDigits>>(rt.alloc(), text)?
+            && zeros_for_nothing::<Counting<DigitList>>(rt.alloc(), text)?;
+        assert!(rt; holds, "{text}");
     }
     Ok(())
 }

@@ -4,26 +4,24 @@ use Rattle.cli.specs.declared.errors.FixdecError.TheVariants.{Memory}
 use Rattle.cli.specs.Arguments.{HaveWords}
 use Rattle.cli.specs.Errors.{status_of_fixdec, output}
 use Rattle.cli.specs.Fixdec.{Prints}
-use Rattle.cli.proofs.Buffers.{new_writer}
 use Rattle.cli.proofs.Programs.{have_words, unwritten_fails}
 use Rattle.cli.proofs.fixdec.run_arguments.Goals as goal
 
 pub returns-in_default-clause-reported : goal.returns-in_default-clause-reported
 returns-in_default-clause-reported g c = λ _.
     let h = c.conclude_on-in_default.ensures.reported in
-    let words = c.in-Ok-Some.words.items in
+    let words = c.in-Ok.words.items in
     let all : HaveWords c.args.arguments (λ all. words ≡ all) = search rules in
-    (Memory, h.1, inr (inr (have_words c.args.arguments words _ all refl)), h.2, λ _. tt)
+    (Memory, h.1, inr (have_words c.args.arguments words _ all refl), h.2, λ _. tt)
 
 pub returns-then-has_failed-clause-reported : goal.returns-then-has_failed-clause-reported
 returns-then-has_failed-clause-reported g c = λ _.
     let contents = g.O.Write.contents in
-    let words = c.in-Ok-Some.words.items in
+    let words = c.in-Ok.words.items in
     let old = contents c.args.out in
     let mid = writer_contents contents c.program-status.new.out.0 in
     let zero : c.program-status.result ≡ 0 = search rules in
-    let taken : writer_contents contents c.in-Ok.blocks.0 ≡ old =
-    new_writer contents c.in-Ok.blocks.0 c.args.out c.in-Ok.ensures.inner c.in-Ok.ensures.empty in
+    let taken : writer_contents contents c.in-Ok-open.blocks.0 ≡ old = c.in-Ok-open.ensures.contents in
     let printed : Prints words old mid =
     rw (taken, c.as_slice.ensures.value) at (c.program-status.ensures.printed zero) in
     let (unwritten, keeps) = c.close-closed.ensures.prefix in
@@ -34,7 +32,7 @@ returns-then-has_failed-clause-reported g c = λ _.
     let all : HaveWords c.args.arguments (λ all. words ≡ all) = search rules in (
       output,
       status,
-      inr (inr (have_words c.args.arguments words _ all (fails, λ _. (failed, (unwritten, prefix))))),
+      inr (have_words c.args.arguments words _ all (fails, λ _. (failed, (unwritten, prefix)))),
       h.2,
       λ other. absurd (other refl),
     )

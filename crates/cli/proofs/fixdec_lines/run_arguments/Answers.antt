@@ -3,34 +3,32 @@ use Rattle.std.specs.Io.Buffered.{writer_contents}
 use Rattle.cli.specs.declared.errors.FilterError.TheVariants.{Memory, Output}
 use Rattle.cli.specs.Arguments.{HaveWords}
 use Rattle.cli.specs.Filter.{IsEarly, WordsFilter}
-use Rattle.cli.proofs.Buffers.{new_writer}
 use Rattle.cli.proofs.Programs.{have_words}
 use Rattle.cli.proofs.fixdec_lines.run_arguments.Goals as goal
 
 pub returns-in_default-clause-reported : goal.returns-in_default-clause-reported
 returns-in_default-clause-reported g c = λ _.
     let h = c.conclude-in_default.ensures.reported in
-    let words = c.in-Ok-Some.words.items in
+    let words = c.in-Ok.words.items in
     let all : HaveWords c.args.arguments (λ all. words ≡ all) = search rules in
     let fails = have_words c.args.arguments words _ all (refl, refl) in
-    inr (Memory, c.args.diagnostics.now, h.1, inr (inr fails), h.2, λ _. tt)
+    inr (Memory, c.args.diagnostics.now, h.1, inr fails, h.2, λ _. tt)
 
 pub returns-clause-reported : goal.returns-clause-reported
 returns-clause-reported g c = λ _.
     let contents = g.O.Write.contents in
-    let words = c.in-Ok-Some.words.items in
+    let words = c.in-Ok.words.items in
     let closed = c.filter_words.result.1 in
     let error = c.in-Err-default.error in
     let before = c.filter_words.new.diagnostics in
     let is : c.filter_words.result.0 ≡ Err error = c.in-Err-default.is-0 in
-    let taken : writer_contents contents c.in-Ok.blocks.0 ≡ contents c.args.out =
-    new_writer contents c.in-Ok.blocks.0 c.args.out c.in-Ok.ensures.inner c.in-Ok.ensures.empty in
+    let taken : writer_contents contents c.in-Ok-open.blocks.0 ≡ contents c.args.out = c.in-Ok-open.ensures.contents in
     let fails : WordsFilter g.D.Diagnostics.reports words (g.R.Read.remaining c.args.input.now) (contents c.args.out)
     (contents closed.0) c.args.diagnostics.now before (Err error) =
     rw (taken, c.as_slice.ensures.value, is) at c.filter_words.ensures.filtered in
     let failed : error ≡ Output → closed.1 ≡ true = λ e. c.filter_words.ensures.failed (is ∙ ap Err e) in
     let early : IsEarly error → closed ≡ (c.args.out, false) =
-    rw (is, c.in-Ok.ensures.inner, c.in-Ok.ensures.works) at c.filter_words.ensures.untouched in
+    rw (is, c.in-Ok-open.ensures.inner, c.in-Ok-open.ensures.works) at c.filter_words.ensures.untouched in
     let all : HaveWords c.args.arguments (λ all. words ≡ all) = search rules in
     let h = c.conclude-in-Err-default.ensures.reported in
-    inr (error, before, h.1, inr (inr (have_words c.args.arguments words _ all (fails, failed))), h.2, early)
+    inr (error, before, h.1, inr (have_words c.args.arguments words _ all (fails, failed)), h.2, early)

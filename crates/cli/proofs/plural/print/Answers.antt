@@ -4,7 +4,7 @@ use Rattle.std.specs.Io.KnownBytes.{append_known}
 use Rattle.std.specs.Io.Buffered.{writer_contents}
 use Rattle.cli.specs.declared.errors.PluralError.TheVariants.{Output}
 use Rattle.cli.specs.Categories.{PrintsAll, StopsAt}
-use Rattle.cli.proofs.Buffers.{new_writer, settled}
+use Rattle.cli.proofs.Buffers.{settled}
 use Rattle.cli.proofs.Programs.{err_map, ok_weaker}
 use Rattle.cli.proofs.Printing.{all_kept, stop_kept, begun, has_rules}
 use Rattle.cli.proofs.plural.print.Goals as goal
@@ -17,8 +17,7 @@ returns-then-has_failed-clause-error g c =
     let old = contents c.args.out in
     let new = contents c.close-closed.result.0 in
     let mid = writer_contents contents c.print_categories-printed.new.sink.0 in
-    let taken : writer_contents contents c.in-Ok-open.blocks.0 ≡ old =
-    new_writer contents c.in-Ok-open.blocks.0 c.args.out c.in-Ok-open.ensures.inner c.in-Ok-open.ensures.empty in
+    let taken : writer_contents contents c.in-Ok-open.blocks.0 ≡ old = c.in-Ok-open.ensures.contents in
     let printed = c.print_categories-printed in
     let (unwritten, keeps) = c.close-closed.ensures.prefix in
     let failed : c.close-closed.result.1 ≡ true = search rules in
@@ -41,8 +40,7 @@ returns-clause-printed g c =
     let old = contents c.args.out in
     let new = contents c.close-closed.result.0 in
     let mid = writer_contents contents c.print_categories-printed.new.sink.0 in
-    let taken : writer_contents contents c.in-Ok-open.blocks.0 ≡ old =
-    new_writer contents c.in-Ok-open.blocks.0 c.args.out c.in-Ok-open.ensures.inner c.in-Ok-open.ensures.empty in
+    let taken : writer_contents contents c.in-Ok-open.blocks.0 ≡ old = c.in-Ok-open.ensures.contents in
     let works : c.close-closed.result.1 ≡ false = search rules in
     ok_weaker c.print_categories-printed.result
     (λ all.
@@ -61,8 +59,7 @@ returns-clause-error g c =
     let old = contents c.args.out in
     let new = contents c.close-closed.result.0 in
     let mid = writer_contents contents c.print_categories-printed.new.sink.0 in
-    let taken : writer_contents contents c.in-Ok-open.blocks.0 ≡ old =
-    new_writer contents c.in-Ok-open.blocks.0 c.args.out c.in-Ok-open.ensures.inner c.in-Ok-open.ensures.empty in
+    let taken : writer_contents contents c.in-Ok-open.blocks.0 ≡ old = c.in-Ok-open.ensures.contents in
     let closed = c.close-closed.ensures in
     let (unwritten, all, keeps) = settled mid new c.close-closed.result.1 closed.written closed.prefix in
     err_map c.print_categories-printed.result

@@ -5,7 +5,7 @@ use Rattle.cli.proofs.plural.run_arguments.Goals as goal
 
 pub returns-clause-printed : goal.returns-clause-printed
 returns-clause-printed g c = λ zero.
-    let words = c.in-Ok-Some.words.items in
+    let words = c.in-Ok.words.items in
     let all : HaveWords c.args.arguments (λ all. words ≡ all) = search rules in
     have_words c.args.arguments words _ all
     (rw c.as_slice.ensures.value at (at_ok c.print-printed.result.0 c.conclude-status.result

@@ -1,5 +1,4 @@
-//! Texts of rules, and how the parser answers.
-
+//! Texts of plural rules, and the errors of texts that are none.
 use plural_rules::{PluralRules, RulesError};
 use std::test::Fail;
 
