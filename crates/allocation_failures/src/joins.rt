@@ -31,7 +31,7 @@ fn join<T: Value + Joins>(alloc: Global, row: Row, join: Join) -> Result<Outcome
     let (other, of_back) = read::<T>(alloc, back)?;
     let of_join = match value.joined_by(other, join) {
         Ok(value) => Outcome::first(shows(&value, both.as_bytes())),
-        Err(ConcatenateError::Overlap(_)) => Outcome::Wrong,
+        Err(ConcatenateError::Overlap(_values)) => Outcome::Wrong,
         Err(ConcatenateError::Memory(values)) => join_again(values, row),
     };
     Ok(of_front.and(of_back).and(of_join))

@@ -16,7 +16,9 @@ fn is_made<T: Value>(made: Result<T, AllocError>, text: &str) -> bool {
 }
 
 /// The outcome of a call that makes a value with a text. It is made again where its allocation failed.
-fn making<T: Value, F: Fn() -> Result<T, AllocError>>(make: F, text: &str) -> Outcome {
+fn making<T: Value, F: Fn() -> Result<T, AllocError>>(make: F, text: &str) -> Outcome
+    requires { F.IsAlwaysCallable make }
+{
     match make() {
         Err(AllocError) => Outcome::second(is_made(make(), text)),
         made => Outcome::first(is_made(made, text)),

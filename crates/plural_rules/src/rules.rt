@@ -206,9 +206,17 @@ impl Rule {
 /// Plural rules: some categories in a row, each with its condition.
 ///
 /// Contracts see the list of the rules. Not in the original.
-#[derive(Debug, Drop)]
+#[derive(Debug)]
 pub struct PluralRules {
     rules: Vec<Rule>,
+}
+
+// Written out, since a derived drop is proved once more in each crate above.
+impl Drop for PluralRules {
+    fn drop(self) {
+        let PluralRules { rules } = self;
+        drop(rules);
+    }
 }
 
 impl Model for PluralRules {
