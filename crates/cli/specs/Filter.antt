@@ -39,8 +39,7 @@ module _ {D : Type 0} (reports : D → FilterError → D → Type 0) where
       Filters AppendsUnwritten reports on_error calls input out_old out_new old new result)
 
   -- the block before the writer cannot be allocated, and nothing is reported before this error; or the filter fails
-  -- with
-  -- it, at `Output` because the writer failed
+  -- with it, at `Output` because the writer failed
   abbrev pub LinesFail :
       {O : Type 0} → (O → Option (List ℕ)) → Option (List ℕ) → O → D → D → List (String Global) → Option (O × Bool)
       → FilterError → Type 0

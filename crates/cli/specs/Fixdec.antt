@@ -48,8 +48,7 @@ OperationsFail error bytes calls =
     (why : RunError) × (error ≡ error_of_run why) × RunRefuses DIGITS_IN_PLACE why bytes calls
 
 -- the error of the words: no first word, or a word that names no call; out of memory for the list of the calls, which
--- is
--- not empty; or the error of the run
+-- is not empty; or the error of the run
 abbrev pub HasError : List (String Global) → FixdecError → Type 0
 HasError words Usage = IsUsage words
 HasError words Memory = HasRun words (λ bytes calls. 0 < length calls)

@@ -16,8 +16,7 @@ use std::marker::PhantomData;
 /// digits: `from_digits`, `clone`, `reserve` and `append`.
 ///
 /// It is also an example of a store: the ghost members name the list of a value, the number of digits that still fit
-/// and
-/// the number that is stored without an allocation, and each method meets the contract of the trait.
+/// and the number that is stored without an allocation, and each method meets the contract of the trait.
 pub struct LimitedStore<D: DigitStore, M: DigitLimit> {
     list: D,
     most: Cell<usize>,

@@ -13,8 +13,7 @@ abbrev pub IsRefused : List ℕ → List Call → Type 0
 IsRefused start calls = (e : RunError) × RunRefuses DIGITS_IN_PLACE e start calls × (e ≢ Sink)
 
 -- the text of the outcome; or the sentence of its error, which is that of the first call that fails; or of an error
--- that
--- the run is out of memory at the start or at a call that it reaches, so each call before that one succeeds
+-- that the run is out of memory at the start or at a call that it reaches, so each call before that one succeeds
 abbrev pub IsTold : List ℕ → List Call → List ℕ → Type 0
 IsTold start calls told =
     (outcome start calls ≡ Ok told)

@@ -35,8 +35,7 @@ const ACCESSES: &[(&str, Rounding, usize)] = &[
     // 68 becomes 70: the 7 is written.
     ("1234568", (0, Unsigned(Expand), By5), 3),
     // A carry: by 1 the 999 and the 2 before the last 9 are read, by 2 a 9 and the 2 before the last 99; the 2 once
-    // more,
-    // and a 3 is written.
+    // more, and a 3 is written.
     ("1299967", (2, Unsigned(Expand), By1), 8),
     ("1299967", (2, Unsigned(Expand), By2), 7),
     // A carry through nines alone: by 1 all five are read, by 2 three more, and a 1 is written.

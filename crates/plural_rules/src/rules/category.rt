@@ -125,8 +125,7 @@ impl PluralRules {
     /// Returns the category of the first rule, in the order of the text, whose condition the number meets.
     ///
     /// By `one: i = 1 and v = 0`, `1` is `One`, and `1.0` is `Other`, as is each number that meets no condition. Exact
-    /// at
-    /// any length of the number; does not allocate.
+    /// at any length of the number; does not allocate.
     pub fn category<D: DigitStore>(&self, number: &PluralOperands<'_, D>) -> PluralCategory
         ensures { result ≡ category_of self.now number.now }
     {
