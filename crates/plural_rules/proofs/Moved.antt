@@ -20,7 +20,7 @@ below_first n m first_is = elim (cases_lt 0 n) [
   | inr z ↦ omega (arith, ten_pos (place m + 1))
 ]
 
--- the digits from the first down to the magnitude that is moved to 0
+-- the integer digits of a number times a power of ten are its first digits
 pub whole_of : (o : Operands) (x : Unsigned) (m : ℤ) (c count : ℕ) → compact x c ≡ o
     → IsFirst x.number m → negsuc 32767 ≤ℤ m → m ≤ℤ pos 32767 → c < 256
     → pos count ≡ int_max (m +ℤ pos (c + 1)) (pos 0)

@@ -116,7 +116,7 @@ complete_category p true true true true true z t f m eo opens =
     let full : is_full p.seen ≡ true = rw (z, both.0, t, f, m, both.1) refl in
     absurd (false≢true (sym (ap not full) ∙ opens))
 
--- each reached state has a completion
+-- each open state has a completion
 completion : (s : State) (p : Partial) → is_open p.seen s ≡ true → Completion false s p
 completion state.Category p opens =
     complete_category p p.seen.zero p.seen.two p.seen.few p.seen.many (p.seen.one && p.seen.other) refl refl refl refl
@@ -143,7 +143,7 @@ one_fits : (b : Bool) → nat_le 1 (limit b) ≡ true
 one_fits true = refl
 one_fits false = refl
 
--- in a state before a number, one with a small number
+-- a completion of a state before a number, with a small number
 small_completion : (s : State) (p : Partial) → starts_number s ≡ true → Completion true s p
 small_completion state.Modulus p h =
     completed true state.Modulus p 49 state.ModulusDigits (event.First 1) refl (one_fits p.is_divided)

@@ -43,7 +43,7 @@ is_fine s (event.First d) t is_digit = not (starts_number t) && (starts_number s
 is_fine s (event.Digit d) t is_digit = not (starts_number t) && (is_digits s && is_digit)
 is_fine s e t is_digit = cond (starts_number t) (not is_digit) (not (is_digits t))
 
--- this holds of the transition on a byte, and an open state leads to an open state
+-- the transition on a byte, if any, is fine, and leads from an open state to an open one
 pub data Fine (s : State) (seen : Categories) (c : ℕ) : Move → Type 0 where
   stops : Fine s seen c None
   goes :
@@ -58,7 +58,7 @@ module _ {s : State} {seen : Categories} {c : ℕ} where
   fine_if true h i = h
   fine_if false h i = i
 
-  -- a condition, whose outcome either branch may use
+  -- both branches of a test, each with its outcome
   fine_by : (b : Bool) {y z : Move} → (b ≡ true → Fine s seen c y) → (b ≡ false → Fine s seen c z)
       → Fine s seen c (cond b y z)
   fine_by true h i = h refl
@@ -189,7 +189,7 @@ fine_next seen state.OrEnd c = fine_only 114 state.Blank event.Nothing (λ b. re
 fine_next seen state.Blank c = fine_skip state.Operand (λ b. refl) (λ o. refl) stops
 fine_next seen state.Samples c = fine_if (c == 59) (fine_category event.Nothing refl refl) (goes refl (λ o. refl))
 
--- each transition satisfies it
+-- each transition is fine, and leads from an open state to an open one
 pub moves_so :
     (seen : Categories) (s : State) (c : ℕ) (t : State) (e : Event) → next seen s c ≡ Some (t, e)
     → (is_fine s e t (is_ascii_digit c) ≡ true) × (is_open seen s ≡ true → is_open (seen_after e seen) t ≡ true)

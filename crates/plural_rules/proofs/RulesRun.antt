@@ -12,13 +12,13 @@ use Rattle.plural_rules.specs.Rules.{relation, RuleParts, rule}
 use Rattle.plural_rules.specs.RulesReader.{Move, Partial, no_rules, range_of, end_range, end_relation, end_alternative, end_rule, after, next, at_end, limit}
 use Rattle.plural_rules.specs.RulesRefusal.{RangeFits, RelationFits, ConjunctionFits, RuleFits, Fits}
 
--- the number after an event fits
+-- the number after an event fits, if the reader is strict
 abbrev pub allowed : Bool → Event → Partial → Bool
 allowed strict (event.First d) p = not strict || nat_le d (limit p.is_divided)
 allowed strict (event.Digit d) p = not strict || nat_le (p.number * 10 + d) (limit p.is_divided)
 allowed strict e p = true
 
--- the state after a text and the rules so far, if the text is a prefix of rules
+-- the state after a text and the rules so far, or None if the reader stops
 abbrev pub Reached : Type 0
 Reached = Option (State × Partial)
 
@@ -38,7 +38,7 @@ abbrev pub finish : Reached → Option (List RuleParts)
 finish None = None
 finish (Some x) = finished (at_end x.0) x.1
 
--- the rules that the reader returns for a text
+-- the rules of a text, or None if the reader rejects it
 abbrev pub read : Bool → State → Partial → List ℕ → Option (List RuleParts)
 read strict s p text = finish (run strict s p text)
 
@@ -75,7 +75,7 @@ run_more strict text i s p less h =
     ∙ run_append strict (take i text) (get_or text i 0 ∷ []) state.Category no_rules
     ∙ ap (λ x. bind x (λ s q. run strict s q (get_or text i 0 ∷ []))) h
 
--- a transition that is allowed
+-- the run continues after an allowed transition
 pub moves : (strict : Bool) (m : Move) (s2 : State) (e : Event) (p : Partial) (go : State → Partial → Reached)
     → m ≡ Some (s2, e) → allowed strict e p ≡ true → move_on strict m p go ≡ go s2 (after e p)
 moves strict m s2 e p go h a =
