@@ -28,7 +28,7 @@ names_more (x ∷ ws) (y ∷ cs) w call (p, h) k = (p, names_more ws cs w call h
 names_more [] (y ∷ cs) w call h k = absurd h
 names_more (x ∷ ws) [] w call h k = absurd h
 
--- the first words and the next one are the first words, one more of them
+-- the first words, and the next one appended
 pub taken :
     (ws : List (String Global)) (i : ℕ) (w : String Global) → i < length ws → w ≡ get_or ws i w
     → take (i + 1) ws ≡ take i ws ++ (w ∷ [])

@@ -8,7 +8,7 @@ use Rattle.decimal_unsigned.specs.Unsigned.{Unsigned, integer_value}
 use Rattle.decimal_unsigned.specs.Edits.{multiplied}
 
 -- the value is the multiple of five cents nearest to the hundredths of cents, ties to the even factor; it has two
--- fraction digits, and the integer digits of the exact amount, or one more if its first digit is higher; negsuc 1 is
+-- fraction digits, and the integer digits of the exact amount, or more if its own first digit is higher; negsuc 1 is
 -- -2, the magnitude of a cent, and negsuc 3 is -4
 pub record IsCash (hundredths : ℕ) (v : Unsigned) : Type 0 where
   pub nearest : Named HalfEven (5 * weight (negsuc 1)) (hundredths * weight (negsuc 3)) v.number

@@ -14,7 +14,7 @@ use Rattle.fixed_decimal.specs.DecimalText.{and_then}
 use Rattle.uses.specs.declared.column.ColumnError.{ColumnError}
 use Rattle.uses.specs.declared.column.ColumnError.TheVariants.{Amount, Sink}
 
--- the text of a value without leading and trailing zeros
+-- the text of a value without leading zeros and trailing zeros of the fraction
 abbrev pub normal_text : Unsigned → List ℕ
 normal_text v = text (trimmed v)
 

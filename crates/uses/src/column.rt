@@ -11,13 +11,13 @@ use std::alloc::Global;
 /// The error of an amount that is not written.
 #[derive(Debug, Drop, PartialEq)]
 pub enum ColumnError {
-    /// The text is not an amount. Nothing of it was written.
+    /// The text cannot be parsed. Nothing of it was written.
     Amount(ParseError),
     /// The sink failed, now or before, and has a prefix of the text.
     Sink,
 }
 
-/// Writes an amount in normal form, without leading and trailing zeros: `007.50` as `7.5`.
+/// Writes an amount in normal form, without leading zeros and trailing zeros of the fraction: `007.50` as `7.5`.
 ///
 /// Two amounts are the same number exactly if they have the same normal form. Errors: see `ColumnError`.
 pub fn write_normal_form<W: Sink>(

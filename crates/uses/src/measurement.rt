@@ -5,7 +5,7 @@ ghost use Rattle.uses.specs.Measurement.{shortened, IsNear};
 
 use fixed_decimal::{Decimal, LimitError};
 
-/// Returns the position of the last of the fraction digits.
+/// Returns the position after `decimals` fraction digits.
 fn position_of(decimals: u8) -> i16
     ensures { result ≡ neg_ℤ (pos decimals) }
 {
