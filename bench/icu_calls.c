@@ -1,9 +1,9 @@
-/* ICU's number formatting: a text is read, shifted, rounded and printed in one call. */
+/* ICU's number formatting: a text is parsed, shifted, rounded and printed in one call. */
 
 #include <unicode/unumberformatter.h>
 #include <unicode/ustring.h>
 
-/* A formatter that shifts by -2, and rounds half-even to so many decimals. */
+/* Makes a formatter that shifts by -2, and rounds half-even to a number of decimals. */
 UNumberFormatter *icu_open(int decimals) {
     UChar skeleton[256] = u"scale/0.01 rounding-mode-half-even group-off .";
     int length = u_strlen(skeleton);
@@ -19,7 +19,7 @@ UFormattedNumber *icu_open_result(void) {
     return unumf_openResult(&status);
 }
 
-/* The length of the text, or -1 where there is none. */
+/* Returns the length of the text, or -1 if there is none. */
 int icu_format(const UNumberFormatter *formatter, UFormattedNumber *result, const char *text, int length,
                UChar *printed, int room) {
     UErrorCode status = U_ZERO_ERROR;

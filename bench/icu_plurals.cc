@@ -9,7 +9,7 @@ using icu::UnicodeString;
 using icu::number::FormattedNumber;
 using icu::number::NumberFormatter;
 
-// The length of a keyword, and the keyword itself where there is room for it.
+// Returns the length of a keyword, and copies the keyword if there is room.
 static int answer(const UnicodeString &keyword, char *room) {
     if (room)
         keyword.extract(0, keyword.length(), room, 8, US_INV);
@@ -23,7 +23,7 @@ const PluralRules *icu_rules_open(const char *locale) {
     return PluralRules::forLocale(icu::Locale(locale), status);
 }
 
-// The number as it is written, with no other zeros.
+// Makes the number as it is written, with no other zeros.
 const FormattedNumber *icu_number_open(const char *text, int length) {
     UErrorCode status = U_ZERO_ERROR;
     auto formatter = NumberFormatter::withLocale("en").precision(icu::number::Precision::unlimited());

@@ -3,15 +3,15 @@
 #
 #   bench/lines.sh [LINES] [PASSES]
 #
-# LINES lines `dddd.ddd` (5,000,000 if nothing is said) are rounded to two decimals, ties to even, by `fixdec_lines`,
-# `numfmt`, `mawk`, Python's `decimal`, and `strtod`, a C program of `getline`, `strtod` and `printf`. In each of PASSES
-# passes (5) they take turns. A row has the least processor time of a program, that time over the filter's, the middle
-# one of the ratios of the passes, and the greatest memory. numfmt, mawk and the C program round a binary fraction, and
-# numfmt rounds ties away from zero, so some of their lines differ: the last column counts them. The lines of the filter
-# have to be those of Python.
+# LINES lines `dddd.ddd` (by default 5,000,000) are rounded to two decimals, ties to even, by `fixdec_lines`, `numfmt`,
+# `mawk`, Python's `decimal`, and `strtod`, a C program of `getline`, `strtod` and `printf`. In each of PASSES passes
+# (5) they take turns. A row has the least processor time of a program, that time over the filter's, the median of the
+# ratios of the passes, and the greatest memory. numfmt, mawk and the C program round a binary fraction, and numfmt
+# rounds ties away from zero, so some of their lines differ: the last column counts them. The lines of the filter have
+# to be those of Python.
 #
-# The second table has the instructions of a line: of the filter, of the filter with no call, which reads each line as a
-# number and prints it, of the C program, and of one that only copies each line by `getline` and `fwrite`.
+# The second table has the instructions of a line: of the filter, of the filter with no call, which parses each line as
+# a number and prints it, of the C program, and of one that only copies each line by `getline` and `fwrite`.
 #
 # Needs bash, the toolchain, a C compiler, and Debian's time, mawk, python3 and valgrind. Take it on a machine that does
 # nothing else.

@@ -1,9 +1,9 @@
 """Python's decimal, which is libmpdec, through Python.
 
 mpdec.py version               the version of libmpdec
-mpdec.py whole TEXT DECIMALS   reads a text, shifts it by -2, rounds it half-even and prints it
+mpdec.py whole TEXT DECIMALS   parses a text, shifts it by -2, rounds it half-even and prints it
 mpdec.py time TEXT..           a line for each text and operation: OPERATION SIZE NANOSECONDS
-                               (to_u64 is of the text without its dot)
+                               (to_u64 is of the text without its decimal point)
 """
 import decimal
 import sys

@@ -1,7 +1,7 @@
 /* Times runs of some programs that take turns: starts ROUNDS PROGRAM [WORD].. [-- PROGRAM [WORD]..]..
 
-   A line for each: the least wall time in microseconds, the middle one of the ratios to the first program's run in the
-   same turn, the mean processor time of a run in microseconds, and the page faults of a run. */
+   A line for each: the least wall time in microseconds, the median of the ratios to the first program's run in the
+   same round, the mean processor time of a run in microseconds, and the page faults of a run. */
 
 #define _GNU_SOURCE
 #include <fcntl.h>

@@ -4,11 +4,11 @@
 #   bench/starts.sh [ROUNDS]
 #
 # In each of ROUNDS rounds (2000) the programs take turns. A row has the least wall time of a run in microseconds, the
-# middle one of the ratios to the first program's run beside it, the processor time and the page faults of a run, and,
+# median of the ratios to the first program's run beside it, the processor time and the page faults of a run, and,
 # counted once, its system calls, its instructions, and how many of these are in `main` and what it calls.
 #
-# `puts` prints a constant, and `puts, static` does so without the loader of shared libraries. `ICU` does what `fixdec`
-# is asked for by ICU's number formatter. The two last rows are a word of 65,537 bytes, for `puts` and for `fixdec`.
+# `puts` prints a constant, and `puts, static` does so without the loader of shared libraries. `ICU` does the same work
+# as `fixdec` by ICU's number formatter. The last two rows are a word of 65,537 bytes, for `puts` and for `fixdec`.
 #
 # Needs the toolchain, a C compiler, and Debian's libicu-dev, strace and valgrind. Take it on a machine that does
 # nothing else.

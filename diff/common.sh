@@ -56,7 +56,7 @@ copy_original() {
     for folder in "$original" "$original/fixed_decimal" "$original/utils/fixed_decimal"; do
         [ ! -f "$folder/src/signed_decimal.rs" ] || cp "$folder"/src/*.rs "$made/src/"
     done
-    # The same files, named by their path, as src--signed_decimal.rs.txt, and cut off in front of their tests: an
+    # The same files, named by their path, as src--signed_decimal.rs.txt, and cut off before their tests: an
     # attribute of these may be the last line.
     for file in "$original"/src--*.rs.txt; do
         [ ! -f "$file" ] || { cat "$file"; echo 'mod end {}'; } >"$made/src/$(basename "${file##*--}" .txt)"
@@ -83,7 +83,7 @@ TOML
     copy_smallvec
 }
 
-# Debian's smallvec, with the one function that the original wants and 1.9 does not have.
+# Debian's smallvec, with the one function that the original calls and 1.9 does not have.
 copy_smallvec() {
     rm -rf "$work/smallvec"
     cp -r "$registry"/smallvec-1.* "$work/smallvec"
@@ -96,7 +96,8 @@ copy_smallvec() {
     }' "$work/smallvec/src/lib.rs"
 }
 
-# build_driver NAME [OLD NEW FILE]: the program of rust/, without a network; in FILE with NEW for OLD, which stands once.
+# build_driver NAME [OLD NEW FILE]: the program of rust/, without a network; in FILE with NEW for OLD, which occurs
+# once.
 build_driver() {
     rm -rf "$work/$1"
     cp -r "$here/rust" "$work/$1"

@@ -3,7 +3,7 @@
 #
 #   diff/plants.sh ORIGINAL [SECONDS [THREADS]]       after diff/run.sh with the same WORK
 #
-# Status 0: every one was. ONLY=WORD plants those alone whose name holds the word.
+# Status 0: every one was. ONLY=WORD plants only those whose name contains the word.
 set -euo pipefail
 . "$(dirname "$0")/common.sh"
 export RUSTFLAGS="$RUSTFLAGS -A warnings"
@@ -12,7 +12,7 @@ scratch=$work/project
 export LIBRARY=$scratch/crates/decimal_calls/out
 unnoticed=0
 
-# plant NAME OLD NEW [FILE]: in that file of rust/src, where OLD stands once.
+# plant NAME OLD NEW [FILE]: in that file of rust/src, where OLD occurs once.
 plant() {
     case $1 in *"${ONLY:-}"*) ;; *) return 0 ;; esac
     build_driver diff "$2" "$3" "${4:-reference.rs}"

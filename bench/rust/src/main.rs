@@ -16,7 +16,7 @@ fn main() {
     let word = arguments.get(2).map_or("", String::as_str);
     table::print(passes, word);
     if word.is_empty() {
-        // bigdecimal panics where it has no answer.
+        // bigdecimal panics if it has no result.
         let hook = std::panic::take_hook();
         std::panic::set_hook(Box::new(move |info| {
             if !info.location().is_some_and(|place| place.file().contains("bigdecimal")) {

@@ -69,7 +69,7 @@ impl Outcome {
     }
 }
 
-/// Times a call that looks at each item, and answers a number.
+/// Times a call that inspects each item, and returns a number.
 #[inline(always)]
 fn look<T>(outcome: &mut Outcome, items: impl Iterator<Item = T>, mut call: impl FnMut(T) -> u64) -> u64 {
     let mut sum = 0_u64;
@@ -128,7 +128,7 @@ fn written_fresh(value: &impl Writeable) -> String {
     text
 }
 
-/// Reads a number, shifts it by -2, rounds it at a position, and prints it.
+/// Parses a number, shifts it by -2, rounds it at a position, and prints it.
 pub fn worked(text: &str, position: i16) -> String {
     let mut value = Decimal::try_from_str(text).expect("a number");
     value.multiply_pow10(-2);
@@ -136,7 +136,7 @@ pub fn worked(text: &str, position: i16) -> String {
     written_fresh(&value)
 }
 
-/// Runs a batch: the nanoseconds of its calls.
+/// Runs a batch, and returns the nanoseconds of its calls.
 pub fn time(case: &Case, outcome: &mut Outcome) -> u64 {
     let position = case.position;
     let text = case.text.as_bytes();

@@ -34,7 +34,7 @@ fn text(size: usize) -> String {
     dotted(&digits(size), (size / 2).min(size - 3))
 }
 
-/// What a row works on at a size. None: it has no such size.
+/// Returns the input of a row at a size; `None` if the row has no such size.
 fn case(operation: Operation, name: &str, size: usize) -> Option<Case> {
     let (mut text, mut other) = (text(size), String::new());
     match name {
@@ -49,7 +49,7 @@ fn case(operation: Operation, name: &str, size: usize) -> Option<Case> {
     Some(Case { operation, text, other, position: -(DECIMALS as i16), copies: copies(size) })
 }
 
-/// What a batch of the short rows comes to.
+/// Returns the sum over the results of a batch of the short rows.
 fn sum(case: &Case) -> Option<u64> {
     let one = match case.operation {
         Operation::Compare if case.text == case.other => 1,
@@ -60,7 +60,7 @@ fn sum(case: &Case) -> Option<u64> {
     Some(u64::wrapping_mul(one, case.copies as u64))
 }
 
-/// The nanoseconds of a call, on average over a batch.
+/// Returns the nanoseconds of a call, on average over a batch.
 fn batch<T>(count: usize, mut call: impl FnMut() -> T) -> f64 {
     let start = Instant::now();
     for _ in 0..count {
@@ -69,11 +69,11 @@ fn batch<T>(count: usize, mut call: impl FnMut() -> T) -> f64 {
     start.elapsed().as_nanos() as f64 / count as f64
 }
 
-/// The same of a peer. None: it does not have this number, or an operation of this kind.
+/// The same of a peer; `None` if it does not hold this number, or has no operation of this kind.
 fn peer_batch<P: Peer>(case: &Case) -> Option<f64> {
     let (text, count) = (case.text.as_str(), case.copies);
     let number = P::read(text)?;
-    // What does not hold the number as it is written has no time for it.
+    // A library that does not hold the number as it is written has no time for it.
     (P::print(&number) == text).then_some(())?;
     if matches!(case.operation, Operation::Round | Operation::Whole) {
         P::whole(text, DECIMALS)?;
@@ -92,13 +92,13 @@ fn peer_batch<P: Peer>(case: &Case) -> Option<f64> {
     })
 }
 
-/// The same of ICU, which has only the whole.
+/// The same of ICU, which has only the row `whole`.
 fn icu_batch(icu: &mut Icu, case: &Case) -> Option<f64> {
     icu.whole(&case.text).filter(|_| case.operation == Operation::Whole)?;
     Some(batch(case.copies, || icu.whole(black_box(&case.text)).map(<[u16]>::len)))
 }
 
-/// The least times of one operation and size: here, in rust_decimal, in bigdecimal, in Python's decimal, in ICU.
+/// Returns the least times of an operation and size: here, in rust_decimal, in bigdecimal, in Python's decimal, in ICU.
 fn cell(operation: Operation, name: &str, size: usize, passes: usize, python: &str) -> [Option<f64>; 5] {
     let mut least = [None; 5];
     let Some(case) = case(operation, name, size) else {
@@ -169,7 +169,7 @@ pub fn print(passes: usize) {
     }
 }
 
-/// What the table of answers is made of: a text, and the decimals to which a hundredth of it is rounded.
+/// The rows of the table of results: a text, and the decimals to which a hundredth of it is rounded.
 const INPUTS: [(&str, u16); 9] = [
     ("00750", 2),
     ("-0.1", 2),
@@ -182,7 +182,7 @@ const INPUTS: [(&str, u16); 9] = [
     ("1", 30),
 ];
 
-/// What one call of the library answers, by the same way as the times.
+/// Returns the result of one call of the library, made in the same way as the timed ones.
 fn answer(text: &str, decimals: u16) -> String {
     let position = -(decimals as i16);
     let case = Case { operation: Operation::Whole, text: text.to_owned(), other: String::new(), position, copies: 1 };
@@ -192,7 +192,7 @@ fn answer(text: &str, decimals: u16) -> String {
     String::from_utf8_lossy(&outcome.answer[..length]).into_owned()
 }
 
-/// Prints what each answers to some texts, read, shifted by -2, rounded half-even and printed.
+/// Prints the results of each library for some texts, parsed, shifted by -2, rounded half-even and printed.
 pub fn print_answers() {
     println!("| Text | Decimals | Here | Original | rust_decimal | bigdecimal | libmpdec, from Python | ICU |");
     println!("|---|---|---|---|---|---|---|---|");

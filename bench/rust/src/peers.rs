@@ -1,4 +1,4 @@
-//! What a user might take instead.
+//! The other libraries.
 
 use crate::original::worked;
 use bigdecimal::BigDecimal;
@@ -9,7 +9,7 @@ use std::panic::{catch_unwind, AssertUnwindSafe};
 use std::process::Command;
 use std::ptr::null_mut;
 
-/// A library of numbers. A call answers None where it has no answer.
+/// A library of numbers. A call returns `None` if it has no result.
 pub trait Peer {
     type Number: Ord + ToPrimitive;
 
@@ -18,7 +18,7 @@ pub trait Peer {
     /// A hundredth of the number.
     fn shift(number: &Self::Number) -> Option<Self::Number>;
 
-    /// The number rounded half-even to so many decimals.
+    /// The number rounded half-even to `decimals` decimals.
     fn round(number: &Self::Number, decimals: u16) -> Option<Self::Number>;
 
     fn print(number: &Self::Number) -> String;
@@ -119,13 +119,13 @@ impl Icu {
     }
 }
 
-/// What Python's decimal says to some words, or None where there is no Python.
+/// Returns the output of Python's decimal for some words; `None` if there is no Python.
 pub fn python(words: &[&str]) -> Option<String> {
     let output = Command::new("python3").arg(env!("MPDEC")).args(words).output().ok()?;
     output.status.success().then(|| String::from_utf8_lossy(&output.stdout).trim().to_owned())
 }
 
-/// The answers of each to one text, read, shifted by -2, rounded half-even to so many decimals and printed.
+/// Returns the results of each for one text, parsed, shifted by -2, rounded half-even to `decimals` and printed.
 pub fn answers(text: &str, decimals: u16) -> [Option<String>; 5] {
     let icu = Icu::new(decimals).whole(text).map(String::from_utf16_lossy);
     [

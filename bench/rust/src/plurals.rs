@@ -29,12 +29,12 @@ const RULES: [(&CStr, &str); 4] = [
 
 const NUMBERS: [&str; 4] = ["1", "1.5", "1000000", "12345678901234567890.5"];
 
-/// How many values a batch has.
+/// The number of values of a batch.
 const COPIES: usize = 16;
 
 const CALLS: usize = COPIES * ROUNDS;
 
-/// The ways to ask ICU.
+/// The calls of ICU.
 #[derive(Clone, Copy)]
 enum Way {
     Double,
@@ -61,7 +61,7 @@ impl Icu {
         Icu { rules, formatted, double: text.parse().expect("a number"), int32: text.parse().ok() }
     }
 
-    /// The length of the number's category, which is put where there is room. None: the number has no such form.
+    /// Writes the number's category if there is room, and returns its length; `None` if the number has no such form.
     #[inline(always)]
     fn select(&self, way: Way, room: *mut c_char) -> Option<c_int> {
         // The rules and the number are live, and the room has 8 bytes or is null.
@@ -80,7 +80,7 @@ impl Icu {
         Some(String::from_utf8_lossy(&room[..length as usize]).into_owned())
     }
 
-    /// The nanoseconds of a call, on average over a batch.
+    /// Returns the nanoseconds of a call, on average over a batch.
     fn time(&self, way: Way) -> Option<f64> {
         self.select(way, null_mut())?;
         let start = Instant::now();
@@ -95,12 +95,12 @@ fn case(operation: Operation, text: &str, rules: &str) -> Case {
     Case { operation, text: text.to_owned(), other: rules.to_owned(), position: 0, copies: COPIES }
 }
 
-/// The nanoseconds of a call here, on average over a batch.
+/// Returns the nanoseconds of a call here, on average over a batch.
 fn time_here(case: &Case) -> f64 {
     time(case, &mut Outcome::new(case)) as f64 / CALLS as f64
 }
 
-/// What the library answers to a number.
+/// Returns the category of a number by the library.
 fn category(case: &Case) -> String {
     let mut outcome = Outcome::new(case);
     time(case, &mut outcome);
@@ -108,7 +108,7 @@ fn category(case: &Case) -> String {
     String::from_utf8_lossy(&outcome.answer[..length]).into_owned()
 }
 
-/// The least times of one locale and number: here, and in each way of ICU.
+/// Returns the least times of one locale and number: here, and in each call of ICU.
 fn cell(locale: &CStr, rules: &str, text: &str, passes: usize) -> (f64, [Option<f64>; 3]) {
     let (case, icu) = (case(Operation::Category, text, rules), Icu::new(locale, text));
     let (mut here, mut there) = (f64::MAX, [None; 3]);
@@ -121,7 +121,7 @@ fn cell(locale: &CStr, rules: &str, text: &str, passes: usize) -> (f64, [Option<
     (here, there)
 }
 
-/// Prints the time here over the time there, by locale, way and number, and the nanoseconds here.
+/// Prints the time here over the time there, by locale, call and number, and the nanoseconds here.
 pub fn print(passes: usize) {
     println!("| |{}", NUMBERS.map(|text| format!(" `{text}` |")).concat());
     println!("|---|{}", "---|".repeat(NUMBERS.len()));
@@ -139,7 +139,7 @@ pub fn print(passes: usize) {
     }
 }
 
-/// Prints where ICU answers another category.
+/// Prints where ICU returns another category.
 pub fn print_differences() {
     println!("| Locale | Number | Way | Here | ICU |");
     println!("|---|---|---|---|---|");
@@ -155,7 +155,7 @@ pub fn print_differences() {
     }
 }
 
-/// Prints what `i % 100` takes of a short number and of one of 65,536 digits.
+/// Prints the time of `i % 100` of a short number and of one of 65,536 digits.
 pub fn print_remainders(passes: usize) {
     let long = format!("{}.{}", "7".repeat(1 << 15), "3".repeat(1 << 15));
     let rules = "one: i % 100 = 77; other:";

@@ -20,7 +20,7 @@ extern "C" {
 
 const SIZES: [usize; 10] = [1, 4, 8, 16, 19, 39, 100, 1000, 10_000, 60_000];
 
-/// What a batch works on.
+/// The input of a batch.
 pub struct Case {
     pub operation: Operation,
     pub text: String,
@@ -29,7 +29,7 @@ pub struct Case {
     pub copies: usize,
 }
 
-/// What a batch came to: a sum over all results, and the text of the last one.
+/// The result of a batch: a sum over all results, and the text of the last one.
 #[derive(PartialEq)]
 pub struct Outcome {
     pub sum: u64,
@@ -52,7 +52,7 @@ impl Outcome {
     }
 }
 
-/// Runs a batch of the library: the nanoseconds of its calls.
+/// Runs a batch of the library, and returns the nanoseconds of its calls.
 pub fn time(case: &Case, outcome: &mut Outcome) -> u64 {
     let (text, other) = (case.text.as_bytes(), case.other.as_bytes());
     // The slices live through the call, and none of them is kept.
@@ -81,7 +81,7 @@ pub fn digits(size: usize) -> String {
     (0..size).map(|place| digit(place).to_string()).collect()
 }
 
-/// A dot behind so many digits.
+/// Inserts a decimal point after `whole` digits.
 pub fn dotted(digits: &str, whole: usize) -> String {
     match digits.split_at(whole) {
         (whole, "") => whole.to_owned(),
@@ -93,7 +93,7 @@ pub fn copies(size: usize) -> usize {
     ((1 << 20) / (size + 64)).clamp(16, 512)
 }
 
-/// The row of an operation in the table. None: it has none.
+/// Returns the row of an operation in the table; `None` if it has none.
 fn name(operation: Operation) -> Option<&'static str> {
     Some(match operation {
         Operation::Parse => "parse",
@@ -143,7 +143,8 @@ fn case(operation: Operation, size: usize) -> Option<Case> {
         Operation::FromU64 if size > 19 => return None,
         Operation::FromU128 if size > 39 => return None,
         Operation::FromU64 | Operation::FromU128 => {
-            // The greatest u128 has 39 digits, and begins with a 3. So many integers in turn have as many digits.
+            // The greatest u128 has 39 digits, and starts with a 3. All integers of a batch have the same number of
+            // digits.
             case.text = if size == 39 { digits(size).replacen('7', "1", 1) } else { digits(size) };
             case.position = if size == 1 { 1 } else { 511 };
         }
@@ -152,7 +153,7 @@ fn case(operation: Operation, size: usize) -> Option<Case> {
     Some(case)
 }
 
-/// What the batches of a case took: the least times, and the ratios of neighbouring batches.
+/// The times of the batches of a case: the least times, and the ratios of adjacent batches.
 struct Cell {
     case: Case,
     ours: u64,
@@ -165,7 +166,7 @@ impl Cell {
         Cell { case, ours: u64::MAX, original: u64::MAX, ratios: Vec::new() }
     }
 
-    /// Runs a batch of each, which have to come to the same.
+    /// Runs a batch of each, whose results have to be equal.
     fn run(&mut self) {
         let (mut here, mut there) = (Outcome::new(&self.case), Outcome::new(&self.case));
         let ours = time(&self.case, &mut here);
@@ -183,7 +184,7 @@ impl Cell {
     }
 }
 
-/// Runs the whole table so many times, so that a slow spell of the machine spoils no row, and prints it.
+/// Runs the whole table `passes` times, so that a slow spell of the machine spoils no row, and prints it.
 pub fn print(passes: usize, word: &str) {
     let is_asked = |operation: &Operation| name(*operation).is_some_and(|name| name.contains(word));
     let rows = OPERATIONS.into_iter().filter(is_asked);

@@ -1,11 +1,11 @@
-//! Numbers that are concatenated to one of more digits.
+//! Concatenations to more digits than are stored in place.
 use crate::outcome::Outcome;
 use crate::values::read;
 use decimal_doubles::{Join, Joins, Value, shows};
 use fixed_decimal::{ByteDecimal, ConcatenateError, ParseError, UnsignedDecimal};
 use std::alloc::Global;
 
-/// The two numbers, and what they are concatenated to.
+/// The two numbers, and their concatenation.
 type Row = (&'static str, &'static str, &'static str);
 
 /// Concatenations to more than sixteen digits.

@@ -1,7 +1,7 @@
-//! Each kind of call that allocates. Where it is out of memory once, it has to change nothing, and to succeed when it
-//! is made again.
+//! Each kind of call that allocates. If one allocation fails, the call has to change nothing, and to succeed when it is
+//! made again.
 //!
-//! Prints `right` where each allocation succeeded, `right when asked again` where one failed and all went as it has to,
+//! Prints `right` if each allocation succeeded, `right when asked again` if one failed and all else is as it has to be,
 //! and `wrong` otherwise. `tests/allocation_failures.sh` makes each allocation fail in turn.
 #![tactic(auto)]
 

@@ -1,4 +1,4 @@
-//! Roundings to a number of one digit more.
+//! Roundings that make one digit more.
 use crate::outcome::Outcome;
 use crate::values::read;
 use decimal_doubles::{Rounds, Value, Way, rounded, shows, ways};
@@ -8,7 +8,7 @@ use fixed_decimal::UnsignedRoundingMode::{self, Trunc};
 use fixed_decimal::{ByteDecimal, Decimal, ParseError, RoundError, Signed, UnsignedDecimal};
 use std::alloc::Global;
 
-/// A number, and what it is rounded to at -1 by 25.
+/// A number, and the number rounded at -1 by 25.
 type Row = (&'static str, &'static str);
 
 const ABSOLUTE: &[Row] = &[

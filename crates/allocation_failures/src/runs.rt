@@ -7,7 +7,7 @@ use fixed_decimal::UnsignedRoundingMode::Trunc;
 use fixed_decimal::{Call, ParseError, RunError, Sink, run};
 use std::alloc::Global;
 
-/// A start, calls, and the text that they come to.
+/// A start, calls, and the text of the run.
 type Run = (&'static str, &'static [Call<'static>], &'static str);
 
 /// Runs that allocate.
@@ -49,7 +49,7 @@ fn writes(alloc: Global, (start, calls, text): Run) -> bool {
     run(alloc, start.as_bytes(), calls, &mut sink).is_ok() && sink.has_all()
 }
 
-/// The outcome of a run. Where it fails it has to write nothing.
+/// The outcome of a run. If it fails it has to write nothing.
 fn of_run(alloc: Global, (start, calls, text): Run) -> Outcome {
     let mut sink = LimitedSink::new(text.as_bytes(), usize::MAX);
     match run(alloc, start.as_bytes(), calls, &mut sink) {

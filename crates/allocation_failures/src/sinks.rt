@@ -1,4 +1,4 @@
-//! The sink that grows: where its growth fails, it has failed and takes nothing afterwards.
+//! The sink in memory: if its growth fails, it has failed and takes nothing afterwards.
 use crate::outcome::Outcome;
 use fixed_decimal::{RunError, Sink, TextBuf, run};
 use std::alloc::Global;
@@ -6,7 +6,7 @@ use std::alloc::Global;
 /// The bytes that are written repeatedly.
 const PIECE: &[u8] = b"0123456789";
 
-/// How often the bytes are written: the sink grows several times.
+/// The number of times that they are written: the sink grows several times.
 const TIMES: usize = 20;
 
 /// Whether a sink has taken `count` pieces, and nothing else.
@@ -21,7 +21,7 @@ fn has_taken(sink: &TextBuf, count: usize) -> bool {
     rest.is_empty()
 }
 
-/// Writes pieces until one is rejected, and counts those that were taken.
+/// Writes pieces until one is rejected, and returns the number of those taken.
 fn put_pieces(sink: &mut TextBuf) -> usize {
     for taken in 0..TIMES {
         if sink.put_bytes(PIECE).is_err() {
@@ -42,7 +42,7 @@ fn takes(alloc: Global) -> bool {
     put_pieces(&mut sink) == TIMES && !sink.failed() && has_taken(&sink, TIMES)
 }
 
-/// The outcome of a sink that takes pieces. Where a growth fails, it has failed, takes nothing more, and keeps what it
+/// The outcome of a sink that takes pieces. If a growth fails, it has failed, takes nothing more, and keeps what it
 /// took; another sink then takes all.
 pub fn outcome(alloc: Global) -> Outcome {
     let mut sink = TextBuf::new(alloc);
@@ -54,7 +54,7 @@ pub fn outcome(alloc: Global) -> Outcome {
     Outcome::second(has_failed && takes(alloc))
 }
 
-/// A text that is read without an allocation.
+/// A text that is parsed without an allocation.
 const TEXT: &[u8] = b"-1234.50";
 
 /// Whether a run writes the text into a new sink.
@@ -63,7 +63,7 @@ fn writes(alloc: Global) -> bool {
     run(alloc, TEXT, &[], &mut sink).is_ok() && sink.as_bytes() == TEXT
 }
 
-/// The outcome of a run into a sink. Where the sink cannot grow, the run returns `Sink`, and the sink has failed with a
+/// The outcome of a run into a sink. If the sink cannot grow, the run returns `Sink`, and the sink has failed with a
 /// prefix of the text in it.
 pub fn of_run(alloc: Global) -> Outcome {
     let mut sink = TextBuf::new(alloc);

@@ -1,4 +1,4 @@
-//! Values of each type that are read, made of integers, and copied.
+//! Values of each type that are parsed, made of integers, and copied.
 use crate::outcome::Outcome;
 use decimal_doubles::{Value, shows};
 use fixed_decimal::{
@@ -15,7 +15,7 @@ fn is_made<T: Value>(made: Result<T, AllocError>, text: &str) -> bool {
     }
 }
 
-/// The outcome of a call that makes a value with a text. It is made again where its allocation failed.
+/// The outcome of a call that makes a value with a text. It is made again if an allocation failed.
 fn making<T: Value, F: Fn() -> Result<T, AllocError>>(make: F, text: &str) -> Outcome
     requires { F.IsAlwaysCallable make }
 {
@@ -25,7 +25,7 @@ fn making<T: Value, F: Fn() -> Result<T, AllocError>>(make: F, text: &str) -> Ou
     }
 }
 
-/// The value of a text, which is read again where an allocation failed, and the outcome.
+/// Parses a text, again if an allocation failed, and returns the value and the outcome.
 pub fn read<T: Value>(alloc: Global, text: &str) -> Result<(T, Outcome), ParseError> {
     match T::read(alloc, text) {
         Err(ParseError::Memory) => Ok((T::read(alloc, text)?, Outcome::Again)),
@@ -33,7 +33,7 @@ pub fn read<T: Value>(alloc: Global, text: &str) -> Result<(T, Outcome), ParseEr
     }
 }
 
-/// The outcome of reading a text and of copying its value, which has to be unchanged.
+/// The outcome of parsing a text and of copying its value, which has to be unchanged.
 fn reading<T: Value>(alloc: Global, text: &str) -> Outcome {
     match read::<T>(alloc, text) {
         Ok((value, outcome)) => outcome

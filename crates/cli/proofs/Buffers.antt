@@ -1,4 +1,4 @@
--- What buffers hold that are new or written.
+-- The contents of new buffers, and of written ones.
 use Rattle.std.proofs.Common.{◌≡◌, ℕ, List, [], Option, Some, None, Bool, true, false, refl, sym, ap, subst}
 use Rattle.std.specs.declared.io.buffered.BufReader.{BufReader}
 use Rattle.std.specs.declared.io.buffered.BufWriter.{BufWriter}
@@ -16,13 +16,13 @@ pub nothing_behind : (known : Option (List ℕ)) → append_known known [] ≡ k
 nothing_behind None = refl
 nothing_behind (Some xs) = ap Some (append-nil xs)
 
--- what is left for a new buffer is what is left for the reader after it
+-- the bytes left in a new buffer are those left in its reader
 pub new_reader :
     {T A : Type 0} (f : T → Option (List ℕ)) (r : BufReader T A) (x : T) → reader_inner r ≡ x → reader_buffer r ≡ []
     → reader_capacity r ≡ 65536 → reader_remaining f r ≡ f x
 new_reader f r x inner empty room = rw (room, empty, inner) (nothing_before (f x))
 
--- what a new buffer has taken is what the writer after it has
+-- the contents of a new buffer are those of its writer
 pub new_writer :
     {T A : Type 0} (f : T → Option (List ℕ)) (w : BufWriter T A) (x : T) → writer_inner w ≡ x → writer_buffer w ≡ []
     → writer_contents f w ≡ f x

@@ -1,4 +1,4 @@
--- What was filtered so far, and what a filter returns after it.
+-- The state of a filter after some lines, and its result.
 use Rattle.std.proofs.Common.{◌≡◌, ◌≢◌, ℕ, ◌+◌, List, [], ◌∷◌, ◌++◌, length, append_assoc, Option, Some, None, Ok, Err, Result, Bool, true, false, ◌&&◌, length-append, refl, sym, ap, subst, ◌∙◌, arith}
 use Rattle.std.specs.Prelude.{is_ok, IfSome}
 use Rattle.std.proofs.lemmas.Bool.{and_from}
@@ -26,7 +26,7 @@ use Rattle.cli.proofs.Splitting.{lines_first}
 read_none : (a : Option (List ℕ)) → AreRead a [] a
 read_none a = grind (arith, common_steps)
 
--- one line more was read
+-- one more line was read
 read_more :
     (a b c : Option (List ℕ)) (lines : List (List ℕ)) (line : List ℕ) → AreRead a lines b
     → IfSome b (λ rest. IsRead true rest line c) → AreRead a (lines ++ (line ∷ [])) c
@@ -43,20 +43,20 @@ read_all :
     → AreRead a lines (Some [])
 read_all a b c lines h is = grind (arith, common_steps)
 
--- ---- What was filtered.
+-- ---- The state of the filter.
 
 -- all that was appended is a prefix
 whole : (a b : Option (List ℕ)) (text : List ℕ) → Appends a b text → AppendsPrefix a b text
 whole a b text p = (text, [], append-nil text, p)
 
--- steps in order, and then more of them
+-- a fold over two lists, one after the other
 folds_both :
     {P A : Type 0} (R : P → A → P → Type 0) (p : P) (xs : List A) (q : P) (ys : List A) (r : P)
     → FoldsTo R p xs q → FoldsTo R q ys r → FoldsTo R p (xs ++ ys) r
 folds_both R p [] q ys r same more = subst (λ p. FoldsTo R p ys r) (sym same) more
 folds_both R p (x ∷ xs) q ys r (j, step, rest) more = (j, step, folds_both R j xs q ys r rest more)
 
--- the lines were read, what they come to was appended, and their errors were reported
+-- the lines were read, their output was appended, and their errors were reported
 pub record Filtered
     {D : Type 0} (reports : D → FilterError → D → Type 0) (on_error : OnError) (calls : List Call) (count : ℕ)
     (texts : Bool) (input left out_old out_new : Option (List ℕ)) (old new : D) : Type 0
@@ -119,7 +119,7 @@ module _
         → have_texts calls (h.lines ++ (line ∷ [])) ≡ true
     stop_next line text stop = texts_more calls h.lines line ∙ and_from _ _ (h.stop stop) (text stop)
 
-    -- a line more was read and printed
+    -- one more line was read and printed
     pub filtered_more :
         (u : Bool) (line : List ℕ) (c q : Option (List ℕ)) (g : D)
         → IfSome b (λ rest. IsRead true rest line c)
@@ -139,7 +139,7 @@ module _
       stop = stop_next line (λ is. sym text ∙ stop is);
     }
 
-    -- ---- What a filter returns.
+    -- ---- The result of the filter.
 
     -- the filter returned this after the lines so far
     pub filters :

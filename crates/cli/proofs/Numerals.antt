@@ -1,4 +1,4 @@
--- What a parsed number is, by its bytes.
+-- The numbers that bytes stand for.
 use Rattle.std.proofs.Common.{◌≡◌, ◌≢◌, ℕ, ◌<◌, ◌≤◌, ◌&&◌, ◌⊎◌, inl, inr, Bool, true, false, nat_le, nat_lt, ℤ, pos, neg_ℤ, List, [], ◌∷◌, length, get_or, Option, Some, None, Result, Ok, Err, Bor, refl, ap, arith, w16}
 use Rattle.std.specs.Option.{option_map, unwrap_or, MatchOption}
 use Rattle.std.specs.Result.{OkIff, result_ok}
@@ -16,14 +16,14 @@ not_true : (b : Bool) → (b ≡ true → ⊥) → b ≡ false
 not_true true h = absurd (h refl)
 not_true false h = refl
 
--- the digits are read, or refused
+-- the digits are parsed or rejected
 module _ (f : ℕ → ℤ) (most : ℕ) (ds : List ℕ) where
-  -- bytes that are not one to six digits write no number
+  -- bytes other than one to six digits are no number
   pub refused : (are_digits ds ≡ true → ⊥) → None ≡ option_map f (digits_up_to most ds)
   refused never =
       rw (not_true (are_digits ds && nat_le (digits_value 10 ds) most) (λ h. never ((and_parts _ _ h).0))) refl
 
-  -- the answer of the parser is the number that one to six digits write
+  -- the result of the parser is the number of one to six digits
   pub reads :
       {E : Type 0} {Q : Type 0} (r : Result ℤ E) → length ds ≤ 6
       → ((all_ascii_digits ds ≡ true) → 0 < length ds → digits_value 10 ds ≤ most → Q)
@@ -58,7 +58,7 @@ plus (d ∷ ds) e h =
     let q : all_ascii_digits (43 ∷ ds) ≡ true = rw e at p in
     false≢true q
 
--- the digits are the word without a minus in front
+-- the digits are the word without a leading minus
 abbrev pub IsWithoutMinus : List ℕ → List ℕ → Type 0
 IsWithoutMinus word digits = (word ≡ 45 ∷ digits) ⊎ ((digits ≡ word) × (get_or word 0 0 ≢ 45))
 
@@ -66,7 +66,7 @@ first_is : (word : List ℕ) → ((rest : List ℕ) → word ≢ 45 ∷ rest) �
 first_is [] never e = grind arith
 first_is (w ∷ ws) never e = never ws (ap (λ x. x ∷ ws) e)
 
--- what `strip_prefix` leaves of a word is the word without a minus in front
+-- `strip_prefix` returns the word without a leading minus
 pub without_minus :
     (r : Option (Bor (List ℕ))) (word : Bor (List ℕ))
     → MatchOption r ((rest : List ℕ) → word.now ≢ 45 ∷ rest) (λ x. word.now ≡ 45 ∷ x.now)
@@ -74,14 +74,14 @@ pub without_minus :
 without_minus (Some x) word h = inl h
 without_minus None word h = inr (refl, first_is _ h)
 
--- where the digits after an optional minus are not one to six digits, the word is no number
+-- if the bytes after an optional minus are not one to six digits, the word is no number
 pub number_refused :
     (word digits : List ℕ) → IsWithoutMinus word digits → (are_digits digits ≡ true → ⊥) → None ≡ number word
 number_refused word digits (inl e) never = rw e (refused (λ n. neg_ℤ (pos n)) 32768 digits never)
 number_refused word digits (inr (e, first)) never =
     rw (ne_eqb (get_or word 0 0) 45 first) (refused pos 32767 word (rw e at never))
 
--- the answer of the parser for at most six bytes with no plus in front is the number of the word
+-- the result of the parser for at most six bytes without a leading plus is the number of the word
 pub number_reads :
     {E : Type 0} (word digits : List ℕ) (r : Result ℤ E) → IsWithoutMinus word digits → length digits ≤ 6
     → get_or digits 0 0 ≢ 43 → ParsesSigned w16 10 word r → result_ok r ≡ number word

@@ -1,4 +1,4 @@
--- What has been printed, text by text.
+-- The lines that have been printed, text by text.
 use Rattle.std.proofs.Common.{◌≡◌, ◌≢◌, ℕ, suc, ◌+◌, ◌<◌, List, [], ◌∷◌, ◌++◌, length, take, drop, get_or, String, string_bytes, Option, Result, Ok, Err, refl, sym, ap, subst, ◌∙◌, arith, append_assoc}
 use Rattle.std.specs.Prelude.{IsOkAnd, IfErr, OnOk}
 use Rattle.std.specs.declared.alloc.Global.{Global}
@@ -15,12 +15,12 @@ use Rattle.cli.specs.Plural.{HasRules}
 use Rattle.cli.proofs.Programs.{taken}
 use Rattle.fixed_decimal.proofs.Calling.{appends_both, appends_kept, then_part}
 
--- the value of which something is true
+-- a result of which a property holds is Ok
 ok_and : {X E : Type 0} (r : Result X E) (P : X → Type 0) → IsOkAnd r P → (x : X) × (r ≡ Ok x) × P x
 ok_and (Ok x) P h = (x, refl, h)
 ok_and (Err e) P h = absurd h
 
--- one text more has one line more
+-- one more text has one more line
 lines_more :
     (rules : List RuleParts) (front : List (String Global)) (lines : List ℕ) (text : String Global)
     (category : PluralCategory) → HaveLines rules front lines → read_category rules (string_bytes text) ≡ Ok category
@@ -41,7 +41,7 @@ module _
     (old mid new : Option (List ℕ)) (l : i < length texts) (e : text ≡ get_or texts i text)
     (before : PrintsAll rules (take i texts) old mid)
   where
-    -- and then that of this one
+    -- and the line of this one
     pub prints_more :
         IsOkAnd (read_category rules (string_bytes text)) (λ category. Appends mid new (line_of category))
         → PrintsAll rules (take (i + 1) texts) old new
@@ -93,7 +93,7 @@ module _
         )
     stops_here error fails same part = fails_here error (λ is. cc) fails (same (λ is. cc))
 
--- what a writer keeps stays printed
+-- calls that keep the contents of a writer keep the printed lines
 module _ (rules : List RuleParts) (texts : List (String Global)) (old mid new : Option (List ℕ)) (k : Keeps mid new)
   where
     part_kept : (xs : List ℕ) → AppendsPrefix old mid xs → AppendsPrefix old new xs
@@ -113,7 +113,7 @@ module _ (rules : List RuleParts) (texts : List (String Global)) (old mid new : 
       λ other. let (put, fails) = all other in (appends_kept old mid new lines put k, fails),
     )
 
-    -- whatever was printed, it is a prefix
+    -- with or without an error, the printed lines are a prefix
     pub begun :
         {U : Type 0} (r : Result U PluralError) → OnOk r (PrintsAll rules texts old mid)
         → IfErr r (StopsAt rules texts old mid) → StopsAt rules texts old new Output
@@ -129,7 +129,7 @@ module _ (rules : List RuleParts) (texts : List (String Global)) (old mid new : 
     begun (Err error) printed (front, back, lines, e, have, part, all) =
         (front, back, lines, e, have, part_kept lines part, λ other. absurd (other refl))
 
--- P holds of the rules and of the texts, where the words have these
+-- P holds of the rules and of the texts that the words name
 pub has_rules :
     (words : List (String Global)) (rules : List RuleParts) (texts : List (String Global))
     (P : List RuleParts → List (String Global) → Type 0) → HasRules words (λ r t. (r ≡ rules) × (t ≡ texts))

@@ -1,4 +1,4 @@
--- What the words of a command line name, and what their run comes to.
+-- The run that the words of a command line name, and its result.
 use Rattle.std.proofs.Common.{◌≡◌, ◌≢◌, ℕ, ◌+◌, ◌-◌, ◌<◌, ◌≤◌, List, [], ◌∷◌, ◌++◌, length, take, drop, get_or, String, string_bytes, Option, Some, None, Result, Ok, Err, IfNone, IfSome, IfErr, true, false, rules, refl, sym, ap, subst, ◌∙◌, arith, add-one}
 use Rattle.std.specs.Prelude.{Any, IsOk, IsOkAnd, IsErrAnd, OnOk}
 use Rattle.std.specs.Option.{is_some}
@@ -19,7 +19,7 @@ use Rattle.cli.specs.Fixdec.{OperationsFail, IsUsage, HasRun, RunPrints, RunPrin
 
 -- ---- Words and calls, one by one.
 
--- one word more names one call more
+-- one more word names one more call
 pub names_more :
     (ws : List (String Global)) (cs : List Call) (w : String Global) (call : Call) → NameAll ws cs
     → Names (string_bytes w) call → NameAll (ws ++ (w ∷ [])) (cs ++ (call ∷ []))
@@ -28,18 +28,18 @@ names_more (x ∷ ws) (y ∷ cs) w call (p, h) k = (p, names_more ws cs w call h
 names_more [] (y ∷ cs) w call h k = absurd h
 names_more (x ∷ ws) [] w call h k = absurd h
 
--- the first words with the next one are one word more
+-- the first words, and the next one appended
 pub taken :
     (ws : List (String Global)) (i : ℕ) (w : String Global) → i < length ws → w ≡ get_or ws i w
     → take (i + 1) ws ≡ take i ws ++ (w ∷ [])
 taken ws i w l e = rw add-one (take-suc ws i w l ∙ ap (λ x. take i ws ++ (x ∷ [])) (sym e))
 
--- what is known where there is no answer
+-- what is known of a result that is None
 pub at_none : {A : Type 0} {Q : Type 0} (o : Option A) → is_some o ≡ false → IfNone o Q → Q
 at_none None e q = q
 at_none (Some x) e q = cc
 
--- the answer, and what is known of it
+-- the value of a result that is Some, and what is known of it
 pub at_some : {A : Type 0} {Q : A → Type 0} (o : Option A) → is_some o ≡ true → IfSome o Q → (x : A) × Q x
 at_some None e q = cc
 at_some (Some x) e q = (x, q)
@@ -73,68 +73,68 @@ calls_some [] calls h some = absurd (some refl)
 calls_some (w ∷ ws) [] h some = absurd h
 calls_some (w ∷ ws) (c ∷ cs) h some = omega arith
 
--- ---- Answers.
+-- ---- Results.
 
--- an answer of which something is true is Ok
+-- a result of which a property holds is Ok
 pub ok_if : {X E : Type 0} (P : X → Type 0) (r : Result X E) → IsOkAnd r P → IsOk r
 ok_if P (Ok x) h = search (rules)
 ok_if P (Err e) h = absurd h
 
--- what follows from what is true of an answer is true of it
+-- a property that follows from one of a result holds of it
 pub ok_map : {X E : Type 0} (P Q : X → Type 0) (r : Result X E) → ((x : X) → P x → Q x) → IsOkAnd r P → IsOkAnd r Q
 ok_map P Q (Ok x) f h = f x h
 ok_map P Q (Err e) f h = h
 
--- what is true of an error is true of the answer that has it
+-- what is true of an error is true of a result with that error
 pub err_with : {A E : Type 0} (Q : E → Type 0) (r : Result A E) (f : E) → IsErrAnd r (λ x. x ≡ f) → Q f → IfErr r Q
 err_with Q (Ok x) f h q = absurd h
 err_with Q (Err e) f h q = subst Q (sym h) q
 
--- what follows of an error is true of it
+-- a property that follows from one of an error holds of it
 pub err_map :
     {X E : Type 0} {P Q : E → Type 0} (r : Result X E) → ((e : E) → r ≡ Err e → P e → Q e) → IfErr r P → IfErr r Q
 err_map (Ok x) f h = tt
 err_map (Err e) f h = f e refl h
 
--- without an error, what is true of Ok is true
+-- a property of Ok holds if there is no error
 pub at_ok :
     {X E : Type 0} {P : Type 0} (r : Result X E) (status : ℕ) → IfErr r (λ _. 0 < status) → status ≡ 0 → OnOk r P → P
 at_ok (Ok x) status h zero p = p
 at_ok (Err e) status some zero p = absurd (omega (arith, some, zero))
 
--- and so is what follows of it
+-- and so does a property that follows from it
 pub ok_weaker : {X E : Type 0} {P Q : Type 0} (r : Result X E) → (P → Q) → OnOk r P → OnOk r Q
 ok_weaker (Ok x) f h = f h
 ok_weaker (Err e) f h = h
 
 -- ---- What was printed.
 
--- a text was taken, and then a line feed
+-- a text and then a line feed were written
 pub feed_taken :
     {E : Type 0} (r : Result (List ℕ) E) (a b c : Option (List ℕ)) → IsOkAnd r (λ text. Appends a b text)
     → Appends b c (10 ∷ []) → IsOkAnd r (λ text. Appends a c (text ++ (10 ∷ [])))
 feed_taken r a b c p q = ok_map _ _ r (λ text h. appends_both a b c text (10 ∷ []) h q) p
 
--- a text was taken, and no line feed
+-- a text was written, and the line feed failed
 pub feed_refused :
     {E : Type 0} (r : Result (List ℕ) E) (a b c : Option (List ℕ)) → IsOkAnd r (λ text. Appends a b text)
     → Keeps b c → IsOkAnd r (λ text. AppendsPrefix a c (text ++ (10 ∷ [])))
 feed_refused r a b c p k = ok_map _ _ r (λ text h. (text, 10 ∷ [], refl, appends_kept a b c text h k)) p
 
--- a prefix of a text was taken
+-- a prefix of a text was written
 pub text_begun :
     {E : Type 0} (r : Result (List ℕ) E) (a b : Option (List ℕ)) → IsOkAnd r (λ text. AppendsPrefix a b text)
     → IsOkAnd r (λ text. AppendsPrefix a b (text ++ (10 ∷ [])))
 text_begun r a b p = ok_map _ _ r (λ text h. part_more a b text (10 ∷ []) h) p
 
--- what a writer keeps stays printed
+-- calls that keep the contents of a writer keep the printed text
 pub run_kept :
     (a b c : Option (List ℕ)) (bytes : List ℕ) (calls : List Call) → RunPrints a b bytes calls → Keeps b c
     → RunPrints a c bytes calls
 run_kept a b c bytes calls p k =
     ok_map _ _ (outcome bytes calls) (λ text h. appends_kept a b c (text ++ (10 ∷ [])) h k) p
 
--- the same, in the words for a beginning
+-- the same for a prefix
 pub run_begun :
     (a b c : Option (List ℕ)) (bytes : List ℕ) (calls : List Call) → RunPrints a b bytes calls → Keeps b c
     → RunPrintsPrefix a c bytes calls
@@ -142,14 +142,14 @@ run_begun a b c bytes calls p k =
     ok_map _ _ (outcome bytes calls)
     (λ text h. (text ++ (10 ∷ []), [], append-nil _, appends_kept a b c (text ++ (10 ∷ [])) h k)) p
 
--- what is printed is a text
+-- if a run prints, it has a text
 pub prints_text :
     (words : List (String Global)) (a b : Option (List ℕ)) → HasRun words (RunPrints a b)
     → HasRun words (λ bytes calls. IsOk (outcome bytes calls))
 prints_text [] a b p = absurd p
 prints_text (w ∷ ws) a b (calls, names, p) = (calls, names, ok_if _ _ p)
 
--- the words of which P holds are those of the arguments
+-- P holds of the words of the arguments
 pub have_words :
     (arguments : Arguments) (words : List (String Global)) (P : List (String Global) → Type 0)
     → HaveWords arguments (λ all. words ≡ all) → P words → HaveWords arguments P

@@ -1,4 +1,4 @@
--- What is reported where the writer has failed.
+-- Reports to a writer that has failed.
 use Rattle.std.proofs.Common.{◌≡◌, ℕ, List, [], Option, Some, None, Bool, true, refl, sym, subst, ◌∙◌}
 use Rattle.std.proofs.lemmas.Bool.{false≢true}
 use Rattle.std.specs.Io.KnownBytes.{Keeps}
@@ -9,7 +9,7 @@ keeps_itself : (known : Option (List ℕ)) → Keeps known known
 keeps_itself None = tt
 keeps_itself (Some bytes) = refl
 
--- nothing more is taken
+-- the writer is not called
 pub reports_none :
     (output known : Option (List ℕ)) (line : List ℕ) (failed : Bool) → failed ≡ true → IsLineOf output line
     → Reports output known failed known failed
@@ -21,7 +21,7 @@ reports_none output known line failed is line_is = (
   λ _. (keeps_itself known, is),
 )
 
--- the writer is this one
+-- the same for an equal writer
 pub reports_along :
     {W : Type 0} (contents : W → Option (List ℕ)) (output old : Option (List ℕ)) (had_failed : Bool) (a b : W)
     (failed : Bool) → a ≡ b → Reports output old had_failed (contents a) failed

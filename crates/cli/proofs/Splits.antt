@@ -14,7 +14,7 @@ use Rattle.cli.proofs.Numerals.{own}
 digits_after : (w : ℕ) (ws : List ℕ) (p : ℤ) → number (w ∷ ws) ≡ Some p → all_ascii_digits ws ≡ true
 digits_after w ws p e = grind (arith, nat_tests)
 
--- a word that is read as a number has no colon
+-- the word of a number has no colon
 number_free : (word : List ℕ) (p : ℤ) → number word ≡ Some p → (i : ℕ) → i < length word → get_or word i 0 ≢ 58
 number_free [] p e i l k = absurd (omega arith)
 number_free (w ∷ ws) p e zero l k = let none : None ≡ Some p = rw k at e in cc

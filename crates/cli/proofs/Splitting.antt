@@ -1,14 +1,14 @@
--- The first line of some bytes, and the others.
+-- The first line of bytes, and the others.
 use Rattle.std.proofs.Common.{◌≡◌, ◌≢◌, ℕ, List, [], ◌∷◌, refl, arith}
 use Rattle.std.specs.Io.BufRead.{take_through, drop_through, strip_last, first_piece}
 use Rattle.std.proofs.lemmas.Grind.{common_steps}
 use Rattle.cli.specs.Lines.{lines_of}
 
--- a byte before other bytes changes nothing of their end
+-- a byte before other bytes does not change how they end
 strip_more : (x y : ℕ) (t : List ℕ) → strip_last 10 (x ∷ y ∷ t) ≡ x ∷ strip_last 10 (y ∷ t)
 strip_more x y t = grind (arith, common_steps)
 
--- nor of the end of what is taken of them
+-- nor how a piece of them ends
 piece_more : (x y : ℕ) (ys : List ℕ)
     → strip_last 10 (x ∷ take_through 10 (y ∷ ys)) ≡ x ∷ first_piece 10 (y ∷ ys)
 piece_more x y ys = grind (arith, common_steps, strip_more)

@@ -62,7 +62,7 @@ TextFails rules bytes number (Text at reason) =
 TextFails rules bytes number Output = IsOk (read_category rules bytes)
 TextFails rules bytes number _ = ⊥
 
--- there is a first text, which has this number and fails so
+-- the first text, which has this number, fails with this error
 abbrev pub FirstFails : List RuleParts → List (String Global) → ℕ → PluralError → Type 0
 FirstFails rules [] number error = ⊥
 FirstFails rules (text ∷ texts) number error = TextFails rules (string_bytes text) number error

@@ -17,7 +17,7 @@ use Rattle.cli.specs.declared.errors.FilterError.TheVariants as filter
 use Rattle.cli.specs.declared.errors.PluralError.{PluralError}
 use Rattle.cli.specs.declared.errors.PluralError.TheVariants as plural
 
--- the error of a run, as the programs name it
+-- an error of a run as an error of the programs
 abbrev pub error_of_run : RunError → OperationError
 error_of_run (run.Start parse.Syntax) = Start Syntax
 error_of_run (run.Start parse.Limit) = Start Limit
@@ -30,7 +30,7 @@ error_of_run (run.Limit at) = Overflow at
 error_of_run (run.Memory at) = Memory
 error_of_run run.Sink = Output
 
--- the status of an error of operations: of a refusal, or of out of memory and of a failed output
+-- the status of an error of operations: 1 of a rejected text or a failed call, 3 of out of memory and of failed output
 abbrev pub status_of_operation : OperationError → ℕ
 status_of_operation (Start reason) = 1
 status_of_operation (Operand at reason) = 1
@@ -72,7 +72,7 @@ error_of_rules (rules.Syntax at) = plural.Rules at Syntax
 error_of_rules (rules.Limit at) = plural.Rules at Limit
 error_of_rules rules.Memory = plural.Memory
 
--- the reason, as the libraries name it
+-- a reason as an error of the libraries
 abbrev pub reading_fault_of : Reason → ReadingFault
 reading_fault_of Syntax = syntax
 reading_fault_of Limit = limit

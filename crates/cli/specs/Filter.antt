@@ -1,4 +1,4 @@
--- What the words of `fixdec_lines` ask for, and what comes of them and of an input.
+-- The filter that the words of `fixdec_lines` name, and its result on an input.
 use Rattle.std.specs.Prelude.{◌≡◌, ℕ, ⊤, Any, Bool, true, List, String, Option, MatchOption, Result, Err}
 use Rattle.std.specs.declared.alloc.Global.{Global}
 use Rattle.fixed_decimal.specs.declared.runs.Call.{Call}
@@ -9,12 +9,12 @@ use Rattle.cli.specs.declared.filter.OnError.{OnError}
 use Rattle.cli.specs.Lines.{AppendsUnwritten, Filters}
 use Rattle.cli.specs.Steps.{IsSplit}
 
--- after a first word `skip`, or from the first word on, a word names no call
+-- a word after the optional first word `skip` names no call
 abbrev pub IsUsage : List (String Global) → Type 0
 IsUsage words =
     (on_error : OnError) × (others : List (String Global)) × IsSplit words on_error others × Any IsUnknown others
 
--- after a first word `skip`, or from the first word on, the words name calls, of which this holds
+-- the words after the optional first word `skip` name calls, of which this holds
 abbrev pub HasFilter : List (String Global) → (OnError → List Call → Type 0) → Type 0
 HasFilter words P =
     (on_error : OnError) × (others : List (String Global)) × (calls : List Call) × IsSplit words on_error others
@@ -28,7 +28,7 @@ IsEarly _ = ⊥
 
 module _ {D : Type 0} (reports : D → FilterError → D → Type 0) where
   -- the error is that of the words, or out of memory before the first line, and nothing was reported before it; or the
-  -- filter that the words ask for returned this
+  -- filter that the words name returned this
   abbrev pub WordsFilter :
       List (String Global) → Option (List ℕ) → Option (List ℕ) → Option (List ℕ) → D → D → Result Bool FilterError
       → Type 0
@@ -38,8 +38,8 @@ module _ {D : Type 0} (reports : D → FilterError → D → Type 0) where
       HasFilter words (λ on_error calls.
       Filters AppendsUnwritten reports on_error calls input out_old out_new old new result)
 
-  -- the block before the writer cannot be allocated, and nothing is reported before this error; or the filter fails so,
-  -- at `output` because the writer failed
+  -- the block before the writer cannot be allocated, and nothing is reported before this error; or the filter fails
+  -- with it, at `Output` because the writer failed
   abbrev pub LinesFail :
       {O : Type 0} → (O → Option (List ℕ)) → Option (List ℕ) → O → D → D → List (String Global) → Option (O × Bool)
       → FilterError → Type 0

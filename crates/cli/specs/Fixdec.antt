@@ -1,4 +1,4 @@
--- What the words of `fixdec` ask for, and how it ends.
+-- The run that the words of `fixdec` name, and its result.
 use Rattle.std.specs.Prelude.{◌≡◌, ℕ, ◌<◌, ⊤, Bool, true, Any, List, [], ◌∷◌, ◌++◌, length, String, string_bytes}
 use Rattle.std.specs.Prelude.{Option, MatchOption, IsOkAnd}
 use Rattle.std.specs.Io.KnownBytes.{Appends, append_known}
@@ -47,8 +47,8 @@ abbrev pub OperationsFail : OperationError → List ℕ → List Call → Type 0
 OperationsFail error bytes calls =
     (why : RunError) × (error ≡ error_of_run why) × RunRefuses DIGITS_IN_PLACE why bytes calls
 
--- the error of the words: no first word, or a word that names no call; out of memory for the list of the calls, of
--- which there is one at least; or the error of the run
+-- the error of the words: no first word, or a word that names no call; out of memory for the list of the calls, which
+-- is not empty; or the error of the run
 abbrev pub HasError : List (String Global) → FixdecError → Type 0
 HasError words Usage = IsUsage words
 HasError words Memory = HasRun words (λ bytes calls. 0 < length calls)

@@ -34,18 +34,18 @@ AreAll input lines = AreRead input lines (Some [])
 abbrev pub AreFirst : Option (List ℕ) → List (List ℕ) → Type 0
 AreFirst input lines = (left : Option (List ℕ)) × AreRead input lines left
 
--- ---- What is written and what is reported for them.
+-- ---- The output and the errors of lines.
 
--- what a line comes to: its text and a line feed, or an empty line where its run fails
+-- the output of a line: its text and a line feed, or an empty line if its run fails
 abbrev pub output_of_line : Result (List ℕ) Refusal → List ℕ
 output_of_line (Ok text) = text ++ (10 ∷ [])
 output_of_line (Err refusal) = 10 ∷ []
 
--- what lines come to, in order
+-- the output of lines, in order
 abbrev pub output_of : List Call → List (List ℕ) → List ℕ
 output_of calls lines = flat_map (λ line. output_of_line (outcome line calls)) lines
 
--- the error of a refusal
+-- an error of a run as an error of the programs
 abbrev pub error_of : Refusal → OperationError
 error_of (start syntax) = operation.Start reason.Syntax
 error_of (start limit) = operation.Start reason.Limit
@@ -54,7 +54,7 @@ error_of (operand at limit) = operation.Operand at reason.Limit
 error_of (overlap at) = operation.Overlap at
 error_of (limit_exceeded at) = operation.Overflow at
 
--- the errors of the line with this number: its refusal, and none where it has a text
+-- the errors of the line with this number: that of its run, and none if it has a text
 abbrev pub errors_of_line : ℕ → Result (List ℕ) Refusal → List FilterError
 errors_of_line number (Ok text) = []
 errors_of_line number (Err refusal) = Operation number (error_of refusal) ∷ []
@@ -87,8 +87,8 @@ abbrev pub Returns : OnError → List Call → Option (List ℕ) → List (List 
 Returns on_error calls input lines (Ok texts) = AreAll input lines × (texts ≡ have_texts calls lines)
 Returns on_error calls input lines (Err error) = AreFirst input lines × EndsWith on_error calls input lines error
 
--- the filter returned this: what the lines come to was appended, at a failed output a part of it, and their errors were
--- reported in order; with `Stop` each line has a text
+-- the filter returned this: the output of the lines was appended, at a failed output a part of it, and their errors
+-- were reported in order; with `Stop` each line has a text
 abbrev pub Filters :
     {D : Type 0} → (Option (List ℕ) → Option (List ℕ) → List ℕ → Type 0) → (D → FilterError → D → Type 0) → OnError
     → List Call → Option (List ℕ) → Option (List ℕ) → Option (List ℕ) → D → D → Result Bool FilterError → Type 0
@@ -99,7 +99,7 @@ Filters AppendsPart reports on_error calls input out_old out_new old new result 
     × AppendsPart out_old out_new (output_of calls lines)
     × FoldsTo reports old (errors_of calls 1 lines) new
 
--- a prefix of the text was appended, without its last bytes, which a block did not write
+-- together with the last bytes, which a block did not write, a prefix of the text was appended
 abbrev pub AppendsUnwritten : Option (List ℕ) → Option (List ℕ) → List ℕ → Type 0
 AppendsUnwritten old new text = (missing : List ℕ) × AppendsPrefix old (append_known new missing) text
 

@@ -1,4 +1,4 @@
--- What the words of `plural` ask for, and how it ends.
+-- The rules and the texts that the words of `plural` name, and its result.
 use Rattle.std.specs.Prelude.{◌≡◌, ◌≢◌, ℕ, ◌<◌, ◌⊎◌, Bool, true, false, List, [], ◌∷◌, length, String, string_bytes, Option, MatchOption, Err}
 use Rattle.std.specs.Io.KnownBytes.{append_known}
 use Rattle.std.specs.declared.alloc.Global.{Global}

@@ -15,18 +15,18 @@ use Rattle.fixed_decimal.specs.declared.variations.SignDisplay.TheVariants as di
 use Rattle.fixed_decimal.specs.declared.runs.Call.{Call}
 use Rattle.fixed_decimal.specs.declared.runs.Call.TheVariants.{MultiplyPow10, TrimStart, TrimEnd, TrimEndIfInteger, PadStart, PadEnd, SetMaxPosition, Round, SetSign, ApplySignDisplay, Concatenate}
 
--- ---- What stands behind a colon.
+-- ---- Parameters.
 
 -- one to six digits and nothing else
 abbrev pub are_digits : List ℕ → Bool
 are_digits bytes = all_ascii_digits bytes && (nat_lt 0 (length bytes) && nat_le (length bytes) 6)
 
--- the number that one to six digits write, where it is at most this one
+-- the number of one to six digits, if it is at most `most`
 abbrev pub digits_up_to : ℕ → List ℕ → Option ℕ
 digits_up_to most bytes =
     if are_digits bytes && nat_le (digits_value 10 bytes) most then Some (digits_value 10 bytes) else None
 
--- the number that an optional minus and one to six digits write, from -32768 to 32767
+-- the number of an optional minus and one to six digits, from -32768 to 32767
 abbrev pub number : List ℕ → Option ℤ
 number bytes =
     if slice_index bytes 0 == 45
@@ -72,7 +72,7 @@ display_word display.Negative = codes "negative"
 abbrev pub HasNumber : List ℕ → List ℕ → ℤ → Type 0
 HasNumber name word n = (digits : List ℕ) × (word ≡ name ++ digits) × (number digits ≡ Some n)
 
--- the word names this call; a text to join is all that follows the first colon
+-- the word names this call; the text of `concat` is all that follows the first colon
 abbrev pub Names : List ℕ → Call → Type 0
 Names word (MultiplyPow10 delta) = HasNumber (codes "shift:") word delta
 Names word TrimStart = word ≡ codes "trim-start"
@@ -89,7 +89,7 @@ Names word (SetSign sign) = word ≡ codes "sign:" ++ sign_word sign
 Names word (ApplySignDisplay display) = word ≡ codes "display:" ++ display_word display
 Names word (Concatenate text) = word ≡ codes "concat:" ++ text.now
 
--- two calls are the same: where both join a text, it is one text
+-- two calls are the same; texts to concatenate are compared by their bytes
 abbrev pub IsSame : Call → Call → Type 0
 IsSame (Concatenate first) (Concatenate second) = first.now ≡ second.now
 IsSame first second = first ≡ second

@@ -134,7 +134,7 @@ fn are_calls(words: &[String]) -> bool
 ///
 /// # Errors
 ///
-/// Each word names a call, and the program is out of memory for the list.
+/// Out of memory for the list; each word names a call.
 pub fn parse_calls<'a>(
     alloc: Global,
     words: &'a [String],

@@ -1,4 +1,4 @@
-//! The categories of texts, printed a line each.
+//! The plural categories of texts, printed one a line.
 ghost use Rattle.std.specs.Prelude.{◌≡◌, ◌≢◌, Ok, Err, IfOk, IfErr, OnOk, OnErr, IsOkAnd, true};
 ghost use Rattle.std.specs.Io.KnownBytes.{Appends};
 ghost use Rattle.decimal_digits.specs.Text.{AppendsPrefix};
@@ -25,7 +25,7 @@ fn has_c(text: &str) -> bool
     text.as_bytes().iter().any(|byte| *byte == b'c')
 }
 
-/// The category of a compact decimal.
+/// Returns the category of a compact decimal.
 fn category_of_compact(
     alloc: Global,
     rules: &PluralRules,
@@ -41,7 +41,7 @@ fn category_of_compact(
     Ok(rules.category(&PluralOperands::of_compact(&number)))
 }
 
-/// The category of a decimal.
+/// Returns the category of a decimal.
 fn category_of_decimal(
     alloc: Global,
     rules: &PluralRules,
@@ -56,7 +56,7 @@ fn category_of_decimal(
     Ok(rules.category(&PluralOperands::of_decimal(&number)))
 }
 
-/// The category of a text by rules: with a `c` it is a compact decimal, and else a decimal.
+/// Returns the category of a text by rules; a text with a `c` is a compact decimal, and any other a decimal.
 fn category(alloc: Global, rules: &PluralRules, text: &str) -> Result<PluralCategory, ParseError>
     ensures found { IfOk result (λ category. read_category rules.now text.now ≡ Ok category) }
     ensures refused { IfErr result
@@ -69,7 +69,7 @@ fn category(alloc: Global, rules: &PluralRules, text: &str) -> Result<PluralCate
     }
 }
 
-/// Puts the name of a category and a line feed into a sink.
+/// Writes the name of a category and a line feed to a sink.
 fn print_line<W: Sink>(category: PluralCategory, sink: &mut W) -> Result<(), SinkFault>
     ensures ok { OnOk result (Appends (W.contents sink.old) (W.contents sink.new) (line_of category)) }
     ensures err { OnErr result (AppendsPrefix (W.contents sink.old) (W.contents sink.new) (line_of category)) }
@@ -79,7 +79,7 @@ fn print_line<W: Sink>(category: PluralCategory, sink: &mut W) -> Result<(), Sin
     sink.put_byte(b'\n')
 }
 
-/// Prints the category of a text, which has this number from 1 on.
+/// Prints the category of the text with this 1-based number.
 fn print_category<W: Sink>(
     alloc: Global,
     rules: &PluralRules,
@@ -109,8 +109,8 @@ fn print_category<W: Sink>(
     }
 }
 
-/// Prints the categories of texts, a line each. Err: the categories of the texts in front of one were printed; or the
-/// sink refused a byte.
+/// Prints the categories of texts, one a line. Err: a text fails, and the categories of those before it were printed;
+/// or the sink failed.
 pub fn print_categories<W: Sink>(
     alloc: Global,
     rules: &PluralRules,

@@ -8,13 +8,13 @@ use std::alloc::AllocError;
 use std::error;
 use thiserror::Error;
 
-/// Why a text or rules are rejected.
+/// The reason for which a text or rules are rejected.
 #[derive(Clone, Copy, Debug, PartialEq, Error)]
 pub enum Reason {
-    /// No grammar has it.
+    /// It is not in the grammar.
     #[error("syntax")]
     Syntax,
-    /// The grammar has it, and it names a number beyond the limits.
+    /// It is in the grammar, and a number of it is beyond the limits.
     #[error("limit")]
     Limit,
 }
@@ -25,10 +25,10 @@ pub enum OperationError {
     /// The text is rejected.
     #[error("start: {0}")]
     Start(Reason),
-    /// The text that this call joins is rejected.
+    /// The operand of this call is rejected.
     #[error("call {at}: {reason}")]
     Operand { at: usize, reason: Reason },
-    /// The numbers that this call joins overlap.
+    /// The numbers that this call concatenates overlap.
     #[error("call {at}: overlap")]
     Overlap { at: usize },
     /// The result of this call is beyond the limits.

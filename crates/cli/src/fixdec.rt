@@ -41,7 +41,7 @@ pub fn print_run<W: Sink>(
     Ok(())
 }
 
-/// Prints the text of the run that the words ask for, and a line feed.
+/// Prints the text of the run that the words name, and a line feed.
 fn print<O: Write>(alloc: Global, words: &[String], out: &mut Out<O>) -> Result<(), FixdecError>
     ensures printed { OnOk result (Prints words.now (O.contents out.old.0) (O.contents out.new.0)) }
     ensures has_not_failed { OnOk result (out.new.1 ≡ false) }

@@ -21,7 +21,7 @@ use std::io::{BufReader, Read, Write};
 use std::process::ExitCode;
 use std::{env, io};
 
-/// The bytes of a read.
+/// The number of bytes of a read.
 const BLOCK: usize = 65_536;
 
 /// Splits off a first word `skip`, and returns the words of the calls.
@@ -34,7 +34,7 @@ fn split_skip(words: &[String]) -> (OnError, &[String])
     }
 }
 
-/// Runs the filter that the words ask for, behind a block, and returns the writer after its last call.
+/// Runs the filter that the words name with a block before the writer, and returns the writer after its last call.
 fn filter_words<R: Read, O: Write + Drop, D: Diagnostics<FilterError>>(
     alloc: Global,
     words: &[String],

@@ -1,4 +1,4 @@
-//! Standard output behind a block of bytes.
+//! Output in blocks.
 ghost use Rattle.std.specs.Prelude.{◌≡◌, List, ℕ, Bool, true, false, IfOk};
 ghost use Rattle.std.specs.Io.KnownBytes.{Keeps, append_known};
 ghost use Rattle.std.specs.Io.Buffered.{writer_contents, writer_inner};
@@ -8,10 +8,10 @@ use std::alloc::{AllocError, Global};
 use std::io::{BufWriter, Write};
 use std::marker::Model;
 
-/// The bytes of a block.
+/// The number of bytes of a block.
 const BLOCK: usize = 65_536;
 
-/// A sink over a writer that is called once a block.
+/// A sink that writes to a writer in blocks.
 pub type Blocks<O> = Out<BufWriter<O>>;
 
 /// A writer after its last call, and whether a call failed.
@@ -42,7 +42,7 @@ impl<O> Closed<O> {
         self.writer
     }
 
-    /// A writer that is not called.
+    /// Returns a writer that was not called.
     pub fn uncalled(writer: O) -> Self
         ensures { result ≡ (writer, false) }
     {

@@ -13,7 +13,7 @@ use std::io::Write;
 use std::process::Abort;
 use std::test::Fail;
 
-/// Diagnostics that keep the errors, in order, as far as there is memory.
+/// Diagnostics that keep the errors, in order, unless out of memory.
 #[derive(Drop)]
 struct Log<E> {
     errors: Vec<E>,

@@ -14,10 +14,10 @@ mod many;
 mod prints;
 mod refuses;
 
-/// More bytes than most answers have.
+/// More bytes than most texts have.
 const ROOM: usize = 64;
 
-/// The words of a line, with a blank between any two.
+/// Returns the words of a line, which single blanks separate.
 fn words(alloc: Global, line: &str) -> Result<Vec<String>, Fail> {
     let mut words = Vec::new(alloc);
     for word in line.split(' ') {
@@ -26,8 +26,8 @@ fn words(alloc: Global, line: &str) -> Result<Vec<String>, Fail> {
     Ok(words)
 }
 
-/// What a status and two outputs say: at status 0 the text alone, without its line feed, and else all of it, as
-/// `1 start: syntax` with its line feed, which what standard output took stands before.
+/// Returns the text on standard output without its line feed at status 0, and otherwise standard output, the status, a
+/// space and standard error, as `1 start: syntax` and a line feed.
 fn told(mut out: Vec<u8>, err: &[u8], status: u8) -> Result<Vec<u8>, Fail>
     requires { status ≤ 3 }
 {
@@ -40,7 +40,7 @@ fn told(mut out: Vec<u8>, err: &[u8], status: u8) -> Result<Vec<u8>, Fail>
     Ok(out)
 }
 
-/// What the program tells, with room for so many bytes on standard output.
+/// Runs the program, with room for `room` bytes on standard output.
 fn answered(alloc: Global, words: &[String], room: usize) -> Result<Vec<u8>, Fail> {
     let mut err = Vec::<u8>::with_capacity(alloc, ROOM)?;
     let mut out = Out::new(Vec::<u8>::with_capacity(alloc, room)?);
@@ -48,7 +48,7 @@ fn answered(alloc: Global, words: &[String], room: usize) -> Result<Vec<u8>, Fai
     told(out.into_writer(), err.as_slice(), status)
 }
 
-/// What the program tells. Where memory was refused it has to say so with nothing else, and runs again.
+/// Runs the program, and once more if it reports that it is out of memory.
 fn answer_of(alloc: Global, words: &[String], room: usize) -> Result<Vec<u8>, Fail> {
     let answer = answered(alloc, words, room)?;
     if answer.as_slice() == b"3 memory\n".as_slice() {
@@ -57,13 +57,13 @@ fn answer_of(alloc: Global, words: &[String], room: usize) -> Result<Vec<u8>, Fa
     Ok(answer)
 }
 
-/// What a line tells.
+/// Runs the program on a line.
 fn shown(alloc: Global, line: &str) -> Result<Vec<u8>, Fail> {
     let words = words(alloc, line)?;
     answer_of(alloc, words.as_slice(), ROOM)
 }
 
-/// Asserts what was told.
+/// Asserts the output of a program.
 fn assert_shows(rt: &impl Abort, found: Vec<u8>, text: &str) {
     assert_eq!(rt; found.as_slice(), text.as_bytes());
 }

@@ -1,4 +1,4 @@
-//! Inputs, and what is written and told for them.
+//! Inputs, with their output and the errors that are reported.
 use std::alloc::Global;
 use std::test::Fail;
 
@@ -8,7 +8,7 @@ mod pieces;
 mod sizes;
 mod slices;
 
-/// The words of a line with a blank between any two, the first of which is the program's name.
+/// Returns the words of a line, which single blanks separate; the first is the program's name.
 fn words(alloc: Global, line: &str) -> Result<Vec<String>, Fail> {
     let mut words = Vec::new(alloc);
     for word in line.split(' ') {

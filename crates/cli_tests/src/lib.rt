@@ -1,6 +1,6 @@
-//! The tests of the programs: command lines and inputs, and what is printed and reported.
+//! The tests of the programs: command lines and inputs, with their output and the errors that are reported.
 //!
-//! They are in a crate of their own, so that `cli` is not proved a second time with them.
+//! A separate crate, so that `cli` is not proved a second time with them.
 #![tactic(auto)]
 
 #[cfg(test)]

@@ -1,4 +1,4 @@
-//! Command lines, and what they print.
+//! Command lines of `plural`, and what they print.
 ghost use Rattle.std.specs.Prelude.{◌≤◌};
 
 use cli::ErrorLines;
@@ -11,8 +11,7 @@ use std::io::ErrorKind;
 use std::process::Abort;
 use std::test::Fail;
 
-/// Words, with a bar between any two, and what is printed: what standard output took, the status, and what standard
-/// error took.
+/// Words that bars separate, and what is printed: standard output, the status, a space and standard error.
 const LINES: &[(&str, &str)] = &[
     (
         "one: i = 1 and v = 0|1|01|-1|1.0|1c6",
@@ -32,7 +31,7 @@ const LINES: &[(&str, &str)] = &[
     ("one: i = 1|1c256", "1 text 1: limit\n"),
 ];
 
-/// The arguments of a line: the name of the program, and its words.
+/// Returns the arguments of a line: the name of the program, and its words.
 fn arguments(alloc: Global, line: &str) -> Result<Args, Fail> {
     let mut words = Vec::new(alloc);
     words.push(String::from_str(alloc, "plural")?)?;
@@ -42,7 +41,7 @@ fn arguments(alloc: Global, line: &str) -> Result<Args, Fail> {
     Ok(words.into_iter())
 }
 
-/// What standard output took, the status, and what standard error took.
+/// Returns standard output, the status, a space and standard error.
 fn told(mut out: Vec<u8>, status: u8, err: &[u8]) -> Result<Vec<u8>, Fail>
     requires { status ≤ 3 }
 {
@@ -52,7 +51,7 @@ fn told(mut out: Vec<u8>, status: u8, err: &[u8]) -> Result<Vec<u8>, Fail>
     Ok(out)
 }
 
-/// What arguments print.
+/// Runs the program on arguments.
 fn printed(alloc: Global, arguments: io::Result<Args>) -> Result<Vec<u8>, Fail> {
     let mut err = Vec::<u8>::new(alloc);
     let mut lines = ErrorLines::new(&mut err);
@@ -61,7 +60,7 @@ fn printed(alloc: Global, arguments: io::Result<Args>) -> Result<Vec<u8>, Fail> 
     told(out, status, err.as_slice())
 }
 
-/// Asserts what was printed.
+/// Asserts the output of a program.
 fn assert_prints(rt: &impl Abort, found: Vec<u8>, text: &str) {
     assert_eq!(rt; found.as_slice(), text.as_bytes());
 }

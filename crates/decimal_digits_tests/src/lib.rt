@@ -1,6 +1,6 @@
 //! The tests of lists of digits, of modes and of sinks: over each store, and over writers that fail.
 //!
-//! They stand in a crate of their own, so that the library is not proved a second time with them.
+//! A separate crate, so that the library is not proved a second time with them.
 #![tactic(auto)]
 
 #[cfg(test)]

@@ -1,5 +1,5 @@
-//! Each public call once, what no clause says, and sinks that fail. A helper holds one list, or two where a call takes
-//! two, and answers whether all is as its row says.
+//! Each public call once, what no clause says, and sinks that fail. A helper holds one list, or two for a call on two,
+//! and returns whether its row holds.
 use decimal_digits::digits::{DigitList, DigitStore, PackedDigits};
 use std::alloc::{AllocError, Global};
 use std::test::Fail;
@@ -23,7 +23,7 @@ fn list_of<D: DigitStore>(alloc: Global, text: &[u8]) -> Result<D, AllocError> {
     Ok(list)
 }
 
-/// Puts the digits of a text behind a list and so many zeros.
+/// Appends zeros and the digits of a text to a list.
 fn append_text<D: DigitStore>(
     list: &mut D,
     alloc: Global,
@@ -34,13 +34,13 @@ fn append_text<D: DigitStore>(
     list.append(zeros, &other)
 }
 
-/// Whether a list equals the list of a text's digits, which has seen no change.
+/// Whether a list equals the list of a text's digits, which was never changed.
 fn equals_text<D: DigitStore>(list: &D, alloc: Global, text: &[u8]) -> Result<bool, AllocError> {
     let other = list_of::<D>(alloc, text)?;
     Ok(list.eq(&other))
 }
 
-/// Whether a list has the digits of a text, each by its index.
+/// Whether a list has the digits of a text, index by index.
 fn has_digits<D: DigitStore>(list: &D, text: &[u8]) -> bool {
     if list.len() != text.len() {
         return false;

@@ -3,11 +3,11 @@ use crate::limited_store::CountingStore;
 use decimal_unsigned::decimal::UnsignedOver;
 use fixed_decimal::Signed;
 
-/// A type of values over a store that counts.
+/// A type of values over a store that counts its accesses.
 pub trait Counts: Drop {
     type Store: CountingStore;
 
-    /// The store.
+    /// Returns the store.
     fn counted(&self) -> &Self::Store;
 }
 

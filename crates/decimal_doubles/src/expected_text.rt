@@ -1,6 +1,6 @@
-//! A text that is to come.
+//! A text that is expected.
 
-/// A text that is to come byte by byte, and how much of it has come.
+/// A text that is expected byte by byte, and the part that has been received.
 #[derive(Clone, Copy)]
 pub struct ExpectedText<'a> {
     rest: &'a [u8],
@@ -9,7 +9,7 @@ pub struct ExpectedText<'a> {
 }
 
 impl<'a> ExpectedText<'a> {
-    /// Nothing of the text has come.
+    /// Makes an expected text of which nothing has been received.
     pub fn new(text: &'a [u8]) -> Self {
         ExpectedText {
             rest: text,
@@ -18,7 +18,7 @@ impl<'a> ExpectedText<'a> {
         }
     }
 
-    /// Takes a byte, whether it is the next of the text or not.
+    /// Receives a byte, whether it is the next of the text or not.
     pub fn take(&mut self, byte: u8) {
         self.taken = self.taken.saturating_add(1);
         match self.rest.split_first() {
@@ -27,17 +27,17 @@ impl<'a> ExpectedText<'a> {
         }
     }
 
-    /// Counts the bytes that have come.
+    /// Returns the number of bytes received.
     pub fn taken(&self) -> usize {
         self.taken
     }
 
-    /// Tells whether exactly the first `count` bytes of the text have come.
+    /// Whether the bytes received are exactly the first `count` of the text.
     pub fn has_come(&self, count: usize) -> bool {
         !self.is_other && self.taken == count
     }
 
-    /// Tells whether the text has come, whole and alone.
+    /// Whether the bytes received are exactly the text.
     pub fn is_whole(&self) -> bool {
         !self.is_other && self.rest.is_empty()
     }

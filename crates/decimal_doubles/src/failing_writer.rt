@@ -1,25 +1,24 @@
-//! A writer with little room, which counts its calls.
+//! A writer that fails after a number of bytes, and counts its calls.
 ghost use Rattle.std.specs.Prelude.{◌≡◌, IfOk};
 
 use crate::expected_text::ExpectedText;
 use std::io;
 use std::io::Write;
 
-/// What a writer answers when it has no more room.
+/// How a writer fails when it has no room left.
 #[derive(Clone, Copy)]
 pub enum WriteFailure {
-    /// 0 bytes, now and later.
+    /// It returns 0, now and later.
     Zero,
-    /// An error, now and later.
+    /// It returns an error, now and later.
     Fault,
-    /// The error `Interrupted`, once; it takes the bytes that come later.
+    /// It returns the error `Interrupted` once, and takes all later bytes.
     Interrupted,
-    /// 0 bytes, and an error where it is flushed.
+    /// It returns 0, and an error when it is flushed.
     Flush,
 }
 
-/// A writer that takes so many bytes, some at each call, compares them with a text, and then refuses. It counts its
-/// calls.
+/// A writer that takes `room` bytes, compares them with a text, and then fails. It counts its calls.
 #[derive(Drop)]
 pub struct FailingWriter<'a> {
     expected: ExpectedText<'a>,
@@ -32,7 +31,7 @@ pub struct FailingWriter<'a> {
 }
 
 impl<'a> FailingWriter<'a> {
-    /// Makes a writer that takes so many bytes, one at each call, which are to be the first of a text.
+    /// Makes a writer that takes `room` bytes, one a call, and expects a prefix of a text.
     pub fn new(text: &'a [u8], room: usize, refusal: WriteFailure) -> Self {
         FailingWriter {
             expected: ExpectedText::new(text),
@@ -45,38 +44,38 @@ impl<'a> FailingWriter<'a> {
         }
     }
 
-    /// Makes it take up to so many bytes at each call.
+    /// Makes it take up to `width` bytes a call.
     pub fn with_width(mut self, width: usize) -> Self {
         self.width = width;
         self
     }
 
-    /// Tells whether exactly the first `count` bytes of the text were taken.
+    /// Whether the bytes taken are exactly the first `count` of the text.
     pub fn has_taken(&self, count: usize) -> bool {
         self.expected.has_come(count)
     }
 
-    /// Tells whether the text was taken, whole and alone.
+    /// Whether the bytes taken are exactly the text.
     pub fn has_all(&self) -> bool {
         self.expected.is_whole()
     }
 
-    /// Counts the calls that write, made or refused.
+    /// Returns the number of writes, failed ones included.
     pub fn writes(&self) -> usize {
         self.writes
     }
 
-    /// Counts the calls that were refused.
+    /// Returns the number of failed writes.
     pub fn refused(&self) -> usize {
         self.refused
     }
 
-    /// Counts the calls that flush.
+    /// Returns the number of flushes.
     pub fn flushes(&self) -> usize {
         self.flushes
     }
 
-    /// The answer to a call without room.
+    /// Returns the result of a write without room.
     fn refuse(&mut self) -> io::Result<usize>
         ensures { IfOk result (λ taken. taken ≡ 0) }
     {

@@ -1,25 +1,25 @@
-//! The joins of two values, in place and by value.
+//! The concatenations of two values, in place and by value.
 use decimal_digits::digits::DigitStore;
 use decimal_unsigned::ConcatenateError;
 use decimal_unsigned::decimal::UnsignedOver;
 
-/// A call that joins.
+/// A way to concatenate.
 #[derive(Clone, Copy)]
 pub enum Join {
     InPlace,
     ByValue,
 }
 
-/// A joined value, or why there is none, with both values.
+/// A concatenation, or the error with both values.
 pub type Joined<T> = Result<T, ConcatenateError<(T, T)>>;
 
-/// A type of values of which one is joined to the end of another.
+/// A type of values that are concatenated.
 pub trait Joins: Drop {
-    /// Joins another value to the end of this one by a call.
+    /// Appends another value to the end of this one.
     fn joined_by(self, other: Self, join: Join) -> Joined<Self>;
 }
 
-/// Joins in place, and gives back what that leaves.
+/// Concatenates in place, and returns the values that this leaves.
 fn joined_in_place<D: DigitStore>(
     value: UnsignedOver<D>,
     other: UnsignedOver<D>,

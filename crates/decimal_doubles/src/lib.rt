@@ -1,5 +1,5 @@
-//! Doubles for tests: a store with little memory, which counts, a sink and a writer with little room, the types of
-//! values as one trait, their rounding calls as another, and long texts.
+//! Test doubles: a store that is out of memory beyond a bound, and counts its accesses; a sink and a writer that fail
+//! after a number of bytes; traits over the types of values and their rounding calls; and long texts.
 //!
 //! The store, the sink and the writer do not allocate. Only tests, and programs that are tests, depend on this crate.
 #![tactic(auto)]

@@ -1,4 +1,4 @@
-//! A sink with little room.
+//! A sink that fails after a number of bytes.
 ghost use Rattle.std.specs.Prelude.{None};
 
 use crate::expected_text::ExpectedText;
@@ -6,7 +6,7 @@ use decimal_digits::sink::{Sink, SinkFault, Writeable};
 use std::fmt;
 use std::fmt::Write;
 
-/// A sink that takes so many bytes, compares them with a text, and then fails.
+/// A sink that takes `room` bytes, compares them with a text, and then fails.
 #[derive(Drop)]
 pub struct LimitedSink<'a> {
     expected: ExpectedText<'a>,
@@ -15,7 +15,7 @@ pub struct LimitedSink<'a> {
 }
 
 impl<'a> LimitedSink<'a> {
-    /// Makes a sink that takes so many bytes, which are to be the first of a text.
+    /// Makes a sink that takes `room` bytes, and expects a prefix of a text.
     pub fn new(text: &'a [u8], room: usize) -> Self {
         LimitedSink {
             expected: ExpectedText::new(text),
@@ -24,12 +24,12 @@ impl<'a> LimitedSink<'a> {
         }
     }
 
-    /// Tells whether exactly the first `count` bytes of the text were taken.
+    /// Whether the bytes taken are exactly the first `count` of the text.
     pub fn has_taken(&self, count: usize) -> bool {
         self.expected.has_come(count)
     }
 
-    /// Tells whether the text was taken, whole and alone.
+    /// Whether the bytes taken are exactly the text.
     pub fn has_all(&self) -> bool {
         self.expected.is_whole()
     }
@@ -63,13 +63,13 @@ impl fmt::Write for LimitedSink<'_> {
     }
 }
 
-/// Tells whether a value has this text. It asks for no memory.
+/// Whether a value has this text. Does not allocate.
 pub fn shows<T: Writeable>(value: &T, text: &[u8]) -> bool {
     let mut sink = LimitedSink::new(text, usize::MAX);
     value.write_to(&mut sink).is_ok() && sink.has_all()
 }
 
-/// Tells whether `{}` writes this text of a value, also with options. It asks for no memory.
+/// Whether `{}` writes this text of a value, also with options. Does not allocate.
 pub fn displays<T: fmt::Display>(value: &T, text: &[u8]) -> bool {
     let mut plain = LimitedSink::new(text, usize::MAX);
     let mut sink = LimitedSink::new(text, usize::MAX);

@@ -1,4 +1,4 @@
-//! A store of digits with little memory, which counts what it is asked for.
+//! A store of digits that is out of memory beyond a bound, and counts its accesses and allocating calls.
 ghost use Rattle.std.specs.Prelude.{◌≤◌, IsTrue};
 
 use crate::digit_limit::DigitLimit;
@@ -7,16 +7,16 @@ use std::alloc::{AllocError, Global};
 use std::cell::Cell;
 use std::marker::PhantomData;
 
-/// A store of digits with memory for `LIMIT` digits and no more, until it is bounded anew.
+/// A store of digits that is out of memory for more than `LIMIT` digits, unless `bound` sets another limit.
 ///
-/// What needs memory for more is refused. So the growths of a run are refused in turn, from the smallest bound on: with
-/// 16 those to more than 16 digits, with 17 those to more than 17.
+/// So each growth of a run can be made to fail, one limit after the other: with 16 that to more than 16 digits, with 17
+/// that to more than 17.
 ///
-/// It counts the digits that are read, written, compared or copied, and the calls that may want memory: `from_digits`,
-/// `clone`, `reserve` and `append`, however few digits they are asked for.
+/// It counts the digits that are read, written, compared or copied, and the calls that may allocate, for any number of
+/// digits: `from_digits`, `clone`, `reserve` and `append`.
 ///
-/// It is also an example of a store: the ghost members say which list a value stands for, how many more digits fit and
-/// how many are held without memory, and each method meets the contract of the trait.
+/// It is also an example of a store: the ghost members name the list of a value, the number of digits that still fit
+/// and the number that is stored without an allocation, and each method meets the contract of the trait.
 pub struct LimitedStore<D: DigitStore, M: DigitLimit> {
     list: D,
     most: Cell<usize>,
@@ -26,7 +26,7 @@ pub struct LimitedStore<D: DigitStore, M: DigitLimit> {
     first: PhantomData<M>,
 }
 
-// Written out, since a derived drop is proved once more in each crate above.
+// Not derived, since a derived drop is proved again in each dependent crate.
 impl<D: DigitStore, M: DigitLimit> Drop for LimitedStore<D, M> {
     fn drop(self) {
         let LimitedStore {
@@ -41,21 +41,21 @@ impl<D: DigitStore, M: DigitLimit> Drop for LimitedStore<D, M> {
     }
 }
 
-/// A store that counts what it is asked for.
+/// A store that counts its accesses and allocating calls.
 pub trait CountingStore: DigitStore {
-    /// Gives this list memory for `most` digits from now on.
+    /// Sets the limit of this list to `most` digits.
     fn bound(&self, most: usize);
 
-    /// Counts from 0 on.
+    /// Sets all counts to 0.
     fn restart(&self);
 
-    /// Gives the number of digits touched since the last `restart`, and None where this list was made after it.
+    /// Returns the number of digits accessed since the last `restart`; `None` if this list was made after it.
     fn touched(&self) -> Option<usize>;
 
-    /// Gives the number of requests for memory since the last `restart`, or else since this list was made.
+    /// Returns the number of calls that may allocate since the last `restart`, or since this list was made.
     fn requests(&self) -> usize;
 
-    /// Tells whether this very list was counted by the last `restart`, and has asked for no memory since.
+    /// Whether this very list was counted by the last `restart`, with no call since that may allocate.
     fn asked_nothing(&self) -> bool;
 }
 
@@ -88,17 +88,17 @@ impl<D: DigitStore, M: DigitLimit> CountingStore for LimitedStore<D, M> {
 }
 
 impl<D: DigitStore, M: DigitLimit> LimitedStore<D, M> {
-    /// Counts so many digits more.
+    /// Counts `count` more digits.
     fn touch(&self, count: usize) {
         self.touched.set(self.touched.get().saturating_add(count));
     }
 
-    /// Counts a request for memory.
+    /// Counts a call that may allocate.
     fn ask(&self) {
         self.requests.set(self.requests.get().saturating_add(1));
     }
 
-    /// Whether there is memory for so many digits.
+    /// Whether there is memory for `count` digits.
     fn holds(&self, count: usize) -> bool
         ensures { count ≤ D.L → IsTrue result }
     {

@@ -1,7 +1,7 @@
 //! Long texts, written in parts.
 use std::alloc::{AllocError, Global};
 
-/// Cuts a part into its text and how often that stands.
+/// Splits a part into its text and its number of repetitions.
 fn cut(part: &str) -> (&str, usize) {
     match part.split_once('*') {
         Some((text, count)) => (text, count.parse::<usize>().unwrap_or(0)),
@@ -9,10 +9,9 @@ fn cut(part: &str) -> (&str, usize) {
     }
 }
 
-/// Gives the text that parts write, with a space between them: each is a text, or a text, a star and how often it
-/// stands.
+/// Returns the text of parts, which spaces separate: each is a text, or a text, a star and its number of repetitions.
 ///
-/// `9*3 .5` writes `999.5`. Err: memory was refused.
+/// `9*3 .5` is `999.5`. Err: out of memory.
 pub fn long(alloc: Global, parts: &str) -> Result<String, AllocError> {
     let mut text = String::new(alloc);
     for part in parts.split(' ') {

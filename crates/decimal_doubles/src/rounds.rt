@@ -1,4 +1,4 @@
-//! The rounding calls of values with a sign and without, by their names.
+//! The rounding calls of values with and without a sign.
 use self::Way::{
     ByIncrement, ByIncrementOnValue, ByMode, ByModeOnValue, ByName, ByNameOnValue, Counted,
 };
@@ -37,7 +37,7 @@ const ALL: &[Way] = &[
     ByNameOnValue,
 ];
 
-/// Gives the calls that round by an increment.
+/// Returns the calls that round by an increment.
 pub fn ways(increment: RoundingIncrement) -> &'static [Way] {
     if increment == MultiplesOf1 {
         ALL
@@ -49,19 +49,19 @@ pub fn ways(increment: RoundingIncrement) -> &'static [Way] {
 /// A position, a mode and an increment.
 pub type Rounding<M> = (i16, M, RoundingIncrement);
 
-/// The rounded value, or the one that a refusal leaves, and why.
+/// The rounded value, or the error with the value that it leaves.
 pub type Left<T> = Result<T, (T, RoundError)>;
 
 /// A type of values that are rounded by modes of a type.
 pub trait Rounds<M: Copy>: Drop {
-    /// Rounds in place by the call that a way names, or else by increment.
+    /// Rounds in place by the call `way`, or by increment for a call on values.
     fn round_by(&mut self, way: Way, rounding: Rounding<M>) -> Result<(), RoundError>;
 
-    /// Rounds the value by the call that a way names, or else by increment.
+    /// Rounds the value by the call `way`, or by increment for a call in place.
     fn rounded_by(self, way: Way, rounding: Rounding<M>) -> Left<Self>;
 }
 
-/// The answer of a call that may be refused for the limit alone.
+/// Returns the result of a call whose only error is the limit.
 fn limited(answer: Result<(), LimitError>) -> Result<(), RoundError> {
     match answer {
         Ok(()) => Ok(()),
@@ -69,7 +69,7 @@ fn limited(answer: Result<(), LimitError>) -> Result<(), RoundError> {
     }
 }
 
-/// The same of a call on a value.
+/// Returns the result of a call on a value whose only error is the limit.
 fn limited_on_value<T: Drop>(answer: Result<T, T>) -> Left<T> {
     match answer {
         Ok(value) => Ok(value),
@@ -77,7 +77,7 @@ fn limited_on_value<T: Drop>(answer: Result<T, T>) -> Left<T> {
     }
 }
 
-/// Rounds by the call that bears the mode's name, where there is one.
+/// Rounds by the call with the name of the mode, if there is one.
 fn round_by_name<D: DigitStore>(
     value: &mut UnsignedOver<D>,
     position: i16,
@@ -94,7 +94,7 @@ fn round_by_name<D: DigitStore>(
     }
 }
 
-/// The same on a value.
+/// Rounds a value by the call with the name of the mode, if there is one.
 fn rounded_by_name<D: DigitStore>(
     value: UnsignedOver<D>,
     position: i16,
@@ -108,7 +108,7 @@ fn rounded_by_name<D: DigitStore>(
     }
 }
 
-/// Rounds a value with a sign by the call that bears the mode's name, where there is one.
+/// Rounds a value with a sign by the call with the name of the mode, if there is one.
 fn round_signed_by_name<D: DigitStore>(
     value: &mut Signed<UnsignedOver<D>>,
     position: i16,
@@ -127,7 +127,7 @@ fn round_signed_by_name<D: DigitStore>(
     }
 }
 
-/// The same on a value.
+/// The same, by value.
 fn rounded_signed_by_name<D: DigitStore>(
     value: Signed<UnsignedOver<D>>,
     position: i16,
@@ -197,7 +197,7 @@ impl<D: DigitStore> Rounds<SignedRoundingMode> for Signed<UnsignedOver<D>> {
     }
 }
 
-/// Rounds in place a value that is given back.
+/// Rounds in place, and returns the value that this leaves.
 fn left_in_place<M: Copy, T: Rounds<M>>(value: T, way: Way, rounding: Rounding<M>) -> Left<T> {
     let mut value = value;
     match value.round_by(way, rounding) {
@@ -206,7 +206,7 @@ fn left_in_place<M: Copy, T: Rounds<M>>(value: T, way: Way, rounding: Rounding<M
     }
 }
 
-/// Rounds a value by the call that a way names.
+/// Rounds a value by the call `way`.
 pub fn rounded<M: Copy, T: Rounds<M>>(value: T, way: Way, rounding: Rounding<M>) -> Left<T> {
     match way {
         Counted | ByIncrement | ByMode | ByName => left_in_place(value, way, rounding),

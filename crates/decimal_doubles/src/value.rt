@@ -1,4 +1,4 @@
-//! The types of values, as one trait, and how their texts are read and shown.
+//! The types of values, as one trait, and how their texts are parsed and shown.
 use crate::limited_sink::shows;
 use decimal_digits::digits::DigitStore;
 use decimal_digits::sink::Writeable;
@@ -7,24 +7,24 @@ use decimal_unsigned::decimal::UnsignedOver;
 use fixed_decimal::{CompactDecimal, FixedInteger, ScientificDecimal, Signed};
 use std::alloc::{AllocError, Global};
 
-/// A type of values that are read, copied, compared and printed.
+/// A type of values that are parsed, copied, compared and printed.
 pub trait Value: Writeable + Drop {
-    /// The value that a text writes.
+    /// Parses a text.
     fn read(alloc: Global, text: &str) -> Result<Self, ParseError>;
 
-    /// The same by the call for bytes, where the type has one.
+    /// Parses a text by the call for bytes, if the type has one.
     fn read_bytes(alloc: Global, text: &str) -> Result<Self, ParseError> {
         Self::read(alloc, text)
     }
 
-    /// A second value.
+    /// Copies the value.
     fn copy(&self) -> Result<Self, AllocError>;
 
     /// Whether two values are equal.
     fn equals(&self, other: &Self) -> bool;
 }
 
-/// Says how the reading of a text went: `read`, or why it did not.
+/// Returns the name of the result of parsing a text: `read`, or that of the error.
 pub fn reading_word<T: Drop>(answer: Result<T, ParseError>) -> &'static str {
     match answer {
         Ok(_) => "read",
@@ -34,7 +34,7 @@ pub fn reading_word<T: Drop>(answer: Result<T, ParseError>) -> &'static str {
     }
 }
 
-/// Tells whether a value has this text, and its length as the hint.
+/// Whether a value has this text, and its length as the length hint.
 pub fn has_text<T: Writeable>(value: &T, text: &str) -> bool {
     value.writeable_length_hint() == text.len() && shows(value, text.as_bytes())
 }

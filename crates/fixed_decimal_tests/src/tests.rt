@@ -1,5 +1,5 @@
-//! What rows of texts do not test: types, failing sinks, stores out of memory, and counts. A helper holds one value
-//! and returns whether it is as its row says.
+//! What rows of texts do not test: types, failing sinks, stores out of memory, and counts. A helper holds one value,
+//! and returns whether its row holds.
 use decimal_doubles::{Value, displays, has_text, long, shows};
 use fixed_decimal::{
     Decimal, DigitList, DigitStore, PackedDigits, ParseError, Sink, TextBuf, UnsignedOver,
@@ -26,7 +26,7 @@ mod unsigned_integers;
 /// The greatest number, in parts: 65,536 nines, half of them fraction digits.
 const GREATEST: &str = "9*32768 . 9*32768";
 
-/// The value that a text writes.
+/// Parses a text.
 fn read<T: Value>(alloc: Global, text: &str) -> Result<T, Fail> {
     Ok(T::read(alloc, text)?)
 }

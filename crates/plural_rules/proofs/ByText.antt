@@ -1,4 +1,4 @@
--- The operands are those of the digits that the text shows.
+-- The operands are those of the digits of the text.
 use Rattle.std.proofs.Common.{◌≡◌, ℕ, ◌+◌, ◌-◌, ◌*◌, ◌/◌, ◌%◌, ◌^◌, ◌<◌, ◌≤◌, nat_lt, ◌||◌, cond, Bool, true, false, List, ◌++◌, length, map, refl, sym, ◌∙◌, ap, subst, arith}
 use Rattle.std.specs.Prelude.{None, Ok, Err, pos, ◌-ℤ◌}
 use Rattle.std.specs.Int.{int_gap}
@@ -19,7 +19,7 @@ use Rattle.decimal_unsigned.specs.Text.{text}
 use Rattle.fixed_decimal.proofs.Calling.{ten_pos, place_is, gap_is, powers, number-append}
 use Rattle.plural_rules.specs.Operands.{IsOfDigits}
 
--- digits and then digits
+-- the value of two lists of digits, one after the other
 numeral_append : (xs ys : List ℕ)
     → digits_value 10 (xs ++ ys) ≡ digits_value 10 xs * 10 ^ length ys + digits_value 10 ys
 numeral_append xs ys =
@@ -28,7 +28,7 @@ numeral_append xs ys =
     ∙ number-append (map digit_value xs) (map digit_value ys)
     ∙ (λ i. sym (digits_value_is 10 xs) i * 10 ^ length-map ys digit_value i + sym (digits_value_is 10 ys) i)
 
--- a text without an exponent reads as its digits
+-- the value of a text without an exponent is that of its digits
 parts_is : (w : Written) (v : Unsigned) → w.exponent ≡ None → value_of w ≡ Ok v
     → (length w.fraction ≤ 32768) × (mantissa w.whole w.fraction ≡ v)
 unfolding value_of scaled
@@ -41,7 +41,7 @@ parts_is w v none e = go _ refl _ refl (rw none at e)
     go false p true q e = absurd (cc)
     go false p false q e = (grind (arith, nat_tests, q), cc)
 
--- the operands of a value that these digits write
+-- the operands of the value of these digits
 of_mantissa : (w : Written) → AllDigits 10 w.fraction → length w.fraction ≤ 32768
     → IsOfDigits (mantissa w.whole w.fraction) w
 of_mantissa w digits h =
@@ -68,7 +68,7 @@ of_mantissa w digits h =
           ∙ mod-mul-add a (10 ^ n) b few;
     }
 
--- the operands are those of the digits of the text, wherever the dot is found
+-- the operands are those of the digits of the text, however the grammar splits it
 pub by_text : (v : Unsigned) → read (text v) ≡ Ok v → FollowsGrammar (text v)
     → (w : Written) → Grammar (text v) w → w.exponent ≡ None → IsOfDigits v w
 by_text v reads follows w g none =

@@ -13,14 +13,14 @@ use Rattle.plural_rules.specs.Operands.{Operands, compact, i, v, w, f, t}
 use Rattle.plural_rules.specs.Parts.{part}
 use Rattle.plural_rules.proofs.Parts.{part_all, part_none}
 
--- a number is below the place above its first digit
+-- a number is less than the weight of the place above its first digit
 below_first : (n : ℕ) (m : ℤ) → IsFirst n m → n < 10 ^ (place m + 1)
 below_first n m first_is = elim (cases_lt 0 n) [
   | inl p ↦ first_is.less p
   | inr z ↦ omega (arith, ten_pos (place m + 1))
 ]
 
--- the digits from the first down to the magnitude that becomes 0
+-- the integer digits of a number times a power of ten are its first digits
 pub whole_of : (o : Operands) (x : Unsigned) (m : ℤ) (c count : ℕ) → compact x c ≡ o
     → IsFirst x.number m → negsuc 32767 ≤ℤ m → m ≤ℤ pos 32767 → c < 256
     → pos count ≡ int_max (m +ℤ pos (c + 1)) (pos 0)
@@ -45,7 +45,7 @@ whole_of o x m c count is first_is low high small e =
       ],
     )
 
--- the fraction digits of a value that has the digits of a number times a power of ten
+-- the fraction digits of a value that is a number times a power of ten
 fraction_at : (y : Unsigned) (number : ℕ) (m : ℤ) (c count : ℕ) → number * 10 ^ c ≡ y.number → y.lo ≤ℤ pos 0
     → m ≡ negsuc c → c < 256 → count ≡ v y → count + c ≤ 32768
     → (count ≤ place m + 1) × (part number (place m + 1) count ≡ f y)
@@ -60,7 +60,7 @@ fraction_at y number m c count is high below small e few =
           ∙ ap (λ n. n / weight y.lo % 10 ^ v y) is,
     )
 
--- a remainder of a product with one factor of the modulus
+-- the remainder of a product by a product with the same factor
 mod-scaled : (n p k : ℕ) → 0 < k → n * k % (p * k) ≡ n % p * k
 mod-scaled n p k h =
     mod-eq-sub-div-mul (n * k) (p * k)
@@ -71,13 +71,13 @@ mod-scaled n p k h =
     ∙ (λ j. mul_comm k n j - mul_comm k (n / p * p) j))
     ∙ ap (λ y. y * k) (sym (mod-eq-sub-div-mul n p))
 
--- the same by powers of ten
+-- the same for powers of ten
 mod_powers : (n c k : ℕ) → c ≤ k → n * 10 ^ c % 10 ^ k ≡ n % 10 ^ (k - c) * 10 ^ c
 mod_powers n c k h =
     let split : 10 ^ k ≡ 10 ^ (k - c) * 10 ^ c = powers (k - c) c k (omega arith) in
     ap (λ m. n * 10 ^ c % m) split ∙ mod-scaled n (10 ^ (k - c)) (10 ^ c) (ten_pos c)
 
--- fewer zeros at the end
+-- a multiple of 10^k is one of each lower power
 fewer : (n j k : ℕ) → j ≤ k → n % 10 ^ k ≡ 0 → n % 10 ^ j ≡ 0
 fewer n j k h e =
     let split : 10 ^ k ≡ 10 ^ (k - j) * 10 ^ j = powers (k - j) j k (omega arith) in
@@ -96,7 +96,7 @@ none_left : (a k : ℕ) → 0 < k → a * k ≡ 0 → a ≡ 0
 none_left zero k h e = refl
 none_left (suc a) k h e = absurd (omega (arith, h, e))
 
--- the last digit of a number that ends in more zeros than there are places
+-- the last digit of a number whose other places are all 0 is at the highest place
 last_top : (n k : ℕ) → k + 1 ≡ 65536 → 0 < n → n % 10 ^ k ≡ 0 → last n ≡ magnitude_at k
 unfolding last
 last_top zero k e h d = absurd (omega arith)
@@ -104,7 +104,7 @@ last_top (suc n) k e h d =
     ap magnitude_at
     (greatest_is (λ m. suc n % 10 ^ m == 0) 65536 k (omega arith) (search rules) (λ m p q. absurd (omega arith)))
 
--- the last digit of a number times a power of ten, where it stands below magnitude 0
+-- the last digit of a number times a power of ten, if it is below magnitude 0
 pub last_moved : (n c : ℕ) (m : ℤ) → IsLast n m → negsuc 32767 ≤ℤ m → m ≤ℤ pos 32767 → c < 256
     → int_min (last (n * 10 ^ c)) (pos 0) ≡ int_min (m +ℤ pos c) (pos 0)
 last_moved n c m l low high small = elim (cases_lt 0 n) [
@@ -153,7 +153,7 @@ fraction_of o x m c count is below small e few =
     fraction_at o.value x.number m c count (ap (λ p. p.value.number) is) high below small e
     (omega (arith, ap (λ p. p.exponent) is))
 
--- the same, without trailing zeros
+-- the same without trailing zeros
 pub needed_of : (o : Operands) (x : Unsigned) (m : ℤ) (c count : ℕ)
     → compact x c ≡ o → m ≡ negsuc c → c < 256 → count ≡ w o.value → count + o.exponent ≤ 32768
     → (count ≤ place m + 1) × (part x.number (place m + 1) count ≡ t o.value)

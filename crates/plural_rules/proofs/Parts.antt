@@ -10,11 +10,11 @@ use Rattle.decimal_digits.specs.Number.{place, digit}
 use Rattle.fixed_decimal.proofs.Calling.{ten_pos, place_is, powers}
 use Rattle.plural_rules.specs.Parts.{part}
 
--- no digits are 0
+-- no digits have the value 0
 pub part_none : (n top : ℕ) → part n top 0 ≡ 0
 part_none n top = omega (arith, mod-one (n / 10 ^ top))
 
--- the last digit, and those above it
+-- the last digit, and the digits before it
 last_more : (q w : ℕ) → 0 < w → q % (w * 10) ≡ (q / 10 % w) * 10 + q % 10
 last_more q w h =
     let a = q / 10 / w in
@@ -37,7 +37,7 @@ part_more n top k d h e =
     ∙ ap (λ i. (i % 10 ^ k) * 10 + n / 10 ^ j % 10) q
     ∙ ap (λ i. part n top k * 10 + i) (sym e)
 
--- the same by a modulus
+-- the same modulo a modulus
 pub part_modulo : (p m r d r' : ℕ) → r ≡ p % m → r' ≡ (r * 10 + d) % m → r' ≡ (p * 10 + d) % m
 part_modulo p m r d r' e f =
     f ∙ ap (λ i. (i * 10 + d) % m) e
@@ -55,7 +55,7 @@ part_grows n top k (suc j) h =
     ap (part n top) (let i : k + suc j ≡ k + j + 1 = omega arith in i) in
     omega (arith, part_grows n top k j (omega arith), more, e)
 
--- of all digits nothing is dropped
+-- all digits together
 pub part_all : (n top k : ℕ) → k ≤ top → n < 10 ^ top → part n top k ≡ n / 10 ^ (top - k)
 part_all n top k h l =
     let split : 10 ^ top ≡ 10 ^ k * 10 ^ (top - k) = powers k (top - k) top (omega arith) in
@@ -68,13 +68,13 @@ step n t m k d e f h =
     let p : place m ≡ place t + 1 - (k + 1) = omega (arith, ints, place_is m, place_is t) in
     part_more n (place t + 1) k d h (e ∙ ap (λ i. n / 10 ^ i % 10) p)
 
--- beyond a limit once, beyond it to the end
+-- a value that exceeds a limit still does with more digits
 pub over : (n top k count limit : ℕ) → k < count → count ≤ top → limit ≤ part n top (k + 1) → limit ≤ part n top count
 over n top k count limit h l b =
     let e : k + 1 + (count - (k + 1)) ≡ count = omega arith in
     omega (arith, part_grows n top (k + 1) (count - (k + 1)) (omega arith), ap (part n top) e)
 
--- the remainder by a power of ten is made of the last digits alone
+-- the remainder by a power of ten depends on the last digits only
 pub part_last : (n top count k : ℕ) → k < count → count ≤ top
     → part n (top - (count - k)) k % 10 ^ k ≡ part n top count % 10 ^ k
 part_last n top count k h l =

@@ -1,4 +1,4 @@
--- What does not stop can go on to be rules: each state that is reached has bytes that complete it.
+-- A text at which the reader does not stop is a prefix of rules: each state that it reaches has bytes that complete it.
 use Rattle.std.proofs.Common.{◌≡◌, ℕ, suc, zero, ◌+◌, ◌<◌, ◌≤◌, ◌==◌, nat_le, nat_lt, Bool, true, false, not, cond, ◌&&◌, List, [], ◌∷◌, ◌++◌, length, take, drop, get_or, refl, sym, ◌∙◌, ap, arith}
 use Rattle.std.specs.Prelude.{Option, Some, None, codes, is_some}
 use Rattle.std.proofs.lemmas.Bool.{and_parts, false≢true}
@@ -20,18 +20,18 @@ use Rattle.plural_rules.proofs.RulesRun.{Reached, allowed, move_on, run, finish,
 use Rattle.plural_rules.proofs.RulesRead.{grammar_is_read, grammar_is_any}
 use Rattle.plural_rules.proofs.RulesFound.{read_is_in_grammar}
 
--- ---- What completes a state.
+-- ---- Completions of a state.
 
 -- rules may end here
 abbrev may_end : Reached → Bool
 may_end None = false
 may_end (Some x) = is_some (at_end x.0)
 
--- bytes that lead to a state where they may
+-- bytes that lead to a state in which rules may end
 abbrev Completion : Bool → State → Partial → Type 0
 Completion strict s p = (more : List ℕ) × (may_end (run strict s p more) ≡ true)
 
--- one byte in front
+-- a completion with one more byte before it
 completed :
     (strict : Bool) (s : State) (p : Partial) (c : ℕ) (s2 : State) (e : Event) → next p.seen s c ≡ Some (s2, e)
     → allowed strict e p ≡ true → Completion strict s2 (after e p) → Completion strict s p
@@ -61,7 +61,7 @@ complete_colon p k n over =
     (if_false (nat_lt n (length (name_of k))) _ (Some (reader.condition_of k, event.Category k)) over) refl
     (complete_condition (after (event.Category k) p) k)
 
--- the rest of a name, of which at most so many letters are left
+-- the rest of a name with at most `left` letters to go
 complete_letters : (left : ℕ) (p : Partial) (k : PluralCategory) (n : ℕ) → length (name_of k) ≤ n + left
     → Completion false (state.Letters k n) p
 complete_letters zero p k n h = complete_colon p k n (is_over n (length (name_of k)) (omega arith))
@@ -80,7 +80,7 @@ complete_letters (suc left) p k n h =
 complete_name : (p : Partial) (k : PluralCategory) (n : ℕ) → Completion false (state.Letters k n) p
 complete_name p k n = complete_letters (length (name_of k)) p k n (omega arith)
 
--- a category that is left
+-- a category that was not seen
 complete_fresh :
     (p : Partial) (c : ℕ) (k : PluralCategory) → next p.seen state.Category c ≡ reader.fresh p.seen k
     → has p.seen k ≡ false → Completion false state.Category p
@@ -116,7 +116,7 @@ complete_category p true true true true true z t f m eo opens =
     let full : is_full p.seen ≡ true = rw (z, both.0, t, f, m, both.1) refl in
     absurd (false≢true (sym (ap not full) ∙ opens))
 
--- each state that is reached has a completion
+-- each open state has a completion
 completion : (s : State) (p : Partial) → is_open p.seen s ≡ true → Completion false s p
 completion state.Category p opens =
     complete_category p p.seen.zero p.seen.two p.seen.few p.seen.many (p.seen.one && p.seen.other) refl refl refl refl
@@ -143,7 +143,7 @@ one_fits : (b : Bool) → nat_le 1 (limit b) ≡ true
 one_fits true = refl
 one_fits false = refl
 
--- where a number comes next, one with a small number
+-- a completion of a state before a number, with a small number
 small_completion : (s : State) (p : Partial) → starts_number s ≡ true → Completion true s p
 small_completion state.Modulus p h =
     completed true state.Modulus p 49 state.ModulusDigits (event.First 1) refl (one_fits p.is_divided)
@@ -154,9 +154,9 @@ small_completion state.High p h =
     completed true state.High p 49 state.HighDigits (event.First 1) refl (one_fits p.is_divided) ([], refl)
 small_completion s p h = absurd (false≢true h)
 
--- ---- A text that does not stop.
+-- ---- A text at which the reader does not stop.
 
--- rules that are read where they may end
+-- the rules of a text that may end in its state
 ended : (x : Reached) → may_end x ≡ true → (rules : List RuleParts) × (finish x ≡ Some rules)
 ended None h = absurd (false≢true h)
 ended (Some x) h = go (at_end x.0) h
@@ -175,14 +175,14 @@ completed_text strict text s p h go =
     let end = ended (run strict s p go.0) go.1 in
     (go.0, end.0, ap finish all ∙ end.1)
 
--- it can go on to be rules
+-- the text is a prefix of rules
 alive : (text : List ℕ) (s : State) (p : Partial) → run false state.Category no_rules text ≡ Some (s, p)
     → is_open p.seen s ≡ true → CanGoOn text
 alive text s p h opens =
     let go = completed_text false text s p h (completion s p opens) in
     (go.0, go.1, read_is_in_grammar go.2)
 
--- and where a number comes next, to rules that fit, if all numbers so far do
+-- and, before a number and if all numbers so far fit, a prefix of rules that fit
 pub can_fit : (text : List ℕ) (s : State) (p : Partial) → run true state.Category no_rules text ≡ Some (s, p)
     → starts_number s ≡ true → CanFit text
 can_fit text s p h starts =
@@ -190,9 +190,9 @@ can_fit text s p h starts =
     let fits = read_fits (text ++ go.0) go.1 go.2 in
     (go.0, go.1, read_is_in_grammar fits.1, fits.0)
 
--- ---- A text that stops.
+-- ---- A text at which the reader stops.
 
--- no rules begin with it
+-- the text is not a prefix of rules
 pub stopped : (strict : Bool) (text more : List ℕ) (rules : List RuleParts)
     → run strict state.Category no_rules text ≡ None → Grammar (text ++ more) rules → (strict ≡ true → Fits rules) → ⊥
 stopped strict text more rules none grammar fits =
@@ -202,7 +202,7 @@ stopped strict text more rules none grammar fits =
     ∙ ap (λ x. bind x (λ s q. run strict s q more)) none) in
     absurd (cc)
 
--- a text that may not end
+-- a text that may not end in its state
 pub unended_text :
     (text : List ℕ) (i : ℕ) (s : State) (p : Partial) → length text ≤ i
     → run false state.Category no_rules (take i text) ≡ Some (s, p) → is_open p.seen s ≡ true → at_end s ≡ None
@@ -220,7 +220,7 @@ unended_text text i s p least h opens e =
       dead = λ less. absurd (omega arith);
     }
 
--- and one that stops at a byte
+-- a text at a byte of which the reader stops
 pub stopped_text :
     (text : List ℕ) (at : ℕ) (s : State) (p : Partial) → at < length text
     → run false state.Category no_rules (take at text) ≡ Some (s, p) → is_open p.seen s ≡ true

@@ -1,4 +1,4 @@
--- Rules that fit are built byte by byte: no byte stops, and what each says is small.
+-- Rules that fit are built byte by byte: the reader does not stop at any byte, and every number is small.
 use Rattle.std.proofs.Common.{◌≡◌, ℕ, ◌+◌, ◌*◌, ◌<◌, ◌≤◌, Bool, true, false, cond, List, length, take, drop, get_or, refl, sym, ◌∙◌, ap}
 use Rattle.std.specs.Prelude.{Some, None}
 use Rattle.std.proofs.lemmas.Bool.{leb-true}
@@ -47,7 +47,7 @@ module _ (i : ℕ) {text : List ℕ} {rules : List RuleParts} (grammar : Grammar
       sym (ap finish (ap (run true state.Category no_rules) (sym (take_all i text least)) ∙ runs))
       ∙ grammar_is_read true grammar (λ e. fits)
 
--- what an event says is small, where it may be read
+-- the number after an allowed event is small
 pub small : (e : Event) (seen : Categories) (b : Builder) → FitsSoFar (partial seen b)
     → allowed true e (partial seen b) ≡ true → IsSmall e b
 small (event.Digit d) seen b f a =

@@ -1,4 +1,4 @@
--- What the pass over the states knows of a text behind each byte.
+-- What `check` knows of a text after each byte.
 use Rattle.std.proofs.Common.{◌≡◌, ℕ, ◌+◌, ◌-◌, ◌*◌, ◌<◌, ◌≤◌, nat_le, Bool, true, false, not, cond, List, length, take, drop, get_or, refl, sym, ◌∙◌, ap, arith, inl, inr}
 use Rattle.std.specs.Prelude.{Some, None}
 use Rattle.std.specs.Char.{is_ascii_digit}
@@ -19,14 +19,14 @@ use Rattle.plural_rules.proofs.RulesRun.{allowed, any_allowed, move_on, run, fin
 use Rattle.plural_rules.proofs.RulesFound.{read_is_in_grammar}
 use Rattle.plural_rules.proofs.RulesAlive.{can_fit, stopped}
 
--- a number begins at this place, where rules that fit can go on, and all bytes from there up to another are its digits
+-- a number starts at `begin`, where the text before it is a prefix of rules that fit, and its digits reach to `end`
 pub record Begun (text : List ℕ) (begin end : ℕ) : Type 0 where
   pub begins : IsBehindNoDigit text begin
   pub alive : CanFit (take begin text)
   pub some : begin < end
   pub digits : AreDigits text begin end
 
--- all numbers fit, and the last one is this, or the first one that is too great begins at this place
+-- all numbers fit, and this is the last one, or the first number that is too great starts at this offset
 abbrev pub NumbersAre : List ℕ → ℕ → State → Partial → Numbers → Type 0
 NumbersAre text i s p (Fit n is_modulus begin) =
     (run true state.Category no_rules (take i text) ≡ Some (s, p)) × (n ≡ p.number) × (is_modulus ≡ p.is_divided)
@@ -34,7 +34,7 @@ NumbersAre text i s p (Fit n is_modulus begin) =
 NumbersAre text i s p (Great begin) =
     (end : ℕ) × Begun text begin end × (end ≤ length text) × ¬ CanFit (take end text)
 
--- what the code knows behind some bytes
+-- what the loop of `check` knows after `i` bytes
 pub record Checked (text : List ℕ) (i : ℕ) (s : State) (seen : Categories) (numbers : Numbers) : Type 0 where
   pub p : Partial
   pub runs : run false state.Category no_rules (take i text) ≡ Some (s, p)
@@ -53,7 +53,7 @@ checked_first text = record {
   numbers_are = (refl, refl, refl, λ h. absurd (false≢true h));
 }
 
--- an event makes of the categories what it makes of those of the rules
+-- an event changes the categories of the reader and those of the rules in the same way
 seen_after_is : (e : Event) (p : Partial) → (after e p).seen ≡ seen_after e p.seen
 seen_after_is event.Nothing p = refl
 seen_after_is e p = refl
@@ -70,7 +70,7 @@ digit_more text begin i before is j from less = elim (cases_lt j i) [
   | inr h ↦ let same : j ≡ i = omega arith in rw same is
 ]
 
--- a digit comes only with its event, and no digit in front of a number
+-- an event other than a digit does not lead to a state within a number
 no_digits : (t : State) (d : Bool) → cond (starts_number t) (not d) (not (is_digits t)) ≡ true → is_digits t ≡ true → ⊥
 no_digits state.Zeros d h i = false≢true h
 no_digits state.ModulusDigits d h i = false≢true h
@@ -83,7 +83,7 @@ front_more (event.First n) s t d h i = absurd (false≢true (rw i at (and_parts 
 front_more (event.Digit n) s t d h i = absurd (false≢true (rw i at (and_parts (not (starts_number t)) _ h).0))
 front_more e s t d h i = not_true d (rw i at h)
 
--- one byte more
+-- one more byte
 module _ (text : List ℕ) (i : ℕ) (s : State) (p : Partial) (s2 : State) (less : i < length text)
     (front : starts_number s ≡ true → IsBehindNoDigit text i) where
   run_on : (e : Event) → next p.seen s (get_or text i 0) ≡ Some (s2, e) → allowed true e p ≡ true
@@ -101,7 +101,7 @@ module _ (text : List ℕ) (i : ℕ) (s : State) (p : Partial) (s2 : State) (les
       absurd (no_digits s2 (is_ascii_digit (get_or text i 0))
       (sym other ∙ (moves_so p.seen s (get_or text i 0) s2 e to).0) digits)
 
-  -- a number, one digit further
+  -- one more digit of a number
   count :
       (e : Event) (is_modulus : Bool) (begin n : ℕ) → next p.seen s (get_or text i 0) ≡ Some (s2, e)
       → run true state.Category no_rules (take i text) ≡ Some (s, p) → n ≡ (after e p).number
@@ -181,7 +181,7 @@ checked_more {text} {i} {s} {seen} {numbers} s2 e less h to =
       numbers_are = numbers_more text i s h.p s2 less h.front e numbers to2 h.numbers_are;
     }
 
--- a whole text that may end is rules, with these numbers
+-- a text that may end in its state is rules, with these numbers
 pub checked_whole :
     {text : List ℕ} {i : ℕ} {s : State} {seen : Categories} {numbers : Numbers} (e : Event) → length text ≤ i
     → Checked text i s seen numbers → at_end s ≡ Some e → AreNumbersOf text numbers

@@ -1,4 +1,4 @@
--- What is read is in the grammar: for each state, which form a text is that is read from there.
+-- A text that the reader accepts is in the grammar: for each state, the form of a text that is accepted from it.
 use Rattle.std.proofs.Common.{◌≡◌, ◌≢◌, ℕ, suc, ◌+◌, ◌-◌, ◌*◌, ◌<◌, ◌≤◌, ◌==◌, nat_lt, Bool, true, false, cond, ◌&&◌, ◌||◌, ◌⊎◌, inl, inr, List, [], ◌∷◌, ◌++◌, length, drop, get_or, refl, sym, ◌∙◌, ap, subst, arith, eqb-true, drop-cons}
 use Rattle.std.specs.Prelude.{Option, Some, None, codes, option_map}
 use Rattle.std.proofs.lemmas.Bool.{and_from, ltb-true, false≢true}
@@ -26,48 +26,48 @@ use Rattle.plural_rules.specs.RulesReader.{has, with, is_full, no_categories, Mo
 use Rattle.plural_rules.proofs.RulesRun.{any_allowed, move_on, finish, run, read}
 use Rattle.plural_rules.proofs.RulesRead.{IsFresh, AreFresh, digit_is, grows, grammar_is_any}
 
--- ---- What may stand behind each form.
+-- ---- What may follow each form.
 
--- behind a rule: nothing, or further rules
+-- after a rule: nothing, or further rules
 pub data BehindRule (seen : Categories) : List ℕ → Type 0 where
   ended : BehindRule seen []
   further :
       {text behind : List ℕ} {more : List RuleParts} → g.Token (codes ";") text behind → g.AllRules behind more
       → AreFresh seen more → BehindRule seen text
 
--- behind a condition: samples, and what stands behind a rule
+-- after a condition: samples, and what follows a rule
 abbrev pub BehindCondition : Categories → List ℕ → Type 0
 BehindCondition seen text = (rest : List ℕ) × g.Samples text rest × BehindRule seen rest
 
--- behind a conjunction: perhaps another one
+-- after a conjunction: the rest of the condition
 pub data BehindConjunction (seen : Categories) (text : List ℕ) : Type 0 where
   no_or : BehindCondition seen text → BehindConjunction seen text
   or_more :
       {behind rest : List ℕ} {more : List (List RelationParts)} → g.Joint (codes "or") text behind
       → g.Condition behind more rest → BehindCondition seen rest → BehindConjunction seen text
 
--- behind a relation: perhaps another one
+-- after a relation: the rest of the conjunction
 pub data BehindRelation (seen : Categories) (text : List ℕ) : Type 0 where
   no_and : BehindConjunction seen text → BehindRelation seen text
   and_more :
       {behind rest : List ℕ} {more : List RelationParts} → g.Joint (codes "and") text behind
       → g.Conjunction behind more rest → BehindConjunction seen rest → BehindRelation seen text
 
--- behind a range: perhaps another one
+-- after a range: the rest of the ranges
 pub data BehindRange (seen : Categories) (text : List ℕ) : Type 0 where
   no_comma : BehindRelation seen text → BehindRange seen text
   comma_more :
       {behind rest : List ℕ} {more : List Range} → g.Token (codes ",") text behind → g.Ranges behind more rest
       → BehindRelation seen rest → BehindRange seen text
 
--- behind the first number of a range
+-- after the first number of a range
 pub data LowEnds (seen : Categories) (text : List ℕ) : Type 0 where
   is_single : BehindRange seen text → LowEnds seen text
   dots :
       {high : ℕ} {behind rest : List ℕ} → g.Token (codes "..") text behind → g.Number behind high rest
       → BehindRange seen rest → LowEnds seen text
 
--- ---- What a text is that is read from a state.
+-- ---- The form of a text that is accepted from a state.
 
 -- blanks, and then this
 abbrev pub Spaced : (List ℕ → Type 0) → List ℕ → Type 0
@@ -85,27 +85,27 @@ pub record MoreDigits (text rest : List ℕ) : Type 0 where
 abbrev pub AtDigits : (List ℕ → Type 0) → List ℕ → Type 0
 AtDigits Q text = (rest : List ℕ) × MoreDigits text rest × Q rest
 
--- the second number of a range, and what stands behind it
+-- the second number of a range, and what follows it
 abbrev pub HighFrom : Categories → List ℕ → Type 0
 HighFrom seen text = (n : ℕ) × (rest : List ℕ) × g.Number text n rest × BehindRange seen rest
 
--- ranges, and what stands behind them
+-- ranges, and what follows them
 abbrev pub Listed : Categories → List ℕ → Type 0
 Listed seen text = (ranges : List Range) × (rest : List ℕ) × g.Ranges text ranges rest × BehindRelation seen rest
 
--- a comparison, and these
+-- a comparison, and ranges
 abbrev pub Compared : Categories → List ℕ → Type 0
 Compared seen text = (is_equal : Bool) × (behind : List ℕ) × g.Comparison text is_equal behind × Listed seen behind
 
--- a modulus that is not 0, and these
+-- a nonzero modulus, and a comparison
 abbrev pub ModulusFrom : Categories → List ℕ → Type 0
 ModulusFrom seen text = (n : ℕ) × (rest : List ℕ) × g.Number text n rest × (0 < n) × Compared seen rest
 
--- perhaps a modulus, and a comparison
+-- an optional modulus, and a comparison
 abbrev pub Divided : Categories → List ℕ → Type 0
 Divided seen text = (m : Option ℕ) × (rest : List ℕ) × g.Divided text m rest × Compared seen rest
 
--- relations, and what stands behind them
+-- relations, and what follows them
 abbrev pub Conjoined : Categories → List ℕ → Type 0
 Conjoined seen text =
     (rs : List RelationParts) × (rest : List ℕ) × g.Conjunction text rs rest × BehindConjunction seen rest
@@ -122,7 +122,7 @@ AtCondition c seen text = Spaced (Conjoined seen) text
 abbrev pub AfterColon : PluralCategory → Categories → List ℕ → Type 0
 AfterColon c seen text = (behind : List ℕ) × (text ≡ 58 ∷ behind) × AtCondition c seen behind
 
--- these letters, and a blank in front of relations
+-- these letters, and a blank before relations
 abbrev pub AtBlank : List ℕ → Categories → List ℕ → Type 0
 AtBlank letters seen text =
     (c : ℕ) × (behind : List ℕ) × (text ≡ letters ++ c ∷ behind) × (is_blank c ≡ true)
@@ -163,7 +163,7 @@ At seen state.Samples text =
 
 -- ---- Numbers.
 
--- a digit in front
+-- a digit before more digits
 one_more : {c : ℕ} {text rest : List ℕ} → is_ascii_digit c ≡ true → MoreDigits text rest → MoreDigits (c ∷ text) rest
 one_more {c} is_digit m = record {
   digits = c ∷ m.digits;
@@ -174,19 +174,19 @@ one_more {c} is_digit m = record {
   blanks = m.blanks;
 }
 
--- no digit
+-- a byte that is not a digit
 no_more : {text rest : List ℕ} → BeginsWithNoDigit text → g.Blanks text rest → MoreDigits text rest
 no_more {text} no_digit blanks =
     record { digits = []; behind = text; is = refl; all = refl; no_digit = no_digit; blanks = blanks }
 
--- a digit in front makes a number
+-- a digit before more digits makes a number
 number_of : {c : ℕ} {text rest : List ℕ} → is_ascii_digit c ≡ true → (m : MoreDigits text rest)
     → g.Number (c ∷ text) (digits_value 10 (c ∷ m.digits)) rest
 number_of {c} is_digit m =
     g.number (c ∷ m.digits) m.behind (ap (λ x. c ∷ x) m.is) (omega arith) (and_from _ _ is_digit m.all) m.no_digit refl
     m.blanks
 
--- that is not 0, if the digit is not
+-- which is not 0 if the digit is not
 positive : (c : ℕ) (ds : List ℕ) → is_ascii_digit c ≡ true → (c == 48) ≡ false → 0 < digits_value 10 (c ∷ ds)
 positive c ds is_digit not_zero =
     let some : 0 < c - 48 = grind (arith, nat_tests) in
@@ -195,7 +195,7 @@ positive c ds is_digit not_zero =
     grows (0 * 10 + digit_value c) ds in
     omega arith
 
--- a zero in front of a modulus
+-- a zero before a modulus
 zero_more : {seen : Categories} {c : ℕ} {text : List ℕ} → (c == 48) ≡ true → ModulusFrom seen text
     → ModulusFrom seen (c ∷ text)
 zero_more {seen} {c} {text} is m = (m.0, m.1, zero m.2, m.3, m.4)
@@ -206,7 +206,7 @@ zero_more {seen} {c} {text} is m = (m.0, m.1, zero m.2, m.3, m.4)
         g.number (c ∷ ds) behind (ap (λ x. c ∷ x) e) (omega arith) (rw (first, all) refl) no_digit (rw first value)
         blanks
 
--- ---- Forms in front of what stands behind them.
+-- ---- Forms followed by what may follow them.
 
 ranges_from : (seen : Categories) {text rest : List ℕ} {range : Range} → g.Numbers text range rest
     → BehindRange seen rest → Listed seen text
@@ -232,7 +232,7 @@ alternatives_from seen {rest = rest} {rs} first (no_or behind) = (rs ∷ [], res
 alternatives_from seen {rs = rs} first (or_more {rest = rest} {more} jt list behind) =
     (rs ∷ more, rest, g.or first jt list, behind)
 
--- a category that is new after another one was so before, and is not that one
+-- a category that is new after another one was new before it, and is a different one
 older : (seen : Categories) (c d : PluralCategory) → has (with seen c) d ≡ false → (has seen d ≡ false) × (d ≢ c)
 older seen category.Zero category.Zero h = absurd (false≢true (sym h))
 older seen category.One category.One h = absurd (false≢true (sym h))
@@ -266,7 +266,7 @@ conditioned seen k fresh name colon list =
     let end = all.3 in
     rules_from seen k all.0 fresh (g.conditioned name colon all.2 end.1) end.2
 
--- a category, and what stands behind it
+-- a category, and what follows it
 rule_found : (seen : Categories) (k : PluralCategory) (text behind : List ℕ) → IsFresh seen k
     → text ≡ name_of k ++ behind → Spaced (AfterColon k (with seen k)) behind → Ruled seen text
 rule_found seen k text behind fresh e a = let b = a.2 in go k fresh (g.token behind e a.1) b.0 b.1 b.2
@@ -279,14 +279,14 @@ rule_found seen k text behind fresh e a = let b = a.2 in go k fresh (g.token beh
     ]
     go k fresh name behind is b = conditioned seen k fresh name (g.token behind is b.1) b.2
 
--- ---- One byte in front.
+-- ---- One more byte at the start.
 
 none_is_none : {x : List RuleParts} → ◌≡◌ {A = Option (List RuleParts)} None (Some x) → ⊥
 none_is_none h = cc
 
 module _ (meaning : List RuleParts) (c : ℕ) (t : List ℕ)
     (ih : (s : State) (p : Partial) → read false s p t ≡ Some meaning → At p.seen s t) (p : Partial) where
-  -- the rest is read behind this move
+  -- the rest is accepted after this transition
   abbrev Goes : Move → Type 0
   Goes m = finish (move_on false m p (λ s q. run false s q t)) ≡ Some meaning
 
@@ -294,7 +294,7 @@ module _ (meaning : List RuleParts) (c : ℕ) (t : List ℕ)
   on_if true y z h = inl (refl, h)
   on_if false y z h = inr (refl, h)
 
-  -- where the byte is this one
+  -- the byte is the wanted one
   front : (wanted : ℕ) → (c == wanted) ≡ true → {text : List ℕ} → t ≡ text → c ∷ t ≡ wanted ∷ text
   front wanted h e = ap (λ x. x ∷ t) (eqb-true c wanted h) ∙ ap (λ x. wanted ∷ x) e
 
@@ -305,11 +305,11 @@ module _ (meaning : List RuleParts) (c : ℕ) (t : List ℕ)
     | inr b ↦ absurd (none_is_none b.1)
   ]
 
-  -- a move to a state
+  -- a transition to a state
   moved : (e : Event) (s : State) → Goes (Some (s, e)) → read false s (after e p) t ≡ Some meaning
   moved e s h = sym (ap (λ b. finish (cond b (run false s (after e p) t) None)) (any_allowed e p)) ∙ h
 
-  -- unless a test holds
+  -- a transition unless a test holds
   on_unless : (b : Bool) (m : Move) → Goes (cond b None m) → (b ≡ false) × Goes m
   on_unless b m h = elim (on_if b None m h) [ inl d ↦ absurd (none_is_none d.1) | inr d ↦ d ]
 
@@ -357,7 +357,7 @@ module _ (meaning : List RuleParts) (c : ℕ) (t : List ℕ)
             (i.1, g.samples i.0 (front 64 o.0 i.2) i.3, i.4)
       ]
 
-  -- what stands behind a range that ends here
+  -- what follows a range that ends here
   follows : Goes (follows_range p.seen c) → BehindRange p.seen (c ∷ t)
   follows h = elim (on_if (c == 44) (Some (state.Low, event.Comma)) _ h) [
     | inl b ↦
@@ -382,7 +382,7 @@ module _ (meaning : List RuleParts) (c : ℕ) (t : List ℕ)
     ]
   ]
 
-  -- a comparison here
+  -- a comparison starts here
   compares : Goes (reader.comparison c) → Compared p.seen (c ∷ t)
   compares h = elim (on_if (c == 61) (Some (state.Low, event.Equal true)) _ h) [
     | inl b ↦
@@ -405,7 +405,7 @@ module _ (meaning : List RuleParts) (c : ℕ) (t : List ℕ)
           let m : MoreDigits t i.0 = i.1 in
           (digits_value 10 (c ∷ m.digits), i.0, number_of is_digit m, positive c m.digits is_digit is, i.2)
 
-  -- a relation here, with this letter
+  -- a relation starts here, with this letter
   relation_here : (o : Operand) → ((rest : List ℕ) → g.Blanks t rest → g.Letter (c ∷ t) o rest)
       → Goes (Some (state.Percent, event.Operand o)) → Conjoined p.seen (c ∷ t)
   relation_here o letter h =
@@ -415,11 +415,11 @@ module _ (meaning : List RuleParts) (c : ℕ) (t : List ℕ)
       let list = compared.3 in
       relations_from p.seen (g.related (letter i.0 i.1) divided.2 compared.2 list.2) list.3
 
-  -- a move by an operand
+  -- a transition on the letter of an operand
   abbrev GoesBy : Option Operand → Type 0
   GoesBy l = Goes (option_map (λ o. (state.Percent, event.Operand o)) l)
 
-  -- where the byte is the letter of this operand, or of another one
+  -- the byte is the letter of this operand, or of another one
   by_letter : (o : Operand) (letter : ℕ) (others : Option Operand) → letter ∷ t ≡ operand_word o ++ t
       → (GoesBy others → Conjoined p.seen (c ∷ t)) → GoesBy (cond (c == letter) (Some o) others)
       → Conjoined p.seen (c ∷ t)
@@ -429,7 +429,7 @@ module _ (meaning : List RuleParts) (c : ℕ) (t : List ℕ)
       go true is h = relation_here o (λ rest blanks. g.own (g.token t (front letter is refl ∙ word) blanks)) h
       go false is h = other h
 
-  -- an operand here
+  -- an operand starts here
   operand_here : Goes (reader.operand c) → Conjoined p.seen (c ∷ t)
   operand_here =
       by_letter operand_variants.N 110 _ refl (by_letter operand_variants.I 105 _ refl
@@ -607,7 +607,7 @@ module _ (meaning : List RuleParts) (c : ℕ) (t : List ℕ)
 
 -- ---- A whole text.
 
--- the text ends behind a rule
+-- the text may end after a rule
 nothing_left : (seen : Categories) → BehindCondition seen []
 nothing_left seen = ([], g.no_samples refl, ended)
 
@@ -628,7 +628,7 @@ found : (meaning : List RuleParts) (text : List ℕ) (s : State) (p : Partial) �
 found meaning [] s p h = at_the_end meaning s p h
 found meaning (c ∷ t) s p h = one_byte meaning c t (found meaning t) p s h
 
--- what is read is in the grammar, with this meaning
+-- an accepted text is in the grammar, with this meaning
 pub read_is_in_grammar :
     {text : List ℕ} {meaning : List RuleParts} → read false state.Category no_rules text ≡ Some meaning
     → Grammar text meaning

@@ -1,4 +1,4 @@
--- What each byte does, in one walk over the states.
+-- The transitions on each byte, by cases on the state.
 use Rattle.std.proofs.Common.{◌≡◌, ℕ, ◌+◌, ◌-◌, ◌==◌, nat_lt, Bool, true, false, not, cond, ◌&&◌, ◌||◌, length, get_or, refl, ◌∙◌, ap, arith, eqb-true}
 use Rattle.std.specs.Prelude.{Option, Some, None, option_map}
 use Rattle.std.proofs.lemmas.Bool.Decides.{nat_tests}
@@ -16,20 +16,20 @@ use Rattle.plural_rules.specs.RulesGrammar.{is_blank}
 use Rattle.plural_rules.specs.RulesReader as reader
 use Rattle.plural_rules.specs.RulesReader.{with, is_full, Move, seen_after, next}
 
--- a category only where one is left
+-- where a category comes next, one is left
 abbrev pub is_open : Categories → State → Bool
 is_open seen state.Category = not (is_full seen)
 is_open seen state.One = not (seen.one && seen.other)
 is_open seen s = true
 
--- a number comes next
+-- the state is before a number
 abbrev pub starts_number : State → Bool
 starts_number state.Modulus = true
 starts_number state.Low = true
 starts_number state.High = true
 starts_number s = false
 
--- digits of a number were read, and more may come
+-- the state is within the digits of a number
 abbrev pub is_digits : State → Bool
 is_digits state.Zeros = true
 is_digits state.ModulusDigits = true
@@ -37,13 +37,13 @@ is_digits state.LowDigits = true
 is_digits state.HighDigits = true
 is_digits s = false
 
--- a first digit comes only where a number does, a further one only behind digits; and in front of a number is no digit
+-- a first digit comes only before a number, a further one only after digits; and the byte before a number is no digit
 abbrev pub is_fine : State → Event → State → Bool → Bool
 is_fine s (event.First d) t is_digit = not (starts_number t) && (starts_number s && is_digit)
 is_fine s (event.Digit d) t is_digit = not (starts_number t) && (is_digits s && is_digit)
 is_fine s e t is_digit = cond (starts_number t) (not is_digit) (not (is_digits t))
 
--- so it is of what a byte does, and what is open stays so
+-- the transition on a byte, if any, is fine, and leads from an open state to an open one
 pub data Fine (s : State) (seen : Categories) (c : ℕ) : Move → Type 0 where
   stops : Fine s seen c None
   goes :
@@ -58,7 +58,7 @@ module _ {s : State} {seen : Categories} {c : ℕ} where
   fine_if true h i = h
   fine_if false h i = i
 
-  -- where the test may be used
+  -- both branches of a test, each with its outcome
   fine_by : (b : Bool) {y z : Move} → (b ≡ true → Fine s seen c y) → (b ≡ false → Fine s seen c z)
       → Fine s seen c (cond b y z)
   fine_by true h i = h refl
@@ -122,7 +122,7 @@ module _ {s : State} {seen : Categories} {c : ℕ} where
 blank_is_no_digit : (c : ℕ) → is_blank c ≡ true → not (is_ascii_digit c) ≡ true
 blank_is_no_digit c h = let is : is_ascii_digit c ≡ false = grind (arith, nat_tests) in rw is refl
 
--- the state behind a digit of a modulus is one of two, and so is that behind a colon
+-- a property of both states after a digit of a modulus, and of both after a colon
 modulus_fine : (P : State → Type 0) (b : Bool) → P state.Zeros → P state.ModulusDigits
     → P (cond b state.Zeros state.ModulusDigits)
 modulus_fine P true h i = h
@@ -189,7 +189,7 @@ fine_next seen state.OrEnd c = fine_only 114 state.Blank event.Nothing (λ b. re
 fine_next seen state.Blank c = fine_skip state.Operand (λ b. refl) (λ o. refl) stops
 fine_next seen state.Samples c = fine_if (c == 59) (fine_category event.Nothing refl refl) (goes refl (λ o. refl))
 
--- each move is so
+-- each transition is fine, and leads from an open state to an open one
 pub moves_so :
     (seen : Categories) (s : State) (c : ℕ) (t : State) (e : Event) → next seen s c ≡ Some (t, e)
     → (is_fine s e t (is_ascii_digit c) ≡ true) × (is_open seen s ≡ true → is_open (seen_after e seen) t ≡ true)

@@ -1,4 +1,4 @@
--- A text of the grammar is read, with the meaning that the grammar names: strictly too, where no number is too great.
+-- The reader accepts a text of the grammar, with the meaning by the grammar; if its numbers fit, in strict mode too.
 use Rattle.std.proofs.Common.{◌≡◌, ◌≢◌, ℕ, ◌+◌, ◌-◌, ◌*◌, ◌^◌, ◌<◌, ◌≤◌, ◌==◌, nat_le, nat_lt, Bool, true, false, cond, not, ◌||◌, List, [], ◌∷◌, ◌++◌, length, refl, sym, ◌∙◌, ap, arith, append_assoc, eqb-true}
 use Rattle.std.specs.Prelude.{Option, Some, None, IfSome, codes}
 use Rattle.std.proofs.lemmas.Bool.{and_parts, le-leb}
@@ -26,7 +26,7 @@ use Rattle.plural_rules.proofs.RulesRun.{allowed, finish, finished, moves, run, 
 
 -- ---- Bytes.
 
--- in this state blanks change nothing
+-- blanks change nothing in this state
 abbrev pub Skips : State → Type 0
 Skips s = (seen : Categories) (c : ℕ) → is_blank c ≡ true → next seen s c ≡ Some (s, event.Nothing)
 
@@ -36,7 +36,7 @@ digit_is c h = grind (arith, nat_tests)
 pub digit_is_no_blank : (c : ℕ) → is_ascii_digit c ≡ true → is_blank c ≡ false
 digit_is_no_blank c h = grind (arith, nat_tests)
 
--- digits make a number no smaller
+-- digits after a number do not make it smaller
 pub grows : (from : ℕ) (ds : List ℕ) → from ≤ digits_value_after 10 from ds
 grows from [] = omega arith
 grows from (d ∷ ds) =
@@ -44,14 +44,14 @@ grows from (d ∷ ds) =
     grows (from * 10 + digit_value d) ds in
     omega arith
 
--- in this state a digit leads to it again
+-- a digit leads from this state to itself
 abbrev pub Counts : State → Type 0
 Counts s = (seen : Categories) (c : ℕ) → is_ascii_digit c ≡ true → next seen s c ≡ Some (s, event.Digit (c - 48))
 
 abbrev pub numbered : Partial → ℕ → Partial
 numbered p n = record p { number = n }
 
--- these two states stand behind a range
+-- the two states after a range
 abbrev pub IsBehind : State → Type 0
 IsBehind s =
     Skips s × (at_end s ≡ Some event.End)
@@ -69,7 +69,7 @@ modulus_is n positive = let is : nat_lt 0 n ≡ true = grind (arith, nat_tests) 
 below_limit : (n : ℕ) → n < 2 ^ 64 → n ≤ limit false
 below_limit n h = omega arith
 
--- what is read of a relation
+-- the parts of a relation that have been read
 pub record Pending : Type 0 where
   pub operand : Operand
   pub modulus : Option ℕ
@@ -92,11 +92,11 @@ put j p = record p {
 abbrev pub related_of : Pending → RelationParts
 related_of j = relation j.operand j.modulus j.is_equal (j.ranges ++ range_of j.low j.number ∷ [])
 
--- the range that is begun
+-- with the ranges so far, and the range that has begun
 abbrev pub ranged : Partial → List Range → Option ℕ → ℕ → Partial
 ranged p ranges low n = record p { is_divided = false; ranges = ranges; low = low; number = n }
 
--- the relations that are read
+-- with the relations so far
 abbrev pub conjoined : Pending → Partial → List RelationParts → Partial
 conjoined j p front = put j (record p { relations = front })
 
@@ -105,11 +105,11 @@ conjoined j p front = put j (record p { relations = front })
 abbrev pub IsFresh : Categories → PluralCategory → Type 0
 IsFresh seen c = has seen c ≡ false
 
--- no category stands twice, and none was there before
+-- no category occurs twice or was seen before
 abbrev pub AreFresh : Categories → List RuleParts → Type 0
 AreFresh seen rs = AllByRecursion (λ r. IsFresh seen r.category) rs × HasNoTwo rs
 
--- the state behind a category's name
+-- the state after a category's name
 abbrev pub colon : PluralCategory → State
 colon c = state.Letters c (length (name_of c))
 
@@ -126,18 +126,18 @@ colon_moves : (c : PluralCategory) (seen : Categories)
 colon_moves category.Zero seen = refl
 colon_moves c seen = refl
 
--- in this state a rule may end, and the event says so
+-- a rule may end in this state, by this event
 abbrev pub MayEnd : State → Event → Type 0
 MayEnd s e =
     (at_end s ≡ Some e)
     × ((seen : Categories) → next seen s 59 ≡ (cond (is_full seen) None (Some (state.Category, e))))
 
--- it may also go on with samples
+-- or before samples
 abbrev pub HasSamples : State → Event → Type 0
 HasSamples s e = MayEnd s e × ((seen : Categories) → next seen s 64 ≡ Some (state.Samples, e))
     × ((p : Partial) (strict : Bool) → allowed strict e p ≡ true)
 
--- where a rule ends: the rules up to it, and their categories
+-- the state after a rule: the rules up to it, and their categories
 pub record Ended (s : State) (e : Event) (p : Partial) (rules : List RuleParts) (seen : Categories) : Type 0 where
   pub may_end : MayEnd s e
   pub is_allowed : (strict : Bool) → allowed strict e p ≡ true
@@ -145,7 +145,7 @@ pub record Ended (s : State) (e : Event) (p : Partial) (rules : List RuleParts) 
   pub seen_is : p.seen ≡ seen
   pub seen_stays : (after e p).seen ≡ seen
 
--- a category is still new after another one
+-- a category is still new after a different one
 stays_new :
     (seen : Categories) (c d : PluralCategory) → d ≢ c → has seen d ≡ false → has (with seen c) d ≡ false
 stays_new seen category.Zero category.Zero ne h = absurd (ne refl)
@@ -171,7 +171,7 @@ stay_fresh seen r rs h =
     let none = h.1 in
     (all_stay_new seen r.category rs none.0 new.1, none.1)
 
--- where a category is new, not all are there
+-- if a category is new, not all six were seen
 not_full : (seen : Categories) (c : PluralCategory) → IsFresh seen c → is_full seen ≡ false
 not_full seen category.Zero h = rw h refl
 not_full seen c h = grind (arith, h)
@@ -181,7 +181,7 @@ first_fresh : (seen : Categories) (text : List ℕ) (rs : List RuleParts) → g.
 first_fresh seen text [] is h = elim is [ ]
 first_fresh seen text (r ∷ rs) is h = let new = h.0 in not_full seen r.category new.0
 
--- the operand that a condition begins with
+-- a condition starts with an operand
 begins : {text rest : List ℕ} {alternatives : List (List RelationParts)} → g.Condition text alternatives rest
     → (o : Operand) × (behind : List ℕ) × g.Letter text o behind
 begins (g.Condition.one (g.Conjunction.one (g.related {operand = o} {percent = z} l d c rs))) = (o, z, l)
@@ -189,7 +189,7 @@ begins (g.Condition.one (g.and (g.related {operand = o} {percent = z} l d c rs) 
 begins (g.or (g.Conjunction.one (g.related {operand = o} {percent = z} l d c rs)) word others) = (o, z, l)
 begins (g.or (g.and (g.related {operand = o} {percent = z} l d c rs) jt more) word others) = (o, z, l)
 
--- what is to come of a text
+-- the reader's result for the rest of a text
 abbrev Rest : Type 0
 Rest = Option (List RuleParts)
 
@@ -208,7 +208,7 @@ module _ (strict : Bool) where
 
   -- ---- Numbers.
 
-  -- a number is small enough, if that matters
+  -- a number fits, if the reader is strict
   abbrev May : Partial → ℕ → Type 0
   May p n = strict ≡ true → n ≤ limit p.is_divided
 
@@ -216,7 +216,7 @@ module _ (strict : Bool) where
   may_read true n most h = le-leb n most (h refl)
   may_read false n most h = refl
 
-  -- a number begins no greater than it ends
+  -- if a number fits, its first digits do
   first_may : (b : Bool) (from : ℕ) (ds : List ℕ) → (strict ≡ true → digits_value_after 10 from ds ≤ limit b)
       → strict ≡ true → from ≤ limit b
   first_may b from ds may e =
@@ -241,12 +241,12 @@ module _ (strict : Bool) where
       ∙ digits s h ds behind parts.1 (numbered p (p.number * 10 + (d - 48))) may_all
       ∙ ap (λ v. read strict s (numbered p v) behind) all
 
-  -- where no digit follows, the one state does as the other
+  -- before a byte other than a digit, the two states behave alike
   abbrev Leaves : State → State → Type 0
   Leaves s t = (p : Partial) (behind : List ℕ) → BeginsWithNoDigit behind
       → read strict s p behind ≡ read strict t p behind
 
-  -- a number from its first digit on
+  -- the value of a number by its first digit and the others
   value_is : (d : ℕ) (ds : List ℕ) → is_ascii_digit d ≡ true
       → digits_value_after 10 (d - 48) ds ≡ digits_value 10 (d ∷ ds)
   value_is d ds is =
@@ -254,7 +254,7 @@ module _ (strict : Bool) where
       let same : d - 48 ≡ 0 * 10 + digit_value d = omega arith in
       ap (λ v. digits_value_after 10 v ds) same
 
-  -- a number in front of its blanks: its first digit leads to a state, where its further digits are read
+  -- a number, without its blanks: the first digit leads to a state in which the further digits are read
   number :
       (s0 s1 s2 : State) (to : ℕ → State)
       → ((seen : Categories) (c : ℕ) → is_ascii_digit c ≡ true → next seen s0 c ≡ Some (to c, event.First (c - 48)))
@@ -302,7 +302,7 @@ module _ (strict : Bool) where
       (λ d ds behind all same. digits state.HighDigits (λ seen c d. rw d refl) ds behind all (numbered p (d - 48))
       (λ x. rw same (may x)))
 
-  -- the digits of a modulus that is not 0, behind one that is 0 or not
+  -- the digits of a nonzero modulus after leading digits, zero or not
   modulus_rest :
       (is_zero : Bool) (ds behind : List ℕ) → all_ascii_digits ds ≡ true → (p : Partial)
       → (is_zero ≡ true → p.number ≡ 0) → 0 < digits_value_after 10 p.number ds
@@ -375,7 +375,7 @@ module _ (strict : Bool) where
 
   -- ---- Relations.
 
-  -- a letter in front of a relation
+  -- the letter of an operand before a relation
   letter :
       {text rest : List ℕ} {o : Operand} → g.Letter text o rest → (p : Partial)
       → read strict state.Operand p text ≡ read strict state.Percent (after (event.Operand o) p) rest
@@ -403,7 +403,7 @@ module _ (strict : Bool) where
       let tail = skips state.Low (λ seen c b. rw b refl) blanks (after (event.Equal false) p) in
       (ap (read strict state.Comparison p) e ∙ tail, ap (read strict state.Percent p) e ∙ tail)
 
-  -- a modulus or none, and a comparison
+  -- an optional modulus, and a comparison
   divided :
       {text behind rest : List ℕ} {m : Option ℕ} {is_equal : Bool} → g.Divided text m behind
       → g.Comparison behind is_equal rest → (p : Partial) (x : Rest)
@@ -443,7 +443,7 @@ module _ (strict : Bool) where
         number = n;
       }) s b (ap (relation o m is_equal) is)))
 
-  -- a word in front of a relation
+  -- `and` or `or` before a relation
   joint :
       {letters text rest : List ℕ} → g.Joint letters text rest → (s : State) (p q : Partial)
       → ((behind : List ℕ) → read strict s p (letters ++ behind) ≡ read strict state.Blank q behind)
@@ -501,7 +501,7 @@ module _ (strict : Bool) where
       step state.Samples p c (skipped ++ rest) state.Samples event.Nothing (rw (h.0) refl) refl
       ∙ skip_samples skipped rest h.1 p
 
-  -- a rule ends, perhaps behind samples
+  -- a rule ends, perhaps after samples
   samples_read :
       {text rest : List ℕ} → g.Samples text rest → (s : State) (e : Event) → HasSamples s e → (p : Partial)
       (rules : List RuleParts) (seen : Categories) (x : Rest) → (after e p).rules ≡ rules → p.seen ≡ seen
@@ -551,7 +551,7 @@ module _ (strict : Bool) where
       ∙ step (colon c) p 58 after_colon (condition_of c) (event.Category c) (colon_moves c p.seen) refl
       ∙ skips (condition_of c) (skips_condition c) blanks2 (after (event.Category c) p)
 
-  -- a condition is read alike behind each category
+  -- a condition is read in the same way after each category
   condition_read :
       {text rest : List ℕ} {alternatives : List (List RelationParts)} → g.Condition text alternatives rest
       → (c : PluralCategory) (p : Partial) → read strict (condition_of c) p text ≡ read strict state.Operand p text
@@ -620,7 +620,7 @@ none_read (r ∷ rs) = (new r.category, none_read rs)
     new category.Zero = refl
     new c = refl
 
--- a text of the grammar is read, and what is read is its meaning
+-- the reader accepts a text of the grammar and returns its meaning
 pub grammar_is_read : (strict : Bool) {text : List ℕ} {rs : List RuleParts} → Grammar text rs
     → (strict ≡ true → Fits rs) → read strict state.Category no_rules text ≡ Some rs
 grammar_is_read strict {text} {rs} h fits =
@@ -631,7 +631,7 @@ pub grammar_is_any : {text : List ℕ} {rs : List RuleParts} → Grammar text rs
     → read false state.Category no_rules text ≡ Some rs
 grammar_is_any h = grammar_is_read false h (λ e. absurd (cc))
 
--- no text has two meanings
+-- the grammar is unambiguous
 pub one_meaning :
     {text : List ℕ} {first second : List RuleParts} → Grammar text first → Grammar text second → first ≡ second
 one_meaning {text} {first} {second} a b = same (sym (grammar_is_any a) ∙ grammar_is_any b)

@@ -1,4 +1,4 @@
--- What is read of a text, byte by byte: of any text or, if strict, only as far as each number fits.
+-- The run of the reader over the bytes of a text; in strict mode it stops where a number does not fit.
 use Rattle.std.proofs.Common.{◌≡◌, ℕ, ◌+◌, ◌*◌, ◌^◌, ◌<◌, ◌≤◌, nat_le, nat_lt, Bool, true, false, not, cond, ◌&&◌, ◌||◌, List, [], ◌∷◌, ◌++◌, length, take, get_or, refl, ◌∙◌, ap, arith}
 use Rattle.std.specs.Prelude.{Option, Some, None, IfSome}
 use Rattle.std.specs.List.{AllByRecursion}
@@ -12,13 +12,13 @@ use Rattle.plural_rules.specs.Rules.{relation, RuleParts, rule}
 use Rattle.plural_rules.specs.RulesReader.{Move, Partial, no_rules, range_of, end_range, end_relation, end_alternative, end_rule, after, next, at_end, limit}
 use Rattle.plural_rules.specs.RulesRefusal.{RangeFits, RelationFits, ConjunctionFits, RuleFits, Fits}
 
--- what an event says may be read
+-- the number after an event fits, if the reader is strict
 abbrev pub allowed : Bool → Event → Partial → Bool
 allowed strict (event.First d) p = not strict || nat_le d (limit p.is_divided)
 allowed strict (event.Digit d) p = not strict || nat_le (p.number * 10 + d) (limit p.is_divided)
 allowed strict e p = true
 
--- the state behind a text and the rules so far, if rules may begin so
+-- the state after a text and the rules so far, or None if the reader stops
 abbrev pub Reached : Type 0
 Reached = Option (State × Partial)
 
@@ -38,11 +38,11 @@ abbrev pub finish : Reached → Option (List RuleParts)
 finish None = None
 finish (Some x) = finished (at_end x.0) x.1
 
--- the rules of a text
+-- the rules of a text, or None if the reader rejects it
 abbrev pub read : Bool → State → Partial → List ℕ → Option (List RuleParts)
 read strict s p text = finish (run strict s p text)
 
--- ---- Texts in a row.
+-- ---- Concatenated texts.
 
 abbrev pub bind : Reached → (State → Partial → Reached) → Reached
 bind None go = None
@@ -65,7 +65,7 @@ run_append strict (c ∷ text) more s p = go (run_append strict text more) (next
     go ih None = refl
     go ih (Some move) = bind_cond (allowed strict move.1 p) _ _ _ (ih move.0 (after move.1 p))
 
--- one byte more
+-- one more byte
 pub run_more : (strict : Bool) (text : List ℕ) (i : ℕ) (s : State) (p : Partial) → i < length text
     → run strict state.Category no_rules (take i text) ≡ Some (s, p)
     → run strict state.Category no_rules (take (i + 1) text)
@@ -75,13 +75,13 @@ run_more strict text i s p less h =
     ∙ run_append strict (take i text) (get_or text i 0 ∷ []) state.Category no_rules
     ∙ ap (λ x. bind x (λ s q. run strict s q (get_or text i 0 ∷ []))) h
 
--- a move that may be made
+-- the run continues after an allowed transition
 pub moves : (strict : Bool) (m : Move) (s2 : State) (e : Event) (p : Partial) (go : State → Partial → Reached)
     → m ≡ Some (s2, e) → allowed strict e p ≡ true → move_on strict m p go ≡ go s2 (after e p)
 moves strict m s2 e p go h a =
     ap (λ m. move_on strict m p go) h ∙ ap (λ b. cond b (go s2 (after e p)) None) a
 
--- ---- What is read strictly fits, and is read.
+-- ---- Rules that the strict reader accepts fit, and are those of the other one.
 
 pub any_allowed : (e : Event) (p : Partial) → allowed false e p ≡ true
 any_allowed (event.First d) p = refl
@@ -91,7 +91,7 @@ was_allowed : (a : Bool) (y : Reached) (x : State × Partial) → cond a y None 
 was_allowed true y x h = (refl, h)
 was_allowed false y x h = absurd (cc)
 
--- all that was read so far fits
+-- all numbers so far fit
 abbrev pub FitsSoFar : Partial → Type 0
 FitsSoFar p =
     Fits p.rules × AllByRecursion ConjunctionFits p.alternatives × ConjunctionFits p.relations
@@ -137,7 +137,7 @@ rule_ends : (p : Partial) → FitsSoFar p → FitsSoFar (end_rule p)
 rule_ends p h =
     (all_more RuleFits p.rules (rule p.category p.alternatives) h.0 h.1, tt, h.2, h.3, h.4, h.5, h.6)
 
--- what an event adds fits, where it may be read
+-- the number after an allowed event fits
 pub fits_on : (e : Event) (p : Partial) → FitsSoFar p → allowed true e p ≡ true → FitsSoFar (after e p)
 fits_on event.Nothing p h a = h
 fits_on (event.Category k) p h a = (h.0, tt, tt, h.3, h.4, h.5, h.6)
@@ -158,7 +158,7 @@ fits_on event.End p h a =
     (alternative_ends (after event.And p) (relation_ends (end_range p) (range_ends p h)))
 fits_on event.EndOther p h a = rule_ends p h
 
--- what is read strictly fits, and is read
+-- a run of the strict reader is one of the other, and its rules fit
 strict_run : (text : List ℕ) (s : State) (p : Partial) (x : State × Partial) → FitsSoFar p
     → run true s p text ≡ Some x → FitsSoFar x.1 × (run false s p text ≡ Some x)
 strict_run [] s p x f h = let same : ◌≡◌ {A = State × Partial} (s, p) x = cc in (rw (← same) f, h)
@@ -181,7 +181,7 @@ pub reached_strictly : (text : List ℕ) (s : State) (p : Partial)
 reached_strictly text s p h =
     strict_run text state.Category no_rules (s, p) (tt, tt, tt, tt, tt, tt, omega arith) h
 
--- what holds of the three events at the end of a text
+-- a property of each of the three events at the end of a text
 pub at_end_all : (P : Event → Type 0) → P event.EndOther → P event.End → P event.Nothing → (s : State) (e : Event)
     → at_end s ≡ Some e → P e
 at_end_all P o d n state.OtherCondition e h = let same : event.EndOther ≡ e = cc in rw (← same) o
@@ -192,7 +192,7 @@ at_end_all P o d n state.BehindHigh e h = let same : event.End ≡ e = cc in rw 
 at_end_all P o d n state.Samples e h = let same : event.Nothing ≡ e = cc in rw (← same) n
 at_end_all P o d n s e h = absurd (cc)
 
--- rules that are read strictly fit, and are those that are read of any text
+-- rules that the strict reader accepts fit, and are those of the other one
 pub read_fits : (text : List ℕ) (rules : List RuleParts) → read true state.Category no_rules text ≡ Some rules
     → Fits rules × (read false state.Category no_rules text ≡ Some rules)
 read_fits text rules h = go (run true state.Category no_rules text) refl h

@@ -5,6 +5,6 @@ use Rattle.std.specs.Prelude.{◌≡◌, ℕ, ◌-◌, ◌/◌, ◌%◌, ◌^◌
 abbrev pub part : ℕ → ℕ → ℕ → ℕ
 part number top k = number / 10 ^ (top - k) % 10 ^ k
 
--- an integer, where it is at most this one; None stands for each greater one
+-- an integer if it is at most `most`, and None otherwise
 abbrev pub IsUpTo : ℕ → Option ℕ → ℕ → Type 0
 IsUpTo most found n = MatchOption found (most < n) (λ k. k ≡ n)

@@ -1,4 +1,4 @@
--- Plural rules, and what they mean.
+-- Plural rules and their semantics.
 use Rattle.std.specs.Prelude.{ℕ, ◌%◌, ◌==◌, nat_le, Bool, true, ◌&&◌, not, if◌then◌else◌, List, codes, Option, Some, None, find}
 use Rattle.std.specs.List.{list_any, list_all}
 use Rattle.std.specs.Option.{option_map_or}
@@ -10,7 +10,7 @@ use Rattle.plural_rules.specs.declared.rules.Range.{Range}
 use Rattle.plural_rules.specs.Operands as of
 use Rattle.plural_rules.specs.Operands.{Operands}
 
--- ---- What rules are.
+-- ---- Rules.
 
 -- the name of a category
 abbrev pub name_of : PluralCategory → List ℕ
@@ -42,9 +42,9 @@ pub record RuleParts : Type 0 where
 abbrev pub rule : PluralCategory → List (List RelationParts) → RuleParts
 rule category alternatives = record { category = category; alternatives = alternatives }
 
--- ---- What they mean.
+-- ---- Semantics.
 
--- an operand of a number, where it is an integer
+-- the value of an operand; of n that of i
 abbrev pub integer_of : Operands → Operand → ℕ
 integer_of number N = of.i number.value
 integer_of number I = of.i number.value
@@ -54,25 +54,25 @@ integer_of number F = of.f number.value
 integer_of number T = of.t number.value
 integer_of number C = number.exponent
 
--- n is an integer only where all digits behind the dot are 0, and each other operand always is one
+-- n is an integer only if all fraction digits are 0, and every other operand always is one
 abbrev pub is_integer : Operands → Operand → Bool
 is_integer number N = of.w number.value == 0
 is_integer number operand = true
 
--- the remainder by the modulus, where there is one
+-- the remainder by the modulus, if there is one
 abbrev pub by_modulus : Option ℕ → ℕ → ℕ
 by_modulus None n = n
 by_modulus (Some modulus) n = n % modulus
 
--- the integer that a relation looks at: an operand, or its remainder
+-- the integer that a relation compares: an operand, or its remainder
 abbrev pub term_of : Operands → RelationParts → ℕ
 term_of number r = by_modulus r.modulus (integer_of number r.operand)
 
--- an integer lies in a range
+-- an integer is in a range
 abbrev pub in_range : ℕ → Range → Bool
 in_range n range = nat_le range.low n && nat_le n range.high
 
--- what a relation looks at is an integer, and lies in one of the ranges
+-- the operand is an integer, and it or its remainder is in one of the ranges
 abbrev pub equals : Operands → RelationParts → Bool
 equals number r = is_integer number r.operand && list_any (in_range (term_of number r)) r.ranges
 
@@ -80,10 +80,10 @@ equals number r = is_integer number r.operand && list_any (in_range (term_of num
 abbrev pub holds : Operands → RelationParts → Bool
 holds number r = if r.is_equal then equals number r else not (equals number r)
 
--- in one of the alternatives each relation holds
+-- all relations of one of the alternatives hold
 abbrev pub is_met : Operands → RuleParts → Bool
 is_met number r = list_any (list_all (holds number)) r.alternatives
 
--- the category of the first rule whose condition is met, and Other where none is
+-- the category of the first rule whose condition is met, and Other if there is none
 abbrev pub category_of : List RuleParts → Operands → PluralCategory
 category_of rules number = option_map_or (λ r. r.category) (find (is_met number) rules) Other

@@ -1,4 +1,4 @@
--- What the builder holds, as the rules so far. Only private contracts cite this file.
+-- The state of the builder as the rules so far. Only private contracts cite this file.
 use Rattle.std.specs.Prelude.{◌≡◌, ◌+◌, ◌*◌, ◌^◌, ◌<◌, ◌≤◌, true, map}
 use Rattle.plural_rules.specs.declared.parse.state.Event.{Event}
 use Rattle.plural_rules.specs.declared.parse.state.Event.TheVariants as event
@@ -22,7 +22,7 @@ partial seen b = record {
   number = b.number;
 }
 
--- what an event says is in 64 bits, and a modulus at most 10^18
+-- the number after an event is below 2^64, and a modulus at most 10^18
 abbrev pub IsSmall : Event → Builder → Type 0
 IsSmall (event.Digit d) b = b.number * 10 + d < 2 ^ 64
 IsSmall (event.Equal is_equal) b = b.is_divided ≡ true → b.number ≤ 10 ^ 18

@@ -1,5 +1,5 @@
--- Which texts are rules, and what they mean. Each form is a relation between a text that begins with it, what it means,
--- and the rest of the text, which stands behind it. Blanks stand behind a token, and in front of all.
+-- The grammar of rules, with their meaning. Each form is a relation between a text, the meaning of a prefix of it, and
+-- the rest of the text after that prefix. Blanks may follow each token, and precede the first.
 use Rattle.std.specs.Prelude.{◌≡◌, ◌≢◌, ℕ, ◌<◌, ◌==◌, Bool, true, false, ◌||◌, List, [], ◌∷◌, ◌++◌, length, Option, Some, None, codes}
 use Rattle.std.specs.Char.{is_ascii_digit}
 use Rattle.std.specs.List.{AllByRecursion}
@@ -27,7 +27,7 @@ pub data Blanks : List ℕ → List ℕ → Type 0 where
 pub data Token (bytes text rest : List ℕ) : Type 0 where
   token : (behind : List ℕ) → text ≡ bytes ++ behind → Blanks behind rest → Token bytes text rest
 
--- a word in front of an operand: these letters, and blanks, at least one
+-- a word before an operand: these letters, and at least one blank
 pub data Joint (letters text rest : List ℕ) : Type 0 where
   joint :
       (blank : ℕ) (behind : List ℕ) → text ≡ letters ++ blank ∷ behind → is_blank blank ≡ true → Blanks behind rest
@@ -38,7 +38,7 @@ abbrev pub BeginsWithNoDigit : List ℕ → Type 0
 BeginsWithNoDigit [] = Unit {0}
 BeginsWithNoDigit (c ∷ text) = is_ascii_digit c ≡ false
 
--- a number: all the digits that stand together, zeros in front as well, and blanks
+-- a number: a longest run of digits, leading zeros included, and blanks
 pub data Number (text : List ℕ) (n : ℕ) (rest : List ℕ) : Type 0 where
   number :
       (digits behind : List ℕ) → text ≡ digits ++ behind → 0 < length digits → all_ascii_digits digits ≡ true
@@ -61,7 +61,7 @@ pub data Letter (text : List ℕ) : Operand → List ℕ → Type 0 where
   own : {operand : Operand} {rest : List ℕ} → Token (operand_word operand) text rest → Letter text operand rest
   exponent : {rest : List ℕ} → Token (codes "e") text rest → Letter text C rest
 
--- a percent sign and a modulus, which is not 0, or nothing
+-- a percent sign and a modulus other than 0, or nothing
 pub data Divided (text : List ℕ) : Option ℕ → List ℕ → Type 0 where
   undivided : Divided text None text
   divided :
@@ -102,7 +102,7 @@ pub data Conjunction : List ℕ → List RelationParts → List ℕ → Type 0 w
       {r : RelationParts} {rs : List RelationParts} {text word behind rest : List ℕ} → Related text r word
       → Joint (codes "and") word behind → Conjunction behind rs rest → Conjunction text (r ∷ rs) rest
 
--- these with `or` between them
+-- conjunctions with `or` between them
 pub data Condition : List ℕ → List (List RelationParts) → List ℕ → Type 0 where
   one : {rs : List RelationParts} {text rest : List ℕ} → Conjunction text rs rest → Condition text (rs ∷ []) rest
   or :
@@ -112,14 +112,14 @@ pub data Condition : List ℕ → List (List RelationParts) → List ℕ → Typ
 
 -- ---- Rules.
 
--- nothing, or from an @ on anything but a semicolon
+-- nothing, or an @ and bytes other than semicolons
 pub data Samples (text rest : List ℕ) : Type 0 where
   no_samples : text ≡ rest → Samples text rest
   samples :
       (skipped : List ℕ) → text ≡ 64 ∷ skipped ++ rest → AllByRecursion (λ c. (c == 59) ≡ false) skipped
       → Samples text rest
 
--- a category, a colon, a condition and samples; of `other` the condition may be left out
+-- a category, a colon, a condition and samples; the condition of `other` may be left out
 pub data OneRule (text : List ℕ) : RuleParts → List ℕ → Type 0 where
   conditioned :
       {category : PluralCategory} {alternatives : List (List RelationParts)} {colon behind at rest : List ℕ}
@@ -136,7 +136,7 @@ pub data AllRules : List ℕ → List RuleParts → Type 0 where
       {r : RuleParts} {rs : List RuleParts} {text semicolon behind : List ℕ} → OneRule text r semicolon
       → Token (codes ";") semicolon behind → AllRules behind rs → AllRules text (r ∷ rs)
 
--- no two rules have one category
+-- no two rules have the same category
 abbrev pub HasNoTwo : List RuleParts → Type 0
 HasNoTwo [] = Unit {0}
 HasNoTwo (r ∷ rs) = AllByRecursion (λ other. other.category ≢ r.category) rs × HasNoTwo rs

@@ -1,4 +1,4 @@
--- The parser as a machine: what each byte does at each state, and what the rules are so far.
+-- The parser as a state machine: the transition on each byte at each state, and the rules so far.
 -- Only private contracts cite this file.
 use Rattle.std.specs.Prelude.{ℕ, ◌+◌, ◌-◌, ◌*◌, ◌^◌, ◌==◌, nat_lt, nat_le, Bool, true, false, ◌||◌, ◌&&◌, if◌then◌else◌, List, [], ◌∷◌, ◌++◌, length, get_or, Option, Some, None, option_map}
 use Rattle.std.specs.Char.{is_ascii_digit}
@@ -44,12 +44,12 @@ abbrev pub no_categories : Categories
 no_categories =
     record { zero = false; one = false; two = false; few = false; many = false; other = false }
 
--- ---- What a byte does: the state behind it and what it says, or nothing where no rules go on so.
+-- ---- Transitions: the state after a byte and the event of the byte, or None if no rules continue with it.
 
 abbrev pub Move : Type 0
 Move = Option (State × Event)
 
--- a blank changes nothing, if another byte does so
+-- a blank changes nothing; any other byte does `otherwise`
 abbrev pub skip : State → ℕ → Move → Move
 skip s c otherwise = if is_blank c then Some (s, event.Nothing) else otherwise
 
@@ -74,7 +74,7 @@ second_letter seen c =
     else if c == 116 then (if seen.other then None else Some (state.Letters Other 2, event.Nothing))
     else None
 
--- what stands behind a category's colon
+-- the state after a category's colon
 abbrev pub condition_of : PluralCategory → State
 condition_of Other = state.OtherCondition
 condition_of category = state.Operand
@@ -94,7 +94,7 @@ operand_letter c =
 abbrev pub operand : ℕ → Move
 operand c = option_map (λ o. (state.Percent, event.Operand o)) (operand_letter c)
 
--- the end of a rule, which says so, before another one or before samples
+-- the byte after a rule, with the event that ends it: a semicolon, if a category is left, or the @ of samples
 abbrev pub rule_end : Categories → ℕ → Event → Move
 rule_end seen c e =
     if c == 59 then (if is_full seen then None else Some (state.Category, e))
@@ -107,7 +107,7 @@ comparison c =
     else if c == 33 then Some (state.NotEqual, event.Nothing)
     else None
 
--- what stands behind a range and its blanks
+-- the byte after a range and its blanks
 abbrev pub follows_range : Categories → ℕ → Move
 follows_range seen c =
     if c == 44 then Some (state.Low, event.Comma)
@@ -122,11 +122,11 @@ behind_low seen c =
 abbrev pub behind_high : Categories → ℕ → Move
 behind_high seen c = skip state.BehindHigh c (follows_range seen c)
 
--- one byte, and nothing else
+-- one byte, and no other
 abbrev pub only : ℕ → ℕ → State → Event → Move
 only wanted c s e = if c == wanted then Some (s, e) else None
 
--- a further letter of a category, or the colon behind the last one
+-- the next letter of a category, or the colon after the last one
 abbrev pub letter : PluralCategory → ℕ → ℕ → Move
 letter category n c =
     if nat_lt n (length (name_of category)) then
@@ -141,7 +141,7 @@ first c s = if is_ascii_digit c then Some (s, event.First (c - 48)) else None
 abbrev pub digit : ℕ → State → Move → Move
 digit c s otherwise = if is_ascii_digit c then Some (s, event.Digit (c - 48)) else otherwise
 
--- behind a digit of a modulus of which all digits so far were 0, if there were some
+-- after a digit of a modulus whose digits before it, if any, are all 0
 abbrev pub modulus_state : ℕ → State
 modulus_state c = if c == 48 then state.Zeros else state.ModulusDigits
 
@@ -175,7 +175,7 @@ next seen state.Samples c =
     if c == 59 then (if is_full seen then None else Some (state.Category, event.Nothing))
     else Some (state.Samples, event.Nothing)
 
--- what the end of the text says, where rules may end
+-- the event of the end of the text, if rules may end in the state
 abbrev pub at_end : State → Option Event
 at_end state.OtherCondition = Some event.EndOther
 at_end state.LowDigits = Some event.End
@@ -187,8 +187,8 @@ at_end s = None
 
 -- ---- The rules so far.
 
--- whole rules, and of the one that is read the category, the alternatives, the relations of the alternative that is
--- read, and the parts of the relation that is read
+-- the complete rules, and of the rule that is being read the category, the alternatives, the relations of the last
+-- alternative, and the parts of the last relation
 pub record Partial : Type 0 where
   pub seen : Categories
   pub rules : List RuleParts
@@ -224,7 +224,7 @@ abbrev pub range_of : Option ℕ → ℕ → Range
 range_of None n = record { low = n; high = n }
 range_of (Some low) n = record { low = low; high = n }
 
--- the modulus that was read, if there was one; it is not 0
+-- the modulus that was read, if any; it is not 0
 abbrev pub modulus_of : Bool → ℕ → Option ℕ
 modulus_of is_divided n = if is_divided && nat_lt 0 n then Some n else None
 
@@ -241,7 +241,7 @@ end_alternative p = record p { alternatives = p.alternatives ++ p.relations ∷ 
 abbrev pub end_rule : Partial → Partial
 end_rule p = record p { rules = p.rules ++ rule p.category p.alternatives ∷ []; alternatives = [] }
 
--- what an event makes of the rules so far
+-- the effect of an event on the rules so far
 abbrev pub after : Event → Partial → Partial
 after event.Nothing p = p
 after (event.Category category) p =
@@ -259,7 +259,7 @@ after event.Or p = end_alternative (end_relation (end_range p))
 after event.End p = end_rule (end_alternative (end_relation (end_range p)))
 after event.EndOther p = end_rule p
 
--- ---- The categories behind an event.
+-- ---- The categories after an event.
 
 abbrev pub seen_after : Event → Categories → Categories
 seen_after (event.Category category) seen = with seen category
@@ -275,7 +275,7 @@ limit is_modulus = if is_modulus then 10 ^ 18 else 2 ^ 64 - 1
 abbrev pub counted : Bool → ℕ → ℕ → Numbers
 counted is_modulus begin n = if nat_le n (limit is_modulus) then Fit n is_modulus begin else Great begin
 
--- the numbers behind the event of the byte at this place
+-- the numbers after the event of the byte at this offset
 abbrev pub numbers_after : Numbers → ℕ → Event → Numbers
 numbers_after (Great begin) at e = Great begin
 numbers_after (Fit n is_modulus begin) at (event.First d) = counted is_modulus at d

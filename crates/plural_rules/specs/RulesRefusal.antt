@@ -1,4 +1,4 @@
--- How a parser answers a text of rules: the rules, or why the text is refused.
+-- The result of the parser: the rules, or the reason for which the text is rejected.
 use Rattle.std.specs.Prelude.{◌≡◌, ℕ, ◌+◌, ◌-◌, ◌^◌, ◌<◌, ◌≤◌, true, false, List, ◌++◌, length, take, get_or, IfSome, Result, Ok, Err}
 use Rattle.std.specs.Char.{is_ascii_digit}
 use Rattle.std.specs.List.{AllByRecursion}
@@ -8,11 +8,11 @@ use Rattle.plural_rules.specs.declared.rules.Range.{Range}
 use Rattle.plural_rules.specs.Rules.{RelationParts, RuleParts}
 use Rattle.plural_rules.specs.RulesGrammar.{Grammar}
 
--- some rules begin with these bytes
+-- the bytes are a prefix of some rules
 abbrev pub CanGoOn : List ℕ → Type 0
 CanGoOn begin = (more : List ℕ) × (rules : List RuleParts) × Grammar (begin ++ more) rules
 
--- the text is no rules; some begin with the bytes in front of this place, but none with those and the byte there
+-- the text is not rules; the bytes before this offset are a prefix of some, but not together with the byte at it
 pub record NoRulesFrom (text : List ℕ) (at : ℕ) : Type 0 where
   pub within : at ≤ length text
   pub refused : (rules : List RuleParts) → ¬ Grammar text rules
@@ -23,7 +23,7 @@ pub record NoRulesFrom (text : List ℕ) (at : ℕ) : Type 0 where
 abbrev pub RangeFits : Range → Type 0
 RangeFits range = (range.low < 2 ^ 64) × (range.high < 2 ^ 64)
 
--- and a modulus of at most 10^18
+-- the same, and a modulus of at most 10^18
 abbrev pub RelationFits : RelationParts → Type 0
 RelationFits r = IfSome r.modulus (λ m. m ≤ 10 ^ 18) × AllByRecursion RangeFits r.ranges
 
@@ -37,20 +37,20 @@ RuleFits r = AllByRecursion ConjunctionFits r.alternatives
 abbrev pub Fits : List RuleParts → Type 0
 Fits rules = AllByRecursion RuleFits rules
 
--- some rules with no number too great begin with these bytes
+-- the bytes are a prefix of some rules whose numbers fit
 abbrev pub CanFit : List ℕ → Type 0
 CanFit begin = (more : List ℕ) × (rules : List RuleParts) × Grammar (begin ++ more) rules × Fits rules
 
--- each byte from this place up to that one is a digit
+-- the bytes at the offsets from `from` to below `end` are digits
 abbrev pub AreDigits : List ℕ → ℕ → ℕ → Type 0
 AreDigits text from end = (i : ℕ) → from ≤ i → i < end → is_ascii_digit (get_or text i 0) ≡ true
 
--- the byte in front of this place, if there is one, is no digit
+-- the byte before this offset, if any, is not a digit
 abbrev pub IsBehindNoDigit : List ℕ → ℕ → Type 0
 IsBehindNoDigit text at = 0 < at → is_ascii_digit (get_or text (at - 1) 0) ≡ false
 
--- a number of the rules is too great, and the first such number begins at this place: rules that fit begin with the
--- bytes in front of it, but none with those and the digits there, up to some place
+-- a number of the rules is too great, and the first such number is at this offset: the bytes before it are a prefix of
+-- rules that fit, but not together with the digits from it to below `end`
 pub record HasGreatNumber (text : List ℕ) (at : ℕ) : Type 0 where
   pub rules : List RuleParts
   pub grammar : Grammar text rules
@@ -62,7 +62,7 @@ pub record HasGreatNumber (text : List ℕ) (at : ℕ) : Type 0 where
   pub digits : (at < end) × (end ≤ length text) × AreDigits text at end
   pub dead : ¬ CanFit (take end text)
 
--- the rules that the grammar names, or why there are none; memory is wanted only for rules that fit
+-- the rules by the grammar, or the reason why there are none; out of memory only for rules that fit
 abbrev pub Answers : List ℕ → Result (List RuleParts) RulesError → Type 0
 Answers text (Ok rules) = Grammar text rules
 Answers text (Err (Syntax at)) = NoRulesFrom text at

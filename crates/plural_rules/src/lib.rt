@@ -1,6 +1,6 @@
-//! Plural rules as CLDR writes them, exact at any length: which category of words goes with a number as it is shown.
+//! CLDR plural rules, exact at any length: the plural category of a formatted number.
 //!
-//! In English `1` takes the word of the category `one`, and `1.0` that of `other`.
+//! In English `1` has the category `one`, and `1.0` the category `other`.
 #![tactic(auto)]
 
 mod operands;

@@ -1,4 +1,4 @@
-//! Rules from their text.
+//! The parser of rules.
 ghost use Rattle.std.specs.Prelude.{◌≡◌, IfOk, IfErr, List};
 ghost use Rattle.plural_rules.specs.Rules.{RuleParts};
 ghost use Rattle.plural_rules.specs.RulesReader.{AreNumbersOf};
@@ -15,7 +15,7 @@ use numbers::Numbers;
 use state::{Categories, State};
 use std::alloc::{AllocError, Global};
 
-/// The numbers of a text of rules. Err: where no rules can go on so.
+/// Checks the syntax of a text, and whether its numbers fit. Err: the offset at which it cannot continue as rules.
 fn check(text: &[u8]) -> Result<Numbers, usize>
     ensures ok { IfOk result (AreNumbersOf text.now) }
     ensures err { IfErr result (NoRulesFrom text.now) }
@@ -41,7 +41,7 @@ fn check(text: &[u8]) -> Result<Numbers, usize>
     }
 }
 
-/// The rules of a text with no number too great. Err: memory was refused.
+/// Builds the rules of a text whose numbers fit. Err: out of memory.
 fn build(alloc: Global, text: &[u8]) -> Result<PluralRules, AllocError>
     requires { (rules : List RuleParts) × Grammar text.now rules × Fits rules }
     ensures { IfOk result (Grammar text.now) }
@@ -64,32 +64,35 @@ fn build(alloc: Global, text: &[u8]) -> Result<PluralRules, AllocError>
     Ok(builder.into_rules())
 }
 
-/// Why a text of rules was refused.
+/// The reason for which a text of rules is rejected.
 ///
-/// `n =` is `Syntax { at: 3 }`. Not in the original.
+/// `n =` is `Syntax { at: 3 }`.
 #[derive(Clone, Copy, Debug, PartialEq)]
 pub enum RulesError {
-    /// The text is no rules: some begin with the bytes in front of this place, but none go on with the byte there,
-    /// or end there.
+    /// The text is not rules: `at` is the offset of the first byte that cannot follow those before it, or the length of
+    /// the text if it may continue as rules.
     Syntax { at: usize },
-    /// The text is rules, but has a number from 2 to the 64 on, or a modulus above 10 to the 18: the first such number
-    /// begins at this place.
+    /// The text is rules, but has a number of 2^64 or more, or a modulus above 10^18: `at` is the offset of the first
+    /// such number.
     Limit { at: usize },
-    /// Memory for the rules was refused.
+    /// Out of memory.
     Memory,
 }
 
 impl PluralRules {
-    /// Reads rules as CLDR writes them: a category, a colon and a condition, with semicolons between the rules.
+    /// Parses rules in CLDR's syntax: a category, a colon and a condition, with semicolons between the rules.
     ///
-    /// `one: i = 1 and v = 0; other: @integer 0, 2~16` are two rules. What stands from an `@` to the next semicolon is
-    /// not looked at. Err: `Syntax` where the text is no rules, with the place of the first byte with which none can go
-    /// on, or the length where the text may go on to be some; `Limit` where a number is from 2 to the 64 on, or a
-    /// modulus above 10 to the 18, with the place where the first such number begins; `Memory` where memory was
-    /// refused, and then the text is rules with no such number. Not in the original.
+    /// `one: i = 1 and v = 0; other: @integer 0, 2~16` are two rules. Samples, from an `@` to the next semicolon, are
+    /// skipped.
+    ///
+    /// # Errors
+    ///
+    /// - `Syntax`: the text is not rules.
+    /// - `Limit`: it is, but a number is too great.
+    /// - `Memory`: out of memory; the text is rules whose numbers fit.
     pub fn try_from_utf8(alloc: Global, text: &[u8]) -> Result<Self, RulesError>
         ensures answer { Answers text.now result }
-        // No text has two meanings.
+        // The grammar is unambiguous.
         ensures unique { (first second : List RuleParts) → Grammar text.now first → Grammar text.now second
             → first ≡ second }
     {
@@ -106,7 +109,7 @@ impl PluralRules {
         }
     }
 
-    /// Reads rules as `try_from_utf8` does. Not in the original.
+    /// Parses rules as `try_from_utf8` does.
     pub fn try_from_str(alloc: Global, text: &str) -> Result<Self, RulesError>
         ensures { Answers text.now result }
     {

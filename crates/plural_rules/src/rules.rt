@@ -1,4 +1,4 @@
-//! Rules, as they are kept: a list of categories, each with its condition.
+//! Plural rules as a value: a list of categories, each with its condition.
 ghost use Rattle.std.specs.Prelude.{◌≡◌, ◌<◌, ◌≤◌, ◌^◌, IfSome, IfNone, map};
 ghost use Rattle.plural_rules.specs.Rules.{name_of, relation, rule};
 
@@ -6,28 +6,27 @@ mod category;
 
 use std::marker::Model;
 
-/// A category of words that a language keeps apart by the number beside them.
+/// A plural category, by which a language selects the words for a number.
 ///
-/// The six names are those of Unicode Technical Standard 35; what a category stands for is up to the language. Not in
-/// the original.
+/// The six names are those of Unicode Technical Standard 35; each language defines what they mean.
 #[derive(Clone, Copy, Debug, PartialEq, Eq)]
 pub enum PluralCategory {
-    /// As in Arabic, beside `0`.
+    /// In Arabic, the category of `0`.
     Zero,
-    /// As in English, beside `1`.
+    /// In English, the category of `1`.
     One,
-    /// As in Arabic, beside `2`.
+    /// In Arabic, the category of `2`.
     Two,
-    /// As in Russian, beside `2`.
+    /// In Russian, the category of `2`.
     Few,
-    /// As in Russian, beside `5`.
+    /// In Russian, the category of `5`.
     Many,
-    /// What is left, and the only one that every language has.
+    /// All other numbers; the only category that every language has.
     Other,
 }
 
 impl PluralCategory {
-    /// Gives the name of the category, as rules write it: `few`. Not in the original.
+    /// Returns the name of the category in the syntax of rules: `few`.
     pub fn name(self) -> &'static str
         ensures { result.now ≡ name_of self }
     {
@@ -42,26 +41,26 @@ impl PluralCategory {
     }
 }
 
-/// What a relation looks at of a number.
+/// An operand of a number, which a relation compares.
 #[derive(Clone, Copy, Debug, PartialEq, Eq)]
 pub enum Operand {
-    /// The number, where it is an integer.
+    /// The number itself, if it is an integer.
     N,
-    /// The integer in front of the dot.
+    /// The integer digits, as an integer.
     I,
-    /// How many digits are shown behind the dot.
+    /// The number of fraction digits.
     V,
-    /// The same without zeros at the end.
+    /// The number of fraction digits without trailing zeros.
     W,
-    /// The digits behind the dot, as an integer.
+    /// The fraction digits, as an integer.
     F,
-    /// The same without zeros at the end.
+    /// The fraction digits without trailing zeros, as an integer.
     T,
     /// The exponent of a compact decimal; rules also call it `e`.
     C,
 }
 
-/// Integers in a row, both ends included: `2..4`. None of them where the first is above the last.
+/// A range of integers, both ends included: `2..4`. It is empty if the first is above the last.
 #[derive(Clone, Copy, Debug, PartialEq, Eq)]
 pub struct Range {
     /// The first.
@@ -73,7 +72,7 @@ pub struct Range {
 /// The greatest modulus.
 pub const GREATEST_MODULUS: u64 = 1_000_000_000_000_000_000;
 
-/// What an operand is divided by, from 1 to 10 to the 18.
+/// A modulus, from 1 to 10^18.
 #[derive(Clone, Copy, Debug)]
 pub struct Modulus {
     divisor: u64,
@@ -92,7 +91,7 @@ impl Model for Modulus {
 }
 
 impl Modulus {
-    /// Takes a divisor from 1 to 10 to the 18. None for each other one.
+    /// Makes a modulus of a divisor from 1 to 10^18; `None` for every other divisor.
     pub fn new(divisor: u64) -> Option<Modulus>
         ensures some { IfSome result (λ modulus. modulus ≡ divisor) }
         ensures in_range { IfSome result (λ modulus. (0 < divisor) × (divisor ≤ 10 ^ 18)) }
@@ -105,7 +104,7 @@ impl Modulus {
         }
     }
 
-    /// Gives the divisor.
+    /// Returns the divisor.
     pub fn divisor(self) -> u64
         ensures value { result ≡ self }
         ensures some { 0 < result }
@@ -115,7 +114,7 @@ impl Modulus {
     }
 }
 
-/// That an operand, or its remainder by a modulus, lies in one of some ranges, or in none of them: `i % 10 = 2..4`.
+/// A relation: an operand, or its remainder by a modulus, is in one of the ranges, or in none of them: `i % 10 = 2..4`.
 #[derive(Debug)]
 pub struct Relation {
     operand: Operand,
@@ -124,7 +123,7 @@ pub struct Relation {
     ranges: Vec<Range>,
 }
 
-// Written out, since a derived drop is proved once more in each crate above.
+// Not derived, since a derived drop is proved again in each dependent crate.
 impl Drop for Relation {
     fn drop(self) {
         let Relation {
@@ -146,7 +145,7 @@ impl Model for Relation {
 }
 
 impl Relation {
-    /// Joins the parts of a relation; `is_equal` is true of `=`, and false of `!=`.
+    /// Makes a relation of its parts; `is_equal` is true for `=`, and false for `!=`.
     pub fn new(
         operand: Operand,
         modulus: Option<Modulus>,
@@ -164,14 +163,14 @@ impl Relation {
     }
 }
 
-/// A category and its condition: in one of the alternatives each relation holds. With no alternatives it never holds.
+/// A category and its condition: all relations of one alternative hold. With no alternatives it never holds.
 #[derive(Debug)]
 pub struct Rule {
     category: PluralCategory,
     alternatives: Vec<Vec<Relation>>,
 }
 
-// Written out, since a derived drop is proved once more in each crate above.
+// Not derived, since a derived drop is proved again in each dependent crate.
 impl Drop for Rule {
     fn drop(self) {
         let Rule {
@@ -192,7 +191,7 @@ impl Model for Rule {
 }
 
 impl Rule {
-    /// Joins a category and its condition.
+    /// Makes a rule of a category and its condition.
     pub fn new(category: PluralCategory, alternatives: Vec<Vec<Relation>>) -> Self
         ensures { result ≡ rule category (map (λ relations. relations.items) alternatives.items) }
     {
@@ -203,9 +202,9 @@ impl Rule {
     }
 }
 
-/// Plural rules: some categories in a row, each with its condition.
+/// Plural rules: categories in order, each with its condition.
 ///
-/// Contracts see the list of the rules. Not in the original.
+/// Contracts see the list of the rules.
 #[derive(Debug)]
 pub struct PluralRules {
     rules: Vec<Rule>,

@@ -7,37 +7,37 @@ use Rattle.decimal_unsigned.specs.declared.decimal.TheConstants.{DIGITS_IN_PLACE
 use Rattle.uses.specs.declared.bill.BillError.{BillError}
 use Rattle.uses.specs.declared.bill.BillError.TheVariants.{NoPart, PartOfACent, TooGreat, Memory}
 
--- what a cent counts, in units; negsuc 1 is -2
+-- the weight of a cent; negsuc 1 is -2
 abbrev pub cent : ℕ
 cent = weight (negsuc 1)
 
--- so many cents with two decimals
+-- an amount of cents, with two fraction digits
 abbrev pub cents_value : ℕ → Unsigned
 cents_value cents = multiplied (integer_value cents) (negsuc 1)
 
--- the cents of the part with this number, from 0 on: the first parts get the cents that are left over
+-- the cents of a part, 0-based: the first parts get the cents of the remainder
 abbrev pub part_cents : ℕ → ℕ → ℕ → ℕ
 part_cents total count part = if nat_lt part (total % count) then total / count + 1 else total / count
 
--- the first so many parts
+-- the first parts, in order
 abbrev pub parts_of : ℕ → ℕ → ℕ → List Unsigned
 parts_of total count zero = []
 parts_of total count (suc part) = parts_of total count part ++ (cents_value (part_cents total count part) ∷ [])
 
--- so many parts of whole cents, no two of which differ by more than a cent; they add up to the amount
+-- `count` parts of whole cents, no two of which differ by more than a cent, and whose sum is the amount
 pub record IsSplit (amount : Unsigned) (count : ℕ) (parts : List Unsigned) : Type 0 where
   pub total : ℕ
   pub whole : amount.number ≡ total * cent
   pub each : parts ≡ parts_of total count count
   pub adds_up : sum_by (λ v. v.number) parts ≡ amount.number
 
--- so many whole cents, below 2 to the 64
+-- a whole number of cents below 2^64
 abbrev pub IsWholeCents : Unsigned → Type 0
 IsWholeCents amount = (total : ℕ) × (total < 2 ^ 64) × (amount.number ≡ total * cent)
 
--- why an amount is not split, the first of these that holds: there is no part; the amount shows a digit above the
--- magnitude 32765; it has a part of a cent; it is 2 to the 64 cents or more. Out of memory: for a copy of an amount
--- with more digits than are stored in place, or for parts of whole cents
+-- the error of an amount that is not split, the first that applies: there is no part; the amount shows a digit above
+-- magnitude 32765; it has a fraction of a cent; it is 2^64 cents or more. Out of memory: for a copy of an amount with
+-- more than `DIGITS_IN_PLACE` digits, or for the parts of whole cents
 abbrev pub Refuses : BillError → Unsigned → ℕ → Type 0
 Refuses NoPart amount count = count ≡ 0
 Refuses PartOfACent amount count = (0 < count) × StaysInLimits amount (pos 2) × (¬ (amount.number % cent ≡ 0))

@@ -1,4 +1,4 @@
--- An amount that can be paid in coins.
+-- An amount payable in coins.
 use Rattle.std.specs.Prelude.{◌≡◌, ℕ, ◌*◌, negsuc}
 use Rattle.std.specs.Int.{int_max}
 use Rattle.decimal_digits.specs.Number.{weight, first}
@@ -7,9 +7,9 @@ use Rattle.decimal_digits.specs.declared.rounding.UnsignedRoundingMode.TheVarian
 use Rattle.decimal_unsigned.specs.Unsigned.{Unsigned, integer_value}
 use Rattle.decimal_unsigned.specs.Edits.{multiplied}
 
--- the value is the multiple of five cents that is nearest to the hundredths of cents, of two that are as near the one
--- with an even factor, and it shows two decimals, and in front of the dot what the exact amount shows, or more where
--- its own first digit is higher; negsuc 1 is -2, where a cent stands, and negsuc 3 is -4
+-- the value is the multiple of five cents nearest to the hundredths of cents, ties to the even factor; it has two
+-- fraction digits, and the integer digits of the exact amount, or more if its own first digit is higher; negsuc 1 is
+-- -2, the magnitude of a cent, and negsuc 3 is -4
 pub record IsCash (hundredths : ℕ) (v : Unsigned) : Type 0 where
   pub nearest : Named HalfEven (5 * weight (negsuc 1)) (hundredths * weight (negsuc 3)) v.number
   pub decimals : v.lo ≡ negsuc 1

@@ -1,4 +1,4 @@
--- A measured value with at most so many decimals.
+-- A measured value with a limited number of fraction digits.
 use Rattle.std.specs.Prelude.{◌≡◌, ◌*◌, ◌≤◌, if◌then◌else◌, Option, Some, ℤ, int_lt, ◌≤ℤ◌}
 use Rattle.std.specs.Int.{abs_diff}
 use Rattle.decimal_digits.specs.Number.{weight}
@@ -8,13 +8,13 @@ use Rattle.fixed_decimal.specs.Decimal.{Decimal}
 use Rattle.fixed_decimal.specs.SignedRounding.{rounded}
 use Rattle.fixed_decimal.specs.declared.rounding.SignedRoundingMode.TheVariants.{Unsigned}
 
--- rounded half-even at a position where digits are shown below it, and as it is where none are
+-- rounded half-even at a position if digits are shown below it, and unchanged otherwise
 abbrev pub shortened : Decimal → ℤ → Option Decimal
 shortened v position =
     if int_lt v.absolute.lo position then rounded v position (Unsigned HalfEven) MultiplesOf1 else Some v
 
--- no digit is shown below the position, and the number is at most half a unit there from the measured one, on the same
--- side of 0
+-- no digit is shown below the position, the number differs from the measured one by at most half a unit there, and the
+-- sign is the same
 pub record IsNear (measured : Decimal) (position : ℤ) (v : Decimal) : Type 0 where
   pub shown : position ≤ℤ v.absolute.lo
   pub near : 2 * abs_diff measured.absolute.number v.absolute.number ≤ weight position

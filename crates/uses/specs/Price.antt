@@ -1,4 +1,4 @@
--- The price that is printed.
+-- The printed price.
 use Rattle.std.specs.Prelude.{ℕ, ◌*◌, Option, option_and_then, negsuc}
 use Rattle.decimal_digits.specs.declared.rounding.RoundingIncrement.TheVariants.{MultiplesOf1}
 use Rattle.decimal_digits.specs.declared.rounding.UnsignedRoundingMode.TheVariants.{HalfEven}
@@ -6,7 +6,7 @@ use Rattle.decimal_unsigned.specs.Unsigned.{Unsigned, integer_value}
 use Rattle.decimal_unsigned.specs.Edits.{multiplied_pow10}
 use Rattle.decimal_unsigned.specs.Rounded.{rounded}
 
--- so many percent of so many cents, in whole units of money: the product over 10 to the 4; negsuc 3 is -4
+-- a percentage of a number of cents, in units of money: the product over 10^4; negsuc 3 is -4
 abbrev pub exact_price : ℕ → ℕ → Option Unsigned
 exact_price cents percent = multiplied_pow10 (integer_value (cents * percent)) (negsuc 3)
 

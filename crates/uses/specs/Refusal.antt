@@ -1,4 +1,4 @@
--- What is written of a run.
+-- What is written for a run.
 use Rattle.std.specs.Prelude.{◌≡◌, ◌≢◌, ℕ, ◌⊎◌, List, Ok}
 use Rattle.decimal_unsigned.specs.declared.decimal.TheConstants.{DIGITS_IN_PLACE}
 use Rattle.fixed_decimal.specs.Outcome.{outcome}
@@ -12,8 +12,8 @@ use Rattle.fixed_decimal.specs.declared.runs.RunError.TheVariants.{Sink}
 abbrev pub IsRefused : List ℕ → List Call → Type 0
 IsRefused start calls = (e : RunError) × RunRefuses DIGITS_IN_PLACE e start calls × (e ≢ Sink)
 
--- the outcome's text; or the sentence of the outcome's refusal, which is that of the first call that fails; or that the
--- run is out of memory at the start or at a call that it reaches, so each call before that one succeeds
+-- the text of the outcome; or the sentence of its error, which is that of the first call that fails; or of an error
+-- that the run is out of memory at the start or at a call that it reaches, so each call before that one succeeds
 abbrev pub IsTold : List ℕ → List Call → List ℕ → Type 0
 IsTold start calls told =
     (outcome start calls ≡ Ok told)

@@ -1,24 +1,24 @@
-//! An amount split into parts of whole cents that add up to it.
+//! An amount split into parts of whole cents whose sum it is.
 ghost use Rattle.std.specs.Prelude.{◌≡◌, ℕ, ◌<◌, ◌*◌, IfOk, IfErr};
 ghost use Rattle.uses.specs.Bill.{cent, cents_value, IsSplit, Refuses};
 
 use fixed_decimal::{IntegerError, UnsignedDecimal};
 use std::alloc::{AllocError, Global};
 
-/// Why an amount was not split.
+/// The error of an amount that is not split.
 #[derive(Clone, Copy, Debug, PartialEq, Eq)]
 pub enum BillError {
     /// There is no part to split it into.
     NoPart,
     /// The amount has a nonzero digit below the cents.
     PartOfACent,
-    /// The amount is 2 to the 64 cents or more, or shows a digit above the magnitude 32765.
+    /// The amount is 2^64 cents or more, or shows a digit above magnitude 32765.
     TooGreat,
-    /// Memory for a copy of the amount or for the parts was refused.
+    /// Out of memory for a copy of the amount or for the parts.
     Memory,
 }
 
-/// The cents that an amount is.
+/// Returns an amount as a number of cents.
 fn total_cents(amount: &UnsignedDecimal) -> Result<u64, BillError>
     ensures ok { IfOk result (λ total. amount.now.number ≡ total * cent) }
     ensures err { IfErr result (λ e. (count : ℕ) → 0 < count → Refuses e amount.now count) }
@@ -36,24 +36,24 @@ fn total_cents(amount: &UnsignedDecimal) -> Result<u64, BillError>
     }
 }
 
-/// So many cents with two decimals.
+/// Returns an amount of cents, with two fraction digits.
 fn cents_value(alloc: Global, cents: u64) -> Result<UnsignedDecimal, AllocError>
     ensures { IfOk result (λ v. v ≡ cents_value cents) }
 {
     let mut value = UnsignedDecimal::try_from_u64(alloc, cents)?;
-    // So few digits meet no limit.
+    // At most 20 digits are within the limits.
     value.multiply_pow10(-2).unwrap();
     Ok(value)
 }
 
-/// Splits an amount into the given number of parts of whole cents that add up to it, and differ by at most a cent.
+/// Splits an amount into `count` parts of whole cents whose sum it is, and which differ by at most a cent.
 ///
 /// `100.00` in three parts is `33.34`, `33.33` and `33.33`.
 ///
 /// # Errors
 ///
-/// The first that applies: `NoPart`; `Memory` for a copy of the amount; `TooGreat` for a digit above the magnitude
-/// 32765; `PartOfACent`; `TooGreat` for 2 to the 64 cents or more; `Memory` for the parts.
+/// The first that applies: `NoPart`; `Memory` for a copy of the amount; `TooGreat` for a digit above magnitude 32765;
+/// `PartOfACent`; `TooGreat` for 2^64 cents or more; `Memory` for the parts.
 pub fn split_bill(
     alloc: Global,
     amount: &UnsignedDecimal,

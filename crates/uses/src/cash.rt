@@ -1,4 +1,4 @@
-//! So many percent of an amount, rounded to what coins can pay.
+//! A percentage of an amount, rounded to a multiple of five cents.
 ghost use Rattle.std.specs.Prelude.{◌*◌, ◌<◌, IfOk, IfErr};
 ghost use Rattle.decimal_digits.specs.Number.{size};
 ghost use Rattle.decimal_unsigned.specs.Unsigned.{integer_value};
@@ -7,17 +7,17 @@ ghost use Rattle.uses.specs.Cash.{IsCash};
 use fixed_decimal::{DIGITS_IN_PLACE, RoundingIncrement, UnsignedDecimal, UnsignedRoundingMode};
 use std::alloc::{AllocError, Global};
 
-/// Gives so many percent of a number of cents, rounded half-even to a multiple of five cents.
+/// Returns `percent` percent of a number of cents, rounded half-even to a multiple of five cents.
 ///
-/// 1999 cents at 107 percent are `21.40`. Err: memory was refused, which is asked for only where the product of cents
-/// and percent has more than `DIGITS_IN_PLACE` digits from the first to the last that is not 0.
+/// 1999 cents at 107 percent are `21.40`. Err: out of memory, only if the product of cents and percent has more than
+/// `DIGITS_IN_PLACE` digits from the first to the last nonzero one.
 pub fn cash_amount(alloc: Global, cents: u64, percent: u32) -> Result<UnsignedDecimal, AllocError>
     ensures cash { IfOk result (λ v. IsCash (cents * percent) v) }
     ensures memory { IfErr result (λ _. DIGITS_IN_PLACE < size (integer_value (cents * percent)).number) }
 {
     let product = cents as u128 * percent as u128;
     let mut amount = UnsignedDecimal::try_from_u128(alloc, product)?;
-    // So few digits meet no limit, and no rounding by 5 wants memory.
+    // At most 29 digits are within the limits, and rounding to multiples of 5 does not allocate.
     amount.multiply_pow10(-4).unwrap();
     amount
         .round_with_mode_and_increment(

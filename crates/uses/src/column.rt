@@ -1,4 +1,4 @@
-//! A column of amounts, checked and brought to normal form.
+//! A column of amounts, parsed and written in normal form.
 ghost use Rattle.std.specs.Prelude.{◌≡◌, Err, OnOk, IfErr, IsOkAnd, true};
 ghost use Rattle.std.specs.Io.KnownBytes.{Appends};
 ghost use Rattle.decimal_digits.specs.Text.{AppendsPrefix};
@@ -8,18 +8,18 @@ ghost use Rattle.uses.specs.Column.{normal_form, column_text, IsToldByForm, Amou
 use fixed_decimal::{ParseError, Sink, UnsignedDecimal, Writeable};
 use std::alloc::Global;
 
-/// Why an amount was not written.
+/// The error of an amount that is not written.
 #[derive(Debug, Drop, PartialEq)]
 pub enum ColumnError {
-    /// The text was refused so. Nothing of it was written.
+    /// The text cannot be parsed. Nothing of it was written.
     Amount(ParseError),
-    /// The sink refused a byte, now or before, and has taken a beginning of what was to be written.
+    /// The sink failed, now or before, and has a prefix of the text.
     Sink,
 }
 
-/// Writes an amount in its normal form, with no zero that can go: `007.50` as `7.5`.
+/// Writes an amount in normal form, without leading zeros and trailing zeros of the fraction: `007.50` as `7.5`.
 ///
-/// Another amount is the same number exactly if it has the same normal form. Err: as `ColumnError` says.
+/// Two amounts are the same number exactly if they have the same normal form. Errors: see `ColumnError`.
 pub fn write_normal_form<W: Sink>(
     alloc: Global,
     amount: &str,
@@ -46,10 +46,10 @@ pub fn write_normal_form<W: Sink>(
     }
 }
 
-/// Writes amounts in their normal form, a line each, up to the first that is refused.
+/// Writes amounts in normal form, a line each, up to the first that is rejected.
 ///
-/// `007.50` and `1e2` are written as `7.5` and `100`. Err: the first amount that was refused, and the lines in front of
-/// it were written; or a fault of the sink, which has taken a beginning of the lines.
+/// `007.50` and `1e2` are written as `7.5` and `100`. Err: the first amount is rejected, and the lines before it were
+/// written; or the sink failed, and has a prefix of the lines.
 pub fn write_column<W: Sink>(
     alloc: Global,
     amounts: &[&str],

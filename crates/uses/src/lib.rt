@@ -1,16 +1,16 @@
 //! Six small callers of `fixed_decimal` to copy from, one to a module.
 //!
-//! Each has a clause on its whole result. The proofs know of the library its public clauses alone, and cite no lemma
-//! but those of `fixed_decimal/proofs/Calling.antt` and of the standard library.
+//! Each has a clause on its whole result. The proofs use only the public contracts of the library, and of its lemmas
+//! those of `fixed_decimal/proofs/Calling.antt`.
 //!
 //! | Module | Use |
 //! |---|---|
-//! | `price` | so many percent of an amount, printed |
-//! | `cash` | so many percent of an amount, rounded to what coins can pay |
-//! | `bill` | an amount split into parts of whole cents that add up to it |
-//! | `measurement` | a measured value with at most so many decimals |
-//! | `column` | a column of amounts, checked and brought to normal form |
-//! | `refusal` | a run of calls that tells a person why it is refused |
+//! | `price` | a percentage of an amount, printed |
+//! | `cash` | a percentage of an amount, rounded to a multiple of five cents |
+//! | `bill` | an amount split into parts of whole cents whose sum it is |
+//! | `measurement` | a measured value with a limited number of fraction digits |
+//! | `column` | a column of amounts, parsed and written in normal form |
+//! | `refusal` | a run of calls that reports its first error in words |
 #![tactic(auto)]
 
 pub mod bill;

@@ -1,29 +1,28 @@
-//! A measured value with at most so many decimals.
+//! A measured value with a limited number of fraction digits.
 ghost use Rattle.std.specs.Prelude.{◌≡◌, pos, neg_ℤ, ◌<ℤ◌, int_lt, IsOk, OnOk};
 ghost use Rattle.decimal_unsigned.specs.Rounded.{AnswersInPlace};
 ghost use Rattle.uses.specs.Measurement.{shortened, IsNear};
 
 use fixed_decimal::{Decimal, LimitError};
 
-/// The position behind so many decimals.
+/// Returns the position after `decimals` fraction digits.
 fn position_of(decimals: u8) -> i16
     ensures { result ≡ neg_ℤ (pos decimals) }
 {
     -(decimals as i16)
 }
 
-/// Tells whether a digit is shown below a position.
+/// Whether a digit is shown below a position.
 fn shows_more(value: &Decimal, position: i16) -> bool
     ensures { result ≡ int_lt value.now.absolute.lo position }
 {
     *value.magnitude_range().start() < position
 }
 
-/// Shows a measured value with at most so many decimals: rounds it half-even where it has more.
+/// Rounds a measured value half-even to at most `decimals` fraction digits.
 ///
-/// With two decimals `-0.125` becomes `-0.12`, and `0.5` and `0.50` stay as they were measured. Err: the rounded number
-/// is 10 to the 32768 or more, which it is of none that shows no digit at the magnitude 32767; the value stays as it
-/// was.
+/// With two, `-0.125` becomes `-0.12`, and `0.5` and `0.50` are unchanged. Err: the rounded number is 10^32768 or more,
+/// which is possible only if the value shows a digit at magnitude 32767; the value is unchanged.
 pub fn limit_decimals(value: &mut Decimal, decimals: u8) -> Result<(), LimitError>
     ensures answers { AnswersInPlace
         (λ made. shortened value.old (neg_ℤ (pos decimals)) ≡ made) value.old value.new result }

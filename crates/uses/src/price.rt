@@ -1,4 +1,4 @@
-//! So many percent of an amount, printed.
+//! A percentage of an amount, printed.
 ghost use Rattle.std.specs.Prelude.{◌≡◌, ◌<◌, ◌*◌, Err, OnOk, OnErr, IsSomeAnd, codes, true};
 ghost use Rattle.std.specs.Io.KnownBytes.{Appends};
 ghost use Rattle.decimal_digits.specs.Number.{size};
@@ -10,21 +10,20 @@ ghost use Rattle.uses.specs.Price.{price};
 use fixed_decimal::{DIGITS_IN_PLACE, Sink, SinkFault, UnsignedDecimal, Writeable};
 use std::alloc::Global;
 
-/// Why a price was not printed.
+/// The error of a price that is not printed.
 #[derive(Debug, Drop, PartialEq)]
 pub enum PriceError {
-    /// Memory for the digits was refused. Nothing was printed.
+    /// Out of memory for the digits. Nothing was printed.
     Memory,
-    /// The sink refused a byte, and has taken a beginning of the price.
+    /// The sink failed, now or before, and has a prefix of the price.
     Sink,
 }
 
-/// Prints so many percent of a number of cents, rounded half-even to a cent.
+/// Prints `percent` percent of a number of cents, rounded half-even to a cent.
 ///
-/// 1250 cents at 5 percent print `0.62`. Err: `Memory` where memory was refused, which is asked for only where the
-/// product of cents and percent has more than `DIGITS_IN_PLACE` digits from the first to the last that is not 0, and
-/// then nothing is printed; `Sink` where the sink refused a byte, now or before. The limits of a decimal refuse no
-/// price: the product of 64 bits of cents and 32 bits of percent has at most 29 digits.
+/// 1250 cents at 5 percent print `0.62`. Err: `Memory` only if the product of cents and percent has more than
+/// `DIGITS_IN_PLACE` digits from the first to the last nonzero one; `Sink` if the sink failed. No price exceeds the
+/// limits of a decimal: the product of 64 bits of cents and 32 bits of percent has at most 29 digits.
 pub fn write_price<W: Sink>(
     alloc: Global,
     cents: u64,
@@ -45,7 +44,7 @@ pub fn write_price<W: Sink>(
     let Ok(mut value) = UnsignedDecimal::try_from_u128(alloc, product) else {
         return Err(PriceError::Memory);
     };
-    // So few digits meet no limit.
+    // At most 29 digits are within the limits.
     value.multiply_pow10(-4).unwrap();
     value.round(-2).unwrap();
     match value.write_to(sink) {
@@ -56,14 +55,14 @@ pub fn write_price<W: Sink>(
 
 /// Prints the fee for shipping, `4.90`.
 ///
-/// Err: the sink refused a byte, and has taken a beginning of it.
+/// Err: the sink failed, and has a prefix of the text.
 pub fn write_shipping_fee<W: Sink>(alloc: Global, sink: &mut W) -> Result<(), SinkFault>
     ensures written { OnOk result (Appends (W.contents sink.old) (W.contents sink.new) (codes "4.90")) }
     ensures prefix { OnErr result (AppendsPrefix (W.contents sink.old) (W.contents sink.new) (codes "4.90")) }
     ensures failed { OnErr result (W.has_failed sink.new ≡ true) }
 {
     let mut fee = UnsignedDecimal::from_u16(alloc, 490);
-    // So few digits meet no limit.
+    // Three digits are within the limits.
     fee.multiply_pow10(-2).unwrap();
     fee.write_to(sink)
 }

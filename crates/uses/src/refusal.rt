@@ -8,12 +8,12 @@ ghost use Rattle.uses.specs.Refusal.{IsRefused, IsTold};
 use fixed_decimal::{Call, RunError, Sink, SinkFault, run};
 use std::alloc::Global;
 
-/// Why nothing, or not all, was written.
+/// The error of a run of which nothing, or not all, was written.
 #[derive(Clone, Copy, Debug, PartialEq, Eq)]
 pub enum TellError {
     /// Out of memory for the sentence. Nothing was written.
     Memory,
-    /// The sink failed, now or before, and has taken a prefix of what was to be written.
+    /// The sink failed, now or before, and has a prefix of the text.
     Sink,
 }
 
@@ -34,14 +34,14 @@ fn tell<W: Sink>(alloc: Global, error: &RunError, sink: &mut W) -> Result<(), Te
     }
 }
 
-/// Makes a run, and writes its text, or the sentence of the first call that fails.
+/// Makes a run, and writes its text, or the sentence of its error.
 ///
 /// From `1e5` the call `MultiplyPow10(-2)` writes `1000.00`, and from `1,5` any calls write
 /// `Start: Failed to parse the input string`.
 ///
 /// # Errors
 ///
-/// As `TellError` says; `Memory` only where the run returns an error.
+/// See `TellError`; `Memory` only if the run returns an error.
 pub fn write_or_tell<W: Sink>(
     alloc: Global,
     start: &[u8],

@@ -7,7 +7,7 @@ use fixed_decimal::UnsignedRoundingMode::{Expand, HalfEven, HalfExpand, HalfTrun
 use fixed_decimal::{Call, Sign, SignDisplay};
 use std::alloc::Global;
 
-/// What a word names in a table.
+/// Returns the value of a word in a table.
 pub fn named<T: Copy>(table: &[(&str, T)], word: &str) -> Option<T> {
     for (name, value) in table {
         if *name == word {
@@ -81,7 +81,7 @@ const NAMES: &[(&str, Name)] = &[
     ("concat", Name::Concat),
 ];
 
-/// The rounding of a position, a mode and an increment, separated by colons.
+/// Parses a position, a mode and an increment, separated by colons.
 fn rounding<'a>(words: &str) -> Option<Call<'a>> {
     let (position, words) = words.split_once(':')?;
     let (mode, increment) = words.split_once(':')?;
@@ -92,7 +92,7 @@ fn rounding<'a>(words: &str) -> Option<Call<'a>> {
     ))
 }
 
-/// The call of a name and an argument.
+/// Returns the call with a name and an argument.
 fn call(name: Name, argument: &str) -> Option<Call<'_>> {
     match name {
         Name::TrimStart => Some(Call::TrimStart),
@@ -109,7 +109,7 @@ fn call(name: Name, argument: &str) -> Option<Call<'_>> {
     }
 }
 
-/// The call that a word names, and whether it is rejected: then a `!` follows it.
+/// Parses a word as a call, and whether it is rejected, for which a `!` follows it.
 pub fn step(word: &str) -> Option<(Call<'_>, bool)> {
     let word = word.trim_start();
     let (word, is_rejected) = match word.strip_suffix('!') {
@@ -120,7 +120,7 @@ pub fn step(word: &str) -> Option<(Call<'_>, bool)> {
     Some((call(named(NAMES, name)?, argument)?, is_rejected))
 }
 
-/// The calls that words name.
+/// Parses words as calls.
 pub fn calls(alloc: Global, words: &str) -> Option<Vec<Call<'_>>> {
     let mut calls = Vec::new(alloc);
     if words.is_empty() {

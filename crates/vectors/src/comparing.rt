@@ -32,7 +32,7 @@ fn signed_order<D: DigitStore, E: DigitStore>(
     Some(left.compare(&right))
 }
 
-/// Whether the values of two texts over two stores have an order, and in turn the reverse one.
+/// Whether the values of two texts over two stores have an order, and the reverse one when exchanged.
 fn have_order<D: DigitStore, E: DigitStore>(
     alloc: Global,
     (left, right): (&str, &str),

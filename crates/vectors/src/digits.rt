@@ -1,10 +1,10 @@
-//! The digits of values, and the integers that they are.
+//! The digits of values, and their conversion to integers.
 use crate::edited::has_sign;
 use fixed_decimal::{DigitList, DigitStore, IntegerError, PackedDigits, Signed, UnsignedOver};
 use std::alloc::Global;
 use std::str::FromStr;
 
-/// Whether a number has these digits from a magnitude down.
+/// Whether a number has these digits, downward from a magnitude.
 fn has_each<D: DigitStore>(value: &UnsignedOver<D>, highest: i16, digits: &str) -> bool {
     let mut magnitude = highest;
     for digit in digits.as_bytes() {
@@ -16,7 +16,7 @@ fn has_each<D: DigitStore>(value: &UnsignedOver<D>, highest: i16, digits: &str) 
     true
 }
 
-/// Whether a number has these digits from a magnitude down, one by one and written at once.
+/// Whether a number has these digits, downward from a magnitude, one by one and written by one call.
 fn has_digits_over<D: DigitStore>(alloc: Global, text: &str, highest: i16, digits: &str) -> bool {
     if digits.len() > (i32::from(highest) + 32769) as usize {
         return false;
@@ -42,7 +42,7 @@ pub fn has_digits(alloc: Global, text: &str, magnitude: &str, digits: &str) -> b
     }
 }
 
-/// Whether an integer, or the error in its place, is the one that a word names.
+/// Whether an integer or an error is the one that a word names.
 fn is_named<T: FromStr + PartialEq + Drop>(found: Result<T, IntegerError>, word: &str) -> bool
 where
     T::Err: Drop,
@@ -58,7 +58,7 @@ where
 /// Words of integers: of 64 bits, without a sign and with one, and of 128.
 type Words<'a> = ((&'a str, &'a str), (&'a str, &'a str));
 
-/// Whether the number of a text is these integers without a sign.
+/// Whether the number of a text converts to these unsigned integers.
 fn has_unsigned<D: DigitStore>(alloc: Global, text: &str, (narrow, wide): Words<'_>) -> bool {
     match UnsignedOver::<D>::try_from_str(alloc, text) {
         Ok(value) => {
@@ -68,7 +68,7 @@ fn has_unsigned<D: DigitStore>(alloc: Global, text: &str, (narrow, wide): Words<
     }
 }
 
-/// Whether the decimal of a text is these integers.
+/// Whether the decimal of a text converts to these integers.
 fn has_signed<D: DigitStore>(alloc: Global, text: &str, (narrow, wide): Words<'_>) -> bool {
     match Signed::<UnsignedOver<D>>::try_from_str(alloc, text) {
         Ok(value) => {
@@ -89,7 +89,7 @@ fn split(words: &str) -> Option<Words<'_>> {
     Some(((first, second), (third, fourth)))
 }
 
-/// Whether the number of a text is the integers of words, over each store.
+/// Whether the number of a text converts to the integers of words, over each store.
 pub fn has_integers(alloc: Global, text: &str, words: &str) -> bool {
     match split(words) {
         Some(words) => {

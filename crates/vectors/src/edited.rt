@@ -13,7 +13,7 @@ use decimal_unsigned::decimal::UnsignedOver;
 use fixed_decimal::{Call, Signed, SignedRoundingMode};
 use std::alloc::Global;
 
-/// A value after a call, and whether the call was made, or else rejected. None: memory was refused, or there is no such
+/// A value after a call, and whether the call succeeded or was rejected. `None`: out of memory, or there is no such
 /// call, or a rejected one changed something.
 type Answer<T> = Option<(T, bool)>;
 
@@ -31,7 +31,7 @@ fn is_in_place(way: Way) -> bool {
     )
 }
 
-/// The answer of a rounding.
+/// Returns the result of a rounding.
 fn of_rounding<T: Drop>(left: Left<T>) -> Answer<T> {
     match left {
         Ok(value) => Some((value, true)),
@@ -40,7 +40,7 @@ fn of_rounding<T: Drop>(left: Left<T>) -> Answer<T> {
     }
 }
 
-/// Makes an edit in place. None: the call is no edit.
+/// Makes an edit in place; `None` if the call is not an edit.
 fn edited_in_place<D: DigitStore>(
     value: UnsignedOver<D>,
     call: Call<'_>,
@@ -81,7 +81,7 @@ fn edited_by_value<D: DigitStore>(
     Some((value, true))
 }
 
-/// Joins the number of a text to the end. Where they overlap, the text still writes the number that is returned.
+/// Concatenates the number of a text. If they overlap, the number that is returned still has the text.
 fn joined<D: DigitStore>(
     alloc: Global,
     value: UnsignedOver<D>,
@@ -118,7 +118,7 @@ impl<D: DigitStore> Edited for UnsignedOver<D> {
     }
 }
 
-/// Sets the sign in place, by a sign or by a display. None: the call is another one.
+/// Sets the sign in place, by a sign or by a display; `None` if the call is another one.
 fn set_sign<D: DigitStore>(
     value: Signed<UnsignedOver<D>>,
     call: Call<'_>,
@@ -152,10 +152,10 @@ impl<D: DigitStore> Edited for Signed<UnsignedOver<D>> {
     }
 }
 
-/// The ways of calls that do not round.
+/// The ways to make a call that does not round.
 const EDITS: &[Way] = &[Way::ByIncrement, Way::ByIncrementOnValue];
 
-/// The ways to make calls: where each rounding is to multiples of 1, all those of a rounding.
+/// Returns the ways to make calls: if each rounding is to multiples of 1, all those of a rounding.
 fn ways_of(words: &str) -> &'static [Way] {
     let mut found = EDITS;
     for word in words.split(',') {
@@ -169,7 +169,7 @@ fn ways_of(words: &str) -> &'static [Way] {
     found
 }
 
-/// Makes a call on a value. None: it is not made or rejected as it has to be.
+/// Makes a call on a value; `None` if it does not succeed, or is not rejected, as it has to.
 fn stepped<T: Edited>(
     alloc: Global,
     value: T,
@@ -183,7 +183,7 @@ fn stepped<T: Edited>(
     }
 }
 
-/// What calls leave of a value. None: one of them is not made or rejected as it has to be.
+/// Returns a value after calls; `None` if one of them does not succeed, or is not rejected, as it has to.
 fn left<T: Edited>(
     alloc: Global,
     value: T,
@@ -197,7 +197,7 @@ fn left<T: Edited>(
     Some(value)
 }
 
-/// Whether calls leave a text of a value, in each way; `!` where each of them is rejected.
+/// Whether a value has a text after calls, in each way; `!` if each of them is rejected.
 fn leaves<T: Value + Edited>(alloc: Global, start: &str, words: &str, wanted: &str) -> bool {
     let Ok(value) = T::read(alloc, start) else {
         return false;
@@ -216,8 +216,8 @@ fn leaves<T: Value + Edited>(alloc: Global, start: &str, words: &str, wanted: &s
     true
 }
 
-/// Whether a call on a list of a length accesses few digits and allocates little: an edit does neither, a rounding
-/// accesses at most seven digits more than the list has, those counted that it leaves, and only one by 25 may allocate.
+/// Whether a call on a list of `length` digits stays within its bounds: an edit accesses no digit and does not
+/// allocate; a rounding accesses at most `length` + 7 digits, those counted that it leaves, and allocates by 25 only.
 fn is_within<S: CountingStore>(store: &S, call: Call<'_>, length: usize, is_made: bool) -> bool {
     match call {
         Call::Round(_, _, increment) => {
@@ -236,7 +236,7 @@ fn is_within<S: CountingStore>(store: &S, call: Call<'_>, length: usize, is_made
     }
 }
 
-/// Whether a call, where it is the only one of a row, accesses few digits in each way.
+/// Whether a call that is the only one of a row stays within its bounds in each way.
 fn stays_within<T: Value + Edited + Counts>(alloc: Global, start: &str, words: &str) -> bool {
     let (Some((call, _)), Ok(value)) = (step(words), T::read(alloc, start)) else {
         return words.contains(',');
@@ -255,22 +255,22 @@ fn stays_within<T: Value + Edited + Counts>(alloc: Global, start: &str, words: &
     true
 }
 
-/// Whether calls leave a text of a value without a sign, over a store.
+/// Whether an unsigned value has a text after calls, over a store.
 fn unsigned_leaves<D: DigitStore>(alloc: Global, start: &str, words: &str, wanted: &str) -> bool {
     leaves::<UnsignedOver<D>>(alloc, start, words, wanted)
 }
 
-/// The same of a value with a sign.
+/// Whether a value with a sign has a text after calls, over a store.
 fn signed_leaves<D: DigitStore>(alloc: Global, start: &str, words: &str, wanted: &str) -> bool {
     leaves::<Signed<UnsignedOver<D>>>(alloc, start, words, wanted)
 }
 
-/// Whether a call, where it is the only one of a row, accesses few digits of a value without a sign.
+/// Whether a call that is the only one of a row stays within its bounds on an unsigned value.
 fn unsigned_stays<S: CountingStore>(alloc: Global, start: &str, words: &str) -> bool {
     stays_within::<UnsignedOver<S>>(alloc, start, words)
 }
 
-/// The same of a value with a sign.
+/// Whether a call that is the only one of a row stays within its bounds on a value with a sign.
 fn signed_stays<S: CountingStore>(alloc: Global, start: &str, words: &str) -> bool {
     stays_within::<Signed<UnsignedOver<S>>>(alloc, start, words)
 }
@@ -280,7 +280,7 @@ pub fn has_sign(text: &str) -> bool {
     text.starts_with(['-', '+'])
 }
 
-/// Whether calls start from a value with a sign, or are for one alone.
+/// Whether calls need a value with a sign.
 fn needs_sign(start: &str, words: &str) -> bool {
     for word in words.split(',') {
         match step(word) {
@@ -297,7 +297,7 @@ fn needs_sign(start: &str, words: &str) -> bool {
 /// A store that counts, with memory for every number.
 pub type Counting<D> = LimitedStore<D, MaxDigits>;
 
-/// Whether calls leave a text of a value without a sign, over each store.
+/// Whether an unsigned value has a text after calls, over each store.
 fn holds_unsigned(alloc: Global, start: &str, words: &str, wanted: &str) -> bool {
     unsigned_leaves::<DigitList>(alloc, start, words, wanted)
         && unsigned_leaves::<PackedDigits>(alloc, start, words, wanted)
@@ -305,7 +305,7 @@ fn holds_unsigned(alloc: Global, start: &str, words: &str, wanted: &str) -> bool
         && unsigned_stays::<Counting<PackedDigits>>(alloc, start, words)
 }
 
-/// The same of a value with a sign.
+/// Whether a value with a sign has a text after calls, over each store.
 fn holds_signed(alloc: Global, start: &str, words: &str, wanted: &str) -> bool {
     signed_leaves::<DigitList>(alloc, start, words, wanted)
         && signed_leaves::<PackedDigits>(alloc, start, words, wanted)
@@ -313,7 +313,7 @@ fn holds_signed(alloc: Global, start: &str, words: &str, wanted: &str) -> bool {
         && signed_stays::<Counting<PackedDigits>>(alloc, start, words)
 }
 
-/// Whether calls leave a text of another over each store, in each way and in a run; `!` where each of them is rejected.
+/// Whether a value has a text after calls over each store, in each way and in a run; `!` if each of them is rejected.
 pub fn holds(alloc: Global, start: &str, words: &str, wanted: &str) -> bool {
     let is_rejected = words.contains('!') || wanted == "!";
     holds_signed(alloc, start, words, wanted)

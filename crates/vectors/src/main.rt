@@ -1,8 +1,8 @@
-//! Checks test vectors over every store of digits: texts, calls, and the results that they have to come to.
+//! Checks test vectors over every store of digits: texts, calls, and their expected results.
 //!
 //! Each line of standard input is a row of fields with ` | ` between them. Blank lines and lines that start with `#`
-//! are no rows. Each row that fails is printed with the number of its line and with what a run of it comes to; the last
-//! line counts the rows.
+//! are not rows. Each row that fails is printed with its line number and its actual result; the last line counts the
+//! rows.
 //!
 //! ```text
 //! unsigned | TEXT | RESULT                  TEXT is read as a value that prints RESULT, or fails with
@@ -51,7 +51,7 @@ struct Tally {
     fail: u32,
 }
 
-/// Checks a row, and prints it where it fails.
+/// Checks a row, and prints it if it fails.
 fn check_row<R: AllocGlobal + Print>(rt: &R, number: usize, row: &str, tally: &mut Tally) {
     if rows::holds(rt.alloc(), row) {
         tally.hold = tally.hold.saturating_add(1);
@@ -64,7 +64,7 @@ fn check_row<R: AllocGlobal + Print>(rt: &R, number: usize, row: &str, tally: &m
     };
 }
 
-/// Checks a row that was made of a line.
+/// Checks a row made from a line.
 fn check_made<R: AllocGlobal + Print>(
     rt: &R,
     number: usize,
@@ -77,7 +77,7 @@ fn check_made<R: AllocGlobal + Print>(
     }
 }
 
-/// The lengths that `*n` stands for: each up to 200, and then each hundredth up to 5,000.
+/// Returns the lengths for `*n`: each up to 200, and then each hundredth up to 5,000.
 fn length(number: u32) -> u32 {
     if number <= 200 {
         number
@@ -86,7 +86,7 @@ fn length(number: u32) -> u32 {
     }
 }
 
-/// The row of a line with a length.
+/// Returns the row of a line with a length.
 fn of_length(alloc: Global, line: &str, length: u32) -> Result<String, AllocError> {
     line.replace(alloc, "*n", format!(in alloc; "*{length}")?.as_str())
 }

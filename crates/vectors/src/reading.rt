@@ -1,4 +1,4 @@
-//! Texts that are read, and the parts of their values.
+//! The parser of each kind of value, and the parts of the values.
 use crate::calls::{SIGNS, named};
 use crate::rows::Kind;
 use decimal_doubles::{Value, displays, has_text, reading_word};
@@ -16,7 +16,7 @@ fn is_shown<T: Value + Display>(value: &T, text: &str) -> bool {
     has_text(value, text) && displays(value, text.as_bytes())
 }
 
-/// Whether a second value was made that equals the first and has its text.
+/// Whether a second value was made, equals the first and has its text.
 fn is_again<T: Value + Display, E: Drop>(again: Result<T, E>, value: &T, text: &str) -> bool {
     match again {
         Ok(other) => other.equals(value) && is_shown(&other, text),
@@ -24,7 +24,7 @@ fn is_again<T: Value + Display, E: Drop>(again: Result<T, E>, value: &T, text: &
     }
 }
 
-/// Whether a text and its bytes are read as a value that prints a text and is copied, or fail with a word.
+/// Whether a text and its bytes are parsed as a value that prints a text and is copied, or fail with a word.
 fn reads_as<T: Value + Display>(alloc: Global, text: &str, wanted: &str) -> bool {
     match T::read(alloc, text) {
         Ok(value) => {
@@ -63,13 +63,13 @@ fn has_magnitudes<D: DigitStore>(alloc: Global, text: &str, wanted: &str) -> boo
     }
 }
 
-/// Whether a value without a sign is read over a store.
+/// Whether an unsigned value is parsed over a store, as a row says.
 fn reads_unsigned<D: DigitStore>(alloc: Global, text: &str, (wanted, facts): (&str, &str)) -> bool {
     reads_as::<UnsignedOver<D>>(alloc, text, wanted)
         && (facts.is_empty() || has_magnitudes::<D>(alloc, text, facts))
 }
 
-/// Whether the lowest magnitude of a text is found, or fails with the word that the text is to fail with.
+/// Whether the lowest magnitude of a text is found, or fails with the word for the text.
 fn finds_lowest(text: &str, wanted: &str) -> bool {
     match reading_word(lowest_of(text.as_bytes())) {
         "read" => wanted != "syntax" && wanted != "limit",
@@ -77,7 +77,7 @@ fn finds_lowest(text: &str, wanted: &str) -> bool {
     }
 }
 
-/// Whether a decimal is read over a store, and has a sign.
+/// Whether a decimal is parsed over a store, and has a sign.
 fn reads_signed<D: DigitStore>(alloc: Global, text: &str, (wanted, facts): (&str, &str)) -> bool {
     let has_sign = match Signed::<UnsignedOver<D>>::try_from_str(alloc, text) {
         Ok(value) => facts.is_empty() || Some(value.sign()) == named(SIGNS, facts),
@@ -151,7 +151,7 @@ fn has_scientific_words(alloc: Global, text: &str, parts: &str) -> bool {
     }
 }
 
-/// Whether a text is read as a value of a kind that prints a text, or fails with a word, and has parts.
+/// Whether a text is parsed as a value of a kind that prints a text, or fails with a word, and has parts.
 pub fn reads(alloc: Global, kind: Kind, text: &str, (wanted, facts): (&str, &str)) -> bool {
     let row = (wanted, facts);
     match kind {

@@ -42,7 +42,7 @@ const KINDS: &[(&str, Kind)] = &[
     ("plural", Kind::Plural),
 ];
 
-/// The text of a field, which is in parts where it has a star.
+/// Returns the text of a field, which is in parts if it has a star.
 fn text_of(alloc: Global, field: &str) -> Result<String, AllocError> {
     if field.contains('*') {
         long(alloc, field)
@@ -51,7 +51,7 @@ fn text_of(alloc: Global, field: &str) -> Result<String, AllocError> {
     }
 }
 
-/// A row: its kind, and three fields, of which the last may be empty.
+/// A row: its kind, and three fields, the last of which may be empty.
 type Row<'a> = (&'a str, &'a str, &'a str, &'a str);
 
 /// Splits a row.
@@ -78,7 +78,7 @@ fn holds_by_kind(alloc: Global, kind: Kind, (first, second, third): (&str, &str,
     }
 }
 
-/// Whether a row of a kind holds. Where memory is refused it does not.
+/// Whether a row of a kind holds. It does not if out of memory.
 fn holds_as(alloc: Global, kind: Kind, (first, second, third): (&str, &str, &str)) -> bool {
     match (
         text_of(alloc, first),
@@ -93,7 +93,7 @@ fn holds_as(alloc: Global, kind: Kind, (first, second, third): (&str, &str, &str
     }
 }
 
-/// Whether a row holds, or does not where its kind begins with `not`. A row of no kind does not hold.
+/// Whether a row holds, or fails if its kind begins with `not`. A row of no kind does not hold.
 pub fn holds(alloc: Global, row: &str) -> bool {
     let Some((word, first, second, third)) = split(row) else {
         return false;
@@ -105,7 +105,7 @@ pub fn holds(alloc: Global, row: &str) -> bool {
     }
 }
 
-/// What a run of a row comes to.
+/// Returns the actual result of a row's run.
 pub fn came_to(alloc: Global, row: &str) -> Option<String> {
     let (_, first, second, _) = split(row)?;
     match (text_of(alloc, first), text_of(alloc, second)) {

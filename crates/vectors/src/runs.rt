@@ -7,7 +7,7 @@ use fixed_decimal::{
 };
 use std::alloc::{AllocError, Global};
 
-/// The word of an error of a text.
+/// Returns the word of an error of a text.
 fn parse_word(error: &ParseError) -> &'static str {
     match error {
         ParseError::Limit => "limit",
@@ -16,7 +16,7 @@ fn parse_word(error: &ParseError) -> &'static str {
     }
 }
 
-/// The words of an error.
+/// Returns the words of an error.
 fn words_of(alloc: Global, error: &RunError) -> Result<String, AllocError> {
     let (at, word) = match error {
         RunError::Start(fault) => {
@@ -40,7 +40,7 @@ fn is_error(alloc: Global, error: &RunError, wanted: &str) -> bool {
     }
 }
 
-/// Whether a run over a store writes a text, or nothing and fails with the error that the text names.
+/// Whether a run over a store writes a text, or writes nothing and fails with the error of the text.
 fn comes_to_over<D: DigitStore>(
     alloc: Global,
     start: &str,
@@ -54,7 +54,7 @@ fn comes_to_over<D: DigitStore>(
     }
 }
 
-/// The same of a sink in memory.
+/// The same into a sink in memory.
 fn comes_to_in_memory(alloc: Global, start: &str, calls: &[Call<'_>], wanted: &str) -> bool {
     let mut sink = TextBuf::new(alloc);
     match run(alloc, start.as_bytes(), calls, &mut sink) {
@@ -65,7 +65,7 @@ fn comes_to_in_memory(alloc: Global, start: &str, calls: &[Call<'_>], wanted: &s
     }
 }
 
-/// The same of a sink in memory, and over each store.
+/// The same into a sink in memory, and over each store.
 pub fn comes_to(alloc: Global, start: &str, words: &str, wanted: &str) -> bool {
     match calls(alloc, words) {
         Some(calls) => {
@@ -79,7 +79,7 @@ pub fn comes_to(alloc: Global, start: &str, words: &str, wanted: &str) -> bool {
     }
 }
 
-/// The text that a run writes, or the words of its error.
+/// Returns the text that a run writes, or the words of its error.
 pub fn outcome(alloc: Global, start: &str, words: &str) -> Result<String, AllocError> {
     let calls = calls(alloc, words).unwrap_or(Vec::new(alloc));
     let mut sink = TextBuf::new(alloc);

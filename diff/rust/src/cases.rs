@@ -1,4 +1,4 @@
-//! Texts and lists of calls, by chance.
+//! Random texts and lists of calls.
 
 use crate::reference::{read_decimal, read_unsigned, Call, Display, Mode, Rules, Sign, Value, HIGHEST, LOWEST};
 use crate::shared::Kind;
@@ -19,7 +19,7 @@ pub const SIGNS: [Sign; 3] = [Sign::None, Sign::Minus, Sign::Plus];
 pub const DISPLAYS: [Display; 5] =
     [Display::Auto, Display::Never, Display::Always, Display::ExceptZero, Display::Negative];
 
-/// Numbers by chance: splitmix64.
+/// Random numbers: splitmix64.
 pub struct Dice(pub u64);
 
 impl Dice {
@@ -47,10 +47,10 @@ impl Dice {
     }
 }
 
-/// How long the numbers are, and where they lie.
+/// The length of the numbers, and their magnitudes.
 #[derive(Clone, Copy, Debug, PartialEq)]
 pub enum Region {
-    /// Up to 40 digits around the dot.
+    /// Up to 40 digits around the decimal point.
     Short,
     /// Up to 40 digits near one of the two limits.
     Ends,
@@ -60,7 +60,7 @@ pub enum Region {
     Huge,
 }
 
-/// Digits of one of several looks: mixed, all nines, mostly zeros and fives, edges of the increments.
+/// Appends digits of one of several kinds: mixed, all nines, mostly zeros and fives, edges of the increments.
 fn push_digits(dice: &mut Dice, count: usize, text: &mut Vec<u8>) {
     const LOOKS: [&[u8]; 7] = [b"0123456789", b"0123456789", b"9", b"00005", b"09994", b"25701", b"000000000159"];
     const TAILS: [&[u8]; 10] = [b"125", b"375", b"625", b"875", b"500", b"250", b"750", b"999", b"050", b"001"];
@@ -90,7 +90,7 @@ fn digit_count(dice: &mut Dice, region: Region) -> usize {
     }
 }
 
-/// An exponent that leaves the number in its region.
+/// Appends an exponent that leaves the number in its region.
 fn push_exponent(dice: &mut Dice, region: Region, high: i32, low: i32, text: &mut Vec<u8>) {
     let is_at_end = match region {
         Region::Short => dice.one_in(400),
@@ -115,7 +115,7 @@ fn push_exponent(dice: &mut Dice, region: Region, high: i32, low: i32, text: &mu
         text.resize(text.len() + zeros, b'0');
     }
     if dice.one_in(100) {
-        // What comes to a small number in 16, 32, 64 or 128 bits, or nearly.
+        // A number that is small modulo 2^16, 2^32, 2^64 or 2^128, or nearly.
         let wrapping = dice.of(&[1 << 16, 1 << 31, 1 << 32, 1 << 63, 1 << 64, u128::MAX - 20]);
         text.extend((wrapping - 8 + dice.below(20) as u128).to_string().bytes());
     } else {
@@ -123,7 +123,7 @@ fn push_exponent(dice: &mut Dice, region: Region, high: i32, low: i32, text: &mu
     }
 }
 
-/// A text of the grammar, whose value may be beyond the limits.
+/// Appends a text of the grammar, whose value may be beyond the limits.
 pub fn push_unsigned(dice: &mut Dice, region: Region, text: &mut Vec<u8>) {
     let start = text.len();
     let (mut whole, decimals) = (digit_count(dice, region), digit_count(dice, region));
@@ -159,7 +159,7 @@ pub fn push_decimal(dice: &mut Dice, region: Region, text: &mut Vec<u8>) {
     push_unsigned(dice, region, text);
 }
 
-/// Edits that may leave the grammar.
+/// Makes edits that may leave the grammar.
 pub fn spoil(dice: &mut Dice, text: &mut Vec<u8>) {
     const BYTES: &[u8] = b"0123456789..ee-+E c_,x/:\xff\xc3\0";
     const TAILS: [&[u8]; 12] = [b"e5", b"e-", b"e", b"e+-5", b".", b".0", b"x", b"c3", b"c256", b"c0", b"e5e5", b"00"];
@@ -176,7 +176,7 @@ pub fn spoil(dice: &mut Dice, text: &mut Vec<u8>) {
     }
 }
 
-/// Cuts a text at its exponent, mostly.
+/// Appends a text, mostly cut at its exponent.
 fn push_without_exponent(dice: &mut Dice, region: Region, text: &mut Vec<u8>) {
     let start = text.len();
     push_decimal(dice, region, text);
@@ -186,7 +186,7 @@ fn push_without_exponent(dice: &mut Dice, region: Region, text: &mut Vec<u8>) {
     }
 }
 
-/// A text for a kind of value, spoiled one time in three.
+/// Returns a text for a kind of value, spoiled one time in three.
 pub fn text_of_kind(dice: &mut Dice, kind: Kind, region: Region) -> Vec<u8> {
     let mut text = Vec::new();
     match kind {
@@ -213,7 +213,7 @@ pub fn text_of_kind(dice: &mut Dice, kind: Kind, region: Region) -> Vec<u8> {
     text
 }
 
-/// The region of a second part.
+/// Returns the region of a second part.
 fn region_of_part(region: Region) -> Region {
     match region {
         Region::Ends => Region::Short,
@@ -225,7 +225,7 @@ fn in_sixteen_bits(place: i32) -> i16 {
     place.clamp(LOWEST, HIGHEST) as i16
 }
 
-/// A position that matters to the value: around one of its ends, around the dot, or anywhere.
+/// Returns a position that matters to the value: near one of its ends, near the decimal point, or anywhere.
 fn position(dice: &mut Dice, region: Region, value: &Value) -> i16 {
     let around = match dice.below(40) {
         0..=11 => value.first(),
@@ -240,7 +240,7 @@ fn position(dice: &mut Dice, region: Region, value: &Value) -> i16 {
     in_sixteen_bits(around + dice.between(-3, 3))
 }
 
-/// A distance of a shift: short, or to one of the limits, or back to the dot.
+/// Returns a distance of a shift: short, or to one of the limits, or back to the decimal point.
 fn distance(dice: &mut Dice, region: Region, value: &Value) -> i16 {
     let is_far = match region {
         Region::Short => dice.one_in(200),
@@ -257,7 +257,7 @@ fn distance(dice: &mut Dice, region: Region, value: &Value) -> i16 {
     in_sixteen_bits(distance)
 }
 
-/// A text to be joined: mostly one that begins just below the last digit.
+/// Returns a text to concatenate: mostly one that starts just below the last digit.
 fn operand(dice: &mut Dice, region: Region, value: &Value) -> Vec<u8> {
     let mut text = Vec::new();
     match dice.below(10) {
@@ -304,7 +304,7 @@ pub struct Case {
     pub calls: Vec<Call>,
 }
 
-/// A start and up to six calls, each fit for the value that the calls before it come to.
+/// Returns a start and up to six calls, each chosen for the value after the calls before it.
 pub fn case(dice: &mut Dice, region: Region) -> Case {
     let mut start = Vec::new();
     push_decimal(dice, region, &mut start);
@@ -321,7 +321,7 @@ pub fn case(dice: &mut Dice, region: Region) -> Case {
     Case { start, calls }
 }
 
-/// As many digits as fit where they are, and a rounding by 25 that may make one more.
+/// Returns a number with as many digits as fit at its magnitudes, and a rounding by 25 that may make one more.
 pub fn full_case(dice: &mut Dice) -> Case {
     let mut start = Vec::new();
     let count = dice.of(&[8, 16, 32]);
@@ -331,7 +331,7 @@ pub fn full_case(dice: &mut Dice) -> Case {
     Case { start, calls: vec![Call::Round(dice.of(&[-1, -1, 0, -2]), dice.of(&MODES), 25)] }
 }
 
-/// A text of the same value, or of one that is not far from it.
+/// Returns a text of the same value, or of a similar one.
 pub fn neighbour(dice: &mut Dice, text: &[u8]) -> Vec<u8> {
     let Ok(mut value) = read_decimal(text, Rules::Library) else {
         return text.to_vec();

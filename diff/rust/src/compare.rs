@@ -1,4 +1,4 @@
-//! Cases through both libraries and the reference.
+//! Runs cases through both libraries and the reference.
 
 use crate::cases::{Case, Dice};
 use crate::counts::{shortened, Counts};
@@ -22,28 +22,28 @@ fn told(case: &Case) -> String {
     format!("{} [{calls}]", shortened(&case.start, 200))
 }
 
-/// Calls by the reference, past refusals: the answers, and the last value.
+/// Makes calls by the reference, past errors: the results, and the last value.
 fn made(start: &[u8], calls: &[Call], rules: Rules) -> Result<(Vec<Answer>, Value), Answer> {
     let mut value = read_decimal(start, rules)?;
     let answers = calls.iter().map(|call| value.make(call, rules)).collect();
     Ok((answers, value))
 }
 
-/// What the reference says that a value shows.
+/// Returns what a value shows by the reference.
 fn shown(value: &Value, magnitudes: &[i16]) -> Shown {
     let digits = magnitudes.iter().map(|magnitude| value.digit_at((*magnitude).into()));
     let ends = [value.low, value.high, value.first(), value.last, value.is_zero().into()];
     Shown { digits: digits.collect(), ends: ends.map(|end| end as i16) }
 }
 
-/// What nothing is claimed of: the value of a text, or of a part of it.
+/// Returns what is not claimed of the value of a text, or of a part of it.
 fn unclaimed_text(text: &[u8]) -> Option<&'static str> {
     let parts = text.split(|byte| matches!(byte, b'e' | b'c')).chain([text]);
     let mut values = parts.filter_map(|part| read_decimal(part, Rules::Original).ok());
     values.find_map(|value| unclaimed(&value))
 }
 
-/// A compact value is read from text alone.
+/// A compact value is parsed from text alone.
 fn is_no_text(kind: Kind, bytes: &[u8]) -> bool {
     kind == Kind::Compact && std::str::from_utf8(bytes).is_err()
 }
@@ -58,7 +58,7 @@ impl Comparison {
         Comparison { counts: Counts::default(), dice: Dice(seed), library: Library::new() }
     }
 
-    /// Magnitudes to be looked at: around the ends of the value, and some others.
+    /// Returns magnitudes to compare: near the ends of the value, and some others.
     fn magnitudes(&mut self, value: &Value) -> Vec<i16> {
         let ends = [value.first(), value.last, value.high, value.low, 0, LOWEST, HIGHEST];
         let mut around: Vec<i32> = ends.iter().flat_map(|end| [end - 1, *end, end + 1]).collect();
@@ -68,7 +68,7 @@ impl Comparison {
         around.iter().map(|place| (*place).clamp(LOWEST, HIGHEST) as i16).collect()
     }
 
-    /// A list of calls: as a run, one by one, and by the original.
+    /// Compares a list of calls: as a run, one by one, and by the original.
     pub fn calls(&mut self, family: &'static str, case: &Case) {
         let wanted = made(&case.start, &case.calls, Rules::Library);
         self.run(family, case, &wanted);
@@ -113,7 +113,7 @@ impl Comparison {
         }
     }
 
-    /// The calls up to the first of which nothing is claimed, and what that is. Notes where the two rules differ.
+    /// Returns the calls before the first that is not claimed, and its claim. Notes where the two rules differ.
     fn claimed(&mut self, case: &Case, start: &Value) -> (usize, Option<&'static str>) {
         let mut value = start.clone();
         let mut row = unclaimed(&value);
@@ -173,7 +173,7 @@ impl Comparison {
         }
     }
 
-    /// A text of a kind: read, printed, taken apart, by all three.
+    /// Compares a text of a kind, parsed, printed and split into parts, by all three.
     pub fn text(&mut self, family: &'static str, kind: Kind, text: &[u8]) {
         if is_no_text(kind, text) {
             return;
@@ -210,7 +210,7 @@ impl Comparison {
         self.original_lines(&here, &lines(Rules::Original), || original::read(kind, text), text, input);
     }
 
-    /// Lines of the original beside those that its rules want. Where the library's rules want others, that is listed.
+    /// Compares lines of the original with those by its rules. Lines that the library's rules change are listed.
     fn original_lines(
         &mut self,
         here: &Result<Vec<u8>, Answer>,
@@ -230,7 +230,7 @@ impl Comparison {
         }
     }
 
-    /// Two texts of a kind, that may be equal values.
+    /// Compares two texts of a kind, which may be equal values.
     pub fn pair(&mut self, kind: Kind, one: &[u8], other: &[u8]) {
         if is_no_text(kind, one) || is_no_text(kind, other) {
             return;
@@ -252,7 +252,7 @@ impl Comparison {
         self.counts.check("the original's equality", found, Some(there), input);
     }
 
-    /// A scientific and a compact value of parts.
+    /// Compares a scientific and a compact value of parts.
     pub fn join(&mut self, one: &[u8], other: &[u8], exponent: u8) {
         let joined = |rules| -> Result<Vec<u8>, Answer> {
             let significand = read_decimal(one, rules)?;
@@ -275,7 +275,7 @@ impl Comparison {
         self.original_lines(&here, &there, question, &texts, input);
     }
 
-    /// An integer as a value of each type that holds it.
+    /// Compares an integer as a value of each type that holds it.
     pub fn integer(&mut self, integer: u128) {
         self.counts.add_case("integers", false);
         let mut wanted = String::new();
@@ -298,7 +298,7 @@ impl Comparison {
         self.counts.check("the original's integers", found, Some(wanted), input);
     }
 
-    /// A run into a sink with too little room: a beginning of the text.
+    /// Compares a run into a sink with too little room, which takes a prefix of the text.
     pub fn narrow_sink(&mut self, case: &Case) {
         let Ok((answers, value)) = made(&case.start, &case.calls, Rules::Library) else {
             return;
@@ -317,8 +317,8 @@ impl Comparison {
         self.counts.check("a failing sink", found, wanted, || told(case));
     }
 
-    /// Single calls, of which one allocation is refused: `Memory` comes only where memory may be wanted, and the value
-    /// then stays.
+    /// Compares single calls, one allocation of which fails: `Memory` only from calls that may allocate, and the value
+    /// is then unchanged.
     pub fn refused_memory(&mut self, case: &Case) {
         let form = self.dice.of(&FORMS);
         let is_packed = self.dice.one_in(2);
@@ -331,7 +331,7 @@ impl Comparison {
             refusing(number, || library.single(&case.start, &raw, is_packed, form, &[], &mut found));
         self.counts.add_case("memory that is refused", is_refused);
         let input = || format!("{number} {form:?} {in_place} {}", told(case));
-        // The list of calls is the harness's own, and its memory may be what was refused.
+        // The list of calls is the harness's own, and its allocation may be the one that failed.
         if start == Answer::Inconsistent {
             return;
         }

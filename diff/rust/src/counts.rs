@@ -1,15 +1,15 @@
-//! What was compared, and what was found.
+//! The numbers of cases, and the differences that were found.
 
 use std::collections::BTreeMap;
 
-/// A difference that no list names.
+/// A difference that is not listed.
 pub const DIFFERENCE: &str = "DIFFERENCE";
 
 #[derive(Default)]
 pub struct Counts {
-    /// The cases of each family, and those of them that came to a refusal.
+    /// The cases of each family, and those of them that ended with an error.
     cases: BTreeMap<&'static str, (u64, u64)>,
-    /// How often something was found, and the shortest input that shows it.
+    /// The number of times that something was found, and the shortest input that shows it.
     found: BTreeMap<String, (u64, String)>,
 }
 
@@ -24,7 +24,7 @@ impl Counts {
         match self.found.get_mut(what) {
             Some((count, shortest)) => {
                 *count += 1;
-                // Shorter inputs are looked for among the first.
+                // Shorter inputs are searched for among the first.
                 if *count < 10_000 {
                     let input = input();
                     if input.len() < shortest.len() {
@@ -36,7 +36,7 @@ impl Counts {
         }
     }
 
-    /// Notes a difference between what a side answered and what was wanted.
+    /// Notes a difference between the result of a side and the expected one.
     pub fn check<T: PartialEq + std::fmt::Debug>(
         &mut self,
         side: &str,
@@ -88,7 +88,7 @@ impl Counts {
     }
 }
 
-/// A text for a reader: its middle is left out where it is long.
+/// Returns a text for a reader, without its middle if it is long.
 pub fn shortened(text: &[u8], most: usize) -> String {
     if text.len() <= most {
         return text.escape_ascii().to_string();

@@ -61,7 +61,7 @@ extern "C" {
     fn decimal_integer(high: u64, low: u64, found: *mut u8, room: usize, length: *mut usize);
 }
 
-/// The calls as the library takes them, and the operands in a row.
+/// The calls in the form of the library, and the operands, one after the other.
 #[derive(Default)]
 pub struct RawCalls {
     calls: Vec<RawCall>,
@@ -106,8 +106,8 @@ impl RawCalls {
     }
 }
 
-/// What a value shows: a digit at each magnitude that was asked for, its lowest and highest magnitude, its first and
-/// last digit that is not 0, and whether it is 0.
+/// What a value shows: a digit at each of the given magnitudes, its lowest and highest magnitude, its first and last
+/// nonzero digit, and whether it is 0.
 #[derive(Debug, Default, PartialEq)]
 pub struct Shown {
     pub digits: Vec<u8>,
@@ -127,14 +127,15 @@ impl Library {
         Library { bytes: vec![0; 400_000] }
     }
 
-    /// Makes a call that puts something into the memory. What it is passed lives through the call, and is not kept.
+    /// Makes a call that writes to the memory. Its arguments live through the call, and are not kept.
     fn filled(&mut self, call: impl FnOnce(*mut u8, usize, &mut usize) -> u8) -> (Answer, &[u8]) {
         let mut length = 0;
         let answer = call(self.bytes.as_mut_ptr(), self.bytes.len(), &mut length);
         (ANSWERS[usize::from(answer)], &self.bytes[..length])
     }
 
-    /// A run into a sink with so much room: its answer and the text, and the number of the call that refused.
+    /// Makes a run into a sink with room for `room` bytes: its result, the text, and the number of the call that
+    /// failed.
     pub fn run(&mut self, start: &[u8], raw: &RawCalls, way: Way, room: usize) -> ((Answer, &[u8]), usize) {
         let mut at = 0;
         let (calls, texts) = (&raw.calls, &raw.texts);
@@ -147,8 +148,8 @@ impl Library {
         (answer, at)
     }
 
-    /// The calls one by one: the answer of the start and the text with a line feed, and the answer of each call.
-    /// Nothing here asks for memory but the library.
+    /// Makes the calls one by one: the result of the start and the text with a line feed, and the result of each call.
+    /// Only the library allocates here.
     pub fn single(
         &mut self,
         start: &[u8],

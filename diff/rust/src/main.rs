@@ -24,7 +24,7 @@ use std::path::PathBuf;
 use std::process::ExitCode;
 use std::time::{Duration, Instant};
 
-/// What is compared, in turns. A family has so many parts of the time.
+/// A family of cases; the families take turns, each with its part of the time.
 #[derive(Clone, Copy)]
 enum Family {
     EveryText,
@@ -62,7 +62,7 @@ const FAMILIES: [(Family, u64); 20] = [
     (Family::Program(Region::Ends), 1),
 ];
 
-/// The text with a number, in the order of their lengths, of nine bytes that matter.
+/// Returns the text with a number, in the order of their lengths, of the nine bytes that matter.
 fn nth_text(mut number: u64) -> Vec<u8> {
     const BYTES: &[u8; 9] = b"015.eE-+c";
     let mut text = Vec::new();
@@ -74,8 +74,8 @@ fn nth_text(mut number: u64) -> Vec<u8> {
     text
 }
 
-/// The rounding with a number: a position from -6 to 5, a mode, an increment, a sign, and up to four digits around a
-/// dot. None: there are no more.
+/// Returns the rounding with a number: a position from -6 to 5, a mode, an increment, a sign, and up to four digits
+/// around a decimal point; `None` if there are no more.
 fn nth_rounding(mut number: u64) -> Option<Case> {
     let mut part = |count: u64| {
         let rest = number % count;
@@ -101,7 +101,7 @@ fn nth_rounding(mut number: u64) -> Option<Case> {
     None
 }
 
-/// An integer with few bits, or near a power of ten or of two.
+/// Returns an integer with few bits, or near a power of ten or of two.
 fn integer(dice: &mut Dice) -> u128 {
     let any = u128::from(dice.next()) << 64 | u128::from(dice.next());
     let short = any >> dice.below(128);
@@ -114,15 +114,15 @@ fn integer(dice: &mut Dice) -> u128 {
 struct Worker {
     comparison: Comparison,
     fixdec: PathBuf,
-    /// The numbers of the next text and of the next rounding, and how far the next one but that is: each worker has its
-    /// own.
+    /// The numbers of the next text and of the next rounding, and the distance to the following one: each worker has
+    /// its own.
     next_text: u64,
     next_rounding: u64,
     step: u64,
 }
 
 impl Worker {
-    /// Compares one case. False: there are no more of the family.
+    /// Compares one case. False: the family has no more.
     fn turn(&mut self, family: Family) -> bool {
         let comparison = &mut self.comparison;
         let dice = &mut comparison.dice;
@@ -183,7 +183,7 @@ impl Worker {
         true
     }
 
-    /// Gives each family its part of the time, in turns, until the time is over.
+    /// Runs each family for its part of the time, in turns, until the time is over.
     fn work(&mut self, end: Instant) {
         let mut families = FAMILIES.to_vec();
         while Instant::now() < end {
@@ -204,7 +204,7 @@ fn main() -> ExitCode {
     let number = |at: usize| arguments[at].parse::<u64>().expect("a number");
     let fixdec = PathBuf::from(&arguments[1]);
     let (seconds, threads, seed) = (number(2), number(3), number(4));
-    // Where the original panics, that is an answer. A panic of the driver's own is told.
+    // A panic of the original is a result. A panic of the driver's own is reported.
     let hook = std::panic::take_hook();
     std::panic::set_hook(Box::new(move |info| {
         if info.location().is_some_and(|place| place.file().starts_with("diff/")) {

@@ -1,11 +1,11 @@
-//! Refuses memory. The linker makes each call of `malloc` and of `realloc` one of those here.
+//! Makes allocations fail. The linker replaces each call of `malloc` and of `realloc` by one of those here.
 
 use std::cell::Cell;
 use std::ffi::c_void;
 use std::ptr::null_mut;
 
 thread_local! {
-    /// How many allocations are given before one is refused; 0: none is.
+    /// The number of allocations that succeed before one fails; 0: none fails.
     static LEFT: Cell<usize> = const { Cell::new(0) };
 }
 
@@ -36,7 +36,7 @@ unsafe extern "C" fn __wrap_realloc(old: *mut c_void, size: usize) -> *mut c_voi
     unsafe { __real_realloc(old, size) }
 }
 
-/// Does some work whose allocation with this number, from 1 on, is refused, and tells whether one was.
+/// Does some work whose allocation with this 1-based number fails, and returns whether one did.
 pub fn refusing<T>(number: usize, work: impl FnOnce() -> T) -> (T, bool) {
     LEFT.set(number);
     let answer = work();

@@ -1,4 +1,4 @@
-//! The original, asked the same.
+//! The same calls of the original.
 
 use crate::library::Shown;
 use crate::reference::{Call, Display, Mode, Sign, Value, HIGHEST, LOWEST};
@@ -10,12 +10,12 @@ use fixed_decimal::{
 use std::panic::{catch_unwind, AssertUnwindSafe};
 use writeable::Writeable;
 
-/// The rows of `docs/DIFFERENCES.md` by which the original answers otherwise.
+/// The rows of `docs/DIFFERENCES.md` in which the result of the original is another.
 pub const PLUS: &str = "listed: a plus in an exponent is Syntax";
 pub const SHIFT: &str = "listed: a shift beyond the limits makes 0";
 pub const ROUNDING: &str = "listed: a rounding beyond the limits makes 0";
 
-/// What `docs/DIFFERENCES.md` claims nothing of, of a value.
+/// Returns what `docs/DIFFERENCES.md` does not claim of a value.
 pub fn unclaimed(value: &Value) -> Option<&'static str> {
     if value.digits.len() == 65536 {
         return Some("not claimed: a value of 65,536 digits");
@@ -23,7 +23,7 @@ pub fn unclaimed(value: &Value) -> Option<&'static str> {
     (value.first() == LOWEST).then_some("not claimed: a first digit at -32768")
 }
 
-/// The same, of a call on a value.
+/// Returns what it does not claim of a call on a value.
 pub fn unclaimed_call(value: &Value, call: &Call) -> Option<&'static str> {
     match call {
         Call::Round(i16::MIN, _, 2 | 5 | 25) if value.first() == HIGHEST => {
@@ -34,7 +34,7 @@ pub fn unclaimed_call(value: &Value, call: &Call) -> Option<&'static str> {
     }
 }
 
-/// The answer, or none where the original panics.
+/// Returns the result, or `None` if the original panics.
 pub fn asked<T>(question: impl FnOnce() -> T) -> Option<T> {
     catch_unwind(AssertUnwindSafe(question)).ok()
 }
@@ -119,7 +119,7 @@ fn change(value: &mut Decimal, call: &Call) -> Answer {
     Answer::Ok
 }
 
-/// Makes a call on a value that is taken.
+/// Makes a call on a value, by value.
 fn changed(value: Decimal, call: &Call) -> (Decimal, Answer) {
     let with_sign = value.sign;
     let signed = |absolute| Decimal::new(with_sign, absolute);
@@ -153,7 +153,7 @@ fn changed(value: Decimal, call: &Call) -> (Decimal, Answer) {
     (value, Answer::Ok)
 }
 
-/// The calls one by one: the answer of each, what the last value shows, and its text.
+/// Makes the calls one by one: the result of each, what the last value shows, and its text.
 pub fn single(
     start: &[u8],
     calls: &[Call],
@@ -182,7 +182,7 @@ pub fn single(
     Ok((answers, shown, value.to_string()))
 }
 
-/// The text of a value, after a look at its hint.
+/// Returns the text of a value, after a check of its length hint.
 fn text(value: impl Writeable) -> String {
     let text = value.write_to_string().into_owned();
     assert_eq!(value.writeable_length_hint().0, text.len(), "the original's hint");
@@ -194,7 +194,7 @@ fn compact(text: &[u8]) -> Result<CompactDecimal, ParseError> {
     CompactDecimal::try_from_str(text)
 }
 
-/// The text of the value of a kind, and of what is made of it, a line each.
+/// Returns the text of the value of a kind, and those of the values made of it, a line each.
 pub fn read(kind: Kind, bytes: &[u8]) -> Result<String, Answer> {
     let read = || -> Result<Vec<String>, ParseError> {
         Ok(match kind {
@@ -223,7 +223,7 @@ pub fn read(kind: Kind, bytes: &[u8]) -> Result<String, Answer> {
     Ok(read().map_err(of_fault)?.join("\n") + "\n")
 }
 
-/// What is made of parts, a line each.
+/// Returns the texts of the values made of parts, a line each.
 pub fn join(one: &[u8], other: &[u8], exponent: u8) -> Result<String, Answer> {
     let joined = || -> Result<String, ParseError> {
         let significand = Decimal::try_from_utf8(one)?;
@@ -255,7 +255,7 @@ pub fn compare(kind: Kind, one: &[u8], other: &[u8]) -> Answer {
     }
 }
 
-/// A line for each type of integer that holds the number and each type that is made of it, as the library puts them.
+/// Returns a line for each type of integer that holds the number and each type made of it, as the library writes them.
 pub fn integer(integer: u128) -> String {
     let mut lines = Vec::new();
     macro_rules! lines_of {

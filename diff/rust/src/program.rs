@@ -63,7 +63,7 @@ fn display(display: Display) -> &'static str {
     }
 }
 
-/// The word of a call; its number sometimes with zeros in front.
+/// Returns the word of a call, its number sometimes with leading zeros.
 fn word(dice: &mut Dice, call: &Call) -> Vec<u8> {
     let mut number = |number: i16| {
         if dice.one_in(8) {
@@ -90,13 +90,13 @@ fn word(dice: &mut Dice, call: &Call) -> Vec<u8> {
     word.into_bytes()
 }
 
-/// The status and the line on standard error of a refusal.
+/// Returns the status and the line on standard error of an error.
 fn refusal(place: &str, answer: Answer) -> (i32, String) {
     let name = format!("{answer:?}").to_lowercase();
     (1, format!("{place}: {name}\n"))
 }
 
-/// What a case comes to: the status, standard output and standard error.
+/// Returns the expected status, standard output and standard error of a case.
 fn outcome(case: &Case) -> (i32, Vec<u8>, String) {
     let mut value: Value = match read_decimal(&case.start, Rules::Library) {
         Ok(value) => value,
@@ -121,7 +121,7 @@ fn usage() -> (i32, Vec<u8>, String) {
     (2, Vec::new(), "usage: fixdec TEXT [CALL]..\n".to_owned())
 }
 
-/// Runs the program on a case, and one time in eight on words of which one names no call.
+/// Runs the program on a case, and one time in eight on words one of which names no call.
 pub fn compare(fixdec: &Path, case: &Case, dice: &mut Dice, counts: &mut Counts) {
     // A process takes words without a zero byte, of 131,071 bytes at most.
     let fits = |text: &[u8]| text.len() < 120_000 && !text.contains(&0);
@@ -136,7 +136,7 @@ pub fn compare(fixdec: &Path, case: &Case, dice: &mut Dice, counts: &mut Counts)
         words.insert(at, dice.of(&UNKNOWN).to_vec());
         wanted = usage();
     }
-    // Of words that are no text the program says so, before all else.
+    // Words that are not UTF-8 are reported before all else.
     if words.iter().any(|word| std::str::from_utf8(word).is_err()) {
         wanted = usage();
     }

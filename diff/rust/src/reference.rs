@@ -1,4 +1,4 @@
-//! The rules, on digits in a row. A rounding divides the whole number, so it shares no short cut with either library.
+//! The rules, on a list of digits. A rounding divides the whole number, so it shares no shortcut with either library.
 
 use crate::shared::{Answer, Kind};
 
@@ -56,11 +56,11 @@ pub enum Call {
 
 pub const HIGHEST: i32 = 32767;
 pub const LOWEST: i32 = -32768;
-/// So many digits need no memory, with two to a byte and with one.
+/// The numbers of digits that need no allocation, as packed BCD and with a byte for each digit.
 pub const IN_PLACE: [usize; 2] = [16, 8];
 
-/// A sign, the digits from the first to the last that is not 0, the magnitude of the last one, and the highest and the
-/// lowest magnitude that is shown. Of 0 there are no digits, and `last` is 0.
+/// A sign, the digits from the first to the last nonzero one, the magnitude of the last one, and the highest and the
+/// lowest magnitude that is shown. 0 has no digits, and `last` 0.
 #[derive(Clone, Debug, Default, PartialEq)]
 pub struct Value {
     pub sign: Sign,
@@ -103,7 +103,7 @@ impl Value {
         self.digits.is_empty()
     }
 
-    /// The magnitude of the first digit that is not 0.
+    /// Returns the magnitude of the first nonzero digit.
     pub fn first(&self) -> i32 {
         if self.is_zero() {
             0
@@ -117,7 +117,7 @@ impl Value {
         index.ok().and_then(|index| self.digits.get(index)).copied().unwrap_or(0)
     }
 
-    /// Makes these the digits, the last of them at this magnitude. They may have zeros at the ends.
+    /// Sets the digits, the last of them at this magnitude. They may have leading and trailing zeros.
     fn set_digits(&mut self, digits: &[u8], last: i32) {
         let is_not_zero = |digit: &u8| *digit != 0;
         let first = digits.iter().position(is_not_zero).unwrap_or(0);
@@ -126,7 +126,7 @@ impl Value {
         self.last = if self.is_zero() { 0 } else { last + (digits.len() - end) as i32 };
     }
 
-    /// How many of the digits stand at or above a position.
+    /// Returns the number of digits at or above a position.
     fn count_above(&self, position: i32) -> usize {
         (self.first() - position + 1).clamp(0, self.digits.len() as i32) as usize
     }
@@ -170,7 +170,7 @@ impl Value {
         self.set_digits(&digits, self.last);
     }
 
-    /// The mode as it is of the absolute value.
+    /// Returns the mode for the absolute value.
     fn mode_of_absolute(&self, mode: Mode) -> Mode {
         let up = |away, toward| if self.sign == Sign::Minus { toward } else { away };
         match mode {
@@ -256,7 +256,7 @@ impl Value {
         }
     }
 
-    /// Makes a call. Where it is refused the value stays, but by the rules of the original an overflow makes 0.
+    /// Makes a call. If it fails the value is unchanged, but by the rules of the original an overflow makes 0.
     pub fn make(&mut self, call: &Call, rules: Rules) -> Answer {
         let old = (self.high, self.low);
         let answer = self.make_by_the_library(call, rules);
@@ -301,7 +301,7 @@ impl Value {
         Answer::Ok
     }
 
-    /// Whether a call may want memory, with so many digits in place.
+    /// Whether a call may allocate, with `in_place` digits in place.
     pub fn may_want_memory(&self, call: &Call, in_place: usize) -> bool {
         let mut after = self.clone();
         let is_made = after.make(call, Rules::Library) == Answer::Ok;
@@ -316,7 +316,7 @@ impl Value {
     }
 }
 
-/// Takes the digits off the front of a text.
+/// Takes the leading digits of a text.
 fn take_digits<'a>(text: &mut &'a [u8]) -> &'a [u8] {
     let count = text.iter().take_while(|byte| byte.is_ascii_digit()).count();
     let (digits, rest) = text.split_at(count);
@@ -324,7 +324,7 @@ fn take_digits<'a>(text: &mut &'a [u8]) -> &'a [u8] {
     digits
 }
 
-/// Takes a byte off the front of a text, where it is one of these.
+/// Takes the first byte of a text, if it is one of these.
 fn take(text: &mut &[u8], bytes: &[u8]) -> Option<u8> {
     let (first, rest) = text.split_first()?;
     bytes.contains(first).then(|| {
@@ -333,7 +333,7 @@ fn take(text: &mut &[u8], bytes: &[u8]) -> Option<u8> {
     })
 }
 
-/// The exponent that digits write, within what can matter.
+/// Returns the exponent of digits, within what can matter.
 fn exponent(is_minus: bool, digits: &[u8]) -> i32 {
     let size = digits.iter().fold(0, |size: i32, digit| (size * 10 + i32::from(digit - b'0')).min(1_000_000));
     if is_minus {
@@ -352,7 +352,7 @@ pub fn read_unsigned(mut text: &[u8], rules: Rules) -> Result<Value, Answer> {
         let signs: &[u8] = if rules == Rules::Library { b"-+" } else { b"-" };
         let is_minus = take(&mut text, signs) == Some(b'-');
         let digits = take_digits(&mut text);
-        // A dot with no decimals may stand in front of an exponent.
+        // Before an exponent a decimal point may have no decimals.
         if digits.is_empty() || whole.is_empty() && !has_dot {
             return Err(Answer::Syntax);
         }
@@ -375,7 +375,8 @@ pub fn read_unsigned(mut text: &[u8], rules: Rules) -> Result<Value, Answer> {
             if !(LOWEST..=HIGHEST).contains(&delta) || value.shift(delta) != Answer::Ok {
                 return Err(Answer::Limit);
             }
-            // Behind an exponent no zeros are shown; but in front of a first digit below the dot they stay.
+            // An exponent removes trailing zeros of the fraction, and leading zeros if the first digit is above
+            // magnitude 0.
             if value.first() > 0 {
                 value.high = value.first();
             }
@@ -434,7 +435,7 @@ pub fn join_text(significand: &Value, letter: u8, exponent: &[u8]) -> Vec<u8> {
     text
 }
 
-/// The text of the value of a kind that a text writes.
+/// Returns the text of the value of a kind that is parsed from a text.
 pub fn read(kind: Kind, text: &[u8], rules: Rules) -> Result<Vec<u8>, Answer> {
     match kind {
         Kind::Unsigned | Kind::UnsignedBytes => Ok(read_unsigned(text, rules)?.text()),

@@ -1,4 +1,4 @@
-//! The arguments that the system gives: the words behind the name of the program, or why they could not be had.
+//! The arguments of the process: the words after the name of the program, or the error of reading them.
 use super::{assert_shows, told, words};
 use cli::fixdec::run_arguments;
 use std::alloc::Global;
@@ -9,7 +9,7 @@ use std::test::Fail;
 
 const USAGE: &str = "2 usage: fixdec TEXT [CALL]..\n";
 
-/// Lines whose first word is the name of the program.
+/// Lines that start with the name of the program.
 const LINES: &[(&str, &str)] = &[
     ("fixdec 250 shift:-2", "2.50"),
     ("250 250 shift:-2", "2.50"),
@@ -23,7 +23,7 @@ const LINES: &[(&str, &str)] = &[
     ("fixdec 5 --", USAGE),
 ];
 
-/// What arguments tell, or why they could not be had.
+/// Runs the program on arguments, or on the error of reading them.
 fn answered(alloc: Global, arguments: io::Result<Args>) -> Result<Vec<u8>, Fail> {
     let mut err = Vec::<u8>::with_capacity(alloc, 64)?;
     let out = Vec::<u8>::with_capacity(alloc, 64)?;
@@ -35,7 +35,7 @@ fn answered(alloc: Global, arguments: io::Result<Args>) -> Result<Vec<u8>, Fail>
     told(out, err.as_slice(), status)
 }
 
-/// What words tell. They run again where memory was refused.
+/// Runs the program on words, and once more if it is out of memory.
 pub fn shown(alloc: Global, words: &Vec<String>) -> Result<Vec<u8>, Fail> {
     let answer = answered(alloc, Ok(words.clone()?.into_iter()))?;
     if answer.as_slice() == b"3 memory\n".as_slice() {

@@ -1,4 +1,4 @@
-//! Output through the buffer: how often the writer is called, and when no more.
+//! Output in blocks: how often the writer is called, and when no longer.
 use super::words;
 use cli::fixdec::run_arguments;
 use decimal_doubles::FailingWriter;
@@ -7,10 +7,10 @@ use std::alloc::Global;
 use std::io;
 use std::test::Fail;
 
-/// A number of 65,536 digits: with its dot and the line feed 65,538 bytes.
+/// A number of 65,536 digits: with the decimal point and the line feed 65,538 bytes.
 const LONGEST: &str = "fixdec 1e32767 pad-end:-32768";
 
-/// A line, how many bytes the writer takes and what it refuses, the status, and how often it is called.
+/// A line, the number of bytes that the writer takes, how it fails, the status, and the number of its calls.
 const ROWS: &[(&str, usize, WriteFailure, u8, usize)] = &[
     (LONGEST, 65_538, Fault, 0, 2),
     (LONGEST, 65_537, Fault, 3, 3),
@@ -26,12 +26,12 @@ const ROWS: &[(&str, usize, WriteFailure, u8, usize)] = &[
     ("fixdec 5 up", 9, Fault, 2, 0),
 ];
 
-/// A writer that takes so many bytes, whatever they are, and any number of them at a call.
+/// Makes a writer that takes `room` bytes, any bytes, and any number of them in a call.
 fn writer(room: usize, refusal: WriteFailure) -> FailingWriter<'static> {
     FailingWriter::new(b"", room, refusal).with_width(usize::MAX)
 }
 
-/// The status of a line and how often the writer was called, where it was given back.
+/// Returns the status of a line, and the number of calls of the writer if it is returned.
 fn counted(
     alloc: Global,
     line: &str,
@@ -44,7 +44,7 @@ fn counted(
     Ok((status, out.map(|closed| closed.into_writer().writes())))
 }
 
-/// The same. It runs again where memory may have been refused.
+/// Does the same, and once more if it may be out of memory.
 fn counted_again(
     alloc: Global,
     line: &str,
@@ -68,7 +68,7 @@ fn writes_blocks(rt: HostRuntime) -> Result<(), Fail> {
     Ok(())
 }
 
-/// How often the writer behind standard error is called for a line.
+/// Returns the number of calls of the writer of standard error for a line.
 fn writes_of_a_line(alloc: Global, line: &str) -> Result<usize, Fail> {
     let mut err = writer(64, Fault);
     let arguments = words(alloc, line)?.into_iter();

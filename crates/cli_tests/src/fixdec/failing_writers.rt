@@ -1,4 +1,4 @@
-//! Outputs that take so many bytes and no more, and memory that is refused once.
+//! Outputs that fail after a number of bytes, and runs that are out of memory once.
 use super::words;
 use cli::fixdec::program;
 use decimal_doubles::{FailingWriter, WriteFailure};
@@ -14,7 +14,7 @@ type Row = (
     u8,
 );
 
-/// Lines whose outputs have room for so many bytes of a text. A fault of standard error changes no status.
+/// Lines, and outputs with room for a prefix of the text. A failure of standard error does not change the status.
 const ROWS: &[Row] = &[
     ("250 shift:-2", ("2.50\n", 5), ("", 0), 0),
     ("250 shift:-2", ("2.50\n", 0), ("output\n", 3), 3),
@@ -30,10 +30,10 @@ const ROWS: &[Row] = &[
     ("5 up", ("", 0), ("usage: fixdec TEXT [CALL]..\n", 0), 2),
 ];
 
-/// What writers answer when they have no more room.
+/// How writers fail without room.
 const REFUSALS: &[WriteFailure] = &[WriteFailure::Zero, WriteFailure::Fault];
 
-/// Lines that ask for memory: for their calls, the start, an operand, a join and a rounding.
+/// Lines that allocate: for their calls, the start, an operand, a concatenation and a rounding.
 const LONG_LINES: &[(&str, &str)] = &[
     ("250 shift:-2", "2.50\n"),
     ("12345678901234567890 trim-end", "12345678901234567890\n"),
@@ -45,7 +45,7 @@ const LONG_LINES: &[(&str, &str)] = &[
     ("1234567812345678 round:-1:trunc:25", "1234567812345677.5\n"),
 ];
 
-/// Whether a line answers a status, and each output has taken as much as there is room for.
+/// Whether a line returns a status, and each output took as much as it has room for.
 fn answers(
     alloc: Global,
     words: &[String],
@@ -59,7 +59,7 @@ fn answers(
     answer == status && out.has_taken(room) && err.has_taken(err_room.min(err_text.len()))
 }
 
-/// Whether a row holds with each refusal. A line runs again where memory may have been refused.
+/// Whether a row holds with each failure. Tries once more, since the first run may be out of memory.
 fn holds(alloc: Global, row: Row) -> Result<bool, Fail> {
     let words = words(alloc, row.0)?;
     for refusal in REFUSALS {
@@ -83,7 +83,7 @@ fn answers_with_full_outputs(rt: HostRuntime) -> Result<(), Fail> {
     Ok(())
 }
 
-/// The status of words whose outputs take all, where these have the text, or the line of memory alone.
+/// Returns the status of words whose outputs have room, if these took the text, or the line of out of memory alone.
 fn status_of(alloc: Global, words: &[String], text: &str) -> Option<u8> {
     let mut out = Out::new(FailingWriter::new(text.as_bytes(), usize::MAX, WriteFailure::Fault));
     let mut err = FailingWriter::new(b"memory\n", usize::MAX, WriteFailure::Fault);
@@ -96,7 +96,7 @@ fn status_of(alloc: Global, words: &[String], text: &str) -> Option<u8> {
     }
 }
 
-/// Whether a line prints its text, at once or where it runs again after memory was refused.
+/// Whether a line prints its text, at once or in a second run after it was out of memory.
 fn prints(alloc: Global, line: &str, text: &str) -> Result<bool, Fail> {
     let words = words(alloc, line)?;
     match status_of(alloc, words.as_slice(), text) {

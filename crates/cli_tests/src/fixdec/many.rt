@@ -4,7 +4,7 @@ use super::assert_shows;
 use std::alloc::Global;
 use std::test::Fail;
 
-/// A start, a call and how often it stands, the last call, and the answer.
+/// A start, a call and its number of repetitions, the last call, and the output.
 const ROWS: &[(&str, &str, usize, &str, &str)] = &[
     ("5", "shift:0", 300, "shift:1", "50"),
     ("5", "max:9", 99, "concat:x", "1 call 99: syntax\n"),
@@ -23,7 +23,7 @@ const ROWS: &[(&str, &str, usize, &str, &str)] = &[
     ("5", "shift:127", 258, "shift:2", "1 call 258: overflow\n"),
 ];
 
-/// The words of a row, behind the name of the program.
+/// Returns the words of a row, after the name of the program.
 fn words(
     alloc: Global,
     start: &str,

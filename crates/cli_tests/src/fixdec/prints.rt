@@ -94,7 +94,7 @@ const SIGNS: &[(&str, &str)] = &[
     ("-0 display:negative", "0"),
 ];
 
-/// Rows that may want memory, and runs of many calls.
+/// Rows that may allocate, and runs of many calls.
 const JOINS: &[(&str, &str)] = &[
     ("120 shift:1 concat:25 shift:1", "12250"),
     ("123 concat:0.456 pad-start:5", "00123.456"),
@@ -110,7 +110,7 @@ const JOINS: &[(&str, &str)] = &[
     ),
 ];
 
-/// Lines whose text is a beginning and so many zeros.
+/// Lines whose text is a prefix and a number of zeros.
 const ZEROS: &[(&str, &str, usize)] = &[
     ("0 shift:32767", "", 32_768),
     ("0 shift:-32768", "0.", 32_768),
@@ -166,7 +166,7 @@ fn joins(rt: HostRuntime) -> Result<(), Fail> {
     Ok(())
 }
 
-/// The start, the operand and the joined digits are long, so that each asks for memory.
+/// The start, the operand and the concatenated digits are long, so that each allocates.
 #[test]
 fn joins_long_numbers(rt: HostRuntime) -> Result<(), Fail> {
     let line = "12345678901234567890 concat:0.12345678901234567895";
@@ -175,7 +175,7 @@ fn joins_long_numbers(rt: HostRuntime) -> Result<(), Fail> {
     Ok(())
 }
 
-/// The rounding needs one digit more than is held without memory.
+/// The rounding makes one digit more than are stored in place.
 #[test]
 fn rounds_to_one_digit_more(rt: HostRuntime) -> Result<(), Fail> {
     let found = shown(rt.alloc(), "1234567812345678 round:-1:trunc:25")?;
@@ -183,7 +183,7 @@ fn rounds_to_one_digit_more(rt: HostRuntime) -> Result<(), Fail> {
     Ok(())
 }
 
-/// How many zeros a line prints behind a beginning, where nothing else follows it.
+/// Returns the number of zeros that a line prints after a prefix, if nothing follows them.
 fn zeros_behind(alloc: Global, line: &str, front: &str) -> Result<Option<usize>, Fail> {
     let words = words(alloc, line)?;
     let text = answer_of(alloc, words.as_slice(), 40_000)?;

@@ -1,9 +1,9 @@
-//! Lines that print no text: what they tell on standard error, with the status in front.
+//! Lines that print no text: the status, and what standard error took.
 use super::{answer_of, assert_shows, shown};
 use std::alloc::Global;
 use std::test::Fail;
 
-/// Lines with a text that is refused.
+/// Lines with a text that is rejected.
 const REFUSALS: &[(&str, &str)] = &[
     ("5.", "1 start: syntax\n"),
     ("", "1 start: syntax\n"),
@@ -43,7 +43,7 @@ const REFUSALS: &[(&str, &str)] = &[
     ),
 ];
 
-/// Lines with a shift or a rounding that passes the limits: not the refusal of a text that does.
+/// Lines with a shift or a rounding beyond the limits, which is another error than that of a text beyond them.
 const OVERFLOWS: &[(&str, &str)] = &[
     ("98765 shift:32763 shift:1", "1 call 1: overflow\n"),
     ("98765 shift:-32768 shift:-1", "1 call 1: overflow\n"),
@@ -63,7 +63,7 @@ const OVERFLOWS: &[(&str, &str)] = &[
     ),
 ];
 
-/// Words that are no call, of lines that are refused or not.
+/// Words that are no call, of lines that have another error or none.
 const UNKNOWN_WORDS: &[&str] = &[
     "x up",
     "5 shift:0 x",
@@ -87,7 +87,7 @@ const UNKNOWN_WORDS: &[&str] = &[
     "5 display",
 ];
 
-/// Words whose number is none.
+/// Words with an invalid number.
 const UNKNOWN_NUMBERS: &[&str] = &[
     "x shift:40000",
     "250 shift",
@@ -105,7 +105,7 @@ const UNKNOWN_NUMBERS: &[&str] = &[
     "250 max:1.0",
 ];
 
-/// A start and a call, of which one has blanks.
+/// A start and a call, one of which has blanks.
 const BLANKS: &[(&str, &str, &str)] = &[
     (" 5", "shift:1", "1 start: syntax\n"),
     ("5 ", "shift:1", "1 start: syntax\n"),
@@ -152,7 +152,7 @@ fn shows_usage_for_numbers(rt: HostRuntime) -> Result<(), Fail> {
     Ok(())
 }
 
-/// What a start and a call tell.
+/// Runs the program on a start and a call.
 fn shown_of_two(alloc: Global, start: &str, call: &str) -> Result<Vec<u8>, Fail> {
     let mut words = Vec::with_capacity(alloc, 2)?;
     words.push(String::from_str(alloc, start)?)?;
@@ -175,7 +175,7 @@ fn shows_usage_without_words(rt: HostRuntime) -> Result<(), Fail> {
     Ok(())
 }
 
-/// What a start of so many zeros tells.
+/// Runs the program on a start of `count` zeros.
 fn shown_of_zeros(alloc: Global, count: usize) -> Result<Vec<u8>, Fail> {
     let start = String::from_utf8(vec![in alloc; b'0'; count]?)?;
     shown(alloc, start.as_str())

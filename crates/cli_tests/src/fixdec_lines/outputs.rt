@@ -1,4 +1,4 @@
-//! Outputs that take so many bytes and no more.
+//! Outputs that fail after a number of bytes.
 use super::pattern::{Pattern, PatternReader};
 use super::words;
 use cli::ErrorLines;
@@ -7,7 +7,7 @@ use decimal_doubles::{FailingWriter, WriteFailure};
 use std::alloc::Global;
 use std::test::Fail;
 
-/// Words and an input, what standard output is to take and how much of it, the same of standard error, and the status.
+/// Words, an input, the text and the room of standard output, the same of standard error, and the status.
 type Row = (
     &'static str,
     &'static [u8],
@@ -16,7 +16,7 @@ type Row = (
     u8,
 );
 
-/// What is answered where an output has no more room. A fault of standard error changes no status.
+/// Outputs without room for their text. A failure of standard error does not change the status.
 const ROWS: &[Row] = &[
     (
         "fixdec_lines shift:-2",
@@ -84,7 +84,7 @@ const ROWS: &[Row] = &[
     ),
 ];
 
-/// Whether a row holds, and each output has taken as much as there is room for.
+/// Whether a row holds, and each output took as much as it has room for.
 fn holds(alloc: Global, row: Row, refusal: WriteFailure) -> Result<bool, Fail> {
     let arguments = words(alloc, row.0)?.into_iter();
     let (text, room) = row.2;

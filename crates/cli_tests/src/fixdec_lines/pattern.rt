@@ -1,10 +1,10 @@
-//! Long texts that are held as a piece and how often it stands: as an input, and as what an output is to take.
+//! Long texts, stored as a piece and its number of repetitions: as an input, and as the expected output.
 ghost use Rattle.std.specs.Prelude.{◌≤◌, length};
 
 use std::io;
 use std::io::{ErrorKind, Read, Write};
 
-/// A text: a beginning, a piece that stands so often, and an end.
+/// A text: a prefix, a piece that is repeated, and a suffix.
 #[derive(Clone, Copy)]
 pub struct Pattern<'a> {
     front: &'a [u8],
@@ -14,7 +14,7 @@ pub struct Pattern<'a> {
 }
 
 impl<'a> Pattern<'a> {
-    /// A text of its parts.
+    /// Makes a text of its parts.
     pub fn new(front: &'a [u8], piece: &'a [u8], count: usize, back: &'a [u8]) -> Self {
         Pattern {
             front,
@@ -24,12 +24,12 @@ impl<'a> Pattern<'a> {
         }
     }
 
-    /// A text of one part.
+    /// Makes a text of one part.
     pub fn of(text: &'a [u8]) -> Self {
         Pattern::new(text, b"", 0, b"")
     }
 
-    /// The next bytes, at most so many: none only at the end, or where none are asked for.
+    /// Takes the next bytes, at most `most`. Empty only at the end, or if `most` is 0.
     fn take(&mut self, most: usize) -> &'a [u8]
         ensures { length result.now ≤ most }
     {
@@ -46,13 +46,13 @@ impl<'a> Pattern<'a> {
         taken
     }
 
-    /// Tells whether no byte is left.
+    /// Whether no byte is left.
     fn is_empty(&self) -> bool {
         self.front.is_empty() && self.back.is_empty() && (self.count == 0 || self.piece.is_empty())
     }
 }
 
-/// A reader of a text, which gives so many bytes at a read, and may fail at the end.
+/// A reader of a text, with a number of bytes a read, which may fail at the end.
 #[derive(Drop)]
 pub struct PatternReader<'a> {
     text: Pattern<'a>,
@@ -61,12 +61,12 @@ pub struct PatternReader<'a> {
 }
 
 impl<'a> PatternReader<'a> {
-    /// A reader of a text that does not fail.
+    /// Makes a reader that does not fail.
     pub fn new(text: Pattern<'a>, most: usize) -> Self {
         PatternReader::failing(text, most, None)
     }
 
-    /// A reader of a text that fails so at the end.
+    /// Makes a reader that fails at the end, if there is a failure.
     pub fn failing(text: Pattern<'a>, most: usize, failure: Option<ErrorKind>) -> Self {
         PatternReader {
             text,
@@ -75,7 +75,7 @@ impl<'a> PatternReader<'a> {
         }
     }
 
-    /// Tells whether no byte is left.
+    /// Whether no byte is left.
     pub fn is_spent(&self) -> bool {
         self.text.is_empty()
     }
@@ -94,7 +94,7 @@ impl Read for PatternReader<'_> {
     }
 }
 
-/// A writer that compares what it takes with a text.
+/// A writer that compares the bytes with a text.
 #[derive(Drop)]
 pub struct PatternWriter<'a> {
     text: Pattern<'a>,
@@ -102,7 +102,7 @@ pub struct PatternWriter<'a> {
 }
 
 impl<'a> PatternWriter<'a> {
-    /// A writer that is to take this text.
+    /// Makes a writer that expects a text.
     pub fn new(text: Pattern<'a>) -> Self {
         PatternWriter {
             text,
@@ -110,7 +110,7 @@ impl<'a> PatternWriter<'a> {
         }
     }
 
-    /// Tells whether the text was taken, whole and alone.
+    /// Whether the bytes written are exactly the text.
     pub fn has_all(&self) -> bool {
         !self.is_other && self.text.is_empty()
     }

@@ -1,4 +1,4 @@
-//! Inputs of a few lines, read in pieces: what is written and told for them.
+//! Inputs of a few lines, read in pieces, with their output and the errors that are reported.
 use super::pattern::{Pattern, PatternReader};
 use super::words;
 use cli::ErrorLines;
@@ -9,7 +9,7 @@ use std::io::ErrorKind;
 use std::process::Abort;
 use std::test::Fail;
 
-/// Words, an input, what standard output and standard error take, and the status.
+/// Words, an input, the texts of standard output and standard error, and the status.
 type Row = (
     &'static str,
     &'static [u8],
@@ -18,7 +18,7 @@ type Row = (
     u8,
 );
 
-/// What is answered where reading does not fail.
+/// The reader does not fail.
 const ROWS: &[Row] = &[
     (
         "fixdec_lines shift:-2",
@@ -112,7 +112,7 @@ const ROWS: &[Row] = &[
     ),
 ];
 
-/// What is answered where the reader fails behind the input.
+/// The reader fails after the input.
 const BROKEN: &[Row] = &[
     (
         "fixdec_lines shift:-2",
@@ -142,7 +142,7 @@ const BROKEN: &[Row] = &[
 
 const USAGE: &[u8] = b"usage: fixdec_lines [skip] [CALL]..\n";
 
-/// What is answered where the reader is out of memory behind the input.
+/// The reader is out of memory after the input.
 const NO_MEMORY: &[Row] = &[
     ("fixdec_lines", b"", b"", b"line 1: memory\n", 3),
     ("fixdec_lines", b"7\n8", b"7\n", b"line 2: memory\n", 3),
@@ -155,7 +155,7 @@ const NO_MEMORY: &[Row] = &[
     ),
 ];
 
-/// Whether a row holds with so many bytes at a read, of a reader that fails so behind the input.
+/// Whether a row holds with `most` bytes a read, of a reader that fails after the input if there is a failure.
 fn holds(alloc: Global, row: Row, most: usize, failure: Option<ErrorKind>) -> Result<bool, Fail> {
     let arguments = words(alloc, row.0)?.into_iter();
     let mut input = PatternReader::failing(Pattern::of(row.1), most, failure);

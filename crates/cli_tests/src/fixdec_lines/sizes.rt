@@ -6,10 +6,10 @@ use cli::fixdec_lines::run_arguments;
 use std::alloc::Global;
 use std::test::Fail;
 
-/// A text: a beginning, a piece and how often it stands, and an end.
+/// A text: a prefix, a piece and its number of repetitions, and a suffix.
 type Text = (&'static [u8], &'static [u8], usize, &'static [u8]);
 
-/// Words, an input, what standard output and standard error take, and the status.
+/// Words, an input, the texts of standard output and standard error, and the status.
 type Row = (&'static str, Text, Text, Text, u8);
 
 const NONE: Text = (b"", b"", 0, b"");
@@ -60,12 +60,12 @@ const ROWS: &[Row] = &[
     ),
 ];
 
-/// The text of its parts.
+/// Makes a text of its parts.
 fn text(parts: Text) -> Pattern<'static> {
     Pattern::new(parts.0, parts.1, parts.2, parts.3)
 }
 
-/// Whether a row holds with so many bytes at a read.
+/// Whether a row holds with `most` bytes a read.
 fn holds(alloc: Global, row: Row, most: usize) -> Result<bool, Fail> {
     let arguments = words(alloc, row.0)?.into_iter();
     let mut input = PatternReader::new(text(row.1), most);

@@ -1,10 +1,10 @@
-//! The filter as a library's call: over a slice and two sinks in memory.
+//! The filter as a function of a library: over a slice, and into two sinks in memory.
 use cli::{ErrorLines, FilterError, OnError, filter_lines};
 use fixed_decimal::{Call, TextBuf};
 use std::alloc::Global;
 use std::test::Fail;
 
-/// What a filter does at a refusal, an input, what the sinks take, and the answer.
+/// What a filter does at an error, an input, the texts of the sinks, and the result.
 type Row = (
     OnError,
     &'static [u8],

@@ -1,4 +1,4 @@
-//! Runs of digits, over both stores: text that comes in, text that goes out, and equal digits at an end.
+//! Slices of digits over both stores: `push_text`, `copy_text` and `count_back`.
 ghost use Rattle.std.specs.Prelude.{IsTrue};
 ghost use Rattle.std.specs.Str.Parse.{AllDigits};
 
@@ -8,12 +8,12 @@ use decimal_digits::digits::{Counted, Steps};
 /// The first fifty digits of pi.
 const PI: &[u8] = b"31415926535897932384626433832795028841971693993751";
 
-/// The first digits of pi.
+/// Returns the first `count` digits of pi.
 fn first(count: usize) -> &'static [u8] {
     if count < PI.len() { &PI[..count] } else { PI }
 }
 
-/// Tells whether a text has digits alone.
+/// Whether a text consists of digits.
 fn is_number(text: &[u8]) -> bool
     ensures { IsTrue result → AllDigits 10 text.now }
 {
@@ -25,7 +25,7 @@ fn is_number(text: &[u8]) -> bool
     true
 }
 
-/// Whether the rest of a text, pushed behind the list of its first digits, makes the list of all of them.
+/// Whether pushing the rest of a text onto the list of its first digits makes the list of all of them.
 fn pushes<D: DigitStore>(alloc: Global, all: &[u8], held: usize) -> Result<bool, AllocError> {
     let (front, rest) = all.split_at(held.min(all.len()));
     let mut list: D = list_of(alloc, front)?;
@@ -41,7 +41,7 @@ fn pushes_over_each(alloc: Global, all: &[u8], held: usize) -> Result<bool, Allo
     Ok(pushes::<PackedDigits>(alloc, all, held)? && pushes::<DigitList>(alloc, all, held)?)
 }
 
-/// Whether a list writes these digits from an index on.
+/// Whether a list copies these digits, starting at an index.
 fn copies<D: DigitStore>(
     alloc: Global,
     text: &[u8],
@@ -69,7 +69,7 @@ fn copies_over_each(
     )
 }
 
-/// Whether so many digits at the end of the first `count` of a list equal a digit, also where each is a turn.
+/// Whether `equal` digits at the end of the first `count` of a list equal a digit, with and without counted accesses.
 fn counts_back<D: DigitStore>(
     alloc: Global,
     (text, count, digit, equal): (&[u8], usize, u8, usize),
@@ -90,10 +90,10 @@ fn counts_back_over_each(
     Ok(counts_back::<PackedDigits>(alloc, row)? && counts_back::<DigitList>(alloc, row)?)
 }
 
-/// How many digits are held.
+/// The lengths of lists.
 const HELD: &[usize] = &[0, 1, 7, 8, 15, 16, 17];
 
-/// How long a text is pushed onto them.
+/// The lengths of texts that are pushed onto them.
 const PUSHED: &[usize] = &[0, 1, 2, 9, 33];
 
 #[test]
@@ -110,7 +110,7 @@ fn pushes_text(rt: HostRuntime) -> Result<(), Fail> {
     Ok(())
 }
 
-/// A text, an index, and the digits from there on, as many as are to be written.
+/// A text, an index, and the digits to copy, starting there.
 const COPIES: &[(&[u8], usize, &[u8])] = &[
     (b"", 0, b""),
     (b"7", 0, b"7"),
@@ -152,7 +152,7 @@ fn copies_text(rt: HostRuntime) -> Result<(), Fail> {
     Ok(())
 }
 
-/// A text, how many of its first digits are looked at, a digit, and how many at their end equal it.
+/// A text, the number of its first digits, a digit, and how many at the end of these equal it.
 const RUNS: &[(&[u8], usize, u8, usize)] = &[
     (b"", 0, 0, 0),
     (b"9", 1, 9, 1),

@@ -1,14 +1,14 @@
-//! Changes of a list over each store, around the eight and the sixteen digits that lie in place, and where half bytes
-//! move.
+//! Changes of a list over each store, near the eight and the sixteen digits that are stored in place, and with nibbles
+//! that move.
 use self::Change::{Append, Clear, CutFront, Push, Reserve, Set, Truncate};
 use super::*;
 
-/// One change of a list.
+/// A change of a list.
 #[derive(Clone, Copy)]
 enum Change {
     CutFront(usize),
     Truncate(usize),
-    /// So many zeros, and then a list.
+    /// Zeros, and then a list.
     Append(usize, &'static str),
     Push(u8),
     Reserve(usize),
@@ -16,7 +16,7 @@ enum Change {
     Clear,
 }
 
-/// Makes a change where its list allows it.
+/// Makes a change if it is valid for the list.
 fn make<D: DigitStore>(list: &mut D, alloc: Global, change: Change) -> Result<(), AllocError> {
     let len = list.len();
     match change {
@@ -35,7 +35,7 @@ fn make<D: DigitStore>(list: &mut D, alloc: Global, change: Change) -> Result<()
     Ok(())
 }
 
-/// The list of a text's digits after changes.
+/// Returns the list of a text's digits after changes.
 fn changed<D: DigitStore>(alloc: Global, text: &[u8], changes: &[Change]) -> Result<D, AllocError> {
     let mut list = list_of(alloc, text)?;
     for change in changes {
@@ -44,7 +44,7 @@ fn changed<D: DigitStore>(alloc: Global, text: &[u8], changes: &[Change]) -> Res
     Ok(list)
 }
 
-/// Up to sixteen digits as packed BCD, the first in the highest nibble: the bytes in place, whose unused nibbles are 0.
+/// Returns up to sixteen digits as packed BCD, the first in the highest nibble; unused nibbles are 0.
 fn nibbles(text: &[u8]) -> Option<u64> {
     if text.len() > 16 {
         return None;
@@ -57,7 +57,7 @@ fn nibbles(text: &[u8]) -> Option<u64> {
     Some(number)
 }
 
-/// Whether a list has the digits of a text and its bytes, and equals the list of them that was never changed.
+/// Whether a list has the digits of a text and its bytes, and equals the list of these digits that was never changed.
 fn is_text<D: DigitStore>(list: &D, alloc: Global, text: &[u8]) -> Result<bool, AllocError> {
     Ok(
         has_digits(list, text)
@@ -66,7 +66,7 @@ fn is_text<D: DigitStore>(list: &D, alloc: Global, text: &[u8]) -> Result<bool, 
     )
 }
 
-/// Whether changes of a text's list leave another text's over a store.
+/// Whether changes of a text's list make another text's list.
 fn leaves<D: DigitStore>(alloc: Global, (text, changes, left): Row) -> Result<bool, AllocError> {
     let list: D = changed(alloc, text.as_bytes(), changes)?;
     is_text(&list, alloc, left.as_bytes())
@@ -102,7 +102,7 @@ const EACH: &[Row] = &[
     ),
 ];
 
-/// Two digits share a byte, and the last of an odd number stands alone.
+/// Two digits share a byte, and an odd number of digits leaves a nibble unused.
 const HALVES: &[Row] = &[
     ("12345", &[CutFront(1)], "2345"),
     ("12345", &[Truncate(3)], "123"),
@@ -119,7 +119,7 @@ const HALVES: &[Row] = &[
     ("1234", &[Append(0, "789")], "1234789"),
 ];
 
-/// Up to sixteen digits, which lie in place.
+/// Up to sixteen digits, which are stored in place.
 const IN_PLACE: &[Row] = &[
     ("1234567890123456", &[], "1234567890123456"),
     ("1234567890123456", &[CutFront(1)], "234567890123456"),

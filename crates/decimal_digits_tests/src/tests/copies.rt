@@ -1,13 +1,13 @@
-//! Copies of lists of any length, and which lists are equal, over each store.
+//! Copies of lists of any length, and equality of lists, over each store.
 use super::*;
 
-/// Whether a copy of a list has so many digits, and equals it.
+/// Whether a copy of a list has `count` digits, and equals it.
 fn is_copied<D: DigitStore>(list: D, count: usize) -> Result<bool, AllocError> {
     let copy = list.clone()?;
     Ok(copy.len() == count && copy.eq(&list))
 }
 
-/// Whether a list of so many sevens, made at once, is copied.
+/// Whether a list of `count` sevens, made by one call, is copied.
 fn copies<D: DigitStore>(alloc: Global, count: usize) -> Result<bool, AllocError> {
     is_copied(D::from_digits(alloc, &vec![in alloc; 7; count]?)?, count)
 }
@@ -25,7 +25,7 @@ fn copies_any_length(rt: HostRuntime) -> Result<(), Fail> {
     Ok(())
 }
 
-/// Whether a list that begins with 1 and ends with 7, with so many zeros between them, is copied.
+/// Whether a list of 1, zeros and 7 is copied.
 fn copies_zeros<D: DigitStore>(alloc: Global, zeros: usize) -> Result<bool, AllocError> {
     let mut list: D = list_of(alloc, b"1")?;
     append_text(&mut list, alloc, zeros, b"7")?;
@@ -47,7 +47,7 @@ fn copies_what_was_joined(rt: HostRuntime) -> Result<(), Fail> {
     Ok(())
 }
 
-/// The copy of a list whose first digit becomes another then. None where the copy is equal to it all the same.
+/// Copies a list and then changes its first digit. `None` if the copy equals the changed list.
 fn copy_before_change<D: DigitStore>(list: D) -> Result<Option<D>, AllocError> {
     let mut list = list;
     let copy = list.clone()?;
@@ -60,7 +60,7 @@ fn copy_before_change<D: DigitStore>(list: D) -> Result<Option<D>, AllocError> {
     Ok(Some(copy))
 }
 
-/// Whether a copy stays as it is where the first digit of its list becomes another.
+/// Whether a copy is unchanged after the first digit of its list changes.
 fn keeps_its_digits<D: DigitStore>(alloc: Global, text: &[u8]) -> Result<bool, AllocError> {
     match copy_before_change::<D>(list_of(alloc, text)?)? {
         Some(copy) => equals_text(&copy, alloc, text),
@@ -103,7 +103,7 @@ fn rests_are_equal(
     ))
 }
 
-/// A text, how many of its first digits are cut, a text, and whether the two lists are equal then.
+/// A text, the number of its first digits that are cut, a text, and whether the two lists are equal.
 const CUTS: &[(&str, usize, &str, bool)] = &[
     ("12345", 1, "2345", true),
     ("12345", 1, "23450", false),

@@ -1,4 +1,5 @@
-//! The digits that each call of `Counted` reads and writes, over a list that counts them, and what is left of them.
+//! The digits that each call of `Counted` reads and writes, over a list that counts them, and the digits that it
+//! leaves.
 use super::*;
 use decimal_digits::digits::{Counted, Steps};
 use decimal_doubles::{CountingStore, LimitedStore, MaxDigits};
@@ -21,7 +22,7 @@ enum Call {
     Clear,
 }
 
-/// Makes a call, where the list has so many digits.
+/// Makes a call if it is valid for the list.
 fn make<D: DigitStore>(counted: &mut Counted<'_, D>, call: Call) -> Result<usize, AllocError> {
     let len = counted.len();
     match call {
@@ -44,7 +45,7 @@ fn make<D: DigitStore>(counted: &mut Counted<'_, D>, call: Call) -> Result<usize
     Ok(counted.len())
 }
 
-/// Makes a call of the list 2, 5, 9 and 9, and gives the digits that it touched and its answer or the length then.
+/// Makes a call of the list 2, 5, 9 and 9, and returns the number of digits accessed, and its result or the new length.
 fn touched<S: CountingStore>(
     alloc: Global,
     call: Call,
@@ -55,7 +56,7 @@ fn touched<S: CountingStore>(
     Ok((list.touched(), answer))
 }
 
-/// A call, the digits that it touches, and its count or the length that it leaves.
+/// A call, the number of digits that it accesses, and its result or the new length.
 const CALLS: &[(Call, usize, usize)] = &[
     (Call::New, 0, 4),
     (Call::Len, 0, 4),
@@ -88,7 +89,7 @@ fn touches_what_it_counts(rt: HostRuntime) -> Result<(), Fail> {
     Ok(())
 }
 
-/// Changes a list of three digits in turn: the last becomes 7, and so does the first. It tells whether there are three.
+/// Sets the last and the first of three digits to 7. Returns whether the list has three digits.
 fn change_in_turn<D: DigitStore>(counted: &mut Counted<'_, D>) -> Result<bool, AllocError> {
     if counted.len() != 3 {
         return Ok(false);
@@ -101,7 +102,7 @@ fn change_in_turn<D: DigitStore>(counted: &mut Counted<'_, D>) -> Result<bool, A
     Ok(counted.len() == 3)
 }
 
-/// Whether calls in a row make 7, 5 and 7 of a list 2, 5 and 0, and then nothing.
+/// Whether calls in sequence change the list 2, 5 and 0 to 7, 5 and 7, and then clear it.
 fn changes_in_turn<D: DigitStore>(alloc: Global) -> Result<bool, AllocError> {
     let mut list = D::from_digits(alloc, &[2, 5, 0])?;
     let mut steps = Steps::new();

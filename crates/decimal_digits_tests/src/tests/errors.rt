@@ -4,7 +4,7 @@ use decimal_digits::sink::SinkFault;
 use decimal_doubles::displays;
 use std::error::Error;
 
-/// Whether `{}` writes this text of an error, whatever the options.
+/// Whether `{}` writes this text of an error, with any options.
 fn tells<E: Error>(error: E, text: &[u8]) -> bool {
     displays(&error, text)
 }

@@ -1,7 +1,7 @@
-//! Up to sixteen digits as the halves of a number, over each store.
+//! Up to sixteen digits as packed BCD, over each store.
 use super::*;
 
-/// The digits of a text, and the number whose first halves they are.
+/// The digits of a text, and the number with these digits as its highest nibbles.
 const HALVES: &[(&[u8], Option<u64>)] = &[
     (b"", Some(0)),
     (b"2", Some(0x2000_0000_0000_0000)),
@@ -21,7 +21,7 @@ const HALVES: &[(&[u8], Option<u64>)] = &[
     (b"00000000000000000", None),
 ];
 
-/// Whether the digits of a text are the first halves of this number, or there is none.
+/// Whether this number has the digits of a text as its highest nibbles, or there is none.
 fn has_halves<D: DigitStore>(
     alloc: Global,
     text: &[u8],

@@ -1,4 +1,4 @@
-//! The order of the modes, and the increment that is the default.
+//! The order of the modes, and the default increment.
 use decimal_digits::rounding::UnsignedRoundingMode::{
     Expand, HalfEven, HalfExpand, HalfTrunc, Trunc,
 };

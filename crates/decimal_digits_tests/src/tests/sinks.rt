@@ -6,14 +6,14 @@ use decimal_doubles::{FailingWriter, WriteFailure};
 /// The text that is put into sinks.
 const TEXT: &[u8] = b"-1234.50";
 
-/// How a text is put into a sink.
+/// A way to put a text into a sink.
 #[derive(Clone, Copy)]
 enum Way {
     /// By a call for each byte.
     ByteByByte,
     /// By one call.
     AtOnce,
-    /// By a call for so many bytes, and one for none.
+    /// By calls for pieces of a size, each followed by a call for no bytes.
     InPieces(usize),
 }
 
@@ -24,7 +24,7 @@ const WAYS: [Way; 4] = [
     Way::InPieces(3),
 ];
 
-/// Puts the text byte by byte, up to the first refusal.
+/// Puts the text byte by byte, up to the first error.
 fn put_each<W: Sink>(sink: &mut W) -> Result<(), SinkFault> {
     for byte in TEXT {
         sink.put_byte(*byte)?;
@@ -32,7 +32,7 @@ fn put_each<W: Sink>(sink: &mut W) -> Result<(), SinkFault> {
     Ok(())
 }
 
-/// Puts the text in pieces of so many bytes, each with an empty one behind it, up to the first refusal.
+/// Puts the text in pieces of `size` bytes, each followed by an empty one, up to the first error.
 fn put_pieces<W: Sink>(sink: &mut W, size: usize) -> Result<(), SinkFault> {
     for piece in TEXT.chunks(size.max(1)) {
         sink.put_bytes(piece)?;
@@ -41,7 +41,7 @@ fn put_pieces<W: Sink>(sink: &mut W, size: usize) -> Result<(), SinkFault> {
     Ok(())
 }
 
-/// Puts the text, up to the first refusal.
+/// Puts the text, up to the first error.
 fn put_all<W: Sink>(sink: &mut W, way: Way) -> Result<(), SinkFault> {
     match way {
         Way::ByteByByte => put_each(sink),
@@ -71,7 +71,7 @@ fn takes_bytes(rt: HostRuntime) {
     }
 }
 
-/// Whether a sink has failed, and refuses a byte, bytes and no bytes.
+/// Whether a sink has failed, and rejects a byte, bytes and no bytes.
 fn refuses_all<W: Sink>(sink: &mut W) -> bool {
     sink.failed()
         && sink.put_byte(b'0').is_err()
@@ -79,7 +79,7 @@ fn refuses_all<W: Sink>(sink: &mut W) -> bool {
         && sink.put_bytes(b"").is_err()
 }
 
-/// Whether a sink fails with its writer, which has so much room, and does not call it after the fault.
+/// Whether a sink fails with its writer, which has room for `room` bytes, and does not call it again.
 fn fails_at(room: usize, way: Way, refusal: WriteFailure) -> bool {
     let mut out = Out::new(FailingWriter::new(TEXT, room, refusal));
     let fails = put_all(&mut out, way).is_err() && refuses_all(&mut out) && out.flush().is_err();
@@ -101,7 +101,7 @@ fn fails_with_the_writer(rt: HostRuntime) {
     }
 }
 
-/// Whether a sink fails with the flush of its writer, and keeps the fault. An empty slice is no write.
+/// Whether a sink fails with the flush of its writer, and stays failed. An empty slice is not written.
 fn fails_with_flush() -> bool {
     let mut out = Out::new(FailingWriter::new(TEXT, 8, WriteFailure::Flush));
     let is_taken = out.put_bytes(b"").is_ok() && out.put_bytes(TEXT).is_ok();
@@ -110,7 +110,7 @@ fn fails_with_flush() -> bool {
     is_taken && fails && writer.has_all() && writer.writes() == 8 && writer.flushes() == 1
 }
 
-/// Whether a flush is one flush and no write, and no other call is a flush.
+/// Whether a flush makes one flush and no write, and no other call makes a flush.
 fn flushes_between() -> bool {
     let mut out = Out::new(FailingWriter::new(b"-123", 8, WriteFailure::Zero));
     let is_taken = out.put_bytes(b"-12").is_ok()
@@ -126,14 +126,14 @@ fn flushes(rt: HostRuntime) {
     assert!(rt; flushes_between());
 }
 
-/// How often a writer that takes so many bytes at a call is called for the text.
+/// Returns the number of writes of the text to a writer that takes `width` bytes a call.
 fn writes_for(width: usize, way: Way) -> Option<usize> {
     let mut out = Out::new(FailingWriter::new(TEXT, 8, WriteFailure::Fault).with_width(width));
     put_all(&mut out, way).ok()?;
     Some(out.into_writer().writes())
 }
 
-/// How many bytes the writer takes at a call, how the text is put, and how often the writer is called.
+/// The number of bytes that the writer takes a call, the way to put the text, and the number of writes.
 const WRITES: &[(usize, Way, usize)] = &[
     (8, Way::AtOnce, 1),
     (7, Way::AtOnce, 2),
@@ -151,7 +151,7 @@ fn hands_slices_on(rt: HostRuntime) {
     }
 }
 
-/// Puts each byte from 0 to 255, and tells whether all were taken.
+/// Puts each byte from 0 to 255, and returns whether all were taken.
 fn puts_each_byte<W: Sink>(sink: &mut W) -> bool {
     for byte in 0..=255 {
         if sink.put_byte(byte).is_err() {
@@ -179,7 +179,7 @@ fn takes_each_byte(rt: HostRuntime) {
     assert!(rt; puts_each_byte(&mut out) && counts_up(out.into_writer().as_slice()));
 }
 
-/// Whether a sink has so many bytes, and one more that it takes.
+/// Whether a sink has `count` bytes, and takes one more.
 fn takes_one_more(text: &mut TextBuf, count: usize) -> bool {
     text.as_bytes().len() == count
         && text.put_byte(b'.').is_ok()
@@ -187,7 +187,7 @@ fn takes_one_more(text: &mut TextBuf, count: usize) -> bool {
         && text.as_bytes().last() == Some(&b'.')
 }
 
-/// Whether a sink takes the first byte of some, the first two, and so on up to all.
+/// Whether a sink takes the first byte, then the first two, and so on up to all of them.
 fn grows(alloc: Global, bytes: &[u8]) -> bool {
     let mut text = TextBuf::new(alloc);
     let mut count: usize = 0;
@@ -200,7 +200,7 @@ fn grows(alloc: Global, bytes: &[u8]) -> bool {
     takes_one_more(&mut text, count)
 }
 
-/// Whether a sink takes so many bytes, one by one.
+/// Whether a sink takes `count` bytes, one by one.
 fn takes_long(alloc: Global, count: usize) -> bool {
     let mut text = TextBuf::new(alloc);
     for _ in 0..count {

@@ -1,4 +1,4 @@
-//! What the callers print, and why they refuse.
+//! The output and the errors of the callers.
 use fixed_decimal::{Call, Decimal, Sink, TextBuf, UnsignedDecimal, Writeable};
 use std::alloc::Global;
 use std::process::Abort;
@@ -22,7 +22,7 @@ const PRICES: &[(u64, u32, &[u8])] = &[
     (18_446_744_073_709_551_615, 100, b"184467440737095516.15"),
 ];
 
-/// A number of cents, a rate in percent, and what coins can pay: a tie goes to the even number of five cents.
+/// A number of cents, a rate in percent, and the multiple of five cents: a tie goes to the even factor.
 const CASH: &[(u64, u32, &[u8])] = &[
     (1999, 107, b"21.40"),
     (1250, 5, b"0.60"),
@@ -32,7 +32,7 @@ const CASH: &[(u64, u32, &[u8])] = &[
     (0, 19, b"0.00"),
 ];
 
-/// An amount, the number of parts, and the parts with a space behind each.
+/// An amount, the number of parts, and the parts, each followed by a space.
 const BILLS: &[(&str, u32, &[u8])] = &[
     ("100.00", 3, b"33.34 33.33 33.33 "),
     ("0.05", 2, b"0.03 0.02 "),
@@ -40,7 +40,7 @@ const BILLS: &[(&str, u32, &[u8])] = &[
     ("0", 2, b"0.00 0.00 "),
 ];
 
-/// An amount, the number of parts, and why it is not split.
+/// An amount, the number of parts, and the error.
 const REFUSED_BILLS: &[(&str, u32, BillError)] = &[
     ("1", 0, BillError::NoPart),
     ("1.005", 2, BillError::PartOfACent),
@@ -48,7 +48,7 @@ const REFUSED_BILLS: &[(&str, u32, BillError)] = &[
     ("1e32766", 2, BillError::TooGreat),
 ];
 
-/// A measured value, the number of decimals, and what is shown.
+/// A measured value, the number of fraction digits, and the result.
 const MEASUREMENTS: &[(&str, u8, &[u8])] = &[
     ("-0.125", 2, b"-0.12"),
     ("0.135", 2, b"0.14"),
@@ -68,7 +68,7 @@ const COLUMN: &[(&str, &[u8])] = &[
     ("00.010", b"0.01"),
 ];
 
-/// A start, calls, and what a person is told.
+/// A start, calls, and the text or the sentence of the error.
 const RUNS: &[(&[u8], &[Call<'static>], &[u8])] = &[
     (b"250", &[Call::MultiplyPow10(-2)], b"2.50"),
     (b"1,5", &[], b"Start: Failed to parse the input string"),
@@ -89,21 +89,21 @@ const RUNS: &[(&[u8], &[Call<'static>], &[u8])] = &[
     ),
 ];
 
-/// The price that is printed.
+/// Returns the price that is printed.
 fn price(alloc: Global, cents: u64, percent: u32) -> Result<TextBuf, Fail> {
     let mut sink = TextBuf::new(alloc);
     write_price(alloc, cents, percent, &mut sink)?;
     Ok(sink)
 }
 
-/// The text of what coins can pay.
+/// Returns the text of a multiple of five cents.
 fn cash(alloc: Global, cents: u64, percent: u32) -> Result<TextBuf, Fail> {
     let mut sink = TextBuf::new(alloc);
     cash_amount(alloc, cents, percent)?.write_to(&mut sink)?;
     Ok(sink)
 }
 
-/// The texts of the parts, with a space behind each.
+/// Returns the texts of the parts, each followed by a space.
 fn parts(alloc: Global, amount: &str, count: u32) -> Result<TextBuf, Fail> {
     let mut sink = TextBuf::new(alloc);
     let amount = UnsignedDecimal::try_from_str(alloc, amount)?;
@@ -114,7 +114,7 @@ fn parts(alloc: Global, amount: &str, count: u32) -> Result<TextBuf, Fail> {
     Ok(sink)
 }
 
-/// Whether an amount is refused so.
+/// Whether splitting an amount fails with this error.
 fn refuses(alloc: Global, amount: &str, count: u32, error: BillError) -> Result<bool, Fail> {
     let amount = UnsignedDecimal::try_from_str(alloc, amount)?;
     match split_bill(alloc, &amount, count) {
@@ -123,7 +123,7 @@ fn refuses(alloc: Global, amount: &str, count: u32, error: BillError) -> Result<
     }
 }
 
-/// The text of a measured value.
+/// Returns the text of a measured value.
 fn measurement(alloc: Global, measured: &str, decimals: u8) -> Result<TextBuf, Fail> {
     let mut sink = TextBuf::new(alloc);
     let mut value = Decimal::try_from_str(alloc, measured)?;
@@ -132,14 +132,14 @@ fn measurement(alloc: Global, measured: &str, decimals: u8) -> Result<TextBuf, F
     Ok(sink)
 }
 
-/// The normal form of an amount.
+/// Returns the normal form of an amount.
 fn normal_form(alloc: Global, amount: &str) -> Result<TextBuf, Fail> {
     let mut sink = TextBuf::new(alloc);
     write_normal_form(alloc, amount, &mut sink)?;
     Ok(sink)
 }
 
-/// What a person is told.
+/// Returns the text or the sentence of the error.
 fn told(alloc: Global, start: &[u8], calls: &[Call<'_>]) -> Result<TextBuf, Fail> {
     let mut sink = TextBuf::new(alloc);
     write_or_tell(alloc, start, calls, &mut sink)?;

@@ -9,7 +9,7 @@ use decimal_digits::digits::DigitStore;
 use decimal_unsigned::decimal::UnsignedOver;
 use fixed_decimal::{ConcatenateError, LimitError, Sign, Signed, UnsignedDecimal};
 
-/// Two calls in a row, of which the first may be refused, over any list of digits.
+/// Two calls in sequence, the first of which may fail, over any store.
 fn to_cents<D: DigitStore>(value: &mut Signed<UnsignedOver<D>>) -> Result<(), LimitError>
     ensures ok { OnOk result (with_absolute value.old
         (option_map trimmed_end (multiplied_pow10 value.old.absolute (negsuc 1))) ≡ Some value.new) }
@@ -20,7 +20,7 @@ fn to_cents<D: DigitStore>(value: &mut Signed<UnsignedOver<D>>) -> Result<(), Li
     Ok(())
 }
 
-/// An explicit reference, at a decimal that is owned.
+/// An explicit reference to an owned decimal.
 fn owned_to_cents(mut value: Decimal) -> Result<Decimal, LimitError>
     ensures { IfOk result (λ v. with_absolute value (multiplied_pow10 value.absolute (negsuc 1)) ≡ Some v) }
 {
@@ -29,7 +29,7 @@ fn owned_to_cents(mut value: Decimal) -> Result<Decimal, LimitError>
     Ok(value)
 }
 
-/// A call that may be refused.
+/// A call that may fail.
 fn append(
     value: &mut Decimal,
     other: UnsignedDecimal,
@@ -40,14 +40,14 @@ fn append(
     value.concatenate_end(other)
 }
 
-/// Another value in the place of the absolute one, of any type.
+/// Replaces the absolute value, of any type.
 fn replace<T: Drop>(value: &mut Signed<T>, next: T)
     ensures { value.new ≡ record value.old { absolute = next } }
 {
     **value = next;
 }
 
-/// A sign that is set, and then a change.
+/// Sets a sign, and then makes a call.
 fn negated_cents(mut value: Decimal) -> Result<Decimal, LimitError>
     ensures { IfOk result (λ v. with_absolute (record value { sign = Sign.Negative })
         (multiplied_pow10 value.absolute (negsuc 1)) ≡ Some v) }
@@ -57,7 +57,7 @@ fn negated_cents(mut value: Decimal) -> Result<Decimal, LimitError>
     Ok(value)
 }
 
-/// What is left of the least `i16` after a shift by -2, and after cuts at each of these positions.
+/// Returns the least `i16` shifted by -2, and then cut at each of these positions.
 fn cut_cents(alloc: Global, positions: &[i16]) -> Result<Decimal, LimitError> {
     let mut value = Decimal::from_i16(alloc, i16::MIN);
     value.multiply_pow10(-2)?;
@@ -67,7 +67,7 @@ fn cut_cents(alloc: Global, positions: &[i16]) -> Result<Decimal, LimitError> {
     Ok(value)
 }
 
-/// What is left of `-250` where 300 is put in the place of 250, and moved by two magnitudes.
+/// Returns `-250` with the absolute value replaced by 300, and shifted by two magnitudes.
 fn replaced(alloc: Global) -> Result<Decimal, LimitError> {
     let mut value = Decimal::from_i16(alloc, -250);
     replace(&mut value, UnsignedDecimal::from_u16(alloc, 300));
@@ -75,14 +75,14 @@ fn replaced(alloc: Global) -> Result<Decimal, LimitError> {
     Ok(value)
 }
 
-/// `-120` after a number is joined to it, which may be refused.
+/// Returns `-120` after a number is concatenated to it, which may fail.
 fn appended(alloc: Global, other: u8) -> Decimal {
     let mut value = Decimal::from_i16(alloc, -120);
     let _ = append(&mut value, UnsignedDecimal::from_u8(alloc, other));
     value
 }
 
-/// Whether a call was made, and left a decimal with this text.
+/// Whether a call succeeded, and returned a decimal with this text.
 fn leaves(answer: Result<Decimal, LimitError>, text: &str) -> bool {
     match answer {
         Ok(value) => prints(value, text),
@@ -90,25 +90,25 @@ fn leaves(answer: Result<Decimal, LimitError>, text: &str) -> bool {
     }
 }
 
-/// Whether cuts at these positions leave this text.
+/// Whether cuts at these positions return this text.
 fn cuts_to(alloc: Global, positions: &[i16], text: &str) -> bool {
     leaves(cut_cents(alloc, positions), text)
 }
 
-/// Whether an integer is moved by two magnitudes to this text.
+/// Whether an integer shifted by two magnitudes has this text.
 fn moves_to(alloc: Global, integer: i16, text: &str) -> bool {
     leaves(owned_to_cents(Decimal::from_i16(alloc, integer)), text)
 }
 
-/// Whether an integer is negated and moved by two magnitudes to this text.
+/// Whether an integer negated and shifted by two magnitudes has this text.
 fn negates_to(alloc: Global, integer: u8, text: &str) -> bool {
     leaves(negated_cents(Decimal::from_u8(alloc, integer)), text)
 }
 
-/// Positions of cuts, and what they leave of `-327.68`.
+/// Positions of cuts, and the text of `-327.68` after them.
 const CUTS: &[(&[i16], &str)] = &[(&[], "-327.68"), (&[0], "-0.68"), (&[0, -2], "-0.00")];
 
-/// Numbers that are joined to `-120`, and what it is then.
+/// Numbers that are concatenated to `-120`, and the text after that.
 const APPENDED: &[(u8, &str)] = &[(25, "-120"), (5, "-125")];
 
 #[test]

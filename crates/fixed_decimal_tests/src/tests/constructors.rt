@@ -1,4 +1,4 @@
-//! Decimals and fixed integers of integers, at both ends of their types, and decimals of parts.
+//! Decimals and fixed integers from integers, at both ends of their types, and decimals from parts.
 use super::*;
 use fixed_decimal::{DigitStore, FixedInteger, PackedDigits, Sign, Signed, UnsignedOver};
 use std::alloc::AllocError;
@@ -96,7 +96,7 @@ fn fixed(alloc: Global, integer: Integer) -> Result<FixedInteger, AllocError> {
     }
 }
 
-/// Whether the decimal of an integer has its text. It is asked for again where memory was refused.
+/// Whether the decimal of an integer has its text. Tries once more if out of memory.
 fn makes_decimal<D: DigitStore>(
     alloc: Global,
     integer: Integer,
@@ -109,7 +109,7 @@ fn makes_decimal<D: DigitStore>(
     Ok(shows(&answer?, text.as_bytes()))
 }
 
-/// Whether the fixed integer of an integer has its text. It is asked for again where memory was refused.
+/// Whether the fixed integer of an integer has its text. Tries once more if out of memory.
 fn makes_fixed(alloc: Global, integer: Integer, text: &str) -> Result<bool, AllocError> {
     let answer = match fixed(alloc, integer) {
         Err(AllocError) => fixed(alloc, integer),

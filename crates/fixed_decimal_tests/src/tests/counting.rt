@@ -12,17 +12,17 @@ use fixed_decimal::{RoundError, Signed};
 /// A position, a mode and an increment.
 type Rounding = decimal_doubles::Rounding<SignedRoundingMode>;
 
-/// A number, a rounding, and how many digits it touches: at most one below the position, the one above it (by 1) or the
-/// two (by 2, 5 and 25), those that vanish and one more, and those that are written.
+/// A number, a rounding, and the number of digits accessed: at most one below the position, the one above it (by 1) or
+/// the two (by 2, 5 and 25), those that vanish and one more, and those that are written.
 const ACCESSES: &[(&str, Rounding, usize)] = &[
     // Nothing follows the position: by 1 none is read, by 5 the last two.
     ("1234567", (0, Unsigned(Expand), By1), 0),
     ("1234565", (0, Unsigned(Expand), By5), 2),
     ("12", (-5, Unsigned(Expand), By1), 0),
-    // Digits go: 6 and 5 are read, and by 5 the 4 too.
+    // Digits vanish: 6 and 5 are read, and by 5 the 4 too.
     ("1234567", (2, Unsigned(Trunc), By1), 2),
     ("1234567", (2, Unsigned(Trunc), By5), 3),
-    // Zeros go too: 6 and 0 are read, by 5 one more, and then 0, 0 and 3.
+    // Zeros vanish too: 6 and 0 are read, by 5 one more, and then 0, 0 and 3.
     ("1230067", (2, Unsigned(Trunc), By1), 5),
     ("1230067", (2, Unsigned(Trunc), By5), 6),
     ("1230024", (0, Unsigned(Trunc), By25), 5),
@@ -34,8 +34,8 @@ const ACCESSES: &[(&str, Rounding, usize)] = &[
     ("1267", (2, Unsigned(Expand), By2), 5),
     // 68 becomes 70: the 7 is written.
     ("1234568", (0, Unsigned(Expand), By5), 3),
-    // A carry: by 1 the 999 and the 2 are read behind the 9, by 2 a 9 and the 2 behind the 99; the 2 once more, and a
-    // 3 is written.
+    // A carry: by 1 the 999 and the 2 before the last 9 are read, by 2 a 9 and the 2 before the last 99; the 2 once
+    // more, and a 3 is written.
     ("1299967", (2, Unsigned(Expand), By1), 8),
     ("1299967", (2, Unsigned(Expand), By2), 7),
     // A carry through nines alone: by 1 all five are read, by 2 three more, and a 1 is written.
@@ -50,7 +50,7 @@ const ACCESSES: &[(&str, Rounding, usize)] = &[
     ("999e32765", (32765, Unsigned(Expand), By2), 3),
 ];
 
-/// Whether a rounding by increment touches so many digits, made or refused.
+/// Whether a rounding by increment accesses `digits` digits, with or without an error.
 fn touches<T: Value + Rounds<SignedRoundingMode> + Counts>(
     alloc: Global,
     (text, rounding, digits): (&str, Rounding, usize),

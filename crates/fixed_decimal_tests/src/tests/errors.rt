@@ -3,7 +3,7 @@ use super::*;
 use fixed_decimal::{ConcatenateError, IntegerError, LimitError, RoundError, RunError, SinkFault};
 use std::error::Error;
 
-/// Errors of runs, and what they print.
+/// Errors of runs, and their texts.
 const RUN_ERRORS: &[(RunError, &str)] = &[
     (
         RunError::Start(ParseError::Syntax),
@@ -25,7 +25,7 @@ const RUN_ERRORS: &[(RunError, &str)] = &[
     (RunError::Sink, "The sink refused a byte"),
 ];
 
-/// Whether `{}` writes this text of an error, whatever the options.
+/// Whether `{}` writes this text of an error, with any options.
 fn tells<E: Error>(error: &E, text: &str) -> bool {
     displays(error, text.as_bytes())
 }

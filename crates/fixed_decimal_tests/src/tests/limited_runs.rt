@@ -1,4 +1,4 @@
-//! Runs over stores with little memory: each growth is refused in turn, until a run comes to its text.
+//! Runs over stores of limited size: each growth fails, one limit after the other, until the run returns its text.
 use super::*;
 use decimal_doubles::{
     EightDigits, EighteenDigits, LimitedSink, LimitedStore, NineteenDigits, SeventeenDigits,
@@ -10,7 +10,7 @@ use fixed_decimal::SignedRoundingMode::Unsigned;
 use fixed_decimal::UnsignedRoundingMode::{Expand, Trunc};
 use fixed_decimal::{Call, DigitList, DigitStore, PackedDigits, RunError, run_over};
 
-/// What a run wanted memory for.
+/// The part of a run that is out of memory.
 #[derive(Clone, Copy, PartialEq)]
 enum Want {
     /// The start.
@@ -19,15 +19,15 @@ enum Want {
     Operand(usize),
     /// The call with this number.
     Call(usize),
-    /// Nothing: the text came.
+    /// None: the run writes its text.
     Nothing,
-    /// Nothing: the call with this number would pass the limits.
+    /// None: the call with this number is beyond the limits.
     Limit(usize),
-    /// Another answer, or a sink that is not as the answer says.
+    /// Any other result, or a sink that does not fit the result.
     Other,
 }
 
-/// A start, calls, the text, and what is wanted where there is memory for so many digits.
+/// A start, calls, the text, and for limits of a number of digits the part that is out of memory.
 type Run = (
     &'static str,
     &'static [Call<'static>],
@@ -35,7 +35,7 @@ type Run = (
     &'static [(usize, Want)],
 );
 
-/// Runs that want memory for more than sixteen digits.
+/// Runs that need an allocation for more than sixteen digits.
 const RUNS: &[Run] = &[
     (
         "922337203685477580898230948203840239384.9823094820384023938423424",
@@ -94,7 +94,7 @@ const RUNS: &[Run] = &[
     ),
 ];
 
-/// Runs that want memory for more than eight digits.
+/// Runs that need an allocation for more than eight digits.
 const BYTE_RUNS: &[Run] = &[
     (
         "12345678",
@@ -116,7 +116,7 @@ const BYTE_RUNS: &[Run] = &[
     ),
 ];
 
-/// What a run that was refused wanted memory for.
+/// Returns the part of a run that is out of memory, by the error.
 fn wanted_for(error: &RunError) -> Want {
     match error {
         RunError::Start(ParseError::Memory) => Want::Start,
@@ -130,7 +130,7 @@ fn wanted_for(error: &RunError) -> Want {
     }
 }
 
-/// What a run over a store wants memory for, where it leaves its sink as the answer says.
+/// Returns the part of a run over a store that is out of memory, if the sink fits the result.
 fn wanted_over<S: DigitStore>(
     alloc: Global,
     (start, calls, text): (&str, &[Call<'_>], &str),
@@ -143,7 +143,7 @@ fn wanted_over<S: DigitStore>(
     }
 }
 
-/// The same where there is memory for so many digits.
+/// The same with a limit of `most` digits.
 fn wanted<D: DigitStore>(alloc: Global, most: usize, run: (&str, &[Call<'_>], &str)) -> Want {
     match most {
         8 => wanted_over::<LimitedStore<D, EightDigits>>(alloc, run),
@@ -156,7 +156,7 @@ fn wanted<D: DigitStore>(alloc: Global, most: usize, run: (&str, &[Call<'_>], &s
     }
 }
 
-/// Whether a run wants memory for each of these, and for one that was refused before where it is made again.
+/// Whether each of these parts is out of memory. Tries once more, since another allocation of the run may fail.
 fn wants<D: DigitStore>(alloc: Global, (start, calls, text, wants): Run) -> bool {
     for (most, want) in wants {
         let first = wanted::<D>(alloc, *most, (start, calls, text));

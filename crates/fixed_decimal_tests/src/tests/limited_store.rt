@@ -9,7 +9,7 @@ use fixed_decimal::SignedRoundingMode::{self, Ceil, Unsigned};
 use fixed_decimal::UnsignedRoundingMode::{Expand, HalfEven, Trunc};
 use fixed_decimal::{DigitList, DigitStore, PackedDigits, Signed, UnsignedOver};
 
-/// Whether reading a text of too many digits fails with `Limit` where there is memory for eight digits.
+/// Whether parsing a text of too many digits fails with `Limit` with memory for eight digits.
 fn fails_for_limit<D: DigitStore>(alloc: Global, text: &str) -> bool {
     let value = UnsignedOver::<LimitedStore<D, EightDigits>>::try_from_str(alloc, text);
     reading_word(value) == "limit"
@@ -46,7 +46,7 @@ const WITHOUT_MEMORY: &[Row] = &[
     (NINES, 32_727, Unsigned(Trunc), Err(Memory)),
 ];
 
-/// Whether a rounding has the result of its row. Where it fails, both calls have to leave the value.
+/// Whether a rounding has the result of its row. If it fails, both calls have to leave the value unchanged.
 fn has_result<T: Value + Rounds<SignedRoundingMode> + Counts>(
     alloc: Global,
     (number, position, mode, wanted): Row,

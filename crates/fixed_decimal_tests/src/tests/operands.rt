@@ -1,4 +1,4 @@
-//! Tables of texts and operands. A helper holds one value, and answers whether all is as its row says.
+//! Tables of texts and operands. A helper holds one value, and returns whether its row holds.
 use decimal_digits::digits::{DigitList, DigitStore};
 use decimal_doubles::{CountingStore, LimitedStore, MaxDigits, long};
 use decimal_unsigned::decimal::{DecimalStore, UnsignedOver};
@@ -8,7 +8,7 @@ use std::alloc::Global;
 use std::process::Abort;
 use std::test::Fail;
 
-/// What the operands i, v, w, f and t are.
+/// The operands i, v, w, f and t.
 type Expected = (Option<u64>, u32, u32, Option<u64>, Option<u64>);
 
 /// The greatest number of 64 bits.
@@ -104,7 +104,7 @@ const REMAINDERS: &[(&str, u64, (u64, u64, u64))] = &[
     ("1 0*32767", 7, (3, 0, 0)),
 ];
 
-/// What is asked of the operands of a number, and how many digits that reads.
+/// A call on the operands of a number.
 #[derive(Clone, Copy)]
 enum Question {
     I,
@@ -115,7 +115,7 @@ enum Question {
     TModulo(u64),
 }
 
-/// Texts in parts, what is asked, and how many digits are read.
+/// Texts in parts, a call, and the number of digits read.
 const READS: &[(&str, Question, usize)] = &[
     ("12345", Question::IModulo(100), 2),
     ("9*32768 . 9*32768", Question::IModulo(100), 2),
@@ -209,7 +209,7 @@ fn compact_decimals(rt: HostRuntime) -> Result<(), Fail> {
     Ok(())
 }
 
-/// The remainders of i, f and t. None by 0 and above 10 to the 18.
+/// Returns the remainders of i, f and t; `None` by 0 and above 10^18.
 fn remainders<D: DigitStore>(
     found: PluralOperands<'_, D>,
     modulus: u64,
@@ -252,7 +252,7 @@ fn moduli(rt: HostRuntime) -> Result<(), Fail> {
     Ok(())
 }
 
-/// Asks, and answers whether the question could be put.
+/// Makes the call, and returns whether its modulus is valid.
 fn ask<D: DigitStore>(found: PluralOperands<'_, D>, what: Question) -> bool {
     match what {
         Question::I => {
@@ -284,7 +284,7 @@ fn ask<D: DigitStore>(found: PluralOperands<'_, D>, what: Question) -> bool {
     }
 }
 
-/// How many digits are read, by a store that counts them.
+/// Returns the number of digits read, by a store that counts them.
 fn reads<D: DigitStore>(alloc: Global, text: &str, what: Question) -> Result<Option<usize>, Fail> {
     let value = UnsignedOver::<LimitedStore<D, MaxDigits>>::try_from_str(alloc, text)?;
     value.store().restart();

@@ -1,9 +1,9 @@
-//! Values into sinks, and into sinks and writers that fail.
+//! Values written to sinks, and to sinks and writers that fail.
 use super::*;
 use decimal_doubles::{FailingWriter, LimitedSink, WriteFailure};
 use fixed_decimal::Out;
 
-/// What a sink takes of a value three times.
+/// Writes a value to a sink three times.
 fn printed_thrice<T: Value>(alloc: Global, text: &str) -> Result<TextBuf, Fail> {
     let value = read::<T>(alloc, text)?;
     let mut sink = TextBuf::new(alloc);
@@ -29,16 +29,16 @@ fn takes_texts(rt: HostRuntime) -> Result<(), Fail> {
     Ok(())
 }
 
-/// A text that sinks and writers with too little room refuse.
+/// A text for sinks and writers without room for all of it.
 const TEXT: &str = "1234.50";
 
-/// Whether a sink with so much room takes a beginning of the text, and has failed.
+/// Whether a sink with room for `room` bytes takes a prefix of the text, and has failed.
 fn keeps_beginning<T: Value>(value: &T, room: usize) -> bool {
     let mut sink = LimitedSink::new(TEXT.as_bytes(), room);
     value.write_to(&mut sink).is_err() && sink.failed() && sink.has_taken(room)
 }
 
-/// Whether a writer with so much room takes a beginning of the text, and is not called after its refusal.
+/// Whether a writer with room for `room` bytes takes a prefix of the text, and is not called after it fails.
 fn fills<T: Value>(value: &T, room: usize, refusal: WriteFailure) -> bool {
     let mut sink = Out::new(FailingWriter::new(TEXT.as_bytes(), room, refusal));
     let first = value.write_to(&mut sink).is_err();
@@ -48,7 +48,7 @@ fn fills<T: Value>(value: &T, room: usize, refusal: WriteFailure) -> bool {
     refused && writer.has_taken(room) && writer.refused() == 1
 }
 
-/// Whether each sink and each writer with so much room takes a beginning of the text.
+/// Whether each sink and each writer with room for `room` bytes takes a prefix of the text.
 fn keeps_beginnings<T: Value>(alloc: Global, room: usize) -> Result<bool, Fail> {
     let value = read::<T>(alloc, TEXT)?;
     Ok(

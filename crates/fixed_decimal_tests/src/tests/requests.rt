@@ -1,16 +1,16 @@
-//! Calls that do not allocate, over a store that counts the requests.
+//! Calls that do not allocate, over a store that counts the calls that may.
 use super::*;
 use decimal_doubles::{CountingStore, Counts, Join, Joins, LimitedStore, MaxDigits};
 
 /// A store that counts, with memory for every number.
 pub type Counting<D> = LimitedStore<D, MaxDigits>;
 
-/// Whether a value has a text, and has asked for nothing since it was counted.
+/// Whether a value has a text, with no call since it was counted that may allocate.
 fn has_for_nothing<T: Value + Counts>(value: &T, text: &str) -> bool {
     value.counted().asked_nothing() && has_text(value, text)
 }
 
-/// The value of a text, counted from now on.
+/// Parses a text, and starts to count.
 fn counted<T: Value + Counts>(alloc: Global, text: &str) -> Result<T, Fail> {
     let value = read::<T>(alloc, text)?;
     value.counted().restart();
@@ -25,7 +25,7 @@ const PAIRS: &[(&str, &str, bool)] = &[
     ("2.50", "2.5", false),
 ];
 
-/// Whether the values of two texts are equal as they are to be, and asking it asks for nothing.
+/// Whether the equality of the values of two texts is as given, without a call that may allocate.
 fn equal_for_nothing<T: Value + Counts>(
     alloc: Global,
     (left, right, same): (&str, &str, bool),
@@ -54,8 +54,8 @@ fn equality_asks_for_nothing(rt: HostRuntime) -> Result<(), Fail> {
 /// Numbers that are concatenated to 0.
 const NUMBERS: &[&str] = &["7", "12345678901234567890.5"];
 
-/// Whether the number of a text is moved into 0, its very list, and stays as it is where 0 is joined to it. Neither 0
-/// nor the joins ask for anything.
+/// Whether concatenating a number to 0 moves its very list, and concatenating 0 to it leaves it unchanged. Neither
+/// making 0 nor concatenating may allocate.
 fn joins_zero_for_nothing<T: Value + Joins + Counts>(
     alloc: Global,
     (zero, other_zero): (T, T),
@@ -72,7 +72,7 @@ fn joins_zero_for_nothing<T: Value + Joins + Counts>(
     }
 }
 
-/// Whether zeros ask for nothing, over a store.
+/// Whether zeros do not allocate, over a store.
 fn zeros_for_nothing<S: CountingStore>(alloc: Global, text: &str) -> Result<bool, Fail> {
     let zero = UnsignedOver::<S>::zero(alloc);
     let other = UnsignedOver::<S>::zero(alloc);

@@ -1,4 +1,4 @@
-//! Texts of plural rules, and the errors of texts that are none.
+//! Texts of plural rules, and the errors of other texts.
 use plural_rules::{PluralRules, RulesError};
 use std::test::Fail;
 
@@ -18,7 +18,7 @@ const RULES: &[&str] = &[
     "other: @integer 99999999999999999999999999",
 ];
 
-/// Texts that are no rules, and the place where none can go on.
+/// Texts that are not rules, and the offset of the error.
 const SYNTAX: &[(&str, usize)] = &[
     ("", 0),
     ("  ", 2),
@@ -48,7 +48,7 @@ const SYNTAX: &[(&str, usize)] = &[
     ("zero:n=0;one:n=1;two:n=2;few:n=3;many:n=4;other:;", 48),
 ];
 
-/// Texts of rules with a number that is too great, and its place.
+/// Texts of rules with a number that is too great, and its offset.
 const LIMIT: &[(&str, usize)] = &[
     ("one: n = 18446744073709551616", 9),
     ("one: n = 1, 2..0018446744073709551616", 15),

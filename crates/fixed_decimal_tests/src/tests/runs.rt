@@ -3,24 +3,24 @@ use super::*;
 use decimal_doubles::{FailingWriter, LimitedSink, WriteFailure};
 use fixed_decimal::{Call, Out, RunError, run_over};
 
-/// A start, calls, and the text that they come to.
+/// A start, calls, and the text of the run.
 type Run = (&'static str, &'static [Call<'static>], &'static str);
 
-/// Runs that sinks and writers with too little room refuse. None of them asks for memory.
+/// Runs for sinks and writers without room for the whole text. They do not allocate.
 const BROKEN: &[Run] = &[
     ("2.50", &[], "2.50"),
     ("-1234.50", &[], "-1234.50"),
     ("-12e2", &[Call::MultiplyPow10(-1)], "-120"),
 ];
 
-/// Whether a run fails with a sink that has so much room, which takes a beginning of the text.
+/// Whether a run fails with a sink with room for `room` bytes, which takes a prefix of the text.
 fn fails_with_sink<D: DigitStore>(alloc: Global, (start, calls, text): Run, room: usize) -> bool {
     let mut sink = LimitedSink::new(text.as_bytes(), room);
     let answer = run_over::<D, LimitedSink<'_>>(alloc, start.as_bytes(), calls, &mut sink);
     answer == Err(RunError::Sink) && sink.failed() && sink.has_taken(room)
 }
 
-/// Whether a run fails with a writer that has so much room, which takes a beginning and is not called again.
+/// Whether a run fails with a writer with room for `room` bytes, which takes a prefix and is not called again.
 fn fails_with_writer<D: DigitStore>(
     alloc: Global,
     (start, calls, text): Run,
@@ -34,7 +34,7 @@ fn fails_with_writer<D: DigitStore>(
     answer == Err(RunError::Sink) && failed && writer.has_taken(room) && writer.refused() == 1
 }
 
-/// Whether a run fails with each sink and each writer that has too little room.
+/// Whether a run fails with each sink and each writer without room for the whole text.
 fn fails_with_each<D: DigitStore>(alloc: Global, row: Run) -> bool {
     for room in 0..row.2.len() {
         let fails = fails_with_sink::<D>(alloc, row, room)

@@ -1,8 +1,8 @@
-//! Values without a sign of integers, at both ends of their types, and the magnitudes that values show.
+//! Unsigned values from integers, at both ends of their types, and the magnitudes that values show.
 use super::*;
 use std::alloc::AllocError;
 
-/// One call that makes a value of an integer.
+/// A call that makes a value of an integer.
 #[derive(Clone, Copy)]
 enum Integer {
     Zero,
@@ -78,7 +78,7 @@ fn of_integers(rt: HostRuntime) -> Result<(), Fail> {
     Ok(())
 }
 
-/// A text, and the magnitudes that its value shows, from the lowest up.
+/// A text, and the magnitudes that its value shows, in ascending order.
 const SHOWN: &[(&str, &[i16])] = &[
     ("7", &[0]),
     ("0", &[0]),
@@ -86,7 +86,7 @@ const SHOWN: &[(&str, &[i16])] = &[
     ("012.340", &[-3, -2, -1, 0, 1, 2]),
 ];
 
-/// Whether the value of a text shows these magnitudes, from the lowest up.
+/// Whether the value of a text shows these magnitudes, in ascending order.
 fn shows_each(alloc: Global, text: &str, wanted: &[i16]) -> Result<bool, Fail> {
     let mut range = read::<UnsignedOver<PackedDigits>>(alloc, text)?.magnitude_range();
     for magnitude in wanted {

@@ -7,7 +7,7 @@ use decimal_digits::ops::lowered;
 use fixed_decimal::{DigitStore, UnsignedOver};
 use std::marker::Model;
 
-/// The digits of a value at magnitudes in a row, from one down.
+/// The digits of a value at consecutive magnitudes, from `top` downward.
 ///
 /// Contracts see the integer that they make.
 #[derive(Drop)]
@@ -30,7 +30,7 @@ impl<'a, D: DigitStore> Model for Digits<'a, D> {
 }
 
 impl<'a, D: DigitStore> Digits<'a, D> {
-    /// Takes the digits at the given number of magnitudes, from one down.
+    /// Makes the digits at `count` magnitudes, from `top` downward.
     pub(super) fn new(value: &'a UnsignedOver<D>, top: i16, count: u32) -> Self
         requires { count ≤ place top + 1 }
         ensures { result ≡ part value.now.number (place top + 1) count }
@@ -38,14 +38,14 @@ impl<'a, D: DigitStore> Digits<'a, D> {
         Digits { value, top, count }
     }
 
-    /// Gives the integer, where it is at most this. No digit is read after the one that makes it more.
+    /// Returns the integer if it is at most `most`. Reads no digit after the one that exceeds it.
     pub(super) fn up_to(&self, most: u64) -> Option<u64>
         ensures { IsUpTo most result self.now }
     {
         integer(self.value, self.top, self.count, most)
     }
 
-    /// Gives the remainder of the integer by a modulus.
+    /// Returns the remainder of the integer by a modulus.
     pub(super) fn modulo(&self, modulus: u64) -> u64
         requires some { 0 < modulus }
         requires small { modulus ≤ 10 ^ 18 }
@@ -55,9 +55,9 @@ impl<'a, D: DigitStore> Digits<'a, D> {
     }
 }
 
-/// The digits at so many magnitudes, from one down, as an integer. None where it is above the greatest one asked for.
+/// Returns the digits at `count` magnitudes, from `top` downward, as an integer; `None` if it is above `most`.
 ///
-/// No digit is read behind the one that passes that.
+/// Reads no digit after the one that exceeds `most`.
 fn integer<D: DigitStore>(value: &UnsignedOver<D>, top: i16, count: u32, most: u64) -> Option<u64>
     requires in_limits { count ≤ place top + 1 }
     ensures { IsUpTo most result (part value.now.number (place top + 1) count) }
@@ -75,7 +75,7 @@ fn integer<D: DigitStore>(value: &UnsignedOver<D>, top: i16, count: u32, most: u
     Some(found)
 }
 
-/// How many zeros stand behind the 1 of a power of ten. None of another number.
+/// Returns the exponent of a power of ten of at most 10^18, and `None` for every other number.
 fn zeros_of(power: u64) -> Option<u32>
     ensures { IfSome result (λ zeros. power ≡ 10 ^ zeros) }
 {
@@ -89,9 +89,9 @@ fn zeros_of(power: u64) -> Option<u32>
     None
 }
 
-/// The digits at so many magnitudes, from one down, as an integer: its remainder by a modulus.
+/// Returns the remainder by a modulus of the digits at `count` magnitudes, from `top` downward.
 ///
-/// By 10 to the k the last k of them are read.
+/// A modulus 10^k reads the last k of them.
 fn remainder<D: DigitStore>(value: &UnsignedOver<D>, top: i16, count: u32, modulus: u64) -> u64
     requires some { 0 < modulus }
     requires small { modulus ≤ 10 ^ 18 }
@@ -107,7 +107,7 @@ fn remainder<D: DigitStore>(value: &UnsignedOver<D>, top: i16, count: u32, modul
     }
 }
 
-/// The same, with each of the digits read.
+/// Returns the same remainder, reading every digit.
 fn remainder_of_all<D: DigitStore>(
     value: &UnsignedOver<D>,
     top: i16,

@@ -1,4 +1,4 @@
-//! Rules as they are read, from what the bytes say.
+//! Builds rules from the events of the parser.
 ghost use Rattle.std.specs.Prelude.{◌≡◌, ◌≤◌, ◌^◌, true, OnOk};
 ghost use Rattle.plural_rules.specs.declared.parse.state.Categories.{Categories};
 ghost use Rattle.plural_rules.specs.RulesReader as reader;
@@ -9,7 +9,7 @@ use crate::rules::{Modulus, Operand, PluralCategory, PluralRules, Range, Relatio
 use std::alloc::{AllocError, Global};
 use std::mem;
 
-/// Whole rules, and the parts of the one that is read.
+/// The complete rules, and the parts of the rule that is being read.
 #[derive(Drop)]
 pub struct Builder {
     alloc: Global,
@@ -26,7 +26,7 @@ pub struct Builder {
     number: u64,
 }
 
-/// The modulus that was read, if there was one.
+/// Returns the modulus that was read, if any.
 fn modulus_read(is_divided: bool, number: u64) -> Option<Modulus>
     requires { is_divided ≡ true → number ≤ 10 ^ 18 }
     ensures { result ≡ reader.modulus_of is_divided number }
@@ -39,7 +39,7 @@ fn modulus_read(is_divided: bool, number: u64) -> Option<Modulus>
 }
 
 impl Builder {
-    /// No rules.
+    /// Makes a builder without rules.
     pub fn new(alloc: Global) -> Self
         ensures { partial reader.no_categories result ≡ reader.no_rules }
     {
@@ -59,14 +59,14 @@ impl Builder {
         }
     }
 
-    /// The rules that were read to their end.
+    /// Returns the complete rules.
     pub fn into_rules(self) -> PluralRules
         ensures { (seen : Categories) → result ≡ (partial seen self).rules }
     {
         PluralRules::new(self.rules)
     }
 
-    /// Takes a category, whose condition begins.
+    /// Starts a rule by its category.
     fn begin_rule(&mut self, category: PluralCategory)
         ensures { (seen : Categories) → partial (reader.with seen category) self.new
             ≡ reader.after (Event.Category category) (partial seen self.old) }
@@ -76,7 +76,7 @@ impl Builder {
         self.relations = Vec::new(self.alloc);
     }
 
-    /// Takes an operand, whose relation begins.
+    /// Starts a relation by its operand.
     fn begin_relation(&mut self, operand: Operand)
         ensures { (seen : Categories)
             → partial seen self.new ≡ reader.after (Event.Operand operand) (partial seen self.old) }
@@ -86,7 +86,7 @@ impl Builder {
         self.ranges = Vec::new(self.alloc);
     }
 
-    /// Takes a comparison, whose ranges begin.
+    /// Starts the ranges after a comparison.
     fn begin_ranges(&mut self, is_equal: bool)
         requires { IsSmall (Event.Equal is_equal) self.old }
         ensures { (seen : Categories)
@@ -139,7 +139,7 @@ impl Builder {
         Ok(())
     }
 
-    /// Takes what a byte says. Err: memory was refused.
+    /// Processes an event. Err: out of memory.
     pub fn take(&mut self, event: Event) -> Result<(), AllocError>
         requires { IsSmall event self.old }
         ensures { OnOk result ((seen : Categories) → partial (reader.seen_after event seen) self.new

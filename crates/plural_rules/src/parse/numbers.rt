@@ -1,24 +1,24 @@
-//! The numbers of a text of rules, as they are read.
+//! The numbers in a text of rules, and whether they fit.
 ghost use Rattle.std.specs.Prelude.{◌≡◌};
 ghost use Rattle.plural_rules.specs.RulesReader as reader;
 
 use crate::parse::state::Event;
 use crate::rules::GREATEST_MODULUS;
 
-/// How far the numbers of a text were read.
+/// The numbers of the bytes that have been read.
 #[derive(Clone, Copy)]
 pub enum Numbers {
-    /// None is too great: the last one, as far as it was read, whether it is a modulus, and where it begins.
+    /// All of them fit: the last one as far as it was read, whether it is a modulus, and its offset.
     Fit {
         number: u64,
         is_modulus: bool,
         begin: usize,
     },
-    /// Where the first one begins that is too great.
+    /// The offset of the first one that is too great.
     Great(usize),
 }
 
-/// The greatest modulus, or the greatest other number.
+/// Returns the greatest modulus, or the greatest other number.
 fn limit(is_modulus: bool) -> u64
     ensures { result ≡ reader.limit is_modulus }
 {
@@ -29,7 +29,7 @@ fn limit(is_modulus: bool) -> u64
     }
 }
 
-/// A number, as far as it was read.
+/// Returns `Fit` for a number that is at most its limit, and `Great` for any other.
 fn counted(is_modulus: bool, begin: usize, number: u128) -> Numbers
     ensures { result ≡ reader.counted is_modulus begin number }
 {
@@ -45,7 +45,7 @@ fn counted(is_modulus: bool, begin: usize, number: u128) -> Numbers
 }
 
 impl Numbers {
-    /// The numbers behind the event of the byte at a place.
+    /// Returns the numbers after the event of the byte at offset `at`.
     pub fn after(self, at: usize, event: Event) -> Self
         ensures { result ≡ reader.numbers_after self at event }
     {

@@ -1,4 +1,4 @@
-//! How far a text of rules has been read, and what each byte does.
+//! The states of the parser of rules, and the transition on each byte.
 
 ghost use Rattle.std.specs.Prelude.{◌≡◌};
 ghost use Rattle.plural_rules.specs.RulesGrammar.{is_blank};
@@ -7,14 +7,14 @@ ghost use Rattle.plural_rules.specs.RulesReader as reader;
 
 use crate::rules::{Operand, PluralCategory};
 
-/// What may come behind the bytes that have been read.
+/// What may follow the bytes that have been read.
 #[derive(Clone, Copy)]
 pub enum State {
     /// A rule, by its category.
     Category,
-    /// The rest of `one` or of `other`, of which the first letter was read.
+    /// The rest of `one` or of `other`, after the first letter.
     One,
-    /// The letters of a category's name, from this one on, or the colon behind them.
+    /// The letters of a category's name, starting at this index, or the colon after them.
     Letters(PluralCategory, usize),
     /// The condition of `other`, or none.
     OtherCondition,
@@ -52,16 +52,16 @@ pub enum State {
     AndEnd,
     /// The last letter of `or`.
     OrEnd,
-    /// The blank behind `and` or `or`.
+    /// The blank after `and` or `or`.
     Blank,
-    /// Samples, which are not looked at.
+    /// Samples, which are skipped.
     Samples,
 }
 
-/// What a byte says of the rules.
+/// The effect of a byte on the rules.
 #[derive(Clone, Copy)]
 pub enum Event {
-    /// Nothing yet.
+    /// No effect yet.
     Nothing,
     /// A category was read, and its colon.
     Category(PluralCategory),
@@ -73,7 +73,7 @@ pub enum Event {
     First(u8),
     /// A further digit of a number.
     Digit(u8),
-    /// The ranges begin, behind `=` or, if false, behind `!=`.
+    /// The ranges begin, after `=` if true and after `!=` if false.
     Equal(bool),
     /// The second number of a range begins.
     To,
@@ -115,7 +115,7 @@ impl Categories {
         }
     }
 
-    /// Tells whether a category is among them.
+    /// Whether a category is among them.
     fn has(self, category: PluralCategory) -> bool
         ensures { result ≡ reader.has self category }
     {
@@ -129,7 +129,7 @@ impl Categories {
         }
     }
 
-    /// These categories and one more.
+    /// Returns these categories and one more.
     fn with(mut self, category: PluralCategory) -> Self
         ensures { result ≡ reader.with self category }
     {
@@ -144,7 +144,7 @@ impl Categories {
         self
     }
 
-    /// These categories, and the one that an event names.
+    /// Returns these categories, and the one that an event names.
     pub fn after(self, event: Event) -> Self
         ensures { result ≡ reader.seen_after event self }
     {
@@ -154,7 +154,7 @@ impl Categories {
         }
     }
 
-    /// Tells whether all six are among them.
+    /// Whether all six are among them.
     fn is_full(self) -> bool
         ensures { result ≡ reader.is_full self }
     {
@@ -162,17 +162,17 @@ impl Categories {
     }
 }
 
-/// The state behind a byte and what the byte says, or None where no rules go on so.
+/// The state after a byte and the event of the byte; `None` if no rules continue with the byte.
 type Move = Option<(State, Event)>;
 
-/// Tells whether a byte is a blank.
+/// Whether a byte is a blank.
 fn is_blank(byte: u8) -> bool
     ensures { result ≡ is_blank byte }
 {
     byte == b' ' || byte == b'\t' || byte == b'\n' || byte == b'\r'
 }
 
-/// A blank stays in the state; another byte does something else.
+/// Stays in the state at a blank; any other byte does `otherwise`.
 fn skip(state: State, byte: u8, otherwise: Move) -> Move
     ensures { result ≡ reader.skip state byte otherwise }
 {
@@ -220,7 +220,7 @@ fn second_letter(seen: Categories, byte: u8) -> Move
     }
 }
 
-/// What stands behind the colon of a category.
+/// Returns the state after the colon of a category.
 fn condition_of(category: PluralCategory) -> State
     ensures { result ≡ reader.condition_of category }
 {
@@ -269,7 +269,7 @@ fn comparison(byte: u8) -> Move
     }
 }
 
-/// What stands behind a range and its blanks.
+/// Reads the byte after a range and its blanks.
 fn follows_range(seen: Categories, byte: u8) -> Move
     ensures { result ≡ reader.follows_range seen byte }
 {
@@ -281,7 +281,7 @@ fn follows_range(seen: Categories, byte: u8) -> Move
     }
 }
 
-/// What stands behind the first number of a range.
+/// Reads the byte after the first number of a range.
 fn behind_low(seen: Categories, byte: u8) -> Move
     ensures { result ≡ reader.behind_low seen byte }
 {
@@ -293,14 +293,14 @@ fn behind_low(seen: Categories, byte: u8) -> Move
     skip(State::BehindLow, byte, dot_or_end)
 }
 
-/// What stands behind the second number of a range.
+/// Reads the byte after the second number of a range.
 fn behind_high(seen: Categories, byte: u8) -> Move
     ensures { result ≡ reader.behind_high seen byte }
 {
     skip(State::BehindHigh, byte, follows_range(seen, byte))
 }
 
-/// One byte and no other.
+/// Reads one byte, and rejects any other.
 fn only(wanted: u8, byte: u8, state: State, event: Event) -> Move
     ensures { result ≡ reader.only wanted byte state event }
 {
@@ -311,7 +311,7 @@ fn only(wanted: u8, byte: u8, state: State, event: Event) -> Move
     }
 }
 
-/// A further letter of a category's name, of which some were read, or the colon behind the last one.
+/// Reads the next letter of a category's name, `read` letters of which were read, or the colon after the last one.
 fn letter(category: PluralCategory, read: usize, byte: u8) -> Move
     ensures { result ≡ reader.letter category read byte }
 {
@@ -334,7 +334,7 @@ fn letter(category: PluralCategory, read: usize, byte: u8) -> Move
     }
 }
 
-/// The first digit of a number leads to the state.
+/// Reads the first digit of a number, which leads to the state.
 fn first(byte: u8, state: State) -> Move
     ensures { result ≡ reader.first byte state }
 {
@@ -345,7 +345,7 @@ fn first(byte: u8, state: State) -> Move
     }
 }
 
-/// A further digit leads to the state; another byte does something else.
+/// Reads a further digit, which leads to the state; any other byte does `otherwise`.
 fn digit(byte: u8, state: State, otherwise: Move) -> Move
     ensures { result ≡ reader.digit byte state otherwise }
 {
@@ -356,7 +356,7 @@ fn digit(byte: u8, state: State, otherwise: Move) -> Move
     }
 }
 
-/// The state behind a digit of a modulus of which all digits so far were 0, if there were some.
+/// Returns the state after a digit of a modulus whose digits before it, if any, are all 0.
 fn modulus_state(byte: u8) -> State
     ensures { result ≡ reader.modulus_state byte }
 {
@@ -367,7 +367,7 @@ fn modulus_state(byte: u8) -> State
     }
 }
 
-/// What stands behind an operand.
+/// Reads the byte after an operand.
 fn percent(byte: u8) -> Move
     ensures { result ≡ reader.next reader.no_categories State.Percent byte }
 {
@@ -379,7 +379,7 @@ fn percent(byte: u8) -> Move
     skip(State::Percent, byte, rest)
 }
 
-/// What stands behind the colon of `other`.
+/// Reads the byte after the colon of `other`.
 fn other_condition(seen: Categories, byte: u8) -> Move
     ensures { result ≡ reader.next seen State.OtherCondition byte }
 {
@@ -391,7 +391,7 @@ fn other_condition(seen: Categories, byte: u8) -> Move
     skip(State::OtherCondition, byte, rest)
 }
 
-/// A byte of samples, or the semicolon behind them.
+/// Reads a byte of samples, or the semicolon after them.
 fn sample(seen: Categories, byte: u8) -> Move
     ensures { result ≡ reader.next seen State.Samples byte }
 {
@@ -403,7 +403,7 @@ fn sample(seen: Categories, byte: u8) -> Move
 }
 
 impl State {
-    /// Gives what a byte does here, behind rules for some categories.
+    /// Returns the transition on a byte, after rules for the categories `seen`.
     pub fn next(self, seen: Categories, byte: u8) -> Option<(State, Event)>
         ensures { result ≡ reader.next seen self byte }
     {
@@ -437,7 +437,7 @@ impl State {
         }
     }
 
-    /// Gives what the end of the text says here. None where rules do not end so.
+    /// Returns the event of the end of the text; `None` if rules cannot end in this state.
     pub fn at_end(self) -> Option<Event>
         ensures { result ≡ reader.at_end self }
     {

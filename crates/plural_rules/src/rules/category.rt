@@ -1,4 +1,4 @@
-//! Which category a number takes by some rules.
+//! The plural category of a number by rules.
 ghost use Rattle.std.specs.Prelude.{◌≡◌, ℕ, ◌%◌, ◌^◌, ◌<◌, ◌≤◌};
 ghost use Rattle.std.specs.List.{list_any, list_all};
 ghost use Rattle.plural_rules.specs.Parts.{IsUpTo};
@@ -8,7 +8,7 @@ use super::{Operand, PluralCategory, PluralRules, Range, Relation, Rule};
 use crate::operands::PluralOperands;
 use fixed_decimal::DigitStore;
 
-/// An operand of a number, where it is an integer: n is i there. None where it is above this.
+/// Returns an operand as an integer, i for n; `None` if it is above `most`.
 fn integer<D: DigitStore>(
     number: &PluralOperands<'_, D>,
     operand: Operand,
@@ -26,7 +26,7 @@ fn integer<D: DigitStore>(
     }
 }
 
-/// The remainder of an operand by a modulus.
+/// Returns the remainder of an operand by a modulus.
 fn remainder<D: DigitStore>(number: &PluralOperands<'_, D>, operand: Operand, modulus: u64) -> u64
     requires some { 0 < modulus }
     requires small { modulus ≤ 10 ^ 18 }
@@ -43,7 +43,7 @@ fn remainder<D: DigitStore>(number: &PluralOperands<'_, D>, operand: Operand, mo
 }
 
 impl Range {
-    /// Whether an integer lies in the range. None stands for one above the range.
+    /// Whether an integer is in the range; `None` is an integer above the range.
     fn contains(&self, number: Option<u64>) -> bool
         ensures { (n : ℕ) → IsUpTo self.now.high number n → result ≡ in_range n self.now }
     {
@@ -54,7 +54,7 @@ impl Range {
     }
 }
 
-/// Whether an operand, where it is an integer, lies in one of the ranges.
+/// Whether an operand as an integer is in one of the ranges.
 fn operand_is_in<D: DigitStore>(
     number: &PluralOperands<'_, D>,
     operand: Operand,
@@ -65,7 +65,7 @@ fn operand_is_in<D: DigitStore>(
     ranges.iter().any(|range| range.contains(integer(number, operand, range.high)))
 }
 
-/// Whether a remainder lies in one of the ranges.
+/// Whether a remainder is in one of the ranges.
 fn remainder_is_in(remainder: u64, ranges: &[Range]) -> bool
     ensures { result ≡ list_any (in_range remainder) ranges.now }
 {
@@ -75,7 +75,7 @@ fn remainder_is_in(remainder: u64, ranges: &[Range]) -> bool
 }
 
 impl Relation {
-    /// Whether what the relation looks at is an integer in one of the ranges.
+    /// Whether the operand is an integer, and it or its remainder is in one of the ranges.
     fn equals<D: DigitStore>(&self, number: &PluralOperands<'_, D>) -> bool
         ensures { result ≡ equals number.now self.now }
     {
@@ -122,10 +122,10 @@ impl Rule {
 }
 
 impl PluralRules {
-    /// Gives the category of the first rule, in the order of the text, whose condition the number meets.
+    /// Returns the category of the first rule, in the order of the text, whose condition the number meets.
     ///
-    /// By `one: i = 1 and v = 0`, `1` is `One`, and `1.0` is `Other`, as is each number that meets no condition. It
-    /// takes no memory, and is exact however long the number is. Not in the original.
+    /// By `one: i = 1 and v = 0`, `1` is `One`, and `1.0` is `Other`, as is each number that meets no condition. Exact
+    /// at any length of the number; does not allocate.
     pub fn category<D: DigitStore>(&self, number: &PluralOperands<'_, D>) -> PluralCategory
         ensures { result ≡ category_of self.now number.now }
     {

@@ -10,11 +10,11 @@ use Rattle.cli.proofs.Splits.{after_position, mode_free}
 use Rattle.cli.proofs.calls.rounding.Goals as goal
 use Rattle.cli.proofs.calls.rounding.Goals.{In_ok-parts, In_ok-position, In_ok-mode_word}
 
--- the word is its name and its parts
+-- the word is its name and its parameters
 stripped : (c : In_ok-parts) → c.args.word.now ≡ codes "round:" ++ c.in_ok-parts.parts.now
 stripped c = let h = rw c.in_ok-parts.was at c.strip_prefix.ensures.cases in cc
 
--- where the word is a rounding, it is split after its position
+-- the parameters of a rounding, split after the position
 parts_of :
     (c : In_ok-position) → c.args.word.now ≡ codes "round:" ++ c.in_ok-parts.parts.now
     → (p : ℤ) (m : SignedRoundingMode) (i : RoundingIncrement) → Names c.args.word.now (Round p m i)
@@ -23,7 +23,7 @@ parts_of :
 parts_of c is p m i k = rw c.in_ok-position.was at
     (after_position c.args.word.now c.in_ok-parts.parts.now _ is c.split_once.ensures.cases p m i k)
 
--- and then after its mode
+-- and after the mode
 words_of :
     (c : In_ok-mode_word) (m : SignedRoundingMode) (i : RoundingIncrement)
     → c.in_ok-position.words.now ≡ mode_word m ++ (58 ∷ increment_word i)

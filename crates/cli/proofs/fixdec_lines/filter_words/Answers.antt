@@ -47,7 +47,7 @@ module _
         asked r
         (lines, how, stop, (λ other. appends_kept a b d _ (text other) k), unwritten a b d _ [] part all, folds)
 
-    -- whatever the filter returned, bytes of the block are missing
+    -- whatever the filter returned, bytes of the block were not written
     filters_missing :
         (r : Result Bool FilterError) → Filters AppendsPrefix reports on_error calls i a b e f r
         → (missing : List ℕ) × Keeps b (append_known d missing) → WordsFilter reports words i a d e f (Err Output)

@@ -6,7 +6,7 @@ use Rattle.plural_rules.specs.RulesBuilder.{partial}
 use Rattle.plural_rules.proofs.RulesRun.{run}
 use Rattle.plural_rules.proofs.parse.build.Given as goal
 
--- what is built is what is read of the bytes so far
+-- the builder holds the rules that the reader has after the bytes so far
 abbrev pub invariant-loop-byte : goal.invariant-loop-byte
 invariant-loop-byte l =
     run true state.Category no_rules (take l.byte-index l.text) ≡ Some (l.state, partial l.seen l.builder)

@@ -10,7 +10,7 @@ use Rattle.uses.proofs.bill.split_bill.Goals as goal
 use Rattle.uses.proofs.bill.split_bill.Goals.{then-part-left_over, else-part-left_over}
 
 module _ (total count : ℕ) where
-  -- the cents of the first parts
+  -- the cents of the first `count` parts
   cents_of : ℕ → ℕ
   cents_of zero = 0
   cents_of (suc part) = cents_of part + part_cents total count part

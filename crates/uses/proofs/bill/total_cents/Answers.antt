@@ -11,7 +11,7 @@ use Rattle.fixed_decimal.proofs.Calling.{weight_up, integer_is, not_whole, out_o
 use Rattle.uses.specs.Bill.{cent}
 use Rattle.uses.proofs.bill.total_cents.Goals as goal
 
--- a hundred cents are a whole one
+-- a hundred cents are one unit
 hundred : weight (pos 0) ≡ cent * 10 ^ 2
 hundred = weight_up (negsuc 1) 2 (omega (arith, ints))
 

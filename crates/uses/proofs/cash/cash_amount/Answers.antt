@@ -12,7 +12,7 @@ use Rattle.fixed_decimal.proofs.Calling.{integer_down, rounded_to-some}
 use Rattle.uses.specs.Cash.{IsCash}
 use Rattle.uses.proofs.cash.cash_amount.Goals as goal
 
--- what rounding a number of hundredths of cents by 5 at -2 makes is cash
+-- the hundredths of cents rounded to a multiple of 5 at -2 satisfy IsCash
 rounded_cash : (hundredths : ℕ) (old new : Unsigned) → old ≡ multiplied (integer_value hundredths) (negsuc 3)
     → IsRounded old (negsuc 1) HalfEven MultiplesOf5 (Some new) → IsCash hundredths new
 rounded_cash hundredths old new e r =

@@ -14,7 +14,7 @@ use Rattle.uses.specs.declared.column.ColumnError.{ColumnError}
 use Rattle.uses.specs.declared.column.ColumnError.TheVariants.{Amount, Sink}
 use Rattle.uses.proofs.column.write_column.Goals as goal
 
--- the text of one amount more
+-- the text of the amounts and one more
 one_more : (amounts : List (Bor (List ℕ))) (amount : Bor (List ℕ)) (form lines : List ℕ)
     → normal_form amount.now ≡ Ok form → column_text amounts ≡ Ok lines
     → column_text (amounts ++ amount ∷ []) ≡ Ok (lines ++ (form ++ 10 ∷ []))
@@ -38,12 +38,12 @@ one_more (first ∷ rest) amount form lines e h =
     go (Ok f) (Err x) more q p = absurd (cc)
     go (Err x) t more q p = absurd (cc)
 
--- the text that there is
+-- the text of a result that is Ok
 text_of : (r : Result (List ℕ) ReadingFault) (P : List ℕ → Type 0) → IsOkAnd r P → (t : List ℕ) × (r ≡ Ok t) × P t
 text_of (Ok t) P p = (t, refl, p)
 text_of (Err e) P p = absurd p
 
--- what was written, where one amount more and a line feed were
+-- the lines that were written, and one more amount and a line feed
 wrote_one_more : (amounts : List (Bor (List ℕ))) (amount : Bor (List ℕ)) (a b c d : Option (List ℕ))
     → IsOkAnd (column_text amounts) (Appends a b) → IsOkAnd (normal_form amount.now) (Appends b c)
     → Appends c d (10 ∷ [])
@@ -54,7 +54,7 @@ wrote_one_more amounts amount a b c d p q r =
     rw (one_more amounts amount form.0 lines.0 form.1 lines.1)
     (Appends-trans a b d lines.0 (form.0 ++ 10 ∷ []) lines.2 (Appends-trans b c d form.0 (10 ∷ []) form.2 r))
 
--- a beginning of the line of one amount more was taken
+-- a prefix of the line of one more amount was written
 begun : (amounts : List (Bor (List ℕ))) (amount : Bor (List ℕ)) (a b c : Option (List ℕ))
     → IsOkAnd (column_text amounts) (Appends a b)
     → IsOkAnd (normal_form amount.now) (λ form. AppendsPrefix b c (form ++ 10 ∷ []))
@@ -65,23 +65,23 @@ begun amounts amount a b c p q =
     rw (one_more amounts amount form.0 lines.0 form.1 lines.1)
     (then_part a b c lines.0 (form.0 ++ 10 ∷ []) lines.2 form.2)
 
--- a beginning of the form of an amount is one of its line
+-- a prefix of the form of an amount is one of its line
 form_begun : (r : Result (List ℕ) ReadingFault) (b c : Option (List ℕ)) → IsOkAnd r (AppendsPrefix b c)
     → IsOkAnd r (λ form. AppendsPrefix b c (form ++ 10 ∷ []))
 form_begun (Ok form) b c p = part_more b c form (10 ∷ []) p
 form_begun (Err fault) b c p = absurd p
 
--- the form of an amount was taken, and of the line feed behind it a beginning
+-- the form of an amount was written, and a prefix of the line feed
 feed_begun : (r : Result (List ℕ) ReadingFault) (b c d : Option (List ℕ)) → IsOkAnd r (Appends b c)
     → AppendsPrefix c d (10 ∷ []) → IsOkAnd r (λ form. AppendsPrefix b d (form ++ 10 ∷ []))
 feed_begun (Ok form) b c d p q = then_part b c d form (10 ∷ []) p q
 feed_begun (Err fault) b c d p q = absurd p
 
--- nothing is a beginning of a line feed
+-- nothing is a prefix of a line feed
 no_feed : (b c : Option (List ℕ)) → Keeps b c → AppendsPrefix b c (10 ∷ [])
 no_feed b c k = ([], 10 ∷ [], refl, appends_kept b b c [] (appends_none b) k)
 
--- what is true of an error is true of the answer that has it
+-- what is true of an error is true of a result with that error
 err_with : {A E : Type 0} (Q : E → Type 0) (r : Result A E) (e : E) → IsErrAnd r (λ x. x ≡ e) → Q e → IfErr r Q
 err_with Q (Ok x) e h q = absurd h
 err_with Q (Err x) e h q = subst Q (sym h) q

@@ -10,7 +10,7 @@ use Rattle.decimal_unsigned.specs.Text.{text}
 use Rattle.fixed_decimal.proofs.Calling.{first_of_integer, integer_down, text_of_literal}
 use Rattle.uses.proofs.price.write_shipping_fee.Goals as goal
 
--- the fee is 490 hundredths, shown from 0 to -2
+-- the fee is 490 hundredths, with the range from 0 to -2
 fee_is : multiplied (integer_value 490) (negsuc 1)
     ≡ record { number = 490 * weight (negsuc 1); hi = pos 0; lo = negsuc 1 }
 fee_is =
@@ -18,7 +18,7 @@ fee_is =
     let number = integer_down 490 1 (lit< tt) in
     rw (top, number) refl
 
--- so its text is this one
+-- its text
 fee_text : text (multiplied (integer_value 490) (negsuc 1)) ≡ codes "4.90"
 fee_text = ap text fee_is ∙ text_of_literal 490 (pos 0) (negsuc 1) (omega (arith, ints)) (omega (arith, ints))
 

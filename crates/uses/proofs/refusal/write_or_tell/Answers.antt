@@ -6,7 +6,7 @@ use Rattle.fixed_decimal.specs.ErrorText.{run_error_text}
 use Rattle.fixed_decimal.specs.Outcome.{outcome}
 use Rattle.uses.proofs.refusal.write_or_tell.Goals as goal
 
--- the text that there is
+-- the text of a result that is Ok
 text_of : {E : Type 0} (r : Result (List ℕ) E) (P : List ℕ → Type 0) → IsOkAnd r P → (t : List ℕ) × (r ≡ Ok t) × P t
 text_of (Ok t) P p = (t, refl, p)
 text_of (Err e) P p = absurd p

@@ -5,7 +5,7 @@ use Rattle.std.specs.List.{list_any, list_all}
 use Rattle.plural_rules.specs.Rules.{holds, is_met}
 use Rattle.plural_rules.proofs.rules.Rule.is_met.Goals as goal
 
--- a test of what a function makes
+-- a test of the images of a list
 list_any-map : {X Y : Type 0} (test : Y → Bool) (f : X → Y) (xs : List X)
     → list_any test (map f xs) ≡ list_any (λ x. test (f x)) xs
 list_any-map test f [] = refl
