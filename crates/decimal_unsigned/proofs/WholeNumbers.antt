@@ -49,6 +49,22 @@ leading_lt i ds h =
     number_at-lt i (take i ds) (below_take 10 i ds (recursion_from_All (λ d. d < 10) ds h))
     (omega (arith, length-take i ds))
 
+-- none of them write 0
+pub leading_zero : (ds : List ℕ) → leading 0 ds ≡ 0
+leading_zero ds = leading_none 0 ds refl
+
+-- for `grind`: up to 18 digits fit 64 bits with one more
+pub leading_short : (i : ℕ) (ds : List ℕ) → All (λ d. d < 10) ds → i ≤ 18 → leading i ds < 10 ^ 18
+leading_short i ds h l =
+    let p : 10 ^ i ≤ 10 ^ 18 = pow-le-pow_right (omega arith) l in
+    omega (arith, leading_lt i ds h, p)
+
+-- and up to 37 digits fit 128 bits
+pub leading_long : (i : ℕ) (ds : List ℕ) → All (λ d. d < 10) ds → i ≤ 37 → leading i ds < 10 ^ 37
+leading_long i ds h l =
+    let p : 10 ^ i ≤ 10 ^ 37 = pow-le-pow_right (omega arith) l in
+    omega (arith, leading_lt i ds h, p)
+
 -- and so is the number of fewer
 pub few_digits : (i n top : ℕ) (ds : List ℕ) → All (λ d. d < 10) ds → n ≡ leading i ds → i ≤ top → n < 10 ^ top
 few_digits i n top ds h e l =

@@ -25,6 +25,7 @@ fn highest_after(hi: i16, position: i16, first: i16) -> i16
     }
 }
 
+#[tactic(auto, using(crate::proofs::Casts::kept))]
 impl<D: DigitStore> UnsignedOver<D> {
     /// Rounds at a position to a multiple of an increment, and counts the turns.
     ///
