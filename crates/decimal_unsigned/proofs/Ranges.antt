@@ -1,8 +1,9 @@
 -- The first and the last digit of a value, and the ranges that show them.
-use Rattle.decimal_unsigned.proofs.Common.{◌≡◌, ℕ, ◌+◌, ◌-◌, ◌%◌, ◌^◌, ◌<◌, true, false, List, length, refl, sym, subst, arith, inl, inr, ℤ, pos, negsuc, ◌-ℤ◌, ◌≤ℤ◌, ◌<ℤ◌, int_lt, int_max, int_min, mul-mod_left, ints, clamps, cases_lt, number_from_digits, place, first, last, place_is, no_more_zeros, IsStored, Unsigned, IsValue, IsLast, number_back}
+use Rattle.decimal_unsigned.proofs.Common.{◌≡◌, ℕ, ◌+◌, ◌-◌, ◌%◌, ◌^◌, ◌<◌, true, false, List, length, sym, ◌∙◌, subst, arith, inl, inr, ℤ, pos, negsuc, ◌-ℤ◌, ◌≤ℤ◌, ◌<ℤ◌, int_lt, int_max, int_min, mul-mod_left, ints, clamps, cases_lt, number_from_digits, place, first, last, place_is, no_more_zeros, IsStored, Unsigned, IsValue, IsLast, number_back}
 use Rattle.decimal_digits.specs.Number.{IsFirst}
 use Rattle.decimal_digits.specs.Digits.{number_of, number_at}
-use Rattle.decimal_unsigned.proofs.Values.{number_of-ge, number_of-lt, number_of-none, none_of, lowest, last-number_of, last_of_none, last_in}
+use Rattle.decimal_unsigned.proofs.Values.{number_of-ge, number_of-lt, number_of-none, none_of, lowest, last-number_of, last_of_none, last_in, first_of}
+use Rattle.decimal_unsigned.proofs.Shown.{value_of_view}
 
 module _ {ds : List ℕ} {m hi lo : ℤ} (t : IsStored ds m hi lo) where
   some : 0 < number_of ds m → 0 < length ds
@@ -37,3 +38,22 @@ module _ {ds : List ℕ} {m hi lo : ℤ} (t : IsStored ds m hi lo) where
       ends_at h =
           let e = last-number_of t h in
           omega (arith, ints, e, t.fits, last_in t, lowest t, place_is m, place_is (last (number_of ds m)))
+
+  module _ {v : Unsigned} (view : record { number = number_of ds m; hi = hi; lo = lo } ≡ v) {r : ℤ} where
+    -- what the magnitude of the first digit says of the value
+    pub first_told : r ≡ m
+        → record { value : r ≡ first v.number; defined : IsFirst v.number r; valid : IsValue v }
+    first_told e = record {
+      value = e ∙ sym (first_of t) ∙ (λ i. first (view i).number);
+      defined = subst (λ (v : Unsigned). IsFirst v.number r) view (rw e is_first);
+      valid = value_of_view t view;
+    }
+
+    -- and that of the last one
+    pub last_told : r ≡ last (number_of ds m)
+        → record { value : r ≡ last v.number; defined : IsLast v.number r; valid : IsValue v }
+    last_told e = record {
+      value = e ∙ (λ i. last (view i).number);
+      defined = subst (λ (v : Unsigned). IsLast v.number r) view (rw e is_last);
+      valid = value_of_view t view;
+    }

@@ -132,6 +132,7 @@ fn leading_long<D: DigitStore>(digits: &D, count: usize) -> u128
 }
 
 /// The number that the first 39 digits write, with zeros behind the last one, where 128 bits hold it.
+#[tactic(auto, using(crate::proofs::WholeNumbers::leading_39))]
 fn leading_longest<D: DigitStore>(digits: &D) -> Result<u128, IntegerError>
     ensures { result ≡ in_range (2 ^ 128) (leading 39 (D.digits digits.now)) }
 {
