@@ -16,7 +16,6 @@ returns-in_default-clause-some c =
     makes_at _ 0 0 _ _ _ _ _ _ k (omega (arith, ints, c.unscaled.ensures.magnitude))
     (omega (arith, ints, c.unscaled.ensures.hi)) (omega (arith, ints, c.unscaled.ensures.lo))
 
-
 pub returns-in-None-clause-some : goal.returns-in-None-clause-some
 returns-in-None-clause-some c =
     let k = makes_plain (view c.args.parts.now) c.requires.digits c.if-whole-gt32768.false c.if-fraction-gt32768.false
