@@ -24,7 +24,7 @@ pub use Rattle.decimal_unsigned.specs.Reading.{is_outside, limit, mantissa, part
 pub use Rattle.decimal_unsigned.specs.Rounded.{IsRounded, rounded, with_number}
 pub use Rattle.decimal_unsigned.specs.Text.{text}
 pub use Rattle.decimal_unsigned.specs.Unsigned.{IsValue, Unsigned}
-pub use Rattle.std.proofs.Common.{Bool, List, [], ap, append-nil, arith, cond, drop, false, get_or, inl, inr, length, map, min, nat_lt, of_z, refl, replicate, rules, subst, suc, sym, take, to_z, true, w16, zero, ℕ, ◌%◌, ◌&&◌, ◌*◌, ◌++◌, ◌+◌, ◌-◌, ◌/◌, ◌<◌, ◌==◌, ◌^◌, ◌||◌, ◌∙◌, ◌∷◌, ◌≡◌, ◌≤◌, ◌⊎◌}
+pub use Rattle.std.proofs.Common.{Bool, List, [], ap, append-nil, arith, cond, drop, false, get_or, inl, inr, length, map, min, nat_lt, of_z, refl, replicate, rules, subst, suc, sym, take, to_z, true, w16, w32, zero, ℕ, ◌%◌, ◌&&◌, ◌*◌, ◌++◌, ◌+◌, ◌-◌, ◌/◌, ◌<◌, ◌==◌, ◌^◌, ◌||◌, ◌∙◌, ◌∷◌, ◌≡◌, ◌≤◌, ◌⊎◌}
 pub use Rattle.std.proofs.Math.Nat.{mod-eq_of_lt, mod-lt, mul-le-mul_right, mul-lt-mul_of_pos_right, mul-mod_left, pow-le-pow_right, pow-suc}
 pub use Rattle.std.proofs.lemmas.Bool.{cases_lt}
 pub use Rattle.std.proofs.lemmas.Bool.Decides.{nat_tests}

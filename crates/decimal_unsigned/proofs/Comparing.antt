@@ -1,5 +1,5 @@
 -- The order of two numbers, by their digits.
-use Rattle.decimal_unsigned.proofs.Common.{◌≡◌, ℕ, suc, ◌+◌, ◌-◌, ◌*◌, ◌^◌, ◌<◌, ◌≤◌, List, [], ◌∷◌, length, get_or, drop, replicate, refl, sym, ◌∙◌, ap, subst, arith, ◌⊎◌, inl, inr, min, ℤ, ◌<ℤ◌, nat_cmp, mul-le-mul_right, mul-lt-mul_of_pos_right, pow-le-pow_right, cases_lt, ints, length-drop, recursion_from_All, number_lt, pow-add, number_from_digits, AllBelowBase, place, place_is, IsStored, All, slice_cmp, below_sixteen}
+use Rattle.decimal_unsigned.proofs.Common.{◌≡◌, ℕ, suc, ◌+◌, ◌-◌, ◌*◌, ◌^◌, ◌<◌, ◌≤◌, List, [], ◌∷◌, length, get_or, drop, replicate, refl, sym, ◌∙◌, ap, subst, arith, ◌⊎◌, inl, inr, min, ℤ, ◌<ℤ◌, nat_cmp, mul-le-mul_right, mul-lt-mul_of_pos_right, pow-le-pow_right, cases_lt, ints, length-drop, recursion_from_All, number_lt, pow-add, number_from_digits, AllBelowBase, place, place_is, IsStored, All, slice_cmp, below_sixteen, Unsigned, IsValue}
 use Rattle.std.specs.declared.cmp.Ordering.{Ordering}
 use Rattle.std.specs.declared.cmp.Ordering.TheVariants.{Less, Equal, Greater}
 use Rattle.std.specs.Ordering.{MatchOrdering, ordering_then, int_cmp}
@@ -9,6 +9,7 @@ use Rattle.std.proofs.lemmas.Int.Digits.{number_after_append}
 use Rattle.decimal_digits.specs.Digits.{number_of, number_at}
 use Rattle.decimal_digits.specs.Halves.{halves_number}
 use Rattle.decimal_digits.proofs.DigitLists.{number_first, number_zeros}
+use Rattle.decimal_unsigned.proofs.Shown.{value_of_view}
 use Rattle.decimal_unsigned.proofs.Values.{number_of-lt, number_of-ge, number_of-pos, number_of-none, lowest}
 
 -- ---- one order that goes with another
@@ -194,3 +195,13 @@ module _ {ds es : List ℕ} {m m' hi lo hi' lo' : ℤ} (s : IsStored ds m hi lo)
       let up : place m' + 1 ≤ place m = omega (arith, ints, place_is m, place_is m', lowest s, lowest t) in
       let higher : 10 ^ (place m' + 1) ≤ 10 ^ place m = pow-le-pow_right (omega arith) up in
       omega (arith, number_of-lt t, number_of-ge s some, higher))
+
+  -- what a comparison answers of the values that the code holds
+  pub ordered : {v w : Unsigned} → record { number = number_of ds m; hi = hi; lo = lo } ≡ v
+      → record { number = number_of es m'; hi = hi'; lo = lo' } ≡ w → {r : Ordering}
+      → r ≡ nat_cmp (number_of ds m) (number_of es m')
+      → record { order : r ≡ nat_cmp v.number w.number; valid : IsValue v × IsValue w }
+  ordered p q e = record {
+    order = e ∙ (λ k. nat_cmp (p k).number (q k).number);
+    valid = (value_of_view s p, value_of_view t q);
+  }

@@ -3,6 +3,8 @@ use Rattle.decimal_unsigned.proofs.Common.{◌≡◌, ℕ, ◌+◌, ◌-◌, ◌
 use Rattle.decimal_digits.specs.Rounding.{rounded_number}
 use Rattle.decimal_digits.proofs.Ends.{last_zero}
 use Rattle.decimal_unsigned.specs.EditLaws.{trimmed, TrimmedIsNormalForm, IsShortest}
+use Rattle.decimal_unsigned.specs.Edits.{trimmed_start, trimmed_end}
+use Rattle.decimal_unsigned.specs.Unsigned.{IsLeastHi, IsGreatestLo}
 use Rattle.decimal_unsigned.proofs.FirstLast.{last_of, first_le}
 use Rattle.decimal_unsigned.proofs.ConcatenationLaws.{extent_of, parts_join, parts_number, parts_value}
 use Rattle.decimal_unsigned.proofs.Roundings.{trunc_makes}
@@ -38,6 +40,20 @@ module _ (w : Unsigned) (valid : IsValue w) where
         let z : last w.number ≡ pos 0 = ap last (let y : w.number ≡ 0 = omega arith in y) ∙ last_zero in
         omega (arith, ints, z, valid.lo_in)
   ]
+
+-- each value shows as much as one that is trimmed in front
+pub least_hi : (v : Unsigned) → IsLeastHi (trimmed_start v)
+least_hi v w valid e =
+    let f = first_in w valid in
+    let n = ap first e in
+    omega (arith, ints, clamps, valid.hi_in)
+
+-- and as one that is trimmed behind
+pub greatest_lo : (v : Unsigned) → IsGreatestLo (trimmed_end v)
+greatest_lo v w valid e =
+    let l = last_in w valid in
+    let n = ap last e in
+    omega (arith, ints, clamps, valid.lo_in)
 
 -- a range that lies in another has no longer text
 shorter : (v w : Unsigned) → pos 0 ≤ℤ v.hi → v.lo ≤ℤ pos 0 → v.hi ≤ℤ w.hi → w.lo ≤ℤ v.lo

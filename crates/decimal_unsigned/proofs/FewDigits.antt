@@ -59,8 +59,8 @@ module _ (w : Written) (digits : AllDigits 10 (w.whole ++ w.fraction)) (few : le
   written_lt : written < 10 ^ (length w.whole + length w.fraction)
   unfolding written
   written_lt =
-      let l = length_digits w digits few short in
-      let n = number_lt 10 (digits_of w) (all_digits w digits few short) in
+      let l = length_digits w in
+      let n = number_lt 10 (digits_of w) (all_digits w digits) in
       let e : digits_value 10 (w.whole ++ w.fraction) < 10 ^ length (digits_of w) =
       rw (digits_value_is 10 (w.whole ++ w.fraction)) n in
       subst (λ k. digits_value 10 (w.whole ++ w.fraction) < 10 ^ k) l e

@@ -1,4 +1,5 @@
 pub mod Common
+pub mod Casts
 pub mod Values
 pub mod Ranges
 pub mod Shifts

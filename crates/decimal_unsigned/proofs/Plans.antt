@@ -73,16 +73,16 @@ long_fraction w h =
     let t : nat_lt 32768 (length w.fraction) ≡ true = grind (arith, nat_tests, h) in
     rw (or_right (nat_lt 32768 (length w.whole)) _ t) refl
 
+-- how many digits there are on both sides of the dot
+pub length_digits : (w : Written) → length (digits_of w) ≡ length w.whole + length w.fraction
+length_digits w = length-map (w.whole ++ w.fraction) digit_value ∙ length-append w.whole w.fraction
+
+-- they are digits
+pub all_digits : (w : Written) → AllDigits 10 (w.whole ++ w.fraction) → AllBelowBase 10 (digits_of w)
+all_digits w = all_below_base_from_digits 10 (w.whole ++ w.fraction)
+
 module _ (w : Written) (digits : AllDigits 10 (w.whole ++ w.fraction)) (few : length w.whole ≤ 32768)
     (short : length w.fraction ≤ 32768) where
-  -- they are digits
-  pub all_digits : AllBelowBase 10 (digits_of w)
-  all_digits = all_below_base_from_digits 10 (w.whole ++ w.fraction) digits
-
-  -- how many digits there are on both sides of the dot
-  pub length_digits : length (digits_of w) ≡ length w.whole + length w.fraction
-  length_digits = length-map (w.whole ++ w.fraction) digit_value ∙ length-append w.whole w.fraction
-
   -- the value is that of the digits, times the power of ten
   pub value_scaled : value_of w ≡ scaled (mantissa w.whole w.fraction) w.exponent
   unfolding value_of
@@ -120,13 +120,13 @@ module _ (w : Written) (digits : AllDigits 10 (w.whole ++ w.fraction)) (few : le
       (at : m ≡ (pos (length w.whole) -ℤ pos 1) -ℤ pos start) where
     stored : IsStored (middle start end (digits_of w)) m (pos (length w.whole - 1)) (pos 0 -ℤ pos (length w.fraction))
     stored =
-        stored_middle (digits_of w) start end (length w.whole) (length w.fraction) m n all_digits length_digits few
-        short at
+        stored_middle (digits_of w) start end (length w.whole) (length w.fraction) m n (all_digits w digits)
+        (length_digits w) few short at
 
     number_is : number_of (middle start end (digits_of w)) m ≡ (mantissa w.whole w.fraction).number
     number_is =
-        number_of-middle (digits_of w) start end (length w.whole) (length w.fraction) m n length_digits short
-        (omega (arith, ints, at, place_is m, n.ordered, n.within, length_digits))
+        number_of-middle (digits_of w) start end (length w.whole) (length w.fraction) m n (length_digits w) short
+        (omega (arith, ints, at, place_is m, n.ordered, n.within, length_digits w))
         ∙ ap (λ x. x * 10 ^ (32768 - length w.fraction)) (sym (digits_value_is 10 (w.whole ++ w.fraction)))
 
     some : 0 < length (middle start end (digits_of w))
@@ -212,7 +212,7 @@ module _ (w : Written) (digits : AllDigits 10 (w.whole ++ w.fraction)) (few : le
         ∙ (λ i. record { number = number_of ds m'; hi = sym hi_is i; lo = sym lo_is i }) in
         let up = upper_is top high hi' hi_is (omega (arith, ints, top_is, high_is, at, n.ordered)) upper in
         let down =
-        lower_is bottom low lo' lo_is (omega (arith, ints, bottom_is, low_is, n.within, length_digits)) lower in
+        lower_is bottom low lo' lo_is (omega (arith, ints, bottom_is, low_is, n.within, length_digits w)) lower in
         record {
           ordered = omega (arith, n.ordered);
           within = n.within;

@@ -56,26 +56,26 @@ answers_by_1 held v p mode new (Err Memory) (Err y) e a = absurd (let by_25 = a.
 unspelled : {ds : List ℕ} {m : ℤ} {n : ℕ} → Spells ds m n → length ds ≡ 0 → m ≡ pos 0
 unspelled {ds} {m} s z = sym s.magnitude_is ∙ ap first (sym s.number ∙ number_of-none ds m z) ∙ first_zero
 
-module _ {ds : List ℕ} {m : ℤ} {n : ℕ} (s : Spells ds m n) (p : ℤ) (hi hi' lo' : ℤ)
+module _ {ds : List ℕ} {m : ℤ} {n : ℕ} (s : Spells ds m n) (p hi : ℤ) {m' hi' lo' : ℤ} (f : m' ≡ m)
     (h : hi' ≡ int_max (int_max hi (p -ℤ pos 1)) m) (o : lo' ≡ int_min p (pos 0)) where
   -- the digits that are left, as a value holds them
   pub stored_left : IsAbove p ds m → AllBelowBase 10 ds → pos 0 ≤ℤ hi → hi ≤ℤ pos 32767 → negsuc 32767 ≤ℤ p
       → p ≤ℤ pos 32767
-      → IsStored ds m hi' lo'
-  stored_left above b f g l t =
-      stored_as b s.stripped.front s.stripped.back (unspelled s)
+      → IsStored ds m' hi' lo'
+  stored_left above b z g l t =
+      rw f (stored_as b s.stripped.front s.stripped.back (unspelled s)
       (λ some. (
         omega (arith, ints, clamps, h),
         omega (arith, ints, clamps, o, above some, some, l, s.least, place_is p, place_is m),
       ))
-      (omega (arith, ints, clamps, h, f), omega (arith, ints, clamps, h, g, t, s.greatest))
-      (omega (arith, ints, clamps, o, l), omega (arith, ints, clamps, o))
+      (omega (arith, ints, clamps, h, z), omega (arith, ints, clamps, h, g, t, s.greatest))
+      (omega (arith, ints, clamps, o, l), omega (arith, ints, clamps, o)))
 
   -- they make the rounded value
   pub rounded_left : (v : Unsigned) → v.hi ≡ hi
-      → rounded_to v p n ≡ Some (record { number = number_of ds m; hi = hi'; lo = lo' })
+      → rounded_to v p n ≡ Some (record { number = number_of ds m'; hi = hi'; lo = lo' })
   rounded_left v e =
-      let a : number_of ds m ≡ n = s.number in
+      let a : number_of ds m' ≡ n = ap (number_of ds) f ∙ s.number in
       let b : hi' ≡ int_max (int_max v.hi (p -ℤ pos 1)) (first n) =
       h
       ∙ ap (λ x. int_max (int_max x (p -ℤ pos 1)) m) (sym e)

@@ -230,10 +230,10 @@ short_made w start end number len m hi lo k h = record {
 module _ (w : Written) (number : ℕ) (digits : AllDigits 10 (w.whole ++ w.fraction))
     (few : length w.whole + length w.fraction ≤ 16) (written : number ≡ in_base_16 w.whole w.fraction) where
   below : AllBelowBase 10 (digits_of w)
-  below = all_digits w digits (omega arith) (omega arith)
+  below = all_digits w digits
 
   count : length (digits_of w) ≡ length w.whole + length w.fraction
-  count = length_digits w digits (omega arith) (omega arith)
+  count = length_digits w
 
   number_is : number ≡ number_from_digits 16 (digits_of w)
   number_is =

@@ -28,3 +28,10 @@ pub value_of_view : {ds : List ℕ} {m hi lo : ℤ} {v : Unsigned} → IsStored 
     → record { number = number_of ds m; hi = hi; lo = lo } ≡ v
     → IsValue v
 value_of_view t e = subst IsValue e (value_of_stored t)
+
+-- what is told of the fields is told of the value
+pub told : {ds : List ℕ} {m hi lo : ℤ} {v : Unsigned} → IsStored ds m hi lo
+    → record { number = number_of ds m; hi = hi; lo = lo } ≡ v → {A : Type 0} (f : Unsigned → A) {r : A}
+    → r ≡ f (record { number = number_of ds m; hi = hi; lo = lo })
+    → record { value : r ≡ f v; valid : IsValue v }
+told t view f e = record { value = e ∙ ap f view; valid = value_of_view t view }

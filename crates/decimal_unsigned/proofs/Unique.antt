@@ -64,10 +64,16 @@ not_same v w n =
 text_same : (v w : Unsigned) → IsValue v → IsValue w → text v ≡ text w → v ≡ w
 text_same v w p q e = let r = sym (read_text v p) ∙ ap read e ∙ read_text w q in cc
 
--- what the answer of a test for equality tells of the values, and of their texts
-pub tells_values : (b : Bool) (v w : Unsigned) → b ≡ same v w → IsTrue b ↔ (v ≡ w)
-tells_values b v w e = (λ x. same_is v w (sym e ∙ x), λ p. e ∙ is_same v w p)
-
--- and of the texts
-pub tells_texts : (b : Bool) (v w : Unsigned) → b ≡ same v w → IsValue v → IsValue w → IsTrue b ↔ (text v ≡ text w)
-tells_texts b v w e p q = (λ x. ap text (same_is v w (sym e ∙ x)), λ t. e ∙ is_same v w (text_same v w p q t))
+-- what a test for equality says of two values and of their texts
+pub tells : (b : Bool) (v w : Unsigned) → IsValue v × IsValue w → b ≡ same v w → record {
+  same : b ≡ same v w;
+  value : IsTrue b ↔ (v ≡ w);
+  texts : IsTrue b ↔ (text v ≡ text w);
+  valid : IsValue v × IsValue w;
+}
+tells b v w valid e = record {
+  same = e;
+  value = (λ x. same_is v w (sym e ∙ x), λ p. e ∙ is_same v w p);
+  texts = (λ x. ap text (same_is v w (sym e ∙ x)), λ t. e ∙ is_same v w (text_same v w valid.0 valid.1 t));
+  valid = valid;
+}

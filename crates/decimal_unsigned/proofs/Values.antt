@@ -175,6 +175,12 @@ module _ {ds : List ℕ} {m hi lo : ℤ} (t : IsStored ds m hi lo) where
   pub last_covered : 0 < length ds → lo ≤ℤ (m -ℤ pos (length ds - 1))
   last_covered h = omega (arith, ints, h, t.fits, t.in_range, lowest t, place_is m, place_is lo)
 
+  -- an upper end that keeps the first digit
+  pub upper_stored : (up : ℤ) → first (number_of ds m) ≤ℤ up → pos 0 ≤ℤ up → up ≤ℤ pos 32767 → IsStored ds m up lo
+  upper_stored up l z b =
+      stored_as t.digits t.front t.back t.empty (λ h. (omega (arith, ints, first_of t, l), last_covered h)) (z, b)
+      (t.in_range.0, t.lo_in)
+
   -- a lower end that keeps the last digit
   pub lower_stored : (low : ℤ) → low ≤ℤ pos 0 → low ≤ℤ last (number_of ds m) → negsuc 32767 ≤ℤ low
       → IsStored ds m hi low

@@ -1,5 +1,5 @@
 -- The integer that the digits of a value write.
-use Rattle.decimal_unsigned.proofs.Common.{zero, suc, [], ◌∷◌, ◌++◌, replicate, ◌≡◌, ℕ, ◌+◌, ◌-◌, ◌*◌, ◌/◌, ◌%◌, ◌^◌, ◌<◌, ◌≤◌, ◌==◌, true, false, List, length, get_or, take, refl, sym, ◌∙◌, ap, arith, rules, inl, inr, Ok, Err, nat_lt, ℤ, pos, ◌+ℤ◌, ◌<ℤ◌, mul-mod_left, pow-le-pow_right, cases_lt, ints, length-append, length-take, length-take-le, take_all, recursion_from_All, number_from_digits, AllBelowBase, place, weight, leading, place_is, ten_pos, below_take, no_more_zeros, IsStored, Unsigned, All, length-replicate, number_back, below_sixteen, leading_none}
+use Rattle.decimal_unsigned.proofs.Common.{zero, suc, [], ◌∷◌, ◌++◌, replicate, ◌≡◌, ℕ, ◌+◌, ◌-◌, ◌*◌, ◌/◌, ◌%◌, ◌^◌, ◌<◌, ◌≤◌, ◌==◌, true, false, List, length, get_or, take, refl, sym, ◌∙◌, ap, arith, rules, inl, inr, Ok, Err, nat_lt, ℤ, pos, ◌+ℤ◌, ◌<ℤ◌, mul-mod_left, pow-le-pow_right, cases_lt, ints, length-append, length-take, length-take-le, take_all, recursion_from_All, number_from_digits, AllBelowBase, place, weight, leading, place_is, ten_pos, below_take, no_more_zeros, IsStored, Unsigned, IsValue, Result, All, length-replicate, number_back, below_sixteen, leading_none}
 use Rattle.std.proofs.Common.{w64}
 use Rattle.std.proofs.Math.Nat.{mul-div_cancel}
 use Rattle.std.specs.Int.{to_be_bytes}
@@ -13,7 +13,9 @@ use Rattle.decimal_digits.proofs.FrontBytes.{hex_pow, halves_of_bytes, sixteen, 
 use Rattle.decimal_digits.proofs.NumberAt.{number_at-more, number_at-lt, number_at-ge}
 use Rattle.decimal_digits.proofs.Leading.{leading_more}
 use Rattle.decimal_unsigned.specs.declared.decimal.to_integer.IntegerError.TheVariants.{NotWhole, OutOfRange}
+use Rattle.decimal_unsigned.specs.declared.decimal.to_integer.IntegerError.{IntegerError}
 use Rattle.decimal_unsigned.specs.ToInteger.{in_range, as_integer}
+use Rattle.decimal_unsigned.proofs.Shown.{told}
 
 -- ---- which answer there is
 -- an integer below the bound is the answer
@@ -49,11 +51,23 @@ leading_lt i ds h =
     number_at-lt i (take i ds) (below_take 10 i ds (recursion_from_All (λ d. d < 10) ds h))
     (omega (arith, length-take i ds))
 
+-- the last digit of the longest number
+pub leading_39 : (ds : List ℕ) → leading 39 ds ≡ leading 38 ds * 10 + get_or ds 38 0
+leading_39 = leading_next 38
+
 -- and so is the number of fewer
-pub few_digits : (i n top : ℕ) (ds : List ℕ) → All (λ d. d < 10) ds → n ≡ leading i ds → i ≤ top → n < 10 ^ top
-few_digits i n top ds h e l =
+few_digits : (i top : ℕ) (ds : List ℕ) → All (λ d. d < 10) ds → i ≤ top → leading i ds < 10 ^ top
+few_digits i top ds h l =
     let p : 10 ^ i ≤ 10 ^ top = pow-le-pow_right (omega arith) l in
     omega (arith, leading_lt i ds h, p)
+
+-- 18 digits fit 64 bits with one more
+pub leading_short : (i : ℕ) (ds : List ℕ) → All (λ d. d < 10) ds → i ≤ 18 → leading i ds < 10 ^ 18
+leading_short i = few_digits i 18
+
+-- and 37 digits fit 128 bits
+pub leading_long : (i : ℕ) (ds : List ℕ) → All (λ d. d < 10) ds → i ≤ 37 → leading i ds < 10 ^ 37
+leading_long i = few_digits i 37
 
 module _ {ds : List ℕ} {m hi lo : ℤ} (t : IsStored ds m hi lo) where
   -- digits that end at magnitude 0 or above write an integer
@@ -81,12 +95,16 @@ module _ {ds : List ℕ} {m hi lo : ℤ} (t : IsStored ds m hi lo) where
 -- ---- which answer a value has
 module _ {ds : List ℕ} {m hi lo : ℤ} {v : Unsigned} (t : IsStored ds m hi lo)
     (view : record { number = number_of ds m; hi = hi; lo = lo } ≡ v) (bound : ℕ) where
-  of_value : as_integer bound (number_of ds m) ≡ as_integer bound v.number
-  of_value = ap (λ (w : Unsigned). as_integer bound w.number) view
+  -- what a number is told to be, and that it is that of a value
+  abbrev Answer : Result ℕ IntegerError → Type 0
+  Answer r = record { value : r ≡ as_integer bound v.number; valid : IsValue v }
+
+  of_value : {r : Result ℕ IntegerError} → r ≡ as_integer bound (number_of ds m) → Answer r
+  of_value = told t view (λ w. as_integer bound w.number)
 
   -- a part behind the dot is the answer
-  pub part_answer : (m +ℤ pos 1) <ℤ pos (length ds) → Err NotWhole ≡ as_integer bound v.number
-  part_answer below = sym (as_integer-part bound (number_of ds m) (part_behind t some below)) ∙ of_value
+  pub part_answer : (m +ℤ pos 1) <ℤ pos (length ds) → Answer (Err NotWhole)
+  part_answer below = of_value (sym (as_integer-part bound (number_of ds m) (part_behind t some below)))
     where
       some : 0 < length ds
       some = elim (cases_lt 0 (length ds)) [
@@ -96,27 +114,25 @@ module _ {ds : List ℕ} {m hi lo : ℤ} {v : Unsigned} (t : IsStored ds m hi lo
 
   module _ (places : ℕ) (at : pos 0 +ℤ pos places ≡ m +ℤ pos 1) (few : length ds ≤ places) where
     -- the integer that the digits write is the answer, or it is out of range
-    pub whole_answer : in_range bound (leading places ds) ≡ as_integer bound v.number
-    whole_answer =
-        sym (as_integer-whole bound (number_of ds m) (leading places ds) (whole_number t places at few)) ∙ of_value
+    pub whole_answer : {r : Result ℕ IntegerError} → r ≡ in_range bound (leading places ds) → Answer r
+    whole_answer e =
+        of_value (e ∙ sym (as_integer-whole bound (number_of ds m) (leading places ds) (whole_number t places at few)))
 
     -- a few digits write an integer that is in range
-    pub few_answer : (top : ℕ) → All (λ d. d < 10) ds → places ≤ top → 10 ^ top ≤ bound
-        → Ok (leading places ds) ≡ as_integer bound v.number
-    few_answer top digits l h =
-        sym (in_range-below bound (leading places ds)
-        (omega (arith, few_digits places (leading places ds) top ds digits refl l)))
-        ∙ whole_answer
+    pub few_answer : (top : ℕ) → All (λ d. d < 10) ds → places ≤ top → 10 ^ top ≤ bound → {n : ℕ}
+        → n ≡ leading places ds → Answer (Ok n)
+    few_answer top digits l h e =
+        whole_answer
+        (ap Ok e ∙ sym (in_range-below bound (leading places ds) (omega (arith, few_digits places top ds digits l))))
 
     -- more digits than the bound has write one that is not
-    pub many_answer : (top : ℕ) → top < places → 0 < top → bound ≤ 10 ^ top
-        → Err OutOfRange ≡ as_integer bound v.number
+    pub many_answer : (top : ℕ) → top < places → 0 < top → bound ≤ 10 ^ top → Answer (Err OutOfRange)
     many_answer top l p h =
         let some : 0 < length ds = some_digits t (λ z. absurd (omega (arith, ints, z))) in
         let least : 10 ^ (places - 1) ≤ number_at places ds = number_at-ge places ds some (t.front some) few in
         let higher : 10 ^ top ≤ 10 ^ (places - 1) = pow-le-pow_right (omega arith) (omega arith) in
         let all = ap (number_at places) (take_all places ds few) in
-        sym (in_range-above bound (leading places ds) (omega (arith, least, higher, all))) ∙ whole_answer
+        whole_answer (sym (in_range-above bound (leading places ds) (omega (arith, least, higher, all))))
 
 -- ---- The integer that the halves of a number write.
 -- two digits

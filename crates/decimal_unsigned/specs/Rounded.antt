@@ -71,10 +71,13 @@ HoldsOneMore held v increment = Unit {0}
 
 -- ---- Answers.
 
--- what a call in place answers, where `makes` says which value it makes, or that it makes none: it has made the new
--- value, or there is none, and the value is as it was
+-- what a call in place answers: it has made the new value, or it refuses by such an error, and the value is as it was
+abbrev pub ChangesInPlace : {A E V : Type 0} → (V → Type 0) → (E → Type 0) → V → V → Result A E → Type 0
+ChangesInPlace makes refuses old new answer = MatchResult answer (λ _. makes new) (λ e. refuses e × (new ≡ old))
+
+-- the same where `makes` says which value the call makes, or that it makes none
 abbrev pub AnswersInPlace : {A E V : Type 0} → (Option V → Type 0) → V → V → Result A E → Type 0
-AnswersInPlace makes old new answer = MatchResult answer (λ _. makes (Some new)) (λ _. makes None × (new ≡ old))
+AnswersInPlace makes = ChangesInPlace (λ v. makes (Some v)) (λ _. makes None)
 
 -- the same of a value that is handed in, and handed back where there is none
 abbrev pub AnswersByValue : {V : Type 0} → (Option V → Type 0) → V → Result V V → Type 0
@@ -84,9 +87,9 @@ AnswersByValue makes old answer = MatchResult answer (λ v. makes (Some v)) (λ 
 abbrev pub RoundsInPlace : {A : Type 0} → ℕ → Unsigned → ℤ → UnsignedRoundingMode → RoundingIncrement → Unsigned
     → Result A RoundError
     → Type 0
-RoundsInPlace held old position mode increment new answer =
-    MatchResult answer (λ _. IsRounded old position mode increment (Some new))
-    (λ e. RoundingRefuses held e old position mode increment × (new ≡ old))
+RoundsInPlace held old position mode increment =
+    ChangesInPlace (λ v. IsRounded old position mode increment (Some v))
+    (λ e. RoundingRefuses held e old position mode increment) old
 
 -- and a rounding of a value that is handed in, and handed back where it refuses
 abbrev pub RoundsByValue : ℕ → Unsigned → ℤ → UnsignedRoundingMode → RoundingIncrement

@@ -21,6 +21,7 @@ use decimal_digits::digits::{DigitList, DigitStore, PackedDigits};
 use decimal_digits::ops::{index_of, magnitude_of};
 pub use parse::{Scan, lowest_of, numeral};
 use std::alloc::Global;
+use std::default::MadeWith;
 use std::marker::Model;
 use std::ops::RangeInclusive;
 pub use to_integer::IntegerError;
@@ -38,12 +39,26 @@ pub use to_integer::IntegerError;
 /// magnitudes      1   0  -1  -2
 /// positions     2   1   0  -1  -2
 /// ```
-#[derive(Debug, Drop)]
+#[derive(Debug)]
 pub struct UnsignedOver<D: DigitStore> {
     digits: D,
     magnitude: i16,
     hi: i16,
     lo: i16,
+}
+
+// Written out, since a derived drop is proved once more in each crate above.
+impl<D: DigitStore> Drop for UnsignedOver<D> {
+    #[inline]
+    fn drop(self) {
+        let UnsignedOver {
+            digits,
+            magnitude: _,
+            hi: _,
+            lo: _,
+        } = self;
+        drop(digits);
+    }
 }
 
 /// The store of digits of an unsigned decimal: two digits to a byte, of which sixteen need no allocation.
@@ -80,6 +95,15 @@ impl<D: DigitStore> Model for UnsignedOver<D> {
     ghost view = { λ s. record { number = number_of (D.digits s.digits) s.magnitude; hi = s.hi; lo = s.lo } };
 
     ghost invariant = { λ s. IsStored (D.digits s.digits) s.magnitude s.hi s.lo };
+}
+
+impl<D: DigitStore> MadeWith<Global> for UnsignedOver<D> {
+    ghost is_made_with = { λ value. value ≡ zero_value };
+
+    /// Makes the number 0, as `zero` does, for `or_default` of a map's entry.
+    fn made_with(alloc: Global) -> Self {
+        Self::zero(alloc)
+    }
 }
 
 impl<D: DigitStore> UnsignedOver<D> {

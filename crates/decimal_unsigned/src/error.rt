@@ -2,6 +2,7 @@
 ghost use Rattle.std.specs.Prelude.{◌≡◌};
 ghost use Rattle.decimal_unsigned.specs.ErrorText.{error_text, concatenate_error_text};
 
+use std::alloc::AllocError;
 use std::error::Error;
 use std::fmt;
 
@@ -41,6 +42,18 @@ pub enum ParseError {
     Syntax,
     /// Memory for the digits was refused.
     Memory,
+}
+
+impl From<AllocError> for ParseError {
+    ghost use Rattle.std.specs.Prelude.{◌≡◌};
+    ghost use Rattle.decimal_unsigned.specs.declared.error.ParseError.TheVariants.{Memory};
+
+    ghost from_gives = { λ _ error. error ≡ Memory };
+
+    /// Returns `Memory`.
+    fn from(_error: AllocError) -> ParseError {
+        ParseError::Memory
+    }
 }
 
 impl ParseError {

@@ -5,6 +5,7 @@
 
 pub mod decimal;
 mod error;
+pub mod laws;
 
 pub use decimal::IntegerError;
 pub use error::{ConcatenateError, LimitError, ParseError};

@@ -3,8 +3,6 @@ ghost use Rattle.std.specs.Int.{int_max, int_min};
 ghost use Rattle.std.specs.Prelude.{◌≡◌, ◌≢◌, ◌<◌, ◌≤◌, ◌<ℤ◌, ◌+ℤ◌, pos, ◌+◌, ◌↔◌, IsTrue, IsFalse, Ok, Err, IsOk, IfOk, IfErr, OnOk, OnErr};
 ghost use Rattle.decimal_digits.specs.Number.{first, last};
 ghost use Rattle.decimal_unsigned.specs.Concatenation.{overlaps, concatenated_end, concatenated_size, ConcatenationNeedsMemory, returned};
-ghost use Rattle.decimal_unsigned.specs.ConcatenationLaws.{ConcatenationIsAssociative};
-ghost use Rattle.decimal_unsigned.specs.Unsigned.{Unsigned, IsValue};
 
 use super::UnsignedOver;
 use crate::ConcatenateError;
@@ -21,8 +19,8 @@ impl<D: DigitStore> UnsignedOver<D> {
     /// Err: `Overlap` where neither number is 0 and the last digit of this one that is not 0 stands at or below the
     /// first of the other, as in `120` and `25`; else `Memory` where neither is 0 and memory for more than `L` joined
     /// digits, zeros between them included, was refused. Either hands the other back, and this value stays as it was.
-    /// The original's `concatenate_end`, whose error is the other alone.
-    #[tactic(auto, using(crate::proofs::ConcatenationLaws::concatenation_is_associative))]
+    /// Law: [`crate::laws::concatenation_is_associative`]. The original's `concatenate_end`, whose error is the other
+    /// alone.
     pub fn concatenate_end(&mut self, other: Self) -> Result<(), ConcatenateError<Self>>
         ensures ok { OnOk result (self.new ≡ concatenated_end self.old other) }
         ensures overlap { (result ≡ Err (ConcatenateError.Overlap other))
@@ -38,9 +36,6 @@ impl<D: DigitStore> UnsignedOver<D> {
             → concatenated_size self.old other ≤ D.L → IsOk result }
         ensures err { OnErr result (self.new ≡ self.old) }
         ensures returned { IfErr result (λ e. returned e ≡ other) }
-        // Three values can be joined from the front exactly where they can be from the back, and give the same.
-        ensures associative { (u v w : Unsigned) → IsValue u → IsValue v → IsValue w
-            → ConcatenationIsAssociative u v w }
     {
         if self.overlaps(&other) {
             return Err(ConcatenateError::Overlap(other));
@@ -145,9 +140,9 @@ impl<D: DigitStore> UnsignedOver<D> {
         ensures { self.new ≡ record self.old
             { hi = int_max self.old.hi other.now.hi; lo = int_min self.old.lo other.now.lo } }
     {
-        let upper = self.hi.max(other.hi);
-        let lower = self.lo.min(other.lo);
-        self.hi = upper;
-        self.lo = lower;
+        let hi = self.hi.max(other.hi);
+        let lo = self.lo.min(other.lo);
+        self.hi = hi;
+        self.lo = lo;
     }
 }

@@ -1,5 +1,5 @@
 //! Copies of a value, and which values are equal.
-ghost use Rattle.std.specs.Prelude.{◌≡◌, ◌≤◌, ◌↔◌, IsTrue, IsOk, IfOk};
+ghost use Rattle.std.specs.Prelude.{◌≡◌, ◌≤◌, ◌↔◌, IsTrue};
 ghost use Rattle.decimal_digits.specs.Number.{size};
 ghost use Rattle.decimal_unsigned.specs.Text.{text};
 ghost use Rattle.decimal_unsigned.specs.Unsigned.{same, same_laws, IsValue};
@@ -8,15 +8,15 @@ use super::UnsignedOver;
 use decimal_digits::digits::DigitStore;
 use std::alloc::AllocError;
 
-impl<D: DigitStore> UnsignedOver<D> {
+impl<D: DigitStore> Clone for UnsignedOver<D> {
+    ghost is_clone = { λ value copy. copy ≡ value };
+
+    ghost is_infallible = { λ value. size value.number ≤ D.L };
+
     /// Makes a second value that equals this one.
     ///
-    /// The copy of `01.50` prints `01.50`. Err: memory for more than `L` digits was refused. In the place of the
-    /// original's `Clone`.
-    pub fn clone(&self) -> Result<Self, AllocError>
-        ensures value { IfOk result (λ copy. copy ≡ self.now) }
-        ensures succeeds { size self.now.number ≤ D.L → IsOk result }
-    {
+    /// The copy of `01.50` prints `01.50`. Err: memory for more than `L` digits was refused. The original's `Clone`.
+    fn clone(&self) -> Result<Self, AllocError> {
         let digits = self.digits.clone()?;
         Ok(UnsignedOver {
             digits,

@@ -1,9 +1,10 @@
 //! Shifts, and edits of the range that is shown.
 ghost use Rattle.std.specs.Prelude.{◌≡◌, ℕ, ◌<◌, ◌≤◌, ◌⊎◌, length, drop, slice_index, pos, negsuc, ◌+ℤ◌, ◌≤ℤ◌, ◌<ℤ◌, Some, None, IsOk, IfOk, IfErr, IfSome, IfNone, OnOk, OnErr, ◌↔◌};
 ghost use Rattle.std.specs.Int.{int_gap, int_max, int_min};
-ghost use Rattle.decimal_unsigned.specs.Unsigned.{Unsigned, IsValue, IsLeastHi, IsGreatestLo};
+ghost use Rattle.decimal_digits.specs.Number.{first, last};
+ghost use Rattle.decimal_unsigned.specs.Unsigned.{IsValue, IsLeastHi, IsGreatestLo};
 ghost use Rattle.decimal_unsigned.specs.Edits.{multiplied, multiplied_pow10, StaysInLimits, trimmed_start, trimmed_end, trimmed_end_if_integer, padded_start, padded_end, with_max_position};
-ghost use Rattle.decimal_unsigned.specs.EditLaws.{TrimmedIsNormalForm, IsShortest, trunced, PartsJoin};
+ghost use Rattle.decimal_unsigned.specs.EditLaws.{IsShortest, trunced, PartsJoin};
 
 use super::UnsignedOver;
 use crate::error::LimitError;
@@ -13,6 +14,26 @@ use decimal_digits::ops::{
 };
 
 impl<D: DigitStore> UnsignedOver<D> {
+    /// Shows the magnitudes up to this one.
+    #[inline]
+    pub(super) fn set_highest(&mut self, hi: i16)
+        requires number { first self.old.number ≤ℤ hi }
+        requires ones { pos 0 ≤ℤ hi }
+        ensures { self.new ≡ record self.old { hi = hi } }
+    {
+        self.hi = hi;
+    }
+
+    /// Shows the magnitudes down to this one.
+    #[inline]
+    pub(super) fn set_lowest(&mut self, lo: i16)
+        requires number { lo ≤ℤ last self.old.number }
+        requires ones { lo ≤ℤ pos 0 }
+        ensures { self.new ≡ record self.old { lo = lo } }
+    {
+        self.lo = lo;
+    }
+
     /// Multiplies by 10 to the power `delta`, exactly.
     ///
     /// The range moves along, and magnitude 0 stays shown. `250` by -2 is `2.50`, and `0` by 3 is `0000`.
@@ -42,34 +63,34 @@ impl<D: DigitStore> UnsignedOver<D> {
 
     /// Shows no zero in front of the first digit that is not 0, magnitude 0 apart.
     ///
-    /// `0012.3400` becomes `12.3400`, and `0.0022` stays. The original's `trim_start`.
+    /// `0012.3400` becomes `12.3400`, and `0.0022` stays. Law: [`crate::laws::trimmed_is_normal_form`]. The original's
+    /// `trim_start`.
     pub fn trim_start(&mut self)
         ensures value { self.new ≡ trimmed_start self.old }
         // No value of this number shows fewer magnitudes in front.
         ensures least { IsLeastHi self.new }
-        // Another value has this number exactly if both are equal after both trims.
-        ensures normal_form { (other : Unsigned) → TrimmedIsNormalForm self.old other }
         // Trimmed behind too, the value has the shortest text of its number.
         ensures shortest { IsShortest (trimmed_end self.new) }
         ensures valid { IsValue self.old }
     {
-        self.hi = self.magnitude.max(0);
+        let hi = self.nonzero_magnitude_start().max(0);
+        self.set_highest(hi);
     }
 
     /// Shows no zero behind the last digit that is not 0, magnitude 0 apart.
     ///
-    /// `0012.3400` becomes `0012.34`, and `1000` stays. The original's `trim_end`.
+    /// `0012.3400` becomes `0012.34`, and `1000` stays. Law: [`crate::laws::trimmed_is_normal_form`]. The original's
+    /// `trim_end`.
     pub fn trim_end(&mut self)
         ensures value { self.new ≡ trimmed_end self.old }
         // No value of this number shows fewer magnitudes behind.
         ensures greatest { IsGreatestLo self.new }
-        // Another value has this number exactly if both are equal after both trims.
-        ensures normal_form { (other : Unsigned) → TrimmedIsNormalForm self.old other }
         // Trimmed in front too, the value has the shortest text of its number.
         ensures shortest { IsShortest (trimmed_start self.new) }
         ensures valid { IsValue self.old }
     {
-        self.lo = self.nonzero_magnitude_end().min(0);
+        let lo = self.nonzero_magnitude_end().min(0);
+        self.set_lowest(lo);
     }
 
     /// Shows no digit behind the dot where all of them are 0.
@@ -79,7 +100,7 @@ impl<D: DigitStore> UnsignedOver<D> {
         ensures { self.new ≡ trimmed_end_if_integer self.old }
     {
         if self.nonzero_magnitude_end() >= 0 {
-            self.lo = 0;
+            self.set_lowest(0);
         }
     }
 
@@ -92,7 +113,8 @@ impl<D: DigitStore> UnsignedOver<D> {
         ensures { self.new ≡ padded_start self.old position }
     {
         if position > 0 {
-            self.hi = self.magnitude.max(lowered(position, 1));
+            let hi = self.nonzero_magnitude_start().max(lowered(position, 1));
+            self.set_highest(hi);
         }
     }
 
@@ -104,7 +126,8 @@ impl<D: DigitStore> UnsignedOver<D> {
         ensures { self.new ≡ padded_end self.old position }
     {
         if position <= 0 {
-            self.lo = self.nonzero_magnitude_end().min(position);
+            let lo = self.nonzero_magnitude_end().min(position);
+            self.set_lowest(lo);
         }
     }
 

@@ -1,9 +1,9 @@
 //! Reading a value from a text: every fault is decided before memory is asked for.
-ghost use Rattle.std.specs.Prelude.{◌≡◌, ◌≢◌, ℕ, ◌+◌, ◌-◌, ◌<◌, ◌≤◌, ◌++◌, List, length, IfSome, IfOk, IfErr, Ok, Err, IsOk, IsOkAnd};
+ghost use Rattle.std.specs.Prelude.{◌≡◌, ◌≢◌, ◌+◌, ◌-◌, ◌<◌, ◌≤◌, ◌++◌, length, IfSome, IfOk, IfErr, Ok, Err, IsOk, IsOkAnd};
 ghost use Rattle.std.specs.Str.Parse.{AllDigits};
 ghost use Rattle.decimal_digits.specs.Number.{size};
 ghost use Rattle.decimal_unsigned.specs.Grammar.{Written, Grammar};
-ghost use Rattle.decimal_unsigned.specs.Reading.{value_of, read, FollowsGrammar};
+ghost use Rattle.decimal_unsigned.specs.Reading.{value_of, read};
 ghost use Rattle.decimal_unsigned.specs.Refusal.{ParseRefuses, Answers, AnswersGrammar, IsPlain, digit_count};
 ghost use Rattle.decimal_unsigned.specs.Parts.{view, IsSaturated, IsNumbered};
 ghost use Rattle.decimal_unsigned.specs.Placing.{middle, digits_of};
@@ -49,14 +49,11 @@ impl<'a> Model for Scan<'a> {
 impl<'a> Scan<'a> {
     /// Finds what a text writes, and asks for no memory.
     ///
-    /// `012.50` is found, and `5.` is refused. Err: `Syntax` or `Limit`, as `try_from_utf8` answers. Not in the
-    /// original.
-    #[tactic(auto, using(crate::proofs::ParserAnswers::follows_grammar))]
+    /// `012.50` is found, and `5.` is refused. Err: `Syntax` or `Limit`, as `try_from_utf8` answers. Law:
+    /// [`crate::laws::reading_follows_grammar`]. Not in the original.
     pub fn new(text: &'a [u8]) -> Result<Scan<'a>, ParseError>
         ensures value { IfOk result (λ s. read text.now ≡ Ok s) }
         ensures fault { IfErr result (λ e. ParseRefuses ⊥ e (read text.now)) }
-        // Each text is read as the grammar says.
-        ensures grammar { (any : List ℕ) → FollowsGrammar any }
     {
         let Some(parts) = split(text) else {
             return Err(ParseError::Syntax);
@@ -231,11 +228,7 @@ impl<D: DigitStore> UnsignedOver<D> {
     fn scan_from(alloc: Global, text: &[u8]) -> Result<Self, ParseError>
         ensures { Answers (λ v. D.L < size v.number) result (read text.now) }
     {
-        let scan = Scan::new(text)?;
-        let Ok(value) = scan.value(alloc) else {
-            return Err(ParseError::Memory);
-        };
-        Ok(value)
+        Ok(Scan::new(text)?.value(alloc)?)
     }
 
     /// The value of any parts.
@@ -249,9 +242,6 @@ impl<D: DigitStore> UnsignedOver<D> {
         let Some(plan) = planned(&parts) else {
             return Err(ParseError::Limit);
         };
-        let Ok(value) = (Scan { parts, plan }).value(alloc) else {
-            return Err(ParseError::Memory);
-        };
-        Ok(value)
+        Ok((Scan { parts, plan }).value(alloc)?)
     }
 }

@@ -2,10 +2,9 @@
 ghost use Rattle.std.specs.Prelude.{◌≡◌, ◌≢◌, ◌+◌, ◌≤◌, pos, ◌-ℤ◌, ◌≤ℤ◌, Some, ◌<ℤ◌, IsErrOf, IsOk, IfErr, OnOk};
 ghost use Rattle.std.specs.Int.{int_max};
 ghost use Rattle.decimal_digits.specs.Number.{size};
-ghost use Rattle.decimal_unsigned.specs.Unsigned.{Unsigned};
 ghost use Rattle.decimal_unsigned.specs.Edits.{with_max_position};
 ghost use Rattle.decimal_unsigned.specs.Rounded.{IsRounded, rounded, AnswersInPlace, AnswersByValue, RoundsInPlace, RoundsByValue, HasRoom, HoldsOneMore};
-ghost use Rattle.decimal_unsigned.specs.EditLaws.{PartsJoin, TruncationsCompose, ExpansionsCompose, RoundingIsMonotone};
+ghost use Rattle.decimal_unsigned.specs.EditLaws.{PartsJoin};
 
 use super::UnsignedOver;
 use crate::error::LimitError;
@@ -26,6 +25,7 @@ fn highest_after(hi: i16, position: i16, first: i16) -> i16
     }
 }
 
+#[tactic(auto, using(crate::proofs::Casts::kept))]
 impl<D: DigitStore> UnsignedOver<D> {
     /// Rounds at a position to a multiple of an increment, and counts the turns.
     ///
@@ -41,9 +41,9 @@ impl<D: DigitStore> UnsignedOver<D> {
     /// has at least `L` digits. After either the value is as it was, range included.
     ///
     /// Each read and each write of a digit is a turn. A rounding takes at most seven, and one for each digit that
-    /// vanishes; one that is refused with Limit takes at most seven, and one for each digit. Not in the original, which
-    /// counts nothing and puts 0 for what is too great.
-    #[tactic(auto, using(crate::proofs::RoundingLaws::rounding_is_monotone))]
+    /// vanishes; one that is refused with Limit takes at most seven, and one for each digit. Law:
+    /// [`crate::laws::rounding_is_monotone`]. Not in the original, which counts nothing and puts 0 for what is too
+    /// great.
     pub fn round_counted(
         &mut self,
         position: i16,
@@ -59,8 +59,6 @@ impl<D: DigitStore> UnsignedOver<D> {
 
         // The same rounding once more changes nothing, range included.
         ensures idempotent { OnOk result (rounded self.new position mode increment ≡ Some self.new) }
-        // What stands after a rounding of the greater number is no less than what stands after one of the other.
-        ensures monotone { (v w : Unsigned) → RoundingIsMonotone v w position mode increment }
 
         ensures turns { (IsErrOf result RoundError.Limit → ⊥)
             → steps.new.count + size self.new.number ≤ steps.old.count + size self.old.number + 7 }
@@ -134,32 +132,26 @@ impl<D: DigitStore> UnsignedOver<D> {
     /// Rounds away from zero at a position.
     ///
     /// `99.999` at 4 becomes `10000`. Err: as for `round_with_mode`; the value then stays as it was, range included.
-    /// The original's `expand`, which puts 0 then.
+    /// Law: [`crate::laws::expansions_compose`]. The original's `expand`, which puts 0 then.
     pub fn expand(&mut self, position: i16) -> Result<(), LimitError>
         ensures answers { AnswersInPlace
             (IsRounded self.old position UnsignedRoundingMode.Expand RoundingIncrement.MultiplesOf1)
             self.old self.new result }
         // Below the highest magnitude there is room for each multiple.
         ensures fits { self.old.hi <ℤ pos 32767 → IsOk result }
-        // Expanded once more, it has the number that the old value gets at the higher position, or is refused where
-        // that one is.
-        ensures composes { ExpansionsCompose self.old position }
     {
         self.round_with_mode(position, UnsignedRoundingMode::Expand)
     }
 
     /// Rounds toward zero at a position.
     ///
-    /// `1234.56` at -1 becomes `1234.5`. It is never refused, for the multiple is not above the number. The original's
-    /// `trunc`.
+    /// `1234.56` at -1 becomes `1234.5`. It is never refused, for the multiple is not above the number. Law:
+    /// [`crate::laws::truncations_compose`]. The original's `trunc`.
     pub fn trunc(&mut self, position: i16)
         ensures rounds { IsRounded self.old position UnsignedRoundingMode.Trunc
             RoundingIncrement.MultiplesOf1 (Some self.new) }
         // Joined in front of what `set_max_position` leaves at the position, this part gives the number back.
         ensures parts { PartsJoin self.old position self.new (with_max_position self.old position) }
-        // Truncated once more, it has the number that the old value gets at the higher position, and the range too
-        // where the second position is that one.
-        ensures composes { TruncationsCompose self.old position self.new }
     {
         self.round_with_mode(position, UnsignedRoundingMode::Trunc)
             .unwrap();

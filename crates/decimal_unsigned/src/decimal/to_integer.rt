@@ -103,6 +103,7 @@ fn leading_few<D: DigitStore>(digits: &D, count: usize) -> Option<u64>
 
 /// The number that the first digits write, with zeros behind the last one. In 64 bits there is room for 19 digits.
 #[inline]
+#[tactic(auto, using(crate::proofs::WholeNumbers::leading_next, crate::proofs::WholeNumbers::leading_short), unfolding(decimal_digits::specs::Digits::number_at))]
 fn leading_short<D: DigitStore>(digits: &D, count: usize) -> u64
     requires { count ≤ 19 }
     ensures { result ≡ leading count (D.digits digits.now) }
@@ -118,6 +119,7 @@ fn leading_short<D: DigitStore>(digits: &D, count: usize) -> u64
 }
 
 /// The number that the first digits write, with zeros behind the last one. In 128 bits there is room for 38 digits.
+#[tactic(auto, using(crate::proofs::WholeNumbers::leading_next, crate::proofs::WholeNumbers::leading_long), unfolding(decimal_digits::specs::Digits::number_at))]
 fn leading_long<D: DigitStore>(digits: &D, count: usize) -> u128
     requires { count ≤ 38 }
     ensures { result ≡ leading count (D.digits digits.now) }
@@ -130,6 +132,7 @@ fn leading_long<D: DigitStore>(digits: &D, count: usize) -> u128
 }
 
 /// The number that the first 39 digits write, with zeros behind the last one, where 128 bits hold it.
+#[tactic(auto, using(crate::proofs::WholeNumbers::leading_39))]
 fn leading_longest<D: DigitStore>(digits: &D) -> Result<u128, IntegerError>
     ensures { result ≡ in_range (2 ^ 128) (leading 39 (D.digits digits.now)) }
 {

@@ -96,6 +96,7 @@ fn scaled(parts: &Parts<'_>, start: usize, end: usize, exponent: i32) -> Option<
 }
 
 /// The plan of the parts, unless they are beyond a limit.
+#[tactic(auto, using(std::proofs::lemmas::Int::ints, std::proofs::lemmas::Int::clamps))]
 pub fn planned(parts: &Parts<'_>) -> Option<Plan>
     requires digits { AllDigits 10 (parts.now.whole.now ++ parts.now.fraction.now) }
     requires exponent { IfSome parts.now.exponent IsSaturated }

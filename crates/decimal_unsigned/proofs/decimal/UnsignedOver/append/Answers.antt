@@ -1,6 +1,6 @@
-use Rattle.decimal_unsigned.proofs.Common.{◌≡◌, ◌∙◌, w16, to_z, of_z, refl, arith, int_max, int_min}
+use Rattle.decimal_unsigned.proofs.Common.{◌≡◌, w16, to_z, of_z, arith, ints, clamps, int_max, int_min}
 use Rattle.std.proofs.lemmas.Bool.{false≢true}
-use Rattle.decimal_unsigned.proofs.Values.{narrow_kept, hi_kept, lo_kept}
+use Rattle.decimal_unsigned.proofs.Values.{hi_kept, lo_kept}
 use Rattle.decimal_unsigned.proofs.Concatenations.{append_size, append_stored, append_value}
 use Rattle.decimal_unsigned.proofs.decimal.UnsignedOver.append.Goals as goal
 
@@ -10,26 +10,23 @@ returns-in_err-append-clause-succeeds g c h =
     c.requires.second_counts c.zeros_before-zeros.ensures in
     absurd (false≢true (c.in_err-append.ensures.succeeds (omega (arith, s, h))))
 
+-- the range of both values
+hi_is : (g : _) (c : goal.After-self-2-1 g)
+    → to_z w16 (of_z w16 c.max-hi.result) ≡ int_max c.self.inside.hi c.other.inside.hi
+hi_is g c = omega (arith, ints, clamps, hi_kept c.self.invariant, hi_kept c.other.invariant)
+
+lo_is : (g : _) (c : goal.After-self-2-1 g)
+    → to_z w16 (of_z w16 c.min-lo.result) ≡ int_min c.self.inside.lo c.other.inside.lo
+lo_is g c = omega (arith, ints, clamps, lo_kept c.self.invariant, lo_kept c.other.invariant)
+
 pub invariant_of-self-2 : goal.invariant_of-self-2
 invariant_of-self-2 g c =
-    let t = c.self.invariant in
-    let u = c.other.invariant in
-    let hi : to_z w16 (of_z w16 c.max-hi.result) ≡ int_max c.self.inside.hi c.other.inside.hi =
-    narrow_kept c.max-hi.type_inv ∙ c.max-hi.ensures.value ∙ (rw (hi_kept t, hi_kept u) refl) in
-    let lo : to_z w16 (of_z w16 c.min-lo.result) ≡ int_min c.self.inside.lo c.other.inside.lo =
-    narrow_kept c.min-lo.type_inv ∙ c.min-lo.ensures.value ∙ (rw (lo_kept t, lo_kept u) refl) in
-    rw (c.in_ok-append.ensures.ok, hi, lo)
-    (append_stored t u c.self.view_is c.other.view_is _ c.requires.first_counts c.requires.second_counts
-    c.zeros_before-zeros.ensures)
+    rw (c.in_ok-append.ensures.ok, hi_is g c, lo_is g c)
+    (append_stored c.self.invariant c.other.invariant c.self.view_is c.other.view_is _ c.requires.first_counts
+    c.requires.second_counts c.zeros_before-zeros.ensures)
 
 pub returns-clause-ok : goal.returns-clause-ok
 returns-clause-ok g c =
-    let t = c.self.invariant in
-    let u = c.other.invariant in
-    let hi : to_z w16 (of_z w16 c.max-hi.result) ≡ int_max c.self.inside.hi c.other.inside.hi =
-    narrow_kept c.max-hi.type_inv ∙ c.max-hi.ensures.value ∙ (rw (hi_kept t, hi_kept u) refl) in
-    let lo : to_z w16 (of_z w16 c.min-lo.result) ≡ int_min c.self.inside.lo c.other.inside.lo =
-    narrow_kept c.min-lo.type_inv ∙ c.min-lo.ensures.value ∙ (rw (lo_kept t, lo_kept u) refl) in
-    rw (c.in_ok-append.ensures.ok, hi, lo)
-    (append_value t u c.self.view_is c.other.view_is _ c.requires.first_counts c.requires.second_counts
-    c.zeros_before-zeros.ensures)
+    rw (c.in_ok-append.ensures.ok, hi_is g c, lo_is g c)
+    (append_value c.self.invariant c.other.invariant c.self.view_is c.other.view_is _ c.requires.first_counts
+    c.requires.second_counts c.zeros_before-zeros.ensures)

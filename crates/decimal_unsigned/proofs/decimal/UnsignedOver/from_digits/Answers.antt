@@ -1,6 +1,5 @@
 use Rattle.decimal_unsigned.proofs.Common.{refl, arith, ints, clamps}
 use Rattle.decimal_unsigned.proofs.Integers.{UpToLast, whole_stored, whole_value, whole_size}
-use Rattle.decimal_unsigned.proofs.Values.{narrow_kept, wide_kept}
 use Rattle.decimal_unsigned.proofs.decimal.UnsignedOver.from_digits.Goals as goal
 use Rattle.decimal_unsigned.proofs.decimal.UnsignedOver.from_digits.Goals.{After-end_of}
 
@@ -23,32 +22,10 @@ returns-in_err-nonzero-clause-succeeds g c h =
 
 pub invariant_of-result : goal.invariant_of-result
 invariant_of-result g c =
-    let e = up_to_last g (goal.at.invariant_of-result g c).After-end_of in
     rw c.in_ok-nonzero.ensures.ok
-    (whole_stored e _
-    (omega (
-      arith,
-      ints,
-      clamps,
-      narrow_kept {z = c.at_least_zero-magnitude.result} c.at_least_zero-magnitude.type_inv,
-      c.at_least_zero-magnitude.ensures,
-      wide_kept {z = c.difference.result} c.difference.type_inv,
-      c.difference.ensures,
-      e.few,
-    )))
+    (whole_stored (up_to_last g (goal.at.invariant_of-result g c).After-end_of) _ (omega (arith, ints, clamps)))
 
 pub returns-clause-value : goal.returns-clause-value
 returns-clause-value g c =
-    let e = up_to_last g (goal.at.returns-clause-value g c).After-end_of in
     rw c.in_ok-nonzero.ensures.ok
-    (whole_value e _
-    (omega (
-      arith,
-      ints,
-      clamps,
-      narrow_kept {z = c.at_least_zero-magnitude.result} c.at_least_zero-magnitude.type_inv,
-      c.at_least_zero-magnitude.ensures,
-      wide_kept {z = c.difference.result} c.difference.type_inv,
-      c.difference.ensures,
-      e.few,
-    )))
+    (whole_value (up_to_last g (goal.at.returns-clause-value g c).After-end_of) _ (omega (arith, ints, clamps)))

@@ -11,8 +11,8 @@ returns-in_default-clause-limit g c =
     let d : to_z w16 (of_z w16 c.args.delta) ≡ c.args.delta = to_z-of_z w16 c.args.delta c.ranges.delta in
     ap (λ (v : Unsigned). multiplied_pow10 v c.args.delta) (sym c.self.view_is)
     ∙ multiplied_pow10_over _ c.args.delta t (elim c.in_default.ensures.none [
-      | inl h ↦ inl (omega (arith, ints, h, hi_kept t, d))
-      | inr h ↦ inr (omega (arith, ints, h, lo_kept t, d))
+      | inl h ↦ inl (omega (arith, ints, hi_kept t))
+      | inr h ↦ inr (omega (arith, ints, lo_kept t))
     ])
 
 moves : (g : _) (c : goal.After-self-3-1 g)
@@ -25,18 +25,14 @@ moves g c =
     let d : to_z w16 (of_z w16 c.args.delta) ≡ c.args.delta = to_z-of_z w16 c.args.delta c.ranges.delta in
     record {
       some = λ p. elim c.if-len-eq0.branch [
-        | then-len-eq0 w ↦ absurd (omega (arith, w.if-len-eq0.true, c.len.ensures))
+        | then-len-eq0 w ↦ absurd (omega arith)
         | else-len-eq0 w ↦
-            w.magnitude-is
-            ∙ narrow_kept w.narrowed-magnitude.type_inv
-            ∙ w.narrowed-magnitude.ensures
-            ∙ wide_kept w.sum.type_inv
-            ∙ w.sum.ensures
-            ∙ (rw (magnitude_kept t, d) refl)
+            w.magnitude-is ∙ narrow_kept w.narrowed-magnitude.type_inv ∙ w.narrowed-magnitude.ensures
+            ∙ wide_kept w.sum.type_inv ∙ w.sum.ensures ∙ (rw (magnitude_kept t, d) refl)
       ];
       none = λ z. elim c.if-len-eq0.branch [
-        | then-len-eq0 w ↦ omega (arith, ints, w.magnitude-is)
-        | else-len-eq0 w ↦ absurd (omega (arith, w.if-len-eq0.false, c.len.ensures))
+        | then-len-eq0 w ↦ omega (arith, ints)
+        | else-len-eq0 w ↦ absurd (omega arith)
       ];
       hi_is = omega (arith, ints, clamps, e.hi, e.fits, t.hi_in, hi_kept t, d);
       lo_is = omega (arith, ints, clamps, e.lo, e.fits, t.lo_in, lo_kept t, d);

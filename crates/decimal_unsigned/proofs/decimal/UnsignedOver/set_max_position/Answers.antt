@@ -1,5 +1,5 @@
-use Rattle.decimal_unsigned.proofs.Common.{◌≡◌, ◌≤◌, min, length, w16, pos, ◌+ℤ◌, ◌-ℤ◌, to_z, of_z, refl, sym, ◌∙◌, ap, subst, arith, int_max, int_gap, ints, to_z-of_z, place_is, Unsigned, with_max_position, trunced, PartsJoin}
-use Rattle.decimal_unsigned.proofs.Values.{lo_kept, magnitude_kept, narrow_kept, wide_kept, lowest}
+use Rattle.decimal_unsigned.proofs.Common.{◌≡◌, ◌≤◌, min, length, w16, w32, pos, ◌+ℤ◌, ◌-ℤ◌, to_z, of_z, refl, sym, ◌∙◌, ap, subst, arith, int_max, int_gap, ints, to_z-of_z, place_is, Unsigned, with_max_position, trunced, PartsJoin}
+use Rattle.decimal_unsigned.proofs.Values.{lo_kept, magnitude_kept, narrow_kept, lowest}
 use Rattle.decimal_unsigned.proofs.Cuts.{Cuts, stored_cut, with_max_position_is}
 use Rattle.decimal_unsigned.proofs.Shown.{value_of_view}
 use Rattle.decimal_unsigned.proofs.EditLaws.{parts}
@@ -9,18 +9,7 @@ use Rattle.decimal_unsigned.proofs.decimal.UnsignedOver.set_max_position.Goals.{
 pub magnitude_of-magnitude-requires : goal.magnitude_of-magnitude-requires
 magnitude_of-magnitude-requires g c =
     let t = c.self.invariant in
-    omega (
-      arith,
-      ints,
-      magnitude_kept t,
-      c.if-start-len.true,
-      c.len-len.ensures,
-      t.fits,
-      t.in_range,
-      lowest t,
-      place_is c.self.inside.magnitude,
-      place_is c.self.inside.lo,
-    )
+    omega (arith, ints, magnitude_kept t, t.fits, t.in_range, lowest t, place_is)
 
 cuts : (g : _) (c : goal.After-self-3-1 g)
     → Cuts (g.D.DigitStore.digits c.self.inside.digits) c.self.inside.magnitude c.self.inside.lo c.args.position
@@ -34,7 +23,6 @@ cuts g c =
     ≡ min (int_gap c.args.position (c.self.inside.magnitude +ℤ pos 1))
     (length (g.D.DigitStore.digits c.self.inside.digits)) =
     c.min.ensures ∙ (rw (c.places_from-above.ensures, c.len-len.ensures, p, magnitude_kept t) refl) in
-    let below : c.sum.result ≡ c.args.position -ℤ pos 1 = omega (arith, ints, c.sum.ensures, p) in
     record {
       from = subst (λ n. n ≤ c.first_nonzero-start.result) from f.from;
       within = f.within;
@@ -42,22 +30,20 @@ cuts g c =
       found = f.found;
       some = λ h. elim c.if-start-len.branch [
         | then-start-len w ↦
-            w.magnitude-is
-            ∙ narrow_kept w.magnitude_of-magnitude.type_inv
-            ∙ w.magnitude_of-magnitude.ensures
+            w.magnitude-is ∙ narrow_kept w.magnitude_of-magnitude.type_inv ∙ w.magnitude_of-magnitude.ensures
             ∙ ap (λ m. m -ℤ pos c.first_nonzero-start.result) (magnitude_kept t)
-        | else-start-len w ↦ absurd (omega (arith, w.if-start-len.false, c.len-len.ensures))
+        | else-start-len w ↦ absurd (omega arith)
       ];
       none = λ h. elim c.if-start-len.branch [
-        | then-start-len w ↦ absurd (omega (arith, w.if-start-len.true, c.len-len.ensures))
-        | else-start-len w ↦ omega (arith, ints, w.magnitude-is)
+        | then-start-len w ↦ absurd (omega arith)
+        | else-start-len w ↦ omega (arith, ints)
       ];
       hi_is =
-          narrow_kept c.at_least_zero-hi.type_inv
-          ∙ c.at_least_zero-hi.ensures
-          ∙ ap (λ x. int_max x (pos 0)) (wide_kept c.sum.type_inv ∙ below);
+          narrow_kept c.at_least_zero-hi.type_inv ∙ c.at_least_zero-hi.ensures
+          ∙ ap (λ x. int_max x (pos 0)) (let e : to_z w32 (of_z w32 c.sum.result) ≡ c.args.position -ℤ pos 1 =
+          omega (arith, ints, c.sum.ensures, p) in e);
       lo_is = narrow_kept c.min-lo.type_inv ∙ c.min-lo.ensures.value ∙ (rw (lo_kept t, p) refl);
-      position = (omega (arith, ints, p), omega (arith, ints, p));
+      position = omega (arith, ints);
     }
 
 pub invariant_of-self : goal.invariant_of-self

@@ -1,8 +1,6 @@
-use Rattle.decimal_unsigned.proofs.Common.{ap, subst, arith, unwrap_or, ints, to_z-of_z, MultiplesOf1, Trunc, IsRounded, with_max_position, PartsJoin}
+use Rattle.decimal_unsigned.proofs.Common.{ap, subst, unwrap_or, to_z-of_z, MultiplesOf1, Trunc, IsRounded, with_max_position, PartsJoin}
 use Rattle.decimal_unsigned.proofs.Roundings.{made_unless}
-use Rattle.decimal_unsigned.specs.EditLaws.{TruncationsCompose}
 use Rattle.decimal_unsigned.proofs.EditLaws.{parts, trunc_not_refused}
-use Rattle.decimal_unsigned.proofs.RoundingLaws.{truncations_compose}
 use Rattle.decimal_unsigned.proofs.decimal.UnsignedOver.trunc.Goals as goal
 
 pub unwrap-requires : goal.unwrap-requires
@@ -24,7 +22,4 @@ returns g c =
       parts =
           subst (λ t. PartsJoin v c.args.position t (with_max_position v c.args.position)) value
           (parts v c.args.position rounds.valid);
-      composes =
-          subst (TruncationsCompose v c.args.position) value
-          (truncations_compose v c.args.position (omega (arith, ints)) rounds.valid);
     }

@@ -16,15 +16,6 @@ returns-in_default-clause-some c =
     makes_at _ 0 0 _ _ _ _ _ _ k (omega (arith, ints, c.unscaled.ensures.magnitude))
     (omega (arith, ints, c.unscaled.ensures.hi)) (omega (arith, ints, c.unscaled.ensures.lo))
 
-pub unscaled-requires-in-None-clause-magnitude_in : goal.unscaled-requires-in-None-clause-magnitude_in
-unscaled-requires-in-None-clause-magnitude_in c =
-    let w = view c.args.parts.now in
-    let n : IsInner (digits_of w) c.in-Some.start c.in-Some.end = c.in-Some.ensures.some in
-    let l = length_digits w c.requires.digits c.if-whole-gt32768.false c.if-fraction-gt32768.false in (
-      omega (arith, ints, n.ordered, n.within, l, c.difference.ensures),
-      omega (arith, ints, n.ordered, n.within, l, c.difference.ensures),
-    )
-
 pub returns-in-None-clause-some : goal.returns-in-None-clause-some
 returns-in-None-clause-some c =
     let k = makes_plain (view c.args.parts.now) c.requires.digits c.if-whole-gt32768.false c.if-fraction-gt32768.false

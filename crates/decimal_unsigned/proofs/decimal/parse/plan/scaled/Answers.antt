@@ -9,36 +9,25 @@ use Rattle.decimal_unsigned.proofs.decimal.parse.plan.scaled.Goals.{After-differ
 -- ---- The moved magnitudes, as they are read again.
 hi_is : (c : After-difference-4)
     → to_z w32 (of_z w32 c.raised-hi.result) ≡ pos (length c.args.parts.now.whole.now - 1) +ℤ c.args.exponent
-hi_is c =
-    let s = c.requires.saturated in
-    wide_kept {z = c.raised-hi.result} c.raised-hi.type_inv
-    ∙ (omega (arith, ints, c.raised-hi.ensures, c.difference.ensures, c.max.ensures, c.requires.few, s.low, s.high))
+hi_is c = wide_kept {z = c.raised-hi.result} c.raised-hi.type_inv ∙ (omega (arith, ints))
 
 lo_is : (c : After-difference-4)
     → to_z w32 (of_z w32 c.raised-lo.result) ≡ (pos 0 -ℤ pos (length c.args.parts.now.fraction.now)) +ℤ c.args.exponent
-lo_is c =
-    let s = c.requires.saturated in
-    wide_kept {z = c.raised-lo.result} c.raised-lo.type_inv
-    ∙ (omega (arith, ints, c.raised-lo.ensures, c.difference-2.ensures, c.requires.short, s.low, s.high))
+lo_is c = wide_kept {z = c.raised-lo.result} c.raised-lo.type_inv ∙ (omega (arith, ints))
 
 first_is : (c : After-difference-4)
     → to_z w32 (of_z w32 c.raised-first.result)
     ≡ ((pos (length c.args.parts.now.whole.now) -ℤ pos 1) -ℤ pos c.args.start) +ℤ c.args.exponent
 first_is c =
-    let s = c.requires.saturated in
-    let n = c.requires.kept in
-    let l = length_digits (view c.args.parts.now) c.requires.digits c.requires.few c.requires.short in
-    wide_kept {z = c.raised-first.result} c.raised-first.type_inv
-    ∙ (omega (arith, ints, c.raised-first.ensures, c.difference-3.ensures, n.ordered, n.within, l, s.low, s.high))
+    let l = length_digits (view c.args.parts.now) in
+    wide_kept {z = c.raised-first.result} c.raised-first.type_inv ∙ (omega (arith, ints))
 
 last_is : (c : After-difference-4) {r : ℤ} → mag r < 2147483648
     → r ≡ to_z w32 (of_z w32 c.difference-4.result) +ℤ to_z w32 (of_z w32 c.args.exponent)
     → to_z w32 (of_z w32 r) ≡ (pos (length c.args.parts.now.whole.now) -ℤ pos c.args.end) +ℤ c.args.exponent
 last_is c {r} kept is =
-    let s = c.requires.saturated in
-    let l = length_digits (view c.args.parts.now) c.requires.digits c.requires.few c.requires.short in
-    wide_kept {z = r} kept
-    ∙ (omega (arith, ints, is, c.difference-4.ensures, c.requires.kept.within, l, s.low, s.high))
+    let l = length_digits (view c.args.parts.now) in
+    wide_kept {z = r} kept ∙ (omega (arith, ints))
 
 above_low : (whole fraction end : ℕ) (e last lo : ℤ) → last ≡ (pos whole -ℤ pos end) +ℤ e
     → lo ≡ (pos 0 -ℤ pos fraction) +ℤ e → end ≤ whole + fraction → negsuc 32767 ≤ℤ lo
@@ -46,19 +35,10 @@ above_low : (whole fraction end : ℕ) (e last lo : ℤ) → last ≡ (pos whole
 above_low whole fraction end e last lo a b within low = omega (arith, ints)
 
 pub raised-first-requires-clause-magnitude_in : goal.raised-first-requires-clause-magnitude_in
-raised-first-requires-clause-magnitude_in c =
-    let l = length_digits (view c.args.parts.now) c.requires.digits c.requires.few c.requires.short in
-    let n = c.requires.kept in (
-      omega (arith, ints, l, n.ordered, n.within, c.difference-3.ensures),
-      omega (arith, ints, l, n.ordered, n.within, c.difference-3.ensures),
-    )
+raised-first-requires-clause-magnitude_in c = let l = length_digits (view c.args.parts.now) in omega (arith, ints)
 
 pub raised-last-requires-clause-magnitude_in : goal.raised-last-requires-clause-magnitude_in
-raised-last-requires-clause-magnitude_in c =
-    let l = length_digits (view c.args.parts.now) c.requires.digits c.requires.few c.requires.short in (
-      omega (arith, ints, l, c.requires.kept.within, c.difference-4.ensures),
-      omega (arith, ints, l, c.requires.kept.within, c.difference-4.ensures),
-    )
+raised-last-requires-clause-magnitude_in c = let l = length_digits (view c.args.parts.now) in omega (arith, ints)
 
 pub returns-then-hi-gt32767-clause-none : goal.returns-then-hi-gt32767-clause-none
 returns-then-hi-gt32767-clause-none c =
@@ -73,17 +53,9 @@ returns-then-hi-gt32767-clause-none c =
 pub narrowed-requires-clause-low : goal.narrowed-requires-clause-low
 narrowed-requires-clause-low c =
     let b = (goal.at.narrowed-requires-clause-low c).After-difference-4 in
-    let l = length_digits (view c.args.parts.now) c.requires.digits c.requires.few c.requires.short in
-    omega (
-      arith,
-      ints,
-      first_is b,
-      lo_is b,
-      l,
-      c.requires.kept.ordered,
-      c.requires.kept.within,
-      c.if-lo-ltminus32768.false,
-    )
+    above_low (length c.args.parts.now.whole.now) (length c.args.parts.now.fraction.now) (c.args.start + 1) _ _ _
+    (first_is b ∙ (omega (arith, ints))) (lo_is b) (let l = length_digits (view c.args.parts.now) in omega arith)
+    (omega (arith, ints, c.if-lo-ltminus32768.false))
 
 pub narrowed-requires-clause-high : goal.narrowed-requires-clause-high
 narrowed-requires-clause-high c =
@@ -93,11 +65,9 @@ narrowed-requires-clause-high c =
 pub lowest_shown-requires-clause-last_in : goal.lowest_shown-requires-clause-last_in
 lowest_shown-requires-clause-last_in c =
     let b = (goal.at.lowest_shown-requires-clause-last_in c).After-difference-4 in
-    let w = view c.args.parts.now in
-    let l = length_digits w c.requires.digits c.requires.few c.requires.short in
-    above_low (length w.whole) (length w.fraction) c.args.end _ _ _
+    above_low (length c.args.parts.now.whole.now) (length c.args.parts.now.fraction.now) c.args.end _ _ _
     (last_is b {r = c.raised-last.result} c.raised-last.type_inv c.raised-last.ensures) (lo_is b)
-    (omega (arith, l, c.requires.kept.within)) (omega (arith, ints, c.if-lo-ltminus32768.false))
+    (let l = length_digits (view c.args.parts.now) in omega arith) (omega (arith, ints, c.if-lo-ltminus32768.false))
 
 pub returns-clause-some : goal.returns-clause-some
 returns-clause-some c =

@@ -1,0 +1,8 @@
+use Rattle.decimal_unsigned.proofs.Common.{ap, arith, ints, last, Unsigned}
+use Rattle.decimal_unsigned.proofs.Values.{lower_stored}
+use Rattle.decimal_unsigned.proofs.decimal.UnsignedOver.set_lowest.Goals as goal
+
+pub invariant_of-self : goal.invariant_of-self
+invariant_of-self g c =
+    let n = ap (λ (v : Unsigned). last v.number) c.self.view_is in
+    lower_stored c.self.invariant _ (omega (arith, ints)) (omega (arith, ints, n)) (omega (arith, ints))
