@@ -30,6 +30,7 @@ use Rattle.fixed_decimal.specs.Outcome.{Refusal, start, operand, overlap, limit_
 use Rattle.fixed_decimal.specs.DecimalText.{and_then}
 use Rattle.fixed_decimal.specs.Errors.{RunRefuses}
 use Rattle.fixed_decimal.specs.SignedRounding.{IsPosition, trunced, TruncationsCompose, expanded, sign_and_number, ExpansionsCompose}
+use Rattle.fixed_decimal.proofs.SignedRoundings.{trunc_is_some}
 use Rattle.fixed_decimal.specs.RunLaws.{IsDecided, text_or_none, rounding_at, ComesToNumber, RoundsOnce}
 use Rattle.fixed_decimal.specs.declared.runs.Call.{Call}
 use Rattle.fixed_decimal.specs.declared.runs.RunError.{RunError}
@@ -206,65 +207,5 @@ expansions_are_one = rounds_once Expand (λ v valid p q low low'.
         go None = refl
         go (Some b) = sym (by_number Expand b q)
 
--- ---- Runs over two stores.
-
--- the error of a refusal
-pub error_of : Refusal → RunError
-error_of (start syntax) = Start parse.Syntax
-error_of (start limit) = Start parse.Limit
-error_of (operand at syntax) = Operand at parse.Syntax
-error_of (operand at limit) = Operand at parse.Limit
-error_of (overlap at) = Overlap at
-error_of (limit_exceeded at) = Limit at
-
--- the result of a run with this outcome
-pub result_of : Result (List ℕ) Refusal → Result ⊤ RunError
-result_of (Ok text) = Ok tt
-result_of (Err refusal) = Err (error_of refusal)
-
-refusal_of : (held : ℕ) (e : RunError) (bytes : List ℕ) (calls : List Call) → RunRefuses held e bytes calls
-    → IsDecided (Err e)
-    → (refusal : Refusal) × (outcome bytes calls ≡ Err refusal) × (error_of refusal ≡ e)
-unfolding error_of
-refusal_of held (Start parse.Limit) bytes calls r d = (start limit, r, refl)
-refusal_of held (Start parse.Syntax) bytes calls r d = (start syntax, r, refl)
-refusal_of held (Start parse.Memory) bytes calls r d = absurd d
-refusal_of held (Operand at parse.Limit) bytes calls r d = (operand at limit, r, refl)
-refusal_of held (Operand at parse.Syntax) bytes calls r d = (operand at syntax, r, refl)
-refusal_of held (Operand at parse.Memory) bytes calls r d = absurd d
-refusal_of held (Overlap at) bytes calls r d = (overlap at, r, refl)
-refusal_of held (Limit at) bytes calls r d = (limit_exceeded at, r, refl)
-refusal_of held (Memory at) bytes calls r d = absurd d
-refusal_of held Sink bytes calls r d = absurd d
-
-module _ (held : ℕ) (bytes : List ℕ) (calls : List Call) where
-  -- a decided result is that of the outcome
-  pub decided_is : (P : List ℕ → Type 0) (result : Result ⊤ RunError) → OnOk result (IsOkAnd (outcome bytes calls) P)
-      → IfErr result (λ e. RunRefuses held e bytes calls) → IsDecided result
-      → result ≡ result_of (outcome bytes calls)
-  unfolding result_of
-  decided_is P (Ok done) written refused d = go (outcome bytes calls) written
-    where
-      go : (o : Result (List ℕ) Refusal) → IsOkAnd o P → Ok done ≡ result_of o
-      go (Ok text) w = refl
-      go (Err refusal) w = absurd w
-  decided_is P (Err e) written refused d =
-      let r = refusal_of held e bytes calls refused d in
-      sym (ap result_of r.1 ∙ ap Err r.2)
-
-  -- and the text of the outcome is appended
-  pub decided_appends : {S : Type 0} (contents : S → Option (List ℕ)) (old new : S) (result : Result ⊤ RunError)
-      → OnOk result (IsOkAnd (outcome bytes calls) (λ text. Appends (contents old) (contents new) text))
-      → IfErr result (λ e. RunRefuses held e bytes calls)
-      → IfErr result (λ e. (e ≡ Sink → ⊥) → new ≡ old)
-      → IsDecided result
-      → Appends (contents old) (contents new) (text_or_none (outcome bytes calls))
-  decided_appends {S} contents old new (Ok done) written refused untouched d = go (outcome bytes calls) written
-    where
-      go : (o : Result (List ℕ) Refusal) → IsOkAnd o (λ text. Appends (contents old) (contents new) text)
-          → Appends (contents old) (contents new) (text_or_none o)
-      go (Ok text) w = w
-      go (Err refusal) w = absurd w
-  decided_appends {S} contents old new (Err e) written refused untouched d =
-      let r = refusal_of held e bytes calls refused d in
-      rw (r.1, untouched (λ s. subst (λ f. IsDecided (Err f)) s d)) (appends_none (contents old))
+-- several roundings are one, and none toward zero exceeds the limit
+pub ruleset roundings_compose = (truncations_are_one, trunc_is_some, expansions_are_one)

@@ -23,6 +23,7 @@ use std::cmp::Ordering;
 
 /// Rounding commutes with negation: with the opposite sign and up and down exchanged, the absolute value is the same,
 /// range included.
+#[tactic(auto, using(crate::proofs::SignedRoundings::rounding_commutes_with_negation))]
 pub fn rounding_commutes_with_negation()
     ensures { (v : Decimal) (position : ℤ) (mode : SignedRoundingMode) (increment : RoundingIncrement)
         → RoundingCommutesWithNegation v position mode increment }
@@ -31,24 +32,28 @@ pub fn rounding_commutes_with_negation()
 /// Rounding is monotone: of two numbers, the greater one is not the smaller after both are rounded.
 ///
 /// A number whose rounding fails with `Limit` stays.
+#[tactic(auto, using(crate::proofs::SignedRoundings::rounding_is_monotone))]
 pub fn rounding_is_monotone()
     ensures { (v w : Decimal) (position : ℤ) (mode : SignedRoundingMode) (increment : RoundingIncrement)
         → RoundingIsMonotone v w position mode increment }
 {}
 
 /// Two truncations leave the number of the one at the greater position.
+#[tactic(auto, using(crate::proofs::RunLaws::truncations_compose))]
 pub fn truncations_compose()
     ensures { (v : Decimal) (p q : ℤ) → IsValue v.absolute → IsPosition p → IsPosition q → TruncationsCompose v p q }
 {}
 
 /// Two expansions leave the number of the one at the greater position, and one of the two fails exactly where that one
 /// does.
+#[tactic(auto, using(crate::proofs::RunLaws::expansions_compose))]
 pub fn expansions_compose()
     ensures { (v : Decimal) (p q : ℤ) → IsPosition p → IsPosition q → ExpansionsCompose v p q }
 {}
 
 /// Roundings in a row, all toward zero or all away from zero, leave the number of the one at their greatest position,
 /// and one of them fails exactly where that one does.
+#[tactic(auto, using(crate::proofs::RunLaws::roundings_compose))]
 pub fn roundings_compose()
     ensures toward_zero { RoundsOnce Trunc }
     // A rounding toward zero never fails.
