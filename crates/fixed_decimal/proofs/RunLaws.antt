@@ -1,10 +1,9 @@
 -- Laws of roundings in a row, and of runs.
-use Rattle.std.proofs.Common.{◌≡◌, ℕ, ◌+◌, ◌<◌, List, [], ◌∷◌, map, true, false, refl, sym, ◌∙◌, ap, subst, arith}
-use Rattle.std.specs.Prelude.{Option, Some, None, option_map, option_and_then, Result, Ok, Err, IfErr, IsOkAnd, OnOk, if◌then◌else◌, ⊤, ℤ}
+use Rattle.std.proofs.Common.{◌≡◌, ℕ, ◌+◌, ◌<◌, List, [], ◌∷◌, map, true, false, refl, sym, ◌∙◌, ap, arith}
+use Rattle.std.specs.Prelude.{Option, Some, None, option_map, option_and_then, Err, if◌then◌else◌, ℤ}
 use Rattle.std.specs.Option.{unwrap_or}
 use Rattle.std.specs.List.{All, fold}
 use Rattle.std.specs.Int.{int_max}
-use Rattle.std.specs.Io.KnownBytes.{Appends}
 use Rattle.std.proofs.lemmas.Int.{ints, clamps}
 use Rattle.std.proofs.lemmas.List.Elements.{All-head, All-tail, All-cons}
 use Rattle.decimal_digits.specs.Number.{number_limit}
@@ -13,28 +12,21 @@ use Rattle.decimal_digits.specs.declared.rounding.RoundingIncrement.TheVariants.
 use Rattle.decimal_digits.specs.declared.rounding.UnsignedRoundingMode.{UnsignedRoundingMode}
 use Rattle.decimal_digits.specs.declared.rounding.UnsignedRoundingMode.TheVariants.{Expand, Trunc}
 use Rattle.decimal_digits.proofs.RoundingLaws.{trunc_le}
-use Rattle.decimal_digits.proofs.Sinks.{appends_none}
 use Rattle.decimal_digits.proofs.Tails.{unit_pos}
 use Rattle.decimal_unsigned.specs.Unsigned.{Unsigned as Absolute, IsValue}
 use Rattle.decimal_unsigned.specs.Rounded as unsigned
 use Rattle.decimal_unsigned.specs.Rounded.{reaches_limit, with_number}
 use Rattle.decimal_unsigned.specs.EditLaws as unsigned_laws
 use Rattle.decimal_unsigned.specs.EditLaws.{number_if_any}
-use Rattle.decimal_unsigned.specs.Reading.{syntax, limit}
-use Rattle.decimal_unsigned.specs.declared.error.ParseError.TheVariants as parse
 use Rattle.decimal_unsigned.proofs.EditLaws.{below_limit}
 use Rattle.decimal_unsigned.proofs.Roundings.{trunc_makes}
 use Rattle.decimal_unsigned.proofs.RoundingLaws as unsigned_proofs
 use Rattle.fixed_decimal.specs.Decimal.{Decimal, with_absolute}
-use Rattle.fixed_decimal.specs.Outcome.{Refusal, start, operand, overlap, limit_exceeded, or_limit_exceeded, after_calls, outcome}
+use Rattle.fixed_decimal.specs.Outcome.{limit_exceeded, or_limit_exceeded, after_calls}
 use Rattle.fixed_decimal.specs.DecimalText.{and_then}
-use Rattle.fixed_decimal.specs.Errors.{RunRefuses}
 use Rattle.fixed_decimal.specs.SignedRounding.{IsPosition, trunced, TruncationsCompose, expanded, sign_and_number, ExpansionsCompose}
 use Rattle.fixed_decimal.proofs.SignedRoundings.{trunc_is_some}
-use Rattle.fixed_decimal.specs.RunLaws.{IsDecided, text_or_none, rounding_at, ComesToNumber, RoundsOnce}
-use Rattle.fixed_decimal.specs.declared.runs.Call.{Call}
-use Rattle.fixed_decimal.specs.declared.runs.RunError.{RunError}
-use Rattle.fixed_decimal.specs.declared.runs.RunError.TheVariants.{Start, Operand, Overlap, Limit, Memory, Sink}
+use Rattle.fixed_decimal.specs.RunLaws.{rounding_at, ComesToNumber, RoundsOnce}
 
 -- ---- Two roundings of a decimal, by those of its absolute value.
 
