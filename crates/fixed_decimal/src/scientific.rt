@@ -152,6 +152,7 @@ impl Writeable for ScientificDecimal {
     ///
     /// Err: the sink refused a byte, now or before, and has taken a beginning of the text. The text reads as this
     /// very value. `write_to` of the original.
+    #[tactic(auto, using(crate::proofs::ScientificTexts::writing))]
     fn write_to<W: Sink>(&self, sink: &mut W) -> Result<(), SinkFault>
         ensures ok { OnOk result (Appends (W.contents sink.old) (W.contents sink.new) (scientific_text self.now)) }
         ensures err { OnErr result
@@ -208,7 +209,7 @@ impl fmt::Display for ScientificDecimal {
     /// Err: the formatter refused a character. The original's `Display`.
     fn fmt<W: fmt::Write>(&self, f: &mut fmt::Formatter<W>) -> fmt::Result {
         self.significand.fmt(f)?;
-        f.write_char('e')?;
+        f.write_str("e")?;
         self.exponent.fmt(f)
     }
 }
