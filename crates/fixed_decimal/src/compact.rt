@@ -134,20 +134,6 @@ impl CompactDecimal {
         self.exponent
     }
 
-    /// Makes a second value that equals this one.
-    ///
-    /// The copy of `1.20c6` prints `1.20c6`. Err: memory for more than `DIGITS_IN_PLACE` digits of the significand was
-    /// refused. In the place of the original's `Clone`.
-    pub fn clone(&self) -> Result<Self, AllocError>
-        ensures value { IfOk result (λ copy. copy ≡ self.now) }
-        ensures succeeds { size self.now.significand.absolute.number ≤ DIGITS_IN_PLACE → IsOk result }
-    {
-        Ok(CompactDecimal {
-            significand: self.significand.clone()?,
-            exponent: self.exponent,
-        })
-    }
-
     /// Reads the value that a text writes: a text without an exponent that `Decimal` reads, and then nothing, or `c`
     /// and a number from 1 to 255 whose first digit is not 0.
     ///
@@ -209,6 +195,28 @@ impl Writeable for CompactDecimal {
         ensures valid { IsValue self.now.significand.absolute }
     {
         self.significand.writeable_length_hint() + exponent_text(self.exponent).1
+    }
+}
+
+impl Clone for CompactDecimal {
+    ghost use Rattle.decimal_unsigned.specs.declared.decimal.TheConstants.{DIGITS_IN_PLACE};
+
+    ghost is_clone = { λ value copy. copy ≡ value };
+
+    ghost is_infallible = { λ value. size value.significand.absolute.number ≤ DIGITS_IN_PLACE };
+
+    /// Makes a second value that equals this one.
+    ///
+    /// The copy of `1.20c6` prints `1.20c6`. The original's `Clone`.
+    ///
+    /// # Errors
+    ///
+    /// Allocation fails for more than `DIGITS_IN_PLACE` digits of the significand.
+    fn clone(&self) -> Result<Self, AllocError> {
+        Ok(CompactDecimal {
+            significand: self.significand.clone()?,
+            exponent: self.exponent,
+        })
     }
 }
 
