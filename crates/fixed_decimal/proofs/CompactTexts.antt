@@ -1,51 +1,70 @@
 -- The text of a compact value: its exponent's digits, and that it reads as the value.
-use Rattle.std.proofs.Common.{◌≡◌, ℕ, zero, suc, ◌+◌, ◌/◌, ◌%◌, ◌^◌, ◌<◌, ◌≤◌, ◌==◌, nat_lt, Bool, false, List, [], ◌∷◌, ◌++◌, length, get_or, refl, sym, ◌∙◌, ap, arith, append-nil}
+use Rattle.std.proofs.Common.{◌≡◌, ℕ, zero, suc, ◌+◌, ◌/◌, ◌%◌, ◌^◌, ◌<◌, ◌≤◌, ◌==◌, nat_lt, Bool, false, List, [], ◌∷◌, ◌++◌, get_or, refl, ◌∙◌, ap, arith}
 use Rattle.std.specs.Prelude.{Option, Some, None, Ok}
 use Rattle.std.specs.Fmt.{decimal}
 use Rattle.std.specs.List.{list_any}
+use Rattle.std.specs.Str.{IsAscii, IsUtf8}
 use Rattle.std.specs.Str.Parse.{AllDigits, IsNumeral, digits_value}
 use Rattle.std.proofs.Math.Dec.{eqb-suc-zero}
 use Rattle.std.proofs.lemmas.Bool.Decides.{nat_tests}
-use Rattle.std.proofs.lemmas.Fmt.{decimal_digit, decimal_step, decimal_is_IsNumeral, first_decimal}
-use Rattle.std.proofs.lemmas.List.{length_push}
+use Rattle.std.proofs.lemmas.Fmt.{IsAscii-decimal, decimal_digit, decimal_step, decimal_is_IsNumeral, first_decimal}
 use Rattle.std.proofs.lemmas.List.Folds.{list_any-append}
+use Rattle.std.proofs.lemmas.Str.{IsUtf8-nil, IsUtf8-from_ascii, IsAscii-append}
 use Rattle.std.proofs.lemmas.Str.Parse.{digit_from_value}
-use Rattle.std.specs.Io.KnownBytes.{Keeps}
-use Rattle.decimal_digits.specs.Text.{AppendsPrefix}
 use Rattle.decimal_unsigned.specs.Reading.{is_letter}
 use Rattle.decimal_unsigned.proofs.GrammarParts.{numeral_again}
 use Rattle.fixed_decimal.specs.DecimalText.{decimal_text, read_decimal, and_then}
 use Rattle.fixed_decimal.specs.Compact.{Compact, exponent_text, compact_text, small_number_of, read_exponent, read_parts, read_compact, with_c}
 use Rattle.fixed_decimal.proofs.DecimalBytes.{PassesNone, decimal_text-lacks, letter-none, c-none}
 use Rattle.fixed_decimal.proofs.SplitsAtC.{split_is}
+use Rattle.fixed_decimal.proofs.Writing.{first_fails, second_fails}
 
 below_64 : (n : ℕ) → n < 256 → n < 2 ^ 64
 below_64 n h = omega arith
 
--- ---- The digits of a number below 256.
-
--- a number below 10 is one digit
-pub one_digit : (n : ℕ) → n < 10 → decimal n ≡ (48 + n) ∷ []
-one_digit n h = decimal_digit n h
-
--- another one has its last digit behind the others
-pub last_digit : (n : ℕ) → n < 256 → 10 ≤ n → decimal n ≡ decimal (n / 10) ++ (48 + n % 10) ∷ []
-last_digit n h l = decimal_step n l (below_64 n h)
-
+-- ---- The text of an exponent.
 -- one digit
-pub length-one : (n : ℕ) → n < 10 → length (decimal n) ≡ 1
-length-one n h = ap length (decimal_digit n h)
-
-length-more : (n : ℕ) → n < 256 → 10 ≤ n → length (decimal n) ≡ length (decimal (n / 10)) + 1
-length-more n h l = ap length (last_digit n h l) ∙ length_push (decimal (n / 10)) (48 + n % 10)
+pub one_digit : (n : ℕ) → 1 ≤ n → n < 10 → exponent_text n ≡ 99 ∷ (48 + n % 10) ∷ []
+one_digit n l h =
+    let e : (n == 0) ≡ false = grind (arith, nat_tests) in
+    let m : n ≡ n % 10 = omega arith in
+    rw (e, decimal_digit n h, ← m) refl
 
 -- two digits
-pub length-two : (n : ℕ) → 10 ≤ n → n < 100 → length (decimal n) ≡ 2
-length-two n l h = length-more n (omega arith) l ∙ ap (λ k. k + 1) (length-one (n / 10) (omega arith))
+pub two_digits : (n : ℕ) → 10 ≤ n → n < 100 → exponent_text n ≡ 99 ∷ (48 + n / 10 % 10) ∷ (48 + n % 10) ∷ []
+two_digits n l h =
+    let e : (n == 0) ≡ false = grind (arith, nat_tests) in
+    let m : n / 10 ≡ n / 10 % 10 = omega arith in
+    rw (e, decimal_step n l (below_64 n (omega arith)), decimal_digit (n / 10) (omega arith), ← m) refl
 
 -- three digits
-pub length-three : (n : ℕ) → 100 ≤ n → n < 256 → length (decimal n) ≡ 3
-length-three n l h = length-more n h (omega arith) ∙ ap (λ k. k + 1) (length-two (n / 10) (omega arith) (omega arith))
+pub three_digits : (n : ℕ) → 100 ≤ n → n < 256
+    → exponent_text n ≡ 99 ∷ (48 + n / 100) ∷ (48 + n / 10 % 10) ∷ (48 + n % 10) ∷ []
+three_digits n l h =
+    let e : (n == 0) ≡ false = grind (arith, nat_tests) in
+    let m : n / 10 / 10 ≡ n / 100 = omega arith in
+    rw (
+      e,
+      decimal_step n (omega arith) (below_64 n h),
+      decimal_step (n / 10) (omega arith) (below_64 (n / 10) (omega arith)),
+      decimal_digit (n / 10 / 10) (omega arith),
+      m,
+    ) refl
+
+-- it is ASCII
+pub exponent_utf8 : (n : ℕ) → n < 256 → IsUtf8 (exponent_text n)
+exponent_utf8 zero h = IsUtf8-nil
+exponent_utf8 (suc n) h =
+    rw (eqb-suc-zero n)
+    (IsUtf8-from_ascii (99 ∷ decimal (suc n)) (IsAscii-append (99 ∷ []) (decimal (suc n)) c-ascii
+    (IsAscii-decimal (suc n) (below_64 (suc n) h))))
+  where
+    c-ascii : IsAscii (99 ∷ [])
+    c-ascii zero = omega arith
+    c-ascii (suc i) = omega arith
+
+-- the text of an exponent, by the number of its digits
+pub ruleset exponents = (one_digit, two_digits, three_digits)
 
 -- ---- Reading it.
 digits-lacks : (p : ℕ → Bool) → PassesNone p → (ds : List ℕ) → AllDigits 10 ds → list_any p ds ≡ false
@@ -111,8 +130,5 @@ compact_reads_back v h l =
           exponent-plain v.exponent l,
         ) refl)
 
--- nothing is a beginning
-pub keeps_part : (a b : Option (List ℕ)) (xs : List ℕ) → Keeps a b → AppendsPrefix a b xs
-keeps_part None b xs h = ([], xs, refl, tt)
-keeps_part (Some a) None xs h = absurd h
-keeps_part (Some a) (Some b) xs h = ([], xs, refl, h ∙ sym (append-nil a))
+-- what writing a compact value rests on
+pub ruleset writing = (first_fails, second_fails, compact_reads_back)

@@ -1,11 +1,11 @@
--- Lists of roundings.
+-- Laws of roundings in a row, and of runs.
 use Rattle.std.proofs.Common.{◌≡◌, ℕ, ◌+◌, ◌<◌, List, [], ◌∷◌, map, true, false, refl, sym, ◌∙◌, ap, arith}
-use Rattle.std.specs.Prelude.{Option, Some, None, option_and_then, Ok, Err, if◌then◌else◌, ℤ}
+use Rattle.std.specs.Prelude.{Option, Some, None, option_map, option_and_then, Err, if◌then◌else◌, ℤ}
 use Rattle.std.specs.Option.{unwrap_or}
 use Rattle.std.specs.List.{All, fold}
 use Rattle.std.specs.Int.{int_max}
 use Rattle.std.proofs.lemmas.Int.{ints, clamps}
-use Rattle.std.proofs.lemmas.List.Elements.{All-head, All-tail}
+use Rattle.std.proofs.lemmas.List.Elements.{All-head, All-tail, All-cons}
 use Rattle.decimal_digits.specs.Number.{number_limit}
 use Rattle.decimal_digits.specs.Rounding.{unit_at, rounded_number}
 use Rattle.decimal_digits.specs.declared.rounding.RoundingIncrement.TheVariants.{MultiplesOf1}
@@ -16,31 +16,77 @@ use Rattle.decimal_digits.proofs.Tails.{unit_pos}
 use Rattle.decimal_unsigned.specs.Unsigned.{Unsigned as Absolute, IsValue}
 use Rattle.decimal_unsigned.specs.Rounded as unsigned
 use Rattle.decimal_unsigned.specs.Rounded.{reaches_limit, with_number}
-use Rattle.decimal_unsigned.specs.EditLaws.{number_if_any, trunced}
+use Rattle.decimal_unsigned.specs.EditLaws as unsigned_laws
+use Rattle.decimal_unsigned.specs.EditLaws.{number_if_any}
 use Rattle.decimal_unsigned.proofs.EditLaws.{below_limit}
 use Rattle.decimal_unsigned.proofs.Roundings.{trunc_makes}
-use Rattle.decimal_unsigned.proofs.RoundingLaws.{truncations_compose, expansions_compose}
+use Rattle.decimal_unsigned.proofs.RoundingLaws as unsigned_proofs
 use Rattle.fixed_decimal.specs.Decimal.{Decimal, with_absolute}
 use Rattle.fixed_decimal.specs.Outcome.{limit_exceeded, or_limit_exceeded, after_calls}
 use Rattle.fixed_decimal.specs.DecimalText.{and_then}
+use Rattle.fixed_decimal.specs.SignedRounding.{IsPosition, trunced, TruncationsCompose, expanded, sign_and_number, ExpansionsCompose}
 use Rattle.fixed_decimal.proofs.SignedRoundings.{trunc_is_some}
-use Rattle.fixed_decimal.specs.RunLaws.{rounding_at, IsPosition, ComesToNumber, RoundsOnce, NeverExceedsLimit}
+use Rattle.fixed_decimal.specs.RunLaws.{rounding_at, ComesToNumber, RoundsOnce}
 
--- ---- One rounding, by the number alone.
+-- ---- Two roundings of a decimal, by those of its absolute value.
+
+numbered : (v : Decimal) (made : Option Absolute)
+    → sign_and_number (with_absolute v made) ≡ option_map (λ n. (v.sign, n)) (number_if_any made)
+numbered v None = refl
+numbered v (Some a) = refl
+
+-- expansions compose
+pub expansions_compose : (v : Decimal) (p q : ℤ) → IsPosition p → IsPosition q → ExpansionsCompose v p q
+expansions_compose v p q low low' =
+    twice (unsigned_laws.expanded v.absolute p)
+    ∙ ap (option_map (λ n. (v.sign, n))) (unsigned_proofs.expansions_compose v.absolute p low q low')
+    ∙ sym (numbered v (unsigned_laws.expanded v.absolute (int_max p q)))
+  where
+    twice : (made : Option Absolute)
+        → sign_and_number (option_and_then (λ w. expanded w q) (with_absolute v made))
+        ≡ option_map (λ n. (v.sign, n)) (number_if_any (option_and_then (λ a. unsigned_laws.expanded a q) made))
+    twice None = refl
+    twice (Some a) = numbered v (unsigned_laws.expanded a q)
+
+trunced_is : (v : Decimal) (p : ℤ) → trunced v p ≡ record v { absolute = unsigned_laws.trunced v.absolute p }
+trunced_is v p = go (unsigned.rounded v.absolute p Trunc MultiplesOf1)
+  where
+    go : (made : Option Absolute)
+        → unwrap_or (with_absolute v made) v ≡ record v { absolute = unwrap_or made v.absolute }
+    go None = refl
+    go (Some a) = refl
+
+-- truncations compose
+pub truncations_compose : (v : Decimal) (p q : ℤ) → IsValue v.absolute → IsPosition p → IsPosition q
+    → TruncationsCompose v p q
+truncations_compose v p q valid low low' =
+    let laws = unsigned_proofs.truncations_compose v.absolute p low valid in
+    let twice : trunced (trunced v p) q
+    ≡ record v { absolute = unsigned_laws.trunced (unsigned_laws.trunced v.absolute p) q } =
+    ap (λ w. trunced w q) (trunced_is v p) ∙ trunced_is (record v { absolute = unsigned_laws.trunced v.absolute p }) q in
+    record {
+      above = λ h. twice ∙ ap (λ a. record v { absolute = a }) (laws.above q h) ∙ sym (trunced_is v q);
+      number =
+          let n = laws.number q low' in (
+            ap (λ (w : Decimal). w.absolute.number) twice
+                ∙ n
+                ∙ sym (ap (λ (w : Decimal). w.absolute.number) (trunced_is v (int_max p q))),
+            ap (λ (w : Decimal). w.sign) twice ∙ sym (ap (λ (w : Decimal). w.sign) (trunced_is v (int_max p q))),
+          );
+    }
+
+-- ---- Roundings in a row, by their numbers alone.
 module _ (mode : UnsignedRoundingMode) where
-  -- what a rounding by the mode at a position makes of an absolute value
-  after : ℤ → Absolute → Option Absolute
-  after q a = unsigned.rounded a q mode MultiplesOf1
-
-  -- the number that is made of a number, or none
+  -- the number that a rounding at a position makes of a number, or none
   number_after : ℤ → ℕ → Option ℕ
   number_after q n =
       let m = rounded_number mode (unit_at MultiplesOf1 q) n in
       if reaches_limit m then None else Some m
 
-  by_number : (q : ℤ) (a : Absolute) → number_if_any (after q a) ≡ number_after q a.number
-  unfolding after number_after
-  by_number q a =
+  by_number : (a : Absolute) (q : ℤ)
+      → number_if_any (unsigned.rounded a q mode MultiplesOf1) ≡ number_after q a.number
+  unfolding number_after
+  by_number a q =
       let m = rounded_number mode (unit_at MultiplesOf1 q) a.number in
       elim (reaches_limit m) as
       (λ b. number_if_any (if b then None else Some (with_number a q m)) ≡ (if b then None else Some m)) [
@@ -48,131 +94,110 @@ module _ (mode : UnsignedRoundingMode) where
         | false ↦ refl
       ]
 
-  -- where there is a value of this number, it is made of that one
-  by_number_of : (q : ℤ) (n : ℕ) (made : Option Absolute) → Some n ≡ number_if_any made
-      → number_after q n ≡ number_if_any (option_and_then (after q) made)
-  by_number_of q n (Some a) e =
-      let f : n ≡ a.number = cc in
-      ap (number_after q) f ∙ sym (by_number q a)
-  by_number_of q n None e = absurd (cc)
+  -- the number that roundings in a row make, or none
+  numbers_after : List ℤ → ℕ → Option ℕ
+  numbers_after [] n = Some n
+  numbers_after (q ∷ qs) n = option_and_then (numbers_after qs) (number_after q n)
 
--- ---- Roundings in a row.
-module _ (mode : UnsignedRoundingMode) (v : Decimal) where
-  -- v's absolute value after one rounding
-  once : ℤ → Option Absolute
-  once p = after mode p v.absolute
+  -- calls that make these roundings come to a decimal of this number
+  come_to : (w v : Decimal) (qs : List ℤ) (at : ℕ) (made : Option Absolute) → w.sign ≡ v.sign
+      → numbers_after qs w.absolute.number ≡ number_if_any made
+      → ComesToNumber (after_calls at w (map (rounding_at mode) qs)) (with_absolute v made)
+  unfolding numbers_after
+  come_to w v [] at (Some a) s e = ((let f : w.absolute.number ≡ a.number = cc in f), s)
+  come_to w v [] at None s e = absurd (cc)
+  come_to w v (q ∷ qs) at made s e =
+      elim (unsigned.rounded w.absolute q mode MultiplesOf1) as
+      (λ o. option_and_then (numbers_after qs) (number_if_any o) ≡ number_if_any made
+      → ComesToNumber
+      (and_then (or_limit_exceeded at (with_absolute w o))
+      (λ u. after_calls (at + 1) u (map (rounding_at mode) qs)))
+      (with_absolute v made)) [
+        | Some a ↦ λ n. come_to (record w { absolute = a }) v qs (at + 1) made s n
+        | None ↦ nowhere made
+      ] (ap (option_and_then (numbers_after qs)) (by_number w.absolute q) ∙ e)
+    where
+      nowhere : (made : Option Absolute) → None ≡ number_if_any made
+          → ComesToNumber (Err (limit_exceeded at)) (with_absolute v made)
+      nowhere None n = tt
+      nowhere (Some a) n = absurd (cc)
 
-  -- a rounding at q of what one at p made makes the number of one rounding at the greater position, or none where that
-  -- one makes none
-  Absorbs : Type 0
-  Absorbs =
+  -- a rounding at q of what one at p made of n makes what one rounding at the greater position does
+  Absorbs : ℕ → Type 0
+  Absorbs n =
       (p q : ℤ) → IsPosition p → IsPosition q
-      → number_if_any (option_and_then (after mode q) (once p)) ≡ number_if_any (once (int_max p q))
+      → option_and_then (number_after q) (number_after p n) ≡ number_after (int_max p q) n
 
-  -- what calls by the mode make of w is what one rounding of v at this position makes
-  MakesOnce : Decimal → List ℤ → ℤ → Type 0
-  MakesOnce w positions p =
-      (at : ℕ) → ComesToNumber (after_calls at w (map (rounding_at mode) positions)) (with_absolute v (once p))
+  once : (n : ℕ) → Absorbs n → (p : ℤ) (qs : List ℤ) → All IsPosition (p ∷ qs)
+      → numbers_after (p ∷ qs) n ≡ number_after (fold int_max p qs) n
+  unfolding numbers_after Absorbs
+  once n absorbs p [] all = same (number_after p n)
+    where
+      same : (o : Option ℕ) → option_and_then Some o ≡ o
+      same None = refl
+      same (Some m) = refl
+  once n absorbs p (q ∷ qs) all =
+      let rest = All-tail IsPosition p (q ∷ qs) all in
+      let low = All-head IsPosition p (q ∷ qs) all in
+      let low' = All-head IsPosition q qs rest in
+      let greater : IsPosition (int_max p q) = omega (arith, ints, clamps) in
+      regroup (number_after p n)
+      ∙ ap (option_and_then (numbers_after qs)) (absorbs p q low low')
+      ∙ once n absorbs (int_max p q) qs (All-cons IsPosition (int_max p q) qs greater (All-tail IsPosition q qs rest))
+    where
+      regroup : (o : Option ℕ)
+          → option_and_then (numbers_after (q ∷ qs)) o
+          ≡ option_and_then (numbers_after qs) (option_and_then (number_after q) o)
+      regroup None = refl
+      regroup (Some m) = refl
 
-  -- a decimal of this number is what the roundings come to
-  here : (w : Decimal) (made : Option Absolute) → Some w.absolute.number ≡ number_if_any made → w.sign ≡ v.sign
-      → ComesToNumber (Ok w) (with_absolute v made)
-  here w (Some a) e s = ((let f : w.absolute.number ≡ a.number = cc in f), s)
-  here w None e s = absurd (cc)
+  rounds_once : ((v : Decimal) → IsValue v.absolute → Absorbs v.absolute.number) → RoundsOnce mode
+  rounds_once absorbs v p others valid all at =
+      come_to v v (p ∷ others) at (unsigned.rounded v.absolute (fold int_max p others) mode MultiplesOf1) refl
+      (once v.absolute.number (absorbs v valid) p others all ∙ sym (by_number v.absolute (fold int_max p others)))
 
-  nowhere : (at : ℕ) (made : Option Absolute) → None ≡ number_if_any made
-      → ComesToNumber (Err (limit_exceeded at)) (with_absolute v made)
-  nowhere at (Some a) e = absurd (cc)
-  nowhere at None e = tt
+-- toward zero several roundings are one
+pub truncations_are_one : RoundsOnce Trunc
+unfolding Absorbs
+truncations_are_one = rounds_once Trunc (λ v valid p q low low'.
+    let a = v.absolute in
+    let t = unsigned_laws.trunced a p in
+    let h = below_limit a p valid in
+    let n : t.number ≡ rounded_number Trunc (unit_at MultiplesOf1 p) a.number =
+    ap (λ o. (unwrap_or o a).number) (trunc_makes a p MultiplesOf1 h) in
+    let k : t.number < number_limit =
+    omega (arith, n, trunc_le (unit_at MultiplesOf1 p) a.number (unit_pos MultiplesOf1 p)) in
+    ap (option_and_then (number_after Trunc q)) (after_trunc a p h)
+    ∙ after_trunc t q k
+    ∙ ap Some ((unsigned_proofs.truncations_compose a p low valid).number q low')
+    ∙ sym (after_trunc a (int_max p q) h))
+  where
+    after_trunc : (a : Absolute) (p : ℤ) → a.number < number_limit
+        → number_after Trunc p a.number ≡ Some (unsigned_laws.trunced a p).number
+    after_trunc a p h =
+        let e = trunc_makes a p MultiplesOf1 h in
+        sym (by_number Trunc a p) ∙ ap number_if_any e ∙ ap (λ o. Some (unwrap_or o a).number) (sym e)
 
-  module _ (absorbs : Absorbs) where
-    -- where no rounding at p makes a value, none at a greater position does
-    still_none : (p : ℤ) (others : List ℤ) → None ≡ number_if_any (once p) → IsPosition p → All IsPosition others
-        → None ≡ number_if_any (once (fold int_max p others))
-    unfolding once Absorbs
-    still_none p [] e l all = e
-    still_none p (q ∷ qs) e l all =
-        let greater : IsPosition (int_max p q) = omega (arith, ints, clamps) in
-        let f = absorbs p q l (All-head IsPosition q qs all) in
-        still_none (int_max p q) qs (none_after q (once p) e ∙ f) greater (All-tail IsPosition q qs all)
+-- away from zero several roundings are one
+pub expansions_are_one : RoundsOnce Expand
+unfolding Absorbs
+expansions_are_one = rounds_once Expand (λ v valid p q low low'.
+    after_both v.absolute p q
+    ∙ unsigned_proofs.expansions_compose v.absolute p low q low'
+    ∙ by_number Expand v.absolute (int_max p q))
+  where
+    after_both : (a : Absolute) (p q : ℤ)
+        → option_and_then (number_after Expand q) (number_after Expand p a.number)
+        ≡ number_if_any (option_and_then (λ b. unsigned_laws.expanded b q) (unsigned_laws.expanded a p))
+    after_both a p q =
+        sym (ap (option_and_then (number_after Expand q)) (by_number Expand a p))
+        ∙ go (unsigned_laws.expanded a p)
       where
-        none_after : (q : ℤ) (made : Option Absolute) → None ≡ number_if_any made
-            → None ≡ number_if_any (option_and_then (after mode q) made)
-        none_after q None e = refl
-        none_after q (Some a) e = absurd (cc)
+        go : (o : Option Absolute)
+            → option_and_then (number_after Expand q) (number_if_any o)
+            ≡ number_if_any (option_and_then (λ b. unsigned_laws.expanded b q) o)
+        go None = refl
+        go (Some b) = sym (by_number Expand b q)
 
-    others_make_once :
-        (w : Decimal) (p : ℤ) (others : List ℤ) → Some w.absolute.number ≡ number_if_any (once p) → w.sign ≡ v.sign
-        → IsPosition p → All IsPosition others → MakesOnce w others (fold int_max p others)
-    unfolding once after Absorbs MakesOnce
-    others_make_once w p [] n s l all at = here w (once p) n s
-    others_make_once w p (q ∷ qs) n s l all at =
-        let greater : IsPosition (int_max p q) = omega (arith, ints, clamps) in
-        let rest = All-tail IsPosition q qs all in
-        let made : number_if_any (after mode q w.absolute) ≡ number_if_any (once (int_max p q)) =
-        by_number mode q w.absolute
-        ∙ by_number_of mode q w.absolute.number (once p) n
-        ∙ absorbs p q l (All-head IsPosition q qs all) in
-        elim (after mode q w.absolute) as
-        (λ o. number_if_any o ≡ number_if_any (once (int_max p q))
-        → ComesToNumber
-        (and_then (or_limit_exceeded at (with_absolute w o))
-        (λ u. after_calls (at + 1) u (map (rounding_at mode) qs)))
-        (with_absolute v (once (fold int_max (int_max p q) qs)))) [
-          | Some a ↦ λ e. others_make_once (record w { absolute = a }) (int_max p q) qs e s greater rest (at + 1)
-          | None ↦ λ e. nowhere at (once (fold int_max (int_max p q) qs)) (still_none (int_max p q) qs e greater rest)
-        ] made
-
-    make_once : (p : ℤ) (others : List ℤ) → All IsPosition (p ∷ others)
-        → MakesOnce v (p ∷ others) (fold int_max p others)
-    unfolding once after MakesOnce
-    make_once p others all at =
-        let low = All-head IsPosition p others all in
-        let rest = All-tail IsPosition p others all in
-        elim (once p) as
-        (λ o. o ≡ once p
-        → ComesToNumber
-        (and_then (or_limit_exceeded at (with_absolute v o))
-        (λ u. after_calls (at + 1) u (map (rounding_at mode) others)))
-        (with_absolute v (once (fold int_max p others)))) [
-          | Some a ↦
-              λ e. others_make_once (record v { absolute = a }) p others (ap number_if_any e) refl low rest (at + 1)
-          | None ↦ λ e. nowhere at (once (fold int_max p others)) (still_none p others (ap number_if_any e) low rest)
-        ] refl
-
--- ---- The two modes.
-
-module _ (v : Decimal) (valid : IsValue v.absolute) where
-  trunc_absorbs : Absorbs Trunc v
-  unfolding Absorbs once after
-  trunc_absorbs p q l l' =
-      let a = v.absolute in
-      let m = rounded_number Trunc (unit_at MultiplesOf1 p) a.number in
-      let t = with_number a p m in
-      let k : m < number_limit =
-      omega (arith, below_limit a p valid, trunc_le (unit_at MultiplesOf1 p) a.number (unit_pos MultiplesOf1 p)) in
-      let first = trunc_makes a p MultiplesOf1 (below_limit a p valid) in
-      let second = trunc_makes t q MultiplesOf1 k in
-      let third = trunc_makes a (int_max p q) MultiplesOf1 (below_limit a p valid) in
-      let again = (truncations_compose a p l valid).number q l' in
-      let x : (trunced (trunced a p) q).number ≡ rounded_number Trunc (unit_at MultiplesOf1 q) m =
-      ap (λ o. (trunced (unwrap_or o a) q).number) first ∙ ap (λ o. (unwrap_or o t).number) second in
-      let y : (trunced a (int_max p q)).number ≡ rounded_number Trunc (unit_at MultiplesOf1 (int_max p q)) a.number =
-      ap (λ o. (unwrap_or o a).number) third in
-      ap (λ o. number_if_any (option_and_then (after Trunc q) o)) first
-      ∙ ap number_if_any second
-      ∙ ap Some (sym x ∙ again ∙ y)
-      ∙ sym (ap number_if_any third)
-
-expand_absorbs : (v : Decimal) → Absorbs Expand v
-unfolding Absorbs once after
-expand_absorbs v p q l l' = expansions_compose v.absolute p l q l'
-
--- by Trunc and by Expand several roundings are one, and Trunc never passes the limit
-pub round_once : RoundsOnce Trunc × NeverExceedsLimit Trunc × RoundsOnce Expand
-unfolding once after MakesOnce
-round_once = (
-  λ v p others valid all. make_once Trunc v (trunc_absorbs v valid) p others all,
-  λ v p valid. trunc_is_some v p valid,
-  λ v p others valid all. make_once Expand v (expand_absorbs v) p others all,
-)
+-- several roundings are one, and none toward zero exceeds the limit
+pub ruleset roundings_compose = (truncations_are_one, trunc_is_some, expansions_are_one)

@@ -7,6 +7,7 @@ use Rattle.fixed_decimal.specs.Scientific.{Scientific, scientific_text, split_at
 use Rattle.fixed_decimal.proofs.DecimalBytes.{decimal_text-lacks, letter-none}
 use Rattle.fixed_decimal.proofs.IntegerTexts.{integer_reads_back}
 use Rattle.fixed_decimal.proofs.SplitsAtE.{split_is}
+use Rattle.fixed_decimal.proofs.Writing.{first_fails, second_fails}
 
 -- it is split between its parts
 split_between : (v : Scientific)
@@ -36,3 +37,6 @@ pub scientific_reads_back : (v : Scientific) → read_decimal (decimal_text v.si
 scientific_reads_back v h k e =
     ap (λ r. and_then r read_parts) (split_between v)
     ∙ (rw (h, integer_reads_back v.exponent k e) refl)
+
+-- what writing a scientific value rests on
+pub ruleset writing = (first_fails, second_fails, scientific_reads_back)

@@ -1,6 +1,5 @@
 //! A decimal times 10 to the power of a small number.
-ghost use Rattle.std.specs.Prelude.{◌≡◌, ◌≤◌, ◌↔◌, length, true, false, Ok, IsTrue, IsOk, IfOk, OnOk, OnErr, MatchResult};
-ghost use Rattle.std.specs.Fmt.{decimal, WritesStyledOnOk};
+ghost use Rattle.std.specs.Prelude.{◌≡◌, ◌≤◌, ◌↔◌, length, take, true, false, Ok, IsTrue, IsOk, IfOk, OnOk, OnErr, MatchResult};
 ghost use Rattle.std.specs.Option.{option_copied};
 ghost use Rattle.std.specs.Io.KnownBytes.{Keeps, Appends};
 ghost use Rattle.decimal_digits.specs.Number.{size};
@@ -8,7 +7,7 @@ ghost use Rattle.decimal_digits.specs.Text.{AppendsPrefix};
 ghost use Rattle.decimal_unsigned.specs.Unsigned.{IsValue};
 ghost use Rattle.decimal_unsigned.specs.Refusal.{ParseRefuses, Answers};
 ghost use Rattle.fixed_decimal.specs.Equal.{same_text, same_text_laws};
-ghost use Rattle.fixed_decimal.specs.Compact.{compact, compact_text, small_number_of, split_at_c, read_exponent};
+ghost use Rattle.fixed_decimal.specs.Compact.{compact, exponent_text, compact_text, small_number_of, split_at_c, read_exponent};
 ghost use Rattle.fixed_decimal.specs.Compact.{read_compact, ReadsCompact, HasLongSignificand};
 
 use crate::signed_decimal::{Decimal, scan_decimal};
@@ -81,39 +80,22 @@ fn split_at_c(text: &[u8]) -> Result<(&[u8], Option<&[u8]>), ParseError>
     }
 }
 
-/// Appends the digits of a number.
-fn write_number<W: Sink>(number: u8, sink: &mut W) -> Result<(), SinkFault>
-    ensures ok { OnOk result (Appends (W.contents sink.old) (W.contents sink.new) (decimal number)) }
-    ensures err { OnErr result (AppendsPrefix (W.contents sink.old) (W.contents sink.new) (decimal number)) }
-    ensures failed { OnErr result (W.has_failed sink.new ≡ true) }
+/// The text of an exponent, in the first bytes of an array: `c` and its digits, or nothing for 0.
+#[tactic(auto, using(crate::proofs::CompactTexts::exponents))]
+fn exponent_text(exponent: u8) -> ([u8; 4], usize)
+    ensures text { take result.1 result.0 ≡ exponent_text exponent }
+    ensures at_most { result.1 ≤ 4 }
 {
-    if number < 10 {
-        return sink.put_byte(b'0' + number);
-    }
-    write_number(number / 10, sink)?;
-    sink.put_byte(b'0' + number % 10)
-}
-
-/// Formats the digits of a number.
-fn format_number<W: fmt::Write>(number: u8, f: &mut fmt::Formatter<W>) -> fmt::Result
-    ensures { WritesStyledOnOk W.write_str_gives f.old result (decimal number) f.new }
-{
-    if number < 10 {
-        return f.write_char((b'0' + number) as char);
-    }
-    format_number(number / 10, f)?;
-    f.write_char((b'0' + number % 10) as char)
-}
-
-/// Counts the digits of a number.
-fn number_length(number: u8) -> usize
-    ensures exact { result ≡ length (decimal number) }
-    ensures at_most { result ≤ 3 }
-{
-    match number {
-        0..=9 => 1,
-        10..=99 => 2,
-        _ => 3,
+    let (hundreds, tens, ones) = (
+        b'0' + exponent / 100,
+        b'0' + exponent / 10 % 10,
+        b'0' + exponent % 10,
+    );
+    match exponent {
+        0 => ([0; 4], 0),
+        1..=9 => ([b'c', ones, 0, 0], 2),
+        10..=99 => ([b'c', tens, ones, 0], 3),
+        _ => ([b'c', hundreds, tens, ones], 4),
     }
 }
 
@@ -150,20 +132,6 @@ impl CompactDecimal {
         ensures { result ≡ self.now.exponent }
     {
         self.exponent
-    }
-
-    /// Makes a second value that equals this one.
-    ///
-    /// The copy of `1.20c6` prints `1.20c6`. Err: memory for more than `DIGITS_IN_PLACE` digits of the significand was
-    /// refused. In the place of the original's `Clone`.
-    pub fn clone(&self) -> Result<Self, AllocError>
-        ensures value { IfOk result (λ copy. copy ≡ self.now) }
-        ensures succeeds { size self.now.significand.absolute.number ≤ DIGITS_IN_PLACE → IsOk result }
-    {
-        Ok(CompactDecimal {
-            significand: self.significand.clone()?,
-            exponent: self.exponent,
-        })
     }
 
     /// Reads the value that a text writes: a text without an exponent that `Decimal` reads, and then nothing, or `c`
@@ -204,6 +172,7 @@ impl Writeable for CompactDecimal {
     ///
     /// Err: the sink refused a byte, now or before, and has taken a beginning of the text. The text reads as this
     /// very value. `write_to` of the original.
+    #[tactic(auto, using(crate::proofs::CompactTexts::writing))]
     fn write_to<W: Sink>(&self, sink: &mut W) -> Result<(), SinkFault>
         ensures ok { OnOk result (Appends (W.contents sink.old) (W.contents sink.new) (compact_text self.now)) }
         ensures err { OnErr result
@@ -213,13 +182,9 @@ impl Writeable for CompactDecimal {
         ensures stays { W.has_failed sink.old ≡ true → Keeps (W.contents sink.old) (W.contents sink.new) }
         ensures reads_back { read_compact (compact_text self.now) ≡ Ok self.now }
     {
-        let exponent = self.exponent;
+        let (exponent, length) = exponent_text(self.exponent);
         self.significand.write_to(sink)?;
-        if exponent == 0 {
-            return Ok(());
-        }
-        sink.put_byte(b'c')?;
-        write_number(exponent, sink)
+        sink.put_bytes(&exponent[..length])
     }
 
     /// Counts the bytes of the text, exactly: 6 for `1.20c6`, and at most 65,542. `writeable_length_hint` of the
@@ -229,11 +194,29 @@ impl Writeable for CompactDecimal {
         ensures at_most { result ≤ 65542 }
         ensures valid { IsValue self.now.significand.absolute }
     {
-        let significand = self.significand.writeable_length_hint();
-        if self.exponent == 0 {
-            return significand;
-        }
-        significand + 1 + number_length(self.exponent)
+        self.significand.writeable_length_hint() + exponent_text(self.exponent).1
+    }
+}
+
+impl Clone for CompactDecimal {
+    ghost use Rattle.decimal_unsigned.specs.declared.decimal.TheConstants.{DIGITS_IN_PLACE};
+
+    ghost is_clone = { λ value copy. copy ≡ value };
+
+    ghost is_infallible = { λ value. size value.significand.absolute.number ≤ DIGITS_IN_PLACE };
+
+    /// Makes a second value that equals this one.
+    ///
+    /// The copy of `1.20c6` prints `1.20c6`. The original's `Clone`.
+    ///
+    /// # Errors
+    ///
+    /// Allocation fails for more than `DIGITS_IN_PLACE` digits of the significand.
+    fn clone(&self) -> Result<Self, AllocError> {
+        Ok(CompactDecimal {
+            significand: self.significand.clone()?,
+            exponent: self.exponent,
+        })
     }
 }
 
@@ -265,13 +248,11 @@ impl fmt::Display for CompactDecimal {
     /// Writes the text that `write_to` appends, and looks at no option of the format: `{:8}` writes `1.20c6` too.
     ///
     /// Err: the formatter refused a character. The original's `Display`.
+    #[tactic(auto, using(crate::proofs::Writing::formatting))]
     fn fmt<W: fmt::Write>(&self, f: &mut fmt::Formatter<W>) -> fmt::Result {
-        let exponent = self.exponent;
+        let (exponent, length) = exponent_text(self.exponent);
         self.significand.fmt(f)?;
-        if exponent == 0 {
-            return Ok(());
-        }
-        f.write_char('c')?;
-        format_number(exponent, f)
+        // SAFETY: `c` and digits are ASCII.
+        f.write_str(unsafe { str::from_utf8_unchecked(&exponent[..length]) })
     }
 }

@@ -62,17 +62,6 @@ impl FixedInteger {
         FixedInteger(Decimal::zero(alloc))
     }
 
-    /// Makes a second integer that equals this one.
-    ///
-    /// The copy of `-05` prints `-05`. Err: memory for more than `DIGITS_IN_PLACE` digits was refused. In the place of
-    /// the original's `Clone`.
-    pub fn clone(&self) -> Result<Self, AllocError>
-        ensures value { IfOk result (λ copy. copy ≡ self.now) }
-        ensures succeeds { size self.now.absolute.number ≤ DIGITS_IN_PLACE → IsOk result }
-    {
-        Ok(FixedInteger(self.0.clone()?))
-    }
-
     /// Reads the integer that a text writes: a text that `Decimal` reads, whose decimal shows no digit behind the dot.
     ///
     /// `05` is read, and prints `05`; `5.0e1` and `5.0e+1` are read, and print `50`. Err: `Syntax` where `Decimal`
@@ -161,6 +150,25 @@ impl Writeable for FixedInteger {
         ensures integer { self.now.absolute.lo ≡ pos 0 }
     {
         self.0.writeable_length_hint()
+    }
+}
+
+impl Clone for FixedInteger {
+    ghost use Rattle.decimal_unsigned.specs.declared.decimal.TheConstants.{DIGITS_IN_PLACE};
+
+    ghost is_clone = { λ value copy. copy ≡ value };
+
+    ghost is_infallible = { λ value. size value.absolute.number ≤ DIGITS_IN_PLACE };
+
+    /// Makes a second integer that equals this one.
+    ///
+    /// The copy of `-05` prints `-05`. The original's `Clone`.
+    ///
+    /// # Errors
+    ///
+    /// Allocation fails for more than `DIGITS_IN_PLACE` digits.
+    fn clone(&self) -> Result<Self, AllocError> {
+        Ok(FixedInteger(self.0.clone()?))
     }
 }
 

@@ -27,6 +27,7 @@
 pub mod compact;
 mod error;
 pub mod integer;
+pub mod laws;
 pub mod rounding;
 mod runs;
 pub mod scientific;

@@ -1,7 +1,5 @@
 //! The modes of numbers with a sign.
 
-mod laws;
-
 use decimal_digits::rounding::UnsignedRoundingMode;
 
 /// How a number with a sign is rounded.

@@ -91,21 +91,6 @@ impl ScientificDecimal {
         (self.significand, self.exponent)
     }
 
-    /// Makes a second value that equals this one.
-    ///
-    /// The copy of `1.20e05` prints `1.20e05`. Err: memory for more than `DIGITS_IN_PLACE` digits of a part was
-    /// refused; then nothing is left of the copy. In the place of the original's `Clone`.
-    pub fn clone(&self) -> Result<Self, AllocError>
-        ensures value { IfOk result (λ copy. copy ≡ self.now) }
-        ensures succeeds { size self.now.significand.absolute.number ≤ DIGITS_IN_PLACE →
-            size self.now.exponent.absolute.number ≤ DIGITS_IN_PLACE → IsOk result }
-    {
-        Ok(ScientificDecimal {
-            significand: self.significand.clone()?,
-            exponent: self.exponent.clone()?,
-        })
-    }
-
     /// Reads the value that a text writes: a text that `Decimal` reads, `e`, and a text that `FixedInteger` reads.
     ///
     /// Neither part may have an exponent of its own. `+1.20e-03` is read, and prints itself. Err: `Syntax` where there
@@ -152,6 +137,7 @@ impl Writeable for ScientificDecimal {
     ///
     /// Err: the sink refused a byte, now or before, and has taken a beginning of the text. The text reads as this
     /// very value. `write_to` of the original.
+    #[tactic(auto, using(crate::proofs::ScientificTexts::writing))]
     fn write_to<W: Sink>(&self, sink: &mut W) -> Result<(), SinkFault>
         ensures ok { OnOk result (Appends (W.contents sink.old) (W.contents sink.new) (scientific_text self.now)) }
         ensures err { OnErr result
@@ -175,6 +161,29 @@ impl Writeable for ScientificDecimal {
         ensures valid { IsValue self.now.significand.absolute × IsValue self.now.exponent.absolute }
     {
         self.significand.writeable_length_hint() + 1 + self.exponent.writeable_length_hint()
+    }
+}
+
+impl Clone for ScientificDecimal {
+    ghost use Rattle.decimal_unsigned.specs.declared.decimal.TheConstants.{DIGITS_IN_PLACE};
+
+    ghost is_clone = { λ value copy. copy ≡ value };
+
+    ghost is_infallible = { λ value. size value.significand.absolute.number ≤ DIGITS_IN_PLACE
+        × size value.exponent.absolute.number ≤ DIGITS_IN_PLACE };
+
+    /// Makes a second value that equals this one.
+    ///
+    /// The copy of `1.20e05` prints `1.20e05`. The original's `Clone`.
+    ///
+    /// # Errors
+    ///
+    /// Allocation fails for more than `DIGITS_IN_PLACE` digits of a part.
+    fn clone(&self) -> Result<Self, AllocError> {
+        Ok(ScientificDecimal {
+            significand: self.significand.clone()?,
+            exponent: self.exponent.clone()?,
+        })
     }
 }
 
@@ -208,7 +217,7 @@ impl fmt::Display for ScientificDecimal {
     /// Err: the formatter refused a character. The original's `Display`.
     fn fmt<W: fmt::Write>(&self, f: &mut fmt::Formatter<W>) -> fmt::Result {
         self.significand.fmt(f)?;
-        f.write_char('e')?;
+        f.write_str("e")?;
         self.exponent.fmt(f)
     }
 }

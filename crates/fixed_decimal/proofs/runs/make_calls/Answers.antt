@@ -1,10 +1,7 @@
-use Rattle.std.proofs.Common.{rules, refl}
+use Rattle.std.proofs.Common.{rules}
 use Rattle.fixed_decimal.specs.Calls.{CallsRefuse}
 use Rattle.fixed_decimal.proofs.Running.{goes_on, refused}
 use Rattle.fixed_decimal.proofs.runs.make_calls.Goals as goal
-
-pub loop-at-init : goal.loop-at-init
-loop-at-init g c = record { before = refl; rest = refl }
 
 pub returns-in_err-make_call-clause-err : goal.returns-in_err-make_call-clause-err
 returns-in_err-make_call-clause-err g c =

@@ -1,35 +1,7 @@
-use Rattle.std.proofs.Common.{◌≡◌, ◌==◌, false, arith}
-use Rattle.std.proofs.lemmas.Bool.Decides.{nat_tests}
-use Rattle.std.proofs.lemmas.Result.{on_err_weaker}
-use Rattle.decimal_digits.proofs.Results.{on_err}
-use Rattle.decimal_digits.proofs.Sinks.{part_more, then_part}
-use Rattle.fixed_decimal.proofs.CompactTexts.{compact_reads_back}
+use Rattle.fixed_decimal.proofs.Writing.{second_fails}
 use Rattle.fixed_decimal.proofs.compact.CompactDecimalWriteable.write_to.Goals as goal
-
-pub returns-in_err-write_to-clause-err : goal.returns-in_err-write_to-clause-err
-returns-in_err-write_to-clause-err g c =
-    rw (← c.self.view_is) (on_err c.from_residual.result _ (part_more _ _ _ _ c.in_err-write_to.ensures.err))
 
 pub returns-clause-err : goal.returns-clause-err
 returns-clause-err g c =
-    let e : (c.self.inside.exponent == 0) ≡ false = grind (arith, nat_tests) in
-    rw (← c.self.view_is, e)
-    (on_err_weaker c.write_number.result
-    (λ e. then_part _ _ _ _ _ c.in_ok-write_to.ensures.ok
-    (then_part _ _ _ _ _ c.in_ok-put_byte.ensures.appends e)) c.write_number.ensures.err)
-
-pub returns-in_err-write_to-clause-reads_back : goal.returns-in_err-write_to-clause-reads_back
-returns-in_err-write_to-clause-reads_back g c =
-    rw (← c.self.view_is) (compact_reads_back _ c.in_err-write_to.ensures.reads_back (omega arith))
-
-pub returns-then-exponent-eq0-clause-reads_back : goal.returns-then-exponent-eq0-clause-reads_back
-returns-then-exponent-eq0-clause-reads_back g c =
-    rw (← c.self.view_is) (compact_reads_back _ c.in_ok-write_to.ensures.reads_back (omega arith))
-
-pub returns-in_err-put_byte-clause-reads_back : goal.returns-in_err-put_byte-clause-reads_back
-returns-in_err-put_byte-clause-reads_back g c =
-    rw (← c.self.view_is) (compact_reads_back _ c.in_ok-write_to.ensures.reads_back (omega arith))
-
-pub returns-clause-reads_back : goal.returns-clause-reads_back
-returns-clause-reads_back g c =
-    rw (← c.self.view_is) (compact_reads_back _ c.in_ok-write_to.ensures.reads_back (omega arith))
+    rw (← c.self.view_is, ← c.exponent_text-length.ensures.text)
+    (second_fails _ _ _ _ _ _ c.in_ok-write_to.ensures.ok c.put_bytes.ensures.prefix)

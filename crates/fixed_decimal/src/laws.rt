@@ -1,0 +1,103 @@
+//! Laws of several calls, and of what is derived: the contract of each function is the law.
+ghost use Rattle.std.specs.Prelude.{◌≡◌, ℤ};
+ghost use Rattle.std.specs.Io.KnownBytes.{Appends};
+ghost use Rattle.std.specs.Ordering.{nat_cmp};
+ghost use Rattle.decimal_digits.specs.declared.rounding.RoundingIncrement.{RoundingIncrement};
+ghost use Rattle.decimal_digits.specs.declared.rounding.UnsignedRoundingMode.TheVariants.{Expand, Trunc};
+ghost use Rattle.decimal_unsigned.specs.Unsigned.{IsValue};
+ghost use Rattle.fixed_decimal.specs.Decimal.{Decimal};
+ghost use Rattle.fixed_decimal.specs.Orders.{signed_rank};
+ghost use Rattle.fixed_decimal.specs.Outcome.{outcome};
+ghost use Rattle.fixed_decimal.specs.RunLaws.{IsDecided, text_or_none, RoundsOnce, NeverExceedsLimit};
+ghost use Rattle.fixed_decimal.specs.SignedRounding.{RoundingCommutesWithNegation, RoundingIsMonotone};
+ghost use Rattle.fixed_decimal.specs.SignedRounding.{IsPosition, TruncationsCompose, ExpansionsCompose};
+ghost use Rattle.fixed_decimal.specs.declared.rounding.SignedRoundingMode.{SignedRoundingMode};
+
+use crate::rounding::SignedRoundingMode as Mode;
+use crate::runs::{Call, RunError, run_over};
+use crate::variations::{Sign, SignDisplay};
+use decimal_digits::digits::DigitStore;
+use decimal_digits::sink::Sink;
+use std::alloc::Global;
+use std::cmp::Ordering;
+
+/// Rounding commutes with negation: with the opposite sign and up and down exchanged, the absolute value is the same,
+/// range included.
+#[tactic(auto, using(crate::proofs::SignedRoundings::rounding_commutes_with_negation))]
+pub fn rounding_commutes_with_negation()
+    ensures { (v : Decimal) (position : ℤ) (mode : SignedRoundingMode) (increment : RoundingIncrement)
+        → RoundingCommutesWithNegation v position mode increment }
+{}
+
+/// Rounding is monotone: of two numbers, the greater one is not the smaller after both are rounded.
+///
+/// A number whose rounding fails with `Limit` stays.
+#[tactic(auto, using(crate::proofs::SignedRoundings::rounding_is_monotone))]
+pub fn rounding_is_monotone()
+    ensures { (v w : Decimal) (position : ℤ) (mode : SignedRoundingMode) (increment : RoundingIncrement)
+        → RoundingIsMonotone v w position mode increment }
+{}
+
+/// Two truncations leave the number of the one at the greater position.
+#[tactic(auto, using(crate::proofs::RunLaws::truncations_compose))]
+pub fn truncations_compose()
+    ensures { (v : Decimal) (p q : ℤ) → IsValue v.absolute → IsPosition p → IsPosition q → TruncationsCompose v p q }
+{}
+
+/// Two expansions leave the number of the one at the greater position, and one of the two fails exactly where that one
+/// does.
+#[tactic(auto, using(crate::proofs::RunLaws::expansions_compose))]
+pub fn expansions_compose()
+    ensures { (v : Decimal) (p q : ℤ) → IsPosition p → IsPosition q → ExpansionsCompose v p q }
+{}
+
+/// Roundings in a row, all toward zero or all away from zero, leave the number of the one at their greatest position,
+/// and one of them fails exactly where that one does.
+#[tactic(auto, using(crate::proofs::RunLaws::roundings_compose))]
+pub fn roundings_compose()
+    ensures toward_zero { RoundsOnce Trunc }
+    // A rounding toward zero never fails.
+    ensures within_limit { NeverExceedsLimit Trunc }
+    ensures away_from_zero { RoundsOnce Expand }
+{}
+
+/// Runs of the same calls from the same start return the same over any two stores and append the same text to any two
+/// sinks, unless one is out of memory or its sink fails.
+pub fn runs_agree<D: DigitStore, E: DigitStore, V: Sink, W: Sink>(
+    alloc: Global,
+    start: &[u8],
+    calls: &[Call<'_>],
+    left: &mut V,
+    right: &mut W,
+) -> (Result<(), RunError>, Result<(), RunError>)
+    ensures agree { IsDecided result.0 → IsDecided result.1 → result.0 ≡ result.1 }
+    ensures appended_left { IsDecided result.0
+        → Appends (V.contents left.old) (V.contents left.new) (text_or_none (outcome start.now calls.now)) }
+    ensures appended_right { IsDecided result.1
+        → Appends (W.contents right.old) (W.contents right.new) (text_or_none (outcome start.now calls.now)) }
+{
+    let left = run_over::<D, V>(alloc, start, calls, left);
+    let right = run_over::<E, W>(alloc, start, calls, right);
+    (left, right)
+}
+
+/// The default sign is none.
+pub fn default_sign() -> Sign
+    ensures { result ≡ Sign.None }
+{
+    Sign::default()
+}
+
+/// By default a minus stays, and a plus is removed.
+pub fn default_display() -> SignDisplay
+    ensures { result ≡ SignDisplay.Auto }
+{
+    SignDisplay::default()
+}
+
+/// The modes are ordered as they are declared, and those of absolute values come first.
+pub fn signed_order(left: Mode, right: Mode) -> Ordering
+    ensures { result ≡ nat_cmp (signed_rank left) (signed_rank right) }
+{
+    left.cmp(&right)
+}
