@@ -1,9 +1,9 @@
 //! Concatenations to more digits than are stored in place.
 use crate::outcome::Outcome;
 use crate::values::read;
-use decimal_doubles::{Join, Joins, Value, shows};
 use fixed_decimal::{ByteDecimal, ConcatenateError, ParseError, UnsignedDecimal};
 use std::alloc::Global;
+use test_support::{Join, Joins, Value, shows};
 
 /// The two numbers, and their concatenation.
 type Row = (&'static str, &'static str, &'static str);

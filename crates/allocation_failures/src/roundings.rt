@@ -1,12 +1,12 @@
 //! Roundings that make one digit more.
 use crate::outcome::Outcome;
 use crate::values::read;
-use decimal_doubles::{Rounds, Value, Way, rounded, shows, ways};
 use fixed_decimal::RoundingIncrement::MultiplesOf25;
 use fixed_decimal::SignedRoundingMode::{self, Unsigned};
 use fixed_decimal::UnsignedRoundingMode::{self, Trunc};
 use fixed_decimal::{ByteDecimal, Decimal, ParseError, RoundError, Signed, UnsignedDecimal};
 use std::alloc::Global;
+use test_support::{RoundingMethod, Rounds, Value, rounded, rounding_methods, shows};
 
 /// A number, and the number rounded at -1 by 25.
 type Row = (&'static str, &'static str);
@@ -23,7 +23,7 @@ const NEGATIVE: &[Row] = &[("-1234567812345678", "-1234567812345677.5")];
 fn round_again<M: Copy, T: Value + Rounds<M>>(value: T, (text, wanted): Row, mode: M) -> Outcome {
     let mut value = value;
     let is_unchanged = shows(&value, text.as_bytes());
-    let result = value.round_by(Way::ByIncrement, (-1, mode, MultiplesOf25));
+    let result = value.round_by(RoundingMethod::ByIncrement, (-1, mode, MultiplesOf25));
     Outcome::second(is_unchanged && result.is_ok() && shows(&value, wanted.as_bytes()))
 }
 
@@ -31,7 +31,7 @@ fn round_again<M: Copy, T: Value + Rounds<M>>(value: T, (text, wanted): Row, mod
 fn round<M: Copy, T: Value + Rounds<M>>(
     alloc: Global,
     row: Row,
-    (call, mode): (Way, M),
+    (call, mode): (RoundingMethod, M),
 ) -> Result<Outcome, ParseError> {
     let (value, of_read) = read::<T>(alloc, row.0)?;
     let of_rounding = match rounded(value, call, (-1, mode, MultiplesOf25)) {
@@ -46,7 +46,7 @@ fn round<M: Copy, T: Value + Rounds<M>>(
 fn roundings<M: Copy, T: Value + Rounds<M>>(alloc: Global, rows: &[Row], mode: M) -> Outcome {
     let mut outcome = Outcome::Done;
     for row in rows {
-        for call in ways(MultiplesOf25) {
+        for call in rounding_methods(MultiplesOf25) {
             let of_row = round::<M, T>(alloc, *row, (*call, mode));
             outcome = outcome.and(of_row.unwrap_or(Outcome::Wrong));
         }

@@ -1,11 +1,11 @@
 //! Runs whose start, operands and calls allocate.
 use crate::outcome::Outcome;
-use decimal_doubles::LimitedSink;
 use fixed_decimal::RoundingIncrement::MultiplesOf25;
 use fixed_decimal::SignedRoundingMode::Unsigned;
 use fixed_decimal::UnsignedRoundingMode::Trunc;
 use fixed_decimal::{Call, ParseError, RunError, Sink, run};
 use std::alloc::Global;
+use test_support::LimitedSink;
 
 /// A start, calls, and the text of the run.
 type Run = (&'static str, &'static [Call<'static>], &'static str);

@@ -1,11 +1,11 @@
 //! Values of each type that are parsed, made of integers, and copied.
 use crate::outcome::Outcome;
-use decimal_doubles::{Value, shows};
 use fixed_decimal::{
     ByteDecimal, CompactDecimal, Decimal, DigitList, DigitStore, FixedInteger, PackedDigits,
     ParseError, ScientificDecimal, UnsignedDecimal, UnsignedOver,
 };
 use std::alloc::{AllocError, Global};
+use test_support::{Value, shows};
 
 /// Whether a value was made and has a text.
 fn is_made<T: Value>(made: Result<T, AllocError>, text: &str) -> bool {

@@ -7,31 +7,32 @@ use Rattle.std.specs.Io.Buffered.{reader_inner, reader_buffer, reader_capacity, 
 use Rattle.std.proofs.lemmas.Bool.{false≢true}
 use Rattle.std.proofs.lemmas.List.{append-nil}
 
-nothing_before : (known : Option (List ℕ)) → prepend_known [] known ≡ known
-nothing_before None = refl
-nothing_before (Some xs) = refl
+prepend_known-nil : (known : Option (List ℕ)) → prepend_known [] known ≡ known
+prepend_known-nil None = refl
+prepend_known-nil (Some xs) = refl
 
 -- no bytes are unwritten
-pub nothing_behind : (known : Option (List ℕ)) → append_known known [] ≡ known
-nothing_behind None = refl
-nothing_behind (Some xs) = ap Some (append-nil xs)
+pub append_known-nil : (known : Option (List ℕ)) → append_known known [] ≡ known
+append_known-nil None = refl
+append_known-nil (Some xs) = ap Some (append-nil xs)
 
 -- the bytes left in a new buffer are those left in its reader
 pub new_reader :
     {T A : Type 0} (f : T → Option (List ℕ)) (r : BufReader T A) (x : T) → reader_inner r ≡ x → reader_buffer r ≡ []
     → reader_capacity r ≡ 65536 → reader_remaining f r ≡ f x
-new_reader f r x inner empty room = rw (room, empty, inner) (nothing_before (f x))
+new_reader f r x inner empty room = rw (room, empty, inner) (prepend_known-nil (f x))
 
 -- the contents of a new buffer are those of its writer
 pub new_writer :
     {T A : Type 0} (f : T → Option (List ℕ)) (w : BufWriter T A) (x : T) → writer_inner w ≡ x → writer_buffer w ≡ []
     → writer_contents f w ≡ f x
-new_writer f w x inner empty = rw (empty, inner) (nothing_behind (f x))
+new_writer f w x inner empty = rw (empty, inner) (append_known-nil (f x))
 
 -- after the last call of a writer that has not failed no bytes are unwritten
-pub settled :
+pub closed_contents :
     (old new : Option (List ℕ)) (failed : Bool) → (failed ≡ false → Keeps old new)
     → (unwritten : List ℕ) × Keeps old (append_known new unwritten)
     → (unwritten : List ℕ) × (failed ≡ false → unwritten ≡ []) × Keeps old (append_known new unwritten)
-settled old new true written (unwritten, k) = (unwritten, (λ is. absurd (false≢true (sym is))), k)
-settled old new false written prefix = ([], (λ _. refl), subst (Keeps old) (sym (nothing_behind new)) (written refl))
+closed_contents old new true written (unwritten, k) = (unwritten, (λ is. absurd (false≢true (sym is))), k)
+closed_contents old new false written prefix =
+    ([], (λ _. refl), subst (Keeps old) (sym (append_known-nil new)) (written refl))

@@ -9,17 +9,17 @@ use Rattle.std.specs.List.{FoldsTo}
 use Rattle.std.specs.Io.KnownBytes.{Appends}
 use Rattle.std.specs.Io.BufRead.{drop_through}
 use Rattle.std.specs.declared.io.Error.{Error}
-use Rattle.decimal_digits.specs.Text.{AppendsPrefix}
-use Rattle.fixed_decimal.proofs.Calling.{appends_both, appends_none, then_part}
+use Rattle.decimal_digits.specs.AppendsPrefix.{AppendsPrefix}
+use Rattle.fixed_decimal.proofs.Calling.{appends_both, appends_none, then_prefix}
 use Rattle.fixed_decimal.specs.declared.runs.Call.{Call}
 use Rattle.fixed_decimal.specs.Outcome.{outcome}
-use Rattle.cli.specs.declared.errors.FilterError.{FilterError}
-use Rattle.cli.specs.declared.errors.FilterError.TheVariants.{Operation, LongLine, Input, Output}
+use Rattle.cli.specs.declared.error.FilterError.{FilterError}
+use Rattle.cli.specs.declared.error.FilterError.TheVariants.{Operation, LongLine, Input, Output}
 use Rattle.cli.specs.declared.filter.OnError.{OnError}
 use Rattle.cli.specs.declared.filter.OnError.TheVariants.{Stop}
 use Rattle.cli.specs.Lines.{lines_of, AreRead, output_of_line, output_of, errors_of_line, errors_of, have_texts, Returns, Filters, IsConsumed}
-use Rattle.cli.specs.Steps.{IsRead, IsErrorOfLine, IsErrorOfReading}
-use Rattle.cli.proofs.Splitting.{lines_first}
+use Rattle.cli.specs.FilterLine.{IsRead, IsErrorOfLine, IsErrorOfReading}
+use Rattle.cli.proofs.FirstLine.{lines_first}
 
 -- ---- What was read.
 
@@ -104,7 +104,7 @@ module _
         → AppendsPrefix o q (output_of calls (h.lines ++ (line ∷ [])))
     output_next line q put =
         subst (AppendsPrefix o q) (flat_map_more (λ line. output_of_line (outcome line calls)) [] h.lines line)
-        (then_part o p q (output_of calls h.lines) _ h.output put)
+        (then_prefix o p q (output_of calls h.lines) _ h.output put)
 
     reported_next :
         (line : List ℕ) (g : D) → FoldsTo reports f (errors_of_line (count + 1) (outcome line calls)) g
@@ -171,12 +171,12 @@ module _
         → (error ≡ Output → AppendsPrefix p q (output_of_line (outcome line calls)))
         → (error ≡ Output → FoldsTo reports f (errors_of_line (count + 1) (outcome line calls)) g)
         → Filters AppendsPrefix reports on_error calls a o q e g (Err error)
-    filters_line line c q g (Operation at error) is why untouched put more =
-        let (out, err) = untouched (λ e. cc) in
+    filters_line line c q g (Operation at error) is why unchanged_on_error put more =
+        let (out, err) = unchanged_on_error (λ e. cc) in
         rw (out, err)
         (filters (Err (Operation at error))
         ((b, h.read), (line, (c, read_more a b c h.lines line h.read is), rw h.number why)))
-    filters_line line c q g Output is text untouched put more = (
+    filters_line line c q g Output is text unchanged_on_error put more = (
       h.lines ++ (line ∷ []),
       ((c, read_more a b c h.lines line h.read is), tt),
       stop_next line text,
@@ -184,7 +184,7 @@ module _
       output_next line q (put refl),
       reported_next line g (more refl),
     )
-    filters_line line c q g error is never untouched put more = absurd never
+    filters_line line c q g error is never unchanged_on_error put more = absurd never
 
     -- what is left after an error in the run of the next line
     pub consumed_line :

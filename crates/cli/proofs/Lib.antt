@@ -1,8 +1,8 @@
 pub mod Numerals
-pub mod Splits
+pub mod RoundingWord
 pub mod Programs
 pub mod Buffers
 pub mod Filtering
 pub mod Reporting
-pub mod Splitting
+pub mod FirstLine
 pub mod Printing

@@ -9,8 +9,8 @@ use Rattle.std.proofs.lemmas.Str.Parse.{IsNumeralModel, numerals_by_value, tells
 use Rattle.cli.specs.Words.{are_digits, digits_up_to, number}
 
 -- digits with the value of `digits_value` are a model of numerals for the lemmas on parsing
-pub own : IsNumeralModel (λ ds. all_ascii_digits ds ≡ true) (digits_value 10)
-own = numerals_by_value _ tells_all_ascii_digits
+pub digits-is_numeral_model : IsNumeralModel (λ ds. all_ascii_digits ds ≡ true) (digits_value 10)
+digits-is_numeral_model = numerals_by_value _ tells_all_ascii_digits
 
 not_true : (b : Bool) → (b ≡ true → ⊥) → b ≡ false
 not_true true h = absurd (h refl)
@@ -19,8 +19,8 @@ not_true false h = refl
 -- the digits are parsed or rejected
 module _ (f : ℕ → ℤ) (most : ℕ) (ds : List ℕ) where
   -- bytes other than one to six digits are no number
-  pub refused : (are_digits ds ≡ true → ⊥) → None ≡ option_map f (digits_up_to most ds)
-  refused never =
+  pub digits_up_to-none : (are_digits ds ≡ true → ⊥) → None ≡ option_map f (digits_up_to most ds)
+  digits_up_to-none never =
       rw (not_true (are_digits ds && nat_le (digits_value 10 ds) most) (λ h. never ((and_parts _ _ h).0))) refl
 
   -- the result of the parser is the number of one to six digits
@@ -75,29 +75,30 @@ without_minus (Some x) word h = inl h
 without_minus None word h = inr (refl, first_is _ h)
 
 -- if the bytes after an optional minus are not one to six digits, the word is no number
-pub number_refused :
+pub number-none :
     (word digits : List ℕ) → IsWithoutMinus word digits → (are_digits digits ≡ true → ⊥) → None ≡ number word
-number_refused word digits (inl e) never = rw e (refused (λ n. neg_ℤ (pos n)) 32768 digits never)
-number_refused word digits (inr (e, first)) never =
-    rw (ne_eqb (get_or word 0 0) 45 first) (refused pos 32767 word (rw e at never))
+number-none word digits (inl e) never = rw e (digits_up_to-none (λ n. neg_ℤ (pos n)) 32768 digits never)
+number-none word digits (inr (e, first)) never =
+    rw (ne_eqb (get_or word 0 0) 45 first) (digits_up_to-none pos 32767 word (rw e at never))
 
 -- the result of the parser for at most six bytes without a leading plus is the number of the word
-pub number_reads :
+pub number-some :
     {E : Type 0} (word digits : List ℕ) (r : Result ℤ E) → IsWithoutMinus word digits → length digits ≤ 6
     → get_or digits 0 0 ≢ 43 → ParsesSigned w16 10 word r → result_ok r ≡ number word
-number_reads word digits r (inl e) short first h =
-    let p = parse_signed_minus own w16 (45 ∷ digits) r (rw e at h) refl in
+number-some word digits r (inl e) short first h =
+    let p = parse_signed_minus digits-is_numeral_model w16 (45 ∷ digits) r (rw e at h) refl in
     rw e (reads (λ n. neg_ℤ (pos n)) 32768 digits r short (λ d some fits. (d, some, fits)) (λ q. q) p)
-number_reads word digits r (inr (e, minus)) short first h =
+number-some word digits r (inr (e, minus)) short first h =
     let few : length word ≤ 6 = rw e at short in
-    let p = parse_signed_plain own w16 word r h (rw e at first) minus in
+    let p = parse_signed_plain digits-is_numeral_model w16 word r h (rw e at first) minus in
     rw (ne_eqb (get_or word 0 0) 45 minus) (reads pos 32767 word r few (λ d some fits. (d, some, omega arith))
     (λ q. (q.0, q.1, omega arith)) p)
 
 -- a word with more than six digits is no number
-pub long_number_refused : (word digits : List ℕ) → IsWithoutMinus word digits → 6 < length digits → None ≡ number word
-long_number_refused word digits is long = number_refused word digits is (too_long digits long)
+pub number-none_if_long : (word digits : List ℕ) → IsWithoutMinus word digits → 6 < length digits → None ≡ number word
+number-none_if_long word digits is long = number-none word digits is (too_long digits long)
 
 -- a word with a plus before its digits is no number
-pub plus_refused : (word digits : List ℕ) → IsWithoutMinus word digits → get_or digits 0 0 ≡ 43 → None ≡ number word
-plus_refused word digits is first = number_refused word digits is (plus digits first)
+pub number-none_if_plus : (word digits : List ℕ) → IsWithoutMinus word digits → get_or digits 0 0 ≡ 43
+    → None ≡ number word
+number-none_if_plus word digits is first = number-none word digits is (plus digits first)

@@ -5,15 +5,15 @@ use Rattle.std.specs.declared.alloc.Global.{Global}
 use Rattle.std.specs.Io.KnownBytes.{Keeps, Appends}
 use Rattle.std.proofs.Math.Seq.{split_at}
 use Rattle.std.proofs.lemmas.List.{append-nil, length-take-le}
-use Rattle.decimal_digits.specs.Text.{AppendsPrefix}
+use Rattle.decimal_digits.specs.AppendsPrefix.{AppendsPrefix}
 use Rattle.plural_rules.specs.declared.rules.PluralCategory.{PluralCategory}
-use Rattle.plural_rules.specs.Rules.{RuleParts}
-use Rattle.cli.specs.declared.errors.PluralError.{PluralError}
-use Rattle.cli.specs.declared.errors.PluralError.TheVariants.{Output}
-use Rattle.cli.specs.Categories.{read_category, line_of, HaveLines, PrintsAll, StopsAt, TextFails}
+use Rattle.plural_rules.specs.Rules.{RuleValue}
+use Rattle.cli.specs.declared.error.PluralError.{PluralError}
+use Rattle.cli.specs.declared.error.PluralError.TheVariants.{Output}
+use Rattle.cli.specs.Categories.{read_category, category_line, HaveLines, PrintsAll, StopsAt, TextFails}
 use Rattle.cli.specs.Plural.{HasRules}
 use Rattle.cli.proofs.Programs.{taken}
-use Rattle.fixed_decimal.proofs.Calling.{appends_both, appends_kept, then_part}
+use Rattle.fixed_decimal.proofs.Calling.{appends_both, appends_kept, then_prefix}
 
 -- a result of which a property holds is Ok
 ok_and : {X E : Type 0} (r : Result X E) (P : X → Type 0) → IsOkAnd r P → (x : X) × (r ≡ Ok x) × P x
@@ -22,36 +22,36 @@ ok_and (Err e) P h = absurd h
 
 -- one more text has one more line
 lines_more :
-    (rules : List RuleParts) (front : List (String Global)) (lines : List ℕ) (text : String Global)
+    (rules : List RuleValue) (front : List (String Global)) (lines : List ℕ) (text : String Global)
     (category : PluralCategory) → HaveLines rules front lines → read_category rules (string_bytes text) ≡ Ok category
-    → HaveLines rules (front ++ text ∷ []) (lines ++ line_of category)
+    → HaveLines rules (front ++ text ∷ []) (lines ++ category_line category)
 lines_more rules [] lines text category none read =
-    (category, [], read, ap (λ l. l ++ line_of category) none ∙ sym (append-nil (line_of category)), refl)
+    (category, [], read, ap (λ l. l ++ category_line category) none ∙ sym (append-nil (category_line category)), refl)
 lines_more rules (first ∷ front) lines text category (found, rest, is, e, have) read = (
   found,
-  rest ++ line_of category,
+  rest ++ category_line category,
   is,
-  ap (λ l. l ++ line_of category) e ∙ append_assoc (line_of found) rest (line_of category),
+  ap (λ l. l ++ category_line category) e ∙ append_assoc (category_line found) rest (category_line category),
   lines_more rules front rest text category have read,
 )
 
 -- the lines of the texts before the one at `i` are printed
 module _
-    (rules : List RuleParts) (texts : List (String Global)) (i : ℕ) (text : String Global)
+    (rules : List RuleValue) (texts : List (String Global)) (i : ℕ) (text : String Global)
     (old mid new : Option (List ℕ)) (l : i < length texts) (e : text ≡ get_or texts i text)
     (before : PrintsAll rules (take i texts) old mid)
   where
     -- and the line of this one
     pub prints_more :
-        IsOkAnd (read_category rules (string_bytes text)) (λ category. Appends mid new (line_of category))
+        IsOkAnd (read_category rules (string_bytes text)) (λ category. Appends mid new (category_line category))
         → PrintsAll rules (take (i + 1) texts) old new
     prints_more printed =
         let (lines, have, appends) = before in
         let (category, read, line) = ok_and (read_category rules (string_bytes text)) _ printed in
         subst (λ front. PrintsAll rules front old new) (sym (taken texts i text l e)) (
-          lines ++ line_of category,
+          lines ++ category_line category,
           lines_more rules (take i texts) lines text category have read,
-          appends_both old mid new lines (line_of category) appends line,
+          appends_both old mid new lines (category_line category) appends line,
         )
 
     cut : texts ≡ take i texts ++ text ∷ drop (suc i) texts
@@ -78,26 +78,27 @@ module _
     pub stops_here :
         (error : PluralError) → TextFails rules (string_bytes text) (i + 1) error → (error ≢ Output → new ≡ mid)
         → (error ≡ Output
-        → IsOkAnd (read_category rules (string_bytes text)) (λ category. AppendsPrefix mid new (line_of category)))
+        → IsOkAnd (read_category rules (string_bytes text))
+        (λ category. AppendsPrefix mid new (category_line category)))
         → StopsAt rules texts old new error
     stops_here Output fails same part =
         let (lines, have, appends) = before in
         let (category, read, line) = ok_and (read_category rules (string_bytes text)) _ (part refl) in (
           take i texts ++ text ∷ [],
           drop (suc i) texts,
-          lines ++ line_of category,
+          lines ++ category_line category,
           cut ∙ sym (append_assoc (take i texts) (text ∷ []) (drop (suc i) texts)),
           lines_more rules (take i texts) lines text category have read,
-          then_part old mid new lines (line_of category) appends line,
+          then_prefix old mid new lines (category_line category) appends line,
           λ other. absurd (other refl),
         )
     stops_here error fails same part = fails_here error (λ is. cc) fails (same (λ is. cc))
 
 -- calls that keep the contents of a writer keep the printed lines
-module _ (rules : List RuleParts) (texts : List (String Global)) (old mid new : Option (List ℕ)) (k : Keeps mid new)
+module _ (rules : List RuleValue) (texts : List (String Global)) (old mid new : Option (List ℕ)) (k : Keeps mid new)
   where
-    part_kept : (xs : List ℕ) → AppendsPrefix old mid xs → AppendsPrefix old new xs
-    part_kept xs (part, rest, e, p) = (part, rest, e, appends_kept old mid new part p k)
+    prefix_kept : (xs : List ℕ) → AppendsPrefix old mid xs → AppendsPrefix old new xs
+    prefix_kept xs (part, rest, e, p) = (part, rest, e, appends_kept old mid new part p k)
 
     pub all_kept : PrintsAll rules texts old mid → PrintsAll rules texts old new
     all_kept (lines, have, appends) = (lines, have, appends_kept old mid new lines appends k)
@@ -109,7 +110,7 @@ module _ (rules : List RuleParts) (texts : List (String Global)) (old mid new : 
       lines,
       e,
       have,
-      part_kept lines part,
+      prefix_kept lines part,
       λ other. let (put, fails) = all other in (appends_kept old mid new lines put k, fails),
     )
 
@@ -127,12 +128,12 @@ module _ (rules : List RuleParts) (texts : List (String Global)) (old mid new : 
       λ other. absurd (other refl),
     )
     begun (Err error) printed (front, back, lines, e, have, part, all) =
-        (front, back, lines, e, have, part_kept lines part, λ other. absurd (other refl))
+        (front, back, lines, e, have, prefix_kept lines part, λ other. absurd (other refl))
 
 -- P holds of the rules and of the texts that the words name
 pub has_rules :
-    (words : List (String Global)) (rules : List RuleParts) (texts : List (String Global))
-    (P : List RuleParts → List (String Global) → Type 0) → HasRules words (λ r t. (r ≡ rules) × (t ≡ texts))
+    (words : List (String Global)) (rules : List RuleValue) (texts : List (String Global))
+    (P : List RuleValue → List (String Global) → Type 0) → HasRules words (λ r t. (r ≡ rules) × (t ≡ texts))
     → P rules texts → HasRules words P
 has_rules words rules texts P (first, others, is, some, (found, grammar, (same, equal))) p =
     let moved : P found others = rw (same, equal) p in

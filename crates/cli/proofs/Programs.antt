@@ -6,14 +6,14 @@ use Rattle.std.specs.declared.alloc.Global.{Global}
 use Rattle.std.specs.Io.KnownBytes.{Keeps, Appends}
 use Rattle.std.proofs.Math.Seq.{take-suc, take-length}
 use Rattle.std.proofs.lemmas.List.{length-drop, append-nil}
-use Rattle.decimal_digits.specs.Text.{AppendsPrefix}
-use Rattle.fixed_decimal.proofs.Calling.{appends_both, appends_kept, part_more}
+use Rattle.decimal_digits.specs.AppendsPrefix.{AppendsPrefix}
+use Rattle.fixed_decimal.proofs.Calling.{appends_both, appends_kept, prefix_more}
 use Rattle.fixed_decimal.specs.Outcome.{outcome}
 use Rattle.fixed_decimal.specs.declared.runs.Call.{Call}
 use Rattle.cli.specs.Words.{Names}
 use Rattle.cli.specs.Words.{NameAll, IsUnknown}
 use Rattle.fixed_decimal.specs.declared.runs.RunError.TheVariants.{Sink}
-use Rattle.cli.specs.declared.errors.OperationError.TheVariants.{Output}
+use Rattle.cli.specs.declared.error.OperationError.TheVariants.{Output}
 use Rattle.cli.specs.Arguments.{Arguments, HaveWords}
 use Rattle.cli.specs.Fixdec.{OperationsFail, IsUsage, HasRun, RunPrints, RunPrintsPrefix}
 
@@ -110,22 +110,22 @@ ok_weaker (Err e) f h = h
 -- ---- What was printed.
 
 -- a text and then a line feed were written
-pub feed_taken :
+pub line_feed_written :
     {E : Type 0} (r : Result (List ℕ) E) (a b c : Option (List ℕ)) → IsOkAnd r (λ text. Appends a b text)
     → Appends b c (10 ∷ []) → IsOkAnd r (λ text. Appends a c (text ++ (10 ∷ [])))
-feed_taken r a b c p q = ok_map _ _ r (λ text h. appends_both a b c text (10 ∷ []) h q) p
+line_feed_written r a b c p q = ok_map _ _ r (λ text h. appends_both a b c text (10 ∷ []) h q) p
 
 -- a text was written, and the line feed failed
-pub feed_refused :
+pub line_feed_failed :
     {E : Type 0} (r : Result (List ℕ) E) (a b c : Option (List ℕ)) → IsOkAnd r (λ text. Appends a b text)
     → Keeps b c → IsOkAnd r (λ text. AppendsPrefix a c (text ++ (10 ∷ [])))
-feed_refused r a b c p k = ok_map _ _ r (λ text h. (text, 10 ∷ [], refl, appends_kept a b c text h k)) p
+line_feed_failed r a b c p k = ok_map _ _ r (λ text h. (text, 10 ∷ [], refl, appends_kept a b c text h k)) p
 
 -- a prefix of a text was written
 pub text_begun :
     {E : Type 0} (r : Result (List ℕ) E) (a b : Option (List ℕ)) → IsOkAnd r (λ text. AppendsPrefix a b text)
     → IsOkAnd r (λ text. AppendsPrefix a b (text ++ (10 ∷ [])))
-text_begun r a b p = ok_map _ _ r (λ text h. part_more a b text (10 ∷ []) h) p
+text_begun r a b p = ok_map _ _ r (λ text h. prefix_more a b text (10 ∷ []) h) p
 
 -- calls that keep the contents of a writer keep the printed text
 pub run_kept :

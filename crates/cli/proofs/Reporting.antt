@@ -3,7 +3,7 @@ use Rattle.std.proofs.Common.{◌≡◌, ℕ, List, [], Option, Some, None, Bool
 use Rattle.std.proofs.lemmas.Bool.{false≢true}
 use Rattle.std.specs.Io.KnownBytes.{Keeps}
 use Rattle.fixed_decimal.proofs.Calling.{appends_none}
-use Rattle.cli.specs.Diagnostics.{IsLineOf, Reports}
+use Rattle.cli.specs.Diagnostics.{IsErrorLine, Reports}
 
 keeps_itself : (known : Option (List ℕ)) → Keeps known known
 keeps_itself None = tt
@@ -11,13 +11,13 @@ keeps_itself (Some bytes) = refl
 
 -- the writer is not called
 pub reports_none :
-    (output known : Option (List ℕ)) (line : List ℕ) (failed : Bool) → failed ≡ true → IsLineOf output line
+    (output known : Option (List ℕ)) (line : List ℕ) (failed : Bool) → failed ≡ true → IsErrorLine output line
     → Reports output known failed known failed
 reports_none output known line failed is line_is = (
   line,
   line_is,
   ([], line, refl, appends_none known),
-  (λ works. absurd (false≢true (sym works ∙ is))),
+  (λ has_not_failed. absurd (false≢true (sym has_not_failed ∙ is))),
   λ _. (keeps_itself known, is),
 )
 

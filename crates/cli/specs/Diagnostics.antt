@@ -2,14 +2,15 @@
 use Rattle.std.specs.Prelude.{◌≡◌, ℕ, List, [], ◌∷◌, ◌++◌, Option, Bool, true, false, IfSome}
 use Rattle.std.specs.Fmt.Cut.{IsTextOrCut}
 use Rattle.std.specs.Io.KnownBytes.{Keeps, Appends}
-use Rattle.decimal_digits.specs.Text.{AppendsPrefix}
+use Rattle.decimal_digits.specs.AppendsPrefix.{AppendsPrefix}
 
 -- a line is a text and a line feed: the text that the error's `Display` states, cut after 80 bytes, if it states one
-abbrev pub IsLineOf : Option (List ℕ) → List ℕ → Type 0
-IsLineOf output line = (text : List ℕ) × (line ≡ text ++ (10 ∷ [])) × IfSome output (λ whole. IsTextOrCut 80 whole text)
+abbrev pub IsErrorLine : Option (List ℕ) → List ℕ → Type 0
+IsErrorLine output line =
+    (text : List ℕ) × (line ≡ text ++ (10 ∷ [])) × IfSome output (λ whole. IsTextOrCut 80 whole text)
 
 -- one line is written: a prefix of it, all of it where the writer has not failed, nothing where it had failed before
 abbrev pub Reports : Option (List ℕ) → Option (List ℕ) → Bool → Option (List ℕ) → Bool → Type 0
 Reports output old had_failed new failed =
-    (line : List ℕ) × IsLineOf output line × AppendsPrefix old new line × (failed ≡ false → Appends old new line)
+    (line : List ℕ) × IsErrorLine output line × AppendsPrefix old new line × (failed ≡ false → Appends old new line)
     × (had_failed ≡ true → Keeps old new × (failed ≡ true))

@@ -1,21 +1,21 @@
 -- The errors of the programs, and the exit status that goes with each.
 use Rattle.std.specs.Prelude.{ℕ}
 use Rattle.decimal_unsigned.specs.declared.error.ParseError.TheVariants as parse
-use Rattle.decimal_unsigned.specs.Reading.{ReadingFault, syntax, limit}
+use Rattle.decimal_unsigned.specs.Reading.{ReadError, syntax, limit}
 use Rattle.plural_rules.specs.declared.parse.RulesError.{RulesError}
 use Rattle.plural_rules.specs.declared.parse.RulesError.TheVariants as rules
 use Rattle.fixed_decimal.specs.declared.runs.RunError.{RunError}
 use Rattle.fixed_decimal.specs.declared.runs.RunError.TheVariants as run
-use Rattle.cli.specs.declared.errors.Reason.{Reason}
-use Rattle.cli.specs.declared.errors.Reason.TheVariants.{Syntax, Limit}
-use Rattle.cli.specs.declared.errors.OperationError.{OperationError}
-use Rattle.cli.specs.declared.errors.OperationError.TheVariants.{Start, Operand, Overlap, Overflow, Memory, Output}
-use Rattle.cli.specs.declared.errors.FixdecError.{FixdecError}
-use Rattle.cli.specs.declared.errors.FixdecError.TheVariants as fixdec
-use Rattle.cli.specs.declared.errors.FilterError.{FilterError}
-use Rattle.cli.specs.declared.errors.FilterError.TheVariants as filter
-use Rattle.cli.specs.declared.errors.PluralError.{PluralError}
-use Rattle.cli.specs.declared.errors.PluralError.TheVariants as plural
+use Rattle.cli.specs.declared.error.Reason.{Reason}
+use Rattle.cli.specs.declared.error.Reason.TheVariants.{Syntax, Limit}
+use Rattle.cli.specs.declared.error.OperationError.{OperationError}
+use Rattle.cli.specs.declared.error.OperationError.TheVariants.{Start, Operand, Overlap, Overflow, Memory, Output}
+use Rattle.cli.specs.declared.error.FixdecError.{FixdecError}
+use Rattle.cli.specs.declared.error.FixdecError.TheVariants as fixdec
+use Rattle.cli.specs.declared.error.FilterError.{FilterError}
+use Rattle.cli.specs.declared.error.FilterError.TheVariants as filter
+use Rattle.cli.specs.declared.error.PluralError.{PluralError}
+use Rattle.cli.specs.declared.error.PluralError.TheVariants as plural
 
 -- an error of a run as an error of the programs
 abbrev pub error_of_run : RunError → OperationError
@@ -73,6 +73,6 @@ error_of_rules (rules.Limit at) = plural.Rules at Limit
 error_of_rules rules.Memory = plural.Memory
 
 -- a reason as an error of the libraries
-abbrev pub reading_fault_of : Reason → ReadingFault
-reading_fault_of Syntax = syntax
-reading_fault_of Limit = limit
+abbrev pub read_error_of : Reason → ReadError
+read_error_of Syntax = syntax
+read_error_of Limit = limit

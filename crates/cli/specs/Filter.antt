@@ -3,11 +3,11 @@ use Rattle.std.specs.Prelude.{◌≡◌, ℕ, ⊤, Any, Bool, true, List, String
 use Rattle.std.specs.declared.alloc.Global.{Global}
 use Rattle.fixed_decimal.specs.declared.runs.Call.{Call}
 use Rattle.cli.specs.Words.{NameAll, IsUnknown}
-use Rattle.cli.specs.declared.errors.FilterError.{FilterError}
-use Rattle.cli.specs.declared.errors.FilterError.TheVariants.{Usage, Memory, Output}
+use Rattle.cli.specs.declared.error.FilterError.{FilterError}
+use Rattle.cli.specs.declared.error.FilterError.TheVariants.{Usage, Memory, Output}
 use Rattle.cli.specs.declared.filter.OnError.{OnError}
 use Rattle.cli.specs.Lines.{AppendsUnwritten, Filters}
-use Rattle.cli.specs.Steps.{IsSplit}
+use Rattle.cli.specs.FilterLine.{IsSplit}
 
 -- a word after the optional first word `skip` names no call
 abbrev pub IsUsage : List (String Global) → Type 0

@@ -3,16 +3,16 @@ use Rattle.std.specs.Prelude.{◌≡◌, ℕ, ◌<◌, ⊤, Bool, true, Any, Lis
 use Rattle.std.specs.Prelude.{Option, MatchOption, IsOkAnd}
 use Rattle.std.specs.Io.KnownBytes.{Appends, append_known}
 use Rattle.std.specs.declared.alloc.Global.{Global}
-use Rattle.decimal_digits.specs.Text.{AppendsPrefix}
-use Rattle.decimal_unsigned.specs.declared.decimal.TheConstants.{DIGITS_IN_PLACE}
+use Rattle.decimal_digits.specs.AppendsPrefix.{AppendsPrefix}
+use Rattle.decimal_unsigned.specs.declared.decimal.TheConstants.{INLINE_DIGITS}
 use Rattle.fixed_decimal.specs.declared.runs.Call.{Call}
 use Rattle.fixed_decimal.specs.declared.runs.RunError.{RunError}
 use Rattle.fixed_decimal.specs.Outcome.{outcome}
-use Rattle.fixed_decimal.specs.Errors.{RunRefuses}
+use Rattle.fixed_decimal.specs.Errors.{RunFails}
 use Rattle.cli.specs.Words.{NameAll, IsUnknown}
-use Rattle.cli.specs.declared.errors.OperationError.{OperationError}
-use Rattle.cli.specs.declared.errors.FixdecError.{FixdecError}
-use Rattle.cli.specs.declared.errors.FixdecError.TheVariants.{Usage, Memory, Operation}
+use Rattle.cli.specs.declared.error.OperationError.{OperationError}
+use Rattle.cli.specs.declared.error.FixdecError.{FixdecError}
+use Rattle.cli.specs.declared.error.FixdecError.TheVariants.{Usage, Memory, Operation}
 use Rattle.cli.specs.Errors.{error_of_run, output}
 
 -- there is no first word, or a word after it names no call
@@ -45,7 +45,7 @@ PrintsPrefix words old new = HasRun words (RunPrintsPrefix old new)
 -- a run fails with this error
 abbrev pub OperationsFail : OperationError → List ℕ → List Call → Type 0
 OperationsFail error bytes calls =
-    (why : RunError) × (error ≡ error_of_run why) × RunRefuses DIGITS_IN_PLACE why bytes calls
+    (why : RunError) × (error ≡ error_of_run why) × RunFails INLINE_DIGITS why bytes calls
 
 -- the error of the words: no first word, or a word that names no call; out of memory for the list of the calls, which
 -- is not empty; or the error of the run

@@ -6,5 +6,5 @@ pub mod Filter
 pub mod Fixdec
 pub mod Lines
 pub mod Plural
-pub mod Steps
+pub mod FilterLine
 pub mod Words

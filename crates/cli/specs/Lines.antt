@@ -2,18 +2,18 @@
 use Rattle.std.specs.Prelude.{◌≡◌, ◌≢◌, ℕ, ◌+◌, ◌==◌, if◌then◌else◌, List, [], ◌∷◌, ◌++◌, length, flat_map, Bool, true, ⊤, Option, Some, Result, Ok, Err, is_ok, IfSome, IsSomeAnd}
 use Rattle.std.specs.List.{FoldsTo, list_all, onto_first}
 use Rattle.std.specs.Io.KnownBytes.{Appends, append_known}
-use Rattle.decimal_digits.specs.Text.{AppendsPrefix}
+use Rattle.decimal_digits.specs.AppendsPrefix.{AppendsPrefix}
 use Rattle.decimal_unsigned.specs.Reading.{syntax, limit}
 use Rattle.fixed_decimal.specs.declared.runs.Call.{Call}
-use Rattle.fixed_decimal.specs.Outcome.{Refusal, outcome, start, operand, overlap, limit_exceeded}
-use Rattle.cli.specs.declared.errors.Reason.TheVariants as reason
-use Rattle.cli.specs.declared.errors.OperationError.{OperationError}
-use Rattle.cli.specs.declared.errors.OperationError.TheVariants as operation
-use Rattle.cli.specs.declared.errors.FilterError.{FilterError}
-use Rattle.cli.specs.declared.errors.FilterError.TheVariants.{Operation, LongLine, Input, Output}
+use Rattle.fixed_decimal.specs.Outcome.{OutcomeError, outcome, start, operand, overlap, limit_exceeded}
+use Rattle.cli.specs.declared.error.Reason.TheVariants as reason
+use Rattle.cli.specs.declared.error.OperationError.{OperationError}
+use Rattle.cli.specs.declared.error.OperationError.TheVariants as operation
+use Rattle.cli.specs.declared.error.FilterError.{FilterError}
+use Rattle.cli.specs.declared.error.FilterError.TheVariants.{Operation, LongLine, Input, Output}
 use Rattle.cli.specs.declared.filter.OnError.{OnError}
 use Rattle.cli.specs.declared.filter.OnError.TheVariants.{Stop}
-use Rattle.cli.specs.Steps.{IsErrorOfLine}
+use Rattle.cli.specs.FilterLine.{IsErrorOfLine}
 
 -- ---- The lines of an input.
 
@@ -37,7 +37,7 @@ AreFirst input lines = (left : Option (List ℕ)) × AreRead input lines left
 -- ---- The output and the errors of lines.
 
 -- the output of a line: its text and a line feed, or an empty line if its run fails
-abbrev pub output_of_line : Result (List ℕ) Refusal → List ℕ
+abbrev pub output_of_line : Result (List ℕ) OutcomeError → List ℕ
 output_of_line (Ok text) = text ++ (10 ∷ [])
 output_of_line (Err refusal) = 10 ∷ []
 
@@ -46,7 +46,7 @@ abbrev pub output_of : List Call → List (List ℕ) → List ℕ
 output_of calls lines = flat_map (λ line. output_of_line (outcome line calls)) lines
 
 -- an error of a run as an error of the programs
-abbrev pub error_of : Refusal → OperationError
+abbrev pub error_of : OutcomeError → OperationError
 error_of (start syntax) = operation.Start reason.Syntax
 error_of (start limit) = operation.Start reason.Limit
 error_of (operand at syntax) = operation.Operand at reason.Syntax
@@ -55,7 +55,7 @@ error_of (overlap at) = operation.Overlap at
 error_of (limit_exceeded at) = operation.Overflow at
 
 -- the errors of the line with this number: that of its run, and none if it has a text
-abbrev pub errors_of_line : ℕ → Result (List ℕ) Refusal → List FilterError
+abbrev pub errors_of_line : ℕ → Result (List ℕ) OutcomeError → List FilterError
 errors_of_line number (Ok text) = []
 errors_of_line number (Err refusal) = Operation number (error_of refusal) ∷ []
 

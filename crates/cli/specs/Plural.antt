@@ -3,11 +3,11 @@ use Rattle.std.specs.Prelude.{◌≡◌, ◌≢◌, ℕ, ◌<◌, ◌⊎◌, Boo
 use Rattle.std.specs.Io.KnownBytes.{append_known}
 use Rattle.std.specs.declared.alloc.Global.{Global}
 use Rattle.plural_rules.specs.declared.parse.RulesError.{RulesError}
-use Rattle.plural_rules.specs.Rules.{RuleParts}
+use Rattle.plural_rules.specs.Rules.{RuleValue}
 use Rattle.plural_rules.specs.RulesGrammar.{Grammar}
-use Rattle.plural_rules.specs.RulesRefusal.{Answers}
-use Rattle.cli.specs.declared.errors.PluralError.{PluralError}
-use Rattle.cli.specs.declared.errors.PluralError.TheVariants.{Usage, Memory, Output}
+use Rattle.plural_rules.specs.RulesParseResult.{IsParseResult}
+use Rattle.cli.specs.declared.error.PluralError.{PluralError}
+use Rattle.cli.specs.declared.error.PluralError.TheVariants.{Usage, Memory, Output}
 use Rattle.cli.specs.Errors.{error_of_rules}
 use Rattle.cli.specs.Categories.{PrintsAll, StopsAt}
 
@@ -18,15 +18,15 @@ HasTexts words P =
     × P (string_bytes first) texts
 
 -- the first word is rules, and P holds of these and of the other words, of which there is one at least
-abbrev pub HasRules : List (String Global) → (List RuleParts → List (String Global) → Type 0) → Type 0
+abbrev pub HasRules : List (String Global) → (List RuleValue → List (String Global) → Type 0) → Type 0
 HasRules words P =
-    HasTexts words (λ bytes texts. (rules : List RuleParts) × Grammar bytes rules × P rules texts)
+    HasTexts words (λ bytes texts. (rules : List RuleValue) × Grammar bytes rules × P rules texts)
 
 -- the error before a text is read: there are no rules or no texts, or the rules are rejected
 abbrev pub RulesFail : List (String Global) → PluralError → Type 0
 RulesFail words error =
     ((length words < 2) × (error ≡ Usage))
-    ⊎ HasTexts words (λ bytes _. (why : RulesError) × (error ≡ error_of_rules why) × Answers bytes (Err why))
+    ⊎ HasTexts words (λ bytes _. (why : RulesError) × (error ≡ error_of_rules why) × IsParseResult bytes (Err why))
 
 -- the categories of all texts are printed
 abbrev pub Prints : List (String Global) → Option (List ℕ) → Option (List ℕ) → Type 0

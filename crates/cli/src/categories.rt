@@ -1,19 +1,19 @@
 //! The plural categories of texts, printed one a line.
 ghost use Rattle.std.specs.Prelude.{◌≡◌, ◌≢◌, Ok, Err, IfOk, IfErr, OnOk, OnErr, IsOkAnd, true};
 ghost use Rattle.std.specs.Io.KnownBytes.{Appends};
-ghost use Rattle.decimal_digits.specs.Text.{AppendsPrefix};
-ghost use Rattle.decimal_unsigned.specs.Refusal.{ParseRefuses};
+ghost use Rattle.decimal_digits.specs.AppendsPrefix.{AppendsPrefix};
+ghost use Rattle.decimal_unsigned.specs.ParseResult.{ParseFails};
 ghost use Rattle.std.specs.List.{list_any};
-ghost use Rattle.decimal_unsigned.specs.declared.decimal.TheConstants.{DIGITS_IN_PLACE};
+ghost use Rattle.decimal_unsigned.specs.declared.decimal.TheConstants.{INLINE_DIGITS};
 ghost use Rattle.fixed_decimal.specs.Letters.{is_c};
 ghost use Rattle.fixed_decimal.specs.Compact.{read_compact, HasLongSignificand};
 ghost use Rattle.fixed_decimal.specs.DecimalText.{read_decimal, IsLong};
 ghost use Rattle.cli.specs.Categories.{category_of_compact, category_of_decimal};
-ghost use Rattle.cli.specs.Categories.{IsLongText, read_category, line_of};
+ghost use Rattle.cli.specs.Categories.{IsLongText, read_category, category_line};
 ghost use Rattle.cli.specs.Categories.{TextFails, PrintsAll, StopsAt};
-ghost use Rattle.cli.specs.declared.errors.PluralError.{PluralError};
+ghost use Rattle.cli.specs.declared.error.PluralError.{PluralError};
 
-use crate::errors::{PluralError, Reason};
+use crate::error::{PluralError, Reason};
 use fixed_decimal::{CompactDecimal, Decimal, ParseError, Sink, SinkFault};
 use plural_rules::{PluralCategory, PluralOperands, PluralRules};
 use std::alloc::Global;
@@ -33,8 +33,8 @@ fn category_of_compact(
 ) -> Result<PluralCategory, ParseError>
     ensures found { IfOk result (λ category.
         IsOkAnd (read_compact text.now) (λ v. category ≡ category_of_compact rules.now v)) }
-    ensures refused { IfErr result (λ error.
-        ParseRefuses (IsOkAnd (read_compact text.now) (HasLongSignificand DIGITS_IN_PLACE)) error
+    ensures fails_with { IfErr result (λ error.
+        ParseFails (IsOkAnd (read_compact text.now) (HasLongSignificand INLINE_DIGITS)) error
         (read_compact text.now)) }
 {
     let number = CompactDecimal::try_from_str(alloc, text)?;
@@ -49,8 +49,8 @@ fn category_of_decimal(
 ) -> Result<PluralCategory, ParseError>
     ensures found { IfOk result (λ category.
         IsOkAnd (read_decimal text.now) (λ v. category ≡ category_of_decimal rules.now v)) }
-    ensures refused { IfErr result (λ error.
-        ParseRefuses (IsOkAnd (read_decimal text.now) (IsLong DIGITS_IN_PLACE)) error (read_decimal text.now)) }
+    ensures fails_with { IfErr result (λ error.
+        ParseFails (IsOkAnd (read_decimal text.now) (IsLong INLINE_DIGITS)) error (read_decimal text.now)) }
 {
     let number = Decimal::try_from_str(alloc, text)?;
     Ok(rules.category(&PluralOperands::of_decimal(&number)))
@@ -59,8 +59,8 @@ fn category_of_decimal(
 /// Returns the category of a text by rules; a text with a `c` is a compact decimal, and any other a decimal.
 fn category(alloc: Global, rules: &PluralRules, text: &str) -> Result<PluralCategory, ParseError>
     ensures found { IfOk result (λ category. read_category rules.now text.now ≡ Ok category) }
-    ensures refused { IfErr result
-        (λ error. ParseRefuses (IsLongText text.now) error (read_category rules.now text.now)) }
+    ensures fails_with { IfErr result
+        (λ error. ParseFails (IsLongText text.now) error (read_category rules.now text.now)) }
 {
     if has_c(text) {
         category_of_compact(alloc, rules, text)
@@ -70,9 +70,9 @@ fn category(alloc: Global, rules: &PluralRules, text: &str) -> Result<PluralCate
 }
 
 /// Writes the name of a category and a line feed to a sink.
-fn print_line<W: Sink>(category: PluralCategory, sink: &mut W) -> Result<(), SinkFault>
-    ensures ok { OnOk result (Appends (W.contents sink.old) (W.contents sink.new) (line_of category)) }
-    ensures err { OnErr result (AppendsPrefix (W.contents sink.old) (W.contents sink.new) (line_of category)) }
+fn write_category_line<W: Sink>(category: PluralCategory, sink: &mut W) -> Result<(), SinkFault>
+    ensures ok { OnOk result (Appends (W.contents sink.old) (W.contents sink.new) (category_line category)) }
+    ensures err { OnErr result (AppendsPrefix (W.contents sink.old) (W.contents sink.new) (category_line category)) }
     ensures failed { OnErr result (W.has_failed sink.new ≡ true) }
 {
     sink.put_bytes(category.name().as_bytes())?;
@@ -88,15 +88,15 @@ fn print_category<W: Sink>(
     sink: &mut W,
 ) -> Result<(), PluralError>
     ensures printed { OnOk result (IsOkAnd (read_category rules.now text.now)
-        (λ category. Appends (W.contents sink.old) (W.contents sink.new) (line_of category))) }
+        (λ category. Appends (W.contents sink.old) (W.contents sink.new) (category_line category))) }
     ensures error { IfErr result (TextFails rules.now text.now number) }
-    ensures untouched { IfErr result (λ error. error ≢ PluralError.Output → sink.new ≡ sink.old) }
+    ensures unchanged_on_error { IfErr result (λ error. error ≢ PluralError.Output → sink.new ≡ sink.old) }
     ensures prefix { result ≡ Err PluralError.Output → IsOkAnd (read_category rules.now text.now)
-        (λ category. AppendsPrefix (W.contents sink.old) (W.contents sink.new) (line_of category)) }
+        (λ category. AppendsPrefix (W.contents sink.old) (W.contents sink.new) (category_line category)) }
     ensures failed { result ≡ Err PluralError.Output → W.has_failed sink.new ≡ true }
 {
     match category(alloc, rules, text) {
-        Ok(category) => Ok(print_line(category, sink)?),
+        Ok(category) => Ok(write_category_line(category, sink)?),
         Err(ParseError::Memory) => Err(PluralError::Memory),
         Err(ParseError::Syntax) => Err(PluralError::Text {
             number,

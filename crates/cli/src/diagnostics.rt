@@ -1,8 +1,8 @@
 //! Reports of errors.
 ghost use Rattle.std.specs.Prelude.{◌≡◌, ◌<◌, ◌≤◌, Bool, false, IfErr, OnOk};
-ghost use Rattle.cli.specs.Diagnostics.{IsLineOf, Reports};
+ghost use Rattle.cli.specs.Diagnostics.{IsErrorLine, Reports};
 
-use crate::errors::ProgramError;
+use crate::error::ProgramError;
 use arrayvec::ArrayString;
 use decimal_digits::sink::write_whole;
 use std::fmt::{Display, InlineText};
@@ -24,8 +24,8 @@ pub trait Diagnostics<E> {
 }
 
 /// Returns the text of an error, cut after 80 bytes, and a line feed.
-fn line_of<E: Display>(error: &E) -> Line
-    ensures { IsLineOf (E.output error.now) result.bytes }
+fn error_line<E: Display>(error: &E) -> Line
+    ensures { IsErrorLine (E.output error.now) result.bytes }
 {
     let text = InlineText::<80>::of(error);
     let mut line = Line::new();
@@ -61,7 +61,7 @@ impl<W: Write, E: Display> Diagnostics<E> for ErrorLines<'_, W> {
         (W.contents new.writer.now) new.has_failed };
 
     fn report(&mut self, error: &E) {
-        let line = line_of(error);
+        let line = error_line(error);
         if self.has_failed {
             return;
         }

@@ -3,13 +3,13 @@ ghost use Rattle.std.specs.Prelude.{◌≡◌, ◌≢◌, Ok, Err, true, is_ok, 
 ghost use Rattle.std.specs.List.{FoldsTo};
 ghost use Rattle.std.specs.Io.KnownBytes.{Appends, IsAtEnd};
 ghost use Rattle.std.specs.Io.BufRead.{strip_last};
-ghost use Rattle.decimal_digits.specs.Text.{AppendsPrefix};
+ghost use Rattle.decimal_digits.specs.AppendsPrefix.{AppendsPrefix};
 ghost use Rattle.fixed_decimal.specs.Outcome.{outcome};
 ghost use Rattle.cli.specs.Lines.{output_of_line, errors_of_line, Filters, IsConsumed};
-ghost use Rattle.cli.specs.Steps.{IsRead, IsErrorOfLine, IsErrorOfReading};
+ghost use Rattle.cli.specs.FilterLine.{IsRead, IsErrorOfLine, IsErrorOfReading};
 
 use crate::diagnostics::Diagnostics;
-use crate::errors::{FilterError, OperationError};
+use crate::error::{FilterError, OperationError};
 use crate::fixdec::print_run;
 use fixed_decimal::{Call, Sink};
 use std::alloc::Global;
@@ -61,7 +61,7 @@ fn error_of_reading(line: u64, error: &io::Error) -> FilterError
 
 /// Writes the text of the run of a line and a line feed, and returns whether it has a text. With `Skip` an error of the
 /// run is reported, and an empty line is written.
-fn print_line<W: Sink, D: Diagnostics<FilterError>>(
+fn filter_line<W: Sink, D: Diagnostics<FilterError>>(
     alloc: Global,
     on_error: OnError,
     number: u64,
@@ -78,7 +78,7 @@ fn print_line<W: Sink, D: Diagnostics<FilterError>>(
         × (on_error ≡ OnError.Stop → has_text ≡ true)) }
     ensures silent { result ≡ Ok true → diagnostics.new ≡ diagnostics.old }
     ensures error { IfErr result (IsErrorOfLine on_error number line.now calls.now) }
-    ensures untouched { IfErr result (λ error. error ≢ FilterError.Output →
+    ensures unchanged_on_error { IfErr result (λ error. error ≢ FilterError.Output →
         (out.new ≡ out.old) × (diagnostics.new ≡ diagnostics.old)) }
     ensures failed { result ≡ Err FilterError.Output → W.has_failed out.new ≡ true }
     ensures prefix { result ≡ Err FilterError.Output →
@@ -89,12 +89,12 @@ fn print_line<W: Sink, D: Diagnostics<FilterError>>(
         Err(OperationError::Output) => return Err(FilterError::Output),
         Err(error) => error,
     };
-    let is_refusal = error.status() == 1;
+    let is_rejected = error.status() == 1;
     let error = FilterError::Operation {
         line: number,
         error,
     };
-    if on_error == OnError::Stop || !is_refusal {
+    if on_error == OnError::Stop || !is_rejected {
         return Err(error);
     }
     diagnostics.report(&error);
@@ -141,7 +141,7 @@ pub fn filter_lines<R: BufRead, W: Sink, D: Diagnostics<FilterError>>(
             Ok(false) => return Ok(have_texts),
             Err(error) => return Err(error_of_reading(number, &error)),
         }
-        let has_text = print_line(
+        let has_text = filter_line(
             alloc,
             on_error,
             number,

@@ -1,7 +1,7 @@
 //! `fixdec TEXT [CALL]..`: reads a decimal, makes the calls in order, and prints the text of the result.
 ghost use Rattle.std.specs.Prelude.{◌≡◌, ◌≢◌, ◌≤◌, ◌<◌, Bool, true, false, Err, IfErr, IfSome, OnOk, IsSomeAnd};
 ghost use Rattle.std.specs.Process.{exit_status};
-ghost use Rattle.cli.specs.declared.errors.FixdecError.{FixdecError};
+ghost use Rattle.cli.specs.declared.error.FixdecError.{FixdecError};
 ghost use Rattle.cli.specs.Arguments.{HaveWords, ArgumentsFail};
 ghost use Rattle.cli.specs.Diagnostics.{Reports};
 ghost use Rattle.cli.specs.Errors.{status_of_fixdec, output};
@@ -11,7 +11,7 @@ ghost use Rattle.cli.specs.Fixdec.{RunPrints, RunPrintsPrefix, Prints, PrintsPre
 use crate::arguments::words;
 use crate::calls::parse_calls;
 use crate::diagnostics::conclude_on;
-use crate::errors::{FixdecError, OperationError};
+use crate::error::{FixdecError, OperationError};
 use crate::help::{CALLS, help};
 use crate::output::{Closed, abandon, close, open};
 use fixed_decimal::{Call, Out, Sink, SinkFault, run};
@@ -30,8 +30,8 @@ pub fn print_run<W: Sink>(
     sink: &mut W,
 ) -> Result<(), OperationError>
     ensures printed { OnOk result (RunPrints (W.contents sink.old) (W.contents sink.new) start.now calls.now) }
-    ensures fails { IfErr result (λ error. OperationsFail error start.now calls.now) }
-    ensures untouched { IfErr result (λ error. error ≢ OperationError.Output → sink.new ≡ sink.old) }
+    ensures fails_with { IfErr result (λ error. OperationsFail error start.now calls.now) }
+    ensures unchanged_on_error { IfErr result (λ error. error ≢ OperationError.Output → sink.new ≡ sink.old) }
     ensures failed { result ≡ Err OperationError.Output → W.has_failed sink.new ≡ true }
     ensures prefix { result ≡ Err OperationError.Output →
         RunPrintsPrefix (W.contents sink.old) (W.contents sink.new) start.now calls.now }
@@ -46,7 +46,7 @@ fn print<O: Write>(alloc: Global, words: &[String], out: &mut Out<O>) -> Result<
     ensures printed { OnOk result (Prints words.now (O.contents out.old.0) (O.contents out.new.0)) }
     ensures has_not_failed { OnOk result (out.new.1 ≡ false) }
     ensures error { IfErr result (HasError words.now) }
-    ensures untouched { IfErr result (λ error. error ≢ output → out.new ≡ out.old) }
+    ensures unchanged_on_error { IfErr result (λ error. error ≢ output → out.new ≡ out.old) }
     ensures failed { result ≡ Err output → out.new.1 ≡ true }
     ensures prefix { result ≡ Err output → PrintsPrefix words.now (O.contents out.old.0) (O.contents out.new.0) }
 {
@@ -91,7 +91,7 @@ pub fn program<O: Write, E: Write>(
         × (error ≢ output → out.new ≡ out.old)
         × (error ≡ output → (out.new.1 ≡ true)
         × PrintsPrefix words.now (O.contents out.old.0) (O.contents out.new.0)) }
-    ensures untouched { 0 < result → result < 3 → out.new ≡ out.old }
+    ensures unchanged_on_error { 0 < result → result < 3 → out.new ≡ out.old }
 {
     conclude_on(print(alloc, words, out), err)
 }
@@ -112,20 +112,20 @@ pub fn run_arguments<O: Write + Drop, E: Write>(
         × ((failed : Bool)
         × Reports (⟦<FixdecError as Display>⟧.output error) (E.contents err.old) false (E.contents err.new) failed)
         × (error ≢ output → IfSome result.1 (λ closed. closed ≡ (out, false))) }
-    ensures untouched { 0 < result.0 → result.0 < 3 → IfSome result.1 (λ closed. closed ≡ (out, false)) }
+    ensures unchanged_on_error { 0 < result.0 → result.0 < 3 → IfSome result.1 (λ closed. closed ≡ (out, false)) }
 {
     let words = match words(alloc, arguments, FixdecError::Usage, FixdecError::Memory) {
         Ok(words) => words,
         Err(error) => return (conclude_on(Err(error), err), Some(Closed::uncalled(out))),
     };
-    let Ok(mut blocks) = open(alloc, out) else {
+    let Ok(mut buffered) = open(alloc, out) else {
         return (conclude_on(Err(FixdecError::Memory), err), None);
     };
-    let status = program(alloc, words.as_slice(), &mut blocks, err);
+    let status = program(alloc, words.as_slice(), &mut buffered, err);
     if status != 0 {
-        return (status, Some(abandon(blocks)));
+        return (status, Some(abandon(buffered)));
     }
-    let closed = close(blocks);
+    let closed = close(buffered);
     if closed.has_failed() {
         return (
             conclude_on(Err(FixdecError::from(SinkFault)), err),

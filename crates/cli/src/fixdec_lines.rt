@@ -2,19 +2,19 @@
 ghost use Rattle.std.specs.Prelude.{◌≡◌, ◌≤◌, ◌<◌, ◌⊎◌, Ok, Err, true, false, IfErr, IfSome, OnOk, IsSomeAnd};
 ghost use Rattle.std.specs.Process.{exit_status};
 ghost use Rattle.std.specs.Io.Buffered.{writer_contents, writer_inner};
-ghost use Rattle.cli.specs.declared.errors.FilterError.{FilterError};
+ghost use Rattle.cli.specs.declared.error.FilterError.{FilterError};
 ghost use Rattle.cli.specs.Arguments.{HaveWords, ArgumentsFail};
 ghost use Rattle.cli.specs.Errors.{status_of_filter};
 ghost use Rattle.cli.specs.Filter.{IsEarly, WordsFilter, LinesFail};
-ghost use Rattle.cli.specs.Steps.{IsSplit};
+ghost use Rattle.cli.specs.FilterLine.{IsSplit};
 
 use crate::arguments::words;
 use crate::calls::parse_calls;
 use crate::diagnostics::{Diagnostics, ErrorLines, conclude};
-use crate::errors::FilterError;
+use crate::error::FilterError;
 use crate::filter::{OnError, filter_lines};
 use crate::help::{CALLS, help};
-use crate::output::{Blocks, Closed, abandon, close, open};
+use crate::output::{BufferedOut, Closed, abandon, close, open};
 use std::alloc::Global;
 use std::env::Args;
 use std::io::{BufReader, Read, Write};
@@ -39,35 +39,36 @@ fn filter_words<R: Read, O: Write + Drop, D: Diagnostics<FilterError>>(
     alloc: Global,
     words: &[String],
     input: &mut R,
-    mut blocks: Blocks<O>,
+    mut buffered: BufferedOut<O>,
     diagnostics: &mut D,
 ) -> (Result<bool, FilterError>, Closed<O>)
     ensures filtered { WordsFilter D.reports words.now (R.remaining input.old)
-        (writer_contents O.contents blocks.0) (O.contents result.1.0) diagnostics.old diagnostics.new result.0 }
+        (writer_contents O.contents buffered.0) (O.contents result.1.0) diagnostics.old diagnostics.new result.0 }
     ensures silent { result.0 ≡ Ok true → diagnostics.new ≡ diagnostics.old }
-    ensures works { OnOk result.0 (result.1.1 ≡ false) }
+    ensures has_not_failed { OnOk result.0 (result.1.1 ≡ false) }
     ensures failed { result.0 ≡ Err FilterError.Output → result.1.1 ≡ true }
-    ensures untouched { IfErr result.0 (λ error. IsEarly error → result.1 ≡ (writer_inner blocks.0, blocks.1)) }
+    ensures unchanged_on_error { IfErr result.0 (λ error. IsEarly error
+        → result.1 ≡ (writer_inner buffered.0, buffered.1)) }
     ensures unread { result.0 ≡ Err FilterError.Usage → input.new ≡ input.old }
 {
     let (on_error, words) = split_skip(words);
     let calls = match parse_calls(alloc, words) {
         Ok(Some(calls)) => calls,
-        Ok(None) => return (Err(FilterError::Usage), abandon(blocks)),
-        Err(_) => return (Err(FilterError::Memory), abandon(blocks)),
+        Ok(None) => return (Err(FilterError::Usage), abandon(buffered)),
+        Err(_) => return (Err(FilterError::Memory), abandon(buffered)),
     };
     let Ok(mut reader) = BufReader::with_capacity(alloc, BLOCK, input) else {
-        return (Err(FilterError::Memory), abandon(blocks));
+        return (Err(FilterError::Memory), abandon(buffered));
     };
     let filtered = filter_lines(
         alloc,
         on_error,
         calls.as_slice(),
         &mut reader,
-        &mut blocks,
+        &mut buffered,
         diagnostics,
     );
-    let closed = close(blocks);
+    let closed = close(buffered);
     if closed.has_failed() {
         return (Err(FilterError::Output), closed);
     }
@@ -105,7 +106,8 @@ pub fn run_arguments<R: Read, O: Write + Drop, D: Diagnostics<FilterError>>(
         (LinesFail D.reports O.contents (R.remaining input.old) out diagnostics.old before) error
         × D.reports before error diagnostics.new
         × (IsEarly error → IfSome result.1 (λ closed. closed ≡ (out, false)))) }
-    ensures untouched { result.0 ≡ 2 → (input.new ≡ input.old) × IfSome result.1 (λ closed. closed ≡ (out, false)) }
+    ensures unchanged_on_error { result.0 ≡ 2 → (input.new ≡ input.old)
+        × IfSome result.1 (λ closed. closed ≡ (out, false)) }
 {
     let words = match words(alloc, arguments, FilterError::Usage, FilterError::Memory) {
         Ok(words) => words,
@@ -114,10 +116,10 @@ pub fn run_arguments<R: Read, O: Write + Drop, D: Diagnostics<FilterError>>(
             Some(Closed::uncalled(out)),
         ),
     };
-    let Ok(blocks) = open(alloc, out) else {
+    let Ok(buffered) = open(alloc, out) else {
         return (conclude(Err(FilterError::Memory), diagnostics), None);
     };
-    match filter_words(alloc, words.as_slice(), input, blocks, diagnostics) {
+    match filter_words(alloc, words.as_slice(), input, buffered, diagnostics) {
         (Ok(true), closed) => (0, Some(closed)),
         (Ok(false), closed) => (1, Some(closed)),
         (Err(error), closed) => (conclude(Err(error), diagnostics), Some(closed)),

@@ -7,7 +7,7 @@ mod arguments;
 mod calls;
 mod categories;
 mod diagnostics;
-mod errors;
+mod error;
 mod filter;
 pub mod fixdec;
 pub mod fixdec_lines;
@@ -17,6 +17,6 @@ pub mod plural;
 
 pub use calls::parse_calls;
 pub use diagnostics::{Diagnostics, ErrorLines};
-pub use errors::{FilterError, FixdecError, OperationError, PluralError, ProgramError, Reason};
+pub use error::{FilterError, FixdecError, OperationError, PluralError, ProgramError, Reason};
 pub use filter::{OnError, filter_lines};
-pub use output::{Blocks, Closed, abandon, close, open};
+pub use output::{BufferedOut, Closed, abandon, close, open};

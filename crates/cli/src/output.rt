@@ -12,7 +12,7 @@ use std::marker::Model;
 const BLOCK: usize = 65_536;
 
 /// A sink that writes to a writer in blocks.
-pub type Blocks<O> = Out<BufWriter<O>>;
+pub type BufferedOut<O> = Out<BufWriter<O>>;
 
 /// A writer after its last call, and whether a call failed.
 #[derive(Drop)]
@@ -58,10 +58,10 @@ impl<O> Closed<O> {
 /// # Errors
 ///
 /// Out of memory; the writer is dropped.
-pub fn open<O: Write + Drop>(alloc: Global, out: O) -> Result<Blocks<O>, AllocError>
-    ensures inner { IfOk result (λ blocks. writer_inner blocks.0 ≡ out) }
-    ensures contents { IfOk result (λ blocks. writer_contents O.contents blocks.0 ≡ O.contents out) }
-    ensures works { IfOk result (λ blocks. blocks.1 ≡ false) }
+pub fn open<O: Write + Drop>(alloc: Global, out: O) -> Result<BufferedOut<O>, AllocError>
+    ensures inner { IfOk result (λ buffered. writer_inner buffered.0 ≡ out) }
+    ensures contents { IfOk result (λ buffered. writer_contents O.contents buffered.0 ≡ O.contents out) }
+    ensures has_not_failed { IfOk result (λ buffered. buffered.1 ≡ false) }
 {
     match BufWriter::with_capacity(alloc, BLOCK, out) {
         Ok(buffer) => Ok(Out::new(buffer)),
@@ -70,25 +70,25 @@ pub fn open<O: Write + Drop>(alloc: Global, out: O) -> Result<Blocks<O>, AllocEr
 }
 
 /// Drops the block, and does not call the writer.
-pub fn abandon<O: Write + Drop>(blocks: Blocks<O>) -> Closed<O>
-    ensures { result ≡ (writer_inner blocks.0, blocks.1) }
+pub fn abandon<O: Write + Drop>(buffered: BufferedOut<O>) -> Closed<O>
+    ensures { result ≡ (writer_inner buffered.0, buffered.1) }
 {
-    let has_failed = blocks.failed();
-    let (writer, _unwritten) = blocks.into_writer().into_parts();
+    let has_failed = buffered.failed();
+    let (writer, _unwritten) = buffered.into_writer().into_parts();
     Closed { writer, has_failed }
 }
 
 /// Writes what the block holds, and flushes. After a failed call the writer is not called again.
-pub fn close<O: Write + Drop>(mut blocks: Blocks<O>) -> Closed<O>
-    ensures written { result.1 ≡ false → Keeps (writer_contents O.contents blocks.0) (O.contents result.0) }
+pub fn close<O: Write + Drop>(mut buffered: BufferedOut<O>) -> Closed<O>
+    ensures written { result.1 ≡ false → Keeps (writer_contents O.contents buffered.0) (O.contents result.0) }
     ensures prefix { (missing : List ℕ)
-        × Keeps (writer_contents O.contents blocks.0) (append_known (O.contents result.0) missing) }
-    ensures stays { blocks.1 ≡ true → result.1 ≡ true }
+        × Keeps (writer_contents O.contents buffered.0) (append_known (O.contents result.0) missing) }
+    ensures stays_failed { buffered.1 ≡ true → result.1 ≡ true }
 {
-    if blocks.flush().is_err() {
-        return abandon(blocks);
+    if buffered.flush().is_err() {
+        return abandon(buffered);
     }
-    match blocks.into_writer().into_inner() {
+    match buffered.into_writer().into_inner() {
         Ok(writer) => Closed::uncalled(writer),
         Err(error) => {
             let (writer, _unwritten) = error.into_inner().into_parts();

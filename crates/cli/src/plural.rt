@@ -1,7 +1,7 @@
 //! `plural RULES TEXT..`: reads plural rules, and prints the category of each text on a line.
 ghost use Rattle.std.specs.Prelude.{◌≡◌, ◌<◌, ◌≤◌, IfOk, IfErr, OnOk, IsSomeAnd, false};
 ghost use Rattle.std.specs.Process.{exit_status};
-ghost use Rattle.cli.specs.declared.errors.PluralError.{PluralError};
+ghost use Rattle.cli.specs.declared.error.PluralError.{PluralError};
 ghost use Rattle.cli.specs.Arguments.{HaveWords, ArgumentsFail};
 ghost use Rattle.cli.specs.Errors.{status_of_plural};
 ghost use Rattle.cli.specs.Plural.{HasRules, RulesFail, Prints, PluralFails};
@@ -9,7 +9,7 @@ ghost use Rattle.cli.specs.Plural.{HasRules, RulesFail, Prints, PluralFails};
 use crate::arguments::words;
 use crate::categories::print_categories;
 use crate::diagnostics::{Diagnostics, ErrorLines, conclude};
-use crate::errors::PluralError;
+use crate::error::PluralError;
 use crate::help::{OPERANDS, help};
 use crate::output::{Closed, close, open};
 use plural_rules::PluralRules;
@@ -53,11 +53,11 @@ fn print<O: Write + Drop>(
         Ok(found) => found,
         Err(error) => return (Err(error), Some(Closed::uncalled(out))),
     };
-    let Ok(mut blocks) = open(alloc, out) else {
+    let Ok(mut buffered) = open(alloc, out) else {
         return (Err(PluralError::Memory), None);
     };
-    let printed = print_categories(alloc, &rules, texts, &mut blocks);
-    let closed = close(blocks);
+    let printed = print_categories(alloc, &rules, texts, &mut buffered);
+    let closed = close(buffered);
     if closed.has_failed() {
         return (Err(PluralError::Output), Some(closed));
     }

@@ -8,14 +8,14 @@ use std::process::Abort;
 use std::test::Fail;
 
 mod arguments;
-mod blocks;
+mod buffering;
 mod failing_writers;
-mod many;
+mod many_calls;
 mod prints;
-mod refuses;
+mod rejected;
 
 /// More bytes than most texts have.
-const ROOM: usize = 64;
+const CAPACITY: usize = 64;
 
 /// Returns the words of a line, which single blanks separate.
 fn words(alloc: Global, line: &str) -> Result<Vec<String>, Fail> {
@@ -28,7 +28,7 @@ fn words(alloc: Global, line: &str) -> Result<Vec<String>, Fail> {
 
 /// Returns the text on standard output without its line feed at status 0, and otherwise standard output, the status, a
 /// space and standard error, as `1 start: syntax` and a line feed.
-fn told(mut out: Vec<u8>, err: &[u8], status: u8) -> Result<Vec<u8>, Fail>
+fn transcript(mut out: Vec<u8>, err: &[u8], status: u8) -> Result<Vec<u8>, Fail>
     requires { status ≤ 3 }
 {
     if status == 0 && err.is_empty() && out.pop() == Some(b'\n') {
@@ -40,19 +40,19 @@ fn told(mut out: Vec<u8>, err: &[u8], status: u8) -> Result<Vec<u8>, Fail>
     Ok(out)
 }
 
-/// Runs the program, with room for `room` bytes on standard output.
-fn answered(alloc: Global, words: &[String], room: usize) -> Result<Vec<u8>, Fail> {
-    let mut err = Vec::<u8>::with_capacity(alloc, ROOM)?;
-    let mut out = Out::new(Vec::<u8>::with_capacity(alloc, room)?);
+/// Runs the program, with room for `capacity` bytes on standard output.
+fn output_of(alloc: Global, words: &[String], capacity: usize) -> Result<Vec<u8>, Fail> {
+    let mut err = Vec::<u8>::with_capacity(alloc, CAPACITY)?;
+    let mut out = Out::new(Vec::<u8>::with_capacity(alloc, capacity)?);
     let status = program(alloc, words, &mut out, &mut err);
-    told(out.into_writer(), err.as_slice(), status)
+    transcript(out.into_writer(), err.as_slice(), status)
 }
 
 /// Runs the program, and once more if it reports that it is out of memory.
-fn answer_of(alloc: Global, words: &[String], room: usize) -> Result<Vec<u8>, Fail> {
-    let answer = answered(alloc, words, room)?;
+fn output_with_retry(alloc: Global, words: &[String], capacity: usize) -> Result<Vec<u8>, Fail> {
+    let answer = output_of(alloc, words, capacity)?;
     if answer.as_slice() == b"3 memory\n".as_slice() {
-        return answered(alloc, words, room);
+        return output_of(alloc, words, capacity);
     }
     Ok(answer)
 }
@@ -60,7 +60,7 @@ fn answer_of(alloc: Global, words: &[String], room: usize) -> Result<Vec<u8>, Fa
 /// Runs the program on a line.
 fn shown(alloc: Global, line: &str) -> Result<Vec<u8>, Fail> {
     let words = words(alloc, line)?;
-    answer_of(alloc, words.as_slice(), ROOM)
+    output_with_retry(alloc, words.as_slice(), CAPACITY)
 }
 
 /// Asserts the output of a program.

@@ -2,10 +2,10 @@
 use std::alloc::Global;
 use std::test::Fail;
 
+mod chunked_input;
+mod long_input;
 mod outputs;
 mod pattern;
-mod pieces;
-mod sizes;
 mod slices;
 
 /// Returns the words of a line, which single blanks separate; the first is the program's name.

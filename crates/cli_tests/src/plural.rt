@@ -3,13 +3,13 @@ ghost use Rattle.std.specs.Prelude.{◌≤◌};
 
 use cli::ErrorLines;
 use cli::plural::run_arguments;
-use decimal_doubles::{FailingWriter, WriteFailure};
 use std::alloc::Global;
 use std::env::Args;
 use std::io;
 use std::io::ErrorKind;
 use std::process::Abort;
 use std::test::Fail;
+use test_support::{FailingWriter, WriteFailure};
 
 /// Words that bars separate, and what is printed: standard output, the status, a space and standard error.
 const LINES: &[(&str, &str)] = &[
@@ -42,7 +42,7 @@ fn arguments(alloc: Global, line: &str) -> Result<Args, Fail> {
 }
 
 /// Returns standard output, the status, a space and standard error.
-fn told(mut out: Vec<u8>, status: u8, err: &[u8]) -> Result<Vec<u8>, Fail>
+fn transcript(mut out: Vec<u8>, status: u8, err: &[u8]) -> Result<Vec<u8>, Fail>
     requires { status ≤ 3 }
 {
     out.push(b'0' + status)?;
@@ -57,7 +57,7 @@ fn printed(alloc: Global, arguments: io::Result<Args>) -> Result<Vec<u8>, Fail> 
     let mut lines = ErrorLines::new(&mut err);
     let (status, out) = run_arguments(alloc, arguments, Vec::<u8>::new(alloc), &mut lines);
     let out = out.map_or(Vec::new(alloc), |closed| closed.into_writer());
-    told(out, status, err.as_slice())
+    transcript(out, status, err.as_slice())
 }
 
 /// Asserts the output of a program.
@@ -90,15 +90,15 @@ fn reports_why_there_are_no_words(rt: HostRuntime) -> Result<(), Fail> {
 #[test]
 fn reports_a_failed_output(rt: HostRuntime) -> Result<(), Fail> {
     let alloc = rt.alloc();
-    for room in 0..10 {
+    for capacity in 0..10 {
         let arguments = arguments(alloc, "one: i = 1|1|2")?;
-        let writer = FailingWriter::new(b"one\nother\n", room, WriteFailure::Fault);
+        let writer = FailingWriter::new(b"one\nother\n", capacity, WriteFailure::StorageFull);
         let mut err = Vec::<u8>::new(alloc);
         let mut lines = ErrorLines::new(&mut err);
         let (status, out) = run_arguments(alloc, Ok(arguments), writer, &mut lines);
         assert_eq!(rt; status, 3);
         assert_eq!(rt; err.as_slice(), b"output\n".as_slice());
-        assert!(rt; out.is_some_and(|closed| closed.into_writer().has_taken(room)));
+        assert!(rt; out.is_some_and(|closed| closed.into_writer().has_taken(capacity)));
     }
     Ok(())
 }

@@ -10,14 +10,14 @@ use Rattle.std.specs.Str.Parse.{AllDigits}
 use Rattle.decimal_digits.specs.Digits.{text_of}
 
 -- a byte that writes a digit
-pub record Letter (byte : ℕ) : Type 0 where
+pub record AsciiDigit (byte : ℕ) : Type 0 where
   pub low : 48 ≤ byte
   pub high : byte ≤ 57
   pub value : digit_value byte + 48 ≡ byte
 
 -- each byte of a text of digits writes one
-pub letter_at : (text : List ℕ) (i : ℕ) → AllDigits 10 text → i < length text → Letter (get_or text i 0)
-letter_at text i all h =
+pub ascii_at : (text : List ℕ) (i : ℕ) → AllDigits 10 text → i < length text → AsciiDigit (get_or text i 0)
+ascii_at text i all h =
     let r = digit_at text i all h in
     record { low = r.0; high = r.1; value = digit_value_digit (get_or text i 0) r }
 
@@ -46,9 +46,9 @@ read_from text digits h read =
 pub read_decimal : (text : List ℕ) → AllDigits 10 text → All (λ d. d < 10) (map digit_value text)
 read_decimal text all k d h =
     let lt : k < length text = omega (arith, length-map text digit_value) in
-    let letter = letter_at text k all lt in
-    let value = letter.value in
-    let high = letter.high in
+    let ascii = ascii_at text k all lt in
+    let value = ascii.value in
+    let high = ascii.high in
     let e : get_or (map digit_value text) k d ≡ digit_value (get_or text k 0) = get_or-map digit_value text k 0 d lt in
     omega arith
 

@@ -4,7 +4,7 @@ use Rattle.std.specs.Prelude.{reverse}
 use Rattle.std.specs.Int.Digits.{digits_of}
 use Rattle.std.proofs.lemmas.List.{reverse-append, length-reverse}
 use Rattle.std.proofs.lemmas.Int.Digits.{digits_of_step, length-digits_of-le}
-use Rattle.decimal_digits.specs.Integer.{ascending_digits}
+use Rattle.decimal_digits.specs.AscendingDigits.{ascending_digits}
 
 -- the last digit, and then the digits of the rest
 pub ascending_digits-step : (n digit rest : ℕ) → 0 < n → digit ≡ n % 10 → rest ≡ n / 10

@@ -5,8 +5,8 @@ use Rattle.std.proofs.lemmas.List.{length-drop, length-take, length-take-le, len
 use Rattle.std.proofs.Math.Nat.{mul-le-mul_right}
 use Rattle.std.specs.Int.Digits.{AllBelowBase}
 use Rattle.decimal_digits.specs.Digits.{number_at}
-use Rattle.decimal_digits.specs.declared.rounding.tail.Tail.TheVariants.{BelowHalf, Half, AboveHalf}
-use Rattle.decimal_digits.specs.Tails.{leading, TailIs, HasDigits}
+use Rattle.decimal_digits.specs.declared.rounding.remainder.Remainder.TheVariants.{BelowHalf, Half, AboveHalf}
+use Rattle.decimal_digits.specs.Remainders.{leading, RemainderIs, HasDigits}
 use Rattle.decimal_digits.proofs.NumberAt.{powers, number_at-none, number_at-more, number_at-take, number_at-set, number_at-push, number_at-append, number_at-one, number_at-lt, number_at-ge, number_at-pos, nines_passed, nines_end}
 use Rattle.decimal_digits.proofs.DigitLists.{below_drop, below_take, ten_pos}
 
@@ -65,10 +65,10 @@ leading_two k ds h =
     omega (arith, leading_more k ds (omega arith))
 
 -- nines at the end of the first k digits, and one more, are one more in front of them
-pub nines_in_front : (n j k : ℕ) (ds : List ℕ) → j + n ≡ k → k ≤ length ds
+pub leading_nines : (n j k : ℕ) (ds : List ℕ) → j + n ≡ k → k ≤ length ds
     → ((i : ℕ) → k ≤ i + n → i < k → get_or ds i 0 ≡ 9)
     → number_at k (take j ds) + 10 ^ (k - j) ≡ leading k ds + 1
-nines_in_front n j k ds e h nine =
+leading_nines n j k ds e h nine =
     let xs = take k ds in
     let len : length xs ≡ k = length-take-le k ds h in
     let passed = nines_passed n j xs (omega arith)
@@ -146,25 +146,25 @@ module _ (k : ℕ) (ds : List ℕ) (p : 2 ≤ k) (h : k ≤ length ds + 1) where
 -- ---- what follows the first k digits
 module _ (top k : ℕ) (ds : List ℕ) (b : AllBelowBase 10 ds) (fits : length ds ≤ top) where
   -- nothing follows
-  pub behind_none : length ds ≤ k → number_at (top - k) (drop k ds) ≡ 0
-  behind_none h = number_at-none (top - k) (drop k ds) (omega (arith, length-drop k ds))
+  pub suffix_none : length ds ≤ k → number_at (top - k) (drop k ds) ≡ 0
+  suffix_none h = number_at-none (top - k) (drop k ds) (omega (arith, length-drop k ds))
 
   module _ (h : k < length ds) where
     -- the first of them, and the others
-    first_behind : number_at (top - k) (drop k ds)
+    suffix_first : number_at (top - k) (drop k ds)
         ≡ get_or ds k 0 * 10 ^ (top - (k + 1)) + number_at (top - (k + 1)) (drop (k + 1) ds)
-    first_behind =
+    suffix_first =
         let e : top - k - 1 ≡ top - (k + 1) = omega arith in
         ap (number_at (top - k)) (drop_more ds k 0 h)
         ∙ number_at-append (top - k) (get_or ds k 0 ∷ []) (drop (k + 1) ds) (omega (arith, length-drop (k + 1) ds))
         ∙ ap (λ n. n + number_at (top - k - 1) (drop (k + 1) ds)) (number_at-one (top - k) (get_or ds k 0))
         ∙ ap (λ i. get_or ds k 0 * 10 ^ i + number_at i (drop (k + 1) ds)) e
 
-    behind_lt : number_at (top - k) (drop k ds) < 10 ^ (top - k)
-    behind_lt = number_at-lt (top - k) (drop k ds) (below_drop 10 k ds b) (omega (arith, length-drop k ds))
+    suffix_lt : number_at (top - k) (drop k ds) < 10 ^ (top - k)
+    suffix_lt = number_at-lt (top - k) (drop k ds) (below_drop 10 k ds b) (omega (arith, length-drop k ds))
 
-    behind_pos : 0 < get_or ds (length ds - 1) 0 → 0 < number_at (top - k) (drop k ds)
-    behind_pos l =
+    suffix_pos : 0 < get_or ds (length ds - 1) 0 → 0 < number_at (top - k) (drop k ds)
+    suffix_pos l =
         let len : length (drop k ds) ≡ length ds - k = length-drop k ds in
         let last : get_or (drop k ds) (length (drop k ds) - 1) 0 ≡ get_or ds (length ds - 1) 0 =
         get_or-drop k ds (length (drop k ds) - 1) 0
@@ -174,23 +174,23 @@ module _ (top k : ℕ) (ds : List ℕ) (b : AllBelowBase 10 ds) (fits : length d
 -- the first of them tells on which side of half of the place above they are
 module _ (top k digit : ℕ) (ds : List ℕ) (b : AllBelowBase 10 ds) (fits : length ds ≤ top) (h : k < length ds)
     (is : digit ≡ get_or ds k 0) (back : 0 < get_or ds (length ds - 1) 0) where
-  abbrev place : ℕ
-  place = 10 ^ (top - (k + 1))
+  abbrev unit : ℕ
+  unit = 10 ^ (top - (k + 1))
 
   ten_places : 10 ^ (top - k) ≡ 10 ^ (top - (k + 1)) * 10
   ten_places = powers (top - (k + 1)) 1 (top - k) (omega arith)
 
   -- a first digit below 5 is less than half
-  pub below_half : digit < 5 → TailIs BelowHalf (number_at (top - k) (drop k ds)) (10 ^ (top - k))
+  pub below_half : digit < 5 → RemainderIs BelowHalf (number_at (top - k) (drop k ds)) (10 ^ (top - k))
   below_half l =
       let d : digit ≤ 4 = omega arith in
       let rest : number_at (top - (k + 1)) (drop (k + 1) ds) < 10 ^ (top - (k + 1)) =
       number_at-lt (top - (k + 1)) (drop (k + 1) ds) (below_drop 10 (k + 1) ds b)
       (omega (arith, length-drop (k + 1) ds)) in (
-        behind_pos top k ds b fits h back,
+        suffix_pos top k ds b fits h back,
         omega (
           arith,
-          first_behind top k ds b fits h,
+          suffix_first top k ds b fits h,
           ten_places,
           ap (λ v. v * 10 ^ (top - (k + 1))) is,
           mul-le-mul_right (10 ^ (top - (k + 1))) d,
@@ -198,27 +198,27 @@ module _ (top k digit : ℕ) (ds : List ℕ) (b : AllBelowBase 10 ds) (fits : le
       )
 
   -- a 5 alone is half
-  pub half : digit ≡ 5 → k + 1 ≡ length ds → TailIs Half (number_at (top - k) (drop k ds)) (10 ^ (top - k))
+  pub half : digit ≡ 5 → k + 1 ≡ length ds → RemainderIs Half (number_at (top - k) (drop k ds)) (10 ^ (top - k))
   half l e =
       omega (
         arith,
-        first_behind top k ds b fits h,
+        suffix_first top k ds b fits h,
         ten_places,
         ap (λ v. v * 10 ^ (top - (k + 1))) (sym is ∙ l),
-        behind_none top (k + 1) ds b fits (omega arith),
+        suffix_none top (k + 1) ds b fits (omega arith),
       )
 
   -- a first digit above 5, or a 5 that more follows, is more than half
   pub above_half : 5 ≤ digit → (digit ≡ 5 → k + 1 < length ds)
-      → TailIs AboveHalf (number_at (top - k) (drop k ds)) (10 ^ (top - k))
-  above_half l more = (over, behind_lt top k ds b fits h)
+      → RemainderIs AboveHalf (number_at (top - k) (drop k ds)) (10 ^ (top - k))
+  above_half l more = (over, suffix_lt top k ds b fits h)
     where
       over : 10 ^ (top - k) < 2 * number_at (top - k) (drop k ds)
       over = elim (cases_lt 5 digit) [
         | inl m ↦
             omega (
               arith,
-              first_behind top k ds b fits h,
+              suffix_first top k ds b fits h,
               ten_places,
               ap (λ v. v * 10 ^ (top - (k + 1))) is,
               mul-le-mul_right (10 ^ (top - (k + 1))) m,
@@ -227,10 +227,10 @@ module _ (top k digit : ℕ) (ds : List ℕ) (b : AllBelowBase 10 ds) (fits : le
         | inr m ↦ let five : digit ≡ 5 = omega arith in
             omega (
               arith,
-              first_behind top k ds b fits h,
+              suffix_first top k ds b fits h,
               ten_places,
               ap (λ v. v * 10 ^ (top - (k + 1))) (sym is ∙ five),
-              behind_pos top (k + 1) ds b fits (more five) back,
+              suffix_pos top (k + 1) ds b fits (more five) back,
             )
       ]
 

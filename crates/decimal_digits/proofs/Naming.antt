@@ -6,7 +6,7 @@ use Rattle.std.specs.Int.{abs_diff}
 use Rattle.std.proofs.Math.Nat.{mul-le-mul_right, div-add-mod', mod-lt}
 use Rattle.decimal_digits.specs.declared.rounding.UnsignedRoundingMode.{UnsignedRoundingMode}
 use Rattle.decimal_digits.specs.declared.rounding.UnsignedRoundingMode.TheVariants.{Expand, Trunc, HalfExpand, HalfTrunc, HalfEven}
-use Rattle.decimal_digits.specs.Rounding.{IsNearest, EachAsNear, Chooses, Named, below, above, rounded_number}
+use Rattle.decimal_digits.specs.Rounding.{IsNearest, AllTies, Chooses, Named, below, above, rounded_number}
 
 -- multiples of u are at least u apart
 apart : (u q k : ℕ) → (k * u ≤ q * u) ⊎ (q * u + u ≤ k * u)
@@ -31,17 +31,17 @@ module _ (u q r : ℕ) (l : r < u) where
   near_above h k = elim (apart u q k) [ inl a ↦ omega arith | inr a ↦ omega arith ]
 
   -- of those as near as the multiple below none is less, and of those as near as the one above none is greater
-  least_near : 2 * r ≤ u → EachAsNear u (q * u + r) (q * u) (λ other. q * u ≤ other)
+  least_near : 2 * r ≤ u → AllTies u (q * u + r) (q * u) (λ other. q * u ≤ other)
   least_near h k e = elim (apart u k q) [ inl a ↦ a | inr a ↦ absurd (omega arith) ]
 
-  greatest_near : u ≤ 2 * r → EachAsNear u (q * u + r) ((q + 1) * u) (λ other. other ≤ (q + 1) * u)
+  greatest_near : u ≤ 2 * r → AllTies u (q * u + r) ((q + 1) * u) (λ other. other ≤ (q + 1) * u)
   greatest_near h k e = elim (apart u (q + 1) k) [ inl a ↦ a | inr a ↦ absurd (omega arith) ]
 
   -- and there is no other but at half a unit
-  one_below : 2 * r < u → EachAsNear u (q * u + r) (q * u) (λ other. other ≡ q * u)
+  one_below : 2 * r < u → AllTies u (q * u + r) (q * u) (λ other. other ≡ q * u)
   one_below h k e = elim (apart u q k) [ inl a ↦ omega arith | inr a ↦ absurd (omega arith) ]
 
-  one_above : u < 2 * r → EachAsNear u (q * u + r) ((q + 1) * u) (λ other. other ≡ (q + 1) * u)
+  one_above : u < 2 * r → AllTies u (q * u + r) ((q + 1) * u) (λ other. other ≡ (q + 1) * u)
   one_above h k e = elim (apart u q k) [ inl a ↦ absurd (omega arith) | inr a ↦ omega arith ]
 
 -- ---- the remainder forms

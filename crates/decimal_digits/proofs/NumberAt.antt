@@ -6,7 +6,7 @@ use Rattle.std.proofs.lemmas.List.{take-append-drop, length-take-le, length-drop
 use Rattle.std.proofs.lemmas.Int.Digits.{number_lt}
 use Rattle.std.specs.Int.Digits.{number_from_digits, AllBelowBase}
 use Rattle.std.specs.Prelude.{ℤ}
-use Rattle.decimal_digits.specs.Number.{place}
+use Rattle.decimal_digits.specs.Number.{offset}
 use Rattle.decimal_digits.specs.Digits.{number_at, number_of}
 use Rattle.decimal_digits.proofs.DigitLists.{ten_pos, number-append, number_front, number_back}
 
@@ -185,4 +185,4 @@ number_at-pos top ds b p l =
 -- no digits are worth 0 at each magnitude
 pub number_of-none : (ds : List ℕ) (m : ℤ) → length ds ≡ 0 → number_of ds m ≡ 0
 unfolding number_of
-number_of-none ds m z = number_at-none (place m + 1) ds z
+number_of-none ds m z = number_at-none (offset m + 1) ds z

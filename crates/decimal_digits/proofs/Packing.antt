@@ -3,35 +3,35 @@ use Rattle.std.proofs.Common.{◌≡◌, ℕ, zero, suc, ◌+◌, ◌-◌, ◌*�
 use Rattle.std.proofs.lemmas.List.{length-append, length-take-le, length-drop, length-replicate, length-set, take_at, take-take, append-nil, append_assoc, drop-append-le, replicate-append-replicate, set-append_left, set_at, drop-drop, drop-take, length-take}
 use Rattle.std.specs.Prelude.{All}
 use Rattle.std.proofs.lemmas.Grind.{elements}
-use Rattle.decimal_digits.specs.Halves.{halves, digits_in, IsPacked}
-use Rattle.decimal_digits.specs.Packing.{Holds, IsHeld, length-halves, length_digits, halves-take, held_digits}
-use Rattle.decimal_digits.proofs.Halves.{halves-append, halves-drop, halves-zeros, same_bytes}
+use Rattle.decimal_digits.specs.Nibbles.{nibbles, digits_in, IsPacked}
+use Rattle.decimal_digits.specs.Packing.{Encodes, IsPackedPrefix, length-nibbles, length_digits, nibbles-take, packed_digits}
+use Rattle.decimal_digits.proofs.Nibbles.{nibbles-append, nibbles-drop, nibbles-zeros, same_bytes}
 
 -- digits that are the halves of the bytes, but for a zero behind an odd number of them, are those that the bytes hold
-pub holds : (bytes ds : List ℕ) (len : ℕ) → halves bytes ≡ ds ++ replicate (len % 2) 0 → length ds ≡ len
-    → All (λ d. d < 10) ds → Holds bytes len ds
-holds bytes ds len e n h =
+pub encodes : (bytes ds : List ℕ) (len : ℕ) → nibbles bytes ≡ ds ++ replicate (len % 2) 0 → length ds ≡ len
+    → All (λ d. d < 10) ds → Encodes bytes len ds
+encodes bytes ds len e n h =
     let t : digits_in bytes len ≡ ds = rw e (take_at ds (replicate (len % 2) 0) len n) in
     let c : 2 * length bytes ≡ len + len % 2 =
     omega (
       arith,
-      length-halves bytes,
+      length-nibbles bytes,
       ap length e,
       length-append ds (replicate (len % 2) 0),
       length-replicate {A = ℕ} (len % 2) 0,
     ) in
-    let u : halves bytes ≡ digits_in bytes len ++ replicate (len % 2) 0 = rw t e in
+    let u : nibbles bytes ≡ digits_in bytes len ++ replicate (len % 2) 0 = rw t e in
     record { packed = record { count = c; decimal = rw t h; unused = u }; digits = t }
 
 -- no bytes have no halves
-pub none : halves [] ≡ []
-unfolding halves
+pub none : nibbles [] ≡ []
+unfolding nibbles
 none = refl
 
 -- no bytes hold no digits
-pub holds_none : Holds [] 0 []
-unfolding halves
-holds_none = holds [] [] 0 refl refl (search rules)
+pub encodes_none : Encodes [] 0 []
+unfolding nibbles
+encodes_none = encodes [] [] 0 refl refl (search rules)
 
 -- ---- digits 0 to 9
 -- a digit written
@@ -82,127 +82,128 @@ clear_last (x ∷ xs) (suc count) h = ap (λ l. x ∷ l) (clear_last xs count (o
 -- ---- what each change of packed bytes leaves
 module _ (bs : List ℕ) (len : ℕ) (p : IsPacked bs len) where
   -- with an even number of digits no half is left over
-  even_halves : len % 2 ≡ 0 → halves bs ≡ digits_in bs len
-  even_halves m = p.unused ∙ ap (λ k. digits_in bs len ++ replicate k 0) m ∙ append-nil (digits_in bs len)
+  even_nibbles : len % 2 ≡ 0 → nibbles bs ≡ digits_in bs len
+  even_nibbles m = p.unused ∙ ap (λ k. digits_in bs len ++ replicate k 0) m ∙ append-nil (digits_in bs len)
 
   -- a digit is written
-  pub holds_set : (bs' : List ℕ) (index d : ℕ) → index < len → d < 10 → halves bs' ≡ set (halves bs) index d
-      → Holds bs' len (set (digits_in bs len) index d)
-  holds_set bs' index d h q e =
+  pub encodes_set : (bs' : List ℕ) (index d : ℕ) → index < len → d < 10 → nibbles bs' ≡ set (nibbles bs) index d
+      → Encodes bs' len (set (digits_in bs len) index d)
+  encodes_set bs' index d h q e =
       let n = length_digits bs len p in
       let l : index < length (digits_in bs len) = omega arith in
-      let s : set (halves bs) index d ≡ set (digits_in bs len) index d ++ replicate (len % 2) 0 =
+      let s : set (nibbles bs) index d ≡ set (digits_in bs len) index d ++ replicate (len % 2) 0 =
       ap (λ l. set l index d) p.unused ∙ set-append_left (digits_in bs len) (replicate (len % 2) 0) index d l in
-      holds bs' (set (digits_in bs len) index d) len (e ∙ s) (length-set (digits_in bs len) index d ∙ n)
+      encodes bs' (set (digits_in bs len) index d) len (e ∙ s) (length-set (digits_in bs len) index d ∙ n)
       (decimal_set (digits_in bs len) index d p.decimal q)
 
   -- a byte with a digit in its high half is appended
-  pub holds_push_even : (d : ℕ) → len % 2 ≡ 0 → d < 10
-      → Holds (bs ++ (d * 16) ∷ []) (len + 1) (digits_in bs len ++ d ∷ [])
-  unfolding halves
-  holds_push_even d h q =
+  pub encodes_push_even : (d : ℕ) → len % 2 ≡ 0 → d < 10
+      → Encodes (bs ++ (d * 16) ∷ []) (len + 1) (digits_in bs len ++ d ∷ [])
+  unfolding nibbles
+  encodes_push_even d h q =
       let n = length_digits bs len p in
       let a : d * 16 / 16 ≡ d = omega arith in
       let b : d * 16 % 16 ≡ 0 = omega arith in
       let m : (len + 1) % 2 ≡ 1 = omega arith in
-      let e : halves (bs ++ (d * 16) ∷ []) ≡ (digits_in bs len ++ d ∷ []) ++ replicate ((len + 1) % 2) 0 =
-      halves-append bs ((d * 16) ∷ [])
-      ∙ ap (λ l. l ++ (d * 16 / 16 ∷ (d * 16 % 16 ∷ []))) (even_halves h)
+      let e : nibbles (bs ++ (d * 16) ∷ []) ≡ (digits_in bs len ++ d ∷ []) ++ replicate ((len + 1) % 2) 0 =
+      nibbles-append bs ((d * 16) ∷ [])
+      ∙ ap (λ l. l ++ (d * 16 / 16 ∷ (d * 16 % 16 ∷ []))) (even_nibbles h)
       ∙ rw (a, b, m) (sym (append_assoc (digits_in bs len) (d ∷ []) (0 ∷ []))) in
-      holds (bs ++ (d * 16) ∷ []) (digits_in bs len ++ d ∷ []) (len + 1) e
+      encodes (bs ++ (d * 16) ∷ []) (digits_in bs len ++ d ∷ []) (len + 1) e
       (omega (arith, length-append (digits_in bs len) (d ∷ []))) (decimal_push (digits_in bs len) d p.decimal q)
 
   -- a digit is written into the half that was left over
-  pub holds_push_odd : (bs' : List ℕ) (d : ℕ) → len % 2 ≡ 1 → d < 10 → halves bs' ≡ set (halves bs) len d
-      → Holds bs' (len + 1) (digits_in bs len ++ d ∷ [])
-  holds_push_odd bs' d h q e =
+  pub encodes_push_odd : (bs' : List ℕ) (d : ℕ) → len % 2 ≡ 1 → d < 10 → nibbles bs' ≡ set (nibbles bs) len d
+      → Encodes bs' (len + 1) (digits_in bs len ++ d ∷ [])
+  encodes_push_odd bs' d h q e =
       let n = length_digits bs len p in
       let m : (len + 1) % 2 ≡ 0 = omega arith in
-      let f : halves bs ≡ digits_in bs len ++ 0 ∷ [] = p.unused ∙ ap (λ k. digits_in bs len ++ replicate k 0) h in
-      let s : set (halves bs) len d ≡ (digits_in bs len ++ d ∷ []) ++ replicate ((len + 1) % 2) 0 =
+      let f : nibbles bs ≡ digits_in bs len ++ 0 ∷ [] = p.unused ∙ ap (λ k. digits_in bs len ++ replicate k 0) h in
+      let s : set (nibbles bs) len d ≡ (digits_in bs len ++ d ∷ []) ++ replicate ((len + 1) % 2) 0 =
       ap (λ l. set l len d) f
       ∙ set_at (digits_in bs len) 0 [] d len n
       ∙ rw m (sym (append-nil (digits_in bs len ++ d ∷ []))) in
-      holds bs' (digits_in bs len ++ d ∷ []) (len + 1) (e ∙ s)
+      encodes bs' (digits_in bs len ++ d ∷ []) (len + 1) (e ∙ s)
       (omega (arith, length-append (digits_in bs len) (d ∷ []))) (decimal_push (digits_in bs len) d p.decimal q)
 
   -- the first bytes hold an even number of digits
-  pub holds_take_even : (count k : ℕ) → count ≤ len → count % 2 ≡ 0 → k ≡ (count + 1) / 2
-      → Holds (take k bs) count (take count (digits_in bs len))
-  holds_take_even count k h m e =
+  pub encodes_take_even : (count k : ℕ) → count ≤ len → count % 2 ≡ 0 → k ≡ (count + 1) / 2
+      → Encodes (take k bs) count (take count (digits_in bs len))
+  encodes_take_even count k h m e =
       let n = length_digits bs len p in
       let t : 2 * k ≡ count = omega arith in
-      let f : halves (take k bs) ≡ take count (digits_in bs len) ++ replicate (count % 2) 0 =
-      halves-take k bs
-      ∙ rw (t, m) (sym (append-nil (take count (digits_in bs len)) ∙ take-take count len (halves bs) h)) in
-      holds (take k bs) (take count (digits_in bs len)) count f (length-take-le count (digits_in bs len) (omega arith))
+      let f : nibbles (take k bs) ≡ take count (digits_in bs len) ++ replicate (count % 2) 0 =
+      nibbles-take k bs
+      ∙ rw (t, m) (sym (append-nil (take count (digits_in bs len)) ∙ take-take count len (nibbles bs) h)) in
+      encodes (take k bs) (take count (digits_in bs len)) count f
+      (length-take-le count (digits_in bs len) (omega arith))
       (decimal_take (digits_in bs len) count p.decimal)
 
   -- the first bytes hold an odd number of digits once their last half is 0
-  pub holds_take_odd : (bs' : List ℕ) (count k : ℕ) → count ≤ len → count % 2 ≡ 1 → k ≡ (count + 1) / 2
-      → halves bs' ≡ set (halves (take k bs)) count 0 → Holds bs' count (take count (digits_in bs len))
-  holds_take_odd bs' count k h m e g =
+  pub encodes_take_odd : (bs' : List ℕ) (count k : ℕ) → count ≤ len → count % 2 ≡ 1 → k ≡ (count + 1) / 2
+      → nibbles bs' ≡ set (nibbles (take k bs)) count 0 → Encodes bs' count (take count (digits_in bs len))
+  encodes_take_odd bs' count k h m e g =
       let n = length_digits bs len p in
       let t : 2 * k ≡ suc count = omega arith in
-      let lt : count < length (halves bs) = omega (arith, length-halves bs, p.count) in
-      let f : halves bs' ≡ take count (digits_in bs len) ++ replicate (count % 2) 0 =
-      g ∙ ap (λ l. set l count 0) (halves-take k bs)
-      ∙ ap (λ j. set (take j (halves bs)) count 0) t
-      ∙ clear_last (halves bs) count lt
-      ∙ rw m (ap (λ l. l ++ 0 ∷ []) (sym (take-take count len (halves bs) h))) in
-      holds bs' (take count (digits_in bs len)) count f (length-take-le count (digits_in bs len) (omega arith))
+      let lt : count < length (nibbles bs) = omega (arith, length-nibbles bs, p.count) in
+      let f : nibbles bs' ≡ take count (digits_in bs len) ++ replicate (count % 2) 0 =
+      g ∙ ap (λ l. set l count 0) (nibbles-take k bs)
+      ∙ ap (λ j. set (take j (nibbles bs)) count 0) t
+      ∙ clear_last (nibbles bs) count lt
+      ∙ rw m (ap (λ l. l ++ 0 ∷ []) (sym (take-take count len (nibbles bs) h))) in
+      encodes bs' (take count (digits_in bs len)) count f (length-take-le count (digits_in bs len) (omega arith))
       (decimal_take (digits_in bs len) count p.decimal)
 
   -- the bytes behind an even number of digits
-  pub holds_drop_even : (count : ℕ) → count ≤ len → count % 2 ≡ 0
-      → Holds (drop (count / 2) bs) (len - count) (drop count (digits_in bs len))
-  holds_drop_even count h m =
+  pub encodes_drop_even : (count : ℕ) → count ≤ len → count % 2 ≡ 0
+      → Encodes (drop (count / 2) bs) (len - count) (drop count (digits_in bs len))
+  encodes_drop_even count h m =
       let n = length_digits bs len p in
       let t : 2 * (count / 2) ≡ count = omega arith in
       let q : len % 2 ≡ (len - count) % 2 = omega arith in
-      let f : halves (drop (count / 2) bs) ≡ drop count (digits_in bs len) ++ replicate ((len - count) % 2) 0 =
-      halves-drop (count / 2) bs ∙ ap (λ j. drop j (halves bs)) t ∙ ap (drop count) p.unused
+      let f : nibbles (drop (count / 2) bs) ≡ drop count (digits_in bs len) ++ replicate ((len - count) % 2) 0 =
+      nibbles-drop (count / 2) bs ∙ ap (λ j. drop j (nibbles bs)) t ∙ ap (drop count) p.unused
       ∙ drop-append-le count (digits_in bs len) (replicate (len % 2) 0) (omega arith)
       ∙ ap (λ j. drop count (digits_in bs len) ++ replicate j 0) q in
-      holds (drop (count / 2) bs) (drop count (digits_in bs len)) (len - count) f
+      encodes (drop (count / 2) bs) (drop count (digits_in bs len)) (len - count) f
       (omega (arith, length-drop count (digits_in bs len))) (decimal_drop (digits_in bs len) count p.decimal)
 
   -- the bytes behind an odd number of digits, shifted by a half
-  pub holds_drop_odd : (bs' : List ℕ) (count k : ℕ) → count ≤ len → count % 2 ≡ 1 → k ≡ (len - count + 1) / 2
-      → halves bs' ≡ drop 1 (halves (drop (count / 2) bs)) ++ 0 ∷ []
-      → Holds (take k bs') (len - count) (drop count (digits_in bs len))
-  holds_drop_odd bs' count k h m e g =
+  pub encodes_drop_odd : (bs' : List ℕ) (count k : ℕ) → count ≤ len → count % 2 ≡ 1 → k ≡ (len - count + 1) / 2
+      → nibbles bs' ≡ drop 1 (nibbles (drop (count / 2) bs)) ++ 0 ∷ []
+      → Encodes (take k bs') (len - count) (drop count (digits_in bs len))
+  encodes_drop_odd bs' count k h m e g =
       let n = length_digits bs len p in
       let t : 2 * (count / 2) + 1 ≡ count = omega arith in
       let ds = digits_in bs len in
       let l : length (drop count ds) ≡ len - count = omega (arith, length-drop count ds) in
-      let a : drop 1 (halves (drop (count / 2) bs)) ≡ drop count ds ++ replicate (len % 2) 0 =
-      ap (drop 1) (halves-drop (count / 2) bs)
-      ∙ drop-drop 1 (2 * (count / 2)) (halves bs)
-      ∙ ap (λ j. drop j (halves bs)) t
+      let a : drop 1 (nibbles (drop (count / 2) bs)) ≡ drop count ds ++ replicate (len % 2) 0 =
+      ap (drop 1) (nibbles-drop (count / 2) bs)
+      ∙ drop-drop 1 (2 * (count / 2)) (nibbles bs)
+      ∙ ap (λ j. drop j (nibbles bs)) t
       ∙ ap (drop count) p.unused
       ∙ drop-append-le count ds (replicate (len % 2) 0) (omega arith) in
-      let b : halves bs' ≡ drop count ds ++ replicate (len % 2 + 1) 0 =
+      let b : nibbles bs' ≡ drop count ds ++ replicate (len % 2 + 1) 0 =
       g ∙ ap (λ l. l ++ 0 ∷ []) a ∙ append_assoc (drop count ds) (replicate (len % 2) 0) (0 ∷ [])
       ∙ ap (λ l. drop count ds ++ l) (replicate-append-replicate (len % 2) 1 0) in
       let w : 2 * k ≡ length (drop count ds) + (len - count) % 2 = omega arith in
-      let f : halves (take k bs') ≡ drop count ds ++ replicate ((len - count) % 2) 0 =
-      halves-take k bs' ∙ ap (take (2 * k)) b ∙ ap (λ j. take j (drop count ds ++ replicate (len % 2 + 1) 0)) w
+      let f : nibbles (take k bs') ≡ drop count ds ++ replicate ((len - count) % 2) 0 =
+      nibbles-take k bs' ∙ ap (take (2 * k)) b ∙ ap (λ j. take j (drop count ds ++ replicate (len % 2 + 1) 0)) w
       ∙ take_zeros (drop count ds) ((len - count) % 2) (len % 2 + 1) (omega arith) in
-      holds (take k bs') (drop count ds) (len - count) f l (decimal_drop ds count p.decimal)
+      encodes (take k bs') (drop count ds) (len - count) f l (decimal_drop ds count p.decimal)
 
   -- zero bytes are appended
-  pub holds_zeros : (zeros k : ℕ) → k ≡ (len + zeros + 1) / 2 - length bs
-      → Holds (bs ++ replicate k 0) (len + zeros) (digits_in bs len ++ replicate zeros 0)
-  holds_zeros zeros k e =
+  pub encodes_zeros : (zeros k : ℕ) → k ≡ (len + zeros + 1) / 2 - length bs
+      → Encodes (bs ++ replicate k 0) (len + zeros) (digits_in bs len ++ replicate zeros 0)
+  encodes_zeros zeros k e =
       let n = length_digits bs len p in
       let c = p.count in
       let ds = digits_in bs len in
       let start = len + zeros in
       let w : len % 2 + 2 * k ≡ zeros + start % 2 = omega arith in
-      let f : halves (bs ++ replicate k 0) ≡ (ds ++ replicate zeros 0) ++ replicate (start % 2) 0 =
-      halves-append bs (replicate k 0)
-      ∙ ap (λ l. halves bs ++ l) (halves-zeros k)
+      let f : nibbles (bs ++ replicate k 0) ≡ (ds ++ replicate zeros 0) ++ replicate (start % 2) 0 =
+      nibbles-append bs (replicate k 0)
+      ∙ ap (λ l. nibbles bs ++ l) (nibbles-zeros k)
       ∙ ap (λ l. l ++ replicate (2 * k) 0) p.unused
       ∙ append_assoc ds (replicate (len % 2) 0) (replicate (2 * k) 0)
       ∙ ap (λ l. ds ++ l)
@@ -210,49 +211,49 @@ module _ (bs : List ℕ) (len : ℕ) (p : IsPacked bs len) where
       ∙ ap (λ j. replicate j 0) w
       ∙ sym (replicate-append-replicate zeros (start % 2) 0))
       ∙ sym (append_assoc ds (replicate zeros 0) (replicate (start % 2) 0)) in
-      holds (bs ++ replicate k 0) (ds ++ replicate zeros 0) start f
+      encodes (bs ++ replicate k 0) (ds ++ replicate zeros 0) start f
       (omega (arith, length-append ds (replicate zeros 0), length-replicate {A = ℕ} zeros 0))
       (decimal_zeros ds zeros p.decimal)
 
   -- digits are appended behind an even number of them
-  pub holds_run : (bs' xs : List ℕ) → len % 2 ≡ 0 → All (λ d. d < 10) xs
-      → halves bs' ≡ halves bs ++ (xs ++ replicate (length xs % 2) 0)
-      → Holds bs' (len + length xs) (digits_in bs len ++ xs)
-  holds_run bs' xs m h g =
+  pub encodes_run : (bs' xs : List ℕ) → len % 2 ≡ 0 → All (λ d. d < 10) xs
+      → nibbles bs' ≡ nibbles bs ++ (xs ++ replicate (length xs % 2) 0)
+      → Encodes bs' (len + length xs) (digits_in bs len ++ xs)
+  encodes_run bs' xs m h g =
       let ds = digits_in bs len in
       let w : length xs % 2 ≡ (len + length xs) % 2 = omega arith in
-      let f : halves bs' ≡ (ds ++ xs) ++ replicate ((len + length xs) % 2) 0 =
-      g ∙ ap (λ l. l ++ (xs ++ replicate (length xs % 2) 0)) (even_halves m)
+      let f : nibbles bs' ≡ (ds ++ xs) ++ replicate ((len + length xs) % 2) 0 =
+      g ∙ ap (λ l. l ++ (xs ++ replicate (length xs % 2) 0)) (even_nibbles m)
       ∙ sym (append_assoc ds xs (replicate (length xs % 2) 0)) ∙ ap (λ k. (ds ++ xs) ++ replicate k 0) w in
-      holds bs' (ds ++ xs) (len + length xs) f (omega (arith, length-append ds xs, length_digits bs len p))
+      encodes bs' (ds ++ xs) (len + length xs) f (omega (arith, length-append ds xs, length_digits bs len p))
       (decimal_append ds xs p.decimal h)
 
   -- ---- two stores
   module _ (cs : List ℕ) (n : ℕ) (q : IsPacked cs n) where
     -- bytes behind an even number of digits
-    pub holds_append_even : len % 2 ≡ 0 → Holds (bs ++ cs) (len + n) (digits_in bs len ++ digits_in cs n)
-    holds_append_even m =
+    pub encodes_append_even : len % 2 ≡ 0 → Encodes (bs ++ cs) (len + n) (digits_in bs len ++ digits_in cs n)
+    encodes_append_even m =
         let es = digits_in cs n in
         let l : length es ≡ n = length_digits cs n q in
-        let u : halves cs ≡ es ++ replicate (length es % 2) 0 =
+        let u : nibbles cs ≡ es ++ replicate (length es % 2) 0 =
         q.unused ∙ ap (λ k. es ++ replicate (k % 2) 0) (sym l) in
-        subst (λ k. Holds (bs ++ cs) (len + k) (digits_in bs len ++ es)) l
-        (holds_run (bs ++ cs) es m q.decimal (halves-append bs cs ∙ ap (λ l. halves bs ++ l) u))
+        subst (λ k. Encodes (bs ++ cs) (len + k) (digits_in bs len ++ es)) l
+        (encodes_run (bs ++ cs) es m q.decimal (nibbles-append bs cs ∙ ap (λ l. nibbles bs ++ l) u))
 
     -- halves behind an odd number of digits
-    pub holds_append_odd : (bs' : List ℕ) → len % 2 ≡ 1
-        → halves bs' ≡ (take (2 * length bs - 1) (halves bs) ++ digits_in cs n) ++ replicate ((n + 1) % 2) 0
-        → Holds bs' (len + n) (digits_in bs len ++ digits_in cs n)
-    holds_append_odd bs' m g =
+    pub encodes_append_odd : (bs' : List ℕ) → len % 2 ≡ 1
+        → nibbles bs' ≡ (take (2 * length bs - 1) (nibbles bs) ++ digits_in cs n) ++ replicate ((n + 1) % 2) 0
+        → Encodes bs' (len + n) (digits_in bs len ++ digits_in cs n)
+    encodes_append_odd bs' m g =
         let c = p.count in
         let es = digits_in cs n in
         let w : (n + 1) % 2 ≡ (len + n) % 2 = omega arith in
         let b : 2 * length bs - 1 ≡ len = omega arith in
-        let f : halves bs' ≡ (digits_in bs len ++ es) ++ replicate ((len + n) % 2) 0 =
+        let f : nibbles bs' ≡ (digits_in bs len ++ es) ++ replicate ((len + n) % 2) 0 =
         g
-        ∙ ap (λ k. (take k (halves bs) ++ es) ++ replicate ((n + 1) % 2) 0) b
+        ∙ ap (λ k. (take k (nibbles bs) ++ es) ++ replicate ((n + 1) % 2) 0) b
         ∙ ap (λ k. (digits_in bs len ++ es) ++ replicate k 0) w in
-        holds bs' (digits_in bs len ++ es) (len + n) f
+        encodes bs' (digits_in bs len ++ es) (len + n) f
         (omega (arith, length-append (digits_in bs len) es, length_digits bs len p, length_digits cs n q))
         (decimal_append (digits_in bs len) es p.decimal q.decimal)
 
@@ -269,14 +270,14 @@ module _ (bs : List ℕ) (len : ℕ) (p : IsPacked bs len) where
         )
 
 -- a digit is written into the half that was left over, and digits are appended
-pub holds_run_odd : (bs : List ℕ) (len : ℕ) (p : IsPacked bs len) (mid bs' xs : List ℕ) (d : ℕ) → len % 2 ≡ 1
+pub encodes_run_odd : (bs : List ℕ) (len : ℕ) (p : IsPacked bs len) (mid bs' xs : List ℕ) (d : ℕ) → len % 2 ≡ 1
     → d < 10 → All (λ d. d < 10) xs
-    → halves mid ≡ set (halves bs) len d → halves bs' ≡ halves mid ++ (xs ++ replicate (length xs % 2) 0)
-    → Holds bs' (len + length (d ∷ xs)) (digits_in bs len ++ (d ∷ xs))
-holds_run_odd bs len p mid bs' xs d m q h e g =
-    let first = holds_push_odd bs len p mid d m q e in
+    → nibbles mid ≡ set (nibbles bs) len d → nibbles bs' ≡ nibbles mid ++ (xs ++ replicate (length xs % 2) 0)
+    → Encodes bs' (len + length (d ∷ xs)) (digits_in bs len ++ (d ∷ xs))
+encodes_run_odd bs len p mid bs' xs d m q h e g =
+    let first = encodes_push_odd bs len p mid d m q e in
     let even : (len + 1) % 2 ≡ 0 = omega arith in
-    let all = holds_run mid (len + 1) first.packed bs' xs even h g in
+    let all = encodes_run mid (len + 1) first.packed bs' xs even h g in
     let n : (len + 1) + length xs ≡ len + length (d ∷ xs) = omega arith in
     let l : digits_in mid (len + 1) ++ xs ≡ digits_in bs len ++ (d ∷ xs) =
     ap (λ l. l ++ xs) first.digits ∙ append_assoc (digits_in bs len) (d ∷ []) xs in
@@ -303,42 +304,43 @@ take_between xs n from count h =
 
 -- digits that lie between others
 pub digits_between : (bytes : List ℕ) (len from count : ℕ) → from + count ≤ length (digits_in bytes len)
-    → take count (drop from (halves bytes)) ≡ take count (drop from (digits_in bytes len))
-digits_between bytes len from count h = take_between (halves bytes) len from count h
+    → take count (drop from (nibbles bytes)) ≡ take count (drop from (digits_in bytes len))
+digits_between bytes len from count h = take_between (nibbles bytes) len from count h
 
 -- the digits of the first bytes, and of all, are the same where those are
 pub same_digits : (bs cs : List ℕ) (len n : ℕ) → len ≡ n → take ((len + 1) / 2) bs ≡ take ((n + 1) / 2) cs
     → digits_in bs len ≡ digits_in cs n
 same_digits bs cs len n k e =
-    sym (held_digits bs len) ∙ ap (λ l. digits_in l len) e ∙ ap (digits_in (take ((n + 1) / 2) cs)) k ∙ held_digits cs n
+    sym (packed_digits bs len) ∙ ap (λ l. digits_in l len) e ∙ ap (digits_in (take ((n + 1) / 2) cs)) k
+    ∙ packed_digits cs n
 
 -- up to eight bytes hold no digits
-pub held_none : (bs : List ℕ) → (8 < length bs → length bs ≡ 0) → IsHeld bs 0
-held_none bs many = record { front = holds_none.packed; many = many }
+pub packed_none : (bs : List ℕ) → (8 < length bs → length bs ≡ 0) → IsPackedPrefix bs 0
+packed_none bs many = record { front = encodes_none.packed; many = many }
 
-module _ (bs : List ℕ) (len : ℕ) (p : IsHeld bs len) where
+module _ (bs : List ℕ) (len : ℕ) (p : IsPackedPrefix bs len) where
   abbrev front : List ℕ
   front = take ((len + 1) / 2) bs
 
   -- the first bytes hold the digits
-  pub front_holds_digits : Holds (take ((len + 1) / 2) bs) len (digits_in bs len)
-  front_holds_digits = record { packed = p.front; digits = held_digits bs len }
+  pub prefix_encodes_digits : Encodes (take ((len + 1) / 2) bs) len (digits_in bs len)
+  prefix_encodes_digits = record { packed = p.front; digits = packed_digits bs len }
 
   -- a digit is written
-  pub held_set : (bs' : List ℕ) (index d : ℕ) → index < len → d < 10 → halves bs' ≡ set (halves bs) index d
-      → IsHeld bs' len × (digits_in bs' len ≡ set (digits_in bs len) index d)
-  held_set bs' index d h q e =
+  pub packed_set : (bs' : List ℕ) (index d : ℕ) → index < len → d < 10 → nibbles bs' ≡ set (nibbles bs) index d
+      → IsPackedPrefix bs' len × (digits_in bs' len ≡ set (digits_in bs len) index d)
+  packed_set bs' index d h q e =
       let k = (len + 1) / 2 in
-      let f : halves (take k bs') ≡ set (halves front) index d =
-      halves-take k bs'
+      let f : nibbles (take k bs') ≡ set (nibbles front) index d =
+      nibbles-take k bs'
       ∙ ap (take (2 * k)) e
-      ∙ take_written (halves bs) index (2 * k) d (omega arith)
-      ∙ ap (λ l. set l index d) (sym (halves-take k bs)) in
-      let w = holds_set front len p.front (take k bs') index d h q f in
+      ∙ take_written (nibbles bs) index (2 * k) d (omega arith)
+      ∙ ap (λ l. set l index d) (sym (nibbles-take k bs)) in
+      let w = encodes_set front len p.front (take k bs') index d h q f in
       let same : length bs' ≡ length bs =
-      omega (arith, length-halves bs, length-halves bs', ap length e, length-set (halves bs) index d) in (
+      omega (arith, length-nibbles bs, length-nibbles bs', ap length e, length-set (nibbles bs) index d) in (
         record { front = w.packed; many = λ m. same ∙ p.many (omega arith) },
-        sym (held_digits bs' len) ∙ w.digits ∙ ap (λ l. set l index d) (held_digits bs len),
+        sym (packed_digits bs' len) ∙ w.digits ∙ ap (λ l. set l index d) (packed_digits bs len),
       )
 
   -- the first bytes of the first
@@ -346,55 +348,55 @@ module _ (bs : List ℕ) (len : ℕ) (p : IsHeld bs len) where
   front_take count k h e = take-take k ((len + 1) / 2) bs (omega arith)
 
   -- the first bytes that stay hold an even number of digits
-  pub held_keep_even : (mid : List ℕ) (count : ℕ) → count ≤ len → count % 2 ≡ 0
+  pub packed_keep_even : (mid : List ℕ) (count : ℕ) → count ≤ len → count % 2 ≡ 0
       → take ((count + 1) / 2) mid ≡ take ((count + 1) / 2) bs
       → (8 < length mid → length mid ≡ (count + 1) / 2)
-      → IsHeld mid count × (digits_in mid count ≡ take count (digits_in bs len))
-  held_keep_even mid count h m e many =
+      → IsPackedPrefix mid count × (digits_in mid count ≡ take count (digits_in bs len))
+  packed_keep_even mid count h m e many =
       let k = (count + 1) / 2 in
-      let w = holds_take_even front len p.front count k h m refl in
+      let w = encodes_take_even front len p.front count k h m refl in
       let same : take k mid ≡ take k front = e ∙ sym (front_take count k h refl) in (
         record { front = rw same w.packed; many = many },
-        sym (held_digits mid count)
+        sym (packed_digits mid count)
             ∙ ap (λ l. digits_in l count) same
             ∙ w.digits
-            ∙ ap (take count) (held_digits bs len),
+            ∙ ap (take count) (packed_digits bs len),
       )
 
   -- the first bytes that stay hold an odd number of digits once their last half is 0
-  pub held_keep_odd : (mid bs' : List ℕ) (count : ℕ) → count ≤ len → count % 2 ≡ 1
+  pub packed_keep_odd : (mid bs' : List ℕ) (count : ℕ) → count ≤ len → count % 2 ≡ 1
       → take ((count + 1) / 2) mid ≡ take ((count + 1) / 2) bs
-      → (8 < length mid → length mid ≡ (count + 1) / 2) → halves bs' ≡ set (halves mid) count 0
-      → IsHeld bs' count × (digits_in bs' count ≡ take count (digits_in bs len))
-  held_keep_odd mid bs' count h m e many g =
+      → (8 < length mid → length mid ≡ (count + 1) / 2) → nibbles bs' ≡ set (nibbles mid) count 0
+      → IsPackedPrefix bs' count × (digits_in bs' count ≡ take count (digits_in bs len))
+  packed_keep_odd mid bs' count h m e many g =
       let k = (count + 1) / 2 in
-      let f : halves (take k bs') ≡ set (halves (take k front)) count 0 =
-      halves-take k bs'
+      let f : nibbles (take k bs') ≡ set (nibbles (take k front)) count 0 =
+      nibbles-take k bs'
       ∙ ap (take (2 * k)) g
-      ∙ take_written (halves mid) count (2 * k) 0 (omega arith)
-      ∙ ap (λ l. set l count 0) (sym (halves-take k mid) ∙ ap halves (e ∙ sym (front_take count k h refl))) in
-      let w = holds_take_odd front len p.front (take k bs') count k h m refl f in
+      ∙ take_written (nibbles mid) count (2 * k) 0 (omega arith)
+      ∙ ap (λ l. set l count 0) (sym (nibbles-take k mid) ∙ ap nibbles (e ∙ sym (front_take count k h refl))) in
+      let w = encodes_take_odd front len p.front (take k bs') count k h m refl f in
       let same : length bs' ≡ length mid =
-      omega (arith, length-halves mid, length-halves bs', ap length g, length-set (halves mid) count 0) in (
+      omega (arith, length-nibbles mid, length-nibbles bs', ap length g, length-set (nibbles mid) count 0) in (
         record { front = w.packed; many = λ l. same ∙ many (omega arith) },
-        sym (held_digits bs' count) ∙ w.digits ∙ ap (take count) (held_digits bs len),
+        sym (packed_digits bs' count) ∙ w.digits ∙ ap (take count) (packed_digits bs len),
       )
 
   -- the first bytes behind an even number of digits
-  pub held_drop_even : (count : ℕ) → count ≤ len → count % 2 ≡ 0
-      → Holds (drop (count / 2) (take ((len + 1) / 2) bs)) (len - count) (drop count (digits_in bs len))
-  held_drop_even count h m = rw (← held_digits bs len) (holds_drop_even front len p.front count h m)
+  pub packed_drop_even : (count : ℕ) → count ≤ len → count % 2 ≡ 0
+      → Encodes (drop (count / 2) (take ((len + 1) / 2) bs)) (len - count) (drop count (digits_in bs len))
+  packed_drop_even count h m = rw (← packed_digits bs len) (encodes_drop_even front len p.front count h m)
 
   -- the first bytes behind an odd number of digits, shifted by a half
-  pub held_drop_odd : (bs' : List ℕ) (count k : ℕ) → count ≤ len → count % 2 ≡ 1 → k ≡ (len - count + 1) / 2
-      → halves bs' ≡ drop 1 (halves (drop (count / 2) (take ((len + 1) / 2) bs))) ++ 0 ∷ []
-      → Holds (take k bs') (len - count) (drop count (digits_in bs len))
-  held_drop_odd bs' count k h m e g =
-      rw (← held_digits bs len) (holds_drop_odd front len p.front bs' count k h m e g)
+  pub packed_drop_odd : (bs' : List ℕ) (count k : ℕ) → count ≤ len → count % 2 ≡ 1 → k ≡ (len - count + 1) / 2
+      → nibbles bs' ≡ drop 1 (nibbles (drop (count / 2) (take ((len + 1) / 2) bs))) ++ 0 ∷ []
+      → Encodes (take k bs') (len - count) (drop count (digits_in bs len))
+  packed_drop_odd bs' count k h m e g =
+      rw (← packed_digits bs len) (encodes_drop_odd front len p.front bs' count k h m e g)
 
   -- the first bytes that hold the same digits are the same
-  pub same_front : (cs : List ℕ) (n : ℕ) → IsHeld cs n → digits_in bs len ≡ digits_in cs n
+  pub same_front : (cs : List ℕ) (n : ℕ) → IsPackedPrefix cs n → digits_in bs len ≡ digits_in cs n
       → (len ≡ n) × (take ((len + 1) / 2) bs ≡ take ((n + 1) / 2) cs)
   same_front cs n q e =
       same_store front len p.front (take ((n + 1) / 2) cs) n q.front
-      (held_digits bs len ∙ e ∙ sym (held_digits cs n))
+      (packed_digits bs len ∙ e ∙ sym (packed_digits cs n))

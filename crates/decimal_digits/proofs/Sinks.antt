@@ -3,7 +3,7 @@ use Rattle.std.proofs.Common.{◌≡◌, ℕ, ◌+◌, ◌-◌, ◌<◌, ◌⊎�
 use Rattle.std.proofs.lemmas.List.{append-nil, length-drop}
 use Rattle.std.proofs.Math.Seq.{take-add, take-length}
 use Rattle.std.specs.Io.KnownBytes.{Keeps, Appends}
-use Rattle.decimal_digits.specs.Text.{AppendsPrefix}
+use Rattle.decimal_digits.specs.AppendsPrefix.{AppendsPrefix}
 
 -- what is appended to what was appended
 pub appends_both : (a b c : Option (List ℕ)) (xs ys : List ℕ) → Appends a b xs → Appends b c ys → Appends a c (xs ++ ys)
@@ -25,23 +25,23 @@ appends_kept (Some a) (Some b) None xs p q = absurd q
 appends_kept (Some a) (Some b) (Some c) xs p q = q ∙ p
 
 -- a beginning of a text is one of a longer text
-pub part_more : (a b : Option (List ℕ)) (xs ys : List ℕ) → AppendsPrefix a b xs → AppendsPrefix a b (xs ++ ys)
-part_more a b xs ys (part, rest, e, p) = (part, rest ++ ys, sym (append_assoc part rest ys) ∙ ap (λ l. l ++ ys) e, p)
+pub prefix_more : (a b : Option (List ℕ)) (xs ys : List ℕ) → AppendsPrefix a b xs → AppendsPrefix a b (xs ++ ys)
+prefix_more a b xs ys (part, rest, e, p) = (part, rest ++ ys, sym (append_assoc part rest ys) ∙ ap (λ l. l ++ ys) e, p)
 
 -- a text, and then a beginning of the next
-pub then_part : (a b c : Option (List ℕ)) (xs ys : List ℕ) → Appends a b xs → AppendsPrefix b c ys
+pub then_prefix : (a b c : Option (List ℕ)) (xs ys : List ℕ) → Appends a b xs → AppendsPrefix b c ys
     → AppendsPrefix a c (xs ++ ys)
-then_part a b c xs ys q (part, rest, e, p) =
+then_prefix a b c xs ys q (part, rest, e, p) =
     (xs ++ part, rest, append_assoc xs part rest ∙ ap (λ l. xs ++ l) e, appends_both a b c xs part q p)
 
 -- nothing is a beginning of each text
-pub part_none : (a : Option (List ℕ)) (xs : List ℕ) → AppendsPrefix a a xs
-part_none a xs = ([], xs, (λ i. xs), appends_none a)
+pub prefix_none : (a : Option (List ℕ)) (xs : List ℕ) → AppendsPrefix a a xs
+prefix_none a xs = ([], xs, (λ i. xs), appends_none a)
 
 -- a text of which the first bytes were taken, and no more
-pub part_kept : (a b c : Option (List ℕ)) (i : ℕ) (xs : List ℕ) → Appends a b (take i xs) → Keeps b c
+pub prefix_kept : (a b c : Option (List ℕ)) (i : ℕ) (xs : List ℕ) → Appends a b (take i xs) → Keeps b c
     → AppendsPrefix a c xs
-part_kept a b c i xs p q = (take i xs, drop i xs, take-append-drop i xs, appends_kept a b c _ p q)
+prefix_kept a b c i xs p q = (take i xs, drop i xs, take-append-drop i xs, appends_kept a b c _ p q)
 
 -- all that is left is handed to a writer
 all_left : (t : ℕ) (bytes : List ℕ) → take (length bytes - t) (drop t bytes) ≡ drop t bytes

@@ -9,12 +9,12 @@ abbrev pub list_of : {D : Type 0} → Counted D → D
 list_of counted = counted.list.now
 
 -- the turns so far
-abbrev pub turns_of : {D : Type 0} → Counted D → ℕ
-turns_of counted = counted.steps.now.count
+abbrev pub accesses_of : {D : Type 0} → Counted D → ℕ
+accesses_of counted = counted.steps.now.count
 
 -- it lends this list and this count
-abbrev pub IsLent : {D : Type 0} → MutBor D → MutBor Steps → Counted D → Type 0
-IsLent list steps counted =
+abbrev pub Borrows : {D : Type 0} → MutBor D → MutBor Steps → Counted D → Type 0
+Borrows list steps counted =
     (counted.list.ghost_name ≡ list.ghost_name) × (counted.steps.ghost_name ≡ steps.ghost_name)
 
 -- the same list and the same count are lent, and no turn was taken back
@@ -22,9 +22,9 @@ abbrev pub Continues : {D : Type 0} → Counted D → Counted D → Type 0
 Continues old new =
     (new.list.ghost_name ≡ old.list.ghost_name)
     × (new.steps.ghost_name ≡ old.steps.ghost_name)
-    × (turns_of old ≤ turns_of new)
+    × (accesses_of old ≤ accesses_of new)
 
 -- the list is unchanged, after at most so many turns
 abbrev pub OnlyReads : {D : Type 0} → ℕ → Counted D → Counted D → Type 0
 OnlyReads most old new =
-    (list_of new ≡ list_of old) × (turns_of new ≤ turns_of old + most) × Continues old new
+    (list_of new ≡ list_of old) × (accesses_of new ≤ accesses_of old + most) × Continues old new

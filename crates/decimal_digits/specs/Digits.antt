@@ -1,7 +1,7 @@
 -- Lists of decimal digits, most significant first.
 use Rattle.std.specs.Prelude.{ℕ, ◌+◌, ◌-◌, ◌*◌, ◌^◌, ◌<◌, List, length, map, slice_index, ℤ}
 use Rattle.std.specs.Int.Digits.{number_from_digits}
-use Rattle.decimal_digits.specs.Number.{place}
+use Rattle.decimal_digits.specs.Number.{offset}
 
 -- what the digits are worth where the first is that of 10 ^ (top - 1)
 unfoldable pub number_at : ℕ → List ℕ → ℕ
@@ -9,7 +9,7 @@ number_at top digits = number_from_digits 10 digits * 10 ^ (top - length digits)
 
 -- what the digits are worth, in units, where the first stands at this magnitude
 unfoldable pub number_of : List ℕ → ℤ → ℕ
-number_of digits magnitude = number_at (place magnitude + 1) digits
+number_of digits magnitude = number_at (offset magnitude + 1) digits
 
 -- there is no 0 at either end
 pub record IsStripped (digits : List ℕ) : Type 0 where

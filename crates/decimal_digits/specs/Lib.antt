@@ -1,14 +1,14 @@
 -- What a reader has to believe.
 pub mod Number
 pub mod Digits
-pub mod Text
-pub mod Integer
+pub mod AppendsPrefix
+pub mod AscendingDigits
 pub mod Rounding
 pub mod Orders
 pub mod ErrorText
 pub mod Counted
-pub mod Left
-pub mod Halves
+pub mod RoundedDigits
+pub mod Nibbles
 -- Private: only the contracts of private functions speak of these.
-pub mod Tails
+pub mod Remainders
 pub mod Packing

@@ -11,13 +11,13 @@ abbrev pub highest_magnitude : ℤ
 highest_magnitude = pos 32767
 
 -- how far a magnitude lies above the lowest
-unfoldable pub place : ℤ → ℕ
-place (pos n) = 32768 + n
-place (negsuc n) = 32767 - n
+unfoldable pub offset : ℤ → ℕ
+offset (pos n) = 32768 + n
+offset (negsuc n) = 32767 - n
 
 -- what a 1 at a magnitude counts, in units
 abbrev pub weight : ℤ → ℕ
-weight m = 10 ^ place m
+weight m = 10 ^ offset m
 
 -- 10 to the 32768, which each number is below
 abbrev pub number_limit : ℕ
@@ -49,13 +49,13 @@ last (suc n) = magnitude_at (greatest (λ k. suc n % 10 ^ k == 0) 65536)
 -- what `first` means: a 1 at m is at most the number, and a 1 one place higher is more; m is 0 for the number 0
 pub record IsFirst (number : ℕ) (m : ℤ) : Type 0 where
   pub reaches : 0 < number → weight m ≤ number
-  pub less : 0 < number → number < 10 ^ (place m + 1)
+  pub less : 0 < number → number < 10 ^ (offset m + 1)
   pub none : number ≡ 0 → m ≡ pos 0
 
 -- what `last` means: a 1 at m divides the number, and no higher power of ten does; m is 0 for the number 0
 pub record IsLast (number : ℕ) (m : ℤ) : Type 0 where
   pub divides : 0 < number → number % weight m ≡ 0
-  pub highest : 0 < number → (k : ℕ) → place m < k → ¬ (number % 10 ^ k ≡ 0)
+  pub highest : 0 < number → (k : ℕ) → offset m < k → ¬ (number % 10 ^ k ≡ 0)
   pub none : number ≡ 0 → m ≡ pos 0
 
 -- how many digits there are from the first to the last, and none for the number 0

@@ -29,8 +29,8 @@ abbrev pub IsNearest : ℕ → ℕ → ℕ → Type 0
 IsNearest u n m = (k : ℕ) → abs_diff n m ≤ abs_diff n (k * u)
 
 -- each multiple of u that is as near to n as m has the property P
-abbrev pub EachAsNear : ℕ → ℕ → ℕ → (ℕ → Type 0) → Type 0
-EachAsNear u n m P = (k : ℕ) → abs_diff n (k * u) ≡ abs_diff n m → P (k * u)
+abbrev pub AllTies : ℕ → ℕ → ℕ → (ℕ → Type 0) → Type 0
+AllTies u n m P = (k : ℕ) → abs_diff n (k * u) ≡ abs_diff n m → P (k * u)
 
 -- for n the mode takes q times u:
 -- the greatest multiple that is not above n, the least that is not below n, or the nearest, where of two that are
@@ -38,9 +38,9 @@ EachAsNear u n m P = (k : ℕ) → abs_diff n (k * u) ≡ abs_diff n m → P (k 
 abbrev pub Chooses : UnsignedRoundingMode → ℕ → ℕ → ℕ → Type 0
 Chooses Trunc u n q = (q * u ≤ n) × ((k : ℕ) → k * u ≤ n → k * u ≤ q * u)
 Chooses Expand u n q = (n ≤ q * u) × ((k : ℕ) → n ≤ k * u → q * u ≤ k * u)
-Chooses HalfExpand u n q = IsNearest u n (q * u) × EachAsNear u n (q * u) (λ other. other ≤ q * u)
-Chooses HalfTrunc u n q = IsNearest u n (q * u) × EachAsNear u n (q * u) (λ other. q * u ≤ other)
-Chooses HalfEven u n q = IsNearest u n (q * u) × EachAsNear u n (q * u) (λ other. other ≢ q * u → q % 2 ≡ 0)
+Chooses HalfExpand u n q = IsNearest u n (q * u) × AllTies u n (q * u) (λ other. other ≤ q * u)
+Chooses HalfTrunc u n q = IsNearest u n (q * u) × AllTies u n (q * u) (λ other. q * u ≤ other)
+Chooses HalfEven u n q = IsNearest u n (q * u) × AllTies u n (q * u) (λ other. other ≢ q * u → q % 2 ≡ 0)
 
 -- m is the multiple of u that the mode names for n
 abbrev pub Named : UnsignedRoundingMode → ℕ → ℕ → ℕ → Type 0
@@ -79,6 +79,6 @@ pub record DigitRoundingNeedsMemory (increment : RoundingIncrement) (digits n fi
   pub full : fit ≤ digits
 
 -- why a number that is to become n is left as it was: n reaches the limit, or one digit more wants memory
-abbrev pub DigitRoundingRefuses : RoundError → RoundingIncrement → ℕ → ℕ → ℕ → Type 0
-DigitRoundingRefuses Limit increment digits n fit = number_limit ≤ n
-DigitRoundingRefuses Memory increment digits n fit = DigitRoundingNeedsMemory increment digits n fit
+abbrev pub DigitRoundingFails : RoundError → RoundingIncrement → ℕ → ℕ → ℕ → Type 0
+DigitRoundingFails Limit increment digits n fit = number_limit ≤ n
+DigitRoundingFails Memory increment digits n fit = DigitRoundingNeedsMemory increment digits n fit

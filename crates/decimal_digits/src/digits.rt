@@ -3,7 +3,7 @@ ghost use Rattle.std.specs.Prelude.{◌≡◌, ℕ, ◌+◌, ◌-◌, ◌<◌, �
 ghost use Rattle.std.specs.Char.{digit_value};
 ghost use Rattle.std.specs.Str.Parse.{AllDigits};
 ghost use Rattle.decimal_digits.specs.Digits.{text_of};
-ghost use Rattle.decimal_digits.specs.Halves.{digits_in, front_bytes, halves_number, IsPacked};
+ghost use Rattle.decimal_digits.specs.Nibbles.{digits_in, leading_bytes, bcd_number, IsPacked};
 
 mod counted;
 mod list;
@@ -13,7 +13,7 @@ mod steps;
 pub use counted::Counted;
 pub use list::DigitList;
 pub use packed::PackedDigits;
-use packed::half_at;
+use packed::nibble_at;
 use std::alloc::{AllocError, Global};
 pub use steps::Steps;
 
@@ -50,25 +50,25 @@ pub trait DigitStore: Drop {
     ///
     /// Requires at most sixteen digits, 0 to 9, and behind an odd number of them a 0. Of `0x2500_0000_0000_0000` the
     /// first two are 2 and 5. Err: memory was refused, which needs more than `L` digits.
-    fn from_halves(alloc: Global, number: u64, len: usize) -> Result<Self, AllocError>
-        requires { IsPacked (front_bytes number len) len }
-        ensures ok { IfOk result (λ s. digits s ≡ digits_in (front_bytes number len) len) }
+    fn from_bcd(alloc: Global, number: u64, len: usize) -> Result<Self, AllocError>
+        requires { IsPacked (leading_bytes number len) len }
+        ensures ok { IfOk result (λ s. digits s ≡ digits_in (leading_bytes number len) len) }
         ensures succeeds { len ≤ L → IsOk result }
     {
         let bytes = number.to_be_bytes();
         let mut list = Self::empty(alloc);
         list.reserve(len)?;
         for index in 0..len {
-            list.push_in_room(half_at(&bytes, index));
+            list.push_in_room(nibble_at(&bytes, index));
         }
         Ok(list)
     }
 
-    /// Gives the number in base 16 with sixteen places whose first digits these are, as `from_halves` takes it.
+    /// Gives the number in base 16 with sixteen places whose first digits these are, as `from_bcd` takes it.
     ///
     /// Of 2 and 5 it is `0x2500_0000_0000_0000`. None: there are more than sixteen digits.
-    fn to_halves(&self) -> Option<u64>
-        ensures number { IfSome result (λ number. number ≡ halves_number (digits self.now)) }
+    fn to_bcd(&self) -> Option<u64>
+        ensures number { IfSome result (λ number. number ≡ bcd_number (digits self.now)) }
         ensures at_most { IfSome result (λ number. length (digits self.now) ≤ 16) }
         ensures many { IfNone result (16 < length (digits self.now)) }
     {
@@ -105,24 +105,24 @@ pub trait DigitStore: Drop {
     /// Writes the digits from an index on as text, as many as there are places.
     ///
     /// Requires so many digits from the index on. Each place gets a byte from `b'0'` to `b'9'`.
-    fn copy_text(&self, from: usize, places: &mut [u8])
-        requires { from + length places.old ≤ length (digits self.now) }
-        ensures { places.new ≡ text_of (take (length places.old) (drop from (digits self.now))) }
+    fn copy_text(&self, from: usize, buffer: &mut [u8])
+        requires { from + length buffer.old ≤ length (digits self.now) }
+        ensures { buffer.new ≡ text_of (take (length buffer.old) (drop from (digits self.now))) }
     {
         let _at_least = self.len();
-        for (index, place) in places.iter_mut().enumerate() {
-            *place = b'0' + self.get(from + index);
+        for (index, slot) in buffer.iter_mut().enumerate() {
+            *slot = b'0' + self.get(from + index);
         }
     }
 
     /// Counts the digits at the end of the first `count` that equal a digit.
     ///
     /// Requires at least so many digits. Of 2, 5, 9 and 9 the first three end in one 9.
-    fn count_back(&self, count: usize, digit: u8) -> usize
+    fn count_trailing(&self, count: usize, digit: u8) -> usize
         requires { count ≤ length (digits self.now) }
         ensures within { result ≤ count }
         ensures equal { (k : ℕ) → count ≤ k + result → k < count → slice_index (digits self.now) k ≡ digit }
-        ensures stops { result < count → slice_index (digits self.now) (count - result - 1) ≢ digit }
+        ensures maximal { result < count → slice_index (digits self.now) (count - result - 1) ≢ digit }
     {
         for index in (0..count).rev() {
             if self.get(index) != digit {
@@ -159,8 +159,8 @@ pub trait DigitStore: Drop {
         ensures digits { digits self.new ≡ digits self.old ++ map digit_value text.now }
         ensures room { room self.old ≤ room self.new + length text.now }
     {
-        for letter in text {
-            self.push_in_room(*letter - b'0');
+        for ascii in text {
+            self.push_in_room(*ascii - b'0');
         }
     }
 
@@ -203,10 +203,10 @@ pub trait DigitStore: Drop {
         ensures { IsTrue result ↔ (digits self.now ≡ digits other.now) };
 
     /// The five digits of the longest `u16` need no allocation.
-    ghost enough: { 5 ≤ L };
+    ghost fits_u16: { 5 ≤ L };
 
     /// There is room up to `L` digits.
-    ghost roomy: { (s : Self) → L ≤ length (digits s) + room s };
+    ghost room_to_L: { (s : Self) → L ≤ length (digits s) + room s };
 
     /// The digits are 0 to 9.
     ghost are_digits: { (s : Self) → All (λ d. d < 10) (digits s) };

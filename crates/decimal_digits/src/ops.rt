@@ -6,7 +6,7 @@ ghost use Rattle.std.specs.Int.{int_max, int_min, int_gap};
 ///
 /// The sum may lie outside 16 bits: 32767 and 1 give 32768. Not in the original.
 #[inline]
-pub fn sum(a: i16, b: i16) -> i32
+pub fn add_magnitudes(a: i16, b: i16) -> i32
     ensures { result ≡ a +ℤ b }
 {
     a as i32 + b as i32
@@ -14,9 +14,9 @@ pub fn sum(a: i16, b: i16) -> i32
 
 /// Gives a magnitude that is known to fit as an `i16`.
 ///
-/// Requires -32768 to 32767: `narrowed(-5)` is -5. Not in the original.
+/// Requires -32768 to 32767: `to_magnitude(-5)` is -5. Not in the original.
 #[inline]
-pub fn narrowed(magnitude: i32) -> i16
+pub fn to_magnitude(magnitude: i32) -> i16
     requires low { negsuc 32767 ≤ℤ magnitude }
     requires high { magnitude ≤ℤ pos 32767 }
     ensures { result ≡ magnitude }
@@ -59,9 +59,9 @@ pub fn count_between(lo: i16, hi: i16) -> u32
 
 /// Gives the magnitude that lies `by` places below another.
 ///
-/// `lowered(2, 5)` is -3. Requires that the answer is at least -32768. Not in the original.
+/// `magnitude_below(2, 5)` is -3. Requires that the answer is at least -32768. Not in the original.
 #[inline]
-pub fn lowered(magnitude: i16, by: u32) -> i16
+pub fn magnitude_below(magnitude: i16, by: u32) -> i16
     requires { negsuc 32767 ≤ℤ (magnitude -ℤ pos by) }
     ensures { result ≡ magnitude -ℤ pos by }
 {
@@ -87,9 +87,9 @@ pub fn places_above(position: i16, magnitude: i16) -> Option<usize>
 
 /// Counts the magnitudes from a position up to 32767, both included.
 ///
-/// `room_above(32767)` is 1, and `room_above(-32768)` is 65,536. Not in the original.
+/// `max_places_above(32767)` is 1, and `max_places_above(-32768)` is 65,536. Not in the original.
 #[inline]
-pub fn room_above(position: i16) -> usize
+pub fn max_places_above(position: i16) -> usize
     ensures { (position +ℤ pos result) ≡ pos 32768 }
 {
     (32768 - position as i32) as usize
@@ -101,7 +101,7 @@ pub fn room_above(position: i16) -> usize
 #[inline]
 pub fn highest_of(position: i16, places: usize) -> i16
     requires some { 0 < places }
-    requires room { (position +ℤ pos places) ≤ℤ pos 32768 }
+    requires in_limits { (position +ℤ pos places) ≤ℤ pos 32768 }
     ensures { (result +ℤ pos 1) ≡ (position +ℤ pos places) }
 {
     (position as i64 + places as i64 - 1) as i16
@@ -135,9 +135,9 @@ pub fn index_of(first: i16, magnitude: i16) -> Option<usize>
 
 /// Subtracts one count of digits from another.
 ///
-/// `difference(2, 5)` is -3. Requires counts of at most 65,536. Not in the original.
+/// `subtract_counts(2, 5)` is -3. Requires counts of at most 65,536. Not in the original.
 #[inline]
-pub fn difference(a: usize, b: usize) -> i32
+pub fn subtract_counts(a: usize, b: usize) -> i32
     requires first_in { a ≤ 65536 }
     requires second_in { b ≤ 65536 }
     ensures { result ≡ pos a -ℤ pos b }
@@ -147,9 +147,9 @@ pub fn difference(a: usize, b: usize) -> i32
 
 /// Gives the magnitude that an exponent moves another to.
 ///
-/// `raised(2, -5)` is -3. Requires a magnitude and an exponent from -131,072 to 131,072. Not in the original.
+/// `shift_magnitude(2, -5)` is -3. Requires a magnitude and an exponent from -131,072 to 131,072. Not in the original.
 #[inline]
-pub fn raised(magnitude: i32, exponent: i32) -> i32
+pub fn shift_magnitude(magnitude: i32, exponent: i32) -> i32
     requires magnitude_in { (negsuc 131071 ≤ℤ magnitude) × (magnitude ≤ℤ pos 131072) }
     requires exponent_in { (negsuc 131071 ≤ℤ exponent) × (exponent ≤ℤ pos 131072) }
     ensures { result ≡ magnitude +ℤ exponent }

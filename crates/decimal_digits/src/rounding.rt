@@ -1,22 +1,22 @@
 //! Rounding of digits: modes, increments, and the call that rounds a list.
 ghost use Rattle.std.specs.Prelude.{◌≡◌, ◌≢◌, ◌+◌, ◌*◌, ◌<◌, ◌≤◌, ◌↔◌, length, pos, ◌+ℤ◌, ◌≤ℤ◌, IsErrOf, IfOk, IfErr, OnErr};
-ghost use Rattle.decimal_digits.specs.Counted.{list_of, turns_of, Continues, OnlyReads};
-ghost use Rattle.decimal_digits.specs.Number.{place, weight};
+ghost use Rattle.decimal_digits.specs.Counted.{list_of, accesses_of, Continues, OnlyReads};
+ghost use Rattle.decimal_digits.specs.Number.{offset, weight};
 ghost use Rattle.decimal_digits.specs.Digits.{number_at, number_of, IsStripped};
-ghost use Rattle.decimal_digits.specs.Rounding.{unit_at, Named, rounded_number, DigitRoundingRefuses};
-ghost use Rattle.decimal_digits.specs.Left.{Spells, IsAbove};
-ghost use Rattle.decimal_digits.specs.Tails.{leading, HasParts};
+ghost use Rattle.decimal_digits.specs.Rounding.{unit_at, Named, rounded_number, DigitRoundingFails};
+ghost use Rattle.decimal_digits.specs.RoundedDigits.{Represents, NoDigitsBelow};
+ghost use Rattle.decimal_digits.specs.Remainders.{leading, SplitsAs};
 
-mod ends;
-mod kept;
+mod carry;
+mod last_two;
 mod laws;
-mod tail;
-mod two;
+mod remainder;
+mod round_digits;
 
 use crate::digits::{Counted, DigitStore};
-use crate::ops::{highest_of, places_above, room_above};
-use kept::{round_kept, tail_after};
-use tail::Tail;
+use crate::ops::{highest_of, max_places_above, places_above};
+use remainder::Remainder;
+use round_digits::{remainder_after, round_leading};
 
 /// How a number that lies between two multiples is rounded to one of them.
 ///
@@ -64,24 +64,24 @@ pub enum RoundError {
 }
 
 /// Counts the places from a position up to the first digit, and compares what lies below them with half of a unit.
-fn parts_at<D: DigitStore>(
+fn split_at_position<D: DigitStore>(
     counted: &mut Counted<'_, D>,
     magnitude: i16,
     position: i16,
-) -> (usize, Tail)
+) -> (usize, Remainder)
     requires some { 0 < length (D.digits (list_of counted.old)) }
     requires stripped { IsStripped (D.digits (list_of counted.old)) }
-    requires fits { length (D.digits (list_of counted.old)) ≤ place magnitude + 1 }
-    ensures parts { let digits = D.digits (list_of counted.old) in
-        HasParts (number_of digits magnitude) (weight position) (leading result.0 digits) result.1 }
-    ensures exact { (result.1 ≡ Tail.Zero) ↔ (length (D.digits (list_of counted.old)) ≤ result.0) }
+    requires fits { length (D.digits (list_of counted.old)) ≤ offset magnitude + 1 }
+    ensures splits_as { let digits = D.digits (list_of counted.old) in
+        SplitsAs (number_of digits magnitude) (weight position) (leading result.0 digits) result.1 }
+    ensures exact { (result.1 ≡ Remainder.Zero) ↔ (length (D.digits (list_of counted.old)) ≤ result.0) }
     ensures at_most { result.0 ≤ 65536 }
-    ensures below_limit { 0 < result.0 → place position + result.0 ≤ 65536 }
+    ensures below_limit { 0 < result.0 → offset position + result.0 ≤ 65536 }
     ensures reads { OnlyReads 1 counted.old counted.new }
 {
     match places_above(position, magnitude) {
-        Some(keep) => (keep, tail_after(counted, keep)),
-        None => (0, Tail::BelowHalf),
+        Some(keep) => (keep, remainder_after(counted, keep)),
+        None => (0, Remainder::BelowHalf),
     }
 }
 
@@ -89,10 +89,10 @@ fn parts_at<D: DigitStore>(
 fn magnitude_after<D: DigitStore>(counted: &Counted<'_, D>, position: i16, places: usize) -> i16
     requires stripped { IsStripped (D.digits (list_of counted.now)) }
     requires fits { length (D.digits (list_of counted.now)) ≤ places }
-    requires room { (position +ℤ pos places) ≤ℤ pos 32768 }
-    ensures spells { Spells (D.digits (list_of counted.now)) result
+    requires in_limits { (position +ℤ pos places) ≤ℤ pos 32768 }
+    ensures represents { Represents (D.digits (list_of counted.now)) result
         (number_at places (D.digits (list_of counted.now)) * weight position) }
-    ensures above { IsAbove position (D.digits (list_of counted.now)) result }
+    ensures above { NoDigitsBelow position (D.digits (list_of counted.now)) result }
 {
     if counted.len() == 0 {
         0
@@ -121,33 +121,40 @@ pub fn round<D: DigitStore>(
     increment: RoundingIncrement,
 ) -> Result<i16, RoundError>
     requires stripped { IsStripped (D.digits (list_of counted.old)) }
-    requires fits { length (D.digits (list_of counted.old)) ≤ place magnitude + 1 }
+    requires fits { length (D.digits (list_of counted.old)) ≤ offset magnitude + 1 }
     ensures ok { let number = number_of (D.digits (list_of counted.old)) magnitude in
-        IfOk result (λ first. Spells (D.digits (list_of counted.new)) first
+        IfOk result (λ first. Represents (D.digits (list_of counted.new)) first
         (rounded_number mode (unit_at increment position) number)) }
-    ensures above { IfOk result (IsAbove position (D.digits (list_of counted.new))) }
+    ensures above { IfOk result (NoDigitsBelow position (D.digits (list_of counted.new))) }
     // That number is the one which the mode names among all multiples.
     ensures named { let number = number_of (D.digits (list_of counted.old)) magnitude in
         let unit = unit_at increment position in
         Named mode unit number (rounded_number mode unit number) }
 
     ensures err { OnErr result (D.digits (list_of counted.new) ≡ D.digits (list_of counted.old)) }
-    ensures refused { let number = number_of (D.digits (list_of counted.old)) magnitude in
-        IfErr result (λ e. DigitRoundingRefuses e increment (length (D.digits (list_of counted.old)))
+    ensures fails_with { let number = number_of (D.digits (list_of counted.old)) magnitude in
+        IfErr result (λ e. DigitRoundingFails e increment (length (D.digits (list_of counted.old)))
         (rounded_number mode (unit_at increment position) number) D.L) }
     ensures succeeds { increment ≢ RoundingIncrement.MultiplesOf25 → IsErrOf result RoundError.Memory → ⊥ }
 
-    ensures turns { (IsErrOf result RoundError.Limit → ⊥)
-        → turns_of counted.new + length (D.digits (list_of counted.new))
-        ≤ turns_of counted.old + length (D.digits (list_of counted.old)) + 7 }
-    ensures limit_turns { IsErrOf result RoundError.Limit
-        → turns_of counted.new ≤ turns_of counted.old + length (D.digits (list_of counted.old)) + 7 }
-    ensures lent { Continues counted.old counted.new }
+    ensures accesses { (IsErrOf result RoundError.Limit → ⊥)
+        → accesses_of counted.new + length (D.digits (list_of counted.new))
+        ≤ accesses_of counted.old + length (D.digits (list_of counted.old)) + 7 }
+    ensures limit_accesses { IsErrOf result RoundError.Limit
+        → accesses_of counted.new ≤ accesses_of counted.old + length (D.digits (list_of counted.old)) + 7 }
+    ensures borrows { Continues counted.old counted.new }
 {
     if counted.len() == 0 {
         return Ok(0);
     }
-    let (keep, tail) = parts_at(counted, magnitude, position);
-    let places = round_kept(counted, keep, room_above(position), tail, mode, increment)?;
+    let (keep, remainder) = split_at_position(counted, magnitude, position);
+    let places = round_leading(
+        counted,
+        keep,
+        max_places_above(position),
+        remainder,
+        mode,
+        increment,
+    )?;
     Ok(magnitude_after(counted, position, places))
 }

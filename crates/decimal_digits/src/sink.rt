@@ -1,7 +1,7 @@
 //! What takes the bytes of a text, and what has a text.
 ghost use Rattle.std.specs.Prelude.{◌≡◌, ℕ, List, [], ◌∷◌, length, Option, OnOk, OnErr, Bool, true, false};
 ghost use Rattle.std.specs.Io.KnownBytes.{Keeps, Appends};
-ghost use Rattle.decimal_digits.specs.Text.{AppendsPrefix};
+ghost use Rattle.decimal_digits.specs.AppendsPrefix.{AppendsPrefix};
 
 mod out;
 mod text_buf;
@@ -51,7 +51,7 @@ pub trait Sink {
         ensures has_not_failed { OnOk result (has_failed self.new ≡ false) }
         ensures prefix { OnErr result (AppendsPrefix (contents self.old) (contents self.new) bytes.now) }
         ensures failed { OnErr result (has_failed self.new ≡ true) }
-        ensures stays { has_failed self.old ≡ true → Keeps (contents self.old) (contents self.new) }
+        ensures unchanged { has_failed self.old ≡ true → Keeps (contents self.old) (contents self.new) }
     {
         if self.failed() {
             return Err(SinkFault);
@@ -79,7 +79,7 @@ pub trait Writeable {
         ensures err { OnErr result (AppendsPrefix (W.contents sink.old) (W.contents sink.new) (text self.now)) }
         ensures had_not_failed { OnOk result (W.has_failed sink.old ≡ false) }
         ensures failed { OnErr result (W.has_failed sink.new ≡ true) }
-        ensures stays { W.has_failed sink.old ≡ true → Keeps (W.contents sink.old) (W.contents sink.new) };
+        ensures unchanged { W.has_failed sink.old ≡ true → Keeps (W.contents sink.old) (W.contents sink.new) };
 
     /// Counts the bytes of the text, exactly.
     fn writeable_length_hint(&self) -> usize

@@ -1,7 +1,7 @@
 //! The decimal digits of an unsigned integer, the last one first.
 ghost use Rattle.std.specs.Prelude.{◌≡◌, ℕ, ◌/◌, ◌%◌, ◌^◌, ◌<◌, ◌≤◌, length, IfNone, IfSome};
 ghost use Rattle.std.specs.Iterator.{YieldsFirst, item_count};
-ghost use Rattle.decimal_digits.specs.Integer.{ascending_digits};
+ghost use Rattle.decimal_digits.specs.AscendingDigits.{ascending_digits};
 
 use std::marker::Model;
 
@@ -36,7 +36,7 @@ pub struct IntIterator<T: UnsignedInteger> {
 
 impl<T: UnsignedInteger> Model for IntIterator<T> {
     ghost use Rattle.std.specs.Prelude.{ℕ, List};
-    ghost use Rattle.decimal_digits.specs.Integer.{ascending_digits};
+    ghost use Rattle.decimal_digits.specs.AscendingDigits.{ascending_digits};
 
     ghost Value = { List ℕ };
 

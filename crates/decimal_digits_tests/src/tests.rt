@@ -4,21 +4,21 @@ use decimal_digits::digits::{DigitList, DigitStore, PackedDigits};
 use std::alloc::{AllocError, Global};
 use std::test::Fail;
 
+mod bcd;
 mod bulk;
 mod changes;
 mod copies;
 mod counted;
 mod errors;
-mod halves;
 mod modes;
 mod sinks;
 
 /// Makes the list of a text's digits, one at a time.
 fn list_of<D: DigitStore>(alloc: Global, text: &[u8]) -> Result<D, AllocError> {
     let mut list = D::empty(alloc);
-    for letter in text {
+    for ascii in text {
         list.reserve(1)?;
-        list.push_in_room(*letter % 16 % 10);
+        list.push_in_room(*ascii % 16 % 10);
     }
     Ok(list)
 }

@@ -1,5 +1,5 @@
 -- The digits of a value in a block of its text.
-use Rattle.decimal_unsigned.proofs.Common.{◌≡◌, ℕ, ◌+◌, ◌-◌, ◌<◌, ◌≤◌, List, ◌∷◌, ◌++◌, length, get_or, take, drop, replicate, sym, ◌∙◌, ap, arith, inl, inr, min, ℤ, pos, negsuc, ◌+ℤ◌, ◌-ℤ◌, ◌≤ℤ◌, ◌<ℤ◌, Option, None, Some, unwrap_or, int_gap, ints, cases_lt, get_or-take, get_or-drop, length-append, length-take-le, length-drop, length-map, place, digit, number_of, place_is, gap_is, IsStored, length-replicate}
+use Rattle.decimal_unsigned.proofs.Common.{◌≡◌, ℕ, ◌+◌, ◌-◌, ◌<◌, ◌≤◌, List, ◌∷◌, ◌++◌, length, get_or, take, drop, replicate, sym, ◌∙◌, ap, arith, inl, inr, min, ℤ, pos, negsuc, ◌+ℤ◌, ◌-ℤ◌, ◌≤ℤ◌, ◌<ℤ◌, Option, None, Some, unwrap_or, int_gap, ints, cases_lt, get_or-take, get_or-drop, length-append, length-take-le, length-drop, length-map, offset, digit, number_of, offset_is, gap_is, IsStored, length-replicate}
 use Rattle.std.specs.Prelude.{IfSome, IfNone}
 use Rattle.std.proofs.Math.ListN.{get_or-append}
 use Rattle.std.proofs.lemmas.List.{get_or-append_right, get_or-replicate, get_or-map, take-replicate, drop-replicate}
@@ -25,8 +25,8 @@ module _ (a k : ℕ) (xs ys : List ℕ) (fits : a + k ≤ length xs) (full : len
       get_or-append_right (take a xs) (ys ++ drop k (drop a xs)) a i 0 front h
       ∙ get_or-append ys (drop k (drop a xs)) 0 (i - a) (omega arith)
 
-  part_behind : (i : ℕ) → a + k ≤ i → get_or (take a xs ++ (ys ++ drop k (drop a xs))) i 0 ≡ get_or xs i 0
-  part_behind i h =
+  part_after : (i : ℕ) → a + k ≤ i → get_or (take a xs ++ (ys ++ drop k (drop a xs))) i 0 ≡ get_or xs i 0
+  part_after i h =
       get_or-append_right (take a xs) (ys ++ drop k (drop a xs)) a i 0 front (omega arith)
       ∙ get_or-append_right ys (drop k (drop a xs)) k (i - a) 0 full (omega arith)
       ∙ get_or-drop k (drop a xs) (i - a - k) 0
@@ -45,8 +45,8 @@ module _ (xs : List ℕ) (zeros : xs ≡ replicate (length xs) 48) where
       ap (take a) zeros ∙ take-replicate a (length xs) 48 h ∙ ap block_of (sym (length-take-le a xs h))
 
   -- and so do those behind them
-  pub zeros_behind : (a : ℕ) → drop a xs ≡ replicate (length (drop a xs)) 48
-  zeros_behind a = ap (drop a) zeros ∙ drop-replicate a (length xs) 48 ∙ ap block_of (sym (length-drop a xs))
+  pub zeros_after : (a : ℕ) → drop a xs ≡ replicate (length (drop a xs)) 48
+  zeros_after a = ap (drop a) zeros ∙ drop-replicate a (length xs) 48 ∙ ap block_of (sym (length-drop a xs))
 
 -- and all but one
 pub zeros_rest : (xs ys : List ℕ) (x : ℕ) → xs ≡ replicate (length xs) 48 → xs ≡ x ∷ ys
@@ -67,7 +67,7 @@ index_gap None first magnitude some none = omega (arith, ints, gap_is magnitude 
 index_gap (Some i) first magnitude some none = omega (arith, ints, gap_is magnitude first, some)
 
 module _ {ds : List ℕ} {m hi lo : ℤ} (t : IsStored ds m hi lo) (q : ℤ) (low : negsuc 32767 ≤ℤ q)
-    (n from start count : ℕ) (few : n ≤ place q + 1) (from_is : from ≡ min (int_gap q m) (length ds))
+    (n from start count : ℕ) (few : n ≤ offset q + 1) (from_is : from ≡ min (int_gap q m) (length ds))
     (start_is : start ≡ min (int_gap m q) n) (count_is : count ≡ min (length ds - from) (n - start)) where
   length-copied : length (take count (drop from ds)) ≡ count
   length-copied = length-take-le count (drop from ds) (omega (arith, length-drop from ds))
@@ -93,10 +93,10 @@ module _ {ds : List ℕ} {m hi lo : ℤ} (t : IsStored ds m hi lo) (q : ℤ) (lo
           ∙ get_or-map (λ d. 48 + d) (take count (drop from ds)) (i - start) 0 0 long
           ∙ ap (λ d. 48 + d) (get_or-take count (drop from ds) (i - start) 0 short ∙ get_or-drop from ds (i - start) 0
           ∙ sym (digit-number_of-in t (q -ℤ pos i) (from + (i - start)) e in_range (omega (arith, count_is))))
-      | inr behind ↦
+      | inr following ↦
           let b = i + int_gap q m - int_gap m q in
           let e : (q -ℤ pos i) +ℤ pos b ≡ m = omega (arith, ints, gap_is m q, gap_is q m, start_is, h) in
-          part_behind start k zeros ys fits full i behind ∙ zero_byte
+          part_after start k zeros ys fits full i following ∙ zero_byte
           ∙ sym (ap (λ d. 48 + d)
           (digit-number_of-below t (q -ℤ pos i) b e in_range
           (omega (arith, gap_is m q, gap_is q m, from_is, start_is, count_is, k_is, h))))
@@ -122,4 +122,4 @@ module _ {ds : List ℕ} {m hi lo : ℤ} (t : IsStored ds m hi lo) (q : ℤ) (lo
       zero_byte = ap (λ l. get_or l i 0) zeros_are ∙ get_or-replicate n i 48 0 h
 
       in_range : negsuc 32767 ≤ℤ (q -ℤ pos i)
-      in_range = omega (arith, ints, place_is q, h)
+      in_range = omega (arith, ints, offset_is q, h)

@@ -1,25 +1,25 @@
 -- The names that several proofs of this crate cite, passed on from one place. Declares nothing.
 pub use Rattle.decimal_digits.proofs.DigitLists.{below_drop, below_take, number_back, number_split, ten_pos}
 pub use Rattle.decimal_digits.proofs.Ends.{first_is, first_zero, no_more_zeros}
-pub use Rattle.decimal_digits.proofs.FrontBytes.{below_sixteen}
+pub use Rattle.decimal_digits.proofs.LeadingBytes.{below_sixteen}
 pub use Rattle.decimal_digits.proofs.Leading.{leading_none}
-pub use Rattle.decimal_digits.proofs.Places.{gap_is, place_is}
-pub use Rattle.decimal_digits.proofs.Tails.{unit_pos}
+pub use Rattle.decimal_digits.proofs.Offsets.{gap_is, offset_is}
+pub use Rattle.decimal_digits.proofs.Remainders.{unit_pos}
 pub use Rattle.decimal_digits.specs.Digits.{number_at, number_of}
-pub use Rattle.decimal_digits.specs.Number.{IsLast, digit, first, last, magnitude_at, number_limit, place, size, weight}
+pub use Rattle.decimal_digits.specs.Number.{IsLast, digit, first, last, magnitude_at, number_limit, offset, size, weight}
 pub use Rattle.decimal_digits.specs.Rounding.{rounded_number, unit_at}
-pub use Rattle.decimal_digits.specs.Tails.{leading}
+pub use Rattle.decimal_digits.specs.Remainders.{leading}
 pub use Rattle.decimal_digits.specs.declared.rounding.RoundError.{RoundError}
 pub use Rattle.decimal_digits.specs.declared.rounding.RoundingIncrement.{RoundingIncrement}
 pub use Rattle.decimal_digits.specs.declared.rounding.RoundingIncrement.TheVariants.{MultiplesOf1}
 pub use Rattle.decimal_digits.specs.declared.rounding.UnsignedRoundingMode.{UnsignedRoundingMode}
 pub use Rattle.decimal_digits.specs.declared.rounding.UnsignedRoundingMode.TheVariants.{Trunc}
-pub use Rattle.decimal_unsigned.specs.EditLaws.{PartsJoin, trunced}
+pub use Rattle.decimal_unsigned.specs.ValueLaws.{SplitsAt, trunced}
 pub use Rattle.decimal_unsigned.specs.Edits.{leaves_limits, multiplied, with_max_position}
-pub use Rattle.decimal_unsigned.specs.Fields.{IsStored}
-pub use Rattle.decimal_unsigned.specs.Grammar.{Grammar, Written}
+pub use Rattle.decimal_unsigned.specs.Stored.{IsStored}
+pub use Rattle.decimal_unsigned.specs.Grammar.{Grammar, Literal}
 pub use Rattle.decimal_unsigned.specs.Parts.{view}
-pub use Rattle.decimal_unsigned.specs.Placing.{IsInner, middle}
+pub use Rattle.decimal_unsigned.specs.ScannedDigits.{IsNonzeroRange, middle}
 pub use Rattle.decimal_unsigned.specs.Reading.{is_outside, limit, mantissa, parts_of, read, scaled, value_of}
 pub use Rattle.decimal_unsigned.specs.Rounded.{IsRounded, rounded, with_number}
 pub use Rattle.decimal_unsigned.specs.Text.{text}

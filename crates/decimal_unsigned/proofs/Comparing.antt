@@ -1,5 +1,5 @@
 -- The order of two numbers, by their digits.
-use Rattle.decimal_unsigned.proofs.Common.{◌≡◌, ℕ, suc, ◌+◌, ◌-◌, ◌*◌, ◌^◌, ◌<◌, ◌≤◌, List, [], ◌∷◌, length, get_or, drop, replicate, refl, sym, ◌∙◌, ap, subst, arith, ◌⊎◌, inl, inr, min, ℤ, ◌<ℤ◌, nat_cmp, mul-le-mul_right, mul-lt-mul_of_pos_right, pow-le-pow_right, cases_lt, ints, length-drop, recursion_from_All, number_lt, pow-add, number_from_digits, AllBelowBase, place, place_is, IsStored, All, slice_cmp, below_sixteen, Unsigned, IsValue}
+use Rattle.decimal_unsigned.proofs.Common.{◌≡◌, ℕ, suc, ◌+◌, ◌-◌, ◌*◌, ◌^◌, ◌<◌, ◌≤◌, List, [], ◌∷◌, length, get_or, drop, replicate, refl, sym, ◌∙◌, ap, subst, arith, ◌⊎◌, inl, inr, min, ℤ, ◌<ℤ◌, nat_cmp, mul-le-mul_right, mul-lt-mul_of_pos_right, pow-le-pow_right, cases_lt, ints, length-drop, recursion_from_All, number_lt, pow-add, number_from_digits, AllBelowBase, offset, offset_is, IsStored, All, slice_cmp, below_sixteen, Unsigned, IsValue}
 use Rattle.std.specs.declared.cmp.Ordering.{Ordering}
 use Rattle.std.specs.declared.cmp.Ordering.TheVariants.{Less, Equal, Greater}
 use Rattle.std.specs.Ordering.{MatchOrdering, ordering_then, int_cmp}
@@ -7,7 +7,7 @@ use Rattle.std.specs.Cmp.{ranked, int_ranked, nat_cmp_is}
 use Rattle.std.proofs.Math.Nat.{one-le-pow, mul-pos}
 use Rattle.std.proofs.lemmas.Int.Digits.{number_after_append}
 use Rattle.decimal_digits.specs.Digits.{number_of, number_at}
-use Rattle.decimal_digits.specs.Halves.{halves_number}
+use Rattle.decimal_digits.specs.Nibbles.{bcd_number}
 use Rattle.decimal_digits.proofs.DigitLists.{number_first, number_zeros}
 use Rattle.decimal_unsigned.proofs.Shown.{value_of_view}
 use Rattle.decimal_unsigned.proofs.Values.{number_of-lt, number_of-ge, number_of-pos, number_of-none, lowest}
@@ -113,20 +113,20 @@ module _ (base : ℕ) (above : 0 < base) where
         → MatchOrdering (ordering_then r (slice_cmp nat_cmp ds es)) (worth top (d ∷ ds) < worth top (e ∷ es))
         (worth top (d ∷ ds) ≡ worth top (e ∷ es)) (worth top (e ∷ es) < worth top (d ∷ ds))
     firsts Less h =
-        let behind : worth (top - 1) ds < base ^ (top - 1) = worth_lt (top - 1) ds b (omega arith) in
+        let following : worth (top - 1) ds < base ^ (top - 1) = worth_lt (top - 1) ds b (omega arith) in
         let more : (d + 1) * base ^ (top - 1) ≤ e * base ^ (top - 1) =
         mul-le-mul_right (base ^ (top - 1)) (omega arith) in
-        omega (arith, first_and_others top d ds f, first_and_others top e es g, behind, more)
+        omega (arith, first_and_others top d ds f, first_and_others top e es g, following, more)
     firsts Equal h =
         let same : d * base ^ (top - 1) ≡ e * base ^ (top - 1) = ap (λ n. n * base ^ (top - 1)) h in
         let left = first_and_others top d ds f in
         let right = first_and_others top e es g in
         carried (λ l. omega arith) (λ l. omega arith) (λ l. omega arith) (slice_cmp nat_cmp ds es) others
     firsts Greater h =
-        let behind : worth (top - 1) es < base ^ (top - 1) = worth_lt (top - 1) es c (omega arith) in
+        let following : worth (top - 1) es < base ^ (top - 1) = worth_lt (top - 1) es c (omega arith) in
         let more : (e + 1) * base ^ (top - 1) ≤ d * base ^ (top - 1) =
         mul-le-mul_right (base ^ (top - 1)) (omega arith) in
-        omega (arith, first_and_others top d ds f, first_and_others top e es g, behind, more)
+        omega (arith, first_and_others top d ds f, first_and_others top e es g, following, more)
 
   -- they have the order of their numbers
   pub digits_order : (top : ℕ) (ds es : List ℕ) → AllBelowBase base ds → AllBelowBase base es → length ds ≤ top
@@ -145,20 +145,20 @@ module _ (base : ℕ) (above : 0 < base) where
       (firsts top d e ds es b.1 c.1 f g others (nat_cmp d e) (ranked d e (nat_cmp d e) refl))
 
 -- ---- up to sixteen digits as the halves of a number
-halves_worth : (ds : List ℕ) → halves_number ds ≡ number_from_digits 16 ds * 16 ^ (16 - length ds)
-unfolding halves_number
-halves_worth ds =
+nibbles_value : (ds : List ℕ) → bcd_number ds ≡ number_from_digits 16 ds * 16 ^ (16 - length ds)
+unfolding bcd_number
+nibbles_value ds =
     number_after_append 16 0 ds (replicate (16 - length ds) 0)
     ∙ number_zeros 16 (number_from_digits 16 ds) (16 - length ds)
 
 -- the digits have the order of these numbers
-pub halves_order : (ds es : List ℕ) → All (λ d. d < 10) ds → All (λ d. d < 10) es → length ds ≤ 16 → length es ≤ 16
+pub nibbles_order : (ds es : List ℕ) → All (λ d. d < 10) ds → All (λ d. d < 10) es → length ds ≤ 16 → length es ≤ 16
     → EndsInDigit ds → EndsInDigit es
-    → nat_cmp (halves_number ds) (halves_number es) ≡ slice_cmp nat_cmp ds es
-halves_order ds es b c f g p q =
+    → nat_cmp (bcd_number ds) (bcd_number es) ≡ slice_cmp nat_cmp ds es
+nibbles_order ds es b c f g p q =
     let below = below_sixteen ds (recursion_from_All (λ d. d < 10) ds b) in
     let other_below = below_sixteen es (recursion_from_All (λ d. d < 10) es c) in
-    (λ k. nat_cmp (halves_worth ds k) (halves_worth es k))
+    (λ k. nat_cmp (nibbles_value ds k) (nibbles_value es k))
     ∙ sym (digits_order 16 (omega arith) 16 ds es below other_below f g p q)
 
 -- ---- two values
@@ -167,11 +167,11 @@ module _ {ds es : List ℕ} {m m' hi lo hi' lo' : ℤ} (s : IsStored ds m hi lo)
   pub numbers_order : m ≡ m' → slice_cmp nat_cmp ds es ≡ nat_cmp (number_of ds m) (number_of es m')
   unfolding number_of number_at
   numbers_order same =
-      let place_same = ap place same in
-      digits_order 10 (omega arith) (place m + 1) ds es s.digits t.digits (omega (arith, s.fits))
+      let place_same = ap offset same in
+      digits_order 10 (omega arith) (offset m + 1) ds es s.digits t.digits (omega (arith, s.fits))
       (omega (arith, t.fits, place_same))
       s.back t.back
-      ∙ ap (λ k. nat_cmp (number_at (place m + 1) ds) (number_at (place k + 1) es)) same
+      ∙ ap (λ k. nat_cmp (number_at (offset m + 1) ds) (number_at (offset k + 1) es)) same
 
   -- where one has no digits, their counts have the order of the numbers
   pub none_order : (length ds ≡ 0) ⊎ (length es ≡ 0)
@@ -187,13 +187,13 @@ module _ {ds es : List ℕ} {m m' hi lo hi' lo' : ℤ} (s : IsStored ds m hi lo)
       → int_cmp m m' ≡ nat_cmp (number_of ds m) (number_of es m')
   magnitudes_order some some' differ =
       same_int_order m m' (number_of ds m) (number_of es m') (λ l.
-      let up : place m + 1 ≤ place m' = omega (arith, ints, place_is m, place_is m', lowest s, lowest t) in
-      let higher : 10 ^ (place m + 1) ≤ 10 ^ place m' = pow-le-pow_right (omega arith) up in
+      let up : offset m + 1 ≤ offset m' = omega (arith, ints, offset_is m, offset_is m', lowest s, lowest t) in
+      let higher : 10 ^ (offset m + 1) ≤ 10 ^ offset m' = pow-le-pow_right (omega arith) up in
       omega (arith, number_of-lt s, number_of-ge t some', higher))
       (λ e. absurd (differ e))
       (λ l.
-      let up : place m' + 1 ≤ place m = omega (arith, ints, place_is m, place_is m', lowest s, lowest t) in
-      let higher : 10 ^ (place m' + 1) ≤ 10 ^ place m = pow-le-pow_right (omega arith) up in
+      let up : offset m' + 1 ≤ offset m = omega (arith, ints, offset_is m, offset_is m', lowest s, lowest t) in
+      let higher : 10 ^ (offset m' + 1) ≤ 10 ^ offset m = pow-le-pow_right (omega arith) up in
       omega (arith, number_of-lt t, number_of-ge s some, higher))
 
   -- what a comparison answers of the values that the code holds

@@ -1,5 +1,5 @@
 -- Laws of joining.
-use Rattle.decimal_unsigned.proofs.Common.{◌≡◌, ℕ, ◌+◌, ◌-◌, ◌%◌, ◌<◌, ◌≤◌, Bool, true, false, cond, nat_lt, ◌||◌, refl, sym, ◌∙◌, ap, arith, inl, inr, ℤ, pos, ◌+ℤ◌, ◌-ℤ◌, ◌≤ℤ◌, Option, Some, None, int_max, int_min, ints, clamps, cases_lt, nat_tests, place, weight, first, last, place_is, Unsigned, IsValue, with_max_position}
+use Rattle.decimal_unsigned.proofs.Common.{◌≡◌, ℕ, ◌+◌, ◌-◌, ◌%◌, ◌<◌, ◌≤◌, Bool, true, false, cond, nat_lt, ◌||◌, refl, sym, ◌∙◌, ap, arith, inl, inr, ℤ, pos, ◌+ℤ◌, ◌-ℤ◌, ◌≤ℤ◌, Option, Some, None, int_max, int_min, ints, clamps, cases_lt, nat_tests, offset, weight, first, last, offset_is, Unsigned, IsValue, with_max_position}
 use Rattle.std.specs.Prelude.{option_and_then}
 use Rattle.decimal_unsigned.specs.Concatenation.{overlaps, concatenated_end}
 use Rattle.decimal_unsigned.specs.ConcatenationLaws.{concatenation, ConcatenationIsAssociative}
@@ -8,7 +8,7 @@ use Rattle.decimal_unsigned.proofs.FirstLast.{Extent, extent, first_of, last_of,
 
 -- a value other than 0 has a first and a last digit
 pub extent_of : (v : Unsigned) → IsValue v → 0 < v.number → Extent v.number
-extent_of v h p = extent (place v.hi + 1) v.number p h.below (omega (arith, ints, place_is v.hi, h.hi_in))
+extent_of v h p = extent (offset v.hi + 1) v.number p h.below (omega (arith, ints, offset_is v.hi, h.hi_in))
 
 module _ (u v : Unsigned) (p : IsValue u) (q : IsValue v) (f : overlaps u v ≡ false) where
   apart_at : (m : 0 < u.number) (n : 0 < v.number) → (extent_of v q n).top < (extent_of u p m).bottom
@@ -95,18 +95,18 @@ module _ (u v w : Unsigned) (p : IsValue u) (q : IsValue v) (r : IsValue w) wher
 
 -- ---- the part at and above a position, and the part below it
 module _ (v t : Unsigned) (p : ℤ) (valid : IsValue v) (e : t.number ≡ v.number - v.number % weight p) where
-  high : place v.hi + 1 ≤ 65536
-  high = omega (arith, ints, place_is v.hi, valid.hi_in)
+  high : offset v.hi + 1 ≤ 65536
+  high = omega (arith, ints, offset_is v.hi, valid.hi_in)
 
   -- the two parts do not overlap
   pub parts_join : overlaps t (with_max_position v p) ≡ false
   parts_join = not_overlapping t (with_max_position v p) (λ some more.
-      let l = parts_apart v.number (place p) (place v.hi + 1) valid.below high (rw (← e) some) more in
+      let l = parts_apart v.number (offset p) (offset v.hi + 1) valid.below high (rw (← e) some) more in
       rw e l)
 
   -- together they have the number
   pub parts_number : (concatenated_end t (with_max_position v p)).number ≡ v.number
-  parts_number = ap (λ n. n + v.number % weight p) e ∙ parts_sum v.number (place p) (place v.hi + 1) valid.below high
+  parts_number = ap (λ n. n + v.number % weight p) e ∙ parts_sum v.number (offset p) (offset v.hi + 1) valid.below high
 
   -- and their ranges, where the position lies in the range or at one of its ends
   pub parts_value : t.hi ≡ int_max (int_max v.hi (p -ℤ pos 1)) (first t.number) → t.lo ≡ int_min p (pos 0)

@@ -1,5 +1,5 @@
 -- Digits, zeros and then more digits.
-use Rattle.decimal_unsigned.proofs.Common.{◌≡◌, ℕ, ◌+◌, ◌-◌, ◌*◌, ◌^◌, ◌<◌, ◌≤◌, zero, suc, true, false, List, [], ◌∷◌, ◌++◌, length, replicate, nat_lt, refl, sym, ◌∙◌, ap, arith, inl, inr, ℤ, pos, negsuc, ◌+ℤ◌, ◌-ℤ◌, ◌≤ℤ◌, ◌<ℤ◌, int_max, int_min, ints, clamps, pow-add, cases_lt, nat_tests, length-append, number_from_digits, AllBelowBase, place, first, last, place_is, gap_is, IsStored, Unsigned, ◌&&◌, length-replicate}
+use Rattle.decimal_unsigned.proofs.Common.{◌≡◌, ℕ, ◌+◌, ◌-◌, ◌*◌, ◌^◌, ◌<◌, ◌≤◌, zero, suc, true, false, List, [], ◌∷◌, ◌++◌, length, replicate, nat_lt, refl, sym, ◌∙◌, ap, arith, inl, inr, ℤ, pos, negsuc, ◌+ℤ◌, ◌-ℤ◌, ◌≤ℤ◌, ◌<ℤ◌, int_max, int_min, ints, clamps, pow-add, cases_lt, nat_tests, length-append, number_from_digits, AllBelowBase, offset, first, last, offset_is, gap_is, IsStored, Unsigned, ◌&&◌, length-replicate}
 use Rattle.std.specs.Prelude.{int_le}
 use Rattle.std.proofs.lemmas.List.{get_or_append_left, get_or-append_right}
 use Rattle.decimal_digits.specs.Digits.{number_of, number_at}
@@ -62,8 +62,8 @@ module _ (ds es : List ℕ) (zeros : ℕ) where
 -- the second digits begin below the last of the first, with so many zeros between
 module _ {ds es : List ℕ} {m hi lo n hi' lo' : ℤ} (t : IsStored ds m hi lo) (u : IsStored es n hi' lo') (k : ℕ)
     (some : 0 < length ds) (more : 0 < length es) (distance : m ≡ n +ℤ pos (length ds + k)) where
-  places : place m ≡ place n + (length ds + k)
-  places = omega (arith, ints, distance, place_is m, place_is n, lowest u)
+  places : offset m ≡ offset n + (length ds + k)
+  places = omega (arith, ints, distance, offset_is m, offset_is n, lowest u)
 
   stored : IsStored ((ds ++ replicate k 0) ++ es) m (int_max hi hi') (int_min lo lo')
   stored =
@@ -91,9 +91,9 @@ module _ {ds es : List ℕ} {m hi lo n hi' lo' : ℤ} (t : IsStored ds m hi lo) 
   number_of-joined : number_of ((ds ++ replicate k 0) ++ es) m ≡ number_of ds m + number_of es n
   unfolding number_of number_at
   number_of-joined =
-      let e = place n + 1 - length es in
-      let a : place m + 1 - length ((ds ++ replicate k 0) ++ es) ≡ e = omega (arith, places, length-joined ds es k) in
-      let b : place m + 1 - length ds ≡ (k + length es) + e = omega (arith, places, u.fits) in
+      let e = offset n + 1 - length es in
+      let a : offset m + 1 - length ((ds ++ replicate k 0) ++ es) ≡ e = omega (arith, places, length-joined ds es k) in
+      let b : offset m + 1 - length ds ≡ (k + length es) + e = omega (arith, places, u.fits) in
       rw (a, number-joined ds es k, b, pow-add 10 (k + length es) e) (omega arith)
 
 some_digits : {ds : List ℕ} {m hi lo : ℤ} → IsStored ds m hi lo → 0 < number_of ds m → 0 < length ds
@@ -105,13 +105,13 @@ some_digits {ds} t p = elim (cases_lt 0 (length ds)) [
 -- two values that lie apart, with so many magnitudes between
 module _ {ds es : List ℕ} {m hi lo n hi' lo' : ℤ} {v w : Unsigned} (t : IsStored ds m hi lo) (u : IsStored es n hi' lo')
     (p : record { number = number_of ds m; hi = hi; lo = lo } ≡ v)
-    (q : record { number = number_of es n; hi = hi'; lo = lo' } ≡ w) (k : ℕ) (first_counts : 0 < v.number)
-    (second_counts : 0 < w.number) (distance : last v.number ≡ first w.number +ℤ pos (k + 1)) where
+    (q : record { number = number_of es n; hi = hi'; lo = lo' } ≡ w) (k : ℕ) (first_is_nonzero : 0 < v.number)
+    (second_is_nonzero : 0 < w.number) (distance : last v.number ≡ first w.number +ℤ pos (k + 1)) where
   some : 0 < length ds
-  some = some_digits t (rw (ap (λ (x : Unsigned). x.number) p) first_counts)
+  some = some_digits t (rw (ap (λ (x : Unsigned). x.number) p) first_is_nonzero)
 
   more : 0 < length es
-  more = some_digits u (rw (ap (λ (x : Unsigned). x.number) q) second_counts)
+  more = some_digits u (rw (ap (λ (x : Unsigned). x.number) q) second_is_nonzero)
 
   last_digit : last v.number ≡ m -ℤ pos (length ds - 1)
   last_digit = sym (ap (λ (x : Unsigned). last x.number) p) ∙ last-number_of t some

@@ -1,5 +1,5 @@
 -- The part of a number below a position, by its digits.
-use Rattle.decimal_unsigned.proofs.Common.{◌≡◌, ℕ, ◌+◌, ◌-◌, ◌*◌, ◌%◌, ◌^◌, ◌<◌, ◌≤◌, min, List, length, get_or, take, drop, refl, sym, ◌∙◌, ap, subst, arith, inl, inr, ℤ, pos, negsuc, ◌+ℤ◌, ◌-ℤ◌, ◌≤ℤ◌, int_max, int_min, int_gap, mul-mod_left, mul-lt-mul_of_pos_right, pow-le-pow_right, ints, clamps, cases_lt, pow-add, length-drop, length-take-le, get_or-take, get_or-drop, number_from_digits, place, weight, ten_pos, place_is, gap_is, IsStored, with_max_position, mod-eq_of_lt, number_split, below_drop}
+use Rattle.decimal_unsigned.proofs.Common.{◌≡◌, ℕ, ◌+◌, ◌-◌, ◌*◌, ◌%◌, ◌^◌, ◌<◌, ◌≤◌, min, List, length, get_or, take, drop, refl, sym, ◌∙◌, ap, subst, arith, inl, inr, ℤ, pos, negsuc, ◌+ℤ◌, ◌-ℤ◌, ◌≤ℤ◌, int_max, int_min, int_gap, mul-mod_left, mul-lt-mul_of_pos_right, pow-le-pow_right, ints, clamps, cases_lt, pow-add, length-drop, length-take-le, get_or-take, get_or-drop, number_from_digits, offset, weight, ten_pos, offset_is, gap_is, IsStored, with_max_position, mod-eq_of_lt, number_split, below_drop}
 use Rattle.std.proofs.lemmas.Nat.{mod-mul-add}
 use Rattle.std.proofs.lemmas.List.{drop-drop}
 use Rattle.decimal_digits.specs.Digits.{number_of, number_at}
@@ -24,7 +24,7 @@ number_cut ds a start h w zeros =
     number_split 10 a ds (omega arith)
     ∙ ap (λ n. number_from_digits 10 (take a ds) * 10 ^ (length ds - a) + n) (split ∙ (rw (none, tail) (omega arith)))
 
-number_of_is : (ds : List ℕ) (m : ℤ) → number_of ds m ≡ number_from_digits 10 ds * 10 ^ (place m + 1 - length ds)
+number_of_is : (ds : List ℕ) (m : ℤ) → number_of ds m ≡ number_from_digits 10 ds * 10 ^ (offset m + 1 - length ds)
 unfolding number_of number_at
 number_of_is ds m = refl
 
@@ -65,7 +65,7 @@ module _ {ds : List ℕ} {m hi lo p m' hi' lo' : ℤ} {start : ℕ} (t : IsStore
       (omega (arith, ints, clamps, c.lo_is, c.position, t.in_range), omega (arith, ints, clamps, c.lo_is, t.lo_in))
 
   abbrev ends : ℕ
-  ends = place m + 1 - length ds
+  ends = offset m + 1 - length ds
 
   abbrev rest_value : ℕ
   rest_value = number_from_digits 10 (drop start ds)
@@ -82,7 +82,7 @@ module _ {ds : List ℕ} {m hi lo p m' hi' lo' : ℤ} {start : ℕ} (t : IsStore
     | inl h ↦
         number_of_is (drop start ds) m'
         ∙ ap (λ k. rest_value * 10 ^ k)
-        (let k : place m' + 1 - length (drop start ds) ≡ ends =
+        (let k : offset m' + 1 - length (drop start ds) ≡ ends =
         omega (
           arith,
           ints,
@@ -90,9 +90,9 @@ module _ {ds : List ℕ} {m hi lo p m' hi' lo' : ℤ} {start : ℕ} (t : IsStore
           h,
           c.some h,
           t.fits,
-          place_is m,
-          place_is m',
-          place_is lo,
+          offset_is m,
+          offset_is m',
+          offset_is lo,
           lowest t,
           t.in_range,
         ) in
@@ -120,28 +120,28 @@ module _ {ds : List ℕ} {m hi lo p m' hi' lo' : ℤ} {start : ℕ} (t : IsStore
   -- the position is above the digits, within them, or below them
   over : gap ≡ 0 → number_of ds m ≡ rest_value * 10 ^ ends → rest_value * 10 ^ ends ≡ number_of ds m % weight p
   over g e =
-      let l : 10 ^ (place m + 1) ≤ 10 ^ place p =
+      let l : 10 ^ (offset m + 1) ≤ 10 ^ offset p =
       pow-le-pow_right (omega arith)
-      (omega (arith, ints, g, gap_is p (m +ℤ pos 1), place_is p, place_is m, c.position, lowest t)) in
+      (omega (arith, ints, g, gap_is p (m +ℤ pos 1), offset_is p, offset_is m, c.position, lowest t)) in
       sym (mod-eq_of_lt (omega (arith, number_of-lt t, l)) ∙ e)
 
   inside : 0 < gap → gap ≤ length ds → rest_value * 10 ^ ends ≡ number_of ds m % weight p
   inside g h =
-      let k : length ds - gap + ends ≡ place p =
-      omega (arith, ints, g, h, t.fits, gap_is p (m +ℤ pos 1), place_is p, place_is m, c.position, lowest t) in
-      sym (ap (λ n. n % 10 ^ place p)
+      let k : length ds - gap + ends ≡ offset p =
+      omega (arith, ints, g, h, t.fits, gap_is p (m +ℤ pos 1), offset_is p, offset_is m, c.position, lowest t) in
+      sym (ap (λ n. n % 10 ^ offset p)
       (whole gap (omega arith) ∙ ap (λ k. number_from_digits 10 (take gap ds) * 10 ^ k + rest_value * 10 ^ ends) k)
       ∙ mod-mul-add _ _ _ (subst (λ k. rest_value * 10 ^ ends < 10 ^ k) k (rest_below gap (omega (arith, c.from)))))
 
   under : length ds < gap → rest_value * 10 ^ ends ≡ number_of ds m % weight p
   under h =
       let z : rest_value ≡ 0 = rest_none (omega (arith, c.from)) in
-      let high = number_from_digits 10 ds * 10 ^ (ends - place p) in
-      let k : ends ≡ ends - place p + place p =
-      omega (arith, ints, h, t.fits, gap_is p (m +ℤ pos 1), place_is p, place_is m, c.position, lowest t) in
-      let e : number_of ds m ≡ high * 10 ^ place p =
+      let high = number_from_digits 10 ds * 10 ^ (ends - offset p) in
+      let k : ends ≡ ends - offset p + offset p =
+      omega (arith, ints, h, t.fits, gap_is p (m +ℤ pos 1), offset_is p, offset_is m, c.position, lowest t) in
+      let e : number_of ds m ≡ high * 10 ^ offset p =
       number_of_is ds m ∙ ap (λ k. number_from_digits 10 ds * 10 ^ k) k ∙ (rw pow-add (omega arith)) in
-      sym (ap (λ n. n % 10 ^ place p) e ∙ mul-mod_left high (10 ^ place p) ∙ (rw z (omega arith)))
+      sym (ap (λ n. n % 10 ^ offset p) e ∙ mul-mod_left high (10 ^ offset p) ∙ (rw z (omega arith)))
 
   number_of-cut : number_of (drop start ds) m' ≡ number_of ds m % weight p
   number_of-cut = rest_is ∙ (elim (cases_lt (length ds) gap) [

@@ -1,11 +1,11 @@
 -- An exponent of any length, and what the code keeps of it.
-use Rattle.decimal_unsigned.proofs.Common.{◌≡◌, ℕ, ◌==◌, true, false, cond, ◌||◌, ◌⊎◌, inl, inr, List, [], ◌∷◌, ◌++◌, refl, sym, ◌∙◌, ap, subst, arith, ℤ, pos, negsuc, ◌<ℤ◌, int_lt, Option, Some, None, Ok, Err, ints, clamps, cases_lt, AllDigits, Unsigned, Written, parts_of, is_outside, limit, view, option_map}
+use Rattle.decimal_unsigned.proofs.Common.{◌≡◌, ℕ, ◌==◌, true, false, cond, ◌||◌, ◌⊎◌, inl, inr, List, [], ◌∷◌, ◌++◌, refl, sym, ◌∙◌, ap, subst, arith, ℤ, pos, negsuc, ◌<ℤ◌, int_lt, Option, Some, None, Ok, Err, ints, clamps, cases_lt, AllDigits, Unsigned, Literal, parts_of, is_outside, limit, view, option_map}
 use Rattle.decimal_unsigned.specs.Reading.{scaled, value_of, value_or_syntax, read, syntax}
 use Rattle.decimal_unsigned.specs.Parts.{saturated, saturated_parts, IsSaturated}
 use Rattle.std.specs.Prelude.{IfSome}
 use Rattle.decimal_unsigned.specs.declared.decimal.parse.parts.Parts.{Parts}
 use Rattle.decimal_unsigned.specs.Parts.{views}
-use Rattle.decimal_unsigned.proofs.GrammarParts.{parts_takes}
+use Rattle.decimal_unsigned.proofs.GrammarParts.{parts-sound}
 use Rattle.decimal_unsigned.proofs.Plans.{over, under}
 
 -- what saturating leaves lies within its bounds
@@ -39,19 +39,19 @@ scaled_saturated v (Some (negsuc n)) = elim (cases_lt 69999 n) [
 ]
 
 -- saturating the exponent does not change the value
-pub value_saturated : (w : Written) → value_of (saturated_parts w) ≡ value_of w
+pub value_saturated : (w : Literal) → value_of (saturated_parts w) ≡ value_of w
 unfolding value_of
 value_saturated w = ap (cond _ (Err limit)) (scaled_saturated _ w.exponent)
 
 -- ---- what the parts that were found say of the text
 -- no parts were found where there are none
-pub parts_none : (o : Option Written) → None ≡ option_map saturated_parts o → o ≡ None
+pub parts_none : (o : Option Literal) → None ≡ option_map saturated_parts o → o ≡ None
 parts_none None h = refl
 parts_none (Some w) h = absurd (cc)
 
 -- the parts that were found are those of the text, saturated
-pub parts_some : (o : Option Written) (v : Written) → Some v ≡ option_map saturated_parts o
-    → (w : Written) × (o ≡ Some w) × (saturated_parts w ≡ v)
+pub parts_some : (o : Option Literal) (v : Literal) → Some v ≡ option_map saturated_parts o
+    → (w : Literal) × (o ≡ Some w) × (saturated_parts w ≡ v)
 parts_some None v h = absurd (cc)
 parts_some (Some w) v h = (w, refl, cc)
 
@@ -61,7 +61,7 @@ unfolding read value_or_syntax
 read_none text h = rw (parts_none (parts_of text) h) refl
 
 -- the value of a text is that of the parts which were found
-pub read_some : (text : List ℕ) (v : Written) → Some v ≡ option_map saturated_parts (parts_of text)
+pub read_some : (text : List ℕ) (v : Literal) → Some v ≡ option_map saturated_parts (parts_of text)
     → read text ≡ value_of v
 unfolding read value_or_syntax
 read_some text v h =
@@ -74,15 +74,15 @@ append_digits [] b h k = k
 append_digits (c ∷ a) b h k = (h.0, append_digits a b h.1 k)
 
 -- the parts that were found are digits
-pub digits_some : (text : List ℕ) (v : Written) → Some v ≡ option_map saturated_parts (parts_of text)
+pub digits_some : (text : List ℕ) (v : Literal) → Some v ≡ option_map saturated_parts (parts_of text)
     → AllDigits 10 (v.whole ++ v.fraction)
 digits_some text v h =
     let w = parts_some (parts_of text) v h in
-    let g = parts_takes text w.0 w.1 in
+    let g = parts-sound text w.0 w.1 in
     subst (λ u. AllDigits 10 (u.whole ++ u.fraction)) w.2 (append_digits w.0.whole w.0.fraction g.whole g.fraction)
 
 -- the exponent that was found lies within the bounds
-pub saturated_some : (text : List ℕ) (v : Written) (e : ℤ) → Some v ≡ option_map saturated_parts (parts_of text)
+pub saturated_some : (text : List ℕ) (v : Literal) (e : ℤ) → Some v ≡ option_map saturated_parts (parts_of text)
     → v.exponent ≡ Some e
     → IsSaturated e
 saturated_some text v e h k =

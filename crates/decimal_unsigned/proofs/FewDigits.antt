@@ -1,5 +1,5 @@
 -- How many digits the value of a text has, and where a text has one.
-use Rattle.decimal_unsigned.proofs.Common.{◌≡◌, ℕ, suc, ◌+◌, ◌-◌, ◌*◌, ◌%◌, ◌^◌, ◌<◌, ◌≤◌, Bool, true, false, ◌||◌, List, ◌++◌, length, refl, sym, ◌∙◌, ap, subst, arith, rules, inl, inr, Result, Ok, Err, Option, Some, None, ℤ, pos, negsuc, ◌+ℤ◌, ◌-ℤ◌, int_lt, mul-mod_left, mul-le-mul_right, ints, pow-add, cases_lt, number_lt, digits_value_is, AllDigits, digits_value, size, first, last, ten_pos, no_more_zeros, gap_is, Unsigned, leaves_limits, multiplied, Written, limit, is_outside, value_of, read, Grammar, mantissa}
+use Rattle.decimal_unsigned.proofs.Common.{◌≡◌, ℕ, suc, ◌+◌, ◌-◌, ◌*◌, ◌%◌, ◌^◌, ◌<◌, ◌≤◌, Bool, true, false, ◌||◌, List, ◌++◌, length, refl, sym, ◌∙◌, ap, subst, arith, rules, inl, inr, Result, Ok, Err, Option, Some, None, ℤ, pos, negsuc, ◌+ℤ◌, ◌-ℤ◌, int_lt, mul-mod_left, mul-le-mul_right, ints, pow-add, cases_lt, number_lt, digits_value_is, AllDigits, digits_value, size, first, last, ten_pos, no_more_zeros, gap_is, Unsigned, leaves_limits, multiplied, Literal, limit, is_outside, value_of, read, Grammar, mantissa}
 use Rattle.std.specs.Prelude.{IsOkAnd, nat_eq}
 use Rattle.std.proofs.Math.Nat.{mul_assoc}
 use Rattle.std.proofs.lemmas.Bool.{or_parts}
@@ -7,12 +7,12 @@ use Rattle.decimal_digits.proofs.Ends.{shift_up}
 use Rattle.decimal_unsigned.specs.declared.error.ParseError.{ParseError}
 use Rattle.decimal_unsigned.specs.declared.error.ParseError.TheVariants.{Limit, Memory}
 use Rattle.decimal_unsigned.specs.Edits.{StaysInLimits, times_power}
-use Rattle.decimal_unsigned.specs.Reading.{ReadingFault, tidied, scaled}
-use Rattle.decimal_unsigned.specs.Refusal.{Answers, IsPlain, digit_count}
-use Rattle.decimal_unsigned.specs.Placing.{digits_of}
+use Rattle.decimal_unsigned.specs.Reading.{ReadError, zeros_trimmed, scaled}
+use Rattle.decimal_unsigned.specs.ParseResult.{IsParseResult, IsPlain, digit_count}
+use Rattle.decimal_unsigned.specs.ScannedDigits.{digits_of}
 use Rattle.decimal_unsigned.proofs.FirstLast.{Extent, extent, ordered, top_lt, first_of, last_of}
 use Rattle.decimal_unsigned.proofs.Exponents.{append_digits}
-use Rattle.decimal_unsigned.proofs.ParserAnswers.{read_grammar, answers_limit}
+use Rattle.decimal_unsigned.proofs.ReadingGrammar.{read_grammar, result_limit}
 use Rattle.decimal_unsigned.proofs.Plans.{long_whole, long_fraction, all_digits, length_digits, value_scaled}
 
 -- ---- Numbers.
@@ -51,7 +51,7 @@ stays v d e =
     (grind (arith, ints, p), grind (arith, ints, p))
 
 -- ---- The parts of a text.
-module _ (w : Written) (digits : AllDigits 10 (w.whole ++ w.fraction)) (few : length w.whole ≤ 32768)
+module _ (w : Literal) (digits : AllDigits 10 (w.whole ++ w.fraction)) (few : length w.whole ≤ 32768)
     (short : length w.fraction ≤ 32768) where
   written : ℕ
   written = digits_value 10 (w.whole ++ w.fraction)
@@ -103,12 +103,12 @@ module _ (w : Written) (digits : AllDigits 10 (w.whole ++ w.fraction)) (few : le
           subst (λ (x : Unsigned). size x.number ≤ length w.whole + length w.fraction) same size_mantissa
       go false z true e = absurd (let k = rw (z, e) at is in cc)
       go false z false e =
-          let same : tidied (multiplied (mantissa w.whole w.fraction) d) ≡ v = (let k = rw (z, e) at is in cc) in
+          let same : zeros_trimmed (multiplied (mantissa w.whole w.fraction) d) ≡ v = (let k = rw (z, e) at is in cc) in
           subst (λ (x : Unsigned). size x.number ≤ length w.whole + length w.fraction) same
           (size_times d (stays (mantissa w.whole w.fraction) d (or_parts (is_outside d) _ e).1))
 
 -- the value of the parts has no more digits than they have
-size_value : (w : Written) (v : Unsigned) → AllDigits 10 (w.whole ++ w.fraction) → value_of w ≡ Ok v
+size_value : (w : Literal) (v : Unsigned) → AllDigits 10 (w.whole ++ w.fraction) → value_of w ≡ Ok v
     → size v.number ≤ length w.whole + length w.fraction
 size_value w v digits is = elim (cases_lt 32768 (length w.whole)) [
   | inl h ↦ absurd (let e = long_whole w h in cc)
@@ -119,7 +119,7 @@ size_value w v digits is = elim (cases_lt 32768 (length w.whole)) [
 ]
 
 -- parts without an exponent have a value
-plain_value : (w : Written) → AllDigits 10 (w.whole ++ w.fraction) → IsPlain w
+plain_value : (w : Literal) → AllDigits 10 (w.whole ++ w.fraction) → IsPlain w
     → value_of w ≡ Ok (mantissa w.whole w.fraction)
 unfolding scaled
 plain_value w digits plain =
@@ -128,35 +128,35 @@ plain_value w digits plain =
 
 -- ---- What a parser answers.
 
-parts_digits : (text : List ℕ) (w : Written) → Grammar text w → AllDigits 10 (w.whole ++ w.fraction)
+parts_digits : (text : List ℕ) (w : Literal) → Grammar text w → AllDigits 10 (w.whole ++ w.fraction)
 parts_digits text w g = append_digits w.whole w.fraction g.whole g.fraction
 
 -- parts without an exponent do not meet the limit
-pub plain_is_read : (text : List ℕ) (w : Written) → Grammar text w → IsPlain w → read text ≡ Err limit → ⊥
+pub plain_is_read : (text : List ℕ) (w : Literal) → Grammar text w → IsPlain w → read text ≡ Err limit → ⊥
 plain_is_read text w g plain e =
     let r = read_grammar text w g in
     let v = plain_value w (parts_digits text w g) plain in
     cc
 
 -- the value of parts with few digits is not long
-pub few_are_held : (held : ℕ) (text : List ℕ) (w : Written) → Grammar text w → digit_count w ≤ held
+pub few_are_held : (held : ℕ) (text : List ℕ) (w : Literal) → Grammar text w → digit_count w ≤ held
     → IsOkAnd (read text) (λ v. held < size v.number)
     → ⊥
 few_are_held held text w g few long = go (value_of w) refl (rw (read_grammar text w g) at long)
   where
-    go : (q : Result Unsigned ReadingFault) → value_of w ≡ q → IsOkAnd q (λ v. held < size v.number) → ⊥
+    go : (q : Result Unsigned ReadError) → value_of w ≡ q → IsOkAnd q (λ v. held < size v.number) → ⊥
     go (Ok v) e l = omega (arith, size_value w v (parts_digits text w g) e, l, few)
     go (Err x) e l = absurd l
 
 -- so a parser does not answer Limit
-pub never_limit : (wants : Unsigned → Type 0) (text : List ℕ) (r : Result Unsigned ParseError)
-    → Answers wants r (read text) → (w : Written) → Grammar text w → IsPlain w → r ≡ Err Limit
+pub never_limit : (allocates : Unsigned → Type 0) (text : List ℕ) (r : Result Unsigned ParseError)
+    → IsParseResult allocates r (read text) → (w : Literal) → Grammar text w → IsPlain w → r ≡ Err Limit
     → ⊥
-never_limit wants text r a w g plain e = plain_is_read text w g plain ((answers_limit wants r (read text) a).0 e)
+never_limit allocates text r a w g plain e = plain_is_read text w g plain ((result_limit allocates r (read text) a).0 e)
 
 -- and not Memory
 pub never_memory : (held : ℕ) (text : List ℕ) (r : Result Unsigned ParseError)
-    → Answers (λ v. held < size v.number) r (read text) → (w : Written) → Grammar text w → digit_count w ≤ held
+    → IsParseResult (λ v. held < size v.number) r (read text) → (w : Literal) → Grammar text w → digit_count w ≤ held
     → r ≡ Err Memory
     → ⊥
 never_memory held text r a w g few e = few_are_held held text w g few (rw e at a)

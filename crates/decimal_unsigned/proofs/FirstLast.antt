@@ -1,5 +1,5 @@
 -- Each number other than 0 has a first and a last digit.
-use Rattle.decimal_unsigned.proofs.Common.{◌≡◌, ℕ, zero, suc, ◌+◌, ◌-◌, ◌*◌, ◌/◌, ◌%◌, ◌^◌, ◌<◌, ◌≤◌, sym, ◌∙◌, ap, subst, arith, inl, inr, pow-le-pow_right, mul-le-mul_right, ints, ℤ, pos, ◌<ℤ◌, ◌≤ℤ◌, pow-add, cases_lt, place, first, last, ten_pos, place_is, pow-suc, mod-lt, magnitude_at, first_is, first_zero}
+use Rattle.decimal_unsigned.proofs.Common.{◌≡◌, ℕ, zero, suc, ◌+◌, ◌-◌, ◌*◌, ◌/◌, ◌%◌, ◌^◌, ◌<◌, ◌≤◌, sym, ◌∙◌, ap, subst, arith, inl, inr, pow-le-pow_right, mul-le-mul_right, ints, ℤ, pos, ◌<ℤ◌, ◌≤ℤ◌, pow-add, cases_lt, offset, first, last, ten_pos, offset_is, pow-suc, mod-lt, magnitude_at, first_is, first_zero}
 use Rattle.std.proofs.Math.Nat.{mul_assoc, div-add-mod', le-mul_of_pos_right, lt_of_mul-lt-mul_right, mul-add-mod_self_right}
 use Rattle.std.proofs.Math.Nat.{mod-le, div-le_self}
 use Rattle.decimal_digits.proofs.Ends.{last_is}
@@ -79,11 +79,11 @@ module _ {n : ℕ} (e : Extent n) where
   last_of = ap last e.is ∙ last_is e.factor e.bottom e.odd (omega (arith, ordered, e.limit))
 
 -- a number that a range up to hi holds has its first digit at hi or below
-pub first_le : (n : ℕ) (hi : ℤ) → n < 10 ^ (place hi + 1) → pos 0 ≤ℤ hi → hi ≤ℤ pos 32767 → first n ≤ℤ hi
+pub first_le : (n : ℕ) (hi : ℤ) → n < 10 ^ (offset hi + 1) → pos 0 ≤ℤ hi → hi ≤ℤ pos 32767 → first n ≤ℤ hi
 first_le n hi few low high = elim (cases_lt 0 n) [
   | inl some ↦
-      let e = extent (place hi + 1) n some few (omega (arith, ints, place_is hi)) in
-      omega (arith, ints, first_of e, top_lt e (place hi + 1) few, place_is hi)
+      let e = extent (offset hi + 1) n some few (omega (arith, ints, offset_is hi)) in
+      omega (arith, ints, first_of e, top_lt e (offset hi + 1) few, offset_is hi)
   | inr none ↦
       let z : first n ≡ pos 0 = ap first (let y : n ≡ 0 = omega arith in y) ∙ first_zero in
       omega (arith, ints, z)

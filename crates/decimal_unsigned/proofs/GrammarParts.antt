@@ -1,5 +1,5 @@
 -- The parts of a text are those of the grammar.
-use Rattle.decimal_unsigned.proofs.Common.{◌≡◌, ℕ, suc, ◌+◌, ◌<◌, Bool, true, false, cond, ◌||◌, ◌⊎◌, inl, inr, List, [], ◌∷◌, ◌++◌, length, take, drop, refl, sym, ◌∙◌, ap, subst, arith, nat_lt, ◌==◌, append-nil, Option, Some, None, ℤ, pos, nat_tests, is_ascii_digit, digit_value, prefix_len, all_ascii_digits, AllDigits, digits_value, Written, ◌&&◌, option_map, take-append-drop, Grammar}
+use Rattle.decimal_unsigned.proofs.Common.{◌≡◌, ℕ, suc, ◌+◌, ◌<◌, Bool, true, false, cond, ◌||◌, ◌⊎◌, inl, inr, List, [], ◌∷◌, ◌++◌, length, take, drop, refl, sym, ◌∙◌, ap, subst, arith, nat_lt, ◌==◌, append-nil, Option, Some, None, ℤ, pos, nat_tests, is_ascii_digit, digit_value, prefix_len, all_ascii_digits, AllDigits, digits_value, Literal, ◌&&◌, option_map, take-append-drop, Grammar}
 use Rattle.std.proofs.Common.{append_assoc, eqb-true}
 use Rattle.std.specs.Prelude.{neg_ℤ}
 use Rattle.std.specs.Str.Parse.{IsNumeral}
@@ -44,14 +44,14 @@ leading-after text = take-append-drop (prefix_len is_ascii_digit text) text
 
 -- ---- numerals
 -- a numeral has its number
-pub numeral_again : (ds : List ℕ) → IsNumeral 10 ds → numeral_of ds ≡ Some (digits_value 10 ds)
+pub numeral-complete : (ds : List ℕ) → IsNumeral 10 ds → numeral_of ds ≡ Some (digits_value 10 ds)
 unfolding numeral_of
-numeral_again ds h = let a = tests_digits.from ds h.1 in grind (arith, nat_tests, h.0, a)
+numeral-complete ds h = let a = tests_digits.from ds h.1 in grind (arith, nat_tests, h.0, a)
 
 -- what has a number is a numeral
-pub numeral_takes : (ds : List ℕ) (n : ℕ) → numeral_of ds ≡ Some n → IsNumeral 10 ds × (n ≡ digits_value 10 ds)
+pub numeral-sound : (ds : List ℕ) (n : ℕ) → numeral_of ds ≡ Some n → IsNumeral 10 ds × (n ≡ digits_value 10 ds)
 unfolding numeral_of
-numeral_takes ds n h = go (nat_lt 0 (length ds)) refl (all_ascii_digits ds) refl h
+numeral-sound ds n h = go (nat_lt 0 (length ds)) refl (all_ascii_digits ds) refl h
   where
     go : (b : Bool) → nat_lt 0 (length ds) ≡ b → (d : Bool) → all_ascii_digits ds ≡ d
         → cond (b && d) (Some (digits_value 10 ds)) None ≡ Some n
@@ -61,10 +61,10 @@ numeral_takes ds n h = go (nat_lt 0 (length ds)) refl (all_ascii_digits ds) refl
     go false p d q e = cc
 
 -- ---- exponents
-option_map_takes : {A B : Type 0} (f : A → B) (o : Option A) (y : B) → option_map f o ≡ Some y
+option_map-some : {A B : Type 0} (f : A → B) (o : Option A) (y : B) → option_map f o ≡ Some y
     → (x : A) × (o ≡ Some x) × (f x ≡ y)
-option_map_takes f None y h = absurd (cc)
-option_map_takes f (Some x) y h = (x, refl, cc)
+option_map-some f None y h = absurd (cc)
+option_map-some f (Some x) y h = (x, refl, cc)
 
 not_minus : (c : ℕ) → digit_value c < 10 → (c == 45) ≡ false
 not_minus c h = let r = digit_from_value c h in grind (arith, nat_tests, r)
@@ -73,22 +73,22 @@ not_plus : (c : ℕ) → digit_value c < 10 → (c == 43) ≡ false
 not_plus c h = let r = digit_from_value c h in grind (arith, nat_tests, r)
 
 -- an exponent of the grammar is found
-pub exponent_again : (text : List ℕ) (e : ℤ) → IsExponent text e → exponent_of text ≡ Some e
+pub exponent-complete : (text : List ℕ) (e : ℤ) → IsExponent text e → exponent_of text ≡ Some e
 unfolding exponent_of
-exponent_again [] e (unsigned n v) = absurd (omega (arith, n.0))
-exponent_again (c ∷ rest) e (unsigned n v) =
-    rw (not_minus c n.1.0, not_plus c n.1.0, numeral_again (c ∷ rest) n, v) refl
-exponent_again text e (plus ds t n v) = ap exponent_of t ∙ (rw (numeral_again ds n, v) refl)
-exponent_again text e (minus ds t n v) = ap exponent_of t ∙ (rw (numeral_again ds n, v) refl)
+exponent-complete [] e (unsigned n v) = absurd (omega (arith, n.0))
+exponent-complete (c ∷ rest) e (unsigned n v) =
+    rw (not_minus c n.1.0, not_plus c n.1.0, numeral-complete (c ∷ rest) n, v) refl
+exponent-complete text e (plus ds t n v) = ap exponent_of t ∙ (rw (numeral-complete ds n, v) refl)
+exponent-complete text e (minus ds t n v) = ap exponent_of t ∙ (rw (numeral-complete ds n, v) refl)
 
 -- an exponent that is found is one of the grammar
-pub exponent_takes : (text : List ℕ) (e : ℤ) → exponent_of text ≡ Some e → IsExponent text e
+pub exponent-sound : (text : List ℕ) (e : ℤ) → exponent_of text ≡ Some e → IsExponent text e
 unfolding exponent_of
-exponent_takes [] e h =
-    let k = option_map_takes pos (numeral_of []) e h in
-    let n = numeral_takes [] k.0 k.1 in
+exponent-sound [] e h =
+    let k = option_map-some pos (numeral_of []) e h in
+    let n = numeral-sound [] k.0 k.1 in
     absurd (omega (arith, n.0.0))
-exponent_takes (c ∷ rest) e h = go (c == 45) refl (c == 43) refl h
+exponent-sound (c ∷ rest) e h = go (c == 45) refl (c == 43) refl h
   where
     go : (m : Bool) → (c == 45) ≡ m → (p : Bool) → (c == 43) ≡ p
         → cond m (option_map (λ n. neg_ℤ (pos n)) (numeral_of rest))
@@ -96,14 +96,14 @@ exponent_takes (c ∷ rest) e h = go (c == 45) refl (c == 43) refl h
         ≡ Some e
         → IsExponent (c ∷ rest) e
     go true t p s k =
-        let m = option_map_takes (λ n. neg_ℤ (pos n)) (numeral_of rest) e k in
-        let n = numeral_takes rest m.0 m.1 in
+        let m = option_map-some (λ n. neg_ℤ (pos n)) (numeral_of rest) e k in
+        let n = numeral-sound rest m.0 m.1 in
         minus rest (ap (λ x. x ∷ rest) (eqb-true c 45 t)) n.0 (sym m.2 ∙ ap (λ x. neg_ℤ (pos x)) n.1)
-    go false t true s k = let m = option_map_takes pos (numeral_of rest) e k in let n = numeral_takes rest m.0 m.1 in
+    go false t true s k = let m = option_map-some pos (numeral_of rest) e k in let n = numeral-sound rest m.0 m.1 in
         plus rest (ap (λ x. x ∷ rest) (eqb-true c 43 s)) n.0 (sym m.2 ∙ ap pos n.1)
     go false t false s k =
-        let m = option_map_takes pos (numeral_of (c ∷ rest)) e k in
-        let n = numeral_takes (c ∷ rest) m.0 m.1 in
+        let m = option_map-some pos (numeral_of (c ∷ rest)) e k in
+        let n = numeral-sound (c ∷ rest) m.0 m.1 in
         unsigned n.0 (sym m.2 ∙ ap pos n.1)
 
 -- ---- what the grammar allows is found
@@ -132,14 +132,14 @@ not_dot c (inr e) = rw e refl
 positive : (n : ℕ) → 0 < n → nat_lt 0 n ≡ true
 positive n h = grind (arith, nat_tests, h)
 
-found : (w : Written) (a b : List ℕ) (e : Option ℤ) → w.whole ≡ a → w.fraction ≡ b → w.exponent ≡ e
+found : (w : Literal) (a b : List ℕ) (e : Option ℤ) → w.whole ≡ a → w.fraction ≡ b → w.exponent ≡ e
     → w ≡ record { whole = a; fraction = b; exponent = e }
 found w a b e p q r = λ i. record { whole = p i; fraction = q i; exponent = r i }
 
 -- the parts that the grammar allows are found
-pub parts_again : (text : List ℕ) (w : Written) → Grammar text w → parts_of text ≡ Some w
+pub parts-complete : (text : List ℕ) (w : Literal) → Grammar text w → parts_of text ≡ Some w
 unfolding after_whole after_fraction with_exponent
-parts_again text w g = go g.form
+parts-complete text w g = go g.form
   where
     exponents : (mantissa exponent : List ℕ) (letter : ℕ) (e : ℤ) → IsMantissa mantissa w.whole w.fraction
         → (letter ≡ 101) ⊎ (letter ≡ 69) → IsExponent exponent e → w.exponent ≡ Some e
@@ -147,14 +147,17 @@ parts_again text w g = go g.form
     exponents m x c e (undotted p f t) l n s =
         ap (λ y. parts_of (y ++ c ∷ x)) t
         ∙ parts_split w.whole (c ∷ x) g.whole (rw (letter_stops c l) refl)
-        ∙ (rw (not_dot c l, letter_is c l, positive (length w.whole) p, exponent_again x e n)
+        ∙ (rw (not_dot c l, letter_is c l, positive (length w.whole) p, exponent-complete x e n)
         (ap Some (sym (found w w.whole [] (Some e) refl f s))))
     exponents m x c e (dotted t) l n s =
         ap (λ y. parts_of (y ++ c ∷ x)) t
         ∙ ap parts_of (append_assoc w.whole (46 ∷ w.fraction) (c ∷ x))
         ∙ parts_split w.whole (46 ∷ (w.fraction ++ c ∷ x)) g.whole refl
         ∙ fraction_split w.whole w.fraction (c ∷ x) g.fraction (rw (letter_stops c l) refl)
-        ∙ (rw (letter_is c l, exponent_again x e n) (ap Some (sym (found w w.whole w.fraction (Some e) refl refl s))))
+        ∙ (rw (
+          letter_is c l,
+          exponent-complete x e n,
+        ) (ap Some (sym (found w w.whole w.fraction (Some e) refl refl s))))
 
     go : Form text w → parts_of text ≡ Some w
     go (integer p f s t) =
@@ -177,26 +180,26 @@ letter_of c h = go (c == 101) refl h
     go true e k = inl (eqb-true c 101 e)
     go false e k = inr (eqb-true c 69 k)
 
-with_exponent_takes : (mantissa whole fraction text : List ℕ) (c : ℕ) (w : Written)
+with_exponent-sound : (mantissa whole fraction text : List ℕ) (c : ℕ) (w : Literal)
     → IsMantissa mantissa whole fraction → AllDigits 10 whole → AllDigits 10 fraction → is_letter c ≡ true
     → with_exponent whole fraction text ≡ Some w
     → Grammar (mantissa ++ c ∷ text) w
 unfolding with_exponent
-with_exponent_takes m a b x c w k p q l h =
-    let t = option_map_takes (λ (e : ℤ). let r : Written = record { whole = a; fraction = b; exponent = Some e } in r)
+with_exponent-sound m a b x c w k p q l h =
+    let t = option_map-some (λ (e : ℤ). let r : Literal = record { whole = a; fraction = b; exponent = Some e } in r)
     (exponent_of x) w h in
     subst (Grammar (m ++ c ∷ x)) t.2
     (record {
       whole = p;
       fraction = q;
-      form = scientific m x c t.0 k (letter_of c l) (exponent_takes x t.0 t.1) refl refl;
+      form = scientific m x c t.0 k (letter_of c l) (exponent-sound x t.0 t.1) refl refl;
     })
 
-after_fraction_takes : (a b rest : List ℕ) (w : Written) → AllDigits 10 a → AllDigits 10 b
+after_fraction-sound : (a b rest : List ℕ) (w : Literal) → AllDigits 10 a → AllDigits 10 b
     → after_fraction a b rest ≡ Some w
     → Grammar ((a ++ 46 ∷ b) ++ rest) w
 unfolding after_fraction
-after_fraction_takes a b [] w p q h = go (nat_lt 0 (length b)) refl h
+after_fraction-sound a b [] w p q h = go (nat_lt 0 (length b)) refl h
   where
     go : (t : Bool) → nat_lt 0 (length b) ≡ t
         → cond t (Some (record { whole = a; fraction = b; exponent = None })) None ≡ Some w
@@ -207,17 +210,17 @@ after_fraction_takes a b [] w p q h = go (nat_lt 0 (length b)) refl h
         subst (Grammar ((a ++ 46 ∷ b) ++ [])) s
         (record { whole = p; fraction = q; form = decimal l refl (append-nil (a ++ 46 ∷ b)) })
     go false t e = absurd (cc)
-after_fraction_takes a b (c ∷ rest) w p q h = go (is_letter c) refl h
+after_fraction-sound a b (c ∷ rest) w p q h = go (is_letter c) refl h
   where
     go : (t : Bool) → is_letter c ≡ t → cond t (with_exponent a b rest) None ≡ Some w
         → Grammar ((a ++ 46 ∷ b) ++ c ∷ rest) w
-    go true t e = with_exponent_takes (a ++ 46 ∷ b) a b rest c w (dotted refl) p q t e
+    go true t e = with_exponent-sound (a ++ 46 ∷ b) a b rest c w (dotted refl) p q t e
     go false t e = absurd (cc)
 
-after_whole_takes : (a rest : List ℕ) (w : Written) → AllDigits 10 a → after_whole a rest ≡ Some w
+after_whole-sound : (a rest : List ℕ) (w : Literal) → AllDigits 10 a → after_whole a rest ≡ Some w
     → Grammar (a ++ rest) w
 unfolding after_whole
-after_whole_takes a [] w p h = go (nat_lt 0 (length a)) refl h
+after_whole-sound a [] w p h = go (nat_lt 0 (length a)) refl h
   where
     go : (t : Bool) → nat_lt 0 (length a) ≡ t
         → cond t (Some (record { whole = a; fraction = []; exponent = None })) None ≡ Some w
@@ -227,14 +230,14 @@ after_whole_takes a [] w p h = go (nat_lt 0 (length a)) refl h
         let l : 0 < length a = grind (arith, nat_tests, t) in
         subst (Grammar (a ++ [])) s (record { whole = p; fraction = tt; form = integer l refl refl (append-nil a) })
     go false t e = absurd (cc)
-after_whole_takes a (c ∷ rest) w p h = go (c == 46) refl h
+after_whole-sound a (c ∷ rest) w p h = go (c == 46) refl h
   where
     letters : (t l : Bool) → is_letter c ≡ t → nat_lt 0 (length a) ≡ l
         → cond (t && l) (with_exponent a [] rest) None ≡ Some w
         → Grammar (a ++ c ∷ rest) w
     letters true true t l e =
         let n : 0 < length a = grind (arith, nat_tests, l) in
-        with_exponent_takes a a [] rest c w (undotted n refl refl) p tt t e
+        with_exponent-sound a a [] rest c w (undotted n refl refl) p tt t e
     letters true false t l e = absurd (cc)
     letters false l t k e = absurd (cc)
 
@@ -248,12 +251,12 @@ after_whole_takes a (c ∷ rest) w p h = go (c == 46) refl h
         append_assoc a (46 ∷ leading_digits rest) (after_digits rest)
         ∙ (λ i. a ++ (sym (eqb-true c 46 t) i) ∷ leading-after rest i) in
         subst (λ x. Grammar x w) s
-        (after_fraction_takes a (leading_digits rest) (after_digits rest) w p (leading_are_digits rest) e)
+        (after_fraction-sound a (leading_digits rest) (after_digits rest) w p (leading_are_digits rest) e)
     go false t e = letters (is_letter c) (nat_lt 0 (length a)) refl refl e
 
 -- the parts that are found are those of the grammar
-pub parts_takes : (text : List ℕ) (w : Written) → parts_of text ≡ Some w → Grammar text w
+pub parts-sound : (text : List ℕ) (w : Literal) → parts_of text ≡ Some w → Grammar text w
 unfolding parts_of
-parts_takes text w h =
+parts-sound text w h =
     subst (λ x. Grammar x w) (leading-after text)
-    (after_whole_takes (leading_digits text) (after_digits text) w (leading_are_digits text) h)
+    (after_whole-sound (leading_digits text) (after_digits text) w (leading_are_digits text) h)

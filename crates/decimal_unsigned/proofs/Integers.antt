@@ -1,10 +1,10 @@
 -- Digits whose last stands at magnitude 0, without their zeros at the end.
-use Rattle.decimal_unsigned.proofs.Common.{◌≡◌, ℕ, zero, suc, ◌+◌, ◌-◌, ◌*◌, ◌^◌, ◌<◌, ◌≤◌, List, length, get_or, take, drop, refl, sym, ◌∙◌, ap, subst, arith, inl, inr, Result, Ok, Err, ℤ, pos, ◌≤ℤ◌, mul-le-mul_right, ints, pow-add, cases_lt, number_lt, length-take-le, length-drop, get_or-take, take_all, recursion_from_All, number_from_digits, AllBelowBase, place, weight, first, size, number_of, place_is, ten_pos, below_take, IsStored, Unsigned, middle, IsInner, All, magnitude_at, first_is}
+use Rattle.decimal_unsigned.proofs.Common.{◌≡◌, ℕ, zero, suc, ◌+◌, ◌-◌, ◌*◌, ◌^◌, ◌<◌, ◌≤◌, List, length, get_or, take, drop, refl, sym, ◌∙◌, ap, subst, arith, inl, inr, Result, Ok, Err, ℤ, pos, ◌≤ℤ◌, mul-le-mul_right, ints, pow-add, cases_lt, number_lt, length-take-le, length-drop, get_or-take, take_all, recursion_from_All, number_from_digits, AllBelowBase, offset, weight, first, size, number_of, offset_is, ten_pos, below_take, IsStored, Unsigned, middle, IsNonzeroRange, All, magnitude_at, first_is}
 use Rattle.std.specs.Prelude.{IfOk}
 use Rattle.std.proofs.lemmas.Int.Digits.{all_below_base_digits_of, first_digits_of}
 use Rattle.std.proofs.lemmas.List.Elements.{All-from_recursion}
 use Rattle.std.specs.Int.Digits.{digits_of}
-use Rattle.decimal_digits.proofs.Places.{magnitude_at-place}
+use Rattle.decimal_digits.proofs.Offsets.{magnitude_at-offset}
 use Rattle.decimal_unsigned.specs.Unsigned.{integer_value, one_value}
 use Rattle.decimal_unsigned.proofs.FirstLast.{first_le}
 use Rattle.decimal_unsigned.proofs.Middle.{number_of-middle}
@@ -47,7 +47,7 @@ module _ {ds : List ℕ} {end : ℕ} (e : UpToLast ds end) where
     number_over : (b : ℕ) → b ≡ 0 → number_of (take end ds) m ≡ number_from_digits 10 ds * 10 ^ (32768 - b)
     number_over b z = elim (cases_lt 0 (length ds)) [
       | inl h ↦
-          let inner : IsInner ds 0 end =
+          let inner : IsNonzeroRange ds 0 end =
           record {
             ordered = some h;
             within = e.within;
@@ -59,7 +59,7 @@ module _ {ds : List ℕ} {end : ℕ} (e : UpToLast ds end) where
           let all : middle 0 end ds ≡ take end ds = ap (λ n. take n ds) (let k : end - 0 ≡ end = omega arith in k) in
           ap (λ l. number_of l m) (sym all)
           ∙ number_of-middle ds 0 end (length ds) b m inner (omega arith) (omega arith)
-          (omega (arith, ints, at, h, place_is m))
+          (omega (arith, ints, at, h, offset_is m))
       | inr h ↦
           let n : number_from_digits 10 ds ≡ 0 =
           omega (arith, number_lt 10 ds all_digits, ap (λ k. 10 ^ k) (let k : length ds ≡ 0 = omega arith in k)) in
@@ -74,7 +74,7 @@ module _ {ds : List ℕ} {end : ℕ} (e : UpToLast ds end) where
         go b z =
             number_over b z
             ∙ ap (λ k. number_from_digits 10 ds * 10 ^ k)
-            (let k : 32768 - b ≡ place (pos 0) = omega (arith, ints, place_is (pos 0)) in k)
+            (let k : 32768 - b ≡ offset (pos 0) = omega (arith, ints, offset_is (pos 0)) in k)
 
     -- they make its value
     pub whole_value : record { number = number_of (take end ds) m; hi = m; lo = pos 0 }
@@ -107,12 +107,12 @@ digits_of-front (suc n) h = first_digits_of 10 (suc n) (omega arith) (omega arit
 -- an integer of at most d + 1 digits is shown from the magnitude d down, or from a lower one
 shown_from : (n d : ℕ) → n < 10 ^ (d + 1) → d < 32768 → (integer_value n).hi ≤ℤ pos d
 shown_from n d few small =
-    let k : place (pos d) + 1 ≡ (d + 1) + place (pos 0) = omega (arith, ints, place_is (pos d), place_is (pos 0)) in
-    let split : 10 ^ (place (pos d) + 1) ≡ 10 ^ (d + 1) * weight (pos 0) =
-    ap (λ i. 10 ^ i) k ∙ pow-add 10 (d + 1) (place (pos 0)) in
+    let k : offset (pos d) + 1 ≡ (d + 1) + offset (pos 0) = omega (arith, ints, offset_is (pos d), offset_is (pos 0)) in
+    let split : 10 ^ (offset (pos d) + 1) ≡ 10 ^ (d + 1) * weight (pos 0) =
+    ap (λ i. 10 ^ i) k ∙ pow-add 10 (d + 1) (offset (pos 0)) in
     let more : (n + 1) * weight (pos 0) ≤ 10 ^ (d + 1) * weight (pos 0) =
     mul-le-mul_right (weight (pos 0)) (let m : n + 1 ≤ 10 ^ (d + 1) = omega (arith, few) in m) in
-    first_le (n * weight (pos 0)) (pos d) (omega (arith, more, split, ten_pos (place (pos 0)))) (omega (arith, ints))
+    first_le (n * weight (pos 0)) (pos d) (omega (arith, more, split, ten_pos (offset (pos 0)))) (omega (arith, ints))
     (omega (arith, ints))
 
 -- its value is shown from there to magnitude 0
@@ -138,6 +138,6 @@ integer_value-one =
     let n : 1 * weight (pos 0) ≡ weight (pos 0) = omega arith in
     let f =
     ap first n
-    ∙ first_power (place (pos 0)) (omega (arith, ints, place_is (pos 0)))
-    ∙ magnitude_at-place (pos 0) (omega (arith, ints)) in
+    ∙ first_power (offset (pos 0)) (omega (arith, ints, offset_is (pos 0)))
+    ∙ magnitude_at-offset (pos 0) (omega (arith, ints)) in
     λ i. record { number = n i; hi = f i; lo = pos 0 }

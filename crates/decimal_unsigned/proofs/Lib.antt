@@ -13,7 +13,7 @@ pub mod TextBytes
 pub mod Blocks
 pub mod Formatting
 pub mod Lengths
-pub mod EditLaws
+pub mod ValueLaws
 pub mod Numerals
 pub mod GrammarParts
 pub mod Middle
@@ -21,13 +21,13 @@ pub mod Cuts
 pub mod Integers
 pub mod Plans
 pub mod Exponents
-pub mod ParserAnswers
+pub mod ReadingGrammar
 pub mod FewDigits
 pub mod ReadBack
 pub mod Roundings
 pub mod RoundingLaws
-pub mod NeverRefused
+pub mod RoundingSucceeds
 pub mod Pieces
 pub mod Comparing
 pub mod WholeNumbers
-pub mod ShortNumbers
+pub mod BcdValues

@@ -1,5 +1,5 @@
 -- What the digits between the zeros are worth.
-use Rattle.decimal_unsigned.proofs.Common.{inl, inr, ◌≡◌, ℕ, suc, ◌+◌, ◌-◌, ◌*◌, ◌^◌, ◌<◌, ◌≤◌, List, [], ◌∷◌, length, get_or, take, drop, ◌++◌, map, min, refl, sym, ◌∙◌, ap, subst, arith, ℤ, pos, ◌-ℤ◌, ints, pow-add, cases_lt, append-nil, length-map, take_all, length-drop, length-take, length-take-le, get_or-take, get_or-drop, digit_value, number_from_digits, AllBelowBase, place, IsStored, below_take, middle, IsInner, number_split, below_drop}
+use Rattle.decimal_unsigned.proofs.Common.{inl, inr, ◌≡◌, ℕ, suc, ◌+◌, ◌-◌, ◌*◌, ◌^◌, ◌<◌, ◌≤◌, List, [], ◌∷◌, length, get_or, take, drop, ◌++◌, map, min, refl, sym, ◌∙◌, ap, subst, arith, ℤ, pos, ◌-ℤ◌, ints, pow-add, cases_lt, append-nil, length-map, take_all, length-drop, length-take, length-take-le, get_or-take, get_or-drop, digit_value, number_from_digits, AllBelowBase, offset, IsStored, below_take, middle, IsNonzeroRange, number_split, below_drop}
 use Rattle.std.proofs.Math.Seq.{drop-append-add, take-append-add}
 use Rattle.std.proofs.lemmas.List.{map-append, take-map, drop-map, drop-append-le, take-append-le}
 use Rattle.decimal_digits.specs.Digits.{number_of, number_at}
@@ -16,7 +16,7 @@ number_zeros (d ∷ ds) h =
     let r = number_zeros ds (λ k l. h (suc k) (omega arith)) in
     rw (e, r, z) (omega arith)
 
-module _ (ds : List ℕ) (start end : ℕ) (n : IsInner ds start end) where
+module _ (ds : List ℕ) (start end : ℕ) (n : IsNonzeroRange ds start end) where
   -- how many they are
   pub middle_length : length (middle start end ds) ≡ end - start
   middle_length = length-take-le (end - start) (drop start ds) (omega (arith, n.within, length-drop start ds))
@@ -50,21 +50,21 @@ module _ (ds : List ℕ) (start end : ℕ) (n : IsInner ds start end) where
   middle_below h = below_take 10 (end - start) (drop start ds) (below_drop 10 start ds h)
 
 -- the same of a places in front of the dot and b behind it
-pub number_of-middle : (ds : List ℕ) (start end a b : ℕ) (m : ℤ) → IsInner ds start end → length ds ≡ a + b
-    → b ≤ 32768 → place m + (start + 1) ≡ 32768 + a
+pub number_of-middle : (ds : List ℕ) (start end a b : ℕ) (m : ℤ) → IsNonzeroRange ds start end → length ds ≡ a + b
+    → b ≤ 32768 → offset m + (start + 1) ≡ 32768 + a
     → number_of (middle start end ds) m ≡ number_from_digits 10 ds * 10 ^ (32768 - b)
 unfolding number_of number_at
 number_of-middle ds start end a b m n whole few p =
     let l = middle_length ds start end n in
-    let k : place m + 1 - length (middle start end ds) ≡ (length ds - end) + (32768 - b) =
+    let k : offset m + 1 - length (middle start end ds) ≡ (length ds - end) + (32768 - b) =
     omega (arith, n.ordered, n.within) in
-    let e : number_from_digits 10 (middle start end ds) * 10 ^ (place m + 1 - length (middle start end ds))
+    let e : number_from_digits 10 (middle start end ds) * 10 ^ (offset m + 1 - length (middle start end ds))
     ≡ (number_from_digits 10 (middle start end ds) * 10 ^ (length ds - end)) * 10 ^ (32768 - b) =
     rw (k, pow-add 10 (length ds - end) (32768 - b)) (omega arith) in
     e ∙ ap (λ x. x * 10 ^ (32768 - b)) (sym (number_middle ds start end n))
 
 -- the digits between the zeros, as a value holds them
-pub stored_middle : (ds : List ℕ) (start end a b : ℕ) (m : ℤ) → IsInner ds start end → AllBelowBase 10 ds
+pub stored_middle : (ds : List ℕ) (start end a b : ℕ) (m : ℤ) → IsNonzeroRange ds start end → AllBelowBase 10 ds
     → length ds ≡ a + b → a ≤ 32768 → b ≤ 32768 → m ≡ (pos a -ℤ pos 1) -ℤ pos start
     → IsStored (middle start end ds) m (pos (a - 1)) (pos 0 -ℤ pos b)
 stored_middle ds start end a b m n d whole many few e =
@@ -94,9 +94,9 @@ middle_both a b start end p q =
     let n : end - start ≡ length (drop start a) + (end - length a) = omega (arith, length-drop start a) in
     rw (drop-append-le start a b p, n) (take-append-add (drop start a) b (end - length a))
 
-middle_behind : (a b : List ℕ) (start end : ℕ) → length a ≤ start
+middle_after : (a b : List ℕ) (start end : ℕ) → length a ≤ start
     → middle start end (a ++ b) ≡ middle (start - length a) (end - length a) b
-middle_behind a b start end p =
+middle_after a b start end p =
     let d : drop start (a ++ b) ≡ drop (start - length a) b =
     (let k : start ≡ length a + (start - length a) = omega arith in ap (λ k. drop k (a ++ b)) k)
     ∙ drop-append-add a b (start - length a) in
@@ -125,7 +125,7 @@ middle_append a b start end p = elim (cases_lt (length a) end) [
         let s : min start (length a) ≡ length a = omega arith in
         let e : min end (length a) ≡ length a = omega arith in
         let z : length a - length a ≡ 0 = omega arith in
-        rw (s, e, z) (middle_behind a b start end (omega arith))
+        rw (s, e, z) (middle_after a b start end (omega arith))
   ]
 ]
 

@@ -1,5 +1,5 @@
 -- The bytes from an index on of the text of a value.
-use Rattle.decimal_unsigned.proofs.Common.{◌≡◌, ℕ, suc, ◌+◌, ◌-◌, ◌<◌, ◌≤◌, List, [], ◌∷◌, ◌++◌, length, get_or, take, drop, refl, sym, ◌∙◌, ap, arith, ℤ, pos, negsuc, ◌+ℤ◌, ◌-ℤ◌, ◌≤ℤ◌, int_gap, ints, length-append, length-drop, take_all, get_or-take, get_or-drop, place, place_is, gap_is, Unsigned, IsValue, text}
+use Rattle.decimal_unsigned.proofs.Common.{◌≡◌, ℕ, suc, ◌+◌, ◌-◌, ◌<◌, ◌≤◌, List, [], ◌∷◌, ◌++◌, length, get_or, take, drop, refl, sym, ◌∙◌, ap, arith, ℤ, pos, negsuc, ◌+ℤ◌, ◌-ℤ◌, ◌≤ℤ◌, int_gap, ints, length-append, length-drop, take_all, get_or-take, get_or-drop, offset, offset_is, gap_is, Unsigned, IsValue, text}
 use Rattle.std.proofs.Math.Seq.{take-append-add, drop-append-add}
 use Rattle.std.proofs.lemmas.List.{take-append-le, drop-append-le}
 use Rattle.decimal_unsigned.proofs.TextBytes.{byte, bytes_down, length-bytes_down, bytes_down-part, fraction_text, text_is}
@@ -100,21 +100,21 @@ module _ (v : Unsigned) (valid : IsValue v) (dot : ℕ) (dot_is : dot ≡ int_ga
 
   -- ---- The magnitudes of a piece are within the limits.
   -- above the dot
-  pub room_above : (from n : ℕ) → from + n ≤ dot → n ≤ place (v.hi -ℤ pos from) + 1
-  room_above from n h = omega (arith, ints, place_is (v.hi -ℤ pos from), dot_at)
+  pub fits_above : (from n : ℕ) → from + n ≤ dot → n ≤ offset (v.hi -ℤ pos from) + 1
+  fits_above from n h = omega (arith, ints, offset_is (v.hi -ℤ pos from), dot_at)
 
   -- behind a dot within the piece
-  pub room_behind : (from a k : ℕ) → from + a ≡ dot → from + (a + suc k) ≤ length (text v)
-      → k ≤ place (negsuc 0) + 1
-  room_behind from a k e l =
+  pub fits_after : (from a k : ℕ) → from + a ≡ dot → from + (a + suc k) ≤ length (text v)
+      → k ≤ offset (negsuc 0) + 1
+  fits_after from a k e l =
       let p = past (dot + suc k) (omega arith) (omega arith) in
-      omega (arith, place_is (negsuc 0), p.2, p.3)
+      omega (arith, offset_is (negsuc 0), p.2, p.3)
 
   -- below the dot
-  pub room_below : (from n : ℕ) → dot < from → from + n ≤ length (text v)
-      → (n ≤ place (v.hi -ℤ pos (from - 1)) + 1) × (0 < n → negsuc 32767 ≤ℤ (v.hi -ℤ pos (from - 1)))
-  room_below from n h l =
+  pub fits_below : (from n : ℕ) → dot < from → from + n ≤ length (text v)
+      → (n ≤ offset (v.hi -ℤ pos (from - 1)) + 1) × (0 < n → negsuc 32767 ≤ℤ (v.hi -ℤ pos (from - 1)))
+  fits_below from n h l =
       let p = past (from + n) (omega arith) l in (
-        omega (arith, ints, place_is (v.hi -ℤ pos (from - 1)), dot_at, p.2, p.3),
+        omega (arith, ints, offset_is (v.hi -ℤ pos (from - 1)), dot_at, p.2, p.3),
         λ some. omega (arith, ints, dot_at, p.2, p.3),
       )

@@ -1,12 +1,12 @@
 -- The value of the parts, by the digits that are kept.
-use Rattle.decimal_unsigned.proofs.Common.{◌≡◌, ℕ, ◌+◌, ◌-◌, ◌*◌, ◌^◌, ◌<◌, ◌≤◌, ◌==◌, nat_lt, Bool, true, false, cond, ◌||◌, ◌⊎◌, inl, inr, ◌++◌, length, get_or, refl, sym, ◌∙◌, ap, subst, arith, ℤ, pos, negsuc, ◌+ℤ◌, ◌-ℤ◌, ◌≤ℤ◌, ◌<ℤ◌, int_lt, Option, Some, None, Ok, Err, int_max, int_min, ints, clamps, nat_tests, length-map, length-append, digit_value, AllDigits, digits_value, AllBelowBase, digits_value_is, first, last, Unsigned, number_of, place_is, IsStored, Written, is_outside, limit, leaves_limits, multiplied, middle, IsInner, mantissa}
+use Rattle.decimal_unsigned.proofs.Common.{◌≡◌, ℕ, ◌+◌, ◌-◌, ◌*◌, ◌^◌, ◌<◌, ◌≤◌, ◌==◌, nat_lt, Bool, true, false, cond, ◌||◌, ◌⊎◌, inl, inr, ◌++◌, length, get_or, refl, sym, ◌∙◌, ap, subst, arith, ℤ, pos, negsuc, ◌+ℤ◌, ◌-ℤ◌, ◌≤ℤ◌, ◌<ℤ◌, int_lt, Option, Some, None, Ok, Err, int_max, int_min, ints, clamps, nat_tests, length-map, length-append, digit_value, AllDigits, digits_value, AllBelowBase, digits_value_is, first, last, Unsigned, number_of, offset_is, IsStored, Literal, is_outside, limit, leaves_limits, multiplied, middle, IsNonzeroRange, mantissa}
 use Rattle.std.specs.Prelude.{if◌then◌else◌}
 use Rattle.std.proofs.lemmas.Bool.{or_left, or_right}
 use Rattle.std.proofs.lemmas.Int.Digits.{all_below_base_from_digits}
 use Rattle.decimal_unsigned.proofs.Values.{number_of-pos, first-number_of, last-number_of, number_of_empty, stored_as}
 use Rattle.decimal_unsigned.proofs.Shifts.{Moves, moved, multiplied_is}
-use Rattle.decimal_unsigned.specs.Reading.{tidied, scaled, value_of}
-use Rattle.decimal_unsigned.specs.Placing.{digits_of, Makes}
+use Rattle.decimal_unsigned.specs.Reading.{zeros_trimmed, scaled, value_of}
+use Rattle.decimal_unsigned.specs.ScannedDigits.{digits_of, IsPlan}
 use Rattle.decimal_unsigned.proofs.Middle.{number_zeros, middle_length, number_of-middle, stored_middle}
 
 -- a magnitude above 32767 fails the test
@@ -62,26 +62,26 @@ none_or_zero v (Some e) n = rw n refl
 
 -- ---- too many digits
 -- more than 32,768 digits in front of the dot
-pub long_whole : (w : Written) → 32768 < length w.whole → value_of w ≡ Err limit
+pub long_whole : (w : Literal) → 32768 < length w.whole → value_of w ≡ Err limit
 unfolding value_of
 long_whole w h = let t : nat_lt 32768 (length w.whole) ≡ true = grind (arith, nat_tests, h) in rw t refl
 
 -- or behind it
-pub long_fraction : (w : Written) → 32768 < length w.fraction → value_of w ≡ Err limit
+pub long_fraction : (w : Literal) → 32768 < length w.fraction → value_of w ≡ Err limit
 unfolding value_of
 long_fraction w h =
     let t : nat_lt 32768 (length w.fraction) ≡ true = grind (arith, nat_tests, h) in
     rw (or_right (nat_lt 32768 (length w.whole)) _ t) refl
 
 -- how many digits there are on both sides of the dot
-pub length_digits : (w : Written) → length (digits_of w) ≡ length w.whole + length w.fraction
+pub length_digits : (w : Literal) → length (digits_of w) ≡ length w.whole + length w.fraction
 length_digits w = length-map (w.whole ++ w.fraction) digit_value ∙ length-append w.whole w.fraction
 
 -- they are digits
-pub all_digits : (w : Written) → AllDigits 10 (w.whole ++ w.fraction) → AllBelowBase 10 (digits_of w)
+pub all_digits : (w : Literal) → AllDigits 10 (w.whole ++ w.fraction) → AllBelowBase 10 (digits_of w)
 all_digits w = all_below_base_from_digits 10 (w.whole ++ w.fraction)
 
-module _ (w : Written) (digits : AllDigits 10 (w.whole ++ w.fraction)) (few : length w.whole ≤ 32768)
+module _ (w : Literal) (digits : AllDigits 10 (w.whole ++ w.fraction)) (few : length w.whole ≤ 32768)
     (short : length w.fraction ≤ 32768) where
   -- the value is that of the digits, times the power of ten
   pub value_scaled : value_of w ≡ scaled (mantissa w.whole w.fraction) w.exponent
@@ -94,7 +94,7 @@ module _ (w : Written) (digits : AllDigits 10 (w.whole ++ w.fraction)) (few : le
   -- ---- zero
   -- digits that are all 0 make 0, in the range that is written
   pub makes_zero : ((k : ℕ) → k < length (digits_of w) → get_or (digits_of w) k 0 ≡ 0)
-      → Makes w 0 0 (pos 0) (pos (length w.whole - 1)) (pos 0 -ℤ pos (length w.fraction))
+      → IsPlan w 0 0 (pos 0) (pos (length w.whole - 1)) (pos 0 -ℤ pos (length w.fraction))
   makes_zero h =
       let z : digits_value 10 (w.whole ++ w.fraction) ≡ 0 =
       digits_value_is 10 (w.whole ++ w.fraction) ∙ number_zeros (digits_of w) h in
@@ -116,7 +116,7 @@ module _ (w : Written) (digits : AllDigits 10 (w.whole ++ w.fraction)) (few : le
             });
       }
 
-  module _ (start end : ℕ) (n : IsInner (digits_of w) start end) (m : ℤ)
+  module _ (start end : ℕ) (n : IsNonzeroRange (digits_of w) start end) (m : ℤ)
       (at : m ≡ (pos (length w.whole) -ℤ pos 1) -ℤ pos start) where
     stored : IsStored (middle start end (digits_of w)) m (pos (length w.whole - 1)) (pos 0 -ℤ pos (length w.fraction))
     stored =
@@ -126,7 +126,7 @@ module _ (w : Written) (digits : AllDigits 10 (w.whole ++ w.fraction)) (few : le
     number_is : number_of (middle start end (digits_of w)) m ≡ (mantissa w.whole w.fraction).number
     number_is =
         number_of-middle (digits_of w) start end (length w.whole) (length w.fraction) m n (length_digits w) short
-        (omega (arith, ints, at, place_is m, n.ordered, n.within, length_digits w))
+        (omega (arith, ints, at, offset_is m, n.ordered, n.within, length_digits w))
         ∙ ap (λ x. x * 10 ^ (32768 - length w.fraction)) (sym (digits_value_is 10 (w.whole ++ w.fraction)))
 
     some : 0 < length (middle start end (digits_of w))
@@ -148,7 +148,7 @@ module _ (w : Written) (digits : AllDigits 10 (w.whole ++ w.fraction)) (few : le
     -- ---- no exponent
     -- with no exponent the digits make the value, in the range that is written
     pub makes_plain : w.exponent ≡ None
-        → Makes w start end m (pos (length w.whole - 1)) (pos 0 -ℤ pos (length w.fraction))
+        → IsPlan w start end m (pos (length w.whole - 1)) (pos 0 -ℤ pos (length w.fraction))
     unfolding scaled
     makes_plain e = record {
       ordered = omega (arith, n.ordered);
@@ -175,7 +175,7 @@ module _ (w : Written) (digits : AllDigits 10 (w.whole ++ w.fraction)) (few : le
         → low ≡ (pos 0 -ℤ pos (length w.fraction)) +ℤ e → high ≤ℤ pos 32767 → negsuc 32767 ≤ℤ low → m' ≡ top
         → hi' ≡ (if int_lt (pos 0) top then top else int_max high (pos 0))
         → lo' ≡ (if int_lt bottom (pos 0) then bottom else int_min low (pos 0))
-        → Makes w start end m' hi' lo'
+        → IsPlan w start end m' hi' lo'
     unfolding scaled
     makes_scaled e top bottom high low m' hi' lo' s top_is bottom_is high_is low_is upper lower m_is hi_is lo_is =
         let v = mantissa w.whole w.fraction in
@@ -202,8 +202,8 @@ module _ (w : Written) (digits : AllDigits 10 (w.whole ++ w.fraction)) (few : le
         let b = not_under e (omega (arith, ints, low_is, lower)) in
         let c = not_over (hi +ℤ e) (omega (arith, ints, high_is, upper)) in
         let d = not_under (lo +ℤ e) (omega (arith, ints, low_is, lower)) in
-        let tidy : tidied (multiplied v e) ≡ record { number = number_of ds m'; hi = hi'; lo = lo' } =
-        ap tidied (sym u)
+        let tidy : zeros_trimmed (multiplied v e) ≡ record { number = number_of ds m'; hi = hi'; lo = lo' } =
+        ap zeros_trimmed (sym u)
         ∙ (λ i. record {
           number = number_of ds m';
           hi = if int_lt (pos 0) (f i) then f i else int_max (sym high_is i) (pos 0);
@@ -227,7 +227,7 @@ module _ (w : Written) (digits : AllDigits 10 (w.whole ++ w.fraction)) (few : le
         }
 
 -- the same of equal magnitudes
-pub makes_at : (w : Written) (start end : ℕ) (m hi lo m' hi' lo' : ℤ) → Makes w start end m hi lo → m' ≡ m
+pub is_plan_at : (w : Literal) (start end : ℕ) (m hi lo m' hi' lo' : ℤ) → IsPlan w start end m hi lo → m' ≡ m
     → hi' ≡ hi → lo' ≡ lo
-    → Makes w start end m' hi' lo'
-makes_at w start end m hi lo m' hi' lo' k p q r = rw (p, q, r) k
+    → IsPlan w start end m' hi' lo'
+is_plan_at w start end m hi lo m' hi' lo' k p q r = rw (p, q, r) k

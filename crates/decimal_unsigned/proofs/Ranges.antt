@@ -1,5 +1,5 @@
 -- The first and the last digit of a value, and the ranges that show them.
-use Rattle.decimal_unsigned.proofs.Common.{◌≡◌, ℕ, ◌+◌, ◌-◌, ◌%◌, ◌^◌, ◌<◌, true, false, List, length, sym, ◌∙◌, subst, arith, inl, inr, ℤ, pos, negsuc, ◌-ℤ◌, ◌≤ℤ◌, ◌<ℤ◌, int_lt, int_max, int_min, mul-mod_left, ints, clamps, cases_lt, number_from_digits, place, first, last, place_is, no_more_zeros, IsStored, Unsigned, IsValue, IsLast, number_back}
+use Rattle.decimal_unsigned.proofs.Common.{◌≡◌, ℕ, ◌+◌, ◌-◌, ◌%◌, ◌^◌, ◌<◌, true, false, List, length, sym, ◌∙◌, subst, arith, inl, inr, ℤ, pos, negsuc, ◌-ℤ◌, ◌≤ℤ◌, ◌<ℤ◌, int_lt, int_max, int_min, mul-mod_left, ints, clamps, cases_lt, number_from_digits, offset, first, last, offset_is, no_more_zeros, IsStored, Unsigned, IsValue, IsLast, number_back}
 use Rattle.decimal_digits.specs.Number.{IsFirst}
 use Rattle.decimal_digits.specs.Digits.{number_of, number_at}
 use Rattle.decimal_unsigned.proofs.Values.{number_of-ge, number_of-lt, number_of-none, none_of, lowest, last-number_of, last_of_none, last_in, first_of}
@@ -26,18 +26,18 @@ module _ {ds : List ℕ} {m hi lo : ℤ} (t : IsStored ds m hi lo) where
   is_last = record {
     divides = λ p.
         subst (λ k. number_of ds m % 10 ^ k ≡ 0) (sym (ends_at (some p)))
-        (mul-mod_left (number_from_digits 10 ds) (10 ^ (place m + 1 - length ds)));
+        (mul-mod_left (number_from_digits 10 ds) (10 ^ (offset m + 1 - length ds)));
     highest = λ p k h.
         let s = some p in
         let b : 0 < number_from_digits 10 ds % 10 = rw (number_back ds t.digits s) (t.back s) in
-        no_more_zeros (number_from_digits 10 ds) (place m + 1 - length ds) k b (omega (arith, ends_at s));
+        no_more_zeros (number_from_digits 10 ds) (offset m + 1 - length ds) k b (omega (arith, ends_at s));
     none = λ z. last_of_none t (none_of t z);
   }
     where
-      ends_at : 0 < length ds → place (last (number_of ds m)) ≡ place m + 1 - length ds
+      ends_at : 0 < length ds → offset (last (number_of ds m)) ≡ offset m + 1 - length ds
       ends_at h =
           let e = last-number_of t h in
-          omega (arith, ints, e, t.fits, last_in t, lowest t, place_is m, place_is (last (number_of ds m)))
+          omega (arith, ints, e, t.fits, last_in t, lowest t, offset_is m, offset_is (last (number_of ds m)))
 
   module _ {v : Unsigned} (view : record { number = number_of ds m; hi = hi; lo = lo } ≡ v) {r : ℤ} where
     -- what the magnitude of the first digit says of the value

@@ -1,12 +1,12 @@
 -- The text of a value is read as that value.
-use Rattle.decimal_unsigned.proofs.Common.{◌≡◌, ℕ, zero, suc, ◌+◌, ◌-◌, ◌*◌, ◌/◌, ◌%◌, ◌^◌, ◌<◌, ◌≤◌, nat_lt, false, List, [], ◌∷◌, ◌++◌, length, map, refl, sym, ◌∙◌, ap, subst, arith, append-nil, ℤ, pos, negsuc, ◌+ℤ◌, ◌-ℤ◌, ◌≤ℤ◌, None, Ok, ints, nat_tests, pow-add, length-map, digit_value, int_gap, AllDigits, digits_value, digits_value_is, place, weight, digit, ten_pos, place_is, gap_is, Unsigned, IsValue, text, Written, read, pow-suc, mod-lt, mod-eq_of_lt}
+use Rattle.decimal_unsigned.proofs.Common.{◌≡◌, ℕ, zero, suc, ◌+◌, ◌-◌, ◌*◌, ◌/◌, ◌%◌, ◌^◌, ◌<◌, ◌≤◌, nat_lt, false, List, [], ◌∷◌, ◌++◌, length, map, refl, sym, ◌∙◌, ap, subst, arith, append-nil, ℤ, pos, negsuc, ◌+ℤ◌, ◌-ℤ◌, ◌≤ℤ◌, None, Ok, ints, nat_tests, pow-add, length-map, digit_value, int_gap, AllDigits, digits_value, digits_value_is, offset, weight, digit, ten_pos, offset_is, gap_is, Unsigned, IsValue, text, Literal, read, pow-suc, mod-lt, mod-eq_of_lt}
 use Rattle.std.proofs.Math.Arith.{mod-mul}
 use Rattle.std.proofs.Math.Nat.{div-div-eq-div-mul, div-lt_iff_lt-mul, div-add-mod'}
 use Rattle.std.proofs.lemmas.Str.{digit_value_digit}
 use Rattle.decimal_digits.proofs.DigitLists.{number_first}
 use Rattle.decimal_unsigned.specs.Grammar.{integer, decimal}
 use Rattle.decimal_unsigned.specs.Reading.{scaled, value_of}
-use Rattle.decimal_unsigned.proofs.ParserAnswers.{read_grammar}
+use Rattle.decimal_unsigned.proofs.ReadingGrammar.{read_grammar}
 use Rattle.decimal_unsigned.proofs.TextBytes.{byte, bytes_down, length-bytes_down, fraction_text, text_is}
 
 -- ---- What bytes of digits are worth.
@@ -24,15 +24,15 @@ bytes_digits number m (suc n) = (
   bytes_digits number (m -ℤ pos 1) n,
 )
 
-bytes_worth : (number low : ℕ) (m : ℤ) (n : ℕ) → (0 < n → low + n ≡ place m + 1)
+bytes_worth : (number low : ℕ) (m : ℤ) (n : ℕ) → (0 < n → low + n ≡ offset m + 1)
     → digits_value 10 (bytes_down number m n) ≡ number / 10 ^ low % 10 ^ n
 bytes_worth number low m zero h = omega arith
 bytes_worth number low m (suc n) h =
     let d = digit number m in
     let cs = bytes_down number (m -ℤ pos 1) n in
-    let at : place m ≡ low + n = omega (arith, h (omega arith)) in
+    let at : offset m ≡ low + n = omega (arith, h (omega arith)) in
     let rest = bytes_worth number low (m -ℤ pos 1) n
-    (λ p. omega (arith, ints, at, place_is m, place_is (m -ℤ pos 1))) in
+    (λ p. omega (arith, ints, at, offset_is m, offset_is (m -ℤ pos 1))) in
     let e : digits_value 10 ((48 + d) ∷ cs) ≡ d * 10 ^ n + number / 10 ^ low % 10 ^ n =
     digits_value_is 10 ((48 + d) ∷ cs)
     ∙ number_first 10 (digit_value (48 + d)) (map digit_value cs)
@@ -43,7 +43,7 @@ bytes_worth number low m (suc n) h =
       length-map cs digit_value,
       length-bytes_down number (m -ℤ pos 1) n,
     ) refl) in
-    let s : number / 10 ^ place m ≡ number / 10 ^ low / 10 ^ n =
+    let s : number / 10 ^ offset m ≡ number / 10 ^ low / 10 ^ n =
     ap (λ k. number / 10 ^ k) at
     ∙ ap (λ x. number / x) (pow-add 10 low n) ∙ sym (div-div-eq-div-mul number (10 ^ low) (10 ^ n)) in
     let split : number / 10 ^ low % (10 * 10 ^ n)
@@ -65,7 +65,7 @@ bytes-append number m k (suc a) b e =
 
 -- ---- The value of a text of digits.
 module _ (number : ℕ) (hi : ℤ) (dot b low : ℕ) (dot_is : pos dot ≡ hi +ℤ pos 1) (positive : pos 0 ≤ℤ hi)
-    (high : hi ≤ℤ pos 32767) (split : low + b ≡ 32768) (below : number < 10 ^ (place hi + 1))
+    (high : hi ≤ℤ pos 32767) (split : low + b ≡ 32768) (below : number < 10 ^ (offset hi + 1))
     (none : number % 10 ^ low ≡ 0) where
   abbrev whole : List ℕ
   whole = bytes_down number hi dot
@@ -75,8 +75,8 @@ module _ (number : ℕ) (hi : ℤ) (dot b low : ℕ) (dot_is : pos dot ≡ hi +�
 
   worth : digits_value 10 (whole ++ fraction) ≡ number / 10 ^ low
   worth =
-      let n : low + (dot + b) ≡ place hi + 1 = omega (arith, ints, place_is hi) in
-      let k : place hi + 1 ≡ dot + b + low = omega arith in
+      let n : low + (dot + b) ≡ offset hi + 1 = omega (arith, ints, offset_is hi) in
+      let k : offset hi + 1 ≡ dot + b + low = omega arith in
       let l : number / 10 ^ low < 10 ^ (dot + b) =
       (div-lt_iff_lt-mul (ten_pos low)).1
       (subst (λ x. number < x) (ap (λ k. 10 ^ k) k ∙ pow-add 10 (dot + b) low) below) in
@@ -106,13 +106,13 @@ module _ (v : Unsigned) (valid : IsValue v) where
   abbrev dot : ℕ
   dot = int_gap (pos 0) v.hi + 1
 
-  abbrev written : List ℕ → Written
+  abbrev written : List ℕ → Literal
   written fraction = record { whole = bytes_down v.number v.hi dot; fraction = fraction; exponent = None }
 
   value : (b : ℕ) → pos 0 -ℤ pos b ≡ v.lo → value_of (written (bytes_down v.number (negsuc 0) b)) ≡ Ok v
   value b e =
-      value_written v.number v.hi dot b (place v.lo) (omega (arith, ints, gap_is (pos 0) v.hi, valid.hi_in))
-      valid.hi_in.0 valid.hi_in.1 (omega (arith, ints, e, place_is v.lo, valid.lo_in)) valid.below valid.whole
+      value_written v.number v.hi dot b (offset v.lo) (omega (arith, ints, gap_is (pos 0) v.hi, valid.hi_in))
+      valid.hi_in.0 valid.hi_in.1 (omega (arith, ints, e, offset_is v.lo, valid.lo_in)) valid.below valid.whole
       ∙ (λ i. Ok (record { number = v.number; hi = v.hi; lo = e i }))
 
   read_shown : (lo : ℤ) → v.lo ≡ lo

@@ -1,16 +1,16 @@
 -- Laws of rounding, on values.
-use Rattle.decimal_unsigned.proofs.Common.{◌≡◌, ℕ, ◌+◌, ◌-◌, ◌*◌, ◌^◌, ◌<◌, ◌≤◌, true, false, refl, sym, ◌∙◌, ap, subst, arith, inl, inr, Bool, Option, Some, None, ℤ, pos, negsuc, ◌-ℤ◌, ◌≤ℤ◌, unwrap_or, int_max, int_min, ints, clamps, pow-add, cases_lt, place, first, size, number_limit, unit_at, rounded_number, RoundingIncrement, MultiplesOf1, Trunc, ten_pos, Unsigned, IsValue, rounded, IsRounded, by_lt_z, none-some, RoundError, UnsignedRoundingMode, unit_pos, with_number, trunced}
+use Rattle.decimal_unsigned.proofs.Common.{◌≡◌, ℕ, ◌+◌, ◌-◌, ◌*◌, ◌^◌, ◌<◌, ◌≤◌, true, false, refl, sym, ◌∙◌, ap, subst, arith, inl, inr, Bool, Option, Some, None, ℤ, pos, negsuc, ◌-ℤ◌, ◌≤ℤ◌, unwrap_or, int_max, int_min, ints, clamps, pow-add, cases_lt, offset, first, size, number_limit, unit_at, rounded_number, RoundingIncrement, MultiplesOf1, Trunc, ten_pos, Unsigned, IsValue, rounded, IsRounded, by_lt_z, none-some, RoundError, UnsignedRoundingMode, unit_pos, with_number, trunced}
 use Rattle.std.specs.Prelude.{option_and_then, if◌then◌else◌}
 use Rattle.std.proofs.lemmas.Option.{same_Some}
-use Rattle.decimal_digits.specs.Rounding.{DigitRoundingRefuses}
+use Rattle.decimal_digits.specs.Rounding.{DigitRoundingFails}
 use Rattle.decimal_digits.specs.declared.rounding.RoundError.TheVariants.{Limit, Memory}
 use Rattle.decimal_digits.specs.declared.rounding.UnsignedRoundingMode.TheVariants.{Expand}
 use Rattle.decimal_digits.proofs.Naming.{rounded_number-named}
-use Rattle.decimal_digits.proofs.Places.{place_le}
+use Rattle.decimal_digits.proofs.Offsets.{offset_le}
 use Rattle.decimal_digits.proofs.RoundingLaws.{rounded_number-idempotent, rounded_number-zero, rounded_number-finer, rounded_number-monotone, trunc-coarser, expand-coarser, trunc_le, le_expand}
-use Rattle.decimal_unsigned.specs.Rounded.{reaches_limit, rounded_to, RoundingRefuses}
-use Rattle.decimal_unsigned.specs.EditLaws.{after_rounding, expanded, number_if_any, TruncationsCompose, ExpansionsCompose, RoundingIsMonotone}
-use Rattle.decimal_unsigned.proofs.EditLaws.{below_limit}
+use Rattle.decimal_unsigned.specs.Rounded.{reaches_limit, rounded_to, RoundingFails}
+use Rattle.decimal_unsigned.specs.ValueLaws.{after_rounding, expanded, number_if_any, TruncationsCompose, ExpansionsCompose, RoundingIsMonotone}
+use Rattle.decimal_unsigned.proofs.ValueLaws.{below_limit}
 use Rattle.decimal_unsigned.proofs.FirstLast.{first_le}
 use Rattle.decimal_unsigned.proofs.Roundings.{within, beyond, rounded_to-small, rounded_to-large, trunc_makes}
 
@@ -31,13 +31,13 @@ is_rounded v p mode increment valid e = record {
 }
 
 -- why the digits are left as they were is why the value is
-pub refuses : (held : ℕ) (e : RoundError) (v : Unsigned) (p : ℤ) (mode : UnsignedRoundingMode)
+pub fails : (held : ℕ) (e : RoundError) (v : Unsigned) (p : ℤ) (mode : UnsignedRoundingMode)
     (increment : RoundingIncrement) → IsValue v
-    → DigitRoundingRefuses e increment (size v.number) (rounded_number mode (unit_at increment p) v.number) held
-    → RoundingRefuses held e v p mode increment
-refuses held Limit v p mode increment valid r =
+    → DigitRoundingFails e increment (size v.number) (rounded_number mode (unit_at increment p) v.number) held
+    → RoundingFails held e v p mode increment
+fails held Limit v p mode increment valid r =
     is_rounded v p mode increment valid (rounded_to-large v p (rounded_number mode (unit_at increment p) v.number) r)
-refuses held Memory v p mode increment valid r = r
+fails held Memory v p mode increment valid r = r
 
 -- ---- The same rounding again.
 
@@ -66,12 +66,12 @@ rounding_is_idempotent v w p mode increment e =
 
 -- ---- Two positions.
 coarser : (p q : ℤ) → negsuc 32767 ≤ℤ p → p ≤ℤ q
-    → unit_at MultiplesOf1 q ≡ 10 ^ (place q - place p) * unit_at MultiplesOf1 p
+    → unit_at MultiplesOf1 q ≡ 10 ^ (offset q - offset p) * unit_at MultiplesOf1 p
 coarser p q low h =
-    let l : place p ≤ place q = place_le p q low (omega (arith, ints)) h in
-    let k : place q ≡ (place q - place p) + place p = omega arith in
-    let e : 10 ^ place q ≡ 10 ^ (place q - place p) * 10 ^ place p =
-    ap (λ k. 10 ^ k) k ∙ pow-add 10 (place q - place p) (place p) in
+    let l : offset p ≤ offset q = offset_le p q low (omega (arith, ints)) h in
+    let k : offset q ≡ (offset q - offset p) + offset p = omega arith in
+    let e : 10 ^ offset q ≡ 10 ^ (offset q - offset p) * 10 ^ offset p =
+    ap (λ k. 10 ^ k) k ∙ pow-add 10 (offset q - offset p) (offset p) in
     omega (arith, e)
 
 -- rounding by the coarser unit after the finer one is rounding by the coarser one
@@ -100,7 +100,8 @@ module _ (mode : UnsignedRoundingMode) (n : ℕ) (absorbs : Absorbs mode n) wher
       let u = unit_at MultiplesOf1 p in
       let e = coarser p q low h in
       subst (λ k. rounded_number mode k (rounded_number mode u n) ≡ rounded_number mode k n) (sym e)
-      (absorbs u (10 ^ (place q - place p)) (unit_pos MultiplesOf1 p) (subst (λ k. 0 < k) e (unit_pos MultiplesOf1 q)))
+      (absorbs u (10 ^ (offset q - offset p)) (unit_pos MultiplesOf1 p)
+      (subst (λ k. 0 < k) e (unit_pos MultiplesOf1 q)))
 
   twice_down : (p q : ℤ) → negsuc 32767 ≤ℤ q → q ≤ℤ p → twice p q ≡ once p
   unfolding once twice
@@ -108,7 +109,7 @@ module _ (mode : UnsignedRoundingMode) (n : ℕ) (absorbs : Absorbs mode n) wher
       let u = unit_at MultiplesOf1 q in
       let e = coarser q p low h in
       subst (λ k. rounded_number mode u (rounded_number mode k n) ≡ rounded_number mode k n) (sym e)
-      (rounded_number-finer u (10 ^ (place p - place q)) n (unit_pos MultiplesOf1 q)
+      (rounded_number-finer u (10 ^ (offset p - offset q)) n (unit_pos MultiplesOf1 q)
       (subst (λ k. 0 < k) e (unit_pos MultiplesOf1 p)) mode)
 
   twice_is : (p q : ℤ) → negsuc 32767 ≤ℤ p → negsuc 32767 ≤ℤ q → twice p q ≡ once (int_max p q)
@@ -204,12 +205,12 @@ module _ (v : Unsigned) (p : ℤ) (low : negsuc 32767 ≤ℤ p) (valid : IsValue
 -- ---- Order.
 
 -- the number that stands after a rounding: the multiple, or the old number where that one reaches the limit
-abbrev pub standing : UnsignedRoundingMode → ℕ → ℕ → ℕ
-standing mode u n = if reaches_limit (rounded_number mode u n) then n else rounded_number mode u n
+abbrev pub new_number : UnsignedRoundingMode → ℕ → ℕ → ℕ
+new_number mode u n = if reaches_limit (rounded_number mode u n) then n else rounded_number mode u n
 
 -- it is the number of what stands after a rounding
 pub number-after_rounding : (v : Unsigned) (p : ℤ) (mode : UnsignedRoundingMode) (increment : RoundingIncrement)
-    → (after_rounding v p mode increment).number ≡ standing mode (unit_at increment p) v.number
+    → (after_rounding v p mode increment).number ≡ new_number mode (unit_at increment p) v.number
 number-after_rounding v p mode increment =
     at (reaches_limit (rounded_number mode (unit_at increment p) v.number))
     (rounded_number mode (unit_at increment p) v.number)
@@ -220,25 +221,25 @@ number-after_rounding v p mode increment =
     at false n = refl
 
 module _ (mode : UnsignedRoundingMode) (u : ℕ) (pos_u : 0 < u) where
-  standing-small : (n : ℕ) → rounded_number mode u n < number_limit → standing mode u n ≡ rounded_number mode u n
-  standing-small n h = let t = within (rounded_number mode u n) number_limit h in rw t refl
+  new_number-small : (n : ℕ) → rounded_number mode u n < number_limit → new_number mode u n ≡ rounded_number mode u n
+  new_number-small n h = let t = within (rounded_number mode u n) number_limit h in rw t refl
 
-  standing-large : (n : ℕ) → number_limit ≤ rounded_number mode u n → standing mode u n ≡ n
-  standing-large n h = let t = beyond (rounded_number mode u n) number_limit h in rw t refl
+  new_number-large : (n : ℕ) → number_limit ≤ rounded_number mode u n → new_number mode u n ≡ n
+  new_number-large n h = let t = beyond (rounded_number mode u n) number_limit h in rw t refl
 
   -- 0 stays 0
-  pub standing-zero : standing mode u 0 ≡ 0
-  standing-zero =
+  pub new_number-zero : new_number mode u 0 ≡ 0
+  new_number-zero =
       let z = rounded_number-zero mode u pos_u in
-      standing-small 0 (omega (arith, z, ten_pos (place (pos 32768)))) ∙ z
+      new_number-small 0 (omega (arith, z, ten_pos (offset (pos 32768)))) ∙ z
 
   -- a greater number leaves no less: one below the lesser number's multiple is rounded to no more than that one, and so
   -- is not refused where that is not
-  pub standing-monotone : (n m : ℕ) → n ≤ m → standing mode u n ≤ standing mode u m
-  standing-monotone n m l = elim (cases_lt (rounded_number mode u m) number_limit) [
+  pub new_number-monotone : (n m : ℕ) → n ≤ m → new_number mode u n ≤ new_number mode u m
+  new_number-monotone n m l = elim (cases_lt (rounded_number mode u m) number_limit) [
     | inl k ↦
         let h : rounded_number mode u n < number_limit = omega (arith, up) in
-        omega (arith, up, standing-small n h, standing-small m k)
+        omega (arith, up, new_number-small n h, new_number-small m k)
     | inr k ↦ elim (cases_lt (rounded_number mode u n) number_limit) [
       | inl h ↦ elim (cases_lt m (rounded_number mode u n)) [
         | inl g ↦
@@ -249,9 +250,9 @@ module _ (mode : UnsignedRoundingMode) (u : ℕ) (pos_u : 0 < u) where
               rounded_number-idempotent mode u n pos_u,
               rounded_number-monotone mode u m (rounded_number mode u n) pos_u (omega arith),
             ))
-        | inr g ↦ omega (arith, g, standing-small n h, standing-large m k)
+        | inr g ↦ omega (arith, g, new_number-small n h, new_number-large m k)
       ]
-      | inr h ↦ omega (arith, l, standing-large n h, standing-large m k)
+      | inr h ↦ omega (arith, l, new_number-large n h, new_number-large m k)
     ]
   ]
     where
@@ -266,5 +267,5 @@ rounding_is_monotone v w p mode increment l =
       arith,
       number-after_rounding v p mode increment,
       number-after_rounding w p mode increment,
-      standing-monotone mode (unit_at increment p) (unit_pos increment p) v.number w.number l,
+      new_number-monotone mode (unit_at increment p) (unit_pos increment p) v.number w.number l,
     )

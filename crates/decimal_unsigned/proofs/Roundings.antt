@@ -1,13 +1,13 @@
 -- What the fields hold after a rounding.
-use Rattle.decimal_unsigned.proofs.Common.{◌≡◌, ℕ, ◌<◌, ◌≤◌, true, false, List, length, refl, sym, ◌∙◌, ap, arith, Option, Some, None, Result, Ok, Err, ℤ, pos, negsuc, ◌-ℤ◌, ◌≤ℤ◌, int_max, int_min, AllBelowBase, ints, clamps, nat_tests, first, size, number_limit, number_of, unit_at, rounded_number, RoundingIncrement, MultiplesOf1, Trunc, place_is, Unsigned, IsStored, rounded, IsRounded, RoundError, UnsignedRoundingMode, unit_pos, first_zero, with_number}
+use Rattle.decimal_unsigned.proofs.Common.{◌≡◌, ℕ, ◌<◌, ◌≤◌, true, false, List, length, refl, sym, ◌∙◌, ap, arith, Option, Some, None, Result, Ok, Err, ℤ, pos, negsuc, ◌-ℤ◌, ◌≤ℤ◌, int_max, int_min, AllBelowBase, ints, clamps, nat_tests, first, size, number_limit, number_of, unit_at, rounded_number, RoundingIncrement, MultiplesOf1, Trunc, offset_is, Unsigned, IsStored, rounded, IsRounded, RoundError, UnsignedRoundingMode, unit_pos, first_zero, with_number}
 use Rattle.std.proofs.Common.{nat_le}
 use Rattle.std.specs.Prelude.{IsOk}
-use Rattle.decimal_digits.specs.Left.{Spells, IsAbove}
+use Rattle.decimal_digits.specs.RoundedDigits.{Represents, NoDigitsBelow}
 use Rattle.decimal_digits.specs.declared.rounding.RoundError.TheVariants.{Limit, Memory}
 use Rattle.std.specs.Result.{is_ok}
 use Rattle.decimal_digits.proofs.RoundingLaws.{trunc_le}
 use Rattle.decimal_digits.proofs.NumberAt.{number_of-none}
-use Rattle.decimal_unsigned.specs.Rounded.{rounded_to, AnswersInPlace, RoundsInPlace}
+use Rattle.decimal_unsigned.specs.Rounded.{rounded_to, UpdatesInPlace, RoundsInPlace}
 use Rattle.decimal_unsigned.proofs.Values.{size-number_of, stored_as}
 
 -- a number against a limit
@@ -35,38 +35,38 @@ trunc_makes v p increment h =
     (omega (arith, h, trunc_le u v.number (unit_pos increment p)))
 
 -- an answer that has no reason to refuse is Ok
-pub made_unless : {A E V : Type 0} (makes : Option V → Type 0) (old new : V) (r : Result A E)
-    → AnswersInPlace makes old new r → (makes None → ⊥)
+pub ok_unless_none : {A E V : Type 0} (makes : Option V → Type 0) (old new : V) (r : Result A E)
+    → UpdatesInPlace makes old new r → (makes None → ⊥)
     → IsOk r
-made_unless makes old new (Ok x) a never = refl
-made_unless makes old new (Err e) a never = absurd (never a.0)
+ok_unless_none makes old new (Ok x) a never = refl
+ok_unless_none makes old new (Err e) a never = absurd (never a.0)
 
 -- by 1 only the limit refuses
-pub answers_by_1 : {A B E : Type 0} (held : ℕ) (v : Unsigned) (p : ℤ) (mode : UnsignedRoundingMode) (new : Unsigned)
+pub updates_by_1 : {A B E : Type 0} (held : ℕ) (v : Unsigned) (p : ℤ) (mode : UnsignedRoundingMode) (new : Unsigned)
     (r : Result A RoundError) (s : Result B E) → is_ok s ≡ is_ok r
     → RoundsInPlace held v p mode MultiplesOf1 new r
-    → AnswersInPlace (IsRounded v p mode MultiplesOf1) v new s
-answers_by_1 held v p mode new (Ok x) (Ok y) e a = a
-answers_by_1 held v p mode new (Ok x) (Err y) e a = absurd (cc)
-answers_by_1 held v p mode new (Err x) (Ok y) e a = absurd (cc)
-answers_by_1 held v p mode new (Err Limit) (Err y) e a = a
-answers_by_1 held v p mode new (Err Memory) (Err y) e a = absurd (let by_25 = a.0.by_25 in cc)
+    → UpdatesInPlace (IsRounded v p mode MultiplesOf1) v new s
+updates_by_1 held v p mode new (Ok x) (Ok y) e a = a
+updates_by_1 held v p mode new (Ok x) (Err y) e a = absurd (cc)
+updates_by_1 held v p mode new (Err x) (Ok y) e a = absurd (cc)
+updates_by_1 held v p mode new (Err Limit) (Err y) e a = a
+updates_by_1 held v p mode new (Err Memory) (Err y) e a = absurd (let by_25 = a.0.by_25 in cc)
 
 -- no digits stand for 0, whose first magnitude is 0
-unspelled : {ds : List ℕ} {m : ℤ} {n : ℕ} → Spells ds m n → length ds ≡ 0 → m ≡ pos 0
+unspelled : {ds : List ℕ} {m : ℤ} {n : ℕ} → Represents ds m n → length ds ≡ 0 → m ≡ pos 0
 unspelled {ds} {m} s z = sym s.magnitude_is ∙ ap first (sym s.number ∙ number_of-none ds m z) ∙ first_zero
 
-module _ {ds : List ℕ} {m : ℤ} {n : ℕ} (s : Spells ds m n) (p hi : ℤ) {m' hi' lo' : ℤ} (f : m' ≡ m)
+module _ {ds : List ℕ} {m : ℤ} {n : ℕ} (s : Represents ds m n) (p hi : ℤ) {m' hi' lo' : ℤ} (f : m' ≡ m)
     (h : hi' ≡ int_max (int_max hi (p -ℤ pos 1)) m) (o : lo' ≡ int_min p (pos 0)) where
   -- the digits that are left, as a value holds them
-  pub stored_left : IsAbove p ds m → AllBelowBase 10 ds → pos 0 ≤ℤ hi → hi ≤ℤ pos 32767 → negsuc 32767 ≤ℤ p
+  pub stored_left : NoDigitsBelow p ds m → AllBelowBase 10 ds → pos 0 ≤ℤ hi → hi ≤ℤ pos 32767 → negsuc 32767 ≤ℤ p
       → p ≤ℤ pos 32767
       → IsStored ds m' hi' lo'
   stored_left above b z g l t =
       rw f (stored_as b s.stripped.front s.stripped.back (unspelled s)
       (λ some. (
         omega (arith, ints, clamps, h),
-        omega (arith, ints, clamps, o, above some, some, l, s.least, place_is p, place_is m),
+        omega (arith, ints, clamps, o, above some, some, l, s.least, offset_is p, offset_is m),
       ))
       (omega (arith, ints, clamps, h, z), omega (arith, ints, clamps, h, g, t, s.greatest))
       (omega (arith, ints, clamps, o, l), omega (arith, ints, clamps, o)))
@@ -83,13 +83,13 @@ module _ {ds : List ℕ} {m : ℤ} {n : ℕ} (s : Spells ds m n) (p hi : ℤ) {m
       rounded_to-small v p n s.below_limit ∙ sym (λ i. Some (record { number = a i; hi = b i; lo = o i }))
 
 -- a value's list and magnitude, as they are read again, give the number and its size
-pub number_again : {ds es : List ℕ} {m k hi lo : ℤ} {v : Unsigned} → IsStored ds m hi lo
+pub number_of-stored : {ds es : List ℕ} {m k hi lo : ℤ} {v : Unsigned} → IsStored ds m hi lo
     → record { number = number_of ds m; hi = hi; lo = lo } ≡ v → es ≡ ds → k ≡ m
     → number_of es k ≡ v.number
-number_again {ds} {es} {m} {k} t e l n = (λ i. number_of (l i) (n i)) ∙ ap (λ (v : Unsigned). v.number) e
+number_of-stored {ds} {es} {m} {k} t e l n = (λ i. number_of (l i) (n i)) ∙ ap (λ (v : Unsigned). v.number) e
 
 -- the number has as many digits as the list
-pub size_again : {ds es : List ℕ} {m hi lo : ℤ} {v : Unsigned} → IsStored ds m hi lo
+pub length-stored : {ds es : List ℕ} {m hi lo : ℤ} {v : Unsigned} → IsStored ds m hi lo
     → record { number = number_of ds m; hi = hi; lo = lo } ≡ v → es ≡ ds
     → length es ≡ size v.number
-size_again t e l = ap length l ∙ sym (size-number_of t) ∙ ap (λ (v : Unsigned). size v.number) e
+length-stored t e l = ap length l ∙ sym (size-number_of t) ∙ ap (λ (v : Unsigned). size v.number) e

@@ -1,5 +1,5 @@
 -- A value times a power of ten.
-use Rattle.decimal_unsigned.proofs.Common.{◌≡◌, ℕ, suc, ◌+◌, ◌-◌, ◌*◌, ◌/◌, ◌^◌, ◌<◌, ◌≤◌, true, false, ◌||◌, List, length, refl, sym, ◌∙◌, ap, arith, inl, inr, ◌⊎◌, Some, None, ℤ, pos, negsuc, ◌+ℤ◌, ◌≤ℤ◌, ◌<ℤ◌, int_lt, int_max, int_min, pow-add, ints, clamps, cases_lt, number_from_digits, place, Unsigned, IsStored, leaves_limits, multiplied, place_is}
+use Rattle.decimal_unsigned.proofs.Common.{◌≡◌, ℕ, suc, ◌+◌, ◌-◌, ◌*◌, ◌/◌, ◌^◌, ◌<◌, ◌≤◌, true, false, ◌||◌, List, length, refl, sym, ◌∙◌, ap, arith, inl, inr, ◌⊎◌, Some, None, ℤ, pos, negsuc, ◌+ℤ◌, ◌≤ℤ◌, ◌<ℤ◌, int_lt, int_max, int_min, pow-add, ints, clamps, cases_lt, number_from_digits, offset, Unsigned, IsStored, leaves_limits, multiplied, offset_is}
 use Rattle.std.proofs.Math.Nat.{zero-div}
 use Rattle.decimal_digits.specs.Digits.{number_of, number_at}
 use Rattle.decimal_unsigned.specs.Edits.{multiplied_pow10}
@@ -27,20 +27,20 @@ module _ {ds : List ℕ} {m hi lo d m' hi' lo' : ℤ} (t : IsStored ds m hi lo) 
       (omega (arith, ints, clamps, s.hi_is), omega (arith, ints, clamps, s.hi_is, s.hi_fits))
       (omega (arith, ints, clamps, s.lo_is, s.lo_fits), omega (arith, ints, clamps, s.lo_is))
 
-number_up : (ds : List ℕ) (m m' : ℤ) (n : ℕ) → length ds ≤ place m + 1 → place m' ≡ place m + n
+number_up : (ds : List ℕ) (m m' : ℤ) (n : ℕ) → length ds ≤ offset m + 1 → offset m' ≡ offset m + n
     → number_of ds m' ≡ number_of ds m * 10 ^ n
 unfolding number_of number_at
 number_up ds m m' n h e =
-    let k : place m' + 1 - length ds ≡ (place m + 1 - length ds) + n = omega arith in
+    let k : offset m' + 1 - length ds ≡ (offset m + 1 - length ds) + n = omega arith in
     ap (λ x. number_from_digits 10 ds * 10 ^ x) k ∙ (rw pow-add (omega arith))
 
-number_down : (ds : List ℕ) (m m' : ℤ) (n : ℕ) → length ds ≤ place m' + 1 → place m' + n ≡ place m
+number_down : (ds : List ℕ) (m m' : ℤ) (n : ℕ) → length ds ≤ offset m' + 1 → offset m' + n ≡ offset m
     → number_of ds m' ≡ number_of ds m / 10 ^ n
 unfolding number_of number_at
 number_down ds m m' n h e =
-    let k : place m' + 1 - length ds ≡ (place m + 1 - length ds) - n = omega arith in
+    let k : offset m' + 1 - length ds ≡ (offset m + 1 - length ds) - n = omega arith in
     ap (λ x. number_from_digits 10 ds * 10 ^ x) k
-    ∙ sym (shift_up (number_from_digits 10 ds) (place m + 1 - length ds) n (omega arith))
+    ∙ sym (shift_up (number_from_digits 10 ds) (offset m + 1 - length ds) n (omega arith))
 
 -- the moved digits are the number times the power
 pub multiplied_is : {ds : List ℕ} {m hi lo m' hi' lo' : ℤ} (d : ℤ) → IsStored ds m hi lo
@@ -51,7 +51,8 @@ multiplied_is {ds} {m} {hi} {lo} {m'} {hi'} {lo'} (pos n) t s =
     let w = moved t s in
     let a : number_of ds m' ≡ number_of ds m * 10 ^ n = elim (cases_lt 0 (length ds)) [
       | inl h ↦
-          number_up ds m m' n (omega (arith, t.fits)) (omega (arith, ints, s.some h, place_is m, place_is m', lowest t))
+          number_up ds m m' n (omega (arith, t.fits))
+          (omega (arith, ints, s.some h, offset_is m, offset_is m', lowest t))
       | inr h ↦ let z : length ds ≡ 0 = omega arith in rw (number_of-none w z, number_of-none t z) (omega arith)
     ] in
     let b = s.hi_is in
@@ -62,7 +63,7 @@ multiplied_is {ds} {m} {hi} {lo} {m'} {hi'} {lo'} (negsuc n) t s =
     let a : number_of ds m' ≡ number_of ds m / 10 ^ suc n = elim (cases_lt 0 (length ds)) [
       | inl h ↦
           number_down ds m m' (suc n) (omega (arith, w.fits))
-          (omega (arith, ints, s.some h, place_is m, place_is m', lowest w, lowest t))
+          (omega (arith, ints, s.some h, offset_is m, offset_is m', lowest w, lowest t))
       | inr h ↦
           let z : length ds ≡ 0 = omega arith in
           rw (number_of-none w z, number_of-none t z) (sym (zero-div (10 ^ suc n)))

@@ -1,5 +1,5 @@
 -- The values that the code holds are those that their range shows whole.
-use Rattle.decimal_unsigned.proofs.Common.{◌≡◌, ℕ, ◌+◌, ◌-◌, ◌*◌, ◌%◌, ◌^◌, ◌≤◌, List, length, ◌∙◌, ap, subst, arith, ℤ, ints, pow-add, pow-le-pow_right, mul-mod_left, number_from_digits, place, IsStored, Unsigned, IsValue, place_is}
+use Rattle.decimal_unsigned.proofs.Common.{◌≡◌, ℕ, ◌+◌, ◌-◌, ◌*◌, ◌%◌, ◌^◌, ◌≤◌, List, length, ◌∙◌, ap, subst, arith, ℤ, ints, pow-add, pow-le-pow_right, mul-mod_left, number_from_digits, offset, IsStored, Unsigned, IsValue, offset_is}
 use Rattle.decimal_digits.specs.Digits.{number_of, number_at}
 use Rattle.decimal_unsigned.proofs.Values.{number_of-lt, lowest}
 
@@ -11,16 +11,16 @@ value_of_stored {ds} {m} {hi} {lo} t = record {
   hi_in = (t.hi_in, t.in_range.1);
   lo_in = (t.in_range.0, t.lo_in);
   below =
-      let p : 10 ^ (place m + 1) ≤ 10 ^ (place hi + 1) =
-      pow-le-pow_right (omega arith) (omega (arith, ints, place_is m, place_is hi, t.hi_covers, lowest t)) in
+      let p : 10 ^ (offset m + 1) ≤ 10 ^ (offset hi + 1) =
+      pow-le-pow_right (omega arith) (omega (arith, ints, offset_is m, offset_is hi, t.hi_covers, lowest t)) in
       omega (arith, number_of-lt t);
   whole =
-      let k : place m + 1 - length ds ≡ (place m + 1 - length ds - place lo) + place lo = omega (arith, t.fits) in
-      let e : number_from_digits 10 ds * 10 ^ (place m + 1 - length ds)
-      ≡ (number_from_digits 10 ds * 10 ^ (place m + 1 - length ds - place lo)) * 10 ^ place lo =
+      let k : offset m + 1 - length ds ≡ (offset m + 1 - length ds - offset lo) + offset lo = omega (arith, t.fits) in
+      let e : number_from_digits 10 ds * 10 ^ (offset m + 1 - length ds)
+      ≡ (number_from_digits 10 ds * 10 ^ (offset m + 1 - length ds - offset lo)) * 10 ^ offset lo =
       ap (λ x. number_from_digits 10 ds * 10 ^ x) k ∙ (rw pow-add (omega arith)) in
-      ap (λ x. x % 10 ^ place lo) e
-      ∙ mul-mod_left (number_from_digits 10 ds * 10 ^ (place m + 1 - length ds - place lo)) (10 ^ place lo);
+      ap (λ x. x % 10 ^ offset lo) e
+      ∙ mul-mod_left (number_from_digits 10 ds * 10 ^ (offset m + 1 - length ds - offset lo)) (10 ^ offset lo);
 }
 
 -- what a contract sees of them is a value

@@ -1,5 +1,5 @@
 -- A number has one list of digits.
-use Rattle.decimal_unsigned.proofs.Common.{◌≡◌, ℕ, ◌<◌, List, length, refl, sym, ◌∙◌, ap, subst, arith, inl, inr, ℤ, pos, negsuc, ◌+ℤ◌, ◌-ℤ◌, ◌≤ℤ◌, ints, cases_lt, Bool, true, false, IsValue, text, read, nat_tests, Unsigned, digit, first, last, number_of, IsStored, place_is}
+use Rattle.decimal_unsigned.proofs.Common.{◌≡◌, ℕ, ◌<◌, List, length, refl, sym, ◌∙◌, ap, subst, arith, inl, inr, ℤ, pos, negsuc, ◌+ℤ◌, ◌-ℤ◌, ◌≤ℤ◌, ints, cases_lt, Bool, true, false, IsValue, text, read, nat_tests, Unsigned, digit, first, last, number_of, IsStored, offset_is}
 use Rattle.std.proofs.lemmas.List.{ext_get_or}
 use Rattle.std.proofs.Common.{IsTrue, ◌↔◌}
 use Rattle.decimal_unsigned.proofs.ReadBack.{read_text}
@@ -36,7 +36,7 @@ module _ {ds es : List ℕ} {m n hi lo hi' lo' : ℤ} (t : IsStored ds m hi lo) 
       let p : (m -ℤ pos i) +ℤ pos i ≡ m = omega (arith, ints) in
       let q : (m -ℤ pos i) +ℤ pos i ≡ n = omega (arith, ints, m') in
       let b : negsuc 32767 ≤ℤ (m -ℤ pos i) =
-      omega (arith, ints, t.fits, place_is m, place_is lo, t.in_range, lowest t) in
+      omega (arith, ints, t.fits, offset_is m, offset_is lo, t.in_range, lowest t) in
       sym (digit-number_of-in t (m -ℤ pos i) i p b h)
       ∙ ap (λ x. digit x (m -ℤ pos i)) e
       ∙ digit-number_of-in u (m -ℤ pos i) i q b k)

@@ -1,45 +1,45 @@
 -- What the digits of a value say of its number.
-use Rattle.decimal_unsigned.proofs.Common.{◌≡◌, ℕ, ◌+◌, ◌-◌, ◌*◌, ◌/◌, ◌%◌, ◌^◌, ◌<◌, ◌≤◌, List, [], length, sym, ◌∙◌, ap, arith, rules, inl, inr, w16, to_z, of_z, ℤ, pos, negsuc, ◌+ℤ◌, ◌-ℤ◌, ◌≤ℤ◌, ◌<ℤ◌, false, mul-le-mul_right, mul-lt-mul_of_pos_right, pow-add, ints, to_z-of_z, int_gap, number_lt, number_from_digits, AllBelowBase, place, digit, first, last, size, IsStored, ten_pos, place_is, gap_is, cases_lt, magnitude_at, number_back, first_is, first_zero}
+use Rattle.decimal_unsigned.proofs.Common.{◌≡◌, ℕ, ◌+◌, ◌-◌, ◌*◌, ◌/◌, ◌%◌, ◌^◌, ◌<◌, ◌≤◌, List, [], length, sym, ◌∙◌, ap, arith, rules, inl, inr, w16, to_z, of_z, ℤ, pos, negsuc, ◌+ℤ◌, ◌-ℤ◌, ◌≤ℤ◌, ◌<ℤ◌, false, mul-le-mul_right, mul-lt-mul_of_pos_right, pow-add, ints, to_z-of_z, int_gap, number_lt, number_from_digits, AllBelowBase, offset, digit, first, last, size, IsStored, ten_pos, offset_is, gap_is, cases_lt, magnitude_at, number_back, first_is, first_zero}
 use Rattle.std.proofs.Common.{w32}
 use Rattle.std.specs.Prelude.{slice_index, nat_eq}
 use lib.Signed.{mag}
 use Rattle.decimal_digits.specs.Digits.{number_of, number_at}
 use Rattle.decimal_digits.proofs.DigitLists.{number_front, number-digit}
-use Rattle.decimal_digits.proofs.Places.{magnitude_at-place}
+use Rattle.decimal_digits.proofs.Offsets.{magnitude_at-offset}
 use Rattle.decimal_digits.proofs.Ends.{last_is, last_zero, digit_above, digit_below, shift_down}
 
 -- the place of the last digit, and one
 abbrev ends : List ℕ → ℤ → ℕ
-ends ds m = place m + 1 - length ds
+ends ds m = offset m + 1 - length ds
 
 module _ {ds : List ℕ} {m hi lo : ℤ} (t : IsStored ds m hi lo) where
   -- a 1 above the first digit is more than the number
-  pub number_of-lt : number_of ds m < 10 ^ (place m + 1)
+  pub number_of-lt : number_of ds m < 10 ^ (offset m + 1)
   unfolding number_of number_at
   number_of-lt =
       let n : number_from_digits 10 ds < 10 ^ length ds = number_lt 10 ds t.digits in
       let below : number_from_digits 10 ds * 10 ^ ends ds m < 10 ^ length ds * 10 ^ ends ds m =
       mul-lt-mul_of_pos_right n (ten_pos (ends ds m)) in
-      let split : 10 ^ (place m + 1) ≡ 10 ^ length ds * 10 ^ ends ds m =
-      ap (λ n. 10 ^ n) (let k : place m + 1 ≡ length ds + ends ds m = omega (arith, t.fits) in k)
+      let split : 10 ^ (offset m + 1) ≡ 10 ^ length ds * 10 ^ ends ds m =
+      ap (λ n. 10 ^ n) (let k : offset m + 1 ≡ length ds + ends ds m = omega (arith, t.fits) in k)
       ∙ pow-add 10 (length ds) (ends ds m) in
       rw split below
 
   -- a 1 at the first digit is at most the number
-  pub number_of-ge : 0 < length ds → 10 ^ place m ≤ number_of ds m
+  pub number_of-ge : 0 < length ds → 10 ^ offset m ≤ number_of ds m
   unfolding number_of number_at
   number_of-ge h =
       let n : 10 ^ (length ds - 1) ≤ number_from_digits 10 ds = number_front ds h (t.front h) in
       let above : 10 ^ (length ds - 1) * 10 ^ ends ds m ≤ number_from_digits 10 ds * 10 ^ ends ds m =
       mul-le-mul_right (10 ^ ends ds m) n in
-      let split : 10 ^ place m ≡ 10 ^ (length ds - 1) * 10 ^ ends ds m =
-      ap (λ n. 10 ^ n) (let k : place m ≡ length ds - 1 + ends ds m = omega (arith, t.fits) in k)
+      let split : 10 ^ offset m ≡ 10 ^ (length ds - 1) * 10 ^ ends ds m =
+      ap (λ n. 10 ^ n) (let k : offset m ≡ length ds - 1 + ends ds m = omega (arith, t.fits) in k)
       ∙ pow-add 10 (length ds - 1) (ends ds m) in
       rw split above
 
   -- a number with digits is not 0
   pub number_of-pos : 0 < length ds → 0 < number_of ds m
-  number_of-pos h = omega (arith, number_of-ge h, ten_pos (place m))
+  number_of-pos h = omega (arith, number_of-ge h, ten_pos (offset m))
 
   -- a number without digits is 0
   pub number_of-none : length ds ≡ 0 → number_of ds m ≡ 0
@@ -53,35 +53,35 @@ module _ {ds : List ℕ} {m hi lo : ℤ} (t : IsStored ds m hi lo) where
   lowest = omega (arith, ints, t.lo_covers, t.in_range)
 
   -- and below 32768
-  pub high : place m < 65536
-  high = omega (arith, ints, t.hi_covers, t.in_range, place_is m, lowest)
+  pub high : offset m < 65536
+  high = omega (arith, ints, t.hi_covers, t.in_range, offset_is m, lowest)
 
   -- the first digit is that of the number
   pub first-number_of : 0 < length ds → first (number_of ds m) ≡ m
-  first-number_of h = first_is _ (place m) (number_of-ge h) number_of-lt high ∙ magnitude_at-place m lowest
+  first-number_of h = first_is _ (offset m) (number_of-ge h) number_of-lt high ∙ magnitude_at-offset m lowest
 
   -- the last digit is that of the number
   pub last-number_of : 0 < length ds → last (number_of ds m) ≡ m -ℤ pos (length ds - 1)
   unfolding number_of number_at
   last-number_of h =
       let b : 0 < number_from_digits 10 ds % 10 = rw (number_back ds t.digits h) (t.back h) in
-      let e : magnitude_at (ends ds m) ≡ m -ℤ pos (length ds - 1) = omega (arith, ints, place_is m, t.fits, lowest) in
+      let e : magnitude_at (ends ds m) ≡ m -ℤ pos (length ds - 1) = omega (arith, ints, offset_is m, t.fits, lowest) in
       last_is (number_from_digits 10 ds) (ends ds m) b (omega (arith, high)) ∙ e
 
   -- above the first digit there are zeros
   pub digit-number_of-above : (q : ℤ) → m <ℤ q → negsuc 32767 ≤ℤ q → digit (number_of ds m) q ≡ 0
   digit-number_of-above q h l =
-      digit_above _ (place m + 1) (place q) number_of-lt (omega (arith, ints, place_is m, place_is q, lowest))
+      digit_above _ (offset m + 1) (offset q) number_of-lt (omega (arith, ints, offset_is m, offset_is q, lowest))
 
   -- the digits of the list are those of the number
   pub digit-number_of-in : (q : ℤ) (i : ℕ) → q +ℤ pos i ≡ m → negsuc 32767 ≤ℤ q → i < length ds
       → digit (number_of ds m) q ≡ slice_index ds i
   unfolding number_of number_at
   digit-number_of-in q i e l h =
-      let p : place q + i ≡ place m = omega (arith, ints, place_is m, place_is q, lowest) in
-      let k : place q - ends ds m ≡ length ds - (i + 1) = omega (arith, t.fits) in
+      let p : offset q + i ≡ offset m = omega (arith, ints, offset_is m, offset_is q, lowest) in
+      let k : offset q - ends ds m ≡ length ds - (i + 1) = omega (arith, t.fits) in
       ap (λ x. x % 10)
-      (shift_down (number_from_digits 10 ds) (ends ds m) (place q) (omega (arith, t.fits))
+      (shift_down (number_from_digits 10 ds) (ends ds m) (offset q) (omega (arith, t.fits))
       ∙ ap (λ n. number_from_digits 10 ds / 10 ^ n) k)
       ∙ number-digit i ds t.digits h
 
@@ -90,8 +90,8 @@ module _ {ds : List ℕ} {m hi lo : ℤ} (t : IsStored ds m hi lo) where
       → digit (number_of ds m) q ≡ 0
   unfolding number_of number_at
   digit-number_of-below q i e l h =
-      digit_below (number_from_digits 10 ds) (ends ds m) (place q)
-      (omega (arith, ints, place_is m, place_is q, lowest, t.fits))
+      digit_below (number_from_digits 10 ds) (ends ds m) (offset q)
+      (omega (arith, ints, offset_is m, offset_is q, lowest, t.fits))
 
   -- the magnitude of the first digit, of 0 too
   pub first_of : first (number_of ds m) ≡ m
@@ -159,21 +159,21 @@ stored_as {ds} {m} {hi} {lo} digits front back empty shown up down = record {
   in_range = (down.0, up.1);
 }
   where
-    covers : (m ≤ℤ hi) × (lo ≤ℤ m) × (place lo + length ds ≤ place m + 1)
+    covers : (m ≤ℤ hi) × (lo ≤ℤ m) × (offset lo + length ds ≤ offset m + 1)
     covers = elim (cases_lt 0 (length ds)) [
       | inl h ↦
           let s = shown h in
-          (s.0, omega (arith, ints, s.1), omega (arith, ints, s.1, h, down.0, place_is lo, place_is m))
+          (s.0, omega (arith, ints, s.1), omega (arith, ints, s.1, h, down.0, offset_is lo, offset_is m))
       | inr h ↦
           let e = empty (omega arith) in
-          let places = place_is m in
-          (omega (arith, ints, e, up.0), omega (arith, ints, e, down.1), omega (arith, ints, e, h, down, place_is lo))
+          let places = offset_is m in
+          (omega (arith, ints, e, up.0), omega (arith, ints, e, down.1), omega (arith, ints, e, h, down, offset_is lo))
     ]
 
 module _ {ds : List ℕ} {m hi lo : ℤ} (t : IsStored ds m hi lo) where
   -- the range shows the last digit
   pub last_covered : 0 < length ds → lo ≤ℤ (m -ℤ pos (length ds - 1))
-  last_covered h = omega (arith, ints, h, t.fits, t.in_range, lowest t, place_is m, place_is lo)
+  last_covered h = omega (arith, ints, h, t.fits, t.in_range, lowest t, offset_is m, offset_is lo)
 
   -- an upper end that keeps the first digit
   pub upper_stored : (up : ℤ) → first (number_of ds m) ≤ℤ up → pos 0 ≤ℤ up → up ≤ℤ pos 32767 → IsStored ds m up lo

@@ -1,19 +1,19 @@
 -- The integer that the digits of a value write.
-use Rattle.decimal_unsigned.proofs.Common.{zero, suc, [], ◌∷◌, ◌++◌, replicate, ◌≡◌, ℕ, ◌+◌, ◌-◌, ◌*◌, ◌/◌, ◌%◌, ◌^◌, ◌<◌, ◌≤◌, ◌==◌, true, false, List, length, get_or, take, refl, sym, ◌∙◌, ap, arith, rules, inl, inr, Ok, Err, nat_lt, ℤ, pos, ◌+ℤ◌, ◌<ℤ◌, mul-mod_left, pow-le-pow_right, cases_lt, ints, length-append, length-take, length-take-le, take_all, recursion_from_All, number_from_digits, AllBelowBase, place, weight, leading, place_is, ten_pos, below_take, no_more_zeros, IsStored, Unsigned, IsValue, Result, All, length-replicate, number_back, below_sixteen, leading_none}
+use Rattle.decimal_unsigned.proofs.Common.{zero, suc, [], ◌∷◌, ◌++◌, replicate, ◌≡◌, ℕ, ◌+◌, ◌-◌, ◌*◌, ◌/◌, ◌%◌, ◌^◌, ◌<◌, ◌≤◌, ◌==◌, true, false, List, length, get_or, take, refl, sym, ◌∙◌, ap, arith, rules, inl, inr, Ok, Err, nat_lt, ℤ, pos, ◌+ℤ◌, ◌<ℤ◌, mul-mod_left, pow-le-pow_right, cases_lt, ints, length-append, length-take, length-take-le, take_all, recursion_from_All, number_from_digits, AllBelowBase, offset, weight, leading, offset_is, ten_pos, below_take, no_more_zeros, IsStored, Unsigned, IsValue, Result, All, length-replicate, number_back, below_sixteen, leading_none}
 use Rattle.std.proofs.Common.{w64}
 use Rattle.std.proofs.Math.Nat.{mul-div_cancel}
 use Rattle.std.specs.Int.{to_be_bytes}
 use Rattle.std.proofs.Math.ListN.{get_or-eq_default}
 use Rattle.std.proofs.lemmas.Int.Digits.{number_after_append, number_more as number_more_digits}
 use Rattle.std.specs.Int.Digits.{number_from_digits_after}
-use Rattle.decimal_digits.specs.Halves.{halves, halves_number}
+use Rattle.decimal_digits.specs.Nibbles.{nibbles, bcd_number}
 use Rattle.decimal_digits.specs.Digits.{number_of, number_at}
 use Rattle.decimal_digits.proofs.DigitLists.{number_zeros, number-div}
-use Rattle.decimal_digits.proofs.FrontBytes.{hex_pow, halves_of_bytes, sixteen, sixteen_are, sixteen_digits, sixteen_digit, sixteen_zero}
+use Rattle.decimal_digits.proofs.LeadingBytes.{hex_pow, nibbles_of_bytes, sixteen, sixteen_are, sixteen_digits, sixteen_digit, sixteen_zero}
 use Rattle.decimal_digits.proofs.NumberAt.{number_at-more, number_at-lt, number_at-ge}
 use Rattle.decimal_digits.proofs.Leading.{leading_more}
-use Rattle.decimal_unsigned.specs.declared.decimal.to_integer.IntegerError.TheVariants.{NotWhole, OutOfRange}
-use Rattle.decimal_unsigned.specs.declared.decimal.to_integer.IntegerError.{IntegerError}
+use Rattle.decimal_unsigned.specs.declared.error.IntegerError.TheVariants.{NotWhole, OutOfRange}
+use Rattle.decimal_unsigned.specs.declared.error.IntegerError.{IntegerError}
 use Rattle.decimal_unsigned.specs.ToInteger.{in_range, as_integer}
 use Rattle.decimal_unsigned.proofs.Shown.{told}
 
@@ -31,7 +31,7 @@ pub as_integer-whole : (bound number n : ℕ) → number ≡ n * weight (pos 0) 
 as_integer-whole bound number n e =
     let none : number % weight (pos 0) ≡ 0 = ap (λ k. k % weight (pos 0)) e ∙ mul-mod_left n (weight (pos 0)) in
     let all : number / weight (pos 0) ≡ n =
-    ap (λ k. k / weight (pos 0)) e ∙ mul-div_cancel n (ten_pos (place (pos 0))) in
+    ap (λ k. k / weight (pos 0)) e ∙ mul-div_cancel n (ten_pos (offset (pos 0))) in
     rw (none, all) refl
 
 -- a part behind the dot
@@ -62,12 +62,12 @@ few_digits i top ds h l =
     omega (arith, leading_lt i ds h, p)
 
 -- 18 digits fit 64 bits with one more
-pub leading_short : (i : ℕ) (ds : List ℕ) → All (λ d. d < 10) ds → i ≤ 18 → leading i ds < 10 ^ 18
-leading_short i = few_digits i 18
+pub leading_u64 : (i : ℕ) (ds : List ℕ) → All (λ d. d < 10) ds → i ≤ 18 → leading i ds < 10 ^ 18
+leading_u64 i = few_digits i 18
 
 -- and 37 digits fit 128 bits
-pub leading_long : (i : ℕ) (ds : List ℕ) → All (λ d. d < 10) ds → i ≤ 37 → leading i ds < 10 ^ 37
-leading_long i = few_digits i 37
+pub leading_u128 : (i : ℕ) (ds : List ℕ) → All (λ d. d < 10) ds → i ≤ 37 → leading i ds < 10 ^ 37
+leading_u128 i = few_digits i 37
 
 module _ {ds : List ℕ} {m hi lo : ℤ} (t : IsStored ds m hi lo) where
   -- digits that end at magnitude 0 or above write an integer
@@ -75,18 +75,18 @@ module _ {ds : List ℕ} {m hi lo : ℤ} (t : IsStored ds m hi lo) where
       → number_of ds m ≡ leading places ds * weight (pos 0)
   unfolding number_of
   whole_number places at few =
-      let k : place m + 1 ≡ places + place (pos 0) = omega (arith, ints, place_is m, place_is (pos 0)) in
+      let k : offset m + 1 ≡ places + offset (pos 0) = omega (arith, ints, offset_is m, offset_is (pos 0)) in
       ap (λ top. number_at top ds) k
-      ∙ number_at-more places (place (pos 0)) ds few
+      ∙ number_at-more places (offset (pos 0)) ds few
       ∙ ap (λ xs. number_at places xs * weight (pos 0)) (sym (take_all places ds few))
 
   -- digits that end below it do not
-  pub part_behind : 0 < length ds → (m +ℤ pos 1) <ℤ pos (length ds) → ¬ (number_of ds m % weight (pos 0) ≡ 0)
+  pub part_after : 0 < length ds → (m +ℤ pos 1) <ℤ pos (length ds) → ¬ (number_of ds m % weight (pos 0) ≡ 0)
   unfolding number_of number_at
-  part_behind some below =
+  part_after some below =
       let last : 0 < number_from_digits 10 ds % 10 = rw (number_back ds t.digits some) (t.back some) in
-      no_more_zeros (number_from_digits 10 ds) (place m + 1 - length ds) (place (pos 0)) last
-      (omega (arith, ints, place_is m, place_is (pos 0), t.fits, t.lo_covers, t.in_range))
+      no_more_zeros (number_from_digits 10 ds) (offset m + 1 - length ds) (offset (pos 0)) last
+      (omega (arith, ints, offset_is m, offset_is (pos 0), t.fits, t.lo_covers, t.in_range))
 
   -- a first digit that is not at magnitude 0 is there
   pub some_digits : ¬ (m ≡ pos 0) → 0 < length ds
@@ -103,8 +103,8 @@ module _ {ds : List ℕ} {m hi lo : ℤ} {v : Unsigned} (t : IsStored ds m hi lo
   of_value = told t view (λ w. as_integer bound w.number)
 
   -- a part behind the dot is the answer
-  pub part_answer : (m +ℤ pos 1) <ℤ pos (length ds) → Answer (Err NotWhole)
-  part_answer below = of_value (sym (as_integer-part bound (number_of ds m) (part_behind t some below)))
+  pub part_result : (m +ℤ pos 1) <ℤ pos (length ds) → Answer (Err NotWhole)
+  part_result below = of_value (sym (as_integer-part bound (number_of ds m) (part_after t some below)))
     where
       some : 0 < length ds
       some = elim (cases_lt 0 (length ds)) [
@@ -114,25 +114,25 @@ module _ {ds : List ℕ} {m hi lo : ℤ} {v : Unsigned} (t : IsStored ds m hi lo
 
   module _ (places : ℕ) (at : pos 0 +ℤ pos places ≡ m +ℤ pos 1) (few : length ds ≤ places) where
     -- the integer that the digits write is the answer, or it is out of range
-    pub whole_answer : {r : Result ℕ IntegerError} → r ≡ in_range bound (leading places ds) → Answer r
-    whole_answer e =
+    pub whole_result : {r : Result ℕ IntegerError} → r ≡ in_range bound (leading places ds) → Answer r
+    whole_result e =
         of_value (e ∙ sym (as_integer-whole bound (number_of ds m) (leading places ds) (whole_number t places at few)))
 
     -- a few digits write an integer that is in range
-    pub few_answer : (top : ℕ) → All (λ d. d < 10) ds → places ≤ top → 10 ^ top ≤ bound → {n : ℕ}
+    pub few_digits_result : (top : ℕ) → All (λ d. d < 10) ds → places ≤ top → 10 ^ top ≤ bound → {n : ℕ}
         → n ≡ leading places ds → Answer (Ok n)
-    few_answer top digits l h e =
-        whole_answer
+    few_digits_result top digits l h e =
+        whole_result
         (ap Ok e ∙ sym (in_range-below bound (leading places ds) (omega (arith, few_digits places top ds digits l))))
 
     -- more digits than the bound has write one that is not
-    pub many_answer : (top : ℕ) → top < places → 0 < top → bound ≤ 10 ^ top → Answer (Err OutOfRange)
-    many_answer top l p h =
+    pub many_digits_result : (top : ℕ) → top < places → 0 < top → bound ≤ 10 ^ top → Answer (Err OutOfRange)
+    many_digits_result top l p h =
         let some : 0 < length ds = some_digits t (λ z. absurd (omega (arith, ints, z))) in
         let least : 10 ^ (places - 1) ≤ number_at places ds = number_at-ge places ds some (t.front some) few in
         let higher : 10 ^ top ≤ 10 ^ (places - 1) = pow-le-pow_right (omega arith) (omega arith) in
         let all = ap (number_at places) (take_all places ds few) in
-        whole_answer (sym (in_range-above bound (leading places ds) (omega (arith, least, higher, all))))
+        whole_result (sym (in_range-above bound (leading places ds) (omega (arith, least, higher, all))))
 
 -- ---- The integer that the halves of a number write.
 -- two digits
@@ -143,8 +143,8 @@ two byte = byte / 16 * 10 + byte % 16
 pub by_pairs : (a b c d e f g h : ℕ)
     → ((two a * 100 + two b) * 10000 + (two c * 100 + two d)) * 100000000
     + ((two e * 100 + two f) * 10000 + (two g * 100 + two h))
-    ≡ number_from_digits 10 (halves (a ∷ (b ∷ (c ∷ (d ∷ (e ∷ (f ∷ (g ∷ (h ∷ [])))))))))
-unfolding halves
+    ≡ number_from_digits 10 (nibbles (a ∷ (b ∷ (c ∷ (d ∷ (e ∷ (f ∷ (g ∷ (h ∷ [])))))))))
+unfolding nibbles
 by_pairs a b c d e f g h = omega arith
 
 -- zeros in front count nothing
@@ -167,8 +167,8 @@ module _ (ds : List ℕ) (h : All (λ d. d < 10) ds) (few : length ds ≤ 16) wh
 
   -- a shift keeps the first of them
   shifted_front : (count : ℕ) → count ≤ 16
-      → halves_number ds / 2 ^ (4 * (16 - count)) ≡ number_from_digits 16 (take count all)
-  unfolding halves_number
+      → bcd_number ds / 2 ^ (4 * (16 - count)) ≡ number_from_digits 16 (take count all)
+  unfolding bcd_number
   shifted_front count l =
       let n = sixteen_are ds h few in
       let k : 16 - count ≡ length all - count = omega arith in
@@ -177,15 +177,15 @@ module _ (ds : List ℕ) (h : All (λ d. d < 10) ds) (few : length ds ≤ 16) wh
 
   -- these are the last of its halves
   front_halves_are : (count : ℕ) → count ≤ 16
-      → halves (to_be_bytes w64 (number_from_digits 16 (take count all))) ≡ replicate (16 - count) 0 ++ take count all
+      → nibbles (to_be_bytes w64 (number_from_digits 16 (take count all))) ≡ replicate (16 - count) 0 ++ take count all
   front_halves_are count l =
       let xs = take count all in
       let zs = replicate (16 - count) 0 ++ xs in
       let n : length xs ≡ count = length-take-le count all (omega (arith, sixteen_are ds h few)) in
       let len : length zs ≡ 2 * 8 =
       omega (arith, length-append (replicate (16 - count) 0) xs, length-replicate {A = ℕ} (16 - count) 0) in
-      ap (λ m. halves (to_be_bytes w64 m)) (sym (zeros_in_front 16 (16 - count) xs))
-      ∙ halves_of_bytes 8 0 zs len (zeros_below (16 - count) xs (below_take 16 count all all_hex))
+      ap (λ m. nibbles (to_be_bytes w64 m)) (sym (zeros_in_front 16 (16 - count) xs))
+      ∙ nibbles_of_bytes 8 0 zs len (zeros_below (16 - count) xs (below_take 16 count all all_hex))
 
   -- a place beyond the digits holds 0
   place_of : (i : ℕ) → i < 16 → get_or all i 0 ≡ get_or ds i 0
@@ -199,19 +199,19 @@ module _ (ds : List ℕ) (h : All (λ d. d < 10) ds) (few : length ds ≤ 16) wh
   front_leading zero l = sym (leading_none 0 ds refl)
   front_leading (suc i) l =
       let k : suc i ≡ i + 1 = omega arith in
-      let place = place_of i (omega arith) in
+      let offset = place_of i (omega arith) in
       let before = front_leading i (omega arith) in
       ap (λ j. number_from_digits 10 (take j all)) k
       ∙ number_more_digits 10 all i (omega (arith, sixteen_are ds h few))
-      ∙ (λ j. before j * 10 + place j)
+      ∙ (λ j. before j * 10 + offset j)
       ∙ sym (leading_next i ds)
       ∙ ap (λ j. leading j ds) (sym k)
 
   -- what a shift keeps, read as digits
-  pub few_leading : (count m n : ℕ) → count ≤ 16 → m ≡ halves_number ds / 2 ^ (4 * (16 - count))
-      → n ≡ number_from_digits 10 (halves (to_be_bytes w64 m)) → n ≡ leading count ds
+  pub few_leading : (count m n : ℕ) → count ≤ 16 → m ≡ bcd_number ds / 2 ^ (4 * (16 - count))
+      → n ≡ number_from_digits 10 (nibbles (to_be_bytes w64 m)) → n ≡ leading count ds
   few_leading count m n l e f =
-      f ∙ ap (λ m. number_from_digits 10 (halves (to_be_bytes w64 m))) (e ∙ shifted_front count l)
+      f ∙ ap (λ m. number_from_digits 10 (nibbles (to_be_bytes w64 m))) (e ∙ shifted_front count l)
       ∙ ap (number_from_digits 10) (front_halves_are count l)
       ∙ zeros_in_front 10 (16 - count) (take count all)
       ∙ front_leading count l

@@ -2,8 +2,8 @@
 use Rattle.decimal_unsigned.proofs.Common.{◌≡◌, ℕ, suc, ◌+◌, ◌<◌, ◌≤◌, List, [], ◌∷◌, ◌++◌, length, get_or, take, drop, Option, refl, sym, ◌∙◌, ap, subst, arith, take_all, ℤ, pos, ◌-ℤ◌, length-take-le, length-drop, digit, take-append-drop, Appends}
 use Rattle.std.proofs.Math.Seq.{take-add}
 use Rattle.std.proofs.lemmas.List.{drop_more}
-use Rattle.decimal_digits.specs.Text.{AppendsPrefix}
-use Rattle.decimal_digits.proofs.Sinks.{appends_both, part_more, then_part}
+use Rattle.decimal_digits.specs.AppendsPrefix.{AppendsPrefix}
+use Rattle.decimal_digits.proofs.Sinks.{appends_both, prefix_more, then_prefix}
 use Rattle.decimal_unsigned.specs.Text.{dot_before, text_down}
 
 -- the text of one magnitude more
@@ -42,8 +42,8 @@ pub wrote_part : (a b c : Option (List ℕ)) (all piece : List ℕ) (i k : ℕ) 
     → AppendsPrefix a c all
 wrote_part a b c all piece i k h e p q =
     subst (AppendsPrefix a c) (take-append-drop (i + length piece) all)
-    (part_more a c (take (i + length piece) all) (drop (i + length piece) all)
-    (subst (AppendsPrefix a c) (piece_taken all piece i k h e) (then_part a b c (take i all) piece p q)))
+    (prefix_more a c (take (i + length piece) all) (drop (i + length piece) all)
+    (subst (AppendsPrefix a c) (piece_taken all piece i k h e) (then_prefix a b c (take i all) piece p q)))
 
 -- all pieces were written
 pub wrote_all : (a b : Option (List ℕ)) (all : List ℕ) (i : ℕ) → length all ≤ i → Appends a b (take i all)

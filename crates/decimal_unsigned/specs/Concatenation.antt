@@ -20,8 +20,8 @@ concatenated_size v w = int_gap (last w.number) (first v.number) + 1
 
 -- neither number is 0, the two do not overlap, and their joined digits are more than are held without memory
 pub record ConcatenationNeedsMemory (held : ℕ) (v w : Unsigned) : Type 0 where
-  pub first_counts : 0 < v.number
-  pub second_counts : 0 < w.number
+  pub first_is_nonzero : 0 < v.number
+  pub second_is_nonzero : 0 < w.number
   pub disjoint : overlaps v w ≡ false
   pub more : held < concatenated_size v w
 

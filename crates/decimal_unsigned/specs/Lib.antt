@@ -2,16 +2,16 @@
 pub mod Unsigned
 pub mod Text
 pub mod Edits
-pub mod EditLaws
+pub mod ValueLaws
 pub mod Rounded
 pub mod Concatenation
 pub mod ConcatenationLaws
 pub mod Grammar
 pub mod Reading
-pub mod Refusal
+pub mod ParseResult
 pub mod ErrorText
 pub mod ToInteger
 -- Private: only the contracts of private functions and the models of `UnsignedOver` and `Scan` speak of these.
-pub mod Fields
+pub mod Stored
 pub mod Parts
-pub mod Placing
+pub mod ScannedDigits

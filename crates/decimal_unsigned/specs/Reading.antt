@@ -7,14 +7,14 @@ use Rattle.std.specs.Str.{all_ascii_digits}
 use Rattle.decimal_digits.specs.Number.{first, last}
 use Rattle.decimal_unsigned.specs.Unsigned.{Unsigned}
 use Rattle.decimal_unsigned.specs.Edits.{leaves_limits, multiplied}
-use Rattle.decimal_unsigned.specs.Grammar.{Written, Grammar}
+use Rattle.decimal_unsigned.specs.Grammar.{Literal, Grammar}
 
 -- ---- The value of the parts.
 
 -- why a text has no value: it is not in the grammar, or it leaves the limits
-pub data ReadingFault : Type 0 where
-  syntax : ReadingFault
-  limit : ReadingFault
+pub data ReadError : Type 0 where
+  syntax : ReadError
+  limit : ReadError
 
 -- the number written before an exponent, with all its digits shown
 abbrev pub mantissa : List ℕ → List ℕ → Unsigned
@@ -29,22 +29,22 @@ abbrev pub is_outside : ℤ → Bool
 is_outside e = int_lt (pos 32767) e || int_lt e (negsuc 32767)
 
 -- shown from the first digit where that is above the dot, and to the last where that is below it
-abbrev pub tidied : Unsigned → Unsigned
-tidied v = record v {
+abbrev pub zeros_trimmed : Unsigned → Unsigned
+zeros_trimmed v = record v {
   hi = if int_lt (pos 0) (first v.number) then first v.number else v.hi;
   lo = if int_lt (last v.number) (pos 0) then last v.number else v.lo;
 }
 
 -- the value times 10 to the exponent; at zero the exponent does not count
-unfoldable pub scaled : Unsigned → Option ℤ → Result Unsigned ReadingFault
+unfoldable pub scaled : Unsigned → Option ℤ → Result Unsigned ReadError
 scaled v None = Ok v
 scaled v (Some e) =
     if v.number == 0 then Ok v
     else if is_outside e || leaves_limits v e then Err limit
-    else Ok (tidied (multiplied v e))
+    else Ok (zeros_trimmed (multiplied v e))
 
 -- at most 32768 digits stand on each side of the dot
-unfoldable pub value_of : Written → Result Unsigned ReadingFault
+unfoldable pub value_of : Literal → Result Unsigned ReadError
 value_of w =
     if nat_lt 32768 (length w.whole) || nat_lt 32768 (length w.fraction) then Err limit
     else scaled (mantissa w.whole w.fraction) w.exponent
@@ -76,18 +76,18 @@ abbrev pub is_letter : ℕ → Bool
 is_letter c = c == 101 || c == 69
 
 -- the text stands behind the letter
-unfoldable pub with_exponent : List ℕ → List ℕ → List ℕ → Option Written
+unfoldable pub with_exponent : List ℕ → List ℕ → List ℕ → Option Literal
 with_exponent whole fraction text =
     option_map (λ e. record { whole = whole; fraction = fraction; exponent = Some e }) (exponent_of text)
 
 -- the text stands behind the fraction
-unfoldable pub after_fraction : List ℕ → List ℕ → List ℕ → Option Written
+unfoldable pub after_fraction : List ℕ → List ℕ → List ℕ → Option Literal
 after_fraction whole fraction [] =
     if nat_lt 0 (length fraction) then Some (record { whole = whole; fraction = fraction; exponent = None }) else None
 after_fraction whole fraction (c ∷ rest) = if is_letter c then with_exponent whole fraction rest else None
 
 -- the text stands behind the whole digits
-unfoldable pub after_whole : List ℕ → List ℕ → Option Written
+unfoldable pub after_whole : List ℕ → List ℕ → Option Literal
 after_whole whole [] =
     if nat_lt 0 (length whole) then Some (record { whole = whole; fraction = []; exponent = None }) else None
 after_whole whole (c ∷ rest) =
@@ -96,21 +96,21 @@ after_whole whole (c ∷ rest) =
     else None
 
 -- the parts of the whole text
-unfoldable pub parts_of : List ℕ → Option Written
+unfoldable pub parts_of : List ℕ → Option Literal
 parts_of text = after_whole (leading_digits text) (after_digits text)
 
 -- ---- Reading.
 
 -- the value of the parts, and a fault where there are none
-unfoldable pub value_or_syntax : Option Written → Result Unsigned ReadingFault
+unfoldable pub value_or_syntax : Option Literal → Result Unsigned ReadError
 value_or_syntax None = Err syntax
 value_or_syntax (Some w) = value_of w
 
 -- the value of the parts where there are some
-unfoldable pub read : List ℕ → Result Unsigned ReadingFault
+unfoldable pub read : List ℕ → Result Unsigned ReadError
 read text = value_or_syntax (parts_of text)
 
 -- reading follows the grammar: a text with parts has their value, and a text that has none is no number
 pub record FollowsGrammar (text : List ℕ) : Type 0 where
-  pub value : (w : Written) → Grammar text w → read text ≡ value_of w
-  pub none : ((w : Written) → ¬ Grammar text w) → read text ≡ Err syntax
+  pub value : (w : Literal) → Grammar text w → read text ≡ value_of w
+  pub none : ((w : Literal) → ¬ Grammar text w) → read text ≡ Err syntax

@@ -53,35 +53,35 @@ RoundingNeedsMemory held old position mode increment =
     held
 
 -- why a rounding leaves the value as it was: it makes none, or one digit more wants memory
-abbrev pub RoundingRefuses :
+abbrev pub RoundingFails :
     ℕ → RoundError → Unsigned → ℤ → UnsignedRoundingMode → RoundingIncrement → Type 0
-RoundingRefuses held Limit old position mode increment = IsRounded old position mode increment None
-RoundingRefuses held Memory old position mode increment = RoundingNeedsMemory held old position mode increment
+RoundingFails held Limit old position mode increment = IsRounded old position mode increment None
+RoundingFails held Memory old position mode increment = RoundingNeedsMemory held old position mode increment
 
 -- no rounding reaches the limit: the value shows no digit at the highest magnitude, and 25 at the position is below the
 -- limit
-abbrev pub HasRoom : Unsigned → ℤ → RoundingIncrement → Type 0
-HasRoom v position MultiplesOf25 = (v.hi <ℤ pos 32767) × (position <ℤ pos 32767)
-HasRoom v position increment = v.hi <ℤ pos 32767
+abbrev pub IsBelowLimit : Unsigned → ℤ → RoundingIncrement → Type 0
+IsBelowLimit v position MultiplesOf25 = (v.hi <ℤ pos 32767) × (position <ℤ pos 32767)
+IsBelowLimit v position increment = v.hi <ℤ pos 32767
 
 -- no rounding wants memory: by 25, one digit more is held without it
-abbrev pub HoldsOneMore : ℕ → Unsigned → RoundingIncrement → Type 0
-HoldsOneMore held v MultiplesOf25 = size v.number < held
-HoldsOneMore held v increment = Unit {0}
+abbrev pub HasCapacity : ℕ → Unsigned → RoundingIncrement → Type 0
+HasCapacity held v MultiplesOf25 = size v.number < held
+HasCapacity held v increment = Unit {0}
 
 -- ---- Answers.
 
 -- what a call in place answers: it has made the new value, or it refuses by such an error, and the value is as it was
 abbrev pub ChangesInPlace : {A E V : Type 0} → (V → Type 0) → (E → Type 0) → V → V → Result A E → Type 0
-ChangesInPlace makes refuses old new answer = MatchResult answer (λ _. makes new) (λ e. refuses e × (new ≡ old))
+ChangesInPlace makes fails old new answer = MatchResult answer (λ _. makes new) (λ e. fails e × (new ≡ old))
 
 -- the same where `makes` says which value the call makes, or that it makes none
-abbrev pub AnswersInPlace : {A E V : Type 0} → (Option V → Type 0) → V → V → Result A E → Type 0
-AnswersInPlace makes = ChangesInPlace (λ v. makes (Some v)) (λ _. makes None)
+abbrev pub UpdatesInPlace : {A E V : Type 0} → (Option V → Type 0) → V → V → Result A E → Type 0
+UpdatesInPlace makes = ChangesInPlace (λ v. makes (Some v)) (λ _. makes None)
 
 -- the same of a value that is handed in, and handed back where there is none
-abbrev pub AnswersByValue : {V : Type 0} → (Option V → Type 0) → V → Result V V → Type 0
-AnswersByValue makes old answer = MatchResult answer (λ v. makes (Some v)) (λ v. makes None × (v ≡ old))
+abbrev pub UpdatesByValue : {V : Type 0} → (Option V → Type 0) → V → Result V V → Type 0
+UpdatesByValue makes old answer = MatchResult answer (λ v. makes (Some v)) (λ v. makes None × (v ≡ old))
 
 -- what a rounding in place answers: it has made the new value, or it refuses, and the value is as it was
 abbrev pub RoundsInPlace : {A : Type 0} → ℕ → Unsigned → ℤ → UnsignedRoundingMode → RoundingIncrement → Unsigned
@@ -89,7 +89,7 @@ abbrev pub RoundsInPlace : {A : Type 0} → ℕ → Unsigned → ℤ → Unsigne
     → Type 0
 RoundsInPlace held old position mode increment =
     ChangesInPlace (λ v. IsRounded old position mode increment (Some v))
-    (λ e. RoundingRefuses held e old position mode increment) old
+    (λ e. RoundingFails held e old position mode increment) old
 
 -- and a rounding of a value that is handed in, and handed back where it refuses
 abbrev pub RoundsByValue : ℕ → Unsigned → ℤ → UnsignedRoundingMode → RoundingIncrement
@@ -97,4 +97,4 @@ abbrev pub RoundsByValue : ℕ → Unsigned → ℤ → UnsignedRoundingMode →
     → Type 0
 RoundsByValue held old position mode increment answer =
     MatchResult answer (λ v. IsRounded old position mode increment (Some v))
-    (λ e. RoundingRefuses held e.1 old position mode increment × (e.0 ≡ old))
+    (λ e. RoundingFails held e.1 old position mode increment × (e.0 ≡ old))

@@ -1,8 +1,8 @@
 -- The integer that a number is.
 use Rattle.std.specs.Prelude.{ℕ, ◌/◌, ◌%◌, ◌==◌, nat_lt, if◌then◌else◌, Result, Ok, Err, List, codes, pos}
 use Rattle.decimal_digits.specs.Number.{weight}
-use Rattle.decimal_unsigned.specs.declared.decimal.to_integer.IntegerError.{IntegerError}
-use Rattle.decimal_unsigned.specs.declared.decimal.to_integer.IntegerError.TheVariants.{NotWhole, OutOfRange}
+use Rattle.decimal_unsigned.specs.declared.error.IntegerError.{IntegerError}
+use Rattle.decimal_unsigned.specs.declared.error.IntegerError.TheVariants.{NotWhole, OutOfRange}
 
 -- what comes of the integer that a number of units is, where there is no part behind the dot
 abbrev pub when_whole : {A : Type 0} → ℕ → (ℕ → Result A IntegerError) → Result A IntegerError

@@ -2,7 +2,7 @@
 use Rattle.std.specs.Prelude.{◌≡◌, ℕ, ◌+◌, ◌*◌, ◌%◌, ◌^◌, ◌<◌, nat_eq, Bool, ℤ, pos, negsuc, ◌≤ℤ◌}
 use Rattle.std.specs.Ordering.{on, eq_of_both, int_eq}
 use Rattle.std.specs.Cmp.{IsPartialEquivalence, and_per, on_per, partial_equiv_from_equiv, nat_eq_equiv, int_eq_equiv}
-use Rattle.decimal_digits.specs.Number.{place, weight, first}
+use Rattle.decimal_digits.specs.Number.{offset, weight, first}
 
 -- a number in units of the lowest magnitude, and the highest and the lowest magnitude that it shows
 pub record Unsigned : Type 0 where
@@ -14,7 +14,7 @@ pub record Unsigned : Type 0 where
 pub record IsValue (v : Unsigned) : Type 0 where
   pub hi_in : (pos 0 ≤ℤ v.hi) × (v.hi ≤ℤ pos 32767)
   pub lo_in : (negsuc 32767 ≤ℤ v.lo) × (v.lo ≤ℤ pos 0)
-  pub below : v.number < 10 ^ (place v.hi + 1)
+  pub below : v.number < 10 ^ (offset v.hi + 1)
   pub whole : v.number % weight v.lo ≡ 0
 
 -- the number 0, of which one digit is shown

@@ -5,14 +5,16 @@ ghost use Rattle.decimal_digits.specs.Digits.{number_of, IsStripped};
 ghost use Rattle.decimal_digits.specs.Number.{digit, first, last, size, IsFirst, IsLast};
 ghost use Rattle.decimal_unsigned.specs.Unsigned.{zero_value, IsValue};
 
+mod clone;
 mod compare;
 mod concatenate;
-mod copy;
 mod display;
-mod edit;
-mod integer;
+mod equality;
+mod from_integer;
 mod parse;
 mod round;
+mod shift;
+mod shown_range;
 mod text;
 mod to_integer;
 mod write_digits;
@@ -24,7 +26,6 @@ use std::alloc::Global;
 use std::default::MadeWith;
 use std::marker::Model;
 use std::ops::RangeInclusive;
-pub use to_integer::IntegerError;
 
 /// A number of at least 0 with the highest and the lowest magnitude that it shows, over a store of digits.
 ///
@@ -69,9 +70,9 @@ pub type DecimalStore = PackedDigits;
 /// How many digits an unsigned decimal holds with no allocation, from the first to the last that is not 0.
 ///
 /// Not in the original.
-pub const DIGITS_IN_PLACE: usize = <DecimalStore as DigitStore>::L;
+pub const INLINE_DIGITS: usize = <DecimalStore as DigitStore>::L;
 
-const _: () = prove!(DIGITS_IN_PLACE == 16);
+const _: () = prove!(INLINE_DIGITS == 16);
 
 /// An unsigned decimal.
 ///
@@ -88,7 +89,7 @@ const _: () = prove!(<DigitList as DigitStore>::L == 8);
 impl<D: DigitStore> Model for UnsignedOver<D> {
     ghost use Rattle.decimal_digits.specs.Digits.{number_of};
     ghost use Rattle.decimal_unsigned.specs.Unsigned.{Unsigned};
-    ghost use Rattle.decimal_unsigned.specs.Fields.{IsStored};
+    ghost use Rattle.decimal_unsigned.specs.Stored.{IsStored};
 
     ghost Value = { Unsigned };
 

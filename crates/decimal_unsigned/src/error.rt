@@ -1,6 +1,7 @@
 //! Why a call was refused.
 ghost use Rattle.std.specs.Prelude.{◌≡◌};
 ghost use Rattle.decimal_unsigned.specs.ErrorText.{error_text, concatenate_error_text};
+ghost use Rattle.decimal_unsigned.specs.ToInteger.{integer_error_text};
 
 use std::alloc::AllocError;
 use std::error::Error;
@@ -25,7 +26,7 @@ impl fmt::Display for LimitError {
     ///
     /// Err: the formatter refused it. The original's `Display`.
     fn fmt<W: fmt::Write>(&self, f: &mut fmt::Formatter<W>) -> fmt::Result {
-        f.write_str(ParseError::Limit.text())
+        f.write_str(ParseError::Limit.message())
     }
 }
 
@@ -58,7 +59,7 @@ impl From<AllocError> for ParseError {
 
 impl ParseError {
     /// The sentence that says why.
-    fn text(&self) -> &'static str
+    fn message(&self) -> &'static str
         ensures { result.now ≡ error_text self.now }
     {
         match self {
@@ -81,7 +82,7 @@ impl fmt::Display for ParseError {
     ///
     /// Err: the formatter refused it. The original's `Display`.
     fn fmt<W: fmt::Write>(&self, f: &mut fmt::Formatter<W>) -> fmt::Result {
-        f.write_str(self.text())
+        f.write_str(self.message())
     }
 }
 
@@ -101,7 +102,7 @@ pub enum ConcatenateError<T> {
 
 impl<T> ConcatenateError<T> {
     /// The sentence that says why.
-    fn text(&self) -> &'static str
+    fn message(&self) -> &'static str
         ensures { result.now ≡ concatenate_error_text self.now }
     {
         match self {
@@ -124,8 +125,50 @@ impl<T> fmt::Display for ConcatenateError<T> {
     ///
     /// Err: the formatter refused it. Not in the original.
     fn fmt<W: fmt::Write>(&self, f: &mut fmt::Formatter<W>) -> fmt::Result {
-        f.write_str(self.text())
+        f.write_str(self.message())
     }
 }
 
 impl<T: fmt::Debug + Drop> Error for ConcatenateError<T> {}
+
+/// Why a number is no integer of a type.
+///
+/// `1.5` is `NotWhole` for each type, and 300 digits are `OutOfRange` where no digit behind the dot is other than 0.
+/// Not in the original.
+#[derive(Clone, Copy, Debug, PartialEq, Eq)]
+pub enum IntegerError {
+    /// There is a digit behind the dot that is not 0.
+    NotWhole,
+    /// The number is whole, and the type does not hold it.
+    OutOfRange,
+}
+
+impl IntegerError {
+    /// The sentence that says why.
+    fn message(&self) -> &'static str
+        ensures { result.now ≡ integer_error_text self.now }
+    {
+        match self {
+            IntegerError::NotWhole => "Not a whole number",
+            IntegerError::OutOfRange => "Integer out of range",
+        }
+    }
+}
+
+impl fmt::Display for IntegerError {
+    ghost use Rattle.std.specs.Prelude.{Some};
+    ghost use Rattle.decimal_unsigned.specs.ToInteger.{integer_error_text};
+
+    ghost output = { λ e. Some (integer_error_text e) };
+
+    ghost styled_output = { λ e _. Some (integer_error_text e) };
+
+    /// Writes the sentence that says why: `Not a whole number` for `NotWhole`. It looks at no option of the format.
+    ///
+    /// Err: the formatter refused it. Not in the original.
+    fn fmt<W: fmt::Write>(&self, f: &mut fmt::Formatter<W>) -> fmt::Result {
+        f.write_str(self.message())
+    }
+}
+
+impl Error for IntegerError {}

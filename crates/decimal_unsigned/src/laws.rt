@@ -3,18 +3,18 @@ ghost use Rattle.std.specs.Prelude.{ℕ, List, ℤ, negsuc, ◌≤ℤ◌};
 ghost use Rattle.decimal_digits.specs.declared.rounding.RoundingIncrement.{RoundingIncrement};
 ghost use Rattle.decimal_digits.specs.declared.rounding.UnsignedRoundingMode.{UnsignedRoundingMode};
 ghost use Rattle.decimal_unsigned.specs.ConcatenationLaws.{ConcatenationIsAssociative};
-ghost use Rattle.decimal_unsigned.specs.EditLaws.{TrimmedIsNormalForm, trunced, TruncationsCompose, ExpansionsCompose, RoundingIsMonotone};
+ghost use Rattle.decimal_unsigned.specs.ValueLaws.{TrimmedIsNormalForm, trunced, TruncationsCompose, ExpansionsCompose, RoundingIsMonotone};
 ghost use Rattle.decimal_unsigned.specs.Reading.{FollowsGrammar};
 ghost use Rattle.decimal_unsigned.specs.Unsigned.{Unsigned, IsValue};
 
 /// Each text is read as the grammar says: as the value of its parts, or as a syntax error where it has none.
-#[tactic(auto, using(crate::proofs::ParserAnswers::follows_grammar))]
+#[tactic(auto, using(crate::proofs::ReadingGrammar::follows_grammar))]
 pub fn reading_follows_grammar()
     ensures { (text : List ℕ) → FollowsGrammar text }
 {}
 
 /// Two values have one number exactly if they are equal after both trims.
-#[tactic(auto, using(crate::proofs::EditLaws::trimmed_is_normal_form))]
+#[tactic(auto, using(crate::proofs::ValueLaws::trimmed_is_normal_form))]
 pub fn trimmed_is_normal_form()
     ensures { (v w : Unsigned) → TrimmedIsNormalForm v w }
 {}

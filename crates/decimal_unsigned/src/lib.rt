@@ -7,5 +7,4 @@ pub mod decimal;
 mod error;
 pub mod laws;
 
-pub use decimal::IntegerError;
-pub use error::{ConcatenateError, LimitError, ParseError};
+pub use error::{ConcatenateError, IntegerError, LimitError, ParseError};

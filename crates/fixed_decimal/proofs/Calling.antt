@@ -7,28 +7,28 @@ use Rattle.std.proofs.Math.Nat.{mul_assoc, mul-le-mul_right, mul-lt-mul_of_pos_r
 use Rattle.std.proofs.Math.Arith.{mod-mul}
 use Rattle.std.proofs.lemmas.Int.{ints, clamps}
 use Rattle.std.proofs.lemmas.Bool.{cases_lt, cases_eq}
-use Rattle.decimal_digits.specs.Number.{place, weight, digit, magnitude_at, first, last}
+use Rattle.decimal_digits.specs.Number.{offset, weight, digit, magnitude_at, first, last}
 use Rattle.decimal_digits.specs.Rounding.{IsNearest}
 use Rattle.decimal_digits.proofs.Ends.{shift_up}
-use Rattle.decimal_unsigned.specs.Grammar.{Written, decimal, integer}
+use Rattle.decimal_unsigned.specs.Grammar.{Literal, decimal, integer}
 use Rattle.decimal_unsigned.specs.Reading.{mantissa, scaled, value_of, value_or_syntax, read}
-use Rattle.decimal_unsigned.specs.EditLaws.{trimmed}
+use Rattle.decimal_unsigned.specs.ValueLaws.{trimmed}
 use Rattle.decimal_unsigned.specs.Rounded.{reaches_limit, with_number, rounded_to}
 use Rattle.decimal_unsigned.specs.Text.{dot_before, text_down, text}
 use Rattle.decimal_unsigned.specs.ToInteger.{as_integer}
 use Rattle.decimal_unsigned.specs.Unsigned.{Unsigned, IsValue}
-use Rattle.decimal_unsigned.specs.declared.decimal.to_integer.IntegerError.TheVariants.{NotWhole, OutOfRange}
+use Rattle.decimal_unsigned.specs.declared.error.IntegerError.TheVariants.{NotWhole, OutOfRange}
 use Rattle.fixed_decimal.specs.Decimal.{Decimal, signed, signed_number, with_absolute}
 use Rattle.fixed_decimal.specs.declared.variations.Sign.{Sign}
 use Rattle.fixed_decimal.specs.declared.variations.Sign.TheVariants as sign
 use Rattle.decimal_unsigned.proofs.ConcatenationLaws.{extent_of}
 use Rattle.decimal_unsigned.proofs.FirstLast.{first_of, last_of}
-use Rattle.decimal_unsigned.proofs.GrammarParts.{parts_again}
+use Rattle.decimal_unsigned.proofs.GrammarParts.{parts-complete}
 use Rattle.decimal_unsigned.proofs.WholeNumbers as whole_numbers
 -- for `omega`: a place is the magnitude and 32768
-pub use Rattle.decimal_digits.proofs.Places.{place_is}
+pub use Rattle.decimal_digits.proofs.Offsets.{offset_is}
 -- for `omega`: how far one magnitude is above another
-pub use Rattle.decimal_digits.proofs.Places.{gap_is}
+pub use Rattle.decimal_digits.proofs.Offsets.{gap_is}
 -- a power of ten is above 0, as a divisor has to be
 pub use Rattle.decimal_digits.proofs.DigitLists.{ten_pos}
 -- a power of ten is the product of two
@@ -56,9 +56,9 @@ pub use Rattle.decimal_unsigned.proofs.Writing.{text_down-zero}
 -- the text of a value reads as the value
 pub use Rattle.decimal_unsigned.proofs.ReadBack.{read_text}
 -- each text is read as the grammar says
-pub use Rattle.decimal_unsigned.proofs.ParserAnswers.{follows_grammar}
+pub use Rattle.decimal_unsigned.proofs.ReadingGrammar.{follows_grammar}
 -- two values have one number exactly if they are equal after both trims
-pub use Rattle.decimal_unsigned.proofs.EditLaws.{trimmed_is_normal_form}
+pub use Rattle.decimal_unsigned.proofs.ValueLaws.{trimmed_is_normal_form}
 -- a multiple of the unit is rounded to itself
 pub use Rattle.decimal_digits.proofs.RoundingLaws.{rounded_number-multiple}
 -- a greater number is rounded to no less
@@ -66,14 +66,14 @@ pub use Rattle.decimal_digits.proofs.RoundingLaws.{rounded_number-monotone}
 -- what is appended to what was appended; nothing is appended; what was appended stays
 pub use Rattle.decimal_digits.proofs.Sinks.{appends_both, appends_none, appends_kept}
 -- a beginning of a text is one of a longer text; a text, and then a beginning of the next; nothing is one of each text
-pub use Rattle.decimal_digits.proofs.Sinks.{part_more, then_part, part_none}
+pub use Rattle.decimal_digits.proofs.Sinks.{prefix_more, then_prefix, prefix_none}
 -- what holds anyway holds on an error
 pub use Rattle.decimal_digits.proofs.Results.{on_err}
 
--- ---- Magnitudes. `omega (arith, ints, place_is m)` compares the places of magnitudes.
+-- ---- Magnitudes. `omega (arith, ints, offset_is m)` compares the places of magnitudes.
 -- a magnitude that is k higher counts 10 to the k times as much
 pub weight_up : (m : ℤ) (k : ℕ) → negsuc 32767 ≤ℤ m → weight (m +ℤ pos k) ≡ weight m * 10 ^ k
-weight_up m k h = powers (place m) k (place (m +ℤ pos k)) (omega (arith, ints, place_is m, place_is (m +ℤ pos k)))
+weight_up m k h = powers (offset m) k (offset (m +ℤ pos k)) (omega (arith, ints, offset_is m, offset_is (m +ℤ pos k)))
 
 -- ---- The first and the last digit of a number.
 -- a shift down by k places moves the first digit down by k, where the number has as many places
@@ -112,9 +112,9 @@ last_down v e k odd h few = ap last (shift_up v e k h) ∙ last_is v (e - k) odd
 -- the digit of an integer's value at a magnitude of at least 0
 pub digit_of_integer : (n k : ℕ) → digit (n * weight (pos 0)) (pos k) ≡ n / 10 ^ k % 10
 digit_of_integer n k =
-    let up : place (pos k) - place (pos 0) ≡ k = omega (arith, ints, place_is (pos k), place_is (pos 0)) in
-    let above : place (pos 0) ≤ place (pos k) = omega (arith, ints, place_is (pos k), place_is (pos 0)) in
-    ap (λ i. i % 10) (shift_down n (place (pos 0)) (place (pos k)) above ∙ ap (λ i. n / 10 ^ i) up)
+    let up : offset (pos k) - offset (pos 0) ≡ k = omega (arith, ints, offset_is (pos k), offset_is (pos 0)) in
+    let above : offset (pos 0) ≤ offset (pos k) = omega (arith, ints, offset_is (pos k), offset_is (pos 0)) in
+    ap (λ i. i % 10) (shift_down n (offset (pos 0)) (offset (pos k)) above ∙ ap (λ i. n / 10 ^ i) up)
 
 -- a value of so many whole ones is that integer, where it is below the bound: what `try_to_u64` answers at 2 to the 64
 pub integer_of : (bound n : ℕ) → n < bound → as_integer bound (n * weight (pos 0)) ≡ Ok n
@@ -124,22 +124,23 @@ integer_of bound n h =
 -- the first digit of an integer's value: at k for an integer of k + 1 digits
 pub first_of_integer : (n k : ℕ) → 10 ^ k ≤ n → n < 10 ^ (k + 1) → k < 32768 → first (n * weight (pos 0)) ≡ pos k
 first_of_integer n k least most few =
-    let top = k + place (pos 0) in
-    let low : 10 ^ top ≡ 10 ^ k * weight (pos 0) = powers k (place (pos 0)) top refl in
+    let top = k + offset (pos 0) in
+    let low : 10 ^ top ≡ 10 ^ k * weight (pos 0) = powers k (offset (pos 0)) top refl in
     let high : 10 ^ (top + 1) ≡ 10 ^ (k + 1) * weight (pos 0) =
-    powers (k + 1) (place (pos 0)) (top + 1) (omega arith) in
+    powers (k + 1) (offset (pos 0)) (top + 1) (omega arith) in
     let reaches : 10 ^ k * weight (pos 0) ≤ n * weight (pos 0) = mul-le-mul_right (weight (pos 0)) least in
     let below : n * weight (pos 0) < 10 ^ (k + 1) * weight (pos 0) =
-    mul-lt-mul_of_pos_right most (ten_pos (place (pos 0))) in
+    mul-lt-mul_of_pos_right most (ten_pos (offset (pos 0))) in
     first_is (n * weight (pos 0)) top (omega (arith, low, reaches)) (omega (arith, high, below))
-    (omega (arith, place_is (pos 0)))
-    ∙ (let e : magnitude_at top ≡ pos k = omega (arith, ints, place_is (pos 0)) in e)
+    (omega (arith, offset_is (pos 0)))
+    ∙ (let e : magnitude_at top ≡ pos k = omega (arith, ints, offset_is (pos 0)) in e)
 
 -- so many whole ones, shifted down by k, are so many ones at -k
 pub integer_down : (n k : ℕ) → k < 32768 → n * weight (pos 0) / 10 ^ suc k ≡ n * weight (negsuc k)
 integer_down n k h =
     let split : weight (pos 0) ≡ weight (negsuc k) * 10 ^ suc k =
-    powers (place (negsuc k)) (suc k) (place (pos 0)) (omega (arith, ints, place_is (negsuc k), place_is (pos 0))) in
+    powers (offset (negsuc k)) (suc k) (offset (pos 0))
+    (omega (arith, ints, offset_is (negsuc k), offset_is (pos 0))) in
     let all : n * weight (pos 0) ≡ n * weight (negsuc k) * 10 ^ suc k =
     ap (λ w. n * w) split ∙ sym (mul_assoc n (weight (negsuc k)) (10 ^ suc k)) in
     ap (λ m. m / 10 ^ suc k) all ∙ mul-div_cancel (n * weight (negsuc k)) (ten_pos (suc k))
@@ -218,15 +219,15 @@ unfoldable pub worth_down : ℕ → ℤ → ℕ → ℕ
 worth_down number m zero = 0
 worth_down number m (suc k) = digit number m * weight m + worth_down number (m -ℤ pos 1) k
 
-digits_worth : (number count p : ℕ) (m : ℤ) → (0 < count → place m + 1 ≡ p) → count ≤ p
+digits_worth : (number count p : ℕ) (m : ℤ) → (0 < count → offset m + 1 ≡ p) → count ≤ p
     → worth_down number m count + number % 10 ^ (p - count) ≡ number % 10 ^ p
 unfolding worth_down
 digits_worth number zero p m at h =
     let e : p - 0 ≡ p = omega arith in ap (λ k. 0 + number % 10 ^ k) e ∙ (omega arith)
 digits_worth number (suc k) p m at h =
-    let here : place m ≡ p - 1 = omega (arith, at (omega arith)) in
-    let below : 0 < k → place (m -ℤ pos 1) + 1 ≡ p - 1 =
-    λ some. omega (arith, ints, here, place_is m, place_is (m -ℤ pos 1)) in
+    let here : offset m ≡ p - 1 = omega (arith, at (omega arith)) in
+    let below : 0 < k → offset (m -ℤ pos 1) + 1 ≡ p - 1 =
+    λ some. omega (arith, ints, here, offset_is m, offset_is (m -ℤ pos 1)) in
     let rest = digits_worth number k (p - 1) (m -ℤ pos 1) below (omega arith) in
     let last : p - 1 - k ≡ p - suc k = omega arith in
     let split : 10 ^ p ≡ 10 * 10 ^ (p - 1) = powers 1 (p - 1) p (omega arith) in
@@ -238,12 +239,12 @@ digits_worth number (suc k) p m at h =
 pub digits_make_number : (v : Unsigned) → IsValue v → worth_down v.number v.hi (int_gap v.lo v.hi + 1) ≡ v.number
 digits_make_number v valid =
     let count = int_gap v.lo v.hi + 1 in
-    let rest : place v.hi + 1 - count ≡ place v.lo =
-    omega (arith, ints, gap_is v.lo v.hi, place_is v.hi, place_is v.lo, valid.hi_in, valid.lo_in) in
-    let fits : count ≤ place v.hi + 1 =
-    omega (arith, ints, gap_is v.lo v.hi, place_is v.hi, place_is v.lo, valid.hi_in, valid.lo_in) in
-    let all = digits_worth v.number count (place v.hi + 1) v.hi (λ h. refl) fits in
-    let none : v.number % 10 ^ (place v.hi + 1 - count) ≡ 0 = ap (λ k. v.number % 10 ^ k) rest ∙ valid.whole in
+    let rest : offset v.hi + 1 - count ≡ offset v.lo =
+    omega (arith, ints, gap_is v.lo v.hi, offset_is v.hi, offset_is v.lo, valid.hi_in, valid.lo_in) in
+    let fits : count ≤ offset v.hi + 1 =
+    omega (arith, ints, gap_is v.lo v.hi, offset_is v.hi, offset_is v.lo, valid.hi_in, valid.lo_in) in
+    let all = digits_worth v.number count (offset v.hi + 1) v.hi (λ h. refl) fits in
+    let none : v.number % 10 ^ (offset v.hi + 1 - count) ≡ 0 = ap (λ k. v.number % 10 ^ k) rest ∙ valid.whole in
     omega (arith, all, none, mod-eq_of_lt valid.below)
 
 -- ---- Texts.
@@ -261,10 +262,10 @@ text_of_literal n hi lo low order = down (int_gap lo hi + 1) hi (omega (arith, i
         → text_down (n * weight lo) m count ≡ digits_down n m count
     down zero m e = text_down-zero (n * weight lo) m
     down (suc k) m e =
-        let height : place m - place lo ≡ k = omega (arith, ints, place_is m, place_is lo) in
-        let above : place lo ≤ place m = omega (arith, ints, place_is m, place_is lo) in
+        let height : offset m - offset lo ≡ k = omega (arith, ints, offset_is m, offset_is lo) in
+        let above : offset lo ≤ offset m = omega (arith, ints, offset_is m, offset_is lo) in
         let here : digit (n * weight lo) m ≡ n / 10 ^ k % 10 =
-        ap (λ i. i % 10) (shift_down n (place lo) (place m) above ∙ ap (λ i. n / 10 ^ i) height) in
+        ap (λ i. i % 10) (shift_down n (offset lo) (offset m) above ∙ ap (λ i. n / 10 ^ i) height) in
         text_down-suc (n * weight lo) m k
         ∙ ap (λ d. (dot_before m ++ (48 + d) ∷ []) ++ text_down (n * weight lo) (m -ℤ pos 1) k) here
         ∙ ap (λ rest. (dot_before m ++ (48 + n / 10 ^ k % 10) ∷ []) ++ rest)
@@ -275,8 +276,8 @@ pub read_integer_text : (whole : List ℕ) → AllDigits 10 whole → 0 < length
     → read whole ≡ Ok (mantissa whole [])
 unfolding read value_or_syntax value_of scaled
 read_integer_text whole digits some few =
-    let w : Written = record { whole = whole; fraction = []; exponent = None } in
-    let parts = parts_again whole w (record { whole = digits; fraction = tt; form = integer some refl refl refl }) in
+    let w : Literal = record { whole = whole; fraction = []; exponent = None } in
+    let parts = parts-complete whole w (record { whole = digits; fraction = tt; form = integer some refl refl refl }) in
     let long : nat_lt 32768 (length whole) ≡ false = search rules in
     rw (parts, long) refl
 
@@ -286,9 +287,9 @@ pub read_decimal_text : (whole fraction : List ℕ) → AllDigits 10 whole → A
     → read (whole ++ 46 ∷ fraction) ≡ Ok (mantissa whole fraction)
 unfolding read value_or_syntax value_of scaled
 read_decimal_text whole fraction digits decimals some few few_decimals =
-    let w : Written = record { whole = whole; fraction = fraction; exponent = None } in
+    let w : Literal = record { whole = whole; fraction = fraction; exponent = None } in
     let parts =
-    parts_again (whole ++ 46 ∷ fraction) w
+    parts-complete (whole ++ 46 ∷ fraction) w
     (record { whole = digits; fraction = decimals; form = decimal some refl refl }) in
     let long : nat_lt 32768 (length whole) ≡ false = search rules in
     let long_decimals : nat_lt 32768 (length fraction) ≡ false = search rules in
@@ -303,24 +304,24 @@ trimmed_valid v valid =
     elim (cases_lt 0 v.number) [
       | inl some ↦
           let e = extent_of v valid some in
-          let top : 10 ^ (e.top + 1) ≤ 10 ^ (place (trimmed v).hi + 1) =
-          pow-le-pow_right (omega arith) (omega (arith, ints, clamps, first_of e, place_is (trimmed v).hi)) in
-          let low : place (trimmed v).lo ≤ e.bottom =
-          omega (arith, ints, clamps, last_of e, place_is (trimmed v).lo) in
+          let top : 10 ^ (e.top + 1) ≤ 10 ^ (offset (trimmed v).hi + 1) =
+          pow-le-pow_right (omega arith) (omega (arith, ints, clamps, first_of e, offset_is (trimmed v).hi)) in
+          let low : offset (trimmed v).lo ≤ e.bottom =
+          omega (arith, ints, clamps, last_of e, offset_is (trimmed v).lo) in
           record {
             hi_in = omega (arith, ints, clamps, few, valid.hi_in);
             lo_in = (omega (arith, ints, clamps, last_of e), omega (arith, ints, clamps));
             below = omega (arith, e.below, top);
-            whole = ends_low e.factor e.bottom (place (trimmed v).lo) low e.is;
+            whole = ends_low e.factor e.bottom (offset (trimmed v).lo) low e.is;
           }
       | inr none ↦
-          let zero : v.number ≡ 0 * 10 ^ place (trimmed v).lo = omega arith in
+          let zero : v.number ≡ 0 * 10 ^ offset (trimmed v).lo = omega arith in
           let end : last v.number ≡ pos 0 = ap last (let z : v.number ≡ 0 = omega arith in z) ∙ last_zero in
           record {
             hi_in = omega (arith, ints, clamps, few, valid.hi_in);
             lo_in = omega (arith, ints, clamps, end);
-            below = omega (arith, ten_pos (place (trimmed v).hi + 1));
-            whole = ap (λ n. n % 10 ^ place (trimmed v).lo) zero ∙ mul-mod_left 0 (10 ^ place (trimmed v).lo);
+            below = omega (arith, ten_pos (offset (trimmed v).hi + 1));
+            whole = ap (λ n. n % 10 ^ offset (trimmed v).lo) zero ∙ mul-mod_left 0 (10 ^ offset (trimmed v).lo);
           }
     ]
   where

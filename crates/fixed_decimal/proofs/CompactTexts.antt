@@ -12,9 +12,9 @@ use Rattle.std.proofs.lemmas.List.Folds.{list_any-append}
 use Rattle.std.proofs.lemmas.Str.{IsUtf8-nil, IsUtf8-from_ascii, IsAscii-append}
 use Rattle.std.proofs.lemmas.Str.Parse.{digit_from_value}
 use Rattle.decimal_unsigned.specs.Reading.{is_letter}
-use Rattle.decimal_unsigned.proofs.GrammarParts.{numeral_again}
+use Rattle.decimal_unsigned.proofs.GrammarParts.{numeral-complete}
 use Rattle.fixed_decimal.specs.DecimalText.{decimal_text, read_decimal, and_then}
-use Rattle.fixed_decimal.specs.Compact.{Compact, exponent_text, compact_text, small_number_of, read_exponent, read_parts, read_compact, with_c}
+use Rattle.fixed_decimal.specs.Compact.{Compact, exponent_text, compact_text, exponent_number_of, read_exponent, read_fields, read_compact, with_c}
 use Rattle.fixed_decimal.proofs.DecimalBytes.{PassesNone, decimal_text-lacks, letter-none, c-none}
 use Rattle.fixed_decimal.proofs.SplitsAtC.{split_is}
 use Rattle.fixed_decimal.proofs.Writing.{first_fails, second_fails}
@@ -74,19 +74,19 @@ digits-lacks p h (c ∷ ds) d =
     let e = h.digits c (omega (arith, r.0)) (omega (arith, r.1)) in
     rw e (digits-lacks p h ds d.1)
 
-small_again : (ds : List ℕ) → IsNumeral 10 ds → 48 < get_or ds 0 0 → digits_value 10 ds ≤ 255
-    → small_number_of ds ≡ Ok (digits_value 10 ds)
-unfolding small_number_of
-small_again [] n h l = absurd (omega (arith, n.0))
-small_again (c ∷ ds) n h l =
+exponent_number-complete : (ds : List ℕ) → IsNumeral 10 ds → 48 < get_or ds 0 0 → digits_value 10 ds ≤ 255
+    → exponent_number_of ds ≡ Ok (digits_value 10 ds)
+unfolding exponent_number_of
+exponent_number-complete [] n h l = absurd (omega (arith, n.0))
+exponent_number-complete (c ∷ ds) n h l =
     let e : (c == 48) ≡ false = grind (arith, nat_tests, h) in
     let f : nat_lt 255 (digits_value 10 (c ∷ ds)) ≡ false = grind (arith, nat_tests, l) in
-    rw (e, numeral_again (c ∷ ds) n, f) refl
+    rw (e, numeral-complete (c ∷ ds) n, f) refl
 
-small_reads_back : (n : ℕ) → 0 < n → n < 256 → small_number_of (decimal n) ≡ Ok n
-small_reads_back n h l =
+exponent_number_reads_back : (n : ℕ) → 0 < n → n < 256 → exponent_number_of (decimal n) ≡ Ok n
+exponent_number_reads_back n h l =
     let d = decimal_is_IsNumeral n (below_64 n l) in
-    small_again (decimal n) d.0 (first_decimal n h (below_64 n l)) (omega (arith, d.1)) ∙ ap Ok d.1
+    exponent_number-complete (decimal n) d.0 (first_decimal n h (below_64 n l)) (omega (arith, d.1)) ∙ ap Ok d.1
 
 -- the parts of a text: an exponent of 0 has no text
 exponent_part : ℕ → Option (List ℕ)
@@ -98,10 +98,10 @@ unfolding exponent_part
 exponent_is zero = refl
 exponent_is (suc n) = rw (eqb-suc-zero n) refl
 
-exponent_again : (n : ℕ) → n < 256 → read_exponent (exponent_part n) ≡ Ok n
+exponent_reads_back : (n : ℕ) → n < 256 → read_exponent (exponent_part n) ≡ Ok n
 unfolding exponent_part
-exponent_again zero h = refl
-exponent_again (suc n) h = small_reads_back (suc n) (omega arith) h
+exponent_reads_back zero h = refl
+exponent_reads_back (suc n) h = exponent_number_reads_back (suc n) (omega arith) h
 
 exponent-plain : (n : ℕ) → n < 256 → list_any is_letter (with_c (exponent_part n)) ≡ false
 unfolding exponent_part
@@ -113,13 +113,13 @@ exponent-plain (suc n) h =
 pub compact_reads_back : (v : Compact) → read_decimal (decimal_text v.significand) ≡ Ok v.significand → v.exponent < 256
     → read_compact (compact_text v) ≡ Ok v
 compact_reads_back v h l =
-    ap (λ r. and_then r read_parts)
+    ap (λ r. and_then r read_fields)
     (split_is (compact_text v) (decimal_text v.significand) (exponent_part v.exponent) plain
     (record {
       is = ap (λ t. decimal_text v.significand ++ t) (exponent_is v.exponent);
       first = decimal_text-lacks _ c-none v.significand;
     }))
-    ∙ (rw (h, exponent_again v.exponent l) refl)
+    ∙ (rw (h, exponent_reads_back v.exponent l) refl)
   where
     plain : list_any is_letter (compact_text v) ≡ false
     plain =

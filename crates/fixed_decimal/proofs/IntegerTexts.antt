@@ -2,21 +2,21 @@
 use Rattle.std.proofs.Common.{◌≡◌, ℕ, List, refl, ap}
 use Rattle.std.specs.Prelude.{Ok, pos}
 use Rattle.decimal_unsigned.specs.Unsigned.{IsValue}
-use Rattle.decimal_unsigned.specs.Grammar.{Written}
+use Rattle.decimal_unsigned.specs.Grammar.{Literal}
 use Rattle.decimal_unsigned.specs.Reading.{value_of}
-use Rattle.decimal_unsigned.proofs.ParserAnswers.{read_grammar}
+use Rattle.decimal_unsigned.proofs.ReadingGrammar.{read_grammar}
 use Rattle.fixed_decimal.specs.declared.variations.Sign.{Sign}
 use Rattle.fixed_decimal.specs.Decimal.{Decimal}
-use Rattle.fixed_decimal.specs.DecimalText.{decimal_text, Grammar, behind_sign, with_sign, read_decimal, and_then}
+use Rattle.fixed_decimal.specs.DecimalText.{decimal_text, Grammar, after_sign, with_sign, read_decimal, and_then}
 use Rattle.fixed_decimal.specs.Integer.{integer_or_limit, read_integer, ReadsInteger}
 use Rattle.fixed_decimal.proofs.DecimalTexts.{decimal_syntax, grammar_splits, read_decimal_text}
 
-decimal_found : (bytes : List ℕ) (s : Sign) (w : Written) → Grammar bytes s w
+decimal_found : (bytes : List ℕ) (s : Sign) (w : Literal) → Grammar bytes s w
     → read_decimal bytes ≡ with_sign s (value_of w)
 unfolding read_decimal
 decimal_found bytes s w g =
     let k = grammar_splits bytes s w g in
-    rw (k.0, read_grammar (behind_sign bytes) w k.1) refl
+    rw (k.0, read_grammar (after_sign bytes) w k.1) refl
 
 -- reading is reading the parts that the grammar finds
 pub integer_reads : (bytes : List ℕ) → ReadsInteger bytes (read_integer bytes)

@@ -12,13 +12,13 @@ use Rattle.decimal_digits.specs.declared.rounding.RoundingIncrement.TheVariants.
 use Rattle.decimal_digits.specs.declared.rounding.UnsignedRoundingMode.{UnsignedRoundingMode}
 use Rattle.decimal_digits.specs.declared.rounding.UnsignedRoundingMode.TheVariants.{Expand, Trunc}
 use Rattle.decimal_digits.proofs.RoundingLaws.{trunc_le}
-use Rattle.decimal_digits.proofs.Tails.{unit_pos}
+use Rattle.decimal_digits.proofs.Remainders.{unit_pos}
 use Rattle.decimal_unsigned.specs.Unsigned.{Unsigned as Absolute, IsValue}
 use Rattle.decimal_unsigned.specs.Rounded as unsigned
 use Rattle.decimal_unsigned.specs.Rounded.{reaches_limit, with_number}
-use Rattle.decimal_unsigned.specs.EditLaws as unsigned_laws
-use Rattle.decimal_unsigned.specs.EditLaws.{number_if_any}
-use Rattle.decimal_unsigned.proofs.EditLaws.{below_limit}
+use Rattle.decimal_unsigned.specs.ValueLaws as unsigned_laws
+use Rattle.decimal_unsigned.specs.ValueLaws.{number_if_any}
+use Rattle.decimal_unsigned.proofs.ValueLaws.{below_limit}
 use Rattle.decimal_unsigned.proofs.Roundings.{trunc_makes}
 use Rattle.decimal_unsigned.proofs.RoundingLaws as unsigned_proofs
 use Rattle.fixed_decimal.specs.Decimal.{Decimal, with_absolute}
@@ -26,7 +26,7 @@ use Rattle.fixed_decimal.specs.Outcome.{limit_exceeded, or_limit_exceeded, after
 use Rattle.fixed_decimal.specs.DecimalText.{and_then}
 use Rattle.fixed_decimal.specs.SignedRounding.{IsPosition, trunced, TruncationsCompose, expanded, sign_and_number, ExpansionsCompose}
 use Rattle.fixed_decimal.proofs.SignedRoundings.{trunc_is_some}
-use Rattle.fixed_decimal.specs.RunLaws.{rounding_at, ComesToNumber, RoundsOnce}
+use Rattle.fixed_decimal.specs.RunLaws.{rounding_at, ResultHasNumber, RoundsOnce}
 
 -- ---- Two roundings of a decimal, by those of its absolute value.
 
@@ -63,7 +63,8 @@ truncations_compose v p q valid low low' =
     let laws = unsigned_proofs.truncations_compose v.absolute p low valid in
     let twice : trunced (trunced v p) q
     ≡ record v { absolute = unsigned_laws.trunced (unsigned_laws.trunced v.absolute p) q } =
-    ap (λ w. trunced w q) (trunced_is v p) ∙ trunced_is (record v { absolute = unsigned_laws.trunced v.absolute p }) q in
+    ap (λ w. trunced w q) (trunced_is v p)
+    ∙ trunced_is (record v { absolute = unsigned_laws.trunced v.absolute p }) q in
     record {
       above = λ h. twice ∙ ap (λ a. record v { absolute = a }) (laws.above q h) ∙ sym (trunced_is v q);
       number =
@@ -102,14 +103,14 @@ module _ (mode : UnsignedRoundingMode) where
   -- calls that make these roundings come to a decimal of this number
   come_to : (w v : Decimal) (qs : List ℤ) (at : ℕ) (made : Option Absolute) → w.sign ≡ v.sign
       → numbers_after qs w.absolute.number ≡ number_if_any made
-      → ComesToNumber (after_calls at w (map (rounding_at mode) qs)) (with_absolute v made)
+      → ResultHasNumber (after_calls at w (map (rounding_at mode) qs)) (with_absolute v made)
   unfolding numbers_after
   come_to w v [] at (Some a) s e = ((let f : w.absolute.number ≡ a.number = cc in f), s)
   come_to w v [] at None s e = absurd (cc)
   come_to w v (q ∷ qs) at made s e =
       elim (unsigned.rounded w.absolute q mode MultiplesOf1) as
       (λ o. option_and_then (numbers_after qs) (number_if_any o) ≡ number_if_any made
-      → ComesToNumber
+      → ResultHasNumber
       (and_then (or_limit_exceeded at (with_absolute w o))
       (λ u. after_calls (at + 1) u (map (rounding_at mode) qs)))
       (with_absolute v made)) [
@@ -118,7 +119,7 @@ module _ (mode : UnsignedRoundingMode) where
       ] (ap (option_and_then (numbers_after qs)) (by_number w.absolute q) ∙ e)
     where
       nowhere : (made : Option Absolute) → None ≡ number_if_any made
-          → ComesToNumber (Err (limit_exceeded at)) (with_absolute v made)
+          → ResultHasNumber (Err (limit_exceeded at)) (with_absolute v made)
       nowhere None n = tt
       nowhere (Some a) n = absurd (cc)
 

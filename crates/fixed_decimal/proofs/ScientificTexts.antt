@@ -3,7 +3,7 @@ use Rattle.std.proofs.Common.{◌≡◌, ℕ, List, refl, sym, ◌∙◌, ap, Ok
 use Rattle.std.specs.Prelude.{pos}
 use Rattle.decimal_unsigned.specs.Unsigned.{IsValue}
 use Rattle.fixed_decimal.specs.DecimalText.{decimal_text, read_decimal, and_then}
-use Rattle.fixed_decimal.specs.Scientific.{Scientific, scientific_text, split_at_e, read_parts, read_scientific}
+use Rattle.fixed_decimal.specs.Scientific.{Scientific, scientific_text, split_at_e, read_fields, read_scientific}
 use Rattle.fixed_decimal.proofs.DecimalBytes.{decimal_text-lacks, letter-none}
 use Rattle.fixed_decimal.proofs.IntegerTexts.{integer_reads_back}
 use Rattle.fixed_decimal.proofs.SplitsAtE.{split_is}
@@ -21,9 +21,9 @@ split_between v =
     })
 
 -- equal texts have equal parts
-pub same_parts : (v w : Scientific) → scientific_text v ≡ scientific_text w
+pub same_fields : (v w : Scientific) → scientific_text v ≡ scientific_text w
     → (decimal_text v.significand ≡ decimal_text w.significand) × (decimal_text v.exponent ≡ decimal_text w.exponent)
-same_parts v w e =
+same_fields v w e =
     let parts = sym (split_between v) ∙ ap split_at_e e ∙ split_between w in
     let pairs : (decimal_text v.significand, decimal_text v.exponent)
     ≡ (decimal_text w.significand, decimal_text w.exponent) = cc in
@@ -35,7 +35,7 @@ pub scientific_reads_back : (v : Scientific) → read_decimal (decimal_text v.si
     → v.exponent.absolute.lo ≡ pos 0
     → read_scientific (scientific_text v) ≡ Ok v
 scientific_reads_back v h k e =
-    ap (λ r. and_then r read_parts) (split_between v)
+    ap (λ r. and_then r read_fields) (split_between v)
     ∙ (rw (h, integer_reads_back v.exponent k e) refl)
 
 -- what writing a scientific value rests on

@@ -6,8 +6,8 @@ use Rattle.decimal_unsigned.specs.Reading.{syntax, is_letter}
 use Rattle.fixed_decimal.specs.Letters.{is_small_e, is_capital_e, is_c}
 use Rattle.fixed_decimal.specs.Split.{IsFirstSplit}
 use Rattle.fixed_decimal.specs.DecimalText.{and_then}
-use Rattle.fixed_decimal.specs.Compact.{split_at_c, read_parts, read_compact, IsSplitAtC, ReadsCompact}
-use Rattle.fixed_decimal.proofs.Splitting.{front-at, behind-at, any-at, front-none}
+use Rattle.fixed_decimal.specs.Compact.{split_at_c, read_fields, read_compact, IsSplitAtC, ReadsCompact}
+use Rattle.fixed_decimal.proofs.Splitting.{front-at, suffix-at, any-at, front-none}
 use Rattle.fixed_decimal.proofs.SplitsAtE.{lacks_e, lacks_letter}
 
 letter_unsplit : (text : List ℕ) → list_any is_letter text ≡ true → split_at_c text ≡ Err syntax
@@ -38,13 +38,13 @@ plain_split : (text : List ℕ) → list_any is_letter text ≡ false → list_a
 unfolding split_at_c
 plain_split text h l = rw (h, l) (λ i. Ok (front-none is_c text l i, None))
 
-first_split : (text front behind : List ℕ) → list_any is_letter text ≡ false → IsFirstSplit is_c text front 99 behind
-    → split_at_c text ≡ Ok (front, Some behind)
+first_split : (text front suffix : List ℕ) → list_any is_letter text ≡ false → IsFirstSplit is_c text front 99 suffix
+    → split_at_c text ≡ Ok (front, Some suffix)
 unfolding split_at_c
-first_split text front behind h c =
-    let a : list_any is_c text ≡ true = ap (list_any is_c) c.is ∙ any-at is_c front 99 behind refl in
-    let f = ap (before_first is_c) c.is ∙ front-at is_c front 99 behind c.lacks refl in
-    let b = ap (after_first is_c) c.is ∙ behind-at is_c front 99 behind c.lacks refl in
+first_split text front suffix h c =
+    let a : list_any is_c text ≡ true = ap (list_any is_c) c.is ∙ any-at is_c front 99 suffix refl in
+    let f = ap (before_first is_c) c.is ∙ front-at is_c front 99 suffix c.lacks refl in
+    let b = ap (after_first is_c) c.is ∙ suffix-at is_c front 99 suffix c.lacks refl in
     rw (h, a) (λ i. Ok (f i, Some (b i)))
 
 -- a text with no letter is the significand
@@ -54,27 +54,27 @@ pub no_c_split : (text : List ℕ) → list_any is_small_e text ≡ false → li
 no_c_split text h k l = plain_split text (lacks_letter text h k) l
 
 -- a text with no e and no E is split at its first c
-pub c_split : (text front behind : List ℕ) → list_any is_small_e text ≡ false → list_any is_capital_e text ≡ false
-    → IsFirstSplit is_c text front 99 behind
-    → split_at_c text ≡ Ok (front, Some behind)
-c_split text front behind h k c = first_split text front behind (lacks_letter text h k) c
+pub c_split : (text front suffix : List ℕ) → list_any is_small_e text ≡ false → list_any is_capital_e text ≡ false
+    → IsFirstSplit is_c text front 99 suffix
+    → split_at_c text ≡ Ok (front, Some suffix)
+c_split text front suffix h k c = first_split text front suffix (lacks_letter text h k) c
 
 -- when a text is split at c, and when it is refused
 pub ruleset splits = (small_unsplit, capital_unsplit, no_c_split, c_split)
 
 -- the split finds the parts
-pub split_is : (text front : List ℕ) (behind : Option (List ℕ)) → list_any is_letter text ≡ false
-    → IsSplitAtC text front behind
-    → split_at_c text ≡ Ok (front, behind)
+pub split_is : (text front : List ℕ) (suffix : Option (List ℕ)) → list_any is_letter text ≡ false
+    → IsSplitAtC text front suffix
+    → split_at_c text ≡ Ok (front, suffix)
 split_is text front None h c =
     let e = c.is ∙ append-nil front in
     plain_split text h (ap (list_any is_c) e ∙ c.first) ∙ (λ i. Ok (e i, None))
-split_is text front (Some behind) h c =
-    first_split text front behind h (record { is = c.is; passes = refl; lacks = c.first })
+split_is text front (Some suffix) h c =
+    first_split text front suffix h (record { is = c.is; passes = refl; lacks = c.first })
 
 -- reading is reading the parts
 pub compact_reads : (text : List ℕ) → ReadsCompact text (read_compact text)
 compact_reads text = record {
-  refused = λ h. ap (λ r. and_then r read_parts) (letter_unsplit text h);
-  split = λ h s x c. ap (λ r. and_then r read_parts) (split_is text s x h c);
+  fails_with = λ h. ap (λ r. and_then r read_fields) (letter_unsplit text h);
+  split = λ h s x c. ap (λ r. and_then r read_fields) (split_is text s x h c);
 }

@@ -8,8 +8,8 @@ use Rattle.decimal_unsigned.specs.Reading.{syntax, is_letter}
 use Rattle.fixed_decimal.specs.Letters.{is_small_e, is_capital_e}
 use Rattle.fixed_decimal.specs.Split.{IsFirstSplit}
 use Rattle.fixed_decimal.specs.DecimalText.{and_then}
-use Rattle.fixed_decimal.specs.Scientific.{split_at_e, read_parts, read_scientific, IsSplitAtE, ReadsScientific}
-use Rattle.fixed_decimal.proofs.Splitting.{or-left, or-right, front-at, behind-at, count-none, count-some, count-at, first-split}
+use Rattle.fixed_decimal.specs.Scientific.{split_at_e, read_fields, read_scientific, IsSplitAtE, ReadsScientific}
+use Rattle.fixed_decimal.proofs.Splitting.{or-left, or-right, front-at, suffix-at, count-none, count-some, count-at, first-split}
 
 -- a text with an E is refused
 pub capital_unsplit : (text : List ℕ) → list_any is_capital_e text ≡ true → split_at_e text ≡ Err syntax
@@ -32,28 +32,28 @@ without_e_unsplit text h =
     other_count_unsplit text (grind (arith, nat_tests, n))
 
 -- a text with a second e is refused
-pub second_e_unsplit : (text front : List ℕ) (behind : List ℕ) → IsFirstSplit is_small_e text front 101 behind
-    → list_any is_small_e behind ≡ true
+pub second_e_unsplit : (text front : List ℕ) (suffix : List ℕ) → IsFirstSplit is_small_e text front 101 suffix
+    → list_any is_small_e suffix ≡ true
     → split_at_e text ≡ Err syntax
-second_e_unsplit text front behind c h =
-    let n : count_by is_small_e text ≡ 1 + count_by is_small_e behind =
-    ap (count_by is_small_e) c.is ∙ count-at is_small_e front 101 behind c.lacks refl in
-    let more = count-some is_small_e behind h in
+second_e_unsplit text front suffix c h =
+    let n : count_by is_small_e text ≡ 1 + count_by is_small_e suffix =
+    ap (count_by is_small_e) c.is ∙ count-at is_small_e front 101 suffix c.lacks refl in
+    let more = count-some is_small_e suffix h in
     let e : (count_by is_small_e text == 1) ≡ false = grind (arith, nat_tests, n, more) in
     other_count_unsplit text e
 
 -- a text with one e and no E is split at the e
-pub one_e_split : (text front behind : List ℕ) → list_any is_capital_e text ≡ false
-    → IsFirstSplit is_small_e text front 101 behind → list_any is_small_e behind ≡ false
-    → split_at_e text ≡ Ok (front, behind)
+pub one_e_split : (text front suffix : List ℕ) → list_any is_capital_e text ≡ false
+    → IsFirstSplit is_small_e text front 101 suffix → list_any is_small_e suffix ≡ false
+    → split_at_e text ≡ Ok (front, suffix)
 unfolding split_at_e
-one_e_split text front behind k c h =
-    let n : count_by is_small_e text ≡ 1 + count_by is_small_e behind =
-    ap (count_by is_small_e) c.is ∙ count-at is_small_e front 101 behind c.lacks refl in
-    let none = count-none is_small_e behind h in
+one_e_split text front suffix k c h =
+    let n : count_by is_small_e text ≡ 1 + count_by is_small_e suffix =
+    ap (count_by is_small_e) c.is ∙ count-at is_small_e front 101 suffix c.lacks refl in
+    let none = count-none is_small_e suffix h in
     let e : (count_by is_small_e text == 1) ≡ true = grind (arith, nat_tests, n, none) in
-    let f = ap (before_first is_small_e) c.is ∙ front-at is_small_e front 101 behind c.lacks refl in
-    let b = ap (after_first is_small_e) c.is ∙ behind-at is_small_e front 101 behind c.lacks refl in
+    let f = ap (before_first is_small_e) c.is ∙ front-at is_small_e front 101 suffix c.lacks refl in
+    let b = ap (after_first is_small_e) c.is ∙ suffix-at is_small_e front 101 suffix c.lacks refl in
     rw (k, e) (λ i. Ok (f i, b i))
 
 -- a text with no letter has neither
@@ -66,13 +66,13 @@ lacks_e (c ∷ text) h =
     (rw (or-left (c == 101) (c == 69) l) more.0, rw (or-right (c == 101) (c == 69) l) more.1)
 
 -- where two parts are those of a split at e, the split finds them
-pub split_is : (text front behind : List ℕ) → IsSplitAtE text front behind → split_at_e text ≡ Ok (front, behind)
-split_is text front behind c =
+pub split_is : (text front suffix : List ℕ) → IsSplitAtE text front suffix → split_at_e text ≡ Ok (front, suffix)
+split_is text front suffix c =
     let f = lacks_e front c.plain_significand in
-    let b = lacks_e behind c.plain_exponent in
+    let b = lacks_e suffix c.plain_exponent in
     let k : list_any is_capital_e text ≡ false =
-    ap (list_any is_capital_e) c.is ∙ list_any-append is_capital_e front (101 ∷ behind) ∙ (rw (f.1, b.1) refl) in
-    one_e_split text front behind k (record { is = c.is; passes = refl; lacks = f.0 }) b.0
+    ap (list_any is_capital_e) c.is ∙ list_any-append is_capital_e front (101 ∷ suffix) ∙ (rw (f.1, b.1) refl) in
+    one_e_split text front suffix k (record { is = c.is; passes = refl; lacks = f.0 }) b.0
 
 -- a text with neither e nor E has no letter
 pub lacks_letter : (text : List ℕ) → list_any is_small_e text ≡ false → list_any is_capital_e text ≡ false
@@ -84,7 +84,7 @@ lacks_letter (c ∷ text) h k =
     rw (or-left (c == 101) (list_any is_small_e text) h, or-left (c == 69) (list_any is_capital_e text) k) more
 
 -- where no two parts are those of a split at e, the text is refused
-pub unsplit_is : (text : List ℕ) → ((front behind : List ℕ) → ¬ IsSplitAtE text front behind)
+pub unsplit_is : (text : List ℕ) → ((front suffix : List ℕ) → ¬ IsSplitAtE text front suffix)
     → split_at_e text ≡ Err syntax
 unsplit_is text n = capitals (list_any is_capital_e text) refl
   where
@@ -118,8 +118,8 @@ unsplit_is text n = capitals (list_any is_capital_e text) refl
 -- reading is reading the parts of the split, or there is none
 pub scientific_reads : (text : List ℕ) → ReadsScientific text (read_scientific text)
 scientific_reads text = record {
-  split = λ a b c. ap (λ r. and_then r read_parts) (split_is text a b c);
-  unsplit = λ n. ap (λ r. and_then r read_parts) (unsplit_is text n);
+  split = λ a b c. ap (λ r. and_then r read_fields) (split_is text a b c);
+  unsplit = λ n. ap (λ r. and_then r read_fields) (unsplit_is text n);
 }
 
 -- when a text is split at e, and when it is refused

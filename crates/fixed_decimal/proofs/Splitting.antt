@@ -19,12 +19,12 @@ or-right false b e = e
 
 module _ (p : ℕ → Bool) where
   -- the place of the first letter
-  place : (front : List ℕ) (c : ℕ) (behind : List ℕ) → list_any p front ≡ false → p c ≡ true
-      → position_or_len p (front ++ c ∷ behind) ≡ length front
-  place [] c behind h q = rw q refl
-  place (x ∷ front) c behind h q =
+  offset : (front : List ℕ) (c : ℕ) (suffix : List ℕ) → list_any p front ≡ false → p c ≡ true
+      → position_or_len p (front ++ c ∷ suffix) ≡ length front
+  offset [] c suffix h q = rw q refl
+  offset (x ∷ front) c suffix h q =
       let e = or-left (p x) (list_any p front) h in
-      let more = place front c behind (or-right (p x) (list_any p front) h) q in
+      let more = offset front c suffix (or-right (p x) (list_any p front) h) q in
       rw e (omega (arith, more))
 
   place_none : (text : List ℕ) → list_any p text ≡ false → position_or_len p text ≡ length text
@@ -35,26 +35,26 @@ module _ (p : ℕ → Bool) where
       rw e (omega (arith, more))
 
   -- what stands before the first letter that passes
-  pub front-at : (front : List ℕ) (c : ℕ) (behind : List ℕ) → list_any p front ≡ false → p c ≡ true
-      → before_first p (front ++ c ∷ behind) ≡ front
-  front-at front c behind h q =
-      ap (λ n. take n (front ++ c ∷ behind)) (place front c behind h q) ∙ take-append_seam front (c ∷ behind)
+  pub front-at : (front : List ℕ) (c : ℕ) (suffix : List ℕ) → list_any p front ≡ false → p c ≡ true
+      → before_first p (front ++ c ∷ suffix) ≡ front
+  front-at front c suffix h q =
+      ap (λ n. take n (front ++ c ∷ suffix)) (offset front c suffix h q) ∙ take-append_seam front (c ∷ suffix)
 
   -- and what stands behind it
-  pub behind-at : (front : List ℕ) (c : ℕ) (behind : List ℕ) → list_any p front ≡ false → p c ≡ true
-      → after_first p (front ++ c ∷ behind) ≡ behind
-  behind-at front c behind h q =
-      ap (λ n. drop (n + 1) (front ++ c ∷ behind)) (place front c behind h q)
-      ∙ ap (drop (length front + 1)) (sym (append_assoc front (c ∷ []) behind))
-      ∙ ap (λ n. drop n ((front ++ c ∷ []) ++ behind)) (sym (length_push front c))
-      ∙ drop-append_seam (front ++ c ∷ []) behind
+  pub suffix-at : (front : List ℕ) (c : ℕ) (suffix : List ℕ) → list_any p front ≡ false → p c ≡ true
+      → after_first p (front ++ c ∷ suffix) ≡ suffix
+  suffix-at front c suffix h q =
+      ap (λ n. drop (n + 1) (front ++ c ∷ suffix)) (offset front c suffix h q)
+      ∙ ap (drop (length front + 1)) (sym (append_assoc front (c ∷ []) suffix))
+      ∙ ap (λ n. drop n ((front ++ c ∷ []) ++ suffix)) (sym (length_push front c))
+      ∙ drop-append_seam (front ++ c ∷ []) suffix
 
   -- where a letter passes, some letter of the text does
-  pub any-at : (front : List ℕ) (c : ℕ) (behind : List ℕ) → p c ≡ true → list_any p (front ++ c ∷ behind) ≡ true
-  any-at [] c behind q = rw q refl
-  any-at (x ∷ front) c behind q =
-      let more = any-at front c behind q in
-      elim (p x) as (λ b. (b || list_any p (front ++ c ∷ behind)) ≡ true) [ true ↦ refl | false ↦ more ]
+  pub any-at : (front : List ℕ) (c : ℕ) (suffix : List ℕ) → p c ≡ true → list_any p (front ++ c ∷ suffix) ≡ true
+  any-at [] c suffix q = rw q refl
+  any-at (x ∷ front) c suffix q =
+      let more = any-at front c suffix q in
+      elim (p x) as (λ b. (b || list_any p (front ++ c ∷ suffix)) ≡ true) [ true ↦ refl | false ↦ more ]
 
   -- where no letter passes, the whole text stands before it
   pub front-none : (text : List ℕ) → list_any p text ≡ false → before_first p text ≡ text
@@ -90,24 +90,24 @@ module _ (p : ℕ → Bool) where
           omega (arith, n, more k)
 
   -- the first letter that passes counts one more than those behind it
-  pub count-at : (front : List ℕ) (c : ℕ) (behind : List ℕ) → list_any p front ≡ false → p c ≡ true
-      → count_by p (front ++ c ∷ behind) ≡ 1 + count_by p behind
-  count-at [] c behind h q = count-cons c behind ∙ (rw q refl)
-  count-at (x ∷ front) c behind h q =
+  pub count-at : (front : List ℕ) (c : ℕ) (suffix : List ℕ) → list_any p front ≡ false → p c ≡ true
+      → count_by p (front ++ c ∷ suffix) ≡ 1 + count_by p suffix
+  count-at [] c suffix h q = count-cons c suffix ∙ (rw q refl)
+  count-at (x ∷ front) c suffix h q =
       let e = or-left (p x) (list_any p front) h in
-      let more = count-at front c behind (or-right (p x) (list_any p front) h) q in
-      count-cons x (front ++ c ∷ behind) ∙ (rw e (omega (arith, more)))
+      let more = count-at front c suffix (or-right (p x) (list_any p front) h) q in
+      count-cons x (front ++ c ∷ suffix) ∙ (rw e (omega (arith, more)))
 
   -- a text with a letter has a first one
   pub first-split : (text : List ℕ) → list_any p text ≡ true
-      → (front : List ℕ) × (c : ℕ) × (behind : List ℕ) × IsFirstSplit p text front c behind
+      → (front : List ℕ) × (c : ℕ) × (suffix : List ℕ) × IsFirstSplit p text front c suffix
   first-split [] h = absurd (cc)
   first-split (x ∷ text) h = go (first-split text) (p x) refl h
     where
       go :
-          (list_any p text ≡ true → (front : List ℕ) × (c : ℕ) × (behind : List ℕ) × IsFirstSplit p text front c behind)
+          (list_any p text ≡ true → (front : List ℕ) × (c : ℕ) × (suffix : List ℕ) × IsFirstSplit p text front c suffix)
           → (b : Bool) → p x ≡ b → (b || list_any p text) ≡ true
-          → (front : List ℕ) × (c : ℕ) × (behind : List ℕ) × IsFirstSplit p (x ∷ text) front c behind
+          → (front : List ℕ) × (c : ℕ) × (suffix : List ℕ) × IsFirstSplit p (x ∷ text) front c suffix
       go more true e k = ([], x, text, record { is = refl; passes = e; lacks = refl })
       go more false e k =
           let m = more k in

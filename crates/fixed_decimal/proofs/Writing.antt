@@ -4,22 +4,22 @@ use Rattle.std.specs.Prelude.{Result, OnErr}
 use Rattle.std.specs.Io.KnownBytes.{Appends}
 use Rattle.std.proofs.Output.{has_written_styled_append}
 use Rattle.std.proofs.lemmas.Result.{on_err_weaker}
-use Rattle.decimal_digits.specs.Text.{AppendsPrefix}
+use Rattle.decimal_digits.specs.AppendsPrefix.{AppendsPrefix}
 use Rattle.decimal_digits.proofs.Results.{on_err}
-use Rattle.decimal_digits.proofs.Sinks.{part_more, then_part}
+use Rattle.decimal_digits.proofs.Sinks.{prefix_more, then_prefix}
 use Rattle.fixed_decimal.proofs.DecimalTexts.{read_decimal_text}
 
 -- the first part was not written whole
 pub first_fails : {A E : Type 0} (r : Result A E) (a b : Option (List ℕ)) (xs ys : List ℕ)
     → AppendsPrefix a b xs
     → OnErr r (AppendsPrefix a b (xs ++ ys))
-first_fails r a b xs ys p = on_err r _ (part_more a b xs ys p)
+first_fails r a b xs ys p = on_err r _ (prefix_more a b xs ys p)
 
 -- the second part was not written to its end
 pub second_fails : {A E : Type 0} (r : Result A E) (a b c : Option (List ℕ)) (xs ys : List ℕ) → Appends a b xs
     → OnErr r (AppendsPrefix b c ys)
     → OnErr r (AppendsPrefix a c (xs ++ ys))
-second_fails r a b c xs ys p = on_err_weaker r (then_part a b c xs ys p)
+second_fails r a b c xs ys p = on_err_weaker r (then_prefix a b c xs ys p)
 
 -- what writing a text of two parts rests on
 pub ruleset writing = (first_fails, second_fails, read_decimal_text)

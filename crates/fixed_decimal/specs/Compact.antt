@@ -3,7 +3,7 @@ use Rattle.std.specs.Prelude.{◌≡◌, ℕ, ◌==◌, nat_lt, if◌then◌else
 use Rattle.std.specs.Prelude.{Option, Some, None, Result, Ok, Err}
 use Rattle.std.specs.Fmt.{decimal}
 use Rattle.std.specs.List.{list_any, before_first, after_first}
-use Rattle.decimal_unsigned.specs.Reading.{ReadingFault, syntax, limit, is_letter, numeral_of}
+use Rattle.decimal_unsigned.specs.Reading.{ReadError, syntax, limit, is_letter, numeral_of}
 use Rattle.fixed_decimal.specs.Letters.{is_c}
 use Rattle.fixed_decimal.specs.Decimal.{Decimal}
 use Rattle.fixed_decimal.specs.DecimalText.{decimal_text, read_decimal, IsLong, and_then}
@@ -26,40 +26,40 @@ abbrev pub compact_text : Compact → List ℕ
 compact_text v = decimal_text v.significand ++ exponent_text v.exponent
 
 -- the texts in front of the first c and behind it, or the whole text, where there is no e and no E
-unfoldable pub split_at_c : List ℕ → Result (List ℕ × Option (List ℕ)) ReadingFault
+unfoldable pub split_at_c : List ℕ → Result (List ℕ × Option (List ℕ)) ReadError
 split_at_c bytes =
     if list_any is_letter bytes then Err syntax
     else Ok (before_first is_c bytes, (if list_any is_c bytes then Some (after_first is_c bytes) else None))
 
 -- at most 255
-abbrev pub byte_or_limit : Option ℕ → Result ℕ ReadingFault
+abbrev pub byte_or_limit : Option ℕ → Result ℕ ReadError
 byte_or_limit None = Err syntax
 byte_or_limit (Some n) = if nat_lt 255 n then Err limit else Ok n
 
 -- digits, of which the first is not 0, which is 48; a second c is none
-unfoldable pub small_number_of : List ℕ → Result ℕ ReadingFault
-small_number_of [] = Err syntax
-small_number_of (c ∷ rest) = if c == 48 then Err syntax else byte_or_limit (numeral_of (c ∷ rest))
+unfoldable pub exponent_number_of : List ℕ → Result ℕ ReadError
+exponent_number_of [] = Err syntax
+exponent_number_of (c ∷ rest) = if c == 48 then Err syntax else byte_or_limit (numeral_of (c ∷ rest))
 
 -- where there is no c, the exponent is 0
-abbrev pub read_exponent : Option (List ℕ) → Result ℕ ReadingFault
+abbrev pub read_exponent : Option (List ℕ) → Result ℕ ReadError
 read_exponent None = Ok 0
-read_exponent (Some bytes) = small_number_of bytes
+read_exponent (Some bytes) = exponent_number_of bytes
 
 -- first the fault of the significand, and then that of the exponent
-abbrev pub read_parts : List ℕ × Option (List ℕ) → Result Compact ReadingFault
-read_parts parts =
+abbrev pub read_fields : List ℕ × Option (List ℕ) → Result Compact ReadError
+read_fields parts =
     and_then (read_decimal parts.0) (λ significand.
     and_then (read_exponent parts.1) (λ exponent. Ok (compact significand exponent)))
 
 -- first that there is no split, and then the faults of the parts
-abbrev pub read_compact : List ℕ → Result Compact ReadingFault
-read_compact bytes = and_then (split_at_c bytes) read_parts
+abbrev pub read_compact : List ℕ → Result Compact ReadError
+read_compact bytes = and_then (split_at_c bytes) read_fields
 
 -- a c, which is 99, and the text behind it, if there is one
 abbrev pub with_c : Option (List ℕ) → List ℕ
 with_c None = []
-with_c (Some behind) = 99 ∷ behind
+with_c (Some suffix) = 99 ∷ suffix
 
 -- the text is these parts, and no c stands in the first
 pub record IsSplitAtC (bytes significand : List ℕ) (exponent : Option (List ℕ)) : Type 0 where
@@ -67,10 +67,10 @@ pub record IsSplitAtC (bytes significand : List ℕ) (exponent : Option (List �
   pub first : list_any is_c significand ≡ false
 
 -- a text with an e or E is refused with syntax; another one reads as its parts
-pub record ReadsCompact (bytes : List ℕ) (reading : Result Compact ReadingFault) : Type 0 where
-  pub refused : list_any is_letter bytes ≡ true → reading ≡ Err syntax
+pub record ReadsCompact (bytes : List ℕ) (reading : Result Compact ReadError) : Type 0 where
+  pub fails_with : list_any is_letter bytes ≡ true → reading ≡ Err syntax
   pub split : list_any is_letter bytes ≡ false → (significand : List ℕ) (exponent : Option (List ℕ)) →
-      IsSplitAtC bytes significand exponent → reading ≡ read_parts (significand, exponent)
+      IsSplitAtC bytes significand exponent → reading ≡ read_fields (significand, exponent)
 
 -- the significand has more digits than are held without memory
 abbrev pub HasLongSignificand : ℕ → Compact → Type 0

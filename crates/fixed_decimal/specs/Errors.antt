@@ -14,13 +14,13 @@ use Rattle.fixed_decimal.specs.declared.runs.RunError.TheVariants.{Start, Operan
 use Rattle.fixed_decimal.specs.Outcome.{start, operand, overlap, limit_exceeded, after_calls, outcome}
 
 -- the calls before the one with this number make v of the first value, and then comes this call
-pub record Comes (first : Decimal) (calls : List Call) (at : ℕ) (v : Decimal) (call : Call) : Type 0 where
+pub record IsReached (first : Decimal) (calls : List Call) (at : ℕ) (v : Decimal) (call : Call) : Type 0 where
   pub before : after_calls 0 first (take at calls) ≡ Ok v
-  pub comes : slice_get calls at ≡ Some call
+  pub next_call : slice_get calls at ≡ Some call
 
 -- calls made in order come to the one with this number, where the value and the call are so
 abbrev pub Reaches : Decimal → List Call → ℕ → (Decimal → Call → Type 0) → Type 0
-Reaches first calls at P = (v : Decimal) × (call : Call) × Comes first calls at v call × P v call
+Reaches first calls at P = (v : Decimal) × (call : Call) × IsReached first calls at v call × P v call
 
 -- the operand of a call has more digits than are held without memory
 abbrev pub HasLongOperand : ℕ → Call → Type 0
@@ -39,14 +39,14 @@ RunReaches bytes calls at P = IsOkAnd (read_decimal bytes) (λ first. Reaches fi
 
 -- the error is the outcome's refusal; or want of memory, answered only for the start or for a call that the run
 -- reaches, and only where that one may need to allocate; or a fault of the sink, and then there is a text
-abbrev pub RunRefuses : ℕ → RunError → List ℕ → List Call → Type 0
-RunRefuses held (Start parse.Limit) bytes calls = outcome bytes calls ≡ Err (start limit)
-RunRefuses held (Start parse.Syntax) bytes calls = outcome bytes calls ≡ Err (start syntax)
-RunRefuses held (Start parse.Memory) bytes calls = IsOkAnd (read_decimal bytes) (IsLong held)
-RunRefuses held (Operand at parse.Limit) bytes calls = outcome bytes calls ≡ Err (operand at limit)
-RunRefuses held (Operand at parse.Syntax) bytes calls = outcome bytes calls ≡ Err (operand at syntax)
-RunRefuses held (Operand at parse.Memory) bytes calls = RunReaches bytes calls at (λ _ call. HasLongOperand held call)
-RunRefuses held (Overlap at) bytes calls = outcome bytes calls ≡ Err (overlap at)
-RunRefuses held (Limit at) bytes calls = outcome bytes calls ≡ Err (limit_exceeded at)
-RunRefuses held (Memory at) bytes calls = RunReaches bytes calls at (CallNeedsMemory held)
-RunRefuses held Sink bytes calls = IsOk (outcome bytes calls)
+abbrev pub RunFails : ℕ → RunError → List ℕ → List Call → Type 0
+RunFails held (Start parse.Limit) bytes calls = outcome bytes calls ≡ Err (start limit)
+RunFails held (Start parse.Syntax) bytes calls = outcome bytes calls ≡ Err (start syntax)
+RunFails held (Start parse.Memory) bytes calls = IsOkAnd (read_decimal bytes) (IsLong held)
+RunFails held (Operand at parse.Limit) bytes calls = outcome bytes calls ≡ Err (operand at limit)
+RunFails held (Operand at parse.Syntax) bytes calls = outcome bytes calls ≡ Err (operand at syntax)
+RunFails held (Operand at parse.Memory) bytes calls = RunReaches bytes calls at (λ _ call. HasLongOperand held call)
+RunFails held (Overlap at) bytes calls = outcome bytes calls ≡ Err (overlap at)
+RunFails held (Limit at) bytes calls = outcome bytes calls ≡ Err (limit_exceeded at)
+RunFails held (Memory at) bytes calls = RunReaches bytes calls at (CallNeedsMemory held)
+RunFails held Sink bytes calls = IsOk (outcome bytes calls)

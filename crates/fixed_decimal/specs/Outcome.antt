@@ -4,7 +4,7 @@ use Rattle.decimal_unsigned.specs.Unsigned.{Unsigned}
 use Rattle.decimal_unsigned.specs.Edits.{multiplied_pow10, trimmed_start, trimmed_end, trimmed_end_if_integer}
 use Rattle.decimal_unsigned.specs.Edits.{padded_start, padded_end, with_max_position}
 use Rattle.decimal_unsigned.specs.Concatenation.{overlaps, concatenated_end}
-use Rattle.decimal_unsigned.specs.Reading.{ReadingFault, read}
+use Rattle.decimal_unsigned.specs.Reading.{ReadError, read}
 use Rattle.fixed_decimal.specs.Decimal.{Decimal, with_sign_display, with_absolute}
 use Rattle.fixed_decimal.specs.SignedRounding.{rounded}
 use Rattle.fixed_decimal.specs.DecimalText.{decimal_text, read_decimal, and_then}
@@ -15,31 +15,31 @@ use Rattle.fixed_decimal.specs.declared.runs.Call.TheVariants.{SetSign, ApplySig
 
 -- why a run has no text: the start is no value, the operand of the call with this number is none, what that call is to
 -- join overlaps, or what it is to make would pass the limits
-pub data Refusal : Type 0 where
-  start : ReadingFault → Refusal
-  operand : ℕ → ReadingFault → Refusal
-  overlap : ℕ → Refusal
-  limit_exceeded : ℕ → Refusal
+pub data OutcomeError : Type 0 where
+  start : ReadError → OutcomeError
+  operand : ℕ → ReadError → OutcomeError
+  overlap : ℕ → OutcomeError
+  limit_exceeded : ℕ → OutcomeError
 
 -- ---- One call.
 
 -- the decimal with this absolute value: the sign stays
-abbrev pub changed : Decimal → Unsigned → Result Decimal Refusal
+abbrev pub changed : Decimal → Unsigned → Result Decimal OutcomeError
 changed v absolute = Ok (record v { absolute = absolute })
 
 -- what the call with this number made, where it made a decimal
-abbrev pub or_limit_exceeded : ℕ → Option Decimal → Result Decimal Refusal
+abbrev pub or_limit_exceeded : ℕ → Option Decimal → Result Decimal OutcomeError
 or_limit_exceeded at None = Err (limit_exceeded at)
 or_limit_exceeded at (Some v) = Ok v
 
 -- the decimal with what was read joined to its end, by the call with this number
-abbrev pub concatenated_with : ℕ → Decimal → Result Unsigned ReadingFault → Result Decimal Refusal
+abbrev pub concatenated_with : ℕ → Decimal → Result Unsigned ReadError → Result Decimal OutcomeError
 concatenated_with at v (Ok w) =
     if overlaps v.absolute w then Err (overlap at) else changed v (concatenated_end v.absolute w)
 concatenated_with at v (Err fault) = Err (operand at fault)
 
 -- what the call with this number makes of a decimal
-abbrev pub step : ℕ → Decimal → Call → Result Decimal Refusal
+abbrev pub step : ℕ → Decimal → Call → Result Decimal OutcomeError
 step at v (MultiplyPow10 delta) = or_limit_exceeded at (with_absolute v (multiplied_pow10 v.absolute delta))
 step at v TrimStart = changed v (trimmed_start v.absolute)
 step at v TrimEnd = changed v (trimmed_end v.absolute)
@@ -55,16 +55,16 @@ step at v (Concatenate text) = concatenated_with at v (read text.now)
 -- ---- The run.
 
 -- what calls make of a decimal, in order; the first has this number
-abbrev pub after_calls : ℕ → Decimal → List Call → Result Decimal Refusal
+abbrev pub after_calls : ℕ → Decimal → List Call → Result Decimal OutcomeError
 after_calls at v [] = Ok v
 after_calls at v (call ∷ calls) = and_then (step at v call) (λ w. after_calls (at + 1) w calls)
 
 -- the decimal of the start
-abbrev pub started : Result Decimal ReadingFault → Result Decimal Refusal
+abbrev pub started : Result Decimal ReadError → Result Decimal OutcomeError
 started (Ok v) = Ok v
 started (Err fault) = Err (start fault)
 
 -- the start is read and the calls are made in order: the text of the last decimal, or the first refusal
-abbrev pub outcome : List ℕ → List Call → Result (List ℕ) Refusal
+abbrev pub outcome : List ℕ → List Call → Result (List ℕ) OutcomeError
 outcome bytes calls =
     and_then (started (read_decimal bytes)) (λ v. and_then (after_calls 0 v calls) (λ w. Ok (decimal_text w)))

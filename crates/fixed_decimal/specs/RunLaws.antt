@@ -13,7 +13,7 @@ use Rattle.fixed_decimal.specs.declared.runs.Call.{Call}
 use Rattle.fixed_decimal.specs.declared.runs.Call.TheVariants.{Round}
 use Rattle.fixed_decimal.specs.declared.runs.RunError.{RunError}
 use Rattle.fixed_decimal.specs.declared.runs.RunError.TheVariants.{Start, Operand, Memory, Sink}
-use Rattle.fixed_decimal.specs.Outcome.{Refusal, limit_exceeded, after_calls}
+use Rattle.fixed_decimal.specs.Outcome.{OutcomeError, limit_exceeded, after_calls}
 
 -- ---- Runs over two stores.
 
@@ -26,7 +26,7 @@ IsDecided (Err Sink) = ⊥
 IsDecided result = ⊤
 
 -- the text of an outcome, or nothing where there is none
-abbrev pub text_or_none : Result (List ℕ) Refusal → List ℕ
+abbrev pub text_or_none : Result (List ℕ) OutcomeError → List ℕ
 text_or_none (Ok text) = text
 text_or_none (Err refusal) = []
 
@@ -37,17 +37,17 @@ abbrev pub rounding_at : UnsignedRoundingMode → ℤ → Call
 rounding_at mode position = Round position (Unsigned mode) MultiplesOf1
 
 -- what calls come to has the number of this decimal; or the limit is exceeded exactly where there is none
-abbrev pub ComesToNumber : Result Decimal Refusal → Option Decimal → Type 0
-ComesToNumber (Ok w) (Some v) = HasNumberOf w v
-ComesToNumber (Err (limit_exceeded at)) None = ⊤
-ComesToNumber reached made = ⊥
+abbrev pub ResultHasNumber : Result Decimal OutcomeError → Option Decimal → Type 0
+ResultHasNumber (Ok w) (Some v) = HasNumberOf w v
+ResultHasNumber (Err (limit_exceeded at)) None = ⊤
+ResultHasNumber reached made = ⊥
 
 -- roundings by the mode at a position and then at others come to what one rounding makes at the greatest of these
 -- positions
 abbrev pub RoundsOnce : UnsignedRoundingMode → Type 0
 RoundsOnce mode =
     (v : Decimal) (position : ℤ) (others : List ℤ) → IsValue v.absolute → All IsPosition (position ∷ others)
-    → (at : ℕ) → ComesToNumber (after_calls at v (map (rounding_at mode) (position ∷ others)))
+    → (at : ℕ) → ResultHasNumber (after_calls at v (map (rounding_at mode) (position ∷ others)))
     (rounded v (fold int_max position others) (Unsigned mode) MultiplesOf1)
 
 -- the mode makes a decimal of each, at each position

@@ -2,7 +2,7 @@
 use Rattle.std.specs.Prelude.{◌≡◌, ℕ, ◌==◌, ◌⊎◌, ◌||◌, not, count_by, if◌then◌else◌, false, List, ◌∷◌, ◌++◌}
 use Rattle.std.specs.Prelude.{Result, Ok, Err}
 use Rattle.std.specs.List.{list_any, before_first, after_first}
-use Rattle.decimal_unsigned.specs.Reading.{ReadingFault, syntax, is_letter}
+use Rattle.decimal_unsigned.specs.Reading.{ReadError, syntax, is_letter}
 use Rattle.fixed_decimal.specs.Letters.{is_small_e, is_capital_e}
 use Rattle.fixed_decimal.specs.Decimal.{Decimal}
 use Rattle.fixed_decimal.specs.DecimalText.{decimal_text, read_decimal, IsLong, and_then}
@@ -22,20 +22,20 @@ abbrev pub scientific_text : Scientific → List ℕ
 scientific_text v = decimal_text v.significand ++ 101 ∷ decimal_text v.exponent
 
 -- the texts in front of the e and behind it, where there is exactly one and no E
-unfoldable pub split_at_e : List ℕ → Result (List ℕ × List ℕ) ReadingFault
+unfoldable pub split_at_e : List ℕ → Result (List ℕ × List ℕ) ReadError
 split_at_e bytes =
     if list_any is_capital_e bytes || not (count_by is_small_e bytes == 1) then Err syntax
     else Ok (before_first is_small_e bytes, after_first is_small_e bytes)
 
 -- first the fault of the significand, and then that of the exponent
-abbrev pub read_parts : List ℕ × List ℕ → Result Scientific ReadingFault
-read_parts parts =
+abbrev pub read_fields : List ℕ × List ℕ → Result Scientific ReadError
+read_fields parts =
     and_then (read_decimal parts.0) (λ significand.
     and_then (read_integer parts.1) (λ exponent. Ok (scientific significand exponent)))
 
 -- first that there is no split, and then the faults of the parts
-abbrev pub read_scientific : List ℕ → Result Scientific ReadingFault
-read_scientific bytes = and_then (split_at_e bytes) read_parts
+abbrev pub read_scientific : List ℕ → Result Scientific ReadError
+read_scientific bytes = and_then (split_at_e bytes) read_fields
 
 -- the text is these two parts with an e between them, and has no other e and no E
 pub record IsSplitAtE (bytes significand exponent : List ℕ) : Type 0 where
@@ -44,11 +44,11 @@ pub record IsSplitAtE (bytes significand exponent : List ℕ) : Type 0 where
   pub plain_exponent : list_any is_letter exponent ≡ false
 
 -- a text that can be split so reads as its parts; in another one the fault is syntax
-pub record ReadsScientific (bytes : List ℕ) (reading : Result Scientific ReadingFault) : Type 0 where
+pub record ReadsScientific (bytes : List ℕ) (reading : Result Scientific ReadError) : Type 0 where
   pub split : (significand exponent : List ℕ) → IsSplitAtE bytes significand exponent →
-      reading ≡ read_parts (significand, exponent)
+      reading ≡ read_fields (significand, exponent)
   pub unsplit : ((significand exponent : List ℕ) → ¬ IsSplitAtE bytes significand exponent) → reading ≡ Err syntax
 
 -- a part has more digits than are held without memory
-abbrev pub HasLongPart : ℕ → Scientific → Type 0
-HasLongPart held v = IsLong held v.significand ⊎ IsLong held v.exponent
+abbrev pub HasLongField : ℕ → Scientific → Type 0
+HasLongField held v = IsLong held v.significand ⊎ IsLong held v.exponent

@@ -1,7 +1,7 @@
 -- The integer that a decimal is.
 use Rattle.std.specs.Prelude.{ℕ, nat_lt, if◌then◌else◌, Result, Ok, Err, ℤ, pos, negsuc}
-use Rattle.decimal_unsigned.specs.declared.decimal.to_integer.IntegerError.{IntegerError}
-use Rattle.decimal_unsigned.specs.declared.decimal.to_integer.IntegerError.TheVariants.{OutOfRange}
+use Rattle.decimal_unsigned.specs.declared.error.IntegerError.{IntegerError}
+use Rattle.decimal_unsigned.specs.declared.error.IntegerError.TheVariants.{OutOfRange}
 use Rattle.decimal_unsigned.specs.ToInteger.{when_whole}
 use Rattle.fixed_decimal.specs.Decimal.{Decimal, signed}
 

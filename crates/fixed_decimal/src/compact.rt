@@ -3,18 +3,18 @@ ghost use Rattle.std.specs.Prelude.{◌≡◌, ◌≤◌, ◌↔◌, length, tak
 ghost use Rattle.std.specs.Option.{option_copied};
 ghost use Rattle.std.specs.Io.KnownBytes.{Keeps, Appends};
 ghost use Rattle.decimal_digits.specs.Number.{size};
-ghost use Rattle.decimal_digits.specs.Text.{AppendsPrefix};
+ghost use Rattle.decimal_digits.specs.AppendsPrefix.{AppendsPrefix};
 ghost use Rattle.decimal_unsigned.specs.Unsigned.{IsValue};
-ghost use Rattle.decimal_unsigned.specs.Refusal.{ParseRefuses, Answers};
+ghost use Rattle.decimal_unsigned.specs.ParseResult.{ParseFails, IsParseResult};
 ghost use Rattle.fixed_decimal.specs.Equal.{same_text, same_text_laws};
-ghost use Rattle.fixed_decimal.specs.Compact.{compact, exponent_text, compact_text, small_number_of, split_at_c, read_exponent};
+ghost use Rattle.fixed_decimal.specs.Compact.{compact, exponent_text, compact_text, exponent_number_of, split_at_c, read_exponent};
 ghost use Rattle.fixed_decimal.specs.Compact.{read_compact, ReadsCompact, HasLongSignificand};
 
 use crate::signed_decimal::{Decimal, scan_decimal};
 use crate::split::split_at_letter;
 use decimal_digits::sink::{Sink, SinkFault, Writeable};
 use decimal_unsigned::ParseError;
-use decimal_unsigned::decimal::{DIGITS_IN_PLACE, numeral};
+use decimal_unsigned::decimal::{INLINE_DIGITS, numeral};
 use std::alloc::{AllocError, Global};
 use std::fmt;
 use std::marker::Model;
@@ -38,9 +38,9 @@ impl Model for CompactDecimal {
 }
 
 /// The number that stands behind the `c`.
-#[tactic(auto, unfolding(crate::specs::Compact::small_number_of))]
-fn small_number(text: &[u8]) -> Result<u8, ParseError>
-    ensures { Answers (λ _. ⊥) result (small_number_of text.now) }
+#[tactic(auto, unfolding(crate::specs::Compact::exponent_number_of))]
+fn exponent_number(text: &[u8]) -> Result<u8, ParseError>
+    ensures { IsParseResult (λ _. ⊥) result (exponent_number_of text.now) }
 {
     match text {
         [] | [b'0', ..] => Err(ParseError::Syntax),
@@ -54,11 +54,11 @@ fn small_number(text: &[u8]) -> Result<u8, ParseError>
 
 /// The exponent, whose text may be missing.
 fn read_exponent(text: Option<&[u8]>) -> Result<u8, ParseError>
-    ensures { Answers (λ _. ⊥) result (read_exponent (option_copied text.entry)) }
+    ensures { IsParseResult (λ _. ⊥) result (read_exponent (option_copied text.entry)) }
 {
     match text {
         None => Ok(0),
-        Some(text) => small_number(text),
+        Some(text) => exponent_number(text),
     }
 }
 
@@ -66,7 +66,7 @@ fn read_exponent(text: Option<&[u8]>) -> Result<u8, ParseError>
 #[tactic(auto, using(crate::proofs::SplitsAtC::splits))]
 fn split_at_c(text: &[u8]) -> Result<(&[u8], Option<&[u8]>), ParseError>
     ensures { MatchResult result (λ parts. split_at_c text.now ≡ Ok (parts.0.now, option_copied parts.1))
-        (λ e. ParseRefuses ⊥ e (split_at_c text.now)) }
+        (λ e. ParseFails ⊥ e (split_at_c text.now)) }
 {
     if text.contains(&b'e') {
         return Err(ParseError::Syntax);
@@ -140,11 +140,11 @@ impl CompactDecimal {
     /// `+1.20c6` is read, and prints itself; `1729` has the exponent 0. Err: `Syntax` where there is an `e` or `E`;
     /// else the `Syntax` or `Limit` that `Decimal` answers to the text in front of the first `c`; else `Syntax` where
     /// what stands behind it is empty, begins with `0`, or is not all digits, as in `1c01` and `1c1c1`; else `Limit`
-    /// where it is above 255; else `Memory` where memory for more than `DIGITS_IN_PLACE` digits of the significand was
+    /// where it is above 255; else `Memory` where memory for more than `INLINE_DIGITS` digits of the significand was
     /// refused. Every other fault is decided before memory is asked for. The original's `try_from_str` and `FromStr`.
     #[tactic(auto, using(crate::proofs::SplitsAtC::compact_reads))]
     pub fn try_from_str(alloc: Global, text: &str) -> Result<Self, ParseError>
-        ensures answers { Answers (HasLongSignificand DIGITS_IN_PLACE) result (read_compact text.now) }
+        ensures parses { IsParseResult (HasLongSignificand INLINE_DIGITS) result (read_compact text.now) }
         // What reading comes to, by the parts of the text.
         ensures reads { ReadsCompact text.now (read_compact text.now) }
     {
@@ -156,7 +156,7 @@ impl CompactDecimal {
     }
 
     /// Whether the parts of two values are equal.
-    fn has_same_parts(&self, other: &Self) -> bool
+    fn has_same_fields(&self, other: &Self) -> bool
         ensures value { IsTrue result ↔ (self.now ≡ other.now) }
         ensures texts { IsTrue result ↔ (compact_text self.now ≡ compact_text other.now) }
     {
@@ -179,7 +179,7 @@ impl Writeable for CompactDecimal {
             (AppendsPrefix (W.contents sink.old) (W.contents sink.new) (compact_text self.now)) }
         ensures had_not_failed { OnOk result (W.has_failed sink.old ≡ false) }
         ensures failed { OnErr result (W.has_failed sink.new ≡ true) }
-        ensures stays { W.has_failed sink.old ≡ true → Keeps (W.contents sink.old) (W.contents sink.new) }
+        ensures unchanged { W.has_failed sink.old ≡ true → Keeps (W.contents sink.old) (W.contents sink.new) }
         ensures reads_back { read_compact (compact_text self.now) ≡ Ok self.now }
     {
         let (exponent, length) = exponent_text(self.exponent);
@@ -199,11 +199,11 @@ impl Writeable for CompactDecimal {
 }
 
 impl Clone for CompactDecimal {
-    ghost use Rattle.decimal_unsigned.specs.declared.decimal.TheConstants.{DIGITS_IN_PLACE};
+    ghost use Rattle.decimal_unsigned.specs.declared.decimal.TheConstants.{INLINE_DIGITS};
 
     ghost is_clone = { λ value copy. copy ≡ value };
 
-    ghost is_infallible = { λ value. size value.significand.absolute.number ≤ DIGITS_IN_PLACE };
+    ghost is_infallible = { λ value. size value.significand.absolute.number ≤ INLINE_DIGITS };
 
     /// Makes a second value that equals this one.
     ///
@@ -211,7 +211,7 @@ impl Clone for CompactDecimal {
     ///
     /// # Errors
     ///
-    /// Allocation fails for more than `DIGITS_IN_PLACE` digits of the significand.
+    /// Allocation fails for more than `INLINE_DIGITS` digits of the significand.
     fn clone(&self) -> Result<Self, AllocError> {
         Ok(CompactDecimal {
             significand: self.significand.clone()?,
@@ -233,7 +233,7 @@ impl PartialEq for CompactDecimal {
         ensures value { IsTrue result ↔ (self.now ≡ other.now) }
         ensures texts { IsTrue result ↔ (compact_text self.now ≡ compact_text other.now) }
     {
-        self.has_same_parts(other)
+        self.has_same_fields(other)
     }
 }
 

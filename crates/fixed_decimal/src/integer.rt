@@ -2,9 +2,9 @@
 ghost use Rattle.std.specs.Prelude.{◌≡◌, ◌<◌, ◌≤◌, ◌↔◌, length, pos, ◌≤ℤ◌, true, false, IsTrue, Ok, OnOk, OnErr, IfOk, IfErr, IsOk};
 ghost use Rattle.std.specs.Io.KnownBytes.{Keeps, Appends};
 ghost use Rattle.decimal_digits.specs.Number.{size};
-ghost use Rattle.decimal_digits.specs.Text.{AppendsPrefix};
+ghost use Rattle.decimal_digits.specs.AppendsPrefix.{AppendsPrefix};
 ghost use Rattle.decimal_unsigned.specs.Unsigned.{IsValue};
-ghost use Rattle.decimal_unsigned.specs.Refusal.{ParseRefuses, Answers};
+ghost use Rattle.decimal_unsigned.specs.ParseResult.{ParseFails, IsParseResult};
 ghost use Rattle.fixed_decimal.specs.Equal.{same_text, same_text_laws};
 ghost use Rattle.fixed_decimal.specs.Decimal.{zero_decimal};
 ghost use Rattle.fixed_decimal.specs.DecimalText.{decimal_text, IsLong};
@@ -15,7 +15,7 @@ mod from_integer;
 use crate::signed_decimal::{Decimal, scan_decimal};
 use crate::variations::Signed;
 use decimal_digits::sink::{Sink, SinkFault, Writeable};
-use decimal_unsigned::decimal::{DIGITS_IN_PLACE, Scan};
+use decimal_unsigned::decimal::{INLINE_DIGITS, Scan};
 use decimal_unsigned::{LimitError, ParseError};
 use std::alloc::{AllocError, Global};
 use std::convert::TryFrom;
@@ -43,7 +43,7 @@ impl Model for FixedInteger {
 pub(crate) fn scan_integer(text: &[u8]) -> Result<Signed<Scan<'_>>, ParseError>
     ensures value { IfOk result (λ scan. read_integer text.now ≡ Ok scan) }
     ensures integer { IfOk result (λ scan. pos 0 ≤ℤ scan.absolute.lo) }
-    ensures fault { IfErr result (λ e. ParseRefuses ⊥ e (read_integer text.now)) }
+    ensures rejects { IfErr result (λ e. ParseFails ⊥ e (read_integer text.now)) }
 {
     let scan = scan_decimal(text)?;
     if scan.absolute.lowest() < 0 {
@@ -66,31 +66,31 @@ impl FixedInteger {
     ///
     /// `05` is read, and prints `05`; `5.0e1` and `5.0e+1` are read, and print `50`. Err: `Syntax` where `Decimal`
     /// answers it; else `Limit` where `Decimal` answers it, or where a digit is shown behind the dot, as in `5.0` and
-    /// `100e-2`; else `Memory` where memory for more than `DIGITS_IN_PLACE` digits was refused. Both other faults are
+    /// `100e-2`; else `Memory` where memory for more than `INLINE_DIGITS` digits was refused. Both other faults are
     /// decided before memory is asked for. The original's `try_from_utf8`.
     #[tactic(auto, using(crate::proofs::IntegerTexts::integer_reads))]
     pub fn try_from_utf8(alloc: Global, text: &[u8]) -> Result<Self, ParseError>
-        ensures answers { Answers (IsLong DIGITS_IN_PLACE) result (read_integer text.now) }
+        ensures parses { IsParseResult (IsLong INLINE_DIGITS) result (read_integer text.now) }
         // What reading comes to, by the grammar.
         ensures reads { ReadsInteger text.now (read_integer text.now) }
     {
         let scan = scan_integer(text)?;
-        Self::of_scan(alloc, &scan)
+        Self::from_scan(alloc, &scan)
     }
 
     /// Reads the integer that a text writes: `try_from_utf8` of its bytes. The original's `try_from_str` and `FromStr`.
     #[tactic(auto, using(crate::proofs::IntegerTexts::integer_reads))]
     pub fn try_from_str(alloc: Global, text: &str) -> Result<Self, ParseError>
-        ensures answers { Answers (IsLong DIGITS_IN_PLACE) result (read_integer text.now) }
+        ensures parses { IsParseResult (IsLong INLINE_DIGITS) result (read_integer text.now) }
         ensures reads { ReadsInteger text.now (read_integer text.now) }
     {
         Self::try_from_utf8(alloc, text.as_bytes())
     }
 
     /// The integer that a text writes which shows no digit behind the dot, or want of memory.
-    pub(crate) fn of_scan(alloc: Global, scan: &Signed<Scan<'_>>) -> Result<Self, ParseError>
+    pub(crate) fn from_scan(alloc: Global, scan: &Signed<Scan<'_>>) -> Result<Self, ParseError>
         requires { pos 0 ≤ℤ scan.now.absolute.lo }
-        ensures { Answers (IsLong DIGITS_IN_PLACE) result (Ok scan.now) }
+        ensures { IsParseResult (IsLong INLINE_DIGITS) result (Ok scan.now) }
     {
         let decimal: Decimal = scan.decimal(alloc)?;
         prove!(*decimal.absolute.magnitude_range().start() == 0);
@@ -136,7 +136,7 @@ impl Writeable for FixedInteger {
             (AppendsPrefix (W.contents sink.old) (W.contents sink.new) (decimal_text self.now)) }
         ensures had_not_failed { OnOk result (W.has_failed sink.old ≡ false) }
         ensures failed { OnErr result (W.has_failed sink.new ≡ true) }
-        ensures stays { W.has_failed sink.old ≡ true → Keeps (W.contents sink.old) (W.contents sink.new) }
+        ensures unchanged { W.has_failed sink.old ≡ true → Keeps (W.contents sink.old) (W.contents sink.new) }
         ensures reads_back { read_integer (decimal_text self.now) ≡ Ok self.now }
     {
         self.0.write_to(sink)
@@ -154,11 +154,11 @@ impl Writeable for FixedInteger {
 }
 
 impl Clone for FixedInteger {
-    ghost use Rattle.decimal_unsigned.specs.declared.decimal.TheConstants.{DIGITS_IN_PLACE};
+    ghost use Rattle.decimal_unsigned.specs.declared.decimal.TheConstants.{INLINE_DIGITS};
 
     ghost is_clone = { λ value copy. copy ≡ value };
 
-    ghost is_infallible = { λ value. size value.absolute.number ≤ DIGITS_IN_PLACE };
+    ghost is_infallible = { λ value. size value.absolute.number ≤ INLINE_DIGITS };
 
     /// Makes a second integer that equals this one.
     ///
@@ -166,7 +166,7 @@ impl Clone for FixedInteger {
     ///
     /// # Errors
     ///
-    /// Allocation fails for more than `DIGITS_IN_PLACE` digits.
+    /// Allocation fails for more than `INLINE_DIGITS` digits.
     fn clone(&self) -> Result<Self, AllocError> {
         Ok(FixedInteger(self.0.clone()?))
     }

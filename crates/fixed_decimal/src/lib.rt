@@ -40,7 +40,7 @@ pub use decimal_digits::digits::{DigitList, DigitStore, PackedDigits, Steps};
 pub use decimal_digits::rounding::{RoundError, RoundingIncrement, UnsignedRoundingMode};
 pub use decimal_digits::sink::{Out, Sink, SinkFault, TextBuf, Writeable};
 pub use decimal_unsigned::decimal::{
-    ByteDecimal, DIGITS_IN_PLACE, DecimalStore, UnsignedDecimal, UnsignedOver,
+    ByteDecimal, DecimalStore, INLINE_DIGITS, UnsignedDecimal, UnsignedOver,
 };
 pub use decimal_unsigned::{ConcatenateError, IntegerError, LimitError, ParseError};
 pub use integer::FixedInteger;

@@ -2,19 +2,19 @@
 ghost use Rattle.std.specs.Prelude.{◌≡◌, ◌≤◌, ◌↔◌, length, true, false, Ok, IsTrue, IsOk, IfOk, OnOk, OnErr, MatchResult};
 ghost use Rattle.std.specs.Io.KnownBytes.{Keeps, Appends};
 ghost use Rattle.decimal_digits.specs.Number.{size};
-ghost use Rattle.decimal_digits.specs.Text.{AppendsPrefix};
+ghost use Rattle.decimal_digits.specs.AppendsPrefix.{AppendsPrefix};
 ghost use Rattle.decimal_unsigned.specs.Unsigned.{IsValue};
-ghost use Rattle.decimal_unsigned.specs.Refusal.{ParseRefuses, Answers};
+ghost use Rattle.decimal_unsigned.specs.ParseResult.{ParseFails, IsParseResult};
 ghost use Rattle.fixed_decimal.specs.Equal.{same_text, same_text_laws};
 ghost use Rattle.fixed_decimal.specs.Scientific.{scientific, scientific_text, split_at_e, read_scientific};
-ghost use Rattle.fixed_decimal.specs.Scientific.{ReadsScientific, HasLongPart};
+ghost use Rattle.fixed_decimal.specs.Scientific.{ReadsScientific, HasLongField};
 
 use crate::integer::{FixedInteger, scan_integer};
 use crate::signed_decimal::{Decimal, scan_decimal};
 use crate::split::split_at_letter;
 use decimal_digits::sink::{Sink, SinkFault, Writeable};
 use decimal_unsigned::ParseError;
-use decimal_unsigned::decimal::DIGITS_IN_PLACE;
+use decimal_unsigned::decimal::INLINE_DIGITS;
 use std::alloc::{AllocError, Global};
 use std::fmt;
 use std::marker::Model;
@@ -41,7 +41,7 @@ impl Model for ScientificDecimal {
 #[tactic(auto, using(crate::proofs::SplitsAtE::splits))]
 fn split_at_e(text: &[u8]) -> Result<(&[u8], &[u8]), ParseError>
     ensures { MatchResult result (λ parts. split_at_e text.now ≡ Ok (parts.0.now, parts.1.now))
-        (λ e. ParseRefuses ⊥ e (split_at_e text.now)) }
+        (λ e. ParseFails ⊥ e (split_at_e text.now)) }
 {
     if text.contains(&b'E') {
         return Err(ParseError::Syntax);
@@ -96,11 +96,11 @@ impl ScientificDecimal {
     /// Neither part may have an exponent of its own. `+1.20e-03` is read, and prints itself. Err: `Syntax` where there
     /// is an `E`, or not exactly one `e`, as in `1E5` and `5`; else the `Syntax` or `Limit` that `Decimal` answers to
     /// the text in front of the `e`; else the one that `FixedInteger` answers to the text behind it, as `Limit` to
-    /// `1.0`; else `Memory` where memory for more than `DIGITS_IN_PLACE` digits of a part was refused, and nothing is
+    /// `1.0`; else `Memory` where memory for more than `INLINE_DIGITS` digits of a part was refused, and nothing is
     /// left of the other part. Every other fault is decided before memory is asked for. The original's `try_from_utf8`.
     #[tactic(auto, using(crate::proofs::SplitsAtE::scientific_reads))]
     pub fn try_from_utf8(alloc: Global, text: &[u8]) -> Result<Self, ParseError>
-        ensures answers { Answers (HasLongPart DIGITS_IN_PLACE) result (read_scientific text.now) }
+        ensures parses { IsParseResult (HasLongField INLINE_DIGITS) result (read_scientific text.now) }
         // What reading comes to, by the parts of the text.
         ensures reads { ReadsScientific text.now (read_scientific text.now) }
     {
@@ -108,21 +108,21 @@ impl ScientificDecimal {
         let significand = scan_decimal(significand)?;
         let exponent = scan_integer(exponent)?;
         let significand = significand.decimal(alloc)?;
-        let exponent = FixedInteger::of_scan(alloc, &exponent)?;
+        let exponent = FixedInteger::from_scan(alloc, &exponent)?;
         Ok(ScientificDecimal::from(significand, exponent))
     }
 
     /// Reads the value that a text writes: `try_from_utf8` of its bytes. The original's `try_from_str` and `FromStr`.
     #[tactic(auto, using(crate::proofs::SplitsAtE::scientific_reads))]
     pub fn try_from_str(alloc: Global, text: &str) -> Result<Self, ParseError>
-        ensures answers { Answers (HasLongPart DIGITS_IN_PLACE) result (read_scientific text.now) }
+        ensures parses { IsParseResult (HasLongField INLINE_DIGITS) result (read_scientific text.now) }
         ensures reads { ReadsScientific text.now (read_scientific text.now) }
     {
         Self::try_from_utf8(alloc, text.as_bytes())
     }
 
     /// Whether the parts of two values are equal.
-    fn has_same_parts(&self, other: &Self) -> bool
+    fn has_same_fields(&self, other: &Self) -> bool
         ensures value { IsTrue result ↔ (self.now ≡ other.now) }
         ensures texts { IsTrue result ↔ (scientific_text self.now ≡ scientific_text other.now) }
     {
@@ -144,7 +144,7 @@ impl Writeable for ScientificDecimal {
             (AppendsPrefix (W.contents sink.old) (W.contents sink.new) (scientific_text self.now)) }
         ensures had_not_failed { OnOk result (W.has_failed sink.old ≡ false) }
         ensures failed { OnErr result (W.has_failed sink.new ≡ true) }
-        ensures stays { W.has_failed sink.old ≡ true → Keeps (W.contents sink.old) (W.contents sink.new) }
+        ensures unchanged { W.has_failed sink.old ≡ true → Keeps (W.contents sink.old) (W.contents sink.new) }
         ensures reads_back { read_scientific (scientific_text self.now) ≡ Ok self.now }
     {
         prove!(self.exponent.writeable_length_hint() <= 32769);
@@ -165,12 +165,12 @@ impl Writeable for ScientificDecimal {
 }
 
 impl Clone for ScientificDecimal {
-    ghost use Rattle.decimal_unsigned.specs.declared.decimal.TheConstants.{DIGITS_IN_PLACE};
+    ghost use Rattle.decimal_unsigned.specs.declared.decimal.TheConstants.{INLINE_DIGITS};
 
     ghost is_clone = { λ value copy. copy ≡ value };
 
-    ghost is_infallible = { λ value. size value.significand.absolute.number ≤ DIGITS_IN_PLACE
-        × size value.exponent.absolute.number ≤ DIGITS_IN_PLACE };
+    ghost is_infallible = { λ value. size value.significand.absolute.number ≤ INLINE_DIGITS
+        × size value.exponent.absolute.number ≤ INLINE_DIGITS };
 
     /// Makes a second value that equals this one.
     ///
@@ -178,7 +178,7 @@ impl Clone for ScientificDecimal {
     ///
     /// # Errors
     ///
-    /// Allocation fails for more than `DIGITS_IN_PLACE` digits of a part.
+    /// Allocation fails for more than `INLINE_DIGITS` digits of a part.
     fn clone(&self) -> Result<Self, AllocError> {
         Ok(ScientificDecimal {
             significand: self.significand.clone()?,
@@ -200,7 +200,7 @@ impl PartialEq for ScientificDecimal {
         ensures value { IsTrue result ↔ (self.now ≡ other.now) }
         ensures texts { IsTrue result ↔ (scientific_text self.now ≡ scientific_text other.now) }
     {
-        self.has_same_parts(other)
+        self.has_same_fields(other)
     }
 }
 

@@ -1,13 +1,14 @@
 //! What rows of texts do not test: types, failing sinks, stores out of memory, and counts. A helper holds one value,
 //! and returns whether its row holds.
-use decimal_doubles::{Value, displays, has_text, long, shows};
 use fixed_decimal::{
     Decimal, DigitList, DigitStore, PackedDigits, ParseError, Sink, TextBuf, UnsignedOver,
     Writeable,
 };
 use std::alloc::Global;
 use std::test::Fail;
+use test_support::{Value, displays, expand_runs, has_text, shows};
 
+mod allocations;
 mod callers;
 mod changes;
 mod constructors;
@@ -18,7 +19,6 @@ mod limited_store;
 mod modes;
 mod operands;
 mod printing;
-mod requests;
 mod rules;
 mod runs;
 mod unsigned_integers;

@@ -11,13 +11,13 @@ use Rattle.std.proofs.lemmas.List.{map-append, length-map}
 use Rattle.std.proofs.lemmas.Nat.{div-mul-add, mod-mul-add}
 use Rattle.std.proofs.lemmas.Bool.Decides.{nat_tests}
 use Rattle.std.proofs.Math.Nat.{mul-div_cancel, mul-div-mul_right}
-use Rattle.decimal_digits.specs.Number.{place, weight}
-use Rattle.decimal_unsigned.specs.Grammar.{Written, Grammar}
+use Rattle.decimal_digits.specs.Number.{offset, weight}
+use Rattle.decimal_unsigned.specs.Grammar.{Literal, Grammar}
 use Rattle.decimal_unsigned.specs.Reading.{limit, mantissa, scaled, value_of, read, FollowsGrammar}
 use Rattle.decimal_unsigned.specs.Unsigned.{Unsigned}
 use Rattle.decimal_unsigned.specs.Text.{text}
-use Rattle.fixed_decimal.proofs.Calling.{ten_pos, place_is, gap_is, powers, number-append}
-use Rattle.plural_rules.specs.Operands.{IsOfDigits}
+use Rattle.fixed_decimal.proofs.Calling.{ten_pos, offset_is, gap_is, powers, number-append}
+use Rattle.plural_rules.specs.Operands.{MatchesDigits}
 
 -- the value of two lists of digits, one after the other
 numeral_append : (xs ys : List ℕ)
@@ -29,7 +29,7 @@ numeral_append xs ys =
     ∙ (λ i. sym (digits_value_is 10 xs) i * 10 ^ length-map ys digit_value i + sym (digits_value_is 10 ys) i)
 
 -- the value of a text without an exponent is that of its digits
-parts_is : (w : Written) (v : Unsigned) → w.exponent ≡ None → value_of w ≡ Ok v
+parts_is : (w : Literal) (v : Unsigned) → w.exponent ≡ None → value_of w ≡ Ok v
     → (length w.fraction ≤ 32768) × (mantissa w.whole w.fraction ≡ v)
 unfolding value_of scaled
 parts_is w v none e = go _ refl _ refl (rw none at e)
@@ -42,18 +42,18 @@ parts_is w v none e = go _ refl _ refl (rw none at e)
     go false p false q e = (grind (arith, nat_tests, q), cc)
 
 -- the operands of the value of these digits
-of_mantissa : (w : Written) → AllDigits 10 w.fraction → length w.fraction ≤ 32768
-    → IsOfDigits (mantissa w.whole w.fraction) w
+of_mantissa : (w : Literal) → AllDigits 10 w.fraction → length w.fraction ≤ 32768
+    → MatchesDigits (mantissa w.whole w.fraction) w
 of_mantissa w digits h =
     let n = length w.fraction in
     let a = digits_value 10 w.whole in
     let b = digits_value 10 w.fraction in
     let few : b < 10 ^ n = digits_value-lt 10 w.fraction digits in
     let both = numeral_append w.whole w.fraction in
-    let low : place (pos 0 -ℤ pos n) ≡ 32768 - n = omega (arith, ints, place_is (pos 0 -ℤ pos n)) in
-    let zero_place : place (pos 0) ≡ n + (32768 - n) = omega (arith, ints, place_is (pos 0)) in
+    let low : offset (pos 0 -ℤ pos n) ≡ 32768 - n = omega (arith, ints, offset_is (pos 0 -ℤ pos n)) in
+    let zero_place : offset (pos 0) ≡ n + (32768 - n) = omega (arith, ints, offset_is (pos 0)) in
     let shown : int_gap (pos 0 -ℤ pos n) (pos 0) ≡ n = omega (arith, ints, gap_is (pos 0 -ℤ pos n) (pos 0)) in
-    let one : weight (pos 0) ≡ 10 ^ n * 10 ^ (32768 - n) = powers n (32768 - n) (place (pos 0)) zero_place in
+    let one : weight (pos 0) ≡ 10 ^ n * 10 ^ (32768 - n) = powers n (32768 - n) (offset (pos 0)) zero_place in
     let d = digits_value 10 (w.whole ++ w.fraction) in
     record {
       i_is =
@@ -70,8 +70,8 @@ of_mantissa w digits h =
 
 -- the operands are those of the digits of the text, however the grammar splits it
 pub by_text : (v : Unsigned) → read (text v) ≡ Ok v → FollowsGrammar (text v)
-    → (w : Written) → Grammar (text v) w → w.exponent ≡ None → IsOfDigits v w
+    → (w : Literal) → Grammar (text v) w → w.exponent ≡ None → MatchesDigits v w
 by_text v reads follows w g none =
     let e : value_of w ≡ Ok v = sym (follows.value w g) ∙ reads in
     let p = parts_is w v none e in
-    subst (λ u. IsOfDigits u w) p.1 (of_mantissa w g.fraction p.0)
+    subst (λ u. MatchesDigits u w) p.1 (of_mantissa w g.fraction p.0)

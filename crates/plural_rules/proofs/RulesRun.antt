@@ -8,9 +8,9 @@ use Rattle.plural_rules.specs.declared.parse.state.State.{State}
 use Rattle.plural_rules.specs.declared.parse.state.State.TheVariants as state
 use Rattle.plural_rules.specs.declared.parse.state.Event.{Event}
 use Rattle.plural_rules.specs.declared.parse.state.Event.TheVariants as event
-use Rattle.plural_rules.specs.Rules.{relation, RuleParts, rule}
-use Rattle.plural_rules.specs.RulesReader.{Move, Partial, no_rules, range_of, end_range, end_relation, end_alternative, end_rule, after, next, at_end, limit}
-use Rattle.plural_rules.specs.RulesRefusal.{RangeFits, RelationFits, ConjunctionFits, RuleFits, Fits}
+use Rattle.plural_rules.specs.Rules.{relation, RuleValue, rule}
+use Rattle.plural_rules.specs.RulesReader.{Transition, Partial, no_rules, range_of, end_range, end_relation, end_alternative, end_rule, after, next, at_end, limit}
+use Rattle.plural_rules.specs.RulesParseResult.{RangeFits, RelationFits, AndConditionFits, RuleFits, Fits}
 
 -- the number after an event fits, if the reader is strict
 abbrev pub allowed : Bool → Event → Partial → Bool
@@ -22,24 +22,24 @@ allowed strict e p = true
 abbrev pub Reached : Type 0
 Reached = Option (State × Partial)
 
-abbrev pub move_on : Bool → Move → Partial → (State → Partial → Reached) → Reached
-move_on strict None p go = None
-move_on strict (Some move) p go = cond (allowed strict move.1 p) (go move.0 (after move.1 p)) None
+abbrev pub apply_transition : Bool → Transition → Partial → (State → Partial → Reached) → Reached
+apply_transition strict None p go = None
+apply_transition strict (Some move) p go = cond (allowed strict move.1 p) (go move.0 (after move.1 p)) None
 
 abbrev pub run : Bool → State → Partial → List ℕ → Reached
 run strict s p [] = Some (s, p)
-run strict s p (c ∷ text) = move_on strict (next p.seen s c) p (λ s q. run strict s q text)
+run strict s p (c ∷ text) = apply_transition strict (next p.seen s c) p (λ s q. run strict s q text)
 
-abbrev pub finished : Option Event → Partial → Option (List RuleParts)
+abbrev pub finished : Option Event → Partial → Option (List RuleValue)
 finished None p = None
 finished (Some e) p = Some (after e p).rules
 
-abbrev pub finish : Reached → Option (List RuleParts)
+abbrev pub finish : Reached → Option (List RuleValue)
 finish None = None
 finish (Some x) = finished (at_end x.0) x.1
 
 -- the rules of a text, or None if the reader rejects it
-abbrev pub read : Bool → State → Partial → List ℕ → Option (List RuleParts)
+abbrev pub read : Bool → State → Partial → List ℕ → Option (List RuleValue)
 read strict s p text = finish (run strict s p text)
 
 -- ---- Concatenated texts.
@@ -60,8 +60,8 @@ run_append strict (c ∷ text) more s p = go (run_append strict text more) (next
   where
     go : ((s : State) (p : Partial)
         → run strict s p (text ++ more) ≡ bind (run strict s p text) (λ s q. run strict s q more))
-        → (m : Move) → move_on strict m p (λ s q. run strict s q (text ++ more))
-        ≡ bind (move_on strict m p (λ s q. run strict s q text)) (λ s q. run strict s q more)
+        → (m : Transition) → apply_transition strict m p (λ s q. run strict s q (text ++ more))
+        ≡ bind (apply_transition strict m p (λ s q. run strict s q text)) (λ s q. run strict s q more)
     go ih None = refl
     go ih (Some move) = bind_cond (allowed strict move.1 p) _ _ _ (ih move.0 (after move.1 p))
 
@@ -69,17 +69,18 @@ run_append strict (c ∷ text) more s p = go (run_append strict text more) (next
 pub run_more : (strict : Bool) (text : List ℕ) (i : ℕ) (s : State) (p : Partial) → i < length text
     → run strict state.Category no_rules (take i text) ≡ Some (s, p)
     → run strict state.Category no_rules (take (i + 1) text)
-    ≡ move_on strict (next p.seen s (get_or text i 0)) p (λ s q. Some (s, q))
+    ≡ apply_transition strict (next p.seen s (get_or text i 0)) p (λ s q. Some (s, q))
 run_more strict text i s p less h =
     ap (run strict state.Category no_rules) (take_more text i 0 less)
     ∙ run_append strict (take i text) (get_or text i 0 ∷ []) state.Category no_rules
     ∙ ap (λ x. bind x (λ s q. run strict s q (get_or text i 0 ∷ []))) h
 
 -- the run continues after an allowed transition
-pub moves : (strict : Bool) (m : Move) (s2 : State) (e : Event) (p : Partial) (go : State → Partial → Reached)
-    → m ≡ Some (s2, e) → allowed strict e p ≡ true → move_on strict m p go ≡ go s2 (after e p)
-moves strict m s2 e p go h a =
-    ap (λ m. move_on strict m p go) h ∙ ap (λ b. cond b (go s2 (after e p)) None) a
+pub transitions : (strict : Bool) (m : Transition) (s2 : State) (e : Event) (p : Partial) (go : State → Partial
+    → Reached)
+    → m ≡ Some (s2, e) → allowed strict e p ≡ true → apply_transition strict m p go ≡ go s2 (after e p)
+transitions strict m s2 e p go h a =
+    ap (λ m. apply_transition strict m p go) h ∙ ap (λ b. cond b (go s2 (after e p)) None) a
 
 -- ---- Rules that the strict reader accepts fit, and are those of the other one.
 
@@ -94,7 +95,7 @@ was_allowed false y x h = absurd (cc)
 -- all numbers so far fit
 abbrev pub FitsSoFar : Partial → Type 0
 FitsSoFar p =
-    Fits p.rules × AllByRecursion ConjunctionFits p.alternatives × ConjunctionFits p.relations
+    Fits p.rules × AllByRecursion AndConditionFits p.alternatives × AndConditionFits p.relations
     × IfSome p.modulus (λ m. m ≤ 10 ^ 18) × AllByRecursion RangeFits p.ranges × IfSome p.low (λ n. n < 2 ^ 64)
     × (p.number ≤ limit p.is_divided)
 
@@ -131,7 +132,7 @@ relation_ends p h =
 
 alternative_ends : (p : Partial) → FitsSoFar p → FitsSoFar (end_alternative p)
 alternative_ends p h =
-    (h.0, all_more ConjunctionFits p.alternatives p.relations h.1 h.2, tt, h.3, h.4, h.5, h.6)
+    (h.0, all_more AndConditionFits p.alternatives p.relations h.1 h.2, tt, h.3, h.4, h.5, h.6)
 
 rule_ends : (p : Partial) → FitsSoFar p → FitsSoFar (end_rule p)
 rule_ends p h =
@@ -166,13 +167,14 @@ strict_run (c ∷ text) s p x f h = go (strict_run text) (next p.seen s c) h
   where
     go : ((s : State) (p : Partial) (x : State × Partial) → FitsSoFar p → run true s p text ≡ Some x
         → FitsSoFar x.1 × (run false s p text ≡ Some x))
-        → (m : Move) → move_on true m p (λ s q. run true s q text) ≡ Some x
-        → FitsSoFar x.1 × (move_on false m p (λ s q. run false s q text) ≡ Some x)
+        → (m : Transition) → apply_transition true m p (λ s q. run true s q text) ≡ Some x
+        → FitsSoFar x.1 × (apply_transition false m p (λ s q. run false s q text) ≡ Some x)
     go ih None h = absurd (cc)
     go ih (Some move) h =
         let was = was_allowed (allowed true move.1 p) _ x h in
         let rest = ih move.0 (after move.1 p) x (fits_on move.1 p f was.0) was.1 in
-        let any = moves false (Some move) move.0 move.1 p (λ s q. run false s q text) refl (any_allowed move.1 p) in
+        let any = transitions false (Some move) move.0 move.1 p (λ s q. run false s q text) refl
+        (any_allowed move.1 p) in
         (rest.0, any ∙ rest.1)
 
 pub reached_strictly : (text : List ℕ) (s : State) (p : Partial)
@@ -186,14 +188,14 @@ pub at_end_all : (P : Event → Type 0) → P event.EndOther → P event.End →
     → at_end s ≡ Some e → P e
 at_end_all P o d n state.OtherCondition e h = let same : event.EndOther ≡ e = cc in rw (← same) o
 at_end_all P o d n state.LowDigits e h = let same : event.End ≡ e = cc in rw (← same) d
-at_end_all P o d n state.BehindLow e h = let same : event.End ≡ e = cc in rw (← same) d
+at_end_all P o d n state.AfterLow e h = let same : event.End ≡ e = cc in rw (← same) d
 at_end_all P o d n state.HighDigits e h = let same : event.End ≡ e = cc in rw (← same) d
-at_end_all P o d n state.BehindHigh e h = let same : event.End ≡ e = cc in rw (← same) d
+at_end_all P o d n state.AfterHigh e h = let same : event.End ≡ e = cc in rw (← same) d
 at_end_all P o d n state.Samples e h = let same : event.Nothing ≡ e = cc in rw (← same) n
 at_end_all P o d n s e h = absurd (cc)
 
 -- rules that the strict reader accepts fit, and are those of the other one
-pub read_fits : (text : List ℕ) (rules : List RuleParts) → read true state.Category no_rules text ≡ Some rules
+pub read_fits : (text : List ℕ) (rules : List RuleValue) → read true state.Category no_rules text ≡ Some rules
     → Fits rules × (read false state.Category no_rules text ≡ Some rules)
 read_fits text rules h = go (run true state.Category no_rules text) refl h
   where

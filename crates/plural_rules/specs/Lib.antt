@@ -1,7 +1,7 @@
 pub mod Operands
-pub mod Parts
+pub mod DigitSlice
 pub mod Rules
 pub mod RulesGrammar
 pub mod RulesReader
-pub mod RulesRefusal
+pub mod RulesParseResult
 pub mod RulesBuilder

@@ -5,7 +5,7 @@ use Rattle.std.specs.Int.{int_gap}
 use Rattle.decimal_digits.specs.Number.{weight}
 use Rattle.decimal_unsigned.specs.Unsigned.{Unsigned}
 use Rattle.decimal_unsigned.specs.Edits.{multiplied, trimmed_end}
-use Rattle.decimal_unsigned.specs.Grammar.{Written}
+use Rattle.decimal_unsigned.specs.Grammar.{Literal}
 
 -- a value multiplied by 10^exponent, and the exponent of the compact decimal: of 1.2c6 they are 1200000 and 6
 pub record Operands : Type 0 where
@@ -45,7 +45,7 @@ abbrev pub IsIn64Bits : Option ℕ → ℕ → Type 0
 IsIn64Bits found n = MatchOption found (2 ^ 64 ≤ n) (λ k. k ≡ n)
 
 -- i, v and f are those of the integer digits and the fraction digits of a text
-pub record IsOfDigits (x : Unsigned) (parts : Written) : Type 0 where
+pub record MatchesDigits (x : Unsigned) (parts : Literal) : Type 0 where
   pub i_is : i x ≡ digits_value 10 parts.whole
   pub v_is : v x ≡ length parts.fraction
   pub f_is : f x ≡ digits_value 10 parts.fraction

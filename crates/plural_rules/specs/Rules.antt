@@ -22,37 +22,37 @@ name_of Many = codes "many"
 name_of Other = codes "other"
 
 -- a relation: an operand, a modulus if there is one, whether it is = and not !=, and the ranges
-pub record RelationParts : Type 0 where
+pub record RelationValue : Type 0 where
   pub operand : Operand
   pub modulus : Option ℕ
   pub is_equal : Bool
   pub ranges : List Range
 
 -- the relation of these parts
-abbrev pub relation : Operand → Option ℕ → Bool → List Range → RelationParts
+abbrev pub relation : Operand → Option ℕ → Bool → List Range → RelationValue
 relation operand modulus is_equal ranges =
     record { operand = operand; modulus = modulus; is_equal = is_equal; ranges = ranges }
 
 -- a rule: a category and its condition, an `or` of `and`s of relations
-pub record RuleParts : Type 0 where
+pub record RuleValue : Type 0 where
   pub category : PluralCategory
-  pub alternatives : List (List RelationParts)
+  pub alternatives : List (List RelationValue)
 
 -- the rule of these parts
-abbrev pub rule : PluralCategory → List (List RelationParts) → RuleParts
+abbrev pub rule : PluralCategory → List (List RelationValue) → RuleValue
 rule category alternatives = record { category = category; alternatives = alternatives }
 
 -- ---- Semantics.
 
 -- the value of an operand; of n that of i
-abbrev pub integer_of : Operands → Operand → ℕ
-integer_of number N = of.i number.value
-integer_of number I = of.i number.value
-integer_of number V = of.v number.value
-integer_of number W = of.w number.value
-integer_of number F = of.f number.value
-integer_of number T = of.t number.value
-integer_of number C = number.exponent
+abbrev pub operand_value : Operands → Operand → ℕ
+operand_value number N = of.i number.value
+operand_value number I = of.i number.value
+operand_value number V = of.v number.value
+operand_value number W = of.w number.value
+operand_value number F = of.f number.value
+operand_value number T = of.t number.value
+operand_value number C = number.exponent
 
 -- n is an integer only if all fraction digits are 0, and every other operand always is one
 abbrev pub is_integer : Operands → Operand → Bool
@@ -65,25 +65,25 @@ by_modulus None n = n
 by_modulus (Some modulus) n = n % modulus
 
 -- the integer that a relation compares: an operand, or its remainder
-abbrev pub term_of : Operands → RelationParts → ℕ
-term_of number r = by_modulus r.modulus (integer_of number r.operand)
+abbrev pub expr_of : Operands → RelationValue → ℕ
+expr_of number r = by_modulus r.modulus (operand_value number r.operand)
 
 -- an integer is in a range
 abbrev pub in_range : ℕ → Range → Bool
 in_range n range = nat_le range.low n && nat_le n range.high
 
 -- the operand is an integer, and it or its remainder is in one of the ranges
-abbrev pub equals : Operands → RelationParts → Bool
-equals number r = is_integer number r.operand && list_any (in_range (term_of number r)) r.ranges
+abbrev pub equals : Operands → RelationValue → Bool
+equals number r = is_integer number r.operand && list_any (in_range (expr_of number r)) r.ranges
 
 -- a relation holds; != is the opposite of =
-abbrev pub holds : Operands → RelationParts → Bool
+abbrev pub holds : Operands → RelationValue → Bool
 holds number r = if r.is_equal then equals number r else not (equals number r)
 
 -- all relations of one of the alternatives hold
-abbrev pub is_met : Operands → RuleParts → Bool
+abbrev pub is_met : Operands → RuleValue → Bool
 is_met number r = list_any (list_all (holds number)) r.alternatives
 
 -- the category of the first rule whose condition is met, and Other if there is none
-abbrev pub category_of : List RuleParts → Operands → PluralCategory
+abbrev pub category_of : List RuleValue → Operands → PluralCategory
 category_of rules number = option_map_or (λ r. r.category) (find (is_met number) rules) Other

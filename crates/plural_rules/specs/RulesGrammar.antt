@@ -10,7 +10,7 @@ use Rattle.plural_rules.specs.declared.rules.PluralCategory.TheVariants.{Other}
 use Rattle.plural_rules.specs.declared.rules.Operand.{Operand}
 use Rattle.plural_rules.specs.declared.rules.Operand.TheVariants.{N, I, V, W, F, T, C}
 use Rattle.plural_rules.specs.declared.rules.Range.{Range}
-use Rattle.plural_rules.specs.Rules.{name_of, RelationParts, relation, RuleParts, rule}
+use Rattle.plural_rules.specs.Rules.{name_of, RelationValue, relation, RuleValue, rule}
 
 -- ---- Tokens.
 
@@ -25,24 +25,24 @@ pub data Blanks : List ℕ → List ℕ → Type 0 where
 
 -- these bytes, and blanks
 pub data Token (bytes text rest : List ℕ) : Type 0 where
-  token : (behind : List ℕ) → text ≡ bytes ++ behind → Blanks behind rest → Token bytes text rest
+  token : (suffix : List ℕ) → text ≡ bytes ++ suffix → Blanks suffix rest → Token bytes text rest
 
 -- a word before an operand: these letters, and at least one blank
-pub data Joint (letters text rest : List ℕ) : Type 0 where
+pub data Keyword (letters text rest : List ℕ) : Type 0 where
   joint :
-      (blank : ℕ) (behind : List ℕ) → text ≡ letters ++ blank ∷ behind → is_blank blank ≡ true → Blanks behind rest
-      → Joint letters text rest
+      (blank : ℕ) (suffix : List ℕ) → text ≡ letters ++ blank ∷ suffix → is_blank blank ≡ true → Blanks suffix rest
+      → Keyword letters text rest
 
 -- the text does not begin with a digit
-abbrev pub BeginsWithNoDigit : List ℕ → Type 0
-BeginsWithNoDigit [] = Unit {0}
-BeginsWithNoDigit (c ∷ text) = is_ascii_digit c ≡ false
+abbrev pub HasNoLeadingDigit : List ℕ → Type 0
+HasNoLeadingDigit [] = Unit {0}
+HasNoLeadingDigit (c ∷ text) = is_ascii_digit c ≡ false
 
 -- a number: a longest run of digits, leading zeros included, and blanks
 pub data Number (text : List ℕ) (n : ℕ) (rest : List ℕ) : Type 0 where
   number :
-      (digits behind : List ℕ) → text ≡ digits ++ behind → 0 < length digits → all_ascii_digits digits ≡ true
-      → BeginsWithNoDigit behind → n ≡ digits_value 10 digits → Blanks behind rest → Number text n rest
+      (digits suffix : List ℕ) → text ≡ digits ++ suffix → 0 < length digits → all_ascii_digits digits ≡ true
+      → HasNoLeadingDigit suffix → n ≡ digits_value 10 digits → Blanks suffix rest → Number text n rest
 
 -- the letters of the operands
 abbrev pub operand_word : Operand → List ℕ
@@ -65,7 +65,7 @@ pub data Letter (text : List ℕ) : Operand → List ℕ → Type 0 where
 pub data Divided (text : List ℕ) : Option ℕ → List ℕ → Type 0 where
   undivided : Divided text None text
   divided :
-      {modulus : ℕ} {behind rest : List ℕ} → Token (codes "%") text behind → Number behind modulus rest → 0 < modulus
+      {modulus : ℕ} {suffix rest : List ℕ} → Token (codes "%") text suffix → Number suffix modulus rest → 0 < modulus
       → Divided text (Some modulus) rest
 
 -- = or !=
@@ -77,37 +77,37 @@ pub data Comparison (text : List ℕ) : Bool → List ℕ → Type 0 where
 pub data Numbers (text : List ℕ) : Range → List ℕ → Type 0 where
   single : {n : ℕ} {rest : List ℕ} → Number text n rest → Numbers text (record { low = n; high = n }) rest
   between :
-      {low high : ℕ} {dots behind rest : List ℕ} → Number text low dots → Token (codes "..") dots behind
-      → Number behind high rest → Numbers text (record { low = low; high = high }) rest
+      {low high : ℕ} {dots suffix rest : List ℕ} → Number text low dots → Token (codes "..") dots suffix
+      → Number suffix high rest → Numbers text (record { low = low; high = high }) rest
 
 -- ranges between commas
-pub data Ranges : List ℕ → List Range → List ℕ → Type 0 where
-  one : {text : List ℕ} {range : Range} {rest : List ℕ} → Numbers text range rest → Ranges text (range ∷ []) rest
+pub data RangeList : List ℕ → List Range → List ℕ → Type 0 where
+  one : {text : List ℕ} {range : Range} {rest : List ℕ} → Numbers text range rest → RangeList text (range ∷ []) rest
   comma :
-      {range : Range} {ranges : List Range} {text comma behind rest : List ℕ} → Numbers text range comma
-      → Token (codes ",") comma behind → Ranges behind ranges rest → Ranges text (range ∷ ranges) rest
+      {range : Range} {ranges : List Range} {text comma suffix rest : List ℕ} → Numbers text range comma
+      → Token (codes ",") comma suffix → RangeList suffix ranges rest → RangeList text (range ∷ ranges) rest
 
 -- `i % 10 = 2..4`
-pub data Related (text : List ℕ) : RelationParts → List ℕ → Type 0 where
+pub data Related (text : List ℕ) : RelationValue → List ℕ → Type 0 where
   related :
       {operand : Operand} {modulus : Option ℕ} {is_equal : Bool} {ranges : List Range}
-      {percent compared behind rest : List ℕ} → Letter text operand percent → Divided percent modulus compared
-      → Comparison compared is_equal behind → Ranges behind ranges rest
+      {percent compared suffix rest : List ℕ} → Letter text operand percent → Divided percent modulus compared
+      → Comparison compared is_equal suffix → RangeList suffix ranges rest
       → Related text (relation operand modulus is_equal ranges) rest
 
 -- relations with `and` between them
-pub data Conjunction : List ℕ → List RelationParts → List ℕ → Type 0 where
-  one : {r : RelationParts} {text rest : List ℕ} → Related text r rest → Conjunction text (r ∷ []) rest
+pub data AndCondition : List ℕ → List RelationValue → List ℕ → Type 0 where
+  one : {r : RelationValue} {text rest : List ℕ} → Related text r rest → AndCondition text (r ∷ []) rest
   and :
-      {r : RelationParts} {rs : List RelationParts} {text word behind rest : List ℕ} → Related text r word
-      → Joint (codes "and") word behind → Conjunction behind rs rest → Conjunction text (r ∷ rs) rest
+      {r : RelationValue} {rs : List RelationValue} {text word suffix rest : List ℕ} → Related text r word
+      → Keyword (codes "and") word suffix → AndCondition suffix rs rest → AndCondition text (r ∷ rs) rest
 
 -- conjunctions with `or` between them
-pub data Condition : List ℕ → List (List RelationParts) → List ℕ → Type 0 where
-  one : {rs : List RelationParts} {text rest : List ℕ} → Conjunction text rs rest → Condition text (rs ∷ []) rest
+pub data Condition : List ℕ → List (List RelationValue) → List ℕ → Type 0 where
+  one : {rs : List RelationValue} {text rest : List ℕ} → AndCondition text rs rest → Condition text (rs ∷ []) rest
   or :
-      {rs : List RelationParts} {alternatives : List (List RelationParts)} {text word behind rest : List ℕ}
-      → Conjunction text rs word → Joint (codes "or") word behind → Condition behind alternatives rest
+      {rs : List RelationValue} {alternatives : List (List RelationValue)} {text word suffix rest : List ℕ}
+      → AndCondition text rs word → Keyword (codes "or") word suffix → Condition suffix alternatives rest
       → Condition text (rs ∷ alternatives) rest
 
 -- ---- Rules.
@@ -120,30 +120,30 @@ pub data Samples (text rest : List ℕ) : Type 0 where
       → Samples text rest
 
 -- a category, a colon, a condition and samples; the condition of `other` may be left out
-pub data OneRule (text : List ℕ) : RuleParts → List ℕ → Type 0 where
+pub data SingleRule (text : List ℕ) : RuleValue → List ℕ → Type 0 where
   conditioned :
-      {category : PluralCategory} {alternatives : List (List RelationParts)} {colon behind at rest : List ℕ}
-      → Token (name_of category) text colon → Token (codes ":") colon behind
-      → Condition behind alternatives at → Samples at rest → OneRule text (rule category alternatives) rest
+      {category : PluralCategory} {alternatives : List (List RelationValue)} {colon suffix at rest : List ℕ}
+      → Token (name_of category) text colon → Token (codes ":") colon suffix
+      → Condition suffix alternatives at → Samples at rest → SingleRule text (rule category alternatives) rest
   other :
       {colon at rest : List ℕ} → Token (codes "other") text colon → Token (codes ":") colon at → Samples at rest
-      → OneRule text (rule Other []) rest
+      → SingleRule text (rule Other []) rest
 
 -- rules with semicolons between them, to the end of the text
-pub data AllRules : List ℕ → List RuleParts → Type 0 where
-  last : {r : RuleParts} {text : List ℕ} → OneRule text r [] → AllRules text (r ∷ [])
+pub data RuleList : List ℕ → List RuleValue → Type 0 where
+  last : {r : RuleValue} {text : List ℕ} → SingleRule text r [] → RuleList text (r ∷ [])
   semicolon :
-      {r : RuleParts} {rs : List RuleParts} {text semicolon behind : List ℕ} → OneRule text r semicolon
-      → Token (codes ";") semicolon behind → AllRules behind rs → AllRules text (r ∷ rs)
+      {r : RuleValue} {rs : List RuleValue} {text semicolon suffix : List ℕ} → SingleRule text r semicolon
+      → Token (codes ";") semicolon suffix → RuleList suffix rs → RuleList text (r ∷ rs)
 
 -- no two rules have the same category
-abbrev pub HasNoTwo : List RuleParts → Type 0
-HasNoTwo [] = Unit {0}
-HasNoTwo (r ∷ rs) = AllByRecursion (λ other. other.category ≢ r.category) rs × HasNoTwo rs
+abbrev pub HasDistinctCategories : List RuleValue → Type 0
+HasDistinctCategories [] = Unit {0}
+HasDistinctCategories (r ∷ rs) = AllByRecursion (λ other. other.category ≢ r.category) rs × HasDistinctCategories rs
 
 -- the text is these rules
-pub record Grammar (text : List ℕ) (meaning : List RuleParts) : Type 0 where
+pub record Grammar (text : List ℕ) (meaning : List RuleValue) : Type 0 where
   pub begin : List ℕ
   pub blanks : Blanks text begin
-  pub rules : AllRules begin meaning
-  pub distinct : HasNoTwo meaning
+  pub rules : RuleList begin meaning
+  pub distinct : HasDistinctCategories meaning

@@ -13,10 +13,10 @@ use Rattle.plural_rules.specs.declared.parse.state.Event.{Event}
 use Rattle.plural_rules.specs.declared.parse.state.Event.TheVariants as event
 use Rattle.plural_rules.specs.declared.parse.state.Categories.{Categories}
 use Rattle.plural_rules.specs.declared.parse.numbers.Numbers.{Numbers}
-use Rattle.plural_rules.specs.declared.parse.numbers.Numbers.TheVariants.{Fit, Great}
-use Rattle.plural_rules.specs.Rules.{name_of, RelationParts, relation, RuleParts, rule}
+use Rattle.plural_rules.specs.declared.parse.numbers.Numbers.TheVariants.{Fit, TooLarge}
+use Rattle.plural_rules.specs.Rules.{name_of, RelationValue, relation, RuleValue, rule}
 use Rattle.plural_rules.specs.RulesGrammar.{is_blank, Grammar}
-use Rattle.plural_rules.specs.RulesRefusal.{Fits, HasGreatNumber}
+use Rattle.plural_rules.specs.RulesParseResult.{Fits, IsLimitErrorAt}
 
 -- ---- The categories so far.
 
@@ -46,29 +46,29 @@ no_categories =
 
 -- ---- Transitions: the state after a byte and the event of the byte, or None if no rules continue with it.
 
-abbrev pub Move : Type 0
-Move = Option (State × Event)
+abbrev pub Transition : Type 0
+Transition = Option (State × Event)
 
 -- a blank changes nothing; any other byte does `otherwise`
-abbrev pub skip : State → ℕ → Move → Move
+abbrev pub skip : State → ℕ → Transition → Transition
 skip s c otherwise = if is_blank c then Some (s, event.Nothing) else otherwise
 
 -- a category that was not read before
-abbrev pub fresh : Categories → PluralCategory → Move
-fresh seen category = if has seen category then None else Some (state.Letters category 1, event.Nothing)
+abbrev pub new_category : Categories → PluralCategory → Transition
+new_category seen category = if has seen category then None else Some (state.Letters category 1, event.Nothing)
 
 -- the first letter of a category
-abbrev pub category_letter : Categories → ℕ → Move
+abbrev pub category_letter : Categories → ℕ → Transition
 category_letter seen c =
-    if c == 122 then fresh seen Zero
+    if c == 122 then new_category seen Zero
     else if c == 111 then (if seen.one && seen.other then None else Some (state.One, event.Nothing))
-    else if c == 116 then fresh seen Two
-    else if c == 102 then fresh seen Few
-    else if c == 109 then fresh seen Many
+    else if c == 116 then new_category seen Two
+    else if c == 102 then new_category seen Few
+    else if c == 109 then new_category seen Many
     else None
 
 -- the second letter of a category that begins with o
-abbrev pub second_letter : Categories → ℕ → Move
+abbrev pub second_letter : Categories → ℕ → Transition
 second_letter seen c =
     if c == 110 then (if seen.one then None else Some (state.Letters CategoryOne 2, event.Nothing))
     else if c == 116 then (if seen.other then None else Some (state.Letters Other 2, event.Nothing))
@@ -91,61 +91,61 @@ operand_letter c =
     else if c == 99 || c == 101 then Some C
     else None
 
-abbrev pub operand : ℕ → Move
+abbrev pub operand : ℕ → Transition
 operand c = option_map (λ o. (state.Percent, event.Operand o)) (operand_letter c)
 
 -- the byte after a rule, with the event that ends it: a semicolon, if a category is left, or the @ of samples
-abbrev pub rule_end : Categories → ℕ → Event → Move
+abbrev pub rule_end : Categories → ℕ → Event → Transition
 rule_end seen c e =
     if c == 59 then (if is_full seen then None else Some (state.Category, e))
     else if c == 64 then Some (state.Samples, e)
     else None
 
-abbrev pub comparison : ℕ → Move
+abbrev pub comparison : ℕ → Transition
 comparison c =
     if c == 61 then Some (state.Low, event.Equal true)
     else if c == 33 then Some (state.NotEqual, event.Nothing)
     else None
 
 -- the byte after a range and its blanks
-abbrev pub follows_range : Categories → ℕ → Move
+abbrev pub follows_range : Categories → ℕ → Transition
 follows_range seen c =
     if c == 44 then Some (state.Low, event.Comma)
     else if c == 97 then Some (state.And, event.And)
     else if c == 111 then Some (state.OrEnd, event.Or)
     else rule_end seen c event.End
 
-abbrev pub behind_low : Categories → ℕ → Move
-behind_low seen c =
-    skip state.BehindLow c (if c == 46 then Some (state.Dot, event.Nothing) else follows_range seen c)
+abbrev pub after_low : Categories → ℕ → Transition
+after_low seen c =
+    skip state.AfterLow c (if c == 46 then Some (state.Dot, event.Nothing) else follows_range seen c)
 
-abbrev pub behind_high : Categories → ℕ → Move
-behind_high seen c = skip state.BehindHigh c (follows_range seen c)
+abbrev pub after_high : Categories → ℕ → Transition
+after_high seen c = skip state.AfterHigh c (follows_range seen c)
 
 -- one byte, and no other
-abbrev pub only : ℕ → ℕ → State → Event → Move
+abbrev pub only : ℕ → ℕ → State → Event → Transition
 only wanted c s e = if c == wanted then Some (s, e) else None
 
 -- the next letter of a category, or the colon after the last one
-abbrev pub letter : PluralCategory → ℕ → ℕ → Move
+abbrev pub letter : PluralCategory → ℕ → ℕ → Transition
 letter category n c =
     if nat_lt n (length (name_of category)) then
     only (get_or (name_of category) n 0) c (state.Letters category (n + 1)) event.Nothing
     else skip (state.Letters category n) c (only 58 c (condition_of category) (event.Category category))
 
 -- the first digit of a number
-abbrev pub first : ℕ → State → Move
+abbrev pub first : ℕ → State → Transition
 first c s = if is_ascii_digit c then Some (s, event.First (c - 48)) else None
 
 -- a further digit, or something else
-abbrev pub digit : ℕ → State → Move → Move
+abbrev pub digit : ℕ → State → Transition → Transition
 digit c s otherwise = if is_ascii_digit c then Some (s, event.Digit (c - 48)) else otherwise
 
 -- after a digit of a modulus whose digits before it, if any, are all 0
 abbrev pub modulus_state : ℕ → State
 modulus_state c = if c == 48 then state.Zeros else state.ModulusDigits
 
-abbrev pub next : Categories → State → ℕ → Move
+abbrev pub next : Categories → State → ℕ → Transition
 next seen state.Category c = skip state.Category c (category_letter seen c)
 next seen state.One c = second_letter seen c
 next seen (state.Letters category n) c = letter category n c
@@ -161,12 +161,12 @@ next seen state.ModulusDigits c = digit c state.ModulusDigits (skip state.Compar
 next seen state.Comparison c = skip state.Comparison c (comparison c)
 next seen state.NotEqual c = only 61 c state.Low (event.Equal false)
 next seen state.Low c = skip state.Low c (first c state.LowDigits)
-next seen state.LowDigits c = digit c state.LowDigits (behind_low seen c)
-next seen state.BehindLow c = behind_low seen c
+next seen state.LowDigits c = digit c state.LowDigits (after_low seen c)
+next seen state.AfterLow c = after_low seen c
 next seen state.Dot c = only 46 c state.High event.To
 next seen state.High c = skip state.High c (first c state.HighDigits)
-next seen state.HighDigits c = digit c state.HighDigits (behind_high seen c)
-next seen state.BehindHigh c = behind_high seen c
+next seen state.HighDigits c = digit c state.HighDigits (after_high seen c)
+next seen state.AfterHigh c = after_high seen c
 next seen state.And c = only 110 c state.AndEnd event.Nothing
 next seen state.AndEnd c = only 100 c state.Blank event.Nothing
 next seen state.OrEnd c = only 114 c state.Blank event.Nothing
@@ -179,9 +179,9 @@ next seen state.Samples c =
 abbrev pub at_end : State → Option Event
 at_end state.OtherCondition = Some event.EndOther
 at_end state.LowDigits = Some event.End
-at_end state.BehindLow = Some event.End
+at_end state.AfterLow = Some event.End
 at_end state.HighDigits = Some event.End
-at_end state.BehindHigh = Some event.End
+at_end state.AfterHigh = Some event.End
 at_end state.Samples = Some event.Nothing
 at_end s = None
 
@@ -191,10 +191,10 @@ at_end s = None
 -- alternative, and the parts of the last relation
 pub record Partial : Type 0 where
   pub seen : Categories
-  pub rules : List RuleParts
+  pub rules : List RuleValue
   pub category : PluralCategory
-  pub alternatives : List (List RelationParts)
-  pub relations : List RelationParts
+  pub alternatives : List (List RelationValue)
+  pub relations : List RelationValue
   pub operand : Operand
   pub is_divided : Bool
   pub modulus : Option ℕ
@@ -272,14 +272,14 @@ abbrev pub limit : Bool → ℕ
 limit is_modulus = if is_modulus then 10 ^ 18 else 2 ^ 64 - 1
 
 -- a number, as far as it was read
-abbrev pub counted : Bool → ℕ → ℕ → Numbers
-counted is_modulus begin n = if nat_le n (limit is_modulus) then Fit n is_modulus begin else Great begin
+abbrev pub checked_number : Bool → ℕ → ℕ → Numbers
+checked_number is_modulus begin n = if nat_le n (limit is_modulus) then Fit n is_modulus begin else TooLarge begin
 
 -- the numbers after the event of the byte at this offset
 abbrev pub numbers_after : Numbers → ℕ → Event → Numbers
-numbers_after (Great begin) at e = Great begin
-numbers_after (Fit n is_modulus begin) at (event.First d) = counted is_modulus at d
-numbers_after (Fit n is_modulus begin) at (event.Digit d) = counted is_modulus begin (n * 10 + d)
+numbers_after (TooLarge begin) at e = TooLarge begin
+numbers_after (Fit n is_modulus begin) at (event.First d) = checked_number is_modulus at d
+numbers_after (Fit n is_modulus begin) at (event.Digit d) = checked_number is_modulus begin (n * 10 + d)
 numbers_after (Fit n is_modulus begin) at event.Percent = Fit 0 true begin
 numbers_after (Fit n is_modulus begin) at (event.Equal is_equal) = Fit n false begin
 numbers_after (Fit n is_modulus begin) at (event.Operand operand) = Fit n false begin
@@ -287,5 +287,5 @@ numbers_after (Fit n is_modulus begin) at e = Fit n is_modulus begin
 
 -- the numbers of a whole text of rules: all fit, or the first one that is too great
 abbrev pub AreNumbersOf : List ℕ → Numbers → Type 0
-AreNumbersOf text (Fit n is_modulus begin) = (rules : List RuleParts) × Grammar text rules × Fits rules
-AreNumbersOf text (Great begin) = HasGreatNumber text begin
+AreNumbersOf text (Fit n is_modulus begin) = (rules : List RuleValue) × Grammar text rules × Fits rules
+AreNumbersOf text (TooLarge begin) = IsLimitErrorAt text begin

@@ -1,14 +1,14 @@
 //! The plural operands of a decimal, at any length.
 ghost use Rattle.std.specs.Prelude.{◌≡◌, ◌+◌, ◌%◌, ◌^◌, ◌<◌, ◌≤◌, ◌+ℤ◌, None, pos, negsuc};
 ghost use Rattle.std.specs.Int.{int_gap, int_max, int_min};
-ghost use Rattle.decimal_unsigned.specs.Grammar.{Written, Grammar};
+ghost use Rattle.decimal_unsigned.specs.Grammar.{Literal, Grammar};
 ghost use Rattle.decimal_unsigned.specs.Text.{text};
-ghost use Rattle.plural_rules.specs.Operands.{plain, compact, i, v, w, f, t, IsOfDigits, IsIn64Bits};
-ghost use Rattle.plural_rules.specs.Parts.{IsUpTo};
+ghost use Rattle.plural_rules.specs.Operands.{plain, compact, i, v, w, f, t, MatchesDigits, IsIn64Bits};
+ghost use Rattle.plural_rules.specs.DigitSlice.{IsUpTo};
 
 mod digits;
 
-use decimal_digits::ops::{at_most_zero, count_between, places_above, sum};
+use decimal_digits::ops::{add_magnitudes, at_most_zero, count_between, places_above};
 use digits::Digits;
 use fixed_decimal::{CompactDecimal, DecimalStore, DigitStore, Signed, UnsignedOver};
 use std::marker::Model;
@@ -33,15 +33,15 @@ impl<'a, D: DigitStore> Model for PluralOperands<'a, D> {
 }
 
 /// Returns the number of fraction digits of a value times 10^exponent, if the last digit of the value is at `last`.
-fn decimals_to(last: i16, exponent: u8) -> u32
+fn fraction_digit_count(last: i16, exponent: u8) -> u32
     ensures { result ≡ int_gap (int_min (last +ℤ pos exponent) (pos 0)) (pos 0) }
 {
-    let lowest = at_most_zero(sum(last, exponent as i16));
+    let lowest = at_most_zero(add_magnitudes(last, exponent as i16));
     count_between(lowest, 0) - 1
 }
 
 /// Returns the number of integer digits of a value times 10^exponent, if the first digit of the value is at `first`.
-fn places_from(first: i16, exponent: u8) -> u32
+fn integer_digit_count(first: i16, exponent: u8) -> u32
     ensures { pos result ≡ int_max (first +ℤ pos (exponent + 1)) (pos 0) }
 {
     match places_above(-(exponent as i16), first) {
@@ -51,7 +51,7 @@ fn places_from(first: i16, exponent: u8) -> u32
 }
 
 /// Returns the magnitude in a value of the first fraction digit of that value times 10^exponent.
-fn below_dot(exponent: u8) -> i16
+fn first_fraction_magnitude(exponent: u8) -> i16
     ensures { result ≡ negsuc exponent }
 {
     -1 - exponent as i16
@@ -80,8 +80,8 @@ impl<'a, D: DigitStore> PluralOperands<'a, D> {
     pub fn of(value: &'a UnsignedOver<D>) -> Self
         ensures value { result ≡ plain value.now }
         // i, v and f are those of the integer and fraction digits of the text, however the grammar splits it.
-        ensures by_text { (parts : Written) → Grammar (text value.now) parts → parts.exponent ≡ None
-            → IsOfDigits value.now parts }
+        ensures by_text { (parts : Literal) → Grammar (text value.now) parts → parts.exponent ≡ None
+            → MatchesDigits value.now parts }
     {
         // Proof hint: the value satisfies its invariant.
         let _range = value.magnitude_range();
@@ -108,7 +108,7 @@ impl<'a, D: DigitStore> PluralOperands<'a, D> {
         ensures at_most { result + self.now.exponent ≤ 32768 }
     {
         let range = self.value.magnitude_range();
-        decimals_to(*range.start(), self.exponent)
+        fraction_digit_count(*range.start(), self.exponent)
     }
 
     /// Returns w, the number of fraction digits without trailing zeros: 1 for `2.50`, at most 32,768.
@@ -116,29 +116,37 @@ impl<'a, D: DigitStore> PluralOperands<'a, D> {
         ensures value { result ≡ w self.now.value }
         ensures at_most { result + self.now.exponent ≤ 32768 }
     {
-        decimals_to(self.value.nonzero_magnitude_end(), self.exponent)
+        fraction_digit_count(self.value.nonzero_magnitude_end(), self.exponent)
     }
 
     /// Returns the integer digits.
-    fn whole(&self) -> Digits<'a, D>
+    fn integer_digits(&self) -> Digits<'a, D>
         ensures { result ≡ i self.now.value }
     {
         let first = self.value.nonzero_magnitude_start();
-        Digits::new(self.value, first, places_from(first, self.exponent))
+        Digits::new(self.value, first, integer_digit_count(first, self.exponent))
     }
 
     /// Returns the fraction digits.
     fn fraction(&self) -> Digits<'a, D>
         ensures { result ≡ f self.now.value }
     {
-        Digits::new(self.value, below_dot(self.exponent), self.v())
+        Digits::new(
+            self.value,
+            first_fraction_magnitude(self.exponent),
+            self.v(),
+        )
     }
 
     /// Returns the fraction digits without trailing zeros.
     fn trimmed_fraction(&self) -> Digits<'a, D>
         ensures { result ≡ t self.now.value }
     {
-        Digits::new(self.value, below_dot(self.exponent), self.w())
+        Digits::new(
+            self.value,
+            first_fraction_magnitude(self.exponent),
+            self.w(),
+        )
     }
 
     /// Returns i, the integer digits as an integer: 2 for `2.50`. `None` if it is 2^64 or more.
@@ -167,19 +175,19 @@ impl<'a, D: DigitStore> PluralOperands<'a, D> {
     ///
     /// Requires a modulus from 1 to 10^18. A modulus 10^k reads at most k digits.
     pub fn i_modulo(&self, modulus: u64) -> u64
-        requires some { 0 < modulus }
-        requires small { modulus ≤ 10 ^ 18 }
+        requires positive { 0 < modulus }
+        requires at_most { modulus ≤ 10 ^ 18 }
         ensures { result ≡ i self.now.value % modulus }
     {
-        self.whole().modulo(modulus)
+        self.integer_digits().modulo(modulus)
     }
 
     /// Returns the remainder of f by a modulus, at any length of f: 30 for `0.1230` by 100.
     ///
     /// Requires a modulus from 1 to 10^18. A modulus 10^k reads at most k digits.
     pub fn f_modulo(&self, modulus: u64) -> u64
-        requires some { 0 < modulus }
-        requires small { modulus ≤ 10 ^ 18 }
+        requires positive { 0 < modulus }
+        requires at_most { modulus ≤ 10 ^ 18 }
         ensures { result ≡ f self.now.value % modulus }
     {
         self.fraction().modulo(modulus)
@@ -189,8 +197,8 @@ impl<'a, D: DigitStore> PluralOperands<'a, D> {
     ///
     /// Requires a modulus from 1 to 10^18. A modulus 10^k reads at most k digits.
     pub fn t_modulo(&self, modulus: u64) -> u64
-        requires some { 0 < modulus }
-        requires small { modulus ≤ 10 ^ 18 }
+        requires positive { 0 < modulus }
+        requires at_most { modulus ≤ 10 ^ 18 }
         ensures { result ≡ t self.now.value % modulus }
     {
         self.trimmed_fraction().modulo(modulus)
@@ -200,7 +208,7 @@ impl<'a, D: DigitStore> PluralOperands<'a, D> {
     pub(crate) fn i_up_to(&self, most: u64) -> Option<u64>
         ensures { IsUpTo most result (i self.now.value) }
     {
-        self.whole().up_to(most)
+        self.integer_digits().up_to(most)
     }
 
     /// Returns the operand f if it is at most `most`.

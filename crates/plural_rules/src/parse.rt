@@ -1,9 +1,9 @@
 //! The parser of rules.
 ghost use Rattle.std.specs.Prelude.{◌≡◌, IfOk, IfErr, List};
-ghost use Rattle.plural_rules.specs.Rules.{RuleParts};
+ghost use Rattle.plural_rules.specs.Rules.{RuleValue};
 ghost use Rattle.plural_rules.specs.RulesReader.{AreNumbersOf};
 ghost use Rattle.plural_rules.specs.RulesGrammar.{Grammar};
-ghost use Rattle.plural_rules.specs.RulesRefusal.{NoRulesFrom, Fits, Answers};
+ghost use Rattle.plural_rules.specs.RulesParseResult.{IsSyntaxErrorAt, Fits, IsParseResult};
 
 mod builder;
 mod numbers;
@@ -18,7 +18,7 @@ use std::alloc::{AllocError, Global};
 /// Checks the syntax of a text, and whether its numbers fit. Err: the offset at which it cannot continue as rules.
 fn check(text: &[u8]) -> Result<Numbers, usize>
     ensures ok { IfOk result (AreNumbersOf text.now) }
-    ensures err { IfErr result (NoRulesFrom text.now) }
+    ensures err { IfErr result (IsSyntaxErrorAt text.now) }
 {
     let mut state = State::Category;
     let mut seen = Categories::none();
@@ -43,7 +43,7 @@ fn check(text: &[u8]) -> Result<Numbers, usize>
 
 /// Builds the rules of a text whose numbers fit. Err: out of memory.
 fn build(alloc: Global, text: &[u8]) -> Result<PluralRules, AllocError>
-    requires { (rules : List RuleParts) × Grammar text.now rules × Fits rules }
+    requires { (rules : List RuleValue) × Grammar text.now rules × Fits rules }
     ensures { IfOk result (Grammar text.now) }
 {
     let mut builder = Builder::new(alloc);
@@ -91,16 +91,16 @@ impl PluralRules {
     /// - `Limit`: it is, but a number is too great.
     /// - `Memory`: out of memory; the text is rules whose numbers fit.
     pub fn try_from_utf8(alloc: Global, text: &[u8]) -> Result<Self, RulesError>
-        ensures answer { Answers text.now result }
+        ensures parses { IsParseResult text.now result }
         // The grammar is unambiguous.
-        ensures unique { (first second : List RuleParts) → Grammar text.now first → Grammar text.now second
+        ensures unique { (first second : List RuleValue) → Grammar text.now first → Grammar text.now second
             → first ≡ second }
     {
         let numbers = match check(text) {
             Ok(numbers) => numbers,
             Err(at) => return Err(RulesError::Syntax { at }),
         };
-        if let Numbers::Great(at) = numbers {
+        if let Numbers::TooLarge(at) = numbers {
             return Err(RulesError::Limit { at });
         }
         match build(alloc, text) {
@@ -111,7 +111,7 @@ impl PluralRules {
 
     /// Parses rules as `try_from_utf8` does.
     pub fn try_from_str(alloc: Global, text: &str) -> Result<Self, RulesError>
-        ensures { Answers text.now result }
+        ensures { IsParseResult text.now result }
     {
         PluralRules::try_from_utf8(alloc, text.as_bytes())
     }

@@ -70,7 +70,7 @@ pub struct Range {
 }
 
 /// The greatest modulus.
-pub const GREATEST_MODULUS: u64 = 1_000_000_000_000_000_000;
+pub const MAX_MODULUS: u64 = 1_000_000_000_000_000_000;
 
 /// A modulus, from 1 to 10^18.
 #[derive(Clone, Copy, Debug)]
@@ -97,7 +97,7 @@ impl Modulus {
         ensures in_range { IfSome result (λ modulus. (0 < divisor) × (divisor ≤ 10 ^ 18)) }
         ensures zero { IfNone result (divisor ≤ 10 ^ 18 → divisor ≡ 0) }
     {
-        if divisor == 0 || divisor > GREATEST_MODULUS {
+        if divisor == 0 || divisor > MAX_MODULUS {
             None
         } else {
             Some(Modulus { divisor })
@@ -107,8 +107,8 @@ impl Modulus {
     /// Returns the divisor.
     pub fn divisor(self) -> u64
         ensures value { result ≡ self }
-        ensures some { 0 < result }
-        ensures small { result ≤ 10 ^ 18 }
+        ensures positive { 0 < result }
+        ensures at_most { result ≤ 10 ^ 18 }
     {
         self.divisor
     }
@@ -137,9 +137,9 @@ impl Drop for Relation {
 }
 
 impl Model for Relation {
-    ghost use Rattle.plural_rules.specs.Rules.{RelationParts, relation};
+    ghost use Rattle.plural_rules.specs.Rules.{RelationValue, relation};
 
-    ghost Value = { RelationParts };
+    ghost Value = { RelationValue };
 
     ghost view = { λ s. relation s.operand s.modulus s.is_equal s.ranges.items };
 }
@@ -183,9 +183,9 @@ impl Drop for Rule {
 
 impl Model for Rule {
     ghost use Rattle.std.specs.Prelude.{map};
-    ghost use Rattle.plural_rules.specs.Rules.{RuleParts, rule};
+    ghost use Rattle.plural_rules.specs.Rules.{RuleValue, rule};
 
-    ghost Value = { RuleParts };
+    ghost Value = { RuleValue };
 
     ghost view = { λ s. rule s.category (map (λ relations. relations.items) s.alternatives.items) };
 }
@@ -220,9 +220,9 @@ impl Drop for PluralRules {
 
 impl Model for PluralRules {
     ghost use Rattle.std.specs.Prelude.{List};
-    ghost use Rattle.plural_rules.specs.Rules.{RuleParts};
+    ghost use Rattle.plural_rules.specs.Rules.{RuleValue};
 
-    ghost Value = { List RuleParts };
+    ghost Value = { List RuleValue };
 
     ghost view = { λ s. s.rules.items };
 }

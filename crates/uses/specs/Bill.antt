@@ -3,7 +3,7 @@ use Rattle.std.specs.Prelude.{◌≡◌, ℕ, zero, suc, ◌+◌, ◌*◌, ◌/�
 use Rattle.decimal_digits.specs.Number.{weight, size}
 use Rattle.decimal_unsigned.specs.Unsigned.{Unsigned, integer_value}
 use Rattle.decimal_unsigned.specs.Edits.{multiplied, StaysInLimits}
-use Rattle.decimal_unsigned.specs.declared.decimal.TheConstants.{DIGITS_IN_PLACE}
+use Rattle.decimal_unsigned.specs.declared.decimal.TheConstants.{INLINE_DIGITS}
 use Rattle.uses.specs.declared.bill.BillError.{BillError}
 use Rattle.uses.specs.declared.bill.BillError.TheVariants.{NoPart, PartOfACent, TooGreat, Memory}
 
@@ -37,10 +37,10 @@ IsWholeCents amount = (total : ℕ) × (total < 2 ^ 64) × (amount.number ≡ to
 
 -- the error of an amount that is not split, the first that applies: there is no part; the amount shows a digit above
 -- magnitude 32765; it has a fraction of a cent; it is 2^64 cents or more. Out of memory: for a copy of an amount with
--- more than `DIGITS_IN_PLACE` digits, or for the parts of whole cents
-abbrev pub Refuses : BillError → Unsigned → ℕ → Type 0
-Refuses NoPart amount count = count ≡ 0
-Refuses PartOfACent amount count = (0 < count) × StaysInLimits amount (pos 2) × (¬ (amount.number % cent ≡ 0))
-Refuses TooGreat amount count =
+-- more than `INLINE_DIGITS` digits, or for the parts of whole cents
+abbrev pub SplitFails : BillError → Unsigned → ℕ → Type 0
+SplitFails NoPart amount count = count ≡ 0
+SplitFails PartOfACent amount count = (0 < count) × StaysInLimits amount (pos 2) × (¬ (amount.number % cent ≡ 0))
+SplitFails TooGreat amount count =
     (0 < count) × ((¬ StaysInLimits amount (pos 2)) ⊎ ((amount.number % cent ≡ 0) × (2 ^ 64 * cent ≤ amount.number)))
-Refuses Memory amount count = (0 < count) × ((DIGITS_IN_PLACE < size amount.number) ⊎ IsWholeCents amount)
+SplitFails Memory amount count = (0 < count) × ((INLINE_DIGITS < size amount.number) ⊎ IsWholeCents amount)

@@ -2,13 +2,13 @@
 use Rattle.std.specs.Prelude.{◌≡◌, ℕ, ◌<◌, ◌↔◌, List, [], ◌∷◌, ◌++◌, Option, Result, Ok, IsOkAnd}
 use Rattle.std.specs.Borrow.{Bor}
 use Rattle.std.specs.Io.KnownBytes.{Appends}
-use Rattle.decimal_digits.specs.Text.{AppendsPrefix}
+use Rattle.decimal_digits.specs.AppendsPrefix.{AppendsPrefix}
 use Rattle.decimal_unsigned.specs.Unsigned.{Unsigned, IsValue}
 use Rattle.decimal_unsigned.specs.Text.{text}
-use Rattle.decimal_unsigned.specs.EditLaws.{trimmed}
-use Rattle.decimal_unsigned.specs.Reading.{ReadingFault, read}
-use Rattle.decimal_unsigned.specs.Refusal.{ParseRefuses}
-use Rattle.decimal_unsigned.specs.declared.decimal.TheConstants.{DIGITS_IN_PLACE}
+use Rattle.decimal_unsigned.specs.ValueLaws.{trimmed}
+use Rattle.decimal_unsigned.specs.Reading.{ReadError, read}
+use Rattle.decimal_unsigned.specs.ParseResult.{ParseFails}
+use Rattle.decimal_unsigned.specs.declared.decimal.TheConstants.{INLINE_DIGITS}
 use Rattle.decimal_digits.specs.Number.{size}
 use Rattle.fixed_decimal.specs.DecimalText.{and_then}
 use Rattle.uses.specs.declared.column.ColumnError.{ColumnError}
@@ -19,22 +19,22 @@ abbrev pub normal_text : Unsigned → List ℕ
 normal_text v = text (trimmed v)
 
 -- the normal form of the amount of a text, or the error of the text
-abbrev pub normal_form : List ℕ → Result (List ℕ) ReadingFault
+abbrev pub normal_form : List ℕ → Result (List ℕ) ReadError
 normal_form amount = and_then (read amount) (λ v. Ok (normal_text v))
 
 -- a value has the same number exactly if it has the same normal form
-abbrev pub IsToldByForm : Unsigned → Type 0
-IsToldByForm v = (w : Unsigned) → IsValue w → (v.number ≡ w.number) ↔ (normal_text v ≡ normal_text w)
+abbrev pub HasUniqueForm : Unsigned → Type 0
+HasUniqueForm v = (w : Unsigned) → IsValue w → (v.number ≡ w.number) ↔ (normal_text v ≡ normal_text w)
 
--- the error of an amount that is not written: that of its text, out of memory only for more than `DIGITS_IN_PLACE`
+-- the error of an amount that is not written: that of its text, out of memory only for more than `INLINE_DIGITS`
 -- digits; an error of the sink depends on no amount
-abbrev pub AmountRefuses : ColumnError → List ℕ → Type 0
-AmountRefuses (Amount fault) amount =
-    ParseRefuses (IsOkAnd (read amount) (λ v. DIGITS_IN_PLACE < size v.number)) fault (read amount)
-AmountRefuses Sink amount = Unit {0}
+abbrev pub AmountFails : ColumnError → List ℕ → Type 0
+AmountFails (Amount fault) amount =
+    ParseFails (IsOkAnd (read amount) (λ v. INLINE_DIGITS < size v.number)) fault (read amount)
+AmountFails Sink amount = Unit {0}
 
 -- the normal forms of amounts, each followed by a line feed, 10; or the first error
-abbrev pub column_text : List (Bor (List ℕ)) → Result (List ℕ) ReadingFault
+abbrev pub column_text : List (Bor (List ℕ)) → Result (List ℕ) ReadError
 column_text [] = Ok []
 column_text (amount ∷ rest) =
     and_then (normal_form amount.now) (λ form. and_then (column_text rest) (λ lines. Ok ((form ++ 10 ∷ []) ++ lines)))
@@ -44,7 +44,7 @@ column_text (amount ∷ rest) =
 abbrev pub Stops : List (Bor (List ℕ)) → Option (List ℕ) → Option (List ℕ) → ColumnError → Type 0
 Stops amounts old new (Amount fault) =
     (front : List (Bor (List ℕ))) × (amount : Bor (List ℕ)) × (back : List (Bor (List ℕ)))
-    × (amounts ≡ front ++ amount ∷ back) × AmountRefuses (Amount fault) amount.now
+    × (amounts ≡ front ++ amount ∷ back) × AmountFails (Amount fault) amount.now
     × IsOkAnd (column_text front) (Appends old new)
 Stops amounts old new Sink =
     (front : List (Bor (List ℕ))) × (back : List (Bor (List ℕ))) × (amounts ≡ front ++ back)

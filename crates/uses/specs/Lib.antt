@@ -3,4 +3,4 @@ pub mod Cash
 pub mod Column
 pub mod Measurement
 pub mod Price
-pub mod Refusal
+pub mod Report

@@ -1,6 +1,6 @@
 //! An amount split into parts of whole cents whose sum it is.
 ghost use Rattle.std.specs.Prelude.{◌≡◌, ℕ, ◌<◌, ◌*◌, IfOk, IfErr};
-ghost use Rattle.uses.specs.Bill.{cent, cents_value, IsSplit, Refuses};
+ghost use Rattle.uses.specs.Bill.{cent, cents_value, IsSplit, SplitFails};
 
 use fixed_decimal::{IntegerError, UnsignedDecimal};
 use std::alloc::{AllocError, Global};
@@ -21,7 +21,7 @@ pub enum BillError {
 /// Returns an amount as a number of cents.
 fn total_cents(amount: &UnsignedDecimal) -> Result<u64, BillError>
     ensures ok { IfOk result (λ total. amount.now.number ≡ total * cent) }
-    ensures err { IfErr result (λ e. (count : ℕ) → 0 < count → Refuses e amount.now count) }
+    ensures err { IfErr result (λ e. (count : ℕ) → 0 < count → SplitFails e amount.now count) }
 {
     let Ok(mut cents) = amount.clone() else {
         return Err(BillError::Memory);
@@ -60,7 +60,7 @@ pub fn split_bill(
     count: u32,
 ) -> Result<Vec<UnsignedDecimal>, BillError>
     ensures split { IfOk result (λ parts. IsSplit amount.now count parts.items) }
-    ensures refused { IfErr result (λ e. Refuses e amount.now count) }
+    ensures fails_with { IfErr result (λ e. SplitFails e amount.now count) }
 {
     if count == 0 {
         return Err(BillError::NoPart);

@@ -4,16 +4,16 @@ ghost use Rattle.decimal_digits.specs.Number.{size};
 ghost use Rattle.decimal_unsigned.specs.Unsigned.{integer_value};
 ghost use Rattle.uses.specs.Cash.{IsCash};
 
-use fixed_decimal::{DIGITS_IN_PLACE, RoundingIncrement, UnsignedDecimal, UnsignedRoundingMode};
+use fixed_decimal::{INLINE_DIGITS, RoundingIncrement, UnsignedDecimal, UnsignedRoundingMode};
 use std::alloc::{AllocError, Global};
 
 /// Returns `percent` percent of a number of cents, rounded half-even to a multiple of five cents.
 ///
 /// 1999 cents at 107 percent are `21.40`. Err: out of memory, only if the product of cents and percent has more than
-/// `DIGITS_IN_PLACE` digits from the first to the last nonzero one.
+/// `INLINE_DIGITS` digits from the first to the last nonzero one.
 pub fn cash_amount(alloc: Global, cents: u64, percent: u32) -> Result<UnsignedDecimal, AllocError>
     ensures cash { IfOk result (λ v. IsCash (cents * percent) v) }
-    ensures memory { IfErr result (λ _. DIGITS_IN_PLACE < size (integer_value (cents * percent)).number) }
+    ensures memory { IfErr result (λ _. INLINE_DIGITS < size (integer_value (cents * percent)).number) }
 {
     let product = cents as u128 * percent as u128;
     let mut amount = UnsignedDecimal::try_from_u128(alloc, product)?;

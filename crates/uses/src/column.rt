@@ -1,9 +1,9 @@
 //! A column of amounts, parsed and written in normal form.
 ghost use Rattle.std.specs.Prelude.{◌≡◌, Err, OnOk, IfErr, IsOkAnd, true};
 ghost use Rattle.std.specs.Io.KnownBytes.{Appends};
-ghost use Rattle.decimal_digits.specs.Text.{AppendsPrefix};
+ghost use Rattle.decimal_digits.specs.AppendsPrefix.{AppendsPrefix};
 ghost use Rattle.decimal_unsigned.specs.Reading.{read};
-ghost use Rattle.uses.specs.Column.{normal_form, column_text, IsToldByForm, AmountRefuses, Stops};
+ghost use Rattle.uses.specs.Column.{normal_form, column_text, HasUniqueForm, AmountFails, Stops};
 
 use fixed_decimal::{ParseError, Sink, UnsignedDecimal, Writeable};
 use std::alloc::Global;
@@ -27,9 +27,9 @@ pub fn write_normal_form<W: Sink>(
 ) -> Result<(), ColumnError>
     ensures written { OnOk result (IsOkAnd (normal_form amount.now)
         (Appends (W.contents sink.old) (W.contents sink.new))) }
-    ensures reported { OnOk result (IsOkAnd (read amount.now) IsToldByForm) }
-    ensures refused { IfErr result (λ e. AmountRefuses e amount.now) }
-    ensures untouched { IfErr result (λ e. (e ≡ ColumnError.Sink → ⊥) → sink.new ≡ sink.old) }
+    ensures reported { OnOk result (IsOkAnd (read amount.now) HasUniqueForm) }
+    ensures fails_with { IfErr result (λ e. AmountFails e amount.now) }
+    ensures unchanged_on_error { IfErr result (λ e. (e ≡ ColumnError.Sink → ⊥) → sink.new ≡ sink.old) }
     ensures prefix { result ≡ Err ColumnError.Sink → IsOkAnd (normal_form amount.now)
         (AppendsPrefix (W.contents sink.old) (W.contents sink.new)) }
     ensures failed { result ≡ Err ColumnError.Sink → W.has_failed sink.new ≡ true }
@@ -57,7 +57,7 @@ pub fn write_column<W: Sink>(
 ) -> Result<(), ColumnError>
     ensures written { OnOk result (IsOkAnd (column_text amounts.now)
         (Appends (W.contents sink.old) (W.contents sink.new))) }
-    ensures stopped { IfErr result (Stops amounts.now (W.contents sink.old) (W.contents sink.new)) }
+    ensures stops { IfErr result (Stops amounts.now (W.contents sink.old) (W.contents sink.new)) }
     ensures failed { result ≡ Err ColumnError.Sink → W.has_failed sink.new ≡ true }
 {
     for amount in amounts {

@@ -10,7 +10,7 @@
 //! | `bill` | an amount split into parts of whole cents whose sum it is |
 //! | `measurement` | a measured value with a limited number of fraction digits |
 //! | `column` | a column of amounts, parsed and written in normal form |
-//! | `refusal` | a run of calls that reports its first error in words |
+//! | `report` | a run of calls that reports its first error in words |
 #![tactic(auto)]
 
 pub mod bill;
@@ -18,4 +18,4 @@ pub mod cash;
 pub mod column;
 pub mod measurement;
 pub mod price;
-pub mod refusal;
+pub mod report;

@@ -2,12 +2,12 @@
 ghost use Rattle.std.specs.Prelude.{◌≡◌, ◌<◌, ◌*◌, Err, OnOk, OnErr, IsSomeAnd, codes, true};
 ghost use Rattle.std.specs.Io.KnownBytes.{Appends};
 ghost use Rattle.decimal_digits.specs.Number.{size};
-ghost use Rattle.decimal_digits.specs.Text.{AppendsPrefix};
+ghost use Rattle.decimal_digits.specs.AppendsPrefix.{AppendsPrefix};
 ghost use Rattle.decimal_unsigned.specs.Text.{text};
 ghost use Rattle.decimal_unsigned.specs.Unsigned.{integer_value};
 ghost use Rattle.uses.specs.Price.{price};
 
-use fixed_decimal::{DIGITS_IN_PLACE, Sink, SinkFault, UnsignedDecimal, Writeable};
+use fixed_decimal::{INLINE_DIGITS, Sink, SinkFault, UnsignedDecimal, Writeable};
 use std::alloc::Global;
 
 /// The error of a price that is not printed.
@@ -22,7 +22,7 @@ pub enum PriceError {
 /// Prints `percent` percent of a number of cents, rounded half-even to a cent.
 ///
 /// 1250 cents at 5 percent print `0.62`. Err: `Memory` only if the product of cents and percent has more than
-/// `DIGITS_IN_PLACE` digits from the first to the last nonzero one; `Sink` if the sink failed. No price exceeds the
+/// `INLINE_DIGITS` digits from the first to the last nonzero one; `Sink` if the sink failed. No price exceeds the
 /// limits of a decimal: the product of 64 bits of cents and 32 bits of percent has at most 29 digits.
 pub fn write_price<W: Sink>(
     alloc: Global,
@@ -33,8 +33,8 @@ pub fn write_price<W: Sink>(
     ensures written { OnOk result (IsSomeAnd (price cents percent)
         (λ value. Appends (W.contents sink.old) (W.contents sink.new) (text value))) }
     ensures memory { result ≡ Err PriceError.Memory
-        → DIGITS_IN_PLACE < size (integer_value (cents * percent)).number }
-    ensures untouched { result ≡ Err PriceError.Memory → sink.new ≡ sink.old }
+        → INLINE_DIGITS < size (integer_value (cents * percent)).number }
+    ensures unchanged_on_error { result ≡ Err PriceError.Memory → sink.new ≡ sink.old }
     ensures prefix { result ≡ Err PriceError.Sink
         → IsSomeAnd (price cents percent)
         (λ value. AppendsPrefix (W.contents sink.old) (W.contents sink.new) (text value)) }

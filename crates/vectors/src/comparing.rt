@@ -2,13 +2,13 @@
 use crate::calls::named;
 use crate::edited::{Edited, has_sign};
 use crate::rows::Kind;
-use decimal_doubles::{Value, Way};
 use fixed_decimal::{
     Call, CompactDecimal, Decimal, DigitList, DigitStore, FixedInteger, PackedDigits,
     ScientificDecimal, Signed, UnsignedOver,
 };
 use std::alloc::Global;
 use std::cmp::Ordering;
+use test_support::{RoundingMethod, Value};
 
 /// The order of the values without a sign of two texts.
 fn unsigned_order<D: DigitStore, E: DigitStore>(
@@ -83,8 +83,8 @@ fn are_equal<T: Value>(alloc: Global, (left, right): (&str, &str), is_equal: boo
 /// The value of a text after both trims.
 fn trimmed<T: Value + Edited>(alloc: Global, text: &str) -> Option<T> {
     let value = T::read(alloc, text).ok()?;
-    let (value, _) = value.called(alloc, Way::ByIncrement, Call::TrimStart)?;
-    let (value, _) = value.called(alloc, Way::ByIncrement, Call::TrimEnd)?;
+    let (value, _) = value.called(alloc, RoundingMethod::ByIncrement, Call::TrimStart)?;
+    let (value, _) = value.called(alloc, RoundingMethod::ByIncrement, Call::TrimEnd)?;
     Some(value)
 }
 

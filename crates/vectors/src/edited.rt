@@ -4,35 +4,38 @@ use crate::runs;
 use decimal_digits::digits::{DigitList, DigitStore, PackedDigits};
 use decimal_digits::rounding::RoundError;
 use decimal_digits::rounding::RoundingIncrement::{MultiplesOf1, MultiplesOf25};
-use decimal_doubles::{
-    CountingStore, Counts, Join, Joins, Left, LimitedStore, MaxDigits, Value, Way, has_text,
-    rounded, ways,
-};
 use decimal_unsigned::ConcatenateError;
 use decimal_unsigned::decimal::UnsignedOver;
 use fixed_decimal::{Call, Signed, SignedRoundingMode};
 use std::alloc::Global;
+use test_support::{
+    CountingStore, Counts, Join, Joins, LimitedStore, MaxDigits, RoundedResult, RoundingMethod,
+    Value, has_text, rounded, rounding_methods,
+};
 
 /// A value after a call, and whether the call succeeded or was rejected. `None`: out of memory, or there is no such
 /// call, or a rejected one changed something.
-type Answer<T> = Option<(T, bool)>;
+type CallResult<T> = Option<(T, bool)>;
 
 /// A type of values on which calls are made.
 pub trait Edited: Drop {
     /// Makes a call in a way.
-    fn called(self, alloc: Global, way: Way, call: Call<'_>) -> Answer<Self>;
+    fn called(self, alloc: Global, method: RoundingMethod, call: Call<'_>) -> CallResult<Self>;
 }
 
 /// Whether calls are made in place.
-fn is_in_place(way: Way) -> bool {
+fn is_in_place(method: RoundingMethod) -> bool {
     matches!(
-        way,
-        Way::Counted | Way::ByIncrement | Way::ByMode | Way::ByName
+        method,
+        RoundingMethod::Counted
+            | RoundingMethod::ByIncrement
+            | RoundingMethod::ByMode
+            | RoundingMethod::ByName
     )
 }
 
 /// Returns the result of a rounding.
-fn of_rounding<T: Drop>(left: Left<T>) -> Answer<T> {
+fn of_rounding<T: Drop>(left: RoundedResult<T>) -> CallResult<T> {
     match left {
         Ok(value) => Some((value, true)),
         Err((value, RoundError::Limit)) => Some((value, false)),
@@ -44,7 +47,7 @@ fn of_rounding<T: Drop>(left: Left<T>) -> Answer<T> {
 fn edited_in_place<D: DigitStore>(
     value: UnsignedOver<D>,
     call: Call<'_>,
-) -> Answer<UnsignedOver<D>> {
+) -> CallResult<UnsignedOver<D>> {
     let mut value = value;
     let mut is_made = true;
     match call {
@@ -64,7 +67,7 @@ fn edited_in_place<D: DigitStore>(
 fn edited_by_value<D: DigitStore>(
     value: UnsignedOver<D>,
     call: Call<'_>,
-) -> Answer<UnsignedOver<D>> {
+) -> CallResult<UnsignedOver<D>> {
     let value = match call {
         Call::MultiplyPow10(delta) => match value.multiplied_pow10(delta) {
             Ok(value) => value,
@@ -87,7 +90,7 @@ fn joined<D: DigitStore>(
     value: UnsignedOver<D>,
     join: Join,
     operand: &[u8],
-) -> Answer<UnsignedOver<D>> {
+) -> CallResult<UnsignedOver<D>> {
     let other = UnsignedOver::<D>::try_from_utf8(alloc, operand).ok()?;
     match value.joined_by(other, join) {
         Ok(value) => Some((value, true)),
@@ -103,16 +106,16 @@ fn joined<D: DigitStore>(
 }
 
 impl<D: DigitStore> Edited for UnsignedOver<D> {
-    fn called(self, alloc: Global, way: Way, call: Call<'_>) -> Answer<Self> {
+    fn called(self, alloc: Global, method: RoundingMethod, call: Call<'_>) -> CallResult<Self> {
         match call {
             Call::Round(position, SignedRoundingMode::Unsigned(mode), increment) => {
-                of_rounding(rounded(self, way, (position, mode, increment)))
+                of_rounding(rounded(self, method, (position, mode, increment)))
             }
-            Call::Concatenate(operand) if is_in_place(way) => {
+            Call::Concatenate(operand) if is_in_place(method) => {
                 joined(alloc, self, Join::InPlace, operand)
             }
             Call::Concatenate(operand) => joined(alloc, self, Join::ByValue, operand),
-            _ if is_in_place(way) => edited_in_place(self, call),
+            _ if is_in_place(method) => edited_in_place(self, call),
             _ => edited_by_value(self, call),
         }
     }
@@ -122,7 +125,7 @@ impl<D: DigitStore> Edited for UnsignedOver<D> {
 fn set_sign<D: DigitStore>(
     value: Signed<UnsignedOver<D>>,
     call: Call<'_>,
-) -> Answer<Signed<UnsignedOver<D>>> {
+) -> CallResult<Signed<UnsignedOver<D>>> {
     let mut value = value;
     match call {
         Call::SetSign(sign) => value.set_sign(sign),
@@ -133,19 +136,19 @@ fn set_sign<D: DigitStore>(
 }
 
 impl<D: DigitStore> Edited for Signed<UnsignedOver<D>> {
-    fn called(self, alloc: Global, way: Way, call: Call<'_>) -> Answer<Self> {
+    fn called(self, alloc: Global, method: RoundingMethod, call: Call<'_>) -> CallResult<Self> {
         match call {
             Call::Round(position, mode, increment) => {
-                of_rounding(rounded(self, way, (position, mode, increment)))
+                of_rounding(rounded(self, method, (position, mode, increment)))
             }
-            Call::SetSign(_) | Call::ApplySignDisplay(_) if is_in_place(way) => {
+            Call::SetSign(_) | Call::ApplySignDisplay(_) if is_in_place(method) => {
                 set_sign(self, call)
             }
             Call::SetSign(sign) => Some((self.with_sign(sign), true)),
             Call::ApplySignDisplay(display) => Some((self.with_sign_display(display), true)),
             _ => {
                 let Signed { sign, absolute } = self;
-                let (absolute, is_made) = absolute.called(alloc, way, call)?;
+                let (absolute, is_made) = absolute.called(alloc, method, call)?;
                 Some((Signed { sign, absolute }, is_made))
             }
         }
@@ -153,17 +156,20 @@ impl<D: DigitStore> Edited for Signed<UnsignedOver<D>> {
 }
 
 /// The ways to make a call that does not round.
-const EDITS: &[Way] = &[Way::ByIncrement, Way::ByIncrementOnValue];
+const EDITS: &[RoundingMethod] = &[
+    RoundingMethod::ByIncrement,
+    RoundingMethod::ByIncrementOnValue,
+];
 
 /// Returns the ways to make calls: if each rounding is to multiples of 1, all those of a rounding.
-fn ways_of(words: &str) -> &'static [Way] {
+fn methods_of(words: &str) -> &'static [RoundingMethod] {
     let mut found = EDITS;
     for word in words.split(',') {
         if let Some((Call::Round(_, _, increment), _)) = step(word) {
             if increment != MultiplesOf1 {
-                return ways(increment);
+                return rounding_methods(increment);
             }
-            found = ways(increment);
+            found = rounding_methods(increment);
         }
     }
     found
@@ -173,11 +179,11 @@ fn ways_of(words: &str) -> &'static [Way] {
 fn stepped<T: Edited>(
     alloc: Global,
     value: T,
-    way: Way,
+    method: RoundingMethod,
     (word, all_rejected): (&str, bool),
 ) -> Option<T> {
     let (call, is_rejected) = step(word)?;
-    match value.called(alloc, way, call) {
+    match value.called(alloc, method, call) {
         Some((next, is_made)) if is_made != (is_rejected || all_rejected) => Some(next),
         _ => None,
     }
@@ -187,12 +193,12 @@ fn stepped<T: Edited>(
 fn left<T: Edited>(
     alloc: Global,
     value: T,
-    way: Way,
+    method: RoundingMethod,
     (words, all_rejected): (&str, bool),
 ) -> Option<T> {
     let mut value = value;
     for word in words.split(',') {
-        value = stepped(alloc, value, way, (word, all_rejected))?;
+        value = stepped(alloc, value, method, (word, all_rejected))?;
     }
     Some(value)
 }
@@ -204,11 +210,11 @@ fn leaves<T: Value + Edited>(alloc: Global, start: &str, words: &str, wanted: &s
     };
     let all_rejected = wanted == "!";
     let wanted = if all_rejected { start } else { wanted };
-    for way in ways_of(words) {
+    for method in methods_of(words) {
         let Ok(copy) = value.copy() else {
             return false;
         };
-        match left(alloc, copy, *way, (words, all_rejected)) {
+        match left(alloc, copy, *method, (words, all_rejected)) {
             Some(left) if has_text(&left, wanted) => {}
             _ => return false,
         }
@@ -223,16 +229,16 @@ fn is_within<S: CountingStore>(store: &S, call: Call<'_>, length: usize, is_made
         Call::Round(_, _, increment) => {
             let left = if is_made { store.len() } else { 0 };
             let requests = if increment == MultiplesOf25 { 1 } else { 0 };
-            match store.touched() {
-                Some(touched) => {
-                    touched.saturating_add(left) <= length.saturating_add(7)
-                        && store.requests() <= requests
+            match store.accessed() {
+                Some(accessed) => {
+                    accessed.saturating_add(left) <= length.saturating_add(7)
+                        && store.allocations() <= requests
                 }
                 None => false,
             }
         }
         Call::Concatenate(_) => true,
-        _ => store.asked_nothing(),
+        _ => store.has_not_allocated(),
     }
 }
 
@@ -241,13 +247,13 @@ fn stays_within<T: Value + Edited + Counts>(alloc: Global, start: &str, words: &
     let (Some((call, _)), Ok(value)) = (step(words), T::read(alloc, start)) else {
         return words.contains(',');
     };
-    for way in ways_of(words) {
+    for method in methods_of(words) {
         let Ok(copy) = value.copy() else {
             return false;
         };
         let length = copy.counted().len();
         copy.counted().restart();
-        match copy.called(alloc, *way, call) {
+        match copy.called(alloc, *method, call) {
             Some((left, is_made)) if is_within(left.counted(), call, length, is_made) => {}
             _ => return false,
         }
@@ -318,5 +324,5 @@ pub fn holds(alloc: Global, start: &str, words: &str, wanted: &str) -> bool {
     let is_rejected = words.contains('!') || wanted == "!";
     holds_signed(alloc, start, words, wanted)
         && (needs_sign(start, words) || holds_unsigned(alloc, start, words, wanted))
-        && (is_rejected || runs::comes_to(alloc, start, words, wanted))
+        && (is_rejected || runs::has_outcome(alloc, start, words, wanted))
 }

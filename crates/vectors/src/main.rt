@@ -58,7 +58,7 @@ fn check_row<R: AllocGlobal + Print>(rt: &R, number: usize, row: &str, tally: &m
         return;
     }
     tally.fail = tally.fail.saturating_add(1);
-    let _ = match rows::came_to(rt.alloc(), row) {
+    let _ = match rows::actual_outcome(rt.alloc(), row) {
         Some(found) => println!(rt; "line {number}: {row}: came to {found}"),
         None => println!(rt; "line {number}: {row}"),
     };

@@ -1,7 +1,6 @@
 //! The parser of each kind of value, and the parts of the values.
 use crate::calls::{SIGNS, named};
 use crate::rows::Kind;
-use decimal_doubles::{Value, displays, has_text, reading_word};
 use decimal_unsigned::decimal::lowest_of;
 use fixed_decimal::{
     CompactDecimal, Decimal, DigitList, DigitStore, FixedInteger, LimitError, PackedDigits,
@@ -10,6 +9,7 @@ use fixed_decimal::{
 use std::alloc::Global;
 use std::convert::TryFrom;
 use std::fmt::Display;
+use test_support::{Value, displays, has_text, parse_outcome};
 
 /// Whether a value has a text, also for `{}`.
 fn is_shown<T: Value + Display>(value: &T, text: &str) -> bool {
@@ -33,7 +33,7 @@ fn reads_as<T: Value + Display>(alloc: Global, text: &str, wanted: &str) -> bool
                 && is_again(T::read_bytes(alloc, text), &value, wanted)
         }
         error => {
-            reading_word(error) == wanted && reading_word(T::read_bytes(alloc, text)) == wanted
+            parse_outcome(error) == wanted && parse_outcome(T::read_bytes(alloc, text)) == wanted
         }
     }
 }
@@ -71,7 +71,7 @@ fn reads_unsigned<D: DigitStore>(alloc: Global, text: &str, (wanted, facts): (&s
 
 /// Whether the lowest magnitude of a text is found, or fails with the word for the text.
 fn finds_lowest(text: &str, wanted: &str) -> bool {
-    match reading_word(lowest_of(text.as_bytes())) {
+    match parse_outcome(lowest_of(text.as_bytes())) {
         "read" => wanted != "syntax" && wanted != "limit",
         word => word == wanted,
     }
@@ -91,7 +91,7 @@ fn reads_signed<D: DigitStore>(alloc: Global, text: &str, (wanted, facts): (&str
 fn becomes_integer(alloc: Global, text: &str, wanted: &str) -> bool {
     let decimal = match Decimal::try_from_str(alloc, text) {
         Ok(decimal) => decimal,
-        error => return reading_word(error) == wanted,
+        error => return parse_outcome(error) == wanted,
     };
     match FixedInteger::try_from(decimal) {
         Ok(integer) => has_text(&integer, wanted) && has_text(&Decimal::from(integer), wanted),

@@ -1,8 +1,8 @@
 //! Rows by their kinds.
 use crate::calls::named;
 use crate::{comparing, digits, edited, plural, reading, runs};
-use decimal_doubles::long;
 use std::alloc::{AllocError, Global};
+use test_support::expand_runs;
 
 /// The kind of a row.
 #[derive(Clone, Copy)]
@@ -45,7 +45,7 @@ const KINDS: &[(&str, Kind)] = &[
 /// Returns the text of a field, which is in parts if it has a star.
 fn text_of(alloc: Global, field: &str) -> Result<String, AllocError> {
     if field.contains('*') {
-        long(alloc, field)
+        expand_runs(alloc, field)
     } else {
         String::from_str(alloc, field)
     }
@@ -66,7 +66,7 @@ fn split(row: &str) -> Option<Row<'_>> {
 fn holds_by_kind(alloc: Global, kind: Kind, (first, second, third): (&str, &str, &str)) -> bool {
     match kind {
         Kind::Decimal => edited::holds(alloc, first, second, third),
-        Kind::Run => runs::comes_to(alloc, first, second, third),
+        Kind::Run => runs::has_outcome(alloc, first, second, third),
         Kind::Order => comparing::are_ordered(alloc, (first, second), third),
         Kind::DecimalPair | Kind::IntegerPair | Kind::ScientificPair | Kind::CompactPair => {
             comparing::is_pair(alloc, kind, (first, second), third)
@@ -106,7 +106,7 @@ pub fn holds(alloc: Global, row: &str) -> bool {
 }
 
 /// Returns the actual result of a row's run.
-pub fn came_to(alloc: Global, row: &str) -> Option<String> {
+pub fn actual_outcome(alloc: Global, row: &str) -> Option<String> {
     let (_, first, second, _) = split(row)?;
     match (text_of(alloc, first), text_of(alloc, second)) {
         (Ok(start), Ok(calls)) => runs::outcome(alloc, start.as_str(), calls.as_str()).ok(),

@@ -1,11 +1,11 @@
 //! Whole runs.
 use crate::calls::calls;
 use crate::edited::Counting;
-use decimal_doubles::LimitedSink;
 use fixed_decimal::{
     Call, DigitList, DigitStore, PackedDigits, ParseError, RunError, Sink, TextBuf, run, run_over,
 };
 use std::alloc::{AllocError, Global};
+use test_support::LimitedSink;
 
 /// Returns the word of an error of a text.
 fn parse_word(error: &ParseError) -> &'static str {
@@ -41,7 +41,7 @@ fn is_error(alloc: Global, error: &RunError, wanted: &str) -> bool {
 }
 
 /// Whether a run over a store writes a text, or writes nothing and fails with the error of the text.
-fn comes_to_over<D: DigitStore>(
+fn has_outcome_over<D: DigitStore>(
     alloc: Global,
     start: &str,
     calls: &[Call<'_>],
@@ -55,7 +55,7 @@ fn comes_to_over<D: DigitStore>(
 }
 
 /// The same into a sink in memory.
-fn comes_to_in_memory(alloc: Global, start: &str, calls: &[Call<'_>], wanted: &str) -> bool {
+fn has_outcome_in_memory(alloc: Global, start: &str, calls: &[Call<'_>], wanted: &str) -> bool {
     let mut sink = TextBuf::new(alloc);
     match run(alloc, start.as_bytes(), calls, &mut sink) {
         Ok(()) => sink.as_bytes() == wanted.as_bytes(),
@@ -66,14 +66,14 @@ fn comes_to_in_memory(alloc: Global, start: &str, calls: &[Call<'_>], wanted: &s
 }
 
 /// The same into a sink in memory, and over each store.
-pub fn comes_to(alloc: Global, start: &str, words: &str, wanted: &str) -> bool {
+pub fn has_outcome(alloc: Global, start: &str, words: &str, wanted: &str) -> bool {
     match calls(alloc, words) {
         Some(calls) => {
             let calls = calls.as_slice();
-            comes_to_in_memory(alloc, start, calls, wanted)
-                && comes_to_over::<DigitList>(alloc, start, calls, wanted)
-                && comes_to_over::<PackedDigits>(alloc, start, calls, wanted)
-                && comes_to_over::<Counting<DigitList>>(alloc, start, calls, wanted)
+            has_outcome_in_memory(alloc, start, calls, wanted)
+                && has_outcome_over::<DigitList>(alloc, start, calls, wanted)
+                && has_outcome_over::<PackedDigits>(alloc, start, calls, wanted)
+                && has_outcome_over::<Counting<DigitList>>(alloc, start, calls, wanted)
         }
         None => false,
     }

@@ -1,5 +1,5 @@
 //! The arguments of the process: the words after the name of the program, or the error of reading them.
-use super::{assert_shows, told, words};
+use super::{assert_shows, transcript, words};
 use cli::fixdec::run_arguments;
 use std::alloc::Global;
 use std::env::Args;
@@ -24,7 +24,7 @@ const LINES: &[(&str, &str)] = &[
 ];
 
 /// Runs the program on arguments, or on the error of reading them.
-fn answered(alloc: Global, arguments: io::Result<Args>) -> Result<Vec<u8>, Fail> {
+fn output_of(alloc: Global, arguments: io::Result<Args>) -> Result<Vec<u8>, Fail> {
     let mut err = Vec::<u8>::with_capacity(alloc, 64)?;
     let out = Vec::<u8>::with_capacity(alloc, 64)?;
     let (status, out) = run_arguments(alloc, arguments, out, &mut err);
@@ -32,20 +32,20 @@ fn answered(alloc: Global, arguments: io::Result<Args>) -> Result<Vec<u8>, Fail>
         Some(closed) => closed.into_writer(),
         None => Vec::new(alloc),
     };
-    told(out, err.as_slice(), status)
+    transcript(out, err.as_slice(), status)
 }
 
 /// Runs the program on words, and once more if it is out of memory.
 pub fn shown(alloc: Global, words: &Vec<String>) -> Result<Vec<u8>, Fail> {
-    let answer = answered(alloc, Ok(words.clone()?.into_iter()))?;
+    let answer = output_of(alloc, Ok(words.clone()?.into_iter()))?;
     if answer.as_slice() == b"3 memory\n".as_slice() {
-        return answered(alloc, Ok(words.clone()?.into_iter()));
+        return output_of(alloc, Ok(words.clone()?.into_iter()));
     }
     Ok(answer)
 }
 
 #[test]
-fn takes_the_words_behind_the_name(rt: HostRuntime) -> Result<(), Fail> {
+fn takes_the_words_after_the_name(rt: HostRuntime) -> Result<(), Fail> {
     let alloc = rt.alloc();
     for (line, answer) in LINES {
         let words = words(alloc, line)?;
@@ -55,10 +55,10 @@ fn takes_the_words_behind_the_name(rt: HostRuntime) -> Result<(), Fail> {
 }
 
 #[test]
-fn tells_why_there_are_no_words(rt: HostRuntime) -> Result<(), Fail> {
+fn reports_unreadable_arguments(rt: HostRuntime) -> Result<(), Fail> {
     let refused = Err(io::Error::from(ErrorKind::OutOfMemory));
-    assert_shows(&rt, answered(rt.alloc(), refused)?, "3 memory\n");
+    assert_shows(&rt, output_of(rt.alloc(), refused)?, "3 memory\n");
     let not_text = Err(io::Error::from(ErrorKind::InvalidData));
-    assert_shows(&rt, answered(rt.alloc(), not_text)?, USAGE);
+    assert_shows(&rt, output_of(rt.alloc(), not_text)?, USAGE);
     Ok(())
 }

@@ -1,10 +1,10 @@
 //! Outputs that fail after a number of bytes, and runs that are out of memory once.
 use super::words;
 use cli::fixdec::program;
-use decimal_doubles::{FailingWriter, WriteFailure};
 use fixed_decimal::Out;
 use std::alloc::Global;
 use std::test::Fail;
+use test_support::{FailingWriter, WriteFailure};
 
 /// A line, what standard output takes, what standard error takes, and the status.
 type Row = (
@@ -31,7 +31,7 @@ const ROWS: &[Row] = &[
 ];
 
 /// How writers fail without room.
-const REFUSALS: &[WriteFailure] = &[WriteFailure::Zero, WriteFailure::Fault];
+const REFUSALS: &[WriteFailure] = &[WriteFailure::Zero, WriteFailure::StorageFull];
 
 /// Lines that allocate: for their calls, the start, an operand, a concatenation and a rounding.
 const LONG_LINES: &[(&str, &str)] = &[
@@ -46,25 +46,27 @@ const LONG_LINES: &[(&str, &str)] = &[
 ];
 
 /// Whether a line returns a status, and each output took as much as it has room for.
-fn answers(
+fn returns_status(
     alloc: Global,
     words: &[String],
-    refusal: WriteFailure,
-    (_, (out_text, room), (err_text, err_room), status): Row,
+    write_failure: WriteFailure,
+    (_, (out_text, capacity), (err_text, err_capacity), status): Row,
 ) -> bool {
-    let mut out = Out::new(FailingWriter::new(out_text.as_bytes(), room, refusal));
-    let mut err = FailingWriter::new(err_text.as_bytes(), err_room, refusal);
+    let mut out = Out::new(FailingWriter::new(out_text.as_bytes(), capacity, write_failure));
+    let mut err = FailingWriter::new(err_text.as_bytes(), err_capacity, write_failure);
     let answer = program(alloc, words, &mut out, &mut err);
     let out = out.into_writer();
-    answer == status && out.has_taken(room) && err.has_taken(err_room.min(err_text.len()))
+    answer == status && out.has_taken(capacity) && err.has_taken(err_capacity.min(err_text.len()))
 }
 
 /// Whether a row holds with each failure. Tries once more, since the first run may be out of memory.
 fn holds(alloc: Global, row: Row) -> Result<bool, Fail> {
     let words = words(alloc, row.0)?;
-    for refusal in REFUSALS {
+    for write_failure in REFUSALS {
         let words = words.as_slice();
-        if !answers(alloc, words, *refusal, row) && !answers(alloc, words, *refusal, row) {
+        if !returns_status(alloc, words, *write_failure, row)
+            && !returns_status(alloc, words, *write_failure, row)
+        {
             return Ok(false);
         }
     }
@@ -72,12 +74,12 @@ fn holds(alloc: Global, row: Row) -> Result<bool, Fail> {
 }
 
 #[test]
-fn answers_with_full_outputs(rt: HostRuntime) -> Result<(), Fail> {
+fn returns_status_with_full_outputs(rt: HostRuntime) -> Result<(), Fail> {
     for row in ROWS {
         assert!(rt; holds(rt.alloc(), *row)?, "{}", row.0);
     }
-    for room in 0..5 {
-        let row = ("250 shift:-2", ("2.50\n", room), ("output\n", 7), 3);
+    for capacity in 0..5 {
+        let row = ("250 shift:-2", ("2.50\n", capacity), ("output\n", 7), 3);
         assert!(rt; holds(rt.alloc(), row)?, "{room}");
     }
     Ok(())
@@ -85,8 +87,12 @@ fn answers_with_full_outputs(rt: HostRuntime) -> Result<(), Fail> {
 
 /// Returns the status of words whose outputs have room, if these took the text, or the line of out of memory alone.
 fn status_of(alloc: Global, words: &[String], text: &str) -> Option<u8> {
-    let mut out = Out::new(FailingWriter::new(text.as_bytes(), usize::MAX, WriteFailure::Fault));
-    let mut err = FailingWriter::new(b"memory\n", usize::MAX, WriteFailure::Fault);
+    let mut out = Out::new(FailingWriter::new(
+        text.as_bytes(),
+        usize::MAX,
+        WriteFailure::StorageFull,
+    ));
+    let mut err = FailingWriter::new(b"memory\n", usize::MAX, WriteFailure::StorageFull);
     let status = program(alloc, words, &mut out, &mut err);
     let out = out.into_writer();
     match status {
@@ -106,7 +112,7 @@ fn prints(alloc: Global, line: &str, text: &str) -> Result<bool, Fail> {
 }
 
 #[test]
-fn tells_want_of_memory(rt: HostRuntime) -> Result<(), Fail> {
+fn reports_out_of_memory(rt: HostRuntime) -> Result<(), Fail> {
     for (line, text) in LONG_LINES {
         assert!(rt; prints(rt.alloc(), line, text)?, "{line}");
     }

@@ -1,5 +1,5 @@
 //! Lines that print a text.
-use super::{answer_of, assert_shows, shown, words};
+use super::{assert_shows, output_with_retry, shown, words};
 use std::alloc::Global;
 use std::test::Fail;
 
@@ -140,7 +140,7 @@ fn rounds(rt: HostRuntime) -> Result<(), Fail> {
 }
 
 #[test]
-fn tells_modes_apart(rt: HostRuntime) -> Result<(), Fail> {
+fn distinguishes_modes(rt: HostRuntime) -> Result<(), Fail> {
     let alloc = rt.alloc();
     for (line, text) in MODES {
         assert_shows(&rt, shown(alloc, line)?, text);
@@ -149,7 +149,7 @@ fn tells_modes_apart(rt: HostRuntime) -> Result<(), Fail> {
 }
 
 #[test]
-fn tells_signs_apart(rt: HostRuntime) -> Result<(), Fail> {
+fn distinguishes_signs(rt: HostRuntime) -> Result<(), Fail> {
     let alloc = rt.alloc();
     for (line, text) in SIGNS {
         assert_shows(&rt, shown(alloc, line)?, text);
@@ -184,9 +184,9 @@ fn rounds_to_one_digit_more(rt: HostRuntime) -> Result<(), Fail> {
 }
 
 /// Returns the number of zeros that a line prints after a prefix, if nothing follows them.
-fn zeros_behind(alloc: Global, line: &str, front: &str) -> Result<Option<usize>, Fail> {
+fn trailing_zeros(alloc: Global, line: &str, front: &str) -> Result<Option<usize>, Fail> {
     let words = words(alloc, line)?;
-    let text = answer_of(alloc, words.as_slice(), 40_000)?;
+    let text = output_with_retry(alloc, words.as_slice(), 40_000)?;
     Ok(
         text.strip_prefix(front.as_bytes())
             .filter(|zeros| zeros.iter().all(|byte| *byte == b'0'))
@@ -198,7 +198,7 @@ fn zeros_behind(alloc: Global, line: &str, front: &str) -> Result<Option<usize>,
 fn prints_many_zeros(rt: HostRuntime) -> Result<(), Fail> {
     let alloc = rt.alloc();
     for (line, front, zeros) in ZEROS {
-        assert_eq!(rt; zeros_behind(alloc, line, front)?, Some(*zeros));
+        assert_eq!(rt; trailing_zeros(alloc, line, front)?, Some(*zeros));
     }
     Ok(())
 }

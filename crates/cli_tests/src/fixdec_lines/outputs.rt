@@ -3,9 +3,9 @@ use super::pattern::{Pattern, PatternReader};
 use super::words;
 use cli::ErrorLines;
 use cli::fixdec_lines::run_arguments;
-use decimal_doubles::{FailingWriter, WriteFailure};
 use std::alloc::Global;
 use std::test::Fail;
+use test_support::{FailingWriter, WriteFailure};
 
 /// Words, an input, the text and the room of standard output, the same of standard error, and the status.
 type Row = (
@@ -85,24 +85,24 @@ const ROWS: &[Row] = &[
 ];
 
 /// Whether a row holds, and each output took as much as it has room for.
-fn holds(alloc: Global, row: Row, refusal: WriteFailure) -> Result<bool, Fail> {
+fn holds(alloc: Global, row: Row, write_failure: WriteFailure) -> Result<bool, Fail> {
     let arguments = words(alloc, row.0)?.into_iter();
-    let (text, room) = row.2;
-    let (told, err_room) = row.3;
+    let (text, capacity) = row.2;
+    let (transcript, err_capacity) = row.3;
     let mut input = PatternReader::new(Pattern::of(row.1), 100);
-    let out = FailingWriter::new(text, room, refusal);
-    let mut err = FailingWriter::new(told, err_room, refusal);
+    let out = FailingWriter::new(text, capacity, write_failure);
+    let mut err = FailingWriter::new(transcript, err_capacity, write_failure);
     let mut lines = ErrorLines::new(&mut err);
     let (status, out) = run_arguments(alloc, Ok(arguments), &mut input, out, &mut lines);
-    let has_taken = out.is_some_and(|closed| closed.into_writer().has_taken(room));
-    Ok(status == row.4 && has_taken && err.has_taken(err_room))
+    let has_taken = out.is_some_and(|closed| closed.into_writer().has_taken(capacity));
+    Ok(status == row.4 && has_taken && err.has_taken(err_capacity))
 }
 
 #[test]
-fn answers_with_full_outputs(rt: HostRuntime) -> Result<(), Fail> {
-    for refusal in [WriteFailure::Zero, WriteFailure::Fault] {
+fn returns_status_with_full_outputs(rt: HostRuntime) -> Result<(), Fail> {
+    for write_failure in [WriteFailure::Zero, WriteFailure::StorageFull] {
         for row in ROWS {
-            assert!(rt; holds(rt.alloc(), *row, refusal)?, "{}", row.0);
+            assert!(rt; holds(rt.alloc(), *row, write_failure)?, "{}", row.0);
         }
     }
     Ok(())

@@ -1,13 +1,13 @@
 //! A list of digits whose reads and writes are counted.
 ghost use Rattle.std.specs.Prelude.{◌≡◌, ℕ, ◌+◌, ◌-◌, ◌<◌, ◌≤◌, ◌≢◌, min, [], ◌∷◌, ◌++◌, length, take, slice_index, slice_set, IsOk, OnOk};
-ghost use Rattle.decimal_digits.specs.Counted.{list_of, turns_of, IsLent, Continues};
+ghost use Rattle.decimal_digits.specs.Counted.{list_of, accesses_of, Borrows, Continues};
 
 use super::{DigitStore, Steps};
 use std::alloc::AllocError;
 
 /// A list of digits, lent together with the `Steps` that count its turns.
 ///
-/// `get`, `set` and `push_in_room` are one turn each, and `count_back` is one for each digit that it looks at. The
+/// `get`, `set` and `push_in_room` are one turn each, and `count_trailing` is one for each digit that it looks at. The
 /// other calls ask the list for no digit and hand it none, and are no turn; what the list does inside a call is not
 /// counted. The list and the count are changed in place. Contracts see the list, the turns so far, and that both are
 /// still the ones that were lent. Not in the original.
@@ -21,8 +21,8 @@ impl<'a, D: DigitStore> Counted<'a, D> {
     /// Lends a list and a count, and changes neither.
     pub fn new(list: &'a mut D, steps: &'a mut Steps) -> Self
         ensures list { list_of result ≡ list.old }
-        ensures turns { turns_of result ≡ steps.old.count }
-        ensures lent { IsLent list.entry steps.entry result }
+        ensures accesses { accesses_of result ≡ steps.old.count }
+        ensures borrows { Borrows list.entry steps.entry result }
     {
         Counted { list, steps }
     }
@@ -43,8 +43,8 @@ impl<'a, D: DigitStore> Counted<'a, D> {
         requires { index < length (D.digits (list_of self.old)) }
         ensures value { result ≡ slice_index (D.digits (list_of self.old)) index }
         ensures list { list_of self.new ≡ list_of self.old }
-        ensures turns { turns_of self.new ≡ turns_of self.old + 1 }
-        ensures lent { Continues self.old self.new }
+        ensures accesses { accesses_of self.new ≡ accesses_of self.old + 1 }
+        ensures borrows { Continues self.old self.new }
     {
         self.steps.tick();
         self.list.get(index)
@@ -54,18 +54,18 @@ impl<'a, D: DigitStore> Counted<'a, D> {
     ///
     /// Requires at least so many digits. The first other digit from the end is read too.
     #[inline]
-    pub fn count_back(&mut self, count: usize, digit: u8) -> usize
+    pub fn count_trailing(&mut self, count: usize, digit: u8) -> usize
         requires { count ≤ length (D.digits (list_of self.old)) }
         ensures within { result ≤ count }
         ensures equal { (k : ℕ) → count ≤ k + result → k < count
             → slice_index (D.digits (list_of self.old)) k ≡ digit }
-        ensures stops { result < count
+        ensures maximal { result < count
             → slice_index (D.digits (list_of self.old)) (count - result - 1) ≢ digit }
         ensures list { list_of self.new ≡ list_of self.old }
-        ensures turns { turns_of self.new ≡ turns_of self.old + min (result + 1) count }
-        ensures lent { Continues self.old self.new }
+        ensures accesses { accesses_of self.new ≡ accesses_of self.old + min (result + 1) count }
+        ensures borrows { Continues self.old self.new }
     {
-        let equal = self.list.count_back(count, digit);
+        let equal = self.list.count_trailing(count, digit);
         let read = if equal < count { equal + 1 } else { count };
         self.steps.tick_by(read);
         equal
@@ -80,8 +80,8 @@ impl<'a, D: DigitStore> Counted<'a, D> {
         requires is_digit { digit < 10 }
         ensures digits { D.digits (list_of self.new)
             ≡ slice_set (D.digits (list_of self.old)) index digit }
-        ensures turns { turns_of self.new ≡ turns_of self.old + 1 }
-        ensures lent { Continues self.old self.new }
+        ensures accesses { accesses_of self.new ≡ accesses_of self.old + 1 }
+        ensures borrows { Continues self.old self.new }
     {
         self.steps.tick();
         self.list.set(index, digit);
@@ -96,8 +96,8 @@ impl<'a, D: DigitStore> Counted<'a, D> {
         requires is_digit { digit < 10 }
         ensures digits { D.digits (list_of self.new) ≡ D.digits (list_of self.old) ++ digit ∷ [] }
         ensures room { D.room (list_of self.old) ≤ D.room (list_of self.new) + 1 }
-        ensures turns { turns_of self.new ≡ turns_of self.old + 1 }
-        ensures lent { Continues self.old self.new }
+        ensures accesses { accesses_of self.new ≡ accesses_of self.old + 1 }
+        ensures borrows { Continues self.old self.new }
     {
         self.steps.tick();
         self.list.push_in_room(digit);
@@ -110,8 +110,8 @@ impl<'a, D: DigitStore> Counted<'a, D> {
         ensures ok { OnOk result (count ≤ D.room (list_of self.new)) }
         ensures digits { D.digits (list_of self.new) ≡ D.digits (list_of self.old) }
         ensures succeeds { length (D.digits (list_of self.old)) + count ≤ D.L → IsOk result }
-        ensures turns { turns_of self.new ≡ turns_of self.old }
-        ensures lent { Continues self.old self.new }
+        ensures accesses { accesses_of self.new ≡ accesses_of self.old }
+        ensures borrows { Continues self.old self.new }
     {
         self.list.reserve(count)
     }
@@ -123,8 +123,8 @@ impl<'a, D: DigitStore> Counted<'a, D> {
     pub fn truncate(&mut self, count: usize)
         requires { count ≤ length (D.digits (list_of self.old)) }
         ensures digits { D.digits (list_of self.new) ≡ take count (D.digits (list_of self.old)) }
-        ensures turns { turns_of self.new ≡ turns_of self.old }
-        ensures lent { Continues self.old self.new }
+        ensures accesses { accesses_of self.new ≡ accesses_of self.old }
+        ensures borrows { Continues self.old self.new }
     {
         self.list.truncate(count);
     }
@@ -132,8 +132,8 @@ impl<'a, D: DigitStore> Counted<'a, D> {
     /// Drops all digits.
     pub fn clear(&mut self)
         ensures digits { D.digits (list_of self.new) ≡ [] }
-        ensures turns { turns_of self.new ≡ turns_of self.old }
-        ensures lent { Continues self.old self.new }
+        ensures accesses { accesses_of self.new ≡ accesses_of self.old }
+        ensures borrows { Continues self.old self.new }
     {
         self.list.clear();
     }

@@ -39,9 +39,9 @@ impl DigitStore for DigitList {
 
     ghost use Rattle.std.proofs.Common.{arith};
 
-    ghost enough = { Prim.omega arith };
+    ghost fits_u16 = { Prim.omega arith };
 
-    ghost roomy = { λ s. Prim.omega arith };
+    ghost room_to_L = { λ s. Prim.omega arith };
 
     ghost are_digits = { λ s. s.decimal };
 
@@ -85,13 +85,13 @@ impl DigitStore for DigitList {
     }
 
     fn push_text(&mut self, text: &[u8]) {
-        let held = self.bytes.len();
+        let old_len = self.bytes.len();
         self.bytes.extend_from_slice(text).unwrap();
-        read_letters(&mut self.bytes.as_mut_slice()[held..]);
+        digits_from_ascii(&mut self.bytes.as_mut_slice()[old_len..]);
     }
 
-    fn copy_text(&self, from: usize, places: &mut [u8]) {
-        write_letters(&self.bytes.as_slice()[from..], places);
+    fn copy_text(&self, from: usize, buffer: &mut [u8]) {
+        digits_to_ascii(&self.bytes.as_slice()[from..], buffer);
     }
 
     #[inline]
@@ -129,22 +129,22 @@ impl DigitStore for DigitList {
 }
 
 /// Turns letters into the digits that they write.
-fn read_letters(letters: &mut [u8])
-    requires { AllDigits 10 letters.old }
-    ensures { letters.new ≡ map digit_value letters.old }
+fn digits_from_ascii(ascii_text: &mut [u8])
+    requires { AllDigits 10 ascii_text.old }
+    ensures { ascii_text.new ≡ map digit_value ascii_text.old }
 {
-    for letter in letters.iter_mut() {
-        *letter -= b'0';
+    for ascii in ascii_text.iter_mut() {
+        *ascii -= b'0';
     }
 }
 
 /// Writes the first digits as letters, as many as there are places.
-fn write_letters(digits: &[u8], places: &mut [u8])
-    requires enough { length places.old ≤ length digits.now }
+fn digits_to_ascii(digits: &[u8], buffer: &mut [u8])
+    requires enough { length buffer.old ≤ length digits.now }
     requires are_digits { All (λ d. d < 10) digits.now }
-    ensures { places.new ≡ text_of (take (length places.old) digits.now) }
+    ensures { buffer.new ≡ text_of (take (length buffer.old) digits.now) }
 {
-    for (index, place) in places.iter_mut().enumerate() {
-        *place = b'0' + digits[index];
+    for (index, slot) in buffer.iter_mut().enumerate() {
+        *slot = b'0' + digits[index];
     }
 }

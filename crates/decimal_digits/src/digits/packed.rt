@@ -1,20 +1,20 @@
 //! A list of digits with two digits to a byte.
 ghost use Rattle.std.specs.Prelude.{◌≡◌, ℕ, ◌+◌, ◌-◌, ◌*◌, ◌/◌, ◌≤◌, take};
-ghost use Rattle.decimal_digits.specs.Halves.{digits_in};
-ghost use Rattle.decimal_digits.specs.Packing.{IsHeld};
+ghost use Rattle.decimal_digits.specs.Nibbles.{digits_in};
+ghost use Rattle.decimal_digits.specs.Packing.{IsPackedPrefix};
 
 mod bulk;
 mod bytes;
-mod halves;
+mod nibbles;
 
 use super::DigitStore;
-use bulk::{append_text, count_halves_back, write_text};
+use bulk::{append_text, count_trailing_nibbles, write_text};
 use bytes::{
-    append_digits, append_zeros, are_equal, copy_bytes, cut_digits, drop_many, drop_unused,
-    in_place, keep_digits, pack_digits, push_digit, reserve_digits, set_digit, word,
+    append_digits, append_zeros, are_equal, copy_bytes, cut_digits, drop_unused, inline_bcd,
+    keep_digits, pack_digits, push_digit, reserve_digits, set_digit, truncate_spilled, word,
 };
-use halves::byte_count;
-pub(super) use halves::half_at;
+use nibbles::byte_count;
+pub(super) use nibbles::nibble_at;
 use smallvec::SmallVec;
 use std::alloc::{AllocError, Global};
 
@@ -28,7 +28,7 @@ pub struct PackedDigits {
     bytes: SmallVec<u8, 8>,
     len: usize,
     ghost inline: { 8 ≤ bytes.capacity },
-    ghost held: { IsHeld bytes.items len },
+    ghost packed_prefix: { IsPackedPrefix bytes.items len },
 }
 
 // Written out, since a derived drop is proved once more in each crate above.
@@ -50,10 +50,10 @@ impl PackedDigits {
     }
 }
 
-#[tactic(auto, using(crate::specs::Packing::held))]
+#[tactic(auto, using(crate::specs::Packing::packed_prefix))]
 impl DigitStore for PackedDigits {
     ghost use Rattle.std.proofs.Common.{arith};
-    ghost use Rattle.decimal_digits.specs.Packing.{roomy, held_decimal};
+    ghost use Rattle.decimal_digits.specs.Packing.{room_to_L, packed_decimal};
 
     ghost digits = { λ s. digits_in s.bytes.items s.len };
 
@@ -63,11 +63,11 @@ impl DigitStore for PackedDigits {
 
     const L: usize = 16;
 
-    ghost enough = { Prim.omega arith };
+    ghost fits_u16 = { Prim.omega arith };
 
-    ghost roomy = { λ s. roomy s.bytes.items s.bytes.capacity s.len s.inline s.held };
+    ghost room_to_L = { λ s. room_to_L s.bytes.items s.bytes.capacity s.len s.inline s.packed_prefix };
 
-    ghost are_digits = { λ s. held_decimal s.bytes.items s.len s.held };
+    ghost are_digits = { λ s. packed_decimal s.bytes.items s.len s.packed_prefix };
 
     #[inline]
     fn empty(alloc: Global) -> Self {
@@ -86,7 +86,7 @@ impl DigitStore for PackedDigits {
     }
 
     #[inline]
-    fn from_halves(alloc: Global, number: u64, len: usize) -> Result<Self, AllocError> {
+    fn from_bcd(alloc: Global, number: u64, len: usize) -> Result<Self, AllocError> {
         // All eight bytes stay, since to cut them would take longer than all else.
         Ok(PackedDigits {
             bytes: SmallVec::from_buf(alloc, number.to_be_bytes()),
@@ -95,11 +95,11 @@ impl DigitStore for PackedDigits {
     }
 
     #[inline]
-    fn to_halves(&self) -> Option<u64> {
+    fn to_bcd(&self) -> Option<u64> {
         if self.len > 16 {
             return None;
         }
-        match in_place(&self.bytes, self.len) {
+        match inline_bcd(&self.bytes, self.len) {
             Some(number) => Some(number),
             None => Some(word(self.front())),
         }
@@ -120,7 +120,7 @@ impl DigitStore for PackedDigits {
 
     #[inline]
     fn get(&self, index: usize) -> u8 {
-        half_at(self.bytes.as_slice(), index)
+        nibble_at(self.bytes.as_slice(), index)
     }
 
     #[inline]
@@ -141,16 +141,16 @@ impl DigitStore for PackedDigits {
         self.len += text.len();
     }
 
-    fn copy_text(&self, from: usize, places: &mut [u8]) {
-        write_text(self.bytes.as_slice(), from, places);
+    fn copy_text(&self, from: usize, buffer: &mut [u8]) {
+        write_text(self.bytes.as_slice(), from, buffer);
     }
 
-    fn count_back(&self, count: usize, digit: u8) -> usize {
+    fn count_trailing(&self, count: usize, digit: u8) -> usize {
         if digit >= 16 {
             // No half is so large.
             return 0;
         }
-        count_halves_back(self.bytes.as_slice(), count, digit)
+        count_trailing_nibbles(self.bytes.as_slice(), count, digit)
     }
 
     fn reserve(&mut self, count: usize) -> Result<(), AllocError> {
@@ -170,7 +170,7 @@ impl DigitStore for PackedDigits {
     }
 
     fn clear(&mut self) {
-        drop_many(&mut self.bytes, 0);
+        truncate_spilled(&mut self.bytes, 0);
         self.len = 0;
     }
 
@@ -191,8 +191,8 @@ impl DigitStore for PackedDigits {
             return false;
         }
         match (
-            in_place(&self.bytes, self.len),
-            in_place(&other.bytes, other.len),
+            inline_bcd(&self.bytes, self.len),
+            inline_bcd(&other.bytes, other.len),
         ) {
             (Some(left), Some(right)) => left == right,
             _ => are_equal(self.front(), other.front()),

@@ -38,10 +38,10 @@ impl Steps {
     ///
     /// The loop is there for its proof: it changes nothing that is there at run time, and a compiler may leave it out.
     #[inline]
-    pub fn tick_by(&mut self, turns: usize)
-        ensures { self.new.count ≡ self.old.count + turns }
+    pub fn tick_by(&mut self, accesses: usize)
+        ensures { self.new.count ≡ self.old.count + accesses }
     {
-        for _ in 0..turns {
+        for _ in 0..accesses {
             self.tick();
         }
     }

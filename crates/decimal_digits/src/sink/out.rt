@@ -53,7 +53,7 @@ impl<W: Write> Out<W> {
     /// Remembers that the writer failed.
     fn fail(&mut self) -> Result<(), SinkFault>
         ensures failed { self.new ≡ (self.old.0, true) }
-        ensures answers { IsErr result }
+        ensures fails { IsErr result }
     {
         self.failed = true;
         Err(SinkFault)

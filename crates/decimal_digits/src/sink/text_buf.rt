@@ -6,7 +6,7 @@ use std::alloc::{AllocError, Global};
 use std::marker::Model;
 
 /// The bytes that the first growth makes room for: more than most texts have, so that these take one allocation.
-const FIRST_ROOM: usize = 64;
+const MIN_CAPACITY: usize = 64;
 
 /// A sink that keeps the bytes in memory. It fails only where its growth is refused.
 ///
@@ -45,7 +45,7 @@ impl TextBuf {
     /// Remembers that a byte was refused.
     fn fail(&mut self) -> Result<(), SinkFault>
         ensures failed { self.new ≡ (self.old.0, true) }
-        ensures answers { IsErr result }
+        ensures fails { IsErr result }
     {
         self.failed = true;
         Err(SinkFault)
@@ -53,14 +53,14 @@ impl TextBuf {
 }
 
 /// Makes room for so many more bytes. A growth makes room for at least as many as there are.
-fn make_room(bytes: &mut Vec<u8>, count: usize) -> Result<(), AllocError>
+fn reserve_amortized(bytes: &mut Vec<u8>, count: usize) -> Result<(), AllocError>
     ensures items { bytes.new.items ≡ bytes.old.items }
     ensures room { OnOk result (vec_len bytes.new + count ≤ vec_capacity bytes.new) }
 {
     if count <= bytes.capacity() - bytes.len() {
         return Ok(());
     }
-    bytes.reserve(count.max(bytes.len()).max(FIRST_ROOM))
+    bytes.reserve(count.max(bytes.len()).max(MIN_CAPACITY))
 }
 
 /// Appends a byte, or none where memory is refused.
@@ -68,7 +68,7 @@ fn push(bytes: &mut Vec<u8>, byte: u8) -> Result<(), AllocError>
     ensures ok { OnOk result (bytes.new.items ≡ bytes.old.items ++ byte ∷ []) }
     ensures err { OnErr result (bytes.new.items ≡ bytes.old.items) }
 {
-    make_room(bytes, 1)?;
+    reserve_amortized(bytes, 1)?;
     bytes.push_reserved(byte);
     Ok(())
 }
@@ -78,7 +78,7 @@ fn append(bytes: &mut Vec<u8>, more: &[u8]) -> Result<(), AllocError>
     ensures ok { OnOk result (bytes.new.items ≡ bytes.old.items ++ more.now) }
     ensures err { OnErr result (bytes.new.items ≡ bytes.old.items) }
 {
-    make_room(bytes, more.len())?;
+    reserve_amortized(bytes, more.len())?;
     bytes.extend_from_slice(more)
 }
 

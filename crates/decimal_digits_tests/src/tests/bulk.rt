@@ -1,4 +1,4 @@
-//! Slices of digits over both stores: `push_text`, `copy_text` and `count_back`.
+//! Slices of digits over both stores: `push_text`, `copy_text` and `count_trailing`.
 ghost use Rattle.std.specs.Prelude.{IsTrue};
 ghost use Rattle.std.specs.Str.Parse.{AllDigits};
 
@@ -17,8 +17,8 @@ fn first(count: usize) -> &'static [u8] {
 fn is_number(text: &[u8]) -> bool
     ensures { IsTrue result → AllDigits 10 text.now }
 {
-    for letter in text {
-        if *letter < b'0' || b'9' < *letter {
+    for ascii in text {
+        if *ascii < b'0' || b'9' < *ascii {
             return false;
         }
     }
@@ -49,11 +49,11 @@ fn copies<D: DigitStore>(
     digits: &[u8],
 ) -> Result<bool, AllocError> {
     let list: D = list_of(alloc, text)?;
-    let mut places = vec![in alloc; b'-'; digits.len()]?;
+    let mut buffer = vec![in alloc; b'-'; digits.len()]?;
     if from <= list.len() && digits.len() <= list.len() - from {
-        list.copy_text(from, places.as_mut_slice());
+        list.copy_text(from, buffer.as_mut_slice());
     }
-    Ok(places.as_slice() == digits)
+    Ok(buffer.as_slice() == digits)
 }
 
 /// The same over each store.
@@ -70,24 +70,24 @@ fn copies_over_each(
 }
 
 /// Whether `equal` digits at the end of the first `count` of a list equal a digit, with and without counted accesses.
-fn counts_back<D: DigitStore>(
+fn counts_trailing<D: DigitStore>(
     alloc: Global,
     (text, count, digit, equal): (&[u8], usize, u8, usize),
 ) -> Result<bool, AllocError> {
     let mut list: D = list_of(alloc, text)?;
-    if count > list.len() || list.count_back(count, digit) != equal {
+    if count > list.len() || list.count_trailing(count, digit) != equal {
         return Ok(false);
     }
     let mut steps = Steps::new();
-    Ok(Counted::new(&mut list, &mut steps).count_back(count, digit) == equal)
+    Ok(Counted::new(&mut list, &mut steps).count_trailing(count, digit) == equal)
 }
 
 /// The same over each store.
-fn counts_back_over_each(
+fn counts_trailing_over_each(
     alloc: Global,
     row: (&[u8], usize, u8, usize),
 ) -> Result<bool, AllocError> {
-    Ok(counts_back::<PackedDigits>(alloc, row)? && counts_back::<DigitList>(alloc, row)?)
+    Ok(counts_trailing::<PackedDigits>(alloc, row)? && counts_trailing::<DigitList>(alloc, row)?)
 }
 
 /// The lengths of lists.
@@ -153,7 +153,7 @@ fn copies_text(rt: HostRuntime) -> Result<(), Fail> {
 }
 
 /// A text, the number of its first digits, a digit, and how many at the end of these equal it.
-const RUNS: &[(&[u8], usize, u8, usize)] = &[
+const TRAILING: &[(&[u8], usize, u8, usize)] = &[
     (b"", 0, 0, 0),
     (b"9", 1, 9, 1),
     (b"9", 1, 0, 0),
@@ -180,11 +180,11 @@ const RUNS: &[(&[u8], usize, u8, usize)] = &[
 ];
 
 #[test]
-fn counts_equal_digits_back(rt: HostRuntime) -> Result<(), Fail> {
-    for row in RUNS {
+fn counts_trailing_digits(rt: HostRuntime) -> Result<(), Fail> {
+    for row in TRAILING {
         let (_, count, digit, _) = *row;
         assert!(rt;
-            counts_back_over_each(rt.alloc(), *row)?,
+            counts_trailing_over_each(rt.alloc(), *row)?,
             "{digit} in {count} digits"
         );
     }

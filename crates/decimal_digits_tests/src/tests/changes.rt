@@ -51,7 +51,7 @@ fn nibbles(text: &[u8]) -> Option<u64> {
     }
     let mut number = 0u64;
     for index in 0..16 {
-        let digit = text.get(index).map_or(0, |letter| *letter % 16);
+        let digit = text.get(index).map_or(0, |ascii| *ascii % 16);
         number = number << 4 | u64::from(digit);
     }
     Some(number)
@@ -59,11 +59,7 @@ fn nibbles(text: &[u8]) -> Option<u64> {
 
 /// Whether a list has the digits of a text and its bytes, and equals the list of these digits that was never changed.
 fn is_text<D: DigitStore>(list: &D, alloc: Global, text: &[u8]) -> Result<bool, AllocError> {
-    Ok(
-        has_digits(list, text)
-            && list.to_halves() == nibbles(text)
-            && equals_text(list, alloc, text)?,
-    )
+    Ok(has_digits(list, text) && list.to_bcd() == nibbles(text) && equals_text(list, alloc, text)?)
 }
 
 /// Whether changes of a text's list make another text's list.
@@ -103,7 +99,7 @@ const EACH: &[Row] = &[
 ];
 
 /// Two digits share a byte, and an odd number of digits leaves a nibble unused.
-const HALVES: &[Row] = &[
+const PACKED: &[Row] = &[
     ("12345", &[CutFront(1)], "2345"),
     ("12345", &[Truncate(3)], "123"),
     ("12345", &[Append(1, "7")], "1234507"),
@@ -120,7 +116,7 @@ const HALVES: &[Row] = &[
 ];
 
 /// Up to sixteen digits, which are stored in place.
-const IN_PLACE: &[Row] = &[
+const INLINE: &[Row] = &[
     ("1234567890123456", &[], "1234567890123456"),
     ("1234567890123456", &[CutFront(1)], "234567890123456"),
     ("1234567890123456", &[Truncate(15)], "123456789012345"),
@@ -142,7 +138,7 @@ const IN_PLACE: &[Row] = &[
 ];
 
 /// More digits, now or before.
-const ELSEWHERE: &[Row] = &[
+const ON_HEAP: &[Row] = &[
     ("12345678901234567", &[], "12345678901234567"),
     ("123456789012345", &[Append(1, "7")], "12345678901234507"),
     ("1234567890123456", &[Append(0, "7")], "12345678901234567"),
@@ -192,7 +188,7 @@ const ELSEWHERE: &[Row] = &[
 
 #[test]
 fn changes(rt: HostRuntime) -> Result<(), Fail> {
-    for rows in [EACH, HALVES, IN_PLACE, ELSEWHERE] {
+    for rows in [EACH, PACKED, INLINE, ON_HEAP] {
         for row in rows {
             assert!(rt;
                 leaves_over_each(rt.alloc(), *row)?,

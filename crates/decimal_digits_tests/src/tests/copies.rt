@@ -117,8 +117,8 @@ const CUTS: &[(&str, usize, &str, bool)] = &[
 #[test]
 fn equals_after_a_cut(rt: HostRuntime) -> Result<(), Fail> {
     for (text, cut, rest, is_equal) in CUTS {
-        let answers = rests_are_equal(rt.alloc(), text, *cut, rest)?;
-        assert!(rt; answers == (*is_equal, *is_equal), "{text} and {rest}");
+        let results = rests_are_equal(rt.alloc(), text, *cut, rest)?;
+        assert!(rt; results == (*is_equal, *is_equal), "{text} and {rest}");
     }
     Ok(())
 }

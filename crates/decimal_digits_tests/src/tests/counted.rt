@@ -2,11 +2,11 @@
 //! leaves.
 use super::*;
 use decimal_digits::digits::{Counted, Steps};
-use decimal_doubles::{CountingStore, LimitedStore, MaxDigits};
 use std::mem::size_of;
+use test_support::{CountingStore, LimitedStore, MaxDigits};
 
 /// A list that counts the digits that are read or written.
-type Watched = LimitedStore<DigitList, MaxDigits>;
+type CountedList = LimitedStore<DigitList, MaxDigits>;
 
 /// A call of `Counted`.
 #[derive(Clone, Copy)]
@@ -14,7 +14,7 @@ enum Call {
     New,
     Len,
     Get(usize),
-    CountBack(usize, u8),
+    CountTrailing(usize, u8),
     Set(usize, u8),
     Push(u8),
     Reserve(usize),
@@ -29,7 +29,7 @@ fn make<D: DigitStore>(counted: &mut Counted<'_, D>, call: Call) -> Result<usize
         Call::Get(index) if index < len => {
             counted.get(index);
         }
-        Call::CountBack(count, digit) if count <= len => return Ok(counted.count_back(
+        Call::CountTrailing(count, digit) if count <= len => return Ok(counted.count_trailing(
             count, digit,
         )),
         Call::Set(index, digit) if index < len && digit < 10 => counted.set(index, digit),
@@ -46,14 +46,14 @@ fn make<D: DigitStore>(counted: &mut Counted<'_, D>, call: Call) -> Result<usize
 }
 
 /// Makes a call of the list 2, 5, 9 and 9, and returns the number of digits accessed, and its result or the new length.
-fn touched<S: CountingStore>(
+fn accessed<S: CountingStore>(
     alloc: Global,
     call: Call,
 ) -> Result<(Option<usize>, usize), AllocError> {
     let mut list = S::from_digits(alloc, &[2, 5, 9, 9])?;
     list.restart();
     let answer = make(&mut Counted::new(&mut list, &mut Steps::new()), call)?;
-    Ok((list.touched(), answer))
+    Ok((list.accessed(), answer))
 }
 
 /// A call, the number of digits that it accesses, and its result or the new length.
@@ -62,12 +62,12 @@ const CALLS: &[(Call, usize, usize)] = &[
     (Call::Len, 0, 4),
     (Call::Get(0), 1, 4),
     (Call::Get(3), 1, 4),
-    (Call::CountBack(0, 9), 0, 0),
-    (Call::CountBack(1, 2), 1, 1),
-    (Call::CountBack(2, 9), 1, 0),
-    (Call::CountBack(3, 9), 2, 1),
-    (Call::CountBack(4, 9), 3, 2),
-    (Call::CountBack(4, 0), 1, 0),
+    (Call::CountTrailing(0, 9), 0, 0),
+    (Call::CountTrailing(1, 2), 1, 1),
+    (Call::CountTrailing(2, 9), 1, 0),
+    (Call::CountTrailing(3, 9), 2, 1),
+    (Call::CountTrailing(4, 9), 3, 2),
+    (Call::CountTrailing(4, 0), 1, 0),
     (Call::Set(1, 5), 1, 4),
     (Call::Set(1, 7), 1, 4),
     (Call::Push(9), 1, 5),
@@ -81,9 +81,9 @@ const CALLS: &[(Call, usize, usize)] = &[
 ];
 
 #[test]
-fn touches_what_it_counts(rt: HostRuntime) -> Result<(), Fail> {
+fn counts_accesses(rt: HostRuntime) -> Result<(), Fail> {
     for (call, digits, answer) in CALLS {
-        let holds = touched::<Watched>(rt.alloc(), *call)? == (Some(*digits), *answer);
+        let holds = accessed::<CountedList>(rt.alloc(), *call)? == (Some(*digits), *answer);
         assert!(rt; holds, "{digits} and {answer}");
     }
     Ok(())

@@ -1,27 +1,27 @@
 //! Sinks in memory and over writers, and writers that fail.
 use super::*;
 use decimal_digits::sink::{Out, Sink, SinkFault, TextBuf};
-use decimal_doubles::{FailingWriter, WriteFailure};
+use test_support::{FailingWriter, WriteFailure};
 
 /// The text that is put into sinks.
 const TEXT: &[u8] = b"-1234.50";
 
 /// A way to put a text into a sink.
 #[derive(Clone, Copy)]
-enum Way {
+enum Chunking {
     /// By a call for each byte.
     ByteByByte,
     /// By one call.
     AtOnce,
     /// By calls for pieces of a size, each followed by a call for no bytes.
-    InPieces(usize),
+    InChunks(usize),
 }
 
-const WAYS: [Way; 4] = [
-    Way::ByteByByte,
-    Way::AtOnce,
-    Way::InPieces(1),
-    Way::InPieces(3),
+const CHUNKINGS: [Chunking; 4] = [
+    Chunking::ByteByByte,
+    Chunking::AtOnce,
+    Chunking::InChunks(1),
+    Chunking::InChunks(3),
 ];
 
 /// Puts the text byte by byte, up to the first error.
@@ -33,41 +33,41 @@ fn put_each<W: Sink>(sink: &mut W) -> Result<(), SinkFault> {
 }
 
 /// Puts the text in pieces of `size` bytes, each followed by an empty one, up to the first error.
-fn put_pieces<W: Sink>(sink: &mut W, size: usize) -> Result<(), SinkFault> {
-    for piece in TEXT.chunks(size.max(1)) {
-        sink.put_bytes(piece)?;
+fn put_chunks<W: Sink>(sink: &mut W, size: usize) -> Result<(), SinkFault> {
+    for chunk in TEXT.chunks(size.max(1)) {
+        sink.put_bytes(chunk)?;
         sink.put_bytes(b"")?;
     }
     Ok(())
 }
 
 /// Puts the text, up to the first error.
-fn put_all<W: Sink>(sink: &mut W, way: Way) -> Result<(), SinkFault> {
-    match way {
-        Way::ByteByByte => put_each(sink),
-        Way::AtOnce => sink.put_bytes(TEXT),
-        Way::InPieces(size) => put_pieces(sink, size),
+fn put_all<W: Sink>(sink: &mut W, chunking: Chunking) -> Result<(), SinkFault> {
+    match chunking {
+        Chunking::ByteByByte => put_each(sink),
+        Chunking::AtOnce => sink.put_bytes(TEXT),
+        Chunking::InChunks(size) => put_chunks(sink, size),
     }
 }
 
 /// Whether a sink in memory takes the text.
-fn keeps_text(alloc: Global, way: Way) -> bool {
+fn keeps_text(alloc: Global, chunking: Chunking) -> bool {
     let mut text = TextBuf::new(alloc);
-    put_all(&mut text, way).is_ok() && !text.failed() && text.as_bytes() == TEXT
+    put_all(&mut text, chunking).is_ok() && !text.failed() && text.as_bytes() == TEXT
 }
 
 /// Whether a sink over a writer in memory takes the text.
-fn hands_text_on(alloc: Global, way: Way) -> bool {
+fn forwards_text(alloc: Global, chunking: Chunking) -> bool {
     let mut out = Out::new(Vec::<u8>::new(alloc));
-    let is_taken = put_all(&mut out, way).is_ok() && out.flush().is_ok() && !out.failed();
+    let is_taken = put_all(&mut out, chunking).is_ok() && out.flush().is_ok() && !out.failed();
     is_taken && out.into_writer().as_slice() == TEXT
 }
 
 #[test]
 fn takes_bytes(rt: HostRuntime) {
-    for way in WAYS {
-        assert!(rt; keeps_text(rt.alloc(), way));
-        assert!(rt; hands_text_on(rt.alloc(), way));
+    for chunking in CHUNKINGS {
+        assert!(rt; keeps_text(rt.alloc(), chunking));
+        assert!(rt; forwards_text(rt.alloc(), chunking));
     }
 }
 
@@ -80,9 +80,11 @@ fn refuses_all<W: Sink>(sink: &mut W) -> bool {
 }
 
 /// Whether a sink fails with its writer, which has room for `room` bytes, and does not call it again.
-fn fails_at(room: usize, way: Way, refusal: WriteFailure) -> bool {
-    let mut out = Out::new(FailingWriter::new(TEXT, room, refusal));
-    let fails = put_all(&mut out, way).is_err() && refuses_all(&mut out) && out.flush().is_err();
+fn fails_at(room: usize, chunking: Chunking, failure: WriteFailure) -> bool {
+    let mut out = Out::new(FailingWriter::new(TEXT, room, failure));
+    let fails = put_all(&mut out, chunking).is_err()
+        && refuses_all(&mut out)
+        && out.flush().is_err();
     let writer = out.into_writer();
     fails
         && writer.has_taken(room)
@@ -93,10 +95,16 @@ fn fails_at(room: usize, way: Way, refusal: WriteFailure) -> bool {
 #[test]
 fn fails_with_the_writer(rt: HostRuntime) {
     for room in 0..8 {
-        for way in WAYS {
-            assert!(rt; fails_at(room, way, WriteFailure::Zero), "{room}");
-            assert!(rt; fails_at(room, way, WriteFailure::Fault), "{room}");
-            assert!(rt; fails_at(room, way, WriteFailure::Interrupted), "{room}");
+        for chunking in CHUNKINGS {
+            assert!(rt; fails_at(room, chunking, WriteFailure::Zero), "{room}");
+            assert!(rt;
+                fails_at(room, chunking, WriteFailure::StorageFull),
+                "{room}"
+            );
+            assert!(rt;
+                fails_at(room, chunking, WriteFailure::Interrupted),
+                "{room}"
+            );
         }
     }
 }
@@ -127,27 +135,29 @@ fn flushes(rt: HostRuntime) {
 }
 
 /// Returns the number of writes of the text to a writer that takes `width` bytes a call.
-fn writes_for(width: usize, way: Way) -> Option<usize> {
-    let mut out = Out::new(FailingWriter::new(TEXT, 8, WriteFailure::Fault).with_width(width));
-    put_all(&mut out, way).ok()?;
+fn writes_for(width: usize, chunking: Chunking) -> Option<usize> {
+    let mut out = Out::new(FailingWriter::new(TEXT, 8, WriteFailure::StorageFull).with_width(
+        width,
+    ));
+    put_all(&mut out, chunking).ok()?;
     Some(out.into_writer().writes())
 }
 
 /// The number of bytes that the writer takes a call, the way to put the text, and the number of writes.
-const WRITES: &[(usize, Way, usize)] = &[
-    (8, Way::AtOnce, 1),
-    (7, Way::AtOnce, 2),
-    (3, Way::AtOnce, 3),
-    (1, Way::AtOnce, 8),
-    (8, Way::InPieces(3), 3),
-    (2, Way::InPieces(3), 5),
-    (8, Way::ByteByByte, 8),
+const WRITES: &[(usize, Chunking, usize)] = &[
+    (8, Chunking::AtOnce, 1),
+    (7, Chunking::AtOnce, 2),
+    (3, Chunking::AtOnce, 3),
+    (1, Chunking::AtOnce, 8),
+    (8, Chunking::InChunks(3), 3),
+    (2, Chunking::InChunks(3), 5),
+    (8, Chunking::ByteByByte, 8),
 ];
 
 #[test]
-fn hands_slices_on(rt: HostRuntime) {
-    for (width, way, writes) in WRITES {
-        assert!(rt; writes_for(*width, *way) == Some(*writes), "{width}");
+fn forwards_slices(rt: HostRuntime) {
+    for (width, chunking, writes) in WRITES {
+        assert!(rt; writes_for(*width, *chunking) == Some(*writes), "{width}");
     }
 }
 

@@ -16,7 +16,7 @@ fn compare_digits<D: DigitStore, E: DigitStore>(digits: &D, other: &E) -> Orderi
     requires other_stripped { IsStripped (E.digits other.now) }
     ensures { result ≡ slice_cmp nat_cmp (D.digits digits.now) (E.digits other.now) }
 {
-    if let (Some(number), Some(other_number)) = (digits.to_halves(), other.to_halves()) {
+    if let (Some(number), Some(other_number)) = (digits.to_bcd(), other.to_bcd()) {
         return number.cmp(&other_number);
     }
     for index in 0..digits.len().min(other.len()) {

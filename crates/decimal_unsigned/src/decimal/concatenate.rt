@@ -107,8 +107,8 @@ impl<D: DigitStore> UnsignedOver<D> {
 
     /// Appends the digits of a number that begins below the last digit of this one.
     fn append(&mut self, other: &Self) -> Result<(), AllocError>
-        requires first_counts { 0 < self.old.number }
-        requires second_counts { 0 < other.now.number }
+        requires first_is_nonzero { 0 < self.old.number }
+        requires second_is_nonzero { 0 < other.now.number }
         requires disjoint { first other.now.number <ℤ last self.old.number }
         ensures ok { OnOk result (self.new ≡ concatenated_end self.old other.now) }
         ensures err { OnErr result (self.new ≡ self.old) }

@@ -2,23 +2,23 @@
 ghost use Rattle.std.specs.Prelude.{◌≡◌, ◌≢◌, ◌+◌, ◌-◌, ◌<◌, ◌≤◌, ◌++◌, length, IfSome, IfOk, IfErr, Ok, Err, IsOk, IsOkAnd};
 ghost use Rattle.std.specs.Str.Parse.{AllDigits};
 ghost use Rattle.decimal_digits.specs.Number.{size};
-ghost use Rattle.decimal_unsigned.specs.Grammar.{Written, Grammar};
+ghost use Rattle.decimal_unsigned.specs.Grammar.{Literal, Grammar};
 ghost use Rattle.decimal_unsigned.specs.Reading.{value_of, read};
-ghost use Rattle.decimal_unsigned.specs.Refusal.{ParseRefuses, Answers, AnswersGrammar, IsPlain, digit_count};
-ghost use Rattle.decimal_unsigned.specs.Parts.{view, IsSaturated, IsNumbered};
-ghost use Rattle.decimal_unsigned.specs.Placing.{middle, digits_of};
+ghost use Rattle.decimal_unsigned.specs.ParseResult.{ParseFails, IsParseResult, ResultFollowsGrammar, IsPlain, digit_count};
+ghost use Rattle.decimal_unsigned.specs.Parts.{view, IsSaturated, NumberMatchesDigits};
+ghost use Rattle.decimal_unsigned.specs.ScannedDigits.{middle, digits_of};
 
+mod fast_path;
 mod parts;
 mod plan;
-mod short;
 
 use super::UnsignedOver;
 use crate::ParseError;
 use decimal_digits::digits::DigitStore;
+use fast_path::{MAX_FAST_LEN, bcd_value};
 pub use parts::numeral;
 use parts::{Parts, split};
 use plan::{Plan, planned};
-use short::{FEW, short_value};
 use std::alloc::{AllocError, Global};
 use std::marker::Model;
 
@@ -35,15 +35,15 @@ pub struct Scan<'a> {
 impl<'a> Model for Scan<'a> {
     ghost use Rattle.decimal_unsigned.specs.Unsigned.{Unsigned};
     ghost use Rattle.decimal_unsigned.specs.Parts as found;
-    ghost use Rattle.decimal_unsigned.specs.Placing.{made, IsScanned};
+    ghost use Rattle.decimal_unsigned.specs.ScannedDigits.{plan_value, IsScanned};
 
     ghost Value = { Unsigned };
 
-    ghost view = { λ s. made (found.view s.parts) s.plan.start s.plan.end
-        s.plan.place.magnitude s.plan.place.hi s.plan.place.lo };
+    ghost view = { λ s. plan_value (found.view s.parts) s.plan.start s.plan.end
+        s.plan.bounds.magnitude s.plan.bounds.hi s.plan.bounds.lo };
 
     ghost invariant = { λ s. IsScanned (found.view s.parts) s.plan.start s.plan.end
-        s.plan.place.magnitude s.plan.place.hi s.plan.place.lo };
+        s.plan.bounds.magnitude s.plan.bounds.hi s.plan.bounds.lo };
 }
 
 impl<'a> Scan<'a> {
@@ -53,7 +53,7 @@ impl<'a> Scan<'a> {
     /// [`crate::laws::reading_follows_grammar`]. Not in the original.
     pub fn new(text: &'a [u8]) -> Result<Scan<'a>, ParseError>
         ensures value { IfOk result (λ s. read text.now ≡ Ok s) }
-        ensures fault { IfErr result (λ e. ParseRefuses ⊥ e (read text.now)) }
+        ensures rejects { IfErr result (λ e. ParseFails ⊥ e (read text.now)) }
     {
         let Some(parts) = split(text) else {
             return Err(ParseError::Syntax);
@@ -71,7 +71,7 @@ impl<'a> Scan<'a> {
     pub fn lowest(&self) -> i16
         ensures { result ≡ self.now.lo }
     {
-        self.plan.place.lo
+        self.plan.bounds.lo
     }
 
     /// Makes the value that the text writes.
@@ -83,12 +83,12 @@ impl<'a> Scan<'a> {
         ensures succeeds { size self.now.number ≤ D.L → IsOk result }
     {
         let digits = digits_between(alloc, &self.parts, self.plan.start, self.plan.end)?;
-        let place = self.plan.place;
+        let bounds = self.plan.bounds;
         Ok(UnsignedOver {
             digits,
-            magnitude: place.magnitude,
-            hi: place.hi,
-            lo: place.lo,
+            magnitude: bounds.magnitude,
+            hi: bounds.hi,
+            lo: bounds.lo,
         })
     }
 }
@@ -99,7 +99,7 @@ impl<'a> Scan<'a> {
 /// Not in the original.
 pub fn lowest_of(text: &[u8]) -> Result<i16, ParseError>
     ensures value { IfOk result (λ lo. IsOkAnd (read text.now) (λ v. v.lo ≡ lo)) }
-    ensures fault { IfErr result (λ e. ParseRefuses ⊥ e (read text.now)) }
+    ensures rejects { IfErr result (λ e. ParseFails ⊥ e (read text.now)) }
 {
     Ok(Scan::new(text)?.lowest())
 }
@@ -119,9 +119,9 @@ fn digits_between<D: DigitStore>(
 {
     let mut list = D::empty(alloc);
     list.reserve(end - start)?;
-    let (front, behind) = parts.between(start, end);
-    list.push_text(front);
-    list.push_text(behind);
+    let (whole, fraction) = parts.between(start, end);
+    list.push_text(whole);
+    list.push_text(fraction);
     Ok(list)
 }
 
@@ -140,22 +140,22 @@ impl<D: DigitStore> UnsignedOver<D> {
     /// `try_from_utf8`.
     pub fn try_from_utf8(alloc: Global, text: &[u8]) -> Result<Self, ParseError>
         // Want of memory comes only where the digits are more than are held without it.
-        ensures answers { Answers (λ v. D.L < size v.number) result (read text.now) }
+        ensures parses { IsParseResult (λ v. D.L < size v.number) result (read text.now) }
         // Syntax, Limit and the value are those of the grammar.
-        ensures grammar { AnswersGrammar text.now result }
+        ensures grammar { ResultFollowsGrammar text.now result }
         // Without an exponent only the number of digits meets the limit, and few digits want no memory.
-        ensures plain { (w : Written) → Grammar text.now w → IsPlain w → result ≢ Err ParseError.Limit }
-        ensures at_most { (w : Written) → Grammar text.now w → digit_count w ≤ D.L → result ≢ Err ParseError.Memory }
+        ensures plain { (w : Literal) → Grammar text.now w → IsPlain w → result ≢ Err ParseError.Limit }
+        ensures at_most { (w : Literal) → Grammar text.now w → digit_count w ≤ D.L → result ≢ Err ParseError.Memory }
     {
         Self::read_from(alloc, text)
     }
 
     /// Reads the value that a text writes: `try_from_utf8` of its bytes. The original's `try_from_str` and `FromStr`.
     pub fn try_from_str(alloc: Global, text: &str) -> Result<Self, ParseError>
-        ensures answers { Answers (λ v. D.L < size v.number) result (read text.now) }
-        ensures grammar { AnswersGrammar text.now result }
-        ensures plain { (w : Written) → Grammar text.now w → IsPlain w → result ≢ Err ParseError.Limit }
-        ensures at_most { (w : Written) → Grammar text.now w → digit_count w ≤ D.L → result ≢ Err ParseError.Memory }
+        ensures parses { IsParseResult (λ v. D.L < size v.number) result (read text.now) }
+        ensures grammar { ResultFollowsGrammar text.now result }
+        ensures plain { (w : Literal) → Grammar text.now w → IsPlain w → result ≢ Err ParseError.Limit }
+        ensures at_most { (w : Literal) → Grammar text.now w → digit_count w ≤ D.L → result ≢ Err ParseError.Memory }
     {
         Self::try_from_utf8(alloc, text.as_bytes())
     }
@@ -171,7 +171,7 @@ impl<D: DigitStore> UnsignedOver<D> {
     pub fn from_short_text(alloc: Global, text: &[u8]) -> Option<Self>
         ensures { IfSome result (λ v. read text.now ≡ Ok v) }
     {
-        if text.len() > FEW {
+        if text.len() > MAX_FAST_LEN {
             return None;
         }
         Self::from_short_parts(alloc, &split(text)?)
@@ -181,31 +181,31 @@ impl<D: DigitStore> UnsignedOver<D> {
     #[inline(always)]
     fn from_short_parts(alloc: Global, parts: &Parts<'_>) -> Option<Self>
         requires digits { AllDigits 10 (parts.now.whole.now ++ parts.now.fraction.now) }
-        requires number { IsNumbered parts.now }
+        requires number { NumberMatchesDigits parts.now }
         ensures { IfSome result (λ v. value_of (view parts.now) ≡ Ok v) }
     {
-        let short = short_value(parts)?;
-        if short.len > D::L {
+        let bcd = bcd_value(parts)?;
+        if bcd.len > D::L {
             return None;
         }
-        let Ok(digits) = D::from_halves(alloc, short.number, short.len) else {
+        let Ok(digits) = D::from_bcd(alloc, bcd.number, bcd.len) else {
             return None;
         };
-        let place = short.place;
+        let bounds = bcd.bounds;
         Some(UnsignedOver {
             digits,
-            magnitude: place.magnitude,
-            hi: place.hi,
-            lo: place.lo,
+            magnitude: bounds.magnitude,
+            hi: bounds.hi,
+            lo: bounds.lo,
         })
     }
 
     /// The value that a text writes.
     #[inline]
     fn read_from(alloc: Global, text: &[u8]) -> Result<Self, ParseError>
-        ensures { Answers (λ v. D.L < size v.number) result (read text.now) }
+        ensures { IsParseResult (λ v. D.L < size v.number) result (read text.now) }
     {
-        if text.len() > FEW {
+        if text.len() > MAX_FAST_LEN {
             let value = Self::scan_from(alloc, text)?;
             return Ok(value);
         }
@@ -226,7 +226,7 @@ impl<D: DigitStore> UnsignedOver<D> {
     // Behind a call, so that a short text does not test whether it is one.
     #[inline(never)]
     fn scan_from(alloc: Global, text: &[u8]) -> Result<Self, ParseError>
-        ensures { Answers (λ v. D.L < size v.number) result (read text.now) }
+        ensures { IsParseResult (λ v. D.L < size v.number) result (read text.now) }
     {
         Ok(Scan::new(text)?.value(alloc)?)
     }
@@ -237,7 +237,7 @@ impl<D: DigitStore> UnsignedOver<D> {
     fn from_parts(alloc: Global, parts: Parts<'_>) -> Result<Self, ParseError>
         requires digits { AllDigits 10 (parts.whole.now ++ parts.fraction.now) }
         requires exponent { IfSome parts.exponent IsSaturated }
-        ensures { Answers (λ v. D.L < size v.number) result (value_of (view parts.entry)) }
+        ensures { IsParseResult (λ v. D.L < size v.number) result (value_of (view parts.entry)) }
     {
         let Some(plan) = planned(&parts) else {
             return Err(ParseError::Limit);

@@ -3,13 +3,13 @@ ghost use Rattle.std.specs.Prelude.{◌≡◌, ◌≢◌, ◌+◌, ◌≤◌, po
 ghost use Rattle.std.specs.Int.{int_max};
 ghost use Rattle.decimal_digits.specs.Number.{size};
 ghost use Rattle.decimal_unsigned.specs.Edits.{with_max_position};
-ghost use Rattle.decimal_unsigned.specs.Rounded.{IsRounded, rounded, AnswersInPlace, AnswersByValue, RoundsInPlace, RoundsByValue, HasRoom, HoldsOneMore};
-ghost use Rattle.decimal_unsigned.specs.EditLaws.{PartsJoin};
+ghost use Rattle.decimal_unsigned.specs.Rounded.{IsRounded, rounded, UpdatesInPlace, UpdatesByValue, RoundsInPlace, RoundsByValue, IsBelowLimit, HasCapacity};
+ghost use Rattle.decimal_unsigned.specs.ValueLaws.{SplitsAt};
 
 use super::UnsignedOver;
 use crate::error::LimitError;
 use decimal_digits::digits::{Counted, DigitStore, Steps};
-use decimal_digits::ops::lowered;
+use decimal_digits::ops::magnitude_below;
 use decimal_digits::rounding::{RoundError, RoundingIncrement, UnsignedRoundingMode, round};
 
 /// The highest magnitude that is shown after a rounding: of those shown before, the one just below the position, and
@@ -19,7 +19,7 @@ fn highest_after(hi: i16, position: i16, first: i16) -> i16
     ensures { result ≡ int_max (int_max hi (position -ℤ pos 1)) first }
 {
     if position > hi {
-        lowered(position, 1).max(first)
+        magnitude_below(position, 1).max(first)
     } else {
         hi.max(first)
     }
@@ -51,20 +51,20 @@ impl<D: DigitStore> UnsignedOver<D> {
         increment: RoundingIncrement,
         steps: &mut Steps,
     ) -> Result<(), RoundError>
-        ensures answers { RoundsInPlace D.L self.old position mode increment self.new result }
+        ensures rounds { RoundsInPlace D.L self.old position mode increment self.new result }
         ensures succeeds { increment ≢ RoundingIncrement.MultiplesOf25 → IsErrOf result RoundError.Memory → ⊥ }
         // Below the highest magnitude there is room for each multiple, but not for 25 times 10 to the 32767.
-        ensures room { HasRoom self.old position increment → IsErrOf result RoundError.Limit → ⊥ }
-        ensures fits { HasRoom self.old position increment → HoldsOneMore D.L self.old increment → IsOk result }
+        ensures no_limit { IsBelowLimit self.old position increment → IsErrOf result RoundError.Limit → ⊥ }
+        ensures fits { IsBelowLimit self.old position increment → HasCapacity D.L self.old increment → IsOk result }
 
         // The same rounding once more changes nothing, range included.
         ensures idempotent { OnOk result (rounded self.new position mode increment ≡ Some self.new) }
 
-        ensures turns { (IsErrOf result RoundError.Limit → ⊥)
+        ensures accesses { (IsErrOf result RoundError.Limit → ⊥)
             → steps.new.count + size self.new.number ≤ steps.old.count + size self.old.number + 7 }
-        ensures limit_turns { IsErrOf result RoundError.Limit
+        ensures limit_accesses { IsErrOf result RoundError.Limit
             → steps.new.count ≤ steps.old.count + size self.old.number + 7 }
-        ensures grows { steps.old.count ≤ steps.new.count }
+        ensures count_nondecreasing { steps.old.count ≤ steps.new.count }
     {
         let magnitude = self.magnitude;
         let mut counted = Counted::new(&mut self.digits, steps);
@@ -86,11 +86,11 @@ impl<D: DigitStore> UnsignedOver<D> {
         mode: UnsignedRoundingMode,
         increment: RoundingIncrement,
     ) -> Result<(), RoundError>
-        ensures answers { RoundsInPlace D.L self.old position mode increment self.new result }
+        ensures rounds { RoundsInPlace D.L self.old position mode increment self.new result }
         ensures succeeds { increment ≢ RoundingIncrement.MultiplesOf25 → IsErrOf result RoundError.Memory → ⊥ }
         // Below the highest magnitude there is room for each multiple, but not for 25 times 10 to the 32767.
-        ensures room { HasRoom self.old position increment → IsErrOf result RoundError.Limit → ⊥ }
-        ensures fits { HasRoom self.old position increment → HoldsOneMore D.L self.old increment → IsOk result }
+        ensures no_limit { IsBelowLimit self.old position increment → IsErrOf result RoundError.Limit → ⊥ }
+        ensures fits { IsBelowLimit self.old position increment → HasCapacity D.L self.old increment → IsOk result }
     {
         self.round_counted(position, mode, increment, &mut Steps::new())
     }
@@ -105,7 +105,7 @@ impl<D: DigitStore> UnsignedOver<D> {
         position: i16,
         mode: UnsignedRoundingMode,
     ) -> Result<(), LimitError>
-        ensures answers { AnswersInPlace
+        ensures rounds { UpdatesInPlace
             (IsRounded self.old position mode RoundingIncrement.MultiplesOf1)
             self.old self.new result }
         // Below the highest magnitude there is room for each multiple.
@@ -120,7 +120,7 @@ impl<D: DigitStore> UnsignedOver<D> {
     /// `1.5` at 0 becomes `2`, and so does `2.5`. Err: as for `round_with_mode`; the value then stays as it was, range
     /// included. The original's `round`, which puts 0 then.
     pub fn round(&mut self, position: i16) -> Result<(), LimitError>
-        ensures answers { AnswersInPlace
+        ensures rounds { UpdatesInPlace
             (IsRounded self.old position UnsignedRoundingMode.HalfEven RoundingIncrement.MultiplesOf1)
             self.old self.new result }
         // Below the highest magnitude there is room for each multiple.
@@ -134,7 +134,7 @@ impl<D: DigitStore> UnsignedOver<D> {
     /// `99.999` at 4 becomes `10000`. Err: as for `round_with_mode`; the value then stays as it was, range included.
     /// Law: [`crate::laws::expansions_compose`]. The original's `expand`, which puts 0 then.
     pub fn expand(&mut self, position: i16) -> Result<(), LimitError>
-        ensures answers { AnswersInPlace
+        ensures rounds { UpdatesInPlace
             (IsRounded self.old position UnsignedRoundingMode.Expand RoundingIncrement.MultiplesOf1)
             self.old self.new result }
         // Below the highest magnitude there is room for each multiple.
@@ -151,7 +151,7 @@ impl<D: DigitStore> UnsignedOver<D> {
         ensures rounds { IsRounded self.old position UnsignedRoundingMode.Trunc
             RoundingIncrement.MultiplesOf1 (Some self.new) }
         // Joined in front of what `set_max_position` leaves at the position, this part gives the number back.
-        ensures parts { PartsJoin self.old position self.new (with_max_position self.old position) }
+        ensures splits { SplitsAt self.old position self.new (with_max_position self.old position) }
     {
         self.round_with_mode(position, UnsignedRoundingMode::Trunc)
             .unwrap();
@@ -167,11 +167,11 @@ impl<D: DigitStore> UnsignedOver<D> {
         mode: UnsignedRoundingMode,
         increment: RoundingIncrement,
     ) -> Result<Self, (Self, RoundError)>
-        ensures answers { RoundsByValue D.L self position mode increment result }
+        ensures rounds { RoundsByValue D.L self position mode increment result }
         ensures succeeds { increment ≢ RoundingIncrement.MultiplesOf25
             → IfErr result (λ e. e.1 ≡ RoundError.Memory → ⊥) }
-        ensures room { HasRoom self position increment → IfErr result (λ e. e.1 ≡ RoundError.Limit → ⊥) }
-        ensures fits { HasRoom self position increment → HoldsOneMore D.L self increment → IsOk result }
+        ensures no_limit { IsBelowLimit self position increment → IfErr result (λ e. e.1 ≡ RoundError.Limit → ⊥) }
+        ensures fits { IsBelowLimit self position increment → HasCapacity D.L self increment → IsOk result }
     {
         match self.round_with_mode_and_increment(position, mode, increment) {
             Ok(()) => Ok(self),
@@ -188,7 +188,7 @@ impl<D: DigitStore> UnsignedOver<D> {
         position: i16,
         mode: UnsignedRoundingMode,
     ) -> Result<Self, Self>
-        ensures answers { AnswersByValue (IsRounded self position mode RoundingIncrement.MultiplesOf1) self result }
+        ensures rounds { UpdatesByValue (IsRounded self position mode RoundingIncrement.MultiplesOf1) self result }
         ensures fits { self.hi <ℤ pos 32767 → IsOk result }
     {
         match self.round_with_mode(position, mode) {
@@ -202,7 +202,7 @@ impl<D: DigitStore> UnsignedOver<D> {
     /// Err: the multiple is 10 to the 32768 or more; it holds the value, unchanged. The original's `rounded`, which
     /// gives 0 then.
     pub fn rounded(self, position: i16) -> Result<Self, Self>
-        ensures answers { AnswersByValue
+        ensures rounds { UpdatesByValue
             (IsRounded self position UnsignedRoundingMode.HalfEven RoundingIncrement.MultiplesOf1)
             self result }
         ensures fits { self.hi <ℤ pos 32767 → IsOk result }
@@ -215,7 +215,7 @@ impl<D: DigitStore> UnsignedOver<D> {
     /// Err: the multiple is 10 to the 32768 or more; it holds the value, unchanged. The original's `expanded`, which
     /// gives 0 then.
     pub fn expanded(self, position: i16) -> Result<Self, Self>
-        ensures answers { AnswersByValue
+        ensures rounds { UpdatesByValue
             (IsRounded self position UnsignedRoundingMode.Expand RoundingIncrement.MultiplesOf1)
             self result }
         ensures fits { self.hi <ℤ pos 32767 → IsOk result }

@@ -2,8 +2,8 @@
 ghost use Rattle.std.specs.Prelude.{◌≡◌, ◌+◌, ◌-◌, ◌-ℤ◌, ◌<◌, ◌≤◌, length, take, drop, replicate, slice_index, EachIndex, Ok, OnOk, OnErr, pos, true, false};
 ghost use Rattle.std.specs.Int.{int_gap};
 ghost use Rattle.std.specs.Io.KnownBytes.{Keeps, Appends};
-ghost use Rattle.decimal_digits.specs.Number.{place, digit};
-ghost use Rattle.decimal_digits.specs.Text.{AppendsPrefix};
+ghost use Rattle.decimal_digits.specs.Number.{offset, digit};
+ghost use Rattle.decimal_digits.specs.AppendsPrefix.{AppendsPrefix};
 ghost use Rattle.decimal_unsigned.specs.Unsigned.{IsValue};
 ghost use Rattle.decimal_unsigned.specs.Text.{text};
 ghost use Rattle.decimal_unsigned.specs.Reading.{read};
@@ -17,28 +17,28 @@ use decimal_digits::sink::{Sink, SinkFault, Writeable};
 pub(super) const BLOCK: usize = 64;
 
 /// Up to how many bytes a text is put byte by byte, which for so few is quicker than a block.
-const FEW: usize = 5;
+const MAX_SHORT: usize = 5;
 
 impl<D: DigitStore> UnsignedOver<D> {
     /// Writes the digits at so many magnitudes, from one down, without a dot: those held, among zeros.
     ///
     /// Requires zeros, and magnitudes of at least -32768.
     #[inline]
-    pub(super) fn copy_digits(&self, magnitude: i16, places: &mut [u8])
-        requires zeros { places.old ≡ replicate (length places.old) 48 }
-        requires in_limits { length places.old ≤ place magnitude + 1 }
-        ensures value { EachIndex places.new
-            (λ k. slice_index places.new k ≡ 48 + digit self.now.number (magnitude -ℤ pos k)) }
+    pub(super) fn copy_digits(&self, magnitude: i16, buffer: &mut [u8])
+        requires zeros { buffer.old ≡ replicate (length buffer.old) 48 }
+        requires in_limits { length buffer.old ≤ offset magnitude + 1 }
+        ensures value { EachIndex buffer.new
+            (λ k. slice_index buffer.new k ≡ 48 + digit self.now.number (magnitude -ℤ pos k)) }
         ensures valid { IsValue self.now }
     {
         let digits = self.digits.len();
         let from = index_of(self.magnitude, magnitude).unwrap_or(0).min(digits);
         let start = index_of(magnitude, self.magnitude)
             .unwrap_or(0)
-            .min(places.len());
-        let count = (digits - from).min(places.len() - start);
+            .min(buffer.len());
+        let count = (digits - from).min(buffer.len() - start);
         self.digits
-            .copy_text(from, &mut places[start..start + count]);
+            .copy_text(from, &mut buffer[start..start + count]);
     }
 
     /// Gives the index of the dot, which is the number of digits above it; a text without a dot ends there.
@@ -85,12 +85,12 @@ impl<D: DigitStore> UnsignedOver<D> {
     }
 
     /// Appends the text byte by byte.
-    fn write_few<W: Sink>(&self, sink: &mut W) -> Result<(), SinkFault>
+    fn write_bytewise<W: Sink>(&self, sink: &mut W) -> Result<(), SinkFault>
         ensures ok { OnOk result (Appends (W.contents sink.old) (W.contents sink.new) (text self.now)) }
         ensures err { OnErr result (AppendsPrefix (W.contents sink.old) (W.contents sink.new) (text self.now)) }
         ensures had_not_failed { OnOk result (W.has_failed sink.old ≡ false) }
         ensures failed { OnErr result (W.has_failed sink.new ≡ true) }
-        ensures stays { W.has_failed sink.old ≡ true → Keeps (W.contents sink.old) (W.contents sink.new) }
+        ensures unchanged { W.has_failed sink.old ≡ true → Keeps (W.contents sink.old) (W.contents sink.new) }
     {
         for index in 0..self.writeable_length_hint() {
             sink.put_byte(self.byte_at(index))?;
@@ -102,20 +102,20 @@ impl<D: DigitStore> UnsignedOver<D> {
     ///
     /// Requires places that hold zeros, at least one, and so many bytes from there on.
     #[inline]
-    pub(super) fn copy_text(&self, from: usize, places: &mut [u8])
-        requires zeros { places.old ≡ replicate (length places.old) 48 }
-        requires some { 0 < length places.old }
-        requires in_text { from + length places.old ≤ length (text self.now) }
-        ensures { places.new ≡ take (length places.old) (drop from (text self.now)) }
+    pub(super) fn copy_text(&self, from: usize, buffer: &mut [u8])
+        requires zeros { buffer.old ≡ replicate (length buffer.old) 48 }
+        requires some { 0 < length buffer.old }
+        requires in_text { from + length buffer.old ≤ length (text self.now) }
+        ensures { buffer.new ≡ take (length buffer.old) (drop from (text self.now)) }
     {
         let dot = self.dot();
         let magnitude = self.magnitude_at(from);
         if dot < from {
-            self.copy_digits(magnitude, places);
+            self.copy_digits(magnitude, buffer);
             return;
         }
-        let above = places.len().min(dot - from);
-        let (whole, rest) = places.split_at_mut(above);
+        let above = buffer.len().min(dot - from);
+        let (whole, rest) = buffer.split_at_mut(above);
         self.copy_digits(magnitude, whole);
         if let Some((point, fraction)) = rest.split_first_mut() {
             *point = b'.';
@@ -137,12 +137,12 @@ impl<D: DigitStore> Writeable for UnsignedOver<D> {
         ensures err { OnErr result (AppendsPrefix (W.contents sink.old) (W.contents sink.new) (text self.now)) }
         ensures had_not_failed { OnOk result (W.has_failed sink.old ≡ false) }
         ensures failed { OnErr result (W.has_failed sink.new ≡ true) }
-        ensures stays { W.has_failed sink.old ≡ true → Keeps (W.contents sink.old) (W.contents sink.new) }
+        ensures unchanged { W.has_failed sink.old ≡ true → Keeps (W.contents sink.old) (W.contents sink.new) }
         ensures reads_back { read (text self.now) ≡ Ok self.now }
     {
         let length = self.writeable_length_hint();
-        if length <= FEW {
-            return self.write_few(sink);
+        if length <= MAX_SHORT {
+            return self.write_bytewise(sink);
         }
         let mut written = 0;
         while written < length {

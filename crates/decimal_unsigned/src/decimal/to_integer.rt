@@ -1,59 +1,16 @@
 //! Integers of values.
-ghost use Rattle.std.specs.Prelude.{◌≡◌, ◌+◌, ◌*◌, ◌/◌, ◌%◌, ◌^◌, ◌<◌, ◌≤◌, length, slice_index, IfSome};
+ghost use Rattle.std.specs.Prelude.{◌≡◌, ◌+◌, ◌*◌, ◌/◌, ◌%◌, ◌^◌, ◌<◌, ◌≤◌, slice_index, IfSome};
 ghost use Rattle.std.specs.Int.{w64, to_be_bytes};
 ghost use Rattle.std.specs.Int.Digits.{number_from_digits};
-ghost use Rattle.decimal_digits.specs.Halves.{halves};
-ghost use Rattle.decimal_digits.specs.Tails.{leading};
-ghost use Rattle.decimal_unsigned.specs.ToInteger.{in_range, as_integer, integer_error_text};
+ghost use Rattle.decimal_digits.specs.Nibbles.{nibbles};
+ghost use Rattle.decimal_digits.specs.Remainders.{leading};
+ghost use Rattle.decimal_unsigned.specs.ToInteger.{in_range, as_integer};
 ghost use Rattle.decimal_unsigned.specs.Unsigned.{IsValue};
 
 use super::UnsignedOver;
+use crate::error::IntegerError;
 use decimal_digits::digits::DigitStore;
 use decimal_digits::ops::places_above;
-use std::error::Error;
-use std::fmt;
-
-/// Why a number is no integer of a type.
-///
-/// `1.5` is `NotWhole` for each type, and 300 digits are `OutOfRange` where no digit behind the dot is other than 0.
-/// Not in the original.
-#[derive(Clone, Copy, Debug, PartialEq, Eq)]
-pub enum IntegerError {
-    /// There is a digit behind the dot that is not 0.
-    NotWhole,
-    /// The number is whole, and the type does not hold it.
-    OutOfRange,
-}
-
-impl IntegerError {
-    /// The sentence that says why.
-    fn text(&self) -> &'static str
-        ensures { result.now ≡ integer_error_text self.now }
-    {
-        match self {
-            IntegerError::NotWhole => "Not a whole number",
-            IntegerError::OutOfRange => "Integer out of range",
-        }
-    }
-}
-
-impl fmt::Display for IntegerError {
-    ghost use Rattle.std.specs.Prelude.{Some};
-    ghost use Rattle.decimal_unsigned.specs.ToInteger.{integer_error_text};
-
-    ghost output = { λ e. Some (integer_error_text e) };
-
-    ghost styled_output = { λ e _. Some (integer_error_text e) };
-
-    /// Writes the sentence that says why: `Not a whole number` for `NotWhole`. It looks at no option of the format.
-    ///
-    /// Err: the formatter refused it. Not in the original.
-    fn fmt<W: fmt::Write>(&self, f: &mut fmt::Formatter<W>) -> fmt::Result {
-        f.write_str(self.text())
-    }
-}
-
-impl Error for IntegerError {}
 
 /// The digit at an index, and 0 behind the last one.
 #[inline]
@@ -79,7 +36,7 @@ fn four_digits(first: u8, second: u8) -> u64
 /// The number that sixteen digits write, one in each half of a number of 64 bits.
 #[inline]
 fn sixteen_digits(number: u64) -> u64
-    ensures { result ≡ number_from_digits 10 (halves (to_be_bytes w64 number)) }
+    ensures { result ≡ number_from_digits 10 (nibbles (to_be_bytes w64 number)) }
 {
     let [a, b, c, d, e, f, g, h] = number.to_be_bytes();
     let high = four_digits(a, b) * 10_000 + four_digits(c, d);
@@ -91,24 +48,24 @@ fn sixteen_digits(number: u64) -> u64
 ///
 /// None: no digits are asked for, or there are more than sixteen, asked for or in the list.
 #[inline]
-fn leading_few<D: DigitStore>(digits: &D, count: usize) -> Option<u64>
+fn leading_packed<D: DigitStore>(digits: &D, count: usize) -> Option<u64>
     ensures { IfSome result (λ number. number ≡ leading count (D.digits digits.now)) }
 {
     if count == 0 || count > 16 {
         return None;
     }
-    let number = digits.to_halves()?;
+    let number = digits.to_bcd()?;
     Some(sixteen_digits(number >> (4 * (16 - count))))
 }
 
 /// The number that the first digits write, with zeros behind the last one. In 64 bits there is room for 19 digits.
 #[inline]
-#[tactic(auto, using(crate::proofs::WholeNumbers::leading_next, crate::proofs::WholeNumbers::leading_short), unfolding(decimal_digits::specs::Digits::number_at))]
-fn leading_short<D: DigitStore>(digits: &D, count: usize) -> u64
+#[tactic(auto, using(crate::proofs::WholeNumbers::leading_next, crate::proofs::WholeNumbers::leading_u64), unfolding(decimal_digits::specs::Digits::number_at))]
+fn leading_u64<D: DigitStore>(digits: &D, count: usize) -> u64
     requires { count ≤ 19 }
     ensures { result ≡ leading count (D.digits digits.now) }
 {
-    if let Some(number) = leading_few(digits, count) {
+    if let Some(number) = leading_packed(digits, count) {
         return number;
     }
     let mut number = 0;
@@ -119,8 +76,8 @@ fn leading_short<D: DigitStore>(digits: &D, count: usize) -> u64
 }
 
 /// The number that the first digits write, with zeros behind the last one. In 128 bits there is room for 38 digits.
-#[tactic(auto, using(crate::proofs::WholeNumbers::leading_next, crate::proofs::WholeNumbers::leading_long), unfolding(decimal_digits::specs::Digits::number_at))]
-fn leading_long<D: DigitStore>(digits: &D, count: usize) -> u128
+#[tactic(auto, using(crate::proofs::WholeNumbers::leading_next, crate::proofs::WholeNumbers::leading_u128), unfolding(decimal_digits::specs::Digits::number_at))]
+fn leading_u128<D: DigitStore>(digits: &D, count: usize) -> u128
     requires { count ≤ 38 }
     ensures { result ≡ leading count (D.digits digits.now) }
 {
@@ -133,10 +90,10 @@ fn leading_long<D: DigitStore>(digits: &D, count: usize) -> u128
 
 /// The number that the first 39 digits write, with zeros behind the last one, where 128 bits hold it.
 #[tactic(auto, using(crate::proofs::WholeNumbers::leading_39))]
-fn leading_longest<D: DigitStore>(digits: &D) -> Result<u128, IntegerError>
+fn leading_39_digits<D: DigitStore>(digits: &D) -> Result<u128, IntegerError>
     ensures { result ≡ in_range (2 ^ 128) (leading 39 (D.digits digits.now)) }
 {
-    let Some(front) = leading_long(digits, 38).checked_mul(10) else {
+    let Some(front) = leading_u128(digits, 38).checked_mul(10) else {
         return Err(IntegerError::OutOfRange);
     };
     match front.checked_add(digit_or_zero(digits, 38) as u128) {
@@ -177,9 +134,9 @@ impl<D: DigitStore> UnsignedOver<D> {
             return Err(IntegerError::NotWhole);
         }
         match places {
-            0..=19 => Ok(leading_short(&self.digits, places) as u128),
-            20..=38 => Ok(leading_long(&self.digits, places)),
-            39 => leading_longest(&self.digits),
+            0..=19 => Ok(leading_u64(&self.digits, places) as u128),
+            20..=38 => Ok(leading_u128(&self.digits, places)),
+            39 => leading_39_digits(&self.digits),
             _ => Err(IntegerError::OutOfRange),
         }
     }

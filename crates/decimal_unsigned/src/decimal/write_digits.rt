@@ -12,13 +12,13 @@ impl<D: DigitStore> UnsignedOver<D> {
     /// Each place gets a byte from `b'0'` to `b'9'`, which is `b'0'` at each magnitude that is not shown, and none gets
     /// a dot: of `12.5` four places from 2 down get `0125`. It asks for no memory. Requires magnitudes of at least
     /// -32768. Not in the original.
-    pub fn write_digits(&self, highest: i16, places: &mut [u8])
-        requires { pos (length places.old) ≤ℤ (highest +ℤ pos 32769) }
-        ensures value { EachIndex places.new
-            (λ k. slice_index places.new k ≡ 48 + digit self.now.number (highest -ℤ pos k)) }
+    pub fn write_digits(&self, highest: i16, buffer: &mut [u8])
+        requires { pos (length buffer.old) ≤ℤ (highest +ℤ pos 32769) }
+        ensures value { EachIndex buffer.new
+            (λ k. slice_index buffer.new k ≡ 48 + digit self.now.number (highest -ℤ pos k)) }
         ensures valid { IsValue self.now }
     {
-        places.fill(b'0');
-        self.copy_digits(highest, places);
+        buffer.fill(b'0');
+        self.copy_digits(highest, buffer);
     }
 }

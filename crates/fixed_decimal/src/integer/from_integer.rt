@@ -5,7 +5,7 @@ ghost use Rattle.fixed_decimal.specs.Decimal.{integer_decimal};
 
 use super::FixedInteger;
 use crate::signed_decimal::Decimal;
-use decimal_unsigned::decimal::DIGITS_IN_PLACE;
+use decimal_unsigned::decimal::INLINE_DIGITS;
 use std::alloc::{AllocError, Global};
 
 impl FixedInteger {
@@ -47,88 +47,88 @@ impl FixedInteger {
 
     /// Makes the integer of a `u32`, without a sign: 250 prints `250`.
     ///
-    /// Err: memory for more than `DIGITS_IN_PLACE` digits was refused; the zeros at the end of the integer are not
+    /// Err: memory for more than `INLINE_DIGITS` digits was refused; the zeros at the end of the integer are not
     /// counted. In the place of the original's `From<u32>`.
     pub fn try_from_u32(alloc: Global, integer: u32) -> Result<Self, AllocError>
         ensures value { IfOk result (λ v. v ≡ integer_decimal (pos integer)) }
-        ensures succeeds { size (integer_decimal (pos integer)).absolute.number ≤ DIGITS_IN_PLACE → IsOk result }
+        ensures succeeds { size (integer_decimal (pos integer)).absolute.number ≤ INLINE_DIGITS → IsOk result }
     {
         Ok(FixedInteger(Decimal::try_from_u32(alloc, integer)?))
     }
 
     /// Makes the integer of a `u64`, without a sign: 250 prints `250`.
     ///
-    /// Err: memory for more than `DIGITS_IN_PLACE` digits was refused; the zeros at the end of the integer are not
+    /// Err: memory for more than `INLINE_DIGITS` digits was refused; the zeros at the end of the integer are not
     /// counted. In the place of the original's `From<u64>`.
     pub fn try_from_u64(alloc: Global, integer: u64) -> Result<Self, AllocError>
         ensures value { IfOk result (λ v. v ≡ integer_decimal (pos integer)) }
-        ensures succeeds { size (integer_decimal (pos integer)).absolute.number ≤ DIGITS_IN_PLACE → IsOk result }
+        ensures succeeds { size (integer_decimal (pos integer)).absolute.number ≤ INLINE_DIGITS → IsOk result }
     {
         Ok(FixedInteger(Decimal::try_from_u64(alloc, integer)?))
     }
 
     /// Makes the integer of a `u128`, without a sign: 250 prints `250`.
     ///
-    /// Err: memory for more than `DIGITS_IN_PLACE` digits was refused; the zeros at the end of the integer are not
+    /// Err: memory for more than `INLINE_DIGITS` digits was refused; the zeros at the end of the integer are not
     /// counted. In the place of the original's `From<u128>`.
     pub fn try_from_u128(alloc: Global, integer: u128) -> Result<Self, AllocError>
         ensures value { IfOk result (λ v. v ≡ integer_decimal (pos integer)) }
-        ensures succeeds { size (integer_decimal (pos integer)).absolute.number ≤ DIGITS_IN_PLACE → IsOk result }
+        ensures succeeds { size (integer_decimal (pos integer)).absolute.number ≤ INLINE_DIGITS → IsOk result }
     {
         Ok(FixedInteger(Decimal::try_from_u128(alloc, integer)?))
     }
 
     /// Makes the integer of a `usize`, without a sign: 250 prints `250`.
     ///
-    /// Err: memory for more than `DIGITS_IN_PLACE` digits was refused; the zeros at the end of the integer are not
+    /// Err: memory for more than `INLINE_DIGITS` digits was refused; the zeros at the end of the integer are not
     /// counted. In the place of the original's `From<usize>`.
     pub fn try_from_usize(alloc: Global, integer: usize) -> Result<Self, AllocError>
         ensures value { IfOk result (λ v. v ≡ integer_decimal (pos integer)) }
-        ensures succeeds { size (integer_decimal (pos integer)).absolute.number ≤ DIGITS_IN_PLACE → IsOk result }
+        ensures succeeds { size (integer_decimal (pos integer)).absolute.number ≤ INLINE_DIGITS → IsOk result }
     {
         Ok(FixedInteger(Decimal::try_from_usize(alloc, integer)?))
     }
 
     /// Makes the integer of an `i32`, with a minus where it is below 0: -250 prints `-250`.
     ///
-    /// Err: memory for more than `DIGITS_IN_PLACE` digits was refused; the zeros at the end of the integer are not
+    /// Err: memory for more than `INLINE_DIGITS` digits was refused; the zeros at the end of the integer are not
     /// counted. In the place of the original's `From<i32>`.
     pub fn try_from_i32(alloc: Global, integer: i32) -> Result<Self, AllocError>
         ensures value { IfOk result (λ v. v ≡ integer_decimal integer) }
-        ensures succeeds { size (integer_decimal integer).absolute.number ≤ DIGITS_IN_PLACE → IsOk result }
+        ensures succeeds { size (integer_decimal integer).absolute.number ≤ INLINE_DIGITS → IsOk result }
     {
         Ok(FixedInteger(Decimal::try_from_i32(alloc, integer)?))
     }
 
     /// Makes the integer of an `i64`, with a minus where it is below 0: -250 prints `-250`.
     ///
-    /// Err: memory for more than `DIGITS_IN_PLACE` digits was refused; the zeros at the end of the integer are not
+    /// Err: memory for more than `INLINE_DIGITS` digits was refused; the zeros at the end of the integer are not
     /// counted. In the place of the original's `From<i64>`.
     pub fn try_from_i64(alloc: Global, integer: i64) -> Result<Self, AllocError>
         ensures value { IfOk result (λ v. v ≡ integer_decimal integer) }
-        ensures succeeds { size (integer_decimal integer).absolute.number ≤ DIGITS_IN_PLACE → IsOk result }
+        ensures succeeds { size (integer_decimal integer).absolute.number ≤ INLINE_DIGITS → IsOk result }
     {
         Ok(FixedInteger(Decimal::try_from_i64(alloc, integer)?))
     }
 
     /// Makes the integer of an `i128`, with a minus where it is below 0: -250 prints `-250`.
     ///
-    /// Err: memory for more than `DIGITS_IN_PLACE` digits was refused; the zeros at the end of the integer are not
+    /// Err: memory for more than `INLINE_DIGITS` digits was refused; the zeros at the end of the integer are not
     /// counted. In the place of the original's `From<i128>`.
     pub fn try_from_i128(alloc: Global, integer: i128) -> Result<Self, AllocError>
         ensures value { IfOk result (λ v. v ≡ integer_decimal integer) }
-        ensures succeeds { size (integer_decimal integer).absolute.number ≤ DIGITS_IN_PLACE → IsOk result }
+        ensures succeeds { size (integer_decimal integer).absolute.number ≤ INLINE_DIGITS → IsOk result }
     {
         Ok(FixedInteger(Decimal::try_from_i128(alloc, integer)?))
     }
 
     /// Makes the integer of an `isize`, with a minus where it is below 0: -250 prints `-250`.
     ///
-    /// Err: memory for more than `DIGITS_IN_PLACE` digits was refused; the zeros at the end of the integer are not
+    /// Err: memory for more than `INLINE_DIGITS` digits was refused; the zeros at the end of the integer are not
     /// counted. In the place of the original's `From<isize>`.
     pub fn try_from_isize(alloc: Global, integer: isize) -> Result<Self, AllocError>
         ensures value { IfOk result (λ v. v ≡ integer_decimal integer) }
-        ensures succeeds { size (integer_decimal integer).absolute.number ≤ DIGITS_IN_PLACE → IsOk result }
+        ensures succeeds { size (integer_decimal integer).absolute.number ≤ INLINE_DIGITS → IsOk result }
     {
         Ok(FixedInteger(Decimal::try_from_isize(alloc, integer)?))
     }

@@ -21,7 +21,7 @@ fn positive(absolute: u128, bound: u128) -> Result<i128, IntegerError>
 
 /// The integer of at most 0 with an absolute value, where that is at most a bound.
 fn negative(absolute: u128, bound: u128) -> Result<i128, IntegerError>
-    requires some { 0 < bound }
+    requires positive { 0 < bound }
     requires in_range { bound ≤ 2 ^ 127 }
     ensures { result ≡ signed_in_range bound (neg_ℤ (pos absolute)) }
 {

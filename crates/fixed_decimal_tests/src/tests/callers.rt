@@ -8,7 +8,7 @@ use uses::cash::cash_amount;
 use uses::column::{write_column, write_normal_form};
 use uses::measurement::limit_decimals;
 use uses::price::{write_price, write_shipping_fee};
-use uses::refusal::write_or_tell;
+use uses::report::write_or_report;
 
 /// A number of cents, a rate in percent, and the price.
 const PRICES: &[(u64, u32, &[u8])] = &[
@@ -140,9 +140,9 @@ fn normal_form(alloc: Global, amount: &str) -> Result<TextBuf, Fail> {
 }
 
 /// Returns the text or the sentence of the error.
-fn told(alloc: Global, start: &[u8], calls: &[Call<'_>]) -> Result<TextBuf, Fail> {
+fn text_or_report(alloc: Global, start: &[u8], calls: &[Call<'_>]) -> Result<TextBuf, Fail> {
     let mut sink = TextBuf::new(alloc);
-    write_or_tell(alloc, start, calls, &mut sink)?;
+    write_or_report(alloc, start, calls, &mut sink)?;
     Ok(sink)
 }
 
@@ -201,10 +201,10 @@ fn writes_a_column(rt: HostRuntime) -> Result<(), Fail> {
 }
 
 #[test]
-fn tells_refusals(rt: HostRuntime) -> Result<(), Fail> {
+fn reports_errors(rt: HostRuntime) -> Result<(), Fail> {
     let alloc = rt.alloc();
     for (start, calls, text) in RUNS {
-        assert_shows(&rt, told(alloc, start, calls)?, text);
+        assert_shows(&rt, text_or_report(alloc, start, calls)?, text);
     }
     Ok(())
 }

@@ -1,16 +1,16 @@
 //! The exact number of digits that roundings access, over a store that counts.
-use super::requests::Counting;
+use super::allocations::Counting;
 use super::*;
-use decimal_doubles::{CountingStore, Counts, Rounds, Way, rounded};
 use fixed_decimal::RoundingIncrement::{
     MultiplesOf1 as By1, MultiplesOf2 as By2, MultiplesOf5 as By5, MultiplesOf25 as By25,
 };
 use fixed_decimal::SignedRoundingMode::{self, Unsigned};
 use fixed_decimal::UnsignedRoundingMode::{Expand, Trunc};
 use fixed_decimal::{RoundError, Signed};
+use test_support::{CountingStore, Counts, RoundingMethod, Rounds, rounded};
 
 /// A position, a mode and an increment.
-type Rounding = decimal_doubles::Rounding<SignedRoundingMode>;
+type Rounding = test_support::Rounding<SignedRoundingMode>;
 
 /// A number, a rounding, and the number of digits accessed: at most one below the position, the one above it (by 1) or
 /// the two (by 2, 5 and 25), those that vanish and one more, and those that are written.
@@ -57,9 +57,9 @@ fn touches<T: Value + Rounds<SignedRoundingMode> + Counts>(
 ) -> Result<bool, Fail> {
     let value = T::read(alloc, text)?;
     value.counted().restart();
-    match rounded(value, Way::ByIncrement, rounding) {
-        Ok(left) => Ok(left.counted().touched() == Some(digits)),
-        Err((left, RoundError::Limit)) => Ok(left.counted().touched() == Some(digits)),
+    match rounded(value, RoundingMethod::ByIncrement, rounding) {
+        Ok(left) => Ok(left.counted().accessed() == Some(digits)),
+        Err((left, RoundError::Limit)) => Ok(left.counted().accessed() == Some(digits)),
         Err((_, RoundError::Memory)) => Err(Fail::new("memory was refused")),
     }
 }

@@ -26,27 +26,27 @@ const RUN_ERRORS: &[(RunError, &str)] = &[
 ];
 
 /// Whether `{}` writes this text of an error, with any options.
-fn tells<E: Error>(error: &E, text: &str) -> bool {
+fn displays_as<E: Error>(error: &E, text: &str) -> bool {
     displays(error, text.as_bytes())
 }
 
 #[test]
-fn says_why(rt: HostRuntime) {
-    assert!(rt; tells(&ConcatenateError::Overlap(5), "The numbers overlap"));
-    assert!(rt; tells(&ConcatenateError::Memory(5), "Out of memory"));
-    assert!(rt; tells(&LimitError, "Magnitude or number of digits exceeded"));
-    assert!(rt; tells(&ParseError::Limit, "Magnitude or number of digits exceeded"));
-    assert!(rt; tells(&ParseError::Syntax, "Failed to parse the input string"));
-    assert!(rt; tells(&ParseError::Memory, "Out of memory"));
-    assert!(rt; tells(&IntegerError::NotWhole, "Not a whole number"));
-    assert!(rt; tells(&IntegerError::OutOfRange, "Integer out of range"));
-    assert!(rt; tells(&RoundError::Memory, "Out of memory"));
-    assert!(rt; tells(&SinkFault, "The sink refused a byte"));
+fn displays_errors(rt: HostRuntime) {
+    assert!(rt; displays_as(&ConcatenateError::Overlap(5), "The numbers overlap"));
+    assert!(rt; displays_as(&ConcatenateError::Memory(5), "Out of memory"));
+    assert!(rt; displays_as(&LimitError, "Magnitude or number of digits exceeded"));
+    assert!(rt; displays_as(&ParseError::Limit, "Magnitude or number of digits exceeded"));
+    assert!(rt; displays_as(&ParseError::Syntax, "Failed to parse the input string"));
+    assert!(rt; displays_as(&ParseError::Memory, "Out of memory"));
+    assert!(rt; displays_as(&IntegerError::NotWhole, "Not a whole number"));
+    assert!(rt; displays_as(&IntegerError::OutOfRange, "Integer out of range"));
+    assert!(rt; displays_as(&RoundError::Memory, "Out of memory"));
+    assert!(rt; displays_as(&SinkFault, "The sink refused a byte"));
 }
 
 #[test]
-fn says_why_a_run_was_refused(rt: HostRuntime) {
+fn reports_the_error_of_a_run(rt: HostRuntime) {
     for (error, text) in RUN_ERRORS {
-        assert!(rt; tells(error, text), "{text}");
+        assert!(rt; displays_as(error, text), "{text}");
     }
 }

@@ -1,14 +1,14 @@
 //! Runs over stores of limited size: each growth fails, one limit after the other, until the run returns its text.
 use super::*;
-use decimal_doubles::{
-    EightDigits, EighteenDigits, LimitedSink, LimitedStore, NineteenDigits, SeventeenDigits,
-    SixteenDigits, TwentyOneDigits,
-};
 use fixed_decimal::Call::{Concatenate, MultiplyPow10 as Shift, Round, TrimEnd};
 use fixed_decimal::RoundingIncrement::MultiplesOf25 as By25;
 use fixed_decimal::SignedRoundingMode::Unsigned;
 use fixed_decimal::UnsignedRoundingMode::{Expand, Trunc};
 use fixed_decimal::{Call, DigitList, DigitStore, PackedDigits, RunError, run_over};
+use test_support::{
+    EightDigits, EighteenDigits, LimitedSink, LimitedStore, NineteenDigits, SeventeenDigits,
+    SixteenDigits, TwentyOneDigits,
+};
 
 /// The part of a run that is out of memory.
 #[derive(Clone, Copy, PartialEq)]

@@ -1,23 +1,24 @@
 //! The limit is reported before memory is needed, by stores that are out of memory.
 use super::*;
-use decimal_doubles::{
-    CountingStore, Counts, EightDigits, LimitedStore, MaxDigits, Rounds, Way, reading_word, rounded,
-};
 use fixed_decimal::RoundError::{self, Limit, Memory};
 use fixed_decimal::RoundingIncrement::MultiplesOf25;
 use fixed_decimal::SignedRoundingMode::{self, Ceil, Unsigned};
 use fixed_decimal::UnsignedRoundingMode::{Expand, HalfEven, Trunc};
 use fixed_decimal::{DigitList, DigitStore, PackedDigits, Signed, UnsignedOver};
+use test_support::{
+    CountingStore, Counts, EightDigits, LimitedStore, MaxDigits, RoundingMethod, Rounds,
+    parse_outcome, rounded,
+};
 
 /// Whether parsing a text of too many digits fails with `Limit` with memory for eight digits.
 fn fails_for_limit<D: DigitStore>(alloc: Global, text: &str) -> bool {
     let value = UnsignedOver::<LimitedStore<D, EightDigits>>::try_from_str(alloc, text);
-    reading_word(value) == "limit"
+    parse_outcome(value) == "limit"
 }
 
 #[test]
 fn counts_digits_before_it_allocates(rt: HostRuntime) -> Result<(), Fail> {
-    let text = long(rt.alloc(), "9*32769")?;
+    let text = expand_runs(rt.alloc(), "9*32769")?;
     assert!(rt; fails_for_limit::<DigitList>(rt.alloc(), text.as_str()));
     assert!(rt; fails_for_limit::<PackedDigits>(rt.alloc(), text.as_str()));
     Ok(())
@@ -51,14 +52,14 @@ fn has_result<T: Value + Rounds<SignedRoundingMode> + Counts>(
     alloc: Global,
     (number, position, mode, wanted): Row,
 ) -> Result<bool, Fail> {
-    let text = long(alloc, number)?;
+    let text = expand_runs(alloc, number)?;
     let rounding = (position, mode, MultiplesOf25);
     let mut value = T::read(alloc, text.as_str())?;
     value.counted().bound(0);
-    if value.round_by(Way::ByIncrement, rounding) != wanted {
+    if value.round_by(RoundingMethod::ByIncrement, rounding) != wanted {
         return Ok(false);
     }
-    match rounded(value, Way::ByIncrementOnValue, rounding) {
+    match rounded(value, RoundingMethod::ByIncrementOnValue, rounding) {
         Ok(_) => Ok(wanted.is_ok()),
         Err((value, error)) => Ok(wanted == Err(error) && shows(&value, text.as_bytes())),
     }

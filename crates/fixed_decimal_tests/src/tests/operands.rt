@@ -1,12 +1,12 @@
 //! Tables of texts and operands. A helper holds one value, and returns whether its row holds.
 use decimal_digits::digits::{DigitList, DigitStore};
-use decimal_doubles::{CountingStore, LimitedStore, MaxDigits, long};
 use decimal_unsigned::decimal::{DecimalStore, UnsignedOver};
 use fixed_decimal::{CompactDecimal, Decimal};
 use plural_rules::PluralOperands;
 use std::alloc::Global;
 use std::process::Abort;
 use std::test::Fail;
+use test_support::{CountingStore, LimitedStore, MaxDigits, expand_runs};
 
 /// The operands i, v, w, f and t.
 type Expected = (Option<u64>, u32, u32, Option<u64>, Option<u64>);
@@ -155,7 +155,7 @@ fn has_operands<D: DigitStore>(
 fn operands(rt: HostRuntime) -> Result<(), Fail> {
     let alloc = rt.alloc();
     for (parts, expected) in ROWS {
-        let text = long(alloc, parts)?;
+        let text = expand_runs(alloc, parts)?;
         assert!(rt;
             has_operands::<DecimalStore>(alloc, text.as_str(), *expected)?,
             "{parts}"
@@ -239,7 +239,7 @@ fn has_remainders<D: DigitStore>(
 fn moduli(rt: HostRuntime) -> Result<(), Fail> {
     let alloc = rt.alloc();
     for (parts, modulus, expected) in REMAINDERS {
-        let text = long(alloc, parts)?;
+        let text = expand_runs(alloc, parts)?;
         assert!(rt;
             has_remainders::<DecimalStore>(alloc, text.as_str(), *modulus, *expected)?,
             "{parts} by {modulus}"
@@ -291,14 +291,14 @@ fn reads<D: DigitStore>(alloc: Global, text: &str, what: Question) -> Result<Opt
     if !ask(PluralOperands::of(&value), what) {
         return Ok(None);
     }
-    Ok(value.store().touched())
+    Ok(value.store().accessed())
 }
 
 #[test]
 fn digits_read(rt: HostRuntime) -> Result<(), Fail> {
     let alloc = rt.alloc();
     for (parts, what, digits) in READS {
-        let text = long(alloc, parts)?;
+        let text = expand_runs(alloc, parts)?;
         assert!(rt;
             reads::<DecimalStore>(alloc, text.as_str(), *what)? == Some(*digits),
             "{parts}"

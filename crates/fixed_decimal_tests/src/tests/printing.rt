@@ -1,7 +1,7 @@
 //! Values written to sinks, and to sinks and writers that fail.
 use super::*;
-use decimal_doubles::{FailingWriter, LimitedSink, WriteFailure};
 use fixed_decimal::Out;
+use test_support::{FailingWriter, LimitedSink, WriteFailure};
 
 /// Writes a value to a sink three times.
 fn printed_thrice<T: Value>(alloc: Global, text: &str) -> Result<TextBuf, Fail> {
@@ -15,7 +15,7 @@ fn printed_thrice<T: Value>(alloc: Global, text: &str) -> Result<TextBuf, Fail> 
 
 /// Whether a sink takes the longest text three times.
 fn takes_long_texts(alloc: Global) -> Result<bool, Fail> {
-    let text = long(alloc, GREATEST)?;
+    let text = expand_runs(alloc, GREATEST)?;
     let thrice = text.as_str().repeat(alloc, 3)?;
     Ok(
         printed_thrice::<UnsignedOver<PackedDigits>>(alloc, text.as_str())?.as_bytes()
@@ -33,7 +33,7 @@ fn takes_texts(rt: HostRuntime) -> Result<(), Fail> {
 const TEXT: &str = "1234.50";
 
 /// Whether a sink with room for `room` bytes takes a prefix of the text, and has failed.
-fn keeps_beginning<T: Value>(value: &T, room: usize) -> bool {
+fn keeps_prefix<T: Value>(value: &T, room: usize) -> bool {
     let mut sink = LimitedSink::new(TEXT.as_bytes(), room);
     value.write_to(&mut sink).is_err() && sink.failed() && sink.has_taken(room)
 }
@@ -45,23 +45,23 @@ fn fills<T: Value>(value: &T, room: usize, refusal: WriteFailure) -> bool {
     let second = value.write_to(&mut sink).is_err();
     let refused = first && second && sink.failed();
     let writer = sink.into_writer();
-    refused && writer.has_taken(room) && writer.refused() == 1
+    refused && writer.has_taken(room) && writer.failures() == 1
 }
 
 /// Whether each sink and each writer with room for `room` bytes takes a prefix of the text.
-fn keeps_beginnings<T: Value>(alloc: Global, room: usize) -> Result<bool, Fail> {
+fn keeps_prefixes<T: Value>(alloc: Global, room: usize) -> Result<bool, Fail> {
     let value = read::<T>(alloc, TEXT)?;
     Ok(
-        keeps_beginning(&value, room)
+        keeps_prefix(&value, room)
             && fills(&value, room, WriteFailure::Zero)
-            && fills(&value, room, WriteFailure::Fault)
+            && fills(&value, room, WriteFailure::StorageFull)
             && fills(&value, room, WriteFailure::Interrupted),
     )
 }
 
 /// The same over a store.
 fn keeps_over<D: DigitStore>(alloc: Global, room: usize) -> Result<bool, Fail> {
-    keeps_beginnings::<UnsignedOver<D>>(alloc, room)
+    keeps_prefixes::<UnsignedOver<D>>(alloc, room)
 }
 
 #[test]

@@ -70,7 +70,7 @@ fn rules(rt: HostRuntime) -> Result<(), Fail> {
 }
 
 #[test]
-fn refusals(rt: HostRuntime) -> Result<(), Fail> {
+fn rejected_texts(rt: HostRuntime) -> Result<(), Fail> {
     let alloc = rt.alloc();
     for (text, at) in SYNTAX {
         let error = PluralRules::try_from_str(alloc, *text).err();

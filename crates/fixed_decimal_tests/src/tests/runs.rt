@@ -1,7 +1,7 @@
 //! Whole runs into sinks that fail, over each store.
 use super::*;
-use decimal_doubles::{FailingWriter, LimitedSink, WriteFailure};
 use fixed_decimal::{Call, Out, RunError, run_over};
+use test_support::{FailingWriter, LimitedSink, WriteFailure};
 
 /// A start, calls, and the text of the run.
 type Run = (&'static str, &'static [Call<'static>], &'static str);
@@ -31,7 +31,7 @@ fn fails_with_writer<D: DigitStore>(
     let answer = run_over::<D, Out<FailingWriter<'_>>>(alloc, start.as_bytes(), calls, &mut sink);
     let failed = sink.failed();
     let writer = sink.into_writer();
-    answer == Err(RunError::Sink) && failed && writer.has_taken(room) && writer.refused() == 1
+    answer == Err(RunError::Sink) && failed && writer.has_taken(room) && writer.failures() == 1
 }
 
 /// Whether a run fails with each sink and each writer without room for the whole text.
@@ -39,7 +39,7 @@ fn fails_with_each<D: DigitStore>(alloc: Global, row: Run) -> bool {
     for room in 0..row.2.len() {
         let fails = fails_with_sink::<D>(alloc, row, room)
             && fails_with_writer::<D>(alloc, row, room, WriteFailure::Zero)
-            && fails_with_writer::<D>(alloc, row, room, WriteFailure::Fault)
+            && fails_with_writer::<D>(alloc, row, room, WriteFailure::StorageFull)
             && fails_with_writer::<D>(alloc, row, room, WriteFailure::Interrupted);
         if !fails {
             return false;

@@ -1,9 +1,9 @@
 //! Some of the digits of a number, as an integer.
 ghost use Rattle.std.specs.Prelude.{◌≡◌, ◌+◌, ◌%◌, ◌^◌, ◌<◌, ◌≤◌, IfSome};
-ghost use Rattle.decimal_digits.specs.Number.{place};
-ghost use Rattle.plural_rules.specs.Parts.{part, IsUpTo};
+ghost use Rattle.decimal_digits.specs.Number.{offset};
+ghost use Rattle.plural_rules.specs.DigitSlice.{digit_slice, IsUpTo};
 
-use decimal_digits::ops::lowered;
+use decimal_digits::ops::magnitude_below;
 use fixed_decimal::{DigitStore, UnsignedOver};
 use std::marker::Model;
 
@@ -19,21 +19,21 @@ pub(super) struct Digits<'a, D: DigitStore> {
 
 impl<'a, D: DigitStore> Model for Digits<'a, D> {
     ghost use Rattle.std.specs.Prelude.{ℕ, ◌+◌, ◌≤◌};
-    ghost use Rattle.decimal_digits.specs.Number.{place};
-    ghost use Rattle.plural_rules.specs.Parts.{part};
+    ghost use Rattle.decimal_digits.specs.Number.{offset};
+    ghost use Rattle.plural_rules.specs.DigitSlice.{digit_slice};
 
     ghost Value = { ℕ };
 
-    ghost view = { λ s. part s.value.now.number (place s.top + 1) s.count };
+    ghost view = { λ s. digit_slice s.value.now.number (offset s.top + 1) s.count };
 
-    ghost invariant = { λ s. s.count ≤ place s.top + 1 };
+    ghost invariant = { λ s. s.count ≤ offset s.top + 1 };
 }
 
 impl<'a, D: DigitStore> Digits<'a, D> {
     /// Makes the digits at `count` magnitudes, from `top` downward.
     pub(super) fn new(value: &'a UnsignedOver<D>, top: i16, count: u32) -> Self
-        requires { count ≤ place top + 1 }
-        ensures { result ≡ part value.now.number (place top + 1) count }
+        requires { count ≤ offset top + 1 }
+        ensures { result ≡ digit_slice value.now.number (offset top + 1) count }
     {
         Digits { value, top, count }
     }
@@ -42,29 +42,34 @@ impl<'a, D: DigitStore> Digits<'a, D> {
     pub(super) fn up_to(&self, most: u64) -> Option<u64>
         ensures { IsUpTo most result self.now }
     {
-        integer(self.value, self.top, self.count, most)
+        digits_up_to(self.value, self.top, self.count, most)
     }
 
     /// Returns the remainder of the integer by a modulus.
     pub(super) fn modulo(&self, modulus: u64) -> u64
-        requires some { 0 < modulus }
-        requires small { modulus ≤ 10 ^ 18 }
+        requires positive { 0 < modulus }
+        requires at_most { modulus ≤ 10 ^ 18 }
         ensures { result ≡ self.now % modulus }
     {
-        remainder(self.value, self.top, self.count, modulus)
+        digits_modulo(self.value, self.top, self.count, modulus)
     }
 }
 
 /// Returns the digits at `count` magnitudes, from `top` downward, as an integer; `None` if it is above `most`.
 ///
 /// Reads no digit after the one that exceeds `most`.
-fn integer<D: DigitStore>(value: &UnsignedOver<D>, top: i16, count: u32, most: u64) -> Option<u64>
-    requires in_limits { count ≤ place top + 1 }
-    ensures { IsUpTo most result (part value.now.number (place top + 1) count) }
+fn digits_up_to<D: DigitStore>(
+    value: &UnsignedOver<D>,
+    top: i16,
+    count: u32,
+    most: u64,
+) -> Option<u64>
+    requires in_limits { count ≤ offset top + 1 }
+    ensures { IsUpTo most result (digit_slice value.now.number (offset top + 1) count) }
 {
     let mut found: u64 = 0;
     for below in 0..count {
-        let magnitude = lowered(top, below);
+        let magnitude = magnitude_below(top, below);
         let digit = value.digit_at(magnitude);
         let longer = found as u128 * 10 + digit as u128;
         if longer > most as u128 {
@@ -76,7 +81,7 @@ fn integer<D: DigitStore>(value: &UnsignedOver<D>, top: i16, count: u32, most: u
 }
 
 /// Returns the exponent of a power of ten of at most 10^18, and `None` for every other number.
-fn zeros_of(power: u64) -> Option<u32>
+fn exact_log10(power: u64) -> Option<u32>
     ensures { IfSome result (λ zeros. power ≡ 10 ^ zeros) }
 {
     let mut next: u64 = 1;
@@ -92,36 +97,31 @@ fn zeros_of(power: u64) -> Option<u32>
 /// Returns the remainder by a modulus of the digits at `count` magnitudes, from `top` downward.
 ///
 /// A modulus 10^k reads the last k of them.
-fn remainder<D: DigitStore>(value: &UnsignedOver<D>, top: i16, count: u32, modulus: u64) -> u64
-    requires some { 0 < modulus }
-    requires small { modulus ≤ 10 ^ 18 }
-    requires in_limits { count ≤ place top + 1 }
-    ensures { result ≡ part value.now.number (place top + 1) count % modulus }
+fn digits_modulo<D: DigitStore>(value: &UnsignedOver<D>, top: i16, count: u32, modulus: u64) -> u64
+    requires positive { 0 < modulus }
+    requires at_most { modulus ≤ 10 ^ 18 }
+    requires in_limits { count ≤ offset top + 1 }
+    ensures { result ≡ digit_slice value.now.number (offset top + 1) count % modulus }
 {
-    match zeros_of(modulus) {
+    match exact_log10(modulus) {
         Some(0) => 0,
         Some(zeros) if zeros < count => {
-            remainder_of_all(value, lowered(top, count - zeros), zeros, modulus)
+            horner_modulo(value, magnitude_below(top, count - zeros), zeros, modulus)
         }
-        _ => remainder_of_all(value, top, count, modulus),
+        _ => horner_modulo(value, top, count, modulus),
     }
 }
 
 /// Returns the same remainder, reading every digit.
-fn remainder_of_all<D: DigitStore>(
-    value: &UnsignedOver<D>,
-    top: i16,
-    count: u32,
-    modulus: u64,
-) -> u64
-    requires some { 0 < modulus }
-    requires small { modulus ≤ 10 ^ 18 }
-    requires in_limits { count ≤ place top + 1 }
-    ensures { result ≡ part value.now.number (place top + 1) count % modulus }
+fn horner_modulo<D: DigitStore>(value: &UnsignedOver<D>, top: i16, count: u32, modulus: u64) -> u64
+    requires positive { 0 < modulus }
+    requires at_most { modulus ≤ 10 ^ 18 }
+    requires in_limits { count ≤ offset top + 1 }
+    ensures { result ≡ digit_slice value.now.number (offset top + 1) count % modulus }
 {
     let mut rest: u64 = 0;
     for below in 0..count {
-        let magnitude = lowered(top, below);
+        let magnitude = magnitude_below(top, below);
         let digit = value.digit_at(magnitude) as u64;
         rest = (rest * 10 + digit) % modulus;
     }

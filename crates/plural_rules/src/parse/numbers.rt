@@ -3,7 +3,7 @@ ghost use Rattle.std.specs.Prelude.{◌≡◌};
 ghost use Rattle.plural_rules.specs.RulesReader as reader;
 
 use crate::parse::state::Event;
-use crate::rules::GREATEST_MODULUS;
+use crate::rules::MAX_MODULUS;
 
 /// The numbers of the bytes that have been read.
 #[derive(Clone, Copy)]
@@ -15,23 +15,19 @@ pub enum Numbers {
         begin: usize,
     },
     /// The offset of the first one that is too great.
-    Great(usize),
+    TooLarge(usize),
 }
 
 /// Returns the greatest modulus, or the greatest other number.
 fn limit(is_modulus: bool) -> u64
     ensures { result ≡ reader.limit is_modulus }
 {
-    if is_modulus {
-        GREATEST_MODULUS
-    } else {
-        u64::MAX
-    }
+    if is_modulus { MAX_MODULUS } else { u64::MAX }
 }
 
-/// Returns `Fit` for a number that is at most its limit, and `Great` for any other.
-fn counted(is_modulus: bool, begin: usize, number: u128) -> Numbers
-    ensures { result ≡ reader.counted is_modulus begin number }
+/// Returns `Fit` for a number that is at most its limit, and `TooLarge` for any other.
+fn checked_number(is_modulus: bool, begin: usize, number: u128) -> Numbers
+    ensures { result ≡ reader.checked_number is_modulus begin number }
 {
     if number <= limit(is_modulus) as u128 {
         Numbers::Fit {
@@ -40,7 +36,7 @@ fn counted(is_modulus: bool, begin: usize, number: u128) -> Numbers
             begin,
         }
     } else {
-        Numbers::Great(begin)
+        Numbers::TooLarge(begin)
     }
 }
 
@@ -58,9 +54,9 @@ impl Numbers {
             return self;
         };
         match event {
-            Event::First(digit) => counted(is_modulus, at, digit as u128),
+            Event::First(digit) => checked_number(is_modulus, at, digit as u128),
             Event::Digit(digit) => {
-                counted(is_modulus, begin, number as u128 * 10 + digit as u128)
+                checked_number(is_modulus, begin, number as u128 * 10 + digit as u128)
             }
             Event::Percent => Numbers::Fit {
                 number: 0,

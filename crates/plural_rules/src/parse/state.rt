@@ -37,7 +37,7 @@ pub enum State {
     /// More digits of it, or what follows it.
     LowDigits,
     /// Two dots, or what follows a range.
-    BehindLow,
+    AfterLow,
     /// The second dot.
     Dot,
     /// The number that a range ends with.
@@ -45,7 +45,7 @@ pub enum State {
     /// More digits of it, or what follows a range.
     HighDigits,
     /// What follows a range.
-    BehindHigh,
+    AfterHigh,
     /// The last two letters of `and`.
     And,
     /// The last letter of `and`.
@@ -163,7 +163,7 @@ impl Categories {
 }
 
 /// The state after a byte and the event of the byte; `None` if no rules continue with the byte.
-type Move = Option<(State, Event)>;
+type Transition = Option<(State, Event)>;
 
 /// Whether a byte is a blank.
 fn is_blank(byte: u8) -> bool
@@ -173,7 +173,7 @@ fn is_blank(byte: u8) -> bool
 }
 
 /// Stays in the state at a blank; any other byte does `otherwise`.
-fn skip(state: State, byte: u8, otherwise: Move) -> Move
+fn skip(state: State, byte: u8, otherwise: Transition) -> Transition
     ensures { result ≡ reader.skip state byte otherwise }
 {
     if is_blank(byte) {
@@ -184,8 +184,8 @@ fn skip(state: State, byte: u8, otherwise: Move) -> Move
 }
 
 /// The first letter of a category, which must be a new one.
-fn fresh(seen: Categories, category: PluralCategory) -> Move
-    ensures { result ≡ reader.fresh seen category }
+fn new_category(seen: Categories, category: PluralCategory) -> Transition
+    ensures { result ≡ reader.new_category seen category }
 {
     if seen.has(category) {
         None
@@ -195,22 +195,22 @@ fn fresh(seen: Categories, category: PluralCategory) -> Move
 }
 
 /// The first letter of a category. Both `one` and `other` begin with `o`.
-fn category_letter(seen: Categories, byte: u8) -> Move
+fn category_letter(seen: Categories, byte: u8) -> Transition
     ensures { result ≡ reader.category_letter seen byte }
 {
     match byte {
-        b'z' => fresh(seen, PluralCategory::Zero),
+        b'z' => new_category(seen, PluralCategory::Zero),
         b'o' if seen.one && seen.other => None,
         b'o' => Some((State::One, Event::Nothing)),
-        b't' => fresh(seen, PluralCategory::Two),
-        b'f' => fresh(seen, PluralCategory::Few),
-        b'm' => fresh(seen, PluralCategory::Many),
+        b't' => new_category(seen, PluralCategory::Two),
+        b'f' => new_category(seen, PluralCategory::Few),
+        b'm' => new_category(seen, PluralCategory::Many),
         _ => None,
     }
 }
 
 /// The second letter of `one` or of `other`.
-fn second_letter(seen: Categories, byte: u8) -> Move
+fn second_letter(seen: Categories, byte: u8) -> Transition
     ensures { result ≡ reader.second_letter seen byte }
 {
     match byte {
@@ -231,7 +231,7 @@ fn condition_of(category: PluralCategory) -> State
 }
 
 /// The letter of an operand.
-fn operand(byte: u8) -> Move
+fn operand(byte: u8) -> Transition
     ensures { result ≡ reader.operand byte }
 {
     let operand = match byte {
@@ -248,7 +248,7 @@ fn operand(byte: u8) -> Move
 }
 
 /// The end of a rule: a semicolon, if a further category is left, or samples.
-fn rule_end(seen: Categories, byte: u8, event: Event) -> Move
+fn rule_end(seen: Categories, byte: u8, event: Event) -> Transition
     ensures { result ≡ reader.rule_end seen byte event }
 {
     match byte {
@@ -259,7 +259,7 @@ fn rule_end(seen: Categories, byte: u8, event: Event) -> Move
 }
 
 /// The first byte of a comparison.
-fn comparison(byte: u8) -> Move
+fn comparison(byte: u8) -> Transition
     ensures { result ≡ reader.comparison byte }
 {
     match byte {
@@ -270,7 +270,7 @@ fn comparison(byte: u8) -> Move
 }
 
 /// Reads the byte after a range and its blanks.
-fn follows_range(seen: Categories, byte: u8) -> Move
+fn follows_range(seen: Categories, byte: u8) -> Transition
     ensures { result ≡ reader.follows_range seen byte }
 {
     match byte {
@@ -282,26 +282,26 @@ fn follows_range(seen: Categories, byte: u8) -> Move
 }
 
 /// Reads the byte after the first number of a range.
-fn behind_low(seen: Categories, byte: u8) -> Move
-    ensures { result ≡ reader.behind_low seen byte }
+fn after_low(seen: Categories, byte: u8) -> Transition
+    ensures { result ≡ reader.after_low seen byte }
 {
     let dot_or_end = if byte == b'.' {
         Some((State::Dot, Event::Nothing))
     } else {
         follows_range(seen, byte)
     };
-    skip(State::BehindLow, byte, dot_or_end)
+    skip(State::AfterLow, byte, dot_or_end)
 }
 
 /// Reads the byte after the second number of a range.
-fn behind_high(seen: Categories, byte: u8) -> Move
-    ensures { result ≡ reader.behind_high seen byte }
+fn after_high(seen: Categories, byte: u8) -> Transition
+    ensures { result ≡ reader.after_high seen byte }
 {
-    skip(State::BehindHigh, byte, follows_range(seen, byte))
+    skip(State::AfterHigh, byte, follows_range(seen, byte))
 }
 
 /// Reads one byte, and rejects any other.
-fn only(wanted: u8, byte: u8, state: State, event: Event) -> Move
+fn only(wanted: u8, byte: u8, state: State, event: Event) -> Transition
     ensures { result ≡ reader.only wanted byte state event }
 {
     if byte == wanted {
@@ -312,7 +312,7 @@ fn only(wanted: u8, byte: u8, state: State, event: Event) -> Move
 }
 
 /// Reads the next letter of a category's name, `read` letters of which were read, or the colon after the last one.
-fn letter(category: PluralCategory, read: usize, byte: u8) -> Move
+fn letter(category: PluralCategory, read: usize, byte: u8) -> Transition
     ensures { result ≡ reader.letter category read byte }
 {
     let word = category.name().as_bytes();
@@ -335,7 +335,7 @@ fn letter(category: PluralCategory, read: usize, byte: u8) -> Move
 }
 
 /// Reads the first digit of a number, which leads to the state.
-fn first(byte: u8, state: State) -> Move
+fn first(byte: u8, state: State) -> Transition
     ensures { result ≡ reader.first byte state }
 {
     if byte.is_ascii_digit() {
@@ -346,7 +346,7 @@ fn first(byte: u8, state: State) -> Move
 }
 
 /// Reads a further digit, which leads to the state; any other byte does `otherwise`.
-fn digit(byte: u8, state: State, otherwise: Move) -> Move
+fn digit(byte: u8, state: State, otherwise: Transition) -> Transition
     ensures { result ≡ reader.digit byte state otherwise }
 {
     if byte.is_ascii_digit() {
@@ -368,7 +368,7 @@ fn modulus_state(byte: u8) -> State
 }
 
 /// Reads the byte after an operand.
-fn percent(byte: u8) -> Move
+fn percent(byte: u8) -> Transition
     ensures { result ≡ reader.next reader.no_categories State.Percent byte }
 {
     let rest = if byte == b'%' {
@@ -380,7 +380,7 @@ fn percent(byte: u8) -> Move
 }
 
 /// Reads the byte after the colon of `other`.
-fn other_condition(seen: Categories, byte: u8) -> Move
+fn other_condition(seen: Categories, byte: u8) -> Transition
     ensures { result ≡ reader.next seen State.OtherCondition byte }
 {
     let rest = if byte == b';' || byte == b'@' {
@@ -392,7 +392,7 @@ fn other_condition(seen: Categories, byte: u8) -> Move
 }
 
 /// Reads a byte of samples, or the semicolon after them.
-fn sample(seen: Categories, byte: u8) -> Move
+fn sample(seen: Categories, byte: u8) -> Transition
     ensures { result ≡ reader.next seen State.Samples byte }
 {
     match byte {
@@ -423,12 +423,12 @@ impl State {
             State::Comparison => skip(self, byte, comparison(byte)),
             State::NotEqual => only(b'=', byte, State::Low, Event::Equal(false)),
             State::Low => skip(self, byte, first(byte, State::LowDigits)),
-            State::LowDigits => digit(byte, self, behind_low(seen, byte)),
-            State::BehindLow => behind_low(seen, byte),
+            State::LowDigits => digit(byte, self, after_low(seen, byte)),
+            State::AfterLow => after_low(seen, byte),
             State::Dot => only(b'.', byte, State::High, Event::To),
             State::High => skip(self, byte, first(byte, State::HighDigits)),
-            State::HighDigits => digit(byte, self, behind_high(seen, byte)),
-            State::BehindHigh => behind_high(seen, byte),
+            State::HighDigits => digit(byte, self, after_high(seen, byte)),
+            State::AfterHigh => after_high(seen, byte),
             State::And => only(b'n', byte, State::AndEnd, Event::Nothing),
             State::AndEnd => only(b'd', byte, State::Blank, Event::Nothing),
             State::OrEnd => only(b'r', byte, State::Blank, Event::Nothing),
@@ -442,7 +442,7 @@ impl State {
         ensures { result ≡ reader.at_end self }
     {
         match self {
-            State::LowDigits | State::BehindLow | State::HighDigits | State::BehindHigh => {
+            State::LowDigits | State::AfterLow | State::HighDigits | State::AfterHigh => {
                 Some(Event::End)
             }
             State::OtherCondition => Some(Event::EndOther),

@@ -1,20 +1,20 @@
 //! The plural category of a number by rules.
 ghost use Rattle.std.specs.Prelude.{◌≡◌, ℕ, ◌%◌, ◌^◌, ◌<◌, ◌≤◌};
 ghost use Rattle.std.specs.List.{list_any, list_all};
-ghost use Rattle.plural_rules.specs.Parts.{IsUpTo};
-ghost use Rattle.plural_rules.specs.Rules.{integer_of, in_range, equals, holds, is_met, category_of};
+ghost use Rattle.plural_rules.specs.DigitSlice.{IsUpTo};
+ghost use Rattle.plural_rules.specs.Rules.{operand_value, in_range, equals, holds, is_met, category_of};
 
 use super::{Operand, PluralCategory, PluralRules, Range, Relation, Rule};
 use crate::operands::PluralOperands;
 use fixed_decimal::DigitStore;
 
 /// Returns an operand as an integer, i for n; `None` if it is above `most`.
-fn integer<D: DigitStore>(
+fn operand_up_to<D: DigitStore>(
     number: &PluralOperands<'_, D>,
     operand: Operand,
     most: u64,
 ) -> Option<u64>
-    ensures { IsUpTo most result (integer_of number.now operand) }
+    ensures { IsUpTo most result (operand_value number.now operand) }
 {
     match operand {
         Operand::N | Operand::I => number.i_up_to(most),
@@ -27,10 +27,14 @@ fn integer<D: DigitStore>(
 }
 
 /// Returns the remainder of an operand by a modulus.
-fn remainder<D: DigitStore>(number: &PluralOperands<'_, D>, operand: Operand, modulus: u64) -> u64
-    requires some { 0 < modulus }
-    requires small { modulus ≤ 10 ^ 18 }
-    ensures { result ≡ integer_of number.now operand % modulus }
+fn operand_modulo<D: DigitStore>(
+    number: &PluralOperands<'_, D>,
+    operand: Operand,
+    modulus: u64,
+) -> u64
+    requires positive { 0 < modulus }
+    requires at_most { modulus ≤ 10 ^ 18 }
+    ensures { result ≡ operand_value number.now operand % modulus }
 {
     match operand {
         Operand::N | Operand::I => number.i_modulo(modulus),
@@ -60,9 +64,9 @@ fn operand_is_in<D: DigitStore>(
     operand: Operand,
     ranges: &[Range],
 ) -> bool
-    ensures { result ≡ list_any (in_range (integer_of number.now operand)) ranges.now }
+    ensures { result ≡ list_any (in_range (operand_value number.now operand)) ranges.now }
 {
-    ranges.iter().any(|range| range.contains(integer(number, operand, range.high)))
+    ranges.iter().any(|range| range.contains(operand_up_to(number, operand, range.high)))
 }
 
 /// Whether a remainder is in one of the ranges.
@@ -85,7 +89,7 @@ impl Relation {
         match self.modulus {
             None => operand_is_in(number, self.operand, &self.ranges),
             Some(modulus) => {
-                let remainder = remainder(number, self.operand, modulus.divisor());
+                let remainder = operand_modulo(number, self.operand, modulus.divisor());
                 remainder_is_in(remainder, &self.ranges)
             }
         }

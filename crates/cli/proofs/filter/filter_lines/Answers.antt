@@ -1,7 +1,7 @@
 use Rattle.std.proofs.Common.{◌∙◌, ap, Ok, Err, refl}
 use Rattle.std.proofs.lemmas.Bool.{and_parts}
 use Rattle.std.proofs.lemmas.Result.{err_from_is_err_and}
-use Rattle.cli.specs.declared.errors.FilterError.TheVariants.{Input}
+use Rattle.cli.specs.declared.error.FilterError.TheVariants.{Input}
 use Rattle.cli.proofs.Filtering.{filtered_start, filtered_more, filters, filters_all, filters_reading, filters_line, consumed_line}
 use Rattle.cli.proofs.filter.filter_lines.Goals as goal
 
@@ -42,8 +42,8 @@ returns-in_err-has_text-clause-filtered g c =
     let p = err_from_is_err_and c.from_residual.result c.from_residual.ensures.1 in
     rw (p.1, p.2)
     (filters_line c.loop-count.invariant.filtered c.as_slice.result.now (g.R.Read.remaining c.read_line.new.input)
-    (g.W.Sink.contents c.print_line.new.out) c.print_line.new.diagnostics c.in_err-has_text.field-0.0 read h.error
-    (λ other. let (out, err) = h.untouched other in (ap g.W.Sink.contents out, err))
+    (g.W.Sink.contents c.filter_line.new.out) c.filter_line.new.diagnostics c.in_err-has_text.field-0.0 read h.error
+    (λ other. let (out, err) = h.unchanged_on_error other in (ap g.W.Sink.contents out, err))
     (λ is. h.prefix (ap Err is)) h.reported)
 
 pub returns-in_err-has_text-clause-consumed : goal.returns-in_err-has_text-clause-consumed

@@ -1,6 +1,6 @@
 use Rattle.std.proofs.Common.{◌≡◌, inr, refl, true, rules}
 use Rattle.std.specs.Io.Buffered.{writer_contents}
-use Rattle.cli.specs.declared.errors.FixdecError.TheVariants.{Memory}
+use Rattle.cli.specs.declared.error.FixdecError.TheVariants.{Memory}
 use Rattle.cli.specs.Arguments.{HaveWords}
 use Rattle.cli.specs.Errors.{status_of_fixdec, output}
 use Rattle.cli.specs.Fixdec.{Prints}
@@ -21,7 +21,7 @@ returns-then-has_failed-clause-reported g c = λ _.
     let old = contents c.args.out in
     let mid = writer_contents contents c.program-status.new.out.0 in
     let zero : c.program-status.result ≡ 0 = search rules in
-    let taken : writer_contents contents c.in-Ok-open.blocks.0 ≡ old = c.in-Ok-open.ensures.contents in
+    let taken : writer_contents contents c.in-Ok-open.buffered.0 ≡ old = c.in-Ok-open.ensures.contents in
     let printed : Prints words old mid =
     rw (taken, c.as_slice.ensures.value) at (c.program-status.ensures.printed zero) in
     let (unwritten, keeps) = c.close-closed.ensures.prefix in

@@ -2,17 +2,17 @@ use Rattle.std.proofs.Common.{◌≡◌, ℕ, List, [], MutBor, String, Option, 
 use Rattle.std.specs.declared.alloc.Global.{Global}
 use Rattle.std.specs.Io.Buffered.{reader_remaining, writer_contents}
 use Rattle.std.specs.Io.KnownBytes.{Keeps, append_known}
-use Rattle.decimal_digits.specs.Text.{AppendsPrefix}
+use Rattle.decimal_digits.specs.AppendsPrefix.{AppendsPrefix}
 use Rattle.fixed_decimal.proofs.Calling.{appends_kept}
 use Rattle.fixed_decimal.specs.declared.runs.Call.{Call}
 use Rattle.cli.specs.Words.{NameAll}
-use Rattle.cli.specs.declared.errors.FilterError.{FilterError}
-use Rattle.cli.specs.declared.errors.FilterError.TheVariants.{Usage, Memory, Output}
+use Rattle.cli.specs.declared.error.FilterError.{FilterError}
+use Rattle.cli.specs.declared.error.FilterError.TheVariants.{Usage, Memory, Output}
 use Rattle.cli.specs.declared.filter.OnError.{OnError}
 use Rattle.cli.specs.Lines.{AreFirst, Returns, Filters, AppendsUnwritten}
 use Rattle.cli.specs.Filter.{WordsFilter}
-use Rattle.cli.specs.Steps.{IsSplit}
-use Rattle.cli.proofs.Buffers.{nothing_behind, new_reader}
+use Rattle.cli.specs.FilterLine.{IsSplit}
+use Rattle.cli.proofs.Buffers.{append_known-nil, new_reader}
 use Rattle.cli.proofs.fixdec_lines.filter_words.Goals as goal
 
 unwritten :
@@ -43,7 +43,7 @@ module _
         (r : Result Bool FilterError) → Filters AppendsPrefix reports on_error calls i a b e f r → Keeps b d
         → WordsFilter reports words i a d e f r
     filters_kept r (lines, how, stop, text, part, folds) k =
-        let all : Keeps b (append_known d []) = rw (nothing_behind d) k in
+        let all : Keeps b (append_known d []) = rw (append_known-nil d) k in
         asked r
         (lines, how, stop, (λ other. appends_kept a b d _ (text other) k), unwritten a b d _ [] part all, folds)
 
@@ -71,7 +71,7 @@ returns-clause-filtered g c =
     new_reader through c.in-Ok.reader _ c.in-Ok.ensures.inner c.in-Ok.ensures.empty c.in-Ok.ensures.capacity in
     rw read at
     (filters_kept g.D.Diagnostics.reports c.args.words.now split.result.1.now split.result.0 c.as_slice.result.now
-    (reader_remaining through c.in-Ok.reader) (writer_contents contents c.args.blocks.0)
+    (reader_remaining through c.in-Ok.reader) (writer_contents contents c.args.buffered.0)
     (writer_contents contents filter.new.out.0) (contents c.close-closed.result.0) c.args.diagnostics.now
     filter.new.diagnostics split.ensures (search rules) filter.result filter.ensures.filtered
     (c.close-closed.ensures.written (search rules)))
@@ -86,7 +86,7 @@ returns-then-has_failed-clause-filtered g c =
     new_reader through c.in-Ok.reader _ c.in-Ok.ensures.inner c.in-Ok.ensures.empty c.in-Ok.ensures.capacity in
     rw read at
     (filters_missing g.D.Diagnostics.reports c.args.words.now split.result.1.now split.result.0 c.as_slice.result.now
-    (reader_remaining through c.in-Ok.reader) (writer_contents contents c.args.blocks.0)
+    (reader_remaining through c.in-Ok.reader) (writer_contents contents c.args.buffered.0)
     (writer_contents contents filter.new.out.0) (contents c.close-closed.result.0) c.args.diagnostics.now
     filter.new.diagnostics split.ensures (search rules) filter.result filter.ensures.filtered
     c.close-closed.ensures.prefix)

@@ -1,6 +1,6 @@
 use Rattle.std.proofs.Common.{◌≡◌, Err, inr, ap, refl, true, false, ◌∙◌, rules}
 use Rattle.std.specs.Io.Buffered.{writer_contents}
-use Rattle.cli.specs.declared.errors.FilterError.TheVariants.{Memory, Output}
+use Rattle.cli.specs.declared.error.FilterError.TheVariants.{Memory, Output}
 use Rattle.cli.specs.Arguments.{HaveWords}
 use Rattle.cli.specs.Filter.{IsEarly, WordsFilter}
 use Rattle.cli.proofs.Programs.{have_words}
@@ -22,13 +22,18 @@ returns-clause-reported g c = λ _.
     let error = c.in-Err-default.error in
     let before = c.filter_words.new.diagnostics in
     let is : c.filter_words.result.0 ≡ Err error = c.in-Err-default.is-0 in
-    let taken : writer_contents contents c.in-Ok-open.blocks.0 ≡ contents c.args.out = c.in-Ok-open.ensures.contents in
+    let taken : writer_contents contents c.in-Ok-open.buffered.0 ≡ contents c.args.out =
+    c.in-Ok-open.ensures.contents in
     let fails : WordsFilter g.D.Diagnostics.reports words (g.R.Read.remaining c.args.input.now) (contents c.args.out)
     (contents closed.0) c.args.diagnostics.now before (Err error) =
     rw (taken, c.as_slice.ensures.value, is) at c.filter_words.ensures.filtered in
     let failed : error ≡ Output → closed.1 ≡ true = λ e. c.filter_words.ensures.failed (is ∙ ap Err e) in
     let early : IsEarly error → closed ≡ (c.args.out, false) =
-    rw (is, c.in-Ok-open.ensures.inner, c.in-Ok-open.ensures.works) at c.filter_words.ensures.untouched in
+    rw (
+      is,
+      c.in-Ok-open.ensures.inner,
+      c.in-Ok-open.ensures.has_not_failed,
+    ) at c.filter_words.ensures.unchanged_on_error in
     let all : HaveWords c.args.arguments (λ all. words ≡ all) = search rules in
     let h = c.conclude-in-Err-default.ensures.reported in
     inr (error, before, h.1, inr (have_words c.args.arguments words _ all (fails, failed)), h.2, early)

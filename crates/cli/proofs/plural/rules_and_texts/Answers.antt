@@ -1,6 +1,6 @@
 use Rattle.std.proofs.Common.{◌≡◌, ◌≢◌, ◌<◌, [], ◌∷◌, length, string_bytes, Err, inr, refl, ap, subst, arith, rules}
 use Rattle.plural_rules.specs.RulesGrammar.{Grammar}
-use Rattle.plural_rules.specs.RulesRefusal.{Answers}
+use Rattle.plural_rules.specs.RulesParseResult.{IsParseResult}
 use Rattle.cli.specs.Errors.{error_of_rules}
 use Rattle.cli.specs.Plural.{RulesFail}
 use Rattle.cli.proofs.Programs.{err_with}
@@ -14,8 +14,8 @@ returns-in_err-rules-clause-error c =
     let is : c.args.words.now ≡ first ∷ texts = search rules in
     let some : 0 < length texts = search rules in
     let others : texts ≢ [] = λ none. absurd (omega (arith, some, ap length none)) in
-    let answers : Answers (string_bytes first) (Err error) =
-    subst (λ text. Answers text (Err error)) c.as_str.ensures.value c.in_err-rules.ensures in
+    let answers : IsParseResult (string_bytes first) (Err error) =
+    subst (λ text. IsParseResult text (Err error)) c.as_str.ensures.value c.in_err-rules.ensures in
     err_with (RulesFail c.args.words.now) c.from_residual.result (error_of_rules error) c.from_residual.ensures.1
     (inr (first, texts, is, others, (error, refl, answers)))
 

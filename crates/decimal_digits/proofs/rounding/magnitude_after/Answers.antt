@@ -3,21 +3,21 @@ use Rattle.std.specs.Prelude.{negsuc, pos, ◌≤ℤ◌}
 use Rattle.std.specs.Int.RustNames.{FitsSigned}
 use Rattle.std.proofs.lemmas.Int.{ints, to_z-of_z}
 use Rattle.std.proofs.lemmas.List.Elements.{recursion_from_All}
-use Rattle.decimal_digits.specs.Number.{place, weight}
-use Rattle.decimal_digits.specs.Left.{Spells}
+use Rattle.decimal_digits.specs.Number.{offset, weight}
+use Rattle.decimal_digits.specs.RoundedDigits.{Represents}
 use Rattle.decimal_digits.proofs.NumberAt.{number_at-none}
-use Rattle.decimal_digits.proofs.Places.{place_is}
-use Rattle.decimal_digits.proofs.Parts.{spells, spells_none, number_up}
+use Rattle.decimal_digits.proofs.Offsets.{offset_is}
+use Rattle.decimal_digits.proofs.SplitAtPosition.{represents, represents_none, number_up}
 use Rattle.decimal_digits.proofs.rounding.magnitude_after.Goals as goal
 
-pub returns-then-len-eq0-clause-spells : goal.returns-then-len-eq0-clause-spells
-returns-then-len-eq0-clause-spells g c =
+pub returns-then-len-eq0-clause-represents : goal.returns-then-len-eq0-clause-represents
+returns-then-len-eq0-clause-represents g c =
     let ds = g.D.DigitStore.digits c.args.counted.now.list.now in
-    spells_none ds _ (omega arith)
+    represents_none ds _ (omega arith)
     (ap (λ n. n * weight c.args.position) (number_at-none c.args.places ds (omega arith)) ∙ omega arith)
 
-pub returns-else-len-eq0-clause-spells : goal.returns-else-len-eq0-clause-spells
-returns-else-len-eq0-clause-spells g c =
+pub returns-else-len-eq0-clause-represents : goal.returns-else-len-eq0-clause-represents
+returns-else-len-eq0-clause-represents g c =
     let fits = c.ranges.position in
     let fits_m : FitsSigned w16 c.highest_of.result = search rules in
     let list = c.args.counted.now.list.now in
@@ -27,16 +27,17 @@ returns-else-len-eq0-clause-spells g c =
     let low : negsuc 32767 ≤ℤ m = omega (arith, ints) in
     let high : m ≤ℤ pos 32767 = omega (arith, ints) in
     let low_p : negsuc 32767 ≤ℤ c.args.position = omega (arith, ints) in
-    let within : length ds ≤ place m + 1 = omega (arith, ints, c.requires.fits, place_is m, place_is c.args.position) in
+    let within : length ds ≤ offset m + 1 =
+    omega (arith, ints, c.requires.fits, offset_is m, offset_is c.args.position) in
     let whole =
-    spells m ds low high (recursion_from_All _ _ (g.met.D.DigitStore.are_digits list)) within c.requires.stripped
+    represents m ds low high (recursion_from_All _ _ (g.met.D.DigitStore.are_digits list)) within c.requires.stripped
     (omega arith) in
     simp to_z-of_z
-    (subst (λ n. Spells ds m n) (number_up c.args.position c.args.places ds low_p c.requires.fits m low at) whole)
+    (subst (λ n. Represents ds m n) (number_up c.args.position c.args.places ds low_p c.requires.fits m low at) whole)
 
 pub returns-else-len-eq0-clause-above : goal.returns-else-len-eq0-clause-above
 returns-else-len-eq0-clause-above g c some =
     let fits = c.ranges.position in
     let fits_m : FitsSigned w16 c.highest_of.result = search rules in
     let at = simp to_z-of_z at c.highest_of.ensures in
-    simp to_z-of_z (omega (arith, ints, c.requires.fits, place_is c.highest_of.result, place_is c.args.position))
+    simp to_z-of_z (omega (arith, ints, c.requires.fits, offset_is c.highest_of.result, offset_is c.args.position))

@@ -1,6 +1,6 @@
 use Rattle.std.proofs.Common.{◌+◌, drop, take, take-append-drop, arith}
 use Rattle.std.proofs.lemmas.List.{length-drop, length-take}
-use Rattle.decimal_digits.proofs.Sinks.{part_kept, took_more}
+use Rattle.decimal_digits.proofs.Sinks.{prefix_kept, took_more}
 use Rattle.decimal_digits.proofs.sink.write_whole.Goals as goal
 
 pub loop-taken-preserved : goal.loop-taken-preserved
@@ -22,4 +22,4 @@ returns-in_default-clause-err g c =
 
 pub returns-in_default-2-clause-err : goal.returns-in_default-2-clause-err
 returns-in_default-2-clause-err g c =
-    part_kept _ _ _ c.loop-taken.taken c.args.bytes.now c.loop-taken.invariant.1 c.in_default.ensures.bytes
+    prefix_kept _ _ _ c.loop-taken.taken c.args.bytes.now c.loop-taken.invariant.1 c.in_default.ensures.bytes

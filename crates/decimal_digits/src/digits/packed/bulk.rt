@@ -3,10 +3,10 @@ ghost use Rattle.std.specs.Prelude.{◌≡◌, ℕ, ◌+◌, ◌-◌, ◌*◌, �
 ghost use Rattle.std.specs.Char.{digit_value};
 ghost use Rattle.std.specs.Str.Parse.{AllDigits};
 ghost use Rattle.decimal_digits.specs.Digits.{text_of};
-ghost use Rattle.decimal_digits.specs.Halves.{halves, digits_in, IsPacked};
-ghost use Rattle.decimal_digits.specs.Packing.{Holds};
+ghost use Rattle.decimal_digits.specs.Nibbles.{nibbles, digits_in, IsPacked};
+ghost use Rattle.decimal_digits.specs.Packing.{Encodes};
 
-use super::halves::{append_pairs, set_half};
+use super::nibbles::{append_pairs, set_nibble};
 use smallvec::SmallVec;
 
 /// Appends the digits that a text writes, for which there is room.
@@ -14,7 +14,7 @@ pub(super) fn append_text(bytes: &mut SmallVec<u8, 8>, len: usize, text: &[u8])
     requires packed { IsPacked bytes.old.items len }
     requires has_room { length text.now ≤ 2 * bytes.old.capacity - len }
     requires are_digits { AllDigits 10 text.now }
-    ensures holds { Holds bytes.new.items (len + length text.now)
+    ensures encodes { Encodes bytes.new.items (len + length text.now)
         (digits_in bytes.old.items len ++ map digit_value text.now) }
     ensures capacity { bytes.old.capacity ≤ bytes.new.capacity }
     ensures fits { len + length text.now < 2 ^ 64 }
@@ -22,64 +22,64 @@ pub(super) fn append_text(bytes: &mut SmallVec<u8, 8>, len: usize, text: &[u8])
     if len % 2 == 0 {
         append_pairs(bytes, text);
     } else if !text.is_empty() {
-        set_half(bytes, len, text[0] % 16);
+        set_nibble(bytes, len, text[0] % 16);
         append_pairs(bytes, &text[1..]);
     }
 }
 
 /// Writes the halves from an index on as text, as many as there are places.
-pub(super) fn write_text(bytes: &[u8], from: usize, places: &mut [u8])
-    requires { from + length places.old ≤ length (halves bytes.now) }
-    ensures { places.new ≡ text_of (take (length places.old) (drop from (halves bytes.now))) }
+pub(super) fn write_text(bytes: &[u8], from: usize, buffer: &mut [u8])
+    requires { from + length buffer.old ≤ length (nibbles bytes.now) }
+    ensures { buffer.new ≡ text_of (take (length buffer.old) (drop from (nibbles bytes.now))) }
 {
     if from % 2 == 0 {
-        write_pairs(&bytes[from / 2..], places);
-    } else if !places.is_empty() {
-        places[0] = b'0' + bytes[from / 2] % 16;
-        write_pairs(&bytes[from / 2 + 1..], &mut places[1..]);
+        write_pairs(&bytes[from / 2..], buffer);
+    } else if !buffer.is_empty() {
+        buffer[0] = b'0' + bytes[from / 2] % 16;
+        write_pairs(&bytes[from / 2 + 1..], &mut buffer[1..]);
     }
 }
 
 /// Writes the first halves as text, as many as there are places.
-fn write_pairs(bytes: &[u8], places: &mut [u8])
-    requires { length places.old ≤ length (halves bytes.now) }
-    ensures { places.new ≡ text_of (take (length places.old) (halves bytes.now)) }
+fn write_pairs(bytes: &[u8], buffer: &mut [u8])
+    requires { length buffer.old ≤ length (nibbles bytes.now) }
+    ensures { buffer.new ≡ text_of (take (length buffer.old) (nibbles bytes.now)) }
 {
-    let pairs = places.len() / 2;
+    let pairs = buffer.len() / 2;
     for i in 0..pairs {
-        places[2 * i] = b'0' + bytes[i] / 16;
-        places[2 * i + 1] = b'0' + bytes[i] % 16;
+        buffer[2 * i] = b'0' + bytes[i] / 16;
+        buffer[2 * i + 1] = b'0' + bytes[i] % 16;
     }
-    if places.len() % 2 == 1 {
-        places[2 * pairs] = b'0' + bytes[pairs] / 16;
+    if buffer.len() % 2 == 1 {
+        buffer[2 * pairs] = b'0' + bytes[pairs] / 16;
     }
 }
 
 /// Counts the halves at the end of the first `count` that equal this one.
-pub(super) fn count_halves_back(bytes: &[u8], count: usize, half: u8) -> usize
-    requires in_range { count ≤ length (halves bytes.now) }
-    requires is_half { half < 16 }
+pub(super) fn count_trailing_nibbles(bytes: &[u8], count: usize, nibble: u8) -> usize
+    requires in_range { count ≤ length (nibbles bytes.now) }
+    requires is_nibble { nibble < 16 }
     ensures within { result ≤ count }
-    ensures equal { (k : ℕ) → count ≤ k + result → k < count → slice_index (halves bytes.now) k ≡ half }
-    ensures stops { result < count → slice_index (halves bytes.now) (count - result - 1) ≢ half }
+    ensures equal { (k : ℕ) → count ≤ k + result → k < count → slice_index (nibbles bytes.now) k ≡ nibble }
+    ensures maximal { result < count → slice_index (nibbles bytes.now) (count - result - 1) ≢ nibble }
 {
     let odd = count % 2;
-    if odd == 1 && bytes[count / 2] / 16 != half {
+    if odd == 1 && bytes[count / 2] / 16 != nibble {
         return 0;
     }
     let pairs = count / 2;
-    let same = count_bytes_back(&bytes[..pairs], half * 17);
-    if same < pairs && bytes[pairs - 1 - same] % 16 == half {
+    let same = count_trailing_bytes(&bytes[..pairs], nibble * 17);
+    if same < pairs && bytes[pairs - 1 - same] % 16 == nibble {
         return odd + 2 * same + 1;
     }
     odd + 2 * same
 }
 
 /// Counts the bytes at the end that equal this one.
-fn count_bytes_back(bytes: &[u8], byte: u8) -> usize
+fn count_trailing_bytes(bytes: &[u8], byte: u8) -> usize
     ensures within { result ≤ length bytes.now }
     ensures equal { (k : ℕ) → length bytes.now ≤ k + result → k < length bytes.now → slice_index bytes.now k ≡ byte }
-    ensures stops { result < length bytes.now → slice_index bytes.now (length bytes.now - result - 1) ≢ byte }
+    ensures maximal { result < length bytes.now → slice_index bytes.now (length bytes.now - result - 1) ≢ byte }
 {
     for index in (0..bytes.len()).rev() {
         if bytes[index] != byte {

@@ -2,12 +2,12 @@
 ghost use Rattle.std.specs.Prelude.{◌≡◌, ℕ, ◌+◌, ◌-◌, ◌*◌, ◌^◌, ◌<◌, ◌≤◌, ◌↔◌, [], ◌∷◌, ◌++◌, length, take, drop, replicate, slice_set, All, IsTrue, IsOk, IfOk, IfSome, OnOk};
 ghost use Rattle.std.specs.Int.Digits.{number_from_digits};
 ghost use Rattle.smallvec.specs.SmallVec.{small_vec_len};
-ghost use Rattle.decimal_digits.specs.Halves.{digits_in, halves_number, IsPacked};
-ghost use Rattle.decimal_digits.specs.Packing.{Holds, IsHeld};
+ghost use Rattle.decimal_digits.specs.Nibbles.{digits_in, bcd_number, IsPacked};
+ghost use Rattle.decimal_digits.specs.Packing.{Encodes, IsPackedPrefix};
 
-use super::halves::{
-    byte_count, drop_bytes, join_halves, keep_bytes, pack, push_pairs, push_zeros, set_half,
-    shift_halves,
+use super::nibbles::{
+    append_nibbles, byte_count, drop_bytes, keep_bytes, pack, push_pairs, push_zeros,
+    remove_high_nibble, set_nibble,
 };
 use smallvec::SmallVec;
 use std::alloc::{AllocError, Global};
@@ -16,7 +16,7 @@ use std::alloc::{AllocError, Global};
 #[inline]
 pub(super) fn pack_digits(alloc: Global, digits: &[u8]) -> Result<SmallVec<u8, 8>, AllocError>
     requires { All (λ d. d < 10) digits.now }
-    ensures ok { IfOk result (λ bytes. Holds bytes.items (length digits.now) digits.now) }
+    ensures ok { IfOk result (λ bytes. Encodes bytes.items (length digits.now) digits.now) }
     ensures inline { IfOk result (λ bytes. 8 ≤ bytes.capacity) }
     ensures succeeds { length digits.now ≤ 16 → IsOk result }
 {
@@ -36,8 +36,8 @@ pub(super) fn pack_digits(alloc: Global, digits: &[u8]) -> Result<SmallVec<u8, 8
 /// Drops the bytes behind those of the digits.
 #[inline]
 pub(super) fn drop_unused(bytes: &mut SmallVec<u8, 8>, len: usize)
-    requires { IsHeld bytes.old.items len }
-    ensures holds { Holds bytes.new.items len (digits_in bytes.old.items len) }
+    requires { IsPackedPrefix bytes.old.items len }
+    ensures encodes { Encodes bytes.new.items len (digits_in bytes.old.items len) }
     ensures capacity { bytes.new.capacity ≡ bytes.old.capacity }
 {
     keep_bytes(bytes, byte_count(len));
@@ -74,21 +74,21 @@ pub(super) fn reserve_digits(bytes: &mut SmallVec<u8, 8>, total: usize) -> Resul
     ensures capacity { bytes.old.capacity ≤ bytes.new.capacity }
     ensures succeeds { total ≤ 2 * bytes.old.capacity → IsOk result }
 {
-    let held = bytes.len();
-    bytes.reserve(byte_count(total) - held)
+    let old_len = bytes.len();
+    bytes.reserve(byte_count(total) - old_len)
 }
 
 /// Puts a digit in the place of the one at an index.
 #[inline]
 pub(super) fn set_digit(bytes: &mut SmallVec<u8, 8>, len: usize, index: usize, digit: u8)
-    requires held { IsHeld bytes.old.items len }
+    requires packed_prefix { IsPackedPrefix bytes.old.items len }
     requires in_range { index < len }
     requires is_digit { digit < 10 }
-    ensures held { IsHeld bytes.new.items len }
+    ensures packed_prefix { IsPackedPrefix bytes.new.items len }
     ensures digits { digits_in bytes.new.items len ≡ slice_set (digits_in bytes.old.items len) index digit }
     ensures capacity { bytes.new.capacity ≡ bytes.old.capacity }
 {
-    set_half(bytes, index, digit);
+    set_nibble(bytes, index, digit);
 }
 
 /// Appends a digit, for which there is room.
@@ -97,14 +97,14 @@ pub(super) fn push_digit(bytes: &mut SmallVec<u8, 8>, len: usize, digit: u8)
     requires packed { IsPacked bytes.old.items len }
     requires has_room { len < 2 * bytes.old.capacity }
     requires is_digit { digit < 10 }
-    ensures holds { Holds bytes.new.items (len + 1) (digits_in bytes.old.items len ++ digit ∷ []) }
+    ensures encodes { Encodes bytes.new.items (len + 1) (digits_in bytes.old.items len ++ digit ∷ []) }
     ensures capacity { bytes.new.capacity ≡ bytes.old.capacity }
     ensures fits { len + 1 < 2 ^ 64 }
 {
     if len % 2 == 0 {
         bytes.push_reserved(digit * 16);
     } else {
-        set_half(bytes, len, digit);
+        set_nibble(bytes, len, digit);
     }
 }
 
@@ -125,10 +125,10 @@ fn half_word(bytes: &[u8]) -> u32
 
 /// A number of 32 bits in front of another.
 #[inline]
-fn joined(front: u32, behind: u32) -> u64
-    ensures { result ≡ front * 2 ^ 32 + behind }
+fn join_words(high: u32, low: u32) -> u64
+    ensures { result ≡ high * 2 ^ 32 + low }
 {
-    (u64::from(front) << 32) + u64::from(behind)
+    (u64::from(high) << 32) + u64::from(low)
 }
 
 /// The number that up to eight bytes write, with zeros behind them up to the eighth.
@@ -138,16 +138,16 @@ pub(super) fn word(bytes: &[u8]) -> u64
     ensures { result ≡ number_from_digits 256 (bytes.now ++ replicate (8 - length bytes.now) 0) }
 {
     match bytes.split_first_chunk::<4>() {
-        Some((front, rest)) => joined(u32::from_be_bytes(*front), half_word(rest)),
-        None => joined(half_word(bytes), 0),
+        Some((front, rest)) => join_words(u32::from_be_bytes(*front), half_word(rest)),
+        None => join_words(half_word(bytes), 0),
     }
 }
 
 /// The number in base 16 with sixteen places whose first digits these are, where eight bytes lie in place.
 #[inline]
-pub(super) fn in_place(bytes: &SmallVec<u8, 8>, len: usize) -> Option<u64>
-    requires { IsHeld bytes.now.items len }
-    ensures number { IfSome result (λ number. number ≡ halves_number (digits_in bytes.now.items len)) }
+pub(super) fn inline_bcd(bytes: &SmallVec<u8, 8>, len: usize) -> Option<u64>
+    requires { IsPackedPrefix bytes.now.items len }
+    ensures number { IfSome result (λ number. number ≡ bcd_number (digits_in bytes.now.items len)) }
     ensures at_most { IfSome result (λ number. len ≤ 16) }
 {
     let items = bytes.as_slice();
@@ -160,7 +160,7 @@ pub(super) fn in_place(bytes: &SmallVec<u8, 8>, len: usize) -> Option<u64>
 }
 
 /// How many bytes are compared with no call: those of 48 digits.
-const FEW: usize = 24;
+const MAX_INLINE_COMPARE: usize = 24;
 
 /// Tells whether two lists of bytes are equal.
 #[inline]
@@ -170,7 +170,7 @@ pub(super) fn are_equal(left: &[u8], right: &[u8]) -> bool
     if left.len() != right.len() {
         return false;
     }
-    if left.len() < 4 || left.len() > FEW {
+    if left.len() < 4 || left.len() > MAX_INLINE_COMPARE {
         return left == right;
     }
     let (mut left, mut right) = (left, right);
@@ -189,7 +189,7 @@ pub(super) fn are_equal(left: &[u8], right: &[u8]) -> bool
 
 /// Keeps the first bytes, and all bytes in place, of which those behind the digits mean nothing.
 #[inline]
-pub(super) fn drop_many(bytes: &mut SmallVec<u8, 8>, count: usize)
+pub(super) fn truncate_spilled(bytes: &mut SmallVec<u8, 8>, count: usize)
     requires { count ≤ small_vec_len bytes.old }
     ensures front { take count bytes.new.items ≡ take count bytes.old.items }
     ensures within { count ≤ small_vec_len bytes.new }
@@ -203,28 +203,28 @@ pub(super) fn drop_many(bytes: &mut SmallVec<u8, 8>, count: usize)
 
 /// Keeps the first digits.
 pub(super) fn keep_digits(bytes: &mut SmallVec<u8, 8>, len: usize, count: usize)
-    requires held { IsHeld bytes.old.items len }
+    requires packed_prefix { IsPackedPrefix bytes.old.items len }
     requires in_range { count ≤ len }
-    ensures held { IsHeld bytes.new.items count }
+    ensures packed_prefix { IsPackedPrefix bytes.new.items count }
     ensures digits { digits_in bytes.new.items count ≡ take count (digits_in bytes.old.items len) }
     ensures capacity { bytes.new.capacity ≡ bytes.old.capacity }
 {
-    drop_many(bytes, byte_count(count));
+    truncate_spilled(bytes, byte_count(count));
     if count % 2 == 1 {
-        set_half(bytes, count, 0);
+        set_nibble(bytes, count, 0);
     }
 }
 
 /// Drops the first digits.
 pub(super) fn cut_digits(bytes: &mut SmallVec<u8, 8>, len: usize, count: usize)
-    requires held { IsHeld bytes.old.items len }
+    requires packed_prefix { IsPackedPrefix bytes.old.items len }
     requires in_range { count ≤ len }
-    ensures holds { Holds bytes.new.items (len - count) (drop count (digits_in bytes.old.items len)) }
+    ensures encodes { Encodes bytes.new.items (len - count) (drop count (digits_in bytes.old.items len)) }
     ensures capacity { bytes.new.capacity ≡ bytes.old.capacity }
 {
     drop_bytes(bytes, count / 2, byte_count(len) - count / 2);
     if count % 2 == 1 {
-        shift_halves(bytes.as_mut_slice(), 0, 0);
+        remove_high_nibble(bytes.as_mut_slice(), 0, 0);
         bytes.truncate(byte_count(len - count));
     }
 }
@@ -234,11 +234,11 @@ pub(super) fn append_zeros(bytes: &mut SmallVec<u8, 8>, len: usize, count: usize
     requires packed { IsPacked bytes.old.items len }
     requires has_room { len + count ≤ 2 * bytes.old.capacity }
     requires fits { len + count < 2 ^ 64 }
-    ensures holds { Holds bytes.new.items (len + count) (digits_in bytes.old.items len ++ replicate count 0) }
+    ensures encodes { Encodes bytes.new.items (len + count) (digits_in bytes.old.items len ++ replicate count 0) }
     ensures capacity { bytes.old.capacity ≤ bytes.new.capacity }
 {
-    let held = bytes.len();
-    push_zeros(bytes, byte_count(len + count) - held);
+    let old_len = bytes.len();
+    push_zeros(bytes, byte_count(len + count) - old_len);
 }
 
 /// Appends the digits of other bytes, for which there is room.
@@ -246,12 +246,13 @@ pub(super) fn append_digits(bytes: &mut SmallVec<u8, 8>, len: usize, other: &[u8
     requires packed { IsPacked bytes.old.items len }
     requires other_packed { IsPacked other.now count }
     requires has_room { len + count ≤ 2 * bytes.old.capacity }
-    ensures holds { Holds bytes.new.items (len + count) (digits_in bytes.old.items len ++ digits_in other.now count) }
+    ensures encodes { Encodes bytes.new.items (len + count) (digits_in bytes.old.items len
+        ++ digits_in other.now count) }
     ensures capacity { bytes.old.capacity ≤ bytes.new.capacity }
 {
     if len % 2 == 0 {
         bytes.extend_from_slice(other).unwrap();
     } else {
-        join_halves(bytes, other, count);
+        append_nibbles(bytes, other, count);
     }
 }

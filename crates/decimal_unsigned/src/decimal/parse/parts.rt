@@ -1,12 +1,12 @@
 //! The parts of a text.
 ghost use Rattle.std.specs.Prelude.{◌≡◌, ℕ, ◌+◌, ◌++◌, ◌-◌, ◌%◌, ◌^◌, ◌<◌, ◌≤◌, min, List, [], length, take, drop, map, option_map, pos, slice_index, IfSome, IfNone};
 ghost use Rattle.std.specs.Str.Parse.{AllDigits, digits_value, digits_value_after};
-ghost use Rattle.decimal_unsigned.specs.Placing.{digits_of, middle, IsInner};
+ghost use Rattle.decimal_unsigned.specs.ScannedDigits.{digits_of, middle, IsNonzeroRange};
 ghost use Rattle.std.specs.Char.{is_ascii_digit, digit_value};
 ghost use Rattle.std.specs.List.{prefix_len};
 ghost use Rattle.std.specs.Str.{all_ascii_digits};
 ghost use Rattle.decimal_unsigned.specs.Reading as read;
-ghost use Rattle.decimal_unsigned.specs.Parts.{view, views, saturated, IsSaturated, saturated_parts, in_base_16, IsNumbered};
+ghost use Rattle.decimal_unsigned.specs.Parts.{view, views, saturated, IsSaturated, saturated_parts, in_base_16, NumberMatchesDigits};
 
 /// The integer digits, the fraction digits and the exponent, and what the digits of a text below 32 bytes write in base
 /// 16, in 64 bits.
@@ -73,13 +73,13 @@ fn count_digits(before: u64, text: &[u8]) -> (usize, u64)
 /// Splits a text after its leading digits, with the number of `count_digits`.
 #[inline(always)]
 fn split_digits(before: u64, text: &[u8]) -> (&[u8], &[u8], u64)
-    ensures front { result.0.now ≡ read.leading_digits text.now }
-    ensures behind { result.1.now ≡ read.after_digits text.now }
+    ensures digits { result.0.now ≡ read.leading_digits text.now }
+    ensures rest { result.1.now ≡ read.after_digits text.now }
     ensures number { length text.now < 32 → result.2 ≡ digits_value_after 16 before result.0.now % 2 ^ 64 }
 {
     let (count, number) = count_digits(before, text);
-    let (front, behind) = text.split_at(count);
-    (front, behind, number)
+    let (digits, rest) = text.split_at(count);
+    (digits, rest, number)
 }
 
 /// Gives the number that a text of digits writes, or `most` where it is greater.
@@ -134,7 +134,7 @@ fn with_exponent<'a>(
     text: &[u8],
 ) -> Option<Parts<'a>>
     ensures parts { views result ≡ option_map saturated_parts (read.with_exponent whole.now fraction.now text.now) }
-    ensures number { number ≡ in_base_16 whole.now fraction.now → IfSome result IsNumbered }
+    ensures number { number ≡ in_base_16 whole.now fraction.now → IfSome result NumberMatchesDigits }
 {
     let exponent = exponent(text)?;
     Some(Parts {
@@ -154,7 +154,7 @@ fn after_fraction<'a>(
     text: &[u8],
 ) -> Option<Parts<'a>>
     ensures parts { views result ≡ option_map saturated_parts (read.after_fraction whole.now fraction.now text.now) }
-    ensures number { number ≡ in_base_16 whole.now fraction.now → IfSome result IsNumbered }
+    ensures number { number ≡ in_base_16 whole.now fraction.now → IfSome result NumberMatchesDigits }
 {
     match text {
         [] if !fraction.is_empty() => Some(Parts {
@@ -172,7 +172,7 @@ fn after_fraction<'a>(
 #[tactic(auto, unfolding(crate::specs::Reading::after_whole))]
 fn after_whole<'a>(whole: &'a [u8], number: u64, text: &'a [u8]) -> Option<Parts<'a>>
     ensures parts { views result ≡ option_map saturated_parts (read.after_whole whole.now text.now) }
-    ensures number { length text.now < 32 → number ≡ in_base_16 whole.now [] → IfSome result IsNumbered }
+    ensures number { length text.now < 32 → number ≡ in_base_16 whole.now [] → IfSome result NumberMatchesDigits }
 {
     match text {
         [] if !whole.is_empty() => Some(Parts {
@@ -203,7 +203,7 @@ pub fn split(text: &[u8]) -> Option<Parts<'_>>
     ensures parts { views result ≡ option_map saturated_parts (read.parts_of text.now) }
     ensures digits { IfSome result (λ p. AllDigits 10 (p.whole.now ++ p.fraction.now)) }
     ensures exponent { IfSome result (λ p. IfSome p.exponent IsSaturated) }
-    ensures number { length text.now < 32 → IfSome result IsNumbered }
+    ensures number { length text.now < 32 → IfSome result NumberMatchesDigits }
 {
     let (whole, rest, number) = split_digits(0, text);
     after_whole(whole, number, rest)
@@ -243,8 +243,8 @@ impl Parts<'_> {
         requires digits { AllDigits 10 (self.now.whole.now ++ self.now.fraction.now) }
         requires ordered { start ≤ end }
         requires within { end ≤ length (digits_of (view self.now)) }
-        ensures front { AllDigits 10 result.0.now }
-        ensures behind { AllDigits 10 result.1.now }
+        ensures whole { AllDigits 10 result.0.now }
+        ensures fraction { AllDigits 10 result.1.now }
         ensures value { map digit_value result.0.now ++ map digit_value result.1.now
             ≡ middle start end (digits_of (view self.now)) }
     {
@@ -255,10 +255,10 @@ impl Parts<'_> {
     }
 
     /// The range of the digits without the zeros at both ends; none where all digits are 0.
-    pub fn kept_range(&self) -> Option<(usize, usize)>
+    pub fn nonzero_range(&self) -> Option<(usize, usize)>
         requires { AllDigits 10 (self.now.whole.now ++ self.now.fraction.now) }
         ensures none { IfNone result ((k : ℕ) → slice_index (digits_of (view self.now)) k ≡ 0) }
-        ensures some { IfSome result (λ r. IsInner (digits_of (view self.now)) r.0 r.1) }
+        ensures some { IfSome result (λ r. IsNonzeroRange (digits_of (view self.now)) r.0 r.1) }
     {
         let mut end = self.len();
         while end > 0 && self.digit(end - 1) == 0 {

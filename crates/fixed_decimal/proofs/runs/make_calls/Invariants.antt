@@ -1,4 +1,4 @@
-use Rattle.fixed_decimal.proofs.Running.{IsAt}
+use Rattle.fixed_decimal.proofs.RunInvariant.{IsAt}
 use Rattle.fixed_decimal.proofs.runs.make_calls.Given as goal
 
 abbrev pub invariant-loop-at : goal.invariant-loop-at

@@ -3,19 +3,19 @@ use Rattle.std.specs.Prelude.{Some, None}
 use Rattle.plural_rules.specs.RulesReader.{next, after, at_end, seen_after}
 use Rattle.plural_rules.specs.RulesBuilder.{partial, IsSmall}
 use Rattle.plural_rules.proofs.RulesRun.{finished, at_end_all, reached_strictly}
-use Rattle.plural_rules.proofs.RulesBuilt.{moves_on, goes_on, ends, small}
+use Rattle.plural_rules.proofs.BuilderInvariant.{transition_exists, continues, ends, small}
 use Rattle.plural_rules.proofs.parse.build.Goals as goal
 
 pub unreachable-requires : goal.unreachable-requires
 unreachable-requires c =
     let none : next c.loop-byte.seen c.loop-byte.state (get_or c.args.text.now c.loop-byte.byte-index 0) ≡ None = cc in
-    moves_on c.loop-byte.byte-index c.requires.1 c.requires.2 c.loop-byte.invariant c.loop-byte-test.true none
+    transition_exists c.loop-byte.byte-index c.requires.1 c.requires.2 c.loop-byte.invariant c.loop-byte-test.true none
 
 pub take-requires : goal.take-requires
 take-requires c =
     let to : next c.loop-byte.seen c.loop-byte.state (get_or c.args.text.now c.loop-byte.byte-index 0)
     ≡ Some (c.in-Some.next, c.in-Some.event) = cc in
-    let more = goes_on c.loop-byte.byte-index c.requires.1 c.requires.2 c.loop-byte.invariant c.in-Some.next
+    let more = continues c.loop-byte.byte-index c.requires.1 c.requires.2 c.loop-byte.invariant c.in-Some.next
     c.in-Some.event c.loop-byte-test.true to in
     let strictly = reached_strictly (take c.loop-byte.byte-index c.args.text.now) c.loop-byte.state
     (partial c.loop-byte.seen c.loop-byte.builder) c.loop-byte.invariant in
@@ -25,7 +25,7 @@ pub loop-byte-preserved : goal.loop-byte-preserved
 loop-byte-preserved c =
     let to : next c.loop-byte.seen c.loop-byte.state (get_or c.args.text.now c.loop-byte.byte-index 0)
     ≡ Some (c.in-Some.next, c.in-Some.event) = cc in
-    let more = goes_on c.loop-byte.byte-index c.requires.1 c.requires.2 c.loop-byte.invariant c.in-Some.next
+    let more = continues c.loop-byte.byte-index c.requires.1 c.requires.2 c.loop-byte.invariant c.in-Some.next
     c.in-Some.event c.loop-byte-test.true to in
     let built : partial c.after-seen.result c.take.new.self
     ≡ after c.in-Some.event (partial c.loop-byte.seen c.loop-byte.builder) =

@@ -1,8 +1,8 @@
 use Rattle.std.proofs.Common.{◌≡◌, get_or, ◌∙◌, ap}
 use Rattle.std.specs.Prelude.{Some, None}
 use Rattle.plural_rules.specs.RulesReader.{next, at_end}
-use Rattle.plural_rules.proofs.RulesAlive.{stopped_text, unended_text}
-use Rattle.plural_rules.proofs.RulesChecked.{checked_first, checked_more, checked_whole}
+use Rattle.plural_rules.proofs.ViablePrefixes.{stopped_text, unended_text}
+use Rattle.plural_rules.proofs.CheckInvariant.{checked_first, checked_more, checked_whole}
 use Rattle.plural_rules.proofs.parse.check.Goals as goal
 
 pub loop-at-init : goal.loop-at-init

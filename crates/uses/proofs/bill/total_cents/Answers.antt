@@ -6,7 +6,7 @@ use Rattle.decimal_digits.specs.Number.{weight}
 use Rattle.decimal_unsigned.specs.Edits.{StaysInLimits}
 use Rattle.decimal_unsigned.specs.ToInteger.{as_integer}
 use Rattle.decimal_unsigned.specs.Unsigned.{Unsigned}
-use Rattle.decimal_unsigned.specs.declared.decimal.to_integer.IntegerError.TheVariants.{NotWhole, OutOfRange}
+use Rattle.decimal_unsigned.specs.declared.error.IntegerError.TheVariants.{NotWhole, OutOfRange}
 use Rattle.fixed_decimal.proofs.Calling.{weight_up, integer_is, not_whole, out_of_range, out_of_range_whole}
 use Rattle.uses.specs.Bill.{cent}
 use Rattle.uses.proofs.bill.total_cents.Goals as goal

@@ -42,4 +42,4 @@ returns-clause-cash c =
     rw c.unwrap.ensures at c.multiply_pow10.ensures.moved in
     rounded_cash (c.args.cents * c.args.percent) c.multiply_pow10.new.self c.round_with_mode_and_increment.new.self
     (moved ∙ ap (λ v. multiplied v (negsuc 3)) c.in_ok-amount.ensures.value)
-    (rw c.unwrap-2.ensures at c.round_with_mode_and_increment.ensures.answers)
+    (rw c.unwrap-2.ensures at c.round_with_mode_and_increment.ensures.rounds)

@@ -5,11 +5,11 @@ use Rattle.std.specs.Io.KnownBytes.{Keeps, Appends}
 use Rattle.std.proofs.KnownBytes.{Appends-trans}
 use Rattle.std.proofs.Math.Seq.{split_at}
 use Rattle.std.proofs.lemmas.List.{take_more}
-use Rattle.decimal_digits.specs.Text.{AppendsPrefix}
-use Rattle.decimal_unsigned.specs.Reading.{ReadingFault}
+use Rattle.decimal_digits.specs.AppendsPrefix.{AppendsPrefix}
+use Rattle.decimal_unsigned.specs.Reading.{ReadError}
 use Rattle.fixed_decimal.specs.DecimalText.{and_then}
-use Rattle.fixed_decimal.proofs.Calling.{appends_kept, appends_none, part_more, then_part}
-use Rattle.uses.specs.Column.{normal_form, column_text, AmountRefuses, Stops}
+use Rattle.fixed_decimal.proofs.Calling.{appends_kept, appends_none, prefix_more, then_prefix}
+use Rattle.uses.specs.Column.{normal_form, column_text, AmountFails, Stops}
 use Rattle.uses.specs.declared.column.ColumnError.{ColumnError}
 use Rattle.uses.specs.declared.column.ColumnError.TheVariants.{Amount, Sink}
 use Rattle.uses.proofs.column.write_column.Goals as goal
@@ -24,7 +24,7 @@ one_more [] amount form lines e h =
 one_more (first ∷ rest) amount form lines e h =
     go (normal_form first.now) (column_text rest) (one_more rest amount form) refl h
   where
-    go : (head rest_text : Result (List ℕ) ReadingFault)
+    go : (head rest_text : Result (List ℕ) ReadError)
         → ((ls : List ℕ) → normal_form amount.now ≡ Ok form → column_text rest ≡ Ok ls
         → column_text (rest ++ amount ∷ []) ≡ Ok (ls ++ (form ++ 10 ∷ [])))
         → column_text rest ≡ rest_text
@@ -39,7 +39,7 @@ one_more (first ∷ rest) amount form lines e h =
     go (Err x) t more q p = absurd (cc)
 
 -- the text of a result that is Ok
-text_of : (r : Result (List ℕ) ReadingFault) (P : List ℕ → Type 0) → IsOkAnd r P → (t : List ℕ) × (r ≡ Ok t) × P t
+text_of : (r : Result (List ℕ) ReadError) (P : List ℕ → Type 0) → IsOkAnd r P → (t : List ℕ) × (r ≡ Ok t) × P t
 text_of (Ok t) P p = (t, refl, p)
 text_of (Err e) P p = absurd p
 
@@ -63,18 +63,18 @@ begun amounts amount a b c p q =
     let lines = text_of (column_text amounts) (Appends a b) p in
     let form = text_of (normal_form amount.now) (λ form. AppendsPrefix b c (form ++ 10 ∷ [])) q in
     rw (one_more amounts amount form.0 lines.0 form.1 lines.1)
-    (then_part a b c lines.0 (form.0 ++ 10 ∷ []) lines.2 form.2)
+    (then_prefix a b c lines.0 (form.0 ++ 10 ∷ []) lines.2 form.2)
 
 -- a prefix of the form of an amount is one of its line
-form_begun : (r : Result (List ℕ) ReadingFault) (b c : Option (List ℕ)) → IsOkAnd r (AppendsPrefix b c)
+form_begun : (r : Result (List ℕ) ReadError) (b c : Option (List ℕ)) → IsOkAnd r (AppendsPrefix b c)
     → IsOkAnd r (λ form. AppendsPrefix b c (form ++ 10 ∷ []))
-form_begun (Ok form) b c p = part_more b c form (10 ∷ []) p
+form_begun (Ok form) b c p = prefix_more b c form (10 ∷ []) p
 form_begun (Err fault) b c p = absurd p
 
 -- the form of an amount was written, and a prefix of the line feed
-feed_begun : (r : Result (List ℕ) ReadingFault) (b c d : Option (List ℕ)) → IsOkAnd r (Appends b c)
+feed_begun : (r : Result (List ℕ) ReadError) (b c d : Option (List ℕ)) → IsOkAnd r (Appends b c)
     → AppendsPrefix c d (10 ∷ []) → IsOkAnd r (λ form. AppendsPrefix b d (form ++ 10 ∷ []))
-feed_begun (Ok form) b c d p q = then_part b c d form (10 ∷ []) p q
+feed_begun (Ok form) b c d p q = then_prefix b c d form (10 ∷ []) p q
 feed_begun (Err fault) b c d p q = absurd p
 
 -- nothing is a prefix of a line feed
@@ -102,17 +102,17 @@ module _
         )
 
     -- this amount was not written
-    stops_here : (e : ColumnError) → AmountRefuses e (get_or amounts i none).now → ((e ≡ Sink → ⊥) → c ≡ b)
+    stops_here : (e : ColumnError) → AmountFails e (get_or amounts i none).now → ((e ≡ Sink → ⊥) → c ≡ b)
         → (e ≡ Sink → IsOkAnd (normal_form (get_or amounts i none).now) (AppendsPrefix b c)) → Stops amounts a c e
-    stops_here (Amount fault) refused same part = (
+    stops_here (Amount fault) fails_with same part = (
       take i amounts,
       get_or amounts i none,
       drop (suc i) amounts,
       split_at amounts i none less,
-      refused,
+      fails_with,
       subst (λ c. IsOkAnd (column_text (take i amounts)) (Appends a c)) (sym (same (λ is. cc))) written,
     )
-    stops_here Sink refused same part =
+    stops_here Sink fails_with same part =
         within (form_begun (normal_form (get_or amounts i none).now) b c (part refl))
 
 pub loop-amount-preserved : goal.loop-amount-preserved
@@ -123,17 +123,17 @@ loop-amount-preserved g c =
     (wrote_one_more (take c.loop-amount.amount-index amounts) (get_or amounts c.loop-amount.amount-index none) _ _ _ _
     c.loop-amount.invariant c.in_ok-write_normal_form.ensures.written c.in-Ok.ensures.appends)
 
-pub returns-in_err-write_normal_form-clause-stopped : goal.returns-in_err-write_normal_form-clause-stopped
-returns-in_err-write_normal_form-clause-stopped g c =
+pub returns-in_err-write_normal_form-clause-stops : goal.returns-in_err-write_normal_form-clause-stops
+returns-in_err-write_normal_form-clause-stops g c =
     let none : Bor (List ℕ) = record { ref_ptr = (0, 0); now = [] } in
     let e = c.in_err-write_normal_form.field-0.0 in
     let h = c.in_err-write_normal_form.ensures in
     err_with _ c.from_residual.result e c.from_residual.ensures.1
     (stops_here c.args.amounts.now c.loop-amount.amount-index none c.loop-amount-test.true _ _ _ c.loop-amount.invariant
-    e h.refused (λ other. ap g.W.Sink.contents (h.untouched other)) (λ is. h.prefix (ap Err is)))
+    e h.fails_with (λ other. ap g.W.Sink.contents (h.unchanged_on_error other)) (λ is. h.prefix (ap Err is)))
 
-pub returns-in_default-clause-stopped : goal.returns-in_default-clause-stopped
-returns-in_default-clause-stopped g c =
+pub returns-in_default-clause-stops : goal.returns-in_default-clause-stops
+returns-in_default-clause-stops g c =
     let none : Bor (List ℕ) = record { ref_ptr = (0, 0); now = [] } in
     let before = g.W.Sink.contents c.write_normal_form.new.sink in
     let after = g.W.Sink.contents c.put_byte.new.self in

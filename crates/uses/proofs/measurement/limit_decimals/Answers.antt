@@ -1,10 +1,10 @@
 use Rattle.std.proofs.Common.{◌≡◌, ◌*◌, true, Ok, Err, sym, ◌∙◌, ap, arith, rules, w16, to_z, of_z, FitsSigned}
 use Rattle.std.specs.Prelude.{Result, ℤ, pos, neg_ℤ, ◌≤ℤ◌, int_lt, unsigned_abs, OnOk}
 use Rattle.std.proofs.lemmas.Int.{ints, clamps, to_z-of_z}
-use Rattle.decimal_digits.specs.Number.{place, weight}
+use Rattle.decimal_digits.specs.Number.{offset, weight}
 use Rattle.decimal_digits.specs.declared.rounding.RoundingIncrement.TheVariants.{MultiplesOf1}
 use Rattle.decimal_digits.specs.declared.rounding.UnsignedRoundingMode.TheVariants.{HalfEven}
-use Rattle.decimal_unsigned.specs.Rounded.{AnswersInPlace}
+use Rattle.decimal_unsigned.specs.Rounded.{UpdatesInPlace}
 use Rattle.fixed_decimal.specs.Decimal.{Decimal, signed_number}
 use Rattle.fixed_decimal.specs.SignedRounding.{IsRounded}
 use Rattle.fixed_decimal.specs.declared.rounding.SignedRoundingMode.TheVariants.{Unsigned}
@@ -13,20 +13,20 @@ use Rattle.uses.specs.Measurement.{shortened, IsNear}
 use Rattle.uses.proofs.measurement.limit_decimals.Goals as goal
 
 module _ {E : Type 0} (old new : Decimal) (position : ℤ) where
-  answers_so : (r : Result (Unit {0}) E) → int_lt old.absolute.lo position ≡ true
-      → AnswersInPlace (IsRounded old position (Unsigned HalfEven) MultiplesOf1) old new r
-      → AnswersInPlace (λ made. shortened old position ≡ made) old new r
-  answers_so (Ok x) more a = rw more a.value
-  answers_so (Err e) more (a, same) = (rw more a.value, same)
+  rounds_so : (r : Result (Unit {0}) E) → int_lt old.absolute.lo position ≡ true
+      → UpdatesInPlace (IsRounded old position (Unsigned HalfEven) MultiplesOf1) old new r
+      → UpdatesInPlace (λ made. shortened old position ≡ made) old new r
+  rounds_so (Ok x) more a = rw more a.value
+  rounds_so (Err e) more (a, same) = (rw more a.value, same)
 
   near_so : (r : Result (Unit {0}) E) → position ≤ℤ pos 0
-      → AnswersInPlace (IsRounded old position (Unsigned HalfEven) MultiplesOf1) old new r
+      → UpdatesInPlace (IsRounded old position (Unsigned HalfEven) MultiplesOf1) old new r
       → OnOk r (IsNear old position new)
   near_so (Ok x) low a =
       let is = signed_rounded_to-some old new position a.named.0 a.named.2 in
       let (q, multiple, chosen) = a.named.1 in
       let near = nearest_within (1 * weight position) (unsigned_abs (signed_number old)) (q * (1 * weight position))
-      (omega (arith, ten_pos (place position))) chosen.0 in
+      (omega (arith, ten_pos (offset position))) chosen.0 in
       let number = sym multiple ∙ ap (λ (v : Decimal). v.absolute.number) is in
       record {
         shown = omega (arith, ints, clamps, low, ap (λ (v : Decimal). v.absolute.lo) is);
@@ -42,9 +42,9 @@ returns-then-shows_more c =
     let kept : to_z w16 (of_z w16 position) ≡ neg_ℤ (pos c.args.decimals) =
     to_z-of_z w16 position fits ∙ c.position_of-position.ensures in
     let more : int_lt c.args.value.now.absolute.lo (to_z w16 (of_z w16 position)) ≡ true = search rules in
-    let answers = rw kept at c.round.ensures.answers in
+    let rounds = rw kept at c.round.ensures.rounds in
     record {
-      answers = answers_so c.args.value.now c.round.new.self _ c.round.result (rw kept at more) answers;
-      near = near_so c.args.value.now c.round.new.self _ c.round.result (omega (arith, ints)) answers;
+      rounds = rounds_so c.args.value.now c.round.new.self _ c.round.result (rw kept at more) rounds;
+      near = near_so c.args.value.now c.round.new.self _ c.round.result (omega (arith, ints)) rounds;
       fits = c.round.ensures.fits;
     }

@@ -3,7 +3,7 @@ use Rattle.std.specs.Prelude.{◌*◌, OnOk, OnErr, codes, pos, negsuc}
 use Rattle.std.specs.Io.KnownBytes.{Appends}
 use Rattle.std.proofs.lemmas.Int.{ints}
 use Rattle.decimal_digits.specs.Number.{weight}
-use Rattle.decimal_digits.specs.Text.{AppendsPrefix}
+use Rattle.decimal_digits.specs.AppendsPrefix.{AppendsPrefix}
 use Rattle.decimal_unsigned.specs.Unsigned.{integer_value}
 use Rattle.decimal_unsigned.specs.Edits.{multiplied}
 use Rattle.decimal_unsigned.specs.Text.{text}

@@ -5,4 +5,4 @@ use Rattle.cli.proofs.diagnostics.ErrorLinesDiagnostics.report.Goals as goal
 pub returns-then-self : goal.returns-then-self
 returns-then-self g c =
     let failed : c.args.self.now.has_failed ≡ true = search rules in
-    (refl, reports_none _ _ c.line_of-line.result.bytes _ failed c.line_of-line.ensures)
+    (refl, reports_none _ _ c.error_line-line.result.bytes _ failed c.error_line-line.ensures)

@@ -3,11 +3,11 @@ use Rattle.std.proofs.lemmas.Str.{digit_value_digit}
 use Rattle.std.proofs.lemmas.Int.Digits.{digits_more}
 use Rattle.decimal_digits_tests.proofs.tests.bulk.is_number.Goals as goal
 
-pub loop-letter-preserved : goal.loop-letter-preserved
-loop-letter-preserved c =
+pub loop-ascii-preserved : goal.loop-ascii-preserved
+loop-ascii-preserved c =
     let text = c.args.text.now in
-    let i = c.loop-letter.letter-index in
-    let low : 48 ≤ get_or text i 0 = omega (arith, c.if-letter-lt48.false) in
-    let high : get_or text i 0 ≤ 57 = omega (arith, c.if-letter-gt57.false) in
-    digits_more 10 text i c.loop-letter-test.true c.loop-letter.invariant
+    let i = c.loop-ascii.ascii-index in
+    let low : 48 ≤ get_or text i 0 = omega (arith, c.if-ascii-lt48.false) in
+    let high : get_or text i 0 ≤ 57 = omega (arith, c.if-ascii-gt57.false) in
+    digits_more 10 text i c.loop-ascii-test.true c.loop-ascii.invariant
     (omega (arith, digit_value_digit (get_or text i 0) (low, high)))

@@ -6,8 +6,8 @@ use Rattle.decimal_unsigned.proofs.decimal.UnsignedOver.append.Goals as goal
 
 pub returns-in_err-append-clause-succeeds : goal.returns-in_err-append-clause-succeeds
 returns-in_err-append-clause-succeeds g c h =
-    let s = append_size c.self.invariant c.other.invariant c.self.view_is c.other.view_is _ c.requires.first_counts
-    c.requires.second_counts c.zeros_before-zeros.ensures in
+    let s = append_size c.self.invariant c.other.invariant c.self.view_is c.other.view_is _ c.requires.first_is_nonzero
+    c.requires.second_is_nonzero c.zeros_before-zeros.ensures in
     absurd (false≢true (c.in_err-append.ensures.succeeds (omega (arith, s, h))))
 
 -- the range of both values
@@ -22,11 +22,11 @@ lo_is g c = omega (arith, ints, clamps, lo_kept c.self.invariant, lo_kept c.othe
 pub invariant_of-self-2 : goal.invariant_of-self-2
 invariant_of-self-2 g c =
     rw (c.in_ok-append.ensures.ok, hi_is g c, lo_is g c)
-    (append_stored c.self.invariant c.other.invariant c.self.view_is c.other.view_is _ c.requires.first_counts
-    c.requires.second_counts c.zeros_before-zeros.ensures)
+    (append_stored c.self.invariant c.other.invariant c.self.view_is c.other.view_is _ c.requires.first_is_nonzero
+    c.requires.second_is_nonzero c.zeros_before-zeros.ensures)
 
 pub returns-clause-ok : goal.returns-clause-ok
 returns-clause-ok g c =
     rw (c.in_ok-append.ensures.ok, hi_is g c, lo_is g c)
-    (append_value c.self.invariant c.other.invariant c.self.view_is c.other.view_is _ c.requires.first_counts
-    c.requires.second_counts c.zeros_before-zeros.ensures)
+    (append_value c.self.invariant c.other.invariant c.self.view_is c.other.view_is _ c.requires.first_is_nonzero
+    c.requires.second_is_nonzero c.zeros_before-zeros.ensures)

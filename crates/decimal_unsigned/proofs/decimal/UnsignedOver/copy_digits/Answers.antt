@@ -1,4 +1,4 @@
-use Rattle.decimal_unsigned.proofs.Common.{◌≡◌, ◌+◌, ◌-◌, length, take, drop, w16, of_z, to_z, ◌∙◌, ap, arith, min, ◌-ℤ◌, pos, ints, to_z-of_z, length-take-le, length-drop, int_gap, place, digit, Unsigned}
+use Rattle.decimal_unsigned.proofs.Common.{◌≡◌, ◌+◌, ◌-◌, length, take, drop, w16, of_z, to_z, ◌∙◌, ap, arith, min, ◌-ℤ◌, pos, ints, to_z-of_z, length-take-le, length-drop, int_gap, offset, digit, Unsigned}
 use Rattle.decimal_unsigned.proofs.Values.{magnitude_kept}
 use Rattle.decimal_unsigned.proofs.Shown.{value_of_view}
 use Rattle.decimal_unsigned.proofs.Blocks.{index_gap, block_digit}
@@ -21,8 +21,8 @@ returns-clause-value g c i h =
     ∙ index_gap c.index_of-2.result (to_z w16 (of_z w16 q)) (to_z w16 (of_z w16 m)) c.index_of-2.ensures.some
     c.index_of-2.ensures.none
     ∙ (λ k. int_gap (m_kept k) (q_kept k)) in
-    let zeros = c.args.places.now in
-    let n = length c.args.places.now in
+    let zeros = c.args.buffer.now in
+    let n = length c.args.buffer.now in
     let from = c.min-from.result in
     let start = c.min-start.result in
     let count = c.min-count.result in
@@ -38,8 +38,8 @@ returns-clause-value g c i h =
       start_is,
       count_is,
     ) in
-    block_digit t q (omega (arith, ints)) n from start count (omega (arith, c.requires.in_limits, ap place q_kept))
-    from_is start_is count_is zeros c.copy_text.new.places (start + count - start) _ c.requires.zeros (omega arith)
+    block_digit t q (omega (arith, ints)) n from start count (omega (arith, c.requires.in_limits, ap offset q_kept))
+    from_is start_is count_is zeros c.copy_text.new.buffer (start + count - start) _ c.requires.zeros (omega arith)
     part c.copy_text.ensures i h
     ∙ ap (λ (v : Unsigned). 48 + digit v.number (q -ℤ pos i)) c.self.view_is
 

@@ -2,8 +2,8 @@ use Rattle.decimal_unsigned.proofs.Common.{◌≡◌, ◌+◌, suc, ◌++◌, �
 use Rattle.std.proofs.lemmas.List.{nil_from_length}
 use Rattle.decimal_unsigned.proofs.Values.{narrow_kept}
 use Rattle.decimal_unsigned.proofs.TextBytes.{bytes_are}
-use Rattle.decimal_unsigned.proofs.Blocks.{zeros_front, zeros_behind, zeros_rest}
-use Rattle.decimal_unsigned.proofs.Pieces.{piece_above, piece_over, piece_below, room_above, room_behind, room_below}
+use Rattle.decimal_unsigned.proofs.Blocks.{zeros_front, zeros_after, zeros_rest}
+use Rattle.decimal_unsigned.proofs.Pieces.{piece_above, piece_over, piece_below, fits_above, fits_after, fits_below}
 use Rattle.decimal_unsigned.proofs.decimal.UnsignedOver.copy_text.Goals as goal
 
 pub copy_digits-requires-clause-in_limits : goal.copy_digits-requires-clause-in_limits
@@ -11,7 +11,7 @@ copy_digits-requires-clause-in_limits g c =
     let dot_is = c.dot-dot.ensures.value in
     let m = narrow_kept c.magnitude_at-magnitude.type_inv
     ∙ c.magnitude_at-magnitude.ensures.below (omega (arith, dot_is)) in
-    rw m (room_below c.args.self.now c.dot-dot.ensures.valid _ dot_is c.args.from (length c.args.places.now)
+    rw m (fits_below c.args.self.now c.dot-dot.ensures.valid _ dot_is c.args.from (length c.args.buffer.now)
     c.if-dot-from.true c.requires.in_text).0
 
 pub returns-then-dot-from : goal.returns-then-dot-from
@@ -19,15 +19,15 @@ returns-then-dot-from g c =
     let dot_is = c.dot-dot.ensures.value in
     let m = narrow_kept c.magnitude_at-magnitude.type_inv
     ∙ c.magnitude_at-magnitude.ensures.below (omega (arith, dot_is)) in
-    bytes_are c.args.self.now.number _ _ _ c.copy_digits.new.places c.copy_digits.ensures.value m
-    c.copy_digits.auto.places
-    ∙ sym (piece_below c.args.self.now c.dot-dot.ensures.valid _ dot_is c.args.from (length c.args.places.now)
+    bytes_are c.args.self.now.number _ _ _ c.copy_digits.new.buffer c.copy_digits.ensures.value m
+    c.copy_digits.auto.buffer
+    ∙ sym (piece_below c.args.self.now c.dot-dot.ensures.valid _ dot_is c.args.from (length c.args.buffer.now)
     c.if-dot-from.true c.requires.some c.requires.in_text)
 
 pub copy_digits-requires-2-clause-zeros : goal.copy_digits-requires-2-clause-zeros
 copy_digits-requires-2-clause-zeros g c =
     rw c.split_at_mut-whole.ensures.front
-    (zeros_front c.args.places.now c.requires.zeros c.min-above.result (omega (arith, c.min-above.ensures)))
+    (zeros_front c.args.buffer.now c.requires.zeros c.min-above.result (omega (arith, c.min-above.ensures)))
 
 pub copy_digits-requires-2-clause-in_limits : goal.copy_digits-requires-2-clause-in_limits
 copy_digits-requires-2-clause-in_limits g c =
@@ -35,20 +35,20 @@ copy_digits-requires-2-clause-in_limits g c =
     let m = narrow_kept c.magnitude_at-magnitude.type_inv
     ∙ c.magnitude_at-magnitude.ensures.above (omega (arith, dot_is)) in
     rw (m, c.split_at_mut-whole.ensures.front_len)
-    (room_above c.args.self.now c.dot-dot.ensures.valid _ dot_is c.args.from c.min-above.result
+    (fits_above c.args.self.now c.dot-dot.ensures.valid _ dot_is c.args.from c.min-above.result
     (omega (arith, c.min-above.ensures)))
 
 pub copy_digits-requires-in-Some-clause-zeros : goal.copy_digits-requires-in-Some-clause-zeros
 copy_digits-requires-in-Some-clause-zeros g c =
-    let zeros = zeros_behind c.args.places.now c.requires.zeros c.min-above.result in
-    let behind = rw (← c.split_at_mut-whole.ensures.back) at zeros in
-    zeros_rest _ _ _ behind c.in-Some.ensures.cases.0
+    let zeros = zeros_after c.args.buffer.now c.requires.zeros c.min-above.result in
+    let following = rw (← c.split_at_mut-whole.ensures.back) at zeros in
+    zeros_rest _ _ _ following c.in-Some.ensures.cases.0
 
 pub copy_digits-requires-in-Some-clause-in_limits : goal.copy_digits-requires-in-Some-clause-in_limits
 copy_digits-requires-in-Some-clause-in_limits g c =
     let rest = c.in-Some.ensures.cases.1 in
     let whole = c.split_at_mut-whole.ensures.back_len in
-    room_behind c.args.self.now c.dot-dot.ensures.valid _ c.dot-dot.ensures.value c.args.from c.min-above.result _
+    fits_after c.args.self.now c.dot-dot.ensures.valid _ c.dot-dot.ensures.value c.args.from c.min-above.result _
     (omega (arith, rest, whole, c.min-above.ensures)) (omega (arith, rest, whole, c.requires.in_text))
 
 pub returns-in-Some : goal.returns-in-Some
@@ -61,11 +61,11 @@ returns-in-Some g c =
     let whole = c.split_at_mut-whole.ensures.back_len in
     let a = c.min-above.result in
     let k = length c.in-Some.fraction.now in
-    let all : a + suc k ≡ length c.args.places.now = omega (arith, rest, whole) in
-    let above = bytes_are number _ _ _ c.copy_digits-2.new.places c.copy_digits-2.ensures.value m
-    (c.copy_digits-2.auto.places ∙ c.split_at_mut-whole.ensures.front_len) in
-    let below = bytes_are number _ _ k c.copy_digits-in-Some.new.places c.copy_digits-in-Some.ensures.value refl
-    c.copy_digits-in-Some.auto.places in
+    let all : a + suc k ≡ length c.args.buffer.now = omega (arith, rest, whole) in
+    let above = bytes_are number _ _ _ c.copy_digits-2.new.buffer c.copy_digits-2.ensures.value m
+    (c.copy_digits-2.auto.buffer ∙ c.split_at_mut-whole.ensures.front_len) in
+    let below = bytes_are number _ _ k c.copy_digits-in-Some.new.buffer c.copy_digits-in-Some.ensures.value refl
+    c.copy_digits-in-Some.auto.buffer in
     (λ i. above i ++ 46 ∷ below i)
     ∙ sym (piece_over c.args.self.now c.dot-dot.ensures.valid _ dot_is c.args.from a k
     (omega (arith, rest, whole, c.min-above.ensures)) (omega (arith, rest, whole, c.requires.in_text)))
@@ -78,10 +78,10 @@ returns-in_default g c =
     ∙ c.magnitude_at-magnitude.ensures.above (omega (arith, dot_is)) in
     let none = nil_from_length c.split_at_mut-whole.result.1.now c.in_default.ensures.cases in
     let whole = c.split_at_mut-whole.ensures.back_len in
-    let all : c.min-above.result ≡ length c.args.places.now = omega (arith, whole, c.in_default.ensures.cases) in
-    ap (λ l. c.copy_digits-2.new.places ++ l) none
-    ∙ append-nil c.copy_digits-2.new.places
-    ∙ bytes_are c.args.self.now.number _ _ _ c.copy_digits-2.new.places c.copy_digits-2.ensures.value m
-    (c.copy_digits-2.auto.places ∙ c.split_at_mut-whole.ensures.front_len ∙ all)
-    ∙ sym (piece_above c.args.self.now c.dot-dot.ensures.valid _ dot_is c.args.from (length c.args.places.now)
+    let all : c.min-above.result ≡ length c.args.buffer.now = omega (arith, whole, c.in_default.ensures.cases) in
+    ap (λ l. c.copy_digits-2.new.buffer ++ l) none
+    ∙ append-nil c.copy_digits-2.new.buffer
+    ∙ bytes_are c.args.self.now.number _ _ _ c.copy_digits-2.new.buffer c.copy_digits-2.ensures.value m
+    (c.copy_digits-2.auto.buffer ∙ c.split_at_mut-whole.ensures.front_len ∙ all)
+    ∙ sym (piece_above c.args.self.now c.dot-dot.ensures.valid _ dot_is c.args.from (length c.args.buffer.now)
     (omega (arith, all, c.min-above.ensures)))

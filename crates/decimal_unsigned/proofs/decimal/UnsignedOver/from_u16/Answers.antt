@@ -5,8 +5,8 @@ use Rattle.decimal_unsigned.proofs.decimal.UnsignedOver.from_u16.Goals as goal
 
 pub unwrap-requires : goal.unwrap-requires
 unwrap-requires g c =
-    c.from_integer.ensures.short
-    (omega (arith, length-digits_of-le 10 5 c.args.integer (omega arith) (omega arith), g.met.D.DigitStore.enough))
+    c.from_integer.ensures.fits
+    (omega (arith, length-digits_of-le 10 5 c.args.integer (omega arith) (omega arith), g.met.D.DigitStore.fits_u16))
 
 pub returns-clause-range : goal.returns-clause-range
 returns-clause-range g c =

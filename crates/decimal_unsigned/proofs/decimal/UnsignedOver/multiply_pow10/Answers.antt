@@ -27,8 +27,8 @@ moves g c =
       some = λ p. elim c.if-len-eq0.branch [
         | then-len-eq0 w ↦ absurd (omega arith)
         | else-len-eq0 w ↦
-            w.magnitude-is ∙ narrow_kept w.narrowed-magnitude.type_inv ∙ w.narrowed-magnitude.ensures
-            ∙ wide_kept w.sum.type_inv ∙ w.sum.ensures ∙ (rw (magnitude_kept t, d) refl)
+            w.magnitude-is ∙ narrow_kept w.to_magnitude-magnitude.type_inv ∙ w.to_magnitude-magnitude.ensures
+            ∙ wide_kept w.add_magnitudes.type_inv ∙ w.add_magnitudes.ensures ∙ (rw (magnitude_kept t, d) refl)
       ];
       none = λ z. elim c.if-len-eq0.branch [
         | then-len-eq0 w ↦ omega (arith, ints)

@@ -1,4 +1,4 @@
-use Rattle.decimal_unsigned.proofs.Common.{sym, ◌∙◌, arith, rules, ints, place_is}
+use Rattle.decimal_unsigned.proofs.Common.{sym, ◌∙◌, arith, rules, ints, offset_is}
 use Rattle.decimal_unsigned.proofs.Values.{last-number_of, last_of_none, magnitude_kept, narrow_kept}
 use Rattle.decimal_unsigned.proofs.Ranges.{last_told}
 use Rattle.decimal_unsigned.proofs.decimal.UnsignedOver.nonzero_magnitude_end.Goals as goal
@@ -6,10 +6,11 @@ use Rattle.decimal_unsigned.proofs.decimal.UnsignedOver.nonzero_magnitude_end.Go
 pub magnitude_of-requires : goal.magnitude_of-requires
 magnitude_of-requires g c =
     let t = c.self.invariant in
-    omega (arith, ints, c.len-len.ensures, t.hi_covers, t.lo_covers, t.fits, t.in_range, place_is)
+    omega (arith, ints, c.len-len.ensures, t.hi_covers, t.lo_covers, t.fits, t.in_range, offset_is)
 
 pub returns-then-len-eq0 : goal.returns-then-len-eq0
-returns-then-len-eq0 g c = last_told c.self.invariant c.self.view_is (sym (last_of_none c.self.invariant (search rules)))
+returns-then-len-eq0 g c =
+    last_told c.self.invariant c.self.view_is (sym (last_of_none c.self.invariant (search rules)))
 
 pub returns-else-len-eq0 : goal.returns-else-len-eq0
 returns-else-len-eq0 g c =

@@ -1,12 +1,12 @@
 use Rattle.decimal_unsigned.proofs.Common.{◌≡◌, ℕ, List, length, w16, to_z, of_z, sym, ◌∙◌, ap, arith, rules, Err, Some, pos, ◌-ℤ◌, int_max, ints, to_z-of_z, int_min, recursion_from_All, number_of, unit_at, rounded_number, IsStored, Unsigned, rounded}
 use Rattle.std.proofs.lemmas.Result.{err_from_is_err_and}
 use Rattle.decimal_digits.specs.declared.rounding.RoundError.TheVariants.{Limit}
-use Rattle.decimal_digits.specs.Left.{Spells}
+use Rattle.decimal_digits.specs.RoundedDigits.{Represents}
 use Rattle.decimal_unsigned.proofs.Values.{size-number_of, narrow_kept, magnitude_kept, hi_kept}
-use Rattle.decimal_unsigned.proofs.Roundings.{stored_left, rounded_left, number_again, size_again}
+use Rattle.decimal_unsigned.proofs.Roundings.{stored_left, rounded_left, number_of-stored, length-stored}
 use Rattle.decimal_unsigned.proofs.Shown.{value_of_view}
-use Rattle.decimal_unsigned.proofs.RoundingLaws.{is_rounded, refuses, rounding_is_idempotent}
-use Rattle.decimal_unsigned.proofs.NeverRefused.{not_limited, not_refused}
+use Rattle.decimal_unsigned.proofs.RoundingLaws.{is_rounded, fails, rounding_is_idempotent}
+use Rattle.decimal_unsigned.proofs.RoundingSucceeds.{not_limit_error, rounding_is_ok}
 use Rattle.decimal_unsigned.proofs.decimal.UnsignedOver.round_counted.Goals as goal
 
 -- what the fields hold after the rounding
@@ -24,7 +24,8 @@ left g c =
     let t = c.self.invariant in
     let p = to_z-of_z w16 c.args.position c.ranges.position in
     let e = rw p at c.in_ok-first.ensures in
-    let n = number_again t c.self.view_is (ap g.D.DigitStore.digits c.new-counted.ensures.list) (magnitude_kept t) in
+    let n = number_of-stored t c.self.view_is (ap g.D.DigitStore.digits c.new-counted.ensures.list)
+    (magnitude_kept t) in
     let s = rw n at e.ok in
     let f : to_z w16 (of_z w16 c.in_ok-first.first) ≡ c.in_ok-first.first = omega (arith, ints, s.least, s.greatest) in
     let h = narrow_kept c.highest_after-self-inside.type_inv ∙ c.highest_after-self-inside.ensures
@@ -39,51 +40,51 @@ left g c =
           (sym (ap (λ (v : Unsigned). v.hi) c.self.view_is));
     }
 
-pub returns-in_err-first-clause-answers : goal.returns-in_err-first-clause-answers
-returns-in_err-first-clause-answers g c =
+pub returns-in_err-first-clause-rounds : goal.returns-in_err-first-clause-rounds
+returns-in_err-first-clause-rounds g c =
     let t = c.self.invariant in
     let e = err_from_is_err_and c.from_residual.result c.from_residual.ensures.1 in
-    let lent = ap g.D.DigitStore.digits c.new-counted.ensures.list in
+    let borrows = ap g.D.DigitStore.digits c.new-counted.ensures.list in
     let shown : List ℕ → Unsigned = λ ds.
     record { number = number_of ds c.self.inside.magnitude; hi = c.self.inside.hi; lo = c.self.inside.lo } in
     rw (e.1, e.2) (
-      refuses _ _ c.args.self.now c.args.position c.args.mode c.args.increment (value_of_view t c.self.view_is)
+      fails _ _ c.args.self.now c.args.position c.args.mode c.args.increment (value_of_view t c.self.view_is)
           (rw (
             to_z-of_z w16 c.args.position c.ranges.position,
-            number_again t c.self.view_is lent (magnitude_kept t),
-            size_again t c.self.view_is lent,
+            number_of-stored t c.self.view_is borrows (magnitude_kept t),
+            length-stored t c.self.view_is borrows,
           ) at
-          c.in_err-first.ensures.refused),
-      ap shown (c.in_err-first.ensures.err ∙ lent) ∙ c.self.view_is,
+          c.in_err-first.ensures.fails_with),
+      ap shown (c.in_err-first.ensures.err ∙ borrows) ∙ c.self.view_is,
     )
 
-pub returns-in_err-first-clause-room : goal.returns-in_err-first-clause-room
-returns-in_err-first-clause-room g c =
+pub returns-in_err-first-clause-no_limit : goal.returns-in_err-first-clause-no_limit
+returns-in_err-first-clause-no_limit g c =
     let p = c.ranges.position in
-    not_limited g.D.DigitStore.L c.args.self.now c.args.position c.args.mode c.args.increment (omega (arith, ints))
-    (omega (arith, ints)) _ c.from_residual.result (returns-in_err-first-clause-answers g c)
+    not_limit_error g.D.DigitStore.L c.args.self.now c.args.position c.args.mode c.args.increment (omega (arith, ints))
+    (omega (arith, ints)) _ c.from_residual.result (returns-in_err-first-clause-rounds g c)
 
 pub returns-in_err-first-clause-fits : goal.returns-in_err-first-clause-fits
 returns-in_err-first-clause-fits g c =
     let p = c.ranges.position in
-    not_refused g.D.DigitStore.L c.args.self.now c.args.position c.args.mode c.args.increment (omega (arith, ints))
-    (omega (arith, ints)) _ c.from_residual.result (returns-in_err-first-clause-answers g c)
+    rounding_is_ok g.D.DigitStore.L c.args.self.now c.args.position c.args.mode c.args.increment (omega (arith, ints))
+    (omega (arith, ints)) _ c.from_residual.result (returns-in_err-first-clause-rounds g c)
 
-pub returns-in_err-first-clause-limit_turns : goal.returns-in_err-first-clause-limit_turns
-returns-in_err-first-clause-limit_turns g c h =
+pub returns-in_err-first-clause-limit_accesses : goal.returns-in_err-first-clause-limit_accesses
+returns-in_err-first-clause-limit_accesses g c h =
     let e = err_from_is_err_and c.from_residual.result c.from_residual.ensures.1 in
     let told : c.in_err-first.field-0.0 ≡ Limit = cc in
-    let turns = c.in_err-first.ensures.limit_turns (ap Err told) in
-    let before = size_again c.self.invariant c.self.view_is (ap g.D.DigitStore.digits c.new-counted.ensures.list) in
-    let lent = c.new-counted.ensures.turns in
-    let same = sym c.new-counted.ensures.lent.1 ∙ sym c.round.ensures.lent.1 in
-    search (rules, before, lent, turns, same)
+    let accesses = c.in_err-first.ensures.limit_accesses (ap Err told) in
+    let before = length-stored c.self.invariant c.self.view_is (ap g.D.DigitStore.digits c.new-counted.ensures.list) in
+    let borrows = c.new-counted.ensures.accesses in
+    let same = sym c.new-counted.ensures.borrows.1 ∙ sym c.round.ensures.borrows.1 in
+    search (rules, before, borrows, accesses, same)
 
 pub invariant_of-self-2 : goal.invariant_of-self-2
 invariant_of-self-2 g c = (left g c).stored
 
-pub returns-clause-answers : goal.returns-clause-answers
-returns-clause-answers g c =
+pub returns-clause-rounds : goal.returns-clause-rounds
+returns-clause-rounds g c =
     is_rounded c.args.self.now c.args.position c.args.mode c.args.increment
     (value_of_view c.self.invariant c.self.view_is) (left g c).value
 
@@ -91,11 +92,11 @@ pub returns-clause-idempotent : goal.returns-clause-idempotent
 returns-clause-idempotent g c =
     rounding_is_idempotent c.args.self.now _ c.args.position c.args.mode c.args.increment (left g c).value
 
-pub returns-clause-turns : goal.returns-clause-turns
-returns-clause-turns g c =
-    let before = size_again c.self.invariant c.self.view_is (ap g.D.DigitStore.digits c.new-counted.ensures.list) in
+pub returns-clause-accesses : goal.returns-clause-accesses
+returns-clause-accesses g c =
+    let before = length-stored c.self.invariant c.self.view_is (ap g.D.DigitStore.digits c.new-counted.ensures.list) in
     let after = size-number_of (left g c).stored in
-    let lent = c.new-counted.ensures.turns in
-    let turns = c.in_ok-first.ensures.turns in
-    let same = sym c.new-counted.ensures.lent.1 ∙ sym c.round.ensures.lent.1 in
-    search (rules, before, after, lent, turns, same)
+    let borrows = c.new-counted.ensures.accesses in
+    let accesses = c.in_ok-first.ensures.accesses in
+    let same = sym c.new-counted.ensures.borrows.1 ∙ sym c.round.ensures.borrows.1 in
+    search (rules, before, after, borrows, accesses, same)

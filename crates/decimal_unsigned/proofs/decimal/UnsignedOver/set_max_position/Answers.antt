@@ -1,15 +1,15 @@
-use Rattle.decimal_unsigned.proofs.Common.{◌≡◌, ◌≤◌, min, length, w16, w32, pos, ◌+ℤ◌, ◌-ℤ◌, to_z, of_z, refl, sym, ◌∙◌, ap, subst, arith, int_max, int_gap, ints, to_z-of_z, place_is, Unsigned, with_max_position, trunced, PartsJoin}
+use Rattle.decimal_unsigned.proofs.Common.{◌≡◌, ◌≤◌, min, length, w16, w32, pos, ◌+ℤ◌, ◌-ℤ◌, to_z, of_z, refl, sym, ◌∙◌, ap, subst, arith, int_max, int_gap, ints, to_z-of_z, offset_is, Unsigned, with_max_position, trunced, SplitsAt}
 use Rattle.decimal_unsigned.proofs.Values.{lo_kept, magnitude_kept, narrow_kept, lowest}
 use Rattle.decimal_unsigned.proofs.Cuts.{Cuts, stored_cut, with_max_position_is}
 use Rattle.decimal_unsigned.proofs.Shown.{value_of_view}
-use Rattle.decimal_unsigned.proofs.EditLaws.{parts}
+use Rattle.decimal_unsigned.proofs.ValueLaws.{splits}
 use Rattle.decimal_unsigned.proofs.decimal.UnsignedOver.set_max_position.Goals as goal
 use Rattle.decimal_unsigned.proofs.decimal.UnsignedOver.set_max_position.Goals.{then-start-len, else-start-len}
 
 pub magnitude_of-magnitude-requires : goal.magnitude_of-magnitude-requires
 magnitude_of-magnitude-requires g c =
     let t = c.self.invariant in
-    omega (arith, ints, magnitude_kept t, t.fits, t.in_range, lowest t, place_is)
+    omega (arith, ints, magnitude_kept t, t.fits, t.in_range, lowest t, offset_is)
 
 cuts : (g : _) (c : goal.After-self-3-1 g)
     → Cuts (g.D.DigitStore.digits c.self.inside.digits) c.self.inside.magnitude c.self.inside.lo c.args.position
@@ -40,8 +40,9 @@ cuts g c =
       ];
       hi_is =
           narrow_kept c.at_least_zero-hi.type_inv ∙ c.at_least_zero-hi.ensures
-          ∙ ap (λ x. int_max x (pos 0)) (let e : to_z w32 (of_z w32 c.sum.result) ≡ c.args.position -ℤ pos 1 =
-          omega (arith, ints, c.sum.ensures, p) in e);
+          ∙ ap (λ x. int_max x (pos 0)) (let e : to_z w32 (of_z w32 c.add_magnitudes.result)
+          ≡ c.args.position -ℤ pos 1 =
+          omega (arith, ints, c.add_magnitudes.ensures, p) in e);
       lo_is = narrow_kept c.min-lo.type_inv ∙ c.min-lo.ensures.value ∙ (rw (lo_kept t, p) refl);
       position = omega (arith, ints);
     }
@@ -55,9 +56,9 @@ returns-clause-value g c =
     (with_max_position_is c.self.invariant (cuts g c)
     ∙ ap (λ (v : Unsigned). with_max_position v c.args.position) c.self.view_is)
 
-pub returns-clause-parts : goal.returns-clause-parts
-returns-clause-parts g c =
+pub returns-clause-splits : goal.returns-clause-splits
+returns-clause-splits g c =
     let v = c.args.self.now in
     let p = c.args.position in
-    subst (PartsJoin v p (trunced v p)) (sym (returns-clause-value g c))
-    (parts v p (value_of_view c.self.invariant c.self.view_is))
+    subst (SplitsAt v p (trunced v p)) (sym (returns-clause-value g c))
+    (splits v p (value_of_view c.self.invariant c.self.view_is))

@@ -1,25 +1,25 @@
-use Rattle.decimal_unsigned.proofs.Common.{ap, subst, unwrap_or, to_z-of_z, MultiplesOf1, Trunc, IsRounded, with_max_position, PartsJoin}
-use Rattle.decimal_unsigned.proofs.Roundings.{made_unless}
-use Rattle.decimal_unsigned.proofs.EditLaws.{parts, trunc_not_refused}
+use Rattle.decimal_unsigned.proofs.Common.{ap, subst, unwrap_or, to_z-of_z, MultiplesOf1, Trunc, IsRounded, with_max_position, SplitsAt}
+use Rattle.decimal_unsigned.proofs.Roundings.{ok_unless_none}
+use Rattle.decimal_unsigned.proofs.ValueLaws.{splits, trunc_succeeds}
 use Rattle.decimal_unsigned.proofs.decimal.UnsignedOver.trunc.Goals as goal
 
 pub unwrap-requires : goal.unwrap-requires
 unwrap-requires g c =
     let p = c.ranges.position in
-    made_unless (IsRounded c.args.self.now c.args.position Trunc MultiplesOf1) c.args.self.now
-    c.round_with_mode.new.self c.round_with_mode.result (simp to_z-of_z at c.round_with_mode.ensures.answers)
-    (λ r. trunc_not_refused c.args.self.now c.args.position r.valid MultiplesOf1 r.value)
+    ok_unless_none (IsRounded c.args.self.now c.args.position Trunc MultiplesOf1) c.args.self.now
+    c.round_with_mode.new.self c.round_with_mode.result (simp to_z-of_z at c.round_with_mode.ensures.rounds)
+    (λ r. trunc_succeeds c.args.self.now c.args.position r.valid MultiplesOf1 r.value)
 
 pub returns : goal.returns
 returns g c =
     let p = c.ranges.position in
     let v = c.args.self.now in
-    let ok = rw c.unwrap.ensures at c.round_with_mode.ensures.answers in
+    let ok = rw c.unwrap.ensures at c.round_with_mode.ensures.rounds in
     let rounds = simp to_z-of_z at ok in
     let value = ap (λ o. unwrap_or o v) rounds.value in
     record {
       rounds = rounds;
-      parts =
-          subst (λ t. PartsJoin v c.args.position t (with_max_position v c.args.position)) value
-          (parts v c.args.position rounds.valid);
+      splits =
+          subst (λ t. SplitsAt v c.args.position t (with_max_position v c.args.position)) value
+          (splits v c.args.position rounds.valid);
     }

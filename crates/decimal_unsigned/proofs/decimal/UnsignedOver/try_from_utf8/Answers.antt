@@ -1,9 +1,9 @@
 use Rattle.decimal_unsigned.proofs.FewDigits.{never_limit, never_memory}
-use Rattle.decimal_unsigned.proofs.ParserAnswers.{answers_grammar}
+use Rattle.decimal_unsigned.proofs.ReadingGrammar.{result_follows_grammar}
 use Rattle.decimal_unsigned.proofs.decimal.UnsignedOver.try_from_utf8.Goals as goal
 
 pub returns-clause-grammar : goal.returns-clause-grammar
-returns-clause-grammar g c = answers_grammar _ c.args.text.now _ c.read_from.ensures
+returns-clause-grammar g c = result_follows_grammar _ c.args.text.now _ c.read_from.ensures
 
 pub returns-clause-plain : goal.returns-clause-plain
 returns-clause-plain g c = never_limit _ c.args.text.now _ c.read_from.ensures

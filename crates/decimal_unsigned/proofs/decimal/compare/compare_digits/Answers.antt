@@ -1,5 +1,5 @@
 use Rattle.decimal_unsigned.proofs.Common.{◌≡◌, length, sym, ◌∙◌, arith, min, nat_cmp, slice_cmp}
-use Rattle.decimal_unsigned.proofs.Comparing.{lengths_decide, halves_order}
+use Rattle.decimal_unsigned.proofs.Comparing.{lengths_decide, nibbles_order}
 use Rattle.decimal_unsigned.proofs.decimal.compare.compare_digits.Goals as goal
 
 pub returns : goal.returns
@@ -19,6 +19,6 @@ returns-in-Some-Some g c =
     let es = g.E.DigitStore.digits c.args.other.now in
     c.cmp.ensures
     ∙ (λ k. nat_cmp (c.in-Some-Some.ensures.number k) (c.in-Some-Some.ensures'.number k))
-    ∙ halves_order ds es (g.met.D.DigitStore.are_digits c.args.digits.now)
+    ∙ nibbles_order ds es (g.met.D.DigitStore.are_digits c.args.digits.now)
     (g.met.E.DigitStore.are_digits c.args.other.now) c.in-Some-Some.ensures.at_most c.in-Some-Some.ensures'.at_most
     c.requires.stripped.back c.requires.other_stripped.back

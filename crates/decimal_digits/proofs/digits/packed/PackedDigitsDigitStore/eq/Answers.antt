@@ -1,8 +1,8 @@
 use Rattle.std.proofs.Common.{sym, ◌∙◌, ap, arith}
 use Rattle.std.proofs.lemmas.Bool.Decides.{Decides-eqb}
-use Rattle.decimal_digits.specs.Halves.{halves_number}
-use Rattle.decimal_digits.specs.Packing.{length_held, held_decimal}
-use Rattle.decimal_digits.proofs.InPlace.{same_number}
+use Rattle.decimal_digits.specs.Nibbles.{bcd_number}
+use Rattle.decimal_digits.specs.Packing.{length_packed, packed_decimal}
+use Rattle.decimal_digits.proofs.InlineBcd.{same_number}
 use Rattle.decimal_digits.proofs.Packing.{same_front, same_digits}
 use Rattle.decimal_digits.proofs.digits.packed.PackedDigitsDigitStore.eq.Goals as goal
 
@@ -10,21 +10,21 @@ pub returns-in-Some-Some : goal.returns-in-Some-Some
 returns-in-Some-Some c =
     let left = c.args.self.now in
     let right = c.args.other.now in
-    let n = length_held _ _ left.held in
-    let m = length_held _ _ right.held in
+    let n = length_packed _ _ left.packed_prefix in
+    let m = length_packed _ _ right.packed_prefix in
     let w = c.in-Some-Some.ensures in
     let v = c.in-Some-Some.ensures' in (
-      λ t. same_number _ _ (held_decimal _ _ left.held) (held_decimal _ _ right.held)
+      λ t. same_number _ _ (packed_decimal _ _ left.packed_prefix) (packed_decimal _ _ right.packed_prefix)
           (n ∙ c.if-self-other.false ∙ sym m) (omega (arith, w.at_most)) (omega (arith, v.at_most))
           (sym w.number ∙ (Decides-eqb c.in-Some-Some.left c.in-Some-Some.right).0 t ∙ v.number),
       λ e. (Decides-eqb c.in-Some-Some.left c.in-Some-Some.right).1
-          (w.number ∙ ap halves_number e ∙ sym v.number),
+          (w.number ∙ ap bcd_number e ∙ sym v.number),
     )
 
 pub returns-in_default : goal.returns-in_default
 returns-in_default c = (
   λ t. same_digits _ _ _ _ c.if-self-other.false
       (sym c.front.ensures ∙ c.are_equal.ensures.0 t ∙ c.front-in_default.ensures),
-  λ e. let s = same_front _ _ c.args.self.now.held _ _ c.args.other.now.held e in
+  λ e. let s = same_front _ _ c.args.self.now.packed_prefix _ _ c.args.other.now.packed_prefix e in
       c.are_equal.ensures.1 (c.front.ensures ∙ s.1 ∙ sym c.front-in_default.ensures),
 )

@@ -1,6 +1,6 @@
 use Rattle.std.proofs.Common.{length, ◌∙◌, ap}
 use Rattle.decimal_digits.proofs.Refills.{refill_same}
-use Rattle.decimal_digits.proofs.HalfRuns.{digits_packed, digits_alone}
+use Rattle.decimal_digits.proofs.NibbleRuns.{digits_packed, digits_alone}
 use Rattle.decimal_digits.proofs.digits.packed.bytes.pack_digits.Goals as goal
 
 pub returns-then-digits-le16-clause-ok : goal.returns-then-digits-le16-clause-ok

@@ -21,10 +21,10 @@ loop-written-preserved g c =
     let took = g.W.Write.write_str_gives in
     let all = text c.args.self.now in
     let i = c.loop-written.written in
-    let piece = c.copy_text.new.places in
+    let piece = c.copy_text.new.buffer in
     let new = c.write_str.new.self in
     record {
-      within = omega (arith, few, c.copy_text.auto.places, c.min.ensures);
+      within = omega (arith, few, c.copy_text.auto.buffer, c.min.ensures);
       wrote = λ flush.
           let w = c.loop-written.invariant.wrote flush in
           let p = subst (λ bs. HasWrittenStyled took c.loop-written.f bs new) c.from_utf8_unchecked.ensures

@@ -1,5 +1,5 @@
 use Rattle.decimal_unsigned.proofs.Common.{◌-◌, length, drop, arith, length-take, length-drop}
-use Rattle.decimal_unsigned.proofs.ShortNumbers.{fraction_numbered}
+use Rattle.decimal_unsigned.proofs.BcdValues.{fraction_numbered}
 use Rattle.decimal_unsigned.proofs.decimal.parse.parts.after_whole.Goals as goal
 
 pub returns-in-46-clause-number : goal.returns-in-46-clause-number

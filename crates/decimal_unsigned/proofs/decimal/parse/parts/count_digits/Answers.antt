@@ -1,6 +1,6 @@
 use Rattle.decimal_unsigned.proofs.Common.{◌≤◌, ◌%◌, ◌^◌, length, sym, ◌∙◌, ap, arith, is_ascii_digit, take_all, digits_value_after}
 use Rattle.std.proofs.lemmas.List.Sums.{prefix_len-drop_yes, prefix_len-drop_no, prefix_len-drop_all}
-use Rattle.decimal_unsigned.proofs.ShortNumbers.{number_more}
+use Rattle.decimal_unsigned.proofs.BcdValues.{number_more}
 use Rattle.decimal_unsigned.proofs.decimal.parse.parts.count_digits.Goals as goal
 use Rattle.decimal_unsigned.proofs.decimal.parse.parts.count_digits.Goals.{then-text-lt-GROUP, else-text-lt-GROUP}
 

@@ -10,7 +10,7 @@ unfolding parts_of
 found c =
     c.after_whole.ensures.parts
     ∙ (λ i. option_map saturated_parts
-    (after_whole (c.split_digits-number.ensures.front i) (c.split_digits-number.ensures.behind i)))
+    (after_whole (c.split_digits-number.ensures.digits i) (c.split_digits-number.ensures.rest i)))
 
 pub returns-clause-digits : goal.returns-clause-digits
 returns-clause-digits c = digits_found c.args.text.now c.after_whole.result (found c)
@@ -21,6 +21,6 @@ returns-clause-exponent c = exponent_found c.args.text.now c.after_whole.result 
 pub returns-clause-number : goal.returns-clause-number
 returns-clause-number c = λ few.
     let text = c.args.text.now in
-    let long = ap length c.split_digits-number.ensures.behind in
+    let long = ap length c.split_digits-number.ensures.rest in
     c.after_whole.ensures.number (omega (arith, long, length-drop (prefix_len is_ascii_digit text) text))
     (c.split_digits-number.ensures.number few)

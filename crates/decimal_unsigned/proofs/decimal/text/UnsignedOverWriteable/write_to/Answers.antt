@@ -11,11 +11,11 @@ copy_text-requires-clause-zeros g c = zeros_first 64 c.min.result (omega (arith,
 pub loop-written-preserved : goal.loop-written-preserved
 loop-written-preserved g c =
     let few = length-take c.min.result (block_of 64) in
-    let same = c.copy_text.auto.places in
+    let same = c.copy_text.auto.buffer in
     record {
       within = omega (arith, few, same, c.min.ensures);
       appended =
-          wrote_more _ _ _ (text c.args.self.now) c.copy_text.new.places c.loop-written.written _
+          wrote_more _ _ _ (text c.args.self.now) c.copy_text.new.buffer c.loop-written.written _
           (omega (arith, few, c.min.ensures, c.writeable_length_hint-length.ensures.length)) c.copy_text.ensures
           c.loop-written.invariant.appended c.in_ok-put_bytes.ensures.appends;
       fresh =
@@ -27,20 +27,20 @@ pub returns-in_err-put_bytes-clause-err : goal.returns-in_err-put_bytes-clause-e
 returns-in_err-put_bytes-clause-err g c =
     let few = length-take c.min.result (block_of 64) in
     on_err c.from_residual.result _
-    (wrote_part _ _ _ (text c.args.self.now) c.copy_text.new.places c.loop-written.written _
+    (wrote_part _ _ _ (text c.args.self.now) c.copy_text.new.buffer c.loop-written.written _
     (omega (arith, few, c.min.ensures, c.writeable_length_hint-length.ensures.length)) c.copy_text.ensures
     c.loop-written.invariant.appended c.in_err-put_bytes.ensures.prefix)
 
-pub returns-in_err-put_bytes-clause-stays : goal.returns-in_err-put_bytes-clause-stays
-returns-in_err-put_bytes-clause-stays g c =
+pub returns-in_err-put_bytes-clause-unchanged : goal.returns-in_err-put_bytes-clause-unchanged
+returns-in_err-put_bytes-clause-unchanged g c =
     fresh_keeps g.W.Sink.has_failed g.W.Sink.contents _ _ _ _ c.loop-written.invariant.fresh
-    c.in_err-put_bytes.ensures.stays
+    c.in_err-put_bytes.ensures.unchanged
 
 pub returns-clause-had_not_failed : goal.returns-clause-had_not_failed
 returns-clause-had_not_failed g c =
-    fresh_some g.W.Sink.has_failed _ _ _ c.loop-written.invariant.fresh (omega (arith, c.if-length-le-FEW.false))
+    fresh_some g.W.Sink.has_failed _ _ _ c.loop-written.invariant.fresh (omega (arith, c.if-length-le-MAX_SHORT.false))
 
-pub returns-clause-stays : goal.returns-clause-stays
-returns-clause-stays g c =
+pub returns-clause-unchanged : goal.returns-clause-unchanged
+returns-clause-unchanged g c =
     fresh_ends g.W.Sink.has_failed g.W.Sink.contents _ _ _ c.loop-written.invariant.fresh
-    (omega (arith, c.if-length-le-FEW.false))
+    (omega (arith, c.if-length-le-MAX_SHORT.false))

@@ -1,0 +1,87 @@
+//! Output in blocks: how often the writer is called, and when no longer.
+use super::words;
+use cli::fixdec::run_arguments;
+use std::alloc::Global;
+use std::io;
+use std::test::Fail;
+use test_support::FailingWriter;
+use test_support::WriteFailure::{self, Flush, StorageFull};
+
+/// A number of 65,536 digits: with the decimal point and the line feed 65,538 bytes.
+const LONGEST: &str = "fixdec 1e32767 pad-end:-32768";
+
+/// A line, the number of bytes that the writer takes, how it fails, the status, and the number of its calls.
+const ROWS: &[(&str, usize, WriteFailure, u8, usize)] = &[
+    (LONGEST, 65_538, StorageFull, 0, 2),
+    (LONGEST, 65_537, StorageFull, 3, 3),
+    (LONGEST, 16_384, StorageFull, 3, 2),
+    (LONGEST, 0, StorageFull, 3, 1),
+    ("fixdec 250 shift:-2", 5, StorageFull, 0, 1),
+    ("fixdec 250 shift:-2", 4, StorageFull, 3, 2),
+    ("fixdec 250 shift:-2", 5, Flush, 3, 1),
+    ("fixdec 250 shift:-2", 0, Flush, 3, 1),
+    ("fixdec 5.", 9, StorageFull, 1, 0),
+    ("fixdec 5 trim-start concat:1e99999", 9, StorageFull, 1, 0),
+    ("fixdec 98765 shift:32763 shift:1", 9, StorageFull, 1, 0),
+    ("fixdec 5 up", 9, StorageFull, 2, 0),
+];
+
+/// Makes a writer that takes `capacity` bytes, any bytes, and any number of them in a call.
+fn writer(capacity: usize, write_failure: WriteFailure) -> FailingWriter<'static> {
+    FailingWriter::new(b"", capacity, write_failure).with_width(usize::MAX)
+}
+
+/// Returns the status of a line, and the number of calls of the writer if it is returned.
+fn counted(
+    alloc: Global,
+    line: &str,
+    capacity: usize,
+    write_failure: WriteFailure,
+) -> Result<(u8, Option<usize>), Fail> {
+    let arguments = words(alloc, line)?.into_iter();
+    let out = writer(capacity, write_failure);
+    let (status, out) = run_arguments(alloc, Ok(arguments), out, &mut io::sink());
+    Ok((status, out.map(|closed| closed.into_writer().writes())))
+}
+
+/// Does the same, and once more if it may be out of memory.
+fn counted_with_retry(
+    alloc: Global,
+    line: &str,
+    capacity: usize,
+    write_failure: WriteFailure,
+) -> Result<(u8, Option<usize>), Fail> {
+    let first = counted(alloc, line, capacity, write_failure)?;
+    if first.0 == 3 {
+        return counted(alloc, line, capacity, write_failure);
+    }
+    Ok(first)
+}
+
+#[test]
+fn writes_blocks(rt: HostRuntime) -> Result<(), Fail> {
+    let alloc = rt.alloc();
+    for (line, capacity, write_failure, status, writes) in ROWS {
+        let found = counted_with_retry(alloc, line, *capacity, *write_failure)?;
+        assert_eq!(rt; found, (*status, Some(*writes)));
+    }
+    Ok(())
+}
+
+/// Returns the number of calls of the writer of standard error for a line.
+fn writes_of_a_line(alloc: Global, line: &str) -> Result<usize, Fail> {
+    let mut err = writer(64, StorageFull);
+    let arguments = words(alloc, line)?.into_iter();
+    let (_, _) = run_arguments(alloc, Ok(arguments), io::sink(), &mut err);
+    Ok(err.writes())
+}
+
+#[test]
+fn reports_a_line_in_one_write(rt: HostRuntime) -> Result<(), Fail> {
+    let alloc = rt.alloc();
+    for line in ["fixdec 5.", "fixdec", "fixdec 5 concat:x"] {
+        assert_eq!(rt; writes_of_a_line(alloc, line)?, 1);
+    }
+    assert_eq!(rt; writes_of_a_line(alloc, "fixdec 5")?, 0);
+    Ok(())
+}

@@ -1,0 +1,191 @@
+//! Inputs of a few lines, read in pieces, with their output and the errors that are reported.
+use super::pattern::{Pattern, PatternReader};
+use super::words;
+use cli::ErrorLines;
+use cli::fixdec_lines::run_arguments;
+use std::alloc::Global;
+use std::io::ErrorKind;
+use std::process::Abort;
+use std::test::Fail;
+use test_support::{FailingWriter, WriteFailure};
+
+/// Words, an input, the texts of standard output and standard error, and the status.
+type Row = (
+    &'static str,
+    &'static [u8],
+    &'static [u8],
+    &'static [u8],
+    u8,
+);
+
+/// The reader does not fail.
+const ROWS: &[Row] = &[
+    (
+        "fixdec_lines shift:-2",
+        b"250\n7\n",
+        b"2.50\n0.07\n",
+        b"",
+        0,
+    ),
+    ("fixdec_lines shift:-2", b"250\n7", b"2.50\n0.07\n", b"", 0),
+    ("fixdec_lines", b"+007.0\n.5\n", b"+007.0\n0.5\n", b"", 0),
+    ("fixdec_lines", b"", b"", b"", 0),
+    ("fixdec_lines skip", b"", b"", b"", 0),
+    ("fixdec_lines skip", b"5", b"5\n", b"", 0),
+    ("fixdec_lines", b"\n", b"", b"line 1: start: syntax\n", 1),
+    (
+        "fixdec_lines",
+        b"1\n\n2\n",
+        b"1\n",
+        b"line 2: start: syntax\n",
+        1,
+    ),
+    (
+        "fixdec_lines",
+        b"1\n2\n\n",
+        b"1\n2\n",
+        b"line 3: start: syntax\n",
+        1,
+    ),
+    (
+        "fixdec_lines",
+        b"1\r\n2\n",
+        b"",
+        b"line 1: start: syntax\n",
+        1,
+    ),
+    (
+        "fixdec_lines",
+        b"1\n2\x00\n3\n",
+        b"1\n",
+        b"line 2: start: syntax\n",
+        1,
+    ),
+    ("fixdec_lines", b"\xff", b"", b"line 1: start: syntax\n", 1),
+    ("fixdec_lines", b"1 \n", b"", b"line 1: start: syntax\n", 1),
+    (
+        "fixdec_lines",
+        b"1\n10e32767\n",
+        b"1\n",
+        b"line 2: start: limit\n",
+        1,
+    ),
+    (
+        "fixdec_lines trim-end concat:7",
+        b"0.0\n10\n11\n12\n",
+        b"7\n17\n",
+        b"line 3: call 1: overlap\n",
+        1,
+    ),
+    (
+        "fixdec_lines shift:1 shift:32767",
+        b"0\n1\n5.5\n",
+        b"",
+        b"line 1: call 1: overflow\n",
+        1,
+    ),
+    (
+        "fixdec_lines concat:x",
+        b"0\n",
+        b"",
+        b"line 1: call 0: syntax\n",
+        1,
+    ),
+    ("fixdec_lines up", b"1\n", b"", USAGE, 2),
+    ("fixdec_lines shift:-2 skip", b"1\n", b"", USAGE, 2),
+    ("fixdec_lines skip skip", b"1\n", b"", USAGE, 2),
+    ("fixdec_lines 250", b"1\n", b"", USAGE, 2),
+    ("fixdec_lines ", b"1\n", b"", USAGE, 2),
+    (
+        "fixdec_lines skip shift:-2",
+        b"250\n\nx\n7",
+        b"2.50\n\n\n0.07\n",
+        b"line 2: start: syntax\nline 3: start: syntax\n",
+        1,
+    ),
+    (
+        "fixdec_lines skip concat:7 shift:1",
+        b"1\n10\n10e32767",
+        b"\n170\n\n",
+        b"line 1: call 0: overlap\nline 3: start: limit\n",
+        1,
+    ),
+];
+
+/// The reader fails after the input.
+const BROKEN: &[Row] = &[
+    (
+        "fixdec_lines shift:-2",
+        b"250\n7\n",
+        b"2.50\n0.07\n",
+        b"input\n",
+        3,
+    ),
+    ("fixdec_lines shift:-2", b"250\n7", b"2.50\n", b"input\n", 3),
+    ("fixdec_lines shift:-2", b"", b"", b"input\n", 3),
+    (
+        "fixdec_lines",
+        b"x\n7\n",
+        b"",
+        b"line 1: start: syntax\n",
+        1,
+    ),
+    (
+        "fixdec_lines skip",
+        b"x\n7\n",
+        b"\n7\n",
+        b"line 1: start: syntax\ninput\n",
+        3,
+    ),
+    ("fixdec_lines up", b"", b"", USAGE, 2),
+];
+
+const USAGE: &[u8] = b"usage: fixdec_lines [skip] [CALL]..\n";
+
+/// The reader is out of memory after the input.
+const NO_MEMORY: &[Row] = &[
+    ("fixdec_lines", b"", b"", b"line 1: memory\n", 3),
+    ("fixdec_lines", b"7\n8", b"7\n", b"line 2: memory\n", 3),
+    (
+        "fixdec_lines skip",
+        b"x\n",
+        b"\n",
+        b"line 1: start: syntax\nline 2: memory\n",
+        3,
+    ),
+];
+
+/// Whether a row holds with `most` bytes a read, of a reader that fails after the input if there is a failure.
+fn holds(alloc: Global, row: Row, most: usize, failure: Option<ErrorKind>) -> Result<bool, Fail> {
+    let arguments = words(alloc, row.0)?.into_iter();
+    let mut input = PatternReader::failing(Pattern::of(row.1), most, failure);
+    let out = FailingWriter::new(row.2, usize::MAX, WriteFailure::StorageFull);
+    let mut err = FailingWriter::new(row.3, usize::MAX, WriteFailure::StorageFull);
+    let mut lines = ErrorLines::new(&mut err);
+    let (status, out) = run_arguments(alloc, Ok(arguments), &mut input, out, &mut lines);
+    let has_all = out.is_some_and(|closed| closed.into_writer().has_all()) && err.has_all();
+    Ok(status == row.4 && has_all && (status != 2 || input.is_spent() == row.1.is_empty()))
+}
+
+/// Asserts that rows hold, with a few bytes at a read and with many.
+fn assert_rows(
+    rt: &impl Abort,
+    alloc: Global,
+    rows: &[Row],
+    failure: Option<ErrorKind>,
+) -> Result<(), Fail> {
+    for most in [1, 2, 5, 100] {
+        for row in rows {
+            assert!(rt; holds(alloc, *row, most, failure)?, "{} {most}", row.0);
+        }
+    }
+    Ok(())
+}
+
+#[test]
+fn filters_chunked_input(rt: HostRuntime) -> Result<(), Fail> {
+    let alloc = rt.alloc();
+    assert_rows(&rt, alloc, ROWS, None)?;
+    assert_rows(&rt, alloc, BROKEN, Some(ErrorKind::BrokenPipe))?;
+    assert_rows(&rt, alloc, NO_MEMORY, Some(ErrorKind::OutOfMemory))
+}

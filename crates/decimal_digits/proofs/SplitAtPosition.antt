@@ -1,0 +1,175 @@
+-- A number in its parts above and below a position, and the number that is left there.
+use Rattle.std.proofs.Common.{◌≡◌, ℕ, ◌+◌, ◌-◌, ◌*◌, ◌^◌, ◌<◌, ◌≤◌, ◌==◌, false, List, length, get_or, drop, refl, sym, ◌∙◌, ap, subst, arith, rules, inl, inr}
+use Rattle.std.specs.Prelude.{ℤ, pos, negsuc, ◌+ℤ◌, ◌≤ℤ◌, ◌<ℤ◌}
+use Rattle.std.proofs.lemmas.Int.{ints}
+use Rattle.std.proofs.lemmas.Bool.{cases_lt}
+use Rattle.std.proofs.lemmas.List.{take_all, length-drop}
+use Rattle.std.proofs.Math.Nat.{mul-pos, pow-le-pow_right, mul-lt-mul_of_pos_right, mul-le-mul_right}
+use Rattle.std.specs.Int.Digits.{AllBelowBase}
+use Rattle.decimal_digits.specs.declared.rounding.UnsignedRoundingMode.{UnsignedRoundingMode}
+use Rattle.decimal_digits.specs.declared.rounding.remainder.Remainder.{Remainder}
+use Rattle.decimal_digits.specs.declared.rounding.remainder.Remainder.TheVariants.{BelowHalf}
+use Rattle.decimal_digits.specs.Number.{offset, weight, first, last, size, magnitude_at, number_limit}
+use Rattle.decimal_digits.specs.Digits.{number_at, number_of, IsStripped}
+use Rattle.decimal_digits.specs.Rounding.{step_of, unit_at, rounded_number, DigitRoundingFails}
+use Rattle.decimal_digits.specs.declared.rounding.RoundError.{RoundError}
+use Rattle.decimal_digits.specs.declared.rounding.RoundError.TheVariants.{Limit, Memory}
+use Rattle.decimal_digits.specs.declared.rounding.RoundingIncrement.{RoundingIncrement}
+use Rattle.decimal_digits.specs.RoundedDigits.{Represents}
+use Rattle.decimal_digits.specs.Remainders.{leading, RemainderIs, RoundsTo, SplitsAs, HasDigits, RoundLeadingFails}
+use Rattle.decimal_digits.proofs.Offsets.{offset_is, magnitude_at-offset, gap_is}
+use Rattle.decimal_digits.proofs.Ends.{first_is, last_is, first_zero}
+use Rattle.decimal_digits.proofs.DigitLists.{ten_pos}
+use Rattle.decimal_digits.proofs.NumberAt.{powers, number_at-none, number_at-more, number_at-split, number_at-lt, number_at-ge, number_at-pos}
+use Rattle.decimal_digits.proofs.Leading.{leading_none, leading_at}
+
+-- ---- before the rounding
+-- the first k digits and what follows, also where there are fewer
+split_at : (top k : ℕ) (ds : List ℕ) → length ds ≤ top → k ≤ top
+    → number_at top ds ≡ leading k ds * 10 ^ (top - k) + number_at (top - k) (drop k ds)
+split_at top k ds fits h = elim (cases_lt k (length ds)) [
+  | inl l ↦
+      number_at-split top k ds (omega arith) fits
+      ∙ ap (λ n. n + number_at (top - k) (drop k ds)) (leading_at top k ds h)
+  | inr l ↦
+      let z : number_at (top - k) (drop k ds) ≡ 0 =
+      number_at-none (top - k) (drop k ds) (omega (arith, length-drop k ds)) in
+      omega (arith, ap (number_at top) (take_all k ds l), leading_at top k ds h)
+]
+
+-- a position with k places at or above it
+pub splits_above : (m p : ℤ) (k : ℕ) (remainder : Remainder) (ds : List ℕ) → negsuc 32767 ≤ℤ m → negsuc 32767 ≤ℤ p
+    → length ds ≤ offset m + 1 → (p +ℤ pos k) ≡ (m +ℤ pos 1)
+    → ((top : ℕ) → length ds ≤ top → RemainderIs remainder (number_at (top - k) (drop k ds)) (10 ^ (top - k)))
+    → SplitsAs (number_of ds m) (weight p) (leading k ds) remainder
+unfolding number_of
+splits_above m p k remainder ds low low' fits at is =
+    let top = offset m + 1 in
+    let e : top - k ≡ offset p = omega (arith, ints, offset_is m, offset_is p) in (
+      number_at (top - k) (drop k ds),
+      split_at top k ds fits (omega (arith, ints, offset_is m, offset_is p))
+          ∙ ap (λ i. leading k ds * 10 ^ i + number_at (top - k) (drop k ds)) e,
+      subst (λ i. RemainderIs remainder (number_at (top - k) (drop k ds)) (10 ^ i)) e (is top fits),
+    )
+
+-- a position above the place in front of the digits
+pub splits_below : (m p : ℤ) (ds : List ℕ) → negsuc 32767 ≤ℤ m → AllBelowBase 10 ds → 0 < length ds
+    → 0 < get_or ds (length ds - 1) 0 → length ds ≤ offset m + 1 → (m +ℤ pos 1) <ℤ p
+    → SplitsAs (number_of ds m) (weight p) (leading 0 ds) BelowHalf
+unfolding number_of
+splits_below m p ds low b some back fits above =
+    let top = offset m + 1 in
+    let l : number_at top ds < 10 ^ top = number_at-lt top ds b fits in
+    let h : 10 ^ (top + 1) ≤ 10 ^ offset p =
+    pow-le-pow_right (omega arith) (omega (arith, ints, offset_is m, offset_is p)) in (
+      number_at top ds,
+      omega (arith, ap (λ v. v * weight p) (leading_none 0 ds refl)),
+      (number_at-pos top ds b some back, omega (arith, powers top 1 (top + 1) refl)),
+    )
+
+-- ---- after it
+-- what the parts of a number round to is what the number rounds to
+pub rounded_split : (mode : UnsignedRoundingMode) (step : ℕ) (remainder : Remainder) (n u k v : ℕ) → 0 < u
+    → SplitsAs n u k remainder → RoundsTo mode step remainder k v
+    → rounded_number mode (step * u) n ≡ v * u
+rounded_split mode step remainder n u k v p (r, e, is) rounds = ap (rounded_number mode (step * u)) e ∙ rounds r u p is
+
+module _ (m : ℤ) (ds : List ℕ) (low : negsuc 32767 ≤ℤ m) (high : m ≤ℤ pos 32767) (b : AllBelowBase 10 ds)
+    (fits : length ds ≤ offset m + 1) (s : IsStripped ds) where
+  -- a list of digits with no 0 at either end spells its number
+  pub represents : 0 < length ds → Represents ds m (number_of ds m)
+  unfolding number_of
+  represents some =
+      let less : number_at (offset m + 1) ds < 10 ^ (offset m + 1) = number_at-lt (offset m + 1) ds b fits in
+      let least : 10 ^ (offset m + 1 - 1) ≤ number_at (offset m + 1) ds =
+      number_at-ge (offset m + 1) ds some (s.front some) fits in
+      let e : offset m + 1 - 1 ≡ offset m = omega arith in
+      let at_most : 10 ^ (offset m + 1) ≤ weight (pos 32768) =
+      pow-le-pow_right (omega arith) (omega (arith, ints, offset_is m, offset_is (pos 32768))) in
+      record {
+        number = refl;
+        below_limit = omega arith;
+        magnitude_is =
+            first_is (number_at (offset m + 1) ds) (offset m) (omega (arith, ap (λ i. 10 ^ i) e)) less
+            (omega (arith, ints, offset_is m))
+            ∙ magnitude_at-offset m low;
+        stripped = s;
+        fits = fits;
+        least = low;
+        greatest = high;
+      }
+
+-- no digits spell 0, at the magnitude 0
+pub represents_none : (ds : List ℕ) (n : ℕ) → length ds ≡ 0 → n ≡ 0 → Represents ds (pos 0) n
+unfolding number_of
+represents_none ds n z e = record {
+  number = number_at-none (offset (pos 0) + 1) ds z ∙ sym e;
+  below_limit = omega (arith, ten_pos (offset (pos 32768)));
+  magnitude_is = ap first e ∙ first_zero;
+  stripped = record { front = λ h. absurd (omega arith); back = λ h. absurd (omega arith) };
+  fits = omega arith;
+  least = omega (arith, ints);
+  greatest = omega (arith, ints);
+}
+
+module _ (p : ℤ) (places : ℕ) (ds : List ℕ) (low : negsuc 32767 ≤ℤ p) (fits : length ds ≤ places) where
+  moved : (top : ℕ) → top ≡ places + offset p → number_at top ds ≡ number_at places ds * weight p
+  moved top e = ap (λ i. number_at i ds) e ∙ number_at-more places (offset p) ds fits
+
+  -- the highest of the places
+  pub number_up : (m : ℤ) → negsuc 32767 ≤ℤ m → (m +ℤ pos 1) ≡ (p +ℤ pos places)
+      → number_of ds m ≡ number_at places ds * weight p
+  unfolding number_of
+  number_up m low' e = moved (offset m + 1) (omega (arith, ints, offset_is m, offset_is p))
+
+-- ---- how many digits there are
+-- a number of k digits, the last of which is not 0, has this size from each position on
+pub size_is : (p : ℤ) (k m : ℕ) → 0 < k → HasDigits k m → negsuc 32767 ≤ℤ p → offset p + k ≤ 65536
+    → size (m * weight p) ≡ k
+size_is p k m some d low h =
+    let n = m * weight p in
+    let least : 10 ^ (k - 1) * weight p ≤ m * weight p = mul-le-mul_right (weight p) d.least in
+    let most : m * weight p < 10 ^ k * weight p = mul-lt-mul_of_pos_right d.most (ten_pos (offset p)) in
+    let above : first (m * weight p) ≡ magnitude_at (k - 1 + offset p) =
+    first_is (m * weight p) (k - 1 + offset p) (omega (arith, powers (k - 1) (offset p) (k - 1 + offset p) refl))
+    (omega (arith, powers k (offset p) (k - 1 + offset p + 1) (omega arith))) (omega arith) in
+    let below : last (m * weight p) ≡ magnitude_at (offset p) = last_is m (offset p) d.ends (omega arith) in
+    let nonzero : (m * weight p == 0) ≡ false =
+    (let q : 0 < m * weight p = omega (arith, mul-pos (ten_pos (k - 1)) (ten_pos (offset p))) in search rules) in
+    rw (nonzero, above, below) (omega (arith, ints, gap_is (magnitude_at (offset p)) (magnitude_at (k - 1 + offset p))))
+
+-- ---- why a number is not rounded
+-- what is wrong with the digits that are kept is wrong with the number
+pub digit_rounding_fails : (e : RoundError) (mode : UnsignedRoundingMode) (increment : RoundingIncrement)
+    (fit room k : ℕ)
+    (ds : List ℕ) (remainder : Remainder) (n : ℕ) (p : ℤ) → negsuc 32767 ≤ℤ p → (p +ℤ pos room) ≡ pos 32768
+    → (0 < k → offset p + k ≤ 65536)
+    → SplitsAs n (weight p) (leading k ds) remainder → RoundLeadingFails e mode increment fit room k ds remainder
+    → DigitRoundingFails e increment (length ds) (rounded_number mode (unit_at increment p) n) fit
+digit_rounding_fails Limit mode increment fit room k ds remainder n p low top within splits_as (m, h, rounds) =
+    let e =
+    rounded_split mode (step_of increment) remainder n (weight p) (leading k ds) m (ten_pos (offset p)) splits_as
+    rounds in
+    let up : number_limit ≡ 10 ^ room * weight p =
+    powers room (offset p) (offset (pos 32768)) (omega (arith, ints, offset_is p, offset_is (pos 32768))) in
+    let more : 10 ^ room * weight p ≤ m * weight p = mul-le-mul_right (weight p) h in
+    omega (arith, e, up, more)
+digit_rounding_fails Memory mode increment fit room k ds remainder n p low top within splits_as (
+  by_25,
+  full,
+  at_end,
+  (m, has, rounds),
+) =
+    let e =
+    rounded_split mode (step_of increment) remainder n (weight p) (leading k ds) m (ten_pos (offset p)) splits_as
+    rounds in
+    let some : 0 < k = omega arith in
+    let most : m * weight p < 10 ^ k * weight p = mul-lt-mul_of_pos_right has.most (ten_pos (offset p)) in
+    let at_most : 10 ^ (k + offset p) ≤ number_limit =
+    pow-le-pow_right (omega arith) (omega (arith, ints, within some, offset_is (pos 32768))) in
+    record {
+      by_25 = by_25;
+      below_limit = omega (arith, e, most, at_most, powers k (offset p) (k + offset p) refl);
+      longer = ap size e ∙ size_is p k m some has low (within some) ∙ at_end;
+      full = full;
+    }

@@ -1,0 +1,60 @@
+-- Private: only the contracts of private functions speak of these.
+-- What is left below a place, and what a rounding makes of it.
+use Rattle.std.specs.Prelude.{◌≡◌, ℕ, ◌+◌, ◌-◌, ◌*◌, ◌%◌, ◌^◌, ◌<◌, ◌≤◌, Bool, true, false, List, length, take}
+use Rattle.decimal_digits.specs.declared.rounding.UnsignedRoundingMode.{UnsignedRoundingMode}
+use Rattle.decimal_digits.specs.declared.rounding.UnsignedRoundingMode.TheVariants.{Expand, Trunc, HalfExpand, HalfTrunc, HalfEven}
+use Rattle.decimal_digits.specs.declared.rounding.remainder.Remainder.{Remainder}
+use Rattle.decimal_digits.specs.declared.rounding.remainder.Remainder.TheVariants.{Zero, BelowHalf, Half, AboveHalf}
+use Rattle.decimal_digits.specs.Digits.{number_at}
+use Rattle.decimal_digits.specs.Rounding.{step_of, rounded_number}
+use Rattle.decimal_digits.specs.declared.rounding.RoundError.{RoundError}
+use Rattle.decimal_digits.specs.declared.rounding.RoundError.TheVariants.{Limit, Memory}
+use Rattle.decimal_digits.specs.declared.rounding.RoundingIncrement.{RoundingIncrement}
+use Rattle.decimal_digits.specs.declared.rounding.RoundingIncrement.TheVariants.{MultiplesOf25}
+
+-- r is nothing, less than half, half, or more than half of u
+abbrev pub RemainderIs : Remainder → ℕ → ℕ → Type 0
+RemainderIs Zero r u = r ≡ 0
+RemainderIs BelowHalf r u = (0 < r) × (2 * r < u)
+RemainderIs Half r u = 2 * r ≡ u
+RemainderIs AboveHalf r u = (u < 2 * r) × (r < u)
+
+-- whether a mode takes the multiple above, by what is left of the unit and by whether the quotient is odd
+abbrev pub rounds_up_of : UnsignedRoundingMode → Remainder → Bool → Bool
+rounds_up_of mode Zero odd = false
+rounds_up_of Expand left odd = true
+rounds_up_of Trunc left odd = false
+rounds_up_of mode BelowHalf odd = false
+rounds_up_of mode AboveHalf odd = true
+rounds_up_of HalfExpand Half odd = true
+rounds_up_of HalfTrunc Half odd = false
+rounds_up_of HalfEven Half odd = odd
+
+-- k of a place, with this tail below it, is rounded to m of that place, whatever the place counts
+abbrev pub RoundsTo : UnsignedRoundingMode → ℕ → Remainder → ℕ → ℕ → Type 0
+RoundsTo mode step remainder k m =
+    (r unit : ℕ) → 0 < unit → RemainderIs remainder r unit → rounded_number mode (step * unit) (k * unit + r) ≡ m * unit
+
+-- the number that the first k digits write, where zeros follow the list
+abbrev pub leading : ℕ → List ℕ → ℕ
+leading k digits = number_at k (take k digits)
+
+-- n is k of a place, and below it the tail
+abbrev pub SplitsAs : ℕ → ℕ → ℕ → Remainder → Type 0
+SplitsAs n unit k remainder = (r : ℕ) × (n ≡ k * unit + r) × RemainderIs remainder r unit
+
+-- m has n digits, of which the last is not 0
+pub record HasDigits (n m : ℕ) : Type 0 where
+  pub most : m < 10 ^ n
+  pub least : 10 ^ (n - 1) ≤ m
+  pub ends : 0 < m % 10
+
+-- why the number of the first `keep` digits is not rounded: it would have more places than there is room for; or memory
+-- is wanted, by 25, for the digit behind all that are held, of which there are as many as fit with no memory, or more
+abbrev pub RoundLeadingFails :
+    RoundError → UnsignedRoundingMode → RoundingIncrement → ℕ → ℕ → ℕ → List ℕ → Remainder → Type 0
+RoundLeadingFails Limit mode increment fit max_places keep digits remainder =
+    (m : ℕ) × (10 ^ max_places ≤ m) × RoundsTo mode (step_of increment) remainder (leading keep digits) m
+RoundLeadingFails Memory mode increment fit max_places keep digits remainder =
+    (increment ≡ MultiplesOf25) × (fit ≤ length digits) × (keep ≡ length digits + 1)
+    × ((m : ℕ) × HasDigits keep m × RoundsTo mode (step_of increment) remainder (leading keep digits) m)

@@ -1,0 +1,210 @@
+//! Half bytes: single ones, and passes over bytes that move them.
+ghost use Rattle.std.specs.Prelude.{◌≡◌, ℕ, ◌+◌, ◌*◌, ◌/◌, ◌%◌, ◌-◌, ◌^◌, ◌<◌, ◌≤◌, [], ◌∷◌, ◌++◌, length, map, take, drop, replicate, slice_index, slice_set, All};
+ghost use Rattle.smallvec.specs.SmallVec.{small_vec_len, HasRoomFor};
+ghost use Rattle.decimal_digits.specs.Nibbles.{nibbles};
+
+use smallvec::SmallVec;
+
+/// Counts the bytes that so many digits take.
+#[inline]
+pub(super) fn byte_count(digits: usize) -> usize
+    ensures { result ≡ (digits + 1) / 2 }
+{
+    digits / 2 + digits % 2
+}
+
+/// Gives the half at an index.
+#[inline]
+pub(crate) fn nibble_at(bytes: &[u8], index: usize) -> u8
+    requires { index < length (nibbles bytes.now) }
+    ensures { result ≡ slice_index (nibbles bytes.now) index }
+{
+    let byte = bytes[index / 2];
+    if index % 2 == 0 { byte / 16 } else { byte % 16 }
+}
+
+/// Puts a half in the place of the one at an index.
+#[inline]
+pub(super) fn set_nibble(bytes: &mut SmallVec<u8, 8>, index: usize, nibble: u8)
+    requires in_range { index < length (nibbles bytes.old.items) }
+    requires is_nibble { nibble < 16 }
+    ensures written { nibbles bytes.new.items ≡ slice_set (nibbles bytes.old.items) index nibble }
+    ensures capacity { bytes.new.capacity ≡ bytes.old.capacity }
+    ensures fits { 2 * small_vec_len bytes.old < 2 ^ 64 }
+{
+    let byte = &mut bytes.as_mut_slice()[index / 2];
+    if index % 2 == 0 {
+        *byte = nibble * 16 + *byte % 16;
+    } else {
+        *byte = *byte / 16 * 16 + nibble;
+    }
+}
+
+/// Writes the low halves of these over bytes, two to a byte, and 0 into a half that is left over.
+///
+/// The low half of a digit is the digit, and so is that of the letter that writes it.
+pub(super) fn pack(bytes: &mut [u8], digits: &[u8])
+    requires { length bytes.old ≡ (length digits.now + 1) / 2 }
+    ensures { nibbles bytes.new ≡ map (λ d. d % 16) digits.now ++ replicate (length digits.now % 2) 0 }
+{
+    let pairs = digits.len() / 2;
+    let mut rest = digits;
+    for i in 0..pairs {
+        bytes[i] = rest[0] % 16 * 16 + rest[1] % 16;
+        rest = &rest[2..];
+    }
+    if digits.len() % 2 == 1 {
+        bytes[pairs] = rest[0] % 16 * 16;
+    }
+}
+
+/// Appends the low halves of these behind the last byte, and 0 to a half that is left over.
+#[inline]
+pub(super) fn append_pairs(bytes: &mut SmallVec<u8, 8>, digits: &[u8])
+    requires { (length digits.now + 1) / 2 ≤ bytes.old.capacity - small_vec_len bytes.old }
+    ensures appended { nibbles bytes.new.items
+        ≡ nibbles bytes.old.items ++ (map (λ d. d % 16) digits.now ++ replicate (length digits.now % 2) 0) }
+    ensures capacity { bytes.old.capacity ≤ bytes.new.capacity }
+    ensures fits { small_vec_len bytes.new < 2 ^ 63 }
+{
+    if digits.len() <= 16 {
+        // For so few a loop is quicker than a call.
+        push_pairs(bytes, digits);
+    } else {
+        append_packed(bytes, digits);
+    }
+}
+
+/// Appends the low halves of these, two at a time.
+#[inline]
+pub(super) fn push_pairs(bytes: &mut SmallVec<u8, 8>, digits: &[u8])
+    requires { (length digits.now + 1) / 2 ≤ bytes.old.capacity - small_vec_len bytes.old }
+    ensures appended { nibbles bytes.new.items
+        ≡ nibbles bytes.old.items ++ (map (λ d. d % 16) digits.now ++ replicate (length digits.now % 2) 0) }
+    ensures capacity { bytes.new.capacity ≡ bytes.old.capacity }
+    ensures fits { small_vec_len bytes.new < 2 ^ 63 }
+{
+    let _at_most = bytes.len();
+    let pairs = digits.len() / 2;
+    for i in 0..pairs {
+        bytes.push_reserved(digits[2 * i] % 16 * 16 + digits[2 * i + 1] % 16);
+    }
+    if digits.len() % 2 == 1 {
+        bytes.push_reserved(digits[2 * pairs] % 16 * 16);
+    }
+    let _few = bytes.as_slice();
+}
+
+/// Appends the low halves of these, in one pass.
+fn append_packed(bytes: &mut SmallVec<u8, 8>, digits: &[u8])
+    requires { (length digits.now + 1) / 2 ≤ bytes.old.capacity - small_vec_len bytes.old }
+    ensures appended { nibbles bytes.new.items
+        ≡ nibbles bytes.old.items ++ (map (λ d. d % 16) digits.now ++ replicate (length digits.now % 2) 0) }
+    ensures capacity { bytes.old.capacity ≤ bytes.new.capacity }
+    ensures fits { small_vec_len bytes.new < 2 ^ 63 }
+{
+    let old_len = bytes.len();
+    // The copy makes room, and is written over.
+    bytes
+        .extend_from_slice(&digits[..byte_count(digits.len())])
+        .unwrap();
+    pack(&mut bytes.as_mut_slice()[old_len..], digits);
+}
+
+/// Drops the high half of the byte `at`. The later halves move up by one, and `last` follows them.
+pub(super) fn remove_high_nibble(bytes: &mut [u8], at: usize, last: u8)
+    requires in_range { at < length bytes.old }
+    requires is_nibble { last < 16 }
+    ensures { nibbles bytes.new
+        ≡ take (2 * at) (nibbles bytes.old) ++ (drop (2 * at + 1) (nibbles bytes.old) ++ last ∷ []) }
+{
+    let end = bytes.len() - 1;
+    for i in at..end {
+        bytes[i] = bytes[i] % 16 * 16 + bytes[i + 1] / 16;
+    }
+    bytes[end] = bytes[end] % 16 * 16 + last;
+}
+
+/// Drops the low half of the byte `at`. The later halves move up by one, and `last` follows them.
+fn remove_low_nibble(bytes: &mut [u8], at: usize, last: u8)
+    requires in_range { at < length bytes.old }
+    requires is_nibble { last < 16 }
+    ensures { nibbles bytes.new
+        ≡ take (2 * at + 1) (nibbles bytes.old) ++ (drop (2 * at + 2) (nibbles bytes.old) ++ last ∷ []) }
+{
+    let first = bytes[at] / 16;
+    remove_high_nibble(bytes, at, last);
+    bytes[at] = first * 16 + bytes[at] % 16;
+}
+
+static ZEROS: [u8; 64] = [0; 64];
+
+/// Appends zero bytes, for which there is room.
+pub(super) fn push_zeros(bytes: &mut SmallVec<u8, 8>, count: usize)
+    requires { HasRoomFor bytes.old count }
+    ensures items { bytes.new.items ≡ bytes.old.items ++ replicate count 0 }
+    ensures capacity { bytes.old.capacity ≤ bytes.new.capacity }
+{
+    if count == 0 {
+        return;
+    }
+    for _ in 0..count / 64 {
+        bytes.extend_from_slice(&ZEROS).unwrap();
+    }
+    bytes.extend_from_slice(&ZEROS[..count % 64]).unwrap();
+}
+
+/// Keeps the first bytes.
+///
+/// `smallvec` writes zeros over what it drops, by a call where their number varies. So a few are dropped by four, two
+/// and one, which take no call.
+#[inline]
+pub(super) fn keep_bytes(bytes: &mut SmallVec<u8, 8>, count: usize)
+    requires { count ≤ small_vec_len bytes.old }
+    ensures items { bytes.new.items ≡ take count bytes.old.items }
+    ensures capacity { bytes.new.capacity ≡ bytes.old.capacity }
+{
+    if bytes.len() - count >= 8 {
+        bytes.truncate(count);
+        return;
+    }
+    if bytes.len() - count >= 4 {
+        let len = bytes.len() - 4;
+        bytes.truncate(len);
+    }
+    if bytes.len() - count >= 2 {
+        let len = bytes.len() - 2;
+        bytes.truncate(len);
+    }
+    if bytes.len() > count {
+        let len = bytes.len() - 1;
+        bytes.truncate(len);
+    }
+}
+
+/// Drops the first bytes, and keeps as many behind them.
+pub(super) fn drop_bytes(bytes: &mut SmallVec<u8, 8>, count: usize, left: usize)
+    requires { count + left ≤ small_vec_len bytes.old }
+    ensures items { bytes.new.items ≡ drop count (take (count + left) bytes.old.items) }
+    ensures capacity { bytes.new.capacity ≡ bytes.old.capacity }
+{
+    bytes.as_mut_slice().copy_within(count..count + left, 0);
+    bytes.truncate(left);
+}
+
+/// Appends the first `count` halves of `more` behind the high half of the last byte, and 0 to a half that is left over.
+pub(super) fn append_nibbles(bytes: &mut SmallVec<u8, 8>, more: &[u8], count: usize)
+    requires some { 0 < small_vec_len bytes.old }
+    requires has_room { HasRoomFor bytes.old (count / 2) }
+    requires in_range { count ≤ 2 * length more.now }
+    ensures joined { nibbles bytes.new.items
+        ≡ (take (2 * small_vec_len bytes.old - 1) (nibbles bytes.old.items) ++ take count (nibbles more.now))
+        ++ replicate ((count + 1) % 2) 0 }
+    ensures capacity { bytes.old.capacity ≤ bytes.new.capacity }
+{
+    let at = bytes.len() - 1;
+    let whole = count / 2;
+    bytes.extend_from_slice(&more[..whole]).unwrap();
+    let last = if count % 2 == 1 { more[whole] / 16 } else { 0 };
+    remove_low_nibble(bytes.as_mut_slice(), at, last);
+}

@@ -1,0 +1,68 @@
+//! The two passes over the end of a list: both stop at the first digit that stays, so each digit that is read, but the
+//! last one, is paid by one that vanishes. Where adding one meets the limit, nothing vanishes, and each digit is read
+//! once at most.
+ghost use Rattle.std.specs.Prelude.{◌≡◌, ◌+◌, ◌^◌, ◌<◌, ◌≤◌, length, slice_index, IfSome, IfNone};
+ghost use Rattle.decimal_digits.specs.Counted.{list_of, accesses_of, Continues, OnlyReads};
+ghost use Rattle.decimal_digits.specs.Digits.{number_at, IsStripped};
+ghost use Rattle.decimal_digits.specs.Remainders.{leading};
+
+use crate::digits::{Counted, DigitStore};
+
+/// Drops the zeros at the end.
+pub fn strip_trailing_zeros<D: DigitStore>(counted: &mut Counted<'_, D>)
+    requires { 0 < slice_index (D.digits (list_of counted.old)) 0 }
+    ensures value { let places = length (D.digits (list_of counted.old)) in
+        number_at places (D.digits (list_of counted.new))
+        ≡ number_at places (D.digits (list_of counted.old)) }
+    ensures length { length (D.digits (list_of counted.new)) ≤ length (D.digits (list_of counted.old)) }
+    ensures some { 0 < length (D.digits (list_of counted.new)) }
+    ensures stripped { IsStripped (D.digits (list_of counted.new)) }
+    ensures accesses { accesses_of counted.new + length (D.digits (list_of counted.new))
+        ≤ accesses_of counted.old + length (D.digits (list_of counted.old)) + 1 }
+    ensures borrows { Continues counted.old counted.new }
+{
+    let len = counted.len();
+    let zeros = counted.count_trailing(len, 0);
+    counted.truncate(len - zeros);
+}
+
+/// Adds one to the number of the first `places` digits, drops the others and the zeros that this leaves, and says how
+/// many places the digits have then.
+///
+/// They have one place more than before where there were nines alone. None: that is more than there is room for. The
+/// list then stays as it was.
+pub fn add_one<D: DigitStore>(
+    counted: &mut Counted<'_, D>,
+    places: usize,
+    max_places: usize,
+) -> Option<usize>
+    requires within { places ≤ length (D.digits (list_of counted.old)) }
+    requires fits { places ≤ max_places }
+    requires bounded { max_places ≤ 65536 }
+    requires front { 0 < slice_index (D.digits (list_of counted.old)) 0 }
+    ensures value { IfSome result (λ new. number_at new (D.digits (list_of counted.new))
+        ≡ leading places (D.digits (list_of counted.old)) + 1) }
+    ensures max_places { IfSome result (λ new. new ≤ max_places) }
+    ensures length { IfSome result (λ new. length (D.digits (list_of counted.new)) ≤ new) }
+    ensures stripped { IfSome result (λ new. IsStripped (D.digits (list_of counted.new))) }
+    ensures accesses { IfSome result (λ new. accesses_of counted.new + length (D.digits (list_of counted.new))
+        ≤ accesses_of counted.old + places + 3) }
+    ensures full { IfNone result (10 ^ max_places ≤ leading places (D.digits (list_of counted.old)) + 1) }
+    ensures reads { IfNone result (OnlyReads places counted.old counted.new) }
+    ensures borrows { Continues counted.old counted.new }
+{
+    let nines = counted.count_trailing(places, 9);
+    if nines == places {
+        if places == max_places {
+            return None;
+        }
+        counted.clear();
+        counted.push_in_room(1);
+        return Some(places + 1);
+    }
+    let last = places - nines - 1;
+    let digit = counted.get(last);
+    counted.truncate(last + 1);
+    counted.set(last, digit + 1);
+    Some(places)
+}

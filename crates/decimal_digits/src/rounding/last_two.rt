@@ -1,0 +1,158 @@
+//! The last two of the digits that are kept, as a number below 100.
+ghost use Rattle.std.specs.Prelude.{◌≡◌, ◌+◌, ◌-◌, ◌*◌, ◌%◌, ◌^◌, ◌<◌, ◌≤◌, [], ◌∷◌, ◌++◌, length, take, slice_index, IfSome, IfNone, OnOk, OnErr};
+ghost use Rattle.decimal_digits.specs.Counted.{list_of, accesses_of, Continues, OnlyReads};
+ghost use Rattle.decimal_digits.specs.Digits.{number_at, IsStripped};
+ghost use Rattle.decimal_digits.specs.Remainders.{leading};
+
+use crate::digits::{Counted, DigitStore};
+use std::alloc::AllocError;
+
+/// Gives the digit at an index, and 0 past the end.
+fn digit_at<D: DigitStore>(counted: &mut Counted<'_, D>, index: usize) -> u8
+    ensures value { result ≡ slice_index (D.digits (list_of counted.old)) index }
+    ensures is_digit { result < 10 }
+    ensures reads { OnlyReads 1 counted.old counted.new }
+{
+    if index < counted.len() {
+        counted.get(index)
+    } else {
+        0
+    }
+}
+
+/// Gives the last two of the first `keep` digits, where zeros follow the list.
+pub fn last_two_of<D: DigitStore>(counted: &mut Counted<'_, D>, keep: usize) -> u8
+    ensures last_two { result < 100 }
+    ensures value { leading keep (D.digits (list_of counted.old))
+        ≡ 100 * leading (keep - 2) (D.digits (list_of counted.old)) + result }
+    ensures last { 0 < keep → result % 10 ≡ slice_index (D.digits (list_of counted.old)) (keep - 1) }
+    ensures past { length (D.digits (list_of counted.old)) < keep → result % 10 ≡ 0 }
+    ensures none { length (D.digits (list_of counted.old)) + 2 ≤ keep → result ≡ 0 }
+    ensures reads { OnlyReads 2 counted.old counted.new }
+{
+    if keep == 0 {
+        return 0;
+    }
+    let ones = digit_at(counted, keep - 1);
+    if keep == 1 {
+        return ones;
+    }
+    10 * digit_at(counted, keep - 2) + ones
+}
+
+/// Puts a digit behind the first `index`, and drops what followed them.
+///
+/// Err: memory was refused, which needs that no digit followed and that the list has as many as are held without
+/// memory. The list then stays as it was.
+fn truncate_and_push<D: DigitStore>(
+    counted: &mut Counted<'_, D>,
+    index: usize,
+    digit: u8,
+) -> Result<(), AllocError>
+    requires in_range { index ≤ length (D.digits (list_of counted.old)) }
+    requires is_digit { digit < 10 }
+    ensures ok { OnOk result (D.digits (list_of counted.new)
+        ≡ take index (D.digits (list_of counted.old)) ++ digit ∷ []) }
+    ensures err { OnErr result (D.digits (list_of counted.new) ≡ D.digits (list_of counted.old)) }
+    ensures at_end { OnErr result (index ≡ length (D.digits (list_of counted.old))) }
+    ensures full { OnErr result (D.L ≤ length (D.digits (list_of counted.old))) }
+    ensures accesses { accesses_of counted.new ≤ accesses_of counted.old + 1 }
+    ensures borrows { Continues counted.old counted.new }
+{
+    if index < counted.len() {
+        counted.truncate(index + 1);
+        counted.set(index, digit);
+    } else {
+        counted.reserve(1)?;
+        counted.push_in_room(digit);
+    }
+    Ok(())
+}
+
+/// Puts a number of two digits, of which the first may be 0, in the place of the last two of the first `keep`.
+///
+/// No zero is written behind the last digit. Err: memory was refused, which needs that the list gets longer than it was
+/// and has as many digits as are held without memory. It then stays as it was.
+pub fn write_last_two<D: DigitStore>(
+    counted: &mut Counted<'_, D>,
+    keep: usize,
+    number: u8,
+) -> Result<(), AllocError>
+    requires in_front { 3 ≤ keep }
+    requires in_range { keep ≤ length (D.digits (list_of counted.old)) + 1 }
+    requires above { 0 < number }
+    requires below { number < 100 }
+    requires first { 0 < slice_index (D.digits (list_of counted.old)) 0 }
+    ensures value { OnOk result (number_at keep (D.digits (list_of counted.new))
+        ≡ 100 * leading (keep - 2) (D.digits (list_of counted.old)) + number) }
+    ensures length { OnOk result (length (D.digits (list_of counted.new)) ≤ keep) }
+    ensures some { OnOk result (0 < length (D.digits (list_of counted.new))) }
+    ensures stripped { OnOk result (IsStripped (D.digits (list_of counted.new))) }
+    ensures err { OnErr result (D.digits (list_of counted.new) ≡ D.digits (list_of counted.old)) }
+    ensures at_end { OnErr result (keep ≡ length (D.digits (list_of counted.old)) + 1) }
+    ensures ones { OnErr result (0 < number % 10) }
+    ensures full { OnErr result (D.L ≤ length (D.digits (list_of counted.old))) }
+    ensures accesses { accesses_of counted.new ≤ accesses_of counted.old + 2 }
+    ensures borrows { Continues counted.old counted.new }
+{
+    if number % 10 == 0 {
+        counted.truncate(keep - 1);
+    } else {
+        truncate_and_push(counted, keep - 1, number % 10)?;
+    }
+    counted.set(keep - 2, number / 10);
+    Ok(())
+}
+
+/// Makes the list the digits of a number up to 100, and says how many places they have.
+///
+/// None: these are more than there is room for. The list then stays as it was.
+pub fn write_number<D: DigitStore>(
+    counted: &mut Counted<'_, D>,
+    number: u8,
+    max_places: usize,
+) -> Option<usize>
+    requires { number ≤ 100 }
+    ensures value { IfSome result (λ places. number_at places (D.digits (list_of counted.new)) ≡ number) }
+    ensures max_places { IfSome result (λ places. places ≤ max_places) }
+    ensures length { IfSome result (λ places. length (D.digits (list_of counted.new)) ≤ places) }
+    ensures stripped { IfSome result (λ places. IsStripped (D.digits (list_of counted.new))) }
+    ensures accesses { IfSome result (λ places. accesses_of counted.new + length (D.digits (list_of counted.new))
+        ≤ accesses_of counted.old + 4) }
+    ensures full { IfNone result (10 ^ max_places ≤ number) }
+    ensures reads { IfNone result (OnlyReads 0 counted.old counted.new) }
+    ensures borrows { Continues counted.old counted.new }
+{
+    let places = digit_count(number);
+    if places > max_places {
+        return None;
+    }
+    counted.clear();
+    if number == 100 {
+        counted.push_in_room(1);
+        return Some(places);
+    }
+    if number >= 10 {
+        counted.push_in_room(number / 10);
+    }
+    if number % 10 != 0 {
+        counted.push_in_room(number % 10);
+    }
+    Some(places)
+}
+
+/// Counts the digits of a number up to 100, and none of 0.
+fn digit_count(number: u8) -> usize
+    requires { number ≤ 100 }
+    ensures none { number ≡ 0 → result ≡ 0 }
+    ensures one { 0 < number → number < 10 → result ≡ 1 }
+    ensures two_digits { 10 ≤ number → number < 100 → result ≡ 2 }
+    ensures three { number ≡ 100 → result ≡ 3 }
+{
+    match number {
+        0 => 0,
+        1..=9 => 1,
+        10..=99 => 2,
+        _ => 3,
+    }
+}

@@ -1,0 +1,288 @@
+-- Short texts: up to sixteen digits as a number in base 16, and the value of their parts.
+use Rattle.decimal_unsigned.proofs.Common.{◌≡◌, ℕ, zero, suc, ◌+◌, ◌-◌, ◌*◌, ◌/◌, ◌%◌, ◌^◌, ◌<◌, ◌≤◌, inl, inr, true, List, [], ◌∷◌, ◌++◌, length, get_or, take, drop, map, refl, sym, ◌∙◌, ap, subst, arith, None, Ok, ℤ, pos, ◌-ℤ◌, mul-lt-mul_of_pos_right, pow-le-pow_right, cases_lt, ints, pow-add, length-append, length-drop, length-take-le, length-map, number_lt, digits_value_is, is_ascii_digit, digit_value, number_from_digits, AllBelowBase, AllDigits, digits_value, number_of, below_take, Literal, value_of, middle, IsNonzeroRange, pow-suc, mod-eq_of_lt, digits_value_after, below_drop, number_split, below_sixteen}
+use Rattle.std.specs.Int.{w64, bit_at, leading_zeros, trailing_zeros}
+use Rattle.std.proofs.Math.Nat.{one-le-pow, div-div-eq-div-mul, div-eq_of_lt-le, zero-div}
+use Rattle.std.proofs.Math.ListN.{get_or-eq_default}
+use Rattle.std.proofs.lemmas.Nat.{mod-mul-add, leading_top}
+use Rattle.std.proofs.lemmas.Nat.Bits.{bit_at_above, bit_at-trailing_zeros}
+use Rattle.std.proofs.lemmas.List.{drop-take}
+use Rattle.std.proofs.lemmas.Int.Digits.{number_more as number_more_digits, all_below_base_from_digits}
+use Rattle.decimal_digits.specs.Nibbles.{leading_bytes}
+use Rattle.decimal_digits.specs.Packing.{Encodes}
+use Rattle.decimal_digits.proofs.DigitLists.{below_at, number-div}
+use Rattle.decimal_digits.proofs.LeadingBytes.{hex_pow, leading_bytes_encode}
+use Rattle.decimal_unsigned.specs.Parts.{in_base_16}
+use Rattle.decimal_unsigned.specs.ScannedDigits.{digits_of, IsPlan, IsBcdValue}
+use Rattle.decimal_unsigned.proofs.Numerals.{value_of_digit}
+use Rattle.decimal_unsigned.proofs.Plans.{all_digits, length_digits, makes_zero, makes_plain, is_plan_at}
+
+-- ---- The loop over a text.
+-- one digit more
+after_more : (n : ℕ) (text : List ℕ) (i : ℕ) → i < length text
+    → digits_value_after 16 n (take (i + 1) text)
+    ≡ digits_value_after 16 n (take i text) * 16 + digit_value (get_or text i 0)
+after_more n [] i h = absurd (omega arith)
+after_more n (c ∷ cs) zero h = refl
+after_more n (c ∷ cs) (suc i) h =
+    let e : suc i + 1 ≡ suc (i + 1) = omega arith in
+    rw e (after_more (n * 16 + digit_value c) cs i (omega arith))
+
+-- the same in 64 bits
+pub number_more : (before number i : ℕ) (text : List ℕ) → i < length text → is_ascii_digit (get_or text i 0) ≡ true
+    → number ≡ digits_value_after 16 before (take i text) % 2 ^ 64
+    → (number * 16 % 2 ^ 64 + (get_or text i 0 - 48)) % 2 ^ 64
+    ≡ digits_value_after 16 before (take (i + 1) text) % 2 ^ 64
+number_more before number i text h d e =
+    let m = after_more before text i h in
+    let k = value_of_digit (get_or text i 0) d in
+    omega (arith, m, k, e)
+
+-- ---- The integer digits and the fraction digits.
+after_append : (n : ℕ) (xs ys : List ℕ)
+    → digits_value_after 16 n (xs ++ ys) ≡ digits_value_after 16 (digits_value_after 16 n xs) ys
+after_append n [] ys = refl
+after_append n (x ∷ xs) ys = after_append (n * 16 + digit_value x) xs ys
+
+after_mod : (n : ℕ) (text : List ℕ)
+    → digits_value_after 16 (n % 2 ^ 64) text % 2 ^ 64 ≡ digits_value_after 16 n text % 2 ^ 64
+after_mod n [] = omega arith
+after_mod n (c ∷ cs) =
+    let d = digit_value c in
+    let e : ((n % 2 ^ 64) * 16 + d) % 2 ^ 64 ≡ (n * 16 + d) % 2 ^ 64 = omega arith in
+    sym (after_mod ((n % 2 ^ 64) * 16 + d) cs) ∙ ap (λ m. digits_value_after 16 m cs % 2 ^ 64) e
+    ∙ after_mod (n * 16 + d) cs
+
+-- fraction digits go on with the number of the integer digits
+pub fraction_numbered : (whole fraction : List ℕ) (number more : ℕ) → number ≡ digits_value 16 whole % 2 ^ 64
+    → more ≡ digits_value_after 16 number fraction % 2 ^ 64
+    → more ≡ in_base_16 whole fraction
+fraction_numbered whole fraction number more e f =
+    f ∙ ap (λ m. digits_value_after 16 m fraction % 2 ^ 64) e ∙ after_mod (digits_value 16 whole) fraction
+
+-- ---- The digits from one up to another.
+-- a shift drops the digits behind, and a shift back those in front
+pub shifted_middle : (ds : List ℕ) (start end : ℕ) → AllBelowBase 10 ds → start < end → end ≤ length ds → length ds ≤ 16
+    → number_from_digits 16 ds / 2 ^ (4 * (length ds - end)) * 2 ^ (4 * (16 - (end - start))) % 2 ^ 64
+    ≡ number_from_digits 16 (middle start end ds) * 16 ^ (16 - (end - start))
+shifted_middle ds start end h s w few =
+    let len = end - start in
+    let k = 16 - len in
+    let front = take (start + len) ds in
+    let mid = take len (drop start ds) in
+    let a = number_from_digits 16 (take start front) in
+    let m = number_from_digits 16 mid in
+    let all : start + len ≡ end = omega arith in
+    let n_front : length front ≡ start + len = length-take-le (start + len) ds (omega arith) in
+    let n_mid : length mid ≡ len = length-take-le len (drop start ds) (omega (arith, length-drop start ds)) in
+    let m_lt : m < 16 ^ len =
+    subst (λ i. m < 16 ^ i) n_mid
+    (number_lt 16 mid (below_sixteen mid (below_take 10 len (drop start ds) (below_drop 10 start ds h)))) in
+    let shifted : number_from_digits 16 ds / 2 ^ (4 * (length ds - end)) ≡ number_from_digits 16 front =
+    ap (λ p. number_from_digits 16 ds / p) (hex_pow (length ds - end))
+    ∙ number-div 16 end ds (below_sixteen ds h) w ∙ ap (λ n. number_from_digits 16 (take n ds)) (sym all) in
+    let split : number_from_digits 16 front ≡ a * 16 ^ len + m =
+    number_split 16 start front (omega (arith, n_front))
+    ∙ (let e : length front - start ≡ len = omega (arith, n_front) in rw (e, drop-take start len ds) refl) in
+    let places : 16 ^ len * 16 ^ k ≡ 2 ^ 64 =
+    sym (pow-add 16 len k) ∙ ap (λ i. 16 ^ i) (let e : len + k ≡ 16 = omega arith in e) in
+    let pos : 0 < 16 ^ k = omega (arith, one-le-pow k 16 (omega arith)) in
+    let lt : m * 16 ^ k < 2 ^ 64 = subst (λ p. m * 16 ^ k < p) places (mul-lt-mul_of_pos_right m_lt pos) in
+    let total : (a * 16 ^ len + m) * 16 ^ k ≡ a * 2 ^ 64 + m * 16 ^ k =
+    (let e : (a * 16 ^ len + m) * 16 ^ k ≡ a * (16 ^ len * 16 ^ k) + m * 16 ^ k = omega arith in e)
+    ∙ ap (λ p. a * p + m * 16 ^ k) places in
+    (λ i. (shifted ∙ split) i * hex_pow k i % 2 ^ 64) ∙ ap (λ t. t % 2 ^ 64) total
+    ∙ mod-mul-add a (2 ^ 64) (m * 16 ^ k) lt
+
+-- up to sixteen digits write their number
+pub number_written : (whole fraction : List ℕ) (number : ℕ) → AllDigits 10 (whole ++ fraction)
+    → length (whole ++ fraction) ≤ 16 → number ≡ in_base_16 whole fraction
+    → number ≡ number_from_digits 16 (map digit_value (whole ++ fraction))
+number_written whole fraction number h few e =
+    let text = whole ++ fraction in
+    let ds = map digit_value text in
+    let few_ds : length ds ≤ 16 = omega (arith, length-map text digit_value) in
+    let top : 16 ^ length ds ≤ 16 ^ 16 = pow-le-pow_right (omega arith) few_ds in
+    let lt : number_from_digits 16 ds < 2 ^ 64 =
+    omega (arith, number_lt 16 ds (below_sixteen ds (all_below_base_from_digits 10 text h)), top) in
+    e ∙ ap (λ n. n % 2 ^ 64) (sym (after_append 0 whole fraction) ∙ digits_value_is 16 text) ∙ mod-eq_of_lt lt
+
+-- what is left of a number holds the digits between
+pub middle_holds : (ds : List ℕ) (number start end : ℕ) → AllBelowBase 10 ds → number ≡ number_from_digits 16 ds
+    → start < end → end ≤ length ds → length ds ≤ 16
+    → Encodes (leading_bytes (number / 2 ^ (4 * (length ds - end)) * 2 ^ (4 * (16 - (end - start))) % 2 ^ 64)
+    (end - start))
+    (end - start) (middle start end ds)
+middle_holds ds number start end below is s within few =
+    let rest : length (drop start ds) ≡ length ds - start = length-drop start ds in
+    let l : length (middle start end ds) ≡ end - start = length-take-le (end - start) (drop start ds) (omega arith) in
+    leading_bytes_encode (middle start end ds) (end - start) _ l (omega arith)
+    (below_take 10 (end - start) (drop start ds) (below_drop 10 start ds below))
+    (rw is (shifted_middle ds start end below s within few))
+
+-- ---- The bits of a number and its digits.
+-- a bit lies in one of four of a digit
+bit_of : (n j i : ℕ) → bit_at n (4 * j + i) ≡ n / 16 ^ j / 2 ^ i % 2
+bit_of n j i =
+    ap (λ p. n / p % 2) (pow-add 2 (4 * j) i ∙ ap (λ p. p * 2 ^ i) (hex_pow j))
+    ∙ ap (λ q. q % 2) (sym (div-div-eq-div-mul n (16 ^ j) (2 ^ i)))
+
+-- four bits that are 0 are the digit 0
+clear_digit : (n j : ℕ) → ((i : ℕ) → i < 4 → bit_at n (4 * j + i) ≡ 0) → n / 16 ^ j % 16 ≡ 0
+clear_digit n j h =
+    let x = n / 16 ^ j in
+    let a : x / 2 ^ 0 % 2 ≡ 0 = sym (bit_of n j 0) ∙ h 0 (omega arith) in
+    let b : x / 2 ^ 1 % 2 ≡ 0 = sym (bit_of n j 1) ∙ h 1 (omega arith) in
+    let c : x / 2 ^ 2 % 2 ≡ 0 = sym (bit_of n j 2) ∙ h 2 (omega arith) in
+    let d : x / 2 ^ 3 % 2 ≡ 0 = sym (bit_of n j 3) ∙ h 3 (omega arith) in
+    omega arith
+
+-- a digit with a bit is not 0
+set_digit : (n i : ℕ) → bit_at n i ≡ 1 → 0 < n / 16 ^ (i / 4) % 16
+set_digit n i h = go (n / 16 ^ (i / 4)) (i % 4) (omega arith) (sym (bit_of n (i / 4) (i % 4)) ∙ ap (bit_at n) at ∙ h)
+  where
+    at : 4 * (i / 4) + i % 4 ≡ i
+    at = omega arith
+
+    go : (x r : ℕ) → r < 4 → x / 2 ^ r % 2 ≡ 1 → 0 < x % 16
+    go x zero l e = let f : x / 1 % 2 ≡ 1 = e in omega arith
+    go x (suc zero) l e = let f : x / 2 % 2 ≡ 1 = e in omega arith
+    go x (suc (suc zero)) l e = let f : x / 4 % 2 ≡ 1 = e in omega arith
+    go x (suc (suc (suc zero))) l e = let f : x / 8 % 2 ≡ 1 = e in omega arith
+    go x (suc (suc (suc (suc r)))) l e = absurd (omega arith)
+
+-- a digit of a number is a quotient
+digit_is : (ds : List ℕ) (k : ℕ) → AllBelowBase 10 ds → k < length ds
+    → get_or ds k 0 ≡ number_from_digits 16 ds / 16 ^ (length ds - 1 - k) % 16
+digit_is ds k h l =
+    let e : length ds - 1 - k ≡ length ds - (k + 1) = omega arith in
+    let small : get_or ds k 0 < 16 = omega (arith, below_at k ds h l) in
+    rw e
+    (sym (ap (λ n. n % 16)
+    (number-div 16 (k + 1) ds (below_sixteen ds h) (omega arith) ∙ number_more_digits 16 ds k l)
+    ∙ mod-mul-add _ _ _ small))
+
+-- the highest and the lowest bit lie in the first and the last digit that is not 0
+inner_bits : (ds : List ℕ) (n top low : ℕ) → AllBelowBase 10 ds → n ≡ number_from_digits 16 ds → bit_at n top ≡ 1
+    → n < 2 ^ suc top → bit_at n low ≡ 1 → ((i : ℕ) → i < low → bit_at n i ≡ 0)
+    → (top / 4 + 1 ≤ length ds) × IsNonzeroRange ds (length ds - (top / 4 + 1)) (length ds - low / 4)
+inner_bits ds n top low below is first above last none =
+    let len = length ds in
+    let lt : n < 2 ^ (4 * len) = rw (is, hex_pow len) (number_lt 16 ds (below_sixteen ds below)) in
+    let fits : top / 4 < len = elim (cases_lt top (4 * len)) [
+      | inl h ↦ omega arith
+      | inr h ↦ absurd (omega (arith, first, bit_at_above n (4 * len) top lt h))
+    ] in
+    let order : low ≤ top = elim (cases_lt top low) [
+      | inl h ↦ absurd (omega (arith, last, bit_at_above n (suc top) low above h))
+      | inr h ↦ h
+    ] in
+    let at : (k j : ℕ) → k < len → j ≡ len - 1 - k → get_or ds k 0 ≡ n / 16 ^ j % 16 =
+    λ k j h e. digit_is ds k below h ∙ (rw (is, e) refl) in (
+      omega arith,
+      record {
+        ordered = omega arith;
+        within = omega arith;
+        before = λ k h.
+            at k (len - 1 - k) (omega arith) refl
+            ∙ clear_digit n (len - 1 - k) (λ i l. bit_at_above n (suc top) (4 * (len - 1 - k) + i) above (omega arith));
+        after = λ k h. elim (cases_lt k len) [
+          | inl l ↦
+              at k (len - 1 - k) l refl
+              ∙ clear_digit n (len - 1 - k) (λ i m. none (4 * (len - 1 - k) + i) (omega arith))
+          | inr l ↦ get_or-eq_default ds 0 l
+        ];
+        front = rw (at (len - (top / 4 + 1)) (top / 4) (omega arith) (omega arith)) (set_digit n top first);
+        back = rw (at (len - low / 4 - 1) (low / 4) (omega arith) (omega arith)) (set_digit n low last);
+      },
+    )
+
+-- the zeros in front of a number and behind it are those of its digits
+pub inner_number : (ds : List ℕ) (n : ℕ) → AllBelowBase 10 ds → length ds ≤ 16 → n ≡ number_from_digits 16 ds → 0 < n
+    → (16 - leading_zeros w64 n / 4 ≤ length ds)
+    × IsNonzeroRange ds (length ds - (16 - leading_zeros w64 n / 4)) (length ds - trailing_zeros w64 n / 4)
+inner_number ds n below few is some =
+    let places : 16 ^ length ds ≤ 16 ^ 16 = pow-le-pow_right (omega arith) few in
+    let fits : n < 2 ^ 64 = omega (arith, is, number_lt 16 ds (below_sixteen ds below), places) in
+    let t = leading_top 64 n some fits in
+    let low = bit_at-trailing_zeros w64 n some fits in
+    let one : n / 2 ^ t.0 ≡ 1 =
+    div-eq_of_lt-le (2 ^ t.0) (omega (arith, t.2)) (omega (arith, t.3, pow-suc 2 t.0)) in
+    let first : bit_at n t.0 ≡ 1 = ap (λ q. q % 2) one in
+    let before : 16 - leading_zeros w64 n / 4 ≡ t.0 / 4 + 1 = omega (arith, t.1) in
+    rw before (inner_bits ds n t.0 (trailing_zeros w64 n) below is first t.3 low.1 low.2)
+
+-- the number 0 has no other digit
+pub zero_digits : (ds : List ℕ) → AllBelowBase 10 ds → number_from_digits 16 ds ≡ 0
+    → (k : ℕ) → k < length ds → get_or ds k 0 ≡ 0
+zero_digits ds below z k h =
+    digit_is ds k below h ∙ ap (λ n. n / 16 ^ (length ds - 1 - k) % 16) z
+    ∙ ap (λ q. q % 16) (zero-div (16 ^ (length ds - 1 - k)))
+
+-- ---- The value of parts with few digits.
+short_made : (w : Literal) (start end number len : ℕ) (m hi lo : ℤ) → IsPlan w start end m hi lo
+    → Encodes (leading_bytes number len) len (middle start end (digits_of w))
+    → IsBcdValue (value_of w) number len m hi lo
+short_made w start end number len m hi lo k h = record {
+  packed = h.packed;
+  stored = rw h.digits k.stored;
+  value = k.value ∙ ap (λ ds. Ok (record { number = number_of ds m; hi = hi; lo = lo })) (sym h.digits);
+}
+
+module _ (w : Literal) (number : ℕ) (digits : AllDigits 10 (w.whole ++ w.fraction))
+    (few : length w.whole + length w.fraction ≤ 16) (written : number ≡ in_base_16 w.whole w.fraction) where
+  below : AllBelowBase 10 (digits_of w)
+  below = all_digits w digits
+
+  count : length (digits_of w) ≡ length w.whole + length w.fraction
+  count = length_digits w
+
+  number_is : number ≡ number_from_digits 16 (digits_of w)
+  number_is =
+      number_written w.whole w.fraction number digits (omega (arith, length-append w.whole w.fraction)) written
+
+  -- zero
+  pub short_zero : (m hi lo : ℤ) → number ≡ 0 → m ≡ pos 0 → hi ≡ pos (length w.whole - 1)
+      → lo ≡ pos 0 -ℤ pos (length w.fraction)
+      → IsBcdValue (value_of w) number 0 m hi lo
+  short_zero m hi lo z a b c =
+      let k = makes_zero w digits (omega arith) (omega arith) (zero_digits (digits_of w) below (sym number_is ∙ z)) in
+      short_made w 0 0 number 0 m hi lo (is_plan_at w 0 0 _ _ _ m hi lo k a b c)
+      (leading_bytes_encode [] 0 number refl (omega arith) tt z)
+
+  module _ (some : 0 < number) where
+    found : (16 - leading_zeros w64 number / 4 ≤ length (digits_of w))
+        × IsNonzeroRange (digits_of w) (length (digits_of w) - (16 - leading_zeros w64 number / 4))
+        (length (digits_of w) - trailing_zeros w64 number / 4)
+    found = inner_number (digits_of w) number below (omega (arith, count)) number_is some
+
+    -- there are as many zeros, and no more digits than in the text
+    pub short_sizes : (trailing_zeros w64 number / 4 < 16 - leading_zeros w64 number / 4)
+        × (16 - leading_zeros w64 number / 4 ≤ length w.whole + length w.fraction)
+    short_sizes =
+        (omega (arith, found.0, found.1.ordered, found.1.within), omega (arith, found.0, count))
+
+    -- any other number
+    pub short_plain : (size zeros : ℕ) (m hi lo : ℤ) → size ≡ 16 - leading_zeros w64 number / 4
+        → zeros ≡ trailing_zeros w64 number / 4 → w.exponent ≡ None → m ≡ pos size -ℤ pos (length w.fraction + 1)
+        → hi ≡ pos (length w.whole - 1) → lo ≡ pos 0 -ℤ pos (length w.fraction)
+        → IsBcdValue (value_of w) (number / 2 ^ (4 * zeros) * 2 ^ (4 * (16 - (size - zeros))) % 2 ^ 64) (size - zeros)
+        m hi lo
+    short_plain size zeros m hi lo s t plain a b c =
+        let ds = digits_of w in
+        let start = length ds - size in
+        let end = length ds - zeros in
+        let fits : size ≤ length ds = omega (arith, s, found.0) in
+        let n : IsNonzeroRange ds start end = rw (s, t) found.1 in
+        let at : m ≡ (pos (length w.whole) -ℤ pos 1) -ℤ pos start = omega (arith, ints, a, fits, count) in
+        let k = makes_plain w digits (omega arith) (omega arith) start end n m at plain in
+        let h = middle_holds ds number start end below number_is n.ordered n.within (omega (arith, count)) in
+        let following : length ds - end ≡ zeros = omega (arith, n.ordered, n.within, fits) in
+        let long : end - start ≡ size - zeros = omega (arith, n.ordered, n.within, fits) in
+        short_made w start end _ (size - zeros) m hi lo (is_plan_at w start end _ _ _ m hi lo k refl b c)
+        (subst
+        (λ k. Encodes (leading_bytes (number / 2 ^ (4 * zeros) * 2 ^ (4 * (16 - k)) % 2 ^ 64) k) k
+        (middle start end ds))
+        long
+        (subst
+        (λ z. Encodes (leading_bytes (number / 2 ^ (4 * z) * 2 ^ (4 * (16 - (end - start))) % 2 ^ 64) (end - start))
+        (end - start) (middle start end ds)) following h))

@@ -1,0 +1,116 @@
+-- Reading and the grammar.
+use Rattle.decimal_unsigned.proofs.Common.{◌≡◌, ℕ, ◌≤◌, ◌-◌, ◌==◌, Bool, true, false, cond, ◌||◌, ◌⊎◌, inl, inr, List, length, drop, refl, sym, ◌∙◌, ap, arith, ℤ, Option, Some, None, Result, Ok, Err, length-take-le, length-drop, Unsigned, Literal, parts_of, is_outside, limit, leaves_limits, middle, Grammar, mantissa}
+use Rattle.std.specs.Prelude.{IfOk, ◌↔◌}
+use Rattle.decimal_unsigned.specs.declared.error.ParseError.{ParseError}
+use Rattle.decimal_unsigned.specs.declared.error.ParseError.TheVariants.{Limit, Syntax, Memory}
+use Rattle.decimal_unsigned.specs.Reading.{ReadError, scaled, value_of, value_or_syntax, read, FollowsGrammar, syntax}
+use Rattle.decimal_unsigned.specs.ParseResult.{IsParseResult, ResultFollowsGrammar}
+use Rattle.decimal_unsigned.proofs.GrammarParts.{parts-complete, parts-sound}
+
+-- a value, or the limit
+abbrev Values : Result Unsigned ReadError → Type 0
+Values r = ((v : Unsigned) × (r ≡ Ok v)) ⊎ (r ≡ Err limit)
+
+tested : (b : Bool) (x y : Result Unsigned ReadError) → Values x → Values y → Values (cond b x y)
+tested true x y p q = p
+tested false x y p q = q
+
+scaled_values : (v : Unsigned) (e : Option ℤ) → Values (scaled v e)
+unfolding scaled
+scaled_values v None = inl (v, refl)
+scaled_values v (Some e) =
+    tested (v.number == 0) _ _ (inl (v, refl))
+    (tested (is_outside e || leaves_limits v e) _ _ (inr refl) (inl (_, refl)))
+
+value_of_values : (w : Literal) → Values (value_of w)
+unfolding value_of
+value_of_values w = tested _ _ _ (inr refl) (scaled_values (mantissa w.whole w.fraction) w.exponent)
+
+not_syntax : (w : Literal) → ¬ (value_of w ≡ Err syntax)
+not_syntax w e = elim (value_of_values w) [ inl h ↦ let v = h.0 in let q = h.1 in cc | inr h ↦ cc ]
+
+-- the text's value is that of its parts
+pub read_grammar : (text : List ℕ) (w : Literal) → Grammar text w → read text ≡ value_of w
+unfolding read value_or_syntax
+read_grammar text w g = ap value_or_syntax (parts-complete text w g)
+
+-- what is not refused for its syntax has parts
+pub grammar_if : (text : List ℕ) → ¬ (read text ≡ Err syntax)
+    → (w : Literal) × Grammar text w × (read text ≡ value_of w)
+unfolding read value_or_syntax
+grammar_if text n = go (parts_of text) refl
+  where
+    go : (o : Option Literal) → parts_of text ≡ o → (w : Literal) × Grammar text w × (read text ≡ value_of w)
+    go None e = absurd (n (ap value_or_syntax e))
+    go (Some w) e = (w, parts-sound text w e, ap value_or_syntax e)
+
+-- no form holds
+pub syntax_is : (text : List ℕ) → (read text ≡ Err syntax) ↔ ((w : Literal) → ¬ Grammar text w)
+unfolding read value_or_syntax
+syntax_is text = (λ e w g. not_syntax w (sym (read_grammar text w g) ∙ e), λ n. go n (parts_of text) refl)
+  where
+    go : ((w : Literal) → ¬ Grammar text w) → (o : Option Literal) → parts_of text ≡ o
+        → value_or_syntax (parts_of text) ≡ Err syntax
+    go n None e = ap value_or_syntax e
+    go n (Some w) e = absurd (n w (parts-sound text w e))
+
+-- reading follows the grammar
+pub follows_grammar : (text : List ℕ) → FollowsGrammar text
+follows_grammar text = record { value = read_grammar text; none = (syntax_is text).1 }
+
+-- a text is beyond the limits exactly if its parts are
+pub limit_is : (text : List ℕ) → (read text ≡ Err limit) ↔ ((w : Literal) × Grammar text w × (value_of w ≡ Err limit))
+limit_is text = (
+  λ e. let k = grammar_if text (λ s. let never : ⊥ = cc in never) in (k.0, k.1, sym k.2 ∙ e),
+  λ k. read_grammar text k.0 k.1 ∙ k.2,
+)
+
+-- the value of a text is that of its parts
+pub value_is : (text : List ℕ) (v : Unsigned) → read text ≡ Ok v → (w : Literal) × Grammar text w × (value_of w ≡ Ok v)
+value_is text v e = let k = grammar_if text (λ s. let never : ⊥ = cc in never) in (k.0, k.1, sym k.2 ∙ e)
+
+-- ---- What a parser answered.
+
+-- it answers Syntax exactly where reading comes to that
+pub result_syntax : {V : Type 0} (allocates : V → Type 0) (r : Result V ParseError) (q : Result V ReadError)
+    → IsParseResult allocates r q
+    → (r ≡ Err Syntax) ↔ (q ≡ Err syntax)
+result_syntax allocates (Ok v) q a = (λ e. absurd (cc), λ e. absurd (cc))
+result_syntax allocates (Err Limit) q a = (λ e. absurd (cc), λ e. absurd (cc))
+result_syntax allocates (Err Syntax) q a = (λ e. a, λ e. refl)
+result_syntax allocates (Err Memory) q a = (λ e. absurd (cc), λ e. absurd (rw e at a))
+
+-- and Limit exactly where it comes to that
+pub result_limit : {V : Type 0} (allocates : V → Type 0) (r : Result V ParseError) (q : Result V ReadError)
+    → IsParseResult allocates r q
+    → (r ≡ Err Limit) ↔ (q ≡ Err limit)
+result_limit allocates (Ok v) q a = (λ e. absurd (cc), λ e. absurd (cc))
+result_limit allocates (Err Limit) q a = (λ e. a, λ e. refl)
+result_limit allocates (Err Syntax) q a = (λ e. absurd (cc), λ e. absurd (cc))
+result_limit allocates (Err Memory) q a = (λ e. absurd (cc), λ e. absurd (rw e at a))
+
+result_value : (allocates : Unsigned → Type 0) (text : List ℕ) (r : Result Unsigned ParseError)
+    → IsParseResult allocates r (read text)
+    → IfOk r (λ v. (w : Literal) × Grammar text w × (value_of w ≡ Ok v))
+result_value allocates text (Ok v) a = value_is text v a
+result_value allocates text (Err e) a = tt
+
+-- what answers as reading does answers by the grammar
+pub result_follows_grammar : (allocates : Unsigned → Type 0) (text : List ℕ) (r : Result Unsigned ParseError)
+    → IsParseResult allocates r (read text)
+    → ResultFollowsGrammar text r
+result_follows_grammar allocates text r a =
+    let s = result_syntax allocates r (read text) a in
+    let t = syntax_is text in
+    let l = result_limit allocates r (read text) a in
+    let m = limit_is text in
+    record {
+      syntax = (λ e. t.0 (s.0 e), λ n. s.1 (t.1 n));
+      limit = (λ e. m.0 (l.0 e), λ n. l.1 (m.1 n));
+      found = result_value allocates text r a;
+    }
+
+-- how many digits lie from start up to end
+pub middle_long : (start end : ℕ) (ds : List ℕ) → start ≤ end → end ≤ length ds
+    → length (middle start end ds) ≡ end - start
+middle_long start end ds p q = length-take-le (end - start) (drop start ds) (omega (arith, length-drop start ds))

@@ -1,0 +1,133 @@
+-- Laws of trims, and of the parts of a value at a position.
+use Rattle.decimal_unsigned.proofs.Common.{◌≡◌, ℕ, ◌+◌, ◌-◌, ◌*◌, ◌%◌, ◌^◌, ◌<◌, ◌≤◌, ◌⊎◌, length, refl, sym, ◌∙◌, ap, subst, arith, inl, inr, None, ℤ, pos, ◌≤ℤ◌, ◌<ℤ◌, unwrap_or, int_max, int_min, pow-le-pow_right, ints, clamps, cases_lt, offset, weight, first, last, number_limit, unit_at, RoundingIncrement, MultiplesOf1, Trunc, no_more_zeros, offset_is, gap_is, Unsigned, IsValue, with_max_position, rounded, text, by_lt_z, none-some, with_number, trunced, SplitsAt}
+use Rattle.decimal_digits.specs.Rounding.{rounded_number}
+use Rattle.decimal_digits.proofs.Ends.{last_zero}
+use Rattle.decimal_unsigned.specs.ValueLaws.{trimmed, TrimmedIsNormalForm, IsShortest}
+use Rattle.decimal_unsigned.specs.Edits.{trimmed_start, trimmed_end}
+use Rattle.decimal_unsigned.specs.Unsigned.{IsLeastHi, IsGreatestLo}
+use Rattle.decimal_unsigned.proofs.FirstLast.{last_of, first_le}
+use Rattle.decimal_unsigned.proofs.ConcatenationLaws.{extent_of, parts_join, parts_number, parts_value}
+use Rattle.decimal_unsigned.proofs.Roundings.{trunc_makes}
+use Rattle.decimal_unsigned.proofs.Lengths.{length-text_whole, length-text_dotted}
+
+-- ---- Trims.
+
+-- what stands after both trims, by the number alone
+bare : ℕ → Unsigned
+bare n = record { number = n; hi = int_max (first n) (pos 0); lo = int_min (last n) (pos 0) }
+
+-- equal numbers are equal after both trims, and the other way round
+pub trimmed_is_normal_form : (v w : Unsigned) → TrimmedIsNormalForm v w
+unfolding bare
+trimmed_is_normal_form v w = (λ e. ap bare e, λ e. ap (λ (x : Unsigned). x.number) e)
+
+module _ (w : Unsigned) (valid : IsValue w) where
+  -- a value shows its first digit and its last one
+  first_in : first w.number ≤ℤ w.hi
+  first_in = first_le w.number w.hi valid.below valid.hi_in.0 valid.hi_in.1
+
+  last_in : w.lo ≤ℤ last w.number
+  last_in = elim (cases_lt 0 w.number) [
+    | inl some ↦
+        let e = extent_of w valid some in
+        elim (cases_lt e.bottom (offset w.lo)) [
+          | inl h ↦
+              absurd (no_more_zeros e.factor e.bottom (offset w.lo) e.odd h
+              (ap (λ n. n % weight w.lo) (sym e.is) ∙ valid.whole))
+          | inr h ↦ omega (arith, ints, last_of e, h, offset_is w.lo, valid.lo_in)
+        ]
+    | inr none ↦
+        let z : last w.number ≡ pos 0 = ap last (let y : w.number ≡ 0 = omega arith in y) ∙ last_zero in
+        omega (arith, ints, z, valid.lo_in)
+  ]
+
+-- each value shows as much as one that is trimmed in front
+pub least_hi : (v : Unsigned) → IsLeastHi (trimmed_start v)
+least_hi v w valid e =
+    let f = first_in w valid in
+    let n = ap first e in
+    omega (arith, ints, clamps, valid.hi_in)
+
+-- and as one that is trimmed behind
+pub greatest_lo : (v : Unsigned) → IsGreatestLo (trimmed_end v)
+greatest_lo v w valid e =
+    let l = last_in w valid in
+    let n = ap last e in
+    omega (arith, ints, clamps, valid.lo_in)
+
+-- a range that lies in another has no longer text
+shorter : (v w : Unsigned) → pos 0 ≤ℤ v.hi → v.lo ≤ℤ pos 0 → v.hi ≤ℤ w.hi → w.lo ≤ℤ v.lo
+    → length (text v) ≤ length (text w)
+shorter v w h l up down = elim (by_dot v l) [
+  | inl whole ↦ elim (by_dot w (omega (arith, ints))) [
+    | inl k ↦
+        omega (
+          arith,
+          ints,
+          length-text_whole v h whole,
+          length-text_whole w (omega (arith, ints)) k,
+          gap_is v.lo v.hi,
+          gap_is w.lo w.hi,
+        )
+    | inr k ↦
+        omega (
+          arith,
+          ints,
+          length-text_whole v h whole,
+          length-text_dotted w (omega (arith, ints)) k,
+          gap_is v.lo v.hi,
+          gap_is w.lo w.hi,
+        )
+  ]
+  | inr dotted ↦
+      omega (
+        arith,
+        ints,
+        length-text_dotted v h dotted,
+        length-text_dotted w (omega (arith, ints)) (omega (arith, ints)),
+        gap_is v.lo v.hi,
+        gap_is w.lo w.hi,
+      )
+]
+  where
+    by_dot : (x : Unsigned) → x.lo ≤ℤ pos 0 → (x.lo ≡ pos 0) ⊎ (x.lo <ℤ pos 0)
+    by_dot x l = by_lt_z x.lo (pos 0) (λ k. inr k) (λ k. inl (omega (arith, ints)))
+
+-- after both trims no value of the number has a shorter text
+pub shortest : (v : Unsigned) → IsShortest (trimmed v)
+shortest v w valid e =
+    let f : first v.number ≤ℤ w.hi = subst (λ n. first n ≤ℤ w.hi) e (first_in w valid) in
+    let l : w.lo ≤ℤ last v.number = subst (λ n. w.lo ≤ℤ last n) e (last_in w valid) in
+    shorter (trimmed v) w (omega (arith, ints, clamps)) (omega (arith, ints, clamps))
+    (omega (arith, ints, clamps, valid.hi_in)) (omega (arith, ints, clamps, valid.lo_in))
+
+-- ---- The parts of a value at a position.
+module _ (v : Unsigned) (p : ℤ) (valid : IsValue v) where
+  -- a value lies below 10 to the 32768
+  pub below_limit : v.number < number_limit
+  below_limit =
+      let k : offset v.hi + 1 ≤ offset (pos 32768) =
+      omega (arith, ints, offset_is v.hi, offset_is (pos 32768), valid.hi_in) in
+      let m : 10 ^ (offset v.hi + 1) ≤ number_limit = pow-le-pow_right (omega arith) k in
+      omega (arith, valid.below, m)
+
+  -- a rounding toward zero is never refused
+  pub trunc_succeeds : (increment : RoundingIncrement) → rounded v p Trunc increment ≡ None → ⊥
+  trunc_succeeds increment e = none-some _ (sym e ∙ trunc_makes v p increment below_limit)
+
+  -- it leaves the number without its part below the position
+  truncated_number : rounded_number Trunc (unit_at MultiplesOf1 p) v.number ≡ v.number - v.number % weight p
+  unfolding rounded_number
+  truncated_number = ap (λ u. v.number - v.number % u) (let e : 1 * weight p ≡ weight p = omega arith in e)
+
+  trunced_is : trunced v p ≡ with_number v p (v.number - v.number % weight p)
+  trunced_is =
+      ap (λ o. unwrap_or o v) (trunc_makes v p MultiplesOf1 below_limit) ∙ ap (with_number v p) truncated_number
+
+  -- the truncated value and the part below the position make the value
+  pub splits : SplitsAt v p (trunced v p) (with_max_position v p)
+  splits = subst (λ t. SplitsAt v p t (with_max_position v p)) (sym trunced_is) (record {
+    disjoint = parts_join v (with_number v p (v.number - v.number % weight p)) p valid refl;
+    number = parts_number v (with_number v p (v.number - v.number % weight p)) p valid refl;
+    value = parts_value v (with_number v p (v.number - v.number % weight p)) p valid refl refl refl;
+  })

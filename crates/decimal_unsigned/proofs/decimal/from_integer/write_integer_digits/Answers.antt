@@ -1,0 +1,6 @@
+use Rattle.decimal_unsigned.proofs.Common.{refl, rules, arith}
+use Rattle.std.proofs.lemmas.List.{drop_all}
+use Rattle.decimal_unsigned.proofs.decimal.from_integer.write_integer_digits.Goals as goal
+
+pub loop-digit-init : goal.loop-digit-init
+loop-digit-init g c = record { all = search rules; start = refl; placed = drop_all 39 c.args.buffer.now (omega arith) }

@@ -1,5 +1,0 @@
-use Rattle.decimal_unsigned.proofs.Common.{◌≡◌, ℕ, ◌≤◌, get_or}
-use Rattle.decimal_unsigned.proofs.decimal.integer.end_of.Given as goal
-
-abbrev pub invariant-loop-index : goal.invariant-loop-index
-invariant-loop-index l = (k : ℕ) → l.index ≤ k → get_or l.digits k 0 ≡ 0

@@ -1,6 +1,0 @@
-use Rattle.decimal_unsigned.proofs.Common.{refl, rules, arith}
-use Rattle.std.proofs.lemmas.List.{drop_all}
-use Rattle.decimal_unsigned.proofs.decimal.integer.write_digits.Goals as goal
-
-pub loop-digit-init : goal.loop-digit-init
-loop-digit-init g c = record { all = search rules; start = refl; placed = drop_all 39 c.args.places.now (omega arith) }

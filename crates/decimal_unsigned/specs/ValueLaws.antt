@@ -1,0 +1,72 @@
+-- Laws of the calls that change a value.
+use Rattle.std.specs.Prelude.{◌≡◌, ◌≤◌, ◌↔◌, ℕ, false, length, Option, option_map, option_and_then, ℤ, pos, negsuc, ◌+ℤ◌, ◌≤ℤ◌}
+use Rattle.std.specs.Option.{unwrap_or}
+use Rattle.std.specs.Int.{int_max}
+use Rattle.decimal_digits.specs.declared.rounding.RoundingIncrement.{RoundingIncrement}
+use Rattle.decimal_digits.specs.declared.rounding.UnsignedRoundingMode.{UnsignedRoundingMode}
+use Rattle.decimal_digits.specs.declared.rounding.RoundingIncrement.TheVariants.{MultiplesOf1}
+use Rattle.decimal_digits.specs.declared.rounding.UnsignedRoundingMode.TheVariants.{Expand, Trunc}
+use Rattle.decimal_unsigned.specs.Unsigned.{Unsigned, IsValue}
+use Rattle.decimal_unsigned.specs.Edits.{trimmed_start, trimmed_end}
+use Rattle.decimal_unsigned.specs.Rounded.{rounded}
+use Rattle.decimal_unsigned.specs.Concatenation.{overlaps, concatenated_end}
+use Rattle.decimal_unsigned.specs.Text.{text}
+
+-- ---- Trims.
+
+-- the value after both trims
+abbrev pub trimmed : Unsigned → Unsigned
+trimmed v = trimmed_end (trimmed_start v)
+
+-- two values have one number exactly if they are equal after both trims
+abbrev pub TrimmedIsNormalForm : Unsigned → Unsigned → Type 0
+TrimmedIsNormalForm v w = (v.number ≡ w.number) ↔ (trimmed v ≡ trimmed w)
+
+-- no value of this number has a shorter text
+abbrev pub IsShortest : Unsigned → Type 0
+IsShortest v = (w : Unsigned) → IsValue w → w.number ≡ v.number → length (text v) ≤ length (text w)
+
+-- ---- The parts of a value at a position.
+
+-- what stands after a rounding: the rounded value, or the old one where there is none
+abbrev pub after_rounding : Unsigned → ℤ → UnsignedRoundingMode → RoundingIncrement → Unsigned
+after_rounding v p mode increment = unwrap_or (rounded v p mode increment) v
+
+-- what stands after a rounding toward zero at a position
+abbrev pub trunced : Unsigned → ℤ → Unsigned
+trunced v p = after_rounding v p Trunc MultiplesOf1
+
+-- the parts at and below a position can be joined, and have the number together; where the position lies in the range
+-- or at one of its ends, they make the value itself
+pub record SplitsAt (v : Unsigned) (p : ℤ) (upper lower : Unsigned) : Type 0 where
+  pub disjoint : overlaps upper lower ≡ false
+  pub number : (concatenated_end upper lower).number ≡ v.number
+  pub value : v.lo ≤ℤ p → p ≤ℤ (v.hi +ℤ pos 1) → concatenated_end upper lower ≡ v
+
+-- ---- Roundings.
+
+-- the value rounded away from zero at a position, or none
+abbrev pub expanded : Unsigned → ℤ → Option Unsigned
+expanded v p = rounded v p Expand MultiplesOf1
+
+-- the number, where there is a value
+abbrev pub number_if_any : Option Unsigned → Option ℕ
+number_if_any = option_map (λ v. v.number)
+
+-- what truncating a value at p left, truncated at a position at or above p, is the value truncated there; and at any
+-- position it leaves the number of the value truncated at the higher of the two
+pub record TruncationsCompose (v : Unsigned) (p : ℤ) (new : Unsigned) : Type 0 where
+  pub above : (q : ℤ) → p ≤ℤ q → trunced new q ≡ trunced v q
+  pub number : (q : ℤ) → negsuc 32767 ≤ℤ q → (trunced new q).number ≡ (trunced v (int_max p q)).number
+
+-- expanding a value at p and then at any position makes none exactly where expanding it at the higher of the two does,
+-- and else has its number
+abbrev pub ExpansionsCompose : Unsigned → ℤ → Type 0
+ExpansionsCompose v p =
+    (q : ℤ) → negsuc 32767 ≤ℤ q
+    → number_if_any (option_and_then (λ w. expanded w q) (expanded v p)) ≡ number_if_any (expanded v (int_max p q))
+
+-- what stands after a rounding of the greater number is no less than what stands after one of the other
+abbrev pub RoundingIsMonotone : Unsigned → Unsigned → ℤ → UnsignedRoundingMode → RoundingIncrement → Type 0
+RoundingIsMonotone v w p mode increment =
+    v.number ≤ w.number → (after_rounding v p mode increment).number ≤ (after_rounding w p mode increment).number

@@ -1,0 +1,157 @@
+//! Values of integers.
+ghost use Rattle.std.specs.Prelude.{◌≡◌, ℕ, ◌-◌, ◌^◌, ◌<◌, ◌≤◌, length, drop, slice_index, All, IsOk, IfOk, pos, ◌≤ℤ◌};
+ghost use Rattle.std.specs.Int.Digits.{digits_of, number_from_digits};
+ghost use Rattle.decimal_digits.specs.Number.{size};
+ghost use Rattle.decimal_unsigned.specs.Unsigned.{integer_value, one_value};
+
+use super::UnsignedOver;
+use decimal_digits::digits::DigitStore;
+use decimal_digits::ops::{at_least_zero, subtract_counts};
+use decimal_digits::uint_iterator::{IntIterator, MAX_DIGITS, UnsignedInteger};
+use std::alloc::{AllocError, Global};
+
+/// Writes the digits of an integer, to the end of the places: gives the index of the first one.
+fn write_integer_digits<T: UnsignedInteger>(integer: T, buffer: &mut [u8; MAX_DIGITS]) -> usize
+    requires { T.number integer < 2 ^ 128 }
+    ensures within { result ≤ length buffer.old }
+    ensures digits { drop result buffer.new ≡ digits_of 10 (T.number integer) }
+{
+    let mut start = buffer.len();
+    for digit in IntIterator::new(integer) {
+        start -= 1;
+        buffer[start] = digit;
+    }
+    start
+}
+
+/// The index behind the last digit that is not 0, or 0.
+fn trimmed_len(digits: &[u8]) -> usize
+    ensures within { result ≤ length digits.now }
+    ensures zeros { (k : ℕ) → result ≤ k → slice_index digits.now k ≡ 0 }
+    ensures found { 0 < result → 0 < slice_index digits.now (result - 1) }
+{
+    for index in (0..digits.len()).rev() {
+        if digits[index] != 0 {
+            return index + 1;
+        }
+    }
+    0
+}
+
+impl<D: DigitStore> UnsignedOver<D> {
+    /// Makes the number 1, which shows magnitude 0 alone, and asks for no memory.
+    ///
+    /// Its text is `1`. In the place of the original's `ONE`.
+    pub fn one(alloc: Global) -> Self
+        ensures { result ≡ one_value }
+    {
+        Self::from_u8(alloc, 1)
+    }
+
+    /// Makes the value of a `u8`, and asks for no memory.
+    ///
+    /// 200 prints `200`, and shows magnitudes up to 2 at most. In the place of the original's `From<u8>`.
+    pub fn from_u8(alloc: Global, integer: u8) -> Self
+        ensures value { result ≡ integer_value integer }
+        ensures range { (result.hi ≤ℤ pos 2) × (result.lo ≡ pos 0) }
+    {
+        Self::from_u16(alloc, integer as u16)
+    }
+
+    /// Makes the value of a `u16`, and asks for no memory.
+    ///
+    /// 65535 prints `65535`, and shows magnitudes up to 4 at most. In the place of the original's `From<u16>`.
+    pub fn from_u16(alloc: Global, integer: u16) -> Self
+        ensures value { result ≡ integer_value integer }
+        ensures range { (result.hi ≤ℤ pos 4) × (result.lo ≡ pos 0) }
+    {
+        Self::from_integer(alloc, integer).unwrap()
+    }
+
+    /// Makes the value of a `u32`, which shows magnitudes up to 9 at most: 250 prints `250`.
+    ///
+    /// Err: memory for more than `L` digits was refused; the zeros at the end of the integer are not counted. In the
+    /// place of the original's `From<u32>`.
+    #[inline]
+    pub fn try_from_u32(alloc: Global, integer: u32) -> Result<Self, AllocError>
+        ensures value { IfOk result (λ v. v ≡ integer_value integer) }
+        ensures range { IfOk result (λ v. (v.hi ≤ℤ pos 9) × (v.lo ≡ pos 0)) }
+        ensures succeeds { size (integer_value integer).number ≤ D.L → IsOk result }
+    {
+        Self::from_integer::<u32>(alloc, integer)
+    }
+
+    /// Makes the value of a `u64`, which shows magnitudes up to 19 at most: 250 prints `250`.
+    ///
+    /// Err: memory for more than `L` digits was refused; the zeros at the end of the integer are not counted. In the
+    /// place of the original's `From<u64>`.
+    #[inline]
+    pub fn try_from_u64(alloc: Global, integer: u64) -> Result<Self, AllocError>
+        ensures value { IfOk result (λ v. v ≡ integer_value integer) }
+        ensures range { IfOk result (λ v. (v.hi ≤ℤ pos 19) × (v.lo ≡ pos 0)) }
+        ensures succeeds { size (integer_value integer).number ≤ D.L → IsOk result }
+    {
+        Self::from_integer::<u64>(alloc, integer)
+    }
+
+    /// Makes the value of a `u128`, which shows magnitudes up to 38 at most: 250 prints `250`.
+    ///
+    /// Err: memory for more than `L` digits was refused; the zeros at the end of the integer are not counted. In the
+    /// place of the original's `From<u128>`.
+    #[inline]
+    pub fn try_from_u128(alloc: Global, integer: u128) -> Result<Self, AllocError>
+        ensures value { IfOk result (λ v. v ≡ integer_value integer) }
+        ensures range { IfOk result (λ v. (v.hi ≤ℤ pos 38) × (v.lo ≡ pos 0)) }
+        ensures succeeds { size (integer_value integer).number ≤ D.L → IsOk result }
+    {
+        Self::from_integer::<u128>(alloc, integer)
+    }
+
+    /// Makes the value of a `usize`, which shows magnitudes up to 19 at most: 250 prints `250`.
+    ///
+    /// Err: memory for more than `L` digits was refused; the zeros at the end of the integer are not counted. In the
+    /// place of the original's `From<usize>`.
+    #[inline]
+    pub fn try_from_usize(alloc: Global, integer: usize) -> Result<Self, AllocError>
+        ensures value { IfOk result (λ v. v ≡ integer_value integer) }
+        ensures range { IfOk result (λ v. (v.hi ≤ℤ pos 19) × (v.lo ≡ pos 0)) }
+        ensures succeeds { size (integer_value integer).number ≤ D.L → IsOk result }
+    {
+        Self::from_integer::<usize>(alloc, integer)
+    }
+
+    /// The value of an integer.
+    #[inline]
+    fn from_integer<T: UnsignedInteger>(alloc: Global, integer: T) -> Result<Self, AllocError>
+        requires { T.number integer < 2 ^ 128 }
+        ensures value { IfOk result (λ v. v ≡ integer_value (T.number integer)) }
+        ensures succeeds { size (integer_value (T.number integer)).number ≤ D.L → IsOk result }
+        ensures fits { length (digits_of 10 (T.number integer)) ≤ D.L → IsOk result }
+    {
+        let mut buffer = [0; MAX_DIGITS];
+        let start = write_integer_digits(integer, &mut buffer);
+        Self::from_digits(alloc, &buffer[start..])
+    }
+
+    /// The value of the integer that digits write, the first of which is not 0.
+    ///
+    /// Behind a call its parts would be stored one by one and copied together, for which the processor waits.
+    #[inline(always)]
+    fn from_digits(alloc: Global, digits: &[u8]) -> Result<Self, AllocError>
+        requires digits { All (λ d. d < 10) digits.now }
+        requires front { 0 < length digits.now → 0 < slice_index digits.now 0 }
+        requires at_most { length digits.now ≤ MAX_DIGITS }
+        ensures value { IfOk result (λ v. v ≡ integer_value (number_from_digits 10 digits.now)) }
+        ensures succeeds { size (integer_value (number_from_digits 10 digits.now)).number ≤ D.L → IsOk result }
+        ensures fits { length digits.now ≤ D.L → IsOk result }
+    {
+        let nonzero = D::from_digits(alloc, &digits[..trimmed_len(digits)])?;
+        let magnitude = at_least_zero(subtract_counts(digits.len(), 1));
+        Ok(UnsignedOver {
+            digits: nonzero,
+            magnitude,
+            hi: magnitude,
+            lo: 0,
+        })
+    }
+}

@@ -1,0 +1,79 @@
+-- One call more.
+use Rattle.std.proofs.Common.{◌≡◌, ℕ, suc, ◌+◌, ◌<◌, List, [], ◌∷◌, ◌++◌, length, get_or, take, drop, refl, sym, ◌∙◌}
+use Rattle.std.proofs.Common.{ap, arith}
+use Rattle.std.specs.Prelude.{Result, Ok, Err}
+use Rattle.std.proofs.Math.Seq.{drop-cons}
+use Rattle.std.proofs.lemmas.List.{take_more, length-take-le}
+use Rattle.std.proofs.lemmas.Option.{slice_get-get_or}
+use Rattle.fixed_decimal.specs.Decimal.{Decimal}
+use Rattle.decimal_unsigned.specs.declared.error.ParseError.TheVariants as parse
+use Rattle.fixed_decimal.specs.declared.runs.Call.{Call}
+use Rattle.fixed_decimal.specs.declared.runs.RunError.{RunError}
+use Rattle.fixed_decimal.specs.declared.runs.RunError.TheVariants.{Start, Operand, Overlap, Limit, Memory, Sink}
+use Rattle.fixed_decimal.specs.Outcome.{OutcomeError, step, after_calls}
+use Rattle.fixed_decimal.specs.DecimalText.{and_then}
+use Rattle.fixed_decimal.specs.Errors.{IsReached}
+use Rattle.fixed_decimal.specs.Calls.{CallFails, CallsFail}
+
+and_then-Ok : (r : Result Decimal OutcomeError) → and_then r (λ w. Ok w) ≡ r
+and_then-Ok (Ok v) = refl
+and_then-Ok (Err e) = refl
+
+-- calls, and then one more
+after_calls-snoc : (at : ℕ) (v : Decimal) (xs : List Call) (x : Call)
+    → after_calls at v (xs ++ x ∷ []) ≡ and_then (after_calls at v xs) (λ w. step (at + length xs) w x)
+after_calls-snoc at v [] x = and_then-Ok (step at v x) ∙ ap (λ k. step k v x) (let e : at ≡ at + 0 = omega arith in e)
+after_calls-snoc at v (y ∷ ys) x = elim (step at v y) as
+    (λ r. and_then r (λ w. after_calls (at + 1) w (ys ++ x ∷ []))
+    ≡ and_then (and_then r (λ w. after_calls (at + 1) w ys)) (λ w. step (at + suc (length ys)) w x)) [
+      | Ok w ↦
+          after_calls-snoc (at + 1) w ys x
+          ∙ ap (λ k. and_then (after_calls (at + 1) w ys) (λ u. step k u x))
+          (let e : at + 1 + length ys ≡ at + suc (length ys) = omega arith in e)
+      | Err e ↦ refl
+    ]
+
+-- so many of the calls made v of the first value, and the others make of it what all make of the first one
+pub record IsAt (first : Decimal) (calls : List Call) (at : ℕ) (v : Decimal) : Type 0 where
+  pub before : after_calls 0 first (take at calls) ≡ Ok v
+  pub rest : after_calls at v (drop at calls) ≡ after_calls 0 first calls
+
+module _ {first v : Decimal} {calls : List Call} {at : ℕ} (i : IsAt first calls at v) (d : Call)
+    (h : at < length calls) where
+  next : after_calls at v (drop at calls)
+      ≡ and_then (step at v (get_or calls at d)) (λ w. after_calls (at + 1) w (drop (at + 1) calls))
+  next =
+      let e : suc at ≡ at + 1 = omega arith in
+      ap (after_calls at v) (drop-cons calls at d h ∙ ap (λ k. get_or calls at d ∷ drop k calls) e)
+
+  before_next : (w : Decimal) → step at v (get_or calls at d) ≡ Ok w → after_calls 0 first (take (at + 1) calls) ≡ Ok w
+  before_next w s =
+      let l : 0 + length (take at calls) ≡ at = omega (arith, length-take-le at calls (omega arith)) in
+      ap (after_calls 0 first) (take_more calls at d h)
+      ∙ after_calls-snoc 0 first (take at calls) (get_or calls at d)
+      ∙ (rw (i.before, l) s)
+
+  rest_next : (w : Decimal) → step at v (get_or calls at d) ≡ Ok w
+      → after_calls (at + 1) w (drop (at + 1) calls) ≡ after_calls 0 first calls
+  rest_next w s = ap (λ r. and_then r (λ u. after_calls (at + 1) u (drop (at + 1) calls))) (sym s) ∙ sym next ∙ i.rest
+
+  -- where this call makes w, one call more made w
+  pub continues : (w : Decimal) → step at v (get_or calls at d) ≡ Ok w → IsAt first calls (at + 1) w
+  continues w s = record { before = before_next w s; rest = rest_next w s }
+
+  stops : (e : OutcomeError) → step at v (get_or calls at d) ≡ Err e → after_calls 0 first calls ≡ Err e
+  stops e s = sym i.rest ∙ next ∙ ap (λ r. and_then r (λ u. after_calls (at + 1) u (drop (at + 1) calls))) s
+
+  next_call : IsReached first calls at v (get_or calls at d)
+  next_call = record { before = i.before; next_call = slice_get-get_or calls at d h }
+
+  -- an error of this call is one of the calls
+  pub fails_with : (held : ℕ) (e : RunError) → CallFails held e at v (get_or calls at d) → CallsFail held e first calls
+  fails_with held (Operand k parse.Limit) r = rw r.0 (stops _ r.1)
+  fails_with held (Operand k parse.Syntax) r = rw r.0 (stops _ r.1)
+  fails_with held (Operand k parse.Memory) r = rw r.0 (v, get_or calls at d, next_call, r.1)
+  fails_with held (Overlap k) r = rw r.0 (stops _ r.1)
+  fails_with held (Limit k) r = rw r.0 (stops _ r.1)
+  fails_with held (Memory k) r = rw r.0 (v, get_or calls at d, next_call, r.1)
+  fails_with held (Start fault) r = absurd r
+  fails_with held Sink r = absurd r

@@ -1,0 +1,43 @@
+//! Copies of a decimal, and which decimals are equal.
+ghost use Rattle.std.specs.Prelude.{◌≡◌, ◌≤◌, ◌↔◌, IsTrue};
+ghost use Rattle.decimal_digits.specs.Number.{size};
+ghost use Rattle.decimal_unsigned.specs.Unsigned.{IsValue};
+ghost use Rattle.fixed_decimal.specs.DecimalText.{decimal_text};
+
+use crate::variations::Signed;
+use decimal_digits::digits::DigitStore;
+use decimal_unsigned::decimal::UnsignedOver;
+use std::alloc::AllocError;
+
+impl<D: DigitStore> Clone for Signed<UnsignedOver<D>> {
+    ghost is_clone = { λ value equality. equality ≡ value };
+
+    ghost is_infallible = { λ value. size value.absolute.number ≤ D.L };
+
+    /// Makes a second decimal that equals this one.
+    ///
+    /// The copy of `-01.50` prints `-01.50`. The original's `Clone`.
+    ///
+    /// # Errors
+    ///
+    /// Allocation fails for more than `L` digits.
+    fn clone(&self) -> Result<Self, AllocError> {
+        let absolute = self.absolute.clone()?;
+        Ok(Self::new(self.sign, absolute))
+    }
+}
+
+impl<D: DigitStore> Signed<UnsignedOver<D>> {
+    /// Returns `self == other`, with the law that decimals are equal exactly where their texts are.
+    ///
+    /// `-0` and `0` have different texts, and so have `1.0` and `1`.
+    pub fn has_same_text(&self, other: &Self) -> bool
+        ensures value { IsTrue result ↔ (self.now ≡ other.now) }
+        ensures texts { IsTrue result ↔ (decimal_text self.now ≡ decimal_text other.now) }
+        ensures valid { IsValue self.now.absolute × IsValue other.now.absolute }
+    {
+        // Proof hint: both absolute values are valid.
+        let _hints = (self.absolute.is_zero(), other.absolute.is_zero());
+        self == other
+    }
+}

@@ -1,0 +1,164 @@
+-- The digits of a number times a power of ten.
+use Rattle.std.proofs.Common.{◌≡◌, ℕ, zero, suc, ◌+◌, ◌-◌, ◌*◌, ◌/◌, ◌%◌, ◌^◌, ◌<◌, ◌≤◌, ◌==◌, refl, sym, ◌∙◌, ap, subst, arith, rules, inl, inr}
+use Rattle.std.specs.Prelude.{ℤ, pos, negsuc, ◌+ℤ◌, ◌≤ℤ◌}
+use Rattle.std.specs.Int.{int_max, int_min}
+use Rattle.std.proofs.Math.Nat.{mul-mod_left, mul-pos, mul-div-mul_right, mod-eq-sub-div-mul, mul_assoc, mul_comm, mul-sub, div-add-mod', div-eq_of_lt, pow-le-pow_right}
+use Rattle.std.proofs.lemmas.Int.{ints, clamps}
+use Rattle.std.proofs.lemmas.Bool.{cases_lt}
+use Rattle.decimal_digits.specs.Number.{offset, weight, last, magnitude_at, IsFirst, IsLast}
+use Rattle.decimal_unsigned.specs.Unsigned.{Unsigned}
+use Rattle.decimal_unsigned.specs.Edits.{trimmed_end}
+use Rattle.fixed_decimal.proofs.Calling.{ten_pos, offset_is, gap_is, shift_down, last_at, last_zero, greatest_is, powers}
+use Rattle.plural_rules.specs.Operands.{Operands, compact, i, v, w, f, t}
+use Rattle.plural_rules.specs.DigitSlice.{digit_slice}
+use Rattle.plural_rules.proofs.DigitSlice.{digit_slice-all, digit_slice-zero}
+
+-- a number is less than the weight of the place above its first digit
+below_first : (n : ℕ) (m : ℤ) → IsFirst n m → n < 10 ^ (offset m + 1)
+below_first n m first_is = elim (cases_lt 0 n) [
+  | inl p ↦ first_is.less p
+  | inr z ↦ omega (arith, ten_pos (offset m + 1))
+]
+
+-- the integer digits of a number times a power of ten are its first digits
+pub integer_digits_of : (o : Operands) (x : Unsigned) (m : ℤ) (c count : ℕ) → compact x c ≡ o
+    → IsFirst x.number m → negsuc 32767 ≤ℤ m → m ≤ℤ pos 32767 → c < 256
+    → pos count ≡ int_max (m +ℤ pos (c + 1)) (pos 0)
+    → (count ≤ offset m + 1) × (digit_slice x.number (offset m + 1) count ≡ i o.value)
+integer_digits_of o x m c count is first_is low high small e =
+    let n = x.number in
+    let few : count ≤ offset m + 1 = omega (arith, ints, clamps, e, offset_is m) in
+    let down =
+    ap (λ p. i p.value) (sym is) ∙ shift_down n c (offset (pos 0)) (omega (arith, ints, offset_is (pos 0))) in (
+      few,
+      elim (cases_lt 0 count) [
+        | inl p ↦
+            let q : offset m + 1 - count ≡ offset (pos 0) - c =
+            omega (arith, ints, clamps, e, offset_is m, offset_is (pos 0)) in
+            digit_slice-all n (offset m + 1) count few (below_first n m first_is) ∙ ap (λ k. n / 10 ^ k) q ∙ sym down
+        | inr z ↦
+            let none : count ≡ 0 = omega arith in
+            let le : 10 ^ (offset m + 1) ≤ 10 ^ (offset (pos 0) - c) =
+            pow-le-pow_right (omega arith) (omega (arith, ints, clamps, e, none, offset_is m, offset_is (pos 0))) in
+            let less : n < 10 ^ (offset (pos 0) - c) = omega (arith, le, below_first n m first_is) in
+            ap (digit_slice n (offset m + 1)) none ∙ digit_slice-zero n (offset m + 1) ∙ sym (div-eq_of_lt less)
+            ∙ sym down
+      ],
+    )
+
+-- the fraction digits of a value that is a number times a power of ten
+fraction_at : (y : Unsigned) (number : ℕ) (m : ℤ) (c count : ℕ) → number * 10 ^ c ≡ y.number → y.lo ≤ℤ pos 0
+    → m ≡ negsuc c → c < 256 → count ≡ v y → count + c ≤ 32768
+    → (count ≤ offset m + 1) × (digit_slice number (offset m + 1) count ≡ f y)
+fraction_at y number m c count is high below small e few =
+    let top : offset m + 1 + c ≡ 32768 = omega (arith, ints, offset_is m, below) in
+    let low : negsuc 32767 ≤ℤ y.lo = omega (arith, ints, e, gap_is y.lo (pos 0)) in
+    let fits : c ≤ offset y.lo = omega (arith, ints, e, gap_is y.lo (pos 0), offset_is y.lo) in
+    let p : offset m + 1 - count ≡ offset y.lo - c = omega (arith, ints, e, offset_is y.lo, gap_is y.lo (pos 0)) in (
+      omega (arith, top),
+      (λ k. number / 10 ^ p k % 10 ^ e k)
+          ∙ ap (λ z. z % 10 ^ v y) (sym (shift_down number c (offset y.lo) fits))
+          ∙ ap (λ n. n / weight y.lo % 10 ^ v y) is,
+    )
+
+-- the remainder of a product by a product with the same factor
+mod-scaled : (n p k : ℕ) → 0 < k → n * k % (p * k) ≡ n % p * k
+mod-scaled n p k h =
+    mod-eq-sub-div-mul (n * k) (p * k)
+    ∙ ap (λ q. n * k - q * (p * k)) (mul-div-mul_right n p h)
+    ∙ ap (λ y. n * k - y) (sym (mul_assoc (n / p) p k))
+    ∙ sym (mul_comm (n - n / p * p) k
+    ∙ mul-sub k n (n / p * p)
+    ∙ (λ j. mul_comm k n j - mul_comm k (n / p * p) j))
+    ∙ ap (λ y. y * k) (sym (mod-eq-sub-div-mul n p))
+
+-- the same for powers of ten
+mod_powers : (n c k : ℕ) → c ≤ k → n * 10 ^ c % 10 ^ k ≡ n % 10 ^ (k - c) * 10 ^ c
+mod_powers n c k h =
+    let split : 10 ^ k ≡ 10 ^ (k - c) * 10 ^ c = powers (k - c) c k (omega arith) in
+    ap (λ m. n * 10 ^ c % m) split ∙ mod-scaled n (10 ^ (k - c)) (10 ^ c) (ten_pos c)
+
+-- a multiple of 10^k is one of each lower power
+fewer : (n j k : ℕ) → j ≤ k → n % 10 ^ k ≡ 0 → n % 10 ^ j ≡ 0
+fewer n j k h e =
+    let split : 10 ^ k ≡ 10 ^ (k - j) * 10 ^ j = powers (k - j) j k (omega arith) in
+    let whole : n / 10 ^ k * 10 ^ k ≡ n = omega (arith, div-add-mod' n (10 ^ k)) in
+    let same : n / 10 ^ k * 10 ^ (k - j) * 10 ^ j ≡ n =
+    mul_assoc (n / 10 ^ k) (10 ^ (k - j)) (10 ^ j) ∙ ap (λ m. n / 10 ^ k * m) (sym split) ∙ whole in
+    subst (λ m. m % 10 ^ j ≡ 0) same (mul-mod_left (n / 10 ^ k * 10 ^ (k - j)) (10 ^ j))
+
+-- a factor is above 0
+some : (n c : ℕ) → 0 < n * 10 ^ c → 0 < n
+some zero c h = absurd (omega (arith, h))
+some (suc n) c h = omega arith
+
+-- a factor of 0 is 0
+none_left : (a k : ℕ) → 0 < k → a * k ≡ 0 → a ≡ 0
+none_left zero k h e = refl
+none_left (suc a) k h e = absurd (omega (arith, h, e))
+
+-- the last digit of a number whose other places are all 0 is at the highest place
+last_top : (n k : ℕ) → k + 1 ≡ 65536 → 0 < n → n % 10 ^ k ≡ 0 → last n ≡ magnitude_at k
+unfolding last
+last_top zero k e h d = absurd (omega arith)
+last_top (suc n) k e h d =
+    ap magnitude_at
+    (greatest_is (λ m. suc n % 10 ^ m == 0) 65536 k (omega arith) (search rules) (λ m p q. absurd (omega arith)))
+
+-- the last digit of a number times a power of ten, if it is below magnitude 0
+pub last-shifted : (n c : ℕ) (m : ℤ) → IsLast n m → negsuc 32767 ≤ℤ m → m ≤ℤ pos 32767 → c < 256
+    → int_min (last (n * 10 ^ c)) (pos 0) ≡ int_min (m +ℤ pos c) (pos 0)
+last-shifted n c m l low high small = elim (cases_lt 0 n) [
+  | inr z ↦
+      let none : n ≡ 0 = omega arith in
+      let product : 0 * 10 ^ c ≡ 0 = omega arith in
+      let zero_is : last (n * 10 ^ c) ≡ pos 0 = ap (λ k. last (k * 10 ^ c)) none ∙ ap last product ∙ last_zero in
+      omega (arith, ints, clamps, zero_is, l.none none)
+  | inl p ↦
+      let more : 0 < n * 10 ^ c = mul-pos p (ten_pos c) in
+      elim (cases_lt (offset m + c) 65536) [
+        | inl h ↦
+            let k : offset m + c - c ≡ offset m = omega arith in
+            let d : n * 10 ^ c % 10 ^ (offset m + c) ≡ 0 =
+            mod_powers n c (offset m + c) (omega arith)
+            ∙ ap (λ j. n % 10 ^ j * 10 ^ c) k
+            ∙ ap (λ y. y * 10 ^ c) (l.divides p)
+            ∙ (omega arith) in
+            let e = last_at (n * 10 ^ c) (offset m + c) more d (no_more p) h in
+            omega (arith, ints, clamps, e, offset_is m)
+        | inr h ↦ high_last 65535 refl h more
+      ]
+]
+  where
+    no_more : 0 < n → (k : ℕ) → offset m + c < k → ¬ (n * 10 ^ c % 10 ^ k ≡ 0)
+    no_more p k h e =
+        let rest : n % 10 ^ (k - c) * 10 ^ c ≡ 0 = sym (mod_powers n c k (omega arith)) ∙ e in
+        l.highest p (k - c) (omega arith) (none_left (n % 10 ^ (k - c)) (10 ^ c) (ten_pos c) rest)
+
+    high_last : (k : ℕ) → k + 1 ≡ 65536 → 65536 ≤ offset m + c → 0 < n * 10 ^ c
+        → int_min (last (n * 10 ^ c)) (pos 0) ≡ int_min (m +ℤ pos c) (pos 0)
+    high_last k e h more =
+        let p : 0 < n = some n c more in
+        let here : n % 10 ^ (k - c) ≡ 0 = fewer n (k - c) (offset m) (omega arith) (l.divides p) in
+        let d : n * 10 ^ c % 10 ^ k ≡ 0 =
+        mod_powers n c k (omega arith) ∙ ap (λ y. y * 10 ^ c) here ∙ (omega arith) in
+        let top = last_top (n * 10 ^ c) k e more d in
+        omega (arith, ints, clamps, top, offset_is m)
+
+-- the fraction digits
+pub fraction_of : (o : Operands) (x : Unsigned) (m : ℤ) (c count : ℕ)
+    → compact x c ≡ o → m ≡ negsuc c → c < 256 → count ≡ v o.value → count + o.exponent ≤ 32768
+    → (count ≤ offset m + 1) × (digit_slice x.number (offset m + 1) count ≡ f o.value)
+fraction_of o x m c count is below small e few =
+    let high : o.value.lo ≤ℤ pos 0 = omega (arith, ints, clamps, ap (λ p. p.value.lo) is) in
+    fraction_at o.value x.number m c count (ap (λ p. p.value.number) is) high below small e
+    (omega (arith, ap (λ p. p.exponent) is))
+
+-- the same without trailing zeros
+pub needed_of : (o : Operands) (x : Unsigned) (m : ℤ) (c count : ℕ)
+    → compact x c ≡ o → m ≡ negsuc c → c < 256 → count ≡ w o.value → count + o.exponent ≤ 32768
+    → (count ≤ offset m + 1) × (digit_slice x.number (offset m + 1) count ≡ t o.value)
+needed_of o x m c count is below small e few =
+    let high : (trimmed_end o.value).lo ≤ℤ pos 0 = omega (arith, ints, clamps) in
+    fraction_at (trimmed_end o.value) x.number m c count (ap (λ p. p.value.number) is) high below small e
+    (omega (arith, ap (λ p. p.exponent) is))

@@ -1,0 +1,10 @@
+use Rattle.std.proofs.Common.{◌≡◌, ◌+◌, ◌%◌, ◌^◌, ◌<◌}
+use Rattle.decimal_digits.specs.Number.{offset}
+use Rattle.plural_rules.specs.DigitSlice.{digit_slice}
+use Rattle.plural_rules.proofs.operands.digits.horner_modulo.Given as goal
+
+abbrev pub invariant-loop-below : goal.invariant-loop-below
+invariant-loop-below g l = record {
+  small : l.rest < 10 ^ 18;
+  is : l.rest ≡ digit_slice l.value.number (offset l.top + 1) l.below % l.modulus;
+}

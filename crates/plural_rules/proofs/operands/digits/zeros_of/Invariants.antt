@@ -1,5 +1,0 @@
-use Rattle.std.proofs.Common.{◌≡◌, ◌^◌}
-use Rattle.plural_rules.proofs.operands.digits.zeros_of.Given as goal
-
-abbrev pub invariant-loop-zeros : goal.invariant-loop-zeros
-invariant-loop-zeros l = l.next ≡ 10 ^ l.zeros
