@@ -215,3 +215,8 @@ module _ (ds : List ℕ) (h : All (λ d. d < 10) ds) (few : length ds ≤ 16) wh
       ∙ ap (number_from_digits 10) (front_halves_are count l)
       ∙ zeros_in_front 10 (16 - count) (take count all)
       ∙ front_leading count l
+
+-- what the reading of the leading digits as an integer needs
+pub ruleset to_u64 = (leading_next, leading_u64)
+
+pub ruleset to_u128 = (leading_next, leading_u128)

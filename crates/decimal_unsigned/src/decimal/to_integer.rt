@@ -60,7 +60,7 @@ fn leading_packed<D: DigitStore>(digits: &D, count: usize) -> Option<u64>
 
 /// The number that the first digits write, with zeros behind the last one. In 64 bits there is room for 19 digits.
 #[inline]
-#[tactic(auto, using(crate::proofs::WholeNumbers::leading_next, crate::proofs::WholeNumbers::leading_u64), unfolding(decimal_digits::specs::Digits::number_at))]
+#[tactic(auto, using(crate::proofs::WholeNumbers::to_u64), unfolding(decimal_digits::specs::Digits::number_at))]
 fn leading_u64<D: DigitStore>(digits: &D, count: usize) -> u64
     requires { count ≤ 19 }
     ensures { result ≡ leading count (D.digits digits.now) }
@@ -76,7 +76,7 @@ fn leading_u64<D: DigitStore>(digits: &D, count: usize) -> u64
 }
 
 /// The number that the first digits write, with zeros behind the last one. In 128 bits there is room for 38 digits.
-#[tactic(auto, using(crate::proofs::WholeNumbers::leading_next, crate::proofs::WholeNumbers::leading_u128), unfolding(decimal_digits::specs::Digits::number_at))]
+#[tactic(auto, using(crate::proofs::WholeNumbers::to_u128), unfolding(decimal_digits::specs::Digits::number_at))]
 fn leading_u128<D: DigitStore>(digits: &D, count: usize) -> u128
     requires { count ≤ 38 }
     ensures { result ≡ leading count (D.digits digits.now) }
