@@ -33,6 +33,12 @@ number_zeros base n (suc k) =
     let p : base ^ suc k ≡ base ^ k * base = pow-suc base k in
     number_zeros base (n * base + 0) k ∙ (rw p (omega arith))
 
+-- zeros behind digits move what they are worth up
+pub number_pad : (base k : ℕ) (ds : List ℕ)
+    → number_from_digits base (ds ++ replicate k 0) ≡ number_from_digits base ds * base ^ k
+number_pad base k ds =
+    number_after_append base 0 ds (replicate k 0) ∙ number_zeros base (number_from_digits base ds) k
+
 -- digits and then more digits
 pub number-append : (xs ys : List ℕ)
     → number_from_digits 10 (xs ++ ys) ≡ number_from_digits 10 xs * 10 ^ length ys + number_from_digits 10 ys

@@ -11,11 +11,8 @@ pub mod Leading
 pub mod SplitAtPosition
 pub mod Results
 pub mod Nibbles
-pub mod NibblePasses
 pub mod Packing
 pub mod Sinks
-pub mod Refills
 pub mod DigitTexts
-pub mod NibbleRuns
 pub mod LeadingBytes
 pub mod InlineBcd

@@ -1,5 +1,5 @@
 -- Two digits to a byte, the first of them in the high half.
-use Rattle.std.specs.Prelude.{◌≡◌, ℕ, ◌+◌, ◌-◌, ◌*◌, ◌/◌, ◌%◌, ◌<◌, List, [], ◌∷◌, ◌++◌, length, take, replicate, All}
+use Rattle.std.specs.Prelude.{◌≡◌, ℕ, ◌+◌, ◌-◌, ◌*◌, ◌/◌, ◌%◌, ◌<◌, List, [], ◌∷◌, ◌++◌, length, take, replicate, slice_index, All}
 use Rattle.std.specs.Int.{w64, to_be_bytes}
 use Rattle.std.specs.Int.Digits.{number_from_digits}
 
@@ -16,7 +16,7 @@ digits_in bytes len = take len (nibbles bytes)
 pub record IsPacked (bytes : List ℕ) (len : ℕ) : Type 0 where
   pub count : 2 * length bytes ≡ len + len % 2
   pub decimal : All (λ d. d < 10) (digits_in bytes len)
-  pub unused : nibbles bytes ≡ digits_in bytes len ++ replicate (len % 2) 0
+  pub unused : len % 2 ≡ 1 → slice_index (nibbles bytes) len ≡ 0
 
 -- the first bytes of a number of 64 bits, the highest one first, as many as so many digits fill
 unfoldable pub leading_bytes : ℕ → ℕ → List ℕ

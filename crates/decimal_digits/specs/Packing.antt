@@ -1,8 +1,8 @@
 -- Private: only the contracts of private functions speak of these.
 -- Bytes and the digits packed into them.
-use Rattle.std.specs.Prelude.{◌≡◌, ℕ, ◌+◌, ◌-◌, ◌*◌, ◌/◌, ◌%◌, ◌<◌, ◌≤◌, List, [], ◌∷◌, length, take, All, refl}
-use Rattle.std.proofs.Common.{zero, suc, ◌∙◌, sym, subst, ap, arith}
-use Rattle.std.proofs.lemmas.List.{length-take, take_all, take-take}
+use Rattle.std.specs.Prelude.{◌≡◌, ℕ, ◌+◌, ◌-◌, ◌*◌, ◌/◌, ◌%◌, ◌<◌, ◌≤◌, List, [], ◌∷◌, length, slice_index, All, refl}
+use Rattle.std.proofs.Common.{arith}
+use Rattle.std.proofs.lemmas.List.{length-take}
 use Rattle.decimal_digits.specs.Nibbles.{nibbles, digits_in, IsPacked}
 
 -- the bytes hold just these digits, which are so many
@@ -12,8 +12,15 @@ pub record Encodes (bytes : List ℕ) (len : ℕ) (list : List ℕ) : Type 0 whe
 
 -- the first bytes hold so many digits, and what stands behind them in up to eight bytes means nothing
 pub record IsPackedPrefix (bytes : List ℕ) (len : ℕ) : Type 0 where
-  pub front : IsPacked (take ((len + 1) / 2) bytes) len
+  pub enough : len ≤ 2 * length bytes
+  pub decimal : All (λ d. d < 10) (digits_in bytes len)
+  pub unused : len % 2 ≡ 1 → slice_index (nibbles bytes) len ≡ 0
   pub many : 8 < length bytes → length bytes ≡ (len + 1) / 2
+
+-- of the bytes the first hold just these digits
+pub record EncodesPrefix (bytes : List ℕ) (len : ℕ) (list : List ℕ) : Type 0 where
+  pub packed_prefix : IsPackedPrefix bytes len
+  pub digits : digits_in bytes len ≡ list
 
 -- a byte has two halves
 pub length-nibbles : (bytes : List ℕ) → length (nibbles bytes) ≡ 2 * length bytes
@@ -25,44 +32,27 @@ length-nibbles (b ∷ bs) = omega (arith, length-nibbles bs)
 pub length_digits : (bytes : List ℕ) (len : ℕ) → IsPacked bytes len → length (digits_in bytes len) ≡ len
 length_digits bytes len p = simp (length-take, length-nibbles) (omega (arith, p.count))
 
--- the halves of the first bytes
-pub nibbles-take : (k : ℕ) (bs : List ℕ) → nibbles (take k bs) ≡ take (2 * k) (nibbles bs)
-unfolding nibbles
-nibbles-take zero bs = refl
-nibbles-take (suc k) [] = let e : 2 * suc k ≡ suc (suc (2 * k)) = omega arith in rw e refl
-nibbles-take (suc k) (b ∷ bs) =
-    let e : 2 * suc k ≡ suc (suc (2 * k)) = omega arith in
-    rw e (ap (λ l. b / 16 ∷ (b % 16 ∷ l)) (nibbles-take k bs))
-
 -- bytes that just these digits fill hold them
 pub packed_is_prefix : (bytes : List ℕ) (len : ℕ) → IsPacked bytes len → IsPackedPrefix bytes len
-packed_is_prefix bytes len p =
-    let n : length bytes ≡ (len + 1) / 2 = omega (arith, p.count) in
-    let all : take ((len + 1) / 2) bytes ≡ bytes = take_all ((len + 1) / 2) bytes (omega arith) in
-    record { front = rw all p; many = λ _. n }
+packed_is_prefix bytes len p = record {
+  enough = omega (arith, p.count);
+  decimal = p.decimal;
+  unused = p.unused;
+  many = λ _. omega (arith, p.count);
+}
 
 -- there are so many bytes at least
 pub packed_count : (bytes : List ℕ) (len : ℕ) → IsPackedPrefix bytes len → (len + 1) / 2 ≤ length bytes
-packed_count bytes len p = omega (arith, p.front.count, length-take ((len + 1) / 2) bytes)
-
--- the digits are those of the first bytes
-pub packed_digits : (bytes : List ℕ) (len : ℕ) → digits_in (take ((len + 1) / 2) bytes) len ≡ digits_in bytes len
-packed_digits bytes len =
-    ap (take len) (nibbles-take ((len + 1) / 2) bytes)
-    ∙ take-take len (2 * ((len + 1) / 2)) (nibbles bytes) (omega arith)
+packed_count bytes len p = omega (arith, p.enough)
 
 -- they are as many as the list says
 pub length_packed : (bytes : List ℕ) (len : ℕ) → IsPackedPrefix bytes len → length (digits_in bytes len) ≡ len
-length_packed bytes len p = ap length (sym (packed_digits bytes len)) ∙ length_digits _ len p.front
-
--- each of them is 0 to 9
-pub packed_decimal : (bytes : List ℕ) (len : ℕ) → IsPackedPrefix bytes len → All (λ d. d < 10) (digits_in bytes len)
-packed_decimal bytes len p = subst (All (λ d. d < 10)) (packed_digits bytes len) p.front.decimal
+length_packed bytes len p = simp (length-take, length-nibbles) (omega (arith, p.enough))
 
 -- where eight bytes lie in place, the digits and the room are at least sixteen
 pub room_to_L : (bytes : List ℕ) (capacity len : ℕ) → 8 ≤ capacity → IsPackedPrefix bytes len
     → 16 ≤ length (digits_in bytes len) + (2 * capacity - len)
-room_to_L bytes capacity len h p = let n = length_packed bytes len p in omega arith
+room_to_L bytes capacity len h p = omega (arith, length_packed bytes len p)
 
 -- what a search knows of bytes that hold digits
-pub ruleset packed_prefix = (packed_is_prefix, length_packed, packed_count, packed_decimal, packed_digits)
+pub ruleset packed_prefix = (packed_is_prefix, length_packed, packed_count)

@@ -95,6 +95,13 @@ pub trait DigitStore: Drop {
     fn len(&self) -> usize
         ensures { result ≡ length (digits self.now) };
 
+    /// Tells whether there is no digit.
+    fn is_empty(&self) -> bool
+        ensures { IsTrue result ↔ (digits self.now ≡ []) }
+    {
+        self.len() == 0
+    }
+
     /// Gives the digit at an index, of which 0 is that of the most significant digit.
     ///
     /// Requires an index in range.

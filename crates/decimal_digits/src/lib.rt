@@ -5,6 +5,7 @@
 
 pub mod digits;
 mod error;
+pub mod laws;
 pub mod ops;
 pub mod rounding;
 pub mod sink;

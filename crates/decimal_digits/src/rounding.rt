@@ -3,7 +3,7 @@ ghost use Rattle.std.specs.Prelude.{◌≡◌, ◌≢◌, ◌+◌, ◌*◌, ◌<
 ghost use Rattle.decimal_digits.specs.Counted.{list_of, accesses_of, Continues, OnlyReads};
 ghost use Rattle.decimal_digits.specs.Number.{offset, weight};
 ghost use Rattle.decimal_digits.specs.Digits.{number_at, number_of, IsStripped};
-ghost use Rattle.decimal_digits.specs.Rounding.{unit_at, Named, rounded_number, DigitRoundingFails};
+ghost use Rattle.decimal_digits.specs.Rounding.{unit_at, rounded_number, DigitRoundingFails};
 ghost use Rattle.decimal_digits.specs.RoundedDigits.{Represents, NoDigitsBelow};
 ghost use Rattle.decimal_digits.specs.Remainders.{leading, SplitsAs};
 
@@ -105,7 +105,8 @@ fn magnitude_after<D: DigitStore>(counted: &Counted<'_, D>, position: i16, place
 ///
 /// The list holds the digits from the magnitude of the first one down, with no 0 at either end, before and after. The
 /// digits 1, 2 and 5 from the magnitude 0 down, which is 1.25, become 1 and 2 at the position -1 in the mode `HalfEven`
-/// by 1, and the answer is 0. The answer is 0 too where no digit is left.
+/// by 1, and the answer is 0. The answer is 0 too where no digit is left. That the number is the one which the mode
+/// names among all multiples is the law [`rounded_number_is_named`](crate::laws::rounded_number_is_named).
 ///
 /// Limit: the number would reach 10 to the 32768. Memory: memory was refused for one more digit, which only
 /// `MultiplesOf25` asks for, and only where the number stays below that and the list has as many digits as are held
@@ -126,10 +127,6 @@ pub fn round<D: DigitStore>(
         IfOk result (λ first. Represents (D.digits (list_of counted.new)) first
         (rounded_number mode (unit_at increment position) number)) }
     ensures above { IfOk result (NoDigitsBelow position (D.digits (list_of counted.new))) }
-    // That number is the one which the mode names among all multiples.
-    ensures named { let number = number_of (D.digits (list_of counted.old)) magnitude in
-        let unit = unit_at increment position in
-        Named mode unit number (rounded_number mode unit number) }
 
     ensures err { OnErr result (D.digits (list_of counted.new) ≡ D.digits (list_of counted.old)) }
     ensures fails_with { let number = number_of (D.digits (list_of counted.old)) magnitude in

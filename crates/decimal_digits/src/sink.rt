@@ -1,5 +1,5 @@
 //! What takes the bytes of a text, and what has a text.
-ghost use Rattle.std.specs.Prelude.{◌≡◌, ℕ, List, [], ◌∷◌, length, Option, OnOk, OnErr, Bool, true, false};
+ghost use Rattle.std.specs.Prelude.{◌≡◌, ℕ, List, [], ◌∷◌, length, Option, IsErr, OnOk, OnErr, Bool, true, false};
 ghost use Rattle.std.specs.Io.KnownBytes.{Keeps, Appends};
 ghost use Rattle.decimal_digits.specs.AppendsPrefix.{AppendsPrefix};
 
@@ -84,6 +84,15 @@ pub trait Writeable {
     /// Counts the bytes of the text, exactly.
     fn writeable_length_hint(&self) -> usize
         ensures { result ≡ length (text self.now) };
+}
+
+/// Remembers that a sink failed.
+fn fail(failed: &mut bool) -> Result<(), SinkFault>
+    ensures failed { failed.new ≡ true }
+    ensures fails { IsErr result }
+{
+    *failed = true;
+    Err(SinkFault)
 }
 
 /// Writes all bytes.

@@ -1,5 +1,5 @@
 //! A list of digits whose reads and writes are counted.
-ghost use Rattle.std.specs.Prelude.{◌≡◌, ℕ, ◌+◌, ◌-◌, ◌<◌, ◌≤◌, ◌≢◌, min, [], ◌∷◌, ◌++◌, length, take, slice_index, slice_set, IsOk, OnOk};
+ghost use Rattle.std.specs.Prelude.{◌≡◌, ℕ, ◌+◌, ◌-◌, ◌<◌, ◌≤◌, ◌≢◌, ◌↔◌, min, [], ◌∷◌, ◌++◌, length, take, slice_index, slice_set, IsOk, IsTrue, OnOk};
 ghost use Rattle.decimal_digits.specs.Counted.{list_of, accesses_of, Borrows, Continues};
 
 use super::{DigitStore, Steps};
@@ -33,6 +33,14 @@ impl<'a, D: DigitStore> Counted<'a, D> {
         ensures { result ≡ length (D.digits (list_of self.now)) }
     {
         self.list.len()
+    }
+
+    /// Tells whether there is no digit.
+    #[inline]
+    pub fn is_empty(&self) -> bool
+        ensures { IsTrue result ↔ (D.digits (list_of self.now) ≡ []) }
+    {
+        self.list.is_empty()
     }
 
     /// Gives the digit at an index, of which 0 is that of the most significant digit.

@@ -50,10 +50,10 @@ impl PackedDigits {
     }
 }
 
-#[tactic(auto, using(crate::specs::Packing::packed_prefix))]
+#[tactic(auto, using(crate::proofs::Packing::packing))]
 impl DigitStore for PackedDigits {
     ghost use Rattle.std.proofs.Common.{arith};
-    ghost use Rattle.decimal_digits.specs.Packing.{room_to_L, packed_decimal};
+    ghost use Rattle.decimal_digits.specs.Packing.{room_to_L};
 
     ghost digits = { λ s. digits_in s.bytes.items s.len };
 
@@ -67,7 +67,7 @@ impl DigitStore for PackedDigits {
 
     ghost room_to_L = { λ s. room_to_L s.bytes.items s.bytes.capacity s.len s.inline s.packed_prefix };
 
-    ghost are_digits = { λ s. packed_decimal s.bytes.items s.len s.packed_prefix };
+    ghost are_digits = { λ s. s.packed_prefix.decimal };
 
     #[inline]
     fn empty(alloc: Global) -> Self {

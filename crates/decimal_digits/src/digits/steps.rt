@@ -8,7 +8,7 @@ use std::marker::Model;
 ///
 /// Contracts see `count`; at run time it has no bytes. `tick` adds one and `tick_by` so many. No other call changes a
 /// `Steps`, but its owner may put a new one in its place. Not in the original.
-#[derive(Drop)]
+#[derive(Debug, Drop)]
 pub struct Steps {
     pub ghost count: { ℕ },
 }

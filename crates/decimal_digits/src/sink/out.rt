@@ -1,8 +1,8 @@
 //! A sink over a writer.
-ghost use Rattle.std.specs.Prelude.{◌≡◌, IsErr, OnOk, OnErr, Bool, true, false};
+ghost use Rattle.std.specs.Prelude.{◌≡◌, OnOk, OnErr, Bool, true, false};
 ghost use Rattle.std.specs.Io.KnownBytes.{Keeps};
 
-use super::{Sink, SinkFault, write_whole};
+use super::{Sink, SinkFault, fail, write_whole};
 use std::io::Write;
 use std::marker::Model;
 
@@ -11,7 +11,7 @@ use std::marker::Model;
 /// An answer of 0 bytes or an error is a fault, after which the writer is not called again. Contracts see the writer,
 /// and whether the sink has failed. Over a `Vec<u8>`, `Out` takes the bytes of a number's text, and `into_writer` gives
 /// the vector back. Not in the original, which writes to a `core::fmt::Write`.
-#[derive(Drop)]
+#[derive(Debug, Drop)]
 pub struct Out<W: Write> {
     writer: W,
     failed: bool,
@@ -45,18 +45,9 @@ impl<W: Write> Out<W> {
         ensures failed { OnErr result (self.new.1 ≡ true) }
     {
         if self.failed || self.writer.flush().is_err() {
-            return self.fail();
+            return fail(&mut self.failed);
         }
         Ok(())
-    }
-
-    /// Remembers that the writer failed.
-    fn fail(&mut self) -> Result<(), SinkFault>
-        ensures failed { self.new ≡ (self.old.0, true) }
-        ensures fails { IsErr result }
-    {
-        self.failed = true;
-        Err(SinkFault)
     }
 
     /// Gives the writer back, whether the sink has failed or not.
@@ -79,13 +70,13 @@ impl<W: Write> Sink for Out<W> {
         }
         match self.writer.write(&[byte]) {
             Ok(1) => Ok(()),
-            _ => self.fail(),
+            _ => fail(&mut self.failed),
         }
     }
 
     fn put_bytes(&mut self, bytes: &[u8]) -> Result<(), SinkFault> {
         if self.failed || write_whole(&mut self.writer, bytes).is_err() {
-            return self.fail();
+            return fail(&mut self.failed);
         }
         Ok(())
     }

@@ -1,7 +1,7 @@
 //! A sink in memory.
-ghost use Rattle.std.specs.Prelude.{◌≡◌, ℕ, ◌+◌, ◌≤◌, List, [], ◌∷◌, ◌++◌, Some, IsErr, OnOk, OnErr, Bool, true, false, vec_len, vec_capacity};
+ghost use Rattle.std.specs.Prelude.{◌≡◌, ℕ, ◌+◌, ◌≤◌, List, [], ◌∷◌, ◌++◌, Some, OnOk, OnErr, Bool, true, false, vec_len, vec_capacity};
 
-use super::{Sink, SinkFault};
+use super::{Sink, SinkFault, fail};
 use std::alloc::{AllocError, Global};
 use std::marker::Model;
 
@@ -40,15 +40,6 @@ impl TextBuf {
         ensures { result.now ≡ self.now.0 }
     {
         self.bytes.as_slice()
-    }
-
-    /// Remembers that a byte was refused.
-    fn fail(&mut self) -> Result<(), SinkFault>
-        ensures failed { self.new ≡ (self.old.0, true) }
-        ensures fails { IsErr result }
-    {
-        self.failed = true;
-        Err(SinkFault)
     }
 }
 
@@ -89,14 +80,14 @@ impl Sink for TextBuf {
 
     fn put_byte(&mut self, byte: u8) -> Result<(), SinkFault> {
         if self.failed || push(&mut self.bytes, byte).is_err() {
-            return self.fail();
+            return fail(&mut self.failed);
         }
         Ok(())
     }
 
     fn put_bytes(&mut self, bytes: &[u8]) -> Result<(), SinkFault> {
         if self.failed || append(&mut self.bytes, bytes).is_err() {
-            return self.fail();
+            return fail(&mut self.failed);
         }
         Ok(())
     }

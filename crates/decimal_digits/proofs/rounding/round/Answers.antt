@@ -8,28 +8,12 @@ use Rattle.decimal_digits.specs.Rounding.{step_of, unit_at, rounded_number, Digi
 use Rattle.decimal_digits.specs.RoundedDigits.{Represents}
 use Rattle.decimal_digits.specs.Remainders.{leading, RoundsTo, RoundLeadingFails}
 use Rattle.decimal_digits.proofs.DigitLists.{ten_pos}
-use Rattle.decimal_digits.proofs.Naming.{rounded_number-named}
 use Rattle.decimal_digits.proofs.RoundingLaws.{rounded_number-zero}
 use Rattle.decimal_digits.proofs.Remainders.{unit_pos}
 use Rattle.decimal_digits.proofs.NumberAt.{number_of-none}
 use Rattle.decimal_digits.proofs.Offsets.{offset_is}
 use Rattle.decimal_digits.proofs.SplitAtPosition.{rounded_split, represents_none, digit_rounding_fails}
 use Rattle.decimal_digits.proofs.rounding.round.Goals as goal
-
-pub returns-then-len-eq0-clause-named : goal.returns-then-len-eq0-clause-named
-returns-then-len-eq0-clause-named g c =
-    rounded_number-named c.args.mode (unit_at c.args.increment c.args.position) _
-    (unit_pos c.args.increment c.args.position)
-
-pub returns-in_err-places-clause-named : goal.returns-in_err-places-clause-named
-returns-in_err-places-clause-named g c =
-    rounded_number-named c.args.mode (unit_at c.args.increment c.args.position) _
-    (unit_pos c.args.increment c.args.position)
-
-pub returns-clause-named : goal.returns-clause-named
-returns-clause-named g c =
-    rounded_number-named c.args.mode (unit_at c.args.increment c.args.position) _
-    (unit_pos c.args.increment c.args.position)
 
 pub returns-then-len-eq0-clause-ok : goal.returns-then-len-eq0-clause-ok
 returns-then-len-eq0-clause-ok g c =

@@ -1,4 +1,6 @@
 //! Many digits at once: text into bytes and back, and equal digits at an end.
+#![tactic(auto, using(crate::proofs::Nibbles::nibble_rules))]
+
 ghost use Rattle.std.specs.Prelude.{◌≡◌, ℕ, ◌+◌, ◌-◌, ◌*◌, ◌/◌, ◌%◌, ◌^◌, ◌<◌, ◌≤◌, ◌≢◌, ◌++◌, length, map, take, drop, replicate, slice_index};
 ghost use Rattle.std.specs.Char.{digit_value};
 ghost use Rattle.std.specs.Str.Parse.{AllDigits};
@@ -19,11 +21,12 @@ pub(super) fn append_text(bytes: &mut SmallVec<u8, 8>, len: usize, text: &[u8])
     ensures capacity { bytes.old.capacity ≤ bytes.new.capacity }
     ensures fits { len + length text.now < 2 ^ 64 }
 {
-    if len % 2 == 0 {
+    let odd = len % 2;
+    if odd == 0 {
         append_pairs(bytes, text);
     } else if !text.is_empty() {
         set_nibble(bytes, len, text[0] % 16);
-        append_pairs(bytes, &text[1..]);
+        append_pairs(bytes, &text[odd..]);
     }
 }
 
@@ -32,11 +35,12 @@ pub(super) fn write_text(bytes: &[u8], from: usize, buffer: &mut [u8])
     requires { from + length buffer.old ≤ length (nibbles bytes.now) }
     ensures { buffer.new ≡ text_of (take (length buffer.old) (drop from (nibbles bytes.now))) }
 {
-    if from % 2 == 0 {
+    let odd = from % 2;
+    if odd == 0 {
         write_pairs(&bytes[from / 2..], buffer);
     } else if !buffer.is_empty() {
         buffer[0] = b'0' + bytes[from / 2] % 16;
-        write_pairs(&bytes[from / 2 + 1..], &mut buffer[1..]);
+        write_pairs(&bytes[from / 2 + odd..], &mut buffer[odd..]);
     }
 }
 

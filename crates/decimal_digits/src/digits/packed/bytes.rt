@@ -1,9 +1,11 @@
 //! Lists of digits packed into bytes, two to a byte.
+#![tactic(auto, using(crate::proofs::Nibbles::nibble_rules))]
+
 ghost use Rattle.std.specs.Prelude.{◌≡◌, ℕ, ◌+◌, ◌-◌, ◌*◌, ◌^◌, ◌<◌, ◌≤◌, ◌↔◌, [], ◌∷◌, ◌++◌, length, take, drop, replicate, slice_set, All, IsTrue, IsOk, IfOk, IfSome, OnOk};
 ghost use Rattle.std.specs.Int.Digits.{number_from_digits};
 ghost use Rattle.smallvec.specs.SmallVec.{small_vec_len};
 ghost use Rattle.decimal_digits.specs.Nibbles.{digits_in, bcd_number, IsPacked};
-ghost use Rattle.decimal_digits.specs.Packing.{Encodes, IsPackedPrefix};
+ghost use Rattle.decimal_digits.specs.Packing.{Encodes, EncodesPrefix, IsPackedPrefix};
 
 use super::nibbles::{
     append_nibbles, byte_count, drop_bytes, keep_bytes, pack, push_pairs, push_zeros,
@@ -84,8 +86,7 @@ pub(super) fn set_digit(bytes: &mut SmallVec<u8, 8>, len: usize, index: usize, d
     requires packed_prefix { IsPackedPrefix bytes.old.items len }
     requires in_range { index < len }
     requires is_digit { digit < 10 }
-    ensures packed_prefix { IsPackedPrefix bytes.new.items len }
-    ensures digits { digits_in bytes.new.items len ≡ slice_set (digits_in bytes.old.items len) index digit }
+    ensures encodes { EncodesPrefix bytes.new.items len (slice_set (digits_in bytes.old.items len) index digit) }
     ensures capacity { bytes.new.capacity ≡ bytes.old.capacity }
 {
     set_nibble(bytes, index, digit);
@@ -205,8 +206,7 @@ pub(super) fn truncate_spilled(bytes: &mut SmallVec<u8, 8>, count: usize)
 pub(super) fn keep_digits(bytes: &mut SmallVec<u8, 8>, len: usize, count: usize)
     requires packed_prefix { IsPackedPrefix bytes.old.items len }
     requires in_range { count ≤ len }
-    ensures packed_prefix { IsPackedPrefix bytes.new.items count }
-    ensures digits { digits_in bytes.new.items count ≡ take count (digits_in bytes.old.items len) }
+    ensures encodes { EncodesPrefix bytes.new.items count (take count (digits_in bytes.old.items len)) }
     ensures capacity { bytes.new.capacity ≡ bytes.old.capacity }
 {
     truncate_spilled(bytes, byte_count(count));

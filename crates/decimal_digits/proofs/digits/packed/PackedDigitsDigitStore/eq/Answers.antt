@@ -1,10 +1,13 @@
 use Rattle.std.proofs.Common.{sym, ◌∙◌, ap, arith}
 use Rattle.std.proofs.lemmas.Bool.Decides.{Decides-eqb}
 use Rattle.decimal_digits.specs.Nibbles.{bcd_number}
-use Rattle.decimal_digits.specs.Packing.{length_packed, packed_decimal}
+use Rattle.decimal_digits.specs.Packing.{packed_prefix, length_packed}
 use Rattle.decimal_digits.proofs.InlineBcd.{same_number}
 use Rattle.decimal_digits.proofs.Packing.{same_front, same_digits}
 use Rattle.decimal_digits.proofs.digits.packed.PackedDigitsDigitStore.eq.Goals as goal
+
+pub returns-then-self-other : goal.returns-then-self-other
+returns-then-self-other c = grind (arith, packed_prefix)
 
 pub returns-in-Some-Some : goal.returns-in-Some-Some
 returns-in-Some-Some c =
@@ -13,12 +16,11 @@ returns-in-Some-Some c =
     let n = length_packed _ _ left.packed_prefix in
     let m = length_packed _ _ right.packed_prefix in
     let w = c.in-Some-Some.ensures in
-    let v = c.in-Some-Some.ensures' in (
-      λ t. same_number _ _ (packed_decimal _ _ left.packed_prefix) (packed_decimal _ _ right.packed_prefix)
-          (n ∙ c.if-self-other.false ∙ sym m) (omega (arith, w.at_most)) (omega (arith, v.at_most))
-          (sym w.number ∙ (Decides-eqb c.in-Some-Some.left c.in-Some-Some.right).0 t ∙ v.number),
-      λ e. (Decides-eqb c.in-Some-Some.left c.in-Some-Some.right).1
-          (w.number ∙ ap bcd_number e ∙ sym v.number),
+    let v = c.in-Some-Some.ensures' in
+    let tells = Decides-eqb c.in-Some-Some.left c.in-Some-Some.right in (
+      λ t. same_number _ _ left.packed_prefix.decimal right.packed_prefix.decimal (n ∙ c.if-self-other.false ∙ sym m)
+          (omega (arith, w.at_most)) (omega (arith, v.at_most)) (sym w.number ∙ tells.0 t ∙ v.number),
+      λ e. tells.1 (w.number ∙ ap bcd_number e ∙ sym v.number),
     )
 
 pub returns-in_default : goal.returns-in_default

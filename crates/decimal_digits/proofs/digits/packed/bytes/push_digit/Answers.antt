@@ -1,12 +1,11 @@
-use Rattle.std.proofs.Common.{◌≡◌, ◌%◌, arith}
-use Rattle.decimal_digits.proofs.Packing.{encodes_push_even, encodes_push_odd}
+use Rattle.std.proofs.Common.{length, ap, arith}
+use Rattle.decimal_digits.proofs.Nibbles.{nibble_rules}
+use Rattle.decimal_digits.proofs.Packing.{encodes}
 use Rattle.decimal_digits.proofs.digits.packed.bytes.push_digit.Goals as goal
 
 pub returns-then-len-eq0-clause-encodes : goal.returns-then-len-eq0-clause-encodes
-returns-then-len-eq0-clause-encodes c =
-    rw c.push_reserved.ensures.items (encodes_push_even _ _ c.requires.packed _ c.if-len-eq0.true c.requires.is_digit)
+returns-then-len-eq0-clause-encodes c = rw c.push_reserved.ensures.items (encodes _ _ _ (grind (arith, nibble_rules)))
 
 pub returns-else-len-eq0-clause-encodes : goal.returns-else-len-eq0-clause-encodes
 returns-else-len-eq0-clause-encodes c =
-    let odd : c.args.len % 2 ≡ 1 = omega (arith, c.if-len-eq0.false) in
-    encodes_push_odd _ _ c.requires.packed _ _ odd c.requires.is_digit c.set_nibble.ensures.written
+    encodes _ _ _ (grind (arith, nibble_rules, ap length c.set_nibble.ensures.written))

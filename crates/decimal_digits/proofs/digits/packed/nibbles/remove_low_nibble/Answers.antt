@@ -1,5 +1,10 @@
-use Rattle.decimal_digits.proofs.NibblePasses.{low_nibble_removed}
+use Rattle.std.proofs.Common.{length, get_or, ap, arith}
+use Rattle.std.proofs.lemmas.Grind.{same_number_lists}
+use Rattle.decimal_digits.proofs.Nibbles.{nibble_rules}
 use Rattle.decimal_digits.proofs.digits.packed.nibbles.remove_low_nibble.Goals as goal
 
 pub returns : goal.returns
-returns c = low_nibble_removed _ _ _ _ c.requires.in_range c.remove_high_nibble.auto.bytes c.remove_high_nibble.ensures
+returns c =
+    let moved = c.remove_high_nibble.ensures in
+    same_number_lists _ _ (grind (arith, nibble_rules, ap length moved))
+    (λ k l. grind (arith, nibble_rules, ap (λ xs. get_or xs k 0) moved))
