@@ -122,9 +122,7 @@ middle_holds ds number start end below is s within few =
 -- ---- The bits of a number and its digits.
 -- a bit lies in one of four of a digit
 bit_of : (n j i : ℕ) → bit_at n (4 * j + i) ≡ n / 16 ^ j / 2 ^ i % 2
-bit_of n j i =
-    ap (λ p. n / p % 2) (pow-add 2 (4 * j) i ∙ ap (λ p. p * 2 ^ i) (hex_pow j))
-    ∙ ap (λ q. q % 2) (sym (div-div-eq-div-mul n (16 ^ j) (2 ^ i)))
+bit_of n j i = grind (arith, pow-add, hex_pow, div-div-eq-div-mul)
 
 -- four bits that are 0 are the digit 0
 clear_digit : (n j : ℕ) → ((i : ℕ) → i < 4 → bit_at n (4 * j + i) ≡ 0) → n / 16 ^ j % 16 ≡ 0

@@ -1,37 +1,23 @@
 -- The digits of a value in a block of its text.
-use Rattle.decimal_unsigned.proofs.Common.{◌≡◌, ℕ, ◌+◌, ◌-◌, ◌<◌, ◌≤◌, List, ◌∷◌, ◌++◌, length, get_or, take, drop, replicate, sym, ◌∙◌, ap, arith, inl, inr, min, ℤ, pos, negsuc, ◌+ℤ◌, ◌-ℤ◌, ◌≤ℤ◌, ◌<ℤ◌, Option, None, Some, unwrap_or, int_gap, ints, cases_lt, get_or-take, get_or-drop, length-append, length-take-le, length-drop, length-map, offset, digit, number_of, offset_is, gap_is, IsStored, length-replicate}
+use Rattle.decimal_unsigned.proofs.Common.{common_steps, elements, ◌≡◌, ℕ, ◌+◌, ◌-◌, ◌<◌, ◌≤◌, List, ◌∷◌, ◌++◌, length, get_or, take, drop, replicate, sym, ◌∙◌, ap, arith, inl, inr, min, ℤ, pos, negsuc, ◌+ℤ◌, ◌-ℤ◌, ◌≤ℤ◌, ◌<ℤ◌, Option, None, Some, unwrap_or, int_gap, ints, cases_lt, get_or-take, get_or-drop, length-append, length-take-le, length-drop, length-map, offset, digit, number_of, offset_is, gap_is, IsStored, length-replicate}
 use Rattle.std.specs.Prelude.{IfSome, IfNone}
-use Rattle.std.proofs.Math.ListN.{get_or-append}
-use Rattle.std.proofs.lemmas.List.{get_or-append_right, get_or-replicate, get_or-map, take-replicate, drop-replicate}
+use Rattle.std.proofs.lemmas.List.{get_or-replicate, get_or-map, take-replicate, drop-replicate}
 use Rattle.decimal_digits.specs.Digits.{text_of}
 use Rattle.decimal_unsigned.proofs.Values.{digit-number_of-above, digit-number_of-in, digit-number_of-below}
 
 -- ---- an element of a list after a write to the k places from a on
 module _ (a k : ℕ) (xs ys : List ℕ) (fits : a + k ≤ length xs) (full : length ys ≡ k) where
-  front : length (take a xs) ≡ a
-  front = length-take-le a xs (omega arith)
-
   part_length : length (take a xs ++ (ys ++ drop k (drop a xs))) ≡ length xs
-  part_length =
-      length-append (take a xs) (ys ++ drop k (drop a xs))
-      ∙ (omega (arith, front, length-append ys (drop k (drop a xs)), length-drop k (drop a xs), length-drop a xs))
+  part_length = grind (arith, common_steps)
 
   part_before : (i : ℕ) → i < a → get_or (take a xs ++ (ys ++ drop k (drop a xs))) i 0 ≡ get_or xs i 0
-  part_before i h =
-      get_or-append (take a xs) (ys ++ drop k (drop a xs)) 0 i (omega (arith, front)) ∙ get_or-take a xs i 0 h
+  part_before i h = grind (arith, common_steps)
 
   part_within : (i : ℕ) → a ≤ i → i < a + k → get_or (take a xs ++ (ys ++ drop k (drop a xs))) i 0 ≡ get_or ys (i - a) 0
-  part_within i h l =
-      get_or-append_right (take a xs) (ys ++ drop k (drop a xs)) a i 0 front h
-      ∙ get_or-append ys (drop k (drop a xs)) 0 (i - a) (omega arith)
+  part_within i h l = grind (arith, common_steps)
 
   part_after : (i : ℕ) → a + k ≤ i → get_or (take a xs ++ (ys ++ drop k (drop a xs))) i 0 ≡ get_or xs i 0
-  part_after i h =
-      get_or-append_right (take a xs) (ys ++ drop k (drop a xs)) a i 0 front (omega arith)
-      ∙ get_or-append_right ys (drop k (drop a xs)) k (i - a) 0 full (omega arith)
-      ∙ get_or-drop k (drop a xs) (i - a - k) 0
-      ∙ get_or-drop a xs (k + (i - a - k)) 0
-      ∙ ap (λ j. get_or xs j 0) (let e : a + (k + (i - a - k)) ≡ i = omega arith in e)
+  part_after i h = grind (arith, common_steps)
 
 -- ---- places that hold zeros, byte by byte
 -- a block of so many
@@ -41,23 +27,20 @@ block_of n = replicate n 48
 module _ (xs : List ℕ) (zeros : xs ≡ replicate (length xs) 48) where
   -- the first places hold zeros too
   pub zeros_front : (a : ℕ) → a ≤ length xs → take a xs ≡ replicate (length (take a xs)) 48
-  zeros_front a h =
-      ap (take a) zeros ∙ take-replicate a (length xs) 48 h ∙ ap block_of (sym (length-take-le a xs h))
+  zeros_front a h = grind (arith, elements)
 
   -- and so do those behind them
   pub zeros_after : (a : ℕ) → drop a xs ≡ replicate (length (drop a xs)) 48
-  zeros_after a = ap (drop a) zeros ∙ drop-replicate a (length xs) 48 ∙ ap block_of (sym (length-drop a xs))
+  zeros_after a = grind (arith, elements)
 
 -- and all but one
 pub zeros_rest : (xs ys : List ℕ) (x : ℕ) → xs ≡ replicate (length xs) 48 → xs ≡ x ∷ ys
     → ys ≡ replicate (length ys) 48
-zeros_rest xs ys x zeros e = ap (drop 1) (sym e ∙ zeros ∙ ap (λ l. block_of (length l)) e)
+zeros_rest xs ys x zeros e = grind (arith, elements)
 
 -- the first places of a block hold zeros
 pub zeros_first : (n a : ℕ) → a ≤ n → take a (block_of n) ≡ replicate (length (take a (block_of n))) 48
-zeros_first n a h =
-    let l = length-replicate {A = ℕ} n 48 in
-    zeros_front (block_of n) (ap block_of (sym l)) a (omega (arith, l))
+zeros_first n a h = grind (arith, elements)
 
 -- how far a magnitude lies below the first one, or 0
 pub index_gap : (index : Option ℕ) (first magnitude : ℤ) → IfSome index (λ i. magnitude +ℤ pos i ≡ first)

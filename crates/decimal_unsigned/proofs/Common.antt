@@ -28,6 +28,7 @@ pub use Rattle.std.proofs.Common.{Bool, List, [], ap, append-nil, arith, cond, d
 pub use Rattle.std.proofs.Math.Nat.{mod-eq_of_lt, mod-lt, mul-le-mul_right, mul-lt-mul_of_pos_right, mul-mod_left, pow-le-pow_right, pow-suc}
 pub use Rattle.std.proofs.lemmas.Bool.{cases_lt}
 pub use Rattle.std.proofs.lemmas.Bool.Decides.{nat_tests}
+pub use Rattle.std.proofs.lemmas.Grind.{common_steps, elements}
 pub use Rattle.std.proofs.lemmas.Int.{by_lt_z, clamps, ints, to_z-of_z}
 pub use Rattle.std.proofs.lemmas.Int.Digits.{digits_value_is, number_lt}
 pub use Rattle.std.proofs.lemmas.List.{get_or-drop, get_or-take, length-append, length-drop, length-map, length-replicate, length-take, length-take-le, take-append-drop, take_all}

@@ -47,14 +47,7 @@ lengths_decide xs ys i e =
     let k = length-drop i ys in
     same_order (length xs) (length ys) (length (drop i xs)) (length (drop i ys)) (λ h. omega arith) (λ h. omega arith)
     (λ h. omega arith)
-    ∙ none_left (drop i xs) (drop i ys) (one_is_empty l k)
-  where
-    one_is_empty : length (drop i xs) ≡ length xs - i → length (drop i ys) ≡ length ys - i
-        → (length (drop i xs) ≡ 0) ⊎ (length (drop i ys) ≡ 0)
-    one_is_empty l k = elim (cases_lt (length xs) (length ys)) [
-      | inl h ↦ inl (omega arith)
-      | inr h ↦ inr (omega arith)
-    ]
+    ∙ none_left (drop i xs) (drop i ys) (grind (arith, l, k))
 
 -- ---- two lists of digits in the same places, in any base, whose last digit is not 0
 abbrev EndsInDigit : List ℕ → Type 0
@@ -75,12 +68,7 @@ module _ (base : ℕ) (above : 0 < base) where
   power_pos k = omega (arith, one-le-pow k base (omega arith))
 
   worth_lt : (top : ℕ) (ds : List ℕ) → AllBelowBase base ds → length ds ≤ top → worth top ds < base ^ top
-  worth_lt top ds b h =
-      let e : top ≡ length ds + (top - length ds) = omega arith in
-      let p : base ^ top ≡ base ^ length ds * base ^ (top - length ds) =
-      ap (λ k. base ^ k) e ∙ pow-add base (length ds) (top - length ds) in
-      subst (λ x. worth top ds < x) (sym p)
-      (mul-lt-mul_of_pos_right (number_lt base ds b) (power_pos (top - length ds)))
+  worth_lt top ds b h = grind (arith, number_lt, pow-add, mul-lt-mul_of_pos_right, one-le-pow)
 
   number_pos : (d : ℕ) (ds : List ℕ) → EndsInDigit (d ∷ ds) → 0 < number_from_digits base (d ∷ ds)
   number_pos d [] ends = let e : 0 < d = ends (omega arith) in omega (arith, number_first base d [])

@@ -69,11 +69,7 @@ module _ (u v w : Unsigned) (p : IsValue u) (q : IsValue v) (r : IsValue w) wher
       go n false e false f = front_absorbed u v w p q n e ∙ f ∙ sym (back_absorbed u v w q r n f ∙ e)
 
   concatenated_end-assoc : concatenated_end (concatenated_end u v) w ≡ concatenated_end u (concatenated_end v w)
-  concatenated_end-assoc =
-      let n : u.number + v.number + w.number ≡ u.number + (v.number + w.number) = omega arith in
-      let hi : int_max (int_max u.hi v.hi) w.hi ≡ int_max u.hi (int_max v.hi w.hi) = omega (arith, ints, clamps) in
-      let lo : int_min (int_min u.lo v.lo) w.lo ≡ int_min u.lo (int_min v.lo w.lo) = omega (arith, ints, clamps) in
-      λ i. record { number = n i; hi = hi i; lo = lo i }
+  concatenated_end-assoc = grind (arith, ints, clamps)
 
   -- three values are joined alike from the front and from the back
   pub concatenation_is_associative : ConcatenationIsAssociative u v w
@@ -86,12 +82,10 @@ module _ (u v w : Unsigned) (p : IsValue u) (q : IsValue v) (r : IsValue w) wher
     where
       bound : (t : Bool) (f : Unsigned → Option Unsigned) (x : Unsigned)
           → option_and_then f (cond t None (Some x)) ≡ cond t None (f x)
-      bound true f x = refl
-      bound false f x = refl
+      bound t f x = grind arith
 
       both : (s t : Bool) (x : Unsigned) → cond s None (cond t None (Some x)) ≡ cond (s || t) None (Some x)
-      both true t x = refl
-      both false t x = refl
+      both s t x = grind arith
 
 -- ---- the part at and above a position, and the part below it
 module _ (v t : Unsigned) (p : ℤ) (valid : IsValue v) (e : t.number ≡ v.number - v.number % weight p) where

@@ -5,16 +5,13 @@ use Rattle.std.proofs.lemmas.List.{get_or_append_left, get_or-append_right}
 use Rattle.decimal_digits.specs.Digits.{number_of, number_at}
 use Rattle.decimal_digits.proofs.DigitLists.{number-append, number_after}
 use Rattle.decimal_unsigned.specs.Concatenation.{overlaps, concatenated_end, concatenated_size}
-use Rattle.decimal_unsigned.proofs.Values.{lowest, last-number_of, first_of, number_of-none, stored_as, last_covered}
+use Rattle.decimal_unsigned.proofs.Values.{lowest, last-number_of, first_of, number_of-none, stored_as, last_covered, some_of}
 
 -- the same digits in a wider range
 pub wider : {ds : List ℕ} {m hi lo hi' lo' : ℤ} → IsStored ds m hi lo → hi ≤ℤ hi' → lo' ≤ℤ lo → hi' ≤ℤ pos 32767
     → negsuc 32767 ≤ℤ lo'
     → IsStored ds m hi' lo'
-wider t up down high low =
-    stored_as t.digits t.front t.back t.empty
-    (λ h. (omega (arith, ints, t.hi_covers, up), omega (arith, ints, last_covered t h, down)))
-    (omega (arith, ints, t.hi_in, up), high) (low, omega (arith, ints, t.lo_in, down))
+wider t up down high low = grind (arith, ints, offset_is)
 
 -- digits in the range of another value, which has been widened to hold theirs
 pub taken : (v w : Unsigned) {ds es : List ℕ} {m hi lo n hi' lo' : ℤ} → IsStored ds m hi lo → IsStored es n hi' lo'
@@ -96,22 +93,16 @@ module _ {ds es : List ℕ} {m hi lo n hi' lo' : ℤ} (t : IsStored ds m hi lo) 
       let b : offset m + 1 - length ds ≡ (k + length es) + e = omega (arith, places, u.fits) in
       rw (a, number-joined ds es k, b, pow-add 10 (k + length es) e) (omega arith)
 
-some_digits : {ds : List ℕ} {m hi lo : ℤ} → IsStored ds m hi lo → 0 < number_of ds m → 0 < length ds
-some_digits {ds} t p = elim (cases_lt 0 (length ds)) [
-  | inl h ↦ h
-  | inr h ↦ absurd (omega (arith, number_of-none t (omega arith)))
-]
-
 -- two values that lie apart, with so many magnitudes between
 module _ {ds es : List ℕ} {m hi lo n hi' lo' : ℤ} {v w : Unsigned} (t : IsStored ds m hi lo) (u : IsStored es n hi' lo')
     (p : record { number = number_of ds m; hi = hi; lo = lo } ≡ v)
     (q : record { number = number_of es n; hi = hi'; lo = lo' } ≡ w) (k : ℕ) (first_is_nonzero : 0 < v.number)
     (second_is_nonzero : 0 < w.number) (distance : last v.number ≡ first w.number +ℤ pos (k + 1)) where
   some : 0 < length ds
-  some = some_digits t (rw (ap (λ (x : Unsigned). x.number) p) first_is_nonzero)
+  some = some_of t (rw (ap (λ (x : Unsigned). x.number) p) first_is_nonzero)
 
   more : 0 < length es
-  more = some_digits u (rw (ap (λ (x : Unsigned). x.number) q) second_is_nonzero)
+  more = some_of u (rw (ap (λ (x : Unsigned). x.number) q) second_is_nonzero)
 
   last_digit : last v.number ≡ m -ℤ pos (length ds - 1)
   last_digit = sym (ap (λ (x : Unsigned). last x.number) p) ∙ last-number_of t some
@@ -149,38 +140,20 @@ module _ {ds es : List ℕ} {m hi lo n hi' lo' : ℤ} {v w : Unsigned} (t : IsSt
 -- 0 overlaps nothing
 pub overlaps_first_zero : (v w : Unsigned) → v.number ≡ 0 → overlaps v w ≡ false
 unfolding overlaps
-overlaps_first_zero v w z = rw z refl
+overlaps_first_zero v w z = grind (arith, nat_tests)
 
 -- nothing overlaps 0
 pub overlaps_second_zero : (v w : Unsigned) → w.number ≡ 0 → overlaps v w ≡ false
 unfolding overlaps
-overlaps_second_zero v w z =
-    rw z
-    (elim (nat_lt 0 v.number) as (λ b. (b && false && int_le (last v.number) (first 0)) ≡ false)
-    [ true ↦ refl | false ↦ refl ])
-
--- two numbers other than 0 overlap by their digits alone
-pub overlaps_some : (v w : Unsigned) → 0 < v.number → 0 < w.number
-    → overlaps v w ≡ int_le (last v.number) (first w.number)
-unfolding overlaps
-overlaps_some v w p q =
-    let a : nat_lt 0 v.number ≡ true = grind (arith, nat_tests, p) in
-    let b : nat_lt 0 w.number ≡ true = grind (arith, nat_tests, q) in
-    rw (a, b) refl
+overlaps_second_zero v w z = grind (arith, nat_tests)
 
 -- where two numbers do not overlap, the second begins below the end of the first
 pub disjoint : (v w : Unsigned) → 0 < v.number → 0 < w.number → overlaps v w ≡ false → first w.number <ℤ last v.number
-disjoint v w p q f =
-    let e : int_le (last v.number) (first w.number) ≡ false = sym (overlaps_some v w p q) ∙ f in
-    grind (arith, ints, e)
+unfolding overlaps
+disjoint v w p q f = grind (arith, nat_tests, ints)
 
 -- and the other way round
 pub not_overlapping : (v w : Unsigned) → (0 < v.number → 0 < w.number → first w.number <ℤ last v.number)
     → overlaps v w ≡ false
-not_overlapping v w h = elim (cases_lt 0 v.number) [
-  | inl p ↦ elim (cases_lt 0 w.number) [
-    | inl q ↦ let l = h p q in overlaps_some v w p q ∙ (grind (arith, ints, l))
-    | inr q ↦ overlaps_second_zero v w (omega arith)
-  ]
-  | inr p ↦ overlaps_first_zero v w (omega arith)
-]
+unfolding overlaps
+not_overlapping v w h = grind (arith, nat_tests, ints)

@@ -1,31 +1,25 @@
 -- An exponent of any length, and what the code keeps of it.
-use Rattle.decimal_unsigned.proofs.Common.{◌≡◌, ℕ, ◌==◌, true, false, cond, ◌||◌, ◌⊎◌, inl, inr, List, [], ◌∷◌, ◌++◌, refl, sym, ◌∙◌, ap, subst, arith, ℤ, pos, negsuc, ◌<ℤ◌, int_lt, Option, Some, None, Ok, Err, ints, clamps, cases_lt, AllDigits, Unsigned, Literal, parts_of, is_outside, limit, view, option_map}
+use Rattle.decimal_unsigned.proofs.Common.{nat_tests, common_steps, ◌≡◌, ℕ, ◌==◌, true, false, cond, ◌||◌, ◌⊎◌, inl, inr, List, [], ◌∷◌, ◌++◌, refl, sym, ◌∙◌, ap, subst, arith, ℤ, pos, negsuc, ◌<ℤ◌, int_lt, Option, Some, None, Ok, Err, ints, clamps, cases_lt, AllDigits, Unsigned, Literal, parts_of, is_outside, limit, view, option_map}
 use Rattle.decimal_unsigned.specs.Reading.{scaled, value_of, value_or_syntax, read, syntax}
 use Rattle.decimal_unsigned.specs.Parts.{saturated, saturated_parts, IsSaturated}
 use Rattle.std.specs.Prelude.{IfSome}
 use Rattle.decimal_unsigned.specs.declared.decimal.parse.parts.Parts.{Parts}
 use Rattle.decimal_unsigned.specs.Parts.{views}
 use Rattle.decimal_unsigned.proofs.GrammarParts.{parts-sound}
-use Rattle.decimal_unsigned.proofs.Plans.{over, under}
 
 -- what saturating leaves lies within its bounds
 pub saturated_in : (e : ℤ) → IsSaturated (saturated e)
 saturated_in e = record { low = omega (arith, ints, clamps); high = omega (arith, ints, clamps) }
 
-scaled_outside : (v : Unsigned) (e : ℤ) → is_outside e ≡ true
+scaled_outside : (v : Unsigned) (e : ℤ) → (pos 32767 <ℤ e) ⊎ (e <ℤ negsuc 32767)
     → scaled v (Some e) ≡ cond (v.number == 0) (Ok v) (Err limit)
 unfolding scaled
-scaled_outside v e h = rw h refl
+scaled_outside v e h = let t : is_outside e ≡ true = grind (arith, ints) in rw t refl
 
 far : (v : Unsigned) (e : ℤ) → (pos 32767 <ℤ e) ⊎ (e <ℤ negsuc 32767)
     → (pos 32767 <ℤ saturated e) ⊎ (saturated e <ℤ negsuc 32767)
     → scaled v (Some (saturated e)) ≡ scaled v (Some e)
-far v e h k = scaled_outside v (saturated e) (out (saturated e) k) ∙ sym (scaled_outside v e (out e h))
-  where
-    out : (x : ℤ) → (pos 32767 <ℤ x) ⊎ (x <ℤ negsuc 32767) → is_outside x ≡ true
-    out x (inl l) = rw (over x l) refl
-    out x (inr l) =
-        rw (under x l) (elim (int_lt (pos 32767) x) as (λ b. (b || true) ≡ true) [ true ↦ refl | false ↦ refl ])
+far v e h k = scaled_outside v (saturated e) k ∙ sym (scaled_outside v e h)
 
 scaled_saturated : (v : Unsigned) (o : Option ℤ) → scaled v (option_map saturated o) ≡ scaled v o
 scaled_saturated v None = refl
@@ -52,8 +46,7 @@ parts_none (Some w) h = absurd (cc)
 -- the parts that were found are those of the text, saturated
 pub parts_some : (o : Option Literal) (v : Literal) → Some v ≡ option_map saturated_parts o
     → (w : Literal) × (o ≡ Some w) × (saturated_parts w ≡ v)
-parts_some None v h = absurd (cc)
-parts_some (Some w) v h = (w, refl, cc)
+parts_some o v h = grind arith
 
 -- a text without parts is no number
 pub read_none : (text : List ℕ) → None ≡ option_map saturated_parts (parts_of text) → read text ≡ Err syntax
@@ -64,9 +57,7 @@ read_none text h = rw (parts_none (parts_of text) h) refl
 pub read_some : (text : List ℕ) (v : Literal) → Some v ≡ option_map saturated_parts (parts_of text)
     → read text ≡ value_of v
 unfolding read value_or_syntax
-read_some text v h =
-    let w = parts_some (parts_of text) v h in
-    ap value_or_syntax w.1 ∙ sym (value_saturated w.0) ∙ ap value_of w.2
+read_some text v h = grind (arith, ints, clamps, nat_tests, common_steps, parts_some, parts_of, value_saturated)
 
 -- digits behind digits are digits
 pub append_digits : (a b : List ℕ) → AllDigits 10 a → AllDigits 10 b → AllDigits 10 (a ++ b)
@@ -85,13 +76,7 @@ digits_some text v h =
 pub saturated_some : (text : List ℕ) (v : Literal) (e : ℤ) → Some v ≡ option_map saturated_parts (parts_of text)
     → v.exponent ≡ Some e
     → IsSaturated e
-saturated_some text v e h k =
-    let w = parts_some (parts_of text) v h in
-    go w.0.exponent (ap (λ u. u.exponent) w.2 ∙ k)
-  where
-    go : (o : Option ℤ) → option_map saturated o ≡ Some e → IsSaturated e
-    go None s = absurd (cc)
-    go (Some x) s = let q : saturated x ≡ e = cc in subst IsSaturated q (saturated_in x)
+saturated_some text v e h k = grind (arith, ints, clamps, nat_tests, common_steps, parts_some, parts_of, Option, ℤ)
 
 -- ---- the same of what the code found
 -- the digits of what the code found, if it found something

@@ -46,9 +46,7 @@ size_le n m k len is few top = elim (cases_lt 0 n) [
 
 -- a range that does not leave the limits stays in them
 stays : (v : Unsigned) (d : ℤ) → leaves_limits v d ≡ false → StaysInLimits v d
-stays v d e =
-    let p = or_parts (int_lt (pos 32767) (v.hi +ℤ d)) (int_lt (v.lo +ℤ d) (negsuc 32767)) e in
-    (grind (arith, ints, p), grind (arith, ints, p))
+stays v d e = grind (arith, ints)
 
 -- ---- The parts of a text.
 module _ (w : Literal) (digits : AllDigits 10 (w.whole ++ w.fraction)) (few : length w.whole ≤ 32768)

@@ -65,10 +65,7 @@ module _ {n : ℕ} (e : Extent n) where
 
   -- the first digit stands below each power that is more
   pub top_lt : (b : ℕ) → n < 10 ^ b → e.top < b
-  top_lt b h = elim (cases_lt e.top b) [
-    | inl l ↦ l
-    | inr g ↦ let p : 10 ^ b ≤ 10 ^ e.top = pow-le-pow_right (omega arith) g in absurd (omega (arith, p, e.reaches))
-  ]
+  top_lt b h = grind (arith, pow-le-pow_right)
 
   -- the first digit
   pub first_of : first n ≡ magnitude_at e.top
@@ -133,7 +130,7 @@ module _ {m n : ℕ} (a : Extent m) (b : Extent n) (disjoint : b.top < a.bottom)
 -- ---- the part of a number that stands at and above a place, and the part below it
 module _ (n q b : ℕ) (few : n < 10 ^ b) (high : b ≤ 65536) where
   above_is : n - n % 10 ^ q ≡ n / 10 ^ q * 10 ^ q
-  above_is = let e = div-add-mod' n (10 ^ q) in omega (arith, e)
+  above_is = grind (arith, div-add-mod', mod-le)
 
   -- the two parts make the number
   pub parts_sum : (n - n % 10 ^ q) + n % 10 ^ q ≡ n

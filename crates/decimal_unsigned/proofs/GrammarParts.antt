@@ -46,38 +46,27 @@ leading-after text = take-append-drop (prefix_len is_ascii_digit text) text
 -- a numeral has its number
 pub numeral-complete : (ds : List ℕ) → IsNumeral 10 ds → numeral_of ds ≡ Some (digits_value 10 ds)
 unfolding numeral_of
-numeral-complete ds h = let a = tests_digits.from ds h.1 in grind (arith, nat_tests, h.0, a)
+numeral-complete ds h = grind (arith, nat_tests, tests_digits.from)
 
 -- what has a number is a numeral
 pub numeral-sound : (ds : List ℕ) (n : ℕ) → numeral_of ds ≡ Some n → IsNumeral 10 ds × (n ≡ digits_value 10 ds)
 unfolding numeral_of
-numeral-sound ds n h = go (nat_lt 0 (length ds)) refl (all_ascii_digits ds) refl h
-  where
-    go : (b : Bool) → nat_lt 0 (length ds) ≡ b → (d : Bool) → all_ascii_digits ds ≡ d
-        → cond (b && d) (Some (digits_value 10 ds)) None ≡ Some n
-        → IsNumeral 10 ds × (n ≡ digits_value 10 ds)
-    go true p true q e = ((let l : 0 < length ds = grind (arith, nat_tests, p) in l, tests_digits.to ds q), cc)
-    go true p false q e = cc
-    go false p d q e = cc
+numeral-sound ds n h = grind (arith, nat_tests, tests_digits.to)
 
 -- ---- exponents
 option_map-some : {A B : Type 0} (f : A → B) (o : Option A) (y : B) → option_map f o ≡ Some y
     → (x : A) × (o ≡ Some x) × (f x ≡ y)
-option_map-some f None y h = absurd (cc)
-option_map-some f (Some x) y h = (x, refl, cc)
+option_map-some f o y h = grind arith
 
-not_minus : (c : ℕ) → digit_value c < 10 → (c == 45) ≡ false
-not_minus c h = let r = digit_from_value c h in grind (arith, nat_tests, r)
-
-not_plus : (c : ℕ) → digit_value c < 10 → (c == 43) ≡ false
-not_plus c h = let r = digit_from_value c h in grind (arith, nat_tests, r)
+not_sign : (c : ℕ) → digit_value c < 10 → ((c == 45) ≡ false) × ((c == 43) ≡ false)
+not_sign c h = grind (arith, nat_tests, digit_from_value)
 
 -- an exponent of the grammar is found
 pub exponent-complete : (text : List ℕ) (e : ℤ) → IsExponent text e → exponent_of text ≡ Some e
 unfolding exponent_of
 exponent-complete [] e (unsigned n v) = absurd (omega (arith, n.0))
 exponent-complete (c ∷ rest) e (unsigned n v) =
-    rw (not_minus c n.1.0, not_plus c n.1.0, numeral-complete (c ∷ rest) n, v) refl
+    let s = not_sign c n.1.0 in rw (s.0, s.1, numeral-complete (c ∷ rest) n, v) refl
 exponent-complete text e (plus ds t n v) = ap exponent_of t ∙ (rw (numeral-complete ds n, v) refl)
 exponent-complete text e (minus ds t n v) = ap exponent_of t ∙ (rw (numeral-complete ds n, v) refl)
 
@@ -117,17 +106,10 @@ fraction_split : (w a rest : List ℕ) → AllDigits 10 a → prefix_len is_asci
     → after_fraction w (leading_digits (a ++ rest)) (after_digits (a ++ rest)) ≡ after_fraction w a rest
 fraction_split w a rest h z = λ i. after_fraction w (leading_run a rest h z i) (after_run a rest h z i)
 
-letter_stops : (c : ℕ) → (c ≡ 101) ⊎ (c ≡ 69) → is_ascii_digit c ≡ false
-letter_stops c (inl e) = rw e refl
-letter_stops c (inr e) = rw e refl
-
-letter_is : (c : ℕ) → (c ≡ 101) ⊎ (c ≡ 69) → is_letter c ≡ true
-letter_is c (inl e) = rw e refl
-letter_is c (inr e) = rw e refl
-
-not_dot : (c : ℕ) → (c ≡ 101) ⊎ (c ≡ 69) → (c == 46) ≡ false
-not_dot c (inl e) = rw e refl
-not_dot c (inr e) = rw e refl
+-- a letter is no digit and no dot
+letter_is : (c : ℕ) → (c ≡ 101) ⊎ (c ≡ 69)
+    → (is_ascii_digit c ≡ false) × (is_letter c ≡ true) × ((c == 46) ≡ false)
+letter_is c h = grind (arith, nat_tests)
 
 positive : (n : ℕ) → 0 < n → nat_lt 0 n ≡ true
 positive n h = grind (arith, nat_tests, h)
@@ -146,16 +128,16 @@ parts-complete text w g = go g.form
         → parts_of (mantissa ++ letter ∷ exponent) ≡ Some w
     exponents m x c e (undotted p f t) l n s =
         ap (λ y. parts_of (y ++ c ∷ x)) t
-        ∙ parts_split w.whole (c ∷ x) g.whole (rw (letter_stops c l) refl)
-        ∙ (rw (not_dot c l, letter_is c l, positive (length w.whole) p, exponent-complete x e n)
+        ∙ parts_split w.whole (c ∷ x) g.whole (rw (letter_is c l).0 refl)
+        ∙ (rw ((letter_is c l).2, (letter_is c l).1, positive (length w.whole) p, exponent-complete x e n)
         (ap Some (sym (found w w.whole [] (Some e) refl f s))))
     exponents m x c e (dotted t) l n s =
         ap (λ y. parts_of (y ++ c ∷ x)) t
         ∙ ap parts_of (append_assoc w.whole (46 ∷ w.fraction) (c ∷ x))
         ∙ parts_split w.whole (46 ∷ (w.fraction ++ c ∷ x)) g.whole refl
-        ∙ fraction_split w.whole w.fraction (c ∷ x) g.fraction (rw (letter_stops c l) refl)
+        ∙ fraction_split w.whole w.fraction (c ∷ x) g.fraction (rw (letter_is c l).0 refl)
         ∙ (rw (
-          letter_is c l,
+          (letter_is c l).1,
           exponent-complete x e n,
         ) (ap Some (sym (found w w.whole w.fraction (Some e) refl refl s))))
 
@@ -174,11 +156,10 @@ parts-complete text w g = go g.form
 
 -- ---- what is found is in the grammar
 letter_of : (c : ℕ) → is_letter c ≡ true → (c ≡ 101) ⊎ (c ≡ 69)
-letter_of c h = go (c == 101) refl h
-  where
-    go : (b : Bool) → (c == 101) ≡ b → (b || c == 69) ≡ true → (c ≡ 101) ⊎ (c ≡ 69)
-    go true e k = inl (eqb-true c 101 e)
-    go false e k = inr (eqb-true c 69 k)
+letter_of c h = grind (arith, nat_tests)
+
+cond_some : {A : Type 0} (b : Bool) (x : Option A) (y : A) → cond b x None ≡ Some y → (b ≡ true) × (x ≡ Some y)
+cond_some b x y h = grind arith
 
 with_exponent-sound : (mantissa whole fraction text : List ℕ) (c : ℕ) (w : Literal)
     → IsMantissa mantissa whole fraction → AllDigits 10 whole → AllDigits 10 fraction → is_letter c ≡ true
@@ -199,48 +180,28 @@ after_fraction-sound : (a b rest : List ℕ) (w : Literal) → AllDigits 10 a �
     → after_fraction a b rest ≡ Some w
     → Grammar ((a ++ 46 ∷ b) ++ rest) w
 unfolding after_fraction
-after_fraction-sound a b [] w p q h = go (nat_lt 0 (length b)) refl h
-  where
-    go : (t : Bool) → nat_lt 0 (length b) ≡ t
-        → cond t (Some (record { whole = a; fraction = b; exponent = None })) None ≡ Some w
-        → Grammar ((a ++ 46 ∷ b) ++ []) w
-    go true t e =
-        let s : record { whole = a; fraction = b; exponent = None } ≡ w = cc in
-        let l : 0 < length b = grind (arith, nat_tests, t) in
-        subst (Grammar ((a ++ 46 ∷ b) ++ [])) s
-        (record { whole = p; fraction = q; form = decimal l refl (append-nil (a ++ 46 ∷ b)) })
-    go false t e = absurd (cc)
-after_fraction-sound a b (c ∷ rest) w p q h = go (is_letter c) refl h
-  where
-    go : (t : Bool) → is_letter c ≡ t → cond t (with_exponent a b rest) None ≡ Some w
-        → Grammar ((a ++ 46 ∷ b) ++ c ∷ rest) w
-    go true t e = with_exponent-sound (a ++ 46 ∷ b) a b rest c w (dotted refl) p q t e
-    go false t e = absurd (cc)
+after_fraction-sound a b [] w p q h =
+    let k = cond_some (nat_lt 0 (length b)) _ w h in
+    let t = k.0 in
+    let s : record { whole = a; fraction = b; exponent = None } ≡ w = (let e = k.1 in cc) in
+    let l : 0 < length b = grind (arith, nat_tests, t) in
+    subst (Grammar ((a ++ 46 ∷ b) ++ [])) s
+    (record { whole = p; fraction = q; form = decimal l refl (append-nil (a ++ 46 ∷ b)) })
+after_fraction-sound a b (c ∷ rest) w p q h =
+    let k = cond_some (is_letter c) (with_exponent a b rest) w h in
+    with_exponent-sound (a ++ 46 ∷ b) a b rest c w (dotted refl) p q k.0 k.1
 
 after_whole-sound : (a rest : List ℕ) (w : Literal) → AllDigits 10 a → after_whole a rest ≡ Some w
     → Grammar (a ++ rest) w
 unfolding after_whole
-after_whole-sound a [] w p h = go (nat_lt 0 (length a)) refl h
-  where
-    go : (t : Bool) → nat_lt 0 (length a) ≡ t
-        → cond t (Some (record { whole = a; fraction = []; exponent = None })) None ≡ Some w
-        → Grammar (a ++ []) w
-    go true t e =
-        let s : record { whole = a; fraction = []; exponent = None } ≡ w = cc in
-        let l : 0 < length a = grind (arith, nat_tests, t) in
-        subst (Grammar (a ++ [])) s (record { whole = p; fraction = tt; form = integer l refl refl (append-nil a) })
-    go false t e = absurd (cc)
+after_whole-sound a [] w p h =
+    let k = cond_some (nat_lt 0 (length a)) _ w h in
+    let t = k.0 in
+    let s : record { whole = a; fraction = []; exponent = None } ≡ w = (let e = k.1 in cc) in
+    let l : 0 < length a = grind (arith, nat_tests, t) in
+    subst (Grammar (a ++ [])) s (record { whole = p; fraction = tt; form = integer l refl refl (append-nil a) })
 after_whole-sound a (c ∷ rest) w p h = go (c == 46) refl h
   where
-    letters : (t l : Bool) → is_letter c ≡ t → nat_lt 0 (length a) ≡ l
-        → cond (t && l) (with_exponent a [] rest) None ≡ Some w
-        → Grammar (a ++ c ∷ rest) w
-    letters true true t l e =
-        let n : 0 < length a = grind (arith, nat_tests, l) in
-        with_exponent-sound a a [] rest c w (undotted n refl refl) p tt t e
-    letters true false t l e = absurd (cc)
-    letters false l t k e = absurd (cc)
-
     go : (t : Bool) → (c == 46) ≡ t
         → cond t (after_fraction a (leading_digits rest) (after_digits rest))
         (cond (is_letter c && nat_lt 0 (length a)) (with_exponent a [] rest) None)
@@ -252,7 +213,11 @@ after_whole-sound a (c ∷ rest) w p h = go (c == 46) refl h
         ∙ (λ i. a ++ (sym (eqb-true c 46 t) i) ∷ leading-after rest i) in
         subst (λ x. Grammar x w) s
         (after_fraction-sound a (leading_digits rest) (after_digits rest) w p (leading_are_digits rest) e)
-    go false t e = letters (is_letter c) (nat_lt 0 (length a)) refl refl e
+    go false t e =
+        let k = cond_some (is_letter c && nat_lt 0 (length a)) (with_exponent a [] rest) w e in
+        let t = k.0 in
+        let b : (is_letter c ≡ true) × (0 < length a) = grind (arith, nat_tests, t) in
+        with_exponent-sound a a [] rest c w (undotted b.1 refl refl) p tt b.0 k.1
 
 -- the parts that are found are those of the grammar
 pub parts-sound : (text : List ℕ) (w : Literal) → parts_of text ≡ Some w → Grammar text w

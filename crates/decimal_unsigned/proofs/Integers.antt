@@ -1,5 +1,5 @@
 -- Digits whose last stands at magnitude 0, without their zeros at the end.
-use Rattle.decimal_unsigned.proofs.Common.{◌≡◌, ℕ, zero, suc, ◌+◌, ◌-◌, ◌*◌, ◌^◌, ◌<◌, ◌≤◌, List, length, get_or, take, drop, refl, sym, ◌∙◌, ap, subst, arith, inl, inr, Result, Ok, Err, ℤ, pos, ◌≤ℤ◌, mul-le-mul_right, ints, pow-add, cases_lt, number_lt, length-take-le, length-drop, get_or-take, take_all, recursion_from_All, number_from_digits, AllBelowBase, offset, weight, first, size, number_of, offset_is, ten_pos, below_take, IsStored, Unsigned, middle, IsNonzeroRange, All, magnitude_at, first_is}
+use Rattle.decimal_unsigned.proofs.Common.{elements, ◌≡◌, ℕ, zero, suc, ◌+◌, ◌-◌, ◌*◌, ◌^◌, ◌<◌, ◌≤◌, List, length, get_or, take, drop, refl, sym, ◌∙◌, ap, subst, arith, inl, inr, Result, Ok, Err, ℤ, pos, ◌≤ℤ◌, mul-le-mul_right, ints, pow-add, cases_lt, number_lt, length-take-le, length-drop, get_or-take, take_all, recursion_from_All, number_from_digits, AllBelowBase, offset, weight, first, size, number_of, offset_is, ten_pos, below_take, IsStored, Unsigned, middle, IsNonzeroRange, All, magnitude_at, first_is}
 use Rattle.std.specs.Prelude.{IfOk}
 use Rattle.std.proofs.lemmas.Int.Digits.{all_below_base_digits_of, first_digits_of}
 use Rattle.std.proofs.lemmas.List.Elements.{All-from_recursion}
@@ -21,7 +21,7 @@ pub record UpToLast (ds : List ℕ) (end : ℕ) : Type 0 where
 
 module _ {ds : List ℕ} {end : ℕ} (e : UpToLast ds end) where
   some : 0 < length ds → 0 < end
-  some h = elim (cases_lt 0 end) [ inl p ↦ p | inr p ↦ absurd (omega (arith, e.front h, e.zeros 0 p)) ]
+  some h = grind arith
 
   all_digits : AllBelowBase 10 ds
   all_digits = recursion_from_All (λ d. d < 10) ds e.digits
@@ -91,8 +91,7 @@ module _ {ds : List ℕ} {end : ℕ} (e : UpToLast ds end) where
 -- the digits from start to the end of the places
 pub digits_at_end : (places : List ℕ) (start n : ℕ) → drop start places ≡ digits_of 10 n → length places ≡ 39
     → take (39 - start) (drop start places) ≡ digits_of 10 n
-digits_at_end places start n e l =
-    take_all (39 - start) (drop start places) (omega (arith, l, length-drop start places)) ∙ e
+digits_at_end places start n e l = grind (arith, elements)
 
 -- the digits of an integer are below ten
 pub digits_of-below : (n : ℕ) → All (λ d. d < 10) (digits_of 10 n)

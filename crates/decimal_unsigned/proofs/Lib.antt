@@ -31,3 +31,4 @@ pub mod Pieces
 pub mod Comparing
 pub mod WholeNumbers
 pub mod BcdValues
+pub mod Scratch

@@ -1,16 +1,12 @@
 -- The bytes from an index on of the text of a value.
-use Rattle.decimal_unsigned.proofs.Common.{◌≡◌, ℕ, suc, ◌+◌, ◌-◌, ◌<◌, ◌≤◌, List, [], ◌∷◌, ◌++◌, length, get_or, take, drop, refl, sym, ◌∙◌, ap, arith, ℤ, pos, negsuc, ◌+ℤ◌, ◌-ℤ◌, ◌≤ℤ◌, int_gap, ints, length-append, length-drop, take_all, get_or-take, get_or-drop, offset, offset_is, gap_is, Unsigned, IsValue, text}
+use Rattle.decimal_unsigned.proofs.Common.{clamps, nat_tests, common_steps, ◌≡◌, ℕ, suc, ◌+◌, ◌-◌, ◌<◌, ◌≤◌, List, [], ◌∷◌, ◌++◌, length, get_or, take, drop, refl, sym, ◌∙◌, ap, arith, ℤ, pos, negsuc, ◌+ℤ◌, ◌-ℤ◌, ◌≤ℤ◌, int_gap, ints, length-append, length-drop, take_all, get_or-take, get_or-drop, offset, offset_is, gap_is, Unsigned, IsValue, text}
 use Rattle.std.proofs.Math.Seq.{take-append-add, drop-append-add}
 use Rattle.std.proofs.lemmas.List.{take-append-le, drop-append-le}
 use Rattle.decimal_unsigned.proofs.TextBytes.{byte, bytes_down, length-bytes_down, bytes_down-part, fraction_text, text_is}
 
 -- a piece of one byte
 one_byte : (all : List ℕ) (i b : ℕ) → take 1 (drop i all) ≡ b ∷ [] → b ≡ get_or all i 0
-one_byte all i b e =
-    sym (ap (λ l. get_or l 0 0) e)
-    ∙ get_or-take 1 (drop i all) 0 0 (omega arith)
-    ∙ get_or-drop i all 0 0
-    ∙ ap (λ k. get_or all k 0) (let k : i + 0 ≡ i = omega arith in k)
+one_byte all i b e = grind (arith, common_steps)
 
 module _ (v : Unsigned) (valid : IsValue v) (dot : ℕ) (dot_is : dot ≡ int_gap (pos 0) v.hi + 1) where
   abbrev whole : List ℕ
@@ -46,10 +42,19 @@ module _ (v : Unsigned) (valid : IsValue v) (dot : ℕ) (dot_is : dot ≡ int_ga
   pub piece_above : (from n : ℕ) → from + n ≤ dot
       → take n (drop from (text v)) ≡ bytes_down v.number (v.hi -ℤ pos from) n
   piece_above from n h =
-      ap (λ t. take n (drop from t)) split
-      ∙ ap (take n) (drop-append-le from whole rest (omega (arith, whole_length)))
-      ∙ take-append-le n (drop from whole) rest (omega (arith, length-drop from whole, whole_length))
-      ∙ bytes_down-part v.number v.hi dot from n h
+      grind (
+        arith,
+        ints,
+        clamps,
+        nat_tests,
+        common_steps,
+        split,
+        drop-append-le,
+        whole_length,
+        take-append-le,
+        length-drop,
+        bytes_down-part,
+      )
 
   -- a piece of a digits, the dot and k digits
   pub piece_over : (from a k : ℕ) → from + a ≡ dot → from + (a + suc k) ≤ length (text v)

@@ -25,35 +25,16 @@ not_under a h = grind (arith, ints, h)
 
 out_of_reach : (a : Bool) (x y : ℤ) → (pos 32767 <ℤ x) ⊎ (y <ℤ negsuc 32767)
     → (a || (int_lt (pos 32767) x || int_lt y (negsuc 32767))) ≡ true
-out_of_reach a x y (inl h) = or_right a _ (or_left _ _ (over x h))
-out_of_reach a x y (inr h) = or_right a _ (or_right (int_lt (pos 32767) x) _ (under y h))
+out_of_reach a x y h = grind (arith, ints)
 
 -- what is shown of digits that begin at x, of a range up to h
 upper_is : (x h h' : ℤ) → h' ≡ (if int_lt (pos 0) x then x else int_max h (pos 0)) → x ≤ℤ h → h ≤ℤ pos 32767
     → (x ≤ℤ h') × ((pos 0 ≤ℤ h') × (h' ≤ℤ pos 32767))
-upper_is x h h' e a b = go (int_lt (pos 0) x) refl e
-  where
-    go : (t : Bool) → int_lt (pos 0) x ≡ t → h' ≡ cond t x (int_max h (pos 0))
-        → (x ≤ℤ h') × ((pos 0 ≤ℤ h') × (h' ≤ℤ pos 32767))
-    go true t k =
-        let l : pos 0 <ℤ x = grind (arith, ints, t) in
-        (omega (arith, ints, k), (omega (arith, ints, k), omega (arith, ints, k)))
-    go false t k =
-        let l : x ≤ℤ pos 0 = grind (arith, ints, t) in
-        (omega (arith, ints, clamps, k), (omega (arith, ints, clamps, k), omega (arith, ints, clamps, k)))
+upper_is x h h' e a b = grind (arith, ints, clamps)
 
 lower_is : (x h h' : ℤ) → h' ≡ (if int_lt x (pos 0) then x else int_min h (pos 0)) → h ≤ℤ x → negsuc 32767 ≤ℤ h
     → (h' ≤ℤ x) × ((negsuc 32767 ≤ℤ h') × (h' ≤ℤ pos 0))
-lower_is x h h' e a b = go (int_lt x (pos 0)) refl e
-  where
-    go : (t : Bool) → int_lt x (pos 0) ≡ t → h' ≡ cond t x (int_min h (pos 0))
-        → (h' ≤ℤ x) × ((negsuc 32767 ≤ℤ h') × (h' ≤ℤ pos 0))
-    go true t k =
-        let l : x <ℤ pos 0 = grind (arith, ints, t) in
-        (omega (arith, ints, k), (omega (arith, ints, k), omega (arith, ints, k)))
-    go false t k =
-        let l : pos 0 ≤ℤ x = grind (arith, ints, t) in
-        (omega (arith, ints, clamps, k), (omega (arith, ints, clamps, k), omega (arith, ints, clamps, k)))
+lower_is x h h' e a b = grind (arith, ints, clamps)
 
 none_or_zero : (v : Unsigned) (e : Option ℤ) → v.number ≡ 0 → scaled v e ≡ Ok v
 unfolding scaled
@@ -64,14 +45,12 @@ none_or_zero v (Some e) n = rw n refl
 -- more than 32,768 digits in front of the dot
 pub long_whole : (w : Literal) → 32768 < length w.whole → value_of w ≡ Err limit
 unfolding value_of
-long_whole w h = let t : nat_lt 32768 (length w.whole) ≡ true = grind (arith, nat_tests, h) in rw t refl
+long_whole w h = grind (arith, nat_tests)
 
 -- or behind it
 pub long_fraction : (w : Literal) → 32768 < length w.fraction → value_of w ≡ Err limit
 unfolding value_of
-long_fraction w h =
-    let t : nat_lt 32768 (length w.fraction) ≡ true = grind (arith, nat_tests, h) in
-    rw (or_right (nat_lt 32768 (length w.whole)) _ t) refl
+long_fraction w h = grind (arith, nat_tests)
 
 -- how many digits there are on both sides of the dot
 pub length_digits : (w : Literal) → length (digits_of w) ≡ length w.whole + length w.fraction
@@ -86,10 +65,7 @@ module _ (w : Literal) (digits : AllDigits 10 (w.whole ++ w.fraction)) (few : le
   -- the value is that of the digits, times the power of ten
   pub value_scaled : value_of w ≡ scaled (mantissa w.whole w.fraction) w.exponent
   unfolding value_of
-  value_scaled =
-      let a : nat_lt 32768 (length w.whole) ≡ false = grind (arith, nat_tests, few) in
-      let b : nat_lt 32768 (length w.fraction) ≡ false = grind (arith, nat_tests, short) in
-      rw (a, b) refl
+  value_scaled = grind (arith, nat_tests)
 
   -- ---- zero
   -- digits that are all 0 make 0, in the range that is written

@@ -2,20 +2,14 @@
 use Rattle.decimal_unsigned.proofs.Common.{◌≡◌, ℕ, ◌+◌, ◌-◌, ◌%◌, ◌^◌, ◌<◌, true, false, List, length, sym, ◌∙◌, subst, arith, inl, inr, ℤ, pos, negsuc, ◌-ℤ◌, ◌≤ℤ◌, ◌<ℤ◌, int_lt, int_max, int_min, mul-mod_left, ints, clamps, cases_lt, number_from_digits, offset, first, last, offset_is, no_more_zeros, IsStored, Unsigned, IsValue, IsLast, number_back}
 use Rattle.decimal_digits.specs.Number.{IsFirst}
 use Rattle.decimal_digits.specs.Digits.{number_of, number_at}
-use Rattle.decimal_unsigned.proofs.Values.{number_of-ge, number_of-lt, number_of-none, none_of, lowest, last-number_of, last_of_none, last_in, first_of}
+use Rattle.decimal_unsigned.proofs.Values.{number_of-ge, number_of-lt, number_of-none, none_of, lowest, last-number_of, last_of_none, last_in, first_of, some_of}
 use Rattle.decimal_unsigned.proofs.Shown.{value_of_view}
 
 module _ {ds : List ℕ} {m hi lo : ℤ} (t : IsStored ds m hi lo) where
-  some : 0 < number_of ds m → 0 < length ds
-  some p = elim (cases_lt 0 (length ds)) [
-    | inl h ↦ h
-    | inr h ↦ let z : length ds ≡ 0 = omega arith in absurd (omega (arith, number_of-none t z))
-  ]
-
   -- the magnitude that is held is the first
   pub is_first : IsFirst (number_of ds m) m
   is_first = record {
-    reaches = λ p. number_of-ge t (some p);
+    reaches = λ p. number_of-ge t (some_of t p);
     less = λ p. number_of-lt t;
     none = λ z. t.empty (none_of t z);
   }
@@ -25,10 +19,10 @@ module _ {ds : List ℕ} {m hi lo : ℤ} (t : IsStored ds m hi lo) where
   unfolding number_of number_at
   is_last = record {
     divides = λ p.
-        subst (λ k. number_of ds m % 10 ^ k ≡ 0) (sym (ends_at (some p)))
+        subst (λ k. number_of ds m % 10 ^ k ≡ 0) (sym (ends_at (some_of t p)))
         (mul-mod_left (number_from_digits 10 ds) (10 ^ (offset m + 1 - length ds)));
     highest = λ p k h.
-        let s = some p in
+        let s = some_of t p in
         let b : 0 < number_from_digits 10 ds % 10 = rw (number_back ds t.digits s) (t.back s) in
         no_more_zeros (number_from_digits 10 ds) (offset m + 1 - length ds) k b (omega (arith, ends_at s));
     none = λ z. last_of_none t (none_of t z);

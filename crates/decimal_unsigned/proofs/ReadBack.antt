@@ -12,7 +12,7 @@ use Rattle.decimal_unsigned.proofs.TextBytes.{byte, bytes_down, length-bytes_dow
 -- ---- What bytes of digits are worth.
 -- a digit's byte
 digit_byte : (d : ℕ) → d < 10 → digit_value (48 + d) ≡ d
-digit_byte d h = omega (arith, digit_value_digit (48 + d) (omega arith, omega arith))
+digit_byte d h = grind (arith, digit_value_digit)
 
 low_digit : (number : ℕ) (m : ℤ) → digit number m < 10
 low_digit number m = mod-lt (number / weight m) (omega arith)

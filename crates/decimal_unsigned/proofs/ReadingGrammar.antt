@@ -75,19 +75,13 @@ value_is text v e = let k = grammar_if text (λ s. let never : ⊥ = cc in never
 pub result_syntax : {V : Type 0} (allocates : V → Type 0) (r : Result V ParseError) (q : Result V ReadError)
     → IsParseResult allocates r q
     → (r ≡ Err Syntax) ↔ (q ≡ Err syntax)
-result_syntax allocates (Ok v) q a = (λ e. absurd (cc), λ e. absurd (cc))
-result_syntax allocates (Err Limit) q a = (λ e. absurd (cc), λ e. absurd (cc))
-result_syntax allocates (Err Syntax) q a = (λ e. a, λ e. refl)
-result_syntax allocates (Err Memory) q a = (λ e. absurd (cc), λ e. absurd (rw e at a))
+result_syntax allocates r q a = grind arith
 
 -- and Limit exactly where it comes to that
 pub result_limit : {V : Type 0} (allocates : V → Type 0) (r : Result V ParseError) (q : Result V ReadError)
     → IsParseResult allocates r q
     → (r ≡ Err Limit) ↔ (q ≡ Err limit)
-result_limit allocates (Ok v) q a = (λ e. absurd (cc), λ e. absurd (cc))
-result_limit allocates (Err Limit) q a = (λ e. a, λ e. refl)
-result_limit allocates (Err Syntax) q a = (λ e. absurd (cc), λ e. absurd (cc))
-result_limit allocates (Err Memory) q a = (λ e. absurd (cc), λ e. absurd (rw e at a))
+result_limit allocates r q a = grind arith
 
 result_value : (allocates : Unsigned → Type 0) (text : List ℕ) (r : Result Unsigned ParseError)
     → IsParseResult allocates r (read text)

@@ -82,10 +82,7 @@ module _ (v : Unsigned) (q : ℤ) (least : negsuc 32767 ≤ℤ q) (greatest : q 
 -- where one digit more is held without memory, none is wanted
 no_memory : (held : ℕ) (v : Unsigned) (q : ℤ) (mode : UnsignedRoundingMode) (increment : RoundingIncrement)
     → RoundingNeedsMemory held v q mode increment → HasCapacity held v increment → ⊥
-no_memory held v q mode MultiplesOf25 r more = omega (arith, r.full, more)
-no_memory held v q mode MultiplesOf1 r more = let e = r.by_25 in cc
-no_memory held v q mode MultiplesOf2 r more = let e = r.by_25 in cc
-no_memory held v q mode MultiplesOf5 r more = let e = r.by_25 in cc
+no_memory held v q mode increment r more = grind arith
 
 module _ (held : ℕ) (v : Unsigned) (q : ℤ) (mode : UnsignedRoundingMode) (increment : RoundingIncrement)
     (least : negsuc 32767 ≤ℤ q) (greatest : q ≤ℤ pos 32767) where

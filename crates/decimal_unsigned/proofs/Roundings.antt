@@ -1,5 +1,5 @@
 -- What the fields hold after a rounding.
-use Rattle.decimal_unsigned.proofs.Common.{◌≡◌, ℕ, ◌<◌, ◌≤◌, true, false, List, length, refl, sym, ◌∙◌, ap, arith, Option, Some, None, Result, Ok, Err, ℤ, pos, negsuc, ◌-ℤ◌, ◌≤ℤ◌, int_max, int_min, AllBelowBase, ints, clamps, nat_tests, first, size, number_limit, number_of, unit_at, rounded_number, RoundingIncrement, MultiplesOf1, Trunc, offset_is, Unsigned, IsStored, rounded, IsRounded, RoundError, UnsignedRoundingMode, unit_pos, first_zero, with_number}
+use Rattle.decimal_unsigned.proofs.Common.{common_steps, ◌≡◌, ℕ, ◌<◌, ◌≤◌, true, false, List, length, refl, sym, ◌∙◌, ap, arith, Option, Some, None, Result, Ok, Err, ℤ, pos, negsuc, ◌-ℤ◌, ◌≤ℤ◌, int_max, int_min, AllBelowBase, ints, clamps, nat_tests, first, size, number_limit, number_of, unit_at, rounded_number, RoundingIncrement, MultiplesOf1, Trunc, offset_is, Unsigned, IsStored, rounded, IsRounded, RoundError, UnsignedRoundingMode, unit_pos, first_zero, with_number}
 use Rattle.std.proofs.Common.{nat_le}
 use Rattle.std.specs.Prelude.{IsOk}
 use Rattle.decimal_digits.specs.RoundedDigits.{Represents, NoDigitsBelow}
@@ -10,36 +10,25 @@ use Rattle.decimal_digits.proofs.NumberAt.{number_of-none}
 use Rattle.decimal_unsigned.specs.Rounded.{rounded_to, UpdatesInPlace, RoundsInPlace}
 use Rattle.decimal_unsigned.proofs.Values.{size-number_of, stored_as}
 
--- a number against a limit
-pub within : (n limit : ℕ) → n < limit → nat_le limit n ≡ false
-within n limit h = grind (arith, nat_tests, h)
-
--- and the other way round
-pub beyond : (n limit : ℕ) → limit ≤ n → nat_le limit n ≡ true
-beyond n limit h = grind (arith, nat_tests, h)
-
 -- a rounding that names a multiple below the limit makes a value of it
 pub rounded_to-small : (v : Unsigned) (p : ℤ) (n : ℕ) → n < number_limit → rounded_to v p n ≡ Some (with_number v p n)
-rounded_to-small v p n h = let t = within n number_limit h in rw t refl
+rounded_to-small v p n h = grind (arith, nat_tests)
 
 -- and one that names a greater multiple makes none
 pub rounded_to-large : (v : Unsigned) (p : ℤ) (n : ℕ) → number_limit ≤ n → rounded_to v p n ≡ None
-rounded_to-large v p n h = let t = beyond n number_limit h in rw t refl
+rounded_to-large v p n h = grind (arith, nat_tests)
 
 -- a number below the limit is rounded toward zero to a value
 pub trunc_makes : (v : Unsigned) (p : ℤ) (increment : RoundingIncrement) → v.number < number_limit
     → rounded v p Trunc increment ≡ Some (with_number v p (rounded_number Trunc (unit_at increment p) v.number))
 trunc_makes v p increment h =
-    let u = unit_at increment p in
-    rounded_to-small v p (rounded_number Trunc u v.number)
-    (omega (arith, h, trunc_le u v.number (unit_pos increment p)))
+    let u = unit_pos increment p in grind (arith, nat_tests, trunc_le)
 
 -- an answer that has no reason to refuse is Ok
 pub ok_unless_none : {A E V : Type 0} (makes : Option V → Type 0) (old new : V) (r : Result A E)
     → UpdatesInPlace makes old new r → (makes None → ⊥)
     → IsOk r
-ok_unless_none makes old new (Ok x) a never = refl
-ok_unless_none makes old new (Err e) a never = absurd (never a.0)
+ok_unless_none makes old new r a never = grind arith
 
 -- by 1 only the limit refuses
 pub updates_by_1 : {A B E : Type 0} (held : ℕ) (v : Unsigned) (p : ℤ) (mode : UnsignedRoundingMode) (new : Unsigned)
@@ -74,13 +63,7 @@ module _ {ds : List ℕ} {m : ℤ} {n : ℕ} (s : Represents ds m n) (p hi : ℤ
   -- they make the rounded value
   pub rounded_left : (v : Unsigned) → v.hi ≡ hi
       → rounded_to v p n ≡ Some (record { number = number_of ds m'; hi = hi'; lo = lo' })
-  rounded_left v e =
-      let a : number_of ds m' ≡ n = ap (number_of ds) f ∙ s.number in
-      let b : hi' ≡ int_max (int_max v.hi (p -ℤ pos 1)) (first n) =
-      h
-      ∙ ap (λ x. int_max (int_max x (p -ℤ pos 1)) m) (sym e)
-      ∙ ap (int_max (int_max v.hi (p -ℤ pos 1))) (sym s.magnitude_is) in
-      rounded_to-small v p n s.below_limit ∙ sym (λ i. Some (record { number = a i; hi = b i; lo = o i }))
+  rounded_left v e = grind (arith, ints, clamps, nat_tests, common_steps, rounded_to-small)
 
 -- a value's list and magnitude, as they are read again, give the number and its size
 pub number_of-stored : {ds es : List ℕ} {m k hi lo : ℤ} {v : Unsigned} → IsStored ds m hi lo

@@ -1,5 +1,5 @@
 -- A value times a power of ten.
-use Rattle.decimal_unsigned.proofs.Common.{◌≡◌, ℕ, suc, ◌+◌, ◌-◌, ◌*◌, ◌/◌, ◌^◌, ◌<◌, ◌≤◌, true, false, ◌||◌, List, length, refl, sym, ◌∙◌, ap, arith, inl, inr, ◌⊎◌, Some, None, ℤ, pos, negsuc, ◌+ℤ◌, ◌≤ℤ◌, ◌<ℤ◌, int_lt, int_max, int_min, pow-add, ints, clamps, cases_lt, number_from_digits, offset, Unsigned, IsStored, leaves_limits, multiplied, offset_is}
+use Rattle.decimal_unsigned.proofs.Common.{nat_tests, common_steps, ◌≡◌, ℕ, suc, ◌+◌, ◌-◌, ◌*◌, ◌/◌, ◌^◌, ◌<◌, ◌≤◌, true, false, ◌||◌, List, length, refl, sym, ◌∙◌, ap, arith, inl, inr, ◌⊎◌, Some, None, ℤ, pos, negsuc, ◌+ℤ◌, ◌≤ℤ◌, ◌<ℤ◌, int_lt, int_max, int_min, pow-add, ints, clamps, cases_lt, number_from_digits, offset, Unsigned, IsStored, leaves_limits, multiplied, offset_is}
 use Rattle.std.proofs.Math.Nat.{zero-div}
 use Rattle.decimal_digits.specs.Digits.{number_of, number_at}
 use Rattle.decimal_unsigned.specs.Edits.{multiplied_pow10}
@@ -37,10 +37,7 @@ number_up ds m m' n h e =
 number_down : (ds : List ℕ) (m m' : ℤ) (n : ℕ) → length ds ≤ offset m' + 1 → offset m' + n ≡ offset m
     → number_of ds m' ≡ number_of ds m / 10 ^ n
 unfolding number_of number_at
-number_down ds m m' n h e =
-    let k : offset m' + 1 - length ds ≡ (offset m + 1 - length ds) - n = omega arith in
-    ap (λ x. number_from_digits 10 ds * 10 ^ x) k
-    ∙ sym (shift_up (number_from_digits 10 ds) (offset m + 1 - length ds) n (omega arith))
+number_down ds m m' n h e = grind (arith, ints, clamps, nat_tests, common_steps, shift_up)
 
 -- the moved digits are the number times the power
 pub multiplied_is : {ds : List ℕ} {m hi lo m' hi' lo' : ℤ} (d : ℤ) → IsStored ds m hi lo
@@ -75,10 +72,7 @@ multiplied_is {ds} {m} {hi} {lo} {m'} {hi'} {lo'} (negsuc n) t s =
 -- the range fits
 pub stays_in : (v : Unsigned) (d : ℤ) → (v.hi +ℤ d) ≤ℤ pos 32767 → negsuc 32767 ≤ℤ (v.lo +ℤ d)
     → leaves_limits v d ≡ false
-stays_in v d h l =
-    let a : int_lt (pos 32767) (v.hi +ℤ d) ≡ false = grind (arith, ints, h) in
-    let b : int_lt (v.lo +ℤ d) (negsuc 32767) ≡ false = grind (arith, ints, l) in
-    rw (a, b) refl
+stays_in v d h l = grind (arith, ints)
 
 -- they make the shifted value
 pub multiplied_pow10_is : {ds : List ℕ} {m hi lo m' hi' lo' : ℤ} (d : ℤ) → IsStored ds m hi lo
@@ -93,12 +87,4 @@ multiplied_pow10_is {ds} {m} {hi} {lo} d t s =
 pub multiplied_pow10_over : {ds : List ℕ} {m hi lo : ℤ} (n : ℕ) (d : ℤ) → IsStored ds m hi lo
     → (pos 32767 <ℤ (hi +ℤ d)) ⊎ ((lo +ℤ d) <ℤ negsuc 32767)
     → multiplied_pow10 (record { number = n; hi = hi; lo = lo }) d ≡ None
-multiplied_pow10_over {ds} {m} {hi} {lo} n d t o = rw leaves refl
-  where
-    leaves : leaves_limits (record { number = n; hi = hi; lo = lo }) d ≡ true
-    leaves = elim o [
-      | inl h ↦ let a : int_lt (pos 32767) (hi +ℤ d) ≡ true = grind (arith, ints, h) in rw a refl
-      | inr h ↦
-          let b : int_lt (lo +ℤ d) (negsuc 32767) ≡ true = grind (arith, ints, h) in
-          rw b (elim (int_lt (pos 32767) (hi +ℤ d)) as (λ x. (x || true) ≡ true) [ true ↦ refl | false ↦ refl ])
-    ]
+multiplied_pow10_over n d t o = grind (arith, ints)

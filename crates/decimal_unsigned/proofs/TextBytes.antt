@@ -1,8 +1,7 @@
 -- The text of a value as the bytes of its integer digits, and a dot with those of its fraction digits.
-use Rattle.decimal_unsigned.proofs.Common.{◌≡◌, ℕ, zero, suc, ◌+◌, ◌/◌, ◌<◌, ◌≤◌, List, [], ◌∷◌, ◌++◌, length, get_or, take, drop, subst, refl, sym, ◌∙◌, ap, arith, ℤ, pos, negsuc, ◌-ℤ◌, ◌≤ℤ◌, int_gap, ints, get_or-take, get_or-drop, length-take-le, length-drop, weight, digit, Unsigned, text, mod-lt}
+use Rattle.decimal_unsigned.proofs.Common.{clamps, nat_tests, common_steps, elements, ◌≡◌, ℕ, zero, suc, ◌+◌, ◌/◌, ◌<◌, ◌≤◌, List, [], ◌∷◌, ◌++◌, length, get_or, take, drop, subst, refl, sym, ◌∙◌, ap, arith, ℤ, pos, negsuc, ◌-ℤ◌, ◌≤ℤ◌, int_gap, ints, get_or-take, get_or-drop, length-take-le, length-drop, weight, digit, Unsigned, text, mod-lt}
 use Rattle.std.specs.Prelude.{EachIndex, slice_index}
 use Rattle.std.specs.Str.{IsAscii}
-use Rattle.std.proofs.lemmas.List.{ext_get_or}
 use Rattle.std.proofs.lemmas.Str.{IsAscii-append}
 use Rattle.std.proofs.lemmas.Str.Ascii.{IsAscii-nil, IsAscii-cons}
 use Rattle.decimal_unsigned.specs.Text.{dot_before, text_down}
@@ -35,10 +34,7 @@ bytes_down-at number m (suc n) (suc i) h =
 pub bytes_are : (number : ℕ) (m top : ℤ) (n : ℕ) (xs : List ℕ)
     → EachIndex xs (λ k. slice_index xs k ≡ byte number (m -ℤ pos k)) → m ≡ top → length xs ≡ n
     → xs ≡ bytes_down number top n
-bytes_are number m top n xs h e l =
-    ext_get_or 0 xs (bytes_down number m (length xs)) (sym (length-bytes_down number m (length xs)))
-    (λ i l. h i l ∙ sym (bytes_down-at number m (length xs) i l))
-    ∙ (λ i. bytes_down number (e i) (l i))
+bytes_are number m top n xs h e l = grind (arith, elements, bytes_down-at, length-bytes_down)
 
 -- k of them from an index on
 pub bytes_down-part : (number : ℕ) (m : ℤ) (n i k : ℕ) → i + k ≤ n
@@ -76,11 +72,7 @@ text_below number k (suc n) =
     (ap (λ m. text_down number m n) s ∙ text_below number (suc k) n ∙ ap (λ m. bytes_down number m n) (sym s))
 
 text_dot : (number b : ℕ) → text_down number (negsuc 0) (suc b) ≡ 46 ∷ bytes_down number (negsuc 0) (suc b)
-text_dot number b =
-    let s : negsuc 0 -ℤ pos 1 ≡ negsuc 1 = omega (arith, ints) in
-    text_down-suc number (negsuc 0) b
-    ∙ ap (λ l. 46 ∷ byte number (negsuc 0) ∷ l)
-    (ap (λ m. text_down number m b) s ∙ text_below number 0 b ∙ ap (λ m. bytes_down number m b) (sym s))
+text_dot number b = grind (arith, ints, clamps, nat_tests, common_steps, text_down-suc, text_below)
 
 -- what follows the integer digits of a value shown to this magnitude: nothing, or a dot and the fraction digits
 abbrev pub fraction_text : ℕ → ℤ → List ℕ

@@ -56,9 +56,7 @@ is_same v w e = subst (λ u. same v u ≡ true) e (same_equiv.refl v)
 
 -- other values fail it
 pub not_same : (v w : Unsigned) → ¬ (v ≡ w) → same v w ≡ false
-not_same v w n =
-    elim (same v w) as (λ b. same v w ≡ b → b ≡ false) [ true ↦ λ e. absurd (n (same_is v w e)) | false ↦ λ e. refl ]
-    refl
+not_same v w n = grind (arith, nat_tests, ints)
 
 -- equal texts are those of equal values
 text_same : (v w : Unsigned) → IsValue v → IsValue w → text v ≡ text w → v ≡ w

@@ -58,40 +58,7 @@ greatest_lo v w valid e =
 -- a range that lies in another has no longer text
 shorter : (v w : Unsigned) → pos 0 ≤ℤ v.hi → v.lo ≤ℤ pos 0 → v.hi ≤ℤ w.hi → w.lo ≤ℤ v.lo
     → length (text v) ≤ length (text w)
-shorter v w h l up down = elim (by_dot v l) [
-  | inl whole ↦ elim (by_dot w (omega (arith, ints))) [
-    | inl k ↦
-        omega (
-          arith,
-          ints,
-          length-text_whole v h whole,
-          length-text_whole w (omega (arith, ints)) k,
-          gap_is v.lo v.hi,
-          gap_is w.lo w.hi,
-        )
-    | inr k ↦
-        omega (
-          arith,
-          ints,
-          length-text_whole v h whole,
-          length-text_dotted w (omega (arith, ints)) k,
-          gap_is v.lo v.hi,
-          gap_is w.lo w.hi,
-        )
-  ]
-  | inr dotted ↦
-      omega (
-        arith,
-        ints,
-        length-text_dotted v h dotted,
-        length-text_dotted w (omega (arith, ints)) (omega (arith, ints)),
-        gap_is v.lo v.hi,
-        gap_is w.lo w.hi,
-      )
-]
-  where
-    by_dot : (x : Unsigned) → x.lo ≤ℤ pos 0 → (x.lo ≡ pos 0) ⊎ (x.lo <ℤ pos 0)
-    by_dot x l = by_lt_z x.lo (pos 0) (λ k. inr k) (λ k. inl (omega (arith, ints)))
+shorter v w h l up down = grind (arith, ints, length-text_whole, length-text_dotted, gap_is)
 
 -- after both trims no value of the number has a shorter text
 pub shortest : (v : Unsigned) → IsShortest (trimmed v)

@@ -1,5 +1,5 @@
 -- What the digits of a value say of its number.
-use Rattle.decimal_unsigned.proofs.Common.{◌≡◌, ℕ, ◌+◌, ◌-◌, ◌*◌, ◌/◌, ◌%◌, ◌^◌, ◌<◌, ◌≤◌, List, [], length, sym, ◌∙◌, ap, arith, rules, inl, inr, w16, to_z, of_z, ℤ, pos, negsuc, ◌+ℤ◌, ◌-ℤ◌, ◌≤ℤ◌, ◌<ℤ◌, false, mul-le-mul_right, mul-lt-mul_of_pos_right, pow-add, ints, to_z-of_z, int_gap, number_lt, number_from_digits, AllBelowBase, offset, digit, first, last, size, IsStored, ten_pos, offset_is, gap_is, cases_lt, magnitude_at, number_back, first_is, first_zero}
+use Rattle.decimal_unsigned.proofs.Common.{◌≡◌, ℕ, ◌+◌, ◌-◌, ◌*◌, ◌/◌, ◌%◌, ◌^◌, ◌<◌, ◌≤◌, List, [], length, sym, ◌∙◌, ap, arith, rules, inl, inr, w16, to_z, of_z, ℤ, pos, negsuc, ◌+ℤ◌, ◌-ℤ◌, ◌≤ℤ◌, ◌<ℤ◌, false, mul-le-mul_right, mul-lt-mul_of_pos_right, pow-add, ints, nat_tests, to_z-of_z, int_gap, number_lt, number_from_digits, AllBelowBase, offset, digit, first, last, size, IsStored, ten_pos, offset_is, gap_is, cases_lt, magnitude_at, number_back, first_is, first_zero}
 use Rattle.std.proofs.Common.{w32}
 use Rattle.std.specs.Prelude.{slice_index, nat_eq}
 use lib.Signed.{mag}
@@ -106,7 +106,11 @@ module _ {ds : List ℕ} {m hi lo : ℤ} (t : IsStored ds m hi lo) where
 
   -- the number 0 has no digits
   pub none_of : number_of ds m ≡ 0 → length ds ≡ 0
-  none_of e = elim (cases_lt 0 (length ds)) [ inl h ↦ omega (arith, number_of-pos h) | inr h ↦ omega arith ]
+  none_of e = grind (arith, number_of-pos)
+
+  -- and another number has some
+  pub some_of : 0 < number_of ds m → 0 < length ds
+  some_of p = grind (arith, number_of-none)
 
 -- no digits are worth 0
 pub number_of_empty : (m : ℤ) → number_of [] m ≡ 0
@@ -146,29 +150,7 @@ pub stored_as : {ds : List ℕ} {m hi lo : ℤ} → AllBelowBase 10 ds → (0 < 
     → (0 < length ds → (m ≤ℤ hi) × (lo ≤ℤ (m -ℤ pos (length ds - 1)))) → (pos 0 ≤ℤ hi) × (hi ≤ℤ pos 32767)
     → (negsuc 32767 ≤ℤ lo) × (lo ≤ℤ pos 0)
     → IsStored ds m hi lo
-stored_as {ds} {m} {hi} {lo} digits front back empty shown up down = record {
-  digits = digits;
-  front = front;
-  back = back;
-  empty = empty;
-  hi_covers = covers.0;
-  lo_covers = covers.1;
-  fits = covers.2;
-  hi_in = up.0;
-  lo_in = down.1;
-  in_range = (down.0, up.1);
-}
-  where
-    covers : (m ≤ℤ hi) × (lo ≤ℤ m) × (offset lo + length ds ≤ offset m + 1)
-    covers = elim (cases_lt 0 (length ds)) [
-      | inl h ↦
-          let s = shown h in
-          (s.0, omega (arith, ints, s.1), omega (arith, ints, s.1, h, down.0, offset_is lo, offset_is m))
-      | inr h ↦
-          let e = empty (omega arith) in
-          let places = offset_is m in
-          (omega (arith, ints, e, up.0), omega (arith, ints, e, down.1), omega (arith, ints, e, h, down, offset_is lo))
-    ]
+stored_as digits front back empty shown up down = grind (arith, ints, offset_is)
 
 module _ {ds : List ℕ} {m hi lo : ℤ} (t : IsStored ds m hi lo) where
   -- the range shows the last digit
@@ -177,31 +159,18 @@ module _ {ds : List ℕ} {m hi lo : ℤ} (t : IsStored ds m hi lo) where
 
   -- an upper end that keeps the first digit
   pub upper_stored : (up : ℤ) → first (number_of ds m) ≤ℤ up → pos 0 ≤ℤ up → up ≤ℤ pos 32767 → IsStored ds m up lo
-  upper_stored up l z b =
-      stored_as t.digits t.front t.back t.empty (λ h. (omega (arith, ints, first_of t, l), last_covered h)) (z, b)
-      (t.in_range.0, t.lo_in)
+  upper_stored up l z b = grind (arith, ints, first_of t)
 
   -- a lower end that keeps the last digit
   pub lower_stored : (low : ℤ) → low ≤ℤ pos 0 → low ≤ℤ last (number_of ds m) → negsuc 32767 ≤ℤ low
       → IsStored ds m hi low
-  lower_stored low z l b =
-      stored_as t.digits t.front t.back t.empty (λ h. (t.hi_covers, omega (arith, ints, last-number_of t h, l)))
-      (t.hi_in, t.in_range.1) (b, z)
+  lower_stored low z l b = grind (arith, ints, offset_is, last-number_of t)
 
   -- the last digit stands at -32768 or above
   pub last_in : negsuc 32767 ≤ℤ last (number_of ds m)
-  last_in = elim (cases_lt 0 (length ds)) [
-    | inl h ↦ omega (arith, ints, last-number_of t h, last_covered h, t.in_range)
-    | inr h ↦ let e = last_of_none t (omega arith) in omega (arith, ints, e)
-  ]
+  last_in = grind (arith, ints, offset_is, last-number_of t, last_of_none t)
 
 -- the number has as many digits as the list
 pub size-number_of : {ds : List ℕ} {m hi lo : ℤ} (t : IsStored ds m hi lo) → size (number_of ds m) ≡ length ds
-size-number_of {ds} {m} t = elim (cases_lt 0 (length ds)) [
-  | inl h ↦
-      let e : nat_eq (number_of ds m) 0 ≡ false = let p = number_of-pos t h in search rules in
-      let a = last-number_of t h in
-      let b = first_of t in
-      rw e (omega (arith, ints, gap_is (last (number_of ds m)) (first (number_of ds m)), a, b))
-  | inr h ↦ let z : length ds ≡ 0 = omega arith in rw (number_of-none t z) (sym z)
-]
+size-number_of t =
+    grind (arith, ints, nat_tests, gap_is, number_of-pos t, last-number_of t, first_of t, number_of-none t)

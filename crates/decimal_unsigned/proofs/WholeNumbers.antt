@@ -1,5 +1,5 @@
 -- The integer that the digits of a value write.
-use Rattle.decimal_unsigned.proofs.Common.{zero, suc, [], ◌∷◌, ◌++◌, replicate, ◌≡◌, ℕ, ◌+◌, ◌-◌, ◌*◌, ◌/◌, ◌%◌, ◌^◌, ◌<◌, ◌≤◌, ◌==◌, true, false, List, length, get_or, take, refl, sym, ◌∙◌, ap, arith, rules, inl, inr, Ok, Err, nat_lt, ℤ, pos, ◌+ℤ◌, ◌<ℤ◌, mul-mod_left, pow-le-pow_right, cases_lt, ints, length-append, length-take, length-take-le, take_all, recursion_from_All, number_from_digits, AllBelowBase, offset, weight, leading, offset_is, ten_pos, below_take, no_more_zeros, IsStored, Unsigned, IsValue, Result, All, length-replicate, number_back, below_sixteen, leading_none}
+use Rattle.decimal_unsigned.proofs.Common.{zero, suc, [], ◌∷◌, ◌++◌, replicate, ◌≡◌, ℕ, ◌+◌, ◌-◌, ◌*◌, ◌/◌, ◌%◌, ◌^◌, ◌<◌, ◌≤◌, ◌==◌, true, false, List, length, get_or, take, refl, sym, ◌∙◌, ap, arith, rules, inl, inr, Ok, Err, nat_lt, ℤ, pos, ◌+ℤ◌, ◌<ℤ◌, nat_tests, mul-mod_left, pow-le-pow_right, cases_lt, ints, length-append, length-take, length-take-le, take_all, recursion_from_All, number_from_digits, AllBelowBase, offset, weight, leading, offset_is, ten_pos, below_take, no_more_zeros, IsStored, Unsigned, IsValue, Result, All, length-replicate, number_back, below_sixteen, leading_none}
 use Rattle.std.proofs.Common.{w64}
 use Rattle.std.proofs.Math.Nat.{mul-div_cancel}
 use Rattle.std.specs.Int.{to_be_bytes}
@@ -20,11 +20,11 @@ use Rattle.decimal_unsigned.proofs.Shown.{told}
 -- ---- which answer there is
 -- an integer below the bound is the answer
 pub in_range-below : (bound n : ℕ) → n < bound → in_range bound n ≡ Ok n
-in_range-below bound n h = let e : nat_lt n bound ≡ true = search rules in rw e refl
+in_range-below bound n h = grind (arith, nat_tests)
 
 -- a greater one is refused
 pub in_range-above : (bound n : ℕ) → bound ≤ n → in_range bound n ≡ Err OutOfRange
-in_range-above bound n h = let e : nat_lt n bound ≡ false = search rules in rw e refl
+in_range-above bound n h = grind (arith, nat_tests)
 
 -- so many whole ones
 pub as_integer-whole : (bound number n : ℕ) → number ≡ n * weight (pos 0) → as_integer bound number ≡ in_range bound n
@@ -36,7 +36,7 @@ as_integer-whole bound number n e =
 
 -- a part behind the dot
 pub as_integer-part : (bound number : ℕ) → ¬ (number % weight (pos 0) ≡ 0) → as_integer bound number ≡ Err NotWhole
-as_integer-part bound number h = let e : (number % weight (pos 0) == 0) ≡ false = search rules in rw e refl
+as_integer-part bound number h = grind (arith, nat_tests)
 
 -- ---- the digits that are read
 -- one digit more
@@ -58,8 +58,7 @@ leading_39 = leading_next 38
 -- and so is the number of fewer
 few_digits : (i top : ℕ) (ds : List ℕ) → All (λ d. d < 10) ds → i ≤ top → leading i ds < 10 ^ top
 few_digits i top ds h l =
-    let p : 10 ^ i ≤ 10 ^ top = pow-le-pow_right (omega arith) l in
-    omega (arith, leading_lt i ds h, p)
+    let p = leading_lt i ds h in grind (arith, pow-le-pow_right)
 
 -- 18 digits fit 64 bits with one more
 pub leading_u64 : (i : ℕ) (ds : List ℕ) → All (λ d. d < 10) ds → i ≤ 18 → leading i ds < 10 ^ 18
@@ -90,7 +89,7 @@ module _ {ds : List ℕ} {m hi lo : ℤ} (t : IsStored ds m hi lo) where
 
   -- a first digit that is not at magnitude 0 is there
   pub some_digits : ¬ (m ≡ pos 0) → 0 < length ds
-  some_digits h = elim (cases_lt 0 (length ds)) [ inl some ↦ some | inr none ↦ absurd (h (t.empty (omega arith))) ]
+  some_digits h = grind arith
 
 -- ---- which answer a value has
 module _ {ds : List ℕ} {m hi lo : ℤ} {v : Unsigned} (t : IsStored ds m hi lo)
@@ -107,10 +106,7 @@ module _ {ds : List ℕ} {m hi lo : ℤ} {v : Unsigned} (t : IsStored ds m hi lo
   part_result below = of_value (sym (as_integer-part bound (number_of ds m) (part_after t some below)))
     where
       some : 0 < length ds
-      some = elim (cases_lt 0 (length ds)) [
-        | inl h ↦ h
-        | inr h ↦ let z = t.empty (omega arith) in absurd (omega (arith, ints, z, h, below))
-      ]
+      some = grind (arith, ints)
 
   module _ (places : ℕ) (at : pos 0 +ℤ pos places ≡ m +ℤ pos 1) (few : length ds ≤ places) where
     -- the integer that the digits write is the answer, or it is out of range

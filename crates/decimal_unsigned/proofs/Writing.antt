@@ -1,6 +1,5 @@
 -- What has been written of a text.
-use Rattle.decimal_unsigned.proofs.Common.{◌≡◌, ℕ, suc, ◌+◌, ◌<◌, ◌≤◌, List, [], ◌∷◌, ◌++◌, length, get_or, take, drop, Option, refl, sym, ◌∙◌, ap, subst, arith, take_all, ℤ, pos, ◌-ℤ◌, length-take-le, length-drop, digit, take-append-drop, Appends}
-use Rattle.std.proofs.Math.Seq.{take-add}
+use Rattle.decimal_unsigned.proofs.Common.{elements, ◌≡◌, ℕ, suc, ◌+◌, ◌<◌, ◌≤◌, List, [], ◌∷◌, ◌++◌, length, get_or, take, drop, Option, refl, sym, ◌∙◌, ap, subst, arith, take_all, ℤ, pos, ◌-ℤ◌, length-take-le, length-drop, digit, take-append-drop, Appends}
 use Rattle.std.proofs.lemmas.List.{drop_more}
 use Rattle.decimal_digits.specs.AppendsPrefix.{AppendsPrefix}
 use Rattle.decimal_digits.proofs.Sinks.{appends_both, prefix_more, then_prefix}
@@ -21,9 +20,7 @@ text_down-zero number m = refl
 -- a piece and what stands in front of it
 pub piece_taken : (all piece : List ℕ) (i k : ℕ) → i + k ≤ length all → piece ≡ take k (drop i all)
     → take i all ++ piece ≡ take (i + length piece) all
-piece_taken all piece i k h e =
-    let n : length piece ≡ k = ap length e ∙ length-take-le k (drop i all) (omega (arith, length-drop i all)) in
-    ap (λ l. take i all ++ l) e ∙ sym (take-add i k all) ∙ ap (λ m. take (i + m) all) (sym n)
+piece_taken all piece i k h e = grind (arith, elements)
 
 -- a byte is a piece
 pub byte_taken : (all : List ℕ) (i byte : ℕ) → i < length all → byte ≡ get_or all i 0 → byte ∷ [] ≡ take 1 (drop i all)
