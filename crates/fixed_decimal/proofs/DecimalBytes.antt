@@ -9,86 +9,67 @@ use Rattle.std.proofs.lemmas.List.{length-append}
 use Rattle.std.proofs.lemmas.List.Folds.{list_any-append}
 use Rattle.std.proofs.Math.Nat.{mod-lt}
 use Rattle.decimal_digits.specs.Number.{digit, weight}
+use Rattle.decimal_digits.proofs.Offsets.{gap_is}
 use Rattle.decimal_unsigned.specs.Unsigned.{IsValue}
 use Rattle.decimal_unsigned.specs.Text.{dot_before, text_down, text}
 use Rattle.decimal_unsigned.specs.Reading.{is_letter}
 use Rattle.decimal_unsigned.proofs.Lengths.{length-text_whole}
 use Rattle.decimal_unsigned.proofs.Writing.{text_down-suc, text_down-zero}
-use Rattle.fixed_decimal.specs.declared.variations.Sign.TheVariants as sign
-use Rattle.fixed_decimal.specs.Letters.{is_small_e, is_capital_e, is_c}
+use Rattle.fixed_decimal.specs.declared.variations.Sign.{Sign}
+use Rattle.fixed_decimal.specs.Letters.{is_c}
 use Rattle.fixed_decimal.specs.Decimal.{Decimal}
 use Rattle.fixed_decimal.specs.DecimalText.{sign_text, decimal_text}
 use Rattle.fixed_decimal.proofs.DecimalTexts.{sign_text_short}
 
--- the test passes no digit, no dot and no sign
-pub record PassesNone (p : ℕ → Bool) : Type 0 where
-  pub digits : (c : ℕ) → 46 ≤ c → c < 58 → p c ≡ false
-  pub minus : p 45 ≡ false
-  pub plus : p 43 ≡ false
+-- the test passes no digit, no decimal point and no sign
+abbrev pub PassesNone : (ℕ → Bool) → Type 0
+PassesNone p = (c : ℕ) → c < 58 → p c ≡ false
 
 dot-lacks : (p : ℕ → Bool) → PassesNone p → (m : ℤ) → list_any p (dot_before m) ≡ false
-dot-lacks p h (pos k) = refl
-dot-lacks p h (negsuc zero) = rw (h.digits 46 (omega arith) (omega arith)) refl
-dot-lacks p h (negsuc (suc k)) = refl
-
-digit-byte : (number : ℕ) (m : ℤ) → 48 + digit number m < 58
-digit-byte number m = let l = mod-lt (number / weight m) (let z : 0 < 10 = omega arith in z) in omega (arith, l)
+dot-lacks p h m = grind (arith, h 46)
 
 text_down-lacks : (p : ℕ → Bool) → PassesNone p → (number : ℕ) (m : ℤ) (n : ℕ)
     → list_any p (text_down number m n) ≡ false
 text_down-lacks p h number m zero = ap (list_any p) (text_down-zero number m)
 text_down-lacks p h number m (suc n) =
-    let d = h.digits (48 + digit number m) (omega arith) (digit-byte number m) in
+    let l = mod-lt (number / weight m) (let z : 0 < 10 = omega arith in z) in
     ap (list_any p) (text_down-suc number m n)
     ∙ list_any-append p (dot_before m ++ (48 + digit number m) ∷ []) (text_down number (m -ℤ pos 1) n)
     ∙ (rw (
       list_any-append p (dot_before m) ((48 + digit number m) ∷ []),
       dot-lacks p h m,
-      d,
+      h (48 + digit number m) (omega (arith, l)),
       text_down-lacks p h number (m -ℤ pos 1) n,
     ) refl)
 
--- the text of a decimal is made of digits, a dot and a sign
+sign-lacks : (p : ℕ → Bool) → PassesNone p → (sign : Sign) → list_any p (sign_text sign) ≡ false
+sign-lacks p h sign = grind (arith, h 45, h 43)
+
+-- the text of a decimal is made of digits, a decimal point and a sign
 pub decimal_text-lacks : (p : ℕ → Bool) → PassesNone p → (v : Decimal) → list_any p (decimal_text v) ≡ false
 decimal_text-lacks p h v =
     let t = text_down-lacks p h v.absolute.number v.absolute.hi (int_gap v.absolute.lo v.absolute.hi + 1) in
-    list_any-append p (sign_text v.sign) (text v.absolute)
-    ∙ (rw t
-    (elim v.sign as (λ s. (list_any p (sign_text s) || false) ≡ false) [
-      | sign.None ↦ refl
-      | sign.Negative ↦ rw h.minus refl
-      | sign.Positive ↦ rw h.plus refl
-    ]))
+    list_any-append p (sign_text v.sign) (text v.absolute) ∙ (rw (sign-lacks p h v.sign, t) refl)
 
--- the test for e passes no digit, no dot and no sign
-pub small_e-none : PassesNone is_small_e
-small_e-none = record { digits = λ c a b. grind (arith, nat_tests); minus = refl; plus = refl }
-
--- nor does the one for E
-pub capital_e-none : PassesNone is_capital_e
-capital_e-none = record { digits = λ c a b. grind (arith, nat_tests); minus = refl; plus = refl }
-
--- nor does the one for either
+-- the test for e and E passes none of them
 pub letter-none : PassesNone is_letter
-letter-none = record { digits = λ c a b. grind (arith, nat_tests); minus = refl; plus = refl }
+letter-none c h = grind (arith, nat_tests)
 
 -- nor does the one for c
 pub c-none : PassesNone is_c
-c-none = record { digits = λ c a b. grind (arith, nat_tests); minus = refl; plus = refl }
+c-none c h = grind (arith, nat_tests)
 
 -- ---- How long it is.
-whole_gap : (lo hi : ℤ) → lo ≡ pos 0 → pos 0 ≤ℤ hi → hi ≤ℤ pos 32767 → int_gap lo hi ≤ 32767
-whole_gap lo (pos b) e r s = rw e (omega (arith, ints))
-whole_gap lo (negsuc b) e r s = absurd (omega (arith, ints))
 
 -- of an integer it is a sign and 32768 digits
 pub length-integer_most : (v : Decimal) → IsValue v.absolute → v.absolute.lo ≡ pos 0 → length (decimal_text v) ≤ 32769
 length-integer_most v h e =
-    let g : int_gap v.absolute.lo v.absolute.hi ≤ 32767 = whole_gap v.absolute.lo v.absolute.hi e h.hi_in.0 h.hi_in.1 in
     omega (
       arith,
+      ints,
+      h.hi_in,
+      gap_is v.absolute.lo v.absolute.hi,
       length-append (sign_text v.sign) (text v.absolute),
       sign_text_short v.sign,
       length-text_whole v.absolute h.hi_in.0 e,
-      g,
     )

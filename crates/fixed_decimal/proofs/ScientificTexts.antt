@@ -1,15 +1,51 @@
--- The text of a scientific value reads as the value.
-use Rattle.std.proofs.Common.{◌≡◌, ℕ, List, refl, sym, ◌∙◌, ap, Ok}
-use Rattle.std.specs.Prelude.{pos}
+-- The text of a scientific value: how it is split, and that it reads as the value.
+use Rattle.std.proofs.Common.{◌≡◌, ◌==◌, ℕ, Bool, true, false, List, [], ◌∷◌, ◌++◌, refl, sym, ◌∙◌, ap, arith}
+use Rattle.std.specs.Prelude.{pos, if◌then◌else◌, Option, Some, None, Ok, Err}
+use Rattle.std.specs.List.{list_any}
+use Rattle.decimal_unsigned.specs.Reading.{syntax, is_letter}
 use Rattle.decimal_unsigned.specs.Unsigned.{IsValue}
 use Rattle.fixed_decimal.specs.DecimalText.{decimal_text, read_decimal, and_then}
-use Rattle.fixed_decimal.specs.Scientific.{Scientific, scientific_text, split_at_e, read_fields, read_scientific}
+use Rattle.fixed_decimal.specs.Scientific.{Scientific, scientific_text, plain_parts, split_at_e, read_fields, read_scientific, IsSplitAtE, ReadsScientific}
+use Rattle.fixed_decimal.specs.Split.{split_once}
 use Rattle.fixed_decimal.proofs.DecimalBytes.{decimal_text-lacks, letter-none}
 use Rattle.fixed_decimal.proofs.IntegerTexts.{integer_reads_back}
-use Rattle.fixed_decimal.proofs.SplitsAtE.{split_is}
+use Rattle.fixed_decimal.proofs.Splitting.{split_at, split_parts}
 use Rattle.fixed_decimal.proofs.Writing.{first_fails, second_fails}
 
--- it is split between its parts
+lacks_e : (text : List ℕ) → list_any is_letter text ≡ false → list_any (λ c. c == 101) text ≡ false
+lacks_e [] h = refl
+lacks_e (c ∷ text) h = grind (arith, lacks_e text)
+
+-- the split finds the parts
+split_is : (text front suffix : List ℕ) → IsSplitAtE text front suffix → split_at_e text ≡ Ok (front, suffix)
+unfolding split_at_e
+split_is text front suffix c =
+    ap (λ t. plain_parts (split_once 101 t)) c.is
+    ∙ ap plain_parts (split_at 101 front suffix (lacks_e front c.plain_significand))
+    ∙ (rw (c.plain_significand, c.plain_exponent) refl)
+
+-- where there are no parts, the split fails
+unsplit_is : (text : List ℕ) → ((front suffix : List ℕ) → ¬ IsSplitAtE text front suffix)
+    → split_at_e text ≡ Err syntax
+unfolding split_at_e
+unsplit_is text n = go (split_once 101 text) refl
+  where
+    go : (o : Option (List ℕ × List ℕ)) → split_once 101 text ≡ o → plain_parts o ≡ Err syntax
+    go None e = refl
+    go (Some parts) e =
+        let is = split_parts 101 text parts e in
+        let never : list_any is_letter parts.0 ≡ false → list_any is_letter parts.1 ≡ false → ⊥ =
+        λ f g. n parts.0 parts.1 (record { is = is; plain_significand = f; plain_exponent = g }) in
+        grind arith
+
+-- reading is reading the parts of the split, or there is none
+pub scientific_reads : (text : List ℕ) → ReadsScientific text (read_scientific text)
+scientific_reads text = record {
+  split = λ a b c. ap (λ r. and_then r read_fields) (split_is text a b c);
+  unsplit = λ n. ap (λ r. and_then r read_fields) (unsplit_is text n);
+}
+
+-- the text of a value is split between its parts
 split_between : (v : Scientific)
     → split_at_e (scientific_text v) ≡ Ok (decimal_text v.significand, decimal_text v.exponent)
 split_between v =

@@ -2,10 +2,11 @@
 use Rattle.std.specs.Prelude.{◌≡◌, ℕ, ◌==◌, nat_lt, if◌then◌else◌, true, false, List, [], ◌∷◌, ◌++◌}
 use Rattle.std.specs.Prelude.{Option, Some, None, Result, Ok, Err}
 use Rattle.std.specs.Fmt.{decimal}
-use Rattle.std.specs.List.{list_any, before_first, after_first}
+use Rattle.std.specs.List.{list_any}
 use Rattle.decimal_unsigned.specs.Reading.{ReadError, syntax, limit, is_letter, numeral_of}
 use Rattle.fixed_decimal.specs.Letters.{is_c}
 use Rattle.fixed_decimal.specs.Decimal.{Decimal}
+use Rattle.fixed_decimal.specs.Split.{split_once}
 use Rattle.fixed_decimal.specs.DecimalText.{decimal_text, read_decimal, IsLong, and_then}
 
 -- the significand, and the exponent, which is at most 255
@@ -25,11 +26,14 @@ exponent_text exponent = if exponent == 0 then [] else 99 ∷ decimal exponent
 abbrev pub compact_text : Compact → List ℕ
 compact_text v = decimal_text v.significand ++ exponent_text v.exponent
 
--- the texts in front of the first c and behind it, or the whole text, where there is no e and no E
+-- the parts, or the whole text as the first
+abbrev pub parts_or_whole : List ℕ → Option (List ℕ × List ℕ) → List ℕ × Option (List ℕ)
+parts_or_whole bytes None = (bytes, None)
+parts_or_whole bytes (Some parts) = (parts.0, Some parts.1)
+
+-- the texts before the first c, which is 99, and after it, or the whole text, where there is no e and no E
 unfoldable pub split_at_c : List ℕ → Result (List ℕ × Option (List ℕ)) ReadError
-split_at_c bytes =
-    if list_any is_letter bytes then Err syntax
-    else Ok (before_first is_c bytes, (if list_any is_c bytes then Some (after_first is_c bytes) else None))
+split_at_c bytes = if list_any is_letter bytes then Err syntax else Ok (parts_or_whole bytes (split_once 99 bytes))
 
 -- at most 255
 abbrev pub byte_or_limit : Option ℕ → Result ℕ ReadError

@@ -1,13 +1,5 @@
--- The letters that stand before exponents.
+-- The letter before the exponent of a compact value.
 use Rattle.std.specs.Prelude.{ℕ, ◌==◌, Bool}
-
--- e
-abbrev pub is_small_e : ℕ → Bool
-is_small_e c = c == 101
-
--- E
-abbrev pub is_capital_e : ℕ → Bool
-is_capital_e c = c == 69
 
 -- c
 abbrev pub is_c : ℕ → Bool

@@ -1,12 +1,11 @@
 -- A decimal times 10 to the power of an integer, both as they were written.
-use Rattle.std.specs.Prelude.{◌≡◌, ℕ, ◌==◌, ◌⊎◌, ◌||◌, not, count_by, if◌then◌else◌, false, List, ◌∷◌, ◌++◌}
-use Rattle.std.specs.Prelude.{Result, Ok, Err}
-use Rattle.std.specs.List.{list_any, before_first, after_first}
+use Rattle.std.specs.Prelude.{◌≡◌, ℕ, ◌⊎◌, if◌then◌else◌, false, List, ◌∷◌, ◌++◌, Option, Some, None, Result, Ok, Err}
+use Rattle.std.specs.List.{list_any}
 use Rattle.decimal_unsigned.specs.Reading.{ReadError, syntax, is_letter}
-use Rattle.fixed_decimal.specs.Letters.{is_small_e, is_capital_e}
 use Rattle.fixed_decimal.specs.Decimal.{Decimal}
 use Rattle.fixed_decimal.specs.DecimalText.{decimal_text, read_decimal, IsLong, and_then}
 use Rattle.fixed_decimal.specs.Integer.{read_integer}
+use Rattle.fixed_decimal.specs.Split.{split_once}
 
 -- the significand, and the exponent, which is an integer
 pub record Scientific : Type 0 where
@@ -21,11 +20,15 @@ scientific significand exponent = record { significand = significand; exponent =
 abbrev pub scientific_text : Scientific → List ℕ
 scientific_text v = decimal_text v.significand ++ 101 ∷ decimal_text v.exponent
 
--- the texts in front of the e and behind it, where there is exactly one and no E
+-- the parts, where neither has an e or E
+abbrev pub plain_parts : Option (List ℕ × List ℕ) → Result (List ℕ × List ℕ) ReadError
+plain_parts None = Err syntax
+plain_parts (Some parts) =
+    if list_any is_letter parts.0 then Err syntax else if list_any is_letter parts.1 then Err syntax else Ok parts
+
+-- the texts before the e, which is 101, and after it, where there is one e and no E
 unfoldable pub split_at_e : List ℕ → Result (List ℕ × List ℕ) ReadError
-split_at_e bytes =
-    if list_any is_capital_e bytes || not (count_by is_small_e bytes == 1) then Err syntax
-    else Ok (before_first is_small_e bytes, after_first is_small_e bytes)
+split_at_e bytes = plain_parts (split_once 101 bytes)
 
 -- first the fault of the significand, and then that of the exponent
 abbrev pub read_fields : List ℕ × List ℕ → Result Scientific ReadError

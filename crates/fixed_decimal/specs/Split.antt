@@ -1,10 +1,8 @@
--- Private: only the contracts of private functions speak of these.
 -- Texts split at a letter.
-use Rattle.std.specs.Prelude.{◌≡◌, ℕ, Bool, true, false, List, ◌∷◌, ◌++◌}
-use Rattle.std.specs.List.{list_any}
+use Rattle.std.specs.Prelude.{ℕ, ◌==◌, if◌then◌else◌, List, [], ◌∷◌, Option, Some, None, option_map}
 
--- the text is these parts with a letter between them that passes the test, and none in front passes it
-pub record IsFirstSplit (test : ℕ → Bool) (text front : List ℕ) (letter : ℕ) (suffix : List ℕ) : Type 0 where
-  pub is : text ≡ front ++ letter ∷ suffix
-  pub passes : test letter ≡ true
-  pub lacks : list_any test front ≡ false
+-- the texts before the first such letter and after it, where there is one
+unfoldable pub split_once : ℕ → List ℕ → Option (List ℕ × List ℕ)
+split_once letter [] = None
+split_once letter (c ∷ rest) =
+    if c == letter then Some ([], rest) else option_map (λ parts. (c ∷ parts.0, parts.1)) (split_once letter rest)

@@ -11,7 +11,7 @@ ghost use Rattle.fixed_decimal.specs.Compact.{compact, exponent_text, compact_te
 ghost use Rattle.fixed_decimal.specs.Compact.{read_compact, ReadsCompact, HasLongSignificand};
 
 use crate::signed_decimal::{Decimal, scan_decimal};
-use crate::split::split_at_letter;
+use crate::split::{has_letter, split_once};
 use decimal_digits::sink::{Sink, SinkFault, Writeable};
 use decimal_unsigned::ParseError;
 use decimal_unsigned::decimal::{INLINE_DIGITS, numeral};
@@ -63,18 +63,15 @@ fn read_exponent(text: Option<&[u8]>) -> Result<u8, ParseError>
 }
 
 /// The texts of the significand and of the exponent, where there is no `e` and no `E`.
-#[tactic(auto, using(crate::proofs::SplitsAtC::splits))]
+#[tactic(auto, unfolding(crate::specs::Compact::split_at_c))]
 fn split_at_c(text: &[u8]) -> Result<(&[u8], Option<&[u8]>), ParseError>
     ensures { MatchResult result (λ parts. split_at_c text.now ≡ Ok (parts.0.now, option_copied parts.1))
         (λ e. ParseFails ⊥ e (split_at_c text.now)) }
 {
-    if text.contains(&b'e') {
+    if has_letter(text) {
         return Err(ParseError::Syntax);
     }
-    if text.contains(&b'E') {
-        return Err(ParseError::Syntax);
-    }
-    match split_at_letter(text, b'c') {
+    match split_once(text, b'c') {
         None => Ok((text, None)),
         Some((significand, exponent)) => Ok((significand, Some(exponent))),
     }
@@ -142,7 +139,7 @@ impl CompactDecimal {
     /// what stands behind it is empty, begins with `0`, or is not all digits, as in `1c01` and `1c1c1`; else `Limit`
     /// where it is above 255; else `Memory` where memory for more than `INLINE_DIGITS` digits of the significand was
     /// refused. Every other fault is decided before memory is asked for. The original's `try_from_str` and `FromStr`.
-    #[tactic(auto, using(crate::proofs::SplitsAtC::compact_reads))]
+    #[tactic(auto, using(crate::proofs::CompactTexts::compact_reads))]
     pub fn try_from_str(alloc: Global, text: &str) -> Result<Self, ParseError>
         ensures parses { IsParseResult (HasLongSignificand INLINE_DIGITS) result (read_compact text.now) }
         // What reading comes to, by the parts of the text.

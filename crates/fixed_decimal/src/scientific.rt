@@ -11,7 +11,7 @@ ghost use Rattle.fixed_decimal.specs.Scientific.{ReadsScientific, HasLongField};
 
 use crate::integer::{FixedInteger, scan_integer};
 use crate::signed_decimal::{Decimal, scan_decimal};
-use crate::split::split_at_letter;
+use crate::split::{has_letter, split_once};
 use decimal_digits::sink::{Sink, SinkFault, Writeable};
 use decimal_unsigned::ParseError;
 use decimal_unsigned::decimal::INLINE_DIGITS;
@@ -38,18 +38,15 @@ impl Model for ScientificDecimal {
 }
 
 /// The texts of the two parts, where there is one `e` and no `E`.
-#[tactic(auto, using(crate::proofs::SplitsAtE::splits))]
+#[tactic(auto, unfolding(crate::specs::Scientific::split_at_e))]
 fn split_at_e(text: &[u8]) -> Result<(&[u8], &[u8]), ParseError>
     ensures { MatchResult result (λ parts. split_at_e text.now ≡ Ok (parts.0.now, parts.1.now))
         (λ e. ParseFails ⊥ e (split_at_e text.now)) }
 {
-    if text.contains(&b'E') {
-        return Err(ParseError::Syntax);
-    }
-    let Some((significand, exponent)) = split_at_letter(text, b'e') else {
+    let Some((significand, exponent)) = split_once(text, b'e') else {
         return Err(ParseError::Syntax);
     };
-    if exponent.contains(&b'e') {
+    if has_letter(significand) || has_letter(exponent) {
         return Err(ParseError::Syntax);
     }
     Ok((significand, exponent))
@@ -98,7 +95,7 @@ impl ScientificDecimal {
     /// the text in front of the `e`; else the one that `FixedInteger` answers to the text behind it, as `Limit` to
     /// `1.0`; else `Memory` where memory for more than `INLINE_DIGITS` digits of a part was refused, and nothing is
     /// left of the other part. Every other fault is decided before memory is asked for. The original's `try_from_utf8`.
-    #[tactic(auto, using(crate::proofs::SplitsAtE::scientific_reads))]
+    #[tactic(auto, using(crate::proofs::ScientificTexts::scientific_reads))]
     pub fn try_from_utf8(alloc: Global, text: &[u8]) -> Result<Self, ParseError>
         ensures parses { IsParseResult (HasLongField INLINE_DIGITS) result (read_scientific text.now) }
         // What reading comes to, by the parts of the text.
@@ -113,7 +110,7 @@ impl ScientificDecimal {
     }
 
     /// Reads the value that a text writes: `try_from_utf8` of its bytes. The original's `try_from_str` and `FromStr`.
-    #[tactic(auto, using(crate::proofs::SplitsAtE::scientific_reads))]
+    #[tactic(auto, using(crate::proofs::ScientificTexts::scientific_reads))]
     pub fn try_from_str(alloc: Global, text: &str) -> Result<Self, ParseError>
         ensures parses { IsParseResult (HasLongField INLINE_DIGITS) result (read_scientific text.now) }
         ensures reads { ReadsScientific text.now (read_scientific text.now) }

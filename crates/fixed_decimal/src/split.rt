@@ -1,12 +1,13 @@
 //! Texts split at a letter.
-ghost use Rattle.std.specs.Prelude.{◌≡◌, ◌==◌, false, MatchOption};
+ghost use Rattle.std.specs.Prelude.{◌≡◌, Some, None, MatchOption};
 ghost use Rattle.std.specs.List.{list_any};
-ghost use Rattle.fixed_decimal.specs.Split.{IsFirstSplit};
+ghost use Rattle.decimal_unsigned.specs.Reading.{is_letter};
+ghost use Rattle.fixed_decimal.specs.Split.{split_once};
 
-/// What stands in front of the first such letter, and what stands behind it.
-pub(crate) fn split_at_letter(text: &[u8], letter: u8) -> Option<(&[u8], &[u8])>
-    ensures { MatchOption result (list_any (λ c. c == letter) text.now ≡ false)
-        (λ parts. IsFirstSplit (λ c. c == letter) text.now parts.0.now letter parts.1.now) }
+/// Splits a text at the first such letter.
+pub(crate) fn split_once(text: &[u8], letter: u8) -> Option<(&[u8], &[u8])>
+    ensures { MatchOption result (split_once letter text.now ≡ None)
+        (λ parts. split_once letter text.now ≡ Some (parts.0.now, parts.1.now)) }
 {
     for (at, byte) in text.iter().enumerate() {
         if *byte == letter {
@@ -14,4 +15,11 @@ pub(crate) fn split_at_letter(text: &[u8], letter: u8) -> Option<(&[u8], &[u8])>
         }
     }
     None
+}
+
+/// Whether a text has an `e` or `E`.
+pub(crate) fn has_letter(text: &[u8]) -> bool
+    ensures { result ≡ list_any is_letter text.now }
+{
+    text.iter().any(|byte| *byte == b'e' || *byte == b'E')
 }
