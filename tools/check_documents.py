@@ -104,7 +104,7 @@ def functions(path):
         if re.match(r"(?:pub )?(?:impl|trait)\b", line):
             public_block = line.startswith("pub trait")
         if named := re.match(r"\s*(pub )?(?:pub\(\w+\) )?(?:unsafe )?(?:const )?fn (\w+)", line):
-            found.append((bool(named[1]) or public_block, named[2], set()))
+            found.append((bool(named[1]) or public_block and line.startswith(" "), named[2], set()))
         elif (clause := re.match(r"\s*ensures\*? ?(\w*) ?\{", line)) and found:
             found[-1][2].add(clause[1] or "ensures")
     return found
