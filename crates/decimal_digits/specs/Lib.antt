@@ -1,4 +1,4 @@
--- What a reader has to believe.
+-- Trusted specification.
 pub mod Number
 pub mod Digits
 pub mod AppendsPrefix
@@ -9,6 +9,6 @@ pub mod ErrorText
 pub mod Counted
 pub mod RoundedDigits
 pub mod Nibbles
--- Private: only the contracts of private functions speak of these.
+-- Private: used only in the contracts of private functions.
 pub mod Remainders
 pub mod Packing

@@ -1,9 +1,9 @@
--- The order of the modes of absolute values.
+-- The order of the unsigned rounding modes.
 use Rattle.std.specs.Prelude.{ℕ}
 use Rattle.decimal_digits.specs.declared.rounding.UnsignedRoundingMode.{UnsignedRoundingMode}
 use Rattle.decimal_digits.specs.declared.rounding.UnsignedRoundingMode.TheVariants.{Expand, Trunc, HalfExpand, HalfTrunc, HalfEven}
 
--- how many modes of absolute values come before this one
+-- the 0-based index of a mode in the order of declaration
 abbrev pub unsigned_rank : UnsignedRoundingMode → ℕ
 unsigned_rank Expand = 0
 unsigned_rank Trunc = 1

@@ -1,5 +1,5 @@
--- Private: only the contracts of private functions speak of these.
--- What is left below a place, and what a rounding makes of it.
+-- Private: used only in the contracts of private functions.
+-- Remainders, and how a number is rounded by them.
 use Rattle.std.specs.Prelude.{◌≡◌, ℕ, ◌+◌, ◌-◌, ◌*◌, ◌%◌, ◌^◌, ◌<◌, ◌≤◌, Bool, true, false, List, length, take}
 use Rattle.decimal_digits.specs.declared.rounding.UnsignedRoundingMode.{UnsignedRoundingMode}
 use Rattle.decimal_digits.specs.declared.rounding.UnsignedRoundingMode.TheVariants.{Expand, Trunc, HalfExpand, HalfTrunc, HalfEven}
@@ -12,14 +12,14 @@ use Rattle.decimal_digits.specs.declared.rounding.RoundError.TheVariants.{Limit,
 use Rattle.decimal_digits.specs.declared.rounding.RoundingIncrement.{RoundingIncrement}
 use Rattle.decimal_digits.specs.declared.rounding.RoundingIncrement.TheVariants.{MultiplesOf25}
 
--- r is nothing, less than half, half, or more than half of u
+-- r is 0, less than half, half, or more than half of the unit u
 abbrev pub RemainderIs : Remainder → ℕ → ℕ → Type 0
 RemainderIs Zero r u = r ≡ 0
 RemainderIs BelowHalf r u = (0 < r) × (2 * r < u)
 RemainderIs Half r u = 2 * r ≡ u
 RemainderIs AboveHalf r u = (u < 2 * r) × (r < u)
 
--- whether a mode takes the multiple above, by what is left of the unit and by whether the quotient is odd
+-- whether a mode rounds up, by the remainder and by whether the quotient is odd
 abbrev pub rounds_up_of : UnsignedRoundingMode → Remainder → Bool → Bool
 rounds_up_of mode Zero odd = false
 rounds_up_of Expand left odd = true
@@ -30,27 +30,28 @@ rounds_up_of HalfExpand Half odd = true
 rounds_up_of HalfTrunc Half odd = false
 rounds_up_of HalfEven Half odd = odd
 
--- k of a place, with this tail below it, is rounded to m of that place, whatever the place counts
+-- k units with this remainder below them are rounded to m units, for every unit
 abbrev pub RoundsTo : UnsignedRoundingMode → ℕ → Remainder → ℕ → ℕ → Type 0
 RoundsTo mode step remainder k m =
     (r unit : ℕ) → 0 < unit → RemainderIs remainder r unit → rounded_number mode (step * unit) (k * unit + r) ≡ m * unit
 
--- the number that the first k digits write, where zeros follow the list
+-- the number that the first k digits write, where zeros follow the list: 250 of 2 and 5 for k = 3
 abbrev pub leading : ℕ → List ℕ → ℕ
 leading k digits = number_at k (take k digits)
 
--- n is k of a place, and below it the tail
+-- n is k units and a remainder of this kind
 abbrev pub SplitsAs : ℕ → ℕ → ℕ → Remainder → Type 0
 SplitsAs n unit k remainder = (r : ℕ) × (n ≡ k * unit + r) × RemainderIs remainder r unit
 
--- m has n digits, of which the last is not 0
+-- m has n digits, the last of which is not 0
 pub record HasDigits (n m : ℕ) : Type 0 where
   pub most : m < 10 ^ n
   pub least : 10 ^ (n - 1) ≤ m
   pub ends : 0 < m % 10
 
--- why the number of the first `keep` digits is not rounded: it would have more places than there is room for; or memory
--- is wanted, by 25, for the digit behind all that are held, of which there are as many as fit with no memory, or more
+-- the error of rounding the number of the first `keep` digits: the result has more than `max_places` digits; or memory
+-- is needed, which is only by 25, for a last digit that follows the list, which has at least the `fit` digits that fit
+-- without an allocation
 abbrev pub RoundLeadingFails :
     RoundError → UnsignedRoundingMode → RoundingIncrement → ℕ → ℕ → ℕ → List ℕ → Remainder → Type 0
 RoundLeadingFails Limit mode increment fit max_places keep digits remainder =

@@ -1,9 +1,10 @@
--- What a rounding leaves of a list of digits: the contract of `rounding::round` speaks of these.
+-- The list of digits after a rounding, as in the contract of `rounding::round`.
 use Rattle.std.specs.Prelude.{◌≡◌, ℕ, ◌+◌, ◌<◌, ◌≤◌, List, length, ℤ, ◌≤ℤ◌}
 use Rattle.decimal_digits.specs.Number.{offset, first, number_limit, lowest_magnitude, highest_magnitude}
 use Rattle.decimal_digits.specs.Digits.{number_of, IsStripped}
 
--- the digits, with no 0 at either end, are those of the number n, and this is the magnitude of the first of them
+-- the digits, with no 0 at either end, write the number n, which is below the limit, and this is the magnitude of the
+-- first of them
 pub record Represents (digits : List ℕ) (magnitude : ℤ) (n : ℕ) : Type 0 where
   pub number : number_of digits magnitude ≡ n
   pub below_limit : n < number_limit
@@ -13,6 +14,6 @@ pub record Represents (digits : List ℕ) (magnitude : ℤ) (n : ℕ) : Type 0 w
   pub least : lowest_magnitude ≤ℤ magnitude
   pub greatest : magnitude ≤ℤ highest_magnitude
 
--- no digit stands below the position
+-- no digit is below the position
 abbrev pub NoDigitsBelow : ℤ → List ℕ → ℤ → Type 0
 NoDigitsBelow position digits magnitude = 0 < length digits → offset position + length digits ≤ offset magnitude + 1

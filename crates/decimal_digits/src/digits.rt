@@ -1,4 +1,4 @@
-//! Lists of digits, most significant first, however they are stored.
+//! Lists of decimal digits, most significant first, in any representation.
 ghost use Rattle.std.specs.Prelude.{◌≡◌, ℕ, ◌+◌, ◌-◌, ◌<◌, ◌≤◌, ◌≢◌, ◌↔◌, List, [], ◌∷◌, ◌++◌, length, take, drop, map, replicate, slice_set, slice_index, All, IsTrue, IsOk, IfOk, IfSome, IfNone, OnOk, OnErr};
 ghost use Rattle.std.specs.Char.{digit_value};
 ghost use Rattle.std.specs.Str.Parse.{AllDigits};
@@ -17,39 +17,47 @@ use packed::nibble_at;
 use std::alloc::{AllocError, Global};
 pub use steps::Steps;
 
-/// A list of digits 0 to 9 and the room that it has for more.
+/// A list of digits 0 to 9, with room for more.
 ///
-/// Contracts see the list, the room, and `L`, the number of digits that are held without memory. After a call that
-/// changes the list nothing more is known of the room than that it is at least `L` less the length, but for `reserve`,
-/// `push_in_room` and `push_text`. Not in the original.
+/// Contracts see the digits, the room, and `L`, the number of digits that fit without an allocation. `reserve`,
+/// `push_in_room` and `push_text` state the room that they leave; after any other call that changes the list, the room
+/// is only known to be at least `L` minus the length.
 pub trait DigitStore: Drop {
     /// The digits.
     ghost digits: { Self → List ℕ };
 
-    /// How many more digits fit with no allocation.
+    /// The number of further digits that fit without an allocation.
     ghost room: { Self → ℕ };
 
-    /// How many digits are held with no allocation.
+    /// The number of digits that fit without an allocation.
     ghost L: { ℕ };
 
     const L: usize;
 
-    /// Makes the empty list, and asks for no memory.
+    /// Makes the empty list, without an allocation.
     fn empty(alloc: Global) -> Self
         ensures { digits result ≡ [] };
 
-    /// Makes the list of these digits.
+    /// Makes a list of digits.
     ///
-    /// Requires digits 0 to 9. Err: memory was refused, which needs more than `L` digits.
+    /// Requires digits 0 to 9.
+    ///
+    /// # Errors
+    ///
+    /// Out of memory; possible only with more than `L` digits.
     fn from_digits(alloc: Global, list: &[u8]) -> Result<Self, AllocError>
         requires { All (λ d. d < 10) list.now }
         ensures ok { IfOk result (λ s. digits s ≡ list.now) }
         ensures succeeds { length list.now ≤ L → IsOk result };
 
-    /// Makes the list of the first digits of a number in base 16 with sixteen places.
+    /// Makes a list of the first `len` nibbles of a packed BCD number of sixteen nibbles.
     ///
-    /// Requires at most sixteen digits, 0 to 9, and behind an odd number of them a 0. Of `0x2500_0000_0000_0000` the
-    /// first two are 2 and 5. Err: memory was refused, which needs more than `L` digits.
+    /// Of `0x2500_0000_0000_0000` the first two are 2 and 5. Requires at most sixteen digits 0 to 9, followed by a
+    /// nibble 0 if `len` is odd.
+    ///
+    /// # Errors
+    ///
+    /// Out of memory; possible only with more than `L` digits.
     fn from_bcd(alloc: Global, number: u64, len: usize) -> Result<Self, AllocError>
         requires { IsPacked (leading_bytes number len) len }
         ensures ok { IfOk result (λ s. digits s ≡ digits_in (leading_bytes number len) len) }
@@ -64,9 +72,9 @@ pub trait DigitStore: Drop {
         Ok(list)
     }
 
-    /// Gives the number in base 16 with sixteen places whose first digits these are, as `from_bcd` takes it.
+    /// Returns the digits as a packed BCD number of sixteen nibbles, as `from_bcd` takes it.
     ///
-    /// Of 2 and 5 it is `0x2500_0000_0000_0000`. None: there are more than sixteen digits.
+    /// Of 2 and 5 it is `0x2500_0000_0000_0000`. None if there are more than sixteen digits.
     fn to_bcd(&self) -> Option<u64>
         ensures number { IfSome result (λ number. number ≡ bcd_number (digits self.now)) }
         ensures at_most { IfSome result (λ number. length (digits self.now) ≤ 16) }
@@ -86,32 +94,34 @@ pub trait DigitStore: Drop {
 
     /// Makes a second list of the same digits.
     ///
-    /// Err: memory was refused, which needs more than `L` digits. This list stays as it is.
+    /// # Errors
+    ///
+    /// Out of memory; possible only with more than `L` digits.
     fn clone(&self) -> Result<Self, AllocError>
         ensures ok { IfOk result (λ s. digits s ≡ digits self.now) }
         ensures succeeds { length (digits self.now) ≤ L → IsOk result };
 
-    /// Counts the digits.
+    /// Returns the number of digits.
     fn len(&self) -> usize
         ensures { result ≡ length (digits self.now) };
 
-    /// Tells whether there is no digit.
+    /// Returns whether there are no digits.
     fn is_empty(&self) -> bool
         ensures { IsTrue result ↔ (digits self.now ≡ []) }
     {
         self.len() == 0
     }
 
-    /// Gives the digit at an index, of which 0 is that of the most significant digit.
+    /// Returns the digit at an index, where index 0 is the most significant digit.
     ///
-    /// Requires an index in range.
+    /// Requires `index < len()`.
     fn get(&self, index: usize) -> u8
         requires { index < length (digits self.now) }
         ensures { result ≡ slice_index (digits self.now) index };
 
-    /// Writes the digits from an index on as text, as many as there are places.
+    /// Writes the digits from index `from` as ASCII, one to each byte of the buffer.
     ///
-    /// Requires so many digits from the index on. Each place gets a byte from `b'0'` to `b'9'`.
+    /// Requires at least `buffer.len()` digits from that index.
     fn copy_text(&self, from: usize, buffer: &mut [u8])
         requires { from + length buffer.old ≤ length (digits self.now) }
         ensures { buffer.new ≡ text_of (take (length buffer.old) (drop from (digits self.now))) }
@@ -122,9 +132,9 @@ pub trait DigitStore: Drop {
         }
     }
 
-    /// Counts the digits at the end of the first `count` that equal a digit.
+    /// Counts the digits equal to `digit` at the end of the first `count` digits.
     ///
-    /// Requires at least so many digits. Of 2, 5, 9 and 9 the first three end in one 9.
+    /// Requires `count <= len()`. Of 2, 5, 9 and 9 the first three end in one 9.
     fn count_trailing(&self, count: usize, digit: u8) -> usize
         requires { count ≤ length (digits self.now) }
         ensures within { result ≤ count }
@@ -139,27 +149,27 @@ pub trait DigitStore: Drop {
         count
     }
 
-    /// Puts a digit in the place of the one at an index.
+    /// Replaces the digit at an index.
     ///
-    /// Requires an index in range and a digit 0 to 9.
+    /// Requires `index < len()` and a digit 0 to 9.
     fn set(&mut self, index: usize, digit: u8)
         requires in_range { index < length (digits self.old) }
         requires is_digit { digit < 10 }
         ensures { digits self.new ≡ slice_set (digits self.old) index digit };
 
-    /// Appends a digit into room that there is.
+    /// Appends a digit, without an allocation.
     ///
-    /// Requires room, as after `reserve`, and a digit 0 to 9. The room becomes smaller by at most one.
+    /// Requires room, as after `reserve`, and a digit 0 to 9. The room shrinks by at most one.
     fn push_in_room(&mut self, digit: u8)
         requires has_room { 0 < room self.old }
         requires is_digit { digit < 10 }
         ensures digits { digits self.new ≡ digits self.old ++ digit ∷ [] }
         ensures room { room self.old ≤ room self.new + 1 };
 
-    /// Appends the digits that a text writes, into room that there is.
+    /// Appends the digits of an ASCII text, without an allocation.
     ///
-    /// Requires room, as after `reserve`, and a text of digits alone. The room becomes smaller by at most the length of
-    /// the text. After `push_text(b"25")` the list ends in 2 and 5.
+    /// Requires room, as after `reserve`, and a text of digits only. The room shrinks by at most the length of the
+    /// text. After `push_text(b"25")` the list ends in 2 and 5.
     fn push_text(&mut self, text: &[u8])
         requires has_room { length text.now ≤ room self.old }
         requires are_digits { AllDigits 10 text.now }
@@ -171,9 +181,11 @@ pub trait DigitStore: Drop {
         }
     }
 
-    /// Makes room for `count` more digits.
+    /// Reserves room for `count` more digits.
     ///
-    /// Err: memory was refused, which needs more than `L` digits in all. The list stays as it is either way.
+    /// # Errors
+    ///
+    /// Out of memory; possible only with more than `L` digits in all.
     fn reserve(&mut self, count: usize) -> Result<(), AllocError>
         ensures ok { OnOk result (count ≤ room self.new) }
         ensures digits { digits self.new ≡ digits self.old }
@@ -181,38 +193,40 @@ pub trait DigitStore: Drop {
 
     /// Keeps the first `count` digits.
     ///
-    /// Requires at least so many.
+    /// Requires `count <= len()`.
     fn truncate(&mut self, count: usize)
         requires { count ≤ length (digits self.old) }
         ensures { digits self.new ≡ take count (digits self.old) };
 
-    /// Drops the first `count` digits.
+    /// Removes the first `count` digits.
     ///
-    /// Requires at least so many.
+    /// Requires `count <= len()`.
     fn cut_front(&mut self, count: usize)
         requires { count ≤ length (digits self.old) }
         ensures { digits self.new ≡ drop count (digits self.old) };
 
-    /// Drops all digits.
+    /// Removes all digits.
     fn clear(&mut self)
         ensures { digits self.new ≡ [] };
 
-    /// Appends so many zeros, and then another list.
+    /// Appends `zeros` zeros, and then another list.
     ///
-    /// Err: memory was refused, which needs more than `L` digits in all. The list then stays as it was.
+    /// # Errors
+    ///
+    /// Out of memory; possible only with more than `L` digits in all. The list is then unchanged.
     fn append(&mut self, zeros: usize, other: &Self) -> Result<(), AllocError>
         ensures ok { OnOk result (digits self.new ≡ (digits self.old ++ replicate zeros 0) ++ digits other.now) }
         ensures err { OnErr result (digits self.new ≡ digits self.old) }
         ensures succeeds { length (digits self.old) + zeros + length (digits other.now) ≤ L → IsOk result };
 
-    /// Tells whether two lists have the same digits.
+    /// Returns whether two lists have the same digits.
     fn eq(&self, other: &Self) -> bool
         ensures { IsTrue result ↔ (digits self.now ≡ digits other.now) };
 
-    /// The five digits of the longest `u16` need no allocation.
+    /// The five digits of the greatest `u16` fit without an allocation.
     ghost fits_u16: { 5 ≤ L };
 
-    /// There is room up to `L` digits.
+    /// There is room for up to `L` digits.
     ghost room_to_L: { (s : Self) → L ≤ length (digits s) + room s };
 
     /// The digits are 0 to 9.

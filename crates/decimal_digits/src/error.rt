@@ -1,4 +1,4 @@
-//! What the errors print.
+//! The messages of the errors.
 ghost use Rattle.std.specs.Prelude.{◌≡◌};
 ghost use Rattle.decimal_digits.specs.ErrorText.{round_error_text};
 
@@ -8,7 +8,7 @@ use std::error::Error;
 use std::fmt;
 
 impl RoundError {
-    /// The sentence that says why.
+    /// Returns the message.
     fn text(&self) -> &'static str
         ensures { result.now ≡ round_error_text self.now }
     {
@@ -27,9 +27,7 @@ impl fmt::Display for RoundError {
 
     ghost styled_output = { λ e _. Some (round_error_text e) };
 
-    /// Writes the sentence that says why: `Out of memory` for `Memory`. It looks at no option of the format.
-    ///
-    /// Err: the formatter refused it. Not in the original.
+    /// Writes the message: `Out of memory` for `Memory`. Format options are ignored.
     fn fmt<W: fmt::Write>(&self, f: &mut fmt::Formatter<W>) -> fmt::Result {
         f.write_str(self.text())
     }
@@ -45,9 +43,7 @@ impl fmt::Display for SinkFault {
 
     ghost styled_output = { λ _ _. Some sink_text };
 
-    /// Writes `The sink refused a byte`, and looks at no option of the format.
-    ///
-    /// Err: the formatter refused it. Not in the original.
+    /// Writes the message `The sink refused a byte`. Format options are ignored.
     fn fmt<W: fmt::Write>(&self, f: &mut fmt::Formatter<W>) -> fmt::Result {
         f.write_str("The sink refused a byte")
     }

@@ -1,4 +1,4 @@
-//! Lists of decimal digits, the arithmetic of magnitudes, rounding, and the sinks that take a number's text.
+//! Lists of decimal digits, arithmetic on magnitudes, rounding, and sinks for the text of a number.
 //!
 //! A magnitude is a power of ten: 0 is that of the ones, -1 that of the tenths.
 #![tactic(auto)]

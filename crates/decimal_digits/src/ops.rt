@@ -1,10 +1,10 @@
-//! Arithmetic on magnitudes, which lie in 16 bits: each function computes in a wider type, so none wraps.
+//! Arithmetic on magnitudes, which are 16-bit integers. Each function computes in a wider type, so none overflows.
 ghost use Rattle.std.specs.Prelude.{◌≡◌, ◌+◌, ◌<◌, ◌≤◌, ◌+ℤ◌, ◌-ℤ◌, ◌<ℤ◌, ◌≤ℤ◌, pos, negsuc, IfSome, IfNone};
 ghost use Rattle.std.specs.Int.{int_max, int_min, int_gap};
 
-/// Adds two magnitudes, or a magnitude and a distance.
+/// Adds two magnitudes, or a magnitude and a difference.
 ///
-/// The sum may lie outside 16 bits: 32767 and 1 give 32768. Not in the original.
+/// The sum may be outside of 16 bits: 32767 and 1 give 32768.
 #[inline]
 pub fn add_magnitudes(a: i16, b: i16) -> i32
     ensures { result ≡ a +ℤ b }
@@ -12,9 +12,9 @@ pub fn add_magnitudes(a: i16, b: i16) -> i32
     a as i32 + b as i32
 }
 
-/// Gives a magnitude that is known to fit as an `i16`.
+/// Converts a magnitude to an `i16`.
 ///
-/// Requires -32768 to 32767: `to_magnitude(-5)` is -5. Not in the original.
+/// Requires -32768 to 32767: `to_magnitude(-5)` is -5.
 #[inline]
 pub fn to_magnitude(magnitude: i32) -> i16
     requires low { negsuc 32767 ≤ℤ magnitude }
@@ -24,9 +24,9 @@ pub fn to_magnitude(magnitude: i32) -> i16
     magnitude as i16
 }
 
-/// Gives the magnitude, or 0 in place of a negative one.
+/// Returns the magnitude, or 0 if it is negative.
 ///
-/// `at_least_zero(-2)` is 0. Requires at most 32767. Not in the original.
+/// `at_least_zero(-2)` is 0. Requires at most 32767.
 #[inline]
 pub fn at_least_zero(magnitude: i32) -> i16
     requires { magnitude ≤ℤ pos 32767 }
@@ -35,9 +35,9 @@ pub fn at_least_zero(magnitude: i32) -> i16
     magnitude.max(0) as i16
 }
 
-/// Gives the magnitude, or 0 in place of a positive one.
+/// Returns the magnitude, or 0 if it is positive.
 ///
-/// `at_most_zero(3)` is 0. Requires at least -32768. Not in the original.
+/// `at_most_zero(3)` is 0. Requires at least -32768.
 #[inline]
 pub fn at_most_zero(magnitude: i32) -> i16
     requires { negsuc 32767 ≤ℤ magnitude }
@@ -48,7 +48,7 @@ pub fn at_most_zero(magnitude: i32) -> i16
 
 /// Counts the magnitudes from `lo` to `hi`, both included.
 ///
-/// `count_between(-2, 0)` is 3, and the greatest count is 65,536. Not in the original.
+/// `count_between(-2, 0)` is 3, and the greatest count is 65,536. Requires `lo <= hi`.
 #[inline]
 pub fn count_between(lo: i16, hi: i16) -> u32
     requires { lo ≤ℤ hi }
@@ -57,9 +57,9 @@ pub fn count_between(lo: i16, hi: i16) -> u32
     (hi as i32 - lo as i32 + 1) as u32
 }
 
-/// Gives the magnitude that lies `by` places below another.
+/// Subtracts a distance from a magnitude.
 ///
-/// `magnitude_below(2, 5)` is -3. Requires that the answer is at least -32768. Not in the original.
+/// `magnitude_below(2, 5)` is -3. Requires a result of at least -32768.
 #[inline]
 pub fn magnitude_below(magnitude: i16, by: u32) -> i16
     requires { negsuc 32767 ≤ℤ (magnitude -ℤ pos by) }
@@ -68,10 +68,9 @@ pub fn magnitude_below(magnitude: i16, by: u32) -> i16
     (magnitude as i64 - by as i64) as i16
 }
 
-/// Counts the magnitudes from a position up to a magnitude, both included.
+/// Counts the magnitudes from `position` up to `magnitude`, both included.
 ///
-/// `places_above(-1, 2)` is 4, and `places_above(3, 2)` is 0. None where the position is still higher. Not in the
-/// original.
+/// `places_above(-1, 2)` is 4, and `places_above(3, 2)` is 0. None if `position` is above `magnitude + 1`.
 #[inline]
 pub fn places_above(position: i16, magnitude: i16) -> Option<usize>
     ensures some { IfSome result (λ places. (position +ℤ pos places) ≡ (magnitude +ℤ pos 1)) }
@@ -85,9 +84,9 @@ pub fn places_above(position: i16, magnitude: i16) -> Option<usize>
     }
 }
 
-/// Counts the magnitudes from a position up to 32767, both included.
+/// Counts the magnitudes from `position` up to 32767, both included.
 ///
-/// `max_places_above(32767)` is 1, and `max_places_above(-32768)` is 65,536. Not in the original.
+/// `max_places_above(32767)` is 1, and `max_places_above(-32768)` is 65,536.
 #[inline]
 pub fn max_places_above(position: i16) -> usize
     ensures { (position +ℤ pos result) ≡ pos 32768 }
@@ -95,9 +94,9 @@ pub fn max_places_above(position: i16) -> usize
     (32768 - position as i32) as usize
 }
 
-/// Gives the highest of so many magnitudes, of which the lowest is at a position.
+/// Returns the highest of `places` consecutive magnitudes, of which `position` is the lowest.
 ///
-/// `highest_of(-1, 4)` is 2. Requires 1 place or more, and that the answer is at most 32767. Not in the original.
+/// `highest_of(-1, 4)` is 2. Requires at least 1 place, and a result of at most 32767.
 #[inline]
 pub fn highest_of(position: i16, places: usize) -> i16
     requires some { 0 < places }
@@ -107,9 +106,9 @@ pub fn highest_of(position: i16, places: usize) -> i16
     (position as i64 + places as i64 - 1) as i16
 }
 
-/// Gives the magnitude of the digit at an index, where the first digit stands at a magnitude.
+/// Returns the magnitude of the digit at an index, where the first digit is at the magnitude `first`.
 ///
-/// `magnitude_of(2, 5)` is -3. Requires that the answer is at least -32768. Not in the original.
+/// `magnitude_of(2, 5)` is -3. Requires a result of at least -32768.
 #[inline]
 pub fn magnitude_of(first: i16, index: usize) -> i16
     requires { negsuc 32767 ≤ℤ (first -ℤ pos index) }
@@ -118,9 +117,9 @@ pub fn magnitude_of(first: i16, index: usize) -> i16
     (first as i64 - index as i64) as i16
 }
 
-/// Gives the index of the digit at a magnitude, where the first digit stands at another.
+/// Returns the index of the digit at a magnitude, where the first digit is at the magnitude `first`.
 ///
-/// `index_of(2, -3)` is 5. None where the magnitude lies above the first digit. Not in the original.
+/// `index_of(2, -3)` is 5. None if `magnitude` is above `first`.
 #[inline]
 pub fn index_of(first: i16, magnitude: i16) -> Option<usize>
     ensures some { IfSome result (λ index. (magnitude +ℤ pos index) ≡ first) }
@@ -133,9 +132,9 @@ pub fn index_of(first: i16, magnitude: i16) -> Option<usize>
     }
 }
 
-/// Subtracts one count of digits from another.
+/// Subtracts a number of digits from another.
 ///
-/// `subtract_counts(2, 5)` is -3. Requires counts of at most 65,536. Not in the original.
+/// `subtract_counts(2, 5)` is -3. Requires at most 65,536 digits.
 #[inline]
 pub fn subtract_counts(a: usize, b: usize) -> i32
     requires first_in { a ≤ 65536 }
@@ -145,9 +144,9 @@ pub fn subtract_counts(a: usize, b: usize) -> i32
     a as i32 - b as i32
 }
 
-/// Gives the magnitude that an exponent moves another to.
+/// Adds an exponent to a magnitude.
 ///
-/// `shift_magnitude(2, -5)` is -3. Requires a magnitude and an exponent from -131,072 to 131,072. Not in the original.
+/// `shift_magnitude(2, -5)` is -3. Requires a magnitude and an exponent from -131,072 to 131,072.
 #[inline]
 pub fn shift_magnitude(magnitude: i32, exponent: i32) -> i32
     requires magnitude_in { (negsuc 131071 ≤ℤ magnitude) × (magnitude ≤ℤ pos 131072) }

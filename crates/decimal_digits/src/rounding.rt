@@ -1,4 +1,4 @@
-//! Rounding of digits: modes, increments, and the call that rounds a list.
+//! Rounding of digits: the modes, the increments, and the rounding of a list.
 ghost use Rattle.std.specs.Prelude.{◌≡◌, ◌≢◌, ◌+◌, ◌*◌, ◌<◌, ◌≤◌, ◌↔◌, length, pos, ◌+ℤ◌, ◌≤ℤ◌, IsErrOf, IfOk, IfErr, OnErr};
 ghost use Rattle.decimal_digits.specs.Counted.{list_of, accesses_of, Continues, OnlyReads};
 ghost use Rattle.decimal_digits.specs.Number.{offset, weight};
@@ -18,52 +18,50 @@ use crate::ops::{highest_of, max_places_above, places_above};
 use remainder::Remainder;
 use round_digits::{remainder_after, round_leading};
 
-/// How a number that lies between two multiples is rounded to one of them.
+/// The rule by which a number between two multiples of a unit is rounded to one of them.
 ///
-/// The number 2.5 becomes 3, 2, 3, 2 and 2 in the order of the modes. The original's enum of this name.
+/// 2.5 becomes 3, 2, 3, 2 and 2, in the order of the modes.
 #[derive(Clone, Copy, Debug, PartialEq, Eq, PartialOrd, Ord)]
 pub enum UnsignedRoundingMode {
-    /// Takes the multiple above.
+    /// Rounds to the multiple above.
     Expand,
-    /// Takes the multiple below.
+    /// Rounds to the multiple below.
     Trunc,
-    /// Takes the nearest multiple, and the greater of two that are as near.
+    /// Rounds to the nearest multiple, ties to the greater one.
     HalfExpand,
-    /// Takes the nearest multiple, and the smaller of two that are as near.
+    /// Rounds to the nearest multiple, ties to the smaller one.
     HalfTrunc,
-    /// Takes the nearest multiple, and of two that are as near the one with an even quotient by the unit.
+    /// Rounds to the nearest multiple, ties to the one with an even quotient by the unit.
     HalfEven,
 }
 
-/// What the results of a rounding are multiples of, in units of the position.
+/// The number that the results of a rounding are multiples of, in units of the position.
 ///
-/// 9.75 is rounded at the position -1 to 9.8 by 1 and by 2, to 10.0 by 5 and to 10.0 by 25, in the mode `HalfExpand`.
-/// The original's enum of this name.
+/// 9.75 is rounded at position -1, half-expand, to 9.8 by 1 and by 2, to 10.0 by 5 and to 10.0 by 25.
 #[derive(Clone, Copy, Debug, Default, PartialEq, Eq)]
 pub enum RoundingIncrement {
-    /// Each digit may stand at the position.
+    /// The digit at the position is 0 to 9.
     #[default]
     MultiplesOf1,
-    /// An even digit stands at the position.
+    /// The digit at the position is even.
     MultiplesOf2,
-    /// 0 or 5 stands at the position.
+    /// The digit at the position is 0 or 5.
     MultiplesOf5,
-    /// 00, 25, 50 or 75 stands at the position and the one above.
+    /// The digit at the position and the one above it are 00, 25, 50 or 75.
     MultiplesOf25,
 }
 
-/// Why a number was not rounded.
-///
-/// The value is then as it was. Not in the original, which puts 0 in the place of what is too great.
+/// The error of a rounding, which leaves the value unchanged.
 #[derive(Clone, Copy, Debug, PartialEq)]
 pub enum RoundError {
-    /// The multiple that is named is 10 to the 32768 or more.
+    /// The rounded number is 10^32768 or more.
     Limit,
-    /// Memory for one digit more was refused.
+    /// Out of memory for one more digit.
     Memory,
 }
 
-/// Counts the places from a position up to the first digit, and compares what lies below them with half of a unit.
+/// Counts the magnitudes from a position up to the first digit, and compares the remainder below them with half of a
+/// unit.
 fn split_at_position<D: DigitStore>(
     counted: &mut Counted<'_, D>,
     magnitude: i16,
@@ -85,7 +83,7 @@ fn split_at_position<D: DigitStore>(
     }
 }
 
-/// Gives the magnitude of the first digit, where the list has so many places above a position, and 0 where it is empty.
+/// Returns the magnitude of the first of `places` places from a position up, or 0 if the list is empty.
 fn magnitude_after<D: DigitStore>(counted: &Counted<'_, D>, position: i16, places: usize) -> i16
     requires stripped { IsStripped (D.digits (list_of counted.now)) }
     requires fits { length (D.digits (list_of counted.now)) ≤ places }
@@ -101,19 +99,21 @@ fn magnitude_after<D: DigitStore>(counted: &Counted<'_, D>, position: i16, place
     }
 }
 
-/// Rounds the number of a list of digits at a position, and gives the magnitude of its first digit then.
+/// Rounds the number of a list of digits at a position, and returns the magnitude of its first digit afterwards.
 ///
-/// The list holds the digits from the magnitude of the first one down, with no 0 at either end, before and after. The
-/// digits 1, 2 and 5 from the magnitude 0 down, which is 1.25, become 1 and 2 at the position -1 in the mode `HalfEven`
-/// by 1, and the answer is 0. The answer is 0 too where no digit is left. That the number is the one which the mode
-/// names among all multiples is the law [`rounded_number_is_named`](crate::laws::rounded_number_is_named).
+/// `magnitude` is that of the first digit. The list has no leading and no trailing zeros, before and after. The digits
+/// 1, 2 and 5 from magnitude 0 down, which are 1.25, become 1 and 2 at position -1, half-even by 1, and the result is
+/// 0. The result is also 0 if no digit is left. The law
+/// [`rounded_number_is_named`](crate::laws::rounded_number_is_named) says which multiple the number is.
 ///
-/// Limit: the number would reach 10 to the 32768. Memory: memory was refused for one more digit, which only
-/// `MultiplesOf25` asks for, and only where the number stays below that and the list has as many digits as are held
-/// without memory. The list then stays as it was.
+/// There are at most 7 digit accesses, and one for each digit that is removed; with `Limit`, at most 7, and one for
+/// each digit.
 ///
-/// It takes at most 7 turns, and one for each digit that vanishes; where the answer is Limit, at most 7 and one for
-/// each digit. Not in the original, whose value holds these loops.
+/// # Errors
+///
+/// - `Limit`: the rounded number is 10^32768 or more. The list is unchanged.
+/// - `Memory`: out of memory for one more digit; possible only by `MultiplesOf25`, with a rounded number below that
+///   limit, and a list of at least `L` digits. The list is unchanged.
 pub fn round<D: DigitStore>(
     counted: &mut Counted<'_, D>,
     magnitude: i16,

@@ -1,4 +1,4 @@
-//! What takes the bytes of a text, and what has a text.
+//! Sinks for the bytes of a text, and values that have a text.
 ghost use Rattle.std.specs.Prelude.{◌≡◌, ℕ, List, [], ◌∷◌, length, Option, IsErr, OnOk, OnErr, Bool, true, false};
 ghost use Rattle.std.specs.Io.KnownBytes.{Keeps, Appends};
 ghost use Rattle.decimal_digits.specs.AppendsPrefix.{AppendsPrefix};
@@ -10,26 +10,26 @@ pub use out::Out;
 use std::io::Write;
 pub use text_buf::TextBuf;
 
-/// Says that a sink refused a byte.
-///
-/// Not in the original, which writes to `core::fmt::Write`.
+/// The error of a sink that rejects a byte.
 #[derive(Clone, Copy, Debug, PartialEq)]
 pub struct SinkFault;
 
-/// What takes bytes, one at a time or several in order.
+/// A destination of bytes.
 ///
-/// Contracts see the bytes that were taken, where the sink tells them, and whether it has failed. Not in the original.
+/// Contracts see its contents, if they are observable, and whether a write has failed.
 pub trait Sink {
-    /// The bytes that were taken, where the sink tells them.
+    /// The bytes that were written, or None for a sink whose contents are not observable.
     ghost contents: { Self → Option (List ℕ) };
 
-    /// Whether a byte was refused.
+    /// Whether a write has failed.
     ghost has_failed: { Self → Bool };
 
-    /// Takes one byte.
+    /// Appends one byte.
     ///
-    /// Err: the byte was refused, the contents stay as they were, and the sink has failed. A sink that has failed
-    /// refuses each byte.
+    /// # Errors
+    ///
+    /// - The sink rejects the byte. The contents are unchanged, and the sink has failed.
+    /// - The sink has failed before. It then rejects each byte.
     fn put_byte(&mut self, byte: u8) -> Result<(), SinkFault>
         ensures appends { OnOk result (Appends (contents self.old) (contents self.new) (byte ∷ [])) }
         ensures had_not_failed { OnOk result (has_failed self.old ≡ false) }
@@ -37,14 +37,16 @@ pub trait Sink {
         ensures keeps { OnErr result (Keeps (contents self.old) (contents self.new)) }
         ensures failed { OnErr result (has_failed self.new ≡ true) };
 
-    /// Tells whether a byte was refused.
+    /// Returns whether a write has failed.
     fn failed(&self) -> bool
         ensures { result ≡ has_failed self.now };
 
-    /// Takes bytes, in order.
+    /// Appends bytes, in order.
     ///
-    /// Err: a byte was refused; those in front of it were taken, and the sink has failed. A sink that has failed
-    /// refuses an empty slice too, and its contents stay as they were.
+    /// # Errors
+    ///
+    /// - The sink rejects a byte. The bytes before it are appended, and the sink has failed.
+    /// - The sink has failed before. It then rejects an empty slice too, and the contents are unchanged.
     fn put_bytes(&mut self, bytes: &[u8]) -> Result<(), SinkFault>
         ensures appends { OnOk result (Appends (contents self.old) (contents self.new) bytes.now) }
         ensures had_not_failed { OnOk result (has_failed self.old ≡ false) }
@@ -63,17 +65,17 @@ pub trait Sink {
     }
 }
 
-/// What has a text.
-///
-/// The original's trait comes from the crate `writeable`; these are the two calls of it that a number needs.
+/// A value that has a text.
 pub trait Writeable {
     /// The bytes of the text.
     ghost text: { Self → List ℕ };
 
     /// Appends the text to a sink.
     ///
-    /// Err: the sink refused a byte, now or before. It has then taken a beginning of the text. A sink that has failed
-    /// refuses each text, and its contents stay as they were.
+    /// # Errors
+    ///
+    /// - The sink rejects a byte. A prefix of the text is appended.
+    /// - The sink has failed before. The contents are unchanged.
     fn write_to<W: Sink>(&self, sink: &mut W) -> Result<(), SinkFault>
         ensures ok { OnOk result (Appends (W.contents sink.old) (W.contents sink.new) (text self.now)) }
         ensures err { OnErr result (AppendsPrefix (W.contents sink.old) (W.contents sink.new) (text self.now)) }
@@ -81,7 +83,7 @@ pub trait Writeable {
         ensures failed { OnErr result (W.has_failed sink.new ≡ true) }
         ensures unchanged { W.has_failed sink.old ≡ true → Keeps (W.contents sink.old) (W.contents sink.new) };
 
-    /// Counts the bytes of the text, exactly.
+    /// Returns the exact number of bytes of the text.
     fn writeable_length_hint(&self) -> usize
         ensures { result ≡ length (text self.now) };
 }

@@ -1,4 +1,4 @@
-//! The decimal digits of an unsigned integer, the last one first.
+//! The decimal digits of an unsigned integer, least significant first.
 ghost use Rattle.std.specs.Prelude.{◌≡◌, ℕ, ◌/◌, ◌%◌, ◌^◌, ◌<◌, ◌≤◌, length, IfNone, IfSome};
 ghost use Rattle.std.specs.Iterator.{YieldsFirst, item_count};
 ghost use Rattle.decimal_digits.specs.AscendingDigits.{ascending_digits};
@@ -6,20 +6,16 @@ ghost use Rattle.decimal_digits.specs.AscendingDigits.{ascending_digits};
 use std::marker::Model;
 
 /// The number of decimal digits of the greatest `u128`.
-///
-/// Not in the original.
 pub const MAX_DIGITS: usize = 39;
 
 /// An unsigned integer type: `u8` to `u128`, and `usize`.
-///
-/// Not in the original, which writes its iterator once for each type.
 pub trait UnsignedInteger: Copy {
     /// The integer.
     ghost number: { Self → ℕ };
 
-    /// Splits the last decimal digit off: gives it, and the integer that the others write.
+    /// Divides by ten: returns the remainder, which is the last decimal digit, and the quotient.
     ///
-    /// 250 gives 0 and 25. None: the integer is 0, which has no digits here.
+    /// 250 gives 0 and 25. None for 0, which has no digits here.
     fn split_last_digit(self) -> Option<(u8, Self)>
         ensures none { IfNone result (number self ≡ 0) }
         ensures some { IfSome result (λ split. (0 < number self)
@@ -28,7 +24,7 @@ pub trait UnsignedInteger: Copy {
 
 /// The decimal digits of an integer, from the last to the first; 0 has none.
 ///
-/// Contracts see the digits that are left. Of 250 they are 0, 5 and 2. The original's `IntIterator`, without the sign.
+/// Contracts see the digits that are left. Of 250 they are 0, 5 and 2.
 #[derive(Drop)]
 pub struct IntIterator<T: UnsignedInteger> {
     rest: T,
@@ -46,7 +42,7 @@ impl<T: UnsignedInteger> Model for IntIterator<T> {
 impl<T: UnsignedInteger> IntIterator<T> {
     /// Makes the iterator over the digits of an integer, at most `MAX_DIGITS`.
     ///
-    /// Requires an integer below 2 to the power 128, as those of each type are. The original's `From`.
+    /// Requires an integer below 2^128, as those of each type are.
     pub fn new(integer: T) -> Self
         requires { T.number integer < 2 ^ 128 }
         ensures digits { result ≡ ascending_digits (T.number integer) }
@@ -127,7 +123,7 @@ impl UnsignedInteger for u128 {
 
     #[inline]
     fn split_last_digit(self) -> Option<(u8, u128)> {
-        // A division of 64 bits is far faster, and each integer comes down to them.
+        // A division of 64 bits is far faster, and each integer is soon short enough for it.
         if let Ok(short) = u64::try_from(self) {
             let (digit, rest) = short.split_last_digit()?;
             return Some((digit, rest as u128));

@@ -1,4 +1,4 @@
--- What the errors print.
+-- The messages of the errors.
 use Rattle.std.specs.Prelude.{ℕ, List, codes}
 use Rattle.decimal_digits.specs.ErrorText.{limit_text, memory_text}
 use Rattle.decimal_unsigned.specs.declared.error.ParseError.{ParseError}
@@ -6,17 +6,17 @@ use Rattle.decimal_unsigned.specs.declared.error.ParseError.TheVariants.{Limit, 
 use Rattle.decimal_unsigned.specs.declared.error.ConcatenateError.{ConcatenateError}
 use Rattle.decimal_unsigned.specs.declared.error.ConcatenateError.TheVariants as concatenate
 
--- the sentence that says why a text was refused
+-- the message of a parse error
 abbrev pub error_text : ParseError → List ℕ
 error_text Limit = limit_text
 error_text Syntax = codes "Failed to parse the input string"
 error_text Memory = memory_text
 
--- the sentence for two numbers that overlap
+-- the message for two numbers that overlap
 abbrev pub overlap_text : List ℕ
 overlap_text = codes "The numbers overlap"
 
--- the sentence that says why two numbers were not joined
+-- the message of the error of a concatenation
 abbrev pub concatenate_error_text : {T : Type 0} → ConcatenateError T → List ℕ
 concatenate_error_text (concatenate.Overlap x) = overlap_text
 concatenate_error_text (concatenate.Memory x) = memory_text

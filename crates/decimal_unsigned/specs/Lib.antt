@@ -1,4 +1,4 @@
--- What a reader has to believe.
+-- Trusted specification.
 pub mod Unsigned
 pub mod Text
 pub mod Edits
@@ -11,7 +11,7 @@ pub mod Reading
 pub mod ParseResult
 pub mod ErrorText
 pub mod ToInteger
--- Private: only the contracts of private functions and the models of `UnsignedOver` and `Scan` speak of these.
+-- Private: used only in the contracts of private functions and in the models of `UnsignedOver` and `Scan`.
 pub mod Stored
 pub mod Parts
 pub mod ScannedDigits

@@ -1,4 +1,4 @@
--- How a parser answers a text: its value, or why the text is refused.
+-- The result of parsing a text: its value, or an error.
 use Rattle.std.specs.Prelude.{◌≡◌, Result, Ok, Err, None, List, length, ℕ, ◌+◌, ◌≤◌, IfOk, IsOkAnd, ◌↔◌}
 use Rattle.decimal_unsigned.specs.declared.error.ParseError.{ParseError}
 use Rattle.decimal_unsigned.specs.declared.error.ParseError.TheVariants.{Limit, Syntax, Memory}
@@ -6,29 +6,28 @@ use Rattle.decimal_unsigned.specs.Unsigned.{Unsigned}
 use Rattle.decimal_unsigned.specs.Grammar.{Literal, Grammar}
 use Rattle.decimal_unsigned.specs.Reading.{ReadError, syntax, limit, value_of}
 
--- the error is the fault that reading comes to, unless it is want of memory, which has this condition
+-- the error is the one that reading gives, or out of memory, under this condition
 abbrev pub ParseFails : {V : Type 0} → Type 0 → ParseError → Result V ReadError → Type 0
 ParseFails memory_condition Limit reading = reading ≡ Err limit
 ParseFails memory_condition Syntax reading = reading ≡ Err syntax
 ParseFails memory_condition Memory reading = memory_condition
 
--- the answer is what reading comes to, its value or its fault; or it is want of memory, where there is a value that
--- wants it
+-- the result is the value or the error that reading gives; or out of memory, if reading gives a value that allocates
 abbrev pub IsParseResult : {V : Type 0} → (V → Type 0) → Result V ParseError → Result V ReadError → Type 0
 IsParseResult allocates (Ok v) reading = reading ≡ Ok v
 IsParseResult allocates (Err e) reading = ParseFails (IsOkAnd reading allocates) e reading
 
--- the answer by the grammar: Syntax for a text without parts and for no other, Limit where the parts are beyond the
--- limits and nowhere else, and the value of the parts
+-- the result by the grammar: `Syntax` exactly if the text has no parts, `Limit` exactly if the parts are beyond the
+-- limits, and `Ok` only with the value of the parts
 pub record ResultFollowsGrammar (text : List ℕ) (answer : Result Unsigned ParseError) : Type 0 where
   pub syntax : (answer ≡ Err Syntax) ↔ ((w : Literal) → ¬ Grammar text w)
   pub limit : (answer ≡ Err Limit) ↔ ((w : Literal) × Grammar text w × (value_of w ≡ Err limit))
   pub found : IfOk answer (λ v. (w : Literal) × Grammar text w × (value_of w ≡ Ok v))
 
--- parts without an exponent, and with at most 32768 digits on each side of the dot
+-- parts without an exponent, with at most 32768 integer digits and at most 32768 fraction digits
 abbrev pub IsPlain : Literal → Type 0
 IsPlain w = (w.exponent ≡ None) × (length w.whole ≤ 32768) × (length w.fraction ≤ 32768)
 
--- how many digits stand in front of an exponent
+-- the number of digits, those of the exponent not counted
 abbrev pub digit_count : Literal → ℕ
 digit_count w = length w.whole + length w.fraction

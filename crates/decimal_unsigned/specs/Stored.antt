@@ -1,10 +1,10 @@
--- Private: only the contracts of private functions and the model of `UnsignedOver` speak of these.
--- What the fields of a value hold: digits, the magnitude of the first one, and the range.
+-- Private: used only in the contracts of private functions and in the model of `UnsignedOver`.
+-- The fields of a value: digits, the magnitude of the first one, and the range.
 use Rattle.std.specs.Prelude.{◌≡◌, ℕ, ◌+◌, ◌-◌, ◌<◌, ◌≤◌, List, length, slice_index, ℤ, pos, negsuc, ◌≤ℤ◌}
 use Rattle.std.specs.Int.Digits.{AllBelowBase}
 use Rattle.decimal_digits.specs.Number.{offset}
 
--- the digits have no zero at either end and lie within the range; no digits are held for the number 0
+-- the digits have no zero at either end and are within the range; the number 0 has no digits, and magnitude 0
 pub record IsStored (ds : List ℕ) (magnitude hi lo : ℤ) : Type 0 where
   pub digits : AllBelowBase 10 ds
   pub front : 0 < length ds → 0 < slice_index ds 0

@@ -4,17 +4,17 @@ use Rattle.std.specs.Int.{int_gap}
 use Rattle.decimal_digits.specs.Number.{digit}
 use Rattle.decimal_unsigned.specs.Unsigned.{Unsigned}
 
--- a dot, which is 46, stands before magnitude -1
+-- the decimal point, which is 46, before magnitude -1; nothing before the others
 abbrev pub dot_before : ℤ → List ℕ
 dot_before (pos k) = []
 dot_before (negsuc zero) = 46 ∷ []
 dot_before (negsuc (suc k)) = []
 
--- the bytes for so many magnitudes, from m down; 48 is the byte of the digit 0
+-- the bytes of the given number of magnitudes, from m down; 48 is the byte of the digit 0
 unfoldable pub text_down : ℕ → ℤ → ℕ → List ℕ
 text_down number m zero = []
 text_down number m (suc n) = (dot_before m ++ (48 + digit number m) ∷ []) ++ text_down number (m -ℤ pos 1) n
 
--- a digit for each magnitude that is shown
+-- one digit for each magnitude that is shown, the highest first: 02.50 for hi 1 and lo -2
 abbrev pub text : Unsigned → List ℕ
 text v = text_down v.number v.hi (int_gap v.lo v.hi + 1)

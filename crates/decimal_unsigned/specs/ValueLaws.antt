@@ -18,7 +18,7 @@ use Rattle.decimal_unsigned.specs.Text.{text}
 abbrev pub trimmed : Unsigned → Unsigned
 trimmed v = trimmed_end (trimmed_start v)
 
--- two values have one number exactly if they are equal after both trims
+-- two values have the same number if and only if they are equal after both trims
 abbrev pub TrimmedIsNormalForm : Unsigned → Unsigned → Type 0
 TrimmedIsNormalForm v w = (v.number ≡ w.number) ↔ (trimmed v ≡ trimmed w)
 
@@ -28,16 +28,16 @@ IsShortest v = (w : Unsigned) → IsValue w → w.number ≡ v.number → length
 
 -- ---- The parts of a value at a position.
 
--- what stands after a rounding: the rounded value, or the old one where there is none
+-- the value after a rounding: the rounded value, or the old one if the rounding fails
 abbrev pub after_rounding : Unsigned → ℤ → UnsignedRoundingMode → RoundingIncrement → Unsigned
 after_rounding v p mode increment = unwrap_or (rounded v p mode increment) v
 
--- what stands after a rounding toward zero at a position
+-- the value rounded toward zero at a position
 abbrev pub trunced : Unsigned → ℤ → Unsigned
 trunced v p = after_rounding v p Trunc MultiplesOf1
 
--- the parts at and below a position can be joined, and have the number together; where the position lies in the range
--- or at one of its ends, they make the value itself
+-- the parts above and below a position do not overlap, and joined they have the number; if the position is in the range
+-- or at one of its ends, they are the value itself
 pub record SplitsAt (v : Unsigned) (p : ℤ) (upper lower : Unsigned) : Type 0 where
   pub disjoint : overlaps upper lower ≡ false
   pub number : (concatenated_end upper lower).number ≡ v.number
@@ -45,28 +45,28 @@ pub record SplitsAt (v : Unsigned) (p : ℤ) (upper lower : Unsigned) : Type 0 w
 
 -- ---- Roundings.
 
--- the value rounded away from zero at a position, or none
+-- the value rounded away from zero at a position, or none if that reaches the limit
 abbrev pub expanded : Unsigned → ℤ → Option Unsigned
 expanded v p = rounded v p Expand MultiplesOf1
 
--- the number, where there is a value
+-- the number of the value, if there is one
 abbrev pub number_if_any : Option Unsigned → Option ℕ
 number_if_any = option_map (λ v. v.number)
 
--- what truncating a value at p left, truncated at a position at or above p, is the value truncated there; and at any
--- position it leaves the number of the value truncated at the higher of the two
+-- a value truncated at p, which is `new`, and then at a position of at least p is the value truncated there; and
+-- truncated at any position it has the number of the value truncated at the higher of the two
 pub record TruncationsCompose (v : Unsigned) (p : ℤ) (new : Unsigned) : Type 0 where
   pub above : (q : ℤ) → p ≤ℤ q → trunced new q ≡ trunced v q
   pub number : (q : ℤ) → negsuc 32767 ≤ℤ q → (trunced new q).number ≡ (trunced v (int_max p q)).number
 
--- expanding a value at p and then at any position makes none exactly where expanding it at the higher of the two does,
--- and else has its number
+-- expanding a value at p and then at any position fails exactly if expanding it at the higher of the two fails, and
+-- else gives the same number
 abbrev pub ExpansionsCompose : Unsigned → ℤ → Type 0
 ExpansionsCompose v p =
     (q : ℤ) → negsuc 32767 ≤ℤ q
     → number_if_any (option_and_then (λ w. expanded w q) (expanded v p)) ≡ number_if_any (expanded v (int_max p q))
 
--- what stands after a rounding of the greater number is no less than what stands after one of the other
+-- of two numbers, the greater one is rounded to no less than the other; after an error the number is unchanged
 abbrev pub RoundingIsMonotone : Unsigned → Unsigned → ℤ → UnsignedRoundingMode → RoundingIncrement → Type 0
 RoundingIsMonotone v w p mode increment =
     v.number ≤ w.number → (after_rounding v p mode increment).number ≤ (after_rounding w p mode increment).number

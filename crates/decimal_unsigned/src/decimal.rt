@@ -1,4 +1,4 @@
-//! The unsigned value.
+//! The unsigned decimals.
 ghost use Rattle.std.specs.Prelude.{◌≡◌, ℕ, ◌+◌, ◌%◌, ◌^◌, ◌<◌, ◌≤◌, ◌↔◌, length, IsTrue, ℤ, false};
 ghost use Rattle.std.specs.Range.{range_inclusive_start, range_inclusive_end, range_inclusive_exhausted};
 ghost use Rattle.decimal_digits.specs.Digits.{number_of, IsStripped};
@@ -27,13 +27,13 @@ use std::default::MadeWith;
 use std::marker::Model;
 use std::ops::RangeInclusive;
 
-/// A number of at least 0 with the highest and the lowest magnitude that it shows, over a store of digits.
+/// A nonnegative decimal number with the range of magnitudes that it shows, over a list of digits.
 ///
-/// Contracts see `number`, in units of 10 to the power -32768, and the magnitudes `hi` and `lo`. The range holds
-/// magnitude 0 and all digits that are not 0; further zeros are shown as they were written. The text `0012.3400` has
-/// `hi` 3 and `lo` -4. The original has one representation; this type stands over any list of digits.
+/// Contracts see `number`, in units of 10^-32768, and `hi` and `lo`, the highest and the lowest magnitude that are
+/// shown. The range contains magnitude 0 and all nonzero digits, and with them any leading and trailing zeros: the text
+/// `0012.3400` has `hi` 3 and `lo` -4.
 ///
-/// A position lies between the magnitude of its name and the next lower one, so that 0 is the dot:
+/// A position is between the magnitude of its name and the next lower one, so that 0 is the decimal point:
 ///
 /// ```text
 /// digits          1   2 . 3   4
@@ -48,7 +48,7 @@ pub struct UnsignedOver<D: DigitStore> {
     lo: i16,
 }
 
-// Written out, since a derived drop is proved once more in each crate above.
+// Not derived: a derived drop is proved again in each crate that depends on this one.
 impl<D: DigitStore> Drop for UnsignedOver<D> {
     #[inline]
     fn drop(self) {
@@ -62,26 +62,20 @@ impl<D: DigitStore> Drop for UnsignedOver<D> {
     }
 }
 
-/// The store of digits of an unsigned decimal: two digits to a byte, of which sixteen need no allocation.
-///
-/// Not in the original.
+/// The list of digits of an unsigned decimal: packed BCD, of which sixteen digits need no allocation.
 pub type DecimalStore = PackedDigits;
 
-/// How many digits an unsigned decimal holds with no allocation, from the first to the last that is not 0.
-///
-/// Not in the original.
+/// The number of digits, from the first to the last nonzero one, that an unsigned decimal stores without an allocation.
 pub const INLINE_DIGITS: usize = <DecimalStore as DigitStore>::L;
 
 const _: () = prove!(INLINE_DIGITS == 16);
 
 /// An unsigned decimal.
-///
-/// The original's `UnsignedDecimal`.
 pub type UnsignedDecimal = UnsignedOver<DecimalStore>;
 
 /// An unsigned decimal with one digit to a byte, of which eight need no allocation.
 ///
-/// It answers and prints as `UnsignedDecimal` does, want of memory apart. Not in the original.
+/// It behaves as `UnsignedDecimal` does, except when out of memory.
 pub type ByteDecimal = UnsignedOver<DigitList>;
 
 const _: () = prove!(<DigitList as DigitStore>::L == 8);
@@ -108,9 +102,7 @@ impl<D: DigitStore> MadeWith<Global> for UnsignedOver<D> {
 }
 
 impl<D: DigitStore> UnsignedOver<D> {
-    /// Makes the number 0, which shows magnitude 0 alone, and asks for no memory.
-    ///
-    /// Its text is `0`. In the place of the original's `Default`.
+    /// Makes the number 0, which prints `0`, without an allocation.
     pub fn zero(alloc: Global) -> Self
         ensures { result ≡ zero_value }
     {
@@ -122,9 +114,9 @@ impl<D: DigitStore> UnsignedOver<D> {
         }
     }
 
-    /// Gives the digit at a magnitude, and 0 at each magnitude that is not shown.
+    /// Returns the digit at a magnitude, which is 0 outside of the range that is shown.
     ///
-    /// Of `2.50` the digit at -1 is 5. The original's `digit_at`.
+    /// Of `2.50` the digit at -1 is 5.
     pub fn digit_at(&self, magnitude: i16) -> u8
         ensures value { result ≡ digit self.now.number magnitude }
         ensures valid { IsValue self.now }
@@ -135,24 +127,24 @@ impl<D: DigitStore> UnsignedOver<D> {
         }
     }
 
-    /// Gives the magnitudes that are shown, from the lowest to the highest.
+    /// Returns the magnitudes that are shown, from the lowest to the highest.
     ///
-    /// Of `012.340` they are -3 to 2. The original's `magnitude_range`.
+    /// Of `012.340` they are -3 to 2.
     #[inline]
     pub fn magnitude_range(&self) -> RangeInclusive<i16>
         ensures start { range_inclusive_start result ≡ self.now.lo }
         ensures end { range_inclusive_end result ≡ self.now.hi }
-        // No magnitude has been taken from it.
+        // The iterator has not been advanced.
         ensures fresh { range_inclusive_exhausted result ≡ false }
-        // The range holds magnitude 0, lies in the limits, and shows the number whole.
+        // The range contains magnitude 0 and all nonzero digits, and is within the limits.
         ensures valid { IsValue self.now }
     {
         self.lowest()..=self.highest()
     }
 
-    /// Gives the magnitude of the first digit that is not 0, and 0 for the number 0.
+    /// Returns the magnitude of the first nonzero digit, or 0 for the number 0.
     ///
-    /// Of `012.340` it is 1. The original's `nonzero_magnitude_start`.
+    /// Of `012.340` it is 1.
     #[inline]
     pub fn nonzero_magnitude_start(&self) -> i16
         ensures value { result ≡ first self.now.number }
@@ -162,9 +154,9 @@ impl<D: DigitStore> UnsignedOver<D> {
         self.magnitude
     }
 
-    /// Gives the magnitude of the last digit that is not 0, and 0 for the number 0.
+    /// Returns the magnitude of the last nonzero digit, or 0 for the number 0.
     ///
-    /// Of `012.340` it is -2. The original's `nonzero_magnitude_end`.
+    /// Of `012.340` it is -2.
     pub fn nonzero_magnitude_end(&self) -> i16
         ensures value { result ≡ last self.now.number }
         ensures defined { IsLast self.now.number result }
@@ -178,9 +170,9 @@ impl<D: DigitStore> UnsignedOver<D> {
         }
     }
 
-    /// Tells whether the number is 0, however many zeros are shown.
+    /// Returns whether the number is 0, whatever zeros are shown.
     ///
-    /// True of `0.00`. The original's `is_zero`.
+    /// True for `0.00`.
     #[inline]
     pub fn is_zero(&self) -> bool
         ensures zero { IsTrue result ↔ (self.now.number ≡ 0) }
@@ -189,7 +181,7 @@ impl<D: DigitStore> UnsignedOver<D> {
         self.digits.len() == 0
     }
 
-    /// The highest magnitude that is shown.
+    /// Returns the highest magnitude that is shown.
     #[inline]
     fn highest(&self) -> i16
         ensures value { result ≡ self.now.hi }
@@ -198,7 +190,7 @@ impl<D: DigitStore> UnsignedOver<D> {
         self.hi
     }
 
-    /// The lowest magnitude that is shown.
+    /// Returns the lowest magnitude that is shown.
     #[inline]
     fn lowest(&self) -> i16
         ensures value { result ≡ self.now.lo }
@@ -207,10 +199,10 @@ impl<D: DigitStore> UnsignedOver<D> {
         self.lo
     }
 
-    /// Gives the digits from the first to the last that is not 0, the most significant one first.
+    /// Returns the digits from the first to the last nonzero one, most significant first.
     ///
-    /// Of `012.340` they are 1, 2, 3 and 4, and the number 0 has none. The first of them stands at
-    /// `nonzero_magnitude_start`. Not in the original.
+    /// Of `012.340` they are 1, 2, 3 and 4, and the number 0 has none. The first of them is at
+    /// `nonzero_magnitude_start`.
     #[inline]
     pub fn store(&self) -> &D
         ensures number { number_of (D.digits result.now) (first self.now.number) ≡ self.now.number }

@@ -1,4 +1,4 @@
-//! Why a call was refused.
+//! The errors of values, and their messages.
 ghost use Rattle.std.specs.Prelude.{◌≡◌};
 ghost use Rattle.decimal_unsigned.specs.ErrorText.{error_text, concatenate_error_text};
 ghost use Rattle.decimal_unsigned.specs.ToInteger.{integer_error_text};
@@ -7,10 +7,10 @@ use std::alloc::AllocError;
 use std::error::Error;
 use std::fmt;
 
-/// Says that a value is beyond the limits of a type, or would be after a shift or a rounding.
+/// The error of a value that is beyond the limits of a type, or would be after a shift or a rounding.
 ///
-/// `5.0` shows a digit behind the dot, and is no `FixedInteger`; `10` times 10 to the 32767 would show the magnitude
-/// 32768. What was to be changed is as it was. The original's `LimitError`, which no shift and no rounding answers.
+/// `5.0` has a fraction digit, and is no `FixedInteger`; `10` times 10^32767 would show the magnitude 32768. A value
+/// that was to be changed is unchanged.
 #[derive(Clone, Copy, Debug, PartialEq)]
 pub struct LimitError;
 
@@ -22,9 +22,7 @@ impl fmt::Display for LimitError {
 
     ghost styled_output = { λ _ _. Some limit_text };
 
-    /// Writes the sentence of `ParseError::Limit`, and looks at no option of the format.
-    ///
-    /// Err: the formatter refused it. The original's `Display`.
+    /// Writes the message of `ParseError::Limit`. Format options are ignored.
     fn fmt<W: fmt::Write>(&self, f: &mut fmt::Formatter<W>) -> fmt::Result {
         f.write_str(ParseError::Limit.message())
     }
@@ -32,16 +30,16 @@ impl fmt::Display for LimitError {
 
 impl Error for LimitError {}
 
-/// Why a text was refused.
+/// The error of parsing a text.
 ///
-/// `5.` is `Syntax`, `1e32768` is `Limit`. The original's `ParseError` has no `Memory`, and is `Copy`.
+/// `5.` is `Syntax`, `1e32768` is `Limit`.
 #[derive(Debug, Drop, PartialEq)]
 pub enum ParseError {
-    /// The value would leave the magnitudes -32768 to 32767, or has more digits than they hold.
+    /// The value would show digits outside of the magnitudes -32768 to 32767, or its exponent is outside of them.
     Limit,
     /// The text is not in the grammar.
     Syntax,
-    /// Memory for the digits was refused.
+    /// Out of memory for the digits.
     Memory,
 }
 
@@ -58,7 +56,7 @@ impl From<AllocError> for ParseError {
 }
 
 impl ParseError {
-    /// The sentence that says why.
+    /// Returns the message.
     fn message(&self) -> &'static str
         ensures { result.now ≡ error_text self.now }
     {
@@ -78,9 +76,7 @@ impl fmt::Display for ParseError {
 
     ghost styled_output = { λ e _. Some (error_text e) };
 
-    /// Writes the sentence that says why: `Out of memory` for `Memory`. It looks at no option of the format.
-    ///
-    /// Err: the formatter refused it. The original's `Display`.
+    /// Writes the message: `Out of memory` for `Memory`. Format options are ignored.
     fn fmt<W: fmt::Write>(&self, f: &mut fmt::Formatter<W>) -> fmt::Result {
         f.write_str(self.message())
     }
@@ -88,20 +84,19 @@ impl fmt::Display for ParseError {
 
 impl Error for ParseError {}
 
-/// Why two numbers were not joined, with what was handed in.
+/// The error of joining two numbers, with the arguments.
 ///
-/// `concatenate_end` hands back the second number, `concatenated_end` both. `120` and `25` are `Overlap`. In the
-/// original the error is what was handed in alone.
+/// `concatenate_end` returns the second number in it, `concatenated_end` both. `120` and `25` are `Overlap`.
 #[derive(Debug, Drop)]
 pub enum ConcatenateError<T> {
-    /// Neither number is 0, and the second begins at or above the last digit of the first that is not 0.
+    /// Neither number is 0, and the first nonzero digit of the second is at or above the last one of the first.
     Overlap(T),
-    /// Memory for the joined digits was refused.
+    /// Out of memory for the joined digits.
     Memory(T),
 }
 
 impl<T> ConcatenateError<T> {
-    /// The sentence that says why.
+    /// Returns the message.
     fn message(&self) -> &'static str
         ensures { result.now ≡ concatenate_error_text self.now }
     {
@@ -120,10 +115,8 @@ impl<T> fmt::Display for ConcatenateError<T> {
 
     ghost styled_output = { λ e _. Some (concatenate_error_text e) };
 
-    /// Writes the sentence that says why, without what was handed in: `The numbers overlap` or `Out of memory`. It
-    /// looks at no option of the format.
-    ///
-    /// Err: the formatter refused it. Not in the original.
+    /// Writes the message, without the arguments: `The numbers overlap`, or `Out of memory`. Format options are
+    /// ignored.
     fn fmt<W: fmt::Write>(&self, f: &mut fmt::Formatter<W>) -> fmt::Result {
         f.write_str(self.message())
     }
@@ -131,20 +124,19 @@ impl<T> fmt::Display for ConcatenateError<T> {
 
 impl<T: fmt::Debug + Drop> Error for ConcatenateError<T> {}
 
-/// Why a number is no integer of a type.
+/// The error of converting a number to an integer type.
 ///
-/// `1.5` is `NotWhole` for each type, and 300 digits are `OutOfRange` where no digit behind the dot is other than 0.
-/// Not in the original.
+/// `1.5` is `NotWhole` for each type, and an integer of 300 digits is `OutOfRange`.
 #[derive(Clone, Copy, Debug, PartialEq, Eq)]
 pub enum IntegerError {
-    /// There is a digit behind the dot that is not 0.
+    /// A fraction digit is not 0.
     NotWhole,
-    /// The number is whole, and the type does not hold it.
+    /// The number is an integer, and outside of the range of the type.
     OutOfRange,
 }
 
 impl IntegerError {
-    /// The sentence that says why.
+    /// Returns the message.
     fn message(&self) -> &'static str
         ensures { result.now ≡ integer_error_text self.now }
     {
@@ -163,9 +155,7 @@ impl fmt::Display for IntegerError {
 
     ghost styled_output = { λ e _. Some (integer_error_text e) };
 
-    /// Writes the sentence that says why: `Not a whole number` for `NotWhole`. It looks at no option of the format.
-    ///
-    /// Err: the formatter refused it. Not in the original.
+    /// Writes the message: `Not a whole number` for `NotWhole`. Format options are ignored.
     fn fmt<W: fmt::Write>(&self, f: &mut fmt::Formatter<W>) -> fmt::Result {
         f.write_str(self.message())
     }

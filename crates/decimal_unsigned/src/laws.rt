@@ -1,4 +1,5 @@
-//! Laws of reading, trims, joining and rounding. A call does nothing; its contract is the law, for every value.
+//! Laws of parsing, trimming, concatenation and rounding. The functions do nothing; their contracts are the laws, for
+//! every value.
 ghost use Rattle.std.specs.Prelude.{ℕ, List, ℤ, negsuc, ◌≤ℤ◌};
 ghost use Rattle.decimal_digits.specs.declared.rounding.RoundingIncrement.{RoundingIncrement};
 ghost use Rattle.decimal_digits.specs.declared.rounding.UnsignedRoundingMode.{UnsignedRoundingMode};
@@ -7,39 +8,40 @@ ghost use Rattle.decimal_unsigned.specs.ValueLaws.{TrimmedIsNormalForm, trunced,
 ghost use Rattle.decimal_unsigned.specs.Reading.{FollowsGrammar};
 ghost use Rattle.decimal_unsigned.specs.Unsigned.{Unsigned, IsValue};
 
-/// Each text is read as the grammar says: as the value of its parts, or as a syntax error where it has none.
+/// A text in the grammar has the value of its parts, and any other text is a syntax error.
 #[tactic(auto, using(crate::proofs::ReadingGrammar::follows_grammar))]
 pub fn reading_follows_grammar()
     ensures { (text : List ℕ) → FollowsGrammar text }
 {}
 
-/// Two values have one number exactly if they are equal after both trims.
+/// Two values have the same number if and only if they are equal after both trims.
 #[tactic(auto, using(crate::proofs::ValueLaws::trimmed_is_normal_form))]
 pub fn trimmed_is_normal_form()
     ensures { (v w : Unsigned) → TrimmedIsNormalForm v w }
 {}
 
-/// Three values can be joined from the front exactly where they can be from the back, and give the same.
+/// Concatenation is associative: three values joined from either side give the same value, or overlap.
 #[tactic(auto, using(crate::proofs::ConcatenationLaws::concatenation_is_associative))]
 pub fn concatenation_is_associative()
     ensures { (u v w : Unsigned) → IsValue u → IsValue v → IsValue w → ConcatenationIsAssociative u v w }
 {}
 
-/// A rounding leaves no less of the greater number than of the other, where an error leaves the number as it was.
+/// Rounding is monotone: of two numbers, the greater one is rounded to no less than the other. After an error the
+/// number is unchanged.
 #[tactic(auto, using(crate::proofs::RoundingLaws::rounding_is_monotone))]
 pub fn rounding_is_monotone()
     ensures { (v w : Unsigned) → (position : ℤ) → (mode : UnsignedRoundingMode) → (increment : RoundingIncrement)
         → RoundingIsMonotone v w position mode increment }
 {}
 
-/// Expanded twice, a value has the number that it gets at the higher position, or an error where it gets one there.
+/// Expanding at two positions gives the number of expanding at the higher one, and fails exactly if that fails.
 #[tactic(auto, using(crate::proofs::RoundingLaws::expansions_compose))]
 pub fn expansions_compose()
     ensures { (v : Unsigned) → (position : ℤ) → negsuc 32767 ≤ℤ position → ExpansionsCompose v position }
 {}
 
-/// Truncated twice, a value has the number that it gets at the higher position, and its range too where the second
-/// position is that one.
+/// Truncating at two positions gives the number of truncating at the higher one, and its range too if the second
+/// position is the higher one.
 #[tactic(auto, using(crate::proofs::RoundingLaws::truncations_compose))]
 pub fn truncations_compose()
     ensures { (v : Unsigned) → (position : ℤ) → IsValue v → negsuc 32767 ≤ℤ position

@@ -1,16 +1,16 @@
-//! A list of digits whose reads and writes are counted.
+//! A list of digits whose accesses are counted.
 ghost use Rattle.std.specs.Prelude.{◌≡◌, ℕ, ◌+◌, ◌-◌, ◌<◌, ◌≤◌, ◌≢◌, ◌↔◌, min, [], ◌∷◌, ◌++◌, length, take, slice_index, slice_set, IsOk, IsTrue, OnOk};
 ghost use Rattle.decimal_digits.specs.Counted.{list_of, accesses_of, Borrows, Continues};
 
 use super::{DigitStore, Steps};
 use std::alloc::AllocError;
 
-/// A list of digits, lent together with the `Steps` that count its turns.
+/// A borrowed list of digits, with the `Steps` that count its digit accesses.
 ///
-/// `get`, `set` and `push_in_room` are one turn each, and `count_trailing` is one for each digit that it looks at. The
-/// other calls ask the list for no digit and hand it none, and are no turn; what the list does inside a call is not
-/// counted. The list and the count are changed in place. Contracts see the list, the turns so far, and that both are
-/// still the ones that were lent. Not in the original.
+/// `get`, `set` and `push_in_room` are one digit access each, and `count_trailing` is one for each digit that it reads.
+/// The other calls pass no digit to or from the list, and are not counted; neither is what the list does inside a call.
+/// The list and the count are changed in place. Contracts see the list, the accesses so far, and that both are still
+/// those that were borrowed.
 #[derive(Drop)]
 pub struct Counted<'a, D: DigitStore> {
     list: &'a mut D,
@@ -18,7 +18,7 @@ pub struct Counted<'a, D: DigitStore> {
 }
 
 impl<'a, D: DigitStore> Counted<'a, D> {
-    /// Lends a list and a count, and changes neither.
+    /// Borrows a list and a count, and changes neither.
     pub fn new(list: &'a mut D, steps: &'a mut Steps) -> Self
         ensures list { list_of result ≡ list.old }
         ensures accesses { accesses_of result ≡ steps.old.count }
@@ -27,7 +27,7 @@ impl<'a, D: DigitStore> Counted<'a, D> {
         Counted { list, steps }
     }
 
-    /// Counts the digits.
+    /// Returns the number of digits.
     #[inline]
     pub fn len(&self) -> usize
         ensures { result ≡ length (D.digits (list_of self.now)) }
@@ -35,7 +35,7 @@ impl<'a, D: DigitStore> Counted<'a, D> {
         self.list.len()
     }
 
-    /// Tells whether there is no digit.
+    /// Returns whether there are no digits.
     #[inline]
     pub fn is_empty(&self) -> bool
         ensures { IsTrue result ↔ (D.digits (list_of self.now) ≡ []) }
@@ -43,9 +43,9 @@ impl<'a, D: DigitStore> Counted<'a, D> {
         self.list.is_empty()
     }
 
-    /// Gives the digit at an index, of which 0 is that of the most significant digit.
+    /// Returns the digit at an index: one digit access.
     ///
-    /// Requires an index in range.
+    /// Requires `index < len()`.
     #[inline]
     pub fn get(&mut self, index: usize) -> u8
         requires { index < length (D.digits (list_of self.old)) }
@@ -58,9 +58,9 @@ impl<'a, D: DigitStore> Counted<'a, D> {
         self.list.get(index)
     }
 
-    /// Counts the digits at the end of the first `count` that equal a digit. Each digit that is read is a turn.
+    /// Counts the digits equal to `digit` at the end of the first `count`: one access for each digit that is read.
     ///
-    /// Requires at least so many digits. The first other digit from the end is read too.
+    /// Requires `count <= len()`. The first other digit from the end is read too.
     #[inline]
     pub fn count_trailing(&mut self, count: usize, digit: u8) -> usize
         requires { count ≤ length (D.digits (list_of self.old)) }
@@ -79,9 +79,9 @@ impl<'a, D: DigitStore> Counted<'a, D> {
         equal
     }
 
-    /// Puts a digit in the place of the one at an index.
+    /// Replaces the digit at an index: one digit access.
     ///
-    /// Requires an index in range and a digit 0 to 9.
+    /// Requires `index < len()` and a digit 0 to 9.
     #[inline]
     pub fn set(&mut self, index: usize, digit: u8)
         requires in_range { index < length (D.digits (list_of self.old)) }
@@ -95,9 +95,9 @@ impl<'a, D: DigitStore> Counted<'a, D> {
         self.list.set(index, digit);
     }
 
-    /// Appends a digit into room that there is.
+    /// Appends a digit, without an allocation: one digit access.
     ///
-    /// Requires room, as after `reserve`, and a digit 0 to 9. The room becomes smaller by at most one.
+    /// Requires room, as after `reserve`, and a digit 0 to 9.
     #[inline]
     pub fn push_in_room(&mut self, digit: u8)
         requires has_room { 0 < D.room (list_of self.old) }
@@ -111,9 +111,11 @@ impl<'a, D: DigitStore> Counted<'a, D> {
         self.list.push_in_room(digit);
     }
 
-    /// Makes room for `count` more digits.
+    /// Reserves room for `count` more digits.
     ///
-    /// Err: memory was refused, which needs more than `L` digits in all. The list stays as it is either way.
+    /// # Errors
+    ///
+    /// As for [`DigitStore::reserve`].
     pub fn reserve(&mut self, count: usize) -> Result<(), AllocError>
         ensures ok { OnOk result (count ≤ D.room (list_of self.new)) }
         ensures digits { D.digits (list_of self.new) ≡ D.digits (list_of self.old) }
@@ -124,9 +126,9 @@ impl<'a, D: DigitStore> Counted<'a, D> {
         self.list.reserve(count)
     }
 
-    /// Keeps the first `count` digits.
+    /// Keeps the first `count` digits, and accesses none.
     ///
-    /// Requires at least so many.
+    /// Requires `count <= len()`.
     #[inline]
     pub fn truncate(&mut self, count: usize)
         requires { count ≤ length (D.digits (list_of self.old)) }
@@ -137,7 +139,7 @@ impl<'a, D: DigitStore> Counted<'a, D> {
         self.list.truncate(count);
     }
 
-    /// Drops all digits.
+    /// Removes all digits, and accesses none.
     pub fn clear(&mut self)
         ensures digits { D.digits (list_of self.new) ≡ [] }
         ensures accesses { accesses_of self.new ≡ accesses_of self.old }

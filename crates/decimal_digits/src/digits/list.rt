@@ -10,8 +10,7 @@ use std::alloc::{AllocError, Global};
 
 /// A list of digits with one digit to a byte, of which up to eight need no allocation.
 ///
-/// The list that `from_digits` makes of 2, 5 and 0 has three digits and no allocation. The original keeps its digits
-/// so.
+/// The list that `from_digits` makes of 2, 5 and 0 has three bytes, and needs no allocation.
 #[derive(Debug)]
 pub struct DigitList {
     bytes: SmallVec<u8, 8>,
@@ -19,7 +18,7 @@ pub struct DigitList {
     ghost decimal: { All (λ d. d < 10) bytes.items },
 }
 
-// Written out, since a derived drop is proved once more in each crate above.
+// Not derived: a derived drop is proved again in each crate that depends on this one.
 impl Drop for DigitList {
     #[inline]
     fn drop(self) {
@@ -128,7 +127,7 @@ impl DigitStore for DigitList {
     }
 }
 
-/// Turns letters into the digits that they write.
+/// Replaces ASCII digits by their values.
 fn digits_from_ascii(ascii_text: &mut [u8])
     requires { AllDigits 10 ascii_text.old }
     ensures { ascii_text.new ≡ map digit_value ascii_text.old }
@@ -138,7 +137,7 @@ fn digits_from_ascii(ascii_text: &mut [u8])
     }
 }
 
-/// Writes the first digits as letters, as many as there are places.
+/// Writes the first digits as ASCII, one to each byte of the buffer.
 fn digits_to_ascii(digits: &[u8], buffer: &mut [u8])
     requires enough { length buffer.old ≤ length digits.now }
     requires are_digits { All (λ d. d < 10) digits.now }

@@ -1,4 +1,4 @@
-//! A list of digits with two digits to a byte.
+//! A list of digits as packed BCD.
 ghost use Rattle.std.specs.Prelude.{◌≡◌, ℕ, ◌+◌, ◌-◌, ◌*◌, ◌/◌, ◌≤◌, take};
 ghost use Rattle.decimal_digits.specs.Nibbles.{digits_in};
 ghost use Rattle.decimal_digits.specs.Packing.{IsPackedPrefix};
@@ -18,11 +18,11 @@ pub(super) use nibbles::nibble_at;
 use smallvec::SmallVec;
 use std::alloc::{AllocError, Global};
 
-/// A list of digits with two digits to a byte, of which the first sixteen lie in place.
+/// A list of digits as packed BCD, two digits to a byte, of which up to sixteen need no allocation.
 ///
-/// The digit at index `i` is in byte `i / 2`, that at an even index in the high half, and with an odd number of digits
-/// the low half of the last byte is 0. The list that `from_digits` makes of 2, 5 and 0 has the bytes 0x25 and 0x00 and
-/// no allocation. What stands behind them in the eight bytes in place means nothing. Not in the original.
+/// The digit at index `i` is in byte `i / 2`, in the high nibble if `i` is even. With an odd number of digits the low
+/// nibble of the last byte is 0. The list that `from_digits` makes of 2, 5 and 0 has the bytes 0x25 and 0x00, and needs
+/// no allocation. Of up to eight bytes, those after the digits are unspecified.
 #[derive(Debug)]
 pub struct PackedDigits {
     bytes: SmallVec<u8, 8>,
@@ -31,7 +31,7 @@ pub struct PackedDigits {
     ghost packed_prefix: { IsPackedPrefix bytes.items len },
 }
 
-// Written out, since a derived drop is proved once more in each crate above.
+// Not derived: a derived drop is proved again in each crate that depends on this one.
 impl Drop for PackedDigits {
     #[inline]
     fn drop(self) {
@@ -41,7 +41,7 @@ impl Drop for PackedDigits {
 }
 
 impl PackedDigits {
-    /// The bytes of the digits.
+    /// Returns the bytes that hold the digits.
     #[inline]
     fn front(&self) -> &[u8]
         ensures { result.now ≡ take ((self.now.len + 1) / 2) self.now.bytes.items }
@@ -87,7 +87,7 @@ impl DigitStore for PackedDigits {
 
     #[inline]
     fn from_bcd(alloc: Global, number: u64, len: usize) -> Result<Self, AllocError> {
-        // All eight bytes stay, since to cut them would take longer than all else.
+        // All eight bytes are kept: truncating them would cost more than the rest of the call.
         Ok(PackedDigits {
             bytes: SmallVec::from_buf(alloc, number.to_be_bytes()),
             len,
@@ -147,7 +147,7 @@ impl DigitStore for PackedDigits {
 
     fn count_trailing(&self, count: usize, digit: u8) -> usize {
         if digit >= 16 {
-            // No half is so large.
+            // No nibble is above 15.
             return 0;
         }
         count_trailing_nibbles(self.bytes.as_slice(), count, digit)

@@ -1,13 +1,13 @@
-//! A count of turns that only contracts see.
+//! A count of digit accesses that only contracts see.
 ghost use Rattle.std.specs.Prelude.{◌≡◌, ℕ, ◌+◌};
 ghost use Rattle.std.specs.Borrow.{ftrue};
 
 use std::marker::Model;
 
-/// Counts turns. A turn is one read or one write of a single digit by a rounding.
+/// A count of digit accesses. A digit access is one read or one write of a single digit by a rounding.
 ///
-/// Contracts see `count`; at run time it has no bytes. `tick` adds one and `tick_by` so many. No other call changes a
-/// `Steps`, but its owner may put a new one in its place. Not in the original.
+/// Contracts see `count`; at run time it has no bytes. `tick` adds one, and `tick_by` the given number. No other call
+/// changes a `Steps`, but its owner may replace it by a new one.
 #[derive(Debug, Drop)]
 pub struct Steps {
     pub ghost count: { ℕ },
@@ -18,7 +18,7 @@ impl Model for Steps {
 }
 
 impl Steps {
-    /// Begins to count, at 0.
+    /// Makes a count of 0.
     #[inline]
     pub fn new() -> Steps
         ensures { result.count ≡ 0 }
@@ -26,7 +26,7 @@ impl Steps {
         Steps {}
     }
 
-    /// Counts one turn more.
+    /// Adds one digit access.
     #[inline]
     pub fn tick(&mut self)
         ensures { self.new.count ≡ self.old.count + 1 }
@@ -34,9 +34,9 @@ impl Steps {
         *self = self.after();
     }
 
-    /// Counts so many turns more.
+    /// Adds the given number of digit accesses.
     ///
-    /// The loop is there for its proof: it changes nothing that is there at run time, and a compiler may leave it out.
+    /// The loop is there for the proof only: it has no effect at run time, and a compiler may remove it.
     #[inline]
     pub fn tick_by(&mut self, accesses: usize)
         ensures { self.new.count ≡ self.old.count + accesses }
@@ -46,7 +46,7 @@ impl Steps {
         }
     }
 
-    /// Makes the count that comes next.
+    /// Makes a count that is one greater.
     #[inline]
     fn after(&self) -> Steps
         ensures { result.count ≡ self.now.count + 1 }

@@ -1,6 +1,5 @@
-//! The two passes over the end of a list: both stop at the first digit that stays, so each digit that is read, but the
-//! last one, is paid by one that vanishes. Where adding one meets the limit, nothing vanishes, and each digit is read
-//! once at most.
+//! The two passes over the end of a list. Both stop at the first digit that is kept, so for each access but the last a
+//! digit is removed. If adding one exceeds the limit, no digit is removed, and each one is read at most once.
 ghost use Rattle.std.specs.Prelude.{◌≡◌, ◌+◌, ◌^◌, ◌<◌, ◌≤◌, length, slice_index, IfSome, IfNone};
 ghost use Rattle.decimal_digits.specs.Counted.{list_of, accesses_of, Continues, OnlyReads};
 ghost use Rattle.decimal_digits.specs.Digits.{number_at, IsStripped};
@@ -8,7 +7,7 @@ ghost use Rattle.decimal_digits.specs.Remainders.{leading};
 
 use crate::digits::{Counted, DigitStore};
 
-/// Drops the zeros at the end.
+/// Removes the trailing zeros.
 pub fn strip_trailing_zeros<D: DigitStore>(counted: &mut Counted<'_, D>)
     requires { 0 < slice_index (D.digits (list_of counted.old)) 0 }
     ensures value { let places = length (D.digits (list_of counted.old)) in
@@ -26,11 +25,10 @@ pub fn strip_trailing_zeros<D: DigitStore>(counted: &mut Counted<'_, D>)
     counted.truncate(len - zeros);
 }
 
-/// Adds one to the number of the first `places` digits, drops the others and the zeros that this leaves, and says how
-/// many places the digits have then.
+/// Adds one to the number of the first `places` digits, removes the other digits and the trailing zeros, and returns
+/// the number of places of the result.
 ///
-/// They have one place more than before where there were nines alone. None: that is more than there is room for. The
-/// list then stays as it was.
+/// It has one place more if the digits are all 9. None if that is more than `max_places`; the list is then unchanged.
 pub fn add_one<D: DigitStore>(
     counted: &mut Counted<'_, D>,
     places: usize,

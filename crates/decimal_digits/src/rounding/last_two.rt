@@ -7,7 +7,7 @@ ghost use Rattle.decimal_digits.specs.Remainders.{leading};
 use crate::digits::{Counted, DigitStore};
 use std::alloc::AllocError;
 
-/// Gives the digit at an index, and 0 past the end.
+/// Returns the digit at an index, or 0 after the last one.
 fn digit_at<D: DigitStore>(counted: &mut Counted<'_, D>, index: usize) -> u8
     ensures value { result ≡ slice_index (D.digits (list_of counted.old)) index }
     ensures is_digit { result < 10 }
@@ -20,7 +20,7 @@ fn digit_at<D: DigitStore>(counted: &mut Counted<'_, D>, index: usize) -> u8
     }
 }
 
-/// Gives the last two of the first `keep` digits, where zeros follow the list.
+/// Returns the last two of the first `keep` digits, where zeros follow the list.
 pub fn last_two_of<D: DigitStore>(counted: &mut Counted<'_, D>, keep: usize) -> u8
     ensures last_two { result < 100 }
     ensures value { leading keep (D.digits (list_of counted.old))
@@ -40,10 +40,11 @@ pub fn last_two_of<D: DigitStore>(counted: &mut Counted<'_, D>, keep: usize) -> 
     10 * digit_at(counted, keep - 2) + ones
 }
 
-/// Puts a digit behind the first `index`, and drops what followed them.
+/// Keeps the first `index` digits, and appends a digit.
 ///
-/// Err: memory was refused, which needs that no digit followed and that the list has as many as are held without
-/// memory. The list then stays as it was.
+/// # Errors
+///
+/// Out of memory; possible only if `index` is the number of digits, and at least `L`. The list is then unchanged.
 fn truncate_and_push<D: DigitStore>(
     counted: &mut Counted<'_, D>,
     index: usize,
@@ -69,10 +70,13 @@ fn truncate_and_push<D: DigitStore>(
     Ok(())
 }
 
-/// Puts a number of two digits, of which the first may be 0, in the place of the last two of the first `keep`.
+/// Replaces the last two of the first `keep` digits by a number of two digits, of which the first may be 0.
 ///
-/// No zero is written behind the last digit. Err: memory was refused, which needs that the list gets longer than it was
-/// and has as many digits as are held without memory. It then stays as it was.
+/// No trailing zero is written.
+///
+/// # Errors
+///
+/// Out of memory; possible only if the list gets longer and has at least `L` digits. It is then unchanged.
 pub fn write_last_two<D: DigitStore>(
     counted: &mut Counted<'_, D>,
     keep: usize,
@@ -104,9 +108,9 @@ pub fn write_last_two<D: DigitStore>(
     Ok(())
 }
 
-/// Makes the list the digits of a number up to 100, and says how many places they have.
+/// Replaces the list by the digits of a number up to 100, without trailing zeros, and returns its number of places.
 ///
-/// None: these are more than there is room for. The list then stays as it was.
+/// None if that is more than `max_places`; the list is then unchanged.
 pub fn write_number<D: DigitStore>(
     counted: &mut Counted<'_, D>,
     number: u8,
@@ -141,7 +145,7 @@ pub fn write_number<D: DigitStore>(
     Some(places)
 }
 
-/// Counts the digits of a number up to 100, and none of 0.
+/// Counts the digits of a number up to 100, of which 0 has none.
 fn digit_count(number: u8) -> usize
     requires { number ≤ 100 }
     ensures none { number ≡ 0 → result ≡ 0 }

@@ -1,26 +1,27 @@
-//! What is left below a place, and which way a mode goes by it.
+//! Remainders, and how the modes round by them.
 ghost use Rattle.std.specs.Prelude.{◌≡◌, ℕ, ◌+◌, ◌*◌, ◌/◌, ◌%◌, ◌<◌, ◌≤◌, ◌==◌};
 ghost use Rattle.decimal_digits.specs.Rounding.{step_of};
 ghost use Rattle.decimal_digits.specs.Remainders.{RemainderIs, RoundsTo, rounds_up_of};
 
 use super::{RoundingIncrement, UnsignedRoundingMode};
 
-/// What is left over, compared with half of a unit.
+/// A remainder, compared with half of the unit.
 ///
-/// The numbers are quarters of the unit, where 1 and 3 stand for all that lies between nothing, half and the whole.
+/// The discriminants are quarters of the unit, where 1 and 3 stand for all remainders between 0, half and the whole
+/// unit.
 #[derive(Clone, Copy, PartialEq, Eq)]
 pub enum Remainder {
-    /// Nothing.
+    /// The remainder is 0.
     Zero = 0,
-    /// Less than half.
+    /// It is less than half.
     BelowHalf = 1,
-    /// Half.
+    /// It is half.
     Half = 2,
-    /// More than half.
+    /// It is more than half.
     AboveHalf = 3,
 }
 
-/// Gives an increment as a number.
+/// Returns an increment as a number.
 fn step(increment: RoundingIncrement) -> u8
     ensures { result ≡ step_of increment }
 {
@@ -32,9 +33,9 @@ fn step(increment: RoundingIncrement) -> u8
     }
 }
 
-/// Splits a number by an increment: gives what is left over, and whether the quotient is odd.
+/// Divides a number by an increment: returns the remainder, and whether the quotient is odd.
 ///
-/// Each increment has a division of its own, for one by a constant is far faster than one by a number in a variable.
+/// Each increment has its own division, since a division by a constant is far faster than one by a variable.
 #[inline]
 fn split_by(increment: RoundingIncrement, number: u8) -> (u8, bool)
     ensures rest { result.0 ≡ number % step_of increment }
@@ -48,7 +49,7 @@ fn split_by(increment: RoundingIncrement, number: u8) -> (u8, bool)
     }
 }
 
-/// Compares `rest` of a place, and the tail below it, with half of `step` of that place.
+/// Compares `rest` units, and the remainder below them, with half of `step` units.
 fn combine_remainders(step: u8, rest: u8, remainder: Remainder) -> Remainder
     requires small { step ≤ 25 }
     requires rest { rest < step }
@@ -67,7 +68,7 @@ fn combine_remainders(step: u8, rest: u8, remainder: Remainder) -> Remainder
     }
 }
 
-/// Tells whether the mode takes the multiple above, by what is left of the unit and by the quotient's parity.
+/// Returns whether the mode rounds up, by the remainder and by whether the quotient is odd.
 pub fn rounds_up(mode: UnsignedRoundingMode, left: Remainder, odd: bool) -> bool
     ensures { result ≡ rounds_up_of mode left odd }
 {
@@ -83,9 +84,9 @@ pub fn rounds_up(mode: UnsignedRoundingMode, left: Remainder, odd: bool) -> bool
     }
 }
 
-/// Rounds the last two digits that are kept, by the tail below them; 100 is a carry.
+/// Rounds the last two digits that are kept, by the remainder below them; 100 is a carry.
 ///
-/// They decide alone, for 100 is an even number of steps.
+/// The digits above them do not matter, since 100 is an even multiple of each increment.
 pub fn round_last_two(
     last_two: u8,
     remainder: Remainder,

@@ -1,4 +1,4 @@
-//! Rounding of the digits that are kept, by what follows them.
+//! Rounding of the digits that are kept, by those that follow.
 ghost use Rattle.std.specs.Prelude.{◌≡◌, ℕ, ◌+◌, ◌-◌, ◌^◌, ◌<◌, ◌≤◌, ◌↔◌, length, drop, slice_index, IsErrOf, IfOk, IfErr, IfSome, IfNone, OnErr};
 ghost use Rattle.decimal_digits.specs.Counted.{list_of, accesses_of, Continues, OnlyReads};
 ghost use Rattle.decimal_digits.specs.Digits.{number_at, IsStripped};
@@ -11,10 +11,12 @@ use super::remainder::{Remainder, round_last_two, rounds_up};
 use super::{RoundError, RoundingIncrement, UnsignedRoundingMode};
 use crate::digits::{Counted, DigitStore};
 
-/// Compares what follows the first `keep` digits with half of a unit of the last of them. One digit tells it.
+/// Compares the digits after the first `keep` with half of a unit of the last of these.
+///
+/// One digit access is enough, since the list has no trailing zeros.
 pub fn remainder_after<D: DigitStore>(counted: &mut Counted<'_, D>, keep: usize) -> Remainder
     requires { IsStripped (D.digits (list_of counted.old)) }
-    // Whatever the number of places is, from the first digit down.
+    // For any number of places from the first digit down.
     ensures remainder { let digits = D.digits (list_of counted.old) in (top : ℕ) → length digits ≤ top
         → RemainderIs result (number_at (top - keep) (drop keep digits)) (10 ^ (top - keep)) }
     ensures exact { (result ≡ Remainder.Zero) ↔ (length (D.digits (list_of counted.old)) ≤ keep) }
@@ -31,7 +33,7 @@ pub fn remainder_after<D: DigitStore>(counted: &mut Counted<'_, D>, keep: usize)
     }
 }
 
-/// Keeps the first `keep` digits as they are, and drops the zeros at their end. The last of them is given.
+/// Keeps the first `keep` digits, of which `last` is the last one, and removes the trailing zeros.
 fn keep_leading<D: DigitStore>(counted: &mut Counted<'_, D>, keep: usize, last: u8)
     requires fewer { keep < length (D.digits (list_of counted.old)) }
     requires last { 0 < keep → last ≡ slice_index (D.digits (list_of counted.old)) (keep - 1) }
@@ -49,7 +51,7 @@ fn keep_leading<D: DigitStore>(counted: &mut Counted<'_, D>, keep: usize, last: 
     }
 }
 
-/// Gives the last of the first `keep` digits, and 0 where none is kept.
+/// Returns the last of the first `keep` digits, or 0 if `keep` is 0.
 fn last_of<D: DigitStore>(counted: &mut Counted<'_, D>, keep: usize) -> u8
     requires { keep ≤ length (D.digits (list_of counted.old)) }
     ensures last { 0 < keep → result ≡ slice_index (D.digits (list_of counted.old)) (keep - 1) }
@@ -60,10 +62,11 @@ fn last_of<D: DigitStore>(counted: &mut Counted<'_, D>, keep: usize) -> u8
     if keep > 0 { counted.get(keep - 1) } else { 0 }
 }
 
-/// Rounds the number of the first `keep` digits to a multiple of one, by the tail below them, and says how many places
-/// the digits have then.
+/// Rounds the number of the first `keep` digits to a multiple of one, by the remainder below them, and returns the
+/// number of places of the result.
 ///
-/// The last of them tells the parity alone. None: there is room for fewer places. The list then stays as it was.
+/// The last of the digits decides the parity. None if the result has more than `max_places` places; the list is then
+/// unchanged.
 fn round_by_one<D: DigitStore>(
     counted: &mut Counted<'_, D>,
     keep: usize,
@@ -104,10 +107,13 @@ fn round_by_one<D: DigitStore>(
     Some(keep)
 }
 
-/// Rounds the number of the first `keep` digits by the tail below them, and says how many places the digits have then.
+/// Rounds the number of the first `keep` digits by the remainder below them, and returns the number of places of the
+/// result.
 ///
-/// Err: there is room for fewer places; or memory was refused, which needs that by 25 the number gets a digit more than
-/// there were, and that there are as many as are held without memory. The list then stays as it was.
+/// # Errors
+///
+/// - `Limit`: the result has more than `max_places` places. The list is unchanged.
+/// - `Memory`: out of memory for one more digit; possible only by 25, with at least `L` digits. The list is unchanged.
 pub fn round_leading<D: DigitStore>(
     counted: &mut Counted<'_, D>,
     keep: usize,

@@ -6,11 +6,11 @@ use super::{Sink, SinkFault, fail, write_whole};
 use std::io::Write;
 use std::marker::Model;
 
-/// A sink over a writer: the bytes of a call are one write, and those that the writer leaves are the next.
+/// A sink over a writer. `put_bytes` is one write, and one more for the bytes that a write leaves.
 ///
-/// An answer of 0 bytes or an error is a fault, after which the writer is not called again. Contracts see the writer,
-/// and whether the sink has failed. Over a `Vec<u8>`, `Out` takes the bytes of a number's text, and `into_writer` gives
-/// the vector back. Not in the original, which writes to a `core::fmt::Write`.
+/// A write of 0 bytes is a failure, as an error is, after which the writer is not called again. Contracts see the
+/// writer, and whether the sink has failed. Over a `Vec<u8>`, `into_writer` returns the vector with the text of the
+/// numbers.
 #[derive(Debug, Drop)]
 pub struct Out<W: Write> {
     writer: W,
@@ -24,7 +24,7 @@ impl<W: Write> Model for Out<W> {
 }
 
 impl<W: Write> Out<W> {
-    /// Makes a sink over a writer. The sink has taken what the writer holds.
+    /// Makes a sink over a writer. The contents of the writer are those of the sink.
     pub fn new(writer: W) -> Self
         ensures { result ≡ (writer, false) }
     {
@@ -34,10 +34,12 @@ impl<W: Write> Out<W> {
         }
     }
 
-    /// Hands on what the writer holds back, as a buffer does. The bytes that were taken stay.
+    /// Flushes the writer. The contents are unchanged.
     ///
-    /// Err: the sink has failed before, and the writer is not called; or the writer's flush fails, and the sink has
-    /// then failed. Not in the original.
+    /// # Errors
+    ///
+    /// - The sink has failed before. The writer is not called.
+    /// - The flush of the writer fails. The sink has then failed.
     pub fn flush(&mut self) -> Result<(), SinkFault>
         ensures keeps { Keeps (W.contents self.old.0) (W.contents self.new.0) }
         ensures had_not_failed { OnOk result (self.old.1 ≡ false) }
@@ -50,7 +52,7 @@ impl<W: Write> Out<W> {
         Ok(())
     }
 
-    /// Gives the writer back, whether the sink has failed or not.
+    /// Returns the writer, whether or not the sink has failed.
     pub fn into_writer(self) -> W
         ensures { result ≡ self.0 }
     {

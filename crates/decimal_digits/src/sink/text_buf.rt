@@ -5,13 +5,13 @@ use super::{Sink, SinkFault, fail};
 use std::alloc::{AllocError, Global};
 use std::marker::Model;
 
-/// The bytes that the first growth makes room for: more than most texts have, so that these take one allocation.
+/// The number of bytes that the first growth reserves: more than most texts have, so that these take one allocation.
 const MIN_CAPACITY: usize = 64;
 
-/// A sink that keeps the bytes in memory. It fails only where its growth is refused.
+/// A sink that keeps the bytes in memory. It fails only if out of memory.
 ///
 /// Contracts see the bytes and whether the sink has failed. After a number is written to `TextBuf::new(alloc)`,
-/// `as_bytes` gives its text. Not in the original, which writes into a `String`.
+/// `as_bytes` returns its text.
 #[derive(Debug, Drop)]
 pub struct TextBuf {
     bytes: Vec<u8>,
@@ -25,7 +25,7 @@ impl Model for TextBuf {
 }
 
 impl TextBuf {
-    /// Makes an empty sink, and asks for no memory.
+    /// Makes an empty sink, without an allocation.
     pub fn new(alloc: Global) -> Self
         ensures { result ≡ ([], false) }
     {
@@ -35,7 +35,7 @@ impl TextBuf {
         }
     }
 
-    /// Gives the bytes that were taken, in order.
+    /// Returns the bytes that were written, in order.
     pub fn as_bytes(&self) -> &[u8]
         ensures { result.now ≡ self.now.0 }
     {
@@ -43,7 +43,7 @@ impl TextBuf {
     }
 }
 
-/// Makes room for so many more bytes. A growth makes room for at least as many as there are.
+/// Reserves room for `count` more bytes. A growth reserves room for at least as much as there is.
 fn reserve_amortized(bytes: &mut Vec<u8>, count: usize) -> Result<(), AllocError>
     ensures items { bytes.new.items ≡ bytes.old.items }
     ensures room { OnOk result (vec_len bytes.new + count ≤ vec_capacity bytes.new) }
@@ -54,7 +54,7 @@ fn reserve_amortized(bytes: &mut Vec<u8>, count: usize) -> Result<(), AllocError
     bytes.reserve(count.max(bytes.len()).max(MIN_CAPACITY))
 }
 
-/// Appends a byte, or none where memory is refused.
+/// Appends a byte, or nothing if out of memory.
 fn push(bytes: &mut Vec<u8>, byte: u8) -> Result<(), AllocError>
     ensures ok { OnOk result (bytes.new.items ≡ bytes.old.items ++ byte ∷ []) }
     ensures err { OnErr result (bytes.new.items ≡ bytes.old.items) }
@@ -64,7 +64,7 @@ fn push(bytes: &mut Vec<u8>, byte: u8) -> Result<(), AllocError>
     Ok(())
 }
 
-/// Appends bytes, or none of them where memory is refused.
+/// Appends bytes, or nothing if out of memory.
 fn append(bytes: &mut Vec<u8>, more: &[u8]) -> Result<(), AllocError>
     ensures ok { OnOk result (bytes.new.items ≡ bytes.old.items ++ more.now) }
     ensures err { OnErr result (bytes.new.items ≡ bytes.old.items) }

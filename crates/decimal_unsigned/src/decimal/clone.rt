@@ -11,9 +11,11 @@ impl<D: DigitStore> Clone for UnsignedOver<D> {
 
     ghost is_infallible = { λ value. size value.number ≤ D.L };
 
-    /// Makes a second value that equals this one.
+    /// Makes a second, equal value: that of `01.50` prints `01.50`.
     ///
-    /// The copy of `01.50` prints `01.50`. Err: memory for more than `L` digits was refused. The original's `Clone`.
+    /// # Errors
+    ///
+    /// Out of memory; possible only with more than `L` digits.
     fn clone(&self) -> Result<Self, AllocError> {
         let digits = self.digits.clone()?;
         Ok(UnsignedOver {

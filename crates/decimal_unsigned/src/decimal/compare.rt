@@ -1,4 +1,4 @@
-//! The order of two values, by their numbers.
+//! The order of the numbers of two values.
 ghost use Rattle.std.specs.Prelude.{◌≡◌};
 ghost use Rattle.std.specs.Cmp.Lexicographic.{slice_cmp};
 ghost use Rattle.std.specs.Ordering.{nat_cmp};
@@ -9,8 +9,8 @@ use super::UnsignedOver;
 use decimal_digits::digits::DigitStore;
 use std::cmp::Ordering;
 
-/// Compares two lists of digits by the first that differ; where all of one are the first of the other, the longer one
-/// is greater. No list ends in 0.
+/// Compares two lists of digits by the first digits that differ; if one is a prefix of the other, the longer one is
+/// greater. Neither list ends in 0.
 fn compare_digits<D: DigitStore, E: DigitStore>(digits: &D, other: &E) -> Ordering
     requires stripped { IsStripped (D.digits digits.now) }
     requires other_stripped { IsStripped (E.digits other.now) }
@@ -30,10 +30,10 @@ fn compare_digits<D: DigitStore, E: DigitStore>(digits: &D, other: &E) -> Orderi
 }
 
 impl<D: DigitStore> UnsignedOver<D> {
-    /// Compares the numbers of two values, over any two stores, and not the zeros that they show.
+    /// Compares the numbers of two values, over any two lists of digits; the zeros that are shown do not matter.
     ///
-    /// `0.5` is less than `2`, and `1.0` and `1` are `Equal`. It is not `Ord`, which would have to tell apart what `==`
-    /// tells apart: two values are equal where their texts are. It asks for no memory. Not in the original.
+    /// `0.5` is less than `2`, and `1.0` and `1` are `Equal`. It is not `Ord`, which has to agree with `==`, the
+    /// equality of texts. It does not allocate.
     pub fn compare<E: DigitStore>(&self, other: &UnsignedOver<E>) -> Ordering
         ensures order { result ≡ nat_cmp self.now.number other.now.number }
         ensures valid { IsValue self.now × IsValue other.now }

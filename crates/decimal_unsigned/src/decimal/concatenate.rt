@@ -11,16 +11,17 @@ use decimal_digits::ops::count_between;
 use std::alloc::AllocError;
 
 impl<D: DigitStore> UnsignedOver<D> {
-    /// Joins another number to the end of this one: the numbers are added, and what either shows stays shown.
+    /// Joins another number to the end of this one: adds the numbers, and shows the magnitudes of both.
     ///
-    /// `123000` and `456` give `123456`, `5` and `0.00` give `5.00`. Where this number is 0, the digits of the other
-    /// are moved in, and no memory is asked for.
+    /// `123000` and `456` give `123456`, `5` and `0.00` give `5.00`. If this number is 0, the digits of the other are
+    /// moved, without an allocation. Law: [`crate::laws::concatenation_is_associative`].
     ///
-    /// Err: `Overlap` where neither number is 0 and the last digit of this one that is not 0 stands at or below the
-    /// first of the other, as in `120` and `25`; else `Memory` where neither is 0 and memory for more than `L` joined
-    /// digits, zeros between them included, was refused. Either hands the other back, and this value stays as it was.
-    /// Law: [`crate::laws::concatenation_is_associative`]. The original's `concatenate_end`, whose error is the other
-    /// alone.
+    /// # Errors
+    ///
+    /// - `Overlap`: neither number is 0, and the last nonzero digit of this one is at or below the first of the other,
+    ///   as in `120` and `25`. The other is returned, and this value is unchanged.
+    /// - `Memory`: out of memory; possible only if neither number is 0, and the joined digits, with the zeros between
+    ///   them, are more than `L`. The other is returned, and this value is unchanged.
     pub fn concatenate_end(&mut self, other: Self) -> Result<(), ConcatenateError<Self>>
         ensures ok { OnOk result (self.new ≡ concatenated_end self.old other) }
         ensures overlap { (result ≡ Err (ConcatenateError.Overlap other))
@@ -29,7 +30,7 @@ impl<D: DigitStore> UnsignedOver<D> {
             → ConcatenationNeedsMemory D.L self.old other }
         ensures succeeds { IsFalse (overlaps self.old other)
             → ¬ ConcatenationNeedsMemory D.L self.old other → IsOk result }
-        // Numbers of which the second begins below the last digit of the first are joined, or want memory.
+        // If the first nonzero digit of the second is below the last one of the first, they do not overlap.
         ensures disjoint { first other.number <ℤ last self.old.number
             → result ≢ Err (ConcatenateError.Overlap other) }
         ensures fits { first other.number <ℤ last self.old.number
@@ -54,10 +55,11 @@ impl<D: DigitStore> UnsignedOver<D> {
         }
     }
 
-    /// Joins another number to the end of this one: `concatenate_end` on values.
+    /// Joins another number to the end of this one, as `concatenate_end`, by value.
     ///
-    /// Err: `Overlap` or `Memory` as there, with both values as they were, this one first. The original's
-    /// `concatenated_end`.
+    /// # Errors
+    ///
+    /// As for [`Self::concatenate_end`], with both values, unchanged, this one first.
     pub fn concatenated_end(mut self, other: Self) -> Result<Self, ConcatenateError<(Self, Self)>>
         ensures ok { IfOk result (λ v. v ≡ concatenated_end self other) }
         ensures overlap { (result ≡ Err (ConcatenateError.Overlap (self, other)))
@@ -78,7 +80,7 @@ impl<D: DigitStore> UnsignedOver<D> {
         }
     }
 
-    /// Whether the other number has a digit that is not 0 at or above the last one of this number.
+    /// Returns whether neither number is 0, and the other has a nonzero digit at or above the last one of this number.
     #[tactic(auto, unfolding(crate::specs::Concatenation::overlaps))]
     fn overlaps(&self, other: &Self) -> bool
         ensures { result ≡ overlaps self.now other.now }
@@ -105,7 +107,7 @@ impl<D: DigitStore> UnsignedOver<D> {
         self.magnitude = magnitude;
     }
 
-    /// Appends the digits of a number that begins below the last digit of this one.
+    /// Appends the digits of a number whose first nonzero digit is below the last one of this number.
     fn append(&mut self, other: &Self) -> Result<(), AllocError>
         requires first_is_nonzero { 0 < self.old.number }
         requires second_is_nonzero { 0 < other.now.number }
@@ -123,7 +125,7 @@ impl<D: DigitStore> UnsignedOver<D> {
         Ok(())
     }
 
-    /// Counts the magnitudes between the last digit of this number and the first of another.
+    /// Counts the magnitudes between the last nonzero digit of this number and the first of another.
     fn zeros_before(&self, other: &Self) -> usize
         requires { first other.now.number <ℤ last self.now.number }
         ensures { last self.now.number ≡ first other.now.number +ℤ pos (result + 1) }
@@ -135,7 +137,7 @@ impl<D: DigitStore> UnsignedOver<D> {
             - 2
     }
 
-    /// Shows the magnitudes of another value too.
+    /// Extends the range to the magnitudes that another value shows.
     fn widen(&mut self, other: &Self)
         ensures { self.new ≡ record self.old
             { hi = int_max self.old.hi other.now.hi; lo = int_min self.old.lo other.now.lo } }

@@ -1,4 +1,4 @@
-//! The text of a value, for `{}`.
+//! The formatted value, for `{}`.
 ghost use Rattle.std.specs.Prelude.{Some};
 ghost use Rattle.decimal_unsigned.specs.Text.{text};
 
@@ -13,9 +13,7 @@ impl<D: DigitStore> fmt::Display for UnsignedOver<D> {
 
     ghost styled_output = { λ v _. Some (text v) };
 
-    /// Writes the text that `write_to` appends, and looks at no option of the format: `{:8}` writes `2.50` too.
-    ///
-    /// Err: the formatter refused a character. The original's `Display`.
+    /// Writes the text that `write_to` appends. Format options are ignored: `{:8}` also writes `2.50`.
     fn fmt<W: fmt::Write>(&self, f: &mut fmt::Formatter<W>) -> fmt::Result {
         let length = self.writeable_length_hint();
         let mut written = 0;
@@ -23,7 +21,7 @@ impl<D: DigitStore> fmt::Display for UnsignedOver<D> {
             let mut block = [b'0'; BLOCK];
             let piece = &mut block[..BLOCK.min(length - written)];
             self.copy_text(written, piece);
-            // SAFETY: digits and a dot are ASCII, which is proved here.
+            // SAFETY: digits and a decimal point are ASCII, which is proved here.
             f.write_str(unsafe { str::from_utf8_unchecked(piece) })?;
             written += piece.len();
         }

@@ -1,4 +1,4 @@
-//! Which values are equal.
+//! The equality of values.
 ghost use Rattle.std.specs.Prelude.{◌≡◌, ◌↔◌, IsTrue};
 ghost use Rattle.decimal_unsigned.specs.Text.{text};
 ghost use Rattle.decimal_unsigned.specs.Unsigned.{same, same_laws, IsValue};
@@ -11,9 +11,9 @@ impl<D: DigitStore> PartialEq for UnsignedOver<D> {
 
     ghost laws = { same_laws };
 
-    /// Tells whether two values have the same number and show the same magnitudes, so that their texts are equal.
+    /// Returns whether two values have the same number and show the same magnitudes, so that their texts are equal.
     ///
-    /// `1.0` and `1` are not equal. The original's `PartialEq`.
+    /// `1.0` and `1` are not equal.
     fn eq(&self, other: &Self) -> bool
         ensures same { result ≡ same self.now other.now }
         ensures value { IsTrue result ↔ (self.now ≡ other.now) }

@@ -10,7 +10,7 @@ use decimal_digits::ops::{at_least_zero, subtract_counts};
 use decimal_digits::uint_iterator::{IntIterator, MAX_DIGITS, UnsignedInteger};
 use std::alloc::{AllocError, Global};
 
-/// Writes the digits of an integer, to the end of the places: gives the index of the first one.
+/// Writes the digits of an integer to the end of the buffer, and returns the index of the first one.
 fn write_integer_digits<T: UnsignedInteger>(integer: T, buffer: &mut [u8; MAX_DIGITS]) -> usize
     requires { T.number integer < 2 ^ 128 }
     ensures within { result ≤ length buffer.old }
@@ -24,7 +24,7 @@ fn write_integer_digits<T: UnsignedInteger>(integer: T, buffer: &mut [u8; MAX_DI
     start
 }
 
-/// The index behind the last digit that is not 0, or 0.
+/// Returns the index after the last nonzero digit, or 0 if there is none.
 fn trimmed_len(digits: &[u8]) -> usize
     ensures within { result ≤ length digits.now }
     ensures zeros { (k : ℕ) → result ≤ k → slice_index digits.now k ≡ 0 }
@@ -39,18 +39,16 @@ fn trimmed_len(digits: &[u8]) -> usize
 }
 
 impl<D: DigitStore> UnsignedOver<D> {
-    /// Makes the number 1, which shows magnitude 0 alone, and asks for no memory.
-    ///
-    /// Its text is `1`. In the place of the original's `ONE`.
+    /// Makes the number 1, which prints `1`, without an allocation.
     pub fn one(alloc: Global) -> Self
         ensures { result ≡ one_value }
     {
         Self::from_u8(alloc, 1)
     }
 
-    /// Makes the value of a `u8`, and asks for no memory.
+    /// Makes the value of a `u8`, without an allocation: 200 prints `200`.
     ///
-    /// 200 prints `200`, and shows magnitudes up to 2 at most. In the place of the original's `From<u8>`.
+    /// Its highest magnitude is at most 2.
     pub fn from_u8(alloc: Global, integer: u8) -> Self
         ensures value { result ≡ integer_value integer }
         ensures range { (result.hi ≤ℤ pos 2) × (result.lo ≡ pos 0) }
@@ -58,9 +56,9 @@ impl<D: DigitStore> UnsignedOver<D> {
         Self::from_u16(alloc, integer as u16)
     }
 
-    /// Makes the value of a `u16`, and asks for no memory.
+    /// Makes the value of a `u16`, without an allocation: 65535 prints `65535`.
     ///
-    /// 65535 prints `65535`, and shows magnitudes up to 4 at most. In the place of the original's `From<u16>`.
+    /// Its highest magnitude is at most 4.
     pub fn from_u16(alloc: Global, integer: u16) -> Self
         ensures value { result ≡ integer_value integer }
         ensures range { (result.hi ≤ℤ pos 4) × (result.lo ≡ pos 0) }
@@ -68,10 +66,11 @@ impl<D: DigitStore> UnsignedOver<D> {
         Self::from_integer(alloc, integer).unwrap()
     }
 
-    /// Makes the value of a `u32`, which shows magnitudes up to 9 at most: 250 prints `250`.
+    /// Makes the value of a `u32`: 250 prints `250`. Its highest magnitude is at most 9.
     ///
-    /// Err: memory for more than `L` digits was refused; the zeros at the end of the integer are not counted. In the
-    /// place of the original's `From<u32>`.
+    /// # Errors
+    ///
+    /// Out of memory; possible only with more than `L` digits, trailing zeros not counted.
     #[inline]
     pub fn try_from_u32(alloc: Global, integer: u32) -> Result<Self, AllocError>
         ensures value { IfOk result (λ v. v ≡ integer_value integer) }
@@ -81,10 +80,11 @@ impl<D: DigitStore> UnsignedOver<D> {
         Self::from_integer::<u32>(alloc, integer)
     }
 
-    /// Makes the value of a `u64`, which shows magnitudes up to 19 at most: 250 prints `250`.
+    /// Makes the value of a `u64`: 250 prints `250`. Its highest magnitude is at most 19.
     ///
-    /// Err: memory for more than `L` digits was refused; the zeros at the end of the integer are not counted. In the
-    /// place of the original's `From<u64>`.
+    /// # Errors
+    ///
+    /// As for [`Self::try_from_u32`].
     #[inline]
     pub fn try_from_u64(alloc: Global, integer: u64) -> Result<Self, AllocError>
         ensures value { IfOk result (λ v. v ≡ integer_value integer) }
@@ -94,10 +94,11 @@ impl<D: DigitStore> UnsignedOver<D> {
         Self::from_integer::<u64>(alloc, integer)
     }
 
-    /// Makes the value of a `u128`, which shows magnitudes up to 38 at most: 250 prints `250`.
+    /// Makes the value of a `u128`: 250 prints `250`. Its highest magnitude is at most 38.
     ///
-    /// Err: memory for more than `L` digits was refused; the zeros at the end of the integer are not counted. In the
-    /// place of the original's `From<u128>`.
+    /// # Errors
+    ///
+    /// As for [`Self::try_from_u32`].
     #[inline]
     pub fn try_from_u128(alloc: Global, integer: u128) -> Result<Self, AllocError>
         ensures value { IfOk result (λ v. v ≡ integer_value integer) }
@@ -107,10 +108,11 @@ impl<D: DigitStore> UnsignedOver<D> {
         Self::from_integer::<u128>(alloc, integer)
     }
 
-    /// Makes the value of a `usize`, which shows magnitudes up to 19 at most: 250 prints `250`.
+    /// Makes the value of a `usize`: 250 prints `250`. Its highest magnitude is at most 19.
     ///
-    /// Err: memory for more than `L` digits was refused; the zeros at the end of the integer are not counted. In the
-    /// place of the original's `From<usize>`.
+    /// # Errors
+    ///
+    /// As for [`Self::try_from_u32`].
     #[inline]
     pub fn try_from_usize(alloc: Global, integer: usize) -> Result<Self, AllocError>
         ensures value { IfOk result (λ v. v ≡ integer_value integer) }
@@ -120,7 +122,7 @@ impl<D: DigitStore> UnsignedOver<D> {
         Self::from_integer::<usize>(alloc, integer)
     }
 
-    /// The value of an integer.
+    /// Makes the value of an integer.
     #[inline]
     fn from_integer<T: UnsignedInteger>(alloc: Global, integer: T) -> Result<Self, AllocError>
         requires { T.number integer < 2 ^ 128 }
@@ -133,9 +135,10 @@ impl<D: DigitStore> UnsignedOver<D> {
         Self::from_digits(alloc, &buffer[start..])
     }
 
-    /// The value of the integer that digits write, the first of which is not 0.
+    /// Makes the value of an integer from its digits, the first of which is not 0.
     ///
-    /// Behind a call its parts would be stored one by one and copied together, for which the processor waits.
+    /// Inlined always: returned from a call, the fields would be stored one by one and copied together, and the
+    /// processor waits for that.
     #[inline(always)]
     fn from_digits(alloc: Global, digits: &[u8]) -> Result<Self, AllocError>
         requires digits { All (λ d. d < 10) digits.now }

@@ -1,4 +1,4 @@
-//! Reading a value from a text: every fault is decided before memory is asked for.
+//! Parsing of a value. `Syntax` and `Limit` are decided before any allocation.
 ghost use Rattle.std.specs.Prelude.{◌≡◌, ◌≢◌, ◌+◌, ◌-◌, ◌<◌, ◌≤◌, ◌++◌, length, IfSome, IfOk, IfErr, Ok, Err, IsOk, IsOkAnd};
 ghost use Rattle.std.specs.Str.Parse.{AllDigits};
 ghost use Rattle.decimal_digits.specs.Number.{size};
@@ -22,10 +22,10 @@ use plan::{Plan, planned};
 use std::alloc::{AllocError, Global};
 use std::marker::Model;
 
-/// What a text writes, found without memory.
+/// The parts of a text, and where its digits are in the value, found without an allocation.
 ///
-/// Contracts see the value that `value` makes. Where several texts are read, scanning all of them first tells every
-/// fault but want of memory before a digit is stored. A scan borrows its text. Not in the original.
+/// Contracts see the value that `value` makes. To parse several texts, scan all of them first: every error except out
+/// of memory is then reported before a digit is stored. A scan borrows its text.
 #[derive(Debug, Drop)]
 pub struct Scan<'a> {
     parts: Parts<'a>,
@@ -47,10 +47,13 @@ impl<'a> Model for Scan<'a> {
 }
 
 impl<'a> Scan<'a> {
-    /// Finds what a text writes, and asks for no memory.
+    /// Scans a text, without an allocation.
     ///
-    /// `012.50` is found, and `5.` is refused. Err: `Syntax` or `Limit`, as `try_from_utf8` answers. Law:
-    /// [`crate::laws::reading_follows_grammar`]. Not in the original.
+    /// `012.50` is accepted, and `5.` is `Syntax`. Law: [`crate::laws::reading_follows_grammar`].
+    ///
+    /// # Errors
+    ///
+    /// `Syntax` or `Limit`, as for [`UnsignedOver::try_from_utf8`].
     pub fn new(text: &'a [u8]) -> Result<Scan<'a>, ParseError>
         ensures value { IfOk result (λ s. read text.now ≡ Ok s) }
         ensures rejects { IfErr result (λ e. ParseFails ⊥ e (read text.now)) }
@@ -64,9 +67,9 @@ impl<'a> Scan<'a> {
         Ok(Scan { parts, plan })
     }
 
-    /// Gives the lowest magnitude that the value shows.
+    /// Returns the lowest magnitude that the value shows.
     ///
-    /// Of `1.50` it is -2, of `100e-2` it is -2, of `5.0e1` it is 0. Not in the original.
+    /// Of `1.50` it is -2, of `100e-2` it is -2, of `5.0e1` it is 0.
     #[inline]
     pub fn lowest(&self) -> i16
         ensures { result ≡ self.now.lo }
@@ -74,10 +77,11 @@ impl<'a> Scan<'a> {
         self.plan.bounds.lo
     }
 
-    /// Makes the value that the text writes.
+    /// Makes the value of the text: that of `012.50` prints `012.50`.
     ///
-    /// Of `012.50` it is the value that prints `012.50`. Err: memory for more than `L` digits was refused; the scan
-    /// stays as it is, and may be asked again. Not in the original.
+    /// # Errors
+    ///
+    /// Out of memory; possible only with more than `L` digits. The scan can be used again.
     pub fn value<D: DigitStore>(&self, alloc: Global) -> Result<UnsignedOver<D>, AllocError>
         ensures value { IfOk result (λ v. v ≡ self.now) }
         ensures succeeds { size self.now.number ≤ D.L → IsOk result }
@@ -93,10 +97,13 @@ impl<'a> Scan<'a> {
     }
 }
 
-/// Gives the lowest magnitude that the value of a text shows, and asks for no memory.
+/// Returns the lowest magnitude that the value of a text shows, without an allocation.
 ///
-/// Of `1.50` it is -2, of `100e-2` it is -2, of `5.0e1` it is 0. Err: `Syntax` or `Limit`, as reading the text answers.
-/// Not in the original.
+/// Of `1.50` it is -2, of `100e-2` it is -2, of `5.0e1` it is 0.
+///
+/// # Errors
+///
+/// `Syntax` or `Limit`, as for [`UnsignedOver::try_from_utf8`].
 pub fn lowest_of(text: &[u8]) -> Result<i16, ParseError>
     ensures value { IfOk result (λ lo. IsOkAnd (read text.now) (λ v. v.lo ≡ lo)) }
     ensures rejects { IfErr result (λ e. ParseFails ⊥ e (read text.now)) }
@@ -104,7 +111,7 @@ pub fn lowest_of(text: &[u8]) -> Result<i16, ParseError>
     Ok(Scan::new(text)?.lowest())
 }
 
-/// The digits from `start` up to `end`, in two runs: that in front of the dot, and that behind it.
+/// Makes the list of the digits from index `start` to before `end`: integer digits, and then fraction digits.
 fn digits_between<D: DigitStore>(
     alloc: Global,
     parts: &Parts<'_>,
@@ -126,31 +133,33 @@ fn digits_between<D: DigitStore>(
 }
 
 impl<D: DigitStore> UnsignedOver<D> {
-    /// Reads the value that a text writes.
+    /// Parses a value.
     ///
-    /// A text is digits, or digits around a dot with at least one behind it, or either of these (then with digits
-    /// on one side of the dot or none) and an `e` or `E` with a whole number, which may have a minus or a plus in
-    /// front, but not both. All zeros count: `0012.3400` shows magnitudes 3 to -4. Behind an exponent, zeros in front
-    /// of a first digit above magnitude 0 and zeros behind a last digit below it are not shown: `1.20e0` gives `1.2`,
-    /// and `1.20e+1` gives `12.0`.
+    /// A text is digits, or digits around a decimal point with at least one fraction digit. Either can be followed by
+    /// an `e` or `E` and an integer exponent, with at most one sign, minus or plus; the decimal point then needs no
+    /// digit on either side. All zeros count: `0012.3400` shows magnitudes 3 to -4. With an exponent, leading zeros are
+    /// removed if the first nonzero digit is above magnitude 0, and trailing zeros if the last one is below it:
+    /// `1.20e0` gives `1.2`, and `1.20e+1` gives `12.0`.
     ///
-    /// Err: `Syntax` where the text is none of these; else `Limit` where a side of the dot has more than 32,768
-    /// digits, or a number other than 0 has an exponent that is no magnitude or that would move the range beyond
-    /// the magnitudes; else `Memory` where memory for more than `L` digits was refused. The original's
-    /// `try_from_utf8`.
+    /// # Errors
+    ///
+    /// - `Syntax`: the text has none of these forms.
+    /// - `Limit`: there are more than 32,768 integer or fraction digits; or, for a number other than 0, the exponent is
+    ///   outside -32768 to 32767, or moves the range outside of these magnitudes.
+    /// - `Memory`: out of memory; possible only with more than `L` digits.
     pub fn try_from_utf8(alloc: Global, text: &[u8]) -> Result<Self, ParseError>
-        // Want of memory comes only where the digits are more than are held without it.
+        // `Memory` is possible only with more digits than fit without an allocation.
         ensures parses { IsParseResult (λ v. D.L < size v.number) result (read text.now) }
-        // Syntax, Limit and the value are those of the grammar.
+        // `Syntax`, `Limit` and the value are those of the grammar.
         ensures grammar { ResultFollowsGrammar text.now result }
-        // Without an exponent only the number of digits meets the limit, and few digits want no memory.
+        // Without an exponent only the number of digits can exceed the limit, and up to `L` digits need no allocation.
         ensures plain { (w : Literal) → Grammar text.now w → IsPlain w → result ≢ Err ParseError.Limit }
         ensures at_most { (w : Literal) → Grammar text.now w → digit_count w ≤ D.L → result ≢ Err ParseError.Memory }
     {
         Self::read_from(alloc, text)
     }
 
-    /// Reads the value that a text writes: `try_from_utf8` of its bytes. The original's `try_from_str` and `FromStr`.
+    /// Parses a value, as [`Self::try_from_utf8`] of the bytes.
     pub fn try_from_str(alloc: Global, text: &str) -> Result<Self, ParseError>
         ensures parses { IsParseResult (λ v. D.L < size v.number) result (read text.now) }
         ensures grammar { ResultFollowsGrammar text.now result }
@@ -160,12 +169,12 @@ impl<D: DigitStore> UnsignedOver<D> {
         Self::try_from_utf8(alloc, text.as_bytes())
     }
 
-    /// Reads the value that a short text writes, and is faster than `try_from_utf8`: up to sixteen digits, with a dot
-    /// or without one.
+    /// Parses a short text, faster than `try_from_utf8`: up to sixteen digits, with or without a decimal point.
     ///
-    /// `012.50` is short. None where a text is longer, has an exponent or is not in the grammar, or where it has more
-    /// than `L` digits: `try_from_utf8` says why, or reads it. It asks for no memory. Not in the original.
-    // Behind a call its parts would be stored one by one and copied together, for which the processor waits.
+    /// `012.50` is short. It does not allocate. None if the text is longer, has an exponent or more than `L` digits, or
+    /// is not in the grammar: `try_from_utf8` then returns the value or the error.
+    // Inlined always: returned from a call, the fields would be stored one by one and copied together, and the
+    // processor waits for that.
     #[doc(hidden)]
     #[inline(always)]
     pub fn from_short_text(alloc: Global, text: &[u8]) -> Option<Self>
@@ -177,7 +186,7 @@ impl<D: DigitStore> UnsignedOver<D> {
         Self::from_short_parts(alloc, &split(text)?)
     }
 
-    /// The value of parts with few digits and without an exponent.
+    /// Makes the value of parts with few digits and without an exponent.
     #[inline(always)]
     fn from_short_parts(alloc: Global, parts: &Parts<'_>) -> Option<Self>
         requires digits { AllDigits 10 (parts.now.whole.now ++ parts.now.fraction.now) }
@@ -200,7 +209,7 @@ impl<D: DigitStore> UnsignedOver<D> {
         })
     }
 
-    /// The value that a text writes.
+    /// Parses a value.
     #[inline]
     fn read_from(alloc: Global, text: &[u8]) -> Result<Self, ParseError>
         ensures { IsParseResult (λ v. D.L < size v.number) result (read text.now) }
@@ -215,15 +224,15 @@ impl<D: DigitStore> UnsignedOver<D> {
         if let Some(value) = Self::from_short_parts(alloc, &written) {
             return Ok(value);
         }
-        // A `Result` handed on as it is would be copied through memory for a short text too.
+        // A `Result` that is forwarded as it is would be copied through memory for a short text too.
         match Self::from_parts(alloc, written) {
             Ok(value) => Ok(value),
             Err(error) => Err(error),
         }
     }
 
-    /// The value that a long text writes.
-    // Behind a call, so that a short text does not test whether it is one.
+    /// Parses a long text.
+    // Not inlined, so that a short text does not test whether it is long.
     #[inline(never)]
     fn scan_from(alloc: Global, text: &[u8]) -> Result<Self, ParseError>
         ensures { IsParseResult (λ v. D.L < size v.number) result (read text.now) }
@@ -231,8 +240,8 @@ impl<D: DigitStore> UnsignedOver<D> {
         Ok(Scan::new(text)?.value(alloc)?)
     }
 
-    /// The value of any parts.
-    // Behind a call it has its own place for what it makes, which a short text then does not fill with zeros.
+    /// Makes the value of any parts.
+    // Not inlined: it then has its own stack frame, which a short text does not fill with zeros.
     #[inline(never)]
     fn from_parts(alloc: Global, parts: Parts<'_>) -> Result<Self, ParseError>
         requires digits { AllDigits 10 (parts.whole.now ++ parts.fraction.now) }

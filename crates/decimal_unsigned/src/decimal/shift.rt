@@ -1,4 +1,4 @@
-//! Shifts: a value times a power of ten.
+//! Shifts: multiplication by powers of ten.
 ghost use Rattle.std.specs.Prelude.{◌≡◌, ◌<◌, ◌⊎◌, pos, negsuc, ◌+ℤ◌, ◌≤ℤ◌, ◌<ℤ◌, Some, None, IsOk, IfOk, IfErr, IfSome, IfNone, OnOk, OnErr, ◌↔◌};
 ghost use Rattle.std.specs.Int.{int_max, int_min};
 ghost use Rattle.decimal_unsigned.specs.Edits.{multiplied, multiplied_pow10, StaysInLimits};
@@ -9,12 +9,14 @@ use decimal_digits::digits::DigitStore;
 use decimal_digits::ops::{add_magnitudes, at_least_zero, at_most_zero, to_magnitude};
 
 impl<D: DigitStore> UnsignedOver<D> {
-    /// Multiplies by 10 to the power `delta`, exactly.
+    /// Multiplies by 10^`delta`, exactly.
     ///
-    /// The range moves along, and magnitude 0 stays shown. `250` by -2 is `2.50`, and `0` by 3 is `0000`.
+    /// The range is moved by `delta`, and magnitude 0 remains shown. `250` by -2 is `2.50`, and `0` by 3 is `0000`.
     ///
-    /// Err: the range would leave the magnitudes -32768 to 32767, as that of `10` by 32767 would. The value then stays
-    /// as it was, range included. The original's `multiply_pow10`, which makes such a value 0.
+    /// # Errors
+    ///
+    /// The moved range leaves the magnitudes -32768 to 32767, as that of `10` by 32767. The value is unchanged, with
+    /// its range.
     pub fn multiply_pow10(&mut self, delta: i16) -> Result<(), LimitError>
         ensures ok { OnOk result (multiplied_pow10 self.old delta ≡ Some self.new) }
         ensures limit { OnErr result (multiplied_pow10 self.old delta ≡ None) }
@@ -36,10 +38,11 @@ impl<D: DigitStore> UnsignedOver<D> {
         Ok(())
     }
 
-    /// `multiply_pow10` on a value: `250` by -2 gives `2.50`.
+    /// Multiplies as `multiply_pow10`, by value: `250` by -2 gives `2.50`.
     ///
-    /// Err: the range would leave the magnitudes -32768 to 32767; it holds the value, unchanged. The original's
-    /// `multiplied_pow10`, which gives 0 then.
+    /// # Errors
+    ///
+    /// The value, unchanged, if the moved range leaves the magnitudes -32768 to 32767.
     pub fn multiplied_pow10(mut self, delta: i16) -> Result<Self, Self>
         ensures ok { IfOk result (λ v. multiplied_pow10 self delta ≡ Some v) }
         ensures limit { OnErr result (multiplied_pow10 self delta ≡ None) }
@@ -54,9 +57,9 @@ impl<D: DigitStore> UnsignedOver<D> {
     }
 }
 
-/// Gives the range from `hi` to `lo` moved by a distance, with magnitude 0 still in it.
+/// Moves the range from `hi` to `lo` by `delta`, and extends it to magnitude 0.
 ///
-/// None where the moved range would leave the magnitudes -32768 to 32767.
+/// None if the moved range leaves the magnitudes -32768 to 32767.
 #[inline]
 fn moved_range(hi: i16, lo: i16, delta: i16) -> Option<(i16, i16)>
     requires highest { pos 0 ≤ℤ hi }

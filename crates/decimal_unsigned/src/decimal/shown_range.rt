@@ -1,4 +1,4 @@
-//! Edits of the range that is shown: trims, pads, and the part below a position.
+//! Changes of the range that is shown: trims, pads, and the remainder below a position.
 ghost use Rattle.std.specs.Prelude.{◌≡◌, ℕ, ◌<◌, ◌≤◌, length, drop, slice_index, pos, ◌+ℤ◌, ◌≤ℤ◌};
 ghost use Rattle.std.specs.Int.{int_gap};
 ghost use Rattle.decimal_digits.specs.Number.{first, last};
@@ -13,7 +13,7 @@ use decimal_digits::ops::{
 };
 
 impl<D: DigitStore> UnsignedOver<D> {
-    /// Shows the magnitudes up to this one.
+    /// Sets the highest magnitude that is shown.
     #[inline]
     pub(super) fn set_highest(&mut self, hi: i16)
         requires number { first self.old.number ≤ℤ hi }
@@ -23,7 +23,7 @@ impl<D: DigitStore> UnsignedOver<D> {
         self.hi = hi;
     }
 
-    /// Shows the magnitudes down to this one.
+    /// Sets the lowest magnitude that is shown.
     #[inline]
     pub(super) fn set_lowest(&mut self, lo: i16)
         requires number { lo ≤ℤ last self.old.number }
@@ -33,15 +33,14 @@ impl<D: DigitStore> UnsignedOver<D> {
         self.lo = lo;
     }
 
-    /// Shows no zero in front of the first digit that is not 0, magnitude 0 apart.
+    /// Removes the leading zeros above magnitude 0.
     ///
-    /// `0012.3400` becomes `12.3400`, and `0.0022` stays. Law: [`crate::laws::trimmed_is_normal_form`]. The original's
-    /// `trim_start`.
+    /// `0012.3400` becomes `12.3400`, and `0.0022` stays. Law: [`crate::laws::trimmed_is_normal_form`].
     pub fn trim_start(&mut self)
         ensures value { self.new ≡ trimmed_start self.old }
-        // No value of this number shows fewer magnitudes in front.
+        // No value of this number has a lower `hi`.
         ensures least { IsLeastHi self.new }
-        // Trimmed behind too, the value has the shortest text of its number.
+        // After `trim_end` too, the value has the shortest text of its number.
         ensures shortest { IsShortest (trimmed_end self.new) }
         ensures valid { IsValue self.old }
     {
@@ -49,15 +48,14 @@ impl<D: DigitStore> UnsignedOver<D> {
         self.set_highest(hi);
     }
 
-    /// Shows no zero behind the last digit that is not 0, magnitude 0 apart.
+    /// Removes the trailing zeros below magnitude 0.
     ///
-    /// `0012.3400` becomes `0012.34`, and `1000` stays. Law: [`crate::laws::trimmed_is_normal_form`]. The original's
-    /// `trim_end`.
+    /// `0012.3400` becomes `0012.34`, and `1000` stays. Law: [`crate::laws::trimmed_is_normal_form`].
     pub fn trim_end(&mut self)
         ensures value { self.new ≡ trimmed_end self.old }
-        // No value of this number shows fewer magnitudes behind.
+        // No value of this number has a higher `lo`.
         ensures greatest { IsGreatestLo self.new }
-        // Trimmed in front too, the value has the shortest text of its number.
+        // After `trim_start` too, the value has the shortest text of its number.
         ensures shortest { IsShortest (trimmed_start self.new) }
         ensures valid { IsValue self.old }
     {
@@ -65,9 +63,9 @@ impl<D: DigitStore> UnsignedOver<D> {
         self.set_lowest(lo);
     }
 
-    /// Shows no digit behind the dot where all of them are 0.
+    /// Removes the fraction digits if all of them are 0.
     ///
-    /// `123400.00` becomes `123400`, and `0012.3400` stays. The original's `trim_end_if_integer`.
+    /// `123400.00` becomes `123400`, and `0012.3400` stays.
     pub fn trim_end_if_integer(&mut self)
         ensures { self.new ≡ trimmed_end_if_integer self.old }
     {
@@ -76,11 +74,11 @@ impl<D: DigitStore> UnsignedOver<D> {
         }
     }
 
-    /// Shows the magnitudes from the one just below a position down, or from the first digit that is not 0 where that
-    /// is higher.
+    /// Sets the highest magnitude to the one just below a position, or to that of the first nonzero digit if it is
+    /// higher.
     ///
-    /// It may also hide zeros in front: at 4 `0.42` becomes `0000.42`, and at 2 `0000.42` becomes `00.42`. A position
-    /// (see `UnsignedOver`) of 0 or below changes nothing. The original's `pad_start`.
+    /// It can remove leading zeros too: at 4 `0.42` becomes `0000.42`, and at 2 `0000.42` becomes `00.42`. A position
+    /// (see `UnsignedOver`) of 0 or below changes nothing.
     pub fn pad_start(&mut self, position: i16)
         ensures { self.new ≡ padded_start self.old position }
     {
@@ -92,10 +90,10 @@ impl<D: DigitStore> UnsignedOver<D> {
         }
     }
 
-    /// Shows the magnitudes down to a position, or to the last digit that is not 0 where that is lower.
+    /// Sets the lowest magnitude to a position, or to that of the last nonzero digit if it is lower.
     ///
-    /// It may also hide zeros behind: at -6 `123.456` becomes `123.456000`, and at 0 `123.000` becomes `123`. A
-    /// position (see `UnsignedOver`) above 0 changes nothing. The original's `pad_end`.
+    /// It can remove trailing zeros too: at -6 `123.456` becomes `123.456000`, and at 0 `123.000` becomes `123`. A
+    /// position (see `UnsignedOver`) above 0 changes nothing.
     pub fn pad_end(&mut self, position: i16)
         ensures { self.new ≡ padded_end self.old position }
     {
@@ -105,14 +103,14 @@ impl<D: DigitStore> UnsignedOver<D> {
         }
     }
 
-    /// Leaves the part below a position: the remainder by 10 to its power.
+    /// Replaces the number by its remainder by 10^`position`, the part below the position.
     ///
-    /// The magnitudes from the one just below the position (see `UnsignedOver`) down to the lowest that was shown stay
-    /// shown, and magnitude 0 with them. `100.01` at 1 becomes `0.01`, `4235.970` at 5 becomes `04235.970`, and `0` at
-    /// -2 becomes `0.00`. The original's `set_max_position`.
+    /// The value then shows the magnitudes from the one just below the position (see `UnsignedOver`) down to the lowest
+    /// one before, and magnitude 0. `100.01` at 1 becomes `0.01`, `4235.970` at 5 becomes `04235.970`, and `0` at -2
+    /// becomes `0.00`.
     pub fn set_max_position(&mut self, position: i16)
         ensures value { self.new ≡ with_max_position self.old position }
-        // Joined behind what `trunc` leaves at the position, this part gives the number back.
+        // The part that `trunc` leaves at the position, joined with this one, is the old number.
         ensures splits { SplitsAt self.old position (trunced self.old position) self.new }
     {
         let len = self.digits.len();
@@ -131,7 +129,7 @@ impl<D: DigitStore> UnsignedOver<D> {
         self.lo = lo;
     }
 
-    /// `trim_start` on a value: `0012.3400` gives `12.3400`. The original's `trimmed_start`.
+    /// Trims as `trim_start`, by value: `0012.3400` gives `12.3400`.
     pub fn trimmed_start(mut self) -> Self
         ensures { result ≡ trimmed_start self }
     {
@@ -139,7 +137,7 @@ impl<D: DigitStore> UnsignedOver<D> {
         self
     }
 
-    /// `trim_end` on a value: `0012.3400` gives `0012.34`. The original's `trimmed_end`.
+    /// Trims as `trim_end`, by value: `0012.3400` gives `0012.34`.
     pub fn trimmed_end(mut self) -> Self
         ensures { result ≡ trimmed_end self }
     {
@@ -147,7 +145,7 @@ impl<D: DigitStore> UnsignedOver<D> {
         self
     }
 
-    /// `trim_end_if_integer` on a value: `123400.00` gives `123400`. The original's `trimmed_end_if_integer`.
+    /// Trims as `trim_end_if_integer`, by value: `123400.00` gives `123400`.
     pub fn trimmed_end_if_integer(mut self) -> Self
         ensures { result ≡ trimmed_end_if_integer self }
     {
@@ -155,7 +153,7 @@ impl<D: DigitStore> UnsignedOver<D> {
         self
     }
 
-    /// `pad_start` on a value: `0.42` at 4 gives `0000.42`. The original's `padded_start`.
+    /// Pads as `pad_start`, by value: `0.42` at 4 gives `0000.42`.
     pub fn padded_start(mut self, position: i16) -> Self
         ensures { result ≡ padded_start self position }
     {
@@ -163,7 +161,7 @@ impl<D: DigitStore> UnsignedOver<D> {
         self
     }
 
-    /// `pad_end` on a value: `123.456` at -6 gives `123.456000`. The original's `padded_end`.
+    /// Pads as `pad_end`, by value: `123.456` at -6 gives `123.456000`.
     pub fn padded_end(mut self, position: i16) -> Self
         ensures { result ≡ padded_end self position }
     {
@@ -171,7 +169,7 @@ impl<D: DigitStore> UnsignedOver<D> {
         self
     }
 
-    /// `set_max_position` on a value: `100.01` at 1 gives `0.01`. The original's `with_max_position`.
+    /// Returns the remainder as `set_max_position`, by value: `100.01` at 1 gives `0.01`.
     pub fn with_max_position(mut self, position: i16) -> Self
         ensures { result ≡ with_max_position self position }
     {
@@ -180,14 +178,14 @@ impl<D: DigitStore> UnsignedOver<D> {
     }
 }
 
-/// Counts the magnitudes from a position up to another, none where the position is higher.
+/// Counts the magnitudes from a position up to a magnitude, or returns 0 if the position is higher.
 fn places_from(position: i16, magnitude: i16) -> usize
     ensures { result ≡ int_gap position (magnitude +ℤ pos 1) }
 {
     places_above(position, magnitude).unwrap_or(0)
 }
 
-/// Finds the first digit from an index on that is not 0: its index, or the number of digits where there is none.
+/// Returns the index of the first nonzero digit from index `from`, or the number of digits if there is none.
 fn first_nonzero<D: DigitStore>(digits: &D, from: usize) -> usize
     requires { from ≤ length (D.digits digits.now) }
     ensures from { from ≤ result }
@@ -203,7 +201,7 @@ fn first_nonzero<D: DigitStore>(digits: &D, from: usize) -> usize
     digits.len()
 }
 
-/// Drops the first digits, and moves none where there are none to drop or none to keep.
+/// Removes the first digits, and moves none if there are none to remove or none to keep.
 fn drop_front<D: DigitStore>(digits: &mut D, count: usize)
     requires { count ≤ length (D.digits digits.old) }
     ensures { D.digits digits.new ≡ drop count (D.digits digits.old) }

@@ -13,16 +13,17 @@ use decimal_digits::digits::DigitStore;
 use decimal_digits::ops::{count_between, index_of, magnitude_of};
 use decimal_digits::sink::{Sink, SinkFault, Writeable};
 
-/// How many bytes of a text are made and put into a sink at a time. Most texts are shorter.
+/// The number of bytes of a text that are made and written at a time. Most texts are shorter.
 pub(super) const BLOCK: usize = 64;
 
-/// Up to how many bytes a text is put byte by byte, which for so few is quicker than a block.
+/// The greatest length of a text that is written byte by byte, which is then faster than a block.
 const MAX_SHORT: usize = 5;
 
 impl<D: DigitStore> UnsignedOver<D> {
-    /// Writes the digits at so many magnitudes, from one down, without a dot: those held, among zeros.
+    /// Writes the digits at consecutive magnitudes, from `magnitude` down, without a decimal point.
     ///
-    /// Requires zeros, and magnitudes of at least -32768.
+    /// Only the digits that are stored are written, among the zeros of the buffer. Requires ASCII zeros in the buffer,
+    /// and magnitudes of at least -32768.
     #[inline]
     pub(super) fn copy_digits(&self, magnitude: i16, buffer: &mut [u8])
         requires zeros { buffer.old ≡ replicate (length buffer.old) 48 }
@@ -41,7 +42,7 @@ impl<D: DigitStore> UnsignedOver<D> {
             .copy_text(from, &mut buffer[start..start + count]);
     }
 
-    /// Gives the index of the dot, which is the number of digits above it; a text without a dot ends there.
+    /// Returns the index of the decimal point, which is the number of integer digits; a text without one ends there.
     #[inline]
     fn dot(&self) -> usize
         ensures value { result ≡ int_gap (pos 0) self.now.hi + 1 }
@@ -50,7 +51,7 @@ impl<D: DigitStore> UnsignedOver<D> {
         count_between(0, self.highest()) as usize
     }
 
-    /// Gives the magnitude of the digit at an index of the text; at the dot it is that of the digit behind it.
+    /// Returns the magnitude of the digit at an index of the text; at the decimal point, that of the digit after it.
     ///
     /// Requires an index in range.
     #[inline]
@@ -68,7 +69,7 @@ impl<D: DigitStore> UnsignedOver<D> {
         }
     }
 
-    /// Gives the byte of the text at an index.
+    /// Returns the byte of the text at an index.
     ///
     /// Requires an index in range.
     #[inline]
@@ -98,9 +99,9 @@ impl<D: DigitStore> UnsignedOver<D> {
         Ok(())
     }
 
-    /// Writes the bytes of the text from an index on, as many as there are places.
+    /// Writes the bytes of the text from index `from`, as far as the buffer goes.
     ///
-    /// Requires places that hold zeros, at least one, and so many bytes from there on.
+    /// Requires a nonempty buffer of ASCII zeros, and at least `buffer.len()` bytes from that index.
     #[inline]
     pub(super) fn copy_text(&self, from: usize, buffer: &mut [u8])
         requires zeros { buffer.old ≡ replicate (length buffer.old) 48 }
@@ -127,10 +128,14 @@ impl<D: DigitStore> UnsignedOver<D> {
 impl<D: DigitStore> Writeable for UnsignedOver<D> {
     ghost text = { text };
 
-    /// Appends the text: a digit for each magnitude that is shown, from the highest down, with a dot below magnitude 0.
+    /// Appends the text: one digit for each magnitude that is shown, the highest first, and a decimal point before
+    /// magnitude -1.
     ///
-    /// Err: the sink refused a byte, now or before, and has taken a beginning of the text. The text reads as this
-    /// very value. `write_to` of the original.
+    /// Parsing the text gives this value again.
+    ///
+    /// # Errors
+    ///
+    /// As for [`Writeable::write_to`].
     #[tactic(auto, using(crate::proofs::ReadBack::read_text))]
     fn write_to<W: Sink>(&self, sink: &mut W) -> Result<(), SinkFault>
         ensures ok { OnOk result (Appends (W.contents sink.old) (W.contents sink.new) (text self.now)) }
@@ -155,10 +160,10 @@ impl<D: DigitStore> Writeable for UnsignedOver<D> {
         Ok(())
     }
 
-    /// Counts the bytes of the text, exactly: 4 for `2.50`. `writeable_length_hint` of the original.
+    /// Returns the exact number of bytes of the text: 4 for `2.50`.
     fn writeable_length_hint(&self) -> usize
         ensures length { result ≡ length (text self.now) }
-        // A text has at most 65,536 digits and a dot.
+        // A text has at most 65,536 digits and a decimal point.
         ensures at_most { result ≤ 65537 }
         ensures valid { IsValue self.now }
     {

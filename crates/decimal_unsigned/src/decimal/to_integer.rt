@@ -1,4 +1,4 @@
-//! Integers of values.
+//! Conversions of values to integers.
 ghost use Rattle.std.specs.Prelude.{◌≡◌, ◌+◌, ◌*◌, ◌/◌, ◌%◌, ◌^◌, ◌<◌, ◌≤◌, slice_index, IfSome};
 ghost use Rattle.std.specs.Int.{w64, to_be_bytes};
 ghost use Rattle.std.specs.Int.Digits.{number_from_digits};
@@ -12,7 +12,7 @@ use crate::error::IntegerError;
 use decimal_digits::digits::DigitStore;
 use decimal_digits::ops::places_above;
 
-/// The digit at an index, and 0 behind the last one.
+/// Returns the digit at an index, or 0 after the last one.
 #[inline]
 fn digit_or_zero<D: DigitStore>(digits: &D, index: usize) -> u8
     ensures value { result ≡ slice_index (D.digits digits.now) index }
@@ -25,7 +25,7 @@ fn digit_or_zero<D: DigitStore>(digits: &D, index: usize) -> u8
     }
 }
 
-/// The number that four digits write, one in each half of two bytes.
+/// Returns the number of four digits, which are the nibbles of two bytes.
 #[inline]
 fn four_digits(first: u8, second: u8) -> u64
     ensures { result ≡ (first / 16 * 10 + first % 16) * 100 + (second / 16 * 10 + second % 16) }
@@ -33,7 +33,7 @@ fn four_digits(first: u8, second: u8) -> u64
     u64::from(first / 16 * 10 + first % 16) * 100 + u64::from(second / 16 * 10 + second % 16)
 }
 
-/// The number that sixteen digits write, one in each half of a number of 64 bits.
+/// Returns the number of sixteen digits, which are the nibbles of a 64-bit number.
 #[inline]
 fn sixteen_digits(number: u64) -> u64
     ensures { result ≡ number_from_digits 10 (nibbles (to_be_bytes w64 number)) }
@@ -44,9 +44,9 @@ fn sixteen_digits(number: u64) -> u64
     high * 100_000_000 + low
 }
 
-/// The number that the first digits write, with zeros behind the last one, by one look at all of them.
+/// Returns the number of the first `count` digits, where zeros follow the list, from its packed BCD number.
 ///
-/// None: no digits are asked for, or there are more than sixteen, asked for or in the list.
+/// None if `count` is 0 or more than sixteen, or the list has more than sixteen digits.
 #[inline]
 fn leading_packed<D: DigitStore>(digits: &D, count: usize) -> Option<u64>
     ensures { IfSome result (λ number. number ≡ leading count (D.digits digits.now)) }
@@ -58,7 +58,7 @@ fn leading_packed<D: DigitStore>(digits: &D, count: usize) -> Option<u64>
     Some(sixteen_digits(number >> (4 * (16 - count))))
 }
 
-/// The number that the first digits write, with zeros behind the last one. In 64 bits there is room for 19 digits.
+/// Returns the number of the first `count` digits, where zeros follow the list. 64 bits have room for 19 digits.
 #[inline]
 #[tactic(auto, using(crate::proofs::WholeNumbers::to_u64), unfolding(decimal_digits::specs::Digits::number_at))]
 fn leading_u64<D: DigitStore>(digits: &D, count: usize) -> u64
@@ -75,7 +75,7 @@ fn leading_u64<D: DigitStore>(digits: &D, count: usize) -> u64
     number
 }
 
-/// The number that the first digits write, with zeros behind the last one. In 128 bits there is room for 38 digits.
+/// Returns the number of the first `count` digits, where zeros follow the list. 128 bits have room for 38 digits.
 #[tactic(auto, using(crate::proofs::WholeNumbers::to_u128), unfolding(decimal_digits::specs::Digits::number_at))]
 fn leading_u128<D: DigitStore>(digits: &D, count: usize) -> u128
     requires { count ≤ 38 }
@@ -88,7 +88,7 @@ fn leading_u128<D: DigitStore>(digits: &D, count: usize) -> u128
     number
 }
 
-/// The number that the first 39 digits write, with zeros behind the last one, where 128 bits hold it.
+/// Returns the number of the first 39 digits, where zeros follow the list, if 128 bits have room for it.
 #[tactic(auto, using(crate::proofs::WholeNumbers::leading_39))]
 fn leading_39_digits<D: DigitStore>(digits: &D) -> Result<u128, IntegerError>
     ensures { result ≡ in_range (2 ^ 128) (leading 39 (D.digits digits.now)) }
@@ -103,10 +103,14 @@ fn leading_39_digits<D: DigitStore>(digits: &D) -> Result<u128, IntegerError>
 }
 
 impl<D: DigitStore> UnsignedOver<D> {
-    /// Gives the integer that the number is, whatever zeros it shows.
+    /// Converts the number to a `u64`, whatever zeros are shown, without an allocation.
     ///
-    /// Of `012.00` it is 12. Err: `NotWhole` where a digit behind the dot is not 0, as in `1.5`; else `OutOfRange`
-    /// where the number is 2 to the 64 or more. It asks for no memory. Not in the original.
+    /// `012.00` gives 12.
+    ///
+    /// # Errors
+    ///
+    /// - `NotWhole`: a fraction digit is not 0, as in `1.5`.
+    /// - `OutOfRange`: the number is an integer of 2^64 or more.
     pub fn try_to_u64(&self) -> Result<u64, IntegerError>
         ensures value { result ≡ as_integer (2 ^ 64) self.now.number }
         ensures valid { IsValue self.now }
@@ -118,10 +122,14 @@ impl<D: DigitStore> UnsignedOver<D> {
         Ok(integer as u64)
     }
 
-    /// Gives the integer that the number is, whatever zeros it shows.
+    /// Converts the number to a `u128`, whatever zeros are shown, without an allocation.
     ///
-    /// Of `012.00` it is 12. Err: `NotWhole` where a digit behind the dot is not 0, as in `1.5`; else `OutOfRange`
-    /// where the number is 2 to the 128 or more. It asks for no memory. Not in the original.
+    /// `012.00` gives 12.
+    ///
+    /// # Errors
+    ///
+    /// - `NotWhole`: a fraction digit is not 0, as in `1.5`.
+    /// - `OutOfRange`: the number is an integer of 2^128 or more.
     #[inline]
     pub fn try_to_u128(&self) -> Result<u128, IntegerError>
         ensures value { result ≡ as_integer (2 ^ 128) self.now.number }

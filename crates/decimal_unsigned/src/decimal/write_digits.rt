@@ -7,11 +7,10 @@ use super::UnsignedOver;
 use decimal_digits::digits::DigitStore;
 
 impl<D: DigitStore> UnsignedOver<D> {
-    /// Writes the digits at consecutive magnitudes as text, from one down, as many as there are places.
+    /// Writes the digits at consecutive magnitudes, from `highest` down, one to each byte of the buffer.
     ///
-    /// Each place gets a byte from `b'0'` to `b'9'`, which is `b'0'` at each magnitude that is not shown, and none gets
-    /// a dot: of `12.5` four places from 2 down get `0125`. It asks for no memory. Requires magnitudes of at least
-    /// -32768. Not in the original.
+    /// They are ASCII, without a decimal point, and zeros outside of the range that is shown: of `12.5` four digits
+    /// from 2 down are `0125`. It does not allocate. Requires magnitudes of at least -32768.
     pub fn write_digits(&self, highest: i16, buffer: &mut [u8])
         requires { pos (length buffer.old) ≤ℤ (highest +ℤ pos 32769) }
         ensures value { EachIndex buffer.new

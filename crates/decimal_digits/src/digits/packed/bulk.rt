@@ -1,4 +1,4 @@
-//! Many digits at once: text into bytes and back, and equal digits at an end.
+//! Operations on many digits at once: conversions from and to text, and counts of equal digits at the end.
 #![tactic(auto, using(crate::proofs::Nibbles::nibble_rules))]
 
 ghost use Rattle.std.specs.Prelude.{◌≡◌, ℕ, ◌+◌, ◌-◌, ◌*◌, ◌/◌, ◌%◌, ◌^◌, ◌<◌, ◌≤◌, ◌≢◌, ◌++◌, length, map, take, drop, replicate, slice_index};
@@ -11,7 +11,7 @@ ghost use Rattle.decimal_digits.specs.Packing.{Encodes};
 use super::nibbles::{append_pairs, set_nibble};
 use smallvec::SmallVec;
 
-/// Appends the digits that a text writes, for which there is room.
+/// Appends the digits of an ASCII text, for which there is room.
 pub(super) fn append_text(bytes: &mut SmallVec<u8, 8>, len: usize, text: &[u8])
     requires packed { IsPacked bytes.old.items len }
     requires has_room { length text.now ≤ 2 * bytes.old.capacity - len }
@@ -30,7 +30,7 @@ pub(super) fn append_text(bytes: &mut SmallVec<u8, 8>, len: usize, text: &[u8])
     }
 }
 
-/// Writes the halves from an index on as text, as many as there are places.
+/// Writes the nibbles from index `from` as ASCII, one to each byte of the buffer.
 pub(super) fn write_text(bytes: &[u8], from: usize, buffer: &mut [u8])
     requires { from + length buffer.old ≤ length (nibbles bytes.now) }
     ensures { buffer.new ≡ text_of (take (length buffer.old) (drop from (nibbles bytes.now))) }
@@ -44,7 +44,7 @@ pub(super) fn write_text(bytes: &[u8], from: usize, buffer: &mut [u8])
     }
 }
 
-/// Writes the first halves as text, as many as there are places.
+/// Writes the first nibbles as ASCII, one to each byte of the buffer.
 fn write_pairs(bytes: &[u8], buffer: &mut [u8])
     requires { length buffer.old ≤ length (nibbles bytes.now) }
     ensures { buffer.new ≡ text_of (take (length buffer.old) (nibbles bytes.now)) }
@@ -59,7 +59,7 @@ fn write_pairs(bytes: &[u8], buffer: &mut [u8])
     }
 }
 
-/// Counts the halves at the end of the first `count` that equal this one.
+/// Counts the nibbles equal to `nibble` at the end of the first `count`.
 pub(super) fn count_trailing_nibbles(bytes: &[u8], count: usize, nibble: u8) -> usize
     requires in_range { count ≤ length (nibbles bytes.now) }
     requires is_nibble { nibble < 16 }
@@ -79,7 +79,7 @@ pub(super) fn count_trailing_nibbles(bytes: &[u8], count: usize, nibble: u8) -> 
     odd + 2 * same
 }
 
-/// Counts the bytes at the end that equal this one.
+/// Counts the bytes equal to `byte` at the end.
 fn count_trailing_bytes(bytes: &[u8], byte: u8) -> usize
     ensures within { result ≤ length bytes.now }
     ensures equal { (k : ℕ) → length bytes.now ≤ k + result → k < length bytes.now → slice_index bytes.now k ≡ byte }

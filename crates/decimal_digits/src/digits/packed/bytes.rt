@@ -1,4 +1,4 @@
-//! Lists of digits packed into bytes, two to a byte.
+//! Packed BCD: lists of digits in bytes, two digits to a byte.
 #![tactic(auto, using(crate::proofs::Nibbles::nibble_rules))]
 
 ghost use Rattle.std.specs.Prelude.{◌≡◌, ℕ, ◌+◌, ◌-◌, ◌*◌, ◌^◌, ◌<◌, ◌≤◌, ◌↔◌, [], ◌∷◌, ◌++◌, length, take, drop, replicate, slice_set, All, IsTrue, IsOk, IfOk, IfSome, OnOk};
@@ -14,7 +14,7 @@ use super::nibbles::{
 use smallvec::SmallVec;
 use std::alloc::{AllocError, Global};
 
-/// Makes the bytes of these digits.
+/// Packs digits into bytes.
 #[inline]
 pub(super) fn pack_digits(alloc: Global, digits: &[u8]) -> Result<SmallVec<u8, 8>, AllocError>
     requires { All (λ d. d < 10) digits.now }
@@ -23,19 +23,19 @@ pub(super) fn pack_digits(alloc: Global, digits: &[u8]) -> Result<SmallVec<u8, 8
     ensures succeeds { length digits.now ≤ 16 → IsOk result }
 {
     if digits.len() <= 16 {
-        // For so few a loop is quicker than a call.
+        // For few bytes a loop is faster than a call.
         let mut bytes = SmallVec::new(alloc);
         push_pairs(&mut bytes, digits);
         return Ok(bytes);
     }
-    // The copy makes room, and is written over.
+    // The copy only allocates; its bytes are overwritten.
     let copy = Vec::from_slice(alloc, &digits[..byte_count(digits.len())])?;
     let mut bytes = SmallVec::from_vec(copy);
     pack(bytes.as_mut_slice(), digits);
     Ok(bytes)
 }
 
-/// Drops the bytes behind those of the digits.
+/// Removes the bytes after those that hold the digits.
 #[inline]
 pub(super) fn drop_unused(bytes: &mut SmallVec<u8, 8>, len: usize)
     requires { IsPackedPrefix bytes.old.items len }
@@ -60,7 +60,7 @@ pub(super) fn copy_bytes(bytes: &SmallVec<u8, 8>) -> Result<SmallVec<u8, 8>, All
     if let Some(all) = items.first_chunk::<8>() {
         return Ok(SmallVec::from_buf(alloc, *all));
     }
-    // For so few a loop is quicker than a call.
+    // For few bytes a loop is faster than a call.
     let mut copy = SmallVec::new(alloc);
     for byte in items {
         copy.push_reserved(*byte);
@@ -68,7 +68,7 @@ pub(super) fn copy_bytes(bytes: &SmallVec<u8, 8>) -> Result<SmallVec<u8, 8>, All
     Ok(copy)
 }
 
-/// Makes room for so many digits in all.
+/// Reserves room for `total` digits in all.
 pub(super) fn reserve_digits(bytes: &mut SmallVec<u8, 8>, total: usize) -> Result<(), AllocError>
     requires { 2 * small_vec_len bytes.old ≤ total + 1 }
     ensures ok { OnOk result (total ≤ 2 * bytes.new.capacity) }
@@ -80,7 +80,7 @@ pub(super) fn reserve_digits(bytes: &mut SmallVec<u8, 8>, total: usize) -> Resul
     bytes.reserve(byte_count(total) - old_len)
 }
 
-/// Puts a digit in the place of the one at an index.
+/// Replaces the digit at an index.
 #[inline]
 pub(super) fn set_digit(bytes: &mut SmallVec<u8, 8>, len: usize, index: usize, digit: u8)
     requires packed_prefix { IsPackedPrefix bytes.old.items len }
@@ -109,7 +109,7 @@ pub(super) fn push_digit(bytes: &mut SmallVec<u8, 8>, len: usize, digit: u8)
     }
 }
 
-/// The number that up to four bytes write, with zeros behind them up to the fourth.
+/// Returns the big-endian number of up to four bytes, with zero bytes after them up to the fourth.
 #[inline]
 fn half_word(bytes: &[u8]) -> u32
     requires { length bytes.now ≤ 4 }
@@ -124,7 +124,7 @@ fn half_word(bytes: &[u8]) -> u32
     }
 }
 
-/// A number of 32 bits in front of another.
+/// Joins the high and the low 32 bits of a number.
 #[inline]
 fn join_words(high: u32, low: u32) -> u64
     ensures { result ≡ high * 2 ^ 32 + low }
@@ -132,7 +132,7 @@ fn join_words(high: u32, low: u32) -> u64
     (u64::from(high) << 32) + u64::from(low)
 }
 
-/// The number that up to eight bytes write, with zeros behind them up to the eighth.
+/// Returns the big-endian number of up to eight bytes, with zero bytes after them up to the eighth.
 #[inline]
 pub(super) fn word(bytes: &[u8]) -> u64
     requires { length bytes.now ≤ 8 }
@@ -144,7 +144,7 @@ pub(super) fn word(bytes: &[u8]) -> u64
     }
 }
 
-/// The number in base 16 with sixteen places whose first digits these are, where eight bytes lie in place.
+/// Returns the digits as a packed BCD number of sixteen nibbles, if they are 1 to 16 digits in exactly eight bytes.
 #[inline]
 pub(super) fn inline_bcd(bytes: &SmallVec<u8, 8>, len: usize) -> Option<u64>
     requires { IsPackedPrefix bytes.now.items len }
@@ -155,15 +155,15 @@ pub(super) fn inline_bcd(bytes: &SmallVec<u8, 8>, len: usize) -> Option<u64>
     if len == 0 || len > 16 || items.len() != 8 {
         return None;
     }
-    // What stands behind the digits means nothing.
+    // Clears the nibbles after the digits, which are unspecified.
     let unused = 4 * (16 - len);
     Some(word(items) >> unused << unused)
 }
 
-/// How many bytes are compared with no call: those of 48 digits.
+/// The greatest number of bytes that are compared without a call: those of 48 digits.
 const MAX_INLINE_COMPARE: usize = 24;
 
-/// Tells whether two lists of bytes are equal.
+/// Returns whether two lists of bytes are equal.
 #[inline]
 pub(super) fn are_equal(left: &[u8], right: &[u8]) -> bool
     ensures { IsTrue result ↔ (left.now ≡ right.now) }
@@ -188,7 +188,7 @@ pub(super) fn are_equal(left: &[u8], right: &[u8]) -> bool
     left == right
 }
 
-/// Keeps the first bytes, and all bytes in place, of which those behind the digits mean nothing.
+/// Keeps the first `count` bytes, or all of them if there are at most eight: those after `count` are then unspecified.
 #[inline]
 pub(super) fn truncate_spilled(bytes: &mut SmallVec<u8, 8>, count: usize)
     requires { count ≤ small_vec_len bytes.old }
@@ -202,7 +202,7 @@ pub(super) fn truncate_spilled(bytes: &mut SmallVec<u8, 8>, count: usize)
     }
 }
 
-/// Keeps the first digits.
+/// Keeps the first `count` digits.
 pub(super) fn keep_digits(bytes: &mut SmallVec<u8, 8>, len: usize, count: usize)
     requires packed_prefix { IsPackedPrefix bytes.old.items len }
     requires in_range { count ≤ len }
@@ -215,7 +215,7 @@ pub(super) fn keep_digits(bytes: &mut SmallVec<u8, 8>, len: usize, count: usize)
     }
 }
 
-/// Drops the first digits.
+/// Removes the first `count` digits.
 pub(super) fn cut_digits(bytes: &mut SmallVec<u8, 8>, len: usize, count: usize)
     requires packed_prefix { IsPackedPrefix bytes.old.items len }
     requires in_range { count ≤ len }
@@ -229,7 +229,7 @@ pub(super) fn cut_digits(bytes: &mut SmallVec<u8, 8>, len: usize, count: usize)
     }
 }
 
-/// Appends zeros, for which there is room.
+/// Appends `count` zeros, for which there is room.
 pub(super) fn append_zeros(bytes: &mut SmallVec<u8, 8>, len: usize, count: usize)
     requires packed { IsPacked bytes.old.items len }
     requires has_room { len + count ≤ 2 * bytes.old.capacity }
@@ -241,7 +241,7 @@ pub(super) fn append_zeros(bytes: &mut SmallVec<u8, 8>, len: usize, count: usize
     push_zeros(bytes, byte_count(len + count) - old_len);
 }
 
-/// Appends the digits of other bytes, for which there is room.
+/// Appends the first `count` digits of other bytes, for which there is room.
 pub(super) fn append_digits(bytes: &mut SmallVec<u8, 8>, len: usize, other: &[u8], count: usize)
     requires packed { IsPacked bytes.old.items len }
     requires other_packed { IsPacked other.now count }

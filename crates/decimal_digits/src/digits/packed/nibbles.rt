@@ -1,4 +1,4 @@
-//! Half bytes: single ones, and passes over bytes that move them.
+//! Nibbles: access to single ones, and passes over bytes that move them.
 #![tactic(auto, using(crate::proofs::Nibbles::nibble_rules))]
 
 ghost use Rattle.std.specs.Prelude.{◌≡◌, ℕ, ◌+◌, ◌*◌, ◌/◌, ◌%◌, ◌-◌, ◌^◌, ◌<◌, ◌≤◌, [], ◌∷◌, ◌++◌, length, map, take, drop, replicate, slice_index, slice_set, All};
@@ -7,7 +7,7 @@ ghost use Rattle.decimal_digits.specs.Nibbles.{nibbles};
 
 use smallvec::SmallVec;
 
-/// Counts the bytes that so many digits take.
+/// Returns the number of bytes that hold the given number of digits.
 #[inline]
 pub(super) fn byte_count(digits: usize) -> usize
     ensures { result ≡ (digits + 1) / 2 }
@@ -15,7 +15,7 @@ pub(super) fn byte_count(digits: usize) -> usize
     digits / 2 + digits % 2
 }
 
-/// Gives the half at an index.
+/// Returns the nibble at an index.
 #[inline]
 pub(crate) fn nibble_at(bytes: &[u8], index: usize) -> u8
     requires { index < length (nibbles bytes.now) }
@@ -25,7 +25,7 @@ pub(crate) fn nibble_at(bytes: &[u8], index: usize) -> u8
     if index % 2 == 0 { byte / 16 } else { byte % 16 }
 }
 
-/// Puts a half in the place of the one at an index.
+/// Replaces the nibble at an index.
 #[inline]
 pub(super) fn set_nibble(bytes: &mut SmallVec<u8, 8>, index: usize, nibble: u8)
     requires in_range { index < length (nibbles bytes.old.items) }
@@ -42,9 +42,9 @@ pub(super) fn set_nibble(bytes: &mut SmallVec<u8, 8>, index: usize, nibble: u8)
     }
 }
 
-/// Writes the low halves of these over bytes, two to a byte, and 0 into a half that is left over.
+/// Writes the low nibbles of `digits` over bytes, two to a byte, and 0 into a nibble that is left over.
 ///
-/// The low half of a digit is the digit, and so is that of the letter that writes it.
+/// The low nibble of a digit is the digit, and so is that of its ASCII code.
 pub(super) fn pack(bytes: &mut [u8], digits: &[u8])
     requires { length bytes.old ≡ (length digits.now + 1) / 2 }
     ensures { nibbles bytes.new ≡ map (λ d. d % 16) digits.now ++ replicate (length digits.now % 2) 0 }
@@ -60,7 +60,7 @@ pub(super) fn pack(bytes: &mut [u8], digits: &[u8])
     }
 }
 
-/// Appends the low halves of these behind the last byte, and 0 to a half that is left over.
+/// Appends the low nibbles of `digits`, two to a byte, and 0 in a nibble that is left over.
 #[inline]
 pub(super) fn append_pairs(bytes: &mut SmallVec<u8, 8>, digits: &[u8])
     requires { (length digits.now + 1) / 2 ≤ bytes.old.capacity - small_vec_len bytes.old }
@@ -70,14 +70,14 @@ pub(super) fn append_pairs(bytes: &mut SmallVec<u8, 8>, digits: &[u8])
     ensures fits { small_vec_len bytes.new < 2 ^ 63 }
 {
     if digits.len() <= 16 {
-        // For so few a loop is quicker than a call.
+        // For few bytes a loop is faster than a call.
         push_pairs(bytes, digits);
     } else {
         append_packed(bytes, digits);
     }
 }
 
-/// Appends the low halves of these, two at a time.
+/// Appends the low nibbles of `digits`, byte by byte.
 #[inline]
 pub(super) fn push_pairs(bytes: &mut SmallVec<u8, 8>, digits: &[u8])
     requires { (length digits.now + 1) / 2 ≤ bytes.old.capacity - small_vec_len bytes.old }
@@ -97,7 +97,7 @@ pub(super) fn push_pairs(bytes: &mut SmallVec<u8, 8>, digits: &[u8])
     let _few = bytes.as_slice();
 }
 
-/// Appends the low halves of these, in one pass.
+/// Appends the low nibbles of `digits`, in one pass.
 fn append_packed(bytes: &mut SmallVec<u8, 8>, digits: &[u8])
     requires { (length digits.now + 1) / 2 ≤ bytes.old.capacity - small_vec_len bytes.old }
     ensures appended { nibbles bytes.new.items
@@ -106,14 +106,14 @@ fn append_packed(bytes: &mut SmallVec<u8, 8>, digits: &[u8])
     ensures fits { small_vec_len bytes.new < 2 ^ 63 }
 {
     let old_len = bytes.len();
-    // The copy makes room, and is written over.
+    // The copy only extends the bytes, and is overwritten.
     bytes
         .extend_from_slice(&digits[..byte_count(digits.len())])
         .unwrap();
     pack(&mut bytes.as_mut_slice()[old_len..], digits);
 }
 
-/// Drops the high half of the byte `at`. The later halves move up by one, and `last` follows them.
+/// Removes the high nibble of the byte `at`. The nibbles after it move up by one, and `last` is appended.
 pub(super) fn remove_high_nibble(bytes: &mut [u8], at: usize, last: u8)
     requires in_range { at < length bytes.old }
     requires is_nibble { last < 16 }
@@ -127,7 +127,7 @@ pub(super) fn remove_high_nibble(bytes: &mut [u8], at: usize, last: u8)
     bytes[end] = bytes[end] % 16 * 16 + last;
 }
 
-/// Drops the low half of the byte `at`. The later halves move up by one, and `last` follows them.
+/// Removes the low nibble of the byte `at`. The nibbles after it move up by one, and `last` is appended.
 fn remove_low_nibble(bytes: &mut [u8], at: usize, last: u8)
     requires in_range { at < length bytes.old }
     requires is_nibble { last < 16 }
@@ -141,7 +141,7 @@ fn remove_low_nibble(bytes: &mut [u8], at: usize, last: u8)
 
 static ZEROS: [u8; 64] = [0; 64];
 
-/// Appends zero bytes, for which there is room.
+/// Appends `count` zero bytes, for which there is room.
 pub(super) fn push_zeros(bytes: &mut SmallVec<u8, 8>, count: usize)
     requires { HasRoomFor bytes.old count }
     ensures items { bytes.new.items ≡ bytes.old.items ++ replicate count 0 }
@@ -156,10 +156,10 @@ pub(super) fn push_zeros(bytes: &mut SmallVec<u8, 8>, count: usize)
     bytes.extend_from_slice(&ZEROS[..count % 64]).unwrap();
 }
 
-/// Keeps the first bytes.
+/// Keeps the first `count` bytes.
 ///
-/// `smallvec` writes zeros over what it drops, by a call where their number varies. So a few are dropped by four, two
-/// and one, which take no call.
+/// `smallvec` overwrites the bytes that it removes with zeros, by a call if their number varies. So up to seven bytes
+/// are removed by four, two and one, which takes no call.
 #[inline]
 pub(super) fn keep_bytes(bytes: &mut SmallVec<u8, 8>, count: usize)
     requires { count ≤ small_vec_len bytes.old }
@@ -184,7 +184,7 @@ pub(super) fn keep_bytes(bytes: &mut SmallVec<u8, 8>, count: usize)
     }
 }
 
-/// Drops the first bytes, and keeps as many behind them.
+/// Removes the first `count` bytes, and keeps the next `left` bytes.
 pub(super) fn drop_bytes(bytes: &mut SmallVec<u8, 8>, count: usize, left: usize)
     requires { count + left ≤ small_vec_len bytes.old }
     ensures items { bytes.new.items ≡ drop count (take (count + left) bytes.old.items) }
@@ -194,7 +194,8 @@ pub(super) fn drop_bytes(bytes: &mut SmallVec<u8, 8>, count: usize, left: usize)
     bytes.truncate(left);
 }
 
-/// Appends the first `count` halves of `more` behind the high half of the last byte, and 0 to a half that is left over.
+/// Appends the first `count` nibbles of `more` after the high nibble of the last byte, and 0 in a nibble that is left
+/// over.
 pub(super) fn append_nibbles(bytes: &mut SmallVec<u8, 8>, more: &[u8], count: usize)
     requires some { 0 < small_vec_len bytes.old }
     requires has_room { HasRoomFor bytes.old (count / 2) }

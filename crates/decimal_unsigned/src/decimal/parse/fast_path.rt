@@ -1,4 +1,4 @@
-//! Short texts: up to sixteen digits, with a dot or without one, make one number in base 16.
+//! Short texts: up to sixteen digits, with or without a decimal point, as one packed BCD number.
 ghost use Rattle.std.specs.Prelude.{◌≡◌, ◌++◌, IfSome};
 ghost use Rattle.std.specs.Str.Parse.{AllDigits};
 ghost use Rattle.decimal_unsigned.specs.Reading.{value_of};
@@ -9,10 +9,10 @@ use super::parts::Parts;
 use super::plan::{Bounds, to_bounds};
 use decimal_digits::ops::subtract_counts;
 
-/// How many bytes sixteen digits and a dot take.
+/// The length of sixteen digits and a decimal point.
 pub const MAX_FAST_LEN: usize = 17;
 
-/// A value: the first `len` digits of a number that is written in base 16 with sixteen places, and where they lie.
+/// A value: the first `len` nibbles of a packed BCD number of sixteen nibbles, and their magnitudes.
 #[derive(Clone, Copy, Debug)]
 pub struct BcdValue {
     pub number: u64,
@@ -20,7 +20,7 @@ pub struct BcdValue {
     pub bounds: Bounds,
 }
 
-/// The value of parts with few digits and without an exponent.
+/// Makes the value of parts with few digits and without an exponent.
 #[inline]
 pub fn bcd_value(parts: &Parts<'_>) -> Option<BcdValue>
     requires digits { AllDigits 10 (parts.now.whole.now ++ parts.now.fraction.now) }
@@ -46,7 +46,8 @@ pub fn bcd_value(parts: &Parts<'_>) -> Option<BcdValue>
             bounds,
         });
     }
-    // A digit takes four bits. `size` digits are left without the zeros in front, `len` without those behind.
+    // A digit takes four bits. There are `size` digits without the leading zeros, and `len` also without the trailing
+    // ones.
     let size = 16 - (number.leading_zeros() / 4) as usize;
     let zeros = (number.trailing_zeros() / 4) as usize;
     let len = size - zeros;

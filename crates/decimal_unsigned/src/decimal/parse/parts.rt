@@ -8,8 +8,8 @@ ghost use Rattle.std.specs.Str.{all_ascii_digits};
 ghost use Rattle.decimal_unsigned.specs.Reading as read;
 ghost use Rattle.decimal_unsigned.specs.Parts.{view, views, saturated, IsSaturated, saturated_parts, in_base_16, NumberMatchesDigits};
 
-/// The integer digits, the fraction digits and the exponent, and what the digits of a text below 32 bytes write in base
-/// 16, in 64 bits.
+/// The integer digits, the fraction digits and the exponent, and, for a text below 32 bytes, the number of the digits
+/// in base 16, in 64 bits.
 #[derive(Clone, Copy, Debug)]
 pub struct Parts<'a> {
     pub whole: &'a [u8],
@@ -18,10 +18,10 @@ pub struct Parts<'a> {
     pub number: u64,
 }
 
-/// How many bytes are tested at once.
+/// The number of bytes that are tested at once.
 const GROUP: usize = 32;
 
-/// Whether all bytes are digits. Each one is tested, with no branch, so that a processor tests many at once.
+/// Returns whether all bytes are digits. Each one is tested, without a branch, so that a processor tests many at once.
 #[inline]
 fn are_digits(group: &[u8]) -> bool
     ensures { result ≡ all_ascii_digits group.now }
@@ -33,7 +33,7 @@ fn are_digits(group: &[u8]) -> bool
     all
 }
 
-/// How many digits stand in front, in whole groups.
+/// Counts the leading digits in whole groups.
 #[inline(never)]
 fn grouped_digit_count(text: &[u8]) -> usize
     ensures within { result ≤ length text.now }
@@ -46,7 +46,8 @@ fn grouped_digit_count(text: &[u8]) -> usize
     count
 }
 
-/// Counts the leading digits; of a text below 32 bytes, gives what they write in base 16 after the digits of a number.
+/// Counts the leading digits and, for a text below 32 bytes, returns the base-16 number of the digits of `before` and
+/// then these.
 #[inline]
 fn count_digits(before: u64, text: &[u8]) -> (usize, u64)
     ensures count { result.0 ≡ prefix_len is_ascii_digit text.now }
@@ -82,10 +83,9 @@ fn split_digits(before: u64, text: &[u8]) -> (&[u8], &[u8], u64)
     (digits, rest, number)
 }
 
-/// Gives the number that a text of digits writes, or `most` where it is greater.
+/// Returns the number of a text of digits, or `most` if it is greater.
 ///
-/// With 255, `0012` gives 12, and `123456` gives 255. None: the text is empty, or has a byte that is no digit. Not in
-/// the original.
+/// With 255, `0012` gives 12, and `123456` gives 255. None if the text is empty, or has a byte that is no digit.
 #[tactic(auto, unfolding(crate::specs::Reading::numeral_of))]
 pub fn numeral(text: &[u8], most: u32) -> Option<u32>
     ensures { result ≡ option_map (min most) (read.numeral_of text.now) }
@@ -112,7 +112,7 @@ fn unsigned(text: &[u8]) -> Option<i32>
     Some(numeral(text, 70_000)? as i32)
 }
 
-// Behind a call, and its answer in a register: a short text does without it.
+// Not inlined, and its result is in a register: a short text needs no exponent.
 #[inline(never)]
 #[tactic(auto, unfolding(crate::specs::Reading::exponent_of))]
 fn exponent(text: &[u8]) -> Option<i32>
@@ -195,8 +195,8 @@ fn after_whole<'a>(whole: &'a [u8], number: u64, text: &'a [u8]) -> Option<Parts
     }
 }
 
-/// The parts of the text, if it is in the grammar.
-// In its caller, as what it calls: so the parts of a short text stay in registers.
+/// Returns the parts of the text, if it is in the grammar.
+// Inlined into its caller, as are its callees, so that the parts of a short text stay in registers.
 #[inline(always)]
 #[tactic(auto, unfolding(crate::specs::Reading::parts_of))]
 pub fn split(text: &[u8]) -> Option<Parts<'_>>
@@ -210,14 +210,14 @@ pub fn split(text: &[u8]) -> Option<Parts<'_>>
 }
 
 impl Parts<'_> {
-    /// The number of digits.
+    /// Returns the number of digits.
     pub fn len(&self) -> usize
         ensures { result ≡ length (digits_of (view self.now)) }
     {
         self.whole.len() + self.fraction.len()
     }
 
-    /// The byte at an index into all the digits.
+    /// Returns the byte at an index into all the digits.
     fn byte(&self, index: usize) -> u8
         requires { index < length (self.now.whole.now ++ self.now.fraction.now) }
         ensures { result ≡ slice_index (self.now.whole.now ++ self.now.fraction.now) index }
@@ -229,7 +229,7 @@ impl Parts<'_> {
         }
     }
 
-    /// The digit at an index into all the digits.
+    /// Returns the digit at an index into all the digits.
     fn digit(&self, index: usize) -> u8
         requires in_range { index < length (digits_of (view self.now)) }
         requires digits { AllDigits 10 (self.now.whole.now ++ self.now.fraction.now) }
@@ -238,7 +238,7 @@ impl Parts<'_> {
         self.byte(index) - b'0'
     }
 
-    /// The texts of the digits from `start` up to `end`, in front of the dot and behind it.
+    /// Returns the integer digits and the fraction digits from index `start` to before `end`, as texts.
     pub fn between(&self, start: usize, end: usize) -> (&[u8], &[u8])
         requires digits { AllDigits 10 (self.now.whole.now ++ self.now.fraction.now) }
         requires ordered { start ≤ end }
@@ -254,7 +254,7 @@ impl Parts<'_> {
         (whole, fraction)
     }
 
-    /// The range of the digits without the zeros at both ends; none where all digits are 0.
+    /// Returns the range of the digits without the leading and trailing zeros, or None if all digits are 0.
     pub fn nonzero_range(&self) -> Option<(usize, usize)>
         requires { AllDigits 10 (self.now.whole.now ++ self.now.fraction.now) }
         ensures none { IfNone result ((k : ℕ) → slice_index (digits_of (view self.now)) k ≡ 0) }

@@ -1,4 +1,4 @@
-//! Which digits make the value, and where they lie.
+//! Which digits are stored, and their magnitudes.
 ghost use Rattle.std.specs.Prelude.{◌≡◌, ◌≤◌, ◌++◌, length, Err, Some, IfSome, IfNone, pos, negsuc, ◌≤ℤ◌, int_lt, if◌then◌else◌};
 ghost use Rattle.std.specs.Int.{int_max, int_min};
 ghost use Rattle.std.specs.Str.Parse.{AllDigits};
@@ -11,7 +11,7 @@ use decimal_digits::ops::{
     at_least_zero, at_most_zero, shift_magnitude, subtract_counts, to_magnitude,
 };
 
-/// The magnitude of the first digit, and the magnitudes that are shown.
+/// The magnitude of the first digit, and the highest and the lowest magnitude that are shown.
 #[derive(Clone, Copy, Debug)]
 pub struct Bounds {
     pub magnitude: i16,
@@ -19,7 +19,7 @@ pub struct Bounds {
     pub lo: i16,
 }
 
-/// The magnitude of the first digit where that is above the dot.
+/// Returns the highest magnitude shown: that of the first nonzero digit if it is above 0, else `hi`, but at least 0.
 fn highest_shown(first: i32, hi: i32) -> i16
     requires first_in { first ≤ℤ pos 32767 }
     requires hi_in { hi ≤ℤ pos 32767 }
@@ -32,7 +32,7 @@ fn highest_shown(first: i32, hi: i32) -> i16
     }
 }
 
-/// The magnitude of the last digit where that is below the dot.
+/// Returns the lowest magnitude shown: that of the last nonzero digit if it is below 0, else `lo`, but at most 0.
 fn lowest_shown(last: i32, lo: i32) -> i16
     requires last_in { negsuc 32767 ≤ℤ last }
     requires lo_in { negsuc 32767 ≤ℤ lo }
@@ -45,7 +45,7 @@ fn lowest_shown(last: i32, lo: i32) -> i16
     }
 }
 
-/// The magnitudes as they are.
+/// Converts magnitudes to 16 bits.
 #[inline]
 pub fn to_bounds(magnitude: i32, hi: i32, lo: i32) -> Bounds
     requires magnitude_in { (negsuc 32767 ≤ℤ magnitude) × (magnitude ≤ℤ pos 32767) }
@@ -62,7 +62,7 @@ pub fn to_bounds(magnitude: i32, hi: i32, lo: i32) -> Bounds
     }
 }
 
-/// Which digits make the value, and where they lie.
+/// The index of the first stored digit and the one after the last, and their magnitudes.
 #[derive(Clone, Copy, Debug)]
 pub struct Plan {
     pub start: usize,
@@ -70,7 +70,7 @@ pub struct Plan {
     pub bounds: Bounds,
 }
 
-/// The plan of parts that have an exponent and are not 0.
+/// Makes the plan of parts that have an exponent and are not 0.
 fn plan_with_exponent(parts: &Parts<'_>, start: usize, end: usize, exponent: i32) -> Option<Plan>
     requires digits { AllDigits 10 (parts.now.whole.now ++ parts.now.fraction.now) }
     requires whole { length parts.now.whole.now ≤ 32768 }
@@ -98,7 +98,7 @@ fn plan_with_exponent(parts: &Parts<'_>, start: usize, end: usize, exponent: i32
     Some(Plan { start, end, bounds })
 }
 
-/// The plan of the parts, unless they are beyond a limit.
+/// Makes the plan of the parts, or returns None if they are beyond a limit.
 #[tactic(auto, using(std::proofs::lemmas::Int::ints, std::proofs::lemmas::Int::clamps))]
 pub fn planned(parts: &Parts<'_>) -> Option<Plan>
     requires digits { AllDigits 10 (parts.now.whole.now ++ parts.now.fraction.now) }

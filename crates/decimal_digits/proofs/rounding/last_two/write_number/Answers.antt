@@ -58,8 +58,12 @@ returns-else-number-ne0-clause-value g c = elim c.if-number-ge10.branch [
   | then-number-ge10 w ↦
       let two_digits : c.digit_count-places.result ≡ 2 =
       c.digit_count-places.ensures.two_digits (omega (arith, w.if-number-ge10.true)) (omega arith) in
-      rw (w.counted-is, w.push_in_room-then-number-ge10.ensures.digits, c.clear.ensures.digits,
-          two_digits) (omega arith)
+      rw (
+        w.counted-is,
+        w.push_in_room-then-number-ge10.ensures.digits,
+        c.clear.ensures.digits,
+        two_digits,
+      ) (omega arith)
   | else-number-ge10 w ↦
       let none : c.digit_count-places.result ≡ 0 =
       c.digit_count-places.ensures.none (omega (arith, w.if-number-ge10.false)) in
