@@ -1,5 +1,5 @@
--- Private: only the contracts of private functions speak of these.
--- Which error calls may answer.
+-- Private: cited only by the contracts of private functions.
+-- The errors that calls may return. A store holds `held` digits without an allocation.
 use Rattle.std.specs.Prelude.{◌≡◌, ℕ, List, Err}
 use Rattle.decimal_unsigned.specs.Reading.{syntax, limit}
 use Rattle.decimal_unsigned.specs.declared.error.ParseError.TheVariants as parse
@@ -10,7 +10,7 @@ use Rattle.fixed_decimal.specs.declared.runs.RunError.TheVariants.{Start, Operan
 use Rattle.fixed_decimal.specs.Outcome.{operand, overlap, limit_exceeded, step, after_calls}
 use Rattle.fixed_decimal.specs.Errors.{Reaches, HasLongOperand, CallNeedsMemory}
 
--- the error is that of the call with this number, made of v
+-- a call on v, with the number `at`, may fail with this error
 abbrev pub CallFails : ℕ → RunError → ℕ → Decimal → Call → Type 0
 CallFails held (Operand k parse.Limit) at v call = (k ≡ at) × (step at v call ≡ Err (operand at limit))
 CallFails held (Operand k parse.Syntax) at v call = (k ≡ at) × (step at v call ≡ Err (operand at syntax))
@@ -21,7 +21,7 @@ CallFails held (Memory k) at v call = (k ≡ at) × CallNeedsMemory held v call
 CallFails held (Start fault) at v call = ⊥
 CallFails held Sink at v call = ⊥
 
--- the error is that of calls made of the first value in order
+-- calls made in order on the first value, numbered from 0, may fail with this error
 abbrev pub CallsFail : ℕ → RunError → Decimal → List Call → Type 0
 CallsFail held (Operand at parse.Limit) first calls = after_calls 0 first calls ≡ Err (operand at limit)
 CallsFail held (Operand at parse.Syntax) first calls = after_calls 0 first calls ≡ Err (operand at syntax)

@@ -1,4 +1,4 @@
--- What the errors print.
+-- The texts of errors.
 use Rattle.std.specs.Prelude.{ℕ, List, ◌++◌, codes}
 use Rattle.std.specs.Fmt.{decimal}
 use Rattle.decimal_digits.specs.ErrorText.{limit_text, memory_text, sink_text}
@@ -6,11 +6,11 @@ use Rattle.decimal_unsigned.specs.ErrorText.{error_text, overlap_text}
 use Rattle.fixed_decimal.specs.declared.runs.RunError.{RunError}
 use Rattle.fixed_decimal.specs.declared.runs.RunError.TheVariants.{Start, Operand, Overlap, Limit, Memory, Sink}
 
--- what befell the call with this number, which is in decimal, from 0 on
+-- the text of an error of the call with this number, 0-based: `Call 0: The numbers overlap`
 abbrev pub call_text : ℕ → List ℕ → List ℕ
 call_text at what = codes "Call " ++ (decimal at ++ (codes ": " ++ what))
 
--- the line that says why a run did not write its text
+-- the text of the error of a run
 abbrev pub run_error_text : RunError → List ℕ
 run_error_text (Start fault) = codes "Start: " ++ error_text fault
 run_error_text (Operand at fault) = call_text at (error_text fault)

@@ -1,4 +1,4 @@
--- Which error a run may answer.
+-- The errors that a run may return. A store holds `held` digits without an allocation.
 use Rattle.std.specs.Prelude.{◌≡◌, ℕ, ◌<◌, List, take, slice_get, Some, Ok, Err, IsOk, IsOkAnd}
 use Rattle.decimal_digits.specs.Number.{size}
 use Rattle.decimal_unsigned.specs.Concatenation.{ConcatenationNeedsMemory}
@@ -13,32 +13,32 @@ use Rattle.fixed_decimal.specs.declared.runs.RunError.{RunError}
 use Rattle.fixed_decimal.specs.declared.runs.RunError.TheVariants.{Start, Operand, Overlap, Limit, Memory, Sink}
 use Rattle.fixed_decimal.specs.Outcome.{start, operand, overlap, limit_exceeded, after_calls, outcome}
 
--- the calls before the one with this number make v of the first value, and then comes this call
+-- the calls before the number `at`, in order, make v of the first value, and `call` has that number
 pub record IsReached (first : Decimal) (calls : List Call) (at : ℕ) (v : Decimal) (call : Call) : Type 0 where
   pub before : after_calls 0 first (take at calls) ≡ Ok v
   pub next_call : slice_get calls at ≡ Some call
 
--- calls made in order come to the one with this number, where the value and the call are so
+-- calls made in order on the first value reach the one with the number `at`; P holds of the value there and that call
 abbrev pub Reaches : Decimal → List Call → ℕ → (Decimal → Call → Type 0) → Type 0
 Reaches first calls at P = (v : Decimal) × (call : Call) × IsReached first calls at v call × P v call
 
--- the operand of a call has more digits than are held without memory
+-- the operand of a call has more than `held` digits
 abbrev pub HasLongOperand : ℕ → Call → Type 0
 HasLongOperand held (Concatenate text) = IsOkAnd (read text.now) (λ v. held < size v.number)
 HasLongOperand held _ = ⊥
 
--- a call may need to allocate for what it makes of a decimal
+-- the result of a call on v may need an allocation
 abbrev pub CallNeedsMemory : ℕ → Decimal → Call → Type 0
 CallNeedsMemory held v (Round position mode increment) = RoundingNeedsMemory held v position mode increment
 CallNeedsMemory held v (Concatenate text) = IsOkAnd (read text.now) (ConcatenationNeedsMemory held v.absolute)
 CallNeedsMemory held v _ = ⊥
 
--- the run reaches the call with this number, where the value and the call are so
+-- the start is read, and the run reaches the call with the number `at`; P holds of the value there and that call
 abbrev pub RunReaches : List ℕ → List Call → ℕ → (Decimal → Call → Type 0) → Type 0
 RunReaches bytes calls at P = IsOkAnd (read_decimal bytes) (λ first. Reaches first calls at P)
 
--- the error is the outcome's refusal; or want of memory, answered only for the start or for a call that the run
--- reaches, and only where that one may need to allocate; or a fault of the sink, and then there is a text
+-- a run may fail with an error: that of its outcome; or out of memory, at the start or at a call that the run reaches,
+-- if that may need an allocation; or `Sink`, if the outcome is a text
 abbrev pub RunFails : ℕ → RunError → List ℕ → List Call → Type 0
 RunFails held (Start parse.Limit) bytes calls = outcome bytes calls ≡ Err (start limit)
 RunFails held (Start parse.Syntax) bytes calls = outcome bytes calls ≡ Err (start syntax)

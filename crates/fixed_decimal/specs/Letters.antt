@@ -1,6 +1,6 @@
--- The letter before the exponent of a compact value.
+-- The letter before the exponent of compact notation.
 use Rattle.std.specs.Prelude.{ℕ, ◌==◌, Bool}
 
--- c
+-- the letter c
 abbrev pub is_c : ℕ → Bool
 is_c c = c == 99

@@ -1,4 +1,4 @@
--- Laws of whole runs.
+-- Laws of runs.
 use Rattle.std.specs.Prelude.{ℕ, List, [], ◌∷◌, map, Option, Some, None, Result, Ok, Err, IsSome, ⊤, ℤ}
 use Rattle.std.specs.List.{All, fold}
 use Rattle.std.specs.Int.{int_max}
@@ -25,32 +25,32 @@ IsDecided (Err (Memory at)) = ⊥
 IsDecided (Err Sink) = ⊥
 IsDecided result = ⊤
 
--- the text of an outcome, or nothing where there is none
+-- the text of an outcome, empty for an error
 abbrev pub text_or_none : Result (List ℕ) OutcomeError → List ℕ
 text_or_none (Ok text) = text
 text_or_none (Err refusal) = []
 
 -- ---- Lists of roundings.
 
--- a rounding by the mode to the multiples of 1 at a position
+-- the call that rounds by the mode at a position, to multiples of 1
 abbrev pub rounding_at : UnsignedRoundingMode → ℤ → Call
 rounding_at mode position = Round position (Unsigned mode) MultiplesOf1
 
--- what calls come to has the number of this decimal; or the limit is exceeded exactly where there is none
+-- calls result in a decimal with the sign and the number of this one; if there is none, they exceed the limits
 abbrev pub ResultHasNumber : Result Decimal OutcomeError → Option Decimal → Type 0
 ResultHasNumber (Ok w) (Some v) = HasNumberOf w v
 ResultHasNumber (Err (limit_exceeded at)) None = ⊤
 ResultHasNumber reached made = ⊥
 
--- roundings by the mode at a position and then at others come to what one rounding makes at the greatest of these
--- positions
+-- roundings by the mode at one or more positions, in order, give the sign and the number that one rounding at the
+-- greatest of these positions gives; they exceed the limits if and only if that one does
 abbrev pub RoundsOnce : UnsignedRoundingMode → Type 0
 RoundsOnce mode =
     (v : Decimal) (position : ℤ) (others : List ℤ) → IsValue v.absolute → All IsPosition (position ∷ others)
     → (at : ℕ) → ResultHasNumber (after_calls at v (map (rounding_at mode) (position ∷ others)))
     (rounded v (fold int_max position others) (Unsigned mode) MultiplesOf1)
 
--- the mode makes a decimal of each, at each position
+-- rounding by the mode never exceeds the limits
 abbrev pub NeverExceedsLimit : UnsignedRoundingMode → Type 0
 NeverExceedsLimit mode =
     (v : Decimal) (position : ℤ) → IsValue v.absolute → IsSome (rounded v position (Unsigned mode) MultiplesOf1)

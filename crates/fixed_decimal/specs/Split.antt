@@ -1,7 +1,7 @@
 -- Texts split at a letter.
 use Rattle.std.specs.Prelude.{ℕ, ◌==◌, if◌then◌else◌, List, [], ◌∷◌, Option, Some, None, option_map}
 
--- the texts before the first such letter and after it, where there is one
+-- the text before the first such letter and the text after it, if the letter occurs
 unfoldable pub split_once : ℕ → List ℕ → Option (List ℕ × List ℕ)
 split_once letter [] = None
 split_once letter (c ∷ rest) =

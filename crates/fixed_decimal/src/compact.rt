@@ -1,4 +1,4 @@
-//! A decimal times 10 to the power of a small number.
+//! Decimals in compact notation: `1.20c6`.
 ghost use Rattle.std.specs.Prelude.{◌≡◌, ◌≤◌, ◌↔◌, length, take, true, false, Ok, IsTrue, IsOk, IfOk, OnOk, OnErr, MatchResult};
 ghost use Rattle.std.specs.Option.{option_copied};
 ghost use Rattle.std.specs.Io.KnownBytes.{Keeps, Appends};
@@ -19,10 +19,9 @@ use std::alloc::{AllocError, Global};
 use std::fmt;
 use std::marker::Model;
 
-/// A decimal, the significand, times 10 to the power of a number from 0 to 255, the exponent: `-1.20c6`.
+/// A decimal, the significand, times 10 to the power of an exponent from 0 to 255: `-1.20c6`.
 ///
-/// The significand keeps the form in which it was handed in. Contracts see the two parts. The original's
-/// `CompactDecimal`.
+/// The significand keeps its sign and all its zeros. Contracts see the two parts.
 #[derive(Debug, Drop)]
 pub struct CompactDecimal {
     significand: Decimal,
@@ -37,7 +36,7 @@ impl Model for CompactDecimal {
     ghost view = { λ s. compact s.significand s.exponent };
 }
 
-/// The number that stands behind the `c`.
+/// Parses the exponent after the `c`.
 #[tactic(auto, unfolding(crate::specs::Compact::exponent_number_of))]
 fn exponent_number(text: &[u8]) -> Result<u8, ParseError>
     ensures { IsParseResult (λ _. ⊥) result (exponent_number_of text.now) }
@@ -52,7 +51,7 @@ fn exponent_number(text: &[u8]) -> Result<u8, ParseError>
     }
 }
 
-/// The exponent, whose text may be missing.
+/// Parses the exponent; it is 0 if there is no text of it.
 fn read_exponent(text: Option<&[u8]>) -> Result<u8, ParseError>
     ensures { IsParseResult (λ _. ⊥) result (read_exponent (option_copied text.entry)) }
 {
@@ -62,7 +61,7 @@ fn read_exponent(text: Option<&[u8]>) -> Result<u8, ParseError>
     }
 }
 
-/// The texts of the significand and of the exponent, where there is no `e` and no `E`.
+/// Splits a text without `e` and `E` at its first `c`, if there is one: the significand and the exponent.
 #[tactic(auto, unfolding(crate::specs::Compact::split_at_c))]
 fn split_at_c(text: &[u8]) -> Result<(&[u8], Option<&[u8]>), ParseError>
     ensures { MatchResult result (λ parts. split_at_c text.now ≡ Ok (parts.0.now, option_copied parts.1))
@@ -77,7 +76,7 @@ fn split_at_c(text: &[u8]) -> Result<(&[u8], Option<&[u8]>), ParseError>
     }
 }
 
-/// The text of an exponent, in the first bytes of an array: `c` and its digits, or nothing for 0.
+/// Returns the text of an exponent in the first bytes of an array, and its length: `c` and digits, or no bytes for 0.
 #[tactic(auto, using(crate::proofs::CompactTexts::exponents))]
 fn exponent_text(exponent: u8) -> ([u8; 4], usize)
     ensures text { take result.1 result.0 ≡ exponent_text exponent }
@@ -97,10 +96,7 @@ fn exponent_text(exponent: u8) -> ([u8; 4], usize)
 }
 
 impl CompactDecimal {
-    /// Joins a significand and an exponent, and changes neither.
-    ///
-    /// Of `1.20` and 6 the text is `1.20c6`, of `1.20` and 0 it is `1.20`. The original's
-    /// `from_significand_and_exponent`.
+    /// Makes the value of a significand and an exponent: `1.20` and 6 print `1.20c6`, and `1.20` and 0 print `1.20`.
     pub fn from_significand_and_exponent(significand: Decimal, exponent: u8) -> Self
         ensures { result ≡ compact significand exponent }
     {
@@ -110,39 +106,44 @@ impl CompactDecimal {
         }
     }
 
-    /// Gives the significand, to be read: `1.20` of `1.20c6`. The original's `significand`.
+    /// Returns the significand: `1.20` of `1.20c6`.
     pub fn significand(&self) -> &Decimal
         ensures { result.now ≡ self.now.significand }
     {
         &self.significand
     }
 
-    /// Gives the significand, and drops the exponent: `1.20` of `1.20c6`. The original's `into_significand`.
+    /// Returns the significand and drops the exponent: `1.20` of `1.20c6`.
     pub fn into_significand(self) -> Decimal
         ensures { result ≡ self.significand }
     {
         self.significand
     }
 
-    /// Gives the exponent: 6 of `1.20c6`, and 0 of `1.20`. The original's `exponent`.
+    /// Returns the exponent: 6 of `1.20c6`, and 0 of `1.20`.
     pub fn exponent(&self) -> u8
         ensures { result ≡ self.now.exponent }
     {
         self.exponent
     }
 
-    /// Reads the value that a text writes: a text without an exponent that `Decimal` reads, and then nothing, or `c`
-    /// and a number from 1 to 255 whose first digit is not 0.
+    /// Parses a decimal without an `e`, alone or followed by `c` and a number from 1 to 255 without leading zeros.
     ///
-    /// `+1.20c6` is read, and prints itself; `1729` has the exponent 0. Err: `Syntax` where there is an `e` or `E`;
-    /// else the `Syntax` or `Limit` that `Decimal` answers to the text in front of the first `c`; else `Syntax` where
-    /// what stands behind it is empty, begins with `0`, or is not all digits, as in `1c01` and `1c1c1`; else `Limit`
-    /// where it is above 255; else `Memory` where memory for more than `INLINE_DIGITS` digits of the significand was
-    /// refused. Every other fault is decided before memory is asked for. The original's `try_from_str` and `FromStr`.
+    /// `+1.20c6` prints `+1.20c6`; `1729` has the exponent 0.
+    ///
+    /// # Errors
+    ///
+    /// The first that applies; all but `Memory` are found before an allocation:
+    ///
+    /// - `Syntax`: the text has an `e` or `E`.
+    /// - `Syntax`, `Limit`: those of `Decimal`, for the text before the first `c`.
+    /// - `Syntax`: the text after that `c` is empty, begins with `0`, or is not all digits, as in `1c01` and `1c1c1`.
+    /// - `Limit`: the exponent is above 255.
+    /// - `Memory`: out of memory, only for more than `INLINE_DIGITS` digits of the significand.
     #[tactic(auto, using(crate::proofs::CompactTexts::compact_reads))]
     pub fn try_from_str(alloc: Global, text: &str) -> Result<Self, ParseError>
         ensures parses { IsParseResult (HasLongSignificand INLINE_DIGITS) result (read_compact text.now) }
-        // What reading comes to, by the parts of the text.
+        // The result of reading, by the parts of the text.
         ensures reads { ReadsCompact text.now (read_compact text.now) }
     {
         let (significand, exponent) = split_at_c(text.as_bytes())?;
@@ -152,7 +153,7 @@ impl CompactDecimal {
         Ok(Self::from_significand_and_exponent(significand, exponent))
     }
 
-    /// Whether the parts of two values are equal.
+    /// Returns whether the parts of two values are equal.
     fn has_same_fields(&self, other: &Self) -> bool
         ensures value { IsTrue result ↔ (self.now ≡ other.now) }
         ensures texts { IsTrue result ↔ (compact_text self.now ≡ compact_text other.now) }
@@ -165,10 +166,13 @@ impl CompactDecimal {
 impl Writeable for CompactDecimal {
     ghost text = { compact_text };
 
-    /// Appends the text of the significand, and where the exponent is not 0, `c` and its digits: `1.20c6`.
+    /// Appends the text of the significand and, if the exponent is not 0, `c` and its digits: `1.20c6`.
     ///
-    /// Err: the sink refused a byte, now or before, and has taken a beginning of the text. The text reads as this
-    /// very value. `write_to` of the original.
+    /// The text parses to an equal value.
+    ///
+    /// # Errors
+    ///
+    /// As [`Writeable::write_to`].
     #[tactic(auto, using(crate::proofs::CompactTexts::writing))]
     fn write_to<W: Sink>(&self, sink: &mut W) -> Result<(), SinkFault>
         ensures ok { OnOk result (Appends (W.contents sink.old) (W.contents sink.new) (compact_text self.now)) }
@@ -184,8 +188,7 @@ impl Writeable for CompactDecimal {
         sink.put_bytes(&exponent[..length])
     }
 
-    /// Counts the bytes of the text, exactly: 6 for `1.20c6`, and at most 65,542. `writeable_length_hint` of the
-    /// original.
+    /// Returns the exact length of the text, in bytes: 6 for `1.20c6`, and at most 65,542.
     fn writeable_length_hint(&self) -> usize
         ensures exact { result ≡ length (compact_text self.now) }
         ensures at_most { result ≤ 65542 }
@@ -202,13 +205,11 @@ impl Clone for CompactDecimal {
 
     ghost is_infallible = { λ value. size value.significand.absolute.number ≤ INLINE_DIGITS };
 
-    /// Makes a second value that equals this one.
-    ///
-    /// The copy of `1.20c6` prints `1.20c6`. The original's `Clone`.
+    /// Makes an equal value: the clone of `1.20c6` prints `1.20c6`.
     ///
     /// # Errors
     ///
-    /// Allocation fails for more than `INLINE_DIGITS` digits of the significand.
+    /// Out of memory, only for more than `INLINE_DIGITS` digits of the significand.
     fn clone(&self) -> Result<Self, AllocError> {
         Ok(CompactDecimal {
             significand: self.significand.clone()?,
@@ -222,9 +223,9 @@ impl PartialEq for CompactDecimal {
 
     ghost laws = { same_text_laws compact_text };
 
-    /// Tells whether the parts of two values are equal, so that their texts are equal.
+    /// Returns whether the parts of two values are equal, which is whether their texts are equal.
     ///
-    /// `1c2` and `1c3` are not equal, nor are `1c2` and `1.0c2`. The original's `PartialEq`.
+    /// `1c2` is not equal to `1c3`, nor to `1.0c2`.
     fn eq(&self, other: &Self) -> bool
         ensures same { result ≡ same_text compact_text self.now other.now }
         ensures value { IsTrue result ↔ (self.now ≡ other.now) }
@@ -242,9 +243,11 @@ impl fmt::Display for CompactDecimal {
 
     ghost styled_output = { λ v _. Some (compact_text v) };
 
-    /// Writes the text that `write_to` appends, and looks at no option of the format: `{:8}` writes `1.20c6` too.
+    /// Writes the text that `write_to` appends, and ignores the options of the format: `{:8}` writes `1.20c6` too.
     ///
-    /// Err: the formatter refused a character. The original's `Display`.
+    /// # Errors
+    ///
+    /// The formatter fails.
     #[tactic(auto, using(crate::proofs::Writing::formatting))]
     fn fmt<W: fmt::Write>(&self, f: &mut fmt::Formatter<W>) -> fmt::Result {
         let (exponent, length) = exponent_text(self.exponent);

@@ -1,4 +1,4 @@
-//! What the error of a run prints.
+//! The text of the error of a run.
 
 use crate::runs::RunError;
 use decimal_digits::rounding::RoundError;
@@ -13,10 +13,11 @@ impl fmt::Display for RunError {
 
     ghost output = { λ e. Some (run_error_text e) };
 
-    /// Writes what was refused, the start or the call with this number, from 0 on, and the sentence that says why:
-    /// `Start: Out of memory`, `Call 0: The numbers overlap`.
+    /// Writes what failed and why: `Start: Out of memory`, `Call 0: The numbers overlap`.
     ///
-    /// Err: the formatter refused it. Not in the original.
+    /// # Errors
+    ///
+    /// The formatter fails.
     fn fmt<W: fmt::Write>(&self, f: &mut fmt::Formatter<W>) -> fmt::Result {
         match self {
             RunError::Start(fault) => write!(f, "Start: {fault}"),

@@ -1,4 +1,4 @@
-//! The decimal without digits behind the dot.
+//! Decimals without fraction digits.
 ghost use Rattle.std.specs.Prelude.{◌≡◌, ◌<◌, ◌≤◌, ◌↔◌, length, pos, ◌≤ℤ◌, true, false, IsTrue, Ok, OnOk, OnErr, IfOk, IfErr, IsOk};
 ghost use Rattle.std.specs.Io.KnownBytes.{Keeps, Appends};
 ghost use Rattle.decimal_digits.specs.Number.{size};
@@ -22,9 +22,9 @@ use std::convert::TryFrom;
 use std::fmt;
 use std::marker::Model;
 
-/// A decimal that shows no digit behind the dot: `-0120`.
+/// A decimal without fraction digits: `-0120`.
 ///
-/// It is the exponent of a `ScientificDecimal`. Contracts see the decimal. The original's `FixedInteger`.
+/// It is the exponent of a `ScientificDecimal`. Contracts see the decimal.
 #[derive(Debug, Drop)]
 pub struct FixedInteger(Decimal);
 
@@ -39,7 +39,7 @@ impl Model for FixedInteger {
     ghost invariant = { λ s. s.0.absolute.lo ≡ pos 0 };
 }
 
-/// What a text that writes an integer writes, found with no memory.
+/// Scans a text that writes an integer, without an allocation.
 pub(crate) fn scan_integer(text: &[u8]) -> Result<Signed<Scan<'_>>, ParseError>
     ensures value { IfOk result (λ scan. read_integer text.now ≡ Ok scan) }
     ensures integer { IfOk result (λ scan. pos 0 ≤ℤ scan.absolute.lo) }
@@ -53,32 +53,39 @@ pub(crate) fn scan_integer(text: &[u8]) -> Result<Signed<Scan<'_>>, ParseError>
 }
 
 impl FixedInteger {
-    /// Makes the number 0 without a sign, which shows magnitude 0 alone, and asks for no memory.
-    ///
-    /// Its text is `0`. In the place of the original's `Default`.
+    /// Makes the integer `0`, without a sign; it does not allocate.
     pub fn zero(alloc: Global) -> Self
         ensures { result ≡ zero_decimal }
     {
         FixedInteger(Decimal::zero(alloc))
     }
 
-    /// Reads the integer that a text writes: a text that `Decimal` reads, whose decimal shows no digit behind the dot.
+    /// Parses a text that `Decimal` parses to a decimal without fraction digits.
     ///
-    /// `05` is read, and prints `05`; `5.0e1` and `5.0e+1` are read, and print `50`. Err: `Syntax` where `Decimal`
-    /// answers it; else `Limit` where `Decimal` answers it, or where a digit is shown behind the dot, as in `5.0` and
-    /// `100e-2`; else `Memory` where memory for more than `INLINE_DIGITS` digits was refused. Both other faults are
-    /// decided before memory is asked for. The original's `try_from_utf8`.
+    /// `05` prints `05`; `5.0e1` and `5.0e+1` print `50`.
+    ///
+    /// # Errors
+    ///
+    /// The first that applies; all but `Memory` are found before an allocation:
+    ///
+    /// - `Syntax`, `Limit`: those of `Decimal`.
+    /// - `Limit`: the decimal has fraction digits, as that of `5.0` and of `100e-2`.
+    /// - `Memory`: out of memory, only for more than `INLINE_DIGITS` digits.
     #[tactic(auto, using(crate::proofs::IntegerTexts::integer_reads))]
     pub fn try_from_utf8(alloc: Global, text: &[u8]) -> Result<Self, ParseError>
         ensures parses { IsParseResult (IsLong INLINE_DIGITS) result (read_integer text.now) }
-        // What reading comes to, by the grammar.
+        // The result of reading, by the grammar.
         ensures reads { ReadsInteger text.now (read_integer text.now) }
     {
         let scan = scan_integer(text)?;
         Self::from_scan(alloc, &scan)
     }
 
-    /// Reads the integer that a text writes: `try_from_utf8` of its bytes. The original's `try_from_str` and `FromStr`.
+    /// Parses an integer, as [`try_from_utf8`](Self::try_from_utf8) of the bytes of the text.
+    ///
+    /// # Errors
+    ///
+    /// As there.
     #[tactic(auto, using(crate::proofs::IntegerTexts::integer_reads))]
     pub fn try_from_str(alloc: Global, text: &str) -> Result<Self, ParseError>
         ensures parses { IsParseResult (IsLong INLINE_DIGITS) result (read_integer text.now) }
@@ -87,7 +94,11 @@ impl FixedInteger {
         Self::try_from_utf8(alloc, text.as_bytes())
     }
 
-    /// The integer that a text writes which shows no digit behind the dot, or want of memory.
+    /// Makes the integer of a scanned text without fraction digits.
+    ///
+    /// # Errors
+    ///
+    /// `Memory`: out of memory, only for more than `INLINE_DIGITS` digits.
     pub(crate) fn from_scan(alloc: Global, scan: &Signed<Scan<'_>>) -> Result<Self, ParseError>
         requires { pos 0 ≤ℤ scan.now.absolute.lo }
         ensures { IsParseResult (IsLong INLINE_DIGITS) result (Ok scan.now) }
@@ -103,9 +114,11 @@ impl TryFrom<Decimal> for FixedInteger {
 
     ghost try_from_gives = { IsConverted };
 
-    /// Takes a decimal that shows no digit behind the dot, as it is: `-05` stays `-05`.
+    /// Converts a decimal without fraction digits, unchanged: `-05` prints `-05`.
     ///
-    /// Err: it shows one, be it a 0, as `5.0` does; the decimal is then dropped. The original's `TryFrom<Decimal>`.
+    /// # Errors
+    ///
+    /// The decimal has fraction digits, also if all of them are 0, as `5.0` has; it is dropped.
     fn try_from(decimal: Decimal) -> Result<Self, LimitError> {
         if *decimal.absolute.magnitude_range().start() < 0 {
             return Err(LimitError);
@@ -117,7 +130,7 @@ impl TryFrom<Decimal> for FixedInteger {
 impl From<FixedInteger> for Decimal {
     ghost from_gives = { λ integer decimal. (decimal ≡ integer) × (integer.absolute.lo ≡ pos 0) };
 
-    /// Gives the decimal that the integer is: of `-05` it is `-05`. The original's `From<FixedInteger>`.
+    /// Returns the integer as a decimal, unchanged: `-05` prints `-05`.
     fn from(integer: FixedInteger) -> Decimal {
         integer.0
     }
@@ -128,8 +141,11 @@ impl Writeable for FixedInteger {
 
     /// Appends the text of the decimal: `-05`.
     ///
-    /// Err: the sink refused a byte, now or before, and has taken a beginning of the text. The text reads as this
-    /// very integer. `write_to` of the original.
+    /// The text parses to an equal integer.
+    ///
+    /// # Errors
+    ///
+    /// As [`Writeable::write_to`].
     fn write_to<W: Sink>(&self, sink: &mut W) -> Result<(), SinkFault>
         ensures ok { OnOk result (Appends (W.contents sink.old) (W.contents sink.new) (decimal_text self.now)) }
         ensures err { OnErr result
@@ -142,7 +158,7 @@ impl Writeable for FixedInteger {
         self.0.write_to(sink)
     }
 
-    /// Counts the bytes of the text, exactly: 3 for `-05`, and at most 32,769. `writeable_length_hint` of the original.
+    /// Returns the exact length of the text, in bytes: 3 for `-05`, and at most 32,769.
     fn writeable_length_hint(&self) -> usize
         ensures exact { result ≡ length (decimal_text self.now) }
         ensures at_most { result ≤ 32769 }
@@ -160,13 +176,11 @@ impl Clone for FixedInteger {
 
     ghost is_infallible = { λ value. size value.absolute.number ≤ INLINE_DIGITS };
 
-    /// Makes a second integer that equals this one.
-    ///
-    /// The copy of `-05` prints `-05`. The original's `Clone`.
+    /// Makes an equal integer: the clone of `-05` prints `-05`.
     ///
     /// # Errors
     ///
-    /// Allocation fails for more than `INLINE_DIGITS` digits.
+    /// Out of memory, only for more than `INLINE_DIGITS` digits.
     fn clone(&self) -> Result<Self, AllocError> {
         Ok(FixedInteger(self.0.clone()?))
     }
@@ -177,9 +191,7 @@ impl PartialEq for FixedInteger {
 
     ghost laws = { same_text_laws decimal_text };
 
-    /// Tells whether two integers are equal decimals, so that their texts are equal.
-    ///
-    /// `05` and `5` are not equal. The original's `PartialEq`.
+    /// Returns whether two integers are equal decimals, which is whether their texts are equal: `05` and `5` are not.
     fn eq(&self, other: &Self) -> bool
         ensures same { result ≡ same_text decimal_text self.now other.now }
         ensures value { IsTrue result ↔ (self.now ≡ other.now) }
@@ -197,9 +209,11 @@ impl fmt::Display for FixedInteger {
 
     ghost styled_output = { λ v _. Some (decimal_text v) };
 
-    /// Writes the text that `write_to` appends, and looks at no option of the format: `{:8}` writes `-05` too.
+    /// Writes the text that `write_to` appends, and ignores the options of the format: `{:8}` writes `-05` too.
     ///
-    /// Err: the formatter refused a character. The original's `Display`.
+    /// # Errors
+    ///
+    /// The formatter fails.
     fn fmt<W: fmt::Write>(&self, f: &mut fmt::Formatter<W>) -> fmt::Result {
         self.0.fmt(f)
     }

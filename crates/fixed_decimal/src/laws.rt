@@ -1,4 +1,4 @@
-//! Laws of several calls, and of what is derived: the contract of each function is the law.
+//! Laws of several calls, and of derived implementations: the contract of each function states a law.
 ghost use Rattle.std.specs.Prelude.{◌≡◌, ℤ};
 ghost use Rattle.std.specs.Io.KnownBytes.{Appends};
 ghost use Rattle.std.specs.Ordering.{nat_cmp};
@@ -21,38 +21,38 @@ use decimal_digits::sink::Sink;
 use std::alloc::Global;
 use std::cmp::Ordering;
 
-/// Rounding commutes with negation: with the opposite sign and up and down exchanged, the absolute value is the same,
-/// range included.
+/// Rounding commutes with negation: with the opposite sign and up and down exchanged, the rounded absolute value is the
+/// same, range included.
 #[tactic(auto, using(crate::proofs::SignedRoundings::rounding_commutes_with_negation))]
 pub fn rounding_commutes_with_negation()
     ensures { (v : Decimal) (position : ℤ) (mode : SignedRoundingMode) (increment : RoundingIncrement)
         → RoundingCommutesWithNegation v position mode increment }
 {}
 
-/// Rounding is monotone: of two numbers, the greater one is not the smaller after both are rounded.
+/// Rounding is monotone: if one number is at most another, so it is after both are rounded.
 ///
-/// A number whose rounding fails with `Limit` stays.
+/// A number whose rounding fails with `Limit` is unchanged.
 #[tactic(auto, using(crate::proofs::SignedRoundings::rounding_is_monotone))]
 pub fn rounding_is_monotone()
     ensures { (v w : Decimal) (position : ℤ) (mode : SignedRoundingMode) (increment : RoundingIncrement)
         → RoundingIsMonotone v w position mode increment }
 {}
 
-/// Two truncations leave the number of the one at the greater position.
+/// Two truncations give the number of one truncation at the greater position.
 #[tactic(auto, using(crate::proofs::RunLaws::truncations_compose))]
 pub fn truncations_compose()
     ensures { (v : Decimal) (p q : ℤ) → IsValue v.absolute → IsPosition p → IsPosition q → TruncationsCompose v p q }
 {}
 
-/// Two expansions leave the number of the one at the greater position, and one of the two fails exactly where that one
+/// Two expansions give the number of one expansion at the greater position; one of them fails if and only if that one
 /// does.
 #[tactic(auto, using(crate::proofs::RunLaws::expansions_compose))]
 pub fn expansions_compose()
     ensures { (v : Decimal) (p q : ℤ) → IsPosition p → IsPosition q → ExpansionsCompose v p q }
 {}
 
-/// Roundings in a row, all toward zero or all away from zero, leave the number of the one at their greatest position,
-/// and one of them fails exactly where that one does.
+/// Successive roundings, all toward zero or all away from zero, give the number of one rounding at their greatest
+/// position; one of them fails if and only if that one does.
 #[tactic(auto, using(crate::proofs::RunLaws::roundings_compose))]
 pub fn roundings_compose()
     ensures toward_zero { RoundsOnce Trunc }
@@ -81,21 +81,21 @@ pub fn runs_agree<D: DigitStore, E: DigitStore, V: Sink, W: Sink>(
     (left, right)
 }
 
-/// The default sign is none.
+/// The default sign is `None`.
 pub fn default_sign() -> Sign
     ensures { result ≡ Sign.None }
 {
     Sign::default()
 }
 
-/// By default a minus stays, and a plus is removed.
+/// The default sign display is `Auto`.
 pub fn default_display() -> SignDisplay
     ensures { result ≡ SignDisplay.Auto }
 {
     SignDisplay::default()
 }
 
-/// The modes are ordered as they are declared, and those of absolute values come first.
+/// Modes are ordered as they are declared, those of absolute values first.
 pub fn signed_order(left: Mode, right: Mode) -> Ordering
     ensures { result ≡ nat_cmp (signed_rank left) (signed_rank right) }
 {

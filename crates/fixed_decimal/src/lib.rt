@@ -1,20 +1,20 @@
-//! Decimals for display: numbers of up to 65,536 digits that keep their zeros as written, and whole runs of calls.
+//! Decimals for display: numbers of up to 65,536 digits that keep their zeros as written, and runs of calls.
 //!
-//! A magnitude is a power of ten, from -32768 to 32767. A crate that stands on this one has in crates.txt a line as
-//! `invoice: fixed_decimal`, and writes:
+//! A magnitude is a power of ten, from -32768 to 32767. A crate `invoice` that uses this one has the line
+//! `invoice: fixed_decimal` in crates.txt:
 //!
 //! ```
 //! use fixed_decimal::{Call, RunError, Sign, Sink, run};
 //! use std::alloc::Global;
 //!
-//! /// Appends a number of cents as an amount that is owed: `250` as `-2.50`.
+//! /// Writes a number of cents as an amount that is owed: `250` as `-2.50`.
 //! pub fn write_owed<W: Sink>(alloc: Global, cents: &str, sink: &mut W) -> Result<(), RunError> {
 //!     let calls = [Call::MultiplyPow10(-2), Call::SetSign(Sign::Negative)];
 //!     run(alloc, cents.as_bytes(), &calls, sink)
 //! }
 //! ```
 //!
-//! The same call by call, for `Decimal` and a sink:
+//! The same by single calls of a `Decimal`:
 //!
 //! ```
 //! let mut amount = Decimal::try_from_str(alloc, "250")?;

@@ -1,20 +1,20 @@
-//! The modes of numbers with a sign.
+//! Rounding modes of signed numbers.
 
 use decimal_digits::rounding::UnsignedRoundingMode;
 
-/// How a number with a sign is rounded.
+/// How a signed number is rounded.
 ///
-/// The original's enum of this name.
+/// `Ceil` rounds -3.9 to -3, and `Floor` rounds -3.1 to -4; `HalfCeil` rounds -2.5 to -2, and `HalfFloor` to -3.
 #[derive(Clone, Copy, Debug, PartialEq, Eq, PartialOrd, Ord)]
 pub enum SignedRoundingMode {
     /// Rounds the absolute value.
     Unsigned(UnsignedRoundingMode),
-    /// Takes the multiple above, toward plus infinity.
+    /// Rounds up, toward plus infinity.
     Ceil,
-    /// Takes the multiple below, toward minus infinity.
+    /// Rounds down, toward minus infinity.
     Floor,
-    /// Takes the nearest multiple, and the upper of two that are as near.
+    /// Rounds to the nearest multiple, ties toward plus infinity.
     HalfCeil,
-    /// Takes the nearest multiple, and the lower of two that are as near.
+    /// Rounds to the nearest multiple, ties toward minus infinity.
     HalfFloor,
 }

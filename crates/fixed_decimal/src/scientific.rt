@@ -1,4 +1,4 @@
-//! A decimal times 10 to the power of an integer.
+//! Decimals in scientific notation: `1.20e-03`.
 ghost use Rattle.std.specs.Prelude.{◌≡◌, ◌≤◌, ◌↔◌, length, true, false, Ok, IsTrue, IsOk, IfOk, OnOk, OnErr, MatchResult};
 ghost use Rattle.std.specs.Io.KnownBytes.{Keeps, Appends};
 ghost use Rattle.decimal_digits.specs.Number.{size};
@@ -21,8 +21,7 @@ use std::marker::Model;
 
 /// A decimal, the significand, times 10 to the power of an integer, the exponent: `-1.20e+05`.
 ///
-/// Both parts keep the form in which they were handed in, signs and zeros included. Contracts see the two parts. The
-/// original's `ScientificDecimal`.
+/// Both parts keep their sign and all their zeros. Contracts see the two parts.
 #[derive(Debug, Drop)]
 pub struct ScientificDecimal {
     significand: Decimal,
@@ -37,7 +36,7 @@ impl Model for ScientificDecimal {
     ghost view = { λ s. scientific s.significand s.exponent };
 }
 
-/// The texts of the two parts, where there is one `e` and no `E`.
+/// Splits a text with exactly one `e` and without `E` at its `e`: the significand and the exponent.
 #[tactic(auto, unfolding(crate::specs::Scientific::split_at_e))]
 fn split_at_e(text: &[u8]) -> Result<(&[u8], &[u8]), ParseError>
     ensures { MatchResult result (λ parts. split_at_e text.now ≡ Ok (parts.0.now, parts.1.now))
@@ -53,9 +52,7 @@ fn split_at_e(text: &[u8]) -> Result<(&[u8], &[u8]), ParseError>
 }
 
 impl ScientificDecimal {
-    /// Joins a significand and an exponent, and changes neither.
-    ///
-    /// Of `1.729` and `3` the text is `1.729e3`. The original's `from`.
+    /// Makes the value of a significand and an exponent: `1.729` and `3` print `1.729e3`.
     pub fn from(significand: Decimal, exponent: FixedInteger) -> Self
         ensures { result ≡ scientific significand exponent }
     {
@@ -65,40 +62,43 @@ impl ScientificDecimal {
         }
     }
 
-    /// Gives the significand, to be read: `-1.20` of `-1.20e+05`. Not in the original.
+    /// Returns the significand: `-1.20` of `-1.20e+05`.
     pub fn significand(&self) -> &Decimal
         ensures { result.now ≡ self.now.significand }
     {
         &self.significand
     }
 
-    /// Gives the exponent, to be read: `+05` of `-1.20e+05`. Not in the original.
+    /// Returns the exponent: `+05` of `-1.20e+05`.
     pub fn exponent(&self) -> &FixedInteger
         ensures { result.now ≡ self.now.exponent }
     {
         &self.exponent
     }
 
-    /// Takes the value apart, and gives the significand and the exponent as they were joined.
-    ///
-    /// `-1.20e+05` gives `-1.20` and `+05`. Not in the original.
+    /// Returns the significand and the exponent: `-1.20` and `+05` of `-1.20e+05`.
     pub fn into_parts(self) -> (Decimal, FixedInteger)
         ensures { scientific result.0 result.1 ≡ self }
     {
         (self.significand, self.exponent)
     }
 
-    /// Reads the value that a text writes: a text that `Decimal` reads, `e`, and a text that `FixedInteger` reads.
+    /// Parses a text that `Decimal` parses, followed by `e` and a text that `FixedInteger` parses.
     ///
-    /// Neither part may have an exponent of its own. `+1.20e-03` is read, and prints itself. Err: `Syntax` where there
-    /// is an `E`, or not exactly one `e`, as in `1E5` and `5`; else the `Syntax` or `Limit` that `Decimal` answers to
-    /// the text in front of the `e`; else the one that `FixedInteger` answers to the text behind it, as `Limit` to
-    /// `1.0`; else `Memory` where memory for more than `INLINE_DIGITS` digits of a part was refused, and nothing is
-    /// left of the other part. Every other fault is decided before memory is asked for. The original's `try_from_utf8`.
+    /// `+1.20e-03` prints `+1.20e-03`. Neither part may have an exponent of its own.
+    ///
+    /// # Errors
+    ///
+    /// The first that applies; all but `Memory` are found before an allocation:
+    ///
+    /// - `Syntax`: the text has an `E`, or not exactly one `e`, as `1E5` and `5`.
+    /// - `Syntax`, `Limit`: those of `Decimal`, for the text before the `e`.
+    /// - `Syntax`, `Limit`: those of `FixedInteger`, for the text after the `e`; so `1e1.0` is `Limit`.
+    /// - `Memory`: out of memory, only for more than `INLINE_DIGITS` digits of a part; the other part is dropped.
     #[tactic(auto, using(crate::proofs::ScientificTexts::scientific_reads))]
     pub fn try_from_utf8(alloc: Global, text: &[u8]) -> Result<Self, ParseError>
         ensures parses { IsParseResult (HasLongField INLINE_DIGITS) result (read_scientific text.now) }
-        // What reading comes to, by the parts of the text.
+        // The result of reading, by the parts of the text.
         ensures reads { ReadsScientific text.now (read_scientific text.now) }
     {
         let (significand, exponent) = split_at_e(text)?;
@@ -109,7 +109,11 @@ impl ScientificDecimal {
         Ok(ScientificDecimal::from(significand, exponent))
     }
 
-    /// Reads the value that a text writes: `try_from_utf8` of its bytes. The original's `try_from_str` and `FromStr`.
+    /// Parses a value, as [`try_from_utf8`](Self::try_from_utf8) of the bytes of the text.
+    ///
+    /// # Errors
+    ///
+    /// As there.
     #[tactic(auto, using(crate::proofs::ScientificTexts::scientific_reads))]
     pub fn try_from_str(alloc: Global, text: &str) -> Result<Self, ParseError>
         ensures parses { IsParseResult (HasLongField INLINE_DIGITS) result (read_scientific text.now) }
@@ -118,7 +122,7 @@ impl ScientificDecimal {
         Self::try_from_utf8(alloc, text.as_bytes())
     }
 
-    /// Whether the parts of two values are equal.
+    /// Returns whether the parts of two values are equal.
     fn has_same_fields(&self, other: &Self) -> bool
         ensures value { IsTrue result ↔ (self.now ≡ other.now) }
         ensures texts { IsTrue result ↔ (scientific_text self.now ≡ scientific_text other.now) }
@@ -132,8 +136,11 @@ impl Writeable for ScientificDecimal {
 
     /// Appends the text of the significand, `e`, and the text of the exponent: `1.20e-03`.
     ///
-    /// Err: the sink refused a byte, now or before, and has taken a beginning of the text. The text reads as this
-    /// very value. `write_to` of the original.
+    /// The text parses to an equal value.
+    ///
+    /// # Errors
+    ///
+    /// As [`Writeable::write_to`].
     #[tactic(auto, using(crate::proofs::ScientificTexts::writing))]
     fn write_to<W: Sink>(&self, sink: &mut W) -> Result<(), SinkFault>
         ensures ok { OnOk result (Appends (W.contents sink.old) (W.contents sink.new) (scientific_text self.now)) }
@@ -150,8 +157,7 @@ impl Writeable for ScientificDecimal {
         self.exponent.write_to(sink)
     }
 
-    /// Counts the bytes of the text, exactly: 8 for `1.20e-03`, and at most 98,308. `writeable_length_hint` of the
-    /// original.
+    /// Returns the exact length of the text, in bytes: 8 for `1.20e-03`, and at most 98,308.
     fn writeable_length_hint(&self) -> usize
         ensures exact { result ≡ length (scientific_text self.now) }
         ensures at_most { result ≤ 98308 }
@@ -169,13 +175,11 @@ impl Clone for ScientificDecimal {
     ghost is_infallible = { λ value. size value.significand.absolute.number ≤ INLINE_DIGITS
         × size value.exponent.absolute.number ≤ INLINE_DIGITS };
 
-    /// Makes a second value that equals this one.
-    ///
-    /// The copy of `1.20e05` prints `1.20e05`. The original's `Clone`.
+    /// Makes an equal value: the clone of `1.20e05` prints `1.20e05`.
     ///
     /// # Errors
     ///
-    /// Allocation fails for more than `INLINE_DIGITS` digits of a part.
+    /// Out of memory, only for more than `INLINE_DIGITS` digits of a part.
     fn clone(&self) -> Result<Self, AllocError> {
         Ok(ScientificDecimal {
             significand: self.significand.clone()?,
@@ -189,9 +193,9 @@ impl PartialEq for ScientificDecimal {
 
     ghost laws = { same_text_laws scientific_text };
 
-    /// Tells whether the parts of two values are equal, so that their texts are equal.
+    /// Returns whether the parts of two values are equal, which is whether their texts are equal.
     ///
-    /// `1e2` and `1e+2` are not equal. The original's `PartialEq`.
+    /// `1e2` and `1e+2` are not equal.
     fn eq(&self, other: &Self) -> bool
         ensures same { result ≡ same_text scientific_text self.now other.now }
         ensures value { IsTrue result ↔ (self.now ≡ other.now) }
@@ -209,9 +213,11 @@ impl fmt::Display for ScientificDecimal {
 
     ghost styled_output = { λ v _. Some (scientific_text v) };
 
-    /// Writes the text that `write_to` appends, and looks at no option of the format: `{:12}` writes `1.20e-03` too.
+    /// Writes the text that `write_to` appends, and ignores the options of the format: `{:12}` writes `1.20e-03` too.
     ///
-    /// Err: the formatter refused a character. The original's `Display`.
+    /// # Errors
+    ///
+    /// The formatter fails.
     fn fmt<W: fmt::Write>(&self, f: &mut fmt::Formatter<W>) -> fmt::Result {
         self.significand.fmt(f)?;
         f.write_str("e")?;

@@ -4,7 +4,7 @@ ghost use Rattle.std.specs.List.{list_any};
 ghost use Rattle.decimal_unsigned.specs.Reading.{is_letter};
 ghost use Rattle.fixed_decimal.specs.Split.{split_once};
 
-/// Splits a text at the first such letter.
+/// Splits a text at the first occurrence of a letter, into the text before it and the text after it.
 pub(crate) fn split_once(text: &[u8], letter: u8) -> Option<(&[u8], &[u8])>
     ensures { MatchOption result (split_once letter text.now ≡ None)
         (λ parts. split_once letter text.now ≡ Some (parts.0.now, parts.1.now)) }

@@ -1,4 +1,6 @@
-//! Integers of machine integers.
+//! `FixedInteger` values of machine integers.
+//!
+//! The constructors that return no `Result` do not allocate.
 ghost use Rattle.std.specs.Prelude.{◌≡◌, ◌≤◌, pos, IsOk, IfOk};
 ghost use Rattle.decimal_digits.specs.Number.{size};
 ghost use Rattle.fixed_decimal.specs.Decimal.{integer_decimal};
@@ -9,36 +11,28 @@ use decimal_unsigned::decimal::INLINE_DIGITS;
 use std::alloc::{AllocError, Global};
 
 impl FixedInteger {
-    /// Makes the integer of a `u8`, without a sign, and asks for no memory.
-    ///
-    /// 200 prints `200`. In the place of the original's `From<u8>`.
+    /// Makes the integer of a `u8`, without a sign: 200 prints `200`.
     pub fn from_u8(alloc: Global, integer: u8) -> Self
         ensures { result ≡ integer_decimal (pos integer) }
     {
         FixedInteger(Decimal::from_u8(alloc, integer))
     }
 
-    /// Makes the integer of a `u16`, without a sign, and asks for no memory.
-    ///
-    /// 65535 prints `65535`. In the place of the original's `From<u16>`.
+    /// Makes the integer of a `u16`, without a sign: 65535 prints `65535`.
     pub fn from_u16(alloc: Global, integer: u16) -> Self
         ensures { result ≡ integer_decimal (pos integer) }
     {
         FixedInteger(Decimal::from_u16(alloc, integer))
     }
 
-    /// Makes the integer of an `i8`, with a minus where it is below 0, and asks for no memory.
-    ///
-    /// -128 prints `-128`. In the place of the original's `From<i8>`.
+    /// Makes the integer of an `i8`, with a minus below 0: -128 prints `-128`.
     pub fn from_i8(alloc: Global, integer: i8) -> Self
         ensures { result ≡ integer_decimal integer }
     {
         FixedInteger(Decimal::from_i8(alloc, integer))
     }
 
-    /// Makes the integer of an `i16`, with a minus where it is below 0, and asks for no memory.
-    ///
-    /// -32768 prints `-32768`. In the place of the original's `From<i16>`.
+    /// Makes the integer of an `i16`, with a minus below 0: -32768 prints `-32768`.
     pub fn from_i16(alloc: Global, integer: i16) -> Self
         ensures { result ≡ integer_decimal integer }
     {
@@ -47,8 +41,9 @@ impl FixedInteger {
 
     /// Makes the integer of a `u32`, without a sign: 250 prints `250`.
     ///
-    /// Err: memory for more than `INLINE_DIGITS` digits was refused; the zeros at the end of the integer are not
-    /// counted. In the place of the original's `From<u32>`.
+    /// # Errors
+    ///
+    /// Out of memory, only for more than `INLINE_DIGITS` digits without trailing zeros.
     pub fn try_from_u32(alloc: Global, integer: u32) -> Result<Self, AllocError>
         ensures value { IfOk result (λ v. v ≡ integer_decimal (pos integer)) }
         ensures succeeds { size (integer_decimal (pos integer)).absolute.number ≤ INLINE_DIGITS → IsOk result }
@@ -58,8 +53,9 @@ impl FixedInteger {
 
     /// Makes the integer of a `u64`, without a sign: 250 prints `250`.
     ///
-    /// Err: memory for more than `INLINE_DIGITS` digits was refused; the zeros at the end of the integer are not
-    /// counted. In the place of the original's `From<u64>`.
+    /// # Errors
+    ///
+    /// As [`try_from_u32`](Self::try_from_u32).
     pub fn try_from_u64(alloc: Global, integer: u64) -> Result<Self, AllocError>
         ensures value { IfOk result (λ v. v ≡ integer_decimal (pos integer)) }
         ensures succeeds { size (integer_decimal (pos integer)).absolute.number ≤ INLINE_DIGITS → IsOk result }
@@ -69,8 +65,9 @@ impl FixedInteger {
 
     /// Makes the integer of a `u128`, without a sign: 250 prints `250`.
     ///
-    /// Err: memory for more than `INLINE_DIGITS` digits was refused; the zeros at the end of the integer are not
-    /// counted. In the place of the original's `From<u128>`.
+    /// # Errors
+    ///
+    /// As [`try_from_u32`](Self::try_from_u32).
     pub fn try_from_u128(alloc: Global, integer: u128) -> Result<Self, AllocError>
         ensures value { IfOk result (λ v. v ≡ integer_decimal (pos integer)) }
         ensures succeeds { size (integer_decimal (pos integer)).absolute.number ≤ INLINE_DIGITS → IsOk result }
@@ -80,8 +77,9 @@ impl FixedInteger {
 
     /// Makes the integer of a `usize`, without a sign: 250 prints `250`.
     ///
-    /// Err: memory for more than `INLINE_DIGITS` digits was refused; the zeros at the end of the integer are not
-    /// counted. In the place of the original's `From<usize>`.
+    /// # Errors
+    ///
+    /// As [`try_from_u32`](Self::try_from_u32).
     pub fn try_from_usize(alloc: Global, integer: usize) -> Result<Self, AllocError>
         ensures value { IfOk result (λ v. v ≡ integer_decimal (pos integer)) }
         ensures succeeds { size (integer_decimal (pos integer)).absolute.number ≤ INLINE_DIGITS → IsOk result }
@@ -89,10 +87,11 @@ impl FixedInteger {
         Ok(FixedInteger(Decimal::try_from_usize(alloc, integer)?))
     }
 
-    /// Makes the integer of an `i32`, with a minus where it is below 0: -250 prints `-250`.
+    /// Makes the integer of an `i32`, with a minus below 0: -250 prints `-250`.
     ///
-    /// Err: memory for more than `INLINE_DIGITS` digits was refused; the zeros at the end of the integer are not
-    /// counted. In the place of the original's `From<i32>`.
+    /// # Errors
+    ///
+    /// As [`try_from_u32`](Self::try_from_u32).
     pub fn try_from_i32(alloc: Global, integer: i32) -> Result<Self, AllocError>
         ensures value { IfOk result (λ v. v ≡ integer_decimal integer) }
         ensures succeeds { size (integer_decimal integer).absolute.number ≤ INLINE_DIGITS → IsOk result }
@@ -100,10 +99,11 @@ impl FixedInteger {
         Ok(FixedInteger(Decimal::try_from_i32(alloc, integer)?))
     }
 
-    /// Makes the integer of an `i64`, with a minus where it is below 0: -250 prints `-250`.
+    /// Makes the integer of an `i64`, with a minus below 0: -250 prints `-250`.
     ///
-    /// Err: memory for more than `INLINE_DIGITS` digits was refused; the zeros at the end of the integer are not
-    /// counted. In the place of the original's `From<i64>`.
+    /// # Errors
+    ///
+    /// As [`try_from_u32`](Self::try_from_u32).
     pub fn try_from_i64(alloc: Global, integer: i64) -> Result<Self, AllocError>
         ensures value { IfOk result (λ v. v ≡ integer_decimal integer) }
         ensures succeeds { size (integer_decimal integer).absolute.number ≤ INLINE_DIGITS → IsOk result }
@@ -111,10 +111,11 @@ impl FixedInteger {
         Ok(FixedInteger(Decimal::try_from_i64(alloc, integer)?))
     }
 
-    /// Makes the integer of an `i128`, with a minus where it is below 0: -250 prints `-250`.
+    /// Makes the integer of an `i128`, with a minus below 0: -250 prints `-250`.
     ///
-    /// Err: memory for more than `INLINE_DIGITS` digits was refused; the zeros at the end of the integer are not
-    /// counted. In the place of the original's `From<i128>`.
+    /// # Errors
+    ///
+    /// As [`try_from_u32`](Self::try_from_u32).
     pub fn try_from_i128(alloc: Global, integer: i128) -> Result<Self, AllocError>
         ensures value { IfOk result (λ v. v ≡ integer_decimal integer) }
         ensures succeeds { size (integer_decimal integer).absolute.number ≤ INLINE_DIGITS → IsOk result }
@@ -122,10 +123,11 @@ impl FixedInteger {
         Ok(FixedInteger(Decimal::try_from_i128(alloc, integer)?))
     }
 
-    /// Makes the integer of an `isize`, with a minus where it is below 0: -250 prints `-250`.
+    /// Makes the integer of an `isize`, with a minus below 0: -250 prints `-250`.
     ///
-    /// Err: memory for more than `INLINE_DIGITS` digits was refused; the zeros at the end of the integer are not
-    /// counted. In the place of the original's `From<isize>`.
+    /// # Errors
+    ///
+    /// As [`try_from_u32`](Self::try_from_u32).
     pub fn try_from_isize(alloc: Global, integer: isize) -> Result<Self, AllocError>
         ensures value { IfOk result (λ v. v ≡ integer_decimal integer) }
         ensures succeeds { size (integer_decimal integer).absolute.number ≤ INLINE_DIGITS → IsOk result }

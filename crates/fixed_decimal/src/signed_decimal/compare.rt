@@ -1,4 +1,4 @@
-//! The order of two decimals, by their numbers.
+//! Comparison of decimals by their numbers.
 ghost use Rattle.std.specs.Prelude.{◌≡◌};
 ghost use Rattle.std.specs.Ordering.{int_cmp};
 ghost use Rattle.decimal_unsigned.specs.Unsigned.{IsValue};
@@ -10,11 +10,10 @@ use decimal_unsigned::decimal::UnsignedOver;
 use std::cmp::Ordering;
 
 impl<D: DigitStore> Signed<UnsignedOver<D>> {
-    /// Compares the numbers of two decimals with their signs, over any two stores, and not the zeros that they show.
+    /// Compares two decimals by their signed numbers, over any two stores.
     ///
-    /// `-2` is less than `-1.5`; `1.0`, `1` and `+1` are `Equal`, and so are `-0` and `0`. It is not `Ord`, which would
-    /// have to tell apart what `==` tells apart: two decimals are equal where their texts are. It asks for no memory.
-    /// Not in the original.
+    /// `-2` is less than `-1.5`; `1.0`, `1` and `+1` are `Equal`, and so are `-0` and `0`. This is not `Ord`, which
+    /// would have to agree with `==`, the equality of texts. It does not allocate.
     pub fn compare<E: DigitStore>(&self, other: &Signed<UnsignedOver<E>>) -> Ordering
         ensures order { result ≡ int_cmp (signed_number self.now) (signed_number other.now) }
         ensures valid { IsValue self.now.absolute × IsValue other.now.absolute }

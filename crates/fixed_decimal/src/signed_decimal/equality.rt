@@ -1,4 +1,4 @@
-//! Copies of a decimal, and which decimals are equal.
+//! Clones and equality of decimals.
 ghost use Rattle.std.specs.Prelude.{◌≡◌, ◌≤◌, ◌↔◌, IsTrue};
 ghost use Rattle.decimal_digits.specs.Number.{size};
 ghost use Rattle.decimal_unsigned.specs.Unsigned.{IsValue};
@@ -14,13 +14,11 @@ impl<D: DigitStore> Clone for Signed<UnsignedOver<D>> {
 
     ghost is_infallible = { λ value. size value.absolute.number ≤ D.L };
 
-    /// Makes a second decimal that equals this one.
-    ///
-    /// The copy of `-01.50` prints `-01.50`. The original's `Clone`.
+    /// Makes an equal decimal: the clone of `-01.50` prints `-01.50`.
     ///
     /// # Errors
     ///
-    /// Allocation fails for more than `L` digits.
+    /// Out of memory, only for more than `L` digits.
     fn clone(&self) -> Result<Self, AllocError> {
         let absolute = self.absolute.clone()?;
         Ok(Self::new(self.sign, absolute))
@@ -28,7 +26,7 @@ impl<D: DigitStore> Clone for Signed<UnsignedOver<D>> {
 }
 
 impl<D: DigitStore> Signed<UnsignedOver<D>> {
-    /// Returns `self == other`, with the law that decimals are equal exactly where their texts are.
+    /// Returns `self == other`, which is whether the texts are equal.
     ///
     /// `-0` and `0` have different texts, and so have `1.0` and `1`.
     pub fn has_same_text(&self, other: &Self) -> bool

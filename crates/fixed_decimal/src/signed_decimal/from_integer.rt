@@ -1,4 +1,6 @@
-//! Decimals of integers.
+//! Decimals of machine integers.
+//!
+//! The constructors that return no `Result` do not allocate.
 ghost use Rattle.std.specs.Prelude.{◌≡◌, ◌≤◌, pos, ◌≤ℤ◌, if◌then◌else◌, IsOk, IfOk};
 ghost use Rattle.decimal_digits.specs.Number.{size};
 ghost use Rattle.fixed_decimal.specs.Decimal.{integer_decimal};
@@ -8,7 +10,7 @@ use decimal_digits::digits::DigitStore;
 use decimal_unsigned::decimal::UnsignedOver;
 use std::alloc::{AllocError, Global};
 
-/// A minus where the integer is below 0.
+/// Returns `Negative` for a negative integer, and `None` for any other.
 #[inline]
 fn negative_if(negative: bool) -> Sign
     ensures { result ≡ (if negative then Sign.Negative else Sign.None) }
@@ -17,9 +19,7 @@ fn negative_if(negative: bool) -> Sign
 }
 
 impl<D: DigitStore> Signed<UnsignedOver<D>> {
-    /// Makes the decimal of a `u8`, without a sign, and asks for no memory.
-    ///
-    /// 200 prints `200`, and shows magnitudes up to 2 at most. In the place of the original's `From<u8>`.
+    /// Makes the decimal of a `u8`, without a sign and with at most 3 digits: 200 prints `200`.
     pub fn from_u8(alloc: Global, integer: u8) -> Self
         ensures value { result ≡ integer_decimal (pos integer) }
         ensures range { (result.absolute.hi ≤ℤ pos 2) × (result.absolute.lo ≡ pos 0) }
@@ -27,9 +27,7 @@ impl<D: DigitStore> Signed<UnsignedOver<D>> {
         Self::new(Sign::None, UnsignedOver::from_u8(alloc, integer))
     }
 
-    /// Makes the decimal of a `u16`, without a sign, and asks for no memory.
-    ///
-    /// 65535 prints `65535`, and shows magnitudes up to 4 at most. In the place of the original's `From<u16>`.
+    /// Makes the decimal of a `u16`, without a sign and with at most 5 digits: 65535 prints `65535`.
     pub fn from_u16(alloc: Global, integer: u16) -> Self
         ensures value { result ≡ integer_decimal (pos integer) }
         ensures range { (result.absolute.hi ≤ℤ pos 4) × (result.absolute.lo ≡ pos 0) }
@@ -37,10 +35,7 @@ impl<D: DigitStore> Signed<UnsignedOver<D>> {
         Self::new(Sign::None, UnsignedOver::from_u16(alloc, integer))
     }
 
-    /// Makes the decimal of an `i8`, with a minus where it is below 0, and asks for no memory.
-    ///
-    /// -128 prints `-128`, and 0 prints `0`; magnitudes up to 2 at most are shown. In the place of the original's
-    /// `From<i8>`.
+    /// Makes the decimal of an `i8`, with a minus below 0 and with at most 3 digits: -128 prints `-128`.
     pub fn from_i8(alloc: Global, integer: i8) -> Self
         ensures value { result ≡ integer_decimal integer }
         ensures range { (result.absolute.hi ≤ℤ pos 2) × (result.absolute.lo ≡ pos 0) }
@@ -49,9 +44,7 @@ impl<D: DigitStore> Signed<UnsignedOver<D>> {
         Self::new(negative_if(integer < 0), absolute)
     }
 
-    /// Makes the decimal of an `i16`, with a minus where it is below 0, and asks for no memory.
-    ///
-    /// -32768 prints `-32768`, and shows magnitudes up to 4 at most. In the place of the original's `From<i16>`.
+    /// Makes the decimal of an `i16`, with a minus below 0 and with at most 5 digits: -32768 prints `-32768`.
     pub fn from_i16(alloc: Global, integer: i16) -> Self
         ensures value { result ≡ integer_decimal integer }
         ensures range { (result.absolute.hi ≤ℤ pos 4) × (result.absolute.lo ≡ pos 0) }
@@ -60,10 +53,11 @@ impl<D: DigitStore> Signed<UnsignedOver<D>> {
         Self::new(negative_if(integer < 0), absolute)
     }
 
-    /// Makes the decimal of a `u32`, without a sign, shown from 9 down at most: 250 prints `250`.
+    /// Makes the decimal of a `u32`, without a sign and with at most 10 digits: 250 prints `250`.
     ///
-    /// Err: memory for more than `L` digits was refused; the zeros at the end of the integer are not counted. In the
-    /// place of the original's `From<u32>`.
+    /// # Errors
+    ///
+    /// Out of memory, only for more than `L` digits without trailing zeros.
     pub fn try_from_u32(alloc: Global, integer: u32) -> Result<Self, AllocError>
         ensures value { IfOk result (λ v. v ≡ integer_decimal (pos integer)) }
         ensures range { IfOk result (λ v. (v.absolute.hi ≤ℤ pos 9) × (v.absolute.lo ≡ pos 0)) }
@@ -73,10 +67,11 @@ impl<D: DigitStore> Signed<UnsignedOver<D>> {
         Ok(Self::new(Sign::None, absolute))
     }
 
-    /// Makes the decimal of a `u64`, without a sign, shown from 19 down at most: 250 prints `250`.
+    /// Makes the decimal of a `u64`, without a sign and with at most 20 digits: 250 prints `250`.
     ///
-    /// Err: memory for more than `L` digits was refused; the zeros at the end of the integer are not counted. In the
-    /// place of the original's `From<u64>`.
+    /// # Errors
+    ///
+    /// As [`try_from_u32`](Self::try_from_u32).
     pub fn try_from_u64(alloc: Global, integer: u64) -> Result<Self, AllocError>
         ensures value { IfOk result (λ v. v ≡ integer_decimal (pos integer)) }
         ensures range { IfOk result (λ v. (v.absolute.hi ≤ℤ pos 19) × (v.absolute.lo ≡ pos 0)) }
@@ -86,10 +81,11 @@ impl<D: DigitStore> Signed<UnsignedOver<D>> {
         Ok(Self::new(Sign::None, absolute))
     }
 
-    /// Makes the decimal of a `u128`, without a sign, shown from 38 down at most: 250 prints `250`.
+    /// Makes the decimal of a `u128`, without a sign and with at most 39 digits: 250 prints `250`.
     ///
-    /// Err: memory for more than `L` digits was refused; the zeros at the end of the integer are not counted. In the
-    /// place of the original's `From<u128>`.
+    /// # Errors
+    ///
+    /// As [`try_from_u32`](Self::try_from_u32).
     pub fn try_from_u128(alloc: Global, integer: u128) -> Result<Self, AllocError>
         ensures value { IfOk result (λ v. v ≡ integer_decimal (pos integer)) }
         ensures range { IfOk result (λ v. (v.absolute.hi ≤ℤ pos 38) × (v.absolute.lo ≡ pos 0)) }
@@ -99,10 +95,11 @@ impl<D: DigitStore> Signed<UnsignedOver<D>> {
         Ok(Self::new(Sign::None, absolute))
     }
 
-    /// Makes the decimal of a `usize`, without a sign, shown from 19 down at most: 250 prints `250`.
+    /// Makes the decimal of a `usize`, without a sign and with at most 20 digits: 250 prints `250`.
     ///
-    /// Err: memory for more than `L` digits was refused; the zeros at the end of the integer are not counted. In the
-    /// place of the original's `From<usize>`.
+    /// # Errors
+    ///
+    /// As [`try_from_u32`](Self::try_from_u32).
     pub fn try_from_usize(alloc: Global, integer: usize) -> Result<Self, AllocError>
         ensures value { IfOk result (λ v. v ≡ integer_decimal (pos integer)) }
         ensures range { IfOk result (λ v. (v.absolute.hi ≤ℤ pos 19) × (v.absolute.lo ≡ pos 0)) }
@@ -112,10 +109,11 @@ impl<D: DigitStore> Signed<UnsignedOver<D>> {
         Ok(Self::new(Sign::None, absolute))
     }
 
-    /// Makes the decimal of an `i32`, shown from 9 down at most, with a minus below 0: -250 prints `-250`.
+    /// Makes the decimal of an `i32`, with a minus below 0 and with at most 10 digits: -250 prints `-250`.
     ///
-    /// Err: memory for more than `L` digits was refused; the zeros at the end of the integer are not counted. In the
-    /// place of the original's `From<i32>`.
+    /// # Errors
+    ///
+    /// As [`try_from_u32`](Self::try_from_u32).
     pub fn try_from_i32(alloc: Global, integer: i32) -> Result<Self, AllocError>
         ensures value { IfOk result (λ v. v ≡ integer_decimal integer) }
         ensures range { IfOk result (λ v. (v.absolute.hi ≤ℤ pos 9) × (v.absolute.lo ≡ pos 0)) }
@@ -125,10 +123,11 @@ impl<D: DigitStore> Signed<UnsignedOver<D>> {
         Ok(Self::new(negative_if(integer < 0), absolute))
     }
 
-    /// Makes the decimal of an `i64`, shown from 19 down at most, with a minus below 0: -250 prints `-250`.
+    /// Makes the decimal of an `i64`, with a minus below 0 and with at most 20 digits: -250 prints `-250`.
     ///
-    /// Err: memory for more than `L` digits was refused; the zeros at the end of the integer are not counted. In the
-    /// place of the original's `From<i64>`.
+    /// # Errors
+    ///
+    /// As [`try_from_u32`](Self::try_from_u32).
     pub fn try_from_i64(alloc: Global, integer: i64) -> Result<Self, AllocError>
         ensures value { IfOk result (λ v. v ≡ integer_decimal integer) }
         ensures range { IfOk result (λ v. (v.absolute.hi ≤ℤ pos 19) × (v.absolute.lo ≡ pos 0)) }
@@ -138,10 +137,11 @@ impl<D: DigitStore> Signed<UnsignedOver<D>> {
         Ok(Self::new(negative_if(integer < 0), absolute))
     }
 
-    /// Makes the decimal of an `i128`, shown from 38 down at most, with a minus below 0: -250 prints `-250`.
+    /// Makes the decimal of an `i128`, with a minus below 0 and with at most 39 digits: -250 prints `-250`.
     ///
-    /// Err: memory for more than `L` digits was refused; the zeros at the end of the integer are not counted. In the
-    /// place of the original's `From<i128>`.
+    /// # Errors
+    ///
+    /// As [`try_from_u32`](Self::try_from_u32).
     pub fn try_from_i128(alloc: Global, integer: i128) -> Result<Self, AllocError>
         ensures value { IfOk result (λ v. v ≡ integer_decimal integer) }
         ensures range { IfOk result (λ v. (v.absolute.hi ≤ℤ pos 38) × (v.absolute.lo ≡ pos 0)) }
@@ -151,10 +151,11 @@ impl<D: DigitStore> Signed<UnsignedOver<D>> {
         Ok(Self::new(negative_if(integer < 0), absolute))
     }
 
-    /// Makes the decimal of an `isize`, shown from 19 down at most, with a minus below 0: -250 prints `-250`.
+    /// Makes the decimal of an `isize`, with a minus below 0 and with at most 20 digits: -250 prints `-250`.
     ///
-    /// Err: memory for more than `L` digits was refused; the zeros at the end of the integer are not counted. In the
-    /// place of the original's `From<isize>`.
+    /// # Errors
+    ///
+    /// As [`try_from_u32`](Self::try_from_u32).
     pub fn try_from_isize(alloc: Global, integer: isize) -> Result<Self, AllocError>
         ensures value { IfOk result (λ v. v ≡ integer_decimal integer) }
         ensures range { IfOk result (λ v. (v.absolute.hi ≤ℤ pos 19) × (v.absolute.lo ≡ pos 0)) }

@@ -1,4 +1,4 @@
-//! Integers of decimals.
+//! Conversion of decimals to machine integers.
 ghost use Rattle.std.specs.Prelude.{◌≡◌, ◌^◌, ◌<◌, ◌≤◌, pos, neg_ℤ};
 ghost use Rattle.decimal_unsigned.specs.Unsigned.{IsValue};
 ghost use Rattle.fixed_decimal.specs.ToInteger.{signed_in_range, as_unsigned, as_signed};
@@ -8,7 +8,7 @@ use decimal_digits::digits::DigitStore;
 use decimal_unsigned::IntegerError;
 use decimal_unsigned::decimal::UnsignedOver;
 
-/// The integer of at least 0 with an absolute value, where it is below a bound.
+/// Returns an absolute value as an integer, if it is below a bound.
 fn positive(absolute: u128, bound: u128) -> Result<i128, IntegerError>
     requires { bound ≤ 2 ^ 127 }
     ensures { result ≡ signed_in_range bound (pos absolute) }
@@ -19,7 +19,7 @@ fn positive(absolute: u128, bound: u128) -> Result<i128, IntegerError>
     Ok(absolute as i128)
 }
 
-/// The integer of at most 0 with an absolute value, where that is at most a bound.
+/// Returns the negative of an absolute value, if that is at most a bound.
 fn negative(absolute: u128, bound: u128) -> Result<i128, IntegerError>
     requires positive { 0 < bound }
     requires in_range { bound ≤ 2 ^ 127 }
@@ -35,11 +35,16 @@ fn negative(absolute: u128, bound: u128) -> Result<i128, IntegerError>
 }
 
 impl<D: DigitStore> Signed<UnsignedOver<D>> {
-    /// Gives the integer that the number is, whatever zeros it shows.
+    /// Converts the number to a `u64`, whatever zeros it shows: `+12.00` is 12, and `-0` is 0.
     ///
-    /// Of `+12.00` it is 12, and of `-0` it is 0. Err: `NotWhole` where a digit behind the dot is not 0, as in `-1.5`;
-    /// else `OutOfRange` where the number is below 0, or 2 to the 64 or more. It asks for no memory. Not in the
-    /// original.
+    /// It does not allocate.
+    ///
+    /// # Errors
+    ///
+    /// The first that applies:
+    ///
+    /// - `NotWhole`: a fraction digit is not 0, as in `-1.5`.
+    /// - `OutOfRange`: the number is below 0, or 2^64 or more.
     pub fn try_to_u64(&self) -> Result<u64, IntegerError>
         ensures value { result ≡ as_unsigned (2 ^ 64) self.now }
         ensures valid { IsValue self.now.absolute }
@@ -51,11 +56,12 @@ impl<D: DigitStore> Signed<UnsignedOver<D>> {
         }
     }
 
-    /// Gives the integer that the number is, whatever zeros it shows.
+    /// Converts the number to a `u128`, as [`try_to_u64`](Self::try_to_u64).
     ///
-    /// Of `+12.00` it is 12, and of `-0` it is 0. Err: `NotWhole` where a digit behind the dot is not 0, as in `-1.5`;
-    /// else `OutOfRange` where the number is below 0, or 2 to the 128 or more. It asks for no memory. Not in the
-    /// original.
+    /// # Errors
+    ///
+    /// - `NotWhole`: as there.
+    /// - `OutOfRange`: the number is below 0, or 2^128 or more.
     pub fn try_to_u128(&self) -> Result<u128, IntegerError>
         ensures value { result ≡ as_unsigned (2 ^ 128) self.now }
         ensures valid { IsValue self.now.absolute }
@@ -67,11 +73,12 @@ impl<D: DigitStore> Signed<UnsignedOver<D>> {
         }
     }
 
-    /// Gives the integer that the number is, whatever zeros it shows.
+    /// Converts the number to an `i64`, as [`try_to_u64`](Self::try_to_u64): `-12.00` is -12, and `-0` is 0.
     ///
-    /// Of `-12.00` it is -12, and of `-0` it is 0. Err: `NotWhole` where a digit behind the dot is not 0, as in `-1.5`;
-    /// else `OutOfRange` where the number is below -2 to the 63, or 2 to the 63 or more. It asks for no memory. Not in
-    /// the original.
+    /// # Errors
+    ///
+    /// - `NotWhole`: as there.
+    /// - `OutOfRange`: the number is below -2^63, or 2^63 or more.
     pub fn try_to_i64(&self) -> Result<i64, IntegerError>
         ensures value { result ≡ as_signed (2 ^ 63) self.now }
         ensures valid { IsValue self.now.absolute }
@@ -84,11 +91,12 @@ impl<D: DigitStore> Signed<UnsignedOver<D>> {
         Ok(integer as i64)
     }
 
-    /// Gives the integer that the number is, whatever zeros it shows.
+    /// Converts the number to an `i128`, as [`try_to_i64`](Self::try_to_i64).
     ///
-    /// Of `-12.00` it is -12, and of `-0` it is 0. Err: `NotWhole` where a digit behind the dot is not 0, as in `-1.5`;
-    /// else `OutOfRange` where the number is below -2 to the 127, or 2 to the 127 or more. It asks for no memory. Not
-    /// in the original.
+    /// # Errors
+    ///
+    /// - `NotWhole`: as there.
+    /// - `OutOfRange`: the number is below -2^127, or 2^127 or more.
     pub fn try_to_i128(&self) -> Result<i128, IntegerError>
         ensures value { result ≡ as_signed (2 ^ 127) self.now }
         ensures valid { IsValue self.now.absolute }
