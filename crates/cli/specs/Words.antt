@@ -3,6 +3,7 @@ use Rattle.std.specs.Prelude.{◌≡◌, ℕ, ◌==◌, ◌&&◌, ⊤, Bool, nat
 use Rattle.std.specs.Str.{all_ascii_digits}
 use Rattle.std.specs.Str.Parse.{digits_value}
 use Rattle.std.specs.declared.alloc.Global.{Global}
+use Rattle.decimal_digits.specs.Ascii.{minus_sign}
 use Rattle.decimal_digits.specs.declared.rounding.UnsignedRoundingMode.TheVariants as unsigned
 use Rattle.fixed_decimal.specs.declared.rounding.SignedRoundingMode.{SignedRoundingMode}
 use Rattle.fixed_decimal.specs.declared.rounding.SignedRoundingMode.TheVariants as mode
@@ -29,7 +30,7 @@ digits_up_to most bytes =
 -- the number of an optional minus and one to six digits, from -32768 to 32767
 abbrev pub number : List ℕ → Option ℤ
 number bytes =
-    if slice_index bytes 0 == 45
+    if slice_index bytes 0 == minus_sign
     then option_map (λ n. neg_ℤ (pos n)) (digits_up_to 32768 (drop 1 bytes))
     else option_map pos (digits_up_to 32767 bytes)
 

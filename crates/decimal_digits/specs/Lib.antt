@@ -1,4 +1,5 @@
 -- Trusted specification.
+pub mod Ascii
 pub mod Number
 pub mod Digits
 pub mod AppendsPrefix

@@ -4,6 +4,7 @@ use Rattle.std.specs.Str.Parse.{digits_value}
 use Rattle.std.specs.Char.{is_ascii_digit}
 use Rattle.std.specs.List.{prefix_len}
 use Rattle.std.specs.Str.{all_ascii_digits}
+use Rattle.decimal_digits.specs.Ascii.{minus_sign, plus_sign, decimal_point, lowercase_e, uppercase_e}
 use Rattle.decimal_digits.specs.Number.{first, last}
 use Rattle.decimal_unsigned.specs.Unsigned.{Unsigned}
 use Rattle.decimal_unsigned.specs.Edits.{leaves_limits, multiplied}
@@ -65,17 +66,17 @@ after_digits text = drop (prefix_len is_ascii_digit text) text
 unfoldable pub numeral_of : List ℕ → Option ℕ
 numeral_of text = if nat_lt 0 (length text) && all_ascii_digits text then Some (digits_value 10 text) else None
 
--- the exponent, after at most one sign, which is a minus, 45, or a plus, 43
+-- the exponent, after at most one sign, which is a minus or a plus
 unfoldable pub exponent_of : List ℕ → Option ℤ
 exponent_of [] = option_map pos (numeral_of [])
 exponent_of (c ∷ rest) =
-    if c == 45 then option_map (λ n. neg_ℤ (pos n)) (numeral_of rest)
-    else if c == 43 then option_map pos (numeral_of rest)
+    if c == minus_sign then option_map (λ n. neg_ℤ (pos n)) (numeral_of rest)
+    else if c == plus_sign then option_map pos (numeral_of rest)
     else option_map pos (numeral_of (c ∷ rest))
 
 -- e or E
 abbrev pub is_letter : ℕ → Bool
-is_letter c = c == 101 || c == 69
+is_letter c = c == lowercase_e || c == uppercase_e
 
 -- the parts, where the text is what follows the letter
 unfoldable pub with_exponent : List ℕ → List ℕ → List ℕ → Option Literal
@@ -88,12 +89,12 @@ after_fraction whole fraction [] =
     if nat_lt 0 (length fraction) then Some (record { whole = whole; fraction = fraction; exponent = None }) else None
 after_fraction whole fraction (c ∷ rest) = if is_letter c then with_exponent whole fraction rest else None
 
--- the parts, where the text is what follows the integer digits; 46 is the decimal point
+-- the parts, where the text is what follows the integer digits
 unfoldable pub after_whole : List ℕ → List ℕ → Option Literal
 after_whole whole [] =
     if nat_lt 0 (length whole) then Some (record { whole = whole; fraction = []; exponent = None }) else None
 after_whole whole (c ∷ rest) =
-    if c == 46 then after_fraction whole (leading_digits rest) (after_digits rest)
+    if c == decimal_point then after_fraction whole (leading_digits rest) (after_digits rest)
     else if is_letter c && nat_lt 0 (length whole) then with_exponent whole [] rest
     else None
 

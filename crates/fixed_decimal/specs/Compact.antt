@@ -3,6 +3,7 @@ use Rattle.std.specs.Prelude.{◌≡◌, ℕ, ◌==◌, nat_lt, if◌then◌else
 use Rattle.std.specs.Prelude.{Option, Some, None, Result, Ok, Err}
 use Rattle.std.specs.Fmt.{decimal}
 use Rattle.std.specs.List.{list_any}
+use Rattle.decimal_digits.specs.Ascii.{digit_zero, lowercase_c}
 use Rattle.decimal_unsigned.specs.Reading.{ReadError, syntax, limit, is_letter, numeral_of}
 use Rattle.fixed_decimal.specs.Letters.{is_c}
 use Rattle.fixed_decimal.specs.Decimal.{Decimal}
@@ -18,9 +19,9 @@ pub record Compact : Type 0 where
 abbrev pub compact : Decimal → ℕ → Compact
 compact significand exponent = record { significand = significand; exponent = exponent }
 
--- the text of an exponent: c, which is 99, and its digits; no text for 0
+-- the text of an exponent: c and its digits; no text for 0
 abbrev pub exponent_text : ℕ → List ℕ
-exponent_text exponent = if exponent == 0 then [] else 99 ∷ decimal exponent
+exponent_text exponent = if exponent == 0 then [] else lowercase_c ∷ decimal exponent
 
 -- the text of the significand, followed by that of the exponent
 abbrev pub compact_text : Compact → List ℕ
@@ -33,17 +34,18 @@ parts_or_whole bytes (Some parts) = (parts.0, Some parts.1)
 
 -- the split of a text without e and E: the text before its first c, and the text after that c if there is one
 unfoldable pub split_at_c : List ℕ → Result (List ℕ × Option (List ℕ)) ReadError
-split_at_c bytes = if list_any is_letter bytes then Err syntax else Ok (parts_or_whole bytes (split_once 99 bytes))
+split_at_c bytes = if list_any is_letter bytes then Err syntax else Ok
+    (parts_or_whole bytes (split_once lowercase_c bytes))
 
 -- a number of at most 255; `limit` for a greater one, and `syntax` for none
 abbrev pub byte_or_limit : Option ℕ → Result ℕ ReadError
 byte_or_limit None = Err syntax
 byte_or_limit (Some n) = if nat_lt 255 n then Err limit else Ok n
 
--- the number from 1 to 255 that digits write, of which the first is not 0, which is 48
+-- the number from 1 to 255 that digits write, of which the first is not 0
 unfoldable pub exponent_number_of : List ℕ → Result ℕ ReadError
 exponent_number_of [] = Err syntax
-exponent_number_of (c ∷ rest) = if c == 48 then Err syntax else byte_or_limit (numeral_of (c ∷ rest))
+exponent_number_of (c ∷ rest) = if c == digit_zero then Err syntax else byte_or_limit (numeral_of (c ∷ rest))
 
 -- the exponent that the text after the c writes; 0 if there is no c
 abbrev pub read_exponent : Option (List ℕ) → Result ℕ ReadError
@@ -60,10 +62,10 @@ read_fields parts =
 abbrev pub read_compact : List ℕ → Result Compact ReadError
 read_compact bytes = and_then (split_at_c bytes) read_fields
 
--- c, which is 99, and the text of an exponent, if there is one
+-- c and the text of an exponent, if there is one
 abbrev pub with_c : Option (List ℕ) → List ℕ
 with_c None = []
-with_c (Some suffix) = 99 ∷ suffix
+with_c (Some suffix) = lowercase_c ∷ suffix
 
 -- the text is the significand, followed by c and the exponent if there is one; the significand has no c
 pub record IsSplitAtC (bytes significand : List ℕ) (exponent : Option (List ℕ)) : Type 0 where

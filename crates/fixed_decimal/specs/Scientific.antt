@@ -1,6 +1,7 @@
 -- Scientific notation: a decimal times 10 to the power of an integer, as `1.20e-03`.
 use Rattle.std.specs.Prelude.{◌≡◌, ℕ, ◌⊎◌, if◌then◌else◌, false, List, ◌∷◌, ◌++◌, Option, Some, None, Result, Ok, Err}
 use Rattle.std.specs.List.{list_any}
+use Rattle.decimal_digits.specs.Ascii.{lowercase_e}
 use Rattle.decimal_unsigned.specs.Reading.{ReadError, syntax, is_letter}
 use Rattle.fixed_decimal.specs.Decimal.{Decimal}
 use Rattle.fixed_decimal.specs.DecimalText.{decimal_text, read_decimal, IsLong, and_then}
@@ -16,9 +17,9 @@ pub record Scientific : Type 0 where
 abbrev pub scientific : Decimal → Decimal → Scientific
 scientific significand exponent = record { significand = significand; exponent = exponent }
 
--- the text of the significand, e, which is 101, and the text of the exponent
+-- the text of the significand, e and the text of the exponent
 abbrev pub scientific_text : Scientific → List ℕ
-scientific_text v = decimal_text v.significand ++ 101 ∷ decimal_text v.exponent
+scientific_text v = decimal_text v.significand ++ lowercase_e ∷ decimal_text v.exponent
 
 -- a split whose parts have no e and no E; a text without a split is rejected
 abbrev pub plain_parts : Option (List ℕ × List ℕ) → Result (List ℕ × List ℕ) ReadError
@@ -28,7 +29,7 @@ plain_parts (Some parts) =
 
 -- the split of a text with exactly one e and without E: the texts before and after the e
 unfoldable pub split_at_e : List ℕ → Result (List ℕ × List ℕ) ReadError
-split_at_e bytes = plain_parts (split_once 101 bytes)
+split_at_e bytes = plain_parts (split_once lowercase_e bytes)
 
 -- the value of two texts, or an error: first that of the significand, then that of the exponent
 abbrev pub read_fields : List ℕ × List ℕ → Result Scientific ReadError
@@ -40,9 +41,9 @@ read_fields parts =
 abbrev pub read_scientific : List ℕ → Result Scientific ReadError
 read_scientific bytes = and_then (split_at_e bytes) read_fields
 
--- the text is the significand, e, which is 101, and the exponent; neither part has an e or E
+-- the text is the significand, e and the exponent; neither part has an e or E
 pub record IsSplitAtE (bytes significand exponent : List ℕ) : Type 0 where
-  pub is : bytes ≡ significand ++ 101 ∷ exponent
+  pub is : bytes ≡ significand ++ lowercase_e ∷ exponent
   pub plain_significand : list_any is_letter significand ≡ false
   pub plain_exponent : list_any is_letter exponent ≡ false
 
