@@ -50,12 +50,14 @@ unfoldable pub greatest : (ℕ → Bool) → ℕ → ℕ
 greatest test zero = 0
 greatest test (suc k) = cond (test k) k (greatest test k)
 
--- the m of `IsFirst`: the search only finds the magnitude that this record describes (lemma `first_is`)
+-- the m of `IsFirst`, for each number below the limit: the search only finds the magnitude that this record describes
+-- (lemma `first_is`)
 unfoldable pub first : ℕ → ℤ
 first zero = pos 0
 first (suc n) = magnitude_at (greatest (λ k. nat_le (10 ^ k) (suc n)) 65536)
 
--- the m of `IsLast`: the search only finds the magnitude that this record describes (lemma `last_at`)
+-- the m of `IsLast`, for each number below the limit: the search only finds the magnitude that this record describes
+-- (lemma `last_at`)
 unfoldable pub last : ℕ → ℤ
 last zero = pos 0
 last (suc n) = magnitude_at (greatest (λ k. suc n % 10 ^ k == 0) 65536)

@@ -57,7 +57,7 @@ pub trait DigitStore: Drop {
     ///
     /// # Errors
     ///
-    /// Out of memory; possible only with more than `L` digits.
+    /// As for [`DigitStore::from_digits`].
     fn from_bcd(alloc: Global, number: u64, len: usize) -> Result<Self, AllocError>
         requires { IsPacked (leading_bytes number len) len }
         ensures ok { IfOk result (λ s. digits s ≡ digits_in (leading_bytes number len) len) }
@@ -96,7 +96,7 @@ pub trait DigitStore: Drop {
     ///
     /// # Errors
     ///
-    /// Out of memory; possible only with more than `L` digits.
+    /// As for [`DigitStore::from_digits`].
     fn clone(&self) -> Result<Self, AllocError>
         ensures ok { IfOk result (λ s. digits s ≡ digits self.now) }
         ensures succeeds { length (digits self.now) ≤ L → IsOk result };
@@ -213,7 +213,7 @@ pub trait DigitStore: Drop {
     ///
     /// # Errors
     ///
-    /// Out of memory; possible only with more than `L` digits in all. The list is then unchanged.
+    /// As for [`DigitStore::reserve`]. The list is then unchanged.
     fn append(&mut self, zeros: usize, other: &Self) -> Result<(), AllocError>
         ensures ok { OnOk result (digits self.new ≡ (digits self.old ++ replicate zeros 0) ++ digits other.now) }
         ensures err { OnErr result (digits self.new ≡ digits self.old) }

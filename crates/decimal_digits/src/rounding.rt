@@ -35,7 +35,7 @@ pub enum UnsignedRoundingMode {
     HalfEven,
 }
 
-/// The number that the results of a rounding are multiples of, in units of the position.
+/// The increment of a rounding, in units of the position: each result is a multiple of it.
 ///
 /// 9.75 is rounded at position -1, half-expand, to 9.8 by 1 and by 2, to 10.0 by 5 and to 10.0 by 25.
 #[derive(Clone, Copy, Debug, Default, PartialEq, Eq)]
@@ -83,7 +83,7 @@ fn split_at_position<D: DigitStore>(
     }
 }
 
-/// Returns the magnitude of the first of `places` places from a position up, or 0 if the list is empty.
+/// Returns the highest of `places` magnitudes from a position up, or 0 if the list is empty.
 fn magnitude_after<D: DigitStore>(counted: &Counted<'_, D>, position: i16, places: usize) -> i16
     requires stripped { IsStripped (D.digits (list_of counted.now)) }
     requires fits { length (D.digits (list_of counted.now)) ≤ places }
@@ -111,9 +111,11 @@ fn magnitude_after<D: DigitStore>(counted: &Counted<'_, D>, position: i16, place
 ///
 /// # Errors
 ///
-/// - `Limit`: the rounded number is 10^32768 or more. The list is unchanged.
+/// After either error the list is unchanged.
+///
+/// - `Limit`: the rounded number is 10^32768 or more.
 /// - `Memory`: out of memory for one more digit; possible only by `MultiplesOf25`, with a rounded number below that
-///   limit, and a list of at least `L` digits. The list is unchanged.
+///   limit, and a list of at least `L` digits.
 pub fn round<D: DigitStore>(
     counted: &mut Counted<'_, D>,
     magnitude: i16,

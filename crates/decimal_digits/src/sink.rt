@@ -28,8 +28,7 @@ pub trait Sink {
     ///
     /// # Errors
     ///
-    /// - The sink rejects the byte. The contents are unchanged, and the sink has failed.
-    /// - The sink has failed before. It then rejects each byte.
+    /// The sink rejects the byte, or has failed before; the contents are unchanged.
     fn put_byte(&mut self, byte: u8) -> Result<(), SinkFault>
         ensures appends { OnOk result (Appends (contents self.old) (contents self.new) (byte ∷ [])) }
         ensures had_not_failed { OnOk result (has_failed self.old ≡ false) }
@@ -45,8 +44,8 @@ pub trait Sink {
     ///
     /// # Errors
     ///
-    /// - The sink rejects a byte. The bytes before it are appended, and the sink has failed.
-    /// - The sink has failed before. It then rejects an empty slice too, and the contents are unchanged.
+    /// - The sink rejects a byte; the bytes before it are appended.
+    /// - The sink has failed before, even if there are no bytes to append; the contents are unchanged.
     fn put_bytes(&mut self, bytes: &[u8]) -> Result<(), SinkFault>
         ensures appends { OnOk result (Appends (contents self.old) (contents self.new) bytes.now) }
         ensures had_not_failed { OnOk result (has_failed self.old ≡ false) }
@@ -74,8 +73,8 @@ pub trait Writeable {
     ///
     /// # Errors
     ///
-    /// - The sink rejects a byte. A prefix of the text is appended.
-    /// - The sink has failed before. The contents are unchanged.
+    /// - The sink rejects a byte; a prefix of the text is appended.
+    /// - The sink has failed before; the contents are unchanged.
     fn write_to<W: Sink>(&self, sink: &mut W) -> Result<(), SinkFault>
         ensures ok { OnOk result (Appends (W.contents sink.old) (W.contents sink.new) (text self.now)) }
         ensures err { OnErr result (AppendsPrefix (W.contents sink.old) (W.contents sink.new) (text self.now)) }

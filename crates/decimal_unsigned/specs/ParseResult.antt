@@ -6,13 +6,13 @@ use Rattle.decimal_unsigned.specs.Unsigned.{Unsigned}
 use Rattle.decimal_unsigned.specs.Grammar.{Literal, Grammar}
 use Rattle.decimal_unsigned.specs.Reading.{ReadError, syntax, limit, value_of}
 
--- the error is the one that reading gives, or out of memory, under this condition
+-- the error is the one that reading gives, or it is `Memory` and this condition holds
 abbrev pub ParseFails : {V : Type 0} → Type 0 → ParseError → Result V ReadError → Type 0
 ParseFails memory_condition Limit reading = reading ≡ Err limit
 ParseFails memory_condition Syntax reading = reading ≡ Err syntax
 ParseFails memory_condition Memory reading = memory_condition
 
--- the result is the value or the error that reading gives; or out of memory, if reading gives a value that allocates
+-- the result is the value or the error that reading gives; or it is `Memory`, and reading gives a value that allocates
 abbrev pub IsParseResult : {V : Type 0} → (V → Type 0) → Result V ParseError → Result V ReadError → Type 0
 IsParseResult allocates (Ok v) reading = reading ≡ Ok v
 IsParseResult allocates (Err e) reading = ParseFails (IsOkAnd reading allocates) e reading

@@ -38,7 +38,8 @@ zeros_trimmed v = record v {
   lo = if int_lt (last v.number) (pos 0) then last v.number else v.lo;
 }
 
--- the value times 10 to the exponent, with its zeros trimmed; for the number 0 the exponent is ignored
+-- the value times 10 to the exponent, with its zeros trimmed, or `limit` if the exponent or the range leaves the
+-- limits; for the number 0 the exponent is ignored
 unfoldable pub scaled : Unsigned → Option ℤ → Result Unsigned ReadError
 scaled v None = Ok v
 scaled v (Some e) =
@@ -46,7 +47,7 @@ scaled v (Some e) =
     else if is_outside e || leaves_limits v e then Err limit
     else Ok (zeros_trimmed (multiplied v e))
 
--- the value of the parts, which have at most 32768 integer digits and at most 32768 fraction digits
+-- the value of the parts, or `limit` if they have more than 32768 integer digits or more than 32768 fraction digits
 unfoldable pub value_of : Literal → Result Unsigned ReadError
 value_of w =
     if nat_lt 32768 (length w.whole) || nat_lt 32768 (length w.fraction) then Err limit
@@ -62,7 +63,7 @@ leading_digits text = take (prefix_len is_ascii_digit text) text
 abbrev pub after_digits : List ℕ → List ℕ
 after_digits text = drop (prefix_len is_ascii_digit text) text
 
--- the number of a text of one or more digits, or none
+-- the number of a text of one or more digits, or none for any other text
 unfoldable pub numeral_of : List ℕ → Option ℕ
 numeral_of text = if nat_lt 0 (length text) && all_ascii_digits text then Some (digits_value 10 text) else None
 

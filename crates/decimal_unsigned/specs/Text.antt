@@ -16,6 +16,6 @@ unfoldable pub text_down : ℕ → ℤ → ℕ → List ℕ
 text_down number m zero = []
 text_down number m (suc n) = (dot_before m ++ (digit_zero + digit number m) ∷ []) ++ text_down number (m -ℤ pos 1) n
 
--- one digit for each magnitude that is shown, the highest first: 02.50 for hi 1 and lo -2
+-- one digit for each magnitude that is shown, the highest first: 02.50 of 2.5 with hi 1 and lo -2
 abbrev pub text : Unsigned → List ℕ
 text v = text_down v.number v.hi (int_gap v.lo v.hi + 1)

@@ -112,8 +112,10 @@ fn round_by_one<D: DigitStore>(
 ///
 /// # Errors
 ///
-/// - `Limit`: the result has more than `max_places` places. The list is unchanged.
-/// - `Memory`: out of memory for one more digit; possible only by 25, with at least `L` digits. The list is unchanged.
+/// After either error the list is unchanged.
+///
+/// - `Limit`: the result has more than `max_places` places.
+/// - `Memory`: out of memory for one more digit; possible only by 25, with at least `L` digits.
 pub fn round_leading<D: DigitStore>(
     counted: &mut Counted<'_, D>,
     keep: usize,

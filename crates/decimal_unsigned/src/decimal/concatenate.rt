@@ -18,10 +18,12 @@ impl<D: DigitStore> UnsignedOver<D> {
     ///
     /// # Errors
     ///
+    /// Either error returns the other number, and this value is unchanged.
+    ///
     /// - `Overlap`: neither number is 0, and the last nonzero digit of this one is at or below the first of the other,
-    ///   as in `120` and `25`. The other is returned, and this value is unchanged.
+    ///   as in `120` and `25`.
     /// - `Memory`: out of memory; possible only if neither number is 0, and the joined digits, with the zeros between
-    ///   them, are more than `L`. The other is returned, and this value is unchanged.
+    ///   them, are more than `L`.
     pub fn concatenate_end(&mut self, other: Self) -> Result<(), ConcatenateError<Self>>
         ensures ok { OnOk result (self.new ≡ concatenated_end self.old other) }
         ensures overlap { (result ≡ Err (ConcatenateError.Overlap other))

@@ -40,10 +40,12 @@ impl<D: DigitStore> UnsignedOver<D> {
     ///
     /// # Errors
     ///
+    /// After either error the value is unchanged, with its range.
+    ///
     /// - `Limit`: the multiple is 10^32768 or more, as that of 7 times 10^32767 at 32767, expand by 5. It does not
-    ///   occur if no digit is shown at 32767, except by 25 at 32767. The value is unchanged, with its range.
+    ///   occur if no digit is shown at 32767, except by 25 at 32767.
     /// - `Memory`: out of memory for one more digit; possible only by `MultiplesOf25`, with a multiple below that
-    ///   limit, and a number of at least `L` digits. The value is unchanged, with its range.
+    ///   limit, and a number of at least `L` digits.
     pub fn round_counted(
         &mut self,
         position: i16,

@@ -99,7 +99,7 @@ impl<D: DigitStore> UnsignedOver<D> {
         Ok(())
     }
 
-    /// Writes the bytes of the text from index `from`, as far as the buffer goes.
+    /// Writes the bytes of the text from index `from`, one to each byte of the buffer.
     ///
     /// Requires a nonempty buffer of ASCII zeros, and at least `buffer.len()` bytes from that index.
     #[inline]

@@ -10,7 +10,7 @@ use decimal_unsigned::decimal::UnsignedOver;
 use std::alloc::AllocError;
 
 impl<D: DigitStore> Clone for Signed<UnsignedOver<D>> {
-    ghost is_clone = { λ value equality. equality ≡ value };
+    ghost is_clone = { λ value copy. copy ≡ value };
 
     ghost is_infallible = { λ value. size value.absolute.number ≤ D.L };
 

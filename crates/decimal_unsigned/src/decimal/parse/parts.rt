@@ -106,12 +106,14 @@ pub fn numeral(text: &[u8], most: u32) -> Option<u32>
     Some(value)
 }
 
+/// Returns the exponent of a text of digits, at most 70,000.
 fn unsigned(text: &[u8]) -> Option<i32>
     ensures { result ≡ option_map saturated (option_map pos (read.numeral_of text.now)) }
 {
     Some(numeral(text, 70_000)? as i32)
 }
 
+/// Returns the exponent of a text with at most one sign, clamped to -70,000 to 70,000.
 // Not inlined, and its result is in a register: a short text needs no exponent.
 #[inline(never)]
 #[tactic(auto, unfolding(crate::specs::Reading::exponent_of))]
@@ -125,6 +127,7 @@ fn exponent(text: &[u8]) -> Option<i32>
     }
 }
 
+/// Returns the parts, where the text is what follows the letter of an exponent.
 #[inline]
 #[tactic(auto, unfolding(crate::specs::Reading::with_exponent))]
 fn with_exponent<'a>(
@@ -145,6 +148,7 @@ fn with_exponent<'a>(
     })
 }
 
+/// Returns the parts, where the text is what follows the fraction digits.
 #[inline(always)]
 #[tactic(auto, unfolding(crate::specs::Reading::after_fraction))]
 fn after_fraction<'a>(
@@ -168,6 +172,7 @@ fn after_fraction<'a>(
     }
 }
 
+/// Returns the parts, where the text is what follows the integer digits.
 #[inline(always)]
 #[tactic(auto, unfolding(crate::specs::Reading::after_whole))]
 fn after_whole<'a>(whole: &'a [u8], number: u64, text: &'a [u8]) -> Option<Parts<'a>>
