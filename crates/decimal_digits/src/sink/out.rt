@@ -8,17 +8,10 @@ use std::marker::Model;
 
 /// A sink over a writer. `put_bytes` is one write, and one more for the bytes that a write leaves.
 ///
-<<<<<<< HEAD
-/// A write of 0 bytes is a failure, as an error is, after which the writer is not called again. Contracts see the
-/// writer, and whether the sink has failed. Over a `Vec<u8>`, `into_writer` returns the vector with the text of the
-/// numbers.
-#[derive(Debug, Drop)]
-=======
 /// A write that fails or takes no byte is a failure of the sink, after which the writer is not called again. Contracts
 /// see the writer, and whether the sink has failed. Over a `Vec<u8>`, `into_writer` returns the vector with the text of
 /// the numbers.
-#[derive(Drop)]
->>>>>>> w2
+#[derive(Debug, Drop)]
 pub struct Out<W: Write> {
     writer: W,
     failed: bool,
