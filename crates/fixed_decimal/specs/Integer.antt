@@ -7,7 +7,7 @@ use Rattle.fixed_decimal.specs.declared.variations.Sign.{Sign}
 use Rattle.fixed_decimal.specs.Decimal.{Decimal}
 use Rattle.fixed_decimal.specs.DecimalText.{Grammar, read_decimal, with_sign, and_then}
 
--- a decimal without fraction digits is an integer; any other is beyond the limits: `5.0` is
+-- a decimal without fraction digits; `limit` for any other, as for `5.0`
 abbrev pub integer_or_limit : Decimal → Result Decimal ReadError
 integer_or_limit v = if int_lt v.absolute.lo (pos 0) then Err limit else Ok v
 

@@ -118,7 +118,7 @@ impl TryFrom<Decimal> for FixedInteger {
     ///
     /// # Errors
     ///
-    /// The decimal has fraction digits, also if all of them are 0, as `5.0` has; it is dropped.
+    /// The decimal has fraction digits, even if all of them are 0, as `5.0` has. The decimal is then dropped.
     fn try_from(decimal: Decimal) -> Result<Self, LimitError> {
         if *decimal.absolute.magnitude_range().start() < 0 {
             return Err(LimitError);

@@ -43,7 +43,7 @@ impl FixedInteger {
     ///
     /// # Errors
     ///
-    /// Out of memory, only for more than `INLINE_DIGITS` digits without trailing zeros.
+    /// Out of memory, only for more than `INLINE_DIGITS` digits, trailing zeros not counted.
     pub fn try_from_u32(alloc: Global, integer: u32) -> Result<Self, AllocError>
         ensures value { IfOk result (λ v. v ≡ integer_decimal (pos integer)) }
         ensures succeeds { size (integer_decimal (pos integer)).absolute.number ≤ INLINE_DIGITS → IsOk result }

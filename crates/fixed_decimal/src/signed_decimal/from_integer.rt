@@ -57,7 +57,7 @@ impl<D: DigitStore> Signed<UnsignedOver<D>> {
     ///
     /// # Errors
     ///
-    /// Out of memory, only for more than `L` digits without trailing zeros.
+    /// Out of memory, only for more than `L` digits, trailing zeros not counted.
     pub fn try_from_u32(alloc: Global, integer: u32) -> Result<Self, AllocError>
         ensures value { IfOk result (λ v. v ≡ integer_decimal (pos integer)) }
         ensures range { IfOk result (λ v. (v.absolute.hi ≤ℤ pos 9) × (v.absolute.lo ≡ pos 0)) }
