@@ -1,9 +1,7 @@
 -- A number in its parts above and below a position, and the number that is left there.
-use Rattle.std.proofs.Common.{◌≡◌, ℕ, ◌+◌, ◌-◌, ◌*◌, ◌^◌, ◌<◌, ◌≤◌, ◌==◌, false, List, length, get_or, drop, refl, sym, ◌∙◌, ap, subst, arith, rules, inl, inr}
+use Rattle.std.proofs.Common.{◌≡◌, ℕ, ◌+◌, ◌-◌, ◌*◌, ◌^◌, ◌<◌, ◌≤◌, ◌==◌, false, List, length, get_or, drop, refl, sym, ◌∙◌, ap, arith, rules}
 use Rattle.std.specs.Prelude.{ℤ, pos, negsuc, ◌+ℤ◌, ◌≤ℤ◌, ◌<ℤ◌}
 use Rattle.std.proofs.lemmas.Int.{ints}
-use Rattle.std.proofs.lemmas.Bool.{cases_lt}
-use Rattle.std.proofs.lemmas.List.{take_all, length-drop}
 use Rattle.std.proofs.Math.Nat.{mul-pos, pow-le-pow_right, mul-lt-mul_of_pos_right, mul-le-mul_right}
 use Rattle.std.specs.Int.Digits.{AllBelowBase}
 use Rattle.decimal_digits.specs.declared.rounding.UnsignedRoundingMode.{UnsignedRoundingMode}
@@ -16,41 +14,25 @@ use Rattle.decimal_digits.specs.declared.rounding.RoundError.{RoundError}
 use Rattle.decimal_digits.specs.declared.rounding.RoundError.TheVariants.{Limit, Memory}
 use Rattle.decimal_digits.specs.declared.rounding.RoundingIncrement.{RoundingIncrement}
 use Rattle.decimal_digits.specs.RoundedDigits.{Represents}
-use Rattle.decimal_digits.specs.Remainders.{leading, RemainderIs, RoundsTo, SplitsAs, HasDigits, RoundLeadingFails}
+use Rattle.decimal_digits.specs.Remainders.{leading, RemainderByDigit, RoundsTo, SplitsAs, HasDigits, RoundLeadingFails}
 use Rattle.decimal_digits.proofs.Offsets.{offset_is, magnitude_at-offset, gap_is}
 use Rattle.decimal_digits.proofs.Ends.{first_is, last_is, first_zero}
 use Rattle.decimal_digits.proofs.DigitLists.{ten_pos}
-use Rattle.decimal_digits.proofs.NumberAt.{powers, number_at-none, number_at-more, number_at-split, number_at-lt, number_at-ge, number_at-pos}
-use Rattle.decimal_digits.proofs.Leading.{leading_none, leading_at}
+use Rattle.decimal_digits.proofs.NumberAt.{powers, number_at-none, number_at-more, number_at-lt, number_at-ge, number_at-pos}
+use Rattle.decimal_digits.proofs.Leading.{leading_none, leading_all, split_at, tail_told}
 
 -- ---- before the rounding
--- the first k digits and what follows, also where there are fewer
-split_at : (top k : ℕ) (ds : List ℕ) → length ds ≤ top → k ≤ top
-    → number_at top ds ≡ leading k ds * 10 ^ (top - k) + number_at (top - k) (drop k ds)
-split_at top k ds fits h = elim (cases_lt k (length ds)) [
-  | inl l ↦
-      number_at-split top k ds (omega arith) fits
-      ∙ ap (λ n. n + number_at (top - k) (drop k ds)) (leading_at top k ds h)
-  | inr l ↦
-      let z : number_at (top - k) (drop k ds) ≡ 0 =
-      number_at-none (top - k) (drop k ds) (omega (arith, length-drop k ds)) in
-      omega (arith, ap (number_at top) (take_all k ds l), leading_at top k ds h)
-]
-
 -- a position with k places at or above it
 pub splits_above : (m p : ℤ) (k : ℕ) (remainder : Remainder) (ds : List ℕ) → negsuc 32767 ≤ℤ m → negsuc 32767 ≤ℤ p
-    → length ds ≤ offset m + 1 → (p +ℤ pos k) ≡ (m +ℤ pos 1)
-    → ((top : ℕ) → length ds ≤ top → RemainderIs remainder (number_at (top - k) (drop k ds)) (10 ^ (top - k)))
+    → AllBelowBase 10 ds → 0 < get_or ds (length ds - 1) 0
+    → length ds ≤ offset m + 1 → (p +ℤ pos k) ≡ (m +ℤ pos 1) → RemainderByDigit remainder k ds
     → SplitsAs (number_of ds m) (weight p) (leading k ds) remainder
 unfolding number_of
-splits_above m p k remainder ds low low' fits at is =
+splits_above m p k remainder ds low low' b back fits at tells =
     let top = offset m + 1 in
-    let e : top - k ≡ offset p = omega (arith, ints, offset_is m, offset_is p) in (
-      number_at (top - k) (drop k ds),
-      split_at top k ds fits (omega (arith, ints, offset_is m, offset_is p))
-          ∙ ap (λ i. leading k ds * 10 ^ i + number_at (top - k) (drop k ds)) e,
-      subst (λ i. RemainderIs remainder (number_at (top - k) (drop k ds)) (10 ^ i)) e (is top fits),
-    )
+    let e : top - k ≡ offset p = omega (arith, ints, offset_is m, offset_is p) in
+    let split = split_at top k ds fits (omega (arith, ints, offset_is m, offset_is p)) in
+    (number_at (offset p) (drop k ds), rw e at split, rw e at (tail_told remainder top k ds b back tells fits))
 
 -- a position above the place in front of the digits
 pub splits_below : (m p : ℤ) (ds : List ℕ) → negsuc 32767 ≤ℤ m → AllBelowBase 10 ds → 0 < length ds
@@ -112,15 +94,14 @@ represents_none ds n z e = record {
   greatest = omega (arith, ints);
 }
 
-module _ (p : ℤ) (places : ℕ) (ds : List ℕ) (low : negsuc 32767 ≤ℤ p) (fits : length ds ≤ places) where
-  moved : (top : ℕ) → top ≡ places + offset p → number_at top ds ≡ number_at places ds * weight p
-  moved top e = ap (λ i. number_at i ds) e ∙ number_at-more places (offset p) ds fits
-
-  -- the highest of the places
-  pub number_up : (m : ℤ) → negsuc 32767 ≤ℤ m → (m +ℤ pos 1) ≡ (p +ℤ pos places)
-      → number_of ds m ≡ number_at places ds * weight p
-  unfolding number_of
-  number_up m low' e = moved (offset m + 1) (omega (arith, ints, offset_is m, offset_is p))
+-- the same digits from the highest of the places on
+pub number_up : (p m : ℤ) (places : ℕ) (ds : List ℕ) → negsuc 32767 ≤ℤ p → negsuc 32767 ≤ℤ m → length ds ≤ places
+    → (m +ℤ pos 1) ≡ (p +ℤ pos places) → number_of ds m ≡ leading places ds * weight p
+unfolding number_of
+number_up p m places ds low low' fits e =
+    let at : offset m + 1 ≡ places + offset p = omega (arith, ints, offset_is m, offset_is p) in
+    ap (λ i. number_at i ds) at ∙ number_at-more places (offset p) ds fits
+    ∙ ap (λ n. n * weight p) (leading_all places ds fits)
 
 -- ---- how many digits there are
 -- a number of k digits, the last of which is not 0, has this size from each position on

@@ -1,6 +1,6 @@
 -- Private: used only in the contracts of private functions.
 -- Remainders, and how a number is rounded by them.
-use Rattle.std.specs.Prelude.{◌≡◌, ℕ, ◌+◌, ◌-◌, ◌*◌, ◌%◌, ◌^◌, ◌<◌, ◌≤◌, Bool, true, false, List, length, take}
+use Rattle.std.specs.Prelude.{◌≡◌, ℕ, ◌+◌, ◌-◌, ◌*◌, ◌%◌, ◌^◌, ◌<◌, ◌≤◌, Bool, true, false, List, length, take, slice_index}
 use Rattle.decimal_digits.specs.declared.rounding.UnsignedRoundingMode.{UnsignedRoundingMode}
 use Rattle.decimal_digits.specs.declared.rounding.UnsignedRoundingMode.TheVariants.{Expand, Trunc, HalfExpand, HalfTrunc, HalfEven}
 use Rattle.decimal_digits.specs.declared.rounding.remainder.Remainder.{Remainder}
@@ -42,6 +42,14 @@ leading k digits = number_at k (take k digits)
 -- n is k units and a remainder of this kind
 abbrev pub SplitsAs : ℕ → ℕ → ℕ → Remainder → Type 0
 SplitsAs n unit k remainder = (r : ℕ) × (n ≡ k * unit + r) × RemainderIs remainder r unit
+
+-- the remainder after the first k digits, by the first digit of it; the last digit is not 0
+abbrev pub RemainderByDigit : Remainder → ℕ → List ℕ → Type 0
+RemainderByDigit Zero k digits = length digits ≤ k
+RemainderByDigit BelowHalf k digits = (k < length digits) × (slice_index digits k ≤ 4)
+RemainderByDigit Half k digits = (k + 1 ≡ length digits) × (slice_index digits k ≡ 5)
+RemainderByDigit AboveHalf k digits =
+    (k < length digits) × (5 ≤ slice_index digits k) × (slice_index digits k ≡ 5 → k + 1 < length digits)
 
 -- m has n digits, the last of which is not 0
 pub record HasDigits (n m : ℕ) : Type 0 where

@@ -2,7 +2,7 @@
 ghost use Rattle.std.specs.Prelude.{◌≡◌, ◌≢◌, ◌+◌, ◌*◌, ◌<◌, ◌≤◌, ◌↔◌, length, pos, ◌+ℤ◌, ◌≤ℤ◌, IsErrOf, IfOk, IfErr, OnErr};
 ghost use Rattle.decimal_digits.specs.Counted.{list_of, accesses_of, Continues, OnlyReads};
 ghost use Rattle.decimal_digits.specs.Number.{offset, weight};
-ghost use Rattle.decimal_digits.specs.Digits.{number_at, number_of, IsStripped};
+ghost use Rattle.decimal_digits.specs.Digits.{number_of, IsStripped};
 ghost use Rattle.decimal_digits.specs.Rounding.{unit_at, rounded_number, DigitRoundingFails};
 ghost use Rattle.decimal_digits.specs.RoundedDigits.{Represents, NoDigitsBelow};
 ghost use Rattle.decimal_digits.specs.Remainders.{leading, SplitsAs};
@@ -89,7 +89,7 @@ fn magnitude_after<D: DigitStore>(counted: &Counted<'_, D>, position: i16, place
     requires fits { length (D.digits (list_of counted.now)) ≤ places }
     requires in_limits { (position +ℤ pos places) ≤ℤ pos 32768 }
     ensures represents { Represents (D.digits (list_of counted.now)) result
-        (number_at places (D.digits (list_of counted.now)) * weight position) }
+        (leading places (D.digits (list_of counted.now)) * weight position) }
     ensures above { NoDigitsBelow position (D.digits (list_of counted.now)) result }
 {
     if counted.len() == 0 {

@@ -2,7 +2,7 @@
 //! digit is removed. If adding one exceeds the limit, no digit is removed, and each one is read at most once.
 ghost use Rattle.std.specs.Prelude.{◌≡◌, ◌+◌, ◌^◌, ◌<◌, ◌≤◌, length, slice_index, IfSome, IfNone};
 ghost use Rattle.decimal_digits.specs.Counted.{list_of, accesses_of, Continues, OnlyReads};
-ghost use Rattle.decimal_digits.specs.Digits.{number_at, IsStripped};
+ghost use Rattle.decimal_digits.specs.Digits.{IsStripped};
 ghost use Rattle.decimal_digits.specs.Remainders.{leading};
 
 use crate::digits::{Counted, DigitStore};
@@ -11,8 +11,7 @@ use crate::digits::{Counted, DigitStore};
 pub fn strip_trailing_zeros<D: DigitStore>(counted: &mut Counted<'_, D>)
     requires { 0 < slice_index (D.digits (list_of counted.old)) 0 }
     ensures value { let places = length (D.digits (list_of counted.old)) in
-        number_at places (D.digits (list_of counted.new))
-        ≡ number_at places (D.digits (list_of counted.old)) }
+        leading places (D.digits (list_of counted.new)) ≡ leading places (D.digits (list_of counted.old)) }
     ensures length { length (D.digits (list_of counted.new)) ≤ length (D.digits (list_of counted.old)) }
     ensures some { 0 < length (D.digits (list_of counted.new)) }
     ensures stripped { IsStripped (D.digits (list_of counted.new)) }
@@ -38,7 +37,7 @@ pub fn add_one<D: DigitStore>(
     requires fits { places ≤ max_places }
     requires bounded { max_places ≤ 65536 }
     requires front { 0 < slice_index (D.digits (list_of counted.old)) 0 }
-    ensures value { IfSome result (λ new. number_at new (D.digits (list_of counted.new))
+    ensures value { IfSome result (λ new. leading new (D.digits (list_of counted.new))
         ≡ leading places (D.digits (list_of counted.old)) + 1) }
     ensures max_places { IfSome result (λ new. new ≤ max_places) }
     ensures length { IfSome result (λ new. length (D.digits (list_of counted.new)) ≤ new) }

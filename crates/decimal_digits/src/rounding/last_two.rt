@@ -1,7 +1,7 @@
 //! The last two of the digits that are kept, as a number below 100.
 ghost use Rattle.std.specs.Prelude.{◌≡◌, ◌+◌, ◌-◌, ◌*◌, ◌%◌, ◌^◌, ◌<◌, ◌≤◌, [], ◌∷◌, ◌++◌, length, take, slice_index, IfSome, IfNone, OnOk, OnErr};
 ghost use Rattle.decimal_digits.specs.Counted.{list_of, accesses_of, Continues, OnlyReads};
-ghost use Rattle.decimal_digits.specs.Digits.{number_at, IsStripped};
+ghost use Rattle.decimal_digits.specs.Digits.{IsStripped};
 ghost use Rattle.decimal_digits.specs.Remainders.{leading};
 
 use crate::digits::{Counted, DigitStore};
@@ -87,7 +87,7 @@ pub fn write_last_two<D: DigitStore>(
     requires above { 0 < number }
     requires below { number < 100 }
     requires first { 0 < slice_index (D.digits (list_of counted.old)) 0 }
-    ensures value { OnOk result (number_at keep (D.digits (list_of counted.new))
+    ensures value { OnOk result (leading keep (D.digits (list_of counted.new))
         ≡ 100 * leading (keep - 2) (D.digits (list_of counted.old)) + number) }
     ensures length { OnOk result (length (D.digits (list_of counted.new)) ≤ keep) }
     ensures some { OnOk result (0 < length (D.digits (list_of counted.new))) }
@@ -117,7 +117,7 @@ pub fn write_number<D: DigitStore>(
     max_places: usize,
 ) -> Option<usize>
     requires { number ≤ 100 }
-    ensures value { IfSome result (λ places. number_at places (D.digits (list_of counted.new)) ≡ number) }
+    ensures value { IfSome result (λ places. leading places (D.digits (list_of counted.new)) ≡ number) }
     ensures max_places { IfSome result (λ places. places ≤ max_places) }
     ensures length { IfSome result (λ places. length (D.digits (list_of counted.new)) ≤ places) }
     ensures stripped { IfSome result (λ places. IsStripped (D.digits (list_of counted.new))) }
@@ -148,6 +148,7 @@ pub fn write_number<D: DigitStore>(
 /// Counts the digits of a number up to 100, of which 0 has none.
 fn digit_count(number: u8) -> usize
     requires { number ≤ 100 }
+    ensures least { 0 < result → 10 ^ (result - 1) ≤ number }
     ensures none { number ≡ 0 → result ≡ 0 }
     ensures one { 0 < number → number < 10 → result ≡ 1 }
     ensures two_digits { 10 ≤ number → number < 100 → result ≡ 2 }

@@ -95,8 +95,8 @@ pub fn round_last_two(
 ) -> u8
     requires { last_two < 100 }
     ensures at_most { result ≤ 100 }
-    ensures rounds { (hundreds : ℕ)
-        → RoundsTo mode (step_of increment) remainder (100 * hundreds + last_two) (100 * hundreds + result) }
+    ensures rounds { (hundreds n m : ℕ) → n ≡ 100 * hundreds + last_two → m ≡ 100 * hundreds + result
+        → RoundsTo mode (step_of increment) remainder n m }
     ensures unchanged { remainder ≡ Remainder.Zero → last_two % step_of increment ≡ 0 → result ≡ last_two }
 {
     let step = step(increment);

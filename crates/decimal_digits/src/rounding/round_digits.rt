@@ -1,9 +1,9 @@
 //! Rounding of the digits that are kept, by those that follow.
-ghost use Rattle.std.specs.Prelude.{◌≡◌, ℕ, ◌+◌, ◌-◌, ◌^◌, ◌<◌, ◌≤◌, ◌↔◌, length, drop, slice_index, IsErrOf, IfOk, IfErr, IfSome, IfNone, OnErr};
+ghost use Rattle.std.specs.Prelude.{◌≡◌, ◌+◌, ◌-◌, ◌%◌, ◌^◌, ◌<◌, ◌≤◌, ◌==◌, ◌↔◌, length, slice_index, IsErrOf, IfOk, IfErr, IfSome, IfNone, OnErr};
 ghost use Rattle.decimal_digits.specs.Counted.{list_of, accesses_of, Continues, OnlyReads};
-ghost use Rattle.decimal_digits.specs.Digits.{number_at, IsStripped};
+ghost use Rattle.decimal_digits.specs.Digits.{IsStripped};
 ghost use Rattle.decimal_digits.specs.Rounding.{step_of};
-ghost use Rattle.decimal_digits.specs.Remainders.{leading, RemainderIs, RoundsTo, RoundLeadingFails};
+ghost use Rattle.decimal_digits.specs.Remainders.{leading, RemainderByDigit, RoundsTo, RoundLeadingFails};
 
 use super::carry::{add_one, strip_trailing_zeros};
 use super::last_two::{last_two_of, write_last_two, write_number};
@@ -15,10 +15,7 @@ use crate::digits::{Counted, DigitStore};
 ///
 /// One digit access is enough, since the list has no trailing zeros.
 pub fn remainder_after<D: DigitStore>(counted: &mut Counted<'_, D>, keep: usize) -> Remainder
-    requires { IsStripped (D.digits (list_of counted.old)) }
-    // For any number of places from the first digit down.
-    ensures remainder { let digits = D.digits (list_of counted.old) in (top : ℕ) → length digits ≤ top
-        → RemainderIs result (number_at (top - keep) (drop keep digits)) (10 ^ (top - keep)) }
+    ensures remainder { RemainderByDigit result keep (D.digits (list_of counted.old)) }
     ensures exact { (result ≡ Remainder.Zero) ↔ (length (D.digits (list_of counted.old)) ≤ keep) }
     ensures reads { OnlyReads 1 counted.old counted.new }
 {
@@ -38,7 +35,7 @@ fn keep_leading<D: DigitStore>(counted: &mut Counted<'_, D>, keep: usize, last: 
     requires fewer { keep < length (D.digits (list_of counted.old)) }
     requires last { 0 < keep → last ≡ slice_index (D.digits (list_of counted.old)) (keep - 1) }
     requires front { 0 < slice_index (D.digits (list_of counted.old)) 0 }
-    ensures value { number_at keep (D.digits (list_of counted.new)) ≡ leading keep (D.digits (list_of counted.old)) }
+    ensures value { leading keep (D.digits (list_of counted.new)) ≡ leading keep (D.digits (list_of counted.old)) }
     ensures length { length (D.digits (list_of counted.new)) ≤ keep }
     ensures stripped { IsStripped (D.digits (list_of counted.new)) }
     ensures accesses { accesses_of counted.new + length (D.digits (list_of counted.new))
@@ -55,7 +52,7 @@ fn keep_leading<D: DigitStore>(counted: &mut Counted<'_, D>, keep: usize, last: 
 fn last_of<D: DigitStore>(counted: &mut Counted<'_, D>, keep: usize) -> u8
     requires { keep ≤ length (D.digits (list_of counted.old)) }
     ensures last { 0 < keep → result ≡ slice_index (D.digits (list_of counted.old)) (keep - 1) }
-    ensures none { keep ≡ 0 → result ≡ 0 }
+    ensures odd { (result % 2 == 1) ≡ (leading keep (D.digits (list_of counted.old)) % 2 == 1) }
     ensures is_digit { result < 10 }
     ensures reads { OnlyReads 1 counted.old counted.new }
 {
@@ -79,7 +76,7 @@ fn round_by_one<D: DigitStore>(
     requires bounded { max_places ≤ 65536 }
     requires stripped { IsStripped (D.digits (list_of counted.old)) }
     ensures value { IfSome result (λ places. RoundsTo mode 1 remainder
-        (leading keep (D.digits (list_of counted.old))) (number_at places (D.digits (list_of counted.new)))) }
+        (leading keep (D.digits (list_of counted.old))) (leading places (D.digits (list_of counted.new)))) }
     ensures max_places { IfSome result (λ places. places ≤ max_places) }
     ensures length { IfSome result (λ places. length (D.digits (list_of counted.new)) ≤ places) }
     ensures stripped { IfSome result (λ places. IsStripped (D.digits (list_of counted.new))) }
@@ -129,7 +126,7 @@ pub fn round_leading<D: DigitStore>(
     requires bounded { max_places ≤ 65536 }
     requires stripped { IsStripped (D.digits (list_of counted.old)) }
     ensures value { IfOk result (λ places. RoundsTo mode (step_of increment) remainder
-        (leading keep (D.digits (list_of counted.old))) (number_at places (D.digits (list_of counted.new)))) }
+        (leading keep (D.digits (list_of counted.old))) (leading places (D.digits (list_of counted.new)))) }
     ensures max_places { IfOk result (λ places. places ≤ max_places) }
     ensures length { IfOk result (λ places. length (D.digits (list_of counted.new)) ≤ places) }
     ensures stripped { IfOk result (λ places. IsStripped (D.digits (list_of counted.new))) }

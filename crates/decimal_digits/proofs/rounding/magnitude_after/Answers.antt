@@ -1,10 +1,9 @@
-use Rattle.std.proofs.Common.{◌+◌, ◌*◌, ◌≤◌, length, subst, ap, ◌∙◌, arith, rules, w16}
-use Rattle.std.specs.Prelude.{negsuc, pos, ◌≤ℤ◌}
+use Rattle.std.proofs.Common.{◌+◌, ◌*◌, ◌≤◌, length, ap, ◌∙◌, arith, rules, w16}
+use Rattle.std.specs.Prelude.{negsuc, ◌≤ℤ◌}
 use Rattle.std.specs.Int.RustNames.{FitsSigned}
 use Rattle.std.proofs.lemmas.Int.{ints, to_z-of_z}
 use Rattle.std.proofs.lemmas.List.Elements.{recursion_from_All}
 use Rattle.decimal_digits.specs.Number.{offset, weight}
-use Rattle.decimal_digits.specs.RoundedDigits.{Represents}
 use Rattle.decimal_digits.proofs.NumberAt.{number_at-none}
 use Rattle.decimal_digits.proofs.Offsets.{offset_is}
 use Rattle.decimal_digits.proofs.SplitAtPosition.{represents, represents_none, number_up}
@@ -12,9 +11,8 @@ use Rattle.decimal_digits.proofs.rounding.magnitude_after.Goals as goal
 
 pub returns-then-len-eq0-clause-represents : goal.returns-then-len-eq0-clause-represents
 returns-then-len-eq0-clause-represents g c =
-    let ds = g.D.DigitStore.digits c.args.counted.now.list.now in
-    represents_none ds _ (omega arith)
-    (ap (λ n. n * weight c.args.position) (number_at-none c.args.places ds (omega arith)) ∙ omega arith)
+    represents_none _ _ (omega arith)
+    (ap (λ n. n * weight c.args.position) (number_at-none c.args.places _ (grind arith)) ∙ omega arith)
 
 pub returns-else-len-eq0-clause-represents : goal.returns-else-len-eq0-clause-represents
 returns-else-len-eq0-clause-represents g c =
@@ -23,17 +21,13 @@ returns-else-len-eq0-clause-represents g c =
     let list = c.args.counted.now.list.now in
     let ds = g.D.DigitStore.digits list in
     let m = c.highest_of.result in
+    let p = c.args.position in
     let at = simp to_z-of_z at c.highest_of.ensures in
     let low : negsuc 32767 ≤ℤ m = omega (arith, ints) in
-    let high : m ≤ℤ pos 32767 = omega (arith, ints) in
-    let low_p : negsuc 32767 ≤ℤ c.args.position = omega (arith, ints) in
-    let within : length ds ≤ offset m + 1 =
-    omega (arith, ints, c.requires.fits, offset_is m, offset_is c.args.position) in
-    let whole =
-    represents m ds low high (recursion_from_All _ _ (g.met.D.DigitStore.are_digits list)) within c.requires.stripped
-    (omega arith) in
-    simp to_z-of_z
-    (subst (λ n. Represents ds m n) (number_up c.args.position c.args.places ds low_p c.requires.fits m low at) whole)
+    let within : length ds ≤ offset m + 1 = omega (arith, ints, c.requires.fits, offset_is m, offset_is p) in
+    simp to_z-of_z (rw (← (number_up p m c.args.places ds (omega (arith, ints)) low c.requires.fits at))
+    (represents m ds low (omega (arith, ints)) (recursion_from_All _ _ (g.met.D.DigitStore.are_digits list)) within
+    c.requires.stripped (omega arith)))
 
 pub returns-else-len-eq0-clause-above : goal.returns-else-len-eq0-clause-above
 returns-else-len-eq0-clause-above g c some =

@@ -1,12 +1,11 @@
-use Rattle.std.proofs.Common.{◌≡◌, length, inl, inr, ap, subst, sym, ◌∙◌, arith, rules, w16}
+use Rattle.std.proofs.Common.{◌≡◌, length, inl, inr, ap, ◌∙◌, arith, rules, w16}
 use Rattle.std.specs.Int.RustNames.{FitsSigned}
 use Rattle.std.proofs.lemmas.Int.{ints, to_z-of_z}
 use Rattle.std.proofs.lemmas.Bool.{cases_lt}
 use Rattle.decimal_digits.specs.Number.{offset, weight}
-use Rattle.decimal_digits.specs.Digits.{number_at, number_of}
+use Rattle.decimal_digits.specs.Digits.{number_of}
 use Rattle.decimal_digits.specs.Rounding.{step_of, unit_at, rounded_number, DigitRoundingFails}
-use Rattle.decimal_digits.specs.RoundedDigits.{Represents}
-use Rattle.decimal_digits.specs.Remainders.{leading, RoundsTo, RoundLeadingFails}
+use Rattle.decimal_digits.specs.Remainders.{leading}
 use Rattle.decimal_digits.proofs.DigitLists.{ten_pos}
 use Rattle.decimal_digits.proofs.RoundingLaws.{rounded_number-zero}
 use Rattle.decimal_digits.proofs.Remainders.{unit_pos}
@@ -37,22 +36,17 @@ round_leading-requires-clause-fits g c =
 pub returns-in_err-places-clause-fails_with : goal.returns-in_err-places-clause-fails_with
 returns-in_err-places-clause-fails_with g c =
     let m = c.ranges.magnitude in let p = c.ranges.position in
-    let splits_as = simp to_z-of_z at c.split_at_position-keep.ensures.splits_as in
-    let within = simp to_z-of_z at c.split_at_position-keep.ensures.below_limit in
-    let max_places = simp to_z-of_z at c.max_places_above.ensures in
     let ds = g.D.DigitStore.digits c.args.counted.now.list.now in
     let keep = c.split_at_position-keep.result.0 in let remainder = c.split_at_position-keep.result.1 in
     let e = c.in_err-places.field-0.0 in
-    let same : g.D.DigitStore.digits c.split_at_position-keep.new.counted.list.now ≡ ds = cc in
-    let fails_with =
-    subst (λ xs. RoundLeadingFails e c.args.mode c.args.increment g.D.DigitStore.L c.max_places_above.result keep xs
-    remainder) same
-    c.in_err-places.ensures.fails_with in
     let k : DigitRoundingFails e c.args.increment (length ds)
     (rounded_number c.args.mode (unit_at c.args.increment c.args.position) (number_of ds c.args.magnitude))
     g.D.DigitStore.L =
     digit_rounding_fails e c.args.mode c.args.increment g.D.DigitStore.L c.max_places_above.result keep ds remainder
-    (number_of ds c.args.magnitude) c.args.position (omega (arith, ints)) max_places within splits_as fails_with in
+    (number_of ds c.args.magnitude) c.args.position (omega (arith, ints)) (simp to_z-of_z at c.max_places_above.ensures)
+    (simp to_z-of_z at c.split_at_position-keep.ensures.below_limit)
+    (simp to_z-of_z at c.split_at_position-keep.ensures.splits_as)
+    (rw c.split_at_position-keep.ensures.reads.0 at c.in_err-places.ensures.fails_with) in
     search (rules, k)
 
 pub returns-clause-ok : goal.returns-clause-ok
@@ -62,13 +56,8 @@ returns-clause-ok g c =
     let fits : FitsSigned w16 c.magnitude_after.result = search rules in
     let represents = simp to_z-of_z at c.magnitude_after.ensures.represents in
     let ds = g.D.DigitStore.digits c.args.counted.now.list.now in
-    let keep = c.split_at_position-keep.result.0 in let remainder = c.split_at_position-keep.result.1 in
-    let left = number_at c.in_ok-places.places (g.D.DigitStore.digits c.round_leading.new.counted.list.now) in
-    let same : g.D.DigitStore.digits c.split_at_position-keep.new.counted.list.now ≡ ds = cc in
-    let rounds = subst (λ xs. RoundsTo c.args.mode (step_of c.args.increment) remainder (leading keep xs) left) same
-    c.in_ok-places.ensures.value in
-    let e = rounded_split c.args.mode (step_of c.args.increment) remainder (number_of ds c.args.magnitude)
-    (weight c.args.position) (leading keep ds) left (ten_pos (offset c.args.position)) splits_as rounds in
-    simp to_z-of_z
-    (subst (λ n. Represents (g.D.DigitStore.digits c.round_leading.new.counted.list.now) c.magnitude_after.result n)
-    (sym e) represents)
+    let rounds = rw c.split_at_position-keep.ensures.reads.0 at c.in_ok-places.ensures.value in
+    let e = rounded_split c.args.mode (step_of c.args.increment) c.split_at_position-keep.result.1
+    (number_of ds c.args.magnitude) (weight c.args.position) (leading c.split_at_position-keep.result.0 ds) _
+    (ten_pos (offset c.args.position)) splits_as rounds in
+    simp to_z-of_z (rw e represents)

@@ -8,10 +8,10 @@ use Rattle.decimal_digits.proofs.rounding.split_at_position.Goals as goal
 pub returns-in-Some-clause-splits_as : goal.returns-in-Some-clause-splits_as
 returns-in-Some-clause-splits_as g c =
     let m = c.ranges.magnitude in let p = c.ranges.position in
-    let places = simp to_z-of_z at c.in-Some.ensures.some in
-    splits_above c.args.magnitude c.args.position c.in-Some.keep c.remainder_after.result
-    (g.D.DigitStore.digits c.args.counted.now.list.now) (omega (arith, ints)) (omega (arith, ints)) c.requires.fits
-    places c.remainder_after.ensures.remainder
+    splits_above c.args.magnitude c.args.position c.in-Some.keep c.remainder_after.result _ (omega (arith, ints))
+    (omega (arith, ints)) (recursion_from_All _ _ (g.met.D.DigitStore.are_digits c.args.counted.now.list.now))
+    (c.requires.stripped.back c.requires.some) c.requires.fits (simp to_z-of_z at c.in-Some.ensures.some)
+    c.remainder_after.ensures.remainder
 
 pub returns-in-Some-clause-below_limit : goal.returns-in-Some-clause-below_limit
 returns-in-Some-clause-below_limit g c some =
@@ -22,8 +22,6 @@ returns-in-Some-clause-below_limit g c some =
 pub returns-in-None-clause-splits_as : goal.returns-in-None-clause-splits_as
 returns-in-None-clause-splits_as g c =
     let m = c.ranges.magnitude in let p = c.ranges.position in
-    let above = simp to_z-of_z at c.in-None.ensures.none in
-    let list = c.args.counted.now.list.now in
-    splits_below c.args.magnitude c.args.position (g.D.DigitStore.digits list) (omega (arith, ints))
-    (recursion_from_All _ _ (g.met.D.DigitStore.are_digits list)) c.requires.some
-    (c.requires.stripped.back c.requires.some) c.requires.fits above
+    splits_below c.args.magnitude c.args.position _ (omega (arith, ints))
+    (recursion_from_All _ _ (g.met.D.DigitStore.are_digits c.args.counted.now.list.now)) c.requires.some
+    (c.requires.stripped.back c.requires.some) c.requires.fits (simp to_z-of_z at c.in-None.ensures.none)
