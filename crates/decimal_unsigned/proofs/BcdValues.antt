@@ -1,5 +1,5 @@
 -- Short texts: up to sixteen digits as a number in base 16, and the value of their parts.
-use Rattle.decimal_unsigned.proofs.Common.{◌≡◌, ℕ, zero, suc, ◌+◌, ◌-◌, ◌*◌, ◌/◌, ◌%◌, ◌^◌, ◌<◌, ◌≤◌, inl, inr, true, List, [], ◌∷◌, ◌++◌, length, get_or, take, drop, map, refl, sym, ◌∙◌, ap, subst, arith, None, Ok, ℤ, pos, ◌-ℤ◌, mul-lt-mul_of_pos_right, pow-le-pow_right, cases_lt, ints, pow-add, length-append, length-drop, length-take-le, length-map, number_lt, digits_value_is, is_ascii_digit, digit_value, number_from_digits, AllBelowBase, AllDigits, digits_value, number_of, below_take, Literal, value_of, middle, IsNonzeroRange, pow-suc, mod-eq_of_lt, digits_value_after, below_drop, number_split, below_sixteen}
+use Rattle.decimal_unsigned.proofs.Common.{clamps, nat_tests, common_steps, ◌≡◌, ℕ, zero, suc, ◌+◌, ◌-◌, ◌*◌, ◌/◌, ◌%◌, ◌^◌, ◌<◌, ◌≤◌, inl, inr, true, List, [], ◌∷◌, ◌++◌, length, get_or, take, drop, map, refl, sym, ◌∙◌, ap, subst, arith, None, Ok, ℤ, pos, ◌-ℤ◌, mul-lt-mul_of_pos_right, pow-le-pow_right, cases_lt, ints, pow-add, length-append, length-drop, length-take-le, length-map, number_lt, digits_value_is, is_ascii_digit, digit_value, number_from_digits, AllBelowBase, AllDigits, digits_value, number_of, below_take, Literal, value_of, middle, IsNonzeroRange, pow-suc, mod-eq_of_lt, digits_value_after, below_drop, number_split, below_sixteen}
 use Rattle.std.specs.Int.{w64, bit_at, leading_zeros, trailing_zeros}
 use Rattle.std.proofs.Math.Nat.{one-le-pow, div-div-eq-div-mul, div-eq_of_lt-le, zero-div}
 use Rattle.std.proofs.Math.ListN.{get_or-eq_default}
@@ -71,18 +71,10 @@ shifted_middle ds start end h s w few =
     let mid = take len (drop start ds) in
     let a = number_from_digits 16 (take start front) in
     let m = number_from_digits 16 mid in
-    let all : start + len ≡ end = omega arith in
-    let n_front : length front ≡ start + len = length-take-le (start + len) ds (omega arith) in
     let n_mid : length mid ≡ len = length-take-le len (drop start ds) (omega (arith, length-drop start ds)) in
     let m_lt : m < 16 ^ len =
     subst (λ i. m < 16 ^ i) n_mid
     (number_lt 16 mid (below_sixteen mid (below_take 10 len (drop start ds) (below_drop 10 start ds h)))) in
-    let shifted : number_from_digits 16 ds / 2 ^ (4 * (length ds - end)) ≡ number_from_digits 16 front =
-    ap (λ p. number_from_digits 16 ds / p) (hex_pow (length ds - end))
-    ∙ number-div 16 end ds (below_sixteen ds h) w ∙ ap (λ n. number_from_digits 16 (take n ds)) (sym all) in
-    let split : number_from_digits 16 front ≡ a * 16 ^ len + m =
-    number_split 16 start front (omega (arith, n_front))
-    ∙ (let e : length front - start ≡ len = omega (arith, n_front) in rw (e, drop-take start len ds) refl) in
     let places : 16 ^ len * 16 ^ k ≡ 2 ^ 64 =
     sym (pow-add 16 len k) ∙ ap (λ i. 16 ^ i) (let e : len + k ≡ 16 = omega arith in e) in
     let pos : 0 < 16 ^ k = omega (arith, one-le-pow k 16 (omega arith)) in
@@ -90,8 +82,27 @@ shifted_middle ds start end h s w few =
     let total : (a * 16 ^ len + m) * 16 ^ k ≡ a * 2 ^ 64 + m * 16 ^ k =
     (let e : (a * 16 ^ len + m) * 16 ^ k ≡ a * (16 ^ len * 16 ^ k) + m * 16 ^ k = omega arith in e)
     ∙ ap (λ p. a * p + m * 16 ^ k) places in
-    (λ i. (shifted ∙ split) i * hex_pow k i % 2 ^ 64) ∙ ap (λ t. t % 2 ^ 64) total
-    ∙ mod-mul-add a (2 ^ 64) (m * 16 ^ k) lt
+    grind (
+      arith,
+      ints,
+      clamps,
+      nat_tests,
+      common_steps,
+      length-take-le,
+      length-drop,
+      number_lt,
+      below_sixteen,
+      below_take,
+      below_drop,
+      hex_pow,
+      number-div,
+      number_split,
+      drop-take,
+      pow-add,
+      one-le-pow,
+      mul-lt-mul_of_pos_right,
+      mod-mul-add,
+    )
 
 -- up to sixteen digits write their number
 pub number_written : (whole fraction : List ℕ) (number : ℕ) → AllDigits 10 (whole ++ fraction)
@@ -153,11 +164,18 @@ digit_is : (ds : List ℕ) (k : ℕ) → AllBelowBase 10 ds → k < length ds
     → get_or ds k 0 ≡ number_from_digits 16 ds / 16 ^ (length ds - 1 - k) % 16
 digit_is ds k h l =
     let e : length ds - 1 - k ≡ length ds - (k + 1) = omega arith in
-    let small : get_or ds k 0 < 16 = omega (arith, below_at k ds h l) in
-    rw e
-    (sym (ap (λ n. n % 16)
-    (number-div 16 (k + 1) ds (below_sixteen ds h) (omega arith) ∙ number_more_digits 16 ds k l)
-    ∙ mod-mul-add _ _ _ small))
+    grind (
+      arith,
+      ints,
+      clamps,
+      nat_tests,
+      common_steps,
+      below_at,
+      number-div,
+      below_sixteen,
+      number_more_digits,
+      mod-mul-add,
+    )
 
 -- the highest and the lowest bit lie in the first and the last digit that is not 0
 inner_bits : (ds : List ℕ) (n top low : ℕ) → AllBelowBase 10 ds → n ≡ number_from_digits 16 ds → bit_at n top ≡ 1
@@ -276,11 +294,4 @@ module _ (w : Literal) (number : ℕ) (digits : AllDigits 10 (w.whole ++ w.fract
         let h = middle_holds ds number start end below number_is n.ordered n.within (omega (arith, count)) in
         let following : length ds - end ≡ zeros = omega (arith, n.ordered, n.within, fits) in
         let long : end - start ≡ size - zeros = omega (arith, n.ordered, n.within, fits) in
-        short_made w start end _ (size - zeros) m hi lo (is_plan_at w start end _ _ _ m hi lo k refl b c)
-        (subst
-        (λ k. Encodes (leading_bytes (number / 2 ^ (4 * zeros) * 2 ^ (4 * (16 - k)) % 2 ^ 64) k) k
-        (middle start end ds))
-        long
-        (subst
-        (λ z. Encodes (leading_bytes (number / 2 ^ (4 * z) * 2 ^ (4 * (16 - (end - start))) % 2 ^ 64) (end - start))
-        (end - start) (middle start end ds)) following h))
+        grind (arith, ints, clamps, nat_tests, common_steps)

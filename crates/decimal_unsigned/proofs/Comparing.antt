@@ -1,5 +1,5 @@
 -- The order of two numbers, by their digits.
-use Rattle.decimal_unsigned.proofs.Common.{◌≡◌, ℕ, suc, ◌+◌, ◌-◌, ◌*◌, ◌^◌, ◌<◌, ◌≤◌, List, [], ◌∷◌, length, get_or, drop, replicate, refl, sym, ◌∙◌, ap, subst, arith, ◌⊎◌, inl, inr, min, ℤ, ◌<ℤ◌, nat_cmp, mul-le-mul_right, mul-lt-mul_of_pos_right, pow-le-pow_right, cases_lt, ints, length-drop, recursion_from_All, number_lt, pow-add, number_from_digits, AllBelowBase, offset, offset_is, IsStored, All, slice_cmp, below_sixteen, Unsigned, IsValue}
+use Rattle.decimal_unsigned.proofs.Common.{clamps, nat_tests, common_steps, ◌≡◌, ℕ, suc, ◌+◌, ◌-◌, ◌*◌, ◌^◌, ◌<◌, ◌≤◌, List, [], ◌∷◌, length, get_or, drop, replicate, refl, sym, ◌∙◌, ap, subst, arith, ◌⊎◌, inl, inr, min, ℤ, ◌<ℤ◌, nat_cmp, mul-le-mul_right, mul-lt-mul_of_pos_right, pow-le-pow_right, cases_lt, ints, length-drop, recursion_from_All, number_lt, pow-add, number_from_digits, AllBelowBase, offset, offset_is, IsStored, All, slice_cmp, below_sixteen, Unsigned, IsValue}
 use Rattle.std.specs.declared.cmp.Ordering.{Ordering}
 use Rattle.std.specs.declared.cmp.Ordering.TheVariants.{Less, Equal, Greater}
 use Rattle.std.specs.Ordering.{MatchOrdering, ordering_then, int_cmp}
@@ -54,10 +54,7 @@ abbrev EndsInDigit : List ℕ → Type 0
 EndsInDigit ds = 0 < length ds → 0 < get_or ds (length ds - 1) 0
 
 others_end : (d : ℕ) (ds : List ℕ) → EndsInDigit (d ∷ ds) → EndsInDigit ds
-others_end d ds ends some =
-    let k : length (d ∷ ds) - 1 ≡ suc (length ds - 1) = omega arith in
-    let e = ends (omega arith) in
-    (rw k at e)
+others_end d ds ends some = grind (arith, ints, clamps, nat_tests, common_steps)
 
 module _ (base : ℕ) (above : 0 < base) where
   -- what the digits are worth where the first is that of base ^ (top - 1)
@@ -135,9 +132,7 @@ module _ (base : ℕ) (above : 0 < base) where
 -- ---- up to sixteen digits as the halves of a number
 nibbles_value : (ds : List ℕ) → bcd_number ds ≡ number_from_digits 16 ds * 16 ^ (16 - length ds)
 unfolding bcd_number
-nibbles_value ds =
-    number_after_append 16 0 ds (replicate (16 - length ds) 0)
-    ∙ number_zeros 16 (number_from_digits 16 ds) (16 - length ds)
+nibbles_value ds = grind (arith, ints, clamps, nat_tests, common_steps, number_after_append, number_zeros)
 
 -- the digits have the order of these numbers
 pub nibbles_order : (ds es : List ℕ) → All (λ d. d < 10) ds → All (λ d. d < 10) es → length ds ≤ 16 → length es ≤ 16
@@ -154,12 +149,7 @@ module _ {ds es : List ℕ} {m m' hi lo hi' lo' : ℤ} (s : IsStored ds m hi lo)
   -- digits from one magnitude down have the order of the numbers
   pub numbers_order : m ≡ m' → slice_cmp nat_cmp ds es ≡ nat_cmp (number_of ds m) (number_of es m')
   unfolding number_of number_at
-  numbers_order same =
-      let place_same = ap offset same in
-      digits_order 10 (omega arith) (offset m + 1) ds es s.digits t.digits (omega (arith, s.fits))
-      (omega (arith, t.fits, place_same))
-      s.back t.back
-      ∙ ap (λ k. nat_cmp (number_at (offset m + 1) ds) (number_at (offset k + 1) es)) same
+  numbers_order same = grind (arith, ints, clamps, nat_tests, common_steps, digits_order)
 
   -- where one has no digits, their counts have the order of the numbers
   pub none_order : (length ds ≡ 0) ⊎ (length es ≡ 0)

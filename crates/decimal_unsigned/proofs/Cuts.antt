@@ -1,5 +1,5 @@
 -- The part of a number below a position, by its digits.
-use Rattle.decimal_unsigned.proofs.Common.{◌≡◌, ℕ, ◌+◌, ◌-◌, ◌*◌, ◌%◌, ◌^◌, ◌<◌, ◌≤◌, min, List, length, get_or, take, drop, refl, sym, ◌∙◌, ap, subst, arith, inl, inr, ℤ, pos, negsuc, ◌+ℤ◌, ◌-ℤ◌, ◌≤ℤ◌, int_max, int_min, int_gap, mul-mod_left, mul-lt-mul_of_pos_right, pow-le-pow_right, ints, clamps, cases_lt, pow-add, length-drop, length-take-le, get_or-take, get_or-drop, number_from_digits, offset, weight, ten_pos, offset_is, gap_is, IsStored, with_max_position, mod-eq_of_lt, number_split, below_drop}
+use Rattle.decimal_unsigned.proofs.Common.{nat_tests, common_steps, ◌≡◌, ℕ, ◌+◌, ◌-◌, ◌*◌, ◌%◌, ◌^◌, ◌<◌, ◌≤◌, min, List, length, get_or, take, drop, refl, sym, ◌∙◌, ap, subst, arith, inl, inr, ℤ, pos, negsuc, ◌+ℤ◌, ◌-ℤ◌, ◌≤ℤ◌, int_max, int_min, int_gap, mul-mod_left, mul-lt-mul_of_pos_right, pow-le-pow_right, ints, clamps, cases_lt, pow-add, length-drop, length-take-le, get_or-take, get_or-drop, number_from_digits, offset, weight, ten_pos, offset_is, gap_is, IsStored, with_max_position, mod-eq_of_lt, number_split, below_drop}
 use Rattle.std.proofs.lemmas.Nat.{mod-mul-add}
 use Rattle.std.proofs.lemmas.List.{drop-drop}
 use Rattle.decimal_digits.specs.Digits.{number_of, number_at}
@@ -18,11 +18,21 @@ number_cut ds a start h w zeros =
     let none : number_from_digits 10 (take (start - a) rest) ≡ 0 = number_zeros (take (start - a) rest) (λ k l.
     let b : k < start - a = omega (arith, length-take-le (start - a) rest (omega (arith, long))) in
     get_or-take (start - a) rest k 0 b ∙ get_or-drop a ds k 0 ∙ zeros (a + k) (omega arith) (omega arith)) in
-    let tail : drop (start - a) rest ≡ drop start ds =
-    drop-drop (start - a) a ds ∙ ap (λ n. drop n ds) (let e : a + (start - a) ≡ start = omega arith in e) in
     let split = number_split 10 (start - a) rest (omega (arith, long)) in
-    number_split 10 a ds (omega arith)
-    ∙ ap (λ n. number_from_digits 10 (take a ds) * 10 ^ (length ds - a) + n) (split ∙ (rw (none, tail) (omega arith)))
+    grind (
+      arith,
+      ints,
+      clamps,
+      nat_tests,
+      common_steps,
+      length-drop,
+      number_zeros,
+      length-take-le,
+      get_or-take,
+      get_or-drop,
+      drop-drop,
+      number_split,
+    )
 
 number_of_is : (ds : List ℕ) (m : ℤ) → number_of ds m ≡ number_from_digits 10 ds * 10 ^ (offset m + 1 - length ds)
 unfolding number_of number_at

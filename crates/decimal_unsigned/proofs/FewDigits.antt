@@ -1,5 +1,5 @@
 -- How many digits the value of a text has, and where a text has one.
-use Rattle.decimal_unsigned.proofs.Common.{◌≡◌, ℕ, suc, ◌+◌, ◌-◌, ◌*◌, ◌%◌, ◌^◌, ◌<◌, ◌≤◌, Bool, true, false, ◌||◌, List, ◌++◌, length, refl, sym, ◌∙◌, ap, subst, arith, rules, inl, inr, Result, Ok, Err, Option, Some, None, ℤ, pos, negsuc, ◌+ℤ◌, ◌-ℤ◌, int_lt, mul-mod_left, mul-le-mul_right, ints, pow-add, cases_lt, number_lt, digits_value_is, AllDigits, digits_value, size, first, last, ten_pos, no_more_zeros, gap_is, Unsigned, leaves_limits, multiplied, Literal, limit, is_outside, value_of, read, Grammar, mantissa}
+use Rattle.decimal_unsigned.proofs.Common.{clamps, nat_tests, common_steps, ◌≡◌, ℕ, suc, ◌+◌, ◌-◌, ◌*◌, ◌%◌, ◌^◌, ◌<◌, ◌≤◌, Bool, true, false, ◌||◌, List, ◌++◌, length, refl, sym, ◌∙◌, ap, subst, arith, rules, inl, inr, Result, Ok, Err, Option, Some, None, ℤ, pos, negsuc, ◌+ℤ◌, ◌-ℤ◌, int_lt, mul-mod_left, mul-le-mul_right, ints, pow-add, cases_lt, number_lt, digits_value_is, AllDigits, digits_value, size, first, last, ten_pos, no_more_zeros, gap_is, Unsigned, leaves_limits, multiplied, Literal, limit, is_outside, value_of, read, Grammar, mantissa}
 use Rattle.std.specs.Prelude.{IsOkAnd, nat_eq}
 use Rattle.std.proofs.Math.Nat.{mul_assoc}
 use Rattle.std.proofs.lemmas.Bool.{or_parts}
@@ -56,19 +56,22 @@ module _ (w : Literal) (digits : AllDigits 10 (w.whole ++ w.fraction)) (few : le
 
   written_lt : written < 10 ^ (length w.whole + length w.fraction)
   unfolding written
-  written_lt =
-      let l = length_digits w in
-      let n = number_lt 10 (digits_of w) (all_digits w digits) in
-      let e : digits_value 10 (w.whole ++ w.fraction) < 10 ^ length (digits_of w) =
-      rw (digits_value_is 10 (w.whole ++ w.fraction)) n in
-      subst (λ k. digits_value 10 (w.whole ++ w.fraction) < 10 ^ k) l e
+  written_lt = grind (
+    arith,
+    ints,
+    clamps,
+    nat_tests,
+    common_steps,
+    length_digits,
+    number_lt,
+    all_digits,
+    digits_value_is,
+  )
 
   -- the number before an exponent
   size_mantissa : size (mantissa w.whole w.fraction).number ≤ length w.whole + length w.fraction
   unfolding written
-  size_mantissa =
-      size_le (mantissa w.whole w.fraction).number written (32768 - length w.fraction)
-      (length w.whole + length w.fraction) refl written_lt (omega arith)
+  size_mantissa = grind (arith, ints, clamps, nat_tests, common_steps, size_le, written, written_lt)
 
   -- and that number times a power of ten
   size_times : (d : ℤ) → StaysInLimits (mantissa w.whole w.fraction) d
@@ -108,21 +111,14 @@ module _ (w : Literal) (digits : AllDigits 10 (w.whole ++ w.fraction)) (few : le
 -- the value of the parts has no more digits than they have
 size_value : (w : Literal) (v : Unsigned) → AllDigits 10 (w.whole ++ w.fraction) → value_of w ≡ Ok v
     → size v.number ≤ length w.whole + length w.fraction
-size_value w v digits is = elim (cases_lt 32768 (length w.whole)) [
-  | inl h ↦ absurd (let e = long_whole w h in cc)
-  | inr h ↦ elim (cases_lt 32768 (length w.fraction)) [
-    | inl k ↦ absurd (let e = long_fraction w k in cc)
-    | inr k ↦ size_scaled w digits h k w.exponent v (sym (value_scaled w digits h k) ∙ is)
-  ]
-]
+size_value w v digits is =
+    grind (arith, ints, clamps, nat_tests, common_steps, long_whole, long_fraction, size_scaled, value_scaled)
 
 -- parts without an exponent have a value
 plain_value : (w : Literal) → AllDigits 10 (w.whole ++ w.fraction) → IsPlain w
     → value_of w ≡ Ok (mantissa w.whole w.fraction)
 unfolding scaled
-plain_value w digits plain =
-    value_scaled w digits plain.1 plain.2
-    ∙ ap (scaled (mantissa w.whole w.fraction)) plain.0
+plain_value w digits plain = grind (arith, ints, clamps, nat_tests, common_steps, value_scaled)
 
 -- ---- What a parser answers.
 

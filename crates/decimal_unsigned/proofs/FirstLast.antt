@@ -1,5 +1,5 @@
 -- Each number other than 0 has a first and a last digit.
-use Rattle.decimal_unsigned.proofs.Common.{◌≡◌, ℕ, zero, suc, ◌+◌, ◌-◌, ◌*◌, ◌/◌, ◌%◌, ◌^◌, ◌<◌, ◌≤◌, sym, ◌∙◌, ap, subst, arith, inl, inr, pow-le-pow_right, mul-le-mul_right, ints, ℤ, pos, ◌<ℤ◌, ◌≤ℤ◌, pow-add, cases_lt, offset, first, last, ten_pos, offset_is, pow-suc, mod-lt, magnitude_at, first_is, first_zero}
+use Rattle.decimal_unsigned.proofs.Common.{clamps, nat_tests, common_steps, ◌≡◌, ℕ, zero, suc, ◌+◌, ◌-◌, ◌*◌, ◌/◌, ◌%◌, ◌^◌, ◌<◌, ◌≤◌, sym, ◌∙◌, ap, subst, arith, inl, inr, pow-le-pow_right, mul-le-mul_right, ints, ℤ, pos, ◌<ℤ◌, ◌≤ℤ◌, pow-add, cases_lt, offset, first, last, ten_pos, offset_is, pow-suc, mod-lt, magnitude_at, first_is, first_zero}
 use Rattle.std.proofs.Math.Nat.{mul_assoc, div-add-mod', le-mul_of_pos_right, lt_of_mul-lt-mul_right, mul-add-mod_self_right}
 use Rattle.std.proofs.Math.Nat.{mod-le, div-le_self}
 use Rattle.decimal_digits.proofs.Ends.{last_is}
@@ -40,16 +40,7 @@ pub extent : (b n : ℕ) → 0 < n → n < 10 ^ b → b ≤ 65536 → Extent n
 extent b n p h l =
     let t = top_of b n p h in
     let e = bottom_of b n p h in
-    record {
-      top = t.0;
-      bottom = e.0;
-      factor = e.1;
-      is = e.2;
-      odd = e.3;
-      reaches = t.2;
-      below = t.3;
-      limit = omega (arith, t.1);
-    }
+    grind (arith, ints, clamps, nat_tests, common_steps)
 
 module _ {n : ℕ} (e : Extent n) where
   -- the last digit is not above the first
@@ -138,13 +129,7 @@ module _ (n q b : ℕ) (few : n < 10 ^ b) (high : b ≤ 65536) where
 
   module _ (some : 0 < n - n % 10 ^ q) (more : 0 < n % 10 ^ q) where
     quotient_counts : 0 < n / 10 ^ q
-    quotient_counts = elim (cases_lt 0 (n / 10 ^ q)) [
-      | inl h ↦ h
-      | inr h ↦
-          let z : n / 10 ^ q * 10 ^ q ≡ 0 =
-          ap (λ x. x * 10 ^ q) (let y : n / 10 ^ q ≡ 0 = omega arith in y) ∙ (omega arith) in
-          absurd (omega (arith, above_is, z))
-    ]
+    quotient_counts = grind (arith, ints, clamps, nat_tests, common_steps, above_is)
 
     quotient : Extent (n / 10 ^ q)
     quotient = extent b (n / 10 ^ q) quotient_counts (omega (arith, few, div-le_self n (10 ^ q))) high

@@ -31,4 +31,3 @@ pub mod Pieces
 pub mod Comparing
 pub mod WholeNumbers
 pub mod BcdValues
-pub mod Scratch

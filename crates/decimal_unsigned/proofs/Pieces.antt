@@ -68,12 +68,21 @@ module _ (v : Unsigned) (valid : IsValue v) (dot : ℕ) (dot_is : dot ≡ int_ga
       ∙ bytes_down-part v.number v.hi dot from a (omega arith) in
       let back : take k (bytes_down v.number (negsuc 0) p.0) ≡ bytes_down v.number (negsuc 0) k =
       bytes_down-part v.number (negsuc 0) p.0 0 k (omega (arith, p.2)) in
-      ap (λ t. take (a + suc k) (drop from t)) split
-      ∙ ap (take (a + suc k)) (drop-append-le from whole rest (omega (arith, whole_length)))
-      ∙ ap (λ n. take (n + suc k) (drop from whole ++ rest)) (sym some)
-      ∙ take-append-add (drop from whole) rest (suc k)
-      ∙ (λ i. front i ++ take (suc k) (p.1 i))
-      ∙ ap (λ t. bytes_down v.number (v.hi -ℤ pos from) a ++ 46 ∷ t) back
+      grind (
+        arith,
+        ints,
+        clamps,
+        nat_tests,
+        common_steps,
+        past,
+        length-drop,
+        whole_length,
+        take_all,
+        bytes_down-part,
+        split,
+        drop-append-le,
+        take-append-add,
+      )
 
   -- a piece below the dot
   pub piece_below : (from n : ℕ) → dot < from → 0 < n → from + n ≤ length (text v)
@@ -83,11 +92,19 @@ module _ (v : Unsigned) (valid : IsValue v) (dot : ℕ) (dot_is : dot ≡ int_ga
       let p = past (from + n) (omega arith) l in
       let at : from ≡ length whole + suc j = omega (arith, whole_length) in
       let m : negsuc 0 -ℤ pos j ≡ v.hi -ℤ pos (from - 1) = omega (arith, ints, dot_at) in
-      ap (λ t. take n (drop from t)) split
-      ∙ ap (λ k. take n (drop k (whole ++ rest))) at
-      ∙ ap (take n) (drop-append-add whole rest (suc j) ∙ ap (drop (suc j)) p.1)
-      ∙ bytes_down-part v.number (negsuc 0) p.0 j n (omega (arith, p.2))
-      ∙ ap (λ q. bytes_down v.number q n) m
+      grind (
+        arith,
+        ints,
+        clamps,
+        nat_tests,
+        common_steps,
+        past,
+        whole_length,
+        dot_at,
+        split,
+        drop-append-add,
+        bytes_down-part,
+      )
 
   -- ---- One byte.
   -- a byte above the dot writes the digit of its magnitude

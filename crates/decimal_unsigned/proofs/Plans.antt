@@ -1,5 +1,5 @@
 -- The value of the parts, by the digits that are kept.
-use Rattle.decimal_unsigned.proofs.Common.{◌≡◌, ℕ, ◌+◌, ◌-◌, ◌*◌, ◌^◌, ◌<◌, ◌≤◌, ◌==◌, nat_lt, Bool, true, false, cond, ◌||◌, ◌⊎◌, inl, inr, ◌++◌, length, get_or, refl, sym, ◌∙◌, ap, subst, arith, ℤ, pos, negsuc, ◌+ℤ◌, ◌-ℤ◌, ◌≤ℤ◌, ◌<ℤ◌, int_lt, Option, Some, None, Ok, Err, int_max, int_min, ints, clamps, nat_tests, length-map, length-append, digit_value, AllDigits, digits_value, AllBelowBase, digits_value_is, first, last, Unsigned, number_of, offset_is, IsStored, Literal, is_outside, limit, leaves_limits, multiplied, middle, IsNonzeroRange, mantissa}
+use Rattle.decimal_unsigned.proofs.Common.{common_steps, ◌≡◌, ℕ, ◌+◌, ◌-◌, ◌*◌, ◌^◌, ◌<◌, ◌≤◌, ◌==◌, nat_lt, Bool, true, false, cond, ◌||◌, ◌⊎◌, inl, inr, ◌++◌, length, get_or, refl, sym, ◌∙◌, ap, subst, arith, ℤ, pos, negsuc, ◌+ℤ◌, ◌-ℤ◌, ◌≤ℤ◌, ◌<ℤ◌, int_lt, Option, Some, None, Ok, Err, int_max, int_min, ints, clamps, nat_tests, length-map, length-append, digit_value, AllDigits, digits_value, AllBelowBase, digits_value_is, first, last, Unsigned, number_of, offset_is, IsStored, Literal, is_outside, limit, leaves_limits, multiplied, middle, IsNonzeroRange, mantissa}
 use Rattle.std.specs.Prelude.{if◌then◌else◌}
 use Rattle.std.proofs.lemmas.Bool.{or_left, or_right}
 use Rattle.std.proofs.lemmas.Int.Digits.{all_below_base_from_digits}
@@ -139,11 +139,7 @@ module _ (w : Literal) (digits : AllDigits 10 (w.whole ++ w.fraction)) (few : le
         → (pos 32767 <ℤ (pos (length w.whole - 1) +ℤ e)) ⊎ (((pos 0 -ℤ pos (length w.fraction)) +ℤ e) <ℤ negsuc 32767)
         → value_of w ≡ Err limit
     unfolding scaled
-    limit_scaled e s o =
-        let v = mantissa w.whole w.fraction in
-        let z : (v.number == 0) ≡ false = let p = number_pos in grind (arith, nat_tests, p) in
-        let t : (is_outside e || leaves_limits v e) ≡ true = out_of_reach (is_outside e) _ _ o in
-        value_scaled ∙ (rw (s, z, t) refl)
+    limit_scaled e s o = grind (arith, ints, clamps, nat_tests, common_steps, number_pos, out_of_reach, value_scaled)
 
     -- the value of the digits times a power of ten, by the magnitudes that the exponent moves
     pub makes_scaled : (e top bottom high low m' hi' lo' : ℤ) → w.exponent ≡ Some e → top ≡ m +ℤ e

@@ -1,5 +1,5 @@
 -- Laws of rounding, on values.
-use Rattle.decimal_unsigned.proofs.Common.{◌≡◌, ℕ, ◌+◌, ◌-◌, ◌*◌, ◌^◌, ◌<◌, ◌≤◌, true, false, refl, sym, ◌∙◌, ap, subst, arith, inl, inr, Bool, Option, Some, None, ℤ, pos, negsuc, ◌-ℤ◌, ◌≤ℤ◌, unwrap_or, int_max, int_min, ints, clamps, nat_tests, pow-add, cases_lt, offset, first, size, number_limit, unit_at, rounded_number, RoundingIncrement, MultiplesOf1, Trunc, ten_pos, Unsigned, IsValue, rounded, IsRounded, by_lt_z, none-some, RoundError, UnsignedRoundingMode, unit_pos, with_number, trunced}
+use Rattle.decimal_unsigned.proofs.Common.{common_steps, ◌≡◌, ℕ, ◌+◌, ◌-◌, ◌*◌, ◌^◌, ◌<◌, ◌≤◌, true, false, refl, sym, ◌∙◌, ap, subst, arith, inl, inr, Bool, Option, Some, None, ℤ, pos, negsuc, ◌-ℤ◌, ◌≤ℤ◌, unwrap_or, int_max, int_min, ints, clamps, nat_tests, pow-add, cases_lt, offset, first, size, number_limit, unit_at, rounded_number, RoundingIncrement, MultiplesOf1, Trunc, ten_pos, Unsigned, IsValue, rounded, IsRounded, by_lt_z, none-some, RoundError, UnsignedRoundingMode, unit_pos, with_number, trunced}
 use Rattle.std.specs.Prelude.{option_and_then, if◌then◌else◌}
 use Rattle.std.proofs.lemmas.Option.{same_Some}
 use Rattle.decimal_digits.specs.Rounding.{DigitRoundingFails}
@@ -20,15 +20,8 @@ use Rattle.decimal_unsigned.proofs.Roundings.{rounded_to-small, rounded_to-large
 pub is_rounded : (v : Unsigned) (p : ℤ) (mode : UnsignedRoundingMode) (increment : RoundingIncrement)
     {new : Option Unsigned} → IsValue v → rounded v p mode increment ≡ new
     → IsRounded v p mode increment new
-is_rounded v p mode increment valid e = record {
-  valid = valid;
-  value = e;
-  named = (
-    rounded_number mode (unit_at increment p) v.number,
-    rounded_number-named mode (unit_at increment p) v.number (unit_pos increment p),
-    e,
-  );
-}
+is_rounded v p mode increment valid e =
+    grind (arith, ints, clamps, nat_tests, common_steps, rounded_number-named, unit_pos)
 
 -- why the digits are left as they were is why the value is
 pub fails : (held : ℕ) (e : RoundError) (v : Unsigned) (p : ℤ) (mode : UnsignedRoundingMode)
@@ -46,8 +39,7 @@ pub rounding_is_idempotent : (v w : Unsigned) (p : ℤ) (mode : UnsignedRounding
     → rounded v p mode increment ≡ Some w
     → rounded w p mode increment ≡ Some w
 rounding_is_idempotent v w p mode increment e =
-    let again = rounded_number-idempotent mode (unit_at increment p) v.number (unit_pos increment p) in
-    grind (arith, ints, clamps, nat_tests)
+    grind (arith, ints, clamps, nat_tests, common_steps, rounded_number-idempotent, unit_pos)
 
 -- ---- Two positions.
 coarser : (p q : ℤ) → negsuc 32767 ≤ℤ p → p ≤ℤ q
@@ -96,11 +88,7 @@ module _ (mode : UnsignedRoundingMode) (n : ℕ) (absorbs : Absorbs mode n) wher
       (subst (λ k. 0 < k) e (unit_pos MultiplesOf1 p)) mode)
 
   twice_is : (p q : ℤ) → negsuc 32767 ≤ℤ p → negsuc 32767 ≤ℤ q → twice p q ≡ once (int_max p q)
-  twice_is p q low low' =
-      by_lt_z p q
-      (λ l. twice_up p q low (omega (arith, ints))
-      ∙ ap once (let e : q ≡ int_max p q = omega (arith, ints, clamps) in e))
-      (λ l. twice_down p q low' l ∙ ap once (let e : p ≡ int_max p q = omega (arith, ints, clamps) in e))
+  twice_is p q low low' = grind (arith, ints, clamps, nat_tests, common_steps, twice_up, once, twice_down)
 
 -- ---- Expanding again.
 
@@ -138,7 +126,6 @@ module _ (v : Unsigned) (p : ℤ) (low : negsuc 32767 ≤ℤ p) (valid : IsValue
       let f : first left ≤ℤ v.hi =
       first_le left v.hi (omega (arith, less p, valid.below)) valid.hi_in.0 valid.hi_in.1 in
       let below = below_limit v p valid in
-      let once = less p in
       let again = less q in
       grind (arith, ints, clamps, nat_tests)
 
@@ -150,7 +137,6 @@ module _ (v : Unsigned) (p : ℤ) (low : negsuc 32767 ≤ℤ p) (valid : IsValue
       ≡ rounded_number Trunc (unit_at MultiplesOf1 (int_max p q)) v.number =
       twice_is Trunc v.number (trunc_absorbs v.number) p q low low' in
       let below = below_limit v p valid in
-      let once = less p in
       let again = less (int_max p q) in
       grind (arith, nat_tests)
 

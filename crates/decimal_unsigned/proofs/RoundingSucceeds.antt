@@ -1,5 +1,5 @@
 -- When a rounding is not refused: each multiple that a mode names is below the limit.
-use Rattle.decimal_unsigned.proofs.Common.{◌≡◌, ℕ, ◌+◌, ◌-◌, ◌*◌, ◌^◌, ◌<◌, ◌≤◌, refl, sym, ◌∙◌, ap, arith, inl, inr, Result, Ok, Err, None, ℤ, pos, negsuc, ◌+ℤ◌, ◌≤ℤ◌, ◌<ℤ◌, pow-le-pow_right, mul-le-mul_right, ints, pow-add, cases_lt, offset, weight, number_limit, unit_at, rounded_number, RoundingIncrement, MultiplesOf1, ten_pos, offset_is, Unsigned, IsValue, IsRounded, none-some, RoundError, UnsignedRoundingMode, unit_pos}
+use Rattle.decimal_unsigned.proofs.Common.{clamps, nat_tests, common_steps, ◌≡◌, ℕ, ◌+◌, ◌-◌, ◌*◌, ◌^◌, ◌<◌, ◌≤◌, refl, sym, ◌∙◌, ap, arith, inl, inr, Result, Ok, Err, None, ℤ, pos, negsuc, ◌+ℤ◌, ◌≤ℤ◌, ◌<ℤ◌, pow-le-pow_right, mul-le-mul_right, ints, pow-add, cases_lt, offset, weight, number_limit, unit_at, rounded_number, RoundingIncrement, MultiplesOf1, ten_pos, offset_is, Unsigned, IsValue, IsRounded, none-some, RoundError, UnsignedRoundingMode, unit_pos}
 use Rattle.std.specs.Prelude.{IsErrOf, IsOk}
 use Rattle.decimal_digits.specs.declared.rounding.RoundError.TheVariants.{Limit, Memory}
 use Rattle.decimal_digits.specs.declared.rounding.RoundingIncrement.TheVariants.{MultiplesOf2, MultiplesOf5, MultiplesOf25}
@@ -89,9 +89,7 @@ module _ (held : ℕ) (v : Unsigned) (q : ℤ) (mode : UnsignedRoundingMode) (in
   -- where there is room a rounding makes a value
   pub rounding_is_some : IsBelowLimit v q increment → IsRounded v q mode increment None → ⊥
   rounding_is_some room r =
-      let m = rounded_number mode (unit_at increment q) v.number in
-      none-some _
-      (sym r.value ∙ rounded_to-small v q m (below_limit v q least greatest mode r.valid increment room))
+      grind (arith, ints, clamps, nat_tests, common_steps, none-some, rounded_to-small, below_limit)
 
   -- the limit does not refuse it
   pub not_limit_error : {A : Type 0} (new : Unsigned) (answer : Result A RoundError)

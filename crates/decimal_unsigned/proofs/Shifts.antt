@@ -65,8 +65,6 @@ multiplied_is {ds} {m} {hi} {lo} {m'} {hi'} {lo'} (negsuc n) t s =
           let z : length ds ≡ 0 = omega arith in
           rw (number_of-none w z, number_of-none t z) (sym (zero-div (10 ^ suc n)))
     ] in
-    let b = s.hi_is in
-    let c = s.lo_is in
     cc
 
 -- the range fits

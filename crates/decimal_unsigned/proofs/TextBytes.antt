@@ -110,7 +110,6 @@ dot_ascii (negsuc (suc k)) = IsAscii-nil
 down_ascii : (number : ℕ) (m : ℤ) (n : ℕ) → IsAscii (text_down number m n)
 down_ascii number m zero = subst IsAscii (sym (text_down-zero number m)) IsAscii-nil
 down_ascii number m (suc n) =
-    let d : digit number m < 10 = mod-lt (number / weight m) (omega arith) in
     let one = IsAscii-append (dot_before m) (byte number m ∷ []) (dot_ascii m)
     (IsAscii-cons (byte number m) [] (omega arith) IsAscii-nil) in
     subst IsAscii (sym (text_down-suc number m n))

@@ -1,5 +1,5 @@
 -- Laws of trims, and of the parts of a value at a position.
-use Rattle.decimal_unsigned.proofs.Common.{◌≡◌, ℕ, ◌+◌, ◌-◌, ◌*◌, ◌%◌, ◌^◌, ◌<◌, ◌≤◌, ◌⊎◌, length, refl, sym, ◌∙◌, ap, subst, arith, inl, inr, None, ℤ, pos, ◌≤ℤ◌, ◌<ℤ◌, unwrap_or, int_max, int_min, pow-le-pow_right, ints, clamps, cases_lt, offset, weight, first, last, number_limit, unit_at, RoundingIncrement, MultiplesOf1, Trunc, no_more_zeros, offset_is, gap_is, Unsigned, IsValue, with_max_position, rounded, text, by_lt_z, none-some, with_number, trunced, SplitsAt}
+use Rattle.decimal_unsigned.proofs.Common.{nat_tests, common_steps, ◌≡◌, ℕ, ◌+◌, ◌-◌, ◌*◌, ◌%◌, ◌^◌, ◌<◌, ◌≤◌, ◌⊎◌, length, refl, sym, ◌∙◌, ap, subst, arith, inl, inr, None, ℤ, pos, ◌≤ℤ◌, ◌<ℤ◌, unwrap_or, int_max, int_min, pow-le-pow_right, ints, clamps, cases_lt, offset, weight, first, last, number_limit, unit_at, RoundingIncrement, MultiplesOf1, Trunc, no_more_zeros, offset_is, gap_is, Unsigned, IsValue, with_max_position, rounded, text, by_lt_z, none-some, with_number, trunced, SplitsAt}
 use Rattle.decimal_digits.specs.Rounding.{rounded_number}
 use Rattle.decimal_digits.proofs.Ends.{last_zero}
 use Rattle.decimal_unsigned.specs.ValueLaws.{trimmed, TrimmedIsNormalForm, IsShortest}
@@ -43,17 +43,11 @@ module _ (w : Unsigned) (valid : IsValue w) where
 
 -- each value shows as much as one that is trimmed in front
 pub least_hi : (v : Unsigned) → IsLeastHi (trimmed_start v)
-least_hi v w valid e =
-    let f = first_in w valid in
-    let n = ap first e in
-    omega (arith, ints, clamps, valid.hi_in)
+least_hi v w valid e = grind (arith, ints, clamps, nat_tests, common_steps, first_in)
 
 -- and as one that is trimmed behind
 pub greatest_lo : (v : Unsigned) → IsGreatestLo (trimmed_end v)
-greatest_lo v w valid e =
-    let l = last_in w valid in
-    let n = ap last e in
-    omega (arith, ints, clamps, valid.lo_in)
+greatest_lo v w valid e = grind (arith, ints, clamps, nat_tests, common_steps, last_in)
 
 -- a range that lies in another has no longer text
 shorter : (v w : Unsigned) → pos 0 ≤ℤ v.hi → v.lo ≤ℤ pos 0 → v.hi ≤ℤ w.hi → w.lo ≤ℤ v.lo
@@ -93,8 +87,15 @@ module _ (v : Unsigned) (p : ℤ) (valid : IsValue v) where
 
   -- the truncated value and the part below the position make the value
   pub splits : SplitsAt v p (trunced v p) (with_max_position v p)
-  splits = subst (λ t. SplitsAt v p t (with_max_position v p)) (sym trunced_is) (record {
-    disjoint = parts_join v (with_number v p (v.number - v.number % weight p)) p valid refl;
-    number = parts_number v (with_number v p (v.number - v.number % weight p)) p valid refl;
-    value = parts_value v (with_number v p (v.number - v.number % weight p)) p valid refl refl refl;
-  })
+  parts = grind (
+    arith,
+    ints,
+    clamps,
+    nat_tests,
+    common_steps,
+    SplitsAt,
+    trunced_is,
+    parts_join,
+    parts_number,
+    parts_value,
+  )

@@ -1,5 +1,5 @@
 -- What the digits of a value say of its number.
-use Rattle.decimal_unsigned.proofs.Common.{◌≡◌, ℕ, ◌+◌, ◌-◌, ◌*◌, ◌/◌, ◌%◌, ◌^◌, ◌<◌, ◌≤◌, List, [], length, sym, ◌∙◌, ap, arith, rules, inl, inr, w16, to_z, of_z, ℤ, pos, negsuc, ◌+ℤ◌, ◌-ℤ◌, ◌≤ℤ◌, ◌<ℤ◌, false, mul-le-mul_right, mul-lt-mul_of_pos_right, pow-add, ints, nat_tests, to_z-of_z, int_gap, number_lt, number_from_digits, AllBelowBase, offset, digit, first, last, size, IsStored, ten_pos, offset_is, gap_is, cases_lt, magnitude_at, number_back, first_is, first_zero}
+use Rattle.decimal_unsigned.proofs.Common.{clamps, common_steps, ◌≡◌, ℕ, ◌+◌, ◌-◌, ◌*◌, ◌/◌, ◌%◌, ◌^◌, ◌<◌, ◌≤◌, List, [], length, sym, ◌∙◌, ap, arith, rules, inl, inr, w16, to_z, of_z, ℤ, pos, negsuc, ◌+ℤ◌, ◌-ℤ◌, ◌≤ℤ◌, ◌<ℤ◌, false, mul-le-mul_right, mul-lt-mul_of_pos_right, pow-add, ints, nat_tests, to_z-of_z, int_gap, number_lt, number_from_digits, AllBelowBase, offset, digit, first, last, size, IsStored, ten_pos, offset_is, gap_is, cases_lt, magnitude_at, number_back, first_is, first_zero}
 use Rattle.std.proofs.Common.{w32}
 use Rattle.std.specs.Prelude.{slice_index, nat_eq}
 use lib.Signed.{mag}
@@ -16,14 +16,17 @@ module _ {ds : List ℕ} {m hi lo : ℤ} (t : IsStored ds m hi lo) where
   -- a 1 above the first digit is more than the number
   pub number_of-lt : number_of ds m < 10 ^ (offset m + 1)
   unfolding number_of number_at
-  number_of-lt =
-      let n : number_from_digits 10 ds < 10 ^ length ds = number_lt 10 ds t.digits in
-      let below : number_from_digits 10 ds * 10 ^ ends ds m < 10 ^ length ds * 10 ^ ends ds m =
-      mul-lt-mul_of_pos_right n (ten_pos (ends ds m)) in
-      let split : 10 ^ (offset m + 1) ≡ 10 ^ length ds * 10 ^ ends ds m =
-      ap (λ n. 10 ^ n) (let k : offset m + 1 ≡ length ds + ends ds m = omega (arith, t.fits) in k)
-      ∙ pow-add 10 (length ds) (ends ds m) in
-      rw split below
+  number_of-lt = grind (
+    arith,
+    ints,
+    clamps,
+    nat_tests,
+    common_steps,
+    number_lt,
+    mul-lt-mul_of_pos_right,
+    ten_pos,
+    pow-add,
+  )
 
   -- a 1 at the first digit is at most the number
   pub number_of-ge : 0 < length ds → 10 ^ offset m ≤ number_of ds m
@@ -44,9 +47,7 @@ module _ {ds : List ℕ} {m hi lo : ℤ} (t : IsStored ds m hi lo) where
   -- a number without digits is 0
   pub number_of-none : length ds ≡ 0 → number_of ds m ≡ 0
   unfolding number_of number_at
-  number_of-none h =
-      let z : number_from_digits 10 ds ≡ 0 = omega (arith, number_lt 10 ds t.digits, ap (λ k. 10 ^ k) h) in
-      rw z (omega arith)
+  number_of-none h = grind (arith, ints, clamps, nat_tests, common_steps, number_lt)
 
   -- the first digit stands at -32768 or above
   pub lowest : negsuc 32767 ≤ℤ m
@@ -63,10 +64,7 @@ module _ {ds : List ℕ} {m hi lo : ℤ} (t : IsStored ds m hi lo) where
   -- the last digit is that of the number
   pub last-number_of : 0 < length ds → last (number_of ds m) ≡ m -ℤ pos (length ds - 1)
   unfolding number_of number_at
-  last-number_of h =
-      let b : 0 < number_from_digits 10 ds % 10 = rw (number_back ds t.digits h) (t.back h) in
-      let e : magnitude_at (ends ds m) ≡ m -ℤ pos (length ds - 1) = omega (arith, ints, offset_is m, t.fits, lowest) in
-      last_is (number_from_digits 10 ds) (ends ds m) b (omega (arith, high)) ∙ e
+  last-number_of h = grind (arith, ints, clamps, nat_tests, common_steps, number_back, offset_is, lowest, last_is, high)
 
   -- above the first digit there are zeros
   pub digit-number_of-above : (q : ℤ) → m <ℤ q → negsuc 32767 ≤ℤ q → digit (number_of ds m) q ≡ 0
@@ -80,25 +78,17 @@ module _ {ds : List ℕ} {m hi lo : ℤ} (t : IsStored ds m hi lo) where
   digit-number_of-in q i e l h =
       let p : offset q + i ≡ offset m = omega (arith, ints, offset_is m, offset_is q, lowest) in
       let k : offset q - ends ds m ≡ length ds - (i + 1) = omega (arith, t.fits) in
-      ap (λ x. x % 10)
-      (shift_down (number_from_digits 10 ds) (ends ds m) (offset q) (omega (arith, t.fits))
-      ∙ ap (λ n. number_from_digits 10 ds / 10 ^ n) k)
-      ∙ number-digit i ds t.digits h
+      grind (arith, ints, clamps, nat_tests, common_steps, offset_is, lowest, shift_down, number-digit)
 
   -- below the last digit there are zeros
   pub digit-number_of-below : (q : ℤ) (i : ℕ) → q +ℤ pos i ≡ m → negsuc 32767 ≤ℤ q → length ds ≤ i
       → digit (number_of ds m) q ≡ 0
   unfolding number_of number_at
-  digit-number_of-below q i e l h =
-      digit_below (number_from_digits 10 ds) (ends ds m) (offset q)
-      (omega (arith, ints, offset_is m, offset_is q, lowest, t.fits))
+  digit-number_of-below q i e l h = grind (arith, ints, clamps, nat_tests, common_steps, digit_below, offset_is, lowest)
 
   -- the magnitude of the first digit, of 0 too
   pub first_of : first (number_of ds m) ≡ m
-  first_of = elim (cases_lt 0 (length ds)) [
-    | inl h ↦ first-number_of h
-    | inr h ↦ let z : length ds ≡ 0 = omega arith in ap first (number_of-none z) ∙ first_zero ∙ sym (t.empty z)
-  ]
+  first_of = grind (arith, ints, clamps, nat_tests, common_steps, first-number_of, number_of-none, first_zero)
 
   -- the last digit of 0 is that at 0
   pub last_of_none : length ds ≡ 0 → last (number_of ds m) ≡ pos 0

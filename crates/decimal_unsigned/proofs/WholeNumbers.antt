@@ -1,5 +1,5 @@
 -- The integer that the digits of a value write.
-use Rattle.decimal_unsigned.proofs.Common.{zero, suc, [], ◌∷◌, ◌++◌, replicate, ◌≡◌, ℕ, ◌+◌, ◌-◌, ◌*◌, ◌/◌, ◌%◌, ◌^◌, ◌<◌, ◌≤◌, ◌==◌, true, false, List, length, get_or, take, refl, sym, ◌∙◌, ap, arith, rules, inl, inr, Ok, Err, nat_lt, ℤ, pos, ◌+ℤ◌, ◌<ℤ◌, nat_tests, mul-mod_left, pow-le-pow_right, cases_lt, ints, length-append, length-take, length-take-le, take_all, recursion_from_All, number_from_digits, AllBelowBase, offset, weight, leading, offset_is, ten_pos, below_take, no_more_zeros, IsStored, Unsigned, IsValue, Result, All, length-replicate, number_back, below_sixteen, leading_none}
+use Rattle.decimal_unsigned.proofs.Common.{clamps, common_steps, zero, suc, [], ◌∷◌, ◌++◌, replicate, ◌≡◌, ℕ, ◌+◌, ◌-◌, ◌*◌, ◌/◌, ◌%◌, ◌^◌, ◌<◌, ◌≤◌, ◌==◌, true, false, List, length, get_or, take, refl, sym, ◌∙◌, ap, arith, rules, inl, inr, Ok, Err, nat_lt, ℤ, pos, ◌+ℤ◌, ◌<ℤ◌, nat_tests, mul-mod_left, pow-le-pow_right, cases_lt, ints, length-append, length-take, length-take-le, take_all, recursion_from_All, number_from_digits, AllBelowBase, offset, weight, leading, offset_is, ten_pos, below_take, no_more_zeros, IsStored, Unsigned, IsValue, Result, All, length-replicate, number_back, below_sixteen, leading_none}
 use Rattle.std.proofs.Common.{w64}
 use Rattle.std.proofs.Math.Nat.{mul-div_cancel}
 use Rattle.std.specs.Int.{to_be_bytes}
@@ -29,10 +29,7 @@ in_range-above bound n h = grind (arith, nat_tests)
 -- so many whole ones
 pub as_integer-whole : (bound number n : ℕ) → number ≡ n * weight (pos 0) → as_integer bound number ≡ in_range bound n
 as_integer-whole bound number n e =
-    let none : number % weight (pos 0) ≡ 0 = ap (λ k. k % weight (pos 0)) e ∙ mul-mod_left n (weight (pos 0)) in
-    let all : number / weight (pos 0) ≡ n =
-    ap (λ k. k / weight (pos 0)) e ∙ mul-div_cancel n (ten_pos (offset (pos 0))) in
-    rw (none, all) refl
+    grind (arith, ints, clamps, nat_tests, common_steps, mul-mod_left, mul-div_cancel, ten_pos)
 
 -- a part behind the dot
 pub as_integer-part : (bound number : ℕ) → ¬ (number % weight (pos 0) ≡ 0) → as_integer bound number ≡ Err NotWhole
@@ -41,15 +38,21 @@ as_integer-part bound number h = grind (arith, nat_tests)
 -- ---- the digits that are read
 -- one digit more
 pub leading_next : (i : ℕ) (ds : List ℕ) → leading (i + 1) ds ≡ leading i ds * 10 + get_or ds i 0
-leading_next i ds =
-    leading_more (i + 1) ds (omega arith)
-    ∙ ap (λ k. leading k ds * 10 + get_or ds k 0) (let e : i + 1 - 1 ≡ i = omega arith in e)
+leading_next i ds = grind (arith, ints, clamps, nat_tests, common_steps, leading_more)
 
 -- so many digits are below that power of ten
 pub leading_lt : (i : ℕ) (ds : List ℕ) → All (λ d. d < 10) ds → leading i ds < 10 ^ i
-leading_lt i ds h =
-    number_at-lt i (take i ds) (below_take 10 i ds (recursion_from_All (λ d. d < 10) ds h))
-    (omega (arith, length-take i ds))
+leading_lt i ds h = grind (
+  arith,
+  ints,
+  clamps,
+  nat_tests,
+  common_steps,
+  number_at-lt,
+  below_take,
+  recursion_from_All,
+  length-take,
+)
 
 -- the last digit of the longest number
 pub leading_39 : (ds : List ℕ) → leading 39 ds ≡ leading 38 ds * 10 + get_or ds 38 0
@@ -75,9 +78,7 @@ module _ {ds : List ℕ} {m hi lo : ℤ} (t : IsStored ds m hi lo) where
   unfolding number_of
   whole_number places at few =
       let k : offset m + 1 ≡ places + offset (pos 0) = omega (arith, ints, offset_is m, offset_is (pos 0)) in
-      ap (λ top. number_at top ds) k
-      ∙ number_at-more places (offset (pos 0)) ds few
-      ∙ ap (λ xs. number_at places xs * weight (pos 0)) (sym (take_all places ds few))
+      grind (arith, ints, clamps, nat_tests, common_steps, offset_is, number_at-more, take_all)
 
   -- digits that end below it do not
   pub part_after : 0 < length ds → (m +ℤ pos 1) <ℤ pos (length ds) → ¬ (number_of ds m % weight (pos 0) ≡ 0)
@@ -145,10 +146,7 @@ by_pairs a b c d e f g h = omega arith
 
 -- zeros in front count nothing
 zeros_in_front : (base k : ℕ) (xs : List ℕ) → number_from_digits base (replicate k 0 ++ xs) ≡ number_from_digits base xs
-zeros_in_front base k xs =
-    number_after_append base 0 (replicate k 0) xs
-    ∙ ap (λ n. number_from_digits_after base n xs)
-    (number_zeros base 0 k ∙ (let e : 0 * base ^ k ≡ 0 = omega arith in e))
+zeros_in_front base k xs = grind (arith, ints, clamps, nat_tests, common_steps, number_after_append, number_zeros)
 
 zeros_below : (k : ℕ) (xs : List ℕ) → AllBelowBase 16 xs → AllBelowBase 16 (replicate k 0 ++ xs)
 zeros_below zero xs h = h
@@ -166,10 +164,7 @@ module _ (ds : List ℕ) (h : All (λ d. d < 10) ds) (few : length ds ≤ 16) wh
       → bcd_number ds / 2 ^ (4 * (16 - count)) ≡ number_from_digits 16 (take count all)
   unfolding bcd_number
   shifted_front count l =
-      let n = sixteen_are ds h few in
-      let k : 16 - count ≡ length all - count = omega arith in
-      ap (λ p. number_from_digits 16 all / p) (hex_pow (16 - count) ∙ ap (λ j. 16 ^ j) k)
-      ∙ number-div 16 count all all_hex (omega arith)
+      grind (arith, ints, clamps, nat_tests, common_steps, sixteen_are, hex_pow, number-div, all_hex)
 
   -- these are the last of its halves
   front_halves_are : (count : ℕ) → count ≤ 16
@@ -185,10 +180,7 @@ module _ (ds : List ℕ) (h : All (λ d. d < 10) ds) (few : length ds ≤ 16) wh
 
   -- a place beyond the digits holds 0
   place_of : (i : ℕ) → i < 16 → get_or all i 0 ≡ get_or ds i 0
-  place_of i l = elim (cases_lt i (length ds)) [
-    | inl k ↦ sym (sixteen_digit ds h few i k)
-    | inr k ↦ sym (sixteen_zero ds h few i k l) ∙ sym (get_or-eq_default ds 0 k)
-  ]
+  place_of i l = grind (arith, ints, clamps, nat_tests, common_steps, sixteen_digit, sixteen_zero, get_or-eq_default)
 
   -- the first of them write the number that the first digits write
   front_leading : (i : ℕ) → i ≤ 16 → number_from_digits 10 (take i all) ≡ leading i ds
@@ -207,10 +199,17 @@ module _ (ds : List ℕ) (h : All (λ d. d < 10) ds) (few : length ds ≤ 16) wh
   pub few_leading : (count m n : ℕ) → count ≤ 16 → m ≡ bcd_number ds / 2 ^ (4 * (16 - count))
       → n ≡ number_from_digits 10 (nibbles (to_be_bytes w64 m)) → n ≡ leading count ds
   few_leading count m n l e f =
-      f ∙ ap (λ m. number_from_digits 10 (nibbles (to_be_bytes w64 m))) (e ∙ shifted_front count l)
-      ∙ ap (number_from_digits 10) (front_halves_are count l)
-      ∙ zeros_in_front 10 (16 - count) (take count all)
-      ∙ front_leading count l
+      grind (
+        arith,
+        ints,
+        clamps,
+        nat_tests,
+        common_steps,
+        shifted_front,
+        front_halves_are,
+        zeros_in_front,
+        front_leading,
+      )
 
 -- what the reading of the leading digits as an integer needs
 pub ruleset to_u64 = (leading_next, leading_u64)

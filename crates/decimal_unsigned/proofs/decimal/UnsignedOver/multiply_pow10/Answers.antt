@@ -8,7 +8,6 @@ use Rattle.decimal_unsigned.proofs.decimal.UnsignedOver.multiply_pow10.Goals.{th
 pub returns-in_default-clause-limit : goal.returns-in_default-clause-limit
 returns-in_default-clause-limit g c =
     let t = c.self.invariant in
-    let d : to_z w16 (of_z w16 c.args.delta) ≡ c.args.delta = to_z-of_z w16 c.args.delta c.ranges.delta in
     ap (λ (v : Unsigned). multiplied_pow10 v c.args.delta) (sym c.self.view_is)
     ∙ multiplied_pow10_over _ c.args.delta t (elim c.in_default.ensures.none [
       | inl h ↦ inl (omega (arith, ints, hi_kept t))

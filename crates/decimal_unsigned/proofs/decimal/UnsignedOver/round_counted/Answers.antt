@@ -60,13 +60,11 @@ returns-in_err-first-clause-rounds g c =
 
 pub returns-in_err-first-clause-no_limit : goal.returns-in_err-first-clause-no_limit
 returns-in_err-first-clause-no_limit g c =
-    let p = c.ranges.position in
     not_limit_error g.D.DigitStore.L c.args.self.now c.args.position c.args.mode c.args.increment (omega (arith, ints))
     (omega (arith, ints)) _ c.from_residual.result (returns-in_err-first-clause-rounds g c)
 
 pub returns-in_err-first-clause-fits : goal.returns-in_err-first-clause-fits
 returns-in_err-first-clause-fits g c =
-    let p = c.ranges.position in
     rounding_is_ok g.D.DigitStore.L c.args.self.now c.args.position c.args.mode c.args.increment (omega (arith, ints))
     (omega (arith, ints)) _ c.from_residual.result (returns-in_err-first-clause-rounds g c)
 
