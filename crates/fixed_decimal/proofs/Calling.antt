@@ -6,7 +6,9 @@ use Rattle.std.specs.Str.Parse.{AllDigits}
 use Rattle.std.proofs.Math.Nat.{mul_assoc, mul-le-mul_right, mul-lt-mul_of_pos_right, mul-div_cancel, mul-mod_left, div-add-mod', mod-lt, mod-eq_of_lt, pow-le-pow_right}
 use Rattle.std.proofs.Math.Arith.{mod-mul}
 use Rattle.std.proofs.lemmas.Int.{ints, clamps}
+use Rattle.std.proofs.lemmas.Nat.{le-div, div_below}
 use Rattle.std.proofs.lemmas.Bool.{cases_lt, cases_eq}
+use Rattle.std.proofs.lemmas.Bool.Decides.{nat_tests}
 use Rattle.decimal_digits.specs.Number.{offset, weight, digit, magnitude_at, first, last}
 use Rattle.decimal_digits.specs.Rounding.{IsNearest}
 use Rattle.decimal_digits.proofs.Ends.{shift_up}
@@ -80,29 +82,10 @@ weight_up m k h = powers (offset m) k (offset (m +ℤ pos k)) (omega (arith, int
 pub first_down : (n top k : ℕ) → 10 ^ top ≤ n → n < 10 ^ (top + 1) → k ≤ top → top < 65536
     → first (n / 10 ^ k) ≡ magnitude_at (top - k)
 first_down n top k h l fits few =
-    let whole : n / 10 ^ k * 10 ^ k + n % 10 ^ k ≡ n = div-add-mod' n (10 ^ k) in
-    let rest : n % 10 ^ k < 10 ^ k = mod-lt n (ten_pos k) in
     let low : 10 ^ top ≡ 10 ^ (top - k) * 10 ^ k = powers (top - k) k top (omega arith) in
     let high : 10 ^ (top + 1) ≡ 10 ^ (top - k + 1) * 10 ^ k = powers (top - k + 1) k (top + 1) (omega arith) in
-    first_is (n / 10 ^ k) (top - k) (at_least low whole rest) (at_most high whole) (omega arith)
-  where
-    at_least : 10 ^ top ≡ 10 ^ (top - k) * 10 ^ k → n / 10 ^ k * 10 ^ k + n % 10 ^ k ≡ n → n % 10 ^ k < 10 ^ k
-        → 10 ^ (top - k) ≤ n / 10 ^ k
-    at_least low whole rest = elim (cases_lt (n / 10 ^ k) (10 ^ (top - k))) [
-      | inl less ↦
-          let more : (n / 10 ^ k + 1) * 10 ^ k ≤ 10 ^ (top - k) * 10 ^ k = mul-le-mul_right (10 ^ k) (omega arith) in
-          absurd (omega (arith, more, low, whole, rest))
-      | inr enough ↦ enough
-    ]
-
-    at_most : 10 ^ (top + 1) ≡ 10 ^ (top - k + 1) * 10 ^ k → n / 10 ^ k * 10 ^ k + n % 10 ^ k ≡ n
-        → n / 10 ^ k < 10 ^ (top - k + 1)
-    at_most high whole = elim (cases_lt (n / 10 ^ k) (10 ^ (top - k + 1))) [
-      | inl less ↦ less
-      | inr many ↦
-          let more : 10 ^ (top - k + 1) * 10 ^ k ≤ n / 10 ^ k * 10 ^ k = mul-le-mul_right (10 ^ k) many in
-          absurd (omega (arith, more, high, whole))
-    ]
+    first_is (n / 10 ^ k) (top - k) (le-div _ n _ (ten_pos k) (omega (arith, low)))
+    (div_below n _ _ (ten_pos k) (omega (arith, high))) (omega arith)
 
 -- and the last digit down by k, where the number ends in as many zeros
 pub last_down : (v e k : ℕ) → 0 < v % 10 → k ≤ e → e < 65536 → last (v * 10 ^ e / 10 ^ k) ≡ magnitude_at (e - k)
@@ -128,12 +111,11 @@ first_of_integer n k least most few =
     let low : 10 ^ top ≡ 10 ^ k * weight (pos 0) = powers k (offset (pos 0)) top refl in
     let high : 10 ^ (top + 1) ≡ 10 ^ (k + 1) * weight (pos 0) =
     powers (k + 1) (offset (pos 0)) (top + 1) (omega arith) in
-    let reaches : 10 ^ k * weight (pos 0) ≤ n * weight (pos 0) = mul-le-mul_right (weight (pos 0)) least in
-    let below : n * weight (pos 0) < 10 ^ (k + 1) * weight (pos 0) =
-    mul-lt-mul_of_pos_right most (ten_pos (offset (pos 0))) in
+    let reaches = mul-le-mul_right (weight (pos 0)) least in
+    let below = mul-lt-mul_of_pos_right most (ten_pos (offset (pos 0))) in
     first_is (n * weight (pos 0)) top (omega (arith, low, reaches)) (omega (arith, high, below))
     (omega (arith, offset_is (pos 0)))
-    ∙ (let e : magnitude_at top ≡ pos k = omega (arith, ints, offset_is (pos 0)) in e)
+    ∙ (omega (arith, ints, offset_is (pos 0)))
 
 -- so many whole ones, shifted down by k, are so many ones at -k
 pub integer_down : (n k : ℕ) → k < 32768 → n * weight (pos 0) / 10 ^ suc k ≡ n * weight (negsuc k)
@@ -141,77 +123,29 @@ integer_down n k h =
     let split : weight (pos 0) ≡ weight (negsuc k) * 10 ^ suc k =
     powers (offset (negsuc k)) (suc k) (offset (pos 0))
     (omega (arith, ints, offset_is (negsuc k), offset_is (pos 0))) in
-    let all : n * weight (pos 0) ≡ n * weight (negsuc k) * 10 ^ suc k =
-    ap (λ w. n * w) split ∙ sym (mul_assoc n (weight (negsuc k)) (10 ^ suc k)) in
-    ap (λ m. m / 10 ^ suc k) all ∙ mul-div_cancel (n * weight (negsuc k)) (ten_pos (suc k))
+    (rw (split, ← mul_assoc n (weight (negsuc k)) (10 ^ suc k))
+    (mul-div_cancel (n * weight (negsuc k)) (ten_pos (suc k))))
 
 -- ---- What `try_to_u64` and `try_to_u128` answer, at 2 to the 64 and to the 128, says of the number.
 module _ (bound number : ℕ) where
   -- an integer: the number is so many whole ones
   pub integer_is : (n : ℕ) → as_integer bound number ≡ Ok n → number ≡ n * weight (pos 0)
-  integer_is n h = elim (cases_eq (number % weight (pos 0)) 0) [
-    | inl e ↦
-        let whole : number ≡ number / weight (pos 0) * weight (pos 0) =
-        omega (arith, div-add-mod' number (weight (pos 0)), e) in
-        elim (cases_lt (number / weight (pos 0)) bound) [
-          | inl l ↦
-              let k =
-              sym h
-              ∙ whole_numbers.as_integer-whole bound number (number / weight (pos 0)) whole
-              ∙ whole_numbers.in_range-below bound (number / weight (pos 0)) l in
-              let same : number / weight (pos 0) ≡ n = cc in
-              whole ∙ ap (λ q. q * weight (pos 0)) same
-          | inr g ↦
-              let k =
-              sym h
-              ∙ whole_numbers.as_integer-whole bound number (number / weight (pos 0)) whole
-              ∙ whole_numbers.in_range-above bound (number / weight (pos 0)) g in
-              absurd (cc)
-        ]
-    | inr part ↦
-        let k = sym h ∙ whole_numbers.as_integer-part bound number part in absurd (cc)
-  ]
+  integer_is n h = grind (arith, nat_tests, div-add-mod' number (weight (pos 0)))
 
   -- not whole: a digit behind the dot is not 0
   pub not_whole : as_integer bound number ≡ Err NotWhole → ¬ (number % weight (pos 0) ≡ 0)
-  not_whole h e =
-      let whole : number ≡ number / weight (pos 0) * weight (pos 0) =
-      omega (arith, div-add-mod' number (weight (pos 0)), e) in
-      let k = sym h ∙ whole_numbers.as_integer-whole bound number (number / weight (pos 0)) whole in
-      elim (cases_lt (number / weight (pos 0)) bound) [
-        | inl l ↦
-            let m = k ∙ whole_numbers.in_range-below bound (number / weight (pos 0)) l in absurd (cc)
-        | inr g ↦
-            let m = k ∙ whole_numbers.in_range-above bound (number / weight (pos 0)) g in absurd (cc)
-      ]
+  not_whole h e = grind (arith, nat_tests)
 
   -- out of range: the number is the bound or more
   pub out_of_range : as_integer bound number ≡ Err OutOfRange → bound * weight (pos 0) ≤ number
-  out_of_range h = elim (cases_eq (number % weight (pos 0)) 0) [
-    | inl e ↦
-        let whole : number ≡ number / weight (pos 0) * weight (pos 0) =
-        omega (arith, div-add-mod' number (weight (pos 0)), e) in
-        elim (cases_lt (number / weight (pos 0)) bound) [
-          | inl l ↦
-              let k =
-              sym h
-              ∙ whole_numbers.as_integer-whole bound number (number / weight (pos 0)) whole
-              ∙ whole_numbers.in_range-below bound (number / weight (pos 0)) l in
-              absurd (cc)
-          | inr g ↦
-              let m : bound * weight (pos 0) ≤ number / weight (pos 0) * weight (pos 0) =
-              mul-le-mul_right (weight (pos 0)) g in
-              omega (arith, m, whole)
-        ]
-    | inr part ↦ let k = sym h ∙ whole_numbers.as_integer-part bound number part in absurd (cc)
-  ]
+  out_of_range h =
+      let more : bound ≤ number / weight (pos 0) → bound * weight (pos 0) ≤ number / weight (pos 0) * weight (pos 0) =
+      mul-le-mul_right (weight (pos 0)) in
+      grind (arith, nat_tests, div-add-mod' number (weight (pos 0)), more)
 
   -- out of range: each fraction digit is 0
   pub out_of_range_whole : as_integer bound number ≡ Err OutOfRange → number % weight (pos 0) ≡ 0
-  out_of_range_whole h = elim (cases_eq (number % weight (pos 0)) 0) [
-    | inl e ↦ e
-    | inr part ↦ let k = sym h ∙ whole_numbers.as_integer-part bound number part in absurd (cc)
-  ]
+  out_of_range_whole h = grind (arith, nat_tests)
 
 -- ---- The digits of a value.
 -- what the digits at so many magnitudes from m down are worth together
@@ -222,8 +156,7 @@ worth_down number m (suc k) = digit number m * weight m + worth_down number (m -
 digits_worth : (number count p : ℕ) (m : ℤ) → (0 < count → offset m + 1 ≡ p) → count ≤ p
     → worth_down number m count + number % 10 ^ (p - count) ≡ number % 10 ^ p
 unfolding worth_down
-digits_worth number zero p m at h =
-    let e : p - 0 ≡ p = omega arith in ap (λ k. 0 + number % 10 ^ k) e ∙ (omega arith)
+digits_worth number zero p m at h = let e : p - 0 ≡ p = omega arith in rw e (omega arith)
 digits_worth number (suc k) p m at h =
     let here : offset m ≡ p - 1 = omega (arith, at (omega arith)) in
     let below : 0 < k → offset (m -ℤ pos 1) + 1 ≡ p - 1 =
@@ -241,11 +174,9 @@ digits_make_number v valid =
     let count = int_gap v.lo v.hi + 1 in
     let rest : offset v.hi + 1 - count ≡ offset v.lo =
     omega (arith, ints, gap_is v.lo v.hi, offset_is v.hi, offset_is v.lo, valid.hi_in, valid.lo_in) in
-    let fits : count ≤ offset v.hi + 1 =
-    omega (arith, ints, gap_is v.lo v.hi, offset_is v.hi, offset_is v.lo, valid.hi_in, valid.lo_in) in
-    let all = digits_worth v.number count (offset v.hi + 1) v.hi (λ h. refl) fits in
-    let none : v.number % 10 ^ (offset v.hi + 1 - count) ≡ 0 = ap (λ k. v.number % 10 ^ k) rest ∙ valid.whole in
-    omega (arith, all, none, mod-eq_of_lt valid.below)
+    let all = digits_worth v.number count (offset v.hi + 1) v.hi (λ h. refl)
+    (omega (arith, ints, gap_is v.lo v.hi, offset_is v.hi, offset_is v.lo, valid.hi_in, valid.lo_in)) in
+    omega (arith, rw rest at all, valid.whole, mod-eq_of_lt valid.below)
 
 -- ---- Texts.
 -- the bytes of the digits of n at so many magnitudes from m down, of which n has the last one at its end
@@ -341,37 +272,20 @@ trimmed_texts v w p q = (
       (trimmed_is_normal_form v w).1 (cc),
 )
 
-only_some : {A : Type 0} (b : Bool) (x y : A) → (if b then None else Some x) ≡ Some y → x ≡ y
-only_some true x y e = absurd (cc)
-only_some false x y e = cc
-
 -- a rounding that names this multiple and makes a value makes this one
 pub rounded_to-some : (v new : Unsigned) (position : ℤ) (multiple : ℕ) → rounded_to v position multiple ≡ Some new
     → with_number v position multiple ≡ new
-rounded_to-some v new position multiple e =
-    only_some (reaches_limit multiple) (with_number v position multiple) new e
+rounded_to-some v new position multiple e = grind arith
 
 -- the same of a decimal, behind its old sign
 pub signed_rounded_to-some : (v new : Decimal) (position : ℤ) (multiple : ℕ)
     → with_absolute v (rounded_to v.absolute position multiple) ≡ Some new
     → record v { absolute = with_number v.absolute position multiple } ≡ new
-signed_rounded_to-some v new position multiple e = go (reaches_limit multiple) e
-  where
-    go : (b : Bool)
-        → with_absolute v (if b then None else Some (with_number v.absolute position multiple)) ≡ Some new
-        → record v { absolute = with_number v.absolute position multiple } ≡ new
-    go true e = absurd (cc)
-    go false e = cc
+signed_rounded_to-some v new position multiple e = grind arith
 
 -- without its sign the number of a decimal is that of its absolute value
 pub absolute_number : (v : Decimal) → unsigned_abs (signed_number v) ≡ v.absolute.number
-absolute_number v = go v.sign v.absolute.number
-  where
-    go : (sign : Sign) (number : ℕ) → unsigned_abs (signed sign number) ≡ number
-    go sign.None number = refl
-    go sign.Positive number = refl
-    go sign.Negative zero = refl
-    go sign.Negative (suc number) = refl
+absolute_number v = grind (arith, ints)
 
 -- no number is more than half a unit away from the nearest multiple
 pub nearest_within : (unit n multiple : ℕ) → 0 < unit → IsNearest unit n multiple → 2 * abs_diff n multiple ≤ unit

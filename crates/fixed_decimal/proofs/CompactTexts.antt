@@ -1,5 +1,5 @@
 -- The text of a compact value: its exponent's digits, and that it reads as the value.
-use Rattle.std.proofs.Common.{◌≡◌, ℕ, zero, suc, ◌+◌, ◌/◌, ◌%◌, ◌^◌, ◌<◌, ◌≤◌, ◌==◌, nat_lt, Bool, true, false, append-nil, List, [], ◌∷◌, ◌++◌, get_or, refl, ◌∙◌, ap, arith}
+use Rattle.std.proofs.Common.{◌≡◌, ℕ, zero, suc, ◌+◌, ◌/◌, ◌%◌, ◌^◌, ◌<◌, ◌≤◌, ◌==◌, nat_lt, Bool, IsTrue, ◌↔◌, true, false, append-nil, List, [], ◌∷◌, ◌++◌, get_or, refl, sym, ◌∙◌, ap, arith}
 use Rattle.std.specs.Prelude.{Option, Some, None, Ok, Err}
 use Rattle.std.specs.Fmt.{decimal}
 use Rattle.std.specs.List.{list_any}
@@ -11,6 +11,7 @@ use Rattle.std.proofs.lemmas.Fmt.{IsAscii-decimal, decimal_digit, decimal_step, 
 use Rattle.std.proofs.lemmas.List.Folds.{list_any-append}
 use Rattle.std.proofs.lemmas.Str.{IsUtf8-nil, IsUtf8-from_ascii, IsAscii-append}
 use Rattle.std.proofs.lemmas.Str.Parse.{digit_from_value}
+use Rattle.decimal_unsigned.specs.Unsigned.{IsValue}
 use Rattle.decimal_unsigned.specs.Reading.{syntax, is_letter}
 use Rattle.decimal_unsigned.proofs.GrammarParts.{numeral-complete}
 use Rattle.fixed_decimal.specs.DecimalText.{decimal_text, read_decimal, and_then}
@@ -18,6 +19,7 @@ use Rattle.fixed_decimal.specs.Letters.{is_c}
 use Rattle.fixed_decimal.specs.Split.{split_once}
 use Rattle.fixed_decimal.specs.Compact.{split_at_c, IsSplitAtC, ReadsCompact, Compact, exponent_text, compact_text, exponent_number_of, read_exponent, read_fields, read_compact, with_c}
 use Rattle.fixed_decimal.proofs.DecimalBytes.{PassesNone, decimal_text-lacks, letter-none, c-none}
+use Rattle.fixed_decimal.proofs.DecimalTexts.{read_decimal_text}
 use Rattle.fixed_decimal.proofs.Splitting.{split_none, split_at}
 use Rattle.fixed_decimal.proofs.Writing.{first_fails, second_fails}
 
@@ -111,19 +113,36 @@ part_of (suc n) h = (
   },
 )
 
--- it is split between its parts, and each part reads as itself
-pub compact_reads_back : (v : Compact) → read_decimal (decimal_text v.significand) ≡ Ok v.significand → v.exponent < 256
-    → read_compact (compact_text v) ≡ Ok v
-compact_reads_back v h l =
+-- a text is split between its parts
+split_between : (v : Compact) (l : v.exponent < 256)
+    → split_at_c (compact_text v) ≡ Ok (decimal_text v.significand, (part_of v.exponent l).0)
+split_between v l =
     let (part, k) = part_of v.exponent l in
     let plain : list_any is_letter (compact_text v) ≡ false =
     list_any-append is_letter (decimal_text v.significand) (exponent_text v.exponent)
     ∙ (rw (decimal_text-lacks is_letter letter-none v.significand, k.is, k.plain) refl) in
     let is = ap (λ t. decimal_text v.significand ++ t) k.is in
     let first = decimal_text-lacks _ c-none v.significand in
-    ap (λ r. and_then r read_fields)
-    (split_is (compact_text v) (decimal_text v.significand) part plain (record { is = is; first = first }))
-    ∙ (rw (h, k.reads) refl)
+    split_is (compact_text v) (decimal_text v.significand) part plain (record { is = is; first = first })
+
+-- equal texts have equal parts
+pub same_fields : (v w : Compact) → v.exponent < 256 → w.exponent < 256 → compact_text v ≡ compact_text w
+    → (decimal_text v.significand ≡ decimal_text w.significand) × (v.exponent ≡ w.exponent)
+same_fields v w l k e =
+    let parts = sym (split_between v l) ∙ ap split_at_c e ∙ split_between w k in
+    let pairs : (decimal_text v.significand, (part_of v.exponent l).0)
+    ≡ (decimal_text w.significand, (part_of w.exponent k).0) = cc in
+    let exponents = sym (part_of v.exponent l).1.reads
+    ∙ ap (λ (p : List ℕ × Option (List ℕ)). read_exponent p.1) pairs
+    ∙ (part_of w.exponent k).1.reads in
+    (ap (λ (p : List ℕ × Option (List ℕ)). p.0) pairs, (let n : v.exponent ≡ w.exponent = cc in n))
+
+-- and each part reads as itself
+pub compact_reads_back : (v : Compact) → read_decimal (decimal_text v.significand) ≡ Ok v.significand → v.exponent < 256
+    → read_compact (compact_text v) ≡ Ok v
+compact_reads_back v h l =
+    ap (λ r. and_then r read_fields) (split_between v l)
+    ∙ (rw (h, (part_of v.exponent l).1.reads) refl)
 
 -- what writing a compact value rests on
 pub ruleset writing = (first_fails, second_fails, compact_reads_back)

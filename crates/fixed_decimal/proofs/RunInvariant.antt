@@ -16,8 +16,7 @@ use Rattle.fixed_decimal.specs.Errors.{IsReached}
 use Rattle.fixed_decimal.specs.Calls.{CallFails, CallsFail}
 
 and_then-Ok : (r : Result Decimal OutcomeError) → and_then r (λ w. Ok w) ≡ r
-and_then-Ok (Ok v) = refl
-and_then-Ok (Err e) = refl
+and_then-Ok r = grind arith
 
 -- calls, and then one more
 after_calls-snoc : (at : ℕ) (v : Decimal) (xs : List Call) (x : Call)

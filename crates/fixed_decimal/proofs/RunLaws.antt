@@ -32,8 +32,7 @@ use Rattle.fixed_decimal.specs.RunLaws.{rounding_at, ResultHasNumber, RoundsOnce
 
 numbered : (v : Decimal) (made : Option Absolute)
     → sign_and_number (with_absolute v made) ≡ option_map (λ n. (v.sign, n)) (number_if_any made)
-numbered v None = refl
-numbered v (Some a) = refl
+numbered v made = grind arith
 
 -- expansions compose
 pub expansions_compose : (v : Decimal) (p q : ℤ) → IsPosition p → IsPosition q → ExpansionsCompose v p q
@@ -45,16 +44,10 @@ expansions_compose v p q low low' =
     twice : (made : Option Absolute)
         → sign_and_number (option_and_then (λ w. expanded w q) (with_absolute v made))
         ≡ option_map (λ n. (v.sign, n)) (number_if_any (option_and_then (λ a. unsigned_laws.expanded a q) made))
-    twice None = refl
-    twice (Some a) = numbered v (unsigned_laws.expanded a q)
+    twice made = grind (arith, numbered)
 
 trunced_is : (v : Decimal) (p : ℤ) → trunced v p ≡ record v { absolute = unsigned_laws.trunced v.absolute p }
-trunced_is v p = go (unsigned.rounded v.absolute p Trunc MultiplesOf1)
-  where
-    go : (made : Option Absolute)
-        → unwrap_or (with_absolute v made) v ≡ record v { absolute = unwrap_or made v.absolute }
-    go None = refl
-    go (Some a) = refl
+trunced_is v p = grind arith
 
 -- truncations compose
 pub truncations_compose : (v : Decimal) (p q : ℤ) → IsValue v.absolute → IsPosition p → IsPosition q
@@ -65,16 +58,10 @@ truncations_compose v p q valid low low' =
     ≡ record v { absolute = unsigned_laws.trunced (unsigned_laws.trunced v.absolute p) q } =
     ap (λ w. trunced w q) (trunced_is v p)
     ∙ trunced_is (record v { absolute = unsigned_laws.trunced v.absolute p }) q in
-    record {
-      above = λ h. twice ∙ ap (λ a. record v { absolute = a }) (laws.above q h) ∙ sym (trunced_is v q);
-      number =
-          let n = laws.number q low' in (
-            ap (λ (w : Decimal). w.absolute.number) twice
-                ∙ n
-                ∙ sym (ap (λ (w : Decimal). w.absolute.number) (trunced_is v (int_max p q))),
-            ap (λ (w : Decimal). w.sign) twice ∙ sym (ap (λ (w : Decimal). w.sign) (trunced_is v (int_max p q))),
-          );
-    }
+    let at_q = trunced_is v q in
+    let at_greater = trunced_is v (int_max p q) in
+    let number = laws.number q low' in
+    record { above = λ h. let same = laws.above q h in grind arith; number = grind arith }
 
 -- ---- Roundings in a row, by their numbers alone.
 module _ (mode : UnsignedRoundingMode) where
@@ -87,13 +74,7 @@ module _ (mode : UnsignedRoundingMode) where
   by_number : (a : Absolute) (q : ℤ)
       → number_if_any (unsigned.rounded a q mode MultiplesOf1) ≡ number_after q a.number
   unfolding number_after
-  by_number a q =
-      let m = rounded_number mode (unit_at MultiplesOf1 q) a.number in
-      elim (reaches_limit m) as
-      (λ b. number_if_any (if b then None else Some (with_number a q m)) ≡ (if b then None else Some m)) [
-        | true ↦ refl
-        | false ↦ refl
-      ]
+  by_number a q = grind arith
 
   -- the number that roundings in a row make, or none
   numbers_after : List ℤ → ℕ → Option ℕ
@@ -105,8 +86,7 @@ module _ (mode : UnsignedRoundingMode) where
       → numbers_after qs w.absolute.number ≡ number_if_any made
       → ResultHasNumber (after_calls at w (map (rounding_at mode) qs)) (with_absolute v made)
   unfolding numbers_after
-  come_to w v [] at (Some a) s e = ((let f : w.absolute.number ≡ a.number = cc in f), s)
-  come_to w v [] at None s e = absurd (cc)
+  come_to w v [] at made s e = grind arith
   come_to w v (q ∷ qs) at made s e =
       elim (unsigned.rounded w.absolute q mode MultiplesOf1) as
       (λ o. option_and_then (numbers_after qs) (number_if_any o) ≡ number_if_any made
@@ -120,8 +100,7 @@ module _ (mode : UnsignedRoundingMode) where
     where
       nowhere : (made : Option Absolute) → None ≡ number_if_any made
           → ResultHasNumber (Err (limit_exceeded at)) (with_absolute v made)
-      nowhere None n = tt
-      nowhere (Some a) n = absurd (cc)
+      nowhere made n = grind arith
 
   -- a rounding at q of what one at p made of n makes what one rounding at the greater position does
   Absorbs : ℕ → Type 0
@@ -132,11 +111,10 @@ module _ (mode : UnsignedRoundingMode) where
   once : (n : ℕ) → Absorbs n → (p : ℤ) (qs : List ℤ) → All IsPosition (p ∷ qs)
       → numbers_after (p ∷ qs) n ≡ number_after (fold int_max p qs) n
   unfolding numbers_after Absorbs
-  once n absorbs p [] all = same (number_after p n)
+  once n absorbs p [] all = unit (number_after p n)
     where
-      same : (o : Option ℕ) → option_and_then Some o ≡ o
-      same None = refl
-      same (Some m) = refl
+      unit : (o : Option ℕ) → option_and_then Some o ≡ o
+      unit o = grind arith
   once n absorbs p (q ∷ qs) all =
       let rest = All-tail IsPosition p (q ∷ qs) all in
       let low = All-head IsPosition p (q ∷ qs) all in
@@ -149,8 +127,7 @@ module _ (mode : UnsignedRoundingMode) where
       regroup : (o : Option ℕ)
           → option_and_then (numbers_after (q ∷ qs)) o
           ≡ option_and_then (numbers_after qs) (option_and_then (number_after q) o)
-      regroup None = refl
-      regroup (Some m) = refl
+      regroup o = grind arith
 
   rounds_once : ((v : Decimal) → IsValue v.absolute → Absorbs v.absolute.number) → RoundsOnce mode
   rounds_once absorbs v p others valid all at =
@@ -197,8 +174,7 @@ expansions_are_one = rounds_once Expand (λ v valid p q low low'.
         go : (o : Option Absolute)
             → option_and_then (number_after Expand q) (number_if_any o)
             ≡ number_if_any (option_and_then (λ b. unsigned_laws.expanded b q) o)
-        go None = refl
-        go (Some b) = sym (by_number Expand b q)
+        go o = grind (arith, by_number)
 
 -- several roundings are one, and none toward zero exceeds the limit
 pub ruleset roundings_compose = (truncations_are_one, trunc_is_some, expansions_are_one)

@@ -154,6 +154,7 @@ impl CompactDecimal {
     }
 
     /// Returns whether the parts of two values are equal.
+    #[tactic(auto, using(crate::proofs::CompactTexts::same_fields))]
     fn has_same_fields(&self, other: &Self) -> bool
         ensures value { IsTrue result ↔ (self.now ≡ other.now) }
         ensures texts { IsTrue result ↔ (compact_text self.now ≡ compact_text other.now) }

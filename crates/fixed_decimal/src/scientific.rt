@@ -123,6 +123,7 @@ impl ScientificDecimal {
     }
 
     /// Returns whether the parts of two values are equal.
+    #[tactic(auto, using(crate::proofs::ScientificTexts::same_fields))]
     fn has_same_fields(&self, other: &Self) -> bool
         ensures value { IsTrue result ↔ (self.now ≡ other.now) }
         ensures texts { IsTrue result ↔ (scientific_text self.now ≡ scientific_text other.now) }
