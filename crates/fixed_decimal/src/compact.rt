@@ -22,10 +22,21 @@ use std::marker::Model;
 /// A decimal, the significand, times 10 to the power of an exponent from 0 to 255: `-1.20c6`.
 ///
 /// The significand keeps its sign and all its zeros. Contracts see the two parts.
-#[derive(Debug, Drop)]
+#[derive(Debug)]
 pub struct CompactDecimal {
     significand: Decimal,
     exponent: u8,
+}
+
+// Not derived: a derived drop is proved again in each crate that depends on this one.
+impl Drop for CompactDecimal {
+    fn drop(self) {
+        let CompactDecimal {
+            significand,
+            exponent: _,
+        } = self;
+        drop(significand);
+    }
 }
 
 impl Model for CompactDecimal {

@@ -25,8 +25,16 @@ use std::marker::Model;
 /// A decimal without fraction digits: `-0120`.
 ///
 /// It is the exponent of a `ScientificDecimal`. Contracts see the decimal.
-#[derive(Debug, Drop)]
+#[derive(Debug)]
 pub struct FixedInteger(Decimal);
+
+// Not derived: a derived drop is proved again in each crate that depends on this one.
+impl Drop for FixedInteger {
+    fn drop(self) {
+        let FixedInteger(decimal) = self;
+        drop(decimal);
+    }
+}
 
 impl Model for FixedInteger {
     ghost use Rattle.std.specs.Prelude.{◌≡◌, pos};

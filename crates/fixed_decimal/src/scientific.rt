@@ -22,10 +22,22 @@ use std::marker::Model;
 /// A decimal, the significand, times 10 to the power of an integer, the exponent: `-1.20e+05`.
 ///
 /// Both parts keep their sign and all their zeros. Contracts see the two parts.
-#[derive(Debug, Drop)]
+#[derive(Debug)]
 pub struct ScientificDecimal {
     significand: Decimal,
     exponent: FixedInteger,
+}
+
+// Not derived: a derived drop is proved again in each crate that depends on this one.
+impl Drop for ScientificDecimal {
+    fn drop(self) {
+        let ScientificDecimal {
+            significand,
+            exponent,
+        } = self;
+        drop(significand);
+        drop(exponent);
+    }
 }
 
 impl Model for ScientificDecimal {

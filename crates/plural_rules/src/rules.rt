@@ -210,7 +210,7 @@ pub struct PluralRules {
     rules: Vec<Rule>,
 }
 
-// Written out, since a derived drop is proved once more in each crate above.
+// Not derived: a derived drop is proved again in each crate that depends on this one.
 impl Drop for PluralRules {
     fn drop(self) {
         let PluralRules { rules } = self;
