@@ -128,7 +128,11 @@ impl CompactDecimal {
     pub fn into_significand(self) -> Decimal
         ensures { result ≡ self.significand }
     {
-        self.significand
+        let CompactDecimal {
+            significand,
+            exponent: _,
+        } = self;
+        significand
     }
 
     /// Returns the exponent: 6 of `1.20c6`, and 0 of `1.20`.

@@ -140,7 +140,8 @@ impl From<FixedInteger> for Decimal {
 
     /// Returns the integer as a decimal, unchanged: `-05` prints `-05`.
     fn from(integer: FixedInteger) -> Decimal {
-        integer.0
+        let FixedInteger(decimal) = integer;
+        decimal
     }
 }
 

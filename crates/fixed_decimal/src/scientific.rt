@@ -92,7 +92,11 @@ impl ScientificDecimal {
     pub fn into_parts(self) -> (Decimal, FixedInteger)
         ensures { scientific result.0 result.1 ≡ self }
     {
-        (self.significand, self.exponent)
+        let ScientificDecimal {
+            significand,
+            exponent,
+        } = self;
+        (significand, exponent)
     }
 
     /// Parses a text that `Decimal` parses, followed by `e` and a text that `FixedInteger` parses.
