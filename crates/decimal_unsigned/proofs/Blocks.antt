@@ -1,7 +1,7 @@
 -- The digits of a value in a block of its text.
-use Rattle.decimal_unsigned.proofs.Common.{common_steps, elements, ◌≡◌, ℕ, ◌+◌, ◌-◌, ◌<◌, ◌≤◌, List, ◌∷◌, ◌++◌, length, get_or, take, drop, replicate, sym, ◌∙◌, ap, arith, inl, inr, min, ℤ, pos, negsuc, ◌+ℤ◌, ◌-ℤ◌, ◌≤ℤ◌, ◌<ℤ◌, Option, None, Some, unwrap_or, int_gap, ints, cases_lt, get_or-take, get_or-drop, length-append, length-take-le, length-drop, length-map, offset, digit, number_of, offset_is, gap_is, IsStored, length-replicate}
+use Rattle.decimal_unsigned.proofs.Common.{common_steps, elements, ◌≡◌, ℕ, ◌+◌, ◌-◌, ◌<◌, ◌≤◌, List, ◌∷◌, ◌++◌, length, get_or, take, drop, replicate, sym, ◌∙◌, ap, arith, inl, inr, min, ℤ, pos, negsuc, ◌+ℤ◌, ◌-ℤ◌, ◌≤ℤ◌, ◌<ℤ◌, Option, None, Some, unwrap_or, int_gap, ints, cases_lt, get_or-take, get_or-drop, length-take-le, length-drop, length-map, offset, digit, number_of, offset_is, gap_is, IsStored, length-replicate}
 use Rattle.std.specs.Prelude.{IfSome, IfNone}
-use Rattle.std.proofs.lemmas.List.{get_or-replicate, get_or-map, take-replicate, drop-replicate}
+use Rattle.std.proofs.lemmas.List.{get_or-replicate, get_or-map}
 use Rattle.decimal_digits.specs.Digits.{text_of}
 use Rattle.decimal_unsigned.proofs.Values.{digit-number_of-above, digit-number_of-in, digit-number_of-below}
 

@@ -1,5 +1,5 @@
 -- The order of two numbers, by their digits.
-use Rattle.decimal_unsigned.proofs.Common.{clamps, nat_tests, common_steps, ◌≡◌, ℕ, suc, ◌+◌, ◌-◌, ◌*◌, ◌^◌, ◌<◌, ◌≤◌, List, [], ◌∷◌, length, get_or, drop, replicate, refl, sym, ◌∙◌, ap, subst, arith, ◌⊎◌, inl, inr, min, ℤ, ◌<ℤ◌, nat_cmp, mul-le-mul_right, mul-lt-mul_of_pos_right, pow-le-pow_right, cases_lt, ints, length-drop, recursion_from_All, number_lt, pow-add, number_from_digits, AllBelowBase, offset, offset_is, IsStored, All, slice_cmp, below_sixteen, Unsigned, IsValue}
+use Rattle.decimal_unsigned.proofs.Common.{clamps, nat_tests, common_steps, ◌≡◌, ℕ, ◌+◌, ◌-◌, ◌*◌, ◌^◌, ◌<◌, ◌≤◌, List, [], ◌∷◌, length, get_or, drop, refl, sym, ◌∙◌, ap, arith, ◌⊎◌, inl, inr, min, ℤ, ◌<ℤ◌, nat_cmp, mul-le-mul_right, mul-lt-mul_of_pos_right, pow-le-pow_right, ints, length-drop, recursion_from_All, number_lt, pow-add, number_from_digits, AllBelowBase, offset, offset_is, IsStored, All, slice_cmp, below_sixteen, Unsigned, IsValue}
 use Rattle.std.specs.declared.cmp.Ordering.{Ordering}
 use Rattle.std.specs.declared.cmp.Ordering.TheVariants.{Less, Equal, Greater}
 use Rattle.std.specs.Ordering.{MatchOrdering, ordering_then, int_cmp}
@@ -12,23 +12,14 @@ use Rattle.decimal_digits.proofs.DigitLists.{number_first, number_zeros}
 use Rattle.decimal_unsigned.proofs.Shown.{value_of_view}
 use Rattle.decimal_unsigned.proofs.Values.{number_of-lt, number_of-ge, number_of-pos, number_of-none, lowest}
 
--- ---- one order that goes with another
-module _ {P Q R P' Q' R' : Type 0} (less : P → P') (equal : Q → Q') (greater : R → R') where
-  pub carried : (r : Ordering) → MatchOrdering r P Q R → MatchOrdering r P' Q' R'
-  carried Less h = less h
-  carried Equal h = equal h
-  carried Greater h = greater h
-
 -- two numbers have the order of two others
 pub same_order : (a b x y : ℕ) → (a < b → x < y) → (a ≡ b → x ≡ y) → (b < a → y < x) → nat_cmp a b ≡ nat_cmp x y
-same_order a b x y less equal greater =
-    nat_cmp_is x y (nat_cmp a b) (carried less equal greater (nat_cmp a b) (ranked a b (nat_cmp a b) refl))
+same_order a b x y less equal greater = grind arith
 
 -- two numbers have the order of two integers
 pub same_int_order : (a b : ℤ) (x y : ℕ) → (a <ℤ b → x < y) → (a ≡ b → x ≡ y) → (b <ℤ a → y < x)
     → int_cmp a b ≡ nat_cmp x y
-same_int_order a b x y less equal greater =
-    nat_cmp_is x y (int_cmp a b) (carried less equal greater (int_cmp a b) (int_ranked a b (int_cmp a b) refl))
+same_int_order a b x y less equal greater = grind (arith, ints)
 
 -- where one list has no items left, the lengths decide
 none_left : (xs ys : List ℕ) → (length xs ≡ 0) ⊎ (length ys ≡ 0)
@@ -43,11 +34,9 @@ none_left (x ∷ xs) (y ∷ ys) (inr e) = absurd (omega (arith, e))
 pub lengths_decide : (xs ys : List ℕ) (i : ℕ) → i ≡ min (length xs) (length ys)
     → nat_cmp (length xs) (length ys) ≡ slice_cmp nat_cmp (drop i xs) (drop i ys)
 lengths_decide xs ys i e =
-    let l = length-drop i xs in
-    let k = length-drop i ys in
-    same_order (length xs) (length ys) (length (drop i xs)) (length (drop i ys)) (λ h. omega arith) (λ h. omega arith)
-    (λ h. omega arith)
-    ∙ none_left (drop i xs) (drop i ys) (grind (arith, l, k))
+    let same : nat_cmp (length xs) (length ys) ≡ nat_cmp (length (drop i xs)) (length (drop i ys)) =
+    grind (arith, common_steps) in
+    same ∙ none_left (drop i xs) (drop i ys) (grind (arith, common_steps))
 
 -- ---- two lists of digits in the same places, in any base, whose last digit is not 0
 abbrev EndsInDigit : List ℕ → Type 0
@@ -75,19 +64,19 @@ module _ (base : ℕ) (above : 0 < base) where
   worth_pos : (top d : ℕ) (ds : List ℕ) → EndsInDigit (d ∷ ds) → 0 < worth top (d ∷ ds)
   worth_pos top d ds ends = mul-pos (number_pos d ds ends) (power_pos (top - length (d ∷ ds)))
 
+  less_first : (d e p x y : ℕ) → d < e → x < p → d * p + x < e * p + y
+  less_first d e p x y h l = grind arith
+
+  moved_up : (d top a b : ℕ) → a ≤ top
+      → (d * base ^ a + b) * base ^ (top - a) ≡ d * base ^ top + b * base ^ (top - a)
+  moved_up d top a b h = grind (arith, pow-add)
+
   first_and_others : (top d : ℕ) (ds : List ℕ) → length (d ∷ ds) ≤ top
       → worth top (d ∷ ds) ≡ d * base ^ (top - 1) + worth (top - 1) ds
   first_and_others top d ds h =
-      let rest = top - 1 - length ds in
-      let k : top - length (d ∷ ds) ≡ rest = omega arith in
-      let e : top - 1 ≡ length ds + rest = omega arith in
-      let p : base ^ (top - 1) ≡ base ^ length ds * base ^ rest =
-      ap (λ j. base ^ j) e ∙ pow-add base (length ds) rest in
-      ap (λ j. number_from_digits base (d ∷ ds) * base ^ j) k
-      ∙ ap (λ n. n * base ^ rest) (number_first base d ds)
-      ∙ (let q : (d * base ^ length ds + number_from_digits base ds) * base ^ rest
-      ≡ d * (base ^ length ds * base ^ rest) + number_from_digits base ds * base ^ rest = omega arith in q)
-      ∙ ap (λ x. d * x + number_from_digits base ds * base ^ rest) (sym p)
+      let k : top - length (d ∷ ds) ≡ top - 1 - length ds = omega arith in
+      rw (k, number_first base d ds)
+      (moved_up d (top - 1) (length ds) (number_from_digits base ds) (omega arith))
 
   -- the order of the first digits, and where these are equal that of the others
   module _ (top d e : ℕ) (ds es : List ℕ) (b : AllBelowBase base ds) (c : AllBelowBase base es)
@@ -98,20 +87,15 @@ module _ (base : ℕ) (above : 0 < base) where
         → MatchOrdering (ordering_then r (slice_cmp nat_cmp ds es)) (worth top (d ∷ ds) < worth top (e ∷ es))
         (worth top (d ∷ ds) ≡ worth top (e ∷ es)) (worth top (e ∷ es) < worth top (d ∷ ds))
     firsts Less h =
-        let following : worth (top - 1) ds < base ^ (top - 1) = worth_lt (top - 1) ds b (omega arith) in
-        let more : (d + 1) * base ^ (top - 1) ≤ e * base ^ (top - 1) =
-        mul-le-mul_right (base ^ (top - 1)) (omega arith) in
-        omega (arith, first_and_others top d ds f, first_and_others top e es g, following, more)
+        rw (first_and_others top d ds f, first_and_others top e es g)
+        (less_first d e _ _ _ h (worth_lt (top - 1) ds b (omega arith)))
     firsts Equal h =
-        let same : d * base ^ (top - 1) ≡ e * base ^ (top - 1) = ap (λ n. n * base ^ (top - 1)) h in
         let left = first_and_others top d ds f in
         let right = first_and_others top e es g in
-        carried (λ l. omega arith) (λ l. omega arith) (λ l. omega arith) (slice_cmp nat_cmp ds es) others
+        grind arith
     firsts Greater h =
-        let following : worth (top - 1) es < base ^ (top - 1) = worth_lt (top - 1) es c (omega arith) in
-        let more : (e + 1) * base ^ (top - 1) ≤ d * base ^ (top - 1) =
-        mul-le-mul_right (base ^ (top - 1)) (omega arith) in
-        omega (arith, first_and_others top d ds f, first_and_others top e es g, following, more)
+        rw (first_and_others top d ds f, first_and_others top e es g)
+        (less_first e d _ _ _ h (worth_lt (top - 1) es c (omega arith)))
 
   -- they have the order of their numbers
   pub digits_order : (top : ℕ) (ds es : List ℕ) → AllBelowBase base ds → AllBelowBase base es → length ds ≤ top

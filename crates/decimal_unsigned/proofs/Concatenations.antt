@@ -1,11 +1,10 @@
 -- Digits, zeros and then more digits.
-use Rattle.decimal_unsigned.proofs.Common.{◌≡◌, ℕ, ◌+◌, ◌-◌, ◌*◌, ◌^◌, ◌<◌, ◌≤◌, zero, suc, true, false, List, [], ◌∷◌, ◌++◌, length, replicate, nat_lt, refl, sym, ◌∙◌, ap, arith, inl, inr, ℤ, pos, negsuc, ◌+ℤ◌, ◌-ℤ◌, ◌≤ℤ◌, ◌<ℤ◌, int_max, int_min, ints, clamps, pow-add, cases_lt, nat_tests, length-append, number_from_digits, AllBelowBase, offset, first, last, offset_is, gap_is, IsStored, Unsigned, ◌&&◌, length-replicate}
-use Rattle.std.specs.Prelude.{int_le}
+use Rattle.decimal_unsigned.proofs.Common.{◌≡◌, ℕ, ◌+◌, ◌-◌, ◌*◌, ◌^◌, ◌<◌, ◌≤◌, zero, suc, false, List, [], ◌∷◌, ◌++◌, length, replicate, refl, sym, ◌∙◌, ap, arith, ℤ, pos, negsuc, ◌+ℤ◌, ◌-ℤ◌, ◌≤ℤ◌, ◌<ℤ◌, int_max, int_min, ints, clamps, pow-add, nat_tests, length-append, number_from_digits, AllBelowBase, offset, first, last, offset_is, gap_is, IsStored, Unsigned, length-replicate}
 use Rattle.std.proofs.lemmas.List.{get_or_append_left, get_or-append_right}
 use Rattle.decimal_digits.specs.Digits.{number_of, number_at}
 use Rattle.decimal_digits.proofs.DigitLists.{number-append, number_after}
 use Rattle.decimal_unsigned.specs.Concatenation.{overlaps, concatenated_end, concatenated_size}
-use Rattle.decimal_unsigned.proofs.Values.{lowest, last-number_of, first_of, number_of-none, stored_as, last_covered, some_of}
+use Rattle.decimal_unsigned.proofs.Values.{lowest, last-number_of, first_of, stored_as, last_covered, some_of}
 
 -- the same digits in a wider range
 pub wider : {ds : List ℕ} {m hi lo hi' lo' : ℤ} → IsStored ds m hi lo → hi ≤ℤ hi' → lo' ≤ℤ lo → hi' ≤ℤ pos 32767

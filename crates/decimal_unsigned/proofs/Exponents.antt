@@ -1,5 +1,5 @@
 -- An exponent of any length, and what the code keeps of it.
-use Rattle.decimal_unsigned.proofs.Common.{nat_tests, common_steps, ◌≡◌, ℕ, ◌==◌, true, false, cond, ◌||◌, ◌⊎◌, inl, inr, List, [], ◌∷◌, ◌++◌, refl, sym, ◌∙◌, ap, subst, arith, ℤ, pos, negsuc, ◌<ℤ◌, int_lt, Option, Some, None, Ok, Err, ints, clamps, cases_lt, AllDigits, Unsigned, Literal, parts_of, is_outside, limit, view, option_map}
+use Rattle.decimal_unsigned.proofs.Common.{nat_tests, common_steps, ◌≡◌, ℕ, ◌==◌, true, cond, ◌⊎◌, inl, inr, List, [], ◌∷◌, ◌++◌, refl, sym, ◌∙◌, ap, subst, arith, ℤ, pos, negsuc, ◌<ℤ◌, Option, Some, None, Ok, Err, ints, clamps, cases_lt, AllDigits, Unsigned, Literal, parts_of, is_outside, limit, view, option_map}
 use Rattle.decimal_unsigned.specs.Reading.{scaled, value_of, value_or_syntax, read, syntax}
 use Rattle.decimal_unsigned.specs.Parts.{saturated, saturated_parts, IsSaturated}
 use Rattle.std.specs.Prelude.{IfSome}

@@ -1,5 +1,5 @@
 -- How many digits the value of a text has, and where a text has one.
-use Rattle.decimal_unsigned.proofs.Common.{clamps, nat_tests, common_steps, ◌≡◌, ℕ, suc, ◌+◌, ◌-◌, ◌*◌, ◌%◌, ◌^◌, ◌<◌, ◌≤◌, Bool, true, false, ◌||◌, List, ◌++◌, length, refl, sym, ◌∙◌, ap, subst, arith, rules, inl, inr, Result, Ok, Err, Option, Some, None, ℤ, pos, negsuc, ◌+ℤ◌, ◌-ℤ◌, int_lt, mul-mod_left, mul-le-mul_right, ints, pow-add, cases_lt, number_lt, digits_value_is, AllDigits, digits_value, size, first, last, ten_pos, no_more_zeros, gap_is, Unsigned, leaves_limits, multiplied, Literal, limit, is_outside, value_of, read, Grammar, mantissa}
+use Rattle.decimal_unsigned.proofs.Common.{clamps, nat_tests, common_steps, ◌≡◌, ℕ, suc, ◌+◌, ◌-◌, ◌*◌, ◌%◌, ◌^◌, ◌<◌, ◌≤◌, Bool, true, false, ◌||◌, List, ◌++◌, length, refl, sym, ◌∙◌, ap, subst, arith, rules, inl, inr, Result, Ok, Err, Option, Some, None, ℤ, pos, negsuc, ◌-ℤ◌, mul-mod_left, mul-le-mul_right, ints, pow-add, cases_lt, number_lt, digits_value_is, AllDigits, digits_value, size, first, last, ten_pos, no_more_zeros, gap_is, Unsigned, leaves_limits, multiplied, Literal, limit, is_outside, value_of, read, Grammar, mantissa}
 use Rattle.std.specs.Prelude.{IsOkAnd, nat_eq}
 use Rattle.std.proofs.Math.Nat.{mul_assoc}
 use Rattle.std.proofs.lemmas.Bool.{or_parts}
@@ -9,7 +9,6 @@ use Rattle.decimal_unsigned.specs.declared.error.ParseError.TheVariants.{Limit, 
 use Rattle.decimal_unsigned.specs.Edits.{StaysInLimits, times_power}
 use Rattle.decimal_unsigned.specs.Reading.{ReadError, zeros_trimmed, scaled}
 use Rattle.decimal_unsigned.specs.ParseResult.{IsParseResult, IsPlain, digit_count}
-use Rattle.decimal_unsigned.specs.ScannedDigits.{digits_of}
 use Rattle.decimal_unsigned.proofs.FirstLast.{Extent, extent, ordered, top_lt, first_of, last_of}
 use Rattle.decimal_unsigned.proofs.Exponents.{append_digits}
 use Rattle.decimal_unsigned.proofs.ReadingGrammar.{read_grammar, result_limit}

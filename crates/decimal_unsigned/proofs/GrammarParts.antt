@@ -1,5 +1,5 @@
 -- The parts of a text are those of the grammar.
-use Rattle.decimal_unsigned.proofs.Common.{◌≡◌, ℕ, suc, ◌+◌, ◌<◌, Bool, true, false, cond, ◌||◌, ◌⊎◌, inl, inr, List, [], ◌∷◌, ◌++◌, length, take, drop, refl, sym, ◌∙◌, ap, subst, arith, nat_lt, ◌==◌, append-nil, Option, Some, None, ℤ, pos, nat_tests, is_ascii_digit, digit_value, prefix_len, all_ascii_digits, AllDigits, digits_value, Literal, ◌&&◌, option_map, take-append-drop, Grammar}
+use Rattle.decimal_unsigned.proofs.Common.{common_steps, ◌≡◌, ℕ, suc, ◌+◌, ◌<◌, Bool, true, false, cond, ◌⊎◌, List, [], ◌∷◌, ◌++◌, length, take, drop, refl, sym, ◌∙◌, ap, subst, arith, nat_lt, ◌==◌, append-nil, Option, Some, None, ℤ, pos, nat_tests, is_ascii_digit, digit_value, prefix_len, AllDigits, digits_value, Literal, ◌&&◌, option_map, take-append-drop, Grammar}
 use Rattle.std.proofs.Common.{append_assoc, eqb-true}
 use Rattle.std.specs.Prelude.{neg_ℤ}
 use Rattle.std.specs.Str.Parse.{IsNumeral}
@@ -13,30 +13,20 @@ use Rattle.std.proofs.lemmas.Str.Parse.{digit_from_value}
 -- a run of digits that something else follows is the leading one
 pub leading_run : (a rest : List ℕ) → AllDigits 10 a → prefix_len is_ascii_digit rest ≡ 0
     → leading_digits (a ++ rest) ≡ a
-leading_run a rest h z =
-    ap (λ n. take n (a ++ rest))
-    (let e : prefix_len is_ascii_digit (a ++ rest) ≡ length a = omega (arith, prefix_len-run a rest h) in e)
-    ∙ take-append_seam a rest
+leading_run a rest h z = grind (arith, common_steps, prefix_len-run)
 
 -- and that is what stands after it
 pub after_run : (a rest : List ℕ) → AllDigits 10 a → prefix_len is_ascii_digit rest ≡ 0
     → after_digits (a ++ rest) ≡ rest
-after_run a rest h z =
-    ap (λ n. drop n (a ++ rest))
-    (let e : prefix_len is_ascii_digit (a ++ rest) ≡ length a = omega (arith, prefix_len-run a rest h) in e)
-    ∙ drop-append_seam a rest
+after_run a rest h z = grind (arith, common_steps, prefix_len-run)
 
 -- the leading digits are digits
 pub leading_are_digits : (text : List ℕ) → AllDigits 10 (leading_digits text)
 leading_are_digits [] = tt
-leading_are_digits (c ∷ text) = go (leading_are_digits text) (is_ascii_digit c) refl
+leading_are_digits (c ∷ text) = one_more c text (leading_are_digits text)
   where
-    go : AllDigits 10 (leading_digits text) → (b : Bool) → is_ascii_digit c ≡ b
-        → AllDigits 10 (take (cond b (1 + prefix_len is_ascii_digit text) 0) (c ∷ text))
-    go more true e =
-        let s : 1 + prefix_len is_ascii_digit text ≡ suc (prefix_len is_ascii_digit text) = omega arith in
-        rw s (true-is_digit c e, more)
-    go more false e = tt
+    one_more : (c : ℕ) (text : List ℕ) → AllDigits 10 (leading_digits text) → AllDigits 10 (leading_digits (c ∷ text))
+    one_more c text more = grind (arith, common_steps, true-is_digit)
 
 -- the leading digits and what stands after them are the text
 pub leading-after : (text : List ℕ) → leading_digits text ++ after_digits text ≡ text

@@ -1,6 +1,6 @@
 -- How many bytes the text of a value has.
-use Rattle.decimal_unsigned.proofs.Common.{clamps, nat_tests, common_steps, ◌≡◌, ℕ, suc, ◌+◌, ◌<◌, ◌≤◌, length, ◌∙◌, ap, arith, ℤ, pos, negsuc, ◌≤ℤ◌, ◌<ℤ◌, int_gap, ints, length-append, gap_is, Unsigned, IsValue, text, by_lt_z}
-use Rattle.decimal_unsigned.proofs.TextBytes.{bytes_down, length-bytes_down, fraction_text, text_is}
+use Rattle.decimal_unsigned.proofs.Common.{clamps, nat_tests, common_steps, ◌≡◌, ℕ, suc, ◌+◌, ◌<◌, ◌≤◌, length, arith, ℤ, pos, negsuc, ◌≤ℤ◌, ◌<ℤ◌, int_gap, ints, length-append, gap_is, Unsigned, IsValue, text}
+use Rattle.decimal_unsigned.proofs.TextBytes.{length-bytes_down, fraction_text, text_is}
 
 length-fraction : (number : ℕ) (lo : ℤ) → lo <ℤ pos 0 → length (fraction_text number lo) ≡ int_gap lo (pos 0) + 1
 length-fraction number (pos k) h = absurd (omega (arith, ints))

@@ -1,7 +1,6 @@
 -- The value of the parts, by the digits that are kept.
-use Rattle.decimal_unsigned.proofs.Common.{common_steps, ◌≡◌, ℕ, ◌+◌, ◌-◌, ◌*◌, ◌^◌, ◌<◌, ◌≤◌, ◌==◌, nat_lt, Bool, true, false, cond, ◌||◌, ◌⊎◌, inl, inr, ◌++◌, length, get_or, refl, sym, ◌∙◌, ap, subst, arith, ℤ, pos, negsuc, ◌+ℤ◌, ◌-ℤ◌, ◌≤ℤ◌, ◌<ℤ◌, int_lt, Option, Some, None, Ok, Err, int_max, int_min, ints, clamps, nat_tests, length-map, length-append, digit_value, AllDigits, digits_value, AllBelowBase, digits_value_is, first, last, Unsigned, number_of, offset_is, IsStored, Literal, is_outside, limit, leaves_limits, multiplied, middle, IsNonzeroRange, mantissa}
+use Rattle.decimal_unsigned.proofs.Common.{common_steps, ◌≡◌, ℕ, ◌+◌, ◌-◌, ◌*◌, ◌^◌, ◌<◌, ◌≤◌, ◌==◌, Bool, true, false, ◌||◌, ◌⊎◌, ◌++◌, length, get_or, refl, sym, ◌∙◌, ap, subst, arith, ℤ, pos, negsuc, ◌+ℤ◌, ◌-ℤ◌, ◌≤ℤ◌, ◌<ℤ◌, int_lt, Option, Some, None, Ok, Err, int_max, int_min, ints, clamps, nat_tests, length-map, length-append, digit_value, AllDigits, digits_value, AllBelowBase, digits_value_is, first, last, Unsigned, number_of, offset_is, IsStored, Literal, limit, multiplied, middle, IsNonzeroRange, mantissa}
 use Rattle.std.specs.Prelude.{if◌then◌else◌}
-use Rattle.std.proofs.lemmas.Bool.{or_left, or_right}
 use Rattle.std.proofs.lemmas.Int.Digits.{all_below_base_from_digits}
 use Rattle.decimal_unsigned.proofs.Values.{number_of-pos, first-number_of, last-number_of, number_of_empty, stored_as}
 use Rattle.decimal_unsigned.proofs.Shifts.{Moves, moved, multiplied_is}

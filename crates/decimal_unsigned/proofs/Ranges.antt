@@ -1,8 +1,8 @@
 -- The first and the last digit of a value, and the ranges that show them.
-use Rattle.decimal_unsigned.proofs.Common.{◌≡◌, ℕ, ◌+◌, ◌-◌, ◌%◌, ◌^◌, ◌<◌, true, false, List, length, sym, ◌∙◌, subst, arith, inl, inr, ℤ, pos, negsuc, ◌-ℤ◌, ◌≤ℤ◌, ◌<ℤ◌, int_lt, int_max, int_min, mul-mod_left, ints, clamps, cases_lt, number_from_digits, offset, first, last, offset_is, no_more_zeros, IsStored, Unsigned, IsValue, IsLast, number_back}
+use Rattle.decimal_unsigned.proofs.Common.{◌≡◌, ℕ, ◌+◌, ◌-◌, ◌%◌, ◌^◌, ◌<◌, List, length, sym, ◌∙◌, subst, arith, ℤ, mul-mod_left, ints, number_from_digits, offset, first, last, offset_is, no_more_zeros, IsStored, Unsigned, IsValue, IsLast, number_back}
 use Rattle.decimal_digits.specs.Number.{IsFirst}
 use Rattle.decimal_digits.specs.Digits.{number_of, number_at}
-use Rattle.decimal_unsigned.proofs.Values.{number_of-ge, number_of-lt, number_of-none, none_of, lowest, last-number_of, last_of_none, last_in, first_of, some_of}
+use Rattle.decimal_unsigned.proofs.Values.{number_of-ge, number_of-lt, none_of, lowest, last-number_of, last_of_none, last_in, first_of, some_of}
 use Rattle.decimal_unsigned.proofs.Shown.{value_of_view}
 
 module _ {ds : List ℕ} {m hi lo : ℤ} (t : IsStored ds m hi lo) where

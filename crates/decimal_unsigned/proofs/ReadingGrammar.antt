@@ -2,7 +2,7 @@
 use Rattle.decimal_unsigned.proofs.Common.{◌≡◌, ℕ, ◌≤◌, ◌-◌, ◌==◌, Bool, true, false, cond, ◌||◌, ◌⊎◌, inl, inr, List, length, drop, refl, sym, ◌∙◌, ap, arith, ℤ, Option, Some, None, Result, Ok, Err, length-take-le, length-drop, Unsigned, Literal, parts_of, is_outside, limit, leaves_limits, middle, Grammar, mantissa}
 use Rattle.std.specs.Prelude.{IfOk, ◌↔◌}
 use Rattle.decimal_unsigned.specs.declared.error.ParseError.{ParseError}
-use Rattle.decimal_unsigned.specs.declared.error.ParseError.TheVariants.{Limit, Syntax, Memory}
+use Rattle.decimal_unsigned.specs.declared.error.ParseError.TheVariants.{Limit, Syntax}
 use Rattle.decimal_unsigned.specs.Reading.{ReadError, scaled, value_of, value_or_syntax, read, FollowsGrammar, syntax}
 use Rattle.decimal_unsigned.specs.ParseResult.{IsParseResult, ResultFollowsGrammar}
 use Rattle.decimal_unsigned.proofs.GrammarParts.{parts-complete, parts-sound}

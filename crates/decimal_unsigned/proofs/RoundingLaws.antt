@@ -1,7 +1,6 @@
 -- Laws of rounding, on values.
-use Rattle.decimal_unsigned.proofs.Common.{common_steps, ◌≡◌, ℕ, ◌+◌, ◌-◌, ◌*◌, ◌^◌, ◌<◌, ◌≤◌, true, false, refl, sym, ◌∙◌, ap, subst, arith, inl, inr, Bool, Option, Some, None, ℤ, pos, negsuc, ◌-ℤ◌, ◌≤ℤ◌, unwrap_or, int_max, int_min, ints, clamps, nat_tests, pow-add, cases_lt, offset, first, size, number_limit, unit_at, rounded_number, RoundingIncrement, MultiplesOf1, Trunc, ten_pos, Unsigned, IsValue, rounded, IsRounded, by_lt_z, none-some, RoundError, UnsignedRoundingMode, unit_pos, with_number, trunced}
-use Rattle.std.specs.Prelude.{option_and_then, if◌then◌else◌}
-use Rattle.std.proofs.lemmas.Option.{same_Some}
+use Rattle.decimal_unsigned.proofs.Common.{common_steps, ◌≡◌, ℕ, ◌-◌, ◌*◌, ◌^◌, ◌<◌, ◌≤◌, sym, subst, arith, Option, Some, None, ℤ, negsuc, ◌≤ℤ◌, int_max, ints, clamps, nat_tests, pow-add, offset, first, size, unit_at, rounded_number, RoundingIncrement, MultiplesOf1, Trunc, Unsigned, IsValue, rounded, IsRounded, RoundError, UnsignedRoundingMode, unit_pos, trunced}
+use Rattle.std.specs.Prelude.{if◌then◌else◌}
 use Rattle.decimal_digits.specs.Rounding.{DigitRoundingFails}
 use Rattle.decimal_digits.specs.declared.rounding.RoundError.TheVariants.{Limit, Memory}
 use Rattle.decimal_digits.specs.declared.rounding.UnsignedRoundingMode.TheVariants.{Expand}
@@ -9,10 +8,10 @@ use Rattle.decimal_digits.proofs.Naming.{rounded_number-named}
 use Rattle.decimal_digits.proofs.Offsets.{offset_le}
 use Rattle.decimal_digits.proofs.RoundingLaws.{rounded_number-idempotent, rounded_number-zero, rounded_number-finer, rounded_number-monotone, trunc-coarser, expand-coarser, trunc_le, le_expand}
 use Rattle.decimal_unsigned.specs.Rounded.{reaches_limit, rounded_to, RoundingFails}
-use Rattle.decimal_unsigned.specs.ValueLaws.{after_rounding, expanded, number_if_any, TruncationsCompose, ExpansionsCompose, RoundingIsMonotone}
+use Rattle.decimal_unsigned.specs.ValueLaws.{after_rounding, number_if_any, TruncationsCompose, ExpansionsCompose, RoundingIsMonotone}
 use Rattle.decimal_unsigned.proofs.ValueLaws.{below_limit}
 use Rattle.decimal_unsigned.proofs.FirstLast.{first_le}
-use Rattle.decimal_unsigned.proofs.Roundings.{rounded_to-small, rounded_to-large, trunc_makes}
+use Rattle.decimal_unsigned.proofs.Roundings.{rounded_to-large}
 
 -- ---- What a rounding answers.
 

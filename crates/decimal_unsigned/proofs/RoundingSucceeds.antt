@@ -1,5 +1,5 @@
 -- When a rounding is not refused: each multiple that a mode names is below the limit.
-use Rattle.decimal_unsigned.proofs.Common.{clamps, nat_tests, common_steps, ◌≡◌, ℕ, ◌+◌, ◌-◌, ◌*◌, ◌^◌, ◌<◌, ◌≤◌, refl, sym, ◌∙◌, ap, arith, inl, inr, Result, Ok, Err, None, ℤ, pos, negsuc, ◌+ℤ◌, ◌≤ℤ◌, ◌<ℤ◌, pow-le-pow_right, mul-le-mul_right, ints, pow-add, cases_lt, offset, weight, number_limit, unit_at, rounded_number, RoundingIncrement, MultiplesOf1, ten_pos, offset_is, Unsigned, IsValue, IsRounded, none-some, RoundError, UnsignedRoundingMode, unit_pos}
+use Rattle.decimal_unsigned.proofs.Common.{clamps, nat_tests, common_steps, ◌≡◌, ℕ, ◌+◌, ◌-◌, ◌*◌, ◌^◌, ◌<◌, ◌≤◌, refl, ◌∙◌, ap, arith, inl, inr, Result, Ok, Err, None, ℤ, pos, negsuc, ◌+ℤ◌, ◌≤ℤ◌, ◌<ℤ◌, pow-le-pow_right, mul-le-mul_right, ints, pow-add, cases_lt, offset, weight, number_limit, unit_at, rounded_number, RoundingIncrement, MultiplesOf1, ten_pos, offset_is, Unsigned, IsValue, IsRounded, none-some, RoundError, UnsignedRoundingMode, unit_pos}
 use Rattle.std.specs.Prelude.{IsErrOf, IsOk}
 use Rattle.decimal_digits.specs.declared.rounding.RoundError.TheVariants.{Limit, Memory}
 use Rattle.decimal_digits.specs.declared.rounding.RoundingIncrement.TheVariants.{MultiplesOf2, MultiplesOf5, MultiplesOf25}

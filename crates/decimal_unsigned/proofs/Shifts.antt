@@ -1,5 +1,5 @@
 -- A value times a power of ten.
-use Rattle.decimal_unsigned.proofs.Common.{nat_tests, common_steps, ◌≡◌, ℕ, suc, ◌+◌, ◌-◌, ◌*◌, ◌/◌, ◌^◌, ◌<◌, ◌≤◌, true, false, ◌||◌, List, length, refl, sym, ◌∙◌, ap, arith, inl, inr, ◌⊎◌, Some, None, ℤ, pos, negsuc, ◌+ℤ◌, ◌≤ℤ◌, ◌<ℤ◌, int_lt, int_max, int_min, pow-add, ints, clamps, cases_lt, number_from_digits, offset, Unsigned, IsStored, leaves_limits, multiplied, offset_is}
+use Rattle.decimal_unsigned.proofs.Common.{nat_tests, common_steps, ◌≡◌, ℕ, suc, ◌+◌, ◌-◌, ◌*◌, ◌/◌, ◌^◌, ◌<◌, ◌≤◌, false, List, length, sym, ◌∙◌, ap, arith, inl, inr, ◌⊎◌, Some, None, ℤ, pos, negsuc, ◌+ℤ◌, ◌≤ℤ◌, ◌<ℤ◌, int_max, int_min, pow-add, ints, clamps, cases_lt, number_from_digits, offset, Unsigned, IsStored, leaves_limits, multiplied, offset_is}
 use Rattle.std.proofs.Math.Nat.{zero-div}
 use Rattle.decimal_digits.specs.Digits.{number_of, number_at}
 use Rattle.decimal_unsigned.specs.Edits.{multiplied_pow10}

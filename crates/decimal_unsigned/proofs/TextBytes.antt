@@ -1,5 +1,5 @@
 -- The text of a value as the bytes of its integer digits, and a dot with those of its fraction digits.
-use Rattle.decimal_unsigned.proofs.Common.{clamps, nat_tests, common_steps, elements, ◌≡◌, ℕ, zero, suc, ◌+◌, ◌/◌, ◌<◌, ◌≤◌, List, [], ◌∷◌, ◌++◌, length, get_or, take, drop, subst, refl, sym, ◌∙◌, ap, arith, ℤ, pos, negsuc, ◌-ℤ◌, ◌≤ℤ◌, int_gap, ints, get_or-take, get_or-drop, length-take-le, length-drop, weight, digit, Unsigned, text, mod-lt}
+use Rattle.decimal_unsigned.proofs.Common.{clamps, nat_tests, common_steps, elements, ◌≡◌, ℕ, zero, suc, ◌+◌, ◌<◌, ◌≤◌, List, [], ◌∷◌, ◌++◌, length, get_or, take, drop, subst, refl, sym, ◌∙◌, ap, arith, ℤ, pos, negsuc, ◌-ℤ◌, ◌≤ℤ◌, int_gap, ints, get_or-take, get_or-drop, length-take-le, length-drop, digit, Unsigned, text}
 use Rattle.std.specs.Prelude.{EachIndex, slice_index}
 use Rattle.std.specs.Str.{IsAscii}
 use Rattle.std.proofs.lemmas.Str.{IsAscii-append}

@@ -1,5 +1,5 @@
 -- A number has one list of digits.
-use Rattle.decimal_unsigned.proofs.Common.{◌≡◌, ℕ, ◌<◌, List, length, refl, sym, ◌∙◌, ap, subst, arith, inl, inr, ℤ, pos, negsuc, ◌+ℤ◌, ◌-ℤ◌, ◌≤ℤ◌, ints, cases_lt, Bool, true, false, IsValue, text, read, nat_tests, Unsigned, digit, first, last, number_of, IsStored, offset_is}
+use Rattle.decimal_unsigned.proofs.Common.{◌≡◌, ℕ, ◌<◌, List, length, sym, ◌∙◌, ap, subst, arith, inl, inr, ℤ, pos, negsuc, ◌+ℤ◌, ◌-ℤ◌, ◌≤ℤ◌, ints, cases_lt, Bool, true, false, IsValue, text, read, nat_tests, Unsigned, digit, first, last, number_of, IsStored, offset_is}
 use Rattle.std.proofs.lemmas.List.{ext_get_or}
 use Rattle.std.proofs.Common.{IsTrue, ◌↔◌}
 use Rattle.decimal_unsigned.proofs.ReadBack.{read_text}

@@ -1,5 +1,5 @@
 -- Laws of trims, and of the parts of a value at a position.
-use Rattle.decimal_unsigned.proofs.Common.{nat_tests, common_steps, ◌≡◌, ℕ, ◌+◌, ◌-◌, ◌*◌, ◌%◌, ◌^◌, ◌<◌, ◌≤◌, ◌⊎◌, length, refl, sym, ◌∙◌, ap, subst, arith, inl, inr, None, ℤ, pos, ◌≤ℤ◌, ◌<ℤ◌, unwrap_or, int_max, int_min, pow-le-pow_right, ints, clamps, cases_lt, offset, weight, first, last, number_limit, unit_at, RoundingIncrement, MultiplesOf1, Trunc, no_more_zeros, offset_is, gap_is, Unsigned, IsValue, with_max_position, rounded, text, by_lt_z, none-some, with_number, trunced, SplitsAt}
+use Rattle.decimal_unsigned.proofs.Common.{nat_tests, common_steps, ◌≡◌, ℕ, ◌+◌, ◌-◌, ◌*◌, ◌%◌, ◌^◌, ◌<◌, ◌≤◌, length, sym, ◌∙◌, ap, subst, arith, inl, inr, None, ℤ, pos, ◌≤ℤ◌, unwrap_or, int_max, int_min, pow-le-pow_right, ints, clamps, cases_lt, offset, weight, first, last, number_limit, unit_at, RoundingIncrement, MultiplesOf1, Trunc, no_more_zeros, offset_is, gap_is, Unsigned, IsValue, with_max_position, rounded, text, none-some, with_number, trunced, SplitsAt}
 use Rattle.decimal_digits.specs.Rounding.{rounded_number}
 use Rattle.decimal_digits.proofs.Ends.{last_zero}
 use Rattle.decimal_unsigned.specs.ValueLaws.{trimmed, TrimmedIsNormalForm, IsShortest}

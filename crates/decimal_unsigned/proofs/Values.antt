@@ -1,7 +1,7 @@
 -- What the digits of a value say of its number.
-use Rattle.decimal_unsigned.proofs.Common.{clamps, common_steps, ◌≡◌, ℕ, ◌+◌, ◌-◌, ◌*◌, ◌/◌, ◌%◌, ◌^◌, ◌<◌, ◌≤◌, List, [], length, sym, ◌∙◌, ap, arith, rules, inl, inr, w16, to_z, of_z, ℤ, pos, negsuc, ◌+ℤ◌, ◌-ℤ◌, ◌≤ℤ◌, ◌<ℤ◌, false, mul-le-mul_right, mul-lt-mul_of_pos_right, pow-add, ints, nat_tests, to_z-of_z, int_gap, number_lt, number_from_digits, AllBelowBase, offset, digit, first, last, size, IsStored, ten_pos, offset_is, gap_is, cases_lt, magnitude_at, number_back, first_is, first_zero}
+use Rattle.decimal_unsigned.proofs.Common.{clamps, common_steps, ◌≡◌, ℕ, ◌+◌, ◌-◌, ◌*◌, ◌^◌, ◌<◌, ◌≤◌, List, [], length, ◌∙◌, ap, arith, w16, to_z, of_z, ℤ, pos, negsuc, ◌+ℤ◌, ◌-ℤ◌, ◌≤ℤ◌, ◌<ℤ◌, mul-le-mul_right, mul-lt-mul_of_pos_right, pow-add, ints, nat_tests, to_z-of_z, int_gap, number_lt, number_from_digits, AllBelowBase, offset, digit, first, last, size, IsStored, ten_pos, offset_is, gap_is, number_back, first_is, first_zero}
 use Rattle.std.proofs.Common.{w32}
-use Rattle.std.specs.Prelude.{slice_index, nat_eq}
+use Rattle.std.specs.Prelude.{slice_index}
 use lib.Signed.{mag}
 use Rattle.decimal_digits.specs.Digits.{number_of, number_at}
 use Rattle.decimal_digits.proofs.DigitLists.{number_front, number-digit}

@@ -1,5 +1,5 @@
 -- What has been written of a text.
-use Rattle.decimal_unsigned.proofs.Common.{elements, ◌≡◌, ℕ, suc, ◌+◌, ◌<◌, ◌≤◌, List, [], ◌∷◌, ◌++◌, length, get_or, take, drop, Option, refl, sym, ◌∙◌, ap, subst, arith, take_all, ℤ, pos, ◌-ℤ◌, length-take-le, length-drop, digit, take-append-drop, Appends}
+use Rattle.decimal_unsigned.proofs.Common.{elements, ◌≡◌, ℕ, suc, ◌+◌, ◌<◌, ◌≤◌, List, [], ◌∷◌, ◌++◌, length, get_or, take, drop, Option, refl, sym, ◌∙◌, ap, subst, arith, take_all, ℤ, pos, ◌-ℤ◌, digit, take-append-drop, Appends}
 use Rattle.std.proofs.lemmas.List.{drop_more}
 use Rattle.decimal_digits.specs.AppendsPrefix.{AppendsPrefix}
 use Rattle.decimal_digits.proofs.Sinks.{appends_both, prefix_more, then_prefix}

@@ -1,4 +1,4 @@
-use Rattle.decimal_unsigned.proofs.Common.{◌≡◌, length, w16, to_z, of_z, sym, ◌∙◌, ap, arith, inl, inr, nat_cmp}
+use Rattle.decimal_unsigned.proofs.Common.{w16, to_z, of_z, sym, ◌∙◌, ap, arith, inl, inr, nat_cmp}
 use Rattle.decimal_unsigned.proofs.Values.{magnitude_kept}
 use Rattle.decimal_unsigned.proofs.Comparing.{none_order, magnitudes_order, numbers_order, ordered}
 use Rattle.decimal_unsigned.proofs.decimal.UnsignedOver.compare.Goals as goal

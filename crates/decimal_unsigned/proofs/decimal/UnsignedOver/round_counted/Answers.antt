@@ -1,7 +1,6 @@
-use Rattle.decimal_unsigned.proofs.Common.{◌≡◌, ℕ, List, length, w16, to_z, of_z, sym, ◌∙◌, ap, arith, rules, Err, Some, pos, ◌-ℤ◌, int_max, ints, to_z-of_z, int_min, recursion_from_All, number_of, unit_at, rounded_number, IsStored, Unsigned, rounded}
+use Rattle.decimal_unsigned.proofs.Common.{◌≡◌, ℕ, List, w16, to_z, of_z, sym, ◌∙◌, ap, arith, rules, Err, Some, pos, ◌-ℤ◌, int_max, ints, to_z-of_z, int_min, recursion_from_All, number_of, IsStored, Unsigned, rounded}
 use Rattle.std.proofs.lemmas.Result.{err_from_is_err_and}
 use Rattle.decimal_digits.specs.declared.rounding.RoundError.TheVariants.{Limit}
-use Rattle.decimal_digits.specs.RoundedDigits.{Represents}
 use Rattle.decimal_unsigned.proofs.Values.{size-number_of, narrow_kept, magnitude_kept, hi_kept}
 use Rattle.decimal_unsigned.proofs.Roundings.{stored_left, rounded_left, number_of-stored, length-stored}
 use Rattle.decimal_unsigned.proofs.Shown.{value_of_view}

@@ -1,5 +1,5 @@
 use Rattle.decimal_unsigned.proofs.Common.{ap, arith, ints, first, Unsigned}
-use Rattle.decimal_unsigned.proofs.Values.{first_of, upper_stored}
+use Rattle.decimal_unsigned.proofs.Values.{upper_stored}
 use Rattle.decimal_unsigned.proofs.decimal.UnsignedOver.set_highest.Goals as goal
 
 pub invariant_of-self : goal.invariant_of-self

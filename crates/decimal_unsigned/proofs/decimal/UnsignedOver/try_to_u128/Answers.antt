@@ -1,4 +1,4 @@
-use Rattle.decimal_unsigned.proofs.Common.{◌≡◌, ◌^◌, ◌∙◌, ap, arith, ints, leading, pos, ◌+ℤ◌}
+use Rattle.decimal_unsigned.proofs.Common.{◌≡◌, ◌^◌, ◌∙◌, ap, arith, ints, leading}
 use Rattle.decimal_unsigned.specs.ToInteger.{in_range}
 use Rattle.decimal_unsigned.proofs.Values.{magnitude_kept}
 use Rattle.decimal_unsigned.proofs.WholeNumbers.{part_result, whole_result, few_digits_result, many_digits_result}

@@ -1,6 +1,5 @@
-use Rattle.decimal_unsigned.proofs.Common.{arith, refl, ints, view, IsNonzeroRange}
-use Rattle.decimal_unsigned.specs.ScannedDigits.{digits_of}
-use Rattle.decimal_unsigned.proofs.Plans.{long_whole, long_fraction, makes_zero, makes_plain, is_plan_at, length_digits}
+use Rattle.decimal_unsigned.proofs.Common.{arith, refl, ints, view}
+use Rattle.decimal_unsigned.proofs.Plans.{long_whole, long_fraction, makes_zero, makes_plain, is_plan_at}
 use Rattle.decimal_unsigned.proofs.decimal.parse.plan.planned.Goals as goal
 
 pub returns-then-whole-gt32768-clause-none : goal.returns-then-whole-gt32768-clause-none
