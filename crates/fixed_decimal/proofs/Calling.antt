@@ -1,13 +1,13 @@
 -- The lemmas for callers: what a proof outside these libraries cites of them, each with its use.
-use Rattle.std.proofs.Common.{◌≡◌, ℕ, zero, suc, ◌+◌, ◌-◌, ◌*◌, ◌/◌, ◌%◌, ◌^◌, ◌<◌, ◌≤◌, Bool, true, false, inl, inr, List, [], ◌∷◌, ◌++◌, length, refl, sym, ◌∙◌, ap, arith, rules}
-use Rattle.std.specs.Prelude.{Ok, Err, Some, None, if◌then◌else◌, ◌↔◌, nat_lt, unsigned_abs, ℤ, pos, negsuc, ◌+ℤ◌, ◌-ℤ◌, ◌≤ℤ◌}
+use Rattle.std.proofs.Common.{◌≡◌, ℕ, zero, suc, ◌+◌, ◌-◌, ◌*◌, ◌/◌, ◌%◌, ◌^◌, ◌<◌, ◌≤◌, false, inl, inr, List, [], ◌∷◌, ◌++◌, length, refl, sym, ◌∙◌, ap, arith, rules}
+use Rattle.std.specs.Prelude.{Ok, Err, Some, None, ◌↔◌, nat_lt, unsigned_abs, ℤ, pos, negsuc, ◌+ℤ◌, ◌-ℤ◌, ◌≤ℤ◌}
 use Rattle.std.specs.Int.{int_gap, abs_diff}
 use Rattle.std.specs.Str.Parse.{AllDigits}
 use Rattle.std.proofs.Math.Nat.{mul_assoc, mul-le-mul_right, mul-lt-mul_of_pos_right, mul-div_cancel, mul-mod_left, div-add-mod', mod-lt, mod-eq_of_lt, pow-le-pow_right}
 use Rattle.std.proofs.Math.Arith.{mod-mul}
 use Rattle.std.proofs.lemmas.Int.{ints, clamps}
 use Rattle.std.proofs.lemmas.Nat.{le-div, div_below}
-use Rattle.std.proofs.lemmas.Bool.{cases_lt, cases_eq}
+use Rattle.std.proofs.lemmas.Bool.{cases_lt}
 use Rattle.std.proofs.lemmas.Bool.Decides.{nat_tests}
 use Rattle.decimal_digits.specs.Number.{offset, weight, digit, magnitude_at, first, last}
 use Rattle.decimal_digits.specs.Rounding.{IsNearest}
@@ -15,14 +15,12 @@ use Rattle.decimal_digits.proofs.Ends.{shift_up}
 use Rattle.decimal_unsigned.specs.Grammar.{Literal, decimal, integer}
 use Rattle.decimal_unsigned.specs.Reading.{mantissa, scaled, value_of, value_or_syntax, read}
 use Rattle.decimal_unsigned.specs.ValueLaws.{trimmed}
-use Rattle.decimal_unsigned.specs.Rounded.{reaches_limit, with_number, rounded_to}
+use Rattle.decimal_unsigned.specs.Rounded.{with_number, rounded_to}
 use Rattle.decimal_unsigned.specs.Text.{dot_before, text_down, text}
 use Rattle.decimal_unsigned.specs.ToInteger.{as_integer}
 use Rattle.decimal_unsigned.specs.Unsigned.{Unsigned, IsValue}
 use Rattle.decimal_unsigned.specs.declared.error.IntegerError.TheVariants.{NotWhole, OutOfRange}
-use Rattle.fixed_decimal.specs.Decimal.{Decimal, signed, signed_number, with_absolute}
-use Rattle.fixed_decimal.specs.declared.variations.Sign.{Sign}
-use Rattle.fixed_decimal.specs.declared.variations.Sign.TheVariants as sign
+use Rattle.fixed_decimal.specs.Decimal.{Decimal, signed_number, with_absolute}
 use Rattle.decimal_unsigned.proofs.ConcatenationLaws.{extent_of}
 use Rattle.decimal_unsigned.proofs.FirstLast.{first_of, last_of}
 use Rattle.decimal_unsigned.proofs.GrammarParts.{parts-complete}

@@ -1,5 +1,5 @@
 -- The text of a compact value: its exponent's digits, and that it reads as the value.
-use Rattle.std.proofs.Common.{◌≡◌, ℕ, zero, suc, ◌+◌, ◌/◌, ◌%◌, ◌^◌, ◌<◌, ◌≤◌, ◌==◌, nat_lt, Bool, IsTrue, ◌↔◌, true, false, append-nil, List, [], ◌∷◌, ◌++◌, get_or, refl, sym, ◌∙◌, ap, arith}
+use Rattle.std.proofs.Common.{◌≡◌, ℕ, zero, suc, ◌+◌, ◌/◌, ◌%◌, ◌^◌, ◌<◌, ◌≤◌, Bool, true, false, append-nil, List, [], ◌∷◌, ◌++◌, get_or, refl, sym, ◌∙◌, ap, arith}
 use Rattle.std.specs.Prelude.{Option, Some, None, Ok, Err}
 use Rattle.std.specs.Fmt.{decimal}
 use Rattle.std.specs.List.{list_any}
@@ -11,7 +11,6 @@ use Rattle.std.proofs.lemmas.Fmt.{IsAscii-decimal, decimal_digit, decimal_step, 
 use Rattle.std.proofs.lemmas.List.Folds.{list_any-append}
 use Rattle.std.proofs.lemmas.Str.{IsUtf8-nil, IsUtf8-from_ascii, IsAscii-append}
 use Rattle.std.proofs.lemmas.Str.Parse.{digit_from_value}
-use Rattle.decimal_unsigned.specs.Unsigned.{IsValue}
 use Rattle.decimal_unsigned.specs.Reading.{syntax, is_letter}
 use Rattle.decimal_unsigned.proofs.GrammarParts.{numeral-complete}
 use Rattle.fixed_decimal.specs.DecimalText.{decimal_text, read_decimal, and_then}
@@ -19,7 +18,6 @@ use Rattle.fixed_decimal.specs.Letters.{is_c}
 use Rattle.fixed_decimal.specs.Split.{split_once}
 use Rattle.fixed_decimal.specs.Compact.{split_at_c, IsSplitAtC, ReadsCompact, Compact, exponent_text, compact_text, exponent_number_of, read_exponent, read_fields, read_compact, with_c}
 use Rattle.fixed_decimal.proofs.DecimalBytes.{PassesNone, decimal_text-lacks, letter-none, c-none}
-use Rattle.fixed_decimal.proofs.DecimalTexts.{read_decimal_text}
 use Rattle.fixed_decimal.proofs.Splitting.{split_none, split_at}
 use Rattle.fixed_decimal.proofs.Writing.{first_fails, second_fails}
 

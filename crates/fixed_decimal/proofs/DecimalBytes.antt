@@ -1,6 +1,6 @@
 -- The bytes of a decimal's text: which there are, and how many.
-use Rattle.std.proofs.Common.{◌≡◌, ℕ, zero, suc, ◌+◌, ◌/◌, ◌<◌, ◌≤◌, ◌||◌, Bool, false, [], ◌∷◌, ◌++◌, length, refl, ◌∙◌, ap, arith}
-use Rattle.std.specs.Prelude.{ℤ, pos, negsuc, ◌-ℤ◌, ◌≤ℤ◌}
+use Rattle.std.proofs.Common.{◌≡◌, ℕ, zero, suc, ◌+◌, ◌/◌, ◌<◌, ◌≤◌, Bool, false, [], ◌∷◌, ◌++◌, length, refl, ◌∙◌, ap, arith}
+use Rattle.std.specs.Prelude.{ℤ, pos, ◌-ℤ◌}
 use Rattle.std.specs.List.{list_any}
 use Rattle.std.specs.Int.{int_gap}
 use Rattle.std.proofs.lemmas.Int.{ints}
@@ -73,3 +73,6 @@ length-integer_most v h e =
       sign_text_short v.sign,
       length-text_whole v.absolute h.hi_in.0 e,
     )
+
+-- how long the text of an integer is
+pub ruleset integer_lengths = (length-integer_most)

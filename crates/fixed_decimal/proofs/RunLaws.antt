@@ -1,5 +1,5 @@
 -- Laws of roundings in a row, and of runs.
-use Rattle.std.proofs.Common.{◌≡◌, ℕ, ◌+◌, ◌<◌, List, [], ◌∷◌, map, true, false, refl, sym, ◌∙◌, ap, arith}
+use Rattle.std.proofs.Common.{◌≡◌, ℕ, ◌+◌, ◌<◌, List, [], ◌∷◌, map, refl, sym, ◌∙◌, ap, arith}
 use Rattle.std.specs.Prelude.{Option, Some, None, option_map, option_and_then, Err, if◌then◌else◌, ℤ}
 use Rattle.std.specs.Option.{unwrap_or}
 use Rattle.std.specs.List.{All, fold}

@@ -168,6 +168,7 @@ impl Writeable for FixedInteger {
     }
 
     /// Returns the exact length of the text, in bytes: 3 for `-05`, and at most 32,769.
+    #[tactic(auto, using(crate::proofs::DecimalBytes::integer_lengths))]
     fn writeable_length_hint(&self) -> usize
         ensures exact { result ≡ length (decimal_text self.now) }
         ensures at_most { result ≤ 32769 }
