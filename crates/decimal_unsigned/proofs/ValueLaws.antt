@@ -87,7 +87,7 @@ module _ (v : Unsigned) (p : ℤ) (valid : IsValue v) where
 
   -- the truncated value and the part below the position make the value
   pub splits : SplitsAt v p (trunced v p) (with_max_position v p)
-  parts = grind (
+  splits = grind (
     arith,
     ints,
     clamps,
