@@ -40,16 +40,16 @@ pub returns-in-Ok-try_to_u64-clause-ok : goal.returns-in-Ok-try_to_u64-clause-ok
 returns-in-Ok-try_to_u64-clause-ok c =
     all_cents c.args.amount.now.number c.multiply_pow10.new.self.number
     (ap (λ (v : Unsigned). v.number) c.in-Ok-multiply_pow10.ensures.moved
-    ∙ ap (λ (v : Unsigned). v.number * 10 ^ 2) c.in-Ok.ensures.value)
+    ∙ ap (λ (v : Unsigned). v.number * 10 ^ 2) c.in-Ok.ensures.cases)
     c.in-Ok-try_to_u64.total c.in-Ok-try_to_u64.ensures.value
 
 pub returns-in-Err-NotWhole-clause-err : goal.returns-in-Err-NotWhole-clause-err
 returns-in-Err-NotWhole-clause-err c = λ count some. (
   some,
-  subst (λ v. StaysInLimits v (pos 2)) c.in-Ok.ensures.value (c.in-Ok-multiply_pow10.ensures.fits.0 (search rules)),
+  subst (λ v. StaysInLimits v (pos 2)) c.in-Ok.ensures.cases (c.in-Ok-multiply_pow10.ensures.fits.0 (search rules)),
   part_of_a_cent c.args.amount.now.number c.multiply_pow10.new.self.number
       (ap (λ (v : Unsigned). v.number) c.in-Ok-multiply_pow10.ensures.moved
-      ∙ ap (λ (v : Unsigned). v.number * 10 ^ 2) c.in-Ok.ensures.value)
+      ∙ ap (λ (v : Unsigned). v.number * 10 ^ 2) c.in-Ok.ensures.cases)
       (rw c.in-Err-NotWhole.field-0-is at c.in-Err-NotWhole.ensures.value),
 )
 
@@ -59,6 +59,6 @@ returns-clause-err c = λ count some.
     let m = c.multiply_pow10.new.self.number in
     let e =
     ap (λ (v : Unsigned). v.number) c.in-Ok-multiply_pow10.ensures.moved
-    ∙ ap (λ (v : Unsigned). v.number * 10 ^ 2) c.in-Ok.ensures.value in
+    ∙ ap (λ (v : Unsigned). v.number * 10 ^ 2) c.in-Ok.ensures.cases in
     let is = rw c.in-Err-OutOfRange.field-0-is at c.in-Err-OutOfRange.ensures.value in
     (some, inr (whole_cents n m e is, too_great n m e is))
