@@ -135,13 +135,22 @@ impl TryFrom<Decimal> for FixedInteger {
     }
 }
 
+impl FixedInteger {
+    /// Returns the integer as a decimal, unchanged.
+    fn into_decimal(self) -> Decimal
+        ensures { result ≡ self }
+    {
+        let FixedInteger(decimal) = self;
+        decimal
+    }
+}
+
 impl From<FixedInteger> for Decimal {
     ghost from_gives = { λ integer decimal. (decimal ≡ integer) × (integer.absolute.lo ≡ pos 0) };
 
     /// Returns the integer as a decimal, unchanged: `-05` prints `-05`.
     fn from(integer: FixedInteger) -> Decimal {
-        let FixedInteger(decimal) = integer;
-        decimal
+        integer.into_decimal()
     }
 }
 
