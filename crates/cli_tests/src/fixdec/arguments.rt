@@ -56,8 +56,8 @@ fn takes_the_words_after_the_name(rt: HostRuntime) -> Result<(), Fail> {
 
 #[test]
 fn reports_unreadable_arguments(rt: HostRuntime) -> Result<(), Fail> {
-    let refused = Err(io::Error::from(ErrorKind::OutOfMemory));
-    assert_shows(&rt, output_of(rt.alloc(), refused)?, "3 memory\n");
+    let unreadable = Err(io::Error::from(ErrorKind::OutOfMemory));
+    assert_shows(&rt, output_of(rt.alloc(), unreadable)?, "3 memory\n");
     let not_text = Err(io::Error::from(ErrorKind::InvalidData));
     assert_shows(&rt, output_of(rt.alloc(), not_text)?, USAGE);
     Ok(())

@@ -126,7 +126,7 @@ fn rejected(rt: HostRuntime) -> Result<(), Fail> {
 }
 
 #[test]
-fn refuses_overflow(rt: HostRuntime) -> Result<(), Fail> {
+fn rejects_overflow(rt: HostRuntime) -> Result<(), Fail> {
     let alloc = rt.alloc();
     for (line, answer) in OVERFLOWS {
         assert_shows(&rt, shown(alloc, line)?, answer);
@@ -161,7 +161,7 @@ fn shown_of_two(alloc: Global, start: &str, call: &str) -> Result<Vec<u8>, Fail>
 }
 
 #[test]
-fn refuses_blanks(rt: HostRuntime) -> Result<(), Fail> {
+fn rejects_blanks(rt: HostRuntime) -> Result<(), Fail> {
     let alloc = rt.alloc();
     for (start, call, answer) in BLANKS {
         assert_shows(&rt, shown_of_two(alloc, start, call)?, answer);
@@ -182,7 +182,7 @@ fn shown_of_zeros(alloc: Global, count: usize) -> Result<Vec<u8>, Fail> {
 }
 
 #[test]
-fn refuses_a_long_start(rt: HostRuntime) -> Result<(), Fail> {
+fn rejects_a_long_start(rt: HostRuntime) -> Result<(), Fail> {
     assert_shows(&rt, shown_of_zeros(rt.alloc(), 32_769)?, "1 start: limit\n");
     Ok(())
 }

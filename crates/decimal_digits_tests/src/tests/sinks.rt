@@ -72,7 +72,7 @@ fn takes_bytes(rt: HostRuntime) {
 }
 
 /// Whether a sink has failed, and rejects a byte, bytes and no bytes.
-fn refuses_all<W: Sink>(sink: &mut W) -> bool {
+fn rejects_all<W: Sink>(sink: &mut W) -> bool {
     sink.failed()
         && sink.put_byte(b'0').is_err()
         && sink.put_bytes(b"0").is_err()
@@ -83,7 +83,7 @@ fn refuses_all<W: Sink>(sink: &mut W) -> bool {
 fn fails_at(room: usize, chunking: Chunking, failure: WriteFailure) -> bool {
     let mut out = Out::new(FailingWriter::new(TEXT, room, failure));
     let fails = put_all(&mut out, chunking).is_err()
-        && refuses_all(&mut out)
+        && rejects_all(&mut out)
         && out.flush().is_err();
     let writer = out.into_writer();
     fails
@@ -113,7 +113,7 @@ fn fails_with_the_writer(rt: HostRuntime) {
 fn fails_with_flush() -> bool {
     let mut out = Out::new(FailingWriter::new(TEXT, 8, WriteFailure::Flush));
     let is_taken = out.put_bytes(b"").is_ok() && out.put_bytes(TEXT).is_ok();
-    let fails = out.flush().is_err() && refuses_all(&mut out) && out.flush().is_err();
+    let fails = out.flush().is_err() && rejects_all(&mut out) && out.flush().is_err();
     let writer = out.into_writer();
     is_taken && fails && writer.has_all() && writer.writes() == 8 && writer.flushes() == 1
 }

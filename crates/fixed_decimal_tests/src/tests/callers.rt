@@ -115,7 +115,7 @@ fn parts(alloc: Global, amount: &str, count: u32) -> Result<TextBuf, Fail> {
 }
 
 /// Whether splitting an amount fails with this error.
-fn refuses(alloc: Global, amount: &str, count: u32, error: BillError) -> Result<bool, Fail> {
+fn fails_with(alloc: Global, amount: &str, count: u32, error: BillError) -> Result<bool, Fail> {
     let amount = UnsignedDecimal::try_from_str(alloc, amount)?;
     match split_bill(alloc, &amount, count) {
         Ok(_) => Ok(false),
@@ -171,7 +171,7 @@ fn splits_bills(rt: HostRuntime) -> Result<(), Fail> {
     }
     for (amount, count, error) in REFUSED_BILLS {
         assert!(rt;
-            refuses(alloc, amount, *count, *error)?,
+            fails_with(alloc, amount, *count, *error)?,
             "{amount} in {count}"
         );
     }

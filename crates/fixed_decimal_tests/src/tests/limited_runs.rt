@@ -176,7 +176,7 @@ fn wants_over_each(alloc: Global, row: Run) -> bool {
 }
 
 #[test]
-fn refuses_in_turn(rt: HostRuntime) {
+fn fails_in_turn(rt: HostRuntime) {
     for row in RUNS {
         assert!(rt; wants_over_each(rt.alloc(), *row), "{}", row.0);
     }

@@ -39,13 +39,13 @@ fn keeps_prefix<T: Value>(value: &T, room: usize) -> bool {
 }
 
 /// Whether a writer with room for `room` bytes takes a prefix of the text, and is not called after it fails.
-fn fills<T: Value>(value: &T, room: usize, refusal: WriteFailure) -> bool {
-    let mut sink = Out::new(FailingWriter::new(TEXT.as_bytes(), room, refusal));
+fn fills<T: Value>(value: &T, room: usize, failure: WriteFailure) -> bool {
+    let mut sink = Out::new(FailingWriter::new(TEXT.as_bytes(), room, failure));
     let first = value.write_to(&mut sink).is_err();
     let second = value.write_to(&mut sink).is_err();
-    let refused = first && second && sink.failed();
+    let rejected = first && second && sink.failed();
     let writer = sink.into_writer();
-    refused && writer.has_taken(room) && writer.failures() == 1
+    rejected && writer.has_taken(room) && writer.failures() == 1
 }
 
 /// Whether each sink and each writer with room for `room` bytes takes a prefix of the text.

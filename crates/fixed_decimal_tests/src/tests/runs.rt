@@ -25,9 +25,9 @@ fn fails_with_writer<D: DigitStore>(
     alloc: Global,
     (start, calls, text): Run,
     room: usize,
-    refusal: WriteFailure,
+    failure: WriteFailure,
 ) -> bool {
-    let mut sink = Out::new(FailingWriter::new(text.as_bytes(), room, refusal));
+    let mut sink = Out::new(FailingWriter::new(text.as_bytes(), room, failure));
     let answer = run_over::<D, Out<FailingWriter<'_>>>(alloc, start.as_bytes(), calls, &mut sink);
     let failed = sink.failed();
     let writer = sink.into_writer();
