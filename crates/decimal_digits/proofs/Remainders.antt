@@ -74,8 +74,8 @@ steps_up : (h s q hundreds unit : ℕ) (up : Bool) → 2 * h * s ≡ 100
 steps_up h s q hundreds unit true half = omega (arith, ap (λ v. v * (hundreds * unit)) half)
 steps_up h s q hundreds unit false half = omega (arith, ap (λ v. v * (hundreds * unit)) half)
 
--- so the last two digits determine the quotient's parity, which with the class of the remainder decides whether the mode
--- rounds up
+-- so the last two digits determine the quotient's parity, which with the class of the remainder decides
+-- whether the mode rounds up
 pub two_split : (mode : UnsignedRoundingMode) (increment : RoundingIncrement) (remainder left : Remainder)
     (s two rest result : ℕ)
     (odd up : Bool) → s ≡ step_of increment

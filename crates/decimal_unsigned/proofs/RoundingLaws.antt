@@ -159,8 +159,8 @@ module _ (mode : UnsignedRoundingMode) (u : ℕ) (pos_u : 0 < u) where
   pub new_number-zero : new_number mode u 0 ≡ 0
   new_number-zero = let z = rounded_number-zero mode u pos_u in grind (arith, nat_tests)
 
-  -- a greater number leaves no less: one below the lesser number's multiple is rounded to no more than that one, and so
-  -- is not refused where that is not
+  -- a greater number results in no less: one below the lesser number's multiple is rounded to at most that multiple,
+  -- and so succeeds if the rounding to that multiple does
   pub new_number-monotone : (n m : ℕ) → n ≤ m → new_number mode u n ≤ new_number mode u m
   new_number-monotone n m l =
       let up = rounded_number-monotone mode u n m pos_u l in

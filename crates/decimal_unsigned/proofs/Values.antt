@@ -8,7 +8,7 @@ use Rattle.decimal_digits.proofs.DigitLists.{number_front, number-digit}
 use Rattle.decimal_digits.proofs.Offsets.{magnitude_at-offset}
 use Rattle.decimal_digits.proofs.Ends.{last_is, last_zero, digit_above, digit_below, shift_down}
 
--- the number of places below the last digit
+-- the offset of the last digit
 abbrev ends : List ℕ → ℤ → ℕ
 ends ds m = offset m + 1 - length ds
 

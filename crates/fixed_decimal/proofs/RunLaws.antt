@@ -81,7 +81,7 @@ module _ (mode : UnsignedRoundingMode) where
   numbers_after [] n = Some n
   numbers_after (q ∷ qs) n = option_and_then (numbers_after qs) (number_after q n)
 
-  -- calls that make these roundings come to a decimal of this number
+  -- the calls of these roundings result in a decimal of this number
   come_to : (w v : Decimal) (qs : List ℤ) (at : ℕ) (made : Option Absolute) → w.sign ≡ v.sign
       → numbers_after qs w.absolute.number ≡ number_if_any made
       → ResultHasNumber (after_calls at w (map (rounding_at mode) qs)) (with_absolute v made)
@@ -102,7 +102,7 @@ module _ (mode : UnsignedRoundingMode) where
           → ResultHasNumber (Err (limit_exceeded at)) (with_absolute v made)
       nowhere made n = grind arith
 
-  -- a rounding at q of what one at p made of n makes what one rounding at the greater position does
+  -- a rounding at p and then at q is one rounding at the greater position
   Absorbs : ℕ → Type 0
   Absorbs n =
       (p q : ℤ) → IsPosition p → IsPosition q
