@@ -1,4 +1,4 @@
--- The number of a list of decimal digits.
+-- The number that a list of decimal digits writes.
 use Rattle.std.proofs.Common.{◌≡◌, ℕ, zero, suc, ◌+◌, ◌-◌, ◌*◌, ◌/◌, ◌%◌, ◌^◌, ◌<◌, ◌≤◌, List, [], ◌∷◌, ◌++◌, length, get_or, take, drop, replicate, sym, ◌∙◌, ap, subst, arith}
 use Rattle.std.proofs.Math.Nat.{pow-zero, pow-suc, one-le-pow, mul-le-mul_right, div-one}
 use Rattle.std.proofs.lemmas.Nat.{div-mul-add, mod-mul-add}
@@ -10,7 +10,7 @@ use Rattle.std.specs.Int.Digits.{number_from_digits_after, number_from_digits, A
 pub ten_pos : (k : ℕ) → 0 < 10 ^ k
 ten_pos k = omega (arith, one-le-pow k 10 (omega arith))
 
--- a number before digits is multiplied by the base to the number of the digits
+-- a number continued by n digits is multiplied by the base to the n
 pub number_after : (base n : ℕ) (ds : List ℕ)
     → number_from_digits_after base n ds ≡ n * base ^ length ds + number_from_digits base ds
 number_after base n [] =
@@ -33,13 +33,13 @@ number_zeros base n (suc k) =
     let p : base ^ suc k ≡ base ^ k * base = pow-suc base k in
     number_zeros base (n * base + 0) k ∙ (rw p (omega arith))
 
--- k trailing zeros multiply the number of the digits by the base to the k
+-- k trailing zeros multiply the number that digits write by the base to the k
 pub number_pad : (base k : ℕ) (ds : List ℕ)
     → number_from_digits base (ds ++ replicate k 0) ≡ number_from_digits base ds * base ^ k
 number_pad base k ds =
     number_after_append base 0 ds (replicate k 0) ∙ number_zeros base (number_from_digits base ds) k
 
--- digits and then more digits
+-- the number that a concatenation of digits writes
 pub number-append : (xs ys : List ℕ)
     → number_from_digits 10 (xs ++ ys) ≡ number_from_digits 10 xs * 10 ^ length ys + number_from_digits 10 ys
 number-append xs ys = number_after_append 10 0 xs ys ∙ number_after 10 (number_from_digits 10 xs) ys

@@ -12,7 +12,7 @@ use Rattle.decimal_digits.specs.Remainders.{leading, RemainderIs, RemainderByDig
 use Rattle.decimal_digits.proofs.NumberAt.{powers, number_at-none, number_at-more, number_at-split, number_at-lt, number_at-ge, number_at-pos}
 use Rattle.decimal_digits.proofs.DigitLists.{below_drop, below_take, ten_pos}
 
--- the first 0 digits have the number 0
+-- the first 0 digits write the number 0
 pub leading_none : (k : ℕ) (ds : List ℕ) → k ≡ 0 → leading k ds ≡ 0
 leading_none k ds z = number_at-none k (take k ds) (omega (arith, length-take k ds))
 
@@ -110,7 +110,7 @@ leading_carry k xs nine = (
   ),
 )
 
--- the number of the first k digits is odd exactly if the last of them is
+-- the number that the first k digits write is odd exactly if the last of them is
 pub last_odd : (k last : ℕ) (ds : List ℕ) → (0 < k → last ≡ get_or ds (k - 1) 0) → (k ≡ 0 → last ≡ 0)
     → (last % 2 == 1) ≡ (leading k ds % 2 == 1)
 last_odd k last ds is none = ap (λ v. v == 1) same

@@ -75,7 +75,7 @@ module _ (ds : List ℕ) (h : All (λ d. d < 10) ds) (few : length ds ≤ 16) wh
   pub sixteen_nibbles : nibbles (to_be_bytes w64 (number_from_digits 16 sixteen)) ≡ sixteen
   sixteen_nibbles = nibbles_of_bytes 8 0 sixteen sixteen_are (below_sixteen sixteen sixteen_digits)
 
-  -- the number of up to fifteen of them is below 16 ^ 15
+  -- up to fifteen of them write a number below 16 ^ 15
   pub fifteen_lt : (i n : ℕ) → i < 16 → n ≡ number_from_digits 16 (take i sixteen) → n < 16 ^ 15
   fifteen_lt i m l e =
       let n = length-take-le i sixteen (omega (arith, sixteen_are)) in

@@ -1,4 +1,4 @@
--- The number of a list of digits at given places.
+-- The number that a list of digits writes at given places.
 use Rattle.std.proofs.Common.{◌≡◌, ℕ, ◌+◌, ◌-◌, ◌*◌, ◌%◌, ◌^◌, ◌<◌, ◌≤◌, List, [], ◌∷◌, length, get_or, take, drop, ◌∙◌, ap, arith}
 use Rattle.std.proofs.Math.Nat.{mul-le-mul_right, mul-lt-mul_of_pos_right, mul-pos, mod-le}
 use Rattle.std.proofs.lemmas.Nat.{pow-add}
@@ -14,7 +14,7 @@ use Rattle.decimal_digits.proofs.DigitLists.{ten_pos, number_split, number_front
 pub powers : (a b c : ℕ) → c ≡ a + b → 10 ^ c ≡ 10 ^ a * 10 ^ b
 powers a b c e = ap (λ k. 10 ^ k) e ∙ pow-add 10 a b
 
--- the number of no digits is 0
+-- no digits write the number 0
 pub number_at-none : (top : ℕ) (ds : List ℕ) → length ds ≡ 0 → number_at top ds ≡ 0
 unfolding number_at
 number_at-none top [] e = omega arith
@@ -25,7 +25,7 @@ pub number_at-more : (top k : ℕ) (ds : List ℕ) → length ds ≤ top → num
 unfolding number_at
 number_at-more top k ds h = rw (powers (top - length ds) k (top + k - length ds) (omega arith)) (omega arith)
 
--- the number is the sum of those of the first k digits and of the others
+-- the number is the sum of those that the first k digits and the others write
 pub number_at-split : (top k : ℕ) (ds : List ℕ) → k ≤ length ds → length ds ≤ top
     → number_at top ds ≡ number_at top (take k ds) + number_at (top - k) (drop k ds)
 unfolding number_at
@@ -35,7 +35,7 @@ number_at-split top k ds h l =
     let others : top - k - length (drop k ds) ≡ top - length ds = omega (arith, length-drop k ds) in
     rw (first, others, number_split 10 k ds h) (omega arith)
 
--- the number of digits in `top` places is less than 10 ^ top
+-- the number that digits in `top` places write is less than 10 ^ top
 pub number_at-lt : (top : ℕ) (ds : List ℕ) → AllBelowBase 10 ds → length ds ≤ top → number_at top ds < 10 ^ top
 unfolding number_at
 number_at-lt top ds b h =
@@ -60,7 +60,7 @@ number_at-pos top ds b p l =
     omega (arith, mod-le (number_from_digits 10 ds) 10))
     (ten_pos (top - length ds))
 
--- the number of no digits is 0 at every magnitude
+-- no digits write the number 0 at every magnitude
 pub number_of-none : (ds : List ℕ) (m : ℤ) → length ds ≡ 0 → number_of ds m ≡ 0
 unfolding number_of
 number_of-none ds m z = number_at-none (offset m + 1) ds z

@@ -94,7 +94,7 @@ represents_none ds n z e = record {
   greatest = omega (arith, ints);
 }
 
--- the number of digits that start at the highest place is that of the leading digits times the weight of p
+-- digits that start at the highest place write the number of the leading digits times the weight of p
 pub number_up : (p m : ℤ) (places : ℕ) (ds : List ℕ) → negsuc 32767 ≤ℤ p → negsuc 32767 ≤ℤ m → length ds ≤ places
     → (m +ℤ pos 1) ≡ (p +ℤ pos places) → number_of ds m ≡ leading places ds * weight p
 unfolding number_of

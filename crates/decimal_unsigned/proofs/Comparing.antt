@@ -46,7 +46,7 @@ others_end : (d : ℕ) (ds : List ℕ) → EndsInDigit (d ∷ ds) → EndsInDigi
 others_end d ds ends some = grind (arith, ints, clamps, nat_tests, common_steps)
 
 module _ (base : ℕ) (above : 0 < base) where
-  -- the number of the digits, the first having the weight base ^ (top - 1)
+  -- the number that the digits write, the first with the weight base ^ (top - 1)
   abbrev worth : ℕ → List ℕ → ℕ
   worth top ds = number_from_digits base ds * base ^ (top - length ds)
 

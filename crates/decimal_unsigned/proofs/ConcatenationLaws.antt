@@ -36,13 +36,13 @@ some_in_sum m n h = grind (arith, nat_tests)
 more_in_sum : (m n : ℕ) → 0 < n → nat_lt 0 (m + n) ≡ nat_lt 0 n
 more_in_sum m n h = grind (arith, nat_tests)
 
--- concatenation in front does not change the last digit, so overlap with a further value is the same
+-- a concatenation has the last digit of its second value, so it overlaps a further value exactly if that does
 front_absorbed : (u v w : Unsigned) → IsValue u → IsValue v → 0 < v.number → overlaps u v ≡ false
     → overlaps (concatenated_end u v) w ≡ overlaps v w
 unfolding overlaps
 front_absorbed u v w p q n f = rw (more_in_sum u.number v.number n, last_joined u v p q f n) refl
 
--- and concatenation after it does not change the first digit
+-- and the first digit of its first value
 back_absorbed : (u v w : Unsigned) → IsValue v → IsValue w → 0 < v.number → overlaps v w ≡ false
     → overlaps u (concatenated_end v w) ≡ overlaps u v
 unfolding overlaps

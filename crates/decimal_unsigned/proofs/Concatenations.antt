@@ -46,7 +46,7 @@ module _ (ds es : List ℕ) (zeros : ℕ) where
       ∙ ap (λ n. n + length es)
       (length-append ds (replicate zeros 0) ∙ ap (λ n. length ds + n) (length-replicate zeros 0))
 
-  -- the number of the first digits is multiplied by ten to the number of digits that follow
+  -- the number that the first digits write is multiplied by a power of ten, by the length of the rest
   number-joined : number_from_digits 10 ((ds ++ replicate zeros 0) ++ es)
       ≡ number_from_digits 10 ds * 10 ^ (zeros + length es) + number_from_digits 10 es
   number-joined =

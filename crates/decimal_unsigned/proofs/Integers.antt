@@ -83,7 +83,7 @@ module _ {ds : List ℕ} {end : ℕ} (e : UpToLast ds end) where
         let f = sym (first_of whole_stored) ∙ ap first whole_number in
         λ i. record { number = whole_number i; hi = f i; lo = pos 0 }
 
-    -- and their number is the size of their number
+    -- and their length is the size of the number that they write
     pub whole_size : length (take end ds) ≡ size (number_from_digits 10 ds * weight (pos 0))
     whole_size = sym (size-number_of whole_stored) ∙ ap size whole_number
 

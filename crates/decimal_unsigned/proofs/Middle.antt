@@ -1,10 +1,10 @@
--- The number of the digits between leading and trailing zeros.
+-- The number that the digits between leading and trailing zeros write.
 use Rattle.decimal_unsigned.proofs.Common.{clamps, nat_tests, common_steps, elements, ◌≡◌, ℕ, suc, ◌+◌, ◌-◌, ◌*◌, ◌^◌, ◌<◌, ◌≤◌, List, [], ◌∷◌, length, get_or, take, drop, ◌++◌, map, min, refl, sym, ◌∙◌, ap, arith, ℤ, pos, ◌-ℤ◌, ints, pow-add, length-map, length-drop, length-take, get_or-take, get_or-drop, digit_value, number_from_digits, AllBelowBase, offset, offset_is, IsStored, below_take, middle, IsNonzeroRange, number_split, below_drop}
 use Rattle.std.proofs.lemmas.List.{map-append, take-map, drop-map}
 use Rattle.decimal_digits.specs.Digits.{number_of, number_at}
 use Rattle.decimal_digits.proofs.DigitLists.{number_after}
 
--- the number of zeros is 0
+-- zeros write the number 0
 pub number_zeros : (ds : List ℕ) → ((k : ℕ) → k < length ds → get_or ds k 0 ≡ 0) → number_from_digits 10 ds ≡ 0
 number_zeros [] h = refl
 number_zeros (d ∷ ds) h =
@@ -23,7 +23,7 @@ module _ (ds : List ℕ) (start end : ℕ) (n : IsNonzeroRange ds start end) whe
   pub middle_at : (i : ℕ) → i < end - start → get_or (middle start end ds) i 0 ≡ get_or ds (start + i) 0
   middle_at i h = grind (arith, common_steps)
 
-  -- the number of all digits is that of the middle ones times a power of ten
+  -- all digits write the number of the middle digits times a power of ten
   pub number_middle : number_from_digits 10 ds ≡ number_from_digits 10 (middle start end ds) * 10 ^ (length ds - end)
   number_middle =
       let a = number_split 10 start ds (omega (arith, n.ordered, n.within)) in

@@ -51,7 +51,7 @@ pub long_fraction : (w : Literal) → 32768 < length w.fraction → value_of w �
 unfolding value_of
 long_fraction w h = grind (arith, nat_tests)
 
--- the number of digits is the sum of those of integer and fraction digits
+-- the digits are as long as integer and fraction digits together
 pub length_digits : (w : Literal) → length (digits_of w) ≡ length w.whole + length w.fraction
 length_digits w = length-map (w.whole ++ w.fraction) digit_value ∙ length-append w.whole w.fraction
 

@@ -70,7 +70,7 @@ pub number_of-stored : {ds es : List ℕ} {m k hi lo : ℤ} {v : Unsigned} → I
     → number_of es k ≡ v.number
 number_of-stored {ds} {es} {m} {k} t e l n = (λ i. number_of (l i) (n i)) ∙ ap (λ (v : Unsigned). v.number) e
 
--- the number has as many digits as the list
+-- the size of the number is the length of the list
 pub length-stored : {ds es : List ℕ} {m hi lo : ℤ} {v : Unsigned} → IsStored ds m hi lo
     → record { number = number_of ds m; hi = hi; lo = lo } ≡ v → es ≡ ds
     → length es ≡ size v.number

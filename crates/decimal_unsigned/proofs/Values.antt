@@ -102,7 +102,7 @@ module _ {ds : List ℕ} {m hi lo : ℤ} (t : IsStored ds m hi lo) where
   pub some_of : 0 < number_of ds m → 0 < length ds
   some_of p = grind (arith, number_of-none)
 
--- the number of no digits is 0
+-- no digits write the number 0
 pub number_of_empty : (m : ℤ) → number_of [] m ≡ 0
 unfolding number_of number_at
 number_of_empty m = omega arith
@@ -160,7 +160,7 @@ module _ {ds : List ℕ} {m hi lo : ℤ} (t : IsStored ds m hi lo) where
   pub last_in : negsuc 32767 ≤ℤ last (number_of ds m)
   last_in = grind (arith, ints, offset_is, last-number_of t, last_of_none t)
 
--- the number has as many digits as the list
+-- the size of the number is the length of the list
 pub size-number_of : {ds : List ℕ} {m hi lo : ℤ} (t : IsStored ds m hi lo) → size (number_of ds m) ≡ length ds
 size-number_of t =
     grind (arith, ints, nat_tests, gap_is, number_of-pos t, last-number_of t, first_of t, number_of-none t)

@@ -39,7 +39,7 @@ as_integer-part bound number h = grind (arith, nat_tests)
 pub leading_next : (i : ℕ) (ds : List ℕ) → leading (i + 1) ds ≡ leading i ds * 10 + get_or ds i 0
 leading_next i ds = grind (arith, ints, clamps, nat_tests, common_steps, leading_more)
 
--- the number of i digits is below 10 ^ i
+-- i digits write a number below 10 ^ i
 pub leading_lt : (i : ℕ) (ds : List ℕ) → All (λ d. d < 10) ds → leading i ds < 10 ^ i
 leading_lt i ds h = grind (
   arith,

@@ -33,7 +33,7 @@ pub use Rattle.decimal_digits.proofs.Offsets.{gap_is}
 pub use Rattle.decimal_digits.proofs.DigitLists.{ten_pos}
 -- a power of ten is the product of two
 pub use Rattle.decimal_digits.proofs.NumberAt.{powers}
--- the number of digits followed by digits
+-- the number that a concatenation of digits writes
 pub use Rattle.decimal_digits.proofs.DigitLists.{number-append}
 -- a magnitude that 16 bits hold is read as it was written
 pub use Rattle.decimal_unsigned.proofs.Values.{narrow_kept}
@@ -43,7 +43,7 @@ pub use Rattle.decimal_digits.proofs.Ends.{greatest_is}
 pub use Rattle.decimal_digits.proofs.Ends.{shift_down}
 -- the first digit of a number between two powers of ten
 pub use Rattle.decimal_digits.proofs.Ends.{first_is}
--- the last nonzero digit of a number by the number of its trailing zeros
+-- the last nonzero digit of v * 10 ^ e is at the offset e, if v does not end in 0
 pub use Rattle.decimal_digits.proofs.Ends.{last_is}
 -- the last digit of a number that a power of ten divides, and no higher one
 pub use Rattle.decimal_digits.proofs.Ends.{last_at, last_zero}
@@ -177,7 +177,7 @@ digits_make_number v valid =
     omega (arith, rw rest at all, valid.whole, mod-eq_of_lt valid.below)
 
 -- ---- Texts.
--- the bytes of the last digits of n, the given number of them, the first at magnitude m
+-- the bytes of the last k digits of n, the first at magnitude m, with a decimal point before magnitude -1
 abbrev pub digits_down : ℕ → ℤ → ℕ → List ℕ
 digits_down n m zero = []
 digits_down n m (suc k) = (dot_before m ++ (48 + n / 10 ^ k % 10) ∷ []) ++ digits_down n (m -ℤ pos 1) k
@@ -200,7 +200,7 @@ text_of_literal n hi lo low order = down (int_gap lo hi + 1) hi (omega (arith, i
         ∙ ap (λ rest. (dot_before m ++ (48 + n / 10 ^ k % 10) ∷ []) ++ rest)
         (down k (m -ℤ pos 1) (omega (arith, ints)))
 
--- a text without a decimal point and without an exponent reads as the number of its digits
+-- a text without a decimal point and without an exponent reads as the number that its digits write
 pub read_integer_text : (whole : List ℕ) → AllDigits 10 whole → 0 < length whole → length whole ≤ 32768
     → read whole ≡ Ok (mantissa whole [])
 unfolding read value_or_syntax value_of scaled
@@ -210,7 +210,7 @@ read_integer_text whole digits some few =
     let long : nat_lt 32768 (length whole) ≡ false = search rules in
     rw (parts, long) refl
 
--- a text with a decimal point and without an exponent reads as the number of its digits
+-- a text with a decimal point and without an exponent reads as the number that its digits write
 pub read_decimal_text : (whole fraction : List ℕ) → AllDigits 10 whole → AllDigits 10 fraction → 0 < length fraction
     → length whole ≤ 32768 → length fraction ≤ 32768
     → read (whole ++ 46 ∷ fraction) ≡ Ok (mantissa whole fraction)
