@@ -1,4 +1,4 @@
--- What a list of decimal digits is worth.
+-- The number that a list of decimal digits writes.
 use Rattle.std.proofs.Common.{◌≡◌, ℕ, zero, suc, ◌+◌, ◌-◌, ◌*◌, ◌/◌, ◌%◌, ◌^◌, ◌<◌, ◌≤◌, List, [], ◌∷◌, ◌++◌, length, get_or, take, drop, replicate, sym, ◌∙◌, ap, subst, arith}
 use Rattle.std.proofs.Math.Nat.{pow-zero, pow-suc, one-le-pow, mul-le-mul_right, div-one}
 use Rattle.std.proofs.lemmas.Nat.{div-mul-add, mod-mul-add}
@@ -10,7 +10,7 @@ use Rattle.std.specs.Int.Digits.{number_from_digits_after, number_from_digits, A
 pub ten_pos : (k : ℕ) → 0 < 10 ^ k
 ten_pos k = omega (arith, one-le-pow k 10 (omega arith))
 
--- a number in front of digits counts for as many places as there are digits
+-- a number continued by n digits is multiplied by the base to the n
 pub number_after : (base n : ℕ) (ds : List ℕ)
     → number_from_digits_after base n ds ≡ n * base ^ length ds + number_from_digits base ds
 number_after base n [] =
@@ -21,25 +21,25 @@ number_after base n (d ∷ ds) =
     let p : base ^ length (d ∷ ds) ≡ base ^ length ds * base = pow-suc base (length ds) in
     number_after base (n * base + d) ds ∙ (rw (e, p) (omega arith))
 
--- the first digit counts for its place
+-- the first digit is multiplied by the weight of its place
 pub number_first : (base d : ℕ) (ds : List ℕ)
     → number_from_digits base (d ∷ ds) ≡ d * base ^ length ds + number_from_digits base ds
 number_first base d ds = number_after base (0 * base + d) ds ∙ (omega arith)
 
--- zeros behind a number move it up
+-- k trailing zeros multiply a number by the base to the k
 pub number_zeros : (base n k : ℕ) → number_from_digits_after base n (replicate k 0) ≡ n * base ^ k
 number_zeros base n zero = (let e : n ≡ n * 1 = omega arith in e) ∙ ap (λ p. n * p) (sym (pow-zero base))
 number_zeros base n (suc k) =
     let p : base ^ suc k ≡ base ^ k * base = pow-suc base k in
     number_zeros base (n * base + 0) k ∙ (rw p (omega arith))
 
--- zeros behind digits move what they are worth up
+-- k trailing zeros multiply the number that digits write by the base to the k
 pub number_pad : (base k : ℕ) (ds : List ℕ)
     → number_from_digits base (ds ++ replicate k 0) ≡ number_from_digits base ds * base ^ k
 number_pad base k ds =
     number_after_append base 0 ds (replicate k 0) ∙ number_zeros base (number_from_digits base ds) k
 
--- digits and then more digits
+-- the number that a concatenation of digits writes
 pub number-append : (xs ys : List ℕ)
     → number_from_digits 10 (xs ++ ys) ≡ number_from_digits 10 xs * 10 ^ length ys + number_from_digits 10 ys
 number-append xs ys = number_after_append 10 0 xs ys ∙ number_after 10 (number_from_digits 10 xs) ys
@@ -73,7 +73,7 @@ number-drop-lt base k ds h =
     subst (λ n. number_from_digits base (drop k ds) < base ^ n) (length-drop k ds)
     (number_lt base (drop k ds) (below_drop base k ds h))
 
--- dividing by a power of the base keeps the digits in front
+-- dividing by a power of the base keeps the leading digits
 pub number-div : (base k : ℕ) (ds : List ℕ) → AllBelowBase base ds → k ≤ length ds
     → number_from_digits base ds / base ^ (length ds - k) ≡ number_from_digits base (take k ds)
 number-div base k ds b h =

@@ -38,7 +38,7 @@ last_at (suc n) k h d f b =
     ap magnitude_at
     (greatest_is (λ i. suc n % 10 ^ i == 0) 65536 k b (search rules) (λ i p q. let m = f i p in search rules))
 
--- a number that ends in more zeros than v * 10 ^ e allows
+-- if v does not end in 0, no power of ten above 10 ^ e divides v * 10 ^ e
 pub no_more_zeros : (v e i : ℕ) → 0 < v % 10 → e < i → ¬ ((v * 10 ^ e) % 10 ^ i ≡ 0)
 no_more_zeros v e i h p z =
     let j = i - suc e in
@@ -54,7 +54,7 @@ no_more_zeros v e i h p z =
     let ends : v % 10 ≡ 0 = ap (λ n. n % 10) cut ∙ mul-mod_left (q * 10 ^ j) 10 in
     omega arith
 
--- the last digit of a number that ends in so many zeros
+-- the last nonzero digit of v * 10 ^ e is at the offset e, if v does not end in 0
 pub last_is : (v e : ℕ) → 0 < v % 10 → e < 65536 → last (v * 10 ^ e) ≡ magnitude_at e
 last_is v e h b =
     last_at (v * 10 ^ e) e (let p : 0 < v = pos_of_mod v h in omega (arith, mul-pos p (ten_pos e)))

@@ -1,4 +1,4 @@
--- The digits of eight bytes in place, as one number.
+-- The digits of eight inline bytes as one number.
 use Rattle.std.proofs.Common.{◌≡◌, ℕ, suc, ◌+◌, ◌-◌, ◌*◌, ◌/◌, ◌%◌, ◌^◌, ◌<◌, ◌≤◌, List, [], ◌∷◌, ◌++◌, length, get_or, take, replicate, refl, sym, ◌∙◌, ap, arith}
 use Rattle.std.specs.Prelude.{All}
 use Rattle.std.specs.Int.{w64, to_be_bytes}
@@ -12,13 +12,13 @@ use Rattle.decimal_digits.specs.Packing.{length-nibbles}
 use Rattle.decimal_digits.proofs.DigitLists.{below_take, number_pad, number-div}
 use Rattle.decimal_digits.proofs.LeadingBytes.{hex_pow, bytes_number, sixteen_nibbles}
 
--- each half of a byte is below sixteen
+-- each nibble of a byte is below sixteen
 nibbles_below : (bs : List ℕ) → ((i : ℕ) → get_or bs i 0 < 256) → AllBelowBase 16 (nibbles bs)
 unfolding nibbles
 nibbles_below [] h = tt
 nibbles_below (b ∷ bs) h = (omega (arith, h 0), (omega arith, nibbles_below bs (λ i. h (suc i))))
 
--- a shift down drops what stands behind the digits, and a shift up puts zeros there
+-- clearing the lowest 4 * (16 - len) bits leaves the BCD number of the first len nibbles
 pub shifted_number : (bytes : List ℕ) (len n u : ℕ) → length bytes ≡ 8 → ((i : ℕ) → get_or bytes i 0 < 256)
     → len ≤ 16 → u ≡ 4 * (16 - len) → n ≡ number_from_digits 256 bytes
     → n / 2 ^ u * 2 ^ u % 2 ^ 64 ≡ bcd_number (digits_in bytes len)
@@ -40,7 +40,7 @@ shifted_number bytes len n u eight small few by e =
     rw (e, ← (bytes_number 0 bytes), by, hex_pow k, front, mod-eq_of_lt fits)
     (sym (number_pad 16 k ds) ∙ ap (λ j. number_from_digits 16 (ds ++ replicate j 0)) zeros)
 
--- as many digits that make the same number are the same
+-- two lists of digits of the same length with the same number are equal
 pub same_number : (ds es : List ℕ) → All (λ d. d < 10) ds → All (λ d. d < 10) es → length ds ≡ length es
     → length ds ≤ 16 → length es ≤ 16 → bcd_number ds ≡ bcd_number es → ds ≡ es
 unfolding bcd_number

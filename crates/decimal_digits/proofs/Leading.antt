@@ -12,11 +12,11 @@ use Rattle.decimal_digits.specs.Remainders.{leading, RemainderIs, RemainderByDig
 use Rattle.decimal_digits.proofs.NumberAt.{powers, number_at-none, number_at-more, number_at-split, number_at-lt, number_at-ge, number_at-pos}
 use Rattle.decimal_digits.proofs.DigitLists.{below_drop, below_take, ten_pos}
 
--- no digit writes 0
+-- the first 0 digits write the number 0
 pub leading_none : (k : ℕ) (ds : List ℕ) → k ≡ 0 → leading k ds ≡ 0
 leading_none k ds z = number_at-none k (take k ds) (omega (arith, length-take k ds))
 
--- digits within their places are all leading ones
+-- if k is at least the length, the first k places hold all digits
 pub leading_all : (k : ℕ) (ds : List ℕ) → length ds ≤ k → number_at k ds ≡ leading k ds
 leading_all k ds h = ap (number_at k) (sym (take_all k ds h))
 
@@ -110,7 +110,7 @@ leading_carry k xs nine = (
   ),
 )
 
--- the last of the first k digits tells whether their number is odd
+-- the number that the first k digits write is odd exactly if the last of them is
 pub last_odd : (k last : ℕ) (ds : List ℕ) → (0 < k → last ≡ get_or ds (k - 1) 0) → (k ≡ 0 → last ≡ 0)
     → (last % 2 == 1) ≡ (leading k ds % 2 == 1)
 last_odd k last ds is none = ap (λ v. v == 1) same
@@ -121,13 +121,13 @@ last_odd k last ds is none = ap (λ v. v == 1) same
       | inr h ↦ omega (arith, none (omega arith), leading_none k ds (omega arith))
     ]
 
--- two digits take the place of the last two
+-- the last two digits are replaced by two digits
 pub leading_put : (k number : ℕ) (xs ys : List ℕ) → 2 ≤ k → ((i : ℕ) → i < k - 2 → get_or ys i 0 ≡ get_or xs i 0)
     → get_or ys (k - 2) 0 ≡ number / 10 → get_or ys (k - 1) 0 ≡ number % 10
     → leading k ys ≡ 100 * leading (k - 2) xs + number
 leading_put k number xs ys h same tens ones = omega (arith, leading_two k ys h, leading_same (k - 2) ys xs same)
 
--- two places more than there are digits
+-- two places more than the number of digits
 pub leading_hundred : (k : ℕ) (xs : List ℕ) → length xs ≤ k → leading (k + 2) xs ≡ 100 * leading k xs
 leading_hundred k xs h =
     let e : k + 2 - 2 ≡ k = omega arith in
@@ -138,7 +138,7 @@ leading_hundred k xs h =
       get_or_past xs (k + 2 - 1) 0 (omega arith),
     )
 
--- the front and two digits more, of which the last is not 0
+-- the leading digits and two digits more, of which the last is not 0
 pub one_more : (k n : ℕ) (ds : List ℕ) → AllBelowBase 10 ds → 3 ≤ k → k ≡ length ds + 1 → 0 < get_or ds 0 0
     → n < 100 → 0 < n % 10
     → HasDigits k (100 * leading (k - 2) ds + n)
@@ -199,7 +199,7 @@ module _ (top k : ℕ) (ds : List ℕ) (b : AllBelowBase 10 ds) (fits : length d
         ten,
       )
 
--- the first of the others tells the tail
+-- the first of the other digits determines the class of the remainder
 pub tail_told : (remainder : Remainder) (top k : ℕ) (ds : List ℕ) → AllBelowBase 10 ds → 0 < get_or ds (length ds - 1) 0
     → RemainderByDigit remainder k ds → length ds ≤ top
     → RemainderIs remainder (number_at (top - k) (drop k ds)) (10 ^ (top - k))

@@ -1,4 +1,4 @@
--- The halves of a number in base 16, the highest one first.
+-- The nibbles of a number in base 16, the highest first.
 use Rattle.std.proofs.Common.{◌≡◌, ℕ, zero, suc, ◌+◌, ◌-◌, ◌*◌, ◌/◌, ◌%◌, ◌^◌, ◌<◌, ◌≤◌, List, [], ◌∷◌, ◌++◌, length, get_or, take, replicate, refl, sym, ◌∙◌, ap, arith}
 use Rattle.std.specs.Prelude.{All}
 use Rattle.std.specs.Int.{w32, w64, to_be_bytes, from_be_bytes, bytes_high_first, byte_at}
@@ -15,7 +15,7 @@ use Rattle.decimal_digits.proofs.DigitLists.{below_take, number_after, number_pa
 use Rattle.decimal_digits.proofs.Nibbles.{nibble_rules}
 use Rattle.decimal_digits.proofs.Packing.{encodes, encodes_prefix}
 
--- two halves to a byte
+-- two nibbles to a byte
 squares : (k : ℕ) → 16 ^ (2 * k) ≡ 256 ^ k
 squares k = let e : 2 * k ≡ k + k = omega arith in rw (e, pow-add) (sym (mul-pow 16 16 k))
 
@@ -32,7 +32,7 @@ byte_is : (k high x low n : ℕ) → low < 256 ^ k → x < 256 → n ≡ (high *
 byte_is zero high x low n l s e = omega arith
 byte_is (suc k) high x low n l s e = rw (e, div-mul-add (high * 256 + x) (256 ^ suc k) low l) (mod-mul-add high 256 x s)
 
--- the lowest halves of a number are those that it was made of
+-- the lowest nibbles of a number are those of the list that it was computed from
 pub nibbles_of_bytes : (k high : ℕ) (ds : List ℕ) → length ds ≡ 2 * k → AllBelowBase 16 ds
     → nibbles (bytes_high_first k (number_from_digits_after 16 high ds)) ≡ ds
 unfolding nibbles
@@ -52,12 +52,12 @@ nibbles_of_bytes (suc k) high (a ∷ (b ∷ r)) l h =
     let others = nibbles_of_bytes k front r len h.1.1 in
     cc
 
--- digits are halves
+-- decimal digits are nibbles
 pub below_sixteen : (ds : List ℕ) → AllBelowBase 10 ds → AllBelowBase 16 ds
 below_sixteen [] h = tt
 below_sixteen (d ∷ ds) h = (omega (arith, h), below_sixteen ds h.1)
 
--- ---- up to sixteen digits, and zeros behind them
+-- ---- up to sixteen digits, padded with trailing zeros to sixteen
 module _ (ds : List ℕ) (h : All (λ d. d < 10) ds) (few : length ds ≤ 16) where
   abbrev pub sixteen : List ℕ
   sixteen = ds ++ replicate (16 - length ds) 0
@@ -71,11 +71,11 @@ module _ (ds : List ℕ) (h : All (λ d. d < 10) ds) (few : length ds ≤ 16) wh
       let P = λ (d : ℕ). d < 10 in
       recursion_from_All P _ (All-append P ds _ h (All-replicate P (16 - length ds) 0 (omega arith)))
 
-  -- in eight bytes
+  -- the nibbles of eight bytes are the sixteen digits
   pub sixteen_nibbles : nibbles (to_be_bytes w64 (number_from_digits 16 sixteen)) ≡ sixteen
   sixteen_nibbles = nibbles_of_bytes 8 0 sixteen sixteen_are (below_sixteen sixteen sixteen_digits)
 
-  -- up to fifteen of them leave room for one more
+  -- up to fifteen of them write a number below 16 ^ 15
   pub fifteen_lt : (i n : ℕ) → i < 16 → n ≡ number_from_digits 16 (take i sixteen) → n < 16 ^ 15
   fifteen_lt i m l e =
       let n = length-take-le i sixteen (omega (arith, sixteen_are)) in
@@ -91,17 +91,17 @@ module _ (ds : List ℕ) (h : All (λ d. d < 10) ds) (few : length ds ≤ 16) wh
   pub sixteen_zero : (i : ℕ) → length ds ≤ i → i < 16 → 0 ≡ get_or sixteen i 0
   sixteen_zero i l k = grind (arith, nibble_rules)
 
-  -- one place more
+  -- one digit more
   pub sixteen_next : (i d : ℕ) → i < 16 → d ≡ get_or sixteen i 0
       → number_from_digits 16 (take i sixteen) * 16 + d ≡ number_from_digits 16 (take (i + 1) sixteen)
   sixteen_next i d l e = omega (arith, number_more 16 sixteen i (omega (arith, sixteen_are)))
 
-  -- all places
+  -- all digits
   pub sixteen_all : (i : ℕ) → ¬ (i < 16) → number_from_digits 16 (take i sixteen) ≡ bcd_number ds
   unfolding bcd_number
   sixteen_all i l = ap (number_from_digits 16) (take_all i sixteen (omega (arith, sixteen_are)))
 
--- up to sixteen digits, as the highest halves of a number, are packed in its first bytes
+-- up to sixteen digits, as the highest nibbles of a number, are packed in its first bytes
 pub leading_bytes_encode : (ds : List ℕ) (len n : ℕ) → length ds ≡ len → len ≤ 16 → AllBelowBase 10 ds
     → n ≡ number_from_digits 16 ds * 16 ^ (16 - len)
     → Encodes (leading_bytes n len) len ds
@@ -126,7 +126,7 @@ pub leading_bytes_packed : (number len : ℕ) → IsPacked (leading_bytes number
 unfolding leading_bytes
 leading_bytes_packed number len p = encodes_prefix _ _ _ (grind (arith, nibble_rules))
 
--- ---- bytes and zeros behind them
+-- ---- bytes padded with trailing zeros
 four_bytes : (bs : List ℕ) → length bs ≡ 4 → from_be_bytes w32 bs ≡ number_from_digits 256 bs
 four_bytes [] h = absurd (omega arith)
 four_bytes (a ∷ []) h = absurd (omega arith)
@@ -135,7 +135,7 @@ four_bytes (a ∷ (b ∷ (c ∷ []))) h = absurd (omega arith)
 four_bytes (a ∷ (b ∷ (c ∷ (d ∷ [])))) h = omega arith
 four_bytes (a ∷ (b ∷ (c ∷ (d ∷ (x ∷ xs))))) h = absurd (omega arith)
 
--- four bytes, and zeros behind the others up to the eighth
+-- four bytes and up to four others, padded with trailing zeros to eight
 pub after_four : (front rest : List ℕ) → length front ≡ 4 → length rest ≤ 4
     → from_be_bytes w32 front * 2 ^ 32 + number_from_digits 256 (rest ++ replicate (4 - length rest) 0)
     ≡ number_from_digits 256 ((front ++ rest) ++ replicate (8 - length (front ++ rest)) 0)
@@ -152,7 +152,7 @@ after_four front rest four few =
       n,
     ) (omega (arith, ap (λ q. number_from_digits 256 front * q) p))
 
--- up to four bytes, and zeros up to the eighth
+-- up to four bytes, padded with trailing zeros to eight
 pub before_four : (bs : List ℕ) → length bs ≤ 4
     → number_from_digits 256 (bs ++ replicate (4 - length bs) 0) * 2 ^ 32
     ≡ number_from_digits 256 (bs ++ replicate (8 - length bs) 0)
@@ -160,7 +160,7 @@ before_four bs few =
     let n : 8 - length bs ≡ (4 - length bs) + 4 = omega arith in
     rw (number_pad 256 (4 - length bs) bs, number_pad 256 (8 - length bs) bs, n, pow-add) (omega arith)
 
--- two halves of a byte count as much as the byte
+-- the number of the nibbles in base 16 is that of the bytes in base 256
 pub bytes_number : (n : ℕ) (bs : List ℕ)
     → number_from_digits_after 16 n (nibbles bs) ≡ number_from_digits_after 256 n bs
 unfolding nibbles
@@ -169,7 +169,7 @@ bytes_number n (b ∷ bs) =
     let e : (n * 16 + b / 16) * 16 + b % 16 ≡ n * 256 + b = omega arith in
     ap (λ m. number_from_digits_after 16 m (nibbles bs)) e ∙ bytes_number (n * 256 + b) bs
 
--- the bytes of up to sixteen digits, and zeros behind them up to the eighth, write the number of these
+-- the bytes of up to sixteen digits, padded with trailing zeros to eight, are the BCD number of the digits
 pub word_encodes : (bytes : List ℕ) (len : ℕ) → IsPackedPrefix bytes len → len ≤ 16
     → (let front = take ((len + 1) / 2) bytes in number_from_digits 256 (front ++ replicate (8 - length front) 0))
     ≡ bcd_number (digits_in bytes len)

@@ -1,4 +1,4 @@
--- The halves of bytes.
+-- The nibbles of bytes.
 use Rattle.std.proofs.Common.{◌≡◌, ℕ, zero, suc, ◌+◌, ◌*◌, ◌/◌, ◌%◌, ◌<◌, ◌⊎◌, inl, inr, List, [], ◌∷◌, ◌++◌, length, get_or, take, drop, replicate, map, refl, sym, ◌∙◌, ap, arith}
 use Rattle.std.proofs.Math.ListN.{get_or-map}
 use Rattle.std.proofs.lemmas.Bool.{cases_eq}
@@ -9,21 +9,21 @@ use Rattle.std.specs.Char.{digit_value}
 use Rattle.decimal_digits.specs.Nibbles.{nibbles}
 use Rattle.decimal_digits.specs.Packing.{length-nibbles}
 
--- the half at an even index is the high one of its byte
+-- the nibble at an even index is the high one of its byte
 pub high_nibble : (bs : List ℕ) (k : ℕ) → get_or (nibbles bs) (2 * k) 0 ≡ get_or bs k 0 / 16
 unfolding nibbles
 high_nibble [] k = refl
 high_nibble (b ∷ bs) zero = refl
 high_nibble (b ∷ bs) (suc k) = let e : 2 * suc k ≡ suc (suc (2 * k)) = omega arith in rw e (high_nibble bs k)
 
--- the half at an odd index is the low one of its byte
+-- the nibble at an odd index is the low one of its byte
 pub low_nibble : (bs : List ℕ) (k : ℕ) → get_or (nibbles bs) (2 * k + 1) 0 ≡ get_or bs k 0 % 16
 unfolding nibbles
 low_nibble [] k = refl
 low_nibble (b ∷ bs) zero = refl
 low_nibble (b ∷ bs) (suc k) = let e : 2 * suc k + 1 ≡ suc (suc (2 * k + 1)) = omega arith in rw e (low_nibble bs k)
 
--- the half at an index; the first part shows `grind` the read to match
+-- the nibble at an index; the first component is the pattern that `grind` matches
 pub nibble_is : (bs : List ℕ) (k : ℕ) → (get_or (nibbles bs) k 0 ≡ get_or (nibbles bs) k 0)
     × (((2 * (k / 2) ≡ k) × (get_or (nibbles bs) k 0 ≡ get_or bs (k / 2) 0 / 16))
     ⊎ ((2 * (k / 2) + 1 ≡ k) × (get_or (nibbles bs) k 0 ≡ get_or bs (k / 2) 0 % 16)))
@@ -41,20 +41,20 @@ nibble_is bs k = (
 pub refill_same : (xs ys : List ℕ) (n : ℕ) → length ys ≡ n → refill n xs ys ≡ ys
 refill_same xs ys n e = take_at ys (drop (length ys) xs) n e
 
--- the low half at an index
+-- the low nibble at an index
 pub low_at : (ds : List ℕ) (k : ℕ) → get_or (map (λ d. d % 16) ds) k 0 ≡ get_or ds k 0 % 16
 low_at ds k = get_or-map (λ d. d % 16) ds k 0
 
--- the letter at an index
+-- the ASCII byte at an index
 pub ascii_of : (ds : List ℕ) (k : ℕ) → k < length ds → get_or (map (λ d. 48 + d) ds) k 0 ≡ 48 + get_or ds k 0
 ascii_of ds k = map_at (λ d. 48 + d) ds k 0 0
 
--- what the letter at an index writes
+-- the digit of the ASCII byte at an index
 pub value_of : (text : List ℕ) (k : ℕ) → k < length text
     → get_or (map digit_value text) k 0 ≡ digit_value (get_or text k 0)
 value_of text k = map_at digit_value text k 0 0
 
--- for `grind`: lists of halves, digits and letters, index by index
+-- for `grind`: lists of nibbles, digits and ASCII bytes, index by index
 pub ruleset nibble_rules = (
   nibble_is,
   length-nibbles,

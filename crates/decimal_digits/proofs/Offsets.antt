@@ -1,4 +1,4 @@
--- Magnitudes as places.
+-- Magnitudes as offsets.
 use Rattle.std.proofs.Common.{◌≡◌, ◌+◌, ◌-◌, ◌≤◌, arith}
 use Rattle.std.specs.Prelude.{ℤ, pos, negsuc, ◌≤ℤ◌}
 use Rattle.std.proofs.lemmas.Int.{ints}
@@ -6,17 +6,17 @@ use Rattle.std.specs.Int.{int_gap}
 use Rattle.decimal_digits.specs.Number.{offset, magnitude_at}
 use borrow.Author.Differences.{up, down}
 
--- for `omega`: a place is the magnitude and 32768
+-- for `omega`: an offset is the magnitude plus 32768
 pub offset_is : (m : ℤ) → (offset m ≡ 32768 + up m - down m)
 unfolding offset
 offset_is (pos n) = omega arith
 offset_is (negsuc n) = omega arith
 
--- a magnitude is the one at its place
+-- a magnitude is the one at its offset
 pub magnitude_at-offset : (m : ℤ) → negsuc 32767 ≤ℤ m → magnitude_at (offset m) ≡ m
 magnitude_at-offset m h = omega (arith, ints, offset_is m)
 
--- a higher magnitude has a higher place
+-- a higher magnitude has a higher offset
 pub offset_le : (a b : ℤ) → negsuc 32767 ≤ℤ a → negsuc 32767 ≤ℤ b → a ≤ℤ b → offset a ≤ offset b
 offset_le a b p q h = omega (arith, ints, offset_is)
 

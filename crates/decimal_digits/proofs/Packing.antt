@@ -7,7 +7,7 @@ use Rattle.decimal_digits.specs.Nibbles.{nibbles, digits_in, IsPacked}
 use Rattle.decimal_digits.specs.Packing.{Encodes, EncodesPrefix, IsPackedPrefix, packed_prefix, length_packed}
 use Rattle.decimal_digits.proofs.Nibbles.{nibble_rules, high_nibble, low_nibble}
 
--- the first halves of the bytes are these digits, and a half that is left over is 0
+-- the first nibbles of the bytes are these digits, and an unused nibble is 0
 pub record Fills (bytes ds : List ℕ) (len : ℕ) : Type 0 where
   pub many : length ds ≡ len
   pub same : (k : ℕ) → k < len → get_or (nibbles bytes) k 0 ≡ get_or ds k 0

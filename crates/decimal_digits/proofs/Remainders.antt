@@ -1,4 +1,4 @@
--- What is left below a place, and what a mode makes of it.
+-- The remainder below a position, and how a mode rounds it.
 use Rattle.std.proofs.Common.{ℕ, ◌≡◌, ◌+◌, ◌-◌, ◌*◌, ◌/◌, ◌%◌, ◌<◌, ◌≤◌, ◌==◌, cond, refl, ◌∙◌, ap, arith, Bool, true, false}
 use Rattle.std.proofs.Math.Nat.{mul-le-mul_right, mul-pos, div-add-mod'}
 use Rattle.std.proofs.lemmas.Nat.{div-mul-add, mod-mul-add}
@@ -15,7 +15,7 @@ use Rattle.decimal_digits.specs.Number.{offset}
 use Rattle.std.specs.Prelude.{ℤ}
 use Rattle.decimal_digits.proofs.DigitLists.{ten_pos}
 
--- ---- `rest` of a place and the tail below it, held against half of `step` of that place
+-- ---- `rest` units and the tail below one unit, compared with half of `step` units
 abbrev quarters_of : Remainder → ℕ
 quarters_of remainder = tag_of the_type remainder
 
@@ -74,8 +74,8 @@ steps_up : (h s q hundreds unit : ℕ) (up : Bool) → 2 * h * s ≡ 100
 steps_up h s q hundreds unit true half = omega (arith, ap (λ v. v * (hundreds * unit)) half)
 steps_up h s q hundreds unit false half = omega (arith, ap (λ v. v * (hundreds * unit)) half)
 
--- so the last two digits tell the quotient's parity: the part of the step that is left, and this, make the mode go up,
--- or not
+-- so the last two digits determine the quotient's parity, which with the class of the remainder decides
+-- whether the mode rounds up
 pub two_split : (mode : UnsignedRoundingMode) (increment : RoundingIncrement) (remainder left : Remainder)
     (s two rest result : ℕ)
     (odd up : Bool) → s ≡ step_of increment

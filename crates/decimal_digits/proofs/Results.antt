@@ -7,17 +7,17 @@ pub on_err : {A E : Type 0} (r : Result A E) (P : Type 0) → P → OnErr r P
 on_err (Ok x) P p = tt
 on_err (Err e) P p = p
 
--- a call that has no reason to refuse answers Ok
+-- a call without a reason to fail returns Ok
 pub ok_unless : {A E P : Type 0} (r : Result A E) → OnErr r P → (P → ⊥) → IsOk r
 ok_unless (Ok x) reason never = refl
 ok_unless (Err e) reason never = absurd (never reason)
 
--- what holds anyway holds where there is nothing
+-- a true proposition holds in the case of `None`
 pub if_none : {A : Type 0} (r : Option A) (P : Type 0) → P → IfNone r P
 if_none None P p = p
 if_none (Some x) P p = tt
 
--- what follows from two facts that hold where there is nothing is the error's, where there is one in its place
+-- what follows from two facts of `None` holds for the error, where there is an error instead
 pub none_is_error : {A E : Type 0} (r : Option A) (e : E) {P Q : Type 0} (R : E → Type 0) → IfNone r P → IfNone r Q
     → (P → Q → R e)
     → IfErr (ok_or r e) R

@@ -1,4 +1,4 @@
--- A number in its parts above and below a position, and the number that is left there.
+-- A number split at a position into quotient and remainder, and the number after rounding.
 use Rattle.std.proofs.Common.{◌≡◌, ℕ, ◌+◌, ◌-◌, ◌*◌, ◌^◌, ◌<◌, ◌≤◌, ◌==◌, false, List, length, get_or, drop, refl, sym, ◌∙◌, ap, arith, rules}
 use Rattle.std.specs.Prelude.{ℤ, pos, negsuc, ◌+ℤ◌, ◌≤ℤ◌, ◌<ℤ◌}
 use Rattle.std.proofs.lemmas.Int.{ints}
@@ -22,7 +22,7 @@ use Rattle.decimal_digits.proofs.NumberAt.{powers, number_at-none, number_at-mor
 use Rattle.decimal_digits.proofs.Leading.{leading_none, leading_all, split_at, tail_told}
 
 -- ---- before the rounding
--- a position with k places at or above it
+-- a position at or below the first digit: the k leading digits are the quotient
 pub splits_above : (m p : ℤ) (k : ℕ) (remainder : Remainder) (ds : List ℕ) → negsuc 32767 ≤ℤ m → negsuc 32767 ≤ℤ p
     → AllBelowBase 10 ds → 0 < get_or ds (length ds - 1) 0
     → length ds ≤ offset m + 1 → (p +ℤ pos k) ≡ (m +ℤ pos 1) → RemainderByDigit remainder k ds
@@ -34,7 +34,7 @@ splits_above m p k remainder ds low low' b back fits at tells =
     let split = split_at top k ds fits (omega (arith, ints, offset_is m, offset_is p)) in
     (number_at (offset p) (drop k ds), rw e at split, rw e at (tail_told remainder top k ds b back tells fits))
 
--- a position above the place in front of the digits
+-- a position more than one above the first digit: the quotient is 0 and the remainder below half
 pub splits_below : (m p : ℤ) (ds : List ℕ) → negsuc 32767 ≤ℤ m → AllBelowBase 10 ds → 0 < length ds
     → 0 < get_or ds (length ds - 1) 0 → length ds ≤ offset m + 1 → (m +ℤ pos 1) <ℤ p
     → SplitsAs (number_of ds m) (weight p) (leading 0 ds) BelowHalf
@@ -50,7 +50,7 @@ splits_below m p ds low b some back fits above =
     )
 
 -- ---- after it
--- what the parts of a number round to is what the number rounds to
+-- rounding quotient and remainder is rounding the number
 pub rounded_split : (mode : UnsignedRoundingMode) (step : ℕ) (remainder : Remainder) (n u k v : ℕ) → 0 < u
     → SplitsAs n u k remainder → RoundsTo mode step remainder k v
     → rounded_number mode (step * u) n ≡ v * u
@@ -58,7 +58,7 @@ rounded_split mode step remainder n u k v p (r, e, is) rounds = ap (rounded_numb
 
 module _ (m : ℤ) (ds : List ℕ) (low : negsuc 32767 ≤ℤ m) (high : m ≤ℤ pos 32767) (b : AllBelowBase 10 ds)
     (fits : length ds ≤ offset m + 1) (s : IsStripped ds) where
-  -- a list of digits with no 0 at either end spells its number
+  -- a nonempty list of digits without leading and trailing zeros represents its number
   pub represents : 0 < length ds → Represents ds m (number_of ds m)
   unfolding number_of
   represents some =
@@ -81,7 +81,7 @@ module _ (m : ℤ) (ds : List ℕ) (low : negsuc 32767 ≤ℤ m) (high : m ≤�
         greatest = high;
       }
 
--- no digits spell 0, at the magnitude 0
+-- the empty list represents 0, at magnitude 0
 pub represents_none : (ds : List ℕ) (n : ℕ) → length ds ≡ 0 → n ≡ 0 → Represents ds (pos 0) n
 unfolding number_of
 represents_none ds n z e = record {
@@ -94,7 +94,7 @@ represents_none ds n z e = record {
   greatest = omega (arith, ints);
 }
 
--- the same digits from the highest of the places on
+-- digits that start at the highest place write the number of the leading digits times the weight of p
 pub number_up : (p m : ℤ) (places : ℕ) (ds : List ℕ) → negsuc 32767 ≤ℤ p → negsuc 32767 ≤ℤ m → length ds ≤ places
     → (m +ℤ pos 1) ≡ (p +ℤ pos places) → number_of ds m ≡ leading places ds * weight p
 unfolding number_of
@@ -120,7 +120,7 @@ size_is p k m some d low h =
     rw (nonzero, above, below) (omega (arith, ints, gap_is (magnitude_at (offset p)) (magnitude_at (k - 1 + offset p))))
 
 -- ---- why a number is not rounded
--- what is wrong with the digits that are kept is wrong with the number
+-- an error of rounding the kept digits is an error of rounding the number
 pub digit_rounding_fails : (e : RoundError) (mode : UnsignedRoundingMode) (increment : RoundingIncrement)
     (fit room k : ℕ)
     (ds : List ℕ) (remainder : Remainder) (n : ℕ) (p : ℤ) → negsuc 32767 ≤ℤ p → (p +ℤ pos room) ≡ pos 32768

@@ -60,7 +60,7 @@ fraction_numbered whole fraction number more e f =
     f ∙ ap (λ m. digits_value_after 16 m fraction % 2 ^ 64) e ∙ after_mod (digits_value 16 whole) fraction
 
 -- ---- The digits from one up to another.
--- a shift drops the digits behind, and a shift back those in front
+-- a right shift drops the digits after `end`, a left shift those before `start`
 pub shifted_middle : (ds : List ℕ) (start end : ℕ) → AllBelowBase 10 ds → start < end → end ≤ length ds → length ds ≤ 16
     → number_from_digits 16 ds / 2 ^ (4 * (length ds - end)) * 2 ^ (4 * (16 - (end - start))) % 2 ^ 64
     ≡ number_from_digits 16 (middle start end ds) * 16 ^ (16 - (end - start))
@@ -131,7 +131,7 @@ middle_holds ds number start end below is s within few =
     (rw is (shifted_middle ds start end below s within few))
 
 -- ---- The bits of a number and its digits.
--- a bit lies in one of four of a digit
+-- bit 4 * j + i of a number is bit i of its nibble j
 bit_of : (n j i : ℕ) → bit_at n (4 * j + i) ≡ n / 16 ^ j / 2 ^ i % 2
 bit_of n j i = grind (arith, pow-add, hex_pow, div-div-eq-div-mul)
 
@@ -177,7 +177,7 @@ digit_is ds k h l =
       mod-mul-add,
     )
 
--- the highest and the lowest bit lie in the first and the last digit that is not 0
+-- the highest and the lowest set bit are in the first and the last nonzero digit
 inner_bits : (ds : List ℕ) (n top low : ℕ) → AllBelowBase 10 ds → n ≡ number_from_digits 16 ds → bit_at n top ≡ 1
     → n < 2 ^ suc top → bit_at n low ≡ 1 → ((i : ℕ) → i < low → bit_at n i ≡ 0)
     → (top / 4 + 1 ≤ length ds) × IsNonzeroRange ds (length ds - (top / 4 + 1)) (length ds - low / 4)
@@ -212,7 +212,7 @@ inner_bits ds n top low below is first above last none =
       },
     )
 
--- the zeros in front of a number and behind it are those of its digits
+-- the leading and trailing zero nibbles of a number are the leading and trailing zeros of its digits
 pub inner_number : (ds : List ℕ) (n : ℕ) → AllBelowBase 10 ds → length ds ≤ 16 → n ≡ number_from_digits 16 ds → 0 < n
     → (16 - leading_zeros w64 n / 4 ≤ length ds)
     × IsNonzeroRange ds (length ds - (16 - leading_zeros w64 n / 4)) (length ds - trailing_zeros w64 n / 4)
@@ -271,7 +271,7 @@ module _ (w : Literal) (number : ℕ) (digits : AllDigits 10 (w.whole ++ w.fract
         (length (digits_of w) - trailing_zeros w64 number / 4)
     found = inner_number (digits_of w) number below (omega (arith, count)) number_is some
 
-    -- there are as many zeros, and no more digits than in the text
+    -- the zero nibbles bound the nonzero digits, which are no more than the digits in the text
     pub short_sizes : (trailing_zeros w64 number / 4 < 16 - leading_zeros w64 number / 4)
         × (16 - leading_zeros w64 number / 4 ≤ length w.whole + length w.fraction)
     short_sizes =

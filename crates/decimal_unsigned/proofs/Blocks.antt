@@ -20,7 +20,7 @@ module _ (a k : ℕ) (xs ys : List ℕ) (fits : a + k ≤ length xs) (full : len
   part_after i h = grind (arith, common_steps)
 
 -- ---- places that hold zeros, byte by byte
--- a block of so many
+-- a block of n zeros
 abbrev pub block_of : ℕ → List ℕ
 block_of n = replicate n 48
 
@@ -29,7 +29,7 @@ module _ (xs : List ℕ) (zeros : xs ≡ replicate (length xs) 48) where
   pub zeros_front : (a : ℕ) → a ≤ length xs → take a xs ≡ replicate (length (take a xs)) 48
   zeros_front a h = grind (arith, elements)
 
-  -- and so do those behind them
+  -- and so do the remaining places
   pub zeros_after : (a : ℕ) → drop a xs ≡ replicate (length (drop a xs)) 48
   zeros_after a = grind (arith, elements)
 
@@ -42,7 +42,7 @@ zeros_rest xs ys x zeros e = grind (arith, elements)
 pub zeros_first : (n a : ℕ) → a ≤ n → take a (block_of n) ≡ replicate (length (take a (block_of n))) 48
 zeros_first n a h = grind (arith, elements)
 
--- how far a magnitude lies below the first one, or 0
+-- the distance of a magnitude below the first one, or 0
 pub index_gap : (index : Option ℕ) (first magnitude : ℤ) → IfSome index (λ i. magnitude +ℤ pos i ≡ first)
     → IfNone index (first <ℤ magnitude)
     → unwrap_or index 0 ≡ int_gap magnitude first
@@ -55,7 +55,7 @@ module _ {ds : List ℕ} {m hi lo : ℤ} (t : IsStored ds m hi lo) (q : ℤ) (lo
   length-copied : length (take count (drop from ds)) ≡ count
   length-copied = length-take-le count (drop from ds) (omega (arith, length-drop from ds))
 
-  -- zeros, and the digits in their place
+  -- the digits of a block of zeros in which the stored digits are written
   pub block_digit : (zeros ys : List ℕ) (k j : ℕ) → zeros ≡ replicate n 48 → k ≡ count → j ≡ count
       → ys ≡ text_of (take j (drop from ds))
       → (i : ℕ) → i < length (take start zeros ++ (ys ++ drop k (drop start zeros)))

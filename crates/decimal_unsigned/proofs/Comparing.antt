@@ -30,7 +30,7 @@ none_left (x ∷ xs) [] h = sym (nat_cmp_is (length (x ∷ xs)) 0 Greater (omega
 none_left (x ∷ xs) (y ∷ ys) (inl e) = absurd (omega (arith, e))
 none_left (x ∷ xs) (y ∷ ys) (inr e) = absurd (omega (arith, e))
 
--- and so they do behind as many items as the shorter one has
+-- after the items of the shorter list, comparing the rest compares the lengths
 pub lengths_decide : (xs ys : List ℕ) (i : ℕ) → i ≡ min (length xs) (length ys)
     → nat_cmp (length xs) (length ys) ≡ slice_cmp nat_cmp (drop i xs) (drop i ys)
 lengths_decide xs ys i e =
@@ -46,7 +46,7 @@ others_end : (d : ℕ) (ds : List ℕ) → EndsInDigit (d ∷ ds) → EndsInDigi
 others_end d ds ends some = grind (arith, ints, clamps, nat_tests, common_steps)
 
 module _ (base : ℕ) (above : 0 < base) where
-  -- what the digits are worth where the first is that of base ^ (top - 1)
+  -- the number that the digits write, the first with the weight base ^ (top - 1)
   abbrev worth : ℕ → List ℕ → ℕ
   worth top ds = number_from_digits base ds * base ^ (top - length ds)
 
@@ -113,7 +113,7 @@ module _ (base : ℕ) (above : 0 < base) where
       nat_cmp_is (worth top (d ∷ ds)) (worth top (e ∷ es)) (ordering_then (nat_cmp d e) (slice_cmp nat_cmp ds es))
       (firsts top d e ds es b.1 c.1 f g others (nat_cmp d e) (ranked d e (nat_cmp d e) refl))
 
--- ---- up to sixteen digits as the halves of a number
+-- ---- up to sixteen digits as the nibbles of a number
 nibbles_value : (ds : List ℕ) → bcd_number ds ≡ number_from_digits 16 ds * 16 ^ (16 - length ds)
 unfolding bcd_number
 nibbles_value ds = grind (arith, ints, clamps, nat_tests, common_steps, number_after_append, number_zeros)
@@ -158,7 +158,7 @@ module _ {ds es : List ℕ} {m m' hi lo hi' lo' : ℤ} (s : IsStored ds m hi lo)
       let higher : 10 ^ (offset m' + 1) ≤ 10 ^ offset m = pow-le-pow_right (omega arith) up in
       omega (arith, number_of-lt t, number_of-ge s some, higher))
 
-  -- what a comparison answers of the values that the code holds
+  -- a comparison of the stored numbers is a comparison of the values
   pub ordered : {v w : Unsigned} → record { number = number_of ds m; hi = hi; lo = lo } ≡ v
       → record { number = number_of es m'; hi = hi'; lo = lo' } ≡ w → {r : Ordering}
       → r ≡ nat_cmp (number_of ds m) (number_of es m')

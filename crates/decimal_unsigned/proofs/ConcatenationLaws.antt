@@ -36,13 +36,13 @@ some_in_sum m n h = grind (arith, nat_tests)
 more_in_sum : (m n : ℕ) → 0 < n → nat_lt 0 (m + n) ≡ nat_lt 0 n
 more_in_sum m n h = grind (arith, nat_tests)
 
--- what is joined in front of a number does not change where that number ends
+-- a concatenation has the last digit of its second value, so it overlaps a further value exactly if that does
 front_absorbed : (u v w : Unsigned) → IsValue u → IsValue v → 0 < v.number → overlaps u v ≡ false
     → overlaps (concatenated_end u v) w ≡ overlaps v w
 unfolding overlaps
 front_absorbed u v w p q n f = rw (more_in_sum u.number v.number n, last_joined u v p q f n) refl
 
--- and what is joined behind it, where it begins
+-- and the first digit of its first value
 back_absorbed : (u v w : Unsigned) → IsValue v → IsValue w → 0 < v.number → overlaps v w ≡ false
     → overlaps u (concatenated_end v w) ≡ overlaps u v
 unfolding overlaps
@@ -71,7 +71,7 @@ module _ (u v w : Unsigned) (p : IsValue u) (q : IsValue v) (r : IsValue w) wher
   concatenated_end-assoc : concatenated_end (concatenated_end u v) w ≡ concatenated_end u (concatenated_end v w)
   concatenated_end-assoc = grind (arith, ints, clamps)
 
-  -- three values are joined alike from the front and from the back
+  -- concatenation of three values is associative
   pub concatenation_is_associative : ConcatenationIsAssociative u v w
   concatenation_is_associative =
       bound (overlaps u v) (λ x. concatenation x w) (concatenated_end u v)
@@ -102,7 +102,7 @@ module _ (v t : Unsigned) (p : ℤ) (valid : IsValue v) (e : t.number ≡ v.numb
   pub parts_number : (concatenated_end t (with_max_position v p)).number ≡ v.number
   parts_number = ap (λ n. n + v.number % weight p) e ∙ parts_sum v.number (offset p) (offset v.hi + 1) valid.below high
 
-  -- and their ranges, where the position lies in the range or at one of its ends
+  -- and their ranges, if the position is in the range or at one of its ends
   pub parts_value : t.hi ≡ int_max (int_max v.hi (p -ℤ pos 1)) (first t.number) → t.lo ≡ int_min p (pos 0)
       → v.lo ≤ℤ p → p ≤ℤ (v.hi +ℤ pos 1)
       → concatenated_end t (with_max_position v p) ≡ v

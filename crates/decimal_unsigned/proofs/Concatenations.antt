@@ -46,7 +46,7 @@ module _ (ds es : List ℕ) (zeros : ℕ) where
       ∙ ap (λ n. n + length es)
       (length-append ds (replicate zeros 0) ∙ ap (λ n. length ds + n) (length-replicate zeros 0))
 
-  -- the first digits count for as many more places as digits follow
+  -- the number that the first digits write is multiplied by a power of ten, by the length of the rest
   number-joined : number_from_digits 10 ((ds ++ replicate zeros 0) ++ es)
       ≡ number_from_digits 10 ds * 10 ^ (zeros + length es) + number_from_digits 10 es
   number-joined =
@@ -55,7 +55,7 @@ module _ (ds es : List ℕ) (zeros : ℕ) where
       ∙ (rw (number-zeros zeros, length-replicate {A = ℕ} zeros 0) (omega arith)) in
       number-append (ds ++ replicate zeros 0) es ∙ (rw (front, pow-add 10 zeros (length es)) (omega arith))
 
--- the second digits begin below the last of the first, with so many zeros between
+-- the second digits begin k + 1 places below the last of the first, with k zeros between
 module _ {ds es : List ℕ} {m hi lo n hi' lo' : ℤ} (t : IsStored ds m hi lo) (u : IsStored es n hi' lo') (k : ℕ)
     (some : 0 < length ds) (more : 0 < length es) (distance : m ≡ n +ℤ pos (length ds + k)) where
   places : offset m ≡ offset n + (length ds + k)
@@ -92,7 +92,7 @@ module _ {ds es : List ℕ} {m hi lo n hi' lo' : ℤ} (t : IsStored ds m hi lo) 
       let b : offset m + 1 - length ds ≡ (k + length es) + e = omega (arith, places, u.fits) in
       rw (a, number-joined ds es k, b, pow-add 10 (k + length es) e) (omega arith)
 
--- two values that lie apart, with so many magnitudes between
+-- two disjoint values with k magnitudes between
 module _ {ds es : List ℕ} {m hi lo n hi' lo' : ℤ} {v w : Unsigned} (t : IsStored ds m hi lo) (u : IsStored es n hi' lo')
     (p : record { number = number_of ds m; hi = hi; lo = lo } ≡ v)
     (q : record { number = number_of es n; hi = hi'; lo = lo' } ≡ w) (k : ℕ) (first_is_nonzero : 0 < v.number)
@@ -113,7 +113,7 @@ module _ {ds es : List ℕ} {m hi lo n hi' lo' : ℤ} {v w : Unsigned} (t : IsSt
       let s = some in
       omega (arith, ints, distance, f, l)
 
-  -- there are as many joined digits as digits with the zeros
+  -- the concatenated number has the digits of both and k zeros
   pub append_size : concatenated_size v w ≡ length ds + k + length es
   append_size =
       let f : first v.number ≡ m = sym (ap (λ (x : Unsigned). first x.number) p) ∙ first_of t in

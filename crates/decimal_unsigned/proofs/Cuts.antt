@@ -7,7 +7,7 @@ use Rattle.decimal_digits.proofs.DigitLists.{number-drop-lt}
 use Rattle.decimal_unsigned.proofs.Middle.{number_zeros}
 use Rattle.decimal_unsigned.proofs.Values.{number_of-lt, number_of-none, lowest, stored_as, last_covered}
 
--- digits in front, zeros, and the others
+-- leading digits, zeros and the other digits
 number_cut : (ds : List ℕ) (a start : ℕ) → a ≤ start → start ≤ length ds
     → ((k : ℕ) → a ≤ k → k < start → get_or ds k 0 ≡ 0)
     → number_from_digits 10 ds
@@ -86,7 +86,7 @@ module _ {ds : List ℕ} {m hi lo p m' hi' lo' : ℤ} {start : ℕ} (t : IsStore
   rest_none : length ds ≤ start → rest_value ≡ 0
   rest_none h = omega (arith, rest_lt, ap (λ k. 10 ^ k) (let z : length ds - start ≡ 0 = omega arith in z))
 
-  -- the digits that are left stand where they stood
+  -- the remaining digits keep their magnitudes
   rest_is : number_of (drop start ds) m' ≡ rest_value * 10 ^ ends
   rest_is = elim (cases_lt start (length ds)) [
     | inl h ↦

@@ -7,7 +7,7 @@ use Rattle.decimal_unsigned.specs.declared.decimal.parse.parts.Parts.{Parts}
 use Rattle.decimal_unsigned.specs.Parts.{views}
 use Rattle.decimal_unsigned.proofs.GrammarParts.{parts-sound}
 
--- what saturating leaves lies within its bounds
+-- a saturated exponent is within its bounds
 pub saturated_in : (e : ℤ) → IsSaturated (saturated e)
 saturated_in e = record { low = omega (arith, ints, clamps); high = omega (arith, ints, clamps) }
 
@@ -59,7 +59,7 @@ pub read_some : (text : List ℕ) (v : Literal) → Some v ≡ option_map satura
 unfolding read value_or_syntax
 read_some text v h = grind (arith, ints, clamps, nat_tests, common_steps, parts_some, parts_of, value_saturated)
 
--- digits behind digits are digits
+-- the concatenation of two lists of digits is a list of digits
 pub append_digits : (a b : List ℕ) → AllDigits 10 a → AllDigits 10 b → AllDigits 10 (a ++ b)
 append_digits [] b h k = k
 append_digits (c ∷ a) b h k = (h.0, append_digits a b h.1 k)
@@ -72,7 +72,7 @@ digits_some text v h =
     let g = parts-sound text w.0 w.1 in
     subst (λ u. AllDigits 10 (u.whole ++ u.fraction)) w.2 (append_digits w.0.whole w.0.fraction g.whole g.fraction)
 
--- the exponent that was found lies within the bounds
+-- the exponent of the saturated parts is within the bounds
 pub saturated_some : (text : List ℕ) (v : Literal) (e : ℤ) → Some v ≡ option_map saturated_parts (parts_of text)
     → v.exponent ≡ Some e
     → IsSaturated e

@@ -16,7 +16,7 @@ use Rattle.decimal_unsigned.proofs.Plans.{long_whole, long_fraction, all_digits,
 
 -- ---- Numbers.
 
--- a number whose first digit stands below len + k, and whose last stands at k or above, has at most len digits
+-- a number whose first digit is below len + k and whose last is at k or above has at most len digits
 size_between : {n : ℕ} (x : Extent n) (k len : ℕ) → 0 < n → x.top < len + k → k ≤ x.bottom → size n ≤ len
 size_between {n} x k len some high low =
     let e : nat_eq n 0 ≡ false = search rules in
@@ -24,7 +24,7 @@ size_between {n} x k len some high low =
     let l : last n ≡ pos x.bottom -ℤ pos 32768 = last_of x in
     rw e (omega (arith, ints, gap_is (last n) (first n), f, l, ordered x))
 
--- so has one of at most len digits with k zeros behind it
+-- a number of at most len digits with k trailing zeros has at most len digits
 size_le : (n m k len : ℕ) → n ≡ m * 10 ^ k → m < 10 ^ len → len + k ≤ 65536 → size n ≤ len
 size_le n m k len is few top = elim (cases_lt 0 n) [
   | inl some ↦
@@ -119,7 +119,7 @@ plain_value : (w : Literal) → AllDigits 10 (w.whole ++ w.fraction) → IsPlain
 unfolding scaled
 plain_value w digits plain = grind (arith, ints, clamps, nat_tests, common_steps, value_scaled)
 
--- ---- What a parser answers.
+-- ---- The result of a parser.
 
 parts_digits : (text : List ℕ) (w : Literal) → Grammar text w → AllDigits 10 (w.whole ++ w.fraction)
 parts_digits text w g = append_digits w.whole w.fraction g.whole g.fraction
@@ -141,13 +141,13 @@ few_are_held held text w g few long = go (value_of w) refl (rw (read_grammar tex
     go (Ok v) e l = omega (arith, size_value w v (parts_digits text w g) e, l, few)
     go (Err x) e l = absurd l
 
--- so a parser does not answer Limit
+-- so a parser does not fail with `Limit`
 pub never_limit : (allocates : Unsigned → Type 0) (text : List ℕ) (r : Result Unsigned ParseError)
     → IsParseResult allocates r (read text) → (w : Literal) → Grammar text w → IsPlain w → r ≡ Err Limit
     → ⊥
 never_limit allocates text r a w g plain e = plain_is_read text w g plain ((result_limit allocates r (read text) a).0 e)
 
--- and not Memory
+-- nor with `Memory`
 pub never_memory : (held : ℕ) (text : List ℕ) (r : Result Unsigned ParseError)
     → IsParseResult (λ v. held < size v.number) r (read text) → (w : Literal) → Grammar text w → digit_count w ≤ held
     → r ≡ Err Memory

@@ -4,7 +4,7 @@ use Rattle.std.proofs.Math.Nat.{mul_assoc, div-add-mod', le-mul_of_pos_right, lt
 use Rattle.std.proofs.Math.Nat.{mod-le, div-le_self}
 use Rattle.decimal_digits.proofs.Ends.{last_is}
 
--- the number has its first digit at one place and its last at another, and is a multiple of that one's weight
+-- the first digit is at one offset and the last at another, and the number is a multiple of the weight of the latter
 pub record Extent (n : ℕ) : Type 0 where
   pub top : ℕ
   pub bottom : ℕ
@@ -54,7 +54,7 @@ module _ {n : ℕ} (e : Extent n) where
     | inr h ↦ h
   ]
 
-  -- the first digit stands below each power that is more
+  -- the first digit is below the exponent of each greater power of ten
   pub top_lt : (b : ℕ) → n < 10 ^ b → e.top < b
   top_lt b h = grind (arith, pow-le-pow_right)
 
@@ -83,7 +83,7 @@ last_digit x y (suc d) h =
     let p : x * 10 ^ suc d ≡ (x * 10 ^ d) * 10 = rw (pow-suc 10 d) (omega arith) in
     rw p (mul-add-mod_self_right (x * 10 ^ d) 10 y)
 
--- ---- the sum of two numbers of which the second lies below the last digit of the first
+-- ---- the sum of two numbers of which the second is below the last digit of the first
 module _ {m n : ℕ} (a : Extent m) (b : Extent n) (disjoint : b.top < a.bottom) where
   sum_is : m + n ≡ (a.factor * 10 ^ (a.bottom - b.bottom) + b.factor) * 10 ^ b.bottom
   sum_is =
@@ -118,7 +118,7 @@ module _ {m n : ℕ} (a : Extent m) (b : Extent n) (disjoint : b.top < a.bottom)
       ∙ last_is (a.factor * 10 ^ (a.bottom - b.bottom) + b.factor) b.bottom odd (omega (arith, ordered b, b.limit))
       ∙ sym (last_of b)
 
--- ---- the part of a number that stands at and above a place, and the part below it
+-- ---- the part of a number at and above a place, and the part below it
 module _ (n q b : ℕ) (few : n < 10 ^ b) (high : b ≤ 65536) where
   above_is : n - n % 10 ^ q ≡ n / 10 ^ q * 10 ^ q
   above_is = grind (arith, div-add-mod', mod-le)

@@ -15,7 +15,7 @@ pub leading_run : (a rest : List ℕ) → AllDigits 10 a → prefix_len is_ascii
     → leading_digits (a ++ rest) ≡ a
 leading_run a rest h z = grind (arith, common_steps, prefix_len-run)
 
--- and that is what stands after it
+-- and the rest is what follows it
 pub after_run : (a rest : List ℕ) → AllDigits 10 a → prefix_len is_ascii_digit rest ≡ 0
     → after_digits (a ++ rest) ≡ rest
 after_run a rest h z = grind (arith, common_steps, prefix_len-run)
@@ -28,7 +28,7 @@ leading_are_digits (c ∷ text) = one_more c text (leading_are_digits text)
     one_more : (c : ℕ) (text : List ℕ) → AllDigits 10 (leading_digits text) → AllDigits 10 (leading_digits (c ∷ text))
     one_more c text more = grind (arith, common_steps, true-is_digit)
 
--- the leading digits and what stands after them are the text
+-- the leading digits and the rest after them are the text
 pub leading-after : (text : List ℕ) → leading_digits text ++ after_digits text ≡ text
 leading-after text = take-append-drop (prefix_len is_ascii_digit text) text
 
@@ -96,7 +96,7 @@ fraction_split : (w a rest : List ℕ) → AllDigits 10 a → prefix_len is_asci
     → after_fraction w (leading_digits (a ++ rest)) (after_digits (a ++ rest)) ≡ after_fraction w a rest
 fraction_split w a rest h z = λ i. after_fraction w (leading_run a rest h z i) (after_run a rest h z i)
 
--- a letter is no digit and no dot
+-- an exponent letter is neither a digit nor a decimal point
 letter_is : (c : ℕ) → (c ≡ 101) ⊎ (c ≡ 69)
     → (is_ascii_digit c ≡ false) × (is_letter c ≡ true) × ((c == 46) ≡ false)
 letter_is c h = grind (arith, nat_tests)

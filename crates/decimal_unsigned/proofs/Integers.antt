@@ -1,4 +1,4 @@
--- Digits whose last stands at magnitude 0, without their zeros at the end.
+-- Digits whose last is at magnitude 0, without trailing zeros.
 use Rattle.decimal_unsigned.proofs.Common.{elements, ◌≡◌, ℕ, zero, suc, ◌+◌, ◌-◌, ◌*◌, ◌^◌, ◌<◌, ◌≤◌, List, length, get_or, take, drop, refl, sym, ◌∙◌, ap, subst, arith, inl, inr, Result, Ok, Err, ℤ, pos, ◌≤ℤ◌, mul-le-mul_right, ints, pow-add, cases_lt, number_lt, length-take-le, get_or-take, recursion_from_All, number_from_digits, AllBelowBase, offset, weight, first, size, number_of, offset_is, ten_pos, below_take, IsStored, Unsigned, middle, IsNonzeroRange, All, magnitude_at, first_is}
 use Rattle.std.specs.Prelude.{IfOk}
 use Rattle.std.proofs.lemmas.Int.Digits.{all_below_base_digits_of, first_digits_of}
@@ -83,7 +83,7 @@ module _ {ds : List ℕ} {end : ℕ} (e : UpToLast ds end) where
         let f = sym (first_of whole_stored) ∙ ap first whole_number in
         λ i. record { number = whole_number i; hi = f i; lo = pos 0 }
 
-    -- and are as many as its number has
+    -- and their length is the size of the number that they write
     pub whole_size : length (take end ds) ≡ size (number_from_digits 10 ds * weight (pos 0))
     whole_size = sym (size-number_of whole_stored) ∙ ap size whole_number
 
@@ -120,7 +120,7 @@ pub shown_at_most : {v : Unsigned} (n d : ℕ) → n < 10 ^ (d + 1) → d < 3276
 shown_at_most n d few small e =
     subst (λ (w : Unsigned). (w.hi ≤ℤ pos d) × (w.lo ≡ pos 0)) (sym e) (shown_from n d few small, refl)
 
--- and so is one that an answer holds
+-- and so is the value of a result that is `Ok`
 pub answer_at_most : {E : Type 0} (answer : Result Unsigned E) (n d : ℕ) → n < 10 ^ (d + 1) → d < 32768
     → IfOk answer (λ v. v ≡ integer_value n)
     → IfOk answer (λ v. (v.hi ≤ℤ pos d) × (v.lo ≡ pos 0))

@@ -10,15 +10,15 @@ length-text : (v : Unsigned) → pos 0 ≤ℤ v.hi → v.lo ≤ℤ pos 0
     → length (text v) ≡ int_gap (pos 0) v.hi + 1 + length (fraction_text v.number v.lo)
 length-text v h l = grind (arith, ints, clamps, nat_tests, common_steps, text_is, length-append, length-bytes_down)
 
--- a byte for each digit where none stands behind the dot
+-- the length of a text without fraction digits is the number of its digits
 pub length-text_whole : (v : Unsigned) → pos 0 ≤ℤ v.hi → v.lo ≡ pos 0 → length (text v) ≡ int_gap v.lo v.hi + 1
 length-text_whole v h l = grind (arith, ints, length-text, gap_is)
 
--- and one more for the dot
+-- the length of a text with fraction digits is the number of its digits plus one
 pub length-text_dotted : (v : Unsigned) → pos 0 ≤ℤ v.hi → v.lo <ℤ pos 0 → length (text v) ≡ int_gap v.lo v.hi + 1 + 1
 length-text_dotted v h l = grind (arith, ints, length-text, length-fraction, gap_is)
 
--- the text of a value has at most 65,536 digits and a dot
+-- the text of a value has at most 65,536 digits and a decimal point
 pub text_short : (v : Unsigned) → IsValue v → length (text v) ≤ 65537
 text_short v valid = grind (arith, ints, length-text_whole, length-text_dotted, gap_is)
 

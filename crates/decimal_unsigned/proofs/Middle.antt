@@ -1,10 +1,10 @@
--- What the digits between the zeros are worth.
+-- The number that the digits between leading and trailing zeros write.
 use Rattle.decimal_unsigned.proofs.Common.{clamps, nat_tests, common_steps, elements, ◌≡◌, ℕ, suc, ◌+◌, ◌-◌, ◌*◌, ◌^◌, ◌<◌, ◌≤◌, List, [], ◌∷◌, length, get_or, take, drop, ◌++◌, map, min, refl, sym, ◌∙◌, ap, arith, ℤ, pos, ◌-ℤ◌, ints, pow-add, length-map, length-drop, length-take, get_or-take, get_or-drop, digit_value, number_from_digits, AllBelowBase, offset, offset_is, IsStored, below_take, middle, IsNonzeroRange, number_split, below_drop}
 use Rattle.std.proofs.lemmas.List.{map-append, take-map, drop-map}
 use Rattle.decimal_digits.specs.Digits.{number_of, number_at}
 use Rattle.decimal_digits.proofs.DigitLists.{number_after}
 
--- zeros are worth nothing
+-- zeros write the number 0
 pub number_zeros : (ds : List ℕ) → ((k : ℕ) → k < length ds → get_or ds k 0 ≡ 0) → number_from_digits 10 ds ≡ 0
 number_zeros [] h = refl
 number_zeros (d ∷ ds) h =
@@ -23,7 +23,7 @@ module _ (ds : List ℕ) (start end : ℕ) (n : IsNonzeroRange ds start end) whe
   pub middle_at : (i : ℕ) → i < end - start → get_or (middle start end ds) i 0 ≡ get_or ds (start + i) 0
   middle_at i h = grind (arith, common_steps)
 
-  -- what all the digits are worth, by them
+  -- all digits write the number of the middle digits times a power of ten
   pub number_middle : number_from_digits 10 ds ≡ number_from_digits 10 (middle start end ds) * 10 ^ (length ds - end)
   number_middle =
       let a = number_split 10 start ds (omega (arith, n.ordered, n.within)) in
@@ -47,7 +47,7 @@ module _ (ds : List ℕ) (start end : ℕ) (n : IsNonzeroRange ds start end) whe
   pub middle_below : AllBelowBase 10 ds → AllBelowBase 10 (middle start end ds)
   middle_below h = below_take 10 (end - start) (drop start ds) (below_drop 10 start ds h)
 
--- the same of a places in front of the dot and b behind it
+-- the same for a integer digits and b fraction digits
 pub number_of-middle : (ds : List ℕ) (start end a b : ℕ) (m : ℤ) → IsNonzeroRange ds start end → length ds ≡ a + b
     → b ≤ 32768 → offset m + (start + 1) ≡ 32768 + a
     → number_of (middle start end ds) m ≡ number_from_digits 10 ds * 10 ^ (32768 - b)
@@ -68,7 +68,7 @@ pub stored_middle : (ds : List ℕ) (start end a b : ℕ) (m : ℤ) → IsNonzer
 stored_middle ds start end a b m n d whole many few e =
     grind (arith, ints, clamps, nat_tests, common_steps, middle_below, common_steps, offset_is)
 
--- ---- The digits of two lists, one behind the other.
+-- ---- The digits of two concatenated lists.
 take-append : (n : ℕ) (a b : List ℕ) → take n (a ++ b) ≡ take n a ++ take (n - length a) b
 take-append n a b = grind (arith, elements)
 
@@ -79,7 +79,7 @@ middle_front : (a : List ℕ) (start end : ℕ) → start ≤ end
     → middle start end a ≡ middle (min start (length a)) (min end (length a)) a
 middle_front a start end p = grind (arith, elements)
 
--- those of the first list up to its end, and those of the second one from its beginning on
+-- a slice of a concatenation is the slice of the first list followed by that of the second
 pub middle_append : (a b : List ℕ) (start end : ℕ) → start ≤ end → middle start end (a ++ b)
     ≡ middle (min start (length a)) (min end (length a)) a ++ middle (start - length a) (end - length a) b
 middle_append a b start end p =

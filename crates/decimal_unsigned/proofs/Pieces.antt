@@ -18,14 +18,14 @@ module _ (v : Unsigned) (valid : IsValue v) (dot : ℕ) (dot_is : dot ≡ int_ga
   whole_length : length whole ≡ dot
   whole_length = length-bytes_down v.number v.hi dot
 
-  -- the dot follows magnitude 0
+  -- the decimal point follows magnitude 0
   dot_at : pos dot ≡ (v.hi +ℤ pos 1)
   dot_at = omega (arith, ints, gap_is (pos 0) v.hi, valid.hi_in)
 
   split : text v ≡ whole ++ rest
   split = text_is v valid.hi_in.0 valid.lo_in.1 ∙ ap (λ n. bytes_down v.number v.hi n ++ rest) (sym dot_is)
 
-  -- a text that goes on at the dot's index has a dot there, and b digits behind it
+  -- a text longer than the index of the decimal point has one there, followed by b digits
   past : (i : ℕ) → dot < i → i ≤ length (text v)
       → (b : ℕ) × (rest ≡ 46 ∷ bytes_down v.number (negsuc 0) b) × (i ≤ dot + suc b) × (b ≤ 32768)
   past i h l = go v.lo (ap length split ∙ length-append whole rest) valid.lo_in.0
@@ -38,7 +38,7 @@ module _ (v : Unsigned) (valid : IsValue v) (dot : ℕ) (dot_is : dot ≡ int_ga
           let some = length-bytes_down v.number (negsuc 0) (suc b) in
           (suc b, refl, omega (arith, e, whole_length, some), omega (arith, ints))
 
-  -- a piece above the dot
+  -- a piece before the decimal point
   pub piece_above : (from n : ℕ) → from + n ≤ dot
       → take n (drop from (text v)) ≡ bytes_down v.number (v.hi -ℤ pos from) n
   piece_above from n h =
@@ -56,7 +56,7 @@ module _ (v : Unsigned) (valid : IsValue v) (dot : ℕ) (dot_is : dot ≡ int_ga
         bytes_down-part,
       )
 
-  -- a piece of a digits, the dot and k digits
+  -- a piece of a digits, the decimal point and k digits
   pub piece_over : (from a k : ℕ) → from + a ≡ dot → from + (a + suc k) ≤ length (text v)
       → take (a + suc k) (drop from (text v))
       ≡ bytes_down v.number (v.hi -ℤ pos from) a ++ 46 ∷ bytes_down v.number (negsuc 0) k
@@ -84,7 +84,7 @@ module _ (v : Unsigned) (valid : IsValue v) (dot : ℕ) (dot_is : dot ≡ int_ga
         take-append-add,
       )
 
-  -- a piece below the dot
+  -- a piece after the decimal point
   pub piece_below : (from n : ℕ) → dot < from → 0 < n → from + n ≤ length (text v)
       → take n (drop from (text v)) ≡ bytes_down v.number (v.hi -ℤ pos (from - 1)) n
   piece_below from n h some l =
@@ -107,32 +107,32 @@ module _ (v : Unsigned) (valid : IsValue v) (dot : ℕ) (dot_is : dot ≡ int_ga
       )
 
   -- ---- One byte.
-  -- a byte above the dot writes the digit of its magnitude
+  -- a byte before the decimal point is the digit of its magnitude
   pub byte_above : (i : ℕ) → i < dot → byte v.number (v.hi -ℤ pos i) ≡ get_or (text v) i 0
   byte_above i h = one_byte (text v) i _ (piece_above i 1 (omega arith))
 
-  -- the byte at the dot's index is the dot
+  -- the byte at the index of the decimal point is the decimal point
   pub byte_dot : (i : ℕ) → i ≡ dot → i < length (text v) → 46 ≡ get_or (text v) i 0
   byte_dot i e l = one_byte (text v) i 46 (piece_over i 0 0 (omega arith) (omega arith))
 
-  -- a byte below the dot writes the digit of its magnitude
+  -- a byte after the decimal point is the digit of its magnitude
   pub byte_below : (i : ℕ) → dot < i → i < length (text v)
       → byte v.number (v.hi -ℤ pos (i - 1)) ≡ get_or (text v) i 0
   byte_below i h l = one_byte (text v) i _ (piece_below i 1 h (omega arith) (omega arith))
 
   -- ---- The magnitudes of a piece are within the limits.
-  -- above the dot
+  -- before the decimal point
   pub fits_above : (from n : ℕ) → from + n ≤ dot → n ≤ offset (v.hi -ℤ pos from) + 1
   fits_above from n h = omega (arith, ints, offset_is (v.hi -ℤ pos from), dot_at)
 
-  -- behind a dot within the piece
+  -- after a decimal point within the piece
   pub fits_after : (from a k : ℕ) → from + a ≡ dot → from + (a + suc k) ≤ length (text v)
       → k ≤ offset (negsuc 0) + 1
   fits_after from a k e l =
       let p = past (dot + suc k) (omega arith) (omega arith) in
       omega (arith, offset_is (negsuc 0), p.2, p.3)
 
-  -- below the dot
+  -- after the decimal point
   pub fits_below : (from n : ℕ) → dot < from → from + n ≤ length (text v)
       → (n ≤ offset (v.hi -ℤ pos (from - 1)) + 1) × (0 < n → negsuc 32767 ≤ℤ (v.hi -ℤ pos (from - 1)))
   fits_below from n h l =

@@ -41,17 +41,17 @@ none_or_zero v None n = refl
 none_or_zero v (Some e) n = rw n refl
 
 -- ---- too many digits
--- more than 32,768 digits in front of the dot
+-- more than 32,768 integer digits exceed the limit
 pub long_whole : (w : Literal) → 32768 < length w.whole → value_of w ≡ Err limit
 unfolding value_of
 long_whole w h = grind (arith, nat_tests)
 
--- or behind it
+-- more than 32,768 fraction digits exceed the limit
 pub long_fraction : (w : Literal) → 32768 < length w.fraction → value_of w ≡ Err limit
 unfolding value_of
 long_fraction w h = grind (arith, nat_tests)
 
--- how many digits there are on both sides of the dot
+-- the digits are as long as integer and fraction digits together
 pub length_digits : (w : Literal) → length (digits_of w) ≡ length w.whole + length w.fraction
 length_digits w = length-map (w.whole ++ w.fraction) digit_value ∙ length-append w.whole w.fraction
 
@@ -133,7 +133,7 @@ module _ (w : Literal) (digits : AllDigits 10 (w.whole ++ w.fraction)) (few : le
     }
 
     -- ---- an exponent
-    -- an exponent that moves the written range past a limit is refused
+    -- an exponent that moves the written range past a limit is rejected with `limit`
     pub limit_scaled : (e : ℤ) → w.exponent ≡ Some e
         → (pos 32767 <ℤ (pos (length w.whole - 1) +ℤ e)) ⊎ (((pos 0 -ℤ pos (length w.fraction)) +ℤ e) <ℤ negsuc 32767)
         → value_of w ≡ Err limit

@@ -9,8 +9,8 @@ use Rattle.decimal_unsigned.specs.Reading.{scaled, value_of}
 use Rattle.decimal_unsigned.proofs.ReadingGrammar.{read_grammar}
 use Rattle.decimal_unsigned.proofs.TextBytes.{byte, bytes_down, length-bytes_down, fraction_text, text_is}
 
--- ---- What bytes of digits are worth.
--- a digit's byte
+-- ---- The numbers that ASCII digits write.
+-- the ASCII byte of a digit has its value
 digit_byte : (d : ℕ) → d < 10 → digit_value (48 + d) ≡ d
 digit_byte d h = grind (arith, digit_value_digit)
 

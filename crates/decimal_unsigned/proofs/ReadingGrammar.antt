@@ -34,7 +34,7 @@ pub read_grammar : (text : List ℕ) (w : Literal) → Grammar text w → read t
 unfolding read value_or_syntax
 read_grammar text w g = ap value_or_syntax (parts-complete text w g)
 
--- what is not refused for its syntax has parts
+-- a text that is not a syntax error has parts
 pub grammar_if : (text : List ℕ) → ¬ (read text ≡ Err syntax)
     → (w : Literal) × Grammar text w × (read text ≡ value_of w)
 unfolding read value_or_syntax
@@ -58,7 +58,7 @@ syntax_is text = (λ e w g. not_syntax w (sym (read_grammar text w g) ∙ e), λ
 pub follows_grammar : (text : List ℕ) → FollowsGrammar text
 follows_grammar text = record { value = read_grammar text; none = (syntax_is text).1 }
 
--- a text is beyond the limits exactly if its parts are
+-- a text exceeds the limits exactly if its parts do
 pub limit_is : (text : List ℕ) → (read text ≡ Err limit) ↔ ((w : Literal) × Grammar text w × (value_of w ≡ Err limit))
 limit_is text = (
   λ e. let k = grammar_if text (λ s. let never : ⊥ = cc in never) in (k.0, k.1, sym k.2 ∙ e),
@@ -69,15 +69,15 @@ limit_is text = (
 pub value_is : (text : List ℕ) (v : Unsigned) → read text ≡ Ok v → (w : Literal) × Grammar text w × (value_of w ≡ Ok v)
 value_is text v e = let k = grammar_if text (λ s. let never : ⊥ = cc in never) in (k.0, k.1, sym k.2 ∙ e)
 
--- ---- What a parser answered.
+-- ---- The result of a parser.
 
--- it answers Syntax exactly where reading comes to that
+-- it fails with `Syntax` exactly if reading does
 pub result_syntax : {V : Type 0} (allocates : V → Type 0) (r : Result V ParseError) (q : Result V ReadError)
     → IsParseResult allocates r q
     → (r ≡ Err Syntax) ↔ (q ≡ Err syntax)
 result_syntax allocates r q a = grind arith
 
--- and Limit exactly where it comes to that
+-- and with `Limit` exactly if reading does
 pub result_limit : {V : Type 0} (allocates : V → Type 0) (r : Result V ParseError) (q : Result V ReadError)
     → IsParseResult allocates r q
     → (r ≡ Err Limit) ↔ (q ≡ Err limit)
@@ -89,7 +89,7 @@ result_value : (allocates : Unsigned → Type 0) (text : List ℕ) (r : Result U
 result_value allocates text (Ok v) a = value_is text v a
 result_value allocates text (Err e) a = tt
 
--- what answers as reading does answers by the grammar
+-- a result that follows reading follows the grammar
 pub result_follows_grammar : (allocates : Unsigned → Type 0) (text : List ℕ) (r : Result Unsigned ParseError)
     → IsParseResult allocates r (read text)
     → ResultFollowsGrammar text r
@@ -104,7 +104,7 @@ result_follows_grammar allocates text r a =
       found = result_value allocates text r a;
     }
 
--- how many digits lie from start up to end
+-- the number of digits from start up to end
 pub middle_long : (start end : ℕ) (ds : List ℕ) → start ≤ end → end ≤ length ds
     → length (middle start end ds) ≡ end - start
 middle_long start end ds p q = length-take-le (end - start) (drop start ds) (omega (arith, length-drop start ds))

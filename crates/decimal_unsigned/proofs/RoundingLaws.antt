@@ -13,9 +13,9 @@ use Rattle.decimal_unsigned.proofs.ValueLaws.{below_limit}
 use Rattle.decimal_unsigned.proofs.FirstLast.{first_le}
 use Rattle.decimal_unsigned.proofs.Roundings.{rounded_to-large}
 
--- ---- What a rounding answers.
+-- ---- The result of a rounding.
 
--- what the remainder gives is what the multiple gives that the mode names
+-- the rounding by the remainder is the rounding to the multiple that the mode names
 pub is_rounded : (v : Unsigned) (p : ℤ) (mode : UnsignedRoundingMode) (increment : RoundingIncrement)
     {new : Option Unsigned} → IsValue v → rounded v p mode increment ≡ new
     → IsRounded v p mode increment new
@@ -145,11 +145,11 @@ module _ (v : Unsigned) (p : ℤ) (low : negsuc 32767 ≤ℤ p) (valid : IsValue
 
 -- ---- Order.
 
--- the number that stands after a rounding: the multiple, or the old number where that one reaches the limit
+-- the number after a rounding: the multiple, or the old number if the multiple reaches the limit
 abbrev pub new_number : UnsignedRoundingMode → ℕ → ℕ → ℕ
 new_number mode u n = if reaches_limit (rounded_number mode u n) then n else rounded_number mode u n
 
--- it is the number of what stands after a rounding
+-- it is the number of the value after a rounding
 pub number-after_rounding : (v : Unsigned) (p : ℤ) (mode : UnsignedRoundingMode) (increment : RoundingIncrement)
     → (after_rounding v p mode increment).number ≡ new_number mode (unit_at increment p) v.number
 number-after_rounding v p mode increment = grind (arith, nat_tests)
@@ -159,8 +159,8 @@ module _ (mode : UnsignedRoundingMode) (u : ℕ) (pos_u : 0 < u) where
   pub new_number-zero : new_number mode u 0 ≡ 0
   new_number-zero = let z = rounded_number-zero mode u pos_u in grind (arith, nat_tests)
 
-  -- a greater number leaves no less: one below the lesser number's multiple is rounded to no more than that one, and so
-  -- is not refused where that is not
+  -- a greater number results in no less: one below the lesser number's multiple is rounded to at most that multiple,
+  -- and so succeeds if the rounding to that multiple does
   pub new_number-monotone : (n m : ℕ) → n ≤ m → new_number mode u n ≤ new_number mode u m
   new_number-monotone n m l =
       let up = rounded_number-monotone mode u n m pos_u l in
@@ -172,7 +172,7 @@ module _ (mode : UnsignedRoundingMode) (u : ℕ) (pos_u : 0 < u) where
       ) in
       grind (arith, nat_tests)
 
--- what stands after a rounding of the greater number is no less
+-- rounding is monotone: the value after rounding a greater number is no less
 pub rounding_is_monotone : (v w : Unsigned) (p : ℤ) (mode : UnsignedRoundingMode) (increment : RoundingIncrement)
     → RoundingIsMonotone v w p mode increment
 rounding_is_monotone v w p mode increment l =

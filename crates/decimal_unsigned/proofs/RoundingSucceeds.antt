@@ -1,4 +1,4 @@
--- When a rounding is not refused: each multiple that a mode names is below the limit.
+-- When a rounding succeeds: each multiple that a mode names is below the limit.
 use Rattle.decimal_unsigned.proofs.Common.{clamps, nat_tests, common_steps, ◌≡◌, ℕ, ◌+◌, ◌-◌, ◌*◌, ◌^◌, ◌<◌, ◌≤◌, refl, ◌∙◌, ap, arith, inl, inr, Result, Ok, Err, None, ℤ, pos, negsuc, ◌+ℤ◌, ◌≤ℤ◌, ◌<ℤ◌, pow-le-pow_right, mul-le-mul_right, ints, pow-add, cases_lt, offset, weight, number_limit, unit_at, rounded_number, RoundingIncrement, MultiplesOf1, ten_pos, offset_is, Unsigned, IsValue, IsRounded, none-some, RoundError, UnsignedRoundingMode, unit_pos}
 use Rattle.std.specs.Prelude.{IsErrOf, IsOk}
 use Rattle.decimal_digits.specs.declared.rounding.RoundError.TheVariants.{Limit, Memory}
@@ -65,7 +65,7 @@ module _ (v : Unsigned) (q : ℤ) (least : negsuc 32767 ≤ℤ q) (greatest : q 
         )
   ]
 
-  -- where there is room each multiple is below the limit
+  -- under `IsBelowLimit` each multiple is below the limit
   pub below_limit : (increment : RoundingIncrement) → IsBelowLimit v q increment
       → rounded_number mode (unit_at increment q) v.number < number_limit
   below_limit MultiplesOf1 room =
@@ -77,21 +77,21 @@ module _ (v : Unsigned) (q : ℤ) (least : negsuc 32767 ≤ℤ q) (greatest : q 
   below_limit MultiplesOf25 room =
       below_by 25 4 1 refl (omega arith) (omega arith) (unit_pos MultiplesOf25 q) room.0 (omega (arith, ints, room.1))
 
--- ---- Answers.
+-- ---- Results.
 
--- where one digit more is held without memory, none is wanted
+-- if the store has the capacity for one more digit, no allocation is needed
 no_memory : (held : ℕ) (v : Unsigned) (q : ℤ) (mode : UnsignedRoundingMode) (increment : RoundingIncrement)
     → RoundingNeedsMemory held v q mode increment → HasCapacity held v increment → ⊥
 no_memory held v q mode increment r more = grind arith
 
 module _ (held : ℕ) (v : Unsigned) (q : ℤ) (mode : UnsignedRoundingMode) (increment : RoundingIncrement)
     (least : negsuc 32767 ≤ℤ q) (greatest : q ≤ℤ pos 32767) where
-  -- where there is room a rounding makes a value
+  -- under `IsBelowLimit` a rounding has a result
   pub rounding_is_some : IsBelowLimit v q increment → IsRounded v q mode increment None → ⊥
   rounding_is_some room r =
       grind (arith, ints, clamps, nat_tests, common_steps, none-some, rounded_to-small, below_limit)
 
-  -- the limit does not refuse it
+  -- and it does not fail with `Limit`
   pub not_limit_error : {A : Type 0} (new : Unsigned) (answer : Result A RoundError)
       → RoundsInPlace held v q mode increment new answer → IsBelowLimit v q increment
       → IsErrOf answer Limit → ⊥
@@ -99,7 +99,7 @@ module _ (held : ℕ) (v : Unsigned) (q : ℤ) (mode : UnsignedRoundingMode) (in
   not_limit_error new (Err Limit) r room e = rounding_is_some room r.0
   not_limit_error new (Err Memory) r room e = cc
 
-  -- nor does want of memory, where one digit more is held without it
+  -- nor with `Memory`, if the store has the capacity for one more digit
   pub rounding_is_ok : {A : Type 0} (new : Unsigned) (answer : Result A RoundError)
       → RoundsInPlace held v q mode increment new answer → IsBelowLimit v q increment
       → HasCapacity held v increment → IsOk answer

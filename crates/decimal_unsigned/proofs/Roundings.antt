@@ -23,13 +23,13 @@ pub trunc_makes : (v : Unsigned) (p : ℤ) (increment : RoundingIncrement) → v
 trunc_makes v p increment h =
     let u = unit_pos increment p in grind (arith, nat_tests, trunc_le)
 
--- an answer that has no reason to refuse is Ok
+-- a result without a reason to fail is Ok
 pub ok_unless_none : {A E V : Type 0} (makes : Option V → Type 0) (old new : V) (r : Result A E)
     → UpdatesInPlace makes old new r → (makes None → ⊥)
     → IsOk r
 ok_unless_none makes old new r a never = grind arith
 
--- by 1 only the limit refuses
+-- a rounding by 1 fails only for the limit
 pub updates_by_1 : {A B E : Type 0} (held : ℕ) (v : Unsigned) (p : ℤ) (mode : UnsignedRoundingMode) (new : Unsigned)
     (r : Result A RoundError) (s : Result B E) → is_ok s ≡ is_ok r
     → RoundsInPlace held v p mode MultiplesOf1 new r
@@ -40,7 +40,7 @@ updates_by_1 held v p mode new (Err x) (Ok y) e a = absurd (cc)
 updates_by_1 held v p mode new (Err Limit) (Err y) e a = a
 updates_by_1 held v p mode new (Err Memory) (Err y) e a = absurd (let by_25 = a.0.by_25 in cc)
 
--- no digits stand for 0, whose first magnitude is 0
+-- if no digits represent a number, it is 0 and its magnitude is 0
 unspelled : {ds : List ℕ} {m : ℤ} {n : ℕ} → Represents ds m n → length ds ≡ 0 → m ≡ pos 0
 unspelled {ds} {m} s z = sym s.magnitude_is ∙ ap first (sym s.number ∙ number_of-none ds m z) ∙ first_zero
 
@@ -70,7 +70,7 @@ pub number_of-stored : {ds es : List ℕ} {m k hi lo : ℤ} {v : Unsigned} → I
     → number_of es k ≡ v.number
 number_of-stored {ds} {es} {m} {k} t e l n = (λ i. number_of (l i) (n i)) ∙ ap (λ (v : Unsigned). v.number) e
 
--- the number has as many digits as the list
+-- the size of the number is the length of the list
 pub length-stored : {ds es : List ℕ} {m hi lo : ℤ} {v : Unsigned} → IsStored ds m hi lo
     → record { number = number_of ds m; hi = hi; lo = lo } ≡ v → es ≡ ds
     → length es ≡ size v.number

@@ -29,7 +29,7 @@ pub value_of_view : {ds : List ℕ} {m hi lo : ℤ} {v : Unsigned} → IsStored 
     → IsValue v
 value_of_view t e = subst IsValue e (value_of_stored t)
 
--- what is told of the fields is told of the value
+-- a function's result on the stored fields is its result on the value
 pub told : {ds : List ℕ} {m hi lo : ℤ} {v : Unsigned} → IsStored ds m hi lo
     → record { number = number_of ds m; hi = hi; lo = lo } ≡ v → {A : Type 0} (f : Unsigned → A) {r : A}
     → r ≡ f (record { number = number_of ds m; hi = hi; lo = lo })

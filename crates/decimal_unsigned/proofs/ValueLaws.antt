@@ -12,7 +12,7 @@ use Rattle.decimal_unsigned.proofs.Lengths.{length-text_whole, length-text_dotte
 
 -- ---- Trims.
 
--- what stands after both trims, by the number alone
+-- the value after both trims, by the number alone
 bare : ℕ → Unsigned
 bare n = record { number = n; hi = int_max (first n) (pos 0); lo = int_min (last n) (pos 0) }
 
@@ -41,15 +41,15 @@ module _ (w : Unsigned) (valid : IsValue w) where
         omega (arith, ints, z, valid.lo_in)
   ]
 
--- each value shows as much as one that is trimmed in front
+-- trimming leading zeros makes the greatest magnitude the least possible
 pub least_hi : (v : Unsigned) → IsLeastHi (trimmed_start v)
 least_hi v w valid e = grind (arith, ints, clamps, nat_tests, common_steps, first_in)
 
--- and as one that is trimmed behind
+-- trimming trailing zeros makes the least magnitude the greatest possible
 pub greatest_lo : (v : Unsigned) → IsGreatestLo (trimmed_end v)
 greatest_lo v w valid e = grind (arith, ints, clamps, nat_tests, common_steps, last_in)
 
--- a range that lies in another has no longer text
+-- a value whose range is within another's has no longer a text
 shorter : (v w : Unsigned) → pos 0 ≤ℤ v.hi → v.lo ≤ℤ pos 0 → v.hi ≤ℤ w.hi → w.lo ≤ℤ v.lo
     → length (text v) ≤ length (text w)
 shorter v w h l up down = grind (arith, ints, length-text_whole, length-text_dotted, gap_is)
@@ -64,7 +64,7 @@ shortest v w valid e =
 
 -- ---- The parts of a value at a position.
 module _ (v : Unsigned) (p : ℤ) (valid : IsValue v) where
-  -- a value lies below 10 to the 32768
+  -- a value is below 10 to the 32768
   pub below_limit : v.number < number_limit
   below_limit =
       let k : offset v.hi + 1 ≤ offset (pos 32768) =
@@ -72,7 +72,7 @@ module _ (v : Unsigned) (p : ℤ) (valid : IsValue v) where
       let m : 10 ^ (offset v.hi + 1) ≤ number_limit = pow-le-pow_right (omega arith) k in
       omega (arith, valid.below, m)
 
-  -- a rounding toward zero is never refused
+  -- a rounding toward zero always succeeds
   pub trunc_succeeds : (increment : RoundingIncrement) → rounded v p Trunc increment ≡ None → ⊥
   trunc_succeeds increment e = none-some _ (sym e ∙ trunc_makes v p increment below_limit)
 

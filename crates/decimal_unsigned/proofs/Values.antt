@@ -8,7 +8,7 @@ use Rattle.decimal_digits.proofs.DigitLists.{number_front, number-digit}
 use Rattle.decimal_digits.proofs.Offsets.{magnitude_at-offset}
 use Rattle.decimal_digits.proofs.Ends.{last_is, last_zero, digit_above, digit_below, shift_down}
 
--- the place of the last digit, and one
+-- the offset of the last digit
 abbrev ends : List ℕ → ℤ → ℕ
 ends ds m = offset m + 1 - length ds
 
@@ -49,7 +49,7 @@ module _ {ds : List ℕ} {m hi lo : ℤ} (t : IsStored ds m hi lo) where
   unfolding number_of number_at
   number_of-none h = grind (arith, ints, clamps, nat_tests, common_steps, number_lt)
 
-  -- the first digit stands at -32768 or above
+  -- the first digit is at -32768 or above
   pub lowest : negsuc 32767 ≤ℤ m
   lowest = omega (arith, ints, t.lo_covers, t.in_range)
 
@@ -102,7 +102,7 @@ module _ {ds : List ℕ} {m hi lo : ℤ} (t : IsStored ds m hi lo) where
   pub some_of : 0 < number_of ds m → 0 < length ds
   some_of p = grind (arith, number_of-none)
 
--- no digits are worth 0
+-- no digits write the number 0
 pub number_of_empty : (m : ℤ) → number_of [] m ≡ 0
 unfolding number_of number_at
 number_of_empty m = omega arith
@@ -156,11 +156,11 @@ module _ {ds : List ℕ} {m hi lo : ℤ} (t : IsStored ds m hi lo) where
       → IsStored ds m hi low
   lower_stored low z l b = grind (arith, ints, offset_is, last-number_of t)
 
-  -- the last digit stands at -32768 or above
+  -- the last digit is at -32768 or above
   pub last_in : negsuc 32767 ≤ℤ last (number_of ds m)
   last_in = grind (arith, ints, offset_is, last-number_of t, last_of_none t)
 
--- the number has as many digits as the list
+-- the size of the number is the length of the list
 pub size-number_of : {ds : List ℕ} {m hi lo : ℤ} (t : IsStored ds m hi lo) → size (number_of ds m) ≡ length ds
 size-number_of t =
     grind (arith, ints, nat_tests, gap_is, number_of-pos t, last-number_of t, first_of t, number_of-none t)

@@ -16,21 +16,21 @@ use Rattle.decimal_unsigned.specs.declared.error.IntegerError.{IntegerError}
 use Rattle.decimal_unsigned.specs.ToInteger.{in_range, as_integer}
 use Rattle.decimal_unsigned.proofs.Shown.{told}
 
--- ---- which answer there is
--- an integer below the bound is the answer
+-- ---- the result
+-- an integer below the bound is in range
 pub in_range-below : (bound n : ℕ) → n < bound → in_range bound n ≡ Ok n
 in_range-below bound n h = grind (arith, nat_tests)
 
--- a greater one is refused
+-- any other integer is out of range
 pub in_range-above : (bound n : ℕ) → bound ≤ n → in_range bound n ≡ Err OutOfRange
 in_range-above bound n h = grind (arith, nat_tests)
 
--- so many whole ones
+-- the number of an integer n is converted to n, if n is in range
 pub as_integer-whole : (bound number n : ℕ) → number ≡ n * weight (pos 0) → as_integer bound number ≡ in_range bound n
 as_integer-whole bound number n e =
     grind (arith, ints, clamps, nat_tests, common_steps, mul-mod_left, mul-div_cancel, ten_pos)
 
--- a part behind the dot
+-- a number with a nonzero fraction is not whole
 pub as_integer-part : (bound number : ℕ) → ¬ (number % weight (pos 0) ≡ 0) → as_integer bound number ≡ Err NotWhole
 as_integer-part bound number h = grind (arith, nat_tests)
 
@@ -39,7 +39,7 @@ as_integer-part bound number h = grind (arith, nat_tests)
 pub leading_next : (i : ℕ) (ds : List ℕ) → leading (i + 1) ds ≡ leading i ds * 10 + get_or ds i 0
 leading_next i ds = grind (arith, ints, clamps, nat_tests, common_steps, leading_more)
 
--- so many digits are below that power of ten
+-- i digits write a number below 10 ^ i
 pub leading_lt : (i : ℕ) (ds : List ℕ) → All (λ d. d < 10) ds → leading i ds < 10 ^ i
 leading_lt i ds h = grind (
   arith,
@@ -91,17 +91,17 @@ module _ {ds : List ℕ} {m hi lo : ℤ} (t : IsStored ds m hi lo) where
   pub some_digits : ¬ (m ≡ pos 0) → 0 < length ds
   some_digits h = grind arith
 
--- ---- which answer a value has
+-- ---- the result for a value
 module _ {ds : List ℕ} {m hi lo : ℤ} {v : Unsigned} (t : IsStored ds m hi lo)
     (view : record { number = number_of ds m; hi = hi; lo = lo } ≡ v) (bound : ℕ) where
-  -- what a number is told to be, and that it is that of a value
+  -- the conversion of a number, which is that of a value
   abbrev Answer : Result ℕ IntegerError → Type 0
   Answer r = record { value : r ≡ as_integer bound v.number; valid : IsValue v }
 
   of_value : {r : Result ℕ IntegerError} → r ≡ as_integer bound (number_of ds m) → Answer r
   of_value = told t view (λ w. as_integer bound w.number)
 
-  -- a part behind the dot is the answer
+  -- if there are nonzero fraction digits, the result is `NotWhole`
   pub part_result : (m +ℤ pos 1) <ℤ pos (length ds) → Answer (Err NotWhole)
   part_result below = of_value (sym (as_integer-part bound (number_of ds m) (part_after t some below)))
     where
@@ -109,7 +109,7 @@ module _ {ds : List ℕ} {m hi lo : ℤ} {v : Unsigned} (t : IsStored ds m hi lo
       some = grind (arith, ints)
 
   module _ (places : ℕ) (at : pos 0 +ℤ pos places ≡ m +ℤ pos 1) (few : length ds ≤ places) where
-    -- the integer that the digits write is the answer, or it is out of range
+    -- otherwise the result is the integer that the digits write, or `OutOfRange`
     pub whole_result : {r : Result ℕ IntegerError} → r ≡ in_range bound (leading places ds) → Answer r
     whole_result e =
         of_value (e ∙ sym (as_integer-whole bound (number_of ds m) (leading places ds) (whole_number t places at few)))
@@ -130,7 +130,7 @@ module _ {ds : List ℕ} {m hi lo : ℤ} {v : Unsigned} (t : IsStored ds m hi lo
         let all = ap (number_at places) (take_all places ds few) in
         whole_result (sym (in_range-above bound (leading places ds) (omega (arith, least, higher, all))))
 
--- ---- The integer that the halves of a number write.
+-- ---- The integer that the nibbles of a number write.
 -- two digits
 abbrev two : ℕ → ℕ
 two byte = byte / 16 * 10 + byte % 16
@@ -143,7 +143,7 @@ pub by_pairs : (a b c d e f g h : ℕ)
 unfolding nibbles
 by_pairs a b c d e f g h = omega arith
 
--- zeros in front count nothing
+-- leading zeros do not change a number
 zeros_in_front : (base k : ℕ) (xs : List ℕ) → number_from_digits base (replicate k 0 ++ xs) ≡ number_from_digits base xs
 zeros_in_front base k xs = grind (arith, ints, clamps, nat_tests, common_steps, number_after_append, number_zeros)
 
@@ -165,7 +165,7 @@ module _ (ds : List ℕ) (h : All (λ d. d < 10) ds) (few : length ds ≤ 16) wh
   shifted_front count l =
       grind (arith, ints, clamps, nat_tests, common_steps, sixteen_are, hex_pow, number-div, all_hex)
 
-  -- these are the last of its halves
+  -- the digits are its last nibbles
   front_halves_are : (count : ℕ) → count ≤ 16
       → nibbles (to_be_bytes w64 (number_from_digits 16 (take count all))) ≡ replicate (16 - count) 0 ++ take count all
   front_halves_are count l =
@@ -177,7 +177,7 @@ module _ (ds : List ℕ) (h : All (λ d. d < 10) ds) (few : length ds ≤ 16) wh
       ap (λ m. nibbles (to_be_bytes w64 m)) (sym (zeros_in_front 16 (16 - count) xs))
       ∙ nibbles_of_bytes 8 0 zs len (zeros_below (16 - count) xs (below_take 16 count all all_hex))
 
-  -- a place beyond the digits holds 0
+  -- a place after the digits is 0
   place_of : (i : ℕ) → i < 16 → get_or all i 0 ≡ get_or ds i 0
   place_of i l = grind (arith, ints, clamps, nat_tests, common_steps, sixteen_digit, sixteen_zero, get_or-eq_default)
 

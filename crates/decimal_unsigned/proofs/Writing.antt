@@ -17,7 +17,7 @@ unfolding text_down
 text_down-zero number m = refl
 
 -- ---- the text, piece by piece
--- a piece and what stands in front of it
+-- a prefix of the text followed by the next piece is a longer prefix
 pub piece_taken : (all piece : List ℕ) (i k : ℕ) → i + k ≤ length all → piece ≡ take k (drop i all)
     → take i all ++ piece ≡ take (i + length piece) all
 piece_taken all piece i k h e = grind (arith, elements)
@@ -33,7 +33,7 @@ pub wrote_more : (a b c : Option (List ℕ)) (all piece : List ℕ) (i k : ℕ) 
 wrote_more a b c all piece i k h e p q =
     subst (Appends a c) (piece_taken all piece i k h e) (appends_both a b c (take i all) piece p q)
 
--- the sink refused a byte of the next piece
+-- if the sink failed within the next piece, it has accepted a prefix of the text
 pub wrote_part : (a b c : Option (List ℕ)) (all piece : List ℕ) (i k : ℕ) → i + k ≤ length all
     → piece ≡ take k (drop i all) → Appends a b (take i all) → AppendsPrefix b c piece
     → AppendsPrefix a c all

@@ -25,7 +25,7 @@ use Rattle.decimal_unsigned.proofs.ConcatenationLaws.{extent_of}
 use Rattle.decimal_unsigned.proofs.FirstLast.{first_of, last_of}
 use Rattle.decimal_unsigned.proofs.GrammarParts.{parts-complete}
 use Rattle.decimal_unsigned.proofs.WholeNumbers as whole_numbers
--- for `omega`: a place is the magnitude and 32768
+-- for `omega`: an offset is the magnitude plus 32768
 pub use Rattle.decimal_digits.proofs.Offsets.{offset_is}
 -- for `omega`: how far one magnitude is above another
 pub use Rattle.decimal_digits.proofs.Offsets.{gap_is}
@@ -33,25 +33,25 @@ pub use Rattle.decimal_digits.proofs.Offsets.{gap_is}
 pub use Rattle.decimal_digits.proofs.DigitLists.{ten_pos}
 -- a power of ten is the product of two
 pub use Rattle.decimal_digits.proofs.NumberAt.{powers}
--- what digits and then digits are worth
+-- the number that a concatenation of digits writes
 pub use Rattle.decimal_digits.proofs.DigitLists.{number-append}
 -- a magnitude that 16 bits hold is read as it was written
 pub use Rattle.decimal_unsigned.proofs.Values.{narrow_kept}
 -- the greatest number that passes a test
 pub use Rattle.decimal_digits.proofs.Ends.{greatest_is}
--- a number times a power of ten, without its digits below a place
+-- a number times a power of ten, without its digits below an offset
 pub use Rattle.decimal_digits.proofs.Ends.{shift_down}
 -- the first digit of a number between two powers of ten
 pub use Rattle.decimal_digits.proofs.Ends.{first_is}
--- the last digit of a number that ends in so many zeros
+-- the last nonzero digit of v * 10 ^ e is at the offset e, if v does not end in 0
 pub use Rattle.decimal_digits.proofs.Ends.{last_is}
 -- the last digit of a number that a power of ten divides, and no higher one
 pub use Rattle.decimal_digits.proofs.Ends.{last_at, last_zero}
 -- a number that a range up to hi holds has its first digit at hi or below
 pub use Rattle.decimal_unsigned.proofs.FirstLast.{first_le}
--- a text is made digit by digit: one magnitude, and then the others
+-- a text is constructed digit by digit: one magnitude, and then the others
 pub use Rattle.decimal_unsigned.proofs.Writing.{text_down-suc}
--- and no magnitude has no text
+-- and the text of no magnitudes is empty
 pub use Rattle.decimal_unsigned.proofs.Writing.{text_down-zero}
 -- the text of a value reads as the value
 pub use Rattle.decimal_unsigned.proofs.ReadBack.{read_text}
@@ -63,20 +63,20 @@ pub use Rattle.decimal_unsigned.proofs.ValueLaws.{trimmed_is_normal_form}
 pub use Rattle.decimal_digits.proofs.RoundingLaws.{rounded_number-multiple}
 -- a greater number is rounded to no less
 pub use Rattle.decimal_digits.proofs.RoundingLaws.{rounded_number-monotone}
--- what is appended to what was appended; nothing is appended; what was appended stays
+-- appends in sequence append the concatenation; an empty append; an append is preserved where contents are kept
 pub use Rattle.decimal_digits.proofs.Sinks.{appends_both, appends_none, appends_kept}
--- a beginning of a text is one of a longer text; a text, and then a beginning of the next; nothing is one of each text
+-- a prefix is a prefix of a longer text; a text and then a prefix of the next; the empty text is a prefix of each
 pub use Rattle.decimal_digits.proofs.Sinks.{prefix_more, then_prefix, prefix_none}
--- what holds anyway holds on an error
+-- a true proposition holds on an error
 pub use Rattle.decimal_digits.proofs.Results.{on_err}
 
--- ---- Magnitudes. `omega (arith, ints, offset_is m)` compares the places of magnitudes.
--- a magnitude that is k higher counts 10 to the k times as much
+-- ---- Magnitudes. `omega (arith, ints, offset_is m)` compares the offsets of magnitudes.
+-- the weight of a magnitude k higher is 10 to the k times as much
 pub weight_up : (m : ℤ) (k : ℕ) → negsuc 32767 ≤ℤ m → weight (m +ℤ pos k) ≡ weight m * 10 ^ k
 weight_up m k h = powers (offset m) k (offset (m +ℤ pos k)) (omega (arith, ints, offset_is m, offset_is (m +ℤ pos k)))
 
 -- ---- The first and the last digit of a number.
--- a shift down by k places moves the first digit down by k, where the number has as many places
+-- division by 10 ^ k moves the first digit down by k, if that is at offset k or above
 pub first_down : (n top k : ℕ) → 10 ^ top ≤ n → n < 10 ^ (top + 1) → k ≤ top → top < 65536
     → first (n / 10 ^ k) ≡ magnitude_at (top - k)
 first_down n top k h l fits few =
@@ -85,7 +85,7 @@ first_down n top k h l fits few =
     first_is (n / 10 ^ k) (top - k) (le-div _ n _ (ten_pos k) (omega (arith, low)))
     (div_below n _ _ (ten_pos k) (omega (arith, high))) (omega arith)
 
--- and the last digit down by k, where the number ends in as many zeros
+-- and the last digit down by k, if the number has at least k trailing zeros
 pub last_down : (v e k : ℕ) → 0 < v % 10 → k ≤ e → e < 65536 → last (v * 10 ^ e / 10 ^ k) ≡ magnitude_at (e - k)
 last_down v e k odd h few = ap last (shift_up v e k h) ∙ last_is v (e - k) odd (omega arith)
 
@@ -97,7 +97,7 @@ digit_of_integer n k =
     let above : offset (pos 0) ≤ offset (pos k) = omega (arith, ints, offset_is (pos k), offset_is (pos 0)) in
     ap (λ i. i % 10) (shift_down n (offset (pos 0)) (offset (pos k)) above ∙ ap (λ i. n / 10 ^ i) up)
 
--- a value of so many whole ones is that integer, where it is below the bound: what `try_to_u64` answers at 2 to the 64
+-- the value of an integer n is converted to n, if n is below the bound: what `try_to_u64` returns at 2 to the 64
 pub integer_of : (bound n : ℕ) → n < bound → as_integer bound (n * weight (pos 0)) ≡ Ok n
 integer_of bound n h =
     whole_numbers.as_integer-whole bound (n * weight (pos 0)) n refl ∙ whole_numbers.in_range-below bound n h
@@ -115,7 +115,7 @@ first_of_integer n k least most few =
     (omega (arith, offset_is (pos 0)))
     ∙ (omega (arith, ints, offset_is (pos 0)))
 
--- so many whole ones, shifted down by k, are so many ones at -k
+-- an integer n divided by 10 ^ (k + 1) is n at the magnitude -(k + 1)
 pub integer_down : (n k : ℕ) → k < 32768 → n * weight (pos 0) / 10 ^ suc k ≡ n * weight (negsuc k)
 integer_down n k h =
     let split : weight (pos 0) ≡ weight (negsuc k) * 10 ^ suc k =
@@ -124,29 +124,29 @@ integer_down n k h =
     (rw (split, ← mul_assoc n (weight (negsuc k)) (10 ^ suc k))
     (mul-div_cancel (n * weight (negsuc k)) (ten_pos (suc k))))
 
--- ---- What `try_to_u64` and `try_to_u128` answer, at 2 to the 64 and to the 128, says of the number.
+-- ---- What the results of `try_to_u64` and `try_to_u128`, at 2 to the 64 and to the 128, imply about the number.
 module _ (bound number : ℕ) where
-  -- an integer: the number is so many whole ones
+  -- `Ok(n)`: the number is the integer n
   pub integer_is : (n : ℕ) → as_integer bound number ≡ Ok n → number ≡ n * weight (pos 0)
   integer_is n h = grind (arith, nat_tests, div-add-mod' number (weight (pos 0)))
 
-  -- not whole: a digit behind the dot is not 0
+  -- `NotWhole`: a fraction digit is not 0
   pub not_whole : as_integer bound number ≡ Err NotWhole → ¬ (number % weight (pos 0) ≡ 0)
   not_whole h e = grind (arith, nat_tests)
 
-  -- out of range: the number is the bound or more
+  -- `OutOfRange`: the number is the bound or more
   pub out_of_range : as_integer bound number ≡ Err OutOfRange → bound * weight (pos 0) ≤ number
   out_of_range h =
       let more : bound ≤ number / weight (pos 0) → bound * weight (pos 0) ≤ number / weight (pos 0) * weight (pos 0) =
       mul-le-mul_right (weight (pos 0)) in
       grind (arith, nat_tests, div-add-mod' number (weight (pos 0)), more)
 
-  -- out of range: each fraction digit is 0
+  -- `OutOfRange`: each fraction digit is 0
   pub out_of_range_whole : as_integer bound number ≡ Err OutOfRange → number % weight (pos 0) ≡ 0
   out_of_range_whole h = grind (arith, nat_tests)
 
 -- ---- The digits of a value.
--- what the digits at so many magnitudes from m down are worth together
+-- the sum of the digits times their weights, at the given number of magnitudes from m down
 unfoldable pub worth_down : ℕ → ℤ → ℕ → ℕ
 worth_down number m zero = 0
 worth_down number m (suc k) = digit number m * weight m + worth_down number (m -ℤ pos 1) k
@@ -177,12 +177,12 @@ digits_make_number v valid =
     omega (arith, rw rest at all, valid.whole, mod-eq_of_lt valid.below)
 
 -- ---- Texts.
--- the bytes of the digits of n at so many magnitudes from m down, of which n has the last one at its end
+-- the bytes of the last k digits of n, the first at magnitude m, with a decimal point before magnitude -1
 abbrev pub digits_down : ℕ → ℤ → ℕ → List ℕ
 digits_down n m zero = []
 digits_down n m (suc k) = (dot_before m ++ (48 + n / 10 ^ k % 10) ∷ []) ++ digits_down n (m -ℤ pos 1) k
 
--- so many ones at the lowest magnitude are printed by their digits, which compute where all three are literals
+-- the text of n at the lowest magnitude is the digits of n; these compute if all three arguments are literals
 pub text_of_literal : (n : ℕ) (hi lo : ℤ) → negsuc 32767 ≤ℤ lo → lo ≤ℤ hi
     → text (record { number = n * weight lo; hi = hi; lo = lo }) ≡ digits_down n hi (int_gap lo hi + 1)
 text_of_literal n hi lo low order = down (int_gap lo hi + 1) hi (omega (arith, ints, gap_is lo hi))
@@ -200,7 +200,7 @@ text_of_literal n hi lo low order = down (int_gap lo hi + 1) hi (omega (arith, i
         ∙ ap (λ rest. (dot_before m ++ (48 + n / 10 ^ k % 10) ∷ []) ++ rest)
         (down k (m -ℤ pos 1) (omega (arith, ints)))
 
--- a text without a dot and without an exponent reads as the number that its digits write
+-- a text without a decimal point and without an exponent reads as the number that its digits write
 pub read_integer_text : (whole : List ℕ) → AllDigits 10 whole → 0 < length whole → length whole ≤ 32768
     → read whole ≡ Ok (mantissa whole [])
 unfolding read value_or_syntax value_of scaled
@@ -210,7 +210,7 @@ read_integer_text whole digits some few =
     let long : nat_lt 32768 (length whole) ≡ false = search rules in
     rw (parts, long) refl
 
--- a text with a dot and without an exponent reads as the number that its digits write
+-- a text with a decimal point and without an exponent reads as the number that its digits write
 pub read_decimal_text : (whole fraction : List ℕ) → AllDigits 10 whole → AllDigits 10 fraction → 0 < length fraction
     → length whole ≤ 32768 → length fraction ≤ 32768
     → read (whole ++ 46 ∷ fraction) ≡ Ok (mantissa whole fraction)
@@ -226,7 +226,7 @@ read_decimal_text whole fraction digits decimals some few few_decimals =
 
 -- ---- Normal forms, roundings.
 
--- after both trims a value is one still
+-- a value after both trims is valid
 pub trimmed_valid : (v : Unsigned) → IsValue v → IsValue (trimmed v)
 trimmed_valid v valid =
     let few = first_le v.number v.hi valid.below valid.hi_in.0 valid.hi_in.1 in
@@ -270,12 +270,12 @@ trimmed_texts v w p q = (
       (trimmed_is_normal_form v w).1 (cc),
 )
 
--- a rounding that names this multiple and makes a value makes this one
+-- if a rounding to a multiple has a result, it is the value with that multiple
 pub rounded_to-some : (v new : Unsigned) (position : ℤ) (multiple : ℕ) → rounded_to v position multiple ≡ Some new
     → with_number v position multiple ≡ new
 rounded_to-some v new position multiple e = grind arith
 
--- the same of a decimal, behind its old sign
+-- the same for a decimal, with its sign unchanged
 pub signed_rounded_to-some : (v new : Decimal) (position : ℤ) (multiple : ℕ)
     → with_absolute v (rounded_to v.absolute position multiple) ≡ Some new
     → record v { absolute = with_number v.absolute position multiple } ≡ new

@@ -142,5 +142,5 @@ compact_reads_back v h l =
     ap (λ r. and_then r read_fields) (split_between v l)
     ∙ (rw (h, (part_of v.exponent l).1.reads) refl)
 
--- what writing a compact value rests on
+-- the lemmas for writing a compact value
 pub ruleset writing = (first_fails, second_fails, compact_reads_back)

@@ -32,7 +32,7 @@ after_calls-snoc at v (y ∷ ys) x = elim (step at v y) as
       | Err e ↦ refl
     ]
 
--- so many of the calls made v of the first value, and the others make of it what all make of the first one
+-- the first `at` calls result in v, and the others result on v in what all calls result in on the first value
 pub record IsAt (first : Decimal) (calls : List Call) (at : ℕ) (v : Decimal) : Type 0 where
   pub before : after_calls 0 first (take at calls) ≡ Ok v
   pub rest : after_calls at v (drop at calls) ≡ after_calls 0 first calls
@@ -56,7 +56,7 @@ module _ {first v : Decimal} {calls : List Call} {at : ℕ} (i : IsAt first call
       → after_calls (at + 1) w (drop (at + 1) calls) ≡ after_calls 0 first calls
   rest_next w s = ap (λ r. and_then r (λ u. after_calls (at + 1) u (drop (at + 1) calls))) (sym s) ∙ sym next ∙ i.rest
 
-  -- where this call makes w, one call more made w
+  -- if this call results in w, one call more results in w
   pub continues : (w : Decimal) → step at v (get_or calls at d) ≡ Ok w → IsAt first calls (at + 1) w
   continues w s = record { before = before_next w s; rest = rest_next w s }
 

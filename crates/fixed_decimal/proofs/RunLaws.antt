@@ -1,4 +1,4 @@
--- Laws of roundings in a row, and of runs.
+-- Laws of sequences of roundings, and of runs.
 use Rattle.std.proofs.Common.{◌≡◌, ℕ, ◌+◌, ◌<◌, List, [], ◌∷◌, map, refl, sym, ◌∙◌, ap, arith}
 use Rattle.std.specs.Prelude.{Option, Some, None, option_map, option_and_then, Err, if◌then◌else◌, ℤ}
 use Rattle.std.specs.Option.{unwrap_or}
@@ -63,9 +63,9 @@ truncations_compose v p q valid low low' =
     let number = laws.number q low' in
     record { above = λ h. let same = laws.above q h in grind arith; number = grind arith }
 
--- ---- Roundings in a row, by their numbers alone.
+-- ---- Sequences of roundings, by their numbers alone.
 module _ (mode : UnsignedRoundingMode) where
-  -- the number that a rounding at a position makes of a number, or none
+  -- the number that results from a rounding of a number at a position, or none
   number_after : ℤ → ℕ → Option ℕ
   number_after q n =
       let m = rounded_number mode (unit_at MultiplesOf1 q) n in
@@ -76,12 +76,12 @@ module _ (mode : UnsignedRoundingMode) where
   unfolding number_after
   by_number a q = grind arith
 
-  -- the number that roundings in a row make, or none
+  -- the number that results from a sequence of roundings, or none
   numbers_after : List ℤ → ℕ → Option ℕ
   numbers_after [] n = Some n
   numbers_after (q ∷ qs) n = option_and_then (numbers_after qs) (number_after q n)
 
-  -- calls that make these roundings come to a decimal of this number
+  -- the calls of these roundings result in a decimal of this number
   come_to : (w v : Decimal) (qs : List ℤ) (at : ℕ) (made : Option Absolute) → w.sign ≡ v.sign
       → numbers_after qs w.absolute.number ≡ number_if_any made
       → ResultHasNumber (after_calls at w (map (rounding_at mode) qs)) (with_absolute v made)
@@ -102,7 +102,7 @@ module _ (mode : UnsignedRoundingMode) where
           → ResultHasNumber (Err (limit_exceeded at)) (with_absolute v made)
       nowhere made n = grind arith
 
-  -- a rounding at q of what one at p made of n makes what one rounding at the greater position does
+  -- a rounding at p and then at q is one rounding at the greater position
   Absorbs : ℕ → Type 0
   Absorbs n =
       (p q : ℤ) → IsPosition p → IsPosition q

@@ -74,5 +74,5 @@ scientific_reads_back v h k e =
     ap (λ r. and_then r read_fields) (split_between v)
     ∙ (rw (h, integer_reads_back v.exponent k e) refl)
 
--- what writing a scientific value rests on
+-- the lemmas for writing a scientific value
 pub ruleset writing = (first_fails, second_fails, scientific_reads_back)

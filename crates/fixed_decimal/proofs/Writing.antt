@@ -21,8 +21,8 @@ pub second_fails : {A E : Type 0} (r : Result A E) (a b c : Option (List ℕ)) (
     → OnErr r (AppendsPrefix a c (xs ++ ys))
 second_fails r a b c xs ys p = on_err_weaker r (then_prefix a b c xs ys p)
 
--- what writing a text of two parts rests on
+-- the lemmas for writing a text of two parts
 pub ruleset writing = (first_fails, second_fails, read_decimal_text)
 
--- and what formatting one does
+-- and for formatting one
 pub ruleset formatting = (has_written_styled_append)

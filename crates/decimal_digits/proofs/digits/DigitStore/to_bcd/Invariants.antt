@@ -2,7 +2,7 @@ use Rattle.std.proofs.Common.{◌≡◌, ◌-◌, ◌++◌, length, take, replic
 use Rattle.std.specs.Int.Digits.{number_from_digits}
 use Rattle.decimal_digits.proofs.digits.DigitStore.to_bcd.Given as goal
 
--- the places before the index are read
+-- the digits before the index are read
 abbrev pub invariant-loop-index : goal.invariant-loop-index
 invariant-loop-index g l =
     let ds = g.Self.DigitStore.digits l.self in

@@ -32,7 +32,7 @@ returns-in_default-write_number-clause-fails_with g c =
           (omega (arith, leading_none (c.args.keep - 2) ds (omega arith))),
     )
 
--- the front has nines alone, and one more, before two zeros, takes all the room and more
+-- the leading digits are all nines, so that adding one exceeds the number of places
 pub returns-in_default-add_one-clause-fails_with : goal.returns-in_default-add_one-clause-fails_with
 returns-in_default-add_one-clause-fails_with g c =
     let ds = g.D.DigitStore.digits c.args.counted.now.list.now in

@@ -8,7 +8,7 @@ append-requires-clause-disjoint g c =
     let q : 0 < c.args.other.number = search rules in
     disjoint c.args.self.now c.args.other p q (sym c.overlaps.ensures ∙ c.if-overlaps.false)
 
--- the branch is not reached where the second number begins below the last digit of the first
+-- the branch is unreachable if the second number begins below the last digit of the first
 pub returns-then-overlaps-clause-disjoint : goal.returns-then-overlaps-clause-disjoint
 returns-then-overlaps-clause-disjoint g c = λ below e.
     let f = not_overlapping c.args.self.now c.args.other (λ p q. below) in

@@ -8,7 +8,7 @@ use Rattle.decimal_unsigned.proofs.RoundingLaws.{is_rounded, fails, rounding_is_
 use Rattle.decimal_unsigned.proofs.RoundingSucceeds.{not_limit_error, rounding_is_ok}
 use Rattle.decimal_unsigned.proofs.decimal.UnsignedOver.round_counted.Goals as goal
 
--- what the fields hold after the rounding
+-- the values of the fields after the rounding
 left : (g : _) (c : goal.After-self-3-1 g)
     → let ds = g.D.DigitStore.digits c.round.new.counted.list.now in
     let m = to_z w16 (of_z w16 c.in_ok-first.first) in

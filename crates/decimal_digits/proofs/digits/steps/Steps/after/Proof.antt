@@ -24,7 +24,7 @@ use Rattle.decimal_digits.proofs.digits.steps.Steps.after.Code as code
 abbrev stayed : Stays f.ended.signature.params f.ended.kept
 stayed = (stay_dropped _ yes, tt)
 
--- the reference is let go, and a counter of one more is made
+-- the reference is dropped, and a counter with the value plus one is constructed
 pub after_spec : {M : Type 1} → statement M
 after_spec 𝓤 𝓛 𝓜 𝓡 wired =
     let c = f.clauses 𝓛 𝓜.mem 𝓡.returns in

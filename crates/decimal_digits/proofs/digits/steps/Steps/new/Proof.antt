@@ -14,7 +14,7 @@ use Rattle.decimal_digits.specs.contracts.digits.steps.Steps.new as f
 use Rattle.decimal_digits.proofs.digits.steps.Steps.new.Statement.{statement}
 use Rattle.decimal_digits.proofs.digits.steps.Steps.new.Code as code
 
--- a counter of 0 is made
+-- a counter of value 0 is constructed
 pub new_spec : {M : Type 1} → statement M
 new_spec 𝓤 𝓛 𝓜 𝓡 wired =
     let c = f.clauses 𝓛 𝓜.mem 𝓡.returns in
