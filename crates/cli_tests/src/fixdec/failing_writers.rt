@@ -80,7 +80,7 @@ fn returns_status_with_full_outputs(rt: HostRuntime) -> Result<(), Fail> {
     }
     for capacity in 0..5 {
         let row = ("250 shift:-2", ("2.50\n", capacity), ("output\n", 7), 3);
-        assert!(rt; holds(rt.alloc(), row)?, "{room}");
+        assert!(rt; holds(rt.alloc(), row)?, "{capacity}");
     }
     Ok(())
 }
