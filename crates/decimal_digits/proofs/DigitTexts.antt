@@ -9,14 +9,14 @@ use Rattle.std.specs.Char.{digit_value}
 use Rattle.std.specs.Str.Parse.{AllDigits}
 use Rattle.decimal_digits.proofs.Nibbles.{nibble_rules}
 
--- each byte of a text of digits writes one
+-- each byte of a text of digits is an ASCII digit
 pub ascii_at : (text : List ℕ) → AllDigits 10 text → (i : ℕ) → i < length text
     → (digit_value (get_or text i 0) + 48 ≡ get_or text i 0) × (48 ≤ get_or text i 0) × (get_or text i 0 ≤ 57)
 ascii_at text all i h =
     let r = digit_at text i all h in
     (digit_value_digit (get_or text i 0) r, r.0, r.1)
 
--- a vector of digits, to which letters are appended and there turned into digits, has digits alone
+-- digits followed by ASCII digits that are converted in place to digits are all digits
 pub read_end : (items s front text ys : List ℕ) (packed_prefix n : ℕ) → All (λ d. d < 10) front → AllDigits 10 text
     → s ≡ items → items ≡ front ++ text → packed_prefix ≡ length front → n ≡ length items
     → ys ≡ map digit_value (take (length s - packed_prefix) (drop packed_prefix s))

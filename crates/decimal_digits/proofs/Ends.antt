@@ -7,7 +7,7 @@ use Rattle.std.proofs.lemmas.Bool.{cases_lt}
 use Rattle.decimal_digits.specs.Number.{greatest, first, last, magnitude_at}
 use Rattle.decimal_digits.proofs.DigitLists.{ten_pos}
 
--- the greatest number that passes a test is the one that passes it and that none above does
+-- the greatest number that passes a test passes it, and no greater one does
 pub greatest_is : (test : ℕ → Bool) (n j : ℕ) → j < n → test j ≡ true → ((i : ℕ) → j < i → i < n → test i ≡ false)
     → greatest test n ≡ j
 unfolding greatest

@@ -65,7 +65,7 @@ leading_same (suc k) xs ys f =
       f k (omega arith),
     )
 
--- a run of one digit d, as of zeros or of nines
+-- the number that digits followed by n equal digits write
 pub leading_run : (n j k d : ℕ) (xs : List ℕ) → j + n ≡ k → ((i : ℕ) → j ≤ i → i < k → get_or xs i 0 ≡ d)
     → 9 * leading k xs + d ≡ (9 * leading j xs + d) * 10 ^ n
 leading_run zero j k d xs e f = let s : j ≡ k = omega arith in rw s (omega arith)
@@ -78,7 +78,7 @@ leading_run (suc n) j k d xs e f =
       ap (λ p. (9 * leading j xs + d) * p) (powers n 1 (suc n) (omega arith)),
     )
 
--- one more in a digit that nines follow, which become zeros, is one more in the number
+-- incrementing a digit and replacing the nines after it by zeros increments the number
 pub leading_raised : (k j : ℕ) (xs ys : List ℕ) → j < k
     → ((i : ℕ) → i < j → get_or ys i 0 ≡ get_or xs i 0) → get_or ys j 0 ≡ get_or xs j 0 + 1
     → ((i : ℕ) → suc j ≤ i → i < k → get_or xs i 0 ≡ 9) → ((i : ℕ) → suc j ≤ i → i < k → get_or ys i 0 ≡ 0)
@@ -94,7 +94,7 @@ leading_raised k j xs ys h same up nine zeros =
       ap (λ v. 9 * v * 10 ^ n) next,
     )
 
--- one more than nothing but nines is a 1 and zeros
+-- the successor of a number written by nines is a power of ten
 pub leading_carry : (k : ℕ) (xs : List ℕ) → ((i : ℕ) → i < k → get_or xs i 0 ≡ 9)
     → (leading k xs + 1 ≡ 10 ^ k) × (leading (k + 1) (1 ∷ []) ≡ 10 ^ k)
 leading_carry k xs nine = (

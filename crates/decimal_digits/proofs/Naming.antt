@@ -30,14 +30,14 @@ module _ (u q r : ℕ) (l : r < u) where
   near_above : u ≤ 2 * r → IsNearest u (q * u + r) ((q + 1) * u)
   near_above h k = elim (apart u q k) [ inl a ↦ omega arith | inr a ↦ omega arith ]
 
-  -- of those as near as the multiple below none is less, and of those as near as the one above none is greater
+  -- of the nearest multiples the one below is the least and the one above the greatest
   least_near : 2 * r ≤ u → AllTies u (q * u + r) (q * u) (λ other. q * u ≤ other)
   least_near h k e = elim (apart u k q) [ inl a ↦ a | inr a ↦ absurd (omega arith) ]
 
   greatest_near : u ≤ 2 * r → AllTies u (q * u + r) ((q + 1) * u) (λ other. other ≤ (q + 1) * u)
   greatest_near h k e = elim (apart u (q + 1) k) [ inl a ↦ a | inr a ↦ absurd (omega arith) ]
 
-  -- and there is no other but at half a unit
+  -- and unless it is half a unit away there is no other nearest multiple
   one_below : 2 * r < u → AllTies u (q * u + r) (q * u) (λ other. other ≡ q * u)
   one_below h k e = elim (apart u q k) [ inl a ↦ omega arith | inr a ↦ absurd (omega arith) ]
 

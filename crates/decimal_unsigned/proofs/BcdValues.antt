@@ -52,7 +52,7 @@ after_mod n (c ∷ cs) =
     sym (after_mod ((n % 2 ^ 64) * 16 + d) cs) ∙ ap (λ m. digits_value_after 16 m cs % 2 ^ 64) e
     ∙ after_mod (n * 16 + d) cs
 
--- fraction digits go on with the number of the integer digits
+-- the number of the integer digits continued by the fraction digits is the number of both
 pub fraction_numbered : (whole fraction : List ℕ) (number more : ℕ) → number ≡ digits_value 16 whole % 2 ^ 64
     → more ≡ digits_value_after 16 number fraction % 2 ^ 64
     → more ≡ in_base_16 whole fraction
@@ -117,7 +117,7 @@ number_written whole fraction number h few e =
     omega (arith, number_lt 16 ds (below_sixteen ds (all_below_base_from_digits 10 text h)), top) in
     e ∙ ap (λ n. n % 2 ^ 64) (sym (after_append 0 whole fraction) ∙ digits_value_is 16 text) ∙ mod-eq_of_lt lt
 
--- what is left of a number holds the digits between
+-- the shifted number encodes the digits from `start` to `end`
 pub middle_holds : (ds : List ℕ) (number start end : ℕ) → AllBelowBase 10 ds → number ≡ number_from_digits 16 ds
     → start < end → end ≤ length ds → length ds ≤ 16
     → Encodes (leading_bytes (number / 2 ^ (4 * (length ds - end)) * 2 ^ (4 * (16 - (end - start))) % 2 ^ 64)
@@ -227,7 +227,7 @@ inner_number ds n below few is some =
     let before : 16 - leading_zeros w64 n / 4 ≡ t.0 / 4 + 1 = omega (arith, t.1) in
     rw before (inner_bits ds n t.0 (trailing_zeros w64 n) below is first t.3 low.1 low.2)
 
--- the number 0 has no other digit
+-- if the number is 0, each digit is 0
 pub zero_digits : (ds : List ℕ) → AllBelowBase 10 ds → number_from_digits 16 ds ≡ 0
     → (k : ℕ) → k < length ds → get_or ds k 0 ≡ 0
 zero_digits ds below z k h =

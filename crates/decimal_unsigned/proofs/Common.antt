@@ -1,4 +1,4 @@
--- The names that several proofs of this crate cite, passed on from one place. Declares nothing.
+-- The names that several proofs of this crate cite, re-exported. Declares nothing.
 pub use Rattle.decimal_digits.proofs.DigitLists.{below_drop, below_take, number_back, number_split, ten_pos}
 pub use Rattle.decimal_digits.proofs.Ends.{first_is, first_zero, no_more_zeros}
 pub use Rattle.decimal_digits.proofs.LeadingBytes.{below_sixteen}

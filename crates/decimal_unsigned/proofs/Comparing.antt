@@ -12,7 +12,7 @@ use Rattle.decimal_digits.proofs.DigitLists.{number_first, number_zeros}
 use Rattle.decimal_unsigned.proofs.Shown.{value_of_view}
 use Rattle.decimal_unsigned.proofs.Values.{number_of-lt, number_of-ge, number_of-pos, number_of-none, lowest}
 
--- two numbers have the order of two others
+-- two numbers compare as two others if each order implies the same order
 pub same_order : (a b x y : ℕ) → (a < b → x < y) → (a ≡ b → x ≡ y) → (b < a → y < x) → nat_cmp a b ≡ nat_cmp x y
 same_order a b x y less equal greater = grind arith
 
@@ -21,7 +21,7 @@ pub same_int_order : (a b : ℤ) (x y : ℕ) → (a <ℤ b → x < y) → (a ≡
     → int_cmp a b ≡ nat_cmp x y
 same_int_order a b x y less equal greater = grind (arith, ints)
 
--- where one list has no items left, the lengths decide
+-- if one list has no items left, the comparison is that of the lengths
 none_left : (xs ys : List ℕ) → (length xs ≡ 0) ⊎ (length ys ≡ 0)
     → nat_cmp (length xs) (length ys) ≡ slice_cmp nat_cmp xs ys
 none_left [] [] h = refl
@@ -78,7 +78,7 @@ module _ (base : ℕ) (above : 0 < base) where
       rw (k, number_first base d ds)
       (moved_up d (top - 1) (length ds) (number_from_digits base ds) (omega arith))
 
-  -- the order of the first digits, and where these are equal that of the others
+  -- digits compare as their first digits, and if these are equal, as the other digits
   module _ (top d e : ℕ) (ds es : List ℕ) (b : AllBelowBase base ds) (c : AllBelowBase base es)
       (f : length (d ∷ ds) ≤ top) (g : length (e ∷ es) ≤ top)
       (others : MatchOrdering (slice_cmp nat_cmp ds es) (worth (top - 1) ds < worth (top - 1) es)
@@ -97,7 +97,7 @@ module _ (base : ℕ) (above : 0 < base) where
         rw (first_and_others top d ds f, first_and_others top e es g)
         (less_first e d _ _ _ h (worth_lt (top - 1) es c (omega arith)))
 
-  -- they have the order of their numbers
+  -- lists of digits compare as the numbers that they write
   pub digits_order : (top : ℕ) (ds es : List ℕ) → AllBelowBase base ds → AllBelowBase base es → length ds ≤ top
       → length es ≤ top → EndsInDigit ds → EndsInDigit es
       → slice_cmp nat_cmp ds es ≡ nat_cmp (worth top ds) (worth top es)
@@ -130,12 +130,12 @@ nibbles_order ds es b c f g p q =
 
 -- ---- two values
 module _ {ds es : List ℕ} {m m' hi lo hi' lo' : ℤ} (s : IsStored ds m hi lo) (t : IsStored es m' hi' lo') where
-  -- digits from one magnitude down have the order of the numbers
+  -- digits from the same magnitude down compare as the numbers
   pub numbers_order : m ≡ m' → slice_cmp nat_cmp ds es ≡ nat_cmp (number_of ds m) (number_of es m')
   unfolding number_of number_at
   numbers_order same = grind (arith, ints, clamps, nat_tests, common_steps, digits_order)
 
-  -- where one has no digits, their counts have the order of the numbers
+  -- if one list is empty, the lengths compare as the numbers
   pub none_order : (length ds ≡ 0) ⊎ (length es ≡ 0)
       → nat_cmp (length ds) (length es) ≡ nat_cmp (number_of ds m) (number_of es m')
   none_order none =
@@ -144,7 +144,7 @@ module _ {ds es : List ℕ} {m m' hi lo hi' lo' : ℤ} (s : IsStored ds m hi lo)
       (λ e. let z : length ds ≡ 0 = omega arith in number_of-none s z ∙ sym (number_of-none t (omega arith)))
       (λ l. let z : length es ≡ 0 = omega arith in omega (arith, number_of-none t z, number_of-pos s (omega arith)))
 
-  -- first digits at two magnitudes have the order of the numbers
+  -- if the first magnitudes differ, they compare as the numbers
   pub magnitudes_order : 0 < length ds → 0 < length es → ¬ (m ≡ m')
       → int_cmp m m' ≡ nat_cmp (number_of ds m) (number_of es m')
   magnitudes_order some some' differ =

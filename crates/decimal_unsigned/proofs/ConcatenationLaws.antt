@@ -1,4 +1,4 @@
--- Laws of joining.
+-- Laws of concatenation.
 use Rattle.decimal_unsigned.proofs.Common.{◌≡◌, ℕ, ◌+◌, ◌-◌, ◌%◌, ◌<◌, ◌≤◌, Bool, true, false, cond, nat_lt, ◌||◌, refl, sym, ◌∙◌, ap, arith, inl, inr, ℤ, pos, ◌+ℤ◌, ◌-ℤ◌, ◌≤ℤ◌, Option, Some, None, int_max, int_min, ints, clamps, cases_lt, nat_tests, offset, weight, first, last, offset_is, Unsigned, IsValue, with_max_position}
 use Rattle.std.specs.Prelude.{option_and_then}
 use Rattle.decimal_unsigned.specs.Concatenation.{overlaps, concatenated_end}

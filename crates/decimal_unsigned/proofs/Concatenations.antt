@@ -6,13 +6,13 @@ use Rattle.decimal_digits.proofs.DigitLists.{number-append, number_after}
 use Rattle.decimal_unsigned.specs.Concatenation.{overlaps, concatenated_end, concatenated_size}
 use Rattle.decimal_unsigned.proofs.Values.{lowest, last-number_of, first_of, stored_as, last_covered, some_of}
 
--- the same digits in a wider range
+-- digits stored in a range are stored in a wider range
 pub wider : {ds : List ℕ} {m hi lo hi' lo' : ℤ} → IsStored ds m hi lo → hi ≤ℤ hi' → lo' ≤ℤ lo → hi' ≤ℤ pos 32767
     → negsuc 32767 ≤ℤ lo'
     → IsStored ds m hi' lo'
 wider t up down high low = grind (arith, ints, offset_is)
 
--- digits in the range of another value, which has been widened to hold theirs
+-- digits are stored in the range of another value after that range is widened to include theirs
 pub taken : (v w : Unsigned) {ds es : List ℕ} {m hi lo n hi' lo' : ℤ} → IsStored ds m hi lo → IsStored es n hi' lo'
     → record { number = number_of ds m; hi = hi; lo = lo } ≡ record v { hi = int_max v.hi w.hi; lo = int_min v.lo w.lo }
     → record { number = number_of es n; hi = hi'; lo = lo' } ≡ w
@@ -123,11 +123,11 @@ module _ {ds es : List ℕ} {m hi lo n hi' lo' : ℤ} {v w : Unsigned} (t : IsSt
       let s = more in
       omega (arith, ints, gap_is, f, l, b)
 
-  -- the joined digits, as a value holds them
+  -- the concatenated digits are stored as those of a value
   pub append_stored : IsStored ((ds ++ replicate k 0) ++ es) m (int_max hi hi') (int_min lo lo')
   append_stored = stored t u k some more between
 
-  -- they make the joined value
+  -- their value is the concatenated value
   pub append_value :
       record { number = number_of ((ds ++ replicate k 0) ++ es) m; hi = int_max hi hi'; lo = int_min lo lo' }
       ≡ concatenated_end v w
@@ -146,12 +146,12 @@ pub overlaps_second_zero : (v w : Unsigned) → w.number ≡ 0 → overlaps v w 
 unfolding overlaps
 overlaps_second_zero v w z = grind (arith, nat_tests)
 
--- where two numbers do not overlap, the second begins below the end of the first
+-- if two numbers do not overlap, the first digit of the second is below the last digit of the first
 pub disjoint : (v w : Unsigned) → 0 < v.number → 0 < w.number → overlaps v w ≡ false → first w.number <ℤ last v.number
 unfolding overlaps
 disjoint v w p q f = grind (arith, nat_tests, ints)
 
--- and the other way round
+-- and the converse
 pub not_overlapping : (v w : Unsigned) → (0 < v.number → 0 < w.number → first w.number <ℤ last v.number)
     → overlaps v w ≡ false
 unfolding overlaps

@@ -38,7 +38,7 @@ number_of_is : (ds : List ℕ) (m : ℤ) → number_of ds m ≡ number_from_digi
 unfolding number_of number_at
 number_of_is ds m = refl
 
--- a value of digits ds from magnitude m on, cut at a position: the first digits go, `start` of them
+-- a value of digits ds, the first at magnitude m, cut at a position: the first `start` digits are removed
 pub record Cuts (ds : List ℕ) (m lo p : ℤ) (start : ℕ) (m' hi' lo' : ℤ) : Type 0 where
   pub from : min (int_gap p (m +ℤ pos 1)) (length ds) ≤ start
   pub within : start ≤ length ds
@@ -55,7 +55,7 @@ module _ {ds : List ℕ} {m hi lo p m' hi' lo' : ℤ} {start : ℕ} (t : IsStore
   left : length (drop start ds) ≡ length ds - start
   left = length-drop start ds
 
-  -- the digits below the position, as a value holds them
+  -- the digits below the position are stored as those of a value
   pub stored_cut : IsStored (drop start ds) m' hi' lo'
   stored_cut =
       stored_as (below_drop 10 start ds t.digits)
@@ -162,7 +162,7 @@ module _ {ds : List ℕ} {m hi lo p m' hi' lo' : ℤ} {start : ℕ} (t : IsStore
     ]
   ])
 
-  -- they make the part below the position
+  -- their value is the part below the position
   pub with_max_position_is : record { number = number_of (drop start ds) m'; hi = hi'; lo = lo' }
       ≡ with_max_position (record { number = number_of ds m; hi = hi; lo = lo }) p
   with_max_position_is = λ i. record { number = number_of-cut i; hi = c.hi_is i; lo = c.lo_is i }

@@ -1,4 +1,4 @@
--- An exponent of any length, and what the code keeps of it.
+-- An exponent of any length, and the saturated exponent that the code stores.
 use Rattle.decimal_unsigned.proofs.Common.{nat_tests, common_steps, ◌≡◌, ℕ, ◌==◌, true, cond, ◌⊎◌, inl, inr, List, [], ◌∷◌, ◌++◌, refl, sym, ◌∙◌, ap, subst, arith, ℤ, pos, negsuc, ◌<ℤ◌, Option, Some, None, Ok, Err, ints, clamps, cases_lt, AllDigits, Unsigned, Literal, parts_of, is_outside, limit, view, option_map}
 use Rattle.decimal_unsigned.specs.Reading.{scaled, value_of, value_or_syntax, read, syntax}
 use Rattle.decimal_unsigned.specs.Parts.{saturated, saturated_parts, IsSaturated}
@@ -37,23 +37,23 @@ pub value_saturated : (w : Literal) → value_of (saturated_parts w) ≡ value_o
 unfolding value_of
 value_saturated w = ap (cond _ (Err limit)) (scaled_saturated _ w.exponent)
 
--- ---- what the parts that were found say of the text
--- no parts were found where there are none
+-- ---- the parts found and the text
+-- if the code finds no parts, the text has none
 pub parts_none : (o : Option Literal) → None ≡ option_map saturated_parts o → o ≡ None
 parts_none None h = refl
 parts_none (Some w) h = absurd (cc)
 
--- the parts that were found are those of the text, saturated
+-- the parts found are those of the text, with a saturated exponent
 pub parts_some : (o : Option Literal) (v : Literal) → Some v ≡ option_map saturated_parts o
     → (w : Literal) × (o ≡ Some w) × (saturated_parts w ≡ v)
 parts_some o v h = grind arith
 
--- a text without parts is no number
+-- if no parts are found, reading fails with `syntax`
 pub read_none : (text : List ℕ) → None ≡ option_map saturated_parts (parts_of text) → read text ≡ Err syntax
 unfolding read value_or_syntax
 read_none text h = rw (parts_none (parts_of text) h) refl
 
--- the value of a text is that of the parts which were found
+-- if parts are found, reading gives the value of these parts
 pub read_some : (text : List ℕ) (v : Literal) → Some v ≡ option_map saturated_parts (parts_of text)
     → read text ≡ value_of v
 unfolding read value_or_syntax
@@ -64,7 +64,7 @@ pub append_digits : (a b : List ℕ) → AllDigits 10 a → AllDigits 10 b → A
 append_digits [] b h k = k
 append_digits (c ∷ a) b h k = (h.0, append_digits a b h.1 k)
 
--- the parts that were found are digits
+-- the parts found are lists of digits
 pub digits_some : (text : List ℕ) (v : Literal) → Some v ≡ option_map saturated_parts (parts_of text)
     → AllDigits 10 (v.whole ++ v.fraction)
 digits_some text v h =
@@ -78,14 +78,14 @@ pub saturated_some : (text : List ℕ) (v : Literal) (e : ℤ) → Some v ≡ op
     → IsSaturated e
 saturated_some text v e h k = grind (arith, ints, clamps, nat_tests, common_steps, parts_some, parts_of, Option, ℤ)
 
--- ---- the same of what the code found
--- the digits of what the code found, if it found something
+-- ---- the same for the result of the code
+-- if the code finds parts, these are lists of digits
 pub digits_found : (text : List ℕ) (r : Option Parts) → views r ≡ option_map saturated_parts (parts_of text)
     → IfSome r (λ p. AllDigits 10 (p.whole.now ++ p.fraction.now))
 digits_found text None h = tt
 digits_found text (Some p) h = digits_some text (view p) h
 
--- the exponent of what the code found, if it found one
+-- if the code finds an exponent, it is saturated
 pub exponent_found : (text : List ℕ) (r : Option Parts) → views r ≡ option_map saturated_parts (parts_of text)
     → IfSome r (λ p. IfSome p.exponent IsSaturated)
 exponent_found text None h = tt

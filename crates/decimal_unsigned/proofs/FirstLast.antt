@@ -35,7 +35,7 @@ bottom_of (suc b) n p h = elim (cases_lt 0 (n % 10)) [
       (suc r.0, r.1, one_more_zero n (n / 10) r.1 r.0 (omega arith) r.2, r.3)
 ]
 
--- ---- each number above 0 has them
+-- ---- each number above 0 has a first and a last digit
 pub extent : (b n : ℕ) → 0 < n → n < 10 ^ b → b ≤ 65536 → Extent n
 extent b n p h l =
     let t = top_of b n p h in
@@ -123,7 +123,7 @@ module _ (n q b : ℕ) (few : n < 10 ^ b) (high : b ≤ 65536) where
   above_is : n - n % 10 ^ q ≡ n / 10 ^ q * 10 ^ q
   above_is = grind (arith, div-add-mod', mod-le)
 
-  -- the two parts make the number
+  -- the sum of the two parts is the number
   pub parts_sum : (n - n % 10 ^ q) + n % 10 ^ q ≡ n
   parts_sum = omega (arith, mod-le n (10 ^ q))
 

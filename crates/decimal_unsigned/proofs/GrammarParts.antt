@@ -10,7 +10,7 @@ use Rattle.decimal_unsigned.proofs.Numerals.{true-is_digit, tests_digits, prefix
 use Rattle.std.proofs.lemmas.Str.Parse.{digit_from_value}
 
 -- ---- runs of digits
--- a run of digits that something else follows is the leading one
+-- digits followed by a byte other than a digit are the leading digits
 pub leading_run : (a rest : List ℕ) → AllDigits 10 a → prefix_len is_ascii_digit rest ≡ 0
     → leading_digits (a ++ rest) ≡ a
 leading_run a rest h z = grind (arith, common_steps, prefix_len-run)
@@ -33,12 +33,12 @@ pub leading-after : (text : List ℕ) → leading_digits text ++ after_digits te
 leading-after text = take-append-drop (prefix_len is_ascii_digit text) text
 
 -- ---- numerals
--- a numeral has its number
+-- a numeral has the number that its digits write
 pub numeral-complete : (ds : List ℕ) → IsNumeral 10 ds → numeral_of ds ≡ Some (digits_value 10 ds)
 unfolding numeral_of
 numeral-complete ds h = grind (arith, nat_tests, tests_digits.from)
 
--- what has a number is a numeral
+-- a text with a number is a numeral
 pub numeral-sound : (ds : List ℕ) (n : ℕ) → numeral_of ds ≡ Some n → IsNumeral 10 ds × (n ≡ digits_value 10 ds)
 unfolding numeral_of
 numeral-sound ds n h = grind (arith, nat_tests, tests_digits.to)

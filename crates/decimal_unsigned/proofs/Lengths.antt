@@ -1,4 +1,4 @@
--- How many bytes the text of a value has.
+-- The length in bytes of the text of a value.
 use Rattle.decimal_unsigned.proofs.Common.{clamps, nat_tests, common_steps, ◌≡◌, ℕ, suc, ◌+◌, ◌<◌, ◌≤◌, length, arith, ℤ, pos, negsuc, ◌≤ℤ◌, ◌<ℤ◌, int_gap, ints, length-append, gap_is, Unsigned, IsValue, text}
 use Rattle.decimal_unsigned.proofs.TextBytes.{length-bytes_down, fraction_text, text_is}
 

@@ -15,11 +15,11 @@ number_zeros (d ∷ ds) h =
     rw (e, r, z) (omega arith)
 
 module _ (ds : List ℕ) (start end : ℕ) (n : IsNonzeroRange ds start end) where
-  -- how many they are
+  -- their number
   pub middle_length : length (middle start end ds) ≡ end - start
   middle_length = grind (arith, common_steps)
 
-  -- which they are
+  -- the digit at an index
   pub middle_at : (i : ℕ) → i < end - start → get_or (middle start end ds) i 0 ≡ get_or ds (start + i) 0
   middle_at i h = grind (arith, common_steps)
 
@@ -61,7 +61,7 @@ number_of-middle ds start end a b m n whole few p =
     rw (k, pow-add 10 (length ds - end) (32768 - b)) (omega arith) in
     e ∙ ap (λ x. x * 10 ^ (32768 - b)) (sym (number_middle ds start end n))
 
--- the digits between the zeros, as a value holds them
+-- the digits between the zeros are stored as those of a value
 pub stored_middle : (ds : List ℕ) (start end a b : ℕ) (m : ℤ) → IsNonzeroRange ds start end → AllBelowBase 10 ds
     → length ds ≡ a + b → a ≤ 32768 → b ≤ 32768 → m ≡ (pos a -ℤ pos 1) -ℤ pos start
     → IsStored (middle start end ds) m (pos (a - 1)) (pos 0 -ℤ pos b)

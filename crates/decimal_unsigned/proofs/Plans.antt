@@ -26,7 +26,7 @@ out_of_reach : (a : Bool) (x y : ℤ) → (pos 32767 <ℤ x) ⊎ (y <ℤ negsuc 
     → (a || (int_lt (pos 32767) x || int_lt y (negsuc 32767))) ≡ true
 out_of_reach a x y h = grind (arith, ints)
 
--- what is shown of digits that begin at x, of a range up to h
+-- the upper end of the range for digits that begin at x and are written from h
 upper_is : (x h h' : ℤ) → h' ≡ (if int_lt (pos 0) x then x else int_max h (pos 0)) → x ≤ℤ h → h ≤ℤ pos 32767
     → (x ≤ℤ h') × ((pos 0 ≤ℤ h') × (h' ≤ℤ pos 32767))
 upper_is x h h' e a b = grind (arith, ints, clamps)
@@ -61,13 +61,13 @@ all_digits w = all_below_base_from_digits 10 (w.whole ++ w.fraction)
 
 module _ (w : Literal) (digits : AllDigits 10 (w.whole ++ w.fraction)) (few : length w.whole ≤ 32768)
     (short : length w.fraction ≤ 32768) where
-  -- the value is that of the digits, times the power of ten
+  -- the value of the parts is the digits scaled by the exponent
   pub value_scaled : value_of w ≡ scaled (mantissa w.whole w.fraction) w.exponent
   unfolding value_of
   value_scaled = grind (arith, nat_tests)
 
   -- ---- zero
-  -- digits that are all 0 make 0, in the range that is written
+  -- digits that are all 0 have the value 0, in the written range
   pub makes_zero : ((k : ℕ) → k < length (digits_of w) → get_or (digits_of w) k 0 ≡ 0)
       → IsPlan w 0 0 (pos 0) (pos (length w.whole - 1)) (pos 0 -ℤ pos (length w.fraction))
   makes_zero h =
@@ -121,7 +121,7 @@ module _ (w : Literal) (digits : AllDigits 10 (w.whole ++ w.fraction)) (few : le
         record { number = number_is i; hi = pos (length w.whole - 1); lo = pos 0 -ℤ pos (length w.fraction) }
 
     -- ---- no exponent
-    -- with no exponent the digits make the value, in the range that is written
+    -- without an exponent the value has these digits in the written range
     pub makes_plain : w.exponent ≡ None
         → IsPlan w start end m (pos (length w.whole - 1)) (pos 0 -ℤ pos (length w.fraction))
     unfolding scaled

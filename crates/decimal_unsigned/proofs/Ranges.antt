@@ -6,7 +6,7 @@ use Rattle.decimal_unsigned.proofs.Values.{number_of-ge, number_of-lt, none_of, 
 use Rattle.decimal_unsigned.proofs.Shown.{value_of_view}
 
 module _ {ds : List ℕ} {m hi lo : ℤ} (t : IsStored ds m hi lo) where
-  -- the magnitude that is held is the first
+  -- the stored magnitude is that of the first digit
   pub is_first : IsFirst (number_of ds m) m
   is_first = record {
     reaches = λ p. number_of-ge t (some_of t p);
@@ -34,7 +34,7 @@ module _ {ds : List ℕ} {m hi lo : ℤ} (t : IsStored ds m hi lo) where
           omega (arith, ints, e, t.fits, last_in t, lowest t, offset_is m, offset_is (last (number_of ds m)))
 
   module _ {v : Unsigned} (view : record { number = number_of ds m; hi = hi; lo = lo } ≡ v) {r : ℤ} where
-    -- what the magnitude of the first digit says of the value
+    -- the stored magnitude is that of the first digit of the value
     pub first_told : r ≡ m
         → record { value : r ≡ first v.number; defined : IsFirst v.number r; valid : IsValue v }
     first_told e = record {
@@ -43,7 +43,7 @@ module _ {ds : List ℕ} {m hi lo : ℤ} (t : IsStored ds m hi lo) where
       valid = value_of_view t view;
     }
 
-    -- and that of the last one
+    -- and the computed one that of the last digit
     pub last_told : r ≡ last (number_of ds m)
         → record { value : r ≡ last v.number; defined : IsLast v.number r; valid : IsValue v }
     last_told e = record {

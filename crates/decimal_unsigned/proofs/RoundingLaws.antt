@@ -22,7 +22,7 @@ pub is_rounded : (v : Unsigned) (p : ℤ) (mode : UnsignedRoundingMode) (increme
 is_rounded v p mode increment valid e =
     grind (arith, ints, clamps, nat_tests, common_steps, rounded_number-named, unit_pos)
 
--- why the digits are left as they were is why the value is
+-- an error of rounding the digits is an error of rounding the value
 pub fails : (held : ℕ) (e : RoundError) (v : Unsigned) (p : ℤ) (mode : UnsignedRoundingMode)
     (increment : RoundingIncrement) → IsValue v
     → DigitRoundingFails e increment (size v.number) (rounded_number mode (unit_at increment p) v.number) held
@@ -61,7 +61,7 @@ expand_absorbs : (n : ℕ) → Absorbs Expand n
 expand_absorbs n u t = expand-coarser u t n
 
 module _ (mode : UnsignedRoundingMode) (n : ℕ) (absorbs : Absorbs mode n) where
-  -- the number after a rounding at p, and after one at q then
+  -- the number after a rounding at p and then at q
   once : ℤ → ℕ
   once p = rounded_number mode (unit_at MultiplesOf1 p) n
 
@@ -89,14 +89,14 @@ module _ (mode : UnsignedRoundingMode) (n : ℕ) (absorbs : Absorbs mode n) wher
   twice_is : (p q : ℤ) → negsuc 32767 ≤ℤ p → negsuc 32767 ≤ℤ q → twice p q ≡ once (int_max p q)
   twice_is p q low low' = grind (arith, ints, clamps, nat_tests, common_steps, twice_up, once, twice_down)
 
--- ---- Expanding again.
+-- ---- Two expansions.
 
--- the number of what a rounding makes that names this multiple
+-- the number that results from a rounding to a multiple
 number_of-rounded_to : (v : Unsigned) (p : ℤ) (n : ℕ)
     → number_if_any (rounded_to v p n) ≡ if reaches_limit n then None else Some n
 number_of-rounded_to v p n = grind (arith, nat_tests)
 
--- expanding again
+-- expanding twice is expanding once, at the greater position
 pub expansions_compose : (v : Unsigned) (p : ℤ) → negsuc 32767 ≤ℤ p → ExpansionsCompose v p
 unfolding once twice
 expansions_compose v p low q low' =
@@ -107,7 +107,7 @@ expansions_compose v p low q low' =
     let more = le_expand (unit_at MultiplesOf1 q) n (unit_pos MultiplesOf1 q) in
     grind (arith, nat_tests)
 
--- ---- Truncating again.
+-- ---- Two truncations.
 module _ (v : Unsigned) (p : ℤ) (low : negsuc 32767 ≤ℤ p) (valid : IsValue v) where
   -- the number that truncating left
   abbrev left : ℕ
@@ -139,7 +139,7 @@ module _ (v : Unsigned) (p : ℤ) (low : negsuc 32767 ≤ℤ p) (valid : IsValue
       let again = less (int_max p q) in
       grind (arith, nat_tests)
 
-  -- truncating again
+  -- truncating twice is truncating once, at the greater position
   pub truncations_compose : TruncationsCompose v p (trunced v p)
   truncations_compose = record { above = truncated_above; number = truncated_number }
 

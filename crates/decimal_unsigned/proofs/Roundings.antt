@@ -1,4 +1,4 @@
--- What the fields hold after a rounding.
+-- The values of the fields after a rounding.
 use Rattle.decimal_unsigned.proofs.Common.{common_steps, ◌≡◌, ℕ, ◌<◌, ◌≤◌, List, length, sym, ◌∙◌, ap, arith, Option, Some, None, Result, Ok, Err, ℤ, pos, negsuc, ◌-ℤ◌, ◌≤ℤ◌, int_max, int_min, AllBelowBase, ints, clamps, nat_tests, first, size, number_limit, number_of, unit_at, rounded_number, RoundingIncrement, MultiplesOf1, Trunc, offset_is, Unsigned, IsStored, rounded, IsRounded, RoundError, UnsignedRoundingMode, unit_pos, first_zero, with_number}
 use Rattle.std.specs.Prelude.{IsOk}
 use Rattle.decimal_digits.specs.RoundedDigits.{Represents, NoDigitsBelow}
@@ -9,11 +9,11 @@ use Rattle.decimal_digits.proofs.NumberAt.{number_of-none}
 use Rattle.decimal_unsigned.specs.Rounded.{rounded_to, UpdatesInPlace, RoundsInPlace}
 use Rattle.decimal_unsigned.proofs.Values.{size-number_of, stored_as}
 
--- a rounding that names a multiple below the limit makes a value of it
+-- a rounding to a multiple below the limit results in the value of that multiple
 pub rounded_to-small : (v : Unsigned) (p : ℤ) (n : ℕ) → n < number_limit → rounded_to v p n ≡ Some (with_number v p n)
 rounded_to-small v p n h = grind (arith, nat_tests)
 
--- and one that names a greater multiple makes none
+-- and a rounding to a greater multiple has no result
 pub rounded_to-large : (v : Unsigned) (p : ℤ) (n : ℕ) → number_limit ≤ n → rounded_to v p n ≡ None
 rounded_to-large v p n h = grind (arith, nat_tests)
 
@@ -46,7 +46,7 @@ unspelled {ds} {m} s z = sym s.magnitude_is ∙ ap first (sym s.number ∙ numbe
 
 module _ {ds : List ℕ} {m : ℤ} {n : ℕ} (s : Represents ds m n) (p hi : ℤ) {m' hi' lo' : ℤ} (f : m' ≡ m)
     (h : hi' ≡ int_max (int_max hi (p -ℤ pos 1)) m) (o : lo' ≡ int_min p (pos 0)) where
-  -- the digits that are left, as a value holds them
+  -- the remaining digits are stored as those of a value
   pub stored_left : NoDigitsBelow p ds m → AllBelowBase 10 ds → pos 0 ≤ℤ hi → hi ≤ℤ pos 32767 → negsuc 32767 ≤ℤ p
       → p ≤ℤ pos 32767
       → IsStored ds m' hi' lo'
@@ -59,7 +59,7 @@ module _ {ds : List ℕ} {m : ℤ} {n : ℕ} (s : Represents ds m n) (p hi : ℤ
       (omega (arith, ints, clamps, h, z), omega (arith, ints, clamps, h, g, t, s.greatest))
       (omega (arith, ints, clamps, o, l), omega (arith, ints, clamps, o)))
 
-  -- they make the rounded value
+  -- their value is the rounded value
   pub rounded_left : (v : Unsigned) → v.hi ≡ hi
       → rounded_to v p n ≡ Some (record { number = number_of ds m'; hi = hi'; lo = lo' })
   rounded_left v e = grind (arith, ints, clamps, nat_tests, common_steps, rounded_to-small)

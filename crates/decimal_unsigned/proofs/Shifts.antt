@@ -16,7 +16,7 @@ pub record Moves (ds : List ℕ) (m hi lo d m' hi' lo' : ℤ) : Type 0 where
   pub lo_fits : negsuc 32767 ≤ℤ (lo +ℤ d)
 
 module _ {ds : List ℕ} {m hi lo d m' hi' lo' : ℤ} (t : IsStored ds m hi lo) (s : Moves ds m hi lo d m' hi' lo') where
-  -- the moved digits, as a value holds them
+  -- the moved digits are stored as those of a value
   pub moved : IsStored ds m' hi' lo'
   moved =
       stored_as t.digits t.front t.back s.none
@@ -67,12 +67,12 @@ multiplied_is {ds} {m} {hi} {lo} {m'} {hi'} {lo'} (negsuc n) t s =
     ] in
     cc
 
--- the range fits
+-- a shifted range within the limits does not leave the limits
 pub stays_in : (v : Unsigned) (d : ℤ) → (v.hi +ℤ d) ≤ℤ pos 32767 → negsuc 32767 ≤ℤ (v.lo +ℤ d)
     → leaves_limits v d ≡ false
 stays_in v d h l = grind (arith, ints)
 
--- they make the shifted value
+-- their value is the shifted value
 pub multiplied_pow10_is : {ds : List ℕ} {m hi lo m' hi' lo' : ℤ} (d : ℤ) → IsStored ds m hi lo
     → Moves ds m hi lo d m' hi' lo'
     → multiplied_pow10 (record { number = number_of ds m; hi = hi; lo = lo }) d
@@ -81,7 +81,7 @@ multiplied_pow10_is {ds} {m} {hi} {lo} d t s =
     let test = stays_in (record { number = number_of ds m; hi = hi; lo = lo }) d s.hi_fits s.lo_fits in
     rw test (ap Some (sym (multiplied_is d t s)))
 
--- a range that would not fit makes none
+-- a shift of the range beyond the limits has no result
 pub multiplied_pow10_over : {ds : List ℕ} {m hi lo : ℤ} (n : ℕ) (d : ℤ) → IsStored ds m hi lo
     → (pos 32767 <ℤ (hi +ℤ d)) ⊎ ((lo +ℤ d) <ℤ negsuc 32767)
     → multiplied_pow10 (record { number = n; hi = hi; lo = lo }) d ≡ None

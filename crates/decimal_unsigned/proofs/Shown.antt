@@ -1,9 +1,9 @@
--- The values that the code holds are those that their range shows whole.
+-- The stored values are those whose digits are all in their range.
 use Rattle.decimal_unsigned.proofs.Common.{◌≡◌, ℕ, ◌+◌, ◌-◌, ◌*◌, ◌%◌, ◌^◌, ◌≤◌, List, length, ◌∙◌, ap, subst, arith, ℤ, ints, pow-add, pow-le-pow_right, mul-mod_left, number_from_digits, offset, IsStored, Unsigned, IsValue, offset_is}
 use Rattle.decimal_digits.specs.Digits.{number_of, number_at}
 use Rattle.decimal_unsigned.proofs.Values.{number_of-lt, lowest}
 
--- what the fields hold is a value
+-- stored digits are a value
 pub value_of_stored : {ds : List ℕ} {m hi lo : ℤ} → IsStored ds m hi lo
     → IsValue (record { number = number_of ds m; hi = hi; lo = lo })
 unfolding number_of number_at
@@ -23,7 +23,7 @@ value_of_stored {ds} {m} {hi} {lo} t = record {
       ∙ mul-mod_left (number_from_digits 10 ds * 10 ^ (offset m + 1 - length ds - offset lo)) (10 ^ offset lo);
 }
 
--- what a contract sees of them is a value
+-- and so is the value that a contract has of them
 pub value_of_view : {ds : List ℕ} {m hi lo : ℤ} {v : Unsigned} → IsStored ds m hi lo
     → record { number = number_of ds m; hi = hi; lo = lo } ≡ v
     → IsValue v

@@ -16,7 +16,7 @@ abbrev pub bytes_down : ℕ → ℤ → ℕ → List ℕ
 bytes_down number m zero = []
 bytes_down number m (suc n) = byte number m ∷ bytes_down number (m -ℤ pos 1) n
 
--- there are n of them
+-- their number is n
 pub length-bytes_down : (number : ℕ) (m : ℤ) (n : ℕ) → length (bytes_down number m n) ≡ n
 length-bytes_down number m zero = refl
 length-bytes_down number m (suc n) = ap suc (length-bytes_down number (m -ℤ pos 1) n)
@@ -30,13 +30,13 @@ bytes_down-at number m (suc n) (suc i) h =
     bytes_down-at number (m -ℤ pos 1) n i (omega arith)
     ∙ ap (byte number) (let e : (m -ℤ pos 1) -ℤ pos i ≡ m -ℤ pos (suc i) = omega (arith, ints) in e)
 
--- bytes that are so at each index
+-- a list with these bytes at each index is this list
 pub bytes_are : (number : ℕ) (m top : ℤ) (n : ℕ) (xs : List ℕ)
     → EachIndex xs (λ k. slice_index xs k ≡ byte number (m -ℤ pos k)) → m ≡ top → length xs ≡ n
     → xs ≡ bytes_down number top n
 bytes_are number m top n xs h e l = grind (arith, elements, bytes_down-at, length-bytes_down)
 
--- k of them from an index on
+-- k bytes from an index on are the bytes of k magnitudes
 pub bytes_down-part : (number : ℕ) (m : ℤ) (n i k : ℕ) → i + k ≤ n
     → take k (drop i (bytes_down number m n)) ≡ bytes_down number (m -ℤ pos i) k
 bytes_down-part number m n i k h =

@@ -41,7 +41,7 @@ module _ {ds es : List ℕ} {m n hi lo hi' lo' : ℤ} (t : IsStored ds m hi lo) 
       ∙ ap (λ x. digit x (m -ℤ pos i)) e
       ∙ digit-number_of-in u (m -ℤ pos i) i q b k)
 
--- what passes the test is equal
+-- values that pass the test are equal
 pub same_is : (v w : Unsigned) → same v w ≡ true → v ≡ w
 same_is v w h = grind (arith, nat_tests, h)
 
@@ -54,7 +54,7 @@ same_equiv =
 pub is_same : (v w : Unsigned) → v ≡ w → same v w ≡ true
 is_same v w e = subst (λ u. same v u ≡ true) e (same_equiv.refl v)
 
--- other values fail it
+-- unequal values fail it
 pub not_same : (v w : Unsigned) → ¬ (v ≡ w) → same v w ≡ false
 not_same v w n = grind (arith, nat_tests, ints)
 
@@ -62,7 +62,7 @@ not_same v w n = grind (arith, nat_tests, ints)
 text_same : (v w : Unsigned) → IsValue v → IsValue w → text v ≡ text w → v ≡ w
 text_same v w p q e = let r = sym (read_text v p) ∙ ap read e ∙ read_text w q in cc
 
--- what a test for equality says of two values and of their texts
+-- a test for equality of two values decides equality of the values and of their texts
 pub tells : (b : Bool) (v w : Unsigned) → IsValue v × IsValue w → b ≡ same v w → record {
   same : b ≡ same v w;
   value : IsTrue b ↔ (v ≡ w);

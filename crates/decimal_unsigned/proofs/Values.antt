@@ -120,21 +120,21 @@ module _ {ds : List ℕ} {m hi lo : ℤ} (t : IsStored ds m hi lo) where
   pub magnitude_kept : to_z w16 (of_z w16 m) ≡ m
   magnitude_kept = omega (arith, ints, t.hi_covers, t.lo_covers, t.in_range)
 
--- what a call returned, as it is read again
+-- an integer that fits 16 bits is unchanged by the conversion to 16 bits and back
 pub narrow_kept : {z : ℤ} → mag z < 32768 → to_z w16 (of_z w16 z) ≡ z
 narrow_kept {z} h = to_z-of_z w16 z (record { sfits = h })
 
--- the same in 32 bits
+-- the same for 32 bits
 pub wide_kept : {z : ℤ} → mag z < 2147483648 → to_z w32 (of_z w32 z) ≡ z
 wide_kept {z} h = to_z-of_z w32 z (record { sfits = h })
 
--- how many magnitudes a range has, by its ends as they are read again
+-- the number of magnitudes of a range, by its ends after the conversion to 16 bits and back
 pub counted : {l h lo hi : ℤ} {n : ℕ} → n ≡ int_gap (to_z w16 (of_z w16 l)) (to_z w16 (of_z w16 h)) + 1 → l ≡ lo
     → h ≡ hi → mag l < 32768 → mag h < 32768
     → n ≡ int_gap lo hi + 1
 counted e p q a b = e ∙ (λ i. int_gap ((narrow_kept a ∙ p) i) ((narrow_kept b ∙ q) i) + 1)
 
--- digits with no zero at either end, in a range that shows them
+-- digits without leading and trailing zeros are stored in a range that includes them
 pub stored_as : {ds : List ℕ} {m hi lo : ℤ} → AllBelowBase 10 ds → (0 < length ds → 0 < slice_index ds 0)
     → (0 < length ds → 0 < slice_index ds (length ds - 1)) → (length ds ≡ 0 → m ≡ pos 0)
     → (0 < length ds → (m ≤ℤ hi) × (lo ≤ℤ (m -ℤ pos (length ds - 1)))) → (pos 0 ≤ℤ hi) × (hi ≤ℤ pos 32767)
@@ -147,11 +147,11 @@ module _ {ds : List ℕ} {m hi lo : ℤ} (t : IsStored ds m hi lo) where
   pub last_covered : 0 < length ds → lo ≤ℤ (m -ℤ pos (length ds - 1))
   last_covered h = omega (arith, ints, h, t.fits, t.in_range, lowest t, offset_is m, offset_is lo)
 
-  -- an upper end that keeps the first digit
+  -- the digits are stored with another upper end at or above the first digit
   pub upper_stored : (up : ℤ) → first (number_of ds m) ≤ℤ up → pos 0 ≤ℤ up → up ≤ℤ pos 32767 → IsStored ds m up lo
   upper_stored up l z b = grind (arith, ints, first_of t)
 
-  -- a lower end that keeps the last digit
+  -- the digits are stored with another lower end at or below the last digit
   pub lower_stored : (low : ℤ) → low ≤ℤ pos 0 → low ≤ℤ last (number_of ds m) → negsuc 32767 ≤ℤ low
       → IsStored ds m hi low
   lower_stored low z l b = grind (arith, ints, offset_is, last-number_of t)

@@ -53,11 +53,11 @@ leading_lt i ds h = grind (
   length-take,
 )
 
--- the last digit of the longest number
+-- the first 39 digits are the first 38 and one more
 pub leading_39 : (ds : List ℕ) → leading 39 ds ≡ leading 38 ds * 10 + get_or ds 38 0
 leading_39 = leading_next 38
 
--- and so is the number of fewer
+-- and at most `top` digits write a number below 10 ^ top
 few_digits : (i top : ℕ) (ds : List ℕ) → All (λ d. d < 10) ds → i ≤ top → leading i ds < 10 ^ top
 few_digits i top ds h l =
     let p = leading_lt i ds h in grind (arith, pow-le-pow_right)
@@ -79,7 +79,7 @@ module _ {ds : List ℕ} {m hi lo : ℤ} (t : IsStored ds m hi lo) where
       let k : offset m + 1 ≡ places + offset (pos 0) = omega (arith, ints, offset_is m, offset_is (pos 0)) in
       grind (arith, ints, clamps, nat_tests, common_steps, offset_is, number_at-more, take_all)
 
-  -- digits that end below it do not
+  -- digits that end below magnitude 0 write no integer
   pub part_after : 0 < length ds → (m +ℤ pos 1) <ℤ pos (length ds) → ¬ (number_of ds m % weight (pos 0) ≡ 0)
   unfolding number_of number_at
   part_after some below =
@@ -87,7 +87,7 @@ module _ {ds : List ℕ} {m hi lo : ℤ} (t : IsStored ds m hi lo) where
       no_more_zeros (number_from_digits 10 ds) (offset m + 1 - length ds) (offset (pos 0)) last
       (omega (arith, ints, offset_is m, offset_is (pos 0), t.fits, t.lo_covers, t.in_range))
 
-  -- a first digit that is not at magnitude 0 is there
+  -- if the first magnitude is not 0, there is a digit
   pub some_digits : ¬ (m ≡ pos 0) → 0 < length ds
   some_digits h = grind arith
 
@@ -114,14 +114,14 @@ module _ {ds : List ℕ} {m hi lo : ℤ} {v : Unsigned} (t : IsStored ds m hi lo
     whole_result e =
         of_value (e ∙ sym (as_integer-whole bound (number_of ds m) (leading places ds) (whole_number t places at few)))
 
-    -- a few digits write an integer that is in range
+    -- at most `top` digits write an integer in range
     pub few_digits_result : (top : ℕ) → All (λ d. d < 10) ds → places ≤ top → 10 ^ top ≤ bound → {n : ℕ}
         → n ≡ leading places ds → Answer (Ok n)
     few_digits_result top digits l h e =
         whole_result
         (ap Ok e ∙ sym (in_range-below bound (leading places ds) (omega (arith, few_digits places top ds digits l))))
 
-    -- more digits than the bound has write one that is not
+    -- more digits write an integer out of range
     pub many_digits_result : (top : ℕ) → top < places → 0 < top → bound ≤ 10 ^ top → Answer (Err OutOfRange)
     many_digits_result top l p h =
         let some : 0 < length ds = some_digits t (λ z. absurd (omega (arith, ints, z))) in
@@ -158,7 +158,7 @@ module _ (ds : List ℕ) (h : All (λ d. d < 10) ds) (few : length ds ≤ 16) wh
   all_hex : AllBelowBase 16 all
   all_hex = below_sixteen all (sixteen_digits ds h few)
 
-  -- a shift keeps the first of them
+  -- a right shift keeps the first `count` nibbles
   shifted_front : (count : ℕ) → count ≤ 16
       → bcd_number ds / 2 ^ (4 * (16 - count)) ≡ number_from_digits 16 (take count all)
   unfolding bcd_number
@@ -194,7 +194,7 @@ module _ (ds : List ℕ) (h : All (λ d. d < 10) ds) (few : length ds ≤ 16) wh
       ∙ sym (leading_next i ds)
       ∙ ap (λ j. leading j ds) (sym k)
 
-  -- what a shift keeps, read as digits
+  -- the shifted nibbles, as decimal digits, write the number of the first `count` digits
   pub few_leading : (count m n : ℕ) → count ≤ 16 → m ≡ bcd_number ds / 2 ^ (4 * (16 - count))
       → n ≡ number_from_digits 10 (nibbles (to_be_bytes w64 m)) → n ≡ leading count ds
   few_leading count m n l e f =
@@ -210,7 +210,7 @@ module _ (ds : List ℕ) (h : All (λ d. d < 10) ds) (few : length ds ≤ 16) wh
         front_leading,
       )
 
--- what the reading of the leading digits as an integer needs
+-- the lemmas for converting the leading digits to an integer
 pub ruleset to_u64 = (leading_next, leading_u64)
 
 pub ruleset to_u128 = (leading_next, leading_u128)

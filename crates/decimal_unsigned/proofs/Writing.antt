@@ -5,13 +5,13 @@ use Rattle.decimal_digits.specs.AppendsPrefix.{AppendsPrefix}
 use Rattle.decimal_digits.proofs.Sinks.{appends_both, prefix_more, then_prefix}
 use Rattle.decimal_unsigned.specs.Text.{dot_before, text_down}
 
--- the text of one magnitude more
+-- the text of n + 1 magnitudes is that of the first and that of the other n
 pub text_down-suc : (number : ℕ) (m : ℤ) (n : ℕ)
     → text_down number m (suc n) ≡ (dot_before m ++ (48 + digit number m) ∷ []) ++ text_down number (m -ℤ pos 1) n
 unfolding text_down
 text_down-suc number m n = refl
 
--- and of none
+-- the text of no magnitudes is empty
 pub text_down-zero : (number : ℕ) (m : ℤ) → text_down number m 0 ≡ []
 unfolding text_down
 text_down-zero number m = refl
@@ -26,7 +26,7 @@ piece_taken all piece i k h e = grind (arith, elements)
 pub byte_taken : (all : List ℕ) (i byte : ℕ) → i < length all → byte ≡ get_or all i 0 → byte ∷ [] ≡ take 1 (drop i all)
 byte_taken all i byte h e = ap (λ b. b ∷ []) e ∙ sym (ap (take 1) (drop_more all i 0 h))
 
--- one piece more was written
+-- one more piece was written
 pub wrote_more : (a b c : Option (List ℕ)) (all piece : List ℕ) (i k : ℕ) → i + k ≤ length all
     → piece ≡ take k (drop i all) → Appends a b (take i all) → Appends b c piece
     → Appends a c (take (i + length piece) all)

@@ -166,7 +166,7 @@ digits_worth number (suc k) p m at h =
     mod-mul number (omega arith) (ten_pos (p - 1)) in
     rw (here, split, cut, ← last) (omega (arith, rest))
 
--- the digits that a value shows make its number
+-- the sum of a value's digits times their weights is its number
 pub digits_make_number : (v : Unsigned) → IsValue v → worth_down v.number v.hi (int_gap v.lo v.hi + 1) ≡ v.number
 digits_make_number v valid =
     let count = int_gap v.lo v.hi + 1 in

@@ -1,4 +1,4 @@
--- The bytes of a decimal's text: which there are, and how many.
+-- The bytes of a decimal's text, and its length.
 use Rattle.std.proofs.Common.{◌≡◌, ℕ, zero, suc, ◌+◌, ◌/◌, ◌<◌, ◌≤◌, Bool, false, [], ◌∷◌, ◌++◌, length, refl, ◌∙◌, ap, arith}
 use Rattle.std.specs.Prelude.{ℤ, pos, ◌-ℤ◌}
 use Rattle.std.specs.List.{list_any}
@@ -59,9 +59,9 @@ letter-none c h = grind (arith, nat_tests)
 pub c-none : PassesNone is_c
 c-none c h = grind (arith, nat_tests)
 
--- ---- How long it is.
+-- ---- The length of the text.
 
--- of an integer it is a sign and 32768 digits
+-- the text of an integer has at most a sign and 32768 digits
 pub length-integer_most : (v : Decimal) → IsValue v.absolute → v.absolute.lo ≡ pos 0 → length (decimal_text v) ≤ 32769
 length-integer_most v h e =
     omega (
@@ -74,5 +74,5 @@ length-integer_most v h e =
       length-text_whole v.absolute h.hi_in.0 e,
     )
 
--- how long the text of an integer is
+-- the length of the text of an integer
 pub ruleset integer_lengths = (length-integer_most)

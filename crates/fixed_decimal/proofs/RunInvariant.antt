@@ -18,7 +18,7 @@ use Rattle.fixed_decimal.specs.Calls.{CallFails, CallsFail}
 and_then-Ok : (r : Result Decimal OutcomeError) → and_then r (λ w. Ok w) ≡ r
 and_then-Ok r = grind arith
 
--- calls, and then one more
+-- the result of calls followed by one more
 after_calls-snoc : (at : ℕ) (v : Decimal) (xs : List Call) (x : Call)
     → after_calls at v (xs ++ x ∷ []) ≡ and_then (after_calls at v xs) (λ w. step (at + length xs) w x)
 after_calls-snoc at v [] x = and_then-Ok (step at v x) ∙ ap (λ k. step k v x) (let e : at ≡ at + 0 = omega arith in e)
@@ -32,7 +32,7 @@ after_calls-snoc at v (y ∷ ys) x = elim (step at v y) as
       | Err e ↦ refl
     ]
 
--- the first `at` calls result in v, and the others result on v in what all calls result in on the first value
+-- the first `at` calls result in v, and the remaining calls on v have the result of all calls on the first value
 pub record IsAt (first : Decimal) (calls : List Call) (at : ℕ) (v : Decimal) : Type 0 where
   pub before : after_calls 0 first (take at calls) ≡ Ok v
   pub rest : after_calls at v (drop at calls) ≡ after_calls 0 first calls

@@ -134,7 +134,7 @@ module _ (mode : UnsignedRoundingMode) where
       come_to v v (p ∷ others) at (unsigned.rounded v.absolute (fold int_max p others) mode MultiplesOf1) refl
       (once v.absolute.number (absorbs v valid) p others all ∙ sym (by_number v.absolute (fold int_max p others)))
 
--- toward zero several roundings are one
+-- a sequence of roundings toward zero is one rounding at the greatest position
 pub truncations_are_one : RoundsOnce Trunc
 unfolding Absorbs
 truncations_are_one = rounds_once Trunc (λ v valid p q low low'.
@@ -156,7 +156,7 @@ truncations_are_one = rounds_once Trunc (λ v valid p q low low'.
         let e = trunc_makes a p MultiplesOf1 h in
         sym (by_number Trunc a p) ∙ ap number_if_any e ∙ ap (λ o. Some (unwrap_or o a).number) (sym e)
 
--- away from zero several roundings are one
+-- a sequence of roundings away from zero is one rounding at the greatest position
 pub expansions_are_one : RoundsOnce Expand
 unfolding Absorbs
 expansions_are_one = rounds_once Expand (λ v valid p q low low'.

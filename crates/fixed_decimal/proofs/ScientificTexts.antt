@@ -24,7 +24,7 @@ split_is text front suffix c =
     ∙ ap plain_parts (split_at 101 front suffix (lacks_e front c.plain_significand))
     ∙ (rw (c.plain_significand, c.plain_exponent) refl)
 
--- where there are no parts, the split fails
+-- if there are no parts, the split fails
 unsplit_is : (text : List ℕ) → ((front suffix : List ℕ) → ¬ IsSplitAtE text front suffix)
     → split_at_e text ≡ Err syntax
 unfolding split_at_e

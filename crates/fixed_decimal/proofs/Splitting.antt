@@ -12,14 +12,14 @@ module _ (letter : ℕ) where
   split_none [] h = refl
   split_none (c ∷ text) h = grind (arith, split_none text)
 
-  -- a text is split at the letter that has none before it
+  -- a text is split at the first occurrence of the letter
   pub split_at : (front suffix : List ℕ) → list_any (λ c. c == letter) front ≡ false
       → split_once letter (front ++ letter ∷ suffix) ≡ Some (front, suffix)
   unfolding split_once
   split_at [] suffix h = grind (arith, nat_tests)
   split_at (c ∷ front) suffix h = grind (arith, split_at front suffix)
 
-  -- the parts make the text
+  -- the parts concatenate to the text
   pub split_parts : (text : List ℕ) (parts : List ℕ × List ℕ) → split_once letter text ≡ Some parts
       → text ≡ parts.0 ++ letter ∷ parts.1
   unfolding split_once
