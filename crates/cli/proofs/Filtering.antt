@@ -9,8 +9,9 @@ use Rattle.std.specs.List.{FoldsTo}
 use Rattle.std.specs.Io.KnownBytes.{Appends}
 use Rattle.std.specs.Io.BufRead.{drop_through}
 use Rattle.std.specs.declared.io.Error.{Error}
+use Rattle.std.proofs.KnownBytes.{Appends-nil, Appends-trans}
 use Rattle.decimal_digits.specs.AppendsPrefix.{AppendsPrefix}
-use Rattle.fixed_decimal.proofs.Calling.{appends_both, appends_none, then_prefix}
+use Rattle.fixed_decimal.proofs.Calling.{then_prefix}
 use Rattle.fixed_decimal.specs.declared.runs.Call.{Call}
 use Rattle.fixed_decimal.specs.Outcome.{outcome}
 use Rattle.cli.specs.declared.error.FilterError.{FilterError}
@@ -89,7 +90,7 @@ filtered_start reports on_error calls a o e = record {
   lines = [];
   read = read_none a;
   number = refl;
-  output = appends_none o;
+  output = Appends-nil o;
   reported = refl;
   texts_of = refl;
   stop = λ _. refl;
@@ -133,7 +134,7 @@ module _
       number = length-append h.lines (line ∷ []) ∙ ap (λ n. n + 1) h.number;
       output =
           subst (Appends o q) (flat_map_more (λ line. output_of_line (outcome line calls)) [] h.lines line)
-          (appends_both o p q (output_of calls h.lines) _ h.output put);
+          (Appends-trans o p q (output_of calls h.lines) _ h.output put);
       reported = reported_next line g more;
       texts_of = rw (h.texts_of, text) (sym (texts_more calls h.lines line));
       stop = stop_next line (λ is. sym text ∙ stop is);

@@ -5,6 +5,7 @@ use Rattle.std.specs.declared.alloc.Global.{Global}
 use Rattle.std.specs.Io.KnownBytes.{Keeps, Appends}
 use Rattle.std.proofs.Math.Seq.{split_at}
 use Rattle.std.proofs.lemmas.List.{append-nil, length-take-le}
+use Rattle.std.proofs.KnownBytes.{Appends-kept, Appends-trans}
 use Rattle.decimal_digits.specs.AppendsPrefix.{AppendsPrefix}
 use Rattle.plural_rules.specs.declared.rules.PluralCategory.{PluralCategory}
 use Rattle.plural_rules.specs.Rules.{RuleValue}
@@ -13,7 +14,7 @@ use Rattle.cli.specs.declared.error.PluralError.TheVariants.{Output}
 use Rattle.cli.specs.Categories.{read_category, category_line, HaveLines, PrintsAll, StopsAt, TextFails}
 use Rattle.cli.specs.Plural.{HasRules}
 use Rattle.cli.proofs.Programs.{taken}
-use Rattle.fixed_decimal.proofs.Calling.{appends_both, appends_kept, then_prefix}
+use Rattle.fixed_decimal.proofs.Calling.{then_prefix}
 
 -- a result of which a property holds is Ok
 ok_and : {X E : Type 0} (r : Result X E) (P : X → Type 0) → IsOkAnd r P → (x : X) × (r ≡ Ok x) × P x
@@ -51,7 +52,7 @@ module _
         subst (λ front. PrintsAll rules front old new) (sym (taken texts i text l e)) (
           lines ++ category_line category,
           lines_more rules (take i texts) lines text category have read,
-          appends_both old mid new lines (category_line category) appends line,
+          Appends-trans old mid new lines (category_line category) appends line,
         )
 
     cut : texts ≡ take i texts ++ text ∷ drop (suc i) texts
@@ -98,10 +99,10 @@ module _
 module _ (rules : List RuleValue) (texts : List (String Global)) (old mid new : Option (List ℕ)) (k : Keeps mid new)
   where
     prefix_kept : (xs : List ℕ) → AppendsPrefix old mid xs → AppendsPrefix old new xs
-    prefix_kept xs (part, rest, e, p) = (part, rest, e, appends_kept old mid new part p k)
+    prefix_kept xs (part, rest, e, p) = (part, rest, e, Appends-kept old mid new part p k)
 
     pub all_kept : PrintsAll rules texts old mid → PrintsAll rules texts old new
-    all_kept (lines, have, appends) = (lines, have, appends_kept old mid new lines appends k)
+    all_kept (lines, have, appends) = (lines, have, Appends-kept old mid new lines appends k)
 
     pub stop_kept : (error : PluralError) → StopsAt rules texts old mid error → StopsAt rules texts old new error
     stop_kept error (front, back, lines, e, have, part, all) = (
@@ -111,7 +112,7 @@ module _ (rules : List RuleValue) (texts : List (String Global)) (old mid new : 
       e,
       have,
       prefix_kept lines part,
-      λ other. let (put, fails) = all other in (appends_kept old mid new lines put k, fails),
+      λ other. let (put, fails) = all other in (Appends-kept old mid new lines put k, fails),
     )
 
     -- with or without an error, the printed lines are a prefix
@@ -124,7 +125,7 @@ module _ (rules : List RuleValue) (texts : List (String Global)) (old mid new : 
       lines,
       sym (append-nil texts),
       have,
-      (lines, [], append-nil lines, appends_kept old mid new lines appends k),
+      (lines, [], append-nil lines, Appends-kept old mid new lines appends k),
       λ other. absurd (other refl),
     )
     begun (Err error) printed (front, back, lines, e, have, part, all) =

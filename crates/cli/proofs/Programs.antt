@@ -1,13 +1,14 @@
 -- The run that the words of a command line name, and its result.
-use Rattle.std.proofs.Common.{◌≡◌, ◌≢◌, ℕ, ◌+◌, ◌-◌, ◌<◌, ◌≤◌, List, [], ◌∷◌, ◌++◌, length, take, drop, get_or, String, string_bytes, Option, Some, None, Result, Ok, Err, IfNone, IfSome, IfErr, true, false, rules, refl, sym, ap, subst, ◌∙◌, arith, add-one}
+use Rattle.std.proofs.Common.{◌≡◌, ℕ, ◌+◌, ◌-◌, ◌<◌, ◌≤◌, List, [], ◌∷◌, ◌++◌, length, take, drop, get_or, String, string_bytes, Option, Some, None, Result, Ok, Err, IfNone, IfSome, IfErr, true, false, rules, refl, sym, ap, subst, ◌∙◌, arith, add-one}
 use Rattle.std.specs.Prelude.{Any, IsOk, IsOkAnd, IsErrAnd, OnOk}
 use Rattle.std.specs.Option.{is_some}
 use Rattle.std.specs.declared.alloc.Global.{Global}
-use Rattle.std.specs.Io.KnownBytes.{Keeps, Appends}
+use Rattle.std.specs.Io.KnownBytes.{Keeps}
 use Rattle.std.proofs.Math.Seq.{take-suc, take-length}
 use Rattle.std.proofs.lemmas.List.{length-drop, append-nil}
+use Rattle.std.proofs.KnownBytes.{Appends-kept}
 use Rattle.decimal_digits.specs.AppendsPrefix.{AppendsPrefix}
-use Rattle.fixed_decimal.proofs.Calling.{appends_both, appends_kept, prefix_more}
+use Rattle.fixed_decimal.proofs.Calling.{prefix_more}
 use Rattle.fixed_decimal.specs.Outcome.{outcome}
 use Rattle.fixed_decimal.specs.declared.runs.Call.{Call}
 use Rattle.cli.specs.Words.{Names}
@@ -66,13 +67,6 @@ pub runs_if :
 runs_if [] first calls P l is h p = absurd (omega arith)
 runs_if (w ∷ ws) first calls P l is h p = (calls, rw (behind_is w ws) at h, rw is at p)
 
--- where there are words, they name at least one call
-pub calls_some :
-    (words : List (String Global)) (calls : List Call) → NameAll words calls → words ≢ [] → 0 < length calls
-calls_some [] calls h some = absurd (some refl)
-calls_some (w ∷ ws) [] h some = absurd h
-calls_some (w ∷ ws) (c ∷ cs) h some = omega arith
-
 -- ---- Results.
 
 -- a result of which a property holds is Ok
@@ -109,30 +103,11 @@ ok_weaker (Err e) f h = h
 
 -- ---- What was printed.
 
--- a text and then a line feed were written
-pub line_feed_written :
-    {E : Type 0} (r : Result (List ℕ) E) (a b c : Option (List ℕ)) → IsOkAnd r (λ text. Appends a b text)
-    → Appends b c (10 ∷ []) → IsOkAnd r (λ text. Appends a c (text ++ (10 ∷ [])))
-line_feed_written r a b c p q = ok_map _ _ r (λ text h. appends_both a b c text (10 ∷ []) h q) p
-
--- a text was written, and the line feed failed
-pub line_feed_failed :
-    {E : Type 0} (r : Result (List ℕ) E) (a b c : Option (List ℕ)) → IsOkAnd r (λ text. Appends a b text)
-    → Keeps b c → IsOkAnd r (λ text. AppendsPrefix a c (text ++ (10 ∷ [])))
-line_feed_failed r a b c p k = ok_map _ _ r (λ text h. (text, 10 ∷ [], refl, appends_kept a b c text h k)) p
-
 -- a prefix of a text was written
 pub text_begun :
     {E : Type 0} (r : Result (List ℕ) E) (a b : Option (List ℕ)) → IsOkAnd r (λ text. AppendsPrefix a b text)
     → IsOkAnd r (λ text. AppendsPrefix a b (text ++ (10 ∷ [])))
 text_begun r a b p = ok_map _ _ r (λ text h. prefix_more a b text (10 ∷ []) h) p
-
--- calls that keep the contents of a writer keep the printed text
-pub run_kept :
-    (a b c : Option (List ℕ)) (bytes : List ℕ) (calls : List Call) → RunPrints a b bytes calls → Keeps b c
-    → RunPrints a c bytes calls
-run_kept a b c bytes calls p k =
-    ok_map _ _ (outcome bytes calls) (λ text h. appends_kept a b c (text ++ (10 ∷ [])) h k) p
 
 -- the same for a prefix
 pub run_begun :
@@ -140,14 +115,7 @@ pub run_begun :
     → RunPrintsPrefix a c bytes calls
 run_begun a b c bytes calls p k =
     ok_map _ _ (outcome bytes calls)
-    (λ text h. (text ++ (10 ∷ []), [], append-nil _, appends_kept a b c (text ++ (10 ∷ [])) h k)) p
-
--- if a run prints, it has a text
-pub prints_text :
-    (words : List (String Global)) (a b : Option (List ℕ)) → HasRun words (RunPrints a b)
-    → HasRun words (λ bytes calls. IsOk (outcome bytes calls))
-prints_text [] a b p = absurd p
-prints_text (w ∷ ws) a b (calls, names, p) = (calls, names, ok_if _ _ p)
+    (λ text h. (text ++ (10 ∷ []), [], append-nil _, Appends-kept a b c (text ++ (10 ∷ [])) h k)) p
 
 -- P holds of the words of the arguments
 pub have_words :

@@ -2,7 +2,7 @@
 use Rattle.std.proofs.Common.{◌≡◌, ℕ, List, [], Option, Some, None, Bool, true, refl, sym, subst, ◌∙◌}
 use Rattle.std.proofs.lemmas.Bool.{false≢true}
 use Rattle.std.specs.Io.KnownBytes.{Keeps}
-use Rattle.fixed_decimal.proofs.Calling.{appends_none}
+use Rattle.std.proofs.KnownBytes.{Appends-nil}
 use Rattle.cli.specs.Diagnostics.{IsErrorLine, Reports}
 
 keeps_itself : (known : Option (List ℕ)) → Keeps known known
@@ -16,7 +16,7 @@ pub reports_none :
 reports_none output known line failed is line_is = (
   line,
   line_is,
-  ([], line, refl, appends_none known),
+  ([], line, refl, Appends-nil known),
   (λ has_not_failed. absurd (false≢true (sym has_not_failed ∙ is))),
   λ _. (keeps_itself known, is),
 )

@@ -1,5 +1,5 @@
 -- The digits that are kept, and the last two of them.
-use Rattle.std.proofs.Common.{◌≡◌, ℕ, zero, suc, ◌+◌, ◌-◌, ◌*◌, ◌/◌, ◌%◌, ◌^◌, ◌<◌, ◌≤◌, ◌==◌, List, [], ◌∷◌, length, get_or, take, drop, refl, sym, ◌∙◌, ap, add-one, arith, inl, inr}
+use Rattle.std.proofs.Common.{◌≡◌, ℕ, zero, suc, ◌+◌, ◌-◌, ◌*◌, ◌/◌, ◌%◌, ◌^◌, ◌<◌, ◌≤◌, List, [], ◌∷◌, length, get_or, take, drop, refl, sym, ◌∙◌, ap, add-one, arith, inl, inr}
 use Rattle.std.proofs.lemmas.Bool.{cases_lt}
 use Rattle.std.proofs.lemmas.List.{length-drop, length-take, length-take-le, take_all, get_or_past, get_or-take, get_or-drop}
 use Rattle.std.proofs.lemmas.Int.Digits.{number_more}
@@ -109,17 +109,6 @@ leading_carry k xs nine = (
     ap (λ v. 9 * v * 10 ^ k) (leading_next 0 (1 ∷ []) ∙ ap (λ v. v * 10 + 1) (leading_none 0 (1 ∷ []) refl)),
   ),
 )
-
--- the number that the first k digits write is odd exactly if the last of them is
-pub last_odd : (k last : ℕ) (ds : List ℕ) → (0 < k → last ≡ get_or ds (k - 1) 0) → (k ≡ 0 → last ≡ 0)
-    → (last % 2 == 1) ≡ (leading k ds % 2 == 1)
-last_odd k last ds is none = ap (λ v. v == 1) same
-  where
-    same : last % 2 ≡ leading k ds % 2
-    same = elim (cases_lt 0 k) [
-      | inl p ↦ omega (arith, is p, leading_more k ds p)
-      | inr h ↦ omega (arith, none (omega arith), leading_none k ds (omega arith))
-    ]
 
 -- the last two digits are replaced by two digits
 pub leading_put : (k number : ℕ) (xs ys : List ℕ) → 2 ≤ k → ((i : ℕ) → i < k - 2 → get_or ys i 0 ≡ get_or xs i 0)

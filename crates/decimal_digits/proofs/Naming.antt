@@ -67,11 +67,11 @@ expand_named u n l = elim (cases_eq (n % u) 0) [
 ]
 
 -- the remainder form is a number that the mode names
-pub rounded_number-named : (mode : UnsignedRoundingMode) (u n : ℕ) → 0 < u → Named mode u n (rounded_number mode u n)
+pub rounded_number_is_named : (mode : UnsignedRoundingMode) (u n : ℕ) → 0 < u → Named mode u n (rounded_number mode u n)
 unfolding rounded_number
-rounded_number-named Trunc u n p = named_below Trunc u n (trunc_below u (n / u) (n % u) (mod-lt n p))
-rounded_number-named Expand u n p = expand_named u n (mod-lt n p)
-rounded_number-named HalfExpand u n p =
+rounded_number_is_named Trunc u n p = named_below Trunc u n (trunc_below u (n / u) (n % u) (mod-lt n p))
+rounded_number_is_named Expand u n p = expand_named u n (mod-lt n p)
+rounded_number_is_named HalfExpand u n p =
     let q = n / u in let r = n % u in let l = mod-lt n p in
     cond_both (nat_lt (2 * r) u) (below u n) (above u n) (Named HalfExpand u n)
     (λ t.
@@ -81,7 +81,7 @@ rounded_number-named HalfExpand u n p =
     (λ t.
     let h = ltb-false _ _ t in
     named_above HalfExpand u n (omega arith) (near_above u q r l h, greatest_near u q r l h))
-rounded_number-named HalfTrunc u n p =
+rounded_number_is_named HalfTrunc u n p =
     let q = n / u in let r = n % u in let l = mod-lt n p in
     cond_both (nat_lt u (2 * r)) (above u n) (below u n) (Named HalfTrunc u n)
     (λ t.
@@ -89,7 +89,7 @@ rounded_number-named HalfTrunc u n p =
     named_above HalfTrunc u n (omega arith)
     (near_above u q r l (omega arith), λ k e. omega (arith, one_above u q r l h k e)))
     (λ t. let h = ltb-false _ _ t in named_below HalfTrunc u n (near_below u q r l h, least_near u q r l h))
-rounded_number-named HalfEven u n p =
+rounded_number_is_named HalfEven u n p =
     let q = n / u in let r = n % u in let l = mod-lt n p in
     cond_both (nat_lt (2 * r) u) (below u n) _ (Named HalfEven u n)
     (λ t.
@@ -148,4 +148,4 @@ same_chosen HalfEven u n q k p c d = same_even u n q k p c d
 -- whatever a mode names is the remainder form
 pub named_is : (mode : UnsignedRoundingMode) (u n m : ℕ) → 0 < u → Named mode u n m → m ≡ rounded_number mode u n
 named_is mode u n m p (q, e, c) =
-    let (k, f, d) = rounded_number-named mode u n p in e ∙ same_chosen mode u n q k p c d ∙ sym f
+    let (k, f, d) = rounded_number_is_named mode u n p in e ∙ same_chosen mode u n q k p c d ∙ sym f

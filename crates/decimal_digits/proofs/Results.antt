@@ -1,16 +1,10 @@
 -- Outcomes.
-use Rattle.std.proofs.Common.{refl}
-use Rattle.std.specs.Prelude.{Result, Ok, Err, IsOk, IfErr, OnErr, Option, None, Some, IfNone, ok_or}
+use Rattle.std.specs.Prelude.{Result, Ok, Err, IfErr, OnErr, Option, None, Some, IfNone, ok_or}
 
 -- what holds anyway holds on an error
 pub on_err : {A E : Type 0} (r : Result A E) (P : Type 0) → P → OnErr r P
 on_err (Ok x) P p = tt
 on_err (Err e) P p = p
-
--- a call without a reason to fail returns Ok
-pub ok_unless : {A E P : Type 0} (r : Result A E) → OnErr r P → (P → ⊥) → IsOk r
-ok_unless (Ok x) reason never = refl
-ok_unless (Err e) reason never = absurd (never reason)
 
 -- a true proposition holds in the case of `None`
 pub if_none : {A : Type 0} (r : Option A) (P : Type 0) → P → IfNone r P

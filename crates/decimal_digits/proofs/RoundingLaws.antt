@@ -5,7 +5,7 @@ use Rattle.std.proofs.Math.Nat.{mul_assoc, zero-mul}
 use Rattle.decimal_digits.specs.declared.rounding.UnsignedRoundingMode.{UnsignedRoundingMode}
 use Rattle.decimal_digits.specs.declared.rounding.UnsignedRoundingMode.TheVariants.{Expand, Trunc, HalfExpand, HalfTrunc, HalfEven}
 use Rattle.decimal_digits.specs.Rounding.{Chooses, Named, rounded_number}
-use Rattle.decimal_digits.proofs.Naming.{rounded_number-named, named_is}
+use Rattle.decimal_digits.proofs.Naming.{rounded_number_is_named, named_is}
 
 -- ---- A multiple stays.
 chooses_self : (mode : UnsignedRoundingMode) (u k : ℕ) → Chooses mode u (k * u) k
@@ -28,7 +28,7 @@ rounded_number-zero mode u p =
 pub rounded_number-idempotent : (mode : UnsignedRoundingMode) (u n : ℕ) → 0 < u
     → rounded_number mode u (rounded_number mode u n) ≡ rounded_number mode u n
 rounded_number-idempotent mode u n p =
-    let (q, e, c) = rounded_number-named mode u n p in
+    let (q, e, c) = rounded_number_is_named mode u n p in
     ap (rounded_number mode u) e ∙ rounded_number-multiple mode u q p ∙ sym e
 
 -- ---- Two units, of which one is a multiple of the other.
@@ -36,8 +36,8 @@ module _ (u t n : ℕ) (p : 0 < u) (pt : 0 < t * u) where
   -- the coarser unit after the finer one
   pub trunc-coarser : rounded_number Trunc (t * u) (rounded_number Trunc u n) ≡ rounded_number Trunc (t * u) n
   trunc-coarser =
-      let (q, e, (low, great)) = rounded_number-named Trunc u n p in
-      let (k, f, (low', great')) = rounded_number-named Trunc (t * u) n pt in
+      let (q, e, (low, great)) = rounded_number_is_named Trunc u n p in
+      let (k, f, (low', great')) = rounded_number_is_named Trunc (t * u) n pt in
       let fine : k * t * u ≤ n → k * t * u ≤ q * u = great (k * t) in
       sym (named_is Trunc (t * u) (rounded_number Trunc u n) _ pt
       (k, f, (omega (arith, fine, mul_assoc k t u, e), λ j h. great' j (omega (arith, e)))))
@@ -45,8 +45,8 @@ module _ (u t n : ℕ) (p : 0 < u) (pt : 0 < t * u) where
   -- the coarser unit after the finer one, away from zero
   pub expand-coarser : rounded_number Expand (t * u) (rounded_number Expand u n) ≡ rounded_number Expand (t * u) n
   expand-coarser =
-      let (q, e, (high, least)) = rounded_number-named Expand u n p in
-      let (k, f, (high', least')) = rounded_number-named Expand (t * u) n pt in
+      let (q, e, (high, least)) = rounded_number_is_named Expand u n p in
+      let (k, f, (high', least')) = rounded_number_is_named Expand (t * u) n pt in
       let fine : n ≤ k * t * u → q * u ≤ k * t * u = least (k * t) in
       sym (named_is Expand (t * u) (rounded_number Expand u n) _ pt
       (k, f, (omega (arith, fine, mul_assoc k t u, e), λ j h. least' j (omega (arith, e)))))
@@ -55,18 +55,18 @@ module _ (u t n : ℕ) (p : 0 < u) (pt : 0 < t * u) where
   pub rounded_number-finer : (mode : UnsignedRoundingMode)
       → rounded_number mode u (rounded_number mode (t * u) n) ≡ rounded_number mode (t * u) n
   rounded_number-finer mode =
-      let (k, f, c) = rounded_number-named mode (t * u) n pt in
+      let (k, f, c) = rounded_number_is_named mode (t * u) n pt in
       let e : rounded_number mode (t * u) n ≡ k * t * u = f ∙ sym (mul_assoc k t u) in
       ap (rounded_number mode u) e ∙ rounded_number-multiple mode u (k * t) p ∙ sym e
 
 -- ---- Order.
 -- the multiple below is at most the number
 pub trunc_le : (u n : ℕ) → 0 < u → rounded_number Trunc u n ≤ n
-trunc_le u n p = let (q, e, (low, great)) = rounded_number-named Trunc u n p in omega (arith, e)
+trunc_le u n p = let (q, e, (low, great)) = rounded_number_is_named Trunc u n p in omega (arith, e)
 
 -- the multiple above is at least the number
 pub le_expand : (u n : ℕ) → 0 < u → n ≤ rounded_number Expand u n
-le_expand u n p = let (q, e, (high, least)) = rounded_number-named Expand u n p in omega (arith, e)
+le_expand u n p = let (q, e, (high, least)) = rounded_number_is_named Expand u n p in omega (arith, e)
 
 monotone_named : (mode : UnsignedRoundingMode) (u n m a b : ℕ) → n < m → Named mode u n a → Named mode u m b → a ≤ b
 monotone_named Trunc u n m a b l (q, e, (low, great)) (k, f, (low', great')) = omega (arith, great' q)
@@ -81,5 +81,6 @@ pub rounded_number-monotone : (mode : UnsignedRoundingMode) (u n m : ℕ) → 0 
 rounded_number-monotone mode u n m p l = elim (cases_eq n m) [
   | inl e ↦ omega (arith, ap (rounded_number mode u) e)
   | inr ne ↦
-      monotone_named mode u n m _ _ (omega arith) (rounded_number-named mode u n p) (rounded_number-named mode u m p)
+      monotone_named mode u n m _ _ (omega arith) (rounded_number_is_named mode u n p)
+          (rounded_number_is_named mode u m p)
 ]

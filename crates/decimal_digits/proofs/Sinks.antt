@@ -1,28 +1,10 @@
 -- The prefix of a text that a sink has accepted, piece by piece.
-use Rattle.std.proofs.Common.{◌≡◌, ℕ, ◌+◌, ◌-◌, ◌<◌, ◌⊎◌, inl, inr, Bool, true, false, List, [], ◌++◌, length, take, drop, Option, None, Some, refl, sym, ◌∙◌, ap, subst, arith, append_assoc, take-append-drop}
-use Rattle.std.proofs.lemmas.List.{append-nil, length-drop}
+use Rattle.std.proofs.Common.{◌≡◌, ℕ, ◌+◌, ◌-◌, ◌<◌, ◌⊎◌, inl, inr, Bool, true, false, List, [], ◌++◌, length, take, drop, Option, sym, ◌∙◌, ap, subst, arith, append_assoc, take-append-drop}
+use Rattle.std.proofs.lemmas.List.{length-drop}
 use Rattle.std.proofs.Math.Seq.{take-add, take-length}
 use Rattle.std.specs.Io.KnownBytes.{Keeps, Appends}
+use Rattle.std.proofs.KnownBytes.{Appends-kept, Appends-nil, Appends-trans}
 use Rattle.decimal_digits.specs.AppendsPrefix.{AppendsPrefix}
-
--- two appends in sequence append the concatenation
-pub appends_both : (a b c : Option (List ℕ)) (xs ys : List ℕ) → Appends a b xs → Appends b c ys → Appends a c (xs ++ ys)
-appends_both None b c xs ys p q = tt
-appends_both (Some a) None c xs ys p q = absurd p
-appends_both (Some a) (Some b) None xs ys p q = absurd q
-appends_both (Some a) (Some b) (Some c) xs ys p q = q ∙ ap (λ l. l ++ ys) p ∙ append_assoc a xs ys
-
--- an unchanged sink has the empty text appended
-pub appends_none : (a : Option (List ℕ)) → Appends a a []
-appends_none None = tt
-appends_none (Some a) = sym (append-nil a)
-
--- an append is preserved where the contents are kept
-pub appends_kept : (a b c : Option (List ℕ)) (xs : List ℕ) → Appends a b xs → Keeps b c → Appends a c xs
-appends_kept None b c xs p q = tt
-appends_kept (Some a) None c xs p q = absurd p
-appends_kept (Some a) (Some b) None xs p q = absurd q
-appends_kept (Some a) (Some b) (Some c) xs p q = q ∙ p
 
 -- a prefix of a text is a prefix of a longer text
 pub prefix_more : (a b : Option (List ℕ)) (xs ys : List ℕ) → AppendsPrefix a b xs → AppendsPrefix a b (xs ++ ys)
@@ -32,16 +14,16 @@ prefix_more a b xs ys (part, rest, e, p) = (part, rest ++ ys, sym (append_assoc 
 pub then_prefix : (a b c : Option (List ℕ)) (xs ys : List ℕ) → Appends a b xs → AppendsPrefix b c ys
     → AppendsPrefix a c (xs ++ ys)
 then_prefix a b c xs ys q (part, rest, e, p) =
-    (xs ++ part, rest, append_assoc xs part rest ∙ ap (λ l. xs ++ l) e, appends_both a b c xs part q p)
+    (xs ++ part, rest, append_assoc xs part rest ∙ ap (λ l. xs ++ l) e, Appends-trans a b c xs part q p)
 
 -- the empty text is a prefix of each text
 pub prefix_none : (a : Option (List ℕ)) (xs : List ℕ) → AppendsPrefix a a xs
-prefix_none a xs = ([], xs, (λ i. xs), appends_none a)
+prefix_none a xs = ([], xs, (λ i. xs), Appends-nil a)
 
 -- the first i bytes of a text were accepted, and no more
 pub prefix_kept : (a b c : Option (List ℕ)) (i : ℕ) (xs : List ℕ) → Appends a b (take i xs) → Keeps b c
     → AppendsPrefix a c xs
-prefix_kept a b c i xs p q = (take i xs, drop i xs, take-append-drop i xs, appends_kept a b c _ p q)
+prefix_kept a b c i xs p q = (take i xs, drop i xs, take-append-drop i xs, Appends-kept a b c _ p q)
 
 -- the remaining bytes are those after the first t
 all_left : (t : ℕ) (bytes : List ℕ) → take (length bytes - t) (drop t bytes) ≡ drop t bytes
@@ -53,7 +35,7 @@ pub took_more :
     → Appends b c (take n (take (length bytes - t) (drop t bytes))) → Appends a c (take (t + n) bytes)
 took_more a b c t n bytes p q =
     let q2 : Appends b c (take n (drop t bytes)) = rw (all_left t bytes) at q in
-    rw (take-add t n bytes) (appends_both a b c (take t bytes) (take n (drop t bytes)) p q2)
+    rw (take-add t n bytes) (Appends-trans a b c (take t bytes) (take n (drop t bytes)) p q2)
 
 -- ---- a sink that had failed before
 -- after `count` pieces: the sink is unchanged and `count` is 0, or it had not failed at first
@@ -87,9 +69,3 @@ pub fresh_ends : {S : Type 0} (has_failed : S → Bool) (contents : S → Option
     → IsFresh has_failed count first now → 0 < count → has_failed first ≡ true → Keeps (contents first) (contents now)
 fresh_ends has_failed contents count first now fresh some h =
     absurd (let n : true ≡ false = sym h ∙ fresh_some has_failed count first now fresh some in cc)
-
--- before the first piece
-pub fresh_of : {S : Type 0} (has_failed : S → Bool) (first now : S)
-    → (now ≡ first) ⊎ (has_failed first ≡ false) → IsFresh has_failed 0 first now
-fresh_of has_failed first now (inl same) = inl (refl, same)
-fresh_of has_failed first now (inr sound) = inr sound

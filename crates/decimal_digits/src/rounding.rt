@@ -9,7 +9,6 @@ ghost use Rattle.decimal_digits.specs.Remainders.{leading, SplitsAs};
 
 mod carry;
 mod last_two;
-mod laws;
 mod remainder;
 mod round_digits;
 

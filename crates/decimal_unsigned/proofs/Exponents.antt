@@ -7,10 +7,6 @@ use Rattle.decimal_unsigned.specs.declared.decimal.parse.parts.Parts.{Parts}
 use Rattle.decimal_unsigned.specs.Parts.{views}
 use Rattle.decimal_unsigned.proofs.GrammarParts.{parts-sound}
 
--- a saturated exponent is within its bounds
-pub saturated_in : (e : ℤ) → IsSaturated (saturated e)
-saturated_in e = record { low = omega (arith, ints, clamps); high = omega (arith, ints, clamps) }
-
 scaled_outside : (v : Unsigned) (e : ℤ) → (pos 32767 <ℤ e) ⊎ (e <ℤ negsuc 32767)
     → scaled v (Some e) ≡ cond (v.number == 0) (Ok v) (Err limit)
 unfolding scaled

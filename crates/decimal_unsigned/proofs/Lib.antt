@@ -11,7 +11,6 @@ pub mod ConcatenationLaws
 pub mod Writing
 pub mod TextBytes
 pub mod Blocks
-pub mod Formatting
 pub mod Lengths
 pub mod ValueLaws
 pub mod Numerals

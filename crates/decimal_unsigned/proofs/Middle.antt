@@ -19,10 +19,6 @@ module _ (ds : List ℕ) (start end : ℕ) (n : IsNonzeroRange ds start end) whe
   pub middle_length : length (middle start end ds) ≡ end - start
   middle_length = grind (arith, common_steps)
 
-  -- the digit at an index
-  pub middle_at : (i : ℕ) → i < end - start → get_or (middle start end ds) i 0 ≡ get_or ds (start + i) 0
-  middle_at i h = grind (arith, common_steps)
-
   -- all digits write the number of the middle digits times a power of ten
   pub number_middle : number_from_digits 10 ds ≡ number_from_digits 10 (middle start end ds) * 10 ^ (length ds - end)
   number_middle =

@@ -1,14 +1,14 @@
 -- Laws of rounding, on values.
-use Rattle.decimal_unsigned.proofs.Common.{common_steps, ◌≡◌, ℕ, ◌-◌, ◌*◌, ◌^◌, ◌<◌, ◌≤◌, sym, subst, arith, Option, Some, None, ℤ, negsuc, ◌≤ℤ◌, int_max, ints, clamps, nat_tests, pow-add, offset, first, size, unit_at, rounded_number, RoundingIncrement, MultiplesOf1, Trunc, Unsigned, IsValue, rounded, IsRounded, RoundError, UnsignedRoundingMode, unit_pos, trunced}
+use Rattle.decimal_unsigned.proofs.Common.{common_steps, ◌≡◌, ℕ, ◌-◌, ◌*◌, ◌^◌, ◌<◌, ◌≤◌, sym, subst, arith, Option, Some, ℤ, negsuc, ◌≤ℤ◌, int_max, ints, clamps, nat_tests, pow-add, offset, first, size, unit_at, rounded_number, RoundingIncrement, MultiplesOf1, Trunc, Unsigned, IsValue, rounded, IsRounded, RoundError, UnsignedRoundingMode, unit_pos, trunced}
 use Rattle.std.specs.Prelude.{if◌then◌else◌}
 use Rattle.decimal_digits.specs.Rounding.{DigitRoundingFails}
 use Rattle.decimal_digits.specs.declared.rounding.RoundError.TheVariants.{Limit, Memory}
 use Rattle.decimal_digits.specs.declared.rounding.UnsignedRoundingMode.TheVariants.{Expand}
-use Rattle.decimal_digits.proofs.Naming.{rounded_number-named}
+use Rattle.decimal_digits.proofs.Naming.{rounded_number_is_named}
 use Rattle.decimal_digits.proofs.Offsets.{offset_le}
 use Rattle.decimal_digits.proofs.RoundingLaws.{rounded_number-idempotent, rounded_number-zero, rounded_number-finer, rounded_number-monotone, trunc-coarser, expand-coarser, trunc_le, le_expand}
-use Rattle.decimal_unsigned.specs.Rounded.{reaches_limit, rounded_to, RoundingFails}
-use Rattle.decimal_unsigned.specs.ValueLaws.{after_rounding, number_if_any, TruncationsCompose, ExpansionsCompose, RoundingIsMonotone}
+use Rattle.decimal_unsigned.specs.Rounded.{reaches_limit, RoundingFails}
+use Rattle.decimal_unsigned.specs.ValueLaws.{after_rounding, TruncationsCompose, ExpansionsCompose, RoundingIsMonotone}
 use Rattle.decimal_unsigned.proofs.ValueLaws.{below_limit}
 use Rattle.decimal_unsigned.proofs.FirstLast.{first_le}
 use Rattle.decimal_unsigned.proofs.Roundings.{rounded_to-large}
@@ -20,7 +20,7 @@ pub is_rounded : (v : Unsigned) (p : ℤ) (mode : UnsignedRoundingMode) (increme
     {new : Option Unsigned} → IsValue v → rounded v p mode increment ≡ new
     → IsRounded v p mode increment new
 is_rounded v p mode increment valid e =
-    grind (arith, ints, clamps, nat_tests, common_steps, rounded_number-named, unit_pos)
+    grind (arith, ints, clamps, nat_tests, common_steps, rounded_number_is_named, unit_pos)
 
 -- an error of rounding the digits is an error of rounding the value
 pub fails : (held : ℕ) (e : RoundError) (v : Unsigned) (p : ℤ) (mode : UnsignedRoundingMode)
@@ -90,11 +90,6 @@ module _ (mode : UnsignedRoundingMode) (n : ℕ) (absorbs : Absorbs mode n) wher
   twice_is p q low low' = grind (arith, ints, clamps, nat_tests, common_steps, twice_up, once, twice_down)
 
 -- ---- Two expansions.
-
--- the number that results from a rounding to a multiple
-number_of-rounded_to : (v : Unsigned) (p : ℤ) (n : ℕ)
-    → number_if_any (rounded_to v p n) ≡ if reaches_limit n then None else Some n
-number_of-rounded_to v p n = grind (arith, nat_tests)
 
 -- expanding twice is expanding once, at the greater position
 pub expansions_compose : (v : Unsigned) (p : ℤ) → negsuc 32767 ≤ℤ p → ExpansionsCompose v p

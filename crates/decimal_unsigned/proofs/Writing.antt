@@ -1,8 +1,9 @@
 -- What has been written of a text.
 use Rattle.decimal_unsigned.proofs.Common.{elements, ◌≡◌, ℕ, suc, ◌+◌, ◌<◌, ◌≤◌, List, [], ◌∷◌, ◌++◌, length, get_or, take, drop, Option, refl, sym, ◌∙◌, ap, subst, arith, take_all, ℤ, pos, ◌-ℤ◌, digit, take-append-drop, Appends}
 use Rattle.std.proofs.lemmas.List.{drop_more}
+use Rattle.std.proofs.KnownBytes.{Appends-trans}
 use Rattle.decimal_digits.specs.AppendsPrefix.{AppendsPrefix}
-use Rattle.decimal_digits.proofs.Sinks.{appends_both, prefix_more, then_prefix}
+use Rattle.decimal_digits.proofs.Sinks.{prefix_more, then_prefix}
 use Rattle.decimal_unsigned.specs.Text.{dot_before, text_down}
 
 -- the text of n + 1 magnitudes is that of the first and that of the other n
@@ -31,7 +32,7 @@ pub wrote_more : (a b c : Option (List ℕ)) (all piece : List ℕ) (i k : ℕ) 
     → piece ≡ take k (drop i all) → Appends a b (take i all) → Appends b c piece
     → Appends a c (take (i + length piece) all)
 wrote_more a b c all piece i k h e p q =
-    subst (Appends a c) (piece_taken all piece i k h e) (appends_both a b c (take i all) piece p q)
+    subst (Appends a c) (piece_taken all piece i k h e) (Appends-trans a b c (take i all) piece p q)
 
 -- if the sink failed within the next piece, it has accepted a prefix of the text
 pub wrote_part : (a b c : Option (List ℕ)) (all piece : List ℕ) (i k : ℕ) → i + k ≤ length all

@@ -63,8 +63,6 @@ pub use Rattle.decimal_unsigned.proofs.ValueLaws.{trimmed_is_normal_form}
 pub use Rattle.decimal_digits.proofs.RoundingLaws.{rounded_number-multiple}
 -- a greater number is rounded to no less
 pub use Rattle.decimal_digits.proofs.RoundingLaws.{rounded_number-monotone}
--- appends in sequence append the concatenation; an empty append; an append is preserved where contents are kept
-pub use Rattle.decimal_digits.proofs.Sinks.{appends_both, appends_none, appends_kept}
 -- a prefix is a prefix of a longer text; a text and then a prefix of the next; the empty text is a prefix of each
 pub use Rattle.decimal_digits.proofs.Sinks.{prefix_more, then_prefix, prefix_none}
 -- a true proposition holds on an error

@@ -2,8 +2,8 @@ use Rattle.std.proofs.Common.{◌≡◌, ℕ, List, [], MutBor, String, Option, 
 use Rattle.std.specs.declared.alloc.Global.{Global}
 use Rattle.std.specs.Io.Buffered.{reader_remaining, writer_contents}
 use Rattle.std.specs.Io.KnownBytes.{Keeps, append_known}
+use Rattle.std.proofs.KnownBytes.{Appends-kept}
 use Rattle.decimal_digits.specs.AppendsPrefix.{AppendsPrefix}
-use Rattle.fixed_decimal.proofs.Calling.{appends_kept}
 use Rattle.fixed_decimal.specs.declared.runs.Call.{Call}
 use Rattle.cli.specs.Words.{NameAll}
 use Rattle.cli.specs.declared.error.FilterError.{FilterError}
@@ -18,7 +18,7 @@ use Rattle.cli.proofs.fixdec_lines.filter_words.Goals as goal
 unwritten :
     (a b d : Option (List ℕ)) (text missing : List ℕ) → AppendsPrefix a b text → Keeps b (append_known d missing)
     → AppendsUnwritten a d text
-unwritten a b d text missing (part, rest, e, p) k = (missing, (part, rest, e, appends_kept a b _ part p k))
+unwritten a b d text missing (part, rest, e, p) k = (missing, (part, rest, e, Appends-kept a b _ part p k))
 
 are_first :
     (on_error : OnError) (calls : List Call) (i : Option (List ℕ)) (lines : List (List ℕ))
@@ -45,7 +45,7 @@ module _
     filters_kept r (lines, how, stop, text, part, folds) k =
         let all : Keeps b (append_known d []) = rw (append_known-nil d) k in
         asked r
-        (lines, how, stop, (λ other. appends_kept a b d _ (text other) k), unwritten a b d _ [] part all, folds)
+        (lines, how, stop, (λ other. Appends-kept a b d _ (text other) k), unwritten a b d _ [] part all, folds)
 
     -- whatever the filter returned, bytes of the block were not written
     filters_missing :

@@ -2,13 +2,13 @@ use Rattle.std.proofs.Common.{◌≡◌, ℕ, suc, ◌<◌, List, take, drop, le
 use Rattle.std.specs.Prelude.{Option, Result, IsOkAnd, IsErrAnd, IfErr}
 use Rattle.std.specs.Borrow.{Bor}
 use Rattle.std.specs.Io.KnownBytes.{Keeps, Appends}
-use Rattle.std.proofs.KnownBytes.{Appends-trans}
+use Rattle.std.proofs.KnownBytes.{Appends-trans, Appends-kept, Appends-nil}
 use Rattle.std.proofs.Math.Seq.{split_at}
 use Rattle.std.proofs.lemmas.List.{take_more}
 use Rattle.decimal_digits.specs.AppendsPrefix.{AppendsPrefix}
 use Rattle.decimal_unsigned.specs.Reading.{ReadError}
 use Rattle.fixed_decimal.specs.DecimalText.{and_then}
-use Rattle.fixed_decimal.proofs.Calling.{appends_kept, appends_none, prefix_more, then_prefix}
+use Rattle.fixed_decimal.proofs.Calling.{prefix_more, then_prefix}
 use Rattle.uses.specs.Column.{normal_form, column_text, AmountFails, Stops}
 use Rattle.uses.specs.declared.column.ColumnError.{ColumnError}
 use Rattle.uses.specs.declared.column.ColumnError.TheVariants.{Amount, Sink}
@@ -79,7 +79,7 @@ feed_begun (Err fault) b c d p q = absurd p
 
 -- nothing is a prefix of a line feed
 no_feed : (b c : Option (List ℕ)) → Keeps b c → AppendsPrefix b c (10 ∷ [])
-no_feed b c k = ([], 10 ∷ [], refl, appends_kept b b c [] (appends_none b) k)
+no_feed b c k = ([], 10 ∷ [], refl, Appends-kept b b c [] (Appends-nil b) k)
 
 -- what is true of an error is true of a result with that error
 err_with : {A E : Type 0} (Q : E → Type 0) (r : Result A E) (e : E) → IsErrAnd r (λ x. x ≡ e) → Q e → IfErr r Q

@@ -1,12 +1,13 @@
 use Rattle.decimal_unsigned.proofs.Common.{◌<◌, inl, inr, refl, length, arith, text}
 use Rattle.decimal_digits.proofs.Results.{on_err}
-use Rattle.decimal_digits.proofs.Sinks.{appends_none, prefix_kept, fresh_more, fresh_some, fresh_keeps, fresh_ends}
+use Rattle.decimal_digits.proofs.Sinks.{prefix_kept, fresh_more, fresh_some, fresh_keeps, fresh_ends}
 use Rattle.decimal_unsigned.proofs.Lengths.{text_some}
 use Rattle.decimal_unsigned.proofs.Writing.{byte_taken, wrote_more, wrote_all}
 use Rattle.decimal_unsigned.proofs.decimal.UnsignedOver.write_bytewise.Goals as goal
+use Rattle.std.proofs.KnownBytes.{Appends-nil}
 
 pub loop-index-init : goal.loop-index-init
-loop-index-init g c = record { appended = appends_none _; fresh = inl (refl, refl) }
+loop-index-init g c = record { appended = Appends-nil _; fresh = inl (refl, refl) }
 
 pub loop-index-preserved : goal.loop-index-preserved
 loop-index-preserved g c =

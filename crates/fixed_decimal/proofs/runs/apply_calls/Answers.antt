@@ -1,7 +1,7 @@
 use Rattle.std.proofs.Common.{rules}
 use Rattle.fixed_decimal.specs.Calls.{CallsFail}
 use Rattle.fixed_decimal.proofs.RunInvariant.{continues, fails_with}
-use Rattle.fixed_decimal.proofs.runs.make_calls.Goals as goal
+use Rattle.fixed_decimal.proofs.runs.apply_calls.Goals as goal
 
 pub returns-in_err-make_call-clause-err : goal.returns-in_err-make_call-clause-err
 returns-in_err-make_call-clause-err g c =

@@ -1,5 +1,5 @@
 use Rattle.fixed_decimal.proofs.RunInvariant.{IsAt}
-use Rattle.fixed_decimal.proofs.runs.make_calls.Given as goal
+use Rattle.fixed_decimal.proofs.runs.apply_calls.Given as goal
 
 abbrev pub invariant-loop-at : goal.invariant-loop-at
 invariant-loop-at g l = IsAt l.fn.value l.calls l.at l.value
