@@ -7,8 +7,6 @@ import subprocess
 import sys
 import tempfile
 
-COLUMNS = 120
-README_LINES = 125
 CRATES = ["decimal_digits", "decimal_unsigned", "fixed_decimal", "plural_rules", "cli"]
 LIBRARIES = CRATES[:3]
 # Crates whose proofs cite of the libraries only the lemmas for callers.
@@ -23,8 +21,8 @@ FOREIGN = set(
 INTERNAL = re.compile(r"/src/(?:rounding/|digits/packed/|decimal/parse/|laws)")
 HIDDEN = {"from_short_text"}
 NAME = re.compile(r"[A-Za-z_][\w:<>&', ]*(\([\w:<>&', ]*\))?")
-CITED = "document|paper|issue|session|request|promise|definition"
-OUTSIDE = re.compile(rf"\b(?:{CITED}) \d|\b[DTRW]\d{{1,2}}\b|/(?:work|tmp|root|home)/")
+OUTSIDE = re.compile(r"\b(?:document|paper|issue|session|request|promise|definition) \d|\b[DTRW]\d{1,2}\b"
+                     r"|/(?:work|tmp|root|home)/")
 
 failures, passes = [], 0
 
@@ -49,11 +47,6 @@ CODE = {path: read(path) for path in FILES if path.endswith((".rt", ".antt"))}
 DOCUMENTS = ["README.md", "CALLING.md", *(path for path in FILES if re.fullmatch(r"docs/\w+\.md", path))]
 
 
-def prose(text):
-    """The text without its code blocks."""
-    return re.sub(r"```.*?```", "", text, flags=re.S)
-
-
 def quoted(text):
     return re.findall(r"`([^`\n]+)`", text)
 
@@ -64,10 +57,9 @@ def check_names():
     for path, text in CODE.items():
         words.update(re.findall(r"[A-Za-z_][\w'-]*|[A-Za-z_]\w*", re.sub(r"//.*|(?m:^--.*)", "", text)))
         words.update(word for name in re.findall(r"[A-Za-z_][\w'-]*", text) for word in name.split("-"))
-    for path in FILES:
-        words.update(part.split(".")[0] for part in path.split("/"))
+    words.update(part.split(".")[0] for path in FILES for part in path.split("/"))
     for document in DOCUMENTS:
-        for word in quoted(prose(read(document))):
+        for word in quoted(re.sub(r"```.*?```", "", read(document), flags=re.S)):
             if "/" in word or re.search(r"\.(rt|antt|md|py|sh|txt)$", word):
                 found = any(path.startswith(word) or f"/{word}" in f"/{path}" for path in FILES) or glob.glob(word)
                 check(found or " " in word, f"{document}: there is no file `{word}`")
@@ -145,16 +137,16 @@ def check_public():
 def check_code():
     """Lines have their width, callers cite Calling alone, and README counts the definitions."""
     for path, text in CODE.items():
-        lines = [it for it in text.splitlines() if not re.match(r"\s*(?:pub )?(?:ghost )?use ", it)]
-        long = [it[:60] for it in lines if len(it) > COLUMNS]
-        check(not long, f"{path}: lines of more than {COLUMNS} columns: {long}")
+        long = [it[:60] for it in text.splitlines()
+                if len(it) > 120 and not re.match(r"\s*(?:pub )?(?:ghost )?use ", it)]
+        check(not long, f"{path}: lines of more than 120 columns: {long}")
         if path.split("/")[1] in CALLERS:
             for cited in re.findall(r"^(?:pub )?use Rattle\.(?:decimal_\w+|fixed_decimal)\.proofs\.(\w+)", text, re.M):
                 check(cited == "Calling", f"{path}: cites {cited}, and callers cite Calling alone")
     specs = [text for path, text in CODE.items() if re.match(rf"crates/(?:{'|'.join(CRATES)})/specs/(?!Lib)", path)]
     counted = f"{sum(text.count(chr(10)) for text in specs):,} lines in {len(specs)} files"
     check(counted in read("README.md"), f"README.md: the definitions are {counted}")
-    check(read("README.md").count("\n") <= README_LINES, f"README.md has more than {README_LINES} lines")
+    check(read("README.md").count("\n") <= 120, "README.md has more than 120 lines")
 
 
 def check_alone():
@@ -183,8 +175,7 @@ def check_examples():
                         check(written == wanted, f"{document}: `{command}` writes {written!r}")
 
 
-for part in [check_names, check_links, check_quotes, check_proved, check_public, check_code, check_alone]:
+for part in [check_names, check_links, check_quotes, check_proved, check_public, check_code, check_alone, check_examples]:
     part()
-check_examples()
 print("\n".join([*failures, f"{passes} passed, {len(failures)} failed"]))
 sys.exit(1 if failures else 0)

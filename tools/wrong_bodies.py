@@ -12,8 +12,6 @@ import sys
 
 LINE = re.compile(r"(?:rt: )?must-fail (\w+)/(\S+)\.edit: (.*)")
 REJECTED = re.compile(r"refused, as it must be(?: \(.*?\))?: (?:note: )?(?:\./)?(\S+?):(\d+):\d+: (.*)")
-# A message is cut off after this number of characters.
-KEPT = 160
 
 
 def expected(path):
@@ -37,7 +35,7 @@ def functions_at(crate, path, line):
 
 def fault_of(crate, path, message):
     """What is wrong with how an edit is rejected, or None."""
-    found, wanted = REJECTED.match(message[: KEPT + 40]), expected(path)
+    found, wanted = REJECTED.match(message), expected(path)
     if not message.startswith("refused, as it must be"):
         return message
     if not wanted:
@@ -58,16 +56,15 @@ def main():
         sys.exit(__doc__)
     with open(sys.argv[1], encoding="utf-8", errors="replace") as file:
         tried = {(found[1], found[2]): found[3] for line in file if (found := LINE.match(line.rstrip("\n")))}
-    failed = 0
+    faults = []
     for crate in sorted({crate for crate, _ in tried}):
         for path in sorted(glob.glob(f"crates/{crate}/must-fail/*.edit") + glob.glob(f"wrong_bodies/{crate}/*.edit")):
             name = os.path.basename(path)[: -len(".edit")]
-            fault = fault_of(crate, path, tried.get((crate, name), "not in the log"))
-            if fault:
-                failed += 1
-                print(f"{crate}/{name}: {fault}")
-    print(f"{len(tried) - failed} wrong bodies are rejected as they say, {failed} are not")
-    return 1 if failed else 0
+            if fault := fault_of(crate, path, tried.get((crate, name), "not in the log")):
+                faults.append(f"{crate}/{name}: {fault}")
+    faults.append(f"{len(tried) - len(faults)} wrong bodies are rejected as they say, {len(faults)} are not")
+    print("\n".join(faults))
+    return 1 if len(faults) > 1 else 0
 
 
 if __name__ == "__main__":
