@@ -2,47 +2,56 @@
 use Rattle.std.proofs.Common.{ℕ, ◌≡◌, ◌+◌, ◌*◌, ◌/◌, ◌%◌, ◌<◌, ◌≤◌, ◌⊎◌, ◌==◌, nat_lt, true, false, inl, inr, sym, ◌∙◌, ap, subst, arith}
 use Rattle.std.proofs.lemmas.Bool.{cases_lt, cases_eq, cases_order, cond_both, ltb-true, ltb-false, eqb-true, eqb-false}
 use Rattle.std.proofs.lemmas.Bool.Decides.{nat_tests}
-use Rattle.std.specs.Int.{abs_diff}
+use Rattle.std.specs.Prelude.{ℤ, pos, negsuc, ◌*ℤ◌, ◌≤ℤ◌}
+use Rattle.std.proofs.lemmas.Int.{ints}
 use Rattle.std.proofs.Math.Nat.{mul-le-mul_right, div-add-mod', mod-lt}
 use Rattle.decimal_digits.specs.declared.rounding.UnsignedRoundingMode.{UnsignedRoundingMode}
 use Rattle.decimal_digits.specs.declared.rounding.UnsignedRoundingMode.TheVariants.{Expand, Trunc, HalfExpand, HalfTrunc, HalfEven}
-use Rattle.decimal_digits.specs.Rounding.{IsNearest, AllTies, Chooses, Named, below, above, rounded_number}
+use Rattle.decimal_digits.specs.Rounding.{distance, IsNearest, AllTies, Chooses, Named, below, above, rounded_number}
 
 -- multiples of u are at least u apart
-apart : (u q k : ℕ) → (k * u ≤ q * u) ⊎ (q * u + u ≤ k * u)
-apart u q k = elim (cases_lt k (q + 1)) [
-  | inl h ↦ let l : k ≤ q = omega arith in inl (mul-le-mul_right u l)
-  | inr h ↦ let l : (q + 1) * u ≤ k * u = mul-le-mul_right u h in inr (omega (arith, l))
+apart : (u q : ℕ) (k : ℤ) → ((k *ℤ pos u) ≤ℤ pos (q * u)) ⊎ (pos (q * u + u) ≤ℤ (k *ℤ pos u))
+apart u q (pos k) = elim (cases_lt k (q + 1)) [
+  | inl h ↦ let l : k * u ≤ q * u = mul-le-mul_right u (omega arith) in inl (omega (arith, ints, l))
+  | inr h ↦ let l : (q + 1) * u ≤ k * u = mul-le-mul_right u h in inr (omega (arith, ints, l))
 ]
+apart u q (negsuc k) = inl (omega (arith, ints))
 
 -- ---- q units and r over
 module _ (u q r : ℕ) (l : r < u) where
   trunc_below : Chooses Trunc u (q * u + r) q
-  trunc_below = (omega arith, λ k h. elim (apart u q k) [ inl a ↦ a | inr a ↦ absurd (omega arith) ])
+  trunc_below = (omega (arith, ints), λ k h. elim (apart u q k) [ inl a ↦ a | inr a ↦ absurd (omega (arith, ints)) ])
 
   expand_above : 0 < r → Chooses Expand u (q * u + r) (q + 1)
-  expand_above p = (omega arith, λ k h. elim (apart u q k) [ inl a ↦ absurd (omega arith) | inr a ↦ omega arith ])
+  expand_above p = (
+    omega (arith, ints),
+    λ k h. elim (apart u q k) [
+      | inl a ↦ absurd (omega (arith, ints))
+      | inr a ↦ omega (arith, ints)
+    ],
+  )
 
   -- the nearest multiple is at most half a unit away
-  near_below : 2 * r ≤ u → IsNearest u (q * u + r) (q * u)
-  near_below h k = elim (apart u q k) [ inl a ↦ omega arith | inr a ↦ omega arith ]
+  near_below : 2 * r ≤ u → IsNearest u (pos (q * u + r)) (pos (q * u))
+  near_below h k = elim (apart u q k) [ inl a ↦ omega (arith, ints) | inr a ↦ omega (arith, ints) ]
 
-  near_above : u ≤ 2 * r → IsNearest u (q * u + r) ((q + 1) * u)
-  near_above h k = elim (apart u q k) [ inl a ↦ omega arith | inr a ↦ omega arith ]
+  near_above : u ≤ 2 * r → IsNearest u (pos (q * u + r)) (pos ((q + 1) * u))
+  near_above h k = elim (apart u q k) [ inl a ↦ omega (arith, ints) | inr a ↦ omega (arith, ints) ]
 
   -- of the nearest multiples the one below is the least and the one above the greatest
-  least_near : 2 * r ≤ u → AllTies u (q * u + r) (q * u) (λ other. q * u ≤ other)
-  least_near h k e = elim (apart u k q) [ inl a ↦ a | inr a ↦ absurd (omega arith) ]
+  least_near : 2 * r ≤ u → AllTies u (pos (q * u + r)) (pos (q * u)) (λ other. pos (q * u) ≤ℤ other)
+  least_near h k e = elim (apart u q k) [ inl a ↦ omega (arith, ints) | inr a ↦ omega (arith, ints) ]
 
-  greatest_near : u ≤ 2 * r → AllTies u (q * u + r) ((q + 1) * u) (λ other. other ≤ (q + 1) * u)
-  greatest_near h k e = elim (apart u (q + 1) k) [ inl a ↦ a | inr a ↦ absurd (omega arith) ]
+  greatest_near : u ≤ 2 * r
+      → AllTies u (pos (q * u + r)) (pos ((q + 1) * u)) (λ other. other ≤ℤ pos ((q + 1) * u))
+  greatest_near h k e = elim (apart u (q + 1) k) [ inl a ↦ a | inr a ↦ absurd (omega (arith, ints)) ]
 
   -- and unless it is half a unit away there is no other nearest multiple
-  one_below : 2 * r < u → AllTies u (q * u + r) (q * u) (λ other. other ≡ q * u)
-  one_below h k e = elim (apart u q k) [ inl a ↦ omega arith | inr a ↦ absurd (omega arith) ]
+  one_below : 2 * r < u → AllTies u (pos (q * u + r)) (pos (q * u)) (λ other. other ≡ pos (q * u))
+  one_below h k e = elim (apart u q k) [ inl a ↦ omega (arith, ints) | inr a ↦ absurd (omega (arith, ints)) ]
 
-  one_above : u < 2 * r → AllTies u (q * u + r) ((q + 1) * u) (λ other. other ≡ (q + 1) * u)
-  one_above h k e = elim (apart u q k) [ inl a ↦ absurd (omega arith) | inr a ↦ omega arith ]
+  one_above : u < 2 * r → AllTies u (pos (q * u + r)) (pos ((q + 1) * u)) (λ other. other ≡ pos ((q + 1) * u))
+  one_above h k e = elim (apart u q k) [ inl a ↦ absurd (omega (arith, ints)) | inr a ↦ omega (arith, ints) ]
 
 -- ---- the remainder forms
 module _ (mode : UnsignedRoundingMode) (u n : ℕ) where
@@ -62,7 +71,7 @@ expand_named u n l = elim (cases_eq (n % u) 0) [
   | inl z ↦
       let e : (n % u == 0) ≡ true = grind (arith, nat_tests) in
       let whole : n ≡ n / u * u = omega (arith, div-add-mod' n u) in
-      (n / u, rw e whole, (omega arith, λ k h. omega arith))
+      (n / u, rw e whole, (omega (arith, ints), λ k h. omega (arith, ints)))
   | inr z ↦ named_above Expand u n (omega arith) (expand_above u (n / u) (n % u) l (omega arith))
 ]
 
@@ -77,7 +86,7 @@ rounded_number_is_named HalfExpand u n p =
     (λ t.
     let h = ltb-true _ _ t in
     named_below HalfExpand u n
-    (near_below u q r l (omega arith), λ k e. omega (arith, one_below u q r l h k e)))
+    (near_below u q r l (omega arith), λ k e. omega (arith, ints, one_below u q r l h k e)))
     (λ t.
     let h = ltb-false _ _ t in
     named_above HalfExpand u n (omega arith) (near_above u q r l h, greatest_near u q r l h))
@@ -87,7 +96,7 @@ rounded_number_is_named HalfTrunc u n p =
     (λ t.
     let h = ltb-true _ _ t in
     named_above HalfTrunc u n (omega arith)
-    (near_above u q r l (omega arith), λ k e. omega (arith, one_above u q r l h k e)))
+    (near_above u q r l (omega arith), λ k e. omega (arith, ints, one_above u q r l h k e)))
     (λ t. let h = ltb-false _ _ t in named_below HalfTrunc u n (near_below u q r l h, least_near u q r l h))
 rounded_number_is_named HalfEven u n p =
     let q = n / u in let r = n % u in let l = mod-lt n p in
@@ -111,38 +120,44 @@ rounded_number_is_named HalfEven u n p =
 
 -- ---- a mode names one number
 -- of two even multiples at the same distance the one between them is nearer
-no_middle : (u n q k : ℕ) → 0 < u → q % 2 ≡ 0 → k % 2 ≡ 0 → q < k → IsNearest u n (q * u)
-    → abs_diff n (q * u) ≡ abs_diff n (k * u)
+no_middle : (u n q k : ℕ) → 0 < u → q % 2 ≡ 0 → k % 2 ≡ 0 → q < k
+    → IsNearest u (pos n) (pos (q * u)) → distance (pos n) (pos (q * u)) ≡ distance (pos n) (pos (k * u))
     → ⊥
 no_middle u n q k p even even' lt near same =
     let far : (q + 2) * u ≤ k * u = mul-le-mul_right u (let two : q + 2 ≤ k = omega arith in two) in
-    omega (arith, near (q + 1))
+    omega (arith, ints, near (pos (q + 1)))
 
 same_even : (u n q k : ℕ) → 0 < u → Chooses HalfEven u n q → Chooses HalfEven u n k → q * u ≡ k * u
 same_even u n q k p (near, even) (near', even') =
-    let same : abs_diff n (k * u) ≡ abs_diff n (q * u) = omega (arith, near k, near' q) in
+    let same : distance (pos n) (pos (k * u)) ≡ distance (pos n) (pos (q * u)) =
+    omega (arith, ints, near (pos k), near' (pos q)) in
     elim (cases_eq (k * u) (q * u)) [
       | inl e ↦ sym e
       | inr ne ↦ elim (cases_order q k) [
         | inl e ↦ ap (λ v. v * u) e
         | inr o ↦ elim o [
           | inl lt ↦
-              absurd (no_middle u n q k p (even k same ne) (even' q (sym same) (λ e. ne (sym e))) lt near (sym same))
-          | inr gt ↦ absurd (no_middle u n k q p (even' q (sym same) (λ e. ne (sym e))) (even k same ne) gt near' same)
+              absurd (no_middle u n q k p (even (pos k) same (λ e. ne (cc)))
+              (even' (pos q) (sym same) (λ e. ne (cc))) lt near (sym same))
+          | inr gt ↦
+              absurd (no_middle u n k q p (even' (pos q) (sym same) (λ e. ne (cc)))
+              (even (pos k) same (λ e. ne (cc))) gt near' same)
         ]
       ]
     ]
 
 same_chosen : (mode : UnsignedRoundingMode) (u n q k : ℕ) → 0 < u → Chooses mode u n q → Chooses mode u n k
     → q * u ≡ k * u
-same_chosen Trunc u n q k p (a, b) (a', b') = omega (arith, b k a', b' q a)
-same_chosen Expand u n q k p (a, b) (a', b') = omega (arith, b k a', b' q a)
+same_chosen Trunc u n q k p (a, b) (a', b') = omega (arith, ints, b (pos k) a', b' (pos q) a)
+same_chosen Expand u n q k p (a, b) (a', b') = omega (arith, ints, b (pos k) a', b' (pos q) a)
 same_chosen HalfExpand u n q k p (near, most) (near', most') =
-    let same : abs_diff n (k * u) ≡ abs_diff n (q * u) = omega (arith, near k, near' q) in
-    omega (arith, most k same, most' q (sym same))
+    let same : distance (pos n) (pos (k * u)) ≡ distance (pos n) (pos (q * u)) =
+    omega (arith, ints, near (pos k), near' (pos q)) in
+    omega (arith, ints, most (pos k) same, most' (pos q) (sym same))
 same_chosen HalfTrunc u n q k p (near, least) (near', least') =
-    let same : abs_diff n (k * u) ≡ abs_diff n (q * u) = omega (arith, near k, near' q) in
-    omega (arith, least k same, least' q (sym same))
+    let same : distance (pos n) (pos (k * u)) ≡ distance (pos n) (pos (q * u)) =
+    omega (arith, ints, near (pos k), near' (pos q)) in
+    omega (arith, ints, least (pos k) same, least' (pos q) (sym same))
 same_chosen HalfEven u n q k p c d = same_even u n q k p c d
 
 -- whatever a mode names is the remainder form

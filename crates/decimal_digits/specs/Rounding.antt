@@ -1,6 +1,5 @@
 -- Rounding of natural numbers to the multiples of a unit.
-use Rattle.std.specs.Prelude.{◌≡◌, ◌≢◌, ℕ, ◌+◌, ◌-◌, ◌*◌, ◌/◌, ◌%◌, ◌<◌, ◌≤◌, ◌==◌, nat_lt, if◌then◌else◌, ℤ}
-use Rattle.std.specs.Int.{abs_diff}
+use Rattle.std.specs.Prelude.{◌≡◌, ◌≢◌, ℕ, ◌+◌, ◌-◌, ◌*◌, ◌/◌, ◌%◌, ◌<◌, ◌≤◌, ◌==◌, nat_lt, if◌then◌else◌, ℤ, pos, ◌-ℤ◌, ◌*ℤ◌, ◌≤ℤ◌, unsigned_abs}
 use Rattle.decimal_digits.specs.Number.{weight, size, number_limit}
 use Rattle.decimal_digits.specs.declared.rounding.RoundingIncrement.{RoundingIncrement}
 use Rattle.decimal_digits.specs.declared.rounding.RoundingIncrement.TheVariants.{MultiplesOf1, MultiplesOf2, MultiplesOf5, MultiplesOf25}
@@ -22,24 +21,44 @@ step_of MultiplesOf25 = 25
 abbrev pub unit_at : RoundingIncrement → ℤ → ℕ
 unit_at increment position = step_of increment * weight position
 
--- ---- The multiple that a mode chooses, among all of them.
+-- ---- The multiple that a mode chooses, among all positive and negative ones. Below, z is a multiple of the unit u.
 
--- no multiple of the unit u is nearer to n than m is
-abbrev pub IsNearest : ℕ → ℕ → ℕ → Type 0
-IsNearest u n m = (k : ℕ) → abs_diff n m ≤ abs_diff n (k * u)
+-- the distance of two numbers
+abbrev pub distance : ℤ → ℤ → ℕ
+distance s z = unsigned_abs (s -ℤ z)
 
--- each multiple of u at the same distance from n as m has the property P
-abbrev pub AllTies : ℕ → ℕ → ℕ → (ℕ → Type 0) → Type 0
-AllTies u n m P = (k : ℕ) → abs_diff n (k * u) ≡ abs_diff n m → P (k * u)
+-- no multiple of u is nearer to s than z is
+abbrev pub IsNearest : ℕ → ℤ → ℤ → Type 0
+IsNearest u s z = (k : ℤ) → distance s z ≤ distance s (k *ℤ pos u)
 
--- for n the mode chooses q times u: the greatest multiple that is at most n, the least that is at least n, or a nearest
--- one, which in a tie is the greater, the smaller, or the one with an even quotient q
+-- each multiple of u at the same distance from s as z has the property P
+abbrev pub AllTies : ℕ → ℤ → ℤ → (ℤ → Type 0) → Type 0
+AllTies u s z P = (k : ℤ) → distance s (k *ℤ pos u) ≡ distance s z → P (k *ℤ pos u)
+
+-- z is the least multiple of u that is at least s
+abbrev pub IsCeil : ℕ → ℤ → ℤ → Type 0
+IsCeil u s z = (s ≤ℤ z) × ((k : ℤ) → s ≤ℤ (k *ℤ pos u) → z ≤ℤ (k *ℤ pos u))
+
+-- z is the greatest multiple of u that is at most s
+abbrev pub IsFloor : ℕ → ℤ → ℤ → Type 0
+IsFloor u s z = (z ≤ℤ s) × ((k : ℤ) → (k *ℤ pos u) ≤ℤ s → (k *ℤ pos u) ≤ℤ z)
+
+-- z is the multiple of u that is nearest to s, and of two nearest ones the greater: for -25 and u = 10 it is -20
+abbrev pub IsHalfCeil : ℕ → ℤ → ℤ → Type 0
+IsHalfCeil u s z = IsNearest u s z × AllTies u s z (λ other. other ≤ℤ z)
+
+-- z is the multiple of u that is nearest to s, and of two nearest ones the smaller: for -25 and u = 10 it is -30
+abbrev pub IsHalfFloor : ℕ → ℤ → ℤ → Type 0
+IsHalfFloor u s z = IsNearest u s z × AllTies u s z (λ other. z ≤ℤ other)
+
+-- for n the mode chooses q times u; of two nearest ones `HalfEven` chooses the one whose quotient q is even
 abbrev pub Chooses : UnsignedRoundingMode → ℕ → ℕ → ℕ → Type 0
-Chooses Trunc u n q = (q * u ≤ n) × ((k : ℕ) → k * u ≤ n → k * u ≤ q * u)
-Chooses Expand u n q = (n ≤ q * u) × ((k : ℕ) → n ≤ k * u → q * u ≤ k * u)
-Chooses HalfExpand u n q = IsNearest u n (q * u) × AllTies u n (q * u) (λ other. other ≤ q * u)
-Chooses HalfTrunc u n q = IsNearest u n (q * u) × AllTies u n (q * u) (λ other. q * u ≤ other)
-Chooses HalfEven u n q = IsNearest u n (q * u) × AllTies u n (q * u) (λ other. other ≢ q * u → q % 2 ≡ 0)
+Chooses Trunc u n q = IsFloor u (pos n) (pos (q * u))
+Chooses Expand u n q = IsCeil u (pos n) (pos (q * u))
+Chooses HalfExpand u n q = IsHalfCeil u (pos n) (pos (q * u))
+Chooses HalfTrunc u n q = IsHalfFloor u (pos n) (pos (q * u))
+Chooses HalfEven u n q =
+    IsNearest u (pos n) (pos (q * u)) × AllTies u (pos n) (pos (q * u)) (λ other. other ≢ pos (q * u) → q % 2 ≡ 0)
 
 -- m is the multiple of u that the mode chooses for n
 abbrev pub Named : UnsignedRoundingMode → ℕ → ℕ → ℕ → Type 0

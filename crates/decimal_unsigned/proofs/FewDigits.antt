@@ -1,12 +1,12 @@
 -- The number of digits of a text's value, and when a text has a value.
-use Rattle.decimal_unsigned.proofs.Common.{clamps, nat_tests, common_steps, ◌≡◌, ℕ, suc, ◌+◌, ◌-◌, ◌*◌, ◌%◌, ◌^◌, ◌<◌, ◌≤◌, Bool, true, false, ◌||◌, List, ◌++◌, length, refl, sym, ◌∙◌, ap, subst, arith, rules, inl, inr, Result, Ok, Err, Option, Some, None, ℤ, pos, negsuc, ◌-ℤ◌, mul-mod_left, mul-le-mul_right, ints, pow-add, cases_lt, number_lt, digits_value_is, AllDigits, digits_value, size, first, last, ten_pos, no_more_zeros, gap_is, Unsigned, leaves_limits, multiplied, Literal, limit, is_outside, value_of, read, Grammar, mantissa}
+use Rattle.decimal_unsigned.proofs.Common.{clamps, nat_tests, common_steps, ◌≡◌, ℕ, suc, ◌+◌, ◌-◌, ◌*◌, ◌%◌, ◌^◌, ◌<◌, ◌≤◌, Bool, true, false, ◌||◌, List, ◌++◌, length, refl, sym, ◌∙◌, ap, subst, arith, rules, inl, inr, Result, Ok, Err, Option, Some, None, ℤ, pos, negsuc, ◌+ℤ◌, ◌-ℤ◌, ◌≤ℤ◌, mul-mod_left, mul-le-mul_right, ints, pow-add, cases_lt, number_lt, digits_value_is, AllDigits, digits_value, size, first, last, ten_pos, no_more_zeros, gap_is, Unsigned, leaves_limits, multiplied, Literal, limit, is_outside, value_of, read, Grammar, mantissa}
 use Rattle.std.specs.Prelude.{IsOkAnd, nat_eq}
 use Rattle.std.proofs.Math.Nat.{mul_assoc}
 use Rattle.std.proofs.lemmas.Bool.{or_parts}
 use Rattle.decimal_digits.proofs.Ends.{shift_up}
 use Rattle.decimal_unsigned.specs.declared.error.ParseError.{ParseError}
 use Rattle.decimal_unsigned.specs.declared.error.ParseError.TheVariants.{Limit, Memory}
-use Rattle.decimal_unsigned.specs.Edits.{StaysInLimits, times_power}
+use Rattle.decimal_unsigned.specs.Edits.{times_power}
 use Rattle.decimal_unsigned.specs.Reading.{ReadError, zeros_trimmed, scaled}
 use Rattle.decimal_unsigned.specs.ParseResult.{IsParseResult, IsPlain, digit_count}
 use Rattle.decimal_unsigned.proofs.FirstLast.{Extent, extent, ordered, top_lt, first_of, last_of}
@@ -44,7 +44,8 @@ size_le n m k len is few top = elim (cases_lt 0 n) [
     ])
 
 -- a range that does not leave the limits stays in them
-stays : (v : Unsigned) (d : ℤ) → leaves_limits v d ≡ false → StaysInLimits v d
+stays : (v : Unsigned) (d : ℤ) → leaves_limits v d ≡ false
+    → ((v.hi +ℤ d) ≤ℤ pos 32767) × (negsuc 32767 ≤ℤ (v.lo +ℤ d))
 stays v d e = grind (arith, ints)
 
 -- ---- The parts of a text.
@@ -73,17 +74,19 @@ module _ (w : Literal) (digits : AllDigits 10 (w.whole ++ w.fraction)) (few : le
   size_mantissa = grind (arith, ints, clamps, nat_tests, common_steps, size_le, written, written_lt)
 
   -- and that number times a power of ten
-  size_times : (d : ℤ) → StaysInLimits (mantissa w.whole w.fraction) d
+  size_times : (d : ℤ) → leaves_limits (mantissa w.whole w.fraction) d ≡ false
       → size (times_power (mantissa w.whole w.fraction).number d) ≤ length w.whole + length w.fraction
   unfolding written
   size_times (pos d) stay =
+      let within = stays (mantissa w.whole w.fraction) (pos d) stay in
       size_le _ written (32768 - length w.fraction + d) (length w.whole + length w.fraction)
       (mul_assoc written (10 ^ (32768 - length w.fraction)) (10 ^ d)
       ∙ ap (λ x. written * x) (sym (pow-add 10 (32768 - length w.fraction) d))) written_lt
-      (omega (arith, ints, stay.0))
+      (omega (arith, ints, within.0))
   size_times (negsuc d) stay =
+      let within = stays (mantissa w.whole w.fraction) (negsuc d) stay in
       size_le _ written (32768 - length w.fraction - suc d) (length w.whole + length w.fraction)
-      (shift_up written (32768 - length w.fraction) (suc d) (omega (arith, ints, stay.1))) written_lt (omega arith)
+      (shift_up written (32768 - length w.fraction) (suc d) (omega (arith, ints, within.1))) written_lt (omega arith)
 
   size_scaled : (e : Option ℤ) (v : Unsigned) → scaled (mantissa w.whole w.fraction) e ≡ Ok v
       → size v.number ≤ length w.whole + length w.fraction
@@ -105,7 +108,7 @@ module _ (w : Literal) (digits : AllDigits 10 (w.whole ++ w.fraction)) (few : le
       go false z false e =
           let same : zeros_trimmed (multiplied (mantissa w.whole w.fraction) d) ≡ v = (let k = rw (z, e) at is in cc) in
           subst (λ (x : Unsigned). size x.number ≤ length w.whole + length w.fraction) same
-          (size_times d (stays (mantissa w.whole w.fraction) d (or_parts (is_outside d) _ e).1))
+          (size_times d (or_parts (is_outside d) _ e).1)
 
 -- the value of the parts has no more digits than they have
 size_value : (w : Literal) (v : Unsigned) → AllDigits 10 (w.whole ++ w.fraction) → value_of w ≡ Ok v

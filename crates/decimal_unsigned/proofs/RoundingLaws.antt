@@ -1,5 +1,5 @@
 -- Laws of rounding, on values.
-use Rattle.decimal_unsigned.proofs.Common.{common_steps, ◌≡◌, ℕ, ◌-◌, ◌*◌, ◌^◌, ◌<◌, ◌≤◌, sym, subst, arith, Option, Some, ℤ, negsuc, ◌≤ℤ◌, int_max, ints, clamps, nat_tests, pow-add, offset, first, size, unit_at, rounded_number, RoundingIncrement, MultiplesOf1, Trunc, Unsigned, IsValue, rounded, IsRounded, RoundError, UnsignedRoundingMode, unit_pos, trunced}
+use Rattle.decimal_unsigned.proofs.Common.{common_steps, ◌≡◌, ℕ, ◌-◌, ◌*◌, ◌^◌, ◌<◌, ◌≤◌, sym, subst, arith, Option, Some, ℤ, negsuc, ◌≤ℤ◌, int_max, ints, clamps, nat_tests, pow-add, offset, first, size, unit_at, rounded_number, MultiplesOf1, Trunc, Unsigned, IsValue, rounded, IsRounded, RoundError, UnsignedRoundingMode, unit_pos, trunced}
 use Rattle.std.specs.Prelude.{if◌then◌else◌}
 use Rattle.decimal_digits.specs.Rounding.{DigitRoundingFails}
 use Rattle.decimal_digits.specs.declared.rounding.RoundError.TheVariants.{Limit, Memory}
@@ -7,7 +7,7 @@ use Rattle.decimal_digits.specs.declared.rounding.UnsignedRoundingMode.TheVarian
 use Rattle.decimal_digits.proofs.Naming.{rounded_number_is_named}
 use Rattle.decimal_digits.proofs.Offsets.{offset_le}
 use Rattle.decimal_digits.proofs.RoundingLaws.{rounded_number-idempotent, rounded_number-zero, rounded_number-finer, rounded_number-monotone, trunc-coarser, expand-coarser, trunc_le, le_expand}
-use Rattle.decimal_unsigned.specs.Rounded.{reaches_limit, RoundingFails}
+use Rattle.decimal_unsigned.specs.Rounded.{Rounding, unit_of, reaches_limit, RoundingFails}
 use Rattle.decimal_unsigned.specs.ValueLaws.{after_rounding, TruncationsCompose, ExpansionsCompose, RoundingIsMonotone}
 use Rattle.decimal_unsigned.proofs.ValueLaws.{below_limit}
 use Rattle.decimal_unsigned.proofs.FirstLast.{first_le}
@@ -16,28 +16,25 @@ use Rattle.decimal_unsigned.proofs.Roundings.{rounded_to-large}
 -- ---- The result of a rounding.
 
 -- the rounding by the remainder is the rounding to the multiple that the mode names
-pub is_rounded : (v : Unsigned) (p : ℤ) (mode : UnsignedRoundingMode) (increment : RoundingIncrement)
-    {new : Option Unsigned} → IsValue v → rounded v p mode increment ≡ new
-    → IsRounded v p mode increment new
-is_rounded v p mode increment valid e =
+pub is_rounded : (v : Unsigned) (r : Rounding UnsignedRoundingMode) {new : Option Unsigned} → IsValue v
+    → rounded v r ≡ new → IsRounded v r new
+is_rounded v r valid e =
     grind (arith, ints, clamps, nat_tests, common_steps, rounded_number_is_named, unit_pos)
 
 -- an error of rounding the digits is an error of rounding the value
-pub fails : (held : ℕ) (e : RoundError) (v : Unsigned) (p : ℤ) (mode : UnsignedRoundingMode)
-    (increment : RoundingIncrement) → IsValue v
-    → DigitRoundingFails e increment (size v.number) (rounded_number mode (unit_at increment p) v.number) held
-    → RoundingFails held e v p mode increment
-fails held Limit v p mode increment valid r =
-    is_rounded v p mode increment valid (rounded_to-large v p (rounded_number mode (unit_at increment p) v.number) r)
-fails held Memory v p mode increment valid r = r
+pub fails : (held : ℕ) (e : RoundError) (v : Unsigned) (r : Rounding UnsignedRoundingMode) → IsValue v
+    → DigitRoundingFails e r.increment (size v.number) (rounded_number r.mode (unit_of r) v.number) held
+    → RoundingFails held e v r
+fails held Limit v r valid h =
+    is_rounded v r valid (rounded_to-large v r.position (rounded_number r.mode (unit_of r) v.number) h)
+fails held Memory v r valid h = h
 
 -- ---- The same rounding again.
 
 -- the same rounding again changes nothing
-pub rounding_is_idempotent : (v w : Unsigned) (p : ℤ) (mode : UnsignedRoundingMode) (increment : RoundingIncrement)
-    → rounded v p mode increment ≡ Some w
-    → rounded w p mode increment ≡ Some w
-rounding_is_idempotent v w p mode increment e =
+pub rounding_is_idempotent : (v w : Unsigned) (r : Rounding UnsignedRoundingMode) → rounded v r ≡ Some w
+    → rounded w r ≡ Some w
+rounding_is_idempotent v w r e =
     grind (arith, ints, clamps, nat_tests, common_steps, rounded_number-idempotent, unit_pos)
 
 -- ---- Two positions.
@@ -145,9 +142,9 @@ abbrev pub new_number : UnsignedRoundingMode → ℕ → ℕ → ℕ
 new_number mode u n = if reaches_limit (rounded_number mode u n) then n else rounded_number mode u n
 
 -- it is the number of the value after a rounding
-pub number-after_rounding : (v : Unsigned) (p : ℤ) (mode : UnsignedRoundingMode) (increment : RoundingIncrement)
-    → (after_rounding v p mode increment).number ≡ new_number mode (unit_at increment p) v.number
-number-after_rounding v p mode increment = grind (arith, nat_tests)
+pub number-after_rounding : (v : Unsigned) (r : Rounding UnsignedRoundingMode)
+    → (after_rounding v r).number ≡ new_number r.mode (unit_of r) v.number
+number-after_rounding v r = grind (arith, nat_tests)
 
 module _ (mode : UnsignedRoundingMode) (u : ℕ) (pos_u : 0 < u) where
   -- 0 stays 0
@@ -168,12 +165,11 @@ module _ (mode : UnsignedRoundingMode) (u : ℕ) (pos_u : 0 < u) where
       grind (arith, nat_tests)
 
 -- rounding is monotone: the value after rounding a greater number is no less
-pub rounding_is_monotone : (v w : Unsigned) (p : ℤ) (mode : UnsignedRoundingMode) (increment : RoundingIncrement)
-    → RoundingIsMonotone v w p mode increment
-rounding_is_monotone v w p mode increment l =
+pub rounding_is_monotone : (v w : Unsigned) (r : Rounding UnsignedRoundingMode) → RoundingIsMonotone v w r
+rounding_is_monotone v w r l =
     omega (
       arith,
-      number-after_rounding v p mode increment,
-      number-after_rounding w p mode increment,
-      new_number-monotone mode (unit_at increment p) (unit_pos increment p) v.number w.number l,
+      number-after_rounding v r,
+      number-after_rounding w r,
+      new_number-monotone r.mode (unit_of r) (unit_pos r.increment r.position) v.number w.number l,
     )

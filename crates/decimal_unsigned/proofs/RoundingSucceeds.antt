@@ -4,7 +4,7 @@ use Rattle.std.specs.Prelude.{IsErrOf, IsOk}
 use Rattle.decimal_digits.specs.declared.rounding.RoundError.TheVariants.{Limit, Memory}
 use Rattle.decimal_digits.specs.declared.rounding.RoundingIncrement.TheVariants.{MultiplesOf2, MultiplesOf5, MultiplesOf25}
 use Rattle.decimal_digits.proofs.RoundingLaws.{rounded_number-multiple, rounded_number-monotone}
-use Rattle.decimal_unsigned.specs.Rounded.{IsBelowLimit, HasCapacity, RoundingNeedsMemory, RoundsInPlace}
+use Rattle.decimal_unsigned.specs.Rounded.{Rounding, IsBelowLimit, HasCapacity, RoundingNeedsMemory, RoundsInPlace}
 use Rattle.decimal_unsigned.proofs.Roundings.{rounded_to-small}
 
 -- ---- Numbers.
@@ -80,29 +80,29 @@ module _ (v : Unsigned) (q : ℤ) (least : negsuc 32767 ≤ℤ q) (greatest : q 
 -- ---- Results.
 
 -- if the store has the capacity for one more digit, no allocation is needed
-no_memory : (held : ℕ) (v : Unsigned) (q : ℤ) (mode : UnsignedRoundingMode) (increment : RoundingIncrement)
-    → RoundingNeedsMemory held v q mode increment → HasCapacity held v increment → ⊥
-no_memory held v q mode increment r more = grind arith
+no_memory : (held : ℕ) (v : Unsigned) (r : Rounding UnsignedRoundingMode) → RoundingNeedsMemory held v r
+    → HasCapacity held v r.increment → ⊥
+no_memory held v r needs more = grind arith
 
-module _ (held : ℕ) (v : Unsigned) (q : ℤ) (mode : UnsignedRoundingMode) (increment : RoundingIncrement)
-    (least : negsuc 32767 ≤ℤ q) (greatest : q ≤ℤ pos 32767) where
+module _ (held : ℕ) (v : Unsigned) (r : Rounding UnsignedRoundingMode) (least : negsuc 32767 ≤ℤ r.position)
+    (greatest : r.position ≤ℤ pos 32767) where
   -- under `IsBelowLimit` a rounding has a result
-  pub rounding_is_some : IsBelowLimit v q increment → IsRounded v q mode increment None → ⊥
-  rounding_is_some room r =
+  pub rounding_is_some : IsBelowLimit v r.position r.increment → IsRounded v r None → ⊥
+  rounding_is_some room none =
       grind (arith, ints, clamps, nat_tests, common_steps, none-some, rounded_to-small, below_limit)
 
   -- and it does not fail with `Limit`
   pub not_limit_error : {A : Type 0} (new : Unsigned) (answer : Result A RoundError)
-      → RoundsInPlace held v q mode increment new answer → IsBelowLimit v q increment
+      → RoundsInPlace held v r new answer → IsBelowLimit v r.position r.increment
       → IsErrOf answer Limit → ⊥
-  not_limit_error new (Ok x) r room e = cc
-  not_limit_error new (Err Limit) r room e = rounding_is_some room r.0
-  not_limit_error new (Err Memory) r room e = cc
+  not_limit_error new (Ok x) rounds room e = cc
+  not_limit_error new (Err Limit) rounds room e = rounding_is_some room rounds.0
+  not_limit_error new (Err Memory) rounds room e = cc
 
   -- nor with `Memory`, if the store has the capacity for one more digit
   pub rounding_is_ok : {A : Type 0} (new : Unsigned) (answer : Result A RoundError)
-      → RoundsInPlace held v q mode increment new answer → IsBelowLimit v q increment
-      → HasCapacity held v increment → IsOk answer
-  rounding_is_ok new (Ok x) r room more = refl
-  rounding_is_ok new (Err Limit) r room more = absurd (rounding_is_some room r.0)
-  rounding_is_ok new (Err Memory) r room more = absurd (no_memory held v q mode increment r.0 more)
+      → RoundsInPlace held v r new answer → IsBelowLimit v r.position r.increment
+      → HasCapacity held v r.increment → IsOk answer
+  rounding_is_ok new (Ok x) rounds room more = refl
+  rounding_is_ok new (Err Limit) rounds room more = absurd (rounding_is_some room rounds.0)
+  rounding_is_ok new (Err Memory) rounds room more = absurd (no_memory held v r rounds.0 more)

@@ -1,12 +1,12 @@
 -- The values of the fields after a rounding.
-use Rattle.decimal_unsigned.proofs.Common.{common_steps, ◌≡◌, ℕ, ◌<◌, ◌≤◌, List, length, sym, ◌∙◌, ap, arith, Option, Some, None, Result, Ok, Err, ℤ, pos, negsuc, ◌-ℤ◌, ◌≤ℤ◌, int_max, int_min, AllBelowBase, ints, clamps, nat_tests, first, size, number_limit, number_of, unit_at, rounded_number, RoundingIncrement, MultiplesOf1, Trunc, offset_is, Unsigned, IsStored, rounded, IsRounded, RoundError, UnsignedRoundingMode, unit_pos, first_zero, with_number}
+use Rattle.decimal_unsigned.proofs.Common.{common_steps, ◌≡◌, ℕ, ◌<◌, ◌≤◌, List, length, sym, ◌∙◌, ap, arith, Option, Some, None, Result, Ok, Err, ℤ, pos, negsuc, ◌-ℤ◌, ◌≤ℤ◌, int_max, int_min, AllBelowBase, ints, clamps, nat_tests, first, size, number_limit, number_of, unit_at, rounded_number, RoundingIncrement, Trunc, offset_is, Unsigned, IsStored, rounded, IsRounded, RoundError, UnsignedRoundingMode, unit_pos, first_zero, with_number}
 use Rattle.std.specs.Prelude.{IsOk}
 use Rattle.decimal_digits.specs.RoundedDigits.{Represents, NoDigitsBelow}
 use Rattle.decimal_digits.specs.declared.rounding.RoundError.TheVariants.{Limit, Memory}
 use Rattle.std.specs.Result.{is_ok}
 use Rattle.decimal_digits.proofs.RoundingLaws.{trunc_le}
 use Rattle.decimal_digits.proofs.NumberAt.{number_of-none}
-use Rattle.decimal_unsigned.specs.Rounded.{rounded_to, UpdatesInPlace, RoundsInPlace}
+use Rattle.decimal_unsigned.specs.Rounded.{rounding, rounding_by_1, rounded_to, UpdatesInPlace, RoundsInPlace}
 use Rattle.decimal_unsigned.proofs.Values.{size-number_of, stored_as}
 
 -- a rounding to a multiple below the limit results in the value of that multiple
@@ -19,7 +19,8 @@ rounded_to-large v p n h = grind (arith, nat_tests)
 
 -- a number below the limit is rounded toward zero to a value
 pub trunc_makes : (v : Unsigned) (p : ℤ) (increment : RoundingIncrement) → v.number < number_limit
-    → rounded v p Trunc increment ≡ Some (with_number v p (rounded_number Trunc (unit_at increment p) v.number))
+    → rounded v (rounding p Trunc increment)
+    ≡ Some (with_number v p (rounded_number Trunc (unit_at increment p) v.number))
 trunc_makes v p increment h =
     let u = unit_pos increment p in grind (arith, nat_tests, trunc_le)
 
@@ -32,8 +33,8 @@ ok_unless_none makes old new r a never = grind arith
 -- a rounding by 1 fails only for the limit
 pub updates_by_1 : {A B E : Type 0} (held : ℕ) (v : Unsigned) (p : ℤ) (mode : UnsignedRoundingMode) (new : Unsigned)
     (r : Result A RoundError) (s : Result B E) → is_ok s ≡ is_ok r
-    → RoundsInPlace held v p mode MultiplesOf1 new r
-    → UpdatesInPlace (IsRounded v p mode MultiplesOf1) v new s
+    → RoundsInPlace held v (rounding_by_1 p mode) new r
+    → UpdatesInPlace (IsRounded v (rounding_by_1 p mode)) v new s
 updates_by_1 held v p mode new (Ok x) (Ok y) e a = a
 updates_by_1 held v p mode new (Ok x) (Err y) e a = absurd (cc)
 updates_by_1 held v p mode new (Err x) (Ok y) e a = absurd (cc)

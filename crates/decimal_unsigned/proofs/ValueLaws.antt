@@ -4,6 +4,7 @@ use Rattle.decimal_digits.specs.Rounding.{rounded_number}
 use Rattle.decimal_digits.proofs.Ends.{last_zero}
 use Rattle.decimal_unsigned.specs.ValueLaws.{trimmed, TrimmedIsNormalForm, IsShortest}
 use Rattle.decimal_unsigned.specs.Edits.{trimmed_start, trimmed_end}
+use Rattle.decimal_unsigned.specs.Rounded.{rounding}
 use Rattle.decimal_unsigned.specs.Unsigned.{IsLeastHi, IsGreatestLo}
 use Rattle.decimal_unsigned.proofs.FirstLast.{last_of, first_le}
 use Rattle.decimal_unsigned.proofs.ConcatenationLaws.{extent_of, parts_join, parts_number, parts_value}
@@ -73,7 +74,7 @@ module _ (v : Unsigned) (p : ℤ) (valid : IsValue v) where
       omega (arith, valid.below, m)
 
   -- a rounding toward zero always succeeds
-  pub trunc_succeeds : (increment : RoundingIncrement) → rounded v p Trunc increment ≡ None → ⊥
+  pub trunc_succeeds : (increment : RoundingIncrement) → rounded v (rounding p Trunc increment) ≡ None → ⊥
   trunc_succeeds increment e = none-some _ (sym e ∙ trunc_makes v p increment below_limit)
 
   -- it leaves the number without its part below the position

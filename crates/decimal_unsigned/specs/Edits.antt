@@ -1,5 +1,5 @@
 -- The results of the calls that change a value.
-use Rattle.std.specs.Prelude.{ℕ, suc, ◌*◌, ◌/◌, ◌%◌, ◌^◌, Bool, ◌||◌, if◌then◌else◌, Option, Some, None, ℤ, pos, negsuc, ◌+ℤ◌, ◌-ℤ◌, ◌≤ℤ◌, int_lt}
+use Rattle.std.specs.Prelude.{ℕ, suc, ◌*◌, ◌/◌, ◌%◌, ◌^◌, Bool, ◌||◌, if◌then◌else◌, Option, Some, None, ℤ, pos, negsuc, ◌+ℤ◌, ◌-ℤ◌, int_lt}
 use Rattle.std.specs.Int.{int_max, int_min}
 use Rattle.decimal_digits.specs.Number.{weight, first, last}
 use Rattle.decimal_unsigned.specs.Unsigned.{Unsigned}
@@ -7,10 +7,6 @@ use Rattle.decimal_unsigned.specs.Unsigned.{Unsigned}
 -- the range, moved by d, leaves the magnitudes -32768 to 32767
 abbrev pub leaves_limits : Unsigned → ℤ → Bool
 leaves_limits v d = int_lt (pos 32767) (v.hi +ℤ d) || int_lt (v.lo +ℤ d) (negsuc 32767)
-
--- the range, moved by d, stays in the magnitudes -32768 to 32767
-abbrev pub StaysInLimits : Unsigned → ℤ → Type 0
-StaysInLimits v d = ((v.hi +ℤ d) ≤ℤ pos 32767) × (negsuc 32767 ≤ℤ (v.lo +ℤ d))
 
 -- the number times 10 ^ d; for d below 0 the division is exact where the shift stays in the limits: every digit of the
 -- number is at `lo` or above, and a power of ten that moves `lo` below -32768 is rejected before

@@ -6,9 +6,27 @@ use Rattle.decimal_digits.specs.Rounding.{unit_at, Named, rounded_number, DigitR
 use Rattle.decimal_digits.specs.declared.rounding.RoundError.{RoundError}
 use Rattle.decimal_digits.specs.declared.rounding.RoundError.TheVariants.{Limit, Memory}
 use Rattle.decimal_digits.specs.declared.rounding.RoundingIncrement.{RoundingIncrement}
-use Rattle.decimal_digits.specs.declared.rounding.RoundingIncrement.TheVariants.{MultiplesOf25}
+use Rattle.decimal_digits.specs.declared.rounding.RoundingIncrement.TheVariants.{MultiplesOf1, MultiplesOf25}
 use Rattle.decimal_digits.specs.declared.rounding.UnsignedRoundingMode.{UnsignedRoundingMode}
 use Rattle.decimal_unsigned.specs.Unsigned.{Unsigned, IsValue}
+
+-- the position, the mode and the increment of a rounding
+pub record Rounding (Mode : Type 0) : Type 0 where
+  pub position : ℤ
+  pub mode : Mode
+  pub increment : RoundingIncrement
+
+-- the rounding by these three
+abbrev pub rounding : {Mode : Type 0} → ℤ → Mode → RoundingIncrement → Rounding Mode
+rounding position mode increment = record { position = position; mode = mode; increment = increment }
+
+-- the rounding to a multiple of 10 to the power of the position
+abbrev pub rounding_by_1 : {Mode : Type 0} → ℤ → Mode → Rounding Mode
+rounding_by_1 position mode = rounding position mode MultiplesOf1
+
+-- the unit of a rounding: its results are multiples of it
+abbrev pub unit_of : {Mode : Type 0} → Rounding Mode → ℕ
+unit_of r = unit_at r.increment r.position
 
 -- the number is 10 ^ 32768 or more
 abbrev pub reaches_limit : ℕ → Bool
@@ -28,35 +46,30 @@ abbrev pub rounded_to : Unsigned → ℤ → ℕ → Option Unsigned
 rounded_to v position number = if reaches_limit number then None else Some (with_number v position number)
 
 -- the rounded value, by the remainder of the number, or none if that reaches the limit
-abbrev pub rounded : Unsigned → ℤ → UnsignedRoundingMode → RoundingIncrement → Option Unsigned
-rounded v position mode increment = rounded_to v position (rounded_number mode (unit_at increment position) v.number)
+abbrev pub rounded : Unsigned → Rounding UnsignedRoundingMode → Option Unsigned
+rounded v r = rounded_to v r.position (rounded_number r.mode (unit_of r) v.number)
 
 -- `new` is the value rounded to the multiple that the mode chooses among all multiples
-abbrev pub NamesRounded : Unsigned → ℤ → UnsignedRoundingMode → RoundingIncrement → Option Unsigned → Type 0
-NamesRounded old position mode increment new =
-    (m : ℕ) × Named mode (unit_at increment position) old.number m × (rounded_to old position m ≡ new)
+abbrev pub NamesRounded : Unsigned → Rounding UnsignedRoundingMode → Option Unsigned → Type 0
+NamesRounded old r new = (m : ℕ) × Named r.mode (unit_of r) old.number m × (rounded_to old r.position m ≡ new)
 
 -- `new` is the result of rounding a valid value: both by the remainder of its number, and by the multiple that the mode
 -- chooses
-pub record IsRounded
-    (old : Unsigned) (position : ℤ) (mode : UnsignedRoundingMode) (increment : RoundingIncrement)
-    (new : Option Unsigned) : Type 0 where
+pub record IsRounded (old : Unsigned) (r : Rounding UnsignedRoundingMode) (new : Option Unsigned) : Type 0 where
   pub valid : IsValue old
-  pub value : rounded old position mode increment ≡ new
-  pub named : NamesRounded old position mode increment new
+  pub value : rounded old r ≡ new
+  pub named : NamesRounded old r new
 
 -- a rounding needs memory only by 25, and only if the number has at least the `held` digits that fit without an
 -- allocation, gets one digit more, and stays below the limit
-abbrev pub RoundingNeedsMemory : ℕ → Unsigned → ℤ → UnsignedRoundingMode → RoundingIncrement → Type 0
-RoundingNeedsMemory held old position mode increment =
-    DigitRoundingNeedsMemory increment (size old.number) (rounded_number mode (unit_at increment position) old.number)
-    held
+abbrev pub RoundingNeedsMemory : ℕ → Unsigned → Rounding UnsignedRoundingMode → Type 0
+RoundingNeedsMemory held old r =
+    DigitRoundingNeedsMemory r.increment (size old.number) (rounded_number r.mode (unit_of r) old.number) held
 
 -- the error of a rounding: the result reaches the limit, or memory is needed for one more digit
-abbrev pub RoundingFails :
-    ℕ → RoundError → Unsigned → ℤ → UnsignedRoundingMode → RoundingIncrement → Type 0
-RoundingFails held Limit old position mode increment = IsRounded old position mode increment None
-RoundingFails held Memory old position mode increment = RoundingNeedsMemory held old position mode increment
+abbrev pub RoundingFails : ℕ → RoundError → Unsigned → Rounding UnsignedRoundingMode → Type 0
+RoundingFails held Limit old r = IsRounded old r None
+RoundingFails held Memory old r = RoundingNeedsMemory held old r
 
 -- no rounding reaches the limit: the value shows no digit at the highest magnitude, and by 25 the position is below
 -- that magnitude too
@@ -85,17 +98,13 @@ abbrev pub UpdatesByValue : {V : Type 0} → (Option V → Type 0) → V → Res
 UpdatesByValue makes old answer = MatchResult answer (λ v. makes (Some v)) (λ v. makes None × (v ≡ old))
 
 -- the result of a rounding in place: the rounded value; or an error, and the value is unchanged
-abbrev pub RoundsInPlace : {A : Type 0} → ℕ → Unsigned → ℤ → UnsignedRoundingMode → RoundingIncrement → Unsigned
+abbrev pub RoundsInPlace : {A : Type 0} → ℕ → Unsigned → Rounding UnsignedRoundingMode → Unsigned
     → Result A RoundError
     → Type 0
-RoundsInPlace held old position mode increment =
-    ChangesInPlace (λ v. IsRounded old position mode increment (Some v))
-    (λ e. RoundingFails held e old position mode increment) old
+RoundsInPlace held old r = ChangesInPlace (λ v. IsRounded old r (Some v)) (λ e. RoundingFails held e old r) old
 
 -- the result of a rounding by value: the rounded value; or the unchanged value and an error
-abbrev pub RoundsByValue : ℕ → Unsigned → ℤ → UnsignedRoundingMode → RoundingIncrement
-    → Result Unsigned (Unsigned × RoundError)
+abbrev pub RoundsByValue : ℕ → Unsigned → Rounding UnsignedRoundingMode → Result Unsigned (Unsigned × RoundError)
     → Type 0
-RoundsByValue held old position mode increment answer =
-    MatchResult answer (λ v. IsRounded old position mode increment (Some v))
-    (λ e. RoundingFails held e.1 old position mode increment × (e.0 ≡ old))
+RoundsByValue held old r answer =
+    MatchResult answer (λ v. IsRounded old r (Some v)) (λ e. RoundingFails held e.1 old r × (e.0 ≡ old))

@@ -2,13 +2,11 @@
 use Rattle.std.specs.Prelude.{◌≡◌, ◌≤◌, ◌↔◌, ℕ, false, length, Option, option_map, option_and_then, ℤ, pos, negsuc, ◌+ℤ◌, ◌≤ℤ◌}
 use Rattle.std.specs.Option.{unwrap_or}
 use Rattle.std.specs.Int.{int_max}
-use Rattle.decimal_digits.specs.declared.rounding.RoundingIncrement.{RoundingIncrement}
 use Rattle.decimal_digits.specs.declared.rounding.UnsignedRoundingMode.{UnsignedRoundingMode}
-use Rattle.decimal_digits.specs.declared.rounding.RoundingIncrement.TheVariants.{MultiplesOf1}
 use Rattle.decimal_digits.specs.declared.rounding.UnsignedRoundingMode.TheVariants.{Expand, Trunc}
 use Rattle.decimal_unsigned.specs.Unsigned.{Unsigned, IsValue}
 use Rattle.decimal_unsigned.specs.Edits.{trimmed_start, trimmed_end}
-use Rattle.decimal_unsigned.specs.Rounded.{rounded}
+use Rattle.decimal_unsigned.specs.Rounded.{Rounding, rounding_by_1, rounded}
 use Rattle.decimal_unsigned.specs.Concatenation.{overlaps, concatenated_end}
 use Rattle.decimal_unsigned.specs.Text.{text}
 
@@ -29,12 +27,12 @@ IsShortest v = (w : Unsigned) → IsValue w → w.number ≡ v.number → length
 -- ---- The parts of a value at a position.
 
 -- the value after a rounding: the rounded value, or the old one if the rounding fails
-abbrev pub after_rounding : Unsigned → ℤ → UnsignedRoundingMode → RoundingIncrement → Unsigned
-after_rounding v p mode increment = unwrap_or (rounded v p mode increment) v
+abbrev pub after_rounding : Unsigned → Rounding UnsignedRoundingMode → Unsigned
+after_rounding v r = unwrap_or (rounded v r) v
 
 -- the value rounded toward zero at a position
 abbrev pub trunced : Unsigned → ℤ → Unsigned
-trunced v p = after_rounding v p Trunc MultiplesOf1
+trunced v p = after_rounding v (rounding_by_1 p Trunc)
 
 -- the parts above and below a position do not overlap, and joined they have the number; if the position is in the range
 -- or at one of its ends, they are the value itself
@@ -47,7 +45,7 @@ pub record SplitsAt (v : Unsigned) (p : ℤ) (upper lower : Unsigned) : Type 0 w
 
 -- the value rounded away from zero at a position, or none if that reaches the limit
 abbrev pub expanded : Unsigned → ℤ → Option Unsigned
-expanded v p = rounded v p Expand MultiplesOf1
+expanded v p = rounded v (rounding_by_1 p Expand)
 
 -- the number of the value, if there is one
 abbrev pub number_if_any : Option Unsigned → Option ℕ
@@ -67,6 +65,5 @@ ExpansionsCompose v p =
     → number_if_any (option_and_then (λ w. expanded w q) (expanded v p)) ≡ number_if_any (expanded v (int_max p q))
 
 -- of two numbers, the greater one is rounded to no less than the other; after an error the number is unchanged
-abbrev pub RoundingIsMonotone : Unsigned → Unsigned → ℤ → UnsignedRoundingMode → RoundingIncrement → Type 0
-RoundingIsMonotone v w p mode increment =
-    v.number ≤ w.number → (after_rounding v p mode increment).number ≤ (after_rounding w p mode increment).number
+abbrev pub RoundingIsMonotone : Unsigned → Unsigned → Rounding UnsignedRoundingMode → Type 0
+RoundingIsMonotone v w r = v.number ≤ w.number → (after_rounding v r).number ≤ (after_rounding w r).number

@@ -1,9 +1,9 @@
 //! Laws of parsing, trimming, concatenation and rounding. The functions do nothing; their contracts are the laws, for
 //! every value.
 ghost use Rattle.std.specs.Prelude.{ℕ, List, ℤ, negsuc, ◌≤ℤ◌};
-ghost use Rattle.decimal_digits.specs.declared.rounding.RoundingIncrement.{RoundingIncrement};
 ghost use Rattle.decimal_digits.specs.declared.rounding.UnsignedRoundingMode.{UnsignedRoundingMode};
 ghost use Rattle.decimal_unsigned.specs.ConcatenationLaws.{ConcatenationIsAssociative};
+ghost use Rattle.decimal_unsigned.specs.Rounded.{Rounding};
 ghost use Rattle.decimal_unsigned.specs.ValueLaws.{TrimmedIsNormalForm, trunced, TruncationsCompose, ExpansionsCompose, RoundingIsMonotone};
 ghost use Rattle.decimal_unsigned.specs.Reading.{FollowsGrammar};
 ghost use Rattle.decimal_unsigned.specs.Unsigned.{Unsigned, IsValue};
@@ -30,8 +30,7 @@ pub fn concatenation_is_associative()
 /// number is unchanged.
 #[tactic(auto, using(crate::proofs::RoundingLaws::rounding_is_monotone))]
 pub fn rounding_is_monotone()
-    ensures { (v w : Unsigned) → (position : ℤ) → (mode : UnsignedRoundingMode) → (increment : RoundingIncrement)
-        → RoundingIsMonotone v w position mode increment }
+    ensures { (v w : Unsigned) → (rounding : Rounding UnsignedRoundingMode) → RoundingIsMonotone v w rounding }
 {}
 
 /// Expanding at two positions gives the number of expanding at the higher one, and fails exactly if that fails.

@@ -284,12 +284,14 @@ pub absolute_number : (v : Decimal) → unsigned_abs (signed_number v) ≡ v.abs
 absolute_number v = grind (arith, ints)
 
 -- no number is more than half a unit away from the nearest multiple
-pub nearest_within : (unit n multiple : ℕ) → 0 < unit → IsNearest unit n multiple → 2 * abs_diff n multiple ≤ unit
+pub nearest_within : (unit n multiple : ℕ) → 0 < unit → IsNearest unit (pos n) (pos multiple)
+    → 2 * abs_diff n multiple ≤ unit
 nearest_within unit n multiple some nearest =
     omega (
       arith,
-      nearest (n / unit),
-      nearest (n / unit + 1),
+      ints,
+      nearest (pos (n / unit)),
+      nearest (pos (n / unit + 1)),
       div-add-mod' n unit,
       mod-lt n some,
     )

@@ -15,7 +15,7 @@ use Rattle.decimal_digits.proofs.RoundingLaws.{trunc_le}
 use Rattle.decimal_digits.proofs.Remainders.{unit_pos}
 use Rattle.decimal_unsigned.specs.Unsigned.{Unsigned as Absolute, IsValue}
 use Rattle.decimal_unsigned.specs.Rounded as unsigned
-use Rattle.decimal_unsigned.specs.Rounded.{reaches_limit, with_number}
+use Rattle.decimal_unsigned.specs.Rounded.{rounding_by_1, reaches_limit, with_number}
 use Rattle.decimal_unsigned.specs.ValueLaws as unsigned_laws
 use Rattle.decimal_unsigned.specs.ValueLaws.{number_if_any}
 use Rattle.decimal_unsigned.proofs.ValueLaws.{below_limit}
@@ -72,7 +72,7 @@ module _ (mode : UnsignedRoundingMode) where
       if reaches_limit m then None else Some m
 
   by_number : (a : Absolute) (q : ℤ)
-      → number_if_any (unsigned.rounded a q mode MultiplesOf1) ≡ number_after q a.number
+      → number_if_any (unsigned.rounded a (rounding_by_1 q mode)) ≡ number_after q a.number
   unfolding number_after
   by_number a q = grind arith
 
@@ -88,7 +88,7 @@ module _ (mode : UnsignedRoundingMode) where
   unfolding numbers_after
   come_to w v [] at made s e = grind arith
   come_to w v (q ∷ qs) at made s e =
-      elim (unsigned.rounded w.absolute q mode MultiplesOf1) as
+      elim (unsigned.rounded w.absolute (rounding_by_1 q mode)) as
       (λ o. option_and_then (numbers_after qs) (number_if_any o) ≡ number_if_any made
       → ResultHasNumber
       (and_then (or_limit_exceeded at (with_absolute w o))
@@ -131,7 +131,7 @@ module _ (mode : UnsignedRoundingMode) where
 
   rounds_once : ((v : Decimal) → IsValue v.absolute → Absorbs v.absolute.number) → RoundsOnce mode
   rounds_once absorbs v p others valid all at =
-      come_to v v (p ∷ others) at (unsigned.rounded v.absolute (fold int_max p others) mode MultiplesOf1) refl
+      come_to v v (p ∷ others) at (unsigned.rounded v.absolute (rounding_by_1 (fold int_max p others) mode)) refl
       (once v.absolute.number (absorbs v valid) p others all ∙ sym (by_number v.absolute (fold int_max p others)))
 
 -- a sequence of roundings toward zero is one rounding at the greatest position

@@ -2,6 +2,7 @@
 use Rattle.std.specs.Prelude.{◌≡◌, ℕ, ◌<◌, List, take, slice_get, Some, Ok, Err, IsOk, IsOkAnd}
 use Rattle.decimal_digits.specs.Number.{size}
 use Rattle.decimal_unsigned.specs.Concatenation.{ConcatenationNeedsMemory}
+use Rattle.decimal_unsigned.specs.Rounded.{rounding}
 use Rattle.decimal_unsigned.specs.Reading.{syntax, limit, read}
 use Rattle.decimal_unsigned.specs.declared.error.ParseError.TheVariants as parse
 use Rattle.fixed_decimal.specs.Decimal.{Decimal}
@@ -29,7 +30,7 @@ HasLongOperand held _ = ⊥
 
 -- the result of a call on v may need an allocation
 abbrev pub CallNeedsMemory : ℕ → Decimal → Call → Type 0
-CallNeedsMemory held v (Round position mode increment) = RoundingNeedsMemory held v position mode increment
+CallNeedsMemory held v (Round position mode increment) = RoundingNeedsMemory held v (rounding position mode increment)
 CallNeedsMemory held v (Concatenate text) = IsOkAnd (read text.now) (ConcatenationNeedsMemory held v.absolute)
 CallNeedsMemory held v _ = ⊥
 

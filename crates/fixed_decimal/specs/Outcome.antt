@@ -3,6 +3,7 @@ use Rattle.std.specs.Prelude.{ℕ, ◌+◌, if◌then◌else◌, List, [], ◌�
 use Rattle.decimal_unsigned.specs.Unsigned.{Unsigned}
 use Rattle.decimal_unsigned.specs.Edits.{multiplied_pow10, trimmed_start, trimmed_end, trimmed_end_if_integer}
 use Rattle.decimal_unsigned.specs.Edits.{padded_start, padded_end, with_max_position}
+use Rattle.decimal_unsigned.specs.Rounded.{rounding}
 use Rattle.decimal_unsigned.specs.Concatenation.{overlaps, concatenated_end}
 use Rattle.decimal_unsigned.specs.Reading.{ReadError, read}
 use Rattle.fixed_decimal.specs.Decimal.{Decimal, with_sign_display, with_absolute}
@@ -47,7 +48,7 @@ step at v TrimEndIfInteger = changed v (trimmed_end_if_integer v.absolute)
 step at v (PadStart position) = changed v (padded_start v.absolute position)
 step at v (PadEnd position) = changed v (padded_end v.absolute position)
 step at v (SetMaxPosition position) = changed v (with_max_position v.absolute position)
-step at v (Round position mode increment) = or_limit_exceeded at (rounded v position mode increment)
+step at v (Round position mode increment) = or_limit_exceeded at (rounded v (rounding position mode increment))
 step at v (SetSign sign) = Ok (record v { sign = sign })
 step at v (ApplySignDisplay display) = Ok (with_sign_display v display)
 step at v (Concatenate text) = concatenated_with at v (read text.now)

@@ -6,6 +6,7 @@ use Rattle.decimal_digits.specs.declared.rounding.RoundingIncrement.TheVariants.
 use Rattle.fixed_decimal.specs.declared.rounding.SignedRoundingMode.TheVariants.{Unsigned}
 use Rattle.decimal_digits.specs.declared.rounding.UnsignedRoundingMode.{UnsignedRoundingMode}
 use Rattle.decimal_unsigned.specs.Unsigned.{IsValue}
+use Rattle.decimal_unsigned.specs.Rounded.{rounding_by_1}
 use Rattle.decimal_unsigned.specs.declared.error.ParseError.TheVariants as parse
 use Rattle.fixed_decimal.specs.Decimal.{Decimal}
 use Rattle.fixed_decimal.specs.SignedRounding.{rounded, IsPosition, HasNumberOf}
@@ -48,9 +49,9 @@ abbrev pub RoundsOnce : UnsignedRoundingMode → Type 0
 RoundsOnce mode =
     (v : Decimal) (position : ℤ) (others : List ℤ) → IsValue v.absolute → All IsPosition (position ∷ others)
     → (at : ℕ) → ResultHasNumber (after_calls at v (map (rounding_at mode) (position ∷ others)))
-    (rounded v (fold int_max position others) (Unsigned mode) MultiplesOf1)
+    (rounded v (rounding_by_1 (fold int_max position others) (Unsigned mode)))
 
 -- rounding by the mode never exceeds the limits
 abbrev pub NeverExceedsLimit : UnsignedRoundingMode → Type 0
 NeverExceedsLimit mode =
-    (v : Decimal) (position : ℤ) → IsValue v.absolute → IsSome (rounded v position (Unsigned mode) MultiplesOf1)
+    (v : Decimal) (position : ℤ) → IsValue v.absolute → IsSome (rounded v (rounding_by_1 position (Unsigned mode)))

@@ -2,9 +2,9 @@
 ghost use Rattle.std.specs.Prelude.{◌≡◌, ℤ};
 ghost use Rattle.std.specs.Io.KnownBytes.{Appends};
 ghost use Rattle.std.specs.Ordering.{nat_cmp};
-ghost use Rattle.decimal_digits.specs.declared.rounding.RoundingIncrement.{RoundingIncrement};
 ghost use Rattle.decimal_digits.specs.declared.rounding.UnsignedRoundingMode.TheVariants.{Expand, Trunc};
 ghost use Rattle.decimal_unsigned.specs.Unsigned.{IsValue};
+ghost use Rattle.decimal_unsigned.specs.Rounded.{Rounding};
 ghost use Rattle.fixed_decimal.specs.Decimal.{Decimal};
 ghost use Rattle.fixed_decimal.specs.Orders.{signed_rank};
 ghost use Rattle.fixed_decimal.specs.Outcome.{outcome};
@@ -25,8 +25,7 @@ use std::cmp::Ordering;
 /// same, range included.
 #[tactic(auto, using(crate::proofs::SignedRoundings::rounding_commutes_with_negation))]
 pub fn rounding_commutes_with_negation()
-    ensures { (v : Decimal) (position : ℤ) (mode : SignedRoundingMode) (increment : RoundingIncrement)
-        → RoundingCommutesWithNegation v position mode increment }
+    ensures { (v : Decimal) (rounding : Rounding SignedRoundingMode) → RoundingCommutesWithNegation v rounding }
 {}
 
 /// Rounding is monotone: if one number is at most another, so it is after both are rounded.
@@ -34,8 +33,7 @@ pub fn rounding_commutes_with_negation()
 /// A number whose rounding fails with `Limit` is unchanged.
 #[tactic(auto, using(crate::proofs::SignedRoundings::rounding_is_monotone))]
 pub fn rounding_is_monotone()
-    ensures { (v w : Decimal) (position : ℤ) (mode : SignedRoundingMode) (increment : RoundingIncrement)
-        → RoundingIsMonotone v w position mode increment }
+    ensures { (v w : Decimal) (rounding : Rounding SignedRoundingMode) → RoundingIsMonotone v w rounding }
 {}
 
 /// Two truncations give the number of one truncation at the greater position.

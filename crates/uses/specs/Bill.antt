@@ -1,8 +1,8 @@
 -- The parts of a bill.
-use Rattle.std.specs.Prelude.{◌≡◌, ℕ, zero, suc, ◌+◌, ◌*◌, ◌/◌, ◌%◌, ◌^◌, ◌<◌, ◌≤◌, ◌⊎◌, nat_lt, if◌then◌else◌, List, [], ◌∷◌, ◌++◌, sum_by, negsuc, pos}
+use Rattle.std.specs.Prelude.{◌≡◌, ℕ, zero, suc, ◌+◌, ◌*◌, ◌/◌, ◌%◌, ◌^◌, ◌<◌, ◌≤◌, ◌⊎◌, nat_lt, IsTrue, IsFalse, if◌then◌else◌, List, [], ◌∷◌, ◌++◌, sum_by, negsuc, pos}
 use Rattle.decimal_digits.specs.Number.{weight, size}
 use Rattle.decimal_unsigned.specs.Unsigned.{Unsigned, integer_value}
-use Rattle.decimal_unsigned.specs.Edits.{multiplied, StaysInLimits}
+use Rattle.decimal_unsigned.specs.Edits.{leaves_limits, multiplied}
 use Rattle.decimal_unsigned.specs.declared.decimal.TheConstants.{INLINE_DIGITS}
 use Rattle.uses.specs.declared.bill.BillError.{BillError}
 use Rattle.uses.specs.declared.bill.BillError.TheVariants.{NoPart, PartOfACent, TooGreat, Memory}
@@ -40,7 +40,9 @@ IsWholeCents amount = (total : ℕ) × (total < 2 ^ 64) × (amount.number ≡ to
 -- more than `INLINE_DIGITS` digits, or for the parts of whole cents
 abbrev pub SplitFails : BillError → Unsigned → ℕ → Type 0
 SplitFails NoPart amount count = count ≡ 0
-SplitFails PartOfACent amount count = (0 < count) × StaysInLimits amount (pos 2) × (¬ (amount.number % cent ≡ 0))
+SplitFails PartOfACent amount count =
+    (0 < count) × IsFalse (leaves_limits amount (pos 2)) × (¬ (amount.number % cent ≡ 0))
 SplitFails TooGreat amount count =
-    (0 < count) × ((¬ StaysInLimits amount (pos 2)) ⊎ ((amount.number % cent ≡ 0) × (2 ^ 64 * cent ≤ amount.number)))
+    (0 < count)
+    × (IsTrue (leaves_limits amount (pos 2)) ⊎ ((amount.number % cent ≡ 0) × (2 ^ 64 * cent ≤ amount.number)))
 SplitFails Memory amount count = (0 < count) × ((INLINE_DIGITS < size amount.number) ⊎ IsWholeCents amount)

@@ -2,8 +2,8 @@
 use Rattle.std.specs.Prelude.{◌≡◌, ◌*◌, ◌≤◌, if◌then◌else◌, Option, Some, ℤ, int_lt, ◌≤ℤ◌}
 use Rattle.std.specs.Int.{abs_diff}
 use Rattle.decimal_digits.specs.Number.{weight}
-use Rattle.decimal_digits.specs.declared.rounding.RoundingIncrement.TheVariants.{MultiplesOf1}
 use Rattle.decimal_digits.specs.declared.rounding.UnsignedRoundingMode.TheVariants.{HalfEven}
+use Rattle.decimal_unsigned.specs.Rounded.{rounding_by_1}
 use Rattle.fixed_decimal.specs.Decimal.{Decimal}
 use Rattle.fixed_decimal.specs.SignedRounding.{rounded}
 use Rattle.fixed_decimal.specs.declared.rounding.SignedRoundingMode.TheVariants.{Unsigned}
@@ -11,7 +11,7 @@ use Rattle.fixed_decimal.specs.declared.rounding.SignedRoundingMode.TheVariants.
 -- rounded half-even at a position if digits are shown below it, and unchanged otherwise
 abbrev pub shortened : Decimal → ℤ → Option Decimal
 shortened v position =
-    if int_lt v.absolute.lo position then rounded v position (Unsigned HalfEven) MultiplesOf1 else Some v
+    if int_lt v.absolute.lo position then rounded v (rounding_by_1 position (Unsigned HalfEven)) else Some v
 
 -- no digit is shown below the position, the number differs from the measured one by at most half a unit there, and the
 -- sign is the same

@@ -3,7 +3,7 @@ ghost use Rattle.std.specs.Prelude.{◌≡◌, ◌≢◌, ◌+◌, ◌≤◌, po
 ghost use Rattle.std.specs.Int.{int_max};
 ghost use Rattle.decimal_digits.specs.Number.{size};
 ghost use Rattle.decimal_unsigned.specs.Edits.{with_max_position};
-ghost use Rattle.decimal_unsigned.specs.Rounded.{IsRounded, rounded, UpdatesInPlace, UpdatesByValue, RoundsInPlace, RoundsByValue, IsBelowLimit, HasCapacity};
+ghost use Rattle.decimal_unsigned.specs.Rounded.{rounding, rounding_by_1, IsRounded, rounded, UpdatesInPlace, UpdatesByValue, RoundsInPlace, RoundsByValue, IsBelowLimit, HasCapacity};
 ghost use Rattle.decimal_unsigned.specs.ValueLaws.{SplitsAt};
 
 use super::UnsignedOver;
@@ -53,14 +53,14 @@ impl<D: DigitStore> UnsignedOver<D> {
         increment: RoundingIncrement,
         steps: &mut Steps,
     ) -> Result<(), RoundError>
-        ensures rounds { RoundsInPlace D.L self.old position mode increment self.new result }
+        ensures rounds { RoundsInPlace D.L self.old (rounding position mode increment) self.new result }
         ensures succeeds { increment ≢ RoundingIncrement.MultiplesOf25 → IsErrOf result RoundError.Memory → ⊥ }
         // If no digit is shown at 32767, each multiple is below the limit, but for those of 25 times 10^32767.
         ensures no_limit { IsBelowLimit self.old position increment → IsErrOf result RoundError.Limit → ⊥ }
         ensures fits { IsBelowLimit self.old position increment → HasCapacity D.L self.old increment → IsOk result }
 
         // The same rounding again changes neither the number nor the range.
-        ensures idempotent { OnOk result (rounded self.new position mode increment ≡ Some self.new) }
+        ensures idempotent { OnOk result (rounded self.new (rounding position mode increment) ≡ Some self.new) }
 
         ensures accesses { (IsErrOf result RoundError.Limit → ⊥)
             → steps.new.count + size self.new.number ≤ steps.old.count + size self.old.number + 7 }
@@ -86,7 +86,7 @@ impl<D: DigitStore> UnsignedOver<D> {
         mode: UnsignedRoundingMode,
         increment: RoundingIncrement,
     ) -> Result<(), RoundError>
-        ensures rounds { RoundsInPlace D.L self.old position mode increment self.new result }
+        ensures rounds { RoundsInPlace D.L self.old (rounding position mode increment) self.new result }
         ensures succeeds { increment ≢ RoundingIncrement.MultiplesOf25 → IsErrOf result RoundError.Memory → ⊥ }
         // If no digit is shown at 32767, each multiple is below the limit, but for those of 25 times 10^32767.
         ensures no_limit { IsBelowLimit self.old position increment → IsErrOf result RoundError.Limit → ⊥ }
@@ -106,9 +106,7 @@ impl<D: DigitStore> UnsignedOver<D> {
         position: i16,
         mode: UnsignedRoundingMode,
     ) -> Result<(), LimitError>
-        ensures rounds { UpdatesInPlace
-            (IsRounded self.old position mode RoundingIncrement.MultiplesOf1)
-            self.old self.new result }
+        ensures rounds { UpdatesInPlace (IsRounded self.old (rounding_by_1 position mode)) self.old self.new result }
         // If no digit is shown at 32767, each multiple is below the limit.
         ensures fits { self.old.hi <ℤ pos 32767 → IsOk result }
     {
@@ -122,8 +120,7 @@ impl<D: DigitStore> UnsignedOver<D> {
     ///
     /// As for [`Self::round_with_mode`].
     pub fn round(&mut self, position: i16) -> Result<(), LimitError>
-        ensures rounds { UpdatesInPlace
-            (IsRounded self.old position UnsignedRoundingMode.HalfEven RoundingIncrement.MultiplesOf1)
+        ensures rounds { UpdatesInPlace (IsRounded self.old (rounding_by_1 position UnsignedRoundingMode.HalfEven))
             self.old self.new result }
         // If no digit is shown at 32767, each multiple is below the limit.
         ensures fits { self.old.hi <ℤ pos 32767 → IsOk result }
@@ -139,8 +136,7 @@ impl<D: DigitStore> UnsignedOver<D> {
     ///
     /// As for [`Self::round_with_mode`].
     pub fn expand(&mut self, position: i16) -> Result<(), LimitError>
-        ensures rounds { UpdatesInPlace
-            (IsRounded self.old position UnsignedRoundingMode.Expand RoundingIncrement.MultiplesOf1)
+        ensures rounds { UpdatesInPlace (IsRounded self.old (rounding_by_1 position UnsignedRoundingMode.Expand))
             self.old self.new result }
         // If no digit is shown at 32767, each multiple is below the limit.
         ensures fits { self.old.hi <ℤ pos 32767 → IsOk result }
@@ -152,8 +148,7 @@ impl<D: DigitStore> UnsignedOver<D> {
     ///
     /// It never fails, since the multiple is at most the number. Law: [`crate::laws::truncations_compose`].
     pub fn trunc(&mut self, position: i16)
-        ensures rounds { IsRounded self.old position UnsignedRoundingMode.Trunc
-            RoundingIncrement.MultiplesOf1 (Some self.new) }
+        ensures rounds { IsRounded self.old (rounding_by_1 position UnsignedRoundingMode.Trunc) (Some self.new) }
         // This part, joined with the one that `set_max_position` leaves at the position, is the old number.
         ensures splits { SplitsAt self.old position self.new (with_max_position self.old position) }
     {
@@ -172,7 +167,7 @@ impl<D: DigitStore> UnsignedOver<D> {
         mode: UnsignedRoundingMode,
         increment: RoundingIncrement,
     ) -> Result<Self, (Self, RoundError)>
-        ensures rounds { RoundsByValue D.L self position mode increment result }
+        ensures rounds { RoundsByValue D.L self (rounding position mode increment) result }
         ensures succeeds { increment ≢ RoundingIncrement.MultiplesOf25
             → IfErr result (λ e. e.1 ≡ RoundError.Memory → ⊥) }
         ensures no_limit { IsBelowLimit self position increment → IfErr result (λ e. e.1 ≡ RoundError.Limit → ⊥) }
@@ -194,7 +189,7 @@ impl<D: DigitStore> UnsignedOver<D> {
         position: i16,
         mode: UnsignedRoundingMode,
     ) -> Result<Self, Self>
-        ensures rounds { UpdatesByValue (IsRounded self position mode RoundingIncrement.MultiplesOf1) self result }
+        ensures rounds { UpdatesByValue (IsRounded self (rounding_by_1 position mode)) self result }
         ensures fits { self.hi <ℤ pos 32767 → IsOk result }
     {
         match self.round_with_mode(position, mode) {
@@ -209,8 +204,7 @@ impl<D: DigitStore> UnsignedOver<D> {
     ///
     /// As for [`Self::rounded_with_mode`].
     pub fn rounded(self, position: i16) -> Result<Self, Self>
-        ensures rounds { UpdatesByValue
-            (IsRounded self position UnsignedRoundingMode.HalfEven RoundingIncrement.MultiplesOf1)
+        ensures rounds { UpdatesByValue (IsRounded self (rounding_by_1 position UnsignedRoundingMode.HalfEven))
             self result }
         ensures fits { self.hi <ℤ pos 32767 → IsOk result }
     {
@@ -223,8 +217,7 @@ impl<D: DigitStore> UnsignedOver<D> {
     ///
     /// As for [`Self::rounded_with_mode`].
     pub fn expanded(self, position: i16) -> Result<Self, Self>
-        ensures rounds { UpdatesByValue
-            (IsRounded self position UnsignedRoundingMode.Expand RoundingIncrement.MultiplesOf1)
+        ensures rounds { UpdatesByValue (IsRounded self (rounding_by_1 position UnsignedRoundingMode.Expand))
             self result }
         ensures fits { self.hi <ℤ pos 32767 → IsOk result }
     {
@@ -233,7 +226,7 @@ impl<D: DigitStore> UnsignedOver<D> {
 
     /// Rounds as `trunc`, by value: `1234.56` at -1 gives `1234.5`.
     pub fn trunced(mut self, position: i16) -> Self
-        ensures { IsRounded self position UnsignedRoundingMode.Trunc RoundingIncrement.MultiplesOf1 (Some result) }
+        ensures { IsRounded self (rounding_by_1 position UnsignedRoundingMode.Trunc) (Some result) }
     {
         self.trunc(position);
         self

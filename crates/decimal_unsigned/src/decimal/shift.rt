@@ -1,7 +1,7 @@
 //! Shifts: multiplication by powers of ten.
-ghost use Rattle.std.specs.Prelude.{◌≡◌, ◌<◌, ◌⊎◌, pos, negsuc, ◌+ℤ◌, ◌≤ℤ◌, ◌<ℤ◌, Some, None, IsOk, IfOk, IfErr, IfSome, IfNone, OnOk, OnErr, ◌↔◌};
+ghost use Rattle.std.specs.Prelude.{◌≡◌, ◌<◌, ◌⊎◌, pos, negsuc, ◌+ℤ◌, ◌≤ℤ◌, ◌<ℤ◌, Some, None, IsFalse, IsOk, IfOk, IfErr, IfSome, IfNone, OnOk, OnErr, ◌↔◌};
 ghost use Rattle.std.specs.Int.{int_max, int_min};
-ghost use Rattle.decimal_unsigned.specs.Edits.{multiplied, multiplied_pow10, StaysInLimits};
+ghost use Rattle.decimal_unsigned.specs.Edits.{leaves_limits, multiplied, multiplied_pow10};
 
 use super::UnsignedOver;
 use crate::error::LimitError;
@@ -21,7 +21,7 @@ impl<D: DigitStore> UnsignedOver<D> {
         ensures ok { OnOk result (multiplied_pow10 self.old delta ≡ Some self.new) }
         ensures limit { OnErr result (multiplied_pow10 self.old delta ≡ None) }
         ensures err { OnErr result (self.new ≡ self.old) }
-        ensures fits { IsOk result ↔ StaysInLimits self.old delta }
+        ensures fits { IsOk result ↔ IsFalse (leaves_limits self.old delta) }
         ensures moved { OnOk result (self.new ≡ multiplied self.old delta) }
     {
         let Some((hi, lo)) = moved_range(self.hi, self.lo, delta) else {
@@ -47,7 +47,7 @@ impl<D: DigitStore> UnsignedOver<D> {
         ensures ok { IfOk result (λ v. multiplied_pow10 self delta ≡ Some v) }
         ensures limit { OnErr result (multiplied_pow10 self delta ≡ None) }
         ensures err { IfErr result (λ v. v ≡ self) }
-        ensures fits { IsOk result ↔ StaysInLimits self delta }
+        ensures fits { IsOk result ↔ IsFalse (leaves_limits self delta) }
         ensures moved { IfOk result (λ v. v ≡ multiplied self delta) }
     {
         match self.multiply_pow10(delta) {

@@ -1,9 +1,9 @@
 use Rattle.std.proofs.Common.{◌≡◌, ℕ, ◌*◌, ◌/◌, ◌%◌, ◌^◌, ◌≤◌, Ok, Err, inr, subst, sym, ◌∙◌, ap, arith, rules}
-use Rattle.std.specs.Prelude.{pos, negsuc}
+use Rattle.std.specs.Prelude.{IsFalse, pos, negsuc}
 use Rattle.std.proofs.Math.Nat.{div-add-mod', mul-mod_left}
 use Rattle.std.proofs.lemmas.Int.{ints}
 use Rattle.decimal_digits.specs.Number.{weight}
-use Rattle.decimal_unsigned.specs.Edits.{StaysInLimits}
+use Rattle.decimal_unsigned.specs.Edits.{leaves_limits}
 use Rattle.decimal_unsigned.specs.ToInteger.{as_integer}
 use Rattle.decimal_unsigned.specs.Unsigned.{Unsigned}
 use Rattle.decimal_unsigned.specs.declared.error.IntegerError.TheVariants.{NotWhole, OutOfRange}
@@ -46,7 +46,8 @@ returns-in-Ok-try_to_u64-clause-ok c =
 pub returns-in-Err-NotWhole-clause-err : goal.returns-in-Err-NotWhole-clause-err
 returns-in-Err-NotWhole-clause-err c = λ count some. (
   some,
-  subst (λ v. StaysInLimits v (pos 2)) c.in-Ok.ensures.cases (c.in-Ok-multiply_pow10.ensures.fits.0 (search rules)),
+  subst (λ v. IsFalse (leaves_limits v (pos 2))) c.in-Ok.ensures.cases
+      (c.in-Ok-multiply_pow10.ensures.fits.0 (search rules)),
   part_of_a_cent c.args.amount.now.number c.multiply_pow10.new.self.number
       (ap (λ (v : Unsigned). v.number) c.in-Ok-multiply_pow10.ensures.moved
       ∙ ap (λ (v : Unsigned). v.number * 10 ^ 2) c.in-Ok.ensures.cases)

@@ -7,14 +7,14 @@ use Rattle.decimal_digits.specs.declared.rounding.RoundingIncrement.TheVariants.
 use Rattle.decimal_digits.specs.declared.rounding.UnsignedRoundingMode.TheVariants.{HalfEven}
 use Rattle.decimal_unsigned.specs.Unsigned.{Unsigned, integer_value}
 use Rattle.decimal_unsigned.specs.Edits.{multiplied}
-use Rattle.decimal_unsigned.specs.Rounded.{IsRounded}
+use Rattle.decimal_unsigned.specs.Rounded.{rounding, IsRounded}
 use Rattle.fixed_decimal.proofs.Calling.{integer_down, rounded_to-some}
 use Rattle.uses.specs.Cash.{IsCash}
 use Rattle.uses.proofs.cash.cash_amount.Goals as goal
 
 -- the hundredths of cents rounded to a multiple of 5 at -2 satisfy IsCash
 rounded_cash : (hundredths : ℕ) (old new : Unsigned) → old ≡ multiplied (integer_value hundredths) (negsuc 3)
-    → IsRounded old (negsuc 1) HalfEven MultiplesOf5 (Some new) → IsCash hundredths new
+    → IsRounded old (rounding (negsuc 1) HalfEven MultiplesOf5) (Some new) → IsCash hundredths new
 rounded_cash hundredths old new e r =
     let is = rounded_to-some old new (negsuc 1) r.named.0 r.named.2 in
     let number : old.number ≡ hundredths * weight (negsuc 3) =

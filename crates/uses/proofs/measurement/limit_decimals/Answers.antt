@@ -2,9 +2,8 @@ use Rattle.std.proofs.Common.{◌≡◌, ◌*◌, true, Ok, Err, sym, ◌∙◌,
 use Rattle.std.specs.Prelude.{Result, ℤ, pos, neg_ℤ, ◌≤ℤ◌, int_lt, unsigned_abs, OnOk}
 use Rattle.std.proofs.lemmas.Int.{ints, clamps, to_z-of_z}
 use Rattle.decimal_digits.specs.Number.{offset, weight}
-use Rattle.decimal_digits.specs.declared.rounding.RoundingIncrement.TheVariants.{MultiplesOf1}
 use Rattle.decimal_digits.specs.declared.rounding.UnsignedRoundingMode.TheVariants.{HalfEven}
-use Rattle.decimal_unsigned.specs.Rounded.{UpdatesInPlace}
+use Rattle.decimal_unsigned.specs.Rounded.{rounding_by_1, UpdatesInPlace}
 use Rattle.fixed_decimal.specs.Decimal.{Decimal, signed_number}
 use Rattle.fixed_decimal.specs.SignedRounding.{IsRounded}
 use Rattle.fixed_decimal.specs.declared.rounding.SignedRoundingMode.TheVariants.{Unsigned}
@@ -14,13 +13,13 @@ use Rattle.uses.proofs.measurement.limit_decimals.Goals as goal
 
 module _ {E : Type 0} (old new : Decimal) (position : ℤ) where
   rounds_so : (r : Result (Unit {0}) E) → int_lt old.absolute.lo position ≡ true
-      → UpdatesInPlace (IsRounded old position (Unsigned HalfEven) MultiplesOf1) old new r
+      → UpdatesInPlace (IsRounded old (rounding_by_1 position (Unsigned HalfEven))) old new r
       → UpdatesInPlace (λ made. shortened old position ≡ made) old new r
   rounds_so (Ok x) more a = rw more a.value
   rounds_so (Err e) more (a, same) = (rw more a.value, same)
 
   near_so : (r : Result (Unit {0}) E) → position ≤ℤ pos 0
-      → UpdatesInPlace (IsRounded old position (Unsigned HalfEven) MultiplesOf1) old new r
+      → UpdatesInPlace (IsRounded old (rounding_by_1 position (Unsigned HalfEven))) old new r
       → OnOk r (IsNear old position new)
   near_so (Ok x) low a =
       let is = signed_rounded_to-some old new position a.named.0 a.named.2 in

@@ -1,7 +1,7 @@
 use Rattle.decimal_unsigned.proofs.Common.{◌≡◌, w16, to_z, of_z, refl, sym, ◌∙◌, ap, arith, inl, inr, ints, clamps, to_z-of_z, Unsigned, multiplied}
-use Rattle.decimal_unsigned.specs.Edits.{multiplied_pow10}
+use Rattle.decimal_unsigned.specs.Edits.{leaves_limits, multiplied_pow10}
 use Rattle.decimal_unsigned.proofs.Values.{hi_kept, lo_kept, magnitude_kept, narrow_kept, wide_kept}
-use Rattle.decimal_unsigned.proofs.Shifts.{Moves, moved, multiplied_is, multiplied_pow10_is, multiplied_pow10_over}
+use Rattle.decimal_unsigned.proofs.Shifts.{Moves, moved, stays_in, multiplied_is, multiplied_pow10_is, multiplied_pow10_over}
 use Rattle.decimal_unsigned.proofs.decimal.UnsignedOver.multiply_pow10.Goals as goal
 use Rattle.decimal_unsigned.proofs.decimal.UnsignedOver.multiply_pow10.Goals.{then-len-eq0, else-len-eq0}
 
@@ -46,6 +46,16 @@ pub returns-clause-ok : goal.returns-clause-ok
 returns-clause-ok g c =
     ap (λ (v : Unsigned). multiplied_pow10 v c.args.delta) (sym c.self.view_is)
     ∙ multiplied_pow10_is c.args.delta c.self.invariant (moves g c)
+
+pub returns-clause-fits : goal.returns-clause-fits
+returns-clause-fits g c =
+    let s = moves g c in
+    let range : Unsigned = record { number = 0; hi = c.self.inside.hi; lo = c.self.inside.lo } in (
+      λ ok.
+          ap (λ (v : Unsigned). leaves_limits v c.args.delta) (sym c.self.view_is)
+          ∙ stays_in range c.args.delta s.hi_fits s.lo_fits,
+      λ stays. refl,
+    )
 
 pub returns-clause-moved : goal.returns-clause-moved
 returns-clause-moved g c =

@@ -1,6 +1,7 @@
 use Rattle.decimal_unsigned.proofs.Common.{◌≡◌, ℕ, List, w16, to_z, of_z, sym, ◌∙◌, ap, arith, rules, Err, Some, pos, ◌-ℤ◌, int_max, ints, to_z-of_z, int_min, recursion_from_All, number_of, IsStored, Unsigned, rounded}
 use Rattle.std.proofs.lemmas.Result.{err_from_is_err_and}
 use Rattle.decimal_digits.specs.declared.rounding.RoundError.TheVariants.{Limit}
+use Rattle.decimal_unsigned.specs.Rounded.{rounding}
 use Rattle.decimal_unsigned.proofs.Values.{size-number_of, narrow_kept, magnitude_kept, hi_kept}
 use Rattle.decimal_unsigned.proofs.Roundings.{stored_left, rounded_left, number_of-stored, length-stored}
 use Rattle.decimal_unsigned.proofs.Shown.{value_of_view}
@@ -16,7 +17,7 @@ left : (g : _) (c : goal.After-self-3-1 g)
     let lo = to_z w16 (of_z w16 c.min-self-inside.result) in
     record {
       stored : IsStored ds m hi lo;
-      value : rounded c.args.self.now c.args.position c.args.mode c.args.increment
+      value : rounded c.args.self.now (rounding c.args.position c.args.mode c.args.increment)
           ≡ Some (record { number = number_of ds m; hi = hi; lo = lo });
     }
 left g c =
@@ -47,7 +48,7 @@ returns-in_err-first-clause-rounds g c =
     let shown : List ℕ → Unsigned = λ ds.
     record { number = number_of ds c.self.inside.magnitude; hi = c.self.inside.hi; lo = c.self.inside.lo } in
     rw (e.1, e.2) (
-      fails _ _ c.args.self.now c.args.position c.args.mode c.args.increment (value_of_view t c.self.view_is)
+      fails _ _ c.args.self.now (rounding c.args.position c.args.mode c.args.increment) (value_of_view t c.self.view_is)
           (rw (
             to_z-of_z w16 c.args.position c.ranges.position,
             number_of-stored t c.self.view_is borrows (magnitude_kept t),
@@ -59,13 +60,13 @@ returns-in_err-first-clause-rounds g c =
 
 pub returns-in_err-first-clause-no_limit : goal.returns-in_err-first-clause-no_limit
 returns-in_err-first-clause-no_limit g c =
-    not_limit_error g.D.DigitStore.L c.args.self.now c.args.position c.args.mode c.args.increment (omega (arith, ints))
-    (omega (arith, ints)) _ c.from_residual.result (returns-in_err-first-clause-rounds g c)
+    not_limit_error g.D.DigitStore.L c.args.self.now (rounding c.args.position c.args.mode c.args.increment)
+    (omega (arith, ints)) (omega (arith, ints)) _ c.from_residual.result (returns-in_err-first-clause-rounds g c)
 
 pub returns-in_err-first-clause-fits : goal.returns-in_err-first-clause-fits
 returns-in_err-first-clause-fits g c =
-    rounding_is_ok g.D.DigitStore.L c.args.self.now c.args.position c.args.mode c.args.increment (omega (arith, ints))
-    (omega (arith, ints)) _ c.from_residual.result (returns-in_err-first-clause-rounds g c)
+    rounding_is_ok g.D.DigitStore.L c.args.self.now (rounding c.args.position c.args.mode c.args.increment)
+    (omega (arith, ints)) (omega (arith, ints)) _ c.from_residual.result (returns-in_err-first-clause-rounds g c)
 
 pub returns-in_err-first-clause-limit_accesses : goal.returns-in_err-first-clause-limit_accesses
 returns-in_err-first-clause-limit_accesses g c h =
@@ -82,12 +83,12 @@ invariant_of-self-2 g c = (left g c).stored
 
 pub returns-clause-rounds : goal.returns-clause-rounds
 returns-clause-rounds g c =
-    is_rounded c.args.self.now c.args.position c.args.mode c.args.increment
+    is_rounded c.args.self.now (rounding c.args.position c.args.mode c.args.increment)
     (value_of_view c.self.invariant c.self.view_is) (left g c).value
 
 pub returns-clause-idempotent : goal.returns-clause-idempotent
 returns-clause-idempotent g c =
-    rounding_is_idempotent c.args.self.now _ c.args.position c.args.mode c.args.increment (left g c).value
+    rounding_is_idempotent c.args.self.now _ (rounding c.args.position c.args.mode c.args.increment) (left g c).value
 
 pub returns-clause-accesses : goal.returns-clause-accesses
 returns-clause-accesses g c =

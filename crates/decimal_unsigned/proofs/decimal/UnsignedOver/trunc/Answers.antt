@@ -1,4 +1,5 @@
 use Rattle.decimal_unsigned.proofs.Common.{ap, subst, unwrap_or, to_z-of_z, MultiplesOf1, Trunc, IsRounded, with_max_position, SplitsAt}
+use Rattle.decimal_unsigned.specs.Rounded.{rounding_by_1}
 use Rattle.decimal_unsigned.proofs.Roundings.{ok_unless_none}
 use Rattle.decimal_unsigned.proofs.ValueLaws.{splits, trunc_succeeds}
 use Rattle.decimal_unsigned.proofs.decimal.UnsignedOver.trunc.Goals as goal
@@ -6,7 +7,7 @@ use Rattle.decimal_unsigned.proofs.decimal.UnsignedOver.trunc.Goals as goal
 pub unwrap-requires : goal.unwrap-requires
 unwrap-requires g c =
     let p = c.ranges.position in
-    ok_unless_none (IsRounded c.args.self.now c.args.position Trunc MultiplesOf1) c.args.self.now
+    ok_unless_none (IsRounded c.args.self.now (rounding_by_1 c.args.position Trunc)) c.args.self.now
     c.round_with_mode.new.self c.round_with_mode.result (simp to_z-of_z at c.round_with_mode.ensures.rounds)
     (λ r. trunc_succeeds c.args.self.now c.args.position r.valid MultiplesOf1 r.value)
 
