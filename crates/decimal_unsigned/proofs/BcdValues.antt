@@ -1,5 +1,5 @@
 -- Short texts: up to sixteen digits as a number in base 16, and the value of their parts.
-use Rattle.decimal_unsigned.proofs.Common.{clamps, nat_tests, common_steps, ◌≡◌, ℕ, zero, suc, ◌+◌, ◌-◌, ◌*◌, ◌/◌, ◌%◌, ◌^◌, ◌<◌, ◌≤◌, inl, inr, true, List, [], ◌∷◌, ◌++◌, length, get_or, take, drop, map, refl, sym, ◌∙◌, ap, subst, arith, None, Ok, ℤ, pos, ◌-ℤ◌, mul-lt-mul_of_pos_right, pow-le-pow_right, cases_lt, ints, pow-add, length-append, length-drop, length-take-le, length-map, number_lt, digits_value_is, is_ascii_digit, digit_value, number_from_digits, AllBelowBase, AllDigits, digits_value, number_of, below_take, Literal, value_of, middle, IsNonzeroRange, pow-suc, mod-eq_of_lt, digits_value_after, below_drop, number_split, below_sixteen}
+use Rattle.decimal_unsigned.proofs.Common.{clamps, nat_tests, common_steps, ◌≡◌, ℕ, zero, suc, ◌+◌, ◌-◌, ◌*◌, ◌/◌, ◌%◌, ◌^◌, ◌<◌, ◌≤◌, inl, inr, true, List, [], ◌∷◌, ◌++◌, length, get_or, take, drop, map, refl, sym, ◌∙◌, ap, subst, arith, None, Ok, pos, ◌-ℤ◌, mul-lt-mul_of_pos_right, pow-le-pow_right, cases_lt, ints, pow-add, length-append, length-drop, length-take-le, length-map, number_lt, digits_value_is, is_ascii_digit, digit_value, number_from_digits, AllBelowBase, AllDigits, digits_value, below_take, Literal, value_of, middle, IsNonzeroRange, pow-suc, mod-eq_of_lt, digits_value_after, below_drop, number_split, below_sixteen}
 use Rattle.std.specs.Int.{w64, bit_at, leading_zeros, trailing_zeros}
 use Rattle.std.proofs.Math.Nat.{one-le-pow, div-div-eq-div-mul, div-eq_of_lt-le, zero-div}
 use Rattle.std.proofs.Math.ListN.{get_or-eq_default}
@@ -12,7 +12,9 @@ use Rattle.decimal_digits.specs.Packing.{Encodes}
 use Rattle.decimal_digits.proofs.DigitLists.{below_at, number-div}
 use Rattle.decimal_digits.proofs.LeadingBytes.{hex_pow, leading_bytes_encode}
 use Rattle.decimal_unsigned.specs.Parts.{in_base_16}
-use Rattle.decimal_unsigned.specs.ScannedDigits.{digits_of, IsPlan, IsBcdValue}
+use Rattle.decimal_unsigned.specs.ScannedDigits.{digits_of, planned_digits, value_within, IsPlan, IsBcdValue}
+use Rattle.decimal_unsigned.specs.declared.decimal.parse.plan.Bounds.{Bounds}
+use Rattle.decimal_unsigned.specs.declared.decimal.parse.plan.Plan.{Plan}
 use Rattle.decimal_unsigned.proofs.Numerals.{value_of_digit}
 use Rattle.decimal_unsigned.proofs.Plans.{all_digits, length_digits, makes_zero, makes_plain, is_plan_at}
 
@@ -235,13 +237,13 @@ zero_digits ds below z k h =
     ∙ ap (λ q. q % 16) (zero-div (16 ^ (length ds - 1 - k)))
 
 -- ---- The value of parts with few digits.
-short_made : (w : Literal) (start end number len : ℕ) (m hi lo : ℤ) → IsPlan w start end m hi lo
-    → Encodes (leading_bytes number len) len (middle start end (digits_of w))
-    → IsBcdValue (value_of w) number len m hi lo
-short_made w start end number len m hi lo k h = record {
+short_made : (w : Literal) (p : Plan) (number len : ℕ) → IsPlan w p
+    → Encodes (leading_bytes number len) len (planned_digits w p)
+    → IsBcdValue (value_of w) (record { number = number; len = len; bounds = p.bounds })
+short_made w p number len k h = record {
   packed = h.packed;
   stored = rw h.digits k.stored;
-  value = k.value ∙ ap (λ ds. Ok (record { number = number_of ds m; hi = hi; lo = lo })) (sym h.digits);
+  value = k.value ∙ ap (λ ds. Ok (value_within ds p.bounds)) (sym h.digits);
 }
 
 module _ (w : Literal) (number : ℕ) (digits : AllDigits 10 (w.whole ++ w.fraction))
@@ -257,12 +259,12 @@ module _ (w : Literal) (number : ℕ) (digits : AllDigits 10 (w.whole ++ w.fract
       number_written w.whole w.fraction number digits (omega (arith, length-append w.whole w.fraction)) written
 
   -- zero
-  pub short_zero : (m hi lo : ℤ) → number ≡ 0 → m ≡ pos 0 → hi ≡ pos (length w.whole - 1)
-      → lo ≡ pos 0 -ℤ pos (length w.fraction)
-      → IsBcdValue (value_of w) number 0 m hi lo
-  short_zero m hi lo z a b c =
+  pub short_zero : (b : Bounds) → number ≡ 0 → b.magnitude ≡ pos 0 → b.hi ≡ pos (length w.whole - 1)
+      → b.lo ≡ pos 0 -ℤ pos (length w.fraction)
+      → IsBcdValue (value_of w) (record { number = number; len = 0; bounds = b })
+  short_zero b z m hi lo =
       let k = makes_zero w digits (omega arith) (omega arith) (zero_digits (digits_of w) below (sym number_is ∙ z)) in
-      short_made w 0 0 number 0 m hi lo (is_plan_at w 0 0 _ _ _ m hi lo k a b c)
+      short_made w (record { start = 0; end = 0; bounds = b }) number 0 (is_plan_at w 0 0 _ _ _ b k m hi lo)
       (leading_bytes_encode [] 0 number refl (omega arith) tt z)
 
   module _ (some : 0 < number) where
@@ -278,19 +280,24 @@ module _ (w : Literal) (number : ℕ) (digits : AllDigits 10 (w.whole ++ w.fract
         (omega (arith, found.0, found.1.ordered, found.1.within), omega (arith, found.0, count))
 
     -- any other number
-    pub short_plain : (size zeros : ℕ) (m hi lo : ℤ) → size ≡ 16 - leading_zeros w64 number / 4
-        → zeros ≡ trailing_zeros w64 number / 4 → w.exponent ≡ None → m ≡ pos size -ℤ pos (length w.fraction + 1)
-        → hi ≡ pos (length w.whole - 1) → lo ≡ pos 0 -ℤ pos (length w.fraction)
-        → IsBcdValue (value_of w) (number / 2 ^ (4 * zeros) * 2 ^ (4 * (16 - (size - zeros))) % 2 ^ 64) (size - zeros)
-        m hi lo
-    short_plain size zeros m hi lo s t plain a b c =
+    pub short_plain : (size zeros : ℕ) (b : Bounds) → size ≡ 16 - leading_zeros w64 number / 4
+        → zeros ≡ trailing_zeros w64 number / 4 → w.exponent ≡ None
+        → b.magnitude ≡ pos size -ℤ pos (length w.fraction + 1) → b.hi ≡ pos (length w.whole - 1)
+        → b.lo ≡ pos 0 -ℤ pos (length w.fraction)
+        → IsBcdValue (value_of w) (record {
+          number = number / 2 ^ (4 * zeros) * 2 ^ (4 * (16 - (size - zeros))) % 2 ^ 64;
+          len = size - zeros;
+          bounds = b;
+        })
+    short_plain size zeros b s t plain m hi lo =
         let ds = digits_of w in
         let start = length ds - size in
         let end = length ds - zeros in
         let fits : size ≤ length ds = omega (arith, s, found.0) in
         let n : IsNonzeroRange ds start end = rw (s, t) found.1 in
-        let at : m ≡ (pos (length w.whole) -ℤ pos 1) -ℤ pos start = omega (arith, ints, a, fits, count) in
-        let k = makes_plain w digits (omega arith) (omega arith) start end n m at plain in
+        let at : b.magnitude ≡ (pos (length w.whole) -ℤ pos 1) -ℤ pos start = omega (arith, ints, m, fits, count) in
+        let plan = makes_plain w digits (omega arith) (omega arith) start end n b.magnitude at plain in
+        let k = is_plan_at w start end _ _ _ b plan refl hi lo in
         let h = middle_holds ds number start end below number_is n.ordered n.within (omega (arith, count)) in
         let following : length ds - end ≡ zeros = omega (arith, n.ordered, n.within, fits) in
         let long : end - start ≡ size - zeros = omega (arith, n.ordered, n.within, fits) in

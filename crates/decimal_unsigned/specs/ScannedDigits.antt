@@ -1,10 +1,13 @@
 -- Private: used only in the contracts of private functions and in the model of `Scan`.
 -- Which digits of the parts are stored, and their magnitudes.
-use Rattle.std.specs.Prelude.{◌≡◌, ℕ, ◌-◌, ◌≤◌, ◌<◌, List, ◌++◌, length, take, drop, map, slice_index, ℤ, Result, Ok}
+use Rattle.std.specs.Prelude.{◌≡◌, ℕ, ◌-◌, ◌≤◌, ◌<◌, List, ◌++◌, length, take, drop, map, slice_index, Result, Ok}
 use Rattle.std.specs.Char.{digit_value}
 use Rattle.std.specs.Str.Parse.{AllDigits}
 use Rattle.decimal_digits.specs.Digits.{number_of}
 use Rattle.decimal_digits.specs.Nibbles.{digits_in, leading_bytes, IsPacked}
+use Rattle.decimal_unsigned.specs.declared.decimal.parse.fast_path.BcdValue.{BcdValue}
+use Rattle.decimal_unsigned.specs.declared.decimal.parse.plan.Bounds.{Bounds}
+use Rattle.decimal_unsigned.specs.declared.decimal.parse.plan.Plan.{Plan}
 use Rattle.decimal_unsigned.specs.Stored.{IsStored}
 use Rattle.decimal_unsigned.specs.Unsigned.{Unsigned}
 use Rattle.decimal_unsigned.specs.Grammar.{Literal}
@@ -27,26 +30,36 @@ pub record IsNonzeroRange (ds : List ℕ) (start end : ℕ) : Type 0 where
   pub front : 0 < slice_index ds start
   pub back : 0 < slice_index ds (end - 1)
 
--- the value of these digits, of which the first is at this magnitude
-abbrev pub plan_value : Literal → ℕ → ℕ → ℤ → ℤ → ℤ → Unsigned
-plan_value w start end magnitude hi lo =
-    record { number = number_of (middle start end (digits_of w)) magnitude; hi = hi; lo = lo }
+-- the value of digits, with the magnitude of the first one and the range
+abbrev pub value_within : List ℕ → Bounds → Unsigned
+value_within ds b = record { number = number_of ds b.magnitude; hi = b.hi; lo = b.lo }
 
--- the value of the parts is that of these digits
-pub record IsPlan (w : Literal) (start end : ℕ) (magnitude hi lo : ℤ) : Type 0 where
-  pub ordered : start ≤ end
-  pub within : end ≤ length (digits_of w)
-  pub stored : IsStored (middle start end (digits_of w)) magnitude hi lo
-  pub value : value_of w ≡ Ok (plan_value w start end magnitude hi lo)
+-- the digits from the start to the end of a plan
+abbrev pub planned_digits : Literal → Plan → List ℕ
+planned_digits w p = middle p.start p.end (digits_of w)
 
--- the parts are digits, and their value is that of these
-pub record IsScanned (w : Literal) (start end : ℕ) (magnitude hi lo : ℤ) : Type 0 where
+-- their value
+abbrev pub plan_value : Literal → Plan → Unsigned
+plan_value w p = value_within (planned_digits w p) p.bounds
+
+-- the value of the parts is that of the plan
+pub record IsPlan (w : Literal) (p : Plan) : Type 0 where
+  pub ordered : p.start ≤ p.end
+  pub within : p.end ≤ length (digits_of w)
+  pub stored : IsStored (planned_digits w p) p.bounds.magnitude p.bounds.hi p.bounds.lo
+  pub value : value_of w ≡ Ok (plan_value w p)
+
+-- the parts are digits, and their value is that of the plan
+pub record IsScanned (w : Literal) (p : Plan) : Type 0 where
   pub digits : AllDigits 10 (w.whole ++ w.fraction)
-  pub plan : IsPlan w start end magnitude hi lo
+  pub plan : IsPlan w p
 
--- reading gives the value of the first `len` nibbles of a 64-bit number
-pub record IsBcdValue (reading : Result Unsigned ReadError) (number len : ℕ) (magnitude hi lo : ℤ) : Type 0 where
-  pub packed : IsPacked (leading_bytes number len) len
-  pub stored : IsStored (digits_in (leading_bytes number len) len) magnitude hi lo
-  pub value : reading
-      ≡ Ok (record { number = number_of (digits_in (leading_bytes number len) len) magnitude; hi = hi; lo = lo })
+-- the first `len` nibbles of the number
+abbrev pub bcd_digits : BcdValue → List ℕ
+bcd_digits b = digits_in (leading_bytes b.number b.len) b.len
+
+-- reading gives the value of these nibbles
+pub record IsBcdValue (reading : Result Unsigned ReadError) (b : BcdValue) : Type 0 where
+  pub packed : IsPacked (leading_bytes b.number b.len) b.len
+  pub stored : IsStored (bcd_digits b) b.bounds.magnitude b.bounds.hi b.bounds.lo
+  pub value : reading ≡ Ok (value_within (bcd_digits b) b.bounds)

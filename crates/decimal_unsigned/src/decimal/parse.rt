@@ -39,11 +39,9 @@ impl<'a> Model for Scan<'a> {
 
     ghost Value = { Unsigned };
 
-    ghost view = { λ s. plan_value (found.view s.parts) s.plan.start s.plan.end
-        s.plan.bounds.magnitude s.plan.bounds.hi s.plan.bounds.lo };
+    ghost view = { λ s. plan_value (found.view s.parts) s.plan };
 
-    ghost invariant = { λ s. IsScanned (found.view s.parts) s.plan.start s.plan.end
-        s.plan.bounds.magnitude s.plan.bounds.hi s.plan.bounds.lo };
+    ghost invariant = { λ s. IsScanned (found.view s.parts) s.plan };
 }
 
 impl<'a> Scan<'a> {

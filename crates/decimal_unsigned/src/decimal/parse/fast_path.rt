@@ -25,8 +25,7 @@ pub struct BcdValue {
 pub fn bcd_value(parts: &Parts<'_>) -> Option<BcdValue>
     requires digits { AllDigits 10 (parts.now.whole.now ++ parts.now.fraction.now) }
     requires number { NumberMatchesDigits parts.now }
-    ensures { IfSome result (λ s. IsBcdValue (value_of (view parts.now)) s.number s.len
-        s.bounds.magnitude s.bounds.hi s.bounds.lo) }
+    ensures { IfSome result (IsBcdValue (value_of (view parts.now))) }
 {
     if parts.whole.len() + parts.fraction.len() > 16 {
         return None;

@@ -5,7 +5,7 @@ use Rattle.decimal_unsigned.proofs.decimal.parse.fast_path.bcd_value.Goals as go
 pub returns-then-number-eq0 : goal.returns-then-number-eq0
 returns-then-number-eq0 c =
     short_zero (view c.args.parts.now) c.args.parts.now.number c.requires.digits c.if-parts-gt16.false
-    c.requires.number _ _ _ (omega arith) (omega (arith, ints, c.to_bounds-bounds.ensures.magnitude))
+    c.requires.number _ (omega arith) (omega (arith, ints, c.to_bounds-bounds.ensures.magnitude))
     (omega (arith, ints, c.to_bounds-bounds.ensures.hi)) (omega (arith, ints, c.to_bounds-bounds.ensures.lo))
 
 pub overflow_sub-len : goal.overflow_sub-len
@@ -23,6 +23,6 @@ overflow_shl-result c =
 pub returns : goal.returns
 returns c =
     short_plain (view c.args.parts.now) c.args.parts.now.number c.requires.digits c.if-parts-gt16.false
-    c.requires.number (omega arith) _ _ _ _ _ refl refl c.in-None.is
+    c.requires.number (omega arith) _ _ _ refl refl c.in-None.is
     (omega (arith, ints, c.to_bounds.ensures.magnitude)) (omega (arith, ints, c.to_bounds.ensures.hi))
     (omega (arith, ints, c.to_bounds.ensures.lo))
