@@ -78,7 +78,7 @@ module _ (w : Literal) (digits : AllDigits 10 (w.whole ++ w.fraction)) (few : le
       → IsPlan w (plan_at 0 0 (pos 0) (pos (length w.whole - 1)) (pos 0 -ℤ pos (length w.fraction)))
   makes_zero h =
       let z : digits_value 10 (w.whole ++ w.fraction) ≡ 0 =
-      digits_value_is 10 (w.whole ++ w.fraction) ∙ number_zeros (digits_of w) h in
+      digits_value_is 10 (w.whole ++ w.fraction) ∙ number_zeros 10 (digits_of w) h in
       let n : (mantissa w.whole w.fraction).number ≡ 0 = rw z (omega arith) in
       record {
         ordered = omega arith;
