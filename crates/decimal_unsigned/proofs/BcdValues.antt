@@ -1,18 +1,26 @@
 -- Short texts: up to sixteen digits as a number in base 16, and the value of their parts.
-use Rattle.decimal_unsigned.proofs.Common.{clamps, nat_tests, common_steps, ◌≡◌, ℕ, zero, suc, ◌+◌, ◌-◌, ◌*◌, ◌/◌, ◌%◌, ◌^◌, ◌<◌, ◌≤◌, inl, inr, true, List, [], ◌∷◌, ◌++◌, length, get_or, take, drop, map, refl, sym, ◌∙◌, ap, subst, arith, None, Ok, ℤ, pos, ◌-ℤ◌, mul-lt-mul_of_pos_right, pow-le-pow_right, cases_lt, ints, pow-add, length-append, length-drop, length-take-le, length-map, number_lt, digits_value_is, is_ascii_digit, digit_value, number_from_digits, AllBelowBase, AllDigits, digits_value, number_of, below_take, Literal, value_of, middle, IsNonzeroRange, pow-suc, mod-eq_of_lt, digits_value_after, below_drop, number_split, below_sixteen}
+use Rattle.decimal_unsigned.proofs.Common.{clamps, nat_tests, common_steps, ◌≡◌, ℕ, zero, suc, ◌+◌, ◌-◌, ◌*◌, ◌/◌, ◌%◌, ◌^◌, ◌<◌, ◌≤◌, inl, inr, true, List, [], ◌∷◌, ◌++◌, length, get_or, take, drop, take_all, map, refl, sym, ◌∙◌, ap, subst, arith, Option, Some, None, option_map, Ok, ℤ, pos, ◌-ℤ◌, mul-lt-mul_of_pos_right, pow-le-pow_right, cases_lt, ints, pow-add, length-append, length-drop, length-take-le, length-map, number_lt, digits_value_is, is_ascii_digit, prefix_len, digit_value, number_from_digits, AllBelowBase, AllDigits, digits_value, number_of, below_take, Literal, value_of, middle, IsNonzeroRange, pow-suc, mod-eq_of_lt, digits_value_after, below_drop, number_split, below_sixteen}
 use Rattle.std.specs.Int.{w64, bit_at, leading_zeros, trailing_zeros}
 use Rattle.std.proofs.Math.Nat.{one-le-pow, div-div-eq-div-mul, div-eq_of_lt-le, zero-div}
 use Rattle.std.proofs.Math.ListN.{get_or-eq_default}
 use Rattle.std.proofs.lemmas.Nat.{mod-mul-add, leading_top}
 use Rattle.std.proofs.lemmas.Nat.Bits.{bit_at_above, bit_at-trailing_zeros}
-use Rattle.std.proofs.lemmas.List.{drop-take}
+use Rattle.std.proofs.lemmas.List.{drop-drop, drop_all, at_drop_more}
+use Rattle.std.proofs.lemmas.List.Sums.{prefix_len-le-length}
 use Rattle.std.proofs.lemmas.Int.Digits.{number_more as number_more_digits, all_below_base_from_digits}
 use Rattle.decimal_digits.specs.Nibbles.{leading_bytes}
+use Rattle.decimal_digits.specs.Ascii.{decimal_point}
 use Rattle.decimal_digits.specs.Packing.{Encodes}
 use Rattle.decimal_digits.proofs.DigitLists.{below_at, number-div}
 use Rattle.decimal_digits.proofs.LeadingBytes.{hex_pow, leading_bytes_encode}
-use Rattle.decimal_unsigned.specs.Parts.{in_base_16}
-use Rattle.decimal_unsigned.specs.ScannedDigits.{digits_of, IsPlan, IsBcdValue}
+use Rattle.decimal_unsigned.specs.Parts.{saturated_parts}
+use Rattle.decimal_unsigned.specs.Reading.{parts_of, after_whole, after_fraction, read}
+use Rattle.decimal_unsigned.specs.ScannedDigits.{in_base_16, plain_parts, digits_of, planned_digits, value_within, IsPlan, IsPlainText, IsBcdValue}
+use Rattle.decimal_unsigned.specs.declared.decimal.parse.fast_path.PlainText.{PlainText}
+use Rattle.decimal_unsigned.specs.declared.decimal.parse.plan.Bounds.{Bounds}
+use Rattle.decimal_unsigned.specs.declared.decimal.parse.plan.Plan.{Plan}
+use Rattle.decimal_unsigned.proofs.Middle.{middle_length, middle_below, number_middle}
+use Rattle.decimal_unsigned.proofs.Exponents.{read_some, digits_some}
 use Rattle.decimal_unsigned.proofs.Numerals.{value_of_digit}
 use Rattle.decimal_unsigned.proofs.Plans.{all_digits, length_digits, makes_zero, makes_plain, is_plan_at}
 
@@ -59,51 +67,6 @@ pub fraction_numbered : (whole fraction : List ℕ) (number more : ℕ) → numb
 fraction_numbered whole fraction number more e f =
     f ∙ ap (λ m. digits_value_after 16 m fraction % 2 ^ 64) e ∙ after_mod (digits_value 16 whole) fraction
 
--- ---- The digits from one up to another.
--- a right shift drops the digits after `end`, a left shift those before `start`
-pub shifted_middle : (ds : List ℕ) (start end : ℕ) → AllBelowBase 10 ds → start < end → end ≤ length ds → length ds ≤ 16
-    → number_from_digits 16 ds / 2 ^ (4 * (length ds - end)) * 2 ^ (4 * (16 - (end - start))) % 2 ^ 64
-    ≡ number_from_digits 16 (middle start end ds) * 16 ^ (16 - (end - start))
-shifted_middle ds start end h s w few =
-    let len = end - start in
-    let k = 16 - len in
-    let front = take (start + len) ds in
-    let mid = take len (drop start ds) in
-    let a = number_from_digits 16 (take start front) in
-    let m = number_from_digits 16 mid in
-    let n_mid : length mid ≡ len = length-take-le len (drop start ds) (omega (arith, length-drop start ds)) in
-    let m_lt : m < 16 ^ len =
-    subst (λ i. m < 16 ^ i) n_mid
-    (number_lt 16 mid (below_sixteen mid (below_take 10 len (drop start ds) (below_drop 10 start ds h)))) in
-    let places : 16 ^ len * 16 ^ k ≡ 2 ^ 64 =
-    sym (pow-add 16 len k) ∙ ap (λ i. 16 ^ i) (let e : len + k ≡ 16 = omega arith in e) in
-    let pos : 0 < 16 ^ k = omega (arith, one-le-pow k 16 (omega arith)) in
-    let lt : m * 16 ^ k < 2 ^ 64 = subst (λ p. m * 16 ^ k < p) places (mul-lt-mul_of_pos_right m_lt pos) in
-    let total : (a * 16 ^ len + m) * 16 ^ k ≡ a * 2 ^ 64 + m * 16 ^ k =
-    (let e : (a * 16 ^ len + m) * 16 ^ k ≡ a * (16 ^ len * 16 ^ k) + m * 16 ^ k = omega arith in e)
-    ∙ ap (λ p. a * p + m * 16 ^ k) places in
-    grind (
-      arith,
-      ints,
-      clamps,
-      nat_tests,
-      common_steps,
-      length-take-le,
-      length-drop,
-      number_lt,
-      below_sixteen,
-      below_take,
-      below_drop,
-      hex_pow,
-      number-div,
-      number_split,
-      drop-take,
-      pow-add,
-      one-le-pow,
-      mul-lt-mul_of_pos_right,
-      mod-mul-add,
-    )
-
 -- up to sixteen digits write their number
 pub number_written : (whole fraction : List ℕ) (number : ℕ) → AllDigits 10 (whole ++ fraction)
     → length (whole ++ fraction) ≤ 16 → number ≡ in_base_16 whole fraction
@@ -117,18 +80,30 @@ number_written whole fraction number h few e =
     omega (arith, number_lt 16 ds (below_sixteen ds (all_below_base_from_digits 10 text h)), top) in
     e ∙ ap (λ n. n % 2 ^ 64) (sym (after_append 0 whole fraction) ∙ digits_value_is 16 text) ∙ mod-eq_of_lt lt
 
--- the shifted number encodes the digits from `start` to `end`
-pub middle_holds : (ds : List ℕ) (number start end : ℕ) → AllBelowBase 10 ds → number ≡ number_from_digits 16 ds
-    → start < end → end ≤ length ds → length ds ≤ 16
-    → Encodes (leading_bytes (number / 2 ^ (4 * (length ds - end)) * 2 ^ (4 * (16 - (end - start))) % 2 ^ 64)
-    (end - start))
-    (end - start) (middle start end ds)
-middle_holds ds number start end below is s within few =
-    let rest : length (drop start ds) ≡ length ds - start = length-drop start ds in
-    let l : length (middle start end ds) ≡ end - start = length-take-le (end - start) (drop start ds) (omega arith) in
-    leading_bytes_encode (middle start end ds) (end - start) _ l (omega arith)
-    (below_take 10 (end - start) (drop start ds) (below_drop 10 start ds below))
-    (rw is (shifted_middle ds start end below s within few))
+-- ---- The digits between the zeros.
+-- the number without its leading zero nibbles encodes the digits from `start` to `end`
+pub middle_holds : (ds : List ℕ) (number zeros start end : ℕ) → AllBelowBase 10 ds → number ≡ number_from_digits 16 ds
+    → IsNonzeroRange ds start end → length ds ≤ 16 → zeros ≡ 16 - (length ds - start)
+    → Encodes (leading_bytes (number * 2 ^ (4 * zeros) % 2 ^ 64) (end - start)) (end - start) (middle start end ds)
+middle_holds ds number zeros start end below is n few z =
+    let len = end - start in
+    let mid = middle start end ds in
+    let m = number_from_digits 16 mid in
+    let l = middle_length ds start end n in
+    let below_mid = middle_below ds start end n below in
+    let m_lt : m < 16 ^ len = subst (λ i. m < 16 ^ i) l (number_lt 16 mid (below_sixteen mid below_mid)) in
+    let places : 16 ^ len * 16 ^ (16 - len) ≡ 2 ^ 64 =
+    sym (pow-add 16 len (16 - len))
+    ∙ ap (λ i. 16 ^ i) (let e : len + (16 - len) ≡ 16 = omega (arith, n.within) in e) in
+    let lt : m * 16 ^ (16 - len) < 2 ^ 64 =
+    subst (λ p. m * 16 ^ (16 - len) < p) places
+    (mul-lt-mul_of_pos_right m_lt (one-le-pow (16 - len) 16 (omega arith))) in
+    let following : (length ds - end) + zeros ≡ 16 - len = omega (arith, n.ordered, n.within) in
+    let moved : number * 2 ^ (4 * zeros) ≡ m * 16 ^ (16 - len) =
+    rw (is, number_middle ds start end n 16, hex_pow zeros, ← following, pow-add 16 (length ds - end) zeros)
+    (omega arith) in
+    leading_bytes_encode mid len _ l (omega (arith, n.within)) below_mid
+    (ap (λ x. x % 2 ^ 64) moved ∙ mod-eq_of_lt lt)
 
 -- ---- The bits of a number and its digits.
 -- bit 4 * j + i of a number is bit i of its nibble j
@@ -234,64 +209,153 @@ zero_digits ds below z k h =
     digit_is ds k below h ∙ ap (λ n. n / 16 ^ (length ds - 1 - k) % 16) z
     ∙ ap (λ q. q % 16) (zero-div (16 ^ (length ds - 1 - k)))
 
--- ---- The value of parts with few digits.
-short_made : (w : Literal) (start end number len : ℕ) (m hi lo : ℤ) → IsPlan w start end m hi lo
-    → Encodes (leading_bytes number len) len (middle start end (digits_of w))
-    → IsBcdValue (value_of w) number len m hi lo
-short_made w start end number len m hi lo k h = record {
+-- ---- The parts of a short text.
+after_whole_end : (whole : List ℕ) → 0 < length whole
+    → after_whole whole [] ≡ Some (record { whole = whole; fraction = []; exponent = None })
+unfolding after_whole
+after_whole_end whole h = grind (arith, nat_tests)
+
+after_whole_point : (whole rest : List ℕ) → 0 < length rest → prefix_len is_ascii_digit rest ≡ length rest
+    → after_whole whole (decimal_point ∷ rest) ≡ Some (record { whole = whole; fraction = rest; exponent = None })
+unfolding after_whole after_fraction
+after_whole_point whole rest h all =
+    let none : drop (length rest) rest ≡ [] = drop_all (length rest) rest (omega arith) in
+    rw (all, take_all (length rest) rest (omega arith), none) (grind (arith, nat_tests))
+
+-- the bytes after the one at an index
+pub after_byte : (text : List ℕ) (i : ℕ)
+    → take (length (take (length text - i) (drop i text)) - 1) (drop 1 (take (length text - i) (drop i text)))
+    ≡ drop (i + 1) text
+after_byte text i =
+    let rest = drop i text in
+    let all : take (length text - i) rest ≡ rest = take_all (length text - i) rest (omega (arith, length-drop i text)) in
+    rw all (take_all (length rest - 1) (drop 1 rest) (omega (arith, length-drop 1 rest)) ∙ drop-drop 1 i text)
+
+module _ (text : List ℕ) (whole number : ℕ) (digits : whole ≡ prefix_len is_ascii_digit text)
+    (numbered : number ≡ digits_value 16 (take whole text) % 2 ^ 64) where
+  within : whole ≤ length text
+  within = omega (arith, digits, prefix_len-le-length is_ascii_digit text)
+
+  long : length (take whole text) ≡ whole
+  long = length-take-le whole text within
+
+  -- a text of digits
+  pub plain_whole : 0 < whole → drop whole text ≡ []
+      → IsPlainText text (record { whole = whole; fraction = 0; number = number })
+  unfolding parts_of
+  plain_whole some none =
+      let following : drop (whole + 1) text ≡ [] = sym (drop-drop 1 whole text) ∙ ap (drop 1) none in
+      let parts : parts_of text ≡ Some (record { whole = take whole text; fraction = []; exponent = None }) =
+      rw (sym digits, none) (after_whole_end (take whole text) (omega (arith, long, some))) in
+      record {
+        parts = rw following parts;
+        whole = long;
+        fraction = rw following refl;
+        number = rw following numbered;
+      }
+
+  -- digits with a decimal point
+  pub plain_point : (rest : List ℕ) (fraction more : ℕ) → whole < length text → get_or text whole 0 ≡ decimal_point
+      → rest ≡ drop (whole + 1) text → fraction ≡ prefix_len is_ascii_digit rest → 0 < fraction → length rest ≤ fraction
+      → more ≡ digits_value_after 16 number (take fraction rest) % 2 ^ 64
+      → IsPlainText text (record { whole = whole; fraction = fraction; number = more })
+  unfolding parts_of
+  plain_point rest fraction more in_text byte rest_is digits' some all n =
+      let following = sym rest_is in
+      let point : drop whole text ≡ decimal_point ∷ rest =
+      at_drop_more (λ x. x) text whole 0 in_text ∙ (rw (byte, following) refl) in
+      let most = prefix_len-le-length is_ascii_digit rest in
+      let parts : parts_of text ≡ Some (record { whole = take whole text; fraction = rest; exponent = None }) =
+      rw (sym digits, point)
+      (after_whole_point (take whole text) rest (omega (arith, some, digits', most))
+      (omega (arith, all, digits', most))) in
+      record {
+        parts = rw following parts;
+        whole = long;
+        fraction = rw following (omega (arith, all, digits', most));
+        number =
+            rw following
+            (fraction_numbered (take whole text) rest number more numbered
+            (n ∙ ap (λ t. digits_value_after 16 number t % 2 ^ 64) (take_all fraction rest all)));
+      }
+
+-- ---- The value of a short text.
+short_made : (w : Literal) (p : Plan) (number len : ℕ) → IsPlan w p
+    → Encodes (leading_bytes number len) len (planned_digits w p)
+    → IsBcdValue (value_of w) (record { number = number; len = len; bounds = p.bounds })
+short_made w p number len k h = record {
   packed = h.packed;
   stored = rw h.digits k.stored;
-  value = k.value ∙ ap (λ ds. Ok (record { number = number_of ds m; hi = hi; lo = lo })) (sym h.digits);
+  value = k.value ∙ ap (λ ds. Ok (value_within ds p.bounds)) (sym h.digits);
 }
 
-module _ (w : Literal) (number : ℕ) (digits : AllDigits 10 (w.whole ++ w.fraction))
-    (few : length w.whole + length w.fraction ≤ 16) (written : number ≡ in_base_16 w.whole w.fraction) where
+module _ (text : List ℕ) (p : PlainText) (plain : IsPlainText text p) (few : p.whole + p.fraction ≤ 16) where
+  abbrev w : Literal
+  w = plain_parts text p.whole
+
+  parts : Some w ≡ option_map saturated_parts (parts_of text)
+  parts = sym (ap (option_map saturated_parts) plain.parts)
+
+  digits : AllDigits 10 (w.whole ++ w.fraction)
+  digits = digits_some text w parts
+
   below : AllBelowBase 10 (digits_of w)
   below = all_digits w digits
 
-  count : length (digits_of w) ≡ length w.whole + length w.fraction
-  count = length_digits w
+  count : length (digits_of w) ≡ p.whole + p.fraction
+  count = omega (arith, length_digits w, plain.whole, plain.fraction)
 
-  number_is : number ≡ number_from_digits 16 (digits_of w)
+  number_is : p.number ≡ number_from_digits 16 (digits_of w)
   number_is =
-      number_written w.whole w.fraction number digits (omega (arith, length-append w.whole w.fraction)) written
+      number_written w.whole w.fraction p.number digits
+      (omega (arith, length-append w.whole w.fraction, plain.whole, plain.fraction, few)) plain.number
 
   -- zero
-  pub short_zero : (m hi lo : ℤ) → number ≡ 0 → m ≡ pos 0 → hi ≡ pos (length w.whole - 1)
-      → lo ≡ pos 0 -ℤ pos (length w.fraction)
-      → IsBcdValue (value_of w) number 0 m hi lo
-  short_zero m hi lo z a b c =
-      let k = makes_zero w digits (omega arith) (omega arith) (zero_digits (digits_of w) below (sym number_is ∙ z)) in
-      short_made w 0 0 number 0 m hi lo (is_plan_at w 0 0 _ _ _ m hi lo k a b c)
-      (leading_bytes_encode [] 0 number refl (omega arith) tt z)
+  pub short_zero : (b : Bounds) → p.number ≡ 0 → b.magnitude ≡ pos 0 → b.hi ≡ pos (p.whole - 1)
+      → b.lo ≡ pos 0 -ℤ pos p.fraction
+      → IsBcdValue (read text) (record { number = p.number; len = 0; bounds = b })
+  short_zero b z m hi lo =
+      let zeros = zero_digits (digits_of w) below (sym number_is ∙ z) in
+      let k = makes_zero w digits (omega (arith, plain.whole)) (omega (arith, plain.fraction)) zeros in
+      rw (read_some text w parts)
+      (short_made w (record { start = 0; end = 0; bounds = b }) p.number 0
+      (is_plan_at w 0 0 _ _ _ b k m (omega (arith, ints, hi, plain.whole)) (omega (arith, ints, lo, plain.fraction)))
+      (leading_bytes_encode [] 0 p.number refl (omega arith) tt z))
 
-  module _ (some : 0 < number) where
-    found : (16 - leading_zeros w64 number / 4 ≤ length (digits_of w))
-        × IsNonzeroRange (digits_of w) (length (digits_of w) - (16 - leading_zeros w64 number / 4))
-        (length (digits_of w) - trailing_zeros w64 number / 4)
-    found = inner_number (digits_of w) number below (omega (arith, count)) number_is some
+  module _ (some : 0 < p.number) where
+    found : (16 - leading_zeros w64 p.number / 4 ≤ length (digits_of w))
+        × IsNonzeroRange (digits_of w) (length (digits_of w) - (16 - leading_zeros w64 p.number / 4))
+        (length (digits_of w) - trailing_zeros w64 p.number / 4)
+    found = inner_number (digits_of w) p.number below (omega (arith, count)) number_is some
 
     -- the zero nibbles bound the nonzero digits, which are no more than the digits in the text
-    pub short_sizes : (trailing_zeros w64 number / 4 < 16 - leading_zeros w64 number / 4)
-        × (16 - leading_zeros w64 number / 4 ≤ length w.whole + length w.fraction)
+    pub short_sizes : (trailing_zeros w64 p.number / 4 < 16 - leading_zeros w64 p.number / 4)
+        × (16 - leading_zeros w64 p.number / 4 ≤ p.whole + p.fraction)
     short_sizes =
         (omega (arith, found.0, found.1.ordered, found.1.within), omega (arith, found.0, count))
 
     -- any other number
-    pub short_plain : (size zeros : ℕ) (m hi lo : ℤ) → size ≡ 16 - leading_zeros w64 number / 4
-        → zeros ≡ trailing_zeros w64 number / 4 → w.exponent ≡ None → m ≡ pos size -ℤ pos (length w.fraction + 1)
-        → hi ≡ pos (length w.whole - 1) → lo ≡ pos 0 -ℤ pos (length w.fraction)
-        → IsBcdValue (value_of w) (number / 2 ^ (4 * zeros) * 2 ^ (4 * (16 - (size - zeros))) % 2 ^ 64) (size - zeros)
-        m hi lo
-    short_plain size zeros m hi lo s t plain a b c =
+    pub short_plain : (zeros len : ℕ) (b : Bounds) → zeros ≡ leading_zeros w64 p.number / 4
+        → len ≡ (16 - zeros) - trailing_zeros w64 p.number / 4
+        → b.magnitude ≡ pos (16 - zeros) -ℤ pos (p.fraction + 1) → b.hi ≡ pos (p.whole - 1)
+        → b.lo ≡ pos 0 -ℤ pos p.fraction
+        → IsBcdValue (read text) (record { number = p.number * 2 ^ (4 * zeros) % 2 ^ 64; len = len; bounds = b })
+    short_plain zeros len b z l m hi lo =
         let ds = digits_of w in
-        let start = length ds - size in
-        let end = length ds - zeros in
-        let fits : size ≤ length ds = omega (arith, s, found.0) in
-        let n : IsNonzeroRange ds start end = rw (s, t) found.1 in
-        let at : m ≡ (pos (length w.whole) -ℤ pos 1) -ℤ pos start = omega (arith, ints, a, fits, count) in
-        let k = makes_plain w digits (omega arith) (omega arith) start end n m at plain in
-        let h = middle_holds ds number start end below number_is n.ordered n.within (omega (arith, count)) in
-        let following : length ds - end ≡ zeros = omega (arith, n.ordered, n.within, fits) in
-        let long : end - start ≡ size - zeros = omega (arith, n.ordered, n.within, fits) in
-        grind (arith, ints, clamps, nat_tests, common_steps)
+        let start = length ds - (16 - zeros) in
+        let end = length ds - trailing_zeros w64 p.number / 4 in
+        let fits : 16 - zeros ≤ length ds = omega (arith, z, found.0) in
+        let n : IsNonzeroRange ds start end = rw z found.1 in
+        let at : b.magnitude ≡ (pos (length w.whole) -ℤ pos 1) -ℤ pos start =
+        omega (arith, ints, m, fits, count, plain.whole) in
+        let plan =
+        makes_plain w digits (omega (arith, plain.whole)) (omega (arith, plain.fraction)) start end n b.magnitude at
+        refl in
+        let k =
+        is_plan_at w start end _ _ _ b plan refl (omega (arith, ints, hi, plain.whole))
+        (omega (arith, ints, lo, plain.fraction)) in
+        let h =
+        middle_holds ds p.number zeros start end below number_is n (omega (arith, count, few)) (omega (arith, fits)) in
+        let long : end - start ≡ len = omega (arith, l, n.ordered, n.within, fits) in
+        rw (read_some text w parts)
+        (short_made w (record { start = start; end = end; bounds = b }) _ len k (rw (sym long) h))

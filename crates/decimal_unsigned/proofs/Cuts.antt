@@ -15,7 +15,7 @@ number_cut : (ds : List ℕ) (a start : ℕ) → a ≤ start → start ≤ lengt
 number_cut ds a start h w zeros =
     let rest = drop a ds in
     let long : length rest ≡ length ds - a = length-drop a ds in
-    let none : number_from_digits 10 (take (start - a) rest) ≡ 0 = number_zeros (take (start - a) rest) (λ k l.
+    let none : number_from_digits 10 (take (start - a) rest) ≡ 0 = number_zeros 10 (take (start - a) rest) (λ k l.
     let b : k < start - a = omega (arith, length-take-le (start - a) rest (omega (arith, long))) in
     get_or-take (start - a) rest k 0 b ∙ get_or-drop a ds k 0 ∙ zeros (a + k) (omega arith) (omega arith)) in
     let split = number_split 10 (start - a) rest (omega (arith, long)) in

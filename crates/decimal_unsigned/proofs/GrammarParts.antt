@@ -1,9 +1,8 @@
 -- The parts of a text are those of the grammar.
-use Rattle.decimal_unsigned.proofs.Common.{common_steps, ◌≡◌, ℕ, suc, ◌+◌, ◌<◌, Bool, true, false, cond, ◌⊎◌, List, [], ◌∷◌, ◌++◌, length, take, drop, refl, sym, ◌∙◌, ap, subst, arith, nat_lt, ◌==◌, append-nil, Option, Some, None, ℤ, pos, nat_tests, is_ascii_digit, digit_value, prefix_len, AllDigits, digits_value, Literal, ◌&&◌, option_map, take-append-drop, Grammar}
+use Rattle.decimal_unsigned.proofs.Common.{common_steps, ◌≡◌, ℕ, ◌<◌, Bool, true, false, cond, ◌⊎◌, List, [], ◌∷◌, ◌++◌, length, refl, sym, ◌∙◌, ap, subst, arith, nat_lt, ◌==◌, append-nil, Option, Some, None, ℤ, pos, nat_tests, is_ascii_digit, digit_value, prefix_len, AllDigits, digits_value, Literal, ◌&&◌, option_map, take-append-drop, Grammar}
 use Rattle.std.proofs.Common.{append_assoc, eqb-true}
 use Rattle.std.specs.Prelude.{neg_ℤ}
 use Rattle.std.specs.Str.Parse.{IsNumeral}
-use Rattle.std.proofs.Math.Seq.{take-append_seam, drop-append_seam}
 use Rattle.decimal_unsigned.specs.Grammar.{IsMantissa, undotted, dotted, IsExponent, unsigned, plus, minus, Form, integer, decimal, scientific}
 use Rattle.decimal_unsigned.specs.Reading.{leading_digits, after_digits, numeral_of, exponent_of, is_letter, with_exponent, after_fraction, after_whole, parts_of}
 use Rattle.decimal_unsigned.proofs.Numerals.{true-is_digit, tests_digits, prefix_len-run}

@@ -5,13 +5,14 @@ use Rattle.decimal_digits.specs.Digits.{number_of, number_at}
 use Rattle.decimal_digits.proofs.DigitLists.{number_after}
 
 -- zeros write the number 0
-pub number_zeros : (ds : List ℕ) → ((k : ℕ) → k < length ds → get_or ds k 0 ≡ 0) → number_from_digits 10 ds ≡ 0
-number_zeros [] h = refl
-number_zeros (d ∷ ds) h =
+pub number_zeros : (b : ℕ) (ds : List ℕ) → ((k : ℕ) → k < length ds → get_or ds k 0 ≡ 0)
+    → number_from_digits b ds ≡ 0
+number_zeros b [] h = refl
+number_zeros b (d ∷ ds) h =
     let z : d ≡ 0 = h 0 (omega arith) in
-    let e : number_from_digits 10 (d ∷ ds) ≡ (0 * 10 + d) * 10 ^ length ds + number_from_digits 10 ds =
-    number_after 10 (0 * 10 + d) ds in
-    let r = number_zeros ds (λ k l. h (suc k) (omega arith)) in
+    let e : number_from_digits b (d ∷ ds) ≡ (0 * b + d) * b ^ length ds + number_from_digits b ds =
+    number_after b (0 * b + d) ds in
+    let r = number_zeros b ds (λ k l. h (suc k) (omega arith)) in
     rw (e, r, z) (omega arith)
 
 module _ (ds : List ℕ) (start end : ℕ) (n : IsNonzeroRange ds start end) where
@@ -20,24 +21,25 @@ module _ (ds : List ℕ) (start end : ℕ) (n : IsNonzeroRange ds start end) whe
   middle_length = grind (arith, common_steps)
 
   -- all digits write the number of the middle digits times a power of ten
-  pub number_middle : number_from_digits 10 ds ≡ number_from_digits 10 (middle start end ds) * 10 ^ (length ds - end)
-  number_middle =
-      let a = number_split 10 start ds (omega (arith, n.ordered, n.within)) in
-      let z : number_from_digits 10 (take start ds) ≡ 0 =
-      number_zeros (take start ds)
+  pub number_middle : (b : ℕ)
+      → number_from_digits b ds ≡ number_from_digits b (middle start end ds) * b ^ (length ds - end)
+  number_middle b =
+      let a = number_split b start ds (omega (arith, n.ordered, n.within)) in
+      let z : number_from_digits b (take start ds) ≡ 0 =
+      number_zeros b (take start ds)
       (λ k h.
       let l : k < start = omega (arith, length-take start ds) in
       get_or-take start ds k 0 l ∙ n.before k l) in
       let m : end - start ≤ length (drop start ds) = omega (arith, n.ordered, n.within, length-drop start ds) in
-      let b = number_split 10 (end - start) (drop start ds) m in
-      let y : number_from_digits 10 (drop (end - start) (drop start ds)) ≡ 0 =
-      number_zeros (drop (end - start) (drop start ds))
+      let x = number_split b (end - start) (drop start ds) m in
+      let y : number_from_digits b (drop (end - start) (drop start ds)) ≡ 0 =
+      number_zeros b (drop (end - start) (drop start ds))
       (λ k h. get_or-drop (end - start) (drop start ds) k 0
       ∙ get_or-drop start ds (end - start + k) 0
       ∙ n.after (start + (end - start + k)) (omega (arith, n.ordered))) in
       let k : length (drop start ds) - (end - start) ≡ length ds - end =
       omega (arith, n.ordered, n.within, length-drop start ds) in
-      a ∙ (rw (z, b, y, k) (omega arith))
+      a ∙ (rw (z, x, y, k) (omega arith))
 
   -- they are below ten
   pub middle_below : AllBelowBase 10 ds → AllBelowBase 10 (middle start end ds)
@@ -55,7 +57,7 @@ number_of-middle ds start end a b m n whole few p =
     let e : number_from_digits 10 (middle start end ds) * 10 ^ (offset m + 1 - length (middle start end ds))
     ≡ (number_from_digits 10 (middle start end ds) * 10 ^ (length ds - end)) * 10 ^ (32768 - b) =
     rw (k, pow-add 10 (length ds - end) (32768 - b)) (omega arith) in
-    e ∙ ap (λ x. x * 10 ^ (32768 - b)) (sym (number_middle ds start end n))
+    e ∙ ap (λ x. x * 10 ^ (32768 - b)) (sym (number_middle ds start end n 10))
 
 -- the digits between the zeros are stored as those of a value
 pub stored_middle : (ds : List ℕ) (start end a b : ℕ) (m : ℤ) → IsNonzeroRange ds start end → AllBelowBase 10 ds

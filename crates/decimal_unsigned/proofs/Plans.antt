@@ -6,6 +6,8 @@ use Rattle.decimal_unsigned.proofs.Values.{number_of-pos, first-number_of, last-
 use Rattle.decimal_unsigned.proofs.Shifts.{Moves, moved, multiplied_is}
 use Rattle.decimal_unsigned.specs.Reading.{zeros_trimmed, scaled, value_of}
 use Rattle.decimal_unsigned.specs.ScannedDigits.{digits_of, IsPlan}
+use Rattle.decimal_unsigned.specs.declared.decimal.parse.plan.Bounds.{Bounds}
+use Rattle.decimal_unsigned.specs.declared.decimal.parse.plan.Plan.{Plan}
 use Rattle.decimal_unsigned.proofs.Middle.{number_zeros, middle_length, number_of-middle, stored_middle}
 
 -- a magnitude above 32767 fails the test
@@ -34,6 +36,10 @@ upper_is x h h' e a b = grind (arith, ints, clamps)
 lower_is : (x h h' : ℤ) → h' ≡ (if int_lt x (pos 0) then x else int_min h (pos 0)) → h ≤ℤ x → negsuc 32767 ≤ℤ h
     → (h' ≤ℤ x) × ((negsuc 32767 ≤ℤ h') × (h' ≤ℤ pos 0))
 lower_is x h h' e a b = grind (arith, ints, clamps)
+
+-- the plan of these indices and magnitudes
+abbrev pub plan_at : ℕ → ℕ → ℤ → ℤ → ℤ → Plan
+plan_at start end m hi lo = record { start = start; end = end; bounds = record { magnitude = m; hi = hi; lo = lo } }
 
 none_or_zero : (v : Unsigned) (e : Option ℤ) → v.number ≡ 0 → scaled v e ≡ Ok v
 unfolding scaled
@@ -69,10 +75,10 @@ module _ (w : Literal) (digits : AllDigits 10 (w.whole ++ w.fraction)) (few : le
   -- ---- zero
   -- digits that are all 0 have the value 0, in the written range
   pub makes_zero : ((k : ℕ) → k < length (digits_of w) → get_or (digits_of w) k 0 ≡ 0)
-      → IsPlan w 0 0 (pos 0) (pos (length w.whole - 1)) (pos 0 -ℤ pos (length w.fraction))
+      → IsPlan w (plan_at 0 0 (pos 0) (pos (length w.whole - 1)) (pos 0 -ℤ pos (length w.fraction)))
   makes_zero h =
       let z : digits_value 10 (w.whole ++ w.fraction) ≡ 0 =
-      digits_value_is 10 (w.whole ++ w.fraction) ∙ number_zeros (digits_of w) h in
+      digits_value_is 10 (w.whole ++ w.fraction) ∙ number_zeros 10 (digits_of w) h in
       let n : (mantissa w.whole w.fraction).number ≡ 0 = rw z (omega arith) in
       record {
         ordered = omega arith;
@@ -123,7 +129,7 @@ module _ (w : Literal) (digits : AllDigits 10 (w.whole ++ w.fraction)) (few : le
     -- ---- no exponent
     -- without an exponent the value has these digits in the written range
     pub makes_plain : w.exponent ≡ None
-        → IsPlan w start end m (pos (length w.whole - 1)) (pos 0 -ℤ pos (length w.fraction))
+        → IsPlan w (plan_at start end m (pos (length w.whole - 1)) (pos 0 -ℤ pos (length w.fraction)))
     unfolding scaled
     makes_plain e = record {
       ordered = omega (arith, n.ordered);
@@ -146,7 +152,7 @@ module _ (w : Literal) (digits : AllDigits 10 (w.whole ++ w.fraction)) (few : le
         → low ≡ (pos 0 -ℤ pos (length w.fraction)) +ℤ e → high ≤ℤ pos 32767 → negsuc 32767 ≤ℤ low → m' ≡ top
         → hi' ≡ (if int_lt (pos 0) top then top else int_max high (pos 0))
         → lo' ≡ (if int_lt bottom (pos 0) then bottom else int_min low (pos 0))
-        → IsPlan w start end m' hi' lo'
+        → IsPlan w (plan_at start end m' hi' lo')
     unfolding scaled
     makes_scaled e top bottom high low m' hi' lo' s top_is bottom_is high_is low_is upper lower m_is hi_is lo_is =
         let v = mantissa w.whole w.fraction in
@@ -198,7 +204,9 @@ module _ (w : Literal) (digits : AllDigits 10 (w.whole ++ w.fraction)) (few : le
         }
 
 -- the same of equal magnitudes
-pub is_plan_at : (w : Literal) (start end : ℕ) (m hi lo m' hi' lo' : ℤ) → IsPlan w start end m hi lo → m' ≡ m
-    → hi' ≡ hi → lo' ≡ lo
-    → IsPlan w start end m' hi' lo'
-is_plan_at w start end m hi lo m' hi' lo' k p q r = rw (p, q, r) k
+pub is_plan_at : (w : Literal) (start end : ℕ) (m hi lo : ℤ) (b : Bounds) → IsPlan w (plan_at start end m hi lo)
+    → b.magnitude ≡ m → b.hi ≡ hi → b.lo ≡ lo
+    → IsPlan w (record { start = start; end = end; bounds = b })
+is_plan_at w start end m hi lo b k p q r =
+    let P : Bounds → Type 0 = λ b. IsPlan w (record { start = start; end = end; bounds = b }) in
+    subst P (λ i. record { magnitude = sym p i; hi = sym q i; lo = sym r i }) k

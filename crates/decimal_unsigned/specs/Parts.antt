@@ -1,7 +1,6 @@
 -- Private: used only in the contracts of private functions and in the model of `Scan`.
 -- The parts of a text as the code finds them.
-use Rattle.std.specs.Prelude.{◌≡◌, ℕ, ◌%◌, ◌^◌, List, Option, option_map, ℤ, pos, negsuc, ◌≤ℤ◌}
-use Rattle.std.specs.Str.Parse.{digits_value, digits_value_after}
+use Rattle.std.specs.Prelude.{Option, option_map, ℤ, pos, negsuc, ◌≤ℤ◌}
 use Rattle.std.specs.Int.{int_max, int_min}
 use Rattle.decimal_unsigned.specs.declared.decimal.parse.parts.Parts.{Parts}
 use Rattle.decimal_unsigned.specs.Grammar.{Literal}
@@ -26,11 +25,3 @@ pub record IsSaturated (e : ℤ) : Type 0 where
 -- the parts with their exponent clamped
 abbrev pub saturated_parts : Literal → Literal
 saturated_parts w = record w { exponent = option_map saturated w.exponent }
-
--- the number of the integer digits and then the fraction digits in base 16, modulo 2 ^ 64
-abbrev pub in_base_16 : List ℕ → List ℕ → ℕ
-in_base_16 whole fraction = digits_value_after 16 (digits_value 16 whole) fraction % 2 ^ 64
-
--- the `number` of the parts is that of their digits in base 16
-abbrev pub NumberMatchesDigits : Parts → Type 0
-NumberMatchesDigits p = p.number ≡ in_base_16 p.whole.now p.fraction.now

@@ -1,14 +1,18 @@
 -- Private: used only in the contracts of private functions and in the model of `Scan`.
 -- Which digits of the parts are stored, and their magnitudes.
-use Rattle.std.specs.Prelude.{◌≡◌, ℕ, ◌-◌, ◌≤◌, ◌<◌, List, ◌++◌, length, take, drop, map, slice_index, ℤ, Result, Ok}
+use Rattle.std.specs.Prelude.{◌≡◌, ℕ, ◌+◌, ◌-◌, ◌%◌, ◌^◌, ◌≤◌, ◌<◌, List, ◌++◌, length, take, drop, map, slice_index, Some, None, Result, Ok}
 use Rattle.std.specs.Char.{digit_value}
-use Rattle.std.specs.Str.Parse.{AllDigits}
+use Rattle.std.specs.Str.Parse.{AllDigits, digits_value, digits_value_after}
 use Rattle.decimal_digits.specs.Digits.{number_of}
 use Rattle.decimal_digits.specs.Nibbles.{digits_in, leading_bytes, IsPacked}
+use Rattle.decimal_unsigned.specs.declared.decimal.parse.fast_path.BcdValue.{BcdValue}
+use Rattle.decimal_unsigned.specs.declared.decimal.parse.fast_path.PlainText.{PlainText}
+use Rattle.decimal_unsigned.specs.declared.decimal.parse.plan.Bounds.{Bounds}
+use Rattle.decimal_unsigned.specs.declared.decimal.parse.plan.Plan.{Plan}
 use Rattle.decimal_unsigned.specs.Stored.{IsStored}
 use Rattle.decimal_unsigned.specs.Unsigned.{Unsigned}
 use Rattle.decimal_unsigned.specs.Grammar.{Literal}
-use Rattle.decimal_unsigned.specs.Reading.{ReadError, value_of}
+use Rattle.decimal_unsigned.specs.Reading.{ReadError, parts_of, value_of}
 
 -- all the digits, the integer digits first
 abbrev pub digits_of : Literal → List ℕ
@@ -27,26 +31,53 @@ pub record IsNonzeroRange (ds : List ℕ) (start end : ℕ) : Type 0 where
   pub front : 0 < slice_index ds start
   pub back : 0 < slice_index ds (end - 1)
 
--- the value of these digits, of which the first is at this magnitude
-abbrev pub plan_value : Literal → ℕ → ℕ → ℤ → ℤ → ℤ → Unsigned
-plan_value w start end magnitude hi lo =
-    record { number = number_of (middle start end (digits_of w)) magnitude; hi = hi; lo = lo }
+-- the value of digits, with the magnitude of the first one and the range
+abbrev pub value_within : List ℕ → Bounds → Unsigned
+value_within ds b = record { number = number_of ds b.magnitude; hi = b.hi; lo = b.lo }
 
--- the value of the parts is that of these digits
-pub record IsPlan (w : Literal) (start end : ℕ) (magnitude hi lo : ℤ) : Type 0 where
-  pub ordered : start ≤ end
-  pub within : end ≤ length (digits_of w)
-  pub stored : IsStored (middle start end (digits_of w)) magnitude hi lo
-  pub value : value_of w ≡ Ok (plan_value w start end magnitude hi lo)
+-- the digits from the start to the end of a plan
+abbrev pub planned_digits : Literal → Plan → List ℕ
+planned_digits w p = middle p.start p.end (digits_of w)
 
--- the parts are digits, and their value is that of these
-pub record IsScanned (w : Literal) (start end : ℕ) (magnitude hi lo : ℤ) : Type 0 where
+-- their value
+abbrev pub plan_value : Literal → Plan → Unsigned
+plan_value w p = value_within (planned_digits w p) p.bounds
+
+-- the value of the parts is that of the plan
+pub record IsPlan (w : Literal) (p : Plan) : Type 0 where
+  pub ordered : p.start ≤ p.end
+  pub within : p.end ≤ length (digits_of w)
+  pub stored : IsStored (planned_digits w p) p.bounds.magnitude p.bounds.hi p.bounds.lo
+  pub value : value_of w ≡ Ok (plan_value w p)
+
+-- the parts are digits, and their value is that of the plan
+pub record IsScanned (w : Literal) (p : Plan) : Type 0 where
   pub digits : AllDigits 10 (w.whole ++ w.fraction)
-  pub plan : IsPlan w start end magnitude hi lo
+  pub plan : IsPlan w p
 
--- reading gives the value of the first `len` nibbles of a 64-bit number
-pub record IsBcdValue (reading : Result Unsigned ReadError) (number len : ℕ) (magnitude hi lo : ℤ) : Type 0 where
-  pub packed : IsPacked (leading_bytes number len) len
-  pub stored : IsStored (digits_in (leading_bytes number len) len) magnitude hi lo
-  pub value : reading
-      ≡ Ok (record { number = number_of (digits_in (leading_bytes number len) len) magnitude; hi = hi; lo = lo })
+-- ---- Short texts.
+
+-- the number of the integer digits and then the fraction digits in base 16, modulo 2 ^ 64
+abbrev pub in_base_16 : List ℕ → List ℕ → ℕ
+in_base_16 whole fraction = digits_value_after 16 (digits_value 16 whole) fraction % 2 ^ 64
+
+-- the parts of a text of digits, with or without a decimal point, where the first `whole` are the integer digits
+abbrev pub plain_parts : List ℕ → ℕ → Literal
+plain_parts text whole = record { whole = take whole text; fraction = drop (whole + 1) text; exponent = None }
+
+-- the text is digits, with or without a decimal point, and these are their numbers and their number in base 16
+pub record IsPlainText (text : List ℕ) (p : PlainText) : Type 0 where
+  pub parts : parts_of text ≡ Some (plain_parts text p.whole)
+  pub whole : length (take p.whole text) ≡ p.whole
+  pub fraction : length (drop (p.whole + 1) text) ≡ p.fraction
+  pub number : p.number ≡ in_base_16 (take p.whole text) (drop (p.whole + 1) text)
+
+-- the first `len` nibbles of the number
+abbrev pub bcd_digits : BcdValue → List ℕ
+bcd_digits b = digits_in (leading_bytes b.number b.len) b.len
+
+-- reading gives the value of these nibbles
+pub record IsBcdValue (reading : Result Unsigned ReadError) (b : BcdValue) : Type 0 where
+  pub packed : IsPacked (leading_bytes b.number b.len) b.len
+  pub stored : IsStored (bcd_digits b) b.bounds.magnitude b.bounds.hi b.bounds.lo
+  pub value : reading ≡ Ok (value_within (bcd_digits b) b.bounds)

@@ -1,6 +1,6 @@
 //! The two passes over the end of a list. Both stop at the first digit that is kept, so for each access but the last a
 //! digit is removed. If adding one exceeds the limit, no digit is removed, and each one is read at most once.
-ghost use Rattle.std.specs.Prelude.{◌≡◌, ◌+◌, ◌^◌, ◌<◌, ◌≤◌, length, slice_index, IfSome, IfNone};
+ghost use Rattle.std.specs.Prelude.{◌≡◌, ◌+◌, ◌^◌, ◌<◌, ◌≤◌, [], ◌∷◌, length, slice_index, IfSome, IfNone};
 ghost use Rattle.decimal_digits.specs.Counted.{list_of, accesses_of, Continues, OnlyReads};
 ghost use Rattle.decimal_digits.specs.Digits.{IsStripped};
 ghost use Rattle.decimal_digits.specs.Remainders.{leading};
@@ -22,6 +22,24 @@ pub fn strip_trailing_zeros<D: DigitStore>(counted: &mut Counted<'_, D>)
     let len = counted.len();
     let zeros = counted.count_trailing(len, 0);
     counted.truncate(len - zeros);
+}
+
+/// Replaces the list by one digit.
+///
+/// The first digit is overwritten, which takes less time than clearing the list and appending a digit.
+#[inline]
+pub fn replace_by_digit<D: DigitStore>(counted: &mut Counted<'_, D>, digit: u8)
+    requires { digit < 10 }
+    ensures digits { D.digits (list_of counted.new) ≡ digit ∷ [] }
+    ensures accesses { accesses_of counted.new ≡ accesses_of counted.old + 1 }
+    ensures borrows { Continues counted.old counted.new }
+{
+    if counted.len() == 0 {
+        counted.push_in_room(digit);
+    } else {
+        counted.truncate(1);
+        counted.set(0, digit);
+    }
 }
 
 /// Adds one to the number of the first `places` digits, removes the other digits and the trailing zeros, and returns
@@ -53,8 +71,7 @@ pub fn add_one<D: DigitStore>(
         if places == max_places {
             return None;
         }
-        counted.clear();
-        counted.push_in_room(1);
+        replace_by_digit(counted, 1);
         return Some(places + 1);
     }
     let last = places - nines - 1;

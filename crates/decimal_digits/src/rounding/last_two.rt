@@ -4,6 +4,7 @@ ghost use Rattle.decimal_digits.specs.Counted.{list_of, accesses_of, Continues, 
 ghost use Rattle.decimal_digits.specs.Digits.{IsStripped};
 ghost use Rattle.decimal_digits.specs.Remainders.{leading};
 
+use super::carry::replace_by_digit;
 use crate::digits::{Counted, DigitStore};
 use std::alloc::AllocError;
 
@@ -131,16 +132,16 @@ pub fn write_number<D: DigitStore>(
     if places > max_places {
         return None;
     }
-    counted.clear();
-    if number == 100 {
-        counted.push_in_room(1);
-        return Some(places);
-    }
-    if number >= 10 {
-        counted.push_in_room(number / 10);
-    }
-    if number % 10 != 0 {
-        counted.push_in_room(number % 10);
+    match number {
+        0 => counted.clear(),
+        1..=9 => replace_by_digit(counted, number),
+        10..=99 => {
+            replace_by_digit(counted, number / 10);
+            if number % 10 != 0 {
+                counted.push_in_room(number % 10);
+            }
+        }
+        _ => replace_by_digit(counted, 1),
     }
     Some(places)
 }

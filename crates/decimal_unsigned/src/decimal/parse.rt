@@ -3,9 +3,9 @@ ghost use Rattle.std.specs.Prelude.{◌≡◌, ◌≢◌, ◌+◌, ◌-◌, ◌<
 ghost use Rattle.std.specs.Str.Parse.{AllDigits};
 ghost use Rattle.decimal_digits.specs.Number.{size};
 ghost use Rattle.decimal_unsigned.specs.Grammar.{Literal, Grammar};
-ghost use Rattle.decimal_unsigned.specs.Reading.{value_of, read};
+ghost use Rattle.decimal_unsigned.specs.Reading.{read};
 ghost use Rattle.decimal_unsigned.specs.ParseResult.{ParseFails, IsParseResult, ResultFollowsGrammar, IsPlain, digit_count};
-ghost use Rattle.decimal_unsigned.specs.Parts.{view, IsSaturated, NumberMatchesDigits};
+ghost use Rattle.decimal_unsigned.specs.Parts.{view};
 ghost use Rattle.decimal_unsigned.specs.ScannedDigits.{middle, digits_of};
 
 mod fast_path;
@@ -15,7 +15,7 @@ mod plan;
 use super::UnsignedOver;
 use crate::ParseError;
 use decimal_digits::digits::DigitStore;
-use fast_path::{MAX_FAST_LEN, bcd_value};
+use fast_path::bcd_value;
 pub use parts::numeral;
 use parts::{Parts, split};
 use plan::{Plan, planned};
@@ -39,11 +39,9 @@ impl<'a> Model for Scan<'a> {
 
     ghost Value = { Unsigned };
 
-    ghost view = { λ s. plan_value (found.view s.parts) s.plan.start s.plan.end
-        s.plan.bounds.magnitude s.plan.bounds.hi s.plan.bounds.lo };
+    ghost view = { λ s. plan_value (found.view s.parts) s.plan };
 
-    ghost invariant = { λ s. IsScanned (found.view s.parts) s.plan.start s.plan.end
-        s.plan.bounds.magnitude s.plan.bounds.hi s.plan.bounds.lo };
+    ghost invariant = { λ s. IsScanned (found.view s.parts) s.plan };
 }
 
 impl<'a> Scan<'a> {
@@ -180,20 +178,7 @@ impl<D: DigitStore> UnsignedOver<D> {
     pub fn from_short_text(alloc: Global, text: &[u8]) -> Option<Self>
         ensures { IfSome result (λ v. read text.now ≡ Ok v) }
     {
-        if text.len() > MAX_FAST_LEN {
-            return None;
-        }
-        Self::from_short_parts(alloc, &split(text)?)
-    }
-
-    /// Makes the value of parts with few digits and without an exponent.
-    #[inline(always)]
-    fn from_short_parts(alloc: Global, parts: &Parts<'_>) -> Option<Self>
-        requires digits { AllDigits 10 (parts.now.whole.now ++ parts.now.fraction.now) }
-        requires number { NumberMatchesDigits parts.now }
-        ensures { IfSome result (λ v. value_of (view parts.now) ≡ Ok v) }
-    {
-        let bcd = bcd_value(parts)?;
+        let bcd = bcd_value(text)?;
         if bcd.len > D::L {
             return None;
         }
@@ -214,43 +199,20 @@ impl<D: DigitStore> UnsignedOver<D> {
     fn read_from(alloc: Global, text: &[u8]) -> Result<Self, ParseError>
         ensures { IsParseResult (λ v. D.L < size v.number) result (read text.now) }
     {
-        if text.len() > MAX_FAST_LEN {
-            let value = Self::scan_from(alloc, text)?;
-            return Ok(value);
-        }
-        let Some(written) = split(text) else {
-            return Err(ParseError::Syntax);
-        };
-        if let Some(value) = Self::from_short_parts(alloc, &written) {
+        if let Some(value) = Self::from_short_text(alloc, text) {
             return Ok(value);
         }
         // A `Result` that is forwarded as it is would be copied through memory for a short text too.
-        match Self::from_parts(alloc, written) {
-            Ok(value) => Ok(value),
-            Err(error) => Err(error),
-        }
+        let value = Self::scan_from(alloc, text)?;
+        Ok(value)
     }
 
-    /// Parses a long text.
-    // Not inlined, so that a short text does not test whether it is long.
+    /// Parses any text.
+    // Not inlined: it then has its own stack frame, which a short text does not fill with zeros.
     #[inline(never)]
     fn scan_from(alloc: Global, text: &[u8]) -> Result<Self, ParseError>
         ensures { IsParseResult (λ v. D.L < size v.number) result (read text.now) }
     {
         Ok(Scan::new(text)?.value(alloc)?)
-    }
-
-    /// Makes the value of any parts.
-    // Not inlined: it then has its own stack frame, which a short text does not fill with zeros.
-    #[inline(never)]
-    fn from_parts(alloc: Global, parts: Parts<'_>) -> Result<Self, ParseError>
-        requires digits { AllDigits 10 (parts.whole.now ++ parts.fraction.now) }
-        requires exponent { IfSome parts.exponent IsSaturated }
-        ensures { IsParseResult (λ v. D.L < size v.number) result (value_of (view parts.entry)) }
-    {
-        let Some(plan) = planned(&parts) else {
-            return Err(ParseError::Limit);
-        };
-        Ok((Scan { parts, plan }).value(alloc)?)
     }
 }

@@ -1,21 +1,19 @@
 //! The parts of a text.
-ghost use Rattle.std.specs.Prelude.{◌≡◌, ℕ, ◌+◌, ◌++◌, ◌-◌, ◌%◌, ◌^◌, ◌<◌, ◌≤◌, min, List, [], length, take, drop, map, option_map, pos, slice_index, IfSome, IfNone};
-ghost use Rattle.std.specs.Str.Parse.{AllDigits, digits_value, digits_value_after};
+ghost use Rattle.std.specs.Prelude.{◌≡◌, ℕ, ◌+◌, ◌++◌, ◌-◌, ◌<◌, ◌≤◌, min, length, drop, map, option_map, pos, slice_index, IfSome, IfNone};
+ghost use Rattle.std.specs.Str.Parse.{AllDigits};
 ghost use Rattle.decimal_unsigned.specs.ScannedDigits.{digits_of, middle, IsNonzeroRange};
 ghost use Rattle.std.specs.Char.{is_ascii_digit, digit_value};
 ghost use Rattle.std.specs.List.{prefix_len};
 ghost use Rattle.std.specs.Str.{all_ascii_digits};
 ghost use Rattle.decimal_unsigned.specs.Reading as read;
-ghost use Rattle.decimal_unsigned.specs.Parts.{view, views, saturated, IsSaturated, saturated_parts, in_base_16, NumberMatchesDigits};
+ghost use Rattle.decimal_unsigned.specs.Parts.{view, views, saturated, IsSaturated, saturated_parts};
 
-/// The integer digits, the fraction digits and the exponent, and, for a text below 32 bytes, the number of the digits
-/// in base 16, in 64 bits.
+/// The integer digits, the fraction digits and the exponent.
 #[derive(Clone, Copy, Debug)]
 pub struct Parts<'a> {
     pub whole: &'a [u8],
     pub fraction: &'a [u8],
     pub exponent: Option<i32>,
-    pub number: u64,
 }
 
 /// The number of bytes that are tested at once.
@@ -46,41 +44,27 @@ fn grouped_digit_count(text: &[u8]) -> usize
     count
 }
 
-/// Counts the leading digits and, for a text below 32 bytes, returns the base-16 number of the digits of `before` and
-/// then these.
+/// Counts the leading digits.
 #[inline]
-fn count_digits(before: u64, text: &[u8]) -> (usize, u64)
-    ensures count { result.0 ≡ prefix_len is_ascii_digit text.now }
-    ensures number { length text.now < 32
-        → result.1 ≡ digits_value_after 16 before (take result.0 text.now) % 2 ^ 64 }
+fn count_digits(text: &[u8]) -> usize
+    ensures { result ≡ prefix_len is_ascii_digit text.now }
 {
-    let grouped = if text.len() < GROUP {
-        0
-    } else {
-        grouped_digit_count(text)
-    };
-    let mut number = before;
+    let grouped = grouped_digit_count(text);
     for i in grouped..text.len() {
         if !text[i].is_ascii_digit() {
-            return (i, number);
+            return i;
         }
-        number = number
-            .wrapping_mul(16)
-            .wrapping_add(u64::from(text[i] - b'0'));
     }
-    (text.len(), number)
+    text.len()
 }
 
-/// Splits a text after its leading digits, with the number of `count_digits`.
-#[inline(always)]
-fn split_digits(before: u64, text: &[u8]) -> (&[u8], &[u8], u64)
+/// Splits a text after its leading digits.
+#[inline]
+fn split_digits(text: &[u8]) -> (&[u8], &[u8])
     ensures digits { result.0.now ≡ read.leading_digits text.now }
     ensures rest { result.1.now ≡ read.after_digits text.now }
-    ensures number { length text.now < 32 → result.2 ≡ digits_value_after 16 before result.0.now % 2 ^ 64 }
 {
-    let (count, number) = count_digits(before, text);
-    let (digits, rest) = text.split_at(count);
-    (digits, rest, number)
+    text.split_at(count_digits(text))
 }
 
 /// Returns the number of a text of digits, or `most` if it is greater.
@@ -114,8 +98,6 @@ fn unsigned(text: &[u8]) -> Option<i32>
 }
 
 /// Returns the exponent of a text with at most one sign, clamped to -70,000 to 70,000.
-// Not inlined, and its result is in a register: a short text needs no exponent.
-#[inline(never)]
 #[tactic(auto, unfolding(crate::specs::Reading::exponent_of))]
 fn exponent(text: &[u8]) -> Option<i32>
     ensures { result ≡ option_map saturated (read.exponent_of text.now) }
@@ -133,67 +115,58 @@ fn exponent(text: &[u8]) -> Option<i32>
 fn with_exponent<'a>(
     whole: &'a [u8],
     fraction: &'a [u8],
-    number: u64,
     text: &[u8],
 ) -> Option<Parts<'a>>
-    ensures parts { views result ≡ option_map saturated_parts (read.with_exponent whole.now fraction.now text.now) }
-    ensures number { number ≡ in_base_16 whole.now fraction.now → IfSome result NumberMatchesDigits }
+    ensures { views result ≡ option_map saturated_parts (read.with_exponent whole.now fraction.now text.now) }
 {
     let exponent = exponent(text)?;
     Some(Parts {
         whole,
         fraction,
         exponent: Some(exponent),
-        number,
     })
 }
 
 /// Returns the parts, where the text is what follows the fraction digits.
-#[inline(always)]
+#[inline]
 #[tactic(auto, unfolding(crate::specs::Reading::after_fraction))]
 fn after_fraction<'a>(
     whole: &'a [u8],
     fraction: &'a [u8],
-    number: u64,
     text: &[u8],
 ) -> Option<Parts<'a>>
-    ensures parts { views result ≡ option_map saturated_parts (read.after_fraction whole.now fraction.now text.now) }
-    ensures number { number ≡ in_base_16 whole.now fraction.now → IfSome result NumberMatchesDigits }
+    ensures { views result ≡ option_map saturated_parts (read.after_fraction whole.now fraction.now text.now) }
 {
     match text {
         [] if !fraction.is_empty() => Some(Parts {
             whole,
             fraction,
             exponent: None,
-            number,
         }),
-        [b'e' | b'E', rest @ ..] => with_exponent(whole, fraction, number, rest),
+        [b'e' | b'E', rest @ ..] => with_exponent(whole, fraction, rest),
         _ => None,
     }
 }
 
 /// Returns the parts, where the text is what follows the integer digits.
-#[inline(always)]
+#[inline]
 #[tactic(auto, unfolding(crate::specs::Reading::after_whole))]
-fn after_whole<'a>(whole: &'a [u8], number: u64, text: &'a [u8]) -> Option<Parts<'a>>
-    ensures parts { views result ≡ option_map saturated_parts (read.after_whole whole.now text.now) }
-    ensures number { length text.now < 32 → number ≡ in_base_16 whole.now [] → IfSome result NumberMatchesDigits }
+fn after_whole<'a>(whole: &'a [u8], text: &'a [u8]) -> Option<Parts<'a>>
+    ensures { views result ≡ option_map saturated_parts (read.after_whole whole.now text.now) }
 {
     match text {
         [] if !whole.is_empty() => Some(Parts {
             whole,
             fraction: &text[..0],
             exponent: None,
-            number,
         }),
         [b'.', rest @ ..] => {
-            let (fraction, rest, number) = split_digits(number, rest);
-            after_fraction(whole, fraction, number, rest)
+            let (fraction, rest) = split_digits(rest);
+            after_fraction(whole, fraction, rest)
         }
         [b'e' | b'E', rest @ ..] if !whole.is_empty() => with_exponent(
             whole,
             &text[..0],
-            number,
             rest,
         ),
         _ => None,
@@ -201,17 +174,14 @@ fn after_whole<'a>(whole: &'a [u8], number: u64, text: &'a [u8]) -> Option<Parts
 }
 
 /// Returns the parts of the text, if it is in the grammar.
-// Inlined into its caller, as are its callees, so that the parts of a short text stay in registers.
-#[inline(always)]
 #[tactic(auto, unfolding(crate::specs::Reading::parts_of))]
 pub fn split(text: &[u8]) -> Option<Parts<'_>>
     ensures parts { views result ≡ option_map saturated_parts (read.parts_of text.now) }
     ensures digits { IfSome result (λ p. AllDigits 10 (p.whole.now ++ p.fraction.now)) }
     ensures exponent { IfSome result (λ p. IfSome p.exponent IsSaturated) }
-    ensures number { length text.now < 32 → IfSome result NumberMatchesDigits }
 {
-    let (whole, rest, number) = split_digits(0, text);
-    after_whole(whole, number, rest)
+    let (whole, rest) = split_digits(text);
+    after_whole(whole, rest)
 }
 
 impl Parts<'_> {

@@ -79,8 +79,7 @@ fn plan_with_exponent(parts: &Parts<'_>, start: usize, end: usize, exponent: i32
     requires exponent { parts.now.exponent ≡ Some exponent }
     requires saturated { IsSaturated exponent }
     ensures none { IfNone result (value_of (view parts.now) ≡ Err limit) }
-    ensures some { IfSome result
-        (λ p. IsPlan (view parts.now) p.start p.end p.bounds.magnitude p.bounds.hi p.bounds.lo) }
+    ensures some { IfSome result (IsPlan (view parts.now)) }
 {
     let whole = parts.whole.len();
     let hi = shift_magnitude(subtract_counts(whole.max(1), 1), exponent);
@@ -104,8 +103,7 @@ pub fn planned(parts: &Parts<'_>) -> Option<Plan>
     requires digits { AllDigits 10 (parts.now.whole.now ++ parts.now.fraction.now) }
     requires exponent { IfSome parts.now.exponent IsSaturated }
     ensures none { IfNone result (value_of (view parts.now) ≡ Err limit) }
-    ensures some { IfSome result
-        (λ p. IsPlan (view parts.now) p.start p.end p.bounds.magnitude p.bounds.hi p.bounds.lo) }
+    ensures some { IfSome result (IsPlan (view parts.now)) }
 {
     let whole = parts.whole.len();
     if whole > 32768 {

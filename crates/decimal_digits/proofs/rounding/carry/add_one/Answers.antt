@@ -13,7 +13,7 @@ pub returns-then-nines-places-clause-value : goal.returns-then-nines-places-clau
 returns-then-nines-places-clause-value g c =
     let ds = g.D.DigitStore.digits c.args.counted.now.list.now in
     let nine = leading_carry c.args.places ds (λ i h. c.count_trailing-nines.ensures.equal i (omega arith) h) in
-    rw (c.push_in_room.ensures.digits, c.clear.ensures.digits) (nine.1 ∙ sym nine.0)
+    rw c.replace_by_digit.ensures.digits (nine.1 ∙ sym nine.0)
 
 pub returns-clause-value : goal.returns-clause-value
 returns-clause-value g c =

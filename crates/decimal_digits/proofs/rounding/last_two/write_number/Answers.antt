@@ -1,10 +1,7 @@
 use Rattle.std.proofs.Common.{◌^◌, ◌-◌, ◌≤◌, arith}
 use Rattle.std.proofs.Math.Nat.{pow-le-pow_right}
 use Rattle.decimal_digits.specs.Digits.{number_at}
-use Rattle.decimal_digits.proofs.Nibbles.{nibble_rules}
-use Rattle.decimal_digits.proofs.Leading.{leading_few}
 use Rattle.decimal_digits.proofs.rounding.last_two.write_number.Goals as goal
-use Rattle.decimal_digits.proofs.rounding.last_two.write_number.Goals.{then-number-ge10, else-number-ge10}
 
 pub returns-then-places-max_places-clause-full : goal.returns-then-places-max_places-clause-full
 returns-then-places-max_places-clause-full g c =
@@ -12,28 +9,36 @@ returns-then-places-max_places-clause-full g c =
     pow-le-pow_right (omega arith) (omega arith) in
     omega (arith, c.digit_count-places.ensures.least)
 
-pub returns-then-number-eq100-clause-value : goal.returns-then-number-eq100-clause-value
+pub returns-in-0-clause-value : goal.returns-in-0-clause-value
 unfolding number_at
-returns-then-number-eq100-clause-value g c =
+returns-in-0-clause-value g c =
+    rw (c.clear.ensures.digits, c.digit_count-places.ensures.none c.in-0.is) (omega (arith, c.in-0.is))
+
+pub returns-in-1-to-9-clause-value : goal.returns-in-1-to-9-clause-value
+unfolding number_at
+returns-in-1-to-9-clause-value g c =
+    rw (c.replace_by_digit.ensures.digits, c.digit_count-places.ensures.one (omega arith) (omega arith)) (omega arith)
+
+pub returns-then-number-ne0-clause-value : goal.returns-then-number-ne0-clause-value
+unfolding number_at
+returns-then-number-ne0-clause-value g c =
     rw (
       c.push_in_room.ensures.digits,
-      c.clear.ensures.digits,
-      c.digit_count-places.ensures.three c.if-number-eq100.true,
+      c.replace_by_digit-in-10-to-99.ensures.digits,
+      c.digit_count-places.ensures.two_digits (omega arith) (omega arith),
     )
     (omega arith)
 
-pub returns-then-number-ne0-clause-value : goal.returns-then-number-ne0-clause-value
-returns-then-number-ne0-clause-value g c =
-    let few = leading_few (g.D.DigitStore.digits c.push_in_room-then-number-ne0.new.self.list.now) in
-    elim c.if-number-ge10.branch [
-      | then-number-ge10 w ↦ grind (arith, nibble_rules, c.digit_count-places.ensures)
-      | else-number-ge10 w ↦ grind (arith, nibble_rules, c.digit_count-places.ensures)
-    ]
-
 pub returns-else-number-ne0-clause-value : goal.returns-else-number-ne0-clause-value
+unfolding number_at
 returns-else-number-ne0-clause-value g c =
-    let few = leading_few (g.D.DigitStore.digits c.if-number-ge10.counted.list.now) in
-    elim c.if-number-ge10.branch [
-      | then-number-ge10 w ↦ grind (arith, nibble_rules, c.digit_count-places.ensures)
-      | else-number-ge10 w ↦ grind (arith, nibble_rules, c.digit_count-places.ensures)
-    ]
+    rw (
+      c.replace_by_digit-in-10-to-99.ensures.digits,
+      c.digit_count-places.ensures.two_digits (omega arith) (omega arith),
+    )
+    (omega arith)
+
+pub returns-in_default-clause-value : goal.returns-in_default-clause-value
+unfolding number_at
+returns-in_default-clause-value g c =
+    rw (c.replace_by_digit-in_default.ensures.digits, c.digit_count-places.ensures.three (omega arith)) (omega arith)

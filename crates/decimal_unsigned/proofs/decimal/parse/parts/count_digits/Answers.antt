@@ -1,56 +1,26 @@
-use Rattle.decimal_unsigned.proofs.Common.{◌≤◌, ◌%◌, ◌^◌, length, sym, ◌∙◌, ap, arith, is_ascii_digit, take_all, digits_value_after}
+use Rattle.decimal_unsigned.proofs.Common.{sym, ◌∙◌, arith, is_ascii_digit}
 use Rattle.std.proofs.lemmas.List.Sums.{prefix_len-drop_yes, prefix_len-drop_no, prefix_len-drop_all}
-use Rattle.decimal_unsigned.proofs.BcdValues.{number_more}
 use Rattle.decimal_unsigned.proofs.decimal.parse.parts.count_digits.Goals as goal
-use Rattle.decimal_unsigned.proofs.decimal.parse.parts.count_digits.Goals.{then-text-lt-GROUP, else-text-lt-GROUP}
-
-pub loop-i-init : goal.loop-i-init
-loop-i-init c = record {
-  count = elim c.if-text-lt-GROUP.branch [
-    | then-text-lt-GROUP w ↦ rw w.grouped-is (omega arith)
-    | else-text-lt-GROUP w ↦ rw w.grouped-is w.grouped_digit_count-grouped.ensures.digits
-  ];
-  number = λ few. elim c.if-text-lt-GROUP.branch [
-    | then-text-lt-GROUP w ↦ rw w.grouped-is (omega (arith, c.ranges.before.fits))
-    | else-text-lt-GROUP w ↦ absurd (omega (arith, w.if-text-lt-GROUP.false))
-  ];
-}
 
 pub loop-i-preserved : goal.loop-i-preserved
 loop-i-preserved c =
-    let text = c.args.text.now in
     let d = sym c.is_ascii_digit.ensures.value ∙ c.if-not-is_ascii_digit.false in
-    record {
-      count =
-          omega (
-            arith,
-            prefix_len-drop_yes is_ascii_digit text c.loop-i.i 0 c.loop-i-test.true d,
-            c.loop-i.invariant.count,
-          );
-      number = λ few.
-          rw c.from.ensures
-          (number_more c.args.before c.loop-i.number c.loop-i.i text c.loop-i-test.true d
-          (c.loop-i.invariant.number few));
-    }
+    omega (
+      arith,
+      prefix_len-drop_yes is_ascii_digit c.args.text.now c.loop-i.i 0 c.loop-i-test.true d,
+      c.loop-i.invariant,
+    )
 
-pub returns-then-not-is_ascii_digit-clause-count : goal.returns-then-not-is_ascii_digit-clause-count
-returns-then-not-is_ascii_digit-clause-count c =
+pub returns-then-not-is_ascii_digit : goal.returns-then-not-is_ascii_digit
+returns-then-not-is_ascii_digit c =
     let d = sym c.is_ascii_digit.ensures.value ∙ c.if-not-is_ascii_digit.true in
     omega (
       arith,
       prefix_len-drop_no is_ascii_digit c.args.text.now c.loop-i.i 0 c.loop-i-test.true d,
-      c.loop-i.invariant.count,
+      c.loop-i.invariant,
     )
 
 pub returns : goal.returns
 returns c =
-    let text = c.args.text.now in
-    let none = prefix_len-drop_all is_ascii_digit text c.loop-i.i c.loop-i-test.false in
-    let within : c.if-text-lt-GROUP.grouped ≤ length text =
-    elim c.if-text-lt-GROUP.branch [ then-text-lt-GROUP w ↦ omega arith | else-text-lt-GROUP w ↦ omega arith ] in
-    let all = take_all c.loop-i.i text c.loop-i-test.false ∙ sym (take_all (length text) text (omega arith)) in
-    record {
-      count = omega (arith, c.loop-i.invariant.count, none);
-      number = λ few.
-          c.loop-i.invariant.number few ∙ ap (λ t. digits_value_after 16 c.args.before t % 2 ^ 64) all;
-    }
+    let none = prefix_len-drop_all is_ascii_digit c.args.text.now c.loop-i.i c.loop-i-test.false in
+    omega (arith, c.loop-i.invariant, none)

@@ -4,4 +4,4 @@ use Rattle.decimal_unsigned.proofs.decimal.parse.parts.split_digits.Goals as goa
 
 pub split_at-requires : goal.split_at-requires
 split_at-requires c =
-    omega (arith, c.count_digits-count.ensures.count, prefix_len-le-length is_ascii_digit c.args.text.now)
+    omega (arith, c.count_digits.ensures, prefix_len-le-length is_ascii_digit c.args.text.now)

@@ -12,12 +12,12 @@ pub returns-in_default-clause-some : goal.returns-in_default-clause-some
 returns-in_default-clause-some c =
     let k = makes_zero (view c.args.parts.now) c.requires.digits c.if-whole-gt32768.false c.if-fraction-gt32768.false
     (λ k h. c.in_default.ensures.none k) in
-    is_plan_at _ 0 0 _ _ _ _ _ _ k (omega (arith, ints, c.to_bounds.ensures.magnitude))
+    is_plan_at _ 0 0 _ _ _ _ k (omega (arith, ints, c.to_bounds.ensures.magnitude))
     (omega (arith, ints, c.to_bounds.ensures.hi)) (omega (arith, ints, c.to_bounds.ensures.lo))
 
 pub returns-in-None-clause-some : goal.returns-in-None-clause-some
 returns-in-None-clause-some c =
     let k = makes_plain (view c.args.parts.now) c.requires.digits c.if-whole-gt32768.false c.if-fraction-gt32768.false
     c.in-Some.start c.in-Some.end c.in-Some.ensures.some _ refl c.in-None.is in
-    is_plan_at _ _ _ _ _ _ _ _ _ k (omega (arith, ints, c.to_bounds-in-None.ensures.magnitude))
+    is_plan_at _ _ _ _ _ _ _ k (omega (arith, ints, c.to_bounds-in-None.ensures.magnitude))
     (omega (arith, ints, c.to_bounds-in-None.ensures.hi)) (omega (arith, ints, c.to_bounds-in-None.ensures.lo))
