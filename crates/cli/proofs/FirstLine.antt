@@ -1,7 +1,12 @@
 -- The first line of bytes, and the others.
-use Rattle.std.proofs.Common.{◌≡◌, ◌≢◌, ℕ, List, [], ◌∷◌, refl, arith}
-use Rattle.std.specs.Io.BufRead.{take_through, drop_through, strip_last, first_piece}
+use Rattle.std.proofs.Common.{◌≡◌, ◌≢◌, ℕ, zero, suc, ◌+◌, ◌<◌, ◌≤◌, true, List, [], ◌∷◌, ◌++◌, length, take, drop, slice_index, Option, Some, None, IfSome, refl, sym, ap, subst, ◌∙◌, arith, add-one, eq-eqb, ne_eqb, le_of_suc-le-suc, suc-le-suc, zero-lt-suc, eqb-true, take-append-drop, length-append}
+use Rattle.std.specs.Io.{StartsWith}
+use Rattle.std.specs.Io.KnownBytes.{Keeps}
+use Rattle.std.specs.Io.BufRead.{take_through, drop_through, strip_last, first_piece, DropsConsumable}
+use Rattle.std.proofs.lemmas.Bool.{cond-true, cond-false}
 use Rattle.std.proofs.lemmas.Grind.{common_steps}
+use Rattle.memchr.specs.Find.{IsFirstByte, is_byte}
+use Rattle.cli.specs.FilterLine.{IsRead}
 use Rattle.cli.specs.Lines.{lines_of}
 
 -- a byte before other bytes does not change how they end
@@ -20,3 +25,46 @@ lines_first [] some = absurd (some refl)
 lines_first (x ∷ []) some = grind (arith, common_steps)
 lines_first (x ∷ y ∷ ys) some =
     grind (arith, common_steps, piece_more x y ys, lines_first (y ∷ ys) (λ e. cc))
+
+-- the first line of bytes is those before the first line feed
+line_at :
+    (xs rest : List ℕ) (i : ℕ) → i < length xs → ((k : ℕ) → k < i → slice_index xs k ≢ 10) → slice_index xs i ≡ 10
+    → (first_piece 10 (xs ++ rest) ≡ take i xs) × (drop_through 10 (xs ++ rest) ≡ drop (suc i) (xs ++ rest))
+line_at [] rest i inside before here = absurd (omega arith)
+line_at (x ∷ xs) rest zero inside before here =
+    let first = eq-eqb x 10 here in
+    (ap (strip_last 10) (cond-true _ _ _ first) ∙ cond-true _ _ _ first, cond-true _ _ _ first)
+line_at (x ∷ []) rest (suc i) inside before here = absurd (omega arith)
+line_at (x ∷ y ∷ ys) rest (suc i) inside before here =
+    let other = ne_eqb x 10 (before 0 (zero-lt-suc i)) in
+    let (line, left) = line_at (y ∷ ys) rest i (le_of_suc-le-suc inside) (λ k l. before (suc k) (suc-le-suc l)) here in (
+      ap (strip_last 10) (cond-false _ _ _ other) ∙ piece_more x y (ys ++ rest) ∙ ap (λ l. x ∷ l) line,
+      cond-false _ _ _ other ∙ left,
+    )
+
+fits_less : (limit : Option ℕ) (m n : ℕ) → m ≤ n → IfSome limit (λ k. n ≤ k) → IfSome limit (λ k. m ≤ k)
+fits_less None m n less fits = tt
+fits_less (Some k) m n less fits = omega arith
+
+-- the next line of a reader is in the block that it shows, before the first line feed
+pub next_in_block :
+    (a b c : Option (List ℕ)) (limit : Option ℕ) (block : List ℕ) (i : ℕ) → IsFirstByte (is_byte 10) block (Some i)
+    → IfSome a (λ xs. StartsWith xs block) → Keeps a b → IfSome a (λ _. IfSome limit (λ n. length block ≤ n))
+    → DropsConsumable b c limit (i + 1) → IfSome a (λ bytes. IsRead true bytes (take i block) c)
+next_in_block None b c limit block i found front kept fits drops = tt
+next_in_block (Some xs) None c limit block i found front kept fits drops = absurd kept
+next_in_block (Some xs) (Some ys) c limit block i (first, here) front kept fits drops =
+    let inside : i < length block = first.high in
+    let rest = drop (length block) xs in
+    let parts : xs ≡ block ++ rest =
+    sym (take-append-drop (length block) xs) ∙ ap (λ t. t ++ rest) front in
+    let (line, left) = line_at block rest i inside (λ k l e. first.before k (omega arith) l (eq-eqb _ _ e))
+    (eqb-true _ _ here) in
+    let some : xs ≢ [] = λ none. absurd (omega (arith, inside, ap length parts, ap length none, length-append block rest)) in
+    (
+      some,
+      sym (ap (first_piece 10) parts ∙ line),
+      drops (fits_less limit (i + 1) (length block) (omega arith) fits)
+          ∙ ap (λ t. Some (drop (i + 1) t)) (kept ∙ parts)
+          ∙ ap Some (ap (λ n. drop n (block ++ rest)) (add-one i) ∙ sym left ∙ ap (drop_through 10) (sym parts)),
+    )

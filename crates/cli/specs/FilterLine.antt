@@ -1,24 +1,81 @@
--- One line, and the words before the calls.
-use Rattle.std.specs.Prelude.{◌≡◌, ◌≢◌, ℕ, Bool, true, false, List, [], ◌∷◌, codes, String, string_bytes, Option, Some, is_ok}
+-- One line: its result, how it is read, and its errors.
+use Rattle.std.specs.Prelude.{◌≡◌, ◌≢◌, ◌⊎◌, ℕ, Bool, true, false, List, [], ◌∷◌, ◌++◌, Option, Some, None, Result, Ok, Err, is_ok, IfSome}
+use Rattle.std.specs.List.{FoldsTo}
+use Rattle.std.specs.Io.KnownBytes.{Appends}
 use Rattle.std.specs.Io.BufRead.{first_piece, drop_through}
 use Rattle.std.specs.IoError.{error_kind}
 use Rattle.std.specs.declared.io.Error.{Error}
 use Rattle.std.specs.declared.io.ErrorKind.TheVariants.{OutOfMemory}
-use Rattle.std.specs.declared.alloc.Global.{Global}
-use Rattle.fixed_decimal.specs.declared.runs.Call.{Call}
-use Rattle.fixed_decimal.specs.Outcome.{outcome}
+use Rattle.decimal_digits.specs.AppendsPrefix.{AppendsPrefix}
+use Rattle.decimal_unsigned.specs.Reading.{syntax, limit}
+use Rattle.fixed_decimal.specs.Outcome.{OutcomeError, outcome, start, operand, overlap, limit_exceeded}
+use Rattle.cli.specs.declared.error.Reason.TheVariants as reason
+use Rattle.cli.specs.declared.error.OperationError.{OperationError}
 use Rattle.cli.specs.declared.error.OperationError.TheVariants as operation
 use Rattle.cli.specs.declared.error.FilterError.{FilterError}
 use Rattle.cli.specs.declared.error.FilterError.TheVariants.{Operation, LongLine, Input, Output}
-use Rattle.cli.specs.declared.filter.OnError.{OnError}
+use Rattle.cli.specs.declared.filter.Filter.{Filter}
 use Rattle.cli.specs.declared.filter.OnError.TheVariants.{Stop, Skip}
 use Rattle.cli.specs.Errors.{status_of_operation}
 use Rattle.cli.specs.Fixdec.{OperationsFail}
+
+-- ---- The result of a line.
+
+-- an error of a run as an error of the programs
+abbrev pub error_of : OutcomeError → OperationError
+error_of (start syntax) = operation.Start reason.Syntax
+error_of (start limit) = operation.Start reason.Limit
+error_of (operand at syntax) = operation.Operand at reason.Syntax
+error_of (operand at limit) = operation.Operand at reason.Limit
+error_of (overlap at) = operation.Overlap at
+error_of (limit_exceeded at) = operation.Overflow at
+
+-- the outcome of a run on the line with this number
+abbrev pub result_of_run : ℕ → Result (List ℕ) OutcomeError → Result (List ℕ) FilterError
+result_of_run number (Ok text) = Ok text
+result_of_run number (Err why) = Err (Operation number (error_of why))
+
+-- the text of the line with this number, or its error
+abbrev pub result_of_line : Filter → ℕ → List ℕ → Result (List ℕ) FilterError
+result_of_line filter number line = result_of_run number (outcome line filter.calls.now)
+
+-- the output of a line: its text and a line feed, or an empty line if it has none
+abbrev pub output_of_line : Result (List ℕ) FilterError → List ℕ
+output_of_line (Ok text) = text ++ (10 ∷ [])
+output_of_line (Err error) = 10 ∷ []
+
+-- the errors of a line: one if it has no text
+abbrev pub errors_of_line : Result (List ℕ) FilterError → List FilterError
+errors_of_line (Ok text) = []
+errors_of_line (Err error) = error ∷ []
+
+-- ---- What a filter changes.
+
+-- a value before and after
+pub record Change (A : Type 0) : Type 0 where
+  pub before : A
+  pub after : A
+
+-- what is left of the input, what was written and the diagnostics, before and after
+pub record Effects (D : Type 0) : Type 0 where
+  pub input : Change (Option (List ℕ))
+  pub output : Change (Option (List ℕ))
+  pub diagnostics : Change D
+
+-- ---- The next line.
 
 -- the first line of the bytes was read and these bytes are left, or there is none
 abbrev pub IsRead : Bool → List ℕ → List ℕ → Option (List ℕ) → Type 0
 IsRead true bytes line rest = (bytes ≢ []) × (line ≡ first_piece 10 bytes) × (rest ≡ Some (drop_through 10 bytes))
 IsRead false bytes line rest = (bytes ≡ []) × (rest ≡ Some [])
+
+-- the next line of an input whose bytes are known is this
+abbrev pub IsNextLine : Change (Option (List ℕ)) → List ℕ → Type 0
+IsNextLine input line = IfSome input.before (λ bytes. IsRead true bytes line input.after)
+
+-- an input whose bytes are known has no next line
+abbrev pub HasNoLine : Change (Option (List ℕ)) → Type 0
+HasNoLine input = IfSome input.before (λ bytes. IsRead false bytes [] input.after)
 
 -- the error is that of reading the line with this number: out of memory for it, or else a failed input
 abbrev pub IsErrorOfReading : ℕ → Error → FilterError → Type 0
@@ -27,16 +84,41 @@ IsErrorOfReading number error Input = error_kind error ≢ OutOfMemory
 IsErrorOfReading number error _ = ⊥
 
 -- the error is that of the run of the line with this number, with `Skip` only out of memory; or of the output
-abbrev pub IsErrorOfLine : OnError → ℕ → List ℕ → List Call → FilterError → Type 0
-IsErrorOfLine on_error number line calls (Operation at error) =
-    (at ≡ number) × (on_error ≡ Skip → status_of_operation error ≢ 1) × (error ≢ operation.Output)
-    × OperationsFail error line calls
-IsErrorOfLine on_error number line calls Output = on_error ≡ Stop → is_ok (outcome line calls) ≡ true
-IsErrorOfLine on_error number line calls _ = ⊥
+abbrev pub IsErrorOfLine : Filter → ℕ → List ℕ → FilterError → Type 0
+IsErrorOfLine filter number line (Operation at error) =
+    (at ≡ number) × (filter.on_error ≡ Skip → status_of_operation error ≢ 1) × (error ≢ operation.Output)
+    × OperationsFail error line filter.calls.now
+IsErrorOfLine filter number line Output = filter.on_error ≡ Stop → is_ok (result_of_line filter number line) ≡ true
+IsErrorOfLine filter number line _ = ⊥
 
--- the first word is `skip` and these are the others, or it is another and these are all
-abbrev pub IsSplit : List (String Global) → OnError → List (String Global) → Type 0
-IsSplit [] Skip others = ⊥
-IsSplit (first ∷ words) Skip others = (string_bytes first ≡ codes "skip") × (others ≡ words)
-IsSplit [] Stop others = others ≡ []
-IsSplit (first ∷ words) Stop others = (string_bytes first ≢ codes "skip") × (others ≡ first ∷ words)
+-- ---- What a filter does to a line.
+
+-- nothing was written, and nothing was reported
+abbrev pub IsSilent : {D : Type 0} → Effects D → Type 0
+IsSilent effects =
+    (effects.output.after ≡ effects.output.before) × (effects.diagnostics.after ≡ effects.diagnostics.before)
+
+module _ {D : Type 0} (reports : D → FilterError → D → Type 0) (filter : Filter) (number : ℕ) where
+  -- the line with this number was filtered, and this was returned: whether it has a text, after its output and its
+  -- errors; or an error, at `Output` after a prefix of its output
+  abbrev pub FiltersLine : List ℕ → Effects D → Result Bool FilterError → Type 0
+  FiltersLine line effects (Ok has_text) =
+      Appends effects.output.before effects.output.after (output_of_line (result_of_line filter number line))
+      × FoldsTo reports effects.diagnostics.before (errors_of_line (result_of_line filter number line))
+      effects.diagnostics.after
+      × (has_text ≡ is_ok (result_of_line filter number line)) × (filter.on_error ≡ Stop → has_text ≡ true)
+  FiltersLine line effects (Err error) =
+      IsErrorOfLine filter number line error × (error ≢ Output → IsSilent effects)
+      × (error ≡ Output
+      → AppendsPrefix effects.output.before effects.output.after (output_of_line (result_of_line filter number line))
+      × FoldsTo reports effects.diagnostics.before (errors_of_line (result_of_line filter number line))
+      effects.diagnostics.after)
+
+  -- the next line was filtered; or there is none; or it could not be read
+  abbrev pub FiltersNext : Effects D → Result (Option Bool) FilterError → Type 0
+  FiltersNext effects (Ok None) = HasNoLine effects.input × IsSilent effects
+  FiltersNext effects (Ok (Some has_text)) =
+      (line : List ℕ) × IsNextLine effects.input line × FiltersLine line effects (Ok has_text)
+  FiltersNext effects (Err error) =
+      ((line : List ℕ) × IsNextLine effects.input line × FiltersLine line effects (Err error))
+      ⊎ (((why : Error) × IsErrorOfReading number why error) × IsSilent effects)

@@ -1,17 +1,18 @@
 //! The filter: the calls on each line of an input.
-ghost use Rattle.std.specs.Prelude.{◌≡◌, ◌≢◌, Ok, Err, true, is_ok, IfOk, IfErr, IfSome, OnOk};
+ghost use Rattle.std.specs.Prelude.{◌≡◌, ◌≢◌, Ok, Err, Some, true, is_ok, IfOk, IfErr, IfSome, OnOk};
 ghost use Rattle.std.specs.List.{FoldsTo};
 ghost use Rattle.std.specs.Io.KnownBytes.{Appends, IsAtEnd};
 ghost use Rattle.std.specs.Io.BufRead.{strip_last};
 ghost use Rattle.decimal_digits.specs.AppendsPrefix.{AppendsPrefix};
-ghost use Rattle.fixed_decimal.specs.Outcome.{outcome};
-ghost use Rattle.cli.specs.Lines.{output_of_line, errors_of_line, Filters, IsConsumed};
-ghost use Rattle.cli.specs.FilterLine.{IsRead, IsErrorOfLine, IsErrorOfReading};
+ghost use Rattle.cli.specs.FilterLine.{IsRead, IsErrorOfLine, IsErrorOfReading, FiltersNext};
+ghost use Rattle.cli.specs.FilterLine.{result_of_line, output_of_line, errors_of_line};
+ghost use Rattle.cli.specs.Lines.{Filters, IsConsumed};
 
 use crate::diagnostics::Diagnostics;
 use crate::error::{FilterError, OperationError};
 use crate::fixdec::print_run;
 use fixed_decimal::{Call, Sink};
+use memchr::memchr;
 use std::alloc::Global;
 use std::io;
 use std::io::{BufRead, ErrorKind};
@@ -23,6 +24,15 @@ pub enum OnError {
     Stop,
     /// It reports the error, writes an empty line, and goes on.
     Skip,
+}
+
+/// What a filter does to each line of an input.
+#[derive(Clone, Copy, Debug)]
+pub struct Filter<'a> {
+    /// What it does at a line whose run fails.
+    pub on_error: OnError,
+    /// The calls on each line, in order.
+    pub calls: &'a [Call<'a>],
 }
 
 /// Removes a trailing line feed.
@@ -63,28 +73,27 @@ fn error_of_reading(line: u64, error: &io::Error) -> FilterError
 /// run is reported, and an empty line is written.
 fn filter_line<W: Sink, D: Diagnostics<FilterError>>(
     alloc: Global,
-    on_error: OnError,
+    filter: &Filter<'_>,
     number: u64,
     line: &[u8],
-    calls: &[Call<'_>],
     out: &mut W,
     diagnostics: &mut D,
 ) -> Result<bool, FilterError>
     ensures printed { OnOk result (Appends (W.contents out.old) (W.contents out.new)
-        (output_of_line (outcome line.now calls.now))) }
+        (output_of_line (result_of_line filter.now number line.now))) }
     ensures reported { IfErr result (λ error. error ≡ FilterError.Output) →
-        FoldsTo D.reports diagnostics.old (errors_of_line number (outcome line.now calls.now)) diagnostics.new }
-    ensures text { IfOk result (λ has_text. (has_text ≡ is_ok (outcome line.now calls.now))
-        × (on_error ≡ OnError.Stop → has_text ≡ true)) }
-    ensures silent { result ≡ Ok true → diagnostics.new ≡ diagnostics.old }
-    ensures error { IfErr result (IsErrorOfLine on_error number line.now calls.now) }
+        FoldsTo D.reports diagnostics.old (errors_of_line (result_of_line filter.now number line.now))
+        diagnostics.new }
+    ensures text { IfOk result (λ has_text. (has_text ≡ is_ok (result_of_line filter.now number line.now))
+        × (filter.now.on_error ≡ OnError.Stop → has_text ≡ true)) }
+    ensures error { IfErr result (IsErrorOfLine filter.now number line.now) }
     ensures unchanged_on_error { IfErr result (λ error. error ≢ FilterError.Output →
         (out.new ≡ out.old) × (diagnostics.new ≡ diagnostics.old)) }
     ensures failed { result ≡ Err FilterError.Output → W.has_failed out.new ≡ true }
-    ensures prefix { result ≡ Err FilterError.Output →
-        AppendsPrefix (W.contents out.old) (W.contents out.new) (output_of_line (outcome line.now calls.now)) }
+    ensures prefix { result ≡ Err FilterError.Output → AppendsPrefix (W.contents out.old) (W.contents out.new)
+        (output_of_line (result_of_line filter.now number line.now)) }
 {
-    let error = match print_run(alloc, line, calls, out) {
+    let error = match print_run(alloc, line, filter.calls, out) {
         Ok(()) => return Ok(true),
         Err(OperationError::Output) => return Err(FilterError::Output),
         Err(error) => error,
@@ -94,7 +103,7 @@ fn filter_line<W: Sink, D: Diagnostics<FilterError>>(
         line: number,
         error,
     };
-    if on_error == OnError::Stop || !is_rejected {
+    if filter.on_error == OnError::Stop || !is_rejected {
         return Err(error);
     }
     diagnostics.report(&error);
@@ -102,6 +111,74 @@ fn filter_line<W: Sink, D: Diagnostics<FilterError>>(
         Ok(()) => Ok(false),
         Err(_) => Err(FilterError::Output),
     }
+}
+
+/// Reads the next line into `line`, and filters it. None: there is no line.
+fn filter_copy<R: BufRead, W: Sink, D: Diagnostics<FilterError>>(
+    alloc: Global,
+    filter: &Filter<'_>,
+    number: u64,
+    line: &mut Vec<u8>,
+    input: &mut R,
+    out: &mut W,
+    diagnostics: &mut D,
+) -> Result<Option<bool>, FilterError>
+    ensures filtered { FiltersNext D.reports filter.now number (record {
+        input = record { before = R.remaining input.old; after = R.remaining input.new };
+        output = record { before = W.contents out.old; after = W.contents out.new };
+        diagnostics = record { before = diagnostics.old; after = diagnostics.new }; }) result }
+    ensures failed { result ≡ Err FilterError.Output → W.has_failed out.new ≡ true }
+{
+    match read_line(input, line) {
+        Ok(true) => {}
+        Ok(false) => return Ok(None),
+        Err(error) => return Err(error_of_reading(number, &error)),
+    }
+    match filter_line(alloc, filter, number, line.as_slice(), out, diagnostics) {
+        Ok(has_text) => Ok(Some(has_text)),
+        Err(error) => Err(error),
+    }
+}
+
+/// Filters the next line, and returns whether it has a text. None: there is no line. A line that is not whole in the
+/// block of the reader is copied into `line` first.
+fn filter_next<R: BufRead, W: Sink, D: Diagnostics<FilterError>>(
+    alloc: Global,
+    filter: &Filter<'_>,
+    number: u64,
+    line: &mut Vec<u8>,
+    input: &mut R,
+    out: &mut W,
+    diagnostics: &mut D,
+) -> Result<Option<bool>, FilterError>
+    ensures filtered { FiltersNext D.reports filter.now number (record {
+        input = record { before = R.remaining input.old; after = R.remaining input.new };
+        output = record { before = W.contents out.old; after = W.contents out.new };
+        diagnostics = record { before = diagnostics.old; after = diagnostics.new }; }) result }
+    ensures failed { result ≡ Err FilterError.Output → W.has_failed out.new ≡ true }
+{
+    match input.fill_buf() {
+        Ok(block) => {
+            if block.is_empty() {
+                return Ok(None);
+            }
+            if let Some(end) = memchr(b'\n', block) {
+                let filtered = filter_line(alloc, filter, number, &block[..end], out, diagnostics);
+                input.consume(end + 1);
+                return match filtered {
+                    Ok(has_text) => Ok(Some(has_text)),
+                    Err(error) => Err(error),
+                };
+            }
+        }
+        Err(error) => {
+            // A read that a signal interrupts is tried again below.
+            if error.kind() != ErrorKind::Interrupted {
+                return Err(error_of_reading(number, &error));
+            }
+        }
+    }
+    filter_copy(alloc, filter, number, line, input, out, diagnostics)
 }
 
 /// Makes the calls on each line of the input, writes the texts to `out`, each with a line feed, and returns whether
@@ -119,38 +196,28 @@ fn filter_line<W: Sink, D: Diagnostics<FilterError>>(
 /// Else the texts of all lines before the error are in `out`.
 pub fn filter_lines<R: BufRead, W: Sink, D: Diagnostics<FilterError>>(
     alloc: Global,
-    on_error: OnError,
-    calls: &[Call<'_>],
+    filter: &Filter<'_>,
     input: &mut R,
     out: &mut W,
     diagnostics: &mut D,
 ) -> Result<bool, FilterError>
-    ensures filtered { Filters AppendsPrefix D.reports on_error calls.now (R.remaining input.old)
-        (W.contents out.old) (W.contents out.new) diagnostics.old diagnostics.new result }
+    ensures filtered { Filters AppendsPrefix D.reports filter.now (record {
+        input = record { before = R.remaining input.old; after = R.remaining input.new };
+        output = record { before = W.contents out.old; after = W.contents out.new };
+        diagnostics = record { before = diagnostics.old; after = diagnostics.new }; }) result }
     ensures silent { result ≡ Ok true → diagnostics.new ≡ diagnostics.old }
     ensures failed { result ≡ Err FilterError.Output → W.has_failed out.new ≡ true }
-    ensures consumed { IfErr result (λ error. IsConsumed error (R.remaining input.old) (R.remaining input.new)) }
+    ensures consumed { IfErr result (IsConsumed (record { before = R.remaining input.old;
+        after = R.remaining input.new; })) }
     ensures at_end { OnOk result (IfSome (R.remaining input.old) (λ _. IsAtEnd (R.remaining input.new))) }
 {
     let mut line = Vec::new(alloc);
     let mut have_texts = true;
     for count in 0..u64::MAX {
-        let number = count + 1;
-        match read_line(input, &mut line) {
-            Ok(true) => {}
-            Ok(false) => return Ok(have_texts),
-            Err(error) => return Err(error_of_reading(number, &error)),
+        match filter_next(alloc, filter, count + 1, &mut line, input, out, diagnostics)? {
+            Some(has_text) => have_texts = have_texts & has_text,
+            None => return Ok(have_texts),
         }
-        let has_text = filter_line(
-            alloc,
-            on_error,
-            number,
-            line.as_slice(),
-            calls,
-            out,
-            diagnostics,
-        )?;
-        have_texts = have_texts & has_text;
     }
     // No input has 2^64 lines.
     Err(FilterError::Input)

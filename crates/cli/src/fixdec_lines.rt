@@ -5,14 +5,13 @@ ghost use Rattle.std.specs.Io.Buffered.{writer_contents, writer_inner};
 ghost use Rattle.cli.specs.declared.error.FilterError.{FilterError};
 ghost use Rattle.cli.specs.Arguments.{HaveWords, ArgumentsFail};
 ghost use Rattle.cli.specs.Errors.{status_of_filter};
-ghost use Rattle.cli.specs.Filter.{IsEarly, WordsFilter, LinesFail};
-ghost use Rattle.cli.specs.FilterLine.{IsSplit};
+ghost use Rattle.cli.specs.Filter.{IsSplit, IsEarly, Process, effects, WordsFilter, LinesFail};
 
 use crate::arguments::words;
 use crate::calls::parse_calls;
 use crate::diagnostics::{Diagnostics, ErrorLines, conclude};
 use crate::error::FilterError;
-use crate::filter::{OnError, filter_lines};
+use crate::filter::{Filter, OnError, filter_lines};
 use crate::help::{CALLS, help};
 use crate::output::{BufferedOut, Closed, abandon, close, open};
 use std::alloc::Global;
@@ -42,8 +41,10 @@ fn filter_words<R: Read, O: Write + Drop, D: Diagnostics<FilterError>>(
     mut buffered: BufferedOut<O>,
     diagnostics: &mut D,
 ) -> (Result<bool, FilterError>, Closed<O>)
-    ensures filtered { WordsFilter D.reports words.now (R.remaining input.old)
-        (writer_contents O.contents buffered.0) (O.contents result.1.0) diagnostics.old diagnostics.new result.0 }
+    ensures filtered { WordsFilter D.reports words.now (record {
+        input = record { before = R.remaining input.old; after = R.remaining input.new };
+        output = record { before = writer_contents O.contents buffered.0; after = O.contents result.1.0 };
+        diagnostics = record { before = diagnostics.old; after = diagnostics.new }; }) result.0 }
     ensures silent { result.0 ≡ Ok true → diagnostics.new ≡ diagnostics.old }
     ensures has_not_failed { OnOk result.0 (result.1.1 ≡ false) }
     ensures failed { result.0 ≡ Err FilterError.Output → result.1.1 ≡ true }
@@ -60,14 +61,11 @@ fn filter_words<R: Read, O: Write + Drop, D: Diagnostics<FilterError>>(
     let Ok(mut reader) = BufReader::with_capacity(alloc, BLOCK, input) else {
         return (Err(FilterError::Memory), abandon(buffered));
     };
-    let filtered = filter_lines(
-        alloc,
+    let filter = Filter {
         on_error,
-        calls.as_slice(),
-        &mut reader,
-        &mut buffered,
-        diagnostics,
-    );
+        calls: calls.as_slice(),
+    };
+    let filtered = filter_lines(alloc, &filter, &mut reader, &mut buffered, diagnostics);
     let closed = close(buffered);
     if closed.has_failed() {
         return (Err(FilterError::Output), closed);
@@ -93,17 +91,25 @@ pub fn run_arguments<R: Read, O: Write + Drop, D: Diagnostics<FilterError>>(
     diagnostics: &mut D,
 ) -> (u8, Option<Closed<O>>)
     ensures at_most { result.0 ≤ 3 }
-    ensures printed { result.0 ≡ 0 → HaveWords arguments (λ words. IsSomeAnd result.1 (λ closed.
-        WordsFilter D.reports words (R.remaining input.old) (O.contents out) (O.contents closed.0)
-        diagnostics.old diagnostics.new (Ok true) × (closed.1 ≡ false))) }
+    ensures printed { let process : Process O D = record {
+            input = record { before = R.remaining input.old; after = R.remaining input.new };
+            writer = out; contents = O.contents;
+            diagnostics = record { before = diagnostics.old; after = diagnostics.new };
+        } in
+        result.0 ≡ 0 → HaveWords arguments (λ words. IsSomeAnd result.1 (λ closed.
+        WordsFilter D.reports words (effects process closed.0) (Ok true) × (closed.1 ≡ false))) }
     ensures silent { result.0 ≡ 0 → diagnostics.new ≡ diagnostics.old }
-    ensures reported { 0 < result.0 →
+    ensures reported { let process : (last : D) → Process O D = λ last. record {
+            input = record { before = R.remaining input.old; after = R.remaining input.new };
+            writer = out; contents = O.contents;
+            diagnostics = record { before = diagnostics.old; after = last };
+        } in
+        0 < result.0 →
         ((result.0 ≡ 1) × HaveWords arguments (λ words. IsSomeAnd result.1 (λ closed.
-        WordsFilter D.reports words (R.remaining input.old) (O.contents out) (O.contents closed.0)
-        diagnostics.old diagnostics.new (Ok false) × (closed.1 ≡ false))))
+        WordsFilter D.reports words (effects (process diagnostics.new) closed.0) (Ok false) × (closed.1 ≡ false))))
         ⊎ ((error : FilterError) × (before : D) × (result.0 ≡ status_of_filter error)
         × ArgumentsFail FilterError.Usage FilterError.Memory arguments result.1
-        (LinesFail D.reports O.contents (R.remaining input.old) out diagnostics.old before) error
+        (LinesFail D.reports (process before)) error
         × D.reports before error diagnostics.new
         × (IsEarly error → IfSome result.1 (λ closed. closed ≡ (out, false)))) }
     ensures unchanged_on_error { result.0 ≡ 2 → (input.new ≡ input.old)

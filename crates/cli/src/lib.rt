@@ -18,5 +18,5 @@ pub mod plural;
 pub use calls::parse_calls;
 pub use diagnostics::{Diagnostics, ErrorLines};
 pub use error::{FilterError, FixdecError, OperationError, PluralError, ProgramError, Reason};
-pub use filter::{OnError, filter_lines};
+pub use filter::{Filter, OnError, filter_lines};
 pub use output::{BufferedOut, Closed, abandon, close, open};

@@ -24,8 +24,11 @@ returns-clause-reported g c = λ _.
     let is : c.filter_words.result.0 ≡ Err error = c.in-Err-default.is-0 in
     let taken : writer_contents contents c.in-Ok-open.buffered.0 ≡ contents c.args.out =
     c.in-Ok-open.ensures.contents in
-    let fails : WordsFilter g.D.Diagnostics.reports words (g.R.Read.remaining c.args.input.now) (contents c.args.out)
-    (contents closed.0) c.args.diagnostics.now before (Err error) =
+    let fails : WordsFilter g.D.Diagnostics.reports words (record {
+      input = record { before = g.R.Read.remaining c.args.input.now; after = g.R.Read.remaining c.filter_words.new.input };
+      output = record { before = contents c.args.out; after = contents closed.0 };
+      diagnostics = record { before = c.args.diagnostics.now; after = before };
+    }) (Err error) =
     rw (taken, c.as_slice.ensures.value, is) at c.filter_words.ensures.filtered in
     let failed : error ≡ Output → closed.1 ≡ true = λ e. c.filter_words.ensures.failed (is ∙ ap Err e) in
     let early : IsEarly error → closed ≡ (c.args.out, false) =

@@ -3,7 +3,7 @@ use Rattle.std.specs.declared.alloc.Global.{Global}
 use Rattle.std.proofs.Math.Seq.{take-length}
 use Rattle.std.proofs.lemmas.List.{length-drop}
 use Rattle.cli.specs.declared.filter.OnError.TheVariants.{Skip}
-use Rattle.cli.specs.FilterLine.{IsSplit}
+use Rattle.cli.specs.Filter.{IsSplit}
 use Rattle.cli.proofs.fixdec_lines.split_skip.Goals as goal
 
 -- the first word is `skip`, and the others are after it

@@ -1,0 +1,37 @@
+use Rattle.std.proofs.Common.{◌≡◌, ℕ, List, Option, Some, None, Ok, Err, inl, take, length, ap, subst, true, IfSome}
+use Rattle.std.specs.Io.BufRead.{FillKeeps}
+use Rattle.cli.specs.FilterLine.{IsRead}
+use Rattle.cli.proofs.FirstLine.{next_in_block}
+use Rattle.cli.proofs.filter.filter_next.Goals as goal
+
+pub returns-in-Ok-filtered-clause-filtered : goal.returns-in-Ok-filtered-clause-filtered
+returns-in-Ok-filtered-clause-filtered g c =
+    let before = g.R.Read.remaining c.args.input.now in
+    let after = g.R.Read.remaining c.consume.new.self in
+    let block = c.in-Ok.block.now in
+    let rested = c.fill_buf.follows.lender-at-none in
+    let limit = g.R.BufRead.consumable_len rested in
+    let kept = subst (FillKeeps before (g.R.Read.remaining rested) limit) c.in-Ok.is c.fill_buf.follows.holds-at-none in
+    let read : IfSome before (λ bytes. IsRead true bytes (take c.in-Some.end block) after) =
+    next_in_block before (g.R.Read.remaining rested) after limit block c.in-Some.end c.in-Some.ensures
+    c.in-Ok.ensures.front kept.0 kept.1 c.consume.ensures.bytes in
+    let h = c.in-Ok-filtered.ensures in
+    (take c.in-Some.end block, read, (h.printed, h.reported tt, h.text.0, h.text.1))
+
+pub returns-in-Err-filtered-clause-filtered : goal.returns-in-Err-filtered-clause-filtered
+returns-in-Err-filtered-clause-filtered g c =
+    let before = g.R.Read.remaining c.args.input.now in
+    let after = g.R.Read.remaining c.consume.new.self in
+    let block = c.in-Ok.block.now in
+    let rested = c.fill_buf.follows.lender-at-none in
+    let limit = g.R.BufRead.consumable_len rested in
+    let kept = subst (FillKeeps before (g.R.Read.remaining rested) limit) c.in-Ok.is c.fill_buf.follows.holds-at-none in
+    let read : IfSome before (λ bytes. IsRead true bytes (take c.in-Some.end block) after) =
+    next_in_block before (g.R.Read.remaining rested) after limit block c.in-Some.end c.in-Some.ensures
+    c.in-Ok.ensures.front kept.0 kept.1 c.consume.ensures.bytes in
+    let h = c.in-Err-filtered.ensures in
+    inl (take c.in-Some.end block, read, (
+      h.error,
+      (λ other. let (same, silent) = h.unchanged_on_error other in (ap g.W.Sink.contents same, silent)),
+      λ is. (h.prefix (ap Err is), h.reported is),
+    ))
