@@ -1,0 +1,4 @@
+pub mod Symbols
+pub mod Grouping
+pub mod Formatted
+pub mod Ascii
