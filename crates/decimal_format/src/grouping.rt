@@ -52,7 +52,7 @@ impl GroupingSizes {
     }
 
     /// Returns the size of every group except the last.
-    fn secondary_size(self) -> u8
+    pub(crate) fn secondary_size(self) -> u8
         ensures { result ≡ secondary_size self }
     {
         if self.secondary == 0 {

@@ -11,6 +11,7 @@
 mod error;
 mod formatter;
 mod grouping;
+mod reader;
 mod symbols;
 
 pub use error::SymbolsError;
