@@ -1,0 +1,28 @@
+-- Symbols whose texts can be told apart.
+use Rattle.std.specs.Prelude.{◌≡◌, ℕ, ◌<◌, ◌==◌, nat_lt, if◌then◌else◌, List, ◌++◌}
+use Rattle.decimal_format.specs.Symbols.{Symbols, digit_text}
+
+-- a text begins with another
+abbrev pub BeginsWith : List ℕ → List ℕ → Type 0
+BeginsWith all part = (rest : List ℕ) × (all ≡ part ++ rest)
+
+-- the fourteen codes: the ten digits, the decimal and the grouping separator, the prefixes of the minus and the plus
+abbrev pub code : Symbols → ℕ → List ℕ
+code s k =
+    if nat_lt k 10 then digit_text s k
+    else if k == 10 then s.decimal
+    else if k == 11 then s.grouping
+    else if k == 12 then s.minus.prefix
+    else s.plus.prefix
+
+-- code k begins with code j only if it is code j
+abbrev pub IsOther : Symbols → ℕ → ℕ → Type 0
+IsOther s j k = BeginsWith (code s k) (code s j) → j ≡ k
+
+-- no other code begins with code j
+abbrev pub IsApart : Symbols → ℕ → Type 0
+IsApart s j = (k : ℕ) → k < 14 → IsOther s j k
+
+-- no code begins with another one; so none is empty
+abbrev pub IsReadable : Symbols → Type 0
+IsReadable s = (j : ℕ) → j < 14 → IsApart s j

@@ -1,0 +1,82 @@
+//! The groups of the integer digits.
+ghost use Rattle.std.specs.Prelude.{◌≡◌};
+ghost use Rattle.decimal_format.specs.Grouping.{reaches, is_grouped, secondary_size, separates};
+
+/// When the integer digits are grouped.
+///
+/// `GroupingStrategy` of ICU4X. If the primary size is 0, as that of the locale `en-US-u-va-posix`, no strategy groups;
+/// ICU groups by threes there under `Always`.
+#[derive(Clone, Copy, Debug, PartialEq, Eq)]
+pub enum GroupingStrategy {
+    /// As the locale does, which may require more than one digit before the first separator.
+    Auto,
+    /// Never.
+    Never,
+    /// Wherever there is a digit before the first separator.
+    Always,
+    /// As the locale does, with at least two digits before the first separator.
+    Min2,
+}
+
+/// The number of digits in each group.
+///
+/// `GroupingSizes` of ICU4X: `12,34,567` has 3 and 2, `1,234,567` has 3 and 3, or 3 and 0.
+#[derive(Clone, Copy, Debug, PartialEq, Eq)]
+pub struct GroupingSizes {
+    /// The size of the last group of integer digits; 0 for no groups.
+    pub primary: u8,
+    /// The size of every other group; 0 for the primary size.
+    pub secondary: u8,
+    /// The least number of digits before the first separator; 0 for 1.
+    pub min_grouping: u8,
+}
+
+impl GroupingSizes {
+    /// Returns whether at least `least` digits are before the last group, where the highest magnitude is `hi`.
+    fn reaches(self, least: u8, hi: i16) -> bool
+        ensures { result ≡ reaches self least hi }
+    {
+        self.primary as i32 + least as i32 <= hi as i32 + 1
+    }
+
+    /// Returns whether a value with the highest magnitude `hi` is grouped.
+    fn is_grouped(self, strategy: GroupingStrategy, hi: i16) -> bool
+        ensures { result ≡ is_grouped strategy self hi }
+    {
+        match strategy {
+            GroupingStrategy::Auto => self.reaches(self.min_grouping.max(1), hi),
+            GroupingStrategy::Never => false,
+            GroupingStrategy::Always => self.reaches(1, hi),
+            GroupingStrategy::Min2 => self.reaches(self.min_grouping.max(2), hi),
+        }
+    }
+
+    /// Returns the size of every group except the last.
+    pub(crate) fn secondary_size(self) -> u8
+        ensures { result ≡ secondary_size self }
+    {
+        if self.secondary == 0 {
+            self.primary
+        } else {
+            self.secondary
+        }
+    }
+
+    /// Returns whether a separator is after the digit at a magnitude, where the highest magnitude shown is `hi`.
+    ///
+    /// In groups of 3 one is after the magnitudes 3, 6, 9 and so on.
+    pub fn separates(self, strategy: GroupingStrategy, hi: i16, magnitude: i16) -> bool
+        ensures { result ≡ separates strategy self hi magnitude }
+    {
+        if magnitude < 0 {
+            return false;
+        }
+        let place = magnitude as u16;
+        let primary = self.primary as u16;
+        if primary == 0 {
+            return false;
+        }
+        let secondary = self.secondary_size() as u16;
+        self.is_grouped(strategy, hi) && (primary <= place && (place - primary) % secondary == 0)
+    }
+}

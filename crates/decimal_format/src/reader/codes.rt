@@ -1,0 +1,131 @@
+//! The codes that a text consists of: digits, separators and the prefixes of signs.
+ghost use Rattle.std.specs.Prelude.{◌≡◌, ◌≢◌, ℕ, ◌<◌, List, ◌++◌, ◌↔◌, IfSome, IsSomeAnd, MatchOption, IsTrue};
+ghost use Rattle.decimal_format.specs.Symbols.{digit_text, sign_affixes};
+ghost use Rattle.decimal_format.specs.Readable.{code, BeginsWith, IsOther, IsApart, IsReadable};
+ghost use Rattle.decimal_format.specs.Scanning.{BeginsWithDigit};
+
+use crate::symbols::DecimalSymbols;
+use fixed_decimal::Sign;
+
+/// Returns what follows a code at the start of a text.
+pub fn cut<'t>(text: &'t [u8], code: &[u8]) -> Option<&'t [u8]>
+    ensures { MatchOption result ((rest : List ℕ) → text.now ≢ code.now ++ rest) (λ r. text.now ≡ code.now ++ r.now) }
+{
+    text.strip_prefix(code)
+}
+
+/// Returns what precedes a code at the end of a text.
+fn cut_end<'t>(text: &'t [u8], code: &[u8]) -> Option<&'t [u8]>
+    ensures { MatchOption result ((front : List ℕ) → text.now ≢ front ++ code.now) (λ r. text.now ≡ r.now ++ code.now) }
+{
+    text.strip_suffix(code)
+}
+
+impl<'a> DecimalSymbols<'a> {
+    /// Returns one of the fourteen codes.
+    fn code<'t>(&'t self, index: u8, buffer: &'t mut [u8; 4]) -> &'t [u8]
+        requires { index < 14 }
+        ensures { result.now ≡ code self.now index }
+    {
+        match index {
+            10 => self.decimal_separator().as_bytes(),
+            11 => self.grouping_separator().as_bytes(),
+            12 => self.prefix(Sign::Negative).as_bytes(),
+            13 => self.prefix(Sign::Positive).as_bytes(),
+            _ => self.digit(index).encode_utf8(buffer).as_bytes(),
+        }
+    }
+
+    /// Returns whether a code begins with another one.
+    fn begins(&self, all: u8, part: u8) -> bool
+        requires all_in { all < 14 }
+        requires part_in { part < 14 }
+        ensures { IsTrue result ↔ BeginsWith (code self.now all) (code self.now part) }
+    {
+        let mut first = [0; 4];
+        let mut second = [0; 4];
+        cut(self.code(all, &mut first), self.code(part, &mut second)).is_some()
+    }
+
+    /// Returns whether a code begins with this one only if it is this one.
+    fn is_other(&self, all: u8, part: u8) -> bool
+        requires all_in { all < 14 }
+        requires part_in { part < 14 }
+        ensures { IsTrue result ↔ IsOther self.now part all }
+    {
+        all == part || !self.begins(all, part)
+    }
+
+    /// Returns whether no other code begins with this one.
+    fn is_apart(&self, part: u8) -> bool
+        requires { part < 14 }
+        ensures { IsTrue result ↔ IsApart self.now part }
+    {
+        for all in 0..14 {
+            if !self.is_other(all, part) {
+                return false;
+            }
+        }
+        true
+    }
+
+    /// Returns whether texts with these symbols can be read: no digit, separator or prefix of a sign begins with
+    /// another one.
+    ///
+    /// This holds for all symbols of CLDR. It does not hold if the two separators are equal, or one of them is empty.
+    pub fn is_readable(&self) -> bool
+        ensures { IsTrue result ↔ IsReadable self.now }
+    {
+        for part in 0..14 {
+            if !self.is_apart(part) {
+                return false;
+            }
+        }
+        true
+    }
+
+    /// Returns the digit that a text begins with, and what follows it.
+    pub(crate) fn next_digit<'t>(&self, text: &'t [u8]) -> Option<(u8, &'t [u8])>
+        ensures { MatchOption result ((d : ℕ) (rest : List ℕ) → d < 10 → text.now ≢ digit_text self.now d ++ rest)
+            (λ r. (r.0 < 10) × (text.now ≡ digit_text self.now r.0 ++ r.1.now)) }
+    {
+        for digit in 0..10 {
+            let mut buffer = [0; 4];
+            let code = self.digit(digit).encode_utf8(&mut buffer);
+            if let Some(rest) = cut(text, code.as_bytes()) {
+                return Some((digit, rest));
+            }
+        }
+        None
+    }
+
+    /// Returns the sign whose prefix a text begins with, and what follows the prefix.
+    fn split_prefix<'t>(&self, text: &'t [u8]) -> (Sign, &'t [u8])
+        requires { IsReadable self.now }
+        ensures found { text.now ≡ (sign_affixes self.now result.0).prefix ++ result.1.now }
+        ensures unique { (sign : Sign) (rest : List ℕ) → BeginsWithDigit self.now rest
+            → text.now ≡ (sign_affixes self.now sign).prefix ++ rest → (result.0 ≡ sign) × (result.1.now ≡ rest) }
+    {
+        if let Some(rest) = cut(text, self.prefix(Sign::Negative).as_bytes()) {
+            return (Sign::Negative, rest);
+        }
+        if let Some(rest) = cut(text, self.prefix(Sign::Positive).as_bytes()) {
+            return (Sign::Positive, rest);
+        }
+        (Sign::None, text)
+    }
+
+    /// Returns the sign that a text shows, and what is between its prefix and its suffix.
+    pub(crate) fn split_sign<'t>(&self, text: &'t [u8]) -> Option<(Sign, &'t [u8])>
+        requires { IsReadable self.now }
+        ensures found { IfSome result (λ r. text.now
+            ≡ (sign_affixes self.now r.0).prefix ++ (r.1.now ++ (sign_affixes self.now r.0).suffix)) }
+        ensures unique { (sign : Sign) (number : List ℕ) → BeginsWithDigit self.now number
+            → text.now ≡ (sign_affixes self.now sign).prefix ++ (number ++ (sign_affixes self.now sign).suffix)
+            → IsSomeAnd result (λ r. (r.0 ≡ sign) × (r.1.now ≡ number)) }
+    {
+        let (sign, rest) = self.split_prefix(text);
+        let number = cut_end(rest, self.suffix(sign).as_bytes())?;
+        Some((sign, number))
+    }
+}

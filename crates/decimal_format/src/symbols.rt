@@ -1,0 +1,205 @@
+//! The symbols of a locale.
+ghost use Rattle.std.specs.Prelude.{◌≡◌, ◌<◌, ◌≤◌, length, slice_index, encode_utf8, IfOk, IfErr, OnOk};
+ghost use Rattle.decimal_format.specs.Symbols.{HaveWidth};
+
+use crate::error::SymbolsError;
+use crate::grouping::GroupingSizes;
+use fixed_decimal::Sign;
+use std::marker::Model;
+
+/// The greatest number of bytes of a separator, a prefix or a suffix.
+const MAX_TEXT: usize = 255;
+
+/// The texts before and after a number that has a sign.
+#[derive(Clone, Copy, Debug)]
+pub struct Affixes<'a> {
+    /// The text before the number.
+    pub prefix: &'a str,
+    /// The text after the number.
+    pub suffix: &'a str,
+}
+
+/// The symbols of a locale: ten digits, two separators, two signs, and the sizes of groups.
+///
+/// It borrows its texts. `DecimalSymbols` of ICU4X.
+#[derive(Debug, Drop)]
+pub struct DecimalSymbols<'a> {
+    digits: [char; 10],
+    decimal: &'a str,
+    grouping: &'a str,
+    minus: Affixes<'a>,
+    plus: Affixes<'a>,
+    sizes: GroupingSizes,
+}
+
+impl<'a> Model for DecimalSymbols<'a> {
+    ghost use Rattle.decimal_format.specs.Symbols.{Symbols, symbols, affixes, AreValid};
+
+    ghost Value = { Symbols };
+
+    ghost view = { λ s. symbols s.digits s.decimal.now s.grouping.now
+        (affixes s.minus.prefix.now s.minus.suffix.now) (affixes s.plus.prefix.now s.plus.suffix.now) s.sizes };
+
+    ghost invariant = { λ s. AreValid (symbols s.digits s.decimal.now s.grouping.now
+        (affixes s.minus.prefix.now s.minus.suffix.now) (affixes s.plus.prefix.now s.plus.suffix.now) s.sizes) };
+}
+
+/// Checks that ten digits have one length in UTF-8.
+fn check_widths(digits: &[char; 10]) -> Result<(), SymbolsError>
+    ensures ok { OnOk result (HaveWidth digits.now (length (encode_utf8 (slice_index digits.now 0)))) }
+    ensures err { IfErr result (λ e. (e ≡ SymbolsError.DigitWidths)
+        × ¬ HaveWidth digits.now (length (encode_utf8 (slice_index digits.now 0)))) }
+{
+    for digit in digits {
+        if digit.len_utf8() != digits[0].len_utf8() {
+            return Err(SymbolsError::DigitWidths);
+        }
+    }
+    Ok(())
+}
+
+/// Checks that a text has at most 255 bytes.
+fn check_length(text: &str, error: SymbolsError) -> Result<(), SymbolsError>
+    ensures ok { OnOk result (length text.now ≤ 255) }
+    ensures err { IfErr result (λ e. (e ≡ error) × (255 < length text.now)) }
+{
+    if text.len() > MAX_TEXT {
+        return Err(error);
+    }
+    Ok(())
+}
+
+impl<'a> DecimalSymbols<'a> {
+    ghost use Rattle.fixed_decimal.specs.Decimal.{Decimal};
+    ghost use Rattle.fixed_decimal.specs.DecimalText.{decimal_text};
+    ghost use Rattle.decimal_format.specs.Symbols.{symbols, affixes, digit_text, sign_affixes, AreValid, Rejects};
+    ghost use Rattle.decimal_format.specs.Ascii.{ascii_symbols};
+
+    /// Makes the symbols of a locale.
+    ///
+    /// # Errors
+    ///
+    /// The ten digits do not have one length in UTF-8, or another text has more than 255 bytes.
+    pub fn new(
+        digits: [char; 10],
+        decimal: &'a str,
+        grouping: &'a str,
+        minus: Affixes<'a>,
+        plus: Affixes<'a>,
+        sizes: GroupingSizes,
+    ) -> Result<Self, SymbolsError>
+        ensures value { IfOk result (λ s. s ≡ symbols digits decimal.entry.now grouping.entry.now
+            (affixes minus.entry.prefix.now minus.entry.suffix.now)
+            (affixes plus.entry.prefix.now plus.entry.suffix.now) sizes) }
+        ensures valid { IfOk result (λ s. AreValid s) }
+        ensures rejects { IfErr result (λ e. Rejects e (symbols digits decimal.entry.now grouping.entry.now
+            (affixes minus.entry.prefix.now minus.entry.suffix.now)
+            (affixes plus.entry.prefix.now plus.entry.suffix.now) sizes)) }
+    {
+        check_widths(&digits)?;
+        check_length(decimal, SymbolsError::DecimalTooLong)?;
+        check_length(grouping, SymbolsError::GroupingTooLong)?;
+        check_length(minus.prefix, SymbolsError::MinusPrefixTooLong)?;
+        check_length(minus.suffix, SymbolsError::MinusSuffixTooLong)?;
+        check_length(plus.prefix, SymbolsError::PlusPrefixTooLong)?;
+        check_length(plus.suffix, SymbolsError::PlusSuffixTooLong)?;
+        Ok(DecimalSymbols {
+            digits,
+            decimal,
+            grouping,
+            minus,
+            plus,
+            sizes,
+        })
+    }
+
+    /// Returns the symbols of a decimal's own text: `0` to `9`, `.`, `,` between groups of three, `-` and `+`.
+    pub fn ascii() -> DecimalSymbols<'static>
+        ensures value { result ≡ ascii_symbols }
+    {
+        DecimalSymbols {
+            digits: ['0', '1', '2', '3', '4', '5', '6', '7', '8', '9'],
+            decimal: ".",
+            grouping: ",",
+            minus: Affixes {
+                prefix: "-",
+                suffix: "",
+            },
+            plus: Affixes {
+                prefix: "+",
+                suffix: "",
+            },
+            sizes: GroupingSizes {
+                primary: 3,
+                secondary: 0,
+                min_grouping: 1,
+            },
+        }
+    }
+
+    /// Returns the character of a digit. Requires a digit below 10.
+    pub fn digit(&self, digit: u8) -> char
+        requires { digit < 10 }
+        ensures value { encode_utf8 result ≡ digit_text self.now digit }
+    {
+        self.digits[digit as usize]
+    }
+
+    /// Returns the number of bytes of each digit, from 1 to 4.
+    pub fn digit_width(&self) -> usize
+        ensures value { HaveWidth self.now.digits result }
+        ensures at_most { result ≤ 4 }
+    {
+        let _ = &self.minus;
+        self.digits[0].len_utf8()
+    }
+
+    /// Returns the separator before the fraction digits.
+    pub fn decimal_separator(&self) -> &str
+        ensures value { result.now ≡ self.now.decimal }
+        ensures at_most { length result.now ≤ 255 }
+    {
+        self.decimal
+    }
+
+    /// Returns the separator of groups.
+    pub fn grouping_separator(&self) -> &str
+        ensures value { result.now ≡ self.now.grouping }
+        ensures at_most { length result.now ≤ 255 }
+    {
+        self.grouping
+    }
+
+    /// Returns the sizes of groups.
+    pub fn sizes(&self) -> GroupingSizes
+        ensures { result ≡ self.now.sizes }
+    {
+        self.sizes
+    }
+
+    /// Returns the text before a number with this sign.
+    pub fn prefix(&self, sign: Sign) -> &str
+        ensures value { result.now ≡ (sign_affixes self.now sign).prefix }
+        ensures at_most { length result.now ≤ 255 }
+    {
+        let _ = &self.minus;
+        match sign {
+            Sign::None => "",
+            Sign::Negative => self.minus.prefix,
+            Sign::Positive => self.plus.prefix,
+        }
+    }
+
+    /// Returns the text after a number with this sign.
+    pub fn suffix(&self, sign: Sign) -> &str
+        ensures value { result.now ≡ (sign_affixes self.now sign).suffix }
+        ensures at_most { length result.now ≤ 255 }
+    {
+        let _ = &self.minus;
+        match sign {
+            Sign::None => "",
+            Sign::Negative => self.minus.suffix,
+            Sign::Positive => self.plus.suffix,
+        }
+    }
+}
