@@ -10,21 +10,21 @@ use Rattle.decimal_digits.specs.declared.rounding.RoundingIncrement.TheVariants.
 use Rattle.decimal_digits.specs.declared.rounding.UnsignedRoundingMode.{UnsignedRoundingMode}
 use Rattle.decimal_unsigned.specs.Unsigned.{Unsigned, IsValue}
 
--- the position, the mode and the increment of a rounding
+-- a rounding: its position, its mode, and its increment
 pub record Rounding (Mode : Type 0) : Type 0 where
   pub position : ℤ
   pub mode : Mode
   pub increment : RoundingIncrement
 
--- the rounding by these three
+-- the rounding with this position, mode and increment
 abbrev pub rounding : {Mode : Type 0} → ℤ → Mode → RoundingIncrement → Rounding Mode
 rounding position mode increment = record { position = position; mode = mode; increment = increment }
 
--- the rounding to a multiple of 10 to the power of the position
+-- the rounding to a multiple of 10 to the power of the position, which is that by `MultiplesOf1`
 abbrev pub rounding_by_1 : {Mode : Type 0} → ℤ → Mode → Rounding Mode
 rounding_by_1 position mode = rounding position mode MultiplesOf1
 
--- the unit of a rounding: its results are multiples of it
+-- the unit of a rounding: each result is a multiple of it
 abbrev pub unit_of : {Mode : Type 0} → Rounding Mode → ℕ
 unit_of r = unit_at r.increment r.position
 
