@@ -1,16 +1,19 @@
--- The digits of eight inline bytes as one number.
-use Rattle.std.proofs.Common.{◌≡◌, ℕ, suc, ◌+◌, ◌-◌, ◌*◌, ◌/◌, ◌%◌, ◌^◌, ◌<◌, ◌≤◌, List, [], ◌∷◌, ◌++◌, length, get_or, take, replicate, refl, sym, ◌∙◌, ap, arith}
+-- The first sixteen digits of bytes as one number.
+use Rattle.std.proofs.Common.{◌≡◌, ℕ, suc, ◌+◌, ◌-◌, ◌*◌, ◌/◌, ◌%◌, ◌^◌, ◌<◌, ◌≤◌, List, [], ◌∷◌, ◌++◌, length, get_or, take, replicate, refl, sym, ◌∙◌, ap, min, arith, inl, inr}
+use Rattle.std.proofs.lemmas.Bool.{cases_lt}
 use Rattle.std.specs.Prelude.{All}
-use Rattle.std.specs.Int.{w64, to_be_bytes}
+use Rattle.std.specs.Int.{w64, to_be_bytes, from_be_bytes}
 use Rattle.std.specs.Int.Digits.{number_from_digits, AllBelowBase}
 use Rattle.std.proofs.Math.Nat.{one-le-pow, mul-lt-mul_of_pos_right, mod-eq_of_lt}
 use Rattle.std.proofs.lemmas.Nat.{pow-add}
-use Rattle.std.proofs.lemmas.List.{take_at, length-take-le}
+use Rattle.std.proofs.lemmas.Grind.{same_number_lists}
+use Rattle.std.proofs.lemmas.List.{length-take-le, get_or-take}
 use Rattle.std.proofs.lemmas.Int.Digits.{number_lt}
-use Rattle.decimal_digits.specs.Nibbles.{nibbles, digits_in, bcd_number}
+use Rattle.decimal_digits.specs.Nibbles.{nibbles, digits_in, padded, bcd_number}
 use Rattle.decimal_digits.specs.Packing.{length-nibbles}
 use Rattle.decimal_digits.proofs.DigitLists.{below_take, number_pad, number-div}
-use Rattle.decimal_digits.proofs.LeadingBytes.{hex_pow, bytes_number, sixteen_nibbles}
+use Rattle.decimal_digits.proofs.LeadingBytes.{hex_pow, bytes_number, sixteen_nibbles, length-padded, get_or-padded}
+use Rattle.decimal_digits.proofs.Nibbles.{nibble_rules}
 
 -- each nibble of a byte is below sixteen
 nibbles_below : (bs : List ℕ) → ((i : ℕ) → get_or bs i 0 < 256) → AllBelowBase 16 (nibbles bs)
@@ -18,33 +21,54 @@ unfolding nibbles
 nibbles_below [] h = tt
 nibbles_below (b ∷ bs) h = (omega (arith, h 0), (omega arith, nibbles_below bs (λ i. h (suc i))))
 
--- clearing the lowest 4 * (16 - len) bits leaves the BCD number of the first len nibbles
-pub shifted_number : (bytes : List ℕ) (len n u : ℕ) → length bytes ≡ 8 → ((i : ℕ) → get_or bytes i 0 < 256)
-    → len ≤ 16 → u ≡ 4 * (16 - len) → n ≡ number_from_digits 256 bytes
+eight_bytes : (bs : List ℕ) → length bs ≡ 8 → from_be_bytes w64 bs ≡ number_from_digits 256 bs
+eight_bytes (a ∷ (b ∷ (c ∷ (d ∷ (e ∷ (f ∷ (g ∷ (h ∷ [])))))))) l = omega arith
+eight_bytes bs l = absurd (omega arith)
+
+-- the digits in the first eight bytes, padded to sixteen
+first_padded : (bytes front : List ℕ) (len m k eight : ℕ) → length front ≡ eight → eight ≤ length bytes
+    → ((i : ℕ) → i < eight → get_or front i 0 ≡ get_or bytes i 0) → m ≡ min len (2 * eight) → k ≡ 2 * eight - m
+    → take m (nibbles front) ++ replicate k 0 ≡ padded (2 * eight) (digits_in bytes len)
+first_padded bytes front len m k eight count enough same size rest =
+    same_number_lists _ _ (grind (arith, nibble_rules, length-padded))
+    (λ i h. elim (cases_lt i m) [
+      | inl l ↦ grind (arith, nibble_rules, length-padded, get_or-padded, same (i / 2))
+      | inr l ↦ grind (arith, nibble_rules, length-padded, get_or-padded)
+    ])
+
+-- clearing the nibbles of eight bytes after the first len leaves the BCD number of these
+pub leading_cleared : (bytes front : List ℕ) (len n u : ℕ) → 8 ≤ length bytes → ((i : ℕ) → get_or front i 0 < 256)
+    → front ≡ take 8 bytes → u ≡ 4 * (16 - min len 16) → n ≡ from_be_bytes w64 front
     → n / 2 ^ u * 2 ^ u % 2 ^ 64 ≡ bcd_number (digits_in bytes len)
 unfolding bcd_number
-shifted_number bytes len n u eight small few by e =
-    let ds = digits_in bytes len in
-    let k = 16 - len in
-    let back : length (nibbles bytes) - len ≡ k = omega (arith, length-nibbles bytes) in
-    let count : length ds ≡ len = length-take-le len (nibbles bytes) (omega (arith, length-nibbles bytes)) in
-    let below = nibbles_below bytes small in
-    let front = rw back at (number-div 16 len (nibbles bytes) below (omega (arith, length-nibbles bytes))) in
+leading_cleared bytes front len n u enough small first by e =
+    let m = min len 16 in
+    let k = 16 - m in
+    let all = nibbles front in
+    let ds = take m all in
+    let eight : length front ≡ 8 = ap length first ∙ length-take-le 8 bytes enough in
+    let size : length all ≡ 16 = omega (arith, length-nibbles front) in
+    let count : length ds ≡ m = length-take-le m all (omega arith) in
+    let number : n ≡ number_from_digits 16 all = e ∙ eight_bytes front eight ∙ sym (bytes_number 0 front) in
+    let below = nibbles_below front small in
+    let back : length all - m ≡ k = omega arith in
+    let quotient = rw back at (number-div 16 m all below (omega arith)) in
     let pos : 0 < 16 ^ k = omega (arith, one-le-pow k 16 (omega arith)) in
-    let all : len + k ≡ 16 = omega arith in
-    let top : 16 ^ len * 16 ^ k ≡ 2 ^ 64 = rw (← pow-add, all) refl in
-    let below_ds = number_lt 16 ds (below_take 16 len _ below) in
-    let lt : number_from_digits 16 ds < 16 ^ len = omega (arith, below_ds, ap (λ j. 16 ^ j) count) in
+    let whole : m + k ≡ 16 = omega arith in
+    let top : 16 ^ m * 16 ^ k ≡ 2 ^ 64 = rw (← pow-add, whole) refl in
+    let lt : number_from_digits 16 ds < 16 ^ m =
+    omega (arith, number_lt 16 ds (below_take 16 m all below), ap (λ j. 16 ^ j) count) in
     let fits : number_from_digits 16 ds * 16 ^ k < 2 ^ 64 = rw (← top) (mul-lt-mul_of_pos_right lt pos) in
-    let zeros : k ≡ 16 - length ds = omega arith in
-    rw (e, ← (bytes_number 0 bytes), by, hex_pow k, front, mod-eq_of_lt fits)
-    (sym (number_pad 16 k ds) ∙ ap (λ j. number_from_digits 16 (ds ++ replicate j 0)) zeros)
+    let same = λ (i : ℕ) (h : i < 8). ap (λ l. get_or l i 0) first ∙ get_or-take 8 bytes i 0 h in
+    rw (number, by, hex_pow k, quotient, mod-eq_of_lt fits)
+    (sym (number_pad 16 k ds)
+    ∙ ap (number_from_digits 16) (first_padded bytes front len m k 8 eight enough same refl refl))
 
--- two lists of digits of the same length with the same number are equal
+-- two lists of up to sixteen digits, of the same length and with the same number, are equal
 pub same_number : (ds es : List ℕ) → All (λ d. d < 10) ds → All (λ d. d < 10) es → length ds ≡ length es
-    → length ds ≤ 16 → length es ≤ 16 → bcd_number ds ≡ bcd_number es → ds ≡ es
+    → length ds ≤ 16 → bcd_number ds ≡ bcd_number es → ds ≡ es
 unfolding bcd_number
-same_number ds es h g n few_ds few_es e =
-    let all = sym (sixteen_nibbles ds h few_ds) ∙ ap (λ m. nibbles (to_be_bytes w64 m)) e
-    ∙ sixteen_nibbles es g few_es in
-    sym (take_at ds _ (length es) n) ∙ ap (take (length es)) all ∙ take_at es _ (length es) refl
+same_number ds es h g n few e =
+    let all = sym (sixteen_nibbles ds h) ∙ ap (λ m. nibbles (to_be_bytes w64 m)) e ∙ sixteen_nibbles es g in
+    same_number_lists _ _ n (λ i l.
+        sym (get_or-padded 16 ds i (omega arith)) ∙ ap (λ l. get_or l i 0) all ∙ get_or-padded 16 es i (omega arith))

@@ -6,17 +6,17 @@ use Rattle.std.specs.Int.Digits.{number_from_digits_after, number_from_digits, A
 use Rattle.std.proofs.Math.Nat.{pow-le-pow_right}
 use Rattle.std.proofs.lemmas.Grind.{same_number_lists}
 use Rattle.std.proofs.lemmas.Nat.{div-mul-add, mod-mul-add, mul-pow, pow-add}
-use Rattle.std.proofs.lemmas.List.{length-append, length-take-le, take_all}
+use Rattle.std.proofs.lemmas.List.{length-append, length-replicate, length-take, length-take-le, get_or_past, take_all}
 use Rattle.std.proofs.lemmas.List.Elements.{All-append, All-from_recursion, All-replicate, recursion_from_All}
 use Rattle.std.proofs.lemmas.Int.Digits.{number_after_append, number_lt, number_more}
-use Rattle.decimal_digits.specs.Nibbles.{nibbles, digits_in, leading_bytes, bcd_number, IsPacked}
+use Rattle.decimal_digits.specs.Nibbles.{nibbles, digits_in, leading_bytes, padded, bcd_number, IsPacked}
 use Rattle.decimal_digits.specs.Packing.{Encodes, EncodesPrefix, IsPackedPrefix}
 use Rattle.decimal_digits.proofs.DigitLists.{below_take, number_after, number_pad}
 use Rattle.decimal_digits.proofs.Nibbles.{nibble_rules}
 use Rattle.decimal_digits.proofs.Packing.{encodes, encodes_prefix}
 
 -- two nibbles to a byte
-squares : (k : ℕ) → 16 ^ (2 * k) ≡ 256 ^ k
+pub squares : (k : ℕ) → 16 ^ (2 * k) ≡ 256 ^ k
 squares k = let e : 2 * k ≡ k + k = omega arith in rw (e, pow-add) (sym (mul-pow 16 16 k))
 
 -- a digit takes four bits
@@ -57,19 +57,46 @@ pub below_sixteen : (ds : List ℕ) → AllBelowBase 10 ds → AllBelowBase 16 d
 below_sixteen [] h = tt
 below_sixteen (d ∷ ds) h = (omega (arith, h), below_sixteen ds h.1)
 
--- ---- up to sixteen digits, padded with trailing zeros to sixteen
-module _ (ds : List ℕ) (h : All (λ d. d < 10) ds) (few : length ds ≤ 16) where
+-- ---- the first k digits, with zeros after fewer
+pub length-padded : (k : ℕ) (ds : List ℕ) → length (padded k ds) ≡ k
+unfolding padded
+length-padded k ds = grind (arith, nibble_rules)
+
+pub get_or-padded : (k : ℕ) (ds : List ℕ) (i : ℕ) → i < k → get_or (padded k ds) i 0 ≡ get_or ds i 0
+unfolding padded
+get_or-padded k ds i h = grind (arith, nibble_rules)
+
+padded_digits : (k : ℕ) (ds : List ℕ) → All (λ d. d < 10) ds → AllBelowBase 10 (padded k ds)
+unfolding padded
+padded_digits k ds h =
+    let P = λ (d : ℕ). d < 10 in
+    below_take 10 k (ds ++ replicate k 0)
+    (recursion_from_All P _ (All-append P ds _ h (All-replicate P k 0 (omega arith))))
+
+-- they are the first k of the digits that are padded to more
+pub padded_front : (k top : ℕ) (ds : List ℕ) → k ≤ top → length ds ≤ top
+    → take k (ds ++ replicate (top - length ds) 0) ≡ padded k ds
+padded_front k top ds l h =
+    same_number_lists _ _ (grind (arith, nibble_rules, length-padded))
+    (λ i m. grind (arith, nibble_rules, length-padded, get_or-padded))
+
+-- fewer digits are only padded
+pub padded_few : (k : ℕ) (ds : List ℕ) → length ds ≤ k → ds ++ replicate (k - length ds) 0 ≡ padded k ds
+padded_few k ds h =
+    sym (take_all k _ (omega (arith, length-append ds (replicate (k - length ds) 0), length-replicate {A = ℕ} (k - length ds) 0)))
+    ∙ padded_front k k ds (omega arith) h
+
+-- ---- the first sixteen digits
+module _ (ds : List ℕ) (h : All (λ d. d < 10) ds) where
   abbrev pub sixteen : List ℕ
-  sixteen = ds ++ replicate (16 - length ds) 0
+  sixteen = padded 16 ds
 
   pub sixteen_are : length sixteen ≡ 16
-  sixteen_are = grind (arith, nibble_rules)
+  sixteen_are = length-padded 16 ds
 
   -- they are digits
   pub sixteen_digits : AllBelowBase 10 sixteen
-  sixteen_digits =
-      let P = λ (d : ℕ). d < 10 in
-      recursion_from_All P _ (All-append P ds _ h (All-replicate P (16 - length ds) 0 (omega arith)))
+  sixteen_digits = padded_digits 16 ds h
 
   -- the nibbles of eight bytes are the sixteen digits
   pub sixteen_nibbles : nibbles (to_be_bytes w64 (number_from_digits 16 sixteen)) ≡ sixteen
@@ -83,18 +110,11 @@ module _ (ds : List ℕ) (h : All (λ d. d < 10) ds) (few : length ds ≤ 16) wh
       let top : 16 ^ length (take i sixteen) ≤ 16 ^ 15 = pow-le-pow_right (omega arith) fits in
       omega (arith, number_lt 16 _ (below_sixteen _ (below_take 10 i sixteen sixteen_digits)), top)
 
-  -- the digits come first
-  pub sixteen_digit : (i : ℕ) → i < length ds → get_or ds i 0 ≡ get_or sixteen i 0
-  sixteen_digit i l = grind (arith, nibble_rules)
-
-  -- and zeros follow them
-  pub sixteen_zero : (i : ℕ) → length ds ≤ i → i < 16 → 0 ≡ get_or sixteen i 0
-  sixteen_zero i l k = grind (arith, nibble_rules)
-
   -- one digit more
-  pub sixteen_next : (i d : ℕ) → i < 16 → d ≡ get_or sixteen i 0
+  pub sixteen_next : (i d : ℕ) → i < 16 → d ≡ get_or ds i 0
       → number_from_digits 16 (take i sixteen) * 16 + d ≡ number_from_digits 16 (take (i + 1) sixteen)
-  sixteen_next i d l e = omega (arith, number_more 16 sixteen i (omega (arith, sixteen_are)))
+  sixteen_next i d l e =
+      omega (arith, number_more 16 sixteen i (omega (arith, sixteen_are)), get_or-padded 16 ds i l)
 
   -- all digits
   pub sixteen_all : (i : ℕ) → ¬ (i < 16) → number_from_digits 16 (take i sixteen) ≡ bcd_number ds
@@ -108,14 +128,14 @@ pub leading_bytes_encode : (ds : List ℕ) (len n : ℕ) → length ds ≡ len �
 unfolding leading_bytes
 leading_bytes_encode ds len n l few h e =
     let all = All-from_recursion (λ d. d < 10) ds h in
-    let whole : nibbles (to_be_bytes w64 n) ≡ sixteen ds all (omega arith) =
-    rw (e, ← l, ← (number_pad 16 (16 - length ds) ds)) (sixteen_nibbles ds all (omega arith)) in
+    let whole : nibbles (to_be_bytes w64 n) ≡ padded 16 ds =
+    rw (e, ← l, ← (number_pad 16 (16 - length ds) ds), padded_few 16 ds (omega arith)) (sixteen_nibbles ds all) in
     encodes _ _ _ (
       record {
         many = l;
-        same = λ k q. grind (arith, nibble_rules, ap (λ xs. get_or xs k 0) whole);
+        same = λ k q. grind (arith, nibble_rules, get_or-padded, ap (λ xs. get_or xs k 0) whole);
         decimal = λ k q. all k 0 (omega arith);
-        unused = grind (arith, nibble_rules, ap (λ xs. get_or xs len 0) whole);
+        unused = grind (arith, nibble_rules, get_or-padded, get_or_past, ap (λ xs. get_or xs len 0) whole);
       },
       grind (arith, nibble_rules),
     )
@@ -179,4 +199,5 @@ word_encodes bytes len p few =
     let ds = digits_in bytes len in
     let all : nibbles (front ++ replicate (8 - length front) 0) ≡ ds ++ replicate (16 - length ds) 0 =
     same_number_lists _ _ (grind (arith, nibble_rules)) (λ k h. grind (arith, nibble_rules)) in
-    sym (bytes_number 0 _) ∙ ap (number_from_digits 16) all
+    let count : length ds ≤ 16 = omega (arith, length-take len (nibbles bytes)) in
+    sym (bytes_number 0 _) ∙ ap (number_from_digits 16) (all ∙ padded_few 16 ds count)

@@ -22,6 +22,10 @@ pub record IsPacked (bytes : List ℕ) (len : ℕ) : Type 0 where
 unfoldable pub leading_bytes : ℕ → ℕ → List ℕ
 leading_bytes number len = take ((len + 1) / 2) (to_be_bytes w64 number)
 
--- the number whose sixteen nibbles are the digits and then zeros: 0x2500000000000000 of 2 and 5
+-- the first k digits, with zeros after fewer: 2, 5 and 0 of 2 and 5 for k = 3
+unfoldable pub padded : ℕ → List ℕ → List ℕ
+padded k digits = take k (digits ++ replicate k 0)
+
+-- the number whose sixteen nibbles are the first sixteen digits, with zeros after fewer: 0x2500000000000000 of 2 and 5
 unfoldable pub bcd_number : List ℕ → ℕ
-bcd_number digits = number_from_digits 16 (digits ++ replicate (16 - length digits) 0)
+bcd_number digits = number_from_digits 16 (padded 16 digits)

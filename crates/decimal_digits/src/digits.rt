@@ -72,24 +72,29 @@ pub trait DigitStore: Drop {
         Ok(list)
     }
 
-    /// Returns the digits as a packed BCD number of sixteen nibbles, as `from_bcd` takes it.
+    /// Returns the first sixteen digits as a packed BCD number of sixteen nibbles, with zeros after fewer digits.
     ///
-    /// Of 2 and 5 it is `0x2500_0000_0000_0000`. None if there are more than sixteen digits.
-    fn to_bcd(&self) -> Option<u64>
-        ensures number { IfSome result (λ number. number ≡ bcd_number (digits self.now)) }
-        ensures at_most { IfSome result (λ number. length (digits self.now) ≤ 16) }
-        ensures many { IfNone result (16 < length (digits self.now)) }
+    /// Of 2 and 5 it is `0x2500_0000_0000_0000`.
+    fn leading_bcd(&self) -> u64
+        ensures { result ≡ bcd_number (digits self.now) }
     {
         let len = self.len();
-        if len > 16 {
-            return None;
-        }
         let mut number = 0;
         for index in 0..16 {
             let digit = if index < len { self.get(index) } else { 0 };
             number = number * 16 + u64::from(digit);
         }
-        Some(number)
+        number
+    }
+
+    /// Returns the packed BCD bytes of the digits, if the list stores them so.
+    ///
+    /// Of 2, 5 and 0 they are 0x25 and 0x00. With an odd number of digits the low nibble of the last byte is 0.
+    fn as_bcd(&self) -> Option<&[u8]>
+        ensures packed { IfSome result (λ bytes. IsPacked bytes.now (length (digits self.now))) }
+        ensures digits { IfSome result (λ bytes. digits_in bytes.now (length (digits self.now)) ≡ digits self.now) }
+    {
+        None
     }
 
     /// Makes a second list of the same digits.

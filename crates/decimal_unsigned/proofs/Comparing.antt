@@ -1,14 +1,19 @@
 -- The order of two numbers, by their digits.
-use Rattle.decimal_unsigned.proofs.Common.{clamps, nat_tests, common_steps, ◌≡◌, ℕ, ◌+◌, ◌-◌, ◌*◌, ◌^◌, ◌<◌, ◌≤◌, List, [], ◌∷◌, length, get_or, drop, refl, sym, ◌∙◌, arith, ◌⊎◌, inl, inr, min, ℤ, ◌<ℤ◌, nat_cmp, mul-lt-mul_of_pos_right, pow-le-pow_right, ints, recursion_from_All, number_lt, pow-add, number_from_digits, AllBelowBase, offset, offset_is, IsStored, All, slice_cmp, below_sixteen, Unsigned, IsValue}
+use Rattle.decimal_unsigned.proofs.Common.{clamps, nat_tests, common_steps, ◌≡◌, ℕ, suc, ◌+◌, ◌-◌, ◌*◌, ◌^◌, ◌<◌, ◌≤◌, ◌%◌, ◌/◌, List, [], ◌∷◌, ◌++◌, length, get_or, take, drop, replicate, refl, sym, ◌∙◌, ap, arith, ◌⊎◌, inl, inr, min, ℤ, ◌<ℤ◌, nat_cmp, mul-le-mul_right, mul-lt-mul_of_pos_right, pow-le-pow_right, ints, length-drop, recursion_from_All, number_lt, pow-add, number_from_digits, AllBelowBase, offset, offset_is, IsStored, All, slice_cmp, below_sixteen, Unsigned, IsValue}
 use Rattle.std.specs.declared.cmp.Ordering.{Ordering}
 use Rattle.std.specs.declared.cmp.Ordering.TheVariants.{Less, Equal, Greater}
 use Rattle.std.specs.Ordering.{MatchOrdering, ordering_then, int_cmp}
 use Rattle.std.specs.Cmp.{ranked, nat_cmp_is}
 use Rattle.std.proofs.Math.Nat.{one-le-pow, mul-pos}
-use Rattle.std.proofs.lemmas.Int.Digits.{number_after_append}
+use Rattle.std.proofs.lemmas.Grind.{same_number_lists}
+use Rattle.std.proofs.lemmas.Bool.{cases_lt}
+use Rattle.std.proofs.lemmas.List.{length-append, length-replicate, get_or_past}
+use Rattle.std.proofs.lemmas.List.Elements.{All-append, All-replicate}
 use Rattle.decimal_digits.specs.Digits.{number_of, number_at}
-use Rattle.decimal_digits.specs.Nibbles.{bcd_number}
-use Rattle.decimal_digits.proofs.DigitLists.{number_first, number_zeros}
+use Rattle.decimal_digits.specs.Nibbles.{nibbles, digits_in, bcd_number, IsPacked}
+use Rattle.decimal_digits.proofs.DigitLists.{number_first, number_pad, number_split, number-drop-lt}
+use Rattle.decimal_digits.proofs.LeadingBytes.{bytes_number, padded_front, squares}
+use Rattle.decimal_digits.proofs.Nibbles.{nibble_rules, nibble_is, high_nibble}
 use Rattle.decimal_unsigned.proofs.Shown.{value_of_view}
 use Rattle.decimal_unsigned.proofs.Values.{number_of-lt, number_of-ge, number_of-pos, number_of-none, lowest}
 
@@ -113,20 +118,112 @@ module _ (base : ℕ) (above : 0 < base) where
       nat_cmp_is (worth top (d ∷ ds)) (worth top (e ∷ es)) (ordering_then (nat_cmp d e) (slice_cmp nat_cmp ds es))
       (firsts top d e ds es b.1 c.1 f g others (nat_cmp d e) (ranked d e (nat_cmp d e) refl))
 
--- ---- up to sixteen digits as the nibbles of a number
-nibbles_value : (ds : List ℕ) → bcd_number ds ≡ number_from_digits 16 ds * 16 ^ (16 - length ds)
+-- ---- two lists of decimal digits, by their first sixteen digits
+-- the digits, padded with zeros to at least sixteen, are the first sixteen and a rest
+fronts : (ds : List ℕ) (top : ℕ) → All (λ d. d < 10) ds → length ds ≤ top → 16 ≤ top
+    → (r : ℕ) × (worth 16 (omega arith) top ds ≡ bcd_number ds * 16 ^ (top - 16) + r) × (r < 16 ^ (top - 16))
 unfolding bcd_number
-nibbles_value ds = grind (arith, ints, clamps, nat_tests, common_steps, number_after_append, number_zeros)
+fronts ds top h fits enough =
+    let padded = ds ++ replicate (top - length ds) 0 in
+    let len : length padded ≡ top =
+    omega (arith, length-append ds (replicate (top - length ds) 0), length-replicate {A = ℕ} (top - length ds) 0) in
+    let digits = All-append (λ d. d < 10) ds _ h (All-replicate (λ d. d < 10) (top - length ds) 0 (omega arith)) in
+    let below = below_sixteen padded (recursion_from_All (λ d. d < 10) padded digits) in
+    let split = rw len at (number_split 16 16 padded (omega arith)) in (
+      number_from_digits 16 (drop 16 padded),
+      sym (number_pad 16 (top - length ds) ds) ∙ split
+      ∙ ap (λ xs. number_from_digits 16 xs * 16 ^ (top - 16) + number_from_digits 16 (drop 16 padded))
+      (padded_front 16 top ds enough fits),
+      rw len at (number-drop-lt 16 16 padded below),
+    )
 
--- the digits have the order of these numbers
-pub nibbles_order : (ds es : List ℕ) → All (λ d. d < 10) ds → All (λ d. d < 10) es → length ds ≤ 16 → length es ≤ 16
-    → EndsInDigit ds → EndsInDigit es
-    → nat_cmp (bcd_number ds) (bcd_number es) ≡ slice_cmp nat_cmp ds es
-nibbles_order ds es b c f g p q =
-    let below = below_sixteen ds (recursion_from_All (λ d. d < 10) ds b) in
-    let other_below = below_sixteen es (recursion_from_All (λ d. d < 10) es c) in
-    (λ k. nat_cmp (nibbles_value ds k) (nibbles_value es k))
-    ∙ sym (digits_order 16 (omega arith) 16 ds es below other_below f g p q)
+-- the first parts decide if they differ
+firsts_decide : (a b p r s : ℕ) → r < p → s < p → ¬ (a ≡ b) → nat_cmp a b ≡ nat_cmp (a * p + r) (b * p + s)
+firsts_decide a b p r s l m differ =
+    same_order a b (a * p + r) (b * p + s) (λ h. let n = mul-le-mul_right p h in omega arith) (λ e. absurd (differ e))
+    (λ h. let n = mul-le-mul_right p h in omega arith)
+
+module _ (ds es : List ℕ) (h : All (λ d. d < 10) ds) (g : All (λ d. d < 10) es) (p : EndsInDigit ds)
+    (q : EndsInDigit es) where
+  order_at : (top : ℕ) → length ds ≤ top → length es ≤ top
+      → slice_cmp nat_cmp ds es ≡ nat_cmp (worth 16 (omega arith) top ds) (worth 16 (omega arith) top es)
+  order_at top l m =
+      digits_order 16 (omega arith) top ds es (below_sixteen ds (recursion_from_All (λ d. d < 10) ds h))
+      (below_sixteen es (recursion_from_All (λ d. d < 10) es g)) l m p q
+
+  -- the lists have the order of the numbers of their first sixteen digits, if these differ or there are no others
+  pub fronts_order : (¬ (bcd_number ds ≡ bcd_number es)) ⊎ ((length ds ≤ 16) × (length es ≤ 16))
+      → nat_cmp (bcd_number ds) (bcd_number es) ≡ slice_cmp nat_cmp ds es
+  fronts_order (inl differ) =
+      let top = length ds + length es + 16 in
+      let (r, e, l) = fronts ds top h (omega arith) (omega arith) in
+      let (s, f, m) = fronts es top g (omega arith) (omega arith) in
+      firsts_decide (bcd_number ds) (bcd_number es) (16 ^ (top - 16)) r s l m differ
+      ∙ (λ k. nat_cmp (sym e k) (sym f k)) ∙ sym (order_at top (omega arith) (omega arith))
+  fronts_order (inr few) =
+      let (r, e, l) = fronts ds 16 h few.0 (omega arith) in
+      let (s, f, m) = fronts es 16 g few.1 (omega arith) in
+      let left : worth 16 (omega arith) 16 ds ≡ bcd_number ds = omega arith in
+      let right : worth 16 (omega arith) 16 es ≡ bcd_number es = omega arith in
+      (λ k. nat_cmp (sym left k) (sym right k)) ∙ sym (order_at 16 few.0 few.1)
+
+-- ---- two lists of digits, by their packed bytes
+-- the bytes write the number of the digits
+module _ (bytes ds : List ℕ) (packed : IsPacked bytes (length ds)) (same : digits_in bytes (length ds) ≡ ds) where
+  nibbles_are : nibbles bytes ≡ ds ++ replicate (length ds % 2) 0
+  nibbles_are =
+      same_number_lists _ _ (grind (arith, nibble_rules, packed.count))
+      (λ k l. grind (arith, nibble_rules, packed.count, packed.unused, ap (λ xs. get_or xs k 0) same))
+
+  packed_worth : (top : ℕ) → length bytes ≤ top
+      → worth 256 (omega arith) top bytes ≡ worth 16 (omega arith) (2 * top) ds
+  packed_worth top fits =
+      let number : number_from_digits 256 bytes ≡ number_from_digits 16 ds * 16 ^ (length ds % 2) =
+      sym (bytes_number 0 bytes) ∙ ap (number_from_digits 16) nibbles_are ∙ number_pad 16 (length ds % 2) ds in
+      let places : 256 ^ (top - length bytes) ≡ 16 ^ (2 * (top - length bytes)) = sym (squares (top - length bytes)) in
+      let all : length ds % 2 + 2 * (top - length bytes) ≡ 2 * top - length ds = omega (arith, packed.count) in
+      rw (number, places, ← all, pow-add) (omega arith)
+
+  bytes_end : EndsInDigit ds → EndsInDigit bytes
+  bytes_end ends some =
+      let last = length ds - 1 in
+      let digit : get_or (nibbles bytes) last 0 ≡ get_or ds last 0 =
+      ap (λ xs. get_or xs last 0) nibbles_are ∙ grind (arith, nibble_rules) in
+      let at : last / 2 ≡ length bytes - 1 = omega (arith, packed.count) in
+      let positive : 0 < get_or ds last 0 = ends (omega (arith, packed.count)) in
+      elim (nibble_is bytes last).1 [
+        | inl e ↦ omega (arith, ap (λ i. get_or bytes i 0) at)
+        | inr e ↦ omega (arith, ap (λ i. get_or bytes i 0) at)
+      ]
+
+  -- they are bytes
+  bytes_below : All (λ d. d < 10) ds → (i : ℕ) → get_or bytes i 0 < 256
+  bytes_below h i = elim (cases_lt i (length bytes)) [
+    | inl l ↦
+        let digits =
+        All-append (λ d. d < 10) ds _ h (All-replicate (λ d. d < 10) (length ds % 2) 0 (omega arith)) in
+        let high : get_or (ds ++ replicate (length ds % 2) 0) (2 * i) 0 < 10 =
+        digits (2 * i) 0 (omega (arith, packed.count, length-append ds (replicate (length ds % 2) 0),
+        length-replicate {A = ℕ} (length ds % 2) 0)) in
+        omega (arith, high, high_nibble bytes i, ap (λ xs. get_or xs (2 * i) 0) nibbles_are)
+    | inr l ↦ omega (arith, get_or_past bytes i 0 l)
+  ]
+
+all_below : (base : ℕ) (xs : List ℕ) → ((i : ℕ) → get_or xs i 0 < base) → AllBelowBase base xs
+all_below base [] h = tt
+all_below base (x ∷ xs) h = (h 0, all_below base xs (λ i. h (suc i)))
+
+-- packed bytes have the order of their digits
+pub bytes_order : (bs cs ds es : List ℕ) → All (λ d. d < 10) ds → All (λ d. d < 10) es → EndsInDigit ds → EndsInDigit es
+    → IsPacked bs (length ds) → digits_in bs (length ds) ≡ ds → IsPacked cs (length es) → digits_in cs (length es) ≡ es
+    → slice_cmp nat_cmp bs cs ≡ slice_cmp nat_cmp ds es
+bytes_order bs cs ds es h g p q m e n f =
+    let top = length bs + length cs in
+    digits_order 256 (omega arith) top bs cs (all_below 256 bs (bytes_below bs ds m e h))
+    (all_below 256 cs (bytes_below cs es n f g)) (omega arith) (omega arith)
+    (bytes_end bs ds m e p) (bytes_end cs es n f q)
+    ∙ (λ k. nat_cmp (packed_worth bs ds m e top (omega arith) k) (packed_worth cs es n f top (omega arith) k))
+    ∙ sym (order_at ds es h g p q (2 * top) (omega (arith, m.count)) (omega (arith, n.count)))
 
 -- ---- two values
 module _ {ds es : List ℕ} {m m' hi lo hi' lo' : ℤ} (s : IsStored ds m hi lo) (t : IsStored es m' hi' lo') where

@@ -28,5 +28,6 @@ pub mod RoundingLaws
 pub mod RoundingSucceeds
 pub mod Pieces
 pub mod Comparing
+pub mod BcdNumber
 pub mod WholeNumbers
 pub mod BcdValues

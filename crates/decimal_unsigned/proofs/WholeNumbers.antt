@@ -1,14 +1,11 @@
 -- The integer that the digits of a value write.
 use Rattle.decimal_unsigned.proofs.Common.{clamps, common_steps, zero, suc, [], ◌∷◌, ◌++◌, replicate, ◌≡◌, ℕ, ◌+◌, ◌-◌, ◌*◌, ◌/◌, ◌%◌, ◌^◌, ◌<◌, ◌≤◌, List, length, get_or, take, refl, sym, ◌∙◌, ap, arith, Ok, Err, ℤ, pos, ◌+ℤ◌, ◌<ℤ◌, nat_tests, mul-mod_left, pow-le-pow_right, ints, length-append, length-take, length-take-le, take_all, recursion_from_All, number_from_digits, AllBelowBase, offset, weight, leading, offset_is, ten_pos, below_take, no_more_zeros, IsStored, Unsigned, IsValue, Result, All, length-replicate, number_back, below_sixteen, leading_none}
-use Rattle.std.proofs.Common.{w64}
 use Rattle.std.proofs.Math.Nat.{mul-div_cancel}
-use Rattle.std.specs.Int.{to_be_bytes}
-use Rattle.std.proofs.Math.ListN.{get_or-eq_default}
-use Rattle.std.proofs.lemmas.Int.Digits.{number_after_append, number_more as number_more_digits}
-use Rattle.decimal_digits.specs.Nibbles.{nibbles, bcd_number}
+use Rattle.std.proofs.lemmas.Int.Digits.{number_more as number_more_digits}
+use Rattle.decimal_digits.specs.Nibbles.{bcd_number}
 use Rattle.decimal_digits.specs.Digits.{number_of, number_at}
-use Rattle.decimal_digits.proofs.DigitLists.{number_zeros, number-div}
-use Rattle.decimal_digits.proofs.LeadingBytes.{hex_pow, nibbles_of_bytes, sixteen, sixteen_are, sixteen_digits, sixteen_digit, sixteen_zero}
+use Rattle.decimal_digits.proofs.DigitLists.{number-div}
+use Rattle.decimal_digits.proofs.LeadingBytes.{hex_pow, sixteen, sixteen_are, sixteen_digits, get_or-padded}
 use Rattle.decimal_digits.proofs.NumberAt.{number_at-more, number_at-lt, number_at-ge}
 use Rattle.decimal_digits.proofs.Leading.{leading_more}
 use Rattle.decimal_unsigned.specs.declared.error.IntegerError.TheVariants.{NotWhole, OutOfRange}
@@ -130,33 +127,13 @@ module _ {ds : List ℕ} {m hi lo : ℤ} {v : Unsigned} (t : IsStored ds m hi lo
         let all = ap (number_at places) (take_all places ds few) in
         whole_result (sym (in_range-above bound (leading places ds) (omega (arith, least, higher, all))))
 
--- ---- The integer that the nibbles of a number write.
--- two digits
-abbrev two : ℕ → ℕ
-two byte = byte / 16 * 10 + byte % 16
-
--- the digits of eight bytes, by pairs
-pub by_pairs : (a b c d e f g h : ℕ)
-    → ((two a * 100 + two b) * 10000 + (two c * 100 + two d)) * 100000000
-    + ((two e * 100 + two f) * 10000 + (two g * 100 + two h))
-    ≡ number_from_digits 10 (nibbles (a ∷ (b ∷ (c ∷ (d ∷ (e ∷ (f ∷ (g ∷ (h ∷ [])))))))))
-unfolding nibbles
-by_pairs a b c d e f g h = omega arith
-
--- leading zeros do not change a number
-zeros_in_front : (base k : ℕ) (xs : List ℕ) → number_from_digits base (replicate k 0 ++ xs) ≡ number_from_digits base xs
-zeros_in_front base k xs = grind (arith, ints, clamps, nat_tests, common_steps, number_after_append, number_zeros)
-
-zeros_below : (k : ℕ) (xs : List ℕ) → AllBelowBase 16 xs → AllBelowBase 16 (replicate k 0 ++ xs)
-zeros_below zero xs h = h
-zeros_below (suc k) xs h = (omega arith, zeros_below k xs h)
-
-module _ (ds : List ℕ) (h : All (λ d. d < 10) ds) (few : length ds ≤ 16) where
+-- ---- the first sixteen digits, from their packed BCD number
+module _ (ds : List ℕ) (h : All (λ d. d < 10) ds) where
   abbrev all : List ℕ
-  all = sixteen ds h few
+  all = sixteen ds h
 
   all_hex : AllBelowBase 16 all
-  all_hex = below_sixteen all (sixteen_digits ds h few)
+  all_hex = below_sixteen all (sixteen_digits ds h)
 
   -- a right shift keeps the first `count` nibbles
   shifted_front : (count : ℕ) → count ≤ 16
@@ -165,50 +142,26 @@ module _ (ds : List ℕ) (h : All (λ d. d < 10) ds) (few : length ds ≤ 16) wh
   shifted_front count l =
       grind (arith, ints, clamps, nat_tests, common_steps, sixteen_are, hex_pow, number-div, all_hex)
 
-  -- the digits are its last nibbles
-  front_halves_are : (count : ℕ) → count ≤ 16
-      → nibbles (to_be_bytes w64 (number_from_digits 16 (take count all))) ≡ replicate (16 - count) 0 ++ take count all
-  front_halves_are count l =
-      let xs = take count all in
-      let zs = replicate (16 - count) 0 ++ xs in
-      let n : length xs ≡ count = length-take-le count all (omega (arith, sixteen_are ds h few)) in
-      let len : length zs ≡ 2 * 8 =
-      omega (arith, length-append (replicate (16 - count) 0) xs, length-replicate {A = ℕ} (16 - count) 0) in
-      ap (λ m. nibbles (to_be_bytes w64 m)) (sym (zeros_in_front 16 (16 - count) xs))
-      ∙ nibbles_of_bytes 8 0 zs len (zeros_below (16 - count) xs (below_take 16 count all all_hex))
-
-  -- a place after the digits is 0
-  place_of : (i : ℕ) → i < 16 → get_or all i 0 ≡ get_or ds i 0
-  place_of i l = grind (arith, ints, clamps, nat_tests, common_steps, sixteen_digit, sixteen_zero, get_or-eq_default)
-
   -- the first of them write the number that the first digits write
   front_leading : (i : ℕ) → i ≤ 16 → number_from_digits 10 (take i all) ≡ leading i ds
   front_leading zero l = sym (leading_none 0 ds refl)
   front_leading (suc i) l =
       let k : suc i ≡ i + 1 = omega arith in
-      let offset = place_of i (omega arith) in
       let before = front_leading i (omega arith) in
       ap (λ j. number_from_digits 10 (take j all)) k
-      ∙ number_more_digits 10 all i (omega (arith, sixteen_are ds h few))
-      ∙ (λ j. before j * 10 + offset j)
+      ∙ number_more_digits 10 all i (omega (arith, sixteen_are ds h))
+      ∙ (λ j. before j * 10 + get_or-padded 16 ds i (omega arith) j)
       ∙ sym (leading_next i ds)
       ∙ ap (λ j. leading j ds) (sym k)
 
   -- the shifted nibbles, as decimal digits, write the number of the first `count` digits
   pub few_leading : (count m n : ℕ) → count ≤ 16 → m ≡ bcd_number ds / 2 ^ (4 * (16 - count))
-      → n ≡ number_from_digits 10 (nibbles (to_be_bytes w64 m)) → n ≡ leading count ds
+      → ((xs : List ℕ) → AllBelowBase 16 xs → length xs ≤ 16 → m ≡ number_from_digits 16 xs
+      → n ≡ number_from_digits 10 xs) → n ≡ leading count ds
   few_leading count m n l e f =
-      grind (
-        arith,
-        ints,
-        clamps,
-        nat_tests,
-        common_steps,
-        shifted_front,
-        front_halves_are,
-        zeros_in_front,
-        front_leading,
-      )
+      f (take count all) (below_take 16 count all all_hex)
+      (omega (arith, length-take-le count all (omega (arith, sixteen_are ds h)))) (e ∙ shifted_front count l)
+      ∙ front_leading count l
 
 -- the lemmas for converting the leading digits to an integer
 pub ruleset to_u64 = (leading_next, leading_u64)

@@ -10,8 +10,8 @@ mod nibbles;
 use super::DigitStore;
 use bulk::{append_text, count_trailing_nibbles, write_text};
 use bytes::{
-    append_digits, append_zeros, are_equal, copy_bytes, cut_digits, drop_unused, inline_bcd,
-    keep_digits, pack_digits, push_digit, reserve_digits, set_digit, truncate_spilled, word,
+    append_digits, append_zeros, copy_bytes, cut_digits, drop_unused, keep_digits, leading_word,
+    pack_digits, push_digit, reserve_digits, set_digit, truncate_spilled,
 };
 use nibbles::byte_count;
 pub(super) use nibbles::nibble_at;
@@ -95,14 +95,13 @@ impl DigitStore for PackedDigits {
     }
 
     #[inline]
-    fn to_bcd(&self) -> Option<u64> {
-        if self.len > 16 {
-            return None;
-        }
-        match inline_bcd(&self.bytes, self.len) {
-            Some(number) => Some(number),
-            None => Some(word(self.front())),
-        }
+    fn leading_bcd(&self) -> u64 {
+        leading_word(&self.bytes, self.len)
+    }
+
+    #[inline]
+    fn as_bcd(&self) -> Option<&[u8]> {
+        Some(self.front())
     }
 
     fn clone(&self) -> Result<Self, AllocError> {
@@ -190,12 +189,9 @@ impl DigitStore for PackedDigits {
         if self.len != other.len {
             return false;
         }
-        match (
-            inline_bcd(&self.bytes, self.len),
-            inline_bcd(&other.bytes, other.len),
-        ) {
-            (Some(left), Some(right)) => left == right,
-            _ => are_equal(self.front(), other.front()),
+        if self.len <= 16 {
+            return self.leading_bcd() == other.leading_bcd();
         }
+        self.front() == other.front()
     }
 }

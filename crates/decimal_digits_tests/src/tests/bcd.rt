@@ -1,45 +1,78 @@
-//! Up to sixteen digits as packed BCD, over each store.
+//! Digits as packed BCD, over each store.
 use super::*;
 
-/// The digits of a text, and the number with these digits as its highest nibbles.
-const PACKED: &[(&[u8], Option<u64>)] = &[
-    (b"", Some(0)),
-    (b"2", Some(0x2000_0000_0000_0000)),
-    (b"25", Some(0x2500_0000_0000_0000)),
-    (b"250", Some(0x2500_0000_0000_0000)),
-    (b"025", Some(0x0250_0000_0000_0000)),
-    (b"12345", Some(0x1234_5000_0000_0000)),
-    (b"1234567", Some(0x1234_5670_0000_0000)),
-    (b"12345678", Some(0x1234_5678_0000_0000)),
-    (b"123456789", Some(0x1234_5678_9000_0000)),
-    (b"12345678901", Some(0x1234_5678_9010_0000)),
-    (b"1234567890123", Some(0x1234_5678_9012_3000)),
-    (b"123456789012345", Some(0x1234_5678_9012_3450)),
-    (b"1234567890123456", Some(0x1234_5678_9012_3456)),
-    (b"9999999999999999", Some(0x9999_9999_9999_9999)),
-    (b"12345678901234567", None),
-    (b"00000000000000000", None),
+/// The digits of a text, and the number whose sixteen nibbles are the first digits.
+const LEADING: &[(&[u8], u64)] = &[
+    (b"", 0),
+    (b"2", 0x2000_0000_0000_0000),
+    (b"25", 0x2500_0000_0000_0000),
+    (b"250", 0x2500_0000_0000_0000),
+    (b"025", 0x0250_0000_0000_0000),
+    (b"12345", 0x1234_5000_0000_0000),
+    (b"1234567", 0x1234_5670_0000_0000),
+    (b"12345678", 0x1234_5678_0000_0000),
+    (b"123456789", 0x1234_5678_9000_0000),
+    (b"12345678901", 0x1234_5678_9010_0000),
+    (b"1234567890123", 0x1234_5678_9012_3000),
+    (b"123456789012345", 0x1234_5678_9012_3450),
+    (b"1234567890123456", 0x1234_5678_9012_3456),
+    (b"9999999999999999", 0x9999_9999_9999_9999),
+    (b"12345678901234567", 0x1234_5678_9012_3456),
+    (b"12345678901234567890123456789012345", 0x1234_5678_9012_3456),
+    (b"00000000000000000", 0),
+    (b"00000000000000009", 0),
 ];
 
-/// Whether this number has the digits of a text as its highest nibbles, or there is none.
-fn has_bcd<D: DigitStore>(
+/// Whether the first digits of a text are the nibbles of this number.
+fn has_leading<D: DigitStore>(
     alloc: Global,
     text: &[u8],
-    number: Option<u64>,
+    number: u64,
 ) -> Result<bool, AllocError> {
     let list: D = list_of(alloc, text)?;
-    Ok(list.to_bcd() == number)
+    Ok(list.leading_bcd() == number)
 }
 
 #[test]
 fn converts_to_bcd(rt: HostRuntime) -> Result<(), Fail> {
-    for (text, number) in PACKED {
+    for (text, number) in LEADING {
         assert!(rt;
-            has_bcd::<PackedDigits>(rt.alloc(), text, *number)?
-                && has_bcd::<DigitList>(rt.alloc(), text, *number)?,
+            has_leading::<PackedDigits>(rt.alloc(), text, *number)?
+                && has_leading::<DigitList>(rt.alloc(), text, *number)?,
             "{} digits",
             text.len()
         );
+    }
+    Ok(())
+}
+
+/// The digits of a text, and their bytes.
+const BYTES: &[(&[u8], &[u8])] = &[
+    (b"", &[]),
+    (b"2", &[0x20]),
+    (b"250", &[0x25, 0x00]),
+    (b"1234567890123456", &[0x12, 0x34, 0x56, 0x78, 0x90, 0x12, 0x34, 0x56]),
+    (
+        b"12345678901234567",
+        &[0x12, 0x34, 0x56, 0x78, 0x90, 0x12, 0x34, 0x56, 0x70],
+    ),
+];
+
+/// Whether the digits of a text are stored as these bytes.
+fn has_bytes<D: DigitStore>(
+    alloc: Global,
+    text: &[u8],
+    bytes: Option<&[u8]>,
+) -> Result<bool, AllocError> {
+    let list: D = list_of(alloc, text)?;
+    Ok(list.as_bcd() == bytes)
+}
+
+#[test]
+fn lends_packed_bytes(rt: HostRuntime) -> Result<(), Fail> {
+    for (text, bytes) in BYTES {
+        assert!(rt; has_bytes::<PackedDigits>(rt.alloc(), text, Some(*bytes))?);
+        assert!(rt; has_bytes::<DigitList>(rt.alloc(), text, None)?);
     }
     Ok(())
 }

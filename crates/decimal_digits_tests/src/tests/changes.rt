@@ -44,22 +44,19 @@ fn changed<D: DigitStore>(alloc: Global, text: &[u8], changes: &[Change]) -> Res
     Ok(list)
 }
 
-/// Returns up to sixteen digits as packed BCD, the first in the highest nibble; unused nibbles are 0.
-fn nibbles(text: &[u8]) -> Option<u64> {
-    if text.len() > 16 {
-        return None;
-    }
+/// Returns the first sixteen digits as packed BCD, the first in the highest nibble; unused nibbles are 0.
+fn nibbles(text: &[u8]) -> u64 {
     let mut number = 0u64;
     for index in 0..16 {
         let digit = text.get(index).map_or(0, |ascii| *ascii % 16);
         number = number << 4 | u64::from(digit);
     }
-    Some(number)
+    number
 }
 
 /// Whether a list has the digits of a text and its bytes, and equals the list of these digits that was never changed.
 fn is_text<D: DigitStore>(list: &D, alloc: Global, text: &[u8]) -> Result<bool, AllocError> {
-    Ok(has_digits(list, text) && list.to_bcd() == nibbles(text) && equals_text(list, alloc, text)?)
+    Ok(has_digits(list, text) && list.leading_bcd() == nibbles(text) && equals_text(list, alloc, text)?)
 }
 
 /// Whether changes of a text's list make another text's list.

@@ -9,6 +9,17 @@ use super::UnsignedOver;
 use decimal_digits::digits::DigitStore;
 use std::cmp::Ordering;
 
+/// Compares two lists of bytes by the first that differ; if one is a prefix of the other, the longer one is greater.
+fn compare_bytes(bytes: &[u8], other: &[u8]) -> Ordering
+    ensures { result ≡ slice_cmp nat_cmp bytes.now other.now }
+{
+    // Equality takes less time than order.
+    if bytes == other {
+        return Ordering::Equal;
+    }
+    bytes.cmp(&other)
+}
+
 /// Compares two lists of digits by the first digits that differ; if one is a prefix of the other, the longer one is
 /// greater. Neither list ends in 0.
 fn compare_digits<D: DigitStore, E: DigitStore>(digits: &D, other: &E) -> Ordering
@@ -16,8 +27,14 @@ fn compare_digits<D: DigitStore, E: DigitStore>(digits: &D, other: &E) -> Orderi
     requires other_stripped { IsStripped (E.digits other.now) }
     ensures { result ≡ slice_cmp nat_cmp (D.digits digits.now) (E.digits other.now) }
 {
-    if let (Some(number), Some(other_number)) = (digits.to_bcd(), other.to_bcd()) {
-        return number.cmp(&other_number);
+    let front = digits.leading_bcd();
+    let other_front = other.leading_bcd();
+    let longest = digits.len().max(other.len());
+    if front != other_front || longest <= 16 {
+        return front.cmp(&other_front);
+    }
+    if let (Some(bytes), Some(other_bytes)) = (digits.as_bcd(), other.as_bcd()) {
+        return compare_bytes(bytes, other_bytes);
     }
     for index in 0..digits.len().min(other.len()) {
         let digit = digits.get(index);

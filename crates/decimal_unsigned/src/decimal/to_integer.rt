@@ -1,8 +1,6 @@
 //! Conversions of values to integers.
-ghost use Rattle.std.specs.Prelude.{◌≡◌, ◌+◌, ◌*◌, ◌/◌, ◌%◌, ◌^◌, ◌<◌, ◌≤◌, slice_index, IfSome};
-ghost use Rattle.std.specs.Int.{w64, to_be_bytes};
-ghost use Rattle.std.specs.Int.Digits.{number_from_digits};
-ghost use Rattle.decimal_digits.specs.Nibbles.{nibbles};
+ghost use Rattle.std.specs.Prelude.{◌≡◌, ℕ, ◌+◌, ◌*◌, ◌^◌, ◌<◌, ◌≤◌, ◌+ℤ◌, ◌<ℤ◌, pos, List, length, slice_index, IfSome, IfNone};
+ghost use Rattle.std.specs.Int.Digits.{number_from_digits, AllBelowBase};
 ghost use Rattle.decimal_digits.specs.Remainders.{leading};
 ghost use Rattle.decimal_unsigned.specs.ToInteger.{in_range, as_integer};
 ghost use Rattle.decimal_unsigned.specs.Unsigned.{IsValue};
@@ -25,51 +23,33 @@ fn digit_or_zero<D: DigitStore>(digits: &D, index: usize) -> u8
     }
 }
 
-/// Returns the number of four digits, which are the nibbles of two bytes.
+/// Returns the number that digits write in base 10, if they write `number` in base 16: 25 of 0x25.
 #[inline]
-fn four_digits(first: u8, second: u8) -> u64
-    ensures { result ≡ (first / 16 * 10 + first % 16) * 100 + (second / 16 * 10 + second % 16) }
+fn number_of_bcd(number: u64) -> u64
+    ensures { (ds : List ℕ) → AllBelowBase 16 ds → length ds ≤ 16 → number ≡ number_from_digits 16 ds
+        → result ≡ number_from_digits 10 ds }
 {
-    u64::from(first / 16 * 10 + first % 16) * 100 + u64::from(second / 16 * 10 + second % 16)
-}
-
-/// Returns the number of sixteen digits, which are the nibbles of a 64-bit number.
-#[inline]
-fn sixteen_digits(number: u64) -> u64
-    ensures { result ≡ number_from_digits 10 (nibbles (to_be_bytes w64 number)) }
-{
-    let [a, b, c, d, e, f, g, h] = number.to_be_bytes();
-    let high = four_digits(a, b) * 10_000 + four_digits(c, d);
-    let low = four_digits(e, f) * 10_000 + four_digits(g, h);
-    high * 100_000_000 + low
-}
-
-/// Returns the number of the first `count` digits, where zeros follow the list, from its packed BCD number.
-///
-/// None if `count` is 0 or more than sixteen, or the list has more than sixteen digits.
-#[inline]
-fn leading_packed<D: DigitStore>(digits: &D, count: usize) -> Option<u64>
-    ensures { IfSome result (λ number. number ≡ leading count (D.digits digits.now)) }
-{
-    if count == 0 || count > 16 {
-        return None;
-    }
-    let number = digits.to_bcd()?;
-    Some(sixteen_digits(number >> (4 * (16 - count))))
+    // Joins two digits in each byte, four in two bytes, eight in four bytes, and then all sixteen.
+    let pairs = number - (16 - 10) * (number >> 4 & 0x0f0f_0f0f_0f0f_0f0f);
+    let fours = pairs - (256 - 100) * (pairs >> 8 & 0x00ff_00ff_00ff_00ff);
+    let eights = fours - (65_536 - 10_000) * (fours >> 16 & 0x0000_ffff_0000_ffff);
+    eights - (4_294_967_296 - 100_000_000) * (eights >> 32)
 }
 
 /// Returns the number of the first `count` digits, where zeros follow the list. 64 bits have room for 19 digits.
 #[inline]
 #[tactic(auto, using(crate::proofs::WholeNumbers::to_u64), unfolding(decimal_digits::specs::Digits::number_at))]
 fn leading_u64<D: DigitStore>(digits: &D, count: usize) -> u64
-    requires { count ≤ 19 }
+    requires some { 0 < count }
+    requires fits { count ≤ 19 }
     ensures { result ≡ leading count (D.digits digits.now) }
 {
-    if let Some(number) = leading_packed(digits, count) {
-        return number;
+    let front = digits.leading_bcd();
+    if count <= 16 {
+        return number_of_bcd(front >> (4 * (16 - count)));
     }
-    let mut number = 0;
-    for index in 0..count {
+    let mut number = number_of_bcd(front);
+    for index in 16..count {
         number = number * 10 + digit_or_zero(digits, index) as u64;
     }
     number
@@ -102,6 +82,20 @@ fn leading_39_digits<D: DigitStore>(digits: &D) -> Result<u128, IntegerError>
     }
 }
 
+/// Returns the number of integer digits of a number with `len` digits, of which the first is at `magnitude`.
+///
+/// None if the last one is a fraction digit.
+#[inline]
+fn integer_digit_count(magnitude: i16, len: usize) -> Option<usize>
+    ensures some { IfSome result (λ count. (pos count ≡ magnitude +ℤ pos 1) × (len ≤ count)) }
+    ensures none { IfNone result ((magnitude +ℤ pos 1) <ℤ pos len) }
+{
+    match places_above(0, magnitude) {
+        Some(count) if count >= len => Some(count),
+        _ => None,
+    }
+}
+
 impl<D: DigitStore> UnsignedOver<D> {
     /// Converts the number to a `u64`, whatever zeros are shown, without an allocation.
     ///
@@ -115,6 +109,12 @@ impl<D: DigitStore> UnsignedOver<D> {
         ensures value { result ≡ as_integer (2 ^ 64) self.now.number }
         ensures valid { IsValue self.now }
     {
+        let Some(count) = integer_digit_count(self.magnitude, self.digits.len()) else {
+            return Err(IntegerError::NotWhole);
+        };
+        if count <= 19 {
+            return Ok(leading_u64(&self.digits, count));
+        }
         let integer = self.try_to_u128()?;
         if integer > u64::MAX as u128 {
             return Err(IntegerError::OutOfRange);
@@ -135,15 +135,12 @@ impl<D: DigitStore> UnsignedOver<D> {
         ensures value { result ≡ as_integer (2 ^ 128) self.now.number }
         ensures valid { IsValue self.now }
     {
-        let Some(places) = places_above(0, self.magnitude) else {
+        let Some(count) = integer_digit_count(self.magnitude, self.digits.len()) else {
             return Err(IntegerError::NotWhole);
         };
-        if places < self.digits.len() {
-            return Err(IntegerError::NotWhole);
-        }
-        match places {
-            0..=19 => Ok(leading_u64(&self.digits, places) as u128),
-            20..=38 => Ok(leading_u128(&self.digits, places)),
+        match count {
+            0..=19 => Ok(leading_u64(&self.digits, count) as u128),
+            20..=38 => Ok(leading_u128(&self.digits, count)),
             39 => leading_39_digits(&self.digits),
             _ => Err(IntegerError::OutOfRange),
         }

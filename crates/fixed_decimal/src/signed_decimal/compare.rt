@@ -20,14 +20,14 @@ impl<D: DigitStore> Signed<UnsignedOver<D>> {
     {
         let is_zero = self.absolute.is_zero();
         let other_is_zero = other.absolute.is_zero();
-        if is_zero && other_is_zero {
-            return Ordering::Equal;
-        }
-        match (self.sign, other.sign) {
-            (Sign::Negative, Sign::Negative) => other.absolute.compare(&self.absolute),
-            (Sign::Negative, _) => Ordering::Less,
-            (_, Sign::Negative) => Ordering::Greater,
-            _ => self.absolute.compare(&other.absolute),
+        let is_negative = matches!(self.sign, Sign::Negative);
+        let other_is_negative = matches!(other.sign, Sign::Negative);
+        match (is_negative, other_is_negative) {
+            (false, false) => self.absolute.compare(&other.absolute),
+            (true, true) => other.absolute.compare(&self.absolute),
+            _ if is_zero && other_is_zero => Ordering::Equal,
+            (true, false) => Ordering::Less,
+            (false, true) => Ordering::Greater,
         }
     }
 }

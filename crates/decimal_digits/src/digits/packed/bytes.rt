@@ -134,7 +134,7 @@ fn join_words(high: u32, low: u32) -> u64
 
 /// Returns the big-endian number of up to eight bytes, with zero bytes after them up to the eighth.
 #[inline]
-pub(super) fn word(bytes: &[u8]) -> u64
+fn word(bytes: &[u8]) -> u64
     requires { length bytes.now ≤ 8 }
     ensures { result ≡ number_from_digits 256 (bytes.now ++ replicate (8 - length bytes.now) 0) }
 {
@@ -144,48 +144,21 @@ pub(super) fn word(bytes: &[u8]) -> u64
     }
 }
 
-/// Returns the digits as a packed BCD number of sixteen nibbles, if they are 1 to 16 digits in exactly eight bytes.
+/// Returns the first sixteen digits as a packed BCD number, with zeros after fewer digits.
 #[inline]
-pub(super) fn inline_bcd(bytes: &SmallVec<u8, 8>, len: usize) -> Option<u64>
+pub(super) fn leading_word(bytes: &SmallVec<u8, 8>, len: usize) -> u64
     requires { IsPackedPrefix bytes.now.items len }
-    ensures number { IfSome result (λ number. number ≡ bcd_number (digits_in bytes.now.items len)) }
-    ensures at_most { IfSome result (λ number. len ≤ 16) }
+    ensures { result ≡ bcd_number (digits_in bytes.now.items len) }
 {
     let items = bytes.as_slice();
-    if len == 0 || len > 16 || items.len() != 8 {
-        return None;
-    }
-    // Clears the nibbles after the digits, which are unspecified.
-    let unused = 4 * (16 - len);
-    Some(word(items) >> unused << unused)
-}
-
-/// The greatest number of bytes that are compared without a call: those of 48 digits.
-const MAX_INLINE_COMPARE: usize = 24;
-
-/// Returns whether two lists of bytes are equal.
-#[inline]
-pub(super) fn are_equal(left: &[u8], right: &[u8]) -> bool
-    ensures { IsTrue result ↔ (left.now ≡ right.now) }
-{
-    if left.len() != right.len() {
-        return false;
-    }
-    if left.len() < 4 || left.len() > MAX_INLINE_COMPARE {
-        return left == right;
-    }
-    let (mut left, mut right) = (left, right);
-    while let (Some((first, left_rest)), Some((second, right_rest))) = (
-        left.split_first_chunk::<4>(),
-        right.split_first_chunk::<4>(),
-    ) {
-        if first != second {
-            return false;
+    match items.first_chunk::<8>() {
+        Some(front) if len > 0 => {
+            // Clears the nibbles after the digits, which are unspecified.
+            let unused = 4 * (16 - len.min(16));
+            u64::from_be_bytes(*front) >> unused << unused
         }
-        left = left_rest;
-        right = right_rest;
+        _ => word(&items[..byte_count(len)]),
     }
-    left == right
 }
 
 /// Keeps the first `count` bytes, or all of them if there are at most eight: those after `count` are then unspecified.

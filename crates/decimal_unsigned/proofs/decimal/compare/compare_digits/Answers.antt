@@ -1,5 +1,5 @@
-use Rattle.decimal_unsigned.proofs.Common.{◌≡◌, length, sym, ◌∙◌, arith, min, nat_cmp, slice_cmp}
-use Rattle.decimal_unsigned.proofs.Comparing.{lengths_decide, nibbles_order}
+use Rattle.decimal_unsigned.proofs.Common.{◌≡◌, length, sym, ◌∙◌, ap, inl, inr, arith, min, nat_cmp, slice_cmp}
+use Rattle.decimal_unsigned.proofs.Comparing.{lengths_decide, fronts_order, bytes_order}
 use Rattle.decimal_unsigned.proofs.decimal.compare.compare_digits.Goals as goal
 
 pub returns : goal.returns
@@ -8,17 +8,32 @@ returns g c =
     let es = g.E.DigitStore.digits c.args.other.now in
     let i = c.loop-index.index in
     let end : i ≡ min (length ds) (length es) =
-    omega (arith, c.min-index-end.ensures, c.len.ensures, c.len-2.ensures) in
+    omega (arith, c.min-index-end.ensures, c.len-3.ensures, c.len-4.ensures) in
     let left : nat_cmp (length ds) (length es) ≡ slice_cmp nat_cmp ds es =
     lengths_decide ds es i end ∙ sym c.loop-index.invariant in
-    c.cmp-2.ensures ∙ (λ k. nat_cmp (c.len-3.ensures k) (c.len-4.ensures k)) ∙ left
+    c.cmp-2.ensures ∙ (λ k. nat_cmp (c.len-5.ensures k) (c.len-6.ensures k)) ∙ left
+
+pub returns-then-front-other_front : goal.returns-then-front-other_front
+returns-then-front-other_front g c =
+    let ds = g.D.DigitStore.digits c.args.digits.now in
+    let es = g.E.DigitStore.digits c.args.other.now in
+    let left = c.leading_bcd-front.ensures in
+    let right = c.leading_bcd-other_front.ensures in
+    c.cmp.ensures
+    ∙ (λ k. nat_cmp (left k) (right k))
+    ∙ fronts_order ds es (g.met.D.DigitStore.are_digits c.args.digits.now)
+    (g.met.E.DigitStore.are_digits c.args.other.now) c.requires.stripped.back c.requires.other_stripped.back
+    (elim c.then-front-other_front.either [
+      | inl h ↦ inl (λ e. h (left ∙ e ∙ sym right))
+      | inr h ↦ inr (omega (arith, h.1, c.max-longest.ensures, c.len.ensures, c.len-2.ensures),
+          omega (arith, h.1, c.max-longest.ensures, c.len.ensures, c.len-2.ensures))
+    ])
 
 pub returns-in-Some-Some : goal.returns-in-Some-Some
 returns-in-Some-Some g c =
-    let ds = g.D.DigitStore.digits c.args.digits.now in
-    let es = g.E.DigitStore.digits c.args.other.now in
-    c.cmp.ensures
-    ∙ (λ k. nat_cmp (c.in-Some-Some.ensures.number k) (c.in-Some-Some.ensures'.number k))
-    ∙ nibbles_order ds es (g.met.D.DigitStore.are_digits c.args.digits.now)
-    (g.met.E.DigitStore.are_digits c.args.other.now) c.in-Some-Some.ensures.at_most c.in-Some-Some.ensures'.at_most
-    c.requires.stripped.back c.requires.other_stripped.back
+    c.compare_bytes.ensures
+    ∙ bytes_order c.in-Some-Some.bytes.now c.in-Some-Some.other_bytes.now (g.D.DigitStore.digits c.args.digits.now)
+    (g.E.DigitStore.digits c.args.other.now) (g.met.D.DigitStore.are_digits c.args.digits.now)
+    (g.met.E.DigitStore.are_digits c.args.other.now) c.requires.stripped.back c.requires.other_stripped.back
+    c.in-Some-Some.ensures.packed c.in-Some-Some.ensures.digits c.in-Some-Some.ensures'.packed
+    c.in-Some-Some.ensures'.digits

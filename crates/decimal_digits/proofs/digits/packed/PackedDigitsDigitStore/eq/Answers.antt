@@ -1,5 +1,6 @@
 use Rattle.std.proofs.Common.{sym, ◌∙◌, ap, arith}
 use Rattle.std.proofs.lemmas.Bool.Decides.{Decides-eqb}
+use Rattle.std.proofs.lemmas.Slice.Eq.{slice_eq-Decides}
 use Rattle.decimal_digits.specs.Nibbles.{bcd_number}
 use Rattle.decimal_digits.specs.Packing.{packed_prefix, length_packed}
 use Rattle.decimal_digits.proofs.InlineBcd.{same_number}
@@ -9,24 +10,24 @@ use Rattle.decimal_digits.proofs.digits.packed.PackedDigitsDigitStore.eq.Goals a
 pub returns-then-self-other : goal.returns-then-self-other
 returns-then-self-other c = grind (arith, packed_prefix)
 
-pub returns-in-Some-Some : goal.returns-in-Some-Some
-returns-in-Some-Some c =
+pub returns-then-self-le16 : goal.returns-then-self-le16
+returns-then-self-le16 c =
     let left = c.args.self.now in
     let right = c.args.other.now in
     let n = length_packed _ _ left.packed_prefix in
     let m = length_packed _ _ right.packed_prefix in
-    let w = c.in-Some-Some.ensures in
-    let v = c.in-Some-Some.ensures' in
-    let tells = Decides-eqb c.in-Some-Some.left c.in-Some-Some.right in (
+    let w = c.leading_bcd.ensures in
+    let v = c.leading_bcd-then-self-le16.ensures in
+    let tells = Decides-eqb c.leading_bcd.result c.leading_bcd-then-self-le16.result in (
       λ t. same_number _ _ left.packed_prefix.decimal right.packed_prefix.decimal (n ∙ c.if-self-other.false ∙ sym m)
-          (omega (arith, w.at_most)) (omega (arith, v.at_most)) (sym w.number ∙ tells.0 t ∙ v.number),
-      λ e. tells.1 (w.number ∙ ap bcd_number e ∙ sym v.number),
+          (omega arith) (sym w ∙ tells.0 t ∙ v),
+      λ e. tells.1 (w ∙ ap bcd_number e ∙ sym v),
     )
 
-pub returns-in_default : goal.returns-in_default
-returns-in_default c = (
-  λ t. same_digits _ _ _ _ c.if-self-other.false
-      (sym c.front.ensures ∙ c.are_equal.ensures.0 t ∙ c.front-in_default.ensures),
-  λ e. let s = same_front _ _ c.args.self.now.packed_prefix _ _ c.args.other.now.packed_prefix e in
-      c.are_equal.ensures.1 (c.front.ensures ∙ s.1 ∙ sym c.front-in_default.ensures),
-)
+pub returns : goal.returns
+returns c =
+    let tells = slice_eq-Decides Decides-eqb _ _ _ c.eq.ensures in (
+      λ t. same_digits _ _ _ _ c.if-self-other.false (sym c.front.ensures ∙ tells.0 t ∙ c.front-2.ensures),
+      λ e. let s = same_front _ _ c.args.self.now.packed_prefix _ _ c.args.other.now.packed_prefix e in
+          tells.1 (c.front.ensures ∙ s.1 ∙ sym c.front-2.ensures),
+    )
