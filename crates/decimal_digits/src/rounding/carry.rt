@@ -42,6 +42,25 @@ pub fn replace_by_digit<D: DigitStore>(counted: &mut Counted<'_, D>, digit: u8)
     }
 }
 
+/// Replaces the list by two digits.
+#[inline]
+pub fn replace_by_two_digits<D: DigitStore>(counted: &mut Counted<'_, D>, first: u8, second: u8)
+    requires first { first < 10 }
+    requires second { second < 10 }
+    ensures digits { D.digits (list_of counted.new) ≡ first ∷ second ∷ [] }
+    ensures accesses { accesses_of counted.new ≡ accesses_of counted.old + 2 }
+    ensures borrows { Continues counted.old counted.new }
+{
+    if counted.len() < 2 {
+        replace_by_digit(counted, first);
+        counted.push_in_room(second);
+    } else {
+        counted.truncate(2);
+        counted.set(0, first);
+        counted.set(1, second);
+    }
+}
+
 /// Adds one to the number of the first `places` digits, removes the other digits and the trailing zeros, and returns
 /// the number of places of the result.
 ///

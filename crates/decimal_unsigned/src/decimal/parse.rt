@@ -1,5 +1,6 @@
 //! Parsing of a value. `Syntax` and `Limit` are decided before any allocation.
-ghost use Rattle.std.specs.Prelude.{◌≡◌, ◌≢◌, ◌+◌, ◌-◌, ◌<◌, ◌≤◌, ◌++◌, length, IfSome, IfOk, IfErr, Ok, Err, IsOk, IsOkAnd};
+ghost use Rattle.std.specs.Prelude.{◌≡◌, ◌≢◌, ◌+◌, ◌-◌, ◌<◌, ◌≤◌, ◌++◌, length, take, drop, map, IfSome, IfOk, IfErr, Ok, Err, IsOk, IsOkAnd};
+ghost use Rattle.std.specs.Char.{digit_value};
 ghost use Rattle.std.specs.Str.Parse.{AllDigits};
 ghost use Rattle.decimal_digits.specs.Number.{size};
 ghost use Rattle.decimal_unsigned.specs.Grammar.{Literal, Grammar};
@@ -109,6 +110,47 @@ pub fn lowest_of(text: &[u8]) -> Result<i16, ParseError>
     Ok(Scan::new(text)?.lowest())
 }
 
+/// The greatest number of digits that are collected before a list is made of them, which is then faster.
+const MAX_COLLECTED: usize = 32;
+
+/// Writes the digits of an ASCII text over those of a buffer from index `at`.
+#[inline]
+fn write_values(buffer: &mut [u8], at: usize, text: &[u8])
+    requires has_room { at + length text.now ≤ length buffer.old }
+    requires digits { AllDigits 10 text.now }
+    ensures { buffer.new ≡ take at buffer.old
+        ++ (map digit_value text.now ++ drop (at + length text.now) buffer.old) }
+{
+    for i in 0..text.len() {
+        buffer[at + i] = text[i] - b'0';
+    }
+}
+
+/// Makes the list of the digits of two ASCII texts.
+fn list_of_texts<D: DigitStore>(
+    alloc: Global,
+    whole: &[u8],
+    fraction: &[u8],
+) -> Result<D, AllocError>
+    requires whole { AllDigits 10 whole.now }
+    requires fraction { AllDigits 10 fraction.now }
+    ensures ok { IfOk result (λ d. D.digits d ≡ map digit_value whole.now ++ map digit_value fraction.now) }
+    ensures succeeds { length whole.now + length fraction.now ≤ D.L → IsOk result }
+{
+    let len = whole.len() + fraction.len();
+    if len <= MAX_COLLECTED {
+        let mut digits = [0; MAX_COLLECTED];
+        write_values(&mut digits, 0, whole);
+        write_values(&mut digits, whole.len(), fraction);
+        return D::from_digits(alloc, &digits[..len]);
+    }
+    let mut list = D::empty(alloc);
+    list.reserve(len)?;
+    list.push_text(whole);
+    list.push_text(fraction);
+    Ok(list)
+}
+
 /// Makes the list of the digits from index `start` to before `end`: integer digits, and then fraction digits.
 fn digits_between<D: DigitStore>(
     alloc: Global,
@@ -122,12 +164,8 @@ fn digits_between<D: DigitStore>(
     ensures ok { IfOk result (λ d. D.digits d ≡ middle start end (digits_of (view parts.now))) }
     ensures succeeds { end - start ≤ D.L → IsOk result }
 {
-    let mut list = D::empty(alloc);
-    list.reserve(end - start)?;
     let (whole, fraction) = parts.between(start, end);
-    list.push_text(whole);
-    list.push_text(fraction);
-    Ok(list)
+    list_of_texts(alloc, whole, fraction)
 }
 
 impl<D: DigitStore> UnsignedOver<D> {

@@ -19,26 +19,25 @@ unfolding number_at
 returns-in-1-to-9-clause-value g c =
     rw (c.replace_by_digit.ensures.digits, c.digit_count-places.ensures.one (omega arith) (omega arith)) (omega arith)
 
-pub returns-then-number-ne0-clause-value : goal.returns-then-number-ne0-clause-value
-unfolding number_at
-returns-then-number-ne0-clause-value g c =
-    rw (
-      c.push_in_room.ensures.digits,
-      c.replace_by_digit-in-10-to-99.ensures.digits,
-      c.digit_count-places.ensures.two_digits (omega arith) (omega arith),
-    )
-    (omega arith)
-
-pub returns-else-number-ne0-clause-value : goal.returns-else-number-ne0-clause-value
-unfolding number_at
-returns-else-number-ne0-clause-value g c =
-    rw (
-      c.replace_by_digit-in-10-to-99.ensures.digits,
-      c.digit_count-places.ensures.two_digits (omega arith) (omega arith),
-    )
-    (omega arith)
-
 pub returns-in_default-clause-value : goal.returns-in_default-clause-value
 unfolding number_at
 returns-in_default-clause-value g c =
     rw (c.replace_by_digit-in_default.ensures.digits, c.digit_count-places.ensures.three (omega arith)) (omega arith)
+
+pub returns-then-number-eq0-clause-value : goal.returns-then-number-eq0-clause-value
+unfolding number_at
+returns-then-number-eq0-clause-value g c =
+    rw (
+      c.replace_by_digit-then-number-eq0.ensures.digits,
+      c.digit_count-places.ensures.two_digits (omega arith) (omega arith),
+    )
+    (omega arith)
+
+pub returns-else-number-eq0-clause-value : goal.returns-else-number-eq0-clause-value
+unfolding number_at
+returns-else-number-eq0-clause-value g c =
+    rw (
+      c.replace_by_two_digits.ensures.digits,
+      c.digit_count-places.ensures.two_digits (omega arith) (omega arith),
+    )
+    (omega arith)
