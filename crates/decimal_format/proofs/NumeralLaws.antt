@@ -95,9 +95,9 @@ same_value v u w p q a b =
     λ i. record { sign = signs i; absolute = absolute i }
 
 -- with readable symbols two values have different texts
-pub formatted-unique : (s : Symbols) → IsReadable s → (g h : GroupingStrategy) (v u : Decimal) → IsValue v.absolute
+pub texts_are_unique : (s : Symbols) (g h : GroupingStrategy) (v u : Decimal) → IsReadable s → IsValue v.absolute
     → IsValue u.absolute → formatted s g v ≡ formatted s h u → v ≡ u
-formatted-unique s readable g h v u p q e =
+texts_are_unique s g h v u readable p q e =
     let a = written_digits s (formatted s g v) v p (g, refl) in
     let b = written_digits s (formatted s g v) u q (h, e) in
     let same = numeral-unique s readable (formatted s g v) a.numeral b.numeral a.is b.is in

@@ -12,6 +12,7 @@ mod error;
 mod formatter;
 mod grouping;
 mod reader;
+pub mod reading_laws;
 mod symbols;
 
 pub use error::SymbolsError;

@@ -84,15 +84,44 @@ impl<'a> DecimalSymbols<'a> {
         true
     }
 
+    /// Returns what follows a digit at the start of a text.
+    fn cut_digit<'t>(&self, text: &'t [u8], digit: u8) -> Option<&'t [u8]>
+        requires { digit < 10 }
+        ensures { MatchOption result ((rest : List ℕ) → text.now ≢ digit_text self.now digit ++ rest)
+            (λ r. text.now ≡ digit_text self.now digit ++ r.now) }
+    {
+        let mut buffer = [0; 4];
+        let code = self.digit(digit).encode_utf8(&mut buffer);
+        cut(text, code.as_bytes())
+    }
+
+    /// Returns the only digit that a text can begin with, if the ten digits are consecutive characters.
+    fn likely_digit(&self, text: &[u8]) -> Option<u8>
+        ensures { IfSome result (λ d. d < 10) }
+    {
+        let zero = u32::from(self.digit(0));
+        let last = text.get(..self.digit_width())?.last()?;
+        // The last byte of a character has the low six bits of its code point.
+        let digit = (u32::from(*last) & 0x3f).wrapping_sub(zero & 0x3f);
+        if digit < 10 { Some(digit as u8) } else { None }
+    }
+
     /// Returns the digit that a text begins with, and what follows it.
     pub(crate) fn next_digit<'t>(&self, text: &'t [u8]) -> Option<(u8, &'t [u8])>
+        requires { IsReadable self.now }
         ensures { MatchOption result ((d : ℕ) (rest : List ℕ) → d < 10 → text.now ≢ digit_text self.now d ++ rest)
             (λ r. (r.0 < 10) × (text.now ≡ digit_text self.now r.0 ++ r.1.now)) }
     {
+        if text.is_empty() {
+            return None;
+        }
+        if let Some(digit) = self.likely_digit(text) {
+            if let Some(rest) = self.cut_digit(text, digit) {
+                return Some((digit, rest));
+            }
+        }
         for digit in 0..10 {
-            let mut buffer = [0; 4];
-            let code = self.digit(digit).encode_utf8(&mut buffer);
-            if let Some(rest) = cut(text, code.as_bytes()) {
+            if let Some(rest) = self.cut_digit(text, digit) {
                 return Some((digit, rest));
             }
         }

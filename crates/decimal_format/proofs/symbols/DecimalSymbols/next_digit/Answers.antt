@@ -1,9 +1,8 @@
-use Rattle.std.proofs.Common.{◌≡◌, ◌<◌, ◌++◌, ◌∙◌, ap, arith}
-use Rattle.decimal_format.specs.Symbols.{digit_text}
+use Rattle.std.proofs.Common.{sym, ◌∙◌}
+use Rattle.decimal_format.proofs.Codes.{none_not_digit}
+use Rattle.decimal_format.proofs.Scans.{empty_is}
 use Rattle.decimal_format.proofs.symbols.DecimalSymbols.next_digit.Goals as goal
 
-pub returns-in-Some : goal.returns-in-Some
-returns-in-Some c =
-    let is : c.as_bytes.result.now ≡ digit_text c.args.self.now c.loop-digit.digit =
-    c.as_bytes.ensures.value ∙ c.encode_utf8-code.ensures.value ∙ c.digit.ensures.value in
-    (omega (arith, c.loop-digit-test.true), c.in-Some.ensures ∙ ap (λ l. l ++ c.in-Some.rest.now) is)
+pub returns-then-is_empty : goal.returns-then-is_empty
+returns-then-is_empty c = λ d rest below e.
+    none_not_digit c.args.self.now c.requires d rest below (sym (empty_is c.args.text.now c.if-is_empty.ensures) ∙ e)
