@@ -71,4 +71,4 @@ unfolding bcd_number
 same_number ds es h g n few e =
     let all = sym (sixteen_nibbles ds h) ∙ ap (λ m. nibbles (to_be_bytes w64 m)) e ∙ sixteen_nibbles es g in
     same_number_lists _ _ n (λ i l.
-        sym (get_or-padded 16 ds i (omega arith)) ∙ ap (λ l. get_or l i 0) all ∙ get_or-padded 16 es i (omega arith))
+    sym (get_or-padded 16 ds i (omega arith)) ∙ ap (λ l. get_or l i 0) all ∙ get_or-padded 16 es i (omega arith))

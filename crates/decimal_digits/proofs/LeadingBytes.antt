@@ -83,7 +83,9 @@ padded_front k top ds l h =
 -- fewer digits are only padded
 pub padded_few : (k : ℕ) (ds : List ℕ) → length ds ≤ k → ds ++ replicate (k - length ds) 0 ≡ padded k ds
 padded_few k ds h =
-    sym (take_all k _ (omega (arith, length-append ds (replicate (k - length ds) 0), length-replicate {A = ℕ} (k - length ds) 0)))
+    let size : length (ds ++ replicate (k - length ds) 0) ≤ k =
+    omega (arith, length-append ds (replicate (k - length ds) 0), length-replicate {A = ℕ} (k - length ds) 0) in
+    sym (take_all k _ size)
     ∙ padded_front k k ds (omega arith) h
 
 -- ---- the first sixteen digits

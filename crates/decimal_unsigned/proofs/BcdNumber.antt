@@ -1,6 +1,6 @@
 -- The number that packed BCD digits write, computed by joining neighboring lanes of a word: digits to pairs, pairs to
 -- fours, and so on. A lane of w bits holds a number below c.
-use Rattle.decimal_unsigned.proofs.Common.{◌≡◌, ℕ, zero, suc, ◌+◌, ◌-◌, ◌*◌, ◌/◌, ◌%◌, ◌^◌, ◌<◌, ◌≤◌, List, length, get_or, take, refl, sym, ◌∙◌, ap, arith, number_lt, number_from_digits, AllBelowBase, pow-le-pow_right, take_all}
+use Rattle.decimal_unsigned.proofs.Common.{◌≡◌, ℕ, zero, suc, ◌+◌, ◌-◌, ◌*◌, ◌/◌, ◌%◌, ◌^◌, ◌<◌, ◌≤◌, List, length, get_or, take, refl, sym, ◌∙◌, ap, arith, number_from_digits, AllBelowBase, take_all}
 use Rattle.std.specs.Prelude.{bit_and}
 use Rattle.std.proofs.lemmas.Nat.{and_block, and_mask, and_le_r, div-mul-add, mod-mul-add}
 use Rattle.std.proofs.lemmas.Int.Digits.{number_more}
@@ -40,10 +40,12 @@ record Lanes (w c : ℕ) : Type 0 where
   ones : 2 ^ w - 1 < 2 ^ (w + w)
   down : (n t : ℕ) → n < t * 2 ^ (w + w) → n / 2 ^ w / 2 ^ w < t
   step : (n j e : ℕ) → j + (2 ^ w - c) * e ≡ n / 2 ^ w / 2 ^ w
-      → (j * 2 ^ (w + w) + (n / 2 ^ w % 2 ^ w * c + n % 2 ^ w)) + (2 ^ w - c) * (e * 2 ^ (w + w) + n / 2 ^ w % 2 ^ w) ≡ n
+      → (j * 2 ^ (w + w) + (n / 2 ^ w % 2 ^ w * c + n % 2 ^ w))
+      + (2 ^ w - c) * (e * 2 ^ (w + w) + n / 2 ^ w % 2 ^ w) ≡ n
   fits : (n : ℕ) → n / 2 ^ w % 2 ^ w * c + n % 2 ^ w < 2 ^ (w + w)
 
 module _ {w c : ℕ} (l : Lanes w c) where
+  -- a mask keeps the lower lanes
   masked : (k n : ℕ) → bit_and n (mask w k) ≡ lower w k n
   unfolding mask lower
   masked zero n = omega (arith, and_le_r n 0)
@@ -53,12 +55,12 @@ module _ {w c : ℕ} (l : Lanes w c) where
       ∙ (λ i. masked k (n / 2 ^ w / 2 ^ w) i * 2 ^ (w + w) + and_mask (n % 2 ^ (w + w)) w i)
       ∙ ap (λ r. lower w k (n / 2 ^ w / 2 ^ w) * 2 ^ (w + w) + r) (l.low n)
 
+  -- joining takes 2 ^ w - c from n for each unit of an upper lane
   kept_lower : (k n : ℕ) → n < top w k → joined w c k n + (2 ^ w - c) * lower w k (n / 2 ^ w) ≡ n
   unfolding joined lower top
   kept_lower zero n h = omega arith
   kept_lower (suc k) n h = l.step n _ _ (kept_lower k (n / 2 ^ w / 2 ^ w) (l.down n (top w k) h))
 
-  -- joining takes 2 ^ w - c from n for each unit of an upper lane
   kept : (k n : ℕ) → n < top w k → joined w c k n + (2 ^ w - c) * bit_and (n / 2 ^ w) (mask w k) ≡ n
   kept k n h = ap (λ e. joined w c k n + (2 ^ w - c) * e) (masked k (n / 2 ^ w)) ∙ kept_lower k n h
 
@@ -70,34 +72,52 @@ module _ {w c : ℕ} (l : Lanes w c) where
       let m = n / 2 ^ w / 2 ^ w in
       let j = joined w c k m in
       let lane = n / 2 ^ w % 2 ^ w * c + n % 2 ^ w in
+      let upper = div-mul-add j (2 ^ (w + w)) lane (l.fits n) in
+      let lowest = mod-mul-add j (2 ^ (w + w)) lane (l.fits n) in
       let two : suc k + suc k ≡ suc (suc (k + k)) = omega arith in
-      rw (div-mul-add j (2 ^ (w + w)) lane (l.fits n), mod-mul-add j (2 ^ (w + w)) lane (l.fits n), two, value_joined k m)
-      (omega arith)
+      rw (upper, lowest, two, value_joined k m) (omega arith)
 
 lanes : Lanes 4 10
 lanes = record {
-  parts = λ n. omega arith; low = λ n. omega arith; rest = λ n. omega arith; ones = omega arith;
-  down = λ n t h. omega arith; step = λ n j e h. omega arith; fits = λ n. omega arith;
+  parts = λ n. omega arith;
+  low = λ n. omega arith;
+  rest = λ n. omega arith;
+  ones = omega arith;
+  down = λ n t h. omega arith;
+  step = λ n j e h. omega arith;
+  fits = λ n. omega arith;
 }
 
 pair_lanes : Lanes 8 100
 pair_lanes = record {
-  parts = λ n. omega arith; low = λ n. omega arith; rest = λ n. omega arith; ones = omega arith;
-  down = λ n t h. omega arith; step = λ n j e h. omega arith; fits = λ n. omega arith;
+  parts = λ n. omega arith;
+  low = λ n. omega arith;
+  rest = λ n. omega arith;
+  ones = omega arith;
+  down = λ n t h. omega arith;
+  step = λ n j e h. omega arith;
+  fits = λ n. omega arith;
 }
 
 four_lanes : Lanes 16 10000
 four_lanes = record {
-  parts = λ n. omega arith; low = λ n. omega arith; rest = λ n. omega arith; ones = omega arith;
-  down = λ n t h. omega arith; step = λ n j e h. omega arith; fits = λ n. omega arith;
+  parts = λ n. omega arith;
+  low = λ n. omega arith;
+  rest = λ n. omega arith;
+  ones = omega arith;
+  down = λ n t h. omega arith;
+  step = λ n j e h. omega arith;
+  fits = λ n. omega arith;
 }
 
 -- ---- the digits of a list
+-- no digits write 0
 value_none : (k : ℕ) → value 16 10 k 0 ≡ 0
 unfolding value
 value_none zero = refl
 value_none (suc k) = ap (λ v. v * 10 + 0) (value_none k)
 
+-- the digits up to one
 value_front : (ds : List ℕ) → AllBelowBase 16 ds → (i k : ℕ) → i ≤ length ds → i ≤ k
     → value 16 10 k (number_from_digits 16 (take i ds)) ≡ number_from_digits 10 (take i ds)
 unfolding value
@@ -108,16 +128,20 @@ value_front ds h (suc i) (suc k) l m =
     let n = number_from_digits 16 (take i ds) in
     let below : d < 16 = All-from_recursion (λ x. x < 16) ds h i 0 l in
     let one : suc i ≡ i + 1 = omega arith in
-    rw (one, number_more 16 ds i l, number_more 10 ds i l, div-mul-add n 16 d below, mod-mul-add n 16 d below,
-    value_front ds h i k (omega arith) (omega arith)) refl
+    rw (
+      one,
+      number_more 16 ds i l,
+      number_more 10 ds i l,
+      div-mul-add n 16 d below,
+      mod-mul-add n 16 d below,
+      value_front ds h i k (omega arith) (omega arith),
+    ) refl
 
 -- ---- the four steps
 module _ {w c : ℕ} (l : Lanes w c) (k n m : ℕ) (h : n < top w k) (is : m ≡ mask w k) where
-  excess : (2 ^ w - c) * bit_and (n / 2 ^ w) m ≤ n
-  excess = omega (arith, kept l k n h, ap (λ x. (2 ^ w - c) * bit_and (n / 2 ^ w) x) is)
-
-  rest : n - (2 ^ w - c) * bit_and (n / 2 ^ w) m ≡ joined w c k n
-  rest = omega (arith, kept l k n h, ap (λ x. (2 ^ w - c) * bit_and (n / 2 ^ w) x) is)
+  -- a step, with the mask as a numeral
+  stepped : n - (2 ^ w - c) * bit_and (n / 2 ^ w) m ≡ joined w c k n
+  stepped = omega (arith, kept l k n h, ap (λ x. (2 ^ w - c) * bit_and (n / 2 ^ w) x) is)
 
 module _ (n : ℕ) (h : n < 2 ^ 64) where
   abbrev pub pairs : ℕ
@@ -132,12 +156,13 @@ module _ (n : ℕ) (h : n < 2 ^ 64) where
   abbrev pub all : ℕ
   all = eights - 4194967296 * (eights / 2 ^ 32)
 
+  -- they leave the number that the sixteen nibbles write in base 10
   result : all ≡ value 16 10 16 n
   unfolding value mask top
   result =
-      let a : pairs ≡ joined 4 10 8 n = rest lanes 8 n 0x0f0f_0f0f_0f0f_0f0f h refl in
-      let b : fours ≡ joined 8 100 4 pairs = rest pair_lanes 4 pairs 0x00ff_00ff_00ff_00ff (omega arith) refl in
-      let e : eights ≡ joined 16 10000 2 fours = rest four_lanes 2 fours 0x0000_ffff_0000_ffff (omega arith) refl in
+      let a : pairs ≡ joined 4 10 8 n = stepped lanes 8 n 0x0f0f_0f0f_0f0f_0f0f h refl in
+      let b : fours ≡ joined 8 100 4 pairs = stepped pair_lanes 4 pairs 0x00ff_00ff_00ff_00ff (omega arith) refl in
+      let e : eights ≡ joined 16 10000 2 fours = stepped four_lanes 2 fours 0x0000_ffff_0000_ffff (omega arith) refl in
       let last : all ≡ value (2 ^ 32) (10 ^ 8) 2 eights = omega arith in
       last ∙ ap (value (2 ^ 32) (10 ^ 8) 2) e ∙ value_joined four_lanes 2 fours
       ∙ ap (value (2 ^ 16) (10 ^ 4) 4) b ∙ value_joined pair_lanes 4 pairs
@@ -147,5 +172,6 @@ module _ (n : ℕ) (h : n < 2 ^ 64) where
   pub joined_all : (ds : List ℕ) → AllBelowBase 16 ds → length ds ≤ 16 → n ≡ number_from_digits 16 ds
       → all ≡ number_from_digits 10 ds
   joined_all ds b few is =
-      result ∙ ap (value 16 10 16) (is ∙ ap (number_from_digits 16) (sym (take_all (length ds) ds (omega arith))))
-      ∙ value_front ds b (length ds) 16 (omega arith) few ∙ ap (number_from_digits 10) (take_all (length ds) ds (omega arith))
+      let whole = take_all (length ds) ds (omega arith) in
+      result ∙ ap (value 16 10 16) (is ∙ ap (number_from_digits 16) (sym whole))
+      ∙ value_front ds b (length ds) 16 (omega arith) few ∙ ap (number_from_digits 10) whole

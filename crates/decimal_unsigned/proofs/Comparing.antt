@@ -1,5 +1,5 @@
 -- The order of two numbers, by their digits.
-use Rattle.decimal_unsigned.proofs.Common.{clamps, nat_tests, common_steps, ◌≡◌, ℕ, suc, ◌+◌, ◌-◌, ◌*◌, ◌^◌, ◌<◌, ◌≤◌, ◌%◌, ◌/◌, List, [], ◌∷◌, ◌++◌, length, get_or, take, drop, replicate, refl, sym, ◌∙◌, ap, arith, ◌⊎◌, inl, inr, min, ℤ, ◌<ℤ◌, nat_cmp, mul-le-mul_right, mul-lt-mul_of_pos_right, pow-le-pow_right, ints, length-drop, recursion_from_All, number_lt, pow-add, number_from_digits, AllBelowBase, offset, offset_is, IsStored, All, slice_cmp, below_sixteen, Unsigned, IsValue}
+use Rattle.decimal_unsigned.proofs.Common.{clamps, nat_tests, common_steps, ◌≡◌, ℕ, suc, ◌+◌, ◌-◌, ◌*◌, ◌^◌, ◌<◌, ◌≤◌, ◌%◌, ◌/◌, List, [], ◌∷◌, ◌++◌, length, get_or, drop, replicate, refl, sym, ◌∙◌, ap, arith, ◌⊎◌, inl, inr, min, ℤ, ◌<ℤ◌, nat_cmp, mul-le-mul_right, mul-lt-mul_of_pos_right, pow-le-pow_right, ints, recursion_from_All, number_lt, pow-add, number_from_digits, AllBelowBase, offset, offset_is, IsStored, All, slice_cmp, below_sixteen, Unsigned, IsValue}
 use Rattle.std.specs.declared.cmp.Ordering.{Ordering}
 use Rattle.std.specs.declared.cmp.Ordering.TheVariants.{Less, Equal, Greater}
 use Rattle.std.specs.Ordering.{MatchOrdering, ordering_then, int_cmp}
@@ -132,8 +132,8 @@ fronts ds top h fits enough =
     let split = rw len at (number_split 16 16 padded (omega arith)) in (
       number_from_digits 16 (drop 16 padded),
       sym (number_pad 16 (top - length ds) ds) ∙ split
-      ∙ ap (λ xs. number_from_digits 16 xs * 16 ^ (top - 16) + number_from_digits 16 (drop 16 padded))
-      (padded_front 16 top ds enough fits),
+          ∙ ap (λ xs. number_from_digits 16 xs * 16 ^ (top - 16) + number_from_digits 16 (drop 16 padded))
+          (padded_front 16 top ds enough fits),
       rw len at (number-drop-lt 16 16 padded below),
     )
 
@@ -203,8 +203,12 @@ module _ (bytes ds : List ℕ) (packed : IsPacked bytes (length ds)) (same : dig
         let digits =
         All-append (λ d. d < 10) ds _ h (All-replicate (λ d. d < 10) (length ds % 2) 0 (omega arith)) in
         let high : get_or (ds ++ replicate (length ds % 2) 0) (2 * i) 0 < 10 =
-        digits (2 * i) 0 (omega (arith, packed.count, length-append ds (replicate (length ds % 2) 0),
-        length-replicate {A = ℕ} (length ds % 2) 0)) in
+        digits (2 * i) 0 (omega (
+          arith,
+          packed.count,
+          length-append ds (replicate (length ds % 2) 0),
+          length-replicate {A = ℕ} (length ds % 2) 0,
+        )) in
         omega (arith, high, high_nibble bytes i, ap (λ xs. get_or xs (2 * i) 0) nibbles_are)
     | inr l ↦ omega (arith, get_or_past bytes i 0 l)
   ]

@@ -10,8 +10,8 @@ mod nibbles;
 use super::DigitStore;
 use bulk::{append_text, count_trailing_nibbles, write_text};
 use bytes::{
-    append_digits, append_zeros, copy_bytes, cut_digits, drop_unused, keep_digits, leading_word,
-    pack_digits, push_digit, reserve_digits, set_digit, truncate_spilled,
+    append_digits, append_zeros, are_equal, copy_bytes, cut_digits, drop_unused, keep_digits,
+    leading_word, pack_digits, push_digit, reserve_digits, set_digit, truncate_spilled,
 };
 use nibbles::byte_count;
 pub(super) use nibbles::nibble_at;
@@ -192,6 +192,6 @@ impl DigitStore for PackedDigits {
         if self.len <= 16 {
             return self.leading_bcd() == other.leading_bcd();
         }
-        self.front() == other.front()
+        are_equal(self.front(), other.front())
     }
 }

@@ -161,6 +161,34 @@ pub(super) fn leading_word(bytes: &SmallVec<u8, 8>, len: usize) -> u64
     }
 }
 
+/// The greatest number of bytes that are compared without a call: those of 48 digits.
+const MAX_INLINE_COMPARE: usize = 24;
+
+/// Returns whether two lists of bytes are equal.
+#[inline]
+pub(super) fn are_equal(left: &[u8], right: &[u8]) -> bool
+    ensures { IsTrue result ↔ (left.now ≡ right.now) }
+{
+    if left.len() != right.len() {
+        return false;
+    }
+    if left.len() < 4 || left.len() > MAX_INLINE_COMPARE {
+        return left == right;
+    }
+    let (mut left, mut right) = (left, right);
+    while let (Some((first, left_rest)), Some((second, right_rest))) = (
+        left.split_first_chunk::<4>(),
+        right.split_first_chunk::<4>(),
+    ) {
+        if first != second {
+            return false;
+        }
+        left = left_rest;
+        right = right_rest;
+    }
+    left == right
+}
+
 /// Keeps the first `count` bytes, or all of them if there are at most eight: those after `count` are then unspecified.
 #[inline]
 pub(super) fn truncate_spilled(bytes: &mut SmallVec<u8, 8>, count: usize)

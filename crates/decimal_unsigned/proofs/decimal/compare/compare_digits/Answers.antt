@@ -1,4 +1,4 @@
-use Rattle.decimal_unsigned.proofs.Common.{◌≡◌, length, sym, ◌∙◌, ap, inl, inr, arith, min, nat_cmp, slice_cmp}
+use Rattle.decimal_unsigned.proofs.Common.{◌≡◌, length, sym, ◌∙◌, inl, inr, arith, min, nat_cmp, slice_cmp}
 use Rattle.decimal_unsigned.proofs.Comparing.{lengths_decide, fronts_order, bytes_order}
 use Rattle.decimal_unsigned.proofs.decimal.compare.compare_digits.Goals as goal
 
@@ -25,8 +25,10 @@ returns-then-front-other_front g c =
     (g.met.E.DigitStore.are_digits c.args.other.now) c.requires.stripped.back c.requires.other_stripped.back
     (elim c.then-front-other_front.either [
       | inl h ↦ inl (λ e. h (left ∙ e ∙ sym right))
-      | inr h ↦ inr (omega (arith, h.1, c.max-longest.ensures, c.len.ensures, c.len-2.ensures),
-          omega (arith, h.1, c.max-longest.ensures, c.len.ensures, c.len-2.ensures))
+      | inr h ↦ inr (
+        omega (arith, h.1, c.max-longest.ensures, c.len.ensures, c.len-2.ensures),
+        omega (arith, h.1, c.max-longest.ensures, c.len.ensures, c.len-2.ensures),
+      )
     ])
 
 pub returns-in-Some-Some : goal.returns-in-Some-Some

@@ -11,4 +11,5 @@ returns-then-count-le16 g c =
 pub loop-index-init : goal.loop-index-init
 loop-index-init g c =
     few_leading (g.D.DigitStore.digits c.args.digits.now) (g.met.D.DigitStore.are_digits c.args.digits.now)
-    16 _ c.number_of_bcd-number.result (omega arith) (omega (arith, c.leading_bcd-front.ensures)) c.number_of_bcd-number.ensures
+    16 _ c.number_of_bcd-number.result (omega arith) (omega (arith, c.leading_bcd-front.ensures))
+    c.number_of_bcd-number.ensures

@@ -1,6 +1,5 @@
 use Rattle.std.proofs.Common.{sym, ◌∙◌, ap, arith}
 use Rattle.std.proofs.lemmas.Bool.Decides.{Decides-eqb}
-use Rattle.std.proofs.lemmas.Slice.Eq.{slice_eq-Decides}
 use Rattle.decimal_digits.specs.Nibbles.{bcd_number}
 use Rattle.decimal_digits.specs.Packing.{packed_prefix, length_packed}
 use Rattle.decimal_digits.proofs.InlineBcd.{same_number}
@@ -25,9 +24,9 @@ returns-then-self-le16 c =
     )
 
 pub returns : goal.returns
-returns c =
-    let tells = slice_eq-Decides Decides-eqb _ _ _ c.eq.ensures in (
-      λ t. same_digits _ _ _ _ c.if-self-other.false (sym c.front.ensures ∙ tells.0 t ∙ c.front-2.ensures),
-      λ e. let s = same_front _ _ c.args.self.now.packed_prefix _ _ c.args.other.now.packed_prefix e in
-          tells.1 (c.front.ensures ∙ s.1 ∙ sym c.front-2.ensures),
-    )
+returns c = (
+  λ t. same_digits _ _ _ _ c.if-self-other.false
+      (sym c.front.ensures ∙ c.are_equal.ensures.0 t ∙ c.front-2.ensures),
+  λ e. let s = same_front _ _ c.args.self.now.packed_prefix _ _ c.args.other.now.packed_prefix e in
+      c.are_equal.ensures.1 (c.front.ensures ∙ s.1 ∙ sym c.front-2.ensures),
+)

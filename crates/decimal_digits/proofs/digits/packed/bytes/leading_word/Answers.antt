@@ -1,4 +1,4 @@
-use Rattle.std.proofs.Common.{rules, ◌≡◌, ℕ, ◌*◌, ◌-◌, ◌<◌, ◌≤◌, length, get_or, min, refl, ◌∙◌, ap, arith}
+use Rattle.std.proofs.Common.{rules, ◌≡◌, ℕ, ◌*◌, ◌-◌, ◌<◌, ◌≤◌, length, get_or, min, ◌∙◌, ap, arith}
 use Rattle.decimal_digits.proofs.InlineBcd.{leading_cleared}
 use Rattle.decimal_digits.proofs.LeadingBytes.{word_encodes}
 use Rattle.decimal_digits.proofs.digits.packed.bytes.leading_word.Goals as goal
