@@ -228,7 +228,8 @@ pub after_byte : (text : List ℕ) (i : ℕ)
     ≡ drop (i + 1) text
 after_byte text i =
     let rest = drop i text in
-    let all : take (length text - i) rest ≡ rest = take_all (length text - i) rest (omega (arith, length-drop i text)) in
+    let all : take (length text - i) rest ≡ rest =
+    take_all (length text - i) rest (omega (arith, length-drop i text)) in
     rw all (take_all (length rest - 1) (drop 1 rest) (omega (arith, length-drop 1 rest)) ∙ drop-drop 1 i text)
 
 module _ (text : List ℕ) (whole number : ℕ) (digits : whole ≡ prefix_len is_ascii_digit text)
