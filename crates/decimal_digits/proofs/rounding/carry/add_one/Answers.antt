@@ -1,6 +1,6 @@
-use Rattle.std.proofs.Common.{◌-◌, ◌^◌, sym, ◌∙◌, ap, arith}
+use Rattle.std.proofs.Common.{◌-◌, arith}
 use Rattle.decimal_digits.proofs.Nibbles.{nibble_rules}
-use Rattle.decimal_digits.proofs.Leading.{leading_raised, leading_carry}
+use Rattle.decimal_digits.proofs.Leading.{leading_raised}
 use Rattle.decimal_digits.proofs.rounding.carry.add_one.Goals as goal
 
 pub returns-clause-value : goal.returns-clause-value
