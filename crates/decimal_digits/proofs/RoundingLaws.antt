@@ -82,5 +82,5 @@ rounded_number-monotone mode u n m p l = elim (cases_eq n m) [
   | inl e ↦ omega (arith, ap (rounded_number mode u) e)
   | inr ne ↦
       monotone_named mode u n m _ _ (omega arith) (rounded_number_is_named mode u n p)
-          (rounded_number_is_named mode u m p)
+      (rounded_number_is_named mode u m p)
 ]
