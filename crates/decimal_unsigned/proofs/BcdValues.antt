@@ -1,5 +1,5 @@
 -- Short texts: up to sixteen digits as a number in base 16, and the value of their parts.
-use Rattle.decimal_unsigned.proofs.Common.{clamps, nat_tests, common_steps, ◌≡◌, ℕ, zero, suc, ◌+◌, ◌-◌, ◌*◌, ◌/◌, ◌%◌, ◌^◌, ◌<◌, ◌≤◌, inl, inr, true, List, [], ◌∷◌, ◌++◌, length, get_or, take, drop, take_all, map, refl, sym, ◌∙◌, ap, subst, arith, Option, Some, None, option_map, Ok, ℤ, pos, ◌-ℤ◌, mul-lt-mul_of_pos_right, pow-le-pow_right, cases_lt, ints, pow-add, length-append, length-drop, length-take-le, length-map, number_lt, digits_value_is, is_ascii_digit, prefix_len, digit_value, number_from_digits, AllBelowBase, AllDigits, digits_value, number_of, below_take, Literal, value_of, middle, IsNonzeroRange, pow-suc, mod-eq_of_lt, digits_value_after, below_drop, number_split, below_sixteen}
+use Rattle.decimal_unsigned.proofs.Common.{clamps, nat_tests, common_steps, ◌≡◌, ℕ, zero, suc, ◌+◌, ◌-◌, ◌*◌, ◌/◌, ◌%◌, ◌^◌, ◌<◌, ◌≤◌, inl, inr, true, List, [], ◌∷◌, ◌++◌, length, get_or, take, drop, take_all, map, refl, sym, ◌∙◌, ap, subst, arith, Some, None, option_map, Ok, pos, ◌-ℤ◌, mul-lt-mul_of_pos_right, pow-le-pow_right, cases_lt, ints, pow-add, length-append, length-drop, length-take-le, length-map, number_lt, digits_value_is, is_ascii_digit, prefix_len, digit_value, number_from_digits, AllBelowBase, AllDigits, digits_value, Literal, value_of, middle, IsNonzeroRange, pow-suc, mod-eq_of_lt, digits_value_after, below_sixteen}
 use Rattle.std.specs.Int.{w64, bit_at, leading_zeros, trailing_zeros}
 use Rattle.std.proofs.Math.Nat.{one-le-pow, div-div-eq-div-mul, div-eq_of_lt-le, zero-div}
 use Rattle.std.proofs.Math.ListN.{get_or-eq_default}
@@ -228,7 +228,8 @@ pub after_byte : (text : List ℕ) (i : ℕ)
     ≡ drop (i + 1) text
 after_byte text i =
     let rest = drop i text in
-    let all : take (length text - i) rest ≡ rest = take_all (length text - i) rest (omega (arith, length-drop i text)) in
+    let all : take (length text - i) rest ≡ rest =
+    take_all (length text - i) rest (omega (arith, length-drop i text)) in
     rw all (take_all (length rest - 1) (drop 1 rest) (omega (arith, length-drop 1 rest)) ∙ drop-drop 1 i text)
 
 module _ (text : List ℕ) (whole number : ℕ) (digits : whole ≡ prefix_len is_ascii_digit text)

@@ -1,6 +1,6 @@
 //! The two passes over the end of a list. Both stop at the first digit that is kept, so for each access but the last a
 //! digit is removed. If adding one exceeds the limit, no digit is removed, and each one is read at most once.
-ghost use Rattle.std.specs.Prelude.{◌≡◌, ◌+◌, ◌^◌, ◌<◌, ◌≤◌, [], ◌∷◌, length, slice_index, IfSome, IfNone};
+ghost use Rattle.std.specs.Prelude.{◌≡◌, ℕ, ◌+◌, ◌^◌, ◌<◌, ◌≤◌, [], ◌∷◌, length, slice_index, IfSome, IfNone};
 ghost use Rattle.decimal_digits.specs.Counted.{list_of, accesses_of, Continues, OnlyReads};
 ghost use Rattle.decimal_digits.specs.Digits.{IsStripped};
 ghost use Rattle.decimal_digits.specs.Remainders.{leading};
@@ -61,6 +61,37 @@ pub fn replace_by_two_digits<D: DigitStore>(counted: &mut Counted<'_, D>, first:
     }
 }
 
+/// Replaces the list, whose first `places` digits are 9, by a one at the place above these, and returns the number of
+/// places of the result.
+///
+/// None if that is more than `max_places`; the list is then unchanged.
+#[inline]
+pub fn carry_out<D: DigitStore>(
+    counted: &mut Counted<'_, D>,
+    places: usize,
+    max_places: usize,
+) -> Option<usize>
+    requires nines { (k : ℕ) → k < places → slice_index (D.digits (list_of counted.old)) k ≡ 9 }
+    requires fits { places ≤ max_places }
+    requires bounded { max_places ≤ 65536 }
+    ensures value { IfSome result (λ new. leading new (D.digits (list_of counted.new))
+        ≡ leading places (D.digits (list_of counted.old)) + 1) }
+    ensures max_places { IfSome result (λ new. new ≤ max_places) }
+    ensures length { IfSome result (λ new. length (D.digits (list_of counted.new)) ≤ new) }
+    ensures stripped { IfSome result (λ new. IsStripped (D.digits (list_of counted.new))) }
+    ensures accesses { IfSome result (λ new. accesses_of counted.new + length (D.digits (list_of counted.new))
+        ≤ accesses_of counted.old + 2) }
+    ensures full { IfNone result (10 ^ max_places ≤ leading places (D.digits (list_of counted.old)) + 1) }
+    ensures reads { IfNone result (OnlyReads 0 counted.old counted.new) }
+    ensures borrows { Continues counted.old counted.new }
+{
+    if places == max_places {
+        return None;
+    }
+    replace_by_digit(counted, 1);
+    Some(places + 1)
+}
+
 /// Adds one to the number of the first `places` digits, removes the other digits and the trailing zeros, and returns
 /// the number of places of the result.
 ///
@@ -87,11 +118,7 @@ pub fn add_one<D: DigitStore>(
 {
     let nines = counted.count_trailing(places, 9);
     if nines == places {
-        if places == max_places {
-            return None;
-        }
-        replace_by_digit(counted, 1);
-        return Some(places + 1);
+        return carry_out(counted, places, max_places);
     }
     let last = places - nines - 1;
     let digit = counted.get(last);

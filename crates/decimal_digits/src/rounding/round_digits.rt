@@ -5,7 +5,7 @@ ghost use Rattle.decimal_digits.specs.Digits.{IsStripped};
 ghost use Rattle.decimal_digits.specs.Rounding.{step_of};
 ghost use Rattle.decimal_digits.specs.Remainders.{leading, RemainderByDigit, RoundsTo, RoundLeadingFails};
 
-use super::carry::{add_one, strip_trailing_zeros};
+use super::carry::{add_one, carry_out, strip_trailing_zeros};
 use super::last_two::{last_two_of, write_last_two, write_number};
 use super::remainder::{Remainder, round_last_two, rounds_up};
 use super::{RoundError, RoundingIncrement, UnsignedRoundingMode};
@@ -96,7 +96,10 @@ fn round_by_one<D: DigitStore>(
         keep_leading(counted, keep, last);
         return Some(keep);
     }
-    if keep == 0 || last == 9 {
+    if keep == 0 {
+        return carry_out(counted, keep, max_places);
+    }
+    if last == 9 {
         return add_one(counted, keep, max_places);
     }
     counted.truncate(keep);

@@ -112,11 +112,7 @@ fn exponent(text: &[u8]) -> Option<i32>
 /// Returns the parts, where the text is what follows the letter of an exponent.
 #[inline]
 #[tactic(auto, unfolding(crate::specs::Reading::with_exponent))]
-fn with_exponent<'a>(
-    whole: &'a [u8],
-    fraction: &'a [u8],
-    text: &[u8],
-) -> Option<Parts<'a>>
+fn with_exponent<'a>(whole: &'a [u8], fraction: &'a [u8], text: &[u8]) -> Option<Parts<'a>>
     ensures { views result ≡ option_map saturated_parts (read.with_exponent whole.now fraction.now text.now) }
 {
     let exponent = exponent(text)?;
@@ -130,11 +126,7 @@ fn with_exponent<'a>(
 /// Returns the parts, where the text is what follows the fraction digits.
 #[inline]
 #[tactic(auto, unfolding(crate::specs::Reading::after_fraction))]
-fn after_fraction<'a>(
-    whole: &'a [u8],
-    fraction: &'a [u8],
-    text: &[u8],
-) -> Option<Parts<'a>>
+fn after_fraction<'a>(whole: &'a [u8], fraction: &'a [u8], text: &[u8]) -> Option<Parts<'a>>
     ensures { views result ≡ option_map saturated_parts (read.after_fraction whole.now fraction.now text.now) }
 {
     match text {
@@ -164,11 +156,7 @@ fn after_whole<'a>(whole: &'a [u8], text: &'a [u8]) -> Option<Parts<'a>>
             let (fraction, rest) = split_digits(rest);
             after_fraction(whole, fraction, rest)
         }
-        [b'e' | b'E', rest @ ..] if !whole.is_empty() => with_exponent(
-            whole,
-            &text[..0],
-            rest,
-        ),
+        [b'e' | b'E', rest @ ..] if !whole.is_empty() => with_exponent(whole, &text[..0], rest),
         _ => None,
     }
 }

@@ -17,11 +17,21 @@ returns-then-not-rounds_up-clause-value g c =
 
 pub returns-then-keep-eq0-clause-value : goal.returns-then-keep-eq0-clause-value
 returns-then-keep-eq0-clause-value g c =
-    IfSome_then c.add_one.result (rw c.last_of-last.ensures.reads.0 at c.add_one.ensures.value) (λ places value.
+    IfSome_then c.carry_out.result (rw c.last_of-last.ensures.reads.0 at c.carry_out.ensures.value) (λ places value.
     one_by c.args.mode c.args.remainder _ _ _ true c.last_of-last.ensures.odd c.if-not-rounds_up.ensures value)
 
 pub returns-then-keep-eq0-clause-up : goal.returns-then-keep-eq0-clause-up
 returns-then-keep-eq0-clause-up g c =
+    if_none c.carry_out.result _
+    (one_by c.args.mode c.args.remainder _ _ _ true c.last_of-last.ensures.odd c.if-not-rounds_up.ensures refl)
+
+pub returns-then-last-eq9-clause-value : goal.returns-then-last-eq9-clause-value
+returns-then-last-eq9-clause-value g c =
+    IfSome_then c.add_one.result (rw c.last_of-last.ensures.reads.0 at c.add_one.ensures.value) (λ places value.
+    one_by c.args.mode c.args.remainder _ _ _ true c.last_of-last.ensures.odd c.if-not-rounds_up.ensures value)
+
+pub returns-then-last-eq9-clause-up : goal.returns-then-last-eq9-clause-up
+returns-then-last-eq9-clause-up g c =
     if_none c.add_one.result _
     (one_by c.args.mode c.args.remainder _ _ _ true c.last_of-last.ensures.odd c.if-not-rounds_up.ensures refl)
 

@@ -7,7 +7,8 @@ pub returns-clause-succeeds : goal.returns-clause-succeeds
 returns-clause-succeeds g c = λ few.
     let a = c.between.result.0.now in
     let b = c.between.result.1.now in
-    let long = middle_long c.args.start c.args.end (digits_of (view c.args.parts.now)) c.requires.ordered c.requires.within in
+    let digits = digits_of (view c.args.parts.now) in
+    let long = middle_long c.args.start c.args.end digits c.requires.ordered c.requires.within in
     c.list_of_texts.ensures.succeeds
     (omega (
       arith,

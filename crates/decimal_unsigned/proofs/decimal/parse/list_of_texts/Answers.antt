@@ -1,4 +1,4 @@
-use Rattle.decimal_unsigned.proofs.Common.{elements, common_steps, ◌≡◌, ℕ, ◌+◌, ◌<◌, List, ◌++◌, length, take, drop, map, sym, ◌∙◌, ap, subst, arith, digit_value, length-map, AllBelowBase, All}
+use Rattle.decimal_unsigned.proofs.Common.{elements, ◌≡◌, ℕ, ◌+◌, ◌<◌, List, ◌++◌, length, take, drop, map, sym, subst, arith, digit_value, length-map, AllBelowBase}
 use Rattle.std.proofs.lemmas.List.{map-append}
 use Rattle.std.proofs.lemmas.List.Elements.{All-from_recursion}
 use Rattle.std.proofs.lemmas.Int.Digits.{all_below_base_from_digits}

@@ -1,4 +1,4 @@
-use Rattle.decimal_unsigned.proofs.Common.{◌≡◌, ◌<◌, ◌+◌, ◌∙◌, length, get_or, sym, ap, map, arith, digit_value, length-map}
+use Rattle.decimal_unsigned.proofs.Common.{◌≡◌, ◌<◌, ◌∙◌, length, sym, ap, map, arith, digit_value, length-map}
 use lib.Seq.{paste}
 use Rattle.std.proofs.lemmas.List.Edits.{paste_more, paste_all, paste_none}
 use Rattle.decimal_unsigned.proofs.Numerals.{writes_at}
