@@ -1,7 +1,7 @@
 # What diff/run.sh, diff/plants.sh and bench/run.sh share. Their first argument is the folder of the original.
 #
 # WORK, a folder outside the project, takes all that is made, and is used again by the next run. JOBS: how many jobs rt
-# takes; it chooses where that is not set.
+# takes, by default one a processor.
 
 die() { echo "$*" >&2; exit 2; }
 
@@ -14,6 +14,7 @@ work=${WORK:-${TMPDIR:-/tmp}/fixed_decimal-beside}
 mkdir -p "$work"
 work=$(cd "$work" && pwd)
 registry=/usr/share/cargo/registry
+jobs=${JOBS:-$(nproc)}
 export KIT_C=$(dirname "$(rt doc)")/c RUSTFLAGS=${RUSTFLAGS-"-C target-cpu=x86-64-v2"}
 
 need_packages() {
@@ -22,7 +23,8 @@ need_packages() {
     done
 }
 
-# The project as it is committed or changed, with what its checks have kept, so that nothing is proved twice.
+# The project as it is committed or changed, with the proofs that `rt check`, `lib` and `run` kept in it, so that none is
+# made twice. `rt ci` keeps none: after it alone, the first run proves each library again, and WORK keeps that.
 copy_project() {
     scratch=$work/project
     mkdir -p "$scratch/crates"
@@ -30,7 +32,12 @@ copy_project() {
     (cd "$project" && git ls-files -z -- crates crates.txt HANDLES | tar cf - --null -T -) | tar xf - -C "$scratch"
     for out in "$project"/crates/*/out; do
         copy=$scratch/crates/$(basename "$(dirname "$out")")/out
-        [ ! -d "$out" ] || [ -d "$copy" ] || cp -r "$out" "$copy"
+        # A stamp is a sum of what a library was built from: with the same one, the copy has the same proofs.
+        if [ -f "$out/rlib/stamp" ] && ! cmp -s "$out/rlib/stamp" "$copy/rlib/stamp"; then
+            rm -rf "$copy"
+            mkdir -p "$copy"
+            cp -r "$out/incremental" "$out/rlib" "$copy"
+        fi
     done
 }
 
@@ -43,7 +50,7 @@ add_library() {
     for file in "$here"/library/*.rt.txt; do
         cp -p "$file" "$scratch/crates/$name/src/$(basename "$file" .txt)"
     done
-    (cd "$scratch/crates/$name" && rt lib ${JOBS:+--jobs "$JOBS"}) >"$work/$name.txt" 2>&1 ||
+    (cd "$scratch/crates/$name" && rt lib --jobs "$jobs") >"$work/$name.txt" 2>&1 ||
         { tail -n 30 "$work/$name.txt" >&2; die "$name was not built"; }
     export LIBRARY=$scratch/crates/$name/out
 }

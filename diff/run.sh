@@ -18,7 +18,7 @@ while [ $# -gt 0 ]; do
 done
 need_packages librust-smallvec-dev
 copy_project
-(cd "$scratch/crates/fixdec" && rt run ${JOBS:+--jobs "$JOBS"} -- 250 shift:-2) >"$work/fixdec.txt" 2>&1 ||
+(cd "$scratch/crates/fixdec" && rt run --jobs "$jobs" -- 250 shift:-2) >"$work/fixdec.txt" 2>&1 ||
     { tail -n 30 "$work/fixdec.txt" >&2; die "fixdec was not built"; }
 add_library decimal_calls decimal_digits decimal_unsigned fixed_decimal
 copy_original

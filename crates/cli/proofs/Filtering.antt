@@ -1,5 +1,5 @@
 -- The state of a filter after some lines, and its result.
-use Rattle.std.proofs.Common.{◌≡◌, ◌≢◌, ℕ, ◌+◌, List, [], ◌∷◌, ◌++◌, length, append_assoc, Option, Some, None, Ok, Err, Result, Bool, true, false, ◌&&◌, ◌⊎◌, inl, inr, length-append, refl, sym, ap, subst, ◌∙◌, arith}
+use Rattle.std.proofs.Common.{◌≡◌, ℕ, ◌+◌, List, [], ◌∷◌, ◌++◌, length, append_assoc, Option, Some, None, Ok, Err, Result, Bool, true, false, ◌&&◌, inl, inr, length-append, refl, sym, ap, subst, ◌∙◌, arith}
 use Rattle.std.specs.Prelude.{is_ok, IfSome}
 use Rattle.std.proofs.lemmas.Bool.{and_from}
 use Rattle.std.proofs.lemmas.List.{append-nil, flat_map_more}
@@ -186,11 +186,12 @@ module _
 
     -- the filter returned this after the lines so far
     filters :
-        (result : Result Bool FilterError) (c q : Option (List ℕ)) (g : D) → Returns filter e.input.before h.lines result
-        → q ≡ e.output.after → g ≡ e.diagnostics.after
+        (result : Result Bool FilterError) (c q : Option (List ℕ)) (g : D)
+        → Returns filter e.input.before h.lines result → q ≡ e.output.after → g ≡ e.diagnostics.after
         → Filters AppendsPrefix reports filter (from_start e c q g) result
     filters result c q g how out err =
-        rw (out, err) (h.lines, how, h.stop, (λ _. h.output), whole e.output.before e.output.after _ h.output, h.reported)
+        rw (out, err)
+        (h.lines, how, h.stop, (λ _. h.output), whole e.output.before e.output.after _ h.output, h.reported)
 
     -- no line is left
     pub filters_all :
@@ -237,9 +238,14 @@ module _
     unfolding with_line
     filters_line line (Operation at error) c q g is (why, silent, part) =
         let (out, err) = silent (λ e. cc) in
-        filters (Err (Operation at error)) c q g
-        ((e.input.after, h.read), (line, (c, read_more e.input.before e.input.after c h.lines line h.read is),
-        rw h.number why)) out err
+        filters (Err (Operation at error)) c q g (
+          (e.input.after, h.read),
+          (
+            line,
+            (c, read_more e.input.before e.input.after c h.lines line h.read is),
+            rw h.number why,
+          ),
+        ) out err
     filters_line line Output c q g is (text, silent, part) =
         let (put, more) = part refl in (
           h.lines ++ (line ∷ []),

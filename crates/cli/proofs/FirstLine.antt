@@ -1,5 +1,5 @@
 -- The first line of bytes, and the others.
-use Rattle.std.proofs.Common.{◌≡◌, ◌≢◌, ℕ, zero, suc, ◌+◌, ◌<◌, ◌≤◌, true, List, [], ◌∷◌, ◌++◌, length, take, drop, slice_index, Option, Some, None, IfSome, refl, sym, ap, subst, ◌∙◌, arith, add-one, eq-eqb, ne_eqb, le_of_suc-le-suc, suc-le-suc, zero-lt-suc, eqb-true, take-append-drop, length-append}
+use Rattle.std.proofs.Common.{◌≡◌, ◌≢◌, ℕ, zero, suc, ◌+◌, ◌<◌, ◌≤◌, true, List, [], ◌∷◌, ◌++◌, length, take, drop, slice_index, Option, Some, None, IfSome, refl, sym, ap, ◌∙◌, arith, add-one, eq-eqb, ne_eqb, le_of_suc-le-suc, suc-le-suc, zero-lt-suc, eqb-true, take-append-drop, length-append}
 use Rattle.std.specs.Io.{StartsWith}
 use Rattle.std.specs.Io.KnownBytes.{Keeps}
 use Rattle.std.specs.Io.BufRead.{take_through, drop_through, strip_last, first_piece, DropsConsumable}
@@ -37,7 +37,8 @@ line_at (x ∷ xs) rest zero inside before here =
 line_at (x ∷ []) rest (suc i) inside before here = absurd (omega arith)
 line_at (x ∷ y ∷ ys) rest (suc i) inside before here =
     let other = ne_eqb x 10 (before 0 (zero-lt-suc i)) in
-    let (line, left) = line_at (y ∷ ys) rest i (le_of_suc-le-suc inside) (λ k l. before (suc k) (suc-le-suc l)) here in (
+    let (line, left) =
+    line_at (y ∷ ys) rest i (le_of_suc-le-suc inside) (λ k l. before (suc k) (suc-le-suc l)) here in (
       ap (strip_last 10) (cond-false _ _ _ other) ∙ piece_more x y (ys ++ rest) ∙ ap (λ l. x ∷ l) line,
       cond-false _ _ _ other ∙ left,
     )
@@ -60,8 +61,8 @@ next_in_block (Some xs) (Some ys) c limit block i (first, here) front kept fits 
     sym (take-append-drop (length block) xs) ∙ ap (λ t. t ++ rest) front in
     let (line, left) = line_at block rest i inside (λ k l e. first.before k (omega arith) l (eq-eqb _ _ e))
     (eqb-true _ _ here) in
-    let some : xs ≢ [] = λ none. absurd (omega (arith, inside, ap length parts, ap length none, length-append block rest)) in
-    (
+    let some : xs ≢ [] =
+    λ none. absurd (omega (arith, inside, ap length parts, ap length none, length-append block rest)) in (
       some,
       sym (ap (first_piece 10) parts ∙ line),
       drops (fits_less limit (i + 1) (length block) (omega arith) fits)

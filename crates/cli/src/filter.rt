@@ -124,9 +124,10 @@ fn filter_copy<R: BufRead, W: Sink, D: Diagnostics<FilterError>>(
     diagnostics: &mut D,
 ) -> Result<Option<bool>, FilterError>
     ensures filtered { FiltersNext D.reports filter.now number (record {
-        input = record { before = R.remaining input.old; after = R.remaining input.new };
-        output = record { before = W.contents out.old; after = W.contents out.new };
-        diagnostics = record { before = diagnostics.old; after = diagnostics.new }; }) result }
+      input = record { before = R.remaining input.old; after = R.remaining input.new };
+      output = record { before = W.contents out.old; after = W.contents out.new };
+      diagnostics = record { before = diagnostics.old; after = diagnostics.new };
+    }) result }
     ensures failed { result ≡ Err FilterError.Output → W.has_failed out.new ≡ true }
 {
     match read_line(input, line) {
@@ -152,9 +153,10 @@ fn filter_next<R: BufRead, W: Sink, D: Diagnostics<FilterError>>(
     diagnostics: &mut D,
 ) -> Result<Option<bool>, FilterError>
     ensures filtered { FiltersNext D.reports filter.now number (record {
-        input = record { before = R.remaining input.old; after = R.remaining input.new };
-        output = record { before = W.contents out.old; after = W.contents out.new };
-        diagnostics = record { before = diagnostics.old; after = diagnostics.new }; }) result }
+      input = record { before = R.remaining input.old; after = R.remaining input.new };
+      output = record { before = W.contents out.old; after = W.contents out.new };
+      diagnostics = record { before = diagnostics.old; after = diagnostics.new };
+    }) result }
     ensures failed { result ≡ Err FilterError.Output → W.has_failed out.new ≡ true }
 {
     match input.fill_buf() {
@@ -202,13 +204,16 @@ pub fn filter_lines<R: BufRead, W: Sink, D: Diagnostics<FilterError>>(
     diagnostics: &mut D,
 ) -> Result<bool, FilterError>
     ensures filtered { Filters AppendsPrefix D.reports filter.now (record {
-        input = record { before = R.remaining input.old; after = R.remaining input.new };
-        output = record { before = W.contents out.old; after = W.contents out.new };
-        diagnostics = record { before = diagnostics.old; after = diagnostics.new }; }) result }
+      input = record { before = R.remaining input.old; after = R.remaining input.new };
+      output = record { before = W.contents out.old; after = W.contents out.new };
+      diagnostics = record { before = diagnostics.old; after = diagnostics.new };
+    }) result }
     ensures silent { result ≡ Ok true → diagnostics.new ≡ diagnostics.old }
     ensures failed { result ≡ Err FilterError.Output → W.has_failed out.new ≡ true }
-    ensures consumed { IfErr result (IsConsumed (record { before = R.remaining input.old;
-        after = R.remaining input.new; })) }
+    ensures consumed { IfErr result (IsConsumed (record {
+      before = R.remaining input.old;
+      after = R.remaining input.new;
+    })) }
     ensures at_end { OnOk result (IfSome (R.remaining input.old) (λ _. IsAtEnd (R.remaining input.new))) }
 {
     let mut line = Vec::new(alloc);

@@ -42,9 +42,10 @@ fn filter_words<R: Read, O: Write + Drop, D: Diagnostics<FilterError>>(
     diagnostics: &mut D,
 ) -> (Result<bool, FilterError>, Closed<O>)
     ensures filtered { WordsFilter D.reports words.now (record {
-        input = record { before = R.remaining input.old; after = R.remaining input.new };
-        output = record { before = writer_contents O.contents buffered.0; after = O.contents result.1.0 };
-        diagnostics = record { before = diagnostics.old; after = diagnostics.new }; }) result.0 }
+      input = record { before = R.remaining input.old; after = R.remaining input.new };
+      output = record { before = writer_contents O.contents buffered.0; after = O.contents result.1.0 };
+      diagnostics = record { before = diagnostics.old; after = diagnostics.new };
+    }) result.0 }
     ensures silent { result.0 ≡ Ok true → diagnostics.new ≡ diagnostics.old }
     ensures has_not_failed { OnOk result.0 (result.1.1 ≡ false) }
     ensures failed { result.0 ≡ Err FilterError.Output → result.1.1 ≡ true }
@@ -92,18 +93,20 @@ pub fn run_arguments<R: Read, O: Write + Drop, D: Diagnostics<FilterError>>(
 ) -> (u8, Option<Closed<O>>)
     ensures at_most { result.0 ≤ 3 }
     ensures printed { let process : Process O D = record {
-            input = record { before = R.remaining input.old; after = R.remaining input.new };
-            writer = out; contents = O.contents;
-            diagnostics = record { before = diagnostics.old; after = diagnostics.new };
-        } in
+      input = record { before = R.remaining input.old; after = R.remaining input.new };
+      writer = out;
+      contents = O.contents;
+      diagnostics = record { before = diagnostics.old; after = diagnostics.new };
+    } in
         result.0 ≡ 0 → HaveWords arguments (λ words. IsSomeAnd result.1 (λ closed.
         WordsFilter D.reports words (effects process closed.0) (Ok true) × (closed.1 ≡ false))) }
     ensures silent { result.0 ≡ 0 → diagnostics.new ≡ diagnostics.old }
     ensures reported { let process : (last : D) → Process O D = λ last. record {
-            input = record { before = R.remaining input.old; after = R.remaining input.new };
-            writer = out; contents = O.contents;
-            diagnostics = record { before = diagnostics.old; after = last };
-        } in
+      input = record { before = R.remaining input.old; after = R.remaining input.new };
+      writer = out;
+      contents = O.contents;
+      diagnostics = record { before = diagnostics.old; after = last };
+    } in
         0 < result.0 →
         ((result.0 ≡ 1) × HaveWords arguments (λ words. IsSomeAnd result.1 (λ closed.
         WordsFilter D.reports words (effects (process diagnostics.new) closed.0) (Ok false) × (closed.1 ≡ false))))

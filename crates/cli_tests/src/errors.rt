@@ -2,8 +2,8 @@
 ghost use Rattle.std.specs.Prelude.{◌≡◌, true, [], ◌∷◌, ◌++◌};
 
 use cli::{
-    Diagnostics, ErrorLines, FilterError, FixdecError, OnError, OperationError, PluralError,
-    Reason, filter_lines,
+    Diagnostics, ErrorLines, Filter, FilterError, FixdecError, OnError, OperationError,
+    PluralError, Reason, filter_lines,
 };
 use fixed_decimal::{Call, TextBuf};
 use std::alloc::Global;
@@ -147,7 +147,11 @@ fn a_skipping_filter_reports_each_refusal(rt: HostRuntime) -> Result<(), Fail> {
         is_whole: true,
     };
     let calls = [Call::MultiplyPow10(-2)];
-    let answer = filter_lines(alloc, OnError::Skip, &calls, &mut input, &mut out, &mut log);
+    let filter = Filter {
+        on_error: OnError::Skip,
+        calls: &calls,
+    };
+    let answer = filter_lines(alloc, &filter, &mut input, &mut out, &mut log);
     assert_eq!(rt; answer, Ok(false));
     assert_eq!(rt; out.as_bytes(), b"2.50\n\n0.07\n\n".as_slice());
     let wanted = [

@@ -1,4 +1,4 @@
-use Rattle.std.proofs.Common.{◌≡◌, Ok, Err, Some, None, true}
+use Rattle.std.proofs.Common.{◌≡◌, true}
 use Rattle.std.proofs.lemmas.Result.{err_from_is_err_and}
 use Rattle.cli.proofs.Filtering.{filtered_start, filtered_more, filters_all, filters_many, filters_error, consumed_next, silent_all}
 use Rattle.cli.proofs.filter.filter_lines.Goals as goal

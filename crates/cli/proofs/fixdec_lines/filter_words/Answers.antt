@@ -82,8 +82,14 @@ returns-clause-filtered g c =
     let read : reader_remaining through c.in-Ok.reader ≡ g.R.Read.remaining c.args.input.now =
     new_reader through c.in-Ok.reader _ c.in-Ok.ensures.inner c.in-Ok.ensures.empty c.in-Ok.ensures.capacity in
     let effects : Effects g.row.D.Denot = record {
-      input = record { before = reader_remaining through c.in-Ok.reader; after = reader_remaining through run.new.input };
-      output = record { before = writer_contents contents c.args.buffered.0; after = writer_contents contents run.new.out.0 };
+      input = record {
+        before = reader_remaining through c.in-Ok.reader;
+        after = reader_remaining through run.new.input;
+      };
+      output = record {
+        before = writer_contents contents c.args.buffered.0;
+        after = writer_contents contents run.new.out.0;
+      };
       diagnostics = record { before = c.args.diagnostics.now; after = run.new.diagnostics };
     } in
     rw read at
@@ -102,8 +108,14 @@ returns-then-has_failed-clause-filtered g c =
     let read : reader_remaining through c.in-Ok.reader ≡ g.R.Read.remaining c.args.input.now =
     new_reader through c.in-Ok.reader _ c.in-Ok.ensures.inner c.in-Ok.ensures.empty c.in-Ok.ensures.capacity in
     let effects : Effects g.row.D.Denot = record {
-      input = record { before = reader_remaining through c.in-Ok.reader; after = reader_remaining through run.new.input };
-      output = record { before = writer_contents contents c.args.buffered.0; after = writer_contents contents run.new.out.0 };
+      input = record {
+        before = reader_remaining through c.in-Ok.reader;
+        after = reader_remaining through run.new.input;
+      };
+      output = record {
+        before = writer_contents contents c.args.buffered.0;
+        after = writer_contents contents run.new.out.0;
+      };
       diagnostics = record { before = c.args.diagnostics.now; after = run.new.diagnostics };
     } in
     rw read at

@@ -25,7 +25,10 @@ returns-clause-reported g c = λ _.
     let taken : writer_contents contents c.in-Ok-open.buffered.0 ≡ contents c.args.out =
     c.in-Ok-open.ensures.contents in
     let fails : WordsFilter g.D.Diagnostics.reports words (record {
-      input = record { before = g.R.Read.remaining c.args.input.now; after = g.R.Read.remaining c.filter_words.new.input };
+      input = record {
+        before = g.R.Read.remaining c.args.input.now;
+        after = g.R.Read.remaining c.filter_words.new.input;
+      };
       output = record { before = contents c.args.out; after = contents closed.0 };
       diagnostics = record { before = c.args.diagnostics.now; after = before };
     }) (Err error) =
