@@ -26,7 +26,8 @@ and_right : (a b : Bool) → (a && b) ≡ true → b ≡ true
 and_right true b h = h
 and_right false b h = cc
 
-pub passes_at : {X : Type 0} (q : X → Bool) (xs : List X) (i : ℕ) (d : X) → list_all q xs ≡ true → i < length xs → q (get_or xs i d) ≡ true
+pub passes_at : {X : Type 0} (q : X → Bool) (xs : List X) (i : ℕ) (d : X) → list_all q xs ≡ true → i < length xs
+    → q (get_or xs i d) ≡ true
 passes_at q [] i d all inside = absurd (omega arith)
 passes_at q (x ∷ xs) zero d all inside = and_left (q x) (list_all q xs) all
 passes_at q (x ∷ xs) (suc i) d all inside = passes_at q xs i d (and_right (q x) (list_all q xs) all) (omega arith)
@@ -36,7 +37,8 @@ found_in : {X : Type 0} (q : X → Bool) (b : Bool) (y x : X) (rest : Option X)
 found_in q true y x rest here later e = let same : y ≡ x = cc in subst (λ z. q z ≡ true) same here
 found_in q false y x rest here later e = later e
 
-pub passes_found : {X : Type 0} (p q : X → Bool) (xs : List X) (x : X) → list_all q xs ≡ true → find p xs ≡ Some x → q x ≡ true
+pub passes_found : {X : Type 0} (p q : X → Bool) (xs : List X) (x : X) → list_all q xs ≡ true → find p xs ≡ Some x
+    → q x ≡ true
 passes_found p q [] x all found = cc
 passes_found p q (y ∷ ys) x all found =
     found_in q (p y) y x (find p ys) (and_left (q y) (list_all q ys) all)
@@ -48,8 +50,11 @@ passes_found p q (y ∷ ys) x all found =
 abbrev width : List ℕ → ℕ → ℕ
 width digits d = length (encode_utf8 (slice_index digits d))
 
+abbrev has_width : ℕ → ℕ → Bool
+has_width n c = length (encode_utf8 c) == n
+
 abbrev has_one_width : NumberingSystem → Bool
-has_one_width s = (length s.digits == 10) && list_all (λ c. length (encode_utf8 c) == width s.digits 0) s.digits
+has_one_width s = (length s.digits == 10) && list_all (has_width (width s.digits 0)) s.digits
 
 systems_have_one_width : list_all has_one_width NUMBERING_SYSTEMS ≡ true
 unfolding lib.Utf8.encode
@@ -58,11 +63,13 @@ systems_have_one_width = refl
 pub system_named-width : (name : List ℕ) (s : NumberingSystem) → system_named name ≡ Some s → HasOneWidth s.digits
 unfolding system_named
 system_named-width name s found = λ d few.
-    let both = passes_found (λ s. bytes_eq (unpadded s.name) (compared name)) has_one_width NUMBERING_SYSTEMS s systems_have_one_width found in
-    let test = and_left (length s.digits == 10) (list_all (λ c. length (encode_utf8 c) == width s.digits 0) s.digits) both in
+    let is_named = λ (s : NumberingSystem). bytes_eq (unpadded s.name) (compared name) in
+    let both = passes_found is_named has_one_width NUMBERING_SYSTEMS s systems_have_one_width found in
+    let has = has_width (width s.digits 0) in
+    let test = and_left (length s.digits == 10) (list_all has s.digits) both in
     let ten : length s.digits ≡ 10 = grind (arith, nat_tests, test) in
-    let same = passes_at (λ c. length (encode_utf8 c) == width s.digits 0) s.digits d 0
-    (and_right (length s.digits == 10) (list_all (λ c. length (encode_utf8 c) == width s.digits 0) s.digits) both) (omega arith) in
+    let same = passes_at has s.digits d 0
+    (and_right (length s.digits == 10) (list_all has s.digits) both) (omega arith) in
     grind (arith, nat_tests, same)
 
 -- ---- The default numbering system of a locale.
@@ -76,7 +83,7 @@ locales_have_systems = refl
 
 pub listed_system : (l : LocaleSymbols) → Contains LOCALES l → system_named (unpadded l.system) ≡ None → ⊥
 listed_system l listed none =
-    let found : has_system (get_or LOCALES listed.0 l) ≡ true = passes_at has_system LOCALES listed.0 l locales_have_systems listed.1 in
+    let found = passes_at has_system LOCALES listed.0 l locales_have_systems listed.1 in
     let same = ap has_system listed.2 in
     let absent = ap is_some none in
     cc

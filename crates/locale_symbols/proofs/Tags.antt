@@ -9,12 +9,16 @@ use Rattle.locale_symbols.specs.Tag.{tag_byte, compared, is_tag_prefix, from_fir
 -- a tag is a part, or has a hyphen after it
 pub hyphen : (part tag : List ℕ)
     → is_tag_prefix part tag
-    ≡ (starts_with nat_eq (compared tag) part && ((length tag == length part) || (tag_byte (get_or tag (length part) 0) == 45)))
+    ≡ (starts_with nat_eq (compared tag) part
+    && ((length tag == length part) || (tag_byte (get_or tag (length part) 0) == 45)))
 hyphen [] [] = refl
 hyphen [] (b ∷ bs) = grind (arith, nat_tests)
 hyphen (p ∷ []) [] = elim (nat_eq p 45) as (λ v. v && false ≡ false) [ true ↦ refl | false ↦ refl ]
 hyphen (p ∷ q ∷ ps) [] = elim (nat_eq p 45) as (λ v. v && false ≡ false) [ true ↦ refl | false ↦ refl ]
-hyphen (p ∷ ps) (b ∷ bs) = let e = hyphen ps bs in let s = eqb-suc-suc (length bs) (length ps) in grind (arith, nat_tests, e, s)
+hyphen (p ∷ ps) (b ∷ bs) =
+    let e = hyphen ps bs in
+    let s = eqb-suc-suc (length bs) (length ps) in
+    grind (arith, nat_tests, e, s)
 
 -- where a text is not at an index, its first occurrence is after it
 pub from_first-tail : (text tag : List ℕ) (i : ℕ) → i < length tag

@@ -13,7 +13,8 @@ abbrev pub name_of : List ℕ → LocaleSymbols → List ℕ
 name_of tag locale = unwrap_or (requested_system tag) (unpadded locale.system)
 
 pub named_by : (named : Option Text) (default result : Text) (tag : List ℕ) (locale : LocaleSymbols)
-    → result ≡ unwrap_or named default → option_copied named ≡ requested_system tag → default.now ≡ unpadded locale.system
+    → result ≡ unwrap_or named default → option_copied named ≡ requested_system tag
+    → default.now ≡ unpadded locale.system
     → result.now ≡ name_of tag locale
 named_by None default result tag locale e q p =
     ap (λ b. b.now) e ∙ (p ∙ ap (λ o. unwrap_or o (unpadded locale.system)) q)
@@ -23,7 +24,8 @@ pub unknown_system : (tag : List ℕ) (locale : LocaleSymbols) → Chooses LOCAL
     → system_named (name_of tag locale) ≡ None → IsUnknown tag
 unknown_system tag locale listed = go (requested_system tag) refl
   where
-    go : (o : Option (List ℕ)) → requested_system tag ≡ o → system_named (unwrap_or o (unpadded locale.system)) ≡ None → IsUnknown tag
+    go : (o : Option (List ℕ)) → requested_system tag ≡ o
+        → system_named (unwrap_or o (unpadded locale.system)) ≡ None → IsUnknown tag
     go None e none = absurd (listed_system locale listed.0 none)
     go (Some name) e none = inr (record { name = name; requested = e; unlisted = none })
 

@@ -52,7 +52,7 @@ abbrev pub symbols_in : NumberingSystem → LocaleSymbols → Option LocaleSymbo
 symbols_in system locale None = symbols_of system (unwrap_or system.symbols locale.symbols) locale.sizes
 symbols_in system locale (Some own) = symbols_of system own.symbols own.sizes
 
--- the symbols are those of the listed locale with the longest tag, in the numbering system of the tag or its default one
+-- the symbols are those of the listed locale with the longest tag, in the numbering system of the tag or its default
 pub record IsLocale (tag : List ℕ) (s : Symbols) : Type 0 where
   pub locale : LocaleSymbols
   pub system : NumberingSystem

@@ -32,5 +32,5 @@ first_subtag tag = before_first (λ b. tag_byte b == 45) tag
 -- the numbering system that a tag names: `deva` of `hi-u-nu-deva` and of `hi-u-ca-indian-nu-deva`
 abbrev pub requested_system : List ℕ → Option (List ℕ)
 requested_system tag =
-    option_and_then (λ extension. option_map (λ keyword. first_subtag (drop 4 keyword)) (from_first (codes "-nu-") (drop 2 extension)))
-    (from_first (codes "-u-") tag)
+    let keyword_of = λ (extension : List ℕ). from_first (codes "-nu-") (drop 2 extension) in
+    option_map (λ keyword. first_subtag (drop 4 keyword)) (option_and_then keyword_of (from_first (codes "-u-") tag))

@@ -6,8 +6,10 @@ use Rattle.locale_symbols.proofs.Unknown.{name_of, named_by, unknown_system, kno
 use Rattle.locale_symbols.proofs.lookup.locale.Goals as goal
 
 pub returns-in_err-locale-clause-unknown : goal.returns-in_err-locale-clause-unknown
-returns-in_err-locale-clause-unknown c =
-    (λ _. subst IsUnknown c.as_bytes-tag.ensures.value (inl c.in_err-locale.ensures), λ _. ap is_some c.from_residual.ensures)
+returns-in_err-locale-clause-unknown c = (
+  λ _. subst IsUnknown c.as_bytes-tag.ensures.value (inl c.in_err-locale.ensures),
+  λ _. ap is_some c.from_residual.ensures,
+)
 
 pub returns-in_err-system-clause-unknown : goal.returns-in_err-system-clause-unknown
 returns-in_err-system-clause-unknown c =
@@ -21,7 +23,8 @@ returns-in_err-system-clause-unknown c =
     )
 
 pub symbols_in-requires : goal.symbols_in-requires
-symbols_in-requires c = system_named-width c.unwrap_or-name.result.now c.in_ok-system.system.now (sym c.in_ok-system.ensures)
+symbols_in-requires c =
+    system_named-width c.unwrap_or-name.result.now c.in_ok-system.system.now (sym c.in_ok-system.ensures)
 
 pub returns-clause-found : goal.returns-clause-found
 returns-clause-found c =
@@ -49,5 +52,6 @@ returns-clause-unknown c =
     c.unwrap_or-name.ensures c.requested_system.ensures c.unpadded.ensures in (
       λ none. cc,
       λ u. absurd (known tag locale c.in_ok-system.system.now c.in_ok-locale.ensures
-          (ap system_named (sym name) ∙ sym c.in_ok-system.ensures) (subst IsUnknown (sym c.as_bytes-tag.ensures.value) u)),
+          (ap system_named (sym name) ∙ sym c.in_ok-system.ensures)
+          (subst IsUnknown (sym c.as_bytes-tag.ensures.value) u)),
     )

@@ -20,8 +20,10 @@ loop-row-preserved c =
           subst (λ found. Next rows i tag system (option_copied found)) (sym w.found-is)
           (elim w.else-is_candidate.branch [
             | else-is_candidate-via-then-is_candidate+else-is_longer v ↦
-                chooses-no_longer rows i _ tag system best _ c.loop-row-test.true c.loop-row.invariant v.is_longer.ensures v.if-is_longer.false
+                chooses-no_longer rows i _ tag system best _ c.loop-row-test.true c.loop-row.invariant
+                v.is_longer.ensures v.if-is_longer.false
             | else-is_candidate-via-else-is_candidate v ↦
-                chooses-no_candidate rows i _ tag system best _ c.loop-row-test.true c.loop-row.invariant c.is_candidate.ensures v.if-is_candidate.false
+                chooses-no_candidate rows i _ tag system best _ c.loop-row-test.true c.loop-row.invariant
+                c.is_candidate.ensures v.if-is_candidate.false
           ])
     ]
