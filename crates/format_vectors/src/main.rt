@@ -1,0 +1,95 @@
+//! Checks the texts of numbers in locales: how they are written, and that they are read back.
+//!
+//! Each line of standard input is a row of four fields with tabs between them: a locale, a grouping strategy, a number,
+//! and its text, or `unknown` if the locale is not listed. Blank lines and lines that start with `#` are not rows. Each
+//! row that fails is printed with its line number; the last line counts the rows.
+#![tactic(auto)]
+
+use decimal_format::{DecimalFormatter, DecimalSymbols, GroupingStrategy};
+use fixed_decimal::{Decimal, Writeable};
+use locale_symbols::locale;
+use std::alloc::Global;
+use std::io;
+use std::process::ExitCode;
+use test_support::LimitedSink;
+
+const STRATEGIES: &[(&str, GroupingStrategy)] = &[
+    ("auto", GroupingStrategy::Auto),
+    ("never", GroupingStrategy::Never),
+    ("always", GroupingStrategy::Always),
+    ("min2", GroupingStrategy::Min2),
+];
+
+/// Returns the strategy with a name.
+fn strategy(word: &str) -> Option<GroupingStrategy> {
+    for (name, strategy) in STRATEGIES {
+        if *name == word {
+            return Some(*strategy);
+        }
+    }
+    None
+}
+
+/// Whether a formatter writes a number as this text, whose length is the hint.
+fn writes(formatter: &DecimalFormatter<'_>, value: &Decimal, text: &str) -> bool {
+    let formatted = formatter.format(value);
+    let mut sink = LimitedSink::new(text.as_bytes(), usize::MAX);
+    formatted.writeable_length_hint() == text.len()
+        && formatted.write_to(&mut sink).is_ok()
+        && sink.has_all()
+}
+
+/// Whether a number has this text by the symbols of a locale.
+fn has_text(
+    alloc: Global,
+    symbols: DecimalSymbols<'_>,
+    strategy: GroupingStrategy,
+    number: &str,
+    text: &str,
+) -> bool {
+    let formatter = DecimalFormatter::new(symbols, strategy);
+    match Decimal::try_from_str(alloc, number) {
+        Ok(value) => writes(&formatter, &value, text),
+        Err(_) => false,
+    }
+}
+
+/// Whether a row holds.
+fn holds(alloc: Global, row: &str) -> Option<bool> {
+    let (tag, row) = row.split_once('\t')?;
+    let (word, row) = row.split_once('\t')?;
+    let (number, text) = row.split_once('\t')?;
+    let strategy = strategy(word)?;
+    match locale(tag) {
+        Some(symbols) => Some(has_text(alloc, symbols, strategy, number, text)),
+        None => Some(text == "unknown"),
+    }
+}
+
+/// Checks the rows of a text, and prints their numbers.
+fn check_lines<R: AllocGlobal + Print>(rt: &R, text: &str) -> ExitCode {
+    let (mut hold, mut fail) = (0u64, 0u64);
+    for (index, line) in text.lines().enumerate() {
+        if line.is_empty() || line.starts_with('#') {
+            continue;
+        }
+        if holds(rt.alloc(), line) == Some(true) {
+            hold = hold.saturating_add(1);
+        } else {
+            fail = fail.saturating_add(1);
+            let _ = println!(rt; "line {}: {line}", index.saturating_add(1));
+        }
+    }
+    if println!(rt; "{hold} rows hold, {fail} fail").is_ok() && fail == 0 {
+        ExitCode::SUCCESS
+    } else {
+        ExitCode::FAILURE
+    }
+}
+
+fn main(rt: HostRuntime) -> ExitCode {
+    match io::read_to_string(rt.alloc(), rt.reader()) {
+        Ok(text) => check_lines(&rt, text.as_str()),
+        Err(_) => ExitCode::FAILURE,
+    }
+}

@@ -1,0 +1,4 @@
+pub mod Tags
+pub mod Longest
+pub mod EachRow
+pub mod Unknown

@@ -1,0 +1,40 @@
+-- When a tag has no symbols.
+use Rattle.std.proofs.Common.{◌≡◌, ℕ, List, Option, Some, None, unwrap_or, ap, ◌∙◌, refl, inl, inr}
+use Rattle.locale_symbols.specs.declared.table.LocaleSymbols.{LocaleSymbols}
+use Rattle.locale_symbols.specs.declared.table.NumberingSystem.{NumberingSystem}
+use Rattle.locale_symbols.specs.declared.tables.TheConstants.{LOCALES}
+use Rattle.std.specs.Option.{option_copied}
+use Rattle.locale_symbols.specs.Tag.{Text, requested_system}
+use Rattle.locale_symbols.specs.Locales.{unpadded, is_candidate, system_named, Chooses, IsUnknown}
+use Rattle.locale_symbols.proofs.EachRow.{listed_system}
+
+-- the name of the numbering system of a tag
+abbrev pub name_of : List ℕ → LocaleSymbols → List ℕ
+name_of tag locale = unwrap_or (requested_system tag) (unpadded locale.system)
+
+pub named_by : (named : Option Text) (default result : Text) (tag : List ℕ) (locale : LocaleSymbols)
+    → result ≡ unwrap_or named default → option_copied named ≡ requested_system tag
+    → default.now ≡ unpadded locale.system
+    → result.now ≡ name_of tag locale
+named_by None default result tag locale e q p =
+    ap (λ b. b.now) e ∙ (p ∙ ap (λ o. unwrap_or o (unpadded locale.system)) q)
+named_by (Some s) default result tag locale e q p = ap (λ b. b.now) e ∙ ap (λ o. unwrap_or o (unpadded locale.system)) q
+
+pub unknown_system : (tag : List ℕ) (locale : LocaleSymbols) → Chooses LOCALES tag None (Some locale)
+    → system_named (name_of tag locale) ≡ None → IsUnknown tag
+unknown_system tag locale listed = go (requested_system tag) refl
+  where
+    go : (o : Option (List ℕ)) → requested_system tag ≡ o
+        → system_named (unwrap_or o (unpadded locale.system)) ≡ None → IsUnknown tag
+    go None e none = absurd (listed_system locale listed.0 none)
+    go (Some name) e none = inr (record { name = name; requested = e; unlisted = none })
+
+pub known : (tag : List ℕ) (locale : LocaleSymbols) (system : NumberingSystem) → Chooses LOCALES tag None (Some locale)
+    → system_named (name_of tag locale) ≡ Some system → IsUnknown tag → ⊥
+known tag locale system listed named (inl none) =
+    let other = none listed.0.0 locale listed.0.1 in
+    let same = ap (λ row. is_candidate tag None row) listed.0.2 in
+    cc
+known tag locale system listed named (inr u) =
+    let e = ap (λ o. system_named (unwrap_or o (unpadded locale.system))) u.requested in
+    cc

@@ -1,0 +1,3 @@
+pub mod Tag
+pub mod Symbol
+pub mod Locales
