@@ -1,3 +1,7 @@
+pub mod AsciiDigits
+pub mod Lengths
 pub mod Magnitudes
+pub mod Parts
 pub mod Pieces
+pub mod Separators
 pub mod Styled
