@@ -1,7 +1,10 @@
+-- Trusted specification.
 pub mod Symbols
 pub mod Grouping
 pub mod Formatted
 pub mod Ascii
 pub mod Readable
 pub mod Reading
+-- Private: used only in the contracts of private functions.
+pub mod Parts
 pub mod Scanning

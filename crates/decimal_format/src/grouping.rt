@@ -1,6 +1,8 @@
 //! The groups of the integer digits.
-ghost use Rattle.std.specs.Prelude.{◌≡◌};
+ghost use Rattle.std.specs.Prelude.{◌≡◌, ℕ, ◌+◌, ◌-◌, ◌^◌, ◌<◌, ◌≤◌, ◌≤ℤ◌, pos, false};
+ghost use Rattle.std.specs.Int.{int_gap};
 ghost use Rattle.decimal_format.specs.Grouping.{reaches, is_grouped, secondary_size, separates};
+ghost use Rattle.decimal_format.specs.Parts.{separators_below};
 
 /// When the integer digits are grouped.
 ///
@@ -78,5 +80,39 @@ impl GroupingSizes {
         }
         let secondary = self.secondary_size() as u16;
         self.is_grouped(strategy, hi) && (primary <= place && (place - primary) % secondary == 0)
+    }
+
+    /// Returns the number of digits from an integer magnitude down to the next separator, or to magnitude 0.
+    ///
+    /// In groups of 3 it is 1 from magnitude 3, and 3 from magnitude 5.
+    pub(crate) fn digits_to_separator(
+        self,
+        strategy: GroupingStrategy,
+        hi: i16,
+        magnitude: u32,
+    ) -> u32
+        requires { magnitude < 2 ^ 16 }
+        ensures some { 0 < result }
+        ensures within { result ≤ magnitude + 1 }
+        ensures none_between { (k : ℕ) → k + 1 < result
+            → separates strategy self hi (pos (magnitude - k)) ≡ false }
+    {
+        let primary = self.primary as u32;
+        if primary == 0 || magnitude < primary || !self.is_grouped(strategy, hi) {
+            return magnitude + 1;
+        }
+        (magnitude - primary) % self.secondary_size() as u32 + 1
+    }
+
+    /// Returns the number of separators of a value with the highest magnitude `hi`, which is at least 0.
+    pub(crate) fn separator_count(self, strategy: GroupingStrategy, hi: i16) -> u32
+        requires { pos 0 ≤ℤ hi }
+        ensures value { result ≡ separators_below strategy self hi (int_gap (pos 0) hi + 1) }
+        ensures at_most { result ≤ 32768 }
+    {
+        if self.primary == 0 || !self.is_grouped(strategy, hi) {
+            return 0;
+        }
+        (hi as u32 - self.primary as u32) / self.secondary_size() as u32 + 1
     }
 }

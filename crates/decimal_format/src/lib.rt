@@ -8,6 +8,7 @@
 //! ```
 #![tactic(auto)]
 
+mod block;
 mod error;
 mod formatter;
 mod grouping;

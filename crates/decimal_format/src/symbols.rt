@@ -1,5 +1,5 @@
 //! The symbols of a locale.
-ghost use Rattle.std.specs.Prelude.{◌≡◌, ◌<◌, ◌≤◌, length, slice_index, encode_utf8, IfOk, IfErr, OnOk};
+ghost use Rattle.std.specs.Prelude.{◌≡◌, ◌<◌, ◌≤◌, length, slice_index, encode_utf8, IfOk, IfErr, OnOk, true};
 ghost use Rattle.decimal_format.specs.Symbols.{HaveWidth};
 
 use crate::error::SymbolsError;
@@ -9,6 +9,9 @@ use std::marker::Model;
 
 /// The greatest number of bytes of a separator, a prefix or a suffix.
 const MAX_TEXT: usize = 255;
+
+/// The ASCII digits.
+const ASCII_DIGITS: [char; 10] = ['0', '1', '2', '3', '4', '5', '6', '7', '8', '9'];
 
 /// The texts before and after a number that has a sign.
 #[derive(Clone, Copy, Debug)]
@@ -73,7 +76,7 @@ impl<'a> DecimalSymbols<'a> {
     ghost use Rattle.fixed_decimal.specs.Decimal.{Decimal};
     ghost use Rattle.fixed_decimal.specs.DecimalText.{decimal_text};
     ghost use Rattle.decimal_format.specs.Symbols.{symbols, affixes, digit_text, sign_affixes, AreValid, Rejects};
-    ghost use Rattle.decimal_format.specs.Ascii.{ascii_symbols};
+    ghost use Rattle.decimal_format.specs.Ascii.{ascii_digits, ascii_symbols};
 
     /// Makes the symbols of a locale.
     ///
@@ -118,7 +121,7 @@ impl<'a> DecimalSymbols<'a> {
         ensures value { result ≡ ascii_symbols }
     {
         DecimalSymbols {
-            digits: ['0', '1', '2', '3', '4', '5', '6', '7', '8', '9'],
+            digits: ASCII_DIGITS,
             decimal: ".",
             grouping: ",",
             minus: Affixes {
@@ -152,6 +155,14 @@ impl<'a> DecimalSymbols<'a> {
     {
         let _ = &self.minus;
         self.digits[0].len_utf8()
+    }
+
+    /// Returns whether the digits are the ASCII digits.
+    pub(crate) fn has_ascii_digits(&self) -> bool
+        ensures { result ≡ true → self.now.digits ≡ ascii_digits }
+    {
+        let _ = &self.minus;
+        self.digits == ASCII_DIGITS
     }
 
     /// Returns the separator before the fraction digits.
