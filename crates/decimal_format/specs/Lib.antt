@@ -3,3 +3,4 @@ pub mod Grouping
 pub mod Formatted
 pub mod Ascii
 pub mod Parts
+pub mod ErrorText

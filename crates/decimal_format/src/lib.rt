@@ -12,6 +12,7 @@ mod block;
 mod error;
 mod formatter;
 mod grouping;
+pub mod laws;
 mod symbols;
 
 pub use error::SymbolsError;
