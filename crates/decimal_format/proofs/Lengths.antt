@@ -1,5 +1,5 @@
 -- The length of the text.
-use Rattle.std.proofs.Common.{◌≡◌, ℕ, zero, suc, ◌+◌, ◌*◌, ◌<◌, Bool, true, false, List, [], ◌++◌, length, refl, sym, ◌∙◌, ap, arith, append-nil, length-append}
+use Rattle.std.proofs.Common.{◌≡◌, ℕ, zero, suc, ◌+◌, ◌*◌, Bool, true, false, List, [], ◌++◌, length, refl, sym, ◌∙◌, ap, arith, append-nil, length-append}
 use Rattle.std.specs.Prelude.{if◌then◌else◌, ℤ, pos, negsuc, ◌-ℤ◌, ◌≤ℤ◌, ◌<ℤ◌}
 use Rattle.std.specs.Int.{int_gap}
 use Rattle.std.proofs.Math.Nat.{add-mul}
@@ -46,7 +46,8 @@ module _ (s : Symbols) (g : GroupingStrategy) (hi : ℤ) (number w : ℕ) (width
       ∙ length-append (magnitude_text s g hi number (pos n)) (formatted_down s g hi number (pos n -ℤ pos 1) n)
       ∙ (λ i. length-integer_digit n i + length-integer n i)
       ∙ (let e : w + one * length s.grouping + (n * w + below * length s.grouping)
-      ≡ suc n * w + (below + one) * length s.grouping = omega (arith, add-mul below one (length s.grouping), add-mul n 1 w) in e)
+      ≡ suc n * w + (below + one) * length s.grouping =
+      omega (arith, add-mul below one (length s.grouping), add-mul n 1 w) in e)
       ∙ ap (λ k. suc n * w + k * length s.grouping) (sym (separators_below-suc g s.sizes hi n))
 
   -- n magnitudes below -1
@@ -71,7 +72,8 @@ module _ (s : Symbols) (g : GroupingStrategy) (hi : ℤ) (number w : ℕ) (width
       ap length (formatted_down-suc s g hi number (negsuc 0) n)
       ∙ length-append (s.decimal ++ (here ++ [])) (formatted_down s g hi number (negsuc 0 -ℤ pos 1) n)
       ∙ ap (λ k. k + length (formatted_down s g hi number (negsuc 0 -ℤ pos 1) n))
-      (length-append s.decimal (here ++ []) ∙ ap (λ k. length s.decimal + k) (ap length (append-nil here) ∙ length-digit (negsuc 0)))
+      (length-append s.decimal (here ++ [])
+      ∙ ap (λ k. length s.decimal + k) (ap length (append-nil here) ∙ length-digit (negsuc 0)))
       ∙ ap (λ k. length s.decimal + w + k)
       (ap (λ m. length (formatted_down s g hi number m n)) next ∙ length-fraction_rest 0 n)
       ∙ (let e : length s.decimal + w + n * w ≡ length s.decimal + suc n * w = omega (arith, add-mul n 1 w) in e)
@@ -91,7 +93,8 @@ module _ (s : Symbols) (g : GroupingStrategy) (v : Unsigned) (valid : IsValue v)
       ap (λ k. length (formatted_down s g v.hi v.number v.hi k)) (sym all)
       ∙ ap length (formatted_down-add s g v.hi v.number v.hi n rest)
       ∙ length-append (formatted_down s g v.hi v.number v.hi n) (formatted_down s g v.hi v.number (v.hi -ℤ pos n) rest)
-      ∙ (λ i. (ap (λ m. length (formatted_down s g v.hi v.number m n)) first ∙ length-integer s g v.hi v.number w width n) i
+      ∙ (λ i. (ap (λ m. length (formatted_down s g v.hi v.number m n)) first
+      ∙ length-integer s g v.hi v.number w width n) i
       + length (formatted_down s g v.hi v.number (next i) rest))
 
   -- the length of a text without fraction digits

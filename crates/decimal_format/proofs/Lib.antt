@@ -1,4 +1,5 @@
 pub mod AsciiDigits
+pub mod FormattedLaws
 pub mod Lengths
 pub mod Magnitudes
 pub mod Parts

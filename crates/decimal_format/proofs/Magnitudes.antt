@@ -29,7 +29,8 @@ formatted_down-add s strategy hi number m zero j =
     let k : m ≡ m -ℤ pos zero = omega (arith, ints) in
     ap (formatted_down s strategy hi number m) n
     ∙ ap (λ x. formatted_down s strategy hi number x j) k
-    ∙ ap (λ l. l ++ formatted_down s strategy hi number (m -ℤ pos zero) j) (sym (formatted_down-zero s strategy hi number m))
+    ∙ ap (λ l. l ++ formatted_down s strategy hi number (m -ℤ pos zero) j)
+    (sym (formatted_down-zero s strategy hi number m))
 formatted_down-add s strategy hi number m (suc i) j =
     let n : suc i + j ≡ suc (i + j) = omega arith in
     let k : (m -ℤ pos 1) -ℤ pos i ≡ m -ℤ pos (suc i) = omega (arith, ints) in

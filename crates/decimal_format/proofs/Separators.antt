@@ -1,5 +1,5 @@
 -- Where the next separator is, and how many there are.
-use Rattle.std.proofs.Common.{◌≡◌, ◌≢◌, ℕ, zero, suc, ◌+◌, ◌-◌, ◌*◌, ◌/◌, ◌%◌, ◌<◌, ◌≤◌, inl, inr, Bool, true, false, refl, sym, ◌∙◌, ap, arith}
+use Rattle.std.proofs.Common.{◌≡◌, ℕ, zero, suc, ◌+◌, ◌-◌, ◌*◌, ◌/◌, ◌%◌, ◌<◌, ◌≤◌, inl, inr, Bool, true, false, refl, sym, ◌∙◌, ap, arith}
 use Rattle.std.specs.Prelude.{if◌then◌else◌, ◌==◌, ◌&&◌, nat_lt, nat_le, max, ℤ, pos, ◌≤ℤ◌}
 use Rattle.std.proofs.Math.Nat.{mod-add-div', add-mul-mod_self_right, add-mul-div_right, mod-eq_of_lt, mod-lt, mod_self, div_self, div-eq_of_lt, zero-div, zero-mod}
 use Rattle.std.proofs.lemmas.Int.{ints}
@@ -60,7 +60,9 @@ module _ (strategy : GroupingStrategy) (sizes : GroupingSizes) (hi : ℤ) where
       let rest : (x - k) % d ≡ x % d - k = mod-sub_less x d k (secondary_some some) h in
       let order : m - k - sizes.primary ≡ x - k = omega arith in
       let test : ((m - k - sizes.primary) % d == 0) ≡ false =
-      ap (λ y. y % d == 0) order ∙ ap (λ y. y == 0) rest ∙ (let e : (x % d - k == 0) ≡ false = grind (arith, nat_tests, h) in e) in
+      ap (λ y. y % d == 0) order
+      ∙ ap (λ y. y == 0) rest
+      ∙ (let e : (x % d - k == 0) ≡ false = grind (arith, nat_tests, h) in e) in
       ap (λ b. nat_lt 0 sizes.primary && (is_grouped strategy sizes hi && (nat_le sizes.primary (m - k) && b))) test
       ∙ ends_false (nat_lt 0 sizes.primary) (is_grouped strategy sizes hi) (nat_le sizes.primary (m - k))
 
@@ -137,5 +139,6 @@ module _ (strategy : GroupingStrategy) (sizes : GroupingSizes) (hi : ℤ) where
           ∙ (λ i. (ap (separators_below strategy sizes hi) order ∙ go x) i + (if here (suc x) i then 1 else 0))
           ∙ ap (λ y. x / secondary_size sizes + 1 + (if y % secondary_size sizes == 0 then 1 else 0)) step
           ∙ (let e : x / secondary_size sizes + 1 + (if (x + 1) % secondary_size sizes == 0 then 1 else 0)
-          ≡ (x + 1) / secondary_size sizes + 1 = omega (arith, div-add_one x (secondary_size sizes) (secondary_some some)) in e)
+          ≡ (x + 1) / secondary_size sizes + 1 =
+          omega (arith, div-add_one x (secondary_size sizes) (secondary_some some)) in e)
           ∙ ap (λ y. y / secondary_size sizes + 1) (sym step)

@@ -25,6 +25,7 @@ impl Model for Block {
 
 impl Block {
     /// Makes an empty block.
+    #[inline]
     pub(crate) fn new() -> Self
         ensures { result ≡ ([], false) }
     {
@@ -36,6 +37,7 @@ impl Block {
     }
 
     /// Returns the bytes that were put, in order.
+    #[inline]
     pub(crate) fn as_bytes(&self) -> &[u8]
         ensures { result.now ≡ self.now.0 }
     {
@@ -43,6 +45,7 @@ impl Block {
     }
 
     /// Appends bytes, or none if they do not fit.
+    #[inline]
     fn append(&mut self, bytes: &[u8]) -> Result<(), SinkFault>
         ensures ok { OnOk result (self.new ≡ (self.old.0 ++ bytes.now, false)) }
         ensures had_not_failed { OnOk result (self.old.1 ≡ false) }
@@ -68,6 +71,7 @@ impl Sink for Block {
         self.append(&[byte])
     }
 
+    #[inline]
     fn put_bytes(&mut self, bytes: &[u8]) -> Result<(), SinkFault> {
         self.append(bytes)
     }

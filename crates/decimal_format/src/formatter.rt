@@ -51,6 +51,7 @@ impl<'f, D: DigitStore> Model for FormattedDecimal<'f, D> {
 
 impl<'a> DecimalFormatter<'a> {
     /// Makes a formatter with the symbols of a locale and a strategy of grouping.
+    #[inline]
     pub fn new(symbols: DecimalSymbols<'a>, strategy: GroupingStrategy) -> Self
         ensures { result ≡ formatter symbols.entry strategy }
     {
@@ -58,6 +59,7 @@ impl<'a> DecimalFormatter<'a> {
     }
 
     /// Returns the symbols.
+    #[inline]
     pub fn symbols(&self) -> &DecimalSymbols<'a>
         ensures { result.now ≡ self.now.symbols }
     {
@@ -65,6 +67,7 @@ impl<'a> DecimalFormatter<'a> {
     }
 
     /// Formats a decimal over any store of digits. It does not allocate.
+    #[inline]
     pub fn format<'f, D: DigitStore>(
         &'f self,
         value: &'f Signed<UnsignedOver<D>>,
@@ -81,6 +84,7 @@ impl<'a> DecimalFormatter<'a> {
 
 impl<'f, D: DigitStore> FormattedDecimal<'f, D> {
     /// Returns the highest magnitude that is shown.
+    #[inline]
     fn highest(&self) -> i16
         ensures value { result ≡ self.now.value.absolute.hi }
         ensures valid { IsValue self.now.value.absolute }
@@ -89,6 +93,7 @@ impl<'f, D: DigitStore> FormattedDecimal<'f, D> {
     }
 
     /// Returns the number of magnitudes that are shown.
+    #[inline]
     fn shown_count(&self) -> u32
         ensures value { result ≡ shown_count self.now.value.absolute }
         ensures at_most { result ≤ 65536 }
@@ -98,6 +103,7 @@ impl<'f, D: DigitStore> FormattedDecimal<'f, D> {
     }
 
     /// Returns the magnitude that is the given number below the highest. Requires one that is shown.
+    #[inline]
     fn magnitude(&self, below: u32) -> i16
         requires { below < shown_count self.now.value.absolute }
         ensures value { result ≡ self.now.value.absolute.hi -ℤ pos below }
@@ -109,6 +115,7 @@ impl<'f, D: DigitStore> FormattedDecimal<'f, D> {
     }
 
     /// Returns the text before the digit of a magnitude: the decimal separator or nothing.
+    #[inline]
     fn separator_before(&self, below: u32) -> &str
         requires { below < shown_count self.now.value.absolute }
         ensures value { result.now ≡ separator_before self.now.symbols (self.now.value.absolute.hi -ℤ pos below) }
@@ -122,6 +129,7 @@ impl<'f, D: DigitStore> FormattedDecimal<'f, D> {
     }
 
     /// Returns the digit of a magnitude.
+    #[inline]
     fn digit(&self, below: u32) -> char
         requires { below < shown_count self.now.value.absolute }
         ensures { encode_utf8 result ≡ digit_text self.now.symbols
@@ -132,6 +140,7 @@ impl<'f, D: DigitStore> FormattedDecimal<'f, D> {
     }
 
     /// Returns the text after the digit of a magnitude: a grouping separator or nothing.
+    #[inline]
     fn separator_after(&self, below: u32) -> &str
         requires { below < shown_count self.now.value.absolute }
         ensures value { result.now ≡ separator_after self.now.symbols self.now.strategy self.now.value.absolute.hi
@@ -150,6 +159,7 @@ impl<'f, D: DigitStore> FormattedDecimal<'f, D> {
     }
 
     /// Returns the text before the number.
+    #[inline]
     fn prefix(&self) -> &str
         ensures value { result.now ≡ (sign_affixes self.now.symbols self.now.value.sign).prefix }
         ensures at_most { length result.now ≤ 255 }
@@ -158,6 +168,7 @@ impl<'f, D: DigitStore> FormattedDecimal<'f, D> {
     }
 
     /// Returns the text after the number.
+    #[inline]
     fn suffix(&self) -> &str
         ensures value { result.now ≡ (sign_affixes self.now.symbols self.now.value.sign).suffix }
         ensures at_most { length result.now ≤ 255 }

@@ -35,6 +35,7 @@ pub struct GroupingSizes {
 
 impl GroupingSizes {
     /// Returns whether at least `least` digits are before the last group, where the highest magnitude is `hi`.
+    #[inline]
     fn reaches(self, least: u8, hi: i16) -> bool
         ensures { result ≡ reaches self least hi }
     {
@@ -42,6 +43,7 @@ impl GroupingSizes {
     }
 
     /// Returns whether a value with the highest magnitude `hi` is grouped.
+    #[inline]
     fn is_grouped(self, strategy: GroupingStrategy, hi: i16) -> bool
         ensures { result ≡ is_grouped strategy self hi }
     {
@@ -54,6 +56,7 @@ impl GroupingSizes {
     }
 
     /// Returns the size of every group except the last.
+    #[inline]
     pub(crate) fn secondary_size(self) -> u8
         ensures { result ≡ secondary_size self }
     {
@@ -67,6 +70,7 @@ impl GroupingSizes {
     /// Returns whether a separator is after the digit at a magnitude, where the highest magnitude shown is `hi`.
     ///
     /// In groups of 3 one is after the magnitudes 3, 6, 9 and so on.
+    #[inline]
     pub fn separates(self, strategy: GroupingStrategy, hi: i16, magnitude: i16) -> bool
         ensures { result ≡ separates strategy self hi magnitude }
     {
@@ -85,6 +89,7 @@ impl GroupingSizes {
     /// Returns the number of digits from an integer magnitude down to the next separator, or to magnitude 0.
     ///
     /// In groups of 3 it is 1 from magnitude 3, and 3 from magnitude 5.
+    #[inline]
     pub(crate) fn digits_to_separator(
         self,
         strategy: GroupingStrategy,
@@ -105,6 +110,7 @@ impl GroupingSizes {
     }
 
     /// Returns the number of separators of a value with the highest magnitude `hi`, which is at least 0.
+    #[inline]
     pub(crate) fn separator_count(self, strategy: GroupingStrategy, hi: i16) -> u32
         requires { pos 0 ≤ℤ hi }
         ensures value { result ≡ separators_below strategy self hi (int_gap (pos 0) hi + 1) }

@@ -12,6 +12,7 @@ mod block;
 mod error;
 mod formatter;
 mod grouping;
+pub mod laws;
 mod reader;
 pub mod reading_laws;
 mod symbols;

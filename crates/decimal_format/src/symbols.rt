@@ -28,6 +28,7 @@ pub struct Affixes<'a> {
 #[derive(Debug, Drop)]
 pub struct DecimalSymbols<'a> {
     digits: [char; 10],
+    has_ascii_digits: bool,
     decimal: &'a str,
     grouping: &'a str,
     minus: Affixes<'a>,
@@ -36,6 +37,8 @@ pub struct DecimalSymbols<'a> {
 }
 
 impl<'a> Model for DecimalSymbols<'a> {
+    ghost use Rattle.std.specs.Prelude.{◌≡◌, true};
+    ghost use Rattle.decimal_format.specs.Ascii.{ascii_digits};
     ghost use Rattle.decimal_format.specs.Symbols.{Symbols, symbols, affixes, AreValid};
 
     ghost Value = { Symbols };
@@ -44,7 +47,8 @@ impl<'a> Model for DecimalSymbols<'a> {
         (affixes s.minus.prefix.now s.minus.suffix.now) (affixes s.plus.prefix.now s.plus.suffix.now) s.sizes };
 
     ghost invariant = { λ s. AreValid (symbols s.digits s.decimal.now s.grouping.now
-        (affixes s.minus.prefix.now s.minus.suffix.now) (affixes s.plus.prefix.now s.plus.suffix.now) s.sizes) };
+        (affixes s.minus.prefix.now s.minus.suffix.now) (affixes s.plus.prefix.now s.plus.suffix.now) s.sizes)
+        × (s.has_ascii_digits ≡ true → s.digits ≡ ascii_digits) };
 }
 
 /// Checks that ten digits have one length in UTF-8.
@@ -108,6 +112,7 @@ impl<'a> DecimalSymbols<'a> {
         check_length(plus.suffix, SymbolsError::PlusSuffixTooLong)?;
         Ok(DecimalSymbols {
             digits,
+            has_ascii_digits: digits == ASCII_DIGITS,
             decimal,
             grouping,
             minus,
@@ -122,6 +127,7 @@ impl<'a> DecimalSymbols<'a> {
     {
         DecimalSymbols {
             digits: ASCII_DIGITS,
+            has_ascii_digits: true,
             decimal: ".",
             grouping: ",",
             minus: Affixes {
@@ -141,6 +147,7 @@ impl<'a> DecimalSymbols<'a> {
     }
 
     /// Returns the character of a digit. Requires a digit below 10.
+    #[inline]
     pub fn digit(&self, digit: u8) -> char
         requires { digit < 10 }
         ensures value { encode_utf8 result ≡ digit_text self.now digit }
@@ -149,6 +156,7 @@ impl<'a> DecimalSymbols<'a> {
     }
 
     /// Returns the number of bytes of each digit, from 1 to 4.
+    #[inline]
     pub fn digit_width(&self) -> usize
         ensures value { HaveWidth self.now.digits result }
         ensures at_most { result ≤ 4 }
@@ -158,14 +166,16 @@ impl<'a> DecimalSymbols<'a> {
     }
 
     /// Returns whether the digits are the ASCII digits.
+    #[inline]
     pub(crate) fn has_ascii_digits(&self) -> bool
         ensures { result ≡ true → self.now.digits ≡ ascii_digits }
     {
         let _ = &self.minus;
-        self.digits == ASCII_DIGITS
+        self.has_ascii_digits
     }
 
     /// Returns the separator before the fraction digits.
+    #[inline]
     pub fn decimal_separator(&self) -> &str
         ensures value { result.now ≡ self.now.decimal }
         ensures at_most { length result.now ≤ 255 }
@@ -174,6 +184,7 @@ impl<'a> DecimalSymbols<'a> {
     }
 
     /// Returns the separator of groups.
+    #[inline]
     pub fn grouping_separator(&self) -> &str
         ensures value { result.now ≡ self.now.grouping }
         ensures at_most { length result.now ≤ 255 }
@@ -182,6 +193,7 @@ impl<'a> DecimalSymbols<'a> {
     }
 
     /// Returns the sizes of groups.
+    #[inline]
     pub fn sizes(&self) -> GroupingSizes
         ensures { result ≡ self.now.sizes }
     {
@@ -189,6 +201,7 @@ impl<'a> DecimalSymbols<'a> {
     }
 
     /// Returns the text before a number with this sign.
+    #[inline]
     pub fn prefix(&self, sign: Sign) -> &str
         ensures value { result.now ≡ (sign_affixes self.now sign).prefix }
         ensures at_most { length result.now ≤ 255 }
@@ -202,6 +215,7 @@ impl<'a> DecimalSymbols<'a> {
     }
 
     /// Returns the text after a number with this sign.
+    #[inline]
     pub fn suffix(&self, sign: Sign) -> &str
         ensures value { result.now ≡ (sign_affixes self.now sign).suffix }
         ensures at_most { length result.now ≤ 255 }

@@ -22,7 +22,8 @@ fn write_digits<W: Sink>(
     sink: &mut W,
 ) -> Result<(), SinkFault>
     requires { EachIndex digits.now (λ k. (48 ≤ slice_index digits.now k) × (slice_index digits.now k < 58)) }
-    ensures ok { OnOk result (Appends (W.contents sink.old) (W.contents sink.new) (digits_text symbols.now digits.now)) }
+    ensures ok { OnOk result
+        (Appends (W.contents sink.old) (W.contents sink.new) (digits_text symbols.now digits.now)) }
     ensures err { OnErr result
         (AppendsPrefix (W.contents sink.old) (W.contents sink.new) (digits_text symbols.now digits.now)) }
     ensures failed { OnErr result (W.has_failed sink.new ≡ true) }
@@ -55,12 +56,7 @@ impl<'f, D: DigitStore> FormattedDecimal<'f, D> {
     }
 
     /// Appends digits with no separator between them, with the separators before and after them.
-    fn write_run<W: Sink>(
-        &self,
-        below: u32,
-        digits: &[u8],
-        sink: &mut W,
-    ) -> Result<(), SinkFault>
+    fn write_run<W: Sink>(&self, below: u32, digits: &[u8], sink: &mut W) -> Result<(), SinkFault>
         requires some { 0 < length digits.now }
         requires shown { below + length digits.now ≤ shown_count self.now.value.absolute }
         requires in_limits { below + length digits.now ≤ 65536 }
@@ -84,19 +80,26 @@ impl<'f, D: DigitStore> FormattedDecimal<'f, D> {
         requires at_most { count ≤ 32 }
         requires shown { below + count ≤ shown_count self.now.value.absolute }
         requires in_limits { below + count ≤ 65536 }
-        ensures ok { OnOk result (Appends (W.contents sink.old) (W.contents sink.new) (part_text self.now below count)) }
+        ensures ok { OnOk result
+            (Appends (W.contents sink.old) (W.contents sink.new) (part_text self.now below count)) }
         ensures err { OnErr result
             (AppendsPrefix (W.contents sink.old) (W.contents sink.new) (part_text self.now below count)) }
         ensures failed { OnErr result (W.has_failed sink.new ≡ true) }
     {
         let mut buffer = [b'0'; PART as usize];
         let digits = &mut buffer[..count as usize];
-        self.value.absolute.write_digits(self.magnitude(below), digits);
+        self.value
+            .absolute
+            .write_digits(self.magnitude(below), digits);
         let mut written = 0;
         while written < count {
             let run = self.run_length(below + written).min(count - written);
             let end = written + run;
-            self.write_run(below + written, &digits[written as usize..end as usize], sink)?;
+            self.write_run(
+                below + written,
+                &digits[written as usize..end as usize],
+                sink,
+            )?;
             written = end;
         }
         Ok(())
@@ -108,7 +111,8 @@ impl<'f, D: DigitStore> FormattedDecimal<'f, D> {
         requires at_most { count ≤ 32 }
         requires shown { below + count ≤ shown_count self.now.value.absolute }
         requires in_limits { below + count ≤ 65536 }
-        ensures ok { OnOk result (Appends (W.contents sink.old) (W.contents sink.new) (part_text self.now below count)) }
+        ensures ok { OnOk result
+            (Appends (W.contents sink.old) (W.contents sink.new) (part_text self.now below count)) }
         ensures err { OnErr result
             (AppendsPrefix (W.contents sink.old) (W.contents sink.new) (part_text self.now below count)) }
         ensures failed { OnErr result (W.has_failed sink.new ≡ true) }
@@ -161,7 +165,9 @@ impl<'f, D: DigitStore> FormattedDecimal<'f, D> {
         ensures at_most { result ≤ 8355840 }
     {
         let symbols = self.symbols;
-        let count = symbols.sizes().separator_count(self.strategy, self.highest());
+        let count = symbols
+            .sizes()
+            .separator_count(self.strategy, self.highest());
         count as usize * symbols.grouping_separator().len()
     }
 }

@@ -1,4 +1,4 @@
-use Rattle.std.proofs.Common.{◌≡◌, ◌-◌, w16, to_z, of_z, sym, ◌∙◌, ap, arith}
+use Rattle.std.proofs.Common.{◌≡◌, ◌-◌, w16, to_z, of_z, sym, ◌∙◌, arith}
 use Rattle.std.specs.Prelude.{nat_abs, pos}
 use Rattle.std.proofs.lemmas.Int.{ints}
 use Rattle.fixed_decimal.proofs.Calling.{narrow_kept, gap_is}
@@ -34,4 +34,5 @@ returns-clause-run g c =
     let hi : f.value.absolute.hi ≡ to_z w16 (of_z w16 c.highest.result) =
     sym (narrow_kept {z = c.highest.result} c.highest.type_inv ∙ c.highest.ensures.value) in
     integer_run f c.args.below m c.digits_to_separator.result is c.digits_to_separator.ensures.within
-    (λ k h. (λ i. separates (strategy i) (sizes i) (hi i) (pos (m - k))) ∙ c.digits_to_separator.ensures.none_between k h)
+    (λ k h. (λ i. separates (strategy i) (sizes i) (hi i) (pos (m - k)))
+    ∙ c.digits_to_separator.ensures.none_between k h)

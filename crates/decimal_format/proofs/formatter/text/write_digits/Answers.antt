@@ -1,4 +1,4 @@
-use Rattle.std.proofs.Common.{◌≡◌, ℕ, ◌+◌, ◌-◌, List, take, drop, refl, sym, ◌∙◌, ap, subst, arith}
+use Rattle.std.proofs.Common.{◌≡◌, ℕ, ◌+◌, ◌-◌, List, take, drop, refl, sym, ◌∙◌, subst, arith}
 use Rattle.std.specs.Prelude.{slice_index, OnOk, OnErr}
 use Rattle.std.specs.Io.KnownBytes.{Appends}
 use Rattle.decimal_digits.specs.AppendsPrefix.{AppendsPrefix}
@@ -14,7 +14,8 @@ returns-then-has_ascii_digits-clause-ok g c =
     let ascii = c.has_ascii_digits.ensures c.if-has_ascii_digits.true in
     let same = digits_text-ascii c.args.symbols.now c.args.digits.now ascii c.requires in
     let P : List ℕ → Type 0 = λ text.
-        OnOk c.put_bytes.result (Appends (g.W.Sink.contents c.args.sink.now) (g.W.Sink.contents c.put_bytes.new.self) text) in
+    OnOk c.put_bytes.result
+    (Appends (g.W.Sink.contents c.args.sink.now) (g.W.Sink.contents c.put_bytes.new.self) text) in
     subst P (sym same) c.put_bytes.ensures.appends
 
 pub returns-then-has_ascii_digits-clause-err : goal.returns-then-has_ascii_digits-clause-err
@@ -22,7 +23,7 @@ returns-then-has_ascii_digits-clause-err g c =
     let ascii = c.has_ascii_digits.ensures c.if-has_ascii_digits.true in
     let same = digits_text-ascii c.args.symbols.now c.args.digits.now ascii c.requires in
     let P : List ℕ → Type 0 = λ text. OnErr c.put_bytes.result
-        (AppendsPrefix (g.W.Sink.contents c.args.sink.now) (g.W.Sink.contents c.put_bytes.new.self) text) in
+    (AppendsPrefix (g.W.Sink.contents c.args.sink.now) (g.W.Sink.contents c.put_bytes.new.self) text) in
     subst P (sym same) c.put_bytes.ensures.prefix
 
 pub returns-in_err-put_bytes-clause-err : goal.returns-in_err-put_bytes-clause-err
