@@ -126,7 +126,7 @@ module _ (s : Symbols) (bytes : List ℕ) (w : Numeral) (numeral : IsNumeral s b
       }
     where
       at_most : (n : ℕ) → (32768 < n → ⊥) → n ≤ 32768
-      at_most n h = elim (cases_lt 32768 n) [ | inl l ↦ absurd (h l) | inr l ↦ l ]
+      at_most n h = elim (cases_lt 32768 n) [ inl l ↦ absurd (h l) | inr l ↦ l ]
 
   module _ (readable : IsReadable s) where
     -- no other numeral of the text is beyond the limits

@@ -1,6 +1,6 @@
 -- The steps of a scan.
 use Rattle.std.proofs.Common.{◌≡◌, ◌≢◌, ℕ, zero, suc, ◌+◌, ◌-◌, ◌%◌, ◌<◌, ◌≤◌, ◌==◌, nat_le, nat_lt, Bool, true, false, ◌&&◌, ◌||◌, List, [], ◌∷◌, ◌++◌, length, refl, sym, ◌∙◌, ap, subst, arith, rules, append_assoc, append-nil, length-append, inl, inr}
-use Rattle.std.specs.Prelude.{pos, Option, Some, None, IfNone}
+use Rattle.std.specs.Prelude.{pos, Option, Some, None, IfNone, Result, Ok, Err, IfOk}
 use Rattle.std.specs.Int.Digits.{AllBelowBase}
 use Rattle.std.proofs.lemmas.Bool.{cases_eq}
 use Rattle.std.proofs.lemmas.Bool.Decides.{nat_tests}
@@ -409,3 +409,8 @@ counted_numeral s readable bytes number w n grouped numeral e counted =
     let shape = counted (separated_by s numeral.strategy (length w.whole)) w.whole (fraction_text s w.fraction)
     numeral.digits.whole (fraction_ends s readable w.fraction) e in
     (shape.count, number_shape s readable w numeral.strategy number n grouped e shape)
+
+-- ---- Results.
+pub if_ok_weaker : {V E : Type 0} (result : Result V E) (P Q : V → Type 0) → ((v : V) → P v → Q v) → IfOk result P → IfOk result Q
+if_ok_weaker (Ok v) P Q f p = f v p
+if_ok_weaker (Err e) P Q f p = tt

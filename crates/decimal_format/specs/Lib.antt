@@ -5,3 +5,4 @@ pub mod Ascii
 pub mod Readable
 pub mod Reading
 pub mod Scanning
+pub mod Lenient

@@ -54,8 +54,7 @@ returns-clause-found c =
     let affixes = sign_affixes s c.in_ok-sign.sign in
     let groups = digits_text-cong s (separated_if s grouped) (separated_by s (strategy_if grouped) (length whole.digits))
     whole.digits (λ m inside. strategy_separates s grouped (length whole.digits) m inside) in
-    let some : 0 < length whole.digits = omega (arith, whole.count, c.if-integer_digits-eq0.false) in
-    (
+    let some : 0 < length whole.digits = omega (arith, whole.count, c.if-integer_digits-eq0.false) in (
       w,
       record {
         digits = record { some = some; whole = whole.are_digits; fraction = fraction.are_digits };
