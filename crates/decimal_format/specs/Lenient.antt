@@ -1,5 +1,5 @@
 -- Numbers as people type them.
-use Rattle.std.specs.Prelude.{◌≡◌, ℕ, ◌-◌, ◌<◌, ◌==◌, ◌⊎◌, Bool, ◌&&◌, ◌||◌, if◌then◌else◌, List, [], length, encode_utf8}
+use Rattle.std.specs.Prelude.{ℕ, ◌-◌, ◌<◌, ◌==◌, ◌⊎◌, Bool, ◌&&◌, ◌||◌, if◌then◌else◌, List, [], length, encode_utf8}
 use Rattle.std.specs.Char.{is_ascii_digit}
 use Rattle.std.specs.List.{flat_map, list_any}
 use Rattle.std.specs.Str.{chars}

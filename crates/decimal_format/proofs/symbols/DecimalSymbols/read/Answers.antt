@@ -1,7 +1,6 @@
 use Rattle.std.proofs.Common.{◌≡◌, ◌<◌, true, false, inl, inr, length, refl, subst, sym, ◌∙◌, ap}
 use Rattle.decimal_digits.specs.Number.{size}
 use Rattle.decimal_unsigned.specs.Reading.{read}
-use Rattle.decimal_unsigned.specs.Text.{text}
 use Rattle.decimal_format.specs.Reading.{IsWritten, IsBeyondLimits}
 use Rattle.decimal_format.specs.Scanning.{plain_text}
 use Rattle.decimal_format.proofs.NumeralTexts.{text-digits}

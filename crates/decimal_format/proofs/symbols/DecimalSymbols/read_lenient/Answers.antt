@@ -1,5 +1,4 @@
-use Rattle.std.proofs.Common.{◌≡◌, ℕ, List, inl, inr, refl, sym, subst}
-use Rattle.decimal_unsigned.specs.declared.error.ParseError.TheVariants.{Limit, Memory, Syntax}
+use Rattle.std.proofs.Common.{ℕ, List, inl, inr, refl, sym, subst}
 use Rattle.decimal_format.specs.Lenient.{normalized, IsTyped}
 use Rattle.decimal_format.specs.Reading.{Numeral, IsNumeral, IsWritten}
 use Rattle.decimal_format.proofs.Scans.{if_ok_weaker}

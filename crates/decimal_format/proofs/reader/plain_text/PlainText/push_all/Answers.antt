@@ -1,4 +1,4 @@
-use Rattle.std.proofs.Common.{◌≡◌, ◌+◌, ◌<◌, ◌≤◌, [], ◌++◌, ◌∷◌, length, get_or, take, sym, ◌∙◌, ap, subst, arith, append_assoc, append-nil}
+use Rattle.std.proofs.Common.{◌<◌, [], ◌++◌, ◌∷◌, length, get_or, take, sym, ◌∙◌, ap, subst, arith, append_assoc, append-nil}
 use Rattle.std.proofs.lemmas.List.{take_more, take_all}
 use Rattle.decimal_format.specs.Scanning.{IsPlain, AppendsPlain}
 use Rattle.decimal_format.proofs.reader.plain_text.PlainText.push_all.Goals as goal
