@@ -20,8 +20,8 @@ module _ (s : Symbols) (readable : IsReadable s) where
   -- no text begins with two codes
   pub apart : (j k : ℕ) → j < 14 → k < 14 → (r t : List ℕ) → code s j ++ r ≡ code s k ++ t → j ≡ k
   apart j k p q r t e = elim (meet (code s j) (code s k) r t e) [
-    | inl begins ↦ readable j p k q begins
-    | inr begins ↦ sym (readable k q j p begins)
+    | inl begins ↦ readable.apart j p k q begins
+    | inr begins ↦ sym (readable.apart k q j p begins)
   ]
 
   -- the code of a digit
@@ -62,7 +62,7 @@ module _ (s : Symbols) (readable : IsReadable s) where
   none_not_code k j t p q other h = go (code s k) refl h
     where
       go : (c : List ℕ) → c ≡ code s k → [] ≡ c ++ t → ⊥
-      go [] e h = other (readable k p j q (code s j, ap (λ l. l ++ code s j) e))
+      go [] e h = other (readable.apart k p j q (code s j, ap (λ l. l ++ code s j) e))
       go (x ∷ c) e h = cc
 
   pub none_not_grouping : (t : List ℕ) → [] ≢ s.grouping ++ t

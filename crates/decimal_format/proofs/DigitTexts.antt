@@ -1,12 +1,12 @@
 -- Texts of digits.
-use Rattle.std.proofs.Common.{◌≡◌, ◌≢◌, ℕ, zero, suc, ◌+◌, ◌<◌, Bool, true, false, List, [], ◌∷◌, ◌++◌, length, refl, sym, ◌∙◌, ap, arith, append_assoc}
+use Rattle.std.proofs.Common.{◌≡◌, ◌≢◌, ℕ, ◌<◌, Bool, true, false, List, [], ◌∷◌, ◌++◌, length, refl, sym, ◌∙◌, ap, arith, append_assoc}
 use Rattle.std.specs.Int.Digits.{AllBelowBase}
 use Rattle.std.proofs.lemmas.List.{append_cancel_left}
 use Rattle.decimal_format.specs.Symbols.{Symbols, digit_text}
 use Rattle.decimal_format.specs.Readable.{IsReadable}
 use Rattle.decimal_format.specs.Reading.{digits_text, fraction_text}
 use Rattle.decimal_format.specs.Scanning.{separator_if, EndsInteger}
-use Rattle.decimal_format.proofs.Codes.{same_digit, digit_not_decimal, digit_not_grouping, decimal_not_grouping, none_not_grouping, none_not_decimal, none_not_digit}
+use Rattle.decimal_format.proofs.Codes.{same_digit, digit_not_decimal, digit_not_grouping, decimal_not_grouping, none_not_grouping, none_not_digit}
 
 module _ (s : Symbols) (f : ℕ → Bool) where
   pub digits_text-nil : digits_text s f [] ≡ []

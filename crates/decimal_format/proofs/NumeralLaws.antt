@@ -8,17 +8,16 @@ use Rattle.decimal_unsigned.specs.declared.error.ParseError.{ParseError}
 use Rattle.decimal_unsigned.specs.declared.error.ParseError.TheVariants.{Limit, Syntax, Memory}
 use Rattle.decimal_unsigned.specs.ParseResult.{ParseFails}
 use Rattle.decimal_unsigned.specs.Reading.{ReadError, read}
-use Rattle.decimal_unsigned.specs.Text.{text}
 use Rattle.decimal_unsigned.specs.Unsigned.{Unsigned, IsValue}
 use Rattle.fixed_decimal.specs.Decimal.{Decimal}
 use Rattle.fixed_decimal.specs.declared.variations.Sign.{Sign}
 use Rattle.fixed_decimal.specs.declared.variations.Sign.TheVariants as sign
 use Rattle.fixed_decimal.proofs.Calling.{read_text}
 use Rattle.decimal_format.specs.declared.grouping.GroupingStrategy.{GroupingStrategy}
-use Rattle.decimal_format.specs.Symbols.{Symbols, digit_text, sign_affixes}
+use Rattle.decimal_format.specs.Symbols.{Symbols, sign_affixes}
 use Rattle.decimal_format.specs.Formatted.{formatted}
 use Rattle.decimal_format.specs.Readable.{IsReadable}
-use Rattle.decimal_format.specs.Reading.{Numeral, AreDigits, IsNumeral, IsBeyondLimits, IsWritten, digits_text, fraction_text, absolute_numeral_text, separated_by}
+use Rattle.decimal_format.specs.Reading.{Numeral, IsNumeral, IsBeyondLimits, IsWritten, digits_text, fraction_text, absolute_numeral_text, separated_by}
 use Rattle.decimal_format.specs.Scanning.{BeginsWithDigit, plain_text}
 use Rattle.decimal_format.proofs.Codes.{digit_not_minus, digit_not_plus, plus_not_minus, none_not_decimal}
 use Rattle.decimal_format.proofs.DigitTexts.{nil_ends, fraction_ends, integer-unique}
@@ -126,7 +125,7 @@ module _ (s : Symbols) (bytes : List ℕ) (w : Numeral) (numeral : IsNumeral s b
       }
     where
       at_most : (n : ℕ) → (32768 < n → ⊥) → n ≤ 32768
-      at_most n h = elim (cases_lt 32768 n) [ | inl l ↦ absurd (h l) | inr l ↦ l ]
+      at_most n h = elim (cases_lt 32768 n) [ inl l ↦ absurd (h l) | inr l ↦ l ]
 
   module _ (readable : IsReadable s) where
     -- no other numeral of the text is beyond the limits
@@ -159,7 +158,7 @@ module _ (s : Symbols) (bytes : List ℕ) (w : Numeral) (numeral : IsNumeral s b
       let signs : shown ≡ r.value.sign = e ∙ sym r.has.sign in
       is ∙ (λ i. record { sign = signs i; absolute = same i })
 
--- a text with a value fails to be parsed only for want of the memory that the value needs
+-- a text that has a value is rejected only if out of memory, for a value that needs it
 pub memory_needed : (e : ParseError) (reading : Result Unsigned ReadError) (u : Unsigned) (p : Unsigned → Type 0)
     → ParseFails (IsOkAnd reading p) e reading → reading ≡ Ok u → p u
 memory_needed Limit reading u p h r = absurd (let k = sym h ∙ r in cc)

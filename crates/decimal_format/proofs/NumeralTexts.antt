@@ -8,14 +8,14 @@ use Rattle.std.proofs.Math.Nat.{pow-suc, mod-lt, mod-eq_of_lt, mul-mod_left, mul
 use Rattle.std.proofs.lemmas.Int.{ints}
 use Rattle.std.proofs.lemmas.Nat.{pow-add, div-mul-add, mod-mul-add}
 use Rattle.decimal_digits.specs.Number.{digit, weight, offset}
-use Rattle.decimal_unsigned.specs.Text.{dot_before, text_down, text}
-use Rattle.decimal_unsigned.specs.Unsigned.{Unsigned, IsValue}
+use Rattle.decimal_unsigned.specs.Text.{text_down, text}
+use Rattle.decimal_unsigned.specs.Unsigned.{IsValue}
 use Rattle.fixed_decimal.specs.Decimal.{Decimal}
 use Rattle.fixed_decimal.proofs.Calling.{offset_is, gap_is, ten_pos, powers, text_down-suc, text_down-zero}
 use Rattle.decimal_format.specs.declared.grouping.GroupingStrategy.{GroupingStrategy}
 use Rattle.decimal_format.specs.Symbols.{Symbols, digit_text, sign_affixes}
 use Rattle.decimal_format.specs.Grouping.{separates}
-use Rattle.decimal_format.specs.Formatted.{magnitude_text, formatted_down, shown_count, absolute_text, formatted}
+use Rattle.decimal_format.specs.Formatted.{formatted_down, shown_count, absolute_text, formatted}
 use Rattle.decimal_format.specs.Reading.{Numeral, AreDigits, digits_text, fraction_text, numeral_text, separated_by}
 use Rattle.decimal_format.specs.Scanning.{separator_if, ascii_digits_of, plain_fraction, plain_text}
 use Rattle.decimal_format.proofs.DigitTexts.{digits_text-nil, digits_text-cons, digits_text-first}

@@ -1,21 +1,21 @@
 -- The steps of a scan.
-use Rattle.std.proofs.Common.{◌≡◌, ◌≢◌, ℕ, zero, suc, ◌+◌, ◌-◌, ◌%◌, ◌<◌, ◌≤◌, ◌==◌, nat_le, nat_lt, Bool, true, false, ◌&&◌, ◌||◌, List, [], ◌∷◌, ◌++◌, length, refl, sym, ◌∙◌, ap, subst, arith, rules, append_assoc, append-nil, length-append, inl, inr}
-use Rattle.std.specs.Prelude.{pos, Option, Some, None, IfNone}
+use Rattle.std.proofs.Common.{◌≡◌, ◌≢◌, ℕ, suc, ◌+◌, ◌-◌, ◌%◌, ◌<◌, ◌≤◌, ◌==◌, nat_le, nat_lt, Bool, true, false, ◌&&◌, ◌||◌, List, [], ◌∷◌, ◌++◌, length, refl, sym, ◌∙◌, ap, subst, arith, rules, append_assoc, append-nil, length-append, inl, inr}
+use Rattle.std.specs.Prelude.{pos, Option, Some, None, IfNone, Result, Ok, Err, IfOk}
 use Rattle.std.specs.Int.Digits.{AllBelowBase}
 use Rattle.std.proofs.lemmas.Bool.{cases_eq}
 use Rattle.std.proofs.lemmas.Bool.Decides.{nat_tests}
 use Rattle.std.proofs.lemmas.Int.{ints}
-use Rattle.std.proofs.lemmas.List.{append_cancel_left, append_cancel_right}
+use Rattle.std.proofs.lemmas.List.{append_cancel_left}
 use Rattle.fixed_decimal.specs.declared.variations.Sign.{Sign}
 use Rattle.fixed_decimal.specs.declared.variations.Sign.TheVariants as sign
 use Rattle.decimal_format.specs.declared.grouping.GroupingStrategy.{GroupingStrategy}
-use Rattle.decimal_format.specs.declared.grouping.GroupingStrategy.TheVariants.{Auto, Never, Always, Min2}
+use Rattle.decimal_format.specs.declared.grouping.GroupingStrategy.TheVariants.{Never, Always}
 use Rattle.decimal_format.specs.declared.reader.plain_text.PlainText.{PlainText}
 use Rattle.decimal_format.specs.Symbols.{Symbols, digit_text, sign_affixes}
-use Rattle.decimal_format.specs.Grouping.{reaches, is_grouped, secondary_size, separates}
+use Rattle.decimal_format.specs.Grouping.{reaches, is_grouped, secondary_size}
 use Rattle.decimal_format.specs.Readable.{IsReadable}
 use Rattle.decimal_format.specs.Reading.{Numeral, AreDigits, IsNumeral, digits_text, fraction_text, absolute_numeral_text, separated_by}
-use Rattle.decimal_format.specs.Scanning.{separator_if, separated_if, ends_group, EndsInteger, IsShape, BeginsWithDigit, ReadsDigits, ReadsFraction, IsPlain, AppendsPlain, ascii_digits_of}
+use Rattle.decimal_format.specs.Scanning.{separator_if, separated_if, EndsInteger, IsShape, BeginsWithDigit, ReadsDigits, ReadsFraction, IsPlain, AppendsPlain, ascii_digits_of}
 use Rattle.decimal_format.proofs.Codes.{same_digit, digit_not_minus, digit_not_plus, plus_not_minus, none_not_digit}
 use Rattle.decimal_format.proofs.DigitTexts.{digits_text-nil, digits_text-first, digits_text-cong, digits_not_grouping, fraction_ends}
 
@@ -409,3 +409,8 @@ counted_numeral s readable bytes number w n grouped numeral e counted =
     let shape = counted (separated_by s numeral.strategy (length w.whole)) w.whole (fraction_text s w.fraction)
     numeral.digits.whole (fraction_ends s readable w.fraction) e in
     (shape.count, number_shape s readable w numeral.strategy number n grouped e shape)
+
+-- ---- Results.
+pub if_ok_weaker : {V E : Type 0} (result : Result V E) (P Q : V → Type 0) → ((v : V) → P v → Q v) → IfOk result P → IfOk result Q
+if_ok_weaker (Ok v) P Q f p = f v p
+if_ok_weaker (Err e) P Q f p = tt

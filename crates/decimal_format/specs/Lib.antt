@@ -9,3 +9,4 @@ pub mod ErrorText
 -- Private: used only in the contracts of private functions.
 pub mod Parts
 pub mod Scanning
+pub mod Lenient

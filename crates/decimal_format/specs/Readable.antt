@@ -24,5 +24,5 @@ abbrev pub IsApart : Symbols → ℕ → Type 0
 IsApart s j = (k : ℕ) → k < 14 → IsOther s j k
 
 -- no code begins with another one; so none is empty
-abbrev pub IsReadable : Symbols → Type 0
-IsReadable s = (j : ℕ) → j < 14 → IsApart s j
+pub record IsReadable (s : Symbols) : Type 0 where
+  pub apart : (j : ℕ) → j < 14 → IsApart s j

@@ -2,7 +2,6 @@
 -- What the steps of a scan find.
 use Rattle.std.specs.Prelude.{◌≡◌, ◌≢◌, ℕ, ◌+◌, ◌-◌, ◌%◌, ◌==◌, ◌<◌, ◌≤◌, nat_le, nat_lt, Bool, true, false, ◌&&◌, List, [], ◌∷◌, ◌++◌, if◌then◌else◌, length, map}
 use Rattle.std.specs.Int.Digits.{AllBelowBase}
-use Rattle.fixed_decimal.specs.declared.variations.Sign.{Sign}
 use Rattle.decimal_format.specs.declared.grouping.GroupingSizes.{GroupingSizes}
 use Rattle.decimal_format.specs.declared.reader.Scanned.{Scanned}
 use Rattle.decimal_format.specs.declared.reader.plain_text.PlainText.{PlainText}

@@ -8,6 +8,7 @@ ghost use Rattle.decimal_format.specs.Reading.{Numeral, digits_text, fraction_te
 ghost use Rattle.decimal_format.specs.Scanning.{ends_group, separator_if, separated_if, EndsInteger, IsShape, ReadsDigits, ReadsFraction, IsScanned};
 
 mod codes;
+mod lenient;
 mod plain_text;
 
 use crate::grouping::GroupingSizes;

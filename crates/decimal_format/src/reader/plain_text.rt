@@ -37,6 +37,15 @@ impl PlainText {
         }
     }
 
+    /// Appends bytes.
+    pub fn push_all(&mut self, bytes: &[u8])
+        ensures { AppendsPlain self.old self.new bytes.now }
+    {
+        for byte in bytes {
+            self.push(*byte);
+        }
+    }
+
     /// Returns the bytes, or None if an allocation has failed.
     pub fn bytes(&self) -> Option<&[u8]>
         ensures { (bytes : List ℕ) → IsPlain self.now bytes

@@ -1,4 +1,4 @@
-use Rattle.std.proofs.Common.{◌<◌, length, refl, arith}
+use Rattle.std.proofs.Common.{refl, arith}
 use Rattle.decimal_format.proofs.Scans.{shorter, counted_none, counted_more, counted_all}
 use Rattle.decimal_format.proofs.symbols.DecimalSymbols.count_digits.Goals as goal
 

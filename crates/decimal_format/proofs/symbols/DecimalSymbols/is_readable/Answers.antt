@@ -9,7 +9,7 @@ returns-then-not-is_apart c = (
   λ t. absurd (let n : true ≡ false = sym t in cc),
   λ readable.
       let t : IsTrue c.is_apart.result =
-      c.is_apart.ensures.1 (readable c.loop-part.part (omega (arith, c.loop-part-test.true))) in
+      c.is_apart.ensures.1 (readable.apart c.loop-part.part (omega (arith, c.loop-part-test.true))) in
       absurd (cc (t, c.if-not-is_apart.true)),
 )
 
@@ -19,4 +19,7 @@ loop-part-preserved c =
     below_more (IsApart c.args.self.now) c.loop-part.part c.loop-part.invariant (c.is_apart.ensures.0 t)
 
 pub returns : goal.returns
-returns c = (λ t k h. c.loop-part.invariant k (omega (arith, h, c.loop-part-test.false)), λ apart. refl)
+returns c = (
+  λ t. record { apart = λ k h. c.loop-part.invariant k (omega (arith, h, c.loop-part-test.false)) },
+  λ readable. refl,
+)

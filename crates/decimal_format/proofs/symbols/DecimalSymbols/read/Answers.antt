@@ -1,7 +1,6 @@
 use Rattle.std.proofs.Common.{◌≡◌, ◌<◌, true, false, inl, inr, length, refl, subst, sym, ◌∙◌, ap}
 use Rattle.decimal_digits.specs.Number.{size}
 use Rattle.decimal_unsigned.specs.Reading.{read}
-use Rattle.decimal_unsigned.specs.Text.{text}
 use Rattle.decimal_format.specs.Reading.{IsWritten, IsBeyondLimits}
 use Rattle.decimal_format.specs.Scanning.{plain_text}
 use Rattle.decimal_format.proofs.NumeralTexts.{text-digits}
@@ -43,8 +42,7 @@ returns-in_default-bytes-clause-limit g c =
     let found = c.in-Some.ensures.found in
     let few = λ (beyond : IsBeyondLimits found.0).
     let t : c.is_beyond_limits.result ≡ true = (c.is_beyond_limits.ensures found.0 found.2).1 beyond in
-    let n : true ≡ false = sym t ∙ c.if-is_beyond_limits.false in let no : ⊥ = cc in no in
-    (
+    let n : true ≡ false = sym t ∙ c.if-is_beyond_limits.false in let no : ⊥ = cc in no in (
       λ h. absurd (cc),
       λ x. absurd (not_beyond c.args.self.now c.args.text.now found.0 found.1 c.requires few x.0 x.1 x.2),
     )
@@ -69,8 +67,7 @@ returns-clause-limit g c =
     let found = c.in-Some.ensures.found in
     let few = λ (beyond : IsBeyondLimits found.0).
     let t : c.is_beyond_limits.result ≡ true = (c.is_beyond_limits.ensures found.0 found.2).1 beyond in
-    let n : true ≡ false = sym t ∙ c.if-is_beyond_limits.false in let no : ⊥ = cc in no in
-    (
+    let n : true ≡ false = sym t ∙ c.if-is_beyond_limits.false in let no : ⊥ = cc in no in (
       λ h. absurd (cc),
       λ x. absurd (not_beyond c.args.self.now c.args.text.now found.0 found.1 c.requires few x.0 x.1 x.2),
     )
@@ -83,8 +80,7 @@ returns-clause-memory g c = λ h.
     let n : true ≡ false = sym t ∙ c.if-is_beyond_limits.false in let no : ⊥ = cc in no in
     let r = value_is c.args.self.now c.args.text.now found.0 found.1 few in
     let plain : c.in-Some-bytes.plain.now ≡ plain_text found.0 =
-    c.in-Some-bytes.ensures (plain_text found.0) found.2.plain in
-    (
+    c.in-Some-bytes.ensures (plain_text found.0) found.2.plain in (
       r.value,
       r.written,
       inl (memory_needed c.in-Err.field-0 (read c.in-Some-bytes.plain.now) r.value.absolute
@@ -127,8 +123,7 @@ returns-in-Ok-clause-limit g c =
     let found = c.in-Some.ensures.found in
     let few = λ (beyond : IsBeyondLimits found.0).
     let t : c.is_beyond_limits.result ≡ true = (c.is_beyond_limits.ensures found.0 found.2).1 beyond in
-    let n : true ≡ false = sym t ∙ c.if-is_beyond_limits.false in let no : ⊥ = cc in no in
-    (
+    let n : true ≡ false = sym t ∙ c.if-is_beyond_limits.false in let no : ⊥ = cc in no in (
       λ h. absurd (cc),
       λ x. absurd (not_beyond c.args.self.now c.args.text.now found.0 found.1 c.requires few x.0 x.1 x.2),
     )

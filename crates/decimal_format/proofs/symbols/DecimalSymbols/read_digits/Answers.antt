@@ -1,4 +1,4 @@
-use Rattle.std.proofs.Common.{◌≡◌, ◌+◌, ◌-◌, ◌<◌, ◌++◌, ◌∷◌, [], sym, ◌∙◌, ap, subst, arith}
+use Rattle.std.proofs.Common.{◌≡◌, ◌+◌, ◌-◌, ◌<◌, ◌++◌, sym, ◌∙◌, ap, subst, arith}
 use Rattle.decimal_format.specs.Symbols.{digit_text}
 use Rattle.decimal_format.specs.Reading.{digits_text}
 use Rattle.decimal_format.specs.Scanning.{separator_if, separated_if}

@@ -1,7 +1,7 @@
-use Rattle.std.proofs.Common.{◌≡◌, ℕ, ◌<◌, List, [], ◌++◌, length, refl, sym, ◌∙◌, ap, arith}
+use Rattle.std.proofs.Common.{◌<◌, [], ◌++◌, length, refl, sym, ◌∙◌, ap, arith}
 use Rattle.decimal_format.specs.Symbols.{sign_affixes}
-use Rattle.decimal_format.specs.Reading.{Numeral, IsNumeral, digits_text, fraction_text, absolute_numeral_text, separated_by}
-use Rattle.decimal_format.specs.Scanning.{separated_if, ascii_digits_of, BeginsWithDigit}
+use Rattle.decimal_format.specs.Reading.{Numeral, fraction_text, absolute_numeral_text, separated_by}
+use Rattle.decimal_format.specs.Scanning.{separated_if, ascii_digits_of}
 use Rattle.decimal_format.proofs.DigitTexts.{digits_text-cong}
 use Rattle.decimal_format.proofs.Scans.{on_none, number_begins, counted_numeral, strategy_if, strategy_separates}
 use Rattle.decimal_format.proofs.symbols.DecimalSymbols.scan.Goals as goal
@@ -54,8 +54,7 @@ returns-clause-found c =
     let affixes = sign_affixes s c.in_ok-sign.sign in
     let groups = digits_text-cong s (separated_if s grouped) (separated_by s (strategy_if grouped) (length whole.digits))
     whole.digits (λ m inside. strategy_separates s grouped (length whole.digits) m inside) in
-    let some : 0 < length whole.digits = omega (arith, whole.count, c.if-integer_digits-eq0.false) in
-    (
+    let some : 0 < length whole.digits = omega (arith, whole.count, c.if-integer_digits-eq0.false) in (
       w,
       record {
         digits = record { some = some; whole = whole.are_digits; fraction = fraction.are_digits };

@@ -1,0 +1,67 @@
+-- Numbers as people type them.
+use Rattle.std.specs.Prelude.{ℕ, ◌-◌, ◌<◌, ◌==◌, ◌⊎◌, Bool, ◌&&◌, ◌||◌, if◌then◌else◌, List, [], length, encode_utf8}
+use Rattle.std.specs.Char.{is_ascii_digit}
+use Rattle.std.specs.List.{flat_map, list_any}
+use Rattle.std.specs.Str.{chars}
+use Rattle.fixed_decimal.specs.Decimal.{Decimal}
+use Rattle.decimal_format.specs.Symbols.{Symbols, digit_text}
+use Rattle.decimal_format.specs.Reading.{Numeral, IsNumeral, IsWritten, NeedsMemory}
+
+-- ---- Classes of characters, as in CLDR's lenient parsing.
+
+-- direction marks: U+200E, U+200F, U+061C
+abbrev pub is_mark : ℕ → Bool
+is_mark c = c == 0x200E || (c == 0x200F || c == 0x061C)
+
+-- minus signs and hyphens: U+002D, U+2212, U+2010, U+2011, U+2012, U+FE63, U+FF0D
+abbrev pub is_minus : ℕ → Bool
+is_minus c =
+    c == 0x002D || (c == 0x2212 || (c == 0x2010 || (c == 0x2011 || (c == 0x2012 || (c == 0xFE63 || c == 0xFF0D)))))
+
+-- plus signs: U+002B, U+FF0B
+abbrev pub is_plus : ℕ → Bool
+is_plus c = c == 0x002B || c == 0xFF0B
+
+-- spaces: U+0020, U+00A0, U+202F, U+2009
+abbrev pub is_space : ℕ → Bool
+is_space c = c == 0x0020 || (c == 0x00A0 || (c == 0x202F || c == 0x2009))
+
+-- apostrophes: U+0027, U+2019
+abbrev pub is_apostrophe : ℕ → Bool
+is_apostrophe c = c == 0x0027 || c == 0x2019
+
+-- a space where the locale groups by spaces, or an apostrophe where it groups by apostrophes
+abbrev pub is_separator : Symbols → ℕ → Bool
+is_separator s c =
+    (is_space c && list_any is_space (chars s.grouping)) || (is_apostrophe c && list_any is_apostrophe (chars s.grouping))
+
+-- ---- Normal forms.
+
+-- the bytes that a character stands for
+abbrev pub replacement : Symbols → ℕ → List ℕ
+replacement s c =
+    if is_mark c then []
+    else if is_minus c then s.minus.prefix
+    else if is_plus c then s.plus.prefix
+    else if is_separator s c then s.grouping
+    else if is_ascii_digit c then digit_text s (c - 48)
+    else encode_utf8 c
+
+-- the text in the symbols of the locale
+abbrev pub normalized : Symbols → List ℕ → List ℕ
+normalized s text = flat_map (replacement s) (chars text)
+
+-- ---- What is read.
+
+-- the text is that of the decimal; or it is that of no number, and its normal form is that of the decimal
+abbrev pub IsTyped : Symbols → Decimal → List ℕ → Type 0
+IsTyped s v text = IsWritten s v text ⊎ (((w : Numeral) → ¬ IsNumeral s text w) × IsWritten s v (normalized s text))
+
+-- the same for a numeral of any number of digits
+abbrev pub IsTypedNumeral : Symbols → List ℕ → Numeral → Type 0
+IsTypedNumeral s text w = IsNumeral s text w ⊎ (((u : Numeral) → ¬ IsNumeral s text u) × IsNumeral s (normalized s text) w)
+
+-- the normal form has more than 64 bytes, or the value needs memory
+abbrev pub TypedNeedsMemory : ℕ → Symbols → List ℕ → Type 0
+TypedNeedsMemory inline s text =
+    (64 < length (normalized s text)) ⊎ ((v : Decimal) × IsTyped s v text × NeedsMemory inline v.absolute)
