@@ -56,7 +56,11 @@ impl Block {
             return Err(SinkFault);
         }
         let end = self.len + bytes.len();
-        self.bytes[self.len..end].copy_from_slice(bytes);
+        match bytes {
+            [] => {}
+            [byte] => self.bytes[self.len] = *byte,
+            _ => self.bytes[self.len..end].copy_from_slice(bytes),
+        }
         self.len = end;
         Ok(())
     }

@@ -1,5 +1,5 @@
 //! The groups of the integer digits.
-ghost use Rattle.std.specs.Prelude.{◌≡◌, ℕ, ◌+◌, ◌-◌, ◌^◌, ◌<◌, ◌≤◌, ◌≤ℤ◌, pos, false};
+ghost use Rattle.std.specs.Prelude.{◌≡◌, ℕ, ◌+◌, ◌-◌, ◌%◌, ◌^◌, ◌<◌, ◌≤◌, ◌≤ℤ◌, pos, false};
 ghost use Rattle.std.specs.Int.{int_gap};
 ghost use Rattle.decimal_format.specs.Grouping.{reaches, is_grouped, secondary_size, separates};
 ghost use Rattle.decimal_format.specs.Parts.{separators_below};
@@ -31,6 +31,19 @@ pub struct GroupingSizes {
     pub secondary: u8,
     /// The least number of digits before the first separator; 0 for 1.
     pub min_grouping: u8,
+}
+
+/// Returns the remainder of a division. A dividend below the divisor, as is usual, needs no division.
+#[inline]
+fn remainder(dividend: u32, divisor: u32) -> u32
+    requires { 0 < divisor }
+    ensures { result ≡ dividend % divisor }
+{
+    if dividend < divisor {
+        dividend
+    } else {
+        dividend % divisor
+    }
 }
 
 impl GroupingSizes {
@@ -77,13 +90,14 @@ impl GroupingSizes {
         if magnitude < 0 {
             return false;
         }
-        let place = magnitude as u16;
-        let primary = self.primary as u16;
+        let place = magnitude as u32;
+        let primary = self.primary as u32;
         if primary == 0 {
             return false;
         }
-        let secondary = self.secondary_size() as u16;
-        self.is_grouped(strategy, hi) && (primary <= place && (place - primary) % secondary == 0)
+        let secondary = self.secondary_size() as u32;
+        self.is_grouped(strategy, hi)
+            && (primary <= place && remainder(place - primary, secondary) == 0)
     }
 
     /// Returns the number of digits from an integer magnitude down to the next separator, or to magnitude 0.
@@ -106,7 +120,7 @@ impl GroupingSizes {
         if primary == 0 || magnitude < primary || !self.is_grouped(strategy, hi) {
             return magnitude + 1;
         }
-        (magnitude - primary) % self.secondary_size() as u32 + 1
+        remainder(magnitude - primary, self.secondary_size() as u32) + 1
     }
 
     /// Returns the number of separators of a value with the highest magnitude `hi`, which is at least 0.
