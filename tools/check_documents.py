@@ -157,6 +157,12 @@ def check_alone():
             check(not found, f"{path}: this cites what is not in the repository: {found}")
 
 
+def check_tables():
+    """The tables of locales are what their script writes."""
+    made = subprocess.run([sys.executable, "tools/locales/make_tables.py", "--check"], capture_output=True, text=True)
+    check(made.returncode == 0, made.stderr.strip())
+
+
 def check_examples():
     """Each `$ ..` of README and PROGRAMS writes what follows it, if its program is built. `cat FILE` shows an input."""
     folders = {name: os.path.abspath(f"crates/{name}/out") for name in ["fixdec", "fixdec_lines", "plural"]}
@@ -175,7 +181,9 @@ def check_examples():
                         check(written == wanted, f"{document}: `{command}` writes {written!r}")
 
 
-for part in [check_names, check_links, check_quotes, check_proved, check_public, check_code, check_alone, check_examples]:
+PARTS = [check_names, check_links, check_quotes, check_proved, check_public, check_code, check_alone, check_tables,
+         check_examples]
+for part in PARTS:
     part()
 print("\n".join([*failures, f"{passes} passed, {len(failures)} failed"]))
 sys.exit(1 if failures else 0)

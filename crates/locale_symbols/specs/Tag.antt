@@ -5,7 +5,7 @@ use Rattle.std.specs.Option.{option_map, option_and_then}
 use Rattle.std.specs.List.{starts_with, before_first}
 use Rattle.std.specs.Char.{to_ascii_lowercase}
 
--- a text behind a reference
+-- a reference to a text
 abbrev pub Text : Type 0
 Text = Bor (List ℕ)
 

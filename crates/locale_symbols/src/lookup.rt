@@ -113,10 +113,10 @@ fn symbols_in(
 
 /// Returns the symbols of a locale.
 ///
-/// `tag` is a tag of BCP 47, as `de-CH` or `hi-u-nu-deva`, or the name of a locale in a shell, as `de_CH.UTF-8`. Letters
-/// may be of either case, and `_`, `.` and `@` are hyphens. The locale is the listed one with the longest tag that is
-/// `tag` or has a hyphen after it there, so `de-DE` has the symbols of `de`. The numbering system is the one that `nu`
-/// names, or the default one of the locale.
+/// `tag` is a tag of BCP 47, as `de-CH` or `hi-u-nu-deva`, or the name of a locale in a shell, as `de_CH.UTF-8`.
+/// Letters may be of either case, and `_`, `.` and `@` are hyphens. The locale is the listed one with the longest tag
+/// that is `tag` or has a hyphen after it there, so `de-DE` has the symbols of `de`. The numbering system is the one
+/// that `nu` names, or the default one of the locale.
 ///
 /// Returns `None` if no tag of the locale is listed, or the numbering system is not.
 ///
