@@ -28,7 +28,8 @@ module _ (s : Symbols) (readable : IsReadable s) where
   pub digit_code : (d : ℕ) → d < 10 → code s d ≡ digit_text s d
   digit_code d h = let t : nat_lt d 10 ≡ true = search (rules, arith) in rw t refl
 
-  pub same_digit : (d e : ℕ) (r t : List ℕ) → d < 10 → e < 10 → digit_text s d ++ r ≡ digit_text s e ++ t → (d ≡ e) × (r ≡ t)
+  pub same_digit : (d e : ℕ) (r t : List ℕ) → d < 10 → e < 10 → digit_text s d ++ r ≡ digit_text s e ++ t → (d
+      ≡ e) × (r ≡ t)
   same_digit d e r t p q h =
       let same : d ≡ e =
       apart d e (omega arith) (omega arith) r t

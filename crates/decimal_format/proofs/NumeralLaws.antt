@@ -29,23 +29,29 @@ module _ (s : Symbols) (readable : IsReadable s) where
   sign-unique : (x y : Sign) (a b : List ℕ) → BeginsWithDigit s a → BeginsWithDigit s b
       → (sign_affixes s x).prefix ++ a ≡ (sign_affixes s y).prefix ++ b → (x ≡ y) × (a ≡ b)
   sign-unique sign.None sign.None a b p q e = (refl, e)
-  sign-unique sign.None sign.Negative a b p q e = absurd (digit_not_minus s readable p.digit p.following b p.is_digit (sym p.is ∙ e))
-  sign-unique sign.None sign.Positive a b p q e = absurd (digit_not_plus s readable p.digit p.following b p.is_digit (sym p.is ∙ e))
-  sign-unique sign.Negative sign.None a b p q e = absurd (digit_not_minus s readable q.digit q.following a q.is_digit (sym q.is ∙ sym e))
+  sign-unique sign.None sign.Negative a b p q e = absurd (digit_not_minus s readable p.digit p.following b
+      p.is_digit (sym p.is ∙ e))
+  sign-unique sign.None sign.Positive a b p q e = absurd (digit_not_plus s readable p.digit p.following b p.is_digit
+      (sym p.is ∙ e))
+  sign-unique sign.Negative sign.None a b p q e = absurd (digit_not_minus s readable q.digit q.following a
+      q.is_digit (sym q.is ∙ sym e))
   sign-unique sign.Negative sign.Negative a b p q e = (refl, append_cancel_left s.minus.prefix a b e)
   sign-unique sign.Negative sign.Positive a b p q e = absurd (plus_not_minus s readable b a (sym e))
-  sign-unique sign.Positive sign.None a b p q e = absurd (digit_not_plus s readable q.digit q.following a q.is_digit (sym q.is ∙ sym e))
+  sign-unique sign.Positive sign.None a b p q e = absurd (digit_not_plus s readable q.digit q.following a q.is_digit
+      (sym q.is ∙ sym e))
   sign-unique sign.Positive sign.Negative a b p q e = absurd (plus_not_minus s readable a b e)
   sign-unique sign.Positive sign.Positive a b p q e = (refl, append_cancel_left s.plus.prefix a b e)
 
-  fraction-unique : (ds es : List ℕ) → AllBelowBase 10 ds → AllBelowBase 10 es → fraction_text s ds ≡ fraction_text s es → ds ≡ es
+  fraction-unique : (ds es : List ℕ) → AllBelowBase 10 ds → AllBelowBase 10 es → fraction_text s ds
+      ≡ fraction_text s es → ds ≡ es
   fraction-unique [] [] p q e = refl
   fraction-unique [] (y ∷ es) p q e = absurd (none_not_decimal s readable (digits_text s (λ _. false) (y ∷ es)) e)
   fraction-unique (x ∷ ds) [] p q e = absurd (none_not_decimal s readable (digits_text s (λ _. false) (x ∷ ds)) (sym e))
   fraction-unique (x ∷ ds) (y ∷ es) p q e =
       let a = digits_text s (λ _. false) (x ∷ ds) in
       let b = digits_text s (λ _. false) (y ∷ es) in
-      (integer-unique s readable (λ _. false) (λ _. false) (x ∷ ds) (y ∷ es) [] [] p q (nil_ends s readable) (nil_ends s readable)
+      (integer-unique s readable (λ _. false) (λ _. false) (x ∷ ds) (y ∷ es) [] [] p q (nil_ends s readable)
+      (nil_ends s readable)
       (append-nil a ∙ append_cancel_left s.decimal a b e ∙ sym (append-nil b))).0
 
   -- a text is that of one numeral
@@ -61,8 +67,10 @@ module _ (s : Symbols) (readable : IsReadable s) where
       (begins-append s b y (number_begins s g u q.digits)) (sym p.text ∙ q.text) in
       let numbers : a ≡ b =
       append_cancel_right a b x (signs.1 ∙ ap (λ z. b ++ (sign_affixes s z).suffix) (sym signs.0)) in
-      let wholes = integer-unique s readable f g w.whole u.whole (fraction_text s w.fraction) (fraction_text s u.fraction)
-      p.digits.whole q.digits.whole (fraction_ends s readable w.fraction) (fraction_ends s readable u.fraction) numbers in
+      let wholes = integer-unique s readable f g w.whole u.whole (fraction_text s w.fraction) (fraction_text s
+      u.fraction)
+      p.digits.whole q.digits.whole (fraction_ends s readable w.fraction) (fraction_ends s readable u.fraction)
+      numbers in
       let fractions = fraction-unique w.fraction u.fraction p.digits.fraction q.digits.fraction wholes.1 in
       λ i. record { sign = signs.0 i; whole = wholes.0 i; fraction = fractions i }
 
@@ -74,7 +82,8 @@ pub record IsTextOf (s : Symbols) (bytes : List ℕ) (v : Decimal) : Type 0 wher
   pub few_whole : length numeral.whole ≤ 32768
   pub few_fraction : length numeral.fraction ≤ 32768
 
-pub written_digits : (s : Symbols) (bytes : List ℕ) (v : Decimal) → IsValue v.absolute → IsWritten s v bytes → IsTextOf s bytes v
+pub written_digits : (s : Symbols) (bytes : List ℕ) (v : Decimal) → IsValue v.absolute → IsWritten s v bytes
+    → IsTextOf s bytes v
 written_digits s bytes v valid written =
     let d = digits_of_value v valid in
     record {
@@ -86,10 +95,12 @@ written_digits s bytes v valid written =
     }
 
 -- two values with the same digits are equal
-pub same_value : (v u : Decimal) (w : Numeral) → IsValue v.absolute → IsValue u.absolute → HasDigits v w → HasDigits u w → v ≡ u
+pub same_value : (v u : Decimal) (w : Numeral) → IsValue v.absolute → IsValue u.absolute → HasDigits v w
+    → HasDigits u w → v ≡ u
 same_value v u w p q a b =
     let absolute : v.absolute ≡ u.absolute =
-    (let r = sym (read_text v.absolute p) ∙ ap read (text-digits v w a ∙ sym (text-digits u w b)) ∙ read_text u.absolute q in cc) in
+    (let r = sym (read_text v.absolute p) ∙ ap read (text-digits v w a ∙ sym (text-digits u w b))
+    ∙ read_text u.absolute q in cc) in
     let signs : v.sign ≡ u.sign = a.sign ∙ sym b.sign in
     λ i. record { sign = signs i; absolute = absolute i }
 
@@ -130,7 +141,8 @@ module _ (s : Symbols) (bytes : List ℕ) (w : Numeral) (numeral : IsNumeral s b
   module _ (readable : IsReadable s) where
     -- no other numeral of the text is beyond the limits
     pub not_beyond : ¬ IsBeyondLimits w → (u : Numeral) → IsNumeral s bytes u → IsBeyondLimits u → ⊥
-    not_beyond few u other beyond = few (subst IsBeyondLimits (sym (numeral-unique s readable bytes w u numeral other)) beyond)
+    not_beyond few u other beyond = few (subst IsBeyondLimits (sym (numeral-unique s readable bytes w u numeral
+        other)) beyond)
 
     -- a value with this text is not beyond the limits
     pub written_within : (v : Decimal) → IsValue v.absolute → IsWritten s v bytes → IsBeyondLimits w → ⊥

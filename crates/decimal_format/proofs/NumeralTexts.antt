@@ -177,7 +177,8 @@ module _ (v : Decimal) (w : Numeral) (has : HasDigits v w) where
       let number = v.absolute.number in
       (λ i. text_down number (has.hi i) (count_is i))
       ∙ plain_whole_is number top (length w.fraction)
-      ∙ (λ i. ascii_digits_of (whole_digits i) ++ (plain_fraction_is number (length w.fraction) ∙ ap plain_fraction has.fraction) i)
+      ∙ (λ i. ascii_digits_of (whole_digits i) ++ (plain_fraction_is number (length w.fraction)
+      ∙ ap plain_fraction has.fraction) i)
 
 -- the digits of a value
 pub digits_of_value : (v : Decimal) → IsValue v.absolute → (w : Numeral)
@@ -202,7 +203,17 @@ digits_of_value v valid =
         sign = refl;
         some = omega (arith, wholes);
         hi = omega (arith, ints, gap_is (pos 0) u.hi, valid.hi_in, same);
-        count = omega (arith, ints, gap_is (pos 0) u.hi, gap_is u.lo (pos 0), gap_is u.lo u.hi, valid.hi_in, valid.lo_in, wholes, fractions);
+        count = omega (
+          arith,
+          ints,
+          gap_is (pos 0) u.hi,
+          gap_is u.lo (pos 0),
+          gap_is u.lo u.hi,
+          valid.hi_in,
+          valid.lo_in,
+          wholes,
+          fractions,
+        );
         whole = λ i. digit_list u.number (pos (same i)) (wholes i);
         fraction = ap (digit_list u.number (negsuc zero)) fractions;
       },
@@ -221,7 +232,8 @@ worth-lt [] all = omega arith
 worth-lt (d ∷ ds) all =
     let rest = worth-lt ds all.1 in
     let p : 10 * 10 ^ length ds ≡ 10 ^ suc (length ds) = omega (arith, pow-suc 10 (length ds)) in
-    let nine : d * 10 ^ length ds ≤ 9 * 10 ^ length ds = (let h : d ≤ 9 = omega (arith, all.0) in mul-le-mul_right (10 ^ length ds) h) in
+    let nine : d * 10 ^ length ds ≤ 9 * 10 ^ length ds = (let h : d ≤ 9 = omega (arith, all.0) in
+    mul-le-mul_right (10 ^ length ds) h) in
     omega (arith, rest, p, nine)
 
 -- the digits of a number are those that write it
@@ -244,8 +256,10 @@ digit_list-worth (d ∷ ds) number low m all at e =
     let both : a * 10 ^ k + b ≡ d * 10 ^ k + worth ds = sym split ∙ ap (λ x. number / 10 ^ low % x) p ∙ e in
     let b_lt = mod-lt (number / 10 ^ low) (ten_pos k) in
     let c_lt = worth-lt ds all.1 in
-    let first : a ≡ d = sym (div-mul-add a (10 ^ k) b b_lt) ∙ ap (λ x. x / 10 ^ k) both ∙ div-mul-add d (10 ^ k) (worth ds) c_lt in
-    let rest : b ≡ worth ds = sym (mod-mul-add a (10 ^ k) b b_lt) ∙ ap (λ x. x % 10 ^ k) both ∙ mod-mul-add d (10 ^ k) (worth ds) c_lt in
+    let first : a ≡ d = sym (div-mul-add a (10 ^ k) b b_lt) ∙ ap (λ x. x / 10 ^ k) both
+    ∙ div-mul-add d (10 ^ k) (worth ds) c_lt in
+    let rest : b ≡ worth ds = sym (mod-mul-add a (10 ^ k) b b_lt) ∙ ap (λ x. x % 10 ^ k) both
+    ∙ mod-mul-add d (10 ^ k) (worth ds) c_lt in
     (λ i. (ap (λ x. x % 10) shifted ∙ first) i ∷ digit_list-worth ds number low (m -ℤ pos 1) all.1
     (λ some. omega (arith, ints, here, some, offset_is m, offset_is (m -ℤ pos 1))) rest i)
 

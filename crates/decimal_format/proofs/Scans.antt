@@ -39,7 +39,8 @@ module _ (s : Symbols) (readable : IsReadable s) where
       → bytes ≡ (sign_affixes s shown).prefix ++ rest → bytes ≡ s.minus.prefix ++ found
       → (sign.Negative ≡ shown) × (found ≡ rest)
   minus_is sign.None bytes rest found begins e h =
-      absurd (digit_not_minus s readable begins.digit begins.following found begins.is_digit (sym begins.is ∙ sym e ∙ h))
+      absurd (digit_not_minus s readable begins.digit begins.following found begins.is_digit (sym begins.is
+          ∙ sym e ∙ h))
   minus_is sign.Negative bytes rest found begins e h = (refl, append_cancel_left s.minus.prefix found rest (sym h ∙ e))
   minus_is sign.Positive bytes rest found begins e h = absurd (plus_not_minus s readable rest found (sym e ∙ h))
 
@@ -50,7 +51,8 @@ module _ (s : Symbols) (readable : IsReadable s) where
   plus_is sign.None bytes rest found begins e other h =
       absurd (digit_not_plus s readable begins.digit begins.following found begins.is_digit (sym begins.is ∙ sym e ∙ h))
   plus_is sign.Negative bytes rest found begins e other h = absurd (other rest e)
-  plus_is sign.Positive bytes rest found begins e other h = (refl, append_cancel_left s.plus.prefix found rest (sym h ∙ e))
+  plus_is sign.Positive bytes rest found begins e other h = (refl, append_cancel_left s.plus.prefix found rest (sym
+      h ∙ e))
 
   -- a digit has bytes
   pub shorter : (bytes after : List ℕ) (d : ℕ) → d < 10 → bytes ≡ digit_text s d ++ after → length after < length bytes
@@ -65,7 +67,8 @@ module _ (s : Symbols) (readable : IsReadable s) where
 
 -- ---- Counting.
 -- of digits that a text may begin with, these are left, and separators were found as the test has them
-pub record IsCountedOf (s : Symbols) (separated : ℕ → Bool) (ds tail rest : List ℕ) (n : ℕ) (grouped : Bool) : Type 0 where
+pub record IsCountedOf (s : Symbols) (separated : ℕ → Bool) (ds tail rest : List ℕ) (n : ℕ) (grouped : Bool) : Type
+    0 where
   pub left : List ℕ
   pub are_digits : AllBelowBase 10 left
   pub counted : n + length left ≡ length ds
@@ -104,7 +107,8 @@ module _ (s : Symbols) (readable : IsReadable s) where
       → (found ≡ false → next ≡ after)
       → now ≡ (grouped || found)
       → IsCounted s bytes rest n grouped → IsCounted s bytes next (n + 1) now
-  counted_more bytes rest after next n d grouped found now below e some none skipped is so_far separated ds tail all ends whole =
+  counted_more bytes rest after next n d grouped found now below e some none skipped is so_far separated ds tail all
+      ends whole =
       let before = so_far separated ds tail all ends whole in
       go before.left before.are_digits before.counted before.is before.some before.none
     where
@@ -142,27 +146,31 @@ module _ (s : Symbols) (readable : IsReadable s) where
             ];
           }
 
-      go : (left : List ℕ) → AllBelowBase 10 left → n + length left ≡ length ds → rest ≡ digits_text s separated left ++ tail
+      go : (left : List ℕ) → AllBelowBase 10 left → n + length left ≡ length ds → rest
+          ≡ digits_text s separated left ++ tail
           → (grouped ≡ true → (m : ℕ) × (separated m ≡ true))
           → (grouped ≡ false → (m : ℕ) → length left ≤ m → m < length ds → separated m ≡ false)
           → IsCountedOf s separated ds tail next (n + 1) now
       go [] digits counted h any other =
           absurd (ends.digit d after below (ap (λ l. l ++ tail) (sym (digits_text-nil s separated)) ∙ sym h ∙ e))
       go (x ∷ left) digits counted h any other =
-          let first = same_digit s readable d x after (separator_if s (separated (length left)) ++ (digits_text s separated left ++ tail))
+          let first = same_digit s readable d x after (separator_if s (separated (length left))
+              ++ (digits_text s separated left ++ tail))
           below digits.0 (sym e ∙ h ∙ digits_text-first s separated x left tail) in
           step x left digits.1 counted first.1 any other (separated (length left)) refl found refl
 
   -- where no digit follows, all were counted
   pub counted_all : (bytes rest : List ℕ) (n : ℕ) (grouped : Bool)
       → ((d : ℕ) (r : List ℕ) → d < 10 → rest ≢ digit_text s d ++ r)
-      → IsCounted s bytes rest n grouped → (separated : ℕ → Bool) (ds tail : List ℕ) → AllBelowBase 10 ds → EndsInteger s tail
+      → IsCounted s bytes rest n grouped → (separated : ℕ → Bool) (ds tail : List ℕ) → AllBelowBase 10 ds
+          → EndsInteger s tail
       → bytes ≡ digits_text s separated ds ++ tail → IsShape separated ds n grouped
   counted_all bytes rest n grouped no_digit so_far separated ds tail all ends e =
       let last = so_far separated ds tail all ends e in
       go last.left last.are_digits last.counted last.is last.some last.none
     where
-      go : (left : List ℕ) → AllBelowBase 10 left → n + length left ≡ length ds → rest ≡ digits_text s separated left ++ tail
+      go : (left : List ℕ) → AllBelowBase 10 left → n + length left ≡ length ds → rest
+          ≡ digits_text s separated left ++ tail
           → (grouped ≡ true → (m : ℕ) × (separated m ≡ true))
           → (grouped ≡ false → (m : ℕ) → length left ≤ m → m < length ds → separated m ≡ false)
           → IsShape separated ds n grouped
@@ -172,7 +180,8 @@ module _ (s : Symbols) (readable : IsReadable s) where
         none = λ t m high. other t m (omega arith) high;
       }
       go (x ∷ left) digits counted h any other =
-          absurd (no_digit x (separator_if s (separated (length left)) ++ (digits_text s separated left ++ tail)) digits.0
+          absurd (no_digit x (separator_if s (separated (length left)) ++ (digits_text s separated left
+              ++ tail)) digits.0
           (h ∙ digits_text-first s separated x left tail))
 
 -- ---- Reading digits.
@@ -181,7 +190,8 @@ ascii-append [] es = refl
 ascii-append (d ∷ ds) es = ap (λ l. (48 + d) ∷ l) (ascii-append ds es)
 
 -- these digits were read, and `left` more complete a text
-pub record IsReadTo (s : Symbols) (separated : ℕ → Bool) (n : ℕ) (bytes rest : List ℕ) (left : ℕ) (old new : PlainText) : Type 0 where
+pub record IsReadTo (s : Symbols) (separated : ℕ → Bool) (n : ℕ) (bytes rest : List ℕ) (left : ℕ) (old new :
+    PlainText) : Type 0 where
   pub digits : List ℕ
   pub count : length digits + left ≡ n
   pub are_digits : AllBelowBase 10 digits
@@ -224,7 +234,8 @@ module _ (s : Symbols) (f : ℕ → Bool) (n : ℕ) (bytes : List ℕ) where
     are_digits = below_append so_far.digits so_far.are_digits;
     completes = λ es tail same k.
         let here : rest ≡ digits_text s f (d ∷ es) ++ tail =
-        e ∙ ap (λ l. digit_text s d ++ l) (h ∙ (λ i. separator_if s (f (sym same i)) ++ k i)) ∙ sym (digits_text-first s f d es tail) in
+        e ∙ ap (λ l. digit_text s d ++ l) (h ∙ (λ i. separator_if s (f (sym same i)) ++ k i))
+            ∙ sym (digits_text-first s f d es tail) in
         so_far.completes (d ∷ es) tail (omega (arith, same, one)) here
         ∙ ap (λ l. digits_text s f l ++ tail) (sym (append_assoc so_far.digits (d ∷ []) es));
     plain = λ before k. subst (IsPlain new) (append_assoc before (ascii_digits_of so_far.digits) ((48 + d) ∷ [])
@@ -237,7 +248,8 @@ module _ (s : Symbols) (f : ℕ → Bool) (n : ℕ) (bytes : List ℕ) where
       below_append (x ∷ ds) all = (all.0, below_append ds all.1)
 
   -- where no more is left to read
-  pub read_all : (rest : List ℕ) (old new : PlainText) → IsReadTo s f n bytes rest 0 old new → ReadsDigits s f n bytes rest old new
+  pub read_all : (rest : List ℕ) (old new : PlainText) → IsReadTo s f n bytes rest 0 old new
+      → ReadsDigits s f n bytes rest old new
   read_all rest old new so_far = record {
     digits = so_far.digits;
     count = omega (arith, so_far.count);
@@ -261,7 +273,9 @@ module _ (s : Symbols) (f : ℕ → Bool) (n : ℕ) (bytes : List ℕ) where
         → (ds tail : List ℕ) → length ds ≡ n → AllBelowBase 10 ds → bytes ≡ digits_text s f ds ++ tail
         → (x : ℕ) × (x < 10) × (es : List ℕ) × (length es ≡ less) × AllBelowBase 10 es
         × (rest ≡ digit_text s x ++ (separator_if s (f less) ++ (digits_text s f es ++ tail)))
-    next_left rest left less one so_far ds tail h all e = let l = so_far ds tail h all e in go l.digits l.count l.are_digits l.is
+    next_left rest left less one so_far ds tail h all e =
+        let l = so_far ds tail h all e in
+        go l.digits l.count l.are_digits l.is
       where
         go : (es : List ℕ) → length es ≡ left → AllBelowBase 10 es → rest ≡ digits_text s f es ++ tail
             → (x : ℕ) × (x < 10) × (es : List ℕ) × (length es ≡ less) × AllBelowBase 10 es
@@ -304,7 +318,8 @@ shape_separates s g whole n true shape m inside =
     let all : is_grouped g s.sizes (pos (length whole - 1)) ≡ true =
     grouped_if (nat_lt 0 s.sizes.primary) (is_grouped g s.sizes (pos (length whole - 1)))
     (nat_le s.sizes.primary any.0 && ((any.0 - s.sizes.primary) % secondary_size s.sizes == 0)) any.1 in
-    ap (λ b. nat_lt 0 s.sizes.primary && (b && (nat_le s.sizes.primary m && ((m - s.sizes.primary) % secondary_size s.sizes == 0)))) all
+    ap (λ b. nat_lt 0 s.sizes.primary && (b && (nat_le s.sizes.primary m && ((m - s.sizes.primary) % secondary_size
+        s.sizes == 0)))) all
   where
     grouped_if : (a b c : Bool) → (a && (b && c)) ≡ true → b ≡ true
     grouped_if true true c h = refl
@@ -338,7 +353,8 @@ strategy_separates s true n m inside =
 
 -- ---- Whole numbers.
 -- a number begins with a digit
-pub number_begins : (s : Symbols) (f : ℕ → Bool) (w : Numeral) → AreDigits w → BeginsWithDigit s (absolute_numeral_text s f w)
+pub number_begins : (s : Symbols) (f : ℕ → Bool) (w : Numeral) → AreDigits w
+    → BeginsWithDigit s (absolute_numeral_text s f w)
 number_begins s f w digits = go w.whole digits.some digits.whole
   where
     go : (whole : List ℕ) → 0 < length whole → AllBelowBase 10 whole
@@ -352,7 +368,8 @@ number_begins s f w digits = go w.whole digits.some digits.whole
     }
 
 -- the digits of a number, as the shape of its text says
-pub number_shape : (s : Symbols) → IsReadable s → (w : Numeral) (g : GroupingStrategy) (number : List ℕ) (n : ℕ) (grouped : Bool)
+pub number_shape : (s : Symbols) → IsReadable s → (w : Numeral) (g : GroupingStrategy) (number : List ℕ) (n : ℕ)
+    (grouped : Bool)
     → number ≡ absolute_numeral_text s (separated_by s g (length w.whole)) w
     → IsShape (separated_by s g (length w.whole)) w.whole n grouped
     → number ≡ digits_text s (separated_if s grouped) w.whole ++ fraction_text s w.fraction
@@ -411,6 +428,7 @@ counted_numeral s readable bytes number w n grouped numeral e counted =
     (shape.count, number_shape s readable w numeral.strategy number n grouped e shape)
 
 -- ---- Results.
-pub if_ok_weaker : {V E : Type 0} (result : Result V E) (P Q : V → Type 0) → ((v : V) → P v → Q v) → IfOk result P → IfOk result Q
+pub if_ok_weaker : {V E : Type 0} (result : Result V E) (P Q : V → Type 0) → ((v : V) → P v → Q v) → IfOk result P
+    → IfOk result Q
 if_ok_weaker (Ok v) P Q f p = f v p
 if_ok_weaker (Err e) P Q f p = tt

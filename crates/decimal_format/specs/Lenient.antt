@@ -33,7 +33,8 @@ is_apostrophe c = c == 0x0027 || c == 0x2019
 -- a space where the locale groups by spaces, or an apostrophe where it groups by apostrophes
 abbrev pub is_separator : Symbols → ℕ → Bool
 is_separator s c =
-    (is_space c && list_any is_space (chars s.grouping)) || (is_apostrophe c && list_any is_apostrophe (chars s.grouping))
+    (is_space c && list_any is_space (chars s.grouping)) || (is_apostrophe c && list_any is_apostrophe (chars
+    s.grouping))
 
 -- ---- Normal forms.
 
@@ -59,7 +60,8 @@ IsTyped s v text = IsWritten s v text ⊎ (((w : Numeral) → ¬ IsNumeral s tex
 
 -- the same for a numeral of any number of digits
 abbrev pub IsTypedNumeral : Symbols → List ℕ → Numeral → Type 0
-IsTypedNumeral s text w = IsNumeral s text w ⊎ (((u : Numeral) → ¬ IsNumeral s text u) × IsNumeral s (normalized s text) w)
+IsTypedNumeral s text w = IsNumeral s text w ⊎ (((u : Numeral)
+    → ¬ IsNumeral s text u) × IsNumeral s (normalized s text) w)
 
 -- the normal form has more than 64 bytes, or the value needs memory
 abbrev pub TypedNeedsMemory : ℕ → Symbols → List ℕ → Type 0

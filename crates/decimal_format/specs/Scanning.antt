@@ -38,7 +38,8 @@ AppendsPlain old new bytes = (before : List ℕ) → IsPlain old before → IsPl
 
 -- a group ends after the digit at a magnitude
 abbrev pub ends_group : GroupingSizes → ℕ → Bool
-ends_group sizes m = nat_lt 0 sizes.primary && (nat_le sizes.primary m && ((m - sizes.primary) % secondary_size sizes == 0))
+ends_group sizes m = nat_lt 0 sizes.primary && (nat_le sizes.primary m && ((m - sizes.primary) % secondary_size
+    sizes == 0))
 
 -- the grouping separator, or nothing
 abbrev pub separator_if : Symbols → Bool → List ℕ
@@ -69,7 +70,8 @@ pub record BeginsWithDigit (s : Symbols) (bytes : List ℕ) : Type 0 where
   pub is : bytes ≡ digit_text s digit ++ following
 
 -- n digits were read, the rest follows them, and their plain text was appended
-pub record ReadsDigits (s : Symbols) (separated : ℕ → Bool) (n : ℕ) (bytes rest : List ℕ) (old new : PlainText) : Type 0 where
+pub record ReadsDigits (s : Symbols) (separated : ℕ → Bool) (n : ℕ) (bytes rest : List ℕ) (old new : PlainText) :
+    Type 0 where
   pub digits : List ℕ
   pub count : length digits ≡ n
   pub are_digits : AllBelowBase 10 digits

@@ -8,7 +8,10 @@ pub returns-then-not-is_other : goal.returns-then-not-is_other
 returns-then-not-is_other c = (
   λ t. absurd (let n : true ≡ false = sym t in cc),
   λ apart.
-      let t : IsTrue c.is_other.result = c.is_other.ensures.1 (apart c.loop-all.all (omega (arith, c.loop-all-test.true))) in
+      let t : IsTrue c.is_other.result = c.is_other.ensures.1 (apart c.loop-all.all (omega (
+        arith,
+        c.loop-all-test.true,
+      ))) in
       absurd (cc (t, c.if-not-is_other.true)),
 )
 

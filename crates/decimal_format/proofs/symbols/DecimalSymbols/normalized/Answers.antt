@@ -19,7 +19,8 @@ loop-c-preserved c =
 pub returns : goal.returns
 returns c =
     let f = replacement c.args.self.now in
-    let all = YieldsList-end (YieldsList-from_chars c.args.text.now c.utf8.text cc) c.loop-c.yielded _ c.loop-c.yielded_by
+    let all = YieldsList-end (YieldsList-from_chars c.args.text.now c.utf8.text cc) c.loop-c.yielded _
+    c.loop-c.yielded_by
     _ _ c.in-None.is c.next.ensures.steps in
     subst (IsPlain c.loop-c.plain) (sym (flat_map-map f (λ (x : ℕ). x) c.loop-c.yielded) ∙ ap (flat_map f) all.0)
     c.loop-c.invariant

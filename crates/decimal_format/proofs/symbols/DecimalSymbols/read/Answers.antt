@@ -10,7 +10,8 @@ use Rattle.decimal_format.proofs.symbols.DecimalSymbols.read.Goals as goal
 -- ---- The text is no numeral.
 pub returns-in_default-clause-reads_back : goal.returns-in_default-clause-reads_back
 returns-in_default-clause-reads_back g c = λ v valid written.
-    let t = written_digits c.args.self.now c.args.text.now v valid written in absurd (c.in_default.ensures.none t.numeral t.is)
+    let t = written_digits c.args.self.now c.args.text.now v valid written in
+    absurd (c.in_default.ensures.none t.numeral t.is)
 
 pub returns-in_default-clause-limit : goal.returns-in_default-clause-limit
 returns-in_default-clause-limit g c = (λ h. absurd (cc), λ x. absurd (c.in_default.ensures.none x.0 x.1))

@@ -27,7 +27,8 @@ loop-left-preserved c =
     let one : left - 1 + 1 ≡ left = omega (arith, c.loop-left-test.true) in
     let below : digit < 10 = omega (arith, c.in_ok-digit.ensures.0, c.in_ok-digit.digit-is) in
     let begins : rest ≡ digit_text s digit ++ after =
-    c.in_ok-digit.ensures.1 ∙ (λ i. digit_text s (sym c.in_ok-digit.digit-is i) ++ (sym c.in_ok-digit.after-is i).now) in
+    c.in_ok-digit.ensures.1 ∙ (λ i. digit_text s (sym c.in_ok-digit.digit-is i)
+    ++ (sym c.in_ok-digit.after-is i).now) in
     let following : after ≡ separator_if s (f (left - 1)) ++ next =
     c.in_ok-rest.ensures ∙ ap (λ b. separator_if s b ++ next) c.is_separated.ensures in
     record {
@@ -57,11 +58,13 @@ returns-in_err-rest-clause-none c = on_none c.from_residual-in_err-rest.result _
     let one : left - 1 + 1 ≡ left = omega (arith, c.loop-left-test.true) in
     let below : digit < 10 = omega (arith, c.in_ok-digit.ensures.0, c.in_ok-digit.digit-is) in
     let begins : c.loop-left.rest.now ≡ digit_text s digit ++ after =
-    c.in_ok-digit.ensures.1 ∙ (λ i. digit_text s (sym c.in_ok-digit.digit-is i) ++ (sym c.in_ok-digit.after-is i).now) in
+    c.in_ok-digit.ensures.1 ∙ (λ i. digit_text s (sym c.in_ok-digit.digit-is i)
+    ++ (sym c.in_ok-digit.after-is i).now) in
     let l = next_left s f c.args.count c.args.text.now c.requires c.loop-left.rest.now left (left - 1) one
     c.loop-left.invariant.leaves ds tail h all e in
     let others = digits_text s f l.2 ++ tail in
-    let first = same_digit s c.requires digit l.0 after (separator_if s (f (left - 1)) ++ others) below l.1 (sym begins ∙ l.5) in
+    let first = same_digit s c.requires digit l.0 after (separator_if s (f (left - 1))
+    ++ others) below l.1 (sym begins ∙ l.5) in
     c.in_err-rest.ensures others (first.1 ∙ ap (λ b. separator_if s b ++ others) (sym c.is_separated.ensures)))
 
 pub returns-clause-found : goal.returns-clause-found
@@ -70,7 +73,8 @@ returns-clause-found c =
     let f = separated_if s c.args.grouped in
     let none : c.loop-left.left ≡ 0 = omega (arith, c.loop-left-test.false) in
     read_all s f c.args.count c.args.text.now c.loop-left.rest.now c.args.plain.now c.loop-left.plain
-    (subst (λ k. IsReadTo s f c.args.count c.args.text.now c.loop-left.rest.now k c.args.plain.now c.loop-left.plain) none
+    (subst (λ k. IsReadTo s f c.args.count c.args.text.now c.loop-left.rest.now k c.args.plain.now
+    c.loop-left.plain) none
     c.loop-left.invariant.read)
 
 pub returns-clause-unique : goal.returns-clause-unique

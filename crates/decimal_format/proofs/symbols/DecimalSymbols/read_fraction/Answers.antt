@@ -30,7 +30,8 @@ returns-then-is_empty-2-clause-found c =
     let code : c.as_bytes.result.now ≡ s.decimal = c.as_bytes.ensures.value ∙ c.decimal_separator.ensures.value in
     fraction_found s c.args.text.now digits c.in_ok-rest.rest.now c.count_digits-count.result.0 c.args.plain.now
     c.push.new.self c.read_digits.new.plain (c.in_ok-digits.ensures ∙ ap (λ l. l ++ digits) code)
-    (empty_is c.in_ok-rest.rest.now c.if-is_empty-2.ensures) c.if-count-eq0.false c.push.ensures c.in_ok-rest.ensures.found
+    (empty_is c.in_ok-rest.rest.now c.if-is_empty-2.ensures) c.if-count-eq0.false c.push.ensures
+    c.in_ok-rest.ensures.found
 
 pub returns-else-is_empty-2-clause-none : goal.returns-else-is_empty-2-clause-none
 returns-else-is_empty-2-clause-none c = λ ds all e.

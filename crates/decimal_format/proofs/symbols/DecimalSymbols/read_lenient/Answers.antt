@@ -17,7 +17,8 @@ returns-in-Ok-clause-reads g c = λ v valid typed.
     elim typed [
       | inl written ↦ c.in-Ok.ensures.reads_back v valid (subst (λ (l : List ℕ). IsWritten s v l) (sym e) written)
       | inr other ↦
-          let k = c.in-Ok.ensures.syntax.1 (λ w n. other.0 w (subst (λ (l : List ℕ). IsNumeral s l w) e n)) in absurd (cc)
+          let k = c.in-Ok.ensures.syntax.1 (λ w n. other.0 w (subst (λ (l : List ℕ). IsNumeral s l w) e n)) in
+          absurd (cc)
     ]
 
 -- ---- It is that of no number.
@@ -26,8 +27,10 @@ returns-in-Err-Syntax-clause-found g c =
     let s = c.args.self.now in
     let e = c.as_bytes.ensures.value in
     let syntax = rw c.in-Err-Syntax.field-0-is at c.in-Err-Syntax.ensures.syntax in
-    let none = λ (w : Numeral) (n : IsNumeral s c.args.text.now w). syntax.0 refl w (subst (λ (l : List ℕ). IsNumeral s l w) (sym e) n) in
-    if_ok_weaker c.read_normalized.result (λ v. IsWritten s v (normalized s c.args.text.now)) (λ v. IsTyped s v c.args.text.now)
+    let none = λ (w : Numeral) (n : IsNumeral s c.args.text.now w). syntax.0 refl w (subst (λ (l : List ℕ).
+    IsNumeral s l w) (sym e) n) in
+    if_ok_weaker c.read_normalized.result (λ v. IsWritten s v (normalized s c.args.text.now)) (λ v. IsTyped s v
+    c.args.text.now)
     (λ v written. inr (none, written)) c.read_normalized.ensures.found
 
 pub returns-in-Err-Syntax-clause-reads : goal.returns-in-Err-Syntax-clause-reads
@@ -36,7 +39,8 @@ returns-in-Err-Syntax-clause-reads g c = λ v valid typed.
     let e = c.as_bytes.ensures.value in
     elim typed [
       | inl written ↦
-          let k = c.in-Err-Syntax.ensures.reads_back v valid (subst (λ (l : List ℕ). IsWritten s v l) (sym e) written) in
+          let k = c.in-Err-Syntax.ensures.reads_back v valid (subst (λ (l : List ℕ). IsWritten s v l) (sym e)
+          written) in
           absurd (cc)
       | inr other ↦ c.read_normalized.ensures.reads_back v valid other.1
     ]
@@ -56,7 +60,8 @@ returns-in-Err-Syntax-clause-limit g c = λ h.
     let s = c.args.self.now in
     let e = c.as_bytes.ensures.value in
     let syntax = rw c.in-Err-Syntax.field-0-is at c.in-Err-Syntax.ensures.syntax in
-    let none = λ (w : Numeral) (n : IsNumeral s c.args.text.now w). syntax.0 refl w (subst (λ (l : List ℕ). IsNumeral s l w) (sym e) n) in
+    let none = λ (w : Numeral) (n : IsNumeral s c.args.text.now w). syntax.0 refl w (subst (λ (l : List ℕ).
+    IsNumeral s l w) (sym e) n) in
     let x = c.read_normalized.ensures.limit h in
     (x.0, inr (none, x.1), x.2)
 
@@ -65,7 +70,8 @@ returns-in-Err-Syntax-clause-memory g c = λ h.
     let s = c.args.self.now in
     let e = c.as_bytes.ensures.value in
     let syntax = rw c.in-Err-Syntax.field-0-is at c.in-Err-Syntax.ensures.syntax in
-    let none = λ (w : Numeral) (n : IsNumeral s c.args.text.now w). syntax.0 refl w (subst (λ (l : List ℕ). IsNumeral s l w) (sym e) n) in
+    let none = λ (w : Numeral) (n : IsNumeral s c.args.text.now w). syntax.0 refl w (subst (λ (l : List ℕ).
+    IsNumeral s l w) (sym e) n) in
     elim (c.read_normalized.ensures.memory h) [
       | inl long ↦ inl long
       | inr x ↦ inr (x.0, inr (none, x.1), x.2)
@@ -81,7 +87,8 @@ returns-in-Err-Limit-clause-reads g c = λ v valid typed.
           let k = c.in-Err-Limit.ensures.reads_back v valid (subst (λ (l : List ℕ). IsWritten s v l) (sym e) written) in
           absurd (cc)
       | inr other ↦
-          let k = c.in-Err-Limit.ensures.syntax.1 (λ w n. other.0 w (subst (λ (l : List ℕ). IsNumeral s l w) e n)) in absurd (cc)
+          let k = c.in-Err-Limit.ensures.syntax.1 (λ w n. other.0 w (subst (λ (l : List ℕ). IsNumeral s l w) e n))
+          in absurd (cc)
     ]
 
 pub returns-in-Err-Limit-clause-limit : goal.returns-in-Err-Limit-clause-limit

@@ -16,8 +16,10 @@ pub returns-then-integer_digits-eq0-clause-none : goal.returns-then-integer_digi
 returns-then-integer_digits-eq0-clause-none c = λ w numeral.
     let s = c.args.self.now in
     let f = separated_by s numeral.strategy (length w.whole) in
-    let split = c.in_ok-sign.ensures.unique w.sign (absolute_numeral_text s f w) (number_begins s f w numeral.digits) numeral.text in
-    let counted = counted_numeral s c.requires c.args.text.now c.in_ok-sign.number.now w c.count_digits-integer_digits.result.0
+    let split = c.in_ok-sign.ensures.unique w.sign (absolute_numeral_text s f w) (number_begins s f w
+    numeral.digits) numeral.text in
+    let counted = counted_numeral s c.requires c.args.text.now c.in_ok-sign.number.now w
+    c.count_digits-integer_digits.result.0
     c.count_digits-integer_digits.result.1 numeral (ap (λ b. b.now) c.in_ok-sign.number-is ∙ split.1)
     c.count_digits-integer_digits.ensures in
     omega (arith, counted.0, numeral.digits.some, c.if-integer_digits-eq0.true)
@@ -26,8 +28,10 @@ pub returns-in_err-rest-clause-none : goal.returns-in_err-rest-clause-none
 returns-in_err-rest-clause-none c = on_none c.from_residual-in_err-rest.result _ (λ w numeral.
     let s = c.args.self.now in
     let f = separated_by s numeral.strategy (length w.whole) in
-    let split = c.in_ok-sign.ensures.unique w.sign (absolute_numeral_text s f w) (number_begins s f w numeral.digits) numeral.text in
-    let counted = counted_numeral s c.requires c.args.text.now c.in_ok-sign.number.now w c.count_digits-integer_digits.result.0
+    let split = c.in_ok-sign.ensures.unique w.sign (absolute_numeral_text s f w) (number_begins s f w
+    numeral.digits) numeral.text in
+    let counted = counted_numeral s c.requires c.args.text.now c.in_ok-sign.number.now w
+    c.count_digits-integer_digits.result.0
     c.count_digits-integer_digits.result.1 numeral (ap (λ b. b.now) c.in_ok-sign.number-is ∙ split.1)
     c.count_digits-integer_digits.ensures in
     c.in_err-rest.ensures.none w.whole (fraction_text s w.fraction) (sym counted.0) numeral.digits.whole counted.1)
@@ -36,8 +40,10 @@ pub returns-in_err-fraction_digits-clause-none : goal.returns-in_err-fraction_di
 returns-in_err-fraction_digits-clause-none c = on_none c.from_residual-in_err-fraction_digits.result _ (λ w numeral.
     let s = c.args.self.now in
     let f = separated_by s numeral.strategy (length w.whole) in
-    let split = c.in_ok-sign.ensures.unique w.sign (absolute_numeral_text s f w) (number_begins s f w numeral.digits) numeral.text in
-    let counted = counted_numeral s c.requires c.args.text.now c.in_ok-sign.number.now w c.count_digits-integer_digits.result.0
+    let split = c.in_ok-sign.ensures.unique w.sign (absolute_numeral_text s f w) (number_begins s f w
+    numeral.digits) numeral.text in
+    let counted = counted_numeral s c.requires c.args.text.now c.in_ok-sign.number.now w
+    c.count_digits-integer_digits.result.0
     c.count_digits-integer_digits.result.1 numeral (ap (λ b. b.now) c.in_ok-sign.number-is ∙ split.1)
     c.count_digits-integer_digits.ensures in
     c.in_err-fraction_digits.ensures.none w.fraction numeral.digits.fraction
@@ -52,7 +58,8 @@ returns-clause-found c =
     let fraction = c.in_ok-fraction_digits.ensures.found in
     let w : Numeral = record { sign = c.in_ok-sign.sign; whole = whole.digits; fraction = fraction.digits } in
     let affixes = sign_affixes s c.in_ok-sign.sign in
-    let groups = digits_text-cong s (separated_if s grouped) (separated_by s (strategy_if grouped) (length whole.digits))
+    let groups = digits_text-cong s (separated_if s grouped) (separated_by s (strategy_if grouped) (length
+    whole.digits))
     whole.digits (λ m inside. strategy_separates s grouped (length whole.digits) m inside) in
     let some : 0 < length whole.digits = omega (arith, whole.count, c.if-integer_digits-eq0.false) in (
       w,

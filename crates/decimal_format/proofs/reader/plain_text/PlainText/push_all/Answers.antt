@@ -12,7 +12,8 @@ loop-byte-preserved c = λ before h.
     let i = c.loop-byte.byte-index in
     let inside : i < length bytes = omega arith in
     let more = take_more bytes i 0 inside in
-    subst (IsPlain c.push.new.self) (append_assoc before (take i bytes) (get_or bytes i 0 ∷ []) ∙ ap (λ l. before ++ l) (sym more))
+    subst (IsPlain c.push.new.self) (append_assoc before (take i bytes) (get_or bytes i 0 ∷ []) ∙ ap (λ l. before
+    ++ l) (sym more))
     (c.push.ensures (before ++ take i bytes) (c.loop-byte.invariant before h))
 
 pub returns : goal.returns
