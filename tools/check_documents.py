@@ -7,10 +7,11 @@ import subprocess
 import sys
 import tempfile
 
-CRATES = ["decimal_digits", "decimal_unsigned", "fixed_decimal", "decimal_format", "plural_rules", "cli"]
-LIBRARIES = CRATES[:4]
+CRATES = ["decimal_digits", "decimal_unsigned", "fixed_decimal", "decimal_format", "locale_symbols", "plural_rules",
+          "cli"]
+LIBRARIES = CRATES[:5]
 # Crates whose proofs cite of the libraries only the lemmas for callers.
-CALLERS = ["uses", "plural_rules", "decimal_format", "cli"]
+CALLERS = ["uses", "plural_rules", "decimal_format", "locale_symbols", "cli"]
 # Words of other programs, of Rust, of commands and of tables that are no names in the code.
 FOREIGN = set(
     """FloatPrecision DoublePrecision WithInfinity try_from_f64 ryu writeable write_to_string LengthHint FromStr ONE
@@ -18,7 +19,7 @@ FOREIGN = set(
     to_u64 puts double FormattedNumber select ghost rejected witness NAME CRATE FUNCTION CLAUSE LOG""".split()
 )
 # Modules and functions that are public for the crates of this repository alone.
-INTERNAL = re.compile(r"/src/(?:rounding/|digits/packed/|decimal/parse/|laws)")
+INTERNAL = re.compile(r"/src/(?:rounding/|digits/packed/|decimal/parse/|reader/|laws|reading_laws|table|tag)")
 HIDDEN = {"from_short_text"}
 NAME = re.compile(r"[A-Za-z_][\w:<>&', ]*(\([\w:<>&', ]*\))?")
 OUTSIDE = re.compile(r"\b(?:document|paper|issue|session|request|promise|definition) \d|\b[DTRW]\d{1,2}\b"
@@ -146,7 +147,7 @@ def check_code():
     specs = [text for path, text in CODE.items() if re.match(rf"crates/(?:{'|'.join(CRATES)})/specs/(?!Lib)", path)]
     counted = f"{sum(text.count(chr(10)) for text in specs):,} lines in {len(specs)} files"
     check(counted in read("README.md"), f"README.md: the definitions are {counted}")
-    check(read("README.md").count("\n") <= 120, "README.md has more than 120 lines")
+    check(read("README.md").count("\n") <= 130, "README.md has more than 130 lines")
 
 
 def check_alone():
