@@ -18,17 +18,16 @@ const LEADING: &[(&[u8], u64)] = &[
     (b"1234567890123456", 0x1234_5678_9012_3456),
     (b"9999999999999999", 0x9999_9999_9999_9999),
     (b"12345678901234567", 0x1234_5678_9012_3456),
-    (b"12345678901234567890123456789012345", 0x1234_5678_9012_3456),
+    (
+        b"12345678901234567890123456789012345",
+        0x1234_5678_9012_3456,
+    ),
     (b"00000000000000000", 0),
     (b"00000000000000009", 0),
 ];
 
 /// Whether the first digits of a text are the nibbles of this number.
-fn has_leading<D: DigitStore>(
-    alloc: Global,
-    text: &[u8],
-    number: u64,
-) -> Result<bool, AllocError> {
+fn has_leading<D: DigitStore>(alloc: Global, text: &[u8], number: u64) -> Result<bool, AllocError> {
     let list: D = list_of(alloc, text)?;
     Ok(list.leading_bcd() == number)
 }
@@ -51,7 +50,10 @@ const BYTES: &[(&[u8], &[u8])] = &[
     (b"", &[]),
     (b"2", &[0x20]),
     (b"250", &[0x25, 0x00]),
-    (b"1234567890123456", &[0x12, 0x34, 0x56, 0x78, 0x90, 0x12, 0x34, 0x56]),
+    (
+        b"1234567890123456",
+        &[0x12, 0x34, 0x56, 0x78, 0x90, 0x12, 0x34, 0x56],
+    ),
     (
         b"12345678901234567",
         &[0x12, 0x34, 0x56, 0x78, 0x90, 0x12, 0x34, 0x56, 0x70],

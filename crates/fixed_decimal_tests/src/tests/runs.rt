@@ -61,14 +61,42 @@ fn fails_with_the_sink(rt: HostRuntime) {
 }
 
 /// A start, calls, the text of the value that they leave, and the number of the call that fails.
-type Applied = (&'static str, &'static [Call<'static>], &'static str, Option<usize>);
+type Applied = (
+    &'static str,
+    &'static [Call<'static>],
+    &'static str,
+    Option<usize>,
+);
 
 /// Calls on a value, some of which fail.
 const APPLIED: &[Applied] = &[
-    ("250", &[Call::MultiplyPow10(-2), Call::TrimEnd], "2.5", None),
-    ("-5", &[Call::MultiplyPow10(-1), Call::Concatenate(b"x"), Call::TrimEnd], "-0.5", Some(1)),
+    (
+        "250",
+        &[Call::MultiplyPow10(-2), Call::TrimEnd],
+        "2.5",
+        None,
+    ),
+    (
+        "-5",
+        &[
+            Call::MultiplyPow10(-1),
+            Call::Concatenate(b"x"),
+            Call::TrimEnd,
+        ],
+        "-0.5",
+        Some(1),
+    ),
     ("7", &[Call::Concatenate(b"2")], "7", Some(0)),
-    ("10", &[Call::PadEnd(-1), Call::TrimStart, Call::MultiplyPow10(32767)], "10.0", Some(2)),
+    (
+        "10",
+        &[
+            Call::PadEnd(-1),
+            Call::TrimStart,
+            Call::MultiplyPow10(32767),
+        ],
+        "10.0",
+        Some(2),
+    ),
 ];
 
 /// Returns the number of the call that failed.
@@ -97,7 +125,8 @@ fn leaves<D: DigitStore>(alloc: Global, (start, calls, text, failed): Applied) -
 #[test]
 fn calls_stop_at_an_error(rt: HostRuntime) {
     for row in APPLIED {
-        let leaves = leaves::<DigitList>(rt.alloc(), *row) && leaves::<PackedDigits>(rt.alloc(), *row);
+        let leaves = leaves::<DigitList>(rt.alloc(), *row)
+            && leaves::<PackedDigits>(rt.alloc(), *row);
         assert!(rt; leaves, "{}", row.0);
     }
 }
