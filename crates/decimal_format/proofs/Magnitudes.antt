@@ -20,7 +20,7 @@ pub formatted_down-zero : (s : Symbols) (strategy : GroupingStrategy) (hi : ℤ)
 unfolding formatted_down
 formatted_down-zero s strategy hi number m = refl
 
--- so many magnitudes, and then others
+-- the given number of magnitudes, and then others
 pub formatted_down-add : (s : Symbols) (strategy : GroupingStrategy) (hi : ℤ) (number : ℕ) (m : ℤ) (i j : ℕ)
     → formatted_down s strategy hi number m (i + j)
     ≡ formatted_down s strategy hi number m i ++ formatted_down s strategy hi number (m -ℤ pos i) j
