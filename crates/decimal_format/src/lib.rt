@@ -8,9 +8,11 @@
 //! ```
 #![tactic(auto)]
 
+mod block;
 mod error;
 mod formatter;
 mod grouping;
+pub mod laws;
 mod symbols;
 
 pub use error::SymbolsError;
