@@ -40,7 +40,7 @@ module _ (s : Symbols) (readable : IsReadable s) where
       → (sign.Negative ≡ shown) × (found ≡ rest)
   minus_is sign.None bytes rest found begins e h =
       absurd (digit_not_minus s readable begins.digit begins.following found begins.is_digit (sym begins.is
-          ∙ sym e ∙ h))
+      ∙ sym e ∙ h))
   minus_is sign.Negative bytes rest found begins e h = (refl, append_cancel_left s.minus.prefix found rest (sym h ∙ e))
   minus_is sign.Positive bytes rest found begins e h = absurd (plus_not_minus s readable rest found (sym e ∙ h))
 
@@ -51,8 +51,11 @@ module _ (s : Symbols) (readable : IsReadable s) where
   plus_is sign.None bytes rest found begins e other h =
       absurd (digit_not_plus s readable begins.digit begins.following found begins.is_digit (sym begins.is ∙ sym e ∙ h))
   plus_is sign.Negative bytes rest found begins e other h = absurd (other rest e)
-  plus_is sign.Positive bytes rest found begins e other h = (refl, append_cancel_left s.plus.prefix found rest (sym
-      h ∙ e))
+  plus_is sign.Positive bytes rest found begins e other h = (
+    refl,
+    append_cancel_left s.plus.prefix found rest (sym
+        h ∙ e),
+  )
 
   -- a digit has bytes
   pub shorter : (bytes after : List ℕ) (d : ℕ) → d < 10 → bytes ≡ digit_text s d ++ after → length after < length bytes
@@ -155,7 +158,7 @@ module _ (s : Symbols) (readable : IsReadable s) where
           absurd (ends.digit d after below (ap (λ l. l ++ tail) (sym (digits_text-nil s separated)) ∙ sym h ∙ e))
       go (x ∷ left) digits counted h any other =
           let first = same_digit s readable d x after (separator_if s (separated (length left))
-              ++ (digits_text s separated left ++ tail))
+          ++ (digits_text s separated left ++ tail))
           below digits.0 (sym e ∙ h ∙ digits_text-first s separated x left tail) in
           step x left digits.1 counted first.1 any other (separated (length left)) refl found refl
 
@@ -163,7 +166,7 @@ module _ (s : Symbols) (readable : IsReadable s) where
   pub counted_all : (bytes rest : List ℕ) (n : ℕ) (grouped : Bool)
       → ((d : ℕ) (r : List ℕ) → d < 10 → rest ≢ digit_text s d ++ r)
       → IsCounted s bytes rest n grouped → (separated : ℕ → Bool) (ds tail : List ℕ) → AllBelowBase 10 ds
-          → EndsInteger s tail
+      → EndsInteger s tail
       → bytes ≡ digits_text s separated ds ++ tail → IsShape separated ds n grouped
   counted_all bytes rest n grouped no_digit so_far separated ds tail all ends e =
       let last = so_far separated ds tail all ends e in
@@ -181,7 +184,7 @@ module _ (s : Symbols) (readable : IsReadable s) where
       }
       go (x ∷ left) digits counted h any other =
           absurd (no_digit x (separator_if s (separated (length left)) ++ (digits_text s separated left
-              ++ tail)) digits.0
+          ++ tail)) digits.0
           (h ∙ digits_text-first s separated x left tail))
 
 -- ---- Reading digits.
@@ -235,7 +238,7 @@ module _ (s : Symbols) (f : ℕ → Bool) (n : ℕ) (bytes : List ℕ) where
     completes = λ es tail same k.
         let here : rest ≡ digits_text s f (d ∷ es) ++ tail =
         e ∙ ap (λ l. digit_text s d ++ l) (h ∙ (λ i. separator_if s (f (sym same i)) ++ k i))
-            ∙ sym (digits_text-first s f d es tail) in
+        ∙ sym (digits_text-first s f d es tail) in
         so_far.completes (d ∷ es) tail (omega (arith, same, one)) here
         ∙ ap (λ l. digits_text s f l ++ tail) (sym (append_assoc so_far.digits (d ∷ []) es));
     plain = λ before k. subst (IsPlain new) (append_assoc before (ascii_digits_of so_far.digits) ((48 + d) ∷ [])
@@ -319,7 +322,7 @@ shape_separates s g whole n true shape m inside =
     grouped_if (nat_lt 0 s.sizes.primary) (is_grouped g s.sizes (pos (length whole - 1)))
     (nat_le s.sizes.primary any.0 && ((any.0 - s.sizes.primary) % secondary_size s.sizes == 0)) any.1 in
     ap (λ b. nat_lt 0 s.sizes.primary && (b && (nat_le s.sizes.primary m && ((m - s.sizes.primary) % secondary_size
-        s.sizes == 0)))) all
+    s.sizes == 0)))) all
   where
     grouped_if : (a b c : Bool) → (a && (b && c)) ≡ true → b ≡ true
     grouped_if true true c h = refl
