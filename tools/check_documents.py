@@ -8,11 +8,11 @@ import sys
 import tempfile
 
 COLUMNS = 120
-README_LINES = 125
-CRATES = ["decimal_digits", "decimal_unsigned", "fixed_decimal", "plural_rules", "cli"]
-LIBRARIES = CRATES[:3]
+README_LINES = 140
+CRATES = ["decimal_digits", "decimal_unsigned", "fixed_decimal", "decimal_format", "plural_rules", "cli"]
+LIBRARIES = CRATES[:4]
 # Crates whose proofs cite of the libraries only the lemmas for callers.
-CALLERS = ["uses", "plural_rules", "cli"]
+CALLERS = ["uses", "plural_rules", "decimal_format", "cli"]
 # Words of other programs, of Rust, of commands and of tables that are no names in the code.
 FOREIGN = set(
     """FloatPrecision DoublePrecision WithInfinity try_from_f64 ryu writeable write_to_string LengthHint FromStr ONE
@@ -149,7 +149,7 @@ def check_code():
         long = [it[:60] for it in lines if len(it) > COLUMNS]
         check(not long, f"{path}: lines of more than {COLUMNS} columns: {long}")
         if path.split("/")[1] in CALLERS:
-            for cited in re.findall(r"^(?:pub )?use Rattle\.(?:decimal_\w+|fixed_decimal)\.proofs\.(\w+)", text, re.M):
+            for cited in re.findall(r"^(?:pub )?use Rattle\.(?:decimal_digits|decimal_unsigned|fixed_decimal)\.proofs\.(\w+)", text, re.M):
                 check(cited == "Calling", f"{path}: cites {cited}, and callers cite Calling alone")
     specs = [text for path, text in CODE.items() if re.match(rf"crates/(?:{'|'.join(CRATES)})/specs/(?!Lib)", path)]
     counted = f"{sum(text.count(chr(10)) for text in specs):,} lines in {len(specs)} files"

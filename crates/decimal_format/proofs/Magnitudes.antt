@@ -1,12 +1,10 @@
 -- The text magnitude by magnitude.
-use Rattle.std.proofs.Common.{◌≡◌, ℕ, zero, suc, ◌+◌, ◌-◌, ◌<◌, List, [], ◌++◌, Option, refl, sym, ◌∙◌, ap, subst, arith, append_assoc, append-nil}
+use Rattle.std.proofs.Common.{◌≡◌, ℕ, zero, suc, ◌+◌, ◌/◌, ◌<◌, List, [], ◌++◌, refl, sym, ◌∙◌, ap, arith, append_assoc, append-nil}
 use Rattle.std.specs.Prelude.{ℤ, pos, ◌-ℤ◌}
 use Rattle.std.proofs.lemmas.Int.{ints}
-use Rattle.std.specs.Io.KnownBytes.{Appends}
-use Rattle.decimal_digits.specs.AppendsPrefix.{AppendsPrefix}
+use Rattle.std.proofs.Math.Nat.{mod-lt}
+use Rattle.decimal_digits.specs.Number.{weight, digit}
 use Rattle.decimal_unsigned.specs.Unsigned.{Unsigned}
-use Rattle.std.proofs.KnownBytes.{Appends-trans}
-use Rattle.fixed_decimal.proofs.Calling.{prefix_more, then_prefix}
 use Rattle.decimal_format.specs.declared.grouping.GroupingStrategy.{GroupingStrategy}
 use Rattle.decimal_format.specs.Symbols.{Symbols}
 use Rattle.decimal_format.specs.Formatted.{magnitude_text, formatted_down, nth_text}
@@ -31,7 +29,8 @@ formatted_down-add s strategy hi number m zero j =
     let k : m ≡ m -ℤ pos zero = omega (arith, ints) in
     ap (formatted_down s strategy hi number m) n
     ∙ ap (λ x. formatted_down s strategy hi number x j) k
-    ∙ ap (λ l. l ++ formatted_down s strategy hi number (m -ℤ pos zero) j) (sym (formatted_down-zero s strategy hi number m))
+    ∙ ap (λ l. l ++ formatted_down s strategy hi number (m -ℤ pos zero) j)
+    (sym (formatted_down-zero s strategy hi number m))
 formatted_down-add s strategy hi number m (suc i) j =
     let n : suc i + j ≡ suc (i + j) = omega arith in
     let k : (m -ℤ pos 1) -ℤ pos i ≡ m -ℤ pos (suc i) = omega (arith, ints) in
@@ -44,6 +43,10 @@ formatted_down-add s strategy hi number m (suc i) j =
     ∙ ap (λ l. l ++ formatted_down s strategy hi number ((m -ℤ pos 1) -ℤ pos i) j)
     (sym (formatted_down-suc s strategy hi number m i))
     ∙ ap (λ x. formatted_down s strategy hi number m (suc i) ++ formatted_down s strategy hi number x j) k
+
+-- a digit is below 10
+pub digit_below : (number : ℕ) (m : ℤ) → digit number m < 10
+digit_below number m = mod-lt (number / weight m) (omega arith)
 
 module _ (s : Symbols) (strategy : GroupingStrategy) (v : Unsigned) where
   -- the bytes of the first magnitudes
@@ -59,21 +62,3 @@ module _ (s : Symbols) (strategy : GroupingStrategy) (v : Unsigned) where
       (formatted_down-suc s strategy v.hi v.number m 0
       ∙ ap (λ l. nth_text s strategy v i ++ l) (formatted_down-zero s strategy v.hi v.number (m -ℤ pos 1))
       ∙ append-nil (nth_text s strategy v i))
-
-  pub wrote_nth : (a b c : Option (List ℕ)) (i : ℕ) → Appends a b (first_magnitudes i)
-      → Appends b c (nth_text s strategy v i) → Appends a c (first_magnitudes (i + 1))
-  wrote_nth a b c i p q =
-      subst (Appends a c) (sym (one_more i)) (Appends-trans a b c (first_magnitudes i) (nth_text s strategy v i) p q)
-
-  -- the sink refused a byte of a magnitude
-  pub wrote_part : (a b c : Option (List ℕ)) (i n : ℕ) → i < n → Appends a b (first_magnitudes i)
-      → AppendsPrefix b c (nth_text s strategy v i) → AppendsPrefix a c (first_magnitudes n)
-  wrote_part a b c i n h p q =
-      let rest = formatted_down s strategy v.hi v.number (v.hi -ℤ pos (i + 1)) (n - (i + 1)) in
-      let all : first_magnitudes (i + 1) ++ rest ≡ first_magnitudes n =
-      sym (formatted_down-add s strategy v.hi v.number v.hi (i + 1) (n - (i + 1)))
-      ∙ ap first_magnitudes (let e : i + 1 + (n - (i + 1)) ≡ n = omega arith in e) in
-      subst (AppendsPrefix a c) all
-      (prefix_more a c (first_magnitudes (i + 1)) rest
-      (subst (AppendsPrefix a c) (sym (one_more i))
-      (then_prefix a b c (first_magnitudes i) (nth_text s strategy v i) p q)))

@@ -1,19 +1,35 @@
--- A text of three pieces, of which the sink refused a byte.
+-- A text of three pieces, each of which is written by one call.
 use Rattle.std.proofs.Common.{◌≡◌, ℕ, List, ◌++◌, Option, subst}
 use Rattle.std.specs.Io.KnownBytes.{Appends}
+use Rattle.std.proofs.KnownBytes.{Appends-trans}
 use Rattle.decimal_digits.specs.AppendsPrefix.{AppendsPrefix}
-use Rattle.fixed_decimal.proofs.Calling.{prefix_more, then_prefix}
+use Rattle.fixed_decimal.proofs.Calling.{first_of_three, second_of_three, third_of_three}
 
-module _ (xs ys zs x y z : List ℕ) (first : x ≡ xs) (second : y ≡ ys) (third : z ≡ zs) where
-  pub of_first : (a b : Option (List ℕ)) → AppendsPrefix a b x → AppendsPrefix a b (xs ++ (ys ++ zs))
-  of_first a b p = prefix_more a b xs (ys ++ zs) (subst (AppendsPrefix a b) first p)
+module _ (xs ys zs all : List ℕ) (is : xs ++ (ys ++ zs) ≡ all) where
+  -- the first call failed
+  pub in_first : (a b : Option (List ℕ)) (x : List ℕ) → x ≡ xs → AppendsPrefix a b x → AppendsPrefix a b all
+  in_first a b x first p =
+      subst (AppendsPrefix a b) is (first_of_three xs ys zs a b (subst (AppendsPrefix a b) first p))
 
-  pub of_second : (a b c : Option (List ℕ)) → Appends a b x → AppendsPrefix b c y → AppendsPrefix a c (xs ++ (ys ++ zs))
-  of_second a b c p q =
-      then_prefix a b c xs (ys ++ zs) (subst (Appends a b) first p) (prefix_more b c ys zs (subst (AppendsPrefix b c) second q))
+  -- the second call failed
+  pub in_second : (a b c : Option (List ℕ)) (x y : List ℕ) → x ≡ xs → y ≡ ys → Appends a b x → AppendsPrefix b c y
+      → AppendsPrefix a c all
+  in_second a b c x y first second p q =
+      subst (AppendsPrefix a c) is
+      (second_of_three xs ys zs a b c (subst (Appends a b) first p) (subst (AppendsPrefix b c) second q))
 
-  pub of_third : (a b c d : Option (List ℕ)) → Appends a b x → Appends b c y → AppendsPrefix c d z
-      → AppendsPrefix a d (xs ++ (ys ++ zs))
-  of_third a b c d p q r =
-      then_prefix a b d xs (ys ++ zs) (subst (Appends a b) first p)
-      (then_prefix b c d ys zs (subst (Appends b c) second q) (subst (AppendsPrefix c d) third r))
+  -- the third call failed
+  pub in_third : (a b c d : Option (List ℕ)) (x y z : List ℕ) → x ≡ xs → y ≡ ys → z ≡ zs → Appends a b x
+      → Appends b c y → AppendsPrefix c d z → AppendsPrefix a d all
+  in_third a b c d x y z first second third p q r =
+      subst (AppendsPrefix a d) is
+      (third_of_three xs ys zs a b c d (subst (Appends a b) first p) (subst (Appends b c) second q)
+      (subst (AppendsPrefix c d) third r))
+
+  -- no call failed
+  pub in_all : (a b c d : Option (List ℕ)) (x y z : List ℕ) → x ≡ xs → y ≡ ys → z ≡ zs → Appends a b x
+      → Appends b c y → Appends c d z → Appends a d all
+  in_all a b c d x y z first second third p q r =
+      subst (Appends a d) is
+      (Appends-trans a b d xs (ys ++ zs) (subst (Appends a b) first p)
+      (Appends-trans b c d ys zs (subst (Appends b c) second q) (subst (Appends c d) third r)))

@@ -2,6 +2,8 @@ pub mod Symbols
 pub mod Grouping
 pub mod Formatted
 pub mod Ascii
+pub mod Parts
+pub mod ErrorText
 pub mod Readable
 pub mod Reading
 pub mod Scanning

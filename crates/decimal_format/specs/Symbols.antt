@@ -33,6 +33,10 @@ symbols digits decimal grouping minus plus sizes = record {
   sizes = sizes;
 }
 
+-- the same symbols with an empty grouping separator
+abbrev pub without_grouping : Symbols → Symbols
+without_grouping s = record s { grouping = [] }
+
 -- the bytes of a digit
 abbrev pub digit_text : Symbols → ℕ → List ℕ
 digit_text s d = encode_utf8 (slice_index s.digits d)

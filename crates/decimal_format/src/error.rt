@@ -1,4 +1,9 @@
-//! The error of symbols.
+//! The error of symbols, and its messages.
+ghost use Rattle.std.specs.Prelude.{◌≡◌};
+ghost use Rattle.decimal_format.specs.ErrorText.{symbols_error_text};
+
+use std::error::Error;
+use std::fmt;
 
 /// Why symbols are rejected.
 #[derive(Clone, Copy, Debug, PartialEq, Eq)]
@@ -18,3 +23,42 @@ pub enum SymbolsError {
     /// The suffix of the plus sign has more than 255 bytes.
     PlusSuffixTooLong,
 }
+
+impl SymbolsError {
+    /// Returns the message.
+    fn message(&self) -> &'static str
+        ensures { result.now ≡ symbols_error_text self.now }
+    {
+        match self {
+            SymbolsError::DigitWidths => "The digits differ in length",
+            SymbolsError::DecimalTooLong => "The decimal separator has more than 255 bytes",
+            SymbolsError::GroupingTooLong => "The grouping separator has more than 255 bytes",
+            SymbolsError::MinusPrefixTooLong => {
+                "The prefix of the minus sign has more than 255 bytes"
+            }
+            SymbolsError::MinusSuffixTooLong => {
+                "The suffix of the minus sign has more than 255 bytes"
+            }
+            SymbolsError::PlusPrefixTooLong =>
+                "The prefix of the plus sign has more than 255 bytes",
+            SymbolsError::PlusSuffixTooLong =>
+                "The suffix of the plus sign has more than 255 bytes",
+        }
+    }
+}
+
+impl fmt::Display for SymbolsError {
+    ghost use Rattle.std.specs.Prelude.{Some};
+    ghost use Rattle.decimal_format.specs.ErrorText.{symbols_error_text};
+
+    ghost output = { λ e. Some (symbols_error_text e) };
+
+    ghost styled_output = { λ e _. Some (symbols_error_text e) };
+
+    /// Writes the message: `The digits differ in length` for `DigitWidths`. Format options are ignored.
+    fn fmt<W: fmt::Write>(&self, f: &mut fmt::Formatter<W>) -> fmt::Result {
+        f.write_str(self.message())
+    }
+}
+
+impl Error for SymbolsError {}

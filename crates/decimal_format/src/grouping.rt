@@ -1,6 +1,8 @@
 //! The groups of the integer digits.
-ghost use Rattle.std.specs.Prelude.{◌≡◌};
+ghost use Rattle.std.specs.Prelude.{◌≡◌, ℕ, ◌+◌, ◌-◌, ◌%◌, ◌^◌, ◌<◌, ◌≤◌, ◌≤ℤ◌, pos, false};
+ghost use Rattle.std.specs.Int.{int_gap};
 ghost use Rattle.decimal_format.specs.Grouping.{reaches, is_grouped, secondary_size, separates};
+ghost use Rattle.decimal_format.specs.Parts.{separators_below};
 
 /// When the integer digits are grouped.
 ///
@@ -31,8 +33,22 @@ pub struct GroupingSizes {
     pub min_grouping: u8,
 }
 
+/// Returns the remainder of a division. A dividend below the divisor, as is usual, needs no division.
+#[inline]
+fn remainder(dividend: u32, divisor: u32) -> u32
+    requires { 0 < divisor }
+    ensures { result ≡ dividend % divisor }
+{
+    if dividend < divisor {
+        dividend
+    } else {
+        dividend % divisor
+    }
+}
+
 impl GroupingSizes {
     /// Returns whether at least `least` digits are before the last group, where the highest magnitude is `hi`.
+    #[inline]
     fn reaches(self, least: u8, hi: i16) -> bool
         ensures { result ≡ reaches self least hi }
     {
@@ -40,6 +56,7 @@ impl GroupingSizes {
     }
 
     /// Returns whether a value with the highest magnitude `hi` is grouped.
+    #[inline]
     fn is_grouped(self, strategy: GroupingStrategy, hi: i16) -> bool
         ensures { result ≡ is_grouped strategy self hi }
     {
@@ -52,6 +69,7 @@ impl GroupingSizes {
     }
 
     /// Returns the size of every group except the last.
+    #[inline]
     pub(crate) fn secondary_size(self) -> u8
         ensures { result ≡ secondary_size self }
     {
@@ -65,18 +83,56 @@ impl GroupingSizes {
     /// Returns whether a separator is after the digit at a magnitude, where the highest magnitude shown is `hi`.
     ///
     /// In groups of 3 one is after the magnitudes 3, 6, 9 and so on.
+    #[inline]
     pub fn separates(self, strategy: GroupingStrategy, hi: i16, magnitude: i16) -> bool
         ensures { result ≡ separates strategy self hi magnitude }
     {
         if magnitude < 0 {
             return false;
         }
-        let place = magnitude as u16;
-        let primary = self.primary as u16;
+        let place = magnitude as u32;
+        let primary = self.primary as u32;
         if primary == 0 {
             return false;
         }
-        let secondary = self.secondary_size() as u16;
-        self.is_grouped(strategy, hi) && (primary <= place && (place - primary) % secondary == 0)
+        let secondary = self.secondary_size() as u32;
+        self.is_grouped(strategy, hi)
+            && (primary <= place && remainder(place - primary, secondary) == 0)
+    }
+
+    /// Returns the number of digits from an integer magnitude down to the next separator, or to magnitude 0.
+    ///
+    /// In groups of 3 it is 1 from magnitude 3, and 3 from magnitude 5.
+    #[inline]
+    pub(crate) fn digits_to_separator(
+        self,
+        strategy: GroupingStrategy,
+        hi: i16,
+        magnitude: u32,
+    ) -> u32
+        requires { magnitude < 2 ^ 16 }
+        ensures some { 0 < result }
+        ensures within { result ≤ magnitude + 1 }
+        ensures none_between { (k : ℕ) → k + 1 < result
+            → separates strategy self hi (pos (magnitude - k)) ≡ false }
+    {
+        let primary = self.primary as u32;
+        if primary == 0 || magnitude < primary || !self.is_grouped(strategy, hi) {
+            return magnitude + 1;
+        }
+        remainder(magnitude - primary, self.secondary_size() as u32) + 1
+    }
+
+    /// Returns the number of separators of a value with the highest magnitude `hi`, which is at least 0.
+    #[inline]
+    pub(crate) fn separator_count(self, strategy: GroupingStrategy, hi: i16) -> u32
+        requires { pos 0 ≤ℤ hi }
+        ensures value { result ≡ separators_below strategy self hi (int_gap (pos 0) hi + 1) }
+        ensures at_most { result ≤ 32768 }
+    {
+        if self.primary == 0 || !self.is_grouped(strategy, hi) {
+            return 0;
+        }
+        (hi as u32 - self.primary as u32) / self.secondary_size() as u32 + 1
     }
 }

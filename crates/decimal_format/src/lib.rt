@@ -8,11 +8,12 @@
 //! ```
 #![tactic(auto)]
 
+mod block;
 mod error;
 mod formatter;
 mod grouping;
+pub mod laws;
 mod reader;
-pub mod reading_laws;
 mod symbols;
 
 pub use error::SymbolsError;

@@ -1,5 +1,5 @@
 //! The symbols of a locale.
-ghost use Rattle.std.specs.Prelude.{◌≡◌, ◌<◌, ◌≤◌, length, slice_index, encode_utf8, IfOk, IfErr, OnOk};
+ghost use Rattle.std.specs.Prelude.{◌≡◌, ◌<◌, ◌≤◌, length, slice_index, encode_utf8, IfOk, IfErr, OnOk, true};
 ghost use Rattle.decimal_format.specs.Symbols.{HaveWidth};
 
 use crate::error::SymbolsError;
@@ -9,6 +9,9 @@ use std::marker::Model;
 
 /// The greatest number of bytes of a separator, a prefix or a suffix.
 const MAX_TEXT: usize = 255;
+
+/// The ASCII digits.
+const ASCII_DIGITS: [char; 10] = ['0', '1', '2', '3', '4', '5', '6', '7', '8', '9'];
 
 /// The texts before and after a number that has a sign.
 #[derive(Clone, Copy, Debug)]
@@ -25,6 +28,7 @@ pub struct Affixes<'a> {
 #[derive(Debug, Drop)]
 pub struct DecimalSymbols<'a> {
     digits: [char; 10],
+    has_ascii_digits: bool,
     decimal: &'a str,
     grouping: &'a str,
     minus: Affixes<'a>,
@@ -33,6 +37,8 @@ pub struct DecimalSymbols<'a> {
 }
 
 impl<'a> Model for DecimalSymbols<'a> {
+    ghost use Rattle.std.specs.Prelude.{◌≡◌, true};
+    ghost use Rattle.decimal_format.specs.Ascii.{ascii_digits};
     ghost use Rattle.decimal_format.specs.Symbols.{Symbols, symbols, affixes, AreValid};
 
     ghost Value = { Symbols };
@@ -41,7 +47,8 @@ impl<'a> Model for DecimalSymbols<'a> {
         (affixes s.minus.prefix.now s.minus.suffix.now) (affixes s.plus.prefix.now s.plus.suffix.now) s.sizes };
 
     ghost invariant = { λ s. AreValid (symbols s.digits s.decimal.now s.grouping.now
-        (affixes s.minus.prefix.now s.minus.suffix.now) (affixes s.plus.prefix.now s.plus.suffix.now) s.sizes) };
+        (affixes s.minus.prefix.now s.minus.suffix.now) (affixes s.plus.prefix.now s.plus.suffix.now) s.sizes)
+        × (s.has_ascii_digits ≡ true → s.digits ≡ ascii_digits) };
 }
 
 /// Checks that ten digits have one length in UTF-8.
@@ -73,7 +80,7 @@ impl<'a> DecimalSymbols<'a> {
     ghost use Rattle.fixed_decimal.specs.Decimal.{Decimal};
     ghost use Rattle.fixed_decimal.specs.DecimalText.{decimal_text};
     ghost use Rattle.decimal_format.specs.Symbols.{symbols, affixes, digit_text, sign_affixes, AreValid, Rejects};
-    ghost use Rattle.decimal_format.specs.Ascii.{ascii_symbols};
+    ghost use Rattle.decimal_format.specs.Ascii.{ascii_digits, ascii_symbols};
 
     /// Makes the symbols of a locale.
     ///
@@ -105,6 +112,7 @@ impl<'a> DecimalSymbols<'a> {
         check_length(plus.suffix, SymbolsError::PlusSuffixTooLong)?;
         Ok(DecimalSymbols {
             digits,
+            has_ascii_digits: digits == ASCII_DIGITS,
             decimal,
             grouping,
             minus,
@@ -118,7 +126,8 @@ impl<'a> DecimalSymbols<'a> {
         ensures value { result ≡ ascii_symbols }
     {
         DecimalSymbols {
-            digits: ['0', '1', '2', '3', '4', '5', '6', '7', '8', '9'],
+            digits: ASCII_DIGITS,
+            has_ascii_digits: true,
             decimal: ".",
             grouping: ",",
             minus: Affixes {
@@ -138,6 +147,7 @@ impl<'a> DecimalSymbols<'a> {
     }
 
     /// Returns the character of a digit. Requires a digit below 10.
+    #[inline]
     pub fn digit(&self, digit: u8) -> char
         requires { digit < 10 }
         ensures value { encode_utf8 result ≡ digit_text self.now digit }
@@ -146,6 +156,7 @@ impl<'a> DecimalSymbols<'a> {
     }
 
     /// Returns the number of bytes of each digit, from 1 to 4.
+    #[inline]
     pub fn digit_width(&self) -> usize
         ensures value { HaveWidth self.now.digits result }
         ensures at_most { result ≤ 4 }
@@ -154,7 +165,17 @@ impl<'a> DecimalSymbols<'a> {
         self.digits[0].len_utf8()
     }
 
+    /// Returns whether the digits are the ASCII digits.
+    #[inline]
+    pub(crate) fn has_ascii_digits(&self) -> bool
+        ensures { result ≡ true → self.now.digits ≡ ascii_digits }
+    {
+        let _ = &self.minus;
+        self.has_ascii_digits
+    }
+
     /// Returns the separator before the fraction digits.
+    #[inline]
     pub fn decimal_separator(&self) -> &str
         ensures value { result.now ≡ self.now.decimal }
         ensures at_most { length result.now ≤ 255 }
@@ -163,6 +184,7 @@ impl<'a> DecimalSymbols<'a> {
     }
 
     /// Returns the separator of groups.
+    #[inline]
     pub fn grouping_separator(&self) -> &str
         ensures value { result.now ≡ self.now.grouping }
         ensures at_most { length result.now ≤ 255 }
@@ -171,6 +193,7 @@ impl<'a> DecimalSymbols<'a> {
     }
 
     /// Returns the sizes of groups.
+    #[inline]
     pub fn sizes(&self) -> GroupingSizes
         ensures { result ≡ self.now.sizes }
     {
@@ -178,6 +201,7 @@ impl<'a> DecimalSymbols<'a> {
     }
 
     /// Returns the text before a number with this sign.
+    #[inline]
     pub fn prefix(&self, sign: Sign) -> &str
         ensures value { result.now ≡ (sign_affixes self.now sign).prefix }
         ensures at_most { length result.now ≤ 255 }
@@ -191,6 +215,7 @@ impl<'a> DecimalSymbols<'a> {
     }
 
     /// Returns the text after a number with this sign.
+    #[inline]
     pub fn suffix(&self, sign: Sign) -> &str
         ensures value { result.now ≡ (sign_affixes self.now sign).suffix }
         ensures at_most { length result.now ≤ 255 }

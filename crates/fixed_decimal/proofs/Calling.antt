@@ -1,7 +1,8 @@
 -- The lemmas for callers: what a proof outside these libraries cites of them, each with its use.
-use Rattle.std.proofs.Common.{◌≡◌, ℕ, zero, suc, ◌+◌, ◌-◌, ◌*◌, ◌/◌, ◌%◌, ◌^◌, ◌<◌, ◌≤◌, false, inl, inr, List, [], ◌∷◌, ◌++◌, length, refl, sym, ◌∙◌, ap, arith, rules}
+use Rattle.std.proofs.Common.{◌≡◌, ℕ, zero, suc, ◌+◌, ◌-◌, ◌*◌, ◌/◌, ◌%◌, ◌^◌, ◌<◌, ◌≤◌, false, inl, inr, List, [], ◌∷◌, ◌++◌, length, refl, sym, ◌∙◌, ap, arith, rules, append_assoc, Option}
 use Rattle.std.specs.Prelude.{Ok, Err, Some, None, ◌↔◌, nat_lt, unsigned_abs, ℤ, pos, negsuc, ◌+ℤ◌, ◌-ℤ◌, ◌≤ℤ◌}
 use Rattle.std.specs.Int.{int_gap, abs_diff}
+use Rattle.std.specs.Io.KnownBytes.{Appends}
 use Rattle.std.specs.Str.Parse.{AllDigits}
 use Rattle.std.proofs.Math.Nat.{mul_assoc, mul-le-mul_right, mul-lt-mul_of_pos_right, mul-div_cancel, mul-mod_left, div-add-mod', mod-lt, mod-eq_of_lt, pow-le-pow_right}
 use Rattle.std.proofs.Math.Arith.{mod-mul}
@@ -9,6 +10,7 @@ use Rattle.std.proofs.lemmas.Int.{ints, clamps}
 use Rattle.std.proofs.lemmas.Nat.{le-div, div_below}
 use Rattle.std.proofs.lemmas.Bool.{cases_lt}
 use Rattle.std.proofs.lemmas.Bool.Decides.{nat_tests}
+use Rattle.decimal_digits.specs.AppendsPrefix.{AppendsPrefix}
 use Rattle.decimal_digits.specs.Number.{offset, weight, digit, magnitude_at, first, last}
 use Rattle.decimal_digits.specs.Rounding.{IsNearest}
 use Rattle.decimal_digits.proofs.Ends.{shift_up}
@@ -65,6 +67,8 @@ pub use Rattle.decimal_digits.proofs.RoundingLaws.{rounded_number-multiple}
 pub use Rattle.decimal_digits.proofs.RoundingLaws.{rounded_number-monotone}
 -- a prefix is a prefix of a longer text; a text and then a prefix of the next; the empty text is a prefix of each
 pub use Rattle.decimal_digits.proofs.Sinks.{prefix_more, then_prefix, prefix_none}
+-- a sink after a number of pieces: if it had failed before the first piece, it is unchanged
+pub use Rattle.decimal_digits.proofs.Sinks.{IsFresh, fresh_more, fresh_some, fresh_keeps, fresh_ends}
 -- a true proposition holds on an error
 pub use Rattle.decimal_digits.proofs.Results.{on_err}
 
@@ -198,6 +202,24 @@ text_of_literal n hi lo low order = down (int_gap lo hi + 1) hi (omega (arith, i
         ∙ ap (λ rest. (dot_before m ++ (48 + n / 10 ^ k % 10) ∷ []) ++ rest)
         (down k (m -ℤ pos 1) (omega (arith, ints)))
 
+-- the text of i + j magnitudes is that of the first i and that of the other j
+pub text_down-add : (number : ℕ) (m : ℤ) (i j : ℕ)
+    → text_down number m (i + j) ≡ text_down number m i ++ text_down number (m -ℤ pos i) j
+text_down-add number m zero j =
+    let same : m ≡ m -ℤ pos zero = omega (arith, ints) in
+    ap (text_down number m) (let e : zero + j ≡ j = omega arith in e)
+    ∙ ap (λ x. text_down number x j) same
+    ∙ ap (λ l. l ++ text_down number (m -ℤ pos zero) j) (sym (text_down-zero number m))
+text_down-add number m (suc i) j =
+    let here = dot_before m ++ (48 + digit number m) ∷ [] in
+    let next : (m -ℤ pos 1) -ℤ pos i ≡ m -ℤ pos (suc i) = omega (arith, ints) in
+    ap (text_down number m) (let e : suc i + j ≡ suc (i + j) = omega arith in e)
+    ∙ text_down-suc number m (i + j)
+    ∙ ap (λ l. here ++ l) (text_down-add number (m -ℤ pos 1) i j)
+    ∙ sym (append_assoc here (text_down number (m -ℤ pos 1) i) (text_down number ((m -ℤ pos 1) -ℤ pos i) j))
+    ∙ ap (λ l. l ++ text_down number ((m -ℤ pos 1) -ℤ pos i) j) (sym (text_down-suc number m i))
+    ∙ ap (λ x. text_down number m (suc i) ++ text_down number x j) next
+
 -- a text without a decimal point and without an exponent reads as the number that its digits write
 pub read_integer_text : (whole : List ℕ) → AllDigits 10 whole → 0 < length whole → length whole ≤ 32768
     → read whole ≡ Ok (mantissa whole [])
@@ -221,6 +243,20 @@ read_decimal_text whole fraction digits decimals some few few_decimals =
     let long : nat_lt 32768 (length whole) ≡ false = search rules in
     let long_decimals : nat_lt 32768 (length fraction) ≡ false = search rules in
     rw (parts, long, long_decimals) refl
+
+-- ---- A text of three pieces.
+-- the prefix of the text that a sink has taken, if the first, the second or the third piece fails
+module _ (xs ys zs : List ℕ) where
+  pub first_of_three : (a b : Option (List ℕ)) → AppendsPrefix a b xs → AppendsPrefix a b (xs ++ (ys ++ zs))
+  first_of_three a b p = prefix_more a b xs (ys ++ zs) p
+
+  pub second_of_three : (a b c : Option (List ℕ)) → Appends a b xs → AppendsPrefix b c ys
+      → AppendsPrefix a c (xs ++ (ys ++ zs))
+  second_of_three a b c p q = then_prefix a b c xs (ys ++ zs) p (prefix_more b c ys zs q)
+
+  pub third_of_three : (a b c d : Option (List ℕ)) → Appends a b xs → Appends b c ys → AppendsPrefix c d zs
+      → AppendsPrefix a d (xs ++ (ys ++ zs))
+  third_of_three a b c d p q r = then_prefix a b d xs (ys ++ zs) p (then_prefix b c d ys zs q r)
 
 -- ---- Normal forms, roundings.
 

@@ -13,7 +13,7 @@ use Rattle.fixed_decimal.specs.declared.runs.RunError.TheVariants.{Start, Operan
 use Rattle.fixed_decimal.specs.Outcome.{OutcomeError, step, after_calls}
 use Rattle.fixed_decimal.specs.DecimalText.{and_then}
 use Rattle.fixed_decimal.specs.Errors.{IsReached}
-use Rattle.fixed_decimal.specs.Calls.{CallFails, CallsFail}
+use Rattle.fixed_decimal.specs.Calls.{CallFails, CallsFail, call_number}
 
 and_then-Ok : (r : Result Decimal OutcomeError) → and_then r (λ w. Ok w) ≡ r
 and_then-Ok r = grind arith
@@ -76,3 +76,19 @@ module _ {first v : Decimal} {calls : List Call} {at : ℕ} (i : IsAt first call
   fails_with held (Memory k) r = rw r.0 (v, get_or calls at d, next_call, r.1)
   fails_with held (Start fault) r = absurd r
   fails_with held Sink r = absurd r
+
+  call_number_is : (held : ℕ) (e : RunError) → CallFails held e at v (get_or calls at d) → call_number e ≡ at
+  call_number_is held (Operand k parse.Limit) r = r.0
+  call_number_is held (Operand k parse.Syntax) r = r.0
+  call_number_is held (Operand k parse.Memory) r = r.0
+  call_number_is held (Overlap k) r = r.0
+  call_number_is held (Limit k) r = r.0
+  call_number_is held (Memory k) r = r.0
+  call_number_is held (Start fault) r = absurd r
+  call_number_is held Sink r = absurd r
+
+  -- after an error of this call, the calls before the one that it reports result in v
+  pub stops_at : (held : ℕ) (e : RunError) (new : Decimal) → CallFails held e at v (get_or calls at d) → new ≡ v
+      → after_calls 0 first (take (call_number e) calls) ≡ Ok new
+  stops_at held e new r same =
+      ap (λ k. after_calls 0 first (take k calls)) (call_number_is held e r) ∙ i.before ∙ ap Ok (sym same)

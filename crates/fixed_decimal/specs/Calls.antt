@@ -1,4 +1,3 @@
--- Private: cited only by the contracts of private functions.
 -- The errors that calls may return. A store holds `held` digits without an allocation.
 use Rattle.std.specs.Prelude.{◌≡◌, ℕ, List, Err}
 use Rattle.decimal_unsigned.specs.Reading.{syntax, limit}
@@ -31,3 +30,12 @@ CallsFail held (Limit at) first calls = after_calls 0 first calls ≡ Err (limit
 CallsFail held (Memory at) first calls = Reaches first calls at (CallNeedsMemory held)
 CallsFail held (Start fault) first calls = ⊥
 CallsFail held Sink first calls = ⊥
+
+-- the number of the call that failed; 0 for an error that is not of a call
+abbrev pub call_number : RunError → ℕ
+call_number (Operand at fault) = at
+call_number (Overlap at) = at
+call_number (Limit at) = at
+call_number (Memory at) = at
+call_number (Start fault) = 0
+call_number Sink = 0

@@ -31,5 +31,6 @@ returns g c = λ flush ok.
     let v = d.value.absolute in
     let all : c.loop-below.below ≡ shown_count v =
     omega (arith, c.shown_count-below-end.ensures, c.loop-below-test.false, c.loop-below.auto.below-end) in
-    subst (λ i. HasWrittenStyled g.W.Write.write_str_gives c.args.f.now (first_magnitudes d.symbols d.strategy v i) c.loop-below.f)
-    all (c.loop-below.invariant flush)
+    subst
+    (λ i. HasWrittenStyled g.W.Write.write_str_gives c.args.f.now (first_magnitudes d.symbols d.strategy v i)
+    c.loop-below.f) all (c.loop-below.invariant flush)

@@ -1,37 +1,45 @@
-use Rattle.std.proofs.Common.{◌≡◌, ◌<◌, sym, subst, arith}
+use Rattle.std.proofs.Common.{◌≡◌, ◌+◌, ◌≤◌, ◌∙◌, ap, subst, arith}
 use Rattle.std.specs.Io.KnownBytes.{Appends}
+use Rattle.decimal_digits.specs.AppendsPrefix.{AppendsPrefix}
 use Rattle.fixed_decimal.proofs.Calling.{on_err}
-use Rattle.std.proofs.KnownBytes.{Appends-nil}
 use Rattle.decimal_format.specs.Formatted.{shown_count}
-use Rattle.decimal_format.proofs.Magnitudes.{first_magnitudes, formatted_down-zero, wrote_nth, wrote_part}
+use Rattle.decimal_format.specs.Parts.{part_text}
+use Rattle.decimal_format.proofs.Parts.{part_none, part_more, part_failed, whole_part}
 use Rattle.decimal_format.proofs.formatter.FormattedDecimal.write_absolute.Goals as goal
 
-pub loop-below-init : goal.loop-below-init
-loop-below-init g c =
-    let f = c.args.self.now in
-    let v = f.value.absolute in
-    let taken = g.W.Sink.contents c.args.sink.now in
-    subst (Appends taken taken) (sym (formatted_down-zero f.symbols f.strategy v.hi v.number v.hi)) (Appends-nil taken)
+pub loop-written-init : goal.loop-written-init
+loop-written-init g c = record { within = omega arith; appended = part_none c.args.self.now 0 _ }
 
-pub loop-below-preserved : goal.loop-below-preserved
-loop-below-preserved g c =
+pub returns-in_err-put_part-clause-err : goal.returns-in_err-put_part-clause-err
+returns-in_err-put_part-clause-err g c =
     let f = c.args.self.now in
-    wrote_nth f.symbols f.strategy f.value.absolute _ _ _ c.loop-below.below c.loop-below.invariant
-    c.in_ok-write_nth.ensures.ok
-
-pub returns-in_err-write_nth-clause-err : goal.returns-in_err-write_nth-clause-err
-returns-in_err-write_nth-clause-err g c =
-    let f = c.args.self.now in
-    let inside : c.loop-below.below < shown_count f.value.absolute =
-    omega (arith, c.shown_count-below-end.ensures, c.loop-below-test.true) in
+    let i = c.loop-written.written in
+    let n = c.min-part.result in
+    let all = shown_count f.value.absolute in
+    let inside : i + n ≤ all = omega (arith, c.min-part.ensures, c.shown_count-count.ensures.value) in
+    let here : part_text f i n ≡ part_text f (0 + i) n =
+    ap (λ b. part_text f b n) (let e : i ≡ 0 + i = omega arith in e) in
     on_err c.from_residual.result _
-    (wrote_part f.symbols f.strategy f.value.absolute _ _ _ c.loop-below.below (shown_count f.value.absolute) inside
-    c.loop-below.invariant c.in_err-write_nth.ensures.err)
+    (subst (AppendsPrefix (g.W.Sink.contents c.args.sink.now) (g.W.Sink.contents c.put_part.new.sink)) (whole_part f)
+    (part_failed f 0 i n all inside _ _ _ _ here c.loop-written.invariant.appended c.in_err-put_part.ensures.err))
+
+pub loop-written-preserved : goal.loop-written-preserved
+loop-written-preserved g c =
+    let f = c.args.self.now in
+    let i = c.loop-written.written in
+    let n = c.min-part.result in
+    let here : part_text f i n ≡ part_text f (0 + i) n =
+    ap (λ b. part_text f b n) (let e : i ≡ 0 + i = omega arith in e) in
+    record {
+      within = omega (arith, c.min-part.ensures);
+      appended =
+          part_more f 0 i n _ _ _ _ here c.loop-written.invariant.appended c.in_ok-put_part.ensures.ok;
+    }
 
 pub returns-clause-ok : goal.returns-clause-ok
 returns-clause-ok g c =
     let f = c.args.self.now in
-    let all : c.loop-below.below ≡ shown_count f.value.absolute =
-    omega (arith, c.shown_count-below-end.ensures, c.loop-below-test.false, c.loop-below.auto.below-end) in
-    subst (λ i. Appends (g.W.Sink.contents c.args.sink.now) (g.W.Sink.contents c.loop-below.sink)
-    (first_magnitudes f.symbols f.strategy f.value.absolute i)) all c.loop-below.invariant
+    let all : c.loop-written.written ≡ shown_count f.value.absolute =
+    omega (arith, c.loop-written-test.false, c.loop-written.invariant.within, c.shown_count-count.ensures.value) in
+    subst (Appends (g.W.Sink.contents c.args.sink.now) (g.W.Sink.contents c.loop-written.sink))
+    (ap (part_text f 0) all ∙ whole_part f) c.loop-written.invariant.appended

@@ -1,0 +1,172 @@
+-- The text of a part: digits without a separator between them.
+use Rattle.std.proofs.Common.{◌≡◌, ℕ, suc, ◌+◌, ◌-◌, ◌<◌, ◌≤◌, List, [], ◌∷◌, ◌++◌, length, get_or, Option, refl, sym, ◌∙◌, ap, subst, arith, append_assoc, append-nil}
+use Rattle.std.specs.Prelude.{false, if◌then◌else◌, slice_index, slice_range, EachIndex, ℤ, pos, ◌-ℤ◌}
+use Rattle.std.proofs.lemmas.Int.{ints}
+use Rattle.std.proofs.lemmas.List.Edits.{length-between, get_or-between}
+use Rattle.std.proofs.lemmas.List.Concat.{flat_map-cons}
+use Rattle.std.specs.Io.KnownBytes.{Appends}
+use Rattle.std.proofs.KnownBytes.{Appends-nil, Appends-trans}
+use Rattle.decimal_digits.specs.AppendsPrefix.{AppendsPrefix}
+use Rattle.decimal_digits.specs.Number.{digit}
+use Rattle.decimal_format.specs.declared.grouping.GroupingStrategy.{GroupingStrategy}
+use Rattle.decimal_format.specs.Grouping.{separates}
+use Rattle.decimal_format.specs.Symbols.{Symbols, digit_text}
+use Rattle.decimal_format.specs.Formatted.{Formatted, separator_before, separator_after, magnitude_text, formatted_down, shown_count, absolute_text}
+use Rattle.decimal_format.specs.Parts.{magnitude_of, part_text, AreDigits, IsRun, digits_text}
+use Rattle.decimal_format.proofs.Magnitudes.{formatted_down-suc, formatted_down-zero, formatted_down-add}
+use Rattle.decimal_format.proofs.Pieces.{in_second}
+
+-- the digits of two pieces without a separator between them
+regroup : (a d t z : List ℕ) → (a ++ (d ++ [])) ++ ([] ++ (t ++ z)) ≡ a ++ ((d ++ t) ++ z)
+regroup a d t z = simp (append_assoc, append-nil)
+
+module _ (s : Symbols) (g : GroupingStrategy) (hi : ℤ) (number : ℕ) where
+  -- the bytes of consecutive digits with no separator between them
+  down : (m : ℤ) (d : ℕ) (ds : List ℕ)
+      → ((k : ℕ) → k < suc (length ds) → get_or (d ∷ ds) k 0 ≡ 48 + digit number (m -ℤ pos k))
+      → ((k : ℕ) → k < length ds → separator_after s g hi (m -ℤ pos k) ≡ [])
+      → ((k : ℕ) → k < length ds → separator_before s (m -ℤ pos (suc k)) ≡ [])
+      → formatted_down s g hi number m (suc (length ds))
+      ≡ separator_before s m ++ (digits_text s (d ∷ ds) ++ separator_after s g hi (m -ℤ pos (length ds)))
+  down m d [] is after before =
+      let same : m -ℤ pos 0 ≡ m = omega (arith, ints) in
+      let here : d - 48 ≡ digit number m = omega (arith, is 0 (omega arith), ap (digit number) same) in
+      formatted_down-suc s g hi number m 0
+      ∙ ap (λ l. magnitude_text s g hi number m ++ l) (formatted_down-zero s g hi number (m -ℤ pos 1))
+      ∙ append-nil (magnitude_text s g hi number m)
+      ∙ ap (λ x. separator_before s m ++ (digit_text s x ++ separator_after s g hi m)) (sym here)
+      ∙ ap (λ x. separator_before s m ++ (digit_text s (d - 48) ++ separator_after s g hi x)) (sym same)
+      ∙ ap (λ l. separator_before s m ++ (l ++ separator_after s g hi (m -ℤ pos 0)))
+      (sym (flat_map-cons (λ byte. digit_text s (byte - 48)) d [] ∙ append-nil (digit_text s (d - 48))))
+  down m d (e ∷ es) is after before =
+      let same : m -ℤ pos 0 ≡ m = omega (arith, ints) in
+      let here : d - 48 ≡ digit number m = omega (arith, is 0 (omega arith), ap (digit number) same) in
+      let next : (k : ℕ) → (m -ℤ pos 1) -ℤ pos k ≡ m -ℤ pos (suc k) = λ k. omega (arith, ints) in
+      let rest =
+      down (m -ℤ pos 1) e es
+      (λ k h. is (suc k) (omega (arith, h)) ∙ ap (λ x. 48 + digit number x) (sym (next k)))
+      (λ k h. ap (separator_after s g hi) (next k) ∙ after (suc k) (omega (arith, h)))
+      (λ k h. ap (separator_before s) (next (suc k)) ∙ before (suc k) (omega (arith, h))) in
+      let none_after : separator_after s g hi m ≡ [] =
+      ap (separator_after s g hi) (sym same) ∙ after 0 (omega arith) in
+      let none_before : separator_before s (m -ℤ pos 1) ≡ [] = before 0 (omega arith) in
+      formatted_down-suc s g hi number m (suc (length es))
+      ∙ ap (λ l. magnitude_text s g hi number m ++ l) rest
+      ∙ (λ i. (separator_before s m ++ (digit_text s (sym here i) ++ none_after i))
+      ++ (none_before i ++ (digits_text s (e ∷ es) ++ separator_after s g hi (next (length es) i))))
+      ∙ regroup (separator_before s m) (digit_text s (d - 48)) (digits_text s (e ∷ es))
+      (separator_after s g hi (m -ℤ pos (suc (length es))))
+      ∙ ap (λ l. separator_before s m ++ (l ++ separator_after s g hi (m -ℤ pos (suc (length es)))))
+      (sym (flat_map-cons (λ byte. digit_text s (byte - 48)) d (e ∷ es)))
+
+module _ (f : Formatted) where
+  below_more : (below k : ℕ) → magnitude_of f below -ℤ pos k ≡ magnitude_of f (below + k)
+  below_more below k = omega (arith, ints)
+
+  -- the text of digits with no separator between them
+  pub run_text : (below : ℕ) (bytes : List ℕ) → 0 < length bytes → AreDigits f below bytes
+      → IsRun f below (length bytes)
+      → part_text f below (length bytes)
+      ≡ separator_before f.symbols (magnitude_of f below)
+      ++ (digits_text f.symbols bytes
+      ++ separator_after f.symbols f.strategy f.value.absolute.hi (magnitude_of f (below + length bytes - 1)))
+  run_text below [] some digits run = absurd (omega (arith, some))
+  run_text below (d ∷ ds) some digits run =
+      let last : below + length ds ≡ below + suc (length ds) - 1 = omega arith in
+      down f.symbols f.strategy f.value.absolute.hi f.value.absolute.number (magnitude_of f below) d ds
+      (λ k h. digits k h ∙ ap (λ x. 48 + digit f.value.absolute.number x) (sym (below_more below k)))
+      (λ k h. ap (separator_after f.symbols f.strategy f.value.absolute.hi) (below_more below k)
+      ∙ run.none_after k (omega (arith, h)))
+      (λ k h. ap (separator_before f.symbols) (below_more below (suc k))
+      ∙ (let e : suc k ≡ k + 1 = omega arith in ap (λ x. separator_before f.symbols (magnitude_of f (below + x))) e)
+      ∙ run.none_before k (omega (arith, h)))
+      ∙ ap (λ x. separator_before f.symbols (magnitude_of f below)
+      ++ (digits_text f.symbols (d ∷ ds) ++ separator_after f.symbols f.strategy f.value.absolute.hi x))
+      (below_more below (length ds) ∙ ap (magnitude_of f) last)
+
+  -- fewer magnitudes without a separator between them
+  pub run_less : (below n k : ℕ) → k ≤ n → IsRun f below n → IsRun f below k
+  run_less below n k h run = record {
+    none_after = λ j l. run.none_after j (omega (arith, h, l));
+    none_before = λ j l. run.none_before j (omega (arith, h, l));
+  }
+
+  -- a part, and then the next
+  pub part_text-add : (below i j : ℕ) → part_text f below (i + j) ≡ part_text f below i ++ part_text f (below + i) j
+  part_text-add below i j =
+      formatted_down-add f.symbols f.strategy f.value.absolute.hi f.value.absolute.number (magnitude_of f below) i j
+      ∙ ap (λ m. part_text f below i
+      ++ formatted_down f.symbols f.strategy f.value.absolute.hi f.value.absolute.number m j) (below_more below i)
+
+  pub part_text-zero : (below : ℕ) → part_text f below 0 ≡ []
+  part_text-zero below =
+      formatted_down-zero f.symbols f.strategy f.value.absolute.hi f.value.absolute.number (magnitude_of f below)
+
+  -- the digits from one to another
+  pub digits_between : (below i j : ℕ) (bytes : List ℕ) → j ≤ length bytes → AreDigits f below bytes
+      → AreDigits f (below + i) (slice_range bytes i j)
+  digits_between below i j bytes h digits k l =
+      let size : length (slice_range bytes i j) ≡ j - i = length-between bytes i j h in
+      let inside : i + k < j = omega (arith, size, l) in
+      let order : below + (i + k) ≡ below + i + k = omega arith in
+      get_or-between bytes i j k 0 inside
+      ∙ digits (i + k) (omega (arith, inside))
+      ∙ ap (λ x. 48 + digit f.value.absolute.number (magnitude_of f x)) order
+
+  -- the integer digits down to the next separator
+  pub integer_run : (below m n : ℕ) → magnitude_of f below ≡ pos m → n ≤ m + 1
+      → ((k : ℕ) → k + 1 < n → separates f.strategy f.symbols.sizes f.value.absolute.hi (pos (m - k)) ≡ false)
+      → IsRun f below n
+  integer_run below m n is within none = record {
+    none_after = λ k h.
+        let at : magnitude_of f (below + k) ≡ pos (m - k) = omega (arith, ints, is, h, within) in
+        ap (separator_after f.symbols f.strategy f.value.absolute.hi) at
+        ∙ ap (λ b. if b then f.symbols.grouping else []) (none k h);
+    none_before = λ k h.
+        let at : magnitude_of f (below + (k + 1)) ≡ pos (m - (k + 1)) = omega (arith, ints, is, h, within) in
+        ap (separator_before f.symbols) at;
+  }
+
+  -- the digits that `write_digits` writes
+  pub digits_from : (below : ℕ) (m : ℤ) (number : ℕ) (bytes : List ℕ) → m ≡ magnitude_of f below
+      → number ≡ f.value.absolute.number
+      → EachIndex bytes (λ k. slice_index bytes k ≡ 48 + digit number (m -ℤ pos k)) → AreDigits f below bytes
+  digits_from below m number bytes is same digits k h =
+      digits k h ∙ (λ i. 48 + digit (same i) (is i -ℤ pos k))
+      ∙ ap (λ x. 48 + digit f.value.absolute.number x) (below_more below k)
+
+  -- the parts before, at and after some magnitudes of a part
+  pub part_of_part : (below i n count : ℕ) → i + n ≤ count
+      → part_text f below i ++ (part_text f (below + i) n ++ part_text f (below + i + n) (count - (i + n)))
+      ≡ part_text f below count
+  part_of_part below i n count h =
+      let all : i + (n + (count - (i + n))) ≡ count = omega arith in
+      ap (λ l. part_text f below i ++ l) (sym (part_text-add (below + i) n (count - (i + n))))
+      ∙ sym (part_text-add below i (n + (count - (i + n))))
+      ∙ ap (part_text f below) all
+
+  -- the parts up to some magnitudes of a part
+  pub part_more : (below i n : ℕ) (a b c : Option (List ℕ)) (x : List ℕ) → x ≡ part_text f (below + i) n
+      → Appends a b (part_text f below i) → Appends b c x → Appends a c (part_text f below (i + n))
+  part_more below i n a b c x is p q =
+      subst (Appends a c) (sym (part_text-add below i n))
+      (Appends-trans a b c (part_text f below i) (part_text f (below + i) n) p (subst (Appends b c) is q))
+
+  pub part_none : (below : ℕ) (a : Option (List ℕ)) → Appends a a (part_text f below 0)
+  part_none below a = subst (Appends a a) (sym (part_text-zero below)) (Appends-nil a)
+
+  -- a call failed within a part
+  pub part_failed : (below i n count : ℕ) → i + n ≤ count → (a b c : Option (List ℕ)) (x : List ℕ)
+      → x ≡ part_text f (below + i) n → Appends a b (part_text f below i) → AppendsPrefix b c x
+      → AppendsPrefix a c (part_text f below count)
+  part_failed below i n count h a b c x is p q =
+      in_second (part_text f below i) (part_text f (below + i) n) (part_text f (below + i + n) (count - (i + n)))
+      (part_text f below count) (part_of_part below i n count h) a b c (part_text f below i) x refl is p q
+
+  -- the part of all magnitudes is the text without the sign
+  pub whole_part : part_text f 0 (shown_count f.value.absolute)
+      ≡ absolute_text f.symbols f.strategy f.value.absolute
+  whole_part =
+      let first : magnitude_of f 0 ≡ f.value.absolute.hi = omega (arith, ints) in
+      ap (λ m. formatted_down f.symbols f.strategy f.value.absolute.hi f.value.absolute.number m
+      (shown_count f.value.absolute)) first

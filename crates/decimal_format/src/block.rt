@@ -1,0 +1,86 @@
+//! A sink of a fixed size, on the stack.
+ghost use Rattle.std.specs.Prelude.{◌≡◌, ℕ, List, [], ◌++◌, ◌≤◌, take, Some, OnOk, OnErr, Bool, true, false};
+
+use fixed_decimal::{Sink, SinkFault};
+use std::marker::Model;
+
+/// The number of bytes that a block holds.
+const SIZE: usize = 256;
+
+/// A sink that holds up to 256 bytes, and fails when more are put into it.
+#[derive(Drop)]
+pub(crate) struct Block {
+    bytes: [u8; SIZE],
+    len: usize,
+    failed: bool,
+}
+
+impl Model for Block {
+    ghost Value = { List ℕ × Bool };
+
+    ghost view = { λ s. (take s.len s.bytes, s.failed) };
+
+    ghost invariant = { λ s. s.len ≤ 256 };
+}
+
+impl Block {
+    /// Makes an empty block.
+    #[inline]
+    pub(crate) fn new() -> Self
+        ensures { result ≡ ([], false) }
+    {
+        Block {
+            bytes: [0; SIZE],
+            len: 0,
+            failed: false,
+        }
+    }
+
+    /// Returns the bytes that were put, in order.
+    #[inline]
+    pub(crate) fn as_bytes(&self) -> &[u8]
+        ensures { result.now ≡ self.now.0 }
+    {
+        &self.bytes[..self.len]
+    }
+
+    /// Appends bytes, or none if they do not fit.
+    #[inline]
+    fn append(&mut self, bytes: &[u8]) -> Result<(), SinkFault>
+        ensures ok { OnOk result (self.new ≡ (self.old.0 ++ bytes.now, false)) }
+        ensures had_not_failed { OnOk result (self.old.1 ≡ false) }
+        ensures err { OnErr result (self.new ≡ (self.old.0, true)) }
+    {
+        if self.failed || bytes.len() > SIZE - self.len {
+            self.failed = true;
+            return Err(SinkFault);
+        }
+        let end = self.len + bytes.len();
+        match bytes {
+            [] => {}
+            [byte] => self.bytes[self.len] = *byte,
+            _ => self.bytes[self.len..end].copy_from_slice(bytes),
+        }
+        self.len = end;
+        Ok(())
+    }
+}
+
+impl Sink for Block {
+    ghost contents = { λ s. Some s.0 };
+
+    ghost has_failed = { λ s. s.1 };
+
+    fn put_byte(&mut self, byte: u8) -> Result<(), SinkFault> {
+        self.append(&[byte])
+    }
+
+    #[inline]
+    fn put_bytes(&mut self, bytes: &[u8]) -> Result<(), SinkFault> {
+        self.append(bytes)
+    }
+
+    fn failed(&self) -> bool {
+        self.failed
+    }
+}

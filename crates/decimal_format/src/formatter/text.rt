@@ -1,0 +1,198 @@
+//! The text of a formatted decimal.
+ghost use Rattle.std.specs.Prelude.{◌≡◌, ◌+◌, ◌*◌, ◌<◌, ◌≤◌, ◌<ℤ◌, ◌≤ℤ◌, pos, [], length, slice_index, EachIndex, OnOk, OnErr, true, false};
+ghost use Rattle.std.specs.Int.{int_gap};
+ghost use Rattle.std.specs.Io.KnownBytes.{Keeps, Appends};
+ghost use Rattle.decimal_digits.specs.AppendsPrefix.{AppendsPrefix};
+ghost use Rattle.decimal_unsigned.specs.Unsigned.{IsValue};
+ghost use Rattle.decimal_format.specs.Formatted.{shown_count, absolute_text, formatted_text};
+ghost use Rattle.decimal_format.specs.Parts.{part_text, AreDigits, IsRun, digits_text, separators_below};
+
+use super::FormattedDecimal;
+use crate::block::Block;
+use crate::symbols::DecimalSymbols;
+use fixed_decimal::{DigitStore, Sink, SinkFault, Writeable};
+
+/// The greatest number of digits of a part, which is written to a block before it is put into the sink.
+const PART: u32 = 32;
+
+/// Appends ASCII digits by the symbols.
+fn write_digits<W: Sink>(
+    symbols: &DecimalSymbols<'_>,
+    digits: &[u8],
+    sink: &mut W,
+) -> Result<(), SinkFault>
+    requires { EachIndex digits.now (λ k. (48 ≤ slice_index digits.now k) × (slice_index digits.now k < 58)) }
+    ensures ok { OnOk result
+        (Appends (W.contents sink.old) (W.contents sink.new) (digits_text symbols.now digits.now)) }
+    ensures err { OnErr result
+        (AppendsPrefix (W.contents sink.old) (W.contents sink.new) (digits_text symbols.now digits.now)) }
+    ensures failed { OnErr result (W.has_failed sink.new ≡ true) }
+{
+    if symbols.has_ascii_digits() {
+        return sink.put_bytes(digits);
+    }
+    for digit in digits {
+        let mut buffer = [0; 4];
+        let text = symbols.digit(*digit - b'0').encode_utf8(&mut buffer);
+        sink.put_bytes(text.as_bytes())?;
+    }
+    Ok(())
+}
+
+impl<'f, D: DigitStore> FormattedDecimal<'f, D> {
+    /// Returns the number of digits from a magnitude down to the next separator, or to the last magnitude.
+    fn run_length(&self, below: u32) -> u32
+        requires { below < shown_count self.now.value.absolute }
+        ensures some { 0 < result }
+        ensures shown { below + result ≤ shown_count self.now.value.absolute }
+        ensures run { IsRun self.now below result }
+    {
+        let magnitude = self.magnitude(below);
+        if magnitude < 0 {
+            return self.shown_count() - below;
+        }
+        let sizes = self.symbols.sizes();
+        sizes.digits_to_separator(self.strategy, self.highest(), magnitude as u32)
+    }
+
+    /// Appends digits with no separator between them, with the separators before and after them.
+    fn write_run<W: Sink>(&self, below: u32, digits: &[u8], sink: &mut W) -> Result<(), SinkFault>
+        requires some { 0 < length digits.now }
+        requires shown { below + length digits.now ≤ shown_count self.now.value.absolute }
+        requires in_limits { below + length digits.now ≤ 65536 }
+        requires digits { AreDigits self.now below digits.now }
+        requires run { IsRun self.now below (length digits.now) }
+        ensures ok { OnOk result
+            (Appends (W.contents sink.old) (W.contents sink.new) (part_text self.now below (length digits.now))) }
+        ensures err { OnErr result
+            (AppendsPrefix (W.contents sink.old) (W.contents sink.new) (part_text self.now below (length digits.now))) }
+        ensures failed { OnErr result (W.has_failed sink.new ≡ true) }
+    {
+        let last = below + digits.len() as u32 - 1;
+        sink.put_bytes(self.separator_before(below).as_bytes())?;
+        write_digits(self.symbols, digits, sink)?;
+        sink.put_bytes(self.separator_after(last).as_bytes())
+    }
+
+    /// Appends the text of up to 32 magnitudes.
+    fn write_part<W: Sink>(&self, below: u32, count: u32, sink: &mut W) -> Result<(), SinkFault>
+        requires some { 0 < count }
+        requires at_most { count ≤ 32 }
+        requires shown { below + count ≤ shown_count self.now.value.absolute }
+        requires in_limits { below + count ≤ 65536 }
+        ensures ok { OnOk result
+            (Appends (W.contents sink.old) (W.contents sink.new) (part_text self.now below count)) }
+        ensures err { OnErr result
+            (AppendsPrefix (W.contents sink.old) (W.contents sink.new) (part_text self.now below count)) }
+        ensures failed { OnErr result (W.has_failed sink.new ≡ true) }
+    {
+        let mut buffer = [b'0'; PART as usize];
+        let digits = &mut buffer[..count as usize];
+        self.value
+            .absolute
+            .write_digits(self.magnitude(below), digits);
+        let mut written = 0;
+        while written < count {
+            let run = self.run_length(below + written).min(count - written);
+            let end = written + run;
+            self.write_run(
+                below + written,
+                &digits[written as usize..end as usize],
+                sink,
+            )?;
+            written = end;
+        }
+        Ok(())
+    }
+
+    /// Appends the text of up to 32 magnitudes at once, if it fits a block.
+    fn put_part<W: Sink>(&self, below: u32, count: u32, sink: &mut W) -> Result<(), SinkFault>
+        requires some { 0 < count }
+        requires at_most { count ≤ 32 }
+        requires shown { below + count ≤ shown_count self.now.value.absolute }
+        requires in_limits { below + count ≤ 65536 }
+        ensures ok { OnOk result
+            (Appends (W.contents sink.old) (W.contents sink.new) (part_text self.now below count)) }
+        ensures err { OnErr result
+            (AppendsPrefix (W.contents sink.old) (W.contents sink.new) (part_text self.now below count)) }
+        ensures failed { OnErr result (W.has_failed sink.new ≡ true) }
+    {
+        let mut block = Block::new();
+        match self.write_part(below, count, &mut block) {
+            Ok(()) => sink.put_bytes(block.as_bytes()),
+            Err(SinkFault) => self.write_part(below, count, sink),
+        }
+    }
+
+    /// Appends the text without the sign.
+    fn write_absolute<W: Sink>(&self, sink: &mut W) -> Result<(), SinkFault>
+        ensures ok { OnOk result (Appends (W.contents sink.old) (W.contents sink.new)
+            (absolute_text self.now.symbols self.now.strategy self.now.value.absolute)) }
+        ensures err { OnErr result (AppendsPrefix (W.contents sink.old) (W.contents sink.new)
+            (absolute_text self.now.symbols self.now.strategy self.now.value.absolute)) }
+        ensures failed { OnErr result (W.has_failed sink.new ≡ true) }
+    {
+        let count = self.shown_count();
+        let mut written = 0;
+        while written < count {
+            let part = PART.min(count - written);
+            self.put_part(written, part, sink)?;
+            written += part;
+        }
+        Ok(())
+    }
+}
+
+impl<'f, D: DigitStore> FormattedDecimal<'f, D> {
+    /// Returns the decimal separator if there are fraction digits.
+    fn fraction_separator(&self) -> &str
+        ensures fraction { self.now.value.absolute.lo <ℤ pos 0 → result.now ≡ self.now.symbols.decimal }
+        ensures whole { pos 0 ≤ℤ self.now.value.absolute.lo → result.now ≡ [] }
+        ensures at_most { length result.now ≤ 255 }
+        ensures valid { IsValue self.now.value.absolute }
+    {
+        if *self.value.absolute.magnitude_range().start() < 0 {
+            self.symbols.decimal_separator()
+        } else {
+            ""
+        }
+    }
+
+    /// Returns the number of bytes of all grouping separators.
+    fn separators_length(&self) -> usize
+        ensures value { result ≡ separators_below self.now.strategy self.now.symbols.sizes self.now.value.absolute.hi
+            (int_gap (pos 0) self.now.value.absolute.hi + 1) * length self.now.symbols.grouping }
+        ensures at_most { result ≤ 8355840 }
+    {
+        let symbols = self.symbols;
+        let count = symbols
+            .sizes()
+            .separator_count(self.strategy, self.highest());
+        count as usize * symbols.grouping_separator().len()
+    }
+}
+
+impl<'f, D: DigitStore> Writeable for FormattedDecimal<'f, D> {
+    ghost text = { formatted_text };
+
+    /// Appends the text: the digits of the locale with its separators, between the prefix and the suffix of the sign.
+    ///
+    /// # Errors
+    ///
+    /// As [`Writeable::write_to`].
+    fn write_to<W: Sink>(&self, sink: &mut W) -> Result<(), SinkFault> {
+        sink.put_bytes(self.prefix().as_bytes())?;
+        self.write_absolute(sink)?;
+        sink.put_bytes(self.suffix().as_bytes())
+    }
+
+    /// Returns the exact number of bytes of the text, in constant time: 12 for `-1,234,567.5`.
+    fn writeable_length_hint(&self) -> usize {
+        let digits = self.shown_count() as usize * self.symbols.digit_width();
+        self.prefix().len()
+            + digits
+            + self.separators_length()
+            + self.fraction_separator().len()
+            + self.suffix().len()
+    }
+}
