@@ -5,8 +5,8 @@ pub mod Formatted
 pub mod Ascii
 pub mod Readable
 pub mod Reading
+pub mod Lenient
 pub mod ErrorText
 -- Private: used only in the contracts of private functions.
 pub mod Parts
 pub mod Scanning
-pub mod Lenient

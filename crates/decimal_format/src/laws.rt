@@ -1,9 +1,11 @@
 //! Laws of formatted texts: the contract of each function states a law.
 ghost use Rattle.std.specs.Prelude.{◌≡◌, ℕ, List};
+ghost use Rattle.decimal_unsigned.specs.Unsigned.{IsValue};
 ghost use Rattle.fixed_decimal.specs.Decimal.{Decimal};
 ghost use Rattle.fixed_decimal.specs.DecimalText.{decimal_text};
 ghost use Rattle.decimal_format.specs.Ascii.{ascii_with};
 ghost use Rattle.decimal_format.specs.Formatted.{formatted};
+ghost use Rattle.decimal_format.specs.Readable.{IsReadable};
 ghost use Rattle.decimal_format.specs.Symbols.{Symbols, without_grouping};
 ghost use Rattle.decimal_format.specs.declared.grouping.GroupingSizes.{GroupingSizes};
 ghost use Rattle.decimal_format.specs.declared.grouping.GroupingStrategy.{GroupingStrategy};
@@ -21,4 +23,11 @@ pub fn ascii_is_plain()
 pub fn groups_insert_separators()
     ensures { (s : Symbols) (strategy : GroupingStrategy) (v : Decimal)
         → formatted (without_grouping s) strategy v ≡ formatted s Never v }
+{}
+
+/// With readable symbols, two values have different texts, whatever strategies they are formatted by.
+#[tactic(auto, using(crate::proofs::NumeralLaws::texts_are_unique))]
+pub fn texts_are_unique()
+    ensures { (s : Symbols) (g h : GroupingStrategy) (v w : Decimal) → IsReadable s → IsValue v.absolute
+        → IsValue w.absolute → formatted s g v ≡ formatted s h w → v ≡ w }
 {}

@@ -14,7 +14,6 @@ mod formatter;
 mod grouping;
 pub mod laws;
 mod reader;
-pub mod reading_laws;
 mod symbols;
 
 pub use error::SymbolsError;
