@@ -1,6 +1,6 @@
 //! Whole runs into sinks that fail, over each store.
 use super::*;
-use fixed_decimal::{Call, Out, RunError, Signed, apply_calls, run_over};
+use fixed_decimal::{Call, Out, RunError, run_over};
 use test_support::{FailingWriter, LimitedSink, WriteFailure};
 
 /// A start, calls, and the text of the run.
@@ -57,47 +57,5 @@ fn fails_over_each(alloc: Global, row: Run) -> bool {
 fn fails_with_the_sink(rt: HostRuntime) {
     for row in BROKEN {
         assert!(rt; fails_over_each(rt.alloc(), *row), "{}", row.0);
-    }
-}
-
-/// A start, calls, the text of the value that they leave, and the number of the call that fails.
-type Applied = (&'static str, &'static [Call<'static>], &'static str, Option<usize>);
-
-/// Calls on a value, some of which fail.
-const APPLIED: &[Applied] = &[
-    ("250", &[Call::MultiplyPow10(-2), Call::TrimEnd], "2.5", None),
-    ("-5", &[Call::MultiplyPow10(-1), Call::Concatenate(b"x"), Call::TrimEnd], "-0.5", Some(1)),
-    ("7", &[Call::Concatenate(b"2")], "7", Some(0)),
-    ("10", &[Call::PadEnd(-1), Call::TrimStart, Call::MultiplyPow10(32767)], "10.0", Some(2)),
-];
-
-/// Returns the number of the call that failed.
-fn failed_call(error: &RunError) -> Option<usize> {
-    match error {
-        RunError::Operand { at, .. }
-        | RunError::Overlap { at }
-        | RunError::Limit { at }
-        | RunError::Memory { at } => Some(*at),
-        RunError::Start(_) | RunError::Sink => None,
-    }
-}
-
-/// Whether calls on a value fail at this call, and leave a value with this text.
-fn leaves<D: DigitStore>(alloc: Global, (start, calls, text, failed): Applied) -> bool {
-    let Ok(mut value) = Signed::<UnsignedOver<D>>::try_from_str(alloc, start) else {
-        return false;
-    };
-    let at = match apply_calls(alloc, &mut value, calls) {
-        Ok(()) => None,
-        Err(error) => failed_call(&error),
-    };
-    at == failed && prints(value, text)
-}
-
-#[test]
-fn calls_stop_at_an_error(rt: HostRuntime) {
-    for row in APPLIED {
-        let leaves = leaves::<DigitList>(rt.alloc(), *row) && leaves::<PackedDigits>(rt.alloc(), *row);
-        assert!(rt; leaves, "{}", row.0);
     }
 }
