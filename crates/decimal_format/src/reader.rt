@@ -10,8 +10,6 @@ ghost use Rattle.decimal_format.specs.Scanning.{ends_group, separator_if, separa
 mod codes;
 mod lenient;
 mod plain_text;
-#[cfg(test)]
-mod tests;
 
 use crate::grouping::GroupingSizes;
 use crate::symbols::DecimalSymbols;

@@ -6,7 +6,7 @@
 #![tactic(auto)]
 
 use decimal_format::{DecimalFormatter, DecimalSymbols, GroupingStrategy};
-use fixed_decimal::{Decimal, Writeable};
+use fixed_decimal::{Decimal, ParseError, Writeable};
 use locale_symbols::locale;
 use std::alloc::Global;
 use std::io;
@@ -39,7 +39,20 @@ fn writes(formatter: &DecimalFormatter<'_>, value: &Decimal, text: &str) -> bool
         && sink.has_all()
 }
 
-/// Whether a number has this text by the symbols of a locale.
+/// Whether both readers read a text as this value.
+fn reads_back(alloc: Global, symbols: &DecimalSymbols<'_>, value: &Decimal, text: &str) -> bool {
+    if !symbols.is_readable() {
+        return false;
+    }
+    let strict: Result<Decimal, ParseError> = symbols.read(alloc, text.as_bytes());
+    let lenient: Result<Decimal, ParseError> = symbols.read_lenient(alloc, text);
+    match (strict, lenient) {
+        (Ok(strict), Ok(lenient)) => strict == *value && lenient == *value,
+        _ => false,
+    }
+}
+
+/// Whether a number has this text by the symbols of a locale, and the text is read back.
 fn has_text(
     alloc: Global,
     symbols: DecimalSymbols<'_>,
@@ -49,7 +62,9 @@ fn has_text(
 ) -> bool {
     let formatter = DecimalFormatter::new(symbols, strategy);
     match Decimal::try_from_str(alloc, number) {
-        Ok(value) => writes(&formatter, &value, text),
+        Ok(value) => {
+            writes(&formatter, &value, text) && reads_back(alloc, formatter.symbols(), &value, text)
+        }
         Err(_) => false,
     }
 }
