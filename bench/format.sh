@@ -1,11 +1,12 @@
 #!/usr/bin/env bash
-# Times formatting for a locale beside ICU: `bench/format.sh`.
+# Times formatting and reading for a locale beside ICU: `bench/format.sh`.
 #
-# A row has a locale, a number, the nanoseconds of processor time here and in ICU, and the first over the second. Here a
-# text is parsed as a decimal, formatted and written into a sink in memory; the row without a locale writes the decimal's
-# own text. In ICU it is LocalizedNumberFormatter::formatDecimal of the text, and its text in UTF-8. The symbols and the
-# formatter are made before. Each figure is the least of nine batches of 20,000 calls; format/main.rt.txt and
-# format/icu.cpp are what is timed. The last table has ICU's time to read each text by unum_parseDecimal.
+# A row has a locale, a number, the nanoseconds of processor time here and in ICU, and the first over the second, for
+# `format` and for `read`. `format` here: a text is parsed as a decimal, formatted and written into a sink in memory; the
+# row without a locale writes the decimal's own text. In ICU it is LocalizedNumberFormatter::formatDecimal of the text,
+# and its text in UTF-8. `read` is DecimalSymbols::read of the formatted text, in ICU unum_parseDecimal of it in UTF-16.
+# The symbols and the formatter are made before. Each figure is the least of nine batches of 20,000 calls;
+# format/main.rt.txt and format/icu.cpp are what is timed.
 #
 # WORK, a folder outside the project, keeps the copy of the project that is built. Needs bash, the toolchain, python3, and
 #
@@ -36,12 +37,8 @@ python3 - "$work/ours.tsv" "$work/icu.tsv" <<'PYTHON'
 import sys
 ours, icu = ({tuple(row[:3]): int(row[3]) for row in (line.rstrip("\n").split("\t") for line in open(path))}
              for path in sys.argv[1:])
-print("| Locale | Number | here | ICU | ratio |\n|---|---|---|---|---|")
+print("| Call | Locale | Number | here | ICU | ratio |\n|---|---|---|---|---|---|")
 for (kind, tag, number), time in ours.items():
     beside = icu.get((kind, tag, number))
-    print(f"| {tag} | {number} | {time} | {beside or ''} | {f'{time / beside:.2f}' if beside else ''} |")
-print("\n| Locale | Number | ICU reads |\n|---|---|---|")
-for (kind, tag, number), time in icu.items():
-    if kind == "read":
-        print(f"| {tag} | {number} | {time} |")
+    print(f"| {kind} | {tag} | {number} | {time} | {beside or ''} | {f'{time / beside:.2f}' if beside else ''} |")
 PYTHON
