@@ -16,7 +16,8 @@ CALLERS = ["uses", "plural_rules", "decimal_format", "locale_symbols", "cli"]
 FOREIGN = set(
     """FloatPrecision DoublePrecision WithInfinity try_from_f64 ryu writeable write_to_string LengthHint FromStr ONE
     core non_exhaustive rustc release memcmp String rt ci fixdec TEXT CALL INC MODE D P S K N expand_nines compare_last
-    to_u64 puts double FormattedNumber select ghost rejected witness NAME CRATE FUNCTION CLAUSE LOG""".split()
+    to_u64 double FormattedNumber select write_bytes strtod unum_parseDecimal
+    LocalizedNumberFormatter formatDecimal ghost rejected witness NAME CRATE FUNCTION CLAUSE LOG""".split()
 )
 # Modules and functions that are public for the crates of this repository alone.
 INTERNAL = re.compile(r"/src/(?:rounding/|digits/packed/|decimal/parse/|reader/|laws|reading_laws|table|tag)")
