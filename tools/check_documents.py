@@ -137,7 +137,12 @@ def check_public():
 
 
 def check_code():
-    """Lines have their width, callers cite Calling alone, and README counts the definitions."""
+    """Lines have their width, callers cite Calling alone, nothing cites what is not in the repository, README counts the
+    definitions, and the tables of locales are what their script writes."""
+    for path in FILES:
+        if path != "LICENSE" and not path.startswith("tools/"):
+            found = [line.strip()[:80] for line in read(path).splitlines() if OUTSIDE.search(line)]
+            check(not found, f"{path}: this cites what is not in the repository: {found}")
     for path, text in CODE.items():
         long = [it[:60] for it in text.splitlines()
                 if len(it) > 120 and not re.match(r"\s*(?:pub )?(?:ghost )?use ", it)]
@@ -148,19 +153,7 @@ def check_code():
     specs = [text for path, text in CODE.items() if re.match(rf"crates/(?:{'|'.join(CRATES)})/specs/(?!Lib)", path)]
     counted = f"{sum(text.count(chr(10)) for text in specs):,} lines in {len(specs)} files"
     check(counted in read("README.md"), f"README.md: the definitions are {counted}")
-    check(read("README.md").count("\n") <= 130, "README.md has more than 130 lines")
-
-
-def check_alone():
-    """Nothing cites what is not in the repository."""
-    for path in FILES:
-        if path != "LICENSE" and not path.startswith("tools/"):
-            found = [line.strip()[:80] for line in read(path).splitlines() if OUTSIDE.search(line)]
-            check(not found, f"{path}: this cites what is not in the repository: {found}")
-
-
-def check_tables():
-    """The tables of locales are what their script writes."""
+    check(read("README.md").count("\n") <= 120, "README.md has more than 120 lines")
     made = subprocess.run([sys.executable, "tools/locales/make_tables.py", "--check"], capture_output=True, text=True)
     check(made.returncode == 0, made.stderr.strip())
 
@@ -183,9 +176,7 @@ def check_examples():
                         check(written == wanted, f"{document}: `{command}` writes {written!r}")
 
 
-PARTS = [check_names, check_links, check_quotes, check_proved, check_public, check_code, check_alone, check_tables,
-         check_examples]
-for part in PARTS:
+for part in [check_names, check_links, check_quotes, check_proved, check_public, check_code, check_examples]:
     part()
 print("\n".join([*failures, f"{passes} passed, {len(failures)} failed"]))
 sys.exit(1 if failures else 0)

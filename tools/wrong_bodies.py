@@ -14,13 +14,6 @@ LINE = re.compile(r"(?:rt: )?must-fail (\w+)/(\S+)\.edit: (.*)")
 REJECTED = re.compile(r"refused, as it must be(?: \(.*?\))?: (?:note: )?(?:\./)?(\S+?):(\d+):\d+: (.*)")
 
 
-def expected(path):
-    """The function and the clause of an edit."""
-    with open(path, encoding="utf-8") as file:
-        found = re.search(r"^# rejected: (.*) \| (.*)$", file.read(), re.M)
-    return (found[1], found[2]) if found else None
-
-
 def functions_at(crate, path, line):
     """The names of the functions that a place may belong to: in a proof its folder, in a source those around it."""
     if path.startswith("proofs/"):
@@ -35,16 +28,18 @@ def functions_at(crate, path, line):
 
 def fault_of(crate, path, message):
     """What is wrong with how an edit is rejected, or None."""
-    found, wanted = REJECTED.match(message), expected(path)
+    with open(path, encoding="utf-8") as file:
+        wanted = re.search(r"^# rejected: (.*) \| (.*)$", file.read(), re.M)
+    found = REJECTED.match(message)
     if not message.startswith("refused, as it must be"):
         return message
     if not wanted:
         return "there is no comment `# rejected:`"
     if not found:
         return None
-    name, clause = wanted[0].split("::")[-1], wanted[1].split(",")[0]
-    if name not in functions_at(crate, found[1], int(found[2])) and "/" not in wanted[0]:
-        return f"rejected in {found[1]}:{found[2]}, not in {wanted[0]}"
+    name, clause = wanted[1].split("::")[-1], wanted[2].split(",")[0]
+    if name not in functions_at(crate, found[1], int(found[2])) and "/" not in wanted[1]:
+        return f"rejected in {found[1]}:{found[2]}, not in {wanted[1]}"
     goal = re.search(r"-clause-(\w+)(`?)", found[3])
     if goal and not (clause == goal[1] or not goal[2] and clause.startswith(goal[1])):
         return f"rejected at `{goal[1]}`, not at `{clause}`"
