@@ -16,10 +16,9 @@ while [ $# -gt 0 ]; do
     shift 2
 done
 need_packages librust-smallvec-dev librust-rust-decimal-dev librust-bigdecimal-dev libicu-dev
-copy_project
-add_library decimal_times decimal_digits decimal_unsigned fixed_decimal plural_rules libc
+build decimal_times src/lib.rt "$here/library/" std decimal_digits decimal_unsigned fixed_decimal plural_rules libc
 copy_original
-export ICU_CALLS=$work/icu_calls MPDEC=$here/mpdec.py
+export LIBRARY=$work/decimal_times ICU_CALLS=$work/icu_calls MPDEC=$here/mpdec.py
 mkdir -p "$ICU_CALLS"
 cc -O2 -c -o "$ICU_CALLS/icu_calls.o" "$here/icu_calls.c"
 c++ -O2 -c -o "$ICU_CALLS/icu_plurals.o" "$here/icu_plurals.cc"

@@ -1,58 +1,16 @@
 # What diff/run.sh, diff/plants.sh and bench/run.sh share. Their first argument is the folder of the original.
-#
-# WORK, a folder outside the project, takes all that is made, and is used again by the next run. JOBS: how many jobs rt
-# takes, by default one a processor.
 
-die() { echo "$*" >&2; exit 2; }
-
-here=$(cd "$(dirname "$0")" && pwd)
-project=$(dirname "$here")
+. "$(dirname "${BASH_SOURCE[0]}")/build.sh"
 [ $# -gt 0 ] || die "usage: $0 ORIGINAL [OPTION].. (see README.md)"
 original=$(cd "$1" && pwd)
 shift
-work=${WORK:-${TMPDIR:-/tmp}/fixed_decimal-beside}
-mkdir -p "$work"
-work=$(cd "$work" && pwd)
 registry=/usr/share/cargo/registry
-jobs=${JOBS:-$(nproc)}
-export KIT_C=$(dirname "$(rt doc)")/c RUSTFLAGS=${RUSTFLAGS-"-C target-cpu=x86-64-v2"}
+export KIT_C=$kit/c RUSTFLAGS=${RUSTFLAGS-"-C target-cpu=x86-64-v2"}
 
 need_packages() {
     for package in "$@"; do
         dpkg -s "$package" >/dev/null 2>&1 || die "missing: apt-get install $*"
     done
-}
-
-# The project as it is committed or changed, with the proofs that `rt check`, `lib` and `run` kept in it, so that none is
-# made twice. `rt ci` keeps none: after it alone, the first run proves each library again, and WORK keeps that.
-copy_project() {
-    scratch=$work/project
-    mkdir -p "$scratch/crates"
-    find "$scratch" -regex "$scratch/crates/[^/]*/out" -prune -o -type f -exec rm {} +
-    (cd "$project" && git ls-files -z -- crates crates.txt HANDLES | tar cf - --null -T -) | tar xf - -C "$scratch"
-    for out in "$project"/crates/*/out; do
-        copy=$scratch/crates/$(basename "$(dirname "$out")")/out
-        # A stamp is a sum of what a library was built from: with the same one, the copy has the same proofs.
-        if [ -f "$out/rlib/stamp" ] && ! cmp -s "$out/rlib/stamp" "$copy/rlib/stamp"; then
-            rm -rf "$copy"
-            mkdir -p "$copy"
-            cp -r "$out/incremental" "$out/rlib" "$copy"
-        fi
-    done
-}
-
-# add_library NAME DEP..: a static library over the project, from the files library/*.rt.txt.
-add_library() {
-    name=$1
-    shift
-    echo "$name staticlib: $*" >>"$scratch/crates.txt"
-    mkdir -p "$scratch/crates/$name/src"
-    for file in "$here"/library/*.rt.txt; do
-        cp -p "$file" "$scratch/crates/$name/src/$(basename "$file" .txt)"
-    done
-    (cd "$scratch/crates/$name" && rt lib --jobs "$jobs") >"$work/$name.txt" 2>&1 ||
-        { tail -n 30 "$work/$name.txt" >&2; die "$name was not built"; }
-    export LIBRARY=$scratch/crates/$name/out
 }
 
 # The original, unchanged, with Debian's smallvec and stand-ins for two small crates.

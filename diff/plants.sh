@@ -8,8 +8,7 @@ set -euo pipefail
 . "$(dirname "$0")/common.sh"
 export RUSTFLAGS="$RUSTFLAGS -A warnings"
 seconds=${1:-8} threads=${2:-$(nproc)}
-scratch=$work/project
-export LIBRARY=$scratch/crates/decimal_calls/out
+export LIBRARY=$work/decimal_calls
 unnoticed=0
 
 # plant NAME OLD NEW [FILE]: in that file of rust/src, where OLD occurs once.
@@ -17,7 +16,7 @@ plant() {
     case $1 in *"${ONLY:-}"*) ;; *) return 0 ;; esac
     build_driver diff "$2" "$3" "${4:-reference.rs}"
     local found status=0
-    found=$("$work/target/release/diff" "$scratch/crates/fixdec/out/fixdec" "$seconds" "$threads" 1) || status=$?
+    found=$("$work/target/release/diff" "$work/fixdec/fixdec" "$seconds" "$threads" 1) || status=$?
     case "$status ${found##*, }" in
         "1 "*differences*) echo "noticed: $1: ${found##*, }" ;;
         *)

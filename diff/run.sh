@@ -17,10 +17,9 @@ while [ $# -gt 0 ]; do
     shift 2
 done
 need_packages librust-smallvec-dev
-copy_project
-(cd "$scratch/crates/fixdec" && rt run --jobs "$jobs" -- 250 shift:-2) >"$work/fixdec.txt" 2>&1 ||
-    { tail -n 30 "$work/fixdec.txt" >&2; die "fixdec was not built"; }
-add_library decimal_calls decimal_digits decimal_unsigned fixed_decimal
+build decimal_calls src/lib.rt "$here/library/" std decimal_digits decimal_unsigned fixed_decimal
+build fixdec src/main.rt "$project/crates/fixdec/src/" std cli
+export LIBRARY=$work/decimal_calls
 copy_original
 build_driver diff
-exec "$work/target/release/diff" "$scratch/crates/fixdec/out/fixdec" "$seconds" "$threads" "$seed"
+exec "$work/target/release/diff" "$work/fixdec/fixdec" "$seconds" "$threads" "$seed"
