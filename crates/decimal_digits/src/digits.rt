@@ -1,5 +1,5 @@
 //! Lists of decimal digits, most significant first, in any representation.
-ghost use Rattle.std.specs.Prelude.{◌≡◌, ℕ, ◌+◌, ◌-◌, ◌<◌, ◌≤◌, ◌≢◌, ◌↔◌, List, [], ◌∷◌, ◌++◌, length, take, drop, map, replicate, slice_set, slice_index, All, IsTrue, IsOk, IfOk, IfSome, IfNone, OnOk, OnErr};
+ghost use Rattle.std.specs.Prelude.{◌≡◌, ℕ, ◌+◌, ◌-◌, ◌%◌, ◌<◌, ◌≤◌, ◌≢◌, ◌↔◌, List, [], ◌∷◌, ◌++◌, length, take, drop, map, replicate, slice_set, slice_index, All, IsTrue, IsOk, IfOk, IfSome, IfNone, OnOk, OnErr};
 ghost use Rattle.std.specs.Char.{digit_value};
 ghost use Rattle.std.specs.Str.Parse.{AllDigits};
 ghost use Rattle.decimal_digits.specs.Digits.{text_of};
@@ -72,16 +72,21 @@ pub trait DigitStore: Drop {
         Ok(list)
     }
 
-    /// Returns the first sixteen digits as a packed BCD number of sixteen nibbles, with zeros after fewer digits.
+    /// Returns the sixteen digits from index `start` as a packed BCD number, with zeros after fewer digits.
     ///
-    /// Of 2 and 5 it is `0x2500_0000_0000_0000`.
-    fn leading_bcd(&self) -> u64
-        ensures { result ≡ bcd_number (digits self.now) }
+    /// Of 2 and 5 it is `0x2500_0000_0000_0000` from index 0, and 0 from index 16. Requires a multiple of 16.
+    fn bcd_at(&self, start: usize) -> u64
+        requires { start % 16 ≡ 0 }
+        ensures { result ≡ bcd_number (drop start (digits self.now)) }
     {
-        let len = self.len();
+        let left = self.len().saturating_sub(start);
         let mut number = 0;
         for index in 0..16 {
-            let digit = if index < len { self.get(index) } else { 0 };
+            let digit = if index < left {
+                self.get(start + index)
+            } else {
+                0
+            };
             number = number * 16 + u64::from(digit);
         }
         number

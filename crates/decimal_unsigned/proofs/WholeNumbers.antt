@@ -1,6 +1,8 @@
 -- The integer that the digits of a value write.
-use Rattle.decimal_unsigned.proofs.Common.{clamps, common_steps, zero, suc, ◌≡◌, ℕ, ◌+◌, ◌-◌, ◌*◌, ◌/◌, ◌%◌, ◌^◌, ◌<◌, ◌≤◌, List, length, get_or, take, refl, sym, ◌∙◌, ap, arith, Ok, Err, ℤ, pos, ◌+ℤ◌, ◌<ℤ◌, nat_tests, mul-mod_left, pow-le-pow_right, ints, length-take, length-take-le, take_all, recursion_from_All, number_from_digits, AllBelowBase, offset, weight, leading, offset_is, ten_pos, below_take, no_more_zeros, IsStored, Unsigned, IsValue, Result, All, number_back, below_sixteen, leading_none}
+use Rattle.decimal_unsigned.proofs.Common.{clamps, common_steps, zero, suc, ◌≡◌, ℕ, ◌+◌, ◌-◌, ◌*◌, ◌/◌, ◌%◌, ◌^◌, ◌<◌, ◌≤◌, List, length, get_or, take, drop, refl, sym, ◌∙◌, ap, arith, Ok, Err, ℤ, pos, ◌+ℤ◌, ◌<ℤ◌, nat_tests, mul-mod_left, pow-le-pow_right, ints, length-take, length-take-le, take_all, recursion_from_All, number_from_digits, AllBelowBase, offset, weight, leading, offset_is, ten_pos, below_take, no_more_zeros, IsStored, Unsigned, IsValue, Result, All, number_back, below_sixteen, leading_none}
 use Rattle.std.proofs.Math.Nat.{mul-div_cancel}
+use Rattle.std.proofs.lemmas.Nat.{pow-add}
+use Rattle.std.proofs.lemmas.List.{get_or-drop}
 use Rattle.std.proofs.lemmas.Int.Digits.{number_more as number_more_digits}
 use Rattle.decimal_digits.specs.Nibbles.{bcd_number}
 use Rattle.decimal_digits.specs.Digits.{number_of, number_at}
@@ -50,6 +52,24 @@ leading_lt i ds h = grind (
   length-take,
 )
 
+-- the first i + j digits are the first i and the j after them
+pub leading_split : (i j : ℕ) (ds : List ℕ) → leading (i + j) ds ≡ leading i ds * 10 ^ j + leading j (drop i ds)
+leading_split i zero ds =
+    let e : i + 0 ≡ i = omega arith in
+    rw e (omega (arith, leading_none 0 (drop i ds) refl))
+leading_split i (suc j) ds =
+    let e : i + suc j ≡ i + j + 1 = omega arith in
+    let f : suc j ≡ j + 1 = omega arith in
+    rw (e, f)
+    (omega (
+      arith,
+      leading_next (i + j) ds,
+      leading_next j (drop i ds),
+      leading_split i j ds,
+      get_or-drop i ds j 0,
+      ap (λ p. leading i ds * p) (pow-add 10 j 1),
+    ))
+
 -- the first 39 digits are the first 38 and one more
 pub leading_39 : (ds : List ℕ) → leading 39 ds ≡ leading 38 ds * 10 + get_or ds 38 0
 leading_39 = leading_next 38
@@ -59,11 +79,7 @@ few_digits : (i top : ℕ) (ds : List ℕ) → All (λ d. d < 10) ds → i ≤ t
 few_digits i top ds h l =
     let p = leading_lt i ds h in grind (arith, pow-le-pow_right)
 
--- 18 digits fit 64 bits with one more
-pub leading_u64 : (i : ℕ) (ds : List ℕ) → All (λ d. d < 10) ds → i ≤ 18 → leading i ds < 10 ^ 18
-leading_u64 i = few_digits i 18
-
--- and 37 digits fit 128 bits
+-- 37 digits fit 128 bits with one more
 pub leading_u128 : (i : ℕ) (ds : List ℕ) → All (λ d. d < 10) ds → i ≤ 37 → leading i ds < 10 ^ 37
 leading_u128 i = few_digits i 37
 
@@ -163,7 +179,15 @@ module _ (ds : List ℕ) (h : All (λ d. d < 10) ds) where
       (omega (arith, length-take-le count all (omega (arith, sixteen_are ds h)))) (e ∙ shifted_front count l)
       ∙ front_leading count l
 
--- the lemmas for converting the leading digits to an integer
-pub ruleset to_u64 = (leading_next, leading_u64)
+  -- seventeen to nineteen digits write the number of the first sixteen and of the others
+  pub more_leading : (count front unit rest : ℕ) → 16 ≤ count → count ≤ 19 → front ≡ leading 16 ds
+      → unit ≡ 10 ^ (count - 16) → rest ≡ leading (count - 16) (drop 16 ds)
+      → (front * unit + rest ≡ leading count ds) × (front * unit + rest < 10 ^ 19)
+  more_leading count front unit rest some few e u f =
+      let at : 16 + (count - 16) ≡ count = omega arith in
+      let split = rw at at (leading_split 16 (count - 16) ds) in
+      let same : front * unit + rest ≡ leading count ds = rw (e, u, f) (sym split) in
+      (same, rw same (few_digits count 19 ds h few))
 
+-- the lemmas for converting the leading digits to an integer
 pub ruleset to_u128 = (leading_next, leading_u128)

@@ -11,7 +11,7 @@ use super::DigitStore;
 use bulk::{append_text, count_trailing_nibbles, write_text};
 use bytes::{
     append_digits, append_zeros, are_equal, copy_bytes, cut_digits, drop_unused, keep_digits,
-    leading_word, pack_digits, push_digit, reserve_digits, set_digit, truncate_spilled,
+    pack_digits, push_digit, reserve_digits, set_digit, truncate_spilled, word_at,
 };
 use nibbles::byte_count;
 pub(super) use nibbles::nibble_at;
@@ -95,8 +95,8 @@ impl DigitStore for PackedDigits {
     }
 
     #[inline]
-    fn leading_bcd(&self) -> u64 {
-        leading_word(&self.bytes, self.len)
+    fn bcd_at(&self, start: usize) -> u64 {
+        word_at(self.bytes.as_slice(), self.len, start)
     }
 
     #[inline]
@@ -190,7 +190,7 @@ impl DigitStore for PackedDigits {
             return false;
         }
         if self.len <= 16 {
-            return self.leading_bcd() == other.leading_bcd();
+            return self.bcd_at(0) == other.bcd_at(0);
         }
         are_equal(self.front(), other.front())
     }

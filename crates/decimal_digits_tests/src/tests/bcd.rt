@@ -1,43 +1,68 @@
 //! Digits as packed BCD, over each store.
 use super::*;
 
-/// The digits of a text, and the number whose sixteen nibbles are the first digits.
-const LEADING: &[(&[u8], u64)] = &[
-    (b"", 0),
-    (b"2", 0x2000_0000_0000_0000),
-    (b"25", 0x2500_0000_0000_0000),
-    (b"250", 0x2500_0000_0000_0000),
-    (b"025", 0x0250_0000_0000_0000),
-    (b"12345", 0x1234_5000_0000_0000),
-    (b"1234567", 0x1234_5670_0000_0000),
-    (b"12345678", 0x1234_5678_0000_0000),
-    (b"123456789", 0x1234_5678_9000_0000),
-    (b"12345678901", 0x1234_5678_9010_0000),
-    (b"1234567890123", 0x1234_5678_9012_3000),
-    (b"123456789012345", 0x1234_5678_9012_3450),
-    (b"1234567890123456", 0x1234_5678_9012_3456),
-    (b"9999999999999999", 0x9999_9999_9999_9999),
-    (b"12345678901234567", 0x1234_5678_9012_3456),
+/// The digits of a text, and the numbers whose sixteen nibbles are the first digits, and the digits from index 16.
+const NUMBERS: &[(&[u8], u64, u64)] = &[
+    (b"", 0, 0),
+    (b"2", 0x2000_0000_0000_0000, 0),
+    (b"25", 0x2500_0000_0000_0000, 0),
+    (b"250", 0x2500_0000_0000_0000, 0),
+    (b"025", 0x0250_0000_0000_0000, 0),
+    (b"12345", 0x1234_5000_0000_0000, 0),
+    (b"1234567", 0x1234_5670_0000_0000, 0),
+    (b"12345678", 0x1234_5678_0000_0000, 0),
+    (b"123456789", 0x1234_5678_9000_0000, 0),
+    (b"12345678901", 0x1234_5678_9010_0000, 0),
+    (b"1234567890123", 0x1234_5678_9012_3000, 0),
+    (b"123456789012345", 0x1234_5678_9012_3450, 0),
+    (b"1234567890123456", 0x1234_5678_9012_3456, 0),
+    (b"9999999999999999", 0x9999_9999_9999_9999, 0),
+    (
+        b"12345678901234567",
+        0x1234_5678_9012_3456,
+        0x7000_0000_0000_0000,
+    ),
+    (
+        b"123456789012345678",
+        0x1234_5678_9012_3456,
+        0x7800_0000_0000_0000,
+    ),
+    (
+        b"1234567890123456789012345678901",
+        0x1234_5678_9012_3456,
+        0x7890_1234_5678_9010,
+    ),
+    (
+        b"12345678901234567890123456789012",
+        0x1234_5678_9012_3456,
+        0x7890_1234_5678_9012,
+    ),
     (
         b"12345678901234567890123456789012345",
         0x1234_5678_9012_3456,
+        0x7890_1234_5678_9012,
     ),
-    (b"00000000000000000", 0),
-    (b"00000000000000009", 0),
+    (b"00000000000000000", 0, 0),
+    (b"00000000000000009", 0, 0x9000_0000_0000_0000),
 ];
 
-/// Whether the first digits of a text are the nibbles of this number.
-fn has_leading<D: DigitStore>(alloc: Global, text: &[u8], number: u64) -> Result<bool, AllocError> {
+/// Whether the digits of a text are the nibbles of these numbers.
+fn has_numbers<D: DigitStore>(
+    alloc: Global,
+    text: &[u8],
+    first: u64,
+    second: u64,
+) -> Result<bool, AllocError> {
     let list: D = list_of(alloc, text)?;
-    Ok(list.leading_bcd() == number)
+    Ok(list.bcd_at(0) == first && list.bcd_at(16) == second && list.bcd_at(48) == 0)
 }
 
 #[test]
 fn converts_to_bcd(rt: HostRuntime) -> Result<(), Fail> {
-    for (text, number) in LEADING {
+    for (text, first, second) in NUMBERS {
         assert!(rt;
-            has_leading::<PackedDigits>(rt.alloc(), text, *number)?
-                && has_leading::<DigitList>(rt.alloc(), text, *number)?,
+            has_numbers::<PackedDigits>(rt.alloc(), text, *first, *second)?
+                && has_numbers::<DigitList>(rt.alloc(), text, *first, *second)?,
             "{} digits",
             text.len()
         );

@@ -56,11 +56,7 @@ fn nibbles(text: &[u8]) -> u64 {
 
 /// Whether a list has the digits of a text and its bytes, and equals the list of these digits that was never changed.
 fn is_text<D: DigitStore>(list: &D, alloc: Global, text: &[u8]) -> Result<bool, AllocError> {
-    Ok(
-        has_digits(list, text)
-            && list.leading_bcd() == nibbles(text)
-            && equals_text(list, alloc, text)?,
-    )
+    Ok(has_digits(list, text) && list.bcd_at(0) == nibbles(text) && equals_text(list, alloc, text)?)
 }
 
 /// Whether changes of a text's list make another text's list.

@@ -27,11 +27,14 @@ fn compare_digits<D: DigitStore, E: DigitStore>(digits: &D, other: &E) -> Orderi
     requires other_stripped { IsStripped (E.digits other.now) }
     ensures { result ≡ slice_cmp nat_cmp (D.digits digits.now) (E.digits other.now) }
 {
-    let front = digits.leading_bcd();
-    let other_front = other.leading_bcd();
+    let front = digits.bcd_at(0);
+    let other_front = other.bcd_at(0);
     let longest = digits.len().max(other.len());
     if front != other_front || longest <= 16 {
         return front.cmp(&other_front);
+    }
+    if longest <= 32 {
+        return digits.bcd_at(16).cmp(&other.bcd_at(16));
     }
     if let (Some(bytes), Some(other_bytes)) = (digits.as_bcd(), other.as_bcd()) {
         return compare_bytes(bytes, other_bytes);

@@ -36,23 +36,34 @@ fn number_of_bcd(number: u64) -> u64
     eights - (4_294_967_296 - 100_000_000) * (eights >> 32)
 }
 
+/// Returns 10^exponent.
+#[inline]
+fn power_of_ten(exponent: usize) -> u64
+    requires { exponent ≤ 3 }
+    ensures { result ≡ 10 ^ exponent }
+{
+    match exponent {
+        0 => 1,
+        1 => 10,
+        2 => 100,
+        _ => 1000,
+    }
+}
+
 /// Returns the number of the first `count` digits, where zeros follow the list. 64 bits have room for 19 digits.
 #[inline]
-#[tactic(auto, using(crate::proofs::WholeNumbers::to_u64), unfolding(decimal_digits::specs::Digits::number_at))]
+#[tactic(auto, unfolding(decimal_digits::specs::Digits::number_at))]
 fn leading_u64<D: DigitStore>(digits: &D, count: usize) -> u64
     requires some { 0 < count }
     requires fits { count ≤ 19 }
     ensures { result ≡ leading count (D.digits digits.now) }
 {
-    let front = digits.leading_bcd();
+    let front = digits.bcd_at(0);
     if count <= 16 {
         return number_of_bcd(front >> (4 * (16 - count)));
     }
-    let mut number = number_of_bcd(front);
-    for index in 16..count {
-        number = number * 10 + digit_or_zero(digits, index) as u64;
-    }
-    number
+    let rest = number_of_bcd(digits.bcd_at(16) >> (4 * (32 - count)));
+    number_of_bcd(front) * power_of_ten(count - 16) + rest
 }
 
 /// Returns the number of the first `count` digits, where zeros follow the list. 128 bits have room for 38 digits.

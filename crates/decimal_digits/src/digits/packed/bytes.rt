@@ -1,7 +1,7 @@
 //! Packed BCD: lists of digits in bytes, two digits to a byte.
 #![tactic(auto, using(crate::proofs::Nibbles::nibble_rules))]
 
-ghost use Rattle.std.specs.Prelude.{◌≡◌, ℕ, ◌+◌, ◌-◌, ◌*◌, ◌^◌, ◌<◌, ◌≤◌, ◌↔◌, [], ◌∷◌, ◌++◌, length, take, drop, replicate, slice_set, All, IsTrue, IsOk, IfOk, IfSome, OnOk};
+ghost use Rattle.std.specs.Prelude.{◌≡◌, ℕ, ◌+◌, ◌-◌, ◌*◌, ◌%◌, ◌^◌, ◌<◌, ◌≤◌, ◌↔◌, [], ◌∷◌, ◌++◌, length, take, drop, replicate, slice_set, All, IsTrue, IsOk, IfOk, IfSome, OnOk};
 ghost use Rattle.std.specs.Int.Digits.{number_from_digits};
 ghost use Rattle.smallvec.specs.SmallVec.{small_vec_len};
 ghost use Rattle.decimal_digits.specs.Nibbles.{digits_in, bcd_number, IsPacked};
@@ -144,25 +144,72 @@ fn word(bytes: &[u8]) -> u64
     }
 }
 
-/// Returns the first sixteen digits as a packed BCD number, with zeros after fewer digits.
+/// Returns the first sixteen of `len` digits as a packed BCD number, with zeros after fewer digits.
 #[inline]
-pub(super) fn leading_word(bytes: &SmallVec<u8, 8>, len: usize) -> u64
-    requires { IsPackedPrefix bytes.now.items len }
-    ensures { result ≡ bcd_number (digits_in bytes.now.items len) }
+fn front_word(bytes: &[u8], len: usize) -> u64
+    requires { IsPackedPrefix bytes.now len }
+    ensures { result ≡ bcd_number (digits_in bytes.now len) }
 {
-    let items = bytes.as_slice();
-    match items.first_chunk::<8>() {
+    match bytes.first_chunk::<8>() {
         Some(front) if len > 0 => {
             // Clears the nibbles after the digits, which are unspecified.
             let unused = 4 * (16 - len.min(16));
             u64::from_be_bytes(*front) >> unused << unused
         }
-        _ => word(&items[..byte_count(len)]),
+        _ => word(&bytes[..byte_count(len)]),
     }
+}
+
+/// Returns the big-endian number of the last `count` of at least eight bytes, with zero bytes after them up to the
+/// eighth.
+#[inline]
+fn end_word(bytes: &[u8], count: usize) -> u64
+    requires enough { 8 ≤ length bytes.now }
+    requires few { count ≤ 8 }
+    requires some { 0 < count }
+    ensures { result ≡ number_from_digits 256 (drop (length bytes.now - count) bytes.now ++ replicate (8 - count) 0) }
+{
+    match bytes.last_chunk::<8>() {
+        // The bytes before the last `count` are shifted out.
+        Some(end) => u64::from_be_bytes(*end) << (8 * (8 - count)),
+        None => 0,
+    }
+}
+
+/// Returns the sixteen digits from index `start` as a packed BCD number, with zeros after fewer digits.
+#[inline]
+pub(super) fn word_at(bytes: &[u8], len: usize, start: usize) -> u64
+    requires packed_prefix { IsPackedPrefix bytes.now len }
+    requires block { start % 16 ≡ 0 }
+    ensures { result ≡ bcd_number (drop start (digits_in bytes.now len)) }
+{
+    if start == 0 {
+        return front_word(bytes, len);
+    }
+    if len <= start {
+        return 0;
+    }
+    let rest = &bytes[start / 2..];
+    if rest.len() < 8 {
+        return end_word(bytes, rest.len());
+    }
+    front_word(rest, len - start)
 }
 
 /// The greatest number of bytes that are compared without a call: those of 48 digits.
 const MAX_INLINE_COMPARE: usize = 24;
+
+/// Returns whether the last eight bytes of two lists are equal, or, if either is shorter, all bytes are.
+#[inline]
+fn have_equal_ends(left: &[u8], right: &[u8]) -> bool
+    requires { length left.now ≡ length right.now }
+    ensures { IsTrue result ↔ (drop (length left.now - 8) left.now ≡ drop (length left.now - 8) right.now) }
+{
+    match (left.last_chunk::<8>(), right.last_chunk::<8>()) {
+        (Some(end), Some(other_end)) => end == other_end,
+        _ => left == right,
+    }
+}
 
 /// Returns whether two lists of bytes are equal.
 #[inline]
@@ -172,21 +219,22 @@ pub(super) fn are_equal(left: &[u8], right: &[u8]) -> bool
     if left.len() != right.len() {
         return false;
     }
-    if left.len() < 4 || left.len() > MAX_INLINE_COMPARE {
+    if left.len() > MAX_INLINE_COMPARE {
         return left == right;
     }
-    let (mut left, mut right) = (left, right);
-    while let (Some((first, left_rest)), Some((second, right_rest))) = (
-        left.split_first_chunk::<4>(),
-        right.split_first_chunk::<4>(),
+    let (mut left_rest, mut right_rest) = (left, right);
+    while let (Some((first, left_others)), Some((second, right_others))) = (
+        left_rest.split_first_chunk::<8>(),
+        right_rest.split_first_chunk::<8>(),
     ) {
         if first != second {
             return false;
         }
-        left = left_rest;
-        right = right_rest;
+        left_rest = left_others;
+        right_rest = right_others;
     }
-    left == right
+    // The last eight bytes overlap those that were compared.
+    have_equal_ends(left, right)
 }
 
 /// Keeps the first `count` bytes, or all of them if there are at most eight: those after `count` are then unspecified.

@@ -15,9 +15,9 @@ returns-then-self-le16 c =
     let right = c.args.other.now in
     let n = length_packed _ _ left.packed_prefix in
     let m = length_packed _ _ right.packed_prefix in
-    let w = c.leading_bcd.ensures in
-    let v = c.leading_bcd-then-self-le16.ensures in
-    let tells = Decides-eqb c.leading_bcd.result c.leading_bcd-then-self-le16.result in (
+    let w = c.bcd_at.ensures in
+    let v = c.bcd_at-then-self-le16.ensures in
+    let tells = Decides-eqb c.bcd_at.result c.bcd_at-then-self-le16.result in (
       λ t. same_number _ _ left.packed_prefix.decimal right.packed_prefix.decimal (n ∙ c.if-self-other.false ∙ sym m)
           (omega arith) (sym w ∙ tells.0 t ∙ v),
       λ e. tells.1 (w ∙ ap bcd_number e ∙ sym v),

@@ -1,6 +1,0 @@
-use Rattle.decimal_unsigned.proofs.Common.{◌≡◌, leading}
-use Rattle.decimal_unsigned.proofs.decimal.to_integer.leading_u64.Given as goal
-
--- the digits before the index are read
-abbrev pub invariant-loop-index : goal.invariant-loop-index
-invariant-loop-index g l = l.number ≡ leading l.index (g.D.DigitStore.digits l.digits)
