@@ -1,6 +1,7 @@
 -- Texts of digits.
-use Rattle.std.proofs.Common.{◌≡◌, ◌≢◌, ℕ, ◌<◌, Bool, true, false, List, [], ◌∷◌, ◌++◌, length, refl, sym, ◌∙◌, ap, arith, append_assoc}
+use Rattle.std.proofs.Common.{◌≡◌, ◌≢◌, ℕ, ◌<◌, Bool, true, false, inl, inr, List, [], ◌∷◌, ◌++◌, length, refl, sym, ◌∙◌, ap, arith, append_assoc}
 use Rattle.std.specs.Int.Digits.{AllBelowBase}
+use Rattle.std.proofs.lemmas.Bool.{cases_eq}
 use Rattle.std.proofs.lemmas.List.{append_cancel_left}
 use Rattle.decimal_format.specs.Symbols.{Symbols, digit_text}
 use Rattle.decimal_format.specs.Readable.{IsReadable}
@@ -97,3 +98,18 @@ module _ (s : Symbols) (readable : IsReadable s) where
       (λ r. digits_not_grouping f ds t r p.1 a) (λ r. digits_not_grouping g es u r q.1 b) first.1 in
       let more = integer-unique f g ds es t u p.1 q.1 a b rest.1 in
       ((λ i. first.0 i ∷ more.0 i), more.1)
+
+  -- the separators of the same digits are in the same places
+  pub separators-unique : (f g : ℕ → Bool) (ds t u : List ℕ) → AllBelowBase 10 ds → EndsInteger s t → EndsInteger s u
+      → digits_text s f ds ++ t ≡ digits_text s g ds ++ u → (m : ℕ) → m < length ds → f m ≡ g m
+  separators-unique f g [] t u p a b e m inside = absurd (omega (arith, inside))
+  separators-unique f g (x ∷ ds) t u p a b e m inside =
+      let first = append_cancel_left (digit_text s x) (separator_if s (f (length ds)) ++ (digits_text s f ds ++ t))
+      (separator_if s (g (length ds)) ++ (digits_text s g ds ++ u))
+      (sym (digits_text-first s f x ds t) ∙ e ∙ digits_text-first s g x ds u) in
+      let rest = same_separator (f (length ds)) (g (length ds)) (digits_text s f ds ++ t) (digits_text s g ds ++ u)
+      (λ r. digits_not_grouping f ds t r p.1 a) (λ r. digits_not_grouping g ds u r p.1 b) first in
+      elim (cases_eq m (length ds)) [
+        | inl q ↦ ap f q ∙ rest.0 ∙ ap g (sym q)
+        | inr q ↦ separators-unique f g ds t u p.1 a b rest.1 m (omega (arith, inside, q))
+      ]

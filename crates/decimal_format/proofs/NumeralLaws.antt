@@ -1,9 +1,10 @@
 -- A text is that of one numeral, and of one decimal.
-use Rattle.std.proofs.Common.{◌≡◌, ℕ, ◌<◌, ◌≤◌, inl, inr, false, List, [], ◌∷◌, ◌++◌, length, refl, sym, ◌∙◌, ap, subst, arith, append-nil}
-use Rattle.std.specs.Prelude.{Result, Ok, IsOkAnd}
+use Rattle.std.proofs.Common.{◌≡◌, ℕ, ◌-◌, ◌<◌, ◌≤◌, inl, inr, Bool, true, false, ◌&&◌, List, [], ◌∷◌, ◌++◌, length, refl, sym, ◌∙◌, ap, subst, arith, append-nil}
+use Rattle.std.specs.Prelude.{Result, Ok, Err, IfOk, IsOkAnd, MatchResult, ◌↔◌, pos}
 use Rattle.std.specs.Int.Digits.{AllBelowBase}
 use Rattle.std.proofs.lemmas.Bool.{cases_lt}
 use Rattle.std.proofs.lemmas.List.{append_cancel_left, append_cancel_right}
+use Rattle.decimal_digits.specs.Number.{size}
 use Rattle.decimal_unsigned.specs.declared.error.ParseError.{ParseError}
 use Rattle.decimal_unsigned.specs.declared.error.ParseError.TheVariants.{Limit, Syntax, Memory}
 use Rattle.decimal_unsigned.specs.ParseResult.{ParseFails}
@@ -14,15 +15,18 @@ use Rattle.fixed_decimal.specs.declared.variations.Sign.{Sign}
 use Rattle.fixed_decimal.specs.declared.variations.Sign.TheVariants as sign
 use Rattle.fixed_decimal.proofs.Calling.{read_text}
 use Rattle.decimal_format.specs.declared.grouping.GroupingStrategy.{GroupingStrategy}
-use Rattle.decimal_format.specs.Symbols.{Symbols, sign_affixes}
+use Rattle.decimal_format.specs.declared.grouping.GroupingStrategy.TheVariants.{Never}
+use Rattle.decimal_format.specs.Symbols.{Symbols, Affixes, sign_affixes}
 use Rattle.decimal_format.specs.Formatted.{formatted}
+use Rattle.decimal_format.specs.Grouping.{is_grouped}
 use Rattle.decimal_format.specs.Readable.{IsReadable}
-use Rattle.decimal_format.specs.Reading.{Numeral, IsNumeral, IsBeyondLimits, IsWritten, digits_text, fraction_text, absolute_numeral_text, separated_by}
-use Rattle.decimal_format.specs.Scanning.{BeginsWithDigit, plain_text}
+use Rattle.decimal_format.specs.Reading.{Numeral, AreDigits, IsNumeral, IsBeyondLimits, IsWritten, NeedsMemory, digits_text, fraction_text, absolute_numeral_text, numeral_text, separated_by}
+use Rattle.decimal_format.specs.Lenient.{ends_group, separated_at, normalized, IsLenientNumeral, IsLenientlyWritten, IsTyped}
+use Rattle.decimal_format.specs.Scanning.{BeginsWithDigit, may_separate, IsUniform, plain_text, IsValueOf}
 use Rattle.decimal_format.proofs.Codes.{digit_not_minus, digit_not_plus, plus_not_minus, none_not_decimal}
-use Rattle.decimal_format.proofs.DigitTexts.{nil_ends, fraction_ends, integer-unique}
+use Rattle.decimal_format.proofs.DigitTexts.{digits_text-cong, nil_ends, fraction_ends, integer-unique, separators-unique}
 use Rattle.decimal_format.proofs.NumeralTexts.{HasDigits, formatted-digits, text-digits, digits_of_value, value_of_digits}
-use Rattle.decimal_format.proofs.Scans.{number_begins, begins-append}
+use Rattle.decimal_format.proofs.Scans.{number_begins, begins-append, and_false, strategy_is, strategy_if, strategy_separates}
 
 module _ (s : Symbols) (readable : IsReadable s) where
   -- a number after the prefix of one sign is not one after that of another
@@ -54,25 +58,78 @@ module _ (s : Symbols) (readable : IsReadable s) where
       (nil_ends s readable)
       (append-nil a ∙ append_cancel_left s.decimal a b e ∙ sym (append-nil b))).0
 
-  -- a text is that of one numeral
-  pub numeral-unique : (bytes : List ℕ) (w u : Numeral) → IsNumeral s bytes w → IsNumeral s bytes u → w ≡ u
-  numeral-unique bytes w u p q =
-      let f = separated_by s p.strategy (length w.whole) in
-      let g = separated_by s q.strategy (length u.whole) in
+  -- a text is that of one numeral, wherever its separators are
+  text-unique : (f g : ℕ → Bool) (bytes : List ℕ) (w u : Numeral) → AreDigits w → AreDigits u
+      → bytes ≡ numeral_text s f w → bytes ≡ numeral_text s g u → w ≡ u
+  text-unique f g bytes w u p q e h =
       let a = absolute_numeral_text s f w in
       let b = absolute_numeral_text s g u in
       let x = (sign_affixes s w.sign).suffix in
       let y = (sign_affixes s u.sign).suffix in
-      let signs = sign-unique w.sign u.sign (a ++ x) (b ++ y) (begins-append s a x (number_begins s f w p.digits))
-      (begins-append s b y (number_begins s g u q.digits)) (sym p.text ∙ q.text) in
+      let signs = sign-unique w.sign u.sign (a ++ x) (b ++ y) (begins-append s a x (number_begins s f w p))
+      (begins-append s b y (number_begins s g u q)) (sym e ∙ h) in
       let numbers : a ≡ b =
       append_cancel_right a b x (signs.1 ∙ ap (λ z. b ++ (sign_affixes s z).suffix) (sym signs.0)) in
       let wholes = integer-unique s readable f g w.whole u.whole (fraction_text s w.fraction) (fraction_text s
       u.fraction)
-      p.digits.whole q.digits.whole (fraction_ends s readable w.fraction) (fraction_ends s readable u.fraction)
+      p.whole q.whole (fraction_ends s readable w.fraction) (fraction_ends s readable u.fraction)
       numbers in
-      let fractions = fraction-unique w.fraction u.fraction p.digits.fraction q.digits.fraction wholes.1 in
+      let fractions = fraction-unique w.fraction u.fraction p.fraction q.fraction wholes.1 in
       λ i. record { sign = signs.0 i; whole = wholes.0 i; fraction = fractions i }
+
+  pub numeral-unique : (bytes : List ℕ) (w u : Numeral) → IsNumeral s bytes w → IsNumeral s bytes u → w ≡ u
+  numeral-unique bytes w u p q =
+      text-unique (separated_by s p.strategy (length w.whole)) (separated_by s q.strategy (length u.whole)) bytes w u
+      p.digits q.digits p.text q.text
+
+  pub lenient-unique : (bytes : List ℕ) (w u : Numeral) → IsLenientNumeral s bytes w → IsLenientNumeral s bytes u
+      → w ≡ u
+  lenient-unique bytes w u p q =
+      text-unique (separated_at s p.chosen) (separated_at s q.chosen) bytes w u
+      p.digits q.digits p.text q.text
+
+  -- a strategy chooses all ends of groups, or none
+  pub numeral_if_uniform : (bytes : List ℕ) (w : Numeral) (chosen : ℕ → Bool) → AreDigits w
+      → bytes ≡ numeral_text s (separated_at s chosen) w
+      → IsUniform (may_separate s true) chosen (length w.whole) ↔ IsNumeral s bytes w
+  numeral_if_uniform bytes w chosen digits e = (
+    λ uniform. record {
+      digits = digits;
+      strategy = strategy_if uniform.0;
+      text = e ∙ ap (λ l. affixes.prefix ++ ((l ++ fraction) ++ affixes.suffix))
+          (digits_text-cong s f (separated_by s (strategy_if uniform.0) (length w.whole)) w.whole
+          (λ m inside. uniform.1 m inside ∙ strategy_separates s uniform.0 (length w.whole) m inside));
+    },
+    λ numeral.
+        let g = separated_by s numeral.strategy (length w.whole) in
+        let middle = append_cancel_left affixes.prefix (absolute_numeral_text s f w ++ affixes.suffix)
+        (absolute_numeral_text s g w ++ affixes.suffix) (sym e ∙ numeral.text) in
+        let same = append_cancel_right (absolute_numeral_text s f w) (absolute_numeral_text s g w) affixes.suffix
+        middle in (
+          is_grouped numeral.strategy s.sizes (pos (length w.whole - 1)),
+          λ m inside. separators-unique s readable f g w.whole fraction fraction digits.whole
+              (fraction_ends s readable w.fraction) (fraction_ends s readable w.fraction) same m inside
+              ∙ strategy_is s numeral.strategy (length w.whole) m,
+        ),
+  )
+    where
+      f : ℕ → Bool
+      f = separated_at s chosen
+
+      affixes : Affixes
+      affixes = sign_affixes s w.sign
+
+      fraction : List ℕ
+      fraction = fraction_text s w.fraction
+
+-- a text by some strategy has separators at ends of groups, all of them or none
+pub numeral_is_lenient : (s : Symbols) (bytes : List ℕ) (w : Numeral) → IsNumeral s bytes w
+    → IsLenientNumeral s bytes w
+numeral_is_lenient s bytes w numeral = record {
+  digits = numeral.digits;
+  chosen = λ _. is_grouped numeral.strategy s.sizes (pos (length w.whole - 1));
+  text = numeral.text ∙ (λ i. numeral_text s (λ m. strategy_is s numeral.strategy (length w.whole) m i) w);
+}
 
 -- the text of a value is that of its digits
 pub record IsTextOf (s : Symbols) (bytes : List ℕ) (v : Decimal) : Type 0 where
@@ -104,71 +161,34 @@ same_value v u w p q a b =
     let signs : v.sign ≡ u.sign = a.sign ∙ sym b.sign in
     λ i. record { sign = signs i; absolute = absolute i }
 
--- with readable symbols two values have different texts
-pub texts_are_unique : (s : Symbols) (g h : GroupingStrategy) (v u : Decimal) → IsReadable s → IsValue v.absolute
-    → IsValue u.absolute → formatted s g v ≡ formatted s h u → v ≡ u
-texts_are_unique s g h v u readable p q e =
-    let a = written_digits s (formatted s g v) v p (g, refl) in
-    let b = written_digits s (formatted s g v) u q (h, e) in
-    let same = numeral-unique s readable (formatted s g v) a.numeral b.numeral a.is b.is in
-    same_value v u b.numeral p q (subst (HasDigits v) same a.has) b.has
+-- the text by `Never` has no separators
+never-digits : (s : Symbols) (v : Decimal) (w : Numeral) → HasDigits v w
+    → formatted s Never v ≡ numeral_text s (λ _. false) w
+never-digits s v w has =
+    formatted-digits v w has s Never
+    ∙ (λ i. numeral_text s (λ m. (strategy_is s Never (length w.whole) m ∙ and_false (ends_group s.sizes m)) i) w)
 
 -- ---- What is read.
--- digits that are not too many are those of a value, with this text and this plain text
-pub record ReadsAs (s : Symbols) (bytes : List ℕ) (w : Numeral) : Type 0 where
+-- digits that are not too many are those of a value, with this plain text
+pub record ReadsAs (w : Numeral) : Type 0 where
   pub value : Decimal
   pub valid : IsValue value.absolute
   pub has : HasDigits value w
-  pub written : IsWritten s value bytes
   pub reads : read (plain_text w) ≡ Ok value.absolute
 
-module _ (s : Symbols) (bytes : List ℕ) (w : Numeral) (numeral : IsNumeral s bytes w) where
-  pub value_is : ¬ IsBeyondLimits w → ReadsAs s bytes w
-  value_is few =
-      let v = value_of_digits w numeral.digits (at_most (length w.whole) (λ h. few (inl h)))
-      (at_most (length w.fraction) (λ h. few (inr h))) in
-      record {
-        value = v.0;
-        valid = v.1;
-        has = v.2;
-        written = (numeral.strategy, numeral.text ∙ sym (formatted-digits v.0 w v.2 s numeral.strategy));
-        reads = ap read (sym (text-digits v.0 w v.2)) ∙ read_text v.0.absolute v.1;
-      }
-    where
-      at_most : (n : ℕ) → (32768 < n → ⊥) → n ≤ 32768
-      at_most n h = elim (cases_lt 32768 n) [ inl l ↦ absurd (h l) | inr l ↦ l ]
-
-  module _ (readable : IsReadable s) where
-    -- no other numeral of the text is beyond the limits
-    pub not_beyond : ¬ IsBeyondLimits w → (u : Numeral) → IsNumeral s bytes u → IsBeyondLimits u → ⊥
-    not_beyond few u other beyond = few (subst IsBeyondLimits (sym (numeral-unique s readable bytes w u numeral
-        other)) beyond)
-
-    -- a value with this text is not beyond the limits
-    pub written_within : (v : Decimal) → IsValue v.absolute → IsWritten s v bytes → IsBeyondLimits w → ⊥
-    written_within v valid written beyond =
-        let t = written_digits s bytes v valid written in
-        let same = numeral-unique s readable bytes w t.numeral numeral t.is in
-        elim (subst IsBeyondLimits same beyond) [
-          | inl h ↦ omega (arith, h, t.few_whole)
-          | inr h ↦ omega (arith, h, t.few_fraction)
-        ]
-
-    -- and it is the value that is read
-    pub written_same : (r : ReadsAs s bytes w) (v : Decimal) → IsValue v.absolute → IsWritten s v bytes → r.value ≡ v
-    written_same r v valid written =
-        let t = written_digits s bytes v valid written in
-        let same = numeral-unique s readable bytes w t.numeral numeral t.is in
-        same_value r.value v t.numeral r.valid valid (subst (HasDigits r.value) same r.has) t.has
-
-  -- the decimal of the sign and the parsed plain text is that value
-  pub parsed_is : (r : ReadsAs s bytes w) (shown : Sign) (plain : List ℕ) (absolute : Unsigned) (v : Decimal)
-      → shown ≡ w.sign → plain ≡ plain_text w → read plain ≡ Ok absolute
-      → v ≡ record { sign = shown; absolute = absolute } → v ≡ r.value
-  parsed_is r shown plain absolute v e p h is =
-      let same : absolute ≡ r.value.absolute = (let k = sym h ∙ ap read p ∙ r.reads in cc) in
-      let signs : shown ≡ r.value.sign = e ∙ sym r.has.sign in
-      is ∙ (λ i. record { sign = signs i; absolute = same i })
+pub value_is : (w : Numeral) → AreDigits w → ¬ IsBeyondLimits w → ReadsAs w
+value_is w digits few =
+    let v = value_of_digits w digits (at_most (length w.whole) (λ h. few (inl h)))
+    (at_most (length w.fraction) (λ h. few (inr h))) in
+    record {
+      value = v.0;
+      valid = v.1;
+      has = v.2;
+      reads = ap read (sym (text-digits v.0 w v.2)) ∙ read_text v.0.absolute v.1;
+    }
+  where
+    at_most : (n : ℕ) → (32768 < n → ⊥) → n ≤ 32768
+    at_most n h = elim (cases_lt 32768 n) [ inl l ↦ absurd (h l) | inr l ↦ l ]
 
 -- a text that has a value is rejected only if out of memory, for a value that needs it
 pub memory_needed : (e : ParseError) (reading : Result Unsigned ReadError) (u : Unsigned) (p : Unsigned → Type 0)
@@ -176,3 +196,151 @@ pub memory_needed : (e : ParseError) (reading : Result Unsigned ReadError) (u : 
 memory_needed Limit reading u p h r = absurd (let k = sym h ∙ r in cc)
 memory_needed Syntax reading u p h r = absurd (let k = sym h ∙ r in cc)
 memory_needed Memory reading u p h r = subst (λ x. IsOkAnd x p) r h
+
+-- a text is that of one of these numerals, and then of one of these decimals
+pub record AreTexts (is_numeral : Numeral → Type 0) (is_written : Decimal → Type 0) : Type 0 where
+  pub digits : (w : Numeral) → is_numeral w → AreDigits w
+  pub unique : (w u : Numeral) → is_numeral w → is_numeral u → w ≡ u
+  pub writes : (v : Decimal) (w : Numeral) → is_numeral w → HasDigits v w → is_written v
+  pub reads : (v : Decimal) → IsValue v.absolute → is_written v → (w : Numeral) × is_numeral w × HasDigits v w
+      × ¬ IsBeyondLimits w
+
+-- what a reader returns
+pub record IsRead (inline : ℕ) (is_numeral : Numeral → Type 0) (is_written : Decimal → Type 0) (result : Result
+    Decimal ParseError) : Type 0 where
+  pub found : IfOk result is_written
+  pub reads_back : (v : Decimal) → IsValue v.absolute → is_written v → MatchResult result (λ w. w ≡ v) (λ e. e
+      ≡ Memory)
+  pub syntax : (result ≡ Err Syntax) ↔ ((w : Numeral) → ¬ is_numeral w)
+  pub limit : (result ≡ Err Limit) ↔ ((w : Numeral) × is_numeral w × IsBeyondLimits w)
+  pub memory : result ≡ Err Memory → (v : Decimal) × is_written v × NeedsMemory inline v.absolute
+
+module _ (is_numeral : Numeral → Type 0) (is_written : Decimal → Type 0) (texts : AreTexts is_numeral is_written) where
+  -- a text is that of one decimal
+  decimal-unique : (v u : Decimal) → IsValue v.absolute → IsValue u.absolute → is_written v → is_written u → v ≡ u
+  decimal-unique v u p q a b =
+      let x = texts.reads v p a in
+      let y = texts.reads u q b in
+      same_value v u y.0 p q (subst (HasDigits v) (texts.unique x.0 y.0 x.1 y.1) x.2) y.2
+
+module _ (is_numeral : Numeral → Type 0) (is_written : Decimal → Type 0) (texts : AreTexts is_numeral is_written)
+    (inline : ℕ) where
+  -- the text is that of no numeral
+  pub nothing_read : ((w : Numeral) → ¬ is_numeral w) → IsRead inline is_numeral is_written (Err Syntax)
+  nothing_read none = record {
+    found = tt;
+    reads_back = λ v valid written. let t = texts.reads v valid written in absurd (none t.0 t.1);
+    syntax = (λ h. none, λ h. refl);
+    limit = (λ h. absurd (cc), λ h. absurd (none h.0 h.1));
+    memory = λ h. absurd (cc);
+  }
+
+  module _ (w : Numeral) (numeral : is_numeral w) where
+    -- of a value that was read, the sign and the digits are those of the text
+    same_decimal : (v u : Decimal) → IsValue u.absolute → HasDigits u w → v.sign ≡ w.sign
+        → read (plain_text w) ≡ Ok v.absolute → v ≡ u
+    same_decimal v u valid has signs reads =
+        let same : v.absolute ≡ u.absolute =
+        (let k = sym reads ∙ ap read (sym (text-digits u w has)) ∙ read_text u.absolute valid in cc) in
+        let sign : v.sign ≡ u.sign = signs ∙ sym has.sign in
+        λ i. record { sign = sign i; absolute = same i }
+
+    -- the text is that of a numeral, and the result is the value of its digits
+    pub value_read : (result : Result Decimal ParseError) → IsValueOf inline w result
+        → IsRead inline is_numeral is_written result
+    value_read result is = record {
+      found = found result is;
+      reads_back = λ v valid written. back result is v valid (texts.reads v valid written);
+      syntax = (λ h. absurd (is.syntax h), λ none. absurd (none w numeral));
+      limit = (
+        λ h. (w, numeral, is.limit.0 h),
+        λ x. is.limit.1 (subst IsBeyondLimits (texts.unique x.0 w x.1 numeral) x.2),
+      );
+      memory = λ h.
+          let few = λ (beyond : IsBeyondLimits w). let k = sym h ∙ is.limit.1 beyond in let no : ⊥ = cc in no in
+          let r = value_is w (texts.digits w numeral) few in (
+            r.value,
+            texts.writes r.value w numeral r.has,
+            elim (is.memory h) [
+              | inl long ↦ inr (subst (λ l. 64 < length l) (sym (text-digits r.value w r.has)) long)
+              | inr x ↦ inl (let same : x.0 ≡ r.value.absolute = (let k = sym x.1 ∙ r.reads in cc) in subst (λ u.
+                  inline < size u.number) same x.2)
+            ],
+          );
+    }
+      where
+        found : (r : Result Decimal ParseError) → IsValueOf inline w r → IfOk r is_written
+        found (Err e) is = tt
+        found (Ok v) is =
+            let few = λ (beyond : IsBeyondLimits w). let k = is.limit.1 beyond in let no : ⊥ = cc in no in
+            let r = value_is w (texts.digits w numeral) few in
+            subst is_written (sym (same_decimal v r.value r.valid r.has is.found.0 is.found.1))
+            (texts.writes r.value w numeral r.has)
+
+        back : (r : Result Decimal ParseError) → IsValueOf inline w r → (v : Decimal) → IsValue v.absolute
+            → ((u : Numeral) × is_numeral u × HasDigits v u × ¬ IsBeyondLimits u)
+            → MatchResult r (λ u. u ≡ v) (λ e. e ≡ Memory)
+        back (Ok u) is v valid t =
+            same_decimal u v valid (subst (HasDigits v) (texts.unique t.0 w t.1 numeral) t.2) is.found.0 is.found.1
+        back (Err Memory) is v valid t = refl
+        back (Err Syntax) is v valid t = absurd (is.syntax refl)
+        back (Err Limit) is v valid t =
+            absurd (t.3 (subst IsBeyondLimits (texts.unique w t.0 numeral t.1) (is.limit.0 refl)))
+
+module _ (s : Symbols) (readable : IsReadable s) (bytes : List ℕ) where
+  within : (v : Decimal) (t : IsTextOf s bytes v) → ¬ IsBeyondLimits t.numeral
+  within v t (inl h) = omega (arith, h, t.few_whole)
+  within v t (inr h) = omega (arith, h, t.few_fraction)
+
+  -- texts that a formatter writes
+  pub formatted_texts : AreTexts (IsNumeral s bytes) (λ v. IsWritten s v bytes)
+  formatted_texts = record {
+    digits = λ w numeral. numeral.digits;
+    unique = numeral-unique s readable bytes;
+    writes = λ v w numeral has. (numeral.strategy, numeral.text ∙ sym (formatted-digits v w has s numeral.strategy));
+    reads = λ v valid written.
+        let t = written_digits s bytes v valid written in
+        (t.numeral, t.is, t.has, within v t);
+  }
+
+module _ (s : Symbols) (readable : IsReadable s) (bytes : List ℕ) where
+  -- texts with optional separators
+  pub lenient_texts : AreTexts (IsLenientNumeral s bytes) (λ v. IsLenientlyWritten s v bytes)
+  lenient_texts = record {
+    digits = λ w numeral. numeral.digits;
+    unique = lenient-unique s readable bytes;
+    writes = λ v w numeral has. (w, numeral, sym (never-digits s v w has));
+    reads = λ v valid written.
+        let plain = formatted s Never v in
+        let t = written_digits s plain v valid (Never, refl) in
+        let same = text-unique s readable (separated_by s t.is.strategy (length t.numeral.whole)) (λ _. false) plain
+        t.numeral written.0 t.is.digits written.1.digits t.is.text (sym written.2) in (
+          written.0,
+          written.1,
+          subst (HasDigits v) same t.has,
+          λ beyond. within s readable plain v t (subst IsBeyondLimits (sym same) beyond),
+        );
+  }
+
+-- ---- Laws.
+-- with readable symbols two values have different texts
+pub texts_are_unique : (s : Symbols) (g h : GroupingStrategy) (v u : Decimal) → IsReadable s → IsValue v.absolute
+    → IsValue u.absolute → formatted s g v ≡ formatted s h u → v ≡ u
+texts_are_unique s g h v u readable p q e =
+    let bytes = formatted s g v in
+    decimal-unique (IsNumeral s bytes) (λ x. IsWritten s x bytes) (formatted_texts s readable bytes) v u p q (g, refl)
+    (h, e)
+
+-- and what people type is that of one value
+pub typed_texts_are_unique : (s : Symbols) (bytes : List ℕ) (v u : Decimal) → IsReadable s → IsValue v.absolute
+    → IsValue u.absolute → IsTyped s v bytes → IsTyped s u bytes → v ≡ u
+typed_texts_are_unique s bytes v u readable p q (inl a) (inl b) =
+    decimal-unique (IsNumeral s bytes) (λ x. IsWritten s x bytes) (formatted_texts s readable bytes) v u p q a b
+typed_texts_are_unique s bytes v u readable p q (inr a) (inr b) =
+    let text = normalized s bytes in
+    decimal-unique (IsLenientNumeral s text) (λ x. IsLenientlyWritten s x text) (lenient_texts s readable text) v u p q
+    a.1 b.1
+typed_texts_are_unique s bytes v u readable p q (inl a) (inr b) =
+    let t = written_digits s bytes v p a in absurd (b.0 t.numeral t.is)
+typed_texts_are_unique s bytes v u readable p q (inr a) (inl b) =
+    let t = written_digits s bytes u q b in absurd (a.0 t.numeral t.is)

@@ -1,7 +1,8 @@
 -- The steps of a scan.
 use Rattle.std.proofs.Common.{◌≡◌, ◌≢◌, ℕ, suc, ◌+◌, ◌-◌, ◌%◌, ◌<◌, ◌≤◌, ◌==◌, nat_le, nat_lt, Bool, true, false, ◌&&◌, ◌||◌, List, [], ◌∷◌, ◌++◌, length, refl, sym, ◌∙◌, ap, subst, arith, rules, append_assoc, append-nil, length-append, inl, inr}
-use Rattle.std.specs.Prelude.{pos, Option, Some, None, IfNone, Result, Ok, Err, IfOk}
+use Rattle.std.specs.Prelude.{if◌then◌else◌, pos, Option, Some, None, IfNone, Result, Ok, Err, IfOk, ◌↔◌}
 use Rattle.std.specs.Int.Digits.{AllBelowBase}
+use Rattle.std.proofs.Math.Bool.{beq, not}
 use Rattle.std.proofs.lemmas.Bool.{cases_eq}
 use Rattle.std.proofs.lemmas.Bool.Decides.{nat_tests}
 use Rattle.std.proofs.lemmas.Int.{ints}
@@ -13,11 +14,12 @@ use Rattle.decimal_format.specs.declared.grouping.GroupingStrategy.TheVariants.{
 use Rattle.decimal_format.specs.declared.reader.plain_text.PlainText.{PlainText}
 use Rattle.decimal_format.specs.Symbols.{Symbols, digit_text, sign_affixes}
 use Rattle.decimal_format.specs.Grouping.{reaches, is_grouped, secondary_size}
+use Rattle.decimal_format.specs.Lenient.{ends_group}
 use Rattle.decimal_format.specs.Readable.{IsReadable}
-use Rattle.decimal_format.specs.Reading.{Numeral, AreDigits, IsNumeral, digits_text, fraction_text, absolute_numeral_text, separated_by}
-use Rattle.decimal_format.specs.Scanning.{separator_if, separated_if, EndsInteger, IsShape, BeginsWithDigit, ReadsDigits, ReadsFraction, IsPlain, AppendsPlain, ascii_digits_of}
-use Rattle.decimal_format.proofs.Codes.{same_digit, digit_not_minus, digit_not_plus, plus_not_minus, none_not_digit}
-use Rattle.decimal_format.proofs.DigitTexts.{digits_text-nil, digits_text-first, digits_text-cong, digits_not_grouping, fraction_ends}
+use Rattle.decimal_format.specs.Reading.{Numeral, AreDigits, digits_text, fraction_text, absolute_numeral_text, separated_by}
+use Rattle.decimal_format.specs.Scanning.{may_separate, separator_if, separated_if, SkipsSeparator, EndsInteger, BeginsWithDigit, IsUniform, ReadsDigits, ReadsFraction, IsPlain, AppendsPlain, ascii_digits_of}
+use Rattle.decimal_format.proofs.Codes.{same_digit, digit_not_grouping, digit_not_minus, digit_not_plus, plus_not_minus, none_not_digit}
+use Rattle.decimal_format.proofs.DigitTexts.{digits_text-nil, digits_text-first, digits_not_grouping}
 
 -- a true proposition holds on a missing value
 pub on_none : {A : Type 0} (result : Option A) (P : Type 0) → P → IfNone result P
@@ -69,120 +71,84 @@ module _ (s : Symbols) (readable : IsReadable s) where
           omega (arith, all)
 
 -- ---- Counting.
--- of digits that a text may begin with, these are left, and separators were found as the test has them
-pub record IsCountedOf (s : Symbols) (separated : ℕ → Bool) (ds tail rest : List ℕ) (n : ℕ) (grouped : Bool) : Type
-    0 where
+-- of digits that a text may begin with, these are left
+pub record IsCountedOf (s : Symbols) (separated : ℕ → Bool) (ds tail rest : List ℕ) (n : ℕ) : Type 0 where
   pub left : List ℕ
   pub are_digits : AllBelowBase 10 left
   pub counted : n + length left ≡ length ds
   pub is : rest ≡ digits_text s separated left ++ tail
-  pub some : grouped ≡ true → (m : ℕ) × (separated m ≡ true)
-  pub none : grouped ≡ false → (m : ℕ) → length left ≤ m → m < length ds → separated m ≡ false
 
-abbrev pub IsCounted : Symbols → List ℕ → List ℕ → ℕ → Bool → Type 0
-IsCounted s bytes rest n grouped = (separated : ℕ → Bool) (ds tail : List ℕ) → AllBelowBase 10 ds → EndsInteger s tail
-    → bytes ≡ digits_text s separated ds ++ tail → IsCountedOf s separated ds tail rest n grouped
+abbrev pub IsCounted : Symbols → List ℕ → List ℕ → ℕ → Type 0
+IsCounted s bytes rest n = (separated : ℕ → Bool) (ds tail : List ℕ) → AllBelowBase 10 ds → EndsInteger s tail
+    → bytes ≡ digits_text s separated ds ++ tail → IsCountedOf s separated ds tail rest n
 
-pub counted_none : (s : Symbols) (bytes : List ℕ) → IsCounted s bytes bytes 0 false
+pub counted_none : (s : Symbols) (bytes : List ℕ) → IsCounted s bytes bytes 0
 counted_none s bytes separated ds tail all ends e = record {
   left = ds;
   are_digits = all;
   counted = omega arith;
   is = e;
-  some = λ h. absurd (cc);
-  none = λ h m low high. absurd (omega arith);
 }
 
-or_true : (b : Bool) → (b || true) ≡ true
-or_true true = refl
-or_true false = refl
-
-or_false : (b : Bool) → (b || false) ≡ b
-or_false true = refl
-or_false false = refl
+-- what follows a separator is no longer
+pub skipped_at_most : (s : Symbols) (possible found : Bool) (bytes rest : List ℕ)
+    → SkipsSeparator s possible bytes rest found → length rest ≤ length bytes
+skipped_at_most s possible found bytes rest skips =
+    omega (arith, ap length skips.text ∙ length-append (separator_if s found) rest)
 
 module _ (s : Symbols) (readable : IsReadable s) where
   -- one digit more, and a separator after it or none
-  pub counted_more : (bytes rest after next : List ℕ) (n d : ℕ) (grouped found now : Bool) → d < 10
-      → rest ≡ digit_text s d ++ after
-      → (found ≡ true → after ≡ s.grouping ++ next)
-      → (found ≡ false → (r : List ℕ) → after ≢ s.grouping ++ r)
-      → (found ≡ false → next ≡ after)
-      → now ≡ (grouped || found)
-      → IsCounted s bytes rest n grouped → IsCounted s bytes next (n + 1) now
-  counted_more bytes rest after next n d grouped found now below e some none skipped is so_far separated ds tail all
-      ends whole =
+  pub counted_more : (bytes rest after next : List ℕ) (n d : ℕ) (found : Bool) → d < 10
+      → rest ≡ digit_text s d ++ after → SkipsSeparator s true after next found
+      → IsCounted s bytes rest n → IsCounted s bytes next (n + 1)
+  counted_more bytes rest after next n d found below e skips so_far separated ds tail all ends whole =
       let before = so_far separated ds tail all ends whole in
-      go before.left before.are_digits before.counted before.is before.some before.none
+      go before.left before.are_digits before.counted before.is
     where
-      step : (x : ℕ) (left : List ℕ) → AllBelowBase 10 left → n + suc (length left) ≡ length ds
+      step : (left : List ℕ) → AllBelowBase 10 left
           → after ≡ separator_if s (separated (length left)) ++ (digits_text s separated left ++ tail)
-          → (grouped ≡ true → (m : ℕ) × (separated m ≡ true))
-          → (grouped ≡ false → (m : ℕ) → suc (length left) ≤ m → m < length ds → separated m ≡ false)
           → (b : Bool) → separated (length left) ≡ b → (f : Bool) → found ≡ f
-          → IsCountedOf s separated ds tail next (n + 1) now
-      step x left digits counted h any other true at true f = record {
-        left = left;
-        are_digits = digits;
-        counted = omega (arith, counted);
-        is = append_cancel_left s.grouping next (digits_text s separated left ++ tail)
-            (sym (some f) ∙ h ∙ ap (λ b. separator_if s b ++ (digits_text s separated left ++ tail)) at);
-        some = λ t. (length left, at);
-        none = λ t. absurd (let w : now ≡ true = is ∙ ap (λ b. grouped || b) f ∙ or_true grouped in cc);
-      }
-      step x left digits counted h any other true at false f =
-          absurd (none f (digits_text s separated left ++ tail)
+          → next ≡ digits_text s separated left ++ tail
+      step left digits h true at true f = append_cancel_left s.grouping next (digits_text s separated left ++ tail)
+          (ap (λ b. separator_if s b ++ next) (sym f) ∙ sym skips.text ∙ h
+          ∙ ap (λ b. separator_if s b ++ (digits_text s separated left ++ tail)) at)
+      step left digits h true at false f = absurd (skips.none f refl (digits_text s separated left ++ tail)
           (h ∙ ap (λ b. separator_if s b ++ (digits_text s separated left ++ tail)) at))
-      step x left digits counted h any other false at true f =
+      step left digits h false at true f =
           absurd (digits_not_grouping s readable separated left tail next digits ends
-          (sym (h ∙ ap (λ b. separator_if s b ++ (digits_text s separated left ++ tail)) at) ∙ some f))
-      step x left digits counted h any other false at false f =
-          let same : now ≡ grouped = is ∙ ap (λ b. grouped || b) f ∙ or_false grouped in record {
-            left = left;
-            are_digits = digits;
-            counted = omega (arith, counted);
-            is = skipped f ∙ h ∙ ap (λ b. separator_if s b ++ (digits_text s separated left ++ tail)) at;
-            some = λ t. any (sym same ∙ t);
-            none = λ t m low high. elim (cases_eq m (length left)) [
-              | inl q ↦ ap separated q ∙ at
-              | inr q ↦ other (sym same ∙ t) m (omega (arith, low, q)) high
-            ];
-          }
+          (sym (h ∙ ap (λ b. separator_if s b ++ (digits_text s separated left ++ tail)) at) ∙ skips.text
+          ∙ ap (λ b. separator_if s b ++ next) f))
+      step left digits h false at false f =
+          ap (λ b. separator_if s b ++ next) (sym f) ∙ sym skips.text ∙ h
+          ∙ ap (λ b. separator_if s b ++ (digits_text s separated left ++ tail)) at
 
-      go : (left : List ℕ) → AllBelowBase 10 left → n + length left ≡ length ds → rest
-          ≡ digits_text s separated left ++ tail
-          → (grouped ≡ true → (m : ℕ) × (separated m ≡ true))
-          → (grouped ≡ false → (m : ℕ) → length left ≤ m → m < length ds → separated m ≡ false)
-          → IsCountedOf s separated ds tail next (n + 1) now
-      go [] digits counted h any other =
+      go : (left : List ℕ) → AllBelowBase 10 left → n + length left ≡ length ds
+          → rest ≡ digits_text s separated left ++ tail → IsCountedOf s separated ds tail next (n + 1)
+      go [] digits counted h =
           absurd (ends.digit d after below (ap (λ l. l ++ tail) (sym (digits_text-nil s separated)) ∙ sym h ∙ e))
-      go (x ∷ left) digits counted h any other =
+      go (x ∷ left) digits counted h =
           let first = same_digit s readable d x after (separator_if s (separated (length left))
           ++ (digits_text s separated left ++ tail))
           below digits.0 (sym e ∙ h ∙ digits_text-first s separated x left tail) in
-          step x left digits.1 counted first.1 any other (separated (length left)) refl found refl
+          record {
+            left = left;
+            are_digits = digits.1;
+            counted = omega (arith, counted);
+            is = step left digits.1 first.1 (separated (length left)) refl found refl;
+          }
 
   -- where no digit follows, all were counted
-  pub counted_all : (bytes rest : List ℕ) (n : ℕ) (grouped : Bool)
-      → ((d : ℕ) (r : List ℕ) → d < 10 → rest ≢ digit_text s d ++ r)
-      → IsCounted s bytes rest n grouped → (separated : ℕ → Bool) (ds tail : List ℕ) → AllBelowBase 10 ds
-      → EndsInteger s tail
-      → bytes ≡ digits_text s separated ds ++ tail → IsShape separated ds n grouped
-  counted_all bytes rest n grouped no_digit so_far separated ds tail all ends e =
+  pub counted_all : (bytes rest : List ℕ) (n : ℕ) → ((d : ℕ) (r : List ℕ) → d < 10 → rest ≢ digit_text s d ++ r)
+      → IsCounted s bytes rest n → (separated : ℕ → Bool) (ds tail : List ℕ) → AllBelowBase 10 ds
+      → EndsInteger s tail → bytes ≡ digits_text s separated ds ++ tail → n ≡ length ds
+  counted_all bytes rest n no_digit so_far separated ds tail all ends e =
       let last = so_far separated ds tail all ends e in
-      go last.left last.are_digits last.counted last.is last.some last.none
+      go last.left last.are_digits last.counted last.is
     where
-      go : (left : List ℕ) → AllBelowBase 10 left → n + length left ≡ length ds → rest
-          ≡ digits_text s separated left ++ tail
-          → (grouped ≡ true → (m : ℕ) × (separated m ≡ true))
-          → (grouped ≡ false → (m : ℕ) → length left ≤ m → m < length ds → separated m ≡ false)
-          → IsShape separated ds n grouped
-      go [] digits counted h any other = record {
-        count = omega (arith, counted);
-        some = any;
-        none = λ t m high. other t m (omega arith) high;
-      }
-      go (x ∷ left) digits counted h any other =
+      go : (left : List ℕ) → AllBelowBase 10 left → n + length left ≡ length ds
+          → rest ≡ digits_text s separated left ++ tail → n ≡ length ds
+      go [] digits counted h = omega (arith, counted)
+      go (x ∷ left) digits counted h =
           absurd (no_digit x (separator_if s (separated (length left)) ++ (digits_text s separated left
           ++ tail)) digits.0
           (h ∙ digits_text-first s separated x left tail))
@@ -192,14 +158,85 @@ ascii-append : (ds es : List ℕ) → ascii_digits_of (ds ++ es) ≡ ascii_digit
 ascii-append [] es = refl
 ascii-append (d ∷ ds) es = ap (λ l. (48 + d) ∷ l) (ascii-append ds es)
 
--- these digits were read, and `left` more complete a text
-pub record IsReadTo (s : Symbols) (separated : ℕ → Bool) (n : ℕ) (bytes rest : List ℕ) (left : ℕ) (old new :
-    PlainText) : Type 0 where
+-- ---- Chosen magnitudes.
+and_true : (b : Bool) → (b && true) ≡ b
+and_true true = refl
+and_true false = refl
+
+pub and_false : (b : Bool) → (b && false) ≡ false
+and_false true = refl
+and_false false = refl
+
+-- the same choice, but for one magnitude
+abbrev pub choose : (ℕ → Bool) → ℕ → Bool → ℕ → Bool
+choose chosen less b m = if m == less then b else chosen m
+
+choose_here : (chosen : ℕ → Bool) (less : ℕ) (b : Bool) → choose chosen less b less ≡ b
+choose_here chosen less b = let t : (less == less) ≡ true = search (rules, arith) in rw t refl
+
+choose_above : (chosen : ℕ → Bool) (less m : ℕ) (b : Bool) → less < m → choose chosen less b m ≡ chosen m
+choose_above chosen less m b h = let t : (m == less) ≡ false = grind (arith, nat_tests) in rw t refl
+
+-- at the magnitudes from `left` to n - 1 the tests are equal
+abbrev pub Agree : (ℕ → Bool) → (ℕ → Bool) → ℕ → ℕ → Type 0
+Agree f g left n = (m : ℕ) → left ≤ m → m < n → f m ≡ g m
+
+-- the separator that is found, if it is allowed, is there exactly if it is chosen
+found_if : (may found : Bool) → (found ≡ true → may ≡ true) → (may && found) ≡ found
+found_if true found h = refl
+found_if false true h = h refl
+found_if false false h = refl
+
+module _ (may chosen : ℕ → Bool) (less : ℕ) (b : Bool) (allowed : b ≡ true → may less ≡ true) where
+  chosen_here : separated_if may (choose chosen less b) less ≡ b
+  chosen_here = ap (λ x. may less && x) (choose_here chosen less b) ∙ found_if (may less) b allowed
+
+  -- a flag that says whether the tests agree, one magnitude lower
+  pub agree_more : (t : ℕ → Bool) (left n : ℕ) (flag more : Bool) → less + 1 ≡ left → left ≤ n
+      → (flag ≡ true ↔ Agree (separated_if may chosen) t left n) → (more ≡ true ↔ ((flag ≡ true) × (b ≡ t less)))
+      → more ≡ true ↔ Agree (separated_if may (choose chosen less b)) t less n
+  agree_more t left n flag more one within so_far step = (
+    λ h m low high. elim (cases_eq m less) [
+      | inl q ↦ ap (separated_if may (choose chosen less b)) q ∙ chosen_here ∙ (step.0 h).1 ∙ ap t (sym q)
+      | inr q ↦
+          let above : less < m = omega (arith, low, q) in
+          ap (λ x. may m && x) (choose_above chosen less m b above)
+          ∙ so_far.0 (step.0 h).0 m (omega (arith, above, one)) high
+    ],
+    λ same. step.1 (
+      so_far.1 (λ m low high. ap (λ x. may m && x) (sym (choose_above chosen less m b (omega (arith, one, low))))
+          ∙ same m (omega (arith, one, low)) high),
+      sym chosen_here ∙ same less (omega arith) (omega (arith, one, within)),
+    ),
+  )
+
+-- ---- Reading digits in groups.
+-- the steps of the two flags
+pub all_step : (flag found possible may : Bool) → possible ≡ may
+    → (flag && beq found possible) ≡ true ↔ ((flag ≡ true) × (found ≡ may))
+all_step false found possible may e = (λ h. absurd (cc), λ h. absurd (let k = h.0 in cc))
+all_step true true true may e = (λ h. (refl, e), λ h. refl)
+all_step true true false may e = (λ h. absurd (cc), λ h. absurd (let k = h.1 ∙ sym e in cc))
+all_step true false true may e = (λ h. absurd (cc), λ h. absurd (let k = h.1 ∙ sym e in cc))
+all_step true false false may e = (λ h. (refl, e), λ h. refl)
+
+pub none_step : (flag found : Bool) → (flag && not found) ≡ true ↔ ((flag ≡ true) × (found ≡ false))
+none_step false found = (λ h. absurd (cc), λ h. absurd (let k = h.0 in cc))
+none_step true true = (λ h. absurd (cc), λ h. absurd (let k = h.1 in cc))
+none_step true false = (λ h. (refl, refl), λ h. refl)
+
+-- these digits were read, and `left` more complete a text; a separator is where it may be after all of them, or none
+pub record IsReadTo (s : Symbols) (may : ℕ → Bool) (n : ℕ) (bytes rest : List ℕ) (left : ℕ) (has_all has_none :
+    Bool) (old new : PlainText) : Type 0 where
   pub digits : List ℕ
+  pub chosen : ℕ → Bool
   pub count : length digits + left ≡ n
   pub are_digits : AllBelowBase 10 digits
-  pub completes : (es tail : List ℕ) → length es ≡ left → rest ≡ digits_text s separated es ++ tail
-      → bytes ≡ digits_text s separated (digits ++ es) ++ tail
+  pub completes : (later : ℕ → Bool) → ((m : ℕ) → left ≤ m → later m ≡ chosen m) → (es tail : List ℕ)
+      → length es ≡ left → rest ≡ digits_text s (separated_if may later) es ++ tail
+      → bytes ≡ digits_text s (separated_if may later) (digits ++ es) ++ tail
+  pub all : has_all ≡ true ↔ Agree (separated_if may chosen) (separated_if may (λ _. true)) left n
+  pub none : has_none ≡ true ↔ Agree (separated_if may chosen) (separated_if may (λ _. false)) left n
   pub plain : AppendsPlain old new (ascii_digits_of digits)
 
 -- of n digits that a text begins with, some are left
@@ -210,81 +247,126 @@ pub record AreLeft (s : Symbols) (separated : ℕ → Bool) (rest tail : List �
   pub is : rest ≡ digits_text s separated digits ++ tail
 
 abbrev pub Leaves : Symbols → (ℕ → Bool) → ℕ → List ℕ → List ℕ → ℕ → Type 0
-Leaves s separated n bytes rest left = (ds tail : List ℕ) → length ds ≡ n → AllBelowBase 10 ds
-    → bytes ≡ digits_text s separated ds ++ tail → AreLeft s separated rest tail left
+Leaves s may n bytes rest left = (chosen : ℕ → Bool) (ds tail : List ℕ) → length ds ≡ n → AllBelowBase 10 ds
+    → bytes ≡ digits_text s (separated_if may chosen) ds ++ tail → AreLeft s (separated_if may chosen) rest tail left
 
-module _ (s : Symbols) (f : ℕ → Bool) (n : ℕ) (bytes : List ℕ) where
-  pub read_none : (plain : PlainText) → IsReadTo s f n bytes bytes n plain plain
+-- a flag for each choice says that there is one
+either_is : (may chosen : ℕ → Bool) (n : ℕ) (all none : Bool)
+    → (all ≡ true ↔ Agree (separated_if may chosen) (separated_if may (λ _. true)) 0 n)
+    → (none ≡ true ↔ Agree (separated_if may chosen) (separated_if may (λ _. false)) 0 n)
+    → (all || none) ≡ true ↔ IsUniform may chosen n
+either_is may chosen n true none p q = (λ h. (true, λ m high. p.0 refl m (omega arith) high), λ u. refl)
+either_is may chosen n false true p q = (λ h. (false, λ m high. q.0 refl m (omega arith) high), λ u. refl)
+either_is may chosen n false false p q = (λ h. absurd (cc), λ u. go u.0 u.1)
+  where
+    go : (all : Bool) → ((m : ℕ) → m < n → separated_if may chosen m ≡ separated_if may (λ _. all) m) → false ≡ true
+    go true same = p.1 (λ m low high. same m high)
+    go false same = q.1 (λ m low high. same m high)
+
+module _ (s : Symbols) (may : ℕ → Bool) (n : ℕ) (bytes : List ℕ) where
+  pub read_none : (plain : PlainText) → IsReadTo s may n bytes bytes n true true plain plain
   read_none plain = record {
     digits = [];
+    chosen = λ _. false;
     count = omega arith;
     are_digits = tt;
-    completes = λ es tail h e. e;
+    completes = λ later same es tail h e. e;
+    all = (λ h m low high. absurd (omega (arith, low, high)), λ h. refl);
+    none = (λ h m low high. absurd (omega (arith, low, high)), λ h. refl);
     plain = λ before h. subst (IsPlain plain) (sym (append-nil before)) h;
   }
 
-  pub leaves_all : Leaves s f n bytes bytes n
-  leaves_all ds tail h all e = record { digits = ds; count = h; are_digits = all; is = e }
+  pub leaves_all : Leaves s may n bytes bytes n
+  leaves_all chosen ds tail h all e = record { digits = ds; count = h; are_digits = all; is = e }
 
   -- one digit more was read
-  pub read_more : (rest after next : List ℕ) (d left less : ℕ) (old plain new : PlainText) → d < 10 → less + 1 ≡ left
-      → rest ≡ digit_text s d ++ after → after ≡ separator_if s (f less) ++ next
+  pub read_more : (rest after next : List ℕ) (d left less : ℕ) (b all none more_all more_none : Bool)
+      (old plain new : PlainText) → d < 10 → less + 1 ≡ left → rest ≡ digit_text s d ++ after
+      → SkipsSeparator s (may less) after next b
+      → (more_all ≡ true ↔ ((all ≡ true) × (b ≡ may less))) → (more_none ≡ true ↔ ((none ≡ true) × (b ≡ false)))
       → AppendsPlain plain new ((48 + d) ∷ [])
-      → IsReadTo s f n bytes rest left old plain → IsReadTo s f n bytes next less old new
-  read_more rest after next d left less old plain new below one e h pushed so_far = record {
-    digits = so_far.digits ++ d ∷ [];
-    count = omega (arith, one, so_far.count, length-append so_far.digits (d ∷ []));
-    are_digits = below_append so_far.digits so_far.are_digits;
-    completes = λ es tail same k.
-        let here : rest ≡ digits_text s f (d ∷ es) ++ tail =
-        e ∙ ap (λ l. digit_text s d ++ l) (h ∙ (λ i. separator_if s (f (sym same i)) ++ k i))
-        ∙ sym (digits_text-first s f d es tail) in
-        so_far.completes (d ∷ es) tail (omega (arith, same, one)) here
-        ∙ ap (λ l. digits_text s f l ++ tail) (sym (append_assoc so_far.digits (d ∷ []) es));
-    plain = λ before k. subst (IsPlain new) (append_assoc before (ascii_digits_of so_far.digits) ((48 + d) ∷ [])
-        ∙ ap (λ l. before ++ l) (sym (ascii-append so_far.digits (d ∷ []))))
-        (pushed (before ++ ascii_digits_of so_far.digits) (so_far.plain before k));
-  }
+      → IsReadTo s may n bytes rest left all none old plain
+      → IsReadTo s may n bytes next less more_all more_none old new
+  read_more rest after next d left less b all none more_all more_none old plain new below one e skips step_all step_none
+      pushed so_far = record {
+        digits = so_far.digits ++ d ∷ [];
+        chosen = choose so_far.chosen less b;
+        count = omega (arith, one, so_far.count, length-append so_far.digits (d ∷ []));
+        are_digits = below_append so_far.digits so_far.are_digits;
+        completes = λ later same es tail size k.
+            let f = separated_if may later in
+            let chosen : f (length es) ≡ b =
+            ap f size ∙ ap (λ x. may less && x) (same less (omega arith) ∙ choose_here so_far.chosen less b)
+            ∙ found_if (may less) b skips.allowed in
+            let here : rest ≡ digits_text s f (d ∷ es) ++ tail =
+            e ∙ ap (λ l. digit_text s d ++ l) (skips.text ∙ (λ i. separator_if s (sym chosen i) ++ k i))
+            ∙ sym (digits_text-first s f d es tail) in
+            so_far.completes later
+            (λ m high. same m (omega (arith, one, high)) ∙ choose_above so_far.chosen less m b (omega (arith, one, high)))
+            (d ∷ es) tail (omega (arith, size, one)) here
+            ∙ ap (λ l. digits_text s f l ++ tail) (sym (append_assoc so_far.digits (d ∷ []) es));
+        all = agree_more may so_far.chosen less b skips.allowed (separated_if may (λ _. true)) left n all more_all one within
+            so_far.all (subst (λ x. more_all ≡ true ↔ ((all ≡ true) × (b ≡ x))) (sym (and_true (may less))) step_all);
+        none = agree_more may so_far.chosen less b skips.allowed (separated_if may (λ _. false)) left n none more_none one
+            within so_far.none
+            (subst (λ x. more_none ≡ true ↔ ((none ≡ true) × (b ≡ x))) (sym (and_false (may less))) step_none);
+        plain = λ before k. subst (IsPlain new) (append_assoc before (ascii_digits_of so_far.digits) ((48 + d) ∷ [])
+            ∙ ap (λ l. before ++ l) (sym (ascii-append so_far.digits (d ∷ []))))
+            (pushed (before ++ ascii_digits_of so_far.digits) (so_far.plain before k));
+      }
     where
+      within : left ≤ n
+      within = omega (arith, so_far.count)
+
       below_append : (ds : List ℕ) → AllBelowBase 10 ds → AllBelowBase 10 (ds ++ d ∷ [])
       below_append [] all = (below, tt)
       below_append (x ∷ ds) all = (all.0, below_append ds all.1)
 
   -- where no more is left to read
-  pub read_all : (rest : List ℕ) (old new : PlainText) → IsReadTo s f n bytes rest 0 old new
-      → ReadsDigits s f n bytes rest old new
-  read_all rest old new so_far = record {
-    digits = so_far.digits;
-    count = omega (arith, so_far.count);
-    are_digits = so_far.are_digits;
-    text = so_far.completes [] rest refl (ap (λ l. l ++ rest) (sym (digits_text-nil s f)))
-        ∙ ap (λ l. digits_text s f l ++ rest) (append-nil so_far.digits);
-    plain = so_far.plain;
-  }
+  pub read_all : (rest : List ℕ) (all none : Bool) (old new : PlainText)
+      → IsReadTo s may n bytes rest 0 all none old new → ReadsDigits s may n bytes rest (all || none) old new
+  read_all rest all none old new so_far =
+      let f = separated_if may so_far.chosen in record {
+        digits = so_far.digits;
+        chosen = so_far.chosen;
+        count = omega (arith, so_far.count);
+        are_digits = so_far.are_digits;
+        text = so_far.completes so_far.chosen (λ m low. refl) [] rest refl
+            (ap (λ l. l ++ rest) (sym (digits_text-nil s f)))
+            ∙ ap (λ l. digits_text s f l ++ rest) (append-nil so_far.digits);
+        uniform = either_is may so_far.chosen n all none so_far.all so_far.none;
+        plain = so_far.plain;
+      }
 
-  pub left_none : (rest : List ℕ) → Leaves s f n bytes rest 0 → (ds tail : List ℕ) → length ds ≡ n → AllBelowBase 10 ds
-      → bytes ≡ digits_text s f ds ++ tail → rest ≡ tail
-  left_none rest so_far ds tail h all e = let left = so_far ds tail h all e in go left.digits left.count left.is
+  pub left_none : (rest : List ℕ) → Leaves s may n bytes rest 0 → (chosen : ℕ → Bool) (ds tail : List ℕ)
+      → length ds ≡ n → AllBelowBase 10 ds → bytes ≡ digits_text s (separated_if may chosen) ds ++ tail → rest ≡ tail
+  left_none rest so_far chosen ds tail h all e =
+      let left = so_far chosen ds tail h all e in go left.digits left.count left.is
     where
-      go : (es : List ℕ) → length es ≡ 0 → rest ≡ digits_text s f es ++ tail → rest ≡ tail
-      go [] count is = is ∙ ap (λ l. l ++ tail) (digits_text-nil s f)
+      go : (es : List ℕ) → length es ≡ 0 → rest ≡ digits_text s (separated_if may chosen) es ++ tail → rest ≡ tail
+      go [] count is = is ∙ ap (λ l. l ++ tail) (digits_text-nil s (separated_if may chosen))
       go (x ∷ es) count is = absurd (omega (arith, count))
 
   module _ (readable : IsReadable s) where
     -- a digit that is left begins the rest
-    pub next_left : (rest : List ℕ) (left less : ℕ) → less + 1 ≡ left → Leaves s f n bytes rest left
-        → (ds tail : List ℕ) → length ds ≡ n → AllBelowBase 10 ds → bytes ≡ digits_text s f ds ++ tail
+    pub next_left : (rest : List ℕ) (left less : ℕ) → less + 1 ≡ left → Leaves s may n bytes rest left
+        → (chosen : ℕ → Bool) (ds tail : List ℕ) → length ds ≡ n → AllBelowBase 10 ds
+        → bytes ≡ digits_text s (separated_if may chosen) ds ++ tail
         → (x : ℕ) × (x < 10) × (es : List ℕ) × (length es ≡ less) × AllBelowBase 10 es
-        × (rest ≡ digit_text s x ++ (separator_if s (f less) ++ (digits_text s f es ++ tail)))
-    next_left rest left less one so_far ds tail h all e =
-        let l = so_far ds tail h all e in
+        × (rest ≡ digit_text s x ++ (separator_if s (separated_if may chosen less)
+        ++ (digits_text s (separated_if may chosen) es ++ tail)))
+    next_left rest left less one so_far chosen ds tail h all e =
+        let l = so_far chosen ds tail h all e in
         go l.digits l.count l.are_digits l.is
       where
-        go : (es : List ℕ) → length es ≡ left → AllBelowBase 10 es → rest ≡ digits_text s f es ++ tail
+        go : (es : List ℕ) → length es ≡ left → AllBelowBase 10 es
+            → rest ≡ digits_text s (separated_if may chosen) es ++ tail
             → (x : ℕ) × (x < 10) × (es : List ℕ) × (length es ≡ less) × AllBelowBase 10 es
-            × (rest ≡ digit_text s x ++ (separator_if s (f less) ++ (digits_text s f es ++ tail)))
+            × (rest ≡ digit_text s x ++ (separator_if s (separated_if may chosen less)
+            ++ (digits_text s (separated_if may chosen) es ++ tail)))
         go [] count digits is = absurd (omega (arith, count, one))
         go (x ∷ es) count digits is =
+            let f = separated_if may chosen in
             let same : length es ≡ less = omega (arith, count, one) in (
               x,
               digits.0,
@@ -295,54 +377,84 @@ module _ (s : Symbols) (f : ℕ → Bool) (n : ℕ) (bytes : List ℕ) where
                   ∙ ap (λ k. digit_text s x ++ (separator_if s (f k) ++ (digits_text s f es ++ tail))) same,
             )
 
-    -- after one digit more
-    pub leaves_less : (rest after next : List ℕ) (d left less : ℕ) → d < 10 → less + 1 ≡ left
-        → rest ≡ digit_text s d ++ after → after ≡ separator_if s (f less) ++ next
-        → Leaves s f n bytes rest left → Leaves s f n bytes next less
-    leaves_less rest after next d left less below one e h so_far ds tail k all whole =
-        let l = next_left rest left less one so_far ds tail k all whole in
-        let following = separator_if s (f less) ++ (digits_text s f l.2 ++ tail) in
+    -- after one digit more: a separator was skipped exactly if it was chosen
+    pub leaves_less : (rest after next : List ℕ) (d left less : ℕ) (b : Bool) → d < 10 → less + 1 ≡ left
+        → may 0 ≡ false → rest ≡ digit_text s d ++ after → SkipsSeparator s (may less) after next b
+        → Leaves s may n bytes rest left → Leaves s may n bytes next less
+    leaves_less rest after next d left less b below one never e skips so_far chosen ds tail k all whole =
+        let l = next_left rest left less one so_far chosen ds tail k all whole in
+        let following = separator_if s (separated_if may chosen less)
+        ++ (digits_text s (separated_if may chosen) l.2 ++ tail) in
         let first = same_digit s readable d l.0 after following below l.1 (sym e ∙ l.5) in
         record {
           digits = l.2;
           count = l.3;
           are_digits = l.4;
-          is = append_cancel_left (separator_if s (f less)) next (digits_text s f l.2 ++ tail) (sym h ∙ first.1);
+          is = step l.2 l.3 l.4 first.1 (may less) refl (chosen less) refl b refl;
         }
+      where
+        digit_follows : (es : List ℕ) → length es ≡ less → AllBelowBase 10 es → may less ≡ true
+            → digits_text s (separated_if may chosen) es ++ tail ≢ s.grouping ++ next
+        digit_follows [] size digits at same = absurd (let t : false ≡ true = sym never ∙ ap may size ∙ at in cc)
+        digit_follows (x ∷ es) size digits at same =
+            digit_not_grouping s readable x _ next digits.0
+            (sym (digits_text-first s (separated_if may chosen) x es tail) ∙ same)
+
+        step : (es : List ℕ) → length es ≡ less → AllBelowBase 10 es
+            → after ≡ separator_if s (separated_if may chosen less)
+            ++ (digits_text s (separated_if may chosen) es ++ tail)
+            → (p : Bool) → may less ≡ p → (q : Bool) → chosen less ≡ q → (f : Bool) → b ≡ f
+            → next ≡ digits_text s (separated_if may chosen) es ++ tail
+        step es size digits h p at q picked f is = go es size digits p at q f is
+            (ap (λ x. separator_if s x ++ next) (sym is) ∙ sym skips.text ∙ h
+            ∙ (λ i. separator_if s (at i && picked i) ++ (digits_text s (separated_if may chosen) es ++ tail)))
+          where
+            go : (es : List ℕ) → length es ≡ less → AllBelowBase 10 es → (p : Bool) → may less ≡ p → (q f : Bool)
+                → b ≡ f
+                → separator_if s f ++ next
+                ≡ separator_if s (p && q) ++ (digits_text s (separated_if may chosen) es ++ tail)
+                → next ≡ digits_text s (separated_if may chosen) es ++ tail
+            go es size digits true at true true is same = append_cancel_left s.grouping next _ same
+            go es size digits true at true false is same = absurd (skips.none is at _ (skips.text ∙ ap (λ x. separator_if s x ++ next) is
+                ∙ same))
+            go es size digits true at false true is same = absurd (digit_follows es size digits at (sym same))
+            go es size digits true at false false is same = same
+            go es size digits false at q true is same = absurd (let t : false ≡ true = sym at ∙ skips.allowed is in cc)
+            go es size digits false at q false is same = same
 
 -- ---- Groups.
--- a strategy separates as the shape of a text says
-pub shape_separates : (s : Symbols) (g : GroupingStrategy) (whole : List ℕ) (n : ℕ) (grouped : Bool)
-    → IsShape (separated_by s g (length whole)) whole n grouped
-    → (m : ℕ) → m < length whole → separated_by s g (length whole) m ≡ separated_if s grouped m
-shape_separates s g whole n false shape m inside = shape.none refl m inside
-shape_separates s g whole n true shape m inside =
-    let any = shape.some refl in
-    let all : is_grouped g s.sizes (pos (length whole - 1)) ≡ true =
-    grouped_if (nat_lt 0 s.sizes.primary) (is_grouped g s.sizes (pos (length whole - 1)))
-    (nat_le s.sizes.primary any.0 && ((any.0 - s.sizes.primary) % secondary_size s.sizes == 0)) any.1 in
-    ap (λ b. nat_lt 0 s.sizes.primary && (b && (nat_le s.sizes.primary m && ((m - s.sizes.primary) % secondary_size
-    s.sizes == 0)))) all
+-- no group ends after the last digit
+pub none_after_last : (s : Symbols) (grouped : Bool) → may_separate s grouped 0 ≡ false
+none_after_last s false = refl
+none_after_last s true = go (nat_lt 0 s.sizes.primary) (nat_le s.sizes.primary 0) _ (grind (arith, nat_tests))
   where
-    grouped_if : (a b c : Bool) → (a && (b && c)) ≡ true → b ≡ true
-    grouped_if true true c h = refl
-    grouped_if true false c h = h
-    grouped_if false b c h = absurd (cc)
+    go : (a b c : Bool) → (a ≡ true → b ≡ false) → (a && (b && c)) ≡ false
+    go true b c h = ap (λ x. x && c) (h refl)
+    go false b c h = refl
+
+-- a strategy separates at all ends of groups, or at none
+pub strategy_is : (s : Symbols) (g : GroupingStrategy) (n m : ℕ)
+    → separated_by s g n m ≡ (ends_group s.sizes m && is_grouped g s.sizes (pos (n - 1)))
+strategy_is s g n m =
+    swap (nat_lt 0 s.sizes.primary) (is_grouped g s.sizes (pos (n - 1)))
+    (nat_le s.sizes.primary m && ((m - s.sizes.primary) % secondary_size s.sizes == 0))
+  where
+    swap : (a b c : Bool) → (a && (b && c)) ≡ ((a && c) && b)
+    swap false b c = refl
+    swap true true c = sym (and_true c)
+    swap true false c = sym (and_false c)
 
 -- the strategy that writes all separators, or none
 abbrev pub strategy_if : Bool → GroupingStrategy
 strategy_if true = Always
 strategy_if false = Never
 
-pub strategy_separates : (s : Symbols) (grouped : Bool) (n m : ℕ) → m < n
-    → separated_if s grouped m ≡ separated_by s (strategy_if grouped) n m
-strategy_separates s false n m inside = sym (never (nat_lt 0 s.sizes.primary))
-  where
-    never : (a : Bool) → (a && false) ≡ false
-    never true = refl
-    never false = refl
+pub strategy_separates : (s : Symbols) (all : Bool) (n m : ℕ) → m < n
+    → (ends_group s.sizes m && all) ≡ separated_by s (strategy_if all) n m
+strategy_separates s false n m inside = sym (strategy_is s Never n m)
 strategy_separates s true n m inside =
-    always (nat_lt 0 s.sizes.primary) (nat_le s.sizes.primary m) ((m - s.sizes.primary) % secondary_size s.sizes == 0)
+    and_true (ends_group s.sizes m)
+    ∙ always (nat_lt 0 s.sizes.primary) (nat_le s.sizes.primary m) ((m - s.sizes.primary) % secondary_size s.sizes == 0)
     (reaches s.sizes 1 (pos (n - 1))) reached
   where
     reached : nat_le s.sizes.primary m ≡ true → reaches s.sizes 1 (pos (n - 1)) ≡ true
@@ -370,17 +482,6 @@ number_begins s f w digits = go w.whole digits.some digits.whole
       is = digits_text-first s f d ds (fraction_text s w.fraction);
     }
 
--- the digits of a number, as the shape of its text says
-pub number_shape : (s : Symbols) → IsReadable s → (w : Numeral) (g : GroupingStrategy) (number : List ℕ) (n : ℕ)
-    (grouped : Bool)
-    → number ≡ absolute_numeral_text s (separated_by s g (length w.whole)) w
-    → IsShape (separated_by s g (length w.whole)) w.whole n grouped
-    → number ≡ digits_text s (separated_if s grouped) w.whole ++ fraction_text s w.fraction
-number_shape s readable w g number n grouped e shape =
-    e ∙ ap (λ l. l ++ fraction_text s w.fraction)
-    (digits_text-cong s (separated_by s g (length w.whole)) (separated_if s grouped) w.whole
-    (shape_separates s g w.whole n grouped shape))
-
 -- ---- Fractions.
 pub empty_is : (xs : List ℕ) → true ≡ (length xs == 0) → xs ≡ []
 empty_is [] h = refl
@@ -399,10 +500,10 @@ fraction_rest s (d ∷ ds) bytes digits some e h =
     let all = digits_text s (λ _. false) (d ∷ ds) in
     (omega arith, append_cancel_left s.decimal digits all (sym h ∙ e) ∙ sym (append-nil all))
 
-pub fraction_found : (s : Symbols) (bytes digits rest : List ℕ) (n : ℕ) (old middle new : PlainText)
+pub fraction_found : (s : Symbols) (bytes digits rest : List ℕ) (n : ℕ) (uniform : Bool) (old middle new : PlainText)
     → bytes ≡ s.decimal ++ digits → rest ≡ [] → (n ≡ 0 → ⊥) → AppendsPlain old middle (46 ∷ [])
-    → ReadsDigits s (λ _. false) n digits rest middle new → ReadsFraction s bytes n old new
-fraction_found s bytes digits rest n old middle new e none some pushed read =
+    → ReadsDigits s (may_separate s false) n digits rest uniform middle new → ReadsFraction s bytes n old new
+fraction_found s bytes digits rest n uniform old middle new e none some pushed read =
     go read.digits read.count read.are_digits read.text read.plain
   where
     go : (ds : List ℕ) → length ds ≡ n → AllBelowBase 10 ds → digits ≡ digits_text s (λ _. false) ds ++ rest
@@ -417,18 +518,6 @@ fraction_found s bytes digits rest n old middle new e none some pushed read =
       plain = λ before h. subst (IsPlain new) (append_assoc before (46 ∷ []) (ascii_digits_of (d ∷ ds)))
           (plain (before ++ 46 ∷ []) (pushed before h));
     }
-
--- the number and the digits of a text, as they were counted
-pub counted_numeral : (s : Symbols) → IsReadable s → (bytes number : List ℕ) (w : Numeral) (n : ℕ) (grouped : Bool)
-    → (numeral : IsNumeral s bytes w)
-    → number ≡ absolute_numeral_text s (separated_by s numeral.strategy (length w.whole)) w
-    → ((separated : ℕ → Bool) (ds tail : List ℕ) → AllBelowBase 10 ds → EndsInteger s tail
-    → number ≡ digits_text s separated ds ++ tail → IsShape separated ds n grouped)
-    → (n ≡ length w.whole) × (number ≡ digits_text s (separated_if s grouped) w.whole ++ fraction_text s w.fraction)
-counted_numeral s readable bytes number w n grouped numeral e counted =
-    let shape = counted (separated_by s numeral.strategy (length w.whole)) w.whole (fraction_text s w.fraction)
-    numeral.digits.whole (fraction_ends s readable w.fraction) e in
-    (shape.count, number_shape s readable w numeral.strategy number n grouped e shape)
 
 -- ---- Results.
 pub if_ok_weaker : {V E : Type 0} (result : Result V E) (P Q : V → Type 0) → ((v : V) → P v → Q v) → IfOk result P

@@ -1,11 +1,15 @@
 -- Numbers as people type them.
-use Rattle.std.specs.Prelude.{ℕ, ◌-◌, ◌<◌, ◌==◌, ◌⊎◌, Bool, ◌&&◌, ◌||◌, if◌then◌else◌, List, [], length, encode_utf8}
+use Rattle.std.specs.Prelude.{◌≡◌, ℕ, ◌-◌, ◌%◌, ◌<◌, ◌==◌, nat_le, nat_lt, ◌⊎◌, Bool, false, ◌&&◌, ◌||◌, if◌then◌else◌, List, [], length, encode_utf8}
 use Rattle.std.specs.Char.{is_ascii_digit}
 use Rattle.std.specs.List.{flat_map, list_any}
 use Rattle.std.specs.Str.{chars}
 use Rattle.fixed_decimal.specs.Decimal.{Decimal}
+use Rattle.decimal_format.specs.declared.grouping.GroupingSizes.{GroupingSizes}
+use Rattle.decimal_format.specs.declared.grouping.GroupingStrategy.TheVariants.{Never}
 use Rattle.decimal_format.specs.Symbols.{Symbols, digit_text}
-use Rattle.decimal_format.specs.Reading.{Numeral, IsNumeral, IsWritten, NeedsMemory}
+use Rattle.decimal_format.specs.Grouping.{secondary_size}
+use Rattle.decimal_format.specs.Formatted.{formatted}
+use Rattle.decimal_format.specs.Reading.{Numeral, AreDigits, numeral_text, IsNumeral, IsWritten, NeedsMemory}
 
 -- ---- Classes of characters, as in CLDR's lenient parsing.
 
@@ -52,16 +56,40 @@ replacement s c =
 abbrev pub normalized : Symbols → List ℕ → List ℕ
 normalized s text = flat_map (replacement s) (chars text)
 
+-- ---- Optional separators.
+
+-- a group ends after the digit at a magnitude: at the primary size, and at multiples of the secondary size above it
+abbrev pub ends_group : GroupingSizes → ℕ → Bool
+ends_group sizes m =
+    nat_lt 0 sizes.primary && (nat_le sizes.primary m && ((m - sizes.primary) % secondary_size sizes == 0))
+
+-- a separator is after each chosen digit that ends a group
+abbrev pub separated_at : Symbols → (ℕ → Bool) → ℕ → Bool
+separated_at s chosen m = ends_group s.sizes m && chosen m
+
+-- the text is that of these digits, with a grouping separator after any of the digits that end a group
+pub record IsLenientNumeral (s : Symbols) (bytes : List ℕ) (w : Numeral) : Type 0 where
+  pub digits : AreDigits w
+  pub chosen : ℕ → Bool
+  pub text : bytes ≡ numeral_text s (separated_at s chosen) w
+
+-- and these digits without a separator are the text of the decimal by `Never`: 1234,567 is that of 1234567
+abbrev pub IsLenientlyWritten : Symbols → Decimal → List ℕ → Type 0
+IsLenientlyWritten s v bytes =
+    (w : Numeral) × IsLenientNumeral s bytes w × (numeral_text s (λ _. false) w ≡ formatted s Never v)
+
 -- ---- What is read.
 
--- the text is that of the decimal; or it is that of no number, and its normal form is that of the decimal
+-- the text is that of the decimal; or it is that of no number, and its normal form is that of the decimal, with
+-- optional separators
 abbrev pub IsTyped : Symbols → Decimal → List ℕ → Type 0
-IsTyped s v text = IsWritten s v text ⊎ (((w : Numeral) → ¬ IsNumeral s text w) × IsWritten s v (normalized s text))
+IsTyped s v text =
+    IsWritten s v text ⊎ (((w : Numeral) → ¬ IsNumeral s text w) × IsLenientlyWritten s v (normalized s text))
 
 -- the same for a numeral of any number of digits
 abbrev pub IsTypedNumeral : Symbols → List ℕ → Numeral → Type 0
-IsTypedNumeral s text w = IsNumeral s text w ⊎ (((u : Numeral)
-    → ¬ IsNumeral s text u) × IsNumeral s (normalized s text) w)
+IsTypedNumeral s text w =
+    IsNumeral s text w ⊎ (((u : Numeral) → ¬ IsNumeral s text u) × IsLenientNumeral s (normalized s text) w)
 
 -- the normal form has more than 64 bytes, or the value needs memory
 abbrev pub TypedNeedsMemory : ℕ → Symbols → List ℕ → Type 0

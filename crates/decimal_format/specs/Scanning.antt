@@ -1,13 +1,18 @@
 -- Private: used only in the contracts of private functions.
 -- What the steps of a scan find.
-use Rattle.std.specs.Prelude.{◌≡◌, ◌≢◌, ℕ, ◌+◌, ◌-◌, ◌%◌, ◌==◌, ◌<◌, ◌≤◌, nat_le, nat_lt, Bool, true, false, ◌&&◌, List, [], ◌∷◌, ◌++◌, if◌then◌else◌, length, map}
+use Rattle.std.specs.Prelude.{◌≡◌, ◌≢◌, ℕ, ◌+◌, ◌<◌, ◌≤◌, ◌↔◌, ◌⊎◌, Bool, true, false, ◌&&◌, List, [], ◌∷◌, ◌++◌, if◌then◌else◌, length, map, Result, Ok, Err, IfOk}
 use Rattle.std.specs.Int.Digits.{AllBelowBase}
-use Rattle.decimal_format.specs.declared.grouping.GroupingSizes.{GroupingSizes}
+use Rattle.decimal_digits.specs.Number.{size}
+use Rattle.decimal_unsigned.specs.Reading.{read}
+use Rattle.decimal_unsigned.specs.Unsigned.{Unsigned}
+use Rattle.decimal_unsigned.specs.declared.error.ParseError.{ParseError}
+use Rattle.decimal_unsigned.specs.declared.error.ParseError.TheVariants.{Limit, Syntax, Memory}
+use Rattle.fixed_decimal.specs.Decimal.{Decimal}
 use Rattle.decimal_format.specs.declared.reader.Scanned.{Scanned}
 use Rattle.decimal_format.specs.declared.reader.plain_text.PlainText.{PlainText}
 use Rattle.decimal_format.specs.Symbols.{Symbols, digit_text}
-use Rattle.decimal_format.specs.Grouping.{secondary_size}
-use Rattle.decimal_format.specs.Reading.{Numeral, digits_text, fraction_text}
+use Rattle.decimal_format.specs.Lenient.{ends_group}
+use Rattle.decimal_format.specs.Reading.{Numeral, IsBeyondLimits, digits_text, fraction_text}
 
 -- ---- Plain texts.
 
@@ -36,29 +41,28 @@ AppendsPlain old new bytes = (before : List ℕ) → IsPlain old before → IsPl
 
 -- ---- Groups.
 
--- a group ends after the digit at a magnitude
-abbrev pub ends_group : GroupingSizes → ℕ → Bool
-ends_group sizes m = nat_lt 0 sizes.primary && (nat_le sizes.primary m && ((m - sizes.primary) % secondary_size
-    sizes == 0))
+-- a separator may be after the digit at a magnitude, if there may be groups
+abbrev pub may_separate : Symbols → Bool → ℕ → Bool
+may_separate s grouped m = grouped && ends_group s.sizes m
+
+-- a separator is there, and is one of those chosen
+abbrev pub separated_if : (ℕ → Bool) → (ℕ → Bool) → ℕ → Bool
+separated_if may chosen m = may m && chosen m
 
 -- the grouping separator, or nothing
 abbrev pub separator_if : Symbols → Bool → List ℕ
 separator_if s separated = if separated then s.grouping else []
 
--- a separator is after each group but the last, if there are groups
-abbrev pub separated_if : Symbols → Bool → ℕ → Bool
-separated_if s grouped m = grouped && ends_group s.sizes m
+-- a grouping separator was cut off where it is possible, if there is one
+pub record SkipsSeparator (s : Symbols) (possible : Bool) (bytes rest : List ℕ) (found : Bool) : Type 0 where
+  pub allowed : found ≡ true → possible ≡ true
+  pub text : bytes ≡ separator_if s found ++ rest
+  pub none : found ≡ false → possible ≡ true → (r : List ℕ) → bytes ≢ s.grouping ++ r
 
 -- a text after integer digits begins with no digit and no grouping separator
 pub record EndsInteger (s : Symbols) (tail : List ℕ) : Type 0 where
   pub digit : (d : ℕ) (rest : List ℕ) → d < 10 → tail ≢ digit_text s d ++ rest
   pub grouping : (rest : List ℕ) → tail ≢ s.grouping ++ rest
-
--- the digits are n, with a separator after one of them only if grouped
-pub record IsShape (separated : ℕ → Bool) (ds : List ℕ) (n : ℕ) (grouped : Bool) : Type 0 where
-  pub count : n ≡ length ds
-  pub some : grouped ≡ true → (m : ℕ) × (separated m ≡ true)
-  pub none : grouped ≡ false → (m : ℕ) → m < length ds → separated m ≡ false
 
 -- ---- Digits.
 
@@ -69,13 +73,20 @@ pub record BeginsWithDigit (s : Symbols) (bytes : List ℕ) : Type 0 where
   pub is_digit : digit < 10
   pub is : bytes ≡ digit_text s digit ++ following
 
--- n digits were read, the rest follows them, and their plain text was appended
-pub record ReadsDigits (s : Symbols) (separated : ℕ → Bool) (n : ℕ) (bytes rest : List ℕ) (old new : PlainText) :
-    Type 0 where
+-- of n digits, each has a separator after it where it may have one, or none has
+abbrev pub IsUniform : (ℕ → Bool) → (ℕ → Bool) → ℕ → Type 0
+IsUniform may chosen n =
+    (all : Bool) × ((m : ℕ) → m < n → separated_if may chosen m ≡ separated_if may (λ _. all) m)
+
+-- n digits were read, with separators after the chosen ones, the rest follows them, and their plain text was appended
+pub record ReadsDigits (s : Symbols) (may : ℕ → Bool) (n : ℕ) (bytes rest : List ℕ) (is_uniform : Bool) (old new :
+    PlainText) : Type 0 where
   pub digits : List ℕ
+  pub chosen : ℕ → Bool
   pub count : length digits ≡ n
   pub are_digits : AllBelowBase 10 digits
-  pub text : bytes ≡ digits_text s separated digits ++ rest
+  pub text : bytes ≡ digits_text s (separated_if may chosen) digits ++ rest
+  pub uniform : is_uniform ≡ true ↔ IsUniform may chosen n
   pub plain : AppendsPlain old new (ascii_digits_of digits)
 
 -- n fraction digits were read, and their plain text was appended
@@ -92,3 +103,12 @@ pub record IsScanned (r : Scanned) (w : Numeral) : Type 0 where
   pub whole : r.integer_digits ≡ length w.whole
   pub fraction : r.fraction_digits ≡ length w.fraction
   pub plain : IsPlain r.plain (plain_text w)
+
+-- the result is the value with the plain text of the digits; `Limit` exactly if there are too many digits; or `Memory`,
+-- for a plain text of more than 64 bytes or a value of more than `inline` digits
+pub record IsValueOf (inline : ℕ) (w : Numeral) (result : Result Decimal ParseError) : Type 0 where
+  pub found : IfOk result (λ v. (v.sign ≡ w.sign) × (read (plain_text w) ≡ Ok v.absolute))
+  pub syntax : result ≢ Err Syntax
+  pub limit : (result ≡ Err Limit) ↔ IsBeyondLimits w
+  pub memory : result ≡ Err Memory → (64 < length (plain_text w))
+      ⊎ ((u : Unsigned) × (read (plain_text w) ≡ Ok u) × (inline < size u.number))

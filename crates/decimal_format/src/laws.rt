@@ -5,6 +5,7 @@ ghost use Rattle.fixed_decimal.specs.Decimal.{Decimal};
 ghost use Rattle.fixed_decimal.specs.DecimalText.{decimal_text};
 ghost use Rattle.decimal_format.specs.Ascii.{ascii_with};
 ghost use Rattle.decimal_format.specs.Formatted.{formatted};
+ghost use Rattle.decimal_format.specs.Lenient.{IsTyped};
 ghost use Rattle.decimal_format.specs.Readable.{IsReadable};
 ghost use Rattle.decimal_format.specs.Symbols.{Symbols, without_grouping};
 ghost use Rattle.decimal_format.specs.declared.grouping.GroupingSizes.{GroupingSizes};
@@ -30,4 +31,10 @@ pub fn groups_insert_separators()
 pub fn texts_are_unique()
     ensures { (s : Symbols) (g h : GroupingStrategy) (v w : Decimal) → IsReadable s → IsValue v.absolute
         → IsValue w.absolute → formatted s g v ≡ formatted s h w → v ≡ w }
+{}
+
+/// With readable symbols, a text as people type it is that of at most one value.
+pub fn typed_texts_are_unique()
+    ensures { (s : Symbols) (text : List ℕ) (v w : Decimal) → IsReadable s → IsValue v.absolute
+        → IsValue w.absolute → IsTyped s v text → IsTyped s w text → v ≡ w }
 {}

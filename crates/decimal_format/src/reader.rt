@@ -4,8 +4,9 @@ ghost use Rattle.std.specs.Int.Digits.{AllBelowBase};
 ghost use Rattle.decimal_unsigned.specs.Unsigned.{IsValue};
 ghost use Rattle.fixed_decimal.specs.Decimal.{Decimal};
 ghost use Rattle.decimal_format.specs.Readable.{IsReadable};
-ghost use Rattle.decimal_format.specs.Reading.{Numeral, digits_text, fraction_text, IsNumeral, IsBeyondLimits, IsWritten, NeedsMemory};
-ghost use Rattle.decimal_format.specs.Scanning.{ends_group, separator_if, separated_if, EndsInteger, IsShape, ReadsDigits, ReadsFraction, IsScanned};
+ghost use Rattle.decimal_format.specs.Reading.{Numeral, AreDigits, digits_text, fraction_text, IsNumeral, IsBeyondLimits, IsWritten, NeedsMemory};
+ghost use Rattle.decimal_format.specs.Lenient.{ends_group, IsLenientNumeral, IsLenientlyWritten};
+ghost use Rattle.decimal_format.specs.Scanning.{may_separate, separated_if, SkipsSeparator, EndsInteger, ReadsDigits, ReadsFraction, IsScanned, IsValueOf};
 
 mod codes;
 mod lenient;
@@ -27,6 +28,8 @@ struct Scanned {
     sign: Sign,
     integer_digits: usize,
     fraction_digits: usize,
+    /// Whether the text has all grouping separators, or none.
+    is_strict: bool,
     plain: PlainText,
 }
 
@@ -36,6 +39,23 @@ impl Scanned {
         ensures { (w : Numeral) → IsScanned self.now w → IsTrue result ↔ IsBeyondLimits w }
     {
         self.integer_digits > MAX_DIGITS || self.fraction_digits > MAX_DIGITS
+    }
+
+    /// Returns the value of the digits.
+    fn value<D: DigitStore>(&self, alloc: Global) -> Result<Signed<UnsignedOver<D>>, ParseError>
+        ensures { (w : Numeral) → AreDigits w → IsScanned self.now w → IsValueOf D.L w result }
+    {
+        if self.is_beyond_limits() {
+            return Err(ParseError::Limit);
+        }
+        let Some(plain) = self.plain.bytes() else {
+            return Err(ParseError::Memory);
+        };
+        match UnsignedOver::try_from_utf8(alloc, plain) {
+            Ok(absolute) => Ok(Signed::new(self.sign, absolute)),
+            // The plain text is in the grammar, and within the limits.
+            Err(_) => Err(ParseError::Memory),
+        }
     }
 }
 
@@ -49,81 +69,77 @@ fn ends_group(sizes: GroupingSizes, magnitude: usize) -> bool
 }
 
 impl<'a> DecimalSymbols<'a> {
-    /// Returns whether there is a separator after the digit at a magnitude.
-    fn is_separated(&self, grouped: bool, magnitude: usize) -> bool
-        ensures { result ≡ separated_if self.now grouped magnitude }
+    /// Returns whether a separator may be after the digit at a magnitude, if there may be groups.
+    fn may_separate(&self, grouped: bool, magnitude: usize) -> bool
+        ensures { result ≡ may_separate self.now grouped magnitude }
     {
         grouped && ends_group(self.sizes(), magnitude)
     }
 
-    /// Returns whether a text begins with a grouping separator, and what follows it, else the text.
-    fn skip_separator<'t>(&self, text: &'t [u8]) -> (bool, &'t [u8])
-        ensures some { result.0 ≡ true → text.now ≡ self.now.grouping ++ result.1.now }
-        ensures none { result.0 ≡ false → (rest : List ℕ) → text.now ≢ self.now.grouping ++ rest }
-        ensures rest { result.0 ≡ false → result.1.now ≡ text.now }
-        ensures at_most { length result.1.now ≤ length text.now }
+    /// Returns whether there is a grouping separator at the start of a text where there may be one, and what follows it.
+    fn skip_separator<'t>(&self, possible: bool, text: &'t [u8]) -> (bool, &'t [u8])
+        ensures { SkipsSeparator self.now possible text.now result.1.now result.0 }
     {
+        if !possible {
+            return (false, text);
+        }
         match cut(text, self.grouping_separator().as_bytes()) {
             Some(rest) => (true, rest),
             None => (false, text),
         }
     }
 
-    /// Returns what follows a grouping separator, if there has to be one, else the text.
-    fn cut_separator<'t>(&self, separated: bool, text: &'t [u8]) -> Option<&'t [u8]>
-        ensures { MatchOption result ((rest : List ℕ) → text.now ≢ separator_if self.now separated ++ rest)
-            (λ r. text.now ≡ separator_if self.now separated ++ r.now) }
-    {
-        if separated {
-            cut(text, self.grouping_separator().as_bytes())
-        } else {
-            Some(text)
-        }
-    }
-
-    /// Counts the digits at the start of a text, and returns whether there are grouping separators among them.
-    fn count_digits(&self, text: &[u8]) -> (usize, bool)
+    /// Counts the digits at the start of a text, with grouping separators anywhere among them.
+    fn count_digits(&self, text: &[u8]) -> usize
         requires { IsReadable self.now }
         ensures { (separated : ℕ → Bool) (ds tail : List ℕ) → AllBelowBase 10 ds → EndsInteger self.now tail
-            → text.now ≡ digits_text self.now separated ds ++ tail → IsShape separated ds result.0 result.1 }
+            → text.now ≡ digits_text self.now separated ds ++ tail → result ≡ length ds }
     {
         let mut rest = text;
         let mut count = 0;
-        let mut grouped = false;
         while let Some((_, after)) = self.next_digit(rest) {
-            let (separated, next) = self.skip_separator(after);
+            let (_, next) = self.skip_separator(true, after);
             count += 1;
-            grouped |= separated;
             rest = next;
         }
-        (count, grouped)
+        count
     }
 
-    /// Reads the given number of digits, in groups or without separators, and returns what follows them.
+    /// Reads the given number of digits, with separators at any ends of groups if they may be grouped, and returns
+    /// whether all separators are there, or none, and what follows the digits.
     fn read_digits<'t>(
         &self,
         count: usize,
         grouped: bool,
         text: &'t [u8],
         plain: &mut PlainText,
-    ) -> Option<&'t [u8]>
+    ) -> Option<(bool, &'t [u8])>
         requires { IsReadable self.now }
-        ensures found { IfSome result (λ rest. ReadsDigits self.now (separated_if self.now grouped) count
-            text.now rest.now plain.old plain.new) }
-        ensures unique { IfSome result (λ rest. (ds tail : List ℕ) → length ds ≡ count → AllBelowBase 10 ds
-            → text.now ≡ digits_text self.now (separated_if self.now grouped) ds ++ tail → rest.now ≡ tail) }
-        ensures none { IfNone result ((ds tail : List ℕ) → length ds ≡ count → AllBelowBase 10 ds
-            → text.now ≢ digits_text self.now (separated_if self.now grouped) ds ++ tail) }
+        ensures found { IfSome result (λ r. ReadsDigits self.now (may_separate self.now grouped) count
+            text.now r.1.now r.0 plain.old plain.new) }
+        ensures unique { IfSome result (λ r. (chosen : ℕ → Bool) (ds tail : List ℕ) → length ds ≡ count
+            → AllBelowBase 10 ds
+            → text.now ≡ digits_text self.now (separated_if (may_separate self.now grouped) chosen) ds ++ tail
+            → r.1.now ≡ tail) }
+        ensures none { IfNone result ((chosen : ℕ → Bool) (ds tail : List ℕ) → length ds ≡ count
+            → AllBelowBase 10 ds
+            → text.now ≢ digits_text self.now (separated_if (may_separate self.now grouped) chosen) ds ++ tail) }
     {
         let mut rest = text;
         let mut left = count;
+        let mut all = true;
+        let mut none = true;
         while left > 0 {
             left -= 1;
             let (digit, after) = self.next_digit(rest)?;
             plain.push(b'0' + digit);
-            rest = self.cut_separator(self.is_separated(grouped, left), after)?;
+            let possible = self.may_separate(grouped, left);
+            let (separated, next) = self.skip_separator(possible, after);
+            all &= separated == possible;
+            none &= !separated;
+            rest = next;
         }
-        Some(rest)
+        Some((all | none, rest))
     }
 
     /// Reads the decimal separator and the fraction digits, if there are any, and returns their number.
@@ -136,33 +152,35 @@ impl<'a> DecimalSymbols<'a> {
             return Some(0);
         }
         let digits = cut(text, self.decimal_separator().as_bytes())?;
-        let (count, _) = self.count_digits(digits);
+        let count = self.count_digits(digits);
         if count == 0 {
             return None;
         }
         plain.push(b'.');
-        let rest = self.read_digits(count, false, digits, plain)?;
+        let (_, rest) = self.read_digits(count, false, digits, plain)?;
         if rest.is_empty() { Some(count) } else { None }
     }
 
-    /// Finds the sign and the digits of a text.
+    /// Finds the sign and the digits of a text, with separators at any ends of groups.
     fn scan(&self, alloc: Global, text: &[u8]) -> Option<Scanned>
         requires { IsReadable self.now }
-        ensures found { IfSome result (λ r. (w : Numeral) × IsNumeral self.now text.now w × IsScanned r w) }
-        ensures none { IfNone result ((w : Numeral) → ¬ IsNumeral self.now text.now w) }
+        ensures found { IfSome result (λ r. (w : Numeral) × IsLenientNumeral self.now text.now w × IsScanned r w
+            × (r.is_strict ≡ true ↔ IsNumeral self.now text.now w)) }
+        ensures none { IfNone result ((w : Numeral) → ¬ IsLenientNumeral self.now text.now w) }
     {
         let (sign, number) = self.split_sign(text)?;
-        let (integer_digits, grouped) = self.count_digits(number);
+        let integer_digits = self.count_digits(number);
         if integer_digits == 0 {
             return None;
         }
         let mut plain = PlainText::new(alloc);
-        let rest = self.read_digits(integer_digits, grouped, number, &mut plain)?;
+        let (is_strict, rest) = self.read_digits(integer_digits, true, number, &mut plain)?;
         let fraction_digits = self.read_fraction(rest, &mut plain)?;
         Some(Scanned {
             sign,
             integer_digits,
             fraction_digits,
+            is_strict,
             plain,
         })
     }
@@ -197,16 +215,31 @@ impl<'a> DecimalSymbols<'a> {
         let Some(scanned) = self.scan(alloc, text) else {
             return Err(ParseError::Syntax);
         };
-        if scanned.is_beyond_limits() {
-            return Err(ParseError::Limit);
+        if !scanned.is_strict {
+            return Err(ParseError::Syntax);
         }
-        let Some(plain) = scanned.plain.bytes() else {
-            return Err(ParseError::Memory);
-        };
-        match UnsignedOver::try_from_utf8(alloc, plain) {
-            Ok(absolute) => Ok(Signed::new(scanned.sign, absolute)),
-            // The plain text is in the grammar, and within the limits.
-            Err(_) => Err(ParseError::Memory),
+        scanned.value(alloc)
+    }
+
+    /// Reads a decimal with separators at any of the ends of groups.
+    pub(crate) fn read_any_groups<D: DigitStore>(
+        &self,
+        alloc: Global,
+        text: &[u8],
+    ) -> Result<Signed<UnsignedOver<D>>, ParseError>
+        requires { IsReadable self.now }
+        ensures found { IfOk result (λ v. IsLenientlyWritten self.now v text.now) }
+        ensures reads_back { (v : Decimal) → IsValue v.absolute → IsLenientlyWritten self.now v text.now
+            → MatchResult result (λ w. w ≡ v) (λ e. e ≡ ParseError.Memory) }
+        ensures syntax { (result ≡ Err ParseError.Syntax) ↔ ((w : Numeral) → ¬ IsLenientNumeral self.now text.now w) }
+        ensures limit { (result ≡ Err ParseError.Limit)
+            ↔ ((w : Numeral) × IsLenientNumeral self.now text.now w × IsBeyondLimits w) }
+        ensures memory { (result ≡ Err ParseError.Memory)
+            → (v : Decimal) × IsLenientlyWritten self.now v text.now × NeedsMemory D.L v.absolute }
+    {
+        match self.scan(alloc, text) {
+            Some(scanned) => scanned.value(alloc),
+            None => Err(ParseError::Syntax),
         }
     }
 }

@@ -4,9 +4,9 @@ ghost use Rattle.std.specs.List.{list_any};
 ghost use Rattle.std.specs.Str.{chars};
 ghost use Rattle.decimal_unsigned.specs.Unsigned.{IsValue};
 ghost use Rattle.fixed_decimal.specs.Decimal.{Decimal};
-ghost use Rattle.decimal_format.specs.Lenient.{is_mark, is_minus, is_plus, is_space, is_apostrophe, is_separator, replacement, normalized, IsTyped, IsTypedNumeral, TypedNeedsMemory};
+ghost use Rattle.decimal_format.specs.Lenient.{is_mark, is_minus, is_plus, is_space, is_apostrophe, is_separator, replacement, normalized, IsLenientNumeral, IsLenientlyWritten, IsTyped, IsTypedNumeral, TypedNeedsMemory};
 ghost use Rattle.decimal_format.specs.Readable.{IsReadable};
-ghost use Rattle.decimal_format.specs.Reading.{Numeral, IsNumeral, IsBeyondLimits, IsWritten, NeedsMemory};
+ghost use Rattle.decimal_format.specs.Reading.{Numeral, IsBeyondLimits, NeedsMemory};
 ghost use Rattle.decimal_format.specs.Scanning.{IsPlain};
 
 use super::plain_text::PlainText;
@@ -116,21 +116,23 @@ impl<'a> DecimalSymbols<'a> {
         text: &str,
     ) -> Result<Signed<UnsignedOver<D>>, ParseError>
         requires { IsReadable self.now }
-        ensures found { IfOk result (λ v. IsWritten self.now v (normalized self.now text.now)) }
-        ensures reads_back { (v : Decimal) → IsValue v.absolute → IsWritten self.now v (normalized self.now text.now)
+        ensures found { IfOk result (λ v. IsLenientlyWritten self.now v (normalized self.now text.now)) }
+        ensures reads_back { (v : Decimal) → IsValue v.absolute
+            → IsLenientlyWritten self.now v (normalized self.now text.now)
             → MatchResult result (λ w. w ≡ v) (λ e. e ≡ ParseError.Memory) }
         ensures syntax { result ≡ Err ParseError.Syntax
-            → (w : Numeral) → ¬ IsNumeral self.now (normalized self.now text.now) w }
+            → (w : Numeral) → ¬ IsLenientNumeral self.now (normalized self.now text.now) w }
         ensures limit { result ≡ Err ParseError.Limit
-            → (w : Numeral) × IsNumeral self.now (normalized self.now text.now) w × IsBeyondLimits w }
+            → (w : Numeral) × IsLenientNumeral self.now (normalized self.now text.now) w × IsBeyondLimits w }
         ensures memory { result ≡ Err ParseError.Memory → (64 < length (normalized self.now text.now))
-            ⊎ ((v : Decimal) × IsWritten self.now v (normalized self.now text.now) × NeedsMemory D.L v.absolute) }
+            ⊎ ((v : Decimal) × IsLenientlyWritten self.now v (normalized self.now text.now)
+            × NeedsMemory D.L v.absolute) }
     {
         let plain = self.normalized(alloc, text);
         let Some(bytes) = plain.bytes() else {
             return Err(ParseError::Memory);
         };
-        self.read(alloc, bytes)
+        self.read_any_groups(alloc, bytes)
     }
 
     /// Reads a decimal as people type it.
@@ -138,7 +140,8 @@ impl<'a> DecimalSymbols<'a> {
     /// A text that [`read`](Self::read) accepts has the same value. In any other text, ASCII digits stand for the
     /// digits of the locale, minus signs and hyphens for its minus, spaces for its grouping separator if that is a
     /// space, apostrophes likewise, and direction marks are ignored: with the symbols of `fr`, `1 234,5` with a space
-    /// of the keyboard is 1234.5. All separators are there, or none. Requires readable symbols.
+    /// of the keyboard is 1234.5. Separators are optional, at the ends of groups: with those of `en`, `1234,567` is
+    /// 1234567, and `12,34` is `Syntax`. Requires readable symbols.
     ///
     /// # Errors
     ///

@@ -5,7 +5,7 @@ use Rattle.decimal_format.proofs.symbols.DecimalSymbols.count_digits.Given as go
 abbrev pub invariant-loop-after : goal.invariant-loop-after
 invariant-loop-after l = record {
   at_most : l.count + length l.rest ≤ length l.text;
-  counted : IsCounted l.self l.text l.rest l.count l.grouped;
+  counted : IsCounted l.self l.text l.rest l.count;
 }
 
 abbrev pub decreases-loop-after : goal.decreases-loop-after

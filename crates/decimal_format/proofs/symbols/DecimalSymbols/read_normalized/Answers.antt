@@ -1,8 +1,8 @@
 use Rattle.std.proofs.Common.{ℕ, List, inl, inr, sym, subst}
 use Rattle.std.specs.Prelude.{IfOk}
 use Rattle.fixed_decimal.specs.Decimal.{Decimal}
-use Rattle.decimal_format.specs.Lenient.{normalized}
-use Rattle.decimal_format.specs.Reading.{Numeral, IsNumeral, IsBeyondLimits, IsWritten, NeedsMemory}
+use Rattle.decimal_format.specs.Lenient.{IsLenientNumeral, IsLenientlyWritten, normalized}
+use Rattle.decimal_format.specs.Reading.{Numeral, IsBeyondLimits, NeedsMemory}
 use Rattle.decimal_format.proofs.symbols.DecimalSymbols.read_normalized.Goals as goal
 
 pub returns-in_default-clause-memory : goal.returns-in_default-clause-memory
@@ -13,29 +13,29 @@ pub returns-clause-found : goal.returns-clause-found
 returns-clause-found g c =
     let s = c.args.self.now in
     let e = c.in-Some.ensures (normalized s c.args.text.now) c.normalized-plain.ensures in
-    subst (λ (l : List ℕ). IfOk c.read.result (λ v. IsWritten s v l)) e c.read.ensures.found
+    subst (λ (l : List ℕ). IfOk c.read_any_groups.result (λ v. IsLenientlyWritten s v l)) e c.read_any_groups.ensures.found
 
 pub returns-clause-reads_back : goal.returns-clause-reads_back
 returns-clause-reads_back g c = λ v valid written.
     let s = c.args.self.now in
     let e = c.in-Some.ensures (normalized s c.args.text.now) c.normalized-plain.ensures in
-    c.read.ensures.reads_back v valid (subst (λ (l : List ℕ). IsWritten s v l) (sym e) written)
+    c.read_any_groups.ensures.reads_back v valid (subst (λ (l : List ℕ). IsLenientlyWritten s v l) (sym e) written)
 
 pub returns-clause-syntax : goal.returns-clause-syntax
 returns-clause-syntax g c = λ h w numeral.
     let s = c.args.self.now in
     let e = c.in-Some.ensures (normalized s c.args.text.now) c.normalized-plain.ensures in
-    c.read.ensures.syntax.0 h w (subst (λ (l : List ℕ). IsNumeral s l w) (sym e) numeral)
+    c.read_any_groups.ensures.syntax.0 h w (subst (λ (l : List ℕ). IsLenientNumeral s l w) (sym e) numeral)
 
 pub returns-clause-limit : goal.returns-clause-limit
 returns-clause-limit g c = λ h.
     let s = c.args.self.now in
     let e = c.in-Some.ensures (normalized s c.args.text.now) c.normalized-plain.ensures in
-    subst (λ (l : List ℕ). (w : Numeral) × IsNumeral s l w × IsBeyondLimits w) e (c.read.ensures.limit.0 h)
+    subst (λ (l : List ℕ). (w : Numeral) × IsLenientNumeral s l w × IsBeyondLimits w) e (c.read_any_groups.ensures.limit.0 h)
 
 pub returns-clause-memory : goal.returns-clause-memory
 returns-clause-memory g c = λ h.
     let s = c.args.self.now in
     let e = c.in-Some.ensures (normalized s c.args.text.now) c.normalized-plain.ensures in
-    inr (subst (λ (l : List ℕ). (v : Decimal) × IsWritten s v l × NeedsMemory g.D.DigitStore.L v.absolute) e
-    (c.read.ensures.memory h))
+    inr (subst (λ (l : List ℕ). (v : Decimal) × IsLenientlyWritten s v l × NeedsMemory g.D.DigitStore.L v.absolute) e
+    (c.read_any_groups.ensures.memory h))

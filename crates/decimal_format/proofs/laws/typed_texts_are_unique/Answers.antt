@@ -1,0 +1,5 @@
+use Rattle.decimal_format.proofs.NumeralLaws as laws
+use Rattle.decimal_format.proofs.laws.typed_texts_are_unique.Goals as goal
+
+pub returns : goal.returns
+returns c = laws.typed_texts_are_unique
