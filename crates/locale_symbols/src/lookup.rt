@@ -119,7 +119,7 @@ fn symbols_in(
 /// that is `tag` or has a hyphen after it there, so `de-DE` has the symbols of `de`. The numbering system is the one
 /// that `nu` names, or the default one of the locale.
 ///
-/// Texts with the symbols can be read. Returns `None` if no tag of the locale is listed, or the numbering system is not.
+/// The symbols are readable. Returns `None` if no tag of the locale is listed, or the numbering system is not.
 ///
 /// ```
 /// locale("de_CH.UTF-8") // 1’234’567.5
