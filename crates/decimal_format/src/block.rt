@@ -59,6 +59,15 @@ impl Block {
         match bytes {
             [] => {}
             [byte] => self.bytes[self.len] = *byte,
+            [first, second] => {
+                self.bytes[self.len] = *first;
+                self.bytes[self.len + 1] = *second;
+            }
+            [first, second, third] => {
+                self.bytes[self.len] = *first;
+                self.bytes[self.len + 1] = *second;
+                self.bytes[self.len + 2] = *third;
+            }
             _ => self.bytes[self.len..end].copy_from_slice(bytes),
         }
         self.len = end;
