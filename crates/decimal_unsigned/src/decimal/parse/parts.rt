@@ -17,7 +17,7 @@ pub struct Parts<'a> {
 }
 
 /// The number of bytes that are tested at once.
-const GROUP: usize = 32;
+const GROUP: usize = 16;
 
 /// Returns whether all bytes are digits. Each one is tested, without a branch, so that a processor tests many at once.
 #[inline]
