@@ -1,5 +1,5 @@
 -- The run that the words of a command line name, and its result.
-use Rattle.std.proofs.Common.{◌≡◌, ◌≢◌, ℕ, ◌+◌, ◌-◌, ◌<◌, ◌≤◌, List, [], ◌∷◌, ◌++◌, length, take, drop, get_or, String, string_bytes, Option, Some, None, Result, Ok, Err, IfNone, IfSome, IfErr, true, false, refl, sym, ap, subst, ◌∙◌, arith, add-one}
+use Rattle.std.proofs.Common.{inl, inr, ◌≡◌, ◌≢◌, ℕ, ◌+◌, ◌-◌, ◌<◌, ◌≤◌, List, [], ◌∷◌, ◌++◌, length, take, drop, get_or, String, string_bytes, Option, Some, None, Result, Ok, Err, IfNone, IfSome, IfErr, true, false, refl, sym, ap, subst, ◌∙◌, arith, add-one}
 use Rattle.std.specs.Prelude.{Any, IsErrAnd, OnOk}
 use Rattle.std.specs.Option.{is_some}
 use Rattle.std.specs.declared.alloc.Global.{Global}
@@ -11,12 +11,16 @@ use Rattle.decimal_digits.specs.AppendsPrefix.{AppendsPrefix}
 use Rattle.fixed_decimal.proofs.Calling.{prefix_more}
 use Rattle.fixed_decimal.specs.declared.runs.Call.{Call}
 use Rattle.cli.specs.declared.conversion.Conversion.{Conversion}
-use Rattle.cli.specs.declared.error.FixdecError.TheVariants.{Memory, Operation}
+use Rattle.cli.specs.declared.error.FixdecError.TheVariants.{Usage, Operation}
 use Rattle.cli.specs.Conversion.{HasOutcome}
-use Rattle.cli.specs.Words.{Names, NameAll, NamesConversion, AreCalls, IsUnknown}
+use Rattle.cli.specs.Words.{Names, NameAll}
+use Rattle.cli.specs.ConversionWords.{IsReadSplit, NamesConversion, ConversionFails}
+use Rattle.cli.specs.declared.words.WordsError.{WordsError}
+use Rattle.cli.specs.declared.words.WordsError.TheVariants as reason
+use Rattle.cli.specs.Errors.{fixdec_error_of}
 use Rattle.cli.specs.declared.error.OperationError.TheVariants.{Output}
 use Rattle.cli.specs.Arguments.{Arguments, HaveWords}
-use Rattle.cli.specs.Fixdec.{IsUsage, NamesRun, HasError, PrintsLine, PrintsLinePrefix, Prints, PrintsPrefix}
+use Rattle.cli.specs.Fixdec.{HasRun, NamesRun, HasError, PrintsLine, PrintsLinePrefix, Prints, PrintsPrefix}
 
 -- ---- Words and calls, one by one.
 
@@ -45,35 +49,71 @@ pub at_some : {A : Type 0} {Q : A → Type 0} (o : Option A) → is_some o ≡ t
 at_some None e q = cc
 at_some (Some x) e q = (x, q)
 
--- ---- The words after the first.
+-- ---- The words after the first, and before the last.
 
-behind_is :
+after_first :
     (first : String Global) (words : List (String Global))
     → take (length (first ∷ words) - 1) (drop 1 (first ∷ words)) ≡ words
-behind_is first words = rw (← length-drop 1 (first ∷ words)) (take-length words)
+after_first first words = rw (← length-drop 1 (first ∷ words)) (take-length words)
 
--- where a word after the first names no call, that is the error of usage
-pub usage_if :
-    (words : List (String Global)) → 1 ≤ length words → Any IsUnknown (take (length words - 1) (drop 1 words))
-    → IsUsage words
-usage_if [] l h = absurd (omega arith)
-usage_if (w ∷ ws) l h = rw (behind_is w ws) at h
+-- words are the first and those after it
+pub first_and_others :
+    (words : List (String Global)) (first : String Global) → 1 ≤ length words → first ≡ get_or words 0 first
+    → words ≡ first ∷ take (length words - 1) (drop 1 words)
+first_and_others [] first l is = absurd (omega arith)
+first_and_others (w ∷ ws) first l is = rw (after_first w ws) (ap (λ x. x ∷ ws) (sym is))
 
--- the first word is the text, and the words after it name a conversion
-pub names_run :
-    (words : List (String Global)) (first : String Global) (conversion : Conversion) → 1 ≤ length words
-    → first ≡ get_or words 0 first → NamesConversion (take (length words - 1) (drop 1 words)) conversion
-    → NamesRun words conversion (string_bytes first)
-names_run [] first conversion l is h = absurd (omega arith)
-names_run (w ∷ ws) first conversion l is h = (ap string_bytes is, rw (behind_is w ws) at h)
+-- words are the last and those before it
+pub others_and_last :
+    (words : List (String Global)) (last : String Global) → 1 ≤ length words
+    → last ≡ get_or words (length words - 1) last → words ≡ take (length words - 1) words ++ (last ∷ [])
+others_and_last words last l is =
+    let i = length words - 1 in
+    let e : length words - 1 + 1 ≡ length words = omega arith in
+    let inside : length words - 1 < length words = omega arith in
+    sym (take-length words) ∙ ap (λ n. take n words) (sym e) ∙ taken words (length words - 1) last inside is
 
--- where the words after the first name calls, and the list of these cannot be allocated, that is the error of memory
-pub memory_if :
-    (words : List (String Global)) → 1 ≤ length words
-    → AreCalls (take (length words - 1) (drop 1 words)) × (take (length words - 1) (drop 1 words) ≢ [])
-    → HasError words Memory
-memory_if [] l h = absurd (omega arith)
-memory_if (w ∷ ws) l h = rw (behind_is w ws) at h
+-- the words after an optional `read:..`
+module _
+    (words rest : List (String Global)) (read : Option (List ℕ)) (split : IsReadSplit words read rest)
+  where
+    -- there are none
+    pub no_text : length rest < 1 → HasError words Usage
+    no_text few = inl ((read, subst (IsReadSplit words read) (nil rest few) split), refl)
+      where
+        nil : (xs : List (String Global)) → length xs < 1 → xs ≡ []
+        nil [] few = refl
+        nil (x ∷ xs) few = absurd (omega arith)
+
+    module _
+        (first : String Global) (l : 1 ≤ length rest) (is : first ≡ get_or rest 0 first)
+      where
+        others : List (String Global)
+        others = take (length rest - 1) (drop 1 rest)
+
+        split_text : IsReadSplit words read (first ∷ others)
+        unfolding others
+        split_text = subst (IsReadSplit words read) (first_and_others rest first l is) split
+
+        -- the first is the text, and the others name a conversion
+        pub names_run :
+            (conversion : Conversion) → NamesConversion read (take (length rest - 1) (drop 1 rest)) conversion
+            → NamesRun words conversion (string_bytes first)
+        unfolding others
+        names_run conversion names =
+            record { read = read; first = first; others = others; split = split_text; holds = (refl, names) }
+
+        -- they name none
+        pub words_fail :
+            (error : WordsError) → ConversionFails read (take (length rest - 1) (drop 1 rest)) error
+            → HasError words (fixdec_error_of error)
+        unfolding others
+        words_fail reason.Usage fails =
+            inr (record { read = read; first = first; others = others; split = split_text; holds = fails })
+        words_fail reason.UnknownLocale fails =
+            inr (record { read = read; first = first; others = others; split = split_text; holds = fails })
+        words_fail reason.Memory fails =
+            inr (record { read = read; first = first; others = others; split = split_text; holds = fails })
 
 -- ---- Results.
 

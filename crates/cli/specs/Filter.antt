@@ -1,9 +1,10 @@
 -- The filter that the words of `fixdec_lines` name, and its result on an input.
 use Rattle.std.specs.Prelude.{◌≡◌, ◌≢◌, ◌⊎◌, ℕ, ⊤, Any, Bool, true, List, [], ◌∷◌, codes, String, string_bytes, Option, MatchOption, Result, Ok, Err}
 use Rattle.std.specs.declared.alloc.Global.{Global}
-use Rattle.cli.specs.Words.{NamesConversion, AreCalls, IsUnknown}
+use Rattle.cli.specs.ConversionWords.{IsReadSplit, NamesConversion, ConversionFails}
+use Rattle.cli.specs.declared.words.WordsError.TheVariants as reason
 use Rattle.cli.specs.declared.error.FilterError.{FilterError}
-use Rattle.cli.specs.declared.error.FilterError.TheVariants.{Usage, Memory, Output}
+use Rattle.cli.specs.declared.error.FilterError.TheVariants.{Usage, UnknownLocale, Memory, Output}
 use Rattle.cli.specs.declared.filter.Filter.{Filter}
 use Rattle.cli.specs.declared.filter.OnError.{OnError}
 use Rattle.cli.specs.declared.filter.OnError.TheVariants.{Stop, Skip}
@@ -17,24 +18,37 @@ IsSplit (first ∷ words) Skip others = (string_bytes first ≡ codes "skip") ×
 IsSplit [] Stop others = others ≡ []
 IsSplit (first ∷ words) Stop others = (string_bytes first ≢ codes "skip") × (others ≡ first ∷ words)
 
--- the words after the optional first word `skip` name the conversion of this filter
+-- the words are [skip] [read:..] .., and P holds of what is done at an error, of what follows `read:`, and of the
+-- words after it
+pub record HasWords
+    (words : List (String Global)) (P : OnError → Option (List ℕ) → List (String Global) → Type 0)
+    : Type 0
+  where
+    pub on_error : OnError
+    pub unskipped : List (String Global)
+    pub read : Option (List ℕ)
+    pub others : List (String Global)
+    pub skip : IsSplit words on_error unskipped
+    pub split : IsReadSplit unskipped read others
+    pub holds : P on_error read others
+
+-- the words are [skip] [read:..] [CALL].. [format:..], with this filter
 abbrev pub NamesFilter : List (String Global) → Filter → Type 0
 NamesFilter words filter =
-    (others : List (String Global)) × IsSplit words filter.on_error others
-    × NamesConversion others filter.conversion
+    HasWords words
+    (λ on_error read others. (on_error ≡ filter.on_error) × NamesConversion read others filter.conversion)
 
--- the words name no filter: a word after the optional first word `skip` names no call, or there is no memory for the
--- list of the calls
+-- they are not, for this error
 abbrev pub FilterFails : List (String Global) → FilterError → Type 0
-FilterFails words Usage =
-    (on_error : OnError) × (others : List (String Global)) × IsSplit words on_error others × Any IsUnknown others
-FilterFails words Memory =
-    (on_error : OnError) × (others : List (String Global)) × IsSplit words on_error others × AreCalls others
+FilterFails words Usage = HasWords words (λ _ read others. ConversionFails read others reason.Usage)
+FilterFails words UnknownLocale = HasWords words (λ _ read others. ConversionFails read others reason.UnknownLocale)
+FilterFails words Memory = HasWords words (λ _ read others. ConversionFails read others reason.Memory)
 FilterFails words _ = ⊥
 
 -- the error comes before the first line
 abbrev pub IsEarly : FilterError → Type 0
 IsEarly Usage = ⊤
+IsEarly UnknownLocale = ⊤
 IsEarly Memory = ⊤
 IsEarly _ = ⊥
 

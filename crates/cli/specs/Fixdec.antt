@@ -1,25 +1,42 @@
 -- The run that the words of `fixdec` name, and its result.
-use Rattle.std.specs.Prelude.{◌≡◌, ◌≢◌, ℕ, ⊤, Bool, true, Any, List, [], ◌∷◌, ◌++◌, String, string_bytes}
+use Rattle.std.specs.Prelude.{◌⊎◌, ◌≡◌, ◌≢◌, ℕ, ⊤, Bool, true, Any, List, [], ◌∷◌, ◌++◌, String, string_bytes}
 use Rattle.std.specs.Prelude.{Option, MatchOption}
 use Rattle.std.specs.Io.KnownBytes.{Appends, append_known}
 use Rattle.std.specs.declared.alloc.Global.{Global}
 use Rattle.decimal_digits.specs.AppendsPrefix.{AppendsPrefix}
-use Rattle.cli.specs.Words.{NamesConversion, AreCalls, IsUnknown}
+use Rattle.cli.specs.ConversionWords.{IsReadSplit, NamesConversion, ConversionFails}
+use Rattle.cli.specs.declared.words.WordsError.{WordsError}
+use Rattle.cli.specs.declared.words.WordsError.TheVariants as reason
 use Rattle.cli.specs.declared.conversion.Conversion.{Conversion}
 use Rattle.cli.specs.declared.error.FixdecError.{FixdecError}
-use Rattle.cli.specs.declared.error.FixdecError.TheVariants.{Usage, Memory, Operation}
+use Rattle.cli.specs.declared.error.FixdecError.TheVariants.{Usage, UnknownLocale, Memory, Operation}
 use Rattle.cli.specs.Conversion.{HasOutcome, OperationsFail}
 use Rattle.cli.specs.Errors.{output}
 
--- there is no first word, or a word after it names no call
-abbrev pub IsUsage : List (String Global) → Type 0
-IsUsage [] = ⊤
-IsUsage (first ∷ words) = Any IsUnknown words
+-- the words are [read:..] TEXT .., and P holds of what follows `read:`, of the bytes of TEXT and of the words after it
+pub record HasText
+    (words : List (String Global)) (P : Option (List ℕ) → List ℕ → List (String Global) → Type 0)
+    : Type 0
+  where
+    pub read : Option (List ℕ)
+    pub first : String Global
+    pub others : List (String Global)
+    pub split : IsReadSplit words read (first ∷ others)
+    pub holds : P read (string_bytes first) others
 
--- the bytes of the first word are the text, and the words after it name the conversion
+-- there is no TEXT
+abbrev pub HasNoText : List (String Global) → Type 0
+HasNoText words = (read : Option (List ℕ)) × IsReadSplit words read []
+
+-- the words are [read:..] TEXT [CALL].. [format:..], with this conversion and this text
 abbrev pub NamesRun : List (String Global) → Conversion → List ℕ → Type 0
-NamesRun [] conversion text = ⊥
-NamesRun (first ∷ words) conversion text = (text ≡ string_bytes first) × NamesConversion words conversion
+NamesRun words conversion text =
+    HasText words (λ read bytes others. (text ≡ bytes) × NamesConversion read others conversion)
+
+-- they are not, for this reason
+abbrev pub RunFails : List (String Global) → WordsError → Type 0
+RunFails words error =
+    (HasNoText words × (error ≡ reason.Usage)) ⊎ HasText words (λ read _ others. ConversionFails read others error)
 
 -- the words name a conversion and a text, and P holds of these
 pub record HasRun (words : List (String Global)) (P : Conversion → List ℕ → Type 0) : Type 0 where
@@ -27,11 +44,6 @@ pub record HasRun (words : List (String Global)) (P : Conversion → List ℕ �
   pub text : List ℕ
   pub names : NamesRun words conversion text
   pub holds : P conversion text
-
--- there is no memory for the list of the calls that the words after the first name
-abbrev pub HasLongCalls : List (String Global) → Type 0
-HasLongCalls [] = ⊥
-HasLongCalls (first ∷ words) = AreCalls words × (words ≢ [])
 
 -- the conversion of a text has a text, and the text and a line feed are appended
 abbrev pub PrintsLine : Option (List ℕ) → Option (List ℕ) → Conversion → List ℕ → Type 0
@@ -50,11 +62,11 @@ Prints words old new = HasRun words (PrintsLine old new)
 abbrev pub PrintsPrefix : List (String Global) → Option (List ℕ) → Option (List ℕ) → Type 0
 PrintsPrefix words old new = HasRun words (PrintsLinePrefix old new)
 
--- the error of the words: no first word, or a word that names no call; out of memory for the list of the calls, which
--- is not empty; or the error of the conversion
+-- the error of the words, or of the conversion
 abbrev pub HasError : List (String Global) → FixdecError → Type 0
-HasError words Usage = IsUsage words
-HasError words Memory = HasLongCalls words
+HasError words Usage = RunFails words reason.Usage
+HasError words UnknownLocale = RunFails words reason.UnknownLocale
+HasError words Memory = RunFails words reason.Memory
 HasError words (Operation error) = HasRun words (OperationsFail error)
 
 -- the block before the writer cannot be allocated; or the words have the error, and at `output` the writer failed after

@@ -1,6 +1,7 @@
 pub mod Arguments
 pub mod Categories
 pub mod Conversion
+pub mod ConversionWords
 pub mod Diagnostics
 pub mod Errors
 pub mod Filter

@@ -1,4 +1,5 @@
-//! `fixdec TEXT [CALL]..`: reads a decimal, makes the calls in order, and prints the text of the result.
+//! `fixdec [read:LOCALE] TEXT [CALL].. [format:LOCALE]`: reads a decimal, makes the calls in order, and prints the text
+//! of the result.
 ghost use Rattle.std.specs.Prelude.{◌≡◌, ◌≢◌, ◌≤◌, ◌<◌, Bool, true, false, Err, IfOk, IfErr, IfSome, OnOk, IsSomeAnd};
 ghost use Rattle.std.specs.Process.{exit_status};
 ghost use Rattle.cli.specs.declared.error.FixdecError.{FixdecError};
@@ -9,12 +10,12 @@ ghost use Rattle.cli.specs.Conversion.{OperationsFail};
 ghost use Rattle.cli.specs.Fixdec.{HasError, WordsFail, NamesRun, PrintsLine, PrintsLinePrefix, Prints, PrintsPrefix};
 
 use crate::arguments::words;
-use crate::calls::parse_calls;
 use crate::conversion::{Conversion, convert};
 use crate::diagnostics::conclude_on;
 use crate::error::{FixdecError, OperationError};
 use crate::help::{CALLS, help};
 use crate::output::{Closed, abandon, close, open};
+use crate::words::{parse_conversion, split_read};
 use fixed_decimal::{Out, Sink, SinkFault};
 use std::alloc::Global;
 use std::env::Args;
@@ -49,18 +50,14 @@ fn parse_words(alloc: Global, words: &[String]) -> Result<(&[u8], Conversion<'_>
     ensures err { IfErr result (HasError words.now) }
     ensures no_output { IfErr result (λ error. error ≢ output) }
 {
+    let (read, words) = split_read(words);
     let [text, words @ ..] = words else {
         return Err(FixdecError::Usage);
     };
-    let Some(calls) = parse_calls(alloc, words)? else {
-        return Err(FixdecError::Usage);
-    };
-    let conversion = Conversion {
-        reader: None,
-        calls,
-        formatter: None,
-    };
-    Ok((text.as_bytes(), conversion))
+    match parse_conversion(alloc, read, words) {
+        Ok(conversion) => Ok((text.as_bytes(), conversion)),
+        Err(error) => Err(FixdecError::from(error)),
+    }
 }
 
 /// Prints the text of the conversion that the words name, and a line feed.
@@ -80,7 +77,9 @@ fn print<O: Write>(alloc: Global, words: &[String], out: &mut Out<O>) -> Result<
 
 /// Runs the program on the words after its name, and returns the exit status.
 ///
-/// The first word is the start. Each other word is a call: `shift:D`, `trim-start`, `trim-end`, `trim-end-if-integer`,
+/// A first word `read:LOCALE` or `read:LOCALE:lenient` reads the text in the form of the locale; a last word
+/// `format:LOCALE` or `format:LOCALE:GROUPING` writes the result so. The first other word is the text. Each word after it
+/// is a call: `shift:D`, `trim-start`, `trim-end`, `trim-end-if-integer`,
 /// `pad-start:P`, `pad-end:P`, `max:P`, `round:P:MODE:INC`, `sign:SIGN`, `display:DISPLAY` or `concat:TEXT`, whose text
 /// is all that follows the colon. D and P are an optional minus and one to six digits, from -32768 to 32767. The words
 /// `250` and `shift:-2` print `2.50`.
@@ -90,7 +89,7 @@ fn print<O: Write>(alloc: Global, words: &[String], out: &mut Out<O>) -> Result<
 /// The error is a line of `err`, of which a prefix is written where a write fails:
 ///
 /// - Status 1: the run fails with `start: syntax`, `call 7: overlap` and others of [`OperationError`].
-/// - Status 2: no start, or a word that names no call.
+/// - Status 2: no text, a word that names nothing, or `unknown locale`.
 /// - Status 3: `memory`, or `output` where a write or the flush of `out` fails.
 pub fn program<O: Write, E: Write>(
     alloc: Global,
@@ -156,7 +155,7 @@ pub fn run_arguments<O: Write + Drop, E: Write>(
 pub fn execute(rt: HostRuntime) -> ExitCode
     ensures at_most { exit_status result ≤ 3 }
 {
-    let usage = "usage: fixdec TEXT [CALL]..\n";
+    let usage = "usage: fixdec [read:LOCALE] TEXT [CALL].. [format:LOCALE]\n";
     if let Some(status) = help(rt.alloc(), env::args(&rt), usage, CALLS, &mut rt.stdout()) {
         return ExitCode::from(status);
     }

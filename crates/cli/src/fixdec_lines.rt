@@ -1,4 +1,5 @@
-//! `fixdec_lines [skip] [CALL]..`: makes the same calls on each line of its input, and writes a line for each.
+//! `fixdec_lines [skip] [read:LOCALE] [CALL].. [format:LOCALE]`: makes the same calls on each line of its input, and
+//! writes a line for each.
 ghost use Rattle.std.specs.Prelude.{◌≡◌, ◌≤◌, ◌<◌, ◌⊎◌, Ok, Err, true, false, IfOk, IfErr, IfSome, OnOk, IsSomeAnd};
 ghost use Rattle.std.specs.Process.{exit_status};
 ghost use Rattle.std.specs.Io.Buffered.{writer_contents, writer_inner};
@@ -8,13 +9,12 @@ ghost use Rattle.cli.specs.Errors.{status_of_filter};
 ghost use Rattle.cli.specs.Filter.{IsSplit, NamesFilter, FilterFails, IsEarly, Process, effects, Runs, WordsFilter, LinesFail};
 
 use crate::arguments::words;
-use crate::calls::parse_calls;
-use crate::conversion::Conversion;
 use crate::diagnostics::{Diagnostics, ErrorLines, conclude};
 use crate::error::FilterError;
 use crate::filter::{Filter, OnError, filter_lines};
 use crate::help::{CALLS, help};
 use crate::output::{BufferedOut, Closed, abandon, close, open};
+use crate::words::{parse_conversion, split_read};
 use std::alloc::Global;
 use std::env::Args;
 use std::io::{BufReader, Read, Write};
@@ -40,20 +40,14 @@ fn parse_filter(alloc: Global, words: &[String]) -> Result<Filter<'_>, FilterErr
     ensures err { IfErr result (FilterFails words.now) }
 {
     let (on_error, words) = split_skip(words);
-    let calls = match parse_calls(alloc, words) {
-        Ok(Some(calls)) => calls,
-        Ok(None) => return Err(FilterError::Usage),
-        Err(_) => return Err(FilterError::Memory),
-    };
-    let conversion = Conversion {
-        reader: None,
-        calls,
-        formatter: None,
-    };
-    Ok(Filter {
-        on_error,
-        conversion,
-    })
+    let (read, words) = split_read(words);
+    match parse_conversion(alloc, read, words) {
+        Ok(conversion) => Ok(Filter {
+            on_error,
+            conversion,
+        }),
+        Err(error) => Err(FilterError::from(error)),
+    }
 }
 
 /// Runs a filter with a block before the writer, and returns the writer after its last call.
@@ -120,7 +114,7 @@ fn filter_words<R: Read, O: Write + Drop, D: Diagnostics<FilterError>>(
 /// The last report is the error:
 ///
 /// - Status 1: `line 3: call 1: overflow` and others of [`FilterError::Operation`].
-/// - Status 2: a word names no call; nothing is read.
+/// - Status 2: a word names nothing, or `unknown locale`; nothing is read.
 /// - Status 3: `memory`, `line 7: memory`, `input`, or `output` where a write or the flush of `out` fails.
 pub fn run_arguments<R: Read, O: Write + Drop, D: Diagnostics<FilterError>>(
     alloc: Global,
@@ -177,7 +171,7 @@ pub fn run_arguments<R: Read, O: Write + Drop, D: Diagnostics<FilterError>>(
 pub fn execute(rt: HostRuntime) -> ExitCode
     ensures at_most { exit_status result ≤ 3 }
 {
-    let usage = "usage: fixdec_lines [skip] [CALL]..\n";
+    let usage = "usage: fixdec_lines [skip] [read:LOCALE] [CALL].. [format:LOCALE]\n";
     if let Some(status) = help(rt.alloc(), env::args(&rt), usage, CALLS, &mut rt.stdout()) {
         return ExitCode::from(status);
     }

@@ -16,6 +16,7 @@ mod help;
 mod output;
 pub mod plural;
 mod reader;
+mod words;
 
 pub use calls::parse_calls;
 pub use conversion::{Conversion, convert};

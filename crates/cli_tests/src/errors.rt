@@ -60,7 +60,11 @@ const OPERATIONS: &[(OperationError, &str)] = &[
 ];
 
 const FIXDEC: &[(FixdecError, &str)] = &[
-    (FixdecError::Usage, "usage: fixdec TEXT [CALL]..\n"),
+    (
+        FixdecError::Usage,
+        "usage: fixdec [read:LOCALE] TEXT [CALL].. [format:LOCALE]\n",
+    ),
+    (FixdecError::UnknownLocale, "unknown locale\n"),
     (FixdecError::Memory, "memory\n"),
     (
         FixdecError::Operation(OperationError::Overlap { at: 7 }),
@@ -103,7 +107,11 @@ fn assert_line<E: Display>(
 }
 
 const FILTER: &[(FilterError, &str)] = &[
-    (FilterError::Usage, "usage: fixdec_lines [skip] [CALL]..\n"),
+    (
+        FilterError::Usage,
+        "usage: fixdec_lines [skip] [read:LOCALE] [CALL].. [format:LOCALE]\n",
+    ),
+    (FilterError::UnknownLocale, "unknown locale\n"),
     (FilterError::Memory, "memory\n"),
     (
         FilterError::Operation {
