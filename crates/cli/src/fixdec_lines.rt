@@ -99,6 +99,7 @@ fn filter_words<R: Read, O: Write + Drop, D: Diagnostics<FilterError>>(
     ensures unchanged_on_error { IfErr result.0 (λ error. IsEarly error
         → result.1 ≡ (writer_inner buffered.0, buffered.1)) }
     ensures unread { result.0 ≡ Err FilterError.Usage → input.new ≡ input.old }
+    ensures unread_for_locale { result.0 ≡ Err FilterError.UnknownLocale → input.new ≡ input.old }
 {
     match parse_filter(alloc, words) {
         Ok(filter) => run_filter(alloc, &filter, input, buffered, diagnostics),
