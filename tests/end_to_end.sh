@@ -45,14 +45,28 @@ help() {
 
 # ---- fixdec
 
-usage=$'usage: fixdec TEXT [CALL]..\n'
+usage=$'usage: fixdec [read:LOCALE] TEXT [CALL].. [format:LOCALE]\n'
 
 # Status 0.
 row fixdec 0 $'2.50\n' '' 250 shift:-2
 row fixdec 0 $'-35.970\n' '' 4235.970 max:2 sign:minus
 row fixdec 0 $'12345678901234567890.5\n' '' 12345678901234567890 trim-start concat:0.5
 
+# Status 0, in the forms of locales, as ICU writes them.
+row fixdec 0 $'1,234.56\n' '' read:de 1.234,565 round:-2:half-even:1 format:en-IN
+row fixdec 0 $'12,34,567.891\n' '' 1234567.891 format:hi
+row fixdec 0 $'1’234’567.891\n' '' 1234567.891 format:de_CH.UTF-8
+row fixdec 0 $'1234567,891\n' '' 1234567.891 format:de:never
+row fixdec 0 $'1234\n' '' 1234 format:es
+row fixdec 0 $'1.234\n' '' 1234 format:es:always
+row fixdec 0 $'1234\n' '' 1234 format:de:min2
+row fixdec 0 $'1234.5\n' '' read:fr:lenient '1 234,5'
+row fixdec 0 $'12345.5\n' '' read:de-CH:lenient "12'345.5"
+
 # Status 1: the start or a call fails.
+row fixdec 1 '' $'start: syntax\n' read:de 1,234.56
+row fixdec 1 '' $'start: syntax\n' read:fr '1 234,5'
+row fixdec 1 '' $'start: syntax\n' format:de
 row fixdec 1 '' $'start: syntax\n' 5.
 row fixdec 1 '' $'start: syntax\n' ''
 row fixdec 1 '' $'start: syntax\n' --
@@ -66,6 +80,13 @@ row fixdec 1 '' $'call 1: overflow\n' 98765 shift:32763 shift:1
 row fixdec 2 '' "$usage"
 row fixdec 2 '' "$usage" 5 trim
 row fixdec 2 '' "$usage" 5 ''
+row fixdec 2 '' "$usage" read:de
+row fixdec 2 '' "$usage" read:de:strict 5
+row fixdec 2 '' "$usage" 5 read:de
+row fixdec 2 '' "$usage" 5 format:de:fast
+row fixdec 2 '' "$usage" 5 format:de trim-end
+row fixdec 2 '' $'unknown locale\n' read:tlh 5
+row fixdec 2 '' $'unknown locale\n' 5 format:tlh
 row fixdec 2 '' "$usage" 5 --
 row fixdec 2 '' "$usage" '' 5
 row fixdec 2 '' "$usage" $'5\xff'
@@ -122,13 +143,13 @@ done 2> /dev/null
 [ "$reported" != 0 ] && [ "$printed" != 0 ]
 judge "with little memory it reported memory $reported times and printed $printed times"
 
-help fixdec 'usage: fixdec TEXT [CALL]..'
+help fixdec 'usage: fixdec [read:LOCALE] TEXT [CALL].. [format:LOCALE]'
 row fixdec 1 '' $'start: syntax\n' --help shift:1
 row fixdec 2 '' "$usage" --help 5
 
 # ---- fixdec_lines
 
-usage=$'usage: fixdec_lines [skip] [CALL]..\n'
+usage=$'usage: fixdec_lines [skip] [read:LOCALE] [CALL].. [format:LOCALE]\n'
 
 # Status 0.
 lines 0 '250\n7\n' $'2.50\n0.07\n' '' shift:-2
@@ -138,7 +159,12 @@ lines 0 '' '' '' shift:-2
 lines 0 '' '' '' skip
 lines 0 '12345678901234567890.125\n' $'12345678901234567890.12\n' '' skip round:-2:half-even:1
 
+# Status 0, in the forms of locales.
+lines 0 '1.234,565\n-7\n' $'1,234.56\n-7.00\n' '' read:de round:-2:half-even:1 pad-end:-2 format:en-IN
+lines 0 '1234567.5\n' $'1.234.567,5\n' '' skip format:de
+
 # Status 1: the first line that fails ends the run.
+lines 1 '1.234,5\n1,5.0\n' $'1234.5\n' $'line 2: start: syntax\n' read:de
 lines 1 '1\nx\n2\n' $'1\n' $'line 2: start: syntax\n'
 lines 1 '1\n\n2\n' $'1\n' $'line 2: start: syntax\n'
 lines 1 '1\r\n' '' $'line 1: start: syntax\n'
@@ -160,6 +186,10 @@ lines 2 '1\n' '' "$usage" trim
 lines 2 '1\n' '' "$usage" ''
 lines 2 '1\n' '' "$usage" --
 lines 2 '1\n' '' "$usage" skip skip
+lines 2 '1\n' '' "$usage" format:de trim-end
+lines 2 '1\n' '' "$usage" read:de read:de
+lines 2 '1\n' '' $'unknown locale\n' read:tlh
+lines 2 '1\n' '' $'unknown locale\n' format:tlh
 lines 2 '250\n' '' "$usage" shift:-2 skip
 lines 2 '1\n' '' "$usage" $'concat:\xc3\x28'
 printf '1\n2\n' > "$room/in"
@@ -247,7 +277,7 @@ done 2> /dev/null
 [ "$reported" != 0 ] && [ "$printed" != 0 ]
 judge "with little memory it reported memory $early times, that of a line $reported times, and read it $printed times"
 
-help fixdec_lines 'usage: fixdec_lines [skip] [CALL]..'
+help fixdec_lines 'usage: fixdec_lines [skip] [read:LOCALE] [CALL].. [format:LOCALE]'
 
 # ---- plural
 

@@ -16,6 +16,8 @@ use Rattle.cli.specs.declared.error.FilterError.{FilterError}
 use Rattle.cli.specs.declared.error.FilterError.TheVariants as filter
 use Rattle.cli.specs.declared.error.PluralError.{PluralError}
 use Rattle.cli.specs.declared.error.PluralError.TheVariants as plural
+use Rattle.cli.specs.declared.words.WordsError.{WordsError}
+use Rattle.cli.specs.declared.words.WordsError.TheVariants as words
 
 -- an error of a run as an error of the programs
 abbrev pub error_of_run : RunError → OperationError
@@ -42,6 +44,7 @@ status_of_operation Output = 3
 -- the status of an error of `fixdec`
 abbrev pub status_of_fixdec : FixdecError → ℕ
 status_of_fixdec fixdec.Usage = 2
+status_of_fixdec fixdec.UnknownLocale = 2
 status_of_fixdec fixdec.Memory = 3
 status_of_fixdec (fixdec.Operation error) = status_of_operation error
 
@@ -52,6 +55,7 @@ output = fixdec.Operation Output
 -- the status of an error of the filter
 abbrev pub status_of_filter : FilterError → ℕ
 status_of_filter filter.Usage = 2
+status_of_filter filter.UnknownLocale = 2
 status_of_filter filter.Memory = 3
 status_of_filter (filter.Operation line error) = status_of_operation error
 status_of_filter (filter.LongLine line) = 3
@@ -65,6 +69,17 @@ status_of_plural plural.Memory = 3
 status_of_plural (plural.Rules at reason) = 1
 status_of_plural (plural.Text number reason) = 1
 status_of_plural plural.Output = 3
+
+-- the error of words
+abbrev pub fixdec_error_of : WordsError → FixdecError
+fixdec_error_of words.Usage = fixdec.Usage
+fixdec_error_of words.UnknownLocale = fixdec.UnknownLocale
+fixdec_error_of words.Memory = fixdec.Memory
+
+abbrev pub filter_error_of : WordsError → FilterError
+filter_error_of words.Usage = filter.Usage
+filter_error_of words.UnknownLocale = filter.UnknownLocale
+filter_error_of words.Memory = filter.Memory
 
 -- the error of rules that are rejected
 abbrev pub error_of_rules : RulesError → PluralError

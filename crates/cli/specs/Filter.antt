@@ -1,9 +1,10 @@
 -- The filter that the words of `fixdec_lines` name, and its result on an input.
-use Rattle.std.specs.Prelude.{◌≡◌, ◌≢◌, ℕ, ⊤, Any, Bool, true, List, [], ◌∷◌, codes, String, string_bytes, Option, MatchOption, Result, Err}
+use Rattle.std.specs.Prelude.{◌≡◌, ◌≢◌, ◌⊎◌, ℕ, ⊤, Any, Bool, true, List, [], ◌∷◌, codes, String, string_bytes, Option, MatchOption, Result, Ok, Err}
 use Rattle.std.specs.declared.alloc.Global.{Global}
-use Rattle.cli.specs.Words.{NameAll, AreCalls, IsUnknown}
+use Rattle.cli.specs.ConversionWords.{IsReadSplit, NamesConversion, ConversionFails}
+use Rattle.cli.specs.declared.words.WordsError.TheVariants as reason
 use Rattle.cli.specs.declared.error.FilterError.{FilterError}
-use Rattle.cli.specs.declared.error.FilterError.TheVariants.{Usage, Memory, Output}
+use Rattle.cli.specs.declared.error.FilterError.TheVariants.{Usage, UnknownLocale, Memory, Output}
 use Rattle.cli.specs.declared.filter.Filter.{Filter}
 use Rattle.cli.specs.declared.filter.OnError.{OnError}
 use Rattle.cli.specs.declared.filter.OnError.TheVariants.{Stop, Skip}
@@ -17,25 +18,37 @@ IsSplit (first ∷ words) Skip others = (string_bytes first ≡ codes "skip") ×
 IsSplit [] Stop others = others ≡ []
 IsSplit (first ∷ words) Stop others = (string_bytes first ≢ codes "skip") × (others ≡ first ∷ words)
 
--- a word after the optional first word `skip` names no call
-abbrev pub IsUsage : List (String Global) → Type 0
-IsUsage words =
-    (on_error : OnError) × (others : List (String Global)) × IsSplit words on_error others × Any IsUnknown others
+-- the words are [skip] [read:..] .., and P holds of what is done at an error, of what follows `read:`, and of the
+-- words after it
+pub record HasWords
+    (words : List (String Global)) (P : OnError → Option (List ℕ) → List (String Global) → Type 0)
+    : Type 0
+  where
+    pub on_error : OnError
+    pub unskipped : List (String Global)
+    pub read : Option (List ℕ)
+    pub others : List (String Global)
+    pub skip : IsSplit words on_error unskipped
+    pub split : IsReadSplit unskipped read others
+    pub holds : P on_error read others
 
--- the words after the optional first word `skip` name calls
-abbrev pub HasCalls : List (String Global) → Type 0
-HasCalls words =
-    (on_error : OnError) × (others : List (String Global)) × IsSplit words on_error others × AreCalls others
+-- the words are [skip] [read:..] [CALL].. [format:..], with this filter
+abbrev pub NamesFilter : List (String Global) → Filter → Type 0
+NamesFilter words filter =
+    HasWords words
+    (λ on_error read others. (on_error ≡ filter.on_error) × NamesConversion read others filter.conversion)
 
--- the words after the optional first word `skip` name calls, and P holds of this filter
-abbrev pub HasFilter : List (String Global) → (Filter → Type 0) → Type 0
-HasFilter words P =
-    (filter : Filter) × (others : List (String Global)) × IsSplit words filter.on_error others
-    × NameAll others filter.calls.now × P filter
+-- they are not, for this error
+abbrev pub FilterFails : List (String Global) → FilterError → Type 0
+FilterFails words Usage = HasWords words (λ _ read others. ConversionFails read others reason.Usage)
+FilterFails words UnknownLocale = HasWords words (λ _ read others. ConversionFails read others reason.UnknownLocale)
+FilterFails words Memory = HasWords words (λ _ read others. ConversionFails read others reason.Memory)
+FilterFails words _ = ⊥
 
 -- the error comes before the first line
 abbrev pub IsEarly : FilterError → Type 0
 IsEarly Usage = ⊤
+IsEarly UnknownLocale = ⊤
 IsEarly Memory = ⊤
 IsEarly _ = ⊥
 
@@ -55,15 +68,19 @@ effects process writer = record {
 }
 
 module _ {D : Type 0} (reports : D → FilterError → D → Type 0) where
-  -- the error is that of the words, or out of memory before the first line, and nothing was reported before it; or the
-  -- filter that the words name returned this
+  -- the filter returned this; or there is no memory for the block of the reader, and nothing was reported before this
+  -- error
+  abbrev pub Runs : Filter → Effects D → Result Bool FilterError → Type 0
+  Runs filter effects (Err Memory) = effects.diagnostics.after ≡ effects.diagnostics.before
+  Runs filter effects result = Filters AppendsUnwritten reports filter effects result
+
+  -- the words name a filter, which ran with this result; or they name none, and nothing was reported before this error
   abbrev pub WordsFilter : List (String Global) → Effects D → Result Bool FilterError → Type 0
-  WordsFilter words effects (Err Usage) =
-      IsUsage words × (effects.diagnostics.after ≡ effects.diagnostics.before)
-  WordsFilter words effects (Err Memory) =
-      HasCalls words × (effects.diagnostics.after ≡ effects.diagnostics.before)
-  WordsFilter words effects result =
-      HasFilter words (λ filter. Filters AppendsUnwritten reports filter effects result)
+  WordsFilter words effects (Ok texts) =
+      (filter : Filter) × NamesFilter words filter × Runs filter effects (Ok texts)
+  WordsFilter words effects (Err error) =
+      ((filter : Filter) × NamesFilter words filter × Runs filter effects (Err error))
+      ⊎ (FilterFails words error × (effects.diagnostics.after ≡ effects.diagnostics.before))
 
   -- the block before the writer cannot be allocated, and nothing is reported before this error; or the filter fails
   -- with it, at `Output` because the writer failed

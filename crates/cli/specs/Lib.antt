@@ -1,10 +1,13 @@
 pub mod Arguments
 pub mod Categories
+pub mod Conversion
+pub mod ConversionWords
 pub mod Diagnostics
 pub mod Errors
 pub mod Filter
 pub mod Fixdec
 pub mod Lines
 pub mod Plural
+pub mod Reading
 pub mod FilterLine
 pub mod Words

@@ -2,9 +2,9 @@
 ghost use Rattle.std.specs.Prelude.{◌≡◌, ◌<◌, ◌≤◌, ℕ};
 ghost use Rattle.cli.specs.Errors.{status_of_operation, status_of_fixdec, status_of_filter, status_of_plural};
 
+use crate::words::WordsError;
 use fixed_decimal::{ParseError, RunError, SinkFault};
 use plural_rules::RulesError;
-use std::alloc::AllocError;
 use std::error;
 use thiserror::Error;
 
@@ -45,9 +45,12 @@ pub enum OperationError {
 /// The error of `fixdec`.
 #[derive(Debug, Drop, PartialEq, Error)]
 pub enum FixdecError {
-    /// There is no start, or a word names no call or is not UTF-8.
-    #[error("usage: fixdec TEXT [CALL]..")]
+    /// There is no text, or a word names nothing, is not in its place, or is not UTF-8.
+    #[error("usage: fixdec [read:LOCALE] TEXT [CALL].. [format:LOCALE]")]
     Usage,
+    /// The locale of `read:` or `format:` is unknown.
+    #[error("unknown locale")]
+    UnknownLocale,
     /// Out of memory for the words, for their calls or for the block.
     #[error("memory")]
     Memory,
@@ -90,7 +93,7 @@ impl ProgramError for FixdecError {
 
     fn status(&self) -> u8 {
         match self {
-            FixdecError::Usage => 2,
+            FixdecError::Usage | FixdecError::UnknownLocale => 2,
             FixdecError::Memory => 3,
             FixdecError::Operation(error) => error.status(),
         }
@@ -153,13 +156,31 @@ impl From<OperationError> for FixdecError {
     }
 }
 
-impl From<AllocError> for FixdecError {
-    ghost use Rattle.cli.specs.declared.error.FixdecError.TheVariants.{Memory};
+impl From<WordsError> for FixdecError {
+    ghost use Rattle.cli.specs.Errors.{fixdec_error_of};
 
-    ghost from_gives = { λ _ result. result ≡ Memory };
+    ghost from_gives = { λ error result. result ≡ fixdec_error_of error };
 
-    fn from(_error: AllocError) -> FixdecError {
-        FixdecError::Memory
+    fn from(error: WordsError) -> FixdecError {
+        match error {
+            WordsError::Usage => FixdecError::Usage,
+            WordsError::UnknownLocale => FixdecError::UnknownLocale,
+            WordsError::Memory => FixdecError::Memory,
+        }
+    }
+}
+
+impl From<WordsError> for FilterError {
+    ghost use Rattle.cli.specs.Errors.{filter_error_of};
+
+    ghost from_gives = { λ error result. result ≡ filter_error_of error };
+
+    fn from(error: WordsError) -> FilterError {
+        match error {
+            WordsError::Usage => FilterError::Usage,
+            WordsError::UnknownLocale => FilterError::UnknownLocale,
+            WordsError::Memory => FilterError::Memory,
+        }
     }
 }
 
@@ -176,9 +197,12 @@ impl From<SinkFault> for FixdecError {
 /// The error of `fixdec_lines`. Lines have 1-based numbers.
 #[derive(Clone, Copy, Debug, PartialEq, Error)]
 pub enum FilterError {
-    /// A word names no call or is not UTF-8.
-    #[error("usage: fixdec_lines [skip] [CALL]..")]
+    /// A word names nothing, is not in its place, or is not UTF-8.
+    #[error("usage: fixdec_lines [skip] [read:LOCALE] [CALL].. [format:LOCALE]")]
     Usage,
+    /// The locale of `read:` or `format:` is unknown.
+    #[error("unknown locale")]
+    UnknownLocale,
     /// Out of memory before the first line.
     #[error("memory")]
     Memory,
@@ -201,7 +225,7 @@ impl ProgramError for FilterError {
 
     fn status(&self) -> u8 {
         match self {
-            FilterError::Usage => 2,
+            FilterError::Usage | FilterError::UnknownLocale => 2,
             FilterError::Operation { error, .. } => error.status(),
             FilterError::Memory
             | FilterError::LongLine { .. }

@@ -1,20 +1,22 @@
-//! `fixdec TEXT [CALL]..`: reads a decimal, makes the calls in order, and prints the text of the result.
-ghost use Rattle.std.specs.Prelude.{◌≡◌, ◌≢◌, ◌≤◌, ◌<◌, Bool, true, false, Err, IfErr, IfSome, OnOk, IsSomeAnd};
+//! `fixdec [read:LOCALE] TEXT [CALL].. [format:LOCALE]`: reads a decimal, makes the calls in order, and prints the text
+//! of the result.
+ghost use Rattle.std.specs.Prelude.{◌≡◌, ◌≢◌, ◌≤◌, ◌<◌, Bool, true, false, Err, IfOk, IfErr, IfSome, OnOk, IsSomeAnd};
 ghost use Rattle.std.specs.Process.{exit_status};
 ghost use Rattle.cli.specs.declared.error.FixdecError.{FixdecError};
 ghost use Rattle.cli.specs.Arguments.{HaveWords, ArgumentsFail};
 ghost use Rattle.cli.specs.Diagnostics.{Reports};
 ghost use Rattle.cli.specs.Errors.{status_of_fixdec, output};
-ghost use Rattle.cli.specs.Fixdec.{OperationsFail, HasError, WordsFail};
-ghost use Rattle.cli.specs.Fixdec.{RunPrints, RunPrintsPrefix, Prints, PrintsPrefix};
+ghost use Rattle.cli.specs.Conversion.{OperationsFail};
+ghost use Rattle.cli.specs.Fixdec.{HasError, WordsFail, NamesRun, PrintsLine, PrintsLinePrefix, Prints, PrintsPrefix};
 
 use crate::arguments::words;
-use crate::calls::parse_calls;
+use crate::conversion::{Conversion, convert};
 use crate::diagnostics::conclude_on;
 use crate::error::{FixdecError, OperationError};
 use crate::help::{CALLS, help};
 use crate::output::{Closed, abandon, close, open};
-use fixed_decimal::{Call, Out, Sink, SinkFault, run};
+use crate::words::{parse_conversion, split_read};
+use fixed_decimal::{Out, Sink, SinkFault};
 use std::alloc::Global;
 use std::env::Args;
 use std::fmt::Display;
@@ -22,26 +24,43 @@ use std::io::Write;
 use std::process::ExitCode;
 use std::{env, io};
 
-/// Runs the calls on a start, and writes the text of the result and a line feed to a sink.
-pub fn print_run<W: Sink>(
+/// Converts a text, and writes the text of the result and a line feed to a sink.
+pub fn print_line<W: Sink>(
     alloc: Global,
-    start: &[u8],
-    calls: &[Call<'_>],
+    conversion: &Conversion<'_>,
+    text: &[u8],
     sink: &mut W,
 ) -> Result<(), OperationError>
-    ensures printed { OnOk result (RunPrints (W.contents sink.old) (W.contents sink.new) start.now calls.now) }
-    ensures fails_with { IfErr result (λ error. OperationsFail error start.now calls.now) }
+    ensures printed { OnOk result
+        (PrintsLine (W.contents sink.old) (W.contents sink.new) conversion.now text.now) }
+    ensures fails_with { IfErr result (λ error. OperationsFail error conversion.now text.now) }
     ensures unchanged_on_error { IfErr result (λ error. error ≢ OperationError.Output → sink.new ≡ sink.old) }
     ensures failed { result ≡ Err OperationError.Output → W.has_failed sink.new ≡ true }
     ensures prefix { result ≡ Err OperationError.Output →
-        RunPrintsPrefix (W.contents sink.old) (W.contents sink.new) start.now calls.now }
+        PrintsLinePrefix (W.contents sink.old) (W.contents sink.new) conversion.now text.now }
 {
-    run(alloc, start, calls, sink)?;
+    convert(alloc, conversion, text, sink)?;
     sink.put_byte(b'\n')?;
     Ok(())
 }
 
-/// Prints the text of the run that the words name, and a line feed.
+/// Parses the words as a text and a conversion.
+fn parse_words(alloc: Global, words: &[String]) -> Result<(&[u8], Conversion<'_>), FixdecError>
+    ensures some { IfOk result (λ run. NamesRun words.now run.1 run.0.now) }
+    ensures err { IfErr result (HasError words.now) }
+    ensures no_output { IfErr result (λ error. error ≢ output) }
+{
+    let (read, words) = split_read(words);
+    let [text, words @ ..] = words else {
+        return Err(FixdecError::Usage);
+    };
+    match parse_conversion(alloc, read, words) {
+        Ok(conversion) => Ok((text.as_bytes(), conversion)),
+        Err(error) => Err(FixdecError::from(error)),
+    }
+}
+
+/// Prints the text of the conversion that the words name, and a line feed.
 fn print<O: Write>(alloc: Global, words: &[String], out: &mut Out<O>) -> Result<(), FixdecError>
     ensures printed { OnOk result (Prints words.now (O.contents out.old.0) (O.contents out.new.0)) }
     ensures has_not_failed { OnOk result (out.new.1 ≡ false) }
@@ -50,20 +69,17 @@ fn print<O: Write>(alloc: Global, words: &[String], out: &mut Out<O>) -> Result<
     ensures failed { result ≡ Err output → out.new.1 ≡ true }
     ensures prefix { result ≡ Err output → PrintsPrefix words.now (O.contents out.old.0) (O.contents out.new.0) }
 {
-    let [start, words @ ..] = words else {
-        return Err(FixdecError::Usage);
-    };
-    let Some(calls) = parse_calls(alloc, words)? else {
-        return Err(FixdecError::Usage);
-    };
-    print_run(alloc, start.as_bytes(), calls.as_slice(), out)?;
+    let (text, conversion) = parse_words(alloc, words)?;
+    print_line(alloc, &conversion, text, out)?;
     out.flush()?;
     Ok(())
 }
 
 /// Runs the program on the words after its name, and returns the exit status.
 ///
-/// The first word is the start. Each other word is a call: `shift:D`, `trim-start`, `trim-end`, `trim-end-if-integer`,
+/// A first word `read:LOCALE` or `read:LOCALE:lenient` reads the text in the form of the locale; a last word
+/// `format:LOCALE` or `format:LOCALE:GROUPING` writes the result so. The first other word is the text. Each word after it
+/// is a call: `shift:D`, `trim-start`, `trim-end`, `trim-end-if-integer`,
 /// `pad-start:P`, `pad-end:P`, `max:P`, `round:P:MODE:INC`, `sign:SIGN`, `display:DISPLAY` or `concat:TEXT`, whose text
 /// is all that follows the colon. D and P are an optional minus and one to six digits, from -32768 to 32767. The words
 /// `250` and `shift:-2` print `2.50`.
@@ -73,7 +89,7 @@ fn print<O: Write>(alloc: Global, words: &[String], out: &mut Out<O>) -> Result<
 /// The error is a line of `err`, of which a prefix is written where a write fails:
 ///
 /// - Status 1: the run fails with `start: syntax`, `call 7: overlap` and others of [`OperationError`].
-/// - Status 2: no start, or a word that names no call.
+/// - Status 2: no text, a word that names nothing, or `unknown locale`.
 /// - Status 3: `memory`, or `output` where a write or the flush of `out` fails.
 pub fn program<O: Write, E: Write>(
     alloc: Global,
@@ -139,7 +155,7 @@ pub fn run_arguments<O: Write + Drop, E: Write>(
 pub fn execute(rt: HostRuntime) -> ExitCode
     ensures at_most { exit_status result ≤ 3 }
 {
-    let usage = "usage: fixdec TEXT [CALL]..\n";
+    let usage = "usage: fixdec [read:LOCALE] TEXT [CALL].. [format:LOCALE]\n";
     if let Some(status) = help(rt.alloc(), env::args(&rt), usage, CALLS, &mut rt.stdout()) {
         return ExitCode::from(status);
     }

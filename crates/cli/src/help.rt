@@ -10,7 +10,7 @@ use std::env::Args;
 use std::io;
 use std::io::Write;
 
-/// The calls of `fixdec` and `fixdec_lines`.
+/// The calls of `fixdec` and `fixdec_lines`, and the words of locales.
 pub const CALLS: &str = "
 shift:D                 multiplies by 10 to the D
 trim-start, trim-end    removes leading, trailing zeros
@@ -24,6 +24,12 @@ concat:TEXT             joins the digits of TEXT at the end
 
 MODE: ceil, floor, expand, trunc, half-ceil, half-floor, half-expand, half-trunc, half-even
 INC: 1, 2, 5, 25
+
+read:LOCALE[:lenient]     reads the text as the locale writes it, or as people type it
+format:LOCALE[:GROUPING]  writes the result as the locale does
+
+LOCALE: a tag as de-CH, or a name as de_CH.UTF-8
+GROUPING: auto, never, always, min2
 ";
 
 /// The operands of a condition of `plural`.

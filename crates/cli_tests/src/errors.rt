@@ -2,7 +2,7 @@
 ghost use Rattle.std.specs.Prelude.{◌≡◌, true, [], ◌∷◌, ◌++◌};
 
 use cli::{
-    Diagnostics, ErrorLines, Filter, FilterError, FixdecError, OnError, OperationError,
+    Conversion, Diagnostics, ErrorLines, Filter, FilterError, FixdecError, OnError, OperationError,
     PluralError, Reason, filter_lines,
 };
 use fixed_decimal::{Call, TextBuf};
@@ -60,7 +60,11 @@ const OPERATIONS: &[(OperationError, &str)] = &[
 ];
 
 const FIXDEC: &[(FixdecError, &str)] = &[
-    (FixdecError::Usage, "usage: fixdec TEXT [CALL]..\n"),
+    (
+        FixdecError::Usage,
+        "usage: fixdec [read:LOCALE] TEXT [CALL].. [format:LOCALE]\n",
+    ),
+    (FixdecError::UnknownLocale, "unknown locale\n"),
     (FixdecError::Memory, "memory\n"),
     (
         FixdecError::Operation(OperationError::Overlap { at: 7 }),
@@ -103,7 +107,11 @@ fn assert_line<E: Display>(
 }
 
 const FILTER: &[(FilterError, &str)] = &[
-    (FilterError::Usage, "usage: fixdec_lines [skip] [CALL]..\n"),
+    (
+        FilterError::Usage,
+        "usage: fixdec_lines [skip] [read:LOCALE] [CALL].. [format:LOCALE]\n",
+    ),
+    (FilterError::UnknownLocale, "unknown locale\n"),
     (FilterError::Memory, "memory\n"),
     (
         FilterError::Operation {
@@ -146,10 +154,13 @@ fn a_skipping_filter_reports_each_refusal(rt: HostRuntime) -> Result<(), Fail> {
         errors: Vec::new(alloc),
         is_whole: true,
     };
-    let calls = [Call::MultiplyPow10(-2)];
     let filter = Filter {
         on_error: OnError::Skip,
-        calls: &calls,
+        conversion: Conversion {
+            reader: None,
+            calls: Vec::from_array(alloc, [Call::MultiplyPow10(-2)])?,
+            formatter: None,
+        },
     };
     let answer = filter_lines(alloc, &filter, &mut input, &mut out, &mut log);
     assert_eq!(rt; answer, Ok(false));

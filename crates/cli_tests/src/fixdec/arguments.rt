@@ -7,7 +7,7 @@ use std::io;
 use std::io::ErrorKind;
 use std::test::Fail;
 
-const USAGE: &str = "2 usage: fixdec TEXT [CALL]..\n";
+const USAGE: &str = "2 usage: fixdec [read:LOCALE] TEXT [CALL].. [format:LOCALE]\n";
 
 /// Lines that start with the name of the program.
 const LINES: &[(&str, &str)] = &[

@@ -16,7 +16,7 @@ const ROWS: &[(&str, &str, usize, &str, &str)] = &[
         "max:9",
         1_000,
         "shift:32768",
-        "2 usage: fixdec TEXT [CALL]..\n",
+        "2 usage: fixdec [read:LOCALE] TEXT [CALL].. [format:LOCALE]\n",
     ),
     ("5", "max:9", 1_000, "shift:0", "000000005"),
     ("5", "shift:32767", 1, "shift:1", "1 call 1: overflow\n"),

@@ -114,7 +114,7 @@ const BLANKS: &[(&str, &str, &str)] = &[
     ("5", " shift:1", USAGE),
 ];
 
-const USAGE: &str = "2 usage: fixdec TEXT [CALL]..\n";
+const USAGE: &str = "2 usage: fixdec [read:LOCALE] TEXT [CALL].. [format:LOCALE]\n";
 
 #[test]
 fn rejected(rt: HostRuntime) -> Result<(), Fail> {

@@ -79,7 +79,10 @@ const ROWS: &[Row] = &[
         "fixdec_lines up",
         b"7\n",
         (b"", 0),
-        (b"usage: fixdec_lines [skip] [CALL]..\n", 0),
+        (
+            b"usage: fixdec_lines [skip] [read:LOCALE] [CALL].. [format:LOCALE]\n",
+            0,
+        ),
         2,
     ),
 ];
