@@ -6,3 +6,5 @@ pub mod Filtering
 pub mod Reporting
 pub mod FirstLine
 pub mod Printing
+pub mod Separators
+pub mod Quotes

@@ -2,6 +2,7 @@ pub mod Arguments
 pub mod Categories
 pub mod Diagnostics
 pub mod Errors
+pub mod Fields
 pub mod Filter
 pub mod Fixdec
 pub mod Lines
