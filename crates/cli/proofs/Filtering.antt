@@ -1,5 +1,5 @@
 -- The state of a filter after some lines, and its result.
-use Rattle.std.proofs.Common.{◌≡◌, ℕ, ◌+◌, List, [], ◌∷◌, ◌++◌, length, append_assoc, Option, Some, None, Ok, Err, Result, Bool, true, false, ◌&&◌, inl, inr, length-append, refl, sym, ap, subst, ◌∙◌, arith}
+use Rattle.std.proofs.Common.{◌≡◌, ℕ, suc, ◌+◌, List, [], ◌∷◌, ◌++◌, length, append_assoc, Option, Some, None, Ok, Err, Result, Bool, true, false, ◌&&◌, inl, inr, length-append, refl, sym, ap, subst, ◌∙◌, arith}
 use Rattle.std.specs.Prelude.{is_ok, IfSome}
 use Rattle.std.proofs.lemmas.Bool.{and_from}
 use Rattle.std.proofs.lemmas.List.{append-nil, flat_map_more}
@@ -16,8 +16,8 @@ use Rattle.cli.specs.declared.error.FilterError.{FilterError}
 use Rattle.cli.specs.declared.error.FilterError.TheVariants.{Operation, LongLine, Input, Output}
 use Rattle.cli.specs.declared.filter.Filter.{Filter}
 use Rattle.cli.specs.declared.filter.OnError.TheVariants.{Stop}
-use Rattle.cli.specs.FilterLine.{Effects, IsRead, IsErrorOfReading, FiltersLine, FiltersNext, result_of_line, output_of_line, errors_of_line}
-use Rattle.cli.specs.Lines.{lines_of, AreRead, results_of, output_of, errors_of, have_texts, Returns, Filters, IsConsumed}
+use Rattle.cli.specs.FilterLine.{Effects, IsRead, IsErrorOfReading, IsResultOfLine, FiltersLine, FiltersNext, output_of_line, errors_of_line}
+use Rattle.cli.specs.Lines.{lines_of, AreRead, AreResults, output_of, errors_of, have_texts, Returns, Filters, IsConsumed}
 use Rattle.cli.proofs.FirstLine.{lines_first}
 
 -- ---- What was read.
@@ -45,11 +45,20 @@ read_all a b c lines h is = grind (arith, common_steps)
 -- ---- The results of one line more.
 
 results_more :
-    (filter : Filter) (number : ℕ) (lines : List (List ℕ)) (line : List ℕ)
-    → results_of filter number (lines ++ (line ∷ []))
-    ≡ results_of filter number lines ++ (result_of_line filter (number + length lines) line ∷ [])
-results_more filter number [] line = grind (arith, common_steps)
-results_more filter number (x ∷ xs) line = grind (arith, common_steps, results_more filter (number + 1) xs line)
+    (filter : Filter) (number : ℕ) (lines : List (List ℕ)) (results : List (Result (List ℕ) FilterError))
+    (line : List ℕ) (r : Result (List ℕ) FilterError) → AreResults filter number lines results
+    → IsResultOfLine filter (number + length lines) line r
+    → AreResults filter number (lines ++ (line ∷ [])) (results ++ (r ∷ []))
+results_more filter number [] [] line r h is =
+    let e : number + 0 ≡ number = omega arith in
+    let first : IsResultOfLine filter number line r = rw e at is in
+    (first, tt)
+results_more filter number (x ∷ xs) (y ∷ ys) line r (first, rest) is =
+    let e : number + suc (length xs) ≡ number + 1 + length xs = omega arith in
+    let next : IsResultOfLine filter (number + 1 + length xs) line r = rw e at is in
+    (first, results_more filter (number + 1) xs ys line r rest next)
+results_more filter number [] (y ∷ ys) line r never is = absurd never
+results_more filter number (x ∷ xs) [] line r never is = absurd never
 
 -- lines that have texts have no errors
 no_errors : (results : List (Result (List ℕ) FilterError)) → have_texts results ≡ true → errors_of results ≡ []
@@ -86,19 +95,20 @@ from_start e input output diagnostics = record {
   diagnostics = record { before = e.diagnostics.before; after = diagnostics };
 }
 
--- the lines were read, their output was appended, and their errors were reported
+-- the lines were read, the output of their results was appended, and their errors were reported
 pub record Filtered
     {D : Type 0} (reports : D → FilterError → D → Type 0) (filter : Filter) (count : ℕ) (texts : Bool) (e : Effects D)
     : Type 0
   where
     pub lines : List (List ℕ)
+    pub results : List (Result (List ℕ) FilterError)
+    pub are_results : AreResults filter 1 lines results
     pub read : AreRead e.input.before lines e.input.after
     pub number : length lines ≡ count
-    pub output : Appends e.output.before e.output.after (output_of (results_of filter 1 lines))
-    pub reported :
-        FoldsTo reports e.diagnostics.before (errors_of (results_of filter 1 lines)) e.diagnostics.after
-    pub texts_of : texts ≡ have_texts (results_of filter 1 lines)
-    pub stop : filter.on_error ≡ Stop → have_texts (results_of filter 1 lines) ≡ true
+    pub output : Appends e.output.before e.output.after (output_of results)
+    pub reported : FoldsTo reports e.diagnostics.before (errors_of results) e.diagnostics.after
+    pub texts_of : texts ≡ have_texts results
+    pub stop : filter.on_error ≡ Stop → have_texts results ≡ true
 
 -- before the first line
 pub filtered_start :
@@ -110,6 +120,8 @@ pub filtered_start :
     })
 filtered_start reports filter a o d = record {
   lines = [];
+  results = [];
+  are_results = tt;
   read = read_none a;
   number = refl;
   output = Appends-nil o;
@@ -122,64 +134,62 @@ module _
     {D : Type 0} {reports : D → FilterError → D → Type 0} {filter : Filter} {count : ℕ} {t : Bool} {e : Effects D}
     (h : Filtered reports filter count t e)
   where
-    with_line : List ℕ → List (Result (List ℕ) FilterError)
-    with_line line = results_of filter 1 (h.lines ++ (line ∷ []))
+    -- ---- One more line.
 
-    is_more :
-        (line : List ℕ)
-        → with_line line ≡ results_of filter 1 h.lines ++ (result_of_line filter (count + 1) line ∷ [])
-    unfolding with_line
-    is_more line =
-        let number : 1 + length h.lines ≡ count + 1 = omega (arith, h.number) in
-        rw (← number) (results_more filter 1 h.lines line)
+    results_next :
+        (line : List ℕ) (r : Result (List ℕ) FilterError) → IsResultOfLine filter (count + 1) line r
+        → AreResults filter 1 (h.lines ++ (line ∷ [])) (h.results ++ (r ∷ []))
+    results_next line r is =
+        let number : count + 1 ≡ 1 + length h.lines = omega (arith, h.number) in
+        let next : IsResultOfLine filter (1 + length h.lines) line r = rw number at is in
+        results_more filter 1 h.lines h.results line r h.are_results next
 
-    output_next :
-        (line : List ℕ) (q : Option (List ℕ))
-        → AppendsPrefix e.output.after q (output_of_line (result_of_line filter (count + 1) line))
-        → AppendsPrefix e.output.before q (output_of (with_line line))
-    output_next line q put =
-        rw (is_more line) (subst (AppendsPrefix e.output.before q)
-        (flat_map_more output_of_line [] (results_of filter 1 h.lines) (result_of_line filter (count + 1) line))
-        (then_prefix e.output.before e.output.after q (output_of (results_of filter 1 h.lines)) _ h.output put))
+    module _ (r : Result (List ℕ) FilterError) where
+      output_next :
+          (q : Option (List ℕ)) → Appends e.output.after q (output_of_line r)
+          → Appends e.output.before q (output_of (h.results ++ (r ∷ [])))
+      output_next q put =
+          subst (Appends e.output.before q) (flat_map_more output_of_line [] h.results r)
+          (Appends-trans e.output.before e.output.after q (output_of h.results) _ h.output put)
 
-    reported_next :
-        (line : List ℕ) (g : D)
-        → FoldsTo reports e.diagnostics.after (errors_of_line (result_of_line filter (count + 1) line)) g
-        → FoldsTo reports e.diagnostics.before (errors_of (with_line line)) g
-    reported_next line g more =
-        rw (is_more line) (subst (λ errors. FoldsTo reports e.diagnostics.before errors g)
-        (flat_map_more errors_of_line [] (results_of filter 1 h.lines) (result_of_line filter (count + 1) line))
-        (folds_both reports e.diagnostics.before (errors_of (results_of filter 1 h.lines)) e.diagnostics.after _ g
-        h.reported more))
+      prefix_next :
+          (q : Option (List ℕ)) → AppendsPrefix e.output.after q (output_of_line r)
+          → AppendsPrefix e.output.before q (output_of (h.results ++ (r ∷ [])))
+      prefix_next q put =
+          subst (AppendsPrefix e.output.before q) (flat_map_more output_of_line [] h.results r)
+          (then_prefix e.output.before e.output.after q (output_of h.results) _ h.output put)
 
-    texts_next :
-        (line : List ℕ)
-        → have_texts (with_line line)
-        ≡ (have_texts (results_of filter 1 h.lines) && is_ok (result_of_line filter (count + 1) line))
-    texts_next line = rw (is_more line) (grind (arith, common_steps, list_all-append))
+      reported_next :
+          (g : D) → FoldsTo reports e.diagnostics.after (errors_of_line r) g
+          → FoldsTo reports e.diagnostics.before (errors_of (h.results ++ (r ∷ []))) g
+      reported_next g more =
+          subst (λ errors. FoldsTo reports e.diagnostics.before errors g)
+          (flat_map_more errors_of_line [] h.results r)
+          (folds_both reports e.diagnostics.before (errors_of h.results) e.diagnostics.after _ g h.reported more)
 
-    stop_next :
-        (line : List ℕ) → (filter.on_error ≡ Stop → is_ok (result_of_line filter (count + 1) line) ≡ true)
-        → filter.on_error ≡ Stop → have_texts (with_line line) ≡ true
-    stop_next line text stop = texts_next line ∙ and_from _ _ (h.stop stop) (text stop)
+      texts_next : have_texts (h.results ++ (r ∷ [])) ≡ (have_texts h.results && is_ok r)
+      texts_next = grind (arith, common_steps, list_all-append)
+
+      stop_next :
+          (filter.on_error ≡ Stop → is_ok r ≡ true) → filter.on_error ≡ Stop
+          → have_texts (h.results ++ (r ∷ [])) ≡ true
+      stop_next text stop = texts_next ∙ and_from _ _ (h.stop stop) (text stop)
 
     -- one more line was filtered
     pub filtered_more :
         (u : Bool) (c q : Option (List ℕ)) (g : D)
         → FiltersNext reports filter (count + 1) (from_end e c q g) (Ok (Some u))
         → Filtered reports filter (count + 1) (t && u) (from_start e c q g)
-    unfolding with_line
-    filtered_more u c q g (line, is, (put, more, text, stop)) = record {
+    filtered_more u c q g (line, is, (r, of_line, put, more, text, stop)) = record {
       lines = h.lines ++ (line ∷ []);
+      results = h.results ++ (r ∷ []);
+      are_results = results_next line r of_line;
       read = read_more e.input.before e.input.after c h.lines line h.read is;
       number = length-append h.lines (line ∷ []) ∙ ap (λ n. n + 1) h.number;
-      output =
-          rw (is_more line) (subst (Appends e.output.before q)
-          (flat_map_more output_of_line [] (results_of filter 1 h.lines) (result_of_line filter (count + 1) line))
-          (Appends-trans e.output.before e.output.after q (output_of (results_of filter 1 h.lines)) _ h.output put));
-      reported = reported_next line g more;
-      texts_of = rw (h.texts_of, text) (sym (texts_next line));
-      stop = stop_next line (λ is. sym text ∙ stop is);
+      output = output_next r q put;
+      reported = reported_next r g more;
+      texts_of = rw (h.texts_of, text) (sym (texts_next r));
+      stop = stop_next r (λ is. sym text ∙ stop is);
     }
 
     -- ---- The result of the filter.
@@ -187,11 +197,18 @@ module _
     -- the filter returned this after the lines so far
     filters :
         (result : Result Bool FilterError) (c q : Option (List ℕ)) (g : D)
-        → Returns filter e.input.before h.lines result → q ≡ e.output.after → g ≡ e.diagnostics.after
+        → Returns filter e.input.before h.lines h.results result → q ≡ e.output.after → g ≡ e.diagnostics.after
         → Filters AppendsPrefix reports filter (from_start e c q g) result
-    filters result c q g how out err =
-        rw (out, err)
-        (h.lines, how, h.stop, (λ _. h.output), whole e.output.before e.output.after _ h.output, h.reported)
+    filters result c q g how out err = record {
+      lines = h.lines;
+      results = h.results;
+      are_results = h.are_results;
+      returns = how;
+      stop = h.stop;
+      whole = λ _. rw out h.output;
+      part = rw out (whole e.output.before e.output.after _ h.output);
+      reported = rw err h.reported;
+    }
 
     -- no line is left
     pub filters_all :
@@ -206,18 +223,12 @@ module _
         → t ≡ true → g ≡ e.diagnostics.before
     silent_all c q g (none, (out, err)) texts =
         err ∙ sym (subst (λ errors. FoldsTo reports e.diagnostics.before errors e.diagnostics.after)
-        (no_errors (results_of filter 1 h.lines) (sym h.texts_of ∙ texts)) h.reported)
+        (no_errors h.results (sym h.texts_of ∙ texts)) h.reported)
 
     -- after 2 to the 64 lines
     pub filters_many : Filters AppendsPrefix reports filter e (Err Input)
-    filters_many = (
-      h.lines,
-      ((e.input.after, h.read), tt),
-      h.stop,
-      (λ _. h.output),
-      whole e.output.before e.output.after _ h.output,
-      h.reported,
-    )
+    filters_many = filters (Err Input) e.input.after e.output.after e.diagnostics.after ((e.input.after, h.read), tt)
+        refl refl
 
     -- the next line could not be read
     filters_reading :
@@ -229,15 +240,14 @@ module _
     filters_reading why Input c q g kind out err = filters (Err Input) c q g ((e.input.after, h.read), tt) out err
     filters_reading why error c q g never out err = absurd never
 
-    -- the next line was read, and its run or its output has this error
+    -- the next line was read, and it has this error
     filters_line :
         (line : List ℕ) (error : FilterError) (c q : Option (List ℕ)) (g : D)
         → IfSome e.input.after (λ rest. IsRead true rest line c)
-        → FiltersLine reports filter (count + 1) line (from_end e c q g) (Err error)
+        → FiltersLine reports filter (count + 1) line (from_end e c q g).output (from_end e c q g).diagnostics
+        (Err error)
         → Filters AppendsPrefix reports filter (from_start e c q g) (Err error)
-    unfolding with_line
-    filters_line line (Operation at error) c q g is (why, silent, part) =
-        let (out, err) = silent (λ e. cc) in
+    filters_line line (Operation at error) c q g is (why, out, err) =
         filters (Err (Operation at error)) c q g (
           (e.input.after, h.read),
           (
@@ -246,16 +256,17 @@ module _
             rw h.number why,
           ),
         ) out err
-    filters_line line Output c q g is (text, silent, part) =
-        let (put, more) = part refl in (
-          h.lines ++ (line ∷ []),
-          ((c, read_more e.input.before e.input.after c h.lines line h.read is), tt),
-          stop_next line text,
-          (λ other. absurd (other refl)),
-          output_next line q put,
-          reported_next line g more,
-        )
-    filters_line line error c q g is (never, silent, part) = absurd never
+    filters_line line Output c q g is (r, of_line, put, more, text) = record {
+      lines = h.lines ++ (line ∷ []);
+      results = h.results ++ (r ∷ []);
+      are_results = results_next line r of_line;
+      returns = ((c, read_more e.input.before e.input.after c h.lines line h.read is), tt);
+      stop = stop_next r text;
+      whole = λ other. absurd (other refl);
+      part = prefix_next r q put;
+      reported = reported_next r g more;
+    }
+    filters_line line error c q g is h = absurd h.0
 
     -- the next line has this error
     pub filters_error :
@@ -270,7 +281,7 @@ module _
         (error : FilterError) (c q : Option (List ℕ)) (g : D)
         → FiltersNext reports filter (count + 1) (from_end e c q g) (Err error)
         → IsConsumed (record { before = e.input.before; after = c }) error
-    consumed_next (Operation at error) c q g (inl (line, is, ((same, other, real, fails), silent, part))) = (
+    consumed_next (Operation at error) c q g (inl (line, is, ((same, other, real, fails), out, err))) = (
       h.lines ++ (line ∷ []),
       length-append h.lines (line ∷ []) ∙ (ap (λ n. n + 1) h.number ∙ sym same),
       read_more e.input.before e.input.after c h.lines line h.read is,

@@ -1,6 +1,7 @@
 pub mod Numerals
 pub mod RoundingWord
 pub mod Programs
+pub mod Conversions
 pub mod Buffers
 pub mod Filtering
 pub mod Reporting

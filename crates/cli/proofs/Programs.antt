@@ -1,6 +1,6 @@
 -- The run that the words of a command line name, and its result.
-use Rattle.std.proofs.Common.{◌≡◌, ℕ, ◌+◌, ◌-◌, ◌<◌, ◌≤◌, List, [], ◌∷◌, ◌++◌, length, take, drop, get_or, String, string_bytes, Option, Some, None, Result, Ok, Err, IfNone, IfSome, IfErr, true, false, rules, refl, sym, ap, subst, ◌∙◌, arith, add-one}
-use Rattle.std.specs.Prelude.{Any, IsOk, IsOkAnd, IsErrAnd, OnOk}
+use Rattle.std.proofs.Common.{◌≡◌, ◌≢◌, ℕ, ◌+◌, ◌-◌, ◌<◌, ◌≤◌, List, [], ◌∷◌, ◌++◌, length, take, drop, get_or, String, string_bytes, Option, Some, None, Result, Ok, Err, IfNone, IfSome, IfErr, true, false, refl, sym, ap, subst, ◌∙◌, arith, add-one}
+use Rattle.std.specs.Prelude.{Any, IsErrAnd, OnOk}
 use Rattle.std.specs.Option.{is_some}
 use Rattle.std.specs.declared.alloc.Global.{Global}
 use Rattle.std.specs.Io.KnownBytes.{Keeps}
@@ -9,14 +9,14 @@ use Rattle.std.proofs.lemmas.List.{length-drop, append-nil}
 use Rattle.std.proofs.KnownBytes.{Appends-kept}
 use Rattle.decimal_digits.specs.AppendsPrefix.{AppendsPrefix}
 use Rattle.fixed_decimal.proofs.Calling.{prefix_more}
-use Rattle.fixed_decimal.specs.Outcome.{outcome}
 use Rattle.fixed_decimal.specs.declared.runs.Call.{Call}
-use Rattle.cli.specs.Words.{Names}
-use Rattle.cli.specs.Words.{NameAll, IsUnknown}
-use Rattle.fixed_decimal.specs.declared.runs.RunError.TheVariants.{Sink}
+use Rattle.cli.specs.declared.conversion.Conversion.{Conversion}
+use Rattle.cli.specs.declared.error.FixdecError.TheVariants.{Memory, Operation}
+use Rattle.cli.specs.Conversion.{HasOutcome}
+use Rattle.cli.specs.Words.{Names, NameAll, NamesConversion, AreCalls, IsUnknown}
 use Rattle.cli.specs.declared.error.OperationError.TheVariants.{Output}
 use Rattle.cli.specs.Arguments.{Arguments, HaveWords}
-use Rattle.cli.specs.Fixdec.{OperationsFail, IsUsage, HasRun, RunPrints, RunPrintsPrefix}
+use Rattle.cli.specs.Fixdec.{IsUsage, NamesRun, HasError, PrintsLine, PrintsLinePrefix, Prints, PrintsPrefix}
 
 -- ---- Words and calls, one by one.
 
@@ -59,25 +59,23 @@ pub usage_if :
 usage_if [] l h = absurd (omega arith)
 usage_if (w ∷ ws) l h = rw (behind_is w ws) at h
 
--- what is true of the first word and of the calls that the others name is true of the run of the words
-pub runs_if :
-    (words : List (String Global)) (first : String Global) (calls : List Call) (P : List ℕ → List Call → Type 0)
-    → 1 ≤ length words → first ≡ get_or words 0 first → NameAll (take (length words - 1) (drop 1 words)) calls
-    → P (string_bytes first) calls → HasRun words P
-runs_if [] first calls P l is h p = absurd (omega arith)
-runs_if (w ∷ ws) first calls P l is h p = (calls, rw (behind_is w ws) at h, rw is at p)
+-- the first word is the text, and the words after it name a conversion
+pub names_run :
+    (words : List (String Global)) (first : String Global) (conversion : Conversion) → 1 ≤ length words
+    → first ≡ get_or words 0 first → NamesConversion (take (length words - 1) (drop 1 words)) conversion
+    → NamesRun words conversion (string_bytes first)
+names_run [] first conversion l is h = absurd (omega arith)
+names_run (w ∷ ws) first conversion l is h = (ap string_bytes is, rw (behind_is w ws) at h)
+
+-- where the words after the first name calls, and the list of these cannot be allocated, that is the error of memory
+pub memory_if :
+    (words : List (String Global)) → 1 ≤ length words
+    → AreCalls (take (length words - 1) (drop 1 words)) × (take (length words - 1) (drop 1 words) ≢ [])
+    → HasError words Memory
+memory_if [] l h = absurd (omega arith)
+memory_if (w ∷ ws) l h = rw (behind_is w ws) at h
 
 -- ---- Results.
-
--- a result of which a property holds is Ok
-pub ok_if : {X E : Type 0} (P : X → Type 0) (r : Result X E) → IsOkAnd r P → IsOk r
-ok_if P (Ok x) h = search (rules)
-ok_if P (Err e) h = absurd h
-
--- a property that follows from one of a result holds of it
-pub ok_map : {X E : Type 0} (P Q : X → Type 0) (r : Result X E) → ((x : X) → P x → Q x) → IsOkAnd r P → IsOkAnd r Q
-ok_map P Q (Ok x) f h = f x h
-ok_map P Q (Err e) f h = h
 
 -- what is true of an error is true of a result with that error
 pub err_with : {A E : Type 0} (Q : E → Type 0) (r : Result A E) (f : E) → IsErrAnd r (λ x. x ≡ f) → Q f → IfErr r Q
@@ -103,19 +101,42 @@ ok_weaker (Err e) f h = h
 
 -- ---- What was printed.
 
+-- a property of a text that follows from another one of it
+outcome_map :
+    (c : Conversion) (text : List ℕ) (P Q : List ℕ → Type 0) → ((written : List ℕ) → P written → Q written)
+    → HasOutcome c text P → HasOutcome c text Q
+outcome_map c text P Q f (written, is, p) = (written, is, f written p)
+
 -- a prefix of a text was written
 pub text_begun :
-    {E : Type 0} (r : Result (List ℕ) E) (a b : Option (List ℕ)) → IsOkAnd r (λ text. AppendsPrefix a b text)
-    → IsOkAnd r (λ text. AppendsPrefix a b (text ++ (10 ∷ [])))
-text_begun r a b p = ok_map _ _ r (λ text h. prefix_more a b text (10 ∷ []) h) p
+    (c : Conversion) (text : List ℕ) (a b : Option (List ℕ)) → HasOutcome c text (AppendsPrefix a b)
+    → PrintsLinePrefix a b c text
+text_begun c text a b = outcome_map c text _ _ (λ written h. prefix_more a b written (10 ∷ []) h)
 
--- the same for a prefix
-pub run_begun :
-    (a b c : Option (List ℕ)) (bytes : List ℕ) (calls : List Call) → RunPrints a b bytes calls → Keeps b c
-    → RunPrintsPrefix a c bytes calls
-run_begun a b c bytes calls p k =
-    ok_map _ _ (outcome bytes calls)
-    (λ text h. (text ++ (10 ∷ []), [], append-nil _, Appends-kept a b c (text ++ (10 ∷ [])) h k)) p
+-- a text and a line feed were written to a block, of which a part was written
+pub line_begun :
+    (c : Conversion) (text : List ℕ) (a b d : Option (List ℕ)) → PrintsLine a b c text → Keeps b d
+    → PrintsLinePrefix a d c text
+line_begun c text a b d p k =
+    outcome_map c text _ _
+    (λ written h. (written ++ (10 ∷ []), [], append-nil _, Appends-kept a b d (written ++ (10 ∷ [])) h k)) p
+
+-- and all of it
+pub line_kept :
+    (c : Conversion) (text : List ℕ) (a b d : Option (List ℕ)) → PrintsLine a b c text → Keeps b d
+    → PrintsLine a d c text
+line_kept c text a b d p k =
+    outcome_map c text _ _ (λ written h. Appends-kept a b d (written ++ (10 ∷ [])) h k) p
+
+-- the same for the run of the words
+pub prints_kept :
+    (words : List (String Global)) (a b d : Option (List ℕ)) → Prints words a b → Keeps b d → Prints words a d
+prints_kept words a b d h k = record {
+  conversion = h.conversion;
+  text = h.text;
+  names = h.names;
+  holds = line_kept h.conversion h.text a b d h.holds k;
+}
 
 -- P holds of the words of the arguments
 pub have_words :
@@ -126,8 +147,19 @@ have_words (Err error) words P is p = absurd is
 
 -- a run that prints to a block whose last bytes cannot be written
 pub unwritten_fails :
-    (words : List (String Global)) (a b c : Option (List ℕ)) → HasRun words (RunPrints a b) → Keeps b c
-    → HasRun words (OperationsFail Output) × HasRun words (RunPrintsPrefix a c)
-unwritten_fails [] a b c p k = absurd p
-unwritten_fails (w ∷ ws) a b c (calls, names, p) k =
-    ((calls, names, (Sink, refl, ok_if _ _ p)), (calls, names, run_begun a b c (string_bytes w) calls p k))
+    (words : List (String Global)) (a b d : Option (List ℕ)) → Prints words a b → Keeps b d
+    → HasError words (Operation Output) × PrintsPrefix words a d
+unwritten_fails words a b d h k = (
+  record {
+    conversion = h.conversion;
+    text = h.text;
+    names = h.names;
+    holds = (h.holds.0, h.holds.1);
+  },
+  record {
+    conversion = h.conversion;
+    text = h.text;
+    names = h.names;
+    holds = line_begun h.conversion h.text a b d h.holds k;
+  },
+)

@@ -1,7 +1,7 @@
 -- The filter that the words of `fixdec_lines` name, and its result on an input.
-use Rattle.std.specs.Prelude.{◌≡◌, ◌≢◌, ℕ, ⊤, Any, Bool, true, List, [], ◌∷◌, codes, String, string_bytes, Option, MatchOption, Result, Err}
+use Rattle.std.specs.Prelude.{◌≡◌, ◌≢◌, ◌⊎◌, ℕ, ⊤, Any, Bool, true, List, [], ◌∷◌, codes, String, string_bytes, Option, MatchOption, Result, Ok, Err}
 use Rattle.std.specs.declared.alloc.Global.{Global}
-use Rattle.cli.specs.Words.{NameAll, AreCalls, IsUnknown}
+use Rattle.cli.specs.Words.{NamesConversion, AreCalls, IsUnknown}
 use Rattle.cli.specs.declared.error.FilterError.{FilterError}
 use Rattle.cli.specs.declared.error.FilterError.TheVariants.{Usage, Memory, Output}
 use Rattle.cli.specs.declared.filter.Filter.{Filter}
@@ -17,21 +17,20 @@ IsSplit (first ∷ words) Skip others = (string_bytes first ≡ codes "skip") ×
 IsSplit [] Stop others = others ≡ []
 IsSplit (first ∷ words) Stop others = (string_bytes first ≢ codes "skip") × (others ≡ first ∷ words)
 
--- a word after the optional first word `skip` names no call
-abbrev pub IsUsage : List (String Global) → Type 0
-IsUsage words =
+-- the words after the optional first word `skip` name the conversion of this filter
+abbrev pub NamesFilter : List (String Global) → Filter → Type 0
+NamesFilter words filter =
+    (others : List (String Global)) × IsSplit words filter.on_error others
+    × NamesConversion others filter.conversion
+
+-- the words name no filter: a word after the optional first word `skip` names no call, or there is no memory for the
+-- list of the calls
+abbrev pub FilterFails : List (String Global) → FilterError → Type 0
+FilterFails words Usage =
     (on_error : OnError) × (others : List (String Global)) × IsSplit words on_error others × Any IsUnknown others
-
--- the words after the optional first word `skip` name calls
-abbrev pub HasCalls : List (String Global) → Type 0
-HasCalls words =
+FilterFails words Memory =
     (on_error : OnError) × (others : List (String Global)) × IsSplit words on_error others × AreCalls others
-
--- the words after the optional first word `skip` name calls, and P holds of this filter
-abbrev pub HasFilter : List (String Global) → (Filter → Type 0) → Type 0
-HasFilter words P =
-    (filter : Filter) × (others : List (String Global)) × IsSplit words filter.on_error others
-    × NameAll others filter.calls.now × P filter
+FilterFails words _ = ⊥
 
 -- the error comes before the first line
 abbrev pub IsEarly : FilterError → Type 0
@@ -55,15 +54,19 @@ effects process writer = record {
 }
 
 module _ {D : Type 0} (reports : D → FilterError → D → Type 0) where
-  -- the error is that of the words, or out of memory before the first line, and nothing was reported before it; or the
-  -- filter that the words name returned this
+  -- the filter returned this; or there is no memory for the block of the reader, and nothing was reported before this
+  -- error
+  abbrev pub Runs : Filter → Effects D → Result Bool FilterError → Type 0
+  Runs filter effects (Err Memory) = effects.diagnostics.after ≡ effects.diagnostics.before
+  Runs filter effects result = Filters AppendsUnwritten reports filter effects result
+
+  -- the words name a filter, which ran with this result; or they name none, and nothing was reported before this error
   abbrev pub WordsFilter : List (String Global) → Effects D → Result Bool FilterError → Type 0
-  WordsFilter words effects (Err Usage) =
-      IsUsage words × (effects.diagnostics.after ≡ effects.diagnostics.before)
-  WordsFilter words effects (Err Memory) =
-      HasCalls words × (effects.diagnostics.after ≡ effects.diagnostics.before)
-  WordsFilter words effects result =
-      HasFilter words (λ filter. Filters AppendsUnwritten reports filter effects result)
+  WordsFilter words effects (Ok texts) =
+      (filter : Filter) × NamesFilter words filter × Runs filter effects (Ok texts)
+  WordsFilter words effects (Err error) =
+      ((filter : Filter) × NamesFilter words filter × Runs filter effects (Err error))
+      ⊎ (FilterFails words error × (effects.diagnostics.after ≡ effects.diagnostics.before))
 
   -- the block before the writer cannot be allocated, and nothing is reported before this error; or the filter fails
   -- with it, at `Output` because the writer failed

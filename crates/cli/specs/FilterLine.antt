@@ -7,37 +7,27 @@ use Rattle.std.specs.IoError.{error_kind}
 use Rattle.std.specs.declared.io.Error.{Error}
 use Rattle.std.specs.declared.io.ErrorKind.TheVariants.{OutOfMemory}
 use Rattle.decimal_digits.specs.AppendsPrefix.{AppendsPrefix}
-use Rattle.decimal_unsigned.specs.Reading.{syntax, limit}
-use Rattle.fixed_decimal.specs.Outcome.{OutcomeError, outcome, start, operand, overlap, limit_exceeded}
-use Rattle.cli.specs.declared.error.Reason.TheVariants as reason
-use Rattle.cli.specs.declared.error.OperationError.{OperationError}
+use Rattle.fixed_decimal.specs.Outcome.{OutcomeError}
 use Rattle.cli.specs.declared.error.OperationError.TheVariants as operation
 use Rattle.cli.specs.declared.error.FilterError.{FilterError}
 use Rattle.cli.specs.declared.error.FilterError.TheVariants.{Operation, LongLine, Input, Output}
 use Rattle.cli.specs.declared.filter.Filter.{Filter}
 use Rattle.cli.specs.declared.filter.OnError.TheVariants.{Stop, Skip}
 use Rattle.cli.specs.Errors.{status_of_operation}
-use Rattle.cli.specs.Fixdec.{OperationsFail}
+use Rattle.cli.specs.Conversion.{IsOutcome, OperationsFail, error_of}
 
 -- ---- The result of a line.
 
--- an error of a run as an error of the programs
-abbrev pub error_of : OutcomeError → OperationError
-error_of (start syntax) = operation.Start reason.Syntax
-error_of (start limit) = operation.Start reason.Limit
-error_of (operand at syntax) = operation.Operand at reason.Syntax
-error_of (operand at limit) = operation.Operand at reason.Limit
-error_of (overlap at) = operation.Overlap at
-error_of (limit_exceeded at) = operation.Overflow at
+-- the outcome of the line with this number as its result
+abbrev pub result_of_outcome : ℕ → Result (List ℕ) OutcomeError → Result (List ℕ) FilterError
+result_of_outcome number (Ok text) = Ok text
+result_of_outcome number (Err why) = Err (Operation number (error_of why))
 
--- the outcome of a run on the line with this number
-abbrev pub result_of_run : ℕ → Result (List ℕ) OutcomeError → Result (List ℕ) FilterError
-result_of_run number (Ok text) = Ok text
-result_of_run number (Err why) = Err (Operation number (error_of why))
-
--- the text of the line with this number, or its error
-abbrev pub result_of_line : Filter → ℕ → List ℕ → Result (List ℕ) FilterError
-result_of_line filter number line = result_of_run number (outcome line filter.calls.now)
+-- the result of the line with this number: its text, or its error
+abbrev pub IsResultOfLine : Filter → ℕ → List ℕ → Result (List ℕ) FilterError → Type 0
+IsResultOfLine filter number line result =
+    (outcome : Result (List ℕ) OutcomeError) × IsOutcome filter.conversion line outcome
+    × (result ≡ result_of_outcome number outcome)
 
 -- the output of a line: its text and a line feed, or an empty line if it has none
 abbrev pub output_of_line : Result (List ℕ) FilterError → List ℕ
@@ -83,42 +73,43 @@ IsErrorOfReading number error (LongLine at) = (at ≡ number) × (error_kind err
 IsErrorOfReading number error Input = error_kind error ≢ OutOfMemory
 IsErrorOfReading number error _ = ⊥
 
--- the error is that of the run of the line with this number, with `Skip` only out of memory; or of the output
+-- the error is that of the line with this number, with `Skip` only out of memory
 abbrev pub IsErrorOfLine : Filter → ℕ → List ℕ → FilterError → Type 0
 IsErrorOfLine filter number line (Operation at error) =
     (at ≡ number) × (filter.on_error ≡ Skip → status_of_operation error ≢ 1) × (error ≢ operation.Output)
-    × OperationsFail error line filter.calls.now
-IsErrorOfLine filter number line Output = filter.on_error ≡ Stop → is_ok (result_of_line filter number line) ≡ true
+    × OperationsFail error filter.conversion line
 IsErrorOfLine filter number line _ = ⊥
 
 -- ---- What a filter does to a line.
 
--- nothing was written, and nothing was reported
-abbrev pub IsSilent : {D : Type 0} → Effects D → Type 0
-IsSilent effects =
-    (effects.output.after ≡ effects.output.before) × (effects.diagnostics.after ≡ effects.diagnostics.before)
-
 module _ {D : Type 0} (reports : D → FilterError → D → Type 0) (filter : Filter) (number : ℕ) where
   -- the line with this number was filtered, and this was returned: whether it has a text, after its output and its
-  -- errors; or an error, at `Output` after a prefix of its output
-  abbrev pub FiltersLine : List ℕ → Effects D → Result Bool FilterError → Type 0
-  FiltersLine line effects (Ok has_text) =
-      Appends effects.output.before effects.output.after (output_of_line (result_of_line filter number line))
-      × FoldsTo reports effects.diagnostics.before (errors_of_line (result_of_line filter number line))
-      effects.diagnostics.after
-      × (has_text ≡ is_ok (result_of_line filter number line)) × (filter.on_error ≡ Stop → has_text ≡ true)
-  FiltersLine line effects (Err error) =
-      IsErrorOfLine filter number line error × (error ≢ Output → IsSilent effects)
-      × (error ≡ Output
-      → AppendsPrefix effects.output.before effects.output.after (output_of_line (result_of_line filter number line))
-      × FoldsTo reports effects.diagnostics.before (errors_of_line (result_of_line filter number line))
-      effects.diagnostics.after)
+  -- errors; or `Output`, after a prefix of its output; or another error, and nothing was written and reported
+  abbrev pub FiltersLine : List ℕ → Change (Option (List ℕ)) → Change D → Result Bool FilterError → Type 0
+  FiltersLine line output diagnostics (Ok has_text) =
+      (result : Result (List ℕ) FilterError) × IsResultOfLine filter number line result
+      × Appends output.before output.after (output_of_line result)
+      × FoldsTo reports diagnostics.before (errors_of_line result) diagnostics.after
+      × (has_text ≡ is_ok result) × (filter.on_error ≡ Stop → has_text ≡ true)
+  FiltersLine line output diagnostics (Err Output) =
+      (result : Result (List ℕ) FilterError) × IsResultOfLine filter number line result
+      × AppendsPrefix output.before output.after (output_of_line result)
+      × FoldsTo reports diagnostics.before (errors_of_line result) diagnostics.after
+      × (filter.on_error ≡ Stop → is_ok result ≡ true)
+  FiltersLine line output diagnostics (Err error) =
+      IsErrorOfLine filter number line error × (output.after ≡ output.before)
+      × (diagnostics.after ≡ diagnostics.before)
+
+  -- nothing was written, and nothing was reported
+  abbrev pub IsSilent : Effects D → Type 0
+  IsSilent effects =
+      (effects.output.after ≡ effects.output.before) × (effects.diagnostics.after ≡ effects.diagnostics.before)
 
   -- the next line was filtered; or there is none; or it could not be read
   abbrev pub FiltersNext : Effects D → Result (Option Bool) FilterError → Type 0
   FiltersNext effects (Ok None) = HasNoLine effects.input × IsSilent effects
   FiltersNext effects (Ok (Some has_text)) =
-      (line : List ℕ) × IsNextLine effects.input line × FiltersLine line effects (Ok has_text)
+      (line : List ℕ) × IsNextLine effects.input line × FiltersLine line effects.output effects.diagnostics (Ok has_text)
   FiltersNext effects (Err error) =
-      ((line : List ℕ) × IsNextLine effects.input line × FiltersLine line effects (Err error))
+      ((line : List ℕ) × IsNextLine effects.input line × FiltersLine line effects.output effects.diagnostics (Err error))
       ⊎ (((why : Error) × IsErrorOfReading number why error) × IsSilent effects)

@@ -1,5 +1,6 @@
 pub mod Arguments
 pub mod Categories
+pub mod Conversion
 pub mod Diagnostics
 pub mod Errors
 pub mod Fields
@@ -7,5 +8,6 @@ pub mod Filter
 pub mod Fixdec
 pub mod Lines
 pub mod Plural
+pub mod Reading
 pub mod FilterLine
 pub mod Words

@@ -7,7 +7,7 @@ use Rattle.cli.specs.declared.error.FilterError.{FilterError}
 use Rattle.cli.specs.declared.error.FilterError.TheVariants.{Operation, LongLine, Input, Output}
 use Rattle.cli.specs.declared.filter.Filter.{Filter}
 use Rattle.cli.specs.declared.filter.OnError.TheVariants.{Stop}
-use Rattle.cli.specs.FilterLine.{Change, Effects, result_of_line, output_of_line, errors_of_line, IsErrorOfLine}
+use Rattle.cli.specs.FilterLine.{Change, Effects, IsResultOfLine, output_of_line, errors_of_line, IsErrorOfLine}
 
 -- ---- The lines of an input.
 
@@ -31,9 +31,11 @@ AreFirst input lines = (left : Option (List ℕ)) × AreRead input lines left
 -- ---- The results of lines.
 
 -- the result of each line, in order; the first has this number
-abbrev pub results_of : Filter → ℕ → List (List ℕ) → List (Result (List ℕ) FilterError)
-results_of filter number [] = []
-results_of filter number (line ∷ lines) = result_of_line filter number line ∷ results_of filter (number + 1) lines
+abbrev pub AreResults : Filter → ℕ → List (List ℕ) → List (Result (List ℕ) FilterError) → Type 0
+AreResults filter number [] [] = ⊤
+AreResults filter number (line ∷ lines) (result ∷ results) =
+    IsResultOfLine filter number line result × AreResults filter (number + 1) lines results
+AreResults filter number _ _ = ⊥
 
 -- the output of lines with these results
 abbrev pub output_of : List (Result (List ℕ) FilterError) → List ℕ
@@ -60,23 +62,29 @@ EndsWith filter input lines Input = ⊤
 EndsWith filter input lines Output = ⊤
 EndsWith filter input lines _ = ⊥
 
--- the filter returns this after these lines: whether each has a text, after all lines; or an error, after some
-abbrev pub Returns : Filter → Option (List ℕ) → List (List ℕ) → Result Bool FilterError → Type 0
-Returns filter input lines (Ok texts) = AreAll input lines × (texts ≡ have_texts (results_of filter 1 lines))
-Returns filter input lines (Err error) = AreFirst input lines × EndsWith filter input lines error
+-- the filter returns this after these lines with these results: whether each has a text, after all lines; or an error,
+-- after some
+abbrev pub Returns :
+    Filter → Option (List ℕ) → List (List ℕ) → List (Result (List ℕ) FilterError) → Result Bool FilterError → Type 0
+Returns filter input lines results (Ok texts) = AreAll input lines × (texts ≡ have_texts results)
+Returns filter input lines results (Err error) = AreFirst input lines × EndsWith filter input lines error
 
 -- lines with these results were filtered, and this was returned: their output was appended, at a failed output a part
 -- of it, and their errors were reported in order
-abbrev pub Filters :
-    {D : Type 0} → (Option (List ℕ) → Option (List ℕ) → List ℕ → Type 0) → (D → FilterError → D → Type 0) → Filter
-    → Effects D → Result Bool FilterError → Type 0
-Filters AppendsPart reports filter effects result =
-    (lines : List (List ℕ)) × Returns filter effects.input.before lines result
-    × (filter.on_error ≡ Stop → have_texts (results_of filter 1 lines) ≡ true)
-    × (result ≢ Err Output
-    → Appends effects.output.before effects.output.after (output_of (results_of filter 1 lines)))
-    × AppendsPart effects.output.before effects.output.after (output_of (results_of filter 1 lines))
-    × FoldsTo reports effects.diagnostics.before (errors_of (results_of filter 1 lines)) effects.diagnostics.after
+pub record Filters
+    {D : Type 0} (AppendsPart : Option (List ℕ) → Option (List ℕ) → List ℕ → Type 0)
+    (reports : D → FilterError → D → Type 0) (filter : Filter) (effects : Effects D)
+    (returned : Result Bool FilterError)
+    : Type 0
+  where
+    pub lines : List (List ℕ)
+    pub results : List (Result (List ℕ) FilterError)
+    pub are_results : AreResults filter 1 lines results
+    pub returns : Returns filter effects.input.before lines results returned
+    pub stop : filter.on_error ≡ Stop → have_texts results ≡ true
+    pub whole : returned ≢ Err Output → Appends effects.output.before effects.output.after (output_of results)
+    pub part : AppendsPart effects.output.before effects.output.after (output_of results)
+    pub reported : FoldsTo reports effects.diagnostics.before (errors_of results) effects.diagnostics.after
 
 -- together with the last bytes, which a block did not write, a prefix of the text was appended
 abbrev pub AppendsUnwritten : Option (List ℕ) → Option (List ℕ) → List ℕ → Type 0

@@ -15,6 +15,7 @@ use Rattle.fixed_decimal.specs.declared.variations.SignDisplay.{SignDisplay}
 use Rattle.fixed_decimal.specs.declared.variations.SignDisplay.TheVariants as display
 use Rattle.fixed_decimal.specs.declared.runs.Call.{Call}
 use Rattle.fixed_decimal.specs.declared.runs.Call.TheVariants.{MultiplyPow10, TrimStart, TrimEnd, TrimEndIfInteger, PadStart, PadEnd, SetMaxPosition, Round, SetSign, ApplySignDisplay, Concatenate}
+use Rattle.cli.specs.declared.conversion.Conversion.{Conversion}
 
 -- ---- Parameters.
 
@@ -102,6 +103,11 @@ abbrev pub NameAll : List (String Global) → List Call → Type 0
 NameAll [] [] = ⊤
 NameAll (word ∷ words) (call ∷ calls) = Names (string_bytes word) call × NameAll words calls
 NameAll _ _ = ⊥
+
+-- the words name this conversion
+abbrev pub NamesConversion : List (String Global) → Conversion → Type 0
+NamesConversion words conversion =
+    (conversion.reader ≡ None) × NameAll words conversion.calls.items × (conversion.formatter ≡ None)
 
 -- each word names a call
 abbrev pub AreCalls : List (String Global) → Type 0

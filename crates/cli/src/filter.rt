@@ -1,23 +1,22 @@
-//! The filter: the calls on each line of an input.
-ghost use Rattle.std.specs.Prelude.{◌≡◌, ◌≢◌, Ok, Err, Some, true, is_ok, IfOk, IfErr, IfSome, OnOk};
-ghost use Rattle.std.specs.List.{FoldsTo};
-ghost use Rattle.std.specs.Io.KnownBytes.{Appends, IsAtEnd};
+//! The filter: the conversion of each line of an input.
+ghost use Rattle.std.specs.Prelude.{◌≡◌, Ok, Err, Some, true, IfOk, IfErr, IfSome, OnOk};
+ghost use Rattle.std.specs.Io.KnownBytes.{IsAtEnd};
 ghost use Rattle.std.specs.Io.BufRead.{strip_last};
 ghost use Rattle.decimal_digits.specs.AppendsPrefix.{AppendsPrefix};
-ghost use Rattle.cli.specs.FilterLine.{IsRead, IsErrorOfLine, IsErrorOfReading, FiltersNext};
-ghost use Rattle.cli.specs.FilterLine.{result_of_line, output_of_line, errors_of_line};
+ghost use Rattle.cli.specs.FilterLine.{IsRead, IsErrorOfReading, FiltersLine, FiltersNext};
 ghost use Rattle.cli.specs.Lines.{Filters, IsConsumed};
 
+use crate::conversion::Conversion;
 use crate::diagnostics::Diagnostics;
 use crate::error::{FilterError, OperationError};
-use crate::fixdec::print_run;
-use fixed_decimal::{Call, Sink};
+use crate::fixdec::print_line;
+use fixed_decimal::Sink;
 use memchr::memchr;
 use std::alloc::Global;
 use std::io;
 use std::io::{BufRead, ErrorKind};
 
-/// What a filter does at a line whose run fails.
+/// What a filter does at a line whose conversion fails.
 #[derive(Clone, Copy, Debug, PartialEq)]
 pub enum OnError {
     /// It ends.
@@ -27,12 +26,12 @@ pub enum OnError {
 }
 
 /// What a filter does to each line of an input.
-#[derive(Clone, Copy, Debug)]
+#[derive(Debug, Drop)]
 pub struct Filter<'a> {
-    /// What it does at a line whose run fails.
+    /// What it does at a line whose conversion fails.
     pub on_error: OnError,
-    /// The calls on each line, in order.
-    pub calls: &'a [Call<'a>],
+    /// The conversion of each line.
+    pub conversion: Conversion<'a>,
 }
 
 /// Removes a trailing line feed.
@@ -69,8 +68,8 @@ fn error_of_reading(line: u64, error: &io::Error) -> FilterError
     }
 }
 
-/// Writes the text of the run of a line and a line feed, and returns whether it has a text. With `Skip` an error of the
-/// run is reported, and an empty line is written.
+/// Writes the text of a line and a line feed, and returns whether it has a text. With `Skip` an error of the conversion
+/// is reported, and an empty line is written.
 fn filter_line<W: Sink, D: Diagnostics<FilterError>>(
     alloc: Global,
     filter: &Filter<'_>,
@@ -79,21 +78,12 @@ fn filter_line<W: Sink, D: Diagnostics<FilterError>>(
     out: &mut W,
     diagnostics: &mut D,
 ) -> Result<bool, FilterError>
-    ensures printed { OnOk result (Appends (W.contents out.old) (W.contents out.new)
-        (output_of_line (result_of_line filter.now number line.now))) }
-    ensures reported { IfErr result (λ error. error ≡ FilterError.Output) →
-        FoldsTo D.reports diagnostics.old (errors_of_line (result_of_line filter.now number line.now))
-        diagnostics.new }
-    ensures text { IfOk result (λ has_text. (has_text ≡ is_ok (result_of_line filter.now number line.now))
-        × (filter.now.on_error ≡ OnError.Stop → has_text ≡ true)) }
-    ensures error { IfErr result (IsErrorOfLine filter.now number line.now) }
-    ensures unchanged_on_error { IfErr result (λ error. error ≢ FilterError.Output →
-        (out.new ≡ out.old) × (diagnostics.new ≡ diagnostics.old)) }
+    ensures filtered { FiltersLine D.reports filter.now number line.now
+        (record { before = W.contents out.old; after = W.contents out.new })
+        (record { before = diagnostics.old; after = diagnostics.new }) result }
     ensures failed { result ≡ Err FilterError.Output → W.has_failed out.new ≡ true }
-    ensures prefix { result ≡ Err FilterError.Output → AppendsPrefix (W.contents out.old) (W.contents out.new)
-        (output_of_line (result_of_line filter.now number line.now)) }
 {
-    let error = match print_run(alloc, line, filter.calls, out) {
+    let error = match print_line(alloc, &filter.conversion, line, out) {
         Ok(()) => return Ok(true),
         Err(OperationError::Output) => return Err(FilterError::Output),
         Err(error) => error,

@@ -1,20 +1,21 @@
 //! `fixdec TEXT [CALL]..`: reads a decimal, makes the calls in order, and prints the text of the result.
-ghost use Rattle.std.specs.Prelude.{◌≡◌, ◌≢◌, ◌≤◌, ◌<◌, Bool, true, false, Err, IfErr, IfSome, OnOk, IsSomeAnd};
+ghost use Rattle.std.specs.Prelude.{◌≡◌, ◌≢◌, ◌≤◌, ◌<◌, Bool, true, false, Err, IfOk, IfErr, IfSome, OnOk, IsSomeAnd};
 ghost use Rattle.std.specs.Process.{exit_status};
 ghost use Rattle.cli.specs.declared.error.FixdecError.{FixdecError};
 ghost use Rattle.cli.specs.Arguments.{HaveWords, ArgumentsFail};
 ghost use Rattle.cli.specs.Diagnostics.{Reports};
 ghost use Rattle.cli.specs.Errors.{status_of_fixdec, output};
-ghost use Rattle.cli.specs.Fixdec.{OperationsFail, HasError, WordsFail};
-ghost use Rattle.cli.specs.Fixdec.{RunPrints, RunPrintsPrefix, Prints, PrintsPrefix};
+ghost use Rattle.cli.specs.Conversion.{OperationsFail};
+ghost use Rattle.cli.specs.Fixdec.{HasError, WordsFail, NamesRun, PrintsLine, PrintsLinePrefix, Prints, PrintsPrefix};
 
 use crate::arguments::words;
 use crate::calls::parse_calls;
+use crate::conversion::{Conversion, convert};
 use crate::diagnostics::conclude_on;
 use crate::error::{FixdecError, OperationError};
 use crate::help::{CALLS, help};
 use crate::output::{Closed, abandon, close, open};
-use fixed_decimal::{Call, Out, Sink, SinkFault, run};
+use fixed_decimal::{Out, Sink, SinkFault};
 use std::alloc::Global;
 use std::env::Args;
 use std::fmt::Display;
@@ -22,26 +23,47 @@ use std::io::Write;
 use std::process::ExitCode;
 use std::{env, io};
 
-/// Runs the calls on a start, and writes the text of the result and a line feed to a sink.
-pub fn print_run<W: Sink>(
+/// Converts a text, and writes the text of the result and a line feed to a sink.
+pub fn print_line<W: Sink>(
     alloc: Global,
-    start: &[u8],
-    calls: &[Call<'_>],
+    conversion: &Conversion<'_>,
+    text: &[u8],
     sink: &mut W,
 ) -> Result<(), OperationError>
-    ensures printed { OnOk result (RunPrints (W.contents sink.old) (W.contents sink.new) start.now calls.now) }
-    ensures fails_with { IfErr result (λ error. OperationsFail error start.now calls.now) }
+    ensures printed { OnOk result
+        (PrintsLine (W.contents sink.old) (W.contents sink.new) conversion.now text.now) }
+    ensures fails_with { IfErr result (λ error. OperationsFail error conversion.now text.now) }
     ensures unchanged_on_error { IfErr result (λ error. error ≢ OperationError.Output → sink.new ≡ sink.old) }
     ensures failed { result ≡ Err OperationError.Output → W.has_failed sink.new ≡ true }
     ensures prefix { result ≡ Err OperationError.Output →
-        RunPrintsPrefix (W.contents sink.old) (W.contents sink.new) start.now calls.now }
+        PrintsLinePrefix (W.contents sink.old) (W.contents sink.new) conversion.now text.now }
 {
-    run(alloc, start, calls, sink)?;
+    convert(alloc, conversion, text, sink)?;
     sink.put_byte(b'\n')?;
     Ok(())
 }
 
-/// Prints the text of the run that the words name, and a line feed.
+/// Parses the words as a text and a conversion.
+fn parse_words(alloc: Global, words: &[String]) -> Result<(&[u8], Conversion<'_>), FixdecError>
+    ensures some { IfOk result (λ run. NamesRun words.now run.1 run.0.now) }
+    ensures err { IfErr result (HasError words.now) }
+    ensures no_output { IfErr result (λ error. error ≢ output) }
+{
+    let [text, words @ ..] = words else {
+        return Err(FixdecError::Usage);
+    };
+    let Some(calls) = parse_calls(alloc, words)? else {
+        return Err(FixdecError::Usage);
+    };
+    let conversion = Conversion {
+        reader: None,
+        calls,
+        formatter: None,
+    };
+    Ok((text.as_bytes(), conversion))
+}
+
+/// Prints the text of the conversion that the words name, and a line feed.
 fn print<O: Write>(alloc: Global, words: &[String], out: &mut Out<O>) -> Result<(), FixdecError>
     ensures printed { OnOk result (Prints words.now (O.contents out.old.0) (O.contents out.new.0)) }
     ensures has_not_failed { OnOk result (out.new.1 ≡ false) }
@@ -50,13 +72,8 @@ fn print<O: Write>(alloc: Global, words: &[String], out: &mut Out<O>) -> Result<
     ensures failed { result ≡ Err output → out.new.1 ≡ true }
     ensures prefix { result ≡ Err output → PrintsPrefix words.now (O.contents out.old.0) (O.contents out.new.0) }
 {
-    let [start, words @ ..] = words else {
-        return Err(FixdecError::Usage);
-    };
-    let Some(calls) = parse_calls(alloc, words)? else {
-        return Err(FixdecError::Usage);
-    };
-    print_run(alloc, start.as_bytes(), calls.as_slice(), out)?;
+    let (text, conversion) = parse_words(alloc, words)?;
+    print_line(alloc, &conversion, text, out)?;
     out.flush()?;
     Ok(())
 }

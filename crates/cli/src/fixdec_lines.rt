@@ -1,14 +1,15 @@
 //! `fixdec_lines [skip] [CALL]..`: makes the same calls on each line of its input, and writes a line for each.
-ghost use Rattle.std.specs.Prelude.{◌≡◌, ◌≤◌, ◌<◌, ◌⊎◌, Ok, Err, true, false, IfErr, IfSome, OnOk, IsSomeAnd};
+ghost use Rattle.std.specs.Prelude.{◌≡◌, ◌≤◌, ◌<◌, ◌⊎◌, Ok, Err, true, false, IfOk, IfErr, IfSome, OnOk, IsSomeAnd};
 ghost use Rattle.std.specs.Process.{exit_status};
 ghost use Rattle.std.specs.Io.Buffered.{writer_contents, writer_inner};
 ghost use Rattle.cli.specs.declared.error.FilterError.{FilterError};
 ghost use Rattle.cli.specs.Arguments.{HaveWords, ArgumentsFail};
 ghost use Rattle.cli.specs.Errors.{status_of_filter};
-ghost use Rattle.cli.specs.Filter.{IsSplit, IsEarly, Process, effects, WordsFilter, LinesFail};
+ghost use Rattle.cli.specs.Filter.{IsSplit, NamesFilter, FilterFails, IsEarly, Process, effects, Runs, WordsFilter, LinesFail};
 
 use crate::arguments::words;
 use crate::calls::parse_calls;
+use crate::conversion::Conversion;
 use crate::diagnostics::{Diagnostics, ErrorLines, conclude};
 use crate::error::FilterError;
 use crate::filter::{Filter, OnError, filter_lines};
@@ -33,12 +34,64 @@ fn split_skip(words: &[String]) -> (OnError, &[String])
     }
 }
 
+/// Parses the words as a filter.
+fn parse_filter(alloc: Global, words: &[String]) -> Result<Filter<'_>, FilterError>
+    ensures some { IfOk result (NamesFilter words.now) }
+    ensures err { IfErr result (FilterFails words.now) }
+{
+    let (on_error, words) = split_skip(words);
+    let calls = match parse_calls(alloc, words) {
+        Ok(Some(calls)) => calls,
+        Ok(None) => return Err(FilterError::Usage),
+        Err(_) => return Err(FilterError::Memory),
+    };
+    let conversion = Conversion {
+        reader: None,
+        calls,
+        formatter: None,
+    };
+    Ok(Filter {
+        on_error,
+        conversion,
+    })
+}
+
+/// Runs a filter with a block before the writer, and returns the writer after its last call.
+fn run_filter<R: Read, O: Write + Drop, D: Diagnostics<FilterError>>(
+    alloc: Global,
+    filter: &Filter<'_>,
+    input: &mut R,
+    mut buffered: BufferedOut<O>,
+    diagnostics: &mut D,
+) -> (Result<bool, FilterError>, Closed<O>)
+    ensures filtered { Runs D.reports filter.now (record {
+      input = record { before = R.remaining input.old; after = R.remaining input.new };
+      output = record { before = writer_contents O.contents buffered.0; after = O.contents result.1.0 };
+      diagnostics = record { before = diagnostics.old; after = diagnostics.new };
+    }) result.0 }
+    ensures silent { result.0 ≡ Ok true → diagnostics.new ≡ diagnostics.old }
+    ensures has_not_failed { OnOk result.0 (result.1.1 ≡ false) }
+    ensures failed { result.0 ≡ Err FilterError.Output → result.1.1 ≡ true }
+    ensures unchanged_on_error { IfErr result.0 (λ error. IsEarly error
+        → result.1 ≡ (writer_inner buffered.0, buffered.1)) }
+{
+    let Ok(mut reader) = BufReader::with_capacity(alloc, BLOCK, input) else {
+        return (Err(FilterError::Memory), abandon(buffered));
+    };
+    let filtered = filter_lines(alloc, filter, &mut reader, &mut buffered, diagnostics);
+    let closed = close(buffered);
+    if closed.has_failed() {
+        return (Err(FilterError::Output), closed);
+    }
+    (filtered, closed)
+}
+
 /// Runs the filter that the words name with a block before the writer, and returns the writer after its last call.
 fn filter_words<R: Read, O: Write + Drop, D: Diagnostics<FilterError>>(
     alloc: Global,
     words: &[String],
     input: &mut R,
-    mut buffered: BufferedOut<O>,
+    buffered: BufferedOut<O>,
     diagnostics: &mut D,
 ) -> (Result<bool, FilterError>, Closed<O>)
     ensures filtered { WordsFilter D.reports words.now (record {
@@ -53,25 +106,10 @@ fn filter_words<R: Read, O: Write + Drop, D: Diagnostics<FilterError>>(
         → result.1 ≡ (writer_inner buffered.0, buffered.1)) }
     ensures unread { result.0 ≡ Err FilterError.Usage → input.new ≡ input.old }
 {
-    let (on_error, words) = split_skip(words);
-    let calls = match parse_calls(alloc, words) {
-        Ok(Some(calls)) => calls,
-        Ok(None) => return (Err(FilterError::Usage), abandon(buffered)),
-        Err(_) => return (Err(FilterError::Memory), abandon(buffered)),
-    };
-    let Ok(mut reader) = BufReader::with_capacity(alloc, BLOCK, input) else {
-        return (Err(FilterError::Memory), abandon(buffered));
-    };
-    let filter = Filter {
-        on_error,
-        calls: calls.as_slice(),
-    };
-    let filtered = filter_lines(alloc, &filter, &mut reader, &mut buffered, diagnostics);
-    let closed = close(buffered);
-    if closed.has_failed() {
-        return (Err(FilterError::Output), closed);
+    match parse_filter(alloc, words) {
+        Ok(filter) => run_filter(alloc, &filter, input, buffered, diagnostics),
+        Err(error) => (Err(error), abandon(buffered)),
     }
-    (filtered, closed)
 }
 
 /// Runs the program on the arguments of the process, over any diagnostics, with a block before `out`, which is returned

@@ -6,6 +6,7 @@
 mod arguments;
 mod calls;
 mod categories;
+mod conversion;
 mod diagnostics;
 mod error;
 mod fields;
@@ -15,10 +16,13 @@ pub mod fixdec_lines;
 mod help;
 mod output;
 pub mod plural;
+mod reader;
 
 pub use calls::parse_calls;
+pub use conversion::{Conversion, convert};
 pub use diagnostics::{Diagnostics, ErrorLines};
 pub use error::{FilterError, FixdecError, OperationError, PluralError, ProgramError, Reason};
 pub use fields::Field;
 pub use filter::{Filter, OnError, filter_lines};
 pub use output::{BufferedOut, Closed, abandon, close, open};
+pub use reader::{DecimalReader, ParseMode};

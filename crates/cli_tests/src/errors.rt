@@ -2,7 +2,7 @@
 ghost use Rattle.std.specs.Prelude.{◌≡◌, true, [], ◌∷◌, ◌++◌};
 
 use cli::{
-    Diagnostics, ErrorLines, Filter, FilterError, FixdecError, OnError, OperationError,
+    Conversion, Diagnostics, ErrorLines, Filter, FilterError, FixdecError, OnError, OperationError,
     PluralError, Reason, filter_lines,
 };
 use fixed_decimal::{Call, TextBuf};
@@ -146,10 +146,13 @@ fn a_skipping_filter_reports_each_refusal(rt: HostRuntime) -> Result<(), Fail> {
         errors: Vec::new(alloc),
         is_whole: true,
     };
-    let calls = [Call::MultiplyPow10(-2)];
     let filter = Filter {
         on_error: OnError::Skip,
-        calls: &calls,
+        conversion: Conversion {
+            reader: None,
+            calls: Vec::from_array(alloc, [Call::MultiplyPow10(-2)])?,
+            formatter: None,
+        },
     };
     let answer = filter_lines(alloc, &filter, &mut input, &mut out, &mut log);
     assert_eq!(rt; answer, Ok(false));

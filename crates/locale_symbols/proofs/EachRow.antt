@@ -1,6 +1,8 @@
 -- What is true of each row of the tables, by computation, and of the texts of symbols.
-use Rattle.std.proofs.Common.{◌≡◌, ℕ, ◌≤◌, ◌<◌, ◌==◌, ◌&&◌, Bool, true, false, List, [], ◌∷◌, length, get_or, cond, Option, Some, None, zero, suc, refl, ap, lit≤, subst, arith}
+use Rattle.std.proofs.Common.{◌≡◌, ℕ, ◌≤◌, ◌==◌, ◌&&◌, Bool, true, false, List, [], ◌∷◌, length, cond, Some, None, suc, refl, ap, lit≤, arith}
 use Rattle.std.proofs.lemmas.Bool.Decides.{nat_tests}
+use Rattle.std.proofs.lemmas.List.Elements.{All-contains}
+use Rattle.std.proofs.lemmas.List.Sums.{AllPass-from_list_all}
 use Rattle.std.specs.Prelude.{encode_utf8, slice_index, is_some}
 use Rattle.std.specs.List.{list_all, find, Contains}
 use Rattle.std.specs.Str.{bytes_eq}
@@ -16,33 +18,28 @@ use Rattle.locale_symbols.specs.Symbol.{symbol_text}
 use Rattle.locale_symbols.specs.Tag.{compared}
 use Rattle.locale_symbols.specs.Locales.{unpadded, system_named, HasOneWidth}
 
--- ---- A test that each element of a list passes.
+-- ---- Tests.
 
-and_left : (a b : Bool) → (a && b) ≡ true → a ≡ true
+pub and_left : (a b : Bool) → (a && b) ≡ true → a ≡ true
 and_left true b h = refl
 and_left false b h = cc
 
-and_right : (a b : Bool) → (a && b) ≡ true → b ≡ true
+pub and_right : (a b : Bool) → (a && b) ≡ true → b ≡ true
 and_right true b h = h
 and_right false b h = cc
 
-pub passes_at : {X : Type 0} (q : X → Bool) (xs : List X) (i : ℕ) (d : X) → list_all q xs ≡ true → i < length xs
-    → q (get_or xs i d) ≡ true
-passes_at q [] i d all inside = absurd (omega arith)
-passes_at q (x ∷ xs) zero d all inside = and_left (q x) (list_all q xs) all
-passes_at q (x ∷ xs) (suc i) d all inside = passes_at q xs i d (and_right (q x) (list_all q xs) all) (omega arith)
+-- a test that passes for each element of a list passes for those in it
+pub passes : {X : Type 0} (q : X → Bool) (xs : List X) (x : X) → list_all q xs ≡ true → Contains xs x → q x ≡ true
+passes q xs x all is = All-contains (λ x. q x ≡ true) xs x (AllPass-from_list_all q xs all) is
 
-found_in : {X : Type 0} (q : X → Bool) (b : Bool) (y x : X) (rest : Option X)
-    → q y ≡ true → (rest ≡ Some x → q x ≡ true) → cond b (Some y) rest ≡ Some x → q x ≡ true
-found_in q true y x rest here later e = let same : y ≡ x = cc in subst (λ z. q z ≡ true) same here
-found_in q false y x rest here later e = later e
-
-pub passes_found : {X : Type 0} (p q : X → Bool) (xs : List X) (x : X) → list_all q xs ≡ true → find p xs ≡ Some x
-    → q x ≡ true
-passes_found p q [] x all found = cc
-passes_found p q (y ∷ ys) x all found =
-    found_in q (p y) y x (find p ys) (and_left (q y) (list_all q ys) all)
-    (λ e. passes_found p q ys x (and_right (q y) (list_all q ys) all) e) found
+found_is_listed : {X : Type 0} (p : X → Bool) (xs : List X) (x : X) → find p xs ≡ Some x → Contains xs x
+found_is_listed p [] x found = cc
+found_is_listed p (y ∷ ys) x found = here (p y) (found_is_listed p ys x) found
+  where
+    here : (b : Bool) → (find p ys ≡ Some x → Contains ys x) → cond b (Some y) (find p ys) ≡ Some x
+        → Contains (y ∷ ys) x
+    here true rest e = let same : y ≡ x = cc in (0, omega arith, same)
+    here false rest e = let later = rest e in (suc later.0, omega (arith, later.1), later.2)
 
 -- ---- The digits of a numbering system.
 
@@ -60,16 +57,19 @@ systems_have_one_width : list_all has_one_width NUMBERING_SYSTEMS ≡ true
 unfolding lib.Utf8.encode
 systems_have_one_width = refl
 
-pub system_named-width : (name : List ℕ) (s : NumberingSystem) → system_named name ≡ Some s → HasOneWidth s.digits
+pub listed_by_name : (name : List ℕ) (s : NumberingSystem) → system_named name ≡ Some s → Contains NUMBERING_SYSTEMS s
 unfolding system_named
+listed_by_name name s found =
+    found_is_listed (λ s. bytes_eq (unpadded s.name) (compared name)) NUMBERING_SYSTEMS s found
+
+pub system_named-width : (name : List ℕ) (s : NumberingSystem) → system_named name ≡ Some s → HasOneWidth s.digits
 system_named-width name s found = λ d few.
-    let is_named = λ (s : NumberingSystem). bytes_eq (unpadded s.name) (compared name) in
-    let both = passes_found is_named has_one_width NUMBERING_SYSTEMS s systems_have_one_width found in
+    let both = passes has_one_width NUMBERING_SYSTEMS s systems_have_one_width (listed_by_name name s found) in
     let has = has_width (width s.digits 0) in
     let test = and_left (length s.digits == 10) (list_all has s.digits) both in
     let ten : length s.digits ≡ 10 = grind (arith, nat_tests, test) in
-    let same = passes_at has s.digits d 0
-    (and_right (length s.digits == 10) (list_all has s.digits) both) (omega arith) in
+    let same = AllPass-from_list_all has s.digits (and_right (length s.digits == 10) (list_all has s.digits) both)
+    d 0 (omega arith) in
     grind (arith, nat_tests, same)
 
 -- ---- The default numbering system of a locale.
@@ -83,8 +83,7 @@ locales_have_systems = refl
 
 pub listed_system : (l : LocaleSymbols) → Contains LOCALES l → system_named (unpadded l.system) ≡ None → ⊥
 listed_system l listed none =
-    let found = passes_at has_system LOCALES listed.0 l locales_have_systems listed.1 in
-    let same = ap has_system listed.2 in
+    let found = passes has_system LOCALES l locales_have_systems listed in
     let absent = ap is_some none in
     cc
 

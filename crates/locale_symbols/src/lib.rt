@@ -7,6 +7,7 @@
 //! ```
 #![tactic(auto)]
 
+pub mod laws;
 mod lookup;
 mod table;
 mod tables;

@@ -2,6 +2,7 @@
 ghost use Rattle.std.specs.Prelude.{◌≡◌, ◌↔◌, IsNone, IfSome};
 ghost use Rattle.std.specs.Option.{option_copied};
 ghost use Rattle.locale_symbols.specs.Locales.{unpadded, is_candidate, is_longer, system_named, symbols_of, symbols_in, HasOneWidth, Chooses, IsLocale, IsUnknown};
+ghost use Rattle.decimal_format.specs.Readable.{IsReadable};
 
 use crate::table::{LocaleSymbols, NumberingSystem, SymbolSet};
 use crate::tables::{LOCALES, LOCALES_BY_SYSTEM, NUMBERING_SYSTEMS};
@@ -118,7 +119,7 @@ fn symbols_in(
 /// that is `tag` or has a hyphen after it there, so `de-DE` has the symbols of `de`. The numbering system is the one
 /// that `nu` names, or the default one of the locale.
 ///
-/// Returns `None` if no tag of the locale is listed, or the numbering system is not.
+/// Texts with the symbols can be read. Returns `None` if no tag of the locale is listed, or the numbering system is not.
 ///
 /// ```
 /// locale("de_CH.UTF-8") // 1’234’567.5
@@ -127,6 +128,7 @@ fn symbols_in(
 /// ```
 pub fn locale(tag: &str) -> Option<DecimalSymbols<'static>>
     ensures found { IfSome result (IsLocale tag.now) }
+    ensures readable { IfSome result (λ s. IsReadable s) }
     ensures unknown { IsNone result ↔ IsUnknown tag.now }
 {
     let tag = tag.as_bytes();

@@ -1,5 +1,5 @@
 //! The filter as a function of a library: over a slice, and into two sinks in memory.
-use cli::{ErrorLines, Filter, FilterError, OnError, filter_lines};
+use cli::{Conversion, ErrorLines, Filter, FilterError, OnError, filter_lines};
 use fixed_decimal::{Call, TextBuf};
 use std::alloc::Global;
 use std::test::Fail;
@@ -32,10 +32,16 @@ fn holds(alloc: Global, row: &Row) -> bool {
     let mut out = TextBuf::new(alloc);
     let mut err = Vec::<u8>::new(alloc);
     let mut lines = ErrorLines::new(&mut err);
-    let calls = [Call::MultiplyPow10(-2)];
+    let Ok(calls) = Vec::from_array(alloc, [Call::MultiplyPow10(-2)]) else {
+        return false;
+    };
     let filter = Filter {
         on_error: row.0,
-        calls: &calls,
+        conversion: Conversion {
+            reader: None,
+            calls,
+            formatter: None,
+        },
     };
     let answer = filter_lines(alloc, &filter, &mut input, &mut out, &mut lines);
     answer == row.4 && out.as_bytes() == row.2 && err.as_slice() == row.3

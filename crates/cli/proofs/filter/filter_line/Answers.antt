@@ -1,12 +1,53 @@
-use Rattle.std.proofs.Common.{◌≡◌, [], refl, sym, ap, ◌∙◌, rules}
+use Rattle.std.proofs.Common.{◌≡◌, [], Ok, Err, true, false, refl, sym, ap, ◌∙◌, rules}
 use Rattle.std.proofs.KnownBytes.{Appends-kept, Appends-nil}
+use Rattle.cli.specs.declared.error.FilterError.TheVariants.{Operation}
+use Rattle.cli.specs.declared.filter.OnError.TheVariants.{Stop}
 use Rattle.cli.specs.Errors.{status_of_operation}
+use Rattle.cli.specs.Conversion.{error_of}
+use Rattle.cli.proofs.Conversions.{error_is_outcome}
 use Rattle.cli.proofs.filter.filter_line.Goals as goal
 
-pub returns-in-Err-put_byte-clause-prefix : goal.returns-in-Err-put_byte-clause-prefix
-returns-in-Err-put_byte-clause-prefix g c = λ _.
-    let s : status_of_operation c.in-Err.error ≡ 1 = search rules in
-    let still : c.print_run.new.sink ≡ c.args.out.now =
-    c.in-Err.ensures.unchanged_on_error (λ is. let n : 3 ≡ 1 = ap status_of_operation (sym is) ∙ s in cc) in
-    let none = Appends-nil (g.W.Sink.contents c.print_run.new.sink) in
-    ([], _, refl, rw still at (Appends-kept _ _ _ [] none c.in-Err-put_byte.ensures.keeps))
+pub returns-in-Ok-clause-filtered : goal.returns-in-Ok-clause-filtered
+returns-in-Ok-clause-filtered g c =
+    let (written, is, put) = c.in-Ok.ensures.printed in
+    (Ok written, (Ok written, is, refl), put, refl, refl, λ _. refl)
+
+pub returns-in-Err-Output-clause-filtered : goal.returns-in-Err-Output-clause-filtered
+returns-in-Err-Output-clause-filtered g c =
+    let (written, is, put) = c.in-Err-Output.ensures.prefix (ap Err c.in-Err-Output.field-0-is) in
+    (Ok written, (Ok written, is, refl), put, refl, λ _. refl)
+
+pub returns-in-Ok-put_byte-clause-filtered : goal.returns-in-Ok-put_byte-clause-filtered
+returns-in-Ok-put_byte-clause-filtered g c =
+    let one : status_of_operation c.in-Err.error ≡ 1 = search rules in
+    let (why, same, is) =
+    error_is_outcome c.args.filter.now.conversion c.args.line.now c.in-Err.error one c.in-Err.ensures.fails_with in
+    let still : c.print_line.new.sink ≡ c.args.out.now =
+    c.in-Err.ensures.unchanged_on_error (λ is. let n : 3 ≡ 1 = ap status_of_operation (sym is) ∙ one in cc) in
+    let stop : c.args.filter.now.on_error ≡ Stop → false ≡ true = search rules in
+    let put = rw still at c.in-Ok-put_byte.ensures.appends in
+    let reported = rw same at c.report.ensures in (
+      Err (Operation c.args.number (error_of why)),
+      (Err why, is, refl),
+      put,
+      (c.report.new.self, reported, refl),
+      refl,
+      stop,
+    )
+
+pub returns-in-Err-put_byte-clause-filtered : goal.returns-in-Err-put_byte-clause-filtered
+returns-in-Err-put_byte-clause-filtered g c =
+    let one : status_of_operation c.in-Err.error ≡ 1 = search rules in
+    let (why, same, is) =
+    error_is_outcome c.args.filter.now.conversion c.args.line.now c.in-Err.error one c.in-Err.ensures.fails_with in
+    let still : c.print_line.new.sink ≡ c.args.out.now =
+    c.in-Err.ensures.unchanged_on_error (λ is. let n : 3 ≡ 1 = ap status_of_operation (sym is) ∙ one in cc) in
+    let stop : c.args.filter.now.on_error ≡ Stop → false ≡ true = search rules in
+    let none = Appends-nil (g.W.Sink.contents c.print_line.new.sink) in
+    let reported = rw same at c.report.ensures in (
+      Err (Operation c.args.number (error_of why)),
+      (Err why, is, refl),
+      ([], _, refl, rw still at (Appends-kept _ _ _ [] none c.in-Err-put_byte.ensures.keeps)),
+      (c.report.new.self, reported, refl),
+      stop,
+    )

@@ -1,4 +1,4 @@
-use Rattle.std.proofs.Common.{Err, inl, take, ap, subst, true, IfSome}
+use Rattle.std.proofs.Common.{inl, take, subst, true, IfSome}
 use Rattle.std.specs.Io.BufRead.{FillKeeps}
 use Rattle.cli.specs.FilterLine.{IsRead}
 use Rattle.cli.proofs.FirstLine.{next_in_block}
@@ -15,8 +15,7 @@ returns-in-Ok-filtered-clause-filtered g c =
     let read : IfSome before (λ bytes. IsRead true bytes (take c.in-Some.end block) after) =
     next_in_block before (g.R.Read.remaining rested) after limit block c.in-Some.end c.in-Some.ensures
     c.in-Ok.ensures.front kept.0 kept.1 c.consume.ensures.bytes in
-    let h = c.in-Ok-filtered.ensures in
-    (take c.in-Some.end block, read, (h.printed, h.reported tt, h.text.0, h.text.1))
+    (take c.in-Some.end block, read, c.in-Ok-filtered.ensures.filtered)
 
 pub returns-in-Err-filtered-clause-filtered : goal.returns-in-Err-filtered-clause-filtered
 returns-in-Err-filtered-clause-filtered g c =
@@ -29,13 +28,4 @@ returns-in-Err-filtered-clause-filtered g c =
     let read : IfSome before (λ bytes. IsRead true bytes (take c.in-Some.end block) after) =
     next_in_block before (g.R.Read.remaining rested) after limit block c.in-Some.end c.in-Some.ensures
     c.in-Ok.ensures.front kept.0 kept.1 c.consume.ensures.bytes in
-    let h = c.in-Err-filtered.ensures in
-    inl (
-      take c.in-Some.end block,
-      read,
-      (
-        h.error,
-        (λ other. let (same, silent) = h.unchanged_on_error other in (ap g.W.Sink.contents same, silent)),
-        λ is. (h.prefix (ap Err is), h.reported is),
-      ),
-    )
+    inl (take c.in-Some.end block, read, c.in-Err-filtered.ensures.filtered)

@@ -1,23 +1,61 @@
-use Rattle.std.proofs.Common.{◌≡◌, ◌-◌, Ok, None, rules, take, drop, length, string_bytes}
-use Rattle.cli.specs.Words.{NameAll}
-use Rattle.cli.specs.Fixdec.{RunPrints, RunPrintsPrefix}
-use Rattle.cli.proofs.Programs.{usage_if, runs_if, run_begun}
+use Rattle.std.proofs.Common.{◌≡◌, Err, rules}
+use Rattle.std.proofs.lemmas.Result.{err_from_is_err_and}
+use Rattle.cli.specs.declared.error.OperationError.TheVariants.{Output}
+use Rattle.cli.proofs.Programs.{line_begun, line_kept}
 use Rattle.cli.proofs.fixdec.print.Goals as goal
 
-pub returns-in_default-2-clause-error : goal.returns-in_default-2-clause-error
-returns-in_default-2-clause-error g c =
-    let none : c.parse_calls.result ≡ Ok None = search rules in
-    usage_if c.args.words.now c.in-len1-up.len_at_least (c.parse_calls.ensures.none none)
+pub returns-in_err-print_line-clause-error : goal.returns-in_err-print_line-clause-error
+returns-in_err-print_line-clause-error g c =
+    let residual = c.from_residual-in_err-print_line in
+    let p = err_from_is_err_and residual.result residual.ensures.1 in
+    let run = c.in_ok-text in
+    rw (p.1, p.2) (record {
+      conversion = run.conversion;
+      text = run.text.now;
+      names = run.ensures.some;
+      holds = c.in_err-print_line.ensures.fails_with;
+    })
+
+pub returns-in_err-print_line-clause-prefix : goal.returns-in_err-print_line-clause-prefix
+returns-in_err-print_line-clause-prefix g c = λ is.
+    let failed : c.print_line.result ≡ Err Output = search (rules, is) in
+    let run = c.in_ok-text in
+    record {
+      conversion = run.conversion;
+      text = run.text.now;
+      names = run.ensures.some;
+      holds = c.print_line.ensures.prefix failed;
+    }
+
+pub returns-in_err-flush-clause-error : goal.returns-in_err-flush-clause-error
+returns-in_err-flush-clause-error g c =
+    let residual = c.from_residual-in_err-flush in
+    let p = err_from_is_err_and residual.result residual.ensures.1 in
+    let run = c.in_ok-text in
+    let printed = c.in_ok-print_line.ensures.printed in
+    rw (p.1, p.2) (record {
+      conversion = run.conversion;
+      text = run.text.now;
+      names = run.ensures.some;
+      holds = (printed.0, printed.1);
+    })
 
 pub returns-in_err-flush-clause-prefix : goal.returns-in_err-flush-clause-prefix
-returns-in_err-flush-clause-prefix g c =
-    let old = g.O.Write.contents c.args.out.now.0 in
-    let mid = g.O.Write.contents c.print_run.new.sink.0 in
-    let new = g.O.Write.contents c.flush.new.self.0 in
-    let bytes = string_bytes c.start-item.result in
-    let calls = c.in-Some.calls.items in
-    let names : NameAll (take (length c.args.words.now - 1) (drop 1 c.args.words.now)) calls = search rules in
-    let printed : RunPrints old mid bytes calls =
-    rw (c.as_bytes.ensures.value, c.as_slice.ensures.value) at c.in_ok-print_run.ensures.printed in
-    λ _. runs_if c.args.words.now c.start-item.result calls (RunPrintsPrefix old new) c.in-len1-up.len_at_least
-    c.start-item.is names (run_begun old mid new bytes calls printed c.flush.ensures.keeps)
+returns-in_err-flush-clause-prefix g c = λ _.
+    let run = c.in_ok-text in
+    record {
+      conversion = run.conversion;
+      text = run.text.now;
+      names = run.ensures.some;
+      holds = line_begun run.conversion run.text.now _ _ _ c.in_ok-print_line.ensures.printed c.flush.ensures.keeps;
+    }
+
+pub returns-clause-printed : goal.returns-clause-printed
+returns-clause-printed g c =
+    let run = c.in_ok-text in
+    record {
+      conversion = run.conversion;
+      text = run.text.now;
+      names = run.ensures.some;
+      holds = line_kept run.conversion run.text.now _ _ _ c.in_ok-print_line.ensures.printed c.flush.ensures.keeps;
+    }

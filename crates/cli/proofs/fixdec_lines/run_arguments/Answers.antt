@@ -1,4 +1,4 @@
-use Rattle.std.proofs.Common.{◌≡◌, Err, inr, ap, refl, true, false, ◌∙◌, rules}
+use Rattle.std.proofs.Common.{◌≡◌, Ok, Err, inl, inr, ap, refl, true, false, ◌∙◌, rules}
 use Rattle.std.specs.Io.Buffered.{writer_contents}
 use Rattle.cli.specs.declared.error.FilterError.TheVariants.{Memory, Output}
 use Rattle.cli.specs.Arguments.{HaveWords}
@@ -43,3 +43,29 @@ returns-clause-reported g c = λ _.
     let all : HaveWords c.args.arguments (λ all. words ≡ all) = search rules in
     let h = c.conclude-in-Err-default.ensures.reported in
     inr (error, before, h.1, inr (have_words c.args.arguments words _ all (fails, failed)), h.2, early)
+
+pub returns-in-Ok-true-default-clause-printed : goal.returns-in-Ok-true-default-clause-printed
+returns-in-Ok-true-default-clause-printed g c = λ _.
+    let contents = g.O.Write.contents in
+    let words = c.in-Ok.words.items in
+    let closed = c.filter_words.result.1 in
+    let is : c.filter_words.result.0 ≡ Ok true = search rules in
+    let taken : writer_contents contents c.in-Ok-open.buffered.0 ≡ contents c.args.out =
+    c.in-Ok-open.ensures.contents in
+    let filtered = rw (taken, c.as_slice.ensures.value, is) at c.filter_words.ensures.filtered in
+    let written : closed.1 ≡ false = rw is at c.filter_words.ensures.has_not_failed in
+    let all : HaveWords c.args.arguments (λ all. words ≡ all) = search rules in
+    have_words c.args.arguments words _ all (filtered, written)
+
+pub returns-in-Ok-false-default-clause-reported : goal.returns-in-Ok-false-default-clause-reported
+returns-in-Ok-false-default-clause-reported g c = λ _.
+    let contents = g.O.Write.contents in
+    let words = c.in-Ok.words.items in
+    let closed = c.filter_words.result.1 in
+    let is : c.filter_words.result.0 ≡ Ok false = search rules in
+    let taken : writer_contents contents c.in-Ok-open.buffered.0 ≡ contents c.args.out =
+    c.in-Ok-open.ensures.contents in
+    let filtered = rw (taken, c.as_slice.ensures.value, is) at c.filter_words.ensures.filtered in
+    let written : closed.1 ≡ false = rw is at c.filter_words.ensures.has_not_failed in
+    let all : HaveWords c.args.arguments (λ all. words ≡ all) = search rules in
+    inl (refl, have_words c.args.arguments words _ all (filtered, written))

@@ -2,6 +2,7 @@ use Rattle.std.proofs.Common.{◌≡◌, None, is_some, ap, subst, sym, ◌∙�
 use Rattle.std.specs.Option.{option_copied}
 use Rattle.locale_symbols.specs.Locales.{system_named, IsLocale, IsUnknown}
 use Rattle.locale_symbols.proofs.EachRow.{system_named-width}
+use Rattle.locale_symbols.proofs.ReadableRows.{locale_is_readable}
 use Rattle.locale_symbols.proofs.Unknown.{name_of, named_by, unknown_system, known}
 use Rattle.locale_symbols.proofs.lookup.locale.Goals as goal
 
@@ -26,8 +27,8 @@ pub symbols_in-requires : goal.symbols_in-requires
 symbols_in-requires c =
     system_named-width c.unwrap_or-name.result.now c.in_ok-system.system.now (sym c.in_ok-system.ensures)
 
-pub returns-clause-found : goal.returns-clause-found
-returns-clause-found c =
+the_locale : goal.returns-clause-found
+the_locale c =
     let tag = c.as_bytes-tag.result.now in
     let locale = c.in_ok-locale.locale.now in
     let system = c.in_ok-system.system.now in
@@ -43,6 +44,12 @@ returns-clause-found c =
       value = c.symbols_in.ensures;
     } in
     subst (λ t. IsLocale t c.symbols_in.result) c.as_bytes-tag.ensures.value found
+
+pub returns-clause-found : goal.returns-clause-found
+returns-clause-found c = the_locale c
+
+pub returns-clause-readable : goal.returns-clause-readable
+returns-clause-readable c = locale_is_readable c.args.tag.now c.symbols_in.result (the_locale c)
 
 pub returns-clause-unknown : goal.returns-clause-unknown
 returns-clause-unknown c =

@@ -1,0 +1,10 @@
+use Rattle.std.proofs.Common.{◌≡◌, Err, rules}
+use Rattle.cli.specs.declared.error.OperationError.TheVariants.{Output}
+use Rattle.cli.proofs.Programs.{text_begun}
+use Rattle.cli.proofs.fixdec.print_line.Goals as goal
+
+pub returns-in_err-convert-clause-prefix : goal.returns-in_err-convert-clause-prefix
+returns-in_err-convert-clause-prefix g c = λ is.
+    let failed : c.convert.result ≡ Err Output = search (rules, is) in
+    text_begun c.args.conversion.now c.args.text.now (g.W.Sink.contents c.args.sink.now)
+    (g.W.Sink.contents c.convert.new.sink) (c.convert.ensures.prefix failed)

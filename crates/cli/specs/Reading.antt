@@ -1,0 +1,41 @@
+-- The texts that a reader reads.
+use Rattle.std.specs.Prelude.{List, ℕ, Result, Ok, Err}
+use Rattle.std.specs.Str.{IsUtf8}
+use Rattle.decimal_unsigned.specs.Reading.{ReadError, syntax, limit}
+use Rattle.decimal_unsigned.specs.Unsigned.{IsValue}
+use Rattle.decimal_unsigned.specs.declared.decimal.TheConstants.{INLINE_DIGITS}
+use Rattle.decimal_unsigned.specs.declared.error.ParseError.{ParseError}
+use Rattle.decimal_unsigned.specs.declared.error.ParseError.TheVariants as parse
+use Rattle.fixed_decimal.specs.Decimal.{Decimal}
+use Rattle.decimal_format.specs.Symbols.{Symbols}
+use Rattle.decimal_format.specs.Reading.{Numeral, IsNumeral, IsBeyondLimits, IsWritten, NeedsMemory}
+use Rattle.decimal_format.specs.Lenient.{IsTyped, IsTypedNumeral, TypedNeedsMemory}
+use Rattle.cli.specs.declared.reader.ParseMode.{ParseMode}
+use Rattle.cli.specs.declared.reader.ParseMode.TheVariants.{Strict, Lenient}
+
+-- the text is that of a decimal, exactly or as people type it
+abbrev pub IsTextIn : ParseMode → Symbols → Decimal → List ℕ → Type 0
+IsTextIn Strict s v text = IsWritten s v text
+IsTextIn Lenient s v text = IsUtf8 text × IsTyped s v text
+
+-- the same for a numeral of any number of digits
+abbrev pub IsNumeralIn : ParseMode → Symbols → Numeral → List ℕ → Type 0
+IsNumeralIn Strict s w text = IsNumeral s text w
+IsNumeralIn Lenient s w text = IsUtf8 text × IsTypedNumeral s text w
+
+-- the text is read as this: a decimal with this text; or it is that of no numeral, or of one with too many digits
+abbrev pub IsReadIn : ParseMode → Symbols → List ℕ → Result Decimal ReadError → Type 0
+IsReadIn mode s text (Ok v) = IsValue v.absolute × IsTextIn mode s v text
+IsReadIn mode s text (Err syntax) = (w : Numeral) → ¬ IsNumeralIn mode s w text
+IsReadIn mode s text (Err limit) = (w : Numeral) × IsNumeralIn mode s w text × IsBeyondLimits w
+
+-- reading may need memory
+abbrev pub NeedsMemoryIn : ParseMode → Symbols → List ℕ → Type 0
+NeedsMemoryIn Strict s text = (v : Decimal) × IsWritten s v text × NeedsMemory INLINE_DIGITS v.absolute
+NeedsMemoryIn Lenient s text = TypedNeedsMemory INLINE_DIGITS s text
+
+-- reading may fail with this error
+abbrev pub ReadingFailsIn : ParseMode → Symbols → List ℕ → ParseError → Type 0
+ReadingFailsIn mode s text parse.Syntax = IsReadIn mode s text (Err syntax)
+ReadingFailsIn mode s text parse.Limit = IsReadIn mode s text (Err limit)
+ReadingFailsIn mode s text parse.Memory = NeedsMemoryIn mode s text

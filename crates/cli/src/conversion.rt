@@ -1,0 +1,132 @@
+//! Conversions: a text is read, calls are made on its decimal, and the text of the result is written.
+ghost use Rattle.std.specs.Prelude.{◌≡◌, ◌≢◌, Ok, Err, None, true, IfOk, IfErr, OnOk, OnErr};
+ghost use Rattle.std.specs.Io.KnownBytes.{Appends};
+ghost use Rattle.decimal_digits.specs.AppendsPrefix.{AppendsPrefix};
+ghost use Rattle.cli.specs.Conversion.{IsReadAs, ReadingFails, text_by, IsOutcome, HasOutcome, OperationsFail};
+
+use crate::error::OperationError;
+use crate::reader::DecimalReader;
+use decimal_format::DecimalFormatter;
+use fixed_decimal::{
+    Call, Decimal, ParseError, RunError, Sink, SinkFault, Writeable, apply_calls, run,
+};
+use std::alloc::Global;
+
+/// How a text is read, what is done to its decimal, and how the result is written.
+#[derive(Debug, Drop)]
+pub struct Conversion<'a> {
+    /// Reads the text in the form of a locale. `None`: the text is a decimal's own.
+    pub reader: Option<DecimalReader<'a>>,
+    /// The calls on the decimal, in order.
+    pub calls: Vec<Call<'a>>,
+    /// Writes the result in the form of a locale. `None`: it is written as its own text.
+    pub formatter: Option<DecimalFormatter<'a>>,
+}
+
+impl<'a> Conversion<'a> {
+    /// Returns whether texts are read and written as decimals' own.
+    fn is_plain(&self) -> bool
+        ensures { result ≡ true → (self.now.reader ≡ None) × (self.now.formatter ≡ None) }
+    {
+        self.reader.is_none() && self.formatter.is_none()
+    }
+
+    /// Reads a text.
+    fn read(&self, alloc: Global, text: &[u8]) -> Result<Decimal, ParseError>
+        ensures found { IfOk result (λ v. IsReadAs self.now.reader text.now (Ok v)) }
+        ensures fails_with { IfErr result (ReadingFails self.now.reader text.now) }
+    {
+        match &self.reader {
+            Some(reader) => reader.read(alloc, text),
+            None => Decimal::try_from_utf8(alloc, text),
+        }
+    }
+
+    /// Reads a text, and makes the calls on its decimal.
+    fn value(&self, alloc: Global, text: &[u8]) -> Result<Decimal, OperationError>
+        ensures found { IfOk result (λ v. IsOutcome self.now text.now (Ok (text_by self.now.formatter v))) }
+        ensures fails_with { IfErr result (λ error. OperationsFail error self.now text.now) }
+        ensures no_output { IfErr result (λ error. error ≢ OperationError.Output) }
+    {
+        let mut value = match self.read(alloc, text) {
+            Ok(value) => value,
+            Err(error) => return Err(OperationError::from(RunError::Start(error))),
+        };
+        match apply_calls(alloc, &mut value, self.calls.as_slice()) {
+            Ok(()) => Ok(value),
+            Err(error) => Err(OperationError::from(error)),
+        }
+    }
+
+    /// Writes a decimal to a sink.
+    fn write<W: Sink>(&self, value: &Decimal, sink: &mut W) -> Result<(), SinkFault>
+        ensures ok { OnOk result
+            (Appends (W.contents sink.old) (W.contents sink.new) (text_by self.now.formatter value.now)) }
+        ensures err { OnErr result
+            (AppendsPrefix (W.contents sink.old) (W.contents sink.new) (text_by self.now.formatter value.now)) }
+        ensures failed { OnErr result (W.has_failed sink.new ≡ true) }
+    {
+        match &self.formatter {
+            Some(formatter) => formatter.format(value).write_to(sink),
+            None => value.write_to(sink),
+        }
+    }
+}
+
+/// Converts a text that is a decimal's own to the own text of the result. It moves no decimal, so it is faster.
+fn convert_plain<W: Sink>(
+    alloc: Global,
+    conversion: &Conversion<'_>,
+    text: &[u8],
+    sink: &mut W,
+) -> Result<(), OperationError>
+    requires reader { conversion.now.reader ≡ None }
+    requires formatter { conversion.now.formatter ≡ None }
+    ensures written { OnOk result (HasOutcome conversion.now text.now
+        (Appends (W.contents sink.old) (W.contents sink.new))) }
+    ensures fails_with { IfErr result (λ error. OperationsFail error conversion.now text.now) }
+    ensures unchanged_on_error { IfErr result (λ error. error ≢ OperationError.Output → sink.new ≡ sink.old) }
+    ensures failed { result ≡ Err OperationError.Output → W.has_failed sink.new ≡ true }
+    ensures prefix { result ≡ Err OperationError.Output → HasOutcome conversion.now text.now
+        (AppendsPrefix (W.contents sink.old) (W.contents sink.new)) }
+{
+    match run(alloc, text, conversion.calls.as_slice(), sink) {
+        Ok(()) => Ok(()),
+        Err(error) => Err(OperationError::from(error)),
+    }
+}
+
+/// Converts a text, and appends the text of the result to a sink.
+///
+/// With a reader of `de` in mode `Strict`, the call `Round(-2, HalfEven, MultiplesOf1)` and a formatter of `en-IN` with
+/// `Auto`, `1.234,565` appends `1,234.56`.
+///
+/// # Errors
+///
+/// The first error; except for `Output`, the sink is unchanged:
+///
+/// - `Start`: the text is rejected.
+/// - `Operand`, `Overlap`, `Overflow`: a call fails, as in [`fixed_decimal::run`].
+/// - `Memory`: out of memory.
+/// - `Output`: the sink has failed, and it has taken a prefix of the text.
+pub fn convert<W: Sink>(
+    alloc: Global,
+    conversion: &Conversion<'_>,
+    text: &[u8],
+    sink: &mut W,
+) -> Result<(), OperationError>
+    ensures written { OnOk result (HasOutcome conversion.now text.now
+        (Appends (W.contents sink.old) (W.contents sink.new))) }
+    ensures fails_with { IfErr result (λ error. OperationsFail error conversion.now text.now) }
+    ensures unchanged_on_error { IfErr result (λ error. error ≢ OperationError.Output → sink.new ≡ sink.old) }
+    ensures failed { result ≡ Err OperationError.Output → W.has_failed sink.new ≡ true }
+    ensures prefix { result ≡ Err OperationError.Output → HasOutcome conversion.now text.now
+        (AppendsPrefix (W.contents sink.old) (W.contents sink.new)) }
+{
+    if conversion.is_plain() {
+        return convert_plain(alloc, conversion, text, sink);
+    }
+    let value = conversion.value(alloc, text)?;
+    conversion.write(&value, sink)?;
+    Ok(())
+}

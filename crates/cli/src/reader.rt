@@ -1,0 +1,82 @@
+//! Reading of decimals in the form of a locale.
+ghost use Rattle.std.specs.Prelude.{◌≡◌, Ok, IfOk, IfErr};
+ghost use Rattle.decimal_format.specs.Readable.{IsReadable};
+
+use decimal_format::DecimalSymbols;
+use fixed_decimal::{Decimal, ParseError};
+use std::alloc::Global;
+use std::str;
+
+/// How strictly a text is read.
+#[derive(Clone, Copy, Debug, PartialEq)]
+pub enum ParseMode {
+    /// Exactly as decimals are formatted: [`DecimalSymbols::read`].
+    Strict,
+    /// As people type decimals: [`DecimalSymbols::read_lenient`].
+    Lenient,
+}
+
+/// Reads decimals by the symbols of a locale.
+#[derive(Debug, Drop)]
+pub struct DecimalReader<'a> {
+    /// The symbols of the locale.
+    pub symbols: DecimalSymbols<'a>,
+    /// How strictly a text is read.
+    pub mode: ParseMode,
+    /// The symbols can be told apart.
+    pub ghost readable: { IsReadable symbols },
+}
+
+impl<'a> DecimalReader<'a> {
+    ghost use Rattle.cli.specs.Reading.{IsReadIn, ReadingFailsIn};
+
+    /// Reads a decimal exactly as it is formatted.
+    fn read_strict(&self, alloc: Global, text: &[u8]) -> Result<Decimal, ParseError>
+        ensures found { IfOk result (λ v. IsReadIn ParseMode.Strict self.now.symbols text.now (Ok v)) }
+        ensures fails_with { IfErr result (ReadingFailsIn ParseMode.Strict self.now.symbols text.now) }
+    {
+        match self.symbols.read(alloc, text) {
+            Ok(value) => {
+                // Proof hint: a decimal that has a range is a value.
+                let _ = value.absolute.magnitude_range();
+                Ok(value)
+            }
+            Err(error) => Err(error),
+        }
+    }
+
+    /// Reads a decimal as people type it.
+    fn read_lenient(&self, alloc: Global, text: &str) -> Result<Decimal, ParseError>
+        ensures found { IfOk result (λ v. IsReadIn ParseMode.Lenient self.now.symbols text.now (Ok v)) }
+        ensures fails_with { IfErr result (ReadingFailsIn ParseMode.Lenient self.now.symbols text.now) }
+    {
+        match self.symbols.read_lenient(alloc, text) {
+            Ok(value) => {
+                // Proof hint: a decimal that has a range is a value.
+                let _ = value.absolute.magnitude_range();
+                Ok(value)
+            }
+            Err(error) => Err(error),
+        }
+    }
+
+    /// Reads a decimal.
+    ///
+    /// # Errors
+    ///
+    /// - `Syntax`: no decimal, of any number of digits, has this text in this mode.
+    /// - `Limit`: there are more than 32,768 integer or fraction digits.
+    /// - `Memory`: out of memory.
+    pub fn read(&self, alloc: Global, text: &[u8]) -> Result<Decimal, ParseError>
+        ensures found { IfOk result (λ v. IsReadIn self.now.mode self.now.symbols text.now (Ok v)) }
+        ensures fails_with { IfErr result (ReadingFailsIn self.now.mode self.now.symbols text.now) }
+    {
+        match self.mode {
+            ParseMode::Strict => self.read_strict(alloc, text),
+            ParseMode::Lenient => match str::from_utf8(text) {
+                Ok(text) => self.read_lenient(alloc, text),
+                Err(_) => Err(ParseError::Syntax),
+            },
+        }
+    }
+}

@@ -1,0 +1,211 @@
+-- The symbols of each row are readable, by computation.
+use Rattle.std.proofs.Common.{◌≡◌, ℕ, ◌+◌, ◌-◌, ◌<◌, ◌≤◌, ◌==◌, ◌&&◌, ◌||◌, not, zero, suc, nat_eq, nat_lt, Bool, true, false, cond, List, [], ◌∷◌, ◌++◌, map, get_or, Option, Some, None, unwrap_or, inl, inr, refl, ap, lit≤, subst, ◌∙◌, sym, rules, add-sub_of_le, arith}
+use Rattle.std.proofs.lemmas.Bool.{cases_lt}
+use Rattle.std.proofs.lemmas.Bool.Decides.{nat_tests, Decides-eqb, Decides-below_and}
+use Rattle.std.proofs.lemmas.List.Sums.{AllPass-from_list_all}
+use Rattle.std.proofs.lemmas.Slice.Eq.{starts_is}
+use Rattle.std.specs.Prelude.{encode_utf8, slice_index}
+use Rattle.std.specs.List.{list_all, position, starts_with, Contains}
+use Rattle.std.specs.Option.{option_map_or}
+use Rattle.std.specs.Str.{bytes_eq}
+use Rattle.decimal_format.specs.declared.grouping.GroupingSizes.{GroupingSizes}
+use Rattle.decimal_format.specs.Symbols.{Symbols}
+use Rattle.decimal_format.specs.Readable.{BeginsWith, code, IsOther, IsReadable}
+use Rattle.locale_symbols.specs.declared.table.LocaleSymbols.{LocaleSymbols}
+use Rattle.locale_symbols.specs.declared.table.NumberingSystem.{NumberingSystem}
+use Rattle.locale_symbols.specs.declared.table.Symbol.{Symbol}
+use Rattle.locale_symbols.specs.declared.table.Symbol.TheVariants.{Period, Comma, NoBreakSpace, NarrowNoBreakSpace, RightQuote, ArabicComma, ReversedComma, ArabicDecimal, ArabicThousands, Hyphen, Minus, Plus, ArabicHyphen, ArabicMinus, ArabicPlus, LeftHyphen, LeftMinus, LeftPlus, RightHyphen, RightPlus, EnclosedHyphen, EnclosedMinus, EnclosedPlus, PlusLeft}
+use Rattle.locale_symbols.specs.declared.table.SymbolSet.{SymbolSet}
+use Rattle.locale_symbols.specs.declared.tables.TheConstants.{LOCALES, LOCALES_BY_SYSTEM, NUMBERING_SYSTEMS}
+use Rattle.locale_symbols.specs.Symbol.{symbol_text}
+use Rattle.locale_symbols.specs.Tag.{requested_system}
+use Rattle.locale_symbols.specs.Locales.{unpadded, symbols_of, symbols_in, Chooses, IsLocale}
+use Rattle.locale_symbols.proofs.EachRow.{and_left, and_right, passes, listed_by_name}
+
+-- ---- Tests.
+
+-- a text does not begin with another
+abbrev is_other : List ℕ → List ℕ → Bool
+is_other all part = not (starts_with nat_eq all part)
+
+-- neither text begins with the other
+abbrev are_apart : List ℕ → List ℕ → Bool
+are_apart a b = is_other a b && is_other b a
+
+-- a test passes for each number below another
+abbrev each_below : ℕ → (ℕ → Bool) → Bool
+each_below zero q = true
+each_below (suc n) q = q n && each_below n q
+
+passes_below : (n : ℕ) (q : ℕ → Bool) → each_below n q ≡ true → (k : ℕ) → k < n → q k ≡ true
+passes_below n q all =
+    (Decides-below_and q (λ k. q k ≡ true) (λ m. each_below m q) (λ k. (λ h. h, λ h. h)) refl (λ _. refl) n).0 all
+
+-- each two of n texts are apart
+abbrev texts_are_apart : ℕ → (ℕ → List ℕ) → Bool
+texts_are_apart n text = each_below n (λ j. each_below n (λ k. (j == k) || is_other (text k) (text j)))
+
+other : (all part : List ℕ) → is_other all part ≡ true → BeginsWith all part → ⊥
+other all part test begins =
+    let starts = (starts_is Decides-eqb all part (starts_with nat_eq all part) refl).1 begins.0 begins.1 in
+    cc
+
+same_or_other : (b : Bool) (j k : ℕ) (all part : List ℕ) → b ≡ (j == k) → (b || is_other all part) ≡ true
+    → BeginsWith all part → j ≡ k
+same_or_other true j k all part e test begins = grind (arith, nat_tests)
+same_or_other false j k all part e test begins = absurd (other all part test begins)
+
+texts_apart : (n : ℕ) (text : ℕ → List ℕ) → texts_are_apart n text ≡ true → (j k : ℕ) → j < n → k < n
+    → BeginsWith (text k) (text j) → j ≡ k
+texts_apart n text test j k p q begins =
+    let inner = passes_below n (λ j. each_below n (λ k. (j == k) || is_other (text k) (text j))) test j p in
+    let both = passes_below n (λ k. (j == k) || is_other (text k) (text j)) inner k q in
+    same_or_other (j == k) j k (text k) (text j) refl both begins
+
+moved : {a b c d : List ℕ} → a ≡ c → b ≡ d → BeginsWith a b → BeginsWith c d
+moved e f begins = (begins.0, sym e ∙ (begins.1 ∙ ap (λ t. t ++ begins.0) f))
+
+-- ---- Digits.
+
+abbrev digit_of : NumberingSystem → ℕ → List ℕ
+digit_of system d = encode_utf8 (slice_index system.digits d)
+
+-- the texts of all symbols
+abbrev texts : List (List ℕ)
+texts =
+    map symbol_text (Period ∷ Comma ∷ NoBreakSpace ∷ NarrowNoBreakSpace ∷ RightQuote ∷ ArabicComma ∷ ReversedComma
+    ∷ ArabicDecimal ∷ ArabicThousands ∷ Hyphen ∷ Minus ∷ Plus ∷ ArabicHyphen ∷ ArabicMinus ∷ ArabicPlus ∷ LeftHyphen
+    ∷ LeftMinus ∷ LeftPlus ∷ RightHyphen ∷ RightPlus ∷ EnclosedHyphen ∷ EnclosedMinus ∷ EnclosedPlus ∷ PlusLeft ∷ [])
+
+abbrev index_of : Symbol → ℕ
+index_of x = unwrap_or (position (bytes_eq (symbol_text x)) texts) 0
+
+text_at : (x : Symbol) → get_or texts (index_of x) [] ≡ symbol_text x
+text_at Period = refl
+text_at Comma = refl
+text_at _ = refl
+
+index_below : (x : Symbol) → index_of x < 24
+index_below Period = lit≤ tt
+index_below Comma = lit≤ tt
+index_below _ = lit≤ tt
+
+-- the digits of a system are apart from each other, and from each symbol
+abbrev digits_are_apart : NumberingSystem → Bool
+digits_are_apart system = texts_are_apart 10 (digit_of system) && each_below 10 (λ d. list_all (are_apart (digit_of
+    system d)) texts)
+
+systems_have_digits_apart : list_all digits_are_apart NUMBERING_SYSTEMS ≡ true
+unfolding lib.Utf8.encode
+systems_have_digits_apart = refl
+
+-- ---- Separators and signs.
+
+-- the symbol of a code after those of the digits
+abbrev mark : SymbolSet → ℕ → Symbol
+mark set k =
+    cond (k == 10) set.decimal (cond (k == 11) set.grouping (cond (k == 12) set.minus set.plus))
+
+abbrev mark_text : SymbolSet → ℕ → List ℕ
+mark_text set k = symbol_text (mark set k)
+
+-- the separators and signs are apart
+abbrev marks_are_apart : SymbolSet → Bool
+marks_are_apart set = texts_are_apart 4 (λ k. mark_text set (10 + k))
+
+locales_have_marks_apart : list_all (λ l. marks_are_apart l.symbols) LOCALES ≡ true
+locales_have_marks_apart = refl
+
+own_marks_are_apart : list_all (λ l. marks_are_apart l.symbols) LOCALES_BY_SYSTEM ≡ true
+own_marks_are_apart = refl
+
+abbrev if_any_are_apart : NumberingSystem → Bool
+if_any_are_apart system = option_map_or marks_are_apart system.symbols true
+
+systems_have_marks_apart : list_all if_any_are_apart NUMBERING_SYSTEMS ≡ true
+systems_have_marks_apart = refl
+
+-- ---- The codes of a set of symbols.
+
+module _ (system : NumberingSystem) (set : SymbolSet) (sizes : GroupingSizes)
+    (digits : digits_are_apart system ≡ true) (marks : marks_are_apart set ≡ true) where
+  digit_code : (k : ℕ) → (k < 10) → code (symbols_of system set sizes) k ≡ digit_of system k
+  digit_code k h = let t : nat_lt k 10 ≡ true = search (rules, arith) in rw t refl
+
+  mark_code : (k : ℕ) → 10 ≤ k → code (symbols_of system set sizes) k ≡ mark_text set k
+  mark_code k h = let t : nat_lt k 10 ≡ false = search (rules, arith) in rw t (each (k == 10) (k == 11) (k == 12))
+    where
+      each : (a b c : Bool)
+          → cond a (symbol_text set.decimal) (cond b (symbol_text set.grouping)
+          (cond c (symbol_text set.minus) (symbol_text set.plus)))
+          ≡ symbol_text (cond a set.decimal (cond b set.grouping (cond c set.minus set.plus)))
+      each true b c = refl
+      each false true c = refl
+      each false false true = refl
+      each false false false = refl
+
+  digit_and_mark : (d k : ℕ) → d < 10 → are_apart (digit_of system d) (mark_text set k) ≡ true
+  digit_and_mark d k h =
+      let test = λ (d : ℕ). list_all (are_apart (digit_of system d)) texts in
+      let all = passes_below 10 test (and_right _ _ digits) d h in
+      let one = AllPass-from_list_all (are_apart (digit_of system d)) texts all (index_of (mark set k)) []
+      (index_below (mark set k)) in
+      subst (λ t. are_apart (digit_of system d) t ≡ true) (text_at (mark set k)) one
+
+  marks_apart : (j k : ℕ) → 10 ≤ j → j < 14 → 10 ≤ k → k < 14 → BeginsWith (mark_text set k) (mark_text set j)
+      → j ≡ k
+  marks_apart j k p q r s begins =
+      let same = texts_apart 4 (λ i. mark_text set (10 + i)) marks (j - 10) (k - 10) (omega arith) (omega arith)
+      (rw (add-sub_of_le r, add-sub_of_le p) begins) in
+      omega (arith, same)
+
+  readable_codes : (j k : ℕ) → j < 14 → k < 14 → IsOther (symbols_of system set sizes) j k
+  readable_codes j k p q begins = elim (cases_lt j 10) [
+    | inl a ↦ elim (cases_lt k 10) [
+      | inl b ↦
+          texts_apart 10 (digit_of system) (and_left _ _ digits) j k a b
+          (moved (digit_code k b) (digit_code j a) begins)
+      | inr b ↦
+          absurd (other (mark_text set k) (digit_of system j) (and_right _ _ (digit_and_mark j k a))
+          (moved (mark_code k b) (digit_code j a) begins))
+    ]
+    | inr a ↦ elim (cases_lt k 10) [
+      | inl b ↦
+          absurd (other (digit_of system k) (mark_text set j) (and_left _ _ (digit_and_mark k j b))
+          (moved (digit_code k b) (mark_code j a) begins))
+      | inr b ↦ marks_apart j k a p b q (moved (mark_code k b) (mark_code j a) begins)
+    ]
+  ]
+
+  readable_of : IsReadable (symbols_of system set sizes)
+  readable_of = record { apart = λ j p k q begins. readable_codes j k p q begins }
+
+-- ---- The symbols of a locale.
+
+chosen_marks : (system : NumberingSystem) (locale : LocaleSymbols) → if_any_are_apart system ≡ true
+    → marks_are_apart locale.symbols ≡ true → marks_are_apart (unwrap_or system.symbols locale.symbols) ≡ true
+chosen_marks system locale if_any default = each system.symbols if_any
+  where
+    each : (o : Option SymbolSet) → option_map_or marks_are_apart o true ≡ true
+        → marks_are_apart (unwrap_or o locale.symbols) ≡ true
+    each None h = default
+    each (Some set) h = h
+
+in_system : (tag : List ℕ) (system : NumberingSystem) (locale : LocaleSymbols) (own : Option LocaleSymbols)
+    → digits_are_apart system ≡ true → if_any_are_apart system ≡ true → Contains LOCALES locale
+    → Chooses LOCALES_BY_SYSTEM tag (Some system.name) own → IsReadable (symbols_in system locale own)
+in_system tag system locale None digits if_any listed chooses =
+    let default = passes (λ l. marks_are_apart l.symbols) LOCALES locale locales_have_marks_apart listed in
+    readable_of system (unwrap_or system.symbols locale.symbols) locale.sizes digits
+    (chosen_marks system locale if_any default)
+in_system tag system locale (Some own) digits if_any listed chooses =
+    readable_of system own.symbols own.sizes digits
+    (passes (λ l. marks_are_apart l.symbols) LOCALES_BY_SYSTEM own own_marks_are_apart chooses.0)
+
+pub locale_is_readable : (tag : List ℕ) (s : Symbols) → IsLocale tag s → IsReadable s
+locale_is_readable tag s l =
+    let named = listed_by_name (unwrap_or (requested_system tag) (unpadded l.locale.system)) l.system l.named in
+    subst IsReadable (sym l.value)
+    (in_system tag l.system l.locale l.own
+    (passes digits_are_apart NUMBERING_SYSTEMS l.system systems_have_digits_apart named)
+    (passes if_any_are_apart NUMBERING_SYSTEMS l.system systems_have_marks_apart named) l.listed.0 l.in_system)
