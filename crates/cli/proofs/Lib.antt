@@ -9,3 +9,4 @@ pub mod FirstLine
 pub mod Printing
 pub mod Separators
 pub mod Quotes
+pub mod FieldLines

@@ -46,7 +46,7 @@ doubled_plain (x ∷ text) none =
     ap (λ l. l ++ doubled text) (double_other x here) ∙ ap (λ l. x ∷ l) (doubled_plain text rest))
     (cases_Bool (is_quote x))
 
--- two tests that give one answer, or not
+-- two tests that agree, or not
 agree : (a b : Bool) → beq a b ≡ true → a ≡ b
 agree true true h = refl
 agree false false h = refl

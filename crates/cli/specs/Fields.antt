@@ -1,8 +1,10 @@
 -- The fields of a line.
-use Rattle.std.specs.Prelude.{◌≡◌, ◌⊎◌, ℕ, ◌+◌, ◌-◌, ◌%◌, ◌==◌, ◌||◌, ◌&&◌, if◌then◌else◌, Bool, true, false, not, List, [], ◌∷◌, ◌++◌, length, take, drop, count_by, filter, flat_map, slice_get, Option, is_some}
+use Rattle.std.specs.Prelude.{◌≡◌, ◌⊎◌, ℕ, ◌+◌, ◌-◌, ◌%◌, ◌==◌, ◌||◌, ◌&&◌, if◌then◌else◌, Bool, true, false, not, List, [], ◌∷◌, ◌++◌, length, take, drop, count_by, filter, flat_map, slice_get, Option, Some, None, is_some, Result, Ok, Err}
 use Rattle.std.specs.List.{list_any}
 use Rattle.std.specs.Io.BufRead.{strip_last}
 use Rattle.memchr.specs.Find.{matches, first_of}
+use Rattle.cli.specs.declared.error.OperationError.{OperationError}
+use Rattle.cli.specs.declared.error.OperationError.TheVariants as operation
 use Rattle.cli.specs.declared.fields.Field.{Field}
 
 -- ---- Where a field is.
@@ -41,9 +43,16 @@ bounds field line = slice_get (bounds_from field line 0 (separators field line))
 abbrev pub record_of : Field → List ℕ → List ℕ
 record_of field line = if field.is_csv then strip_last 13 line else line
 
--- the start and the end of the field in a line
-abbrev pub located : Field → List ℕ → Option (ℕ × ℕ)
-located field line = bounds field (record_of field line)
+-- the bounds that were found, or the error
+abbrev pub bounds_or_error : Option (ℕ × ℕ) → Result (ℕ × ℕ) OperationError
+bounds_or_error (Some bounds) = Ok bounds
+bounds_or_error None = Err operation.Field
+
+-- the start and the end of the field in a line; or the error: in CSV a quote is left open, or the line has fewer fields
+abbrev pub located : Field → List ℕ → Result (ℕ × ℕ) OperationError
+located field line =
+    if field.is_csv && not (are_closed line) then Err operation.Quote
+    else bounds_or_error (bounds field (record_of field line))
 
 -- the bytes of a line from a start up to an end, and the line with other bytes instead
 abbrev pub within : List ℕ → ℕ × ℕ → List ℕ

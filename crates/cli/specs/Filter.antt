@@ -1,5 +1,5 @@
 -- The filter that the words of `fixdec_lines` name, and its result on an input.
-use Rattle.std.specs.Prelude.{◌≡◌, ◌≢◌, ◌⊎◌, ℕ, ⊤, Any, Bool, true, List, [], ◌∷◌, codes, String, string_bytes, Option, MatchOption, Result, Ok, Err}
+use Rattle.std.specs.Prelude.{◌≡◌, ◌≢◌, ◌⊎◌, ℕ, ⊤, Any, Bool, true, List, [], ◌∷◌, codes, String, string_bytes, Option, None, MatchOption, Result, Ok, Err}
 use Rattle.std.specs.declared.alloc.Global.{Global}
 use Rattle.cli.specs.Words.{NamesConversion, AreCalls, IsUnknown}
 use Rattle.cli.specs.declared.error.FilterError.{FilterError}
@@ -21,7 +21,7 @@ IsSplit (first ∷ words) Stop others = (string_bytes first ≢ codes "skip") ×
 abbrev pub NamesFilter : List (String Global) → Filter → Type 0
 NamesFilter words filter =
     (others : List (String Global)) × IsSplit words filter.on_error others
-    × NamesConversion others filter.conversion
+    × NamesConversion others filter.conversion × (filter.field ≡ None)
 
 -- the words name no filter: a word after the optional first word `skip` names no call, or there is no memory for the
 -- list of the calls

@@ -3,6 +3,7 @@ pub mod Categories
 pub mod Conversion
 pub mod Diagnostics
 pub mod Errors
+pub mod FieldConversion
 pub mod Fields
 pub mod Filter
 pub mod Fixdec

@@ -5,8 +5,9 @@ ghost use Rattle.std.specs.Cow.{cow_slice_items};
 ghost use Rattle.std.specs.Io.KnownBytes.{Appends};
 ghost use Rattle.decimal_digits.specs.AppendsPrefix.{AppendsPrefix};
 ghost use Rattle.cli.specs.Fields.{is_quote, are_closed, is_outside, bounds, double, doubled, between_quotes, quoted, Holds};
-ghost use Rattle.cli.specs.Fields.{is_special, needs_quotes, bytes_of};
+ghost use Rattle.cli.specs.Fields.{is_special, needs_quotes, bytes_of, record_of, located};
 
+use crate::error::OperationError;
 use decimal_digits::sink::{Sink, SinkFault};
 use memchr::memmem;
 use std::alloc::{AllocError, Global};
@@ -144,8 +145,39 @@ impl Field<'_> {
         Some((start, line.len()))
     }
 
+    /// Returns the bytes of a line that its fields are in.
+    fn record<'a>(&self, line: &'a [u8]) -> &'a [u8]
+        ensures { result.now ≡ record_of self.now line.now }
+    {
+        let len = line.len();
+        if self.is_csv && len > 0 && line[len - 1] == b'\r' {
+            return &line[..len - 1];
+        }
+        line
+    }
+
+    /// Returns the start and the end of the field in a line.
+    ///
+    /// # Errors
+    ///
+    /// - `Quote`: in CSV a quote is left open.
+    /// - `Field`: the line has fewer fields.
+    pub fn locate(&self, line: &[u8]) -> Result<(usize, usize), OperationError>
+        ensures value { result ≡ located self.now line.now }
+        ensures ordered { IfOk result (λ bounds. bounds.0 ≤ bounds.1) }
+        ensures inside { IfOk result (λ bounds. bounds.1 ≤ length line.now) }
+    {
+        if self.is_csv && !are_closed(line) {
+            return Err(OperationError::Quote);
+        }
+        match self.bounds(self.record(line)) {
+            Some(bounds) => Ok(bounds),
+            None => Err(OperationError::Field),
+        }
+    }
+
     /// Returns the text that the bytes of a field hold. None: a quote is in the wrong place.
-    fn text<'a>(
+    pub fn text<'a>(
         &self,
         alloc: Global,
         bytes: &'a [u8],
@@ -176,7 +208,7 @@ impl Field<'_> {
     }
 
     /// Writes a text as the field.
-    fn write<W: Sink>(&self, text: &[u8], sink: &mut W) -> Result<(), SinkFault>
+    pub fn write<W: Sink>(&self, text: &[u8], sink: &mut W) -> Result<(), SinkFault>
         ensures ok { OnOk result (Appends (W.contents sink.old) (W.contents sink.new) (bytes_of self.now text.now)) }
         ensures err { OnErr result (AppendsPrefix (W.contents sink.old) (W.contents sink.new)
             (bytes_of self.now text.now)) }

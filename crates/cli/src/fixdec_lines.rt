@@ -53,6 +53,7 @@ fn parse_filter(alloc: Global, words: &[String]) -> Result<Filter<'_>, FilterErr
     Ok(Filter {
         on_error,
         conversion,
+        field: None,
     })
 }
 

@@ -9,6 +9,7 @@ mod categories;
 mod conversion;
 mod diagnostics;
 mod error;
+mod field_conversion;
 mod fields;
 mod filter;
 pub mod fixdec;
