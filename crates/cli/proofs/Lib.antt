@@ -7,3 +7,7 @@ pub mod Filtering
 pub mod Reporting
 pub mod FirstLine
 pub mod Printing
+pub mod Separators
+pub mod Quotes
+pub mod FieldLines
+pub mod OptionWords

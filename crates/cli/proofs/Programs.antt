@@ -51,7 +51,7 @@ at_some (Some x) e q = (x, q)
 
 -- ---- The words after the first, and before the last.
 
-after_first :
+pub after_first :
     (first : String Global) (words : List (String Global))
     → take (length (first ∷ words) - 1) (drop 1 (first ∷ words)) ≡ words
 after_first first words = rw (← length-drop 1 (first ∷ words)) (take-length words)

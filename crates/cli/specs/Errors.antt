@@ -9,7 +9,7 @@ use Rattle.fixed_decimal.specs.declared.runs.RunError.TheVariants as run
 use Rattle.cli.specs.declared.error.Reason.{Reason}
 use Rattle.cli.specs.declared.error.Reason.TheVariants.{Syntax, Limit}
 use Rattle.cli.specs.declared.error.OperationError.{OperationError}
-use Rattle.cli.specs.declared.error.OperationError.TheVariants.{Start, Operand, Overlap, Overflow, Memory, Output}
+use Rattle.cli.specs.declared.error.OperationError.TheVariants.{Field, Quote, Start, Operand, Overlap, Overflow, Memory, Output}
 use Rattle.cli.specs.declared.error.FixdecError.{FixdecError}
 use Rattle.cli.specs.declared.error.FixdecError.TheVariants as fixdec
 use Rattle.cli.specs.declared.error.FilterError.{FilterError}
@@ -32,8 +32,10 @@ error_of_run (run.Limit at) = Overflow at
 error_of_run (run.Memory at) = Memory
 error_of_run run.Sink = Output
 
--- the status of an error of operations: 1 of a rejected text or a failed call, 3 of out of memory and of failed output
+-- the status of an error of operations: 1 of a rejected line or text or a failed call, 3 of out of memory and of failed output
 abbrev pub status_of_operation : OperationError → ℕ
+status_of_operation Field = 1
+status_of_operation Quote = 1
 status_of_operation (Start reason) = 1
 status_of_operation (Operand at reason) = 1
 status_of_operation (Overlap at) = 1

@@ -1,46 +1,43 @@
 -- The filter that the words of `fixdec_lines` name, and its result on an input.
-use Rattle.std.specs.Prelude.{◌≡◌, ◌≢◌, ◌⊎◌, ℕ, ⊤, Any, Bool, true, List, [], ◌∷◌, codes, String, string_bytes, Option, MatchOption, Result, Ok, Err}
+use Rattle.std.specs.Prelude.{◌≡◌, ◌≢◌, ◌⊎◌, ℕ, ⊤, Bool, true, List, [], ◌∷◌, String, Option, MatchOption, Result, Ok, Err}
 use Rattle.std.specs.declared.alloc.Global.{Global}
 use Rattle.cli.specs.ConversionWords.{IsReadSplit, NamesConversion, ConversionFails}
+use Rattle.cli.specs.Options.{none, AreOptions, HasField}
+use Rattle.cli.specs.declared.options.Options.{Options}
+use Rattle.cli.specs.declared.fields.Field.{Field}
 use Rattle.cli.specs.declared.words.WordsError.TheVariants as reason
 use Rattle.cli.specs.declared.error.FilterError.{FilterError}
 use Rattle.cli.specs.declared.error.FilterError.TheVariants.{Usage, UnknownLocale, Memory, Output}
 use Rattle.cli.specs.declared.filter.Filter.{Filter}
-use Rattle.cli.specs.declared.filter.OnError.{OnError}
-use Rattle.cli.specs.declared.filter.OnError.TheVariants.{Stop, Skip}
 use Rattle.cli.specs.FilterLine.{Change, Effects}
 use Rattle.cli.specs.Lines.{AppendsUnwritten, Filters}
 
--- the first word is `skip` and these are the others, or it is another and these are all
-abbrev pub IsSplit : List (String Global) → OnError → List (String Global) → Type 0
-IsSplit [] Skip others = ⊥
-IsSplit (first ∷ words) Skip others = (string_bytes first ≡ codes "skip") × (others ≡ words)
-IsSplit [] Stop others = others ≡ []
-IsSplit (first ∷ words) Stop others = (string_bytes first ≢ codes "skip") × (others ≡ first ∷ words)
-
--- the words are [skip] [read:..] .., and P holds of what is done at an error, of what follows `read:`, and of the
--- words after it
+-- the words are [OPTION].. [read:..] .., and P holds of the options, of what follows `read:`, and of the words after it
 pub record HasWords
-    (words : List (String Global)) (P : OnError → Option (List ℕ) → List (String Global) → Type 0)
+    (words : List (String Global)) (P : Options → Option (List ℕ) → List (String Global) → Type 0)
     : Type 0
   where
-    pub on_error : OnError
-    pub unskipped : List (String Global)
+    pub options : Options
+    pub unoptioned : List (String Global)
     pub read : Option (List ℕ)
     pub others : List (String Global)
-    pub skip : IsSplit words on_error unskipped
-    pub split : IsReadSplit unskipped read others
-    pub holds : P on_error read others
+    pub first : AreOptions none words options unoptioned
+    pub split : IsReadSplit unoptioned read others
+    pub holds : P options read others
 
--- the words are [skip] [read:..] [CALL].. [format:..], with this filter
+-- the words are [OPTION].. [read:..] [CALL].. [format:..], with this filter
 abbrev pub NamesFilter : List (String Global) → Filter → Type 0
 NamesFilter words filter =
     HasWords words
-    (λ on_error read others. (on_error ≡ filter.on_error) × NamesConversion read others filter.conversion)
+    (λ options read others. (filter.on_error ≡ options.on_error) × HasField options filter.field
+    × NamesConversion read others filter.conversion)
 
--- they are not, for this error
+-- they are not, for this error: the options have no field, or the other words name no conversion
 abbrev pub FilterFails : List (String Global) → FilterError → Type 0
-FilterFails words Usage = HasWords words (λ _ read others. ConversionFails read others reason.Usage)
+FilterFails words Usage =
+    HasWords words
+    (λ options read others. ((field : Option Field) → ¬ HasField options field)
+    ⊎ ConversionFails read others reason.Usage)
 FilterFails words UnknownLocale = HasWords words (λ _ read others. ConversionFails read others reason.UnknownLocale)
 FilterFails words Memory = HasWords words (λ _ read others. ConversionFails read others reason.Memory)
 FilterFails words _ = ⊥

@@ -7,27 +7,27 @@ use Rattle.std.specs.IoError.{error_kind}
 use Rattle.std.specs.declared.io.Error.{Error}
 use Rattle.std.specs.declared.io.ErrorKind.TheVariants.{OutOfMemory}
 use Rattle.decimal_digits.specs.AppendsPrefix.{AppendsPrefix}
-use Rattle.fixed_decimal.specs.Outcome.{OutcomeError}
+use Rattle.cli.specs.declared.error.OperationError.{OperationError}
 use Rattle.cli.specs.declared.error.OperationError.TheVariants as operation
 use Rattle.cli.specs.declared.error.FilterError.{FilterError}
 use Rattle.cli.specs.declared.error.FilterError.TheVariants.{Operation, LongLine, Input, Output}
 use Rattle.cli.specs.declared.filter.Filter.{Filter}
 use Rattle.cli.specs.declared.filter.OnError.TheVariants.{Stop, Skip}
 use Rattle.cli.specs.Errors.{status_of_operation}
-use Rattle.cli.specs.Conversion.{IsOutcome, OperationsFail, error_of}
+use Rattle.cli.specs.FieldConversion.{IsLineResult, LineFails}
 
 -- ---- The result of a line.
 
--- the outcome of the line with this number as its result
-abbrev pub result_of_outcome : ℕ → Result (List ℕ) OutcomeError → Result (List ℕ) FilterError
-result_of_outcome number (Ok text) = Ok text
-result_of_outcome number (Err why) = Err (Operation number (error_of why))
+-- a result with the number of the line in its error
+abbrev pub numbered : ℕ → Result (List ℕ) OperationError → Result (List ℕ) FilterError
+numbered number (Ok text) = Ok text
+numbered number (Err error) = Err (Operation number error)
 
 -- the result of the line with this number: its text, or its error
 abbrev pub IsResultOfLine : Filter → ℕ → List ℕ → Result (List ℕ) FilterError → Type 0
 IsResultOfLine filter number line result =
-    (outcome : Result (List ℕ) OutcomeError) × IsOutcome filter.conversion line outcome
-    × (result ≡ result_of_outcome number outcome)
+    (converted : Result (List ℕ) OperationError) × IsLineResult filter.field filter.conversion line converted
+    × (result ≡ numbered number converted)
 
 -- the output of a line: its text and a line feed, or an empty line if it has none
 abbrev pub output_of_line : Result (List ℕ) FilterError → List ℕ
@@ -77,7 +77,7 @@ IsErrorOfReading number error _ = ⊥
 abbrev pub IsErrorOfLine : Filter → ℕ → List ℕ → FilterError → Type 0
 IsErrorOfLine filter number line (Operation at error) =
     (at ≡ number) × (filter.on_error ≡ Skip → status_of_operation error ≢ 1) × (error ≢ operation.Output)
-    × OperationsFail error filter.conversion line
+    × LineFails filter.field filter.conversion line error
 IsErrorOfLine filter number line _ = ⊥
 
 -- ---- What a filter does to a line.

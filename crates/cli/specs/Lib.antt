@@ -4,9 +4,12 @@ pub mod Conversion
 pub mod ConversionWords
 pub mod Diagnostics
 pub mod Errors
+pub mod FieldConversion
+pub mod Fields
 pub mod Filter
 pub mod Fixdec
 pub mod Lines
+pub mod Options
 pub mod Plural
 pub mod Reading
 pub mod FilterLine

@@ -19,9 +19,15 @@ pub enum Reason {
     Limit,
 }
 
-/// The error of the calls on a text. Calls have 0-based numbers.
+/// The error of a text, or of the line that it is a field of. Calls have 0-based numbers.
 #[derive(Clone, Copy, Debug, PartialEq, Error)]
 pub enum OperationError {
+    /// The line has fewer fields.
+    #[error("field")]
+    Field,
+    /// A quote of the line is in the wrong place.
+    #[error("quote")]
+    Quote,
     /// The text is rejected.
     #[error("start: {0}")]
     Start(Reason),
@@ -79,7 +85,9 @@ impl OperationError {
         ensures at_most { result ≤ 3 }
     {
         match self {
-            OperationError::Start(_)
+            OperationError::Field
+            | OperationError::Quote
+            | OperationError::Start(_)
             | OperationError::Operand { .. }
             | OperationError::Overlap { .. }
             | OperationError::Overflow { .. } => 1,

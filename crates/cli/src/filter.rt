@@ -1,14 +1,17 @@
 //! The filter: the conversion of each line of an input.
-ghost use Rattle.std.specs.Prelude.{◌≡◌, Ok, Err, Some, true, IfOk, IfErr, IfSome, OnOk};
-ghost use Rattle.std.specs.Io.KnownBytes.{IsAtEnd};
+ghost use Rattle.std.specs.Prelude.{◌≡◌, ◌≢◌, ◌∷◌, ◌++◌, [], Ok, Err, Some, true, IfOk, IfErr, IfSome, OnOk};
+ghost use Rattle.std.specs.Io.KnownBytes.{Appends, IsAtEnd};
 ghost use Rattle.std.specs.Io.BufRead.{strip_last};
 ghost use Rattle.decimal_digits.specs.AppendsPrefix.{AppendsPrefix};
+ghost use Rattle.cli.specs.FieldConversion.{HasLineText, LineFails};
 ghost use Rattle.cli.specs.FilterLine.{IsRead, IsErrorOfReading, FiltersLine, FiltersNext};
 ghost use Rattle.cli.specs.Lines.{Filters, IsConsumed};
 
 use crate::conversion::Conversion;
 use crate::diagnostics::Diagnostics;
 use crate::error::{FilterError, OperationError};
+use crate::field_conversion::print_field_line;
+use crate::fields::Field;
 use crate::fixdec::print_line;
 use fixed_decimal::Sink;
 use memchr::memchr;
@@ -30,8 +33,28 @@ pub enum OnError {
 pub struct Filter<'a> {
     /// What it does at a line whose conversion fails.
     pub on_error: OnError,
-    /// The conversion of each line.
+    /// The conversion of each line, or of its field.
     pub conversion: Conversion<'a>,
+    /// The field that is converted. `None`: each line is converted as a whole.
+    pub field: Option<Field<'a>>,
+}
+
+impl Filter<'_> {
+    /// Writes the text of a line and a line feed to a sink.
+    fn print<W: Sink>(&self, alloc: Global, line: &[u8], sink: &mut W) -> Result<(), OperationError>
+        ensures printed { OnOk result (HasLineText self.now.field self.now.conversion line.now
+            (λ text. Appends (W.contents sink.old) (W.contents sink.new) (text ++ 10 ∷ []))) }
+        ensures fails_with { IfErr result (LineFails self.now.field self.now.conversion line.now) }
+        ensures unchanged_on_error { IfErr result (λ error. error ≢ OperationError.Output → sink.new ≡ sink.old) }
+        ensures failed { result ≡ Err OperationError.Output → W.has_failed sink.new ≡ true }
+        ensures prefix { result ≡ Err OperationError.Output → HasLineText self.now.field self.now.conversion line.now
+            (λ text. AppendsPrefix (W.contents sink.old) (W.contents sink.new) (text ++ 10 ∷ [])) }
+    {
+        match &self.field {
+            None => print_line(alloc, &self.conversion, line, sink),
+            Some(field) => print_field_line(alloc, &self.conversion, field, line, sink),
+        }
+    }
 }
 
 /// Removes a trailing line feed.
@@ -83,7 +106,7 @@ fn filter_line<W: Sink, D: Diagnostics<FilterError>>(
         (record { before = diagnostics.old; after = diagnostics.new }) result }
     ensures failed { result ≡ Err FilterError.Output → W.has_failed out.new ≡ true }
 {
-    let error = match print_line(alloc, &filter.conversion, line, out) {
+    let error = match filter.print(alloc, line, out) {
         Ok(()) => return Ok(true),
         Err(OperationError::Output) => return Err(FilterError::Output),
         Err(error) => error,

@@ -161,6 +161,7 @@ fn a_skipping_filter_reports_each_refusal(rt: HostRuntime) -> Result<(), Fail> {
             calls: Vec::from_array(alloc, [Call::MultiplyPow10(-2)])?,
             formatter: None,
         },
+        field: None,
     };
     let answer = filter_lines(alloc, &filter, &mut input, &mut out, &mut log);
     assert_eq!(rt; answer, Ok(false));

@@ -42,6 +42,7 @@ fn holds(alloc: Global, row: &Row) -> bool {
             calls,
             formatter: None,
         },
+        field: None,
     };
     let answer = filter_lines(alloc, &filter, &mut input, &mut out, &mut lines);
     answer == row.4 && out.as_bytes() == row.2 && err.as_slice() == row.3

@@ -3,8 +3,7 @@ use Rattle.std.proofs.KnownBytes.{Appends-kept, Appends-nil}
 use Rattle.cli.specs.declared.error.FilterError.TheVariants.{Operation}
 use Rattle.cli.specs.declared.filter.OnError.TheVariants.{Stop}
 use Rattle.cli.specs.Errors.{status_of_operation}
-use Rattle.cli.specs.Conversion.{error_of}
-use Rattle.cli.proofs.Conversions.{error_is_outcome}
+use Rattle.cli.proofs.FieldLines.{error_is_result}
 use Rattle.cli.proofs.filter.filter_line.Goals as goal
 
 pub returns-in-Ok-clause-filtered : goal.returns-in-Ok-clause-filtered
@@ -20,17 +19,16 @@ returns-in-Err-Output-clause-filtered g c =
 pub returns-in-Ok-put_byte-clause-filtered : goal.returns-in-Ok-put_byte-clause-filtered
 returns-in-Ok-put_byte-clause-filtered g c =
     let one : status_of_operation c.in-Err.error ≡ 1 = search rules in
-    let (why, same, is) =
-    error_is_outcome c.args.filter.now.conversion c.args.line.now c.in-Err.error one c.in-Err.ensures.fails_with in
-    let still : c.print_line.new.sink ≡ c.args.out.now =
+    let filter = c.args.filter.now in
+    let is = error_is_result filter.field filter.conversion c.args.line.now c.in-Err.error one c.in-Err.ensures.fails_with in
+    let still : c.print.new.sink ≡ c.args.out.now =
     c.in-Err.ensures.unchanged_on_error (λ is. let n : 3 ≡ 1 = ap status_of_operation (sym is) ∙ one in cc) in
     let stop : c.args.filter.now.on_error ≡ Stop → false ≡ true = search rules in
-    let put = rw still at c.in-Ok-put_byte.ensures.appends in
-    let reported = rw same at c.report.ensures in (
-      Err (Operation c.args.number (error_of why)),
-      (Err why, is, refl),
+    let put = rw still at c.in-Ok-put_byte.ensures.appends in (
+      Err (Operation c.args.number c.in-Err.error),
+      (Err c.in-Err.error, is, refl),
       put,
-      (c.report.new.self, reported, refl),
+      (c.report.new.self, c.report.ensures, refl),
       refl,
       stop,
     )
@@ -38,16 +36,15 @@ returns-in-Ok-put_byte-clause-filtered g c =
 pub returns-in-Err-put_byte-clause-filtered : goal.returns-in-Err-put_byte-clause-filtered
 returns-in-Err-put_byte-clause-filtered g c =
     let one : status_of_operation c.in-Err.error ≡ 1 = search rules in
-    let (why, same, is) =
-    error_is_outcome c.args.filter.now.conversion c.args.line.now c.in-Err.error one c.in-Err.ensures.fails_with in
-    let still : c.print_line.new.sink ≡ c.args.out.now =
+    let filter = c.args.filter.now in
+    let is = error_is_result filter.field filter.conversion c.args.line.now c.in-Err.error one c.in-Err.ensures.fails_with in
+    let still : c.print.new.sink ≡ c.args.out.now =
     c.in-Err.ensures.unchanged_on_error (λ is. let n : 3 ≡ 1 = ap status_of_operation (sym is) ∙ one in cc) in
     let stop : c.args.filter.now.on_error ≡ Stop → false ≡ true = search rules in
-    let none = Appends-nil (g.W.Sink.contents c.print_line.new.sink) in
-    let reported = rw same at c.report.ensures in (
-      Err (Operation c.args.number (error_of why)),
-      (Err why, is, refl),
+    let none = Appends-nil (g.W.Sink.contents c.print.new.sink) in (
+      Err (Operation c.args.number c.in-Err.error),
+      (Err c.in-Err.error, is, refl),
       ([], _, refl, rw still at (Appends-kept _ _ _ [] none c.in-Err-put_byte.ensures.keeps)),
-      (c.report.new.self, reported, refl),
+      (c.report.new.self, c.report.ensures, refl),
       stop,
     )

@@ -1,0 +1,149 @@
+-- The delimiters of a line, from left to right, and the fields that are left after some of them.
+use Rattle.std.proofs.Common.{◌≡◌, ℕ, zero, suc, ◌+◌, ◌-◌, ◌<◌, ◌≤◌, Bool, true, false, List, [], ◌∷◌, ◌++◌, length, take, drop, slice_get, Some, None, refl, sym, ap, ◌≢◌, ◌∙◌, arith}
+use Rattle.std.specs.Prelude.{⊤, filter}
+use Rattle.std.proofs.lemmas.Bool.{cond_both, cond-true, cond-false}
+use Rattle.std.proofs.lemmas.Grind.{common_steps}
+use Rattle.std.proofs.Math.Seq.{take-add}
+use Rattle.memchr.specs.Find.{occurs_at, match_len, matches_from, matches}
+use Rattle.memchr.proofs.lemmas.MatchLemmas.{OccursAt-true}
+use Rattle.cli.specs.declared.fields.Field.{Field}
+use Rattle.cli.specs.Fields.{is_outside, bounds_from, bounds}
+
+-- ---- The delimiters of a line.
+
+-- delimiters of this width at these indices, from `start` up to `end`, do not overlap
+abbrev pub Spaced : ℕ → ℕ → ℕ → List ℕ → Type 0
+Spaced width end start [] = ⊤
+Spaced width end start (at ∷ indices) =
+    (start ≤ at) × (at + width ≤ end) × Spaced width end (at + width) indices
+
+pub spaced_before :
+    (width end start before : ℕ) (indices : List ℕ) → before ≤ start → Spaced width end start indices
+    → Spaced width end before indices
+spaced_before width end start before [] l h = tt
+spaced_before width end start before (at ∷ indices) l (from, to, rest) = (omega arith, to, rest)
+
+module _ (line delimiter : List ℕ) where
+  spaced_from :
+      (skip start at count : ℕ) → start ≤ at + skip
+      → Spaced (length delimiter) (length line) start (matches_from line delimiter skip at count)
+  unfolding matches_from
+  spaced_from skip start at zero l = tt
+  spaced_from zero start at (suc count) l =
+      let width = length delimiter in
+      let skip = match_len delimiter - 1 in
+      cond_both (occurs_at line delimiter at) (at ∷ matches_from line delimiter skip (at + 1) count)
+      (matches_from line delimiter 0 (at + 1) count) (Spaced width (length line) start)
+      (λ here.
+      let occurs = OccursAt-true line delimiter at here in
+      (omega arith, occurs.fits, spaced_from skip (at + width) (at + 1) count (omega arith)))
+      (λ _. spaced_from 0 start (at + 1) count (omega arith))
+  spaced_from (suc skip) start at (suc count) l = spaced_from skip start (at + 1) count (omega arith)
+
+  pub matches_spaced : Spaced (length delimiter) (length line) 0 (matches line delimiter 0)
+  matches_spaced = spaced_from 0 0 0 (length line + 1 - 0) (omega arith)
+
+-- ---- The fields that are left.
+
+-- the bounds of the fields from `start` on, with these delimiters left
+abbrev pub later : Field → List ℕ → ℕ → List ℕ → List (ℕ × ℕ)
+later field line start delimiters =
+    bounds_from field line start (filter (λ at. is_outside field (take at line)) delimiters)
+
+-- after the delimiters before `counted`, the field is one of those from `start` on
+pub record Scanned
+    (field : Field) (line : List ℕ) (start left : ℕ) (outside : Bool) (counted : ℕ) (delimiters : List ℕ) : Type 0
+  where
+    pub spaced_start : Spaced (length field.delimiter.now) (length line) start delimiters
+    pub spaced_counted : Spaced (length field.delimiter.now) (length line) counted delimiters
+    pub start_inside : start ≤ length line
+    pub counted_inside : counted ≤ length line
+    pub outside_is : outside ≡ is_outside field (take counted line)
+    pub left_is : bounds field line ≡ slice_get (later field line start delimiters) left
+
+module _ (field : Field) (line : List ℕ) where
+  abbrev p : ℕ → Bool
+  p at = is_outside field (take at line)
+
+  pub scanned_start : Scanned field line 0 field.index true 0 (matches line field.delimiter.now 0)
+  scanned_start = record {
+    spaced_start = matches_spaced line field.delimiter.now;
+    spaced_counted = matches_spaced line field.delimiter.now;
+    start_inside = omega arith;
+    counted_inside = omega arith;
+    outside_is = grind (arith, common_steps);
+    left_is = refl;
+  }
+
+  -- one more delimiter was scanned
+  module _
+      {start left counted at : ℕ} {before now : Bool} {indices : List ℕ}
+      (h : Scanned field line start left before counted (at ∷ indices))
+      (is : before ≡ is_outside field (take counted line)
+      → now ≡ is_outside field (take counted line ++ take (at - counted) (drop counted line)))
+    where
+      now_is : now ≡ is_outside field (take at line)
+      now_is =
+          let ordered : counted + (at - counted) ≡ at = omega (arith, h.spaced_counted.0) in
+          let bytes = sym (take-add counted (at - counted) line) ∙ ap (λ n. take n line) ordered in
+          is h.outside_is ∙ ap (is_outside field) bytes
+
+      -- it separates two fields
+      separated :
+          now ≡ true
+          → later field line start (at ∷ indices)
+          ≡ (start, at) ∷ later field line (at + length field.delimiter.now) indices
+      separated out =
+          ap (bounds_from field line start)
+          (cond-true (p at) (at ∷ filter p indices) (filter p indices) (sym now_is ∙ out))
+
+      -- and the field ends at it
+      pub scanned_end : now ≡ true → left ≡ 0 → bounds field line ≡ Some (start, at)
+      scanned_end out none =
+          h.left_is ∙ ap (slice_get (later field line start (at ∷ indices))) none
+          ∙ ap (λ fields. slice_get fields 0) (separated out)
+
+      -- or comes after it
+      pub scanned_separator :
+          now ≡ true → left ≢ 0
+          → Scanned field line (at + length field.delimiter.now) (left - 1) now at indices
+      scanned_separator out some =
+          let more : left ≡ suc (left - 1) = omega arith in
+          let (from, to, rest) = h.spaced_counted in
+          record {
+            spaced_start = rest;
+            spaced_counted = spaced_before _ _ _ at indices (omega arith) rest;
+            start_inside = to;
+            counted_inside = omega arith;
+            outside_is = now_is;
+            left_is = h.left_is ∙ ap (slice_get (later field line start (at ∷ indices))) more
+                ∙ ap (λ fields. slice_get fields (suc (left - 1))) (separated out);
+          }
+
+      -- it is between quotes
+      pub scanned_quoted : now ≡ false → Scanned field line start left now at indices
+      scanned_quoted inner =
+          let (from, to, rest) = h.spaced_counted in
+          let (before, _, _) = h.spaced_start in
+          record {
+            spaced_start = spaced_before _ _ _ start indices (omega arith) rest;
+            spaced_counted = spaced_before _ _ _ at indices (omega arith) rest;
+            start_inside = h.start_inside;
+            counted_inside = omega arith;
+            outside_is = now_is;
+            left_is = h.left_is ∙ ap (λ list. slice_get (bounds_from field line start list) left)
+                (cond-false (p at) (at ∷ filter p indices) (filter p indices) (sym now_is ∙ inner));
+          }
+
+  -- no delimiter is left: the field ends at the end of the line
+  module _
+      {start left counted : ℕ} {before : Bool} (h : Scanned field line start left before counted [])
+    where
+      pub scanned_all : left ≡ 0 → bounds field line ≡ Some (start, length line)
+      scanned_all none = h.left_is ∙ ap (slice_get (later field line start [])) none
+
+      -- or the line has fewer fields
+      pub scanned_none : 0 < left → bounds field line ≡ None
+      scanned_none some =
+          let more : left ≡ suc (left - 1) = omega arith in
+          h.left_is ∙ ap (slice_get (later field line start [])) more

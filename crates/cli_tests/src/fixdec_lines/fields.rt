@@ -1,0 +1,95 @@
+//! The filter on a field of each line.
+use cli::{Conversion, ErrorLines, Field, Filter, FilterError, OnError, filter_lines};
+use fixed_decimal::{Call, TextBuf};
+use std::alloc::Global;
+use std::test::Fail;
+
+/// A field, an input, and the texts of standard output and standard error.
+type Row = (Field<'static>, &'static [u8], &'static [u8], &'static [u8]);
+
+/// A field without quotes.
+const fn plain(index: usize, delimiter: &'static [u8]) -> Field<'static> {
+    Field {
+        index,
+        delimiter,
+        is_csv: false,
+    }
+}
+
+/// A field of CSV.
+const fn csv(index: usize, delimiter: &'static [u8]) -> Field<'static> {
+    Field {
+        index,
+        delimiter,
+        is_csv: true,
+    }
+}
+
+/// Lines whose field is shifted by -2, and those that fail.
+const ROWS: &[Row] = &[
+    (plain(1, b","), b"a,250,b\n,7,\n", b"a,2.50,b\n,0.07,\n", b""),
+    (plain(0, b"\t"), b"250\n7\tx\n", b"2.50\n0.07\tx\n", b""),
+    (plain(2, b","), b"a,b\n1,2,3\n", b"\n1,2,0.03\n", b"line 1: field\n"),
+    (plain(3, b","), b",,,\n", b"\n", b"line 1: start: syntax\n"),
+    (plain(4, b","), b",,,\n", b"\n", b"line 1: field\n"),
+    (plain(1, b","), b"\x00\xff,250,\xc3\x00\n", b"\x00\xff,2.50,\xc3\x00\n", b""),
+    (plain(1, b"\xc2\xb7"), b"\xb7\xc2\xb7250\xc2\xb7\xc2\n", b"\xb7\xc2\xb72.50\xc2\xb7\xc2\n", b""),
+    (plain(1, b","), b"a,250\r\n", b"\n", b"line 1: start: syntax\n"),
+    (plain(1, b","), b"\"a,250,c\n", b"\"a,2.50,c\n", b""),
+    (csv(1, b","), b"a,250\r\n", b"a,2.50\r\n", b""),
+    (csv(1, b","), b"\"a,\"\"b\",250,c\n", b"\"a,\"\"b\",2.50,c\n", b""),
+    (csv(1, b","), b"a,\"250\",c\n", b"a,2.50,c\n", b""),
+    (csv(0, b"."), b"250.x\n", b"\"2.50\".x\n", b""),
+    (csv(1, b","), b"\"a,250\n\"a\",\"250\n", b"\n\n", b"line 1: quote\nline 2: quote\n"),
+    (csv(0, b","), b"\"1\"2\"\",3\n1\"2\",3\n", b"\n\n", b"line 1: quote\nline 2: quote\n"),
+    (csv(0, b","), b"\"2\"\"5\"\n", b"\n", b"line 1: start: syntax\n"),
+    (csv(2, b","), b"\"1,2\",3\n", b"\n", b"line 1: field\n"),
+];
+
+/// Filters an input, and returns the result and the texts of both sinks.
+fn filtered(
+    alloc: Global,
+    field: Field<'_>,
+    mut input: &[u8],
+) -> Result<(Result<bool, FilterError>, TextBuf, Vec<u8>), Fail> {
+    let mut out = TextBuf::new(alloc);
+    let mut err = Vec::<u8>::new(alloc);
+    let filter = Filter {
+        on_error: OnError::Skip,
+        conversion: Conversion {
+            reader: None,
+            calls: Vec::from_array(alloc, [Call::MultiplyPow10(-2)])?,
+            formatter: None,
+        },
+        field: Some(field),
+    };
+    let mut lines = ErrorLines::new(&mut err);
+    let result = filter_lines(alloc, &filter, &mut input, &mut out, &mut lines);
+    Ok((result, out, err))
+}
+
+#[test]
+fn filters_fields(rt: HostRuntime) -> Result<(), Fail> {
+    for (field, input, text, errors) in ROWS {
+        let (result, out, err) = filtered(rt.alloc(), *field, input)?;
+        assert_eq!(rt; result, Ok(errors.is_empty()));
+        assert_eq!(rt; out.as_bytes(), *text);
+        assert_eq!(rt; err.as_slice(), *errors);
+    }
+    Ok(())
+}
+
+#[test]
+fn filters_the_last_of_many_fields(rt: HostRuntime) -> Result<(), Fail> {
+    let alloc = rt.alloc();
+    let mut input = vec![in alloc; b','; 200_000]?;
+    input.extend_from_slice(b"250")?;
+    for field in [plain(200_000, b","), csv(200_000, b",")] {
+        let (result, out, err) = filtered(alloc, field, input.as_slice())?;
+        assert_eq!(rt; result, Ok(true));
+        assert_eq!(rt; out.as_bytes().len(), 200_005);
+        assert!(rt; out.as_bytes().ends_with(b",2.50\n"));
+        assert!(rt; err.is_empty());
+    }
+    Ok(())
+}
