@@ -66,13 +66,19 @@ impl<'a> Options<'a> {
             if self.index.is_some() {
                 return None;
             }
-            return Some(Options { index: Some(index), ..self });
+            return Some(Options {
+                index: Some(index),
+                ..self
+            });
         }
         if let Some(delimiter) = delimiter(word) {
             if self.delimiter.is_some() {
                 return None;
             }
-            return Some(Options { delimiter: Some(delimiter), ..self });
+            return Some(Options {
+                delimiter: Some(delimiter),
+                ..self
+            });
         }
         None
     }
@@ -84,11 +90,17 @@ impl<'a> Options<'a> {
     {
         match word {
             "skip" => match self.on_error {
-                OnError::Stop => Some(Options { on_error: OnError::Skip, ..self }),
+                OnError::Stop => Some(Options {
+                    on_error: OnError::Skip,
+                    ..self
+                }),
                 OnError::Skip => None,
             },
             "csv" if self.is_csv => None,
-            "csv" => Some(Options { is_csv: true, ..self }),
+            "csv" => Some(Options {
+                is_csv: true,
+                ..self
+            }),
             _ => self.with_parameter(word),
         }
     }
