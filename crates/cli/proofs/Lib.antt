@@ -10,3 +10,4 @@ pub mod Printing
 pub mod Separators
 pub mod Quotes
 pub mod FieldLines
+pub mod OptionWords

@@ -47,7 +47,7 @@ at_some (Some x) e q = (x, q)
 
 -- ---- The words after the first.
 
-behind_is :
+pub behind_is :
     (first : String Global) (words : List (String Global))
     → take (length (first ∷ words) - 1) (drop 1 (first ∷ words)) ≡ words
 behind_is first words = rw (← length-drop 1 (first ∷ words)) (take-length words)

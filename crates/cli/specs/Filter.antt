@@ -5,31 +5,26 @@ use Rattle.cli.specs.Words.{NamesConversion, AreCalls, IsUnknown}
 use Rattle.cli.specs.declared.error.FilterError.{FilterError}
 use Rattle.cli.specs.declared.error.FilterError.TheVariants.{Usage, Memory, Output}
 use Rattle.cli.specs.declared.filter.Filter.{Filter}
-use Rattle.cli.specs.declared.filter.OnError.{OnError}
-use Rattle.cli.specs.declared.filter.OnError.TheVariants.{Stop, Skip}
+use Rattle.cli.specs.declared.fields.Field.{Field}
+use Rattle.cli.specs.declared.options.Options.{Options}
+use Rattle.cli.specs.Options.{none, AreOptions, HasField}
 use Rattle.cli.specs.FilterLine.{Change, Effects}
 use Rattle.cli.specs.Lines.{AppendsUnwritten, Filters}
 
--- the first word is `skip` and these are the others, or it is another and these are all
-abbrev pub IsSplit : List (String Global) → OnError → List (String Global) → Type 0
-IsSplit [] Skip others = ⊥
-IsSplit (first ∷ words) Skip others = (string_bytes first ≡ codes "skip") × (others ≡ words)
-IsSplit [] Stop others = others ≡ []
-IsSplit (first ∷ words) Stop others = (string_bytes first ≢ codes "skip") × (others ≡ first ∷ words)
-
--- the words after the optional first word `skip` name the conversion of this filter
+-- the first words name options, and the others the conversion of this filter
 abbrev pub NamesFilter : List (String Global) → Filter → Type 0
 NamesFilter words filter =
-    (others : List (String Global)) × IsSplit words filter.on_error others
-    × NamesConversion others filter.conversion × (filter.field ≡ None)
+    (options : Options) × (others : List (String Global)) × AreOptions none words options others
+    × (filter.on_error ≡ options.on_error) × HasField options filter.field × NamesConversion others filter.conversion
 
--- the words name no filter: a word after the optional first word `skip` names no call, or there is no memory for the
--- list of the calls
+-- the words name no filter: their options have no field, or a word after them names no call; or there is no memory for
+-- the list of the calls
 abbrev pub FilterFails : List (String Global) → FilterError → Type 0
 FilterFails words Usage =
-    (on_error : OnError) × (others : List (String Global)) × IsSplit words on_error others × Any IsUnknown others
+    (options : Options) × (others : List (String Global)) × AreOptions none words options others
+    × (((field : Option Field) → ¬ HasField options field) ⊎ Any IsUnknown others)
 FilterFails words Memory =
-    (on_error : OnError) × (others : List (String Global)) × IsSplit words on_error others × AreCalls others
+    (options : Options) × (others : List (String Global)) × AreOptions none words options others × AreCalls others
 FilterFails words _ = ⊥
 
 -- the error comes before the first line

@@ -8,6 +8,7 @@ pub mod Fields
 pub mod Filter
 pub mod Fixdec
 pub mod Lines
+pub mod Options
 pub mod Plural
 pub mod Reading
 pub mod FilterLine

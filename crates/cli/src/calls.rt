@@ -23,7 +23,7 @@ fn number(word: &str) -> Option<i16>
 }
 
 /// Parses the number after a prefix.
-fn number_after(prefix: &str, word: &str) -> Option<i16>
+pub fn number_after(prefix: &str, word: &str) -> Option<i16>
     ensures some { IfSome result (HasNumber prefix.now word.now) }
     ensures only { (n : ℤ) → HasNumber prefix.now word.now n → result ≡ Some n }
 {

@@ -5,15 +5,16 @@ ghost use Rattle.std.specs.Io.Buffered.{writer_contents, writer_inner};
 ghost use Rattle.cli.specs.declared.error.FilterError.{FilterError};
 ghost use Rattle.cli.specs.Arguments.{HaveWords, ArgumentsFail};
 ghost use Rattle.cli.specs.Errors.{status_of_filter};
-ghost use Rattle.cli.specs.Filter.{IsSplit, NamesFilter, FilterFails, IsEarly, Process, effects, Runs, WordsFilter, LinesFail};
+ghost use Rattle.cli.specs.Filter.{NamesFilter, FilterFails, IsEarly, Process, effects, Runs, WordsFilter, LinesFail};
 
 use crate::arguments::words;
 use crate::calls::parse_calls;
 use crate::conversion::Conversion;
 use crate::diagnostics::{Diagnostics, ErrorLines, conclude};
 use crate::error::FilterError;
-use crate::filter::{Filter, OnError, filter_lines};
+use crate::filter::{Filter, filter_lines};
 use crate::help::{CALLS, help};
+use crate::options::split_options;
 use crate::output::{BufferedOut, Closed, abandon, close, open};
 use std::alloc::Global;
 use std::env::Args;
@@ -24,22 +25,15 @@ use std::{env, io};
 /// The number of bytes of a read.
 const BLOCK: usize = 65_536;
 
-/// Splits off a first word `skip`, and returns the words of the calls.
-fn split_skip(words: &[String]) -> (OnError, &[String])
-    ensures { IsSplit words.now result.0 result.1.now }
-{
-    match words {
-        [first, words @ ..] if first.as_str() == "skip" => (OnError::Skip, words),
-        _ => (OnError::Stop, words),
-    }
-}
-
 /// Parses the words as a filter.
 fn parse_filter(alloc: Global, words: &[String]) -> Result<Filter<'_>, FilterError>
     ensures some { IfOk result (NamesFilter words.now) }
     ensures err { IfErr result (FilterFails words.now) }
 {
-    let (on_error, words) = split_skip(words);
+    let (options, words) = split_options(words);
+    let Some(field) = options.field() else {
+        return Err(FilterError::Usage);
+    };
     let calls = match parse_calls(alloc, words) {
         Ok(Some(calls)) => calls,
         Ok(None) => return Err(FilterError::Usage),
@@ -51,9 +45,9 @@ fn parse_filter(alloc: Global, words: &[String]) -> Result<Filter<'_>, FilterErr
         formatter: None,
     };
     Ok(Filter {
-        on_error,
+        on_error: options.on_error,
         conversion,
-        field: None,
+        field,
     })
 }
 

@@ -15,6 +15,7 @@ mod filter;
 pub mod fixdec;
 pub mod fixdec_lines;
 mod help;
+mod options;
 mod output;
 pub mod plural;
 mod reader;

@@ -1,0 +1,63 @@
+-- The options that the first words of `fixdec_lines` name.
+use Rattle.std.specs.Prelude.{◌≡◌, ◌≢◌, ◌⊎◌, ℕ, ◌+◌, if◌then◌else◌, Bool, true, false, pos, List, [], ◌∷◌, ◌++◌, length, codes, String, string_bytes, Option, Some, None}
+use Rattle.std.specs.Borrow.{Bor}
+use Rattle.std.specs.Str.{chars}
+use Rattle.std.specs.declared.alloc.Global.{Global}
+use Rattle.cli.specs.Words.{HasNumber}
+use Rattle.cli.specs.declared.fields.Field.{Field}
+use Rattle.cli.specs.Fields.{quote}
+use Rattle.cli.specs.declared.filter.OnError.TheVariants.{Stop, Skip}
+use Rattle.cli.specs.declared.options.Options.{Options}
+
+-- the options of no words
+abbrev pub none : Options
+none = record { on_error = Stop; index = None; delimiter = None; is_csv = false }
+
+-- ---- One word.
+
+-- the word has this name and this 1-based number of a field
+abbrev pub IsField : List ℕ → ℕ → Type 0
+IsField word index = HasNumber (codes "field:") word (pos (index + 1))
+
+-- the word has this name and this one character
+abbrev pub IsDelimiter : List ℕ → List ℕ → Type 0
+IsDelimiter word delimiter = (word ≡ codes "delimiter:" ++ delimiter) × (length (chars delimiter) ≡ 1)
+
+-- the word names an option with a parameter that is not there, and with it the options are these
+abbrev pub AddsParameter : List ℕ → Options → Options → Type 0
+AddsParameter word old new =
+    ((index : ℕ) × IsField word index × (old.index ≡ None) × (new ≡ record old { index = Some index }))
+    ⊎ ((delimiter : Bor (List ℕ)) × IsDelimiter word delimiter.now × (old.delimiter ≡ None)
+    × (new ≡ record old { delimiter = Some delimiter }))
+
+-- the word names an option that is not there, and with it the options are these
+abbrev pub Adds : List ℕ → Options → Options → Type 0
+Adds word old new =
+    ((word ≡ codes "skip") × (old.on_error ≡ Stop) × (new ≡ record old { on_error = Skip }))
+    ⊎ ((word ≡ codes "csv") × (old.is_csv ≡ false) × (new ≡ record old { is_csv = true }))
+    ⊎ AddsParameter word old new
+
+-- ---- Lists of words.
+
+-- after these options the words name these as well, and the others are these: the first of them names no option that is
+-- not there
+abbrev pub AreOptions : Options → List (String Global) → Options → List (String Global) → Type 0
+AreOptions options [] last others = (last ≡ options) × (others ≡ [])
+AreOptions options (word ∷ words) last others =
+    ((next : Options) × Adds (string_bytes word) options next × AreOptions next words last others)
+    ⊎ (((next : Options) → ¬ Adds (string_bytes word) options next) × (last ≡ options) × (others ≡ word ∷ words))
+
+-- ---- The field.
+
+-- the bytes between two fields: a tab, or in CSV a comma, if no word names others
+abbrev pub delimiter_of : Bool → Option (Bor (List ℕ)) → List ℕ
+delimiter_of is_csv (Some delimiter) = delimiter.now
+delimiter_of is_csv None = if is_csv then 44 ∷ [] else 9 ∷ []
+
+-- the options have this field, or none and no word that needs one; the delimiter of CSV is no quote
+abbrev pub HasField : Options → Option Field → Type 0
+HasField options None = (options.index ≡ None) × (options.delimiter ≡ None) × (options.is_csv ≡ false)
+HasField options (Some field) =
+    (options.index ≡ Some field.index) × (field.is_csv ≡ options.is_csv)
+    × (field.delimiter.now ≡ delimiter_of options.is_csv options.delimiter)
+    × (options.is_csv ≡ true → field.delimiter.now ≢ quote ∷ [])

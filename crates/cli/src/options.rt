@@ -1,0 +1,154 @@
+//! The options that the first words of `fixdec_lines` name.
+ghost use Rattle.std.specs.Prelude.{◌≡◌, ℕ, List, Option, Some, None, IfSome};
+ghost use Rattle.cli.specs.declared.fields.Field.{Field};
+ghost use Rattle.cli.specs.declared.options.Options.{Options};
+ghost use Rattle.cli.specs.Options.{IsField, IsDelimiter, none, Adds, AddsParameter, AreOptions, HasField};
+
+use crate::calls::number_after;
+use crate::fields::Field;
+use crate::filter::OnError;
+
+/// The options of a filter, each of which a word names at most once.
+#[derive(Clone, Copy, Debug)]
+pub struct Options<'a> {
+    /// `skip`: what the filter does at a line that fails.
+    pub on_error: OnError,
+    /// `field:N`: the 0-based index of the field.
+    pub index: Option<usize>,
+    /// `delimiter:C`: the bytes between two fields.
+    pub delimiter: Option<&'a [u8]>,
+    /// `csv`: whether fields may be in quotes.
+    pub is_csv: bool,
+}
+
+/// Parses `field:N` as the 0-based index of the field.
+fn field_index(word: &str) -> Option<usize>
+    ensures some { IfSome result (IsField word.now) }
+    ensures only { (index : ℕ) → IsField word.now index → result ≡ Some index }
+{
+    match number_after("field:", word) {
+        Some(number) if number > 0 => Some(number as usize - 1),
+        _ => None,
+    }
+}
+
+/// Parses `delimiter:C`, where C is one character.
+fn delimiter(word: &str) -> Option<&[u8]>
+    ensures some { IfSome result (λ delimiter. IsDelimiter word.now delimiter.now) }
+    ensures none { result ≡ None → (delimiter : List ℕ) → ¬ IsDelimiter word.now delimiter }
+{
+    let text = word.strip_prefix("delimiter:")?;
+    if text.chars().count() != 1 {
+        return None;
+    }
+    Some(text.as_bytes())
+}
+
+impl<'a> Options<'a> {
+    /// Returns the options of no words.
+    pub fn none() -> Self
+        ensures { result ≡ none }
+    {
+        Options {
+            on_error: OnError::Stop,
+            index: None,
+            delimiter: None,
+            is_csv: false,
+        }
+    }
+
+    /// Returns the options with that of a word with a parameter. None: as in [`Options::with`].
+    fn with_parameter(self, word: &'a str) -> Option<Options<'a>>
+        ensures some { IfSome result (Adds word.now self.entry) }
+        ensures none { result ≡ None → (next : Options) → AddsParameter word.now self.entry next → ⊥ }
+    {
+        if let Some(index) = field_index(word) {
+            if self.index.is_some() {
+                return None;
+            }
+            return Some(Options {
+                index: Some(index),
+                ..self
+            });
+        }
+        if let Some(delimiter) = delimiter(word) {
+            if self.delimiter.is_some() {
+                return None;
+            }
+            return Some(Options {
+                delimiter: Some(delimiter),
+                ..self
+            });
+        }
+        None
+    }
+
+    /// Returns the options with that of a word. None: the word names no option, or one that is there.
+    fn with(self, word: &'a str) -> Option<Options<'a>>
+        ensures some { IfSome result (Adds word.now self.entry) }
+        ensures none { result ≡ None → (next : Options) → ¬ Adds word.now self.entry next }
+    {
+        match word {
+            "skip" => match self.on_error {
+                OnError::Stop => Some(Options {
+                    on_error: OnError::Skip,
+                    ..self
+                }),
+                OnError::Skip => None,
+            },
+            "csv" if self.is_csv => None,
+            "csv" => Some(Options {
+                is_csv: true,
+                ..self
+            }),
+            _ => self.with_parameter(word),
+        }
+    }
+
+    /// Returns the field of these options. None: a delimiter or `csv` has no field, or the delimiter of CSV is a quote.
+    pub fn field(self) -> Option<Option<Field<'a>>>
+        ensures some { IfSome result (HasField self.entry) }
+        ensures none { result ≡ None → (field : Option Field) → ¬ HasField self.entry field }
+    {
+        let Some(index) = self.index else {
+            return if self.delimiter.is_none() && !self.is_csv {
+                Some(None)
+            } else {
+                None
+            };
+        };
+        let delimiter = match self.delimiter {
+            Some(delimiter) => delimiter,
+            None if self.is_csv => b",",
+            None => b"\t",
+        };
+        if self.is_csv && delimiter == b"\"".as_slice() {
+            return None;
+        }
+        Some(Some(Field {
+            index,
+            delimiter,
+            is_csv: self.is_csv,
+        }))
+    }
+}
+
+/// Splits off the words of options, after these ones.
+fn split_after<'a>(options: Options<'a>, words: &'a [String]) -> (Options<'a>, &'a [String])
+    ensures { AreOptions options.entry words.now result.0 result.1.now }
+{
+    let [first, rest @ ..] = words else {
+        return (options, words);
+    };
+    match options.with(first.as_str()) {
+        Some(more) => split_after(more, rest),
+        None => (options, words),
+    }
+}
+
+/// Splits off the words of options.
+pub fn split_options(words: &[String]) -> (Options<'_>, &[String])
+    ensures { AreOptions none words.now result.0 result.1.now }
+{
+    split_after(Options::none(), words)
+}
