@@ -1,5 +1,5 @@
 -- The filter that the words of `fixdec_lines` name, and its result on an input.
-use Rattle.std.specs.Prelude.{◌≡◌, ◌≢◌, ◌⊎◌, ℕ, ⊤, Any, Bool, true, List, [], ◌∷◌, codes, String, string_bytes, Option, None, MatchOption, Result, Ok, Err}
+use Rattle.std.specs.Prelude.{◌≡◌, ◌⊎◌, ℕ, ⊤, Any, Bool, true, List, String, Option, MatchOption, Result, Ok, Err}
 use Rattle.std.specs.declared.alloc.Global.{Global}
 use Rattle.cli.specs.Words.{NamesConversion, AreCalls, IsUnknown}
 use Rattle.cli.specs.declared.error.FilterError.{FilterError}
