@@ -149,7 +149,7 @@ row fixdec 2 '' "$usage" --help 5
 
 # ---- fixdec_lines
 
-usage=$'usage: fixdec_lines [skip] [read:LOCALE] [CALL].. [format:LOCALE]\n'
+usage=$'usage: fixdec_lines [OPTION].. [read:LOCALE] [CALL].. [format:LOCALE]\n'
 
 # Status 0.
 lines 0 '250\n7\n' $'2.50\n0.07\n' '' shift:-2
@@ -190,6 +190,23 @@ lines 2 '1\n' '' "$usage" format:de trim-end
 lines 2 '1\n' '' "$usage" read:de read:de
 lines 2 '1\n' '' $'unknown locale\n' read:tlh
 lines 2 '1\n' '' $'unknown locale\n' format:tlh
+
+# A field of each line: all other bytes are copied.
+lines 0 'a\t2.345\tb\n\t-1\n' $'a\t2.34\tb\n\t-1\n' '' field:2 round:-2:half-even:1
+lines 0 'a,250,\xff\n' $'a,2.50,\xff\n' '' delimiter:, field:2 shift:-2
+lines 0 'a€250€b\n' $'a€2.50€b\n' '' delimiter:€ field:2 shift:-2
+lines 0 'tea,"1.234,565"\r\n"a ""b"", c",7' $'tea,"1,234.56"\r\n"a ""b"", c",7\n' '' \
+  csv field:2 read:de round:-2:half-even:1 format:en
+lines 0 '"250",x\n' $'2.50,x\n' '' field:1 csv shift:-2
+lines 1 '1\t2\n3\n' $'1\t20\n' $'line 2: field\n' field:2 shift:1
+lines 1 '1,"2\n' '' $'line 1: quote\n' csv field:1
+lines 1 '1,x\n3,4\n' $'\n3,40\n' $'line 1: start: syntax\n' skip csv field:2 shift:1
+lines 2 '1\n' '' "$usage" field:0
+lines 2 '1\n' '' "$usage" csv
+lines 2 '1\n' '' "$usage" delimiter:,
+lines 2 '1\n' '' "$usage" field:1 delimiter:ab
+lines 2 '1\n' '' "$usage" field:1 field:2
+lines 2 '1\n' '' "$usage" shift:1 field:1
 lines 2 '250\n' '' "$usage" shift:-2 skip
 lines 2 '1\n' '' "$usage" $'concat:\xc3\x28'
 printf '1\n2\n' > "$room/in"
@@ -277,7 +294,7 @@ done 2> /dev/null
 [ "$reported" != 0 ] && [ "$printed" != 0 ]
 judge "with little memory it reported memory $early times, that of a line $reported times, and read it $printed times"
 
-help fixdec_lines 'usage: fixdec_lines [skip] [read:LOCALE] [CALL].. [format:LOCALE]'
+help fixdec_lines 'usage: fixdec_lines [OPTION].. [read:LOCALE] [CALL].. [format:LOCALE]'
 
 # ---- plural
 

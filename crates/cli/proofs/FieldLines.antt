@@ -1,5 +1,5 @@
 -- A line with a new text for a field, written piece by piece.
-use Rattle.std.proofs.Common.{◌≡◌, ◌≢◌, ℕ, inl, refl, Some, None, Ok, Err, Result, List, ◌++◌, ◌-◌, length, take, drop, Option, append_assoc, sym, ◌∙◌, ap, arith}
+use Rattle.std.proofs.Common.{◌≡◌, ◌≢◌, ℕ, inl, refl, Some, None, Ok, Err, Result, List, ◌++◌, ◌-◌, length, take, drop, Option, append_assoc, ap, arith}
 use Rattle.std.proofs.lemmas.List.{length-drop}
 use Rattle.std.proofs.Math.Seq.{take-length}
 use Rattle.std.specs.Io.KnownBytes.{Appends}
@@ -50,7 +50,10 @@ module _ (field : Field) (conversion : Conversion) (bytes text : List ℕ) (hold
       (written : List ℕ) → IsOutcome conversion text (Ok written) → IsFieldResult field conversion bytes (Ok written)
   field_converted written is = inl (text, holds, (Ok written, is, refl))
 
-  field_fails : (error : OperationError) → ((why : OutcomeError) × (error ≡ error_of why) × IsOutcome conversion text (Err why)) → IsFieldResult field conversion bytes (Err error)
+  field_fails :
+      (error : OperationError)
+      → ((why : OutcomeError) × (error ≡ error_of why) × IsOutcome conversion text (Err why))
+      → IsFieldResult field conversion bytes (Err error)
   field_fails error (why, same, is) = inl (text, holds, (Err why, is, ap Err same))
 
   -- its conversion to a sink in memory failed, and not because it was out of memory
@@ -70,7 +73,8 @@ module _ (field : Field) (conversion : Conversion) (bytes text : List ℕ) (hold
 
 -- ---- The result of a line.
 
-module _ (field : Field) (conversion : Conversion) (line : List ℕ) (bounds : ℕ × ℕ) (found : located field line ≡ Ok bounds)
+module _
+    (field : Field) (conversion : Conversion) (line : List ℕ) (bounds : ℕ × ℕ) (found : located field line ≡ Ok bounds)
   where
     pub line_result :
         (converted : Result (List ℕ) OperationError) → IsFieldResult field conversion (within line bounds) converted

@@ -32,7 +32,8 @@ error_of_run (run.Limit at) = Overflow at
 error_of_run (run.Memory at) = Memory
 error_of_run run.Sink = Output
 
--- the status of an error of operations: 1 of a rejected line or text or a failed call, 3 of out of memory and of failed output
+-- the status of an error of operations: 1 of a rejected line or text and of a failed call, 3 of out of memory and of
+-- failed output
 abbrev pub status_of_operation : OperationError → ℕ
 status_of_operation Field = 1
 status_of_operation Quote = 1

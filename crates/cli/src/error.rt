@@ -206,7 +206,7 @@ impl From<SinkFault> for FixdecError {
 #[derive(Clone, Copy, Debug, PartialEq, Error)]
 pub enum FilterError {
     /// A word names nothing, is not in its place, or is not UTF-8.
-    #[error("usage: fixdec_lines [skip] [read:LOCALE] [CALL].. [format:LOCALE]")]
+    #[error("usage: fixdec_lines [OPTION].. [read:LOCALE] [CALL].. [format:LOCALE]")]
     Usage,
     /// The locale of `read:` or `format:` is unknown.
     #[error("unknown locale")]

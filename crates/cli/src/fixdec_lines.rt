@@ -1,5 +1,5 @@
-//! `fixdec_lines [skip] [read:LOCALE] [CALL].. [format:LOCALE]`: makes the same calls on each line of its input, and
-//! writes a line for each.
+//! `fixdec_lines [OPTION].. [read:LOCALE] [CALL].. [format:LOCALE]`: makes the same calls on each line of its input, or
+//! on a field of it, and writes a line for each.
 ghost use Rattle.std.specs.Prelude.{◌≡◌, ◌≤◌, ◌<◌, ◌⊎◌, Ok, Err, true, false, IfOk, IfErr, IfSome, OnOk, IsSomeAnd};
 ghost use Rattle.std.specs.Process.{exit_status};
 ghost use Rattle.std.specs.Io.Buffered.{writer_contents, writer_inner};
@@ -12,7 +12,7 @@ use crate::arguments::words;
 use crate::diagnostics::{Diagnostics, ErrorLines, conclude};
 use crate::error::FilterError;
 use crate::filter::{Filter, filter_lines};
-use crate::help::{CALLS, help};
+use crate::help::{CALLS, OPTIONS, help};
 use crate::options::split_options;
 use crate::output::{BufferedOut, Closed, abandon, close, open};
 use crate::words::{parse_conversion, split_read};
@@ -167,8 +167,7 @@ pub fn run_arguments<R: Read, O: Write + Drop, D: Diagnostics<FilterError>>(
 pub fn execute(rt: HostRuntime) -> ExitCode
     ensures at_most { exit_status result ≤ 3 }
 {
-    let usage = "usage: fixdec_lines [skip] [read:LOCALE] [CALL].. [format:LOCALE]\n";
-    if let Some(status) = help(rt.alloc(), env::args(&rt), usage, CALLS, &mut rt.stdout()) {
+    if let Some(status) = help(rt.alloc(), env::args(&rt), OPTIONS, CALLS, &mut rt.stdout()) {
         return ExitCode::from(status);
     }
     let mut err = rt.stderr();

@@ -32,6 +32,15 @@ LOCALE: a tag as de-CH, or a name as de_CH.UTF-8
 GROUPING: auto, never, always, min2
 ";
 
+/// The usage line of `fixdec_lines`, and its options.
+pub const OPTIONS: &str = "usage: fixdec_lines [OPTION].. [read:LOCALE] [CALL].. [format:LOCALE]
+
+field:N                 converts field N of each line, from 1, and copies the other bytes
+delimiter:C             C is between two fields: by default a tab, with csv a comma
+csv                     fields may be in quotes, as in RFC 4180
+skip                    reports a line that fails, and writes an empty line
+";
+
 /// The operands of a condition of `plural`.
 pub const OPERANDS: &str = "
 RULES are rules between semicolons, as 'one: i = 1 and v = 0; many: e != 0..5'.

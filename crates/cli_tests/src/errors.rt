@@ -109,7 +109,7 @@ fn assert_line<E: Display>(
 const FILTER: &[(FilterError, &str)] = &[
     (
         FilterError::Usage,
-        "usage: fixdec_lines [skip] [read:LOCALE] [CALL].. [format:LOCALE]\n",
+        "usage: fixdec_lines [OPTION].. [read:LOCALE] [CALL].. [format:LOCALE]\n",
     ),
     (FilterError::UnknownLocale, "unknown locale\n"),
     (FilterError::Memory, "memory\n"),

@@ -140,7 +140,7 @@ const BROKEN: &[Row] = &[
     ("fixdec_lines up", b"", b"", USAGE, 2),
 ];
 
-const USAGE: &[u8] = b"usage: fixdec_lines [skip] [read:LOCALE] [CALL].. [format:LOCALE]\n";
+const USAGE: &[u8] = b"usage: fixdec_lines [OPTION].. [read:LOCALE] [CALL].. [format:LOCALE]\n";
 
 /// The reader is out of memory after the input.
 const NO_MEMORY: &[Row] = &[

@@ -4,52 +4,93 @@ use fixed_decimal::{Call, TextBuf};
 use std::alloc::Global;
 use std::test::Fail;
 
+/// The index, the delimiter and the quotes of a field.
+type FieldRow = (usize, &'static [u8], bool);
+
 /// A field, an input, and the texts of standard output and standard error.
-type Row = (Field<'static>, &'static [u8], &'static [u8], &'static [u8]);
+type Row = (FieldRow, &'static [u8], &'static [u8], &'static [u8]);
 
-/// A field without quotes.
-const fn plain(index: usize, delimiter: &'static [u8]) -> Field<'static> {
-    Field {
-        index,
-        delimiter,
-        is_csv: false,
-    }
-}
+/// No quotes.
+const PLAIN: bool = false;
 
-/// A field of CSV.
-const fn csv(index: usize, delimiter: &'static [u8]) -> Field<'static> {
-    Field {
-        index,
-        delimiter,
-        is_csv: true,
-    }
-}
+/// Quotes as in CSV.
+const CSV: bool = true;
 
 /// Lines whose field is shifted by -2, and those that fail.
 const ROWS: &[Row] = &[
-    (plain(1, b","), b"a,250,b\n,7,\n", b"a,2.50,b\n,0.07,\n", b""),
-    (plain(0, b"\t"), b"250\n7\tx\n", b"2.50\n0.07\tx\n", b""),
-    (plain(2, b","), b"a,b\n1,2,3\n", b"\n1,2,0.03\n", b"line 1: field\n"),
-    (plain(3, b","), b",,,\n", b"\n", b"line 1: start: syntax\n"),
-    (plain(4, b","), b",,,\n", b"\n", b"line 1: field\n"),
-    (plain(1, b","), b"\x00\xff,250,\xc3\x00\n", b"\x00\xff,2.50,\xc3\x00\n", b""),
-    (plain(1, b"\xc2\xb7"), b"\xb7\xc2\xb7250\xc2\xb7\xc2\n", b"\xb7\xc2\xb72.50\xc2\xb7\xc2\n", b""),
-    (plain(1, b","), b"a,250\r\n", b"\n", b"line 1: start: syntax\n"),
-    (plain(1, b","), b"\"a,250,c\n", b"\"a,2.50,c\n", b""),
-    (csv(1, b","), b"a,250\r\n", b"a,2.50\r\n", b""),
-    (csv(1, b","), b"\"a,\"\"b\",250,c\n", b"\"a,\"\"b\",2.50,c\n", b""),
-    (csv(1, b","), b"a,\"250\",c\n", b"a,2.50,c\n", b""),
-    (csv(0, b"."), b"250.x\n", b"\"2.50\".x\n", b""),
-    (csv(1, b","), b"\"a,250\n\"a\",\"250\n", b"\n\n", b"line 1: quote\nline 2: quote\n"),
-    (csv(0, b","), b"\"1\"2\"\",3\n1\"2\",3\n", b"\n\n", b"line 1: quote\nline 2: quote\n"),
-    (csv(0, b","), b"\"2\"\"5\"\n", b"\n", b"line 1: start: syntax\n"),
-    (csv(2, b","), b"\"1,2\",3\n", b"\n", b"line 1: field\n"),
+    (
+        (1, b",", PLAIN),
+        b"a,250,b\n,7,\n",
+        b"a,2.50,b\n,0.07,\n",
+        b"",
+    ),
+    ((0, b"\t", PLAIN), b"250\n7\tx\n", b"2.50\n0.07\tx\n", b""),
+    (
+        (2, b",", PLAIN),
+        b"a,b\n1,2,3\n",
+        b"\n1,2,0.03\n",
+        b"line 1: field\n",
+    ),
+    (
+        (3, b",", PLAIN),
+        b",,,\n",
+        b"\n",
+        b"line 1: start: syntax\n",
+    ),
+    ((4, b",", PLAIN), b",,,\n", b"\n", b"line 1: field\n"),
+    (
+        (1, b",", PLAIN),
+        b"\x00\xff,250,\xc3\x00\n",
+        b"\x00\xff,2.50,\xc3\x00\n",
+        b"",
+    ),
+    (
+        (1, b"\xc2\xb7", PLAIN),
+        b"\xb7\xc2\xb7250\xc2\xb7\xc2\n",
+        b"\xb7\xc2\xb72.50\xc2\xb7\xc2\n",
+        b"",
+    ),
+    (
+        (1, b",", PLAIN),
+        b"a,250\r\n",
+        b"\n",
+        b"line 1: start: syntax\n",
+    ),
+    ((1, b",", PLAIN), b"\"a,250,c\n", b"\"a,2.50,c\n", b""),
+    ((1, b",", CSV), b"a,250\r\n", b"a,2.50\r\n", b""),
+    (
+        (1, b",", CSV),
+        b"\"a,\"\"b\",250,c\n",
+        b"\"a,\"\"b\",2.50,c\n",
+        b"",
+    ),
+    ((1, b",", CSV), b"a,\"250\",c\n", b"a,2.50,c\n", b""),
+    ((0, b".", CSV), b"250.x\n", b"\"2.50\".x\n", b""),
+    (
+        (1, b",", CSV),
+        b"\"a,250\n\"a\",\"250\n",
+        b"\n\n",
+        b"line 1: quote\nline 2: quote\n",
+    ),
+    (
+        (0, b",", CSV),
+        b"\"1\"2\"\",3\n1\"2\",3\n",
+        b"\n\n",
+        b"line 1: quote\nline 2: quote\n",
+    ),
+    (
+        (0, b",", CSV),
+        b"\"2\"\"5\"\n",
+        b"\n",
+        b"line 1: start: syntax\n",
+    ),
+    ((2, b",", CSV), b"\"1,2\",3\n", b"\n", b"line 1: field\n"),
 ];
 
 /// Filters an input, and returns the result and the texts of both sinks.
 fn filtered(
     alloc: Global,
-    field: Field<'_>,
+    field: FieldRow,
     mut input: &[u8],
 ) -> Result<(Result<bool, FilterError>, TextBuf, Vec<u8>), Fail> {
     let mut out = TextBuf::new(alloc);
@@ -61,7 +102,11 @@ fn filtered(
             calls: Vec::from_array(alloc, [Call::MultiplyPow10(-2)])?,
             formatter: None,
         },
-        field: Some(field),
+        field: Some(Field {
+            index: field.0,
+            delimiter: field.1,
+            is_csv: field.2,
+        }),
     };
     let mut lines = ErrorLines::new(&mut err);
     let result = filter_lines(alloc, &filter, &mut input, &mut out, &mut lines);
@@ -84,7 +129,10 @@ fn filters_the_last_of_many_fields(rt: HostRuntime) -> Result<(), Fail> {
     let alloc = rt.alloc();
     let mut input = vec![in alloc; b','; 200_000]?;
     input.extend_from_slice(b"250")?;
-    for field in [plain(200_000, b","), csv(200_000, b",")] {
+    for field in [
+        (200_000, b",".as_slice(), PLAIN),
+        (200_000, b",".as_slice(), CSV),
+    ] {
         let (result, out, err) = filtered(alloc, field, input.as_slice())?;
         assert_eq!(rt; result, Ok(true));
         assert_eq!(rt; out.as_bytes().len(), 200_005);

@@ -80,7 +80,7 @@ const ROWS: &[Row] = &[
         b"7\n",
         (b"", 0),
         (
-            b"usage: fixdec_lines [skip] [read:LOCALE] [CALL].. [format:LOCALE]\n",
+            b"usage: fixdec_lines [OPTION].. [read:LOCALE] [CALL].. [format:LOCALE]\n",
             0,
         ),
         2,

@@ -1,5 +1,4 @@
-use Rattle.std.proofs.Common.{◌≡◌, ◌++◌, Some, Ok, sym, ap, ◌∙◌}
-use Rattle.std.specs.Prelude.{IfSome}
+use Rattle.std.proofs.Common.{◌≡◌, ◌++◌, ap, ◌∙◌}
 use Rattle.std.specs.Cow.{cow_slice_items}
 use Rattle.cli.specs.Fields.{Holds}
 use Rattle.cli.proofs.FieldLines.{field_converted, field_error}

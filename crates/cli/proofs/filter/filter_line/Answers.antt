@@ -20,7 +20,8 @@ pub returns-in-Ok-put_byte-clause-filtered : goal.returns-in-Ok-put_byte-clause-
 returns-in-Ok-put_byte-clause-filtered g c =
     let one : status_of_operation c.in-Err.error ≡ 1 = search rules in
     let filter = c.args.filter.now in
-    let is = error_is_result filter.field filter.conversion c.args.line.now c.in-Err.error one c.in-Err.ensures.fails_with in
+    let is =
+    error_is_result filter.field filter.conversion c.args.line.now c.in-Err.error one c.in-Err.ensures.fails_with in
     let still : c.print.new.sink ≡ c.args.out.now =
     c.in-Err.ensures.unchanged_on_error (λ is. let n : 3 ≡ 1 = ap status_of_operation (sym is) ∙ one in cc) in
     let stop : c.args.filter.now.on_error ≡ Stop → false ≡ true = search rules in
@@ -37,7 +38,8 @@ pub returns-in-Err-put_byte-clause-filtered : goal.returns-in-Err-put_byte-claus
 returns-in-Err-put_byte-clause-filtered g c =
     let one : status_of_operation c.in-Err.error ≡ 1 = search rules in
     let filter = c.args.filter.now in
-    let is = error_is_result filter.field filter.conversion c.args.line.now c.in-Err.error one c.in-Err.ensures.fails_with in
+    let is =
+    error_is_result filter.field filter.conversion c.args.line.now c.in-Err.error one c.in-Err.ensures.fails_with in
     let still : c.print.new.sink ≡ c.args.out.now =
     c.in-Err.ensures.unchanged_on_error (λ is. let n : 3 ≡ 1 = ap status_of_operation (sym is) ∙ one in cc) in
     let stop : c.args.filter.now.on_error ≡ Stop → false ≡ true = search rules in
