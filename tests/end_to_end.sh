@@ -192,10 +192,10 @@ lines 2 '1\n' '' $'unknown locale\n' read:tlh
 lines 2 '1\n' '' $'unknown locale\n' format:tlh
 
 # A field of each line: all other bytes are copied.
-lines 0 'a\t2.345\tb\n\t-1\n' $'a\t2.34\tb\n\t-1\n' '' field:2 round:-2:half-even:1
+lines 0 'a\t2.345\tb\n\t-1\n' $'a\t2.34\tb\n\t-1.00\n' '' field:2 round:-2:half-even:1
 lines 0 'a,250,\xff\n' $'a,2.50,\xff\n' '' delimiter:, field:2 shift:-2
 lines 0 'a€250€b\n' $'a€2.50€b\n' '' delimiter:€ field:2 shift:-2
-lines 0 'tea,"1.234,565"\r\n"a ""b"", c",7' $'tea,"1,234.56"\r\n"a ""b"", c",7\n' '' \
+lines 0 'tea,"1.234,565"\r\n"a ""b"", c",7' $'tea,"1,234.56"\r\n"a ""b"", c",7.00\n' '' \
   csv field:2 read:de round:-2:half-even:1 format:en
 lines 0 '"250",x\n' $'2.50,x\n' '' field:1 csv shift:-2
 lines 1 '1\t2\n3\n' $'1\t20\n' $'line 2: field\n' field:2 shift:1
