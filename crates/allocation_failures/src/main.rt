@@ -6,6 +6,7 @@
 #![tactic(auto)]
 
 mod joins;
+mod locales;
 mod outcome;
 mod roundings;
 mod rules;
@@ -25,6 +26,7 @@ fn of_all(alloc: Global) -> Outcome {
         .and(sinks::of_run(alloc))
         .and(sinks::outcome(alloc))
         .and(rules::outcome(alloc))
+        .and(locales::outcome(alloc))
 }
 
 fn main(rt: HostRuntime) {

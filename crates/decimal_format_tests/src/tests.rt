@@ -1,157 +1,93 @@
 //! Rows of ICU 72 (CLDR 42), and what no row says. A helper holds one value, and returns whether its row holds.
 use decimal_format::GroupingStrategy::{Always, Auto, Min2, Never};
-use decimal_format::{
-    Affixes, DecimalFormatter, DecimalSymbols, GroupingSizes, GroupingStrategy, SymbolsError,
-};
+use decimal_format::{DecimalFormatter, GroupingStrategy};
 use fixed_decimal::{DigitList, DigitStore, PackedDigits, Signed, Sink, UnsignedOver, Writeable};
+use locale_symbols::locale;
 use std::alloc::{AllocError, Global};
 use test_support::{LimitedSink, displays, expand_runs, shows};
 
-/// A locale of the rows.
-#[derive(Clone, Copy)]
-enum Locale {
-    English,
-    Hindi,
-    Persian,
-    Posix,
-    Spanish,
-    Swedish,
-    SwissGerman,
-}
-
-use Locale::{English, Hindi, Persian, Posix, Spanish, Swedish, SwissGerman};
-
-const ASCII: [char; 10] = ['0', '1', '2', '3', '4', '5', '6', '7', '8', '9'];
-
-const DEVANAGARI: [char; 10] = [
-    '\u{966}', '\u{967}', '\u{968}', '\u{969}', '\u{96a}', '\u{96b}', '\u{96c}', '\u{96d}',
-    '\u{96e}', '\u{96f}',
-];
-
-const EXTENDED_ARABIC: [char; 10] = [
-    '\u{6f0}', '\u{6f1}', '\u{6f2}', '\u{6f3}', '\u{6f4}', '\u{6f5}', '\u{6f6}', '\u{6f7}',
-    '\u{6f8}', '\u{6f9}',
-];
-
-/// Returns affixes without a suffix.
-fn prefixed(prefix: &'static str) -> Affixes<'static> {
-    Affixes { prefix, suffix: "" }
-}
-
-/// Returns sizes of groups.
-fn sizes(primary: u8, secondary: u8, min_grouping: u8) -> GroupingSizes {
-    GroupingSizes {
-        primary,
-        secondary,
-        min_grouping,
-    }
-}
-
-/// Makes the symbols of a locale.
-fn symbols(locale: Locale) -> Result<DecimalSymbols<'static>, SymbolsError> {
-    let plus = prefixed("+");
-    let threes = sizes(3, 0, 1);
-    let minus = prefixed("-");
-    match locale {
-        English => DecimalSymbols::new(ASCII, ".", ",", minus, plus, threes),
-        Hindi => DecimalSymbols::new(DEVANAGARI, ".", ",", minus, plus, sizes(3, 2, 1)),
-        Persian => DecimalSymbols::new(
-            EXTENDED_ARABIC,
-            "\u{66b}",
-            "\u{66c}",
-            prefixed("\u{200e}\u{2212}"),
-            prefixed("\u{200e}+"),
-            threes,
-        ),
-        Posix => DecimalSymbols::new(ASCII, ".", ",", minus, plus, sizes(0, 0, 1)),
-        Spanish => DecimalSymbols::new(ASCII, ",", ".", minus, plus, sizes(3, 0, 2)),
-        Swedish => DecimalSymbols::new(ASCII, ",", "\u{a0}", prefixed("\u{2212}"), plus, threes),
-        SwissGerman => DecimalSymbols::new(ASCII, ".", "\u{2019}", minus, plus, threes),
-    }
-}
-
-/// A locale, a strategy, a number, and its text.
-type Row = (Locale, GroupingStrategy, &'static str, &'static str);
+/// A tag, a strategy, a number, and its text.
+type Row = (&'static str, GroupingStrategy, &'static str, &'static str);
 
 /// Texts of ICU.
 const ROWS: &[Row] = &[
-    (English, Auto, "0", "0"),
-    (English, Auto, "-0", "-0"),
-    (English, Auto, "+1234", "+1,234"),
-    (English, Auto, "999", "999"),
-    (English, Auto, "1000", "1,000"),
-    (English, Auto, "0012.50", "0,012.50"),
-    (English, Auto, "1234567.891", "1,234,567.891"),
-    (English, Auto, "-12345.678", "-12,345.678"),
+    ("en", Auto, "0", "0"),
+    ("en", Auto, "-0", "-0"),
+    ("en", Auto, "+1234", "+1,234"),
+    ("en", Auto, "999", "999"),
+    ("en", Auto, "1000", "1,000"),
+    ("en", Auto, "0012.50", "0,012.50"),
+    ("en", Auto, "1234567.891", "1,234,567.891"),
+    ("en", Auto, "-12345.678", "-12,345.678"),
     (
-        English,
+        "en",
         Auto,
         "-987654321098765432109876543210.012345678901234567890123456789",
         "-987,654,321,098,765,432,109,876,543,210.012345678901234567890123456789",
     ),
-    (English, Never, "1234567.891", "1234567.891"),
-    (English, Never, "-12345.678", "-12345.678"),
-    (English, Always, "1234", "1,234"),
-    (English, Always, "999", "999"),
-    (English, Min2, "1234", "1234"),
-    (English, Min2, "12345", "12,345"),
-    (English, Min2, "0001234", "0,001,234"),
-    (Hindi, Auto, "-0.5", "-\u{966}.\u{96b}"),
+    ("en", Never, "1234567.891", "1234567.891"),
+    ("en", Never, "-12345.678", "-12345.678"),
+    ("en", Always, "1234", "1,234"),
+    ("en", Always, "999", "999"),
+    ("en", Min2, "1234", "1234"),
+    ("en", Min2, "12345", "12,345"),
+    ("en", Min2, "0001234", "0,001,234"),
+    ("hi-u-nu-deva", Auto, "-0.5", "-\u{966}.\u{96b}"),
     (
-        Hindi,
+        "hi-u-nu-deva",
         Auto,
         "1234567.891",
         "\u{967}\u{968},\u{969}\u{96a},\u{96b}\u{96c}\u{96d}.\u{96e}\u{96f}\u{967}",
     ),
     (
-        Hindi,
+        "hi-u-nu-deva",
         Auto,
         "123456789",
         "\u{967}\u{968},\u{969}\u{96a},\u{96b}\u{96c},\u{96d}\u{96e}\u{96f}",
     ),
-    (Hindi, Min2, "1234", "\u{967}\u{968}\u{969}\u{96a}"),
-    (Hindi, Min2, "12345", "\u{967}\u{968},\u{969}\u{96a}\u{96b}"),
-    (Spanish, Auto, "1234", "1234"),
-    (Spanish, Auto, "12345", "12.345"),
-    (Spanish, Auto, "-12345.678", "-12.345,678"),
-    (Spanish, Always, "1234", "1.234"),
-    (Spanish, Always, "0012.50", "0.012,50"),
-    (Spanish, Min2, "1234", "1234"),
-    (Spanish, Min2, "12345", "12.345"),
-    (Swedish, Auto, "-12345.678", "\u{2212}12\u{a0}345,678"),
-    (Swedish, Auto, "9999.5", "9\u{a0}999,5"),
+    ("hi-u-nu-deva", Min2, "1234", "\u{967}\u{968}\u{969}\u{96a}"),
     (
-        Persian,
+        "hi-u-nu-deva",
+        Min2,
+        "12345",
+        "\u{967}\u{968},\u{969}\u{96a}\u{96b}",
+    ),
+    ("es", Auto, "1234", "1234"),
+    ("es", Auto, "12345", "12.345"),
+    ("es", Auto, "-12345.678", "-12.345,678"),
+    ("es", Always, "1234", "1.234"),
+    ("es", Always, "0012.50", "0.012,50"),
+    ("es", Min2, "1234", "1234"),
+    ("es", Min2, "12345", "12.345"),
+    ("sv", Auto, "-12345.678", "\u{2212}12\u{a0}345,678"),
+    ("sv", Auto, "9999.5", "9\u{a0}999,5"),
+    (
+        "fa",
         Auto,
         "-12345.678",
         "\u{200e}\u{2212}\u{6f1}\u{6f2}\u{66c}\u{6f3}\u{6f4}\u{6f5}\u{66b}\u{6f6}\u{6f7}\u{6f8}",
     ),
     (
-        Persian,
+        "fa",
         Auto,
         "+1234",
         "\u{200e}+\u{6f1}\u{66c}\u{6f2}\u{6f3}\u{6f4}",
     ),
-    (
-        SwissGerman,
-        Auto,
-        "1234567.891",
-        "1\u{2019}234\u{2019}567.891",
-    ),
+    ("de-CH", Auto, "1234567.891", "1\u{2019}234\u{2019}567.891"),
 ];
 
 /// Texts by sizes of groups that no row of ICU has: no groups, and as ICU4X writes them under `Always`.
 const UNGROUPED: &[Row] = &[
-    (Posix, Auto, "-1234567.5", "-1234567.5"),
-    (Posix, Always, "1234567", "1234567"),
+    ("en-US-u-va-posix", Auto, "-1234567.5", "-1234567.5"),
+    ("en-US-u-va-posix", Always, "1234567", "1234567"),
 ];
 
 /// Whether a value has this text in a locale, with the exact length, and by Display.
 fn formats_as<D: DigitStore>(
     alloc: Global,
-    (locale, strategy, number, text): (Locale, GroupingStrategy, &str, &str),
+    (tag, strategy, number, text): (&str, GroupingStrategy, &str, &str),
 ) -> bool {
-    let Ok(symbols) = symbols(locale) else {
+    let Some(symbols) = locale(tag) else {
         return false;
     };
     let Ok(value) = Signed::<UnsignedOver<D>>::try_from_str(alloc, number) else {
@@ -165,7 +101,7 @@ fn formats_as<D: DigitStore>(
 }
 
 /// The same over each store.
-fn formats_over_each(alloc: Global, row: (Locale, GroupingStrategy, &str, &str)) -> bool {
+fn formats_over_each(alloc: Global, row: (&str, GroupingStrategy, &str, &str)) -> bool {
     formats_as::<DigitList>(alloc, row) && formats_as::<PackedDigits>(alloc, row)
 }
 
@@ -180,8 +116,8 @@ fn texts_are_those_of_icu(rt: HostRuntime) {
 }
 
 /// Whether writing fails with each sink without room for the whole text, which takes a prefix.
-fn fails_with_each_sink(alloc: Global, (locale, strategy, number, text): Row) -> bool {
-    let Ok(symbols) = symbols(locale) else {
+fn fails_with_each_sink(alloc: Global, (tag, strategy, number, text): Row) -> bool {
+    let Some(symbols) = locale(tag) else {
         return false;
     };
     let Ok(value) = Signed::<UnsignedOver<PackedDigits>>::try_from_str(alloc, number) else {
@@ -211,16 +147,16 @@ fn fails_with_the_sink(rt: HostRuntime) {
 }
 
 /// A number and its text, in parts.
-const LONG: &[(Locale, GroupingStrategy, &str, &str)] = &[
+const LONG: &[Row] = &[
     (
-        English,
+        "en",
         Auto,
         "- 9*32768 . 9*32768",
         "- 99 ,999*10922 . 9*32768",
     ),
-    (Posix, Always, "1 0*64", "1 0*64"),
+    ("en-US-u-va-posix", Always, "1 0*64", "1 0*64"),
     (
-        Hindi,
+        "hi-u-nu-deva",
         Auto,
         "8*32768 .5",
         "\u{96e} ,\u{96e}\u{96e}*16382 ,\u{96e}\u{96e}\u{96e} .\u{96b}",
@@ -228,10 +164,10 @@ const LONG: &[(Locale, GroupingStrategy, &str, &str)] = &[
 ];
 
 /// Whether a long value has its text.
-fn formats_long(alloc: Global, (locale, strategy, number, text): Row) -> Result<bool, AllocError> {
+fn formats_long(alloc: Global, (tag, strategy, number, text): Row) -> Result<bool, AllocError> {
     let number = expand_runs(alloc, number)?;
     let text = expand_runs(alloc, text)?;
-    Ok(formats_over_each(alloc, (locale, strategy, number.as_str(), text.as_str())))
+    Ok(formats_over_each(alloc, (tag, strategy, number.as_str(), text.as_str())))
 }
 
 #[test]

@@ -5,6 +5,8 @@
 //! row that fails is printed with its line number; the last line counts the rows.
 #![tactic(auto)]
 
+ghost use Rattle.decimal_format.specs.Readable.{IsReadable};
+
 use decimal_format::{DecimalFormatter, DecimalSymbols, GroupingStrategy};
 use fixed_decimal::{Decimal, ParseError, Writeable};
 use locale_symbols::locale;
@@ -40,10 +42,9 @@ fn writes(formatter: &DecimalFormatter<'_>, value: &Decimal, text: &str) -> bool
 }
 
 /// Whether both readers read a text as this value.
-fn reads_back(alloc: Global, symbols: &DecimalSymbols<'_>, value: &Decimal, text: &str) -> bool {
-    if !symbols.is_readable() {
-        return false;
-    }
+fn reads_back(alloc: Global, symbols: &DecimalSymbols<'_>, value: &Decimal, text: &str) -> bool
+    requires { IsReadable symbols.now }
+{
     let strict: Result<Decimal, ParseError> = symbols.read(alloc, text.as_bytes());
     let lenient: Result<Decimal, ParseError> = symbols.read_lenient(alloc, text);
     match (strict, lenient) {
@@ -59,7 +60,9 @@ fn has_text(
     strategy: GroupingStrategy,
     number: &str,
     text: &str,
-) -> bool {
+) -> bool
+    requires { IsReadable symbols }
+{
     let formatter = DecimalFormatter::new(symbols, strategy);
     match Decimal::try_from_str(alloc, number) {
         Ok(value) => {
