@@ -58,6 +58,23 @@ const TYPED: &[(&str, &str, &str)] = &[
     ("fa", "\u{2212}\u{6f1}\u{66c}234", "-1234"),
     ("ar-SA", "\u{200f}-\u{661}", "-1"),
     ("hi-u-nu-deva", "+1,23,456", "+123456"),
+    ("hi-u-nu-deva", "1,23456", "123456"),
+    ("en-US", "1234,567", "1234567"),
+    ("en-US", "-1,234567.50", "-1234567.50"),
+    ("fr-CA", "1234 567,5", "1234567.5"),
+];
+
+/// Texts that no number has, as people type it either.
+const NOT_TYPED: &[(&str, &str)] = &[
+    ("en-US", "12,34"),
+    ("en-US", "1,23,456"),
+    ("en-US", "1,,234"),
+    ("en-US", "1,234,"),
+    ("en-US", ",123"),
+    ("en-US", "1,234.5,6"),
+    ("en-US-u-va-posix", "1,234"),
+    ("fr-CA", "12 34"),
+    ("hi-u-nu-deva", "1,234567"),
 ];
 
 #[test]
@@ -79,6 +96,17 @@ fn rejects_other_texts(rt: HostRuntime) -> Result<(), Fail> {
         let symbols = locale(tag).ok_or("locale")?;
         assert!(rt; symbols.is_readable(), "{tag}");
         let read: Result<Decimal, ParseError> = symbols.read(rt.alloc(), text.as_bytes());
+        assert!(rt; matches!(read, Err(ParseError::Syntax)), "{text}");
+    }
+    Ok(())
+}
+
+#[test]
+fn rejects_separators_within_groups(rt: HostRuntime) -> Result<(), Fail> {
+    for (tag, text) in NOT_TYPED {
+        let symbols = locale(tag).ok_or("locale")?;
+        assert!(rt; symbols.is_readable(), "{tag}");
+        let read: Result<Decimal, ParseError> = symbols.read_lenient(rt.alloc(), text);
         assert!(rt; matches!(read, Err(ParseError::Syntax)), "{text}");
     }
     Ok(())
