@@ -302,12 +302,15 @@ module _ (s : Symbols) (may : ℕ → Bool) (n : ℕ) (bytes : List ℕ) where
             e ∙ ap (λ l. digit_text s d ++ l) (skips.text ∙ (λ i. separator_if s (sym chosen i) ++ k i))
             ∙ sym (digits_text-first s f d es tail) in
             so_far.completes later
-            (λ m high. same m (omega (arith, one, high)) ∙ choose_above so_far.chosen less m b (omega (arith, one, high)))
+            (λ m high. same m (omega (arith, one, high))
+            ∙ choose_above so_far.chosen less m b (omega (arith, one, high)))
             (d ∷ es) tail (omega (arith, size, one)) here
             ∙ ap (λ l. digits_text s f l ++ tail) (sym (append_assoc so_far.digits (d ∷ []) es));
-        all = agree_more may so_far.chosen less b skips.allowed (separated_if may (λ _. true)) left n all more_all one within
+        all = agree_more may so_far.chosen less b skips.allowed (separated_if may (λ _. true)) left n all more_all one
+            within
             so_far.all (subst (λ x. more_all ≡ true ↔ ((all ≡ true) × (b ≡ x))) (sym (and_true (may less))) step_all);
-        none = agree_more may so_far.chosen less b skips.allowed (separated_if may (λ _. false)) left n none more_none one
+        none = agree_more may so_far.chosen less b skips.allowed (separated_if may (λ _. false)) left n none more_none
+            one
             within so_far.none
             (subst (λ x. more_none ≡ true ↔ ((none ≡ true) × (b ≡ x))) (sym (and_false (may less))) step_none);
         plain = λ before k. subst (IsPlain new) (append_assoc before (ascii_digits_of so_far.digits) ((48 + d) ∷ [])
@@ -415,7 +418,8 @@ module _ (s : Symbols) (may : ℕ → Bool) (n : ℕ) (bytes : List ℕ) where
                 ≡ separator_if s (p && q) ++ (digits_text s (separated_if may chosen) es ++ tail)
                 → next ≡ digits_text s (separated_if may chosen) es ++ tail
             go es size digits true at true true is same = append_cancel_left s.grouping next _ same
-            go es size digits true at true false is same = absurd (skips.none is at _ (skips.text ∙ ap (λ x. separator_if s x ++ next) is
+            go es size digits true at true false is same =
+                absurd (skips.none is at _ (skips.text ∙ ap (λ x. separator_if s x ++ next) is
                 ∙ same))
             go es size digits true at false true is same = absurd (digit_follows es size digits at (sym same))
             go es size digits true at false false is same = same

@@ -76,7 +76,7 @@ impl<'a> DecimalSymbols<'a> {
         grouped && ends_group(self.sizes(), magnitude)
     }
 
-    /// Returns whether there is a grouping separator at the start of a text where there may be one, and what follows it.
+    /// Returns whether a text begins with a grouping separator, where one is possible, and what follows it.
     fn skip_separator<'t>(&self, possible: bool, text: &'t [u8]) -> (bool, &'t [u8])
         ensures { SkipsSeparator self.now possible text.now result.1.now result.0 }
     {

@@ -36,7 +36,8 @@ loop-left-preserved c =
     record {
       read = read_more s may n c.args.text.now rest after next digit left (left - 1) found c.loop-left.all
           c.loop-left.none _ _ c.args.plain.now c.loop-left.plain c.push.new.self below one begins skips
-          (all_step c.loop-left.all found c.may_separate-possible.result (may (left - 1)) c.may_separate-possible.ensures)
+          (all_step c.loop-left.all found c.may_separate-possible.result (may (left - 1))
+          c.may_separate-possible.ensures)
           (none_step c.loop-left.none found)
           c.push.ensures c.loop-left.invariant.read;
       leaves = leaves_less s may n c.args.text.now c.requires rest after next digit left (left - 1) found below one

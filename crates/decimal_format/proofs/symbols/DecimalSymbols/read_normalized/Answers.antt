@@ -13,7 +13,8 @@ pub returns-clause-found : goal.returns-clause-found
 returns-clause-found g c =
     let s = c.args.self.now in
     let e = c.in-Some.ensures (normalized s c.args.text.now) c.normalized-plain.ensures in
-    subst (λ (l : List ℕ). IfOk c.read_any_groups.result (λ v. IsLenientlyWritten s v l)) e c.read_any_groups.ensures.found
+    subst (λ (l : List ℕ). IfOk c.read_any_groups.result (λ v. IsLenientlyWritten s v l)) e
+    c.read_any_groups.ensures.found
 
 pub returns-clause-reads_back : goal.returns-clause-reads_back
 returns-clause-reads_back g c = λ v valid written.
@@ -31,7 +32,8 @@ pub returns-clause-limit : goal.returns-clause-limit
 returns-clause-limit g c = λ h.
     let s = c.args.self.now in
     let e = c.in-Some.ensures (normalized s c.args.text.now) c.normalized-plain.ensures in
-    subst (λ (l : List ℕ). (w : Numeral) × IsLenientNumeral s l w × IsBeyondLimits w) e (c.read_any_groups.ensures.limit.0 h)
+    subst (λ (l : List ℕ). (w : Numeral) × IsLenientNumeral s l w × IsBeyondLimits w) e
+    (c.read_any_groups.ensures.limit.0 h)
 
 pub returns-clause-memory : goal.returns-clause-memory
 returns-clause-memory g c = λ h.
