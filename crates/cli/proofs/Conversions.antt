@@ -98,7 +98,8 @@ module _ (c : Conversion) (text : List ℕ) where
   -- ---- The errors of the parts.
 
   -- an error of reading
-  pub reading_fails : (why : ParseError) → ReadingFails c.reader text why → OperationsFail (error_of_run (Start why)) c text
+  pub reading_fails :
+      (why : ParseError) → ReadingFails c.reader text why → OperationsFail (error_of_run (Start why)) c text
   reading_fails parse.Syntax h = (start syntax, refl, record { read = Err syntax; is_read = h; is = refl })
   reading_fails parse.Limit h = (start limit, refl, record { read = Err limit; is_read = h; is = refl })
   reading_fails parse.Memory h = inl h
@@ -114,7 +115,8 @@ module _ (c : Conversion) (text : List ℕ) where
     }
 
     -- an error of the calls
-    pub calls_fail : (why : RunError) → CallsFail INLINE_DIGITS why v c.calls.items → OperationsFail (error_of_run why) c text
+    pub calls_fail :
+        (why : RunError) → CallsFail INLINE_DIGITS why v c.calls.items → OperationsFail (error_of_run why) c text
     calls_fail (Operand at parse.Limit) h = (_, refl, read_outcome (Err _) h)
     calls_fail (Operand at parse.Syntax) h = (_, refl, read_outcome (Err _) h)
     calls_fail (Operand at parse.Memory) h = inr (v, read, (Operand at parse.Memory, h, refl))

@@ -9,7 +9,7 @@ use Rattle.std.proofs.Math.Seq.{take-suc, drop-cons}
 use Rattle.std.specs.Io.KnownBytes.{Appends}
 use Rattle.std.proofs.KnownBytes.{Appends-trans}
 use Rattle.decimal_digits.specs.AppendsPrefix.{AppendsPrefix}
-use Rattle.decimal_digits.proofs.Sinks.{prefix_more, then_prefix}
+use Rattle.fixed_decimal.proofs.Calling.{prefix_more, then_prefix}
 use Rattle.cli.specs.Fields.{quote, is_quote, double, doubled, quoted}
 
 -- ---- The first byte of a text in quotes.

@@ -100,7 +100,8 @@ ReaderFails _ _ = ⊥
 
 -- the parameters after `format:` name no formatter: the option is that of no strategy, or the locale is unknown
 abbrev pub FormatterFails : Option (List ℕ) → WordsError → Type 0
-FormatterFails (Some parameters) Usage = (strategy : GroupingStrategy) → ¬ IsStrategyOption (option_of parameters) strategy
+FormatterFails (Some parameters) Usage =
+    (strategy : GroupingStrategy) → ¬ IsStrategyOption (option_of parameters) strategy
 FormatterFails (Some parameters) UnknownLocale = locales.IsUnknown (tag_of parameters)
 FormatterFails _ _ = ⊥
 

@@ -109,7 +109,9 @@ module _ {D : Type 0} (reports : D → FilterError → D → Type 0) (filter : F
   abbrev pub FiltersNext : Effects D → Result (Option Bool) FilterError → Type 0
   FiltersNext effects (Ok None) = HasNoLine effects.input × IsSilent effects
   FiltersNext effects (Ok (Some has_text)) =
-      (line : List ℕ) × IsNextLine effects.input line × FiltersLine line effects.output effects.diagnostics (Ok has_text)
+      (line : List ℕ) × IsNextLine effects.input line
+      × FiltersLine line effects.output effects.diagnostics (Ok has_text)
   FiltersNext effects (Err error) =
-      ((line : List ℕ) × IsNextLine effects.input line × FiltersLine line effects.output effects.diagnostics (Err error))
+      ((line : List ℕ) × IsNextLine effects.input line
+      × FiltersLine line effects.output effects.diagnostics (Err error))
       ⊎ (((why : Error) × IsErrorOfReading number why error) × IsSilent effects)

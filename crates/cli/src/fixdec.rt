@@ -78,11 +78,10 @@ fn print<O: Write>(alloc: Global, words: &[String], out: &mut Out<O>) -> Result<
 /// Runs the program on the words after its name, and returns the exit status.
 ///
 /// A first word `read:LOCALE` or `read:LOCALE:lenient` reads the text in the form of the locale; a last word
-/// `format:LOCALE` or `format:LOCALE:GROUPING` writes the result so. The first other word is the text. Each word after it
-/// is a call: `shift:D`, `trim-start`, `trim-end`, `trim-end-if-integer`,
-/// `pad-start:P`, `pad-end:P`, `max:P`, `round:P:MODE:INC`, `sign:SIGN`, `display:DISPLAY` or `concat:TEXT`, whose text
-/// is all that follows the colon. D and P are an optional minus and one to six digits, from -32768 to 32767. The words
-/// `250` and `shift:-2` print `2.50`.
+/// `format:LOCALE` or `format:LOCALE:GROUPING` writes the result so. The first other word is the text. Each word after
+/// it is a call: `shift:D`, `trim-start`, `trim-end`, `trim-end-if-integer`, `pad-start:P`, `pad-end:P`, `max:P`,
+/// `round:P:MODE:INC`, `sign:SIGN`, `display:DISPLAY` or `concat:TEXT`, whose text is all that follows the colon. D and
+/// P are an optional minus and one to six digits, from -32768 to 32767. The words `250` and `shift:-2` print `2.50`.
 ///
 /// # Errors
 ///

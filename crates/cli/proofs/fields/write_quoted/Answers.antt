@@ -1,4 +1,4 @@
-use Rattle.decimal_digits.proofs.Results.{on_err}
+use Rattle.fixed_decimal.proofs.Calling.{on_err}
 use Rattle.cli.proofs.Quotes.{quoted_part, quoted_more}
 use Rattle.cli.proofs.fields.write_quoted.Goals as goal
 

@@ -42,7 +42,8 @@ returns-clause-printed g c = λ _.
     let contents = g.O.Write.contents in
     let words = c.in-Ok.words.items in
     let zero : c.program-status.result ≡ 0 = search rules in
-    let taken : writer_contents contents c.in-Ok-open.buffered.0 ≡ contents c.args.out = c.in-Ok-open.ensures.contents in
+    let taken : writer_contents contents c.in-Ok-open.buffered.0 ≡ contents c.args.out =
+    c.in-Ok-open.ensures.contents in
     let printed : Prints words (contents c.args.out) (writer_contents contents c.program-status.new.out.0) =
     rw (taken, c.as_slice.ensures.value) at (c.program-status.ensures.printed zero) in
     let written : c.close-closed.result.1 ≡ false = search rules in

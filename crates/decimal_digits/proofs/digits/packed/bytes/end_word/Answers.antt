@@ -13,7 +13,8 @@ returns-in-Some c =
     omega (arith, c.requires.enough, c.requires.few) in
     let small : (i : ℕ) → get_or end i 0 < 256 = λ i.
     rw (last, get_or-drop) (c.type_inv.bytes (length bs - 8 + i)).fits in
-    shifted_end end c.args.count _ c.from_be_bytes.result (ap length last ∙ length-drop (length bs - 8) bs ∙ omega (arith, c.requires.enough))
+    shifted_end end c.args.count _ c.from_be_bytes.result
+    (ap length last ∙ length-drop (length bs - 8) bs ∙ omega (arith, c.requires.enough))
     c.requires.few small refl c.from_be_bytes.ensures
     ∙ ap (λ l. number_from_digits 256 (l ++ replicate (8 - c.args.count) 0))
     (ap (drop (8 - c.args.count)) last ∙ drop-drop (8 - c.args.count) (length bs - 8) bs ∙ ap (λ j. drop j bs) at)

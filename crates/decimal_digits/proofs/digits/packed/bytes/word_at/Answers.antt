@@ -42,4 +42,5 @@ returns-then-rest-lt8 c =
     let few : c.args.len - c.args.start ≤ 16 = omega (arith, after.packed_prefix.enough) in
     let word : c.end_word.result ≡ number_from_digits 256 (rest ++ replicate (8 - length rest) 0) =
     rw at at (rw take_rest at c.end_word.ensures) in
-    word ∙ rw whole at (word_encodes rest (c.args.len - c.args.start) after.packed_prefix few) ∙ ap bcd_number after.digits
+    word ∙ rw whole at (word_encodes rest (c.args.len - c.args.start) after.packed_prefix few)
+    ∙ ap bcd_number after.digits
