@@ -1,5 +1,5 @@
 -- The words of options, one by one.
-use Rattle.std.proofs.Common.{◌≡◌, ℕ, ◌-◌, ◌≤◌, List, [], ◌∷◌, length, take, drop, get_or, inl, inr, refl, String, string_bytes, Global, arith}
+use Rattle.std.proofs.Common.{◌≡◌, ◌-◌, ◌≤◌, List, [], ◌∷◌, length, take, drop, get_or, inl, inr, refl, String, string_bytes, Global, arith}
 use Rattle.cli.specs.declared.options.Options.{Options}
 use Rattle.cli.specs.Options.{Adds, AreOptions}
 use Rattle.cli.proofs.Programs.{after_first}

@@ -1,5 +1,5 @@
 -- The filter that the words of `fixdec_lines` name, and its result on an input.
-use Rattle.std.specs.Prelude.{◌≡◌, ◌≢◌, ◌⊎◌, ℕ, ⊤, Bool, true, List, [], ◌∷◌, String, Option, MatchOption, Result, Ok, Err}
+use Rattle.std.specs.Prelude.{◌≡◌, ◌⊎◌, ℕ, ⊤, Bool, true, List, String, Option, MatchOption, Result, Ok, Err}
 use Rattle.std.specs.declared.alloc.Global.{Global}
 use Rattle.cli.specs.ConversionWords.{IsReadSplit, NamesConversion, ConversionFails}
 use Rattle.cli.specs.Options.{none, AreOptions, HasField}

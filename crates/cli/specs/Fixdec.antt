@@ -1,5 +1,5 @@
 -- The run that the words of `fixdec` name, and its result.
-use Rattle.std.specs.Prelude.{◌⊎◌, ◌≡◌, ◌≢◌, ℕ, ⊤, Bool, true, Any, List, [], ◌∷◌, ◌++◌, String, string_bytes}
+use Rattle.std.specs.Prelude.{◌⊎◌, ◌≡◌, ℕ, Bool, true, List, [], ◌∷◌, ◌++◌, String, string_bytes}
 use Rattle.std.specs.Prelude.{Option, MatchOption}
 use Rattle.std.specs.Io.KnownBytes.{Appends, append_known}
 use Rattle.std.specs.declared.alloc.Global.{Global}

@@ -1,5 +1,5 @@
 //! Conversions: a text is read, calls are made on its decimal, and the text of the result is written.
-ghost use Rattle.std.specs.Prelude.{◌≡◌, ◌≢◌, Ok, Err, None, true, IfOk, IfErr, OnOk, OnErr};
+ghost use Rattle.std.specs.Prelude.{◌≡◌, ◌≢◌, Ok, Err, true, IfOk, IfErr, OnOk, OnErr};
 ghost use Rattle.std.specs.Io.KnownBytes.{Appends};
 ghost use Rattle.decimal_digits.specs.AppendsPrefix.{AppendsPrefix};
 ghost use Rattle.cli.specs.Conversion.{IsReadAs, ReadingFails, text_by, IsOutcome, HasOutcome, OperationsFail};
@@ -7,9 +7,7 @@ ghost use Rattle.cli.specs.Conversion.{IsReadAs, ReadingFails, text_by, IsOutcom
 use crate::error::OperationError;
 use crate::reader::DecimalReader;
 use decimal_format::DecimalFormatter;
-use fixed_decimal::{
-    Call, Decimal, ParseError, RunError, Sink, SinkFault, Writeable, apply_calls, run,
-};
+use fixed_decimal::{Call, Decimal, ParseError, RunError, Sink, SinkFault, Writeable, apply_calls};
 use std::alloc::Global;
 
 /// How a text is read, what is done to its decimal, and how the result is written.
@@ -24,13 +22,6 @@ pub struct Conversion<'a> {
 }
 
 impl<'a> Conversion<'a> {
-    /// Returns whether texts are read and written as decimals' own.
-    fn is_plain(&self) -> bool
-        ensures { result ≡ true → (self.now.reader ≡ None) × (self.now.formatter ≡ None) }
-    {
-        self.reader.is_none() && self.formatter.is_none()
-    }
-
     /// Reads a text.
     fn read(&self, alloc: Global, text: &[u8]) -> Result<Decimal, ParseError>
         ensures found { IfOk result (λ v. IsReadAs self.now.reader text.now (Ok v)) }
@@ -73,29 +64,6 @@ impl<'a> Conversion<'a> {
     }
 }
 
-/// Converts a text that is a decimal's own to the own text of the result. It moves no decimal, so it is faster.
-fn convert_plain<W: Sink>(
-    alloc: Global,
-    conversion: &Conversion<'_>,
-    text: &[u8],
-    sink: &mut W,
-) -> Result<(), OperationError>
-    requires reader { conversion.now.reader ≡ None }
-    requires formatter { conversion.now.formatter ≡ None }
-    ensures written { OnOk result (HasOutcome conversion.now text.now
-        (Appends (W.contents sink.old) (W.contents sink.new))) }
-    ensures fails_with { IfErr result (λ error. OperationsFail error conversion.now text.now) }
-    ensures unchanged_on_error { IfErr result (λ error. error ≢ OperationError.Output → sink.new ≡ sink.old) }
-    ensures failed { result ≡ Err OperationError.Output → W.has_failed sink.new ≡ true }
-    ensures prefix { result ≡ Err OperationError.Output → HasOutcome conversion.now text.now
-        (AppendsPrefix (W.contents sink.old) (W.contents sink.new)) }
-{
-    match run(alloc, text, conversion.calls.as_slice(), sink) {
-        Ok(()) => Ok(()),
-        Err(error) => Err(OperationError::from(error)),
-    }
-}
-
 /// Converts a text, and appends the text of the result to a sink.
 ///
 /// With a reader of `de` in mode `Strict`, the call `Round(-2, HalfEven, MultiplesOf1)` and a formatter of `en-IN` with
@@ -123,9 +91,6 @@ pub fn convert<W: Sink>(
     ensures prefix { result ≡ Err OperationError.Output → HasOutcome conversion.now text.now
         (AppendsPrefix (W.contents sink.old) (W.contents sink.new)) }
 {
-    if conversion.is_plain() {
-        return convert_plain(alloc, conversion, text, sink);
-    }
     let value = conversion.value(alloc, text)?;
     conversion.write(&value, sink)?;
     Ok(())
