@@ -294,6 +294,14 @@ done 2> /dev/null
 [ "$reported" != 0 ] && [ "$printed" != 0 ]
 judge "with little memory it reported memory $early times, that of a line $reported times, and read it $printed times"
 
+# Blocks of lines on many processors, where Debian's parallel is installed.
+if command -v parallel > /dev/null; then
+  seq -f %.3f 1 0.377 40000 > "$room/in"
+  cmp -s <("$room/fixdec_lines" round:-2:half-even:1 < "$room/in") \
+    <(parallel --pipepart -a "$room/in" --block -1 -k "$room/fixdec_lines" round:-2:half-even:1 2> /dev/null)
+  judge 'parallel writes other bytes'
+fi
+
 help fixdec_lines 'usage: fixdec_lines [OPTION].. [read:LOCALE] [CALL].. [format:LOCALE]'
 
 # ---- plural
