@@ -1,19 +1,19 @@
 -- The nibbles of a number in base 16, the highest first.
 use Rattle.std.proofs.Common.{◌≡◌, ℕ, zero, suc, ◌+◌, ◌-◌, ◌*◌, ◌/◌, ◌%◌, ◌^◌, ◌<◌, ◌≤◌, List, [], ◌∷◌, ◌++◌, length, get_or, take, replicate, refl, sym, ◌∙◌, ap, arith}
 use Rattle.std.specs.Prelude.{All}
-use Rattle.std.specs.Int.{w32, w64, to_be_bytes, from_be_bytes, bytes_high_first, byte_at}
+use Rattle.std.specs.Int.{w64, to_be_bytes, bytes_high_first, byte_at}
 use Rattle.std.specs.Int.Digits.{number_from_digits_after, number_from_digits, AllBelowBase}
 use Rattle.std.proofs.Math.Nat.{pow-le-pow_right}
 use Rattle.std.proofs.lemmas.Grind.{same_number_lists}
 use Rattle.std.proofs.lemmas.Nat.{div-mul-add, mod-mul-add, mul-pow, pow-add}
 use Rattle.std.proofs.lemmas.List.{length-append, length-replicate, length-take, length-take-le, get_or_past, take_all}
 use Rattle.std.proofs.lemmas.List.Elements.{All-append, All-from_recursion, All-replicate, recursion_from_All}
-use Rattle.std.proofs.lemmas.Int.Digits.{number_after_append, number_lt, number_more}
+use Rattle.std.proofs.lemmas.Int.Digits.{number_lt, number_more}
 use Rattle.decimal_digits.specs.Nibbles.{nibbles, digits_in, leading_bytes, padded, bcd_number, IsPacked}
-use Rattle.decimal_digits.specs.Packing.{Encodes, EncodesPrefix, IsPackedPrefix}
+use Rattle.decimal_digits.specs.Packing.{Encodes}
 use Rattle.decimal_digits.proofs.DigitLists.{below_take, number_after, number_pad}
 use Rattle.decimal_digits.proofs.Nibbles.{nibble_rules}
-use Rattle.decimal_digits.proofs.Packing.{encodes, encodes_prefix}
+use Rattle.decimal_digits.proofs.Packing.{encodes, front_digits}
 
 -- two nibbles to a byte
 pub squares : (k : ℕ) → 16 ^ (2 * k) ≡ 256 ^ k
@@ -142,45 +142,14 @@ leading_bytes_encode ds len n l few h e =
       grind (arith, nibble_rules),
     )
 
--- all bytes of a number hold the digits in its first bytes
-pub leading_bytes_packed : (number len : ℕ) → IsPacked (leading_bytes number len) len
-    → EncodesPrefix (to_be_bytes w64 number) len (digits_in (leading_bytes number len) len)
+-- all bytes of a number begin with the digits in its first bytes
+pub leading_digits : (number len : ℕ) → IsPacked (leading_bytes number len) len
+    → (len ≤ 16) × (digits_in (to_be_bytes w64 number) len ≡ digits_in (leading_bytes number len) len)
 unfolding leading_bytes
-leading_bytes_packed number len p = encodes_prefix _ _ _ (grind (arith, nibble_rules))
-
--- ---- bytes padded with trailing zeros
-four_bytes : (bs : List ℕ) → length bs ≡ 4 → from_be_bytes w32 bs ≡ number_from_digits 256 bs
-four_bytes [] h = absurd (omega arith)
-four_bytes (a ∷ []) h = absurd (omega arith)
-four_bytes (a ∷ (b ∷ [])) h = absurd (omega arith)
-four_bytes (a ∷ (b ∷ (c ∷ []))) h = absurd (omega arith)
-four_bytes (a ∷ (b ∷ (c ∷ (d ∷ [])))) h = omega arith
-four_bytes (a ∷ (b ∷ (c ∷ (d ∷ (x ∷ xs))))) h = absurd (omega arith)
-
--- four bytes and up to four others, padded with trailing zeros to eight
-pub after_four : (front rest : List ℕ) → length front ≡ 4 → length rest ≤ 4
-    → from_be_bytes w32 front * 2 ^ 32 + number_from_digits 256 (rest ++ replicate (4 - length rest) 0)
-    ≡ number_from_digits 256 ((front ++ rest) ++ replicate (8 - length (front ++ rest)) 0)
-after_four front rest four few =
-    let n : 8 - length (front ++ rest) ≡ 4 - length rest = omega (arith, length-append front rest) in
-    let m : length rest + (4 - length rest) ≡ 4 = omega arith in
-    let p : 256 ^ length rest * 256 ^ (4 - length rest) ≡ 256 ^ 4 = rw (← pow-add, m) refl in
-    rw (
-      four_bytes front four,
-      number_pad 256 (8 - length (front ++ rest)) (front ++ rest),
-      number_pad 256 (4 - length rest) rest,
-      number_after_append 256 0 front rest,
-      number_after 256 (number_from_digits 256 front) rest,
-      n,
-    ) (omega (arith, ap (λ q. number_from_digits 256 front * q) p))
-
--- up to four bytes, padded with trailing zeros to eight
-pub before_four : (bs : List ℕ) → length bs ≤ 4
-    → number_from_digits 256 (bs ++ replicate (4 - length bs) 0) * 2 ^ 32
-    ≡ number_from_digits 256 (bs ++ replicate (8 - length bs) 0)
-before_four bs few =
-    let n : 8 - length bs ≡ (4 - length bs) + 4 = omega arith in
-    rw (number_pad 256 (4 - length bs) bs, number_pad 256 (8 - length bs) bs, n, pow-add) (omega arith)
+leading_digits number len p = (
+  omega (arith, p.count, length-take ((len + 1) / 2) (to_be_bytes w64 number)),
+  sym (front_digits (to_be_bytes w64 number) len),
+)
 
 -- the number of the nibbles in base 16 is that of the bytes in base 256
 pub bytes_number : (n : ℕ) (bs : List ℕ)
@@ -190,16 +159,3 @@ bytes_number n [] = refl
 bytes_number n (b ∷ bs) =
     let e : (n * 16 + b / 16) * 16 + b % 16 ≡ n * 256 + b = omega arith in
     ap (λ m. number_from_digits_after 16 m (nibbles bs)) e ∙ bytes_number (n * 256 + b) bs
-
--- the bytes of up to sixteen digits, padded with trailing zeros to eight, are the BCD number of the digits
-pub word_encodes : (bytes : List ℕ) (len : ℕ) → IsPackedPrefix bytes len → len ≤ 16
-    → (let front = take ((len + 1) / 2) bytes in number_from_digits 256 (front ++ replicate (8 - length front) 0))
-    ≡ bcd_number (digits_in bytes len)
-unfolding bcd_number
-word_encodes bytes len p few =
-    let front = take ((len + 1) / 2) bytes in
-    let ds = digits_in bytes len in
-    let all : nibbles (front ++ replicate (8 - length front) 0) ≡ ds ++ replicate (16 - length ds) 0 =
-    same_number_lists _ _ (grind (arith, nibble_rules)) (λ k h. grind (arith, nibble_rules)) in
-    let count : length ds ≤ 16 = omega (arith, length-take len (nibbles bytes)) in
-    sym (bytes_number 0 _) ∙ ap (number_from_digits 16) (all ∙ padded_few 16 ds count)

@@ -15,4 +15,4 @@ pub mod Packing
 pub mod Sinks
 pub mod DigitTexts
 pub mod LeadingBytes
-pub mod InlineBcd
+pub mod Words

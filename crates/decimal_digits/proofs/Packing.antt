@@ -1,10 +1,11 @@
 -- The digits that packed bytes hold.
-use Rattle.std.proofs.Common.{◌≡◌, ℕ, ◌+◌, ◌*◌, ◌/◌, ◌%◌, ◌<◌, ◌≤◌, List, [], length, get_or, take, sym, ◌∙◌, ap, arith}
-use Rattle.std.proofs.lemmas.List.{get_or_default}
+use Rattle.std.proofs.Common.{◌≡◌, ℕ, zero, suc, ◌+◌, ◌*◌, ◌/◌, ◌%◌, ◌<◌, ◌≤◌, List, [], ◌-◌, ◌++◌, length, max, get_or, take, drop, replicate, inl, inr, refl, sym, ◌∙◌, ap, arith}
+use Rattle.std.proofs.lemmas.Bool.{cases_lt}
 use Rattle.std.proofs.lemmas.Grind.{same_number_lists}
+use Rattle.std.proofs.lemmas.List.{get_or_default, get_or_past, get_or-take}
 use Rattle.std.specs.Prelude.{All}
 use Rattle.decimal_digits.specs.Nibbles.{nibbles, digits_in, IsPacked}
-use Rattle.decimal_digits.specs.Packing.{Encodes, EncodesPrefix, IsPackedPrefix, packed_prefix, length_packed}
+use Rattle.decimal_digits.specs.Packing.{Encodes, EncodesPadded, IsPadded, padding, length_digits, length-nibbles}
 use Rattle.decimal_digits.proofs.Nibbles.{nibble_rules, high_nibble, low_nibble}
 
 -- the first nibbles of the bytes are these digits, and an unused nibble is 0
@@ -14,57 +15,112 @@ pub record Fills (bytes ds : List ℕ) (len : ℕ) : Type 0 where
   pub decimal : (k : ℕ) → k < len → get_or ds k 0 < 10
   pub unused : len % 2 ≡ 1 → get_or (nibbles bytes) len 0 ≡ 0
 
-fills : (bytes ds : List ℕ) (len : ℕ) → Fills bytes ds len → len ≤ 2 * length bytes
+fills : (bytes ds : List ℕ) (len : ℕ) → length ds ≡ len → len ≤ 2 * length bytes
+    → ((k : ℕ) → k < len → get_or (nibbles bytes) k 0 ≡ get_or ds k 0) → ((k : ℕ) → k < len → get_or ds k 0 < 10)
     → (digits_in bytes len ≡ ds) × All (λ d. d < 10) (digits_in bytes len)
-fills bytes ds len p h =
+fills bytes ds len many h same decimal =
     let t : digits_in bytes len ≡ ds =
     same_number_lists _ _ (grind (arith, nibble_rules)) (λ k h. grind (arith, nibble_rules)) in
-    (t, rw t (λ k d h. grind (arith, p.decimal k, get_or_default)))
+    (t, rw t (λ k d h. grind (arith, decimal k, get_or_default)))
 
 -- bytes that these digits fill
 pub encodes : (bytes ds : List ℕ) (len : ℕ) → Fills bytes ds len × (2 * length bytes ≡ len + len % 2)
     → Encodes bytes len ds
 encodes bytes ds len (p, count) =
-    let (t, all) = fills bytes ds len p (omega arith) in
+    let (t, all) = fills bytes ds len p.many (omega arith) p.same p.decimal in
     record { packed = record { count = count; decimal = all; unused = p.unused }; digits = t }
 
--- bytes of which these digits fill the first
-pub encodes_prefix : (bytes ds : List ℕ) (len : ℕ)
-    → Fills bytes ds len × (len ≤ 2 * length bytes) × (8 < length bytes → length bytes ≡ (len + 1) / 2)
-    → EncodesPrefix bytes len ds
-encodes_prefix bytes ds len (p, enough, many) =
-    let (t, all) = fills bytes ds len p enough in
-    record { packed_prefix = record { enough = enough; decimal = all; unused = p.unused; many = many }; digits = t }
+-- bytes of which these digits are the first nibbles, and the others are 0
+pub pads : (bytes ds : List ℕ) (len : ℕ) → length bytes ≡ max 8 ((len + 1) / 2) → length ds ≡ len
+    → ((k : ℕ) → get_or (nibbles bytes) k 0 ≡ get_or ds k 0) → ((k : ℕ) → k < len → get_or ds k 0 < 10)
+    → EncodesPadded bytes len ds
+pads bytes ds len count many same decimal =
+    let (t, all) = fills bytes ds len many (omega arith) (λ k h. same k) decimal in
+    record {
+      padded = record {
+        count = count;
+        decimal = all;
+        zeros = λ k h. same k ∙ get_or_past ds k 0 (omega arith);
+      };
+      digits = t;
+    }
 
--- up to eight bytes hold no digits
-pub packed_none : (bs : List ℕ) → (8 < length bs → length bs ≡ 0) → IsPackedPrefix bs 0
-packed_none bs many = (encodes_prefix bs [] 0 (grind (arith, nibble_rules))).packed_prefix
+-- more than sixteen digits need no padding
+pub encodes_many : (bytes ds : List ℕ) (len : ℕ) → 16 < len → Encodes bytes len ds → EncodesPadded bytes len ds
+encodes_many bytes ds len many e =
+    record {
+      padded = record {
+        count = omega (arith, e.packed.count);
+        decimal = e.packed.decimal;
+        zeros = λ k h. grind (arith, nibble_rules, e.packed.count, e.packed.unused);
+      };
+      digits = e.digits;
+    }
+
+-- the nibbles of zero bytes are 0
+zero_nibbles : (n k : ℕ) → get_or (nibbles (replicate n 0)) k 0 ≡ 0
+unfolding nibbles
+zero_nibbles zero k = refl
+zero_nibbles (suc n) zero = refl
+zero_nibbles (suc n) (suc zero) = refl
+zero_nibbles (suc n) (suc (suc k)) = zero_nibbles n k
+
+-- eight zero bytes hold no digits
+pub no_digits : IsPadded (replicate 8 0) 0
+no_digits = (pads (replicate 8 0) [] 0 refl refl (zero_nibbles 8) (λ k h. absurd (omega arith))).padded
+
+-- zero bytes up to the eighth
+pub filled : (bytes : List ℕ) (len k : ℕ) → IsPacked bytes len → k ≡ 8 - length bytes
+    → EncodesPadded (bytes ++ replicate k 0) len (digits_in bytes len)
+filled bytes len k p e =
+    let size = length-nibbles bytes in
+    pads _ (digits_in bytes len) len (grind (arith, nibble_rules, p.count)) (grind (arith, nibble_rules, p.count))
+    (λ i. elim (cases_lt i len) [
+      | inl l ↦ grind (arith, nibble_rules, p.count)
+      | inr l ↦ grind (arith, nibble_rules, p.count, p.unused)
+    ])
+    (λ i h. p.decimal i 0 (grind (arith, nibble_rules, p.count)))
+
+-- the digit at an index, with zeros after the last one
+pub digit_at : (bytes : List ℕ) (len : ℕ) → IsPadded bytes len → (k : ℕ)
+    → get_or (digits_in bytes len) k 0 ≡ get_or (nibbles bytes) k 0
+digit_at bytes len p k = elim (cases_lt k len) [
+  | inl l ↦ get_or-take len (nibbles bytes) k 0 l
+  | inr l ↦ get_or_past (digits_in bytes len) k 0 (omega (arith, length_digits bytes len p)) ∙ sym (p.zeros k l)
+]
+
+-- the digits are 0 to 9
+pub digit_lt : (bytes : List ℕ) (len : ℕ) → IsPadded bytes len → (k : ℕ) → get_or (nibbles bytes) k 0 < 10
+digit_lt bytes len p k = elim (cases_lt k len) [
+  | inl l ↦ grind (arith, p.decimal k 0, length_digits bytes len p, digit_at bytes len p k)
+  | inr l ↦ omega (arith, p.zeros k l)
+]
 
 -- the bytes of the digits are packed
-pub prefix_packed : (bs : List ℕ) (len : ℕ) → IsPackedPrefix bs len → IsPacked (take ((len + 1) / 2) bs) len
-prefix_packed bs len p = (encodes _ (digits_in bs len) len (grind (arith, nibble_rules))).packed
+pub front_packed : (bs : List ℕ) (len : ℕ) → IsPadded bs len → IsPacked (take ((len + 1) / 2) bs) len
+front_packed bs len p = (encodes _ (digits_in bs len) len (grind (arith, nibble_rules, padding))).packed
 
 -- and hold the same digits
-pub prefix_digits : (bs : List ℕ) (len : ℕ) → digits_in (take ((len + 1) / 2) bs) len ≡ digits_in bs len
-prefix_digits bs len = same_number_lists _ _ (grind (arith, nibble_rules)) (λ k h. grind (arith, nibble_rules))
+pub front_digits : (bs : List ℕ) (len : ℕ) → digits_in (take ((len + 1) / 2) bs) len ≡ digits_in bs len
+front_digits bs len = same_number_lists _ _ (grind (arith, nibble_rules)) (λ k h. grind (arith, nibble_rules))
 
 -- for `grind`: bytes that hold digits
-pub ruleset packing = (packed_prefix, prefix_packed, prefix_digits, nibble_rules)
+pub ruleset packing = (padding, front_packed, front_digits, nibble_rules)
 
--- the first bytes that hold the same digits are the same
-pub same_front : (bs : List ℕ) (len : ℕ) → IsPackedPrefix bs len → (cs : List ℕ) (n : ℕ) → IsPackedPrefix cs n
-    → digits_in bs len ≡ digits_in cs n
-    → (len ≡ n) × (take ((len + 1) / 2) bs ≡ take ((n + 1) / 2) cs)
-same_front bs len p cs n q e =
-    let k : len ≡ n = sym (length_packed bs len p) ∙ ap length e ∙ length_packed cs n q in (
-      k,
-      same_number_lists _ _ (grind (arith, nibble_rules)) (λ i h.
-          let high = ap (λ l. get_or l (2 * i) 0) e in
-          let low = ap (λ l. get_or l (2 * i + 1) 0) e in
-          grind (arith, nibble_rules, high_nibble bs i, high_nibble cs i, low_nibble bs i, low_nibble cs i)),
-    )
+-- padded bytes of the same digits are the same
+pub same_bytes : (bs : List ℕ) (len : ℕ) → IsPadded bs len → (cs : List ℕ) (n : ℕ) → IsPadded cs n → len ≡ n
+    → digits_in bs len ≡ digits_in cs n → bs ≡ cs
+same_bytes bs len p cs n q k e =
+    let same = λ (k : ℕ). sym (digit_at bs len p k) ∙ ap (λ l. get_or l k 0) e ∙ digit_at cs n q k in
+    same_number_lists _ _ (omega (arith, p.count, q.count)) (λ i h.
+    grind (arith, same (2 * i), same (2 * i + 1), high_nibble bs i, high_nibble cs i, low_nibble bs i, low_nibble cs i))
 
--- the digits of the same first bytes are the same
-pub same_digits : (bs cs : List ℕ) (len n : ℕ) → len ≡ n
-    → take ((len + 1) / 2) bs ≡ take ((n + 1) / 2) cs → digits_in bs len ≡ digits_in cs n
-same_digits bs cs len n k e = sym (prefix_digits bs len) ∙ rw (e, k) (prefix_digits cs n)
+-- the item at an index after the first ones, with zeros after the last one
+pub rest_at : (xs : List ℕ) (n z k i : ℕ) → n + k ≡ i → get_or (drop n xs ++ replicate z 0) k 0 ≡ get_or xs i 0
+rest_at xs n z k i e = elim (cases_lt k (length (drop n xs))) [
+  | inl l ↦ grind (arith, nibble_rules)
+  | inr l ↦ elim (cases_lt (k - length (drop n xs)) z) [
+    | inl m ↦ grind (arith, nibble_rules)
+    | inr m ↦ grind (arith, nibble_rules)
+  ]
+]

@@ -22,6 +22,10 @@ pub record IsPacked (bytes : List ℕ) (len : ℕ) : Type 0 where
 unfoldable pub leading_bytes : ℕ → ℕ → List ℕ
 leading_bytes number len = take ((len + 1) / 2) (to_be_bytes w64 number)
 
+-- the sixteen nibbles of a 64-bit number
+unfoldable pub word_nibbles : ℕ → List ℕ
+word_nibbles number = nibbles (to_be_bytes w64 number)
+
 -- the first k digits, with zeros after fewer: 2, 5 and 0 of 2 and 5 for k = 3
 unfoldable pub padded : ℕ → List ℕ → List ℕ
 padded k digits = take k (digits ++ replicate k 0)

@@ -1,34 +1,36 @@
 //! A list of digits as packed BCD.
 ghost use Rattle.std.specs.Prelude.{◌≡◌, ℕ, ◌+◌, ◌-◌, ◌*◌, ◌/◌, ◌≤◌, take};
 ghost use Rattle.decimal_digits.specs.Nibbles.{digits_in};
-ghost use Rattle.decimal_digits.specs.Packing.{IsPackedPrefix};
+ghost use Rattle.decimal_digits.specs.Packing.{IsPadded};
 
 mod bulk;
 mod bytes;
 mod nibbles;
+mod words;
 
 use super::DigitStore;
 use bulk::{append_text, count_trailing_nibbles, write_text};
 use bytes::{
-    append_digits, append_zeros, are_equal, copy_bytes, cut_digits, drop_unused, keep_digits,
-    pack_digits, push_digit, reserve_digits, set_digit, truncate_spilled, word_at,
+    append_digits, append_word, append_zeros, are_equal, copy_bytes, cut_digits, drop_unused,
+    keep_digits, pack_digits, push_digit, reserve_digits, set_digit, word_at,
 };
 use nibbles::byte_count;
 pub(super) use nibbles::nibble_at;
 use smallvec::SmallVec;
 use std::alloc::{AllocError, Global};
+use words::keep_nibbles;
 
 /// A list of digits as packed BCD, two digits to a byte, of which up to sixteen need no allocation.
 ///
-/// The digit at index `i` is in byte `i / 2`, in the high nibble if `i` is even. With an odd number of digits the low
-/// nibble of the last byte is 0. The list that `from_digits` makes of 2, 5 and 0 has the bytes 0x25 and 0x00, and needs
-/// no allocation. Of up to eight bytes, those after the digits are unspecified.
+/// The digit at index `i` is in byte `i / 2`, in the high nibble if `i` is even. There are at least eight bytes, and all
+/// nibbles after the digits are 0. The list that `from_digits` makes of 2, 5 and 0 has the bytes 0x25 and seven times
+/// 0x00, and needs no allocation.
 #[derive(Debug)]
 pub struct PackedDigits {
     bytes: SmallVec<u8, 8>,
     len: usize,
     ghost inline: { 8 ≤ bytes.capacity },
-    ghost packed_prefix: { IsPackedPrefix bytes.items len },
+    ghost padded: { IsPadded bytes.items len },
 }
 
 // Not derived: a derived drop is proved again in each crate that depends on this one.
@@ -65,14 +67,14 @@ impl DigitStore for PackedDigits {
 
     ghost fits_u16 = { Prim.omega arith };
 
-    ghost room_to_L = { λ s. room_to_L s.bytes.items s.bytes.capacity s.len s.inline s.packed_prefix };
+    ghost room_to_L = { λ s. room_to_L s.bytes.items s.bytes.capacity s.len s.inline s.padded };
 
-    ghost are_digits = { λ s. s.packed_prefix.decimal };
+    ghost are_digits = { λ s. s.padded.decimal };
 
     #[inline]
     fn empty(alloc: Global) -> Self {
         PackedDigits {
-            bytes: SmallVec::new(alloc),
+            bytes: SmallVec::from_buf(alloc, [0; 8]),
             len: 0,
         }
     }
@@ -87,9 +89,9 @@ impl DigitStore for PackedDigits {
 
     #[inline]
     fn from_bcd(alloc: Global, number: u64, len: usize) -> Result<Self, AllocError> {
-        // All eight bytes are kept: truncating them would cost more than the rest of the call.
+        let word = keep_nibbles(number, len);
         Ok(PackedDigits {
-            bytes: SmallVec::from_buf(alloc, number.to_be_bytes()),
+            bytes: SmallVec::from_buf(alloc, word.to_be_bytes()),
             len,
         })
     }
@@ -129,13 +131,11 @@ impl DigitStore for PackedDigits {
 
     #[inline]
     fn push_in_room(&mut self, digit: u8) {
-        drop_unused(&mut self.bytes, self.len);
         push_digit(&mut self.bytes, self.len, digit);
         self.len += 1;
     }
 
     fn push_text(&mut self, text: &[u8]) {
-        drop_unused(&mut self.bytes, self.len);
         append_text(&mut self.bytes, self.len, text);
         self.len += text.len();
     }
@@ -154,7 +154,6 @@ impl DigitStore for PackedDigits {
 
     fn reserve(&mut self, count: usize) -> Result<(), AllocError> {
         let total = self.len.checked_add(count).ok_or(AllocError)?;
-        drop_unused(&mut self.bytes, self.len);
         reserve_digits(&mut self.bytes, total)
     }
 
@@ -169,17 +168,26 @@ impl DigitStore for PackedDigits {
     }
 
     fn clear(&mut self) {
-        truncate_spilled(&mut self.bytes, 0);
-        self.len = 0;
+        self.truncate(0);
     }
 
     fn append(&mut self, zeros: usize, other: &Self) -> Result<(), AllocError> {
         let start = self.len.checked_add(zeros).ok_or(AllocError)?;
         let total = start.checked_add(other.len).ok_or(AllocError)?;
-        drop_unused(&mut self.bytes, self.len);
-        reserve_digits(&mut self.bytes, total)?;
-        append_zeros(&mut self.bytes, self.len, zeros);
-        append_digits(&mut self.bytes, start, other.front(), other.len);
+        if total <= 16 {
+            append_word(
+                &mut self.bytes,
+                self.len,
+                start,
+                other.bytes.as_slice(),
+                other.len,
+            );
+        } else {
+            reserve_digits(&mut self.bytes, total)?;
+            drop_unused(&mut self.bytes, self.len);
+            append_zeros(&mut self.bytes, self.len, zeros);
+            append_digits(&mut self.bytes, start, other.front(), other.len);
+        }
         self.len = total;
         Ok(())
     }
@@ -192,6 +200,6 @@ impl DigitStore for PackedDigits {
         if self.len <= 16 {
             return self.bcd_at(0) == other.bcd_at(0);
         }
-        are_equal(self.front(), other.front())
+        are_equal(self.bytes.as_slice(), other.bytes.as_slice())
     }
 }

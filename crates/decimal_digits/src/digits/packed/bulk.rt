@@ -5,22 +5,44 @@ ghost use Rattle.std.specs.Prelude.{◌≡◌, ℕ, ◌+◌, ◌-◌, ◌*◌, �
 ghost use Rattle.std.specs.Char.{digit_value};
 ghost use Rattle.std.specs.Str.Parse.{AllDigits};
 ghost use Rattle.decimal_digits.specs.Digits.{text_of};
-ghost use Rattle.decimal_digits.specs.Nibbles.{nibbles, digits_in, IsPacked};
-ghost use Rattle.decimal_digits.specs.Packing.{Encodes};
+ghost use Rattle.decimal_digits.specs.Nibbles.{nibbles, digits_in};
+ghost use Rattle.decimal_digits.specs.Packing.{EncodesPadded, IsPadded};
 
+use super::bytes::{drop_unused, set_word};
 use super::nibbles::{append_pairs, set_nibble};
+use super::words::{front_word, join_nibbles, pack_word};
 use smallvec::SmallVec;
 
 /// Appends the digits of an ASCII text, for which there is room.
 pub(super) fn append_text(bytes: &mut SmallVec<u8, 8>, len: usize, text: &[u8])
-    requires packed { IsPacked bytes.old.items len }
+    requires padded { IsPadded bytes.old.items len }
     requires has_room { length text.now ≤ 2 * bytes.old.capacity - len }
     requires are_digits { AllDigits 10 text.now }
-    ensures encodes { Encodes bytes.new.items (len + length text.now)
+    ensures encodes { EncodesPadded bytes.new.items (len + length text.now)
         (digits_in bytes.old.items len ++ map digit_value text.now) }
     ensures capacity { bytes.old.capacity ≤ bytes.new.capacity }
     ensures fits { len + length text.now < 2 ^ 64 }
 {
+    if len <= 16 && text.len() <= 16 - len {
+        let word = join_nibbles(front_word(bytes.as_slice()), len, pack_word(text));
+        set_word(bytes, word);
+    } else {
+        append_long_text(bytes, len, text);
+    }
+}
+
+/// Appends the digits of an ASCII text, for which there is room, to make more than sixteen in all.
+fn append_long_text(bytes: &mut SmallVec<u8, 8>, len: usize, text: &[u8])
+    requires padded { IsPadded bytes.old.items len }
+    requires many { 16 < len + length text.now }
+    requires has_room { length text.now ≤ 2 * bytes.old.capacity - len }
+    requires are_digits { AllDigits 10 text.now }
+    ensures encodes { EncodesPadded bytes.new.items (len + length text.now)
+        (digits_in bytes.old.items len ++ map digit_value text.now) }
+    ensures capacity { bytes.old.capacity ≤ bytes.new.capacity }
+    ensures fits { len + length text.now < 2 ^ 64 }
+{
+    drop_unused(bytes, len);
     let odd = len % 2;
     if odd == 0 {
         append_pairs(bytes, text);

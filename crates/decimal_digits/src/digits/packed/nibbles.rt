@@ -61,44 +61,7 @@ pub(super) fn pack(bytes: &mut [u8], digits: &[u8])
 }
 
 /// Appends the low nibbles of `digits`, two to a byte, and 0 in a nibble that is left over.
-#[inline]
 pub(super) fn append_pairs(bytes: &mut SmallVec<u8, 8>, digits: &[u8])
-    requires { (length digits.now + 1) / 2 ≤ bytes.old.capacity - small_vec_len bytes.old }
-    ensures appended { nibbles bytes.new.items
-        ≡ nibbles bytes.old.items ++ (map (λ d. d % 16) digits.now ++ replicate (length digits.now % 2) 0) }
-    ensures capacity { bytes.old.capacity ≤ bytes.new.capacity }
-    ensures fits { small_vec_len bytes.new < 2 ^ 63 }
-{
-    if digits.len() <= 16 {
-        // For few bytes a loop is faster than a call.
-        push_pairs(bytes, digits);
-    } else {
-        append_packed(bytes, digits);
-    }
-}
-
-/// Appends the low nibbles of `digits`, byte by byte.
-#[inline]
-pub(super) fn push_pairs(bytes: &mut SmallVec<u8, 8>, digits: &[u8])
-    requires { (length digits.now + 1) / 2 ≤ bytes.old.capacity - small_vec_len bytes.old }
-    ensures appended { nibbles bytes.new.items
-        ≡ nibbles bytes.old.items ++ (map (λ d. d % 16) digits.now ++ replicate (length digits.now % 2) 0) }
-    ensures capacity { bytes.new.capacity ≡ bytes.old.capacity }
-    ensures fits { small_vec_len bytes.new < 2 ^ 63 }
-{
-    let _at_most = bytes.len();
-    let pairs = digits.len() / 2;
-    for i in 0..pairs {
-        bytes.push_reserved(digits[2 * i] % 16 * 16 + digits[2 * i + 1] % 16);
-    }
-    if digits.len() % 2 == 1 {
-        bytes.push_reserved(digits[2 * pairs] % 16 * 16);
-    }
-    let _few = bytes.as_slice();
-}
-
-/// Appends the low nibbles of `digits`, in one pass.
-fn append_packed(bytes: &mut SmallVec<u8, 8>, digits: &[u8])
     requires { (length digits.now + 1) / 2 ≤ bytes.old.capacity - small_vec_len bytes.old }
     ensures appended { nibbles bytes.new.items
         ≡ nibbles bytes.old.items ++ (map (λ d. d % 16) digits.now ++ replicate (length digits.now % 2) 0) }

@@ -1,16 +1,15 @@
-use Rattle.std.proofs.Common.{length, ap, arith}
-use Rattle.decimal_digits.proofs.DigitTexts.{ascii_at}
-use Rattle.decimal_digits.proofs.Nibbles.{nibble_rules}
-use Rattle.decimal_digits.proofs.Packing.{encodes}
+use Rattle.std.proofs.Common.{arith}
+use Rattle.decimal_digits.proofs.Words.{join_text, zeros_after}
 use Rattle.decimal_digits.proofs.digits.packed.bulk.append_text.Goals as goal
 
-pub returns-then-odd-eq0-clause-encodes : goal.returns-then-odd-eq0-clause-encodes
-returns-then-odd-eq0-clause-encodes c =
-    let read = ascii_at c.args.text.now c.requires.are_digits in
-    encodes _ _ _ (grind (arith, nibble_rules, ap length c.append_pairs.ensures.appended, read))
+pub join_nibbles-word-requires-clause-zeros : goal.join_nibbles-word-requires-clause-zeros
+join_nibbles-word-requires-clause-zeros c =
+    zeros_after c.args.bytes.now.items c.args.len c.args.len c.front_word.result c.requires.padded (omega arith)
+    (omega arith) (rw c.as_slice.ensures at c.front_word.ensures)
 
-pub returns-then-not-is_empty-clause-encodes : goal.returns-then-not-is_empty-clause-encodes
-returns-then-not-is_empty-clause-encodes c =
-    let read = ascii_at c.args.text.now c.requires.are_digits in
-    let e = c.append_pairs-then-not-is_empty.ensures.appended in
-    encodes _ _ _ (grind (arith, nibble_rules, ap length c.set_nibble.ensures.written, ap length e, read))
+pub returns-then-text-len-clause-encodes : goal.returns-then-text-len-clause-encodes
+returns-then-text-len-clause-encodes c =
+    rw c.set_word.ensures.items
+    (join_text c.args.bytes.now.items c.args.len c.front_word.result c.pack_word.result c.join_nibbles-word.result
+    c.args.text.now c.requires.padded (omega arith) c.requires.are_digits
+    (rw c.as_slice.ensures at c.front_word.ensures) c.pack_word.ensures c.join_nibbles-word.ensures)

@@ -1,7 +1,8 @@
 use Rattle.std.proofs.Common.{arith}
+use Rattle.decimal_digits.specs.Packing.{padding}
 use Rattle.decimal_digits.proofs.Nibbles.{nibble_rules}
 use Rattle.decimal_digits.proofs.Packing.{encodes}
 use Rattle.decimal_digits.proofs.digits.packed.bytes.drop_unused.Goals as goal
 
 pub returns-clause-encodes : goal.returns-clause-encodes
-returns-clause-encodes c = rw c.keep_bytes.ensures.items (encodes _ _ _ (grind (arith, nibble_rules)))
+returns-clause-encodes c = rw c.keep_bytes.ensures.items (encodes _ _ _ (grind (arith, nibble_rules, padding)))

@@ -1,7 +1,14 @@
-use Rattle.std.proofs.Common.{length, ap, arith}
+use Rattle.std.proofs.Common.{length, get_or, ap, arith}
+use Rattle.std.proofs.lemmas.List.{length-set}
+use Rattle.decimal_digits.specs.Packing.{padding, length-nibbles}
 use Rattle.decimal_digits.proofs.Nibbles.{nibble_rules}
-use Rattle.decimal_digits.proofs.Packing.{encodes_prefix}
+use Rattle.decimal_digits.proofs.Packing.{digit_at, digit_lt, pads}
 use Rattle.decimal_digits.proofs.digits.packed.bytes.set_digit.Goals as goal
 
 pub returns-clause-encodes : goal.returns-clause-encodes
-returns-clause-encodes c = encodes_prefix _ _ _ (grind (arith, nibble_rules, ap length c.set_nibble.ensures.written))
+returns-clause-encodes c =
+    let p = c.requires.padded in
+    let size = ap length c.set_nibble.ensures.written in
+    pads _ _ _ (omega (arith, p.count, simp (length-nibbles, length-set) at size)) (grind (arith, nibble_rules, padding))
+    (λ k. grind (arith, nibble_rules, padding, digit_at _ _ p k, ap (λ l. get_or l k 0) c.set_nibble.ensures.written))
+    (λ k h. grind (arith, nibble_rules, padding, digit_at _ _ p k, digit_lt _ _ p k))

@@ -1,46 +1,51 @@
-use Rattle.std.proofs.Common.{◌≡◌, ◌+◌, ◌-◌, ◌/◌, ◌<◌, ◌≤◌, ◌++◌, length, take, drop, replicate, sym, ◌∙◌, ap, arith}
-use Rattle.std.proofs.lemmas.List.{length-drop, take_all, drop_all, take_rest}
-use Rattle.std.specs.Int.Digits.{number_from_digits}
-use Rattle.decimal_digits.specs.Nibbles.{bcd_number, digits_in, padded}
-use Rattle.decimal_digits.specs.Packing.{length_packed}
-use Rattle.decimal_digits.proofs.InlineBcd.{after_blocks}
-use Rattle.decimal_digits.proofs.LeadingBytes.{word_encodes}
+use Rattle.std.proofs.Common.{◌≡◌, ◌+◌, ◌-◌, ◌*◌, ◌/◌, ◌<◌, length, drop, get_or, sym, ◌∙◌, ap, arith}
+use Rattle.std.proofs.lemmas.List.{length-drop, drop_all, take_rest, get_or-drop, get_or-take}
+use Rattle.decimal_digits.specs.Nibbles.{bcd_number, digits_in, nibbles, padded}
+use Rattle.decimal_digits.specs.Packing.{length_digits}
+use Rattle.decimal_digits.proofs.Packing.{digit_at, rest_at}
+use Rattle.decimal_digits.proofs.Words.{bcd_of_word, front_at, nibbles_drop}
 use Rattle.decimal_digits.proofs.digits.packed.bytes.word_at.Goals as goal
+
+pub returns-then-start-eq0 : goal.returns-then-start-eq0
+returns-then-start-eq0 c =
+    rw c.if-start-eq0.true
+    (bcd_of_word c.front_word.result (digits_in c.args.bytes.now c.args.len) c.front_word.type_inv
+    (λ k h. front_at _ _ _ k c.requires.padded c.front_word.ensures h))
 
 pub returns-then-len-start : goal.returns-then-len-start
 unfolding bcd_number padded
 returns-then-len-start c =
     sym (ap bcd_number (drop_all c.args.start (digits_in c.args.bytes.now c.args.len)
-    (omega (arith, length_packed _ _ c.requires.packed_prefix))))
-
-pub front_word-requires-2 : goal.front_word-requires-2
-front_word-requires-2 c =
-    rw take_rest
-    (after_blocks c.args.bytes.now c.args.len c.args.start c.requires.packed_prefix c.requires.block (omega arith)
-    (omega arith)).packed_prefix
-
-pub returns : goal.returns
-returns c =
-    rw take_rest at c.front_word-2.ensures
-    ∙ ap bcd_number
-    (after_blocks c.args.bytes.now c.args.len c.args.start c.requires.packed_prefix c.requires.block (omega arith)
-    (omega arith)).digits
+    (omega (arith, length_digits _ _ c.requires.padded))))
 
 pub returns-then-rest-lt8 : goal.returns-then-rest-lt8
 returns-then-rest-lt8 c =
     let bs = c.args.bytes.now in
-    let half = c.args.start / 2 in
-    let rest = drop half bs in
-    let prefix = c.requires.packed_prefix in
-    let after = after_blocks bs c.args.len c.args.start prefix c.requires.block (omega arith) (omega arith) in
-    let size : length rest ≡ length bs - half = length-drop half bs in
-    let all : length bs ≡ (c.args.len + 1) / 2 = prefix.many (omega (arith, prefix.enough, c.requires.block)) in
-    let short : length rest < 8 = rw take_rest at c.if-rest-lt8.true in
-    let at : length bs - length rest ≡ half = omega (arith, prefix.enough, c.requires.block) in
-    let whole : take ((c.args.len - c.args.start + 1) / 2) rest ≡ rest =
-    take_all _ rest (omega (arith, c.requires.block)) in
-    let few : c.args.len - c.args.start ≤ 16 = omega (arith, after.packed_prefix.enough) in
-    let word : c.end_word.result ≡ number_from_digits 256 (rest ++ replicate (8 - length rest) 0) =
-    rw at at (rw take_rest at c.end_word.ensures) in
-    word ∙ rw whole at (word_encodes rest (c.args.len - c.args.start) after.packed_prefix few)
-    ∙ ap bcd_number after.digits
+    let len = c.args.len in
+    let start = c.args.start in
+    let p = c.requires.padded in
+    let rest = c.if-rest-lt8.true in
+    let size : length (drop (start / 2) bs) ≡ length bs - start / 2 = length-drop (start / 2) bs in
+    let short : length (drop (start / 2) bs) < 8 = rw take_rest at rest in
+    let word = rw take_rest at c.end_word.ensures in
+    let at : 2 * (length bs - length (drop (start / 2) bs)) ≡ start = omega (arith, p.count, c.requires.block) in
+    bcd_of_word c.end_word.result (drop start (digits_in bs len)) c.end_word.type_inv (λ k h.
+    ap (λ l. get_or l k 0) word
+    ∙ rest_at (nibbles bs) _ _ k (start + k) (ap (λ j. j + k) at)
+    ∙ sym (get_or-drop start (digits_in bs len) k 0 ∙ digit_at bs len p (start + k)))
+
+pub returns : goal.returns
+returns c =
+    let bs = c.args.bytes.now in
+    let len = c.args.len in
+    let start = c.args.start in
+    let p = c.requires.padded in
+    let word = rw take_rest at c.front_word-2.ensures in
+    let at : 2 * (start / 2) ≡ start = omega (arith, c.requires.block) in
+    bcd_of_word c.front_word-2.result (drop start (digits_in bs len)) c.front_word-2.type_inv (λ k h.
+    ap (λ l. get_or l k 0) word
+    ∙ get_or-take 16 (nibbles (drop (start / 2) bs)) k 0 h
+    ∙ ap (λ l. get_or l k 0) (nibbles_drop (start / 2) bs)
+    ∙ get_or-drop (2 * (start / 2)) (nibbles bs) k 0
+    ∙ ap (λ j. get_or (nibbles bs) (j + k) 0) at
+    ∙ sym (get_or-drop start (digits_in bs len) k 0 ∙ digit_at bs len p (start + k)))

@@ -1,0 +1,394 @@
+-- Words: sixteen nibbles as one number of 64 bits.
+use Rattle.std.proofs.Common.{◌≡◌, ℕ, zero, suc, ◌+◌, ◌-◌, ◌*◌, ◌/◌, ◌%◌, ◌^◌, ◌<◌, ◌≤◌, List, [], ◌∷◌, ◌++◌, length, get_or, take, drop, replicate, map, refl, sym, ◌∙◌, ap, arith, inl, inr}
+use Rattle.std.proofs.lemmas.Bool.{cases_lt}
+use Rattle.std.specs.Prelude.{All}
+use Rattle.std.specs.Char.{digit_value}
+use Rattle.std.specs.Str.Parse.{AllDigits}
+use Rattle.std.specs.Int.{w64, to_be_bytes, from_be_bytes, bytes_high_first, byte_at}
+use Rattle.std.specs.Int.Digits.{number_from_digits, AllBelowBase}
+use Rattle.std.proofs.Math.Nat.{mod-eq_of_lt, pow-le-pow_right}
+use Rattle.std.proofs.lemmas.Nat.{pow-add, mod-mul-add, be_bytes_8, from_be_bytes-to_be_bytes_8}
+use Rattle.std.proofs.lemmas.Grind.{same_number_lists}
+use Rattle.std.proofs.lemmas.List.{length-append, length-drop, length-map, length-replicate, length-take, length-take-le, append-nil, get_or_default, get_or_past, get_or-drop, get_or-replicate, get_or-take, map_more}
+use Rattle.std.proofs.lemmas.List.Elements.{All-append, All-replicate}
+use Rattle.std.proofs.lemmas.Int.Digits.{number_lt, number_after_append, number_push}
+use Rattle.decimal_digits.specs.Nibbles.{nibbles, word_nibbles, digits_in, leading_bytes, padded, bcd_number, IsPacked}
+use Rattle.decimal_digits.specs.Packing.{EncodesPadded, IsPadded, length-nibbles, length_digits}
+use Rattle.decimal_digits.proofs.DigitLists.{below_drop, below_take, number_after, number_pad, number_split, number-div}
+use Rattle.decimal_digits.proofs.LeadingBytes.{hex_pow, leading_digits, bytes_number, nibbles_of_bytes, length-padded, get_or-padded, sixteen_nibbles}
+use Rattle.decimal_digits.proofs.Nibbles.{nibble_rules, value_of}
+use Rattle.decimal_digits.proofs.DigitTexts.{ascii_at}
+use Rattle.decimal_digits.proofs.Packing.{digit_at, pads, rest_at}
+
+eight_bytes : (bs : List ℕ) → length bs ≡ 8 → from_be_bytes w64 bs ≡ number_from_digits 256 bs
+eight_bytes (a ∷ (b ∷ (c ∷ (d ∷ (e ∷ (f ∷ (g ∷ (h ∷ [])))))))) l = omega arith
+eight_bytes bs l = absurd (omega arith)
+
+byte_lt : (k n : ℕ) → byte_at k n < 256
+byte_lt zero n = omega arith
+byte_lt (suc k) n = omega arith
+
+bytes_below : (k n : ℕ) → AllBelowBase 16 (nibbles (bytes_high_first k n))
+unfolding nibbles
+bytes_below zero n = tt
+bytes_below (suc k) n = (omega (arith, byte_lt k n), (omega arith, bytes_below k n))
+
+-- trailing zeros keep the item at each index
+padded_at : (xs : List ℕ) (z k : ℕ) → get_or (xs ++ replicate z 0) k 0 ≡ get_or xs k 0
+padded_at xs z k = rest_at xs 0 z k k (omega arith)
+
+-- ---- the nibbles of a word
+pub length-word_nibbles : (n : ℕ) → length (word_nibbles n) ≡ 16
+unfolding word_nibbles
+length-word_nibbles n = omega (arith, length-nibbles (to_be_bytes w64 n))
+
+word_below : (n : ℕ) → AllBelowBase 16 (word_nibbles n)
+unfolding word_nibbles
+word_below n = bytes_below 8 n
+
+-- a word is the number of its nibbles
+pub word_number : (n : ℕ) → n < 2 ^ 64 → n ≡ number_from_digits 16 (word_nibbles n)
+unfolding word_nibbles
+word_number n h =
+    sym (from_be_bytes-to_be_bytes_8 n h) ∙ eight_bytes (to_be_bytes w64 n) refl ∙ sym (bytes_number 0 _)
+
+-- the number of sixteen nibbles is the word of these
+pub word_of_nibbles : (ns : List ℕ) (n : ℕ) → length ns ≡ 16 → AllBelowBase 16 ns → n ≡ number_from_digits 16 ns
+    → word_nibbles n ≡ ns
+unfolding word_nibbles
+word_of_nibbles ns n l h e = rw e (nibbles_of_bytes 8 0 ns l h)
+
+-- the big-endian number of eight bytes is the word of their nibbles
+pub word_of_bytes : (bs : List ℕ) (n : ℕ) → length bs ≡ 8 → ((i : ℕ) → get_or bs i 0 < 256) → n ≡ from_be_bytes w64 bs
+    → word_nibbles n ≡ nibbles bs
+unfolding word_nibbles
+word_of_bytes bs n l h e = ap nibbles (be_bytes_8 bs n l h e)
+
+-- the nibbles of the first bytes
+pub nibbles_take : (k : ℕ) (bs : List ℕ) → nibbles (take k bs) ≡ take (2 * k) (nibbles bs)
+unfolding nibbles
+nibbles_take zero bs = refl
+nibbles_take (suc k) [] = let e : 2 * suc k ≡ suc (suc (2 * k)) = omega arith in rw e refl
+nibbles_take (suc k) (b ∷ bs) =
+    let e : 2 * suc k ≡ suc (suc (2 * k)) = omega arith in
+    rw e (ap (λ l. b / 16 ∷ (b % 16 ∷ l)) (nibbles_take k bs))
+
+-- the nibbles after the first bytes
+pub nibbles_drop : (k : ℕ) (bs : List ℕ) → nibbles (drop k bs) ≡ drop (2 * k) (nibbles bs)
+unfolding nibbles
+nibbles_drop zero bs = refl
+nibbles_drop (suc k) [] = let e : 2 * suc k ≡ suc (suc (2 * k)) = omega arith in rw e refl
+nibbles_drop (suc k) (b ∷ bs) =
+    let e : 2 * suc k ≡ suc (suc (2 * k)) = omega arith in
+    rw e (nibbles_drop k bs)
+
+pub zero_word : (n : ℕ) → n ≡ 0 → word_nibbles n ≡ replicate 16 0
+zero_word n e = word_of_nibbles (replicate 16 0) n refl (omega arith) e
+
+-- ---- shifts
+zeros_below : (k : ℕ) → AllBelowBase 16 (replicate k 0)
+zeros_below zero = tt
+zeros_below (suc k) = (omega arith, zeros_below k)
+
+append_below : (xs ys : List ℕ) → AllBelowBase 16 xs → AllBelowBase 16 ys → AllBelowBase 16 (xs ++ ys)
+append_below [] ys h g = g
+append_below (x ∷ xs) ys h g = (h.0, append_below xs ys h.1 g)
+
+-- sixteen nibbles write a number of 64 bits
+word_lt : (ns : List ℕ) → length ns ≡ 16 → AllBelowBase 16 ns → number_from_digits 16 ns < 2 ^ 64
+word_lt ns l h = omega (arith, number_lt 16 ns h, ap (λ j. 16 ^ j) l)
+
+-- a right shift and a left shift clear the last nibbles
+pub kept : (n count u r : ℕ) → n < 2 ^ 64 → count ≤ 16 → u ≡ 4 * (16 - count) → r ≡ n / 2 ^ u * 2 ^ u % 2 ^ 64
+    → word_nibbles r ≡ take count (word_nibbles n) ++ replicate (16 - count) 0
+kept n count u r fits few by e =
+    let ns = word_nibbles n in
+    let k = 16 - count in
+    let all = length-word_nibbles n in
+    let back : length ns - count ≡ k = omega arith in
+    let quotient = rw back at (number-div 16 count ns (word_below n) (omega arith)) in
+    let out = take count ns ++ replicate k 0 in
+    let size : length out ≡ 16 =
+    omega (arith, length-append (take count ns) (replicate k 0), length-take-le count ns (omega arith), length-replicate {A = ℕ} k 0) in
+    let below = append_below (take count ns) (replicate k 0) (below_take 16 count ns (word_below n)) (zeros_below k) in
+    let number : n / 16 ^ k * 16 ^ k ≡ number_from_digits 16 out =
+    ap (λ m. m / 16 ^ k * 16 ^ k) (word_number n fits) ∙ ap (λ m. m * 16 ^ k) quotient
+    ∙ sym (number_pad 16 k (take count ns)) in
+    word_of_nibbles out r size below
+    (e ∙ rw (by, hex_pow k) (ap (λ m. m % 2 ^ 64) number ∙ mod-eq_of_lt (word_lt out size below)))
+
+spread : (a p q r t : ℕ) → p * q ≡ t → (a * p + r) * q ≡ a * t + r * q
+spread a p q r t e = grind arith
+
+-- a left shift drops the first nibbles
+pub cut : (n count u r : ℕ) → n < 2 ^ 64 → count ≤ 16 → u ≡ 4 * count → r ≡ n * 2 ^ u % 2 ^ 64
+    → word_nibbles r ≡ drop count (word_nibbles n) ++ replicate count 0
+cut n count u r fits few by e =
+    let ns = word_nibbles n in
+    let k = 16 - count in
+    let all = length-word_nibbles n in
+    let back : length ns - count ≡ k = omega arith in
+    let rest = drop count ns in
+    let out = rest ++ replicate count 0 in
+    let size : length out ≡ 16 =
+    omega (arith, length-append rest (replicate count 0), length-drop count ns, length-replicate {A = ℕ} count 0) in
+    let below = append_below rest (replicate count 0) (below_drop 16 count ns (word_below n)) (zeros_below count) in
+    let whole = word_number n fits ∙ rw back at (number_split 16 count ns (omega arith)) in
+    let top : 16 ^ k * 16 ^ count ≡ 2 ^ 64 = rw (← pow-add, (let w : k + count ≡ 16 = omega arith in w)) refl in
+    let number : n * 16 ^ count ≡ number_from_digits 16 (take count ns) * 2 ^ 64 + number_from_digits 16 out =
+    ap (λ m. m * 16 ^ count) whole
+    ∙ spread (number_from_digits 16 (take count ns)) (16 ^ k) (16 ^ count) (number_from_digits 16 rest) (2 ^ 64) top
+    ∙ ap (λ m. number_from_digits 16 (take count ns) * 2 ^ 64 + m) (sym (number_pad 16 count rest)) in
+    word_of_nibbles out r size below
+    (e ∙ rw (by, hex_pow count) (ap (λ m. m % 2 ^ 64) number
+    ∙ mod-mul-add (number_from_digits 16 (take count ns)) (2 ^ 64) _ (word_lt out size below)))
+
+-- a sum with a number shifted right has the nibbles of both
+pub joined : (n m start : ℕ) → n < 2 ^ 64 → m < 2 ^ 64 → start ≤ 16
+    → drop start (word_nibbles n) ≡ replicate (16 - start) 0
+    → (n + m / 2 ^ (4 * start) < 2 ^ 64)
+    × (word_nibbles (n + m / 2 ^ (4 * start)) ≡ take start (word_nibbles n) ++ take (16 - start) (word_nibbles m))
+joined n m start fits fits' few zeros =
+    let ns = word_nibbles n in
+    let ms = word_nibbles m in
+    let k = 16 - start in
+    let len = length-word_nibbles n in
+    let len' = length-word_nibbles m in
+    let back : length ns - start ≡ k = omega arith in
+    let back' : length ms - k ≡ start = omega arith in
+    let front = take start ns in
+    let rest = take k ms in
+    let size' : length rest ≡ k = length-take-le k ms (omega arith) in
+    let out = front ++ rest in
+    let size : length out ≡ 16 =
+    omega (arith, length-append front rest, length-take-le start ns (omega arith), size') in
+    let below =
+    append_below front rest (below_take 16 start ns (word_below n)) (below_take 16 k ms (word_below m)) in
+    let nothing : number_from_digits 16 (drop start ns) ≡ 0 =
+    ap (number_from_digits 16) zeros ∙ number_pad 16 k [] ∙ (let z : 0 * 16 ^ k ≡ 0 = omega arith in z) in
+    let left : n ≡ number_from_digits 16 front * 16 ^ k =
+    word_number n fits ∙ rw back at (number_split 16 start ns (omega arith)) ∙ omega (arith, nothing) in
+    let right : m / 2 ^ (4 * start) ≡ number_from_digits 16 rest =
+    rw (hex_pow start) (ap (λ j. j / 16 ^ start) (word_number m fits')
+    ∙ rw back' at (number-div 16 k ms (word_below m) (omega arith))) in
+    let number : n + m / 2 ^ (4 * start) ≡ number_from_digits 16 out =
+    (λ j. left j + right j)
+    ∙ sym (number_after_append 16 0 front rest ∙ number_after 16 (number_from_digits 16 front) rest
+    ∙ ap (λ j. number_from_digits 16 front * 16 ^ j + number_from_digits 16 rest) size') in
+    (omega (arith, word_lt out size below), word_of_nibbles out _ size below number)
+
+-- ---- packing
+-- the low nibbles of digits
+abbrev pub low_nibbles : List ℕ → List ℕ
+low_nibbles ds = map (λ d. d % 16) ds
+
+low_below : (ds : List ℕ) → AllBelowBase 16 (low_nibbles ds)
+low_below [] = tt
+low_below (d ∷ ds) = (omega arith, low_below ds)
+
+-- one digit more
+pub pack_more : (ds : List ℕ) (i n d : ℕ) → i < length ds → length ds ≤ 16
+    → n ≡ number_from_digits 16 (low_nibbles (take i ds)) → d ≡ get_or ds i 0 % 16
+    → (n < 16 ^ 15) × (n * 16 + d ≡ number_from_digits 16 (low_nibbles (take (i + 1) ds)))
+pack_more ds i n d l few e f =
+    let before = low_nibbles (take i ds) in
+    let size : length before ≤ 15 =
+    omega (arith, length-map (take i ds) (λ (d : ℕ). d % 16), length-take-le i ds (omega arith)) in
+    let top : 16 ^ length before ≤ 16 ^ 15 = pow-le-pow_right (omega arith) size in (
+      omega (arith, number_lt 16 before (low_below (take i ds)), top),
+      sym (ap (number_from_digits 16) (map_more (λ d. d % 16) ds i 0 l) ∙ number_push 16 before (get_or ds i 0 % 16)
+          ∙ (λ j. sym e j * 16 + sym f j)),
+    )
+
+-- a left shift appends zeros to the low nibbles
+pub packed : (ds : List ℕ) (n u r : ℕ) → length ds ≤ 16 → n ≡ number_from_digits 16 (low_nibbles ds)
+    → u ≡ 4 * (16 - length ds) → r ≡ n * 2 ^ u % 2 ^ 64
+    → word_nibbles r ≡ low_nibbles ds ++ replicate (16 - length ds) 0
+packed ds n u r few e by result =
+    let k = 16 - length ds in
+    let out = low_nibbles ds ++ replicate k 0 in
+    let size : length out ≡ 16 =
+    omega (arith, length-append (low_nibbles ds) (replicate k 0), length-map ds (λ (d : ℕ). d % 16), length-replicate {A = ℕ} k 0) in
+    let below = append_below (low_nibbles ds) (replicate k 0) (low_below ds) (zeros_below k) in
+    let number : n * 16 ^ k ≡ number_from_digits 16 out =
+    ap (λ m. m * 16 ^ k) e ∙ sym (number_pad 16 k (low_nibbles ds)) in
+    word_of_nibbles out r size below
+    (result ∙ rw (by, hex_pow k) (ap (λ m. m % 2 ^ 64) number ∙ mod-eq_of_lt (word_lt out size below)))
+
+-- ---- words of padded bytes
+-- a word with the first sixteen digits, and zeros after fewer, is their packed BCD number
+pub bcd_of_word : (n : ℕ) (ds : List ℕ) → n < 2 ^ 64
+    → ((k : ℕ) → k < 16 → get_or (word_nibbles n) k 0 ≡ get_or ds k 0) → n ≡ bcd_number ds
+unfolding bcd_number
+bcd_of_word n ds fits same =
+    let size = length-word_nibbles n in
+    word_number n fits
+    ∙ ap (number_from_digits 16)
+    (same_number_lists (word_nibbles n) (padded 16 ds) (omega (arith, length-padded 16 ds)) (λ k h.
+    let l : k < 16 = omega arith in same k l ∙ sym (get_or-padded 16 ds k l)))
+
+-- the bytes of such a word are the digits, padded
+pub word_pads : (n len : ℕ) (ds : List ℕ) → length ds ≡ len → len ≤ 16
+    → ((k : ℕ) → k < len → get_or ds k 0 < 10)
+    → ((k : ℕ) → k < 16 → get_or (word_nibbles n) k 0 ≡ get_or ds k 0) → EncodesPadded (to_be_bytes w64 n) len ds
+unfolding word_nibbles
+word_pads n len ds size few decimal same =
+    let count = length-nibbles (to_be_bytes w64 n) in
+    pads _ ds len (omega arith) size
+    (λ k. elim (cases_lt k 16) [
+      | inl l ↦ same k l
+      | inr l ↦ get_or_past (nibbles (to_be_bytes w64 n)) k 0 (omega arith) ∙ sym (get_or_past ds k 0 (omega arith))
+    ]) decimal
+
+-- the word of the first eight padded bytes has the first sixteen digits
+pub front_at : (bytes : List ℕ) (len n k : ℕ) → IsPadded bytes len → word_nibbles n ≡ take 16 (nibbles bytes) → k < 16
+    → get_or (word_nibbles n) k 0 ≡ get_or (digits_in bytes len) k 0
+front_at bytes len n k p e h =
+    ap (λ l. get_or l k 0) e ∙ get_or-take 16 (nibbles bytes) k 0 h ∙ sym (digit_at bytes len p k)
+
+-- and of up to sixteen, all of them
+pub few_at : (bytes : List ℕ) (len n : ℕ) → IsPadded bytes len → len ≤ 16 → word_nibbles n ≡ take 16 (nibbles bytes)
+    → (k : ℕ) → get_or (word_nibbles n) k 0 ≡ get_or (digits_in bytes len) k 0
+few_at bytes len n p few e k = elim (cases_lt k 16) [
+  | inl l ↦ front_at bytes len n k p e l
+  | inr l ↦ get_or_past (word_nibbles n) k 0 (omega (arith, length-word_nibbles n))
+      ∙ sym (get_or_past (digits_in bytes len) k 0 (omega (arith, length_digits bytes len p)))
+]
+
+same_take : (xs ys : List ℕ) (count k : ℕ) → (k < count → get_or xs k 0 ≡ get_or ys k 0)
+    → get_or (take count xs) k 0 ≡ get_or (take count ys) k 0
+same_take xs ys count k same = elim (cases_lt k count) [
+  | inl l ↦ get_or-take count xs k 0 l ∙ same l ∙ sym (get_or-take count ys k 0 l)
+  | inr l ↦ get_or_past (take count xs) k 0 (omega (arith, length-take count xs))
+      ∙ sym (get_or_past (take count ys) k 0 (omega (arith, length-take count ys)))
+]
+
+joined_at : (xs ys ps qs : List ℕ) (start k : ℕ) → length xs ≡ start → length ps ≡ start
+    → get_or xs k 0 ≡ get_or ps k 0 → get_or ys (k - start) 0 ≡ get_or qs (k - start) 0
+    → get_or (xs ++ ys) k 0 ≡ get_or (ps ++ qs) k 0
+joined_at xs ys ps qs start k l m e f = elim (cases_lt k start) [
+  | inl h ↦ grind (arith, nibble_rules)
+  | inr h ↦ grind (arith, nibble_rules)
+]
+
+-- the bytes of a word with the first digits of padded bytes
+pub keep_pads : (bytes : List ℕ) (len count w n : ℕ) → IsPadded bytes len → count ≤ len → count ≤ 16
+    → word_nibbles w ≡ take 16 (nibbles bytes)
+    → word_nibbles n ≡ take count (word_nibbles w) ++ replicate (16 - count) 0
+    → EncodesPadded (to_be_bytes w64 n) count (take count (digits_in bytes len))
+keep_pads bytes len count w n p l few e f =
+    let ds = digits_in bytes len in
+    let size = length_digits bytes len p in
+    word_pads n count (take count ds) (length-take-le count ds (omega arith)) few
+    (λ k h. rw (get_or-take count ds k 0 h) (p.decimal k 0 (omega arith)))
+    (λ k h. ap (λ l. get_or l k 0) f ∙ padded_at (take count (word_nibbles w)) (16 - count) k
+    ∙ same_take (word_nibbles w) ds count k (λ m. front_at bytes len w k p e h))
+
+-- the bytes of a word without the first of up to sixteen digits of padded bytes
+pub cut_pads : (bytes : List ℕ) (len count w n : ℕ) → IsPadded bytes len → count ≤ len → len ≤ 16
+    → word_nibbles w ≡ take 16 (nibbles bytes)
+    → word_nibbles n ≡ drop count (word_nibbles w) ++ replicate count 0
+    → EncodesPadded (to_be_bytes w64 n) (len - count) (drop count (digits_in bytes len))
+cut_pads bytes len count w n p l few e f =
+    let ds = digits_in bytes len in
+    let size = length_digits bytes len p in
+    word_pads n (len - count) (drop count ds) (omega (arith, length-drop count ds)) (omega arith)
+    (λ k h. rw (get_or-drop count ds k 0) (p.decimal (count + k) 0 (omega arith)))
+    (λ k h. ap (λ l. get_or l k 0) f ∙ rest_at (word_nibbles w) count count k (count + k) refl
+    ∙ few_at bytes len w p few e (count + k) ∙ sym (get_or-drop count ds k 0))
+
+-- the bytes of a word with digits after those of padded bytes and zeros
+pub join_pads : (bytes : List ℕ) (len start w v n : ℕ) (es : List ℕ) → IsPadded bytes len → len ≤ start
+    → start + length es ≤ 16 → All (λ d. d < 10) es
+    → word_nibbles w ≡ take 16 (nibbles bytes)
+    → ((k : ℕ) → get_or (word_nibbles v) k 0 ≡ get_or es k 0)
+    → word_nibbles n ≡ take start (word_nibbles w) ++ take (16 - start) (word_nibbles v)
+    → EncodesPadded (to_be_bytes w64 n) (start + length es) ((digits_in bytes len ++ replicate (start - len) 0) ++ es)
+join_pads bytes len start w v n es p l few digits e f g =
+    let ds = digits_in bytes len in
+    let size = length_digits bytes len p in
+    let front = ds ++ replicate (start - len) 0 in
+    let count : length front ≡ start =
+    omega (arith, length-append ds (replicate (start - len) 0), length-replicate {A = ℕ} (start - len) 0) in
+    let size' = length-word_nibbles w in
+    let below : All (λ d. d < 10) (front ++ es) =
+    All-append (λ d. d < 10) front es
+    (All-append (λ d. d < 10) ds _ p.decimal (All-replicate (λ d. d < 10) (start - len) 0 (omega arith))) digits in
+    let total = length-append front es in
+    word_pads n (start + length es) (front ++ es) (omega arith) few (λ k h. below k 0 (omega arith))
+    (λ k h. ap (λ l. get_or l k 0) g
+    ∙ joined_at (take start (word_nibbles w)) (take (16 - start) (word_nibbles v)) front es start k
+    (length-take-le start (word_nibbles w) (omega arith)) count
+    (elim (cases_lt k start) [
+      | inl m ↦ get_or-take start (word_nibbles w) k 0 m ∙ front_at bytes len w k p e h
+          ∙ sym (padded_at ds (start - len) k)
+      | inr m ↦ get_or_past (take start (word_nibbles w)) k 0 (omega (arith, length-take start (word_nibbles w)))
+          ∙ sym (get_or_past front k 0 (omega arith))
+    ])
+    (elim (cases_lt (k - start) (16 - start)) [
+      | inl m ↦ get_or-take (16 - start) (word_nibbles v) (k - start) 0 m ∙ f (k - start)
+      | inr m ↦ get_or_past (take (16 - start) (word_nibbles v)) (k - start) 0
+          (omega (arith, length-take (16 - start) (word_nibbles v)))
+          ∙ sym (get_or_past es (k - start) 0 (omega arith))
+    ]))
+
+-- the digits after those of padded bytes are 0
+pub zeros_after : (bytes : List ℕ) (len start w : ℕ) → IsPadded bytes len → len ≤ start → start ≤ 16
+    → word_nibbles w ≡ take 16 (nibbles bytes) → drop start (word_nibbles w) ≡ replicate (16 - start) 0
+zeros_after bytes len start w p l few e =
+    let size = length-word_nibbles w in
+    let count = length-drop start (word_nibbles w) in
+    same_number_lists _ _ (omega (arith, length-replicate {A = ℕ} (16 - start) 0)) (λ k h.
+    get_or-drop start (word_nibbles w) k 0
+    ∙ front_at bytes len w (start + k) p e (omega arith)
+    ∙ get_or_past (digits_in bytes len) (start + k) 0 (omega (arith, length_digits bytes len p))
+    ∙ sym (get_or-replicate (16 - start) k 0 0 (omega arith)))
+
+-- the word of the digits of a text
+pub text_at : (text : List ℕ) (n : ℕ) → AllDigits 10 text
+    → word_nibbles n ≡ low_nibbles text ++ replicate (16 - length text) 0
+    → (k : ℕ) → get_or (word_nibbles n) k 0 ≡ get_or (map digit_value text) k 0
+text_at text n all e k =
+    ap (λ l. get_or l k 0) e ∙ padded_at (low_nibbles text) (16 - length text) k
+    ∙ elim (cases_lt k (length text)) [
+      | inl l ↦ grind (arith, nibble_rules, ascii_at text all k l)
+      | inr l ↦ grind (arith, nibble_rules)
+    ]
+
+-- the bytes of a word with the digits of a text after those of padded bytes
+pub join_text : (bytes : List ℕ) (len w v n : ℕ) (text : List ℕ) → IsPadded bytes len → len + length text ≤ 16
+    → AllDigits 10 text → word_nibbles w ≡ take 16 (nibbles bytes)
+    → word_nibbles v ≡ low_nibbles text ++ replicate (16 - length text) 0
+    → word_nibbles n ≡ take len (word_nibbles w) ++ take (16 - len) (word_nibbles v)
+    → EncodesPadded (to_be_bytes w64 n) (len + length text) (digits_in bytes len ++ map digit_value text)
+join_text bytes len w v n text p few all e f g =
+    let es = map digit_value text in
+    let size : length es ≡ length text = length-map text digit_value in
+    let none : len - len ≡ 0 = omega arith in
+    let digits : All (λ d. d < 10) es = λ k d h.
+    let l : k < length text = omega arith in
+    omega (arith, get_or_default es k d 0 h, value_of text k l, ascii_at text all k l) in
+    rw (none, append-nil, size) at (join_pads bytes len len w v n es p (omega arith) (omega arith) digits e (text_at text v all f) g)
+
+-- the bytes of the first digits of a number, with zeros after them
+pub kept_pads : (number n len : ℕ) → IsPacked (leading_bytes number len) len
+    → word_nibbles n ≡ take len (word_nibbles number) ++ replicate (16 - len) 0
+    → EncodesPadded (to_be_bytes w64 n) len (digits_in (leading_bytes number len) len)
+unfolding word_nibbles
+kept_pads number n len p e =
+    let (few, same) = leading_digits number len p in
+    let ds = digits_in (leading_bytes number len) len in
+    let ns = nibbles (to_be_bytes w64 number) in
+    let all : length ns ≡ 16 = omega (arith, length-nibbles (to_be_bytes w64 number)) in
+    let size : length ds ≡ len = ap length (sym same) ∙ length-take-le len ns (omega arith) in
+    word_pads n len ds size few (λ k h. p.decimal k 0 (omega arith)) (λ k h.
+    ap (λ l. get_or l k 0) e ∙ padded_at (take len ns) (16 - len) k ∙ ap (λ l. get_or l k 0) same)
+
+-- two lists of up to sixteen digits, of the same length and with the same number, are equal
+pub same_number : (ds es : List ℕ) → All (λ d. d < 10) ds → All (λ d. d < 10) es → length ds ≡ length es
+    → length ds ≤ 16 → bcd_number ds ≡ bcd_number es → ds ≡ es
+unfolding bcd_number
+same_number ds es h g n few e =
+    let all = sym (sixteen_nibbles ds h) ∙ ap (λ m. nibbles (to_be_bytes w64 m)) e ∙ sixteen_nibbles es g in
+    same_number_lists _ _ n (λ i l.
+    sym (get_or-padded 16 ds i (omega arith)) ∙ ap (λ l. get_or l i 0) all ∙ get_or-padded 16 es i (omega arith))
