@@ -208,6 +208,15 @@ lines 2 '1\n' '' "$usage" field:1 delimiter:ab
 lines 2 '1\n' '' "$usage" field:1 field:2
 lines 2 '1\n' '' "$usage" shift:1 field:1
 lines 2 '250\n' '' "$usage" shift:-2 skip
+
+# A header is copied; the line after it is line 2.
+lines 0 'price\n250\n' $'price\n2.50\n' '' header shift:-2
+lines 0 'a,"b\r\n"x,y",250\r\n' $'a,"b\r\n"x,y",2.50\r\n' '' csv header field:2 shift:-2
+lines 1 'x\nx\n7' $'x\n\n7\n' $'line 2: start: syntax\n' skip header
+lines 0 '\0377' $'\xff\n' '' header
+lines 0 '' '' '' header
+lines 2 'x\n' '' "$usage" header header
+lines 2 'x\n' '' "$usage" shift:1 header
 lines 2 '1\n' '' "$usage" $'concat:\xc3\x28'
 printf '1\n2\n' > "$room/in"
 { "$room/fixdec_lines" up > /dev/null 2>&1; [ "$(cat)" = $'1\n2' ]; } < "$room/in"

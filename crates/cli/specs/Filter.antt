@@ -29,8 +29,8 @@ pub record HasWords
 abbrev pub NamesFilter : List (String Global) → Filter → Type 0
 NamesFilter words filter =
     HasWords words
-    (λ options read others. (filter.on_error ≡ options.on_error) × HasField options filter.field
-    × NamesConversion read others filter.conversion)
+    (λ options read others. (filter.on_error ≡ options.on_error) × (filter.has_header ≡ options.has_header)
+    × HasField options filter.field × NamesConversion read others filter.conversion)
 
 -- they are not, for this error: the options have no field, or the other words name no conversion
 abbrev pub FilterFails : List (String Global) → FilterError → Type 0

@@ -18,16 +18,34 @@ use Rattle.cli.specs.FieldConversion.{IsLineResult, LineFails}
 
 -- ---- The result of a line.
 
+-- the line with this number is the header
+abbrev pub IsHeader : Filter → ℕ → Type 0
+IsHeader filter number = (filter.has_header ≡ true) × (number ≡ 1)
+
+-- the result of the line with this number: a header is its own text, and each other line is converted
+abbrev pub IsTextOrError : Filter → ℕ → List ℕ → Result (List ℕ) OperationError → Type 0
+IsTextOrError filter number line result =
+    (IsHeader filter number × (result ≡ Ok line))
+    ⊎ (¬ IsHeader filter number × IsLineResult filter.field filter.conversion line result)
+
+-- P holds of the text of the line with this number
+abbrev pub HasText : Filter → ℕ → List ℕ → (List ℕ → Type 0) → Type 0
+HasText filter number line P = (text : List ℕ) × IsTextOrError filter number line (Ok text) × P text
+
+-- the conversion of the line with this number fails with this error; a header has none
+abbrev pub ConversionFails : Filter → ℕ → List ℕ → OperationError → Type 0
+ConversionFails filter number line error =
+    ¬ IsHeader filter number × LineFails filter.field filter.conversion line error
+
 -- a result with the number of the line in its error
 abbrev pub numbered : ℕ → Result (List ℕ) OperationError → Result (List ℕ) FilterError
 numbered number (Ok text) = Ok text
 numbered number (Err error) = Err (Operation number error)
 
--- the result of the line with this number: its text, or its error
+-- the same with the number of the line in its error
 abbrev pub IsResultOfLine : Filter → ℕ → List ℕ → Result (List ℕ) FilterError → Type 0
 IsResultOfLine filter number line result =
-    (converted : Result (List ℕ) OperationError) × IsLineResult filter.field filter.conversion line converted
-    × (result ≡ numbered number converted)
+    (found : Result (List ℕ) OperationError) × IsTextOrError filter number line found × (result ≡ numbered number found)
 
 -- the output of a line: its text and a line feed, or an empty line if it has none
 abbrev pub output_of_line : Result (List ℕ) FilterError → List ℕ
@@ -77,7 +95,7 @@ IsErrorOfReading number error _ = ⊥
 abbrev pub IsErrorOfLine : Filter → ℕ → List ℕ → FilterError → Type 0
 IsErrorOfLine filter number line (Operation at error) =
     (at ≡ number) × (filter.on_error ≡ Skip → status_of_operation error ≢ 1) × (error ≢ operation.Output)
-    × LineFails filter.field filter.conversion line error
+    × ConversionFails filter number line error
 IsErrorOfLine filter number line _ = ⊥
 
 -- ---- What a filter does to a line.

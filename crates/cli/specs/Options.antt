@@ -11,7 +11,7 @@ use Rattle.cli.specs.declared.options.Options.{Options}
 
 -- the options of no words
 abbrev pub none : Options
-none = record { on_error = Stop; index = None; delimiter = None; is_csv = false }
+none = record { on_error = Stop; index = None; delimiter = None; is_csv = false; has_header = false }
 
 -- ---- One word.
 
@@ -35,6 +35,7 @@ abbrev pub Adds : List ℕ → Options → Options → Type 0
 Adds word old new =
     ((word ≡ codes "skip") × (old.on_error ≡ Stop) × (new ≡ record old { on_error = Skip }))
     ⊎ ((word ≡ codes "csv") × (old.is_csv ≡ false) × (new ≡ record old { is_csv = true }))
+    ⊎ ((word ≡ codes "header") × (old.has_header ≡ false) × (new ≡ record old { has_header = true }))
     ⊎ AddsParameter word old new
 
 -- ---- Lists of words.

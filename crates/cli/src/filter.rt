@@ -1,10 +1,9 @@
 //! The filter: the conversion of each line of an input.
-ghost use Rattle.std.specs.Prelude.{◌≡◌, ◌≢◌, ◌∷◌, ◌++◌, [], Ok, Err, Some, true, IfOk, IfErr, IfSome, OnOk};
+ghost use Rattle.std.specs.Prelude.{◌≡◌, ◌≢◌, ◌∷◌, ◌++◌, [], Ok, Err, Some, true, IfOk, IfErr, IfSome, OnOk, OnErr};
 ghost use Rattle.std.specs.Io.KnownBytes.{Appends, IsAtEnd};
 ghost use Rattle.std.specs.Io.BufRead.{strip_last};
 ghost use Rattle.decimal_digits.specs.AppendsPrefix.{AppendsPrefix};
-ghost use Rattle.cli.specs.FieldConversion.{HasLineText, LineFails};
-ghost use Rattle.cli.specs.FilterLine.{IsRead, IsErrorOfReading, FiltersLine, FiltersNext};
+ghost use Rattle.cli.specs.FilterLine.{HasText, ConversionFails, IsRead, IsErrorOfReading, FiltersLine, FiltersNext};
 ghost use Rattle.cli.specs.Lines.{Filters, IsConsumed};
 
 use crate::conversion::Conversion;
@@ -13,7 +12,7 @@ use crate::error::{FilterError, OperationError};
 use crate::field_conversion::print_field_line;
 use crate::fields::Field;
 use crate::fixdec::print_line;
-use fixed_decimal::Sink;
+use fixed_decimal::{Sink, SinkFault};
 use memchr::memchr;
 use std::alloc::Global;
 use std::io;
@@ -37,24 +36,47 @@ pub struct Filter<'a> {
     pub conversion: Conversion<'a>,
     /// The field that is converted. `None`: each line is converted as a whole.
     pub field: Option<Field<'a>>,
+    /// Whether the first line is a header, which is copied.
+    pub has_header: bool,
 }
 
 impl Filter<'_> {
-    /// Writes the text of a line and a line feed to a sink.
-    fn print<W: Sink>(&self, alloc: Global, line: &[u8], sink: &mut W) -> Result<(), OperationError>
-        ensures printed { OnOk result (HasLineText self.now.field self.now.conversion line.now
+    /// Writes the text of the line with this number and a line feed to a sink.
+    fn print<W: Sink>(
+        &self,
+        alloc: Global,
+        number: u64,
+        line: &[u8],
+        sink: &mut W,
+    ) -> Result<(), OperationError>
+        ensures printed { OnOk result (HasText self.now number line.now
             (λ text. Appends (W.contents sink.old) (W.contents sink.new) (text ++ 10 ∷ []))) }
-        ensures fails_with { IfErr result (LineFails self.now.field self.now.conversion line.now) }
+        ensures fails_with { IfErr result (λ error. error ≢ OperationError.Output
+            → ConversionFails self.now number line.now error) }
         ensures unchanged_on_error { IfErr result (λ error. error ≢ OperationError.Output → sink.new ≡ sink.old) }
         ensures failed { result ≡ Err OperationError.Output → W.has_failed sink.new ≡ true }
-        ensures prefix { result ≡ Err OperationError.Output → HasLineText self.now.field self.now.conversion line.now
+        ensures prefix { result ≡ Err OperationError.Output → HasText self.now number line.now
             (λ text. AppendsPrefix (W.contents sink.old) (W.contents sink.new) (text ++ 10 ∷ [])) }
     {
+        if self.has_header && number == 1 {
+            copy_line(line, sink)?;
+            return Ok(());
+        }
         match &self.field {
             None => print_line(alloc, &self.conversion, line, sink),
             Some(field) => print_field_line(alloc, &self.conversion, field, line, sink),
         }
     }
+}
+
+/// Writes a line and a line feed to a sink.
+fn copy_line<W: Sink>(line: &[u8], sink: &mut W) -> Result<(), SinkFault>
+    ensures ok { OnOk result (Appends (W.contents sink.old) (W.contents sink.new) (line.now ++ 10 ∷ [])) }
+    ensures err { OnErr result (AppendsPrefix (W.contents sink.old) (W.contents sink.new) (line.now ++ 10 ∷ [])) }
+    ensures failed { OnErr result (W.has_failed sink.new ≡ true) }
+{
+    sink.put_bytes(line)?;
+    sink.put_byte(b'\n')
 }
 
 /// Removes a trailing line feed.
@@ -106,7 +128,7 @@ fn filter_line<W: Sink, D: Diagnostics<FilterError>>(
         (record { before = diagnostics.old; after = diagnostics.new }) result }
     ensures failed { result ≡ Err FilterError.Output → W.has_failed out.new ≡ true }
 {
-    let error = match filter.print(alloc, line, out) {
+    let error = match filter.print(alloc, number, line, out) {
         Ok(()) => return Ok(true),
         Err(OperationError::Output) => return Err(FilterError::Output),
         Err(error) => error,
@@ -199,8 +221,8 @@ fn filter_next<R: BufRead, W: Sink, D: Diagnostics<FilterError>>(
 /// Makes the calls on each line of the input, writes the texts to `out`, each with a line feed, and returns whether
 /// each line has a text.
 ///
-/// A line is all bytes up to a line feed; the bytes after the last line feed are a line if there are any. With `Skip`
-/// the error of a line is reported, and an empty line is written.
+/// A line is all bytes up to a line feed; the bytes after the last line feed are a line if there are any. A header is
+/// copied. With `Skip` the error of a line is reported, and an empty line is written.
 ///
 /// # Errors
 ///

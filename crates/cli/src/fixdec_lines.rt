@@ -40,6 +40,7 @@ fn parse_filter(alloc: Global, words: &[String]) -> Result<Filter<'_>, FilterErr
             on_error: options.on_error,
             conversion,
             field,
+            has_header: options.has_header,
         }),
         Err(error) => Err(FilterError::from(error)),
     }

@@ -38,6 +38,7 @@ pub const OPTIONS: &str = "usage: fixdec_lines [OPTION].. [read:LOCALE] [CALL]..
 field:N                 converts field N of each line, from 1, and copies the other bytes
 delimiter:C             C is between two fields: by default a tab, with csv a comma
 csv                     fields may be in quotes, as in RFC 4180
+header                  the first line is copied
 skip                    reports a line that fails, and writes an empty line
 ";
 

@@ -19,6 +19,8 @@ pub struct Options<'a> {
     pub delimiter: Option<&'a [u8]>,
     /// `csv`: whether fields may be in quotes.
     pub is_csv: bool,
+    /// `header`: whether the first line is copied.
+    pub has_header: bool,
 }
 
 /// Parses `field:N` as the 0-based index of the field.
@@ -54,6 +56,7 @@ impl<'a> Options<'a> {
             index: None,
             delimiter: None,
             is_csv: false,
+            has_header: false,
         }
     }
 
@@ -99,6 +102,11 @@ impl<'a> Options<'a> {
             "csv" if self.is_csv => None,
             "csv" => Some(Options {
                 is_csv: true,
+                ..self
+            }),
+            "header" if self.has_header => None,
+            "header" => Some(Options {
+                has_header: true,
                 ..self
             }),
             _ => self.with_parameter(word),

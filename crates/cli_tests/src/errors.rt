@@ -162,6 +162,7 @@ fn a_skipping_filter_reports_each_refusal(rt: HostRuntime) -> Result<(), Fail> {
             formatter: None,
         },
         field: None,
+        has_header: false,
     };
     let answer = filter_lines(alloc, &filter, &mut input, &mut out, &mut log);
     assert_eq!(rt; answer, Ok(false));

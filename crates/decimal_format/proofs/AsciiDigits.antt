@@ -23,6 +23,10 @@ ten_digits (suc (suc (suc (suc (suc (suc (suc (suc zero)))))))) h = encode_ascii
 ten_digits (suc (suc (suc (suc (suc (suc (suc (suc (suc zero))))))))) h = encode_ascii 57 (omega arith)
 ten_digits (suc (suc (suc (suc (suc (suc (suc (suc (suc (suc d)))))))))) h = absurd (omega (arith, h))
 
+-- a digit of symbols with ASCII digits
+pub digit_text-ascii : (s : Symbols) (d : ℕ) → s.digits ≡ ascii_digits → d < 10 → digit_text s d ≡ (48 + d) ∷ []
+digit_text-ascii s d e h = ap (λ l. encode_utf8 (slice_index l d)) e ∙ ten_digits d h
+
 -- ASCII digits by symbols with ASCII digits are unchanged
 pub digits_text-ascii : (s : Symbols) (bytes : List ℕ) → s.digits ≡ ascii_digits
     → ((k : ℕ) → k < length bytes → (48 ≤ slice_index bytes k) × (slice_index bytes k < 58))
@@ -31,8 +35,7 @@ digits_text-ascii s [] e h = refl
 digits_text-ascii s (byte ∷ rest) e h =
     let range = h 0 (omega arith) in
     let here : digit_text s (byte - 48) ≡ byte ∷ [] =
-    ap (λ l. encode_utf8 (slice_index l (byte - 48))) e
-    ∙ ten_digits (byte - 48) (omega (arith, range.0, range.1))
+    digit_text-ascii s (byte - 48) e (omega (arith, range.0, range.1))
     ∙ ap (λ b. b ∷ []) (let same : 48 + (byte - 48) ≡ byte = omega (arith, range.0) in same) in
     flat_map-cons (λ b. digit_text s (b - 48)) byte rest
     ∙ (λ i. here i ++ digits_text-ascii s rest e (λ k l. h (suc k) (omega (arith, l))) i)

@@ -11,3 +11,4 @@ pub mod DigitTexts
 pub mod NumeralTexts
 pub mod Scans
 pub mod NumeralLaws
+pub mod Apart

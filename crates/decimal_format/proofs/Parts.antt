@@ -1,6 +1,6 @@
 -- The text of a part: digits without a separator between them.
 use Rattle.std.proofs.Common.{◌≡◌, ℕ, suc, ◌+◌, ◌-◌, ◌<◌, ◌≤◌, List, [], ◌∷◌, ◌++◌, length, get_or, Option, refl, sym, ◌∙◌, ap, subst, arith, append_assoc, append-nil}
-use Rattle.std.specs.Prelude.{false, if◌then◌else◌, slice_index, slice_range, EachIndex, ℤ, pos, ◌-ℤ◌}
+use Rattle.std.specs.Prelude.{Bool, false, if◌then◌else◌, slice_index, slice_range, EachIndex, ℤ, pos, negsuc, ◌-ℤ◌, ◌<ℤ◌}
 use Rattle.std.proofs.lemmas.Int.{ints}
 use Rattle.std.proofs.lemmas.List.Edits.{length-between, get_or-between}
 use Rattle.std.proofs.lemmas.List.Concat.{flat_map-cons}
@@ -12,8 +12,8 @@ use Rattle.decimal_format.specs.declared.grouping.GroupingStrategy.{GroupingStra
 use Rattle.decimal_format.specs.Grouping.{separates}
 use Rattle.decimal_format.specs.Symbols.{Symbols, digit_text}
 use Rattle.decimal_format.specs.Formatted.{Formatted, separator_before, separator_after, magnitude_text, formatted_down, shown_count, absolute_text}
-use Rattle.decimal_format.specs.Parts.{magnitude_of, part_text, AreDigits, IsRun, digits_text}
-use Rattle.decimal_format.proofs.Magnitudes.{formatted_down-suc, formatted_down-zero, formatted_down-add}
+use Rattle.decimal_format.specs.Parts.{magnitude_of, part_text, AreDigits, IsRun, digits_text, run_text}
+use Rattle.decimal_format.proofs.Magnitudes.{formatted_down-suc, formatted_down-zero, formatted_down-add, digit_below}
 use Rattle.decimal_format.proofs.Pieces.{in_second}
 
 -- the digits of two pieces without a separator between them
@@ -64,14 +64,13 @@ module _ (f : Formatted) where
   below_more below k = omega (arith, ints)
 
   -- the text of digits with no separator between them
-  pub run_text : (below : ℕ) (bytes : List ℕ) → 0 < length bytes → AreDigits f below bytes
+  pub run_is : (below : ℕ) (bytes : List ℕ) → 0 < length bytes → AreDigits f below bytes
       → IsRun f below (length bytes)
       → part_text f below (length bytes)
-      ≡ separator_before f.symbols (magnitude_of f below)
-      ++ (digits_text f.symbols bytes
-      ++ separator_after f.symbols f.strategy f.value.absolute.hi (magnitude_of f (below + length bytes - 1)))
-  run_text below [] some digits run = absurd (omega (arith, some))
-  run_text below (d ∷ ds) some digits run =
+      ≡ run_text f.symbols (separator_before f.symbols (magnitude_of f below))
+      (separator_after f.symbols f.strategy f.value.absolute.hi (magnitude_of f (below + length bytes - 1))) bytes
+  run_is below [] some digits run = absurd (omega (arith, some))
+  run_is below (d ∷ ds) some digits run =
       let last : below + length ds ≡ below + suc (length ds) - 1 = omega arith in
       down f.symbols f.strategy f.value.absolute.hi f.value.absolute.number (magnitude_of f below) d ds
       (λ k h. digits k h ∙ ap (λ x. 48 + digit f.value.absolute.number x) (sym (below_more below k)))
@@ -126,6 +125,46 @@ module _ (f : Formatted) where
         let at : magnitude_of f (below + (k + 1)) ≡ pos (m - (k + 1)) = omega (arith, ints, is, h, within) in
         ap (separator_before f.symbols) at;
   }
+
+  -- the text of the digits from one to another is what a run writes
+  pub run_between : (below i n : ℕ) (bytes before after : List ℕ) → 0 < n → i + n ≤ length bytes
+      → AreDigits f below bytes → IsRun f (below + i) n
+      → before ≡ separator_before f.symbols (magnitude_of f (below + i))
+      → after ≡ separator_after f.symbols f.strategy f.value.absolute.hi (magnitude_of f (below + i + n - 1))
+      → run_text f.symbols before after (slice_range bytes i (i + n)) ≡ part_text f (below + i) n
+  run_between below i n bytes before after some within digits run is_before is_after =
+      let run_bytes = slice_range bytes i (i + n) in
+      let size : length run_bytes ≡ n = length-between bytes i (i + n) within ∙ (omega arith) in
+      (λ k. run_text f.symbols (is_before k)
+      ((is_after ∙ ap (λ x. separator_after f.symbols f.strategy f.value.absolute.hi
+      (magnitude_of f (below + i + x - 1))) (sym size)) k) run_bytes)
+      ∙ sym (run_is (below + i) run_bytes (omega (arith, size, some)) (digits_between below i (i + n) bytes within
+      digits) (subst (IsRun f (below + i)) (sym size) run))
+      ∙ ap (part_text f (below + i)) size
+
+  -- the bytes of digits are ASCII digits
+  pub ascii_between : (below i j : ℕ) (bytes : List ℕ) → j ≤ length bytes → AreDigits f below bytes
+      → EachIndex (slice_range bytes i j)
+      (λ k. (48 ≤ slice_index (slice_range bytes i j) k) × (slice_index (slice_range bytes i j) k < 58))
+  ascii_between below i j bytes h digits k l =
+      let is = digits_between below i j bytes h digits k l in
+      let ten = digit_below f.value.absolute.number (magnitude_of f (below + i + k)) in
+      (omega (arith, is), omega (arith, is, ten))
+
+  -- the grouping separator after a run of integer digits, or none
+  pub after_run : (below m n : ℕ) (b : Bool) → magnitude_of f below ≡ pos m → 0 < n → n ≤ m + 1
+      → separates f.strategy f.symbols.sizes f.value.absolute.hi (pos (m - (n - 1))) ≡ b
+      → (if b then f.symbols.grouping else [])
+      ≡ separator_after f.symbols f.strategy f.value.absolute.hi (magnitude_of f (below + n - 1))
+  after_run below m n b is some within test =
+      let at : magnitude_of f (below + n - 1) ≡ pos (m - (n - 1)) = omega (arith, ints, is, some, within) in
+      ap (λ b. if b then f.symbols.grouping else []) (sym test)
+      ∙ ap (separator_after f.symbols f.strategy f.value.absolute.hi) (sym at)
+
+  -- no grouping separator is after a fraction digit
+  pub fraction_after : (m : ℤ) → m <ℤ pos 0 → separator_after f.symbols f.strategy f.value.absolute.hi m ≡ []
+  fraction_after (pos k) h = absurd (omega (arith, ints, h))
+  fraction_after (negsuc k) h = refl
 
   -- the digits that `write_digits` writes
   pub digits_from : (below : ℕ) (m : ℤ) (number : ℕ) (bytes : List ℕ) → m ≡ magnitude_of f below

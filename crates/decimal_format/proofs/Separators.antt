@@ -1,7 +1,7 @@
 -- Where the next separator is, and how many there are.
 use Rattle.std.proofs.Common.{◌≡◌, ℕ, zero, suc, ◌+◌, ◌-◌, ◌*◌, ◌/◌, ◌%◌, ◌<◌, ◌≤◌, inl, inr, Bool, true, false, refl, sym, ◌∙◌, ap, arith}
 use Rattle.std.specs.Prelude.{if◌then◌else◌, ◌==◌, ◌&&◌, nat_lt, nat_le, max, ℤ, pos, ◌≤ℤ◌}
-use Rattle.std.proofs.Math.Nat.{mod-add-div', add-mul-mod_self_right, add-mul-div_right, mod-eq_of_lt, mod-lt, mod_self, div_self, div-eq_of_lt, zero-div, zero-mod}
+use Rattle.std.proofs.Math.Nat.{mod-add-div', add-mul-mod_self_right, add-mul-div_right, mod-eq_of_lt, mod-lt, mod_self, mul-mod_left, div_self, div-eq_of_lt, zero-div, zero-mod}
 use Rattle.std.proofs.lemmas.Int.{ints}
 use Rattle.std.proofs.lemmas.Bool.{cases_lt}
 use Rattle.std.proofs.lemmas.Bool.Decides.{nat_tests}
@@ -65,6 +65,21 @@ module _ (strategy : GroupingStrategy) (sizes : GroupingSizes) (hi : ℤ) where
       ∙ (let e : (x % d - k == 0) ≡ false = grind (arith, nat_tests, h) in e) in
       ap (λ b. nat_lt 0 sizes.primary && (is_grouped strategy sizes hi && (nat_le sizes.primary (m - k) && b))) test
       ∙ ends_false (nat_lt 0 sizes.primary) (is_grouped strategy sizes hi) (nat_le sizes.primary (m - k))
+
+  -- a separator is at the remainder below a magnitude
+  pub separates_last : (m : ℕ) → 0 < sizes.primary → sizes.primary ≤ m → is_grouped strategy sizes hi ≡ true
+      → separates strategy sizes hi (pos (m - (m - sizes.primary) % secondary_size sizes)) ≡ true
+  separates_last m some least grouped =
+      let d = secondary_size sizes in
+      let x = m - sizes.primary in
+      let split : x ≡ x % d + x / d * d = omega (arith, mod-add-div' x d) in
+      let order : m - x % d - sizes.primary ≡ x / d * d = omega (arith, split, least) in
+      let reached : nat_le sizes.primary (m - x % d) ≡ true =
+      let h : sizes.primary ≤ m - x % d = omega (arith, split, least) in grind (arith, nat_tests, h) in
+      let first : nat_lt 0 sizes.primary ≡ true = grind (arith, nat_tests, some) in
+      let test : ((m - x % d - sizes.primary) % d == 0) ≡ true =
+      ap (λ y. y % d == 0) order ∙ ap (λ y. y == 0) (mul-mod_left (x / d) d) in
+      (λ i. first i && (grouped i && (reached i && test i)))
 
   -- a value that is grouped reaches the primary size
   pub grouped_least : (g : GroupingStrategy) → is_grouped g sizes hi ≡ true → pos sizes.primary ≤ℤ hi

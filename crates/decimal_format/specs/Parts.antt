@@ -1,6 +1,6 @@
 -- Private: cited only by the contracts of private functions.
 -- Parts of the text: digits without a separator between them.
-use Rattle.std.specs.Prelude.{◌≡◌, ℕ, zero, suc, if◌then◌else◌, ◌+◌, ◌-◌, ◌<◌, List, [], slice_index, EachIndex, flat_map, ℤ, pos, ◌-ℤ◌}
+use Rattle.std.specs.Prelude.{◌≡◌, ℕ, zero, suc, if◌then◌else◌, ◌+◌, ◌-◌, ◌<◌, List, [], ◌++◌, slice_index, EachIndex, flat_map, ℤ, pos, ◌-ℤ◌}
 use Rattle.decimal_digits.specs.Number.{digit}
 use Rattle.decimal_format.specs.declared.grouping.GroupingSizes.{GroupingSizes}
 use Rattle.decimal_format.specs.declared.grouping.GroupingStrategy.{GroupingStrategy}
@@ -31,6 +31,10 @@ pub record IsRun (f : Formatted) (below count : ℕ) : Type 0 where
 -- the bytes of ASCII digits, by the symbols
 abbrev pub digits_text : Symbols → List ℕ → List ℕ
 digits_text s = flat_map (λ byte. digit_text s (byte - 48))
+
+-- the same between the separators of a run
+abbrev pub run_text : Symbols → List ℕ → List ℕ → List ℕ → List ℕ
+run_text s before after bytes = before ++ (digits_text s bytes ++ after)
 
 -- the number of separators after the magnitudes from 0 to n - 1
 unfoldable pub separators_below : GroupingStrategy → GroupingSizes → ℤ → ℕ → ℕ

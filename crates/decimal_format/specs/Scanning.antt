@@ -97,12 +97,11 @@ pub record ReadsFraction (s : Symbols) (bytes : List ℕ) (n : ℕ) (old new : P
   pub text : bytes ≡ fraction_text s digits
   pub plain : AppendsPlain old new (plain_fraction digits)
 
--- a scan found this numeral
-pub record IsScanned (r : Scanned) (w : Numeral) : Type 0 where
+-- a scan found the sign and the numbers of digits of this numeral
+pub record HasCounts (r : Scanned) (w : Numeral) : Type 0 where
   pub sign : r.sign ≡ w.sign
   pub whole : r.integer_digits ≡ length w.whole
   pub fraction : r.fraction_digits ≡ length w.fraction
-  pub plain : IsPlain r.plain (plain_text w)
 
 -- the result is the value with the plain text of the digits; `Limit` exactly if there are too many digits; or `Memory`,
 -- for a plain text of more than 64 bytes or a value of more than `inline` digits

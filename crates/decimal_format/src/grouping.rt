@@ -35,7 +35,7 @@ pub struct GroupingSizes {
 
 /// Returns the remainder of a division. By 2 and 3, the usual sizes, it needs no division.
 #[inline]
-fn remainder(dividend: u32, divisor: u32) -> u32
+pub(crate) fn remainder(dividend: usize, divisor: usize) -> usize
     requires { 0 < divisor }
     ensures { result ≡ dividend % divisor }
 {
@@ -97,30 +97,40 @@ impl GroupingSizes {
         }
         let secondary = self.secondary_size() as u32;
         self.is_grouped(strategy, hi)
-            && (primary <= place && remainder(place - primary, secondary) == 0)
+            && (primary <= place && remainder((place - primary) as usize, secondary as usize) == 0)
     }
 
-    /// Returns the number of digits from an integer magnitude down to the next separator, or to magnitude 0.
+    /// Returns a number of digits, from an integer magnitude down, with no separator between them, and whether a
+    /// separator is after them: the digits to the next separator, or to magnitude 0, or `most`.
     ///
     /// In groups of 3 it is 1 from magnitude 3, and 3 from magnitude 5.
     #[inline]
-    pub(crate) fn digits_to_separator(
+    pub(crate) fn run_from(
         self,
         strategy: GroupingStrategy,
         hi: i16,
         magnitude: u32,
-    ) -> u32
-        requires { magnitude < 2 ^ 16 }
-        ensures some { 0 < result }
-        ensures within { result ≤ magnitude + 1 }
-        ensures none_between { (k : ℕ) → k + 1 < result
+        most: u32,
+    ) -> (u32, bool)
+        requires in_range { magnitude < 2 ^ 16 }
+        requires some { 0 < most }
+        ensures some { 0 < result.0 }
+        ensures at_most { result.0 ≤ most }
+        ensures within { result.0 ≤ magnitude + 1 }
+        ensures none_between { (k : ℕ) → k + 1 < result.0
             → separates strategy self hi (pos (magnitude - k)) ≡ false }
+        ensures last { separates strategy self hi (pos (magnitude - (result.0 - 1))) ≡ result.1 }
     {
         let primary = self.primary as u32;
         if primary == 0 || magnitude < primary || !self.is_grouped(strategy, hi) {
-            return magnitude + 1;
+            return (most.min(magnitude + 1), false);
         }
-        remainder(magnitude - primary, self.secondary_size() as u32) + 1
+        let offset = (magnitude - primary) as usize;
+        let before_last = remainder(offset, self.secondary_size() as usize) as u32;
+        if before_last >= most {
+            return (most, false);
+        }
+        (before_last + 1, true)
     }
 
     /// Returns the number of separators of a value with the highest magnitude `hi`, which is at least 0.

@@ -1,18 +1,18 @@
 //! Reading of formatted decimals.
-ghost use Rattle.std.specs.Prelude.{◌≡◌, ◌≢◌, ℕ, ◌≤◌, List, ◌++◌, length, Bool, true, false, ◌↔◌, IfSome, IfNone, IfOk, MatchOption, MatchResult, IsTrue, Err};
+ghost use Rattle.std.specs.Prelude.{◌≡◌, ◌≢◌, ℕ, ◌≤◌, List, [], ◌++◌, length, Bool, true, false, ◌↔◌, IfSome, IfNone, IfOk, MatchOption, MatchResult, IsTrue, Err};
 ghost use Rattle.std.specs.Int.Digits.{AllBelowBase};
 ghost use Rattle.decimal_unsigned.specs.Unsigned.{IsValue};
 ghost use Rattle.fixed_decimal.specs.Decimal.{Decimal};
 ghost use Rattle.decimal_format.specs.Readable.{IsReadable};
 ghost use Rattle.decimal_format.specs.Reading.{Numeral, AreDigits, digits_text, fraction_text, IsNumeral, IsBeyondLimits, IsWritten, NeedsMemory};
 ghost use Rattle.decimal_format.specs.Lenient.{ends_group, IsLenientNumeral, IsLenientlyWritten};
-ghost use Rattle.decimal_format.specs.Scanning.{may_separate, separated_if, SkipsSeparator, EndsInteger, ReadsDigits, ReadsFraction, IsScanned, IsValueOf};
+ghost use Rattle.decimal_format.specs.Scanning.{may_separate, separated_if, SkipsSeparator, EndsInteger, ReadsDigits, ReadsFraction, IsPlain, plain_text, HasCounts, IsValueOf};
 
 mod codes;
 mod lenient;
 mod plain_text;
 
-use crate::grouping::GroupingSizes;
+use crate::grouping::{GroupingSizes, remainder};
 use crate::symbols::DecimalSymbols;
 use codes::cut;
 use fixed_decimal::{DigitStore, ParseError, Sign, Signed, UnsignedOver};
@@ -22,33 +22,37 @@ use std::alloc::Global;
 /// The greatest number of integer digits, and of fraction digits, of a value.
 const MAX_DIGITS: usize = 32768;
 
-/// What a text says: a sign, the numbers of its digits, and its plain text.
-#[derive(Drop)]
+/// What a text says: a sign, and the numbers of its digits.
+#[derive(Clone, Copy, Debug)]
 struct Scanned {
     sign: Sign,
     integer_digits: usize,
     fraction_digits: usize,
     /// Whether the text has all grouping separators, or none.
     is_strict: bool,
-    plain: PlainText,
 }
 
 impl Scanned {
     /// Returns whether there are more digits on a side than a value can have.
     fn is_beyond_limits(&self) -> bool
-        ensures { (w : Numeral) → IsScanned self.now w → IsTrue result ↔ IsBeyondLimits w }
+        ensures { (w : Numeral) → HasCounts self.now w → IsTrue result ↔ IsBeyondLimits w }
     {
         self.integer_digits > MAX_DIGITS || self.fraction_digits > MAX_DIGITS
     }
 
     /// Returns the value of the digits.
-    fn value<D: DigitStore>(&self, alloc: Global) -> Result<Signed<UnsignedOver<D>>, ParseError>
-        ensures { (w : Numeral) → AreDigits w → IsScanned self.now w → IsValueOf D.L w result }
+    fn value<D: DigitStore>(
+        &self,
+        alloc: Global,
+        plain: &PlainText,
+    ) -> Result<Signed<UnsignedOver<D>>, ParseError>
+        ensures { (w : Numeral) → AreDigits w → HasCounts self.now w → IsPlain plain.now (plain_text w)
+            → IsValueOf D.L w result }
     {
         if self.is_beyond_limits() {
             return Err(ParseError::Limit);
         }
-        let Some(plain) = self.plain.bytes() else {
+        let Some(plain) = plain.bytes() else {
             return Err(ParseError::Memory);
         };
         match UnsignedOver::try_from_utf8(alloc, plain) {
@@ -65,7 +69,7 @@ fn ends_group(sizes: GroupingSizes, magnitude: usize) -> bool
 {
     let primary = sizes.primary as usize;
     let secondary = sizes.secondary_size() as usize;
-    primary > 0 && primary <= magnitude && (magnitude - primary) % secondary == 0
+    primary > 0 && primary <= magnitude && remainder(magnitude - primary, secondary) == 0
 }
 
 impl<'a> DecimalSymbols<'a> {
@@ -162,10 +166,11 @@ impl<'a> DecimalSymbols<'a> {
     }
 
     /// Finds the sign and the digits of a text, with separators at any ends of groups.
-    fn scan(&self, alloc: Global, text: &[u8]) -> Option<Scanned>
-        requires { IsReadable self.now }
-        ensures found { IfSome result (λ r. (w : Numeral) × IsLenientNumeral self.now text.now w × IsScanned r w
-            × (r.is_strict ≡ true ↔ IsNumeral self.now text.now w)) }
+    fn scan(&self, text: &[u8], plain: &mut PlainText) -> Option<Scanned>
+        requires readable { IsReadable self.now }
+        requires empty { IsPlain plain.old [] }
+        ensures found { IfSome result (λ r. (w : Numeral) × IsLenientNumeral self.now text.now w × HasCounts r w
+            × IsPlain plain.new (plain_text w) × (r.is_strict ≡ true ↔ IsNumeral self.now text.now w)) }
         ensures none { IfNone result ((w : Numeral) → ¬ IsLenientNumeral self.now text.now w) }
     {
         let (sign, number) = self.split_sign(text)?;
@@ -173,15 +178,13 @@ impl<'a> DecimalSymbols<'a> {
         if integer_digits == 0 {
             return None;
         }
-        let mut plain = PlainText::new(alloc);
-        let (is_strict, rest) = self.read_digits(integer_digits, true, number, &mut plain)?;
-        let fraction_digits = self.read_fraction(rest, &mut plain)?;
+        let (is_strict, rest) = self.read_digits(integer_digits, true, number, plain)?;
+        let fraction_digits = self.read_fraction(rest, plain)?;
         Some(Scanned {
             sign,
             integer_digits,
             fraction_digits,
             is_strict,
-            plain,
         })
     }
 
@@ -212,13 +215,14 @@ impl<'a> DecimalSymbols<'a> {
         ensures memory { (result ≡ Err ParseError.Memory)
             → (v : Decimal) × IsWritten self.now v text.now × NeedsMemory D.L v.absolute }
     {
-        let Some(scanned) = self.scan(alloc, text) else {
+        let mut plain = PlainText::new(alloc);
+        let Some(scanned) = self.scan(text, &mut plain) else {
             return Err(ParseError::Syntax);
         };
         if !scanned.is_strict {
             return Err(ParseError::Syntax);
         }
-        scanned.value(alloc)
+        scanned.value(alloc, &plain)
     }
 
     /// Reads a decimal with separators at any of the ends of groups.
@@ -237,9 +241,10 @@ impl<'a> DecimalSymbols<'a> {
         ensures memory { (result ≡ Err ParseError.Memory)
             → (v : Decimal) × IsLenientlyWritten self.now v text.now × NeedsMemory D.L v.absolute }
     {
-        match self.scan(alloc, text) {
-            Some(scanned) => scanned.value(alloc),
-            None => Err(ParseError::Syntax),
-        }
+        let mut plain = PlainText::new(alloc);
+        let Some(scanned) = self.scan(text, &mut plain) else {
+            return Err(ParseError::Syntax);
+        };
+        scanned.value(alloc, &plain)
     }
 }

@@ -81,6 +81,7 @@ impl<'a> DecimalSymbols<'a> {
     ghost use Rattle.fixed_decimal.specs.DecimalText.{decimal_text};
     ghost use Rattle.decimal_format.specs.Symbols.{symbols, affixes, digit_text, sign_affixes, AreValid, Rejects};
     ghost use Rattle.decimal_format.specs.Ascii.{ascii_digits, ascii_symbols};
+    ghost use Rattle.decimal_format.specs.Readable.{IsReadable};
 
     /// Makes the symbols of a locale.
     ///
@@ -122,8 +123,12 @@ impl<'a> DecimalSymbols<'a> {
     }
 
     /// Returns the symbols of a decimal's own text: `0` to `9`, `.`, `,` between groups of three, `-` and `+`.
+    ///
+    /// They are readable.
+    #[tactic(auto, using(crate::proofs::Apart::ascii_is_readable))]
     pub fn ascii() -> DecimalSymbols<'static>
         ensures value { result ≡ ascii_symbols }
+        ensures readable { IsReadable result }
     {
         DecimalSymbols {
             digits: ASCII_DIGITS,

@@ -1,15 +1,14 @@
 -- The symbols of each row are readable, by computation.
 use Rattle.std.proofs.Common.{◌≡◌, ℕ, ◌+◌, ◌-◌, ◌<◌, ◌≤◌, ◌==◌, ◌&&◌, ◌||◌, not, zero, suc, nat_eq, nat_lt, Bool, true, false, cond, List, [], ◌∷◌, ◌++◌, map, get_or, Option, Some, None, unwrap_or, inl, inr, refl, ap, lit≤, subst, ◌∙◌, sym, rules, add-sub_of_le, arith}
 use Rattle.std.proofs.lemmas.Bool.{cases_lt}
-use Rattle.std.proofs.lemmas.Bool.Decides.{nat_tests, Decides-eqb, Decides-below_and}
 use Rattle.std.proofs.lemmas.List.Sums.{AllPass-from_list_all}
-use Rattle.std.proofs.lemmas.Slice.Eq.{starts_is}
 use Rattle.std.specs.Prelude.{encode_utf8, slice_index}
-use Rattle.std.specs.List.{list_all, position, starts_with, Contains}
+use Rattle.std.specs.List.{list_all, position, Contains}
 use Rattle.std.specs.Option.{option_map_or}
 use Rattle.std.specs.Str.{bytes_eq}
 use Rattle.decimal_format.specs.declared.grouping.GroupingSizes.{GroupingSizes}
 use Rattle.decimal_format.specs.Symbols.{Symbols}
+use Rattle.decimal_format.proofs.Apart.{is_other, are_apart, each_below, passes_below, texts_are_apart, other, texts_apart}
 use Rattle.decimal_format.specs.Readable.{BeginsWith, code, IsOther, IsReadable}
 use Rattle.locale_symbols.specs.declared.table.LocaleSymbols.{LocaleSymbols}
 use Rattle.locale_symbols.specs.declared.table.NumberingSystem.{NumberingSystem}
@@ -21,46 +20,6 @@ use Rattle.locale_symbols.specs.Symbol.{symbol_text}
 use Rattle.locale_symbols.specs.Tag.{requested_system}
 use Rattle.locale_symbols.specs.Locales.{unpadded, symbols_of, symbols_in, Chooses, IsLocale}
 use Rattle.locale_symbols.proofs.EachRow.{and_left, and_right, passes, listed_by_name}
-
--- ---- Tests.
-
--- a text does not begin with another
-abbrev is_other : List ℕ → List ℕ → Bool
-is_other all part = not (starts_with nat_eq all part)
-
--- neither text begins with the other
-abbrev are_apart : List ℕ → List ℕ → Bool
-are_apart a b = is_other a b && is_other b a
-
--- a test passes for each number below another
-abbrev each_below : ℕ → (ℕ → Bool) → Bool
-each_below zero q = true
-each_below (suc n) q = q n && each_below n q
-
-passes_below : (n : ℕ) (q : ℕ → Bool) → each_below n q ≡ true → (k : ℕ) → k < n → q k ≡ true
-passes_below n q all =
-    (Decides-below_and q (λ k. q k ≡ true) (λ m. each_below m q) (λ k. (λ h. h, λ h. h)) refl (λ _. refl) n).0 all
-
--- each two of n texts are apart
-abbrev texts_are_apart : ℕ → (ℕ → List ℕ) → Bool
-texts_are_apart n text = each_below n (λ j. each_below n (λ k. (j == k) || is_other (text k) (text j)))
-
-other : (all part : List ℕ) → is_other all part ≡ true → BeginsWith all part → ⊥
-other all part test begins =
-    let starts = (starts_is Decides-eqb all part (starts_with nat_eq all part) refl).1 begins.0 begins.1 in
-    cc
-
-same_or_other : (b : Bool) (j k : ℕ) (all part : List ℕ) → b ≡ (j == k) → (b || is_other all part) ≡ true
-    → BeginsWith all part → j ≡ k
-same_or_other true j k all part e test begins = grind (arith, nat_tests)
-same_or_other false j k all part e test begins = absurd (other all part test begins)
-
-texts_apart : (n : ℕ) (text : ℕ → List ℕ) → texts_are_apart n text ≡ true → (j k : ℕ) → j < n → k < n
-    → BeginsWith (text k) (text j) → j ≡ k
-texts_apart n text test j k p q begins =
-    let inner = passes_below n (λ j. each_below n (λ k. (j == k) || is_other (text k) (text j))) test j p in
-    let both = passes_below n (λ k. (j == k) || is_other (text k) (text j)) inner k q in
-    same_or_other (j == k) j k (text k) (text j) refl both begins
 
 moved : {a b c d : List ℕ} → a ≡ c → b ≡ d → BeginsWith a b → BeginsWith c d
 moved e f begins = (begins.0, sym e ∙ (begins.1 ∙ ap (λ t. t ++ begins.0) f))

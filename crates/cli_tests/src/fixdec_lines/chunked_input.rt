@@ -110,6 +110,38 @@ const ROWS: &[Row] = &[
         b"line 1: call 0: overlap\nline 3: start: limit\n",
         1,
     ),
+    ("fixdec_lines header", b"", b"", b"", 0),
+    ("fixdec_lines header", b"\xff\x00", b"\xff\x00\n", b"", 0),
+    (
+        "fixdec_lines header shift:-2",
+        b"7\n250\n",
+        b"7\n2.50\n",
+        b"",
+        0,
+    ),
+    (
+        "fixdec_lines header",
+        b"\n\n",
+        b"\n",
+        b"line 2: start: syntax\n",
+        1,
+    ),
+    (
+        "fixdec_lines skip header field:1",
+        b"x\r\nx\n7\ty\n",
+        b"x\r\n\n7\ty\n",
+        b"line 2: start: syntax\n",
+        1,
+    ),
+    (
+        "fixdec_lines field:2 csv header shift:-2",
+        b"name\n\"a,b\",250\n\"c",
+        b"name\n\"a,b\",2.50\n",
+        b"line 3: quote\n",
+        1,
+    ),
+    ("fixdec_lines header header", b"1\n", b"", USAGE, 2),
+    ("fixdec_lines shift:1 header", b"1\n", b"", USAGE, 2),
 ];
 
 /// The reader fails after the input.

@@ -85,6 +85,38 @@ const ROWS: &[Row] = &[
         b"line 1: start: syntax\n",
     ),
     ((2, b",", CSV), b"\"1,2\",3\n", b"\n", b"line 1: field\n"),
+    (
+        (3, b",", CSV),
+        b",,,\n,,\n",
+        b"\n\n",
+        b"line 1: start: syntax\nline 2: field\n",
+    ),
+    (
+        (1, b",", CSV),
+        b"\"\x00\xff,\",250,\"\xc3\"\n",
+        b"\"\x00\xff,\",2.50,\"\xc3\"\n",
+        b"",
+    ),
+    (
+        (0, b",", CSV),
+        b"\"\"\"\n\"\",1\n25\x00,1\n",
+        b"\n\n\n",
+        b"line 1: quote\nline 2: start: syntax\nline 3: start: syntax\n",
+    ),
+    (
+        (0, b",", CSV),
+        b"\"250\"\r\n250\r",
+        b"2.50\r\n2.50\r\n",
+        b"",
+    ),
+    ((1, b"\r", CSV), b"1\r250\r\n", b"1\r2.50\r\n", b""),
+    ((0, b",", CSV), b"\r\n", b"\n", b"line 1: start: syntax\n"),
+    (
+        (0, b",", PLAIN),
+        b"\r\n\n",
+        b"\n\n",
+        b"line 1: start: syntax\nline 2: start: syntax\n",
+    ),
 ];
 
 /// Filters an input, and returns the result and the texts of both sinks.
@@ -107,6 +139,7 @@ fn filtered(
             delimiter: field.1,
             is_csv: field.2,
         }),
+        has_header: false,
     };
     let mut lines = ErrorLines::new(&mut err);
     let result = filter_lines(alloc, &filter, &mut input, &mut out, &mut lines);
@@ -124,20 +157,29 @@ fn filters_fields(rt: HostRuntime) -> Result<(), Fail> {
     Ok(())
 }
 
+/// A field, a byte that is repeated 200,000 times and what follows it, the length of the text, and its errors.
+type LongRow = (FieldRow, u8, &'static [u8], usize, &'static [u8]);
+
+/// Lines of 200,000 bytes and more.
+const LONG: &[LongRow] = &[
+    ((200_000, b",", PLAIN), b',', b"250", 200_005, b""),
+    ((200_000, b",", CSV), b',', b"250", 200_005, b""),
+    ((1, b",", PLAIN), b'"', b",250", 200_006, b""),
+    ((1, b",", CSV), b'"', b",250", 200_006, b""),
+    ((1, b",", CSV), b'"', b"\",250", 1, b"line 1: quote\n"),
+    ((0, b",", CSV), b'"', b"", 1, b"line 1: start: syntax\n"),
+    ((1, b",", PLAIN), b'\x00', b"", 1, b"line 1: field\n"),
+    ((0, b",", PLAIN), b'0', b"", 1, b"line 1: start: limit\n"),
+];
+
 #[test]
-fn filters_the_last_of_many_fields(rt: HostRuntime) -> Result<(), Fail> {
+fn filters_fields_of_long_lines(rt: HostRuntime) -> Result<(), Fail> {
     let alloc = rt.alloc();
-    let mut input = vec![in alloc; b','; 200_000]?;
-    input.extend_from_slice(b"250")?;
-    for field in [
-        (200_000, b",".as_slice(), PLAIN),
-        (200_000, b",".as_slice(), CSV),
-    ] {
-        let (result, out, err) = filtered(alloc, field, input.as_slice())?;
-        assert_eq!(rt; result, Ok(true));
-        assert_eq!(rt; out.as_bytes().len(), 200_005);
-        assert!(rt; out.as_bytes().ends_with(b",2.50\n"));
-        assert!(rt; err.is_empty());
+    for (field, byte, end, len, errors) in LONG {
+        let mut input = vec![in alloc; *byte; 200_000]?;
+        input.extend_from_slice(end)?;
+        let (_, out, err) = filtered(alloc, *field, input.as_slice())?;
+        assert!(rt; out.as_bytes().len() == *len && err.as_slice() == *errors);
     }
     Ok(())
 }

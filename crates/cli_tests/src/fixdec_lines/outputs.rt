@@ -76,6 +76,13 @@ const ROWS: &[Row] = &[
         3,
     ),
     (
+        "fixdec_lines header",
+        b"x\nx\n",
+        (b"x\n", 1),
+        (b"output\n", 7),
+        3,
+    ),
+    (
         "fixdec_lines up",
         b"7\n",
         (b"", 0),

@@ -43,6 +43,7 @@ fn holds(alloc: Global, row: &Row) -> bool {
             formatter: None,
         },
         field: None,
+        has_header: false,
     };
     let answer = filter_lines(alloc, &filter, &mut input, &mut out, &mut lines);
     answer == row.4 && out.as_bytes() == row.2 && err.as_slice() == row.3

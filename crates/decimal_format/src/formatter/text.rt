@@ -1,11 +1,12 @@
 //! The text of a formatted decimal.
-ghost use Rattle.std.specs.Prelude.{◌≡◌, ◌+◌, ◌*◌, ◌<◌, ◌≤◌, ◌<ℤ◌, ◌≤ℤ◌, pos, [], length, slice_index, EachIndex, OnOk, OnErr, true, false};
+ghost use Rattle.std.specs.Prelude.{◌≡◌, ◌+◌, ◌*◌, ◌<◌, ◌≤◌, ◌<ℤ◌, ◌≤ℤ◌, ◌-◌, pos, [], length, slice_index, EachIndex, OnOk, OnErr, true, false};
 ghost use Rattle.std.specs.Int.{int_gap};
 ghost use Rattle.std.specs.Io.KnownBytes.{Keeps, Appends};
 ghost use Rattle.decimal_digits.specs.AppendsPrefix.{AppendsPrefix};
 ghost use Rattle.decimal_unsigned.specs.Unsigned.{IsValue};
-ghost use Rattle.decimal_format.specs.Formatted.{shown_count, absolute_text, formatted_text};
-ghost use Rattle.decimal_format.specs.Parts.{part_text, AreDigits, IsRun, digits_text, separators_below};
+ghost use Rattle.decimal_format.specs.Formatted.{shown_count, separator_before, separator_after, absolute_text, formatted_text};
+ghost use Rattle.decimal_format.specs.Parts.{magnitude_of, part_text, AreDigits, IsRun, digits_text, run_text, separators_below};
+ghost use Rattle.decimal_format.specs.Scanning.{separator_if};
 
 use super::FormattedDecimal;
 use crate::block::Block;
@@ -14,6 +15,14 @@ use fixed_decimal::{DigitStore, Sink, SinkFault, Writeable};
 
 /// The greatest number of digits of a part, which is written to a block before it is put into the sink.
 const PART: u32 = 32;
+
+/// Digits with no separator between them: their number, and the separators before and after them, which may be empty.
+#[derive(Clone, Copy, Debug)]
+struct Run<'s> {
+    count: u32,
+    before: &'s str,
+    after: &'s str,
+}
 
 /// Appends ASCII digits by the symbols.
 fn write_digits<W: Sink>(
@@ -39,39 +48,71 @@ fn write_digits<W: Sink>(
     Ok(())
 }
 
+/// Returns the grouping separator or nothing.
+#[inline]
+fn grouping_if<'s>(symbols: &'s DecimalSymbols<'_>, separated: bool) -> &'s str
+    ensures { result.now ≡ separator_if symbols.now separated }
+{
+    if separated { symbols.grouping_separator() } else { "" }
+}
+
 impl<'f, D: DigitStore> FormattedDecimal<'f, D> {
-    /// Returns the number of digits from a magnitude down to the next separator, or to the last magnitude.
-    fn run_length(&self, below: u32) -> u32
-        requires { below < shown_count self.now.value.absolute }
-        ensures some { 0 < result }
-        ensures shown { below + result ≤ shown_count self.now.value.absolute }
-        ensures run { IsRun self.now below result }
+    /// Returns the run of up to `most` digits that begins at a magnitude.
+    #[inline]
+    fn run_at(&self, below: u32, most: u32) -> Run<'_>
+        requires some { 0 < most }
+        requires shown { below + most ≤ shown_count self.now.value.absolute }
+        ensures some { 0 < result.count }
+        ensures at_most { result.count ≤ most }
+        ensures run { IsRun self.now below result.count }
+        ensures before { result.before.now ≡ separator_before self.now.symbols (magnitude_of self.now below) }
+        ensures after { result.after.now ≡ separator_after self.now.symbols self.now.strategy self.now.value.absolute.hi
+            (magnitude_of self.now (below + result.count - 1)) }
     {
         let magnitude = self.magnitude(below);
         if magnitude < 0 {
-            return self.shown_count() - below;
+            let before = self.separator_before(below);
+            return Run { count: most, before, after: "" };
         }
-        let sizes = self.symbols.sizes();
-        sizes.digits_to_separator(self.strategy, self.highest(), magnitude as u32)
+        let symbols = self.symbols;
+        let (count, separated) =
+            symbols
+                .sizes()
+                .run_from(self.strategy, self.highest(), magnitude as u32, most);
+        let after = grouping_if(symbols, separated);
+        Run { count, before: "", after }
     }
 
-    /// Appends digits with no separator between them, with the separators before and after them.
-    fn write_run<W: Sink>(&self, below: u32, digits: &[u8], sink: &mut W) -> Result<(), SinkFault>
-        requires some { 0 < length digits.now }
-        requires shown { below + length digits.now ≤ shown_count self.now.value.absolute }
-        requires in_limits { below + length digits.now ≤ 65536 }
-        requires digits { AreDigits self.now below digits.now }
-        requires run { IsRun self.now below (length digits.now) }
-        ensures ok { OnOk result
-            (Appends (W.contents sink.old) (W.contents sink.new) (part_text self.now below (length digits.now))) }
-        ensures err { OnErr result
-            (AppendsPrefix (W.contents sink.old) (W.contents sink.new) (part_text self.now below (length digits.now))) }
+    /// Appends ASCII digits between the separators of a run.
+    #[inline]
+    fn write_run<W: Sink>(
+        &self,
+        run: Run<'_>,
+        digits: &[u8],
+        sink: &mut W,
+    ) -> Result<(), SinkFault>
+        requires { EachIndex digits.now (λ k. (48 ≤ slice_index digits.now k) × (slice_index digits.now k < 58)) }
+        ensures ok { OnOk result (Appends (W.contents sink.old) (W.contents sink.new)
+            (run_text self.now.symbols run.entry.before.now run.entry.after.now digits.now)) }
+        ensures err { OnErr result (AppendsPrefix (W.contents sink.old) (W.contents sink.new)
+            (run_text self.now.symbols run.entry.before.now run.entry.after.now digits.now)) }
         ensures failed { OnErr result (W.has_failed sink.new ≡ true) }
     {
-        let last = below + digits.len() as u32 - 1;
-        sink.put_bytes(self.separator_before(below).as_bytes())?;
+        sink.put_bytes(run.before.as_bytes())?;
         write_digits(self.symbols, digits, sink)?;
-        sink.put_bytes(self.separator_after(last).as_bytes())
+        sink.put_bytes(run.after.as_bytes())
+    }
+
+    /// Writes the ASCII digits at consecutive magnitudes, one to each byte of the buffer.
+    #[inline]
+    fn copy_digits(&self, below: u32, buffer: &mut [u8])
+        requires some { 0 < length buffer.old }
+        requires shown { below + length buffer.old ≤ shown_count self.now.value.absolute }
+        ensures { AreDigits self.now below buffer.new }
+    {
+        self.value
+            .absolute
+            .write_digits(self.magnitude(below), buffer);
     }
 
     /// Appends the text of up to 32 magnitudes.
@@ -88,18 +129,12 @@ impl<'f, D: DigitStore> FormattedDecimal<'f, D> {
     {
         let mut buffer = [b'0'; PART as usize];
         let digits = &mut buffer[..count as usize];
-        self.value
-            .absolute
-            .write_digits(self.magnitude(below), digits);
+        self.copy_digits(below, digits);
         let mut written = 0;
         while written < count {
-            let run = self.run_length(below + written).min(count - written);
-            let end = written + run;
-            self.write_run(
-                below + written,
-                &digits[written as usize..end as usize],
-                sink,
-            )?;
+            let run = self.run_at(below + written, count - written);
+            let end = written + run.count;
+            self.write_run(run, &digits[written as usize..end as usize], sink)?;
             written = end;
         }
         Ok(())
@@ -122,6 +157,16 @@ impl<'f, D: DigitStore> FormattedDecimal<'f, D> {
             Ok(()) => sink.put_bytes(block.as_bytes()),
             Err(SinkFault) => self.write_part(below, count, sink),
         }
+    }
+
+    /// Appends the text of up to 32 magnitudes, with the sign.
+    fn write_short<W: Sink>(&self, sink: &mut W) -> Result<(), SinkFault>
+        requires { shown_count self.now.value.absolute ≤ 32 }
+        ensures ok { OnOk result (Appends (W.contents sink.old) (W.contents sink.new) (formatted_text self.now)) }
+    {
+        sink.put_bytes(self.prefix().as_bytes())?;
+        self.write_part(0, self.shown_count(), sink)?;
+        sink.put_bytes(self.suffix().as_bytes())
     }
 
     /// Appends the text without the sign.
@@ -181,6 +226,12 @@ impl<'f, D: DigitStore> Writeable for FormattedDecimal<'f, D> {
     ///
     /// As [`Writeable::write_to`].
     fn write_to<W: Sink>(&self, sink: &mut W) -> Result<(), SinkFault> {
+        if self.shown_count() <= PART {
+            let mut block = Block::new();
+            if let Ok(()) = self.write_short(&mut block) {
+                return sink.put_bytes(block.as_bytes());
+            }
+        }
         sink.put_bytes(self.prefix().as_bytes())?;
         self.write_absolute(sink)?;
         sink.put_bytes(self.suffix().as_bytes())

@@ -1,5 +1,5 @@
 //! The codes that a text consists of: digits, separators and the prefixes of signs.
-ghost use Rattle.std.specs.Prelude.{◌≡◌, ◌≢◌, ℕ, ◌<◌, List, ◌++◌, ◌↔◌, IfSome, IsSomeAnd, MatchOption, IsTrue};
+ghost use Rattle.std.specs.Prelude.{◌≡◌, ◌≢◌, ℕ, ◌+◌, ◌<◌, List, ◌∷◌, ◌++◌, ◌↔◌, IfSome, IsSomeAnd, MatchOption, IsTrue};
 ghost use Rattle.decimal_format.specs.Symbols.{digit_text, sign_affixes};
 ghost use Rattle.decimal_format.specs.Readable.{code, BeginsWith, IsOther, IsApart, IsReadable};
 ghost use Rattle.decimal_format.specs.Scanning.{BeginsWithDigit};
@@ -7,18 +7,49 @@ ghost use Rattle.decimal_format.specs.Scanning.{BeginsWithDigit};
 use crate::symbols::DecimalSymbols;
 use fixed_decimal::Sign;
 
-/// Returns what follows a code at the start of a text.
+/// Returns what follows a byte at the start of a text.
+#[inline]
+fn cut_byte<'t>(text: &'t [u8], byte: u8) -> Option<&'t [u8]>
+    ensures { MatchOption result ((rest : List ℕ) → text.now ≢ byte ∷ rest) (λ r. text.now ≡ byte ∷ r.now) }
+{
+    match text {
+        [first, rest @ ..] if *first == byte => Some(rest),
+        _ => None,
+    }
+}
+
+/// Returns what follows a code at the start of a text. Most codes have one to three bytes.
+#[inline]
 pub fn cut<'t>(text: &'t [u8], code: &[u8]) -> Option<&'t [u8]>
     ensures { MatchOption result ((rest : List ℕ) → text.now ≢ code.now ++ rest) (λ r. text.now ≡ code.now ++ r.now) }
 {
-    text.strip_prefix(code)
+    let mut rest = text;
+    for byte in code {
+        rest = cut_byte(rest, *byte)?;
+    }
+    Some(rest)
 }
 
 /// Returns what precedes a code at the end of a text.
 fn cut_end<'t>(text: &'t [u8], code: &[u8]) -> Option<&'t [u8]>
     ensures { MatchOption result ((front : List ℕ) → text.now ≢ front ++ code.now) (λ r. text.now ≡ r.now ++ code.now) }
 {
+    if code.is_empty() {
+        return Some(text);
+    }
     text.strip_suffix(code)
+}
+
+/// Returns the ASCII digit that a text begins with, and what follows it.
+#[inline]
+fn next_ascii_digit<'t>(text: &'t [u8]) -> Option<(u8, &'t [u8])>
+    ensures { MatchOption result ((d : ℕ) (rest : List ℕ) → d < 10 → text.now ≢ (48 + d) ∷ rest)
+        (λ r. (r.0 < 10) × (text.now ≡ (48 + r.0) ∷ r.1.now)) }
+{
+    match text {
+        [byte, rest @ ..] if byte.is_ascii_digit() => Some((*byte - b'0', rest)),
+        _ => None,
+    }
 }
 
 impl<'a> DecimalSymbols<'a> {
@@ -107,11 +138,15 @@ impl<'a> DecimalSymbols<'a> {
     }
 
     /// Returns the digit that a text begins with, and what follows it.
+    #[inline]
     pub(crate) fn next_digit<'t>(&self, text: &'t [u8]) -> Option<(u8, &'t [u8])>
         requires { IsReadable self.now }
         ensures { MatchOption result ((d : ℕ) (rest : List ℕ) → d < 10 → text.now ≢ digit_text self.now d ++ rest)
             (λ r. (r.0 < 10) × (text.now ≡ digit_text self.now r.0 ++ r.1.now)) }
     {
+        if self.has_ascii_digits() {
+            return next_ascii_digit(text);
+        }
         if text.is_empty() {
             return None;
         }

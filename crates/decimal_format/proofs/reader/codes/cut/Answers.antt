@@ -1,7 +1,20 @@
-use Rattle.std.proofs.lemmas.Bool.Decides.{Decides-eqb}
-use Rattle.std.proofs.lemmas.Slice.Eq.{strip_prefix_is}
+use Rattle.std.proofs.Common.{◌++◌, ◌∙◌, ap, arith}
+use Rattle.std.proofs.lemmas.List.{take_all}
+use Rattle.decimal_format.proofs.Codes.{match_none, cut_more, cut_fails}
 use Rattle.decimal_format.proofs.reader.codes.cut.Goals as goal
 
+pub returns-in_err-rest : goal.returns-in_err-rest
+returns-in_err-rest c =
+    match_none c.from_residual.result _ _ c.from_residual.ensures
+    (cut_fails c.args.text.now c.args.code.now c.loop-byte.rest.now c.loop-byte.byte-index (omega arith)
+    c.loop-byte.invariant c.in_err-rest.ensures)
+
+pub loop-byte-preserved : goal.loop-byte-preserved
+loop-byte-preserved c =
+    cut_more c.args.text.now c.args.code.now c.loop-byte.rest.now c.loop-byte.byte-index (omega arith)
+    c.loop-byte.invariant c.in_ok-rest.rest.now c.in_ok-rest.ensures
+
 pub returns : goal.returns
-returns c = strip_prefix_is Decides-eqb c.args.text.now c.args.code.now c.strip_prefix.result
-    c.strip_prefix.ensures.cases
+returns c =
+    c.loop-byte.invariant
+    ∙ ap (λ l. l ++ c.loop-byte.rest.now) (take_all c.loop-byte.byte-index c.args.code.now (omega arith))

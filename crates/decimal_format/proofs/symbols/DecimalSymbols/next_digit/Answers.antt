@@ -1,8 +1,18 @@
-use Rattle.std.proofs.Common.{sym, ◌∙◌}
-use Rattle.decimal_format.proofs.Codes.{none_not_digit}
+use Rattle.std.proofs.Common.{◌++◌, sym, ◌∙◌, ap}
+use Rattle.decimal_format.proofs.AsciiDigits.{digit_text-ascii}
+use Rattle.decimal_format.proofs.Codes.{none_not_digit, match_weaker}
 use Rattle.decimal_format.proofs.Scans.{empty_is}
 use Rattle.decimal_format.proofs.symbols.DecimalSymbols.next_digit.Goals as goal
 
 pub returns-then-is_empty : goal.returns-then-is_empty
 returns-then-is_empty c = λ d rest below e.
     none_not_digit c.args.self.now c.requires d rest below (sym (empty_is c.args.text.now c.if-is_empty.ensures) ∙ e)
+
+pub returns-then-has_ascii_digits : goal.returns-then-has_ascii_digits
+returns-then-has_ascii_digits c =
+    let s = c.args.self.now in
+    let ascii = c.has_ascii_digits.ensures c.if-has_ascii_digits.true in
+    match_weaker c.next_ascii_digit.result _ _ _ _
+    (λ none d rest below e. none d rest below (e ∙ ap (λ l. l ++ rest) (digit_text-ascii s d ascii below)))
+    (λ r h. (h.0, h.1 ∙ ap (λ l. l ++ r.1.now) (sym (digit_text-ascii s r.0 ascii h.0))))
+    c.next_ascii_digit.ensures

@@ -28,7 +28,7 @@ returns-then-not-scanned g c =
     let found = c.in-Some.ensures.found in
     let none = λ (w : Numeral) (numeral : IsNumeral s text w).
     let same = lenient-unique s c.requires text w found.0 (numeral_is_lenient s text w numeral) found.1 in
-    let t : c.in-Some.scanned.is_strict ≡ true = found.3.1 (subst (IsNumeral s text) same numeral) in
+    let t : c.in-Some.scanned.is_strict ≡ true = found.4.1 (subst (IsNumeral s text) same numeral) in
     let n : true ≡ false = sym t ∙ c.if-not-scanned.true in let no : ⊥ = cc in no in
     let read = nothing_read (IsNumeral s text) (λ v. IsWritten s v text) (formatted_texts s c.requires text)
     g.D.DigitStore.L none in
@@ -46,9 +46,9 @@ returns g c =
     let s = c.args.self.now in
     let text = c.args.text.now in
     let found = c.in-Some.ensures.found in
-    let numeral = found.3.0 c.if-not-scanned.false in
+    let numeral = found.4.0 c.if-not-scanned.false in
     let read = value_read (IsNumeral s text) (λ v. IsWritten s v text) (formatted_texts s c.requires text)
-    g.D.DigitStore.L found.0 numeral c.value.result (c.value.ensures found.0 numeral.digits found.2) in
+    g.D.DigitStore.L found.0 numeral c.value.result (c.value.ensures found.0 numeral.digits found.2 found.3) in
     record {
       found = read.found;
       reads_back = read.reads_back;

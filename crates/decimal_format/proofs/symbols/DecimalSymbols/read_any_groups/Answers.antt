@@ -2,13 +2,13 @@ use Rattle.decimal_format.specs.Lenient.{IsLenientNumeral, IsLenientlyWritten}
 use Rattle.decimal_format.proofs.NumeralLaws.{lenient_texts, nothing_read, value_read}
 use Rattle.decimal_format.proofs.symbols.DecimalSymbols.read_any_groups.Goals as goal
 
-pub returns-in-Some : goal.returns-in-Some
-returns-in-Some g c =
+pub returns : goal.returns
+returns g c =
     let s = c.args.self.now in
     let text = c.args.text.now in
     let found = c.in-Some.ensures.found in
     let read = value_read (IsLenientNumeral s text) (λ v. IsLenientlyWritten s v text) (lenient_texts s c.requires text)
-    g.D.DigitStore.L found.0 found.1 c.value.result (c.value.ensures found.0 found.1.digits found.2) in
+    g.D.DigitStore.L found.0 found.1 c.value.result (c.value.ensures found.0 found.1.digits found.2 found.3) in
     record {
       found = read.found;
       reads_back = read.reads_back;
@@ -17,12 +17,12 @@ returns-in-Some g c =
       memory = read.memory;
     }
 
-pub returns-in-None : goal.returns-in-None
-returns-in-None g c =
+pub returns-in_default : goal.returns-in_default
+returns-in_default g c =
     let s = c.args.self.now in
     let text = c.args.text.now in
     let read = nothing_read (IsLenientNumeral s text) (λ v. IsLenientlyWritten s v text) (lenient_texts s c.requires
-    text) g.D.DigitStore.L c.in-None.ensures.none in
+    text) g.D.DigitStore.L c.in_default.ensures.none in
     record {
       found = read.found;
       reads_back = read.reads_back;

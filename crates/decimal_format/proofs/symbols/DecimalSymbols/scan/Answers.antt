@@ -23,7 +23,7 @@ returns-then-integer_digits-eq0-clause-none c = λ w numeral.
     numeral.digits) numeral.text in
     let number = ap (λ b. b.now) c.in_ok-sign.number-is ∙ split.1 in
     let count = c.count_digits-integer_digits.ensures f w.whole (fraction_text s w.fraction) numeral.digits.whole
-    (fraction_ends s c.requires w.fraction) number in
+    (fraction_ends s c.requires.readable w.fraction) number in
     omega (arith, count, numeral.digits.some, c.if-integer_digits-eq0.true)
 
 pub returns-in_err-is_strict-clause-none : goal.returns-in_err-is_strict-clause-none
@@ -34,7 +34,7 @@ returns-in_err-is_strict-clause-none c = on_none c.from_residual-in_err-is_stric
     numeral.digits) numeral.text in
     let number = ap (λ b. b.now) c.in_ok-sign.number-is ∙ split.1 in
     let count = c.count_digits-integer_digits.ensures f w.whole (fraction_text s w.fraction) numeral.digits.whole
-    (fraction_ends s c.requires w.fraction) number in
+    (fraction_ends s c.requires.readable w.fraction) number in
     c.in_err-is_strict.ensures.none numeral.chosen w.whole (fraction_text s w.fraction) (sym count) numeral.digits.whole
     number)
 
@@ -46,7 +46,7 @@ returns-in_err-fraction_digits-clause-none c = on_none c.from_residual-in_err-fr
     numeral.digits) numeral.text in
     let number = ap (λ b. b.now) c.in_ok-sign.number-is ∙ split.1 in
     let count = c.count_digits-integer_digits.ensures f w.whole (fraction_text s w.fraction) numeral.digits.whole
-    (fraction_ends s c.requires w.fraction) number in
+    (fraction_ends s c.requires.readable w.fraction) number in
     c.in_err-fraction_digits.ensures.none w.fraction numeral.digits.fraction
     (c.in_ok-is_strict.ensures.unique numeral.chosen w.whole (fraction_text s w.fraction) (sym count)
     numeral.digits.whole number))
@@ -63,7 +63,7 @@ returns-clause-found c =
     let text = c.in_ok-sign.ensures.found
     ∙ ap (λ l. affixes.prefix ++ (l ++ affixes.suffix))
     (whole.text ∙ ap (λ l. digits_text s (separated_at s whole.chosen) whole.digits ++ l) fraction.text) in
-    let strict = numeral_if_uniform s c.requires c.args.text.now w whole.chosen digits text in
+    let strict = numeral_if_uniform s c.requires.readable c.args.text.now w whole.chosen digits text in
     let uniform = subst (λ n. c.in_ok-is_strict.is_strict ≡ true ↔ IsUniform (may_separate s true) whole.chosen n)
     (sym whole.count) whole.uniform in (
       w,
@@ -72,7 +72,7 @@ returns-clause-found c =
         sign = refl;
         whole = sym whole.count;
         fraction = sym fraction.count;
-        plain = fraction.plain (ascii_digits_of whole.digits) (whole.plain [] c.new-plain.ensures);
       },
+      fraction.plain (ascii_digits_of whole.digits) (whole.plain [] c.requires.empty),
       (λ h. strict.0 (uniform.0 h), λ numeral. uniform.1 (strict.1 numeral)),
     )
