@@ -22,7 +22,7 @@ use Rattle.decimal_format.specs.Grouping.{is_grouped}
 use Rattle.decimal_format.specs.Readable.{IsReadable}
 use Rattle.decimal_format.specs.Reading.{Numeral, AreDigits, IsNumeral, IsBeyondLimits, IsWritten, NeedsMemory, digits_text, fraction_text, absolute_numeral_text, numeral_text, separated_by}
 use Rattle.decimal_format.specs.Lenient.{ends_group, separated_at, normalized, IsLenientNumeral, IsLenientlyWritten, IsTyped}
-use Rattle.decimal_format.specs.Scanning.{BeginsWithDigit, may_separate, IsUniform, plain_text, IsValueOf}
+use Rattle.decimal_format.specs.Scanning.{BeginsWithDigit, IsUniform, plain_text, IsValueOf}
 use Rattle.decimal_format.proofs.Codes.{digit_not_minus, digit_not_plus, plus_not_minus, none_not_decimal}
 use Rattle.decimal_format.proofs.DigitTexts.{digits_text-cong, nil_ends, fraction_ends, integer-unique, separators-unique}
 use Rattle.decimal_format.proofs.NumeralTexts.{HasDigits, formatted-digits, text-digits, digits_of_value, value_of_digits}
@@ -91,7 +91,7 @@ module _ (s : Symbols) (readable : IsReadable s) where
   -- a strategy chooses all ends of groups, or none
   pub numeral_if_uniform : (bytes : List ℕ) (w : Numeral) (chosen : ℕ → Bool) → AreDigits w
       → bytes ≡ numeral_text s (separated_at s chosen) w
-      → IsUniform (may_separate s true) chosen (length w.whole) ↔ IsNumeral s bytes w
+      → IsUniform (ends_group s.sizes) chosen (length w.whole) ↔ IsNumeral s bytes w
   numeral_if_uniform bytes w chosen digits e = (
     λ uniform. record {
       digits = digits;

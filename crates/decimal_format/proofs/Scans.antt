@@ -1,6 +1,6 @@
 -- The steps of a scan.
 use Rattle.std.proofs.Common.{◌≡◌, ◌≢◌, ℕ, suc, ◌+◌, ◌-◌, ◌%◌, ◌<◌, ◌≤◌, ◌==◌, nat_le, nat_lt, Bool, true, false, ◌&&◌, ◌||◌, List, [], ◌∷◌, ◌++◌, length, refl, sym, ◌∙◌, ap, subst, arith, rules, append_assoc, append-nil, length-append, inl, inr}
-use Rattle.std.specs.Prelude.{if◌then◌else◌, pos, Option, Some, None, IfNone, Result, Ok, Err, IfOk, ◌↔◌}
+use Rattle.std.specs.Prelude.{if◌then◌else◌, pos, Option, Some, None, IfSome, IfNone, Result, Ok, Err, IfOk, ◌↔◌}
 use Rattle.std.specs.Int.Digits.{AllBelowBase}
 use Rattle.std.proofs.Math.Bool.{beq, not}
 use Rattle.std.proofs.lemmas.Bool.{cases_eq}
@@ -17,14 +17,23 @@ use Rattle.decimal_format.specs.Grouping.{reaches, is_grouped, secondary_size}
 use Rattle.decimal_format.specs.Lenient.{ends_group}
 use Rattle.decimal_format.specs.Readable.{IsReadable}
 use Rattle.decimal_format.specs.Reading.{Numeral, AreDigits, digits_text, fraction_text, absolute_numeral_text, separated_by}
-use Rattle.decimal_format.specs.Scanning.{may_separate, separator_if, separated_if, SkipsSeparator, EndsInteger, BeginsWithDigit, IsUniform, ReadsDigits, ReadsFraction, IsPlain, AppendsPlain, ascii_digits_of}
+use Rattle.decimal_format.specs.Scanning.{separator_if, separated_if, SkipsSeparator, EndsInteger, BeginsWithDigit, IsUniform, ReadsDigits, ReadsLastDigits, ReadsFraction, IsPlain, AppendsPlain, ascii_digits_of}
 use Rattle.decimal_format.proofs.Codes.{same_digit, digit_not_grouping, digit_not_minus, digit_not_plus, plus_not_minus, none_not_digit}
-use Rattle.decimal_format.proofs.DigitTexts.{digits_text-nil, digits_text-first, digits_not_grouping}
+use Rattle.decimal_format.proofs.DigitTexts.{digits_text-nil, digits_text-cons, digits_text-first, digits_text-append, digits_not_grouping}
 
 -- a true proposition holds on a missing value
 pub on_none : {A : Type 0} (result : Option A) (P : Type 0) → P → IfNone result P
 on_none None P p = p
 on_none (Some x) P p = tt
+
+pub if_none_weaker : {A : Type 0} (result : Option A) (P Q : Type 0) → (P → Q) → IfNone result P → IfNone result Q
+if_none_weaker None P Q f p = f p
+if_none_weaker (Some x) P Q f p = tt
+
+pub if_some_weaker : {A : Type 0} (result : Option A) (P Q : A → Type 0) → ((x : A) → P x → Q x) → IfSome result P
+    → IfSome result Q
+if_some_weaker None P Q f p = tt
+if_some_weaker (Some x) P Q f p = f x p
 
 -- ---- Signs.
 pub begins-append : (s : Symbols) (number tail : List ℕ) → BeginsWithDigit s number → BeginsWithDigit s (number ++ tail)
@@ -157,6 +166,10 @@ module _ (s : Symbols) (readable : IsReadable s) where
 ascii-append : (ds es : List ℕ) → ascii_digits_of (ds ++ es) ≡ ascii_digits_of ds ++ ascii_digits_of es
 ascii-append [] es = refl
 ascii-append (d ∷ ds) es = ap (λ l. (48 + d) ∷ l) (ascii-append ds es)
+
+below_more : (ds : List ℕ) (d : ℕ) → AllBelowBase 10 ds → d < 10 → AllBelowBase 10 (ds ++ d ∷ [])
+below_more [] d all below = (below, tt)
+below_more (x ∷ ds) d all below = (all.0, below_more ds d all.1 below)
 
 -- ---- Chosen magnitudes.
 and_true : (b : Bool) → (b && true) ≡ b
@@ -292,7 +305,7 @@ module _ (s : Symbols) (may : ℕ → Bool) (n : ℕ) (bytes : List ℕ) where
         digits = so_far.digits ++ d ∷ [];
         chosen = choose so_far.chosen less b;
         count = omega (arith, one, so_far.count, length-append so_far.digits (d ∷ []));
-        are_digits = below_append so_far.digits so_far.are_digits;
+        are_digits = below_more so_far.digits d so_far.are_digits below;
         completes = λ later same es tail size k.
             let f = separated_if may later in
             let chosen : f (length es) ≡ b =
@@ -320,10 +333,6 @@ module _ (s : Symbols) (may : ℕ → Bool) (n : ℕ) (bytes : List ℕ) where
     where
       within : left ≤ n
       within = omega (arith, so_far.count)
-
-      below_append : (ds : List ℕ) → AllBelowBase 10 ds → AllBelowBase 10 (ds ++ d ∷ [])
-      below_append [] all = (below, tt)
-      below_append (x ∷ ds) all = (all.0, below_append ds all.1)
 
   -- where no more is left to read
   pub read_all : (rest : List ℕ) (all none : Bool) (old new : PlainText)
@@ -428,9 +437,8 @@ module _ (s : Symbols) (may : ℕ → Bool) (n : ℕ) (bytes : List ℕ) where
 
 -- ---- Groups.
 -- no group ends after the last digit
-pub none_after_last : (s : Symbols) (grouped : Bool) → may_separate s grouped 0 ≡ false
-none_after_last s false = refl
-none_after_last s true = go (nat_lt 0 s.sizes.primary) (nat_le s.sizes.primary 0) _ (grind (arith, nat_tests))
+pub none_after_last : (s : Symbols) → ends_group s.sizes 0 ≡ false
+none_after_last s = go (nat_lt 0 s.sizes.primary) (nat_le s.sizes.primary 0) _ (grind (arith, nat_tests))
   where
     go : (a b c : Bool) → (a ≡ true → b ≡ false) → (a && (b && c)) ≡ false
     go true b c h = ap (λ x. x && c) (h refl)
@@ -498,30 +506,94 @@ some_is (x ∷ xs) h e = cc
 
 -- the fraction digits follow the decimal separator
 pub fraction_rest : (s : Symbols) (ds bytes digits : List ℕ) → (bytes ≡ [] → ⊥) → bytes ≡ fraction_text s ds
-    → bytes ≡ s.decimal ++ digits → (0 < length ds) × (digits ≡ digits_text s (λ _. false) ds ++ [])
+    → bytes ≡ s.decimal ++ digits → (0 < length ds) × (digits ≡ digits_text s (λ _. false) ds)
 fraction_rest s [] bytes digits some e h = absurd (some e)
 fraction_rest s (d ∷ ds) bytes digits some e h =
-    let all = digits_text s (λ _. false) (d ∷ ds) in
-    (omega arith, append_cancel_left s.decimal digits all (sym h ∙ e) ∙ sym (append-nil all))
+    (omega arith, append_cancel_left s.decimal digits (digits_text s (λ _. false) (d ∷ ds)) (sym h ∙ e))
 
-pub fraction_found : (s : Symbols) (bytes digits rest : List ℕ) (n : ℕ) (uniform : Bool) (old middle new : PlainText)
-    → bytes ≡ s.decimal ++ digits → rest ≡ [] → (n ≡ 0 → ⊥) → AppendsPlain old middle (46 ∷ [])
-    → ReadsDigits s (may_separate s false) n digits rest uniform middle new → ReadsFraction s bytes n old new
-fraction_found s bytes digits rest n uniform old middle new e none some pushed read =
-    go read.digits read.count read.are_digits read.text read.plain
+pub fraction_found : (s : Symbols) (bytes digits : List ℕ) (n : ℕ) (old middle new : PlainText)
+    → bytes ≡ s.decimal ++ digits → (digits ≡ [] → ⊥) → AppendsPlain old middle (46 ∷ [])
+    → ReadsLastDigits s digits [] n middle new → ReadsFraction s bytes n old new
+fraction_found s bytes digits n old middle new e some pushed read =
+    go read.digits read.count read.are_digits (read.text ∙ append-nil (digits_text s (λ _. false) read.digits))
+    read.plain
   where
-    go : (ds : List ℕ) → length ds ≡ n → AllBelowBase 10 ds → digits ≡ digits_text s (λ _. false) ds ++ rest
+    go : (ds : List ℕ) → length ds ≡ n → AllBelowBase 10 ds → digits ≡ digits_text s (λ _. false) ds
         → AppendsPlain middle new (ascii_digits_of ds) → ReadsFraction s bytes n old new
-    go [] count all text plain = absurd (some (sym count))
+    go [] count all text plain = absurd (some (text ∙ digits_text-nil s (λ _. false)))
     go (d ∷ ds) count all text plain = record {
       digits = d ∷ ds;
       count = count;
       are_digits = all;
-      text = e ∙ ap (λ l. s.decimal ++ l) (text ∙ ap (λ l. digits_text s (λ _. false) (d ∷ ds) ++ l) none
-          ∙ append-nil (digits_text s (λ _. false) (d ∷ ds)));
+      text = e ∙ ap (λ l. s.decimal ++ l) text;
       plain = λ before h. subst (IsPlain new) (append_assoc before (46 ∷ []) (ascii_digits_of (d ∷ ds)))
           (plain (before ++ 46 ∷ []) (pushed before h));
     }
+
+-- ---- Digits without separators.
+pub last_none : (s : Symbols) (bytes : List ℕ) (plain : PlainText) → ReadsLastDigits s bytes bytes 0 plain plain
+last_none s bytes plain = record {
+  digits = [];
+  count = refl;
+  are_digits = tt;
+  text = ap (λ l. l ++ bytes) (sym (digits_text-nil s (λ _. false)));
+  plain = λ before h. subst (IsPlain plain) (sym (append-nil before)) h;
+}
+
+-- one digit more
+pub last_more : (s : Symbols) (bytes rest after : List ℕ) (n d : ℕ) (old plain new : PlainText) → d < 10
+    → rest ≡ digit_text s d ++ after → AppendsPlain plain new ((48 + d) ∷ [])
+    → ReadsLastDigits s bytes rest n old plain → ReadsLastDigits s bytes after (n + 1) old new
+last_more s bytes rest after n d old plain new below e pushed read =
+    let none : ℕ → Bool = λ _. false in
+    let one : digits_text s none (d ∷ []) ≡ digit_text s d =
+    digits_text-cons s none d [] ∙ ap (λ l. digit_text s d ++ l) (digits_text-nil s none)
+    ∙ append-nil (digit_text s d) in
+    record {
+      digits = read.digits ++ d ∷ [];
+      count = omega (arith, read.count, length-append read.digits (d ∷ []));
+      are_digits = below_more read.digits d read.are_digits below;
+      text = read.text ∙ ap (λ l. digits_text s none read.digits ++ l) e
+          ∙ sym (append_assoc (digits_text s none read.digits) (digit_text s d) after)
+          ∙ ap (λ l. (digits_text s none read.digits ++ l) ++ after) (sym one)
+          ∙ ap (λ l. l ++ after) (sym (digits_text-append s read.digits (d ∷ [])));
+      plain = λ before h. subst (IsPlain new) (append_assoc before (ascii_digits_of read.digits) ((48 + d) ∷ [])
+          ∙ ap (λ l. before ++ l) (sym (ascii-append read.digits (d ∷ []))))
+          (pushed (before ++ ascii_digits_of read.digits) (read.plain before h));
+    }
+
+module _ (s : Symbols) (readable : IsReadable s) where
+  -- digits follow digits in a text of digits
+  follows : (ds es rest : List ℕ) → AllBelowBase 10 ds → AllBelowBase 10 es
+      → digits_text s (λ _. false) es ≡ digits_text s (λ _. false) ds ++ rest
+      → (fs : List ℕ) × AllBelowBase 10 fs × (rest ≡ digits_text s (λ _. false) fs)
+  follows [] es rest p q e = (es, q, sym (e ∙ ap (λ l. l ++ rest) (digits_text-nil s (λ _. false))))
+  follows (d ∷ ds) [] rest p q e =
+      absurd (none_not_digit s readable d (digits_text s (λ _. false) ds ++ rest) p.0
+      (sym (digits_text-nil s (λ _. false)) ∙ e ∙ digits_text-first s (λ _. false) d ds rest))
+  follows (d ∷ ds) (x ∷ es) rest p q e =
+      let same = same_digit s readable x d (digits_text s (λ _. false) es) (digits_text s (λ _. false) ds ++ rest) q.0
+      p.0 (sym (digits_text-cons s (λ _. false) x es) ∙ e ∙ digits_text-first s (λ _. false) d ds rest) in
+      follows ds es rest p.1 q.1 same.1
+
+  -- digits have bytes
+  pub fraction_none : (ds : List ℕ) → AllBelowBase 10 ds → 0 < length ds → digits_text s (λ _. false) ds ≡ [] → ⊥
+  fraction_none [] all some e = absurd (omega (arith, some))
+  fraction_none (d ∷ ds) all some e =
+      none_not_digit s readable d (digits_text s (λ _. false) ds) all.0
+      (sym e ∙ digits_text-cons s (λ _. false) d ds)
+
+  -- something else follows: the text is not one of digits
+  pub last_fails : (bytes rest : List ℕ) (n : ℕ) (old new : PlainText) → ReadsLastDigits s bytes rest n old new
+      → (rest ≡ [] → ⊥) → ((d : ℕ) (r : List ℕ) → d < 10 → rest ≢ digit_text s d ++ r)
+      → (es : List ℕ) → AllBelowBase 10 es → bytes ≢ digits_text s (λ _. false) es
+  last_fails bytes rest n old new read some other es all e =
+      let last = follows read.digits es rest read.are_digits all (sym e ∙ read.text) in
+      go last.0 last.1 last.2
+    where
+      go : (fs : List ℕ) → AllBelowBase 10 fs → rest ≡ digits_text s (λ _. false) fs → ⊥
+      go [] below h = some (h ∙ digits_text-nil s (λ _. false))
+      go (x ∷ fs) below h = other x (digits_text s (λ _. false) fs) below.0 (h ∙ digits_text-cons s (λ _. false) x fs)
 
 -- ---- Results.
 pub if_ok_weaker : {V E : Type 0} (result : Result V E) (P Q : V → Type 0) → ((v : V) → P v → Q v) → IfOk result P

@@ -11,7 +11,6 @@ use Rattle.fixed_decimal.specs.Decimal.{Decimal}
 use Rattle.decimal_format.specs.declared.reader.Scanned.{Scanned}
 use Rattle.decimal_format.specs.declared.reader.plain_text.PlainText.{PlainText}
 use Rattle.decimal_format.specs.Symbols.{Symbols, digit_text}
-use Rattle.decimal_format.specs.Lenient.{ends_group}
 use Rattle.decimal_format.specs.Reading.{Numeral, IsBeyondLimits, digits_text, fraction_text}
 
 -- ---- Plain texts.
@@ -40,10 +39,6 @@ abbrev pub AppendsPlain : PlainText → PlainText → List ℕ → Type 0
 AppendsPlain old new bytes = (before : List ℕ) → IsPlain old before → IsPlain new (before ++ bytes)
 
 -- ---- Groups.
-
--- a separator may be after the digit at a magnitude, if there may be groups
-abbrev pub may_separate : Symbols → Bool → ℕ → Bool
-may_separate s grouped m = grouped && ends_group s.sizes m
 
 -- a separator is there, and is one of those chosen
 abbrev pub separated_if : (ℕ → Bool) → (ℕ → Bool) → ℕ → Bool
@@ -87,6 +82,14 @@ pub record ReadsDigits (s : Symbols) (may : ℕ → Bool) (n : ℕ) (bytes rest 
   pub are_digits : AllBelowBase 10 digits
   pub text : bytes ≡ digits_text s (separated_if may chosen) digits ++ rest
   pub uniform : is_uniform ≡ true ↔ IsUniform may chosen n
+  pub plain : AppendsPlain old new (ascii_digits_of digits)
+
+-- n digits without separators were read, the rest follows them, and their plain text was appended
+pub record ReadsLastDigits (s : Symbols) (bytes rest : List ℕ) (n : ℕ) (old new : PlainText) : Type 0 where
+  pub digits : List ℕ
+  pub count : length digits ≡ n
+  pub are_digits : AllBelowBase 10 digits
+  pub text : bytes ≡ digits_text s (λ _. false) digits ++ rest
   pub plain : AppendsPlain old new (ascii_digits_of digits)
 
 -- n fraction digits were read, and their plain text was appended

@@ -6,7 +6,7 @@ ghost use Rattle.fixed_decimal.specs.Decimal.{Decimal};
 ghost use Rattle.decimal_format.specs.Readable.{IsReadable};
 ghost use Rattle.decimal_format.specs.Reading.{Numeral, AreDigits, digits_text, fraction_text, IsNumeral, IsBeyondLimits, IsWritten, NeedsMemory};
 ghost use Rattle.decimal_format.specs.Lenient.{ends_group, IsLenientNumeral, IsLenientlyWritten};
-ghost use Rattle.decimal_format.specs.Scanning.{may_separate, separated_if, SkipsSeparator, EndsInteger, ReadsDigits, ReadsFraction, IsPlain, plain_text, HasCounts, IsValueOf};
+ghost use Rattle.decimal_format.specs.Scanning.{separated_if, SkipsSeparator, EndsInteger, ReadsDigits, ReadsLastDigits, ReadsFraction, IsPlain, plain_text, HasCounts, IsValueOf};
 
 mod codes;
 mod lenient;
@@ -73,13 +73,6 @@ fn ends_group(sizes: GroupingSizes, magnitude: usize) -> bool
 }
 
 impl<'a> DecimalSymbols<'a> {
-    /// Returns whether a separator may be after the digit at a magnitude, if there may be groups.
-    fn may_separate(&self, grouped: bool, magnitude: usize) -> bool
-        ensures { result ≡ may_separate self.now grouped magnitude }
-    {
-        grouped && ends_group(self.sizes(), magnitude)
-    }
-
     /// Returns whether a text begins with a grouping separator, where one is possible, and what follows it.
     fn skip_separator<'t>(&self, possible: bool, text: &'t [u8]) -> (bool, &'t [u8])
         ensures { SkipsSeparator self.now possible text.now result.1.now result.0 }
@@ -109,25 +102,24 @@ impl<'a> DecimalSymbols<'a> {
         count
     }
 
-    /// Reads the given number of digits, with separators at any ends of groups if they may be grouped, and returns
-    /// whether all separators are there, or none, and what follows the digits.
+    /// Reads the given number of digits, with separators at any ends of groups, and returns whether all separators are
+    /// there, or none, and what follows the digits.
     fn read_digits<'t>(
         &self,
         count: usize,
-        grouped: bool,
         text: &'t [u8],
         plain: &mut PlainText,
     ) -> Option<(bool, &'t [u8])>
         requires { IsReadable self.now }
-        ensures found { IfSome result (λ r. ReadsDigits self.now (may_separate self.now grouped) count
+        ensures found { IfSome result (λ r. ReadsDigits self.now (ends_group self.now.sizes) count
             text.now r.1.now r.0 plain.old plain.new) }
         ensures unique { IfSome result (λ r. (chosen : ℕ → Bool) (ds tail : List ℕ) → length ds ≡ count
             → AllBelowBase 10 ds
-            → text.now ≡ digits_text self.now (separated_if (may_separate self.now grouped) chosen) ds ++ tail
+            → text.now ≡ digits_text self.now (separated_if (ends_group self.now.sizes) chosen) ds ++ tail
             → r.1.now ≡ tail) }
         ensures none { IfNone result ((chosen : ℕ → Bool) (ds tail : List ℕ) → length ds ≡ count
             → AllBelowBase 10 ds
-            → text.now ≢ digits_text self.now (separated_if (may_separate self.now grouped) chosen) ds ++ tail) }
+            → text.now ≢ digits_text self.now (separated_if (ends_group self.now.sizes) chosen) ds ++ tail) }
     {
         let mut rest = text;
         let mut left = count;
@@ -137,13 +129,31 @@ impl<'a> DecimalSymbols<'a> {
             left -= 1;
             let (digit, after) = self.next_digit(rest)?;
             plain.push(b'0' + digit);
-            let possible = self.may_separate(grouped, left);
+            let possible = ends_group(self.sizes(), left);
             let (separated, next) = self.skip_separator(possible, after);
             all &= separated == possible;
             none &= !separated;
             rest = next;
         }
         Some((all | none, rest))
+    }
+
+    /// Reads the digits of a text that has nothing else, and returns their number.
+    fn read_last_digits(&self, text: &[u8], plain: &mut PlainText) -> Option<usize>
+        requires { IsReadable self.now }
+        ensures found { IfSome result (λ count. ReadsLastDigits self.now text.now [] count plain.old plain.new) }
+        ensures none { IfNone result ((ds : List ℕ) → AllBelowBase 10 ds
+            → text.now ≢ digits_text self.now (λ _. false) ds) }
+    {
+        let mut rest = text;
+        let mut count = 0;
+        while !rest.is_empty() {
+            let (digit, after) = self.next_digit(rest)?;
+            plain.push(b'0' + digit);
+            count += 1;
+            rest = after;
+        }
+        Some(count)
     }
 
     /// Reads the decimal separator and the fraction digits, if there are any, and returns their number.
@@ -156,13 +166,11 @@ impl<'a> DecimalSymbols<'a> {
             return Some(0);
         }
         let digits = cut(text, self.decimal_separator().as_bytes())?;
-        let count = self.count_digits(digits);
-        if count == 0 {
+        if digits.is_empty() {
             return None;
         }
         plain.push(b'.');
-        let (_, rest) = self.read_digits(count, false, digits, plain)?;
-        if rest.is_empty() { Some(count) } else { None }
+        self.read_last_digits(digits, plain)
     }
 
     /// Finds the sign and the digits of a text, with separators at any ends of groups.
@@ -178,7 +186,7 @@ impl<'a> DecimalSymbols<'a> {
         if integer_digits == 0 {
             return None;
         }
-        let (is_strict, rest) = self.read_digits(integer_digits, true, number, plain)?;
+        let (is_strict, rest) = self.read_digits(integer_digits, number, plain)?;
         let fraction_digits = self.read_fraction(rest, plain)?;
         Some(Scanned {
             sign,

@@ -7,12 +7,12 @@ use Rattle.std.proofs.lemmas.Int.Digits.{number_more}
 use Rattle.std.proofs.lemmas.List.Elements.{All-from_recursion}
 
 -- the number that the lowest k lanes of n write in base c
-value : ℕ → ℕ → ℕ → ℕ → ℕ
+unfoldable pub value : ℕ → ℕ → ℕ → ℕ → ℕ
 value b c zero n = 0
 value b c (suc k) n = value b c k (n / b) * c + n % b
 
 -- each two of the lowest 2 * k lanes, joined to one of twice the width
-joined : ℕ → ℕ → ℕ → ℕ → ℕ
+unfoldable pub joined : ℕ → ℕ → ℕ → ℕ → ℕ
 joined w c zero n = 0
 joined w c (suc k) n =
     joined w c k (n / 2 ^ w / 2 ^ w) * 2 ^ (w + w) + (n / 2 ^ w % 2 ^ w * c + n % 2 ^ w)
@@ -23,26 +23,26 @@ lower w zero n = 0
 lower w (suc k) n = lower w k (n / 2 ^ w / 2 ^ w) * 2 ^ (w + w) + n % 2 ^ w
 
 -- the bits of the lower lanes
-mask : ℕ → ℕ → ℕ
+unfoldable pub mask : ℕ → ℕ → ℕ
 mask w zero = 0
 mask w (suc k) = mask w k * 2 ^ (w + w) + (2 ^ w - 1)
 
 -- all numbers of 2 * k lanes are below it
-top : ℕ → ℕ → ℕ
+unfoldable pub top : ℕ → ℕ → ℕ
 top w zero = 1
 top w (suc k) = top w k * 2 ^ (w + w)
 
 -- arithmetic that `omega` does where w and c are numerals
-record Lanes (w c : ℕ) : Type 0 where
-  parts : (n : ℕ) → n / 2 ^ w / 2 ^ w * 2 ^ (w + w) + n % 2 ^ (w + w) ≡ n
-  low : (n : ℕ) → n % 2 ^ (w + w) % 2 ^ w ≡ n % 2 ^ w
-  rest : (n : ℕ) → n % 2 ^ (w + w) < 2 ^ (w + w)
-  ones : 2 ^ w - 1 < 2 ^ (w + w)
-  down : (n t : ℕ) → n < t * 2 ^ (w + w) → n / 2 ^ w / 2 ^ w < t
-  step : (n j e : ℕ) → j + (2 ^ w - c) * e ≡ n / 2 ^ w / 2 ^ w
+pub record Lanes (w c : ℕ) : Type 0 where
+  pub parts : (n : ℕ) → n / 2 ^ w / 2 ^ w * 2 ^ (w + w) + n % 2 ^ (w + w) ≡ n
+  pub low : (n : ℕ) → n % 2 ^ (w + w) % 2 ^ w ≡ n % 2 ^ w
+  pub rest : (n : ℕ) → n % 2 ^ (w + w) < 2 ^ (w + w)
+  pub ones : 2 ^ w - 1 < 2 ^ (w + w)
+  pub down : (n t : ℕ) → n < t * 2 ^ (w + w) → n / 2 ^ w / 2 ^ w < t
+  pub step : (n j e : ℕ) → j + (2 ^ w - c) * e ≡ n / 2 ^ w / 2 ^ w
       → (j * 2 ^ (w + w) + (n / 2 ^ w % 2 ^ w * c + n % 2 ^ w))
       + (2 ^ w - c) * (e * 2 ^ (w + w) + n / 2 ^ w % 2 ^ w) ≡ n
-  fits : (n : ℕ) → n / 2 ^ w % 2 ^ w * c + n % 2 ^ w < 2 ^ (w + w)
+  pub fits : (n : ℕ) → n / 2 ^ w % 2 ^ w * c + n % 2 ^ w < 2 ^ (w + w)
 
 module _ {w c : ℕ} (l : Lanes w c) where
   -- a mask keeps the lower lanes
@@ -65,7 +65,7 @@ module _ {w c : ℕ} (l : Lanes w c) where
   kept k n h = ap (λ e. joined w c k n + (2 ^ w - c) * e) (masked k (n / 2 ^ w)) ∙ kept_lower k n h
 
   -- and keeps the number that the lanes write
-  value_joined : (k n : ℕ) → value (2 ^ (w + w)) (c * c) k (joined w c k n) ≡ value (2 ^ w) c (k + k) n
+  pub value_joined : (k n : ℕ) → value (2 ^ (w + w)) (c * c) k (joined w c k n) ≡ value (2 ^ w) c (k + k) n
   unfolding value joined
   value_joined zero n = refl
   value_joined (suc k) n =
@@ -140,7 +140,7 @@ value_front ds h (suc i) (suc k) l m =
 -- ---- the four steps
 module _ {w c : ℕ} (l : Lanes w c) (k n m : ℕ) (h : n < top w k) (is : m ≡ mask w k) where
   -- a step, with the mask as a numeral
-  stepped : n - (2 ^ w - c) * bit_and (n / 2 ^ w) m ≡ joined w c k n
+  pub stepped : n - (2 ^ w - c) * bit_and (n / 2 ^ w) m ≡ joined w c k n
   stepped = omega (arith, kept l k n h, ap (λ x. (2 ^ w - c) * bit_and (n / 2 ^ w) x) is)
 
 module _ (n : ℕ) (h : n < 2 ^ 64) where

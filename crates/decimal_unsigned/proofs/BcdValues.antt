@@ -1,12 +1,12 @@
 -- Short texts: up to sixteen digits as a number in base 16, and the value of their parts.
-use Rattle.decimal_unsigned.proofs.Common.{clamps, nat_tests, common_steps, ◌≡◌, ℕ, zero, suc, ◌+◌, ◌-◌, ◌*◌, ◌/◌, ◌%◌, ◌^◌, ◌<◌, ◌≤◌, inl, inr, true, List, [], ◌∷◌, ◌++◌, length, get_or, take, drop, take_all, map, refl, sym, ◌∙◌, ap, subst, arith, Some, None, option_map, Ok, pos, ◌-ℤ◌, mul-lt-mul_of_pos_right, pow-le-pow_right, cases_lt, ints, pow-add, length-append, length-drop, length-take-le, length-map, number_lt, digits_value_is, is_ascii_digit, prefix_len, digit_value, number_from_digits, AllBelowBase, AllDigits, digits_value, Literal, value_of, middle, IsNonzeroRange, pow-suc, mod-eq_of_lt, digits_value_after, below_sixteen}
+use Rattle.decimal_unsigned.proofs.Common.{clamps, nat_tests, common_steps, ◌≡◌, ℕ, zero, suc, ◌+◌, ◌-◌, ◌*◌, ◌/◌, ◌%◌, ◌^◌, ◌<◌, ◌≤◌, inl, inr, true, List, [], ◌∷◌, ◌++◌, length, get_or, take, drop, take_all, map, refl, sym, ◌∙◌, ap, subst, arith, Some, None, option_map, Ok, pos, ◌-ℤ◌, mul-lt-mul_of_pos_right, pow-le-pow_right, cases_lt, ints, pow-add, append-nil, take-append-drop, length-append, length-drop, length-take, length-take-le, length-map, number_lt, digits_value_is, is_ascii_digit, prefix_len, digit_value, number_from_digits, AllBelowBase, AllDigits, digits_value, Literal, value_of, middle, IsNonzeroRange, pow-suc, mod-eq_of_lt, digits_value_after, below_sixteen}
 use Rattle.std.specs.Int.{w64, bit_at, leading_zeros, trailing_zeros}
 use Rattle.std.proofs.Math.Nat.{one-le-pow, div-div-eq-div-mul, div-eq_of_lt-le, zero-div}
 use Rattle.std.proofs.Math.ListN.{get_or-eq_default}
 use Rattle.std.proofs.lemmas.Nat.{mod-mul-add, leading_top}
 use Rattle.std.proofs.lemmas.Nat.Bits.{bit_at_above, bit_at-trailing_zeros}
 use Rattle.std.proofs.lemmas.List.{drop-drop, drop_all, at_drop_more}
-use Rattle.std.proofs.lemmas.List.Sums.{prefix_len-le-length}
+use Rattle.std.proofs.lemmas.List.Sums.{prefix_len-le-length, prefix_len-drop_no}
 use Rattle.std.proofs.lemmas.Int.Digits.{number_more as number_more_digits, all_below_base_from_digits}
 use Rattle.decimal_digits.specs.Nibbles.{leading_bytes}
 use Rattle.decimal_digits.specs.Ascii.{decimal_point}
@@ -15,13 +15,15 @@ use Rattle.decimal_digits.proofs.DigitLists.{below_at, number-div}
 use Rattle.decimal_digits.proofs.LeadingBytes.{hex_pow, leading_bytes_encode}
 use Rattle.decimal_unsigned.specs.Parts.{saturated_parts}
 use Rattle.decimal_unsigned.specs.Reading.{parts_of, after_whole, after_fraction, read}
-use Rattle.decimal_unsigned.specs.ScannedDigits.{in_base_16, plain_parts, digits_of, planned_digits, value_within, IsPlan, IsPlainText, IsBcdValue}
+use Rattle.decimal_unsigned.specs.PlainTexts.{IsPlainText, IsPrefix, plain_parts, without}
+use Rattle.decimal_unsigned.specs.ScannedDigits.{digits_of, planned_digits, value_within, IsPlan, IsBcdValue}
 use Rattle.decimal_unsigned.specs.declared.decimal.parse.fast_path.PlainText.{PlainText}
 use Rattle.decimal_unsigned.specs.declared.decimal.parse.plan.Bounds.{Bounds}
 use Rattle.decimal_unsigned.specs.declared.decimal.parse.plan.Plan.{Plan}
 use Rattle.decimal_unsigned.proofs.Middle.{middle_length, middle_below, number_middle}
 use Rattle.decimal_unsigned.proofs.Exponents.{read_some, digits_some}
-use Rattle.decimal_unsigned.proofs.Numerals.{value_of_digit}
+use Rattle.decimal_unsigned.proofs.Numerals.{value_of_digit, prefix_len-run, digits_left, digits_right}
+use Rattle.decimal_unsigned.proofs.PlainTexts.{digits_fit}
 use Rattle.decimal_unsigned.proofs.Plans.{all_digits, length_digits, makes_zero, makes_plain, is_plan_at}
 
 -- ---- The loop over a text.
@@ -46,6 +48,10 @@ number_more before number i text h d e =
     omega (arith, m, k, e)
 
 -- ---- The integer digits and the fraction digits.
+-- the number of the integer digits and then the fraction digits in base 16, modulo 2 ^ 64
+abbrev in_base_16 : List ℕ → List ℕ → ℕ
+in_base_16 whole fraction = digits_value_after 16 (digits_value 16 whole) fraction % 2 ^ 64
+
 after_append : (n : ℕ) (xs ys : List ℕ)
     → digits_value_after 16 n (xs ++ ys) ≡ digits_value_after 16 (digits_value_after 16 n xs) ys
 after_append n [] ys = refl
@@ -83,7 +89,8 @@ number_written whole fraction number h few e =
 -- ---- The digits between the zeros.
 -- the number without its leading zero nibbles encodes the digits from `start` to `end`
 pub middle_holds : (ds : List ℕ) (number zeros start end : ℕ) → AllBelowBase 10 ds → number ≡ number_from_digits 16 ds
-    → IsNonzeroRange ds start end → length ds ≤ 16 → zeros ≡ 16 - (length ds - start)
+    → IsNonzeroRange ds start end
+    → length ds - start ≤ 16 → zeros ≡ 16 - (length ds - start)
     → Encodes (leading_bytes (number * 2 ^ (4 * zeros) % 2 ^ 64) (end - start)) (end - start) (middle start end ds)
 middle_holds ds number zeros start end below is n few z =
     let len = end - start in
@@ -98,11 +105,11 @@ middle_holds ds number zeros start end below is n few z =
     let lt : m * 16 ^ (16 - len) < 2 ^ 64 =
     subst (λ p. m * 16 ^ (16 - len) < p) places
     (mul-lt-mul_of_pos_right m_lt (one-le-pow (16 - len) 16 (omega arith))) in
-    let following : (length ds - end) + zeros ≡ 16 - len = omega (arith, n.ordered, n.within) in
+    let following : (length ds - end) + zeros ≡ 16 - len = omega (arith, n.ordered, n.within, few) in
     let moved : number * 2 ^ (4 * zeros) ≡ m * 16 ^ (16 - len) =
     rw (is, number_middle ds start end n 16, hex_pow zeros, ← following, pow-add 16 (length ds - end) zeros)
     (omega arith) in
-    leading_bytes_encode mid len _ l (omega (arith, n.within)) below_mid
+    leading_bytes_encode mid len _ l (omega (arith, n.within, few)) below_mid
     (ap (λ x. x % 2 ^ 64) moved ∙ mod-eq_of_lt lt)
 
 -- ---- The bits of a number and its digits.
@@ -188,12 +195,10 @@ inner_bits ds n top low below is first above last none =
     )
 
 -- the leading and trailing zero nibbles of a number are the leading and trailing zeros of its digits
-pub inner_number : (ds : List ℕ) (n : ℕ) → AllBelowBase 10 ds → length ds ≤ 16 → n ≡ number_from_digits 16 ds → 0 < n
+pub inner_number : (ds : List ℕ) (n : ℕ) → AllBelowBase 10 ds → n < 2 ^ 64 → n ≡ number_from_digits 16 ds → 0 < n
     → (16 - leading_zeros w64 n / 4 ≤ length ds)
     × IsNonzeroRange ds (length ds - (16 - leading_zeros w64 n / 4)) (length ds - trailing_zeros w64 n / 4)
-inner_number ds n below few is some =
-    let places : 16 ^ length ds ≤ 16 ^ 16 = pow-le-pow_right (omega arith) few in
-    let fits : n < 2 ^ 64 = omega (arith, is, number_lt 16 ds (below_sixteen ds below), places) in
+inner_number ds n below fits is some =
     let t = leading_top 64 n some fits in
     let low = bit_at-trailing_zeros w64 n some fits in
     let one : n / 2 ^ t.0 ≡ 1 =
@@ -232,53 +237,128 @@ after_byte text i =
     take_all (length text - i) rest (omega (arith, length-drop i text)) in
     rw all (take_all (length rest - 1) (drop 1 rest) (omega (arith, length-drop 1 rest)) ∙ drop-drop 1 i text)
 
-module _ (text : List ℕ) (whole number : ℕ) (digits : whole ≡ prefix_len is_ascii_digit text)
-    (numbered : number ≡ digits_value 16 (take whole text) % 2 ^ 64) where
+module _ (text : List ℕ) (whole : ℕ) (digits : whole ≡ prefix_len is_ascii_digit text) where
   within : whole ≤ length text
   within = omega (arith, digits, prefix_len-le-length is_ascii_digit text)
 
-  long : length (take whole text) ≡ whole
+  pub long : length (take whole text) ≡ whole
   long = length-take-le whole text within
 
   -- a text of digits
-  pub plain_whole : 0 < whole → drop whole text ≡ []
-      → IsPlainText text (record { whole = whole; fraction = 0; number = number })
+  pub parts_whole : 0 < whole → drop whole text ≡ [] → parts_of text ≡ Some (plain_parts text whole)
   unfolding parts_of
-  plain_whole some none =
+  parts_whole some none =
       let following : drop (whole + 1) text ≡ [] = sym (drop-drop 1 whole text) ∙ ap (drop 1) none in
-      let parts : parts_of text ≡ Some (record { whole = take whole text; fraction = []; exponent = None }) =
-      rw (sym digits, none) (after_whole_end (take whole text) (omega (arith, long, some))) in
-      record {
-        parts = rw following parts;
-        whole = long;
-        fraction = rw following refl;
-        number = rw following numbered;
-      }
+      rw (sym digits, none, following) (after_whole_end (take whole text) (omega (arith, long, some)))
 
   -- digits with a decimal point
+  pub parts_point : whole < length text → get_or text whole 0 ≡ decimal_point
+      → prefix_len is_ascii_digit (drop (whole + 1) text) ≡ length (drop (whole + 1) text)
+      → 0 < length (drop (whole + 1) text) → parts_of text ≡ Some (plain_parts text whole)
+  unfolding parts_of
+  parts_point in_text byte all some =
+      let point : drop whole text ≡ decimal_point ∷ drop (whole + 1) text =
+      at_drop_more (λ x. x) text whole 0 in_text ∙ (rw byte refl) in
+      rw (sym digits, point) (after_whole_point (take whole text) (drop (whole + 1) text) some all)
+
+-- up to seven bytes
+module _ (text : List ℕ) (whole number : ℕ) (few : length text ≤ 7) (digits : whole ≡ prefix_len is_ascii_digit text)
+    (numbered : number ≡ digits_value 16 (take whole text) % 2 ^ 64) where
+  exact : (n : ℕ) → parts_of text ≡ Some (plain_parts text whole)
+      → n ≡ in_base_16 (take whole text) (drop (whole + 1) text)
+      → n ≡ digits_value 16 (take whole text ++ drop (whole + 1) text)
+  exact n parts e =
+      let w = plain_parts text whole in
+      let size : length (w.whole ++ w.fraction) ≤ 16 =
+      omega (arith, few, length-append w.whole w.fraction, long text whole digits, within text whole digits, length-drop (whole + 1) text) in
+      number_written w.whole w.fraction n (digits_some text w (sym (ap (option_map saturated_parts) parts))) size e
+      ∙ sym (digits_value_is 16 (w.whole ++ w.fraction))
+
+  pub plain_whole : 0 < whole → drop whole text ≡ []
+      → IsPlainText text (record { whole = whole; fraction = 0; number = number })
+  plain_whole some none =
+      let following : drop (whole + 1) text ≡ [] = sym (drop-drop 1 whole text) ∙ ap (drop 1) none in
+      let parts = parts_whole text whole digits some none in
+      record {
+        parts = parts;
+        whole = long text whole digits;
+        fraction = rw following refl;
+        number = exact number parts (rw following numbered);
+      }
+
   pub plain_point : (rest : List ℕ) (fraction more : ℕ) → whole < length text → get_or text whole 0 ≡ decimal_point
       → rest ≡ drop (whole + 1) text → fraction ≡ prefix_len is_ascii_digit rest → 0 < fraction → length rest ≤ fraction
       → more ≡ digits_value_after 16 number (take fraction rest) % 2 ^ 64
       → IsPlainText text (record { whole = whole; fraction = fraction; number = more })
-  unfolding parts_of
   plain_point rest fraction more in_text byte rest_is digits' some all n =
       let following = sym rest_is in
-      let point : drop whole text ≡ decimal_point ∷ rest =
-      at_drop_more (λ x. x) text whole 0 in_text ∙ (rw (byte, following) refl) in
       let most = prefix_len-le-length is_ascii_digit rest in
-      let parts : parts_of text ≡ Some (record { whole = take whole text; fraction = rest; exponent = None }) =
-      rw (sym digits, point)
-      (after_whole_point (take whole text) rest (omega (arith, some, digits', most))
-      (omega (arith, all, digits', most))) in
+      let parts =
+      parts_point text whole digits in_text byte (rw following (omega (arith, all, digits', most)))
+      (rw following (omega (arith, some, digits', most))) in
       record {
-        parts = rw following parts;
-        whole = long;
+        parts = parts;
+        whole = long text whole digits;
         fraction = rw following (omega (arith, all, digits', most));
         number =
-            rw following
+            exact more parts
+            (rw following
             (fraction_numbered (take whole text) rest number more numbered
-            (n ∙ ap (λ t. digits_value_after 16 number t % 2 ^ 64) (take_all fraction rest all)));
+            (n ∙ ap (λ t. digits_value_after 16 number t % 2 ^ 64) (take_all fraction rest all))));
       }
+
+-- at least eight bytes
+all_counted : (text : List ℕ) → AllDigits 10 text → prefix_len is_ascii_digit text ≡ length text
+all_counted text h =
+    ap (prefix_len is_ascii_digit) (sym (append-nil text)) ∙ omega (arith, prefix_len-run text [] h)
+
+pub plain_prefix : (text : List ℕ) (number : ℕ) → IsPrefix text (record { number = number; fraction = None })
+    → 8 ≤ length text → length text ≤ 32
+    → IsPlainText text (record { whole = length text; fraction = 0; number = number })
+plain_prefix text number p some few =
+    let all = take_all (length text) text (omega arith) in
+    let none : drop (length text) text ≡ [] = drop_all (length text) text (omega arith) in
+    let following : drop (length text + 1) text ≡ [] = drop_all (length text + 1) text (omega arith) in
+    let digits = sym (all_counted text p.digits) in
+    record {
+      parts = parts_whole text (length text) digits (omega (arith, some)) none;
+      whole = long text (length text) digits;
+      fraction = rw following refl;
+      number =
+          p.number ∙ mod-eq_of_lt (digits_fit text p.digits few)
+          ∙ ap (digits_value 16) (sym (append-nil text) ∙ (λ i. sym all i ++ sym following i));
+    }
+
+pub plain_prefix_point : (text : List ℕ) (number n : ℕ) → IsPrefix text (record { number = number; fraction = Some n })
+    → 0 < n → length text ≤ 33
+    → IsPlainText text (record { whole = length text - (n + 1); fraction = n; number = number })
+plain_prefix_point text number n p some few =
+    let whole = length text - (n + 1) in
+    let last : length text - n ≡ whole + 1 = omega (arith, p.point.0) in
+    let digits : AllDigits 10 (take whole text ++ drop (whole + 1) text) = rw last at p.digits in
+    let long : length (take whole text) ≡ whole = length-take-le whole text (omega arith) in
+    let back : length (drop (whole + 1) text) ≡ n = omega (arith, length-drop (whole + 1) text, p.point.0) in
+    let stop : prefix_len is_ascii_digit (drop whole text) ≡ 0 =
+    prefix_len-drop_no is_ascii_digit text whole 0 (omega (arith, p.point.0)) (rw p.point.1 refl) in
+    let counted : whole ≡ prefix_len is_ascii_digit text =
+    omega (
+      arith,
+      ap (prefix_len is_ascii_digit) (take-append-drop whole text),
+      prefix_len-run (take whole text) (drop whole text) (digits_left (take whole text) (drop (whole + 1) text) digits),
+      stop,
+      long,
+    ) in
+    let size : length (take whole text ++ drop (whole + 1) text) ≤ 32 =
+    omega (arith, length-append (take whole text) (drop (whole + 1) text), long, back, few, p.point.0) in
+    record {
+      parts =
+          parts_point text whole counted (omega (arith, p.point.0)) p.point.1
+          (all_counted (drop (whole + 1) text) (digits_right (take whole text) (drop (whole + 1) text) digits))
+          (omega (arith, back, some));
+      whole = long;
+      fraction = back;
+      number = (rw last at p.number) ∙ mod-eq_of_lt (digits_fit (take whole text ++ drop (whole + 1) text) digits size);
+    }
 
 -- ---- The value of a short text.
 short_made : (w : Literal) (p : Plan) (number len : ℕ) → IsPlan w p
@@ -290,7 +370,8 @@ short_made w p number len k h = record {
   value = k.value ∙ ap (λ ds. Ok (value_within ds p.bounds)) (sym h.digits);
 }
 
-module _ (text : List ℕ) (p : PlainText) (plain : IsPlainText text p) (few : p.whole + p.fraction ≤ 16) where
+module _ (text : List ℕ) (p : PlainText) (plain : IsPlainText text p) (few : length text ≤ 33)
+    (fits : p.number < 2 ^ 64) where
   abbrev w : Literal
   w = plain_parts text p.whole
 
@@ -307,9 +388,13 @@ module _ (text : List ℕ) (p : PlainText) (plain : IsPlainText text p) (few : p
   count = omega (arith, length_digits w, plain.whole, plain.fraction)
 
   number_is : p.number ≡ number_from_digits 16 (digits_of w)
-  number_is =
-      number_written w.whole w.fraction p.number digits
-      (omega (arith, length-append w.whole w.fraction, plain.whole, plain.fraction, few)) plain.number
+  number_is = plain.number ∙ digits_value_is 16 (w.whole ++ w.fraction)
+
+  few_whole : p.whole ≤ 33
+  few_whole = omega (arith, few, plain.whole, length-take p.whole text)
+
+  few_fraction : p.fraction ≤ 33
+  few_fraction = omega (arith, few, plain.fraction, length-drop (p.whole + 1) text)
 
   -- zero
   pub short_zero : (b : Bounds) → p.number ≡ 0 → b.magnitude ≡ pos 0 → b.hi ≡ pos (p.whole - 1)
@@ -317,7 +402,7 @@ module _ (text : List ℕ) (p : PlainText) (plain : IsPlainText text p) (few : p
       → IsBcdValue (read text) (record { number = p.number; len = 0; bounds = b })
   short_zero b z m hi lo =
       let zeros = zero_digits (digits_of w) below (sym number_is ∙ z) in
-      let k = makes_zero w digits (omega (arith, plain.whole)) (omega (arith, plain.fraction)) zeros in
+      let k = makes_zero w digits (omega (arith, plain.whole, few_whole)) (omega (arith, plain.fraction, few_fraction)) zeros in
       rw (read_some text w parts)
       (short_made w (record { start = 0; end = 0; bounds = b }) p.number 0
       (is_plan_at w 0 0 _ _ _ b k m (omega (arith, ints, hi, plain.whole)) (omega (arith, ints, lo, plain.fraction)))
@@ -327,7 +412,7 @@ module _ (text : List ℕ) (p : PlainText) (plain : IsPlainText text p) (few : p
     found : (16 - leading_zeros w64 p.number / 4 ≤ length (digits_of w))
         × IsNonzeroRange (digits_of w) (length (digits_of w) - (16 - leading_zeros w64 p.number / 4))
         (length (digits_of w) - trailing_zeros w64 p.number / 4)
-    found = inner_number (digits_of w) p.number below (omega (arith, count)) number_is some
+    found = inner_number (digits_of w) p.number below fits number_is some
 
     -- the zero nibbles bound the nonzero digits, which are no more than the digits in the text
     pub short_sizes : (trailing_zeros w64 p.number / 4 < 16 - leading_zeros w64 p.number / 4)
@@ -345,18 +430,18 @@ module _ (text : List ℕ) (p : PlainText) (plain : IsPlainText text p) (few : p
         let ds = digits_of w in
         let start = length ds - (16 - zeros) in
         let end = length ds - trailing_zeros w64 p.number / 4 in
-        let fits : 16 - zeros ≤ length ds = omega (arith, z, found.0) in
+        let places : 16 - zeros ≤ length ds = omega (arith, z, found.0) in
         let n : IsNonzeroRange ds start end = rw z found.1 in
         let at : b.magnitude ≡ (pos (length w.whole) -ℤ pos 1) -ℤ pos start =
-        omega (arith, ints, m, fits, count, plain.whole) in
+        omega (arith, ints, m, places, count, plain.whole) in
         let plan =
-        makes_plain w digits (omega (arith, plain.whole)) (omega (arith, plain.fraction)) start end n b.magnitude at
+        makes_plain w digits (omega (arith, plain.whole, few_whole)) (omega (arith, plain.fraction, few_fraction)) start end n b.magnitude at
         refl in
         let k =
         is_plan_at w start end _ _ _ b plan refl (omega (arith, ints, hi, plain.whole))
         (omega (arith, ints, lo, plain.fraction)) in
         let h =
-        middle_holds ds p.number zeros start end below number_is n (omega (arith, count, few)) (omega (arith, fits)) in
-        let long : end - start ≡ len = omega (arith, l, n.ordered, n.within, fits) in
+        middle_holds ds p.number zeros start end below number_is n (omega (arith, places)) (omega (arith, places)) in
+        let long : end - start ≡ len = omega (arith, l, n.ordered, n.within, places) in
         rw (read_some text w parts)
         (short_made w (record { start = start; end = end; bounds = b }) _ len k (rw (sym long) h))

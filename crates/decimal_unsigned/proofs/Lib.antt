@@ -29,5 +29,7 @@ pub mod RoundingSucceeds
 pub mod Pieces
 pub mod Comparing
 pub mod BcdNumber
+pub mod PlainTexts
+pub mod Words
 pub mod WholeNumbers
 pub mod BcdValues

@@ -14,4 +14,5 @@ pub mod ToInteger
 -- Private: used only in the contracts of private functions and in the models of `UnsignedOver` and `Scan`.
 pub mod Stored
 pub mod Parts
+pub mod PlainTexts
 pub mod ScannedDigits

@@ -6,7 +6,6 @@ use Rattle.std.specs.Str.Parse.{AllDigits, digits_value, digits_value_after}
 use Rattle.decimal_digits.specs.Digits.{number_of}
 use Rattle.decimal_digits.specs.Nibbles.{digits_in, leading_bytes, IsPacked}
 use Rattle.decimal_unsigned.specs.declared.decimal.parse.fast_path.BcdValue.{BcdValue}
-use Rattle.decimal_unsigned.specs.declared.decimal.parse.fast_path.PlainText.{PlainText}
 use Rattle.decimal_unsigned.specs.declared.decimal.parse.plan.Bounds.{Bounds}
 use Rattle.decimal_unsigned.specs.declared.decimal.parse.plan.Plan.{Plan}
 use Rattle.decimal_unsigned.specs.Stored.{IsStored}
@@ -56,21 +55,6 @@ pub record IsScanned (w : Literal) (p : Plan) : Type 0 where
   pub plan : IsPlan w p
 
 -- ---- Short texts.
-
--- the number of the integer digits and then the fraction digits in base 16, modulo 2 ^ 64
-abbrev pub in_base_16 : List ℕ → List ℕ → ℕ
-in_base_16 whole fraction = digits_value_after 16 (digits_value 16 whole) fraction % 2 ^ 64
-
--- the parts of a text of digits, with or without a decimal point, where the first `whole` are the integer digits
-abbrev pub plain_parts : List ℕ → ℕ → Literal
-plain_parts text whole = record { whole = take whole text; fraction = drop (whole + 1) text; exponent = None }
-
--- the text is digits, with or without a decimal point, and these are their numbers and their number in base 16
-pub record IsPlainText (text : List ℕ) (p : PlainText) : Type 0 where
-  pub parts : parts_of text ≡ Some (plain_parts text p.whole)
-  pub whole : length (take p.whole text) ≡ p.whole
-  pub fraction : length (drop (p.whole + 1) text) ≡ p.fraction
-  pub number : p.number ≡ in_base_16 (take p.whole text) (drop (p.whole + 1) text)
 
 -- the first `len` nibbles of the number
 abbrev pub bcd_digits : BcdValue → List ℕ

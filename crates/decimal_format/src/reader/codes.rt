@@ -41,7 +41,7 @@ fn cut_end<'t>(text: &'t [u8], code: &[u8]) -> Option<&'t [u8]>
 }
 
 /// Returns the ASCII digit that a text begins with, and what follows it.
-#[inline]
+#[inline(always)]
 fn next_ascii_digit<'t>(text: &'t [u8]) -> Option<(u8, &'t [u8])>
     ensures { MatchOption result ((d : ℕ) (rest : List ℕ) → d < 10 → text.now ≢ (48 + d) ∷ rest)
         (λ r. (r.0 < 10) × (text.now ≡ (48 + r.0) ∷ r.1.now)) }
@@ -138,7 +138,7 @@ impl<'a> DecimalSymbols<'a> {
     }
 
     /// Returns the digit that a text begins with, and what follows it.
-    #[inline]
+    #[inline(always)]
     pub(crate) fn next_digit<'t>(&self, text: &'t [u8]) -> Option<(u8, &'t [u8])>
         requires { IsReadable self.now }
         ensures { MatchOption result ((d : ℕ) (rest : List ℕ) → d < 10 → text.now ≢ digit_text self.now d ++ rest)
@@ -147,6 +147,16 @@ impl<'a> DecimalSymbols<'a> {
         if self.has_ascii_digits() {
             return next_ascii_digit(text);
         }
+        self.next_other_digit(text)
+    }
+
+    /// Returns the digit that a text begins with, and what follows it, by any digits.
+    #[inline(never)]
+    fn next_other_digit<'t>(&self, text: &'t [u8]) -> Option<(u8, &'t [u8])>
+        requires { IsReadable self.now }
+        ensures { MatchOption result ((d : ℕ) (rest : List ℕ) → d < 10 → text.now ≢ digit_text self.now d ++ rest)
+            (λ r. (r.0 < 10) × (text.now ≡ digit_text self.now r.0 ++ r.1.now)) }
+    {
         if text.is_empty() {
             return None;
         }

@@ -12,6 +12,7 @@ ghost use Rattle.decimal_unsigned.specs.ScannedDigits.{middle, digits_of};
 mod fast_path;
 mod parts;
 mod plan;
+mod words;
 
 use super::UnsignedOver;
 use crate::ParseError;

@@ -1,24 +1,34 @@
 //! Short texts: up to sixteen digits, with or without a decimal point, as one packed BCD number.
-ghost use Rattle.std.specs.Prelude.{◌≡◌, ◌%◌, ◌^◌, take, IfSome};
+ghost use Rattle.std.specs.Prelude.{◌≡◌, ℕ, ◌+◌, ◌%◌, ◌^◌, ◌<◌, ◌≤◌, List, ◌++◌, length, take, IfSome};
 ghost use Rattle.std.specs.Char.{is_ascii_digit};
 ghost use Rattle.std.specs.List.{prefix_len};
 ghost use Rattle.std.specs.Str.Parse.{digits_value_after};
+ghost use Rattle.decimal_unsigned.specs.PlainTexts.{IsGroup, IsPrefix, IsPlainText};
 ghost use Rattle.decimal_unsigned.specs.Reading.{read};
-ghost use Rattle.decimal_unsigned.specs.ScannedDigits.{IsPlainText, IsBcdValue};
+ghost use Rattle.decimal_unsigned.specs.ScannedDigits.{IsBcdValue};
 
 use super::plan::{Bounds, to_bounds};
+use super::words::{Group, ZEROS, read_group};
 use decimal_digits::ops::subtract_counts;
 
 /// The length of sixteen digits and a decimal point.
 const MAX_FAST_LEN: usize = 17;
 
 /// A text of digits, with or without a decimal point: its numbers of integer and of fraction digits, and the number of
-/// all of them in base 16, in 64 bits.
+/// all of them in base 16.
 #[derive(Clone, Copy, Debug)]
 pub struct PlainText {
     pub whole: usize,
     pub fraction: usize,
-    pub number: u64,
+    pub number: u128,
+}
+
+/// The digits of a prefix of such a text: their number in base 16, in 128 bits, and how many of them follow the decimal
+/// point.
+#[derive(Clone, Copy, Debug)]
+pub struct Prefix {
+    pub number: u128,
+    pub fraction: Option<usize>,
 }
 
 /// A value: the first `len` nibbles of a packed BCD number of sixteen nibbles, and their magnitudes.
@@ -47,9 +57,10 @@ fn count_digits(before: u64, text: &[u8]) -> (usize, u64)
     (text.len(), number)
 }
 
-/// Returns the digits of a text, with or without a decimal point, or None of any other text.
+/// Returns the digits of a text of up to seven bytes, byte by byte.
 #[inline]
-fn plain_text(text: &[u8]) -> Option<PlainText>
+fn few_digits(text: &[u8]) -> Option<PlainText>
+    requires { length text.now ≤ 7 }
     ensures { IfSome result (IsPlainText text.now) }
 {
     let (whole, number) = count_digits(0, text);
@@ -57,7 +68,7 @@ fn plain_text(text: &[u8]) -> Option<PlainText>
         [] if whole > 0 => Some(PlainText {
             whole,
             fraction: 0,
-            number,
+            number: number as u128,
         }),
         [b'.', rest @ ..] => {
             let (fraction, number) = count_digits(number, rest);
@@ -67,9 +78,100 @@ fn plain_text(text: &[u8]) -> Option<PlainText>
             Some(PlainText {
                 whole,
                 fraction,
-                number,
+                number: number as u128,
             })
         }
+        _ => None,
+    }
+}
+
+/// Returns the digits of the first `count` of at least eight bytes.
+#[inline]
+fn first_group(text: &[u8], count: usize) -> Option<Prefix>
+    requires enough { 8 ≤ length text.now }
+    requires few { count ≤ 8 }
+    requires some { 0 < count }
+    ensures { IfSome result (IsPrefix (take count text.now)) }
+{
+    let bytes = text.first_chunk::<8>()?;
+    let unused = 8 * (8 - count);
+    let first = read_group(u64::from_be_bytes(*bytes) >> unused, ZEROS >> unused)?;
+    let number = first.number as u128;
+    match first.fraction {
+        None => Some(Prefix {
+            number,
+            fraction: None,
+        }),
+        Some(fraction) => Some(Prefix {
+            number,
+            fraction: Some(fraction as usize),
+        }),
+    }
+}
+
+/// Appends a group of eight bytes to a prefix. None if there are two decimal points.
+#[inline]
+fn append_group(prefix: Prefix, next: Group) -> Option<Prefix>
+    requires fits { IfSome prefix.fraction (λ n. n < 2 ^ 63) }
+    ensures { IfSome result (λ p. (text group : List ℕ) → IsPrefix text prefix → IsGroup group next → length group ≡ 8
+        → IsPrefix (text ++ group) p) }
+{
+    let digits = next.number as u128;
+    match (prefix.fraction, next.fraction) {
+        (None, None) => Some(Prefix {
+            number: (prefix.number << 32).wrapping_add(digits),
+            fraction: None,
+        }),
+        (Some(fraction), None) => Some(Prefix {
+            number: (prefix.number << 32).wrapping_add(digits),
+            fraction: Some(fraction + 8),
+        }),
+        (None, Some(fraction)) => Some(Prefix {
+            number: (prefix.number << 28).wrapping_add(digits),
+            fraction: Some(fraction as usize),
+        }),
+        (Some(_), Some(_)) => None,
+    }
+}
+
+/// Returns the digits of at least eight bytes, eight at a time.
+#[inline]
+fn many_digits(text: &[u8]) -> Option<Prefix>
+    requires { 8 ≤ length text.now }
+    ensures { IfSome result (IsPrefix text.now) }
+{
+    let count = (text.len() - 1) % 8 + 1;
+    let mut prefix = first_group(text, count)?;
+    let mut rest = &text[count..];
+    while let Some((bytes, others)) = rest.split_first_chunk::<8>() {
+        let next = read_group(u64::from_be_bytes(*bytes), ZEROS)?;
+        prefix = append_group(prefix, next)?;
+        rest = others;
+    }
+    Some(prefix)
+}
+
+/// Returns the digits of a text of up to 32 digits, with or without a decimal point, or None of any other text.
+#[inline]
+fn plain_text(text: &[u8]) -> Option<PlainText>
+    requires { length text.now ≤ 33 }
+    ensures { IfSome result (IsPlainText text.now) }
+{
+    if text.len() < 8 {
+        return few_digits(text);
+    }
+    let Prefix { number, fraction } = many_digits(text)?;
+    match fraction {
+        None if text.len() <= 32 => Some(PlainText {
+            whole: text.len(),
+            fraction: 0,
+            number,
+        }),
+        Some(fraction) if fraction > 0 => Some(PlainText {
+            whole: text.len() - (fraction + 1),
+            fraction,
+            number,
+        }),
         _ => None,
     }
 }
@@ -82,14 +184,12 @@ pub fn bcd_value(text: &[u8]) -> Option<BcdValue>
     if text.len() > MAX_FAST_LEN {
         return None;
     }
-    let PlainText {
-        whole,
-        fraction,
-        number,
-    } = plain_text(text)?;
-    if whole + fraction > 16 {
+    let plain = plain_text(text)?;
+    let (whole, fraction) = (plain.whole, plain.fraction);
+    if plain.number > u64::MAX as u128 {
         return None;
     }
+    let number = plain.number as u64;
     let hi = subtract_counts(whole.max(1), 1);
     let lo = subtract_counts(0, fraction);
     if number == 0 {

@@ -1,12 +1,7 @@
 use Rattle.std.proofs.Common.{◌++◌, sym, ◌∙◌, ap}
 use Rattle.decimal_format.proofs.AsciiDigits.{digit_text-ascii}
-use Rattle.decimal_format.proofs.Codes.{none_not_digit, match_weaker}
-use Rattle.decimal_format.proofs.Scans.{empty_is}
+use Rattle.decimal_format.proofs.Codes.{match_weaker}
 use Rattle.decimal_format.proofs.symbols.DecimalSymbols.next_digit.Goals as goal
-
-pub returns-then-is_empty : goal.returns-then-is_empty
-returns-then-is_empty c = λ d rest below e.
-    none_not_digit c.args.self.now c.requires d rest below (sym (empty_is c.args.text.now c.if-is_empty.ensures) ∙ e)
 
 pub returns-then-has_ascii_digits : goal.returns-then-has_ascii_digits
 returns-then-has_ascii_digits c =

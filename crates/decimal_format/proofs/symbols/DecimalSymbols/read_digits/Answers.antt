@@ -1,14 +1,15 @@
-use Rattle.std.proofs.Common.{◌≡◌, ◌+◌, ◌-◌, ◌<◌, ◌++◌, sym, ◌∙◌, subst, arith}
+use Rattle.std.proofs.Common.{◌≡◌, ◌+◌, ◌-◌, ◌<◌, ◌++◌, sym, ◌∙◌, ap, subst, arith}
 use Rattle.decimal_format.specs.Symbols.{digit_text}
+use Rattle.decimal_format.specs.Lenient.{ends_group}
 use Rattle.decimal_format.specs.Reading.{digits_text}
-use Rattle.decimal_format.specs.Scanning.{may_separate, separated_if, separator_if, SkipsSeparator}
+use Rattle.decimal_format.specs.Scanning.{separated_if, separator_if, SkipsSeparator}
 use Rattle.decimal_format.proofs.Scans.{on_none, none_after_last, all_step, none_step, IsReadTo, Leaves, read_none, leaves_all, read_more, leaves_less, read_all, left_none, next_left}
 use Rattle.decimal_format.proofs.symbols.DecimalSymbols.read_digits.Goals as goal
 
 pub loop-left-init : goal.loop-left-init
 loop-left-init c =
     let s = c.args.self.now in
-    let may = may_separate s c.args.grouped in
+    let may = ends_group s.sizes in
     record {
       read = read_none s may c.args.count c.args.text.now c.args.plain.now;
       leaves = leaves_all s may c.args.count c.args.text.now;
@@ -17,7 +18,7 @@ loop-left-init c =
 pub loop-left-preserved : goal.loop-left-preserved
 loop-left-preserved c =
     let s = c.args.self.now in
-    let may = may_separate s c.args.grouped in
+    let may = ends_group s.sizes in
     let n = c.args.count in
     let left = c.loop-left.left in
     let rest = c.loop-left.rest.now in
@@ -31,23 +32,25 @@ loop-left-preserved c =
     let begins : rest ≡ digit_text s digit ++ after =
     c.in_ok-digit.ensures.1 ∙ (λ i. digit_text s (sym c.in_ok-digit.digit-is i)
     ++ (sym c.in_ok-digit.after-is i).now) in
+    let possible : c.ends_group-possible.result ≡ may (left - 1) =
+    c.ends_group-possible.ensures ∙ ap (λ sizes. ends_group sizes (left - 1)) c.sizes.ensures in
     let skips : SkipsSeparator s (may (left - 1)) after next found =
-    subst (λ p. SkipsSeparator s p after next found) c.may_separate-possible.ensures skipped.ensures in
+    subst (λ p. SkipsSeparator s p after next found) possible skipped.ensures in
     record {
       read = read_more s may n c.args.text.now rest after next digit left (left - 1) found c.loop-left.all
           c.loop-left.none _ _ c.args.plain.now c.loop-left.plain c.push.new.self below one begins skips
-          (all_step c.loop-left.all found c.may_separate-possible.result (may (left - 1))
-          c.may_separate-possible.ensures)
+          (all_step c.loop-left.all found c.ends_group-possible.result (may (left - 1))
+          possible)
           (none_step c.loop-left.none found)
           c.push.ensures c.loop-left.invariant.read;
       leaves = leaves_less s may n c.args.text.now c.requires rest after next digit left (left - 1) found below one
-          (none_after_last s c.args.grouped) begins skips c.loop-left.invariant.leaves;
+          (none_after_last s) begins skips c.loop-left.invariant.leaves;
     }
 
 pub returns-in_err-digit-clause-none : goal.returns-in_err-digit-clause-none
 returns-in_err-digit-clause-none c = on_none c.from_residual.result _ (λ chosen ds tail h all e.
     let s = c.args.self.now in
-    let may = may_separate s c.args.grouped in
+    let may = ends_group s.sizes in
     let f = separated_if may chosen in
     let left = c.loop-left.left in
     let one : left - 1 + 1 ≡ left = omega (arith, c.loop-left-test.true) in
@@ -58,7 +61,7 @@ returns-in_err-digit-clause-none c = on_none c.from_residual.result _ (λ chosen
 pub returns-clause-found : goal.returns-clause-found
 returns-clause-found c =
     let s = c.args.self.now in
-    let may = may_separate s c.args.grouped in
+    let may = ends_group s.sizes in
     let none : c.loop-left.left ≡ 0 = omega (arith, c.loop-left-test.false) in
     read_all s may c.args.count c.args.text.now c.loop-left.rest.now c.loop-left.all c.loop-left.none
     c.args.plain.now c.loop-left.plain
@@ -69,7 +72,7 @@ returns-clause-found c =
 pub returns-clause-unique : goal.returns-clause-unique
 returns-clause-unique c =
     let s = c.args.self.now in
-    let may = may_separate s c.args.grouped in
+    let may = ends_group s.sizes in
     let none : c.loop-left.left ≡ 0 = omega (arith, c.loop-left-test.false) in
     left_none s may c.args.count c.args.text.now c.loop-left.rest.now
     (subst (λ k. Leaves s may c.args.count c.args.text.now c.loop-left.rest.now k) none c.loop-left.invariant.leaves)

@@ -1,12 +1,12 @@
-use Rattle.decimal_format.specs.Scanning.{may_separate}
+use Rattle.decimal_format.specs.Lenient.{ends_group}
 use Rattle.decimal_format.proofs.Scans.{IsReadTo, Leaves}
 use Rattle.decimal_format.proofs.symbols.DecimalSymbols.read_digits.Given as goal
 
 abbrev pub invariant-loop-left : goal.invariant-loop-left
 invariant-loop-left l = record {
-  read : IsReadTo l.self (may_separate l.self l.grouped) l.count l.text l.rest l.left l.all l.none l.initial.plain
+  read : IsReadTo l.self (ends_group l.self.sizes) l.count l.text l.rest l.left l.all l.none l.initial.plain
       l.plain;
-  leaves : Leaves l.self (may_separate l.self l.grouped) l.count l.text l.rest l.left;
+  leaves : Leaves l.self (ends_group l.self.sizes) l.count l.text l.rest l.left;
 }
 
 abbrev pub decreases-loop-left : goal.decreases-loop-left

@@ -1,9 +1,9 @@
 use Rattle.std.proofs.Common.{◌≡◌, ◌<◌, true, [], ◌++◌, length, refl, sym, ◌∙◌, ap, subst, arith}
 use Rattle.std.specs.Prelude.{◌↔◌}
 use Rattle.decimal_format.specs.Symbols.{sign_affixes}
-use Rattle.decimal_format.specs.Lenient.{separated_at}
+use Rattle.decimal_format.specs.Lenient.{ends_group, separated_at}
 use Rattle.decimal_format.specs.Reading.{Numeral, AreDigits, digits_text, fraction_text, absolute_numeral_text}
-use Rattle.decimal_format.specs.Scanning.{may_separate, IsUniform, ascii_digits_of}
+use Rattle.decimal_format.specs.Scanning.{IsUniform, ascii_digits_of}
 use Rattle.decimal_format.proofs.DigitTexts.{fraction_ends}
 use Rattle.decimal_format.proofs.NumeralLaws.{numeral_if_uniform}
 use Rattle.decimal_format.proofs.Scans.{on_none, number_begins}
@@ -64,7 +64,7 @@ returns-clause-found c =
     ∙ ap (λ l. affixes.prefix ++ (l ++ affixes.suffix))
     (whole.text ∙ ap (λ l. digits_text s (separated_at s whole.chosen) whole.digits ++ l) fraction.text) in
     let strict = numeral_if_uniform s c.requires.readable c.args.text.now w whole.chosen digits text in
-    let uniform = subst (λ n. c.in_ok-is_strict.is_strict ≡ true ↔ IsUniform (may_separate s true) whole.chosen n)
+    let uniform = subst (λ n. c.in_ok-is_strict.is_strict ≡ true ↔ IsUniform (ends_group s.sizes) whole.chosen n)
     (sym whole.count) whole.uniform in (
       w,
       record { digits = digits; chosen = whole.chosen; text = text },

@@ -4,7 +4,7 @@ use Rattle.decimal_unsigned.proofs.decimal.parse.fast_path.bcd_value.Goals as go
 
 pub returns-then-number-eq0 : goal.returns-then-number-eq0
 returns-then-number-eq0 c =
-    short_zero c.args.text.now c.in_ok-whole.field-0 c.in_ok-whole.ensures c.if-whole-fraction-gt16.false _
+    short_zero c.args.text.now c.in_ok-plain.plain c.in_ok-plain.ensures (omega arith) (omega arith) _
     c.if-number-eq0.true
     (omega (arith, ints, c.to_bounds-bounds.ensures.magnitude)) (omega (arith, ints, c.to_bounds-bounds.ensures.hi))
     (omega (arith, ints, c.to_bounds-bounds.ensures.lo))
@@ -12,13 +12,13 @@ returns-then-number-eq0 c =
 pub overflow_sub-len : goal.overflow_sub-len
 overflow_sub-len c =
     let n =
-    short_sizes c.args.text.now c.in_ok-whole.field-0 c.in_ok-whole.ensures c.if-whole-fraction-gt16.false
+    short_sizes c.args.text.now c.in_ok-plain.plain c.in_ok-plain.ensures (omega arith) (omega arith)
     (omega arith) in
     omega (arith, n.0)
 
 pub returns : goal.returns
 returns c =
-    short_plain c.args.text.now c.in_ok-whole.field-0 c.in_ok-whole.ensures c.if-whole-fraction-gt16.false
+    short_plain c.args.text.now c.in_ok-plain.plain c.in_ok-plain.ensures (omega arith) (omega arith)
     (omega arith) _ _ _ refl refl
     (omega (arith, ints, c.to_bounds.ensures.magnitude)) (omega (arith, ints, c.to_bounds.ensures.hi))
     (omega (arith, ints, c.to_bounds.ensures.lo))

@@ -1,0 +1,216 @@
+-- Texts of digits, with or without a decimal point, eight bytes at a time.
+use Rattle.decimal_unsigned.proofs.Common.{◌≡◌, ℕ, zero, suc, ◌+◌, ◌-◌, ◌*◌, ◌/◌, ◌%◌, ◌^◌, ◌<◌, ◌≤◌, true, false, List, [], ◌∷◌, ◌++◌, length, get_or, take, drop, take_all, replicate, refl, sym, ◌∙◌, ap, subst, arith, Option, Some, None, length-append, length-drop, length-take-le, take-append-drop, number_from_digits, AllBelowBase, AllDigits, digits_value, digits_value_after, digit_value, is_ascii_digit, prefix_len, pow-suc, mod-eq_of_lt, below_take, parts_of, nat_tests, map, pow-le-pow_right, length-map, digits_value_is, number_lt, below_sixteen}
+use Rattle.std.specs.Int.{w64, from_be_bytes}
+use Rattle.std.proofs.Common.{append_assoc}
+use Rattle.std.proofs.Math.Seq.{take-add}
+use Rattle.std.proofs.lemmas.Nat.{mul-mod_first}
+use Rattle.std.proofs.lemmas.List.{take-take, take-append-le, drop-append-le, get_or_append_left, get_or-append_right, drop_all, drop-drop}
+use Rattle.std.proofs.lemmas.List.Sums.{prefix_len-drop_no}
+use Rattle.std.proofs.lemmas.Int.Digits.{all_below_base_from_digits}
+use Rattle.decimal_digits.proofs.DigitLists.{number-div}
+use Rattle.decimal_digits.specs.Ascii.{decimal_point}
+use Rattle.decimal_unsigned.specs.PlainTexts.{zeros, without, is_point, IsGroup, IsPrefix, IsPlainText, plain_parts}
+use Rattle.decimal_unsigned.specs.declared.decimal.parse.fast_path.PlainText.{PlainText}
+use Rattle.decimal_unsigned.specs.declared.decimal.parse.fast_path.Prefix.{Prefix}
+use Rattle.decimal_unsigned.specs.declared.decimal.parse.words.Group.{Group}
+use Rattle.decimal_unsigned.proofs.Numerals.{prefix_len-run}
+use Rattle.decimal_unsigned.proofs.Words.{byte_pow}
+
+-- ---- Two texts after each other.
+pub digits_both : (a b : List ℕ) → AllDigits 10 a → AllDigits 10 b → AllDigits 10 (a ++ b)
+digits_both [] b h g = g
+digits_both (c ∷ a) b h g = (h.0, digits_both a b h.1 g)
+
+value_after : (n : ℕ) (text : List ℕ)
+    → digits_value_after 16 n text ≡ n * 16 ^ length text + digits_value 16 text
+value_after n [] = omega arith
+value_after n (c ∷ cs) =
+    let d = digit_value c in
+    let e : digits_value 16 (c ∷ cs) ≡ (0 * 16 + d) * 16 ^ length cs + digits_value 16 cs = value_after (0 * 16 + d) cs in
+    let p : 16 ^ length (c ∷ cs) ≡ 16 ^ length cs * 16 = pow-suc 16 (length cs) in
+    value_after (n * 16 + d) cs ∙ (rw (e, p) (omega arith))
+
+after_append : (n : ℕ) (a b : List ℕ)
+    → digits_value_after 16 n (a ++ b) ≡ digits_value_after 16 (digits_value_after 16 n a) b
+after_append n [] b = refl
+after_append n (c ∷ a) b = after_append (n * 16 + digit_value c) a b
+
+-- the number of two texts, in 128 bits
+joined_number : (a b : List ℕ) (number more places : ℕ) → number ≡ digits_value 16 a % 2 ^ 128
+    → more ≡ digits_value 16 b → 16 ^ length b ≡ places
+    → (number * places % 2 ^ 128 + more) % 2 ^ 128 ≡ digits_value 16 (a ++ b) % 2 ^ 128
+joined_number a b number more places e f p =
+    let m : number * places % 2 ^ 128 ≡ digits_value 16 a * places % 2 ^ 128 =
+    ap (λ n. n * places % 2 ^ 128) e ∙ mul-mod_first (digits_value 16 a) places (2 ^ 128) in
+    let all : digits_value 16 (a ++ b) ≡ digits_value 16 a * places + digits_value 16 b =
+    after_append 0 a b ∙ value_after (digits_value 16 a) b ∙ ap (λ q. digits_value 16 a * q + digits_value 16 b) p in
+    omega (arith, m, all, f)
+
+take_over : (a b : List ℕ) (i : ℕ) → take (length a + i) (a ++ b) ≡ a ++ take i b
+take_over [] b i = let e : 0 + i ≡ i = omega arith in ap (λ k. take k b) e
+take_over (c ∷ a) b i =
+    let e : length (c ∷ a) + i ≡ suc (length a + i) = omega arith in
+    rw e (ap (λ l. c ∷ l) (take_over a b i))
+
+drop_over : (a b : List ℕ) (i : ℕ) → drop (length a + i) (a ++ b) ≡ drop i b
+drop_over [] b i = let e : 0 + i ≡ i = omega arith in ap (λ k. drop k b) e
+drop_over (c ∷ a) b i =
+    let e : length (c ∷ a) + i ≡ suc (length a + i) = omega arith in
+    rw e (drop_over a b i)
+
+module _ (text group : List ℕ) (p : Prefix) (g : Group) (front : IsPrefix text p) (back : IsGroup group g)
+    (eight : length group ≡ 8) where
+  size : length (text ++ group) ≡ length text + 8
+  size = length-append text group ∙ ap (λ k. length text + k) eight
+
+  both : AllDigits 10 (without p.fraction text ++ without g.fraction group)
+  both = digits_both _ _ front.digits back.digits
+
+  pub no_point : p.fraction ≡ None → g.fraction ≡ None
+      → IsPrefix (text ++ group)
+      (record { number = (p.number * 2 ^ 32 % 2 ^ 128 + g.number) % 2 ^ 128; fraction = None })
+  no_point e f = record {
+    point = tt;
+    digits = digits_both _ _ (rw e at front.digits) (rw f at back.digits);
+    number =
+        joined_number text group p.number g.number (2 ^ 32) (rw e at front.number) (rw f at back.number) (rw eight refl);
+  }
+
+  pub point_before : (n : ℕ) → p.fraction ≡ Some n → g.fraction ≡ None
+      → IsPrefix (text ++ group)
+      (record { number = (p.number * 2 ^ 32 % 2 ^ 128 + g.number) % 2 ^ 128; fraction = Some (n + 8) })
+  point_before n e f =
+      let at = rw e at front.point in
+      let i = length text - (n + 1) in
+      let first : length (text ++ group) - ((n + 8) + 1) ≡ i = omega (arith, size) in
+      let rest : length (text ++ group) - (n + 8) ≡ length text - n = omega (arith, size) in
+      let all : without (Some (n + 8)) (text ++ group) ≡ without (Some n) text ++ group =
+      ap (λ k. take k (text ++ group) ++ drop (length (text ++ group) - (n + 8)) (text ++ group)) first
+      ∙ ap (λ k. take i (text ++ group) ++ drop k (text ++ group)) rest
+      ∙ ap (λ l. l ++ drop (length text - n) (text ++ group)) (take-append-le i text group (omega arith))
+      ∙ ap (λ l. take i text ++ l) (drop-append-le (length text - n) text group (omega arith))
+      ∙ sym (append_assoc (take i text) (drop (length text - n) text) group) in
+      record {
+        point = (
+          omega (arith, size, at.0),
+          ap (λ k. get_or (text ++ group) k 0) first
+              ∙ get_or_append_left text group 0 i (omega (arith, at.0)) ∙ at.1,
+        );
+        digits = rw all (digits_both _ _ (rw e at front.digits) (rw f at back.digits));
+        number =
+            rw all
+            (joined_number (without (Some n) text) group p.number g.number (2 ^ 32) (rw e at front.number) (rw f at back.number)
+            (rw eight refl));
+      }
+
+  pub point_found : (n : ℕ) → p.fraction ≡ None → g.fraction ≡ Some n
+      → IsPrefix (text ++ group)
+      (record { number = (p.number * 2 ^ 28 % 2 ^ 128 + g.number) % 2 ^ 128; fraction = Some n })
+  point_found n e f =
+      let at = rw f at back.point in
+      let i = length group - (n + 1) in
+      let first : length (text ++ group) - (n + 1) ≡ length text + i = omega (arith, size, eight, at.0) in
+      let rest : length (text ++ group) - n ≡ length text + (length group - n) = omega (arith, size, eight, at.0) in
+      let all : without (Some n) (text ++ group) ≡ text ++ without (Some n) group =
+      ap (λ k. take k (text ++ group) ++ drop (length (text ++ group) - n) (text ++ group)) first
+      ∙ ap (λ k. take (length text + i) (text ++ group) ++ drop k (text ++ group)) rest
+      ∙ ap (λ l. l ++ drop (length text + (length group - n)) (text ++ group)) (take_over text group i)
+      ∙ ap (λ l. (text ++ take i group) ++ l) (drop_over text group (length group - n))
+      ∙ append_assoc text (take i group) (drop (length group - n) group) in
+      let seven : length (without (Some n) group) ≡ 7 =
+      omega (
+        arith,
+        eight,
+        at.0,
+        length-append (take i group) (drop (length group - n) group),
+        length-take-le i group (omega arith),
+        length-drop (length group - n) group,
+      ) in
+      record {
+        point = (
+          omega (arith, size, at.0),
+          ap (λ k. get_or (text ++ group) k 0) first
+              ∙ get_or-append_right text group (length text) (length text + i) 0 refl (omega arith)
+              ∙ ap (λ k. get_or group k 0) (let z : (length text + i) - length text ≡ i = omega arith in z) ∙ at.1,
+        );
+        digits = rw all (digits_both _ _ (rw e at front.digits) (rw f at back.digits));
+        number =
+            rw all
+            (joined_number text (without (Some n) group) p.number g.number (2 ^ 28) (rw e at front.number) (rw f at back.number)
+            (rw seven refl));
+      }
+
+-- ---- The first bytes of a text.
+eight_bytes : (bs : List ℕ) → length bs ≡ 8 → from_be_bytes w64 bs ≡ number_from_digits 256 bs
+eight_bytes (a ∷ (b ∷ (c ∷ (d ∷ (e ∷ (f ∷ (g ∷ (h ∷ [])))))))) l = omega arith
+eight_bytes bs l = absurd (omega arith)
+
+pub all_bytes : (bs : List ℕ) → ((i : ℕ) → get_or bs i 0 < 256) → AllBelowBase 256 bs
+all_bytes [] h = tt
+all_bytes (b ∷ bs) h = (h 0, all_bytes bs (λ i. h (suc i)))
+
+-- a group of eight bytes is one
+pub whole_word : (bs : List ℕ) (n : ℕ) → length bs ≡ 8 → n ≡ from_be_bytes w64 bs → n ≡ number_from_digits 256 bs
+whole_word bs n l e = e ∙ eight_bytes bs l
+
+pub eight_zeros : 0x3030_3030_3030_3030 ≡ zeros 8
+unfolding zeros
+eight_zeros = refl
+
+all_zero_bytes : (k : ℕ) → AllBelowBase 256 (replicate k 48)
+all_zero_bytes zero = tt
+all_zero_bytes (suc k) = (omega arith, all_zero_bytes k)
+
+module _ (text bs : List ℕ) (count n : ℕ) (below : (i : ℕ) → get_or text i 0 < 256) (enough : 8 ≤ length text)
+    (few : count ≤ 8) (first : bs ≡ take 8 text) (is : n ≡ from_be_bytes w64 bs) where
+  pub first_below : AllBelowBase 256 (take count text)
+  first_below = below_take 256 count text (all_bytes text below)
+
+  pub first_count : length (take count text) ≡ count
+  first_count = length-take-le count text (omega arith)
+
+  pub first_word : n / 2 ^ (8 * (8 - count)) ≡ number_from_digits 256 (take count text)
+  first_word =
+      let l : length bs ≡ 8 = ap length first ∙ length-take-le 8 text enough in
+      let below_bs : AllBelowBase 256 bs = subst (AllBelowBase 256) (sym first) (below_take 256 8 text (all_bytes text below)) in
+      ap (λ p. n / p) (byte_pow (8 - count)) ∙ ap (λ m. m / 256 ^ (8 - count)) (is ∙ eight_bytes bs l)
+      ∙ rw l at (number-div 256 count bs below_bs (omega arith))
+      ∙ ap (λ l. number_from_digits 256 (take count l)) first ∙ ap (number_from_digits 256) (take-take count 8 text few)
+
+  pub first_zeros : 0x3030_3030_3030_3030 / 2 ^ (8 * (8 - count)) ≡ zeros (length (take count text))
+  unfolding zeros
+  first_zeros =
+      ap (λ p. 0x3030_3030_3030_3030 / p) (byte_pow (8 - count))
+      ∙ number-div 256 count (replicate 8 48) (all_zero_bytes 8) few
+      ∙ ap (λ k. number_from_digits 256 (take k (replicate 8 48))) (sym first_count)
+
+-- up to 32 digits fit into 128 bits
+pub digits_fit : (cs : List ℕ) → AllDigits 10 cs → length cs ≤ 32 → digits_value 16 cs < 2 ^ 128
+digits_fit cs h few =
+    let ds = map digit_value cs in
+    let few_ds : length ds ≤ 32 = omega (arith, few, length-map cs digit_value) in
+    let places : 16 ^ length ds ≤ 16 ^ 32 = pow-le-pow_right (omega arith) few_ds in
+    omega (
+      arith,
+      digits_value_is 16 cs,
+      number_lt 16 ds (below_sixteen ds (all_below_base_from_digits 10 cs h)),
+      places,
+    )
+
+pub length-without : (fraction : Option ℕ) (text : List ℕ) → is_point fraction text
+    → length (without fraction text) ≤ length text
+length-without None text h = omega arith
+length-without (Some n) text h =
+    omega (
+      arith,
+      h.0,
+      length-append (take (length text - (n + 1)) text) (drop (length text - n) text),
+      length-take-le (length text - (n + 1)) text (omega arith),
+      length-drop (length text - n) text,
+    )
+
+pub first_prefix : (text : List ℕ) (g : Group) → length text ≤ 8 → IsGroup text g
+    → IsPrefix text (record { number = g.number; fraction = g.fraction })
+first_prefix text g few h =
+    let fits = digits_fit _ h.digits (omega (arith, few, length-without g.fraction text h.point)) in
+    record { point = h.point; digits = h.digits; number = h.number ∙ sym (mod-eq_of_lt fits) }

@@ -1,0 +1,314 @@
+-- Texts of up to eight bytes as big-endian numbers: which of them are digits, and their number in base 16.
+use Rattle.decimal_unsigned.proofs.Common.{nat_tests, rules, min, All, ◌≡◌, ℕ, zero, suc, ◌+◌, ◌-◌, ◌*◌, ◌/◌, ◌%◌, ◌^◌, ◌<◌, ◌≤◌, List, [], ◌∷◌, ◌++◌, length, get_or, take, drop, take_all, map, replicate, refl, sym, ◌∙◌, ap, subst, arith, Some, None, inl, inr, cases_lt, length-append, length-drop, length-take-le, length-map, number_lt, digits_value_is, digit_value, number_from_digits, AllBelowBase, AllDigits, digits_value, pow-suc, pow-add, pow-le-pow_right, mod-eq_of_lt, below_take, below_drop, below_sixteen}
+use Rattle.std.specs.Prelude.{bit_and, bit_or}
+use Rattle.std.proofs.Math.Nat.{mul-le-mul_right, div-eq_of_lt-le, one-le-pow}
+use Rattle.std.proofs.lemmas.Nat.{div-mul-add, mod-mul-add, and_block, and_mask, or_block, or_of_8, le_or_l, le_or_r}
+use Rattle.std.proofs.lemmas.Int.Digits.{number_more, digits_value_more, digits_more, all_below_base_from_digits, number_after_append}
+use Rattle.std.proofs.lemmas.List.Elements.{All-append, All-from_recursion, recursion_from_All}
+use Rattle.std.proofs.lemmas.Str.{digit_value_digit}
+use Rattle.decimal_digits.proofs.DigitLists.{number-div, number_split, number_after, number-drop-lt}
+use Rattle.decimal_unsigned.specs.PlainTexts.{bytes_below, zeros, without, is_point, IsGroup}
+use Rattle.decimal_unsigned.proofs.BcdNumber.{Lanes, joined, value, mask, top, stepped, value_joined}
+
+-- ---- The bytes that are below ten.
+-- the high nibble of each of k bytes
+high_nibbles : ℕ → ℕ
+high_nibbles zero = 0
+high_nibbles (suc k) = high_nibbles k * 256 + 240
+
+-- k bytes that are 6
+sixes : ℕ → ℕ
+sixes zero = 0
+sixes (suc k) = sixes k * 256 + 6
+
+both_clear : (r s : ℕ) → r < 256 → s < 256 → bit_and (bit_or r s) 240 ≡ 0 → (r < 16) × (s < 16)
+both_clear r s p q h =
+    let x = bit_or r s in
+    let e : x / 16 * 2 ^ 4 + x % 16 ≡ x = omega arith in
+    let f : bit_and (x / 16 * 2 ^ 4 + x % 16) (15 * 2 ^ 4 + 0) ≡ bit_and (x / 16) 15 * 2 ^ 4 + bit_and (x % 16) 0 =
+    and_block 4 (x / 16) 15 (x % 16) 0 (omega arith) (omega arith) in
+    let g : bit_and (x / 16) 15 ≡ x / 16 % 16 = and_mask (x / 16) 4 in
+    let a : bit_and x 240 ≡ bit_and (x / 16) 15 * 2 ^ 4 + bit_and (x % 16) 0 = ap (λ n. bit_and n 240) (sym e) ∙ f in
+    let b = or_of_8 r s p q in
+    (omega (arith, h, a, g, b, le_or_l r s), omega (arith, h, a, g, b, le_or_r r s))
+
+-- if no byte of either number has a bit in its high nibble, each is below sixteen
+nibbles_clear : (k y z : ℕ) → bit_and (bit_or y z) (high_nibbles k) ≡ 0 → bytes_below 16 k y × bytes_below 16 k z
+unfolding high_nibbles
+nibbles_clear zero y z h = (tt, tt)
+nibbles_clear (suc k) y z h =
+    let r = y % 256 in
+    let s = z % 256 in
+    let m = bit_or (y / 256) (z / 256) in
+    let ey : y / 256 * 2 ^ 8 + r ≡ y = omega arith in
+    let ez : z / 256 * 2 ^ 8 + s ≡ z = omega arith in
+    let o : bit_or y z ≡ m * 2 ^ 8 + bit_or r s =
+    ap (λ n. bit_or n z) (sym ey) ∙ ap (λ n. bit_or (y / 256 * 2 ^ 8 + r) n) (sym ez)
+    ∙ or_block 8 (y / 256) (z / 256) r s (omega arith) (omega arith) in
+    let a : bit_and (bit_or y z) (high_nibbles k * 2 ^ 8 + 240) ≡ bit_and m (high_nibbles k) * 2 ^ 8
+    + bit_and (bit_or r s) 240 =
+    ap (λ n. bit_and n (high_nibbles k * 2 ^ 8 + 240)) o
+    ∙ and_block 8 m (high_nibbles k) (bit_or r s) 240 (or_of_8 r s (omega arith) (omega arith)) (omega arith) in
+    let b = both_clear r s (omega arith) (omega arith) (omega (arith, h, a)) in
+    let others = nibbles_clear k (y / 256) (z / 256) (omega (arith, h, a)) in
+    ((b.0, others.0), (b.1, others.1))
+
+bound : (k y : ℕ) → y < 256 ^ k → bytes_below 16 k y → y * 17 < 256 ^ k
+bound zero y l h = omega arith
+bound (suc k) y l h = omega (arith, pow-suc 256 k, bound k (y / 256) (omega (arith, pow-suc 256 k)) h.1)
+
+below_wider : (k y : ℕ) → bytes_below 10 k y → bytes_below 16 k y
+below_wider zero y h = tt
+below_wider (suc k) y h = (omega (arith, h.0), below_wider k (y / 256) h.1)
+
+-- adding 6 to each byte keeps only those below ten below sixteen
+below_ten : (k y : ℕ) → bytes_below 16 k y → bytes_below 16 k (y + sixes k) → bytes_below 10 k y
+unfolding sixes
+below_ten zero y h g = tt
+below_ten (suc k) y h g =
+    let upper : (y + (sixes k * 256 + 6)) / 256 ≡ y / 256 + sixes k = omega (arith, h.0) in
+    (omega (arith, h.0, g.0), below_ten k (y / 256) h.1 (subst (bytes_below 16 k) upper g.1))
+
+pub flags_clear : (y : ℕ) → y < 2 ^ 64
+    → bit_and (bit_or y ((y + 0x0606_0606_0606_0606) % 2 ^ 64)) 0xf0f0_f0f0_f0f0_f0f0 ≡ 0 → bytes_below 10 8 y
+unfolding high_nibbles sixes
+flags_clear y l h =
+    let z = (y + 0x0606_0606_0606_0606) % 2 ^ 64 in
+    let n = nibbles_clear 8 y z h in
+    let small = bound 8 y l n.0 in
+    let same : z ≡ y + sixes 8 = omega (arith, small) in
+    below_ten 8 y n.0 (subst (bytes_below 16 8) same n.1)
+
+-- ---- The digits of a text.
+zeros_none : zeros 0 ≡ 0
+unfolding zeros
+zeros_none = refl
+
+zeros_more : (k : ℕ) → k < 8 → zeros (k + 1) ≡ zeros k * 256 + 48
+unfolding zeros
+zeros_more k h = grind (arith, number_more)
+
+-- if the bytes of a text exceed those of `0` by less than ten, it is digits
+digits_found : (text : List ℕ) (i k y : ℕ) → AllBelowBase 256 text → i ≤ length text → i ≤ 8 → i ≤ k
+    → number_from_digits 256 (take i text) ≡ y + zeros i → bytes_below 10 k y
+    → AllDigits 10 (take i text) × (digits_value 256 (take i text) ≡ y)
+digits_found text zero k y h l m n e b = (tt, omega (arith, e, zeros_none))
+digits_found text (suc i) zero y h l m n e b = absurd (omega arith)
+digits_found text (suc i) (suc k) y h l m n e b =
+    let c = get_or text i 0 in
+    let one : suc i ≡ i + 1 = omega arith in
+    let below : c < 256 = All-from_recursion (λ x. x < 256) text h i 0 l in
+    let front = number_more 256 text i l in
+    let all : number_from_digits 256 (take i text) * 256 + c ≡ y + (zeros i * 256 + 48) =
+    sym front ∙ ap (λ k. number_from_digits 256 (take k text)) (sym one) ∙ e
+    ∙ ap (λ z. y + z) (ap zeros one ∙ zeros_more i (omega arith)) in
+    let byte : c ≡ y % 256 + 48 = omega (arith, all, below, b.0) in
+    let others : number_from_digits 256 (take i text) ≡ y / 256 + zeros i = omega (arith, all, below, b.0) in
+    let found = digits_found text i k (y / 256) h (omega arith) (omega arith) (omega arith) others b.1 in
+    let digit : digit_value c ≡ y % 256 = omega (arith, digit_value_digit c (search (arith, rules)), byte) in
+    rw one (
+      digits_more 10 text i l found.0 (omega (arith, digit, b.0)),
+      digits_value_more 256 text i l ∙ omega (arith, found.1, digit),
+    )
+
+zeros_most : (k : ℕ) → k ≤ 8 → zeros k * 5 < 256 ^ k
+zeros_most zero h = omega (arith, zeros_none)
+zeros_most (suc k) h =
+    let one : suc k ≡ k + 1 = omega arith in
+    omega (arith, ap zeros one, zeros_more k (omega arith), zeros_most k (omega arith), pow-suc 256 k)
+
+-- a text of up to eight bytes whose number exceeds that of its bytes as `0` by bytes below ten
+pub digits_of_word : (text : List ℕ) (word all y : ℕ) → AllBelowBase 256 text → length text ≤ 8
+    → word ≡ number_from_digits 256 text → all ≡ zeros (length text) → y ≡ (word + (2 ^ 64 - all)) % 2 ^ 64
+    → bytes_below 10 8 y
+    → AllDigits 10 text × (y ≡ number_from_digits 256 (map digit_value text))
+digits_of_word text word all y h few w z e b =
+    let places : 256 ^ length text ≤ 256 ^ 8 = pow-le-pow_right (omega arith) few in
+    let lt = number_lt 256 text h in
+    let small = bound 8 y (omega arith) (below_wider 8 y b) in
+    let most = zeros_most (length text) few in
+    let sum : word ≡ y + zeros (length text) = omega (arith, places, lt, small, most, w, z, e) in
+    let whole = take_all (length text) text (omega arith) in
+    let found =
+    digits_found text (length text) 8 y h (omega arith) few few (ap (number_from_digits 256) whole ∙ sym w ∙ sum) b in (
+      subst (AllDigits 10) whole found.0,
+      sym (rw whole at found.1) ∙ digits_value_is 256 text,
+    )
+
+-- ---- The number in base 16.
+byte_lanes : Lanes 8 16
+byte_lanes = record {
+  parts = λ n. omega arith;
+  low = λ n. omega arith;
+  rest = λ n. omega arith;
+  ones = omega arith;
+  down = λ n t h. omega arith;
+  step = λ n j e h. omega arith;
+  fits = λ n. omega arith;
+}
+
+two_lanes : Lanes 16 256
+two_lanes = record {
+  parts = λ n. omega arith;
+  low = λ n. omega arith;
+  rest = λ n. omega arith;
+  ones = omega arith;
+  down = λ n t h. omega arith;
+  step = λ n j e h. omega arith;
+  fits = λ n. omega arith;
+}
+
+value_none : (k : ℕ) → value 256 16 k 0 ≡ 0
+unfolding value
+value_none zero = refl
+value_none (suc k) = ap (λ v. v * 16 + 0) (value_none k)
+
+value_front : (ds : List ℕ) → AllBelowBase 16 ds → (i k : ℕ) → i ≤ length ds → i ≤ k
+    → value 256 16 k (number_from_digits 256 (take i ds)) ≡ number_from_digits 16 (take i ds)
+unfolding value
+value_front ds h zero k l m = value_none k
+value_front ds h (suc i) zero l m = absurd (omega arith)
+value_front ds h (suc i) (suc k) l m =
+    let d = get_or ds i 0 in
+    let n = number_from_digits 256 (take i ds) in
+    let below : d < 16 = All-from_recursion (λ x. x < 16) ds h i 0 l in
+    let one : suc i ≡ i + 1 = omega arith in
+    rw (
+      one,
+      number_more 256 ds i l,
+      number_more 16 ds i l,
+      div-mul-add n 256 d (omega arith),
+      mod-mul-add n 256 d (omega arith),
+      value_front ds h i k (omega arith) (omega arith),
+    ) refl
+
+module _ (n : ℕ) (h : n < 2 ^ 64) where
+  abbrev pub pairs : ℕ
+  pairs = n - 240 * bit_and (n / 2 ^ 8) 0x00ff_00ff_00ff_00ff
+
+  abbrev pub fours : ℕ
+  fours = pairs - 65280 * bit_and (pairs / 2 ^ 16) 0x0000_ffff_0000_ffff
+
+  abbrev pub packed : ℕ
+  packed = fours - 4294901760 * (fours / 2 ^ 32)
+
+  packed_is : packed ≡ value 256 16 8 n
+  unfolding value mask top
+  packed_is =
+      let a : pairs ≡ joined 8 16 4 n = stepped byte_lanes 4 n 0x00ff_00ff_00ff_00ff h refl in
+      let b : fours ≡ joined 16 256 2 pairs = stepped two_lanes 2 pairs 0x0000_ffff_0000_ffff (omega arith) refl in
+      let last : packed ≡ value (2 ^ 32) (2 ^ 16) 2 fours = omega arith in
+      last ∙ ap (value (2 ^ 32) (2 ^ 16) 2) b ∙ value_joined two_lanes 2 pairs
+      ∙ ap (value (2 ^ 16) (2 ^ 8) 4) a ∙ value_joined byte_lanes 4 n
+
+  -- the number in base 16 of the digits that write n in base 256
+  pub packed_digits : (ds : List ℕ) → AllBelowBase 16 ds → length ds ≤ 8 → n ≡ number_from_digits 256 ds
+      → packed ≡ number_from_digits 16 ds
+  packed_digits ds b few is =
+      let whole = take_all (length ds) ds (omega arith) in
+      packed_is ∙ ap (value 256 16 8) (is ∙ ap (number_from_digits 256) (sym whole))
+      ∙ value_front ds b (length ds) 8 (omega arith) few ∙ ap (number_from_digits 16) whole
+
+-- ---- Groups.
+-- bytes that are digits
+pub group_of_digits : (text : List ℕ) (number y : ℕ)
+    → ((ds : List ℕ) → AllBelowBase 16 ds → length ds ≤ 8 → y ≡ number_from_digits 256 ds
+    → number ≡ number_from_digits 16 ds)
+    → length text ≤ 8 → AllDigits 10 text × (y ≡ number_from_digits 256 (map digit_value text))
+    → number ≡ digits_value 16 text
+group_of_digits text number y packs few found =
+    packs (map digit_value text) (below_sixteen _ (all_below_base_from_digits 10 text found.0))
+    (omega (arith, length-map text digit_value)) found.1 ∙ sym (digits_value_is 16 text)
+
+-- eight bits are a byte
+pub byte_pow : (k : ℕ) → 2 ^ (8 * k) ≡ 256 ^ k
+byte_pow zero = refl
+byte_pow (suc k) =
+    let h = byte_pow k in
+    let e : 8 * suc k ≡ suc (suc (suc (suc (suc (suc (suc (suc (8 * k)))))))) = omega arith in
+    rw e (omega arith)
+
+-- one of up to eight bytes is a decimal point
+module _ (text : List ℕ) (word n : ℕ) (h : AllBelowBase 256 text) (few : length text ≤ 8)
+    (is : word ≡ number_from_digits 256 text) (byte : word / 2 ^ (8 * n) % 256 ≡ 46) where
+  abbrev front : ℕ
+  front = word / 2 ^ (8 * n)
+
+  pub within : n < length text
+  within = elim (cases_lt n (length text)) [
+    | inl l ↦ l
+    | inr l ↦
+        let lt = number_lt 256 text h in
+        let places : 256 ^ length text ≤ 256 ^ n = pow-le-pow_right (omega arith) l in
+        let none : word / 256 ^ n ≡ 0 = div-eq_of_lt-le (256 ^ n) (omega arith) (omega (arith, is)) in
+        absurd (omega (arith, byte, ap (λ p. word / p % 256) (byte_pow n), ap (λ q. q % 256) none))
+  ]
+
+  abbrev j : ℕ
+  j = length text - (n + 1)
+
+  abbrev back : List ℕ
+  back = drop (length text - n) text
+
+  length-back : length back ≡ n
+  length-back = omega (arith, length-drop (length text - n) text, within)
+
+  last : length text - (length text - n) ≡ n
+  last = omega (arith, within)
+
+  front_digits : front ≡ number_from_digits 256 (take (length text - n) text)
+  front_digits =
+      ap (λ p. word / p) (byte_pow n) ∙ ap (λ w. w / 256 ^ n) is
+      ∙ rw last at (number-div 256 (length text - n) text h (omega arith))
+
+  front_is : front ≡ number_from_digits 256 (take j text) * 256 + get_or text j 0
+  front_is =
+      let next : length text - n ≡ j + 1 = omega (arith, within) in
+      front_digits ∙ ap (λ i. number_from_digits 256 (take i text)) next
+      ∙ number_more 256 text j (omega (arith, within))
+
+  below : get_or text j 0 < 256
+  below = All-from_recursion (λ x. x < 256) text h j 0 (omega (arith, within))
+
+  pub point_is : get_or text j 0 ≡ 46
+  point_is = omega (arith, front_is, below, byte)
+
+  split : word ≡ front * 256 ^ n + number_from_digits 256 back
+  split =
+      is ∙ rw last at (number_split 256 (length text - n) text (omega arith))
+      ∙ ap (λ m. m * 256 ^ n + number_from_digits 256 back) (sym front_digits)
+
+  pub others_is : word - (front - front / 2 ^ 8) * 2 ^ (8 * n) % 2 ^ 64
+      ≡ number_from_digits 256 (without (Some n) text)
+  others_is =
+      let q = number_from_digits 256 (take j text) in
+      let p = 256 ^ n in
+      let whole : front ≡ q * 256 + 46 = omega (arith, front_is, point_is) in
+      let d : front - front / 2 ^ 8 ≡ q * 255 + 46 = omega (arith, whole) in
+      let sum : word ≡ (q * 256 + 46) * p + number_from_digits 256 back =
+      split ∙ ap (λ m. m * p + number_from_digits 256 back) whole in
+      let places : 256 ^ length text ≤ 256 ^ 8 = pow-le-pow_right (omega arith) few in
+      let lt : word < 2 ^ 64 = omega (arith, is, number_lt 256 text h, places) in
+      let fits : (q * 255 + 46) * p < 2 ^ 64 = omega (arith, sum, lt) in
+      let all : number_from_digits 256 (without (Some n) text) ≡ q * p + number_from_digits 256 back =
+      number_after_append 256 0 (take j text) back ∙ number_after 256 q back
+      ∙ ap (λ i. q * 256 ^ i + number_from_digits 256 back) length-back in
+      let moved : (front - front / 2 ^ 8) * 2 ^ (8 * n) % 2 ^ 64 ≡ (q * 255 + 46) * p =
+      ap (λ x. (front - front / 2 ^ 8) * x % 2 ^ 64) (byte_pow n) ∙ ap (λ x. x * p % 2 ^ 64) d
+      ∙ mod-eq_of_lt fits in
+      omega (arith, moved, sum, all)
+
+  pub others_below : AllBelowBase 256 (without (Some n) text)
+  others_below =
+      let P = λ (d : ℕ). d < 256 in
+      recursion_from_All P _
+      (All-append P (take j text) back (All-from_recursion P _ (below_take 256 j text h))
+      (All-from_recursion P _ (below_drop 256 (length text - n) text h)))
+
+  pub length-others : length (without (Some n) text) + 1 ≡ length text
+  length-others =
+      omega (arith, within, length-append (take j text) back, length-back, length-take-le j text (omega (arith, within)))
+
+-- the bytes `0` of a text that is one byte shorter
+pub zeros_shorter : (k i : ℕ) → k ≤ 8 → i + 1 ≡ k → zeros k / 2 ^ 8 ≡ zeros i
+zeros_shorter k i h e = omega (arith, ap zeros e, zeros_more i (omega arith))
