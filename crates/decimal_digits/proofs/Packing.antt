@@ -45,8 +45,8 @@ pads bytes ds len count many same decimal =
       digits = t;
     }
 
--- more than sixteen digits need no padding
-pub encodes_many : (bytes ds : List ℕ) (len : ℕ) → 16 < len → Encodes bytes len ds → EncodesPadded bytes len ds
+-- sixteen digits or more need no padding
+pub encodes_many : (bytes ds : List ℕ) (len : ℕ) → 16 ≤ len → Encodes bytes len ds → EncodesPadded bytes len ds
 encodes_many bytes ds len many e =
     record {
       padded = record {
@@ -68,18 +68,6 @@ zero_nibbles (suc n) (suc (suc k)) = zero_nibbles n k
 -- eight zero bytes hold no digits
 pub no_digits : IsPadded (replicate 8 0) 0
 no_digits = (pads (replicate 8 0) [] 0 refl refl (zero_nibbles 8) (λ k h. absurd (omega arith))).padded
-
--- zero bytes up to the eighth
-pub filled : (bytes : List ℕ) (len k : ℕ) → IsPacked bytes len → k ≡ 8 - length bytes
-    → EncodesPadded (bytes ++ replicate k 0) len (digits_in bytes len)
-filled bytes len k p e =
-    let size = length-nibbles bytes in
-    pads _ (digits_in bytes len) len (grind (arith, nibble_rules, p.count)) (grind (arith, nibble_rules, p.count))
-    (λ i. elim (cases_lt i len) [
-      | inl l ↦ grind (arith, nibble_rules, p.count)
-      | inr l ↦ grind (arith, nibble_rules, p.count, p.unused)
-    ])
-    (λ i h. p.decimal i 0 (grind (arith, nibble_rules, p.count)))
 
 -- the digit at an index, with zeros after the last one
 pub digit_at : (bytes : List ℕ) (len : ℕ) → IsPadded bytes len → (k : ℕ)

@@ -297,6 +297,24 @@ cut_pads bytes len count w n p l few e f =
     (λ k h. ap (λ l. get_or l k 0) f ∙ rest_at (word_nibbles w) count count k (count + k) refl
     ∙ few_at bytes len w p few e (count + k) ∙ sym (get_or-drop count ds k 0))
 
+-- the bytes of a word with the last digits of more than sixteen, which are in the last eight bytes
+pub cut_end_pads : (bytes : List ℕ) (len count j w n : ℕ) → IsPadded bytes len → 16 < len → count ≤ len
+    → len - count < 16 → j + 2 * ((len + 1) / 2 - 8) ≡ count
+    → word_nibbles w ≡ drop (2 * (length bytes - 8)) (nibbles bytes) ++ replicate 0 0
+    → word_nibbles n ≡ drop j (word_nibbles w) ++ replicate j 0
+    → EncodesPadded (to_be_bytes w64 n) (len - count) (drop count (digits_in bytes len))
+cut_end_pads bytes len count j w n p many l few at e f =
+    let ds = digits_in bytes len in
+    let start = 2 * (length bytes - 8) in
+    let size = length_digits bytes len p in
+    word_pads n (len - count) (drop count ds) (omega (arith, length-drop count ds)) (omega arith)
+    (λ k h. rw (get_or-drop count ds k 0) (p.decimal (count + k) 0 (omega arith)))
+    (λ k h.
+    let index : start + (j + k) ≡ count + k = omega (arith, p.count) in
+    ap (λ l. get_or l k 0) f ∙ rest_at (word_nibbles w) j j k (j + k) refl
+    ∙ ap (λ l. get_or l (j + k) 0) e ∙ rest_at (nibbles bytes) start 0 (j + k) (count + k) index
+    ∙ sym (get_or-drop count ds k 0 ∙ digit_at bytes len p (count + k)))
+
 -- the bytes of a word with digits after those of padded bytes and zeros
 pub join_pads : (bytes : List ℕ) (len start w v n : ℕ) (es : List ℕ) → IsPadded bytes len → len ≤ start
     → start + length es ≤ 16 → All (λ d. d < 10) es

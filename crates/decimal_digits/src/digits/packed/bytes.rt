@@ -99,16 +99,13 @@ pub(super) fn push_digit(bytes: &mut SmallVec<u8, 8>, len: usize, digit: u8)
     }
 }
 
-/// Replaces the bytes by the eight bytes of a word.
+/// Replaces eight bytes by those of a word.
 #[inline]
 pub(super) fn set_word(bytes: &mut SmallVec<u8, 8>, word: u64)
-    requires { 8 ≤ small_vec_len bytes.old }
+    requires { small_vec_len bytes.old ≡ 8 }
     ensures items { bytes.new.items ≡ to_be_bytes w64 word }
     ensures capacity { bytes.new.capacity ≡ bytes.old.capacity }
 {
-    if bytes.len() > 8 {
-        bytes.truncate(8);
-    }
     if let Some(front) = bytes.as_mut_slice().first_chunk_mut::<8>() {
         *front = word.to_be_bytes();
     }
@@ -183,14 +180,33 @@ pub(super) fn are_equal(left: &[u8], right: &[u8]) -> bool
 }
 
 /// Keeps the first `count` digits.
+#[inline]
 pub(super) fn keep_digits(bytes: &mut SmallVec<u8, 8>, len: usize, count: usize)
     requires padded { IsPadded bytes.old.items len }
     requires in_range { count ≤ len }
     ensures encodes { EncodesPadded bytes.new.items count (take count (digits_in bytes.old.items len)) }
     ensures capacity { bytes.new.capacity ≡ bytes.old.capacity }
 {
+    if len <= 16 {
+        let word = keep_nibbles(front_word(bytes.as_slice()), count);
+        set_word(bytes, word);
+    } else {
+        keep_some(bytes, len, count);
+    }
+}
+
+/// Keeps the first `count` of more than sixteen digits.
+#[inline(never)]
+fn keep_some(bytes: &mut SmallVec<u8, 8>, len: usize, count: usize)
+    requires padded { IsPadded bytes.old.items len }
+    requires many { 16 < len }
+    requires in_range { count ≤ len }
+    ensures encodes { EncodesPadded bytes.new.items count (take count (digits_in bytes.old.items len)) }
+    ensures capacity { bytes.new.capacity ≡ bytes.old.capacity }
+{
     if count <= 16 {
         let word = keep_nibbles(front_word(bytes.as_slice()), count);
+        bytes.truncate(8);
         set_word(bytes, word);
         return;
     }
@@ -205,16 +221,36 @@ pub(super) fn keep_digits(bytes: &mut SmallVec<u8, 8>, len: usize, count: usize)
 pub(super) fn cut_digits(bytes: &mut SmallVec<u8, 8>, len: usize, count: usize)
     requires padded { IsPadded bytes.old.items len }
     requires in_range { count ≤ len }
-    requires inline { 8 ≤ bytes.old.capacity }
     ensures encodes { EncodesPadded bytes.new.items (len - count) (drop count (digits_in bytes.old.items len)) }
-    ensures capacity { bytes.old.capacity ≤ bytes.new.capacity }
+    ensures capacity { bytes.new.capacity ≡ bytes.old.capacity }
 {
     if len <= 16 {
         let word = cut_nibbles(front_word(bytes.as_slice()), count);
         set_word(bytes, word);
     } else {
+        cut_some(bytes, len, count);
+    }
+}
+
+/// Removes the first `count` of more than sixteen digits.
+#[inline(never)]
+fn cut_some(bytes: &mut SmallVec<u8, 8>, len: usize, count: usize)
+    requires padded { IsPadded bytes.old.items len }
+    requires many { 16 < len }
+    requires in_range { count ≤ len }
+    ensures encodes { EncodesPadded bytes.new.items (len - count) (drop count (digits_in bytes.old.items len)) }
+    ensures capacity { bytes.new.capacity ≡ bytes.old.capacity }
+{
+    if len - count < 16 {
+        // The last eight bytes hold all digits that are left.
+        let word = cut_nibbles(
+            end_word(bytes.as_slice(), 8),
+            count - 2 * (byte_count(len) - 8),
+        );
+        bytes.truncate(8);
+        set_word(bytes, word);
+    } else {
         cut_bytes(bytes, len, count);
-        pad(bytes, len - count);
     }
 }
 
@@ -230,17 +266,6 @@ fn cut_bytes(bytes: &mut SmallVec<u8, 8>, len: usize, count: usize)
         remove_high_nibble(bytes.as_mut_slice(), 0, 0);
         bytes.truncate(byte_count(len - count));
     }
-}
-
-/// Appends zero bytes up to the eighth byte.
-fn pad(bytes: &mut SmallVec<u8, 8>, len: usize)
-    requires packed { IsPacked bytes.old.items len }
-    requires inline { 8 ≤ bytes.old.capacity }
-    ensures encodes { EncodesPadded bytes.new.items len (digits_in bytes.old.items len) }
-    ensures capacity { bytes.old.capacity ≤ bytes.new.capacity }
-{
-    let old_len = bytes.len();
-    push_zeros(bytes, 8usize.saturating_sub(old_len));
 }
 
 /// Appends `start - len` zeros and then other digits, sixteen digits in all.

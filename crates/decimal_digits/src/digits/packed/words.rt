@@ -10,7 +10,8 @@ pub(super) fn front_word(bytes: &[u8]) -> u64
     requires { 8 ≤ length bytes.now }
     ensures { word_nibbles result ≡ take 16 (nibbles bytes.now) }
 {
-    match bytes.first_chunk::<8>() {
+    // The slice is of known length, so that nothing is tested.
+    match bytes[..8].as_array::<8>() {
         Some(front) => u64::from_be_bytes(*front),
         None => 0,
     }

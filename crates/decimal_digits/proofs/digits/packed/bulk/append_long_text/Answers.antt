@@ -7,7 +7,7 @@ use Rattle.decimal_digits.proofs.digits.packed.bulk.append_long_text.Goals as go
 pub returns-then-odd-eq0-clause-encodes : goal.returns-then-odd-eq0-clause-encodes
 returns-then-odd-eq0-clause-encodes c =
     let read = ascii_at c.args.text.now c.requires.are_digits in
-    encodes_many _ _ _ c.requires.many
+    encodes_many _ _ _ (omega arith)
     (encodes _ _ _ (grind (arith, nibble_rules, ap length c.append_pairs.ensures.appended, read)))
 
 pub returns-then-odd-eq0-clause-fits : goal.returns-then-odd-eq0-clause-fits
@@ -17,7 +17,7 @@ pub returns-then-not-is_empty-clause-encodes : goal.returns-then-not-is_empty-cl
 returns-then-not-is_empty-clause-encodes c =
     let read = ascii_at c.args.text.now c.requires.are_digits in
     let e = c.append_pairs-then-not-is_empty.ensures.appended in
-    encodes_many _ _ _ c.requires.many
+    encodes_many _ _ _ (omega arith)
     (encodes _ _ _ (grind (arith, nibble_rules, ap length c.set_nibble.ensures.written, ap length e, read)))
 
 pub returns-then-not-is_empty-clause-fits : goal.returns-then-not-is_empty-clause-fits
