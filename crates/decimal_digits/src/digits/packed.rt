@@ -6,6 +6,7 @@ ghost use Rattle.decimal_digits.specs.Packing.{IsPackedPrefix};
 mod bulk;
 mod bytes;
 mod nibbles;
+mod wide;
 
 use super::DigitStore;
 use bulk::{append_text, count_trailing_nibbles, write_text};
@@ -17,6 +18,7 @@ use nibbles::byte_count;
 pub(super) use nibbles::nibble_at;
 use smallvec::SmallVec;
 use std::alloc::{AllocError, Global};
+use wide::copy_wide;
 
 /// A list of digits as packed BCD, two digits to a byte, of which up to sixteen need no allocation.
 ///
@@ -92,6 +94,11 @@ impl DigitStore for PackedDigits {
             bytes: SmallVec::from_buf(alloc, number.to_be_bytes()),
             len,
         })
+    }
+
+    fn from_wide_bcd(alloc: Global, number: u128, len: usize) -> Result<Self, AllocError> {
+        let bytes = copy_wide(alloc, number, len)?;
+        Ok(PackedDigits { bytes, len })
     }
 
     #[inline]
