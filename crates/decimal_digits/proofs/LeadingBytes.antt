@@ -66,7 +66,7 @@ pub get_or-padded : (k : ℕ) (ds : List ℕ) (i : ℕ) → i < k → get_or (pa
 unfolding padded
 get_or-padded k ds i h = grind (arith, nibble_rules)
 
-padded_digits : (k : ℕ) (ds : List ℕ) → All (λ d. d < 10) ds → AllBelowBase 10 (padded k ds)
+pub padded_digits : (k : ℕ) (ds : List ℕ) → All (λ d. d < 10) ds → AllBelowBase 10 (padded k ds)
 unfolding padded
 padded_digits k ds h =
     let P = λ (d : ℕ). d < 10 in

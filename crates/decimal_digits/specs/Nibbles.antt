@@ -1,6 +1,6 @@
 -- Packed BCD: two digits to a byte, the first of them in the high nibble.
 use Rattle.std.specs.Prelude.{◌≡◌, ℕ, ◌+◌, ◌*◌, ◌/◌, ◌%◌, ◌<◌, List, [], ◌∷◌, ◌++◌, length, take, replicate, slice_index, All}
-use Rattle.std.specs.Int.{w64, to_be_bytes}
+use Rattle.std.specs.Int.{w64, w128, to_be_bytes}
 use Rattle.std.specs.Int.Digits.{number_from_digits}
 
 -- the nibbles of the bytes, the high one of each byte first: 2, 5, 0 and 7 of 0x25 and 0x07
@@ -21,6 +21,10 @@ pub record IsPacked (bytes : List ℕ) (len : ℕ) : Type 0 where
 -- the big-endian bytes of a 64-bit number, cut to the (len + 1) / 2 bytes that hold the first `len` nibbles
 unfoldable pub leading_bytes : ℕ → ℕ → List ℕ
 leading_bytes number len = take ((len + 1) / 2) (to_be_bytes w64 number)
+
+-- the same of a 128-bit number
+unfoldable pub wide_leading_bytes : ℕ → ℕ → List ℕ
+wide_leading_bytes number len = take ((len + 1) / 2) (to_be_bytes w128 number)
 
 -- the sixteen nibbles of a 64-bit number
 unfoldable pub word_nibbles : ℕ → List ℕ

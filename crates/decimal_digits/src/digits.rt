@@ -3,7 +3,7 @@ ghost use Rattle.std.specs.Prelude.{◌≡◌, ℕ, ◌+◌, ◌-◌, ◌%◌, �
 ghost use Rattle.std.specs.Char.{digit_value};
 ghost use Rattle.std.specs.Str.Parse.{AllDigits};
 ghost use Rattle.decimal_digits.specs.Digits.{text_of};
-ghost use Rattle.decimal_digits.specs.Nibbles.{digits_in, leading_bytes, bcd_number, IsPacked};
+ghost use Rattle.decimal_digits.specs.Nibbles.{digits_in, leading_bytes, wide_leading_bytes, bcd_number, IsPacked};
 
 mod counted;
 mod list;
@@ -61,6 +61,28 @@ pub trait DigitStore: Drop {
     fn from_bcd(alloc: Global, number: u64, len: usize) -> Result<Self, AllocError>
         requires { IsPacked (leading_bytes number len) len }
         ensures ok { IfOk result (λ s. digits s ≡ digits_in (leading_bytes number len) len) }
+        ensures succeeds { len ≤ L → IsOk result }
+    {
+        let bytes = number.to_be_bytes();
+        let mut list = Self::empty(alloc);
+        list.reserve(len)?;
+        for index in 0..len {
+            list.push_in_room(nibble_at(&bytes, index));
+        }
+        Ok(list)
+    }
+
+    /// Makes a list of the first `len` nibbles of a packed BCD number of 32 nibbles.
+    ///
+    /// Requires 17 to 32 digits 0 to 9, followed by a nibble 0 if `len` is odd.
+    ///
+    /// # Errors
+    ///
+    /// As for [`DigitStore::from_digits`].
+    fn from_wide_bcd(alloc: Global, number: u128, len: usize) -> Result<Self, AllocError>
+        requires many { 16 < len }
+        requires packed { IsPacked (wide_leading_bytes number len) len }
+        ensures ok { IfOk result (λ s. digits s ≡ digits_in (wide_leading_bytes number len) len) }
         ensures succeeds { len ≤ L → IsOk result }
     {
         let bytes = number.to_be_bytes();

@@ -1,20 +1,25 @@
 -- Short texts: up to sixteen digits as a number in base 16, and the value of their parts.
-use Rattle.decimal_unsigned.proofs.Common.{clamps, nat_tests, common_steps, ◌≡◌, ℕ, zero, suc, ◌+◌, ◌-◌, ◌*◌, ◌/◌, ◌%◌, ◌^◌, ◌<◌, ◌≤◌, inl, inr, true, List, [], ◌∷◌, ◌++◌, length, get_or, take, drop, take_all, map, refl, sym, ◌∙◌, ap, subst, arith, Some, None, option_map, Ok, pos, ◌-ℤ◌, mul-lt-mul_of_pos_right, pow-le-pow_right, cases_lt, ints, pow-add, append-nil, take-append-drop, length-append, length-drop, length-take, length-take-le, length-map, number_lt, digits_value_is, is_ascii_digit, prefix_len, digit_value, number_from_digits, AllBelowBase, AllDigits, digits_value, Literal, value_of, middle, IsNonzeroRange, pow-suc, mod-eq_of_lt, digits_value_after, below_sixteen}
-use Rattle.std.specs.Int.{w64, bit_at, leading_zeros, trailing_zeros}
+use Rattle.decimal_unsigned.proofs.Common.{clamps, nat_tests, common_steps, ◌≡◌, ℕ, zero, suc, ◌+◌, ◌-◌, ◌*◌, ◌/◌, ◌%◌, ◌^◌, ◌<◌, ◌≤◌, inl, inr, true, List, [], ◌∷◌, ◌++◌, length, get_or, take, drop, take_all, map, refl, sym, ◌∙◌, ap, subst, arith, Some, None, option_map, Result, Ok, pos, ◌-ℤ◌, mul-lt-mul_of_pos_right, pow-le-pow_right, cases_lt, ints, pow-add, append-nil, take-append-drop, length-append, length-drop, length-take, length-take-le, length-map, number_lt, digits_value_is, is_ascii_digit, prefix_len, digit_value, number_from_digits, AllBelowBase, AllDigits, digits_value, Literal, value_of, middle, IsNonzeroRange, pow-suc, mod-eq_of_lt, digits_value_after, below_sixteen}
+use mir.Val.{bits}
+use Rattle.std.specs.Int.{Width, bit_at, leading_zeros, trailing_zeros}
 use Rattle.std.proofs.Math.Nat.{one-le-pow, div-div-eq-div-mul, div-eq_of_lt-le, zero-div}
 use Rattle.std.proofs.Math.ListN.{get_or-eq_default}
-use Rattle.std.proofs.lemmas.Nat.{mod-mul-add, leading_top}
+use Rattle.std.proofs.lemmas.Nat.{mod-mul-add, leading_top, leading_le}
 use Rattle.std.proofs.lemmas.Nat.Bits.{bit_at_above, bit_at-trailing_zeros}
 use Rattle.std.proofs.lemmas.List.{drop-drop, drop_all, at_drop_more}
 use Rattle.std.proofs.lemmas.List.Sums.{prefix_len-le-length, prefix_len-drop_no}
 use Rattle.std.proofs.lemmas.Int.Digits.{number_more as number_more_digits, all_below_base_from_digits}
 use Rattle.decimal_digits.specs.Nibbles.{leading_bytes}
 use Rattle.decimal_digits.specs.Ascii.{decimal_point}
-use Rattle.decimal_digits.specs.Packing.{Encodes}
+use Rattle.decimal_digits.specs.Packing.{Encodes, length_digits as length_digits_in}
 use Rattle.decimal_digits.proofs.DigitLists.{below_at, number-div}
 use Rattle.decimal_digits.proofs.LeadingBytes.{hex_pow, leading_bytes_encode}
 use Rattle.decimal_unsigned.specs.Parts.{saturated_parts}
-use Rattle.decimal_unsigned.specs.Reading.{parts_of, after_whole, after_fraction, read}
+use Rattle.std.specs.Prelude.{IsOkAnd}
+use Rattle.decimal_digits.specs.Number.{size}
+use Rattle.decimal_unsigned.specs.Unsigned.{Unsigned}
+use Rattle.decimal_unsigned.specs.Reading.{ReadError, parts_of, after_whole, after_fraction, read}
+use Rattle.decimal_unsigned.proofs.Values.{size-number_of}
 use Rattle.decimal_unsigned.specs.PlainTexts.{IsPlainText, IsPrefix, plain_parts, without}
 use Rattle.decimal_unsigned.specs.ScannedDigits.{digits_of, planned_digits, value_within, IsPlan, IsBcdValue}
 use Rattle.decimal_unsigned.specs.declared.decimal.parse.fast_path.PlainText.{PlainText}
@@ -87,30 +92,30 @@ number_written whole fraction number h few e =
     e ∙ ap (λ n. n % 2 ^ 64) (sym (after_append 0 whole fraction) ∙ digits_value_is 16 text) ∙ mod-eq_of_lt lt
 
 -- ---- The digits between the zeros.
--- the number without its leading zero nibbles encodes the digits from `start` to `end`
-pub middle_holds : (ds : List ℕ) (number zeros start end : ℕ) → AllBelowBase 10 ds → number ≡ number_from_digits 16 ds
-    → IsNonzeroRange ds start end
-    → length ds - start ≤ 16 → zeros ≡ 16 - (length ds - start)
-    → Encodes (leading_bytes (number * 2 ^ (4 * zeros) % 2 ^ 64) (end - start)) (end - start) (middle start end ds)
-middle_holds ds number zeros start end below is n few z =
+-- the number without its leading zero nibbles, of k nibbles in all, begins with the digits from `start` to `end`
+pub middle_number : (ds : List ℕ) (k number zeros start end : ℕ) → AllBelowBase 10 ds
+    → number ≡ number_from_digits 16 ds → IsNonzeroRange ds start end → length ds - start ≤ k
+    → zeros ≡ k - (length ds - start)
+    → number * 2 ^ (4 * zeros) % 2 ^ (4 * k)
+    ≡ number_from_digits 16 (middle start end ds) * 16 ^ (k - (end - start))
+middle_number ds k number zeros start end below is n few z =
     let len = end - start in
     let mid = middle start end ds in
     let m = number_from_digits 16 mid in
     let l = middle_length ds start end n in
     let below_mid = middle_below ds start end n below in
     let m_lt : m < 16 ^ len = subst (λ i. m < 16 ^ i) l (number_lt 16 mid (below_sixteen mid below_mid)) in
-    let places : 16 ^ len * 16 ^ (16 - len) ≡ 2 ^ 64 =
-    sym (pow-add 16 len (16 - len))
-    ∙ ap (λ i. 16 ^ i) (let e : len + (16 - len) ≡ 16 = omega (arith, n.within) in e) in
-    let lt : m * 16 ^ (16 - len) < 2 ^ 64 =
-    subst (λ p. m * 16 ^ (16 - len) < p) places
-    (mul-lt-mul_of_pos_right m_lt (one-le-pow (16 - len) 16 (omega arith))) in
-    let following : (length ds - end) + zeros ≡ 16 - len = omega (arith, n.ordered, n.within, few) in
-    let moved : number * 2 ^ (4 * zeros) ≡ m * 16 ^ (16 - len) =
+    let places : 16 ^ len * 16 ^ (k - len) ≡ 2 ^ (4 * k) =
+    sym (pow-add 16 len (k - len))
+    ∙ ap (λ i. 16 ^ i) (let e : len + (k - len) ≡ k = omega (arith, n.within, few) in e) ∙ sym (hex_pow k) in
+    let lt : m * 16 ^ (k - len) < 2 ^ (4 * k) =
+    subst (λ p. m * 16 ^ (k - len) < p) places
+    (mul-lt-mul_of_pos_right m_lt (one-le-pow (k - len) 16 (omega arith))) in
+    let following : (length ds - end) + zeros ≡ k - len = omega (arith, n.ordered, n.within, few) in
+    let moved : number * 2 ^ (4 * zeros) ≡ m * 16 ^ (k - len) =
     rw (is, number_middle ds start end n 16, hex_pow zeros, ← following, pow-add 16 (length ds - end) zeros)
     (omega arith) in
-    leading_bytes_encode mid len _ l (omega (arith, n.within, few)) below_mid
-    (ap (λ x. x % 2 ^ 64) moved ∙ mod-eq_of_lt lt)
+    ap (λ x. x % 2 ^ (4 * k)) moved ∙ mod-eq_of_lt lt
 
 -- ---- The bits of a number and its digits.
 -- bit 4 * j + i of a number is bit i of its nibble j
@@ -194,18 +199,19 @@ inner_bits ds n top low below is first above last none =
       },
     )
 
--- the leading and trailing zero nibbles of a number are the leading and trailing zeros of its digits
-pub inner_number : (ds : List ℕ) (n : ℕ) → AllBelowBase 10 ds → n < 2 ^ 64 → n ≡ number_from_digits 16 ds → 0 < n
-    → (16 - leading_zeros w64 n / 4 ≤ length ds)
-    × IsNonzeroRange ds (length ds - (16 - leading_zeros w64 n / 4)) (length ds - trailing_zeros w64 n / 4)
-inner_number ds n below fits is some =
-    let t = leading_top 64 n some fits in
-    let low = bit_at-trailing_zeros w64 n some fits in
+-- the leading and trailing zero nibbles of a number of k nibbles are the leading and trailing zeros of its digits
+pub inner_number : (w : Width) (k : ℕ) → bits w ≡ 4 * k → (ds : List ℕ) (n : ℕ) → AllBelowBase 10 ds → n < 2 ^ bits w
+    → n ≡ number_from_digits 16 ds → 0 < n
+    → (k - leading_zeros w n / 4 ≤ length ds)
+    × IsNonzeroRange ds (length ds - (k - leading_zeros w n / 4)) (length ds - trailing_zeros w n / 4)
+inner_number w k size ds n below fits is some =
+    let t = leading_top (bits w) n some fits in
+    let low = bit_at-trailing_zeros w n some fits in
     let one : n / 2 ^ t.0 ≡ 1 =
     div-eq_of_lt-le (2 ^ t.0) (omega (arith, t.2)) (omega (arith, t.3, pow-suc 2 t.0)) in
     let first : bit_at n t.0 ≡ 1 = ap (λ q. q % 2) one in
-    let before : 16 - leading_zeros w64 n / 4 ≡ t.0 / 4 + 1 = omega (arith, t.1) in
-    rw before (inner_bits ds n t.0 (trailing_zeros w64 n) below is first t.3 low.1 low.2)
+    let before : k - leading_zeros w n / 4 ≡ t.0 / 4 + 1 = omega (arith, t.1, size) in
+    rw before (inner_bits ds n t.0 (trailing_zeros w n) below is first t.3 low.1 low.2)
 
 -- if the number is 0, each digit is 0
 pub zero_digits : (ds : List ℕ) → AllBelowBase 10 ds → number_from_digits 16 ds ≡ 0
@@ -264,14 +270,24 @@ module _ (text : List ℕ) (whole : ℕ) (digits : whole ≡ prefix_len is_ascii
 -- up to seven bytes
 module _ (text : List ℕ) (whole number : ℕ) (few : length text ≤ 7) (digits : whole ≡ prefix_len is_ascii_digit text)
     (numbered : number ≡ digits_value 16 (take whole text) % 2 ^ 64) where
+  few_digits : length (take whole text ++ drop (whole + 1) text) ≤ 16
+  few_digits =
+      omega (
+        arith,
+        few,
+        length-append (take whole text) (drop (whole + 1) text),
+        long text whole digits,
+        within text whole digits,
+        length-drop (whole + 1) text,
+      )
+
   exact : (n : ℕ) → parts_of text ≡ Some (plain_parts text whole)
       → n ≡ in_base_16 (take whole text) (drop (whole + 1) text)
       → n ≡ digits_value 16 (take whole text ++ drop (whole + 1) text)
   exact n parts e =
       let w = plain_parts text whole in
-      let size : length (w.whole ++ w.fraction) ≤ 16 =
-      omega (arith, few, length-append w.whole w.fraction, long text whole digits, within text whole digits, length-drop (whole + 1) text) in
-      number_written w.whole w.fraction n (digits_some text w (sym (ap (option_map saturated_parts) parts))) size e
+      let found = digits_some text w (sym (ap (option_map saturated_parts) parts)) in
+      number_written w.whole w.fraction n found few_digits e
       ∙ sym (digits_value_is 16 (w.whole ++ w.fraction))
 
   pub plain_whole : 0 < whole → drop whole text ≡ []
@@ -283,6 +299,7 @@ module _ (text : List ℕ) (whole number : ℕ) (few : length text ≤ 7) (digit
         parts = parts;
         whole = long text whole digits;
         fraction = rw following refl;
+        few = omega (arith, few_digits);
         number = exact number parts (rw following numbered);
       }
 
@@ -300,6 +317,7 @@ module _ (text : List ℕ) (whole number : ℕ) (few : length text ≤ 7) (digit
         parts = parts;
         whole = long text whole digits;
         fraction = rw following (omega (arith, all, digits', most));
+        few = omega (arith, few_digits);
         number =
             exact more parts
             (rw following
@@ -324,6 +342,7 @@ plain_prefix text number p some few =
       parts = parts_whole text (length text) digits (omega (arith, some)) none;
       whole = long text (length text) digits;
       fraction = rw following refl;
+      few = rw (all, following, append-nil) few;
       number =
           p.number ∙ mod-eq_of_lt (digits_fit text p.digits few)
           ∙ ap (digits_value 16) (sym (append-nil text) ∙ (λ i. sym all i ++ sym following i));
@@ -357,21 +376,26 @@ plain_prefix_point text number n p some few =
           (omega (arith, back, some));
       whole = long;
       fraction = back;
+      few = size;
       number = (rw last at p.number) ∙ mod-eq_of_lt (digits_fit (take whole text ++ drop (whole + 1) text) digits size);
     }
 
--- ---- The value of a short text.
-short_made : (w : Literal) (p : Plan) (number len : ℕ) → IsPlan w p
-    → Encodes (leading_bytes number len) len (planned_digits w p)
-    → IsBcdValue (value_of w) (record { number = number; len = len; bounds = p.bounds })
-short_made w p number len k h = record {
+-- a value of more digits than fit in place allocates
+pub wide_allocates : (reading : Result Unsigned ReadError) (bytes : List ℕ) (len most : ℕ) (b : Bounds)
+    → IsBcdValue reading bytes len b → ¬ (len ≤ most) → IsOkAnd reading (λ v. most < size v.number)
+wide_allocates reading bytes len most b h more =
+    rw h.value (omega (arith, more, size-number_of h.stored, length_digits_in bytes len h.packed))
+
+-- ---- The value of a plain text.
+made : (w : Literal) (p : Plan) (bytes : List ℕ) (len : ℕ) → IsPlan w p → Encodes bytes len (planned_digits w p)
+    → IsBcdValue (value_of w) bytes len p.bounds
+made w p bytes len k h = record {
   packed = h.packed;
   stored = rw h.digits k.stored;
   value = k.value ∙ ap (λ ds. Ok (value_within ds p.bounds)) (sym h.digits);
 }
 
-module _ (text : List ℕ) (p : PlainText) (plain : IsPlainText text p) (few : length text ≤ 33)
-    (fits : p.number < 2 ^ 64) where
+module _ (text : List ℕ) (p : PlainText) (plain : IsPlainText text p) (few : length text ≤ 33) where
   abbrev w : Literal
   w = plain_parts text p.whole
 
@@ -390,6 +414,9 @@ module _ (text : List ℕ) (p : PlainText) (plain : IsPlainText text p) (few : l
   number_is : p.number ≡ number_from_digits 16 (digits_of w)
   number_is = plain.number ∙ digits_value_is 16 (w.whole ++ w.fraction)
 
+  pub number_fits : p.number < 2 ^ 128
+  number_fits = rw plain.number (digits_fit (w.whole ++ w.fraction) digits plain.few)
+
   few_whole : p.whole ≤ 33
   few_whole = omega (arith, few, plain.whole, length-take p.whole text)
 
@@ -397,51 +424,61 @@ module _ (text : List ℕ) (p : PlainText) (plain : IsPlainText text p) (few : l
   few_fraction = omega (arith, few, plain.fraction, length-drop (p.whole + 1) text)
 
   -- zero
-  pub short_zero : (b : Bounds) → p.number ≡ 0 → b.magnitude ≡ pos 0 → b.hi ≡ pos (p.whole - 1)
+  pub plain_zero : (b : Bounds) → p.number ≡ 0 → b.magnitude ≡ pos 0 → b.hi ≡ pos (p.whole - 1)
       → b.lo ≡ pos 0 -ℤ pos p.fraction
-      → IsBcdValue (read text) (record { number = p.number; len = 0; bounds = b })
-  short_zero b z m hi lo =
+      → IsBcdValue (read text) (leading_bytes p.number 0) 0 b
+  plain_zero b z m hi lo =
       let zeros = zero_digits (digits_of w) below (sym number_is ∙ z) in
-      let k = makes_zero w digits (omega (arith, plain.whole, few_whole)) (omega (arith, plain.fraction, few_fraction)) zeros in
+      let k =
+      makes_zero w digits (omega (arith, plain.whole, few_whole)) (omega (arith, plain.fraction, few_fraction)) zeros in
       rw (read_some text w parts)
-      (short_made w (record { start = 0; end = 0; bounds = b }) p.number 0
+      (made w (record { start = 0; end = 0; bounds = b }) _ 0
       (is_plan_at w 0 0 _ _ _ b k m (omega (arith, ints, hi, plain.whole)) (omega (arith, ints, lo, plain.fraction)))
       (leading_bytes_encode [] 0 p.number refl (omega arith) tt z))
 
-  module _ (some : 0 < p.number) where
-    found : (16 - leading_zeros w64 p.number / 4 ≤ length (digits_of w))
-        × IsNonzeroRange (digits_of w) (length (digits_of w) - (16 - leading_zeros w64 p.number / 4))
-        (length (digits_of w) - trailing_zeros w64 p.number / 4)
-    found = inner_number (digits_of w) p.number below fits number_is some
+  -- any other number, of k nibbles
+  module _ (width : Width) (k : ℕ) (size : bits width ≡ 4 * k) (fits : p.number < 2 ^ bits width)
+      (some : 0 < p.number) where
+    found : (k - leading_zeros width p.number / 4 ≤ length (digits_of w))
+        × IsNonzeroRange (digits_of w) (length (digits_of w) - (k - leading_zeros width p.number / 4))
+        (length (digits_of w) - trailing_zeros width p.number / 4)
+    found = inner_number width k size (digits_of w) p.number below fits number_is some
 
     -- the zero nibbles bound the nonzero digits, which are no more than the digits in the text
-    pub short_sizes : (trailing_zeros w64 p.number / 4 < 16 - leading_zeros w64 p.number / 4)
-        × (16 - leading_zeros w64 p.number / 4 ≤ p.whole + p.fraction)
-    short_sizes =
+    pub plain_sizes : (trailing_zeros width p.number / 4 < k - leading_zeros width p.number / 4)
+        × (k - leading_zeros width p.number / 4 ≤ p.whole + p.fraction)
+    plain_sizes =
         (omega (arith, found.0, found.1.ordered, found.1.within), omega (arith, found.0, count))
 
-    -- any other number
-    pub short_plain : (zeros len : ℕ) (b : Bounds) → zeros ≡ leading_zeros w64 p.number / 4
-        → len ≡ (16 - zeros) - trailing_zeros w64 p.number / 4
-        → b.magnitude ≡ pos (16 - zeros) -ℤ pos (p.fraction + 1) → b.hi ≡ pos (p.whole - 1)
+    pub plain_value : (zeros len : ℕ) (bytes : List ℕ) (b : Bounds) → zeros ≡ leading_zeros width p.number / 4
+        → len ≡ (k - zeros) - trailing_zeros width p.number / 4
+        → b.magnitude ≡ pos (k - zeros) -ℤ pos (p.fraction + 1) → b.hi ≡ pos (p.whole - 1)
         → b.lo ≡ pos 0 -ℤ pos p.fraction
-        → IsBcdValue (read text) (record { number = p.number * 2 ^ (4 * zeros) % 2 ^ 64; len = len; bounds = b })
-    short_plain zeros len b z l m hi lo =
+        → ((ds : List ℕ) → length ds ≡ len → len ≤ k → AllBelowBase 10 ds
+        → p.number * 2 ^ (4 * zeros) % 2 ^ (4 * k) ≡ number_from_digits 16 ds * 16 ^ (k - len) → Encodes bytes len ds)
+        → IsBcdValue (read text) bytes len b
+    plain_value zeros len bytes b z l m hi lo encoded =
         let ds = digits_of w in
-        let start = length ds - (16 - zeros) in
-        let end = length ds - trailing_zeros w64 p.number / 4 in
-        let places : 16 - zeros ≤ length ds = omega (arith, z, found.0) in
+        let start = length ds - (k - zeros) in
+        let end = length ds - trailing_zeros width p.number / 4 in
+        let places : k - zeros ≤ length ds = omega (arith, z, found.0) in
         let n : IsNonzeroRange ds start end = rw z found.1 in
         let at : b.magnitude ≡ (pos (length w.whole) -ℤ pos 1) -ℤ pos start =
         omega (arith, ints, m, places, count, plain.whole) in
         let plan =
-        makes_plain w digits (omega (arith, plain.whole, few_whole)) (omega (arith, plain.fraction, few_fraction)) start end n b.magnitude at
-        refl in
-        let k =
+        makes_plain w digits (omega (arith, plain.whole, few_whole)) (omega (arith, plain.fraction, few_fraction)) start
+        end n b.magnitude at refl in
+        let made_plan =
         is_plan_at w start end _ _ _ b plan refl (omega (arith, ints, hi, plain.whole))
         (omega (arith, ints, lo, plain.fraction)) in
-        let h =
-        middle_holds ds p.number zeros start end below number_is n (omega (arith, places)) (omega (arith, places)) in
+        let most : zeros ≤ k = omega (arith, z, size, leading_le (bits width) p.number) in
+        let number =
+        middle_number ds k p.number zeros start end below number_is n (omega (arith, places, most))
+        (omega (arith, places, most)) in
         let long : end - start ≡ len = omega (arith, l, n.ordered, n.within, places) in
+        let packed =
+        encoded (middle start end ds) (middle_length ds start end n ∙ long) (omega (arith, l))
+        (middle_below ds start end n below)
+        (number ∙ ap (λ i. number_from_digits 16 (middle start end ds) * 16 ^ (k - i)) long) in
         rw (read_some text w parts)
-        (short_made w (record { start = start; end = end; bounds = b }) _ len k (rw (sym long) h))
+        (made w (record { start = start; end = end; bounds = b }) bytes len made_plan packed)

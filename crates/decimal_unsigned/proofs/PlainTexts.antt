@@ -26,7 +26,8 @@ value_after : (n : ℕ) (text : List ℕ)
 value_after n [] = omega arith
 value_after n (c ∷ cs) =
     let d = digit_value c in
-    let e : digits_value 16 (c ∷ cs) ≡ (0 * 16 + d) * 16 ^ length cs + digits_value 16 cs = value_after (0 * 16 + d) cs in
+    let e : digits_value 16 (c ∷ cs) ≡ (0 * 16 + d) * 16 ^ length cs + digits_value 16 cs =
+    value_after (0 * 16 + d) cs in
     let p : 16 ^ length (c ∷ cs) ≡ 16 ^ length cs * 16 = pow-suc 16 (length cs) in
     value_after (n * 16 + d) cs ∙ (rw (e, p) (omega arith))
 
@@ -73,7 +74,8 @@ module _ (text group : List ℕ) (p : Prefix) (g : Group) (front : IsPrefix text
     point = tt;
     digits = digits_both _ _ (rw e at front.digits) (rw f at back.digits);
     number =
-        joined_number text group p.number g.number (2 ^ 32) (rw e at front.number) (rw f at back.number) (rw eight refl);
+        joined_number text group p.number g.number (2 ^ 32) (rw e at front.number) (rw f at back.number)
+        (rw eight refl);
   }
 
   pub point_before : (n : ℕ) → p.fraction ≡ Some n → g.fraction ≡ None
@@ -99,8 +101,8 @@ module _ (text group : List ℕ) (p : Prefix) (g : Group) (front : IsPrefix text
         digits = rw all (digits_both _ _ (rw e at front.digits) (rw f at back.digits));
         number =
             rw all
-            (joined_number (without (Some n) text) group p.number g.number (2 ^ 32) (rw e at front.number) (rw f at back.number)
-            (rw eight refl));
+            (joined_number (without (Some n) text) group p.number g.number (2 ^ 32) (rw e at front.number)
+            (rw f at back.number) (rw eight refl));
       }
 
   pub point_found : (n : ℕ) → p.fraction ≡ None → g.fraction ≡ Some n
@@ -136,8 +138,8 @@ module _ (text group : List ℕ) (p : Prefix) (g : Group) (front : IsPrefix text
         digits = rw all (digits_both _ _ (rw e at front.digits) (rw f at back.digits));
         number =
             rw all
-            (joined_number text (without (Some n) group) p.number g.number (2 ^ 28) (rw e at front.number) (rw f at back.number)
-            (rw seven refl));
+            (joined_number text (without (Some n) group) p.number g.number (2 ^ 28) (rw e at front.number)
+            (rw f at back.number) (rw seven refl));
       }
 
 -- ---- The first bytes of a text.
@@ -172,7 +174,8 @@ module _ (text bs : List ℕ) (count n : ℕ) (below : (i : ℕ) → get_or text
   pub first_word : n / 2 ^ (8 * (8 - count)) ≡ number_from_digits 256 (take count text)
   first_word =
       let l : length bs ≡ 8 = ap length first ∙ length-take-le 8 text enough in
-      let below_bs : AllBelowBase 256 bs = subst (AllBelowBase 256) (sym first) (below_take 256 8 text (all_bytes text below)) in
+      let below_bs : AllBelowBase 256 bs =
+      subst (AllBelowBase 256) (sym first) (below_take 256 8 text (all_bytes text below)) in
       ap (λ p. n / p) (byte_pow (8 - count)) ∙ ap (λ m. m / 256 ^ (8 - count)) (is ∙ eight_bytes bs l)
       ∙ rw l at (number-div 256 count bs below_bs (omega arith))
       ∙ ap (λ l. number_from_digits 256 (take count l)) first ∙ ap (number_from_digits 256) (take-take count 8 text few)

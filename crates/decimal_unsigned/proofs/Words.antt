@@ -307,7 +307,8 @@ module _ (text : List ℕ) (word n : ℕ) (h : AllBelowBase 256 text) (few : len
 
   pub length-others : length (without (Some n) text) + 1 ≡ length text
   length-others =
-      omega (arith, within, length-append (take j text) back, length-back, length-take-le j text (omega (arith, within)))
+      let front_size = length-take-le j text (omega (arith, within)) in
+      omega (arith, within, length-append (take j text) back, length-back, front_size)
 
 -- the bytes `0` of a text that is one byte shorter
 pub zeros_shorter : (k i : ℕ) → k ≤ 8 → i + 1 ≡ k → zeros k / 2 ^ 8 ≡ zeros i

@@ -2,10 +2,9 @@
 -- Which digits of the parts are stored, and their magnitudes.
 use Rattle.std.specs.Prelude.{◌≡◌, ℕ, ◌+◌, ◌-◌, ◌%◌, ◌^◌, ◌≤◌, ◌<◌, List, ◌++◌, length, take, drop, map, slice_index, Some, None, Result, Ok}
 use Rattle.std.specs.Char.{digit_value}
-use Rattle.std.specs.Str.Parse.{AllDigits, digits_value, digits_value_after}
+use Rattle.std.specs.Str.Parse.{AllDigits}
 use Rattle.decimal_digits.specs.Digits.{number_of}
-use Rattle.decimal_digits.specs.Nibbles.{digits_in, leading_bytes, IsPacked}
-use Rattle.decimal_unsigned.specs.declared.decimal.parse.fast_path.BcdValue.{BcdValue}
+use Rattle.decimal_digits.specs.Nibbles.{digits_in, IsPacked}
 use Rattle.decimal_unsigned.specs.declared.decimal.parse.plan.Bounds.{Bounds}
 use Rattle.decimal_unsigned.specs.declared.decimal.parse.plan.Plan.{Plan}
 use Rattle.decimal_unsigned.specs.Stored.{IsStored}
@@ -54,14 +53,10 @@ pub record IsScanned (w : Literal) (p : Plan) : Type 0 where
   pub digits : AllDigits 10 (w.whole ++ w.fraction)
   pub plan : IsPlan w p
 
--- ---- Short texts.
+-- ---- Packed digits.
 
--- the first `len` nibbles of the number
-abbrev pub bcd_digits : BcdValue → List ℕ
-bcd_digits b = digits_in (leading_bytes b.number b.len) b.len
-
--- reading gives the value of these nibbles
-pub record IsBcdValue (reading : Result Unsigned ReadError) (b : BcdValue) : Type 0 where
-  pub packed : IsPacked (leading_bytes b.number b.len) b.len
-  pub stored : IsStored (bcd_digits b) b.bounds.magnitude b.bounds.hi b.bounds.lo
-  pub value : reading ≡ Ok (value_within (bcd_digits b) b.bounds)
+-- reading gives the value of the first `len` nibbles of the bytes
+pub record IsBcdValue (reading : Result Unsigned ReadError) (bytes : List ℕ) (len : ℕ) (b : Bounds) : Type 0 where
+  pub packed : IsPacked bytes len
+  pub stored : IsStored (digits_in bytes len) b.magnitude b.hi b.lo
+  pub value : reading ≡ Ok (value_within (digits_in bytes len) b)

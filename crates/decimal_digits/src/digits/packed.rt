@@ -6,6 +6,7 @@ ghost use Rattle.decimal_digits.specs.Packing.{IsPadded};
 mod bulk;
 mod bytes;
 mod nibbles;
+mod wide;
 mod words;
 
 use super::DigitStore;
@@ -18,6 +19,7 @@ use nibbles::byte_count;
 pub(super) use nibbles::nibble_at;
 use smallvec::SmallVec;
 use std::alloc::{AllocError, Global};
+use wide::copy_wide;
 use words::keep_nibbles;
 
 /// A list of digits as packed BCD, two digits to a byte, of which up to sixteen need no allocation.
@@ -94,6 +96,11 @@ impl DigitStore for PackedDigits {
             bytes: SmallVec::from_buf(alloc, word.to_be_bytes()),
             len,
         })
+    }
+
+    fn from_wide_bcd(alloc: Global, number: u128, len: usize) -> Result<Self, AllocError> {
+        let bytes = copy_wide(alloc, number, len)?;
+        Ok(PackedDigits { bytes, len })
     }
 
     #[inline]

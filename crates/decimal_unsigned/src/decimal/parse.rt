@@ -17,7 +17,7 @@ mod words;
 use super::UnsignedOver;
 use crate::ParseError;
 use decimal_digits::digits::DigitStore;
-use fast_path::bcd_value;
+use fast_path::{bcd_value, wide_bcd_value};
 pub use parts::numeral;
 use parts::{Parts, split};
 use plan::{Plan, planned};
@@ -246,12 +246,22 @@ impl<D: DigitStore> UnsignedOver<D> {
         Ok(value)
     }
 
-    /// Parses any text.
+    /// Parses any text, up to 32 digits in one pass.
     // Not inlined: it then has its own stack frame, which a short text does not fill with zeros.
     #[inline(never)]
     fn scan_from(alloc: Global, text: &[u8]) -> Result<Self, ParseError>
         ensures { IsParseResult (λ v. D.L < size v.number) result (read text.now) }
     {
+        if let Some(bcd) = wide_bcd_value(text) {
+            let digits = D::from_wide_bcd(alloc, bcd.number, bcd.len)?;
+            let bounds = bcd.bounds;
+            return Ok(UnsignedOver {
+                digits,
+                magnitude: bounds.magnitude,
+                hi: bounds.hi,
+                lo: bounds.lo,
+            });
+        }
         Ok(Scan::new(text)?.value(alloc)?)
     }
 }

@@ -1,8 +1,9 @@
-//! Short texts: up to sixteen digits, with or without a decimal point, as one packed BCD number.
+//! Plain texts: up to 32 digits, with or without a decimal point, as one packed BCD number.
 ghost use Rattle.std.specs.Prelude.{◌≡◌, ℕ, ◌+◌, ◌%◌, ◌^◌, ◌<◌, ◌≤◌, List, ◌++◌, length, take, IfSome};
 ghost use Rattle.std.specs.Char.{is_ascii_digit};
 ghost use Rattle.std.specs.List.{prefix_len};
 ghost use Rattle.std.specs.Str.Parse.{digits_value_after};
+ghost use Rattle.decimal_digits.specs.Nibbles.{leading_bytes, wide_leading_bytes};
 ghost use Rattle.decimal_unsigned.specs.PlainTexts.{IsGroup, IsPrefix, IsPlainText};
 ghost use Rattle.decimal_unsigned.specs.Reading.{read};
 ghost use Rattle.decimal_unsigned.specs.ScannedDigits.{IsBcdValue};
@@ -12,7 +13,10 @@ use super::words::{Group, ZEROS, read_group};
 use decimal_digits::ops::subtract_counts;
 
 /// The length of sixteen digits and a decimal point.
-const MAX_FAST_LEN: usize = 17;
+const MAX_SHORT_LEN: usize = 17;
+
+/// The length of 32 digits and a decimal point.
+const MAX_PLAIN_LEN: usize = 33;
 
 /// A text of digits, with or without a decimal point: its numbers of integer and of fraction digits, and the number of
 /// all of them in base 16.
@@ -35,6 +39,14 @@ pub struct Prefix {
 #[derive(Clone, Copy, Debug)]
 pub struct BcdValue {
     pub number: u64,
+    pub len: usize,
+    pub bounds: Bounds,
+}
+
+/// A value: the first `len` nibbles of a packed BCD number of 32 nibbles, and their magnitudes.
+#[derive(Clone, Copy, Debug)]
+pub struct WideBcdValue {
+    pub number: u128,
     pub len: usize,
     pub bounds: Bounds,
 }
@@ -179,9 +191,9 @@ fn plain_text(text: &[u8]) -> Option<PlainText>
 /// Makes the value of a text of up to sixteen digits, with or without a decimal point, or returns None.
 #[inline]
 pub fn bcd_value(text: &[u8]) -> Option<BcdValue>
-    ensures { IfSome result (IsBcdValue (read text.now)) }
+    ensures { IfSome result (λ b. IsBcdValue (read text.now) (leading_bytes b.number b.len) b.len b.bounds) }
 {
-    if text.len() > MAX_FAST_LEN {
+    if text.len() > MAX_SHORT_LEN {
         return None;
     }
     let plain = plain_text(text)?;
@@ -206,6 +218,38 @@ pub fn bcd_value(text: &[u8]) -> Option<BcdValue>
     let size = 16 - zeros;
     let len = size - (number.trailing_zeros() / 4) as usize;
     Some(BcdValue {
+        number: number << (4 * zeros),
+        len,
+        bounds: to_bounds(subtract_counts(size, fraction + 1), hi, lo),
+    })
+}
+
+/// Makes the value of a text of 17 to 32 digits, with or without a decimal point, or returns None.
+///
+/// The digits are counted from the first to the last nonzero one.
+#[inline]
+pub fn wide_bcd_value(text: &[u8]) -> Option<WideBcdValue>
+    ensures many { IfSome result (λ b. 16 < b.len) }
+    ensures value { IfSome result
+        (λ b. IsBcdValue (read text.now) (wide_leading_bytes b.number b.len) b.len b.bounds) }
+{
+    if text.len() > MAX_PLAIN_LEN {
+        return None;
+    }
+    let plain = plain_text(text)?;
+    let (whole, fraction, number) = (plain.whole, plain.fraction, plain.number);
+    if number == 0 {
+        return None;
+    }
+    let zeros = (number.leading_zeros() / 4) as usize;
+    let size = 32 - zeros;
+    let len = size - (number.trailing_zeros() / 4) as usize;
+    if len <= 16 {
+        return None;
+    }
+    let hi = subtract_counts(whole.max(1), 1);
+    let lo = subtract_counts(0, fraction);
+    Some(WideBcdValue {
         number: number << (4 * zeros),
         len,
         bounds: to_bounds(subtract_counts(size, fraction + 1), hi, lo),

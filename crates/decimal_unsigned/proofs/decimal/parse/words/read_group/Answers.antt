@@ -6,7 +6,9 @@ use Rattle.decimal_unsigned.proofs.decimal.parse.words.read_group.Goals as goal
 
 pub returns-then-flags-eq0-clause-digits : goal.returns-then-flags-eq0-clause-digits
 returns-then-flags-eq0-clause-digits c = λ text h few w z.
-    let found = digits_of_word text c.args.word c.args.all_zeros _ h few w z refl (c.flag_bytes-flags.ensures c.if-flags-eq0.true) in
+    let found =
+    digits_of_word text c.args.word c.args.all_zeros _ h few w z refl
+    (c.flag_bytes-flags.ensures c.if-flags-eq0.true) in
     record { point = tt; digits = found.0; number = group_of_digits text _ _ c.pack_bytes.ensures few found }
 
 pub returns-clause-digits : goal.returns-clause-digits

@@ -1,0 +1,11 @@
+use Rattle.decimal_unsigned.proofs.Common.{rules, arith, read, ◌≤◌}
+use Rattle.decimal_unsigned.proofs.BcdValues.{wide_allocates}
+use Rattle.decimal_unsigned.proofs.decimal.UnsignedOver.scan_from.Goals as goal
+
+pub returns-in_err-digits : goal.returns-in_err-digits
+returns-in_err-digits g c =
+    let bcd = c.in-Some.bcd in
+    let a =
+    wide_allocates (read c.args.text.now) _ bcd.len g.D.DigitStore.L bcd.bounds c.in-Some.ensures.value
+    (λ fits. let k = c.in_err-digits.ensures.succeeds fits in absurd (cc)) in
+    search (rules, a)
