@@ -1,6 +1,6 @@
 -- Private: used only in the contracts of private functions.
 -- What the steps of a scan find.
-use Rattle.std.specs.Prelude.{◌≡◌, ◌≢◌, ℕ, ◌+◌, ◌<◌, ◌≤◌, ◌↔◌, ◌⊎◌, Bool, true, false, ◌&&◌, List, [], ◌∷◌, ◌++◌, if◌then◌else◌, length, map, Result, Ok, Err, IfOk}
+use Rattle.std.specs.Prelude.{◌≡◌, ◌≢◌, ℕ, ◌+◌, ◌<◌, ◌≤◌, ◌↔◌, ◌⊎◌, Bool, true, false, ◌&&◌, List, [], ◌∷◌, ◌++◌, if◌then◌else◌, length, take, map, Result, Ok, Err, IfOk}
 use Rattle.std.specs.Int.Digits.{AllBelowBase}
 use Rattle.decimal_digits.specs.Number.{size}
 use Rattle.decimal_unsigned.specs.Reading.{read}
@@ -28,11 +28,27 @@ plain_fraction (d ∷ ds) = 46 ∷ ascii_digits_of (d ∷ ds)
 abbrev pub plain_text : Numeral → List ℕ
 plain_text w = ascii_digits_of w.whole ++ plain_fraction w.fraction
 
+-- up to 64 bytes are in the array
+pub record IsShort (p : PlainText) (bytes : List ℕ) : Type 0 where
+  pub len : p.len ≡ length bytes
+  pub kept : take p.len p.short ≡ bytes
+  pub none_more : p.long.items ≡ []
+  pub in_memory : p.out_of_memory ≡ false
+
+-- more bytes are in the vector, unless an allocation has failed
+pub record IsLong (p : PlainText) (bytes : List ℕ) : Type 0 where
+  pub len : p.len ≡ 64
+  pub kept : p.out_of_memory ≡ false → p.long.items ≡ bytes
+
 -- the bytes are kept, unless an allocation has failed, for more than 64
 pub record IsPlain (p : PlainText) (bytes : List ℕ) : Type 0 where
-  pub kept : p.out_of_memory ≡ false → p.bytes.items ≡ bytes
-  pub failed : p.out_of_memory ≡ true → 64 < length bytes
-  pub capacity : length bytes ≤ 64 → p.bytes.capacity ≡ 64
+  pub short : length bytes ≤ 64 → IsShort p bytes
+  pub long : 64 < length bytes → IsLong p bytes
+
+-- all bytes so far: the first ones if there are no others
+abbrev pub appended_to : List ℕ → List ℕ → List ℕ
+appended_to [] short = short
+appended_to (x ∷ long) short = x ∷ long
 
 -- these bytes were appended
 abbrev pub AppendsPlain : PlainText → PlainText → List ℕ → Type 0

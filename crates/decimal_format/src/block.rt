@@ -5,9 +5,9 @@ use fixed_decimal::{Sink, SinkFault};
 use std::marker::Model;
 
 /// The number of bytes that a block holds.
-const SIZE: usize = 128;
+const SIZE: usize = 192;
 
-/// A sink that holds up to 128 bytes, and fails when more are put into it.
+/// A sink that holds up to 192 bytes, and fails when more are put into it.
 #[derive(Drop)]
 pub(crate) struct Block {
     bytes: [u8; SIZE],
@@ -20,7 +20,7 @@ impl Model for Block {
 
     ghost view = { λ s. (take s.len s.bytes, s.failed) };
 
-    ghost invariant = { λ s. s.len ≤ 128 };
+    ghost invariant = { λ s. s.len ≤ 192 };
 }
 
 impl Block {

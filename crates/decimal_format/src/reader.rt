@@ -23,7 +23,7 @@ use std::alloc::Global;
 const MAX_DIGITS: usize = 32768;
 
 /// What a text says: a sign, and the numbers of its digits.
-#[derive(Clone, Copy, Debug)]
+#[derive(Clone, Copy)]
 struct Scanned {
     sign: Sign,
     integer_digits: usize,

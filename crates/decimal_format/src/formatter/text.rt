@@ -17,7 +17,7 @@ use fixed_decimal::{DigitStore, Sink, SinkFault, Writeable};
 const PART: u32 = 32;
 
 /// Digits with no separator between them: their number, and the separators before and after them, which may be empty.
-#[derive(Clone, Copy, Debug)]
+#[derive(Clone, Copy)]
 struct Run<'s> {
     count: u32,
     before: &'s str,
@@ -53,7 +53,11 @@ fn write_digits<W: Sink>(
 fn grouping_if<'s>(symbols: &'s DecimalSymbols<'_>, separated: bool) -> &'s str
     ensures { result.now ≡ separator_if symbols.now separated }
 {
-    if separated { symbols.grouping_separator() } else { "" }
+    if separated {
+        symbols.grouping_separator()
+    } else {
+        ""
+    }
 }
 
 impl<'f, D: DigitStore> FormattedDecimal<'f, D> {
@@ -72,25 +76,27 @@ impl<'f, D: DigitStore> FormattedDecimal<'f, D> {
         let magnitude = self.magnitude(below);
         if magnitude < 0 {
             let before = self.separator_before(below);
-            return Run { count: most, before, after: "" };
+            return Run {
+                count: most,
+                before,
+                after: "",
+            };
         }
         let symbols = self.symbols;
-        let (count, separated) =
-            symbols
-                .sizes()
-                .run_from(self.strategy, self.highest(), magnitude as u32, most);
+        let (count, separated) = symbols
+            .sizes()
+            .run_from(self.strategy, self.highest(), magnitude as u32, most);
         let after = grouping_if(symbols, separated);
-        Run { count, before: "", after }
+        Run {
+            count,
+            before: "",
+            after,
+        }
     }
 
     /// Appends ASCII digits between the separators of a run.
     #[inline]
-    fn write_run<W: Sink>(
-        &self,
-        run: Run<'_>,
-        digits: &[u8],
-        sink: &mut W,
-    ) -> Result<(), SinkFault>
+    fn write_run<W: Sink>(&self, run: Run<'_>, digits: &[u8], sink: &mut W) -> Result<(), SinkFault>
         requires { EachIndex digits.now (λ k. (48 ≤ slice_index digits.now k) × (slice_index digits.now k < 58)) }
         ensures ok { OnOk result (Appends (W.contents sink.old) (W.contents sink.new)
             (run_text self.now.symbols run.entry.before.now run.entry.after.now digits.now)) }

@@ -17,8 +17,8 @@ returns-clause-found c =
     let digits = c.in_ok-digits.digits.now in
     let code : c.as_bytes.result.now ≡ s.decimal = c.as_bytes.ensures.value ∙ c.decimal_separator.ensures.value in
     if_some_weaker c.read_last_digits.result _ _
-    (λ count. fraction_found s c.args.text.now digits count c.args.plain.now c.push.new.self c.read_last_digits.new.plain
-    (c.in_ok-digits.ensures ∙ ap (λ l. l ++ digits) code) (some_is digits c.if-is_empty-2.ensures) c.push.ensures)
+    (λ count. fraction_found s c.args.text.now digits count c.args.plain.now c.push.new.self
+    c.read_last_digits.new.plain (c.in_ok-digits.ensures ∙ ap (λ l. l ++ digits) code) (some_is digits c.if-is_empty-2.ensures) c.push.ensures)
     c.read_last_digits.ensures.found
 
 pub returns-clause-none : goal.returns-clause-none
