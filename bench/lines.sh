@@ -10,8 +10,13 @@
 # rounds ties away from zero, so some of their lines differ: the last column counts them. The lines of the filter have
 # to be those of Python.
 #
-# The second table has the instructions of a line: of the filter, of the filter with no call, which parses each line as
-# a number and prints it, of the C program, and of one that only copies each line by `getline` and `fwrite`.
+# The second table has a field of lines `name7,city,dddd.ddd,tail`, without quotes and as CSV, beside `numfmt`, `mawk`
+# and Python's `csv` and `decimal`. The third has lines `d,ddd.ddd` that are read and written in the form of a locale,
+# beside the same numbers without one; all of its lines differ.
+#
+# The last table has the instructions of a line: of the filter, of the filter with no call, which parses each line as
+# a number and prints it, of the filter on a field and with locales, of the C program, and of one that only copies each
+# line by `getline` and `fwrite`.
 #
 # Needs bash, the toolchain, a C compiler, and Debian's time, mawk, python3 and valgrind. Take it on a machine that does
 # nothing else.
@@ -27,9 +32,22 @@ chmod +x "$room/fixdec_lines"
 cat > "$room/lines.py" <<'PYTHON'
 import random, sys
 random.seed(7)
-for _ in range(int(sys.argv[1])):
+room = sys.argv[2]
+plain, fields, grouped = (open(f"{room}/{name}", "w") for name in ("plain", "fields", "grouped"))
+for line in range(int(sys.argv[1])):
     n = random.randrange(1000000, 10000000)
-    print("%d.%03d" % (n // 1000, n % 1000))
+    plain.write("%d.%03d\n" % (n // 1000, n % 1000))
+    fields.write("name%d,city,%d.%03d,tail\n" % (line % 10, n // 1000, n % 1000))
+    grouped.write("%d,%03d.%03d\n" % (n // 1000000, n // 1000 % 1000, n % 1000))
+PYTHON
+cat > "$room/field.py" <<'PYTHON'
+import csv, sys
+from decimal import Decimal, ROUND_HALF_EVEN
+unit = Decimal("0.01")
+writer = csv.writer(sys.stdout, lineterminator="\n")
+for row in csv.reader(sys.stdin):
+    row[2] = str(Decimal(row[2]).quantize(unit, rounding=ROUND_HALF_EVEN))
+    writer.writerow(row)
 PYTHON
 cat > "$room/rounded.py" <<'PYTHON'
 import sys
@@ -70,7 +88,7 @@ room, passes, names = sys.argv[1], int(sys.argv[2]), sys.argv[3:]
 rows = {n: [tuple(map(float, l.split())) for l in open(f"{room}/{n}.times")] for n in names}
 cpu = {n: [user + system for user, system, _ in rows[n]] for n in names}
 ours = open(f"{room}/{names[0]}.out").read().split("\n")
-print("| Program | CPU seconds | over ours | middle ratio | peak KiB | lines that differ |")
+print("\n| Program | CPU seconds | over ours | middle ratio | peak KiB | lines that differ |")
 print("|---|---|---|---|---|---|")
 for n in names:
     ratios = [a / b for a, b in zip(cpu[n], cpu[names[0]])]
@@ -78,33 +96,51 @@ for n in names:
     differ = sum(a != b for a, b in zip(ours, theirs)) + abs(len(ours) - len(theirs))
     print("| %s | %.2f | %.2f | %.2f | %d | %d |" % (n, min(cpu[n]), min(cpu[n]) / min(cpu[names[0]]),
         median(ratios), max(r[2] for r in rows[n]), differ))
-    if n == "python3" and differ:
+    if n.startswith("python3") and differ:
         sys.exit("the filter and Python's decimal differ")
 PYTHON
 
 # The real interpreter: a shim before it would be timed too.
 python=$(python3 -c 'import sys; print(sys.executable)')
-"$python" "$room/lines.py" "$lines" > "$room/in"
-# timed NAME COMMAND..: runs a command on the lines, and notes its user and system time and its greatest memory.
+"$python" "$room/lines.py" "$lines" "$room"
+# timed INPUT NAME COMMAND..: runs a command on an input, and notes its user and system time and its greatest memory.
 timed() {
-  /usr/bin/time -a -o "$room/$1.times" -f '%U %S %M' "${@:2}" < "$room/in" > "$room/$1.out"
+  /usr/bin/time -a -o "$room/$2.times" -f '%U %S %M' "${@:3}" < "$room/$1" > "$room/$2.out"
 }
+# table NAME..: prints the table of these, and compares their outputs with that of the first.
+table() {
+  "$python" "$room/table.py" "$room" "$passes" "$@"
+}
+round=round:-2:half-even:1
 for ((pass = 0; pass < passes; pass++)); do
-  timed fixdec_lines "$room/fixdec_lines" round:-2:half-even:1
-  timed numfmt numfmt --format=%.2f --round=nearest
-  timed mawk mawk '{printf "%.2f\n", $1}'
-  timed python3 "$python" "$room/rounded.py"
-  timed strtod "$room/strtod"
+  timed plain fixdec_lines "$room/fixdec_lines" $round
+  timed plain numfmt numfmt --format=%.2f --round=nearest
+  timed plain mawk mawk '{printf "%.2f\n", $1}'
+  timed plain python3 "$python" "$room/rounded.py"
+  timed plain strtod "$room/strtod"
 done
-"$python" "$room/table.py" "$room" "$passes" fixdec_lines numfmt mawk python3 strtod
+table fixdec_lines numfmt mawk python3 strtod
+for ((pass = 0; pass < passes; pass++)); do
+  timed fields 'fixdec_lines of a field' "$room/fixdec_lines" delimiter:, field:3 $round
+  timed fields 'fixdec_lines of CSV' "$room/fixdec_lines" csv field:3 $round
+  timed fields 'numfmt of a field' numfmt -d, --field 3 --format=%.2f --round=nearest
+  timed fields 'mawk of a field' mawk -F, -v OFS=, '{$3 = sprintf("%.2f", $3); print}'
+  timed fields 'python3 of CSV' "$python" "$room/field.py"
+done
+table 'fixdec_lines of a field' 'fixdec_lines of CSV' 'numfmt of a field' 'mawk of a field' 'python3 of CSV'
+for ((pass = 0; pass < passes; pass++)); do
+  timed plain 'without a locale' "$room/fixdec_lines" $round
+  timed grouped 'read:en format:en-IN' "$room/fixdec_lines" read:en $round format:en-IN
+done
+table 'without a locale' 'read:en format:en-IN'
 
 some=$((lines < 100000 ? lines : 100000))
-head -n "$some" "$room/in" > "$room/some"
-# instructions PROGRAM [WORD]..: those of a line, on average over some of them, without those of a run on no line.
+# instructions INPUT PROGRAM [WORD]..: those of a line, on average over some, without those of a run on no line.
 instructions() {
   local counted=()
+  head -n "$some" "$room/$1" > "$room/some"
   for input in "$room/some" /dev/null; do
-    counted+=("$(valgrind --tool=callgrind --callgrind-out-file=/dev/null "$@" 2>&1 > /dev/null < "$input" |
+    counted+=("$(valgrind --tool=callgrind --callgrind-out-file=/dev/null "${@:2}" 2>&1 > /dev/null < "$input" |
       sed -n 's/.*Collected : //p')")
   done
   echo $(((counted[0] - counted[1]) / some))
@@ -112,7 +148,10 @@ instructions() {
 echo
 echo "| Program | instructions a line |"
 echo "|---|---|"
-echo "| fixdec_lines | $(instructions "$room/fixdec_lines" round:-2:half-even:1) |"
-echo "| fixdec_lines with no call | $(instructions "$room/fixdec_lines") |"
-echo "| strtod | $(instructions "$room/strtod") |"
-echo "| a copy of each line | $(instructions "$room/copy") |"
+echo "| fixdec_lines | $(instructions plain "$room/fixdec_lines" $round) |"
+echo "| fixdec_lines with no call | $(instructions plain "$room/fixdec_lines") |"
+echo "| fixdec_lines of a field | $(instructions fields "$room/fixdec_lines" delimiter:, field:3 $round) |"
+echo "| fixdec_lines of CSV | $(instructions fields "$room/fixdec_lines" csv field:3 $round) |"
+echo "| read:en format:en-IN | $(instructions grouped "$room/fixdec_lines" read:en $round format:en-IN) |"
+echo "| strtod | $(instructions plain "$room/strtod") |"
+echo "| a copy of each line | $(instructions plain "$room/copy") |"

@@ -1,11 +1,11 @@
 -- The delimiters of a line, from left to right, and the fields that are left after some of them.
-use Rattle.std.proofs.Common.{◌≡◌, ℕ, zero, suc, ◌+◌, ◌-◌, ◌<◌, ◌≤◌, Bool, true, false, List, [], ◌∷◌, ◌++◌, length, take, drop, slice_get, Some, None, refl, sym, ap, ◌≢◌, ◌∙◌, arith}
+use Rattle.std.proofs.Common.{◌≡◌, ℕ, zero, suc, ◌+◌, ◌-◌, ◌<◌, ◌≤◌, Bool, true, false, List, [], ◌∷◌, ◌++◌, length, take, drop, slice_get, slice_index, Some, None, refl, sym, ap, ◌≢◌, ◌==◌, ◌&&◌, ⊎_elim, ◌∙◌, arith, eq-eqb, eqb-true}
 use Rattle.std.specs.Prelude.{⊤, filter}
-use Rattle.std.proofs.lemmas.Bool.{cond_both, cond-true, cond-false}
+use Rattle.std.proofs.lemmas.Bool.{cond_both, cond-true, cond-false, cases_Bool, false≢true}
 use Rattle.std.proofs.lemmas.Grind.{common_steps}
 use Rattle.std.proofs.Math.Seq.{take-add}
-use Rattle.memchr.specs.Find.{occurs_at, match_len, matches_from, matches}
-use Rattle.memchr.proofs.lemmas.MatchLemmas.{OccursAt-true}
+use Rattle.memchr.specs.Find.{OccursAt, occurs_at, match_len, matches_from, matches}
+use Rattle.memchr.proofs.lemmas.MatchLemmas.{OccursAt-true, occurs_at-true}
 use Rattle.cli.specs.declared.fields.Field.{Field}
 use Rattle.cli.specs.Fields.{is_outside, bounds_from, bounds}
 
@@ -147,3 +147,146 @@ module _ (field : Field) (line : List ℕ) where
       scanned_none some =
           let more : left ≡ suc (left - 1) = omega arith in
           h.left_is ∙ ap (slice_get (later field line start [])) more
+
+-- ---- A delimiter of one byte.
+
+module _ (line : List ℕ) (d : ℕ) where
+  -- the delimiters from an index on
+  abbrev pub rest : ℕ → List ℕ
+  rest at = matches_from line (d ∷ []) 0 at (length line + 1 - at)
+
+  byte_occurs : (at : ℕ) → at < length line → slice_index line at ≡ d → OccursAt line (d ∷ []) at
+  byte_occurs at l is = record {
+    fits = omega arith;
+    reads = λ j few. let first : j ≡ 0 = omega arith in let same : at + 0 ≡ at = omega arith in rw (first, same) is;
+  }
+
+  occurs_byte : (at : ℕ) → OccursAt line (d ∷ []) at → slice_index line at ≡ d
+  occurs_byte at h =
+      let same : at + 0 ≡ at = omega arith in
+      let some : 0 < 1 = omega arith in
+      rw same at (h.reads 0 some)
+
+  module _ (at : ℕ) (l : at < length line) where
+    more : length line + 1 - at ≡ suc (length line + 1 - (at + 1))
+    more = omega arith
+
+    rest-hit : slice_index line at ≡ d → rest at ≡ at ∷ rest (at + 1)
+    unfolding matches_from
+    rest-hit is =
+        ap (matches_from line (d ∷ []) 0 at) more
+        ∙ cond-true _ _ _ (occurs_at-true line (d ∷ []) at (byte_occurs at l is))
+
+    rest-miss : slice_index line at ≢ d → rest at ≡ rest (at + 1)
+    unfolding matches_from
+    rest-miss other =
+        ap (matches_from line (d ∷ []) 0 at) more
+        ∙ ⊎_elim (λ yes. absurd (other (occurs_byte at (OccursAt-true line (d ∷ []) at yes))))
+        (λ no. cond-false _ _ _ no) (cases_Bool (occurs_at line (d ∷ []) at))
+
+  -- none at the end of the line
+  rest-end : (at : ℕ) → at ≡ length line → rest at ≡ []
+  unfolding matches_from
+  rest-end at is =
+      let last : length line + 1 - at ≡ 1 = omega arith in
+      ap (matches_from line (d ∷ []) 0 at) last
+      ∙ ⊎_elim
+      (λ yes. let occurs = OccursAt-true line (d ∷ []) at yes in
+      let fits : at + 1 ≤ length line = occurs.fits in
+      absurd (omega (arith, fits, is)))
+      (λ no. cond-false _ _ _ no) (cases_Bool (occurs_at line (d ∷ []) at))
+
+-- before the byte at an index, the field is one of those from `start` on
+pub record ByByte (field : Field) (line : List ℕ) (d start left : ℕ) (outside : Bool) (at : ℕ) : Type 0 where
+  pub start_inside : start ≤ at
+  pub inside : at ≤ length line
+  pub outside_is : outside ≡ is_outside field (take at line)
+  pub left_is : bounds field line ≡ slice_get (later field line start (rest line d at)) left
+
+module _ (field : Field) (line : List ℕ) (d : ℕ) (one : field.delimiter.now ≡ d ∷ []) where
+  width : length field.delimiter.now ≡ 1
+  width = ap length one
+
+  pub by_byte_start : ByByte field line d 0 field.index true 0
+  by_byte_start = record {
+    start_inside = omega arith;
+    inside = omega arith;
+    outside_is = grind (arith, common_steps);
+    left_is = ap (λ delimiter. slice_get (later field line 0 (matches line delimiter 0)) field.index) one;
+  }
+
+  module _
+      {start left at : ℕ} {before now : Bool} (h : ByByte field line d start left before at) (l : at < length line)
+      (is : before ≡ is_outside field (take at line)
+      → now ≡ is_outside field (take at line ++ take (at + 1 - at) (drop at line)))
+    where
+      after_is : now ≡ is_outside field (take (at + 1) line)
+      after_is =
+          let ordered : at + (at + 1 - at) ≡ at + 1 = omega arith in
+          let bytes = sym (take-add at (at + 1 - at) line) ∙ ap (λ n. take n line) ordered in
+          is h.outside_is ∙ ap (is_outside field) bytes
+
+      -- the byte separates two fields
+      separated_here :
+          before ≡ true → slice_index line at ≡ d
+          → later field line start (rest line d at) ≡ (start, at) ∷ later field line (at + 1) (rest line d (at + 1))
+      separated_here out here =
+          ap (later field line start) (rest-hit line d at l here)
+          ∙ ap (bounds_from field line start) (cond-true _ _ _ (sym h.outside_is ∙ out))
+          ∙ ap (λ n. (start, at) ∷ later field line (at + n) (rest line d (at + 1))) width
+
+      -- and the field ends at it
+      pub by_byte_end :
+          before ≡ true → slice_index line at ≡ d → left ≡ 0 → bounds field line ≡ Some (start, at)
+      by_byte_end out here none =
+          h.left_is ∙ ap (slice_get (later field line start (rest line d at))) none
+          ∙ ap (λ fields. slice_get fields 0) (separated_here out here)
+
+      -- or comes after it
+      pub by_byte_separator :
+          before ≡ true → slice_index line at ≡ d → left ≢ 0 → ByByte field line d (at + 1) (left - 1) now (at + 1)
+      by_byte_separator out here some =
+          let next : left ≡ suc (left - 1) = omega arith in
+          record {
+            start_inside = omega arith;
+            inside = omega arith;
+            outside_is = after_is;
+            left_is = h.left_is ∙ ap (slice_get (later field line start (rest line d at))) next
+                ∙ ap (λ fields. slice_get fields (suc (left - 1))) (separated_here out here);
+          }
+
+      skipped :
+          (before && (slice_index line at == d)) ≡ false
+          → later field line start (rest line d at) ≡ later field line start (rest line d (at + 1))
+      skipped none =
+          ⊎_elim
+          (λ here. let same : slice_index line at ≡ d = eqb-true _ _ here in
+          let inner : before ≡ false = grind (arith, common_steps, none, here) in
+          ap (later field line start) (rest-hit line d at l same)
+          ∙ ap (bounds_from field line start) (cond-false _ _ _ (sym h.outside_is ∙ inner)))
+          (λ other. ap (later field line start)
+          (rest-miss line d at l (λ same. false≢true (sym other ∙ eq-eqb _ _ same))))
+          (cases_Bool (slice_index line at == d))
+
+      -- it separates no fields
+      pub by_byte_other :
+          (before && (slice_index line at == d)) ≡ false → ByByte field line d start left now (at + 1)
+      by_byte_other none = record {
+        start_inside = omega (arith, h.start_inside);
+        inside = omega arith;
+        outside_is = after_is;
+        left_is = h.left_is ∙ ap (λ fields. slice_get fields left) (skipped none);
+      }
+
+  -- no byte is left: the field ends at the end of the line, or the line has fewer fields
+  module _ {start left at : ℕ} {before : Bool} (h : ByByte field line d start left before at) (end : at ≡ length line) where
+    pub by_byte_all : left ≡ 0 → bounds field line ≡ Some (start, length line)
+    by_byte_all none =
+        h.left_is ∙ ap (λ ms. slice_get (later field line start ms) left) (rest-end line d at end)
+        ∙ ap (slice_get (later field line start [])) none
+
+    pub by_byte_none : 0 < left → bounds field line ≡ None
+    by_byte_none some =
+        let next : left ≡ suc (left - 1) = omega arith in
+        h.left_is ∙ ap (λ ms. slice_get (later field line start ms) left) (rest-end line d at end)
+        ∙ ap (slice_get (later field line start [])) next

@@ -1,5 +1,5 @@
 //! The fields of a line.
-ghost use Rattle.std.specs.Prelude.{◌≡◌, ◌≢◌, ◌≤◌, ◌++◌, ℕ, List, length, IfSome, IfOk, Ok, None, OnOk, OnErr, true};
+ghost use Rattle.std.specs.Prelude.{◌≡◌, ◌≢◌, ◌≤◌, ◌∷◌, ◌++◌, ℕ, List, [], length, IfSome, IfOk, Ok, None, OnOk, OnErr, true};
 ghost use Rattle.std.specs.List.{list_any};
 ghost use Rattle.std.specs.Cow.{cow_slice_items};
 ghost use Rattle.std.specs.Io.KnownBytes.{Appends};
@@ -118,12 +118,43 @@ impl Field<'_> {
         !self.is_csv || outside == are_closed(bytes)
     }
 
+    /// Returns the start and the end of the field in a line whose fields one byte separates. None: it has fewer fields.
+    fn bounds_by_byte(&self, delimiter: u8, line: &[u8]) -> Option<(usize, usize)>
+        requires { self.now.delimiter.now ≡ delimiter ∷ [] }
+        ensures value { result ≡ bounds self.now line.now }
+        ensures ordered { IfSome result (λ bounds. bounds.0 ≤ bounds.1) }
+        ensures inside { IfSome result (λ bounds. bounds.1 ≤ length line.now) }
+    {
+        let mut start = 0;
+        let mut left = self.index;
+        let mut outside = true;
+        for at in 0..line.len() {
+            let separates = outside & (line[at] == delimiter);
+            outside = self.is_outside_after(outside, &line[at..at + 1]);
+            if !separates {
+                continue;
+            }
+            if left == 0 {
+                return Some((start, at));
+            }
+            left -= 1;
+            start = at + 1;
+        }
+        if left > 0 {
+            return None;
+        }
+        Some((start, line.len()))
+    }
+
     /// Returns the start and the end of the field in a line. None: the line has fewer fields.
     fn bounds(&self, line: &[u8]) -> Option<(usize, usize)>
         ensures value { result ≡ bounds self.now line.now }
         ensures ordered { IfSome result (λ bounds. bounds.0 ≤ bounds.1) }
         ensures inside { IfSome result (λ bounds. bounds.1 ≤ length line.now) }
     {
+        if let [delimiter] = self.delimiter {
+            return self.bounds_by_byte(*delimiter, line);
+        }
         let mut start = 0;
         let mut left = self.index;
         let mut outside = true;
