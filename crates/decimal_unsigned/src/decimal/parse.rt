@@ -111,22 +111,6 @@ pub fn lowest_of(text: &[u8]) -> Result<i16, ParseError>
     Ok(Scan::new(text)?.lowest())
 }
 
-/// The greatest number of digits that are collected before a list is made of them, which is then faster.
-const MAX_COLLECTED: usize = 32;
-
-/// Writes the digits of an ASCII text over those of a buffer from index `at`.
-#[inline]
-fn write_values(buffer: &mut [u8], at: usize, text: &[u8])
-    requires has_room { at + length text.now ≤ length buffer.old }
-    requires digits { AllDigits 10 text.now }
-    ensures { buffer.new ≡ take at buffer.old
-        ++ (map digit_value text.now ++ drop (at + length text.now) buffer.old) }
-{
-    for i in 0..text.len() {
-        buffer[at + i] = text[i] - b'0';
-    }
-}
-
 /// Makes the list of the digits of two ASCII texts.
 fn list_of_texts<D: DigitStore>(
     alloc: Global,
@@ -138,15 +122,8 @@ fn list_of_texts<D: DigitStore>(
     ensures ok { IfOk result (λ d. D.digits d ≡ map digit_value whole.now ++ map digit_value fraction.now) }
     ensures succeeds { length whole.now + length fraction.now ≤ D.L → IsOk result }
 {
-    let len = whole.len() + fraction.len();
-    if len <= MAX_COLLECTED {
-        let mut digits = [0; MAX_COLLECTED];
-        write_values(&mut digits, 0, whole);
-        write_values(&mut digits, whole.len(), fraction);
-        return D::from_digits(alloc, &digits[..len]);
-    }
     let mut list = D::empty(alloc);
-    list.reserve(len)?;
+    list.reserve(whole.len() + fraction.len())?;
     list.push_text(whole);
     list.push_text(fraction);
     Ok(list)
