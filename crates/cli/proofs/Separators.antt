@@ -279,14 +279,16 @@ module _ (field : Field) (line : List ℕ) (d : ℕ) (one : field.delimiter.now 
       }
 
   -- no byte is left: the field ends at the end of the line, or the line has fewer fields
-  module _ {start left at : ℕ} {before : Bool} (h : ByByte field line d start left before at) (end : at ≡ length line) where
-    pub by_byte_all : left ≡ 0 → bounds field line ≡ Some (start, length line)
-    by_byte_all none =
-        h.left_is ∙ ap (λ ms. slice_get (later field line start ms) left) (rest-end line d at end)
-        ∙ ap (slice_get (later field line start [])) none
+  module _
+      {start left at : ℕ} {before : Bool} (h : ByByte field line d start left before at) (end : at ≡ length line)
+    where
+      pub by_byte_all : left ≡ 0 → bounds field line ≡ Some (start, length line)
+      by_byte_all none =
+          h.left_is ∙ ap (λ ms. slice_get (later field line start ms) left) (rest-end line d at end)
+          ∙ ap (slice_get (later field line start [])) none
 
-    pub by_byte_none : 0 < left → bounds field line ≡ None
-    by_byte_none some =
-        let next : left ≡ suc (left - 1) = omega arith in
-        h.left_is ∙ ap (λ ms. slice_get (later field line start ms) left) (rest-end line d at end)
-        ∙ ap (slice_get (later field line start [])) next
+      pub by_byte_none : 0 < left → bounds field line ≡ None
+      by_byte_none some =
+          let next : left ≡ suc (left - 1) = omega arith in
+          h.left_is ∙ ap (λ ms. slice_get (later field line start ms) left) (rest-end line d at end)
+          ∙ ap (slice_get (later field line start [])) next

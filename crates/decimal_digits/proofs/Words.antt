@@ -109,7 +109,12 @@ kept n count u r fits few by e =
     let quotient = rw back at (number-div 16 count ns (word_below n) (omega arith)) in
     let out = take count ns ++ replicate k 0 in
     let size : length out ≡ 16 =
-    omega (arith, length-append (take count ns) (replicate k 0), length-take-le count ns (omega arith), length-replicate {A = ℕ} k 0) in
+    omega (
+      arith,
+      length-append (take count ns) (replicate k 0),
+      length-take-le count ns (omega arith),
+      length-replicate {A = ℕ} k 0,
+    ) in
     let below = append_below (take count ns) (replicate k 0) (below_take 16 count ns (word_below n)) (zeros_below k) in
     let number : n / 16 ^ k * 16 ^ k ≡ number_from_digits 16 out =
     ap (λ m. m / 16 ^ k * 16 ^ k) (word_number n fits) ∙ ap (λ m. m * 16 ^ k) quotient
@@ -208,7 +213,12 @@ packed ds n u r few e by result =
     let k = 16 - length ds in
     let out = low_nibbles ds ++ replicate k 0 in
     let size : length out ≡ 16 =
-    omega (arith, length-append (low_nibbles ds) (replicate k 0), length-map ds (λ (d : ℕ). d % 16), length-replicate {A = ℕ} k 0) in
+    omega (
+      arith,
+      length-append (low_nibbles ds) (replicate k 0),
+      length-map ds (λ (d : ℕ). d % 16),
+      length-replicate {A = ℕ} k 0,
+    ) in
     let below = append_below (low_nibbles ds) (replicate k 0) (low_below ds) (zeros_below k) in
     let number : n * 16 ^ k ≡ number_from_digits 16 out =
     ap (λ m. m * 16 ^ k) e ∙ sym (number_pad 16 k (low_nibbles ds)) in
@@ -386,7 +396,8 @@ join_text bytes len w v n text p few all e f g =
     let digits : All (λ d. d < 10) es = λ k d h.
     let l : k < length text = omega arith in
     omega (arith, get_or_default es k d 0 h, value_of text k l, ascii_at text all k l) in
-    rw (none, append-nil, size) at (join_pads bytes len len w v n es p (omega arith) (omega arith) digits e (text_at text v all f) g)
+    rw (none, append-nil, size) at
+    (join_pads bytes len len w v n es p (omega arith) (omega arith) digits e (text_at text v all f) g)
 
 -- the bytes of the first digits of a number, with zeros after them
 pub kept_pads : (number n len : ℕ) → IsPacked (leading_bytes number len) len

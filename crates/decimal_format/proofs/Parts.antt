@@ -1,6 +1,6 @@
 -- The text of a part: digits without a separator between them.
 use Rattle.std.proofs.Common.{◌≡◌, ℕ, suc, ◌+◌, ◌-◌, ◌<◌, ◌≤◌, List, [], ◌∷◌, ◌++◌, length, get_or, Option, refl, sym, ◌∙◌, ap, subst, arith, append_assoc, append-nil}
-use Rattle.std.specs.Prelude.{Bool, false, if◌then◌else◌, slice_index, slice_range, EachIndex, ℤ, pos, negsuc, ◌-ℤ◌, ◌<ℤ◌}
+use Rattle.std.specs.Prelude.{Bool, false, if◌then◌else◌, slice_index, slice_range, EachIndex, ℤ, pos, ◌-ℤ◌}
 use Rattle.std.proofs.lemmas.Int.{ints}
 use Rattle.std.proofs.lemmas.List.Edits.{length-between, get_or-between}
 use Rattle.std.proofs.lemmas.List.Concat.{flat_map-cons}
@@ -83,13 +83,6 @@ module _ (f : Formatted) where
       ++ (digits_text f.symbols (d ∷ ds) ++ separator_after f.symbols f.strategy f.value.absolute.hi x))
       (below_more below (length ds) ∙ ap (magnitude_of f) last)
 
-  -- fewer magnitudes without a separator between them
-  pub run_less : (below n k : ℕ) → k ≤ n → IsRun f below n → IsRun f below k
-  run_less below n k h run = record {
-    none_after = λ j l. run.none_after j (omega (arith, h, l));
-    none_before = λ j l. run.none_before j (omega (arith, h, l));
-  }
-
   -- a part, and then the next
   pub part_text-add : (below i j : ℕ) → part_text f below (i + j) ≡ part_text f below i ++ part_text f (below + i) j
   part_text-add below i j =
@@ -160,11 +153,6 @@ module _ (f : Formatted) where
       let at : magnitude_of f (below + n - 1) ≡ pos (m - (n - 1)) = omega (arith, ints, is, some, within) in
       ap (λ b. if b then f.symbols.grouping else []) (sym test)
       ∙ ap (separator_after f.symbols f.strategy f.value.absolute.hi) (sym at)
-
-  -- no grouping separator is after a fraction digit
-  pub fraction_after : (m : ℤ) → m <ℤ pos 0 → separator_after f.symbols f.strategy f.value.absolute.hi m ≡ []
-  fraction_after (pos k) h = absurd (omega (arith, ints, h))
-  fraction_after (negsuc k) h = refl
 
   -- the digits that `write_digits` writes
   pub digits_from : (below : ℕ) (m : ℤ) (number : ℕ) (bytes : List ℕ) → m ≡ magnitude_of f below

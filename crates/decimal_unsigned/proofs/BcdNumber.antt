@@ -2,6 +2,7 @@
 -- fours, and so on. A lane of w bits holds a number below c.
 use Rattle.decimal_unsigned.proofs.Common.{◌≡◌, ℕ, zero, suc, ◌+◌, ◌-◌, ◌*◌, ◌/◌, ◌%◌, ◌^◌, ◌<◌, ◌≤◌, List, length, get_or, take, refl, sym, ◌∙◌, ap, arith, number_from_digits, AllBelowBase, take_all}
 use Rattle.std.specs.Prelude.{bit_and}
+use Rattle.std.proofs.Math.Nat.{zero-div, zero-mod}
 use Rattle.std.proofs.lemmas.Nat.{and_block, and_mask, and_le_r, div-mul-add, mod-mul-add}
 use Rattle.std.proofs.lemmas.Int.Digits.{number_more}
 use Rattle.std.proofs.lemmas.List.Elements.{All-from_recursion}
@@ -112,29 +113,29 @@ four_lanes = record {
 
 -- ---- the digits of a list
 -- no digits write 0
-value_none : (k : ℕ) → value 16 10 k 0 ≡ 0
+value_none : (b c k : ℕ) → value b c k 0 ≡ 0
 unfolding value
-value_none zero = refl
-value_none (suc k) = ap (λ v. v * 10 + 0) (value_none k)
+value_none b c zero = refl
+value_none b c (suc k) = rw (zero-div b, zero-mod b, value_none b c k) (omega arith)
 
 -- the digits up to one
-value_front : (ds : List ℕ) → AllBelowBase 16 ds → (i k : ℕ) → i ≤ length ds → i ≤ k
-    → value 16 10 k (number_from_digits 16 (take i ds)) ≡ number_from_digits 10 (take i ds)
+pub value_front : (b c : ℕ) (ds : List ℕ) → AllBelowBase b ds → (i k : ℕ) → i ≤ length ds → i ≤ k
+    → value b c k (number_from_digits b (take i ds)) ≡ number_from_digits c (take i ds)
 unfolding value
-value_front ds h zero k l m = value_none k
-value_front ds h (suc i) zero l m = absurd (omega arith)
-value_front ds h (suc i) (suc k) l m =
+value_front b c ds h zero k l m = value_none b c k
+value_front b c ds h (suc i) zero l m = absurd (omega arith)
+value_front b c ds h (suc i) (suc k) l m =
     let d = get_or ds i 0 in
-    let n = number_from_digits 16 (take i ds) in
-    let below : d < 16 = All-from_recursion (λ x. x < 16) ds h i 0 l in
+    let n = number_from_digits b (take i ds) in
+    let below : d < b = All-from_recursion (λ x. x < b) ds h i 0 l in
     let one : suc i ≡ i + 1 = omega arith in
     rw (
       one,
-      number_more 16 ds i l,
-      number_more 10 ds i l,
-      div-mul-add n 16 d below,
-      mod-mul-add n 16 d below,
-      value_front ds h i k (omega arith) (omega arith),
+      number_more b ds i l,
+      number_more c ds i l,
+      div-mul-add n b d below,
+      mod-mul-add n b d below,
+      value_front b c ds h i k (omega arith) (omega arith),
     ) refl
 
 -- ---- the four steps
@@ -174,4 +175,4 @@ module _ (n : ℕ) (h : n < 2 ^ 64) where
   joined_all ds b few is =
       let whole = take_all (length ds) ds (omega arith) in
       result ∙ ap (value 16 10 16) (is ∙ ap (number_from_digits 16) (sym whole))
-      ∙ value_front ds b (length ds) 16 (omega arith) few ∙ ap (number_from_digits 10) whole
+      ∙ value_front 16 10 ds b (length ds) 16 (omega arith) few ∙ ap (number_from_digits 10) whole

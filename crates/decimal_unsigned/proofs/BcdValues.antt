@@ -28,7 +28,7 @@ use Rattle.decimal_unsigned.specs.declared.decimal.parse.plan.Plan.{Plan}
 use Rattle.decimal_unsigned.proofs.Middle.{middle_length, middle_below, number_middle}
 use Rattle.decimal_unsigned.proofs.Exponents.{read_some, digits_some}
 use Rattle.decimal_unsigned.proofs.Numerals.{value_of_digit, prefix_len-run, digits_left, digits_right}
-use Rattle.decimal_unsigned.proofs.PlainTexts.{digits_fit}
+use Rattle.decimal_unsigned.proofs.PlainTexts.{after_append, digits_fit}
 use Rattle.decimal_unsigned.proofs.Plans.{all_digits, length_digits, makes_zero, makes_plain, is_plan_at}
 
 -- ---- The loop over a text.
@@ -56,11 +56,6 @@ number_more before number i text h d e =
 -- the number of the integer digits and then the fraction digits in base 16, modulo 2 ^ 64
 abbrev in_base_16 : List ℕ → List ℕ → ℕ
 in_base_16 whole fraction = digits_value_after 16 (digits_value 16 whole) fraction % 2 ^ 64
-
-after_append : (n : ℕ) (xs ys : List ℕ)
-    → digits_value_after 16 n (xs ++ ys) ≡ digits_value_after 16 (digits_value_after 16 n xs) ys
-after_append n [] ys = refl
-after_append n (x ∷ xs) ys = after_append (n * 16 + digit_value x) xs ys
 
 after_mod : (n : ℕ) (text : List ℕ)
     → digits_value_after 16 (n % 2 ^ 64) text % 2 ^ 64 ≡ digits_value_after 16 n text % 2 ^ 64
@@ -267,8 +262,8 @@ module _ (text : List ℕ) (whole : ℕ) (digits : whole ≡ prefix_len is_ascii
       at_drop_more (λ x. x) text whole 0 in_text ∙ (rw byte refl) in
       rw (sym digits, point) (after_whole_point (take whole text) (drop (whole + 1) text) some all)
 
--- up to seven bytes
-module _ (text : List ℕ) (whole number : ℕ) (few : length text ≤ 7) (digits : whole ≡ prefix_len is_ascii_digit text)
+-- up to eleven bytes, byte by byte
+module _ (text : List ℕ) (whole number : ℕ) (few : length text ≤ 11) (digits : whole ≡ prefix_len is_ascii_digit text)
     (numbered : number ≡ digits_value 16 (take whole text) % 2 ^ 64) where
   few_digits : length (take whole text ++ drop (whole + 1) text) ≤ 16
   few_digits =
@@ -325,7 +320,7 @@ module _ (text : List ℕ) (whole number : ℕ) (few : length text ≤ 7) (digit
             (n ∙ ap (λ t. digits_value_after 16 number t % 2 ^ 64) (take_all fraction rest all))));
       }
 
--- at least eight bytes
+-- eight bytes at a time
 all_counted : (text : List ℕ) → AllDigits 10 text → prefix_len is_ascii_digit text ≡ length text
 all_counted text h =
     ap (prefix_len is_ascii_digit) (sym (append-nil text)) ∙ omega (arith, prefix_len-run text [] h)

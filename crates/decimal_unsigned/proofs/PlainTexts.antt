@@ -31,7 +31,7 @@ value_after n (c ∷ cs) =
     let p : 16 ^ length (c ∷ cs) ≡ 16 ^ length cs * 16 = pow-suc 16 (length cs) in
     value_after (n * 16 + d) cs ∙ (rw (e, p) (omega arith))
 
-after_append : (n : ℕ) (a b : List ℕ)
+pub after_append : (n : ℕ) (a b : List ℕ)
     → digits_value_after 16 n (a ++ b) ≡ digits_value_after 16 (digits_value_after 16 n a) b
 after_append n [] b = refl
 after_append n (c ∷ a) b = after_append (n * 16 + digit_value c) a b

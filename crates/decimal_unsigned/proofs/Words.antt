@@ -8,7 +8,7 @@ use Rattle.std.proofs.lemmas.List.Elements.{All-append, All-from_recursion, recu
 use Rattle.std.proofs.lemmas.Str.{digit_value_digit}
 use Rattle.decimal_digits.proofs.DigitLists.{number-div, number_split, number_after, number-drop-lt}
 use Rattle.decimal_unsigned.specs.PlainTexts.{bytes_below, zeros, without, is_point, IsGroup}
-use Rattle.decimal_unsigned.proofs.BcdNumber.{Lanes, joined, value, mask, top, stepped, value_joined}
+use Rattle.decimal_unsigned.proofs.BcdNumber.{Lanes, joined, value, value_front, mask, top, stepped, value_joined}
 
 -- ---- The bytes that are below ten.
 -- the high nibble of each of k bytes
@@ -136,6 +136,10 @@ digits_of_word text word all y h few w z e b =
     )
 
 -- ---- The number in base 16.
+bytes_wider : (ds : List ℕ) → AllBelowBase 16 ds → AllBelowBase 256 ds
+bytes_wider [] h = tt
+bytes_wider (d ∷ ds) h = (omega (arith, h.0), bytes_wider ds h.1)
+
 byte_lanes : Lanes 8 16
 byte_lanes = record {
   parts = λ n. omega arith;
@@ -157,30 +161,6 @@ two_lanes = record {
   step = λ n j e h. omega arith;
   fits = λ n. omega arith;
 }
-
-value_none : (k : ℕ) → value 256 16 k 0 ≡ 0
-unfolding value
-value_none zero = refl
-value_none (suc k) = ap (λ v. v * 16 + 0) (value_none k)
-
-value_front : (ds : List ℕ) → AllBelowBase 16 ds → (i k : ℕ) → i ≤ length ds → i ≤ k
-    → value 256 16 k (number_from_digits 256 (take i ds)) ≡ number_from_digits 16 (take i ds)
-unfolding value
-value_front ds h zero k l m = value_none k
-value_front ds h (suc i) zero l m = absurd (omega arith)
-value_front ds h (suc i) (suc k) l m =
-    let d = get_or ds i 0 in
-    let n = number_from_digits 256 (take i ds) in
-    let below : d < 16 = All-from_recursion (λ x. x < 16) ds h i 0 l in
-    let one : suc i ≡ i + 1 = omega arith in
-    rw (
-      one,
-      number_more 256 ds i l,
-      number_more 16 ds i l,
-      div-mul-add n 256 d (omega arith),
-      mod-mul-add n 256 d (omega arith),
-      value_front ds h i k (omega arith) (omega arith),
-    ) refl
 
 module _ (n : ℕ) (h : n < 2 ^ 64) where
   abbrev pub pairs : ℕ
@@ -207,7 +187,7 @@ module _ (n : ℕ) (h : n < 2 ^ 64) where
   packed_digits ds b few is =
       let whole = take_all (length ds) ds (omega arith) in
       packed_is ∙ ap (value 256 16 8) (is ∙ ap (number_from_digits 256) (sym whole))
-      ∙ value_front ds b (length ds) 8 (omega arith) few ∙ ap (number_from_digits 16) whole
+      ∙ value_front 256 16 ds (bytes_wider ds b) (length ds) 8 (omega arith) few ∙ ap (number_from_digits 16) whole
 
 -- ---- Groups.
 -- bytes that are digits

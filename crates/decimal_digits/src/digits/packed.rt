@@ -24,9 +24,9 @@ use words::keep_nibbles;
 
 /// A list of digits as packed BCD, two digits to a byte, of which up to sixteen need no allocation.
 ///
-/// The digit at index `i` is in byte `i / 2`, in the high nibble if `i` is even. There are at least eight bytes, and all
-/// nibbles after the digits are 0. The list that `from_digits` makes of 2, 5 and 0 has the bytes 0x25 and seven times
-/// 0x00, and needs no allocation.
+/// The digit at index `i` is in byte `i / 2`, in the high nibble if `i` is even. There are at least eight bytes, and
+/// the nibbles after the digits are 0. The list that `from_digits` makes of 2, 5 and 0 has the byte 0x25 and seven
+/// bytes 0x00, and needs no allocation.
 #[derive(Debug)]
 pub struct PackedDigits {
     bytes: SmallVec<u8, 8>,
@@ -165,13 +165,15 @@ impl DigitStore for PackedDigits {
     }
 
     fn truncate(&mut self, count: usize) {
-        keep_digits(&mut self.bytes, self.len, count);
+        let len = self.len;
         self.len = count;
+        keep_digits(&mut self.bytes, len, count);
     }
 
     fn cut_front(&mut self, count: usize) {
-        cut_digits(&mut self.bytes, self.len, count);
-        self.len -= count;
+        let len = self.len;
+        self.len = len - count;
+        cut_digits(&mut self.bytes, len, count);
     }
 
     fn clear(&mut self) {

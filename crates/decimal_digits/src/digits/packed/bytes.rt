@@ -255,6 +255,7 @@ fn cut_some(bytes: &mut SmallVec<u8, 8>, len: usize, count: usize)
 }
 
 /// Removes the first `count` digits, byte by byte.
+#[inline]
 fn cut_bytes(bytes: &mut SmallVec<u8, 8>, len: usize, count: usize)
     requires padded { IsPadded bytes.old.items len }
     requires in_range { count ≤ len }

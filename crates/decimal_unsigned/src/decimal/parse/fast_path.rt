@@ -15,6 +15,9 @@ use decimal_digits::ops::subtract_counts;
 /// The length of sixteen digits and a decimal point.
 const MAX_SHORT_LEN: usize = 17;
 
+/// The least length of a text that is read eight bytes at a time: a shorter one is read faster byte by byte.
+const MIN_GROUPED_LEN: usize = 12;
+
 /// The length of 32 digits and a decimal point.
 const MAX_PLAIN_LEN: usize = 33;
 
@@ -69,10 +72,10 @@ fn count_digits(before: u64, text: &[u8]) -> (usize, u64)
     (text.len(), number)
 }
 
-/// Returns the digits of a text of up to seven bytes, byte by byte.
+/// Returns the digits of a text of up to eleven bytes, byte by byte.
 #[inline]
 fn few_digits(text: &[u8]) -> Option<PlainText>
-    requires { length text.now ≤ 7 }
+    requires { length text.now ≤ 11 }
     ensures { IfSome result (IsPlainText text.now) }
 {
     let (whole, number) = count_digits(0, text);
@@ -108,17 +111,10 @@ fn first_group(text: &[u8], count: usize) -> Option<Prefix>
     let bytes = text.first_chunk::<8>()?;
     let unused = 8 * (8 - count);
     let first = read_group(u64::from_be_bytes(*bytes) >> unused, ZEROS >> unused)?;
-    let number = first.number as u128;
-    match first.fraction {
-        None => Some(Prefix {
-            number,
-            fraction: None,
-        }),
-        Some(fraction) => Some(Prefix {
-            number,
-            fraction: Some(fraction as usize),
-        }),
-    }
+    Some(Prefix {
+        number: first.number as u128,
+        fraction: first.fraction,
+    })
 }
 
 /// Appends a group of eight bytes to a prefix. None if there are two decimal points.
@@ -140,7 +136,7 @@ fn append_group(prefix: Prefix, next: Group) -> Option<Prefix>
         }),
         (None, Some(fraction)) => Some(Prefix {
             number: (prefix.number << 28).wrapping_add(digits),
-            fraction: Some(fraction as usize),
+            fraction: Some(fraction),
         }),
         (Some(_), Some(_)) => None,
     }
@@ -164,12 +160,13 @@ fn many_digits(text: &[u8]) -> Option<Prefix>
 }
 
 /// Returns the digits of a text of up to 32 digits, with or without a decimal point, or None of any other text.
-#[inline]
+// Inlined always: returned from a call, the digits of a short text would pass through memory.
+#[inline(always)]
 fn plain_text(text: &[u8]) -> Option<PlainText>
     requires { length text.now ≤ 33 }
     ensures { IfSome result (IsPlainText text.now) }
 {
-    if text.len() < 8 {
+    if text.len() < MIN_GROUPED_LEN {
         return few_digits(text);
     }
     let Prefix { number, fraction } = many_digits(text)?;

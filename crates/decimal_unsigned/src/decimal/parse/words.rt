@@ -11,7 +11,7 @@ pub const ZEROS: u64 = 0x3030_3030_3030_3030;
 #[derive(Clone, Copy, Debug)]
 pub struct Group {
     pub number: u64,
-    pub fraction: Option<u32>,
+    pub fraction: Option<usize>,
 }
 
 /// Returns 0 if each byte is below ten. Else the lowest bit of the result is in the last byte that is not.
@@ -52,7 +52,7 @@ pub fn read_group(word: u64, all_zeros: u64) -> Option<Group>
             fraction: None,
         });
     }
-    let following = flags.trailing_zeros() / 8;
+    let following = (flags.trailing_zeros() / 8) as usize;
     let front = word >> (8 * following);
     if front % 256 != u64::from(b'.') {
         return None;

@@ -6,27 +6,29 @@ pub returns-then-is_empty-2-clause-none : goal.returns-then-is_empty-2-clause-no
 returns-then-is_empty-2-clause-none c = λ ds all e.
     let s = c.args.self.now in
     let digits = c.in_ok-digits.digits.now in
-    let code : c.as_bytes.result.now ≡ s.decimal = c.as_bytes.ensures.value ∙ c.decimal_separator.ensures.value in
-    let r = fraction_rest s ds c.args.text.now digits (some_is c.args.text.now c.if-is_empty.ensures) e
-    (c.in_ok-digits.ensures ∙ ap (λ l. l ++ digits) code) in
+    let begins : c.args.text.now ≡ s.decimal ++ digits =
+    c.in_ok-digits.ensures ∙ ap (λ l. l ++ digits) (c.as_bytes.ensures.value ∙ c.decimal_separator.ensures.value) in
+    let r = fraction_rest s ds c.args.text.now digits (some_is c.args.text.now c.if-is_empty.ensures) e begins in
     fraction_none s c.requires ds all r.0 (sym r.1 ∙ empty_is digits c.if-is_empty-2.ensures)
 
 pub returns-clause-found : goal.returns-clause-found
 returns-clause-found c =
     let s = c.args.self.now in
     let digits = c.in_ok-digits.digits.now in
-    let code : c.as_bytes.result.now ≡ s.decimal = c.as_bytes.ensures.value ∙ c.decimal_separator.ensures.value in
+    let begins : c.args.text.now ≡ s.decimal ++ digits =
+    c.in_ok-digits.ensures ∙ ap (λ l. l ++ digits) (c.as_bytes.ensures.value ∙ c.decimal_separator.ensures.value) in
     if_some_weaker c.read_last_digits.result _ _
     (λ count. fraction_found s c.args.text.now digits count c.args.plain.now c.push.new.self
-    c.read_last_digits.new.plain (c.in_ok-digits.ensures ∙ ap (λ l. l ++ digits) code) (some_is digits c.if-is_empty-2.ensures) c.push.ensures)
+    c.read_last_digits.new.plain begins (some_is digits c.if-is_empty-2.ensures) c.push.ensures)
     c.read_last_digits.ensures.found
 
 pub returns-clause-none : goal.returns-clause-none
 returns-clause-none c =
     let s = c.args.self.now in
     let digits = c.in_ok-digits.digits.now in
-    let code : c.as_bytes.result.now ≡ s.decimal = c.as_bytes.ensures.value ∙ c.decimal_separator.ensures.value in
+    let begins : c.args.text.now ≡ s.decimal ++ digits =
+    c.in_ok-digits.ensures ∙ ap (λ l. l ++ digits) (c.as_bytes.ensures.value ∙ c.decimal_separator.ensures.value) in
     if_none_weaker c.read_last_digits.result _ _
     (λ none ds all e. none ds all (fraction_rest s ds c.args.text.now digits
-    (some_is c.args.text.now c.if-is_empty.ensures) e (c.in_ok-digits.ensures ∙ ap (λ l. l ++ digits) code)).1)
+    (some_is c.args.text.now c.if-is_empty.ensures) e begins).1)
     c.read_last_digits.ensures.none

@@ -16,5 +16,6 @@ returns-clause-encodes c =
     (rw size at (join_pads c.args.bytes.now.items c.args.len c.args.start c.front_word.result c.front_word-2.result
     c.join_nibbles-word.result _ c.requires.padded c.requires.after (omega (arith, c.requires.few, size)) q.decimal
     (rw c.as_slice.ensures at c.front_word.ensures)
-    (few_at c.args.other.now c.args.count c.front_word-2.result q (omega (arith, c.requires.few)) c.front_word-2.ensures)
+    (few_at c.args.other.now c.args.count c.front_word-2.result q (omega (arith, c.requires.few))
+    c.front_word-2.ensures)
     c.join_nibbles-word.ensures))

@@ -9,6 +9,7 @@ pub returns-clause-encodes : goal.returns-clause-encodes
 returns-clause-encodes c =
     let p = c.requires.padded in
     let size = ap length c.set_nibble.ensures.written in
-    pads _ _ _ (omega (arith, p.count, simp (length-nibbles, length-set) at size)) (grind (arith, nibble_rules, padding))
+    pads _ _ _ (omega (arith, p.count, simp (length-nibbles, length-set) at size))
+    (grind (arith, nibble_rules, padding))
     (λ k. grind (arith, nibble_rules, padding, digit_at _ _ p k, ap (λ l. get_or l k 0) c.set_nibble.ensures.written))
     (λ k h. grind (arith, nibble_rules, padding, digit_at _ _ p k, digit_lt _ _ p k))

@@ -14,7 +14,8 @@ returns-in-Some c =
     rw (last, get_or-drop) (c.type_inv.bytes (n + i)).fits in
     let eight : length end ≡ 8 = omega (arith, ap length last, length-drop n bs, c.requires.enough) in
     let word =
-    word_of_bytes end c.from_be_bytes.result eight small c.from_be_bytes.ensures ∙ ap nibbles last ∙ nibbles_drop n bs in
+    word_of_bytes end c.from_be_bytes.result eight small c.from_be_bytes.ensures
+    ∙ ap nibbles last ∙ nibbles_drop n bs in
     let k = 16 - 2 * c.args.count in
     let at : 2 * n + k ≡ 2 * (length bs - c.args.count) = omega (arith, c.requires.enough, c.requires.few) in
     c.cut_nibbles.ensures

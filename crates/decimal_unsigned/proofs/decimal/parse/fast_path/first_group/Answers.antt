@@ -1,10 +1,9 @@
-use Rattle.decimal_unsigned.proofs.Common.{◌≡◌, ℕ, ◌<◌, get_or, length, take, subst, Some, None, arith}
-use Rattle.decimal_unsigned.specs.PlainTexts.{IsGroup, IsPrefix}
+use Rattle.decimal_unsigned.proofs.Common.{ℕ, ◌<◌, get_or, take, arith}
 use Rattle.decimal_unsigned.proofs.PlainTexts.{first_prefix, first_below, first_count, first_word, first_zeros}
 use Rattle.decimal_unsigned.proofs.decimal.parse.fast_path.first_group.Goals as goal
 
-pub returns-in-None : goal.returns-in-None
-returns-in-None c =
+pub returns : goal.returns
+returns c =
     let text = c.args.text.now in
     let bs = c.in_ok-bytes.bytes.now in
     let n = c.from_be_bytes.result in
@@ -17,22 +16,4 @@ returns-in-None c =
     (omega arith)
     (first_word text bs c.args.count n below c.requires.enough c.requires.few same c.from_be_bytes.ensures)
     (first_zeros text bs c.args.count n below c.requires.enough c.requires.few same c.from_be_bytes.ensures) in
-    subst (λ f. IsPrefix (take c.args.count text) (record { number = c.in_ok-first.first.number; fraction = f }))
-    c.in-None.is (first_prefix (take c.args.count text) c.in_ok-first.first (omega arith) k)
-
-pub returns-in-Some : goal.returns-in-Some
-returns-in-Some c =
-    let text = c.args.text.now in
-    let bs = c.in_ok-bytes.bytes.now in
-    let n = c.from_be_bytes.result in
-    let below : (i : ℕ) → get_or text i 0 < 256 = λ i. (c.type_inv.text i).fits in
-    let same = c.in_ok-bytes.ensures.cases.same in
-    let few = first_count text bs c.args.count n below c.requires.enough c.requires.few same c.from_be_bytes.ensures in
-    let k =
-    c.in_ok-first.ensures.digits (take c.args.count text)
-    (first_below text bs c.args.count n below c.requires.enough c.requires.few same c.from_be_bytes.ensures)
-    (omega arith)
-    (first_word text bs c.args.count n below c.requires.enough c.requires.few same c.from_be_bytes.ensures)
-    (first_zeros text bs c.args.count n below c.requires.enough c.requires.few same c.from_be_bytes.ensures) in
-    subst (λ f. IsPrefix (take c.args.count text) (record { number = c.in_ok-first.first.number; fraction = f }))
-    c.in-Some.is (first_prefix (take c.args.count text) c.in_ok-first.first (omega arith) k)
+    first_prefix (take c.args.count text) c.in_ok-first.first (omega arith) k
