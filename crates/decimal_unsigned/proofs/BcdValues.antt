@@ -9,9 +9,9 @@ use Rattle.std.proofs.lemmas.Nat.Bits.{bit_at_above, bit_at-trailing_zeros}
 use Rattle.std.proofs.lemmas.List.{drop-drop, drop_all, at_drop_more}
 use Rattle.std.proofs.lemmas.List.Sums.{prefix_len-le-length, prefix_len-drop_no}
 use Rattle.std.proofs.lemmas.Int.Digits.{number_more as number_more_digits, all_below_base_from_digits}
-use Rattle.decimal_digits.specs.Nibbles.{leading_bytes}
+use Rattle.decimal_digits.specs.Nibbles.{digits_in, leading_bytes}
 use Rattle.decimal_digits.specs.Ascii.{decimal_point}
-use Rattle.decimal_digits.specs.Packing.{Encodes, length_digits as length_digits_in}
+use Rattle.decimal_digits.specs.Packing.{Encodes, length-nibbles}
 use Rattle.decimal_digits.proofs.DigitLists.{below_at, number-div}
 use Rattle.decimal_digits.proofs.LeadingBytes.{hex_pow, leading_bytes_encode}
 use Rattle.decimal_unsigned.specs.Parts.{saturated_parts}
@@ -379,7 +379,9 @@ plain_prefix_point text number n p some few =
 pub wide_allocates : (reading : Result Unsigned ReadError) (bytes : List ℕ) (len most : ℕ) (b : Bounds)
     → IsBcdValue reading bytes len b → ¬ (len ≤ most) → IsOkAnd reading (λ v. most < size v.number)
 wide_allocates reading bytes len most b h more =
-    rw h.value (omega (arith, more, size-number_of h.stored, length_digits_in bytes len h.packed))
+    let count : length (digits_in bytes len) ≡ len =
+    simp (length-take, length-nibbles) (omega (arith, h.packed.count)) in
+    rw h.value (omega (arith, more, size-number_of h.stored, count))
 
 -- ---- The value of a plain text.
 made : (w : Literal) (p : Plan) (bytes : List ℕ) (len : ℕ) → IsPlan w p → Encodes bytes len (planned_digits w p)
