@@ -1,4 +1,4 @@
--- Short texts: up to sixteen digits as a number in base 16, and the value of their parts.
+-- Plain texts: their digits as a number in base 16, and the value of their parts.
 use Rattle.decimal_unsigned.proofs.Common.{clamps, nat_tests, common_steps, ◌≡◌, ℕ, zero, suc, ◌+◌, ◌-◌, ◌*◌, ◌/◌, ◌%◌, ◌^◌, ◌<◌, ◌≤◌, inl, inr, true, List, [], ◌∷◌, ◌++◌, length, get_or, take, drop, take_all, map, refl, sym, ◌∙◌, ap, subst, arith, Some, None, option_map, Result, Ok, pos, ◌-ℤ◌, mul-lt-mul_of_pos_right, pow-le-pow_right, cases_lt, ints, pow-add, append-nil, take-append-drop, length-append, length-drop, length-take, length-take-le, length-map, number_lt, digits_value_is, is_ascii_digit, prefix_len, digit_value, number_from_digits, AllBelowBase, AllDigits, digits_value, Literal, value_of, middle, IsNonzeroRange, pow-suc, mod-eq_of_lt, digits_value_after, below_sixteen}
 use mir.Val.{bits}
 use Rattle.std.specs.Int.{Width, bit_at, leading_zeros, trailing_zeros}
@@ -20,7 +20,7 @@ use Rattle.decimal_digits.specs.Number.{size}
 use Rattle.decimal_unsigned.specs.Unsigned.{Unsigned}
 use Rattle.decimal_unsigned.specs.Reading.{ReadError, parts_of, after_whole, after_fraction, read}
 use Rattle.decimal_unsigned.proofs.Values.{size-number_of}
-use Rattle.decimal_unsigned.specs.PlainTexts.{IsPlainText, IsPrefix, plain_parts, without}
+use Rattle.decimal_unsigned.specs.PlainTexts.{IsPlainText, IsPrefix, plain_parts}
 use Rattle.decimal_unsigned.specs.ScannedDigits.{digits_of, planned_digits, value_within, IsPlan, IsBcdValue}
 use Rattle.decimal_unsigned.specs.declared.decimal.parse.fast_path.PlainText.{PlainText}
 use Rattle.decimal_unsigned.specs.declared.decimal.parse.plan.Bounds.{Bounds}

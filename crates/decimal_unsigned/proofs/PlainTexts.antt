@@ -1,19 +1,14 @@
 -- Texts of digits, with or without a decimal point, eight bytes at a time.
-use Rattle.decimal_unsigned.proofs.Common.{◌≡◌, ℕ, zero, suc, ◌+◌, ◌-◌, ◌*◌, ◌/◌, ◌%◌, ◌^◌, ◌<◌, ◌≤◌, true, false, List, [], ◌∷◌, ◌++◌, length, get_or, take, drop, take_all, replicate, refl, sym, ◌∙◌, ap, subst, arith, Option, Some, None, length-append, length-drop, length-take-le, take-append-drop, number_from_digits, AllBelowBase, AllDigits, digits_value, digits_value_after, digit_value, is_ascii_digit, prefix_len, pow-suc, mod-eq_of_lt, below_take, parts_of, nat_tests, map, pow-le-pow_right, length-map, digits_value_is, number_lt, below_sixteen}
+use Rattle.decimal_unsigned.proofs.Common.{◌≡◌, ℕ, zero, suc, ◌+◌, ◌-◌, ◌*◌, ◌/◌, ◌%◌, ◌^◌, ◌<◌, ◌≤◌, List, [], ◌∷◌, ◌++◌, length, get_or, take, drop, replicate, refl, sym, ◌∙◌, ap, subst, arith, Option, Some, None, length-append, length-drop, length-take-le, number_from_digits, AllBelowBase, AllDigits, digits_value, digits_value_after, digit_value, pow-suc, mod-eq_of_lt, below_take, map, pow-le-pow_right, length-map, digits_value_is, number_lt, below_sixteen}
 use Rattle.std.specs.Int.{w64, from_be_bytes}
 use Rattle.std.proofs.Common.{append_assoc}
-use Rattle.std.proofs.Math.Seq.{take-add}
 use Rattle.std.proofs.lemmas.Nat.{mul-mod_first}
-use Rattle.std.proofs.lemmas.List.{take-take, take-append-le, drop-append-le, get_or_append_left, get_or-append_right, drop_all, drop-drop}
-use Rattle.std.proofs.lemmas.List.Sums.{prefix_len-drop_no}
+use Rattle.std.proofs.lemmas.List.{take-take, take-append-le, drop-append-le, get_or_append_left, get_or-append_right}
 use Rattle.std.proofs.lemmas.Int.Digits.{all_below_base_from_digits}
 use Rattle.decimal_digits.proofs.DigitLists.{number-div}
-use Rattle.decimal_digits.specs.Ascii.{decimal_point}
-use Rattle.decimal_unsigned.specs.PlainTexts.{zeros, without, is_point, IsGroup, IsPrefix, IsPlainText, plain_parts}
-use Rattle.decimal_unsigned.specs.declared.decimal.parse.fast_path.PlainText.{PlainText}
+use Rattle.decimal_unsigned.specs.PlainTexts.{zeros, without, is_point, IsGroup, IsPrefix}
 use Rattle.decimal_unsigned.specs.declared.decimal.parse.fast_path.Prefix.{Prefix}
 use Rattle.decimal_unsigned.specs.declared.decimal.parse.words.Group.{Group}
-use Rattle.decimal_unsigned.proofs.Numerals.{prefix_len-run}
 use Rattle.decimal_unsigned.proofs.Words.{byte_pow}
 
 -- ---- Two texts after each other.

@@ -1,13 +1,13 @@
 -- Texts of up to eight bytes as big-endian numbers: which of them are digits, and their number in base 16.
-use Rattle.decimal_unsigned.proofs.Common.{nat_tests, rules, min, All, ◌≡◌, ℕ, zero, suc, ◌+◌, ◌-◌, ◌*◌, ◌/◌, ◌%◌, ◌^◌, ◌<◌, ◌≤◌, List, [], ◌∷◌, ◌++◌, length, get_or, take, drop, take_all, map, replicate, refl, sym, ◌∙◌, ap, subst, arith, Some, None, inl, inr, cases_lt, length-append, length-drop, length-take-le, length-map, number_lt, digits_value_is, digit_value, number_from_digits, AllBelowBase, AllDigits, digits_value, pow-suc, pow-add, pow-le-pow_right, mod-eq_of_lt, below_take, below_drop, below_sixteen}
+use Rattle.decimal_unsigned.proofs.Common.{rules, ◌≡◌, ℕ, zero, suc, ◌+◌, ◌-◌, ◌*◌, ◌/◌, ◌%◌, ◌^◌, ◌<◌, ◌≤◌, List, [], ◌∷◌, length, get_or, take, drop, take_all, map, refl, sym, ◌∙◌, ap, subst, arith, Some, inl, inr, cases_lt, length-append, length-drop, length-take-le, length-map, number_lt, digits_value_is, digit_value, number_from_digits, AllBelowBase, AllDigits, digits_value, pow-suc, pow-le-pow_right, mod-eq_of_lt, below_take, below_drop, below_sixteen}
 use Rattle.std.specs.Prelude.{bit_and, bit_or}
-use Rattle.std.proofs.Math.Nat.{mul-le-mul_right, div-eq_of_lt-le, one-le-pow}
-use Rattle.std.proofs.lemmas.Nat.{div-mul-add, mod-mul-add, and_block, and_mask, or_block, or_of_8, le_or_l, le_or_r}
+use Rattle.std.proofs.Math.Nat.{div-eq_of_lt-le}
+use Rattle.std.proofs.lemmas.Nat.{and_block, and_mask, or_block, or_of_8, le_or_l, le_or_r}
 use Rattle.std.proofs.lemmas.Int.Digits.{number_more, digits_value_more, digits_more, all_below_base_from_digits, number_after_append}
 use Rattle.std.proofs.lemmas.List.Elements.{All-append, All-from_recursion, recursion_from_All}
 use Rattle.std.proofs.lemmas.Str.{digit_value_digit}
-use Rattle.decimal_digits.proofs.DigitLists.{number-div, number_split, number_after, number-drop-lt}
-use Rattle.decimal_unsigned.specs.PlainTexts.{bytes_below, zeros, without, is_point, IsGroup}
+use Rattle.decimal_digits.proofs.DigitLists.{number-div, number_split, number_after}
+use Rattle.decimal_unsigned.specs.PlainTexts.{bytes_below, zeros, without}
 use Rattle.decimal_unsigned.proofs.BcdNumber.{Lanes, joined, value, value_front, mask, top, stepped, value_joined}
 
 -- ---- The bytes that are below ten.

@@ -1,6 +1,6 @@
 -- Private: used only in the contracts of private functions.
 -- Texts of digits, with or without a decimal point, eight bytes at a time.
-use Rattle.std.specs.Prelude.{◌≡◌, ℕ, zero, suc, ◌+◌, ◌-◌, ◌/◌, ◌%◌, ◌^◌, ◌<◌, ◌≤◌, List, ◌++◌, length, take, drop, replicate, slice_index, Option, Some, None, IfSome}
+use Rattle.std.specs.Prelude.{◌≡◌, ℕ, zero, suc, ◌+◌, ◌-◌, ◌/◌, ◌%◌, ◌^◌, ◌<◌, ◌≤◌, List, ◌++◌, length, take, drop, replicate, slice_index, Option, Some, None}
 use Rattle.std.specs.Int.Digits.{number_from_digits}
 use Rattle.std.specs.Str.Parse.{AllDigits, digits_value}
 use Rattle.decimal_digits.specs.Ascii.{digit_zero, decimal_point}

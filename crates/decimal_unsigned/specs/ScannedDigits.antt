@@ -1,6 +1,6 @@
 -- Private: used only in the contracts of private functions and in the model of `Scan`.
 -- Which digits of the parts are stored, and their magnitudes.
-use Rattle.std.specs.Prelude.{◌≡◌, ℕ, ◌+◌, ◌-◌, ◌%◌, ◌^◌, ◌≤◌, ◌<◌, List, ◌++◌, length, take, drop, map, slice_index, Some, None, Result, Ok}
+use Rattle.std.specs.Prelude.{◌≡◌, ℕ, ◌-◌, ◌≤◌, ◌<◌, List, ◌++◌, length, take, drop, map, slice_index, Result, Ok}
 use Rattle.std.specs.Char.{digit_value}
 use Rattle.std.specs.Str.Parse.{AllDigits}
 use Rattle.decimal_digits.specs.Digits.{number_of}
@@ -10,7 +10,7 @@ use Rattle.decimal_unsigned.specs.declared.decimal.parse.plan.Plan.{Plan}
 use Rattle.decimal_unsigned.specs.Stored.{IsStored}
 use Rattle.decimal_unsigned.specs.Unsigned.{Unsigned}
 use Rattle.decimal_unsigned.specs.Grammar.{Literal}
-use Rattle.decimal_unsigned.specs.Reading.{ReadError, parts_of, value_of}
+use Rattle.decimal_unsigned.specs.Reading.{ReadError, value_of}
 
 -- all the digits, the integer digits first
 abbrev pub digits_of : Literal → List ℕ

@@ -1,4 +1,4 @@
-use Rattle.decimal_unsigned.proofs.Common.{rules, arith, read, ◌≤◌}
+use Rattle.decimal_unsigned.proofs.Common.{rules, read}
 use Rattle.decimal_unsigned.proofs.BcdValues.{wide_allocates}
 use Rattle.decimal_unsigned.proofs.decimal.UnsignedOver.scan_from.Goals as goal
 

@@ -1,5 +1,4 @@
-use Rattle.std.proofs.Common.{◌≡◌, ◌+◌, ◌/◌, ◌≤◌, length, take, ap, arith, ◌∙◌}
-use Rattle.std.specs.Int.{w128, to_be_bytes}
+use Rattle.std.proofs.Common.{◌≤◌, length, take, ap, arith, ◌∙◌}
 use Rattle.std.proofs.lemmas.List.{length-take-le}
 use Rattle.decimal_digits.specs.Nibbles.{wide_leading_bytes}
 use Rattle.decimal_digits.proofs.WideBytes.{wide_bytes_digits}

@@ -1,4 +1,4 @@
-use Rattle.decimal_unsigned.proofs.Common.{refl, sym, rules}
+use Rattle.decimal_unsigned.proofs.Common.{rules}
 use Rattle.decimal_unsigned.proofs.PlainTexts.{no_point, point_before, point_found}
 use Rattle.decimal_unsigned.proofs.decimal.parse.fast_path.append_group.Goals as goal
 

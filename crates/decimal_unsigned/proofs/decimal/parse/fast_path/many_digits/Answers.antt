@@ -2,7 +2,7 @@ use Rattle.decimal_unsigned.proofs.Common.{◌≡◌, ℕ, ◌+◌, ◌-◌, ◌
 use Rattle.std.specs.Int.{w64, from_be_bytes}
 use Rattle.std.proofs.Math.Seq.{take-add}
 use Rattle.std.proofs.lemmas.List.{drop-drop}
-use Rattle.decimal_unsigned.specs.PlainTexts.{zeros, IsPrefix}
+use Rattle.decimal_unsigned.specs.PlainTexts.{zeros}
 use Rattle.decimal_unsigned.proofs.PlainTexts.{all_bytes, whole_word, eight_zeros}
 use Rattle.decimal_unsigned.proofs.decimal.parse.fast_path.many_digits.Goals as goal
 

@@ -1,6 +1,6 @@
-use Rattle.decimal_unsigned.proofs.Common.{arith, refl, sym, ◌∙◌, ap, ◌+◌, ◌-◌, ◌*◌, ◌/◌, ◌%◌, ◌^◌, ◌≡◌, ◌≤◌, length, Some}
+use Rattle.decimal_unsigned.proofs.Common.{arith, refl, ◌∙◌, ap, ◌*◌, ◌/◌, ◌%◌, ◌^◌, ◌≡◌, ◌≤◌, length, Some}
 use lib.Count.{count_trailing_zeros}
-use Rattle.decimal_unsigned.specs.PlainTexts.{without, zeros}
+use Rattle.decimal_unsigned.specs.PlainTexts.{without}
 use Rattle.decimal_unsigned.proofs.Words.{digits_of_word, group_of_digits, within, point_is, others_is, others_below, length-others, zeros_shorter}
 use Rattle.decimal_unsigned.proofs.decimal.parse.words.read_group.Goals as goal
 
