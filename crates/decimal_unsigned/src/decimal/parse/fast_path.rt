@@ -186,7 +186,7 @@ fn plain_text(text: &[u8]) -> Option<PlainText>
 }
 
 /// Makes the value of a text of up to sixteen digits, with or without a decimal point, or returns None.
-#[inline]
+#[inline(always)]
 pub fn bcd_value(text: &[u8]) -> Option<BcdValue>
     ensures { IfSome result (λ b. IsBcdValue (read text.now) (leading_bytes b.number b.len) b.len b.bounds) }
 {
