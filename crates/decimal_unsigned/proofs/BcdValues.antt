@@ -262,14 +262,16 @@ module _ (text : List ℕ) (whole : ℕ) (digits : whole ≡ prefix_len is_ascii
       at_drop_more (λ x. x) text whole 0 in_text ∙ (rw byte refl) in
       rw (sym digits, point) (after_whole_point (take whole text) (drop (whole + 1) text) some all)
 
--- up to eleven bytes, byte by byte
-module _ (text : List ℕ) (whole number : ℕ) (few : length text ≤ 11) (digits : whole ≡ prefix_len is_ascii_digit text)
+-- up to sixteen digits, byte by byte
+module _ (text : List ℕ) (whole number : ℕ) (few : length text ≤ 17) (short : whole ≤ 16)
+    (digits : whole ≡ prefix_len is_ascii_digit text)
     (numbered : number ≡ digits_value 16 (take whole text) % 2 ^ 64) where
   few_digits : length (take whole text ++ drop (whole + 1) text) ≤ 16
   few_digits =
       omega (
         arith,
         few,
+        short,
         length-append (take whole text) (drop (whole + 1) text),
         long text whole digits,
         within text whole digits,

@@ -223,10 +223,15 @@ impl<D: DigitStore> UnsignedOver<D> {
         Ok(value)
     }
 
-    /// Parses any text, up to 32 digits in one pass.
+    /// Parses any text, as `try_from_utf8`, up to 32 digits in one pass; a short one faster by `from_short_text`.
+    ///
+    /// # Errors
+    ///
+    /// As for [`Self::try_from_utf8`].
     // Not inlined: it then has its own stack frame, which a short text does not fill with zeros.
+    #[doc(hidden)]
     #[inline(never)]
-    fn scan_from(alloc: Global, text: &[u8]) -> Result<Self, ParseError>
+    pub fn scan_from(alloc: Global, text: &[u8]) -> Result<Self, ParseError>
         ensures { IsParseResult (λ v. D.L < size v.number) result (read text.now) }
     {
         if let Some(bcd) = wide_bcd_value(text) {

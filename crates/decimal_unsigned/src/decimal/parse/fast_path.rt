@@ -15,9 +15,6 @@ use decimal_digits::ops::subtract_counts;
 /// The length of sixteen digits and a decimal point.
 const MAX_SHORT_LEN: usize = 17;
 
-/// The least length of a text that is read eight bytes at a time: a shorter one is read faster byte by byte.
-const MIN_GROUPED_LEN: usize = 12;
-
 /// The length of 32 digits and a decimal point.
 const MAX_PLAIN_LEN: usize = 33;
 
@@ -72,13 +69,17 @@ fn count_digits(before: u64, text: &[u8]) -> (usize, u64)
     (text.len(), number)
 }
 
-/// Returns the digits of a text of up to eleven bytes, byte by byte.
-#[inline]
+/// Returns the digits of a text of up to sixteen digits, with or without a decimal point, or None of any other text.
+// Inlined always: returned from a call, the digits would pass through memory.
+#[inline(always)]
 fn few_digits(text: &[u8]) -> Option<PlainText>
-    requires { length text.now ≤ 11 }
+    requires { length text.now ≤ 17 }
     ensures { IfSome result (IsPlainText text.now) }
 {
     let (whole, number) = count_digits(0, text);
+    if whole > 16 {
+        return None;
+    }
     match &text[whole..] {
         [] if whole > 0 => Some(PlainText {
             whole,
@@ -160,15 +161,12 @@ fn many_digits(text: &[u8]) -> Option<Prefix>
 }
 
 /// Returns the digits of a text of up to 32 digits, with or without a decimal point, or None of any other text.
-// Inlined always: returned from a call, the digits of a short text would pass through memory.
-#[inline(always)]
+#[inline]
 fn plain_text(text: &[u8]) -> Option<PlainText>
-    requires { length text.now ≤ 33 }
+    requires enough { 8 ≤ length text.now }
+    requires at_most { length text.now ≤ 33 }
     ensures { IfSome result (IsPlainText text.now) }
 {
-    if text.len() < MIN_GROUPED_LEN {
-        return few_digits(text);
-    }
     let Prefix { number, fraction } = many_digits(text)?;
     match fraction {
         None if text.len() <= 32 => Some(PlainText {
@@ -193,7 +191,7 @@ pub fn bcd_value(text: &[u8]) -> Option<BcdValue>
     if text.len() > MAX_SHORT_LEN {
         return None;
     }
-    let plain = plain_text(text)?;
+    let plain = few_digits(text)?;
     let (whole, fraction) = (plain.whole, plain.fraction);
     if plain.number > u64::MAX as u128 {
         return None;
@@ -230,7 +228,7 @@ pub fn wide_bcd_value(text: &[u8]) -> Option<WideBcdValue>
     ensures value { IfSome result
         (λ b. IsBcdValue (read text.now) (wide_leading_bytes b.number b.len) b.len b.bounds) }
 {
-    if text.len() > MAX_PLAIN_LEN {
+    if text.len() <= 16 || text.len() > MAX_PLAIN_LEN {
         return None;
     }
     let plain = plain_text(text)?;
