@@ -134,6 +134,16 @@ pub(super) fn word_at(bytes: &[u8], len: usize, start: usize) -> u64
 /// The greatest number of bytes that are compared without a call: those of 48 digits.
 const MAX_INLINE_COMPARE: usize = 24;
 
+/// Returns whether two lists of eight bytes are equal.
+///
+/// They are compared as words: byte by byte, one list is loaded in eight parts where a loop compares it with many.
+#[inline]
+fn equal_words(left: &[u8; 8], right: &[u8; 8]) -> bool
+    ensures { IsTrue result ↔ (left.now ≡ right.now) }
+{
+    u64::from_be_bytes(*left) == u64::from_be_bytes(*right)
+}
+
 /// Returns whether the first eight bytes of two lists are equal, or, if either is shorter, all bytes are.
 #[inline]
 fn have_equal_fronts(left: &[u8], right: &[u8]) -> bool
@@ -141,7 +151,7 @@ fn have_equal_fronts(left: &[u8], right: &[u8]) -> bool
     ensures { IsTrue result ↔ (take 8 left.now ≡ take 8 right.now) }
 {
     match (left.first_chunk::<8>(), right.first_chunk::<8>()) {
-        (Some(front), Some(other_front)) => front == other_front,
+        (Some(front), Some(other_front)) => equal_words(front, other_front),
         _ => left == right,
     }
 }
@@ -153,7 +163,7 @@ fn have_equal_ends(left: &[u8], right: &[u8]) -> bool
     ensures { IsTrue result ↔ (drop (length left.now - 8) left.now ≡ drop (length left.now - 8) right.now) }
 {
     match (left.last_chunk::<8>(), right.last_chunk::<8>()) {
-        (Some(end), Some(other_end)) => end == other_end,
+        (Some(end), Some(other_end)) => equal_words(end, other_end),
         _ => left == right,
     }
 }
