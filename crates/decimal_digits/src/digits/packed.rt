@@ -206,9 +206,6 @@ impl DigitStore for PackedDigits {
         if self.len != other.len {
             return false;
         }
-        if self.len <= 16 {
-            return self.bcd_at(0) == other.bcd_at(0);
-        }
         are_equal(self.bytes.as_slice(), other.bytes.as_slice())
     }
 }

@@ -136,7 +136,7 @@ const MAX_INLINE_COMPARE: usize = 24;
 
 /// Returns whether two lists of eight bytes are equal.
 ///
-/// They are compared as words: byte by byte, one list is loaded in eight parts where a loop compares it with many.
+/// They are compared as words: byte by byte, a list is loaded in eight parts where a loop compares it with many.
 #[inline]
 fn equal_words(left: &[u8; 8], right: &[u8; 8]) -> bool
     ensures { IsTrue result ↔ (left.now ≡ right.now) }
@@ -144,49 +144,39 @@ fn equal_words(left: &[u8; 8], right: &[u8; 8]) -> bool
     u64::from_be_bytes(*left) == u64::from_be_bytes(*right)
 }
 
-/// Returns whether the first eight bytes of two lists are equal, or, if either is shorter, all bytes are.
+/// Returns whether the first eight bytes of two lists are equal.
 #[inline]
 fn have_equal_fronts(left: &[u8], right: &[u8]) -> bool
-    requires { length left.now ≡ length right.now }
+    requires left { 8 ≤ length left.now }
+    requires right { 8 ≤ length right.now }
     ensures { IsTrue result ↔ (take 8 left.now ≡ take 8 right.now) }
 {
-    match (left.first_chunk::<8>(), right.first_chunk::<8>()) {
+    // The slices are of known length, so that nothing is tested.
+    match (left[..8].as_array::<8>(), right[..8].as_array::<8>()) {
         (Some(front), Some(other_front)) => equal_words(front, other_front),
-        _ => left == right,
+        _ => false,
     }
 }
 
-/// Returns whether the last eight bytes of two lists are equal, or, if either is shorter, all bytes are.
-#[inline]
-fn have_equal_ends(left: &[u8], right: &[u8]) -> bool
-    requires { length left.now ≡ length right.now }
-    ensures { IsTrue result ↔ (drop (length left.now - 8) left.now ≡ drop (length left.now - 8) right.now) }
-{
-    match (left.last_chunk::<8>(), right.last_chunk::<8>()) {
-        (Some(end), Some(other_end)) => equal_words(end, other_end),
-        _ => left == right,
-    }
-}
-
-/// Returns whether two lists of bytes are equal.
+/// Returns whether two lists of the same number of bytes, at least eight, are equal.
 #[inline]
 pub(super) fn are_equal(left: &[u8], right: &[u8]) -> bool
+    requires enough { 8 ≤ length left.now }
+    requires same_length { length left.now ≡ length right.now }
     ensures { IsTrue result ↔ (left.now ≡ right.now) }
 {
-    if left.len() != right.len() {
-        return false;
-    }
-    if left.len() > MAX_INLINE_COMPARE {
-        return left == right;
-    }
     if !have_equal_fronts(left, right) {
         return false;
     }
-    if left.len() > 16 && !have_equal_fronts(&left[8..], &right[8..]) {
+    let len = left.len();
+    if len > MAX_INLINE_COMPARE {
+        return left == right;
+    }
+    if len > 16 && !have_equal_fronts(&left[8..], &right[8..]) {
         return false;
     }
     // The last eight bytes may overlap those that were compared.
-    have_equal_ends(left, right)
+    len == 8 || have_equal_fronts(&left[len - 8..], &right[len - 8..])
 }
 
 /// Keeps the first `count` digits.
