@@ -8,7 +8,6 @@ ghost use Rattle.decimal_unsigned.specs.Unsigned.{IsValue};
 use super::UnsignedOver;
 use crate::error::IntegerError;
 use decimal_digits::digits::DigitStore;
-use decimal_digits::ops::places_above;
 
 /// Returns the digit at an index, or 0 after the last one.
 #[inline]
@@ -101,10 +100,11 @@ fn integer_digit_count(magnitude: i16, len: usize) -> Option<usize>
     ensures some { IfSome result (λ count. (pos count ≡ magnitude +ℤ pos 1) × (len ≤ count)) }
     ensures none { IfNone result ((magnitude +ℤ pos 1) <ℤ pos len) }
 {
-    match places_above(0, magnitude) {
-        Some(count) if count >= len => Some(count),
-        _ => None,
+    if magnitude < -1 {
+        return None;
     }
+    let count = (magnitude as i32 + 1) as usize;
+    if count < len { None } else { Some(count) }
 }
 
 impl<D: DigitStore> UnsignedOver<D> {
