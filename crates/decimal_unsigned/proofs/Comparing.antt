@@ -1,5 +1,5 @@
 -- The order of two numbers, by their digits.
-use Rattle.decimal_unsigned.proofs.Common.{clamps, nat_tests, common_steps, ◌≡◌, ℕ, zero, suc, ◌+◌, ◌-◌, ◌*◌, ◌^◌, ◌<◌, ◌≤◌, ◌%◌, ◌/◌, List, [], ◌∷◌, ◌++◌, length, get_or, drop, replicate, refl, sym, ◌∙◌, ap, arith, ◌⊎◌, inl, inr, min, ℤ, ◌<ℤ◌, nat_cmp, mul-le-mul_right, mul-lt-mul_of_pos_right, pow-le-pow_right, ints, recursion_from_All, number_lt, pow-add, number_from_digits, AllBelowBase, offset, offset_is, IsStored, All, slice_cmp, below_sixteen, Unsigned, IsValue}
+use Rattle.decimal_unsigned.proofs.Common.{clamps, nat_tests, common_steps, ◌≡◌, ℕ, suc, ◌+◌, ◌-◌, ◌*◌, ◌^◌, ◌<◌, ◌≤◌, ◌%◌, ◌/◌, List, [], ◌∷◌, ◌++◌, length, get_or, drop, take, replicate, refl, sym, ◌∙◌, ap, arith, ◌⊎◌, inl, inr, min, ℤ, ◌<ℤ◌, nat_cmp, mul-le-mul_right, mul-lt-mul_of_pos_right, pow-le-pow_right, ints, recursion_from_All, number_lt, pow-add, number_from_digits, AllBelowBase, offset, offset_is, IsStored, All, slice_cmp, below_sixteen, Unsigned, IsValue}
 use Rattle.std.specs.declared.cmp.Ordering.{Ordering}
 use Rattle.std.specs.declared.cmp.Ordering.TheVariants.{Less, Equal, Greater}
 use Rattle.std.specs.Ordering.{MatchOrdering, ordering_then, int_cmp}
@@ -7,12 +7,12 @@ use Rattle.std.specs.Cmp.{ranked, nat_cmp_is}
 use Rattle.std.proofs.Math.Nat.{one-le-pow, mul-pos}
 use Rattle.std.proofs.lemmas.Grind.{same_number_lists}
 use Rattle.std.proofs.lemmas.Bool.{cases_lt}
-use Rattle.std.proofs.lemmas.List.{length-append, length-drop, length-replicate, get_or_past, get_or-drop, get_or-replicate}
+use Rattle.std.proofs.lemmas.List.{length-take-le, length-append, length-replicate, get_or_past}
 use Rattle.std.proofs.lemmas.List.Elements.{All-append, All-replicate}
 use Rattle.decimal_digits.specs.Digits.{number_of, number_at}
-use Rattle.decimal_digits.specs.Nibbles.{nibbles, digits_in, padded, bcd_number, IsPacked}
-use Rattle.decimal_digits.proofs.DigitLists.{number_first, number_pad, number_split, number-drop-lt}
-use Rattle.decimal_digits.proofs.LeadingBytes.{bytes_number, padded_front, length-padded, get_or-padded, squares}
+use Rattle.decimal_digits.specs.Nibbles.{nibbles, digits_in, bcd_number, IsPacked}
+use Rattle.decimal_digits.proofs.DigitLists.{below_take, number-div, number_first, number_pad, number_split, number-drop-lt}
+use Rattle.decimal_digits.proofs.LeadingBytes.{bytes_number, padded_front, squares}
 use Rattle.decimal_digits.proofs.Nibbles.{nibble_rules, nibble_is, high_nibble}
 use Rattle.decimal_unsigned.proofs.Shown.{value_of_view}
 use Rattle.decimal_unsigned.proofs.Values.{number_of-lt, number_of-ge, number_of-pos, number_of-none, lowest}
@@ -118,6 +118,54 @@ module _ (base : ℕ) (above : 0 < base) where
       nat_cmp_is (worth top (d ∷ ds)) (worth top (e ∷ es)) (ordering_then (nat_cmp d e) (slice_cmp nat_cmp ds es))
       (firsts top d e ds es b.1 c.1 f g others (nat_cmp d e) (ranked d e (nat_cmp d e) refl))
 
+  -- lists of the same length compare as the numbers that they write
+  equal_lengths : (top : ℕ) (ds es : List ℕ) → AllBelowBase base ds → AllBelowBase base es → length ds ≡ top
+      → length es ≡ top → slice_cmp nat_cmp ds es ≡ nat_cmp (worth top ds) (worth top es)
+  equal_lengths top [] [] b c f g = nat_cmp_is (worth top []) (worth top []) Equal refl
+  equal_lengths top [] (e ∷ es) b c f g = absurd (omega (arith, f, g))
+  equal_lengths top (d ∷ ds) [] b c f g = absurd (omega (arith, f, g))
+  equal_lengths top (d ∷ ds) (e ∷ es) b c f g =
+      let others =
+      ranked (worth (top - 1) ds) (worth (top - 1) es) (slice_cmp nat_cmp ds es)
+      (equal_lengths (top - 1) ds es b.1 c.1 (omega arith) (omega arith)) in
+      nat_cmp_is (worth top (d ∷ ds)) (worth top (e ∷ es)) (ordering_then (nat_cmp d e) (slice_cmp nat_cmp ds es))
+      (firsts top d e ds es b.1 c.1 (omega arith) (omega arith) others (nat_cmp d e) (ranked d e (nat_cmp d e) refl))
+
+-- the number of the first k of at least eight bytes, k at most eight
+first_bytes : (k : ℕ) (xs : List ℕ) → AllBelowBase 256 xs → k ≤ 8 → 8 ≤ length xs
+    → number_from_digits 256 (take 8 xs) / 256 ^ (8 - k) ≡ number_from_digits 256 (take k xs)
+first_bytes k xs b h enough =
+    let eight : length (take 8 xs) ≡ 8 = length-take-le 8 xs enough in
+    let short : take k (take 8 xs) ≡ take k xs = same_number_lists _ _ (grind (arith, common_steps)) (λ i l.
+    grind (arith, common_steps)) in
+    rw (eight, short) at (number-div 256 k (take 8 xs) (below_take 256 8 xs b) (omega arith))
+
+-- lists of 8 to 16 bytes with the same first eight have the order of their last eight
+pub ends_order : (xs ys : List ℕ) → AllBelowBase 256 xs → AllBelowBase 256 ys → length xs ≡ length ys → 8 ≤ length xs
+    → length xs ≤ 16 → number_from_digits 256 (take 8 xs) ≡ number_from_digits 256 (take 8 ys)
+    → nat_cmp (number_from_digits 256 (drop (length xs - 8) xs)) (number_from_digits 256 (drop (length xs - 8) ys))
+    ≡ slice_cmp nat_cmp xs ys
+ends_order xs ys b c same enough few fronts =
+    let n = length xs in
+    let k = n - 8 in
+    let r = number_from_digits 256 (drop k xs) in
+    let s = number_from_digits 256 (drop k ys) in
+    let p = number_from_digits 256 (take k xs) in
+    let first : p ≡ number_from_digits 256 (take k ys) =
+    sym (first_bytes k xs b (omega arith) enough) ∙ ap (λ m. m / 256 ^ (8 - k)) fronts
+    ∙ first_bytes k ys c (omega arith) (omega (arith, same)) in
+    let left : number_from_digits 256 xs ≡ p * 256 ^ (n - k) + r = number_split 256 k xs (omega arith) in
+    let right : number_from_digits 256 ys ≡ p * 256 ^ (n - k) + s =
+    rw (sym same, sym first) at (number_split 256 k ys (omega (arith, same))) in
+    let none : n - n ≡ 0 = omega arith in
+    let left_worth : worth 256 (omega arith) n xs ≡ number_from_digits 256 xs = rw none (omega arith) in
+    let right_worth : worth 256 (omega arith) n ys ≡ number_from_digits 256 ys = rw (sym same, none) (omega arith) in
+    same_order r s (worth 256 (omega arith) n xs) (worth 256 (omega arith) n ys)
+    (λ l. omega (arith, left, right, left_worth, right_worth))
+    (λ l. omega (arith, left, right, left_worth, right_worth))
+    (λ l. omega (arith, left, right, left_worth, right_worth))
+    ∙ sym (equal_lengths 256 (omega arith) n xs ys b c refl (sym same))
+
 -- ---- two lists of decimal digits, by their first sixteen digits, and by the next sixteen
 -- the number that the digits after the first sixteen write, padded with zeros to `top` digits
 abbrev rest : List ℕ → ℕ → ℕ
@@ -138,31 +186,6 @@ fronts ds top h fits enough =
           ∙ ap (λ xs. number_from_digits 16 xs * 16 ^ (top - 16) + rest ds top) (padded_front 16 top ds enough fits),
       rw len at (number-drop-lt 16 16 padded below),
     )
-
--- padding with zeros keeps the digit at each index
-get_or-zeros : (ds : List ℕ) (n i : ℕ) → get_or (ds ++ replicate n 0) i 0 ≡ get_or ds i 0
-get_or-zeros [] n i = elim (cases_lt i n) [
-  | inl l ↦ get_or-replicate n i 0 0 l
-  | inr l ↦ get_or_past (replicate n 0) i 0 (omega (arith, length-replicate {A = ℕ} n 0))
-]
-get_or-zeros (d ∷ ds) n zero = refl
-get_or-zeros (d ∷ ds) n (suc i) = get_or-zeros ds n i
-
--- the digits after the first sixteen of up to thirty-two
-rest_padded : (ds : List ℕ) → length ds ≤ 32 → drop 16 (ds ++ replicate (32 - length ds) 0) ≡ padded 16 (drop 16 ds)
-rest_padded ds few =
-    let all = ds ++ replicate (32 - length ds) 0 in
-    let count : length all ≡ 32 =
-    omega (arith, length-append ds (replicate (32 - length ds) 0), length-replicate {A = ℕ} (32 - length ds) 0) in
-    same_number_lists _ _ (omega (arith, length-drop 16 all, length-padded 16 (drop 16 ds)))
-    (λ k l. get_or-drop 16 all k 0 ∙ get_or-zeros ds (32 - length ds) (16 + k)
-    ∙ sym (get_or-padded 16 (drop 16 ds) k (omega (arith, length-drop 16 all)) ∙ get_or-drop 16 ds k 0))
-
--- the rest of up to thirty-two digits is the number of the sixteen after the first sixteen
-rest_is : (ds : List ℕ) → length ds ≤ 32 → rest ds 32 ≡ bcd_number (drop 16 ds)
-unfolding bcd_number
-rest_is ds few =
-    ap (number_from_digits 16) (rest_padded ds few)
 
 -- the first parts decide if they differ
 firsts_decide : (a b p r s : ℕ) → r < p → s < p → ¬ (a ≡ b) → nat_cmp a b ≡ nat_cmp (a * p + r) (b * p + s)
@@ -193,19 +216,6 @@ module _ (ds es : List ℕ) (h : All (λ d. d < 10) ds) (g : All (λ d. d < 10) 
       let left : worth 16 (omega arith) 16 ds ≡ bcd_number ds = omega arith in
       let right : worth 16 (omega arith) 16 es ≡ bcd_number es = omega arith in
       (λ k. nat_cmp (sym left k) (sym right k)) ∙ sym (order_at 16 few.0 few.1)
-
-  -- with the same first sixteen of up to thirty-two digits, they have the order of the numbers of the others
-  pub seconds_order : bcd_number ds ≡ bcd_number es → length ds ≤ 32 → length es ≤ 32
-      → nat_cmp (bcd_number (drop 16 ds)) (bcd_number (drop 16 es)) ≡ slice_cmp nat_cmp ds es
-  seconds_order same few few' =
-      let e = (fronts ds 32 h few (omega arith)).0 in
-      let f = (fronts es 32 g few' (omega arith)).0 in
-      let p : bcd_number ds * 16 ^ 16 ≡ bcd_number es * 16 ^ 16 = ap (λ n. n * 16 ^ 16) same in
-      let r = rest_is ds few in
-      let s = rest_is es few' in
-      same_order (bcd_number (drop 16 ds)) (bcd_number (drop 16 es)) (worth 16 (omega arith) 32 ds)
-      (worth 16 (omega arith) 32 es) (λ l. omega arith) (λ l. omega arith) (λ l. omega arith)
-      ∙ sym (order_at 32 few few')
 
 -- ---- two lists of digits, by their packed bytes
 -- the bytes write the number of the digits
@@ -253,7 +263,7 @@ module _ (bytes ds : List ℕ) (packed : IsPacked bytes (length ds)) (same : dig
     | inr l ↦ omega (arith, get_or_past bytes i 0 l)
   ]
 
-all_below : (base : ℕ) (xs : List ℕ) → ((i : ℕ) → get_or xs i 0 < base) → AllBelowBase base xs
+pub all_below : (base : ℕ) (xs : List ℕ) → ((i : ℕ) → get_or xs i 0 < base) → AllBelowBase base xs
 all_below base [] h = tt
 all_below base (x ∷ xs) h = (h 0, all_below base xs (λ i. h (suc i)))
 

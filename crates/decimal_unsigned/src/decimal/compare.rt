@@ -1,6 +1,7 @@
 //! The order of the numbers of two values.
-ghost use Rattle.std.specs.Prelude.{◌≡◌};
+ghost use Rattle.std.specs.Prelude.{◌≡◌, length};
 ghost use Rattle.std.specs.Cmp.Lexicographic.{slice_cmp};
+ghost use Rattle.std.specs.Int.Digits.{number_from_digits};
 ghost use Rattle.std.specs.Ordering.{nat_cmp};
 ghost use Rattle.decimal_digits.specs.Digits.{IsStripped};
 ghost use Rattle.decimal_unsigned.specs.Unsigned.{IsValue};
@@ -9,8 +10,20 @@ use super::UnsignedOver;
 use decimal_digits::digits::DigitStore;
 use std::cmp::Ordering;
 
+/// Returns the number of eight bytes, of which the first has the highest weight.
+#[inline]
+fn word_of(bytes: &[u8]) -> u64
+    requires { length bytes.now ≡ 8 }
+    ensures { result ≡ number_from_digits 256 bytes.now }
+{
+    match bytes.as_array::<8>() {
+        Some(word) => u64::from_be_bytes(*word),
+        None => 0,
+    }
+}
+
 /// Compares two lists of bytes by the first that differ; if one is a prefix of the other, the longer one is greater.
-fn compare_bytes(bytes: &[u8], other: &[u8]) -> Ordering
+fn compare_slices(bytes: &[u8], other: &[u8]) -> Ordering
     ensures { result ≡ slice_cmp nat_cmp bytes.now other.now }
 {
     // Equality takes less time than order.
@@ -18,6 +31,22 @@ fn compare_bytes(bytes: &[u8], other: &[u8]) -> Ordering
         return Ordering::Equal;
     }
     bytes.cmp(&other)
+}
+
+/// Compares two lists of bytes as [`compare_slices`], and 8 to 16 bytes as words.
+#[inline]
+fn compare_bytes(bytes: &[u8], other: &[u8]) -> Ordering
+    ensures { result ≡ slice_cmp nat_cmp bytes.now other.now }
+{
+    let len = bytes.len();
+    if len != other.len() || len < 8 || len > 16 {
+        return compare_slices(bytes, other);
+    }
+    if word_of(&bytes[..8]) != word_of(&other[..8]) {
+        return compare_slices(bytes, other);
+    }
+    // The last eight bytes may overlap the first, which are equal.
+    word_of(&bytes[len - 8..]).cmp(&word_of(&other[len - 8..]))
 }
 
 /// Compares two lists of digits by the first digits that differ; if one is a prefix of the other, the longer one is
@@ -32,9 +61,6 @@ fn compare_digits<D: DigitStore, E: DigitStore>(digits: &D, other: &E) -> Orderi
     let longest = digits.len().max(other.len());
     if front != other_front || longest <= 16 {
         return front.cmp(&other_front);
-    }
-    if longest <= 32 {
-        return digits.bcd_at(16).cmp(&other.bcd_at(16));
     }
     if let (Some(bytes), Some(other_bytes)) = (digits.as_bcd(), other.as_bcd()) {
         return compare_bytes(bytes, other_bytes);

@@ -1,5 +1,5 @@
 use Rattle.decimal_unsigned.proofs.Common.{◌≡◌, length, sym, ◌∙◌, inl, inr, arith, min, nat_cmp, slice_cmp}
-use Rattle.decimal_unsigned.proofs.Comparing.{lengths_decide, fronts_order, seconds_order, bytes_order}
+use Rattle.decimal_unsigned.proofs.Comparing.{lengths_decide, fronts_order, bytes_order}
 use Rattle.decimal_unsigned.proofs.decimal.compare.compare_digits.Goals as goal
 
 pub returns : goal.returns
@@ -39,17 +39,3 @@ returns-in-Some-Some g c =
     (g.met.E.DigitStore.are_digits c.args.other.now) c.requires.stripped.back c.requires.other_stripped.back
     c.in-Some-Some.ensures.packed c.in-Some-Some.ensures.digits c.in-Some-Some.ensures'.packed
     c.in-Some-Some.ensures'.digits
-
-pub returns-then-longest-le32 : goal.returns-then-longest-le32
-returns-then-longest-le32 g c =
-    let ds = g.D.DigitStore.digits c.args.digits.now in
-    let es = g.E.DigitStore.digits c.args.other.now in
-    let left = c.bcd_at-front.ensures in
-    let right = c.bcd_at-other_front.ensures in
-    c.cmp-then-longest-le32.ensures
-    ∙ (λ k. nat_cmp (c.bcd_at.ensures k) (c.bcd_at-then-longest-le32.ensures k))
-    ∙ seconds_order ds es (g.met.D.DigitStore.are_digits c.args.digits.now)
-    (g.met.E.DigitStore.are_digits c.args.other.now) c.requires.stripped.back c.requires.other_stripped.back
-    (sym left ∙ c.if-front-other_front.false ∙ right)
-    (omega (arith, c.max-longest.ensures, c.len.ensures, c.len-2.ensures))
-    (omega (arith, c.max-longest.ensures, c.len.ensures, c.len-2.ensures))
