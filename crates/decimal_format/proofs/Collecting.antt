@@ -1,7 +1,7 @@
 -- Digits that are collected from left to right.
-use Rattle.std.proofs.Common.{◌≡◌, ℕ, zero, suc, ◌+◌, ◌-◌, ◌*◌, ◌%◌, ◌^◌, ◌<◌, ◌≤◌, Bool, true, false, List, [], ◌∷◌, ◌++◌, length, append_assoc, append-nil, length-append, refl, sym, ◌∙◌, ap, subst, arith, rules, inl, inr}
+use Rattle.std.proofs.Common.{◌≡◌, ℕ, ◌+◌, ◌-◌, ◌*◌, ◌%◌, ◌^◌, ◌<◌, ◌≤◌, Bool, true, false, List, [], ◌∷◌, ◌++◌, length, append_assoc, append-nil, length-append, refl, sym, ◌∙◌, ap, subst, arith, inl, inr}
 use Rattle.std.specs.Int.Digits.{AllBelowBase, number_from_digits}
-use Rattle.std.specs.Prelude.{if◌then◌else◌, Result, Ok, Err, IsOk, OnOk, OnErr, ◌⊎◌, ℤ, pos, negsuc, ◌+ℤ◌, ◌-ℤ◌, ◌≤ℤ◌, ◌<ℤ◌, int_lt}
+use Rattle.std.specs.Prelude.{if◌then◌else◌, Result, Ok, Err, IsOk, OnOk, OnErr, ℤ, pos, negsuc, ◌+ℤ◌, ◌-ℤ◌, ◌≤ℤ◌, ◌<ℤ◌, int_lt}
 use Rattle.std.specs.Int.{int_max, int_min, int_gap}
 use Rattle.std.specs.Result.{is_err}
 use Rattle.std.proofs.Math.Nat.{mul-mod_left, mul-lt-mul_of_pos_right, mul_assoc, mul-le-mul_right, pow-le-pow_right}
@@ -323,21 +323,21 @@ pub collects_dropped : (inline n : ℕ) (old new : Collected) (ds : List ℕ)
 collects_dropped inline n old new ds e beyond h =
     subst (λ (c : Collected). Collects inline n c ds) (sym e) (elim (cases_lt 0 old.count) [
       | inl some ↦ record {
-          first = h.first ++ h.others;
-          others = [];
-          all = h.all ∙ sym (append-nil (h.first ++ h.others));
-          digits = h.digits;
-          store = h.store;
-          count = refl;
-          integer = refl;
-          integer_digits = h.integer_digits;
-          written = λ limits in_memory. absurd (too_many some limits in_memory);
-          value = λ limits in_memory. absurd (too_many some limits in_memory);
-          memory = λ out more.
-              let same = append_assoc h.first h.others more in
-              subst (λ (l : List ℕ). AllBelowBase 10 l → IsInLimits n l → inline < size (value_of_first n l).number)
-              (sym same) (h.memory out (h.others ++ more));
-        }
+        first = h.first ++ h.others;
+        others = [];
+        all = h.all ∙ sym (append-nil (h.first ++ h.others));
+        digits = h.digits;
+        store = h.store;
+        count = refl;
+        integer = refl;
+        integer_digits = h.integer_digits;
+        written = λ limits in_memory. absurd (too_many some limits in_memory);
+        value = λ limits in_memory. absurd (too_many some limits in_memory);
+        memory = λ out more.
+            let same = append_assoc h.first h.others more in
+            subst (λ (l : List ℕ). AllBelowBase 10 l → IsInLimits n l → inline < size (value_of_first n l).number)
+            (sym same) (h.memory out (h.others ++ more));
+      }
       | inr none ↦
           let empty = empty_of h.others (omega (arith, h.count, none)) in
           record {

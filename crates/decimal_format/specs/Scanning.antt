@@ -1,6 +1,6 @@
 -- Private: used only in the contracts of private functions.
 -- What the steps of a scan find.
-use Rattle.std.specs.Prelude.{◌≡◌, ◌≢◌, ℕ, ◌+◌, ◌<◌, ◌≤◌, ◌↔◌, ◌⊎◌, Bool, true, false, ◌&&◌, List, [], ◌∷◌, ◌++◌, if◌then◌else◌, length, take, map, Result, Ok, Err, IfOk}
+use Rattle.std.specs.Prelude.{◌≡◌, ◌≢◌, ℕ, ◌<◌, ◌↔◌, Bool, true, false, ◌&&◌, List, [], ◌++◌, if◌then◌else◌, length, Result, Err, IfOk}
 use Rattle.std.specs.Int.Digits.{AllBelowBase}
 use Rattle.decimal_digits.specs.Number.{size}
 use Rattle.decimal_unsigned.specs.Unsigned.{Unsigned}
@@ -8,37 +8,9 @@ use Rattle.decimal_unsigned.specs.declared.error.ParseError.{ParseError}
 use Rattle.decimal_unsigned.specs.declared.error.ParseError.TheVariants.{Limit, Syntax, Memory}
 use Rattle.fixed_decimal.specs.Decimal.{Decimal}
 use Rattle.decimal_format.specs.declared.reader.Scanned.{Scanned}
-use Rattle.decimal_format.specs.declared.reader.plain_text.PlainText.{PlainText}
 use Rattle.decimal_format.specs.Collecting.{Collected, CollectsDigits, value_of_first}
 use Rattle.decimal_format.specs.Symbols.{Symbols, digit_text}
 use Rattle.decimal_format.specs.Reading.{Numeral, IsBeyondLimits, digits_text, fraction_text}
-
--- ---- Short texts.
--- up to 64 bytes are in the array
-pub record IsShort (p : PlainText) (bytes : List ℕ) : Type 0 where
-  pub len : p.len ≡ length bytes
-  pub kept : take p.len p.short ≡ bytes
-  pub none_more : p.long.items ≡ []
-  pub in_memory : p.out_of_memory ≡ false
-
--- more bytes are in the vector, unless an allocation has failed
-pub record IsLong (p : PlainText) (bytes : List ℕ) : Type 0 where
-  pub len : p.len ≡ 64
-  pub kept : p.out_of_memory ≡ false → p.long.items ≡ bytes
-
--- the bytes are kept, unless an allocation has failed, for more than 64
-pub record IsPlain (p : PlainText) (bytes : List ℕ) : Type 0 where
-  pub short : length bytes ≤ 64 → IsShort p bytes
-  pub long : 64 < length bytes → IsLong p bytes
-
--- all bytes so far: the first ones if there are no others
-abbrev pub appended_to : List ℕ → List ℕ → List ℕ
-appended_to [] short = short
-appended_to (x ∷ long) short = x ∷ long
-
--- these bytes were appended
-abbrev pub AppendsPlain : PlainText → PlainText → List ℕ → Type 0
-AppendsPlain old new bytes = (before : List ℕ) → IsPlain old before → IsPlain new (before ++ bytes)
 
 -- ---- Groups.
 

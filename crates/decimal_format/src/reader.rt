@@ -12,13 +12,12 @@ ghost use Rattle.decimal_format.specs.Collecting.{Collects};
 mod codes;
 mod digit_collector;
 mod lenient;
-mod plain_text;
 
 use crate::grouping::{GroupingSizes, remainder};
 use crate::symbols::DecimalSymbols;
 use codes::cut;
-use fixed_decimal::{DigitStore, ParseError, Sign, Signed, UnsignedOver};
 use digit_collector::{DigitCollector, MAX_DIGITS};
+use fixed_decimal::{DigitStore, ParseError, Sign, Signed, UnsignedOver};
 use std::alloc::Global;
 
 /// What a text says: a sign, and the numbers of its digits.
@@ -173,7 +172,11 @@ impl<'a> DecimalSymbols<'a> {
     }
 
     /// Finds the sign and the digits of a text, with separators at any ends of groups.
-    fn scan<D: DigitStore>(&self, alloc: Global, text: &[u8]) -> Option<(Scanned, DigitCollector<D>)>
+    fn scan<D: DigitStore>(
+        &self,
+        alloc: Global,
+        text: &[u8],
+    ) -> Option<(Scanned, DigitCollector<D>)>
         requires readable { IsReadable self.now }
         ensures found { IfSome result (λ r. (w : Numeral) × IsLenientNumeral self.now text.now w × HasCounts r.0 w
             × Collects D.L (length w.whole) r.1 (w.whole ++ w.fraction)

@@ -56,13 +56,13 @@ impl<D: DigitStore> Model for DigitCollector<D> {
     ghost Value = { Collected };
 
     ghost view = { λ s. record {
-        inline = D.L;
-        value = s.value;
-        integer_digits = s.integer_digits;
-        written = s.written;
-        integer = s.integer;
-        count = s.count;
-        out_of_memory = s.out_of_memory;
+      inline = D.L;
+      value = s.value;
+      integer_digits = s.integer_digits;
+      written = s.written;
+      integer = s.integer;
+      count = s.count;
+      out_of_memory = s.out_of_memory;
     } };
 
     ghost invariant = { λ s. (s.integer < 10 ^ s.count) × (s.count ≤ 18) × (s.integer_digits ≤ 32768)

@@ -1,12 +1,11 @@
-use Rattle.std.proofs.Common.{◌≡◌, ℕ, ◌<◌, ◌≤◌, ◌^◌, sym, ◌∙◌, ap, subst, arith}
-use Rattle.std.specs.Prelude.{ℤ, pos, negsuc, ◌≤ℤ◌, IsFalse, IsTrue, Err}
+use Rattle.std.proofs.Common.{◌<◌, sym, ◌∙◌, ap, subst, arith}
+use Rattle.std.specs.Prelude.{IsFalse, Err}
 use Rattle.std.proofs.lemmas.Int.{ints, to_z-of_z}
 use Rattle.decimal_unsigned.specs.Concatenation.{overlaps, concatenated_end, concatenated_size}
 use Rattle.decimal_unsigned.specs.declared.error.ConcatenateError.TheVariants.{Overlap, Memory}
 use Rattle.decimal_unsigned.specs.Edits.{leaves_limits, multiplied}
-use Rattle.decimal_unsigned.specs.Unsigned.{Unsigned, integer_value}
+use Rattle.decimal_unsigned.specs.Unsigned.{Unsigned}
 use Rattle.fixed_decimal.proofs.Calling.{on_err}
-use Rattle.decimal_format.specs.Collecting.{IsBelow, appended}
 use Rattle.decimal_format.proofs.Collecting.{memory_for_integer, stays_in_limits, is_apart, joined_is, memory_for_sum}
 use Rattle.decimal_format.proofs.reader.digit_collector.append.Goals as goal
 

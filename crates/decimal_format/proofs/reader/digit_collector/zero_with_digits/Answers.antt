@@ -1,6 +1,6 @@
-use Rattle.std.proofs.Common.{◌≡◌, ℕ, ◌+◌, [], refl, sym, ◌∙◌, ap, subst, arith, rules, FitsSigned, w16, w32}
-use Rattle.std.specs.Prelude.{ℤ, pos, IsFalse, OnOk, IsOk, Result, Ok, Err}
-use Rattle.std.proofs.lemmas.Int.{ints, to_z-of_z}
+use Rattle.std.proofs.Common.{◌≡◌, ◌+◌, [], refl, sym, ◌∙◌, ap, subst, arith, rules, FitsSigned, w16, w32}
+use Rattle.std.specs.Prelude.{pos, IsFalse}
+use Rattle.std.proofs.lemmas.Int.{to_z-of_z}
 use Rattle.decimal_unsigned.specs.Edits.{leaves_limits, multiplied, padded_start}
 use Rattle.decimal_unsigned.specs.Unsigned.{Unsigned}
 use Rattle.decimal_format.specs.Collecting.{value_of_first}

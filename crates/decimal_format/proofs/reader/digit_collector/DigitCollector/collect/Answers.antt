@@ -1,4 +1,4 @@
-use Rattle.std.proofs.Common.{◌≡◌, ℕ, ◌+◌, ◌*◌, ◌<◌, ap, arith}
+use Rattle.std.proofs.Common.{◌+◌, ◌*◌, ◌<◌, ap, arith}
 use Rattle.decimal_format.specs.Collecting.{Collected}
 use Rattle.decimal_format.proofs.Collecting.{room_for_digit, collects_more}
 use Rattle.decimal_format.proofs.reader.digit_collector.DigitCollector.collect.Goals as goal
@@ -17,7 +17,7 @@ overflow_add-self g c =
             arith,
             c.requires.is_digit,
             room_for_digit c.self.inside.integer c.self.inside.count c.self.invariant.0 room,
-          )
+          );
     }
 
 pub returns : goal.returns

@@ -1,4 +1,4 @@
-use Rattle.std.proofs.Common.{◌≡◌, ℕ, sym, ◌∙◌, ap}
+use Rattle.std.proofs.Common.{sym, ◌∙◌, ap}
 use Rattle.decimal_format.specs.Collecting.{Collected}
 use Rattle.decimal_format.proofs.Collecting.{collected_value, collected_memory}
 use Rattle.decimal_format.proofs.reader.digit_collector.DigitCollector.into_value.Goals as goal
