@@ -12,3 +12,4 @@ pub mod NumeralTexts
 pub mod Scans
 pub mod NumeralLaws
 pub mod Apart
+pub mod Collecting

@@ -1,15 +1,14 @@
 -- A text is that of one numeral, and of one decimal.
 use Rattle.std.proofs.Common.{◌≡◌, ℕ, ◌-◌, ◌<◌, ◌≤◌, inl, inr, Bool, false, List, [], ◌∷◌, ◌++◌, length, refl, sym, ◌∙◌, ap, subst, arith, append-nil}
-use Rattle.std.specs.Prelude.{Result, Ok, Err, IfOk, IsOkAnd, MatchResult, ◌↔◌, pos}
+use Rattle.std.specs.Prelude.{Result, Ok, Err, IfOk, MatchResult, ◌↔◌, pos}
 use Rattle.std.specs.Int.Digits.{AllBelowBase}
 use Rattle.std.proofs.lemmas.Bool.{cases_lt}
 use Rattle.std.proofs.lemmas.List.{append_cancel_left, append_cancel_right}
 use Rattle.decimal_digits.specs.Number.{size}
 use Rattle.decimal_unsigned.specs.declared.error.ParseError.{ParseError}
 use Rattle.decimal_unsigned.specs.declared.error.ParseError.TheVariants.{Limit, Syntax, Memory}
-use Rattle.decimal_unsigned.specs.ParseResult.{ParseFails}
-use Rattle.decimal_unsigned.specs.Reading.{ReadError, read}
-use Rattle.decimal_unsigned.specs.Unsigned.{Unsigned, IsValue}
+use Rattle.decimal_unsigned.specs.Reading.{read}
+use Rattle.decimal_unsigned.specs.Unsigned.{IsValue}
 use Rattle.fixed_decimal.specs.Decimal.{Decimal}
 use Rattle.fixed_decimal.specs.declared.variations.Sign.{Sign}
 use Rattle.fixed_decimal.specs.declared.variations.Sign.TheVariants as sign
@@ -22,7 +21,7 @@ use Rattle.decimal_format.specs.Grouping.{is_grouped}
 use Rattle.decimal_format.specs.Readable.{IsReadable}
 use Rattle.decimal_format.specs.Reading.{Numeral, AreDigits, IsNumeral, IsBeyondLimits, IsWritten, NeedsMemory, digits_text, fraction_text, absolute_numeral_text, numeral_text, separated_by}
 use Rattle.decimal_format.specs.Lenient.{ends_group, separated_at, normalized, IsLenientNumeral, IsLenientlyWritten, IsTyped}
-use Rattle.decimal_format.specs.Scanning.{BeginsWithDigit, IsUniform, plain_text, IsValueOf}
+use Rattle.decimal_format.specs.Scanning.{BeginsWithDigit, IsUniform, value_of, IsValueOf}
 use Rattle.decimal_format.proofs.Codes.{digit_not_minus, digit_not_plus, plus_not_minus, none_not_decimal}
 use Rattle.decimal_format.proofs.DigitTexts.{digits_text-cong, nil_ends, fraction_ends, integer-unique, separators-unique}
 use Rattle.decimal_format.proofs.NumeralTexts.{HasDigits, formatted-digits, text-digits, digits_of_value, value_of_digits}
@@ -169,12 +168,12 @@ never-digits s v w has =
     ∙ (λ i. numeral_text s (λ m. (strategy_is s Never (length w.whole) m ∙ and_false (ends_group s.sizes m)) i) w)
 
 -- ---- What is read.
--- digits that are not too many are those of a value, with this plain text
+-- digits that are not too many are those of a value
 pub record ReadsAs (w : Numeral) : Type 0 where
   pub value : Decimal
   pub valid : IsValue value.absolute
   pub has : HasDigits value w
-  pub reads : read (plain_text w) ≡ Ok value.absolute
+  pub is : value.absolute ≡ value_of w
 
 pub value_is : (w : Numeral) → AreDigits w → ¬ IsBeyondLimits w → ReadsAs w
 value_is w digits few =
@@ -184,18 +183,11 @@ value_is w digits few =
       value = v.0;
       valid = v.1;
       has = v.2;
-      reads = ap read (sym (text-digits v.0 w v.2)) ∙ read_text v.0.absolute v.1;
+      is = v.3;
     }
   where
     at_most : (n : ℕ) → (32768 < n → ⊥) → n ≤ 32768
     at_most n h = elim (cases_lt 32768 n) [ inl l ↦ absurd (h l) | inr l ↦ l ]
-
--- a text that has a value is rejected only if out of memory, for a value that needs it
-pub memory_needed : (e : ParseError) (reading : Result Unsigned ReadError) (u : Unsigned) (p : Unsigned → Type 0)
-    → ParseFails (IsOkAnd reading p) e reading → reading ≡ Ok u → p u
-memory_needed Limit reading u p h r = absurd (let k = sym h ∙ r in cc)
-memory_needed Syntax reading u p h r = absurd (let k = sym h ∙ r in cc)
-memory_needed Memory reading u p h r = subst (λ x. IsOkAnd x p) r h
 
 -- a text is that of one of these numerals, and then of one of these decimals
 pub record AreTexts (is_numeral : Numeral → Type 0) (is_written : Decimal → Type 0) : Type 0 where
@@ -236,13 +228,11 @@ module _ (is_numeral : Numeral → Type 0) (is_written : Decimal → Type 0) (te
   }
 
   module _ (w : Numeral) (numeral : is_numeral w) where
-    -- of a value that was read, the sign and the digits are those of the text
-    same_decimal : (v u : Decimal) → IsValue u.absolute → HasDigits u w → v.sign ≡ w.sign
-        → read (plain_text w) ≡ Ok v.absolute → v ≡ u
-    same_decimal v u valid has signs reads =
-        let same : v.absolute ≡ u.absolute =
-        (let k = sym reads ∙ ap read (sym (text-digits u w has)) ∙ read_text u.absolute valid in cc) in
-        let sign : v.sign ≡ u.sign = signs ∙ sym has.sign in
+    -- a value that was read has the sign and the digits of the text
+    same_decimal : (v : Decimal) (r : ReadsAs w) → v.sign ≡ w.sign → v.absolute ≡ value_of w → v ≡ r.value
+    same_decimal v r signs digits =
+        let same : v.absolute ≡ r.value.absolute = digits ∙ sym r.is in
+        let sign : v.sign ≡ r.value.sign = signs ∙ sym r.has.sign in
         λ i. record { sign = sign i; absolute = same i }
 
     -- the text is that of a numeral, and the result is the value of its digits
@@ -261,11 +251,7 @@ module _ (is_numeral : Numeral → Type 0) (is_written : Decimal → Type 0) (te
           let r = value_is w (texts.digits w numeral) few in (
             r.value,
             texts.writes r.value w numeral r.has,
-            elim (is.memory h) [
-              | inl long ↦ inr (subst (λ l. 64 < length l) (sym (text-digits r.value w r.has)) long)
-              | inr x ↦ inl (let same : x.0 ≡ r.value.absolute = (let k = sym x.1 ∙ r.reads in cc) in subst (λ u.
-                  inline < size u.number) same x.2)
-            ],
+            subst (λ u. inline < size u.number) (sym r.is) (is.memory h),
           );
     }
       where
@@ -274,14 +260,16 @@ module _ (is_numeral : Numeral → Type 0) (is_written : Decimal → Type 0) (te
         found (Ok v) is =
             let few = λ (beyond : IsBeyondLimits w). let k = is.limit.1 beyond in let no : ⊥ = cc in no in
             let r = value_is w (texts.digits w numeral) few in
-            subst is_written (sym (same_decimal v r.value r.valid r.has is.found.0 is.found.1))
-            (texts.writes r.value w numeral r.has)
+            subst is_written (sym (same_decimal v r is.found.0 is.found.1)) (texts.writes r.value w numeral r.has)
 
         back : (r : Result Decimal ParseError) → IsValueOf inline w r → (v : Decimal) → IsValue v.absolute
             → ((u : Numeral) × is_numeral u × HasDigits v u × ¬ IsBeyondLimits u)
             → MatchResult r (λ u. u ≡ v) (λ e. e ≡ Memory)
         back (Ok u) is v valid t =
-            same_decimal u v valid (subst (HasDigits v) (texts.unique t.0 w t.1 numeral) t.2) is.found.0 is.found.1
+            let same = texts.unique t.0 w t.1 numeral in
+            let r = value_is w (texts.digits w numeral) (λ beyond. t.3 (subst IsBeyondLimits (sym same) beyond)) in
+            same_decimal u r is.found.0 is.found.1
+            ∙ sym (same_value v r.value w valid r.valid (subst (HasDigits v) same t.2) r.has)
         back (Err Memory) is v valid t = refl
         back (Err Syntax) is v valid t = absurd (is.syntax refl)
         back (Err Limit) is v valid t =

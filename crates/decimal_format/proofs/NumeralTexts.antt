@@ -1,23 +1,26 @@
 -- The digits of a value, and the value of digits.
-use Rattle.std.proofs.Common.{◌≡◌, ℕ, zero, suc, ◌+◌, ◌-◌, ◌*◌, ◌/◌, ◌%◌, ◌^◌, ◌<◌, ◌≤◌, Bool, false, List, [], ◌∷◌, ◌++◌, length, refl, sym, ◌∙◌, ap, subst, arith, append_assoc, append-nil}
-use Rattle.std.specs.Int.Digits.{AllBelowBase}
+use Rattle.std.proofs.Common.{◌≡◌, ℕ, zero, suc, ◌+◌, ◌-◌, ◌*◌, ◌/◌, ◌%◌, ◌^◌, ◌<◌, ◌≤◌, Bool, false, List, [], ◌∷◌, ◌++◌, length, refl, sym, ◌∙◌, ap, subst, arith, append_assoc, append-nil, length-append}
+use Rattle.std.specs.Int.Digits.{AllBelowBase, number_from_digits}
+use Rattle.std.specs.Prelude.{map}
 use Rattle.std.specs.Prelude.{ℤ, pos, negsuc, ◌-ℤ◌}
-use Rattle.std.specs.Int.{int_gap}
+use Rattle.std.specs.Int.{int_gap, int_min}
 use Rattle.std.proofs.Math.Arith.{mod-mul}
 use Rattle.std.proofs.Math.Nat.{pow-suc, mod-lt, mod-eq_of_lt, mul-mod_left, mul-div_cancel, div-lt_iff_lt-mul, mul-le-mul_right, mul-lt-mul_of_pos_right, div-div-eq-div-mul}
-use Rattle.std.proofs.lemmas.Int.{ints}
+use Rattle.std.proofs.lemmas.Int.{ints, clamps}
 use Rattle.std.proofs.lemmas.Nat.{pow-add, div-mul-add, mod-mul-add}
+use Rattle.decimal_digits.specs.Digits.{number_at}
 use Rattle.decimal_digits.specs.Number.{digit, weight, offset}
 use Rattle.decimal_unsigned.specs.Text.{text_down, text}
 use Rattle.decimal_unsigned.specs.Unsigned.{IsValue}
 use Rattle.fixed_decimal.specs.Decimal.{Decimal}
-use Rattle.fixed_decimal.proofs.Calling.{offset_is, gap_is, ten_pos, powers, text_down-suc, text_down-zero}
+use Rattle.fixed_decimal.proofs.Calling.{offset_is, gap_is, ten_pos, powers, number-append, text_down-suc, text_down-zero}
 use Rattle.decimal_format.specs.declared.grouping.GroupingStrategy.{GroupingStrategy}
 use Rattle.decimal_format.specs.Symbols.{Symbols, digit_text, sign_affixes}
 use Rattle.decimal_format.specs.Grouping.{separates}
 use Rattle.decimal_format.specs.Formatted.{formatted_down, shown_count, absolute_text, formatted}
 use Rattle.decimal_format.specs.Reading.{Numeral, AreDigits, digits_text, fraction_text, numeral_text, separated_by}
-use Rattle.decimal_format.specs.Scanning.{separator_if, ascii_digits_of, plain_fraction, plain_text}
+use Rattle.decimal_format.specs.Scanning.{separator_if, value_of}
+use Rattle.decimal_format.proofs.Collecting.{number_at-append}
 use Rattle.decimal_format.proofs.DigitTexts.{digits_text-nil, digits_text-cons, digits_text-first}
 use Rattle.decimal_format.proofs.Magnitudes.{formatted_down-suc, formatted_down-zero}
 
@@ -100,6 +103,19 @@ module _ (s : Symbols) (g : GroupingStrategy) (hi : ℤ) (number : ℕ) where
       ∙ sym (digits_text-first s separated d ds rest)
 
 -- ---- The decimal's own text is that of its digits in ASCII.
+-- the bytes of ASCII digits
+abbrev ascii_digits_of : List ℕ → List ℕ
+ascii_digits_of = map (λ d. 48 + d)
+
+-- a decimal point and the ASCII fraction digits, or nothing if there are none
+abbrev plain_fraction : List ℕ → List ℕ
+plain_fraction [] = []
+plain_fraction (d ∷ ds) = 46 ∷ ascii_digits_of (d ∷ ds)
+
+-- the text of the digits in ASCII, without separators of groups
+abbrev pub plain_text : Numeral → List ℕ
+plain_text w = ascii_digits_of w.whole ++ plain_fraction w.fraction
+
 module _ (number : ℕ) where
   plain_later : (i j : ℕ) → text_down number (negsuc (suc i)) j ≡ ascii_digits_of (digit_list number (negsuc (suc i)) j)
   plain_later i zero = text_down-zero number (negsuc (suc i))
@@ -263,9 +279,18 @@ digit_list-worth (d ∷ ds) number low m all at e =
     (λ i. (ap (λ x. x % 10) shifted ∙ first) i ∷ digit_list-worth ds number low (m -ℤ pos 1) all.1
     (λ some. omega (arith, ints, here, some, offset_is m, offset_is (m -ℤ pos 1))) rest i)
 
+-- it is the same by the definition of the library
+number_is : (ds : List ℕ) → number_from_digits 10 ds ≡ worth ds
+number_is [] = refl
+number_is (d ∷ ds) =
+    let first : number_from_digits 10 (d ∷ ds) ≡ (0 * 10 + d) * 10 ^ length ds + number_from_digits 10 ds =
+    number-append (d ∷ []) ds in
+    first ∙ (omega (arith, number_is ds))
+
 -- the value that digits write, if there are not too many
 pub value_of_digits : (w : Numeral) → AreDigits w → length w.whole ≤ 32768 → length w.fraction ≤ 32768
-    → (v : Decimal) × IsValue v.absolute × HasDigits v w
+    → (v : Decimal) × IsValue v.absolute × HasDigits v w × (v.absolute ≡ value_of w)
+unfolding number_at
 value_of_digits w digits few_whole few_fraction =
     let n = length w.whole in
     let j = length w.fraction in
@@ -311,4 +336,14 @@ value_of_digits w digits few_whole few_fraction =
         fraction = digit_list-worth w.fraction number low (negsuc zero) digits.fraction
             (λ h. omega (arith, ints, h, few_fraction, offset_is lo, offset_is (negsuc zero))) below;
       },
+      (let split : 10 ^ (n + 32768 - n) ≡ 10 ^ j * 10 ^ low =
+          powers j low (n + 32768 - n) (omega (arith, ints, few_fraction, offset_is lo)) in
+          let rest : n + 32768 - length (w.whole ++ w.fraction) ≡ low =
+          omega (arith, ints, few_fraction, offset_is lo, length-append w.whole w.fraction) in
+          let same : number ≡ number_at (n + 32768) (w.whole ++ w.fraction) =
+          sym (number_at-append (n + 32768) w.whole w.fraction (omega (arith, few_fraction, length-append w.whole w.fraction))
+          ∙ (rw (rest, split, number_is w.whole, number_is w.fraction) (omega arith))) in
+          let lowest : lo ≡ int_min (pos n -ℤ pos (length (w.whole ++ w.fraction))) (pos 0) =
+          omega (arith, ints, clamps, length-append w.whole w.fraction) in
+          λ i. record { number = same i; hi = hi; lo = lowest i }),
     )

@@ -11,13 +11,13 @@ use Rattle.fixed_decimal.specs.declared.variations.Sign.{Sign}
 use Rattle.fixed_decimal.specs.declared.variations.Sign.TheVariants as sign
 use Rattle.decimal_format.specs.declared.grouping.GroupingStrategy.{GroupingStrategy}
 use Rattle.decimal_format.specs.declared.grouping.GroupingStrategy.TheVariants.{Never, Always}
-use Rattle.decimal_format.specs.declared.reader.plain_text.PlainText.{PlainText}
+use Rattle.decimal_format.specs.Collecting.{Collected, Collects, CollectsDigits}
 use Rattle.decimal_format.specs.Symbols.{Symbols, digit_text, sign_affixes}
 use Rattle.decimal_format.specs.Grouping.{reaches, is_grouped, secondary_size}
 use Rattle.decimal_format.specs.Lenient.{ends_group}
 use Rattle.decimal_format.specs.Readable.{IsReadable}
 use Rattle.decimal_format.specs.Reading.{Numeral, AreDigits, digits_text, fraction_text, absolute_numeral_text, separated_by}
-use Rattle.decimal_format.specs.Scanning.{separator_if, separated_if, SkipsSeparator, EndsInteger, BeginsWithDigit, IsUniform, ReadsDigits, ReadsLastDigits, ReadsFraction, IsPlain, AppendsPlain, ascii_digits_of}
+use Rattle.decimal_format.specs.Scanning.{separator_if, separated_if, SkipsSeparator, EndsInteger, BeginsWithDigit, IsUniform, ReadsDigits, ReadsLastDigits, ReadsFraction}
 use Rattle.decimal_format.proofs.Codes.{same_digit, digit_not_grouping, digit_not_minus, digit_not_plus, plus_not_minus, none_not_digit}
 use Rattle.decimal_format.proofs.DigitTexts.{digits_text-nil, digits_text-cons, digits_text-first, digits_text-append, digits_not_grouping}
 
@@ -163,11 +163,7 @@ module _ (s : Symbols) (readable : IsReadable s) where
           (h ∙ digits_text-first s separated x left tail))
 
 -- ---- Reading digits.
-ascii-append : (ds es : List ℕ) → ascii_digits_of (ds ++ es) ≡ ascii_digits_of ds ++ ascii_digits_of es
-ascii-append [] es = refl
-ascii-append (d ∷ ds) es = ap (λ l. (48 + d) ∷ l) (ascii-append ds es)
-
-below_more : (ds : List ℕ) (d : ℕ) → AllBelowBase 10 ds → d < 10 → AllBelowBase 10 (ds ++ d ∷ [])
+pub below_more : (ds : List ℕ) (d : ℕ) → AllBelowBase 10 ds → d < 10 → AllBelowBase 10 (ds ++ d ∷ [])
 below_more [] d all below = (below, tt)
 below_more (x ∷ ds) d all below = (all.0, below_more ds d all.1 below)
 
@@ -240,7 +236,7 @@ none_step true false = (λ h. (refl, refl), λ h. refl)
 
 -- these digits were read, and `left` more complete a text; a separator is where it may be after all of them, or none
 pub record IsReadTo (s : Symbols) (may : ℕ → Bool) (n : ℕ) (bytes rest : List ℕ) (left : ℕ) (has_all has_none :
-    Bool) (old new : PlainText) : Type 0 where
+    Bool) (old new : Collected) : Type 0 where
   pub digits : List ℕ
   pub chosen : ℕ → Bool
   pub count : length digits + left ≡ n
@@ -250,7 +246,7 @@ pub record IsReadTo (s : Symbols) (may : ℕ → Bool) (n : ℕ) (bytes rest : L
       → bytes ≡ digits_text s (separated_if may later) (digits ++ es) ++ tail
   pub all : has_all ≡ true ↔ Agree (separated_if may chosen) (separated_if may (λ _. true)) left n
   pub none : has_none ≡ true ↔ Agree (separated_if may chosen) (separated_if may (λ _. false)) left n
-  pub plain : AppendsPlain old new (ascii_digits_of digits)
+  pub collected : CollectsDigits old new digits
 
 -- of n digits that a text begins with, some are left
 pub record AreLeft (s : Symbols) (separated : ℕ → Bool) (rest tail : List ℕ) (left : ℕ) : Type 0 where
@@ -277,8 +273,8 @@ either_is may chosen n false false p q = (λ h. absurd (cc), λ u. go u.0 u.1)
     go false same = q.1 (λ m low high. same m high)
 
 module _ (s : Symbols) (may : ℕ → Bool) (n : ℕ) (bytes : List ℕ) where
-  pub read_none : (plain : PlainText) → IsReadTo s may n bytes bytes n true true plain plain
-  read_none plain = record {
+  pub read_none : (collected : Collected) → IsReadTo s may n bytes bytes n true true collected collected
+  read_none collected = record {
     digits = [];
     chosen = λ _. false;
     count = omega arith;
@@ -286,7 +282,7 @@ module _ (s : Symbols) (may : ℕ → Bool) (n : ℕ) (bytes : List ℕ) where
     completes = λ later same es tail h e. e;
     all = (λ h m low high. absurd (omega (arith, low, high)), λ h. refl);
     none = (λ h m low high. absurd (omega (arith, low, high)), λ h. refl);
-    plain = λ before h. subst (IsPlain plain) (sym (append-nil before)) h;
+    collected = λ inline k before h. subst (Collects inline k collected) (sym (append-nil before)) h;
   }
 
   pub leaves_all : Leaves s may n bytes bytes n
@@ -294,11 +290,11 @@ module _ (s : Symbols) (may : ℕ → Bool) (n : ℕ) (bytes : List ℕ) where
 
   -- one digit more was read
   pub read_more : (rest after next : List ℕ) (d left less : ℕ) (b all none more_all more_none : Bool)
-      (old plain new : PlainText) → d < 10 → less + 1 ≡ left → rest ≡ digit_text s d ++ after
+      (old collected new : Collected) → d < 10 → less + 1 ≡ left → rest ≡ digit_text s d ++ after
       → SkipsSeparator s (may less) after next b
       → (more_all ≡ true ↔ ((all ≡ true) × (b ≡ may less))) → (more_none ≡ true ↔ ((none ≡ true) × (b ≡ false)))
-      → AppendsPlain plain new ((48 + d) ∷ [])
-      → IsReadTo s may n bytes rest left all none old plain
+      → CollectsDigits collected new (d ∷ [])
+      → IsReadTo s may n bytes rest left all none old collected
       → IsReadTo s may n bytes next less more_all more_none old new
   read_more rest after next d left less b all none more_all more_none old plain new below one e skips step_all step_none
       pushed so_far = record {
@@ -326,16 +322,16 @@ module _ (s : Symbols) (may : ℕ → Bool) (n : ℕ) (bytes : List ℕ) where
             one
             within so_far.none
             (subst (λ x. more_none ≡ true ↔ ((none ≡ true) × (b ≡ x))) (sym (and_false (may less))) step_none);
-        plain = λ before k. subst (IsPlain new) (append_assoc before (ascii_digits_of so_far.digits) ((48 + d) ∷ [])
-            ∙ ap (λ l. before ++ l) (sym (ascii-append so_far.digits (d ∷ []))))
-            (pushed (before ++ ascii_digits_of so_far.digits) (so_far.plain before k));
+        collected = λ inline k before h.
+            subst (Collects inline k new) (append_assoc before so_far.digits (d ∷ []))
+            (pushed inline k (before ++ so_far.digits) (so_far.collected inline k before h));
       }
     where
       within : left ≤ n
       within = omega (arith, so_far.count)
 
   -- where no more is left to read
-  pub read_all : (rest : List ℕ) (all none : Bool) (old new : PlainText)
+  pub read_all : (rest : List ℕ) (all none : Bool) (old new : Collected)
       → IsReadTo s may n bytes rest 0 all none old new → ReadsDigits s may n bytes rest (all || none) old new
   read_all rest all none old new so_far =
       let f = separated_if may so_far.chosen in record {
@@ -347,7 +343,7 @@ module _ (s : Symbols) (may : ℕ → Bool) (n : ℕ) (bytes : List ℕ) where
             (ap (λ l. l ++ rest) (sym (digits_text-nil s f)))
             ∙ ap (λ l. digits_text s f l ++ rest) (append-nil so_far.digits);
         uniform = either_is may so_far.chosen n all none so_far.all so_far.none;
-        plain = so_far.plain;
+        collected = so_far.collected;
       }
 
   pub left_none : (rest : List ℕ) → Leaves s may n bytes rest 0 → (chosen : ℕ → Bool) (ds tail : List ℕ)
@@ -511,40 +507,40 @@ fraction_rest s [] bytes digits some e h = absurd (some e)
 fraction_rest s (d ∷ ds) bytes digits some e h =
     (omega arith, append_cancel_left s.decimal digits (digits_text s (λ _. false) (d ∷ ds)) (sym h ∙ e))
 
-pub fraction_found : (s : Symbols) (bytes digits : List ℕ) (n : ℕ) (old middle new : PlainText)
-    → bytes ≡ s.decimal ++ digits → (digits ≡ [] → ⊥) → AppendsPlain old middle (46 ∷ [])
-    → ReadsLastDigits s digits [] n middle new → ReadsFraction s bytes n old new
-fraction_found s bytes digits n old middle new e some pushed read =
+pub fraction_found : (s : Symbols) (bytes digits : List ℕ) (n : ℕ) (old new : Collected)
+    → bytes ≡ s.decimal ++ digits → (digits ≡ [] → ⊥) → ReadsLastDigits s digits [] n old new
+    → ReadsFraction s bytes n old new
+fraction_found s bytes digits n old new e some read =
     go read.digits read.count read.are_digits (read.text ∙ append-nil (digits_text s (λ _. false) read.digits))
-    read.plain
+    read.collected
   where
     go : (ds : List ℕ) → length ds ≡ n → AllBelowBase 10 ds → digits ≡ digits_text s (λ _. false) ds
-        → AppendsPlain middle new (ascii_digits_of ds) → ReadsFraction s bytes n old new
-    go [] count all text plain = absurd (some (text ∙ digits_text-nil s (λ _. false)))
-    go (d ∷ ds) count all text plain = record {
+        → CollectsDigits old new ds → ReadsFraction s bytes n old new
+    go [] count all text collected = absurd (some (text ∙ digits_text-nil s (λ _. false)))
+    go (d ∷ ds) count all text collected = record {
       digits = d ∷ ds;
       count = count;
       are_digits = all;
       text = e ∙ ap (λ l. s.decimal ++ l) text;
-      plain = λ before h. subst (IsPlain new) (append_assoc before (46 ∷ []) (ascii_digits_of (d ∷ ds)))
-          (plain (before ++ 46 ∷ []) (pushed before h));
+      collected = collected;
     }
 
 -- ---- Digits without separators.
-pub last_none : (s : Symbols) (bytes : List ℕ) (plain : PlainText) → ReadsLastDigits s bytes bytes 0 plain plain
-last_none s bytes plain = record {
+pub last_none : (s : Symbols) (bytes : List ℕ) (collected : Collected)
+    → ReadsLastDigits s bytes bytes 0 collected collected
+last_none s bytes collected = record {
   digits = [];
   count = refl;
   are_digits = tt;
   text = ap (λ l. l ++ bytes) (sym (digits_text-nil s (λ _. false)));
-  plain = λ before h. subst (IsPlain plain) (sym (append-nil before)) h;
+  collected = λ inline k before h. subst (Collects inline k collected) (sym (append-nil before)) h;
 }
 
 -- one digit more
-pub last_more : (s : Symbols) (bytes rest after : List ℕ) (n d : ℕ) (old plain new : PlainText) → d < 10
-    → rest ≡ digit_text s d ++ after → AppendsPlain plain new ((48 + d) ∷ [])
-    → ReadsLastDigits s bytes rest n old plain → ReadsLastDigits s bytes after (n + 1) old new
-last_more s bytes rest after n d old plain new below e pushed read =
+pub last_more : (s : Symbols) (bytes rest after : List ℕ) (n d : ℕ) (old collected new : Collected) → d < 10
+    → rest ≡ digit_text s d ++ after → CollectsDigits collected new (d ∷ [])
+    → ReadsLastDigits s bytes rest n old collected → ReadsLastDigits s bytes after (n + 1) old new
+last_more s bytes rest after n d old collected new below e pushed read =
     let none : ℕ → Bool = λ _. false in
     let one : digits_text s none (d ∷ []) ≡ digit_text s d =
     digits_text-cons s none d [] ∙ ap (λ l. digit_text s d ++ l) (digits_text-nil s none)
@@ -557,9 +553,9 @@ last_more s bytes rest after n d old plain new below e pushed read =
           ∙ sym (append_assoc (digits_text s none read.digits) (digit_text s d) after)
           ∙ ap (λ l. (digits_text s none read.digits ++ l) ++ after) (sym one)
           ∙ ap (λ l. l ++ after) (sym (digits_text-append s read.digits (d ∷ [])));
-      plain = λ before h. subst (IsPlain new) (append_assoc before (ascii_digits_of read.digits) ((48 + d) ∷ [])
-          ∙ ap (λ l. before ++ l) (sym (ascii-append read.digits (d ∷ []))))
-          (pushed (before ++ ascii_digits_of read.digits) (read.plain before h));
+      collected = λ inline k before h.
+          subst (Collects inline k new) (append_assoc before read.digits (d ∷ []))
+          (pushed inline k (before ++ read.digits) (read.collected inline k before h));
     }
 
 module _ (s : Symbols) (readable : IsReadable s) where
@@ -584,7 +580,7 @@ module _ (s : Symbols) (readable : IsReadable s) where
       (sym e ∙ digits_text-cons s (λ _. false) d ds)
 
   -- something else follows: the text is not one of digits
-  pub last_fails : (bytes rest : List ℕ) (n : ℕ) (old new : PlainText) → ReadsLastDigits s bytes rest n old new
+  pub last_fails : (bytes rest : List ℕ) (n : ℕ) (old new : Collected) → ReadsLastDigits s bytes rest n old new
       → (rest ≡ [] → ⊥) → ((d : ℕ) (r : List ℕ) → d < 10 → rest ≢ digit_text s d ++ r)
       → (es : List ℕ) → AllBelowBase 10 es → bytes ≢ digits_text s (λ _. false) es
   last_fails bytes rest n old new read some other es all e =

@@ -2,7 +2,6 @@
 use Rattle.std.specs.Prelude.{◌≡◌, ℕ, ◌-◌, ◌<◌, ◌⊎◌, Bool, false, if◌then◌else◌, List, [], ◌∷◌, ◌++◌, length, pos}
 use Rattle.std.specs.Int.Digits.{AllBelowBase}
 use Rattle.decimal_digits.specs.Number.{size}
-use Rattle.decimal_unsigned.specs.Text.{text}
 use Rattle.decimal_unsigned.specs.Unsigned.{Unsigned}
 use Rattle.fixed_decimal.specs.Decimal.{Decimal}
 use Rattle.fixed_decimal.specs.declared.variations.Sign.{Sign}
@@ -63,6 +62,6 @@ pub record IsNumeral (s : Symbols) (bytes : List ℕ) (w : Numeral) : Type 0 whe
 abbrev pub IsBeyondLimits : Numeral → Type 0
 IsBeyondLimits w = (32768 < length w.whole) ⊎ (32768 < length w.fraction)
 
--- the value has more digits than these, from the first to the last nonzero one, or its own text has more than 64 bytes
+-- the value has more digits than these, from the first to the last nonzero one
 abbrev pub NeedsMemory : ℕ → Unsigned → Type 0
-NeedsMemory inline v = (inline < size v.number) ⊎ (64 < length (text v))
+NeedsMemory inline v = inline < size v.number

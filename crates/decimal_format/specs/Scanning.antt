@@ -1,58 +1,16 @@
 -- Private: used only in the contracts of private functions.
 -- What the steps of a scan find.
-use Rattle.std.specs.Prelude.{◌≡◌, ◌≢◌, ℕ, ◌+◌, ◌<◌, ◌≤◌, ◌↔◌, ◌⊎◌, Bool, true, false, ◌&&◌, List, [], ◌∷◌, ◌++◌, if◌then◌else◌, length, take, map, Result, Ok, Err, IfOk}
+use Rattle.std.specs.Prelude.{◌≡◌, ◌≢◌, ℕ, ◌<◌, ◌↔◌, Bool, true, false, ◌&&◌, List, [], ◌++◌, if◌then◌else◌, length, Result, Err, IfOk}
 use Rattle.std.specs.Int.Digits.{AllBelowBase}
 use Rattle.decimal_digits.specs.Number.{size}
-use Rattle.decimal_unsigned.specs.Reading.{read}
 use Rattle.decimal_unsigned.specs.Unsigned.{Unsigned}
 use Rattle.decimal_unsigned.specs.declared.error.ParseError.{ParseError}
 use Rattle.decimal_unsigned.specs.declared.error.ParseError.TheVariants.{Limit, Syntax, Memory}
 use Rattle.fixed_decimal.specs.Decimal.{Decimal}
 use Rattle.decimal_format.specs.declared.reader.Scanned.{Scanned}
-use Rattle.decimal_format.specs.declared.reader.plain_text.PlainText.{PlainText}
+use Rattle.decimal_format.specs.Collecting.{Collected, CollectsDigits, value_of_first}
 use Rattle.decimal_format.specs.Symbols.{Symbols, digit_text}
 use Rattle.decimal_format.specs.Reading.{Numeral, IsBeyondLimits, digits_text, fraction_text}
-
--- ---- Plain texts.
-
--- the bytes of ASCII digits
-abbrev pub ascii_digits_of : List ℕ → List ℕ
-ascii_digits_of = map (λ d. 48 + d)
-
--- a decimal point and the ASCII fraction digits, or nothing if there are none
-abbrev pub plain_fraction : List ℕ → List ℕ
-plain_fraction [] = []
-plain_fraction (d ∷ ds) = 46 ∷ ascii_digits_of (d ∷ ds)
-
--- the text of the digits in ASCII, without separators of groups
-abbrev pub plain_text : Numeral → List ℕ
-plain_text w = ascii_digits_of w.whole ++ plain_fraction w.fraction
-
--- up to 64 bytes are in the array
-pub record IsShort (p : PlainText) (bytes : List ℕ) : Type 0 where
-  pub len : p.len ≡ length bytes
-  pub kept : take p.len p.short ≡ bytes
-  pub none_more : p.long.items ≡ []
-  pub in_memory : p.out_of_memory ≡ false
-
--- more bytes are in the vector, unless an allocation has failed
-pub record IsLong (p : PlainText) (bytes : List ℕ) : Type 0 where
-  pub len : p.len ≡ 64
-  pub kept : p.out_of_memory ≡ false → p.long.items ≡ bytes
-
--- the bytes are kept, unless an allocation has failed, for more than 64
-pub record IsPlain (p : PlainText) (bytes : List ℕ) : Type 0 where
-  pub short : length bytes ≤ 64 → IsShort p bytes
-  pub long : 64 < length bytes → IsLong p bytes
-
--- all bytes so far: the first ones if there are no others
-abbrev pub appended_to : List ℕ → List ℕ → List ℕ
-appended_to [] short = short
-appended_to (x ∷ long) short = x ∷ long
-
--- these bytes were appended
-abbrev pub AppendsPlain : PlainText → PlainText → List ℕ → Type 0
-AppendsPlain old new bytes = (before : List ℕ) → IsPlain old before → IsPlain new (before ++ bytes)
 
 -- ---- Groups.
 
@@ -89,32 +47,36 @@ abbrev pub IsUniform : (ℕ → Bool) → (ℕ → Bool) → ℕ → Type 0
 IsUniform may chosen n =
     (all : Bool) × ((m : ℕ) → m < n → separated_if may chosen m ≡ separated_if may (λ _. all) m)
 
--- n digits were read, with separators after the chosen ones, the rest follows them, and their plain text was appended
+-- n digits were read, with separators after the chosen ones, the rest follows them, and they were collected
 pub record ReadsDigits (s : Symbols) (may : ℕ → Bool) (n : ℕ) (bytes rest : List ℕ) (is_uniform : Bool) (old new :
-    PlainText) : Type 0 where
+    Collected) : Type 0 where
   pub digits : List ℕ
   pub chosen : ℕ → Bool
   pub count : length digits ≡ n
   pub are_digits : AllBelowBase 10 digits
   pub text : bytes ≡ digits_text s (separated_if may chosen) digits ++ rest
   pub uniform : is_uniform ≡ true ↔ IsUniform may chosen n
-  pub plain : AppendsPlain old new (ascii_digits_of digits)
+  pub collected : CollectsDigits old new digits
 
--- n digits without separators were read, the rest follows them, and their plain text was appended
-pub record ReadsLastDigits (s : Symbols) (bytes rest : List ℕ) (n : ℕ) (old new : PlainText) : Type 0 where
+-- n digits without separators were read, the rest follows them, and they were collected
+pub record ReadsLastDigits (s : Symbols) (bytes rest : List ℕ) (n : ℕ) (old new : Collected) : Type 0 where
   pub digits : List ℕ
   pub count : length digits ≡ n
   pub are_digits : AllBelowBase 10 digits
   pub text : bytes ≡ digits_text s (λ _. false) digits ++ rest
-  pub plain : AppendsPlain old new (ascii_digits_of digits)
+  pub collected : CollectsDigits old new digits
 
--- n fraction digits were read, and their plain text was appended
-pub record ReadsFraction (s : Symbols) (bytes : List ℕ) (n : ℕ) (old new : PlainText) : Type 0 where
+-- n fraction digits were read and collected
+pub record ReadsFraction (s : Symbols) (bytes : List ℕ) (n : ℕ) (old new : Collected) : Type 0 where
   pub digits : List ℕ
   pub count : length digits ≡ n
   pub are_digits : AllBelowBase 10 digits
   pub text : bytes ≡ fraction_text s digits
-  pub plain : AppendsPlain old new (plain_fraction digits)
+  pub collected : CollectsDigits old new digits
+
+-- the value that the digits write
+abbrev pub value_of : Numeral → Unsigned
+value_of w = value_of_first (length w.whole) (w.whole ++ w.fraction)
 
 -- a scan found the sign and the numbers of digits of this numeral
 pub record HasCounts (r : Scanned) (w : Numeral) : Type 0 where
@@ -122,11 +84,10 @@ pub record HasCounts (r : Scanned) (w : Numeral) : Type 0 where
   pub whole : r.integer_digits ≡ length w.whole
   pub fraction : r.fraction_digits ≡ length w.fraction
 
--- the result is the value with the plain text of the digits; `Limit` exactly if there are too many digits; or `Memory`,
--- for a plain text of more than 64 bytes or a value of more than `inline` digits
+-- the result is the value of the digits; `Limit` exactly if there are too many digits; or `Memory`, for a value of more
+-- than `inline` digits
 pub record IsValueOf (inline : ℕ) (w : Numeral) (result : Result Decimal ParseError) : Type 0 where
-  pub found : IfOk result (λ v. (v.sign ≡ w.sign) × (read (plain_text w) ≡ Ok v.absolute))
+  pub found : IfOk result (λ v. (v.sign ≡ w.sign) × (v.absolute ≡ value_of w))
   pub syntax : result ≢ Err Syntax
   pub limit : (result ≡ Err Limit) ↔ IsBeyondLimits w
-  pub memory : result ≡ Err Memory → (64 < length (plain_text w))
-      ⊎ ((u : Unsigned) × (read (plain_text w) ≡ Ok u) × (inline < size u.number))
+  pub memory : result ≡ Err Memory → inline < size (value_of w).number

@@ -6,21 +6,19 @@ ghost use Rattle.fixed_decimal.specs.Decimal.{Decimal};
 ghost use Rattle.decimal_format.specs.Readable.{IsReadable};
 ghost use Rattle.decimal_format.specs.Reading.{Numeral, AreDigits, digits_text, fraction_text, IsNumeral, IsBeyondLimits, IsWritten, NeedsMemory};
 ghost use Rattle.decimal_format.specs.Lenient.{ends_group, IsLenientNumeral, IsLenientlyWritten};
-ghost use Rattle.decimal_format.specs.Scanning.{separated_if, SkipsSeparator, EndsInteger, ReadsDigits, ReadsLastDigits, ReadsFraction, IsPlain, plain_text, HasCounts, IsValueOf};
+ghost use Rattle.decimal_format.specs.Scanning.{separated_if, SkipsSeparator, EndsInteger, ReadsDigits, ReadsLastDigits, ReadsFraction, HasCounts, IsValueOf};
+ghost use Rattle.decimal_format.specs.Collecting.{Collects};
 
 mod codes;
+mod digit_collector;
 mod lenient;
-mod plain_text;
 
 use crate::grouping::{GroupingSizes, remainder};
 use crate::symbols::DecimalSymbols;
 use codes::cut;
+use digit_collector::{DigitCollector, MAX_DIGITS};
 use fixed_decimal::{DigitStore, ParseError, Sign, Signed, UnsignedOver};
-use plain_text::PlainText;
 use std::alloc::Global;
-
-/// The greatest number of integer digits, and of fraction digits, of a value.
-const MAX_DIGITS: usize = 32768;
 
 /// What a text says: a sign, and the numbers of its digits.
 #[derive(Clone, Copy)]
@@ -43,23 +41,16 @@ impl Scanned {
     /// Returns the value of the digits.
     fn value<D: DigitStore>(
         &self,
-        alloc: Global,
-        plain: &PlainText,
+        digits: DigitCollector<D>,
     ) -> Result<Signed<UnsignedOver<D>>, ParseError>
-        ensures { (w : Numeral) → AreDigits w → HasCounts self.now w → IsPlain plain.now (plain_text w)
-            → IsValueOf D.L w result }
+        ensures { (w : Numeral) → HasCounts self.now w
+            → Collects D.L (length w.whole) digits (w.whole ++ w.fraction) → IsValueOf D.L w result }
     {
         if self.is_beyond_limits() {
             return Err(ParseError::Limit);
         }
-        let Some(plain) = plain.bytes() else {
-            return Err(ParseError::Memory);
-        };
-        match UnsignedOver::try_from_utf8(alloc, plain) {
-            Ok(absolute) => Ok(Signed::new(self.sign, absolute)),
-            // The plain text is in the grammar, and within the limits.
-            Err(_) => Err(ParseError::Memory),
-        }
+        let absolute = digits.into_value()?;
+        Ok(Signed::new(self.sign, absolute))
     }
 }
 
@@ -104,15 +95,15 @@ impl<'a> DecimalSymbols<'a> {
 
     /// Reads the given number of digits, with separators at any ends of groups, and returns whether all separators are
     /// there, or none, and what follows the digits.
-    fn read_digits<'t>(
+    fn read_digits<'t, D: DigitStore>(
         &self,
         count: usize,
         text: &'t [u8],
-        plain: &mut PlainText,
+        digits: &mut DigitCollector<D>,
     ) -> Option<(bool, &'t [u8])>
         requires { IsReadable self.now }
         ensures found { IfSome result (λ r. ReadsDigits self.now (ends_group self.now.sizes) count
-            text.now r.1.now r.0 plain.old plain.new) }
+            text.now r.1.now r.0 digits.old digits.new) }
         ensures unique { IfSome result (λ r. (chosen : ℕ → Bool) (ds tail : List ℕ) → length ds ≡ count
             → AllBelowBase 10 ds
             → text.now ≡ digits_text self.now (separated_if (ends_group self.now.sizes) chosen) ds ++ tail
@@ -128,7 +119,7 @@ impl<'a> DecimalSymbols<'a> {
         while left > 0 {
             left -= 1;
             let (digit, after) = self.next_digit(rest)?;
-            plain.push(b'0' + digit);
+            digits.push(digit);
             let possible = ends_group(self.sizes(), left);
             let (separated, next) = self.skip_separator(possible, after);
             all &= separated == possible;
@@ -139,9 +130,13 @@ impl<'a> DecimalSymbols<'a> {
     }
 
     /// Reads the digits of a text that has nothing else, and returns their number.
-    fn read_last_digits(&self, text: &[u8], plain: &mut PlainText) -> Option<usize>
+    fn read_last_digits<D: DigitStore>(
+        &self,
+        text: &[u8],
+        digits: &mut DigitCollector<D>,
+    ) -> Option<usize>
         requires { IsReadable self.now }
-        ensures found { IfSome result (λ count. ReadsLastDigits self.now text.now [] count plain.old plain.new) }
+        ensures found { IfSome result (λ count. ReadsLastDigits self.now text.now [] count digits.old digits.new) }
         ensures none { IfNone result ((ds : List ℕ) → AllBelowBase 10 ds
             → text.now ≢ digits_text self.now (λ _. false) ds) }
     {
@@ -149,7 +144,7 @@ impl<'a> DecimalSymbols<'a> {
         let mut count = 0;
         while !rest.is_empty() {
             let (digit, after) = self.next_digit(rest)?;
-            plain.push(b'0' + digit);
+            digits.push(digit);
             count += 1;
             rest = after;
         }
@@ -157,28 +152,35 @@ impl<'a> DecimalSymbols<'a> {
     }
 
     /// Reads the decimal separator and the fraction digits, if there are any, and returns their number.
-    fn read_fraction(&self, text: &[u8], plain: &mut PlainText) -> Option<usize>
+    fn read_fraction<D: DigitStore>(
+        &self,
+        text: &[u8],
+        digits: &mut DigitCollector<D>,
+    ) -> Option<usize>
         requires { IsReadable self.now }
-        ensures found { IfSome result (λ count. ReadsFraction self.now text.now count plain.old plain.new) }
+        ensures found { IfSome result (λ count. ReadsFraction self.now text.now count digits.old digits.new) }
         ensures none { IfNone result ((ds : List ℕ) → AllBelowBase 10 ds → text.now ≢ fraction_text self.now ds) }
     {
         if text.is_empty() {
             return Some(0);
         }
-        let digits = cut(text, self.decimal_separator().as_bytes())?;
-        if digits.is_empty() {
+        let fraction = cut(text, self.decimal_separator().as_bytes())?;
+        if fraction.is_empty() {
             return None;
         }
-        plain.push(b'.');
-        self.read_last_digits(digits, plain)
+        self.read_last_digits(fraction, digits)
     }
 
     /// Finds the sign and the digits of a text, with separators at any ends of groups.
-    fn scan(&self, text: &[u8], plain: &mut PlainText) -> Option<Scanned>
+    fn scan<D: DigitStore>(
+        &self,
+        alloc: Global,
+        text: &[u8],
+    ) -> Option<(Scanned, DigitCollector<D>)>
         requires readable { IsReadable self.now }
-        requires empty { IsPlain plain.old [] }
-        ensures found { IfSome result (λ r. (w : Numeral) × IsLenientNumeral self.now text.now w × HasCounts r w
-            × IsPlain plain.new (plain_text w) × (r.is_strict ≡ true ↔ IsNumeral self.now text.now w)) }
+        ensures found { IfSome result (λ r. (w : Numeral) × IsLenientNumeral self.now text.now w × HasCounts r.0 w
+            × Collects D.L (length w.whole) r.1 (w.whole ++ w.fraction)
+            × (r.0.is_strict ≡ true ↔ IsNumeral self.now text.now w)) }
         ensures none { IfNone result ((w : Numeral) → ¬ IsLenientNumeral self.now text.now w) }
     {
         let (sign, number) = self.split_sign(text)?;
@@ -186,14 +188,16 @@ impl<'a> DecimalSymbols<'a> {
         if integer_digits == 0 {
             return None;
         }
-        let (is_strict, rest) = self.read_digits(integer_digits, number, plain)?;
-        let fraction_digits = self.read_fraction(rest, plain)?;
-        Some(Scanned {
+        let mut digits = DigitCollector::new(alloc, integer_digits);
+        let (is_strict, rest) = self.read_digits(integer_digits, number, &mut digits)?;
+        let fraction_digits = self.read_fraction(rest, &mut digits)?;
+        let scanned = Scanned {
             sign,
             integer_digits,
             fraction_digits,
             is_strict,
-        })
+        };
+        Some((scanned, digits))
     }
 
     /// Reads a decimal in exactly one of the forms that a formatter with these symbols writes.
@@ -206,8 +210,7 @@ impl<'a> DecimalSymbols<'a> {
     ///
     /// - `Syntax`: no decimal has this text, of any number of digits.
     /// - `Limit`: there are more than 32,768 integer or fraction digits.
-    /// - `Memory`: out of memory; possible only with more than `L` digits, or more than 64 bytes in the decimal's own
-    ///   text.
+    /// - `Memory`: out of memory; possible only with more than `L` digits.
     pub fn read<D: DigitStore>(
         &self,
         alloc: Global,
@@ -223,14 +226,13 @@ impl<'a> DecimalSymbols<'a> {
         ensures memory { (result ≡ Err ParseError.Memory)
             → (v : Decimal) × IsWritten self.now v text.now × NeedsMemory D.L v.absolute }
     {
-        let mut plain = PlainText::new(alloc);
-        let Some(scanned) = self.scan(text, &mut plain) else {
+        let Some((scanned, digits)) = self.scan(alloc, text) else {
             return Err(ParseError::Syntax);
         };
         if !scanned.is_strict {
             return Err(ParseError::Syntax);
         }
-        scanned.value(alloc, &plain)
+        scanned.value(digits)
     }
 
     /// Reads a decimal with separators at any of the ends of groups.
@@ -249,10 +251,9 @@ impl<'a> DecimalSymbols<'a> {
         ensures memory { (result ≡ Err ParseError.Memory)
             → (v : Decimal) × IsLenientlyWritten self.now v text.now × NeedsMemory D.L v.absolute }
     {
-        let mut plain = PlainText::new(alloc);
-        let Some(scanned) = self.scan(text, &mut plain) else {
+        let Some((scanned, digits)) = self.scan(alloc, text) else {
             return Err(ParseError::Syntax);
         };
-        scanned.value(alloc, &plain)
+        scanned.value(digits)
     }
 }

@@ -4,6 +4,7 @@ use fixed_decimal::{Decimal, PackedDigits, ParseError, TextBuf, Writeable};
 use locale_symbols::locale;
 use std::alloc::{AllocError, Global};
 use std::test::Fail;
+use test_support::{LimitedStore, SixteenDigits};
 
 /// Texts that no number has.
 const REJECTED: &[(&str, &str)] = &[
@@ -180,7 +181,9 @@ fn reports_limits_after_syntax(rt: HostRuntime) -> Result<(), Fail> {
         (32769, 32769, b'x', Some(ParseError::Syntax)),
     ] {
         let text = zeros(rt.alloc(), whole, fraction, last)?;
-        let read = symbols.read::<PackedDigits>(rt.alloc(), text.as_slice());
+        // The store is out of memory for more than sixteen digits from the first to the last nonzero one.
+        let read = symbols
+            .read::<LimitedStore<PackedDigits, SixteenDigits>>(rt.alloc(), text.as_slice());
         assert!(rt; read.err() == error, "{whole} {fraction}");
     }
     Ok(())

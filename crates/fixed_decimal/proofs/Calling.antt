@@ -1,19 +1,19 @@
 -- The lemmas for callers: what a proof outside these libraries cites of them, each with its use.
 use Rattle.std.proofs.Common.{◌≡◌, ℕ, zero, suc, ◌+◌, ◌-◌, ◌*◌, ◌/◌, ◌%◌, ◌^◌, ◌<◌, ◌≤◌, false, inl, inr, List, [], ◌∷◌, ◌++◌, length, refl, sym, ◌∙◌, ap, arith, rules, append_assoc, Option}
-use Rattle.std.specs.Prelude.{Ok, Err, Some, None, ◌↔◌, nat_lt, unsigned_abs, ℤ, pos, negsuc, ◌+ℤ◌, ◌-ℤ◌, ◌≤ℤ◌}
+use Rattle.std.specs.Prelude.{Ok, Err, Some, None, ◌↔◌, nat_lt, unsigned_abs, ℤ, pos, negsuc, ◌+ℤ◌, ◌-ℤ◌, ◌≤ℤ◌, ◌<ℤ◌, ◌==◌}
 use Rattle.std.specs.Int.{int_gap, abs_diff}
 use Rattle.std.specs.Io.KnownBytes.{Appends}
 use Rattle.std.specs.Str.Parse.{AllDigits}
-use Rattle.std.proofs.Math.Nat.{mul_assoc, mul-le-mul_right, mul-lt-mul_of_pos_right, mul-div_cancel, mul-mod_left, div-add-mod', mod-lt, mod-eq_of_lt, pow-le-pow_right}
+use Rattle.std.proofs.Math.Nat.{mul_assoc, mul-le-mul_right, mul-lt-mul_of_pos_right, le-mul_of_pos_right, mul-div_cancel, mul-mod_left, div-add-mod', mod-lt, mod-eq_of_lt, pow-le-pow_right}
 use Rattle.std.proofs.Math.Arith.{mod-mul}
 use Rattle.std.proofs.lemmas.Int.{ints, clamps}
 use Rattle.std.proofs.lemmas.Nat.{le-div, div_below}
 use Rattle.std.proofs.lemmas.Bool.{cases_lt}
 use Rattle.std.proofs.lemmas.Bool.Decides.{nat_tests}
 use Rattle.decimal_digits.specs.AppendsPrefix.{AppendsPrefix}
-use Rattle.decimal_digits.specs.Number.{offset, weight, digit, magnitude_at, first, last}
+use Rattle.decimal_digits.specs.Number.{offset, weight, digit, magnitude_at, first, last, size}
 use Rattle.decimal_digits.specs.Rounding.{IsNearest}
-use Rattle.decimal_digits.proofs.Ends.{shift_up}
+use Rattle.decimal_digits.proofs.Ends.{shift_up, no_more_zeros}
 use Rattle.decimal_unsigned.specs.Grammar.{Literal, decimal, integer}
 use Rattle.decimal_unsigned.specs.Reading.{mantissa, scaled, value_of, value_or_syntax, read}
 use Rattle.decimal_unsigned.specs.ValueLaws.{trimmed}
@@ -24,7 +24,7 @@ use Rattle.decimal_unsigned.specs.Unsigned.{Unsigned, IsValue}
 use Rattle.decimal_unsigned.specs.declared.error.IntegerError.TheVariants.{NotWhole, OutOfRange}
 use Rattle.fixed_decimal.specs.Decimal.{Decimal, signed_number, with_absolute}
 use Rattle.decimal_unsigned.proofs.ConcatenationLaws.{extent_of}
-use Rattle.decimal_unsigned.proofs.FirstLast.{first_of, last_of}
+use Rattle.decimal_unsigned.proofs.FirstLast.{Extent, extent, ordered, top_lt, first_of, last_of, first_sum, last_sum}
 use Rattle.decimal_unsigned.proofs.GrammarParts.{parts-complete}
 use Rattle.decimal_unsigned.proofs.WholeNumbers as whole_numbers
 -- for `omega`: an offset is the magnitude plus 32768
@@ -47,10 +47,12 @@ pub use Rattle.decimal_digits.proofs.Ends.{shift_down}
 pub use Rattle.decimal_digits.proofs.Ends.{first_is}
 -- the last nonzero digit of v * 10 ^ e is at the offset e, if v does not end in 0
 pub use Rattle.decimal_digits.proofs.Ends.{last_is}
--- the last digit of a number that a power of ten divides, and no higher one
-pub use Rattle.decimal_digits.proofs.Ends.{last_at, last_zero}
+-- the last digit of a number that a power of ten divides, and no higher one; the first and the last one of 0
+pub use Rattle.decimal_digits.proofs.Ends.{last_at, last_zero, first_zero}
 -- a number that a range up to hi holds has its first digit at hi or below
 pub use Rattle.decimal_unsigned.proofs.FirstLast.{first_le}
+-- values do not overlap if the second, unless one of them is 0, begins below the end of the first
+pub use Rattle.decimal_unsigned.proofs.Concatenations.{not_overlapping}
 -- a text is constructed digit by digit: one magnitude, and then the others
 pub use Rattle.decimal_unsigned.proofs.Writing.{text_down-suc}
 -- and the text of no magnitudes is empty
@@ -90,6 +92,166 @@ first_down n top k h l fits few =
 -- and the last digit down by k, if the number has at least k trailing zeros
 pub last_down : (v e k : ℕ) → 0 < v % 10 → k ≤ e → e < 65536 → last (v * 10 ^ e / 10 ^ k) ≡ magnitude_at (e - k)
 last_down v e k odd h few = ap last (shift_up v e k h) ∙ last_is v (e - k) odd (omega arith)
+
+-- ---- The number of digits from the first to the last nonzero one.
+size_some : (n : ℕ) → 0 < n → size n ≡ int_gap (last n) (first n) + 1
+size_some n h = let t : (n == 0) ≡ false = grind (arith, nat_tests) in rw t refl
+
+-- a number m without digits below 10 ^ cut, and a number n that has only such digits
+module _ (m n cut b : ℕ) (divides : m % 10 ^ cut ≡ 0) (less : n < 10 ^ cut) (few : m + n < 10 ^ b)
+    (limit : b ≤ 65536) where
+  upper : 0 < m → Extent m
+  upper some = extent b m some (omega (arith, few)) limit
+
+  lower : 0 < n → Extent n
+  lower more = extent b n more (omega (arith, few)) limit
+
+  apart : (some : 0 < m) (more : 0 < n) → (lower more).top < (upper some).bottom
+  apart some more =
+      let u = upper some in
+      let top = top_lt (lower more) cut less in
+      elim (cases_lt u.bottom cut) [
+        | inl h ↦ absurd (no_more_zeros u.factor u.bottom cut u.odd h (ap (λ x. x % 10 ^ cut) (sym u.is) ∙ divides))
+        | inr h ↦ omega (arith, top, h)
+      ]
+
+  -- n begins below the end of m
+  pub first_below_last : 0 < m → 0 < n → first n <ℤ last m
+  first_below_last some more =
+      omega (arith, ints, apart some more, first_of (lower more), last_of (upper some))
+
+  -- their sum has the digits from the first one of m to the last one of n
+  pub size_joined : 0 < m → 0 < n → size (m + n) ≡ int_gap (last n) (first m) + 1
+  size_joined some more =
+      let a = first_sum (upper some) (lower more) (apart some more) in
+      let z = last_sum (upper some) (lower more) (apart some more) in
+      size_some (m + n) (omega arith) ∙ (λ i. int_gap (z i) (a i) + 1)
+
+  -- so it has no fewer digits than either of them
+  pub size_left : size m ≤ size (m + n)
+  size_left = elim (cases_lt 0 m) [
+    | inr none ↦
+        let e : size m ≡ 0 = ap size (let z : m ≡ 0 = omega arith in z) in
+        omega (arith, e)
+    | inl some ↦ elim (cases_lt 0 n) [
+        | inr none ↦
+            let e : size (m + n) ≡ size m = ap size (let z : m + n ≡ m = omega arith in z) in
+            omega (arith, e)
+        | inl more ↦
+            let u = upper some in
+            let l = lower more in
+            omega (
+              arith,
+              ints,
+              size_some m some,
+              size_joined some more,
+              apart some more,
+              ordered u,
+              ordered l,
+              first_of u,
+              last_of u,
+              last_of l,
+              gap_is (last m) (first m),
+              gap_is (last n) (first m),
+            )
+      ]
+  ]
+
+  pub size_right : size n ≤ size (m + n)
+  size_right = elim (cases_lt 0 n) [
+    | inr none ↦
+        let e : size n ≡ 0 = ap size (let z : n ≡ 0 = omega arith in z) in
+        omega (arith, e)
+    | inl more ↦ elim (cases_lt 0 m) [
+        | inr none ↦
+            let e : size (m + n) ≡ size n = ap size (let z : m + n ≡ n = omega arith in z) in
+            omega (arith, e)
+        | inl some ↦
+            let u = upper some in
+            let l = lower more in
+            omega (
+              arith,
+              ints,
+              size_some n more,
+              size_joined some more,
+              apart some more,
+              ordered u,
+              ordered l,
+              first_of l,
+              first_of u,
+              last_of l,
+              gap_is (last n) (first n),
+              gap_is (last n) (first m),
+            )
+      ]
+  ]
+
+module _ (n i : ℕ) (e : Extent n) where
+  reaches_up : 10 ^ (e.top + i) ≤ n * 10 ^ i
+  reaches_up =
+      let low : 10 ^ (e.top + i) ≡ 10 ^ e.top * 10 ^ i = powers e.top i (e.top + i) refl in
+      omega (arith, low, mul-le-mul_right (10 ^ i) e.reaches)
+
+  limit_up : (b : ℕ) → n * 10 ^ i < 10 ^ b → b ≤ 65536 → e.top + i < 65536
+  limit_up b few limit = elim (cases_lt (e.top + i) b) [
+    | inl h ↦ omega (arith, limit, h)
+    | inr h ↦
+        let up : 10 ^ b ≤ 10 ^ (e.top + i) = pow-le-pow_right (omega arith) h in
+        absurd (omega (arith, reaches_up, few, up))
+  ]
+
+  module _ (b : ℕ) (few : n * 10 ^ i < 10 ^ b) (limit : b ≤ 65536) where
+    first_at : first (n * 10 ^ i) ≡ magnitude_at (e.top + i)
+    first_at =
+        let high : 10 ^ (e.top + i + 1) ≡ 10 ^ (e.top + 1) * 10 ^ i =
+        powers (e.top + 1) i (e.top + i + 1) (omega arith) in
+        first_is (n * 10 ^ i) (e.top + i) reaches_up
+        (omega (arith, high, mul-lt-mul_of_pos_right e.below (ten_pos i))) (limit_up b few limit)
+
+    last_at_up : last (n * 10 ^ i) ≡ magnitude_at (e.bottom + i)
+    last_at_up =
+        let split : n * 10 ^ i ≡ e.factor * 10 ^ (e.bottom + i) =
+        ap (λ x. x * 10 ^ i) e.is ∙ mul_assoc e.factor (10 ^ e.bottom) (10 ^ i)
+        ∙ ap (λ x. e.factor * x) (sym (powers e.bottom i (e.bottom + i) refl)) in
+        ap last split
+        ∙ last_is e.factor (e.bottom + i) e.odd (omega (arith, limit_up b few limit, ordered e))
+
+    size_at : 0 < n → size (n * 10 ^ i) ≡ e.top - e.bottom + 1
+    size_at some =
+        let more : 0 < n * 10 ^ i = omega (arith, reaches_up, ten_pos (e.top + i)) in
+        omega (
+          arith,
+          ints,
+          size_some (n * 10 ^ i) more,
+          first_at,
+          last_at_up,
+          ordered e,
+          gap_is (last (n * 10 ^ i)) (first (n * 10 ^ i)),
+        )
+
+-- a number times two powers of ten
+module _ (n i j b c : ℕ) (few : n * 10 ^ i < 10 ^ b) (less : n * 10 ^ j < 10 ^ c) (limit : b ≤ 65536)
+    (limits : c ≤ 65536) where
+  both : 0 < n → Extent n
+  both some = extent b n some (omega (arith, few, le-mul_of_pos_right n (ten_pos i))) limit
+
+  -- their first digits are as far apart as the exponents
+  pub first_up : 0 < n → first (n * 10 ^ i) +ℤ pos j ≡ first (n * 10 ^ j) +ℤ pos i
+  first_up some =
+      let e = both some in
+      omega (arith, ints, first_at n i e b few limit, first_at n j e c less limits)
+
+  -- and they have the same number of digits
+  pub size_up : size (n * 10 ^ i) ≡ size (n * 10 ^ j)
+  size_up = elim (cases_lt 0 n) [
+    | inl some ↦
+        let e = both some in
+        size_at n i e b few limit some ∙ sym (size_at n j e c less limits some)
+    | inr none ↦
+        let left : n * 10 ^ i ≡ 0 = (let z : n ≡ 0 = omega arith in ap (λ x. x * 10 ^ i) z ∙ (omega arith)) in
+        let right : n * 10 ^ j ≡ 0 = (let z : n ≡ 0 = omega arith in ap (λ x. x * 10 ^ j) z ∙ (omega arith)) in
+        ap size (left ∙ sym right)
+  ]
 
 -- ---- Integers.
 -- the digit of an integer's value at a magnitude of at least 0

@@ -1,5 +1,5 @@
 //! Reading of numbers as people type them.
-ghost use Rattle.std.specs.Prelude.{◌≡◌, ◌<◌, ℕ, ◌⊎◌, ◌↔◌, length, IfOk, MatchResult, Err};
+ghost use Rattle.std.specs.Prelude.{◌≡◌, ◌<◌, ◌≤◌, ℕ, ◌⊎◌, ◌↔◌, length, IfOk, IsOk, MatchResult, Err};
 ghost use Rattle.std.specs.List.{list_any};
 ghost use Rattle.std.specs.Str.{chars};
 ghost use Rattle.decimal_unsigned.specs.Unsigned.{IsValue};
@@ -7,12 +7,14 @@ ghost use Rattle.fixed_decimal.specs.Decimal.{Decimal};
 ghost use Rattle.decimal_format.specs.Lenient.{is_mark, is_minus, is_plus, is_space, is_apostrophe, is_separator, replacement, normalized, IsLenientNumeral, IsLenientlyWritten, IsTyped, IsTypedNumeral, TypedNeedsMemory};
 ghost use Rattle.decimal_format.specs.Readable.{IsReadable};
 ghost use Rattle.decimal_format.specs.Reading.{Numeral, IsBeyondLimits, NeedsMemory};
-ghost use Rattle.decimal_format.specs.Scanning.{IsPlain};
 
-use super::plain_text::PlainText;
 use crate::symbols::DecimalSymbols;
 use fixed_decimal::{DigitStore, ParseError, Sign, Signed, UnsignedOver};
-use std::alloc::Global;
+use smallvec::SmallVec;
+use std::alloc::{AllocError, Global};
+
+/// The number of bytes of a normal form that are kept without an allocation.
+const INLINE: usize = 64;
 
 /// Returns whether a character is a direction mark.
 fn is_mark(c: char) -> bool
@@ -98,15 +100,20 @@ impl<'a> DecimalSymbols<'a> {
     }
 
     /// Writes a text in the symbols of the locale.
-    fn normalized(&self, alloc: Global, text: &str) -> PlainText
-        ensures { IsPlain result (normalized self.now text.now) }
+    ///
+    /// # Errors
+    ///
+    /// Out of memory; possible only with more than 64 bytes.
+    fn normalized(&self, alloc: Global, text: &str) -> Result<SmallVec<u8, INLINE>, AllocError>
+        ensures ok { IfOk result (λ bytes. bytes.items ≡ normalized self.now text.now) }
+        ensures succeeds { length (normalized self.now text.now) ≤ 64 → IsOk result }
     {
-        let mut plain = PlainText::new(alloc);
+        let mut bytes = SmallVec::new(alloc);
         for c in text.chars() {
             let mut buffer = [0; 4];
-            plain.push_all((&*self).replacement(c, &mut buffer));
+            bytes.extend_from_slice((&*self).replacement(c, &mut buffer))?;
         }
-        plain
+        Ok(bytes)
     }
 
     /// Reads the normal form of a text.
@@ -128,11 +135,8 @@ impl<'a> DecimalSymbols<'a> {
             ⊎ ((v : Decimal) × IsLenientlyWritten self.now v (normalized self.now text.now)
             × NeedsMemory D.L v.absolute) }
     {
-        let plain = self.normalized(alloc, text);
-        let Some(bytes) = plain.bytes() else {
-            return Err(ParseError::Memory);
-        };
-        self.read_any_groups(alloc, bytes)
+        let bytes = self.normalized(alloc, text)?;
+        self.read_any_groups(alloc, bytes.as_slice())
     }
 
     /// Reads a decimal as people type it.

@@ -48,7 +48,7 @@ returns g c =
     let found = c.in-Some.ensures.found in
     let numeral = found.4.0 c.if-not-scanned.false in
     let read = value_read (IsNumeral s text) (λ v. IsWritten s v text) (formatted_texts s c.requires text)
-    g.D.DigitStore.L found.0 numeral c.value.result (c.value.ensures found.0 numeral.digits found.2 found.3) in
+    g.D.DigitStore.L found.0 numeral c.value.result (c.value.ensures found.0 found.2 found.3) in
     record {
       found = read.found;
       reads_back = read.reads_back;

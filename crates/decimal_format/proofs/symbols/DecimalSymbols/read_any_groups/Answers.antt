@@ -8,7 +8,7 @@ returns g c =
     let text = c.args.text.now in
     let found = c.in-Some.ensures.found in
     let read = value_read (IsLenientNumeral s text) (λ v. IsLenientlyWritten s v text) (lenient_texts s c.requires text)
-    g.D.DigitStore.L found.0 found.1 c.value.result (c.value.ensures found.0 found.1.digits found.2 found.3) in
+    g.D.DigitStore.L found.0 found.1 c.value.result (c.value.ensures found.0 found.2 found.3) in
     record {
       found = read.found;
       reads_back = read.reads_back;

@@ -7,16 +7,16 @@ use Rattle.decimal_format.proofs.Scans.{on_none, none_after_last, all_step, none
 use Rattle.decimal_format.proofs.symbols.DecimalSymbols.read_digits.Goals as goal
 
 pub loop-left-init : goal.loop-left-init
-loop-left-init c =
+loop-left-init g c =
     let s = c.args.self.now in
     let may = ends_group s.sizes in
     record {
-      read = read_none s may c.args.count c.args.text.now c.args.plain.now;
+      read = read_none s may c.args.count c.args.text.now c.args.digits.now;
       leaves = leaves_all s may c.args.count c.args.text.now;
     }
 
 pub loop-left-preserved : goal.loop-left-preserved
-loop-left-preserved c =
+loop-left-preserved g c =
     let s = c.args.self.now in
     let may = ends_group s.sizes in
     let n = c.args.count in
@@ -38,7 +38,7 @@ loop-left-preserved c =
     subst (λ p. SkipsSeparator s p after next found) possible skipped.ensures in
     record {
       read = read_more s may n c.args.text.now rest after next digit left (left - 1) found c.loop-left.all
-          c.loop-left.none _ _ c.args.plain.now c.loop-left.plain c.push.new.self below one begins skips
+          c.loop-left.none _ _ c.args.digits.now c.loop-left.digits c.push.new.self below one begins skips
           (all_step c.loop-left.all found c.ends_group-possible.result (may (left - 1))
           possible)
           (none_step c.loop-left.none found)
@@ -48,7 +48,7 @@ loop-left-preserved c =
     }
 
 pub returns-in_err-digit-clause-none : goal.returns-in_err-digit-clause-none
-returns-in_err-digit-clause-none c = on_none c.from_residual.result _ (λ chosen ds tail h all e.
+returns-in_err-digit-clause-none g c = on_none c.from_residual.result _ (λ chosen ds tail h all e.
     let s = c.args.self.now in
     let may = ends_group s.sizes in
     let f = separated_if may chosen in
@@ -59,18 +59,18 @@ returns-in_err-digit-clause-none c = on_none c.from_residual.result _ (λ chosen
     c.in_err-digit.ensures l.0 (separator_if s (f (left - 1)) ++ (digits_text s f l.2 ++ tail)) l.1 l.5)
 
 pub returns-clause-found : goal.returns-clause-found
-returns-clause-found c =
+returns-clause-found g c =
     let s = c.args.self.now in
     let may = ends_group s.sizes in
     let none : c.loop-left.left ≡ 0 = omega (arith, c.loop-left-test.false) in
     read_all s may c.args.count c.args.text.now c.loop-left.rest.now c.loop-left.all c.loop-left.none
-    c.args.plain.now c.loop-left.plain
+    c.args.digits.now c.loop-left.digits
     (subst (λ k. IsReadTo s may c.args.count c.args.text.now c.loop-left.rest.now k c.loop-left.all c.loop-left.none
-    c.args.plain.now c.loop-left.plain) none
+    c.args.digits.now c.loop-left.digits) none
     c.loop-left.invariant.read)
 
 pub returns-clause-unique : goal.returns-clause-unique
-returns-clause-unique c =
+returns-clause-unique g c =
     let s = c.args.self.now in
     let may = ends_group s.sizes in
     let none : c.loop-left.left ≡ 0 = omega (arith, c.loop-left-test.false) in

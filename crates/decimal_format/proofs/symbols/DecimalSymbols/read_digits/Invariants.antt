@@ -3,11 +3,11 @@ use Rattle.decimal_format.proofs.Scans.{IsReadTo, Leaves}
 use Rattle.decimal_format.proofs.symbols.DecimalSymbols.read_digits.Given as goal
 
 abbrev pub invariant-loop-left : goal.invariant-loop-left
-invariant-loop-left l = record {
-  read : IsReadTo l.self (ends_group l.self.sizes) l.count l.text l.rest l.left l.all l.none l.initial.plain
-      l.plain;
+invariant-loop-left g l = record {
+  read : IsReadTo l.self (ends_group l.self.sizes) l.count l.text l.rest l.left l.all l.none l.initial.digits
+      l.digits;
   leaves : Leaves l.self (ends_group l.self.sizes) l.count l.text l.rest l.left;
 }
 
 abbrev pub decreases-loop-left : goal.decreases-loop-left
-decreases-loop-left l = l.left
+decreases-loop-left g l = l.left

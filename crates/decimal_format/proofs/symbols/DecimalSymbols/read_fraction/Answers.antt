@@ -3,31 +3,31 @@ use Rattle.decimal_format.proofs.Scans.{if_some_weaker, if_none_weaker, empty_is
 use Rattle.decimal_format.proofs.symbols.DecimalSymbols.read_fraction.Goals as goal
 
 pub returns-then-is_empty-2-clause-none : goal.returns-then-is_empty-2-clause-none
-returns-then-is_empty-2-clause-none c = λ ds all e.
+returns-then-is_empty-2-clause-none g c = λ ds all e.
     let s = c.args.self.now in
-    let digits = c.in_ok-digits.digits.now in
+    let digits = c.in_ok-fraction.fraction.now in
     let begins : c.args.text.now ≡ s.decimal ++ digits =
-    c.in_ok-digits.ensures ∙ ap (λ l. l ++ digits) (c.as_bytes.ensures.value ∙ c.decimal_separator.ensures.value) in
+    c.in_ok-fraction.ensures ∙ ap (λ l. l ++ digits) (c.as_bytes.ensures.value ∙ c.decimal_separator.ensures.value) in
     let r = fraction_rest s ds c.args.text.now digits (some_is c.args.text.now c.if-is_empty.ensures) e begins in
     fraction_none s c.requires ds all r.0 (sym r.1 ∙ empty_is digits c.if-is_empty-2.ensures)
 
 pub returns-clause-found : goal.returns-clause-found
-returns-clause-found c =
+returns-clause-found g c =
     let s = c.args.self.now in
-    let digits = c.in_ok-digits.digits.now in
+    let digits = c.in_ok-fraction.fraction.now in
     let begins : c.args.text.now ≡ s.decimal ++ digits =
-    c.in_ok-digits.ensures ∙ ap (λ l. l ++ digits) (c.as_bytes.ensures.value ∙ c.decimal_separator.ensures.value) in
+    c.in_ok-fraction.ensures ∙ ap (λ l. l ++ digits) (c.as_bytes.ensures.value ∙ c.decimal_separator.ensures.value) in
     if_some_weaker c.read_last_digits.result _ _
-    (λ count. fraction_found s c.args.text.now digits count c.args.plain.now c.push.new.self
-    c.read_last_digits.new.plain begins (some_is digits c.if-is_empty-2.ensures) c.push.ensures)
+    (λ count. fraction_found s c.args.text.now digits count c.args.digits.now c.read_last_digits.new.digits begins
+    (some_is digits c.if-is_empty-2.ensures))
     c.read_last_digits.ensures.found
 
 pub returns-clause-none : goal.returns-clause-none
-returns-clause-none c =
+returns-clause-none g c =
     let s = c.args.self.now in
-    let digits = c.in_ok-digits.digits.now in
+    let digits = c.in_ok-fraction.fraction.now in
     let begins : c.args.text.now ≡ s.decimal ++ digits =
-    c.in_ok-digits.ensures ∙ ap (λ l. l ++ digits) (c.as_bytes.ensures.value ∙ c.decimal_separator.ensures.value) in
+    c.in_ok-fraction.ensures ∙ ap (λ l. l ++ digits) (c.as_bytes.ensures.value ∙ c.decimal_separator.ensures.value) in
     if_none_weaker c.read_last_digits.result _ _
     (λ none ds all e. none ds all (fraction_rest s ds c.args.text.now digits
     (some_is c.args.text.now c.if-is_empty.ensures) e begins).1)

@@ -4,19 +4,19 @@ use Rattle.decimal_format.proofs.Scans.{on_none, shorter, some_is, last_none, la
 use Rattle.decimal_format.proofs.symbols.DecimalSymbols.read_last_digits.Goals as goal
 
 pub loop-rest-init : goal.loop-rest-init
-loop-rest-init c = record {
+loop-rest-init g c = record {
   at_most = omega arith;
-  read = last_none c.args.self.now c.args.text.now c.args.plain.now;
+  read = last_none c.args.self.now c.args.text.now c.args.digits.now;
 }
 
 pub returns-in_err-digit-clause-none : goal.returns-in_err-digit-clause-none
-returns-in_err-digit-clause-none c = on_none c.from_residual.result _
-    (last_fails c.args.self.now c.requires c.args.text.now c.loop-rest.rest.now c.loop-rest.count c.args.plain.now
-    c.loop-rest.plain c.loop-rest.invariant.read (some_is c.loop-rest.rest.now c.loop-rest-test.ensures)
+returns-in_err-digit-clause-none g c = on_none c.from_residual.result _
+    (last_fails c.args.self.now c.requires c.args.text.now c.loop-rest.rest.now c.loop-rest.count c.args.digits.now
+    c.loop-rest.digits c.loop-rest.invariant.read (some_is c.loop-rest.rest.now c.loop-rest-test.ensures)
     c.in_err-digit.ensures)
 
 pub loop-rest-smaller : goal.loop-rest-smaller
-loop-rest-smaller c =
+loop-rest-smaller g c =
     let s = c.args.self.now in
     let digit = c.in_ok-digit.digit in
     let below : digit < 10 = omega (arith, c.in_ok-digit.ensures.0, c.in_ok-digit.digit-is) in
@@ -26,7 +26,7 @@ loop-rest-smaller c =
     shorter s c.requires c.loop-rest.rest.now c.in_ok-digit.after.now digit below begins
 
 pub loop-rest-preserved : goal.loop-rest-preserved
-loop-rest-preserved c =
+loop-rest-preserved g c =
     let s = c.args.self.now in
     let digit = c.in_ok-digit.digit in
     let below : digit < 10 = omega (arith, c.in_ok-digit.ensures.0, c.in_ok-digit.digit-is) in
@@ -41,5 +41,5 @@ loop-rest-preserved c =
             c.loop-rest.invariant.at_most,
           );
       read = last_more s c.args.text.now c.loop-rest.rest.now c.in_ok-digit.after.now c.loop-rest.count digit
-          c.args.plain.now c.loop-rest.plain c.push.new.self below begins c.push.ensures c.loop-rest.invariant.read;
+          c.args.digits.now c.loop-rest.digits c.push.new.self below begins c.push.ensures c.loop-rest.invariant.read;
     }

@@ -1,22 +1,23 @@
 use Rattle.std.proofs.Common.{◌≡◌, ◌<◌, true, [], ◌++◌, length, refl, sym, ◌∙◌, ap, subst, arith}
 use Rattle.std.specs.Prelude.{◌↔◌}
+use Rattle.decimal_format.specs.Collecting.{Collects}
 use Rattle.decimal_format.specs.Symbols.{sign_affixes}
 use Rattle.decimal_format.specs.Lenient.{ends_group, separated_at}
 use Rattle.decimal_format.specs.Reading.{Numeral, AreDigits, digits_text, fraction_text, absolute_numeral_text}
-use Rattle.decimal_format.specs.Scanning.{IsUniform, ascii_digits_of}
+use Rattle.decimal_format.specs.Scanning.{IsUniform}
 use Rattle.decimal_format.proofs.DigitTexts.{fraction_ends}
 use Rattle.decimal_format.proofs.NumeralLaws.{numeral_if_uniform}
 use Rattle.decimal_format.proofs.Scans.{on_none, number_begins}
 use Rattle.decimal_format.proofs.symbols.DecimalSymbols.scan.Goals as goal
 
 pub returns-in_err-sign-clause-none : goal.returns-in_err-sign-clause-none
-returns-in_err-sign-clause-none c = on_none c.from_residual.result _ (λ w numeral.
+returns-in_err-sign-clause-none g c = on_none c.from_residual.result _ (λ w numeral.
     let s = c.args.self.now in
     let f = separated_at s numeral.chosen in
     c.in_err-sign.ensures.unique w.sign (absolute_numeral_text s f w) (number_begins s f w numeral.digits) numeral.text)
 
 pub returns-then-integer_digits-eq0-clause-none : goal.returns-then-integer_digits-eq0-clause-none
-returns-then-integer_digits-eq0-clause-none c = λ w numeral.
+returns-then-integer_digits-eq0-clause-none g c = λ w numeral.
     let s = c.args.self.now in
     let f = separated_at s numeral.chosen in
     let split = c.in_ok-sign.ensures.unique w.sign (absolute_numeral_text s f w) (number_begins s f w
@@ -27,7 +28,7 @@ returns-then-integer_digits-eq0-clause-none c = λ w numeral.
     omega (arith, count, numeral.digits.some, c.if-integer_digits-eq0.true)
 
 pub returns-in_err-is_strict-clause-none : goal.returns-in_err-is_strict-clause-none
-returns-in_err-is_strict-clause-none c = on_none c.from_residual-in_err-is_strict.result _ (λ w numeral.
+returns-in_err-is_strict-clause-none g c = on_none c.from_residual-in_err-is_strict.result _ (λ w numeral.
     let s = c.args.self.now in
     let f = separated_at s numeral.chosen in
     let split = c.in_ok-sign.ensures.unique w.sign (absolute_numeral_text s f w) (number_begins s f w
@@ -39,7 +40,7 @@ returns-in_err-is_strict-clause-none c = on_none c.from_residual-in_err-is_stric
     number)
 
 pub returns-in_err-fraction_digits-clause-none : goal.returns-in_err-fraction_digits-clause-none
-returns-in_err-fraction_digits-clause-none c = on_none c.from_residual-in_err-fraction_digits.result _ (λ w numeral.
+returns-in_err-fraction_digits-clause-none g c = on_none c.from_residual-in_err-fraction_digits.result _ (λ w numeral.
     let s = c.args.self.now in
     let f = separated_at s numeral.chosen in
     let split = c.in_ok-sign.ensures.unique w.sign (absolute_numeral_text s f w) (number_begins s f w
@@ -52,7 +53,7 @@ returns-in_err-fraction_digits-clause-none c = on_none c.from_residual-in_err-fr
     numeral.digits.whole number))
 
 pub returns-clause-found : goal.returns-clause-found
-returns-clause-found c =
+returns-clause-found g c =
     let s = c.args.self.now in
     let whole = c.in_ok-is_strict.ensures.found in
     let fraction = c.in_ok-fraction_digits.ensures.found in
@@ -64,6 +65,9 @@ returns-clause-found c =
     ∙ ap (λ l. affixes.prefix ++ (l ++ affixes.suffix))
     (whole.text ∙ ap (λ l. digits_text s (separated_at s whole.chosen) whole.digits ++ l) fraction.text) in
     let strict = numeral_if_uniform s c.requires.readable c.args.text.now w whole.chosen digits text in
+    let n = length whole.digits in
+    let begun = subst (λ k. Collects g.D.DigitStore.L k c.new-digits.result []) (sym whole.count) c.new-digits.ensures in
+    let collected = fraction.collected g.D.DigitStore.L n whole.digits (whole.collected g.D.DigitStore.L n [] begun) in
     let uniform = subst (λ n. c.in_ok-is_strict.is_strict ≡ true ↔ IsUniform (ends_group s.sizes) whole.chosen n)
     (sym whole.count) whole.uniform in (
       w,
@@ -73,6 +77,6 @@ returns-clause-found c =
         whole = sym whole.count;
         fraction = sym fraction.count;
       },
-      fraction.plain (ascii_digits_of whole.digits) (whole.plain [] c.requires.empty),
+      collected,
       (λ h. strict.0 (uniform.0 h), λ numeral. uniform.1 (strict.1 numeral)),
     )

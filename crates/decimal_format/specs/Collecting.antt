@@ -1,0 +1,67 @@
+-- Private: used only in the contracts of private functions.
+-- Digits that are collected from left to right.
+use Rattle.std.specs.Prelude.{◌≡◌, ℕ, ◌+◌, ◌-◌, ◌*◌, ◌%◌, ◌^◌, ◌<◌, ◌≤◌, Bool, true, false, List, ◌++◌, length, ℤ, pos, ◌-ℤ◌, ◌≤ℤ◌}
+use Rattle.std.specs.Int.{int_min}
+use Rattle.std.specs.Int.Digits.{AllBelowBase, number_from_digits}
+use Rattle.decimal_digits.specs.Digits.{number_at}
+use Rattle.decimal_digits.specs.Number.{offset, weight, size}
+use Rattle.decimal_unsigned.specs.Unsigned.{Unsigned}
+
+-- the value of the first digits and their number, of a number with so many integer digits, and the others as an integer
+pub record Collected : Type 0 where
+  pub inline : ℕ
+  pub value : Unsigned
+  pub integer_digits : ℕ
+  pub written : ℕ
+  pub integer : ℕ
+  pub count : ℕ
+  pub out_of_memory : Bool
+
+-- the value of digits of which the first n are integer digits: 2.5 of 2 and 5 for n = 1, 2000 of 2 for n = 4
+abbrev pub value_of_first : ℕ → List ℕ → Unsigned
+value_of_first n ds = record {
+  number = number_at (n + 32768) ds;
+  hi = pos (n - 1);
+  lo = int_min (pos n -ℤ pos (length ds)) (pos 0);
+}
+
+-- a value has at most 32768 integer digits and as many fraction digits
+pub record IsInLimits (n : ℕ) (ds : List ℕ) : Type 0 where
+  pub whole : n ≤ 32768
+  pub all : length ds ≤ n + 32768
+
+-- these digits were collected, of a number with n integer digits; or an allocation has failed, which all digits that
+-- begin with the first ones need
+pub record Collects (inline n : ℕ) (c : Collected) (ds : List ℕ) : Type 0 where
+  pub first : List ℕ
+  pub others : List ℕ
+  pub all : ds ≡ first ++ others
+  pub digits : AllBelowBase 10 ds
+  pub store : c.inline ≡ inline
+  pub count : c.count ≡ length others
+  pub integer : c.integer ≡ number_from_digits 10 others
+  pub integer_digits : n ≤ 32768 → c.integer_digits ≡ n
+  pub written : IsInLimits n first → c.out_of_memory ≡ false → c.written ≡ length first
+  pub value : IsInLimits n first → c.out_of_memory ≡ false → c.value ≡ value_of_first n first
+  pub memory : c.out_of_memory ≡ true → (more : List ℕ) → AllBelowBase 10 (first ++ more)
+      → IsInLimits n (first ++ more) → inline < size (value_of_first n (first ++ more)).number
+
+-- these digits were collected after those before
+abbrev pub CollectsDigits : Collected → Collected → List ℕ → Type 0
+CollectsDigits old new ds = (inline n : ℕ) (before : List ℕ) → Collects inline n old before
+    → Collects inline n new (before ++ ds)
+
+-- an integer at a position has only digits below those of a value, and all within the integer digits that it shows
+pub record IsBelow (v : Unsigned) (integer : ℕ) (position : ℤ) : Type 0 where
+  pub cut : ℕ
+  pub divides : v.number % 10 ^ cut ≡ 0
+  pub less : integer * weight position < 10 ^ cut
+  pub sum : v.number + integer * weight position < 10 ^ (offset v.hi + 1)
+  pub hi : (pos 0 ≤ℤ v.hi) × (v.hi ≤ℤ pos 32767)
+  pub shown : position ≤ℤ v.hi
+  pub lo : v.lo ≤ℤ pos 0
+
+-- the value with the digits of an integer appended, the last of them at a position
+abbrev pub appended : Unsigned → ℕ → ℤ → Unsigned
+appended v integer position =
+    record v { number = v.number + integer * weight position; lo = int_min v.lo position }
