@@ -191,7 +191,8 @@ zero_padded n position at = go (int_lt (pos 0) position) refl
         → (if b then record zero_value { hi = int_max (position -ℤ pos 1) (first 0) } else zero_value)
         ≡ value_of_first n []
     go true e =
-        let hi : int_max (position -ℤ pos 1) (first 0) ≡ pos (n - 1) = grind (arith, ints, clamps, nat_tests, first_zero) in
+        let hi : int_max (position -ℤ pos 1) (first 0) ≡ pos (n - 1) =
+        grind (arith, ints, clamps, nat_tests, first_zero) in
         λ i. record { number = sym (no_digits n) i; hi = hi i; lo = lo i }
     go false e =
         let hi : pos 0 ≡ pos (n - 1) = grind (arith, ints, nat_tests) in
@@ -243,7 +244,8 @@ module _ (n : ℕ) (ds more : List ℕ) (position : ℤ) (all : AllBelowBase 10 
   }
 
   -- and appended to them it has the digits of both
-  pub more_appended : appended (value_of_first n ds) (number_from_digits 10 more) position ≡ value_of_first n (ds ++ more)
+  pub more_appended : appended (value_of_first n ds) (number_from_digits 10 more) position
+      ≡ value_of_first n (ds ++ more)
   more_appended =
       let lo : int_min (int_min (pos n -ℤ pos (length ds)) (pos 0)) position
       ≡ int_min (pos n -ℤ pos (length (ds ++ more))) (pos 0) =
@@ -377,7 +379,8 @@ pub collects_appended : (inline n : ℕ) (old new : Collected) (ds : List ℕ) (
     → (new.out_of_memory ≡ true → IsBelow old.value old.integer position
     → inline < size (appended old.value old.integer position).number)
     → Collects inline n old ds → Collects inline n new ds
-collects_appended inline n old new ds position in_memory some store digits written integer count at ok fails h = record {
+collects_appended inline n old new ds position in_memory some store digits written integer count at ok fails
+    h = record {
   first = h.first ++ h.others;
   others = [];
   all = h.all ∙ sym (append-nil (h.first ++ h.others));

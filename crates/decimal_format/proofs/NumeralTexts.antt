@@ -341,7 +341,8 @@ value_of_digits w digits few_whole few_fraction =
           let rest : n + 32768 - length (w.whole ++ w.fraction) ≡ low =
           omega (arith, ints, few_fraction, offset_is lo, length-append w.whole w.fraction) in
           let same : number ≡ number_at (n + 32768) (w.whole ++ w.fraction) =
-          sym (number_at-append (n + 32768) w.whole w.fraction (omega (arith, few_fraction, length-append w.whole w.fraction))
+          sym (number_at-append (n + 32768) w.whole w.fraction
+          (omega (arith, few_fraction, length-append w.whole w.fraction))
           ∙ (rw (rest, split, number_is w.whole, number_is w.fraction) (omega arith))) in
           let lowest : lo ≡ int_min (pos n -ℤ pos (length (w.whole ++ w.fraction))) (pos 0) =
           omega (arith, ints, clamps, length-append w.whole w.fraction) in

@@ -7,7 +7,8 @@ use Rattle.decimal_digits.specs.Digits.{number_at}
 use Rattle.decimal_digits.specs.Number.{offset, weight, size}
 use Rattle.decimal_unsigned.specs.Unsigned.{Unsigned}
 
--- the value of the first digits and their number, of a number with so many integer digits, and the others as an integer
+-- the digits of a number with these integer digits: the value of the first ones and their number, and the others as an
+-- integer and their number
 pub record Collected : Type 0 where
   pub inline : ℕ
   pub value : Unsigned

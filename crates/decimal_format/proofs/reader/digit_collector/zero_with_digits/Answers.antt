@@ -21,7 +21,8 @@ pub unwrap-requires : goal.unwrap-requires
 unwrap-requires g c =
     c.multiply_pow10.ensures.fits.1
     (subst (λ (v : Unsigned). IsFalse (leaves_limits v (pos 1)))
-    (sym (c.pad_start-2.ensures ∙ ap (λ (v : Unsigned). padded_start v (pos 32767)) c.zero-zero.ensures)) most_in_limits)
+    (sym (c.pad_start-2.ensures ∙ ap (λ (v : Unsigned). padded_start v (pos 32767)) c.zero-zero.ensures))
+    most_in_limits)
 
 pub returns : goal.returns
 returns g c =

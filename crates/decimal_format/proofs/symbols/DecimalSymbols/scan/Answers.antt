@@ -66,7 +66,8 @@ returns-clause-found g c =
     (whole.text ∙ ap (λ l. digits_text s (separated_at s whole.chosen) whole.digits ++ l) fraction.text) in
     let strict = numeral_if_uniform s c.requires.readable c.args.text.now w whole.chosen digits text in
     let n = length whole.digits in
-    let begun = subst (λ k. Collects g.D.DigitStore.L k c.new-digits.result []) (sym whole.count) c.new-digits.ensures in
+    let begun = subst (λ k. Collects g.D.DigitStore.L k c.new-digits.result []) (sym whole.count)
+    c.new-digits.ensures in
     let collected = fraction.collected g.D.DigitStore.L n whole.digits (whole.collected g.D.DigitStore.L n [] begun) in
     let uniform = subst (λ n. c.in_ok-is_strict.is_strict ≡ true ↔ IsUniform (ends_group s.sizes) whole.chosen n)
     (sym whole.count) whole.uniform in (

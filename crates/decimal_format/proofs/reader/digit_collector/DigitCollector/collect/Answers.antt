@@ -5,12 +5,14 @@ use Rattle.decimal_format.proofs.reader.digit_collector.DigitCollector.collect.G
 
 pub overflow_mul-self : goal.overflow_mul-self
 overflow_mul-self g c =
-    let room : c.self.inside.count < 18 = omega (arith, c.requires.room, ap (λ (s : Collected). s.count) c.self.view_is) in
+    let room : c.self.inside.count < 18 =
+    omega (arith, c.requires.room, ap (λ (s : Collected). s.count) c.self.view_is) in
     record { fits = omega (arith, room_for_digit c.self.inside.integer c.self.inside.count c.self.invariant.0 room) }
 
 pub overflow_add-self : goal.overflow_add-self
 overflow_add-self g c =
-    let room : c.self.inside.count < 18 = omega (arith, c.requires.room, ap (λ (s : Collected). s.count) c.self.view_is) in
+    let room : c.self.inside.count < 18 =
+    omega (arith, c.requires.room, ap (λ (s : Collected). s.count) c.self.view_is) in
     record {
       fits =
           omega (

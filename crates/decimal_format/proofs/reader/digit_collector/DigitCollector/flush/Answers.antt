@@ -50,7 +50,8 @@ returns-clause-collects g c = λ n ds h.
     (omega (arith, c.if-count-eq0.false, ap (λ (s : Collected). s.count) is))
     (ap (λ (s : Collected). s.inline) is) (ap (λ (s : Collected). s.integer_digits) is)
     (λ i. (is i).written + (is i).count) refl refl at
-    (λ kept. subst (λ (s : Collected). IsBelow s.value s.integer position → new ≡ appended s.value s.integer position) is
+    (λ kept. subst (λ (s : Collected). IsBelow s.value s.integer position
+    → new ≡ appended s.value s.integer position) is
     (appends.0 kept))
     (λ out. subst (λ (s : Collected). IsBelow s.value s.integer position
     → g.D.DigitStore.L < size (appended s.value s.integer position).number) is (appends.1 out))
