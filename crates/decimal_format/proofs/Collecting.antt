@@ -381,32 +381,32 @@ pub collects_appended : (inline n : ℕ) (old new : Collected) (ds : List ℕ) (
     → Collects inline n old ds → Collects inline n new ds
 collects_appended inline n old new ds position in_memory some store digits written integer count at ok fails
     h = record {
-  first = h.first ++ h.others;
-  others = [];
-  all = h.all ∙ sym (append-nil (h.first ++ h.others));
-  digits = h.digits;
-  store = store ∙ h.store;
-  count = count;
-  integer = integer;
-  integer_digits = λ few. digits ∙ h.integer_digits few;
-  written = λ limits kept.
-      omega (
-        arith,
-        written,
-        h.written (first_limits n h.first h.others limits) in_memory,
-        h.count,
-        length-append h.first h.others,
-      );
-  value = λ limits kept. ok kept (is_below limits) ∙ is_appended limits;
-  memory = λ out more all limits.
-      let few = first_limits n (h.first ++ h.others) more limits in
-      let here = fails out (is_below few) in
-      omega (
-        arith,
-        subst (λ (v : Unsigned). inline < size v.number) (is_appended few) here,
-        size_more n (h.first ++ h.others) more all limits,
-      );
-}
+      first = h.first ++ h.others;
+      others = [];
+      all = h.all ∙ sym (append-nil (h.first ++ h.others));
+      digits = h.digits;
+      store = store ∙ h.store;
+      count = count;
+      integer = integer;
+      integer_digits = λ few. digits ∙ h.integer_digits few;
+      written = λ limits kept.
+          omega (
+            arith,
+            written,
+            h.written (first_limits n h.first h.others limits) in_memory,
+            h.count,
+            length-append h.first h.others,
+          );
+      value = λ limits kept. ok kept (is_below limits) ∙ is_appended limits;
+      memory = λ out more all limits.
+          let few = first_limits n (h.first ++ h.others) more limits in
+          let here = fails out (is_below few) in
+          omega (
+            arith,
+            subst (λ (v : Unsigned). inline < size v.number) (is_appended few) here,
+            size_more n (h.first ++ h.others) more all limits,
+          );
+    }
   where
     value_is : IsInLimits n (h.first ++ h.others) → old.value ≡ value_of_first n h.first
     value_is limits = h.value (first_limits n h.first h.others limits) in_memory

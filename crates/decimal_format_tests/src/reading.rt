@@ -182,8 +182,10 @@ fn reports_limits_after_syntax(rt: HostRuntime) -> Result<(), Fail> {
     ] {
         let text = zeros(rt.alloc(), whole, fraction, last)?;
         // The store is out of memory for more than sixteen digits from the first to the last nonzero one.
-        let read = symbols
-            .read::<LimitedStore<PackedDigits, SixteenDigits>>(rt.alloc(), text.as_slice());
+        let read = symbols.read::<LimitedStore<PackedDigits, SixteenDigits>>(
+            rt.alloc(),
+            text.as_slice(),
+        );
         assert!(rt; read.err() == error, "{whole} {fraction}");
     }
     Ok(())

@@ -134,27 +134,27 @@ module _ (m n cut b : ℕ) (divides : m % 10 ^ cut ≡ 0) (less : n < 10 ^ cut) 
         let e : size m ≡ 0 = ap size (let z : m ≡ 0 = omega arith in z) in
         omega (arith, e)
     | inl some ↦ elim (cases_lt 0 n) [
-        | inr none ↦
-            let e : size (m + n) ≡ size m = ap size (let z : m + n ≡ m = omega arith in z) in
-            omega (arith, e)
-        | inl more ↦
-            let u = upper some in
-            let l = lower more in
-            omega (
-              arith,
-              ints,
-              size_some m some,
-              size_joined some more,
-              apart some more,
-              ordered u,
-              ordered l,
-              first_of u,
-              last_of u,
-              last_of l,
-              gap_is (last m) (first m),
-              gap_is (last n) (first m),
-            )
-      ]
+      | inr none ↦
+          let e : size (m + n) ≡ size m = ap size (let z : m + n ≡ m = omega arith in z) in
+          omega (arith, e)
+      | inl more ↦
+          let u = upper some in
+          let l = lower more in
+          omega (
+            arith,
+            ints,
+            size_some m some,
+            size_joined some more,
+            apart some more,
+            ordered u,
+            ordered l,
+            first_of u,
+            last_of u,
+            last_of l,
+            gap_is (last m) (first m),
+            gap_is (last n) (first m),
+          )
+    ]
   ]
 
   pub size_right : size n ≤ size (m + n)
@@ -163,27 +163,27 @@ module _ (m n cut b : ℕ) (divides : m % 10 ^ cut ≡ 0) (less : n < 10 ^ cut) 
         let e : size n ≡ 0 = ap size (let z : n ≡ 0 = omega arith in z) in
         omega (arith, e)
     | inl more ↦ elim (cases_lt 0 m) [
-        | inr none ↦
-            let e : size (m + n) ≡ size n = ap size (let z : m + n ≡ n = omega arith in z) in
-            omega (arith, e)
-        | inl some ↦
-            let u = upper some in
-            let l = lower more in
-            omega (
-              arith,
-              ints,
-              size_some n more,
-              size_joined some more,
-              apart some more,
-              ordered u,
-              ordered l,
-              first_of l,
-              first_of u,
-              last_of l,
-              gap_is (last n) (first n),
-              gap_is (last n) (first m),
-            )
-      ]
+      | inr none ↦
+          let e : size (m + n) ≡ size n = ap size (let z : m + n ≡ n = omega arith in z) in
+          omega (arith, e)
+      | inl some ↦
+          let u = upper some in
+          let l = lower more in
+          omega (
+            arith,
+            ints,
+            size_some n more,
+            size_joined some more,
+            apart some more,
+            ordered u,
+            ordered l,
+            first_of l,
+            first_of u,
+            last_of l,
+            gap_is (last n) (first n),
+            gap_is (last n) (first m),
+          )
+    ]
   ]
 
 module _ (n i : ℕ) (e : Extent n) where
