@@ -26,7 +26,7 @@ value_of_first n ds = record {
   lo = int_min (pos n -ℤ pos (length ds)) (pos 0);
 }
 
--- a value has at most 32768 integer digits and as many fraction digits
+-- a value has at most 32768 integer digits and at most 32768 fraction digits
 pub record IsInLimits (n : ℕ) (ds : List ℕ) : Type 0 where
   pub whole : n ≤ 32768
   pub all : length ds ≤ n + 32768

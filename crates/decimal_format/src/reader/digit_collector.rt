@@ -1,7 +1,6 @@
 //! The value of digits that are read from left to right.
-ghost use Rattle.std.specs.Prelude.{◌≡◌, ℕ, ◌-◌, ◌<◌, ◌≤◌, pos, List, [], ◌∷◌, false, OnOk, OnErr, IfOk, IfErr};
+ghost use Rattle.std.specs.Prelude.{◌≡◌, ℕ, ◌<◌, ◌≤◌, List, [], ◌∷◌, OnOk, OnErr, IfOk};
 ghost use Rattle.decimal_digits.specs.Number.{size};
-ghost use Rattle.decimal_unsigned.specs.Unsigned.{Unsigned};
 ghost use Rattle.decimal_format.specs.Collecting.{Collects, CollectsDigits, IsInLimits, IsBelow, appended, value_of_first};
 
 use decimal_digits::ops::{subtract_counts, to_magnitude};
