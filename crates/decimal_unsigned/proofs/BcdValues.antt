@@ -1,5 +1,5 @@
 -- Plain texts: their digits as a number in base 16, and the value of their parts.
-use Rattle.decimal_unsigned.proofs.Common.{clamps, nat_tests, common_steps, ◌≡◌, ℕ, zero, suc, ◌+◌, ◌-◌, ◌*◌, ◌/◌, ◌%◌, ◌^◌, ◌<◌, ◌≤◌, inl, inr, true, List, [], ◌∷◌, ◌++◌, length, get_or, take, drop, take_all, map, refl, sym, ◌∙◌, ap, subst, arith, Some, None, option_map, Result, Ok, pos, ◌-ℤ◌, mul-lt-mul_of_pos_right, pow-le-pow_right, cases_lt, ints, pow-add, append-nil, take-append-drop, length-append, length-drop, length-take, length-take-le, length-map, number_lt, digits_value_is, is_ascii_digit, prefix_len, digit_value, number_from_digits, AllBelowBase, AllDigits, digits_value, Literal, value_of, middle, IsNonzeroRange, pow-suc, mod-eq_of_lt, digits_value_after, below_sixteen}
+use Rattle.decimal_unsigned.proofs.Common.{clamps, nat_tests, common_steps, ◌≡◌, ℕ, zero, suc, ◌+◌, ◌-◌, ◌*◌, ◌/◌, ◌%◌, ◌^◌, ◌<◌, ◌≤◌, inl, inr, true, List, [], ◌∷◌, ◌++◌, length, get_or, take, drop, take_all, map, refl, sym, ◌∙◌, ap, subst, arith, Some, None, option_map, Result, Ok, pos, ◌-ℤ◌, mul-lt-mul_of_pos_right, pow-le-pow_right, cases_lt, ints, pow-add, append-nil, take-append-drop, length-append, length-drop, length-take, length-take-le, length-map, number_lt, digits_value_is, is_ascii_digit, prefix_len, digit_value, number_from_digits, AllBelowBase, AllDigits, digits_value, Literal, middle, IsNonzeroRange, pow-suc, mod-eq_of_lt, digits_value_after, below_sixteen}
 use mir.Val.{bits}
 use Rattle.std.specs.Int.{Width, w64, bit_at, leading_zeros, trailing_zeros}
 use Rattle.std.proofs.Math.Nat.{one-le-pow, div-div-eq-div-mul, div-eq_of_lt-le, zero-div}
@@ -428,51 +428,51 @@ module _ (whole fraction number : ℕ) (ds : List ℕ) (bcd : IsBcd number (whol
 
   -- any other number, of k nibbles
   module _ (width : Width) (k : ℕ) (size : bits width ≡ 4 * k) (fits : number < 2 ^ bits width) (some : 0 < number)
-      where
-    found : (k - leading_zeros width number / 4 ≤ length ds)
-        × IsNonzeroRange ds (length ds - (k - leading_zeros width number / 4))
-        (length ds - trailing_zeros width number / 4)
-    found = inner_number width k size ds number bcd.digits fits bcd.number some
+    where
+      found : (k - leading_zeros width number / 4 ≤ length ds)
+          × IsNonzeroRange ds (length ds - (k - leading_zeros width number / 4))
+          (length ds - trailing_zeros width number / 4)
+      found = inner_number width k size ds number bcd.digits fits bcd.number some
 
-    -- the zero nibbles bound the nonzero digits, which are no more than the digits
-    pub bcd_sizes : (trailing_zeros width number / 4 < k - leading_zeros width number / 4)
-        × (k - leading_zeros width number / 4 ≤ whole + fraction)
-    bcd_sizes =
-        (omega (arith, found.0, found.1.ordered, found.1.within), omega (arith, found.0, bcd.count))
+      -- the zero nibbles bound the nonzero digits, which are no more than the digits
+      pub bcd_sizes : (trailing_zeros width number / 4 < k - leading_zeros width number / 4)
+          × (k - leading_zeros width number / 4 ≤ whole + fraction)
+      bcd_sizes =
+          (omega (arith, found.0, found.1.ordered, found.1.within), omega (arith, found.0, bcd.count))
 
-    pub bcd_value : (zeros len : ℕ) (bytes : List ℕ) (b : Bounds) → zeros ≡ leading_zeros width number / 4
-        → len ≡ (k - zeros) - trailing_zeros width number / 4
-        → b.magnitude ≡ pos (k - zeros) -ℤ pos (fraction + 1) → b.hi ≡ pos (whole - 1)
-        → b.lo ≡ pos 0 -ℤ pos fraction
-        → ((ds : List ℕ) → length ds ≡ len → len ≤ k → AllBelowBase 10 ds
-        → number * 2 ^ (4 * zeros) % 2 ^ (4 * k) ≡ number_from_digits 16 ds * 16 ^ (k - len) → Encodes bytes len ds)
-        → IsBcdValue (Ok (value_of_first whole ds)) bytes len b
-    bcd_value zeros len bytes b z l m hi lo encoded =
-        let start = length ds - (k - zeros) in
-        let end = length ds - trailing_zeros width number / 4 in
-        let inner = middle start end ds in
-        let places : k - zeros ≤ length ds = omega (arith, z, found.0) in
-        let n : IsNonzeroRange ds start end = rw z found.1 in
-        let at : b.magnitude ≡ (pos whole -ℤ pos 1) -ℤ pos start = omega (arith, ints, m, places, bcd.count) in
-        let stored = stored_middle ds start end whole fraction b.magnitude n bcd.digits bcd.count few short at in
-        let units =
-        number_of-middle ds start end whole fraction b.magnitude n bcd.count short
-        (omega (arith, ints, at, offset_is b.magnitude, n.ordered, n.within, bcd.count)) in
-        let most : zeros ≤ k = omega (arith, z, size, leading_le (bits width) number) in
-        let moved =
-        middle_number ds k number zeros start end bcd.digits bcd.number n (omega (arith, places, most))
-        (omega (arith, places, most)) in
-        let long : end - start ≡ len = omega (arith, l, n.ordered, n.within, places) in
-        let packed =
-        encoded inner (middle_length ds start end n ∙ long) (omega (arith, l)) (middle_below ds start end n bcd.digits)
-        (moved ∙ ap (λ i. number_from_digits 16 inner * 16 ^ (k - i)) long) in
-        record {
-          packed = packed.packed;
-          stored = rw (packed.digits, hi, lo) stored;
-          value =
-              ap Ok value_is ∙ (λ i. Ok (record { number = sym units i; hi = sym hi i; lo = sym lo i }))
-              ∙ ap (λ l. Ok (value_within l b)) (sym packed.digits);
-        }
+      pub bcd_value : (zeros len : ℕ) (bytes : List ℕ) (b : Bounds) → zeros ≡ leading_zeros width number / 4
+          → len ≡ (k - zeros) - trailing_zeros width number / 4
+          → b.magnitude ≡ pos (k - zeros) -ℤ pos (fraction + 1) → b.hi ≡ pos (whole - 1)
+          → b.lo ≡ pos 0 -ℤ pos fraction
+          → ((ds : List ℕ) → length ds ≡ len → len ≤ k → AllBelowBase 10 ds
+          → number * 2 ^ (4 * zeros) % 2 ^ (4 * k) ≡ number_from_digits 16 ds * 16 ^ (k - len) → Encodes bytes len ds)
+          → IsBcdValue (Ok (value_of_first whole ds)) bytes len b
+      bcd_value zeros len bytes b z l m hi lo encoded =
+          let start = length ds - (k - zeros) in
+          let end = length ds - trailing_zeros width number / 4 in
+          let inner = middle start end ds in
+          let places : k - zeros ≤ length ds = omega (arith, z, found.0) in
+          let n : IsNonzeroRange ds start end = rw z found.1 in
+          let at : b.magnitude ≡ (pos whole -ℤ pos 1) -ℤ pos start = omega (arith, ints, m, places, bcd.count) in
+          let stored = stored_middle ds start end whole fraction b.magnitude n bcd.digits bcd.count few short at in
+          let units =
+          number_of-middle ds start end whole fraction b.magnitude n bcd.count short
+          (omega (arith, ints, at, offset_is b.magnitude, n.ordered, n.within, bcd.count)) in
+          let most : zeros ≤ k = omega (arith, z, size, leading_le (bits width) number) in
+          let moved =
+          middle_number ds k number zeros start end bcd.digits bcd.number n (omega (arith, places, most))
+          (omega (arith, places, most)) in
+          let long : end - start ≡ len = omega (arith, l, n.ordered, n.within, places) in
+          let packed =
+          encoded inner (middle_length ds start end n ∙ long) (omega (arith, l)) (middle_below ds start end n bcd.digits)
+          (moved ∙ ap (λ i. number_from_digits 16 inner * 16 ^ (k - i)) long) in
+          record {
+            packed = packed.packed;
+            stored = rw (packed.digits, hi, lo) stored;
+            value =
+                ap Ok value_is ∙ (λ i. Ok (record { number = sym units i; hi = sym hi i; lo = sym lo i }))
+                ∙ ap (λ l. Ok (value_within l b)) (sym packed.digits);
+          }
 
 -- up to sixteen digits, in 64 bits
 module _ (whole fraction number : ℕ) (fits : number < 2 ^ 64) (some : 0 < number) (few : whole + fraction ≤ 16)

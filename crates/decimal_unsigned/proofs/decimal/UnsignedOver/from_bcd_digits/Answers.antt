@@ -1,5 +1,4 @@
-use Rattle.decimal_unsigned.proofs.Common.{arith, ints, clamps, refl, sym, ◌∙◌, ◌+◌, ◌-◌, List, ℕ, w16, to_z, of_z, pos, ◌-ℤ◌}
-use Rattle.decimal_unsigned.specs.DigitValues.{IsBcd, value_of_first}
+use Rattle.decimal_unsigned.proofs.Common.{arith, ints, clamps, refl, sym, w16, to_z, of_z}
 use Rattle.decimal_unsigned.proofs.BcdValues.{zero_stored, zero_is, short_sizes, short_value, wide_allocates, ok_is}
 use Rattle.decimal_unsigned.proofs.decimal.UnsignedOver.from_bcd_digits.Goals as goal
 
@@ -32,8 +31,12 @@ returns-in_err-digits-clause-succeeds g c = λ ds bcd few.
     let value =
     short_value c.args.whole c.args.fraction c.args.number (omega arith) (omega arith) c.requires.at_most ds bcd
     (record { magnitude = _; hi = _; lo = _ }) refl refl refl in
-    absurd (omega (arith, few, wide_allocates _ _ _ g.D.DigitStore.L _ value
-    (λ fits. let k = c.in_err-digits.ensures.succeeds fits in absurd (cc))))
+    absurd (omega (
+      arith,
+      few,
+      wide_allocates _ _ _ g.D.DigitStore.L _ value
+          (λ fits. let k = c.in_err-digits.ensures.succeeds fits in absurd (cc)),
+    ))
 
 pub invariant_of-result-2 : goal.invariant_of-result-2
 invariant_of-result-2 g c =

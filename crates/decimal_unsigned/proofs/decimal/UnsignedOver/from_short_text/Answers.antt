@@ -1,4 +1,4 @@
-use Rattle.decimal_unsigned.proofs.Common.{rules, ◌≡◌, arith, List, ℕ, Result, Ok, Err, ◌∙◌, ap, sym, read, Unsigned}
+use Rattle.decimal_unsigned.proofs.Common.{rules, arith, Result, Ok, Err, ◌∙◌, ap, sym}
 use Rattle.std.specs.Prelude.{IfOk, IfSome}
 use Rattle.std.specs.Result.{result_ok}
 use Rattle.decimal_unsigned.proofs.BcdValues.{number_fits_64, plain_bcd, plain_digits, plain_read}
@@ -16,9 +16,10 @@ overflow_cast-number g c =
     search (rules, fits)
 
 pub from_bcd_digits-requires-clause-digits : goal.from_bcd_digits-requires-clause-digits
-from_bcd_digits-requires-clause-digits g c =
-    (plain_digits c.args.text.now c.in_ok-plain.plain c.in_ok-plain.ensures.plain,
-    plain_bcd c.args.text.now c.in_ok-plain.plain c.in_ok-plain.ensures.plain)
+from_bcd_digits-requires-clause-digits g c = (
+  plain_digits c.args.text.now c.in_ok-plain.plain c.in_ok-plain.ensures.plain,
+  plain_bcd c.args.text.now c.in_ok-plain.plain c.in_ok-plain.ensures.plain,
+)
 
 pub returns : goal.returns
 returns g c =
