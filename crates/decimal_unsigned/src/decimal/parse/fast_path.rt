@@ -48,12 +48,12 @@ fn count_digits(before: u64, text: &[u8]) -> (usize, u64)
 {
     let mut number = before;
     for i in 0..text.len() {
-        if !text[i].is_ascii_digit() {
+        // In 64 bits at once, not first in eight.
+        let digit = u64::from(text[i]).wrapping_sub(u64::from(b'0'));
+        if digit > 9 {
             return (i, number);
         }
-        number = number
-            .wrapping_mul(16)
-            .wrapping_add(u64::from(text[i] - b'0'));
+        number = number.wrapping_mul(16).wrapping_add(digit);
     }
     (text.len(), number)
 }
