@@ -15,7 +15,8 @@ use Rattle.decimal_unsigned.specs.Concatenation.{overlaps, concatenated_end, con
 use Rattle.decimal_unsigned.specs.Edits.{leaves_limits, times_power, multiplied, padded_start}
 use Rattle.decimal_unsigned.specs.Unsigned.{Unsigned, integer_value, zero_value}
 use Rattle.fixed_decimal.proofs.Calling.{offset_is, powers, ten_pos, number-append, weight_up, integer_down, first_le, first_zero, first_up, size_up, first_below_last, size_joined, size_left, size_right, not_overlapping}
-use Rattle.decimal_format.specs.Collecting.{Collected, Collects, IsInLimits, value_of_first, IsBelow, appended}
+use Rattle.decimal_format.specs.Collecting.{Collected, Collects, IsInLimits, IsBelow, appended}
+use Rattle.decimal_unsigned.specs.DigitValues.{value_of_first}
 use Rattle.decimal_format.proofs.Scans.{below_more}
 
 -- ---- An integer at a position, below the digits of a value.

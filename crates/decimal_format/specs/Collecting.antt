@@ -1,10 +1,10 @@
 -- Private: used only in the contracts of private functions.
 -- Digits that are collected from left to right.
-use Rattle.std.specs.Prelude.{◌≡◌, ℕ, ◌+◌, ◌-◌, ◌*◌, ◌%◌, ◌^◌, ◌<◌, ◌≤◌, Bool, true, false, List, ◌++◌, length, ℤ, pos, ◌-ℤ◌, ◌≤ℤ◌}
+use Rattle.std.specs.Prelude.{◌≡◌, ℕ, ◌+◌, ◌*◌, ◌%◌, ◌^◌, ◌<◌, ◌≤◌, Bool, true, false, List, ◌++◌, length, ℤ, pos, ◌≤ℤ◌}
 use Rattle.std.specs.Int.{int_min}
 use Rattle.std.specs.Int.Digits.{AllBelowBase, number_from_digits}
-use Rattle.decimal_digits.specs.Digits.{number_at}
 use Rattle.decimal_digits.specs.Number.{offset, weight, size}
+use Rattle.decimal_unsigned.specs.DigitValues.{value_of_first}
 use Rattle.decimal_unsigned.specs.Unsigned.{Unsigned}
 
 -- the digits of a number with these integer digits: the value of the first ones and their number, and the others as an
@@ -17,14 +17,6 @@ pub record Collected : Type 0 where
   pub integer : ℕ
   pub count : ℕ
   pub out_of_memory : Bool
-
--- the value of digits of which the first n are integer digits: 2.5 of 2 and 5 for n = 1, 2000 of 2 for n = 4
-abbrev pub value_of_first : ℕ → List ℕ → Unsigned
-value_of_first n ds = record {
-  number = number_at (n + 32768) ds;
-  hi = pos (n - 1);
-  lo = int_min (pos n -ℤ pos (length ds)) (pos 0);
-}
 
 -- a value has at most 32768 integer digits and at most 32768 fraction digits
 pub record IsInLimits (n : ℕ) (ds : List ℕ) : Type 0 where

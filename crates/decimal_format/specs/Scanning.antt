@@ -3,12 +3,13 @@
 use Rattle.std.specs.Prelude.{◌≡◌, ◌≢◌, ℕ, ◌<◌, ◌↔◌, Bool, true, false, ◌&&◌, List, [], ◌++◌, if◌then◌else◌, length, Result, Err, IfOk}
 use Rattle.std.specs.Int.Digits.{AllBelowBase}
 use Rattle.decimal_digits.specs.Number.{size}
+use Rattle.decimal_unsigned.specs.DigitValues.{value_of_first}
 use Rattle.decimal_unsigned.specs.Unsigned.{Unsigned}
 use Rattle.decimal_unsigned.specs.declared.error.ParseError.{ParseError}
 use Rattle.decimal_unsigned.specs.declared.error.ParseError.TheVariants.{Limit, Syntax, Memory}
 use Rattle.fixed_decimal.specs.Decimal.{Decimal}
 use Rattle.decimal_format.specs.declared.reader.Scanned.{Scanned}
-use Rattle.decimal_format.specs.Collecting.{Collected, CollectsDigits, value_of_first}
+use Rattle.decimal_format.specs.Collecting.{Collected, CollectsDigits}
 use Rattle.decimal_format.specs.Symbols.{Symbols, digit_text}
 use Rattle.decimal_format.specs.Reading.{Numeral, IsBeyondLimits, digits_text, fraction_text}
 

@@ -1,7 +1,8 @@
 //! The value of digits that are read from left to right.
 ghost use Rattle.std.specs.Prelude.{◌≡◌, ℕ, ◌<◌, ◌≤◌, List, [], ◌∷◌, OnOk, OnErr, IfOk};
 ghost use Rattle.decimal_digits.specs.Number.{size};
-ghost use Rattle.decimal_format.specs.Collecting.{Collects, CollectsDigits, IsInLimits, IsBelow, appended, value_of_first};
+ghost use Rattle.decimal_unsigned.specs.DigitValues.{value_of_first};
+ghost use Rattle.decimal_format.specs.Collecting.{Collects, CollectsDigits, IsInLimits, IsBelow, appended};
 
 use decimal_digits::ops::{subtract_counts, to_magnitude};
 use fixed_decimal::{ConcatenateError, DigitStore, LimitError, UnsignedOver};

@@ -17,7 +17,7 @@ mod words;
 use super::UnsignedOver;
 use crate::ParseError;
 use decimal_digits::digits::DigitStore;
-use fast_path::{bcd_value, wide_bcd_value};
+use fast_path::{few_digits, wide_bcd_value};
 pub use parts::numeral;
 use parts::{Parts, split};
 use plan::{Plan, planned};
@@ -194,20 +194,9 @@ impl<D: DigitStore> UnsignedOver<D> {
     pub fn from_short_text(alloc: Global, text: &[u8]) -> Option<Self>
         ensures { IfSome result (λ v. read text.now ≡ Ok v) }
     {
-        let bcd = bcd_value(text)?;
-        if bcd.len > D::L {
-            return None;
-        }
-        let Ok(digits) = D::from_bcd(alloc, bcd.number, bcd.len) else {
-            return None;
-        };
-        let bounds = bcd.bounds;
-        Some(UnsignedOver {
-            digits,
-            magnitude: bounds.magnitude,
-            hi: bounds.hi,
-            lo: bounds.lo,
-        })
+        let plain = few_digits(text, D::L.min(16))?;
+        let number = plain.number as u64;
+        Self::from_bcd_digits(alloc, plain.whole, plain.fraction, number).ok()
     }
 
     /// Parses a value.
@@ -218,9 +207,7 @@ impl<D: DigitStore> UnsignedOver<D> {
         if let Some(value) = Self::from_short_text(alloc, text) {
             return Ok(value);
         }
-        // A `Result` that is forwarded as it is would be copied through memory for a short text too.
-        let value = Self::scan_from(alloc, text)?;
-        Ok(value)
+        Self::scan_from(alloc, text)
     }
 
     /// Parses any text, as `try_from_utf8`, up to 32 digits in one pass; a short one faster by `from_short_text`.
@@ -228,10 +215,21 @@ impl<D: DigitStore> UnsignedOver<D> {
     /// # Errors
     ///
     /// As for [`Self::try_from_utf8`].
-    // Not inlined: it then has its own stack frame, which a short text does not fill with zeros.
+    // Inlined always, after a test for a short text: else the space of the result would be filled with zeros before that
+    // test. The `Result` is not forwarded as it is: a short value would then be copied through memory too.
     #[doc(hidden)]
-    #[inline(never)]
+    #[inline(always)]
     pub fn scan_from(alloc: Global, text: &[u8]) -> Result<Self, ParseError>
+        ensures { IsParseResult (λ v. D.L < size v.number) result (read text.now) }
+    {
+        let value = Self::scan_any(alloc, text)?;
+        Ok(value)
+    }
+
+    /// Parses any text, up to 32 digits in one pass.
+    // Not inlined: it then has its own stack frame, which a short text does not fill with zeros.
+    #[inline(never)]
+    fn scan_any(alloc: Global, text: &[u8]) -> Result<Self, ParseError>
         ensures { IsParseResult (λ v. D.L < size v.number) result (read text.now) }
     {
         if let Some(bcd) = wide_bcd_value(text) {

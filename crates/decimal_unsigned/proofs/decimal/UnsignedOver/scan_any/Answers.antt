@@ -1,6 +1,6 @@
 use Rattle.decimal_unsigned.proofs.Common.{rules, read}
 use Rattle.decimal_unsigned.proofs.BcdValues.{wide_allocates}
-use Rattle.decimal_unsigned.proofs.decimal.UnsignedOver.scan_from.Goals as goal
+use Rattle.decimal_unsigned.proofs.decimal.UnsignedOver.scan_any.Goals as goal
 
 pub returns-in_err-digits : goal.returns-in_err-digits
 returns-in_err-digits g c =
