@@ -1,5 +1,5 @@
 -- A text is that of one numeral, and of one decimal.
-use Rattle.std.proofs.Common.{◌≡◌, ℕ, ◌-◌, ◌<◌, ◌≤◌, inl, inr, Bool, false, List, [], ◌∷◌, ◌++◌, length, refl, sym, ◌∙◌, ap, subst, arith, append-nil}
+use Rattle.std.proofs.Common.{◌≡◌, ℕ, ◌-◌, ◌<◌, ◌≤◌, inl, inr, Bool, true, false, List, [], ◌∷◌, ◌++◌, length, refl, sym, ◌∙◌, ap, subst, arith, append-nil}
 use Rattle.std.specs.Prelude.{Result, Ok, Err, IfOk, MatchResult, ◌↔◌, pos}
 use Rattle.std.specs.Int.Digits.{AllBelowBase}
 use Rattle.std.proofs.lemmas.Bool.{cases_lt}
@@ -21,7 +21,7 @@ use Rattle.decimal_format.specs.Grouping.{is_grouped}
 use Rattle.decimal_format.specs.Readable.{IsReadable}
 use Rattle.decimal_format.specs.Reading.{Numeral, AreDigits, IsNumeral, IsBeyondLimits, IsWritten, NeedsMemory, digits_text, fraction_text, absolute_numeral_text, numeral_text, separated_by}
 use Rattle.decimal_format.specs.Lenient.{ends_group, separated_at, normalized, IsLenientNumeral, IsLenientlyWritten, IsTyped}
-use Rattle.decimal_format.specs.Scanning.{BeginsWithDigit, IsUniform, value_of, IsValueOf}
+use Rattle.decimal_format.specs.Scanning.{BeginsWithDigit, IsUniform, value_of, IsValueOf, IsNumeralBy, IsWrittenBy, IsRead}
 use Rattle.decimal_format.proofs.Codes.{digit_not_minus, digit_not_plus, plus_not_minus, none_not_decimal}
 use Rattle.decimal_format.proofs.DigitTexts.{digits_text-cong, nil_ends, fraction_ends, integer-unique, separators-unique}
 use Rattle.decimal_format.proofs.NumeralTexts.{HasDigits, formatted-digits, text-digits, digits_of_value, value_of_digits}
@@ -197,16 +197,6 @@ pub record AreTexts (is_numeral : Numeral → Type 0) (is_written : Decimal → 
   pub reads : (v : Decimal) → IsValue v.absolute → is_written v → (w : Numeral) × is_numeral w × HasDigits v w
       × ¬ IsBeyondLimits w
 
--- what a reader returns
-pub record IsRead (inline : ℕ) (is_numeral : Numeral → Type 0) (is_written : Decimal → Type 0) (result : Result
-    Decimal ParseError) : Type 0 where
-  pub found : IfOk result is_written
-  pub reads_back : (v : Decimal) → IsValue v.absolute → is_written v → MatchResult result (λ w. w ≡ v) (λ e. e
-      ≡ Memory)
-  pub syntax : (result ≡ Err Syntax) ↔ ((w : Numeral) → ¬ is_numeral w)
-  pub limit : (result ≡ Err Limit) ↔ ((w : Numeral) × is_numeral w × IsBeyondLimits w)
-  pub memory : result ≡ Err Memory → (v : Decimal) × is_written v × NeedsMemory inline v.absolute
-
 module _ (is_numeral : Numeral → Type 0) (is_written : Decimal → Type 0) (texts : AreTexts is_numeral is_written) where
   -- a text is that of one decimal
   decimal-unique : (v u : Decimal) → IsValue v.absolute → IsValue u.absolute → is_written v → is_written u → v ≡ u
@@ -309,6 +299,12 @@ module _ (s : Symbols) (readable : IsReadable s) (bytes : List ℕ) where
           λ beyond. within s readable plain v t (subst IsBeyondLimits (sym same) beyond),
         );
   }
+
+-- both
+pub texts_by : (strict : Bool) (s : Symbols) → IsReadable s → (bytes : List ℕ)
+    → AreTexts (IsNumeralBy strict s bytes) (IsWrittenBy strict s bytes)
+texts_by true s readable bytes = formatted_texts s readable bytes
+texts_by false s readable bytes = lenient_texts s readable bytes
 
 -- ---- Laws.
 -- with readable symbols two values have different texts
