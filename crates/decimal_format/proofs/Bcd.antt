@@ -4,7 +4,7 @@ use Rattle.std.specs.Int.Digits.{AllBelowBase, number_from_digits}
 use Rattle.std.proofs.lemmas.Int.Digits.{number_after_append, number_lt}
 use Rattle.std.proofs.Math.Nat.{pow-le-pow_right}
 use Rattle.decimal_digits.proofs.DigitLists.{number_after}
-use Rattle.decimal_format.specs.DigitValues.{IsBcd}
+use Rattle.decimal_unsigned.specs.DigitValues.{IsBcd}
 
 pub below_append : (ds es : List ℕ) → AllBelowBase 10 ds → AllBelowBase 10 es → AllBelowBase 10 (ds ++ es)
 below_append [] es all more = more

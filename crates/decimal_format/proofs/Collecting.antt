@@ -17,7 +17,7 @@ use Rattle.decimal_unsigned.specs.Edits.{leaves_limits, times_power, multiplied,
 use Rattle.decimal_unsigned.specs.Unsigned.{Unsigned, zero_value}
 use Rattle.decimal_digits.proofs.LeadingBytes.{hex_pow}
 use Rattle.fixed_decimal.proofs.Calling.{offset_is, powers, ten_pos, number-append, weight_up, integer_down, first_zero, size_up, first_below_last, size_joined, size_left, size_right, not_overlapping}
-use Rattle.decimal_format.specs.DigitValues.{IsBcd, value_of_first}
+use Rattle.decimal_unsigned.specs.DigitValues.{IsBcd, value_of_first}
 use Rattle.decimal_format.specs.Collecting.{Collected, IsFresh, Collects, HasValue, CollectsDigits, IsInLimits, IsBelow, appended}
 use Rattle.decimal_format.proofs.Bcd.{below_append, bcd_none, bcd_append}
 

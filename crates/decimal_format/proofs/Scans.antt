@@ -11,7 +11,7 @@ use Rattle.fixed_decimal.specs.declared.variations.Sign.{Sign}
 use Rattle.fixed_decimal.specs.declared.variations.Sign.TheVariants as sign
 use Rattle.decimal_format.specs.declared.grouping.GroupingStrategy.{GroupingStrategy}
 use Rattle.decimal_format.specs.declared.grouping.GroupingStrategy.TheVariants.{Never, Always}
-use Rattle.decimal_format.specs.DigitValues.{IsBcd}
+use Rattle.decimal_unsigned.specs.DigitValues.{IsBcd}
 use Rattle.decimal_format.specs.Collecting.{Collected, Collects, CollectsDigits}
 use Rattle.decimal_format.specs.Symbols.{Symbols, digit_text, sign_affixes}
 use Rattle.decimal_format.specs.Grouping.{reaches, is_grouped, secondary_size, separates}

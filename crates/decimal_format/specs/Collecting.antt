@@ -4,7 +4,7 @@ use Rattle.std.specs.Prelude.{◌≡◌, ℕ, ◌+◌, ◌-◌, ◌*◌, ◌%◌
 use Rattle.std.specs.Int.{int_min}
 use Rattle.std.specs.Int.Digits.{AllBelowBase, number_from_digits}
 use Rattle.decimal_digits.specs.Number.{offset, weight, size}
-use Rattle.decimal_format.specs.DigitValues.{IsBcd, value_of_first}
+use Rattle.decimal_unsigned.specs.DigitValues.{IsBcd, value_of_first}
 use Rattle.decimal_unsigned.specs.Unsigned.{Unsigned}
 
 -- the digits of a number with these integer digits: the value of the first ones and their number, and the others as

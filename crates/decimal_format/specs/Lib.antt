@@ -9,6 +9,5 @@ pub mod Lenient
 pub mod ErrorText
 -- Private: used only in the contracts of private functions.
 pub mod Parts
-pub mod DigitValues
 pub mod Collecting
 pub mod Scanning

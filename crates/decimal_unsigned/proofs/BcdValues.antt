@@ -1,7 +1,7 @@
 -- Plain texts: their digits as a number in base 16, and the value of their parts.
-use Rattle.decimal_unsigned.proofs.Common.{clamps, nat_tests, common_steps, ◌≡◌, ℕ, zero, suc, ◌+◌, ◌-◌, ◌*◌, ◌/◌, ◌%◌, ◌^◌, ◌<◌, ◌≤◌, inl, inr, true, List, [], ◌∷◌, ◌++◌, length, get_or, take, drop, take_all, map, refl, sym, ◌∙◌, ap, subst, arith, Some, None, option_map, Result, Ok, pos, ◌-ℤ◌, mul-lt-mul_of_pos_right, pow-le-pow_right, cases_lt, ints, pow-add, append-nil, take-append-drop, length-append, length-drop, length-take, length-take-le, length-map, number_lt, digits_value_is, is_ascii_digit, prefix_len, digit_value, number_from_digits, AllBelowBase, AllDigits, digits_value, Literal, value_of, middle, IsNonzeroRange, pow-suc, mod-eq_of_lt, digits_value_after, below_sixteen}
+use Rattle.decimal_unsigned.proofs.Common.{clamps, nat_tests, common_steps, ◌≡◌, ℕ, zero, suc, ◌+◌, ◌-◌, ◌*◌, ◌/◌, ◌%◌, ◌^◌, ◌<◌, ◌≤◌, inl, inr, true, List, [], ◌∷◌, ◌++◌, length, get_or, take, drop, take_all, map, refl, sym, ◌∙◌, ap, subst, arith, Some, None, option_map, Result, Ok, pos, ◌-ℤ◌, mul-lt-mul_of_pos_right, pow-le-pow_right, cases_lt, ints, pow-add, append-nil, take-append-drop, length-append, length-drop, length-take, length-take-le, length-map, number_lt, digits_value_is, is_ascii_digit, prefix_len, digit_value, number_from_digits, AllBelowBase, AllDigits, digits_value, Literal, middle, IsNonzeroRange, pow-suc, mod-eq_of_lt, digits_value_after, below_sixteen}
 use mir.Val.{bits}
-use Rattle.std.specs.Int.{Width, bit_at, leading_zeros, trailing_zeros}
+use Rattle.std.specs.Int.{Width, w64, bit_at, leading_zeros, trailing_zeros}
 use Rattle.std.proofs.Math.Nat.{one-le-pow, div-div-eq-div-mul, div-eq_of_lt-le, zero-div}
 use Rattle.std.proofs.Math.ListN.{get_or-eq_default}
 use Rattle.std.proofs.lemmas.Nat.{mod-mul-add, leading_top, leading_le}
@@ -18,18 +18,20 @@ use Rattle.decimal_unsigned.specs.Parts.{saturated_parts}
 use Rattle.std.specs.Prelude.{IsOkAnd}
 use Rattle.decimal_digits.specs.Number.{size}
 use Rattle.decimal_unsigned.specs.Unsigned.{Unsigned}
-use Rattle.decimal_unsigned.specs.Reading.{ReadError, parts_of, after_whole, after_fraction, read}
-use Rattle.decimal_unsigned.proofs.Values.{size-number_of}
+use Rattle.decimal_unsigned.specs.Reading.{ReadError, scaled, parts_of, after_whole, after_fraction, read}
+use Rattle.decimal_digits.specs.Digits.{number_at}
+use Rattle.decimal_unsigned.specs.DigitValues.{IsBcd, value_of_first}
+use Rattle.decimal_unsigned.proofs.Common.{ℤ, IsStored, number_of, offset_is, int_min}
+use Rattle.decimal_unsigned.proofs.Values.{size-number_of, number_of_empty, stored_as}
 use Rattle.decimal_unsigned.specs.PlainTexts.{IsPlainText, IsPrefix, plain_parts}
-use Rattle.decimal_unsigned.specs.ScannedDigits.{digits_of, planned_digits, value_within, IsPlan, IsBcdValue}
+use Rattle.decimal_unsigned.specs.ScannedDigits.{digits_of, value_within, IsBcdValue}
 use Rattle.decimal_unsigned.specs.declared.decimal.parse.fast_path.PlainText.{PlainText}
 use Rattle.decimal_unsigned.specs.declared.decimal.parse.plan.Bounds.{Bounds}
-use Rattle.decimal_unsigned.specs.declared.decimal.parse.plan.Plan.{Plan}
-use Rattle.decimal_unsigned.proofs.Middle.{middle_length, middle_below, number_middle}
+use Rattle.decimal_unsigned.proofs.Middle.{number_zeros, middle_length, middle_below, number_middle, number_of-middle, stored_middle}
 use Rattle.decimal_unsigned.proofs.Exponents.{read_some, digits_some}
 use Rattle.decimal_unsigned.proofs.Numerals.{value_of_digit, prefix_len-run, digits_left, digits_right}
 use Rattle.decimal_unsigned.proofs.PlainTexts.{after_append, digits_fit}
-use Rattle.decimal_unsigned.proofs.Plans.{all_digits, length_digits, makes_zero, makes_plain, is_plan_at}
+use Rattle.decimal_unsigned.proofs.Plans.{all_digits, length_digits, value_scaled}
 
 -- ---- The loop over a text.
 -- one digit more
@@ -73,6 +75,12 @@ pub fraction_numbered : (whole fraction : List ℕ) (number more : ℕ) → numb
 fraction_numbered whole fraction number more e f =
     f ∙ ap (λ m. digits_value_after 16 m fraction % 2 ^ 64) e ∙ after_mod (digits_value 16 whole) fraction
 
+-- sixteen digits fit 64 bits
+sixteen_fit : (ds : List ℕ) → AllBelowBase 10 ds → length ds ≤ 16 → number_from_digits 16 ds < 2 ^ 64
+sixteen_fit ds below few =
+    let top : 16 ^ length ds ≤ 16 ^ 16 = pow-le-pow_right (omega arith) few in
+    omega (arith, number_lt 16 ds (below_sixteen ds below), top)
+
 -- up to sixteen digits write their number
 pub number_written : (whole fraction : List ℕ) (number : ℕ) → AllDigits 10 (whole ++ fraction)
     → length (whole ++ fraction) ≤ 16 → number ≡ in_base_16 whole fraction
@@ -80,10 +88,8 @@ pub number_written : (whole fraction : List ℕ) (number : ℕ) → AllDigits 10
 number_written whole fraction number h few e =
     let text = whole ++ fraction in
     let ds = map digit_value text in
-    let few_ds : length ds ≤ 16 = omega (arith, length-map text digit_value) in
-    let top : 16 ^ length ds ≤ 16 ^ 16 = pow-le-pow_right (omega arith) few_ds in
-    let lt : number_from_digits 16 ds < 2 ^ 64 =
-    omega (arith, number_lt 16 ds (below_sixteen ds (all_below_base_from_digits 10 text h)), top) in
+    let lt =
+    sixteen_fit ds (all_below_base_from_digits 10 text h) (omega (arith, length-map text digit_value)) in
     e ∙ ap (λ n. n % 2 ^ 64) (sym (after_append 0 whole fraction) ∙ digits_value_is 16 text) ∙ mod-eq_of_lt lt
 
 -- ---- The digits between the zeros.
@@ -266,8 +272,8 @@ module _ (text : List ℕ) (whole : ℕ) (digits : whole ≡ prefix_len is_ascii
 module _ (text : List ℕ) (whole number : ℕ) (few : length text ≤ 17) (short : whole ≤ 16)
     (digits : whole ≡ prefix_len is_ascii_digit text)
     (numbered : number ≡ digits_value 16 (take whole text) % 2 ^ 64) where
-  few_digits : length (take whole text ++ drop (whole + 1) text) ≤ 16
-  few_digits =
+  at_most : length (take whole text ++ drop (whole + 1) text) ≤ 16
+  at_most =
       omega (
         arith,
         few,
@@ -284,7 +290,7 @@ module _ (text : List ℕ) (whole number : ℕ) (few : length text ≤ 17) (shor
   exact n parts e =
       let w = plain_parts text whole in
       let found = digits_some text w (sym (ap (option_map saturated_parts) parts)) in
-      number_written w.whole w.fraction n found few_digits e
+      number_written w.whole w.fraction n found at_most e
       ∙ sym (digits_value_is 16 (w.whole ++ w.fraction))
 
   pub plain_whole : 0 < whole → drop whole text ≡ []
@@ -296,7 +302,7 @@ module _ (text : List ℕ) (whole number : ℕ) (few : length text ≤ 17) (shor
         parts = parts;
         whole = long text whole digits;
         fraction = rw following refl;
-        few = omega (arith, few_digits);
+        few = omega (arith, at_most);
         number = exact number parts (rw following numbered);
       }
 
@@ -314,7 +320,7 @@ module _ (text : List ℕ) (whole number : ℕ) (few : length text ≤ 17) (shor
         parts = parts;
         whole = long text whole digits;
         fraction = rw following (omega (arith, all, digits', most));
-        few = omega (arith, few_digits);
+        few = omega (arith, at_most);
         number =
             exact more parts
             (rw following
@@ -385,99 +391,148 @@ wide_allocates reading bytes len most b h more =
     simp (length-take, length-nibbles) (omega (arith, h.packed.count)) in
     rw h.value (omega (arith, more, size-number_of h.stored, count))
 
--- ---- The value of a plain text.
-made : (w : Literal) (p : Plan) (bytes : List ℕ) (len : ℕ) → IsPlan w p → Encodes bytes len (planned_digits w p)
-    → IsBcdValue (value_of w) bytes len p.bounds
-made w p bytes len k h = record {
-  packed = h.packed;
-  stored = rw h.digits k.stored;
-  value = k.value ∙ ap (λ ds. Ok (value_within ds p.bounds)) (sym h.digits);
-}
+-- ---- The value of digits.
+pub ok_is : {a b : Unsigned} → (let r : Result Unsigned ReadError = Ok a in r) ≡ Ok b → a ≡ b
+ok_is h = cc
 
-module _ (text : List ℕ) (p : PlainText) (plain : IsPlainText text p) (few : length text ≤ 33) where
+module _ (whole fraction number : ℕ) (ds : List ℕ) (bcd : IsBcd number (whole + fraction) ds) (few : whole ≤ 32768)
+    (short : fraction ≤ 32768) where
+  -- the value by the number of the digits
+  value_is : value_of_first whole ds
+      ≡ record {
+        number = number_from_digits 10 ds * 10 ^ (32768 - fraction);
+        hi = pos (whole - 1);
+        lo = pos 0 -ℤ pos fraction;
+      }
+  unfolding number_at
+  value_is =
+      let top : whole + 32768 - length ds ≡ 32768 - fraction = omega (arith, bcd.count) in
+      let lo : int_min (pos whole -ℤ pos (length ds)) (pos 0) ≡ pos 0 -ℤ pos fraction =
+      rw bcd.count (omega (arith, ints, clamps)) in
+      λ i. record { number = number_from_digits 10 ds * 10 ^ top i; hi = pos (whole - 1); lo = lo i }
+
+  -- zero
+  pub zero_stored : (m hi lo : ℤ) → m ≡ pos 0 → hi ≡ pos (whole - 1) → lo ≡ pos 0 -ℤ pos fraction
+      → IsStored [] m hi lo
+  zero_stored m hi lo a b e =
+      stored_as tt (λ p. absurd (omega arith)) (λ p. absurd (omega arith)) (λ p. a) (λ p. absurd (omega arith))
+      (omega (arith, ints), omega (arith, ints)) (omega (arith, ints), omega (arith, ints))
+
+  pub zero_is : (m hi lo : ℤ) → number ≡ 0 → hi ≡ pos (whole - 1) → lo ≡ pos 0 -ℤ pos fraction
+      → record { number = number_of [] m; hi = hi; lo = lo } ≡ value_of_first whole ds
+  zero_is m hi lo z b e =
+      let none = number_zeros 10 ds (zero_digits ds bcd.digits (sym bcd.number ∙ z)) in
+      let n : number_of [] m ≡ number_from_digits 10 ds * 10 ^ (32768 - fraction) =
+      number_of_empty m ∙ (rw none (omega arith)) in
+      (λ i. record { number = n i; hi = b i; lo = e i }) ∙ sym value_is
+
+  -- any other number, of k nibbles
+  module _ (width : Width) (k : ℕ) (size : bits width ≡ 4 * k) (fits : number < 2 ^ bits width) (some : 0 < number)
+    where
+      found : (k - leading_zeros width number / 4 ≤ length ds)
+          × IsNonzeroRange ds (length ds - (k - leading_zeros width number / 4))
+          (length ds - trailing_zeros width number / 4)
+      found = inner_number width k size ds number bcd.digits fits bcd.number some
+
+      -- the zero nibbles bound the nonzero digits, which are no more than the digits
+      pub bcd_sizes : (trailing_zeros width number / 4 < k - leading_zeros width number / 4)
+          × (k - leading_zeros width number / 4 ≤ whole + fraction)
+      bcd_sizes =
+          (omega (arith, found.0, found.1.ordered, found.1.within), omega (arith, found.0, bcd.count))
+
+      pub bcd_value : (zeros len : ℕ) (bytes : List ℕ) (b : Bounds) → zeros ≡ leading_zeros width number / 4
+          → len ≡ (k - zeros) - trailing_zeros width number / 4
+          → b.magnitude ≡ pos (k - zeros) -ℤ pos (fraction + 1) → b.hi ≡ pos (whole - 1)
+          → b.lo ≡ pos 0 -ℤ pos fraction
+          → ((ds : List ℕ) → length ds ≡ len → len ≤ k → AllBelowBase 10 ds
+          → number * 2 ^ (4 * zeros) % 2 ^ (4 * k) ≡ number_from_digits 16 ds * 16 ^ (k - len) → Encodes bytes len ds)
+          → IsBcdValue (Ok (value_of_first whole ds)) bytes len b
+      bcd_value zeros len bytes b z l m hi lo encoded =
+          let start = length ds - (k - zeros) in
+          let end = length ds - trailing_zeros width number / 4 in
+          let inner = middle start end ds in
+          let places : k - zeros ≤ length ds = omega (arith, z, found.0) in
+          let n : IsNonzeroRange ds start end = rw z found.1 in
+          let at : b.magnitude ≡ (pos whole -ℤ pos 1) -ℤ pos start = omega (arith, ints, m, places, bcd.count) in
+          let stored = stored_middle ds start end whole fraction b.magnitude n bcd.digits bcd.count few short at in
+          let units =
+          number_of-middle ds start end whole fraction b.magnitude n bcd.count short
+          (omega (arith, ints, at, offset_is b.magnitude, n.ordered, n.within, bcd.count)) in
+          let most : zeros ≤ k = omega (arith, z, size, leading_le (bits width) number) in
+          let moved =
+          middle_number ds k number zeros start end bcd.digits bcd.number n (omega (arith, places, most))
+          (omega (arith, places, most)) in
+          let long : end - start ≡ len = omega (arith, l, n.ordered, n.within, places) in
+          let packed =
+          encoded inner (middle_length ds start end n ∙ long) (omega (arith, l)) (middle_below ds start end n bcd.digits)
+          (moved ∙ ap (λ i. number_from_digits 16 inner * 16 ^ (k - i)) long) in
+          record {
+            packed = packed.packed;
+            stored = rw (packed.digits, hi, lo) stored;
+            value =
+                ap Ok value_is ∙ (λ i. Ok (record { number = sym units i; hi = sym hi i; lo = sym lo i }))
+                ∙ ap (λ l. Ok (value_within l b)) (sym packed.digits);
+          }
+
+-- up to sixteen digits, in 64 bits
+module _ (whole fraction number : ℕ) (fits : number < 2 ^ 64) (some : 0 < number) (few : whole + fraction ≤ 16)
+    (ds : List ℕ) (bcd : IsBcd number (whole + fraction) ds) where
+  abbrev places : ℕ
+  places = 16 - leading_zeros w64 number / 4
+
+  abbrev len : ℕ
+  len = places - trailing_zeros w64 number / 4
+
+  pub short_sizes : (trailing_zeros w64 number / 4 < places) × (places ≤ whole + fraction)
+  short_sizes = bcd_sizes whole fraction number ds bcd (omega arith) (omega arith) w64 16 refl fits some
+
+  pub short_value : (b : Bounds) → b.magnitude ≡ pos places -ℤ pos (fraction + 1) → b.hi ≡ pos (whole - 1)
+      → b.lo ≡ pos 0 -ℤ pos fraction
+      → IsBcdValue (Ok (value_of_first whole ds))
+      (leading_bytes (number * 2 ^ (4 * (leading_zeros w64 number / 4)) % 2 ^ 64) len) len b
+  short_value b m hi lo =
+      bcd_value whole fraction number ds bcd (omega arith) (omega arith) w64 16 refl fits some _ _ _ b refl refl m hi lo
+      (λ ds l few below e. leading_bytes_encode ds _ _ l few below e)
+
+-- ---- The value of a plain text.
+module _ (text : List ℕ) (p : PlainText) (plain : IsPlainText text p) where
   abbrev w : Literal
   w = plain_parts text p.whole
 
-  parts : Some w ≡ option_map saturated_parts (parts_of text)
-  parts = sym (ap (option_map saturated_parts) plain.parts)
+  abbrev pub plain_digits : List ℕ
+  plain_digits = digits_of w
 
   digits : AllDigits 10 (w.whole ++ w.fraction)
-  digits = digits_some text w parts
+  digits = digits_some text w (sym (ap (option_map saturated_parts) plain.parts))
 
-  below : AllBelowBase 10 (digits_of w)
-  below = all_digits w digits
+  -- its digits
+  pub plain_bcd : IsBcd p.number (p.whole + p.fraction) plain_digits
+  plain_bcd = record {
+    digits = all_digits w digits;
+    count = omega (arith, length_digits w, plain.whole, plain.fraction);
+    number = plain.number ∙ digits_value_is 16 (w.whole ++ w.fraction);
+  }
 
-  count : length (digits_of w) ≡ p.whole + p.fraction
-  count = omega (arith, length_digits w, plain.whole, plain.fraction)
-
-  number_is : p.number ≡ number_from_digits 16 (digits_of w)
-  number_is = plain.number ∙ digits_value_is 16 (w.whole ++ w.fraction)
+  pub few_digits : p.whole + p.fraction ≤ 32
+  few_digits = omega (arith, plain.few, plain.whole, plain.fraction, length-append w.whole w.fraction)
 
   pub number_fits : p.number < 2 ^ 128
   number_fits = rw plain.number (digits_fit (w.whole ++ w.fraction) digits plain.few)
 
-  few_whole : p.whole ≤ 33
-  few_whole = omega (arith, few, plain.whole, length-take p.whole text)
+  pub number_fits_64 : p.whole + p.fraction ≤ 16 → p.number < 2 ^ 64
+  number_fits_64 few =
+      rw plain_bcd.number (sixteen_fit plain_digits plain_bcd.digits (omega (arith, plain_bcd.count, few)))
 
-  few_fraction : p.fraction ≤ 33
-  few_fraction = omega (arith, few, plain.fraction, length-drop (p.whole + 1) text)
-
-  -- zero
-  pub plain_zero : (b : Bounds) → p.number ≡ 0 → b.magnitude ≡ pos 0 → b.hi ≡ pos (p.whole - 1)
-      → b.lo ≡ pos 0 -ℤ pos p.fraction
-      → IsBcdValue (read text) (leading_bytes p.number 0) 0 b
-  plain_zero b z m hi lo =
-      let zeros = zero_digits (digits_of w) below (sym number_is ∙ z) in
-      let k =
-      makes_zero w digits (omega (arith, plain.whole, few_whole)) (omega (arith, plain.fraction, few_fraction)) zeros in
-      rw (read_some text w parts)
-      (made w (record { start = 0; end = 0; bounds = b }) _ 0
-      (is_plan_at w 0 0 _ _ _ b k m (omega (arith, ints, hi, plain.whole)) (omega (arith, ints, lo, plain.fraction)))
-      (leading_bytes_encode [] 0 p.number refl (omega arith) tt z))
-
-  -- any other number, of k nibbles
-  module _ (width : Width) (k : ℕ) (size : bits width ≡ 4 * k) (fits : p.number < 2 ^ bits width)
-      (some : 0 < p.number) where
-    found : (k - leading_zeros width p.number / 4 ≤ length (digits_of w))
-        × IsNonzeroRange (digits_of w) (length (digits_of w) - (k - leading_zeros width p.number / 4))
-        (length (digits_of w) - trailing_zeros width p.number / 4)
-    found = inner_number width k size (digits_of w) p.number below fits number_is some
-
-    -- the zero nibbles bound the nonzero digits, which are no more than the digits in the text
-    pub plain_sizes : (trailing_zeros width p.number / 4 < k - leading_zeros width p.number / 4)
-        × (k - leading_zeros width p.number / 4 ≤ p.whole + p.fraction)
-    plain_sizes =
-        (omega (arith, found.0, found.1.ordered, found.1.within), omega (arith, found.0, count))
-
-    pub plain_value : (zeros len : ℕ) (bytes : List ℕ) (b : Bounds) → zeros ≡ leading_zeros width p.number / 4
-        → len ≡ (k - zeros) - trailing_zeros width p.number / 4
-        → b.magnitude ≡ pos (k - zeros) -ℤ pos (p.fraction + 1) → b.hi ≡ pos (p.whole - 1)
-        → b.lo ≡ pos 0 -ℤ pos p.fraction
-        → ((ds : List ℕ) → length ds ≡ len → len ≤ k → AllBelowBase 10 ds
-        → p.number * 2 ^ (4 * zeros) % 2 ^ (4 * k) ≡ number_from_digits 16 ds * 16 ^ (k - len) → Encodes bytes len ds)
-        → IsBcdValue (read text) bytes len b
-    plain_value zeros len bytes b z l m hi lo encoded =
-        let ds = digits_of w in
-        let start = length ds - (k - zeros) in
-        let end = length ds - trailing_zeros width p.number / 4 in
-        let places : k - zeros ≤ length ds = omega (arith, z, found.0) in
-        let n : IsNonzeroRange ds start end = rw z found.1 in
-        let at : b.magnitude ≡ (pos (length w.whole) -ℤ pos 1) -ℤ pos start =
-        omega (arith, ints, m, places, count, plain.whole) in
-        let plan =
-        makes_plain w digits (omega (arith, plain.whole, few_whole)) (omega (arith, plain.fraction, few_fraction)) start
-        end n b.magnitude at refl in
-        let made_plan =
-        is_plan_at w start end _ _ _ b plan refl (omega (arith, ints, hi, plain.whole))
-        (omega (arith, ints, lo, plain.fraction)) in
-        let most : zeros ≤ k = omega (arith, z, size, leading_le (bits width) p.number) in
-        let number =
-        middle_number ds k p.number zeros start end below number_is n (omega (arith, places, most))
-        (omega (arith, places, most)) in
-        let long : end - start ≡ len = omega (arith, l, n.ordered, n.within, places) in
-        let packed =
-        encoded (middle start end ds) (middle_length ds start end n ∙ long) (omega (arith, l))
-        (middle_below ds start end n below)
-        (number ∙ ap (λ i. number_from_digits 16 (middle start end ds) * 16 ^ (k - i)) long) in
-        rw (read_some text w parts)
-        (made w (record { start = start; end = end; bounds = b }) bytes len made_plan packed)
+  -- reading gives their value
+  pub plain_read : read text ≡ Ok (value_of_first p.whole plain_digits)
+  unfolding scaled
+  plain_read =
+      read_some text w (sym (ap (option_map saturated_parts) plain.parts))
+      ∙ value_scaled w digits (omega (arith, plain.whole, few_digits)) (omega (arith, plain.fraction, few_digits))
+      ∙ (λ i. Ok (record {
+        number = digits_value_is 10 (w.whole ++ w.fraction) i * 10 ^ (32768 - plain.fraction i);
+        hi = pos (plain.whole i - 1);
+        lo = pos 0 -ℤ pos (plain.fraction i);
+      }))
+      ∙ ap Ok (sym (value_is p.whole p.fraction p.number plain_digits plain_bcd (omega (arith, few_digits))
+      (omega (arith, few_digits))))

@@ -11,6 +11,7 @@ pub mod Reading
 pub mod ParseResult
 pub mod ErrorText
 pub mod ToInteger
+pub mod DigitValues
 -- Private: used only in the contracts of private functions and in the models of `UnsignedOver` and `Scan`.
 pub mod Stored
 pub mod Parts

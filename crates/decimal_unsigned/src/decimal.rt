@@ -10,6 +10,7 @@ mod compare;
 mod concatenate;
 mod display;
 mod equality;
+mod from_bcd;
 mod from_integer;
 mod parse;
 mod round;

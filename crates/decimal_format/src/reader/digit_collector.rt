@@ -1,7 +1,7 @@
 //! The value of digits that are read from left to right.
-ghost use Rattle.std.specs.Prelude.{◌≡◌, ℕ, ◌+◌, ◌<◌, ◌≤◌, List, [], length, OnOk, OnErr, IfOk, IsOk, true, false};
+ghost use Rattle.std.specs.Prelude.{◌≡◌, ℕ, ◌+◌, ◌<◌, ◌≤◌, List, [], length, OnOk, OnErr, IfOk, true, false};
 ghost use Rattle.decimal_digits.specs.Number.{size};
-ghost use Rattle.decimal_format.specs.DigitValues.{IsBcd, value_of_first};
+ghost use Rattle.decimal_unsigned.specs.DigitValues.{IsBcd, value_of_first};
 ghost use Rattle.decimal_format.specs.Collecting.{Collects, HasValue, IsFresh, CollectsDigits, IsInLimits, IsBelow, appended};
 
 use decimal_digits::ops::{subtract_counts, to_magnitude};
@@ -106,7 +106,7 @@ fn append<D: DigitStore>(
     ensures memory { OnErr result ((ds : List ℕ) → IsBcd number count ds → IsBelow value.old ds position
         → D.L < size (appended value.old ds position).number) }
 {
-    let mut next = from_bcd_digits(alloc, count, 0, number)?;
+    let mut next = UnsignedOver::from_bcd_digits(alloc, count, 0, number)?;
     if let Err(LimitError) = next.multiply_pow10(position) {
         return Ok(());
     }
@@ -115,22 +115,6 @@ fn append<D: DigitStore>(
         Err(ConcatenateError::Overlap(_next)) => Ok(()),
         Err(ConcatenateError::Memory(_next)) => Err(AllocError),
     }
-}
-
-fn from_bcd_digits<D: DigitStore>(
-    alloc: Global,
-    whole: usize,
-    fraction: usize,
-    number: u64,
-) -> Result<UnsignedOver<D>, AllocError>
-    requires digits { (ds : List ℕ) × IsBcd number (whole + fraction) ds }
-    requires at_most { whole + fraction ≤ 16 }
-    ensures value { IfOk result
-        (λ v. (ds : List ℕ) → IsBcd number (whole + fraction) ds → v ≡ value_of_first whole ds) }
-    ensures succeeds { (ds : List ℕ) → IsBcd number (whole + fraction) ds
-        → size (value_of_first whole ds).number ≤ D.L → IsOk result }
-{
-    UnsignedOver::try_from_u64(alloc, number)
 }
 
 impl<D: DigitStore> DigitCollector<D> {
@@ -244,7 +228,7 @@ impl<D: DigitStore> DigitCollector<D> {
     {
         if self.is_short() {
             let fraction_digits = self.count - self.integer_digits;
-            return from_bcd_digits(self.alloc, self.integer_digits, fraction_digits, self.number);
+            return UnsignedOver::from_bcd_digits(self.alloc, self.integer_digits, fraction_digits, self.number);
         }
         self.flush();
         if self.out_of_memory {

@@ -17,7 +17,7 @@ mod words;
 use super::UnsignedOver;
 use crate::ParseError;
 use decimal_digits::digits::DigitStore;
-use fast_path::{bcd_value, wide_bcd_value};
+use fast_path::{few_digits, wide_bcd_value};
 pub use parts::numeral;
 use parts::{Parts, split};
 use plan::{Plan, planned};
@@ -194,20 +194,9 @@ impl<D: DigitStore> UnsignedOver<D> {
     pub fn from_short_text(alloc: Global, text: &[u8]) -> Option<Self>
         ensures { IfSome result (λ v. read text.now ≡ Ok v) }
     {
-        let bcd = bcd_value(text)?;
-        if bcd.len > D::L {
-            return None;
-        }
-        let Ok(digits) = D::from_bcd(alloc, bcd.number, bcd.len) else {
-            return None;
-        };
-        let bounds = bcd.bounds;
-        Some(UnsignedOver {
-            digits,
-            magnitude: bounds.magnitude,
-            hi: bounds.hi,
-            lo: bounds.lo,
-        })
+        let plain = few_digits(text, D::L.min(16))?;
+        let number = plain.number as u64;
+        Self::from_bcd_digits(alloc, plain.whole, plain.fraction, number).ok()
     }
 
     /// Parses a value.

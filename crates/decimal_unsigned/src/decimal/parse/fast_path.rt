@@ -3,7 +3,7 @@ ghost use Rattle.std.specs.Prelude.{◌≡◌, ℕ, ◌+◌, ◌%◌, ◌^◌, �
 ghost use Rattle.std.specs.Char.{is_ascii_digit};
 ghost use Rattle.std.specs.List.{prefix_len};
 ghost use Rattle.std.specs.Str.Parse.{digits_value_after};
-ghost use Rattle.decimal_digits.specs.Nibbles.{leading_bytes, wide_leading_bytes};
+ghost use Rattle.decimal_digits.specs.Nibbles.{wide_leading_bytes};
 ghost use Rattle.decimal_unsigned.specs.PlainTexts.{IsGroup, IsPrefix, IsPlainText};
 ghost use Rattle.decimal_unsigned.specs.Reading.{read};
 ghost use Rattle.decimal_unsigned.specs.ScannedDigits.{IsBcdValue};
@@ -11,9 +11,6 @@ ghost use Rattle.decimal_unsigned.specs.ScannedDigits.{IsBcdValue};
 use super::plan::{Bounds, to_bounds};
 use super::words::{Group, ZEROS, read_group};
 use decimal_digits::ops::subtract_counts;
-
-/// The length of sixteen digits and a decimal point.
-const MAX_SHORT_LEN: usize = 17;
 
 /// The length of 32 digits and a decimal point.
 const MAX_PLAIN_LEN: usize = 33;
@@ -33,14 +30,6 @@ pub struct PlainText {
 pub struct Prefix {
     pub number: u128,
     pub fraction: Option<usize>,
-}
-
-/// A value: the first `len` nibbles of a packed BCD number of sixteen nibbles, and their magnitudes.
-#[derive(Clone, Copy, Debug)]
-pub struct BcdValue {
-    pub number: u64,
-    pub len: usize,
-    pub bounds: Bounds,
 }
 
 /// A value: the first `len` nibbles of a packed BCD number of 32 nibbles, and their magnitudes.
@@ -69,15 +58,19 @@ fn count_digits(before: u64, text: &[u8]) -> (usize, u64)
     (text.len(), number)
 }
 
-/// Returns the digits of a text of up to sixteen digits, with or without a decimal point, or None of any other text.
+/// Returns the digits of a text of up to `most` digits, with or without a decimal point, or None of any other text.
 // Inlined always: returned from a call, the digits would pass through memory.
 #[inline(always)]
-fn few_digits(text: &[u8]) -> Option<PlainText>
-    requires { length text.now ≤ 17 }
-    ensures { IfSome result (IsPlainText text.now) }
+pub fn few_digits(text: &[u8], most: usize) -> Option<PlainText>
+    requires { most ≤ 16 }
+    ensures plain { IfSome result (IsPlainText text.now) }
+    ensures few { IfSome result (λ p. p.whole + p.fraction ≤ most) }
 {
+    if text.len() > most + 1 {
+        return None;
+    }
     let (whole, number) = count_digits(0, text);
-    if whole > 16 {
+    if whole > most {
         return None;
     }
     match &text[whole..] {
@@ -181,42 +174,6 @@ fn plain_text(text: &[u8]) -> Option<PlainText>
         }),
         _ => None,
     }
-}
-
-/// Makes the value of a text of up to sixteen digits, with or without a decimal point, or returns None.
-#[inline(always)]
-pub fn bcd_value(text: &[u8]) -> Option<BcdValue>
-    ensures { IfSome result (λ b. IsBcdValue (read text.now) (leading_bytes b.number b.len) b.len b.bounds) }
-{
-    if text.len() > MAX_SHORT_LEN {
-        return None;
-    }
-    let plain = few_digits(text)?;
-    let (whole, fraction) = (plain.whole, plain.fraction);
-    if plain.number > u64::MAX as u128 {
-        return None;
-    }
-    let number = plain.number as u64;
-    let hi = subtract_counts(whole.max(1), 1);
-    let lo = subtract_counts(0, fraction);
-    if number == 0 {
-        let bounds = to_bounds(0, hi, lo);
-        return Some(BcdValue {
-            number,
-            len: 0,
-            bounds,
-        });
-    }
-    // A digit takes four bits. There are `size` digits without the leading zeros, and `len` also without the trailing
-    // ones.
-    let zeros = (number.leading_zeros() / 4) as usize;
-    let size = 16 - zeros;
-    let len = size - (number.trailing_zeros() / 4) as usize;
-    Some(BcdValue {
-        number: number << (4 * zeros),
-        len,
-        bounds: to_bounds(subtract_counts(size, fraction + 1), hi, lo),
-    })
 }
 
 /// Makes the value of a text of 17 to 32 digits, with or without a decimal point, or returns None.

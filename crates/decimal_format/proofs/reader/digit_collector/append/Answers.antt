@@ -7,7 +7,7 @@ use Rattle.decimal_unsigned.specs.declared.error.ConcatenateError.TheVariants.{O
 use Rattle.decimal_unsigned.specs.Edits.{leaves_limits, multiplied}
 use Rattle.decimal_unsigned.specs.Unsigned.{Unsigned}
 use Rattle.fixed_decimal.proofs.Calling.{on_err}
-use Rattle.decimal_format.specs.DigitValues.{IsBcd, value_of_first}
+use Rattle.decimal_unsigned.specs.DigitValues.{IsBcd, value_of_first}
 use Rattle.decimal_format.proofs.Collecting.{bcd_only, memory_for_integer, stays_in_limits, is_apart, joined_is, memory_for_sum}
 use Rattle.decimal_format.proofs.reader.digit_collector.append.Goals as goal
 

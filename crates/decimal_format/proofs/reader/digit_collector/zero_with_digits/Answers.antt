@@ -3,7 +3,7 @@ use Rattle.std.specs.Prelude.{pos, IsFalse}
 use Rattle.std.proofs.lemmas.Int.{to_z-of_z}
 use Rattle.decimal_unsigned.specs.Edits.{leaves_limits, multiplied, padded_start}
 use Rattle.decimal_unsigned.specs.Unsigned.{Unsigned}
-use Rattle.decimal_format.specs.DigitValues.{value_of_first}
+use Rattle.decimal_unsigned.specs.DigitValues.{value_of_first}
 use Rattle.decimal_format.proofs.Collecting.{zero_padded, most_in_limits, most_padded, on_ok_is}
 use Rattle.decimal_format.proofs.reader.digit_collector.zero_with_digits.Goals as goal
 
