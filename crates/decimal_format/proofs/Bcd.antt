@@ -1,5 +1,5 @@
 -- Digits as packed BCD.
-use Rattle.std.proofs.Common.{◌≡◌, ℕ, ◌+◌, ◌*◌, ◌^◌, ◌<◌, ◌≤◌, List, [], ◌∷◌, ◌++◌, length, length-append, refl, sym, ◌∙◌, ap, subst, arith}
+use Rattle.std.proofs.Common.{ℕ, ◌+◌, ◌*◌, ◌^◌, ◌<◌, ◌≤◌, List, [], ◌∷◌, ◌++◌, length-append, refl, sym, ◌∙◌, subst, arith}
 use Rattle.std.specs.Int.Digits.{AllBelowBase, number_from_digits}
 use Rattle.std.proofs.lemmas.Int.Digits.{number_after_append, number_lt}
 use Rattle.std.proofs.Math.Nat.{pow-le-pow_right}
@@ -26,7 +26,8 @@ bcd_lt n k ds is =
 -- eight digits have room in a word
 pub bcd_room : (n k : ℕ) (ds : List ℕ) → IsBcd n k ds → k < 8 → n * 16 + 9 < 2 ^ 64
 bcd_room n k ds is few =
-    let most : 16 ^ k ≤ 16 ^ 8 = pow-le-pow_right (omega arith) (omega (arith, few)) in
+    let within : k ≤ 7 = omega (arith, few) in
+    let most : 16 ^ k ≤ 16 ^ 7 = pow-le-pow_right (omega arith) within in
     omega (arith, bcd_lt n k ds is, most)
 
 pub bcd_append : (n k m j : ℕ) (ds es : List ℕ) → IsBcd n k ds → IsBcd m j es

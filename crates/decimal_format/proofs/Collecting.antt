@@ -1,10 +1,10 @@
 -- Digits that are collected from left to right.
-use Rattle.std.proofs.Common.{◌≡◌, ℕ, ◌+◌, ◌-◌, ◌*◌, ◌%◌, ◌^◌, ◌<◌, ◌≤◌, Bool, true, false, List, [], ◌∷◌, ◌++◌, length, append_assoc, append-nil, length-append, refl, sym, ◌∙◌, ap, subst, arith, inl, inr}
+use Rattle.std.proofs.Common.{◌≡◌, ℕ, ◌+◌, ◌-◌, ◌*◌, ◌%◌, ◌^◌, ◌<◌, ◌≤◌, Bool, true, false, List, [], ◌∷◌, ◌++◌, length, append_assoc, append-nil, length-append, refl, sym, ◌∙◌, ap, subst, arith, inl, inr, pow-add}
 use Rattle.std.specs.Int.Digits.{AllBelowBase, number_from_digits}
 use Rattle.std.specs.Prelude.{if◌then◌else◌, Result, Ok, Err, IsOk, OnOk, OnErr, ℤ, pos, negsuc, ◌+ℤ◌, ◌-ℤ◌, ◌≤ℤ◌, ◌<ℤ◌, int_lt}
 use Rattle.std.specs.Int.{int_max, int_min, int_gap}
 use Rattle.std.specs.Result.{is_err}
-use Rattle.std.proofs.Math.Nat.{mul-mod_left, mul-lt-mul_of_pos_right, mul_assoc, mul-le-mul_right, pow-le-pow_right, pow-add}
+use Rattle.std.proofs.Math.Nat.{mul-mod_left, mul-lt-mul_of_pos_right, mul_assoc, mul-le-mul_right, pow-le-pow_right}
 use Rattle.std.proofs.lemmas.Int.{ints, clamps}
 use Rattle.std.proofs.lemmas.Bool.{cases_lt}
 use Rattle.std.proofs.lemmas.Bool.Decides.{nat_tests}
@@ -18,7 +18,7 @@ use Rattle.decimal_unsigned.specs.Unsigned.{Unsigned, zero_value}
 use Rattle.decimal_digits.proofs.LeadingBytes.{hex_pow}
 use Rattle.fixed_decimal.proofs.Calling.{offset_is, powers, ten_pos, number-append, weight_up, integer_down, first_zero, size_up, first_below_last, size_joined, size_left, size_right, not_overlapping}
 use Rattle.decimal_unsigned.specs.DigitValues.{IsBcd, value_of_first}
-use Rattle.decimal_format.specs.Collecting.{Collected, IsFresh, Collects, HasValue, CollectsDigits, IsInLimits, IsBelow, appended}
+use Rattle.decimal_format.specs.Collecting.{Collected, IsFresh, Collects, HasValue, IsInLimits, IsBelow, appended}
 use Rattle.decimal_format.proofs.Bcd.{below_append, bcd_none, bcd_append}
 
 -- ---- Digits at a position, below those of a value.
@@ -261,23 +261,28 @@ moved_by n k j few room =
     ∙ ap (λ x. n * x) (hex_pow j)
 
 -- there is room for the digits
-pub room_for_digits : (n k m j : ℕ) → n < 16 ^ k → m < 16 ^ j → k + j ≤ 16 → n * 16 ^ j + m < 16 ^ (k + j)
-room_for_digits n k m j few more room =
+pub room_for_digits : (n k m j : ℕ) → n < 16 ^ k → m < 16 ^ j → n * 16 ^ j + m < 16 ^ (k + j)
+room_for_digits n k m j few more =
     let split : 16 ^ (k + j) ≡ 16 ^ k * 16 ^ j = pow-add 16 k j in
     omega (arith, split, mul-le-mul_right (16 ^ j) few, more)
 
+pub word_limit : (k : ℕ) → k ≤ 16 → 16 ^ k ≤ 2 ^ 64
+word_limit k few = let most : 16 ^ k ≤ 16 ^ 16 = pow-le-pow_right (omega arith) few in most
+
 -- digits more
-pub collects_more : (inline n m j : ℕ) (old new : Collected) (ds before : List ℕ) → IsBcd m j ds
-    → new ≡ record old { number = old.number * 16 ^ j + m; count = old.count + j }
+pub collects_more : (inline n m j number : ℕ) (old new : Collected) (ds before : List ℕ) → IsBcd m j ds
+    → number ≡ old.number * 16 ^ j + m → new ≡ record old { number = number; count = old.count + j }
     → Collects inline n old before → Collects inline n new (before ++ ds)
-collects_more inline n m j old new ds before bcd e h =
+collects_more inline n m j number old new ds before bcd is e h =
     subst (λ (c : Collected). Collects inline n c (before ++ ds)) (sym e) (record {
       first = h.first;
       others = h.others ++ ds;
       all = ap (λ l. l ++ ds) h.all ∙ append_assoc h.first h.others ds;
       digits = below_append before ds h.digits bcd.digits;
       store = h.store;
-      bcd = bcd_append old.number old.count m j h.others ds h.bcd bcd;
+      bcd =
+          subst (λ x. IsBcd x (old.count + j) (h.others ++ ds)) (sym is)
+          (bcd_append old.number old.count m j h.others ds h.bcd bcd);
       integer_digits = h.integer_digits;
       written = h.written;
       value = h.value;
@@ -307,7 +312,7 @@ begins inline n old new fresh e digits = record {
   written = λ limits kept. ap (λ (c : Collected). c.written) e ∙ fresh.written;
   value = λ some. absurd (omega (arith, some));
   memory = λ out. absurd (let t : false ≡ true = sym (ap (λ (c : Collected). c.out_of_memory) e ∙ fresh.in_memory) ∙ out
-  in cc);
+      in cc);
 }
 
 -- the value of no digits was made, if there is none of others
@@ -316,22 +321,28 @@ pub has_value : (inline n : ℕ) (old new : Collected) (ds : List ℕ) → new �
     → (old.written ≡ 0 → new.value ≡ value_of_first old.integer_digits []) → Collects inline n old ds
     → HasValue inline n new ds
 has_value inline n old new ds e kept made h = record {
-  is = subst (λ (c : Collected). Collects inline n c ds) (sym e) (record {
+  is = record {
     first = h.first;
     others = h.others;
     all = h.all;
     digits = h.digits;
-    store = h.store;
-    bcd = h.bcd;
-    integer_digits = h.integer_digits;
-    written = h.written;
-    value = λ some limits in_memory.
-        kept (omega (arith, some, h.written limits in_memory)) ∙ h.value some limits in_memory;
-    memory = h.memory;
-  });
-  value = λ limits in_memory. value limits (ap (λ (c : Collected). c.out_of_memory) (sym e) ∙ in_memory);
+    store = ap (λ (c : Collected). c.inline) e ∙ h.store;
+    bcd = record {
+      digits = h.bcd.digits;
+      count = h.bcd.count ∙ sym (ap (λ (c : Collected). c.count) e);
+      number = ap (λ (c : Collected). c.number) e ∙ h.bcd.number;
+    };
+    integer_digits = λ few. ap (λ (c : Collected). c.integer_digits) e ∙ h.integer_digits few;
+    written = λ limits in_memory. ap (λ (c : Collected). c.written) e ∙ h.written limits (was in_memory);
+    value = λ some limits in_memory. value limits (was in_memory);
+    memory = λ out. h.memory (sym (ap (λ (c : Collected). c.out_of_memory) e) ∙ out);
+  };
+  value = λ limits in_memory. value limits (was in_memory);
 }
   where
+    was : new.out_of_memory ≡ false → old.out_of_memory ≡ false
+    was in_memory = sym (ap (λ (c : Collected). c.out_of_memory) e) ∙ in_memory
+
     value : IsInLimits n h.first → old.out_of_memory ≡ false → new.value ≡ value_of_first n h.first
     value limits in_memory = elim (cases_lt 0 old.written) [
       | inl some ↦

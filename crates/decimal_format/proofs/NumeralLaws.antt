@@ -19,7 +19,7 @@ use Rattle.decimal_format.specs.Symbols.{Symbols, Affixes, sign_affixes}
 use Rattle.decimal_format.specs.Formatted.{formatted}
 use Rattle.decimal_format.specs.Grouping.{is_grouped}
 use Rattle.decimal_format.specs.Readable.{IsReadable}
-use Rattle.decimal_format.specs.Reading.{Numeral, AreDigits, IsNumeral, IsBeyondLimits, IsWritten, NeedsMemory, digits_text, fraction_text, absolute_numeral_text, numeral_text, separated_by}
+use Rattle.decimal_format.specs.Reading.{Numeral, AreDigits, IsNumeral, IsBeyondLimits, IsWritten, digits_text, fraction_text, absolute_numeral_text, numeral_text, separated_by}
 use Rattle.decimal_format.specs.Lenient.{ends_group, separated_at, normalized, IsLenientNumeral, IsLenientlyWritten, IsTyped}
 use Rattle.decimal_format.specs.Scanning.{BeginsWithDigit, IsUniform, value_of, IsValueOf, IsNumeralBy, IsWrittenBy, IsRead}
 use Rattle.decimal_format.proofs.Codes.{digit_not_minus, digit_not_plus, plus_not_minus, none_not_decimal}
@@ -305,6 +305,23 @@ pub texts_by : (strict : Bool) (s : Symbols) → IsReadable s → (bytes : List 
     → AreTexts (IsNumeralBy strict s bytes) (IsWrittenBy strict s bytes)
 texts_by true s readable bytes = formatted_texts s readable bytes
 texts_by false s readable bytes = lenient_texts s readable bytes
+
+pub numeral_by_is_lenient : (strict : Bool) (s : Symbols) (bytes : List ℕ) (w : Numeral)
+    → IsNumeralBy strict s bytes w → IsLenientNumeral s bytes w
+numeral_by_is_lenient true s bytes w numeral = numeral_is_lenient s bytes w numeral
+numeral_by_is_lenient false s bytes w numeral = numeral
+
+-- a numeral whose separators are all there, or none, as far as this is asked for
+pub numeral_by : (strict all : Bool) (s : Symbols) (bytes : List ℕ) (w : Numeral) → IsLenientNumeral s bytes w
+    → (all ≡ true → IsNumeral s bytes w) → (strict ≡ true → all ≡ true) → IsNumeralBy strict s bytes w
+numeral_by true all s bytes w lenient numeral h = numeral (h refl)
+numeral_by false all s bytes w lenient numeral h = lenient
+
+-- and one of which only some are there
+pub none_by : (strict : Bool) (s : Symbols) (bytes : List ℕ) → strict ≡ true
+    → ((w : Numeral) → ¬ IsNumeral s bytes w) → (w : Numeral) → ¬ IsNumeralBy strict s bytes w
+none_by true s bytes h none = none
+none_by false s bytes h none = absurd (cc)
 
 -- ---- Laws.
 -- with readable symbols two values have different texts

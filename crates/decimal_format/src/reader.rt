@@ -202,11 +202,7 @@ impl<'a> DecimalSymbols<'a> {
 
     /// Finds the sign and the digits of a text, with separators at any ends of groups.
     #[inline]
-    fn scan<D: DigitStore>(
-        &self,
-        text: &[u8],
-        digits: &mut DigitCollector<D>,
-    ) -> Option<Scanned>
+    fn scan<D: DigitStore>(&self, text: &[u8], digits: &mut DigitCollector<D>) -> Option<Scanned>
         requires readable { IsReadable self.now }
         requires fresh { IsFresh D.L digits.old }
         ensures found { IfSome result (λ r. (w : Numeral) × IsLenientNumeral self.now text.now w × HasCounts r w

@@ -228,7 +228,12 @@ impl<D: DigitStore> DigitCollector<D> {
     {
         if self.is_short() {
             let fraction_digits = self.count - self.integer_digits;
-            return UnsignedOver::from_bcd_digits(self.alloc, self.integer_digits, fraction_digits, self.number);
+            return UnsignedOver::from_bcd_digits(
+                self.alloc,
+                self.integer_digits,
+                fraction_digits,
+                self.number,
+            );
         }
         self.flush();
         if self.out_of_memory {

@@ -1,4 +1,4 @@
-use Rattle.std.proofs.Common.{◌≡◌, ℕ, ◌+◌, ◌<◌, ◌≤◌, List, length, sym, ◌∙◌, ap, subst, arith}
+use Rattle.std.proofs.Common.{ℕ, ◌<◌, ◌≤◌, List, length, sym, ◌∙◌, ap, subst, arith}
 use Rattle.std.specs.Prelude.{IsFalse, Err}
 use Rattle.std.proofs.lemmas.Int.{ints, to_z-of_z}
 use Rattle.decimal_digits.specs.Number.{size}
@@ -14,8 +14,8 @@ use Rattle.decimal_format.proofs.reader.digit_collector.append.Goals as goal
 few : (n k : ℕ) (ds : List ℕ) → IsBcd n k ds → k ≤ 16 → length ds ≤ 16
 few n k ds is h = omega (arith, is.count, h)
 
-pub from_bcd_digits-next-requires-clause-digits : goal.from_bcd_digits-next-requires-clause-digits
-from_bcd_digits-next-requires-clause-digits g c =
+pub from_bcd_digits-requires-clause-digits : goal.from_bcd_digits-requires-clause-digits
+from_bcd_digits-requires-clause-digits g c =
     let d = c.requires.digits in (d.0, bcd_only c.args.number c.args.count d.0 d.1)
 
 pub returns-in_err-next-clause-memory : goal.returns-in_err-next-clause-memory
@@ -24,9 +24,9 @@ returns-in_err-next-clause-memory g c = on_err c.from_residual.result _ (λ ds b
     (few c.args.number c.args.count ds bcd c.requires.at_most)
     (omega (arith, ints, c.ranges.position.sfits)) (omega (arith, ints, c.ranges.position.sfits)) g.D.DigitStore.L
     (λ fits.
-        let t = c.in_err-next.ensures.succeeds ds (bcd_only c.args.number c.args.count ds bcd)
-        (subst (λ k. size (value_of_first k ds).number ≤ g.D.DigitStore.L) bcd.count fits) in
-        let no : ⊥ = cc in no))
+    let t = c.in_err-next.ensures.succeeds ds (bcd_only c.args.number c.args.count ds bcd)
+    (subst (λ k. size (value_of_first k ds).number ≤ g.D.DigitStore.L) bcd.count fits) in
+    let no : ⊥ = cc in no))
 
 pub returns-in-Err-clause-ok : goal.returns-in-Err-clause-ok
 returns-in-Err-clause-ok g c = λ ds bcd below.

@@ -1,7 +1,7 @@
-use Rattle.std.proofs.Common.{◌≡◌, ℕ, ◌+◌, ◌-◌, ◌<◌, ◌++◌, length, sym, ◌∙◌, ap, subst, arith}
+use Rattle.std.proofs.Common.{◌≡◌, ◌+◌, ◌-◌, ◌<◌, [], ◌++◌, length, subst, arith}
 use Rattle.decimal_format.specs.Lenient.{ends_group}
 use Rattle.decimal_format.specs.Scanning.{SkipsSeparator}
-use Rattle.decimal_format.proofs.Scans.{on_none, none_after_last, all_step, none_step, collects_none, collects_both, IsReadTo, Leaves, read_none, leaves_all, read_run, leaves_run, run_fails, read_all, left_none}
+use Rattle.decimal_format.proofs.Scans.{none_after_last, all_step, none_step, collects_none, collects_both, IsReadTo, Leaves, read_none, leaves_all, read_run, leaves_run, run_fails, read_all, left_none}
 use Rattle.decimal_format.proofs.symbols.DecimalSymbols.read_digits.Goals as goal
 
 pub loop-left-init : goal.loop-left-init

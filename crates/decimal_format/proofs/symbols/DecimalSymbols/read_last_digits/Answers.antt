@@ -1,5 +1,5 @@
-use Rattle.std.proofs.Common.{◌≡◌, ◌<◌, ◌++◌, length, arith}
-use Rattle.decimal_format.proofs.Scans.{on_none, run_length, some_is, last_none, last_more, last_fails, run_empty}
+use Rattle.std.proofs.Common.{◌++◌, arith}
+use Rattle.decimal_format.proofs.Scans.{run_length, some_is, last_none, last_more, last_fails, run_empty}
 use Rattle.decimal_format.proofs.symbols.DecimalSymbols.read_last_digits.Goals as goal
 
 pub loop-rest-init : goal.loop-rest-init
