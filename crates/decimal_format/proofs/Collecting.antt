@@ -1,5 +1,5 @@
 -- Digits that are collected from left to right.
-use Rattle.std.proofs.Common.{◌≡◌, ℕ, ◌+◌, ◌-◌, ◌*◌, ◌%◌, ◌^◌, ◌<◌, ◌≤◌, Bool, true, false, List, [], ◌∷◌, ◌++◌, length, append_assoc, append-nil, length-append, refl, sym, ◌∙◌, ap, subst, arith, inl, inr}
+use Rattle.std.proofs.Common.{◌≡◌, ℕ, ◌+◌, ◌-◌, ◌*◌, ◌%◌, ◌^◌, ◌<◌, ◌≤◌, Bool, true, false, List, [], ◌∷◌, ◌++◌, length, append_assoc, append-nil, length-append, refl, sym, ◌∙◌, ap, subst, arith, inl, inr, pow-add}
 use Rattle.std.specs.Int.Digits.{AllBelowBase, number_from_digits}
 use Rattle.std.specs.Prelude.{if◌then◌else◌, Result, Ok, Err, IsOk, OnOk, OnErr, ℤ, pos, negsuc, ◌+ℤ◌, ◌-ℤ◌, ◌≤ℤ◌, ◌<ℤ◌, int_lt}
 use Rattle.std.specs.Int.{int_max, int_min, int_gap}
@@ -8,20 +8,25 @@ use Rattle.std.proofs.Math.Nat.{mul-mod_left, mul-lt-mul_of_pos_right, mul_assoc
 use Rattle.std.proofs.lemmas.Int.{ints, clamps}
 use Rattle.std.proofs.lemmas.Bool.{cases_lt}
 use Rattle.std.proofs.lemmas.Bool.Decides.{nat_tests}
+use Rattle.std.proofs.lemmas.Nat.{shl_whole}
 use Rattle.std.proofs.lemmas.Int.Digits.{number_lt}
 use Rattle.decimal_digits.specs.Digits.{number_at}
 use Rattle.decimal_digits.specs.Number.{offset, weight, first, last, size}
 use Rattle.decimal_unsigned.specs.Concatenation.{overlaps, concatenated_end, concatenated_size}
 use Rattle.decimal_unsigned.specs.Edits.{leaves_limits, times_power, multiplied, padded_start}
-use Rattle.decimal_unsigned.specs.Unsigned.{Unsigned, integer_value, zero_value}
-use Rattle.fixed_decimal.proofs.Calling.{offset_is, powers, ten_pos, number-append, weight_up, integer_down, first_le, first_zero, first_up, size_up, first_below_last, size_joined, size_left, size_right, not_overlapping}
-use Rattle.decimal_format.specs.Collecting.{Collected, Collects, IsInLimits, IsBelow, appended}
-use Rattle.decimal_unsigned.specs.DigitValues.{value_of_first}
-use Rattle.decimal_format.proofs.Scans.{below_more}
+use Rattle.decimal_unsigned.specs.Unsigned.{Unsigned, zero_value}
+use Rattle.decimal_digits.proofs.LeadingBytes.{hex_pow}
+use Rattle.fixed_decimal.proofs.Calling.{offset_is, powers, ten_pos, number-append, weight_up, integer_down, first_zero, size_up, first_below_last, size_joined, size_left, size_right, not_overlapping}
+use Rattle.decimal_unsigned.specs.DigitValues.{IsBcd, value_of_first}
+use Rattle.decimal_format.specs.Collecting.{Collected, IsFresh, Collects, HasValue, IsInLimits, IsBelow, appended}
+use Rattle.decimal_format.proofs.Bcd.{below_append, bcd_none, bcd_append}
 
--- ---- An integer at a position, below the digits of a value.
-module _ (v : Unsigned) (integer : ℕ) (position : ℤ) (below : IsBelow v integer position) (few : integer < 10 ^ 20)
-    (low : negsuc 32767 ≤ℤ position) (high : position ≤ℤ pos 32767) where
+-- ---- Digits at a position, below those of a value.
+module _ (v : Unsigned) (ds : List ℕ) (position : ℤ) (below : IsBelow v ds position) (digits : AllBelowBase 10 ds)
+    (few : length ds ≤ 16) (low : negsuc 32767 ≤ℤ position) (high : position ≤ℤ pos 32767) where
+  abbrev integer : ℕ
+  integer = number_from_digits 10 ds
+
   abbrev top : ℕ
   top = offset v.hi + 1
 
@@ -31,40 +36,42 @@ module _ (v : Unsigned) (integer : ℕ) (position : ℤ) (below : IsBelow v inte
   inside : integer * weight position < 10 ^ top
   inside = omega (arith, below.sum)
 
-  whole : integer * weight (pos 0) < 10 ^ (20 + offset (pos 0))
+  whole : integer * weight (pos 0) < 10 ^ (16 + offset (pos 0))
   whole =
-      let split : 10 ^ (20 + offset (pos 0)) ≡ 10 ^ 20 * weight (pos 0) = powers 20 (offset (pos 0)) _ refl in
-      omega (arith, split, mul-le-mul_right (weight (pos 0)) few, ten_pos (offset (pos 0)))
+      let split : 10 ^ (16 + offset (pos 0)) ≡ 10 ^ 16 * weight (pos 0) = powers 16 (offset (pos 0)) _ refl in
+      let most : 10 ^ length ds ≤ 10 ^ 16 = pow-le-pow_right (omega arith) few in
+      let small : integer < 10 ^ 16 = omega (arith, number_lt 10 ds digits, most) in
+      omega (arith, split, mul-le-mul_right (weight (pos 0)) small, ten_pos (offset (pos 0)))
 
-  -- its first digit is moved by the position
-  moved_first : 0 < integer → first (integer * weight (pos 0)) +ℤ position ≡ first (integer * weight position)
-  moved_first some =
-      let up = first_up integer (offset (pos 0)) (offset position) (20 + offset (pos 0)) top whole inside
-      (omega (arith, offset_is (pos 0))) limit some in
-      omega (arith, ints, up, offset_is (pos 0), offset_is position)
-
-  -- its number of digits is not
+  -- their number of digits is the same at each position
   same_size : size (integer * weight (pos 0)) ≡ size (integer * weight position)
-  same_size = size_up integer (offset (pos 0)) (offset position) (20 + offset (pos 0)) top whole inside
+  same_size = size_up integer (offset (pos 0)) (offset position) (16 + offset (pos 0)) top whole inside
       (omega (arith, offset_is (pos 0))) limit
 
+  -- the value of the digits as an integer
+  abbrev next : Unsigned
+  next = value_of_first (length ds) ds
+
+  next_number : next.number ≡ integer * weight (pos 0)
+  unfolding number_at
+  next_number = ap (λ k. integer * 10 ^ k) (omega (arith, offset_is (pos 0)))
+
   -- the digits that need memory are those of the sum
-  pub memory_for_integer : (inline : ℕ) → (size (integer * weight (pos 0)) ≤ inline → ⊥)
-      → inline < size (appended v integer position).number
+  pub memory_for_integer : (inline : ℕ) → (size next.number ≤ inline → ⊥) → inline < size (appended v ds position).number
   memory_for_integer inline more =
       let grown = size_right v.number (integer * weight position) below.cut top below.divides below.less below.sum
       limit in
-      elim (cases_lt inline (size (integer * weight (pos 0)))) [
-        | inl h ↦ omega (arith, h, same_size, grown)
+      elim (cases_lt inline (size next.number)) [
+        | inl h ↦ omega (arith, h, ap size next_number, same_size, grown)
         | inr h ↦ absurd (more h)
       ]
 
-  -- the value of the integer, moved to its position
+  -- the value of the digits, moved to their position
   abbrev moved : Unsigned
-  moved = multiplied (integer_value integer) position
+  moved = multiplied next position
 
   moved_number : moved.number ≡ integer * weight position
-  moved_number = go position low
+  moved_number = ap (λ n. times_power n position) next_number ∙ go position low
     where
       go : (p : ℤ) → negsuc 32767 ≤ℤ p → times_power (integer * weight (pos 0)) p ≡ integer * weight p
       go (pos d) h =
@@ -74,24 +81,13 @@ module _ (v : Unsigned) (integer : ℕ) (position : ℤ) (below : IsBelow v inte
           ∙ ap (λ p. integer * weight p) same
       go (negsuc k) h = integer_down integer k (omega (arith, ints, h))
 
-  -- the highest magnitude that it shows is not above that of the value
-  bound : (first (integer * weight (pos 0)) +ℤ position) ≤ℤ v.hi
-  bound = elim (cases_lt 0 integer) [
-    | inl some ↦
-        omega (arith, ints, moved_first some, first_le (integer * weight position) v.hi inside below.hi.0 below.hi.1)
-    | inr none ↦
-        let zero : integer * weight (pos 0) ≡ 0 =
-        (let z : integer ≡ 0 = omega arith in ap (λ n. n * weight (pos 0)) z ∙ (omega arith)) in
-        let start : first (integer * weight (pos 0)) ≡ pos 0 = ap first zero ∙ first_zero in
-        omega (arith, ints, start, below.shown)
-  ]
-
   -- it is in the limits
-  pub stays_in_limits : leaves_limits (integer_value integer) position ≡ false
+  pub stays_in_limits : leaves_limits next position ≡ false
   stays_in_limits =
-      let top = bound in
+      let top = below.shown in
       let most = below.hi.1 in
-      grind (arith, ints, nat_tests)
+      let zero : int_min (pos (length ds) -ℤ pos (length ds)) (pos 0) ≡ pos 0 = omega (arith, ints, clamps) in
+      rw zero (grind (arith, ints, nat_tests))
 
   -- and below the value, which it extends
   pub is_apart : overlaps v moved ≡ false
@@ -100,19 +96,20 @@ module _ (v : Unsigned) (integer : ℕ) (position : ℤ) (below : IsBelow v inte
       (first_below_last v.number (integer * weight position) below.cut top below.divides below.less below.sum limit some
       (subst (λ n. 0 < n) moved_number more)))
 
-  pub joined_is : concatenated_end v moved ≡ appended v integer position
+  pub joined_is : concatenated_end v moved ≡ appended v ds position
   joined_is =
       let number : v.number + moved.number ≡ v.number + integer * weight position =
       ap (λ n. v.number + n) moved_number in
-      let hi : int_max v.hi (int_max (first (integer * weight (pos 0)) +ℤ position) (pos 0)) ≡ v.hi =
-      omega (arith, ints, clamps, bound, below.hi) in
-      let lo : int_min v.lo (int_min (pos 0 +ℤ position) (pos 0)) ≡ int_min v.lo position =
+      let hi : int_max v.hi (int_max (pos (length ds - 1) +ℤ position) (pos 0)) ≡ v.hi =
+      omega (arith, ints, clamps, below.shown, below.hi) in
+      let lo : int_min v.lo (int_min (int_min (pos (length ds) -ℤ pos (length ds)) (pos 0) +ℤ position) (pos 0))
+      ≡ int_min v.lo position =
       omega (arith, ints, clamps, below.lo) in
       λ i. record { number = number i; hi = hi i; lo = lo i }
 
   -- the joined digits that need memory are those of the sum
   pub memory_for_sum : (inline : ℕ) → 0 < v.number → 0 < moved.number → inline < concatenated_size v moved
-      → inline < size (appended v integer position).number
+      → inline < size (appended v ds position).number
   memory_for_sum inline some more h =
       let joined = size_joined v.number (integer * weight position) below.cut top below.divides below.less below.sum
       limit some (subst (λ n. 0 < n) moved_number more) in
@@ -228,8 +225,8 @@ module _ (n : ℕ) (ds more : List ℕ) (position : ℤ) (all : AllBelowBase 10 
       ap (λ x. number_at (n + 32768) ds + number_from_digits 10 more * x) weight_is
       ∙ sym (number_at-append (n + 32768) ds more limits.all)
 
-  -- the integer of further digits is below the others
-  pub more_below : IsBelow (value_of_first n ds) (number_from_digits 10 more) position
+  -- further digits are below the others
+  pub more_below : IsBelow (value_of_first n ds) more position
   more_below = record {
     cut = n + 32768 - length ds;
     divides = number_at-divides (n + 32768) ds;
@@ -245,7 +242,7 @@ module _ (n : ℕ) (ds more : List ℕ) (position : ℤ) (all : AllBelowBase 10 
   }
 
   -- and appended to them it has the digits of both
-  pub more_appended : appended (value_of_first n ds) (number_from_digits 10 more) position
+  pub more_appended : appended (value_of_first n ds) more position
       ≡ value_of_first n (ds ++ more)
   more_appended =
       let lo : int_min (int_min (pos n -ℤ pos (length ds)) (pos 0)) position
@@ -253,22 +250,39 @@ module _ (n : ℕ) (ds more : List ℕ) (position : ℤ) (all : AllBelowBase 10 
       omega (arith, ints, clamps, at, length-append ds more) in
       λ i. record { number = sum_is i; hi = pos (n - 1); lo = lo i }
 
--- one digit more
-pub collects_more : (inline n : ℕ) (old new : Collected) (d : ℕ) (before : List ℕ) → d < 10
-    → new ≡ record old { integer = old.integer * 10 + d; count = old.count + 1 }
-    → Collects inline n old before → Collects inline n new (before ++ d ∷ [])
-collects_more inline n old new d before below e h =
-    subst (λ (c : Collected). Collects inline n c (before ++ d ∷ [])) (sym e) (record {
+-- ---- The last digits.
+pub bcd_only : (n k : ℕ) (ds : List ℕ) → IsBcd n k ds → IsBcd n (k + 0) ds
+bcd_only n k ds is = record { digits = is.digits; count = omega (arith, is.count); number = is.number }
+
+-- a word is moved by k digits, with room for them
+pub moved_by : (n k j : ℕ) → n < 16 ^ k → k + j ≤ 16 → (n * 2 ^ (4 * j)) % 2 ^ 64 ≡ n * 16 ^ j
+moved_by n k j few room =
+    shl_whole n (4 * k) (4 * j) 64 (subst (λ x. n < x) (sym (hex_pow k)) few) (omega (arith, room))
+    ∙ ap (λ x. n * x) (hex_pow j)
+
+-- there is room for the digits
+pub room_for_digits : (n k m j : ℕ) → n < 16 ^ k → m < 16 ^ j → n * 16 ^ j + m < 16 ^ (k + j)
+room_for_digits n k m j few more =
+    let split : 16 ^ (k + j) ≡ 16 ^ k * 16 ^ j = pow-add 16 k j in
+    omega (arith, split, mul-le-mul_right (16 ^ j) few, more)
+
+pub word_limit : (k : ℕ) → k ≤ 16 → 16 ^ k ≤ 2 ^ 64
+word_limit k few = let most : 16 ^ k ≤ 16 ^ 16 = pow-le-pow_right (omega arith) few in most
+
+-- digits more
+pub collects_more : (inline n m j number : ℕ) (old new : Collected) (ds before : List ℕ) → IsBcd m j ds
+    → number ≡ old.number * 16 ^ j + m → new ≡ record old { number = number; count = old.count + j }
+    → Collects inline n old before → Collects inline n new (before ++ ds)
+collects_more inline n m j number old new ds before bcd is e h =
+    subst (λ (c : Collected). Collects inline n c (before ++ ds)) (sym e) (record {
       first = h.first;
-      others = h.others ++ d ∷ [];
-      all = ap (λ l. l ++ d ∷ []) h.all ∙ append_assoc h.first h.others (d ∷ []);
-      digits = below_more before d h.digits below;
+      others = h.others ++ ds;
+      all = ap (λ l. l ++ ds) h.all ∙ append_assoc h.first h.others ds;
+      digits = below_append before ds h.digits bcd.digits;
       store = h.store;
-      count = omega (arith, h.count, length-append h.others (d ∷ []));
-      integer =
-          let one : number_from_digits 10 (h.others ++ d ∷ []) ≡ number_from_digits 10 h.others * 10 + d =
-          number-append h.others (d ∷ []) ∙ (omega arith) in
-          ap (λ x. x * 10 + d) h.integer ∙ sym one;
+      bcd =
+          subst (λ x. IsBcd x (old.count + j) (h.others ++ ds)) (sym is)
+          (bcd_append old.number old.count m j h.others ds h.bcd bcd);
       integer_digits = h.integer_digits;
       written = h.written;
       value = h.value;
@@ -279,14 +293,64 @@ empty_of : (l : List ℕ) → length l ≡ 0 → l ≡ []
 empty_of [] e = refl
 empty_of (x ∷ l) e = absurd (omega (arith, e))
 
-power-le : (j k : ℕ) → j ≤ k → 10 ^ j ≤ 10 ^ k
-power-le j k h = pow-le-pow_right (omega arith) h
+-- nothing was collected
+pub begins : (inline n : ℕ) (old new : Collected) → IsFresh inline old
+    → new ≡ record old { integer_digits = new.integer_digits } → (n ≤ 32768 → new.integer_digits ≡ n)
+    → Collects inline n new []
+begins inline n old new fresh e digits = record {
+  first = [];
+  others = [];
+  all = refl;
+  digits = tt;
+  store = ap (λ (c : Collected). c.inline) e ∙ fresh.store;
+  bcd = record {
+    digits = tt;
+    count = sym (ap (λ (c : Collected). c.count) e ∙ fresh.count);
+    number = ap (λ (c : Collected). c.number) e ∙ fresh.number;
+  };
+  integer_digits = digits;
+  written = λ limits kept. ap (λ (c : Collected). c.written) e ∙ fresh.written;
+  value = λ some. absurd (omega (arith, some));
+  memory = λ out. absurd (let t : false ≡ true = sym (ap (λ (c : Collected). c.out_of_memory) e ∙ fresh.in_memory) ∙ out
+      in cc);
+}
 
--- an integer of fewer than eighteen digits has room for one more
-pub room_for_digit : (integer count : ℕ) → integer < 10 ^ count → count < 18 → integer * 10 + 9 < 2 ^ 64
-room_for_digit integer count few room =
-    let most : 10 ^ count ≤ 10 ^ 17 = power-le count 17 (omega (arith, room)) in
-    omega (arith, few, most)
+-- the value of no digits was made, if there is none of others
+pub has_value : (inline n : ℕ) (old new : Collected) (ds : List ℕ) → new ≡ record old { value = new.value }
+    → (0 < old.written → new.value ≡ old.value)
+    → (old.written ≡ 0 → new.value ≡ value_of_first old.integer_digits []) → Collects inline n old ds
+    → HasValue inline n new ds
+has_value inline n old new ds e kept made h = record {
+  is = record {
+    first = h.first;
+    others = h.others;
+    all = h.all;
+    digits = h.digits;
+    store = ap (λ (c : Collected). c.inline) e ∙ h.store;
+    bcd = record {
+      digits = h.bcd.digits;
+      count = h.bcd.count ∙ sym (ap (λ (c : Collected). c.count) e);
+      number = ap (λ (c : Collected). c.number) e ∙ h.bcd.number;
+    };
+    integer_digits = λ few. ap (λ (c : Collected). c.integer_digits) e ∙ h.integer_digits few;
+    written = λ limits in_memory. ap (λ (c : Collected). c.written) e ∙ h.written limits (was in_memory);
+    value = λ some limits in_memory. value limits (was in_memory);
+    memory = λ out. h.memory (sym (ap (λ (c : Collected). c.out_of_memory) e) ∙ out);
+  };
+  value = λ limits in_memory. value limits (was in_memory);
+}
+  where
+    was : new.out_of_memory ≡ false → old.out_of_memory ≡ false
+    was in_memory = sym (ap (λ (c : Collected). c.out_of_memory) e) ∙ in_memory
+
+    value : IsInLimits n h.first → old.out_of_memory ≡ false → new.value ≡ value_of_first n h.first
+    value limits in_memory = elim (cases_lt 0 old.written) [
+      | inl some ↦
+          kept some ∙ h.value (omega (arith, some, h.written limits in_memory)) limits in_memory
+      | inr none ↦
+          let empty = empty_of h.first (omega (arith, none, h.written limits in_memory)) in
+          made (omega (arith, none)) ∙ (λ i. value_of_first (h.integer_digits limits.whole i) (sym empty i))
+    ]
 
 -- what holds of a result, by whether it is an error
 pub by_error : {A E : Type 0} (r : Result A E) (failed : Bool) (P Q : Type 0) → failed ≡ is_err r → OnOk r P → OnErr r Q
@@ -294,17 +358,31 @@ pub by_error : {A E : Type 0} (r : Result A E) (failed : Bool) (P Q : Type 0) �
 by_error (Ok x) failed P Q e p q = (λ h. p, λ h. absurd (let t = sym h ∙ e in cc))
 by_error (Err x) failed P Q e p q = (λ h. absurd (let t = sym h ∙ e in cc), λ h. q)
 
+first_limits : (n : ℕ) (ds more : List ℕ) → IsInLimits n (ds ++ more) → IsInLimits n ds
+first_limits n ds more limits = record {
+  whole = limits.whole;
+  all = omega (arith, limits.all, length-append ds more);
+}
+
 -- the last digits of a collector without others
 no_others : (inline n : ℕ) (c : Collected) (ds : List ℕ) (h : Collects inline n c ds) → c.count ≡ 0 → ds ≡ h.first
 no_others inline n c ds h none =
-    h.all ∙ ap (λ l. h.first ++ l) (empty_of h.others (omega (arith, h.count, none))) ∙ append-nil h.first
+    h.all ∙ ap (λ l. h.first ++ l) (empty_of h.others (omega (arith, h.bcd.count, none))) ∙ append-nil h.first
 
 -- what is collected, where all digits are in the value
-pub collected_value : (inline n : ℕ) (c : Collected) (ds : List ℕ) → Collects inline n c ds → IsInLimits n ds
-    → c.count ≡ 0 → c.out_of_memory ≡ false → c.value ≡ value_of_first n ds
-collected_value inline n c ds h limits none in_memory =
+pub collected_value : (inline n : ℕ) (c : Collected) (ds : List ℕ) → Collects inline n c ds → 0 < length ds
+    → IsInLimits n ds → c.count ≡ 0 → c.out_of_memory ≡ false → c.value ≡ value_of_first n ds
+collected_value inline n c ds h some limits none in_memory =
     let same = no_others inline n c ds h none in
-    h.value (subst (IsInLimits n) same limits) in_memory ∙ ap (value_of_first n) (sym same)
+    h.value (omega (arith, some, ap length same)) (subst (IsInLimits n) same limits) in_memory
+    ∙ ap (value_of_first n) (sym same)
+
+-- or in the word
+pub only_others : (inline n : ℕ) (c : Collected) (ds : List ℕ) (h : Collects inline n c ds) → IsInLimits n ds
+    → c.written ≡ 0 → c.out_of_memory ≡ false → ds ≡ h.others
+only_others inline n c ds h limits none in_memory =
+    let few = first_limits n h.first h.others (subst (IsInLimits n) h.all limits) in
+    h.all ∙ ap (λ l. l ++ h.others) (empty_of h.first (omega (arith, h.written few in_memory, none)))
 
 pub collected_memory : (inline n : ℕ) (c : Collected) (ds : List ℕ) → Collects inline n c ds → IsInLimits n ds
     → c.out_of_memory ≡ true → inline < size (value_of_first n ds).number
@@ -312,15 +390,9 @@ collected_memory inline n c ds h limits out =
     subst (λ (l : List ℕ). inline < size (value_of_first n l).number) (sym h.all)
     (h.memory out h.others (subst (AllBelowBase 10) h.all h.digits) (subst (IsInLimits n) h.all limits))
 
-first_limits : (n : ℕ) (ds more : List ℕ) → IsInLimits n (ds ++ more) → IsInLimits n ds
-first_limits n ds more limits = record {
-  whole = limits.whole;
-  all = omega (arith, limits.all, length-append ds more);
-}
-
 -- the last digits are dropped where there are none, after an allocation has failed, or beyond the limits
 pub collects_dropped : (inline n : ℕ) (old new : Collected) (ds : List ℕ)
-    → new ≡ record old { integer = 0; count = 0 }
+    → new ≡ record old { number = 0; count = 0 }
     → (old.out_of_memory ≡ false → 0 < old.count → old.integer_digits + 32768 < old.written + old.count)
     → Collects inline n old ds → Collects inline n new ds
 collects_dropped inline n old new ds e beyond h =
@@ -331,26 +403,24 @@ collects_dropped inline n old new ds e beyond h =
         all = h.all ∙ sym (append-nil (h.first ++ h.others));
         digits = h.digits;
         store = h.store;
-        count = refl;
-        integer = refl;
+        bcd = bcd_none;
         integer_digits = h.integer_digits;
         written = λ limits in_memory. absurd (too_many some limits in_memory);
-        value = λ limits in_memory. absurd (too_many some limits in_memory);
+        value = λ more limits in_memory. absurd (too_many some limits in_memory);
         memory = λ out more.
             let same = append_assoc h.first h.others more in
             subst (λ (l : List ℕ). AllBelowBase 10 l → IsInLimits n l → inline < size (value_of_first n l).number)
             (sym same) (h.memory out (h.others ++ more));
       }
       | inr none ↦
-          let empty = empty_of h.others (omega (arith, h.count, none)) in
+          let empty = empty_of h.others (omega (arith, h.bcd.count, none)) in
           record {
             first = h.first;
             others = [];
             all = h.all ∙ ap (λ l. h.first ++ l) empty;
             digits = h.digits;
             store = h.store;
-            count = refl;
-            integer = refl;
+            bcd = bcd_none;
             integer_digits = h.integer_digits;
             written = h.written;
             value = h.value;
@@ -365,7 +435,7 @@ collects_dropped inline n old new ds e beyond h =
           beyond in_memory some,
           h.integer_digits limits.whole,
           h.written (first_limits n h.first h.others limits) in_memory,
-          h.count,
+          h.bcd.count,
           limits.all,
           length-append h.first h.others,
         )
@@ -373,35 +443,36 @@ collects_dropped inline n old new ds e beyond h =
 -- the last digits are appended to the value, or an allocation has failed
 pub collects_appended : (inline n : ℕ) (old new : Collected) (ds : List ℕ) (position : ℤ)
     → old.out_of_memory ≡ false → 0 < old.count → new.inline ≡ old.inline → new.integer_digits ≡ old.integer_digits
-    → new.written ≡ old.written + old.count → new.integer ≡ 0 → new.count ≡ 0
+    → new.written ≡ old.written + old.count → new.number ≡ 0 → new.count ≡ 0
     → position ≡ pos old.integer_digits -ℤ pos (old.written + old.count)
-    → (new.out_of_memory ≡ false → IsBelow old.value old.integer position
-    → new.value ≡ appended old.value old.integer position)
-    → (new.out_of_memory ≡ true → IsBelow old.value old.integer position
-    → inline < size (appended old.value old.integer position).number)
-    → Collects inline n old ds → Collects inline n new ds
-collects_appended inline n old new ds position in_memory some store digits written integer count at ok fails
-    h = record {
+    → (new.out_of_memory ≡ false → (es : List ℕ) → IsBcd old.number old.count es → IsBelow old.value es position
+    → new.value ≡ appended old.value es position)
+    → (new.out_of_memory ≡ true → (es : List ℕ) → IsBcd old.number old.count es → IsBelow old.value es position
+    → inline < size (appended old.value es position).number)
+    → (h : Collects inline n old ds)
+    → (IsInLimits n h.first → old.out_of_memory ≡ false → old.value ≡ value_of_first n h.first)
+    → Collects inline n new ds
+collects_appended inline n old new ds position in_memory some store digits written number count at ok fails
+    h value = record {
       first = h.first ++ h.others;
       others = [];
       all = h.all ∙ sym (append-nil (h.first ++ h.others));
       digits = h.digits;
       store = store ∙ h.store;
-      count = count;
-      integer = integer;
+      bcd = record { digits = tt; count = sym count; number = number };
       integer_digits = λ few. digits ∙ h.integer_digits few;
       written = λ limits kept.
           omega (
             arith,
             written,
             h.written (first_limits n h.first h.others limits) in_memory,
-            h.count,
+            h.bcd.count,
             length-append h.first h.others,
           );
-      value = λ limits kept. ok kept (is_below limits) ∙ is_appended limits;
+      value = λ more limits kept. ok kept h.others h.bcd (is_below limits) ∙ is_appended limits;
       memory = λ out more all limits.
           let few = first_limits n (h.first ++ h.others) more limits in
-          let here = fails out (is_below few) in
+          let here = fails out h.others h.bcd (is_below few) in
           omega (
             arith,
             subst (λ (v : Unsigned). inline < size v.number) (is_appended few) here,
@@ -410,7 +481,7 @@ collects_appended inline n old new ds position in_memory some store digits writt
     }
   where
     value_is : IsInLimits n (h.first ++ h.others) → old.value ≡ value_of_first n h.first
-    value_is limits = h.value (first_limits n h.first h.others limits) in_memory
+    value_is limits = value (first_limits n h.first h.others limits) in_memory
 
     position_is : IsInLimits n (h.first ++ h.others) → position ≡ pos n -ℤ pos (length (h.first ++ h.others))
     position_is limits =
@@ -420,23 +491,22 @@ collects_appended inline n old new ds position in_memory some store digits writt
           at,
           h.integer_digits limits.whole,
           h.written (first_limits n h.first h.others limits) in_memory,
-          h.count,
+          h.bcd.count,
           length-append h.first h.others,
         )
 
     more_digits : 0 < length h.others
-    more_digits = omega (arith, some, h.count)
+    more_digits = omega (arith, some, h.bcd.count)
 
-    is_below : IsInLimits n (h.first ++ h.others) → IsBelow old.value old.integer position
+    is_below : IsInLimits n (h.first ++ h.others) → IsBelow old.value h.others position
     is_below limits =
-        subst (λ (v : Unsigned). IsBelow v old.integer position) (sym (value_is limits))
-        (subst (λ (i : ℕ). IsBelow (value_of_first n h.first) i position) (sym h.integer)
+        subst (λ (v : Unsigned). IsBelow v h.others position) (sym (value_is limits))
         (more_below n h.first h.others position (subst (AllBelowBase 10) h.all h.digits) limits more_digits
-        (position_is limits)))
+        (position_is limits))
 
     is_appended : IsInLimits n (h.first ++ h.others)
-        → appended old.value old.integer position ≡ value_of_first n (h.first ++ h.others)
+        → appended old.value h.others position ≡ value_of_first n (h.first ++ h.others)
     is_appended limits =
-        (λ i. appended (value_is limits i) (h.integer i) position)
+        ap (λ (v : Unsigned). appended v h.others position) (value_is limits)
         ∙ more_appended n h.first h.others position (subst (AllBelowBase 10) h.all h.digits) limits more_digits
         (position_is limits)

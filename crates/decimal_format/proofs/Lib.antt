@@ -9,6 +9,7 @@ pub mod Styled
 pub mod Codes
 pub mod DigitTexts
 pub mod NumeralTexts
+pub mod Bcd
 pub mod Scans
 pub mod NumeralLaws
 pub mod Apart

@@ -1,5 +1,5 @@
 -- A text is that of one numeral, and of one decimal.
-use Rattle.std.proofs.Common.{◌≡◌, ℕ, ◌-◌, ◌<◌, ◌≤◌, inl, inr, Bool, false, List, [], ◌∷◌, ◌++◌, length, refl, sym, ◌∙◌, ap, subst, arith, append-nil}
+use Rattle.std.proofs.Common.{◌≡◌, ℕ, ◌-◌, ◌<◌, ◌≤◌, inl, inr, Bool, true, false, List, [], ◌∷◌, ◌++◌, length, refl, sym, ◌∙◌, ap, subst, arith, append-nil}
 use Rattle.std.specs.Prelude.{Result, Ok, Err, IfOk, MatchResult, ◌↔◌, pos}
 use Rattle.std.specs.Int.Digits.{AllBelowBase}
 use Rattle.std.proofs.lemmas.Bool.{cases_lt}
@@ -19,9 +19,9 @@ use Rattle.decimal_format.specs.Symbols.{Symbols, Affixes, sign_affixes}
 use Rattle.decimal_format.specs.Formatted.{formatted}
 use Rattle.decimal_format.specs.Grouping.{is_grouped}
 use Rattle.decimal_format.specs.Readable.{IsReadable}
-use Rattle.decimal_format.specs.Reading.{Numeral, AreDigits, IsNumeral, IsBeyondLimits, IsWritten, NeedsMemory, digits_text, fraction_text, absolute_numeral_text, numeral_text, separated_by}
+use Rattle.decimal_format.specs.Reading.{Numeral, AreDigits, IsNumeral, IsBeyondLimits, IsWritten, digits_text, fraction_text, absolute_numeral_text, numeral_text, separated_by}
 use Rattle.decimal_format.specs.Lenient.{ends_group, separated_at, normalized, IsLenientNumeral, IsLenientlyWritten, IsTyped}
-use Rattle.decimal_format.specs.Scanning.{BeginsWithDigit, IsUniform, value_of, IsValueOf}
+use Rattle.decimal_format.specs.Scanning.{BeginsWithDigit, IsUniform, value_of, IsValueOf, IsNumeralBy, IsWrittenBy, IsRead}
 use Rattle.decimal_format.proofs.Codes.{digit_not_minus, digit_not_plus, plus_not_minus, none_not_decimal}
 use Rattle.decimal_format.proofs.DigitTexts.{digits_text-cong, nil_ends, fraction_ends, integer-unique, separators-unique}
 use Rattle.decimal_format.proofs.NumeralTexts.{HasDigits, formatted-digits, text-digits, digits_of_value, value_of_digits}
@@ -197,16 +197,6 @@ pub record AreTexts (is_numeral : Numeral → Type 0) (is_written : Decimal → 
   pub reads : (v : Decimal) → IsValue v.absolute → is_written v → (w : Numeral) × is_numeral w × HasDigits v w
       × ¬ IsBeyondLimits w
 
--- what a reader returns
-pub record IsRead (inline : ℕ) (is_numeral : Numeral → Type 0) (is_written : Decimal → Type 0) (result : Result
-    Decimal ParseError) : Type 0 where
-  pub found : IfOk result is_written
-  pub reads_back : (v : Decimal) → IsValue v.absolute → is_written v → MatchResult result (λ w. w ≡ v) (λ e. e
-      ≡ Memory)
-  pub syntax : (result ≡ Err Syntax) ↔ ((w : Numeral) → ¬ is_numeral w)
-  pub limit : (result ≡ Err Limit) ↔ ((w : Numeral) × is_numeral w × IsBeyondLimits w)
-  pub memory : result ≡ Err Memory → (v : Decimal) × is_written v × NeedsMemory inline v.absolute
-
 module _ (is_numeral : Numeral → Type 0) (is_written : Decimal → Type 0) (texts : AreTexts is_numeral is_written) where
   -- a text is that of one decimal
   decimal-unique : (v u : Decimal) → IsValue v.absolute → IsValue u.absolute → is_written v → is_written u → v ≡ u
@@ -309,6 +299,29 @@ module _ (s : Symbols) (readable : IsReadable s) (bytes : List ℕ) where
           λ beyond. within s readable plain v t (subst IsBeyondLimits (sym same) beyond),
         );
   }
+
+-- both
+pub texts_by : (strict : Bool) (s : Symbols) → IsReadable s → (bytes : List ℕ)
+    → AreTexts (IsNumeralBy strict s bytes) (IsWrittenBy strict s bytes)
+texts_by true s readable bytes = formatted_texts s readable bytes
+texts_by false s readable bytes = lenient_texts s readable bytes
+
+pub numeral_by_is_lenient : (strict : Bool) (s : Symbols) (bytes : List ℕ) (w : Numeral)
+    → IsNumeralBy strict s bytes w → IsLenientNumeral s bytes w
+numeral_by_is_lenient true s bytes w numeral = numeral_is_lenient s bytes w numeral
+numeral_by_is_lenient false s bytes w numeral = numeral
+
+-- a numeral whose separators are all there, or none, as far as this is asked for
+pub numeral_by : (strict all : Bool) (s : Symbols) (bytes : List ℕ) (w : Numeral) → IsLenientNumeral s bytes w
+    → (all ≡ true → IsNumeral s bytes w) → (strict ≡ true → all ≡ true) → IsNumeralBy strict s bytes w
+numeral_by true all s bytes w lenient numeral h = numeral (h refl)
+numeral_by false all s bytes w lenient numeral h = lenient
+
+-- and one of which only some are there
+pub none_by : (strict : Bool) (s : Symbols) (bytes : List ℕ) → strict ≡ true
+    → ((w : Numeral) → ¬ IsNumeral s bytes w) → (w : Numeral) → ¬ IsNumeralBy strict s bytes w
+none_by true s bytes h none = none
+none_by false s bytes h none = absurd (cc)
 
 -- ---- Laws.
 -- with readable symbols two values have different texts

@@ -1,6 +1,6 @@
 -- The steps of a scan.
 use Rattle.std.proofs.Common.{◌≡◌, ◌≢◌, ℕ, suc, ◌+◌, ◌-◌, ◌%◌, ◌<◌, ◌≤◌, ◌==◌, nat_le, nat_lt, Bool, true, false, ◌&&◌, ◌||◌, List, [], ◌∷◌, ◌++◌, length, refl, sym, ◌∙◌, ap, subst, arith, rules, append_assoc, append-nil, length-append, inl, inr}
-use Rattle.std.specs.Prelude.{if◌then◌else◌, pos, Option, Some, None, IfSome, IfNone, Result, Ok, Err, IfOk, ◌↔◌}
+use Rattle.std.specs.Prelude.{if◌then◌else◌, ◌*◌, pos, Option, Some, None, IfSome, IfNone, Result, Ok, Err, IfOk, ◌↔◌}
 use Rattle.std.specs.Int.Digits.{AllBelowBase}
 use Rattle.std.proofs.Math.Bool.{beq, not}
 use Rattle.std.proofs.lemmas.Bool.{cases_eq}
@@ -11,15 +11,18 @@ use Rattle.fixed_decimal.specs.declared.variations.Sign.{Sign}
 use Rattle.fixed_decimal.specs.declared.variations.Sign.TheVariants as sign
 use Rattle.decimal_format.specs.declared.grouping.GroupingStrategy.{GroupingStrategy}
 use Rattle.decimal_format.specs.declared.grouping.GroupingStrategy.TheVariants.{Never, Always}
+use Rattle.decimal_unsigned.specs.DigitValues.{IsBcd}
 use Rattle.decimal_format.specs.Collecting.{Collected, Collects, CollectsDigits}
 use Rattle.decimal_format.specs.Symbols.{Symbols, digit_text, sign_affixes}
-use Rattle.decimal_format.specs.Grouping.{reaches, is_grouped, secondary_size}
+use Rattle.decimal_format.specs.Grouping.{reaches, is_grouped, secondary_size, separates}
 use Rattle.decimal_format.specs.Lenient.{ends_group}
 use Rattle.decimal_format.specs.Readable.{IsReadable}
 use Rattle.decimal_format.specs.Reading.{Numeral, AreDigits, digits_text, fraction_text, absolute_numeral_text, separated_by}
-use Rattle.decimal_format.specs.Scanning.{separator_if, separated_if, SkipsSeparator, EndsInteger, BeginsWithDigit, IsUniform, ReadsDigits, ReadsLastDigits, ReadsFraction}
-use Rattle.decimal_format.proofs.Codes.{same_digit, digit_not_grouping, digit_not_minus, digit_not_plus, plus_not_minus, none_not_digit}
+use Rattle.decimal_format.specs.Scanning.{separator_if, separated_if, SkipsSeparator, EndsInteger, BeginsWithDigit, IsUniform, IsRunOf, ReadsRun, ReadsDigits, ReadsLastDigits, ReadsFraction}
+use Rattle.decimal_format.proofs.Bcd.{below_append, bcd_none, bcd_push}
+use Rattle.decimal_format.proofs.Codes.{same_digit, digit_not_grouping, digit_not_minus, digit_not_plus, plus_not_minus, none_not_digit, none_not_grouping}
 use Rattle.decimal_format.proofs.DigitTexts.{digits_text-nil, digits_text-cons, digits_text-first, digits_text-append, digits_not_grouping}
+use Rattle.decimal_format.proofs.Separators.{separates_none, separates_last}
 
 -- a true proposition holds on a missing value
 pub on_none : {A : Type 0} (result : Option A) (P : Type 0) → P → IfNone result P
@@ -43,6 +46,12 @@ begins-append s number tail begins = record {
   is_digit = begins.is_digit;
   is = ap (λ l. l ++ tail) begins.is ∙ append_assoc (digit_text s begins.digit) begins.following tail;
 }
+
+code_shorter : (code bytes after : List ℕ) → ([] ≢ code) → bytes ≡ code ++ after → length after < length bytes
+code_shorter [] bytes after some e = absurd (some refl)
+code_shorter (x ∷ code) bytes after some e =
+    let all : length bytes ≡ length (x ∷ code) + length after = ap length e ∙ length-append (x ∷ code) after in
+    omega (arith, all)
 
 module _ (s : Symbols) (readable : IsReadable s) where
   -- a text that begins with the prefix of the minus has this sign
@@ -70,22 +79,36 @@ module _ (s : Symbols) (readable : IsReadable s) where
 
   -- a digit has bytes
   pub shorter : (bytes after : List ℕ) (d : ℕ) → d < 10 → bytes ≡ digit_text s d ++ after → length after < length bytes
-  shorter bytes after d below e = go (digit_text s d) refl
-    where
-      go : (code : List ℕ) → code ≡ digit_text s d → length after < length bytes
-      go [] h = absurd (none_not_digit s readable d [] below (h ∙ sym (append-nil (digit_text s d))))
-      go (x ∷ code) h =
-          let all : length bytes ≡ length (x ∷ code) + length after =
-          ap length (e ∙ ap (λ l. l ++ after) (sym h)) ∙ length-append (x ∷ code) after in
-          omega (arith, all)
+  shorter bytes after d below e =
+      code_shorter (digit_text s d) bytes after (λ h. none_not_digit s readable d [] below (h ∙ sym (append-nil
+      (digit_text s d)))) e
+
+  -- and so has the grouping separator
+  pub shorter_by_separator : (bytes after : List ℕ) → bytes ≡ s.grouping ++ after → length after < length bytes
+  shorter_by_separator bytes after e =
+      code_shorter s.grouping bytes after (λ h. none_not_grouping s readable [] (h ∙ sym (append-nil s.grouping))) e
+
+  -- digits have at least one byte each
+  pub run_length : (ds bytes after : List ℕ) → AllBelowBase 10 ds → bytes ≡ digits_text s (λ _. false) ds ++ after
+      → length ds + length after ≤ length bytes
+  run_length [] bytes after all e =
+      omega (arith, ap length (e ∙ ap (λ l. l ++ after) (digits_text-nil s (λ _. false))))
+  run_length (d ∷ ds) bytes after all e =
+      let rest = digits_text s (λ _. false) ds ++ after in
+      omega (
+        arith,
+        shorter bytes rest d all.0 (e ∙ digits_text-first s (λ _. false) d ds after),
+        run_length ds rest after all.1 refl,
+      )
 
 -- ---- Counting.
--- of digits that a text may begin with, these are left
+-- of digits that a text may begin with, these are left, after a separator if one follows the last digit that was counted
 pub record IsCountedOf (s : Symbols) (separated : ℕ → Bool) (ds tail rest : List ℕ) (n : ℕ) : Type 0 where
   pub left : List ℕ
+  pub after_separator : Bool
   pub are_digits : AllBelowBase 10 left
   pub counted : n + length left ≡ length ds
-  pub is : rest ≡ digits_text s separated left ++ tail
+  pub is : rest ≡ separator_if s after_separator ++ (digits_text s separated left ++ tail)
 
 abbrev pub IsCounted : Symbols → List ℕ → List ℕ → ℕ → Type 0
 IsCounted s bytes rest n = (separated : ℕ → Bool) (ds tail : List ℕ) → AllBelowBase 10 ds → EndsInteger s tail
@@ -94,78 +117,140 @@ IsCounted s bytes rest n = (separated : ℕ → Bool) (ds tail : List ℕ) → A
 pub counted_none : (s : Symbols) (bytes : List ℕ) → IsCounted s bytes bytes 0
 counted_none s bytes separated ds tail all ends e = record {
   left = ds;
+  after_separator = false;
   are_digits = all;
   counted = omega arith;
   is = e;
 }
 
--- what follows a separator is no longer
-pub skipped_at_most : (s : Symbols) (possible found : Bool) (bytes rest : List ℕ)
-    → SkipsSeparator s possible bytes rest found → length rest ≤ length bytes
-skipped_at_most s possible found bytes rest skips =
-    omega (arith, ap length skips.text ∙ length-append (separator_if s found) rest)
-
-module _ (s : Symbols) (readable : IsReadable s) where
-  -- one digit more, and a separator after it or none
-  pub counted_more : (bytes rest after next : List ℕ) (n d : ℕ) (found : Bool) → d < 10
-      → rest ≡ digit_text s d ++ after → SkipsSeparator s true after next found
-      → IsCounted s bytes rest n → IsCounted s bytes next (n + 1)
-  counted_more bytes rest after next n d found below e skips so_far separated ds tail all ends whole =
+module _ (s : Symbols) (readable : IsReadable s) (bytes rest : List ℕ) (n : ℕ) where
+  -- one digit more
+  pub counted_more : (after : List ℕ) (d : ℕ) → d < 10 → rest ≡ digit_text s d ++ after → IsCounted s bytes rest n
+      → IsCounted s bytes after (n + 1)
+  counted_more after d below e so_far separated ds tail all ends whole =
       let before = so_far separated ds tail all ends whole in
-      go before.left before.are_digits before.counted before.is
+      go before.after_separator before.left before.are_digits before.counted before.is
     where
-      step : (left : List ℕ) → AllBelowBase 10 left
-          → after ≡ separator_if s (separated (length left)) ++ (digits_text s separated left ++ tail)
-          → (b : Bool) → separated (length left) ≡ b → (f : Bool) → found ≡ f
-          → next ≡ digits_text s separated left ++ tail
-      step left digits h true at true f = append_cancel_left s.grouping next (digits_text s separated left ++ tail)
-          (ap (λ b. separator_if s b ++ next) (sym f) ∙ sym skips.text ∙ h
-          ∙ ap (λ b. separator_if s b ++ (digits_text s separated left ++ tail)) at)
-      step left digits h true at false f = absurd (skips.none f refl (digits_text s separated left ++ tail)
-          (h ∙ ap (λ b. separator_if s b ++ (digits_text s separated left ++ tail)) at))
-      step left digits h false at true f =
-          absurd (digits_not_grouping s readable separated left tail next digits ends
-          (sym (h ∙ ap (λ b. separator_if s b ++ (digits_text s separated left ++ tail)) at) ∙ skips.text
-          ∙ ap (λ b. separator_if s b ++ next) f))
-      step left digits h false at false f =
-          ap (λ b. separator_if s b ++ next) (sym f) ∙ sym skips.text ∙ h
-          ∙ ap (λ b. separator_if s b ++ (digits_text s separated left ++ tail)) at
-
-      go : (left : List ℕ) → AllBelowBase 10 left → n + length left ≡ length ds
-          → rest ≡ digits_text s separated left ++ tail → IsCountedOf s separated ds tail next (n + 1)
-      go [] digits counted h =
+      go : (first : Bool) (left : List ℕ) → AllBelowBase 10 left → n + length left ≡ length ds
+          → rest ≡ separator_if s first ++ (digits_text s separated left ++ tail)
+          → IsCountedOf s separated ds tail after (n + 1)
+      go true left digits counted h = absurd (digit_not_grouping s readable d after _ below (sym e ∙ h))
+      go false [] digits counted h =
           absurd (ends.digit d after below (ap (λ l. l ++ tail) (sym (digits_text-nil s separated)) ∙ sym h ∙ e))
-      go (x ∷ left) digits counted h =
-          let first = same_digit s readable d x after (separator_if s (separated (length left))
-          ++ (digits_text s separated left ++ tail))
-          below digits.0 (sym e ∙ h ∙ digits_text-first s separated x left tail) in
+      go false (x ∷ left) digits counted h =
+          let following = separator_if s (separated (length left)) ++ (digits_text s separated left ++ tail) in
+          let same = same_digit s readable d x after following below digits.0
+          (sym e ∙ h ∙ digits_text-first s separated x left tail) in
           record {
             left = left;
+            after_separator = separated (length left);
             are_digits = digits.1;
             counted = omega (arith, counted);
-            is = step left digits.1 first.1 (separated (length left)) refl found refl;
+            is = same.1;
           }
 
-  -- where no digit follows, all were counted
-  pub counted_all : (bytes rest : List ℕ) (n : ℕ) → ((d : ℕ) (r : List ℕ) → d < 10 → rest ≢ digit_text s d ++ r)
+  -- a separator after a digit
+  pub counted_separator : (after : List ℕ) → rest ≡ s.grouping ++ after → IsCounted s bytes rest n
+      → IsCounted s bytes after n
+  counted_separator after e so_far separated ds tail all ends whole =
+      let before = so_far separated ds tail all ends whole in
+      go before.after_separator before.left before.are_digits before.counted before.is
+    where
+      go : (first : Bool) (left : List ℕ) → AllBelowBase 10 left → n + length left ≡ length ds
+          → rest ≡ separator_if s first ++ (digits_text s separated left ++ tail)
+          → IsCountedOf s separated ds tail after n
+      go true left digits counted h = record {
+        left = left;
+        after_separator = false;
+        are_digits = digits;
+        counted = counted;
+        is = append_cancel_left s.grouping after (digits_text s separated left ++ tail) (sym e ∙ h);
+      }
+      go false left digits counted h =
+          absurd (digits_not_grouping s readable separated left tail after digits ends (sym h ∙ e))
+
+  -- where neither follows, all were counted
+  pub counted_all : ((d : ℕ) (r : List ℕ) → d < 10 → rest ≢ digit_text s d ++ r)
+      → ((r : List ℕ) → rest ≢ s.grouping ++ r)
       → IsCounted s bytes rest n → (separated : ℕ → Bool) (ds tail : List ℕ) → AllBelowBase 10 ds
       → EndsInteger s tail → bytes ≡ digits_text s separated ds ++ tail → n ≡ length ds
-  counted_all bytes rest n no_digit so_far separated ds tail all ends e =
+  counted_all no_digit no_separator so_far separated ds tail all ends e =
       let last = so_far separated ds tail all ends e in
-      go last.left last.are_digits last.counted last.is
+      go last.after_separator last.left last.are_digits last.counted last.is
     where
-      go : (left : List ℕ) → AllBelowBase 10 left → n + length left ≡ length ds
-          → rest ≡ digits_text s separated left ++ tail → n ≡ length ds
-      go [] digits counted h = omega (arith, counted)
-      go (x ∷ left) digits counted h =
-          absurd (no_digit x (separator_if s (separated (length left)) ++ (digits_text s separated left
-          ++ tail)) digits.0
-          (h ∙ digits_text-first s separated x left tail))
+      go : (first : Bool) (left : List ℕ) → AllBelowBase 10 left → n + length left ≡ length ds
+          → rest ≡ separator_if s first ++ (digits_text s separated left ++ tail) → n ≡ length ds
+      go true left digits counted h = absurd (no_separator (digits_text s separated left ++ tail) h)
+      go false [] digits counted h = omega (arith, counted)
+      go false (x ∷ left) digits counted h =
+          absurd (no_digit x _ digits.0 (h ∙ digits_text-first s separated x left tail))
 
 -- ---- Reading digits.
-pub below_more : (ds : List ℕ) (d : ℕ) → AllBelowBase 10 ds → d < 10 → AllBelowBase 10 (ds ++ d ∷ [])
-below_more [] d all below = (below, tt)
-below_more (x ∷ ds) d all below = (all.0, below_more ds d all.1 below)
+pub collects_none : (c : Collected) → CollectsDigits c c []
+collects_none c = λ inline k before h. subst (Collects inline k c) (sym (append-nil before)) h
+
+pub collects_both : (old between new : Collected) (ds es : List ℕ) → CollectsDigits old between ds
+    → CollectsDigits between new es → CollectsDigits old new (ds ++ es)
+collects_both old between new ds es p q = λ inline k before h.
+    subst (Collects inline k new) (append_assoc before ds es) (q inline k (before ++ ds) (p inline k before h))
+
+-- ---- Digits that follow each other.
+-- these digits were read, and the rest follows them
+pub record IsRunTo (s : Symbols) (bytes rest : List ℕ) (number count : ℕ) : Type 0 where
+  pub digits : List ℕ
+  pub bcd : IsBcd number count digits
+  pub text : bytes ≡ digits_text s (λ _. false) digits ++ rest
+
+pub run_none : (s : Symbols) (bytes : List ℕ) → IsRunTo s bytes bytes 0 0
+run_none s bytes = record {
+  digits = [];
+  bcd = bcd_none;
+  text = ap (λ l. l ++ bytes) (sym (digits_text-nil s (λ _. false)));
+}
+
+-- the text of digits and then of others
+text_append : (s : Symbols) (bytes ds rest es after : List ℕ) → bytes ≡ digits_text s (λ _. false) ds ++ rest
+    → rest ≡ digits_text s (λ _. false) es ++ after → bytes ≡ digits_text s (λ _. false) (ds ++ es) ++ after
+text_append s bytes ds rest es after e more =
+    e ∙ ap (λ l. digits_text s (λ _. false) ds ++ l) more
+    ∙ sym (append_assoc (digits_text s (λ _. false) ds) (digits_text s (λ _. false) es) after)
+    ∙ ap (λ l. l ++ after) (sym (digits_text-append s ds es))
+
+-- one digit more
+pub run_push : (s : Symbols) (bytes rest after : List ℕ) (n k d : ℕ) → d < 10 → rest ≡ digit_text s d ++ after
+    → IsRunTo s bytes rest n k → IsRunTo s bytes after (n * 16 + d) (k + 1)
+run_push s bytes rest after n k d below e read =
+    let none : ℕ → Bool = λ _. false in
+    let one : digits_text s none (d ∷ []) ≡ digit_text s d =
+    digits_text-cons s none d [] ∙ ap (λ l. digit_text s d ++ l) (digits_text-nil s none)
+    ∙ append-nil (digit_text s d) in
+    record {
+      digits = read.digits ++ d ∷ [];
+      bcd = bcd_push n k d read.digits below read.bcd;
+      text = text_append s bytes read.digits rest (d ∷ []) after read.text (e ∙ ap (λ l. l ++ after) (sym one));
+    }
+
+-- no more digits were to be read, or none follows
+pub run_read : (s : Symbols) (most : ℕ) (bytes rest : List ℕ) (n k : ℕ) → IsRunTo s bytes rest n k → k ≤ most
+    → (k < most → (d : ℕ) (r : List ℕ) → d < 10 → rest ≢ digit_text s d ++ r) → ReadsRun s most bytes rest n k
+run_read s most bytes rest n k read few ends = record {
+  digits = read.digits;
+  bcd = read.bcd;
+  at_most = few;
+  text = read.text;
+  ends = ends;
+}
+
+-- no digit was read: none follows
+pub run_empty : (s : Symbols) (most : ℕ) (bytes rest : List ℕ) (n k : ℕ) → ReadsRun s most bytes rest n k → k ≡ 0
+    → 0 < most → (d : ℕ) (r : List ℕ) → d < 10 → bytes ≢ digit_text s d ++ r
+run_empty s most bytes rest n k run none some d r below e = go run.digits run.bcd.count run.text
+  where
+    go : (ds : List ℕ) → length ds ≡ k → bytes ≡ digits_text s (λ _. false) ds ++ rest → ⊥
+    go [] size text =
+        run.ends (omega (arith, none, some)) d r below
+        (sym (text ∙ ap (λ l. l ++ rest) (digits_text-nil s (λ _. false))) ∙ e)
+    go (x ∷ ds) size text = absurd (omega (arith, size, none))
 
 -- ---- Chosen magnitudes.
 and_true : (b : Bool) → (b && true) ≡ b
@@ -236,8 +321,7 @@ none_step true false = (λ h. (refl, refl), λ h. refl)
 
 -- these digits were read, and `left` more complete a text; a separator is where it may be after all of them, or none
 pub record IsReadTo (s : Symbols) (may : ℕ → Bool) (n : ℕ) (bytes rest : List ℕ) (left : ℕ) (has_all has_none :
-    Bool) (old new : Collected) : Type 0 where
-  pub digits : List ℕ
+    Bool) (digits : List ℕ) : Type 0 where
   pub chosen : ℕ → Bool
   pub count : length digits + left ≡ n
   pub are_digits : AllBelowBase 10 digits
@@ -246,7 +330,6 @@ pub record IsReadTo (s : Symbols) (may : ℕ → Bool) (n : ℕ) (bytes rest : L
       → bytes ≡ digits_text s (separated_if may later) (digits ++ es) ++ tail
   pub all : has_all ≡ true ↔ Agree (separated_if may chosen) (separated_if may (λ _. true)) left n
   pub none : has_none ≡ true ↔ Agree (separated_if may chosen) (separated_if may (λ _. false)) left n
-  pub collected : CollectsDigits old new digits
 
 -- of n digits that a text begins with, some are left
 pub record AreLeft (s : Symbols) (separated : ℕ → Bool) (rest tail : List ℕ) (left : ℕ) : Type 0 where
@@ -273,35 +356,30 @@ either_is may chosen n false false p q = (λ h. absurd (cc), λ u. go u.0 u.1)
     go false same = q.1 (λ m low high. same m high)
 
 module _ (s : Symbols) (may : ℕ → Bool) (n : ℕ) (bytes : List ℕ) where
-  pub read_none : (collected : Collected) → IsReadTo s may n bytes bytes n true true collected collected
-  read_none collected = record {
-    digits = [];
+  pub read_none : IsReadTo s may n bytes bytes n true true []
+  read_none = record {
     chosen = λ _. false;
     count = omega arith;
     are_digits = tt;
     completes = λ later same es tail h e. e;
     all = (λ h m low high. absurd (omega (arith, low, high)), λ h. refl);
     none = (λ h m low high. absurd (omega (arith, low, high)), λ h. refl);
-    collected = λ inline k before h. subst (Collects inline k collected) (sym (append-nil before)) h;
   }
 
   pub leaves_all : Leaves s may n bytes bytes n
   leaves_all chosen ds tail h all e = record { digits = ds; count = h; are_digits = all; is = e }
 
   -- one digit more was read
-  pub read_more : (rest after next : List ℕ) (d left less : ℕ) (b all none more_all more_none : Bool)
-      (old collected new : Collected) → d < 10 → less + 1 ≡ left → rest ≡ digit_text s d ++ after
-      → SkipsSeparator s (may less) after next b
+  read_more : (rest after next digits : List ℕ) (d left less : ℕ) (b all none more_all more_none : Bool)
+      → d < 10 → less + 1 ≡ left → rest ≡ digit_text s d ++ after → SkipsSeparator s (may less) after next b
       → (more_all ≡ true ↔ ((all ≡ true) × (b ≡ may less))) → (more_none ≡ true ↔ ((none ≡ true) × (b ≡ false)))
-      → CollectsDigits collected new (d ∷ [])
-      → IsReadTo s may n bytes rest left all none old collected
-      → IsReadTo s may n bytes next less more_all more_none old new
-  read_more rest after next d left less b all none more_all more_none old plain new below one e skips step_all step_none
-      pushed so_far = record {
-        digits = so_far.digits ++ d ∷ [];
+      → IsReadTo s may n bytes rest left all none digits
+      → IsReadTo s may n bytes next less more_all more_none (digits ++ d ∷ [])
+  read_more rest after next digits d left less b all none more_all more_none below one e skips step_all step_none
+      so_far = record {
         chosen = choose so_far.chosen less b;
-        count = omega (arith, one, so_far.count, length-append so_far.digits (d ∷ []));
-        are_digits = below_more so_far.digits d so_far.are_digits below;
+        count = omega (arith, one, so_far.count, length-append digits (d ∷ []));
+        are_digits = below_append digits (d ∷ []) so_far.are_digits (below, tt);
         completes = λ later same es tail size k.
             let f = separated_if may later in
             let chosen : f (length es) ≡ b =
@@ -314,7 +392,7 @@ module _ (s : Symbols) (may : ℕ → Bool) (n : ℕ) (bytes : List ℕ) where
             (λ m high. same m (omega (arith, one, high))
             ∙ choose_above so_far.chosen less m b (omega (arith, one, high)))
             (d ∷ es) tail (omega (arith, size, one)) here
-            ∙ ap (λ l. digits_text s f l ++ tail) (sym (append_assoc so_far.digits (d ∷ []) es));
+            ∙ ap (λ l. digits_text s f l ++ tail) (sym (append_assoc digits (d ∷ []) es));
         all = agree_more may so_far.chosen less b skips.allowed (separated_if may (λ _. true)) left n all more_all one
             within
             so_far.all (subst (λ x. more_all ≡ true ↔ ((all ≡ true) × (b ≡ x))) (sym (and_true (may less))) step_all);
@@ -322,28 +400,70 @@ module _ (s : Symbols) (may : ℕ → Bool) (n : ℕ) (bytes : List ℕ) where
             one
             within so_far.none
             (subst (λ x. more_none ≡ true ↔ ((none ≡ true) × (b ≡ x))) (sym (and_false (may less))) step_none);
-        collected = λ inline k before h.
-            subst (Collects inline k new) (append_assoc before so_far.digits (d ∷ []))
-            (pushed inline k (before ++ so_far.digits) (so_far.collected inline k before h));
       }
     where
       within : left ≤ n
       within = omega (arith, so_far.count)
 
+  -- no separator is found where none may be
+  skips_none : (m : ℕ) (rest : List ℕ) → may m ≡ false → SkipsSeparator s (may m) rest rest false
+  skips_none m rest never = record {
+    allowed = λ h. absurd (cc);
+    text = refl;
+    none = λ h possible. absurd (let t : false ≡ true = sym never ∙ possible in cc);
+  }
+
+  -- the first digit of several
+  first_of_run : (rest after : List ℕ) (d : ℕ) (ds : List ℕ) → rest ≡ digits_text s (λ _. false) (d ∷ ds) ++ after
+      → rest ≡ digit_text s d ++ (digits_text s (λ _. false) ds ++ after)
+  first_of_run rest after d ds e = e ∙ digits_text-first s (λ _. false) d ds after
+
+  last_of_run : (rest after : List ℕ) (d : ℕ) → rest ≡ digits_text s (λ _. false) (d ∷ []) ++ after
+      → rest ≡ digit_text s d ++ after
+  last_of_run rest after d e =
+      first_of_run rest after d [] e
+      ∙ ap (λ l. digit_text s d ++ (l ++ after)) (digits_text-nil s (λ _. false))
+
+  -- digits that follow each other were read
+  pub read_run : (run digits rest after next : List ℕ) (left less : ℕ) (b all none more_all more_none : Bool)
+      → AllBelowBase 10 run → 0 < length run → less + length run ≡ left
+      → ((m : ℕ) → less < m → m < left → may m ≡ false) → rest ≡ digits_text s (λ _. false) run ++ after
+      → SkipsSeparator s (may less) after next b
+      → (more_all ≡ true ↔ ((all ≡ true) × (b ≡ may less))) → (more_none ≡ true ↔ ((none ≡ true) × (b ≡ false)))
+      → IsReadTo s may n bytes rest left all none digits
+      → IsReadTo s may n bytes next less more_all more_none (digits ++ run)
+  read_run [] digits rest after next left less b all none more_all more_none below some size inside e skips step_all
+      step_none so_far = absurd (omega (arith, some))
+  read_run (d ∷ []) digits rest after next left less b all none more_all more_none below some size inside e skips
+      step_all step_none so_far =
+      read_more rest after next digits d left less b all none more_all more_none below.0 (omega (arith, size))
+      (last_of_run rest after d e) skips step_all step_none so_far
+  read_run (d ∷ (x ∷ ds)) digits rest after next left less b all none more_all more_none below some size inside e skips
+      step_all step_none so_far =
+      let between = digits_text s (λ _. false) (x ∷ ds) ++ after in
+      let here = less + length (x ∷ ds) in
+      let never = inside here (omega arith) (omega (arith, size)) in
+      subst (IsReadTo s may n bytes next less more_all more_none) (append_assoc digits (d ∷ []) (x ∷ ds))
+      (read_run (x ∷ ds) (digits ++ d ∷ []) between after next here less b all none more_all more_none below.1
+      (omega arith) refl (λ m low high. inside m low (omega (arith, size, high))) refl skips step_all step_none
+      (read_more rest between between digits d left here false all none all none below.0 (omega (arith, size))
+      (first_of_run rest after d (x ∷ ds) e) (skips_none here between never)
+      (λ h. (h, sym never), λ h. h.0) (λ h. (h, refl), λ h. h.0) so_far))
+
   -- where no more is left to read
-  pub read_all : (rest : List ℕ) (all none : Bool) (old new : Collected)
-      → IsReadTo s may n bytes rest 0 all none old new → ReadsDigits s may n bytes rest (all || none) old new
-  read_all rest all none old new so_far =
+  pub read_all : (rest digits : List ℕ) (all none : Bool) (old new : Collected) → CollectsDigits old new digits
+      → IsReadTo s may n bytes rest 0 all none digits → ReadsDigits s may n bytes rest (all || none) old new
+  read_all rest digits all none old new collected so_far =
       let f = separated_if may so_far.chosen in record {
-        digits = so_far.digits;
+        digits = digits;
         chosen = so_far.chosen;
         count = omega (arith, so_far.count);
         are_digits = so_far.are_digits;
         text = so_far.completes so_far.chosen (λ m low. refl) [] rest refl
             (ap (λ l. l ++ rest) (sym (digits_text-nil s f)))
-            ∙ ap (λ l. digits_text s f l ++ rest) (append-nil so_far.digits);
+            ∙ ap (λ l. digits_text s f l ++ rest) (append-nil digits);
         uniform = either_is may so_far.chosen n all none so_far.all so_far.none;
-        collected = so_far.collected;
+        collected = collected;
       }
 
   pub left_none : (rest : List ℕ) → Leaves s may n bytes rest 0 → (chosen : ℕ → Bool) (ds tail : List ℕ)
@@ -386,7 +506,7 @@ module _ (s : Symbols) (may : ℕ → Bool) (n : ℕ) (bytes : List ℕ) where
             )
 
     -- after one digit more: a separator was skipped exactly if it was chosen
-    pub leaves_less : (rest after next : List ℕ) (d left less : ℕ) (b : Bool) → d < 10 → less + 1 ≡ left
+    leaves_less : (rest after next : List ℕ) (d left less : ℕ) (b : Bool) → d < 10 → less + 1 ≡ left
         → may 0 ≡ false → rest ≡ digit_text s d ++ after → SkipsSeparator s (may less) after next b
         → Leaves s may n bytes rest left → Leaves s may n bytes next less
     leaves_less rest after next d left less b below one never e skips so_far chosen ds tail k all whole =
@@ -431,6 +551,56 @@ module _ (s : Symbols) (may : ℕ → Bool) (n : ℕ) (bytes : List ℕ) where
             go es size digits false at q true is same = absurd (let t : false ≡ true = sym at ∙ skips.allowed is in cc)
             go es size digits false at q false is same = same
 
+    -- the same after digits that follow each other
+    pub leaves_run : (run rest after next : List ℕ) (left less : ℕ) (b : Bool) → AllBelowBase 10 run → 0 < length run
+        → less + length run ≡ left → ((m : ℕ) → less < m → m < left → may m ≡ false) → may 0 ≡ false
+        → rest ≡ digits_text s (λ _. false) run ++ after → SkipsSeparator s (may less) after next b
+        → Leaves s may n bytes rest left → Leaves s may n bytes next less
+    leaves_run [] rest after next left less b below some size inside never e skips so_far =
+        absurd (omega (arith, some))
+    leaves_run (d ∷ []) rest after next left less b below some size inside never e skips so_far =
+        leaves_less rest after next d left less b below.0 (omega (arith, size)) never (last_of_run rest after d e) skips
+        so_far
+    leaves_run (d ∷ (x ∷ ds)) rest after next left less b below some size inside never e skips so_far =
+        let between = digits_text s (λ _. false) (x ∷ ds) ++ after in
+        let here = less + length (x ∷ ds) in
+        leaves_run (x ∷ ds) between after next here less b below.1 (omega arith) refl
+        (λ m low high. inside m low (omega (arith, size, high))) never refl skips
+        (leaves_less rest between between d left here false below.0 (omega (arith, size)) never
+        (first_of_run rest after d (x ∷ ds) e)
+        (skips_none here between (inside here (omega arith) (omega (arith, size)))) so_far)
+
+    -- fewer digits follow than are left before the next end of a group: no such text is left
+    pub run_fails : (run rest after : List ℕ) (left more : ℕ) → AllBelowBase 10 run → length run < more → more ≤ left
+        → ((m : ℕ) → left - more < m → m < left → may m ≡ false) → may 0 ≡ false
+        → rest ≡ digits_text s (λ _. false) run ++ after
+        → ((d : ℕ) (r : List ℕ) → d < 10 → after ≢ digit_text s d ++ r)
+        → Leaves s may n bytes rest left → (chosen : ℕ → Bool) (ds tail : List ℕ) → length ds ≡ n
+        → AllBelowBase 10 ds → bytes ≢ digits_text s (separated_if may chosen) ds ++ tail
+    run_fails run rest after left more below fewer within inside never e ends so_far chosen ds tail k all whole =
+        let less = left - length run - 1 in
+        let l = next_left after (less + 1) less refl here chosen ds tail k all whole in
+        ends l.0 _ l.1 l.5
+      where
+        step : (ds : List ℕ) → ds ≡ run → Leaves s may n bytes after (left - length run - 1 + 1)
+        step [] same =
+            let none : length run ≡ 0 = ap length (sym same) in
+            let all : rest ≡ after =
+            e ∙ ap (λ l. digits_text s (λ _. false) l ++ after) (sym same)
+            ∙ ap (λ l. l ++ after) (digits_text-nil s (λ _. false)) in
+            let size : left ≡ left - length run - 1 + 1 = omega (arith, none, fewer, within) in
+            subst (Leaves s may n bytes after) size (subst (λ l. Leaves s may n bytes l left) all so_far)
+        step (d ∷ ds) same =
+            let count : length (d ∷ ds) ≡ length run = ap length same in
+            let less = left - length run - 1 + 1 in
+            leaves_run run rest after after left less false below (omega (arith, count)) (omega (arith, fewer, within))
+            (λ m low high. inside m (omega (arith, fewer, low)) high) never e
+            (skips_none less after (inside less (omega (arith, fewer, within)) (omega (arith, fewer, within, count))))
+            so_far
+
+        here : Leaves s may n bytes after (left - length run - 1 + 1)
+        here = step run refl
+
 -- ---- Groups.
 -- no group ends after the last digit
 pub none_after_last : (s : Symbols) → ends_group s.sizes 0 ≡ false
@@ -473,6 +643,51 @@ strategy_separates s true n m inside =
     always true true c r h = ap (λ x. x && c) (sym (h refl))
     always true false c true h = refl
     always true false c false h = refl
+
+-- ---- Digits up to an end of a group.
+module _ (s : Symbols) (left : ℕ) where
+  abbrev rest_of : ℕ
+  rest_of = (left - 1 - s.sizes.primary) % secondary_size s.sizes
+
+  ends_is : (m : ℕ) → m < left → ends_group s.sizes m ≡ separates Always s.sizes (pos (left - 1)) (pos m)
+  ends_is m inside = sym (and_true (ends_group s.sizes m)) ∙ strategy_separates s true left m inside
+
+  module _ (some : 0 < s.sizes.primary) (more : s.sizes.primary < left) where
+    none_in_run : (m : ℕ) → m < left → left - 1 - m < rest_of → ends_group s.sizes m ≡ false
+    none_in_run m high h =
+        let back : left - 1 - (left - 1 - m) ≡ m = omega (arith, high) in
+        ends_is m high
+        ∙ ap (λ x. separates Always s.sizes (pos (left - 1)) (pos x)) (sym back)
+        ∙ separates_none Always s.sizes (pos (left - 1)) (left - 1) (left - 1 - m) some (omega (arith, more)) h
+
+    pub run_of_eight : 8 ≤ rest_of → IsRunOf s.sizes left 8 false
+    run_of_eight long =
+        let within : 8 ≤ left = omega (arith, long, more) in
+        record {
+          some = omega arith;
+          at_most = omega arith;
+          within = within;
+          none_between = λ m low high. none_in_run m high (omega (arith, long, low, high));
+          last = sym (none_in_run (left - 8) (omega (arith, within)) (omega (arith, long, within)));
+        }
+
+    pub run_to_end : (n : ℕ) → n ≡ rest_of → n < 8 → IsRunOf s.sizes left (n + 1) true
+    run_to_end n is few =
+        let within : n + 1 ≤ left = omega (arith, is, more) in
+        let at : left - 1 - rest_of ≡ left - (n + 1) = omega (arith, is) in
+        record {
+          some = omega arith;
+          at_most = omega (arith, few);
+          within = within;
+          none_between = λ m low high. none_in_run m high (omega (arith, is, low, high));
+          last =
+              sym (ends_is (left - (n + 1)) (omega (arith, within))
+              ∙ ap (λ x. separates Always s.sizes (pos (left - 1)) (pos x)) (sym at)
+              ∙ separates_last Always s.sizes (pos (left - 1)) (left - 1) some (omega (arith, more)) grouped);
+        }
+      where
+        grouped : is_grouped Always s.sizes (pos (left - 1)) ≡ true
+        grouped = grind (arith, ints, nat_tests, more)
 
 -- ---- Whole numbers.
 -- a number begins with a digit
@@ -533,30 +748,21 @@ last_none s bytes collected = record {
   count = refl;
   are_digits = tt;
   text = ap (λ l. l ++ bytes) (sym (digits_text-nil s (λ _. false)));
-  collected = λ inline k before h. subst (Collects inline k collected) (sym (append-nil before)) h;
+  collected = collects_none collected;
 }
 
--- one digit more
-pub last_more : (s : Symbols) (bytes rest after : List ℕ) (n d : ℕ) (old collected new : Collected) → d < 10
-    → rest ≡ digit_text s d ++ after → CollectsDigits collected new (d ∷ [])
-    → ReadsLastDigits s bytes rest n old collected → ReadsLastDigits s bytes after (n + 1) old new
-last_more s bytes rest after n d old collected new below e pushed read =
-    let none : ℕ → Bool = λ _. false in
-    let one : digits_text s none (d ∷ []) ≡ digit_text s d =
-    digits_text-cons s none d [] ∙ ap (λ l. digit_text s d ++ l) (digits_text-nil s none)
-    ∙ append-nil (digit_text s d) in
-    record {
-      digits = read.digits ++ d ∷ [];
-      count = omega (arith, read.count, length-append read.digits (d ∷ []));
-      are_digits = below_more read.digits d read.are_digits below;
-      text = read.text ∙ ap (λ l. digits_text s none read.digits ++ l) e
-          ∙ sym (append_assoc (digits_text s none read.digits) (digit_text s d) after)
-          ∙ ap (λ l. (digits_text s none read.digits ++ l) ++ after) (sym one)
-          ∙ ap (λ l. l ++ after) (sym (digits_text-append s read.digits (d ∷ [])));
-      collected = λ inline k before h.
-          subst (Collects inline k new) (append_assoc before read.digits (d ∷ []))
-          (pushed inline k (before ++ read.digits) (read.collected inline k before h));
-    }
+-- digits more
+pub last_more : (s : Symbols) (bytes rest after run : List ℕ) (n k : ℕ) (old collected new : Collected)
+    → AllBelowBase 10 run → length run ≡ k → rest ≡ digits_text s (λ _. false) run ++ after
+    → CollectsDigits collected new run
+    → ReadsLastDigits s bytes rest n old collected → ReadsLastDigits s bytes after (n + k) old new
+last_more s bytes rest after run n k old collected new below size e pushed read = record {
+  digits = read.digits ++ run;
+  count = omega (arith, read.count, size, length-append read.digits run);
+  are_digits = below_append read.digits run read.are_digits below;
+  text = text_append s bytes read.digits rest run after read.text e;
+  collected = collects_both old collected new read.digits run read.collected pushed;
+}
 
 module _ (s : Symbols) (readable : IsReadable s) where
   -- digits follow digits in a text of digits

@@ -1,17 +1,19 @@
 -- Private: used only in the contracts of private functions.
 -- What the steps of a scan find.
-use Rattle.std.specs.Prelude.{◌≡◌, ◌≢◌, ℕ, ◌<◌, ◌↔◌, Bool, true, false, ◌&&◌, List, [], ◌++◌, if◌then◌else◌, length, Result, Err, IfOk}
+use Rattle.std.specs.Prelude.{◌≡◌, ◌≢◌, ℕ, ◌-◌, ◌<◌, ◌≤◌, ◌↔◌, Bool, true, false, ◌&&◌, List, [], ◌++◌, if◌then◌else◌, length, Result, Err, IfOk, MatchResult}
 use Rattle.std.specs.Int.Digits.{AllBelowBase}
 use Rattle.decimal_digits.specs.Number.{size}
-use Rattle.decimal_unsigned.specs.DigitValues.{value_of_first}
-use Rattle.decimal_unsigned.specs.Unsigned.{Unsigned}
+use Rattle.decimal_unsigned.specs.DigitValues.{IsBcd, value_of_first}
+use Rattle.decimal_unsigned.specs.Unsigned.{Unsigned, IsValue}
 use Rattle.decimal_unsigned.specs.declared.error.ParseError.{ParseError}
 use Rattle.decimal_unsigned.specs.declared.error.ParseError.TheVariants.{Limit, Syntax, Memory}
 use Rattle.fixed_decimal.specs.Decimal.{Decimal}
+use Rattle.decimal_format.specs.declared.grouping.GroupingSizes.{GroupingSizes}
 use Rattle.decimal_format.specs.declared.reader.Scanned.{Scanned}
 use Rattle.decimal_format.specs.Collecting.{Collected, CollectsDigits}
 use Rattle.decimal_format.specs.Symbols.{Symbols, digit_text}
-use Rattle.decimal_format.specs.Reading.{Numeral, IsBeyondLimits, digits_text, fraction_text}
+use Rattle.decimal_format.specs.Reading.{Numeral, IsNumeral, IsBeyondLimits, IsWritten, NeedsMemory, digits_text, fraction_text}
+use Rattle.decimal_format.specs.Lenient.{ends_group, IsLenientNumeral, IsLenientlyWritten}
 
 -- ---- Groups.
 
@@ -42,6 +44,23 @@ pub record BeginsWithDigit (s : Symbols) (bytes : List ℕ) : Type 0 where
   pub following : List ℕ
   pub is_digit : digit < 10
   pub is : bytes ≡ digit_text s digit ++ following
+
+-- a text begins with a number of digits, at most n, as packed BCD, and the rest follows them: it begins with no digit if
+-- there are fewer than n
+pub record ReadsRun (s : Symbols) (n : ℕ) (bytes rest : List ℕ) (number count : ℕ) : Type 0 where
+  pub digits : List ℕ
+  pub bcd : IsBcd number count digits
+  pub at_most : count ≤ n
+  pub text : bytes ≡ digits_text s (λ _. false) digits ++ rest
+  pub ends : count < n → (d : ℕ) (r : List ℕ) → d < 10 → rest ≢ digit_text s d ++ r
+
+-- of the digits that are left, the first n have no end of a group between them, and one is after them or not
+pub record IsRunOf (sizes : GroupingSizes) (left n : ℕ) (ends : Bool) : Type 0 where
+  pub some : 0 < n
+  pub at_most : n ≤ 8
+  pub within : n ≤ left
+  pub none_between : (m : ℕ) → left - n < m → m < left → ends_group sizes m ≡ false
+  pub last : ends ≡ ends_group sizes (left - n)
 
 -- of n digits, each has a separator after it where it may have one, or none has
 abbrev pub IsUniform : (ℕ → Bool) → (ℕ → Bool) → ℕ → Type 0
@@ -84,6 +103,26 @@ pub record HasCounts (r : Scanned) (w : Numeral) : Type 0 where
   pub sign : r.sign ≡ w.sign
   pub whole : r.integer_digits ≡ length w.whole
   pub fraction : r.fraction_digits ≡ length w.fraction
+
+-- the numerals of a text, by whether it has all separators or none
+abbrev pub IsNumeralBy : Bool → Symbols → List ℕ → Numeral → Type 0
+IsNumeralBy true s bytes w = IsNumeral s bytes w
+IsNumeralBy false s bytes w = IsLenientNumeral s bytes w
+
+-- and the decimals
+abbrev pub IsWrittenBy : Bool → Symbols → List ℕ → Decimal → Type 0
+IsWrittenBy true s bytes v = IsWritten s v bytes
+IsWrittenBy false s bytes v = IsLenientlyWritten s v bytes
+
+-- what a reader returns
+pub record IsRead (inline : ℕ) (is_numeral : Numeral → Type 0) (is_written : Decimal → Type 0) (result : Result
+    Decimal ParseError) : Type 0 where
+  pub found : IfOk result is_written
+  pub reads_back : (v : Decimal) → IsValue v.absolute → is_written v → MatchResult result (λ w. w ≡ v) (λ e. e
+      ≡ Memory)
+  pub syntax : (result ≡ Err Syntax) ↔ ((w : Numeral) → ¬ is_numeral w)
+  pub limit : (result ≡ Err Limit) ↔ ((w : Numeral) × is_numeral w × IsBeyondLimits w)
+  pub memory : result ≡ Err Memory → (v : Decimal) × is_written v × NeedsMemory inline v.absolute
 
 -- the result is the value of the digits; `Limit` exactly if there are too many digits; or `Memory`, for a value of more
 -- than `inline` digits

@@ -1,22 +1,22 @@
 //! Reading of formatted decimals.
-ghost use Rattle.std.specs.Prelude.{◌≡◌, ◌≢◌, ℕ, ◌≤◌, List, [], ◌++◌, length, Bool, true, false, ◌↔◌, IfSome, IfNone, IfOk, MatchOption, MatchResult, IsTrue, Err};
+ghost use Rattle.std.specs.Prelude.{◌≡◌, ◌≢◌, ℕ, ◌≤◌, List, [], ◌++◌, length, ◌<◌, Bool, true, false, ◌↔◌, IfSome, IfNone, IfOk, MatchOption, MatchResult, IsTrue, Err};
 ghost use Rattle.std.specs.Int.Digits.{AllBelowBase};
 ghost use Rattle.decimal_unsigned.specs.Unsigned.{IsValue};
 ghost use Rattle.fixed_decimal.specs.Decimal.{Decimal};
 ghost use Rattle.decimal_format.specs.Readable.{IsReadable};
 ghost use Rattle.decimal_format.specs.Reading.{Numeral, AreDigits, digits_text, fraction_text, IsNumeral, IsBeyondLimits, IsWritten, NeedsMemory};
 ghost use Rattle.decimal_format.specs.Lenient.{ends_group, IsLenientNumeral, IsLenientlyWritten};
-ghost use Rattle.decimal_format.specs.Scanning.{separated_if, SkipsSeparator, EndsInteger, ReadsDigits, ReadsLastDigits, ReadsFraction, HasCounts, IsValueOf};
-ghost use Rattle.decimal_format.specs.Collecting.{Collects};
+ghost use Rattle.decimal_format.specs.Scanning.{separated_if, SkipsSeparator, EndsInteger, IsRunOf, ReadsDigits, ReadsLastDigits, ReadsFraction, HasCounts, IsValueOf, IsNumeralBy, IsWrittenBy, IsRead};
+ghost use Rattle.decimal_format.specs.Collecting.{Collects, IsFresh};
 
 mod codes;
 mod digit_collector;
 mod lenient;
 
-use crate::grouping::{GroupingSizes, remainder};
+use crate::grouping::remainder;
 use crate::symbols::DecimalSymbols;
 use codes::cut;
-use digit_collector::{DigitCollector, MAX_DIGITS};
+use digit_collector::{DigitCollector, MAX_DIGITS, MAX_RUN};
 use fixed_decimal::{DigitStore, ParseError, Sign, Signed, UnsignedOver};
 use std::alloc::Global;
 
@@ -39,11 +39,13 @@ impl Scanned {
     }
 
     /// Returns the value of the digits.
+    #[inline]
     fn value<D: DigitStore>(
         &self,
         digits: DigitCollector<D>,
     ) -> Result<Signed<UnsignedOver<D>>, ParseError>
-        ensures { (w : Numeral) → HasCounts self.now w
+        requires { (n : ℕ) × (ds : List ℕ) × Collects D.L n digits ds }
+        ensures { (w : Numeral) → 0 < length w.whole → HasCounts self.now w
             → Collects D.L (length w.whole) digits (w.whole ++ w.fraction) → IsValueOf D.L w result }
     {
         if self.is_beyond_limits() {
@@ -52,15 +54,6 @@ impl Scanned {
         let absolute = digits.into_value()?;
         Ok(Signed::new(self.sign, absolute))
     }
-}
-
-/// Returns whether a group ends after the digit at a magnitude.
-fn ends_group(sizes: GroupingSizes, magnitude: usize) -> bool
-    ensures { result ≡ ends_group sizes magnitude }
-{
-    let primary = sizes.primary as usize;
-    let secondary = sizes.secondary_size() as usize;
-    primary > 0 && primary <= magnitude && remainder(magnitude - primary, secondary) == 0
 }
 
 impl<'a> DecimalSymbols<'a> {
@@ -78,6 +71,7 @@ impl<'a> DecimalSymbols<'a> {
     }
 
     /// Counts the digits at the start of a text, with grouping separators anywhere among them.
+    #[inline]
     fn count_digits(&self, text: &[u8]) -> usize
         requires { IsReadable self.now }
         ensures { (separated : ℕ → Bool) (ds tail : List ℕ) → AllBelowBase 10 ds → EndsInteger self.now tail
@@ -85,23 +79,48 @@ impl<'a> DecimalSymbols<'a> {
     {
         let mut rest = text;
         let mut count = 0;
-        while let Some((_, after)) = self.next_digit(rest) {
-            let (_, next) = self.skip_separator(true, after);
-            count += 1;
-            rest = next;
+        loop {
+            if let Some((_, after)) = self.next_digit(rest) {
+                count += 1;
+                rest = after;
+            } else if let Some(after) = cut(rest, self.grouping_separator().as_bytes()) {
+                rest = after;
+            } else {
+                return count;
+            }
         }
-        count
+    }
+
+    /// Returns a number of digits, of those left, with no end of a group between them, and whether one is after them:
+    /// the digits to the next end of a group, or all that are left, or eight.
+    #[inline]
+    fn next_run(&self, left: usize) -> (usize, bool)
+        requires { 0 < left }
+        ensures { IsRunOf self.now.sizes left result.0 result.1 }
+    {
+        let sizes = self.sizes();
+        let primary = sizes.primary as usize;
+        if primary == 0 || left <= primary {
+            return (left.min(MAX_RUN), false);
+        }
+        let before_last = remainder(left - 1 - primary, sizes.secondary_size() as usize);
+        if before_last >= MAX_RUN {
+            return (MAX_RUN, false);
+        }
+        (before_last + 1, true)
     }
 
     /// Reads the given number of digits, with separators at any ends of groups, and returns whether all separators are
     /// there, or none, and what follows the digits.
+    #[inline]
     fn read_digits<'t, D: DigitStore>(
         &self,
         count: usize,
         text: &'t [u8],
         digits: &mut DigitCollector<D>,
     ) -> Option<(bool, &'t [u8])>
-        requires { IsReadable self.now }
+        requires readable { IsReadable self.now }
+        requires collecting { (n : ℕ) × (ds : List ℕ) × Collects D.L n digits.old ds }
         ensures found { IfSome result (λ r. ReadsDigits self.now (ends_group self.now.sizes) count
             text.now r.1.now r.0 digits.old digits.new) }
         ensures unique { IfSome result (λ r. (chosen : ℕ → Bool) (ds tail : List ℕ) → length ds ≡ count
@@ -117,10 +136,13 @@ impl<'a> DecimalSymbols<'a> {
         let mut all = true;
         let mut none = true;
         while left > 0 {
-            left -= 1;
-            let (digit, after) = self.next_digit(rest)?;
-            digits.push(digit);
-            let possible = ends_group(self.sizes(), left);
+            let (most, possible) = self.next_run(left);
+            let (number, found, after) = self.read_run(most, rest);
+            if found < most {
+                return None;
+            }
+            digits.push_run(number, found);
+            left -= most;
             let (separated, next) = self.skip_separator(possible, after);
             all &= separated == possible;
             none &= !separated;
@@ -130,12 +152,14 @@ impl<'a> DecimalSymbols<'a> {
     }
 
     /// Reads the digits of a text that has nothing else, and returns their number.
+    #[inline]
     fn read_last_digits<D: DigitStore>(
         &self,
         text: &[u8],
         digits: &mut DigitCollector<D>,
     ) -> Option<usize>
-        requires { IsReadable self.now }
+        requires readable { IsReadable self.now }
+        requires collecting { (n : ℕ) × (ds : List ℕ) × Collects D.L n digits.old ds }
         ensures found { IfSome result (λ count. ReadsLastDigits self.now text.now [] count digits.old digits.new) }
         ensures none { IfNone result ((ds : List ℕ) → AllBelowBase 10 ds
             → text.now ≢ digits_text self.now (λ _. false) ds) }
@@ -143,21 +167,26 @@ impl<'a> DecimalSymbols<'a> {
         let mut rest = text;
         let mut count = 0;
         while !rest.is_empty() {
-            let (digit, after) = self.next_digit(rest)?;
-            digits.push(digit);
-            count += 1;
+            let (number, found, after) = self.read_run(MAX_RUN, rest);
+            if found == 0 {
+                return None;
+            }
+            digits.push_run(number, found);
+            count += found;
             rest = after;
         }
         Some(count)
     }
 
     /// Reads the decimal separator and the fraction digits, if there are any, and returns their number.
+    #[inline]
     fn read_fraction<D: DigitStore>(
         &self,
         text: &[u8],
         digits: &mut DigitCollector<D>,
     ) -> Option<usize>
-        requires { IsReadable self.now }
+        requires readable { IsReadable self.now }
+        requires collecting { (n : ℕ) × (ds : List ℕ) × Collects D.L n digits.old ds }
         ensures found { IfSome result (λ count. ReadsFraction self.now text.now count digits.old digits.new) }
         ensures none { IfNone result ((ds : List ℕ) → AllBelowBase 10 ds → text.now ≢ fraction_text self.now ds) }
     {
@@ -172,15 +201,13 @@ impl<'a> DecimalSymbols<'a> {
     }
 
     /// Finds the sign and the digits of a text, with separators at any ends of groups.
-    fn scan<D: DigitStore>(
-        &self,
-        alloc: Global,
-        text: &[u8],
-    ) -> Option<(Scanned, DigitCollector<D>)>
+    #[inline]
+    fn scan<D: DigitStore>(&self, text: &[u8], digits: &mut DigitCollector<D>) -> Option<Scanned>
         requires readable { IsReadable self.now }
-        ensures found { IfSome result (λ r. (w : Numeral) × IsLenientNumeral self.now text.now w × HasCounts r.0 w
-            × Collects D.L (length w.whole) r.1 (w.whole ++ w.fraction)
-            × (r.0.is_strict ≡ true ↔ IsNumeral self.now text.now w)) }
+        requires fresh { IsFresh D.L digits.old }
+        ensures found { IfSome result (λ r. (w : Numeral) × IsLenientNumeral self.now text.now w × HasCounts r w
+            × Collects D.L (length w.whole) digits.new (w.whole ++ w.fraction)
+            × (r.is_strict ≡ true ↔ IsNumeral self.now text.now w)) }
         ensures none { IfNone result ((w : Numeral) → ¬ IsLenientNumeral self.now text.now w) }
     {
         let (sign, number) = self.split_sign(text)?;
@@ -188,16 +215,35 @@ impl<'a> DecimalSymbols<'a> {
         if integer_digits == 0 {
             return None;
         }
-        let mut digits = DigitCollector::new(alloc, integer_digits);
-        let (is_strict, rest) = self.read_digits(integer_digits, number, &mut digits)?;
-        let fraction_digits = self.read_fraction(rest, &mut digits)?;
-        let scanned = Scanned {
+        digits.begin(integer_digits);
+        let (is_strict, rest) = self.read_digits(integer_digits, number, digits)?;
+        let fraction_digits = self.read_fraction(rest, digits)?;
+        Some(Scanned {
             sign,
             integer_digits,
             fraction_digits,
             is_strict,
+        })
+    }
+
+    /// Reads a decimal with separators at any of the ends of groups; or only with all of them, or none.
+    fn read_groups<D: DigitStore>(
+        &self,
+        alloc: Global,
+        text: &[u8],
+        is_strict: bool,
+    ) -> Result<Signed<UnsignedOver<D>>, ParseError>
+        requires { IsReadable self.now }
+        ensures { IsRead D.L (IsNumeralBy is_strict self.now text.now) (IsWrittenBy is_strict self.now text.now) result }
+    {
+        let mut digits = DigitCollector::new(alloc);
+        let Some(scanned) = self.scan(text, &mut digits) else {
+            return Err(ParseError::Syntax);
         };
-        Some((scanned, digits))
+        if is_strict && !scanned.is_strict {
+            return Err(ParseError::Syntax);
+        }
+        scanned.value(digits)
     }
 
     /// Reads a decimal in exactly one of the forms that a formatter with these symbols writes.
@@ -226,13 +272,7 @@ impl<'a> DecimalSymbols<'a> {
         ensures memory { (result ≡ Err ParseError.Memory)
             → (v : Decimal) × IsWritten self.now v text.now × NeedsMemory D.L v.absolute }
     {
-        let Some((scanned, digits)) = self.scan(alloc, text) else {
-            return Err(ParseError::Syntax);
-        };
-        if !scanned.is_strict {
-            return Err(ParseError::Syntax);
-        }
-        scanned.value(digits)
+        self.read_groups(alloc, text, true)
     }
 
     /// Reads a decimal with separators at any of the ends of groups.
@@ -251,9 +291,6 @@ impl<'a> DecimalSymbols<'a> {
         ensures memory { (result ≡ Err ParseError.Memory)
             → (v : Decimal) × IsLenientlyWritten self.now v text.now × NeedsMemory D.L v.absolute }
     {
-        let Some((scanned, digits)) = self.scan(alloc, text) else {
-            return Err(ParseError::Syntax);
-        };
-        scanned.value(digits)
+        self.read_groups(alloc, text, false)
     }
 }

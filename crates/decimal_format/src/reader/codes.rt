@@ -1,8 +1,8 @@
 //! The codes that a text consists of: digits, separators and the prefixes of signs.
-ghost use Rattle.std.specs.Prelude.{◌≡◌, ◌≢◌, ℕ, ◌+◌, ◌<◌, List, ◌∷◌, ◌++◌, ◌↔◌, IfSome, IsSomeAnd, MatchOption, IsTrue};
+ghost use Rattle.std.specs.Prelude.{◌≡◌, ◌≢◌, ℕ, ◌+◌, ◌<◌, ◌≤◌, List, ◌∷◌, ◌++◌, ◌↔◌, IfSome, IsSomeAnd, MatchOption, IsTrue};
 ghost use Rattle.decimal_format.specs.Symbols.{digit_text, sign_affixes};
 ghost use Rattle.decimal_format.specs.Readable.{code, BeginsWith, IsOther, IsApart, IsReadable};
-ghost use Rattle.decimal_format.specs.Scanning.{BeginsWithDigit};
+ghost use Rattle.decimal_format.specs.Scanning.{BeginsWithDigit, ReadsRun};
 
 use crate::symbols::DecimalSymbols;
 use fixed_decimal::Sign;
@@ -171,6 +171,28 @@ impl<'a> DecimalSymbols<'a> {
             }
         }
         None
+    }
+
+    /// Reads digits that follow each other, at most the given number: returns them as packed BCD, their number, and
+    /// what follows them.
+    #[inline(always)]
+    pub(crate) fn read_run<'t>(&self, most: usize, text: &'t [u8]) -> (u64, usize, &'t [u8])
+        requires readable { IsReadable self.now }
+        requires at_most { most ≤ 8 }
+        ensures { ReadsRun self.now most text.now result.2.now result.0 result.1 }
+    {
+        let mut rest = text;
+        let mut number = 0;
+        let mut count = 0;
+        while count < most {
+            let Some((digit, after)) = self.next_digit(rest) else {
+                return (number, count, rest);
+            };
+            number = number * 16 + u64::from(digit);
+            count += 1;
+            rest = after;
+        }
+        (number, count, rest)
     }
 
     /// Returns the sign whose prefix a text begins with, and what follows the prefix.

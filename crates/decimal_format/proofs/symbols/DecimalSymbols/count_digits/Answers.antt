@@ -1,34 +1,58 @@
-use Rattle.std.proofs.Common.{true, arith}
-use Rattle.decimal_format.proofs.Scans.{shorter, counted_none, skipped_at_most, counted_more, counted_all}
+use Rattle.std.proofs.Common.{◌≡◌, ◌++◌, sym, ◌∙◌, ap, arith}
+use Rattle.decimal_format.proofs.Scans.{shorter, shorter_by_separator, counted_none, counted_more, counted_separator, counted_all}
 use Rattle.decimal_format.proofs.symbols.DecimalSymbols.count_digits.Goals as goal
 
 pub loop-after-init : goal.loop-after-init
 loop-after-init c = record { at_most = omega arith; counted = counted_none c.args.self.now c.args.text.now }
 
+-- ---- A digit follows.
+pub loop-after-preserved-in-Some : goal.loop-after-preserved-in-Some
+loop-after-preserved-in-Some c =
+    let s = c.args.self.now in
+    let rest = c.loop-after.rest.now in
+    let after = c.in-Some.after.now in
+    record {
+      at_most =
+          omega (
+            arith,
+            shorter s c.requires rest after c.in-Some.field-0-0 c.in-Some.ensures.0 c.in-Some.ensures.1,
+            c.loop-after.invariant.at_most,
+          );
+      counted = counted_more s c.requires c.args.text.now rest c.loop-after.count after c.in-Some.field-0-0
+          c.in-Some.ensures.0 c.in-Some.ensures.1 c.loop-after.invariant.counted;
+    }
+
+pub loop-after-smaller-in-Some : goal.loop-after-smaller-in-Some
+loop-after-smaller-in-Some c =
+    shorter c.args.self.now c.requires c.loop-after.rest.now c.in-Some.after.now c.in-Some.field-0-0 c.in-Some.ensures.0
+    c.in-Some.ensures.1
+
+-- ---- A separator follows.
 pub loop-after-preserved : goal.loop-after-preserved
 loop-after-preserved c =
     let s = c.args.self.now in
-    let skipped = c.skip_separator in
-    let less = shorter s c.requires c.loop-after.rest.now c.in-Some.after.now c.in-Some.field-0-0 c.in-Some.ensures.0
-    c.in-Some.ensures.1 in
-    let after = skipped_at_most s true skipped.result.0 c.in-Some.after.now skipped.result.1.now skipped.ensures in
+    let rest = c.loop-after.rest.now in
+    let after = c.in-Some-cut.after.now in
+    let code : c.as_bytes.result.now ≡ s.grouping = c.as_bytes.ensures.value ∙ c.grouping_separator.ensures.value in
+    let begins : rest ≡ s.grouping ++ after = c.in-Some-cut.ensures ∙ ap (λ l. l ++ after) code in
     record {
-      at_most = omega (arith, less, after, c.loop-after.invariant.at_most);
-      counted = counted_more s c.requires c.args.text.now c.loop-after.rest.now c.in-Some.after.now skipped.result.1.now
-          c.loop-after.count c.in-Some.field-0-0 skipped.result.0 c.in-Some.ensures.0 c.in-Some.ensures.1
-          skipped.ensures c.loop-after.invariant.counted;
+      at_most =
+          omega (arith, shorter_by_separator s c.requires rest after begins, c.loop-after.invariant.at_most);
+      counted = counted_separator s c.requires c.args.text.now rest c.loop-after.count after begins
+          c.loop-after.invariant.counted;
     }
 
 pub loop-after-smaller : goal.loop-after-smaller
 loop-after-smaller c =
     let s = c.args.self.now in
-    let skipped = c.skip_separator in
-    let less = shorter s c.requires c.loop-after.rest.now c.in-Some.after.now c.in-Some.field-0-0 c.in-Some.ensures.0
-    c.in-Some.ensures.1 in
-    let after = skipped_at_most s true skipped.result.0 c.in-Some.after.now skipped.result.1.now skipped.ensures in
-    omega (arith, less, after)
+    let after = c.in-Some-cut.after.now in
+    let code : c.as_bytes.result.now ≡ s.grouping = c.as_bytes.ensures.value ∙ c.grouping_separator.ensures.value in
+    shorter_by_separator s c.requires c.loop-after.rest.now after (c.in-Some-cut.ensures ∙ ap (λ l. l ++ after) code)
 
-pub returns : goal.returns
-returns c =
-    counted_all c.args.self.now c.requires c.args.text.now c.loop-after.rest.now c.loop-after.count
-    c.in_default.ensures c.loop-after.invariant.counted
+-- ---- Neither follows.
+pub returns-in_default-cut : goal.returns-in_default-cut
+returns-in_default-cut c =
+    let s = c.args.self.now in
+    let code : c.as_bytes.result.now ≡ s.grouping = c.as_bytes.ensures.value ∙ c.grouping_separator.ensures.value in
+    counted_all s c.requires c.args.text.now c.loop-after.rest.now c.loop-after.count c.in_default.ensures
+    (λ r e. c.in_default-cut.ensures r (e ∙ ap (λ l. l ++ r) (sym code))) c.loop-after.invariant.counted

@@ -9,7 +9,7 @@ returns-then-is_empty-2-clause-none g c = λ ds all e.
     let begins : c.args.text.now ≡ s.decimal ++ digits =
     c.in_ok-fraction.ensures ∙ ap (λ l. l ++ digits) (c.as_bytes.ensures.value ∙ c.decimal_separator.ensures.value) in
     let r = fraction_rest s ds c.args.text.now digits (some_is c.args.text.now c.if-is_empty.ensures) e begins in
-    fraction_none s c.requires ds all r.0 (sym r.1 ∙ empty_is digits c.if-is_empty-2.ensures)
+    fraction_none s c.requires.readable ds all r.0 (sym r.1 ∙ empty_is digits c.if-is_empty-2.ensures)
 
 pub returns-clause-found : goal.returns-clause-found
 returns-clause-found g c =

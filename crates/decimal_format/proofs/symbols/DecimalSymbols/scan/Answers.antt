@@ -52,6 +52,15 @@ returns-in_err-fraction_digits-clause-none g c = on_none c.from_residual-in_err-
     (c.in_ok-is_strict.ensures.unique numeral.chosen w.whole (fraction_text s w.fraction) (sym count)
     numeral.digits.whole number))
 
+pub read_digits-requires-clause-collecting : goal.read_digits-requires-clause-collecting
+read_digits-requires-clause-collecting g c = (c.count_digits-integer_digits.result, [], c.begin.ensures)
+
+pub read_fraction-requires-clause-collecting : goal.read_fraction-requires-clause-collecting
+read_fraction-requires-clause-collecting g c =
+    let n = c.count_digits-integer_digits.result in
+    let whole = c.in_ok-is_strict.ensures.found in
+    (n, whole.digits, whole.collected g.D.DigitStore.L n [] c.begin.ensures)
+
 pub returns-clause-found : goal.returns-clause-found
 returns-clause-found g c =
     let s = c.args.self.now in
@@ -66,8 +75,7 @@ returns-clause-found g c =
     (whole.text ∙ ap (λ l. digits_text s (separated_at s whole.chosen) whole.digits ++ l) fraction.text) in
     let strict = numeral_if_uniform s c.requires.readable c.args.text.now w whole.chosen digits text in
     let n = length whole.digits in
-    let begun = subst (λ k. Collects g.D.DigitStore.L k c.new-digits.result []) (sym whole.count)
-    c.new-digits.ensures in
+    let begun = subst (λ k. Collects g.D.DigitStore.L k c.begin.new.self []) (sym whole.count) c.begin.ensures in
     let collected = fraction.collected g.D.DigitStore.L n whole.digits (whole.collected g.D.DigitStore.L n [] begun) in
     let uniform = subst (λ n. c.in_ok-is_strict.is_strict ≡ true ↔ IsUniform (ends_group s.sizes) whole.chosen n)
     (sym whole.count) whole.uniform in (

@@ -1,0 +1,12 @@
+use Rattle.std.proofs.Common.{◌-◌, ◌≤◌}
+use Rattle.decimal_format.proofs.Scans.{IsRunTo}
+use Rattle.decimal_format.proofs.symbols.DecimalSymbols.read_run.Given as goal
+
+abbrev pub invariant-loop-count : goal.invariant-loop-count
+invariant-loop-count l = record {
+  at_most : l.count ≤ l.most;
+  read : IsRunTo l.self l.text l.rest l.number l.count;
+}
+
+abbrev pub decreases-loop-count : goal.decreases-loop-count
+decreases-loop-count l = l.most - l.count
