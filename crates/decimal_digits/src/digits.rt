@@ -189,6 +189,19 @@ pub trait DigitStore: Drop {
         requires is_digit { digit < 10 }
         ensures { digits self.new ≡ slice_set (digits self.old) index digit };
 
+    /// Replaces the digits from an index on by one digit.
+    ///
+    /// Requires `index < len()` and a digit 0 to 9. Of 2, 5 and 0, from index 1 by 6, it makes 2 and 6.
+    fn replace_from(&mut self, index: usize, digit: u8)
+        requires in_range { index < length (digits self.old) }
+        requires is_digit { digit < 10 }
+        ensures { digits self.new ≡ take index (digits self.old) ++ digit ∷ [] }
+    {
+        let _more_than = self.len();
+        self.truncate(index + 1);
+        self.set(index, digit);
+    }
+
     /// Appends a digit, without an allocation.
     ///
     /// Requires room, as after `reserve`, and a digit 0 to 9. The room shrinks by at most one.

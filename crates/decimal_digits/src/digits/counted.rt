@@ -7,7 +7,7 @@ use std::alloc::AllocError;
 
 /// A borrowed list of digits, with the `Steps` that count its digit accesses.
 ///
-/// `get`, `set` and `push_in_room` are one digit access each, and `count_trailing` is one for each digit that it reads.
+/// `get`, `set`, `replace_from` and `push_in_room` are one digit access each, and `count_trailing` is one for each digit that it reads.
 /// The other calls pass no digit to or from the list, and are not counted; neither is what the list does inside a call.
 /// The list and the count are changed in place. Contracts see the list, the accesses so far, and that both are still
 /// those that were borrowed.
@@ -93,6 +93,21 @@ impl<'a, D: DigitStore> Counted<'a, D> {
     {
         self.steps.tick();
         self.list.set(index, digit);
+    }
+
+    /// Replaces the digits from an index on by one digit: one digit access.
+    ///
+    /// Requires `index < len()` and a digit 0 to 9.
+    #[inline]
+    pub fn replace_from(&mut self, index: usize, digit: u8)
+        requires in_range { index < length (D.digits (list_of self.old)) }
+        requires is_digit { digit < 10 }
+        ensures digits { D.digits (list_of self.new) ≡ take index (D.digits (list_of self.old)) ++ digit ∷ [] }
+        ensures accesses { accesses_of self.new ≡ accesses_of self.old + 1 }
+        ensures borrows { Continues self.old self.new }
+    {
+        self.steps.tick();
+        self.list.replace_from(index, digit);
     }
 
     /// Appends a digit, without an allocation: one digit access.

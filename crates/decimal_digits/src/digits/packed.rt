@@ -13,7 +13,7 @@ use super::DigitStore;
 use bulk::{append_text, count_trailing_nibbles, write_text};
 use bytes::{
     append_digits, append_word, append_zeros, are_equal, copy_bytes, cut_digits, drop_unused,
-    keep_digits, pack_digits, push_digit, reserve_digits, set_digit, word_at,
+    keep_digits, pack_digits, push_digit, replace_digits, reserve_digits, set_digit, word_at,
 };
 use nibbles::byte_count;
 pub(super) use nibbles::nibble_at;
@@ -134,6 +134,13 @@ impl DigitStore for PackedDigits {
     #[inline]
     fn set(&mut self, index: usize, digit: u8) {
         set_digit(&mut self.bytes, self.len, index, digit);
+    }
+
+    #[inline]
+    fn replace_from(&mut self, index: usize, digit: u8) {
+        let len = self.len;
+        self.len = index + 1;
+        replace_digits(&mut self.bytes, len, index, digit);
     }
 
     #[inline]

@@ -8,6 +8,7 @@ ghost use Rattle.decimal_digits.specs.Remainders.{leading};
 use crate::digits::{Counted, DigitStore};
 
 /// Removes the trailing zeros.
+#[inline(never)]
 pub fn strip_trailing_zeros<D: DigitStore>(counted: &mut Counted<'_, D>)
     requires { 0 < slice_index (D.digits (list_of counted.old)) 0 }
     ensures value { let places = length (D.digits (list_of counted.old)) in
@@ -37,8 +38,7 @@ pub fn replace_by_digit<D: DigitStore>(counted: &mut Counted<'_, D>, digit: u8)
     if counted.len() == 0 {
         counted.push_in_room(digit);
     } else {
-        counted.truncate(1);
-        counted.set(0, digit);
+        counted.replace_from(0, digit);
     }
 }
 
@@ -122,7 +122,6 @@ pub fn add_one<D: DigitStore>(
     }
     let last = places - nines - 1;
     let digit = counted.get(last);
-    counted.truncate(last + 1);
-    counted.set(last, digit + 1);
+    counted.replace_from(last, digit + 1);
     Some(places)
 }

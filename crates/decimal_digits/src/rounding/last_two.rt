@@ -62,8 +62,7 @@ fn truncate_and_push<D: DigitStore>(
     ensures borrows { Continues counted.old counted.new }
 {
     if index < counted.len() {
-        counted.truncate(index + 1);
-        counted.set(index, digit);
+        counted.replace_from(index, digit);
     } else {
         counted.reserve(1)?;
         counted.push_in_room(digit);
@@ -101,10 +100,10 @@ pub fn write_last_two<D: DigitStore>(
     ensures borrows { Continues counted.old counted.new }
 {
     if number % 10 == 0 {
-        counted.truncate(keep - 1);
-    } else {
-        truncate_and_push(counted, keep - 1, number % 10)?;
+        counted.replace_from(keep - 2, number / 10);
+        return Ok(());
     }
+    truncate_and_push(counted, keep - 1, number % 10)?;
     counted.set(keep - 2, number / 10);
     Ok(())
 }

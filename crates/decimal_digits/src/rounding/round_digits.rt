@@ -31,6 +31,7 @@ pub fn remainder_after<D: DigitStore>(counted: &mut Counted<'_, D>, keep: usize)
 }
 
 /// Keeps the first `keep` digits, of which `last` is the last one, and removes the trailing zeros.
+#[inline]
 fn keep_leading<D: DigitStore>(counted: &mut Counted<'_, D>, keep: usize, last: u8)
     requires fewer { keep < length (D.digits (list_of counted.old)) }
     requires last { 0 < keep → last ≡ slice_index (D.digits (list_of counted.old)) (keep - 1) }
@@ -102,8 +103,7 @@ fn round_by_one<D: DigitStore>(
     if last == 9 {
         return add_one(counted, keep, max_places);
     }
-    counted.truncate(keep);
-    counted.set(keep - 1, last + 1);
+    counted.replace_from(keep - 1, last + 1);
     Some(keep)
 }
 

@@ -11,7 +11,9 @@ use super::nibbles::{
     append_nibbles, byte_count, drop_bytes, keep_bytes, pack, push_zeros, remove_high_nibble,
     set_nibble,
 };
-use super::words::{cut_nibbles, end_word, front_word, join_nibbles, keep_nibbles, pack_word};
+use super::words::{
+    cut_nibbles, end_word, front_word, join_nibbles, keep_nibbles, pack_word, replace_nibbles,
+};
 use smallvec::SmallVec;
 use std::alloc::{AllocError, Global};
 
@@ -99,6 +101,19 @@ pub(super) fn push_digit(bytes: &mut SmallVec<u8, 8>, len: usize, digit: u8)
     }
 }
 
+/// Replaces the first eight bytes by those of a word.
+#[inline]
+fn set_front(bytes: &mut SmallVec<u8, 8>, word: u64)
+    requires { 8 ≤ small_vec_len bytes.old }
+    ensures front { take 8 bytes.new.items ≡ to_be_bytes w64 word }
+    ensures len { small_vec_len bytes.new ≡ small_vec_len bytes.old }
+    ensures capacity { bytes.new.capacity ≡ bytes.old.capacity }
+{
+    if let Some(front) = bytes.as_mut_slice().first_chunk_mut::<8>() {
+        *front = word.to_be_bytes();
+    }
+}
+
 /// Replaces eight bytes by those of a word.
 #[inline]
 pub(super) fn set_word(bytes: &mut SmallVec<u8, 8>, word: u64)
@@ -106,9 +121,7 @@ pub(super) fn set_word(bytes: &mut SmallVec<u8, 8>, word: u64)
     ensures items { bytes.new.items ≡ to_be_bytes w64 word }
     ensures capacity { bytes.new.capacity ≡ bytes.old.capacity }
 {
-    if let Some(front) = bytes.as_mut_slice().first_chunk_mut::<8>() {
-        *front = word.to_be_bytes();
-    }
+    set_front(bytes, word);
 }
 
 /// Returns the sixteen digits from index `start` as a packed BCD number, with zeros after fewer digits.
@@ -206,14 +219,53 @@ fn keep_some(bytes: &mut SmallVec<u8, 8>, len: usize, count: usize)
 {
     if count <= 16 {
         let word = keep_nibbles(front_word(bytes.as_slice()), count);
+        set_front(bytes, word);
         bytes.truncate(8);
-        set_word(bytes, word);
         return;
     }
-    keep_bytes(bytes, byte_count(count));
     if count % 2 == 1 {
         set_nibble(bytes, count, 0);
     }
+    bytes.truncate(byte_count(count));
+}
+
+/// Replaces the digits from an index on by one digit.
+#[inline]
+pub(super) fn replace_digits(bytes: &mut SmallVec<u8, 8>, len: usize, index: usize, digit: u8)
+    requires padded { IsPadded bytes.old.items len }
+    requires in_range { index < len }
+    requires is_digit { digit < 10 }
+    ensures encodes { EncodesPadded bytes.new.items (index + 1)
+        (take index (digits_in bytes.old.items len) ++ digit ∷ []) }
+    ensures capacity { bytes.new.capacity ≡ bytes.old.capacity }
+{
+    if len <= 16 {
+        let word = replace_nibbles(front_word(bytes.as_slice()), index, digit);
+        set_word(bytes, word);
+    } else {
+        replace_some(bytes, len, index, digit);
+    }
+}
+
+/// Replaces the digits from an index on by one digit, in a list of more than sixteen.
+#[inline(never)]
+fn replace_some(bytes: &mut SmallVec<u8, 8>, len: usize, index: usize, digit: u8)
+    requires padded { IsPadded bytes.old.items len }
+    requires many { 16 < len }
+    requires in_range { index < len }
+    requires is_digit { digit < 10 }
+    ensures encodes { EncodesPadded bytes.new.items (index + 1)
+        (take index (digits_in bytes.old.items len) ++ digit ∷ []) }
+    ensures capacity { bytes.new.capacity ≡ bytes.old.capacity }
+{
+    if index < 16 {
+        let word = replace_nibbles(front_word(bytes.as_slice()), index, digit);
+        set_front(bytes, word);
+        bytes.truncate(8);
+        return;
+    }
+    set_digit(bytes, len, index, digit);
+    keep_some(bytes, len, index + 1);
 }
 
 /// Removes the first `count` digits.
@@ -247,8 +299,8 @@ fn cut_some(bytes: &mut SmallVec<u8, 8>, len: usize, count: usize)
             end_word(bytes.as_slice(), 8),
             count - 2 * (byte_count(len) - 8),
         );
+        set_front(bytes, word);
         bytes.truncate(8);
-        set_word(bytes, word);
     } else {
         cut_bytes(bytes, len, count);
     }

@@ -1,7 +1,7 @@
 //! Words: the first eight bytes of packed BCD as one big-endian number, whose highest nibble is the first digit.
 #![tactic(auto, using(crate::proofs::Nibbles::nibble_rules))]
 
-ghost use Rattle.std.specs.Prelude.{◌≡◌, ◌-◌, ◌*◌, ◌%◌, ◌<◌, ◌≤◌, ◌++◌, length, map, take, drop, replicate};
+ghost use Rattle.std.specs.Prelude.{◌≡◌, ◌-◌, ◌*◌, ◌%◌, ◌<◌, ◌≤◌, ◌∷◌, ◌++◌, length, map, take, drop, replicate};
 ghost use Rattle.decimal_digits.specs.Nibbles.{nibbles, word_nibbles};
 
 /// Returns the word of the first eight bytes.
@@ -44,6 +44,17 @@ pub(super) fn keep_nibbles(word: u64, count: usize) -> u64
     }
     let unused = 4 * (16 - count);
     word >> unused << unused
+}
+
+/// Replaces the nibbles from an index on by one nibble, and by zeros.
+#[inline]
+pub(super) fn replace_nibbles(word: u64, index: usize, nibble: u8) -> u64
+    requires in_range { index < 16 }
+    requires is_nibble { nibble < 16 }
+    ensures { word_nibbles result ≡ take index (word_nibbles word) ++ (nibble ∷ replicate (15 - index) 0) }
+{
+    let unused = 4 * (15 - index);
+    ((word >> unused) / 16 * 16 + u64::from(nibble)) << unused
 }
 
 /// Removes the first `count` nibbles, and appends zeros.

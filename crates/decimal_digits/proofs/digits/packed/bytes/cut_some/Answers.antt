@@ -5,7 +5,7 @@ use Rattle.decimal_digits.proofs.digits.packed.bytes.cut_some.Goals as goal
 
 pub returns-then-len-count-lt16-clause-encodes : goal.returns-then-len-count-lt16-clause-encodes
 returns-then-len-count-lt16-clause-encodes c =
-    rw c.set_word.ensures.items
+    rw (c.truncate.ensures.items, c.set_front.ensures.front)
     (cut_end_pads c.args.bytes.now.items c.args.len c.args.count _ c.end_word.result c.cut_nibbles-word.result
     c.requires.padded c.requires.many c.requires.in_range (omega arith)
     (omega (arith, c.byte_count.ensures)) (rw c.as_slice.ensures at c.end_word.ensures) c.cut_nibbles-word.ensures)
