@@ -273,6 +273,12 @@ bcd_of_word n ds fits same =
     (same_number_lists (word_nibbles n) (padded 16 ds) (omega (arith, length-padded 16 ds)) (λ k h.
     let l : k < 16 = omega arith in same k l ∙ sym (get_or-padded 16 ds k l)))
 
+-- the nibbles of the packed BCD number of digits are the first sixteen, and zeros after fewer
+pub bcd_nibble : (ds : List ℕ) (k : ℕ) → All (λ d. d < 10) ds → k < 16
+    → get_or (word_nibbles (bcd_number ds)) k 0 ≡ get_or ds k 0
+unfolding bcd_number word_nibbles
+bcd_nibble ds k h l = ap (λ xs. get_or xs k 0) (sixteen_nibbles ds h) ∙ get_or-padded 16 ds k l
+
 -- the bytes of such a word are the digits, padded
 pub word_pads : (n len : ℕ) (ds : List ℕ) → length ds ≡ len → len ≤ 16
     → ((k : ℕ) → k < len → get_or ds k 0 < 10)

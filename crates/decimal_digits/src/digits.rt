@@ -12,8 +12,8 @@ mod steps;
 
 pub use counted::Counted;
 pub use list::DigitList;
-pub use packed::PackedDigits;
 use packed::nibble_at;
+pub use packed::{PackedDigits, dotted_text, prepend_zeros};
 use std::alloc::{AllocError, Global};
 pub use steps::Steps;
 

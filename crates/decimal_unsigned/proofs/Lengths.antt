@@ -6,7 +6,7 @@ length-fraction : (number : ℕ) (lo : ℤ) → lo <ℤ pos 0 → length (fracti
 length-fraction number (pos k) h = absurd (omega (arith, ints))
 length-fraction number (negsuc b) h = omega (arith, ints, length-bytes_down number (negsuc 0) (suc b))
 
-length-text : (v : Unsigned) → pos 0 ≤ℤ v.hi → v.lo ≤ℤ pos 0
+pub length-text : (v : Unsigned) → pos 0 ≤ℤ v.hi → v.lo ≤ℤ pos 0
     → length (text v) ≡ int_gap (pos 0) v.hi + 1 + length (fraction_text v.number v.lo)
 length-text v h l = grind (arith, ints, clamps, nat_tests, common_steps, text_is, length-append, length-bytes_down)
 

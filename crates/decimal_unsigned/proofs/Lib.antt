@@ -27,6 +27,7 @@ pub mod Roundings
 pub mod RoundingLaws
 pub mod RoundingSucceeds
 pub mod Pieces
+pub mod ShortTexts
 pub mod Comparing
 pub mod BcdNumber
 pub mod PlainTexts

@@ -5,6 +5,7 @@ ghost use Rattle.decimal_digits.specs.Packing.{IsPadded};
 
 mod bulk;
 mod bytes;
+mod dotted;
 mod nibbles;
 mod wide;
 mod words;
@@ -15,6 +16,7 @@ use bytes::{
     append_digits, append_word, append_zeros, are_equal, copy_bytes, cut_digits, drop_unused,
     keep_digits, pack_digits, push_digit, replace_digits, reserve_digits, set_digit, word_at,
 };
+pub use dotted::{dotted_text, prepend_zeros};
 use nibbles::byte_count;
 pub(super) use nibbles::nibble_at;
 use smallvec::SmallVec;

@@ -16,6 +16,11 @@ impl<D: DigitStore> fmt::Display for UnsignedOver<D> {
     /// Writes the text that `write_to` appends. Format options are ignored: `{:8}` also writes `2.50`.
     fn fmt<W: fmt::Write>(&self, f: &mut fmt::Formatter<W>) -> fmt::Result {
         let length = self.writeable_length_hint();
+        if self.is_short() {
+            let text = self.short_text();
+            // SAFETY: digits and a decimal point are ASCII, which is proved here.
+            return f.write_str(unsafe { str::from_utf8_unchecked(&text[..length]) });
+        }
         let mut written = 0;
         while written < length {
             let mut block = [b'0'; BLOCK];

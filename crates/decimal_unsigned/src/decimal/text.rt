@@ -1,23 +1,24 @@
 //! The text of a value.
-ghost use Rattle.std.specs.Prelude.{◌≡◌, ◌+◌, ◌-◌, ◌-ℤ◌, ◌<◌, ◌≤◌, length, take, drop, replicate, slice_index, EachIndex, Ok, OnOk, OnErr, pos, true, false};
+ghost use Rattle.std.specs.Prelude.{◌≡◌, ◌↔◌, ℕ, ◌+◌, ◌-◌, ◌-ℤ◌, ◌<◌, ◌≤◌, length, take, drop, replicate, slice_index, EachIndex, Ok, OnOk, OnErr, pos, IsTrue, true, false};
 ghost use Rattle.std.specs.Int.{int_gap};
 ghost use Rattle.std.specs.Io.KnownBytes.{Keeps, Appends};
 ghost use Rattle.decimal_digits.specs.Number.{offset, digit};
+ghost use Rattle.decimal_digits.specs.Nibbles.{word_nibbles};
 ghost use Rattle.decimal_digits.specs.AppendsPrefix.{AppendsPrefix};
 ghost use Rattle.decimal_unsigned.specs.Unsigned.{IsValue};
 ghost use Rattle.decimal_unsigned.specs.Text.{text};
 ghost use Rattle.decimal_unsigned.specs.Reading.{read};
 
 use super::UnsignedOver;
-use decimal_digits::digits::DigitStore;
+use decimal_digits::digits::{DigitStore, dotted_text, prepend_zeros};
 use decimal_digits::ops::{count_between, index_of, magnitude_of};
 use decimal_digits::sink::{Sink, SinkFault, Writeable};
 
 /// The number of bytes of a text that are made and written at a time. Most texts are shorter.
 pub(super) const BLOCK: usize = 64;
 
-/// The greatest length of a text that is written byte by byte, which is then faster than a block.
-const MAX_SHORT: usize = 5;
+/// The greatest number of digits of a text that is made from one packed BCD number.
+const MAX_SHORT: u32 = 16;
 
 impl<D: DigitStore> UnsignedOver<D> {
     /// Writes the digits at consecutive magnitudes, from `magnitude` down, without a decimal point.
@@ -69,34 +70,37 @@ impl<D: DigitStore> UnsignedOver<D> {
         }
     }
 
-    /// Returns the byte of the text at an index.
-    ///
-    /// Requires an index in range.
+    /// Returns whether at most sixteen magnitudes are shown.
     #[inline]
-    fn byte_at(&self, index: usize) -> u8
-        requires { index < length (text self.now) }
-        ensures { result ≡ slice_index (text self.now) index }
+    pub(super) fn is_short(&self) -> bool
+        ensures short { IsTrue result ↔ (int_gap self.now.lo self.now.hi < 16) }
+        ensures valid { IsValue self.now }
     {
-        let dot = self.dot();
-        if index == dot {
-            b'.'
-        } else {
-            b'0' + self.digit_at(self.magnitude_at(index))
-        }
+        count_between(self.lowest(), self.highest()) <= MAX_SHORT
     }
 
-    /// Appends the text byte by byte.
-    fn write_bytewise<W: Sink>(&self, sink: &mut W) -> Result<(), SinkFault>
-        ensures ok { OnOk result (Appends (W.contents sink.old) (W.contents sink.new) (text self.now)) }
-        ensures err { OnErr result (AppendsPrefix (W.contents sink.old) (W.contents sink.new) (text self.now)) }
-        ensures had_not_failed { OnOk result (W.has_failed sink.old ≡ false) }
-        ensures failed { OnErr result (W.has_failed sink.new ≡ true) }
-        ensures unchanged { W.has_failed sink.old ≡ true → Keeps (W.contents sink.old) (W.contents sink.new) }
+    /// Returns sixteen digits, from the highest magnitude that is shown down, as a packed BCD number.
+    ///
+    /// Requires at most sixteen magnitudes that are shown.
+    #[inline]
+    fn shown_bcd(&self) -> u64
+        requires { int_gap self.now.lo self.now.hi < 16 }
+        ensures { (k : ℕ) → k < 16
+            → slice_index (word_nibbles result) k ≡ digit self.now.number (self.now.hi -ℤ pos k) }
     {
-        for index in 0..self.writeable_length_hint() {
-            sink.put_byte(self.byte_at(index))?;
-        }
-        Ok(())
+        let zeros = count_between(self.magnitude, self.hi) - 1;
+        prepend_zeros(self.digits.bcd_at(0), zeros as usize)
+    }
+
+    /// Returns the text, followed by other bytes.
+    ///
+    /// Requires at most sixteen magnitudes that are shown.
+    #[inline]
+    pub(super) fn short_text(&self) -> [u8; 33]
+        requires { int_gap self.now.lo self.now.hi < 16 }
+        ensures { take (length (text self.now)) result ≡ text self.now }
+    {
+        dotted_text(self.shown_bcd(), self.dot())
     }
 
     /// Writes the bytes of the text from index `from`, one to each byte of the buffer.
@@ -146,8 +150,8 @@ impl<D: DigitStore> Writeable for UnsignedOver<D> {
         ensures reads_back { read (text self.now) ≡ Ok self.now }
     {
         let length = self.writeable_length_hint();
-        if length <= MAX_SHORT {
-            return self.write_bytewise(sink);
+        if self.is_short() {
+            return sink.put_bytes(&self.short_text()[..length]);
         }
         let mut written = 0;
         while written < length {

@@ -9,6 +9,12 @@ use Rattle.decimal_unsigned.proofs.decimal.display.UnsignedOverDisplay.fmt.Goals
 
 pub from_utf8_unchecked-requires : goal.from_utf8_unchecked-requires
 from_utf8_unchecked-requires g c =
+    let n = c.writeable_length_hint-length.ensures.length in
+    IsUtf8-from_ascii _
+    (subst IsAscii (sym (rw n c.short_text-text.ensures)) (text_ascii c.args.self.now))
+
+pub from_utf8_unchecked-requires-in-loop-written : goal.from_utf8_unchecked-requires-in-loop-written
+from_utf8_unchecked-requires-in-loop-written g c =
     IsUtf8-from_ascii _
     (subst IsAscii (sym c.copy_text.ensures) (IsAscii-take _ _ (IsAscii-drop _ _ (text_ascii c.args.self.now))))
 
@@ -22,12 +28,12 @@ loop-written-preserved g c =
     let all = text c.args.self.now in
     let i = c.loop-written.written in
     let piece = c.copy_text.new.buffer in
-    let new = c.write_str.new.self in
+    let new = c.write_str-in-loop-written.new.self in
     record {
       within = omega (arith, few, c.copy_text.auto.buffer, c.min.ensures);
       wrote = λ flush.
           let w = c.loop-written.invariant.wrote flush in
-          let p = subst (λ bs. HasWrittenStyled took c.loop-written.f bs new) c.from_utf8_unchecked.ensures
+          let p = subst (λ bs. HasWrittenStyled took c.loop-written.f bs new) c.from_utf8_unchecked-in-loop-written.ensures
           (c.in_ok-write_str.ensures.styled w.flush refl) in
           has_written_styled_of_eq took c.args.f.now (take i all ++ piece) (take (i + length piece) all) new
           (piece_taken all piece i _

@@ -2,6 +2,7 @@ use Rattle.decimal_unsigned.proofs.Common.{inr, arith, length-take, text}
 use Rattle.decimal_digits.proofs.Results.{on_err}
 use Rattle.decimal_digits.proofs.Sinks.{fresh_more, fresh_some, fresh_keeps, fresh_ends}
 use Rattle.decimal_unsigned.proofs.Blocks.{block_of, zeros_first}
+use Rattle.decimal_unsigned.proofs.Lengths.{text_some}
 use Rattle.decimal_unsigned.proofs.Writing.{wrote_more, wrote_part}
 use Rattle.decimal_unsigned.proofs.decimal.text.UnsignedOverWriteable.write_to.Goals as goal
 
@@ -38,9 +39,9 @@ returns-in_err-put_bytes-clause-unchanged g c =
 
 pub returns-clause-had_not_failed : goal.returns-clause-had_not_failed
 returns-clause-had_not_failed g c =
-    fresh_some g.W.Sink.has_failed _ _ _ c.loop-written.invariant.fresh (omega (arith, c.if-length-le-MAX_SHORT.false))
+    fresh_some g.W.Sink.has_failed _ _ _ c.loop-written.invariant.fresh (omega (arith, text_some c.args.self.now c.writeable_length_hint-length.ensures.valid, c.writeable_length_hint-length.ensures.length))
 
 pub returns-clause-unchanged : goal.returns-clause-unchanged
 returns-clause-unchanged g c =
     fresh_ends g.W.Sink.has_failed g.W.Sink.contents _ _ _ c.loop-written.invariant.fresh
-    (omega (arith, c.if-length-le-MAX_SHORT.false))
+    (omega (arith, text_some c.args.self.now c.writeable_length_hint-length.ensures.valid, c.writeable_length_hint-length.ensures.length))

@@ -1,0 +1,112 @@
+-- The text of a value of at most sixteen digits, by their nibbles.
+use Rattle.decimal_unsigned.proofs.Common.{elements, ◌≡◌, ℕ, zero, suc, ◌+◌, ◌-◌, ◌<◌, ◌≤◌, List, [], ◌∷◌, ◌++◌, length, get_or, take, drop, map, replicate, refl, sym, ◌∙◌, ap, arith, inl, inr, ℤ, pos, negsuc, ◌+ℤ◌, ◌-ℤ◌, ◌≤ℤ◌, ◌<ℤ◌, int_gap, ints, cases_lt, append-nil, get_or-drop, get_or-take, length-append, length-drop, length-map, length-replicate, length-take-le, gap_is, recursion_from_All, number_of, IsStored, digit, Unsigned, IsValue, text}
+use Rattle.std.specs.Prelude.{All, EachIndex, slice_index}
+use Rattle.std.proofs.lemmas.List.{get_or_append_left, get_or-map, get_or_past, get_or-replicate, take-append-drop, take-append-le, take_at}
+use Rattle.std.proofs.Math.Seq.{get_or-append_right, take-append-add}
+use Rattle.decimal_digits.specs.Digits.{text_of}
+use Rattle.decimal_digits.specs.Nibbles.{word_nibbles, bcd_number}
+use Rattle.decimal_digits.proofs.Words.{bcd_nibble, length-word_nibbles}
+use Rattle.decimal_unsigned.proofs.Values.{digit-number_of-above, digit-number_of-in, digit-number_of-below}
+use Rattle.decimal_unsigned.proofs.Lengths.{length-text, length-text_whole, length-text_dotted}
+use Rattle.decimal_unsigned.proofs.TextBytes.{bytes_down, bytes_are, length-bytes_down, bytes_down-part, fraction_text, text_is}
+
+-- ---- The nibbles.
+-- a word with zeros before the digits of a value has the digits from the highest magnitude that is shown down
+pub shown_nibble : {ds : List ℕ} {m hi lo : ℤ} (t : IsStored ds m hi lo) → All (λ d. d < 10) ds
+    → (word z : ℕ) → z ≡ int_gap m hi → int_gap lo hi < 16
+    → word_nibbles word ≡ replicate z 0 ++ take (16 - z) (word_nibbles (bcd_number ds))
+    → (k : ℕ) → k < 16 → get_or (word_nibbles word) k 0 ≡ digit (number_of ds m) (hi -ℤ pos k)
+shown_nibble {ds} {m} {hi} {lo} t digits word z z_is few nibbles_are k h =
+    let q = hi -ℤ pos k in
+    let low : negsuc 32767 ≤ℤ q = omega (arith, ints, t.hi_in) in
+    let front : length (replicate {A = ℕ} z 0) ≡ z = length-replicate z 0 in
+    let ns = word_nibbles (bcd_number ds) in
+    ap (λ l. get_or l k 0) nibbles_are ∙ elim (cases_lt k z) [
+      | inl above ↦
+          get_or_append_left (replicate z 0) (take (16 - z) ns) 0 k (omega arith)
+          ∙ get_or-replicate z k 0 0 above
+          ∙ sym (digit-number_of-above t q (omega (arith, ints, gap_is m hi, t.hi_covers)) low)
+      | inr from ↦
+          let e : q +ℤ pos (k - z) ≡ m = omega (arith, ints, gap_is m hi, t.hi_covers) in
+          get_or-append_right (replicate z 0) (take (16 - z) ns) k 0 (omega arith)
+          ∙ ap (λ j. get_or (take (16 - z) ns) (k - j) 0) front
+          ∙ get_or-take (16 - z) ns (k - z) 0 (omega arith)
+          ∙ bcd_nibble ds (k - z) digits (omega arith)
+          ∙ elim (cases_lt (k - z) (length ds)) [
+            | inl inside ↦ sym (digit-number_of-in t q (k - z) e low inside)
+            | inr past ↦ get_or_past ds (k - z) 0 past ∙ sym (digit-number_of-below t q (k - z) e low past)
+          ]
+    ]
+
+-- ---- The text.
+module _ (v : Unsigned) (valid : IsValue v) (dot : ℕ) (dot_is : dot ≡ int_gap (pos 0) v.hi + 1)
+    (few : int_gap v.lo v.hi < 16) (ns : List ℕ) (size : length ns ≡ 16)
+    (same : (k : ℕ) → k < 16 → get_or ns k 0 ≡ digit v.number (v.hi -ℤ pos k))
+  where
+    dot_in : dot ≤ 16
+    dot_in = omega (arith, ints, gap_is v.lo v.hi, gap_is (pos 0) v.hi, valid.hi_in, valid.lo_in)
+
+    whole : text_of (take dot ns) ≡ bytes_down v.number v.hi dot
+    whole =
+        let long : length (take dot ns) ≡ dot = length-take-le dot ns (omega (arith, dot_in)) in
+        let count = length-map (take dot ns) (λ (d : ℕ). 48 + d) in
+        bytes_are v.number v.hi v.hi dot (text_of (take dot ns)) (λ k h.
+        let l : k < dot = omega (arith, count) in
+        get_or-map (λ d. 48 + d) (take dot ns) k 0 0 (omega arith)
+        ∙ ap (λ d. 48 + d) (get_or-take dot ns k 0 l ∙ same k (omega (arith, dot_in)))) refl (count ∙ long)
+
+    fraction : text_of (drop dot ns) ≡ bytes_down v.number (negsuc 0) (16 - dot)
+    fraction =
+        let long : length (drop dot ns) ≡ 16 - dot = omega (arith, length-drop dot ns) in
+        let count = length-map (drop dot ns) (λ (d : ℕ). 48 + d) in
+        let top : v.hi -ℤ pos dot ≡ negsuc 0 = omega (arith, ints, gap_is (pos 0) v.hi, valid.hi_in) in
+        bytes_are v.number (v.hi -ℤ pos dot) (negsuc 0) (16 - dot) (text_of (drop dot ns)) (λ k h.
+        let l : dot + k < 16 = omega (arith, count) in
+        let e : v.hi -ℤ pos (dot + k) ≡ (v.hi -ℤ pos dot) -ℤ pos k = omega (arith, ints) in
+        get_or-map (λ d. 48 + d) (drop dot ns) k 0 0 (omega (arith, count))
+        ∙ ap (λ d. 48 + d) (get_or-drop dot ns k 0 ∙ same (dot + k) l ∙ ap (digit v.number) e)) top (count ∙ long)
+
+    -- the integer digits and what follows them, from the digits on both sides of a decimal point
+    cut : (lo : ℤ) → lo ≡ v.lo → (n : ℕ) → n ≡ dot + length (fraction_text v.number lo)
+        → take n (bytes_down v.number v.hi dot ++ 46 ∷ bytes_down v.number (negsuc 0) (16 - dot))
+        ≡ bytes_down v.number v.hi dot ++ fraction_text v.number lo
+    cut (pos k) e n is =
+        take_at (bytes_down v.number v.hi dot) _ n (omega (arith, length-bytes_down v.number v.hi dot))
+        ∙ sym (append-nil (bytes_down v.number v.hi dot))
+    cut (negsuc b) e n is =
+        let front = length-bytes_down v.number v.hi dot in
+        let back = length-bytes_down v.number (negsuc 0) (suc b) in
+        let inside : 0 + suc b ≤ 16 - dot =
+        omega (arith, ints, gap_is v.lo v.hi, gap_is (pos 0) v.hi, valid.hi_in, valid.lo_in) in
+        let at : n ≡ length (bytes_down v.number v.hi dot) + suc (suc b) = omega (arith, front, back) in
+        rw at (take-append-add (bytes_down v.number v.hi dot) (46 ∷ bytes_down v.number (negsuc 0) (16 - dot)) (suc (suc b)))
+        ∙ ap (λ l. bytes_down v.number v.hi dot ++ 46 ∷ l)
+        (bytes_down-part v.number (negsuc 0) (16 - dot) 0 (suc b) inside)
+
+    text_few : length (text v) ≤ 17
+    text_few = grind (arith, ints, length-text_whole, length-text_dotted, gap_is)
+
+    size_of : length (text_of (take dot ns) ++ 46 ∷ text_of (drop dot ns)) ≡ 17
+    size_of =
+        omega (
+          arith,
+          dot_in,
+          length-append (text_of (take dot ns)) (46 ∷ text_of (drop dot ns)),
+          ap length whole,
+          ap length fraction,
+          length-bytes_down v.number v.hi dot,
+          length-bytes_down v.number (negsuc 0) (16 - dot),
+        )
+
+    -- a block that begins with them begins with the text
+    pub short_text_is : (block : List ℕ) → take 17 block ≡ text_of (take dot ns) ++ 46 ∷ text_of (drop dot ns)
+        → take (length (text v)) block ≡ text v
+    short_text_is block e =
+        let long : length (text v) ≡ dot + length (fraction_text v.number v.lo) =
+        length-text v valid.hi_in.0 valid.lo_in.1 ∙ ap (λ n. n + length (fraction_text v.number v.lo)) (sym dot_is) in
+        let short : length (text v) ≤ length (take 17 block) = omega (arith, ap length e, size_of, text_few) in
+        ap (take (length (text v))) (sym (take-append-drop 17 block))
+        ∙ take-append-le (length (text v)) (take 17 block) (drop 17 block) short
+        ∙ ap (take (length (text v))) (e ∙ (λ i. whole i ++ 46 ∷ fraction i))
+        ∙ cut v.lo refl (length (text v)) long
+        ∙ sym (text_is v valid.hi_in.0 valid.lo_in.1 ∙ ap (λ n. bytes_down v.number v.hi n ++ fraction_text v.number v.lo) (sym dot_is))
