@@ -5,6 +5,7 @@ pub mod Magnitudes
 pub mod Parts
 pub mod Pieces
 pub mod Separators
+pub mod ShortTexts
 pub mod Styled
 pub mod Codes
 pub mod DigitTexts

@@ -1,11 +1,12 @@
 -- Private: cited only by the contracts of private functions.
 -- Parts of the text: digits without a separator between them.
-use Rattle.std.specs.Prelude.{◌≡◌, ℕ, zero, suc, if◌then◌else◌, ◌+◌, ◌-◌, ◌<◌, List, [], ◌++◌, slice_index, EachIndex, flat_map, ℤ, pos, ◌-ℤ◌}
+use Rattle.std.specs.Prelude.{◌≡◌, ℕ, zero, suc, if◌then◌else◌, ◌+◌, ◌-◌, ◌%◌, ◌<◌, ◌==◌, nat_le, nat_lt, Bool, false, ◌&&◌, List, [], ◌∷◌, ◌++◌, slice_index, EachIndex, flat_map, ℤ, pos, negsuc, ◌-ℤ◌}
 use Rattle.decimal_digits.specs.Number.{digit}
 use Rattle.decimal_format.specs.declared.grouping.GroupingSizes.{GroupingSizes}
 use Rattle.decimal_format.specs.declared.grouping.GroupingStrategy.{GroupingStrategy}
-use Rattle.decimal_format.specs.Grouping.{separates}
+use Rattle.decimal_format.specs.Grouping.{secondary_size, separates}
 use Rattle.decimal_format.specs.Symbols.{Symbols, digit_text}
+use Rattle.decimal_format.specs.Ascii.{ascii_digits}
 use Rattle.decimal_format.specs.Formatted.{Formatted, formatted_down, separator_before, separator_after}
 
 -- the magnitude that is the given number below the highest
@@ -35,6 +36,18 @@ digits_text s = flat_map (λ byte. digit_text s (byte - 48))
 -- the same between the separators of a run
 abbrev pub run_text : Symbols → List ℕ → List ℕ → List ℕ → List ℕ
 run_text s before after bytes = before ++ (digits_text s bytes ++ after)
+
+-- the digits are the ASCII digits, and each separator has one byte
+pub record AreBytes (s : Symbols) (decimal grouping : ℕ) : Type 0 where
+  pub ascii : s.digits ≡ ascii_digits
+  pub decimal_is : s.decimal ≡ decimal ∷ []
+  pub grouping_is : s.grouping ≡ grouping ∷ []
+
+-- a group ends after the digit at a magnitude: a separator is there if the value is grouped
+abbrev pub ends_group : GroupingSizes → ℤ → Bool
+ends_group sizes (negsuc m) = false
+ends_group sizes (pos m) =
+    nat_lt 0 sizes.primary && (nat_le sizes.primary m && ((m - sizes.primary) % secondary_size sizes == 0))
 
 -- the number of separators after the magnitudes from 0 to n - 1
 unfoldable pub separators_below : GroupingStrategy → GroupingSizes → ℤ → ℕ → ℕ

@@ -1,5 +1,5 @@
 //! A sink of a fixed size, on the stack.
-ghost use Rattle.std.specs.Prelude.{◌≡◌, ℕ, List, [], ◌++◌, ◌≤◌, take, Some, OnOk, OnErr, Bool, true, false};
+ghost use Rattle.std.specs.Prelude.{◌≡◌, ℕ, List, [], ◌∷◌, ◌++◌, ◌+◌, ◌<◌, ◌≤◌, length, take, Some, OnOk, OnErr, Bool, true, false, if◌then◌else◌};
 
 use fixed_decimal::{Sink, SinkFault};
 use std::marker::Model;
@@ -42,6 +42,19 @@ impl Block {
         ensures { result.now ≡ self.now.0 }
     {
         &self.bytes[..self.len]
+    }
+
+    /// Appends a byte if a condition holds. Requires room for it.
+    #[inline]
+    pub(crate) fn push_if(&mut self, byte: u8, condition: bool)
+        requires { length self.old.0 < 192 }
+        ensures bytes { self.new ≡ (self.old.0 ++ (if condition then byte ∷ [] else []), self.old.1) }
+        ensures at_most { length self.new.0 ≤ length self.old.0 + 1 }
+    {
+        if condition {
+            self.bytes[self.len] = byte;
+            self.len += 1;
+        }
     }
 
     /// Appends bytes, or none if they do not fit.

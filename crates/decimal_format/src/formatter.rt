@@ -1,11 +1,12 @@
 //! Formatting of a decimal.
-ghost use Rattle.std.specs.Prelude.{◌≡◌, ◌<◌, ◌≤◌, ◌-ℤ◌, pos, encode_utf8, length};
+ghost use Rattle.std.specs.Prelude.{◌≡◌, ◌<◌, ◌≤◌, ◌-ℤ◌, pos, [], if◌then◌else◌, encode_utf8, length};
 ghost use Rattle.decimal_digits.specs.Number.{digit};
 ghost use Rattle.decimal_unsigned.specs.Unsigned.{IsValue};
 ghost use Rattle.decimal_format.specs.Symbols.{digit_text, sign_affixes};
 ghost use Rattle.decimal_format.specs.Formatted.{formatter, formatted_by, shown_count, separator_before, separator_after};
 
 mod display;
+mod short;
 mod text;
 
 use crate::grouping::GroupingStrategy;
@@ -114,6 +115,16 @@ impl<'f, D: DigitStore> FormattedDecimal<'f, D> {
         magnitude_below(*range.end(), below)
     }
 
+    /// Returns whether the decimal separator is before the digit of a magnitude.
+    #[inline]
+    fn has_separator_before(&self, below: u32) -> bool
+        requires { below < shown_count self.now.value.absolute }
+        ensures { (if result then self.now.symbols.decimal else [])
+            ≡ separator_before self.now.symbols (self.now.value.absolute.hi -ℤ pos below) }
+    {
+        self.magnitude(below) == -1
+    }
+
     /// Returns the text before the digit of a magnitude: the decimal separator or nothing.
     #[inline]
     fn separator_before(&self, below: u32) -> &str
@@ -121,7 +132,7 @@ impl<'f, D: DigitStore> FormattedDecimal<'f, D> {
         ensures value { result.now ≡ separator_before self.now.symbols (self.now.value.absolute.hi -ℤ pos below) }
         ensures at_most { length result.now ≤ 255 }
     {
-        if self.magnitude(below) == -1 {
+        if self.has_separator_before(below) {
             self.symbols.decimal_separator()
         } else {
             ""

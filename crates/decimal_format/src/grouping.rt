@@ -1,8 +1,8 @@
 //! The groups of the integer digits.
-ghost use Rattle.std.specs.Prelude.{◌≡◌, ℕ, ◌+◌, ◌-◌, ◌%◌, ◌^◌, ◌<◌, ◌≤◌, ◌≤ℤ◌, pos, false};
+ghost use Rattle.std.specs.Prelude.{◌≡◌, ℕ, ◌+◌, ◌-◌, ◌%◌, ◌^◌, ◌<◌, ◌≤◌, ◌≤ℤ◌, ◌&&◌, pos, false};
 ghost use Rattle.std.specs.Int.{int_gap};
 ghost use Rattle.decimal_format.specs.Grouping.{reaches, is_grouped, secondary_size, separates};
-ghost use Rattle.decimal_format.specs.Parts.{separators_below};
+ghost use Rattle.decimal_format.specs.Parts.{ends_group, separators_below};
 
 /// When the integer digits are grouped.
 ///
@@ -57,7 +57,7 @@ impl GroupingSizes {
 
     /// Returns whether a value with the highest magnitude `hi` is grouped.
     #[inline]
-    fn is_grouped(self, strategy: GroupingStrategy, hi: i16) -> bool
+    pub(crate) fn is_grouped(self, strategy: GroupingStrategy, hi: i16) -> bool
         ensures { result ≡ is_grouped strategy self hi }
     {
         match strategy {
@@ -87,17 +87,20 @@ impl GroupingSizes {
     pub fn separates(self, strategy: GroupingStrategy, hi: i16, magnitude: i16) -> bool
         ensures { result ≡ separates strategy self hi magnitude }
     {
-        if magnitude < 0 {
+        self.separates_if(self.is_grouped(strategy, hi), magnitude)
+    }
+
+    /// Returns whether a separator is after the digit at a magnitude of a value, which may be grouped.
+    #[inline]
+    pub(crate) fn separates_if(self, is_grouped: bool, magnitude: i16) -> bool
+        ensures { result ≡ (is_grouped && ends_group self magnitude) }
+    {
+        let primary = self.primary as i16;
+        if !is_grouped || primary == 0 || magnitude < primary {
             return false;
         }
-        let place = magnitude as u32;
-        let primary = self.primary as u32;
-        if primary == 0 {
-            return false;
-        }
-        let secondary = self.secondary_size() as u32;
-        self.is_grouped(strategy, hi)
-            && (primary <= place && remainder((place - primary) as usize, secondary as usize) == 0)
+        let secondary = self.secondary_size();
+        remainder((magnitude - primary) as usize, secondary as usize) == 0
     }
 
     /// Returns a number of digits, from an integer magnitude down, with no separator between them, and whether a

@@ -11,6 +11,7 @@ pub mod ConcatenationLaws
 pub mod Writing
 pub mod TextBytes
 pub mod Blocks
+pub mod LeadingDigits
 pub mod Lengths
 pub mod ValueLaws
 pub mod Numerals

@@ -1,5 +1,5 @@
 //! The text of a formatted decimal.
-ghost use Rattle.std.specs.Prelude.{◌≡◌, ◌+◌, ◌*◌, ◌<◌, ◌≤◌, ◌<ℤ◌, ◌≤ℤ◌, ◌-◌, pos, [], length, slice_index, EachIndex, OnOk, OnErr, true, false};
+ghost use Rattle.std.specs.Prelude.{◌≡◌, ◌+◌, ◌*◌, ◌<◌, ◌≤◌, ◌<ℤ◌, ◌≤ℤ◌, ◌-◌, pos, [], ◌++◌, length, slice_index, EachIndex, OnOk, OnErr, true, false};
 ghost use Rattle.std.specs.Int.{int_gap};
 ghost use Rattle.std.specs.Io.KnownBytes.{Keeps, Appends};
 ghost use Rattle.decimal_digits.specs.AppendsPrefix.{AppendsPrefix};
@@ -165,14 +165,32 @@ impl<'f, D: DigitStore> FormattedDecimal<'f, D> {
         }
     }
 
-    /// Appends the text of up to 32 magnitudes, with the sign.
-    fn write_short<W: Sink>(&self, sink: &mut W) -> Result<(), SinkFault>
+    /// Appends the text of up to 32 magnitudes, without the sign, if it fits the block.
+    #[inline]
+    fn write_digits_of(&self, block: &mut Block) -> Result<(), SinkFault>
         requires { shown_count self.now.value.absolute ≤ 32 }
-        ensures ok { OnOk result (Appends (W.contents sink.old) (W.contents sink.new) (formatted_text self.now)) }
+        ensures { OnOk result (block.new.0
+            ≡ block.old.0 ++ absolute_text self.now.symbols self.now.strategy self.now.value.absolute) }
     {
-        sink.put_bytes(self.prefix().as_bytes())?;
-        self.write_part(0, self.shown_count(), sink)?;
-        sink.put_bytes(self.suffix().as_bytes())
+        let count = self.shown_count();
+        if count <= 16 && block.as_bytes().len() <= 144 {
+            if let Some((decimal, grouping)) = self.byte_separators() {
+                self.push_digits(decimal, grouping, block);
+                return Ok(());
+            }
+        }
+        self.write_part(0, count, block)
+    }
+
+    /// Appends the text of up to 32 magnitudes, with the sign, if it fits the block.
+    #[inline]
+    fn write_short(&self, block: &mut Block) -> Result<(), SinkFault>
+        requires { shown_count self.now.value.absolute ≤ 32 }
+        ensures { OnOk result (block.new.0 ≡ block.old.0 ++ formatted_text self.now) }
+    {
+        block.put_bytes(self.prefix().as_bytes())?;
+        self.write_digits_of(block)?;
+        block.put_bytes(self.suffix().as_bytes())
     }
 
     /// Appends the text without the sign.
