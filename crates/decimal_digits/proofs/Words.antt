@@ -10,8 +10,8 @@ use Rattle.std.proofs.Math.Nat.{mod-eq_of_lt, pow-le-pow_right}
 use Rattle.std.proofs.lemmas.Nat.{pow-add, mod-mul-add, be_bytes_8, from_be_bytes-to_be_bytes_8, shr-shr}
 use Rattle.std.proofs.lemmas.Grind.{same_number_lists}
 use Rattle.std.proofs.lemmas.List.{length-append, length-drop, length-map, length-replicate, length-take, length-take-le, append-nil, append_assoc, get_or_default, get_or_past, get_or-drop, get_or-replicate, get_or-take, map_more}
-use Rattle.std.proofs.lemmas.List.Elements.{All-append, All-replicate}
-use Rattle.std.proofs.lemmas.Int.Digits.{number_lt, number_after_append, number_push}
+use Rattle.std.proofs.lemmas.List.Elements.{All-append, All-from_recursion, All-get_or, All-replicate}
+use Rattle.std.proofs.lemmas.Int.Digits.{number_lt, number_after_append, number_more, number_push}
 use Rattle.decimal_digits.specs.Nibbles.{nibbles, word_nibbles, digits_in, leading_bytes, padded, bcd_number, IsPacked}
 use Rattle.decimal_digits.specs.Packing.{EncodesPadded, IsPadded, length-nibbles, length_digits}
 use Rattle.decimal_digits.proofs.DigitLists.{below_drop, below_take, number_after, number_pad, number_split, number-div}
@@ -51,6 +51,19 @@ pub word_number : (n : ℕ) → n < 2 ^ 64 → n ≡ number_from_digits 16 (word
 unfolding word_nibbles
 word_number n h =
     sym (from_be_bytes-to_be_bytes_8 n h) ∙ eight_bytes (to_be_bytes w64 n) refl ∙ sym (bytes_number 0 _)
+
+-- a nibble of a word, by a right shift
+pub word_nibble : (n k : ℕ) → n < 2 ^ 64 → k < 16 → n / 2 ^ (4 * (15 - k)) % 16 ≡ get_or (word_nibbles n) k 0
+word_nibble n k fits l =
+    let ns = word_nibbles n in
+    let all = length-word_nibbles n in
+    let back : length ns - (k + 1) ≡ 15 - k = omega arith in
+    let front = rw back at (number-div 16 (k + 1) ns (word_below n) (omega arith)) in
+    let small = All-get_or (λ d. d < 16) ns k 0 (omega arith) (All-from_recursion (λ d. d < 16) ns (word_below n)) in
+    ap (λ m. n / m % 16) (hex_pow (15 - k))
+    ∙ ap (λ m. m / 16 ^ (15 - k) % 16) (word_number n fits)
+    ∙ ap (λ m. m % 16) front
+    ∙ omega (arith, small, number_more 16 ns k (omega arith))
 
 -- the number of sixteen nibbles is the word of these
 pub word_of_nibbles : (ns : List ℕ) (n : ℕ) → length ns ≡ 16 → AllBelowBase 16 ns → n ≡ number_from_digits 16 ns

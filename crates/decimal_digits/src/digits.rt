@@ -13,7 +13,7 @@ mod steps;
 pub use counted::Counted;
 pub use list::DigitList;
 use packed::nibble_at;
-pub use packed::{PackedDigits, dotted_text, prepend_zeros};
+pub use packed::{PackedDigits, dotted_text};
 use std::alloc::{AllocError, Global};
 pub use steps::Steps;
 

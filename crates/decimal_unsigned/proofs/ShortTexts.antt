@@ -4,41 +4,9 @@ use Rattle.std.specs.Prelude.{All, EachIndex, slice_index}
 use Rattle.std.proofs.lemmas.List.{get_or_append_left, get_or-map, get_or_past, get_or-replicate, take-append-drop, take-append-le, take_at}
 use Rattle.std.proofs.Math.Seq.{get_or-append_right, take-append-add}
 use Rattle.decimal_digits.specs.Digits.{text_of}
-use Rattle.decimal_digits.specs.Nibbles.{word_nibbles, bcd_number}
-use Rattle.decimal_digits.proofs.Words.{bcd_nibble, length-word_nibbles}
-use Rattle.decimal_unsigned.proofs.Values.{digit-number_of-above, digit-number_of-in, digit-number_of-below}
 use Rattle.decimal_unsigned.proofs.Lengths.{length-text, length-text_whole, length-text_dotted}
 use Rattle.decimal_unsigned.proofs.TextBytes.{bytes_down, bytes_are, length-bytes_down, bytes_down-part, fraction_text, text_is}
 
--- ---- The nibbles.
--- a word with zeros before the digits of a value has the digits from the highest magnitude that is shown down
-pub shown_nibble : {ds : List ℕ} {m hi lo : ℤ} (t : IsStored ds m hi lo) → All (λ d. d < 10) ds
-    → (word z : ℕ) → z ≡ int_gap m hi → int_gap lo hi < 16
-    → word_nibbles word ≡ replicate z 0 ++ take (16 - z) (word_nibbles (bcd_number ds))
-    → (k : ℕ) → k < 16 → get_or (word_nibbles word) k 0 ≡ digit (number_of ds m) (hi -ℤ pos k)
-shown_nibble {ds} {m} {hi} {lo} t digits word z z_is few nibbles_are k h =
-    let q = hi -ℤ pos k in
-    let low : negsuc 32767 ≤ℤ q = omega (arith, ints, t.hi_in) in
-    let front : length (replicate {A = ℕ} z 0) ≡ z = length-replicate z 0 in
-    let ns = word_nibbles (bcd_number ds) in
-    ap (λ l. get_or l k 0) nibbles_are ∙ elim (cases_lt k z) [
-      | inl above ↦
-          get_or_append_left (replicate z 0) (take (16 - z) ns) 0 k (omega arith)
-          ∙ get_or-replicate z k 0 0 above
-          ∙ sym (digit-number_of-above t q (omega (arith, ints, gap_is m hi, t.hi_covers)) low)
-      | inr from ↦
-          let e : q +ℤ pos (k - z) ≡ m = omega (arith, ints, gap_is m hi, t.hi_covers) in
-          get_or-append_right (replicate z 0) (take (16 - z) ns) k 0 (omega arith)
-          ∙ ap (λ j. get_or (take (16 - z) ns) (k - j) 0) front
-          ∙ get_or-take (16 - z) ns (k - z) 0 (omega arith)
-          ∙ bcd_nibble ds (k - z) digits (omega arith)
-          ∙ elim (cases_lt (k - z) (length ds)) [
-            | inl inside ↦ sym (digit-number_of-in t q (k - z) e low inside)
-            | inr past ↦ get_or_past ds (k - z) 0 past ∙ sym (digit-number_of-below t q (k - z) e low past)
-          ]
-    ]
-
--- ---- The text.
 module _ (v : Unsigned) (valid : IsValue v) (dot : ℕ) (dot_is : dot ≡ int_gap (pos 0) v.hi + 1)
     (few : int_gap v.lo v.hi < 16) (ns : List ℕ) (size : length ns ≡ 16)
     (same : (k : ℕ) → k < 16 → get_or ns k 0 ≡ digit v.number (v.hi -ℤ pos k))

@@ -1,16 +1,13 @@
 -- The integer that the digits of a value write.
 use Rattle.decimal_unsigned.proofs.Common.{clamps, common_steps, zero, suc, ◌≡◌, ℕ, ◌+◌, ◌-◌, ◌*◌, ◌/◌, ◌%◌, ◌^◌, ◌<◌, ◌≤◌, List, length, get_or, take, drop, refl, sym, ◌∙◌, ap, arith, Ok, Err, ℤ, pos, ◌+ℤ◌, ◌<ℤ◌, nat_tests, mul-mod_left, pow-le-pow_right, ints, length-take, length-take-le, take_all, recursion_from_All, number_from_digits, AllBelowBase, offset, weight, leading, offset_is, ten_pos, below_take, no_more_zeros, IsStored, Unsigned, IsValue, Result, All, number_back, below_sixteen, leading_none}
-use Rattle.std.proofs.Math.Nat.{mul-div_cancel, div-div-eq-div-mul, div-eq_of_lt}
+use Rattle.std.proofs.Math.Nat.{mul-div_cancel}
 use Rattle.std.proofs.lemmas.Nat.{pow-add}
-use Rattle.std.proofs.lemmas.List.{get_or-drop, get_or_past}
-use Rattle.std.proofs.lemmas.List.Elements.{All-get_or}
-use Rattle.std.proofs.lemmas.Bool.{cases_lt}
-use Rattle.std.proofs.Common.{inl, inr}
+use Rattle.std.proofs.lemmas.List.{get_or-drop}
 use Rattle.std.proofs.lemmas.Int.Digits.{number_more as number_more_digits}
 use Rattle.decimal_digits.specs.Nibbles.{bcd_number}
 use Rattle.decimal_digits.specs.Digits.{number_of, number_at}
 use Rattle.decimal_digits.proofs.DigitLists.{number-div}
-use Rattle.decimal_digits.proofs.LeadingBytes.{hex_pow, sixteen, sixteen_are, sixteen_digits, sixteen_next, get_or-padded}
+use Rattle.decimal_digits.proofs.LeadingBytes.{hex_pow, sixteen, sixteen_are, sixteen_digits, get_or-padded}
 use Rattle.decimal_digits.proofs.NumberAt.{number_at-more, number_at-lt, number_at-ge}
 use Rattle.decimal_digits.proofs.Leading.{leading_more}
 use Rattle.decimal_unsigned.specs.declared.error.IntegerError.TheVariants.{NotWhole, OutOfRange}
@@ -173,32 +170,6 @@ module _ (ds : List ℕ) (h : All (λ d. d < 10) ds) where
       ∙ sym (leading_next i ds)
       ∙ ap (λ j. leading j ds) (sym k)
 
-  small_digit : (k : ℕ) → get_or ds k 0 < 10
-  small_digit k = elim (cases_lt k (length ds)) [
-    | inl inside ↦ All-get_or (λ d. d < 10) ds k 0 inside h
-    | inr past ↦ omega (arith, get_or_past ds k 0 past)
-  ]
-
-  -- a nibble is the digit at its index, or 0 after the digits
-  nibble : (k : ℕ) → k < 16 → bcd_number ds / 2 ^ (4 * (15 - k)) % 16 ≡ get_or ds k 0
-  nibble k l =
-      let shift : 4 * (15 - k) ≡ 4 * (16 - (k + 1)) = omega arith in
-      let next = sixteen_next ds h k (get_or ds k 0) l refl in
-      let small = small_digit k in
-      ap (λ s. bcd_number ds / 2 ^ s % 16) shift
-      ∙ ap (λ n. n % 16) (shifted_front (k + 1) (omega arith) ∙ sym next)
-      ∙ (omega (arith, small))
-
-  -- a nibble after a right shift is the digit that was there
-  pub shifted_nibble : (zeros k n : ℕ) → k < 16 → zeros ≤ k → n ≡ bcd_number ds
-      → n / 2 ^ (4 * zeros) / 2 ^ (4 * (15 - k)) % 16 ≡ get_or ds (k - zeros) 0
-  shifted_nibble zeros k n l h e =
-      let sum : 4 * zeros + 4 * (15 - k) ≡ 4 * (15 - (k - zeros)) = omega arith in
-      ap (λ x. x % 16) (div-div-eq-div-mul n (2 ^ (4 * zeros)) (2 ^ (4 * (15 - k))))
-      ∙ ap (λ x. n / x % 16) (sym (pow-add 2 (4 * zeros) (4 * (15 - k))) ∙ ap (λ x. 2 ^ x) sum)
-      ∙ ap (λ x. x / 2 ^ (4 * (15 - (k - zeros))) % 16) e
-      ∙ nibble (k - zeros) (omega arith)
-
   -- the shifted nibbles, as decimal digits, write the number of the first `count` digits
   pub few_leading : (count m n : ℕ) → count ≤ 16 → m ≡ bcd_number ds / 2 ^ (4 * (16 - count))
       → ((xs : List ℕ) → AllBelowBase 16 xs → length xs ≤ 16 → m ≡ number_from_digits 16 xs
@@ -217,16 +188,6 @@ module _ (ds : List ℕ) (h : All (λ d. d < 10) ds) where
       let split = rw at at (leading_split 16 (count - 16) ds) in
       let same : front * unit + rest ≡ leading count ds = rw (e, u, f) (sym split) in
       (same, rw same (few_digits count 19 ds h few))
-
--- or 0 before the digits
-pub shifted_zero : (zeros k n : ℕ) → k < zeros → n < 2 ^ 64 → k < 16
-    → n / 2 ^ (4 * zeros) / 2 ^ (4 * (15 - k)) % 16 ≡ 0
-shifted_zero zeros k n h l m =
-    let high : 2 ^ 64 ≤ 2 ^ (4 * zeros + 4 * (15 - k)) =
-    pow-le-pow_right {n = 2} (omega arith) {i = 64} {j = 4 * zeros + 4 * (15 - k)} (omega arith) in
-    let none : n / 2 ^ (4 * zeros + 4 * (15 - k)) ≡ 0 = div-eq_of_lt (omega (arith, high)) in
-    ap (λ x. x % 16) (div-div-eq-div-mul n (2 ^ (4 * zeros)) (2 ^ (4 * (15 - k)))
-    ∙ ap (λ x. n / x) (sym (pow-add 2 (4 * zeros) (4 * (15 - k)))) ∙ none)
 
 -- the lemmas for converting the leading digits to an integer
 pub ruleset to_u128 = (leading_next, leading_u128)

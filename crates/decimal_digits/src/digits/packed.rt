@@ -16,7 +16,7 @@ use bytes::{
     append_digits, append_word, append_zeros, are_equal, copy_bytes, cut_digits, drop_unused,
     keep_digits, pack_digits, push_digit, replace_digits, reserve_digits, set_digit, word_at,
 };
-pub use dotted::{dotted_text, prepend_zeros};
+pub use dotted::dotted_text;
 use nibbles::byte_count;
 pub(super) use nibbles::nibble_at;
 use smallvec::SmallVec;

@@ -3,14 +3,13 @@ ghost use Rattle.std.specs.Prelude.{◌≡◌, ◌↔◌, ℕ, ◌+◌, ◌-◌,
 ghost use Rattle.std.specs.Int.{int_gap};
 ghost use Rattle.std.specs.Io.KnownBytes.{Keeps, Appends};
 ghost use Rattle.decimal_digits.specs.Number.{offset, digit};
-ghost use Rattle.decimal_digits.specs.Nibbles.{word_nibbles};
 ghost use Rattle.decimal_digits.specs.AppendsPrefix.{AppendsPrefix};
 ghost use Rattle.decimal_unsigned.specs.Unsigned.{IsValue};
 ghost use Rattle.decimal_unsigned.specs.Text.{text};
 ghost use Rattle.decimal_unsigned.specs.Reading.{read};
 
 use super::UnsignedOver;
-use decimal_digits::digits::{DigitStore, dotted_text, prepend_zeros};
+use decimal_digits::digits::{DigitStore, dotted_text};
 use decimal_digits::ops::{count_between, index_of, magnitude_of};
 use decimal_digits::sink::{Sink, SinkFault, Writeable};
 
@@ -79,19 +78,6 @@ impl<D: DigitStore> UnsignedOver<D> {
         count_between(self.lowest(), self.highest()) <= MAX_SHORT
     }
 
-    /// Returns sixteen digits, from the highest magnitude that is shown down, as a packed BCD number.
-    ///
-    /// Requires at most sixteen magnitudes that are shown.
-    #[inline]
-    fn shown_bcd(&self) -> u64
-        requires { int_gap self.now.lo self.now.hi < 16 }
-        ensures { (k : ℕ) → k < 16
-            → slice_index (word_nibbles result) k ≡ digit self.now.number (self.now.hi -ℤ pos k) }
-    {
-        let zeros = count_between(self.magnitude, self.hi) - 1;
-        prepend_zeros(self.digits.bcd_at(0), zeros as usize)
-    }
-
     /// Returns the text, followed by other bytes.
     ///
     /// Requires at most sixteen magnitudes that are shown.
@@ -100,7 +86,7 @@ impl<D: DigitStore> UnsignedOver<D> {
         requires { int_gap self.now.lo self.now.hi < 16 }
         ensures { take (length (text self.now)) result ≡ text self.now }
     {
-        dotted_text(self.shown_bcd(), self.dot())
+        dotted_text(self.leading_bcd(), self.dot())
     }
 
     /// Writes the bytes of the text from index `from`, one to each byte of the buffer.

@@ -1,10 +1,10 @@
 //! The text of a packed BCD number.
-ghost use Rattle.std.specs.Prelude.{◌≡◌, ◌-◌, ◌≤◌, ◌∷◌, ◌++◌, take, drop, replicate};
+ghost use Rattle.std.specs.Prelude.{◌≡◌, ◌≤◌, ◌∷◌, ◌++◌, take, drop};
 ghost use Rattle.decimal_digits.specs.Ascii.{decimal_point};
 ghost use Rattle.decimal_digits.specs.Digits.{text_of};
 ghost use Rattle.decimal_digits.specs.Nibbles.{word_nibbles};
 
-use super::words::{cut_nibbles, join_nibbles};
+use super::words::cut_nibbles;
 use std::simd::prelude::*;
 
 /// Returns the nibbles of a word as ASCII.
@@ -17,17 +17,6 @@ fn word_text(word: u64) -> [u8; 16]
     let low = bytes % u8x8::splat(16);
     let all: u8x16 = high.shuffle(low, [0, 8, 1, 9, 2, 10, 3, 11, 4, 12, 5, 13, 6, 14, 7, 15]);
     (all + u8x16::splat(b'0')).to_array()
-}
-
-/// Returns a packed BCD number of sixteen digits with zeros before the first of them; the last ones are removed.
-///
-/// Of `0x2500_0000_0000_0000` and 1 it is `0x0250_0000_0000_0000`. Requires at most 16 zeros.
-#[inline]
-pub fn prepend_zeros(number: u64, zeros: usize) -> u64
-    requires { zeros ≤ 16 }
-    ensures { word_nibbles result ≡ replicate zeros 0 ++ take (16 - zeros) (word_nibbles number) }
-{
-    join_nibbles(0, zeros, number)
 }
 
 /// Returns the sixteen digits of a packed BCD number as ASCII, with a decimal point after the first `dot` of them.
