@@ -144,9 +144,6 @@ pub(super) fn word_at(bytes: &[u8], len: usize, start: usize) -> u64
     front_word(rest)
 }
 
-/// The greatest number of bytes that are compared without a call: those of 48 digits.
-const MAX_INLINE_COMPARE: usize = 24;
-
 /// Returns whether two lists of eight bytes are equal.
 ///
 /// They are compared as words: byte by byte, a list is loaded in eight parts where a loop compares it with many.
@@ -171,25 +168,51 @@ fn have_equal_fronts(left: &[u8], right: &[u8]) -> bool
     }
 }
 
-/// Returns whether two lists of the same number of bytes, at least eight, are equal.
+/// Returns whether two lists of the same number of bytes, 8 to 16, are equal.
+#[inline]
+fn equal_in_two_words(left: &[u8], right: &[u8]) -> bool
+    requires enough { 8 ≤ length left.now }
+    requires few { length left.now ≤ 16 }
+    requires same_length { length left.now ≡ length right.now }
+    ensures { IsTrue result ↔ (left.now ≡ right.now) }
+{
+    // The last eight bytes may overlap the first.
+    let end = left.len() - 8;
+    have_equal_fronts(left, right) && (end == 0 || have_equal_fronts(&left[end..], &right[end..]))
+}
+
+/// Returns whether two lists of the same number of bytes, 16 to 32, are equal.
+#[inline]
+fn equal_in_four_words(left: &[u8], right: &[u8]) -> bool
+    requires enough { 16 ≤ length left.now }
+    requires few { length left.now ≤ 32 }
+    requires same_length { length left.now ≡ length right.now }
+    ensures { IsTrue result ↔ (left.now ≡ right.now) }
+{
+    let end = left.len() - 16;
+    equal_in_two_words(&left[..16], &right[..16]) && equal_in_two_words(&left[end..], &right[end..])
+}
+
+/// Returns whether two lists of the same number of bytes, at least eight, are equal. Up to 64 bytes need no call.
 #[inline]
 pub(super) fn are_equal(left: &[u8], right: &[u8]) -> bool
     requires enough { 8 ≤ length left.now }
     requires same_length { length left.now ≡ length right.now }
     ensures { IsTrue result ↔ (left.now ≡ right.now) }
 {
-    if !have_equal_fronts(left, right) {
-        return false;
-    }
     let len = left.len();
-    if len > MAX_INLINE_COMPARE {
+    if len <= 16 {
+        return equal_in_two_words(left, right);
+    }
+    if len <= 32 {
+        return equal_in_four_words(left, right);
+    }
+    if len > 64 {
         return left == right;
     }
-    if len > 16 && !have_equal_fronts(&left[8..], &right[8..]) {
-        return false;
-    }
-    // The last eight bytes may overlap those that were compared.
-    len == 8 || have_equal_fronts(&left[len - 8..], &right[len - 8..])
+    let end = len - 32;
+    equal_in_four_words(&left[..32], &right[..32])
+        && equal_in_four_words(&left[end..], &right[end..])
 }
 
 /// Keeps the first `count` digits.
