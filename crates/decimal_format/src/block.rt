@@ -1,5 +1,5 @@
 //! A sink of a fixed size, on the stack.
-ghost use Rattle.std.specs.Prelude.{◌≡◌, ℕ, List, [], ◌∷◌, ◌++◌, ◌+◌, ◌<◌, ◌≤◌, length, take, Some, OnOk, OnErr, Bool, true, false, if◌then◌else◌};
+ghost use Rattle.std.specs.Prelude.{◌≡◌, ℕ, List, [], ◌∷◌, ◌++◌, ◌+◌, ◌<◌, ◌≤◌, ◌↔◌, IsTrue, length, take, Some, OnOk, OnErr, Bool, true, false, if◌then◌else◌};
 
 use fixed_decimal::{Sink, SinkFault};
 use std::marker::Model;
@@ -44,6 +44,14 @@ impl Block {
         &self.bytes[..self.len]
     }
 
+    /// Returns whether there is room for a number of bytes.
+    #[inline]
+    pub(crate) fn has_room(&self, count: usize) -> bool
+        ensures { IsTrue result ↔ (length self.now.0 + count ≤ 192) }
+    {
+        count <= SIZE - self.len
+    }
+
     /// Appends a byte if a condition holds. Requires room for it.
     #[inline]
     pub(crate) fn push_if(&mut self, byte: u8, condition: bool)
@@ -64,7 +72,7 @@ impl Block {
         ensures had_not_failed { OnOk result (self.old.1 ≡ false) }
         ensures err { OnErr result (self.new ≡ (self.old.0, true)) }
     {
-        if self.failed || bytes.len() > SIZE - self.len {
+        if self.failed || !self.has_room(bytes.len()) {
             self.failed = true;
             return Err(SinkFault);
         }

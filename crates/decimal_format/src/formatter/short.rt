@@ -7,6 +7,12 @@ use super::FormattedDecimal;
 use crate::block::Block;
 use fixed_decimal::DigitStore;
 
+/// The greatest number of digits of a short text: those of a word of packed BCD.
+pub(super) const SHORT: u32 = 16;
+
+/// The number of bytes that a short text has room in, three for each digit.
+pub(super) const SHORT_ROOM: usize = 48;
+
 impl<'f, D: DigitStore> FormattedDecimal<'f, D> {
     /// Returns the separators if each has one byte and the digits are the ASCII digits.
     #[inline]

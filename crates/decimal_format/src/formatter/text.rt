@@ -9,6 +9,7 @@ ghost use Rattle.decimal_format.specs.Parts.{magnitude_of, part_text, AreDigits,
 ghost use Rattle.decimal_format.specs.Scanning.{separator_if};
 
 use super::FormattedDecimal;
+use super::short::{SHORT, SHORT_ROOM};
 use crate::block::Block;
 use crate::symbols::DecimalSymbols;
 use fixed_decimal::{DigitStore, Sink, SinkFault, Writeable};
@@ -165,15 +166,15 @@ impl<'f, D: DigitStore> FormattedDecimal<'f, D> {
         }
     }
 
-    /// Appends the text of up to 32 magnitudes, without the sign, if it fits the block.
+    /// Appends the text of up to 32 magnitudes without the sign, if it fits the block.
     #[inline]
-    fn write_digits_of(&self, block: &mut Block) -> Result<(), SinkFault>
+    fn put_absolute(&self, block: &mut Block) -> Result<(), SinkFault>
         requires { shown_count self.now.value.absolute ≤ 32 }
         ensures { OnOk result (block.new.0
             ≡ block.old.0 ++ absolute_text self.now.symbols self.now.strategy self.now.value.absolute) }
     {
         let count = self.shown_count();
-        if count <= 16 && block.as_bytes().len() <= 144 {
+        if count <= SHORT && block.has_room(SHORT_ROOM) {
             if let Some((decimal, grouping)) = self.byte_separators() {
                 self.push_digits(decimal, grouping, block);
                 return Ok(());
@@ -182,14 +183,14 @@ impl<'f, D: DigitStore> FormattedDecimal<'f, D> {
         self.write_part(0, count, block)
     }
 
-    /// Appends the text of up to 32 magnitudes, with the sign, if it fits the block.
+    /// Appends the text of up to 32 magnitudes with the sign, if it fits the block.
     #[inline]
     fn write_short(&self, block: &mut Block) -> Result<(), SinkFault>
         requires { shown_count self.now.value.absolute ≤ 32 }
         ensures { OnOk result (block.new.0 ≡ block.old.0 ++ formatted_text self.now) }
     {
         block.put_bytes(self.prefix().as_bytes())?;
-        self.write_digits_of(block)?;
+        self.put_absolute(block)?;
         block.put_bytes(self.suffix().as_bytes())
     }
 

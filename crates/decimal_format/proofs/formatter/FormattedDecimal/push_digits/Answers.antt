@@ -14,10 +14,9 @@ loop-below-init g c =
     let f = c.args.self.now in
     let v = f.value.absolute in
     let block = c.args.block.now in
+    let none = formatted_down-zero f.symbols f.strategy v.hi v.number v.hi in
     record {
-      text =
-          ap (λ l. (l, block.1)) (sym (ap (λ l. block.0 ++ l) (formatted_down-zero f.symbols f.strategy v.hi v.number v.hi)
-          ∙ append-nil block.0));
+      text = ap (λ l. (l, block.1)) (sym (ap (λ l. block.0 ++ l) none ∙ append-nil block.0));
       room = omega arith;
     }
 
@@ -37,9 +36,9 @@ loop-below-preserved g c =
     narrow_kept {z = c.highest.result} c.highest.type_inv ∙ c.highest.ensures.value in
     let m : to_z w16 (of_z w16 c.magnitude.result) ≡ v.hi -ℤ pos below =
     narrow_kept {z = c.magnitude.result} c.magnitude.type_inv ∙ c.magnitude.ensures.value in
+    let grouped = c.is_grouped-is_grouped.ensures ∙ (λ i. is_grouped (strategy i) (sizes i) (hi i)) in
     let after =
-    c.separates_if.ensures
-    ∙ (λ i. (c.is_grouped-is_grouped.ensures ∙ (λ j. is_grouped (strategy j) (sizes j) (hi j))) i && ends_group (sizes i) (m i))
+    c.separates_if.ensures ∙ (λ i. grouped i && ends_group (sizes i) (m i))
     ∙ sym (separates_if f.strategy f.symbols.sizes v.hi (v.hi -ℤ pos below)) in
     record {
       text =
