@@ -42,7 +42,7 @@ pub length-word_nibbles : (n : ℕ) → length (word_nibbles n) ≡ 16
 unfolding word_nibbles
 length-word_nibbles n = omega (arith, length-nibbles (to_be_bytes w64 n))
 
-word_below : (n : ℕ) → AllBelowBase 16 (word_nibbles n)
+pub word_below : (n : ℕ) → AllBelowBase 16 (word_nibbles n)
 unfolding word_nibbles
 word_below n = bytes_below 8 n
 
