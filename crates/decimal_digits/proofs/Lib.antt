@@ -18,3 +18,4 @@ pub mod LeadingBytes
 pub mod WideBytes
 pub mod Words
 pub mod Overlaps
+pub mod TrailingNibbles

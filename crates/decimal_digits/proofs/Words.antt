@@ -13,12 +13,12 @@ use Rattle.std.proofs.lemmas.List.{length-append, length-drop, length-map, lengt
 use Rattle.std.proofs.lemmas.List.Elements.{All-append, All-from_recursion, All-get_or, All-replicate}
 use Rattle.std.proofs.lemmas.Int.Digits.{number_lt, number_after_append, number_more, number_push}
 use Rattle.decimal_digits.specs.Nibbles.{nibbles, word_nibbles, digits_in, leading_bytes, padded, bcd_number, IsPacked}
-use Rattle.decimal_digits.specs.Packing.{EncodesPadded, IsPadded, length-nibbles, length_digits}
+use Rattle.decimal_digits.specs.Packing.{Encodes, EncodesPadded, IsPadded, length-nibbles, length_digits}
 use Rattle.decimal_digits.proofs.DigitLists.{below_drop, below_take, number_after, number_pad, number_split, number-div}
 use Rattle.decimal_digits.proofs.LeadingBytes.{hex_pow, leading_digits, bytes_number, nibbles_of_bytes, length-padded, get_or-padded, sixteen_nibbles}
 use Rattle.decimal_digits.proofs.Nibbles.{nibble_rules, value_of}
 use Rattle.decimal_digits.proofs.DigitTexts.{ascii_at}
-use Rattle.decimal_digits.proofs.Packing.{digit_at, pads, rest_at}
+use Rattle.decimal_digits.proofs.Packing.{digit_at, encodes, pads, rest_at}
 
 eight_bytes : (bs : List ℕ) → length bs ≡ 8 → from_be_bytes w64 bs ≡ number_from_digits 256 bs
 eight_bytes (a ∷ (b ∷ (c ∷ (d ∷ (e ∷ (f ∷ (g ∷ (h ∷ [])))))))) l = omega arith
@@ -42,7 +42,7 @@ pub length-word_nibbles : (n : ℕ) → length (word_nibbles n) ≡ 16
 unfolding word_nibbles
 length-word_nibbles n = omega (arith, length-nibbles (to_be_bytes w64 n))
 
-word_below : (n : ℕ) → AllBelowBase 16 (word_nibbles n)
+pub word_below : (n : ℕ) → AllBelowBase 16 (word_nibbles n)
 unfolding word_nibbles
 word_below n = bytes_below 8 n
 
@@ -402,6 +402,32 @@ cut_end_pads bytes len count j w n p many l few at e f =
     ap (λ l. get_or l k 0) f ∙ rest_at (word_nibbles w) j j k (j + k) refl
     ∙ ap (λ l. get_or l (j + k) 0) e ∙ rest_at (nibbles bytes) start 0 (j + k) (count + k) index
     ∙ sym (get_or-drop count ds k 0 ∙ digit_at bytes len p (count + k)))
+
+-- bytes from an index on, whose nibbles are the digits after the first ones of padded bytes
+pub cut_encodes : (bs cs : List ℕ) (len count left : ℕ) → IsPadded bs len → count ≤ len → length cs ≡ length bs
+    → left ≡ (len - count + 1) / 2
+    → ((k : ℕ) → get_or (nibbles cs) (2 * (count / 2) + k) 0 ≡ get_or (nibbles bs) (count + k) 0)
+    → Encodes (drop (count / 2) (take (count / 2 + left) cs)) (len - count) (drop count (digits_in bs len))
+cut_encodes bs cs len count left p le same_length half same =
+    let ds = digits_in bs len in
+    let c = count / 2 in
+    let out = drop c (take (c + left) cs) in
+    let size = length_digits bs len p in
+    let all : length out ≡ left =
+    omega (arith, length-drop c (take (c + left) cs), length-take-le (c + left) cs (omega (arith, p.count))) in
+    let at : (k : ℕ) → k < 2 * left → get_or (nibbles out) k 0 ≡ get_or (nibbles bs) (count + k) 0 =
+    λ k h.
+    ap (λ l. get_or l k 0) (nibbles_drop c (take (c + left) cs) ∙ ap (drop (2 * c)) (nibbles_take (c + left) cs))
+    ∙ get_or-drop (2 * c) _ k 0 ∙ get_or-take (2 * (c + left)) (nibbles cs) (2 * c + k) 0 (omega arith) ∙ same k in
+    encodes out (drop count ds) (len - count) (
+      record {
+        many = omega (arith, length-drop count ds);
+        same = λ k h. at k (omega arith) ∙ sym (get_or-drop count ds k 0 ∙ digit_at bs len p (count + k));
+        decimal = λ k h. rw (get_or-drop count ds k 0) (p.decimal (count + k) 0 (omega arith));
+        unused = λ h. at (len - count) (omega arith) ∙ p.zeros (count + (len - count)) (omega arith);
+      },
+      omega arith,
+    )
 
 -- the bytes of a word with digits after those of padded bytes and zeros
 pub join_pads : (bytes : List ℕ) (len start w v n : ℕ) (es : List ℕ) → IsPadded bytes len → len ≤ start

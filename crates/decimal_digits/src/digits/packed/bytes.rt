@@ -302,46 +302,44 @@ pub(super) fn cut_digits(bytes: &mut SmallVec<u8, 8>, len: usize, count: usize)
     if len <= 16 {
         let word = cut_nibbles(front_word(bytes.as_slice()), count);
         set_word(bytes, word);
-    } else {
-        cut_some(bytes, len, count);
-    }
-}
-
-/// Removes the first `count` of more than sixteen digits.
-#[inline(never)]
-fn cut_some(bytes: &mut SmallVec<u8, 8>, len: usize, count: usize)
-    requires padded { IsPadded bytes.old.items len }
-    requires many { 16 < len }
-    requires in_range { count ≤ len }
-    ensures encodes { EncodesPadded bytes.new.items (len - count) (drop count (digits_in bytes.old.items len)) }
-    ensures capacity { bytes.new.capacity ≡ bytes.old.capacity }
-{
-    if len - count < 16 {
-        // The last eight bytes hold all digits that are left.
-        let word = cut_nibbles(
-            end_word(bytes.as_slice(), 8),
-            count - 2 * (byte_count(len) - 8),
-        );
-        set_front(bytes, word);
-        bytes.truncate(8);
+    } else if len - count < 16 {
+        cut_to_word(bytes, len, count);
     } else {
         cut_bytes(bytes, len, count);
     }
 }
 
+/// Removes the first `count` of more than sixteen digits, which leaves fewer than sixteen.
+#[inline(never)]
+fn cut_to_word(bytes: &mut SmallVec<u8, 8>, len: usize, count: usize)
+    requires padded { IsPadded bytes.old.items len }
+    requires many { 16 < len }
+    requires in_range { count ≤ len }
+    requires few { len - count < 16 }
+    ensures encodes { EncodesPadded bytes.new.items (len - count) (drop count (digits_in bytes.old.items len)) }
+    ensures capacity { bytes.new.capacity ≡ bytes.old.capacity }
+{
+    // The last eight bytes hold all digits that are left.
+    let word = cut_nibbles(
+        end_word(bytes.as_slice(), 8),
+        count - 2 * (byte_count(len) - 8),
+    );
+    set_front(bytes, word);
+    bytes.truncate(8);
+}
+
 /// Removes the first `count` digits, byte by byte.
-#[inline]
+#[inline(never)]
 fn cut_bytes(bytes: &mut SmallVec<u8, 8>, len: usize, count: usize)
     requires padded { IsPadded bytes.old.items len }
     requires in_range { count ≤ len }
     ensures encodes { Encodes bytes.new.items (len - count) (drop count (digits_in bytes.old.items len)) }
     ensures capacity { bytes.new.capacity ≡ bytes.old.capacity }
 {
-    drop_bytes(bytes, count / 2, byte_count(len) - count / 2);
     if count % 2 == 1 {
-        remove_high_nibble(bytes.as_mut_slice(), 0, 0);
-        bytes.truncate(byte_count(len - count));
+        remove_high_nibble(bytes.as_mut_slice(), count / 2, 0);
     }
+    drop_bytes(bytes, count / 2, byte_count(len - count));
 }
 
 /// Appends `start - len` zeros and then other digits, sixteen digits in all.

@@ -1,7 +1,7 @@
 //! Words: the first eight bytes of packed BCD as one big-endian number, whose highest nibble is the first digit.
 #![tactic(auto, using(crate::proofs::Nibbles::nibble_rules))]
 
-ghost use Rattle.std.specs.Prelude.{◌≡◌, ◌-◌, ◌*◌, ◌%◌, ◌<◌, ◌≤◌, ◌∷◌, ◌++◌, length, map, take, drop, replicate};
+ghost use Rattle.std.specs.Prelude.{◌≡◌, ◌≢◌, ℕ, ◌+◌, ◌-◌, ◌*◌, ◌%◌, ◌<◌, ◌≤◌, ◌∷◌, ◌++◌, length, map, take, drop, replicate, slice_index};
 ghost use Rattle.decimal_digits.specs.Nibbles.{nibbles, word_nibbles};
 
 /// Returns the word of the first eight bytes.
@@ -80,6 +80,23 @@ pub(super) fn join_nibbles(word: u64, start: usize, other: u64) -> u64
         return word;
     }
     word + (other >> (4 * start))
+}
+
+/// Counts the nibbles equal to `nibble` at the end of the first `count`.
+#[inline]
+pub(super) fn count_equal_nibbles(word: u64, count: usize, nibble: u8) -> usize
+    requires few { count ≤ 16 }
+    requires is_nibble { nibble < 16 }
+    ensures within { result ≤ count }
+    ensures equal { (k : ℕ) → count ≤ k + result → k < count → slice_index (word_nibbles word) k ≡ nibble }
+    ensures maximal { result < count → slice_index (word_nibbles word) (count - result - 1) ≢ nibble }
+{
+    if count == 0 {
+        return 0;
+    }
+    // A nibble is 0 here if it is equal.
+    let others = (word ^ (0x1111_1111_1111_1111 * u64::from(nibble))) >> (4 * (16 - count));
+    ((others.trailing_zeros() / 4) as usize).min(count)
 }
 
 /// Returns the word of the low nibbles of up to sixteen digits, with zeros after them.

@@ -1,23 +1,25 @@
-use Rattle.std.proofs.Common.{◌-◌, get_or, ap, arith}
-use Rattle.std.proofs.lemmas.Grind.{get_or_after_one}
+use Rattle.std.proofs.Common.{◌≡◌, ◌+◌, ◌*◌, ◌/◌, length, get_or, ap, refl, arith}
+use Rattle.decimal_digits.specs.Nibbles.{nibbles}
 use Rattle.decimal_digits.specs.Packing.{padding}
 use Rattle.decimal_digits.proofs.Nibbles.{nibble_rules}
-use Rattle.decimal_digits.proofs.Packing.{encodes}
+use Rattle.decimal_digits.proofs.Words.{cut_encodes}
 use Rattle.decimal_digits.proofs.digits.packed.bytes.cut_bytes.Goals as goal
+use Rattle.decimal_digits.proofs.digits.packed.bytes.cut_bytes.Goals.{then-count-eq1, else-count-eq1}
 
-pub returns-then-count-eq1-clause-encodes : goal.returns-then-count-eq1-clause-encodes
-returns-then-count-eq1-clause-encodes c =
-    let e = c.remove_high_nibble.ensures in
-    rw c.truncate.ensures.items (encodes _ _ _ (
-      record {
-        many = grind (arith, nibble_rules, padding);
-        same = λ k h. grind (arith, nibble_rules, get_or_after_one, ap (λ l. get_or l k 0) e);
-        decimal = grind (arith, nibble_rules, padding);
-        unused = grind (arith, nibble_rules, get_or_after_one, ap (λ l. get_or l (c.args.len - c.args.count) 0) e);
-      },
-      grind (arith, nibble_rules, padding),
-    ))
-
-pub returns-else-count-eq1-clause-encodes : goal.returns-else-count-eq1-clause-encodes
-returns-else-count-eq1-clause-encodes c =
-    rw c.drop_bytes.ensures.items (encodes _ _ _ (grind (arith, nibble_rules, padding)))
+pub returns-clause-encodes : goal.returns-clause-encodes
+returns-clause-encodes c =
+    let p = c.requires.padded in
+    let n = c.args.count in
+    elim c.if-count-eq1.branch [
+      | then-count-eq1 w ↦
+          let e = w.remove_high_nibble.ensures in
+          rw (c.drop_bytes.ensures.items, ap (λ v. v.items) w.bytes-is)
+          (cut_encodes _ _ c.args.len n _ p c.requires.in_range
+          (grind (arith, nibble_rules, padding, ap length e)) c.byte_count.ensures
+          (λ k. grind (arith, nibble_rules, padding, ap (λ l. get_or l (2 * (n / 2) + k) 0) e)))
+      | else-count-eq1 w ↦
+          let even : 2 * (n / 2) ≡ n = omega (arith, w.if-count-eq1.false) in
+          rw (c.drop_bytes.ensures.items, ap (λ v. v.items) w.bytes-is)
+          (cut_encodes _ _ c.args.len n _ p c.requires.in_range refl c.byte_count.ensures
+          (λ k. ap (λ i. get_or (nibbles c.args.bytes.now.items) (i + k) 0) even))
+    ]

@@ -1,3 +1,5 @@
+use Rattle.std.proofs.Common.{arith}
+use Rattle.decimal_digits.proofs.Packing.{encodes_many}
 use Rattle.decimal_digits.proofs.Words.{cut_pads}
 use Rattle.decimal_digits.proofs.digits.packed.bytes.cut_digits.Goals as goal
 
@@ -7,3 +9,6 @@ returns-then-len-le16-clause-encodes c =
     (cut_pads c.args.bytes.now.items c.args.len c.args.count c.front_word.result c.cut_nibbles-word.result
     c.requires.padded c.requires.in_range c.if-len-le16.true (rw c.as_slice.ensures at c.front_word.ensures)
     c.cut_nibbles-word.ensures)
+
+pub returns-else-len-count-lt16-clause-encodes : goal.returns-else-len-count-lt16-clause-encodes
+returns-else-len-count-lt16-clause-encodes c = encodes_many _ _ _ (omega arith) c.cut_bytes.ensures.encodes
