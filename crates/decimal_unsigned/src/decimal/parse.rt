@@ -215,8 +215,8 @@ impl<D: DigitStore> UnsignedOver<D> {
     /// # Errors
     ///
     /// As for [`Self::try_from_utf8`].
-    // Inlined always, after a test for a short text: else the space of the result would be filled with zeros before that
-    // test. The `Result` is not forwarded as it is: a short value would then be copied through memory too.
+    // Inlined always: after a test for a short text, the space of the result is filled with zeros only if the test
+    // fails. The `Result` is not forwarded as it is: a short value would then be copied through memory too.
     #[doc(hidden)]
     #[inline(always)]
     pub fn scan_from(alloc: Global, text: &[u8]) -> Result<Self, ParseError>
