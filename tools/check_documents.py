@@ -21,7 +21,7 @@ FOREIGN = set(
 )
 # Modules and functions that are public for the crates of this repository alone.
 INTERNAL = re.compile(r"/src/(?:rounding/|digits/packed/|decimal/parse/|reader/|laws|reading_laws|table|tag)")
-HIDDEN = {"from_short_text", "scan_from"}
+HIDDEN = {"from_bcd_digits", "from_short_text", "scan_from"}
 NAME = re.compile(r"[A-Za-z_][\w:<>&', ]*(\([\w:<>&', ]*\))?")
 OUTSIDE = re.compile(r"\b(?:document|paper|issue|session|request|promise|definition) \d|\b[DTRW]\d{1,2}\b"
                      r"|/(?:work|tmp|root|home)/")

@@ -12,10 +12,11 @@ use Rattle.std.proofs.lemmas.Grind.{same_number_lists}
 use Rattle.std.proofs.lemmas.List.{length-append, length-drop, length-map, length-replicate, length-take, length-take-le, append-nil, append_assoc, get_or_default, get_or_past, get_or-drop, get_or-replicate, get_or-take, map_more}
 use Rattle.std.proofs.lemmas.List.Elements.{All-append, All-from_recursion, All-get_or, All-replicate}
 use Rattle.std.proofs.lemmas.Int.Digits.{number_lt, number_after_append, number_more, number_push}
+use Rattle.std.proofs.Math.Seq.{drop-append_seam}
 use Rattle.decimal_digits.specs.Nibbles.{nibbles, word_nibbles, digits_in, leading_bytes, padded, bcd_number, IsPacked}
 use Rattle.decimal_digits.specs.Packing.{Encodes, EncodesPadded, IsPadded, length-nibbles, length_digits}
 use Rattle.decimal_digits.proofs.DigitLists.{below_drop, below_take, number_after, number_pad, number_split, number-div}
-use Rattle.decimal_digits.proofs.LeadingBytes.{hex_pow, leading_digits, bytes_number, nibbles_of_bytes, length-padded, get_or-padded, sixteen_nibbles}
+use Rattle.decimal_digits.proofs.LeadingBytes.{below_sixteen, hex_pow, leading_digits, bytes_number, nibbles_of_bytes, length-padded, get_or-padded, sixteen_nibbles}
 use Rattle.decimal_digits.proofs.Nibbles.{nibble_rules, value_of}
 use Rattle.decimal_digits.proofs.DigitTexts.{ascii_at}
 use Rattle.decimal_digits.proofs.Packing.{digit_at, encodes, pads, rest_at}
@@ -98,7 +99,7 @@ nibbles_drop (suc k) (b ∷ bs) =
 pub zero_word : (n : ℕ) → n ≡ 0 → word_nibbles n ≡ replicate 16 0
 zero_word n e = word_of_nibbles (replicate 16 0) n refl (omega arith) e
 
--- ---- shifts
+-- ---- zeros
 zeros_below : (k : ℕ) → AllBelowBase 16 (replicate k 0)
 zeros_below zero = tt
 zeros_below (suc k) = (omega arith, zeros_below k)
@@ -107,6 +108,20 @@ append_below : (xs ys : List ℕ) → AllBelowBase 16 xs → AllBelowBase 16 ys 
 append_below [] ys h g = g
 append_below (x ∷ xs) ys h g = (h.0, append_below xs ys h.1 g)
 
+-- the nibbles after up to sixteen digits are 0
+pub zeros_of_digits : (ds : List ℕ) (len n : ℕ) → length ds ≡ len → len ≤ 16 → AllBelowBase 10 ds
+    → n ≡ number_from_digits 16 ds * 16 ^ (16 - len)
+    → drop len (word_nibbles n) ≡ replicate (16 - len) 0
+zeros_of_digits ds len n l few h e =
+    let zeros = replicate (16 - len) 0 in
+    let size : length (ds ++ zeros) ≡ 16 =
+    omega (arith, length-append ds zeros, length-replicate {A = ℕ} (16 - len) 0) in
+    let all =
+    word_of_nibbles (ds ++ zeros) n size (append_below ds zeros (below_sixteen ds h) (zeros_below (16 - len)))
+    (e ∙ sym (number_pad 16 (16 - len) ds)) in
+    rw all (ap (λ k. drop k (ds ++ zeros)) (sym l) ∙ drop-append_seam ds zeros)
+
+-- ---- shifts
 -- sixteen nibbles write a number of 64 bits
 word_lt : (ns : List ℕ) → length ns ≡ 16 → AllBelowBase 16 ns → number_from_digits 16 ns < 2 ^ 64
 word_lt ns l h = omega (arith, number_lt 16 ns h, ap (λ j. 16 ^ j) l)

@@ -3,7 +3,7 @@ ghost use Rattle.std.specs.Prelude.{◌≡◌, ℕ, ◌+◌, ◌-◌, ◌%◌, �
 ghost use Rattle.std.specs.Char.{digit_value};
 ghost use Rattle.std.specs.Str.Parse.{AllDigits};
 ghost use Rattle.decimal_digits.specs.Digits.{text_of};
-ghost use Rattle.decimal_digits.specs.Nibbles.{digits_in, leading_bytes, wide_leading_bytes, bcd_number, IsPacked};
+ghost use Rattle.decimal_digits.specs.Nibbles.{digits_in, leading_bytes, wide_leading_bytes, word_nibbles, bcd_number, IsPacked};
 
 mod counted;
 mod list;
@@ -70,6 +70,22 @@ pub trait DigitStore: Drop {
             list.push_in_room(nibble_at(&bytes, index));
         }
         Ok(list)
+    }
+
+    /// Makes a list of the first `len` nibbles of a packed BCD number of sixteen nibbles, of which the others are 0.
+    ///
+    /// As [`DigitStore::from_bcd`], which clears them.
+    ///
+    /// # Errors
+    ///
+    /// As for [`DigitStore::from_digits`].
+    fn from_padded_bcd(alloc: Global, number: u64, len: usize) -> Result<Self, AllocError>
+        requires packed { IsPacked (leading_bytes number len) len }
+        requires padded { drop len (word_nibbles number) ≡ replicate (16 - len) 0 }
+        ensures ok { IfOk result (λ s. digits s ≡ digits_in (leading_bytes number len) len) }
+        ensures succeeds { len ≤ L → IsOk result }
+    {
+        Self::from_bcd(alloc, number, len)
     }
 
     /// Makes a list of the first `len` nibbles of a packed BCD number of 32 nibbles.

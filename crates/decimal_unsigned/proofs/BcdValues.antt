@@ -9,7 +9,9 @@ use Rattle.std.proofs.lemmas.Nat.Bits.{bit_at_above, bit_at-trailing_zeros}
 use Rattle.std.proofs.lemmas.List.{drop-drop, drop_all, at_drop_more}
 use Rattle.std.proofs.lemmas.List.Sums.{prefix_len-le-length, prefix_len-drop_no}
 use Rattle.std.proofs.lemmas.Int.Digits.{number_more as number_more_digits, all_below_base_from_digits}
-use Rattle.decimal_digits.specs.Nibbles.{digits_in, leading_bytes}
+use Rattle.decimal_digits.specs.Nibbles.{digits_in, leading_bytes, word_nibbles}
+use Rattle.decimal_digits.proofs.Words.{zeros_of_digits}
+use Rattle.decimal_unsigned.proofs.Common.{replicate}
 use Rattle.decimal_digits.specs.Ascii.{decimal_point}
 use Rattle.decimal_digits.specs.Packing.{Encodes, length-nibbles}
 use Rattle.decimal_digits.proofs.DigitLists.{below_at, number-div}
@@ -440,6 +442,26 @@ module _ (whole fraction number : ℕ) (ds : List ℕ) (bcd : IsBcd number (whol
       bcd_sizes =
           (omega (arith, found.0, found.1.ordered, found.1.within), omega (arith, found.0, bcd.count))
 
+      -- what holds of the nonzero digits, at the top of the shifted number
+      pub bcd_inner : (F : List ℕ → Type 0) (zeros len : ℕ) → zeros ≡ leading_zeros width number / 4
+          → len ≡ (k - zeros) - trailing_zeros width number / 4
+          → ((es : List ℕ) → length es ≡ len → len ≤ k → AllBelowBase 10 es
+          → number * 2 ^ (4 * zeros) % 2 ^ (4 * k) ≡ number_from_digits 16 es * 16 ^ (k - len) → F es)
+          → F (middle (length ds - (k - zeros)) (length ds - trailing_zeros width number / 4) ds)
+      bcd_inner F zeros len z l holds =
+          let start = length ds - (k - zeros) in
+          let end = length ds - trailing_zeros width number / 4 in
+          let inner = middle start end ds in
+          let places : k - zeros ≤ length ds = omega (arith, z, found.0) in
+          let n : IsNonzeroRange ds start end = rw z found.1 in
+          let most : zeros ≤ k = omega (arith, z, size, leading_le (bits width) number) in
+          let moved =
+          middle_number ds k number zeros start end bcd.digits bcd.number n (omega (arith, places, most))
+          (omega (arith, places, most)) in
+          let long : end - start ≡ len = omega (arith, l, n.ordered, n.within, places) in
+          holds inner (middle_length ds start end n ∙ long) (omega (arith, l)) (middle_below ds start end n bcd.digits)
+          (moved ∙ ap (λ i. number_from_digits 16 inner * 16 ^ (k - i)) long)
+
       pub bcd_value : (zeros len : ℕ) (bytes : List ℕ) (b : Bounds) → zeros ≡ leading_zeros width number / 4
           → len ≡ (k - zeros) - trailing_zeros width number / 4
           → b.magnitude ≡ pos (k - zeros) -ℤ pos (fraction + 1) → b.hi ≡ pos (whole - 1)
@@ -450,7 +472,6 @@ module _ (whole fraction number : ℕ) (ds : List ℕ) (bcd : IsBcd number (whol
       bcd_value zeros len bytes b z l m hi lo encoded =
           let start = length ds - (k - zeros) in
           let end = length ds - trailing_zeros width number / 4 in
-          let inner = middle start end ds in
           let places : k - zeros ≤ length ds = omega (arith, z, found.0) in
           let n : IsNonzeroRange ds start end = rw z found.1 in
           let at : b.magnitude ≡ (pos whole -ℤ pos 1) -ℤ pos start = omega (arith, ints, m, places, bcd.count) in
@@ -458,14 +479,7 @@ module _ (whole fraction number : ℕ) (ds : List ℕ) (bcd : IsBcd number (whol
           let units =
           number_of-middle ds start end whole fraction b.magnitude n bcd.count short
           (omega (arith, ints, at, offset_is b.magnitude, n.ordered, n.within, bcd.count)) in
-          let most : zeros ≤ k = omega (arith, z, size, leading_le (bits width) number) in
-          let moved =
-          middle_number ds k number zeros start end bcd.digits bcd.number n (omega (arith, places, most))
-          (omega (arith, places, most)) in
-          let long : end - start ≡ len = omega (arith, l, n.ordered, n.within, places) in
-          let packed =
-          encoded inner (middle_length ds start end n ∙ long) (omega (arith, l)) (middle_below ds start end n bcd.digits)
-          (moved ∙ ap (λ i. number_from_digits 16 inner * 16 ^ (k - i)) long) in
+          let packed = bcd_inner (Encodes bytes len) zeros len z l encoded in
           record {
             packed = packed.packed;
             stored = rw (packed.digits, hi, lo) stored;
@@ -493,6 +507,15 @@ module _ (whole fraction number : ℕ) (fits : number < 2 ^ 64) (some : 0 < numb
   short_value b m hi lo =
       bcd_value whole fraction number ds bcd (omega arith) (omega arith) w64 16 refl fits some _ _ _ b refl refl m hi lo
       (λ ds l few below e. leading_bytes_encode ds _ _ l few below e)
+
+  -- the nibbles after them are 0
+  pub short_zeros : drop len (word_nibbles (number * 2 ^ (4 * (leading_zeros w64 number / 4)) % 2 ^ 64))
+      ≡ replicate (16 - len) 0
+  short_zeros =
+      bcd_inner whole fraction number ds bcd (omega arith) (omega arith) w64 16 refl fits some
+      (λ _. drop len (word_nibbles (number * 2 ^ (4 * (leading_zeros w64 number / 4)) % 2 ^ 64))
+      ≡ replicate (16 - len) 0)
+      _ _ refl refl (λ es l few below e. zeros_of_digits es _ _ l few below e)
 
 -- ---- The value of a plain text.
 module _ (text : List ℕ) (p : PlainText) (plain : IsPlainText text p) where

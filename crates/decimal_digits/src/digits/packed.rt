@@ -100,6 +100,14 @@ impl DigitStore for PackedDigits {
         })
     }
 
+    #[inline]
+    fn from_padded_bcd(alloc: Global, number: u64, len: usize) -> Result<Self, AllocError> {
+        Ok(PackedDigits {
+            bytes: SmallVec::from_buf(alloc, number.to_be_bytes()),
+            len,
+        })
+    }
+
     fn from_wide_bcd(alloc: Global, number: u128, len: usize) -> Result<Self, AllocError> {
         let bytes = copy_wide(alloc, number, len)?;
         Ok(PackedDigits { bytes, len })

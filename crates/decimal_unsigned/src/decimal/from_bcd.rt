@@ -48,7 +48,7 @@ impl<D: DigitStore> UnsignedOver<D> {
         let zeros = (number.leading_zeros() / 4) as usize;
         let size = 16 - zeros;
         let len = size - (number.trailing_zeros() / 4) as usize;
-        let digits = D::from_bcd(alloc, number << (4 * zeros), len)?;
+        let digits = D::from_padded_bcd(alloc, number << (4 * zeros), len)?;
         let magnitude = to_magnitude(subtract_counts(size, fraction + 1));
         Ok(UnsignedOver {
             digits,

@@ -161,6 +161,8 @@ impl<D: DigitStore> UnsignedOver<D> {
     /// - `Limit`: there are more than 32,768 integer or fraction digits; or, for a number other than 0, the exponent is
     ///   outside -32768 to 32767, or moves the range outside of these magnitudes.
     /// - `Memory`: out of memory; possible only with more than `L` digits.
+    // Inlined always, for the reason that `from_short_text` gives.
+    #[inline(always)]
     pub fn try_from_utf8(alloc: Global, text: &[u8]) -> Result<Self, ParseError>
         // `Memory` is possible only with more digits than fit without an allocation.
         ensures parses { IsParseResult (λ v. D.L < size v.number) result (read text.now) }
@@ -174,6 +176,7 @@ impl<D: DigitStore> UnsignedOver<D> {
     }
 
     /// Parses a value, as [`Self::try_from_utf8`] of the bytes.
+    #[inline(always)]
     pub fn try_from_str(alloc: Global, text: &str) -> Result<Self, ParseError>
         ensures parses { IsParseResult (λ v. D.L < size v.number) result (read text.now) }
         ensures grammar { ResultFollowsGrammar text.now result }
@@ -200,7 +203,7 @@ impl<D: DigitStore> UnsignedOver<D> {
     }
 
     /// Parses a value.
-    #[inline]
+    #[inline(always)]
     fn read_from(alloc: Global, text: &[u8]) -> Result<Self, ParseError>
         ensures { IsParseResult (λ v. D.L < size v.number) result (read text.now) }
     {
@@ -215,8 +218,8 @@ impl<D: DigitStore> UnsignedOver<D> {
     /// # Errors
     ///
     /// As for [`Self::try_from_utf8`].
-    // Inlined always, after a test for a short text: else the space of the result would be filled with zeros before that
-    // test. The `Result` is not forwarded as it is: a short value would then be copied through memory too.
+    // Inlined always: after a test for a short text, the space of the result is filled with zeros only if the test
+    // fails. The `Result` is not forwarded as it is: a short value would then be copied through memory too.
     #[doc(hidden)]
     #[inline(always)]
     pub fn scan_from(alloc: Global, text: &[u8]) -> Result<Self, ParseError>

@@ -1,12 +1,12 @@
 use Rattle.decimal_unsigned.proofs.Common.{arith, ints, clamps, refl, sym, w16, to_z, of_z}
-use Rattle.decimal_unsigned.proofs.BcdValues.{zero_stored, zero_is, short_sizes, short_value, wide_allocates, ok_is}
+use Rattle.decimal_unsigned.proofs.BcdValues.{zero_stored, zero_is, short_sizes, short_value, short_zeros, wide_allocates, ok_is}
 use Rattle.decimal_unsigned.proofs.decimal.UnsignedOver.from_bcd_digits.Goals as goal
 
 pub invariant_of-result : goal.invariant_of-result
 invariant_of-result g c =
     rw c.empty.ensures
-    (zero_stored c.args.whole c.args.fraction c.args.number c.requires.digits.0 c.requires.digits.1 (omega arith) (omega arith) _ _ _ refl (omega (arith, ints, clamps))
-    (omega (arith, ints)))
+    (zero_stored c.args.whole c.args.fraction c.args.number c.requires.digits.0 c.requires.digits.1 (omega arith)
+    (omega arith) _ _ _ refl (omega (arith, ints, clamps)) (omega (arith, ints)))
 
 pub returns-then-number-eq0-clause-value : goal.returns-then-number-eq0-clause-value
 returns-then-number-eq0-clause-value g c = λ ds bcd.
@@ -21,10 +21,15 @@ overflow_sub-len g c =
     c.requires.digits.0 c.requires.digits.1 in
     omega (arith, n.0)
 
-pub from_bcd-requires : goal.from_bcd-requires
-from_bcd-requires g c =
+pub from_padded_bcd-requires-clause-packed : goal.from_padded_bcd-requires-clause-packed
+from_padded_bcd-requires-clause-packed g c =
     (short_value c.args.whole c.args.fraction c.args.number (omega arith) (omega arith) c.requires.at_most
     c.requires.digits.0 c.requires.digits.1 (record { magnitude = _; hi = _; lo = _ }) refl refl refl).packed
+
+pub from_padded_bcd-requires-clause-padded : goal.from_padded_bcd-requires-clause-padded
+from_padded_bcd-requires-clause-padded g c =
+    short_zeros c.args.whole c.args.fraction c.args.number (omega arith) (omega arith) c.requires.at_most
+    c.requires.digits.0 c.requires.digits.1
 
 pub returns-in_err-digits-clause-succeeds : goal.returns-in_err-digits-clause-succeeds
 returns-in_err-digits-clause-succeeds g c = λ ds bcd few.
