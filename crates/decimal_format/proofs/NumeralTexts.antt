@@ -5,15 +5,17 @@ use Rattle.std.specs.Prelude.{map}
 use Rattle.std.specs.Prelude.{ℤ, pos, negsuc, ◌-ℤ◌}
 use Rattle.std.specs.Int.{int_gap, int_min}
 use Rattle.std.proofs.Math.Arith.{mod-mul}
-use Rattle.std.proofs.Math.Nat.{pow-suc, mod-lt, mod-eq_of_lt, mul-mod_left, mul-div_cancel, div-lt_iff_lt-mul, mul-le-mul_right, mul-lt-mul_of_pos_right, div-div-eq-div-mul}
+use Rattle.std.proofs.Math.Nat.{pow-suc, mod-lt, mod-eq_of_lt, mul-mod_left, mul-div_cancel, div-lt_iff_lt-mul, mul-lt-mul_of_pos_right, div-div-eq-div-mul}
 use Rattle.std.proofs.lemmas.Int.{ints, clamps}
 use Rattle.std.proofs.lemmas.Nat.{pow-add, div-mul-add, mod-mul-add}
+use Rattle.std.proofs.lemmas.Int.Digits.{number_lt}
 use Rattle.decimal_digits.specs.Digits.{number_at}
+use Rattle.decimal_digits.proofs.DigitLists.{number_first}
 use Rattle.decimal_digits.specs.Number.{digit, weight, offset}
 use Rattle.decimal_unsigned.specs.Text.{text_down, text}
 use Rattle.decimal_unsigned.specs.Unsigned.{IsValue}
 use Rattle.fixed_decimal.specs.Decimal.{Decimal}
-use Rattle.fixed_decimal.proofs.Calling.{offset_is, gap_is, ten_pos, powers, number-append, text_down-suc, text_down-zero}
+use Rattle.fixed_decimal.proofs.Calling.{offset_is, gap_is, ten_pos, powers, text_down-suc, text_down-zero}
 use Rattle.decimal_format.specs.declared.grouping.GroupingStrategy.{GroupingStrategy}
 use Rattle.decimal_format.specs.Symbols.{Symbols, digit_text, sign_affixes}
 use Rattle.decimal_format.specs.Grouping.{separates}
@@ -238,26 +240,12 @@ digits_of_value v valid =
     )
 
 -- ---- The value of digits.
--- the number that digits write
-abbrev pub worth : List ℕ → ℕ
-worth [] = 0
-worth (d ∷ ds) = d * 10 ^ length ds + worth ds
-
-worth-lt : (ds : List ℕ) → AllBelowBase 10 ds → worth ds < 10 ^ length ds
-worth-lt [] all = omega arith
-worth-lt (d ∷ ds) all =
-    let rest = worth-lt ds all.1 in
-    let p : 10 * 10 ^ length ds ≡ 10 ^ suc (length ds) = omega (arith, pow-suc 10 (length ds)) in
-    let nine : d * 10 ^ length ds ≤ 9 * 10 ^ length ds = (let h : d ≤ 9 = omega (arith, all.0) in
-    mul-le-mul_right (10 ^ length ds) h) in
-    omega (arith, rest, p, nine)
-
 -- the digits of a number are those that write it
-digit_list-worth : (ds : List ℕ) (number low : ℕ) (m : ℤ) → AllBelowBase 10 ds
+digit_list-number : (ds : List ℕ) (number low : ℕ) (m : ℤ) → AllBelowBase 10 ds
     → (0 < length ds → offset m + 1 ≡ low + length ds)
-    → number / 10 ^ low % 10 ^ length ds ≡ worth ds → digit_list number m (length ds) ≡ ds
-digit_list-worth [] number low m all at e = refl
-digit_list-worth (d ∷ ds) number low m all at e =
+    → number / 10 ^ low % 10 ^ length ds ≡ number_from_digits 10 ds → digit_list number m (length ds) ≡ ds
+digit_list-number [] number low m all at e = refl
+digit_list-number (d ∷ ds) number low m all at e =
     let k = length ds in
     let here : offset m ≡ low + k = omega (arith, at (omega arith)) in
     let shifted : number / 10 ^ offset m ≡ number / 10 ^ low / 10 ^ k =
@@ -269,23 +257,16 @@ digit_list-worth (d ∷ ds) number low m all at e =
     let p : 10 * 10 ^ k ≡ 10 ^ suc k = omega (arith, pow-suc 10 k) in
     let a = number / 10 ^ low / 10 ^ k % 10 in
     let b = number / 10 ^ low % 10 ^ k in
-    let both : a * 10 ^ k + b ≡ d * 10 ^ k + worth ds = sym split ∙ ap (λ x. number / 10 ^ low % x) p ∙ e in
+    let both : a * 10 ^ k + b ≡ d * 10 ^ k + number_from_digits 10 ds =
+    sym split ∙ ap (λ x. number / 10 ^ low % x) p ∙ e ∙ number_first 10 d ds in
     let b_lt = mod-lt (number / 10 ^ low) (ten_pos k) in
-    let c_lt = worth-lt ds all.1 in
+    let c_lt = number_lt 10 ds all.1 in
     let first : a ≡ d = sym (div-mul-add a (10 ^ k) b b_lt) ∙ ap (λ x. x / 10 ^ k) both
-    ∙ div-mul-add d (10 ^ k) (worth ds) c_lt in
-    let rest : b ≡ worth ds = sym (mod-mul-add a (10 ^ k) b b_lt) ∙ ap (λ x. x % 10 ^ k) both
-    ∙ mod-mul-add d (10 ^ k) (worth ds) c_lt in
-    (λ i. (ap (λ x. x % 10) shifted ∙ first) i ∷ digit_list-worth ds number low (m -ℤ pos 1) all.1
+    ∙ div-mul-add d (10 ^ k) (number_from_digits 10 ds) c_lt in
+    let rest : b ≡ number_from_digits 10 ds = sym (mod-mul-add a (10 ^ k) b b_lt) ∙ ap (λ x. x % 10 ^ k) both
+    ∙ mod-mul-add d (10 ^ k) (number_from_digits 10 ds) c_lt in
+    (λ i. (ap (λ x. x % 10) shifted ∙ first) i ∷ digit_list-number ds number low (m -ℤ pos 1) all.1
     (λ some. omega (arith, ints, here, some, offset_is m, offset_is (m -ℤ pos 1))) rest i)
-
--- it is the same by the definition of the library
-number_is : (ds : List ℕ) → number_from_digits 10 ds ≡ worth ds
-number_is [] = refl
-number_is (d ∷ ds) =
-    let first : number_from_digits 10 (d ∷ ds) ≡ (0 * 10 + d) * 10 ^ length ds + number_from_digits 10 ds =
-    number-append (d ∷ []) ds in
-    first ∙ (omega (arith, number_is ds))
 
 -- the value that digits write, if there are not too many
 pub value_of_digits : (w : Numeral) → AreDigits w → length w.whole ≤ 32768 → length w.fraction ≤ 32768
@@ -297,27 +278,27 @@ value_of_digits w digits few_whole few_fraction =
     let hi = pos (n - 1) in
     let lo = pos 0 -ℤ pos j in
     let low = offset lo in
-    let units = worth w.whole * 10 ^ j + worth w.fraction in
+    let units = number_from_digits 10 w.whole * 10 ^ j + number_from_digits 10 w.fraction in
     let number = units * 10 ^ low in
     let some = digits.some in
-    let whole_lt = worth-lt w.whole digits.whole in
-    let fraction_lt = worth-lt w.fraction digits.fraction in
+    let whole_lt = number_lt 10 w.whole digits.whole in
+    let fraction_lt = number_lt 10 w.fraction digits.fraction in
     let sum : offset (pos 0) ≡ low + j = omega (arith, ints, few_fraction, offset_is lo, offset_is (pos 0)) in
     let top : n + j + low ≡ offset hi + 1 =
     omega (arith, ints, some, few_fraction, offset_is lo, offset_is hi) in
     let cut : number / 10 ^ low ≡ units = mul-div_cancel units (ten_pos low) in
-    let upper : units / 10 ^ j ≡ worth w.whole = div-mul-add (worth w.whole) (10 ^ j) (worth w.fraction) fraction_lt in
+    let upper : units / 10 ^ j ≡ number_from_digits 10 w.whole = div-mul-add (number_from_digits 10 w.whole) (10 ^ j) (number_from_digits 10 w.fraction) fraction_lt in
     let units_lt : units < 10 ^ n * 10 ^ j =
     (div-lt_iff_lt-mul (ten_pos j)).0 (subst (λ x. x < 10 ^ n) (sym upper) whole_lt) in
     let all_lt : number < 10 ^ n * 10 ^ j * 10 ^ low = mul-lt-mul_of_pos_right units_lt (ten_pos low) in
     let power : 10 ^ n * 10 ^ j * 10 ^ low ≡ 10 ^ (offset hi + 1) =
     ap (λ x. x * 10 ^ low) (sym (powers n j (n + j) refl)) ∙ sym (powers (n + j) low (offset hi + 1) (sym top)) in
-    let above : number / 10 ^ offset (pos 0) % 10 ^ n ≡ worth w.whole =
+    let above : number / 10 ^ offset (pos 0) % 10 ^ n ≡ number_from_digits 10 w.whole =
     ap (λ x. number / x % 10 ^ n) (powers low j (offset (pos 0)) sum)
     ∙ ap (λ x. x % 10 ^ n) (sym (div-div-eq-div-mul number (10 ^ low) (10 ^ j)) ∙ ap (λ x. x / 10 ^ j) cut ∙ upper)
     ∙ mod-eq_of_lt whole_lt in
-    let below : number / 10 ^ low % 10 ^ j ≡ worth w.fraction =
-    ap (λ x. x % 10 ^ j) cut ∙ mod-mul-add (worth w.whole) (10 ^ j) (worth w.fraction) fraction_lt in
+    let below : number / 10 ^ low % 10 ^ j ≡ number_from_digits 10 w.fraction =
+    ap (λ x. x % 10 ^ j) cut ∙ mod-mul-add (number_from_digits 10 w.whole) (10 ^ j) (number_from_digits 10 w.fraction) fraction_lt in
     let v : Decimal = record { sign = w.sign; absolute = record { number = number; hi = hi; lo = lo } } in (
       v,
       record {
@@ -331,9 +312,9 @@ value_of_digits w digits few_whole few_fraction =
         some = some;
         hi = refl;
         count = omega (arith, ints, some, gap_is lo hi);
-        whole = digit_list-worth w.whole number (offset (pos 0)) hi digits.whole
+        whole = digit_list-number w.whole number (offset (pos 0)) hi digits.whole
             (λ h. omega (arith, ints, some, offset_is hi, offset_is (pos 0))) above;
-        fraction = digit_list-worth w.fraction number low (negsuc zero) digits.fraction
+        fraction = digit_list-number w.fraction number low (negsuc zero) digits.fraction
             (λ h. omega (arith, ints, h, few_fraction, offset_is lo, offset_is (negsuc zero))) below;
       },
       (let split : 10 ^ (n + 32768 - n) ≡ 10 ^ j * 10 ^ low =
@@ -343,7 +324,7 @@ value_of_digits w digits few_whole few_fraction =
           let same : number ≡ number_at (n + 32768) (w.whole ++ w.fraction) =
           sym (number_at-append (n + 32768) w.whole w.fraction
           (omega (arith, few_fraction, length-append w.whole w.fraction))
-          ∙ (rw (rest, split, number_is w.whole, number_is w.fraction) (omega arith))) in
+          ∙ (rw (rest, split) (omega arith))) in
           let lowest : lo ≡ int_min (pos n -ℤ pos (length (w.whole ++ w.fraction))) (pos 0) =
           omega (arith, ints, clamps, length-append w.whole w.fraction) in
           λ i. record { number = same i; hi = hi; lo = lowest i }),

@@ -3,6 +3,7 @@ ghost use Rattle.std.specs.Prelude.{◌≡◌, ◌≢◌, ℕ, ◌≤◌, List, 
 ghost use Rattle.std.specs.Int.Digits.{AllBelowBase};
 ghost use Rattle.decimal_unsigned.specs.Unsigned.{IsValue};
 ghost use Rattle.fixed_decimal.specs.Decimal.{Decimal};
+ghost use Rattle.decimal_format.specs.Ascii.{ascii_digits};
 ghost use Rattle.decimal_format.specs.Readable.{IsReadable};
 ghost use Rattle.decimal_format.specs.Reading.{Numeral, AreDigits, digits_text, fraction_text, IsNumeral, IsBeyondLimits, IsWritten, NeedsMemory};
 ghost use Rattle.decimal_format.specs.Lenient.{ends_group, IsLenientNumeral, IsLenientlyWritten};
@@ -42,16 +43,16 @@ impl Scanned {
     #[inline]
     fn value<D: DigitStore>(
         &self,
-        digits: DigitCollector<D>,
+        digits: &mut DigitCollector<D>,
     ) -> Result<Signed<UnsignedOver<D>>, ParseError>
-        requires { (n : ℕ) × (ds : List ℕ) × Collects D.L n digits ds }
+        requires { (n : ℕ) × (ds : List ℕ) × Collects D.L n digits.old ds }
         ensures { (w : Numeral) → 0 < length w.whole → HasCounts self.now w
-            → Collects D.L (length w.whole) digits (w.whole ++ w.fraction) → IsValueOf D.L w result }
+            → Collects D.L (length w.whole) digits.old (w.whole ++ w.fraction) → IsValueOf D.L w result }
     {
         if self.is_beyond_limits() {
             return Err(ParseError::Limit);
         }
-        let absolute = digits.into_value()?;
+        let absolute = digits.value()?;
         Ok(Signed::new(self.sign, absolute))
     }
 }
@@ -72,15 +73,16 @@ impl<'a> DecimalSymbols<'a> {
 
     /// Counts the digits at the start of a text, with grouping separators anywhere among them.
     #[inline]
-    fn count_digits(&self, text: &[u8]) -> usize
-        requires { IsReadable self.now }
+    fn count_digits<const ASCII: bool>(&self, text: &[u8]) -> usize
+        requires readable { IsReadable self.now }
+        requires ascii { ASCII ≡ true → self.now.digits ≡ ascii_digits }
         ensures { (separated : ℕ → Bool) (ds tail : List ℕ) → AllBelowBase 10 ds → EndsInteger self.now tail
             → text.now ≡ digits_text self.now separated ds ++ tail → result ≡ length ds }
     {
         let mut rest = text;
         let mut count = 0;
         loop {
-            if let Some((_, after)) = self.next_digit(rest) {
+            if let Some((_, after)) = self.next_digit::<ASCII>(rest) {
                 count += 1;
                 rest = after;
             } else if let Some(after) = cut(rest, self.grouping_separator().as_bytes()) {
@@ -113,13 +115,14 @@ impl<'a> DecimalSymbols<'a> {
     /// Reads the given number of digits, with separators at any ends of groups, and returns whether all separators are
     /// there, or none, and what follows the digits.
     #[inline]
-    fn read_digits<'t, D: DigitStore>(
+    fn read_digits<'t, const ASCII: bool, D: DigitStore>(
         &self,
         count: usize,
         text: &'t [u8],
         digits: &mut DigitCollector<D>,
     ) -> Option<(bool, &'t [u8])>
         requires readable { IsReadable self.now }
+        requires ascii { ASCII ≡ true → self.now.digits ≡ ascii_digits }
         requires collecting { (n : ℕ) × (ds : List ℕ) × Collects D.L n digits.old ds }
         ensures found { IfSome result (λ r. ReadsDigits self.now (ends_group self.now.sizes) count
             text.now r.1.now r.0 digits.old digits.new) }
@@ -137,7 +140,7 @@ impl<'a> DecimalSymbols<'a> {
         let mut none = true;
         while left > 0 {
             let (most, possible) = self.next_run(left);
-            let (number, found, after) = self.read_run(most, rest);
+            let (number, found, after) = self.read_run::<ASCII>(most, rest);
             if found < most {
                 return None;
             }
@@ -153,12 +156,13 @@ impl<'a> DecimalSymbols<'a> {
 
     /// Reads the digits of a text that has nothing else, and returns their number.
     #[inline]
-    fn read_last_digits<D: DigitStore>(
+    fn read_last_digits<const ASCII: bool, D: DigitStore>(
         &self,
         text: &[u8],
         digits: &mut DigitCollector<D>,
     ) -> Option<usize>
         requires readable { IsReadable self.now }
+        requires ascii { ASCII ≡ true → self.now.digits ≡ ascii_digits }
         requires collecting { (n : ℕ) × (ds : List ℕ) × Collects D.L n digits.old ds }
         ensures found { IfSome result (λ count. ReadsLastDigits self.now text.now [] count digits.old digits.new) }
         ensures none { IfNone result ((ds : List ℕ) → AllBelowBase 10 ds
@@ -167,7 +171,7 @@ impl<'a> DecimalSymbols<'a> {
         let mut rest = text;
         let mut count = 0;
         while !rest.is_empty() {
-            let (number, found, after) = self.read_run(MAX_RUN, rest);
+            let (number, found, after) = self.read_run::<ASCII>(MAX_RUN, rest);
             if found == 0 {
                 return None;
             }
@@ -180,12 +184,13 @@ impl<'a> DecimalSymbols<'a> {
 
     /// Reads the decimal separator and the fraction digits, if there are any, and returns their number.
     #[inline]
-    fn read_fraction<D: DigitStore>(
+    fn read_fraction<const ASCII: bool, D: DigitStore>(
         &self,
         text: &[u8],
         digits: &mut DigitCollector<D>,
     ) -> Option<usize>
         requires readable { IsReadable self.now }
+        requires ascii { ASCII ≡ true → self.now.digits ≡ ascii_digits }
         requires collecting { (n : ℕ) × (ds : List ℕ) × Collects D.L n digits.old ds }
         ensures found { IfSome result (λ count. ReadsFraction self.now text.now count digits.old digits.new) }
         ensures none { IfNone result ((ds : List ℕ) → AllBelowBase 10 ds → text.now ≢ fraction_text self.now ds) }
@@ -197,7 +202,39 @@ impl<'a> DecimalSymbols<'a> {
         if fraction.is_empty() {
             return None;
         }
-        self.read_last_digits(fraction, digits)
+        self.read_last_digits::<ASCII, D>(fraction, digits)
+    }
+
+    /// Finds the sign and the digits of a text, with separators at any ends of groups; `ASCII` only for ASCII
+    /// digits.
+    #[inline]
+    fn scan_by<const ASCII: bool, D: DigitStore>(
+        &self,
+        text: &[u8],
+        digits: &mut DigitCollector<D>,
+    ) -> Option<Scanned>
+        requires readable { IsReadable self.now }
+        requires ascii { ASCII ≡ true → self.now.digits ≡ ascii_digits }
+        requires fresh { IsFresh D.L digits.old }
+        ensures found { IfSome result (λ r. (w : Numeral) × IsLenientNumeral self.now text.now w × HasCounts r w
+            × Collects D.L (length w.whole) digits.new (w.whole ++ w.fraction)
+            × (r.is_strict ≡ true ↔ IsNumeral self.now text.now w)) }
+        ensures none { IfNone result ((w : Numeral) → ¬ IsLenientNumeral self.now text.now w) }
+    {
+        let (sign, number) = self.split_sign(text)?;
+        let integer_digits = self.count_digits::<ASCII>(number);
+        if integer_digits == 0 {
+            return None;
+        }
+        digits.begin(integer_digits);
+        let (is_strict, rest) = self.read_digits::<ASCII, D>(integer_digits, number, digits)?;
+        let fraction_digits = self.read_fraction::<ASCII, D>(rest, digits)?;
+        Some(Scanned {
+            sign,
+            integer_digits,
+            fraction_digits,
+            is_strict,
+        })
     }
 
     /// Finds the sign and the digits of a text, with separators at any ends of groups.
@@ -210,20 +247,10 @@ impl<'a> DecimalSymbols<'a> {
             × (r.is_strict ≡ true ↔ IsNumeral self.now text.now w)) }
         ensures none { IfNone result ((w : Numeral) → ¬ IsLenientNumeral self.now text.now w) }
     {
-        let (sign, number) = self.split_sign(text)?;
-        let integer_digits = self.count_digits(number);
-        if integer_digits == 0 {
-            return None;
+        if self.has_ascii_digits() {
+            return self.scan_by::<true, D>(text, digits);
         }
-        digits.begin(integer_digits);
-        let (is_strict, rest) = self.read_digits(integer_digits, number, digits)?;
-        let fraction_digits = self.read_fraction(rest, digits)?;
-        Some(Scanned {
-            sign,
-            integer_digits,
-            fraction_digits,
-            is_strict,
-        })
+        self.scan_by::<false, D>(text, digits)
     }
 
     /// Reads a decimal with separators at any of the ends of groups; or only with all of them, or none.
@@ -243,7 +270,7 @@ impl<'a> DecimalSymbols<'a> {
         if is_strict && !scanned.is_strict {
             return Err(ParseError::Syntax);
         }
-        scanned.value(digits)
+        scanned.value(&mut digits)
     }
 
     /// Reads a decimal in exactly one of the forms that a formatter with these symbols writes.

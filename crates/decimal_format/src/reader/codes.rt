@@ -1,5 +1,6 @@
 //! The codes that a text consists of: digits, separators and the prefixes of signs.
-ghost use Rattle.std.specs.Prelude.{◌≡◌, ◌≢◌, ℕ, ◌+◌, ◌<◌, ◌≤◌, List, ◌∷◌, ◌++◌, ◌↔◌, IfSome, IsSomeAnd, MatchOption, IsTrue};
+ghost use Rattle.std.specs.Prelude.{◌≡◌, ◌≢◌, ℕ, ◌+◌, ◌<◌, ◌≤◌, List, ◌∷◌, ◌++◌, ◌↔◌, IfSome, IsSomeAnd, MatchOption, IsTrue, true};
+ghost use Rattle.decimal_format.specs.Ascii.{ascii_digits};
 ghost use Rattle.decimal_format.specs.Symbols.{digit_text, sign_affixes};
 ghost use Rattle.decimal_format.specs.Readable.{code, BeginsWith, IsOther, IsApart, IsReadable};
 ghost use Rattle.decimal_format.specs.Scanning.{BeginsWithDigit, ReadsRun};
@@ -137,14 +138,15 @@ impl<'a> DecimalSymbols<'a> {
         if digit < 10 { Some(digit as u8) } else { None }
     }
 
-    /// Returns the digit that a text begins with, and what follows it.
+    /// Returns the digit that a text begins with, and what follows it; `ASCII` only for ASCII digits.
     #[inline(always)]
-    pub(crate) fn next_digit<'t>(&self, text: &'t [u8]) -> Option<(u8, &'t [u8])>
-        requires { IsReadable self.now }
+    pub(crate) fn next_digit<'t, const ASCII: bool>(&self, text: &'t [u8]) -> Option<(u8, &'t [u8])>
+        requires readable { IsReadable self.now }
+        requires ascii { ASCII ≡ true → self.now.digits ≡ ascii_digits }
         ensures { MatchOption result ((d : ℕ) (rest : List ℕ) → d < 10 → text.now ≢ digit_text self.now d ++ rest)
             (λ r. (r.0 < 10) × (text.now ≡ digit_text self.now r.0 ++ r.1.now)) }
     {
-        if self.has_ascii_digits() {
+        if ASCII {
             return next_ascii_digit(text);
         }
         self.next_other_digit(text)
@@ -176,8 +178,13 @@ impl<'a> DecimalSymbols<'a> {
     /// Reads digits that follow each other, at most the given number: returns them as packed BCD, their number, and
     /// what follows them.
     #[inline(always)]
-    pub(crate) fn read_run<'t>(&self, most: usize, text: &'t [u8]) -> (u64, usize, &'t [u8])
+    pub(crate) fn read_run<'t, const ASCII: bool>(
+        &self,
+        most: usize,
+        text: &'t [u8],
+    ) -> (u64, usize, &'t [u8])
         requires readable { IsReadable self.now }
+        requires ascii { ASCII ≡ true → self.now.digits ≡ ascii_digits }
         requires at_most { most ≤ 8 }
         ensures { ReadsRun self.now most text.now result.2.now result.0 result.1 }
     {
@@ -185,7 +192,7 @@ impl<'a> DecimalSymbols<'a> {
         let mut number = 0;
         let mut count = 0;
         while count < most {
-            let Some((digit, after)) = self.next_digit(rest) else {
+            let Some((digit, after)) = self.next_digit::<ASCII>(rest) else {
                 return (number, count, rest);
             };
             number = number * 16 + u64::from(digit);

@@ -8,6 +8,7 @@ use decimal_digits::ops::{subtract_counts, to_magnitude};
 use fixed_decimal::{ConcatenateError, DigitStore, LimitError, UnsignedOver};
 use std::alloc::{AllocError, Global};
 use std::marker::Model;
+use std::mem::replace;
 
 /// The greatest number of digits that are collected in a word before they are appended to the value.
 const MAX_COUNT: usize = 16;
@@ -213,17 +214,17 @@ impl<D: DigitStore> DigitCollector<D> {
         self.written == 0 && self.integer_digits <= self.count && !self.out_of_memory
     }
 
-    /// Makes the value of the digits, of which there is at least one.
+    /// Makes the value of the digits, of which there is at least one. The collector is not used again.
     ///
     /// # Errors
     ///
     /// Out of memory; possible only with more than `L` digits.
     #[inline]
-    pub fn into_value(mut self) -> Result<UnsignedOver<D>, AllocError>
-        requires { (n : ℕ) × (ds : List ℕ) × Collects D.L n self ds }
-        ensures ok { IfOk result (λ v. (n : ℕ) (ds : List ℕ) → 0 < length ds → Collects D.L n self ds
+    pub fn value(&mut self) -> Result<UnsignedOver<D>, AllocError>
+        requires { (n : ℕ) × (ds : List ℕ) × Collects D.L n self.old ds }
+        ensures ok { IfOk result (λ v. (n : ℕ) (ds : List ℕ) → 0 < length ds → Collects D.L n self.old ds
             → IsInLimits n ds → v ≡ value_of_first n ds) }
-        ensures memory { OnErr result ((n : ℕ) (ds : List ℕ) → 0 < length ds → Collects D.L n self ds
+        ensures memory { OnErr result ((n : ℕ) (ds : List ℕ) → 0 < length ds → Collects D.L n self.old ds
             → IsInLimits n ds → D.L < size (value_of_first n ds).number) }
     {
         if self.is_short() {
@@ -239,15 +240,7 @@ impl<D: DigitStore> DigitCollector<D> {
         if self.out_of_memory {
             return Err(AllocError);
         }
-        let DigitCollector {
-            alloc: _,
-            integer_digits: _,
-            value,
-            written: _,
-            number: _,
-            count: _,
-            out_of_memory: _,
-        } = self;
-        Ok(value)
+        let zero = UnsignedOver::zero(self.alloc);
+        Ok(replace(&mut self.value, zero))
     }
 }

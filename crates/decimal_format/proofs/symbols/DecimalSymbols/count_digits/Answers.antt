@@ -3,11 +3,11 @@ use Rattle.decimal_format.proofs.Scans.{shorter, shorter_by_separator, counted_n
 use Rattle.decimal_format.proofs.symbols.DecimalSymbols.count_digits.Goals as goal
 
 pub loop-after-init : goal.loop-after-init
-loop-after-init c = record { at_most = omega arith; counted = counted_none c.args.self.now c.args.text.now }
+loop-after-init g c = record { at_most = omega arith; counted = counted_none c.args.self.now c.args.text.now }
 
 -- ---- A digit follows.
 pub loop-after-preserved-in-Some : goal.loop-after-preserved-in-Some
-loop-after-preserved-in-Some c =
+loop-after-preserved-in-Some g c =
     let s = c.args.self.now in
     let rest = c.loop-after.rest.now in
     let after = c.in-Some.after.now in
@@ -15,21 +15,21 @@ loop-after-preserved-in-Some c =
       at_most =
           omega (
             arith,
-            shorter s c.requires rest after c.in-Some.field-0-0 c.in-Some.ensures.0 c.in-Some.ensures.1,
+            shorter s c.requires.readable rest after c.in-Some.field-0-0 c.in-Some.ensures.0 c.in-Some.ensures.1,
             c.loop-after.invariant.at_most,
           );
-      counted = counted_more s c.requires c.args.text.now rest c.loop-after.count after c.in-Some.field-0-0
+      counted = counted_more s c.requires.readable c.args.text.now rest c.loop-after.count after c.in-Some.field-0-0
           c.in-Some.ensures.0 c.in-Some.ensures.1 c.loop-after.invariant.counted;
     }
 
 pub loop-after-smaller-in-Some : goal.loop-after-smaller-in-Some
-loop-after-smaller-in-Some c =
-    shorter c.args.self.now c.requires c.loop-after.rest.now c.in-Some.after.now c.in-Some.field-0-0 c.in-Some.ensures.0
+loop-after-smaller-in-Some g c =
+    shorter c.args.self.now c.requires.readable c.loop-after.rest.now c.in-Some.after.now c.in-Some.field-0-0 c.in-Some.ensures.0
     c.in-Some.ensures.1
 
 -- ---- A separator follows.
 pub loop-after-preserved : goal.loop-after-preserved
-loop-after-preserved c =
+loop-after-preserved g c =
     let s = c.args.self.now in
     let rest = c.loop-after.rest.now in
     let after = c.in-Some-cut.after.now in
@@ -37,22 +37,22 @@ loop-after-preserved c =
     let begins : rest ≡ s.grouping ++ after = c.in-Some-cut.ensures ∙ ap (λ l. l ++ after) code in
     record {
       at_most =
-          omega (arith, shorter_by_separator s c.requires rest after begins, c.loop-after.invariant.at_most);
-      counted = counted_separator s c.requires c.args.text.now rest c.loop-after.count after begins
+          omega (arith, shorter_by_separator s c.requires.readable rest after begins, c.loop-after.invariant.at_most);
+      counted = counted_separator s c.requires.readable c.args.text.now rest c.loop-after.count after begins
           c.loop-after.invariant.counted;
     }
 
 pub loop-after-smaller : goal.loop-after-smaller
-loop-after-smaller c =
+loop-after-smaller g c =
     let s = c.args.self.now in
     let after = c.in-Some-cut.after.now in
     let code : c.as_bytes.result.now ≡ s.grouping = c.as_bytes.ensures.value ∙ c.grouping_separator.ensures.value in
-    shorter_by_separator s c.requires c.loop-after.rest.now after (c.in-Some-cut.ensures ∙ ap (λ l. l ++ after) code)
+    shorter_by_separator s c.requires.readable c.loop-after.rest.now after (c.in-Some-cut.ensures ∙ ap (λ l. l ++ after) code)
 
 -- ---- Neither follows.
 pub returns-in_default-cut : goal.returns-in_default-cut
-returns-in_default-cut c =
+returns-in_default-cut g c =
     let s = c.args.self.now in
     let code : c.as_bytes.result.now ≡ s.grouping = c.as_bytes.ensures.value ∙ c.grouping_separator.ensures.value in
-    counted_all s c.requires c.args.text.now c.loop-after.rest.now c.loop-after.count c.in_default.ensures
+    counted_all s c.requires.readable c.args.text.now c.loop-after.rest.now c.loop-after.count c.in_default.ensures
     (λ r e. c.in_default-cut.ensures r (e ∙ ap (λ l. l ++ r) (sym code))) c.loop-after.invariant.counted

@@ -5,10 +5,10 @@ use Rattle.decimal_format.proofs.Scans.{run_none, run_push, run_read}
 use Rattle.decimal_format.proofs.symbols.DecimalSymbols.read_run.Goals as goal
 
 pub loop-count-init : goal.loop-count-init
-loop-count-init c = record { at_most = omega arith; read = run_none c.args.self.now c.args.text.now }
+loop-count-init g c = record { at_most = omega arith; read = run_none c.args.self.now c.args.text.now }
 
 pub loop-count-preserved : goal.loop-count-preserved
-loop-count-preserved c =
+loop-count-preserved g c =
     let s = c.args.self.now in
     let digit = c.from.ensures in
     let below : c.from.result < 10 = omega (arith, digit, c.in-Some.ensures.0) in
@@ -21,7 +21,7 @@ loop-count-preserved c =
     }
 
 pub overflow_mul-number : goal.overflow_mul-number
-overflow_mul-number c =
+overflow_mul-number g c =
     let read = c.loop-count.invariant.read in
     record {
       fits =
@@ -33,7 +33,7 @@ overflow_mul-number c =
     }
 
 pub overflow_add-number : goal.overflow_add-number
-overflow_add-number c =
+overflow_add-number g c =
     let read = c.loop-count.invariant.read in
     record {
       fits =
@@ -47,11 +47,11 @@ overflow_add-number c =
     }
 
 pub returns : goal.returns
-returns c =
+returns g c =
     run_read c.args.self.now c.args.most c.args.text.now c.loop-count.rest.now c.loop-count.number c.loop-count.count
     c.loop-count.invariant.read c.loop-count.invariant.at_most (λ few. absurd (omega (arith, few, c.loop-count-test.false)))
 
 pub returns-in_default : goal.returns-in_default
-returns-in_default c =
+returns-in_default g c =
     run_read c.args.self.now c.args.most c.args.text.now c.loop-count.rest.now c.loop-count.number c.loop-count.count
     c.loop-count.invariant.read c.loop-count.invariant.at_most (λ few. c.in_default.ensures)

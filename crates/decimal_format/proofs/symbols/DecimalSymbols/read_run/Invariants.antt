@@ -3,10 +3,10 @@ use Rattle.decimal_format.proofs.Scans.{IsRunTo}
 use Rattle.decimal_format.proofs.symbols.DecimalSymbols.read_run.Given as goal
 
 abbrev pub invariant-loop-count : goal.invariant-loop-count
-invariant-loop-count l = record {
+invariant-loop-count g l = record {
   at_most : l.count ≤ l.most;
   read : IsRunTo l.self l.text l.rest l.number l.count;
 }
 
 abbrev pub decreases-loop-count : goal.decreases-loop-count
-decreases-loop-count l = l.most - l.count
+decreases-loop-count g l = l.most - l.count

@@ -8,7 +8,7 @@ use Rattle.decimal_format.specs.Scanning.{IsUniform}
 use Rattle.decimal_format.proofs.DigitTexts.{fraction_ends}
 use Rattle.decimal_format.proofs.NumeralLaws.{numeral_if_uniform}
 use Rattle.decimal_format.proofs.Scans.{on_none, number_begins}
-use Rattle.decimal_format.proofs.symbols.DecimalSymbols.scan.Goals as goal
+use Rattle.decimal_format.proofs.symbols.DecimalSymbols.scan_by.Goals as goal
 
 pub returns-in_err-sign-clause-none : goal.returns-in_err-sign-clause-none
 returns-in_err-sign-clause-none g c = on_none c.from_residual.result _ (λ w numeral.
