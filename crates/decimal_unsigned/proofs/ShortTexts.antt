@@ -1,11 +1,11 @@
 -- The text of a value of at most sixteen digits, by their nibbles.
-use Rattle.decimal_unsigned.proofs.Common.{elements, ◌≡◌, ℕ, zero, suc, ◌+◌, ◌-◌, ◌<◌, ◌≤◌, List, [], ◌∷◌, ◌++◌, length, get_or, take, drop, map, replicate, refl, sym, ◌∙◌, ap, arith, inl, inr, ℤ, pos, negsuc, ◌+ℤ◌, ◌-ℤ◌, ◌≤ℤ◌, ◌<ℤ◌, int_gap, ints, cases_lt, append-nil, get_or-drop, get_or-take, length-append, length-drop, length-map, length-replicate, length-take-le, gap_is, recursion_from_All, number_of, IsStored, digit, Unsigned, IsValue, text}
-use Rattle.std.specs.Prelude.{All, EachIndex, slice_index}
+use Rattle.decimal_unsigned.proofs.Common.{◌≡◌, ℕ, suc, ◌+◌, ◌-◌, ◌<◌, ◌≤◌, List, ◌∷◌, ◌++◌, length, get_or, take, drop, replicate, refl, sym, ◌∙◌, ap, arith, inl, inr, ℤ, pos, negsuc, ◌+ℤ◌, ◌-ℤ◌, ◌≤ℤ◌, int_gap, ints, cases_lt, append-nil, get_or-drop, get_or-take, length-append, length-drop, length-map, length-replicate, length-take-le, gap_is, number_of, IsStored, digit, Unsigned, IsValue, text}
+use Rattle.std.specs.Prelude.{All}
 use Rattle.std.proofs.lemmas.List.{get_or_append_left, get_or-map, get_or_past, get_or-replicate, take-append-drop, take-append-le, take_at}
 use Rattle.std.proofs.Math.Seq.{get_or-append_right, take-append-add}
 use Rattle.decimal_digits.specs.Digits.{text_of}
 use Rattle.decimal_digits.specs.Nibbles.{word_nibbles, bcd_number}
-use Rattle.decimal_digits.proofs.Words.{bcd_nibble, length-word_nibbles}
+use Rattle.decimal_digits.proofs.Words.{bcd_nibble}
 use Rattle.decimal_unsigned.proofs.Values.{digit-number_of-above, digit-number_of-in, digit-number_of-below}
 use Rattle.decimal_unsigned.proofs.Lengths.{length-text, length-text_whole, length-text_dotted}
 use Rattle.decimal_unsigned.proofs.TextBytes.{bytes_down, bytes_are, length-bytes_down, bytes_down-part, fraction_text, text_is}

@@ -1,4 +1,4 @@
-use Rattle.decimal_unsigned.proofs.Common.{◌≡◌, ℕ, ◌-◌, ◌<◌, get_or, subst, sym, ◌∙◌, ap, arith, w16, of_z, to_z, pos, ◌-ℤ◌, int_gap, digit, Unsigned}
+use Rattle.decimal_unsigned.proofs.Common.{◌≡◌, ℕ, ◌-◌, ◌<◌, get_or, subst, sym, arith, w16, of_z, to_z, pos, ◌-ℤ◌, int_gap, digit, Unsigned}
 use Rattle.decimal_digits.specs.Nibbles.{word_nibbles}
 use Rattle.decimal_unsigned.proofs.Values.{magnitude_kept, hi_kept}
 use Rattle.decimal_unsigned.proofs.ShortTexts.{shown_nibble}

@@ -1,4 +1,4 @@
-use Rattle.std.proofs.Common.{◌≡◌, ℕ, suc, zero, ◌+◌, ◌/◌, ◌%◌, ◌^◌, ◌<◌, ◌∷◌, [], arith, ap}
+use Rattle.std.proofs.Common.{◌≡◌, ℕ, suc, zero, ◌+◌, ◌/◌, ◌%◌, ◌∷◌, [], arith}
 use Rattle.decimal_digits.specs.Nibbles.{nibbles, word_nibbles}
 use Rattle.std.specs.Int.{byte_at}
 use Rattle.decimal_digits.proofs.digits.packed.dotted.word_text.Goals as goal
