@@ -2,9 +2,10 @@
 ghost use Rattle.std.specs.Prelude.{◌≡◌, ◌≢◌, Ok, Err, true, IfOk, IfErr, OnOk, OnErr};
 ghost use Rattle.std.specs.Io.KnownBytes.{Appends};
 ghost use Rattle.decimal_digits.specs.AppendsPrefix.{AppendsPrefix};
+ghost use Rattle.cli.specs.Errors.{error_of_run};
 ghost use Rattle.cli.specs.Conversion.{IsReadAs, ReadingFails, text_by, IsOutcome, HasOutcome, OperationsFail};
 
-use crate::error::OperationError;
+use crate::error::{OperationError, Reason};
 use crate::reader::DecimalReader;
 use decimal_format::DecimalFormatter;
 use fixed_decimal::{Call, Decimal, ParseError, RunError, Sink, SinkFault, Writeable, apply_calls};
@@ -23,6 +24,7 @@ pub struct Conversion<'a> {
 
 impl<'a> Conversion<'a> {
     /// Reads a text.
+    #[inline]
     fn read(&self, alloc: Global, text: &[u8]) -> Result<Decimal, ParseError>
         ensures found { IfOk result (λ v. IsReadAs self.now.reader text.now (Ok v)) }
         ensures fails_with { IfErr result (ReadingFails self.now.reader text.now) }
@@ -33,23 +35,22 @@ impl<'a> Conversion<'a> {
         }
     }
 
-    /// Reads a text, and makes the calls on its decimal.
-    fn value(&self, alloc: Global, text: &[u8]) -> Result<Decimal, OperationError>
-        ensures found { IfOk result (λ v. IsOutcome self.now text.now (Ok (text_by self.now.formatter v))) }
+    /// Makes the calls on the decimal that a text is read as.
+    #[inline]
+    fn change(&self, alloc: Global, text: &[u8], value: &mut Decimal) -> Result<(), OperationError>
+        requires { IsReadAs self.now.reader text.now (Ok value.old) }
+        ensures found { OnOk result (IsOutcome self.now text.now (Ok (text_by self.now.formatter value.new))) }
         ensures fails_with { IfErr result (λ error. OperationsFail error self.now text.now) }
         ensures no_output { IfErr result (λ error. error ≢ OperationError.Output) }
     {
-        let mut value = match self.read(alloc, text) {
-            Ok(value) => value,
-            Err(error) => return Err(OperationError::from(RunError::Start(error))),
-        };
-        match apply_calls(alloc, &mut value, self.calls.as_slice()) {
-            Ok(()) => Ok(value),
+        match apply_calls(alloc, value, self.calls.as_slice()) {
+            Ok(()) => Ok(()),
             Err(error) => Err(OperationError::from(error)),
         }
     }
 
     /// Writes a decimal to a sink.
+    #[inline]
     fn write<W: Sink>(&self, value: &Decimal, sink: &mut W) -> Result<(), SinkFault>
         ensures ok { OnOk result
             (Appends (W.contents sink.old) (W.contents sink.new) (text_by self.now.formatter value.now)) }
@@ -61,6 +62,17 @@ impl<'a> Conversion<'a> {
             Some(formatter) => formatter.format(value).write_to(sink),
             None => value.write_to(sink),
         }
+    }
+}
+
+/// Returns the error of a text that cannot be read.
+fn error_of_reading(error: &ParseError) -> OperationError
+    ensures { result ≡ error_of_run (RunError.Start error.now) }
+{
+    match error {
+        ParseError::Syntax => OperationError::Start(Reason::Syntax),
+        ParseError::Limit => OperationError::Start(Reason::Limit),
+        ParseError::Memory => OperationError::Memory,
     }
 }
 
@@ -77,6 +89,7 @@ impl<'a> Conversion<'a> {
 /// - `Operand`, `Overlap`, `Overflow`: a call fails, as in [`fixed_decimal::run`].
 /// - `Memory`: out of memory.
 /// - `Output`: the sink has failed, and it has taken a prefix of the text.
+#[inline]
 pub fn convert<W: Sink>(
     alloc: Global,
     conversion: &Conversion<'_>,
@@ -91,7 +104,13 @@ pub fn convert<W: Sink>(
     ensures prefix { result ≡ Err OperationError.Output → HasOutcome conversion.now text.now
         (AppendsPrefix (W.contents sink.old) (W.contents sink.new)) }
 {
-    let value = conversion.value(alloc, text)?;
-    conversion.write(&value, sink)?;
-    Ok(())
+    let mut read = conversion.read(alloc, text);
+    match &mut read {
+        Ok(value) => {
+            conversion.change(alloc, text, value)?;
+            conversion.write(value, sink)?;
+            Ok(())
+        }
+        Err(error) => Err(error_of_reading(error)),
+    }
 }
