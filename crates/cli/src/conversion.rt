@@ -24,6 +24,7 @@ pub struct Conversion<'a> {
 
 impl<'a> Conversion<'a> {
     /// Reads a text.
+    #[inline]
     fn read(&self, alloc: Global, text: &[u8]) -> Result<Decimal, ParseError>
         ensures found { IfOk result (λ v. IsReadAs self.now.reader text.now (Ok v)) }
         ensures fails_with { IfErr result (ReadingFails self.now.reader text.now) }
@@ -49,6 +50,7 @@ impl<'a> Conversion<'a> {
     }
 
     /// Writes a decimal to a sink.
+    #[inline]
     fn write<W: Sink>(&self, value: &Decimal, sink: &mut W) -> Result<(), SinkFault>
         ensures ok { OnOk result
             (Appends (W.contents sink.old) (W.contents sink.new) (text_by self.now.formatter value.now)) }
@@ -87,6 +89,7 @@ fn error_of_reading(error: &ParseError) -> OperationError
 /// - `Operand`, `Overlap`, `Overflow`: a call fails, as in [`fixed_decimal::run`].
 /// - `Memory`: out of memory.
 /// - `Output`: the sink has failed, and it has taken a prefix of the text.
+#[inline]
 pub fn convert<W: Sink>(
     alloc: Global,
     conversion: &Conversion<'_>,

@@ -70,6 +70,7 @@ fn write_replaced<W: Sink>(
 }
 
 /// Converts the field of a line, and writes the line with it and a line feed to a sink.
+#[inline(never)]
 pub fn print_field_line<W: Sink>(
     alloc: Global,
     conversion: &Conversion<'_>,

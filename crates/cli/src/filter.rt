@@ -12,8 +12,8 @@ use crate::error::{FilterError, OperationError};
 use crate::field_conversion::print_field_line;
 use crate::fields::Field;
 use crate::fixdec::print_line;
+use crate::line_feed::find_line_feed;
 use fixed_decimal::{Sink, SinkFault};
-use memchr::memchr;
 use std::alloc::Global;
 use std::io;
 use std::io::{BufRead, ErrorKind};
@@ -42,6 +42,7 @@ pub struct Filter<'a> {
 
 impl Filter<'_> {
     /// Writes the text of the line with this number and a line feed to a sink.
+    #[inline(always)]
     fn print<W: Sink>(
         &self,
         alloc: Global,
@@ -115,6 +116,7 @@ fn error_of_reading(line: u64, error: &io::Error) -> FilterError
 
 /// Writes the text of a line and a line feed, and returns whether it has a text. With `Skip` an error of the conversion
 /// is reported, and an empty line is written.
+#[inline(always)]
 fn filter_line<W: Sink, D: Diagnostics<FilterError>>(
     alloc: Global,
     filter: &Filter<'_>,
@@ -149,6 +151,7 @@ fn filter_line<W: Sink, D: Diagnostics<FilterError>>(
 }
 
 /// Reads the next line into `line`, and filters it. None: there is no line.
+#[inline(never)]
 fn filter_copy<R: BufRead, W: Sink, D: Diagnostics<FilterError>>(
     alloc: Global,
     filter: &Filter<'_>,
@@ -178,6 +181,7 @@ fn filter_copy<R: BufRead, W: Sink, D: Diagnostics<FilterError>>(
 
 /// Filters the next line, and returns whether it has a text. None: there is no line. A line that is not whole in the
 /// block of the reader is copied into `line` first.
+#[inline]
 fn filter_next<R: BufRead, W: Sink, D: Diagnostics<FilterError>>(
     alloc: Global,
     filter: &Filter<'_>,
@@ -199,7 +203,7 @@ fn filter_next<R: BufRead, W: Sink, D: Diagnostics<FilterError>>(
             if block.is_empty() {
                 return Ok(None);
             }
-            if let Some(end) = memchr(b'\n', block) {
+            if let Some(end) = find_line_feed(block) {
                 let filtered = filter_line(alloc, filter, number, &block[..end], out, diagnostics);
                 input.consume(end + 1);
                 return match filtered {

@@ -25,6 +25,7 @@ use std::process::ExitCode;
 use std::{env, io};
 
 /// Converts a text, and writes the text of the result and a line feed to a sink.
+#[inline]
 pub fn print_line<W: Sink>(
     alloc: Global,
     conversion: &Conversion<'_>,

@@ -15,6 +15,7 @@ mod filter;
 pub mod fixdec;
 pub mod fixdec_lines;
 mod help;
+mod line_feed;
 mod options;
 mod output;
 pub mod plural;
