@@ -5,5 +5,5 @@ use Rattle.decimal_digits.proofs.digits.packed.words.replace_nibbles.Goals as go
 pub returns : goal.returns
 returns c =
     rw c.from.ensures
-    (replaced c.args.word c.args.index c.args.nibble _ _ c.ranges.word.fits c.requires.in_range c.requires.is_nibble refl
-    refl)
+    (replaced c.args.word c.args.index c.args.nibble _ _ c.ranges.word.fits c.requires.in_range c.requires.is_nibble
+    refl refl)
