@@ -77,6 +77,16 @@ module _ (s : Symbols) (readable : IsReadable s) where
         h ∙ e),
   )
 
+  -- a text that begins with a digit has no sign
+  pub none_is : (shown : Sign) (bytes number : List ℕ) → BeginsWithDigit s bytes
+      → bytes ≡ (sign_affixes s shown).prefix ++ (number ++ (sign_affixes s shown).suffix)
+      → (sign.None ≡ shown) × (bytes ≡ number)
+  none_is sign.None bytes number begins e = (refl, e ∙ append-nil number)
+  none_is sign.Negative bytes number begins e =
+      absurd (digit_not_minus s readable begins.digit begins.following _ begins.is_digit (sym begins.is ∙ e))
+  none_is sign.Positive bytes number begins e =
+      absurd (digit_not_plus s readable begins.digit begins.following _ begins.is_digit (sym begins.is ∙ e))
+
   -- a digit has bytes
   pub shorter : (bytes after : List ℕ) (d : ℕ) → d < 10 → bytes ≡ digit_text s d ++ after → length after < length bytes
   shorter bytes after d below e =

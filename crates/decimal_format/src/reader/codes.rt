@@ -203,6 +203,7 @@ impl<'a> DecimalSymbols<'a> {
     }
 
     /// Returns the sign whose prefix a text begins with, and what follows the prefix.
+    #[inline(never)]
     fn split_prefix<'t>(&self, text: &'t [u8]) -> (Sign, &'t [u8])
         requires { IsReadable self.now }
         ensures found { text.now ≡ (sign_affixes self.now result.0).prefix ++ result.1.now }
@@ -219,6 +220,7 @@ impl<'a> DecimalSymbols<'a> {
     }
 
     /// Returns the sign that a text shows, and what is between its prefix and its suffix.
+    #[inline(always)]
     pub(crate) fn split_sign<'t>(&self, text: &'t [u8]) -> Option<(Sign, &'t [u8])>
         requires { IsReadable self.now }
         ensures found { IfSome result (λ r. text.now
@@ -227,6 +229,12 @@ impl<'a> DecimalSymbols<'a> {
             → text.now ≡ (sign_affixes self.now sign).prefix ++ (number ++ (sign_affixes self.now sign).suffix)
             → IsSomeAnd result (λ r. (r.0 ≡ sign) × (r.1.now ≡ number)) }
     {
+        // No prefix begins with a digit.
+        if self.has_ascii_digits() {
+            if let Some((_, _)) = next_ascii_digit(text) {
+                return Some((Sign::None, text));
+            }
+        }
         let (sign, rest) = self.split_prefix(text);
         let number = cut_end(rest, self.suffix(sign).as_bytes())?;
         Some((sign, number))

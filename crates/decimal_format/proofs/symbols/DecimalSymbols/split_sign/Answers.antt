@@ -1,8 +1,29 @@
-use Rattle.std.proofs.Common.{◌≡◌, ◌++◌, sym, ◌∙◌, ap}
+use Rattle.std.proofs.Common.{◌≡◌, ◌++◌, sym, ◌∙◌, ap, append-nil}
+use Rattle.decimal_format.specs.Scanning.{BeginsWithDigit}
+use Rattle.decimal_format.proofs.AsciiDigits.{digit_text-ascii}
 use Rattle.std.proofs.lemmas.List.{append_cancel_right}
 use Rattle.decimal_format.specs.Symbols.{sign_affixes}
-use Rattle.decimal_format.proofs.Scans.{begins-append}
+use Rattle.decimal_format.proofs.Scans.{begins-append, none_is}
 use Rattle.decimal_format.proofs.symbols.DecimalSymbols.split_sign.Goals as goal
+
+pub returns-in-Some-clause-found : goal.returns-in-Some-clause-found
+returns-in-Some-clause-found c = sym (append-nil c.args.text.now)
+
+pub returns-in-Some-clause-unique : goal.returns-in-Some-clause-unique
+returns-in-Some-clause-unique c = λ sign number begins e.
+    let s = c.args.self.now in
+    let d = c.in-Some.field-0-0 in
+    let following = c.in-Some.field-0-1.now in
+    let ascii = c.has_ascii_digits.ensures c.if-has_ascii_digits.true in
+    let first : BeginsWithDigit s c.args.text.now = record {
+      digit = d;
+      following = following;
+      is_digit = c.in-Some.ensures.0;
+      is =
+          c.in-Some.ensures.1
+          ∙ ap (λ l. l ++ following) (sym (digit_text-ascii s d ascii c.in-Some.ensures.0));
+    } in
+    none_is s c.requires sign c.args.text.now number first e
 
 pub returns-clause-unique : goal.returns-clause-unique
 returns-clause-unique c = λ sign number begins e.
