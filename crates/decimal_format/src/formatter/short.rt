@@ -1,5 +1,5 @@
 //! The text of a few digits, by symbols of one byte each.
-ghost use Rattle.std.specs.Prelude.{◌≡◌, ◌+◌, ◌<◌, ◌≤◌, ◌++◌, length, IfSome};
+ghost use Rattle.std.specs.Prelude.{◌≡◌, ◌+◌, ◌≤◌, ◌++◌, length, IfSome};
 ghost use Rattle.decimal_format.specs.Formatted.{shown_count, absolute_text};
 ghost use Rattle.decimal_format.specs.Parts.{AreBytes};
 
