@@ -115,7 +115,7 @@ impl<D: DigitStore> UnsignedOver<D> {
     /// Returns sixteen digits, from the highest magnitude that is shown down, as a packed BCD number.
     ///
     /// Requires at most sixteen magnitudes that are shown.
-    #[inline]
+    #[inline(always)]
     fn shown_bcd(&self) -> u64
         requires { int_gap self.now.lo self.now.hi < 16 }
         ensures { (k : ℕ) → k < 16
@@ -128,7 +128,7 @@ impl<D: DigitStore> UnsignedOver<D> {
     /// Returns the text, followed by other bytes.
     ///
     /// Requires at most sixteen magnitudes that are shown.
-    #[inline]
+    #[inline(always)]
     pub(super) fn short_text(&self) -> [u8; 33]
         requires { int_gap self.now.lo self.now.hi < 16 }
         ensures { take (length (text self.now)) result ≡ text self.now }

@@ -8,7 +8,7 @@ use super::words::{cut_nibbles, join_nibbles};
 use std::simd::prelude::*;
 
 /// Returns the nibbles of a word as ASCII.
-#[inline]
+#[inline(always)]
 fn word_text(word: u64) -> [u8; 16]
     ensures { result ≡ text_of (word_nibbles word) }
 {
@@ -22,7 +22,7 @@ fn word_text(word: u64) -> [u8; 16]
 /// Returns a packed BCD number of sixteen digits with zeros before the first of them; the last ones are removed.
 ///
 /// Of `0x2500_0000_0000_0000` and 1 it is `0x0250_0000_0000_0000`. Requires at most 16 zeros.
-#[inline]
+#[inline(always)]
 pub fn prepend_zeros(number: u64, zeros: usize) -> u64
     requires { zeros ≤ 16 }
     ensures { word_nibbles result ≡ replicate zeros 0 ++ take (16 - zeros) (word_nibbles number) }
@@ -34,7 +34,7 @@ pub fn prepend_zeros(number: u64, zeros: usize) -> u64
 ///
 /// Of `0x2500_0000_0000_0000` and 1 the text begins with `2.50`. It is the first 17 bytes. Requires at most 16 digits
 /// before the decimal point.
-#[inline]
+#[inline(always)]
 pub fn dotted_text(number: u64, dot: usize) -> [u8; 33]
     requires { dot ≤ 16 }
     ensures { take 17 result
