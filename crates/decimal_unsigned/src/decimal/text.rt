@@ -16,8 +16,11 @@ use decimal_digits::sink::{Sink, SinkFault, Writeable};
 /// The number of bytes of a text that are made and written at a time. Most texts are shorter.
 pub(super) const BLOCK: usize = 64;
 
+/// The greatest length of a text that is written byte by byte, which is then faster than a block.
+const MAX_SHORT: usize = 5;
+
 /// The greatest number of digits of a text that is made from one packed BCD number.
-const MAX_SHORT: u32 = 16;
+const MAX_WORD: u32 = 16;
 
 impl<D: DigitStore> UnsignedOver<D> {
     /// Writes the digits at consecutive magnitudes, from `magnitude` down, without a decimal point.
@@ -69,19 +72,49 @@ impl<D: DigitStore> UnsignedOver<D> {
         }
     }
 
+    /// Returns the byte of the text at an index.
+    ///
+    /// Requires an index in range.
+    #[inline]
+    fn byte_at(&self, index: usize) -> u8
+        requires { index < length (text self.now) }
+        ensures { result ≡ slice_index (text self.now) index }
+    {
+        let dot = self.dot();
+        if index == dot {
+            b'.'
+        } else {
+            b'0' + self.digit_at(self.magnitude_at(index))
+        }
+    }
+
+    /// Appends the text byte by byte.
+    fn write_bytewise<W: Sink>(&self, sink: &mut W) -> Result<(), SinkFault>
+        ensures ok { OnOk result (Appends (W.contents sink.old) (W.contents sink.new) (text self.now)) }
+        ensures err { OnErr result (AppendsPrefix (W.contents sink.old) (W.contents sink.new) (text self.now)) }
+        ensures had_not_failed { OnOk result (W.has_failed sink.old ≡ false) }
+        ensures failed { OnErr result (W.has_failed sink.new ≡ true) }
+        ensures unchanged { W.has_failed sink.old ≡ true → Keeps (W.contents sink.old) (W.contents sink.new) }
+    {
+        for index in 0..self.writeable_length_hint() {
+            sink.put_byte(self.byte_at(index))?;
+        }
+        Ok(())
+    }
+
     /// Returns whether at most sixteen magnitudes are shown.
     #[inline]
     pub(super) fn is_short(&self) -> bool
         ensures short { IsTrue result ↔ (int_gap self.now.lo self.now.hi < 16) }
         ensures valid { IsValue self.now }
     {
-        count_between(self.lowest(), self.highest()) <= MAX_SHORT
+        count_between(self.lowest(), self.highest()) <= MAX_WORD
     }
 
     /// Returns the text, followed by other bytes.
     ///
     /// Requires at most sixteen magnitudes that are shown.
-    #[inline]
+    #[inline(always)]
     pub(super) fn short_text(&self) -> [u8; 33]
         requires { int_gap self.now.lo self.now.hi < 16 }
         ensures { take (length (text self.now)) result ≡ text self.now }
@@ -136,6 +169,9 @@ impl<D: DigitStore> Writeable for UnsignedOver<D> {
         ensures reads_back { read (text self.now) ≡ Ok self.now }
     {
         let length = self.writeable_length_hint();
+        if length <= MAX_SHORT {
+            return self.write_bytewise(sink);
+        }
         if self.is_short() {
             return sink.put_bytes(&self.short_text()[..length]);
         }

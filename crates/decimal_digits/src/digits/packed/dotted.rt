@@ -8,7 +8,7 @@ use super::words::cut_nibbles;
 use std::simd::prelude::*;
 
 /// Returns the nibbles of a word as ASCII.
-#[inline]
+#[inline(always)]
 fn word_text(word: u64) -> [u8; 16]
     ensures { result ≡ text_of (word_nibbles word) }
 {
@@ -23,7 +23,7 @@ fn word_text(word: u64) -> [u8; 16]
 ///
 /// Of `0x2500_0000_0000_0000` and 1 the text begins with `2.50`. It is the first 17 bytes. Requires at most 16 digits
 /// before the decimal point.
-#[inline]
+#[inline(always)]
 pub fn dotted_text(number: u64, dot: usize) -> [u8; 33]
     requires { dot ≤ 16 }
     ensures { take 17 result
