@@ -6,14 +6,14 @@ use Rattle.decimal_format.specs.declared.grouping.GroupingSizes.{GroupingSizes}
 use Rattle.decimal_format.specs.declared.grouping.GroupingStrategy.{GroupingStrategy}
 use Rattle.decimal_format.specs.Formatted.{Formatted, separator_before, separator_after, magnitude_text}
 use Rattle.decimal_format.specs.Grouping.{is_grouped, separates}
-use Rattle.decimal_format.specs.Parts.{AreBytes, ends_group}
+use Rattle.decimal_format.specs.Parts.{AreBytes, ends_group_at}
 use Rattle.decimal_format.specs.Symbols.{digit_text}
 use Rattle.decimal_format.proofs.AsciiDigits.{digit_text-ascii}
 use Rattle.decimal_format.proofs.Magnitudes.{digit_below}
 
 -- a separator is after the digits that end a group, of a value that is grouped
 pub separates_if : (strategy : GroupingStrategy) (sizes : GroupingSizes) (hi m : ℤ)
-    → separates strategy sizes hi m ≡ (is_grouped strategy sizes hi && ends_group sizes m)
+    → separates strategy sizes hi m ≡ (is_grouped strategy sizes hi && ends_group_at sizes m)
 separates_if strategy sizes hi (pos m) = grind arith
 separates_if strategy sizes hi (negsuc m) = grind arith
 

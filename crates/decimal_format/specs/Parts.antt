@@ -1,10 +1,11 @@
 -- Private: cited only by the contracts of private functions.
 -- Parts of the text: digits without a separator between them.
-use Rattle.std.specs.Prelude.{◌≡◌, ℕ, zero, suc, if◌then◌else◌, ◌+◌, ◌-◌, ◌%◌, ◌<◌, ◌==◌, nat_le, nat_lt, Bool, false, ◌&&◌, List, [], ◌∷◌, ◌++◌, slice_index, EachIndex, flat_map, ℤ, pos, negsuc, ◌-ℤ◌}
+use Rattle.std.specs.Prelude.{◌≡◌, ℕ, zero, suc, if◌then◌else◌, ◌+◌, ◌-◌, ◌<◌, Bool, false, List, [], ◌∷◌, ◌++◌, slice_index, EachIndex, flat_map, ℤ, pos, negsuc, ◌-ℤ◌}
 use Rattle.decimal_digits.specs.Number.{digit}
 use Rattle.decimal_format.specs.declared.grouping.GroupingSizes.{GroupingSizes}
 use Rattle.decimal_format.specs.declared.grouping.GroupingStrategy.{GroupingStrategy}
-use Rattle.decimal_format.specs.Grouping.{secondary_size, separates}
+use Rattle.decimal_format.specs.Grouping.{separates}
+use Rattle.decimal_format.specs.Lenient.{ends_group}
 use Rattle.decimal_format.specs.Symbols.{Symbols, digit_text}
 use Rattle.decimal_format.specs.Ascii.{ascii_digits}
 use Rattle.decimal_format.specs.Formatted.{Formatted, formatted_down, separator_before, separator_after}
@@ -43,11 +44,10 @@ pub record AreBytes (s : Symbols) (decimal grouping : ℕ) : Type 0 where
   pub decimal_is : s.decimal ≡ decimal ∷ []
   pub grouping_is : s.grouping ≡ grouping ∷ []
 
--- a group ends after the digit at a magnitude: a separator is there if the value is grouped
-abbrev pub ends_group : GroupingSizes → ℤ → Bool
-ends_group sizes (negsuc m) = false
-ends_group sizes (pos m) =
-    nat_lt 0 sizes.primary && (nat_le sizes.primary m && ((m - sizes.primary) % secondary_size sizes == 0))
+-- a group ends after the digit at a magnitude, which is no fraction digit: a separator is there if the value is grouped
+abbrev pub ends_group_at : GroupingSizes → ℤ → Bool
+ends_group_at sizes (negsuc m) = false
+ends_group_at sizes (pos m) = ends_group sizes m
 
 -- the number of separators after the magnitudes from 0 to n - 1
 unfoldable pub separators_below : GroupingStrategy → GroupingSizes → ℤ → ℕ → ℕ

@@ -2,7 +2,7 @@
 ghost use Rattle.std.specs.Prelude.{◌≡◌, ℕ, ◌+◌, ◌-◌, ◌%◌, ◌^◌, ◌<◌, ◌≤◌, ◌≤ℤ◌, ◌&&◌, pos, false};
 ghost use Rattle.std.specs.Int.{int_gap};
 ghost use Rattle.decimal_format.specs.Grouping.{reaches, is_grouped, secondary_size, separates};
-ghost use Rattle.decimal_format.specs.Parts.{ends_group, separators_below};
+ghost use Rattle.decimal_format.specs.Parts.{ends_group_at, separators_below};
 
 /// When the integer digits are grouped.
 ///
@@ -93,7 +93,7 @@ impl GroupingSizes {
     /// Returns whether a separator is after the digit at a magnitude of a value, which may be grouped.
     #[inline]
     pub(crate) fn separates_if(self, is_grouped: bool, magnitude: i16) -> bool
-        ensures { result ≡ (is_grouped && ends_group self magnitude) }
+        ensures { result ≡ (is_grouped && ends_group_at self magnitude) }
     {
         let primary = self.primary as i16;
         if !is_grouped || primary == 0 || magnitude < primary {

@@ -4,7 +4,7 @@ use Rattle.decimal_digits.specs.Number.{digit}
 use Rattle.fixed_decimal.proofs.Calling.{narrow_kept}
 use Rattle.decimal_format.specs.Formatted.{Formatted, shown_count}
 use Rattle.decimal_format.specs.Grouping.{is_grouped}
-use Rattle.decimal_format.specs.Parts.{ends_group}
+use Rattle.decimal_format.specs.Parts.{ends_group_at}
 use Rattle.decimal_format.proofs.Magnitudes.{first_magnitudes, formatted_down-zero, one_more}
 use Rattle.decimal_format.proofs.ShortTexts.{separates_if, pushed_more, pushed}
 use Rattle.decimal_format.proofs.formatter.FormattedDecimal.push_digits.Goals as goal
@@ -38,7 +38,7 @@ loop-below-preserved g c =
     narrow_kept {z = c.magnitude.result} c.magnitude.type_inv ∙ c.magnitude.ensures.value in
     let grouped = c.is_grouped-is_grouped.ensures ∙ (λ i. is_grouped (strategy i) (sizes i) (hi i)) in
     let after =
-    c.separates_if.ensures ∙ (λ i. grouped i && ends_group (sizes i) (m i))
+    c.separates_if.ensures ∙ (λ i. grouped i && ends_group_at (sizes i) (m i))
     ∙ sym (separates_if f.strategy f.symbols.sizes v.hi (v.hi -ℤ pos below)) in
     record {
       text =
