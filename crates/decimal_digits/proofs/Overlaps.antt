@@ -14,12 +14,12 @@ by_rest P n k xs ys h same says =
       λ e. says.1 (ap (drop k) e),
     )
 
--- if it says that the last n items are equal, and so are the first n of at most 2 * n, it says that the lists are
-pub by_ends : (P : Type 0) (n : ℕ) (xs ys : List ℕ) → length xs ≡ length ys → n ≤ length xs → length xs ≤ n + n
-    → take n xs ≡ take n ys → P ↔ (take n (drop (length xs - n) xs) ≡ take n (drop (length xs - n) ys)) → P ↔ (xs ≡ ys)
-by_ends P n xs ys len enough few same says =
-    let k = length xs - n in
-    let left : take n (drop k xs) ≡ drop k xs = take_all n (drop k xs) (omega (arith, length-drop k xs)) in
-    let right : take n (drop k ys) ≡ drop k ys = take_all n (drop k ys) (omega (arith, length-drop k ys)) in
-    by_rest P n k xs ys (omega arith) same
+-- if it says that the last k items are equal, and so are the first n of at most n + k, it says that the lists are
+pub by_ends : (P : Type 0) (n k : ℕ) (xs ys : List ℕ) → length xs ≡ length ys → k ≤ length xs → length xs ≤ n + k
+    → take n xs ≡ take n ys → P ↔ (take k (drop (length xs - k) xs) ≡ take k (drop (length xs - k) ys)) → P ↔ (xs ≡ ys)
+by_ends P n k xs ys len enough few same says =
+    let i = length xs - k in
+    let left : take k (drop i xs) ≡ drop i xs = take_all k (drop i xs) (omega (arith, length-drop i xs)) in
+    let right : take k (drop i ys) ≡ drop i ys = take_all k (drop i ys) (omega (arith, length-drop i ys)) in
+    by_rest P n i xs ys (omega arith) same
     (λ p. sym left ∙ says.0 p ∙ right, λ e. says.1 (left ∙ e ∙ sym right))

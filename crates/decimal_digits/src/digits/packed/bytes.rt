@@ -181,6 +181,18 @@ fn equal_in_two_words(left: &[u8], right: &[u8]) -> bool
     have_equal_fronts(left, right) && (end == 0 || have_equal_fronts(&left[end..], &right[end..]))
 }
 
+/// Returns whether two lists of the same number of bytes, 16 to 24, are equal.
+#[inline]
+fn equal_in_three_words(left: &[u8], right: &[u8]) -> bool
+    requires enough { 16 ≤ length left.now }
+    requires few { length left.now ≤ 24 }
+    requires same_length { length left.now ≡ length right.now }
+    ensures { IsTrue result ↔ (left.now ≡ right.now) }
+{
+    let end = left.len() - 8;
+    equal_in_two_words(&left[..16], &right[..16]) && have_equal_fronts(&left[end..], &right[end..])
+}
+
 /// Returns whether two lists of the same number of bytes, 16 to 32, are equal.
 #[inline]
 fn equal_in_four_words(left: &[u8], right: &[u8]) -> bool
@@ -203,6 +215,9 @@ pub(super) fn are_equal(left: &[u8], right: &[u8]) -> bool
     let len = left.len();
     if len <= 16 {
         return equal_in_two_words(left, right);
+    }
+    if len <= 24 {
+        return equal_in_three_words(left, right);
     }
     if len <= 32 {
         return equal_in_four_words(left, right);

@@ -5,5 +5,5 @@ use Rattle.decimal_digits.proofs.digits.packed.bytes.equal_in_two_words.Goals as
 
 pub returns-else-end-eq0 : goal.returns-else-end-eq0
 returns-else-end-eq0 c =
-    by_ends _ 8 c.args.left.now c.args.right.now c.requires.same_length c.requires.enough c.requires.few
+    by_ends _ 8 8 c.args.left.now c.args.right.now c.requires.same_length c.requires.enough c.requires.few
     (c.if-have_equal_fronts.ensures.0 (search rules)) (simp take_rest at c.have_equal_fronts-else-end-eq0.ensures)
