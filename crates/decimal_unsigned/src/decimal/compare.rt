@@ -49,19 +49,12 @@ fn compare_bytes(bytes: &[u8], other: &[u8]) -> Ordering
     word_of(&bytes[len - 8..]).cmp(&word_of(&other[len - 8..]))
 }
 
-/// Compares two lists of digits by the first digits that differ; if one is a prefix of the other, the longer one is
-/// greater. Neither list ends in 0.
-fn compare_digits<D: DigitStore, E: DigitStore>(digits: &D, other: &E) -> Ordering
+/// Compares two lists of digits as [`compare_digits`], by their bytes where both store packed BCD, else digit by digit.
+fn compare_long<D: DigitStore, E: DigitStore>(digits: &D, other: &E) -> Ordering
     requires stripped { IsStripped (D.digits digits.now) }
     requires other_stripped { IsStripped (E.digits other.now) }
     ensures { result ≡ slice_cmp nat_cmp (D.digits digits.now) (E.digits other.now) }
 {
-    let front = digits.bcd_at(0);
-    let other_front = other.bcd_at(0);
-    let longest = digits.len().max(other.len());
-    if front != other_front || longest <= 16 {
-        return front.cmp(&other_front);
-    }
     if let (Some(bytes), Some(other_bytes)) = (digits.as_bcd(), other.as_bcd()) {
         return compare_bytes(bytes, other_bytes);
     }
@@ -73,6 +66,25 @@ fn compare_digits<D: DigitStore, E: DigitStore>(digits: &D, other: &E) -> Orderi
         }
     }
     digits.len().cmp(&other.len())
+}
+
+/// Compares two lists of digits by the first digits that differ; if one is a prefix of the other, the longer one is
+/// greater. Neither list ends in 0.
+fn compare_digits<D: DigitStore, E: DigitStore>(digits: &D, other: &E) -> Ordering
+    requires stripped { IsStripped (D.digits digits.now) }
+    requires other_stripped { IsStripped (E.digits other.now) }
+    ensures { result ≡ slice_cmp nat_cmp (D.digits digits.now) (E.digits other.now) }
+{
+    let shortest = digits.len().min(other.len());
+    if shortest <= 16 {
+        let front = digits.bcd_at(0);
+        let other_front = other.bcd_at(0);
+        let longest = digits.len().max(other.len());
+        if front != other_front || longest <= 16 {
+            return front.cmp(&other_front);
+        }
+    }
+    compare_long(digits, other)
 }
 
 impl<D: DigitStore> UnsignedOver<D> {

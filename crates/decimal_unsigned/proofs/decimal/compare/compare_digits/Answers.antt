@@ -1,17 +1,6 @@
-use Rattle.decimal_unsigned.proofs.Common.{◌≡◌, length, sym, ◌∙◌, inl, inr, arith, min, nat_cmp, slice_cmp}
-use Rattle.decimal_unsigned.proofs.Comparing.{lengths_decide, fronts_order, bytes_order}
+use Rattle.decimal_unsigned.proofs.Common.{◌≡◌, sym, ◌∙◌, inl, inr, arith, nat_cmp}
+use Rattle.decimal_unsigned.proofs.Comparing.{fronts_order}
 use Rattle.decimal_unsigned.proofs.decimal.compare.compare_digits.Goals as goal
-
-pub returns : goal.returns
-returns g c =
-    let ds = g.D.DigitStore.digits c.args.digits.now in
-    let es = g.E.DigitStore.digits c.args.other.now in
-    let i = c.loop-index.index in
-    let end : i ≡ min (length ds) (length es) =
-    omega (arith, c.min-index-end.ensures, c.len-3.ensures, c.len-4.ensures) in
-    let left : nat_cmp (length ds) (length es) ≡ slice_cmp nat_cmp ds es =
-    lengths_decide ds es i end ∙ sym c.loop-index.invariant in
-    c.cmp-2.ensures ∙ (λ k. nat_cmp (c.len-5.ensures k) (c.len-6.ensures k)) ∙ left
 
 pub returns-then-front-other_front : goal.returns-then-front-other_front
 returns-then-front-other_front g c =
@@ -26,16 +15,7 @@ returns-then-front-other_front g c =
     (elim c.then-front-other_front.either [
       | inl h ↦ inl (λ e. h (left ∙ e ∙ sym right))
       | inr h ↦ inr (
-        omega (arith, h.1, c.max-longest.ensures, c.len.ensures, c.len-2.ensures),
-        omega (arith, h.1, c.max-longest.ensures, c.len.ensures, c.len-2.ensures),
+        omega (arith, h.1, c.max-longest.ensures, c.len-then-shortest-le16.ensures, c.len-then-shortest-le16-2.ensures),
+        omega (arith, h.1, c.max-longest.ensures, c.len-then-shortest-le16.ensures, c.len-then-shortest-le16-2.ensures),
       )
     ])
-
-pub returns-in-Some-Some : goal.returns-in-Some-Some
-returns-in-Some-Some g c =
-    c.compare_bytes.ensures
-    ∙ bytes_order c.in-Some-Some.bytes.now c.in-Some-Some.other_bytes.now (g.D.DigitStore.digits c.args.digits.now)
-    (g.E.DigitStore.digits c.args.other.now) (g.met.D.DigitStore.are_digits c.args.digits.now)
-    (g.met.E.DigitStore.are_digits c.args.other.now) c.requires.stripped.back c.requires.other_stripped.back
-    c.in-Some-Some.ensures.packed c.in-Some-Some.ensures.digits c.in-Some-Some.ensures'.packed
-    c.in-Some-Some.ensures'.digits

@@ -1,5 +1,5 @@
 use Rattle.decimal_unsigned.proofs.Common.{◌≡◌, drop, nat_cmp, slice_cmp}
-use Rattle.decimal_unsigned.proofs.decimal.compare.compare_digits.Given as goal
+use Rattle.decimal_unsigned.proofs.decimal.compare.compare_long.Given as goal
 
 -- the digits from the index on decide
 abbrev pub invariant-loop-index : goal.invariant-loop-index
