@@ -23,18 +23,6 @@ pub struct Conversion<'a> {
 }
 
 impl<'a> Conversion<'a> {
-    /// Reads a text.
-    #[inline]
-    fn read(&self, alloc: Global, text: &[u8]) -> Result<Decimal, ParseError>
-        ensures found { IfOk result (λ v. IsReadAs self.now.reader text.now (Ok v)) }
-        ensures fails_with { IfErr result (ReadingFails self.now.reader text.now) }
-    {
-        match &self.reader {
-            Some(reader) => reader.read(alloc, text),
-            None => Decimal::try_from_utf8(alloc, text),
-        }
-    }
-
     /// Makes the calls on the decimal that a text is read as.
     #[inline]
     fn change(&self, alloc: Global, text: &[u8], value: &mut Decimal) -> Result<(), OperationError>
@@ -61,6 +49,34 @@ impl<'a> Conversion<'a> {
         match &self.formatter {
             Some(formatter) => formatter.format(value).write_to(sink),
             None => value.write_to(sink),
+        }
+    }
+
+    /// Makes the calls on the decimal that a text was read as, and appends the text of the result to a sink.
+    fn finish<W: Sink>(
+        &self,
+        alloc: Global,
+        text: &[u8],
+        read: &mut Result<Decimal, ParseError>,
+        sink: &mut W,
+    ) -> Result<(), OperationError>
+        requires found { IfOk read.old (λ v. IsReadAs self.now.reader text.now (Ok v)) }
+        requires fails_with { IfErr read.old (ReadingFails self.now.reader text.now) }
+        ensures written { OnOk result (HasOutcome self.now text.now
+            (Appends (W.contents sink.old) (W.contents sink.new))) }
+        ensures fails_with { IfErr result (λ error. OperationsFail error self.now text.now) }
+        ensures unchanged_on_error { IfErr result (λ error. error ≢ OperationError.Output → sink.new ≡ sink.old) }
+        ensures failed { result ≡ Err OperationError.Output → W.has_failed sink.new ≡ true }
+        ensures prefix { result ≡ Err OperationError.Output → HasOutcome self.now text.now
+            (AppendsPrefix (W.contents sink.old) (W.contents sink.new)) }
+    {
+        match read {
+            Ok(value) => {
+                self.change(alloc, text, value)?;
+                self.write(value, sink)?;
+                Ok(())
+            }
+            Err(error) => Err(error_of_reading(error)),
         }
     }
 }
@@ -104,13 +120,15 @@ pub fn convert<W: Sink>(
     ensures prefix { result ≡ Err OperationError.Output → HasOutcome conversion.now text.now
         (AppendsPrefix (W.contents sink.old) (W.contents sink.new)) }
 {
-    let mut read = conversion.read(alloc, text);
-    match &mut read {
-        Ok(value) => {
-            conversion.change(alloc, text, value)?;
-            conversion.write(value, sink)?;
-            Ok(())
+    // Each result has a place of its own: where two are joined, a value is copied in parts.
+    match &conversion.reader {
+        Some(reader) => {
+            let mut read = reader.read(alloc, text);
+            conversion.finish(alloc, text, &mut read, sink)
         }
-        Err(error) => Err(error_of_reading(error)),
+        None => {
+            let mut read = Decimal::try_from_utf8(alloc, text);
+            conversion.finish(alloc, text, &mut read, sink)
+        }
     }
 }

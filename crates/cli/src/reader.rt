@@ -35,13 +35,14 @@ impl<'a> DecimalReader<'a> {
         ensures found { IfOk result (λ v. IsReadIn ParseMode.Strict self.now.symbols text.now (Ok v)) }
         ensures fails_with { IfErr result (ReadingFailsIn ParseMode.Strict self.now.symbols text.now) }
     {
-        match self.symbols.read(alloc, text) {
+        let read = self.symbols.read(alloc, text);
+        match &read {
             Ok(value) => {
                 // Proof hint: a decimal that has a range is a value.
                 let _ = value.absolute.magnitude_range();
-                Ok(value)
+                read
             }
-            Err(error) => Err(error),
+            Err(_) => read,
         }
     }
 
@@ -50,13 +51,14 @@ impl<'a> DecimalReader<'a> {
         ensures found { IfOk result (λ v. IsReadIn ParseMode.Lenient self.now.symbols text.now (Ok v)) }
         ensures fails_with { IfErr result (ReadingFailsIn ParseMode.Lenient self.now.symbols text.now) }
     {
-        match self.symbols.read_lenient(alloc, text) {
+        let read = self.symbols.read_lenient(alloc, text);
+        match &read {
             Ok(value) => {
                 // Proof hint: a decimal that has a range is a value.
                 let _ = value.absolute.magnitude_range();
-                Ok(value)
+                read
             }
-            Err(error) => Err(error),
+            Err(_) => read,
         }
     }
 

@@ -24,10 +24,11 @@ lenient_fails s text Memory r utf8 is syntax limit memory = memory is
 
 pub returns-in-Ok-clause-found : goal.returns-in-Ok-clause-found
 returns-in-Ok-clause-found c =
-    (c.magnitude_range.ensures.valid, (c.utf8.text, c.in-Ok.ensures.found))
+    rw c.in-Ok.is (c.magnitude_range.ensures.valid, (c.utf8.text, rw c.in-Ok.is at c.read_lenient-read.ensures.found))
 
 pub returns-in-Err-clause-fails_with : goal.returns-in-Err-clause-fails_with
 returns-in-Err-clause-fails_with c =
-    let h = c.in-Err.ensures in
-    lenient_fails c.args.self.now.symbols c.args.text.now c.in-Err.error (Err c.in-Err.error) c.utf8.text refl h.syntax
-    h.limit h.memory
+    let h = c.read_lenient-read.ensures in
+    rw c.in-Err.is
+    (lenient_fails c.args.self.now.symbols c.args.text.now _ c.read_lenient-read.result c.utf8.text c.in-Err.is h.syntax
+    h.limit h.memory)

@@ -20,6 +20,6 @@ strict_fails s text Memory r is syntax limit memory = memory is
 
 pub returns-in-Err-clause-fails_with : goal.returns-in-Err-clause-fails_with
 returns-in-Err-clause-fails_with c =
-    let h = c.in-Err.ensures in
-    strict_fails c.args.self.now.symbols c.args.text.now c.in-Err.error (Err c.in-Err.error) refl h.syntax.0 h.limit.0
-    h.memory
+    let h = c.read-read.ensures in
+    rw c.in-Err.is
+    (strict_fails c.args.self.now.symbols c.args.text.now _ c.read-read.result c.in-Err.is h.syntax.0 h.limit.0 h.memory)
