@@ -122,13 +122,7 @@ pub fn convert<W: Sink>(
 {
     // Each result has a place of its own: where two are joined, a value is copied in parts.
     match &conversion.reader {
-        Some(reader) => {
-            let mut read = reader.read(alloc, text);
-            conversion.finish(alloc, text, &mut read, sink)
-        }
-        None => {
-            let mut read = Decimal::try_from_utf8(alloc, text);
-            conversion.finish(alloc, text, &mut read, sink)
-        }
+        Some(reader) => conversion.finish(alloc, text, &mut reader.read(alloc, text), sink),
+        None => conversion.finish(alloc, text, &mut Decimal::try_from_utf8(alloc, text), sink),
     }
 }

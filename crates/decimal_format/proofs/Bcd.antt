@@ -3,17 +3,15 @@ use Rattle.std.proofs.Common.{ℕ, ◌+◌, ◌*◌, ◌^◌, ◌<◌, ◌≤◌
 use Rattle.std.specs.Int.Digits.{AllBelowBase, number_from_digits}
 use Rattle.std.proofs.lemmas.Int.Digits.{number_after_append, number_lt}
 use Rattle.std.proofs.Math.Nat.{pow-le-pow_right}
-use Rattle.decimal_digits.proofs.DigitLists.{number_after}
+use Rattle.fixed_decimal.proofs.Calling.{below_sixteen, number_after}
 use Rattle.decimal_unsigned.specs.DigitValues.{IsBcd}
 
+-- digits after digits
 pub below_append : (ds es : List ℕ) → AllBelowBase 10 ds → AllBelowBase 10 es → AllBelowBase 10 (ds ++ es)
 below_append [] es all more = more
 below_append (d ∷ ds) es all more = (all.0, below_append ds es all.1 more)
 
-below_sixteen : (ds : List ℕ) → AllBelowBase 10 ds → AllBelowBase 16 ds
-below_sixteen [] all = tt
-below_sixteen (d ∷ ds) all = (omega (arith, all.0), below_sixteen ds all.1)
-
+-- no digits
 pub bcd_none : IsBcd 0 0 []
 bcd_none = record { digits = tt; count = refl; number = refl }
 
@@ -30,6 +28,7 @@ bcd_room n k ds is few =
     let most : 16 ^ k ≤ 16 ^ 7 = pow-le-pow_right (omega arith) within in
     omega (arith, bcd_lt n k ds is, most)
 
+-- digits after others
 pub bcd_append : (n k m j : ℕ) (ds es : List ℕ) → IsBcd n k ds → IsBcd m j es
     → IsBcd (n * 16 ^ j + m) (k + j) (ds ++ es)
 bcd_append n k m j ds es is more = record {

@@ -15,8 +15,7 @@ use Rattle.decimal_digits.specs.Number.{offset, weight, first, last, size}
 use Rattle.decimal_unsigned.specs.Concatenation.{overlaps, concatenated_end, concatenated_size}
 use Rattle.decimal_unsigned.specs.Edits.{leaves_limits, times_power, multiplied, padded_start}
 use Rattle.decimal_unsigned.specs.Unsigned.{Unsigned, zero_value}
-use Rattle.decimal_digits.proofs.LeadingBytes.{hex_pow}
-use Rattle.fixed_decimal.proofs.Calling.{offset_is, powers, ten_pos, number-append, weight_up, integer_down, first_zero, size_up, first_below_last, size_joined, size_left, size_right, not_overlapping}
+use Rattle.fixed_decimal.proofs.Calling.{offset_is, hex_pow, powers, ten_pos, number-append, weight_up, integer_down, first_zero, size_up, first_below_last, size_joined, size_left, size_right, not_overlapping}
 use Rattle.decimal_unsigned.specs.DigitValues.{IsBcd, value_of_first}
 use Rattle.decimal_format.specs.Collecting.{Collected, IsFresh, Collects, HasValue, IsInLimits, IsBelow, appended}
 use Rattle.decimal_format.proofs.Bcd.{below_append, bcd_none, bcd_append}
@@ -57,7 +56,8 @@ module _ (v : Unsigned) (ds : List ℕ) (position : ℤ) (below : IsBelow v ds p
   next_number = ap (λ k. integer * 10 ^ k) (omega (arith, offset_is (pos 0)))
 
   -- the digits that need memory are those of the sum
-  pub memory_for_integer : (inline : ℕ) → (size next.number ≤ inline → ⊥) → inline < size (appended v ds position).number
+  pub memory_for_integer : (inline : ℕ) → (size next.number ≤ inline → ⊥)
+      → inline < size (appended v ds position).number
   memory_for_integer inline more =
       let grown = size_right v.number (integer * weight position) below.cut top below.divides below.less below.sum
       limit in

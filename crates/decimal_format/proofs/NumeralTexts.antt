@@ -10,12 +10,11 @@ use Rattle.std.proofs.lemmas.Int.{ints, clamps}
 use Rattle.std.proofs.lemmas.Nat.{pow-add, div-mul-add, mod-mul-add}
 use Rattle.std.proofs.lemmas.Int.Digits.{number_lt}
 use Rattle.decimal_digits.specs.Digits.{number_at}
-use Rattle.decimal_digits.proofs.DigitLists.{number_first}
 use Rattle.decimal_digits.specs.Number.{digit, weight, offset}
 use Rattle.decimal_unsigned.specs.Text.{text_down, text}
 use Rattle.decimal_unsigned.specs.Unsigned.{IsValue}
 use Rattle.fixed_decimal.specs.Decimal.{Decimal}
-use Rattle.fixed_decimal.proofs.Calling.{offset_is, gap_is, ten_pos, powers, text_down-suc, text_down-zero}
+use Rattle.fixed_decimal.proofs.Calling.{number_first, offset_is, gap_is, ten_pos, powers, text_down-suc, text_down-zero}
 use Rattle.decimal_format.specs.declared.grouping.GroupingStrategy.{GroupingStrategy}
 use Rattle.decimal_format.specs.Symbols.{Symbols, digit_text, sign_affixes}
 use Rattle.decimal_format.specs.Grouping.{separates}
@@ -287,7 +286,8 @@ value_of_digits w digits few_whole few_fraction =
     let top : n + j + low ≡ offset hi + 1 =
     omega (arith, ints, some, few_fraction, offset_is lo, offset_is hi) in
     let cut : number / 10 ^ low ≡ units = mul-div_cancel units (ten_pos low) in
-    let upper : units / 10 ^ j ≡ number_from_digits 10 w.whole = div-mul-add (number_from_digits 10 w.whole) (10 ^ j) (number_from_digits 10 w.fraction) fraction_lt in
+    let upper : units / 10 ^ j ≡ number_from_digits 10 w.whole =
+    div-mul-add (number_from_digits 10 w.whole) (10 ^ j) (number_from_digits 10 w.fraction) fraction_lt in
     let units_lt : units < 10 ^ n * 10 ^ j =
     (div-lt_iff_lt-mul (ten_pos j)).0 (subst (λ x. x < 10 ^ n) (sym upper) whole_lt) in
     let all_lt : number < 10 ^ n * 10 ^ j * 10 ^ low = mul-lt-mul_of_pos_right units_lt (ten_pos low) in
@@ -298,7 +298,8 @@ value_of_digits w digits few_whole few_fraction =
     ∙ ap (λ x. x % 10 ^ n) (sym (div-div-eq-div-mul number (10 ^ low) (10 ^ j)) ∙ ap (λ x. x / 10 ^ j) cut ∙ upper)
     ∙ mod-eq_of_lt whole_lt in
     let below : number / 10 ^ low % 10 ^ j ≡ number_from_digits 10 w.fraction =
-    ap (λ x. x % 10 ^ j) cut ∙ mod-mul-add (number_from_digits 10 w.whole) (10 ^ j) (number_from_digits 10 w.fraction) fraction_lt in
+    ap (λ x. x % 10 ^ j) cut
+    ∙ mod-mul-add (number_from_digits 10 w.whole) (10 ^ j) (number_from_digits 10 w.fraction) fraction_lt in
     let v : Decimal = record { sign = w.sign; absolute = record { number = number; hi = hi; lo = lo } } in (
       v,
       record {

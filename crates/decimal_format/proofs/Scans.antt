@@ -112,7 +112,8 @@ module _ (s : Symbols) (readable : IsReadable s) where
       )
 
 -- ---- Counting.
--- of digits that a text may begin with, these are left, after a separator if one follows the last digit that was counted
+-- of digits that a text may begin with, these are left, after a separator if one follows the last digit that was
+-- counted
 pub record IsCountedOf (s : Symbols) (separated : ℕ → Bool) (ds tail rest : List ℕ) (n : ℕ) : Type 0 where
   pub left : List ℕ
   pub after_separator : Bool

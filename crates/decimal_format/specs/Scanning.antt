@@ -45,8 +45,8 @@ pub record BeginsWithDigit (s : Symbols) (bytes : List ℕ) : Type 0 where
   pub is_digit : digit < 10
   pub is : bytes ≡ digit_text s digit ++ following
 
--- a text begins with a number of digits, at most n, as packed BCD, and the rest follows them: it begins with no digit if
--- there are fewer than n
+-- a text begins with a number of digits, at most n, as packed BCD, and the rest follows them, which begins with no
+-- digit if there are fewer than n
 pub record ReadsRun (s : Symbols) (n : ℕ) (bytes rest : List ℕ) (number count : ℕ) : Type 0 where
   pub digits : List ℕ
   pub bcd : IsBcd number count digits

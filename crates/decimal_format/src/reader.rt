@@ -261,7 +261,8 @@ impl<'a> DecimalSymbols<'a> {
         is_strict: bool,
     ) -> Result<Signed<UnsignedOver<D>>, ParseError>
         requires { IsReadable self.now }
-        ensures { IsRead D.L (IsNumeralBy is_strict self.now text.now) (IsWrittenBy is_strict self.now text.now) result }
+        ensures { IsRead D.L (IsNumeralBy is_strict self.now text.now)
+            (IsWrittenBy is_strict self.now text.now) result }
     {
         let mut digits = DigitCollector::new(alloc);
         let Some(scanned) = self.scan(text, &mut digits) else {

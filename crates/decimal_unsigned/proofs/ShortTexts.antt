@@ -47,7 +47,8 @@ module _ (v : Unsigned) (valid : IsValue v) (dot : ℕ) (dot_is : dot ≡ int_ga
         let inside : 0 + suc b ≤ 16 - dot =
         omega (arith, ints, gap_is v.lo v.hi, gap_is (pos 0) v.hi, valid.hi_in, valid.lo_in) in
         let at : n ≡ length (bytes_down v.number v.hi dot) + suc (suc b) = omega (arith, front, back) in
-        rw at (take-append-add (bytes_down v.number v.hi dot) (46 ∷ bytes_down v.number (negsuc 0) (16 - dot)) (suc (suc b)))
+        rw at
+        (take-append-add (bytes_down v.number v.hi dot) (46 ∷ bytes_down v.number (negsuc 0) (16 - dot)) (suc (suc b)))
         ∙ ap (λ l. bytes_down v.number v.hi dot ++ 46 ∷ l)
         (bytes_down-part v.number (negsuc 0) (16 - dot) 0 (suc b) inside)
 
@@ -77,4 +78,5 @@ module _ (v : Unsigned) (valid : IsValue v) (dot : ℕ) (dot_is : dot ≡ int_ga
         ∙ take-append-le (length (text v)) (take 17 block) (drop 17 block) short
         ∙ ap (take (length (text v))) (e ∙ (λ i. whole i ++ 46 ∷ fraction i))
         ∙ cut v.lo refl (length (text v)) long
-        ∙ sym (text_is v valid.hi_in.0 valid.lo_in.1 ∙ ap (λ n. bytes_down v.number v.hi n ++ fraction_text v.number v.lo) (sym dot_is))
+        ∙ sym (text_is v valid.hi_in.0 valid.lo_in.1
+        ∙ ap (λ n. bytes_down v.number v.hi n ++ fraction_text v.number v.lo) (sym dot_is))

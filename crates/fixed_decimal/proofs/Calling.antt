@@ -37,6 +37,10 @@ pub use Rattle.decimal_digits.proofs.DigitLists.{ten_pos}
 pub use Rattle.decimal_digits.proofs.NumberAt.{powers}
 -- the number that a concatenation of digits writes
 pub use Rattle.decimal_digits.proofs.DigitLists.{number-append}
+-- and that of digits after others; the first digit of a number
+pub use Rattle.decimal_digits.proofs.DigitLists.{number_after, number_first}
+-- digits below ten are below sixteen, and a digit takes four bits
+pub use Rattle.decimal_digits.proofs.LeadingBytes.{below_sixteen, hex_pow}
 -- a magnitude that 16 bits hold is read as it was written
 pub use Rattle.decimal_unsigned.proofs.Values.{narrow_kept}
 -- the greatest number that passes a test

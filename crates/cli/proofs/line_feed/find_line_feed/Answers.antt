@@ -37,5 +37,6 @@ pub returns-then-index-lt-LANES : goal.returns-then-index-lt-LANES
 returns-then-index-lt-LANES c =
     let bytes = c.args.bytes.now in
     let room = c.if-bytes-ge-LANES.true in
-    first_marked bytes _ _ room refl (bitmask_splat w8 eqb (chunk 0 16 bytes) 16 10 (length-chunk 0 16 bytes room) (omega arith))
+    first_marked bytes _ _ room refl
+    (bitmask_splat w8 eqb (chunk 0 16 bytes) 16 10 (length-chunk 0 16 bytes room) (omega arith))
     c.if-index-lt-LANES.true

@@ -22,4 +22,5 @@ pub returns-in-Err-clause-fails_with : goal.returns-in-Err-clause-fails_with
 returns-in-Err-clause-fails_with c =
     let h = c.read-read.ensures in
     rw c.in-Err.is
-    (strict_fails c.args.self.now.symbols c.args.text.now _ c.read-read.result c.in-Err.is h.syntax.0 h.limit.0 h.memory)
+    (strict_fails c.args.self.now.symbols c.args.text.now _ c.read-read.result c.in-Err.is h.syntax.0 h.limit.0
+    h.memory)

@@ -24,7 +24,8 @@ loop-after-preserved-in-Some g c =
 
 pub loop-after-smaller-in-Some : goal.loop-after-smaller-in-Some
 loop-after-smaller-in-Some g c =
-    shorter c.args.self.now c.requires.readable c.loop-after.rest.now c.in-Some.after.now c.in-Some.field-0-0 c.in-Some.ensures.0
+    shorter c.args.self.now c.requires.readable c.loop-after.rest.now c.in-Some.after.now c.in-Some.field-0-0
+    c.in-Some.ensures.0
     c.in-Some.ensures.1
 
 -- ---- A separator follows.
@@ -47,7 +48,8 @@ loop-after-smaller g c =
     let s = c.args.self.now in
     let after = c.in-Some-cut.after.now in
     let code : c.as_bytes.result.now ≡ s.grouping = c.as_bytes.ensures.value ∙ c.grouping_separator.ensures.value in
-    shorter_by_separator s c.requires.readable c.loop-after.rest.now after (c.in-Some-cut.ensures ∙ ap (λ l. l ++ after) code)
+    shorter_by_separator s c.requires.readable c.loop-after.rest.now after
+    (c.in-Some-cut.ensures ∙ ap (λ l. l ++ after) code)
 
 -- ---- Neither follows.
 pub returns-in_default-cut : goal.returns-in_default-cut

@@ -49,7 +49,8 @@ overflow_add-number g c =
 pub returns : goal.returns
 returns g c =
     run_read c.args.self.now c.args.most c.args.text.now c.loop-count.rest.now c.loop-count.number c.loop-count.count
-    c.loop-count.invariant.read c.loop-count.invariant.at_most (λ few. absurd (omega (arith, few, c.loop-count-test.false)))
+    c.loop-count.invariant.read c.loop-count.invariant.at_most
+    (λ few. absurd (omega (arith, few, c.loop-count-test.false)))
 
 pub returns-in_default : goal.returns-in_default
 returns-in_default g c =

@@ -16,4 +16,6 @@ unfolding nibbles word_nibbles
 returns c =
     let n = c.args.word in
     rw c.to_be_bytes-bytes.ensures (λ i.
-    high 7 n i ∷ (low 7 n i ∷ (high 6 n i ∷ (low 6 n i ∷ (high 5 n i ∷ (low 5 n i ∷ (high 4 n i ∷ (low 4 n i ∷ (high 3 n i ∷ (low 3 n i ∷ (high 2 n i ∷ (low 2 n i ∷ (high 1 n i ∷ (low 1 n i ∷ (high 0 n i ∷ (low 0 n i ∷ []))))))))))))))))
+    high 7 n i ∷ (low 7 n i ∷ (high 6 n i ∷ (low 6 n i ∷ (high 5 n i ∷ (low 5 n i ∷ (high 4 n i ∷ (low 4 n i
+    ∷ (high 3 n i ∷ (low 3 n i ∷ (high 2 n i ∷ (low 2 n i ∷ (high 1 n i ∷ (low 1 n i ∷ (high 0 n i ∷ (low 0 n i
+    ∷ []))))))))))))))))

@@ -48,7 +48,8 @@ returns-clause-collects g c = λ n ds h.
     let narrow : FitsSigned w16 c.to_magnitude-position.result = search rules in
     let new = c.append-appended.new.value in
     let wide : FitsSigned w32 c.subtract_counts.result = search rules in
-    let at : position ≡ pos c.make_value.new.self.integer_digits -ℤ pos (c.make_value.new.self.written + c.make_value.new.self.count) =
+    let at : position
+    ≡ pos c.make_value.new.self.integer_digits -ℤ pos (c.make_value.new.self.written + c.make_value.new.self.count) =
     to_z-of_z w16 c.to_magnitude-position.result narrow ∙ c.to_magnitude-position.ensures
     ∙ to_z-of_z w32 c.subtract_counts.result wide ∙ c.subtract_counts.ensures
     ∙ (λ i. pos (is i).integer_digits -ℤ pos ((is i).written + (is i).count)) in

@@ -33,7 +33,8 @@ loop-written-preserved g c =
       within = omega (arith, few, c.copy_text.auto.buffer, c.min.ensures);
       wrote = λ flush.
           let w = c.loop-written.invariant.wrote flush in
-          let p = subst (λ bs. HasWrittenStyled took c.loop-written.f bs new) c.from_utf8_unchecked-in-loop-written.ensures
+          let p =
+          subst (λ bs. HasWrittenStyled took c.loop-written.f bs new) c.from_utf8_unchecked-in-loop-written.ensures
           (c.in_ok-write_str.ensures.styled w.flush refl) in
           has_written_styled_of_eq took c.args.f.now (take i all ++ piece) (take (i + length piece) all) new
           (piece_taken all piece i _

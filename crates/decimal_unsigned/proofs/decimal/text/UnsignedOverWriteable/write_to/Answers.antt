@@ -39,9 +39,18 @@ returns-in_err-put_bytes-clause-unchanged g c =
 
 pub returns-clause-had_not_failed : goal.returns-clause-had_not_failed
 returns-clause-had_not_failed g c =
-    fresh_some g.W.Sink.has_failed _ _ _ c.loop-written.invariant.fresh (omega (arith, text_some c.args.self.now c.writeable_length_hint-length.ensures.valid, c.writeable_length_hint-length.ensures.length))
+    fresh_some g.W.Sink.has_failed _ _ _ c.loop-written.invariant.fresh
+    (omega (
+      arith,
+      text_some c.args.self.now c.writeable_length_hint-length.ensures.valid,
+      c.writeable_length_hint-length.ensures.length,
+    ))
 
 pub returns-clause-unchanged : goal.returns-clause-unchanged
 returns-clause-unchanged g c =
     fresh_ends g.W.Sink.has_failed g.W.Sink.contents _ _ _ c.loop-written.invariant.fresh
-    (omega (arith, text_some c.args.self.now c.writeable_length_hint-length.ensures.valid, c.writeable_length_hint-length.ensures.length))
+    (omega (
+      arith,
+      text_some c.args.self.now c.writeable_length_hint-length.ensures.valid,
+      c.writeable_length_hint-length.ensures.length,
+    ))
