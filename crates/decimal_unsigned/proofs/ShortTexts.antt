@@ -1,8 +1,7 @@
 -- The text of a value of at most sixteen digits, by their nibbles.
-use Rattle.decimal_unsigned.proofs.Common.{elements, ◌≡◌, ℕ, zero, suc, ◌+◌, ◌-◌, ◌<◌, ◌≤◌, List, [], ◌∷◌, ◌++◌, length, get_or, take, drop, map, replicate, refl, sym, ◌∙◌, ap, arith, inl, inr, ℤ, pos, negsuc, ◌+ℤ◌, ◌-ℤ◌, ◌≤ℤ◌, ◌<ℤ◌, int_gap, ints, cases_lt, append-nil, get_or-drop, get_or-take, length-append, length-drop, length-map, length-replicate, length-take-le, gap_is, recursion_from_All, number_of, IsStored, digit, Unsigned, IsValue, text}
-use Rattle.std.specs.Prelude.{All, EachIndex, slice_index}
-use Rattle.std.proofs.lemmas.List.{get_or_append_left, get_or-map, get_or_past, get_or-replicate, take-append-drop, take-append-le, take_at}
-use Rattle.std.proofs.Math.Seq.{get_or-append_right, take-append-add}
+use Rattle.decimal_unsigned.proofs.Common.{◌≡◌, ℕ, suc, ◌+◌, ◌-◌, ◌<◌, ◌≤◌, List, ◌∷◌, ◌++◌, length, get_or, take, drop, refl, sym, ◌∙◌, ap, arith, ℤ, pos, negsuc, ◌-ℤ◌, int_gap, ints, append-nil, get_or-drop, get_or-take, length-append, length-drop, length-map, length-take-le, gap_is, digit, Unsigned, IsValue, text}
+use Rattle.std.proofs.lemmas.List.{get_or-map, take-append-drop, take-append-le, take_at}
+use Rattle.std.proofs.Math.Seq.{take-append-add}
 use Rattle.decimal_digits.specs.Digits.{text_of}
 use Rattle.decimal_unsigned.proofs.Lengths.{length-text, length-text_whole, length-text_dotted}
 use Rattle.decimal_unsigned.proofs.TextBytes.{bytes_down, bytes_are, length-bytes_down, bytes_down-part, fraction_text, text_is}

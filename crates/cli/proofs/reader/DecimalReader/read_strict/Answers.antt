@@ -1,4 +1,4 @@
-use Rattle.std.proofs.Common.{◌≡◌, List, ℕ, Result, Err, refl}
+use Rattle.std.proofs.Common.{◌≡◌, List, ℕ, Result, Err}
 use Rattle.decimal_unsigned.specs.declared.error.ParseError.{ParseError}
 use Rattle.decimal_unsigned.specs.declared.error.ParseError.TheVariants.{Syntax, Limit, Memory}
 use Rattle.fixed_decimal.specs.Decimal.{Decimal}
