@@ -76,11 +76,12 @@ pub fn places_above(position: i16, magnitude: i16) -> Option<usize>
     ensures some { IfSome result (λ places. (position +ℤ pos places) ≡ (magnitude +ℤ pos 1)) }
     ensures none { IfNone result ((magnitude +ℤ pos 1) <ℤ position) }
 {
-    let places = magnitude as i32 - position as i32 + 1;
-    if places < 0 {
+    let above = magnitude as i32 + 1;
+    let position = position as i32;
+    if above < position {
         None
     } else {
-        Some(places as usize)
+        Some((above - position) as usize)
     }
 }
 

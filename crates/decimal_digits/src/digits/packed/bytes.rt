@@ -109,9 +109,8 @@ fn set_front(bytes: &mut SmallVec<u8, 8>, word: u64)
     ensures len { small_vec_len bytes.new ≡ small_vec_len bytes.old }
     ensures capacity { bytes.new.capacity ≡ bytes.old.capacity }
 {
-    if let Some(front) = bytes.as_mut_slice().first_chunk_mut::<8>() {
-        *front = word.to_be_bytes();
-    }
+    let (front, _) = bytes.as_mut_slice().split_at_mut(8);
+    front.copy_from_slice(&word.to_be_bytes());
 }
 
 /// Replaces eight bytes by those of a word.
@@ -344,7 +343,7 @@ fn cut_to_word(bytes: &mut SmallVec<u8, 8>, len: usize, count: usize)
 }
 
 /// Removes the first `count` digits, byte by byte.
-#[inline(never)]
+#[inline]
 fn cut_bytes(bytes: &mut SmallVec<u8, 8>, len: usize, count: usize)
     requires padded { IsPadded bytes.old.items len }
     requires in_range { count ≤ len }
