@@ -1,5 +1,5 @@
 //! The text of a value.
-ghost use Rattle.std.specs.Prelude.{◌≡◌, ◌↔◌, ℕ, ◌+◌, ◌-◌, ◌-ℤ◌, ◌<◌, ◌≤◌, length, take, drop, replicate, slice_index, EachIndex, Ok, OnOk, OnErr, pos, IsTrue, true, false};
+ghost use Rattle.std.specs.Prelude.{◌≡◌, ◌↔◌, ℕ, ◌+◌, ◌-◌, ◌*◌, ◌/◌, ◌%◌, ◌^◌, ◌-ℤ◌, ◌<◌, ◌≤◌, length, take, drop, replicate, slice_index, EachIndex, Ok, OnOk, OnErr, pos, IsTrue, true, false};
 ghost use Rattle.std.specs.Int.{int_gap};
 ghost use Rattle.std.specs.Io.KnownBytes.{Keeps, Appends};
 ghost use Rattle.decimal_digits.specs.Number.{offset, digit};
@@ -72,32 +72,39 @@ impl<D: DigitStore> UnsignedOver<D> {
         }
     }
 
-    /// Returns the byte of the text at an index.
+    /// Returns the byte of the text at an index, of the digits that `leading_bcd` returns.
     ///
-    /// Requires an index in range.
+    /// Requires an index in range, and at most sixteen magnitudes that are shown.
     #[inline]
-    fn byte_at(&self, index: usize) -> u8
-        requires { index < length (text self.now) }
+    fn byte_at(&self, digits: u64, index: usize) -> u8
+        requires in_range { index < length (text self.now) }
+        requires few { int_gap self.now.lo self.now.hi < 16 }
+        requires digits { (k : ℕ) → k < 16
+            → digits / 2 ^ (4 * (15 - k)) % 16 ≡ digit self.now.number (self.now.hi -ℤ pos k) }
         ensures { result ≡ slice_index (text self.now) index }
     {
         let dot = self.dot();
         if index == dot {
-            b'.'
-        } else {
-            b'0' + self.digit_at(self.magnitude_at(index))
+            return b'.';
         }
+        let place = if index < dot { index } else { index - 1 };
+        b'0' + ((digits >> (4 * (15 - place))) % 16) as u8
     }
 
     /// Appends the text byte by byte.
+    ///
+    /// Requires at most sixteen magnitudes that are shown.
     fn write_bytewise<W: Sink>(&self, sink: &mut W) -> Result<(), SinkFault>
+        requires { int_gap self.now.lo self.now.hi < 16 }
         ensures ok { OnOk result (Appends (W.contents sink.old) (W.contents sink.new) (text self.now)) }
         ensures err { OnErr result (AppendsPrefix (W.contents sink.old) (W.contents sink.new) (text self.now)) }
         ensures had_not_failed { OnOk result (W.has_failed sink.old ≡ false) }
         ensures failed { OnErr result (W.has_failed sink.new ≡ true) }
         ensures unchanged { W.has_failed sink.old ≡ true → Keeps (W.contents sink.old) (W.contents sink.new) }
     {
+        let digits = self.leading_bcd();
         for index in 0..self.writeable_length_hint() {
-            sink.put_byte(self.byte_at(index))?;
+            sink.put_byte(self.byte_at(digits, index))?;
         }
         Ok(())
     }
@@ -169,10 +176,10 @@ impl<D: DigitStore> Writeable for UnsignedOver<D> {
         ensures reads_back { read (text self.now) ≡ Ok self.now }
     {
         let length = self.writeable_length_hint();
-        if length <= MAX_SHORT {
-            return self.write_bytewise(sink);
-        }
         if self.is_short() {
+            if length <= MAX_SHORT {
+                return self.write_bytewise(sink);
+            }
             return sink.put_bytes(&self.short_text()[..length]);
         }
         let mut written = 0;
