@@ -1,5 +1,5 @@
 //! The text of a value.
-ghost use Rattle.std.specs.Prelude.{◌≡◌, ◌↔◌, ℕ, ◌+◌, ◌-◌, ◌-ℤ◌, ◌<◌, ◌≤◌, length, take, drop, replicate, slice_index, EachIndex, Ok, OnOk, OnErr, pos, IsTrue, true, false};
+ghost use Rattle.std.specs.Prelude.{◌≡◌, ◌↔◌, [], ◌∷◌, ◌+◌, ◌-◌, ◌-ℤ◌, ◌<◌, ◌≤◌, length, take, drop, replicate, slice_index, EachIndex, Ok, OnOk, OnErr, pos, IsTrue, true, false};
 ghost use Rattle.std.specs.Int.{int_gap};
 ghost use Rattle.std.specs.Io.KnownBytes.{Keeps, Appends};
 ghost use Rattle.decimal_digits.specs.Number.{offset, digit};
@@ -15,9 +15,6 @@ use decimal_digits::sink::{Sink, SinkFault, Writeable};
 
 /// The number of bytes of a text that are made and written at a time. Most texts are shorter.
 pub(super) const BLOCK: usize = 64;
-
-/// The greatest length of a text that is written byte by byte, which is then faster than a block.
-const MAX_SHORT: usize = 5;
 
 /// The greatest number of digits of a text that is made from one packed BCD number.
 const MAX_WORD: u32 = 16;
@@ -72,34 +69,13 @@ impl<D: DigitStore> UnsignedOver<D> {
         }
     }
 
-    /// Returns the byte of the text at an index.
-    ///
-    /// Requires an index in range.
+    /// Returns the byte of a text of one byte.
     #[inline]
-    fn byte_at(&self, index: usize) -> u8
-        requires { index < length (text self.now) }
-        ensures { result ≡ slice_index (text self.now) index }
+    fn only_byte(&self) -> u8
+        requires { length (text self.now) ≡ 1 }
+        ensures { result ∷ [] ≡ text self.now }
     {
-        let dot = self.dot();
-        if index == dot {
-            b'.'
-        } else {
-            b'0' + self.digit_at(self.magnitude_at(index))
-        }
-    }
-
-    /// Appends the text byte by byte.
-    fn write_bytewise<W: Sink>(&self, sink: &mut W) -> Result<(), SinkFault>
-        ensures ok { OnOk result (Appends (W.contents sink.old) (W.contents sink.new) (text self.now)) }
-        ensures err { OnErr result (AppendsPrefix (W.contents sink.old) (W.contents sink.new) (text self.now)) }
-        ensures had_not_failed { OnOk result (W.has_failed sink.old ≡ false) }
-        ensures failed { OnErr result (W.has_failed sink.new ≡ true) }
-        ensures unchanged { W.has_failed sink.old ≡ true → Keeps (W.contents sink.old) (W.contents sink.new) }
-    {
-        for index in 0..self.writeable_length_hint() {
-            sink.put_byte(self.byte_at(index))?;
-        }
-        Ok(())
+        b'0' + self.digit_at(0)
     }
 
     /// Returns whether at most sixteen magnitudes are shown.
@@ -169,8 +145,8 @@ impl<D: DigitStore> Writeable for UnsignedOver<D> {
         ensures reads_back { read (text self.now) ≡ Ok self.now }
     {
         let length = self.writeable_length_hint();
-        if length <= MAX_SHORT {
-            return self.write_bytewise(sink);
+        if length == 1 {
+            return sink.put_byte(self.only_byte());
         }
         if self.is_short() {
             return sink.put_bytes(&self.short_text()[..length]);
