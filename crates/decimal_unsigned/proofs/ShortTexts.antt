@@ -6,12 +6,20 @@ use Rattle.decimal_digits.specs.Digits.{text_of}
 use Rattle.decimal_unsigned.proofs.Lengths.{length-text, length-text_whole, length-text_dotted}
 use Rattle.decimal_unsigned.proofs.TextBytes.{bytes_down, bytes_are, length-bytes_down, bytes_down-part, fraction_text, text_is}
 
+module _ (v : Unsigned) (valid : IsValue v) (few : int_gap v.lo v.hi < 16) where
+  -- there are at most sixteen integer digits, and at most seventeen bytes
+  pub few_whole : int_gap (pos 0) v.hi + 1 ≤ 16
+  few_whole = omega (arith, ints, gap_is v.lo v.hi, gap_is (pos 0) v.hi, valid.hi_in, valid.lo_in)
+
+  pub few_bytes : length (text v) ≤ 17
+  few_bytes = grind (arith, ints, length-text_whole, length-text_dotted, gap_is)
+
 module _ (v : Unsigned) (valid : IsValue v) (dot : ℕ) (dot_is : dot ≡ int_gap (pos 0) v.hi + 1)
     (few : int_gap v.lo v.hi < 16) (ns : List ℕ) (size : length ns ≡ 16)
     (same : (k : ℕ) → k < 16 → get_or ns k 0 ≡ digit v.number (v.hi -ℤ pos k))
   where
     dot_in : dot ≤ 16
-    dot_in = omega (arith, ints, gap_is v.lo v.hi, gap_is (pos 0) v.hi, valid.hi_in, valid.lo_in)
+    dot_in = omega (arith, dot_is, few_whole v valid few)
 
     whole : text_of (take dot ns) ≡ bytes_down v.number v.hi dot
     whole =
@@ -51,9 +59,6 @@ module _ (v : Unsigned) (valid : IsValue v) (dot : ℕ) (dot_is : dot ≡ int_ga
         ∙ ap (λ l. bytes_down v.number v.hi dot ++ 46 ∷ l)
         (bytes_down-part v.number (negsuc 0) (16 - dot) 0 (suc b) inside)
 
-    text_few : length (text v) ≤ 17
-    text_few = grind (arith, ints, length-text_whole, length-text_dotted, gap_is)
-
     size_of : length (text_of (take dot ns) ++ 46 ∷ text_of (drop dot ns)) ≡ 17
     size_of =
         omega (
@@ -72,7 +77,7 @@ module _ (v : Unsigned) (valid : IsValue v) (dot : ℕ) (dot_is : dot ≡ int_ga
     short_text_is block e =
         let long : length (text v) ≡ dot + length (fraction_text v.number v.lo) =
         length-text v valid.hi_in.0 valid.lo_in.1 ∙ ap (λ n. n + length (fraction_text v.number v.lo)) (sym dot_is) in
-        let short : length (text v) ≤ length (take 17 block) = omega (arith, ap length e, size_of, text_few) in
+        let short : length (text v) ≤ length (take 17 block) = omega (arith, ap length e, size_of, few_bytes v valid few) in
         ap (take (length (text v))) (sym (take-append-drop 17 block))
         ∙ take-append-le (length (text v)) (take 17 block) (drop 17 block) short
         ∙ ap (take (length (text v))) (e ∙ (λ i. whole i ++ 46 ∷ fraction i))
