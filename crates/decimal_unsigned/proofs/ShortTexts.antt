@@ -1,6 +1,6 @@
 -- The text of a value of at most sixteen digits, by their nibbles.
-use Rattle.decimal_unsigned.proofs.Common.{◌≡◌, ℕ, suc, ◌+◌, ◌-◌, ◌<◌, ◌≤◌, List, ◌∷◌, ◌++◌, length, get_or, take, drop, refl, sym, ◌∙◌, ap, arith, ℤ, pos, negsuc, ◌-ℤ◌, int_gap, ints, append-nil, get_or-drop, get_or-take, length-append, length-drop, length-map, length-take-le, gap_is, digit, Unsigned, IsValue, text}
-use Rattle.std.proofs.lemmas.List.{get_or-map, take-append-drop, take-append-le, take_at}
+use Rattle.decimal_unsigned.proofs.Common.{◌≡◌, ℕ, suc, ◌+◌, ◌-◌, ◌<◌, ◌≤◌, List, ◌∷◌, ◌++◌, length, get_or, take, drop, refl, sym, ◌∙◌, ap, arith, ℤ, pos, negsuc, ◌-ℤ◌, int_gap, ints, append-nil, get_or-drop, get_or-take, length-drop, length-map, length-take-le, gap_is, digit, Unsigned, IsValue, text}
+use Rattle.std.proofs.lemmas.List.{get_or-map, take_at}
 use Rattle.std.proofs.Math.Seq.{take-append-add}
 use Rattle.decimal_digits.specs.Digits.{text_of}
 use Rattle.decimal_unsigned.proofs.Lengths.{length-text, length-text_whole, length-text_dotted}
@@ -59,28 +59,13 @@ module _ (v : Unsigned) (valid : IsValue v) (dot : ℕ) (dot_is : dot ≡ int_ga
         ∙ ap (λ l. bytes_down v.number v.hi dot ++ 46 ∷ l)
         (bytes_down-part v.number (negsuc 0) (16 - dot) 0 (suc b) inside)
 
-    size_of : length (text_of (take dot ns) ++ 46 ∷ text_of (drop dot ns)) ≡ 17
-    size_of =
-        omega (
-          arith,
-          dot_in,
-          length-append (text_of (take dot ns)) (46 ∷ text_of (drop dot ns)),
-          ap length whole,
-          ap length fraction,
-          length-bytes_down v.number v.hi dot,
-          length-bytes_down v.number (negsuc 0) (16 - dot),
-        )
-
-    -- a block that begins with them begins with the text
-    pub short_text_is : (block : List ℕ) → take 17 block ≡ text_of (take dot ns) ++ 46 ∷ text_of (drop dot ns)
+    -- they begin with the text
+    pub short_text_is : (block : List ℕ) → block ≡ text_of (take dot ns) ++ 46 ∷ text_of (drop dot ns)
         → take (length (text v)) block ≡ text v
     short_text_is block e =
         let long : length (text v) ≡ dot + length (fraction_text v.number v.lo) =
         length-text v valid.hi_in.0 valid.lo_in.1 ∙ ap (λ n. n + length (fraction_text v.number v.lo)) (sym dot_is) in
-        let short : length (text v) ≤ length (take 17 block) = omega (arith, ap length e, size_of, few_bytes v valid few) in
-        ap (take (length (text v))) (sym (take-append-drop 17 block))
-        ∙ take-append-le (length (text v)) (take 17 block) (drop 17 block) short
-        ∙ ap (take (length (text v))) (e ∙ (λ i. whole i ++ 46 ∷ fraction i))
+        ap (take (length (text v))) (e ∙ (λ i. whole i ++ 46 ∷ fraction i))
         ∙ cut v.lo refl (length (text v)) long
         ∙ sym (text_is v valid.hi_in.0 valid.lo_in.1
         ∙ ap (λ n. bytes_down v.number v.hi n ++ fraction_text v.number v.lo) (sym dot_is))

@@ -131,7 +131,7 @@ impl<D: DigitStore> UnsignedOver<D> {
     ///
     /// Requires at most sixteen magnitudes that are shown.
     #[inline(always)]
-    pub(super) fn short_text(&self) -> [u8; 33]
+    pub(super) fn short_text(&self) -> [u8; 17]
         requires { int_gap self.now.lo self.now.hi < 16 }
         ensures { take (length (text self.now)) result ≡ text self.now }
     {

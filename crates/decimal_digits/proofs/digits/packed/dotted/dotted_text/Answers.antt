@@ -1,49 +1,60 @@
-use Rattle.std.proofs.Common.{◌≡◌, ℕ, ◌+◌, ◌<◌, ◌≤◌, List, [], ◌∷◌, ◌++◌, length, take, drop, replicate, refl, sym, ap, ◌∙◌, arith, length-append, length-drop, append_assoc}
-use Rattle.std.proofs.Math.ListN.{set}
-use Rattle.std.proofs.lemmas.Grind.{take-set_at}
-use Rattle.std.proofs.lemmas.List.{length-map, length-take-le, length-replicate, map-append, take-append-le, take_at, take-map, drop-map}
+use Rattle.std.proofs.Common.{◌≡◌, ℕ, zero, suc, ◌+◌, ◌<◌, List, [], ◌∷◌, ◌++◌, take, drop, refl, arith}
+use Rattle.std.specs.Prelude.{slice_index, slice_index_or}
+use lib.Dec.{eqb, ltb, leb}
+use lib.Lanes.{top}
+use mathlib.Core.Bool.{cond}
 use Rattle.decimal_digits.specs.Digits.{text_of}
-use Rattle.decimal_digits.specs.Nibbles.{word_nibbles}
-use Rattle.decimal_digits.proofs.Words.{length-word_nibbles}
+use Rattle.decimal_digits.specs.Nibbles.{nibbles, word_nibbles}
 use Rattle.decimal_digits.proofs.digits.packed.dotted.dotted_text.Goals as goal
 
--- a point over the byte at `dot` of sixteen, and the bytes from there on after it
-dotted : (xs zs ws rest : List ℕ) (dot : ℕ) → length xs ≡ 16 → 0 < length zs → dot ≤ 16 → length ws ≡ dot
-    → take 17 (take (dot + 1) (set (xs ++ zs) dot 46) ++ ((drop dot xs ++ ws) ++ rest))
-    ≡ take dot xs ++ 46 ∷ drop dot xs
-dotted xs zs ws rest dot size some fits filled =
-    let inside : dot < length (xs ++ zs) = omega (arith, length-append xs zs) in
-    let within : dot ≤ length xs = omega arith in
-    let front : take (dot + 1) (set (xs ++ zs) dot 46) ≡ take dot xs ++ 46 ∷ [] =
-    take-set_at (xs ++ zs) dot (dot + 1) 46 refl inside ∙ ap (λ l. l ++ 46 ∷ []) (take-append-le dot xs zs within) in
-    let whole = (take dot xs ++ 46 ∷ []) ++ drop dot xs in
-    let long : length whole ≡ 17 =
-    omega (
-      arith,
-      length-append (take dot xs ++ 46 ∷ []) (drop dot xs),
-      length-append (take dot xs) (46 ∷ []),
-      length-take-le dot xs within,
-      length-drop dot xs,
-    ) in
-    ap (λ l. take 17 (l ++ ((drop dot xs ++ ws) ++ rest))) front
-    ∙ ap (take 17)
-    (ap (λ l. (take dot xs ++ 46 ∷ []) ++ l) (append_assoc (drop dot xs) ws rest)
-    ∙ sym (append_assoc (take dot xs ++ 46 ∷ []) (drop dot xs) (ws ++ rest)))
-    ∙ take_at whole (ws ++ rest) 17 long
-    ∙ append_assoc (take dot xs) (46 ∷ []) (drop dot xs)
+-- P of each number below n
+all : (P : ℕ → Type 0) → ℕ → Type 0
+all P zero = Unit
+all P (suc n) = P 0 × all (λ k. P (suc k)) n
 
-pub returns : goal.returns
-returns c =
-    let ns = word_nibbles c.args.number in
-    let dot = c.args.dot in
-    let n : length (text_of ns) ≡ 16 = length-map ns (λ (d : ℕ). 48 + d) ∙ length-word_nibbles c.args.number in
-    let first : c.copy_from_slice.new.self ≡ text_of ns = c.copy_from_slice.ensures.after ∙ c.word_text.ensures in
-    let second : c.copy_from_slice-2.new.self ≡ drop dot (text_of ns) ++ text_of (replicate dot 0) =
-    c.copy_from_slice-2.ensures.after ∙ c.word_text-2.ensures ∙ ap text_of c.cut_nibbles.ensures
-    ∙ map-append (λ (d : ℕ). 48 + d) (drop dot ns) (replicate dot 0)
-    ∙ ap (λ l. l ++ text_of (replicate dot 0)) (sym (drop-map (λ (d : ℕ). 48 + d) dot ns)) in
-    let filled : length (text_of (replicate {A = ℕ} dot 0)) ≡ dot =
-    length-map (replicate {A = ℕ} dot 0) (λ (d : ℕ). 48 + d) ∙ length-replicate {A = ℕ} dot 0 in
-    rw (first, second)
-    (dotted (text_of ns) (replicate 17 48) (text_of (replicate dot 0)) _ dot n (omega arith) c.requires filled
-    ∙ (λ i. take-map (λ (d : ℕ). 48 + d) dot ns i ++ 46 ∷ drop-map (λ (d : ℕ). 48 + d) dot ns i))
+pick : (P : ℕ → Type 0) (n k : ℕ) → all P n → k < n → P k
+unfolding all
+pick P zero k h l = absurd (omega arith)
+pick P (suc n) zero h l = h.0
+pick P (suc n) (suc k) h l = pick (λ k. P (suc k)) n k h.1 (omega arith)
+
+-- the least of a place, and of the greatest of the previous one and that of the decimal point
+abbrev greatest : ℕ → ℕ → ℕ
+greatest p dot = cond (top 7 (cond (ltb p dot) 255 0)) dot p
+
+abbrev from : ℕ → ℕ → ℕ → ℕ
+from k p dot = cond (top 7 (cond (ltb k (greatest p dot)) 255 0)) k (greatest p dot)
+
+-- the byte at a place
+abbrev lane : List ℕ → ℕ → ℕ → ℕ → ℕ
+lane ds dot k p = cond (top 7 (cond (eqb k dot) 255 0)) 46 (cond (leb 128 (from k p dot)) 0 (slice_index ds (0 + from k p dot)))
+
+abbrev lanes : List ℕ → ℕ → List ℕ → List ℕ
+lanes ds dot more =
+    lane ds dot 0 0 ∷ (lane ds dot 1 0 ∷ (lane ds dot 2 1 ∷ (lane ds dot 3 2 ∷ (lane ds dot 4 3 ∷ (lane ds dot 5 4
+    ∷ (lane ds dot 6 5 ∷ (lane ds dot 7 6 ∷ (lane ds dot 8 7 ∷ (lane ds dot 9 8 ∷ (lane ds dot 10 9
+    ∷ (lane ds dot 11 10 ∷ (lane ds dot 12 11 ∷ (lane ds dot 13 12 ∷ (lane ds dot 14 13 ∷ (lane ds dot 15 14
+    ∷ more)))))))))))))))
+
+-- the bytes are the digits around a decimal point
+pointed : (n : ℕ) (ds : List ℕ) → ds ≡ text_of (word_nibbles n) → (last : ℕ) → last ≡ slice_index_or ds 15 last
+    → (dot : ℕ) → dot < 16
+    → lanes ds dot (last ∷ []) ≡ text_of (take dot (word_nibbles n)) ++ 46 ∷ text_of (drop dot (word_nibbles n))
+unfolding all nibbles word_nibbles
+pointed n ds e last at dot h =
+    let ns = word_nibbles n in
+    rw at (rw e (pick (λ k. lanes (text_of ns) k (slice_index_or (text_of ns) 15 last ∷ []) ≡ text_of (take k ns) ++ 46 ∷ text_of (drop k ns)) 16 dot
+    (refl, (refl, (refl, (refl, (refl, (refl, (refl, (refl, (refl, (refl, (refl, (refl, (refl, (refl, (refl, (refl, tt)))))))))))))))) h))
+
+pointed_last : (n : ℕ) (ds : List ℕ) → ds ≡ text_of (word_nibbles n) → (dot : ℕ) → dot ≡ 16
+    → lanes ds dot (46 ∷ []) ≡ text_of (take dot (word_nibbles n)) ++ 46 ∷ text_of (drop dot (word_nibbles n))
+unfolding nibbles word_nibbles
+pointed_last n ds e dot is = rw (is, e) refl
+
+pub returns-then-dot-lt16 : goal.returns-then-dot-lt16
+returns-then-dot-lt16 c =
+    pointed c.args.number c.word_text-digits.result c.word_text-digits.ensures c.index.result.now c.index.ensures c.args.dot c.if-dot-lt16.true
+
+pub returns-else-dot-lt16 : goal.returns-else-dot-lt16
+returns-else-dot-lt16 c =
+    pointed_last c.args.number c.word_text-digits.result c.word_text-digits.ensures c.args.dot (omega (arith, c.requires, c.if-dot-lt16.false))
