@@ -1,13 +1,9 @@
 -- The bytes from an index on of the text of a value.
-use Rattle.decimal_unsigned.proofs.Common.{clamps, nat_tests, common_steps, ◌≡◌, ℕ, suc, ◌+◌, ◌-◌, ◌<◌, ◌≤◌, List, [], ◌∷◌, ◌++◌, length, get_or, take, drop, refl, sym, ◌∙◌, ap, arith, ℤ, pos, negsuc, ◌+ℤ◌, ◌-ℤ◌, ◌≤ℤ◌, int_gap, ints, length-append, length-drop, take_all, offset, offset_is, gap_is, Unsigned, IsValue, text}
+use Rattle.decimal_unsigned.proofs.Common.{clamps, nat_tests, common_steps, ◌≡◌, ℕ, suc, ◌+◌, ◌-◌, ◌<◌, ◌≤◌, List, [], ◌∷◌, ◌++◌, length, take, drop, refl, sym, ◌∙◌, ap, arith, ℤ, pos, negsuc, ◌+ℤ◌, ◌-ℤ◌, ◌≤ℤ◌, int_gap, ints, length-append, length-drop, take_all, offset, offset_is, gap_is, Unsigned, IsValue, text}
 use Rattle.std.proofs.Math.Seq.{take-append-add, drop-append-add}
 use Rattle.std.proofs.lemmas.List.{take-append-le, drop-append-le}
 use Rattle.decimal_unsigned.proofs.Lengths.{length-text}
 use Rattle.decimal_unsigned.proofs.TextBytes.{byte, bytes_down, length-bytes_down, bytes_down-part, fraction_text, text_is}
-
--- a piece of one byte
-one_byte : (all : List ℕ) (i b : ℕ) → take 1 (drop i all) ≡ b ∷ [] → b ≡ get_or all i 0
-one_byte all i b e = grind (arith, common_steps)
 
 module _ (v : Unsigned) (valid : IsValue v) (dot : ℕ) (dot_is : dot ≡ int_gap (pos 0) v.hi + 1) where
   abbrev whole : List ℕ
@@ -107,23 +103,9 @@ module _ (v : Unsigned) (valid : IsValue v) (dot : ℕ) (dot_is : dot ≡ int_ga
         bytes_down-part,
       )
 
-  -- ---- One byte.
-  -- a byte before the decimal point is the digit of its magnitude
-  pub byte_above : (i : ℕ) → i < dot → byte v.number (v.hi -ℤ pos i) ≡ get_or (text v) i 0
-  byte_above i h = one_byte (text v) i _ (piece_above i 1 (omega arith))
-
-  -- the byte at the index of the decimal point is the decimal point
-  pub byte_dot : (i : ℕ) → i ≡ dot → i < length (text v) → 46 ≡ get_or (text v) i 0
-  byte_dot i e l = one_byte (text v) i 46 (piece_over i 0 0 (omega arith) (omega arith))
-
-  -- a byte after the decimal point is the digit of its magnitude
-  pub byte_below : (i : ℕ) → dot < i → i < length (text v)
-      → byte v.number (v.hi -ℤ pos (i - 1)) ≡ get_or (text v) i 0
-  byte_below i h l = one_byte (text v) i _ (piece_below i 1 h (omega arith) (omega arith))
-
   -- a text of one byte is the digit of magnitude 0
-  pub only_byte : length (text v) ≡ 1 → byte v.number (pos 0) ∷ [] ≡ text v
-  only_byte e =
+  pub one_byte : length (text v) ≡ 1 → byte v.number (pos 0) ∷ [] ≡ text v
+  one_byte e =
       let n = length-text v valid.hi_in.0 valid.lo_in.1 in
       let top : pos 0 ≡ v.hi -ℤ pos 0 = omega (arith, ints, valid.hi_in, gap_is (pos 0) v.hi, n) in
       ap (λ m. byte v.number m ∷ []) top

@@ -3,23 +3,15 @@ use Rattle.decimal_unsigned.proofs.Common.{◌≡◌, ℕ, suc, ◌+◌, ◌-◌
 use Rattle.std.proofs.lemmas.List.{get_or-map, take_at}
 use Rattle.std.proofs.Math.Seq.{take-append-add}
 use Rattle.decimal_digits.specs.Digits.{text_of}
-use Rattle.decimal_unsigned.proofs.Lengths.{length-text, length-text_whole, length-text_dotted}
+use Rattle.decimal_unsigned.proofs.Lengths.{length-text}
 use Rattle.decimal_unsigned.proofs.TextBytes.{bytes_down, bytes_are, length-bytes_down, bytes_down-part, fraction_text, text_is}
-
-module _ (v : Unsigned) (valid : IsValue v) (few : int_gap v.lo v.hi < 16) where
-  -- there are at most sixteen integer digits, and at most seventeen bytes
-  pub few_whole : int_gap (pos 0) v.hi + 1 ≤ 16
-  few_whole = omega (arith, ints, gap_is v.lo v.hi, gap_is (pos 0) v.hi, valid.hi_in, valid.lo_in)
-
-  pub few_bytes : length (text v) ≤ 17
-  few_bytes = grind (arith, ints, length-text_whole, length-text_dotted, gap_is)
 
 module _ (v : Unsigned) (valid : IsValue v) (dot : ℕ) (dot_is : dot ≡ int_gap (pos 0) v.hi + 1)
     (few : int_gap v.lo v.hi < 16) (ns : List ℕ) (size : length ns ≡ 16)
     (same : (k : ℕ) → k < 16 → get_or ns k 0 ≡ digit v.number (v.hi -ℤ pos k))
   where
     dot_in : dot ≤ 16
-    dot_in = omega (arith, dot_is, few_whole v valid few)
+    dot_in = omega (arith, ints, gap_is v.lo v.hi, gap_is (pos 0) v.hi, valid.hi_in, valid.lo_in)
 
     whole : text_of (take dot ns) ≡ bytes_down v.number v.hi dot
     whole =

@@ -1,6 +1,5 @@
 -- What has been written of a text.
-use Rattle.decimal_unsigned.proofs.Common.{elements, ◌≡◌, ℕ, suc, ◌+◌, ◌<◌, ◌≤◌, List, [], ◌∷◌, ◌++◌, length, get_or, take, drop, Option, refl, sym, ◌∙◌, ap, subst, arith, take_all, ℤ, pos, ◌-ℤ◌, digit, take-append-drop, Appends}
-use Rattle.std.proofs.lemmas.List.{drop_more}
+use Rattle.decimal_unsigned.proofs.Common.{elements, ◌≡◌, ℕ, suc, ◌+◌, ◌≤◌, List, [], ◌∷◌, ◌++◌, length, take, drop, Option, refl, subst, arith, ℤ, pos, ◌-ℤ◌, digit, take-append-drop, Appends}
 use Rattle.std.proofs.KnownBytes.{Appends-trans}
 use Rattle.decimal_digits.specs.AppendsPrefix.{AppendsPrefix}
 use Rattle.decimal_digits.proofs.Sinks.{prefix_more, then_prefix}
@@ -23,10 +22,6 @@ pub piece_taken : (all piece : List ℕ) (i k : ℕ) → i + k ≤ length all �
     → take i all ++ piece ≡ take (i + length piece) all
 piece_taken all piece i k h e = grind (arith, elements)
 
--- a byte is a piece
-pub byte_taken : (all : List ℕ) (i byte : ℕ) → i < length all → byte ≡ get_or all i 0 → byte ∷ [] ≡ take 1 (drop i all)
-byte_taken all i byte h e = ap (λ b. b ∷ []) e ∙ sym (ap (take 1) (drop_more all i 0 h))
-
 -- one more piece was written
 pub wrote_more : (a b c : Option (List ℕ)) (all piece : List ℕ) (i k : ℕ) → i + k ≤ length all
     → piece ≡ take k (drop i all) → Appends a b (take i all) → Appends b c piece
@@ -42,8 +37,3 @@ wrote_part a b c all piece i k h e p q =
     subst (AppendsPrefix a c) (take-append-drop (i + length piece) all)
     (prefix_more a c (take (i + length piece) all) (drop (i + length piece) all)
     (subst (AppendsPrefix a c) (piece_taken all piece i k h e) (then_prefix a b c (take i all) piece p q)))
-
--- all pieces were written
-pub wrote_all : (a b : Option (List ℕ)) (all : List ℕ) (i : ℕ) → length all ≤ i → Appends a b (take i all)
-    → Appends a b all
-wrote_all a b all i h p = subst (Appends a b) (take_all i all h) p

@@ -1,5 +1,5 @@
 //! The text of a value.
-ghost use Rattle.std.specs.Prelude.{◌≡◌, ◌↔◌, ℕ, [], ◌∷◌, ◌+◌, ◌-◌, ◌*◌, ◌/◌, ◌%◌, ◌^◌, ◌-ℤ◌, ◌<◌, ◌≤◌, length, take, drop, replicate, slice_index, EachIndex, Ok, OnOk, OnErr, pos, IsTrue, true, false};
+ghost use Rattle.std.specs.Prelude.{◌≡◌, ◌↔◌, [], ◌∷◌, ◌+◌, ◌-◌, ◌-ℤ◌, ◌<◌, ◌≤◌, length, take, drop, replicate, slice_index, EachIndex, Ok, OnOk, OnErr, pos, IsTrue, true, false};
 ghost use Rattle.std.specs.Int.{int_gap};
 ghost use Rattle.std.specs.Io.KnownBytes.{Keeps, Appends};
 ghost use Rattle.decimal_digits.specs.Number.{offset, digit};
@@ -15,9 +15,6 @@ use decimal_digits::sink::{Sink, SinkFault, Writeable};
 
 /// The number of bytes of a text that are made and written at a time. Most texts are shorter.
 pub(super) const BLOCK: usize = 64;
-
-/// The greatest length of a text that is written byte by byte, which is then faster than a block.
-const MAX_SHORT: usize = 5;
 
 /// The greatest number of digits of a text that is made from one packed BCD number.
 const MAX_WORD: u32 = 16;
@@ -72,25 +69,6 @@ impl<D: DigitStore> UnsignedOver<D> {
         }
     }
 
-    /// Returns the byte of the text at an index, of the digits that `leading_bcd` returns.
-    ///
-    /// Requires an index in range, and at most sixteen magnitudes that are shown.
-    #[inline]
-    fn byte_at(&self, digits: u64, index: usize) -> u8
-        requires in_range { index < length (text self.now) }
-        requires few { int_gap self.now.lo self.now.hi < 16 }
-        requires digits { (k : ℕ) → k < 16
-            → digits / 2 ^ (4 * (15 - k)) % 16 ≡ digit self.now.number (self.now.hi -ℤ pos k) }
-        ensures { result ≡ slice_index (text self.now) index }
-    {
-        let dot = self.dot();
-        if index == dot {
-            return b'.';
-        }
-        let place = if index < dot { index } else { index - 1 };
-        b'0' + ((digits >> (4 * (15 - place))) % 16) as u8
-    }
-
     /// Returns the byte of a text of one byte.
     #[inline]
     fn only_byte(&self) -> u8
@@ -98,24 +76,6 @@ impl<D: DigitStore> UnsignedOver<D> {
         ensures { result ∷ [] ≡ text self.now }
     {
         b'0' + self.digit_at(0)
-    }
-
-    /// Appends the text byte by byte.
-    ///
-    /// Requires at most sixteen magnitudes that are shown.
-    fn write_bytewise<W: Sink>(&self, sink: &mut W) -> Result<(), SinkFault>
-        requires { int_gap self.now.lo self.now.hi < 16 }
-        ensures ok { OnOk result (Appends (W.contents sink.old) (W.contents sink.new) (text self.now)) }
-        ensures err { OnErr result (AppendsPrefix (W.contents sink.old) (W.contents sink.new) (text self.now)) }
-        ensures had_not_failed { OnOk result (W.has_failed sink.old ≡ false) }
-        ensures failed { OnErr result (W.has_failed sink.new ≡ true) }
-        ensures unchanged { W.has_failed sink.old ≡ true → Keeps (W.contents sink.old) (W.contents sink.new) }
-    {
-        let digits = self.leading_bcd();
-        for index in 0..self.writeable_length_hint() {
-            sink.put_byte(self.byte_at(digits, index))?;
-        }
-        Ok(())
     }
 
     /// Returns whether at most sixteen magnitudes are shown.
@@ -189,9 +149,6 @@ impl<D: DigitStore> Writeable for UnsignedOver<D> {
             return sink.put_byte(self.only_byte());
         }
         if self.is_short() {
-            if length <= MAX_SHORT {
-                return self.write_bytewise(sink);
-            }
             return sink.put_bytes(&self.short_text()[..length]);
         }
         let mut written = 0;
