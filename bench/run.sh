@@ -1,15 +1,16 @@
 #!/usr/bin/env bash
 # Times the library beside the original and its peers, and prints the tables of docs/SPEED.md:
 #
-#   bench/run.sh ORIGINAL [--passes N] [--only WORD]
+#   bench/run.sh ORIGINAL [--passes N] [--layouts N] [--only WORD]
 #
 # README.md says what ORIGINAL is.
 set -euo pipefail
 . "$(dirname "$0")/../diff/common.sh"
-passes=7 word=
+passes=7 layouts=1 word=
 while [ $# -gt 0 ]; do
     case $1 in
         --passes) passes=$2 ;;
+        --layouts) layouts=$2 ;;
         --only) word=$2 ;;
         *) die "unknown option: $1" ;;
     esac
@@ -23,5 +24,10 @@ mkdir -p "$ICU_CALLS"
 cc -O2 -c -o "$ICU_CALLS/icu_calls.o" "$here/icu_calls.c"
 c++ -O2 -c -o "$ICU_CALLS/icu_plurals.o" "$here/icu_plurals.cc"
 ar rcs "$ICU_CALLS/libicu_calls.a" "$ICU_CALLS/icu_calls.o" "$ICU_CALLS/icu_plurals.o"
-build_driver bench
-exec "$work/target/release/bench" "$passes" ${word:+"$word"}
+export LLD=$kit/toolchain/bin LAYOUT
+rm -f "$work"/tables_*.txt
+for LAYOUT in $(seq "$layouts"); do
+    build_driver bench
+    "$work/target/release/bench" "$passes" ${word:+"$word"} >"$work/tables_$LAYOUT.txt"
+done
+python3 "$here/medians.py" "$work"/tables_*.txt
