@@ -146,6 +146,7 @@ impl<D: DigitStore> Writeable for UnsignedOver<D> {
     {
         let length = self.writeable_length_hint();
         if length == 1 {
+            // One digit takes less time than a vector.
             return sink.put_byte(self.only_byte());
         }
         if self.is_short() {

@@ -77,6 +77,7 @@ pub(super) fn append_pairs(bytes: &mut SmallVec<u8, 8>, digits: &[u8])
 }
 
 /// Removes the high nibble of the byte `at`. The nibbles after it move up by one, and `last` is appended.
+// Not inlined: a cut between two bytes does not need it, and saves its registers.
 #[inline(never)]
 pub(super) fn remove_high_nibble(bytes: &mut [u8], at: usize, last: u8)
     requires in_range { at < length bytes.old }
