@@ -18,7 +18,7 @@ use Rattle.decimal_unsigned.specs.Unsigned.{Unsigned, zero_value}
 use Rattle.fixed_decimal.proofs.Calling.{offset_is, hex_pow, powers, ten_pos, number-append, weight_up, integer_down, first_zero, size_up, first_below_last, size_joined, size_left, size_right, not_overlapping}
 use Rattle.decimal_unsigned.specs.DigitValues.{IsBcd, value_of_first}
 use Rattle.decimal_format.specs.Collecting.{Collected, IsFresh, Collects, HasValue, IsInLimits, IsBelow, appended}
-use Rattle.decimal_format.proofs.Bcd.{below_append, bcd_none, bcd_append}
+use Rattle.decimal_format.proofs.Bcd.{below_append, below_rest, bcd_none, bcd_append}
 
 -- ---- Digits at a position, below those of a value.
 module _ (v : Unsigned) (ds : List ℕ) (position : ℤ) (below : IsBelow v ds position) (digits : AllBelowBase 10 ds)
@@ -118,14 +118,6 @@ module _ (v : Unsigned) (ds : List ℕ) (position : ℤ) (below : IsBelow v ds p
       omega (arith, h, size_is, joined)
 
 -- ---- Numbers of digits.
-below_first : (ds more : List ℕ) → AllBelowBase 10 (ds ++ more) → AllBelowBase 10 ds
-below_first [] more all = tt
-below_first (d ∷ ds) more all = (all.0, below_first ds more all.1)
-
-below_rest : (ds more : List ℕ) → AllBelowBase 10 (ds ++ more) → AllBelowBase 10 more
-below_rest [] more all = all
-below_rest (d ∷ ds) more all = below_rest ds more all.1
-
 module _ (t : ℕ) (ds more : List ℕ) (few : length (ds ++ more) ≤ t) where
   abbrev last_at : ℕ
   last_at = t - length (ds ++ more)

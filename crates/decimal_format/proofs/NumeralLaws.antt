@@ -2,6 +2,7 @@
 use Rattle.std.proofs.Common.{◌≡◌, ℕ, ◌-◌, ◌<◌, ◌≤◌, inl, inr, Bool, true, false, List, [], ◌∷◌, ◌++◌, length, refl, sym, ◌∙◌, ap, subst, arith, append-nil}
 use Rattle.std.specs.Prelude.{Result, Ok, Err, IfOk, MatchResult, ◌↔◌, pos}
 use Rattle.std.specs.Int.Digits.{AllBelowBase}
+use Rattle.std.proofs.Math.Bool.{and-false}
 use Rattle.std.proofs.lemmas.Bool.{cases_lt}
 use Rattle.std.proofs.lemmas.List.{append_cancel_left, append_cancel_right}
 use Rattle.decimal_digits.specs.Number.{size}
@@ -10,8 +11,6 @@ use Rattle.decimal_unsigned.specs.declared.error.ParseError.TheVariants.{Limit, 
 use Rattle.decimal_unsigned.specs.Reading.{read}
 use Rattle.decimal_unsigned.specs.Unsigned.{IsValue}
 use Rattle.fixed_decimal.specs.Decimal.{Decimal}
-use Rattle.fixed_decimal.specs.declared.variations.Sign.{Sign}
-use Rattle.fixed_decimal.specs.declared.variations.Sign.TheVariants as sign
 use Rattle.fixed_decimal.proofs.Calling.{read_text}
 use Rattle.decimal_format.specs.declared.grouping.GroupingStrategy.{GroupingStrategy}
 use Rattle.decimal_format.specs.declared.grouping.GroupingStrategy.TheVariants.{Never}
@@ -21,30 +20,13 @@ use Rattle.decimal_format.specs.Grouping.{is_grouped}
 use Rattle.decimal_format.specs.Readable.{IsReadable}
 use Rattle.decimal_format.specs.Reading.{Numeral, AreDigits, IsNumeral, IsBeyondLimits, IsWritten, digits_text, fraction_text, absolute_numeral_text, numeral_text, separated_by}
 use Rattle.decimal_format.specs.Lenient.{ends_group, separated_at, normalized, IsLenientNumeral, IsLenientlyWritten, IsTyped}
-use Rattle.decimal_format.specs.Scanning.{BeginsWithDigit, IsUniform, value_of, IsValueOf, IsNumeralBy, IsWrittenBy, IsRead}
-use Rattle.decimal_format.proofs.Codes.{digit_not_minus, digit_not_plus, plus_not_minus, none_not_decimal}
-use Rattle.decimal_format.proofs.DigitTexts.{digits_text-cong, nil_ends, fraction_ends, integer-unique, separators-unique}
+use Rattle.decimal_format.specs.Scanning.{IsUniform, value_of, IsValueOf, IsNumeralBy, IsWrittenBy, IsRead}
+use Rattle.decimal_format.proofs.Codes.{none_not_decimal}
+use Rattle.decimal_format.proofs.DigitTexts.{digits_text-cong, nil_ends, fraction_ends, digits-unique, ends_integer}
 use Rattle.decimal_format.proofs.NumeralTexts.{HasDigits, formatted-digits, text-digits, digits_of_value, value_of_digits}
-use Rattle.decimal_format.proofs.Scans.{number_begins, begins-append, and_false, strategy_is, strategy_if, strategy_separates}
+use Rattle.decimal_format.proofs.Scans.{number_begins, begins-append, sign-unique, strategy_is, strategy_if, strategy_separates}
 
 module _ (s : Symbols) (readable : IsReadable s) where
-  -- a number after the prefix of one sign is not one after that of another
-  sign-unique : (x y : Sign) (a b : List ℕ) → BeginsWithDigit s a → BeginsWithDigit s b
-      → (sign_affixes s x).prefix ++ a ≡ (sign_affixes s y).prefix ++ b → (x ≡ y) × (a ≡ b)
-  sign-unique sign.None sign.None a b p q e = (refl, e)
-  sign-unique sign.None sign.Negative a b p q e = absurd (digit_not_minus s readable p.digit p.following b
-      p.is_digit (sym p.is ∙ e))
-  sign-unique sign.None sign.Positive a b p q e = absurd (digit_not_plus s readable p.digit p.following b p.is_digit
-      (sym p.is ∙ e))
-  sign-unique sign.Negative sign.None a b p q e = absurd (digit_not_minus s readable q.digit q.following a
-      q.is_digit (sym q.is ∙ sym e))
-  sign-unique sign.Negative sign.Negative a b p q e = (refl, append_cancel_left s.minus.prefix a b e)
-  sign-unique sign.Negative sign.Positive a b p q e = absurd (plus_not_minus s readable b a (sym e))
-  sign-unique sign.Positive sign.None a b p q e = absurd (digit_not_plus s readable q.digit q.following a q.is_digit
-      (sym q.is ∙ sym e))
-  sign-unique sign.Positive sign.Negative a b p q e = absurd (plus_not_minus s readable a b e)
-  sign-unique sign.Positive sign.Positive a b p q e = (refl, append_cancel_left s.plus.prefix a b e)
-
   fraction-unique : (ds es : List ℕ) → AllBelowBase 10 ds → AllBelowBase 10 es → fraction_text s ds
       ≡ fraction_text s es → ds ≡ es
   fraction-unique [] [] p q e = refl
@@ -53,9 +35,8 @@ module _ (s : Symbols) (readable : IsReadable s) where
   fraction-unique (x ∷ ds) (y ∷ es) p q e =
       let a = digits_text s (λ _. false) (x ∷ ds) in
       let b = digits_text s (λ _. false) (y ∷ es) in
-      (integer-unique s readable (λ _. false) (λ _. false) (x ∷ ds) (y ∷ es) [] [] p q (nil_ends s readable)
-      (nil_ends s readable)
-      (append-nil a ∙ append_cancel_left s.decimal a b e ∙ sym (append-nil b))).0
+      (digits-unique s readable (λ _. false) (λ _. false) (x ∷ ds) (y ∷ es) [] [] p q
+      (ends_integer (nil_ends s readable)) (ends_integer (nil_ends s readable)) (append-nil a ∙ append_cancel_left s.decimal a b e ∙ sym (append-nil b))).0
 
   -- a text is that of one numeral, wherever its separators are
   text-unique : (f g : ℕ → Bool) (bytes : List ℕ) (w u : Numeral) → AreDigits w → AreDigits u
@@ -65,14 +46,13 @@ module _ (s : Symbols) (readable : IsReadable s) where
       let b = absolute_numeral_text s g u in
       let x = (sign_affixes s w.sign).suffix in
       let y = (sign_affixes s u.sign).suffix in
-      let signs = sign-unique w.sign u.sign (a ++ x) (b ++ y) (begins-append s a x (number_begins s f w p))
-      (begins-append s b y (number_begins s g u q)) (sym e ∙ h) in
+      let signs = sign-unique s readable w.sign u.sign (a ++ x) (b ++ y)
+      (λ _. begins-append s a x (number_begins s f w p)) (λ _. begins-append s b y (number_begins s g u q)) (sym e ∙ h) in
       let numbers : a ≡ b =
       append_cancel_right a b x (signs.1 ∙ ap (λ z. b ++ (sign_affixes s z).suffix) (sym signs.0)) in
-      let wholes = integer-unique s readable f g w.whole u.whole (fraction_text s w.fraction) (fraction_text s
-      u.fraction)
-      p.whole q.whole (fraction_ends s readable w.fraction) (fraction_ends s readable u.fraction)
-      numbers in
+      let wholes = digits-unique s readable f g w.whole u.whole (fraction_text s w.fraction) (fraction_text s
+      u.fraction) p.whole q.whole (ends_integer (fraction_ends s readable w.fraction))
+      (ends_integer (fraction_ends s readable u.fraction)) numbers in
       let fractions = fraction-unique w.fraction u.fraction p.fraction q.fraction wholes.1 in
       λ i. record { sign = signs.0 i; whole = wholes.0 i; fraction = fractions i }
 
@@ -106,8 +86,9 @@ module _ (s : Symbols) (readable : IsReadable s) where
         let same = append_cancel_right (absolute_numeral_text s f w) (absolute_numeral_text s g w) affixes.suffix
         middle in (
           is_grouped numeral.strategy s.sizes (pos (length w.whole - 1)),
-          λ m inside. separators-unique s readable f g w.whole fraction fraction digits.whole
-              (fraction_ends s readable w.fraction) (fraction_ends s readable w.fraction) same m inside
+          λ m inside. (digits-unique s readable f g w.whole w.whole fraction fraction digits.whole digits.whole
+              (ends_integer (fraction_ends s readable w.fraction)) (ends_integer (fraction_ends s readable w.fraction))
+              same).2 m inside
               ∙ strategy_is s numeral.strategy (length w.whole) m,
         ),
   )
@@ -165,7 +146,7 @@ never-digits : (s : Symbols) (v : Decimal) (w : Numeral) → HasDigits v w
     → formatted s Never v ≡ numeral_text s (λ _. false) w
 never-digits s v w has =
     formatted-digits v w has s Never
-    ∙ (λ i. numeral_text s (λ m. (strategy_is s Never (length w.whole) m ∙ and_false (ends_group s.sizes m)) i) w)
+    ∙ (λ i. numeral_text s (λ m. (strategy_is s Never (length w.whole) m ∙ and-false (ends_group s.sizes m)) i) w)
 
 -- ---- What is read.
 -- digits that are not too many are those of a value

@@ -1,7 +1,7 @@
 use Rattle.std.proofs.Common.{◌≡◌, ◌+◌, ◌-◌, ◌<◌, [], ◌++◌, length, subst, arith}
 use Rattle.decimal_format.specs.Lenient.{ends_group}
 use Rattle.decimal_format.specs.Scanning.{SkipsSeparator}
-use Rattle.decimal_format.proofs.Scans.{none_after_last, all_step, none_step, collects_none, collects_both, IsReadTo, Leaves, read_none, leaves_all, read_run, leaves_run, run_fails, read_all, left_none}
+use Rattle.decimal_format.proofs.Scans.{none_after_last, all_step, none_step, collects_none, collects_both, read_none, read_run, read_all, read_last, read_fails}
 use Rattle.decimal_format.proofs.symbols.DecimalSymbols.read_digits.Goals as goal
 
 pub loop-left-init : goal.loop-left-init
@@ -12,7 +12,6 @@ loop-left-init g c =
       digits = [];
       read = read_none s may c.args.count c.args.text.now;
       collected = collects_none c.args.digits.now;
-      leaves = leaves_all s may c.args.count c.args.text.now;
     }
 
 pub push_run-requires-clause-collecting : goal.push_run-requires-clause-collecting
@@ -49,38 +48,35 @@ loop-left-preserved g c =
       read = read_run s may n c.args.text.now run.digits so_far.digits c.loop-left.rest.now after next left less found
           c.loop-left.all c.loop-left.none _ _ run.bcd.digits some size group.none_between run.text skips
           (all_step c.loop-left.all found c.next_run-most.result.1 (may less) group.last)
-          (none_step c.loop-left.none found) so_far.read;
+          (none_step c.loop-left.none found (may less)) so_far.read;
       collected = collects_both c.args.digits.now c.loop-left.digits c.push_run.new.self so_far.digits run.digits
           so_far.collected (c.push_run.ensures run.digits run.bcd);
-      leaves = leaves_run s may n c.args.text.now c.requires.readable run.digits c.loop-left.rest.now after next left
-          less found run.bcd.digits some size group.none_between (none_after_last s) run.text skips so_far.leaves;
     }
 
 pub returns-then-found-most-clause-none : goal.returns-then-found-most-clause-none
-returns-then-found-most-clause-none g c =
+returns-then-found-most-clause-none g c = λ chosen ds tail size below e.
     let s = c.args.self.now in
     let group = c.next_run-most.ensures in
     let run = c.read_run-number.ensures in
-    run_fails s (ends_group s.sizes) c.args.count c.args.text.now c.requires.readable run.digits c.loop-left.rest.now
-    c.read_run-number.result.2.now c.loop-left.left c.next_run-most.result.0 run.bcd.digits
-    (omega (arith, run.bcd.count, c.if-found-most.true)) group.within group.none_between (none_after_last s) run.text
-    (run.ends c.if-found-most.true) c.loop-left.invariant.leaves
+    let so_far = c.loop-left.invariant in
+    read_fails s (ends_group s.sizes) c.args.count c.args.text.now c.requires.readable (none_after_last s)
+    c.loop-left.rest.now so_far.digits c.loop-left.left c.loop-left.all c.loop-left.none so_far.read chosen ds tail size
+    below e run.digits c.read_run-number.result.2.now c.next_run-most.result.0 run.bcd.digits
+    (omega (arith, run.bcd.count, c.if-found-most.true)) group.within group.none_between run.text
+    (run.ends c.if-found-most.true)
 
 pub returns-clause-found : goal.returns-clause-found
 returns-clause-found g c =
     let s = c.args.self.now in
-    let may = ends_group s.sizes in
     let so_far = c.loop-left.invariant in
-    let none : c.loop-left.left ≡ 0 = omega (arith, c.loop-left-test.false) in
-    read_all s may c.args.count c.args.text.now c.loop-left.rest.now so_far.digits c.loop-left.all c.loop-left.none
-    c.args.digits.now c.loop-left.digits so_far.collected
-    (subst (λ k. IsReadTo s may c.args.count c.args.text.now c.loop-left.rest.now k c.loop-left.all c.loop-left.none
-    so_far.digits) none so_far.read)
+    read_all s (ends_group s.sizes) c.args.count c.args.text.now c.loop-left.rest.now so_far.digits c.loop-left.left
+    c.loop-left.all c.loop-left.none c.args.digits.now c.loop-left.digits (omega (arith, c.loop-left-test.false))
+    so_far.collected so_far.read
 
 pub returns-clause-unique : goal.returns-clause-unique
-returns-clause-unique g c =
+returns-clause-unique g c = λ chosen ds tail size below e.
     let s = c.args.self.now in
-    let may = ends_group s.sizes in
-    let none : c.loop-left.left ≡ 0 = omega (arith, c.loop-left-test.false) in
-    left_none s may c.args.count c.args.text.now c.loop-left.rest.now
-    (subst (λ k. Leaves s may c.args.count c.args.text.now c.loop-left.rest.now k) none c.loop-left.invariant.leaves)
+    let so_far = c.loop-left.invariant in
+    read_last s (ends_group s.sizes) c.args.count c.args.text.now c.requires.readable (none_after_last s)
+    c.loop-left.rest.now so_far.digits c.loop-left.left c.loop-left.all c.loop-left.none so_far.read chosen ds tail size
+    below e (omega (arith, c.loop-left-test.false))

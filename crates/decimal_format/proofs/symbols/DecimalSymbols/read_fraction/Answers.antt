@@ -1,5 +1,6 @@
 use Rattle.std.proofs.Common.{◌≡◌, ◌++◌, sym, ◌∙◌, ap}
-use Rattle.decimal_format.proofs.Scans.{if_some_weaker, if_none_weaker, empty_is, some_is, fraction_rest, fraction_found, fraction_none}
+use Rattle.std.proofs.lemmas.Option.{IfSome_then}
+use Rattle.decimal_format.proofs.Scans.{if_none_weaker, empty_is, some_is, fraction_rest, fraction_found, fraction_none}
 use Rattle.decimal_format.proofs.symbols.DecimalSymbols.read_fraction.Goals as goal
 
 pub returns-then-is_empty-2-clause-none : goal.returns-then-is_empty-2-clause-none
@@ -17,10 +18,9 @@ returns-clause-found g c =
     let digits = c.in_ok-fraction.fraction.now in
     let begins : c.args.text.now ≡ s.decimal ++ digits =
     c.in_ok-fraction.ensures ∙ ap (λ l. l ++ digits) (c.as_bytes.ensures.value ∙ c.decimal_separator.ensures.value) in
-    if_some_weaker c.read_last_digits.result _ _
+    IfSome_then c.read_last_digits.result c.read_last_digits.ensures.found
     (λ count. fraction_found s c.args.text.now digits count c.args.digits.now c.read_last_digits.new.digits begins
     (some_is digits c.if-is_empty-2.ensures))
-    c.read_last_digits.ensures.found
 
 pub returns-clause-none : goal.returns-clause-none
 returns-clause-none g c =

@@ -1,7 +1,7 @@
 use Rattle.std.proofs.Common.{ℕ, List, inl, inr, refl, sym, subst}
-use Rattle.decimal_format.specs.Lenient.{normalized, IsLenientlyWritten, IsTyped}
+use Rattle.std.proofs.lemmas.Result.{IfOk-weaker}
+use Rattle.decimal_format.specs.Lenient.{IsTyped}
 use Rattle.decimal_format.specs.Reading.{Numeral, IsNumeral, IsWritten}
-use Rattle.decimal_format.proofs.Scans.{if_ok_weaker}
 use Rattle.decimal_format.proofs.symbols.DecimalSymbols.read_lenient.Goals as goal
 
 -- ---- The text is written so.
@@ -29,9 +29,7 @@ returns-in-Err-Syntax-clause-found g c =
     let syntax = rw c.in-Err-Syntax.field-0-is at c.in-Err-Syntax.ensures.syntax in
     let none = λ (w : Numeral) (n : IsNumeral s c.args.text.now w). syntax.0 refl w (subst (λ (l : List ℕ).
     IsNumeral s l w) (sym e) n) in
-    if_ok_weaker c.read_normalized.result (λ v. IsLenientlyWritten s v (normalized s c.args.text.now)) (λ v. IsTyped s v
-    c.args.text.now)
-    (λ v written. inr (none, written)) c.read_normalized.ensures.found
+    IfOk-weaker c.read_normalized.result _ (λ v. IsTyped s v c.args.text.now) (λ v written. inr (none, written)) c.read_normalized.ensures.found
 
 pub returns-in-Err-Syntax-clause-reads : goal.returns-in-Err-Syntax-clause-reads
 returns-in-Err-Syntax-clause-reads g c = λ v valid typed.
