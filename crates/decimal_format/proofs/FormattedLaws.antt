@@ -1,6 +1,6 @@
 -- The text by other symbols, or under another strategy.
-use Rattle.std.proofs.Common.{◌≡◌, ℕ, zero, suc, ◌-◌, ◌%◌, Bool, true, false, List, [], ◌∷◌, ◌++◌, refl, sym, ◌∙◌, ap, append-nil}
-use Rattle.std.specs.Prelude.{if◌then◌else◌, ◌&&◌, ◌==◌, nat_lt, nat_le, ℤ, pos, negsuc, ◌-ℤ◌}
+use Rattle.std.proofs.Common.{◌≡◌, ℕ, zero, suc, Bool, true, false, List, [], ◌∷◌, ◌++◌, refl, sym, ◌∙◌, ap, append-nil}
+use Rattle.std.specs.Prelude.{if◌then◌else◌, ℤ, pos, negsuc, ◌-ℤ◌}
 use Rattle.decimal_digits.specs.Number.{digit}
 use Rattle.decimal_unsigned.specs.Text.{dot_before, text_down, text}
 use Rattle.fixed_decimal.specs.Decimal.{Decimal}
@@ -13,14 +13,10 @@ use Rattle.decimal_format.specs.declared.grouping.GroupingStrategy.{GroupingStra
 use Rattle.decimal_format.specs.declared.grouping.GroupingStrategy.TheVariants.{Never}
 use Rattle.decimal_format.specs.Symbols.{Symbols, digit_text, sign_affixes, without_grouping}
 use Rattle.decimal_format.specs.Ascii.{ascii_with}
-use Rattle.decimal_format.specs.Grouping.{secondary_size, separates}
+use Rattle.decimal_format.specs.Grouping.{separates}
 use Rattle.decimal_format.specs.Formatted.{separator_before, separator_after, formatted_down, shown_count, absolute_text, formatted}
 use Rattle.decimal_format.proofs.AsciiDigits.{ten_digits}
 use Rattle.decimal_format.proofs.Magnitudes.{formatted_down-suc, formatted_down-zero, digit_below}
-
-never : (a b : Bool) → (a && (false && b)) ≡ false
-never true b = refl
-never false b = refl
 
 either : (b : Bool) (xs : List ℕ) → (if b then xs else xs) ≡ xs
 either true xs = refl
@@ -29,9 +25,7 @@ either false xs = refl
 -- under `Never` there is no separator
 never_separates : (s : Symbols) (hi m : ℤ) → separator_after s Never hi m ≡ []
 never_separates s hi (negsuc k) = refl
-never_separates s hi (pos k) =
-    let there = nat_le s.sizes.primary k && ((k - s.sizes.primary) % secondary_size s.sizes == 0) in
-    ap (λ b. if b then s.grouping else []) (never (nat_lt 0 s.sizes.primary) there)
+never_separates s hi (pos k) = refl
 
 -- an empty separator is empty wherever it is
 empty_separator : (s : Symbols) (g : GroupingStrategy) (hi m : ℤ) → separator_after (without_grouping s) g hi m ≡ []

@@ -1,8 +1,8 @@
 -- The steps of a scan.
-use Rattle.std.proofs.Common.{◌≡◌, ◌≢◌, ℕ, suc, ◌+◌, ◌-◌, ◌%◌, ◌<◌, ◌≤◌, ◌==◌, nat_le, nat_lt, Bool, true, false, ◌&&◌, ◌||◌, List, [], ◌∷◌, ◌++◌, length, refl, sym, ◌∙◌, ap, subst, arith, rules, append_assoc, append-nil, length-append, length-drop, take, drop, take-append-drop, inl, inr}
+use Rattle.std.proofs.Common.{◌≡◌, ◌≢◌, ℕ, suc, ◌+◌, ◌-◌, ◌<◌, ◌≤◌, ◌==◌, Bool, true, false, ◌&&◌, ◌||◌, List, [], ◌∷◌, ◌++◌, length, refl, sym, ◌∙◌, ap, subst, arith, rules, append_assoc, append-nil, length-append, length-drop, take, drop, take-append-drop, inl, inr}
 use Rattle.std.specs.Prelude.{if◌then◌else◌, ◌*◌, pos, Option, Some, None, IfNone, ◌↔◌}
 use Rattle.std.specs.Int.Digits.{AllBelowBase}
-use Rattle.std.proofs.Math.Bool.{beq, not, and-true, and-false}
+use Rattle.std.proofs.Math.Bool.{beq, not, and-true, and-false, and_comm}
 use Rattle.std.proofs.lemmas.Bool.{cases_eq, cases_lt}
 use Rattle.std.proofs.lemmas.Bool.Decides.{nat_tests}
 use Rattle.std.proofs.lemmas.Int.{ints}
@@ -14,15 +14,13 @@ use Rattle.decimal_format.specs.declared.grouping.GroupingStrategy.TheVariants.{
 use Rattle.decimal_unsigned.specs.DigitValues.{IsBcd}
 use Rattle.decimal_format.specs.Collecting.{Collected, Collects, CollectsDigits}
 use Rattle.decimal_format.specs.Symbols.{Symbols, digit_text, sign_affixes}
-use Rattle.decimal_format.specs.Grouping.{reaches, is_grouped, secondary_size, separates}
-use Rattle.decimal_format.specs.Lenient.{ends_group}
+use Rattle.decimal_format.specs.Grouping.{reaches, is_grouped, ends_group}
 use Rattle.decimal_format.specs.Readable.{IsReadable}
 use Rattle.decimal_format.specs.Reading.{Numeral, AreDigits, digits_text, fraction_text, absolute_numeral_text, separated_by}
-use Rattle.decimal_format.specs.Scanning.{separator_if, separated_if, SkipsSeparator, EndsInteger, BeginsWithDigit, IsUniform, IsRunOf, ReadsRun, ReadsDigits, ReadsLastDigits, ReadsFraction}
+use Rattle.decimal_format.specs.Scanning.{separator_if, separated_if, SkipsSeparator, EndsInteger, BeginsWithDigit, IsUniform, ReadsRun, ReadsDigits, ReadsLastDigits, ReadsFraction}
 use Rattle.decimal_format.proofs.Bcd.{below_append, below_first, below_rest, bcd_none, bcd_push}
 use Rattle.decimal_format.proofs.Codes.{same_digit, digit_not_grouping, digit_not_minus, digit_not_plus, plus_not_minus, none_not_digit, none_not_grouping}
 use Rattle.decimal_format.proofs.DigitTexts.{digits_text-nil, digits_text-cons, digits_text-first, digits_text-cong, digits_text-append, digits_text-run, digits_not_grouping, digits-unique, ends_integer, nil_ends}
-use Rattle.decimal_format.proofs.Separators.{separates_none, separates_last}
 
 -- a true proposition holds on a missing value
 pub on_none : {A : Type 0} (result : Option A) (P : Type 0) → P → IfNone result P
@@ -351,12 +349,12 @@ module _ (s : Symbols) (may : ℕ → Bool) (n : ℕ) (bytes : List ℕ) where
   -- digits that follow each other were read
   pub read_run : (run digits rest after next : List ℕ) (left less : ℕ) (b all none more_all more_none : Bool)
       → AllBelowBase 10 run → 0 < length run → less + length run ≡ left
-      → ((m : ℕ) → less < m → m < left → may m ≡ false) → rest ≡ digits_text s (λ _. false) run ++ after
+      → ((k : ℕ) → k + 1 < length run → may (left - 1 - k) ≡ false) → rest ≡ digits_text s (λ _. false) run ++ after
       → SkipsSeparator s (may less) after next b
       → (more_all ≡ true ↔ ((all ≡ true) × (b ≡ (may less && true))))
       → (more_none ≡ true ↔ ((none ≡ true) × (b ≡ (may less && false)))) → IsReadTo s may n bytes rest left all none digits
       → IsReadTo s may n bytes next less more_all more_none (digits ++ run)
-  read_run run digits rest after next left less b all none more_all more_none below some size inside e skips step_all
+  read_run run digits rest after next left less b all none more_all more_none below some size never e skips step_all
       step_none so_far = record {
         chosen = f;
         allowed = allowed;
@@ -366,7 +364,7 @@ module _ (s : Symbols) (may : ℕ → Bool) (n : ℕ) (bytes : List ℕ) where
             so_far.text
             ∙ (λ i. digits_text-cong s (λ m. so_far.chosen (m + left)) (λ m. f (m + length run + less)) digits same i
             ++ (e ∙ ap (λ l. digits_text s (λ _. false) run ++ l) separator
-            ∙ sym (digits_text-run s (λ m. f (m + less)) run next some never)) i)
+            ∙ sym (digits_text-run s (λ m. f (m + less)) run next some later)) i)
             ∙ sym (append_assoc (digits_text s (λ m. f (m + length run + less)) digits)
             (digits_text s (λ m. f (m + less)) run) next)
             ∙ ap (λ l. l ++ next) (sym (digits_text-append s (λ m. f (m + less)) digits run));
@@ -387,6 +385,11 @@ module _ (s : Symbols) (may : ℕ → Bool) (n : ℕ) (bytes : List ℕ) where
       above : (m : ℕ) → left ≤ m → f m ≡ so_far.chosen m
       above m low = choose_other so_far.chosen less m b (λ e. omega (arith, e, low, lower))
 
+      inside : (m : ℕ) → less < m → m < left → may m ≡ false
+      inside m low high =
+          ap may (let back : m ≡ left - 1 - (left - 1 - m) = omega (arith, high) in back)
+          ∙ never (left - 1 - m) (omega (arith, low, size))
+
       between : (m : ℕ) → less < m → m < left → f m ≡ false
       between m low high =
           choose_other so_far.chosen less m b (λ e. omega (arith, e, low))
@@ -404,8 +407,8 @@ module _ (s : Symbols) (may : ℕ → Bool) (n : ℕ) (bytes : List ℕ) where
           sym (above (m + left) (omega arith))
           ∙ ap f (let order : m + left ≡ m + length run + less = omega (arith, size) in order)
 
-      never : (m : ℕ) → 0 < m → m < length run → f (m + less) ≡ false
-      never m low high = between (m + less) (omega (arith, low)) (omega (arith, high, size))
+      later : (m : ℕ) → 0 < m → m < length run → f (m + less) ≡ false
+      later m low high = between (m + less) (omega (arith, low)) (omega (arith, high, size))
 
       separator : after ≡ separator_if s (f (0 + less)) ++ next
       separator =
@@ -516,34 +519,24 @@ module _ (s : Symbols) (may : ℕ → Bool) (n : ℕ) (bytes : List ℕ) where
 
     -- and where fewer digits follow than these have before the next end of a group, the text does not begin with them
     pub read_fails : (run after : List ℕ) (more : ℕ) → AllBelowBase 10 run → length run < more → more ≤ left
-        → ((m : ℕ) → left - more < m → m < left → may m ≡ false) → rest ≡ digits_text s (λ _. false) run ++ after
+        → ((k : ℕ) → k + 1 < more → may (left - 1 - k) ≡ false) → rest ≡ digits_text s (λ _. false) run ++ after
         → ((d : ℕ) (r : List ℕ) → d < 10 → after ≢ digit_text s d ++ r) → ⊥
-    read_fails run after more all fewer within inside h ends =
+    read_fails run after more all fewer within never h ends =
         run_fails s readable f run others after tail (left - more) all (below_rest first others digits_left)
         (omega (arith, length_left, fewer, within))
-        (λ m low high. ap (λ x. x && chosen m) (inside m low (omega (arith, high, length_left)))) ends
-        (sym h ∙ read_left)
+        (λ m low high. ap (λ x. x && chosen m)
+        (ap may (let back : m ≡ left - 1 - (left - 1 - m) = omega (arith, high, length_left) in back)
+        ∙ never (left - 1 - m) (omega (arith, low, high, length_left, within)))) ends (sym h ∙ read_left)
 
 -- ---- Groups.
 -- no group ends after the last digit
 pub none_after_last : (s : Symbols) → ends_group s.sizes 0 ≡ false
-none_after_last s = go (nat_lt 0 s.sizes.primary) (nat_le s.sizes.primary 0) _ (grind (arith, nat_tests))
-  where
-    go : (a b c : Bool) → (a ≡ true → b ≡ false) → (a && (b && c)) ≡ false
-    go true b c h = ap (λ x. x && c) (h refl)
-    go false b c h = refl
+none_after_last s = grind (arith, nat_tests)
 
 -- a strategy separates at all ends of groups, or at none
 pub strategy_is : (s : Symbols) (g : GroupingStrategy) (n m : ℕ)
     → separated_by s g n m ≡ (ends_group s.sizes m && is_grouped g s.sizes (pos (n - 1)))
-strategy_is s g n m =
-    swap (nat_lt 0 s.sizes.primary) (is_grouped g s.sizes (pos (n - 1)))
-    (nat_le s.sizes.primary m && ((m - s.sizes.primary) % secondary_size s.sizes == 0))
-  where
-    swap : (a b c : Bool) → (a && (b && c)) ≡ ((a && c) && b)
-    swap false b c = refl
-    swap true true c = sym (and-true c)
-    swap true false c = sym (and-false c)
+strategy_is s g n m = and_comm (is_grouped g s.sizes (pos (n - 1))) (ends_group s.sizes m)
 
 -- the strategy that writes all separators, or none
 abbrev pub strategy_if : Bool → GroupingStrategy
@@ -552,65 +545,10 @@ strategy_if false = Never
 
 pub strategy_separates : (s : Symbols) (all : Bool) (n m : ℕ) → m < n
     → (ends_group s.sizes m && all) ≡ separated_by s (strategy_if all) n m
-strategy_separates s false n m inside = sym (strategy_is s Never n m)
+strategy_separates s false n m inside = and-false (ends_group s.sizes m)
 strategy_separates s true n m inside =
     and-true (ends_group s.sizes m)
-    ∙ always (nat_lt 0 s.sizes.primary) (nat_le s.sizes.primary m) ((m - s.sizes.primary) % secondary_size s.sizes == 0)
-    (reaches s.sizes 1 (pos (n - 1))) reached
-  where
-    reached : nat_le s.sizes.primary m ≡ true → reaches s.sizes 1 (pos (n - 1)) ≡ true
-    reached h = grind (arith, ints, nat_tests)
-
-    always : (a b c r : Bool) → (b ≡ true → r ≡ true) → (a && (b && c)) ≡ (a && (r && (b && c)))
-    always false b c r h = refl
-    always true true c r h = ap (λ x. x && c) (sym (h refl))
-    always true false c true h = refl
-    always true false c false h = refl
-
--- ---- Digits up to an end of a group.
-module _ (s : Symbols) (left : ℕ) where
-  abbrev rest_of : ℕ
-  rest_of = (left - 1 - s.sizes.primary) % secondary_size s.sizes
-
-  ends_is : (m : ℕ) → m < left → ends_group s.sizes m ≡ separates Always s.sizes (pos (left - 1)) (pos m)
-  ends_is m inside = sym (and-true (ends_group s.sizes m)) ∙ strategy_separates s true left m inside
-
-  module _ (some : 0 < s.sizes.primary) (more : s.sizes.primary < left) where
-    none_in_run : (m : ℕ) → m < left → left - 1 - m < rest_of → ends_group s.sizes m ≡ false
-    none_in_run m high h =
-        let back : left - 1 - (left - 1 - m) ≡ m = omega (arith, high) in
-        ends_is m high
-        ∙ ap (λ x. separates Always s.sizes (pos (left - 1)) (pos x)) (sym back)
-        ∙ separates_none Always s.sizes (pos (left - 1)) (left - 1) (left - 1 - m) some (omega (arith, more)) h
-
-    pub run_of_eight : 8 ≤ rest_of → IsRunOf s.sizes left 8 false
-    run_of_eight long =
-        let within : 8 ≤ left = omega (arith, long, more) in
-        record {
-          some = omega arith;
-          at_most = omega arith;
-          within = within;
-          none_between = λ m low high. none_in_run m high (omega (arith, long, low, high));
-          last = sym (none_in_run (left - 8) (omega (arith, within)) (omega (arith, long, within)));
-        }
-
-    pub run_to_end : (n : ℕ) → n ≡ rest_of → n < 8 → IsRunOf s.sizes left (n + 1) true
-    run_to_end n is few =
-        let within : n + 1 ≤ left = omega (arith, is, more) in
-        let at : left - 1 - rest_of ≡ left - (n + 1) = omega (arith, is) in
-        record {
-          some = omega arith;
-          at_most = omega (arith, few);
-          within = within;
-          none_between = λ m low high. none_in_run m high (omega (arith, is, low, high));
-          last =
-              sym (ends_is (left - (n + 1)) (omega (arith, within))
-              ∙ ap (λ x. separates Always s.sizes (pos (left - 1)) (pos x)) (sym at)
-              ∙ separates_last Always s.sizes (pos (left - 1)) (left - 1) some (omega (arith, more)) grouped);
-        }
-      where
-        grouped : is_grouped Always s.sizes (pos (left - 1)) ≡ true
-        grouped = grind (arith, ints, nat_tests, more)
+    ∙ sym (allowed_is (reaches s.sizes 1 (pos (n - 1))) (ends_group s.sizes m) (λ h. grind (arith, ints, nat_tests)))
 
 -- ---- Whole numbers.
 -- a number begins with a digit

@@ -1,5 +1,5 @@
 -- The text of a magnitude by symbols of one byte each.
-use Rattle.std.proofs.Common.{◌≡◌, ℕ, ◌+◌, List, [], ◌∷◌, ◌++◌, Bool, sym, ◌∙◌, ap, arith, append_assoc}
+use Rattle.std.proofs.Common.{◌≡◌, ℕ, ◌+◌, List, [], ◌∷◌, ◌++◌, Bool, refl, sym, ◌∙◌, ap, arith, append_assoc}
 use Rattle.std.specs.Prelude.{if◌then◌else◌, ◌&&◌, ℤ, pos, negsuc}
 use Rattle.decimal_digits.specs.Number.{digit}
 use Rattle.decimal_format.specs.declared.grouping.GroupingSizes.{GroupingSizes}
@@ -14,7 +14,7 @@ use Rattle.decimal_format.proofs.Magnitudes.{digit_below}
 -- a separator is after the digits that end a group, of a value that is grouped
 pub separates_if : (strategy : GroupingStrategy) (sizes : GroupingSizes) (hi m : ℤ)
     → separates strategy sizes hi m ≡ (is_grouped strategy sizes hi && ends_group_at sizes m)
-separates_if strategy sizes hi (pos m) = grind arith
+separates_if strategy sizes hi (pos m) = refl
 separates_if strategy sizes hi (negsuc m) = grind arith
 
 -- bytes that follow others

@@ -2,7 +2,8 @@ use Rattle.std.proofs.Common.{◌≡◌, ◌<◌, true, [], ◌++◌, length, re
 use Rattle.std.specs.Prelude.{◌↔◌}
 use Rattle.decimal_format.specs.Collecting.{Collects}
 use Rattle.decimal_format.specs.Symbols.{sign_affixes}
-use Rattle.decimal_format.specs.Lenient.{ends_group, separated_at}
+use Rattle.decimal_format.specs.Grouping.{ends_group}
+use Rattle.decimal_format.specs.Lenient.{separated_at}
 use Rattle.decimal_format.specs.Reading.{Numeral, AreDigits, digits_text, fraction_text, absolute_numeral_text}
 use Rattle.decimal_format.specs.Scanning.{IsUniform}
 use Rattle.decimal_format.proofs.DigitTexts.{fraction_ends}
