@@ -157,7 +157,7 @@ module _ (w : Numeral) (digits : AreDigits w) (few : ¬ IsBeyondLimits w) where
       ∙ ap (λ x. x % 10 ^ length all) (mul-div_cancel (number_from_digits 10 all) (ten_pos low))
       ∙ mod-eq_of_lt (number_lt 10 all below))
 
-  absolute_is : (s : Symbols) (g : GroupingStrategy)
+  pub absolute_is : (s : Symbols) (g : GroupingStrategy)
       → absolute_text s g (value_of w) ≡ absolute_numeral_text s (separated_by s g (length w.whole)) w
   absolute_is s g =
       let number = (value_of w).number in
