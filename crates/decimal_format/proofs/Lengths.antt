@@ -1,6 +1,6 @@
 -- The length of the text.
 use Rattle.std.proofs.Common.{◌≡◌, ℕ, suc, ◌+◌, ◌-◌, ◌*◌, ◌<◌, Bool, true, false, List, [], ◌∷◌, ◌++◌, length, ◌∙◌, ap, arith, length-append}
-use Rattle.std.specs.Prelude.{if◌then◌else◌, ℤ, pos, ◌-ℤ◌, ◌≤ℤ◌, ◌<ℤ◌}
+use Rattle.std.specs.Prelude.{if◌then◌else◌, pos, ◌-ℤ◌, ◌≤ℤ◌, ◌<ℤ◌}
 use Rattle.std.specs.Int.{int_gap, int_min}
 use Rattle.std.specs.Int.Digits.{AllBelowBase}
 use Rattle.std.proofs.Math.Nat.{add-mul}

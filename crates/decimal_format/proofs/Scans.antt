@@ -11,7 +11,6 @@ use Rattle.fixed_decimal.specs.declared.variations.Sign.{Sign}
 use Rattle.fixed_decimal.specs.declared.variations.Sign.TheVariants as sign
 use Rattle.decimal_format.specs.declared.grouping.GroupingStrategy.{GroupingStrategy}
 use Rattle.decimal_format.specs.declared.grouping.GroupingStrategy.TheVariants.{Never, Always}
-use Rattle.decimal_unsigned.specs.DigitValues.{IsBcd}
 use Rattle.decimal_format.specs.Collecting.{Collected, Collects, CollectsDigits}
 use Rattle.decimal_format.specs.Symbols.{Symbols, digit_text, sign_affixes}
 use Rattle.decimal_format.specs.Grouping.{reaches, is_grouped, ends_group}
@@ -94,70 +93,45 @@ module _ (s : Symbols) (readable : IsReadable s) where
 -- ---- Counting.
 -- of digits that a text may begin with, these are left, after a separator if one follows the last digit that was
 -- counted
-pub record IsCountedOf (s : Symbols) (separated : ℕ → Bool) (ds tail rest : List ℕ) (n : ℕ) : Type 0 where
-  pub left : List ℕ
-  pub after_separator : Bool
-  pub are_digits : AllBelowBase 10 left
-  pub counted : n + length left ≡ length ds
-  pub is : rest ≡ separator_if s after_separator ++ (digits_text s separated left ++ tail)
+abbrev IsCountedOf : Symbols → (ℕ → Bool) → List ℕ → List ℕ → List ℕ → ℕ → Type 0
+IsCountedOf s separated ds tail rest n = (after_separator : Bool) × (left : List ℕ) × AllBelowBase 10 left
+    × (n + length left ≡ length ds) × (rest ≡ separator_if s after_separator ++ (digits_text s separated left ++ tail))
 
 abbrev pub IsCounted : Symbols → List ℕ → List ℕ → ℕ → Type 0
 IsCounted s bytes rest n = (separated : ℕ → Bool) (ds tail : List ℕ) → AllBelowBase 10 ds → EndsInteger s tail
     → bytes ≡ digits_text s separated ds ++ tail → IsCountedOf s separated ds tail rest n
 
 pub counted_none : (s : Symbols) (bytes : List ℕ) → IsCounted s bytes bytes 0
-counted_none s bytes separated ds tail all ends e = record {
-  left = ds;
-  after_separator = false;
-  are_digits = all;
-  counted = omega arith;
-  is = e;
-}
+counted_none s bytes separated ds tail all ends e = (false, ds, all, omega arith, e)
 
 module _ (s : Symbols) (readable : IsReadable s) (bytes rest : List ℕ) (n : ℕ) where
   -- one digit more
   pub counted_more : (after : List ℕ) (d : ℕ) → d < 10 → rest ≡ digit_text s d ++ after → IsCounted s bytes rest n
       → IsCounted s bytes after (n + 1)
   counted_more after d below e so_far separated ds tail all ends whole =
-      let before = so_far separated ds tail all ends whole in
-      go before.after_separator before.left before.are_digits before.counted before.is
+      step (so_far separated ds tail all ends whole)
     where
-      go : (first : Bool) (left : List ℕ) → AllBelowBase 10 left → n + length left ≡ length ds
-          → rest ≡ separator_if s first ++ (digits_text s separated left ++ tail)
-          → IsCountedOf s separated ds tail after (n + 1)
-      go true left digits counted h = absurd (digit_not_grouping s readable d after _ below (sym e ∙ h))
-      go false [] digits counted h =
+      step : IsCountedOf s separated ds tail rest n → IsCountedOf s separated ds tail after (n + 1)
+      step (true, left, digits, counted, h) = absurd (digit_not_grouping s readable d after _ below (sym e ∙ h))
+      step (false, [], digits, counted, h) =
           absurd (ends.digit d after below (ap (λ l. l ++ tail) (sym (digits_text-nil s separated)) ∙ sym h ∙ e))
-      go false (x ∷ left) digits counted h =
-          let following = separator_if s (separated (length left)) ++ (digits_text s separated left ++ tail) in
-          let same = same_digit s readable d x after following below digits.0
-          (sym e ∙ h ∙ digits_text-first s separated x left tail) in
-          record {
-            left = left;
-            after_separator = separated (length left);
-            are_digits = digits.1;
-            counted = omega (arith, counted);
-            is = same.1;
-          }
+      step (false, (x ∷ left), digits, counted, h) = (
+        separated (length left),
+        left,
+        digits.1,
+        omega (arith, counted),
+        (same_digit s readable d x after _ below digits.0 (sym e ∙ h ∙ digits_text-first s separated x left tail)).1,
+      )
 
   -- a separator after a digit
   pub counted_separator : (after : List ℕ) → rest ≡ s.grouping ++ after → IsCounted s bytes rest n
       → IsCounted s bytes after n
-  counted_separator after e so_far separated ds tail all ends whole =
-      let before = so_far separated ds tail all ends whole in
-      go before.after_separator before.left before.are_digits before.counted before.is
+  counted_separator after e so_far separated ds tail all ends whole = step (so_far separated ds tail all ends whole)
     where
-      go : (first : Bool) (left : List ℕ) → AllBelowBase 10 left → n + length left ≡ length ds
-          → rest ≡ separator_if s first ++ (digits_text s separated left ++ tail)
-          → IsCountedOf s separated ds tail after n
-      go true left digits counted h = record {
-        left = left;
-        after_separator = false;
-        are_digits = digits;
-        counted = counted;
-        is = append_cancel_left s.grouping after (digits_text s separated left ++ tail) (sym e ∙ h);
-      }
-      go false left digits counted h =
+      step : IsCountedOf s separated ds tail rest n → IsCountedOf s separated ds tail after n
+      step (true, left, digits, counted, h) =
+          (false, left, digits, counted, append_cancel_left s.grouping after _ (sym e ∙ h))
+      step (false, left, digits, counted, h) =
           absurd (digits_not_grouping s readable separated left tail after digits (λ _. ends.grouping after) (sym h ∙ e))
 
   -- where neither follows, all were counted
@@ -165,15 +139,12 @@ module _ (s : Symbols) (readable : IsReadable s) (bytes rest : List ℕ) (n : �
       → ((r : List ℕ) → rest ≢ s.grouping ++ r)
       → IsCounted s bytes rest n → (separated : ℕ → Bool) (ds tail : List ℕ) → AllBelowBase 10 ds
       → EndsInteger s tail → bytes ≡ digits_text s separated ds ++ tail → n ≡ length ds
-  counted_all no_digit no_separator so_far separated ds tail all ends e =
-      let last = so_far separated ds tail all ends e in
-      go last.after_separator last.left last.are_digits last.counted last.is
+  counted_all no_digit no_separator so_far separated ds tail all ends e = step (so_far separated ds tail all ends e)
     where
-      go : (first : Bool) (left : List ℕ) → AllBelowBase 10 left → n + length left ≡ length ds
-          → rest ≡ separator_if s first ++ (digits_text s separated left ++ tail) → n ≡ length ds
-      go true left digits counted h = absurd (no_separator (digits_text s separated left ++ tail) h)
-      go false [] digits counted h = omega (arith, counted)
-      go false (x ∷ left) digits counted h =
+      step : IsCountedOf s separated ds tail rest n → n ≡ length ds
+      step (true, left, digits, counted, h) = absurd (no_separator _ h)
+      step (false, [], digits, counted, h) = omega (arith, counted)
+      step (false, (x ∷ left), digits, counted, h) =
           absurd (no_digit x _ digits.0 (h ∙ digits_text-first s separated x left tail))
 
 -- ---- Reading digits.
@@ -186,17 +157,13 @@ collects_both old between new ds es p q = λ inline k before h.
     subst (Collects inline k new) (append_assoc before ds es) (q inline k (before ++ ds) (p inline k before h))
 
 -- ---- Digits that follow each other.
--- these digits were read, and the rest follows them
-pub record IsRunTo (s : Symbols) (bytes rest : List ℕ) (number count : ℕ) : Type 0 where
-  pub digits : List ℕ
-  pub bcd : IsBcd number count digits
-  pub text : bytes ≡ digits_text s (λ _. false) digits ++ rest
-
-pub run_none : (s : Symbols) (bytes : List ℕ) → IsRunTo s bytes bytes 0 0
+pub run_none : (s : Symbols) (bytes : List ℕ) → ReadsRun s 0 bytes bytes 0 0
 run_none s bytes = record {
   digits = [];
   bcd = bcd_none;
+  at_most = omega arith;
   text = ap (λ l. l ++ bytes) (sym (digits_text-nil s (λ _. false)));
+  ends = λ few. absurd (omega (arith, few));
 }
 
 -- the text of digits and then of others
@@ -208,23 +175,24 @@ text_append s bytes ds rest es after e more =
     ∙ ap (λ l. l ++ after) (sym (digits_text-append s (λ _. false) ds es))
 
 -- one digit more
-pub run_push : (s : Symbols) (bytes rest after : List ℕ) (n k d : ℕ) → d < 10 → rest ≡ digit_text s d ++ after
-    → IsRunTo s bytes rest n k → IsRunTo s bytes after (n * 16 + d) (k + 1)
-run_push s bytes rest after n k d below e read =
+pub run_push : {s : Symbols} {bytes rest : List ℕ} {n k : ℕ} (after : List ℕ) (d : ℕ) → d < 10
+    → rest ≡ digit_text s d ++ after → ReadsRun s k bytes rest n k → ReadsRun s (k + 1) bytes after (n * 16 + d) (k + 1)
+run_push {s = s} {bytes = bytes} {rest = rest} {n = n} {k = k} after d below e read =
     let none : ℕ → Bool = λ _. false in
-    let one : digits_text s none (d ∷ []) ≡ digit_text s d =
-    digits_text-cons s none d [] ∙ ap (λ l. digit_text s d ++ l) (digits_text-nil s none)
-    ∙ append-nil (digit_text s d) in
+    let one : digits_text s none (d ∷ []) ++ after ≡ digit_text s d ++ after =
+    digits_text-first s none d [] after ∙ ap (λ l. digit_text s d ++ (l ++ after)) (digits_text-nil s none) in
     record {
       digits = read.digits ++ d ∷ [];
       bcd = bcd_push n k d read.digits below read.bcd;
-      text = text_append s bytes read.digits rest (d ∷ []) after read.text (e ∙ ap (λ l. l ++ after) (sym one));
+      at_most = omega arith;
+      text = text_append s bytes read.digits rest (d ∷ []) after read.text (e ∙ sym one);
+      ends = λ few. absurd (omega (arith, few));
     }
 
 -- no more digits were to be read, or none follows
-pub run_read : (s : Symbols) (most : ℕ) (bytes rest : List ℕ) (n k : ℕ) → IsRunTo s bytes rest n k → k ≤ most
+pub run_most : {s : Symbols} {most : ℕ} {bytes rest : List ℕ} {n k : ℕ} → ReadsRun s k bytes rest n k → k ≤ most
     → (k < most → (d : ℕ) (r : List ℕ) → d < 10 → rest ≢ digit_text s d ++ r) → ReadsRun s most bytes rest n k
-run_read s most bytes rest n k read few ends = record {
+run_most read few ends = record {
   digits = read.digits;
   bcd = read.bcd;
   at_most = few;
@@ -233,15 +201,13 @@ run_read s most bytes rest n k read few ends = record {
 }
 
 -- no digit was read: none follows
-pub run_empty : (s : Symbols) (most : ℕ) (bytes rest : List ℕ) (n k : ℕ) → ReadsRun s most bytes rest n k → k ≡ 0
+pub run_empty : {s : Symbols} {most : ℕ} {bytes rest : List ℕ} {n k : ℕ} → ReadsRun s most bytes rest n k → k ≡ 0
     → 0 < most → (d : ℕ) (r : List ℕ) → d < 10 → bytes ≢ digit_text s d ++ r
-run_empty s most bytes rest n k run none some d r below e = go run.digits run.bcd.count run.text
-  where
-    go : (ds : List ℕ) → length ds ≡ k → bytes ≡ digits_text s (λ _. false) ds ++ rest → ⊥
-    go [] size text =
-        run.ends (omega (arith, none, some)) d r below
-        (sym (text ∙ ap (λ l. l ++ rest) (digits_text-nil s (λ _. false))) ∙ e)
-    go (x ∷ ds) size text = absurd (omega (arith, size, none))
+run_empty {s = s} {rest = rest} run none some d r below e =
+    let empty = nil_from_length run.digits (omega (arith, run.bcd.count, none)) in
+    run.ends (omega (arith, none, some)) d r below
+    (sym (run.text ∙ ap (λ l. digits_text s (λ _. false) l ++ rest) empty
+    ∙ ap (λ l. l ++ rest) (digits_text-nil s (λ _. false))) ∙ e)
 
 -- ---- Chosen magnitudes.
 -- the same choice, but for one magnitude
@@ -273,7 +239,7 @@ both_first false b h = h
 
 -- ---- Reading digits in groups.
 -- the steps of the two flags
-pub all_step : (flag found possible may : Bool) → possible ≡ may
+all_step : (flag found possible may : Bool) → possible ≡ may
     → (flag && beq found possible) ≡ true ↔ ((flag ≡ true) × (found ≡ (may && true)))
 all_step false found possible may e = (λ h. absurd (cc), λ h. absurd (let k = h.0 in cc))
 all_step true true true may e = (λ h. (refl, e ∙ sym (and-true may)), λ h. refl)
@@ -281,7 +247,7 @@ all_step true true false may e = (λ h. absurd (cc), λ h. absurd (let k = h.1 �
 all_step true false true may e = (λ h. absurd (cc), λ h. absurd (let k = h.1 ∙ and-true may ∙ sym e in cc))
 all_step true false false may e = (λ h. (refl, e ∙ sym (and-true may)), λ h. refl)
 
-pub none_step : (flag found may : Bool) → (flag && not found) ≡ true ↔ ((flag ≡ true) × (found ≡ (may && false)))
+none_step : (flag found may : Bool) → (flag && not found) ≡ true ↔ ((flag ≡ true) × (found ≡ (may && false)))
 none_step false found may = (λ h. absurd (cc), λ h. absurd (let k = h.0 in cc))
 none_step true true may = (λ h. absurd (cc), λ h. absurd (let k = h.1 ∙ and-false may in cc))
 none_step true false may = (λ h. (refl, sym (and-false may)), λ h. refl)
@@ -333,7 +299,7 @@ run_fails s readable f (d ∷ run) (x ∷ ds) after tail low p q fewer inside en
     run_fails s readable f run ds after tail low p.1 q.1 (omega (arith, fewer)) (λ m l h. inside m l (omega (arith, h)))
     ends (same.1 ∙ ap (λ b. separator_if s b ++ following) (inside (length ds) (omega (arith, fewer)) (omega arith)))
 
-module _ (s : Symbols) (may : ℕ → Bool) (n : ℕ) (bytes : List ℕ) where
+module _ {s : Symbols} {may : ℕ → Bool} {n : ℕ} {bytes : List ℕ} where
   pub read_none : IsReadTo s may n bytes bytes n true true []
   read_none = record {
     chosen = may;
@@ -347,48 +313,52 @@ module _ (s : Symbols) (may : ℕ → Bool) (n : ℕ) (bytes : List ℕ) where
   }
 
   -- digits that follow each other were read
-  pub read_run : (run digits rest after next : List ℕ) (left less : ℕ) (b all none more_all more_none : Bool)
-      → AllBelowBase 10 run → 0 < length run → less + length run ≡ left
-      → ((k : ℕ) → k + 1 < length run → may (left - 1 - k) ≡ false) → rest ≡ digits_text s (λ _. false) run ++ after
-      → SkipsSeparator s (may less) after next b
-      → (more_all ≡ true ↔ ((all ≡ true) × (b ≡ (may less && true))))
-      → (more_none ≡ true ↔ ((none ≡ true) × (b ≡ (may less && false)))) → IsReadTo s may n bytes rest left all none digits
-      → IsReadTo s may n bytes next less more_all more_none (digits ++ run)
-  read_run run digits rest after next left less b all none more_all more_none below some size never e skips step_all
-      step_none so_far = record {
+  pub read_run : {rest after next digits : List ℕ} {left most number count : ℕ} {all none possible b : Bool}
+      → IsReadTo s may n bytes rest left all none digits → (run : ReadsRun s most rest after number count)
+      → SkipsSeparator s possible after next b → 0 < most → most ≤ count → most ≤ left
+      → ((k : ℕ) → k + 1 < most → may (left - 1 - k) ≡ false) → may (left - 1 - (most - 1)) ≡ possible
+      → IsReadTo s may n bytes next (left - most) (all && beq b possible) (none && not b) (digits ++ run.digits)
+  read_run {after = after} {next = next} {digits = digits} {left = left} {most = most} {all = all} {none = none}
+      {possible = possible} {b = b} so_far run skips some full within never last = record {
         chosen = f;
         allowed = allowed;
-        count = omega (arith, size, so_far.count, length-append digits run);
-        are_digits = below_append digits run so_far.are_digits below;
+        count = omega (arith, size, so_far.count, length-append digits run.digits, within);
+        are_digits = below_append digits run.digits so_far.are_digits run.bcd.digits;
         text =
             so_far.text
-            ∙ (λ i. digits_text-cong s (λ m. so_far.chosen (m + left)) (λ m. f (m + length run + less)) digits same i
-            ++ (e ∙ ap (λ l. digits_text s (λ _. false) run ++ l) separator
-            ∙ sym (digits_text-run s (λ m. f (m + less)) run next some later)) i)
-            ∙ sym (append_assoc (digits_text s (λ m. f (m + length run + less)) digits)
-            (digits_text s (λ m. f (m + less)) run) next)
-            ∙ ap (λ l. l ++ next) (sym (digits_text-append s (λ m. f (m + less)) digits run));
-        skipped = λ rest h possible. here ∙ skipped_is s (may less) b after next rest skips h possible;
-        all = flag true all more_all so_far.all step_all;
-        none = flag false none more_none so_far.none step_none;
+            ∙ (λ i. digits_text-cong s (λ m. so_far.chosen (m + left)) (λ m. f (m + length run.digits + less)) digits
+            same i ++ (run.text ∙ ap (λ l. digits_text s (λ _. false) run.digits ++ l) separator
+            ∙ sym (digits_text-run s (λ m. f (m + less)) run.digits next (omega (arith, size, some)) later)) i)
+            ∙ sym (append_assoc (digits_text s (λ m. f (m + length run.digits + less)) digits)
+            (digits_text s (λ m. f (m + less)) run.digits) next)
+            ∙ ap (λ l. l ++ next) (sym (digits_text-append s (λ m. f (m + less)) digits run.digits));
+        skipped = λ rest h there. here ∙ skipped_is s possible b after next rest skips h (sym may_less ∙ there);
+        all = flag true all _ so_far.all (all_step all b possible (may less) (sym may_less));
+        none = flag false none _ so_far.none (none_step none b (may less));
       }
     where
+      less : ℕ
+      less = left - most
+
+      size : length run.digits ≡ most
+      size = omega (arith, run.bcd.count, run.at_most, full)
+
       f : ℕ → Bool
       f = choose so_far.chosen less b
 
-      lower : less < left
-      lower = omega (arith, size, some)
+      may_less : may less ≡ possible
+      may_less = ap may (let order : less ≡ left - 1 - (most - 1) = omega (arith, some) in order) ∙ last
 
       here : f less ≡ b
       here = choose_here so_far.chosen less b
 
       above : (m : ℕ) → left ≤ m → f m ≡ so_far.chosen m
-      above m low = choose_other so_far.chosen less m b (λ e. omega (arith, e, low, lower))
+      above m low = choose_other so_far.chosen less m b (λ e. omega (arith, e, low, some, within))
 
       inside : (m : ℕ) → less < m → m < left → may m ≡ false
       inside m low high =
           ap may (let back : m ≡ left - 1 - (left - 1 - m) = omega (arith, high) in back)
-          ∙ never (left - 1 - m) (omega (arith, low, size))
+          ∙ never (left - 1 - m) (omega (arith, low, high))
 
       between : (m : ℕ) → less < m → m < left → f m ≡ false
       between m low high =
@@ -398,17 +368,17 @@ module _ (s : Symbols) (may : ℕ → Bool) (n : ℕ) (bytes : List ℕ) where
 
       allowed : AreAllowed may f
       allowed m h = elim (cases_eq m less) [
-        | inl q ↦ ap may q ∙ skips.allowed (sym here ∙ ap f (sym q) ∙ h)
+        | inl q ↦ ap may q ∙ may_less ∙ skips.allowed (sym here ∙ ap f (sym q) ∙ h)
         | inr q ↦ so_far.allowed m (sym (choose_other so_far.chosen less m b q) ∙ h)
       ]
 
-      same : (m : ℕ) → m < length digits → so_far.chosen (m + left) ≡ f (m + length run + less)
+      same : (m : ℕ) → m < length digits → so_far.chosen (m + left) ≡ f (m + length run.digits + less)
       same m high =
           sym (above (m + left) (omega arith))
-          ∙ ap f (let order : m + left ≡ m + length run + less = omega (arith, size) in order)
+          ∙ ap f (let order : m + left ≡ m + length run.digits + less = omega (arith, size, within) in order)
 
-      later : (m : ℕ) → 0 < m → m < length run → f (m + less) ≡ false
-      later m low high = between (m + less) (omega (arith, low)) (omega (arith, high, size))
+      later : (m : ℕ) → 0 < m → m < length run.digits → f (m + less) ≡ false
+      later m low high = between (m + less) (omega (arith, low)) (omega (arith, high, size, within))
 
       separator : after ≡ separator_if s (f (0 + less)) ++ next
       separator =
@@ -429,104 +399,106 @@ module _ (s : Symbols) (may : ℕ → Bool) (n : ℕ) (bytes : List ℕ) where
                 between m past lower ∙ ap (λ x. x && t) (sym (inside m past lower))
           ]
         ],
-        λ all. step.1 (
-          was.1 (λ m low high. sym (above m low) ∙ all m (omega (arith, low, lower)) high),
-          sym here ∙ all less (omega arith) (omega (arith, lower, so_far.count)),
+        λ same. step.1 (
+          was.1 (λ m low high. sym (above m low) ∙ same m (omega (arith, low)) high),
+          sym here ∙ same less (omega arith) (omega (arith, so_far.count, some, within)),
         ),
       )
 
-  -- where no more is left to read
-  pub read_all : (rest digits : List ℕ) (left : ℕ) (all none : Bool) (old new : Collected) → left ≡ 0
-      → CollectsDigits old new digits → IsReadTo s may n bytes rest left all none digits
-      → ReadsDigits s may n bytes rest (all || none) old new
-  read_all rest digits left all none old new last collected so_far = record {
-    digits = digits;
-    chosen = so_far.chosen;
-    count = omega (arith, so_far.count, last);
-    are_digits = so_far.are_digits;
-    text =
-        so_far.text
-        ∙ (λ i. digits_text s (λ m. ((let z : m + left ≡ m = omega (arith, last) in ap so_far.chosen z) ∙ ap (λ f. f m) same) i)
-        digits ++ rest);
-    uniform = either_is may so_far.chosen n all none
-        (to_last true all so_far.all) (to_last false none so_far.none);
-    collected = collected;
-  }
-    where
-      same : so_far.chosen ≡ separated_if may so_far.chosen
-      same = λ i m. sym (allowed_is (may m) (so_far.chosen m) (so_far.allowed m)) i
+  module _ {rest digits : List ℕ} {left : ℕ} {all none : Bool}
+      (so_far : IsReadTo s may n bytes rest left all none digits) where
+    -- where no more is left to read
+    pub read_all : {old new : Collected} → left ≡ 0 → CollectsDigits old new digits
+        → ReadsDigits s may n bytes rest (all || none) old new
+    read_all last collected = record {
+      digits = digits;
+      chosen = so_far.chosen;
+      count = omega (arith, so_far.count, last);
+      are_digits = so_far.are_digits;
+      text =
+          so_far.text
+          ∙ (λ i. digits_text s
+          (λ m. ((let z : m + left ≡ m = omega (arith, last) in ap so_far.chosen z) ∙ ap (λ f. f m) same) i) digits
+          ++ rest);
+      uniform = either_is may so_far.chosen n all none (to_last true all so_far.all) (to_last false none so_far.none);
+      collected = collected;
+    }
+      where
+        same : so_far.chosen ≡ separated_if may so_far.chosen
+        same = λ i m. sym (allowed_is (may m) (so_far.chosen m) (so_far.allowed m)) i
 
-      to_last : (t flag : Bool) → (flag ≡ true ↔ Agree so_far.chosen (separated_if may (λ _. t)) left n)
-          → flag ≡ true ↔ Agree (separated_if may so_far.chosen) (separated_if may (λ _. t)) 0 n
-      to_last t flag h = subst (λ k. flag ≡ true ↔ Agree (separated_if may so_far.chosen) (separated_if may (λ _. t)) k n) last
-          (subst (λ f. flag ≡ true ↔ Agree f (separated_if may (λ _. t)) left n) same h)
+        to_last : (t flag : Bool) → (flag ≡ true ↔ Agree so_far.chosen (separated_if may (λ _. t)) left n)
+            → flag ≡ true ↔ Agree (separated_if may so_far.chosen) (separated_if may (λ _. t)) 0 n
+        to_last t flag h =
+            subst (λ k. flag ≡ true ↔ Agree (separated_if may so_far.chosen) (separated_if may (λ _. t)) k n) last
+            (subst (λ f. flag ≡ true ↔ Agree f (separated_if may (λ _. t)) left n) same h)
 
-  module _ (readable : IsReadable s) (none_last : may 0 ≡ false) (rest digits : List ℕ) (left : ℕ) (all none : Bool)
-      (so_far : IsReadTo s may n bytes rest left all none digits) (chosen : ℕ → Bool) (ds tail : List ℕ)
-      (size : length ds ≡ n) (below : AllBelowBase 10 ds)
-      (e : bytes ≡ digits_text s (separated_if may chosen) ds ++ tail) where
-    abbrev f : ℕ → Bool
-    f = separated_if may chosen
+    module _ (readable : IsReadable s) (none_last : may 0 ≡ false) (chosen : ℕ → Bool) (ds tail : List ℕ)
+        (size : length ds ≡ n) (below : AllBelowBase 10 ds)
+        (e : bytes ≡ digits_text s (separated_if may chosen) ds ++ tail) where
+      abbrev f : ℕ → Bool
+      f = separated_if may chosen
 
-    abbrev first : List ℕ
-    first = take (length digits) ds
+      abbrev first : List ℕ
+      first = take (length digits) ds
 
-    abbrev others : List ℕ
-    others = drop (length digits) ds
+      abbrev others : List ℕ
+      others = drop (length digits) ds
 
-    pub length_left : length others ≡ left
-    length_left = omega (arith, size, so_far.count, length-drop (length digits) ds)
+      length_left : length others ≡ left
+      length_left = omega (arith, size, so_far.count, length-drop (length digits) ds)
 
-    split : first ++ others ≡ ds
-    split = take-append-drop (length digits) ds
+      split : first ++ others ≡ ds
+      split = take-append-drop (length digits) ds
 
-    same_size : length digits ≡ length first
-    same_size = omega (arith, length_left, size, so_far.count, ap length split, length-append first others)
+      same_size : length digits ≡ length first
+      same_size = omega (arith, length_left, size, so_far.count, ap length split, length-append first others)
 
-    digits_left : AllBelowBase 10 (first ++ others)
-    digits_left = subst (AllBelowBase 10) (sym split) below
+      digits_left : AllBelowBase 10 (first ++ others)
+      digits_left = subst (AllBelowBase 10) (sym split) below
 
-    -- a separator that follows the digits is among those read
-    first_ends : (r : List ℕ) → rest ≡ s.grouping ++ r → f (length first - length digits + length others) ≡ true
-        → so_far.chosen (0 + left) ≡ true
-    first_ends r h there =
-        let here : length first - length digits + length others ≡ left = omega (arith, same_size, length_left) in
-        let zero : 0 + left ≡ left = omega arith in
-        ap so_far.chosen zero ∙ so_far.skipped r h (both_first (may left) _ (sym (ap f here) ∙ there))
+      -- a separator that follows the digits is among those read
+      first_ends : (r : List ℕ) → rest ≡ s.grouping ++ r → f (length first - length digits + length others) ≡ true
+          → so_far.chosen (0 + left) ≡ true
+      first_ends r h there =
+          let here : length first - length digits + length others ≡ left = omega (arith, same_size, length_left) in
+          let zero : 0 + left ≡ left = omega arith in
+          ap so_far.chosen zero ∙ so_far.skipped r h (both_first (may left) _ (sym (ap f here) ∙ there))
 
-    -- where others follow, they begin with a digit
-    others_begin : (r : List ℕ) → digits_text s f others ++ tail ≡ s.grouping ++ r
-        → so_far.chosen (length digits - length first + left) ≡ true → f (0 + length others) ≡ true
-    others_begin r h there = absurd (digits_not_grouping s readable f others tail r (below_rest first others digits_left)
-        (λ none k. let at : length digits - length first + left ≡ 0 = omega (arith, same_size, length_left, none) in
-        let t : false ≡ true = sym none_last ∙ so_far.allowed 0 (sym (ap so_far.chosen at) ∙ there) in cc) h)
+      -- where others follow, they begin with a digit
+      others_begin : (r : List ℕ) → digits_text s f others ++ tail ≡ s.grouping ++ r
+          → so_far.chosen (length digits - length first + left) ≡ true → f (0 + length others) ≡ true
+      others_begin r h there = absurd (digits_not_grouping s readable f others tail r
+          (below_rest first others digits_left)
+          (λ none k. let at : length digits - length first + left ≡ 0 = omega (arith, same_size, length_left, none) in
+          let t : false ≡ true = sym none_last ∙ so_far.allowed 0 (sym (ap so_far.chosen at) ∙ there) in cc) h)
 
-    -- of other digits that the text begins with, those that are left follow
-    pub read_left : rest ≡ digits_text s f others ++ tail
-    read_left =
-        (digits-unique s readable (λ m. so_far.chosen (m + left)) (λ m. f (m + length others)) digits first rest
-        (digits_text s f others ++ tail) so_far.are_digits (below_first first others digits_left)
-        (record { digit = λ d r h k. same_size; separator = first_ends })
-        (record { digit = λ d r h k. sym same_size; separator = others_begin })
-        (sym so_far.text ∙ e ∙ ap (λ l. digits_text s f l ++ tail) (sym split)
-        ∙ ap (λ l. l ++ tail) (digits_text-append s f first others)
-        ∙ append_assoc (digits_text s (λ m. f (m + length others)) first) (digits_text s f others) tail)).1
+      -- of other digits that the text begins with, those that are left follow
+      read_left : rest ≡ digits_text s f others ++ tail
+      read_left =
+          (digits-unique s readable (λ m. so_far.chosen (m + left)) (λ m. f (m + length others)) digits first rest
+          (digits_text s f others ++ tail) so_far.are_digits (below_first first others digits_left)
+          (record { digit = λ d r h k. same_size; separator = first_ends })
+          (record { digit = λ d r h k. sym same_size; separator = others_begin })
+          (sym so_far.text ∙ e ∙ ap (λ l. digits_text s f l ++ tail) (sym split)
+          ∙ ap (λ l. l ++ tail) (digits_text-append s f first others)
+          ∙ append_assoc (digits_text s (λ m. f (m + length others)) first) (digits_text s f others) tail)).1
 
-    pub read_last : left ≡ 0 → rest ≡ tail
-    read_last last =
-        let none = nil_from_length others (omega (arith, length_left, last)) in
-        read_left ∙ ap (λ l. digits_text s f l ++ tail) none ∙ ap (λ l. l ++ tail) (digits_text-nil s f)
+      pub read_last : left ≡ 0 → rest ≡ tail
+      read_last last =
+          let none = nil_from_length others (omega (arith, length_left, last)) in
+          read_left ∙ ap (λ l. digits_text s f l ++ tail) none ∙ ap (λ l. l ++ tail) (digits_text-nil s f)
 
-    -- and where fewer digits follow than these have before the next end of a group, the text does not begin with them
-    pub read_fails : (run after : List ℕ) (more : ℕ) → AllBelowBase 10 run → length run < more → more ≤ left
-        → ((k : ℕ) → k + 1 < more → may (left - 1 - k) ≡ false) → rest ≡ digits_text s (λ _. false) run ++ after
-        → ((d : ℕ) (r : List ℕ) → d < 10 → after ≢ digit_text s d ++ r) → ⊥
-    read_fails run after more all fewer within never h ends =
-        run_fails s readable f run others after tail (left - more) all (below_rest first others digits_left)
-        (omega (arith, length_left, fewer, within))
-        (λ m low high. ap (λ x. x && chosen m)
-        (ap may (let back : m ≡ left - 1 - (left - 1 - m) = omega (arith, high, length_left) in back)
-        ∙ never (left - 1 - m) (omega (arith, low, high, length_left, within)))) ends (sym h ∙ read_left)
+      -- and where fewer digits follow than these have before the next end of a group, the text does not begin with them
+      pub read_fails : {after : List ℕ} {most number count : ℕ} → ReadsRun s most rest after number count
+          → count < most → most ≤ left → ((k : ℕ) → k + 1 < most → may (left - 1 - k) ≡ false) → ⊥
+      read_fails {after = after} {most = most} run fewer within never =
+          run_fails s readable f run.digits others after tail (left - most) run.bcd.digits
+          (below_rest first others digits_left) (omega (arith, length_left, fewer, within, run.bcd.count))
+          (λ m low high. ap (λ x. x && chosen m)
+          (ap may (let back : m ≡ left - 1 - (left - 1 - m) = omega (arith, high, length_left) in back)
+          ∙ never (left - 1 - m) (omega (arith, low, high, length_left, within)))) (run.ends fewer)
+          (sym run.text ∙ read_left)
 
 -- ---- Groups.
 -- no group ends after the last digit

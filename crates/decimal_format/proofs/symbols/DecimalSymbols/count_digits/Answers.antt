@@ -1,4 +1,4 @@
-use Rattle.std.proofs.Common.{◌≡◌, ◌++◌, sym, ◌∙◌, ap, arith}
+use Rattle.std.proofs.Common.{arith}
 use Rattle.decimal_format.proofs.Scans.{shorter, shorter_by_separator, counted_none, counted_more, counted_separator, counted_all}
 use Rattle.decimal_format.proofs.symbols.DecimalSymbols.count_digits.Goals as goal
 
@@ -34,8 +34,7 @@ loop-after-preserved g c =
     let s = c.args.self.now in
     let rest = c.loop-after.rest.now in
     let after = c.in-Some-cut.after.now in
-    let code : c.as_bytes.result.now ≡ s.grouping = c.as_bytes.ensures.value ∙ c.grouping_separator.ensures.value in
-    let begins : rest ≡ s.grouping ++ after = c.in-Some-cut.ensures ∙ ap (λ l. l ++ after) code in
+    let begins = rw (c.as_bytes.ensures.value, c.grouping_separator.ensures.value) at c.in-Some-cut.ensures in
     record {
       at_most =
           omega (arith, shorter_by_separator s c.requires.readable rest after begins, c.loop-after.invariant.at_most);
@@ -45,16 +44,13 @@ loop-after-preserved g c =
 
 pub loop-after-smaller : goal.loop-after-smaller
 loop-after-smaller g c =
-    let s = c.args.self.now in
-    let after = c.in-Some-cut.after.now in
-    let code : c.as_bytes.result.now ≡ s.grouping = c.as_bytes.ensures.value ∙ c.grouping_separator.ensures.value in
-    shorter_by_separator s c.requires.readable c.loop-after.rest.now after
-    (c.in-Some-cut.ensures ∙ ap (λ l. l ++ after) code)
+    shorter_by_separator c.args.self.now c.requires.readable c.loop-after.rest.now c.in-Some-cut.after.now
+    (rw (c.as_bytes.ensures.value, c.grouping_separator.ensures.value) at c.in-Some-cut.ensures)
 
 -- ---- Neither follows.
 pub returns-in_default-cut : goal.returns-in_default-cut
 returns-in_default-cut g c =
-    let s = c.args.self.now in
-    let code : c.as_bytes.result.now ≡ s.grouping = c.as_bytes.ensures.value ∙ c.grouping_separator.ensures.value in
-    counted_all s c.requires.readable c.args.text.now c.loop-after.rest.now c.loop-after.count c.in_default.ensures
-    (λ r e. c.in_default-cut.ensures r (e ∙ ap (λ l. l ++ r) (sym code))) c.loop-after.invariant.counted
+    counted_all c.args.self.now c.requires.readable c.args.text.now c.loop-after.rest.now c.loop-after.count
+    c.in_default.ensures
+    (rw (c.as_bytes.ensures.value, c.grouping_separator.ensures.value) at c.in_default-cut.ensures)
+    c.loop-after.invariant.counted

@@ -22,8 +22,7 @@ returns-then-found-eq0-clause-none g c =
     last_fails c.args.self.now c.requires.readable c.args.text.now c.loop-rest.rest.now c.loop-rest.count
     c.args.digits.now c.loop-rest.digits c.loop-rest.invariant.read
     (some_is c.loop-rest.rest.now c.loop-rest-test.ensures)
-    (run_empty c.args.self.now 8 c.loop-rest.rest.now c.read_run-number.result.2.now c.read_run-number.result.0
-    c.read_run-number.result.1 c.read_run-number.ensures c.if-found-eq0.true (omega arith))
+    (run_empty c.read_run-number.ensures c.if-found-eq0.true (omega arith))
 
 pub loop-rest-smaller : goal.loop-rest-smaller
 loop-rest-smaller g c =
