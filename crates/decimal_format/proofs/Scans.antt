@@ -16,7 +16,7 @@ use Rattle.decimal_format.specs.Symbols.{Symbols, digit_text, sign_affixes}
 use Rattle.decimal_format.specs.Grouping.{reaches, is_grouped, ends_group}
 use Rattle.decimal_format.specs.Readable.{IsReadable}
 use Rattle.decimal_format.specs.Reading.{Numeral, AreDigits, digits_text, fraction_text, absolute_numeral_text, separated_by}
-use Rattle.decimal_format.specs.Scanning.{separator_if, separated_if, SkipsSeparator, EndsInteger, BeginsWithDigit, IsUniform, ReadsRun, ReadsDigits, ReadsLastDigits, ReadsFraction}
+use Rattle.decimal_format.specs.Scanning.{separator_if, separated_if, SkipsSeparator, EndsInteger, BeginsWithDigit, IsUniform, ReadsRun, ReadsDigits, ReadsAs}
 use Rattle.decimal_format.proofs.Bcd.{below_append, below_first, below_rest, bcd_none, bcd_push}
 use Rattle.decimal_format.proofs.Codes.{same_digit, digit_not_grouping, digit_not_minus, digit_not_plus, plus_not_minus, none_not_digit, none_not_grouping}
 use Rattle.decimal_format.proofs.DigitTexts.{digits_text-nil, digits_text-cons, digits_text-first, digits_text-cong, digits_text-append, digits_text-run, digits_not_grouping, digits-unique, ends_integer, nil_ends}
@@ -78,17 +78,20 @@ module _ (s : Symbols) (readable : IsReadable s) where
       code_shorter s.grouping bytes after (λ h. none_not_grouping s readable [] (h ∙ sym (append-nil s.grouping))) e
 
   -- digits have at least one byte each
-  pub run_length : (ds bytes after : List ℕ) → AllBelowBase 10 ds → bytes ≡ digits_text s (λ _. false) ds ++ after
-      → length ds + length after ≤ length bytes
-  run_length [] bytes after all e =
-      omega (arith, ap length (e ∙ ap (λ l. l ++ after) (digits_text-nil s (λ _. false))))
-  run_length (d ∷ ds) bytes after all e =
-      let rest = digits_text s (λ _. false) ds ++ after in
+  text_length : (ds after : List ℕ) → AllBelowBase 10 ds
+      → length ds + length after ≤ length (digits_text s (λ _. false) ds ++ after)
+  text_length [] after all = omega (arith, ap (λ l. length (l ++ after)) (digits_text-nil s (λ _. false)))
+  text_length (d ∷ ds) after all =
       omega (
         arith,
-        shorter bytes rest d all.0 (e ∙ digits_text-first s (λ _. false) d ds after),
-        run_length ds rest after all.1 refl,
+        shorter _ (digits_text s (λ _. false) ds ++ after) d all.0 (digits_text-first s (λ _. false) d ds after),
+        text_length ds after all.1,
       )
+
+pub run_length : {s : Symbols} {most : ℕ} {bytes after : List ℕ} {number k : ℕ} → IsReadable s
+    → ReadsRun s most bytes after number k → k + length after ≤ length bytes
+run_length {s = s} {after = after} readable run =
+    omega (arith, ap length run.text, text_length s readable run.digits after run.bcd.digits, run.bcd.count)
 
 -- ---- Counting.
 -- of digits that a text may begin with, these are left, after a separator if one follows the last digit that was
@@ -555,49 +558,59 @@ fraction_rest s [] bytes digits some e h = absurd (some e)
 fraction_rest s (d ∷ ds) bytes digits some e h =
     (omega arith, append_cancel_left s.decimal digits (digits_text s (λ _. false) (d ∷ ds)) (sym h ∙ e))
 
-pub fraction_found : (s : Symbols) (bytes digits : List ℕ) (n : ℕ) (old new : Collected)
-    → bytes ≡ s.decimal ++ digits → (digits ≡ [] → ⊥) → ReadsLastDigits s digits [] n old new
-    → ReadsFraction s bytes n old new
-fraction_found s bytes digits n old new e some read =
-    go read.digits read.count read.are_digits (read.text ∙ append-nil (digits_text s (λ _. false) read.digits))
-    read.collected
-  where
-    go : (ds : List ℕ) → length ds ≡ n → AllBelowBase 10 ds → digits ≡ digits_text s (λ _. false) ds
-        → CollectsDigits old new ds → ReadsFraction s bytes n old new
-    go [] count all text collected = absurd (some (text ∙ digits_text-nil s (λ _. false)))
-    go (d ∷ ds) count all text collected = record {
-      digits = d ∷ ds;
-      count = count;
-      are_digits = all;
-      text = e ∙ ap (λ l. s.decimal ++ l) text;
-      collected = collected;
-    }
+fraction_is : (s : Symbols) (ds : List ℕ) → (digits_text s (λ _. false) ds ≡ [] → ⊥)
+    → s.decimal ++ digits_text s (λ _. false) ds ≡ fraction_text s ds
+fraction_is s [] some = absurd (some (digits_text-nil s (λ _. false)))
+fraction_is s (d ∷ ds) some = refl
+
+pub fraction_found : (s : Symbols) {bytes digits : List ℕ} {n : ℕ} {old new : Collected}
+    → bytes ≡ s.decimal ++ digits → (digits ≡ [] → ⊥) → ReadsAs (digits_text s (λ _. false)) digits n old new
+    → ReadsAs (fraction_text s) bytes n old new
+fraction_found s e some read = record {
+  digits = read.digits;
+  count = read.count;
+  are_digits = read.are_digits;
+  is = e ∙ ap (λ l. s.decimal ++ l) read.is ∙ fraction_is s read.digits (λ none. some (read.is ∙ none));
+  collected = read.collected;
+}
 
 -- ---- Digits without separators.
 pub last_none : (s : Symbols) (bytes : List ℕ) (collected : Collected)
-    → ReadsLastDigits s bytes bytes 0 collected collected
+    → ReadsAs (λ ds. digits_text s (λ _. false) ds ++ bytes) bytes 0 collected collected
 last_none s bytes collected = record {
   digits = [];
   count = refl;
   are_digits = tt;
-  text = ap (λ l. l ++ bytes) (sym (digits_text-nil s (λ _. false)));
+  is = ap (λ l. l ++ bytes) (sym (digits_text-nil s (λ _. false)));
   collected = collects_none collected;
 }
 
 -- digits more
-pub last_more : (s : Symbols) (bytes rest after run : List ℕ) (n k : ℕ) (old collected new : Collected)
-    → AllBelowBase 10 run → length run ≡ k → rest ≡ digits_text s (λ _. false) run ++ after
-    → CollectsDigits collected new run
-    → ReadsLastDigits s bytes rest n old collected → ReadsLastDigits s bytes after (n + k) old new
-last_more s bytes rest after run n k old collected new below size e pushed read = record {
-  digits = read.digits ++ run;
-  count = omega (arith, read.count, size, length-append read.digits run);
-  are_digits = below_append read.digits run read.are_digits below;
-  text = text_append s bytes read.digits rest run after read.text e;
-  collected = collects_both old collected new read.digits run read.collected pushed;
+pub last_more : {s : Symbols} {bytes rest after : List ℕ} {n k most number : ℕ} {old collected new : Collected}
+    (run : ReadsRun s most rest after number k) → CollectsDigits collected new run.digits
+    → ReadsAs (λ ds. digits_text s (λ _. false) ds ++ rest) bytes n old collected
+    → ReadsAs (λ ds. digits_text s (λ _. false) ds ++ after) bytes (n + k) old new
+last_more {s = s} {bytes = bytes} {rest = rest} {after = after} {old = old} {collected = collected} {new = new} run pushed
+    read = record {
+      digits = read.digits ++ run.digits;
+      count = omega (arith, read.count, run.bcd.count, length-append read.digits run.digits);
+      are_digits = below_append read.digits run.digits read.are_digits run.bcd.digits;
+      is = text_append s bytes read.digits rest run.digits after read.is run.text;
+      collected = collects_both old collected new read.digits run.digits read.collected pushed;
+    }
+
+pub last_all : (s : Symbols) {bytes rest : List ℕ} {n : ℕ} {old new : Collected} → rest ≡ []
+    → ReadsAs (λ ds. digits_text s (λ _. false) ds ++ rest) bytes n old new
+    → ReadsAs (digits_text s (λ _. false)) bytes n old new
+last_all s none read = record {
+  digits = read.digits;
+  count = read.count;
+  are_digits = read.are_digits;
+  is = read.is ∙ ap (λ l. digits_text s (λ _. false) read.digits ++ l) none ∙ append-nil _;
+  collected = read.collected;
 }
 
-module _ (s : Symbols) (readable : IsReadable s) where
+module _ {s : Symbols} (readable : IsReadable s) where
   -- digits have bytes
   pub fraction_none : (ds : List ℕ) → AllBelowBase 10 ds → 0 < length ds → digits_text s (λ _. false) ds ≡ [] → ⊥
   fraction_none [] all some e = absurd (omega (arith, some))
@@ -606,11 +619,12 @@ module _ (s : Symbols) (readable : IsReadable s) where
       (sym e ∙ digits_text-cons s (λ _. false) d ds)
 
   -- something else follows: the text is not one of digits
-  pub last_fails : (bytes rest : List ℕ) (n : ℕ) (old new : Collected) → ReadsLastDigits s bytes rest n old new
-      → (rest ≡ [] → ⊥) → ((d : ℕ) (r : List ℕ) → d < 10 → rest ≢ digit_text s d ++ r)
+  pub last_fails : {bytes rest : List ℕ} {n : ℕ} {old new : Collected}
+      → ReadsAs (λ ds. digits_text s (λ _. false) ds ++ rest) bytes n old new → (rest ≡ [] → ⊥)
+      → ((d : ℕ) (r : List ℕ) → d < 10 → rest ≢ digit_text s d ++ r)
       → (es : List ℕ) → AllBelowBase 10 es → bytes ≢ digits_text s (λ _. false) es
-  last_fails bytes rest n old new read some other es all e =
+  last_fails {rest = rest} read some other es all e =
       some (sym (digits-unique s readable (λ _. false) (λ _. false) es read.digits [] rest all read.are_digits
       (ends_integer (nil_ends s readable))
       (record { digit = λ d r below h. absurd (other d r below h); separator = λ r h there. there })
-      (append-nil (digits_text s (λ _. false) es) ∙ sym e ∙ read.text)).1)
+      (append-nil (digits_text s (λ _. false) es) ∙ sym e ∙ read.is)).1)

@@ -11,7 +11,7 @@ use Rattle.fixed_decimal.specs.Decimal.{Decimal}
 use Rattle.decimal_format.specs.declared.reader.Scanned.{Scanned}
 use Rattle.decimal_format.specs.Collecting.{Collected, CollectsDigits}
 use Rattle.decimal_format.specs.Symbols.{Symbols, digit_text}
-use Rattle.decimal_format.specs.Reading.{Numeral, IsNumeral, IsBeyondLimits, IsWritten, NeedsMemory, digits_text, fraction_text}
+use Rattle.decimal_format.specs.Reading.{Numeral, IsNumeral, IsBeyondLimits, IsWritten, NeedsMemory, digits_text}
 use Rattle.decimal_format.specs.Lenient.{IsLenientNumeral, IsLenientlyWritten}
 
 -- ---- Groups.
@@ -69,20 +69,12 @@ pub record ReadsDigits (s : Symbols) (may : ℕ → Bool) (n : ℕ) (bytes rest 
   pub uniform : is_uniform ≡ true ↔ IsUniform may chosen n
   pub collected : CollectsDigits old new digits
 
--- n digits without separators were read, the rest follows them, and they were collected
-pub record ReadsLastDigits (s : Symbols) (bytes rest : List ℕ) (n : ℕ) (old new : Collected) : Type 0 where
+-- n digits were read, which have this text, and were collected
+pub record ReadsAs (text : List ℕ → List ℕ) (bytes : List ℕ) (n : ℕ) (old new : Collected) : Type 0 where
   pub digits : List ℕ
   pub count : length digits ≡ n
   pub are_digits : AllBelowBase 10 digits
-  pub text : bytes ≡ digits_text s (λ _. false) digits ++ rest
-  pub collected : CollectsDigits old new digits
-
--- n fraction digits were read and collected
-pub record ReadsFraction (s : Symbols) (bytes : List ℕ) (n : ℕ) (old new : Collected) : Type 0 where
-  pub digits : List ℕ
-  pub count : length digits ≡ n
-  pub are_digits : AllBelowBase 10 digits
-  pub text : bytes ≡ fraction_text s digits
+  pub is : bytes ≡ text digits
   pub collected : CollectsDigits old new digits
 
 -- the value that the digits write

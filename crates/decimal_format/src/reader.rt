@@ -8,7 +8,7 @@ ghost use Rattle.decimal_format.specs.Grouping.{ends_group};
 ghost use Rattle.decimal_format.specs.Readable.{IsReadable};
 ghost use Rattle.decimal_format.specs.Reading.{Numeral, AreDigits, digits_text, fraction_text, IsNumeral, IsBeyondLimits, IsWritten, NeedsMemory};
 ghost use Rattle.decimal_format.specs.Lenient.{IsLenientNumeral, IsLenientlyWritten};
-ghost use Rattle.decimal_format.specs.Scanning.{separated_if, SkipsSeparator, EndsInteger, ReadsDigits, ReadsLastDigits, ReadsFraction, HasCounts, IsValueOf, IsNumeralBy, IsWrittenBy, IsRead};
+ghost use Rattle.decimal_format.specs.Scanning.{separated_if, SkipsSeparator, EndsInteger, ReadsDigits, ReadsAs, HasCounts, IsValueOf, IsNumeralBy, IsWrittenBy, IsRead};
 ghost use Rattle.decimal_format.specs.Collecting.{Collects, IsFresh};
 
 mod codes;
@@ -145,7 +145,8 @@ impl<'a> DecimalSymbols<'a> {
         requires readable { IsReadable self.now }
         requires ascii { ASCII ≡ true → self.now.digits ≡ ascii_digits }
         requires collecting { (n : ℕ) × (ds : List ℕ) × Collects D.L n digits.old ds }
-        ensures found { IfSome result (λ count. ReadsLastDigits self.now text.now [] count digits.old digits.new) }
+        ensures found { IfSome result (λ count. ReadsAs (digits_text self.now (λ _. false)) text.now count digits.old
+            digits.new) }
         ensures none { IfNone result ((ds : List ℕ) → AllBelowBase 10 ds
             → text.now ≢ digits_text self.now (λ _. false) ds) }
     {
@@ -173,7 +174,7 @@ impl<'a> DecimalSymbols<'a> {
         requires readable { IsReadable self.now }
         requires ascii { ASCII ≡ true → self.now.digits ≡ ascii_digits }
         requires collecting { (n : ℕ) × (ds : List ℕ) × Collects D.L n digits.old ds }
-        ensures found { IfSome result (λ count. ReadsFraction self.now text.now count digits.old digits.new) }
+        ensures found { IfSome result (λ count. ReadsAs (fraction_text self.now) text.now count digits.old digits.new) }
         ensures none { IfNone result ((ds : List ℕ) → AllBelowBase 10 ds → text.now ≢ fraction_text self.now ds) }
     {
         if text.is_empty() {

@@ -9,7 +9,7 @@ returns-then-is_empty-2-clause-none g c = λ ds all e.
     let digits = c.in_ok-fraction.fraction.now in
     let begins = rw (c.as_bytes.ensures.value, c.decimal_separator.ensures.value) at c.in_ok-fraction.ensures in
     let r = fraction_rest s ds c.args.text.now digits (some_is c.args.text.now c.if-is_empty.ensures) e begins in
-    fraction_none s c.requires.readable ds all r.0 (sym r.1 ∙ empty_is digits c.if-is_empty-2.ensures)
+    fraction_none c.requires.readable ds all r.0 (sym r.1 ∙ empty_is digits c.if-is_empty-2.ensures)
 
 pub returns-clause-found : goal.returns-clause-found
 returns-clause-found g c =
@@ -17,8 +17,7 @@ returns-clause-found g c =
     let digits = c.in_ok-fraction.fraction.now in
     let begins = rw (c.as_bytes.ensures.value, c.decimal_separator.ensures.value) at c.in_ok-fraction.ensures in
     IfSome_then c.read_last_digits.result c.read_last_digits.ensures.found
-    (λ count. fraction_found s c.args.text.now digits count c.args.digits.now c.read_last_digits.new.digits begins
-    (some_is digits c.if-is_empty-2.ensures))
+    (λ count. fraction_found s begins (some_is digits c.if-is_empty-2.ensures))
 
 pub returns-clause-none : goal.returns-clause-none
 returns-clause-none g c =

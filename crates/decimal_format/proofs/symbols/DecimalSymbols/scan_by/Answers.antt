@@ -73,7 +73,7 @@ returns-clause-found g c =
     let digits : AreDigits w = record { some = some; whole = whole.are_digits; fraction = fraction.are_digits } in
     let text = c.in_ok-sign.ensures.found
     ∙ ap (λ l. affixes.prefix ++ (l ++ affixes.suffix))
-    (whole.text ∙ ap (λ l. digits_text s (separated_at s whole.chosen) whole.digits ++ l) fraction.text) in
+    (whole.text ∙ ap (λ l. digits_text s (separated_at s whole.chosen) whole.digits ++ l) fraction.is) in
     let strict = numeral_if_uniform s c.requires.readable c.args.text.now w whole.chosen digits text in
     let n = length whole.digits in
     let begun = subst (λ k. Collects g.D.DigitStore.L k c.begin.new.self []) (sym whole.count) c.begin.ensures in
