@@ -1,5 +1,5 @@
 -- The text of a part: digits without a separator between them.
-use Rattle.std.proofs.Common.{◌≡◌, ℕ, suc, ◌+◌, ◌-◌, ◌<◌, ◌≤◌, List, [], ◌∷◌, ◌++◌, length, get_or, Option, refl, sym, ◌∙◌, ap, subst, arith, append_assoc, append-nil}
+use Rattle.std.proofs.Common.{◌≡◌, ℕ, suc, ◌+◌, ◌-◌, ◌<◌, ◌≤◌, List, [], ◌∷◌, ◌++◌, length, get_or, Option, sym, ◌∙◌, ap, subst, arith, append_assoc, append-nil}
 use Rattle.std.specs.Prelude.{Bool, false, if◌then◌else◌, slice_index, slice_range, EachIndex, ℤ, pos, ◌-ℤ◌}
 use Rattle.std.proofs.lemmas.Int.{ints}
 use Rattle.std.proofs.lemmas.List.Edits.{length-between, get_or-between}
@@ -7,6 +7,7 @@ use Rattle.std.proofs.lemmas.List.Concat.{flat_map-cons}
 use Rattle.std.specs.Io.KnownBytes.{Appends}
 use Rattle.std.proofs.KnownBytes.{Appends-nil, Appends-trans}
 use Rattle.decimal_digits.specs.AppendsPrefix.{AppendsPrefix}
+use Rattle.fixed_decimal.proofs.Calling.{second_of_three}
 use Rattle.decimal_digits.specs.Number.{digit}
 use Rattle.decimal_format.specs.declared.grouping.GroupingStrategy.{GroupingStrategy}
 use Rattle.decimal_format.specs.Grouping.{separates}
@@ -14,7 +15,6 @@ use Rattle.decimal_format.specs.Symbols.{Symbols, digit_text}
 use Rattle.decimal_format.specs.Formatted.{Formatted, separator_before, separator_after, magnitude_text, formatted_down, shown_count, absolute_text}
 use Rattle.decimal_format.specs.Parts.{magnitude_of, part_text, AreDigits, IsRun, digits_text, run_text}
 use Rattle.decimal_format.proofs.Magnitudes.{formatted_down-suc, formatted_down-zero, formatted_down-add, digit_below}
-use Rattle.decimal_format.proofs.Pieces.{in_second}
 
 -- the digits of two pieces without a separator between them
 regroup : (a d t z : List ℕ) → (a ++ (d ++ [])) ++ ([] ++ (t ++ z)) ≡ a ++ ((d ++ t) ++ z)
@@ -187,8 +187,8 @@ module _ (f : Formatted) where
       → x ≡ part_text f (below + i) n → Appends a b (part_text f below i) → AppendsPrefix b c x
       → AppendsPrefix a c (part_text f below count)
   part_failed below i n count h a b c x is p q =
-      in_second (part_text f below i) (part_text f (below + i) n) (part_text f (below + i + n) (count - (i + n)))
-      (part_text f below count) (part_of_part below i n count h) a b c (part_text f below i) x refl is p q
+      subst (AppendsPrefix a c) (part_of_part below i n count h)
+      (second_of_three (part_text f below i) (part_text f (below + i) n) _ a b c p (subst (AppendsPrefix b c) is q))
 
   -- the part of all magnitudes is the text without the sign
   pub whole_part : part_text f 0 (shown_count f.value.absolute)
