@@ -124,52 +124,37 @@ module _ {word count : ℕ} (v : Unsigned) (ds : List ℕ) (position : ℤ) (bcd
         omega (arith, h, size_is, joined)
 
 -- ---- Numbers of digits.
-module _ (t : ℕ) (ds more : List ℕ) (few : length (ds ++ more) ≤ t) where
-  abbrev last_at : ℕ
-  last_at = t - length (ds ++ more)
+-- the number of digits and then others
+number_at-append : (t : ℕ) (ds more : List ℕ) → length (ds ++ more) ≤ t
+    → number_at t (ds ++ more) ≡ number_at t ds + number_at (t - length ds) more
+unfolding number_at
+number_at-append t ds more few =
+    let last : t - length (ds ++ more) ≡ t - length ds - length more = omega (arith, length-append ds more) in
+    let split : 10 ^ (t - length ds) ≡ 10 ^ length more * 10 ^ (t - length ds - length more) =
+    powers (length more) (t - length ds - length more) (t - length ds) (omega (arith, length-append ds more, few)) in
+    rw (number-append ds more, last, split) (omega arith)
 
-  -- the number of digits and then others
-  pub number_at-append : number_at t (ds ++ more)
-      ≡ number_at t ds + number_from_digits 10 more * 10 ^ (t - length (ds ++ more))
-  unfolding number_at
-  number_at-append =
-      let split : 10 ^ (t - length ds) ≡ 10 ^ length more * 10 ^ last_at =
-      powers (length more) last_at (t - length ds) (omega (arith, length-append ds more)) in
-      let all = number-append ds more in
-      rw (all, split) (omega arith)
-
-  module _ (all : AllBelowBase 10 (ds ++ more)) where
-    pub below_last : number_from_digits 10 more * 10 ^ (t - length (ds ++ more)) < 10 ^ (t - length ds)
-    below_last =
-        let split : 10 ^ (t - length ds) ≡ 10 ^ length more * 10 ^ last_at =
-        powers (length more) last_at (t - length ds) (omega (arith, length-append ds more)) in
-        omega (
-          arith,
-          split,
-          mul-lt-mul_of_pos_right (number_lt 10 more (below_rest ds more all)) (ten_pos last_at),
-        )
-
-    pub number_at-lt : number_at t (ds ++ more) < 10 ^ t
-    unfolding number_at
-    number_at-lt =
-        let split : 10 ^ t ≡ 10 ^ length (ds ++ more) * 10 ^ last_at =
-        powers (length (ds ++ more)) last_at t (omega (arith, few)) in
-        omega (arith, split, mul-lt-mul_of_pos_right (number_lt 10 (ds ++ more) all) (ten_pos last_at))
+number_at-lt : (t : ℕ) (ds : List ℕ) → AllBelowBase 10 ds → length ds ≤ t → number_at t ds < 10 ^ t
+unfolding number_at
+number_at-lt t ds all few =
+    rw (powers (length ds) (t - length ds) t (omega arith))
+    (mul-lt-mul_of_pos_right (number_lt 10 ds all) (ten_pos (t - length ds)))
 
 -- the digits of the first number are above those of the second
-pub number_at-divides : (t : ℕ) (ds : List ℕ) → number_at t ds % 10 ^ (t - length ds) ≡ 0
+number_at-divides : (t : ℕ) (ds : List ℕ) → number_at t ds % 10 ^ (t - length ds) ≡ 0
 unfolding number_at
 number_at-divides t ds = mul-mod_left (number_from_digits 10 ds) (10 ^ (t - length ds))
 
 -- with more digits, a number has no fewer from the first to the last nonzero one
-pub size_more : (n : ℕ) (ds more : List ℕ) → AllBelowBase 10 (ds ++ more) → IsInLimits n (ds ++ more)
+size_more : (n : ℕ) (ds more : List ℕ) → AllBelowBase 10 (ds ++ more) → IsInLimits n (ds ++ more)
     → size (value_of_first n ds).number ≤ size (value_of_first n (ds ++ more)).number
 size_more n ds more all limits =
     let t = n + 32768 in
     let sum = number_at-append t ds more limits.all in
-    let grown = size_left (number_at t ds) (number_from_digits 10 more * 10 ^ (t - length (ds ++ more)))
-    (t - length ds) t (number_at-divides t ds) (below_last t ds more limits.all all)
-    (subst (λ x. x < 10 ^ t) sum (number_at-lt t ds more limits.all all)) (omega (arith, limits.whole)) in
+    let within : length more ≤ t - length ds = omega (arith, limits.all, length-append ds more) in
+    let grown = size_left (number_at t ds) (number_at (t - length ds) more) (t - length ds) t (number_at-divides t ds)
+    (number_at-lt (t - length ds) more (below_rest ds more all) within)
+    (subst (λ x. x < 10 ^ t) sum (number_at-lt t (ds ++ more) all limits.all)) (omega (arith, limits.whole)) in
     subst (λ x. size (number_at t ds) ≤ size x) (sym sum) grown
 
 -- ---- The number 0 with integer digits.
@@ -191,41 +176,41 @@ zero_moved n =
 module _ (n : ℕ) (ds more : List ℕ) (position : ℤ) (all : AllBelowBase 10 (ds ++ more))
     (limits : IsInLimits n (ds ++ more)) (some : 0 < length more)
     (at : position ≡ pos n -ℤ pos (length (ds ++ more))) where
-  abbrev lowest : ℕ
-  lowest = n + 32768 - length (ds ++ more)
+  abbrev t : ℕ
+  t = n + 32768
 
-  weight_is : weight position ≡ 10 ^ lowest
-  weight_is = ap (λ k. 10 ^ k) (omega (arith, ints, at, offset_is position, limits.whole, limits.all))
-
-  sum_is : number_at (n + 32768) ds + number_from_digits 10 more * weight position ≡ number_at (n + 32768) (ds ++ more)
-  sum_is =
-      ap (λ x. number_at (n + 32768) ds + number_from_digits 10 more * x) weight_is
-      ∙ sym (number_at-append (n + 32768) ds more limits.all)
+  more_is : number_from_digits 10 more * weight position ≡ number_at (t - length ds) more
+  unfolding number_at
+  more_is =
+      ap (λ k. number_from_digits 10 more * 10 ^ k)
+      (omega (arith, ints, at, offset_is position, limits.whole, limits.all, length-append ds more))
 
   -- further digits are below the others
-  pub more_below : IsBelow (value_of_first n ds) more position
+  more_below : IsBelow (value_of_first n ds) more position
   more_below = record {
-    cut = n + 32768 - length ds;
-    divides = number_at-divides (n + 32768) ds;
-    less = subst (λ x. number_from_digits 10 more * x < 10 ^ (n + 32768 - length ds)) (sym weight_is)
-        (below_last (n + 32768) ds more limits.all all);
+    cut = t - length ds;
+    divides = number_at-divides t ds;
+    less = subst (λ x. x < 10 ^ (t - length ds)) (sym more_is)
+        (number_at-lt (t - length ds) more (below_rest ds more all)
+        (omega (arith, limits.all, length-append ds more)));
     sum =
-        let top : 10 ^ (n + 32768) ≤ 10 ^ (offset (pos (n - 1)) + 1) =
+        let top : 10 ^ t ≤ 10 ^ (offset (pos (n - 1)) + 1) =
         pow-le-pow_right (omega arith) (omega (arith, offset_is (pos (n - 1)))) in
-        omega (arith, top, sum_is, number_at-lt (n + 32768) ds more limits.all all);
+        omega (arith, top, more_is, number_at-append t ds more limits.all, number_at-lt t (ds ++ more) all limits.all);
     hi = (omega (arith, ints), omega (arith, ints, limits.whole));
     shown = omega (arith, ints, at, some, length-append ds more);
     lo = omega (arith, ints, clamps);
   }
 
   -- and appended to them it has the digits of both
-  pub more_appended : appended (value_of_first n ds) more position
-      ≡ value_of_first n (ds ++ more)
+  more_appended : appended (value_of_first n ds) more position ≡ value_of_first n (ds ++ more)
   more_appended =
+      let number : number_at t ds + number_from_digits 10 more * weight position ≡ number_at t (ds ++ more) =
+      ap (λ x. number_at t ds + x) more_is ∙ sym (number_at-append t ds more limits.all) in
       let lo : int_min (int_min (pos n -ℤ pos (length ds)) (pos 0)) position
       ≡ int_min (pos n -ℤ pos (length (ds ++ more))) (pos 0) =
       omega (arith, ints, clamps, at, length-append ds more) in
-      λ i. record { number = sum_is i; hi = pos (n - 1); lo = lo i }
+      λ i. record { number = number i; hi = pos (n - 1); lo = lo i }
 
 -- ---- The last digits.
 pub bcd_only : {n k : ℕ} {ds : List ℕ} → IsBcd n k ds → IsBcd n (k + 0) ds
