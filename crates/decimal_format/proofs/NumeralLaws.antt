@@ -22,6 +22,15 @@ use Rattle.decimal_format.proofs.DigitTexts.{digits_text-cong, nil_ends, fractio
 use Rattle.decimal_format.proofs.NumeralTexts.{HasDigits, same_value, formatted-digits, digits_of_value}
 use Rattle.decimal_format.proofs.Scans.{number_begins, begins-append, sign-unique, strategy_is, strategy_if, strategy_separates}
 
+-- a text by some strategy has separators at ends of groups, all of them or none
+pub numeral_is_lenient : (s : Symbols) (bytes : List ℕ) (w : Numeral) → IsNumeral s bytes w
+    → IsLenientNumeral s bytes w
+numeral_is_lenient s bytes w numeral = record {
+  digits = numeral.digits;
+  chosen = λ _. is_grouped numeral.strategy s.sizes (pos (length w.whole - 1));
+  text = numeral.text ∙ (λ i. numeral_text s (λ m. strategy_is s numeral.strategy (length w.whole) m i) w);
+}
+
 module _ (s : Symbols) (readable : IsReadable s) where
   fraction-unique : (ds es : List ℕ) → AllBelowBase 10 ds → AllBelowBase 10 es → fraction_text s ds
       ≡ fraction_text s es → ds ≡ es
@@ -52,16 +61,10 @@ module _ (s : Symbols) (readable : IsReadable s) where
       let fractions = fraction-unique w.fraction u.fraction p.fraction q.fraction wholes.1 in
       λ i. record { sign = signs.0 i; whole = wholes.0 i; fraction = fractions i }
 
-  pub numeral-unique : (bytes : List ℕ) (w u : Numeral) → IsNumeral s bytes w → IsNumeral s bytes u → w ≡ u
-  numeral-unique bytes w u p q =
-      text-unique (separated_by s p.strategy (length w.whole)) (separated_by s q.strategy (length u.whole)) bytes w u
-      p.digits q.digits p.text q.text
-
   pub lenient-unique : (bytes : List ℕ) (w u : Numeral) → IsLenientNumeral s bytes w → IsLenientNumeral s bytes u
       → w ≡ u
   lenient-unique bytes w u p q =
-      text-unique (separated_at s p.chosen) (separated_at s q.chosen) bytes w u
-      p.digits q.digits p.text q.text
+      text-unique (separated_at s p.chosen) (separated_at s q.chosen) bytes w u p.digits q.digits p.text q.text
 
   -- a strategy chooses all ends of groups, or none
   pub numeral_if_uniform : (bytes : List ℕ) (w : Numeral) (chosen : ℕ → Bool) → AreDigits w
@@ -71,22 +74,19 @@ module _ (s : Symbols) (readable : IsReadable s) where
     λ uniform. record {
       digits = digits;
       strategy = strategy_if uniform.0;
-      text = e ∙ ap (λ l. affixes.prefix ++ ((l ++ fraction) ++ affixes.suffix))
+      text = e ∙ ap (λ l. affixes.prefix ++ ((l ++ fraction_text s w.fraction) ++ affixes.suffix))
           (digits_text-cong s f (separated_by s (strategy_if uniform.0) (length w.whole)) w.whole
           (λ m inside. uniform.1 m inside ∙ strategy_separates s uniform.0 (length w.whole) m inside));
     },
-    λ numeral.
-        let g = separated_by s numeral.strategy (length w.whole) in
-        let middle = append_cancel_left affixes.prefix (absolute_numeral_text s f w ++ affixes.suffix)
-        (absolute_numeral_text s g w ++ affixes.suffix) (sym e ∙ numeral.text) in
-        let same = append_cancel_right (absolute_numeral_text s f w) (absolute_numeral_text s g w) affixes.suffix
-        middle in (
-          is_grouped numeral.strategy s.sizes (pos (length w.whole - 1)),
-          λ m inside. (digits-unique s readable f g w.whole w.whole fraction fraction digits.whole digits.whole
-              (ends_integer (fraction_ends s readable w.fraction)) (ends_integer (fraction_ends s readable w.fraction))
-              same).2 m inside
-              ∙ strategy_is s numeral.strategy (length w.whole) m,
-        ),
+    λ numeral. (
+      is_grouped numeral.strategy s.sizes (pos (length w.whole - 1)),
+      λ m inside. (digits-unique s readable f (separated_by s numeral.strategy (length w.whole)) w.whole w.whole
+          (fraction_text s w.fraction) (fraction_text s w.fraction) digits.whole digits.whole
+          (ends_integer (fraction_ends s readable w.fraction)) (ends_integer (fraction_ends s readable w.fraction))
+          (append_cancel_right _ _ affixes.suffix (append_cancel_left affixes.prefix _ _ (sym e ∙ numeral.text)))).2 m
+          inside
+          ∙ strategy_is s numeral.strategy (length w.whole) m,
+    ),
   )
     where
       f : ℕ → Bool
@@ -94,18 +94,6 @@ module _ (s : Symbols) (readable : IsReadable s) where
 
       affixes : Affixes
       affixes = sign_affixes s w.sign
-
-      fraction : List ℕ
-      fraction = fraction_text s w.fraction
-
--- a text by some strategy has separators at ends of groups, all of them or none
-pub numeral_is_lenient : (s : Symbols) (bytes : List ℕ) (w : Numeral) → IsNumeral s bytes w
-    → IsLenientNumeral s bytes w
-numeral_is_lenient s bytes w numeral = record {
-  digits = numeral.digits;
-  chosen = λ _. is_grouped numeral.strategy s.sizes (pos (length w.whole - 1));
-  text = numeral.text ∙ (λ i. numeral_text s (λ m. strategy_is s numeral.strategy (length w.whole) m i) w);
-}
 
 -- the text of a value is that of its digits
 written_digits : (s : Symbols) (bytes : List ℕ) (v : Decimal) → IsValue v.absolute → IsWritten s v bytes
@@ -131,7 +119,7 @@ pub record AreTexts (is_numeral : Numeral → Type 0) (is_written : Decimal → 
   pub writes : (v : Decimal) (w : Numeral) → is_numeral w → HasDigits v w → is_written v
   pub reads : (v : Decimal) → IsValue v.absolute → is_written v → (w : Numeral) × is_numeral w × HasDigits v w
 
-module _ (is_numeral : Numeral → Type 0) (is_written : Decimal → Type 0) (texts : AreTexts is_numeral is_written) where
+module _ {is_numeral : Numeral → Type 0} {is_written : Decimal → Type 0} (texts : AreTexts is_numeral is_written) where
   -- a text is that of one decimal
   decimal-unique : (v u : Decimal) → IsValue v.absolute → IsValue u.absolute → is_written v → is_written u → v ≡ u
   decimal-unique v u p q a b =
@@ -139,11 +127,9 @@ module _ (is_numeral : Numeral → Type 0) (is_written : Decimal → Type 0) (te
       let y = texts.reads u q b in
       same_value v u y.0 (subst (HasDigits v) (texts.unique x.0 y.0 x.1 y.1) x.2) y.2
 
-module _ (is_numeral : Numeral → Type 0) (is_written : Decimal → Type 0) (texts : AreTexts is_numeral is_written)
-    (inline : ℕ) where
   -- the text is that of no numeral
-  pub nothing_read : ((w : Numeral) → ¬ is_numeral w) → IsRead inline is_numeral is_written (Err Syntax)
-  nothing_read none = record {
+  pub nothing_read : (inline : ℕ) → ((w : Numeral) → ¬ is_numeral w) → IsRead inline is_numeral is_written (Err Syntax)
+  nothing_read inline none = record {
     found = tt;
     reads_back = λ v valid written. let t = texts.reads v valid written in absurd (none t.0 t.1);
     syntax = (λ h. none, λ h. refl);
@@ -152,9 +138,9 @@ module _ (is_numeral : Numeral → Type 0) (is_written : Decimal → Type 0) (te
   }
 
   -- the text is that of a numeral, and the result is the value of its digits
-  pub value_read : (w : Numeral) → is_numeral w → (result : Result Decimal ParseError) → IsValueOf inline w result
-      → IsRead inline is_numeral is_written result
-  value_read w numeral result is = record {
+  pub value_read : (inline : ℕ) (w : Numeral) → is_numeral w → (result : Result Decimal ParseError)
+      → IsValueOf inline w result → IsRead inline is_numeral is_written result
+  value_read inline w numeral result is = record {
     found = found result is;
     reads_back = λ v valid written. back result is v (texts.reads v valid written);
     syntax = (λ h. absurd (is.syntax h), λ none. absurd (none w numeral));
@@ -197,7 +183,8 @@ module _ (s : Symbols) (readable : IsReadable s) (bytes : List ℕ) where
   -- texts that a formatter writes
   formatted_texts : AreTexts (IsNumeral s bytes) (λ v. IsWritten s v bytes)
   formatted_texts = record {
-    unique = numeral-unique s readable bytes;
+    unique = λ w u p q. lenient-unique s readable bytes w u (numeral_is_lenient s bytes w p) (numeral_is_lenient s bytes u
+        q);
     writes = λ v w numeral has.
         (numeral.strategy, numeral.text ∙ sym (formatted-digits v w has numeral.digits s numeral.strategy));
     reads = written_digits s bytes;
@@ -209,11 +196,10 @@ module _ (s : Symbols) (readable : IsReadable s) (bytes : List ℕ) where
     unique = lenient-unique s readable bytes;
     writes = λ v w numeral has. (w, numeral, sym (never-digits s v w has numeral.digits));
     reads = λ v valid written.
-        let plain = formatted s Never v in
-        let t = written_digits s plain v valid (Never, refl) in
-        let same = text-unique s readable (separated_by s t.1.strategy (length t.0.whole)) (λ _. false) plain
-        t.0 written.0 t.1.digits written.1.digits t.1.text (sym written.2) in
-        (written.0, written.1, subst (HasDigits v) same t.2);
+        let d = digits_of_value v valid in
+        let same = text-unique s readable (λ _. false) (λ _. false) (formatted s Never v) d.0 written.0 d.1
+        written.1.digits (never-digits s v d.0 d.2 d.1) (sym written.2) in
+        (written.0, written.1, subst (HasDigits v) same d.2);
   }
 
 -- both
@@ -244,19 +230,15 @@ none_by false s bytes h none = absurd (cc)
 pub texts_are_unique : (s : Symbols) (g h : GroupingStrategy) (v u : Decimal) → IsReadable s → IsValue v.absolute
     → IsValue u.absolute → formatted s g v ≡ formatted s h u → v ≡ u
 texts_are_unique s g h v u readable p q e =
-    let bytes = formatted s g v in
-    decimal-unique (IsNumeral s bytes) (λ x. IsWritten s x bytes) (formatted_texts s readable bytes) v u p q (g, refl)
-    (h, e)
+    decimal-unique (formatted_texts s readable (formatted s g v)) v u p q (g, refl) (h, e)
 
 -- and what people type is that of one value
 pub typed_texts_are_unique : (s : Symbols) (bytes : List ℕ) (v u : Decimal) → IsReadable s → IsValue v.absolute
     → IsValue u.absolute → IsTyped s v bytes → IsTyped s u bytes → v ≡ u
 typed_texts_are_unique s bytes v u readable p q (inl a) (inl b) =
-    decimal-unique (IsNumeral s bytes) (λ x. IsWritten s x bytes) (formatted_texts s readable bytes) v u p q a b
+    decimal-unique (formatted_texts s readable bytes) v u p q a b
 typed_texts_are_unique s bytes v u readable p q (inr a) (inr b) =
-    let text = normalized s bytes in
-    decimal-unique (IsLenientNumeral s text) (λ x. IsLenientlyWritten s x text) (lenient_texts s readable text) v u p q
-    a.1 b.1
+    decimal-unique (lenient_texts s readable (normalized s bytes)) v u p q a.1 b.1
 typed_texts_are_unique s bytes v u readable p q (inl a) (inr b) =
     let t = written_digits s bytes v p a in absurd (b.0 t.0 t.1)
 typed_texts_are_unique s bytes v u readable p q (inr a) (inl b) =
