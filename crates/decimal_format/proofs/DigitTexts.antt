@@ -9,54 +9,44 @@ use Rattle.decimal_format.specs.Reading.{digits_text, fraction_text}
 use Rattle.decimal_format.specs.Scanning.{separator_if, EndsInteger}
 use Rattle.decimal_format.proofs.Codes.{same_digit, digit_not_decimal, digit_not_grouping, decimal_not_grouping, none_not_grouping, none_not_digit}
 
-module _ (s : Symbols) (f : ℕ → Bool) where
-  pub digits_text-nil : digits_text s f [] ≡ []
-  unfolding digits_text
-  digits_text-nil = refl
+pub digits_text-nil : (s : Symbols) (f : ℕ → Bool) → digits_text s f [] ≡ []
+unfolding digits_text
+digits_text-nil s f = refl
 
-  pub digits_text-cons : (d : ℕ) (ds : List ℕ)
-      → digits_text s f (d ∷ ds) ≡ digit_text s d ++ (separator_if s (f (length ds)) ++ digits_text s f ds)
-  unfolding digits_text
-  digits_text-cons d ds = refl
-
-  -- the same with a text that follows
-  pub digits_text-first : (d : ℕ) (ds tail : List ℕ)
-      → digits_text s f (d ∷ ds) ++ tail
-      ≡ digit_text s d ++ (separator_if s (f (length ds)) ++ (digits_text s f ds ++ tail))
-  digits_text-first d ds tail =
-      ap (λ l. l ++ tail) (digits_text-cons d ds)
-      ∙ append_assoc (digit_text s d) (separator_if s (f (length ds)) ++ digits_text s f ds) tail
-      ∙ ap (λ l. digit_text s d ++ l) (append_assoc (separator_if s (f (length ds))) (digits_text s f ds) tail)
+-- the text of digits and one that follows
+pub digits_text-first : (s : Symbols) (f : ℕ → Bool) (d : ℕ) (ds tail : List ℕ) → digits_text s f (d ∷ ds) ++ tail
+    ≡ digit_text s d ++ (separator_if s (f (length ds)) ++ (digits_text s f ds ++ tail))
+unfolding digits_text
+digits_text-first s f d ds tail =
+    append_assoc (digit_text s d) (separator_if s (f (length ds)) ++ digits_text s f ds) tail
+    ∙ ap (λ l. digit_text s d ++ l) (append_assoc (separator_if s (f (length ds))) (digits_text s f ds) tail)
 
 -- only the tests of the magnitudes below the number of digits matter
 pub digits_text-cong : (s : Symbols) (f g : ℕ → Bool) (ds : List ℕ) → ((m : ℕ) → m < length ds → f m ≡ g m)
     → digits_text s f ds ≡ digits_text s g ds
-digits_text-cong s f g [] same = digits_text-nil s f ∙ sym (digits_text-nil s g)
+unfolding digits_text
+digits_text-cong s f g [] same = refl
 digits_text-cong s f g (d ∷ ds) same =
-    digits_text-cons s f d ds
-    ∙ (λ i. digit_text s d ++ (separator_if s (same (length ds) (omega arith) i)
+    (λ i. digit_text s d ++ (separator_if s (same (length ds) (omega arith) i)
     ++ digits_text-cong s f g ds (λ m h. same m (omega arith)) i))
-    ∙ sym (digits_text-cons s g d ds)
 
 -- the digits of two lists follow each other, those of the first at higher magnitudes
 pub digits_text-append : (s : Symbols) (f : ℕ → Bool) (ds es : List ℕ)
     → digits_text s f (ds ++ es) ≡ digits_text s (λ m. f (m + length es)) ds ++ digits_text s f es
-digits_text-append s f [] es = ap (λ l. l ++ digits_text s f es) (sym (digits_text-nil s (λ m. f (m + length es))))
+unfolding digits_text
+digits_text-append s f [] es = refl
 digits_text-append s f (d ∷ ds) es =
-    digits_text-cons s f d (ds ++ es)
-    ∙ (λ i. digit_text s d ++ (separator_if s (f (length-append ds es i)) ++ digits_text-append s f ds es i))
+    (λ i. digit_text s d ++ (separator_if s (f (length-append ds es i)) ++ digits_text-append s f ds es i))
     ∙ sym (digits_text-first s (λ m. f (m + length es)) d ds (digits_text s f es))
 
 -- digits of which only the last one may have a separator after it
 pub digits_text-run : (s : Symbols) (f : ℕ → Bool) (run tail : List ℕ) → 0 < length run
     → ((m : ℕ) → 0 < m → m < length run → f m ≡ false)
     → digits_text s f run ++ tail ≡ digits_text s (λ _. false) run ++ (separator_if s (f 0) ++ tail)
+unfolding digits_text
 digits_text-run s f [] tail some none = absurd (omega (arith, some))
 digits_text-run s f (d ∷ []) tail some none =
-    digits_text-first s f d [] tail
-    ∙ (λ i. digit_text s d ++ (separator_if s (f 0) ++ (digits_text-nil s f i ++ tail)))
-    ∙ (λ i. digit_text s d ++ (sym (digits_text-nil s (λ _. false)) i ++ (separator_if s (f 0) ++ tail)))
-    ∙ sym (digits_text-first s (λ _. false) d [] (separator_if s (f 0) ++ tail))
+    digits_text-first s f d [] tail ∙ sym (digits_text-first s (λ _. false) d [] (separator_if s (f 0) ++ tail))
 digits_text-run s f (d ∷ (x ∷ run)) tail some none =
     digits_text-first s f d (x ∷ run) tail
     ∙ (λ i. digit_text s d ++ (separator_if s (none (length (x ∷ run)) (omega arith) (omega arith) i)
@@ -102,7 +92,8 @@ module _ (s : Symbols) (readable : IsReadable s) where
   -- digits begin with no grouping separator, if what follows them does not
   pub digits_not_grouping : (f : ℕ → Bool) (ds tail rest : List ℕ) → AllBelowBase 10 ds
       → (length ds ≡ 0 → tail ≢ s.grouping ++ rest) → digits_text s f ds ++ tail ≢ s.grouping ++ rest
-  digits_not_grouping f [] tail rest all ends e = ends refl (ap (λ l. l ++ tail) (sym (digits_text-nil s f)) ∙ e)
+  unfolding digits_text
+  digits_not_grouping f [] tail rest all ends e = ends refl e
   digits_not_grouping f (d ∷ ds) tail rest all ends e =
       digit_not_grouping s readable d (separator_if s (f (length ds)) ++ (digits_text s f ds ++ tail)) rest all.0
       (sym (digits_text-first s f d ds tail) ∙ e)
@@ -110,9 +101,9 @@ module _ (s : Symbols) (readable : IsReadable s) where
   separator_there : (f g : ℕ → Bool) (ds t rest : List ℕ) (all : ℕ) → AllBelowBase 10 ds
       → EndsDigits s f g (suc (length ds)) (suc all) t → g all ≡ true → digits_text s f ds ++ t ≡ s.grouping ++ rest
       → f (length ds) ≡ true
+  unfolding digits_text
   separator_there f g [] t rest all p ends there e =
-      ends.separator rest (ap (λ l. l ++ t) (sym (digits_text-nil s f)) ∙ e)
-      (ap g (let same : suc all - suc 0 ≡ all = omega arith in same) ∙ there)
+      ends.separator rest e (ap g (let same : suc all - suc 0 ≡ all = omega arith in same) ∙ there)
   separator_there f g (d ∷ ds) t rest all p ends there e =
       absurd (digits_not_grouping f (d ∷ ds) t rest p (λ none. absurd (omega (arith, none))) e)
 
@@ -130,23 +121,12 @@ module _ (s : Symbols) (readable : IsReadable s) where
       → EndsDigits s f g (length ds) (length es) t → EndsDigits s g f (length es) (length ds) u
       → digits_text s f ds ++ t ≡ digits_text s g es ++ u
       → (ds ≡ es) × (t ≡ u) × ((m : ℕ) → m < length ds → f m ≡ g m)
-  digits-unique f g [] [] t u p q a b e = (
-    refl,
-    ap (λ l. l ++ t) (sym (digits_text-nil s f)) ∙ e ∙ ap (λ l. l ++ u) (digits_text-nil s g),
-    λ m inside. absurd (omega (arith, inside)),
-  )
+  unfolding digits_text
+  digits-unique f g [] [] t u p q a b e = (refl, e, λ m inside. absurd (omega (arith, inside)))
   digits-unique f g [] (y ∷ es) t u p q a b e =
-      absurd (omega (
-        arith,
-        a.digit y _ q.0 (ap (λ l. l ++ t) (sym (digits_text-nil s f)) ∙ e
-            ∙ digits_text-first s g y es u),
-      ))
+      absurd (omega (arith, a.digit y _ q.0 (e ∙ digits_text-first s g y es u)))
   digits-unique f g (x ∷ ds) [] t u p q a b e =
-      absurd (omega (
-        arith,
-        b.digit x _ p.0 (ap (λ l. l ++ u) (sym (digits_text-nil s g)) ∙ sym e
-            ∙ digits_text-first s f x ds t),
-      ))
+      absurd (omega (arith, b.digit x _ p.0 (sym e ∙ digits_text-first s f x ds t)))
   digits-unique f g (x ∷ ds) (y ∷ es) t u p q a b e =
       let first = same_digit s readable x y (separator_if s (f (length ds)) ++ (digits_text s f ds ++ t))
       (separator_if s (g (length es)) ++ (digits_text s g es ++ u)) p.0 q.0

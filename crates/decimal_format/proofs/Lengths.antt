@@ -15,7 +15,6 @@ use Rattle.decimal_format.specs.Formatted.{shown_count, absolute_text}
 use Rattle.decimal_format.specs.Parts.{separators_below}
 use Rattle.decimal_format.specs.Reading.{digits_text, fraction_text}
 use Rattle.decimal_format.specs.Scanning.{separator_if}
-use Rattle.decimal_format.proofs.DigitTexts.{digits_text-nil, digits_text-cons}
 use Rattle.decimal_format.proofs.NumeralTexts.{digits_of_value, absolute_is}
 use Rattle.decimal_format.proofs.Separators.{separators_below-suc, separators_below-zero}
 
@@ -28,14 +27,14 @@ module _ (s : Symbols) (w : ℕ) (width : HaveWidth s.digits w) where
   length-digits_text : (f : ℕ → Bool) (count : ℕ → ℕ) → count 0 ≡ 0
       → ((n : ℕ) → count (suc n) ≡ count n + (if f n then 1 else 0)) → (ds : List ℕ) → AllBelowBase 10 ds
       → length (digits_text s f ds) ≡ length ds * w + count (length ds) * length s.grouping
+  unfolding digits_text
   length-digits_text f count zero next [] all =
-      omega (arith, ap length (digits_text-nil s f), ap (λ k. k * length s.grouping) zero)
+      omega (arith, ap (λ k. k * length s.grouping) zero)
   length-digits_text f count zero next (d ∷ ds) all =
       let n = length ds in
       let one : ℕ = if f n then 1 else 0 in
       omega (
         arith,
-        ap length (digits_text-cons s f d ds),
         length-append (digit_text s d) (separator_if s (f n) ++ digits_text s f ds),
         length-append (separator_if s (f n)) (digits_text s f ds),
         width d all.0,

@@ -21,8 +21,7 @@ use Rattle.decimal_format.specs.Formatted.{separator_before, separator_after, fo
 use Rattle.decimal_format.specs.Reading.{Numeral, AreDigits, IsBeyondLimits, digits_text, fraction_text, absolute_numeral_text, numeral_text, separated_by}
 use Rattle.decimal_format.specs.Scanning.{value_of}
 use Rattle.decimal_format.proofs.Bcd.{below_append, below_first, below_rest}
-use Rattle.decimal_format.proofs.DigitTexts.{digits_text-nil, digits_text-cons, digits_text-first}
-use Rattle.decimal_format.proofs.Magnitudes.{formatted_down-suc, formatted_down-zero}
+use Rattle.decimal_format.proofs.DigitTexts.{digits_text-first}
 
 -- ---- The digits of a number.
 -- those at the given number of magnitudes, from m down
@@ -83,35 +82,34 @@ module _ (s : Symbols) (g : GroupingStrategy) (hi : ℤ) where
       (separator_before s m ++ (digit_text s d ++ separator_after s g hi m)) ++ list_text (m -ℤ pos 1) ds
 
   number_is : (number : ℕ) (m : ℤ) (n : ℕ) → formatted_down s g hi number m n ≡ list_text m (digit_list number m n)
-  number_is number m zero = formatted_down-zero s g hi number m
+  unfolding formatted_down
+  number_is number m zero = refl
   number_is number m (suc n) =
-      formatted_down-suc s g hi number m n
-      ∙ ap (λ l. magnitude_text s g hi number m ++ l) (number_is number (m -ℤ pos 1) n)
+      ap (λ l. magnitude_text s g hi number m ++ l) (number_is number (m -ℤ pos 1) n)
 
   -- below -1
   later_is : (m : ℤ) (k : ℕ) → m ≡ negsuc (suc k) → (ds : List ℕ) → list_text m ds ≡ digits_text s (λ _. false) ds
-  later_is m k at [] = sym (digits_text-nil s (λ _. false))
+  unfolding digits_text
+  later_is m k at [] = refl
   later_is m k at (d ∷ ds) =
       ap (λ x. list_text x (d ∷ ds)) at
       ∙ (λ i. append-nil (digit_text s d) i
       ++ later_is (negsuc (suc k) -ℤ pos 1) (suc k) (omega (arith, ints)) ds i)
-      ∙ sym (digits_text-cons s (λ _. false) d ds)
 
   fraction_is : (m : ℤ) → m ≡ negsuc zero → (ds : List ℕ) → list_text m ds ≡ fraction_text s ds
+  unfolding digits_text
   fraction_is m at [] = refl
   fraction_is m at (d ∷ ds) =
       ap (λ x. list_text x (d ∷ ds)) at
       ∙ (λ i. (s.decimal ++ append-nil (digit_text s d) i)
       ++ later_is (negsuc zero -ℤ pos 1) zero (omega (arith, ints)) ds i)
       ∙ append_assoc s.decimal (digit_text s d) (digits_text s (λ _. false) ds)
-      ∙ ap (λ l. s.decimal ++ l) (sym (digits_text-cons s (λ _. false) d ds))
 
   -- integer digits and fraction digits
   whole_is : (ds es : List ℕ) (m : ℤ) → m ≡ pos (length ds) -ℤ pos 1
       → list_text m (ds ++ es) ≡ digits_text s (λ k. separates g s.sizes hi (pos k)) ds ++ fraction_text s es
-  whole_is [] es m at =
-      fraction_is m (omega (arith, ints, at)) es
-      ∙ ap (λ l. l ++ fraction_text s es) (sym (digits_text-nil s (λ k. separates g s.sizes hi (pos k))))
+  unfolding digits_text
+  whole_is [] es m at = fraction_is m (omega (arith, ints, at)) es
   whole_is (d ∷ ds) es m at =
       let separated = λ (k : ℕ). separates g s.sizes hi (pos k) in
       let here : m ≡ pos (length ds) = omega (arith, ints, at) in

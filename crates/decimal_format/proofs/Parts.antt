@@ -13,7 +13,7 @@ use Rattle.decimal_format.specs.Grouping.{separates}
 use Rattle.decimal_format.specs.Symbols.{digit_text}
 use Rattle.decimal_format.specs.Formatted.{Formatted, separator_before, separator_after, magnitude_text, formatted_down, shown_count, absolute_text}
 use Rattle.decimal_format.specs.Parts.{magnitude_of, part_text, AreDigits, IsRun, digits_text, run_text}
-use Rattle.decimal_format.proofs.Magnitudes.{formatted_down-suc, formatted_down-zero, formatted_down-add, digit_below}
+use Rattle.decimal_format.proofs.Magnitudes.{formatted_down-add, digit_below}
 
 -- the digits of two pieces without a separator between them
 regroup : (a d t z : List ℕ) → (a ++ (d ++ [])) ++ ([] ++ (t ++ z)) ≡ a ++ ((d ++ t) ++ z)
@@ -39,21 +39,19 @@ module _ (f : Formatted) where
       ∙ ap (λ m. part_text f below i ++ formatted_down f.symbols f.strategy f.value.absolute.hi number m j)
       (below_more below i)
 
-  part_text-zero : (below : ℕ) → part_text f below 0 ≡ []
-  part_text-zero below = formatted_down-zero f.symbols f.strategy f.value.absolute.hi number (magnitude_of f below)
-
   part_text-suc : (below n : ℕ) → part_text f below (suc n)
       ≡ (before below ++ (digit_text f.symbols (digit number (magnitude_of f below)) ++ after below))
       ++ part_text f (below + 1) n
+  unfolding formatted_down
   part_text-suc below n =
-      formatted_down-suc f.symbols f.strategy f.value.absolute.hi number (magnitude_of f below) n
-      ∙ ap (λ m. magnitude_text f.symbols f.strategy f.value.absolute.hi number (magnitude_of f below)
+      ap (λ m. magnitude_text f.symbols f.strategy f.value.absolute.hi number (magnitude_of f below)
       ++ formatted_down f.symbols f.strategy f.value.absolute.hi number m n) (below_more below 1)
 
   -- the text of digits with no separator between them
   run_is : (below : ℕ) (bytes : List ℕ) → 0 < length bytes → AreDigits f below bytes → IsRun f below (length bytes)
       → part_text f below (length bytes)
       ≡ run_text f.symbols (before below) (after (below + length bytes - 1)) bytes
+  unfolding formatted_down
   run_is below [] some digits run = absurd (omega (arith, some))
   run_is below (d ∷ []) some digits run =
       let first : below + 0 ≡ below = omega arith in
@@ -61,7 +59,7 @@ module _ (f : Formatted) where
       let here : d - 48 ≡ digit number (magnitude_of f below) =
       omega (arith, digits 0 (omega arith), ap (λ k. digit number (magnitude_of f k)) first) in
       part_text-suc below 0
-      ∙ (λ i. (before below ++ (digit_text f.symbols (sym here i) ++ after (last i))) ++ part_text-zero (below + 1) i)
+      ∙ (λ i. (before below ++ (digit_text f.symbols (sym here i) ++ after (last i))) ++ [])
       ∙ append-nil _
       ∙ ap (λ l. before below ++ (l ++ after (below + length (d ∷ []) - 1)))
       (sym (flat_map-cons (λ byte. digit_text f.symbols (byte - 48)) d [] ∙ append-nil _))
@@ -157,7 +155,8 @@ module _ (f : Formatted) where
       (Appends-trans a b c (part_text f below i) (part_text f (below + i) n) p (subst (Appends b c) is q))
 
   pub part_none : (below : ℕ) (a : Option (List ℕ)) → Appends a a (part_text f below 0)
-  part_none below a = subst (Appends a a) (sym (part_text-zero below)) (Appends-nil a)
+  unfolding formatted_down
+  part_none below a = Appends-nil a
 
   -- a call failed within a part
   pub part_failed : (below i n count : ℕ) → i + n ≤ count → (a b c : Option (List ℕ)) (x : List ℕ)

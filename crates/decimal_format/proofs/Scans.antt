@@ -19,7 +19,7 @@ use Rattle.decimal_format.specs.Reading.{Numeral, AreDigits, digits_text, fracti
 use Rattle.decimal_format.specs.Scanning.{separator_if, separated_if, SkipsSeparator, EndsInteger, BeginsWithDigit, IsUniform, ReadsRun, ReadsDigits, ReadsAs}
 use Rattle.decimal_format.proofs.Bcd.{below_append, below_first, below_rest, bcd_none, bcd_push}
 use Rattle.decimal_format.proofs.Codes.{same_digit, digit_not_grouping, digit_not_minus, digit_not_plus, plus_not_minus, none_not_digit, none_not_grouping}
-use Rattle.decimal_format.proofs.DigitTexts.{digits_text-nil, digits_text-cons, digits_text-first, digits_text-cong, digits_text-append, digits_text-run, digits_not_grouping, digits-unique, ends_integer, nil_ends}
+use Rattle.decimal_format.proofs.DigitTexts.{digits_text-nil, digits_text-first, digits_text-cong, digits_text-append, digits_text-run, digits_not_grouping, digits-unique, ends_integer, nil_ends}
 
 -- a true proposition holds on a missing value
 pub on_none : {A : Type 0} (result : Option A) (P : Type 0) → P → IfNone result P
@@ -613,10 +613,10 @@ last_all s none read = record {
 module _ {s : Symbols} (readable : IsReadable s) where
   -- digits have bytes
   pub fraction_none : (ds : List ℕ) → AllBelowBase 10 ds → 0 < length ds → digits_text s (λ _. false) ds ≡ [] → ⊥
+  unfolding digits_text
   fraction_none [] all some e = absurd (omega (arith, some))
   fraction_none (d ∷ ds) all some e =
-      none_not_digit s readable d (digits_text s (λ _. false) ds) all.0
-      (sym e ∙ digits_text-cons s (λ _. false) d ds)
+      none_not_digit s readable d (digits_text s (λ _. false) ds) all.0 (sym e)
 
   -- something else follows: the text is not one of digits
   pub last_fails : {bytes rest : List ℕ} {n : ℕ} {old new : Collected}

@@ -1,21 +1,15 @@
 use Rattle.std.proofs.Common.{◌≡◌, ◌<◌, ◌++◌, sym, ◌∙◌, ap, arith, append_assoc, append-nil}
 use Rattle.std.specs.Prelude.{pos, ◌-ℤ◌}
 use Rattle.fixed_decimal.proofs.Calling.{narrow_kept}
-use Rattle.decimal_format.specs.Formatted.{Formatted, shown_count, nth_text}
-use Rattle.decimal_format.proofs.Magnitudes.{first_magnitudes, formatted_down-zero, one_more}
+use Rattle.decimal_format.specs.Formatted.{Formatted, formatted_down, shown_count, nth_text}
+use Rattle.decimal_format.proofs.Magnitudes.{first_magnitudes, one_more}
 use Rattle.decimal_format.proofs.ShortTexts.{separates_if, pushed}
 use Rattle.decimal_format.proofs.formatter.FormattedDecimal.push_digits.Goals as goal
 
 pub loop-below-init : goal.loop-below-init
+unfolding formatted_down
 loop-below-init g c =
-    let f = c.args.self.now in
-    let v = f.value.absolute in
-    let block = c.args.block.now in
-    let none = formatted_down-zero f.symbols f.strategy v.hi v.number v.hi in
-    record {
-      text = ap (λ l. (l, block.1)) (sym (ap (λ l. block.0 ++ l) none ∙ append-nil block.0));
-      room = omega arith;
-    }
+    record { text = ap (λ l. (l, c.args.block.now.1)) (sym (append-nil c.args.block.now.0)); room = omega arith }
 
 pub loop-below-preserved : goal.loop-below-preserved
 loop-below-preserved g c =
