@@ -39,11 +39,10 @@ begins-append s number tail begins = record {
   is = ap (λ l. l ++ tail) begins.is ∙ append_assoc (digit_text s begins.digit) begins.following tail;
 }
 
-code_shorter : (code bytes after : List ℕ) → ([] ≢ code) → bytes ≡ code ++ after → length after < length bytes
-code_shorter [] bytes after some e = absurd (some refl)
-code_shorter (x ∷ code) bytes after some e =
-    let all : length bytes ≡ length (x ∷ code) + length after = ap length e ∙ length-append (x ∷ code) after in
-    omega (arith, all)
+code_shorter : (code bytes after : List ℕ) → ((t : List ℕ) → [] ≢ code ++ t) → bytes ≡ code ++ after
+    → length after < length bytes
+code_shorter [] bytes after some e = absurd (some [] refl)
+code_shorter (x ∷ code) bytes after some e = omega (arith, ap length e, length-append (x ∷ code) after)
 
 module _ (s : Symbols) (readable : IsReadable s) where
   begins_not_minus : (a b : List ℕ) → BeginsWithDigit s a → a ≢ s.minus.prefix ++ b
@@ -69,13 +68,11 @@ module _ (s : Symbols) (readable : IsReadable s) where
   -- a digit has bytes
   pub shorter : (bytes after : List ℕ) (d : ℕ) → d < 10 → bytes ≡ digit_text s d ++ after → length after < length bytes
   shorter bytes after d below e =
-      code_shorter (digit_text s d) bytes after (λ h. none_not_digit s readable d [] below (h ∙ sym (append-nil
-      (digit_text s d)))) e
+      code_shorter (digit_text s d) bytes after (λ t. none_not_digit s readable d t below) e
 
   -- and so has the grouping separator
   pub shorter_by_separator : (bytes after : List ℕ) → bytes ≡ s.grouping ++ after → length after < length bytes
-  shorter_by_separator bytes after e =
-      code_shorter s.grouping bytes after (λ h. none_not_grouping s readable [] (h ∙ sym (append-nil s.grouping))) e
+  shorter_by_separator bytes after e = code_shorter s.grouping bytes after (none_not_grouping s readable) e
 
   -- digits have at least one byte each
   text_length : (ds after : List ℕ) → AllBelowBase 10 ds
@@ -104,51 +101,38 @@ abbrev pub IsCounted : Symbols → List ℕ → List ℕ → ℕ → Type 0
 IsCounted s bytes rest n = (separated : ℕ → Bool) (ds tail : List ℕ) → AllBelowBase 10 ds → EndsInteger s tail
     → bytes ≡ digits_text s separated ds ++ tail → IsCountedOf s separated ds tail rest n
 
-pub counted_none : (s : Symbols) (bytes : List ℕ) → IsCounted s bytes bytes 0
-counted_none s bytes separated ds tail all ends e = (false, ds, all, omega arith, e)
-
-module _ (s : Symbols) (readable : IsReadable s) (bytes rest : List ℕ) (n : ℕ) where
+module _ (s : Symbols) (readable : IsReadable s) (separated : ℕ → Bool) (ds tail : List ℕ) (ends : EndsInteger s tail)
+    (rest : List ℕ) (n : ℕ) where
   -- one digit more
-  pub counted_more : (after : List ℕ) (d : ℕ) → d < 10 → rest ≡ digit_text s d ++ after → IsCounted s bytes rest n
-      → IsCounted s bytes after (n + 1)
-  counted_more after d below e so_far separated ds tail all ends whole =
-      step (so_far separated ds tail all ends whole)
-    where
-      step : IsCountedOf s separated ds tail rest n → IsCountedOf s separated ds tail after (n + 1)
-      step (true, left, digits, counted, h) = absurd (digit_not_grouping s readable d after _ below (sym e ∙ h))
-      step (false, [], digits, counted, h) =
-          absurd (ends.digit d after below (ap (λ l. l ++ tail) (sym (digits_text-nil s separated)) ∙ sym h ∙ e))
-      step (false, (x ∷ left), digits, counted, h) = (
-        separated (length left),
-        left,
-        digits.1,
-        omega (arith, counted),
-        (same_digit s readable d x after _ below digits.0 (sym e ∙ h ∙ digits_text-first s separated x left tail)).1,
-      )
+  pub counted_more : (after : List ℕ) (d : ℕ) → d < 10 → rest ≡ digit_text s d ++ after
+      → IsCountedOf s separated ds tail rest n → IsCountedOf s separated ds tail after (n + 1)
+  unfolding digits_text
+  counted_more after d below e (true, left, digits, counted, h) =
+      absurd (digit_not_grouping s readable d after _ below (sym e ∙ h))
+  counted_more after d below e (false, [], digits, counted, h) = absurd (ends.digit d after below (sym h ∙ e))
+  counted_more after d below e (false, (x ∷ left), digits, counted, h) = (
+    separated (length left),
+    left,
+    digits.1,
+    omega (arith, counted),
+    (same_digit s readable d x after _ below digits.0 (sym e ∙ h ∙ digits_text-first s separated x left tail)).1,
+  )
 
   -- a separator after a digit
-  pub counted_separator : (after : List ℕ) → rest ≡ s.grouping ++ after → IsCounted s bytes rest n
-      → IsCounted s bytes after n
-  counted_separator after e so_far separated ds tail all ends whole = step (so_far separated ds tail all ends whole)
-    where
-      step : IsCountedOf s separated ds tail rest n → IsCountedOf s separated ds tail after n
-      step (true, left, digits, counted, h) =
-          (false, left, digits, counted, append_cancel_left s.grouping after _ (sym e ∙ h))
-      step (false, left, digits, counted, h) =
-          absurd (digits_not_grouping s readable separated left tail after digits (λ _. ends.grouping after) (sym h ∙ e))
+  pub counted_separator : (after : List ℕ) → rest ≡ s.grouping ++ after → IsCountedOf s separated ds tail rest n
+      → IsCountedOf s separated ds tail after n
+  counted_separator after e (true, left, digits, counted, h) =
+      (false, left, digits, counted, append_cancel_left s.grouping after _ (sym e ∙ h))
+  counted_separator after e (false, left, digits, counted, h) =
+      absurd (digits_not_grouping s readable separated left tail after digits (λ _. ends.grouping after) (sym h ∙ e))
 
   -- where neither follows, all were counted
   pub counted_all : ((d : ℕ) (r : List ℕ) → d < 10 → rest ≢ digit_text s d ++ r)
-      → ((r : List ℕ) → rest ≢ s.grouping ++ r)
-      → IsCounted s bytes rest n → (separated : ℕ → Bool) (ds tail : List ℕ) → AllBelowBase 10 ds
-      → EndsInteger s tail → bytes ≡ digits_text s separated ds ++ tail → n ≡ length ds
-  counted_all no_digit no_separator so_far separated ds tail all ends e = step (so_far separated ds tail all ends e)
-    where
-      step : IsCountedOf s separated ds tail rest n → n ≡ length ds
-      step (true, left, digits, counted, h) = absurd (no_separator _ h)
-      step (false, [], digits, counted, h) = omega (arith, counted)
-      step (false, (x ∷ left), digits, counted, h) =
-          absurd (no_digit x _ digits.0 (h ∙ digits_text-first s separated x left tail))
+      → ((r : List ℕ) → rest ≢ s.grouping ++ r) → IsCountedOf s separated ds tail rest n → n ≡ length ds
+  counted_all no_digit no_separator (true, left, digits, counted, h) = absurd (no_separator _ h)
+  counted_all no_digit no_separator (false, [], digits, counted, h) = omega (arith, counted)
+  counted_all no_digit no_separator (false, (x ∷ left), digits, counted, h) =
+      absurd (no_digit x _ digits.0 (h ∙ digits_text-first s separated x left tail))
 
 -- ---- Reading digits.
 pub collects_none : (c : Collected) → CollectsDigits c c []
@@ -232,28 +216,19 @@ abbrev pub AreAllowed : (ℕ → Bool) → (ℕ → Bool) → Type 0
 AreAllowed may f = (m : ℕ) → f m ≡ true → may m ≡ true
 
 allowed_is : (may found : Bool) → (found ≡ true → may ≡ true) → (may && found) ≡ found
-allowed_is true found h = refl
-allowed_is false true h = h refl
-allowed_is false false h = refl
+allowed_is may found h = grind (arith, h)
 
 both_first : (a b : Bool) → (a && b) ≡ true → a ≡ true
-both_first true b h = refl
-both_first false b h = h
+both_first a b h = grind (arith, h)
 
 -- ---- Reading digits in groups.
 -- the steps of the two flags
 all_step : (flag found possible may : Bool) → possible ≡ may
     → (flag && beq found possible) ≡ true ↔ ((flag ≡ true) × (found ≡ (may && true)))
-all_step false found possible may e = (λ h. absurd (cc), λ h. absurd (let k = h.0 in cc))
-all_step true true true may e = (λ h. (refl, e ∙ sym (and-true may)), λ h. refl)
-all_step true true false may e = (λ h. absurd (cc), λ h. absurd (let k = h.1 ∙ and-true may ∙ sym e in cc))
-all_step true false true may e = (λ h. absurd (cc), λ h. absurd (let k = h.1 ∙ and-true may ∙ sym e in cc))
-all_step true false false may e = (λ h. (refl, e ∙ sym (and-true may)), λ h. refl)
+all_step flag found possible may e = (λ h. (grind (arith, e, h), grind (arith, e, h)), λ h. grind (arith, e, h.0, h.1))
 
 none_step : (flag found may : Bool) → (flag && not found) ≡ true ↔ ((flag ≡ true) × (found ≡ (may && false)))
-none_step false found may = (λ h. absurd (cc), λ h. absurd (let k = h.0 in cc))
-none_step true true may = (λ h. absurd (cc), λ h. absurd (let k = h.1 ∙ and-false may in cc))
-none_step true false may = (λ h. (refl, sym (and-false may)), λ h. refl)
+none_step flag found may = (λ h. (grind (arith, h), grind (arith, h)), λ h. grind (arith, h.0, h.1))
 
 -- these digits were read, with separators after the chosen ones, and `left` more are to follow; a separator is where it
 -- may be after all of them, or none; and one that follows was chosen

@@ -7,9 +7,6 @@ use Rattle.decimal_format.specs.Symbols.{sign_affixes}
 use Rattle.decimal_format.proofs.Scans.{begins-append, sign-unique}
 use Rattle.decimal_format.proofs.symbols.DecimalSymbols.split_sign.Goals as goal
 
-pub returns-in-Some-clause-found : goal.returns-in-Some-clause-found
-returns-in-Some-clause-found c = sym (append-nil c.args.text.now)
-
 pub returns-in-Some-clause-unique : goal.returns-in-Some-clause-unique
 returns-in-Some-clause-unique c = λ sign number begins e.
     let s = c.args.self.now in
