@@ -21,11 +21,6 @@ use Rattle.decimal_format.proofs.Bcd.{below_append, below_first, below_rest, bcd
 use Rattle.decimal_format.proofs.Codes.{same_digit, digit_not_grouping, digit_not_minus, digit_not_plus, plus_not_minus, none_not_digit, none_not_grouping}
 use Rattle.decimal_format.proofs.DigitTexts.{digits_text-nil, digits_text-first, digits_text-cong, digits_text-append, digits_text-run, digits_not_grouping, digits-unique, ends_integer, nil_ends}
 
--- a true proposition holds on a missing value
-pub on_none : {A : Type 0} (result : Option A) (P : Type 0) → P → IfNone result P
-on_none None P p = p
-on_none (Some x) P p = tt
-
 pub if_none_weaker : {A : Type 0} (result : Option A) (P Q : Type 0) → (P → Q) → IfNone result P → IfNone result Q
 if_none_weaker None P Q f p = f p
 if_none_weaker (Some x) P Q f p = tt
