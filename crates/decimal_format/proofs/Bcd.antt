@@ -11,6 +11,15 @@ pub below_append : (ds es : List ℕ) → AllBelowBase 10 ds → AllBelowBase 10
 below_append [] es all more = more
 below_append (d ∷ ds) es all more = (all.0, below_append ds es all.1 more)
 
+-- the first of several digits, and the others
+pub below_first : (ds more : List ℕ) → AllBelowBase 10 (ds ++ more) → AllBelowBase 10 ds
+below_first [] more all = tt
+below_first (d ∷ ds) more all = (all.0, below_first ds more all.1)
+
+pub below_rest : (ds more : List ℕ) → AllBelowBase 10 (ds ++ more) → AllBelowBase 10 more
+below_rest [] more all = all
+below_rest (d ∷ ds) more all = below_rest ds more all.1
+
 -- no digits
 pub bcd_none : IsBcd 0 0 []
 bcd_none = record { digits = tt; count = refl; number = refl }

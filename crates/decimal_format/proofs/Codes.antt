@@ -36,11 +36,6 @@ module _ (text code rest : List ℕ) (i : ℕ) (inside : i < length code) (cut :
       other (drop (i + 1) code ++ r)
       (append_cancel_left (take i code) rest (get_or code i 0 ∷ (drop (i + 1) code ++ r)) (sym cut ∙ e ∙ sym whole))
 
--- a fact on a missing value
-pub match_none : {A : Type 0} (o : Option A) (P : Type 0) (Q : A → Type 0) → o ≡ None → P → MatchOption o P Q
-match_none None P Q e p = p
-match_none (Some x) P Q e p = absurd (cc)
-
 -- a fact for each case follows from another
 pub match_weaker : {A : Type 0} (o : Option A) (P Q : Type 0) (R S : A → Type 0) → (P → Q) → ((x : A) → R x → S x)
     → MatchOption o P R → MatchOption o Q S

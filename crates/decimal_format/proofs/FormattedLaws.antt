@@ -1,26 +1,21 @@
 -- The text by other symbols, or under another strategy.
-use Rattle.std.proofs.Common.{◌≡◌, ℕ, zero, suc, ◌-◌, ◌%◌, Bool, true, false, List, [], ◌∷◌, ◌++◌, refl, sym, ◌∙◌, ap, append-nil}
-use Rattle.std.specs.Prelude.{if◌then◌else◌, ◌&&◌, ◌==◌, nat_lt, nat_le, ℤ, pos, negsuc, ◌-ℤ◌}
+use Rattle.std.proofs.Common.{◌≡◌, ℕ, zero, suc, Bool, true, false, List, [], ◌∷◌, ◌++◌, refl, sym, ◌∙◌, ap, append-nil}
+use Rattle.std.specs.Prelude.{if◌then◌else◌, ℤ, pos, negsuc, ◌-ℤ◌}
 use Rattle.decimal_digits.specs.Number.{digit}
 use Rattle.decimal_unsigned.specs.Text.{dot_before, text_down, text}
 use Rattle.fixed_decimal.specs.Decimal.{Decimal}
 use Rattle.fixed_decimal.specs.DecimalText.{sign_text, decimal_text}
 use Rattle.fixed_decimal.specs.declared.variations.Sign.{Sign}
 use Rattle.fixed_decimal.specs.declared.variations.Sign.TheVariants as sign
-use Rattle.fixed_decimal.proofs.Calling.{text_down-suc, text_down-zero}
 use Rattle.decimal_format.specs.declared.grouping.GroupingSizes.{GroupingSizes}
 use Rattle.decimal_format.specs.declared.grouping.GroupingStrategy.{GroupingStrategy}
 use Rattle.decimal_format.specs.declared.grouping.GroupingStrategy.TheVariants.{Never}
 use Rattle.decimal_format.specs.Symbols.{Symbols, digit_text, sign_affixes, without_grouping}
 use Rattle.decimal_format.specs.Ascii.{ascii_with}
-use Rattle.decimal_format.specs.Grouping.{secondary_size, separates}
+use Rattle.decimal_format.specs.Grouping.{separates}
 use Rattle.decimal_format.specs.Formatted.{separator_before, separator_after, formatted_down, shown_count, absolute_text, formatted}
 use Rattle.decimal_format.proofs.AsciiDigits.{ten_digits}
-use Rattle.decimal_format.proofs.Magnitudes.{formatted_down-suc, formatted_down-zero, digit_below}
-
-never : (a b : Bool) → (a && (false && b)) ≡ false
-never true b = refl
-never false b = refl
+use Rattle.decimal_format.proofs.Magnitudes.{digit_below}
 
 either : (b : Bool) (xs : List ℕ) → (if b then xs else xs) ≡ xs
 either true xs = refl
@@ -29,9 +24,7 @@ either false xs = refl
 -- under `Never` there is no separator
 never_separates : (s : Symbols) (hi m : ℤ) → separator_after s Never hi m ≡ []
 never_separates s hi (negsuc k) = refl
-never_separates s hi (pos k) =
-    let there = nat_le s.sizes.primary k && ((k - s.sizes.primary) % secondary_size s.sizes == 0) in
-    ap (λ b. if b then s.grouping else []) (never (nat_lt 0 s.sizes.primary) there)
+never_separates s hi (pos k) = refl
 
 -- an empty separator is empty wherever it is
 empty_separator : (s : Symbols) (g : GroupingStrategy) (hi m : ℤ) → separator_after (without_grouping s) g hi m ≡ []
@@ -46,14 +39,12 @@ module _ (s : Symbols) (g : GroupingStrategy) (hi : ℤ) where
 
   same_down : (number : ℕ) (m : ℤ) (n : ℕ)
       → formatted_down (without_grouping s) g hi number m n ≡ formatted_down s Never hi number m n
-  same_down number m zero =
-      formatted_down-zero (without_grouping s) g hi number m ∙ sym (formatted_down-zero s Never hi number m)
+  unfolding formatted_down
+  same_down number m zero = refl
   same_down number m (suc n) =
-      formatted_down-suc (without_grouping s) g hi number m n
-      ∙ (λ i. (same_before m i
+      (λ i. (same_before m i
       ++ (digit_text s (digit number m) ++ (empty_separator s g hi m ∙ sym (never_separates s hi m)) i))
       ++ same_down number (m -ℤ pos 1) n i)
-      ∙ sym (formatted_down-suc s Never hi number m n)
 
 same_affixes : (s : Symbols) (sign : Sign) → sign_affixes (without_grouping s) sign ≡ sign_affixes s sign
 same_affixes s sign.None = refl
@@ -76,14 +67,12 @@ module _ (grouping : List ℕ) (sizes : GroupingSizes) where
 
   down_is : (hi : ℤ) (number : ℕ) (m : ℤ) (n : ℕ)
       → formatted_down (ascii_with grouping sizes) Never hi number m n ≡ text_down number m n
-  down_is hi number m zero =
-      formatted_down-zero (ascii_with grouping sizes) Never hi number m ∙ sym (text_down-zero number m)
+  unfolding formatted_down text_down
+  down_is hi number m zero = refl
   down_is hi number m (suc n) =
-      formatted_down-suc (ascii_with grouping sizes) Never hi number m n
-      ∙ (λ i. (before_is m i
+      (λ i. (before_is m i
       ++ (ten_digits (digit number m) (digit_below number m) i ++ never_separates (ascii_with grouping sizes) hi m i))
       ++ down_is hi number (m -ℤ pos 1) n i)
-      ∙ sym (text_down-suc number m n)
 
   pub ascii_is_plain : (v : Decimal) → formatted (ascii_with grouping sizes) Never v ≡ decimal_text v
   ascii_is_plain v = go v.sign

@@ -1,143 +1,95 @@
 -- The length of the text.
-use Rattle.std.proofs.Common.{◌≡◌, ℕ, zero, suc, ◌+◌, ◌*◌, Bool, true, false, List, [], ◌++◌, length, refl, sym, ◌∙◌, ap, arith, append-nil, length-append}
-use Rattle.std.specs.Prelude.{if◌then◌else◌, ℤ, pos, negsuc, ◌-ℤ◌, ◌≤ℤ◌, ◌<ℤ◌}
-use Rattle.std.specs.Int.{int_gap}
+use Rattle.std.proofs.Common.{◌≡◌, ℕ, suc, ◌+◌, ◌-◌, ◌*◌, ◌<◌, Bool, true, false, List, [], ◌∷◌, ◌++◌, length, ◌∙◌, ap, arith, length-append}
+use Rattle.std.specs.Prelude.{if◌then◌else◌, pos, ◌-ℤ◌, ◌≤ℤ◌, ◌<ℤ◌}
+use Rattle.std.specs.Int.{int_gap, int_min}
+use Rattle.std.specs.Int.Digits.{AllBelowBase}
 use Rattle.std.proofs.Math.Nat.{add-mul}
-use Rattle.std.proofs.lemmas.Int.{ints}
-use Rattle.decimal_digits.specs.Number.{digit}
+use Rattle.std.proofs.lemmas.Int.{ints, clamps}
 use Rattle.decimal_unsigned.specs.Unsigned.{Unsigned, IsValue}
+use Rattle.fixed_decimal.specs.declared.variations.Sign.TheVariants.{None}
 use Rattle.fixed_decimal.proofs.Calling.{gap_is}
 use Rattle.decimal_format.specs.declared.grouping.GroupingStrategy.{GroupingStrategy}
 use Rattle.decimal_format.specs.Grouping.{separates}
 use Rattle.decimal_format.specs.Symbols.{Symbols, digit_text, HaveWidth}
-use Rattle.decimal_format.specs.Formatted.{separator_after, magnitude_text, formatted_down, shown_count, absolute_text}
+use Rattle.decimal_format.specs.Formatted.{shown_count, absolute_text}
 use Rattle.decimal_format.specs.Parts.{separators_below}
-use Rattle.decimal_format.proofs.Magnitudes.{formatted_down-suc, formatted_down-zero, formatted_down-add, digit_below}
+use Rattle.decimal_format.specs.Reading.{digits_text, fraction_text}
+use Rattle.decimal_format.specs.Scanning.{separator_if}
+use Rattle.decimal_format.proofs.NumeralTexts.{digits_of_value, absolute_is}
 use Rattle.decimal_format.proofs.Separators.{separators_below-suc, separators_below-zero}
 
-module _ (s : Symbols) (g : GroupingStrategy) (hi : ℤ) (number w : ℕ) (width : HaveWidth s.digits w) where
-  length-digit : (m : ℤ) → length (digit_text s (digit number m)) ≡ w
-  length-digit m = width (digit number m) (digit_below number m)
+module _ (s : Symbols) (w : ℕ) (width : HaveWidth s.digits w) where
+  length-separator : (b : Bool) → length (separator_if s b) ≡ (if b then 1 else 0) * length s.grouping
+  length-separator true = omega arith
+  length-separator false = omega arith
 
-  length-chosen : (b : Bool) → length (if b then s.grouping else []) ≡ (if b then 1 else 0) * length s.grouping
-  length-chosen true = omega arith
-  length-chosen false = omega arith
-
-  -- an integer magnitude: a digit, and perhaps a separator
-  length-integer_digit : (k : ℕ) → length (magnitude_text s g hi number (pos k))
-      ≡ w + (if separates g s.sizes hi (pos k) then 1 else 0) * length s.grouping
-  length-integer_digit k =
-      length-append (digit_text s (digit number (pos k))) (separator_after s g hi (pos k))
-      ∙ (λ i. length-digit (pos k) i + length-chosen (separates g s.sizes hi (pos k)) i)
-
-  -- the n integer magnitudes
-  length-integer : (n : ℕ) → length (formatted_down s g hi number (pos n -ℤ pos 1) n)
-      ≡ n * w + separators_below g s.sizes hi n * length s.grouping
-  length-integer zero =
-      ap length (formatted_down-zero s g hi number (pos zero -ℤ pos 1))
-      ∙ (let e : 0 ≡ zero * w + 0 * length s.grouping = omega arith in e)
-      ∙ ap (λ k. zero * w + k * length s.grouping) (sym (separators_below-zero g s.sizes hi))
-  length-integer (suc n) =
-      let below = separators_below g s.sizes hi n in
-      let one : ℕ = if separates g s.sizes hi (pos n) then 1 else 0 in
-      let first : pos (suc n) -ℤ pos 1 ≡ pos n = omega (arith, ints) in
-      ap (λ m. length (formatted_down s g hi number m (suc n))) first
-      ∙ ap length (formatted_down-suc s g hi number (pos n) n)
-      ∙ length-append (magnitude_text s g hi number (pos n)) (formatted_down s g hi number (pos n -ℤ pos 1) n)
-      ∙ (λ i. length-integer_digit n i + length-integer n i)
-      ∙ (let e : w + one * length s.grouping + (n * w + below * length s.grouping)
-      ≡ suc n * w + (below + one) * length s.grouping =
-      omega (arith, add-mul below one (length s.grouping), add-mul n 1 w) in e)
-      ∙ ap (λ k. suc n * w + k * length s.grouping) (sym (separators_below-suc g s.sizes hi n))
-
-  -- n magnitudes below -1
-  length-fraction_rest : (j n : ℕ) → length (formatted_down s g hi number (negsuc (suc j)) n) ≡ n * w
-  length-fraction_rest j zero =
-      ap length (formatted_down-zero s g hi number (negsuc (suc j))) ∙ (let e : 0 ≡ zero * w = omega arith in e)
-  length-fraction_rest j (suc n) =
-      let next : negsuc (suc j) -ℤ pos 1 ≡ negsuc (suc (suc j)) = omega (arith, ints) in
-      ap length (formatted_down-suc s g hi number (negsuc (suc j)) n)
-      ∙ length-append (digit_text s (digit number (negsuc (suc j))) ++ [])
-      (formatted_down s g hi number (negsuc (suc j) -ℤ pos 1) n)
-      ∙ (λ i. (ap length (append-nil (digit_text s (digit number (negsuc (suc j))))) ∙ length-digit (negsuc (suc j))) i
-      + (ap (λ m. length (formatted_down s g hi number m n)) next ∙ length-fraction_rest (suc j) n) i)
-      ∙ (let e : w + n * w ≡ suc n * w = omega (arith, add-mul n 1 w) in e)
-
-  -- n magnitudes from -1 down
-  length-fraction : (n : ℕ) → length (formatted_down s g hi number (negsuc 0) (suc n))
-      ≡ length s.decimal + suc n * w
-  length-fraction n =
-      let next : negsuc 0 -ℤ pos 1 ≡ negsuc 1 = omega (arith, ints) in
-      let here = digit_text s (digit number (negsuc 0)) in
-      ap length (formatted_down-suc s g hi number (negsuc 0) n)
-      ∙ length-append (s.decimal ++ (here ++ [])) (formatted_down s g hi number (negsuc 0 -ℤ pos 1) n)
-      ∙ ap (λ k. k + length (formatted_down s g hi number (negsuc 0 -ℤ pos 1) n))
-      (length-append s.decimal (here ++ [])
-      ∙ ap (λ k. length s.decimal + k) (ap length (append-nil here) ∙ length-digit (negsuc 0)))
-      ∙ ap (λ k. length s.decimal + w + k)
-      (ap (λ m. length (formatted_down s g hi number m n)) next ∙ length-fraction_rest 0 n)
-      ∙ (let e : length s.decimal + w + n * w ≡ length s.decimal + suc n * w = omega (arith, add-mul n 1 w) in e)
-
-module _ (s : Symbols) (g : GroupingStrategy) (v : Unsigned) (valid : IsValue v) (w : ℕ)
-    (width : HaveWidth s.digits w) where
-  -- the integer digits, and `rest` fraction digits
-  length-parts : (rest : ℕ) → int_gap (pos 0) v.hi + 1 + rest ≡ shown_count v
-      → length (absolute_text s g v)
-      ≡ (int_gap (pos 0) v.hi + 1) * w
-      + separators_below g s.sizes v.hi (int_gap (pos 0) v.hi + 1) * length s.grouping
-      + length (formatted_down s g v.hi v.number (negsuc 0) rest)
-  length-parts rest all =
-      let n = int_gap (pos 0) v.hi + 1 in
-      let first : v.hi ≡ pos n -ℤ pos 1 = omega (arith, ints, gap_is (pos 0) v.hi, valid.hi_in) in
-      let next : v.hi -ℤ pos n ≡ negsuc 0 = omega (arith, ints, gap_is (pos 0) v.hi, valid.hi_in) in
-      ap (λ k. length (formatted_down s g v.hi v.number v.hi k)) (sym all)
-      ∙ ap length (formatted_down-add s g v.hi v.number v.hi n rest)
-      ∙ length-append (formatted_down s g v.hi v.number v.hi n) (formatted_down s g v.hi v.number (v.hi -ℤ pos n) rest)
-      ∙ (λ i. (ap (λ m. length (formatted_down s g v.hi v.number m n)) first
-      ∙ length-integer s g v.hi v.number w width n) i
-      + length (formatted_down s g v.hi v.number (next i) rest))
-
-  -- the length of a text without fraction digits
-  pub length-whole : pos 0 ≤ℤ v.lo → length (absolute_text s g v)
-      ≡ shown_count v * w + separators_below g s.sizes v.hi (int_gap (pos 0) v.hi + 1) * length s.grouping
-  length-whole h =
-      let all : int_gap (pos 0) v.hi + 1 + 0 ≡ shown_count v =
-      omega (arith, ints, gap_is (pos 0) v.hi, gap_is v.lo v.hi, valid.hi_in, valid.lo_in) in
-      let same : int_gap (pos 0) v.hi + 1 ≡ shown_count v = omega (arith, all) in
-      let none : length (formatted_down s g v.hi v.number (negsuc 0) 0) ≡ 0 =
-      ap length (formatted_down-zero s g v.hi v.number (negsuc 0)) in
-      omega (arith, length-parts 0 all, none, ap (λ k. k * w) same)
-
-  -- the length of a text with fraction digits
-  pub length-decimal : v.lo <ℤ pos 0 → length (absolute_text s g v)
-      ≡ shown_count v * w + separators_below g s.sizes v.hi (int_gap (pos 0) v.hi + 1) * length s.grouping
-      + length s.decimal
-  length-decimal h =
-      let n = int_gap (pos 0) v.hi + 1 in
-      let k = int_gap v.lo (negsuc 0) in
-      let all : n + suc k ≡ shown_count v =
-      omega (arith, ints, gap_is (pos 0) v.hi, gap_is v.lo v.hi, gap_is v.lo (negsuc 0), valid.hi_in) in
+  -- digits, where the number of separators among the last ones is known
+  length-digits_text : (f : ℕ → Bool) (count : ℕ → ℕ) → count 0 ≡ 0
+      → ((n : ℕ) → count (suc n) ≡ count n + (if f n then 1 else 0)) → (ds : List ℕ) → AllBelowBase 10 ds
+      → length (digits_text s f ds) ≡ length ds * w + count (length ds) * length s.grouping
+  unfolding digits_text
+  length-digits_text f count zero next [] all =
+      omega (arith, ap (λ k. k * length s.grouping) zero)
+  length-digits_text f count zero next (d ∷ ds) all =
+      let n = length ds in
+      let one : ℕ = if f n then 1 else 0 in
       omega (
         arith,
-        length-parts (suc k) all,
-        length-fraction s g v.hi v.number w width k,
-        add-mul n (suc k) w,
-        ap (λ x. x * w) all,
+        length-append (digit_text s d) (separator_if s (f n) ++ digits_text s f ds),
+        length-append (separator_if s (f n)) (digits_text s f ds),
+        width d all.0,
+        length-separator (f n),
+        length-digits_text f count zero next ds all.1,
+        ap (λ k. k * length s.grouping) (next n),
+        add-mul (count n) one (length s.grouping),
+        add-mul n 1 w,
       )
 
-  -- the length of a text, with the separator before its fraction digits
-  pub length-absolute : (separator : List ℕ) → (v.lo <ℤ pos 0 → separator ≡ s.decimal)
-      → (pos 0 ≤ℤ v.lo → separator ≡ []) → length (absolute_text s g v)
-      ≡ shown_count v * w + separators_below g s.sizes v.hi (int_gap (pos 0) v.hi + 1) * length s.grouping
-      + length separator
-  length-absolute separator fraction whole = go v.lo refl
-    where
-      go : (lo : ℤ) → v.lo ≡ lo → length (absolute_text s g v)
-          ≡ shown_count v * w + separators_below g s.sizes v.hi (int_gap (pos 0) v.hi + 1) * length s.grouping
-          + length separator
-      go (pos k) is =
-          let h : pos 0 ≤ℤ v.lo = omega (arith, ints, is) in
-          omega (arith, length-whole h, ap length (whole h))
-      go (negsuc k) is =
-          let h : v.lo <ℤ pos 0 = omega (arith, ints, is) in
-          omega (arith, length-decimal h, ap length (fraction h))
+  -- the separator is there if there are fraction digits
+  length-fraction : (separator ds : List ℕ) → (0 < length ds → separator ≡ s.decimal)
+      → (length ds ≡ 0 → separator ≡ []) → AllBelowBase 10 ds
+      → length (fraction_text s ds) ≡ length ds * w + length separator
+  length-fraction separator [] some none all = omega (arith, ap length (none (omega arith)))
+  length-fraction separator (d ∷ ds) some none all =
+      omega (
+        arith,
+        ap length (some (omega arith)),
+        length-append s.decimal (digits_text s (λ _. false) (d ∷ ds)),
+        length-digits_text (λ _. false) (λ _. 0) (omega arith) (λ n. omega arith) (d ∷ ds) all,
+      )
+
+-- the length of a text, with the separator before its fraction digits
+pub length-absolute : (s : Symbols) (g : GroupingStrategy) (v : Unsigned) → IsValue v → (w : ℕ) → HaveWidth s.digits w
+    → (separator : List ℕ) → (v.lo <ℤ pos 0 → separator ≡ s.decimal) → (pos 0 ≤ℤ v.lo → separator ≡ [])
+    → length (absolute_text s g v)
+    ≡ shown_count v * w + separators_below g s.sizes v.hi (int_gap (pos 0) v.hi + 1) * length s.grouping
+    + length separator
+length-absolute s g v valid w width separator fraction whole =
+    let d = digits_of_value (record { sign = None; absolute = v }) valid in
+    let n = length d.0.whole in
+    let j = length d.0.fraction in
+    let size = length-append d.0.whole d.0.fraction in
+    let hi : v.hi ≡ pos (n - 1) = ap (λ (u : Unsigned). u.hi) d.2.absolute in
+    let lo : v.lo ≡ int_min (pos n -ℤ pos (length (d.0.whole ++ d.0.fraction))) (pos 0) =
+    ap (λ (u : Unsigned). u.lo) d.2.absolute in
+    let integers : int_gap (pos 0) v.hi + 1 ≡ n = omega (arith, ints, gap_is (pos 0) v.hi, hi, d.1.some) in
+    let count : shown_count v ≡ n + j = omega (arith, ints, clamps, gap_is v.lo v.hi, hi, lo, size, d.1.some) in
+    let text = ap (absolute_text s g) d.2.absolute ∙ absolute_is d.0 d.1 d.2.few s g in
+    let separators : separators_below g s.sizes v.hi (int_gap (pos 0) v.hi + 1) * length s.grouping
+    ≡ separators_below g s.sizes (pos (n - 1)) n * length s.grouping =
+    λ i. separators_below g s.sizes (hi i) (integers i) * length s.grouping in
+    let separated = λ (m : ℕ). separates g s.sizes (pos (n - 1)) (pos m) in
+    omega (
+      arith,
+      ap length text,
+      length-append (digits_text s separated d.0.whole) (fraction_text s d.0.fraction),
+      length-digits_text s w width separated (separators_below g s.sizes (pos (n - 1)))
+          (separators_below-zero g s.sizes (pos (n - 1))) (separators_below-suc g s.sizes (pos (n - 1))) d.0.whole
+          d.1.whole,
+      length-fraction s w width separator d.0.fraction
+          (λ some. fraction (omega (arith, ints, clamps, lo, size, some)))
+          (λ none. whole (omega (arith, ints, clamps, lo, size, none))) d.1.fraction,
+      ap (λ k. k * w) count,
+      add-mul n j w,
+      separators,
+    )

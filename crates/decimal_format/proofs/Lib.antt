@@ -3,10 +3,8 @@ pub mod FormattedLaws
 pub mod Lengths
 pub mod Magnitudes
 pub mod Parts
-pub mod Pieces
 pub mod Separators
 pub mod ShortTexts
-pub mod Styled
 pub mod Codes
 pub mod DigitTexts
 pub mod NumeralTexts

@@ -1,5 +1,5 @@
 -- The text magnitude by magnitude.
-use Rattle.std.proofs.Common.{◌≡◌, ℕ, zero, suc, ◌+◌, ◌/◌, ◌<◌, List, [], ◌++◌, refl, sym, ◌∙◌, ap, arith, append_assoc, append-nil}
+use Rattle.std.proofs.Common.{◌≡◌, ℕ, zero, suc, ◌+◌, ◌/◌, ◌<◌, List, ◌++◌, sym, ◌∙◌, ap, arith, append_assoc, append-nil}
 use Rattle.std.specs.Prelude.{ℤ, pos, ◌-ℤ◌}
 use Rattle.std.proofs.lemmas.Int.{ints}
 use Rattle.std.proofs.Math.Nat.{mod-lt}
@@ -9,40 +9,24 @@ use Rattle.decimal_format.specs.declared.grouping.GroupingStrategy.{GroupingStra
 use Rattle.decimal_format.specs.Symbols.{Symbols}
 use Rattle.decimal_format.specs.Formatted.{magnitude_text, formatted_down, nth_text}
 
-pub formatted_down-suc : (s : Symbols) (strategy : GroupingStrategy) (hi : ℤ) (number : ℕ) (m : ℤ) (n : ℕ)
-    → formatted_down s strategy hi number m (suc n)
-    ≡ magnitude_text s strategy hi number m ++ formatted_down s strategy hi number (m -ℤ pos 1) n
-unfolding formatted_down
-formatted_down-suc s strategy hi number m n = refl
-
-pub formatted_down-zero : (s : Symbols) (strategy : GroupingStrategy) (hi : ℤ) (number : ℕ) (m : ℤ)
-    → formatted_down s strategy hi number m 0 ≡ []
-unfolding formatted_down
-formatted_down-zero s strategy hi number m = refl
-
 -- the given number of magnitudes, and then others
 pub formatted_down-add : (s : Symbols) (strategy : GroupingStrategy) (hi : ℤ) (number : ℕ) (m : ℤ) (i j : ℕ)
     → formatted_down s strategy hi number m (i + j)
     ≡ formatted_down s strategy hi number m i ++ formatted_down s strategy hi number (m -ℤ pos i) j
+unfolding formatted_down
 formatted_down-add s strategy hi number m zero j =
     let n : zero + j ≡ j = omega arith in
     let k : m ≡ m -ℤ pos zero = omega (arith, ints) in
-    ap (formatted_down s strategy hi number m) n
-    ∙ ap (λ x. formatted_down s strategy hi number x j) k
-    ∙ ap (λ l. l ++ formatted_down s strategy hi number (m -ℤ pos zero) j)
-    (sym (formatted_down-zero s strategy hi number m))
+    (λ x. formatted_down s strategy hi number (k x) (n x))
 formatted_down-add s strategy hi number m (suc i) j =
     let n : suc i + j ≡ suc (i + j) = omega arith in
     let k : (m -ℤ pos 1) -ℤ pos i ≡ m -ℤ pos (suc i) = omega (arith, ints) in
     let here = magnitude_text s strategy hi number m in
     ap (formatted_down s strategy hi number m) n
-    ∙ formatted_down-suc s strategy hi number m (i + j)
-    ∙ ap (λ l. here ++ l) (formatted_down-add s strategy hi number (m -ℤ pos 1) i j)
+    ∙ (λ x. here ++ (formatted_down-add s strategy hi number (m -ℤ pos 1) i j
+    ∙ ap (λ y. formatted_down s strategy hi number (m -ℤ pos 1) i ++ formatted_down s strategy hi number y j) k) x)
     ∙ sym (append_assoc here (formatted_down s strategy hi number (m -ℤ pos 1) i)
-    (formatted_down s strategy hi number ((m -ℤ pos 1) -ℤ pos i) j))
-    ∙ ap (λ l. l ++ formatted_down s strategy hi number ((m -ℤ pos 1) -ℤ pos i) j)
-    (sym (formatted_down-suc s strategy hi number m i))
-    ∙ ap (λ x. formatted_down s strategy hi number m (suc i) ++ formatted_down s strategy hi number x j) k
+    (formatted_down s strategy hi number (m -ℤ pos (suc i)) j))
 
 -- a digit is below 10
 pub digit_below : (number : ℕ) (m : ℤ) → digit number m < 10
@@ -55,10 +39,7 @@ module _ (s : Symbols) (strategy : GroupingStrategy) (v : Unsigned) where
 
   -- one magnitude more
   pub one_more : (i : ℕ) → first_magnitudes (i + 1) ≡ first_magnitudes i ++ nth_text s strategy v i
+  unfolding formatted_down
   one_more i =
-      let m = v.hi -ℤ pos i in
       formatted_down-add s strategy v.hi v.number v.hi i 1
-      ∙ ap (λ l. first_magnitudes i ++ l)
-      (formatted_down-suc s strategy v.hi v.number m 0
-      ∙ ap (λ l. nth_text s strategy v i ++ l) (formatted_down-zero s strategy v.hi v.number (m -ℤ pos 1))
-      ∙ append-nil (nth_text s strategy v i))
+      ∙ ap (λ l. first_magnitudes i ++ l) (append-nil (nth_text s strategy v i))

@@ -1,125 +1,26 @@
 -- A text is that of one numeral, and of one decimal.
-use Rattle.std.proofs.Common.{◌≡◌, ℕ, ◌-◌, ◌<◌, ◌≤◌, inl, inr, Bool, true, false, List, [], ◌∷◌, ◌++◌, length, refl, sym, ◌∙◌, ap, subst, arith, append-nil}
+use Rattle.std.proofs.Common.{◌≡◌, ℕ, ◌-◌, inl, inr, Bool, true, false, List, [], ◌∷◌, ◌++◌, length, refl, sym, ◌∙◌, ap, subst, append-nil}
 use Rattle.std.specs.Prelude.{Result, Ok, Err, IfOk, MatchResult, ◌↔◌, pos}
 use Rattle.std.specs.Int.Digits.{AllBelowBase}
-use Rattle.std.proofs.lemmas.Bool.{cases_lt}
+use Rattle.std.proofs.Math.Bool.{and-false}
 use Rattle.std.proofs.lemmas.List.{append_cancel_left, append_cancel_right}
-use Rattle.decimal_digits.specs.Number.{size}
 use Rattle.decimal_unsigned.specs.declared.error.ParseError.{ParseError}
 use Rattle.decimal_unsigned.specs.declared.error.ParseError.TheVariants.{Limit, Syntax, Memory}
-use Rattle.decimal_unsigned.specs.Reading.{read}
 use Rattle.decimal_unsigned.specs.Unsigned.{IsValue}
 use Rattle.fixed_decimal.specs.Decimal.{Decimal}
-use Rattle.fixed_decimal.specs.declared.variations.Sign.{Sign}
-use Rattle.fixed_decimal.specs.declared.variations.Sign.TheVariants as sign
-use Rattle.fixed_decimal.proofs.Calling.{read_text}
 use Rattle.decimal_format.specs.declared.grouping.GroupingStrategy.{GroupingStrategy}
 use Rattle.decimal_format.specs.declared.grouping.GroupingStrategy.TheVariants.{Never}
 use Rattle.decimal_format.specs.Symbols.{Symbols, Affixes, sign_affixes}
 use Rattle.decimal_format.specs.Formatted.{formatted}
-use Rattle.decimal_format.specs.Grouping.{is_grouped}
+use Rattle.decimal_format.specs.Grouping.{is_grouped, ends_group}
 use Rattle.decimal_format.specs.Readable.{IsReadable}
 use Rattle.decimal_format.specs.Reading.{Numeral, AreDigits, IsNumeral, IsBeyondLimits, IsWritten, digits_text, fraction_text, absolute_numeral_text, numeral_text, separated_by}
-use Rattle.decimal_format.specs.Lenient.{ends_group, separated_at, normalized, IsLenientNumeral, IsLenientlyWritten, IsTyped}
-use Rattle.decimal_format.specs.Scanning.{BeginsWithDigit, IsUniform, value_of, IsValueOf, IsNumeralBy, IsWrittenBy, IsRead}
-use Rattle.decimal_format.proofs.Codes.{digit_not_minus, digit_not_plus, plus_not_minus, none_not_decimal}
-use Rattle.decimal_format.proofs.DigitTexts.{digits_text-cong, nil_ends, fraction_ends, integer-unique, separators-unique}
-use Rattle.decimal_format.proofs.NumeralTexts.{HasDigits, formatted-digits, text-digits, digits_of_value, value_of_digits}
-use Rattle.decimal_format.proofs.Scans.{number_begins, begins-append, and_false, strategy_is, strategy_if, strategy_separates}
-
-module _ (s : Symbols) (readable : IsReadable s) where
-  -- a number after the prefix of one sign is not one after that of another
-  sign-unique : (x y : Sign) (a b : List ℕ) → BeginsWithDigit s a → BeginsWithDigit s b
-      → (sign_affixes s x).prefix ++ a ≡ (sign_affixes s y).prefix ++ b → (x ≡ y) × (a ≡ b)
-  sign-unique sign.None sign.None a b p q e = (refl, e)
-  sign-unique sign.None sign.Negative a b p q e = absurd (digit_not_minus s readable p.digit p.following b
-      p.is_digit (sym p.is ∙ e))
-  sign-unique sign.None sign.Positive a b p q e = absurd (digit_not_plus s readable p.digit p.following b p.is_digit
-      (sym p.is ∙ e))
-  sign-unique sign.Negative sign.None a b p q e = absurd (digit_not_minus s readable q.digit q.following a
-      q.is_digit (sym q.is ∙ sym e))
-  sign-unique sign.Negative sign.Negative a b p q e = (refl, append_cancel_left s.minus.prefix a b e)
-  sign-unique sign.Negative sign.Positive a b p q e = absurd (plus_not_minus s readable b a (sym e))
-  sign-unique sign.Positive sign.None a b p q e = absurd (digit_not_plus s readable q.digit q.following a q.is_digit
-      (sym q.is ∙ sym e))
-  sign-unique sign.Positive sign.Negative a b p q e = absurd (plus_not_minus s readable a b e)
-  sign-unique sign.Positive sign.Positive a b p q e = (refl, append_cancel_left s.plus.prefix a b e)
-
-  fraction-unique : (ds es : List ℕ) → AllBelowBase 10 ds → AllBelowBase 10 es → fraction_text s ds
-      ≡ fraction_text s es → ds ≡ es
-  fraction-unique [] [] p q e = refl
-  fraction-unique [] (y ∷ es) p q e = absurd (none_not_decimal s readable (digits_text s (λ _. false) (y ∷ es)) e)
-  fraction-unique (x ∷ ds) [] p q e = absurd (none_not_decimal s readable (digits_text s (λ _. false) (x ∷ ds)) (sym e))
-  fraction-unique (x ∷ ds) (y ∷ es) p q e =
-      let a = digits_text s (λ _. false) (x ∷ ds) in
-      let b = digits_text s (λ _. false) (y ∷ es) in
-      (integer-unique s readable (λ _. false) (λ _. false) (x ∷ ds) (y ∷ es) [] [] p q (nil_ends s readable)
-      (nil_ends s readable)
-      (append-nil a ∙ append_cancel_left s.decimal a b e ∙ sym (append-nil b))).0
-
-  -- a text is that of one numeral, wherever its separators are
-  text-unique : (f g : ℕ → Bool) (bytes : List ℕ) (w u : Numeral) → AreDigits w → AreDigits u
-      → bytes ≡ numeral_text s f w → bytes ≡ numeral_text s g u → w ≡ u
-  text-unique f g bytes w u p q e h =
-      let a = absolute_numeral_text s f w in
-      let b = absolute_numeral_text s g u in
-      let x = (sign_affixes s w.sign).suffix in
-      let y = (sign_affixes s u.sign).suffix in
-      let signs = sign-unique w.sign u.sign (a ++ x) (b ++ y) (begins-append s a x (number_begins s f w p))
-      (begins-append s b y (number_begins s g u q)) (sym e ∙ h) in
-      let numbers : a ≡ b =
-      append_cancel_right a b x (signs.1 ∙ ap (λ z. b ++ (sign_affixes s z).suffix) (sym signs.0)) in
-      let wholes = integer-unique s readable f g w.whole u.whole (fraction_text s w.fraction) (fraction_text s
-      u.fraction)
-      p.whole q.whole (fraction_ends s readable w.fraction) (fraction_ends s readable u.fraction)
-      numbers in
-      let fractions = fraction-unique w.fraction u.fraction p.fraction q.fraction wholes.1 in
-      λ i. record { sign = signs.0 i; whole = wholes.0 i; fraction = fractions i }
-
-  pub numeral-unique : (bytes : List ℕ) (w u : Numeral) → IsNumeral s bytes w → IsNumeral s bytes u → w ≡ u
-  numeral-unique bytes w u p q =
-      text-unique (separated_by s p.strategy (length w.whole)) (separated_by s q.strategy (length u.whole)) bytes w u
-      p.digits q.digits p.text q.text
-
-  pub lenient-unique : (bytes : List ℕ) (w u : Numeral) → IsLenientNumeral s bytes w → IsLenientNumeral s bytes u
-      → w ≡ u
-  lenient-unique bytes w u p q =
-      text-unique (separated_at s p.chosen) (separated_at s q.chosen) bytes w u
-      p.digits q.digits p.text q.text
-
-  -- a strategy chooses all ends of groups, or none
-  pub numeral_if_uniform : (bytes : List ℕ) (w : Numeral) (chosen : ℕ → Bool) → AreDigits w
-      → bytes ≡ numeral_text s (separated_at s chosen) w
-      → IsUniform (ends_group s.sizes) chosen (length w.whole) ↔ IsNumeral s bytes w
-  numeral_if_uniform bytes w chosen digits e = (
-    λ uniform. record {
-      digits = digits;
-      strategy = strategy_if uniform.0;
-      text = e ∙ ap (λ l. affixes.prefix ++ ((l ++ fraction) ++ affixes.suffix))
-          (digits_text-cong s f (separated_by s (strategy_if uniform.0) (length w.whole)) w.whole
-          (λ m inside. uniform.1 m inside ∙ strategy_separates s uniform.0 (length w.whole) m inside));
-    },
-    λ numeral.
-        let g = separated_by s numeral.strategy (length w.whole) in
-        let middle = append_cancel_left affixes.prefix (absolute_numeral_text s f w ++ affixes.suffix)
-        (absolute_numeral_text s g w ++ affixes.suffix) (sym e ∙ numeral.text) in
-        let same = append_cancel_right (absolute_numeral_text s f w) (absolute_numeral_text s g w) affixes.suffix
-        middle in (
-          is_grouped numeral.strategy s.sizes (pos (length w.whole - 1)),
-          λ m inside. separators-unique s readable f g w.whole fraction fraction digits.whole
-              (fraction_ends s readable w.fraction) (fraction_ends s readable w.fraction) same m inside
-              ∙ strategy_is s numeral.strategy (length w.whole) m,
-        ),
-  )
-    where
-      f : ℕ → Bool
-      f = separated_at s chosen
-
-      affixes : Affixes
-      affixes = sign_affixes s w.sign
-
-      fraction : List ℕ
-      fraction = fraction_text s w.fraction
+use Rattle.decimal_format.specs.Lenient.{separated_at, normalized, IsLenientNumeral, IsLenientlyWritten, IsTyped}
+use Rattle.decimal_format.specs.Scanning.{IsUniform, value_of, IsValueOf, IsNumeralBy, IsWrittenBy, IsRead}
+use Rattle.decimal_format.proofs.Codes.{none_not_decimal}
+use Rattle.decimal_format.proofs.DigitTexts.{digits_text-cong, nil_ends, fraction_ends, digits-unique, ends_integer}
+use Rattle.decimal_format.proofs.NumeralTexts.{HasDigits, same_value, formatted-digits, digits_of_value}
+use Rattle.decimal_format.proofs.Scans.{number_begins, begins-append, sign-unique, strategy_is, strategy_if, strategy_separates}
 
 -- a text by some strategy has separators at ends of groups, all of them or none
 pub numeral_is_lenient : (s : Symbols) (bytes : List ℕ) (w : Numeral) → IsNumeral s bytes w
@@ -130,86 +31,105 @@ numeral_is_lenient s bytes w numeral = record {
   text = numeral.text ∙ (λ i. numeral_text s (λ m. strategy_is s numeral.strategy (length w.whole) m i) w);
 }
 
+module _ (s : Symbols) (readable : IsReadable s) where
+  fraction-unique : (ds es : List ℕ) → AllBelowBase 10 ds → AllBelowBase 10 es → fraction_text s ds
+      ≡ fraction_text s es → ds ≡ es
+  fraction-unique [] [] p q e = refl
+  fraction-unique [] (y ∷ es) p q e = absurd (none_not_decimal s readable (digits_text s (λ _. false) (y ∷ es)) e)
+  fraction-unique (x ∷ ds) [] p q e = absurd (none_not_decimal s readable (digits_text s (λ _. false) (x ∷ ds)) (sym e))
+  fraction-unique (x ∷ ds) (y ∷ es) p q e =
+      let a = digits_text s (λ _. false) (x ∷ ds) in
+      let b = digits_text s (λ _. false) (y ∷ es) in
+      (digits-unique s readable (λ _. false) (λ _. false) (x ∷ ds) (y ∷ es) [] [] p q
+      (ends_integer (nil_ends s readable)) (ends_integer (nil_ends s readable)) (append-nil a ∙ append_cancel_left s.decimal a b e ∙ sym (append-nil b))).0
+
+  -- a text is that of one numeral, wherever its separators are
+  text-unique : (f g : ℕ → Bool) (bytes : List ℕ) (w u : Numeral) → AreDigits w → AreDigits u
+      → bytes ≡ numeral_text s f w → bytes ≡ numeral_text s g u → w ≡ u
+  text-unique f g bytes w u p q e h =
+      let a = absolute_numeral_text s f w in
+      let b = absolute_numeral_text s g u in
+      let x = (sign_affixes s w.sign).suffix in
+      let y = (sign_affixes s u.sign).suffix in
+      let signs = sign-unique s readable w.sign u.sign (a ++ x) (b ++ y)
+      (λ _. begins-append s a x (number_begins s f w p)) (λ _. begins-append s b y (number_begins s g u q)) (sym e ∙ h) in
+      let numbers : a ≡ b =
+      append_cancel_right a b x (signs.1 ∙ ap (λ z. b ++ (sign_affixes s z).suffix) (sym signs.0)) in
+      let wholes = digits-unique s readable f g w.whole u.whole (fraction_text s w.fraction) (fraction_text s
+      u.fraction) p.whole q.whole (ends_integer (fraction_ends s readable w.fraction))
+      (ends_integer (fraction_ends s readable u.fraction)) numbers in
+      let fractions = fraction-unique w.fraction u.fraction p.fraction q.fraction wholes.1 in
+      λ i. record { sign = signs.0 i; whole = wholes.0 i; fraction = fractions i }
+
+  pub lenient-unique : (bytes : List ℕ) (w u : Numeral) → IsLenientNumeral s bytes w → IsLenientNumeral s bytes u
+      → w ≡ u
+  lenient-unique bytes w u p q =
+      text-unique (separated_at s p.chosen) (separated_at s q.chosen) bytes w u p.digits q.digits p.text q.text
+
+  -- a strategy chooses all ends of groups, or none
+  pub numeral_if_uniform : (bytes : List ℕ) (w : Numeral) (chosen : ℕ → Bool) → AreDigits w
+      → bytes ≡ numeral_text s (separated_at s chosen) w
+      → IsUniform (ends_group s.sizes) chosen (length w.whole) ↔ IsNumeral s bytes w
+  numeral_if_uniform bytes w chosen digits e = (
+    λ uniform. record {
+      digits = digits;
+      strategy = strategy_if uniform.0;
+      text = e ∙ ap (λ l. affixes.prefix ++ ((l ++ fraction_text s w.fraction) ++ affixes.suffix))
+          (digits_text-cong s f (separated_by s (strategy_if uniform.0) (length w.whole)) w.whole
+          (λ m inside. uniform.1 m inside ∙ strategy_separates s uniform.0 (length w.whole) m inside));
+    },
+    λ numeral. (
+      is_grouped numeral.strategy s.sizes (pos (length w.whole - 1)),
+      λ m inside. (digits-unique s readable f (separated_by s numeral.strategy (length w.whole)) w.whole w.whole
+          (fraction_text s w.fraction) (fraction_text s w.fraction) digits.whole digits.whole
+          (ends_integer (fraction_ends s readable w.fraction)) (ends_integer (fraction_ends s readable w.fraction))
+          (append_cancel_right _ _ affixes.suffix (append_cancel_left affixes.prefix _ _ (sym e ∙ numeral.text)))).2 m
+          inside
+          ∙ strategy_is s numeral.strategy (length w.whole) m,
+    ),
+  )
+    where
+      f : ℕ → Bool
+      f = separated_at s chosen
+
+      affixes : Affixes
+      affixes = sign_affixes s w.sign
+
 -- the text of a value is that of its digits
-pub record IsTextOf (s : Symbols) (bytes : List ℕ) (v : Decimal) : Type 0 where
-  pub numeral : Numeral
-  pub is : IsNumeral s bytes numeral
-  pub has : HasDigits v numeral
-  pub few_whole : length numeral.whole ≤ 32768
-  pub few_fraction : length numeral.fraction ≤ 32768
-
-pub written_digits : (s : Symbols) (bytes : List ℕ) (v : Decimal) → IsValue v.absolute → IsWritten s v bytes
-    → IsTextOf s bytes v
+written_digits : (s : Symbols) (bytes : List ℕ) (v : Decimal) → IsValue v.absolute → IsWritten s v bytes
+    → (w : Numeral) × IsNumeral s bytes w × HasDigits v w
 written_digits s bytes v valid written =
-    let d = digits_of_value v valid in
-    record {
-      numeral = d.0;
-      is = record { digits = d.1; strategy = written.0; text = written.1 ∙ formatted-digits v d.0 d.2 s written.0 };
-      has = d.2;
-      few_whole = d.3;
-      few_fraction = d.4;
-    }
-
--- two values with the same digits are equal
-pub same_value : (v u : Decimal) (w : Numeral) → IsValue v.absolute → IsValue u.absolute → HasDigits v w
-    → HasDigits u w → v ≡ u
-same_value v u w p q a b =
-    let absolute : v.absolute ≡ u.absolute =
-    (let r = sym (read_text v.absolute p) ∙ ap read (text-digits v w a ∙ sym (text-digits u w b))
-    ∙ read_text u.absolute q in cc) in
-    let signs : v.sign ≡ u.sign = a.sign ∙ sym b.sign in
-    λ i. record { sign = signs i; absolute = absolute i }
+    let d = digits_of_value v valid in (
+      d.0,
+      record { digits = d.1; strategy = written.0; text = written.1 ∙ formatted-digits v d.0 d.2 d.1 s written.0 },
+      d.2,
+    )
 
 -- the text by `Never` has no separators
-never-digits : (s : Symbols) (v : Decimal) (w : Numeral) → HasDigits v w
+never-digits : (s : Symbols) (v : Decimal) (w : Numeral) → HasDigits v w → AreDigits w
     → formatted s Never v ≡ numeral_text s (λ _. false) w
-never-digits s v w has =
-    formatted-digits v w has s Never
-    ∙ (λ i. numeral_text s (λ m. (strategy_is s Never (length w.whole) m ∙ and_false (ends_group s.sizes m)) i) w)
+never-digits s v w has digits =
+    formatted-digits v w has digits s Never
+    ∙ (λ i. numeral_text s (λ m. (strategy_is s Never (length w.whole) m ∙ and-false (ends_group s.sizes m)) i) w)
 
 -- ---- What is read.
--- digits that are not too many are those of a value
-pub record ReadsAs (w : Numeral) : Type 0 where
-  pub value : Decimal
-  pub valid : IsValue value.absolute
-  pub has : HasDigits value w
-  pub is : value.absolute ≡ value_of w
-
-pub value_is : (w : Numeral) → AreDigits w → ¬ IsBeyondLimits w → ReadsAs w
-value_is w digits few =
-    let v = value_of_digits w digits (at_most (length w.whole) (λ h. few (inl h)))
-    (at_most (length w.fraction) (λ h. few (inr h))) in
-    record {
-      value = v.0;
-      valid = v.1;
-      has = v.2;
-      is = v.3;
-    }
-  where
-    at_most : (n : ℕ) → (32768 < n → ⊥) → n ≤ 32768
-    at_most n h = elim (cases_lt 32768 n) [ inl l ↦ absurd (h l) | inr l ↦ l ]
-
 -- a text is that of one of these numerals, and then of one of these decimals
 pub record AreTexts (is_numeral : Numeral → Type 0) (is_written : Decimal → Type 0) : Type 0 where
-  pub digits : (w : Numeral) → is_numeral w → AreDigits w
   pub unique : (w u : Numeral) → is_numeral w → is_numeral u → w ≡ u
   pub writes : (v : Decimal) (w : Numeral) → is_numeral w → HasDigits v w → is_written v
   pub reads : (v : Decimal) → IsValue v.absolute → is_written v → (w : Numeral) × is_numeral w × HasDigits v w
-      × ¬ IsBeyondLimits w
 
-module _ (is_numeral : Numeral → Type 0) (is_written : Decimal → Type 0) (texts : AreTexts is_numeral is_written) where
+module _ {is_numeral : Numeral → Type 0} {is_written : Decimal → Type 0} (texts : AreTexts is_numeral is_written) where
   -- a text is that of one decimal
   decimal-unique : (v u : Decimal) → IsValue v.absolute → IsValue u.absolute → is_written v → is_written u → v ≡ u
   decimal-unique v u p q a b =
       let x = texts.reads v p a in
       let y = texts.reads u q b in
-      same_value v u y.0 p q (subst (HasDigits v) (texts.unique x.0 y.0 x.1 y.1) x.2) y.2
+      same_value v u y.0 (subst (HasDigits v) (texts.unique x.0 y.0 x.1 y.1) x.2) y.2
 
-module _ (is_numeral : Numeral → Type 0) (is_written : Decimal → Type 0) (texts : AreTexts is_numeral is_written)
-    (inline : ℕ) where
   -- the text is that of no numeral
-  pub nothing_read : ((w : Numeral) → ¬ is_numeral w) → IsRead inline is_numeral is_written (Err Syntax)
-  nothing_read none = record {
+  pub nothing_read : (inline : ℕ) → ((w : Numeral) → ¬ is_numeral w) → IsRead inline is_numeral is_written (Err Syntax)
+  nothing_read inline none = record {
     found = tt;
     reads_back = λ v valid written. let t = texts.reads v valid written in absurd (none t.0 t.1);
     syntax = (λ h. none, λ h. refl);
@@ -217,87 +137,69 @@ module _ (is_numeral : Numeral → Type 0) (is_written : Decimal → Type 0) (te
     memory = λ h. absurd (cc);
   }
 
-  module _ (w : Numeral) (numeral : is_numeral w) where
-    -- a value that was read has the sign and the digits of the text
-    same_decimal : (v : Decimal) (r : ReadsAs w) → v.sign ≡ w.sign → v.absolute ≡ value_of w → v ≡ r.value
-    same_decimal v r signs digits =
-        let same : v.absolute ≡ r.value.absolute = digits ∙ sym r.is in
-        let sign : v.sign ≡ r.value.sign = signs ∙ sym r.has.sign in
-        λ i. record { sign = sign i; absolute = same i }
+  -- the text is that of a numeral, and the result is the value of its digits
+  pub value_read : (inline : ℕ) (w : Numeral) → is_numeral w → (result : Result Decimal ParseError)
+      → IsValueOf inline w result → IsRead inline is_numeral is_written result
+  value_read inline w numeral result is = record {
+    found = found result is;
+    reads_back = λ v valid written. back result is v (texts.reads v valid written);
+    syntax = (λ h. absurd (is.syntax h), λ none. absurd (none w numeral));
+    limit = (
+      λ h. (w, numeral, is.limit.0 h),
+      λ x. is.limit.1 (subst IsBeyondLimits (texts.unique x.0 w x.1 numeral) x.2),
+    );
+    memory = λ h.
+        let v : Decimal = record { sign = w.sign; absolute = value_of w } in (
+          v,
+          texts.writes v w numeral (record {
+            sign = refl;
+            absolute = refl;
+            few = λ beyond. let k = sym h ∙ is.limit.1 beyond in cc;
+          }),
+          is.memory h,
+        );
+  }
+    where
+      has : (v : Decimal) → IsValueOf inline w (Ok v) → HasDigits v w
+      has v is = record {
+        sign = is.found.0;
+        absolute = is.found.1;
+        few = λ beyond. let k = is.limit.1 beyond in cc;
+      }
 
-    -- the text is that of a numeral, and the result is the value of its digits
-    pub value_read : (result : Result Decimal ParseError) → IsValueOf inline w result
-        → IsRead inline is_numeral is_written result
-    value_read result is = record {
-      found = found result is;
-      reads_back = λ v valid written. back result is v valid (texts.reads v valid written);
-      syntax = (λ h. absurd (is.syntax h), λ none. absurd (none w numeral));
-      limit = (
-        λ h. (w, numeral, is.limit.0 h),
-        λ x. is.limit.1 (subst IsBeyondLimits (texts.unique x.0 w x.1 numeral) x.2),
-      );
-      memory = λ h.
-          let few = λ (beyond : IsBeyondLimits w). let k = sym h ∙ is.limit.1 beyond in let no : ⊥ = cc in no in
-          let r = value_is w (texts.digits w numeral) few in (
-            r.value,
-            texts.writes r.value w numeral r.has,
-            subst (λ u. inline < size u.number) (sym r.is) (is.memory h),
-          );
-    }
-      where
-        found : (r : Result Decimal ParseError) → IsValueOf inline w r → IfOk r is_written
-        found (Err e) is = tt
-        found (Ok v) is =
-            let few = λ (beyond : IsBeyondLimits w). let k = is.limit.1 beyond in let no : ⊥ = cc in no in
-            let r = value_is w (texts.digits w numeral) few in
-            subst is_written (sym (same_decimal v r is.found.0 is.found.1)) (texts.writes r.value w numeral r.has)
+      found : (r : Result Decimal ParseError) → IsValueOf inline w r → IfOk r is_written
+      found (Err e) is = tt
+      found (Ok v) is = texts.writes v w numeral (has v is)
 
-        back : (r : Result Decimal ParseError) → IsValueOf inline w r → (v : Decimal) → IsValue v.absolute
-            → ((u : Numeral) × is_numeral u × HasDigits v u × ¬ IsBeyondLimits u)
-            → MatchResult r (λ u. u ≡ v) (λ e. e ≡ Memory)
-        back (Ok u) is v valid t =
-            let same = texts.unique t.0 w t.1 numeral in
-            let r = value_is w (texts.digits w numeral) (λ beyond. t.3 (subst IsBeyondLimits (sym same) beyond)) in
-            same_decimal u r is.found.0 is.found.1
-            ∙ sym (same_value v r.value w valid r.valid (subst (HasDigits v) same t.2) r.has)
-        back (Err Memory) is v valid t = refl
-        back (Err Syntax) is v valid t = absurd (is.syntax refl)
-        back (Err Limit) is v valid t =
-            absurd (t.3 (subst IsBeyondLimits (texts.unique w t.0 numeral t.1) (is.limit.0 refl)))
+      back : (r : Result Decimal ParseError) → IsValueOf inline w r → (v : Decimal)
+          → ((u : Numeral) × is_numeral u × HasDigits v u) → MatchResult r (λ u. u ≡ v) (λ e. e ≡ Memory)
+      back (Ok u) is v t = same_value u v w (has u is) (subst (HasDigits v) (texts.unique t.0 w t.1 numeral) t.2)
+      back (Err Memory) is v t = refl
+      back (Err Syntax) is v t = absurd (is.syntax refl)
+      back (Err Limit) is v t =
+          absurd (t.2.few (subst IsBeyondLimits (texts.unique w t.0 numeral t.1) (is.limit.0 refl)))
 
 module _ (s : Symbols) (readable : IsReadable s) (bytes : List ℕ) where
-  within : (v : Decimal) (t : IsTextOf s bytes v) → ¬ IsBeyondLimits t.numeral
-  within v t (inl h) = omega (arith, h, t.few_whole)
-  within v t (inr h) = omega (arith, h, t.few_fraction)
-
   -- texts that a formatter writes
-  pub formatted_texts : AreTexts (IsNumeral s bytes) (λ v. IsWritten s v bytes)
+  formatted_texts : AreTexts (IsNumeral s bytes) (λ v. IsWritten s v bytes)
   formatted_texts = record {
-    digits = λ w numeral. numeral.digits;
-    unique = numeral-unique s readable bytes;
-    writes = λ v w numeral has. (numeral.strategy, numeral.text ∙ sym (formatted-digits v w has s numeral.strategy));
-    reads = λ v valid written.
-        let t = written_digits s bytes v valid written in
-        (t.numeral, t.is, t.has, within v t);
+    unique = λ w u p q. lenient-unique s readable bytes w u (numeral_is_lenient s bytes w p) (numeral_is_lenient s bytes u
+        q);
+    writes = λ v w numeral has.
+        (numeral.strategy, numeral.text ∙ sym (formatted-digits v w has numeral.digits s numeral.strategy));
+    reads = written_digits s bytes;
   }
 
-module _ (s : Symbols) (readable : IsReadable s) (bytes : List ℕ) where
   -- texts with optional separators
-  pub lenient_texts : AreTexts (IsLenientNumeral s bytes) (λ v. IsLenientlyWritten s v bytes)
+  lenient_texts : AreTexts (IsLenientNumeral s bytes) (λ v. IsLenientlyWritten s v bytes)
   lenient_texts = record {
-    digits = λ w numeral. numeral.digits;
     unique = lenient-unique s readable bytes;
-    writes = λ v w numeral has. (w, numeral, sym (never-digits s v w has));
+    writes = λ v w numeral has. (w, numeral, sym (never-digits s v w has numeral.digits));
     reads = λ v valid written.
-        let plain = formatted s Never v in
-        let t = written_digits s plain v valid (Never, refl) in
-        let same = text-unique s readable (separated_by s t.is.strategy (length t.numeral.whole)) (λ _. false) plain
-        t.numeral written.0 t.is.digits written.1.digits t.is.text (sym written.2) in (
-          written.0,
-          written.1,
-          subst (HasDigits v) same t.has,
-          λ beyond. within s readable plain v t (subst IsBeyondLimits (sym same) beyond),
-        );
+        let d = digits_of_value v valid in
+        let same = text-unique s readable (λ _. false) (λ _. false) (formatted s Never v) d.0 written.0 d.1
+        written.1.digits (never-digits s v d.0 d.2 d.1) (sym written.2) in
+        (written.0, written.1, subst (HasDigits v) same d.2);
   }
 
 -- both
@@ -328,20 +230,16 @@ none_by false s bytes h none = absurd (cc)
 pub texts_are_unique : (s : Symbols) (g h : GroupingStrategy) (v u : Decimal) → IsReadable s → IsValue v.absolute
     → IsValue u.absolute → formatted s g v ≡ formatted s h u → v ≡ u
 texts_are_unique s g h v u readable p q e =
-    let bytes = formatted s g v in
-    decimal-unique (IsNumeral s bytes) (λ x. IsWritten s x bytes) (formatted_texts s readable bytes) v u p q (g, refl)
-    (h, e)
+    decimal-unique (formatted_texts s readable (formatted s g v)) v u p q (g, refl) (h, e)
 
 -- and what people type is that of one value
 pub typed_texts_are_unique : (s : Symbols) (bytes : List ℕ) (v u : Decimal) → IsReadable s → IsValue v.absolute
     → IsValue u.absolute → IsTyped s v bytes → IsTyped s u bytes → v ≡ u
 typed_texts_are_unique s bytes v u readable p q (inl a) (inl b) =
-    decimal-unique (IsNumeral s bytes) (λ x. IsWritten s x bytes) (formatted_texts s readable bytes) v u p q a b
+    decimal-unique (formatted_texts s readable bytes) v u p q a b
 typed_texts_are_unique s bytes v u readable p q (inr a) (inr b) =
-    let text = normalized s bytes in
-    decimal-unique (IsLenientNumeral s text) (λ x. IsLenientlyWritten s x text) (lenient_texts s readable text) v u p q
-    a.1 b.1
+    decimal-unique (lenient_texts s readable (normalized s bytes)) v u p q a.1 b.1
 typed_texts_are_unique s bytes v u readable p q (inl a) (inr b) =
-    let t = written_digits s bytes v p a in absurd (b.0 t.numeral t.is)
+    let t = written_digits s bytes v p a in absurd (b.0 t.0 t.1)
 typed_texts_are_unique s bytes v u readable p q (inr a) (inl b) =
-    let t = written_digits s bytes u q b in absurd (a.0 t.numeral t.is)
+    let t = written_digits s bytes u q b in absurd (a.0 t.0 t.1)

@@ -8,7 +8,7 @@ use Rattle.std.proofs.lemmas.Bool.Decides.{nat_tests}
 use Rattle.decimal_format.specs.declared.grouping.GroupingSizes.{GroupingSizes}
 use Rattle.decimal_format.specs.declared.grouping.GroupingStrategy.{GroupingStrategy}
 use Rattle.decimal_format.specs.declared.grouping.GroupingStrategy.TheVariants.{Auto, Never, Always, Min2}
-use Rattle.decimal_format.specs.Grouping.{reaches, is_grouped, secondary_size, separates}
+use Rattle.decimal_format.specs.Grouping.{reaches, is_grouped, secondary_size, ends_group, separates}
 use Rattle.decimal_format.specs.Parts.{separators_below}
 
 -- ---- Quotients and remainders.
@@ -39,47 +39,49 @@ div-add_one x d some = elim (cases_lt (x % d + 1) d) [
       grind (arith, nat_tests, quotient, rest)
 ]
 
--- ---- One magnitude.
-module _ (strategy : GroupingStrategy) (sizes : GroupingSizes) (hi : ℤ) where
+-- ---- Ends of groups.
+module _ (sizes : GroupingSizes) where
   -- groups are not empty
-  pub secondary_some : 0 < sizes.primary → 0 < secondary_size sizes
+  secondary_some : 0 < sizes.primary → 0 < secondary_size sizes
   secondary_some some = grind (arith, nat_tests)
 
+  module _ (m : ℕ) (some : 0 < sizes.primary) (least : sizes.primary ≤ m) where
+    abbrev rest : ℕ
+    rest = (m - sizes.primary) % secondary_size sizes
+
+    -- no group ends less than a remainder below a magnitude
+    pub ends_none : (k : ℕ) → k < rest → ends_group sizes (m - k) ≡ false
+    ends_none k h =
+        let d = secondary_size sizes in
+        let x = m - sizes.primary in
+        let order : m - k - sizes.primary ≡ x - k = omega arith in
+        let test : ((m - k - sizes.primary) % d == 0) ≡ false =
+        ap (λ y. y % d == 0) order
+        ∙ ap (λ y. y == 0) (mod-sub_less x d k (secondary_some some) h)
+        ∙ (let e : (x % d - k == 0) ≡ false = grind (arith, nat_tests, h) in e) in
+        ap (λ b. nat_lt 0 sizes.primary && (nat_le sizes.primary (m - k) && b)) test
+        ∙ ends_false (nat_lt 0 sizes.primary) (nat_le sizes.primary (m - k))
+      where
+        ends_false : (a b : Bool) → (a && (b && false)) ≡ false
+        ends_false a b = grind arith
+
+    -- a group ends at the remainder below a magnitude
+    pub ends_last : ends_group sizes (m - rest) ≡ true
+    ends_last =
+        let d = secondary_size sizes in
+        let x = m - sizes.primary in
+        let split : x ≡ x % d + x / d * d = omega (arith, mod-add-div' x d) in
+        let order : m - x % d - sizes.primary ≡ x / d * d = omega (arith, split, least) in
+        let reached : nat_le sizes.primary (m - x % d) ≡ true =
+        let h : sizes.primary ≤ m - x % d = omega (arith, split, least) in grind (arith, nat_tests, h) in
+        let first : nat_lt 0 sizes.primary ≡ true = grind (arith, nat_tests, some) in
+        let test : ((m - x % d - sizes.primary) % d == 0) ≡ true =
+        ap (λ y. y % d == 0) order ∙ ap (λ y. y == 0) (mul-mod_left (x / d) d) in
+        (λ i. first i && (reached i && test i))
+
+module _ (strategy : GroupingStrategy) (sizes : GroupingSizes) (hi : ℤ) where
   reaches_least : (least : ℕ) → 1 ≤ least → reaches sizes least hi ≡ true → pos sizes.primary ≤ℤ hi
   reaches_least least some h = grind (arith, ints, h, some)
-
-  ends_false : (a b c : Bool) → (a && (b && (c && false))) ≡ false
-  ends_false a b c = grind arith
-
-  -- no separator is less than a remainder below a magnitude
-  pub separates_none : (m k : ℕ) → 0 < sizes.primary → sizes.primary ≤ m
-      → k < (m - sizes.primary) % secondary_size sizes → separates strategy sizes hi (pos (m - k)) ≡ false
-  separates_none m k some least h =
-      let d = secondary_size sizes in
-      let x = m - sizes.primary in
-      let rest : (x - k) % d ≡ x % d - k = mod-sub_less x d k (secondary_some some) h in
-      let order : m - k - sizes.primary ≡ x - k = omega arith in
-      let test : ((m - k - sizes.primary) % d == 0) ≡ false =
-      ap (λ y. y % d == 0) order
-      ∙ ap (λ y. y == 0) rest
-      ∙ (let e : (x % d - k == 0) ≡ false = grind (arith, nat_tests, h) in e) in
-      ap (λ b. nat_lt 0 sizes.primary && (is_grouped strategy sizes hi && (nat_le sizes.primary (m - k) && b))) test
-      ∙ ends_false (nat_lt 0 sizes.primary) (is_grouped strategy sizes hi) (nat_le sizes.primary (m - k))
-
-  -- a separator is at the remainder below a magnitude
-  pub separates_last : (m : ℕ) → 0 < sizes.primary → sizes.primary ≤ m → is_grouped strategy sizes hi ≡ true
-      → separates strategy sizes hi (pos (m - (m - sizes.primary) % secondary_size sizes)) ≡ true
-  separates_last m some least grouped =
-      let d = secondary_size sizes in
-      let x = m - sizes.primary in
-      let split : x ≡ x % d + x / d * d = omega (arith, mod-add-div' x d) in
-      let order : m - x % d - sizes.primary ≡ x / d * d = omega (arith, split, least) in
-      let reached : nat_le sizes.primary (m - x % d) ≡ true =
-      let h : sizes.primary ≤ m - x % d = omega (arith, split, least) in grind (arith, nat_tests, h) in
-      let first : nat_lt 0 sizes.primary ≡ true = grind (arith, nat_tests, some) in
-      let test : ((m - x % d - sizes.primary) % d == 0) ≡ true =
-      ap (λ y. y % d == 0) order ∙ ap (λ y. y == 0) (mul-mod_left (x / d) d) in
-      (λ i. first i && (grouped i && (reached i && test i)))
 
   -- a value that is grouped reaches the primary size
   pub grouped_least : (g : GroupingStrategy) → is_grouped g sizes hi ≡ true → pos sizes.primary ≤ℤ hi
@@ -107,9 +109,9 @@ module _ (strategy : GroupingStrategy) (sizes : GroupingSizes) (hi : ℤ) where
       ∙ (λ i. none_below n (λ m l. h m (omega (arith, l))) i + (if h n (omega arith) i then 1 else 0))
 
   -- a value that is not grouped has none
-  pub count-none : (n : ℕ) → (nat_lt 0 sizes.primary && is_grouped strategy sizes hi) ≡ false
+  pub count-none : (n : ℕ) → (is_grouped strategy sizes hi && nat_lt 0 sizes.primary) ≡ false
       → separators_below strategy sizes hi n ≡ 0
-  count-none n h = none_below n (λ m l. both (nat_lt 0 sizes.primary) (is_grouped strategy sizes hi) _ h)
+  count-none n h = none_below n (λ m l. both (is_grouped strategy sizes hi) (nat_lt 0 sizes.primary) _ h)
     where
       both : (a b c : Bool) → (a && b) ≡ false → (a && (b && c)) ≡ false
       both a b c e = grind (arith, e)
@@ -127,12 +129,12 @@ module _ (strategy : GroupingStrategy) (sizes : GroupingSizes) (hi : ℤ) where
       here x =
           let order : sizes.primary + x - sizes.primary ≡ x = omega arith in
           let reached : nat_le sizes.primary (sizes.primary + x) ≡ true = grind (arith, nat_tests) in
-          (λ i. first i && (grouped i && (reached i && (order i % secondary_size sizes == 0))))
+          (λ i. grouped i && (first i && (reached i && (order i % secondary_size sizes == 0))))
 
       below : (m : ℕ) → m < sizes.primary → separates strategy sizes hi (pos m) ≡ false
       below m h =
           let short : nat_le sizes.primary m ≡ false = grind (arith, nat_tests, h) in
-          (λ i. first i && (grouped i && (short i && ((m - sizes.primary) % secondary_size sizes == 0))))
+          (λ i. grouped i && (first i && (short i && ((m - sizes.primary) % secondary_size sizes == 0))))
 
       next : (n : ℕ) → separators_below strategy sizes hi (n + 1)
           ≡ separators_below strategy sizes hi n + (if separates strategy sizes hi (pos n) then 1 else 0)
@@ -155,5 +157,5 @@ module _ (strategy : GroupingStrategy) (sizes : GroupingSizes) (hi : ℤ) where
           ∙ ap (λ y. x / secondary_size sizes + 1 + (if y % secondary_size sizes == 0 then 1 else 0)) step
           ∙ (let e : x / secondary_size sizes + 1 + (if (x + 1) % secondary_size sizes == 0 then 1 else 0)
           ≡ (x + 1) / secondary_size sizes + 1 =
-          omega (arith, div-add_one x (secondary_size sizes) (secondary_some some)) in e)
+          omega (arith, div-add_one x (secondary_size sizes) (secondary_some sizes some)) in e)
           ∙ ap (λ y. y / secondary_size sizes + 1) (sym step)

@@ -19,9 +19,12 @@ is_grouped Min2 sizes hi = reaches sizes (max sizes.min_grouping 2) hi
 abbrev pub secondary_size : GroupingSizes → ℕ
 secondary_size sizes = if sizes.secondary == 0 then sizes.primary else sizes.secondary
 
--- a separator is after the digit at a magnitude: at the primary size, and at multiples of the secondary size above it
+-- a group ends after the digit at a magnitude: at the primary size, and at multiples of the secondary size above it
+abbrev pub ends_group : GroupingSizes → ℕ → Bool
+ends_group sizes m =
+    nat_lt 0 sizes.primary && (nat_le sizes.primary m && ((m - sizes.primary) % secondary_size sizes == 0))
+
+-- a separator is after the digit at a magnitude: at each end of a group, if the value is grouped
 abbrev pub separates : GroupingStrategy → GroupingSizes → ℤ → ℤ → Bool
 separates strategy sizes hi (negsuc m) = false
-separates strategy sizes hi (pos m) =
-    nat_lt 0 sizes.primary
-    && (is_grouped strategy sizes hi && (nat_le sizes.primary m && ((m - sizes.primary) % secondary_size sizes == 0)))
+separates strategy sizes hi (pos m) = is_grouped strategy sizes hi && ends_group sizes m

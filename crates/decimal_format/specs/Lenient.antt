@@ -1,13 +1,12 @@
 -- Numbers as people type them.
-use Rattle.std.specs.Prelude.{◌≡◌, ℕ, ◌-◌, ◌%◌, ◌<◌, ◌==◌, nat_le, nat_lt, ◌⊎◌, Bool, false, ◌&&◌, ◌||◌, if◌then◌else◌, List, [], length, encode_utf8}
+use Rattle.std.specs.Prelude.{◌≡◌, ℕ, ◌-◌, ◌<◌, ◌==◌, ◌⊎◌, Bool, false, ◌&&◌, ◌||◌, if◌then◌else◌, List, [], length, encode_utf8}
 use Rattle.std.specs.Char.{is_ascii_digit}
 use Rattle.std.specs.List.{flat_map, list_any}
 use Rattle.std.specs.Str.{chars}
 use Rattle.fixed_decimal.specs.Decimal.{Decimal}
-use Rattle.decimal_format.specs.declared.grouping.GroupingSizes.{GroupingSizes}
 use Rattle.decimal_format.specs.declared.grouping.GroupingStrategy.TheVariants.{Never}
 use Rattle.decimal_format.specs.Symbols.{Symbols, digit_text}
-use Rattle.decimal_format.specs.Grouping.{secondary_size}
+use Rattle.decimal_format.specs.Grouping.{ends_group}
 use Rattle.decimal_format.specs.Formatted.{formatted}
 use Rattle.decimal_format.specs.Reading.{Numeral, AreDigits, numeral_text, IsNumeral, IsWritten, NeedsMemory}
 
@@ -57,11 +56,6 @@ abbrev pub normalized : Symbols → List ℕ → List ℕ
 normalized s text = flat_map (replacement s) (chars text)
 
 -- ---- Optional separators.
-
--- a group ends after the digit at a magnitude: at the primary size, and at multiples of the secondary size above it
-abbrev pub ends_group : GroupingSizes → ℕ → Bool
-ends_group sizes m =
-    nat_lt 0 sizes.primary && (nat_le sizes.primary m && ((m - sizes.primary) % secondary_size sizes == 0))
 
 -- a separator is after each chosen digit that ends a group
 abbrev pub separated_at : Symbols → (ℕ → Bool) → ℕ → Bool

@@ -4,8 +4,7 @@ use Rattle.std.specs.Prelude.{◌≡◌, ℕ, zero, suc, if◌then◌else◌, �
 use Rattle.decimal_digits.specs.Number.{digit}
 use Rattle.decimal_format.specs.declared.grouping.GroupingSizes.{GroupingSizes}
 use Rattle.decimal_format.specs.declared.grouping.GroupingStrategy.{GroupingStrategy}
-use Rattle.decimal_format.specs.Grouping.{separates}
-use Rattle.decimal_format.specs.Lenient.{ends_group}
+use Rattle.decimal_format.specs.Grouping.{ends_group, separates}
 use Rattle.decimal_format.specs.Symbols.{Symbols, digit_text}
 use Rattle.decimal_format.specs.Ascii.{ascii_digits}
 use Rattle.decimal_format.specs.Formatted.{Formatted, formatted_down, separator_before, separator_after}

@@ -1,6 +1,6 @@
 -- Private: used only in the contracts of private functions.
 -- What the steps of a scan find.
-use Rattle.std.specs.Prelude.{◌≡◌, ◌≢◌, ℕ, ◌-◌, ◌<◌, ◌≤◌, ◌↔◌, Bool, true, false, ◌&&◌, List, [], ◌++◌, if◌then◌else◌, length, Result, Err, IfOk, MatchResult}
+use Rattle.std.specs.Prelude.{◌≡◌, ◌≢◌, ℕ, ◌<◌, ◌≤◌, ◌↔◌, Bool, true, false, ◌&&◌, List, [], ◌++◌, if◌then◌else◌, length, Result, Err, IfOk, MatchResult}
 use Rattle.std.specs.Int.Digits.{AllBelowBase}
 use Rattle.decimal_digits.specs.Number.{size}
 use Rattle.decimal_unsigned.specs.DigitValues.{IsBcd, value_of_first}
@@ -8,12 +8,11 @@ use Rattle.decimal_unsigned.specs.Unsigned.{Unsigned, IsValue}
 use Rattle.decimal_unsigned.specs.declared.error.ParseError.{ParseError}
 use Rattle.decimal_unsigned.specs.declared.error.ParseError.TheVariants.{Limit, Syntax, Memory}
 use Rattle.fixed_decimal.specs.Decimal.{Decimal}
-use Rattle.decimal_format.specs.declared.grouping.GroupingSizes.{GroupingSizes}
 use Rattle.decimal_format.specs.declared.reader.Scanned.{Scanned}
 use Rattle.decimal_format.specs.Collecting.{Collected, CollectsDigits}
 use Rattle.decimal_format.specs.Symbols.{Symbols, digit_text}
-use Rattle.decimal_format.specs.Reading.{Numeral, IsNumeral, IsBeyondLimits, IsWritten, NeedsMemory, digits_text, fraction_text}
-use Rattle.decimal_format.specs.Lenient.{ends_group, IsLenientNumeral, IsLenientlyWritten}
+use Rattle.decimal_format.specs.Reading.{Numeral, IsNumeral, IsBeyondLimits, IsWritten, NeedsMemory, digits_text}
+use Rattle.decimal_format.specs.Lenient.{IsLenientNumeral, IsLenientlyWritten}
 
 -- ---- Groups.
 
@@ -54,14 +53,6 @@ pub record ReadsRun (s : Symbols) (n : ℕ) (bytes rest : List ℕ) (number coun
   pub text : bytes ≡ digits_text s (λ _. false) digits ++ rest
   pub ends : count < n → (d : ℕ) (r : List ℕ) → d < 10 → rest ≢ digit_text s d ++ r
 
--- of the digits that are left, the first n have no end of a group between them, and one is after them or not
-pub record IsRunOf (sizes : GroupingSizes) (left n : ℕ) (ends : Bool) : Type 0 where
-  pub some : 0 < n
-  pub at_most : n ≤ 8
-  pub within : n ≤ left
-  pub none_between : (m : ℕ) → left - n < m → m < left → ends_group sizes m ≡ false
-  pub last : ends ≡ ends_group sizes (left - n)
-
 -- of n digits, each has a separator after it where it may have one, or none has
 abbrev pub IsUniform : (ℕ → Bool) → (ℕ → Bool) → ℕ → Type 0
 IsUniform may chosen n =
@@ -78,20 +69,12 @@ pub record ReadsDigits (s : Symbols) (may : ℕ → Bool) (n : ℕ) (bytes rest 
   pub uniform : is_uniform ≡ true ↔ IsUniform may chosen n
   pub collected : CollectsDigits old new digits
 
--- n digits without separators were read, the rest follows them, and they were collected
-pub record ReadsLastDigits (s : Symbols) (bytes rest : List ℕ) (n : ℕ) (old new : Collected) : Type 0 where
+-- n digits were read, which have this text, and were collected
+pub record ReadsAs (text : List ℕ → List ℕ) (bytes : List ℕ) (n : ℕ) (old new : Collected) : Type 0 where
   pub digits : List ℕ
   pub count : length digits ≡ n
   pub are_digits : AllBelowBase 10 digits
-  pub text : bytes ≡ digits_text s (λ _. false) digits ++ rest
-  pub collected : CollectsDigits old new digits
-
--- n fraction digits were read and collected
-pub record ReadsFraction (s : Symbols) (bytes : List ℕ) (n : ℕ) (old new : Collected) : Type 0 where
-  pub digits : List ℕ
-  pub count : length digits ≡ n
-  pub are_digits : AllBelowBase 10 digits
-  pub text : bytes ≡ fraction_text s digits
+  pub is : bytes ≡ text digits
   pub collected : CollectsDigits old new digits
 
 -- the value that the digits write

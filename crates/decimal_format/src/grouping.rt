@@ -1,7 +1,7 @@
 //! The groups of the integer digits.
 ghost use Rattle.std.specs.Prelude.{◌≡◌, ℕ, ◌+◌, ◌-◌, ◌%◌, ◌^◌, ◌<◌, ◌≤◌, ◌≤ℤ◌, ◌&&◌, pos, false};
 ghost use Rattle.std.specs.Int.{int_gap};
-ghost use Rattle.decimal_format.specs.Grouping.{reaches, is_grouped, secondary_size, separates};
+ghost use Rattle.decimal_format.specs.Grouping.{reaches, is_grouped, secondary_size, ends_group, separates};
 ghost use Rattle.decimal_format.specs.Parts.{ends_group_at, separators_below};
 
 /// When the integer digits are grouped.
@@ -35,7 +35,7 @@ pub struct GroupingSizes {
 
 /// Returns the remainder of a division. By 2 and 3, the usual sizes, it needs no division.
 #[inline]
-pub(crate) fn remainder(dividend: usize, divisor: usize) -> usize
+fn remainder(dividend: usize, divisor: usize) -> usize
     requires { 0 < divisor }
     ensures { result ≡ dividend % divisor }
 {
@@ -103,10 +103,33 @@ impl GroupingSizes {
         remainder((magnitude - primary) as usize, secondary as usize) == 0
     }
 
-    /// Returns a number of digits, from an integer magnitude down, with no separator between them, and whether a
-    /// separator is after them: the digits to the next separator, or to magnitude 0, or `most`.
+    /// Returns a number of digits, from an integer magnitude down, with no end of a group between them, and whether one
+    /// is after them: the digits to the next end of a group, or to magnitude 0, or `most`.
     ///
     /// In groups of 3 it is 1 from magnitude 3, and 3 from magnitude 5.
+    #[inline]
+    pub(crate) fn run_to_end(self, magnitude: usize, most: usize) -> (usize, bool)
+        requires in_range { magnitude + 1 < 2 ^ 64 }
+        requires some { 0 < most }
+        ensures some { 0 < result.0 }
+        ensures at_most { result.0 ≤ most }
+        ensures within { result.0 ≤ magnitude + 1 }
+        ensures none_between { (k : ℕ) → k + 1 < result.0 → ends_group self (magnitude - k) ≡ false }
+        ensures last { ends_group self (magnitude - (result.0 - 1)) ≡ result.1 }
+    {
+        let primary = self.primary as usize;
+        if primary == 0 || magnitude < primary {
+            return (most.min(magnitude + 1), false);
+        }
+        let before_last = remainder(magnitude - primary, self.secondary_size() as usize);
+        if before_last >= most {
+            return (most, false);
+        }
+        (before_last + 1, true)
+    }
+
+    /// Returns a number of digits, from an integer magnitude down, with no separator between them, and whether a
+    /// separator is after them: the digits to the next separator, or to magnitude 0, or `most`.
     #[inline]
     pub(crate) fn run_from(
         self,
@@ -124,16 +147,11 @@ impl GroupingSizes {
             → separates strategy self hi (pos (magnitude - k)) ≡ false }
         ensures last { separates strategy self hi (pos (magnitude - (result.0 - 1))) ≡ result.1 }
     {
-        let primary = self.primary as u32;
-        if primary == 0 || magnitude < primary || !self.is_grouped(strategy, hi) {
+        if !self.is_grouped(strategy, hi) {
             return (most.min(magnitude + 1), false);
         }
-        let offset = (magnitude - primary) as usize;
-        let before_last = remainder(offset, self.secondary_size() as usize) as u32;
-        if before_last >= most {
-            return (most, false);
-        }
-        (before_last + 1, true)
+        let (count, ends) = self.run_to_end(magnitude as usize, most as usize);
+        (count as u32, ends)
     }
 
     /// Returns the number of separators of a value with the highest magnitude `hi`, which is at least 0.

@@ -4,17 +4,17 @@ ghost use Rattle.std.specs.Int.Digits.{AllBelowBase};
 ghost use Rattle.decimal_unsigned.specs.Unsigned.{IsValue};
 ghost use Rattle.fixed_decimal.specs.Decimal.{Decimal};
 ghost use Rattle.decimal_format.specs.Ascii.{ascii_digits};
+ghost use Rattle.decimal_format.specs.Grouping.{ends_group};
 ghost use Rattle.decimal_format.specs.Readable.{IsReadable};
 ghost use Rattle.decimal_format.specs.Reading.{Numeral, AreDigits, digits_text, fraction_text, IsNumeral, IsBeyondLimits, IsWritten, NeedsMemory};
-ghost use Rattle.decimal_format.specs.Lenient.{ends_group, IsLenientNumeral, IsLenientlyWritten};
-ghost use Rattle.decimal_format.specs.Scanning.{separated_if, SkipsSeparator, EndsInteger, IsRunOf, ReadsDigits, ReadsLastDigits, ReadsFraction, HasCounts, IsValueOf, IsNumeralBy, IsWrittenBy, IsRead};
+ghost use Rattle.decimal_format.specs.Lenient.{IsLenientNumeral, IsLenientlyWritten};
+ghost use Rattle.decimal_format.specs.Scanning.{separated_if, SkipsSeparator, EndsInteger, ReadsDigits, ReadsAs, HasCounts, IsValueOf, IsNumeralBy, IsWrittenBy, IsRead};
 ghost use Rattle.decimal_format.specs.Collecting.{Collects, IsFresh};
 
 mod codes;
 mod digit_collector;
 mod lenient;
 
-use crate::grouping::remainder;
 use crate::symbols::DecimalSymbols;
 use codes::cut;
 use digit_collector::{DigitCollector, MAX_DIGITS, MAX_RUN};
@@ -93,25 +93,6 @@ impl<'a> DecimalSymbols<'a> {
         }
     }
 
-    /// Returns a number of digits, of those left, with no end of a group between them, and whether one is after them:
-    /// the digits to the next end of a group, or all that are left, or eight.
-    #[inline]
-    fn next_run(&self, left: usize) -> (usize, bool)
-        requires { 0 < left }
-        ensures { IsRunOf self.now.sizes left result.0 result.1 }
-    {
-        let sizes = self.sizes();
-        let primary = sizes.primary as usize;
-        if primary == 0 || left <= primary {
-            return (left.min(MAX_RUN), false);
-        }
-        let before_last = remainder(left - 1 - primary, sizes.secondary_size() as usize);
-        if before_last >= MAX_RUN {
-            return (MAX_RUN, false);
-        }
-        (before_last + 1, true)
-    }
-
     /// Reads the given number of digits, with separators at any ends of groups, and returns whether all separators are
     /// there, or none, and what follows the digits.
     #[inline]
@@ -139,7 +120,7 @@ impl<'a> DecimalSymbols<'a> {
         let mut all = true;
         let mut none = true;
         while left > 0 {
-            let (most, possible) = self.next_run(left);
+            let (most, possible) = self.sizes().run_to_end(left - 1, MAX_RUN);
             let (number, found, after) = self.read_run::<ASCII>(most, rest);
             if found < most {
                 return None;
@@ -164,7 +145,8 @@ impl<'a> DecimalSymbols<'a> {
         requires readable { IsReadable self.now }
         requires ascii { ASCII ≡ true → self.now.digits ≡ ascii_digits }
         requires collecting { (n : ℕ) × (ds : List ℕ) × Collects D.L n digits.old ds }
-        ensures found { IfSome result (λ count. ReadsLastDigits self.now text.now [] count digits.old digits.new) }
+        ensures found { IfSome result (λ count. ReadsAs (digits_text self.now (λ _. false)) text.now count digits.old
+            digits.new) }
         ensures none { IfNone result ((ds : List ℕ) → AllBelowBase 10 ds
             → text.now ≢ digits_text self.now (λ _. false) ds) }
     {
@@ -192,7 +174,7 @@ impl<'a> DecimalSymbols<'a> {
         requires readable { IsReadable self.now }
         requires ascii { ASCII ≡ true → self.now.digits ≡ ascii_digits }
         requires collecting { (n : ℕ) × (ds : List ℕ) × Collects D.L n digits.old ds }
-        ensures found { IfSome result (λ count. ReadsFraction self.now text.now count digits.old digits.new) }
+        ensures found { IfSome result (λ count. ReadsAs (fraction_text self.now) text.now count digits.old digits.new) }
         ensures none { IfNone result ((ds : List ℕ) → AllBelowBase 10 ds → text.now ≢ fraction_text self.now ds) }
     {
         if text.is_empty() {

@@ -79,12 +79,8 @@ fn zero_with_digits<D: DigitStore>(alloc: Global, integer_digits: usize) -> Unsi
     ensures { result ≡ value_of_first integer_digits [] }
 {
     let mut zero = UnsignedOver::zero(alloc);
-    if integer_digits < MAX_DIGITS {
-        zero.pad_start(to_magnitude(subtract_counts(integer_digits, 0)));
-        return zero;
-    }
-    zero.pad_start(32767);
-    zero.multiply_pow10(1).unwrap();
+    zero.multiply_pow10(integer_digits.saturating_sub(1) as i16)
+        .unwrap();
     zero
 }
 

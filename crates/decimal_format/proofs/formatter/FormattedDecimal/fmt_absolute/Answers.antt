@@ -1,17 +1,13 @@
-use Rattle.std.proofs.Common.{◌≡◌, ◌+◌, [], refl, sym, subst, arith}
+use Rattle.std.proofs.Common.{◌≡◌, ◌+◌, refl, sym, subst, arith}
 use Rattle.std.proofs.Output.{has_written_styled_nil, has_written_styled_append, has_written_styled_of_eq}
 use Rattle.std.specs.Fmt.{HasWrittenStyled}
-use Rattle.decimal_format.specs.Formatted.{shown_count, nth_text}
-use Rattle.decimal_format.proofs.Magnitudes.{first_magnitudes, formatted_down-zero, one_more}
+use Rattle.decimal_format.specs.Formatted.{formatted_down, shown_count, nth_text}
+use Rattle.decimal_format.proofs.Magnitudes.{first_magnitudes, one_more}
 use Rattle.decimal_format.proofs.formatter.FormattedDecimal.fmt_absolute.Goals as goal
 
 pub loop-below-init : goal.loop-below-init
-loop-below-init g c = λ flush.
-    let d = c.args.self.now in
-    let v = d.value.absolute in
-    let took = g.W.Write.write_str_gives in
-    has_written_styled_of_eq took c.args.f.now [] (first_magnitudes d.symbols d.strategy v 0) c.args.f.now
-    (sym (formatted_down-zero d.symbols d.strategy v.hi v.number v.hi)) (has_written_styled_nil took c.args.f.now flush)
+unfolding formatted_down
+loop-below-init g c = λ flush. has_written_styled_nil g.W.Write.write_str_gives c.args.f.now flush
 
 pub loop-below-preserved : goal.loop-below-preserved
 loop-below-preserved g c = λ flush.

@@ -14,7 +14,7 @@ pub returns-then-self-eq0-clause-value : goal.returns-then-self-eq0-clause-value
 returns-then-self-eq0-clause-value c =
     let sizes = c.args.self in
     let grouped = is_grouped c.args.strategy sizes c.args.hi in
-    let none : (nat_lt 0 sizes.primary && grouped) ≡ false = elim c.then-self-eq0.branch [
+    let none : (grouped && nat_lt 0 sizes.primary) ≡ false = elim c.then-self-eq0.branch [
       | then-self-eq0-via-then-self-eq0 w ↦
           let test : nat_lt 0 sizes.primary ≡ false = grind (arith, nat_tests, w.if-self-eq0.true) in
           grind (arith, test)

@@ -1,11 +1,11 @@
 use Rattle.std.proofs.Common.{◌++◌, ◌∙◌, ap, arith}
 use Rattle.std.proofs.lemmas.List.{take_all}
-use Rattle.decimal_format.proofs.Codes.{match_none, cut_more, cut_fails}
+use Rattle.decimal_format.proofs.Codes.{cut_more, cut_fails}
 use Rattle.decimal_format.proofs.reader.codes.cut.Goals as goal
 
 pub returns-in_err-rest : goal.returns-in_err-rest
 returns-in_err-rest c =
-    match_none c.from_residual.result _ _ c.from_residual.ensures
+    rw c.from_residual.ensures
     (cut_fails c.args.text.now c.args.code.now c.loop-byte.rest.now c.loop-byte.byte-index (omega arith)
     c.loop-byte.invariant c.in_err-rest.ensures)
 

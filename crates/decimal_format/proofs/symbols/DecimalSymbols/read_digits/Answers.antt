@@ -1,19 +1,9 @@
-use Rattle.std.proofs.Common.{◌≡◌, ◌+◌, ◌-◌, ◌<◌, [], ◌++◌, length, subst, arith}
-use Rattle.decimal_format.specs.Lenient.{ends_group}
-use Rattle.decimal_format.specs.Scanning.{SkipsSeparator}
-use Rattle.decimal_format.proofs.Scans.{none_after_last, all_step, none_step, collects_none, collects_both, IsReadTo, Leaves, read_none, leaves_all, read_run, leaves_run, run_fails, read_all, left_none}
+use Rattle.std.proofs.Common.{[], ◌++◌, arith}
+use Rattle.decimal_format.proofs.Scans.{none_after_last, collects_none, collects_both, read_none, read_run, read_all, read_last, read_fails}
 use Rattle.decimal_format.proofs.symbols.DecimalSymbols.read_digits.Goals as goal
 
 pub loop-left-init : goal.loop-left-init
-loop-left-init g c =
-    let s = c.args.self.now in
-    let may = ends_group s.sizes in
-    record {
-      digits = [];
-      read = read_none s may c.args.count c.args.text.now;
-      collected = collects_none c.args.digits.now;
-      leaves = leaves_all s may c.args.count c.args.text.now;
-    }
+loop-left-init g c = record { digits = []; read = read_none; collected = collects_none c.args.digits.now }
 
 pub push_run-requires-clause-collecting : goal.push_run-requires-clause-collecting
 push_run-requires-clause-collecting g c =
@@ -26,61 +16,30 @@ push_run-requires-clause-digits g c = (c.read_run-number.ensures.digits, c.read_
 
 pub loop-left-preserved : goal.loop-left-preserved
 loop-left-preserved g c =
-    let s = c.args.self.now in
-    let may = ends_group s.sizes in
-    let n = c.args.count in
-    let left = c.loop-left.left in
     let so_far = c.loop-left.invariant in
-    let group = c.next_run-most.ensures in
-    let most = c.next_run-most.result.0 in
+    let group = rw c.sizes.ensures at c.run_to_end-most.ensures in
     let run = c.read_run-number.ensures in
-    let after = c.read_run-number.result.2.now in
-    let skipped = c.skip_separator-separated in
-    let next = skipped.result.1.now in
-    let found = skipped.result.0 in
-    let less = left - most in
-    let full : length run.digits ≡ most = omega (arith, run.bcd.count, run.at_most, c.if-found-most.false) in
-    let size : less + length run.digits ≡ left = omega (arith, full, group.within) in
-    let some : 0 < length run.digits = omega (arith, full, group.some) in
-    let skips : SkipsSeparator s (may less) after next found =
-    subst (λ p. SkipsSeparator s p after next found) group.last skipped.ensures in
     record {
       digits = so_far.digits ++ run.digits;
-      read = read_run s may n c.args.text.now run.digits so_far.digits c.loop-left.rest.now after next left less found
-          c.loop-left.all c.loop-left.none _ _ run.bcd.digits some size group.none_between run.text skips
-          (all_step c.loop-left.all found c.next_run-most.result.1 (may less) group.last)
-          (none_step c.loop-left.none found) so_far.read;
+      read = read_run so_far.read run c.skip_separator-separated.ensures group.some c.if-found-most.false
+          (omega (arith, group.within, c.loop-left-test.true)) group.none_between group.last;
       collected = collects_both c.args.digits.now c.loop-left.digits c.push_run.new.self so_far.digits run.digits
           so_far.collected (c.push_run.ensures run.digits run.bcd);
-      leaves = leaves_run s may n c.args.text.now c.requires.readable run.digits c.loop-left.rest.now after next left
-          less found run.bcd.digits some size group.none_between (none_after_last s) run.text skips so_far.leaves;
     }
 
 pub returns-then-found-most-clause-none : goal.returns-then-found-most-clause-none
-returns-then-found-most-clause-none g c =
-    let s = c.args.self.now in
-    let group = c.next_run-most.ensures in
-    let run = c.read_run-number.ensures in
-    run_fails s (ends_group s.sizes) c.args.count c.args.text.now c.requires.readable run.digits c.loop-left.rest.now
-    c.read_run-number.result.2.now c.loop-left.left c.next_run-most.result.0 run.bcd.digits
-    (omega (arith, run.bcd.count, c.if-found-most.true)) group.within group.none_between (none_after_last s) run.text
-    (run.ends c.if-found-most.true) c.loop-left.invariant.leaves
+returns-then-found-most-clause-none g c = λ chosen ds tail size below e.
+    let group = rw c.sizes.ensures at c.run_to_end-most.ensures in
+    read_fails c.loop-left.invariant.read c.requires.readable (none_after_last c.args.self.now) chosen ds tail size below e
+    c.read_run-number.ensures c.if-found-most.true (omega (arith, group.within, c.loop-left-test.true))
+    group.none_between
 
 pub returns-clause-found : goal.returns-clause-found
 returns-clause-found g c =
-    let s = c.args.self.now in
-    let may = ends_group s.sizes in
     let so_far = c.loop-left.invariant in
-    let none : c.loop-left.left ≡ 0 = omega (arith, c.loop-left-test.false) in
-    read_all s may c.args.count c.args.text.now c.loop-left.rest.now so_far.digits c.loop-left.all c.loop-left.none
-    c.args.digits.now c.loop-left.digits so_far.collected
-    (subst (λ k. IsReadTo s may c.args.count c.args.text.now c.loop-left.rest.now k c.loop-left.all c.loop-left.none
-    so_far.digits) none so_far.read)
+    read_all so_far.read (omega (arith, c.loop-left-test.false)) so_far.collected
 
 pub returns-clause-unique : goal.returns-clause-unique
-returns-clause-unique g c =
-    let s = c.args.self.now in
-    let may = ends_group s.sizes in
-    let none : c.loop-left.left ≡ 0 = omega (arith, c.loop-left-test.false) in
-    left_none s may c.args.count c.args.text.now c.loop-left.rest.now
-    (subst (λ k. Leaves s may c.args.count c.args.text.now c.loop-left.rest.now k) none c.loop-left.invariant.leaves)
+returns-clause-unique g c = λ chosen ds tail size below e.
+    read_last c.loop-left.invariant.read c.requires.readable (none_after_last c.args.self.now) chosen ds tail size below e
+    (omega (arith, c.loop-left-test.false))

@@ -1,7 +1,7 @@
 use Rattle.std.proofs.Common.{ℕ, List}
 use Rattle.decimal_format.specs.Collecting.{CollectsDigits}
-use Rattle.decimal_format.specs.Lenient.{ends_group}
-use Rattle.decimal_format.proofs.Scans.{IsReadTo, Leaves}
+use Rattle.decimal_format.specs.Grouping.{ends_group}
+use Rattle.decimal_format.proofs.Scans.{IsReadTo}
 use Rattle.decimal_format.proofs.symbols.DecimalSymbols.read_digits.Given as goal
 
 abbrev pub invariant-loop-left : goal.invariant-loop-left
@@ -9,7 +9,6 @@ invariant-loop-left g l = record {
   digits : List ℕ;
   read : IsReadTo l.self (ends_group l.self.sizes) l.count l.text l.rest l.left l.all l.none digits;
   collected : CollectsDigits l.initial.digits l.digits digits;
-  leaves : Leaves l.self (ends_group l.self.sizes) l.count l.text l.rest l.left;
 }
 
 abbrev pub decreases-loop-left : goal.decreases-loop-left

@@ -1,6 +1,5 @@
 use Rattle.std.proofs.Common.{◌≡◌, ◌++◌, length, true, false, subst, sym, ◌∙◌}
 use Rattle.decimal_format.specs.Reading.{Numeral, IsNumeral}
-use Rattle.decimal_format.specs.Scanning.{IsNumeralBy, IsWrittenBy}
 use Rattle.decimal_format.proofs.NumeralLaws.{texts_by, lenient-unique, numeral_is_lenient, numeral_by_is_lenient, numeral_by, none_by, nothing_read, value_read}
 use Rattle.decimal_format.proofs.symbols.DecimalSymbols.read_groups.Goals.{else-is_strict-via-then-is_strict+else-not-scanned, else-is_strict-via-else-is_strict}
 use Rattle.decimal_format.proofs.symbols.DecimalSymbols.read_groups.Goals as goal
@@ -11,8 +10,7 @@ returns-in_default g c =
     let s = c.args.self.now in
     let text = c.args.text.now in
     let strict = c.args.is_strict in
-    nothing_read (IsNumeralBy strict s text) (IsWrittenBy strict s text) (texts_by strict s c.requires text)
-    g.D.DigitStore.L (λ w numeral. c.in_default.ensures.none w (numeral_by_is_lenient strict s text w numeral))
+    nothing_read (texts_by strict s c.requires text) g.D.DigitStore.L (λ w numeral. c.in_default.ensures.none w (numeral_by_is_lenient strict s text w numeral))
 
 -- separators are at some of the ends of groups
 pub returns-then-not-scanned : goal.returns-then-not-scanned
@@ -25,8 +23,7 @@ returns-then-not-scanned g c =
     let same = lenient-unique s c.requires text w found.0 (numeral_is_lenient s text w numeral) found.1 in
     let t : c.in-Some.scanned.is_strict ≡ true = found.4.1 (subst (IsNumeral s text) same numeral) in
     let n : true ≡ false = sym t ∙ c.if-not-scanned.true in let no : ⊥ = cc in no in
-    nothing_read (IsNumeralBy strict s text) (IsWrittenBy strict s text) (texts_by strict s c.requires text)
-    g.D.DigitStore.L (none_by strict s text c.if-is_strict.true none)
+    nothing_read (texts_by strict s c.requires text) g.D.DigitStore.L (none_by strict s text c.if-is_strict.true none)
 
 pub value-requires : goal.value-requires
 value-requires g c =
@@ -44,5 +41,4 @@ returns g c =
       | else-is_strict-via-else-is_strict w ↦
           let t : true ≡ false = sym asked ∙ w.if-is_strict.false in absurd (cc)
     ]) in
-    value_read (IsNumeralBy strict s text) (IsWrittenBy strict s text) (texts_by strict s c.requires text)
-    g.D.DigitStore.L found.0 numeral c.value.result (c.value.ensures found.0 found.1.digits.some found.2 found.3)
+    value_read (texts_by strict s c.requires text) g.D.DigitStore.L found.0 numeral c.value.result (c.value.ensures found.0 found.1.digits.some found.2 found.3)

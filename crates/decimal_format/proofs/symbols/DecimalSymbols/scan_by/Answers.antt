@@ -2,55 +2,50 @@ use Rattle.std.proofs.Common.{◌≡◌, ◌<◌, true, [], ◌++◌, length, re
 use Rattle.std.specs.Prelude.{◌↔◌}
 use Rattle.decimal_format.specs.Collecting.{Collects}
 use Rattle.decimal_format.specs.Symbols.{sign_affixes}
-use Rattle.decimal_format.specs.Lenient.{ends_group, separated_at}
-use Rattle.decimal_format.specs.Reading.{Numeral, AreDigits, digits_text, fraction_text, absolute_numeral_text}
+use Rattle.decimal_format.specs.Grouping.{ends_group}
+use Rattle.decimal_format.specs.Lenient.{separated_at}
+use Rattle.decimal_format.specs.Reading.{Numeral, AreDigits, digits_text}
 use Rattle.decimal_format.specs.Scanning.{IsUniform}
 use Rattle.decimal_format.proofs.DigitTexts.{fraction_ends}
 use Rattle.decimal_format.proofs.NumeralLaws.{numeral_if_uniform}
-use Rattle.decimal_format.proofs.Scans.{on_none, number_begins}
+use Rattle.decimal_format.proofs.Scans.{number_begins}
 use Rattle.decimal_format.proofs.symbols.DecimalSymbols.scan_by.Goals as goal
 
 pub returns-in_err-sign-clause-none : goal.returns-in_err-sign-clause-none
-returns-in_err-sign-clause-none g c = on_none c.from_residual.result _ (λ w numeral.
+returns-in_err-sign-clause-none g c = rw c.from_residual.ensures (λ w numeral.
     let s = c.args.self.now in
-    let f = separated_at s numeral.chosen in
-    c.in_err-sign.ensures.unique w.sign (absolute_numeral_text s f w) (number_begins s f w numeral.digits) numeral.text)
+    c.in_err-sign.ensures.unique w.sign _ (number_begins s (separated_at s numeral.chosen) w numeral.digits) numeral.text)
 
 pub returns-then-integer_digits-eq0-clause-none : goal.returns-then-integer_digits-eq0-clause-none
 returns-then-integer_digits-eq0-clause-none g c = λ w numeral.
     let s = c.args.self.now in
     let f = separated_at s numeral.chosen in
-    let split = c.in_ok-sign.ensures.unique w.sign (absolute_numeral_text s f w) (number_begins s f w
-    numeral.digits) numeral.text in
+    let split = c.in_ok-sign.ensures.unique w.sign _ (number_begins s f w numeral.digits) numeral.text in
     let number = ap (λ b. b.now) c.in_ok-sign.number-is ∙ split.1 in
-    let count = c.count_digits-integer_digits.ensures f w.whole (fraction_text s w.fraction) numeral.digits.whole
+    let count = c.count_digits-integer_digits.ensures f w.whole _ numeral.digits.whole
     (fraction_ends s c.requires.readable w.fraction) number in
     omega (arith, count, numeral.digits.some, c.if-integer_digits-eq0.true)
 
 pub returns-in_err-is_strict-clause-none : goal.returns-in_err-is_strict-clause-none
-returns-in_err-is_strict-clause-none g c = on_none c.from_residual-in_err-is_strict.result _ (λ w numeral.
+returns-in_err-is_strict-clause-none g c = rw c.from_residual-in_err-is_strict.ensures (λ w numeral.
     let s = c.args.self.now in
     let f = separated_at s numeral.chosen in
-    let split = c.in_ok-sign.ensures.unique w.sign (absolute_numeral_text s f w) (number_begins s f w
-    numeral.digits) numeral.text in
+    let split = c.in_ok-sign.ensures.unique w.sign _ (number_begins s f w numeral.digits) numeral.text in
     let number = ap (λ b. b.now) c.in_ok-sign.number-is ∙ split.1 in
-    let count = c.count_digits-integer_digits.ensures f w.whole (fraction_text s w.fraction) numeral.digits.whole
+    let count = c.count_digits-integer_digits.ensures f w.whole _ numeral.digits.whole
     (fraction_ends s c.requires.readable w.fraction) number in
-    c.in_err-is_strict.ensures.none numeral.chosen w.whole (fraction_text s w.fraction) (sym count) numeral.digits.whole
-    number)
+    c.in_err-is_strict.ensures.none numeral.chosen w.whole _ (sym count) numeral.digits.whole number)
 
 pub returns-in_err-fraction_digits-clause-none : goal.returns-in_err-fraction_digits-clause-none
-returns-in_err-fraction_digits-clause-none g c = on_none c.from_residual-in_err-fraction_digits.result _ (λ w numeral.
+returns-in_err-fraction_digits-clause-none g c = rw c.from_residual-in_err-fraction_digits.ensures (λ w numeral.
     let s = c.args.self.now in
     let f = separated_at s numeral.chosen in
-    let split = c.in_ok-sign.ensures.unique w.sign (absolute_numeral_text s f w) (number_begins s f w
-    numeral.digits) numeral.text in
+    let split = c.in_ok-sign.ensures.unique w.sign _ (number_begins s f w numeral.digits) numeral.text in
     let number = ap (λ b. b.now) c.in_ok-sign.number-is ∙ split.1 in
-    let count = c.count_digits-integer_digits.ensures f w.whole (fraction_text s w.fraction) numeral.digits.whole
+    let count = c.count_digits-integer_digits.ensures f w.whole _ numeral.digits.whole
     (fraction_ends s c.requires.readable w.fraction) number in
     c.in_err-fraction_digits.ensures.none w.fraction numeral.digits.fraction
-    (c.in_ok-is_strict.ensures.unique numeral.chosen w.whole (fraction_text s w.fraction) (sym count)
-    numeral.digits.whole number))
+    (c.in_ok-is_strict.ensures.unique numeral.chosen w.whole _ (sym count) numeral.digits.whole number))
 
 pub read_digits-requires-clause-collecting : goal.read_digits-requires-clause-collecting
 read_digits-requires-clause-collecting g c = (c.count_digits-integer_digits.result, [], c.begin.ensures)
@@ -72,7 +67,7 @@ returns-clause-found g c =
     let digits : AreDigits w = record { some = some; whole = whole.are_digits; fraction = fraction.are_digits } in
     let text = c.in_ok-sign.ensures.found
     ∙ ap (λ l. affixes.prefix ++ (l ++ affixes.suffix))
-    (whole.text ∙ ap (λ l. digits_text s (separated_at s whole.chosen) whole.digits ++ l) fraction.text) in
+    (whole.text ∙ ap (λ l. digits_text s (separated_at s whole.chosen) whole.digits ++ l) fraction.is) in
     let strict = numeral_if_uniform s c.requires.readable c.args.text.now w whole.chosen digits text in
     let n = length whole.digits in
     let begun = subst (λ k. Collects g.D.DigitStore.L k c.begin.new.self []) (sym whole.count) c.begin.ensures in

@@ -1,19 +1,16 @@
-use Rattle.std.proofs.Common.{◌≡◌, ◌++◌, sym, ◌∙◌, ap}
-use Rattle.decimal_format.proofs.Scans.{minus_is, plus_is}
+use Rattle.std.proofs.Common.{sym, ◌∙◌}
+use Rattle.fixed_decimal.specs.declared.variations.Sign.TheVariants.{Negative, Positive}
+use Rattle.decimal_format.proofs.Scans.{sign-unique}
 use Rattle.decimal_format.proofs.symbols.DecimalSymbols.split_prefix.Goals as goal
 
 pub returns-in-Some-clause-unique : goal.returns-in-Some-clause-unique
 returns-in-Some-clause-unique c = λ sign rest begins e.
-    let s = c.args.self.now in
-    let minus : c.as_bytes.result.now ≡ s.minus.prefix = c.as_bytes.ensures.value ∙ c.prefix.ensures.value in
-    minus_is s c.requires sign c.args.text.now rest c.in-Some.rest.now begins e
-    (c.in-Some.ensures ∙ ap (λ l. l ++ c.in-Some.rest.now) minus)
+    let minus = rw (c.as_bytes.ensures.value, c.prefix.ensures.value) at c.in-Some.ensures in
+    sign-unique c.args.self.now c.requires Negative sign c.in-Some.rest.now rest (λ none. absurd (cc)) (λ _. begins)
+    (sym minus ∙ e)
 
 pub returns-in-Some-cut-clause-unique : goal.returns-in-Some-cut-clause-unique
 returns-in-Some-cut-clause-unique c = λ sign rest begins e.
-    let s = c.args.self.now in
-    let minus : c.as_bytes.result.now ≡ s.minus.prefix = c.as_bytes.ensures.value ∙ c.prefix.ensures.value in
-    let plus : c.as_bytes-2.result.now ≡ s.plus.prefix = c.as_bytes-2.ensures.value ∙ c.prefix-2.ensures.value in
-    plus_is s c.requires sign c.args.text.now rest c.in-Some-cut.rest.now begins e
-    (λ r h. c.in_default.ensures r (h ∙ ap (λ l. l ++ r) (sym minus)))
-    (c.in-Some-cut.ensures ∙ ap (λ l. l ++ c.in-Some-cut.rest.now) plus)
+    let plus = rw (c.as_bytes-2.ensures.value, c.prefix-2.ensures.value) at c.in-Some-cut.ensures in
+    sign-unique c.args.self.now c.requires Positive sign c.in-Some-cut.rest.now rest (λ none. absurd (cc)) (λ _. begins)
+    (sym plus ∙ e)

@@ -1,13 +1,11 @@
 use Rattle.std.proofs.Common.{◌≡◌, ◌++◌, sym, ◌∙◌, ap, append-nil}
+use Rattle.fixed_decimal.specs.declared.variations.Sign.TheVariants.{None}
 use Rattle.decimal_format.specs.Scanning.{BeginsWithDigit}
 use Rattle.decimal_format.proofs.AsciiDigits.{digit_text-ascii}
 use Rattle.std.proofs.lemmas.List.{append_cancel_right}
 use Rattle.decimal_format.specs.Symbols.{sign_affixes}
-use Rattle.decimal_format.proofs.Scans.{begins-append, none_is}
+use Rattle.decimal_format.proofs.Scans.{begins-append, sign-unique}
 use Rattle.decimal_format.proofs.symbols.DecimalSymbols.split_sign.Goals as goal
-
-pub returns-in-Some-clause-found : goal.returns-in-Some-clause-found
-returns-in-Some-clause-found c = sym (append-nil c.args.text.now)
 
 pub returns-in-Some-clause-unique : goal.returns-in-Some-clause-unique
 returns-in-Some-clause-unique c = λ sign number begins e.
@@ -23,7 +21,10 @@ returns-in-Some-clause-unique c = λ sign number begins e.
           c.in-Some.ensures.1
           ∙ ap (λ l. l ++ following) (sym (digit_text-ascii s d ascii c.in-Some.ensures.0));
     } in
-    none_is s c.requires sign c.args.text.now number first e
+    let suffix = (sign_affixes s sign).suffix in
+    let u = sign-unique s c.requires None sign c.args.text.now (number ++ suffix) (λ _. first)
+    (λ _. begins-append s number suffix begins) e in
+    (u.0, u.1 ∙ ap (λ x. number ++ (sign_affixes s x).suffix) (sym u.0) ∙ append-nil number)
 
 pub returns-clause-unique : goal.returns-clause-unique
 returns-clause-unique c = λ sign number begins e.
