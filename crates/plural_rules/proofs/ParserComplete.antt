@@ -36,13 +36,12 @@ digit_is c h = grind (arith, nat_tests)
 pub digit_is_no_blank : (c : ℕ) → is_ascii_digit c ≡ true → is_blank c ≡ false
 digit_is_no_blank c h = grind (arith, nat_tests)
 
--- digits after a number do not make it smaller
-pub grows : (from : ℕ) (ds : List ℕ) → from ≤ digits_value_after 10 from ds
-grows from [] = omega arith
-grows from (d ∷ ds) =
-    let more : from * 10 + digit_value d ≤ digits_value_after 10 (from * 10 + digit_value d) ds =
-    grows (from * 10 + digit_value d) ds in
-    omega arith
+-- digits after a greater number make a greater one
+pub grows : (more from sum : ℕ) (ds : List ℕ) → more + from ≤ sum
+    → more + digits_value_after 10 from ds ≤ digits_value_after 10 sum ds
+grows more from sum [] h = h
+grows more from sum (d ∷ ds) h =
+    grows more (from * 10 + digit_value d) (sum * 10 + digit_value d) ds (omega arith)
 
 -- a digit leads from this state to itself
 abbrev pub Counts : State → Type 0
@@ -220,7 +219,7 @@ module _ (strict : Bool) where
   first_may : (b : Bool) (from : ℕ) (ds : List ℕ) → (strict ≡ true → digits_value_after 10 from ds ≤ limit b)
       → strict ≡ true → from ≤ limit b
   first_may b from ds may e =
-      let least : from ≤ digits_value_after 10 from ds = grows from ds in
+      let least : from + digits_value_after 10 0 ds ≤ digits_value_after 10 from ds = grows from 0 from ds (omega arith) in
       let most : digits_value_after 10 from ds ≤ limit b = may e in
       omega arith
 
