@@ -27,66 +27,54 @@ use Rattle.plural_rules.proofs.ParserComplete.{IsNewCategory, AreNewCategories, 
 
 -- ---- What may follow each form, by what it makes of the form before it.
 
+-- a form, and what follows it
+abbrev pub Then : {X : Type 0} → (List ℕ → X → List ℕ → Type 0) → (List ℕ → Type 0) → List ℕ → Type 0
+Then {X} R Q text = (x : X) × (rest : List ℕ) × R text x rest × Q rest
+
+-- what makes this of a form before it
+abbrev pub Completes : {X : Type 0} → (List ℕ → X → List ℕ → Type 0) → (List ℕ → Type 0) → List ℕ → Type 0
+Completes {X} R Q rest = (text : List ℕ) (x : X) → R text x rest → Q text
+
+abbrev pub Ruled : Categories → List ℕ → Type 0
+Ruled seen text = (rules : List RuleValue) × g.RuleList text rules × AreNewCategories seen rules
+
 -- after a rule: nothing, or further rules
 pub data AfterRule (seen : Categories) : List ℕ → Type 0 where
   ended : AfterRule seen []
-  further :
-      {text suffix : List ℕ} {more : List RuleValue} → g.Token (codes ";") text suffix → g.RuleList suffix more
-      → AreNewCategories seen more → AfterRule seen text
+  further : {text suffix : List ℕ} → g.Token (codes ";") text suffix → Ruled seen suffix → AfterRule seen text
 
 -- after a condition: samples, and what follows a rule
 abbrev pub AfterCondition : Categories → List ℕ → Type 0
 AfterCondition seen text = (rest : List ℕ) × g.Samples text rest × AfterRule seen rest
 
--- a condition, and what follows it
-abbrev pub Conditioned : Categories → List ℕ → Type 0
-Conditioned seen text =
-    (all : List (List RelationValue)) × (rest : List ℕ) × g.Condition text all rest × AfterCondition seen rest
-
 -- relations, and what makes them a condition
 abbrev pub Conjoined : Categories → List ℕ → Type 0
-Conjoined seen text =
-    (rs : List RelationValue) × (rest : List ℕ) × g.AndCondition text rs rest
-    × ((begin : List ℕ) (rs : List RelationValue) → g.AndCondition begin rs rest → Conditioned seen begin)
+Conjoined seen = Then g.AndCondition (Completes g.AndCondition (Then g.Condition (AfterCondition seen)))
 
--- ranges, and what makes them and what precedes them relations
+-- ranges, and what makes relations of them and what precedes them
 abbrev pub Listed : Categories → List ℕ → Type 0
-Listed seen text =
-    (ranges : List Range) × (rest : List ℕ) × g.RangeList text ranges rest
-    × ((begin : List ℕ) (r : RelationValue) → g.Related begin r rest → Conjoined seen begin)
+Listed seen = Then g.RangeList (Completes g.Related (Conjoined seen))
 
--- what makes a range before it ranges
 abbrev pub AfterRange : Categories → List ℕ → Type 0
-AfterRange seen rest = (begin : List ℕ) (range : Range) → g.Numbers begin range rest → Listed seen begin
+AfterRange seen = Completes g.Numbers (Listed seen)
 
--- what makes a number before it ranges
+-- what follows the first number of a range
 abbrev pub LowEnds : Categories → List ℕ → Type 0
-LowEnds seen rest = (begin : List ℕ) (n : ℕ) → g.Number begin n rest → Listed seen begin
-
--- the second number of a range, and what follows it
-abbrev pub HighFrom : Categories → List ℕ → Type 0
-HighFrom seen text = (n : ℕ) × (rest : List ℕ) × g.Number text n rest × AfterRange seen rest
+LowEnds seen = Completes g.Number (Listed seen)
 
 -- a comparison, and ranges
 abbrev pub Compared : Categories → List ℕ → Type 0
-Compared seen text = (is_equal : Bool) × (suffix : List ℕ) × g.Comparison text is_equal suffix × Listed seen suffix
+Compared seen = Then g.Comparison (Listed seen)
 
--- a nonzero modulus, and a comparison
+-- a modulus, and a comparison
 abbrev pub ModulusFrom : Categories → List ℕ → Type 0
-ModulusFrom seen text = (n : ℕ) × (rest : List ℕ) × g.Number text n rest × (0 < n) × Compared seen rest
-
--- an optional modulus, and a comparison
-abbrev pub Divided : Categories → List ℕ → Type 0
-Divided seen text = (m : Option ℕ) × (rest : List ℕ) × g.Divided text m rest × Compared seen rest
+ModulusFrom seen = Then (λ text n rest. g.Number text n rest × (0 < n)) (Compared seen)
 
 -- what makes a category and a colon before it a rule
 abbrev pub AfterColon : PluralCategory → Categories → List ℕ → Type 0
 AfterColon k seen text =
     (begin colon : List ℕ) → g.Token (name_of k) begin colon → g.Token (codes ":") colon text
-    → (all : List (List RelationValue)) × (rest : List ℕ) × g.SingleRule begin (rule k all) rest × AfterRule seen rest
-
-abbrev pub Ruled : Categories → List ℕ → Type 0
-Ruled seen text = (rules : List RuleValue) × g.RuleList text rules × AreNewCategories seen rules
+    → Then (λ begin all rest. g.SingleRule begin (rule k all) rest) (AfterRule seen) begin
 
 -- ---- The form of a text that is accepted from a state.
 
@@ -119,7 +107,7 @@ At seen (state.Letters k n) text =
     Spelled (drop n (name_of k)) (Named k seen) text
 At seen state.OtherCondition text = Spelled [] (AfterColon category.Other seen) text
 At seen state.Operand text = Spelled [] (Conjoined seen) text
-At seen state.Percent text = Spelled [] (Divided seen) text
+At seen state.Percent text = Spelled [] (Then g.Divided (Compared seen)) text
 At seen state.Modulus text = Spelled [] (ModulusFrom seen) text
 At seen state.Zeros text = ModulusFrom seen text
 At seen state.ModulusDigits text = AtDigits (Compared seen) text
@@ -128,8 +116,8 @@ At seen state.NotEqual text = Spelled (codes "=") (Listed seen) text
 At seen state.Low text = Spelled [] (Listed seen) text
 At seen state.LowDigits text = AtDigits (LowEnds seen) text
 At seen state.AfterLow text = Spelled [] (LowEnds seen) text
-At seen state.Dot text = Spelled (codes ".") (HighFrom seen) text
-At seen state.High text = Spelled [] (HighFrom seen) text
+At seen state.Dot text = Spelled (codes ".") (Then g.Number (AfterRange seen)) text
+At seen state.High text = Spelled [] (Then g.Number (AfterRange seen)) text
 At seen state.HighDigits text = AtDigits (AfterRange seen) text
 At seen state.AfterHigh text = Spelled [] (AfterRange seen) text
 At seen state.And text = Joined (codes "nd") seen text
@@ -197,13 +185,7 @@ no_digits {text = text} no_digit i = (i.0, none i.1, i.2)
 
 -- a category that is new after another one was new before it, and is a different one
 older : (seen : Categories) (c d : PluralCategory) → has (with seen c) d ≡ false → (has seen d ≡ false) × (d ≢ c)
-older seen category.Zero category.Zero h = absurd (false≢true (sym h))
-older seen category.One category.One h = absurd (false≢true (sym h))
-older seen category.Two category.Two h = absurd (false≢true (sym h))
-older seen category.Few category.Few h = absurd (false≢true (sym h))
-older seen category.Many category.Many h = absurd (false≢true (sym h))
-older seen category.Other category.Other h = absurd (false≢true (sym h))
-older seen c d h = (h, λ e. cc)
+older seen c d h = grind arith
 
 fresh_before : (seen : Categories) (k : PluralCategory) (rs : List RuleValue)
     → AllByRecursion (λ r. IsNewCategory (with seen k) r.category) rs
@@ -224,9 +206,10 @@ rule_found {k} {seen} {text} new i =
     go : (all : List (List RelationValue)) (rest : List ℕ) → g.SingleRule text (rule k all) rest
         → AfterRule (with seen k) rest → Ruled seen text
     go all [] one ended = (rule k all ∷ [], g.last one, ((new, tt), (tt, tt)))
-    go all rest one (further {more = more} tok others later) =
-        let fresh = fresh_before seen k more later.0 in
-        (rule k all ∷ more, g.semicolon one tok others, ((new, fresh.0), (fresh.1, later.1)))
+    go all rest one (further tok others) =
+        let later = others.2 in
+        let fresh = fresh_before seen k others.0 later.0 in
+        (rule k all ∷ others.0, g.semicolon one tok others.1, ((new, fresh.0), (fresh.1, later.1)))
 
 -- a condition after a colon
 conditioned : {k : PluralCategory} {seen : Categories} {text : List ℕ} → Conjoined seen text → AfterColon k seen text
@@ -246,21 +229,15 @@ no_condition i begin colon name after_name = ([], i.0, g.other name after_name i
 
 -- ---- The end of a form.
 
-last_alternative : {seen : Categories} {rest : List ℕ} → AfterCondition seen rest → (begin : List ℕ)
-    (rs : List RelationValue) → g.AndCondition begin rs rest → Conditioned seen begin
-last_alternative {rest = rest} i begin rs one = (rs ∷ [], rest, g.Condition.one one, i)
+last_range : {seen : Categories} {rest : List ℕ} → Completes g.Related (Conjoined seen) rest → AfterRange seen rest
+last_range i text range one = (range ∷ [], _, g.RangeList.one one, i)
 
-last_relation : {seen : Categories} {rest : List ℕ} → ((begin : List ℕ) (rs : List RelationValue)
-    → g.AndCondition begin rs rest → Conditioned seen begin) → (begin : List ℕ) (r : RelationValue)
-    → g.Related begin r rest → Conjoined seen begin
-last_relation {rest = rest} i begin r one = (r ∷ [], rest, g.AndCondition.one one, i)
-
-last_range : {seen : Categories} {rest : List ℕ} → ((begin : List ℕ) (r : RelationValue) → g.Related begin r rest
-    → Conjoined seen begin) → AfterRange seen rest
-last_range {rest = rest} i begin range one = (range ∷ [], rest, g.RangeList.one one, i)
+last_relation : {seen : Categories} {rest : List ℕ}
+    → Completes g.AndCondition (Then g.Condition (AfterCondition seen)) rest → AfterRange seen rest
+last_relation i = last_range (λ text r one. (r ∷ [], _, g.AndCondition.one one, i))
 
 condition_ends : {seen : Categories} {rest : List ℕ} → AfterCondition seen rest → AfterRange seen rest
-condition_ends i = last_range (last_relation (last_alternative i))
+condition_ends i = last_relation (λ text rs one. (rs ∷ [], _, g.Condition.one one, i))
 
 single : {seen : Categories} {rest : List ℕ} → AfterRange seen rest → LowEnds seen rest
 single i begin n one = i begin _ (g.single one)
@@ -286,6 +263,12 @@ module _ (meaning : List RuleValue) (c : ℕ) (t : List ℕ)
   on_if true y z here other h = here refl h
   on_if false y z here other h = other refl h
 
+  -- by a test, whose transition is to a state
+  on_test : {Q : Type 0} (b : Bool) (s : State) (e : Event) (z : Transition)
+      → (b ≡ true → At (after e p).seen s t → Q) → (b ≡ false → ReadsAfter z → Q)
+      → ReadsAfter (cond b (Some (s, e)) z) → Q
+  on_test b s e z here = on_if b (Some (s, e)) z (λ is h. here is (moved e s h))
+
   -- at this byte, or at any other
   at_byte : (Q : List ℕ → Type 0) (k : ℕ) (y z : Transition) → (ReadsAfter y → Q (k ∷ t)) → (ReadsAfter z → Q (c ∷ t))
       → ReadsAfter (cond (c == k) y z) → Q (c ∷ t)
@@ -301,29 +284,21 @@ module _ (meaning : List RuleValue) (c : ℕ) (t : List ℕ)
   on_skip : (Q : List ℕ → Type 0) (s : State) (z : Transition) → (At p.seen s t → Spelled [] Q t)
       → (ReadsAfter z → Q (c ∷ t)) → ReadsAfter (reader.skip s c z) → Spelled [] Q (c ∷ t)
   on_skip Q s z same other =
-      on_if (is_blank c) _ _ (λ b h. let i = same (moved event.Nothing s h) in (i.0, one_blank b i.1, i.2))
+      on_test (is_blank c) s event.Nothing z (λ b i. let j = same i in (j.0, one_blank b j.1, j.2))
       (λ b h. no_blank (other h))
-
-  on_first : {Q : Type 0} (s : State) → (is_ascii_digit c ≡ true → At p.seen s t → Q) → ReadsAfter (reader.first c s)
-      → Q
-  on_first s here = on_if (is_ascii_digit c) _ _ (λ d h. here d (moved (event.First (c - 48)) s h)) (λ d. stops)
-
-  on_digit : {Q : Type 0} (s : State) (z : Transition) → (is_ascii_digit c ≡ true → At p.seen s t → Q)
-      → (is_ascii_digit c ≡ false → ReadsAfter z → Q) → ReadsAfter (reader.digit c s z) → Q
-  on_digit s z here = on_if (is_ascii_digit c) _ _ (λ d h. here d (moved (event.Digit (c - 48)) s h))
 
   on_digits : (Q : List ℕ → Type 0) (s : State) (z : Transition) → (At p.seen s t → AtDigits Q t)
       → (ReadsAfter z → Spelled [] Q (c ∷ t)) → ReadsAfter (reader.digit c s z) → AtDigits Q (c ∷ t)
   on_digits Q s z same other =
-      on_digit s z (λ d i. let j = same i in (j.0, more_digits d j.1, j.2)) (λ d h. no_digits d (other h))
+      on_test (is_ascii_digit c) s (event.Digit (c - 48)) z
+      (λ d i. let j = same i in (j.0, more_digits d j.1, j.2)) (λ d h. no_digits d (other h))
 
   -- another rule, after a semicolon
   another : (e : Event) → (after e p).seen ≡ p.seen
       → ReadsAfter (cond (is_full p.seen) None (Some (state.Category, e))) → AfterRule p.seen (59 ∷ t)
   another e same = on_if (is_full p.seen) _ _ (λ full. stops) (λ full h.
       let i : At p.seen state.Category t = rw same at (moved e state.Category h) in
-      let r = i.2 in
-      further (one_letter i.1) r.1 r.2)
+      further (one_letter i.1) i.2)
 
   -- a rule ends, and samples or another rule follow
   ends : (e : Event) → (after e p).seen ≡ p.seen → ReadsAfter (reader.rule_end p.seen c e)
@@ -338,14 +313,15 @@ module _ (meaning : List RuleValue) (c : ℕ) (t : List ℕ)
   follows : ReadsAfter (follows_range p.seen c) → AfterRange p.seen (c ∷ t)
   follows =
       on_byte (AfterRange p.seen) 44 state.Low event.Comma _
-      (λ i begin range one. let list = i.2 in (range ∷ list.0, list.1, g.comma one (one_letter i.1) list.2, list.3))
+      (λ i text range one. let list = i.2 in (range ∷ list.0, list.1, g.comma one (one_letter i.1) list.2, list.3))
       (on_byte (AfterRange p.seen) 97 state.And event.And _ (λ i.
       let list = i.2 in
-      last_range (λ begin r one. (r ∷ list.0, list.1, g.and one (one_joined i.1) list.2, list.3)))
+      last_range (λ text r one. (r ∷ list.0, list.1, g.and one (one_joined i.1) list.2, list.3)))
       (on_byte (AfterRange p.seen) 111 state.OrEnd event.Or _ (λ i.
       let list = i.2 in
       let all = list.3 i.0 list.0 list.2 in
-      last_range (last_relation (λ begin rs one. (rs ∷ all.0, all.1, g.or one (one_joined i.1) all.2, all.3))))
+      last_relation (λ text rs one.
+      (rs ∷ all.0, all.1, g.or one (one_joined i.1) all.2, all.3)))
       (λ h. condition_ends (ends event.End refl h))))
 
   after_low : ReadsAfter (reader.after_low p.seen c) → Spelled [] (LowEnds p.seen) (c ∷ t)
@@ -374,11 +350,14 @@ module _ (meaning : List RuleValue) (c : ℕ) (t : List ℕ)
     where
       go : (b : Bool) → (c == 48) ≡ b → At p.seen (cond b state.Zeros state.ModulusDigits) t
           → ModulusFrom p.seen (c ∷ t)
-      go true is i = let n = one_digit is_digit i.2 in (n.0, i.1, n.1, omega arith, i.4)
+      go true is i =
+          let modulus = i.2 in
+          let n = one_digit is_digit modulus.0 in
+          (n.0, i.1, (n.1, omega (arith, modulus.1)), i.3)
       go false is i =
           let n = i.1 c is_digit in
           let some : 0 < c - 48 = grind (arith, nat_tests) in
-          (n.0, i.0, n.1, omega arith, i.2)
+          (n.0, i.0, (n.1, omega arith), i.2)
 
   -- an operand starts here, with this letter or another one
   relation_here : (o : Operand) {text : List ℕ} → ((rest : List ℕ) → g.Token [] t rest → g.Letter text o rest)
@@ -455,31 +434,32 @@ module _ (meaning : List RuleValue) (c : ℕ) (t : List ℕ)
       (λ begins h. conditioned (operand_here h))) h
   one_byte state.Operand h = on_skip (Conjoined p.seen) state.Operand _ (λ i. i) operand_here h
   one_byte state.Percent h =
-      on_skip (Divided p.seen) state.Percent _ (λ i. i)
-      (on_byte (Divided p.seen) 37 state.Modulus event.Percent _
-      (λ i. let m = i.2 in (Some m.0, m.1, g.divided (one_letter i.1) m.2 m.3, m.4))
+      on_skip (Then g.Divided (Compared p.seen)) state.Percent _ (λ i. i)
+      (on_byte (Then g.Divided (Compared p.seen)) 37 state.Modulus event.Percent _
+      (λ i. let m = i.2 in let n = m.2 in (Some m.0, m.1, g.divided (one_letter i.1) n.0 n.1, m.3))
       (λ h. (None, c ∷ t, g.undivided, compares h))) h
   one_byte state.Modulus h =
-      on_skip (ModulusFrom p.seen) state.Modulus _ (λ i. i) (on_first (modulus_state c) modulus_from) h
-  one_byte state.Zeros h = on_digit (modulus_state c) _ modulus_from (λ none. stops) h
+      on_skip (ModulusFrom p.seen) state.Modulus _ (λ i. i) (on_test _ (modulus_state c) _ _ modulus_from (λ none. stops)) h
+  one_byte state.Zeros h = on_test _ (modulus_state c) _ _ modulus_from (λ none. stops) h
   one_byte state.ModulusDigits h = on_digits (Compared p.seen) state.ModulusDigits _ (λ i. i) comparison_here h
   one_byte state.Comparison h = comparison_here h
   one_byte state.NotEqual h = on_byte (At p.seen state.NotEqual) 61 state.Low (event.Equal false) _ spell stops h
   one_byte state.Low h =
-      on_skip (Listed p.seen) state.Low _ (λ i. i) (on_first state.LowDigits (λ d i. i.2 _ _ (i.1 c d).1)) h
+      on_skip (Listed p.seen) state.Low _ (λ i. i) 
+      (on_test _ state.LowDigits _ _ (λ d i. i.2 _ _ (i.1 c d).1) (λ none. stops)) h
   one_byte state.LowDigits h = on_digits (LowEnds p.seen) state.LowDigits _ (λ i. i) after_low h
   one_byte state.AfterLow h = after_low h
   one_byte state.Dot h = on_byte (At p.seen state.Dot) 46 state.High event.To _ spell stops h
   one_byte state.High h =
-      on_skip (HighFrom p.seen) state.High _ (λ i. i)
-      (on_first state.HighDigits (λ d i. let n = i.1 c d in (n.0, i.0, n.1, i.2))) h
+      on_skip (Then g.Number (AfterRange p.seen)) state.High _ (λ i. i)
+      (on_test _ state.HighDigits _ _ (λ d i. let n = i.1 c d in (n.0, i.0, n.1, i.2)) (λ none. stops)) h
   one_byte state.HighDigits h = on_digits (AfterRange p.seen) state.HighDigits _ (λ i. i) after_high h
   one_byte state.AfterHigh h = after_high h
   one_byte state.And h = on_byte (At p.seen state.And) 110 state.AndEnd event.Nothing _ join stops h
   one_byte state.AndEnd h = on_byte (At p.seen state.AndEnd) 100 state.Blank event.Nothing _ join stops h
   one_byte state.OrEnd h = on_byte (At p.seen state.OrEnd) 114 state.Blank event.Nothing _ join stops h
-  one_byte state.Blank h = on_if (is_blank c) _ _
-      (λ b h. let i = moved event.Nothing state.Operand h in (i.0, blank_joined b i.1, i.2)) (λ none. stops) h
+  one_byte state.Blank h =
+      on_test (is_blank c) state.Operand _ _ (λ b i. (i.0, blank_joined b i.1, i.2)) (λ none. stops) h
   one_byte state.Samples h = on_if (c == 59) _ _
       (λ is h. rw (eqb-true c 59 is) ([], 59 ∷ t, refl, tt, another event.Nothing refl h))
       (λ is h. let i = moved event.Nothing state.Samples h in (c ∷ i.0, i.1, ap (λ x. c ∷ x) i.2, (is, i.3), i.4)) h
