@@ -55,12 +55,7 @@ checked_first text = record {
 
 -- an event changes the categories of the reader and those of the rules in the same way
 seen_after_is : (e : Event) (p : Partial) → (after e p).seen ≡ seen_after e p.seen
-seen_after_is event.Nothing p = refl
-seen_after_is e p = refl
-
-not_true : (b : Bool) → not b ≡ true → b ≡ false
-not_true true h = absurd (false≢true h)
-not_true false h = refl
+seen_after_is e p = grind arith
 
 digit_more :
     (text : List ℕ) (begin i : ℕ) → AreDigits text begin i → is_ascii_digit (get_or text i 0) ≡ true
@@ -72,16 +67,10 @@ digit_more text begin i before is j from less = elim (cases_lt j i) [
 
 -- an event other than a digit does not lead to a state within a number
 no_digits : (t : State) (d : Bool) → cond (starts_number t) (not d) (not (is_digits t)) ≡ true → is_digits t ≡ true → ⊥
-no_digits state.Zeros d h i = false≢true h
-no_digits state.ModulusDigits d h i = false≢true h
-no_digits state.LowDigits d h i = false≢true h
-no_digits state.HighDigits d h i = false≢true h
-no_digits t d h i = false≢true i
+no_digits t d h i = grind arith
 
 front_more : (e : Event) (s t : State) (d : Bool) → is_valid s e t d ≡ true → starts_number t ≡ true → d ≡ false
-front_more (event.First n) s t d h i = absurd (false≢true (rw i at (and_parts (not (starts_number t)) _ h).0))
-front_more (event.Digit n) s t d h i = absurd (false≢true (rw i at (and_parts (not (starts_number t)) _ h).0))
-front_more e s t d h i = not_true d (rw i at h)
+front_more e s t d h i = grind arith
 
 -- one more byte
 module _ (text : List ℕ) (i : ℕ) (s : State) (p : Partial) (s2 : State) (less : i < length text)

@@ -162,7 +162,7 @@ Rest = Option (List RuleValue)
 
 module _ (strict : Bool) where
   -- one step
-  step : (s : State) (p : Partial) (c : ℕ) (text : List ℕ) (s2 : State) (e : Event)
+  pub step : (s : State) (p : Partial) (c : ℕ) (text : List ℕ) (s2 : State) (e : Event)
       → next p.seen s c ≡ Some (s2, e) → allowed strict e p ≡ true
       → read strict s p (c ∷ text) ≡ read strict s2 (after e p) text
   step s p c text s2 e h a = ap finish (transitions strict (next p.seen s c) s2 e p (λ s q. run strict s q text) h a)
@@ -446,9 +446,7 @@ module _ (strict : Bool) where
   name_read :
       (c : PluralCategory) (p : Partial) → IsNewCategory p.seen c → (suffix : List ℕ)
       → read strict state.Category p (name_of c ++ suffix) ≡ read strict (colon c) p suffix
-  name_read category.Other p h suffix =
-      let both : (p.seen.one && p.seen.other) ≡ false = grind (arith, h) in rw (both, h) refl
-  name_read c p h suffix = rw h refl
+  name_read c p h suffix = grind (arith, h)
 
   category_read :
       {text colon_text suffix : List ℕ} → (c : PluralCategory) → g.Token (name_of c) text colon_text

@@ -85,8 +85,7 @@ transitions strict m s2 e p go h a =
 -- ---- Rules that the strict reader accepts fit, and are those of the other one.
 
 pub any_allowed : (e : Event) (p : Partial) → allowed false e p ≡ true
-any_allowed (event.First d) p = refl
-any_allowed e p = refl
+any_allowed e p = grind arith
 
 was_allowed : (a : Bool) (y : Reached) (x : State × Partial) → cond a y None ≡ Some x → (a ≡ true) × (y ≡ Some x)
 was_allowed true y x h = (refl, h)
@@ -186,13 +185,7 @@ reached_strictly text s p h =
 -- a property of each of the three events at the end of a text
 pub at_end_all : (P : Event → Type 0) → P event.EndOther → P event.End → P event.Nothing → (s : State) (e : Event)
     → at_end s ≡ Some e → P e
-at_end_all P o d n state.OtherCondition e h = let same : event.EndOther ≡ e = cc in rw (← same) o
-at_end_all P o d n state.LowDigits e h = let same : event.End ≡ e = cc in rw (← same) d
-at_end_all P o d n state.AfterLow e h = let same : event.End ≡ e = cc in rw (← same) d
-at_end_all P o d n state.HighDigits e h = let same : event.End ≡ e = cc in rw (← same) d
-at_end_all P o d n state.AfterHigh e h = let same : event.End ≡ e = cc in rw (← same) d
-at_end_all P o d n state.Samples e h = let same : event.Nothing ≡ e = cc in rw (← same) n
-at_end_all P o d n s e h = absurd (cc)
+at_end_all P o d n s e h = grind arith
 
 -- rules that the strict reader accepts fit, and are those of the other one
 pub read_fits : (text : List ℕ) (rules : List RuleValue) → read true state.Category no_rules text ≡ Some rules
