@@ -26,14 +26,11 @@ module _ (i : ℕ) {text : List ℕ} {rules : List RuleValue} (grammar : Grammar
       (λ e. fits)
 
   pub transition_exists : i < length text → next p.seen s (get_or text i 0) ≡ None → ⊥
-  transition_exists less none =
-      never_stops (run_more true text i s p less runs ∙ ap (λ m. apply_transition true m p (λ s q. Some (s, q))) none)
+  transition_exists less none = never_stops (run_more true text i s p less runs none)
 
   pub continues : (s2 : State) (e : Event) → i < length text → next p.seen s (get_or text i 0) ≡ Some (s2, e)
       → (allowed true e p ≡ true) × (run true state.Category no_rules (take (i + 1) text) ≡ Some (s2, after e p))
-  continues s2 e less to =
-      go (allowed true e p)
-      refl (run_more true text i s p less runs ∙ ap (λ m. apply_transition true m p (λ s q. Some (s, q))) to)
+  continues s2 e less to = go (allowed true e p) refl (run_more true text i s p less runs to)
     where
       go : (b : Bool) → allowed true e p ≡ b
           → run true state.Category no_rules (take (i + 1) text) ≡ cond b (Some (s2, after e p)) None

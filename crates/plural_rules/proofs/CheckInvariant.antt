@@ -78,9 +78,7 @@ module _ (text : List ℕ) (i : ℕ) (s : State) (p : Partial) (s2 : State) (les
   run_on : (e : Event) → next p.seen s (get_or text i 0) ≡ Some (s2, e) → allowed true e p ≡ true
       → run true state.Category no_rules (take i text) ≡ Some (s, p)
       → run true state.Category no_rules (take (i + 1) text) ≡ Some (s2, after e p)
-  run_on e to may runs =
-      run_more true text i s p less runs
-      ∙ transitions true (next p.seen s (get_or text i 0)) s2 e p (λ s q. Some (s, q)) to may
+  run_on e to may runs = run_more true text i s p less runs to ∙ ap (λ b. cond b (Some (s2, after e p)) None) may
 
   apart : (e : Event) → next p.seen s (get_or text i 0) ≡ Some (s2, e)
       → is_valid s e s2 (is_ascii_digit (get_or text i 0))
@@ -101,8 +99,7 @@ module _ (text : List ℕ) (i : ℕ) (s : State) (p : Partial) (s2 : State) (les
       more : run true state.Category no_rules (take (i + 1) text)
           ≡ cond (nat_le n (limit is_modulus)) (Some (s2, after e p)) None
       more =
-          run_more true text i s p less runs ∙ ap (λ m. apply_transition true m p (λ s q. Some (s, q))) to
-          ∙ ap (λ b. cond b (Some (s2, after e p)) None) may
+          run_more true text i s p less runs to ∙ ap (λ b. cond b (Some (s2, after e p)) None) may
 
       go : (b : Bool) → nat_le n (limit is_modulus) ≡ b
           → NumbersAre text (i + 1) s2 (after e p) (cond b (Fit n is_modulus begin) (TooLarge begin))
@@ -160,8 +157,8 @@ checked_more {text} {i} {s} {seen} {numbers} s2 e less h to =
     record {
       p = after e h.p;
       runs =
-          run_more false text i s h.p less h.runs
-          ∙ transitions false (next h.p.seen s (get_or text i 0)) s2 e h.p (λ s q. Some (s, q)) to2 (any_allowed e h.p);
+          run_more false text i s h.p less h.runs to2
+          ∙ ap (λ b. cond b (Some (s2, after e h.p)) None) (any_allowed e h.p);
       seen_is = seen_after_is e h.p ∙ ap (seen_after e) h.seen_is;
       opens = ap (λ x. is_open x s2) (seen_after_is e h.p) ∙ so.1 h.opens;
       front = λ starts some.

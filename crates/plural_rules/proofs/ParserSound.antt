@@ -397,36 +397,29 @@ module _ (meaning : List RuleValue) (c : ℕ) (t : List ℕ)
       let none : drop n (name_of k) ≡ [] = drop_all n (name_of k) least in
       rw none (on_skip (Named k p.seen) (state.Letters k n) _ (λ i. rw none at i)
       (on_byte (Named k p.seen) 58 (condition_of k) (event.Category k) _ (λ i. spell (condition_here k i)) stops) h))
-  -- the first letter of a category that is new
-  first_letter : (k : PluralCategory) {letter : ℕ} → letter ∷ drop 1 (name_of k) ≡ name_of k
-      → ReadsAfter (reader.new_category p.seen k) → Ruled p.seen (letter ∷ t)
-  first_letter k {letter} spelled = on_if (has p.seen k) _ _ (λ old. stops) (λ new h.
-      let i : Spelled (letter ∷ drop 1 (name_of k)) (Named k p.seen) (letter ∷ t) =
-      spell (moved event.Nothing (state.Letters k 1) h) in
-      rule_found new (rw spelled at i))
+  -- the first letters of a category that is new
+  new_letters : (k : PluralCategory) (n : ℕ) → ReadsAfter (cond (has p.seen k) None (Some (state.Letters k n, event.Nothing)))
+      → IsNewCategory p.seen k × At p.seen (state.Letters k n) t
+  new_letters k n = on_if (has p.seen k) _ _ (λ old. stops) (λ new h. (new, moved event.Nothing (state.Letters k n) h))
 
   category_here : ReadsAfter (reader.category_letter p.seen c) → Ruled p.seen (c ∷ t)
   category_here =
-      at_byte (Ruled p.seen) 122 _ _ (first_letter category.Zero refl)
+      at_byte (Ruled p.seen) 122 _ _ (λ h. let i = new_letters category.Zero 1 h in rule_found i.0 (spell i.1))
       (at_byte (Ruled p.seen) 111 _ _
       (on_if (p.seen.one && p.seen.other) _ _ (λ both. stops)
       (λ some h. let i = moved event.Nothing state.One h in rule_found i.1 i.2))
-      (at_byte (Ruled p.seen) 116 _ _ (first_letter category.Two refl)
-      (at_byte (Ruled p.seen) 102 _ _ (first_letter category.Few refl)
-      (at_byte (Ruled p.seen) 109 _ _ (first_letter category.Many refl) stops))))
-
-  second_letter : (k : PluralCategory) → ReadsAfter (cond (has p.seen k) None (Some (state.Letters k 2, event.Nothing)))
-      → {letter : ℕ} → 111 ∷ letter ∷ drop 2 (name_of k) ≡ name_of k → At p.seen state.One (letter ∷ t)
-  second_letter k h {letter} spelled = on_if (has p.seen k) _ _ (λ old. stops) (λ new h.
-      let i : Spelled (111 ∷ letter ∷ drop 2 (name_of k)) (Named k p.seen)
-      (111 ∷ letter ∷ t) = spell (spell (moved event.Nothing (state.Letters k 2) h)) in
-      (k, new, rw spelled at i)) h
+      (at_byte (Ruled p.seen) 116 _ _ (λ h. let i = new_letters category.Two 1 h in rule_found i.0 (spell i.1))
+      (at_byte (Ruled p.seen) 102 _ _ (λ h. let i = new_letters category.Few 1 h in rule_found i.0 (spell i.1))
+      (at_byte (Ruled p.seen) 109 _ _ (λ h. let i = new_letters category.Many 1 h in rule_found i.0 (spell i.1))
+      stops))))
 
   one_byte : (s : State) → ReadsAfter (next p.seen s c) → At p.seen s (c ∷ t)
   one_byte state.Category h = on_skip (Ruled p.seen) state.Category _ (λ i. i) category_here h
   one_byte state.One h =
-      at_byte (At p.seen state.One) 110 _ _ (λ h. second_letter category.One h refl)
-      (at_byte (At p.seen state.One) 116 _ _ (λ h. second_letter category.Other h refl) stops) h
+      at_byte (At p.seen state.One) 110 _ _
+      (λ h. let i = new_letters category.One 2 h in (category.One, i.0, spell (spell i.1)))
+      (at_byte (At p.seen state.One) 116 _ _
+      (λ h. let i = new_letters category.Other 2 h in (category.Other, i.0, spell (spell i.1))) stops) h
   one_byte (state.Letters k n) h = letters_here k n h
   one_byte state.OtherCondition h =
       on_skip (AfterColon category.Other p.seen) state.OtherCondition _ (λ i. i)

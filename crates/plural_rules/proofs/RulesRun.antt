@@ -65,15 +65,15 @@ run_append strict (c ∷ text) more s p = go (run_append strict text more) (next
     go ih None = refl
     go ih (Some move) = bind_cond (allowed strict move.1 p) _ _ _ (ih move.0 (after move.1 p))
 
--- one more byte
-pub run_more : (strict : Bool) (text : List ℕ) (i : ℕ) (s : State) (p : Partial) → i < length text
-    → run strict state.Category no_rules (take i text) ≡ Some (s, p)
-    → run strict state.Category no_rules (take (i + 1) text)
-    ≡ apply_transition strict (next p.seen s (get_or text i 0)) p (λ s q. Some (s, q))
-run_more strict text i s p less h =
+-- one more byte, and its transition
+pub run_more : (strict : Bool) (text : List ℕ) (i : ℕ) (s : State) (p : Partial) {m : Transition} → i < length text
+    → run strict state.Category no_rules (take i text) ≡ Some (s, p) → next p.seen s (get_or text i 0) ≡ m
+    → run strict state.Category no_rules (take (i + 1) text) ≡ apply_transition strict m p (λ s q. Some (s, q))
+run_more strict text i s p less h to =
     ap (run strict state.Category no_rules) (take_more text i 0 less)
     ∙ run_append strict (take i text) (get_or text i 0 ∷ []) state.Category no_rules
     ∙ ap (λ x. bind x (λ s q. run strict s q (get_or text i 0 ∷ []))) h
+    ∙ ap (λ m. apply_transition strict m p (λ s q. Some (s, q))) to
 
 -- the run continues after an allowed transition
 pub transitions : (strict : Bool) (m : Transition) (s2 : State) (e : Event) (p : Partial) (go : State → Partial
@@ -104,20 +104,16 @@ all_more P [] y h i = (i, tt)
 all_more P (x ∷ xs) y h i = (h.0, all_more P xs y h.1 i)
 
 pub in_64_bits : (b : Bool) (n : ℕ) → n ≤ limit b → n < 2 ^ 64
-in_64_bits true n h = omega arith
-in_64_bits false n h = omega arith
+in_64_bits b n h = grind arith
 
 at_most : (b : Bool) (n : ℕ) → n ≤ limit b → n ≤ limit false
-at_most b n h = let less : n < 2 ^ 64 = in_64_bits b n h in omega arith
+at_most b n h = grind arith
 
 modulus_fits : (b c : Bool) (n : ℕ) → n ≤ limit b → IfSome (cond (b && c) (Some n) None) (λ m. m ≤ 10 ^ 18)
-modulus_fits true true n h = h
-modulus_fits true false n h = tt
-modulus_fits false c n h = tt
+modulus_fits b c n h = grind arith
 
 range_fits : (low : Option ℕ) (n : ℕ) → IfSome low (λ m. m < 2 ^ 64) → n < 2 ^ 64 → RangeFits (range_of low n)
-range_fits None n h i = (i, i)
-range_fits (Some low) n h i = (h, i)
+range_fits low n h i = grind arith
 
 range_ends : (p : Partial) → FitsSoFar p → FitsSoFar (end_range p)
 range_ends p h =

@@ -89,13 +89,11 @@ fewer n j k h e =
 
 -- a factor is above 0
 some : (n c : ℕ) → 0 < n * 10 ^ c → 0 < n
-some zero c h = absurd (omega (arith, h))
-some (suc n) c h = omega arith
+some n c h = grind arith
 
 -- a factor of 0 is 0
 none_left : (a k : ℕ) → 0 < k → a * k ≡ 0 → a ≡ 0
-none_left zero k h e = refl
-none_left (suc a) k h e = absurd (omega (arith, h, e))
+none_left a k h e = grind arith
 
 -- the last digit of a number whose other places are all 0 is at the highest place
 last_top : (n k : ℕ) → k + 1 ≡ 65536 → 0 < n → n % 10 ^ k ≡ 0 → last n ≡ magnitude_at k

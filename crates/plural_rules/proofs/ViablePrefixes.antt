@@ -168,8 +168,7 @@ pub stopped_text :
     → run false state.Category no_rules (take at text) ≡ Some (s, p) → is_open p.seen s ≡ true
     → next p.seen s (get_or text at 0) ≡ None → IsSyntaxErrorAt text at
 stopped_text text at s p less h opens none =
-    let all : run false state.Category no_rules (take (at + 1) text) ≡ None =
-    run_more false text at s p less h ∙ ap (λ m. apply_transition false m p (λ s q. Some (s, q))) none in
+    let all = run_more false text at s p less h none in
     record {
       within = omega arith;
       rejected = λ rules grammar. stopped false (take (at + 1) text) (drop (at + 1) text) rules all
