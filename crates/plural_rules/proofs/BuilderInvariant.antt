@@ -14,7 +14,7 @@ use Rattle.plural_rules.specs.RulesGrammar.{Grammar}
 use Rattle.plural_rules.specs.RulesReader.{no_rules, Partial, after, next, at_end, limit}
 use Rattle.plural_rules.specs.RulesBuilder.{partial, IsSmall}
 use Rattle.plural_rules.specs.RulesParseResult.{Fits}
-use Rattle.plural_rules.proofs.RulesRun.{allowed, apply_transition, run, finish, finished, run_more, FitsSoFar, in_64_bits}
+use Rattle.plural_rules.proofs.RulesRun.{allowed, run, finish, finished, run_more, FitsSoFar, in_64_bits}
 use Rattle.plural_rules.proofs.ParserComplete.{read-complete}
 use Rattle.plural_rules.proofs.ViablePrefixes.{stopped}
 

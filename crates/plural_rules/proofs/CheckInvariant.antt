@@ -15,7 +15,7 @@ use Rattle.plural_rules.specs.RulesGrammar.{Grammar}
 use Rattle.plural_rules.specs.RulesReader.{no_categories, no_rules, Partial, after, seen_after, next, at_end, limit, checked_number, numbers_after, AreNumbersOf}
 use Rattle.plural_rules.specs.RulesParseResult.{IsFittingPrefix, AreDigits, HasNoDigitBefore}
 use Rattle.plural_rules.proofs.Transitions.{is_open, starts_number, is_digits, is_valid, transition_is_valid}
-use Rattle.plural_rules.proofs.RulesRun.{allowed, any_allowed, apply_transition, run, finish, finished, read, run_more, transitions, read_fits}
+use Rattle.plural_rules.proofs.RulesRun.{allowed, any_allowed, run, finish, finished, read, run_more, read_fits}
 use Rattle.plural_rules.proofs.ParserSound.{read-sound}
 use Rattle.plural_rules.proofs.ViablePrefixes.{can_fit, stopped}
 

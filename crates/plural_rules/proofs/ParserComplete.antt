@@ -1,5 +1,5 @@
 -- The reader accepts a text of the grammar, with the meaning by the grammar; if its numbers fit, in strict mode too.
-use Rattle.std.proofs.Common.{◌≡◌, ◌≢◌, ℕ, ◌+◌, ◌-◌, ◌*◌, ◌^◌, ◌<◌, ◌≤◌, ◌==◌, nat_le, nat_lt, Bool, true, false, cond, not, ◌&&◌, ◌||◌, List, [], ◌∷◌, ◌++◌, length, refl, sym, ◌∙◌, ap, arith, append_assoc, eqb-true}
+use Rattle.std.proofs.Common.{◌≡◌, ◌≢◌, ℕ, ◌+◌, ◌-◌, ◌*◌, ◌^◌, ◌<◌, ◌≤◌, ◌==◌, nat_le, nat_lt, Bool, true, false, cond, not, ◌||◌, List, [], ◌∷◌, ◌++◌, length, refl, sym, ◌∙◌, ap, arith, append_assoc}
 use Rattle.std.specs.Prelude.{Option, Some, None, IfSome, codes}
 use Rattle.std.proofs.lemmas.Bool.{and_parts, le-leb}
 use Rattle.std.proofs.lemmas.Bool.Decides.{nat_tests}
@@ -17,11 +17,11 @@ use Rattle.plural_rules.specs.declared.parse.state.State.TheVariants as state
 use Rattle.plural_rules.specs.declared.parse.state.Event.{Event}
 use Rattle.plural_rules.specs.declared.parse.state.Event.TheVariants as event
 use Rattle.plural_rules.specs.declared.parse.state.Categories.{Categories}
-use Rattle.plural_rules.specs.Rules.{name_of, RelationValue, relation, RuleValue, rule}
+use Rattle.plural_rules.specs.Rules.{name_of, RelationValue, RuleValue, rule}
 use Rattle.plural_rules.specs.RulesGrammar as g
 use Rattle.plural_rules.specs.RulesGrammar.{is_blank, operand_word, HasNoLeadingDigit, HasDistinctCategories, Grammar}
 use Rattle.plural_rules.specs.RulesParseResult.{RangeFits, RelationFits, AndConditionFits, RuleFits, Fits}
-use Rattle.plural_rules.specs.RulesReader.{has, with, is_full, no_categories, Partial, no_rules, end_range, end_relation, end_alternative, modulus_of, after, next, follows_range, at_end, condition_of, modulus_state, limit}
+use Rattle.plural_rules.specs.RulesReader.{has, with, is_full, no_categories, Partial, no_rules, end_range, end_relation, end_alternative, modulus_of, after, next, follows_range, at_end, condition_of, limit}
 use Rattle.plural_rules.proofs.RulesRun.{allowed, finish, finished, transitions, run, read}
 
 -- ---- Bytes.

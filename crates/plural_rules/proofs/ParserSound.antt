@@ -1,7 +1,7 @@
 -- A text that the reader accepts is in the grammar: for each state, the form of a text that is accepted from it.
-use Rattle.std.proofs.Common.{◌≡◌, ◌≢◌, ℕ, suc, ◌+◌, ◌-◌, ◌*◌, ◌<◌, ◌≤◌, ◌==◌, nat_lt, Bool, true, false, cond, ◌&&◌, ◌||◌, ◌⊎◌, inl, inr, List, [], ◌∷◌, ◌++◌, length, drop, get_or, refl, sym, ◌∙◌, ap, subst, arith, eqb-true, drop-cons}
-use Rattle.std.specs.Prelude.{Option, Some, None, codes, option_map}
-use Rattle.std.proofs.lemmas.Bool.{and_from, ltb-true, false≢true}
+use Rattle.std.proofs.Common.{◌≡◌, ◌≢◌, ℕ, suc, ◌+◌, ◌-◌, ◌*◌, ◌<◌, ◌≤◌, ◌==◌, nat_lt, Bool, true, false, cond, ◌&&◌, ◌||◌, List, [], ◌∷◌, ◌++◌, length, drop, get_or, refl, sym, ◌∙◌, ap, arith, eqb-true, drop-cons}
+use Rattle.std.specs.Prelude.{Option, Some, None, codes}
+use Rattle.std.proofs.lemmas.Bool.{and_from, ltb-true}
 use Rattle.std.proofs.lemmas.List.{drop_all}
 use Rattle.std.proofs.lemmas.Bool.Decides.{nat_tests}
 use Rattle.std.specs.Char.{is_ascii_digit, digit_value}
@@ -11,7 +11,6 @@ use Rattle.plural_rules.specs.declared.rules.PluralCategory.{PluralCategory}
 use Rattle.plural_rules.specs.declared.rules.PluralCategory.TheVariants as category
 use Rattle.plural_rules.specs.declared.rules.Operand.{Operand}
 use Rattle.plural_rules.specs.declared.rules.Operand.TheVariants as operand_variants
-use Rattle.plural_rules.specs.declared.rules.Range.{Range}
 use Rattle.plural_rules.specs.declared.parse.state.State.{State}
 use Rattle.plural_rules.specs.declared.parse.state.State.TheVariants as state
 use Rattle.plural_rules.specs.declared.parse.state.Event.{Event}
@@ -101,10 +100,8 @@ AtDigits Q text = (rest : List ℕ) × MoreDigits text rest × Q rest
 abbrev pub At : Categories → State → List ℕ → Type 0
 At seen state.Category text = Spelled [] (Ruled seen) text
 At seen state.One text =
-    (k : PluralCategory) × IsNewCategory seen k
-    × Spelled (name_of k) (Named k seen) (111 ∷ text)
-At seen (state.Letters k n) text =
-    Spelled (drop n (name_of k)) (Named k seen) text
+    (k : PluralCategory) × IsNewCategory seen k × Spelled (name_of k) (Named k seen) (111 ∷ text)
+At seen (state.Letters k n) text = Spelled (drop n (name_of k)) (Named k seen) text
 At seen state.OtherCondition text = Spelled [] (AfterColon category.Other seen) text
 At seen state.Operand text = Spelled [] (Conjoined seen) text
 At seen state.Percent text = Spelled [] (Then g.Divided (Compared seen)) text
@@ -397,6 +394,7 @@ module _ (meaning : List RuleValue) (c : ℕ) (t : List ℕ)
       let none : drop n (name_of k) ≡ [] = drop_all n (name_of k) least in
       rw none (on_skip (Named k p.seen) (state.Letters k n) _ (λ i. rw none at i)
       (on_byte (Named k p.seen) 58 (condition_of k) (event.Category k) _ (λ i. spell (condition_here k i)) stops) h))
+
   -- the first letters of a category that is new
   new_letters : (k : PluralCategory) (n : ℕ) → ReadsAfter (cond (has p.seen k) None (Some (state.Letters k n, event.Nothing)))
       → IsNewCategory p.seen k × At p.seen (state.Letters k n) t
@@ -438,7 +436,7 @@ module _ (meaning : List RuleValue) (c : ℕ) (t : List ℕ)
   one_byte state.Comparison h = comparison_here h
   one_byte state.NotEqual h = on_byte (At p.seen state.NotEqual) 61 state.Low (event.Equal false) _ spell stops h
   one_byte state.Low h =
-      on_skip (Listed p.seen) state.Low _ (λ i. i) 
+      on_skip (Listed p.seen) state.Low _ (λ i. i)
       (on_test _ state.LowDigits _ _ (λ d i. i.2 _ _ (i.1 c d).1) (λ none. stops)) h
   one_byte state.LowDigits h = on_digits (LowEnds p.seen) state.LowDigits _ (λ i. i) after_low h
   one_byte state.AfterLow h = after_low h

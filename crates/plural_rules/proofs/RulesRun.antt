@@ -1,8 +1,7 @@
 -- The run of the reader over the bytes of a text; in strict mode it stops where a number does not fit.
-use Rattle.std.proofs.Common.{◌≡◌, ℕ, ◌+◌, ◌*◌, ◌^◌, ◌<◌, ◌≤◌, nat_le, nat_lt, Bool, true, false, not, cond, ◌&&◌, ◌||◌, List, [], ◌∷◌, ◌++◌, length, take, get_or, refl, ◌∙◌, ap, arith}
+use Rattle.std.proofs.Common.{◌≡◌, ℕ, ◌+◌, ◌*◌, ◌^◌, ◌<◌, ◌≤◌, nat_le, Bool, true, false, not, cond, ◌||◌, List, [], ◌∷◌, ◌++◌, length, take, get_or, refl, ◌∙◌, ap, arith}
 use Rattle.std.specs.Prelude.{Option, Some, None, IfSome}
 use Rattle.std.specs.List.{AllByRecursion}
-use Rattle.std.proofs.lemmas.Bool.{leb-true}
 use Rattle.std.proofs.lemmas.List.{take_more}
 use Rattle.plural_rules.specs.declared.parse.state.State.{State}
 use Rattle.plural_rules.specs.declared.parse.state.State.TheVariants as state
@@ -106,12 +105,6 @@ all_more P (x ∷ xs) y h i = (h.0, all_more P xs y h.1 i)
 pub in_64_bits : (b : Bool) (n : ℕ) → n ≤ limit b → n < 2 ^ 64
 in_64_bits b n h = grind arith
 
-at_most : (b : Bool) (n : ℕ) → n ≤ limit b → n ≤ limit false
-at_most b n h = grind arith
-
-modulus_fits : (b c : Bool) (n : ℕ) → n ≤ limit b → IfSome (cond (b && c) (Some n) None) (λ m. m ≤ 10 ^ 18)
-modulus_fits b c n h = grind arith
-
 range_fits : (low : Option ℕ) (n : ℕ) → IfSome low (λ m. m < 2 ^ 64) → n < 2 ^ 64 → RangeFits (range_of low n)
 range_fits low n h i = grind arith
 
@@ -135,17 +128,6 @@ rule_ends p h =
 
 -- the number after an allowed event fits
 pub fits_on : (e : Event) (p : Partial) → FitsSoFar p → allowed true e p ≡ true → FitsSoFar (after e p)
-fits_on event.Nothing p h a = h
-fits_on (event.Category k) p h a = (h.0, tt, tt, h.3, h.4, h.5, h.6)
-fits_on (event.Operand o) p h a = (h.0, h.1, h.2, h.3, tt, h.5, at_most p.is_divided p.number h.6)
-fits_on event.Percent p h a = (h.0, h.1, h.2, h.3, h.4, h.5, omega arith)
-fits_on (event.First d) p h a = (h.0, h.1, h.2, h.3, h.4, h.5, leb-true d (limit p.is_divided) a)
-fits_on (event.Digit d) p h a =
-    (h.0, h.1, h.2, h.3, h.4, h.5, leb-true (p.number * 10 + d) (limit p.is_divided) a)
-fits_on (event.Equal e) p h a =
-    let modulus = modulus_fits p.is_divided (nat_lt 0 p.number) p.number h.6 in
-    (h.0, h.1, h.2, modulus, h.4, tt, at_most p.is_divided p.number h.6)
-fits_on event.To p h a = (h.0, h.1, h.2, h.3, h.4, in_64_bits p.is_divided p.number h.6, h.6)
 fits_on event.Comma p h a = range_ends p h
 fits_on event.And p h a = relation_ends (end_range p) (range_ends p h)
 fits_on event.Or p h a = alternative_ends (after event.And p) (relation_ends (end_range p) (range_ends p h))
@@ -153,6 +135,7 @@ fits_on event.End p h a =
     rule_ends (after event.Or p)
     (alternative_ends (after event.And p) (relation_ends (end_range p) (range_ends p h)))
 fits_on event.EndOther p h a = rule_ends p h
+fits_on e p h a = grind arith
 
 -- a run of the strict reader is one of the other, and its rules fit
 strict_run : (text : List ℕ) (s : State) (p : Partial) (x : State × Partial) → FitsSoFar p

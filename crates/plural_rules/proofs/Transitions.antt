@@ -1,20 +1,14 @@
 -- The transitions on each byte, by cases on the state.
-use Rattle.std.proofs.Common.{◌≡◌, ℕ, ◌+◌, ◌-◌, ◌==◌, nat_lt, Bool, true, false, not, cond, ◌&&◌, ◌||◌, length, get_or, refl, ◌∙◌, ap, arith, eqb-true}
-use Rattle.std.specs.Prelude.{Option, Some, None, option_map}
+use Rattle.std.proofs.Common.{◌≡◌, ℕ, Bool, true, false, not, cond, ◌&&◌, arith}
+use Rattle.std.specs.Prelude.{Some, None}
 use Rattle.std.proofs.lemmas.Bool.Decides.{nat_tests}
 use Rattle.std.specs.Char.{is_ascii_digit}
-use Rattle.plural_rules.specs.declared.rules.PluralCategory.{PluralCategory}
-use Rattle.plural_rules.specs.declared.rules.PluralCategory.TheVariants as category
-use Rattle.plural_rules.specs.declared.rules.Operand.{Operand}
 use Rattle.plural_rules.specs.declared.parse.state.State.{State}
 use Rattle.plural_rules.specs.declared.parse.state.State.TheVariants as state
 use Rattle.plural_rules.specs.declared.parse.state.Event.{Event}
 use Rattle.plural_rules.specs.declared.parse.state.Event.TheVariants as event
 use Rattle.plural_rules.specs.declared.parse.state.Categories.{Categories}
-use Rattle.plural_rules.specs.Rules.{name_of}
-use Rattle.plural_rules.specs.RulesGrammar.{is_blank}
-use Rattle.plural_rules.specs.RulesReader as reader
-use Rattle.plural_rules.specs.RulesReader.{with, is_full, Transition, seen_after, next}
+use Rattle.plural_rules.specs.RulesReader.{is_full, Transition, seen_after, next}
 
 -- where a category comes next, one is left
 abbrev pub is_open : Categories → State → Bool

@@ -1,7 +1,7 @@
 -- A text at which the reader does not stop is a prefix of rules: each state that it reaches has bytes that complete it.
-use Rattle.std.proofs.Common.{◌≡◌, ℕ, suc, zero, ◌+◌, ◌<◌, ◌≤◌, ◌==◌, nat_le, nat_lt, Bool, true, false, not, cond, ◌&&◌, List, [], ◌∷◌, ◌++◌, length, take, drop, get_or, refl, sym, ◌∙◌, ap, arith}
+use Rattle.std.proofs.Common.{◌≡◌, ℕ, suc, zero, ◌+◌, ◌<◌, ◌≤◌, ◌==◌, nat_le, nat_lt, Bool, true, false, not, ◌&&◌, List, [], ◌∷◌, ◌++◌, length, take, drop, get_or, refl, sym, ◌∙◌, ap, arith}
 use Rattle.std.specs.Prelude.{Option, Some, None, codes, is_some}
-use Rattle.std.proofs.lemmas.Bool.{and_parts, false≢true}
+use Rattle.std.proofs.lemmas.Bool.{false≢true}
 use Rattle.std.proofs.lemmas.Bool.Decides.{nat_tests}
 use Rattle.std.proofs.lemmas.List.{take_all, take-append-drop}
 use Rattle.plural_rules.specs.declared.rules.PluralCategory.{PluralCategory}
@@ -12,11 +12,10 @@ use Rattle.plural_rules.specs.declared.parse.state.Event.{Event}
 use Rattle.plural_rules.specs.declared.parse.state.Event.TheVariants as event
 use Rattle.plural_rules.specs.Rules.{name_of, RuleValue}
 use Rattle.plural_rules.specs.RulesGrammar.{Grammar}
-use Rattle.plural_rules.specs.RulesReader as reader
-use Rattle.plural_rules.specs.RulesReader.{has, is_full, condition_of, no_rules, Transition, Partial, after, next, at_end, limit}
+use Rattle.plural_rules.specs.RulesReader.{is_full, condition_of, no_rules, Partial, after, next, at_end, limit}
 use Rattle.plural_rules.specs.RulesParseResult.{IsViablePrefix, IsFittingPrefix, Fits, IsSyntaxErrorAt}
 use Rattle.plural_rules.proofs.Transitions.{is_open, starts_number}
-use Rattle.plural_rules.proofs.RulesRun.{Reached, allowed, apply_transition, run, finish, finished, read, bind, run_append, run_more, transitions, read_fits}
+use Rattle.plural_rules.proofs.RulesRun.{allowed, run, finish, finished, read, bind, run_append, run_more, read_fits}
 use Rattle.plural_rules.proofs.ParserComplete.{step, read-complete, read_any-complete}
 use Rattle.plural_rules.proofs.ParserSound.{read-sound}
 
