@@ -60,14 +60,7 @@ seen_after_is e p = grind arith
 digit_more :
     (text : List ℕ) (begin i : ℕ) → AreDigits text begin i → is_ascii_digit (get_or text i 0) ≡ true
     → AreDigits text begin (i + 1)
-digit_more text begin i before is j from less = elim (cases_lt j i) [
-  | inl h ↦ before j from h
-  | inr h ↦ let same : j ≡ i = omega arith in rw same is
-]
-
--- an event other than a digit does not lead to a state within a number
-no_digits : (t : State) (d : Bool) → cond (starts_number t) (not d) (not (is_digits t)) ≡ true → is_digits t ≡ true → ⊥
-no_digits t d h i = grind arith
+digit_more text begin i before is j from less = grind (arith, before, is)
 
 front_more : (e : Event) (s t : State) (d : Bool) → is_valid s e t d ≡ true → starts_number t ≡ true → d ≡ false
 front_more e s t d h i = grind arith
@@ -85,8 +78,8 @@ module _ (text : List ℕ) (i : ℕ) (s : State) (p : Partial) (s2 : State) (les
       ≡ cond (starts_number s2) (not (is_ascii_digit (get_or text i 0))) (not (is_digits s2))
       → {begin : ℕ} → is_digits s2 ≡ true → Begun text begin (i + 1)
   apart e to other digits =
-      absurd (no_digits s2 (is_ascii_digit (get_or text i 0))
-      (sym other ∙ (transition_is_valid p.seen s (get_or text i 0) s2 e to).0) digits)
+      let valid = sym other ∙ (transition_is_valid p.seen s (get_or text i 0) s2 e to).0 in
+      absurd (grind (arith, valid, digits))
 
   -- one more digit of a number
   count :
@@ -137,13 +130,7 @@ module _ (text : List ℕ) (i : ℕ) (s : State) (p : Partial) (s2 : State) (les
         some = omega (arith, begun.some);
         digits = digit_more text begin i begun.digits digit.1;
       })
-  numbers_more event.Percent (Fit n is_modulus begin) to h =
-      (run_on event.Percent to refl h.0, refl, refl, apart event.Percent to refl)
-  numbers_more (event.Equal b) (Fit n is_modulus begin) to h =
-      (run_on (event.Equal b) to refl h.0, h.1, refl, apart (event.Equal b) to refl)
-  numbers_more (event.Operand o) (Fit n is_modulus begin) to h =
-      (run_on (event.Operand o) to refl h.0, h.1, refl, apart (event.Operand o) to refl)
-  numbers_more e (Fit n is_modulus begin) to h = (run_on e to refl h.0, h.1, h.2, apart e to refl)
+  numbers_more e (Fit n is_modulus begin) to h = (run_on e to refl h.0, (cc), (cc), apart e to refl)
 
 pub checked_more :
     {text : List ℕ} {i : ℕ} {s : State} {seen : Categories} {numbers : Numbers} (s2 : State) (e : Event)

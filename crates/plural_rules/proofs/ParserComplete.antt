@@ -33,9 +33,6 @@ Skips s = (seen : Categories) (c : ℕ) → is_blank c ≡ true → next seen s 
 pub digit_is : (c : ℕ) → is_ascii_digit c ≡ true → digit_value c ≡ c - 48
 digit_is c h = grind (arith, nat_tests)
 
-digit_is_no_blank : (c : ℕ) → is_ascii_digit c ≡ true → is_blank c ≡ false
-digit_is_no_blank c h = grind (arith, nat_tests)
-
 -- digits after a greater number make a greater one
 pub grows : (more from sum : ℕ) (ds : List ℕ) → more + from ≤ sum
     → more + digits_value_after 10 from ds ≤ digits_value_after 10 sum ds
@@ -52,13 +49,6 @@ Counts s =
 -- the state after the digits of a modulus so far
 abbrev pub modulus_digits : ℕ → State
 modulus_digits n = cond (n == 0) state.Zeros state.ModulusDigits
-
-modulus_starts : (seen : Categories) (c : ℕ) → is_ascii_digit c ≡ true
-    → next seen state.Modulus c ≡ Some (modulus_digits (c - 48), event.First (c - 48))
-modulus_starts seen c d = grind (arith, nat_tests)
-
-modulus_counts : Counts modulus_digits
-modulus_counts seen n c d = grind (arith, nat_tests)
 
 abbrev pub numbered : Partial → ℕ → Partial
 numbered p n = record p { number = n }
@@ -110,16 +100,6 @@ AreNewCategories seen rs = AllByRecursion (λ r. IsNewCategory seen r.category) 
 abbrev pub colon : PluralCategory → State
 colon c = state.Letters c (length (name_of c))
 
-skips_colon : (c : PluralCategory) → Skips (colon c)
-skips_colon c seen x b = grind (arith, b)
-
-skips_condition : (c : PluralCategory) → Skips (condition_of c)
-skips_condition c seen x b = grind (arith, b)
-
-colon_transition : (c : PluralCategory) (seen : Categories)
-    → next seen (colon c) 58 ≡ Some (condition_of c, event.Category c)
-colon_transition c seen = grind arith
-
 -- a rule may end in this state, by this event
 abbrev pub MayEnd : State → Event → Type 0
 MayEnd s e =
@@ -139,13 +119,6 @@ all_stay_new :
 all_stay_new seen c [] others h = tt
 all_stay_new seen c (r ∷ rs) others h =
     (stays_new seen c r.category others.0 h.0, all_stay_new seen c rs others.1 h.1)
-
-stay_fresh : (seen : Categories) (r : RuleValue) (rs : List RuleValue) → AreNewCategories seen (r ∷ rs)
-    → AreNewCategories (with seen r.category) rs
-stay_fresh seen r rs h =
-    let new = h.0 in
-    let none = h.1 in
-    (all_stay_new seen r.category rs none.0 new.1, none.1)
 
 -- if a category is new, not all six were seen
 not_full : (seen : Categories) (c : PluralCategory) → IsNewCategory seen c → is_full seen ≡ false
@@ -207,24 +180,10 @@ module _ (strict : Bool) where
       (h p.seen p.number d parts.0) (may_read strict _ _ ds may_all)
       ∙ digits s h ds suffix parts.1 (numbered p (p.number * 10 + (d - 48))) may_all)
 
-  -- the value of a number by its first digit and the others
-  value_is : (d : ℕ) (ds : List ℕ) → is_ascii_digit d ≡ true
-      → digits_value_after 10 (d - 48) ds ≡ digits_value 10 (d ∷ ds)
-  value_is d ds is =
-      let e : digit_value d ≡ d - 48 = digit_is d is in
-      let same : d - 48 ≡ 0 * 10 + digit_value d = omega arith in
-      ap (λ v. digits_value_after 10 v ds) same
-
   -- before a byte other than a digit, the two states behave alike
   abbrev Leaves : State → State → Type 0
   Leaves s t = (p : Partial) (suffix : List ℕ) → HasNoLeadingDigit suffix
       → read strict s p suffix ≡ read strict t p suffix
-
-  leaves : (s t : State) → ((p : Partial) → read strict s p [] ≡ read strict t p [])
-      → ((p : Partial) (c : ℕ) (text : List ℕ) → is_ascii_digit c ≡ false
-      → read strict s p (c ∷ text) ≡ read strict t p (c ∷ text)) → Leaves s t
-  leaves s t none some p [] h = none p
-  leaves s t none some p (c ∷ text) h = some p c text h
 
   -- a number and blanks: the states before it, within its digits and after it
   number :
@@ -237,7 +196,9 @@ module _ (strict : Bool) where
       absurd (omega arith)
   number s0 s2 s first counts skip {n = n} (g.number (d ∷ ds) suffix is some all no_digit value blanks) p may leaves =
       let parts = and_parts (is_ascii_digit d) (all_ascii_digits ds) all in
-      let same : digits_value_after 10 (d - 48) ds ≡ n = value_is d ds parts.0 ∙ sym value in
+      let first_is : digit_value d ≡ d - 48 = digit_is d parts.0 in
+      let digit : d - 48 ≡ 0 * 10 + digit_value d = omega arith in
+      let same : digits_value_after 10 (d - 48) ds ≡ n = ap (λ v. digits_value_after 10 v ds) digit ∙ sym value in
       let may_all : May p (digits_value_after 10 (d - 48) ds) = rw same may in
       ap (read strict s0 p) is
       ∙ step s0 p d (ds ++ suffix) (s (d - 48)) (event.First (d - 48)) (first p.seen d parts.0)
@@ -250,21 +211,22 @@ module _ (strict : Bool) where
   number_low : {text rest : List ℕ} {n : ℕ} → g.Number text n rest → (p : Partial) → May p n
       → read strict state.Low p text ≡ read strict state.AfterLow (numbered p n) rest
   number_low nm p may =
-      number state.Low state.AfterLow (λ n. state.LowDigits) (λ seen c d. rw (digit_is_no_blank c d, d) refl)
-      (λ seen n c d. rw d refl) (λ seen c b. rw b refl) nm p may (leaves _ _ (λ p. refl) (λ p c text h. rw h refl))
+      number state.Low state.AfterLow (λ n. state.LowDigits) (λ seen c d. grind (arith, nat_tests))
+      (λ seen n c d. rw d refl) (λ seen c b. rw b refl) nm p may (λ p suffix h. grind (arith, h))
 
   number_high : {text rest : List ℕ} {n : ℕ} → g.Number text n rest → (p : Partial) → May p n
       → read strict state.High p text ≡ read strict state.AfterHigh (numbered p n) rest
   number_high nm p may =
-      number state.High state.AfterHigh (λ n. state.HighDigits) (λ seen c d. rw (digit_is_no_blank c d, d) refl)
-      (λ seen n c d. rw d refl) (λ seen c b. rw b refl) nm p may (leaves _ _ (λ p. refl) (λ p c text h. rw h refl))
+      number state.High state.AfterHigh (λ n. state.HighDigits) (λ seen c d. grind (arith, nat_tests))
+      (λ seen n c d. rw d refl) (λ seen c b. rw b refl) nm p may (λ p suffix h. grind (arith, h))
 
   modulus : {text rest : List ℕ} {n : ℕ} → g.Number text n rest → 0 < n → (p : Partial) → May p n
       → read strict state.Modulus p text ≡ read strict state.Comparison (numbered p n) rest
   modulus {n = n} nm positive p may =
       let some : (n == 0) ≡ false = grind (arith, nat_tests) in
-      number state.Modulus state.Comparison modulus_digits modulus_starts modulus_counts (λ seen c b. rw b refl) nm p may
-      (rw some (leaves state.ModulusDigits _ (λ p. refl) (λ p c text h. rw h refl)))
+      number state.Modulus state.Comparison modulus_digits (λ seen c d. grind (arith, nat_tests))
+      (λ seen n c d. grind (arith, nat_tests)) (λ seen c b. rw b refl) nm p may
+      (rw some (λ p suffix h. grind (arith, h)))
 
   -- ---- Ranges.
 
@@ -453,10 +415,10 @@ module _ (strict : Bool) where
       → g.Token (codes ":") colon_text suffix → (p : Partial) → IsNewCategory p.seen c
       → read strict state.Category p text ≡ read strict (condition_of c) (after (event.Category c) p) suffix
   category_read c name after_name p new =
-      token state.Category (colon c) p p (name_read c p new) (skips_colon c) name
+      token state.Category (colon c) p p (name_read c p new) (λ seen x b. grind (arith, b)) name
       ∙ token (colon c) (condition_of c) p (after (event.Category c) p)
-      (λ suffix. step (colon c) p 58 suffix (condition_of c) (event.Category c) (colon_transition c p.seen) refl)
-      (skips_condition c) after_name
+      (λ suffix. step (colon c) p 58 suffix (condition_of c) (event.Category c) (grind arith) refl)
+      (λ seen x b. grind (arith, b)) after_name
 
   one_rule :
       {text rest : List ℕ} {r : RuleValue} → g.SingleRule text r rest → (p : Partial) (x : Rest)
@@ -482,7 +444,9 @@ module _ (strict : Bool) where
       ap (λ m. finished m q) ends.0 ∙ ap Some all)
   all_rules (g.semicolon {r} {rs} {suffix = suffix} one semicolon others) p fits new_category =
       let new = new_category.0 in
-      let later = stay_fresh p.seen r rs new_category in
+      let none = new_category.1 in
+      let later : AreNewCategories (with p.seen r.category) rs =
+      (all_stay_new p.seen r.category rs none.0 new.1, none.1) in
       one_rule one p _ (λ e. (fits e).0) new.0 (λ s e q ends all same.
       let full : is_full q.seen ≡ false =
       ap is_full same ∙ first_fresh (with p.seen r.category) suffix rs others later in
@@ -496,10 +460,7 @@ module _ (strict : Bool) where
 
 none_read : (rs : List RuleValue) → AllByRecursion (λ r. IsNewCategory no_categories r.category) rs
 none_read [] = tt
-none_read (r ∷ rs) = (new r.category, none_read rs)
-  where
-    new : (c : PluralCategory) → IsNewCategory no_categories c
-    new c = grind arith
+none_read (r ∷ rs) = (grind arith, none_read rs)
 
 -- the reader accepts a text of the grammar and returns its meaning
 pub read-complete : (strict : Bool) {text : List ℕ} {rs : List RuleValue} → Grammar text rs
@@ -515,7 +476,4 @@ read_any-complete h = read-complete false h (λ e. absurd (cc))
 -- the grammar is unambiguous
 pub grammar-unique :
     {text : List ℕ} {first second : List RuleValue} → Grammar text first → Grammar text second → first ≡ second
-grammar-unique {text} {first} {second} a b = same (sym (read_any-complete a) ∙ read_any-complete b)
-  where
-    same : ◌≡◌ {A = Rest} (Some first) (Some second) → first ≡ second
-    same h = cc
+grammar-unique a b = let one = read_any-complete a in let other = read_any-complete b in cc

@@ -485,11 +485,9 @@ read-sound {text} {meaning} h =
     let new = r.2 in
     let grammar : Grammar text r.0 =
     record { begin = i.0; blanks = blanks_of i.1; rules = r.1; distinct = new.1 } in
-    let same : r.0 ≡ meaning = some_is_some (sym (read_any-complete grammar) ∙ h) in
+    let all = read_any-complete grammar in
+    let same : r.0 ≡ meaning = cc in
     rw (← same) grammar
   where
     blanks_of : {rest : List ℕ} → g.Token [] text rest → g.Blanks text rest
     blanks_of (g.token suffix is blanks) = rw is blanks
-
-    some_is_some : {x y : List RuleValue} → ◌≡◌ {A = Option (List RuleValue)} (Some x) (Some y) → x ≡ y
-    some_is_some h = cc
