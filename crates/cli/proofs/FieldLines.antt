@@ -62,14 +62,7 @@ module _ (field : Field) (conversion : Conversion) (bytes text : List ℕ) (hold
       → (error ≢ Output → result ≡ error) → result ≢ Memory → IsFieldResult field conversion bytes (Err result)
   field_error Memory result fails output same other = absurd (other (same (λ is. cc)))
   field_error Output result fails output same other = absurd (other (output refl))
-  field_error operation.Field result fails output same other = rw (same (λ is. cc)) (field_fails operation.Field fails)
-  field_error Quote result fails output same other = rw (same (λ is. cc)) (field_fails Quote fails)
-  field_error (Start reason) result fails output same other =
-      rw (same (λ is. cc)) (field_fails (Start reason) fails)
-  field_error (Operand at reason) result fails output same other =
-      rw (same (λ is. cc)) (field_fails (Operand at reason) fails)
-  field_error (Overlap at) result fails output same other = rw (same (λ is. cc)) (field_fails (Overlap at) fails)
-  field_error (Overflow at) result fails output same other = rw (same (λ is. cc)) (field_fails (Overflow at) fails)
+  field_error error result fails output same other = rw (same (λ is. cc)) (field_fails error fails)
 
 -- ---- The result of a line.
 
@@ -87,12 +80,7 @@ module _
         → error ≢ Output → LineFails (Some field) conversion line error
     line_fails Memory is other = (bounds, found)
     line_fails Output is other = absurd (other refl)
-    line_fails operation.Field is other = line_result (Err operation.Field) (is (λ e. cc))
-    line_fails Quote is other = line_result (Err Quote) (is (λ e. cc))
-    line_fails (Start reason) is other = line_result (Err (Start reason)) (is (λ e. cc))
-    line_fails (Operand at reason) is other = line_result (Err (Operand at reason)) (is (λ e. cc))
-    line_fails (Overlap at) is other = line_result (Err (Overlap at)) (is (λ e. cc))
-    line_fails (Overflow at) is other = line_result (Err (Overflow at)) (is (λ e. cc))
+    line_fails error is other = line_result (Err error) (is (λ e. cc))
 
 -- an error with status 1 is that of the result
 pub error_is_result :

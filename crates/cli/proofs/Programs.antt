@@ -20,7 +20,7 @@ use Rattle.cli.specs.declared.words.WordsError.TheVariants as reason
 use Rattle.cli.specs.Errors.{fixdec_error_of}
 use Rattle.cli.specs.declared.error.OperationError.TheVariants.{Output}
 use Rattle.cli.specs.Arguments.{Arguments, HaveWords}
-use Rattle.cli.specs.Fixdec.{NamesRun, HasError, PrintsLine, PrintsLinePrefix, Prints, PrintsPrefix}
+use Rattle.cli.specs.Fixdec.{HasRun, NamesRun, HasError, PrintsLine, PrintsLinePrefix, Prints, PrintsPrefix}
 
 -- ---- Words and calls, one by one.
 
@@ -30,8 +30,7 @@ pub names_more :
     → Names (string_bytes w) call → NameAll (ws ++ (w ∷ [])) (cs ++ (call ∷ []))
 names_more [] [] w call h k = (k, tt)
 names_more (x ∷ ws) (y ∷ cs) w call (p, h) k = (p, names_more ws cs w call h k)
-names_more [] (y ∷ cs) w call h k = absurd h
-names_more (x ∷ ws) [] w call h k = absurd h
+names_more ws cs w call h k = absurd h
 
 -- the first words, and the next one appended
 pub taken :
@@ -110,9 +109,7 @@ module _
         unfolding others
         words_fail reason.Usage fails =
             inr (record { read = read; first = first; others = others; split = split_text; holds = fails })
-        words_fail reason.UnknownLocale fails =
-            inr (record { read = read; first = first; others = others; split = split_text; holds = fails })
-        words_fail reason.Memory fails =
+        words_fail error fails =
             inr (record { read = read; first = first; others = others; split = split_text; holds = fails })
 
 -- ---- Results.
@@ -133,11 +130,6 @@ pub at_ok :
     {X E : Type 0} {P : Type 0} (r : Result X E) (status : ℕ) → IfErr r (λ _. 0 < status) → status ≡ 0 → OnOk r P → P
 at_ok (Ok x) status h zero p = p
 at_ok (Err e) status some zero p = absurd (omega (arith, some, zero))
-
--- and so does a property that follows from it
-pub ok_weaker : {X E : Type 0} {P Q : Type 0} (r : Result X E) → (P → Q) → OnOk r P → OnOk r Q
-ok_weaker (Ok x) f h = f h
-ok_weaker (Err e) f h = h
 
 -- ---- What was printed.
 
@@ -168,15 +160,15 @@ pub line_kept :
 line_kept c text a b d p k =
     outcome_map c text _ _ (λ written h. Appends-kept a b d (written ++ (10 ∷ [])) h k) p
 
--- the same for the run of the words
+-- what is true of the run of the words, and what follows from it
+pub run_of : {words : List (String Global)} {P : Conversion → List ℕ → Type 0} (c : Conversion) (text : List ℕ)
+    → NamesRun words c text → P c text → HasRun words P
+run_of c text names holds = record { conversion = c; text = text; names = names; holds = holds }
+
+-- the text and the line feed of the run were written to a block, and all of it
 pub prints_kept :
     (words : List (String Global)) (a b d : Option (List ℕ)) → Prints words a b → Keeps b d → Prints words a d
-prints_kept words a b d h k = record {
-  conversion = h.conversion;
-  text = h.text;
-  names = h.names;
-  holds = line_kept h.conversion h.text a b d h.holds k;
-}
+prints_kept words a b d h k = run_of h.conversion h.text h.names (line_kept h.conversion h.text a b d h.holds k)
 
 -- P holds of the words of the arguments
 pub have_words :
@@ -190,16 +182,6 @@ pub unwritten_fails :
     (words : List (String Global)) (a b d : Option (List ℕ)) → Prints words a b → Keeps b d
     → HasError words (Operation Output) × PrintsPrefix words a d
 unwritten_fails words a b d h k = (
-  record {
-    conversion = h.conversion;
-    text = h.text;
-    names = h.names;
-    holds = (h.holds.0, h.holds.1);
-  },
-  record {
-    conversion = h.conversion;
-    text = h.text;
-    names = h.names;
-    holds = line_begun h.conversion h.text a b d h.holds k;
-  },
+  run_of h.conversion h.text h.names (h.holds.0, h.holds.1),
+  run_of h.conversion h.text h.names (line_begun h.conversion h.text a b d h.holds k),
 )

@@ -39,25 +39,14 @@ doubled_first x left (y ∷ rest) e =
 -- a text with no quote
 pub doubled_plain : (text : List ℕ) → list_any is_quote text ≡ false → doubled text ≡ text
 doubled_plain [] none = refl
-doubled_plain (x ∷ text) none =
-    ⊎_elim
-    (λ here. let some : list_any is_quote (x ∷ text) ≡ true = grind (arith, common_steps, here) in cc)
-    (λ here. let rest : list_any is_quote text ≡ false = grind (arith, common_steps, here, none) in
-    ap (λ l. l ++ doubled text) (double_other x here) ∙ ap (λ l. x ∷ l) (doubled_plain text rest))
-    (cases_Bool (is_quote x))
+doubled_plain (x ∷ text) none = grind (arith, common_steps, none, doubled_plain text)
 
 -- two tests that agree, or not
 agree : (a b : Bool) → beq a b ≡ true → a ≡ b
-agree true true h = refl
-agree false false h = refl
-agree true false h = cc
-agree false true h = cc
+agree a b h = grind arith
 
 differ : (a b : Bool) → beq a b ≡ false → a ≡ not b
-differ true true h = cc
-differ false false h = cc
-differ true false h = refl
-differ false true h = refl
+differ a b h = grind arith
 
 -- ---- The text in quotes, byte by byte.
 

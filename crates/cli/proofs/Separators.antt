@@ -99,9 +99,7 @@ module _ (field : Field) (line : List ℕ) where
 
       -- and the field ends at it
       pub scanned_end : now ≡ true → left ≡ 0 → bounds field line ≡ Some (start, at)
-      scanned_end out none =
-          h.left_is ∙ ap (slice_get (later field line start (at ∷ indices))) none
-          ∙ ap (λ fields. slice_get fields 0) (separated out)
+      scanned_end out none = let fields = separated out in cc
 
       -- or comes after it
       pub scanned_separator :
@@ -238,9 +236,7 @@ module _ (field : Field) (line : List ℕ) (d : ℕ) (one : field.delimiter.now 
       -- and the field ends at it
       pub by_byte_end :
           before ≡ true → slice_index line at ≡ d → left ≡ 0 → bounds field line ≡ Some (start, at)
-      by_byte_end out here none =
-          h.left_is ∙ ap (slice_get (later field line start (rest line d at))) none
-          ∙ ap (λ fields. slice_get fields 0) (separated_here out here)
+      by_byte_end out here none = let fields = separated_here out here in cc
 
       -- or comes after it
       pub by_byte_separator :
