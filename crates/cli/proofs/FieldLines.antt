@@ -9,8 +9,7 @@ use Rattle.fixed_decimal.specs.Outcome.{OutcomeError}
 use Rattle.fixed_decimal.proofs.Calling.{prefix_more, then_prefix}
 use Rattle.cli.specs.declared.conversion.Conversion.{Conversion}
 use Rattle.cli.specs.declared.error.OperationError.{OperationError}
-use Rattle.cli.specs.declared.error.OperationError.TheVariants.{Quote, Start, Operand, Overlap, Overflow, Memory, Output}
-use Rattle.cli.specs.declared.error.OperationError.TheVariants as operation
+use Rattle.cli.specs.declared.error.OperationError.TheVariants.{Memory, Output}
 use Rattle.cli.specs.declared.fields.Field.{Field}
 use Rattle.cli.specs.Conversion.{IsOutcome, OperationsFail, error_of}
 use Rattle.cli.specs.Fields.{Holds, located, within}

@@ -284,19 +284,17 @@ module _ (strict : Bool) where
           ≡ read strict state.Percent (after (event.Operand operand_variants.C) p) suffix
       one c suffix = grind arith
 
-  -- = or !=, in two states
+  -- = or !=, in the two states before it
   comparison_read :
-      {text rest : List ℕ} {is_equal : Bool} → g.Comparison text is_equal rest → (p : Partial)
-      → (read strict state.Comparison p text ≡ read strict state.Low (after (event.Equal is_equal) p) rest)
-      × (read strict state.Percent p text ≡ read strict state.Low (after (event.Equal is_equal) p) rest)
-  comparison_read (g.equal sign) p =
-      let q = after (event.Equal true) p in
-      let low : Skips state.Low = λ seen c b. rw b refl in
-      (token state.Comparison state.Low p q (λ z. refl) low sign, token state.Percent state.Low p q (λ z. refl) low sign)
-  comparison_read (g.not_equal sign) p =
-      let q = after (event.Equal false) p in
-      let low : Skips state.Low = λ seen c b. rw b refl in
-      (token state.Comparison state.Low p q (λ z. refl) low sign, token state.Percent state.Low p q (λ z. refl) low sign)
+      (b : Bool) {text rest : List ℕ} {is_equal : Bool} → g.Comparison text is_equal rest → (p : Partial)
+      → read strict (cond b state.Percent state.Comparison) p text
+      ≡ read strict state.Low (after (event.Equal is_equal) p) rest
+  comparison_read b (g.equal sign) p =
+      token (cond b state.Percent state.Comparison) state.Low p (after (event.Equal true) p) (λ more. grind arith)
+      (λ seen c b. rw b refl) sign
+  comparison_read b (g.not_equal sign) p =
+      token (cond b state.Percent state.Comparison) state.Low p (after (event.Equal false) p) (λ more. grind arith)
+      (λ seen c b. rw b refl) sign
 
   -- an optional modulus, and a comparison
   divided :
@@ -307,13 +305,13 @@ module _ (strict : Bool) where
       (listing (record p { modulus = m; is_equal = is_equal; number = n })) rest ≡ x)
       → read strict state.Percent (record p { is_divided = false }) text ≡ x
   divided g.undivided compares p x fits k =
-      (comparison_read compares (record p { is_divided = false })).1 ∙ k p.number
+      comparison_read true compares (record p { is_divided = false }) ∙ k p.number
   divided {rest = rest} {is_equal = is_equal} (g.divided {modulus = n} percent nm positive) compares p x fits k =
       let q : Partial = record p { is_divided = true; number = 0 } in
       token state.Percent state.Modulus (record p { is_divided = false }) q (λ suffix. refl) (λ seen c b. rw b refl)
       percent
       ∙ modulus nm positive q fits
-      ∙ (comparison_read compares (numbered q n)).0
+      ∙ comparison_read false compares (numbered q n)
       ∙ ap (λ m. read strict state.Low (listing (record p { modulus = m; is_equal = is_equal; number = n })) rest)
       (modulus_is n positive)
       ∙ k n
@@ -372,7 +370,7 @@ module _ (strict : Bool) where
       (λ more. step s q 111 (114 ∷ more) state.OrEnd event.Or (b.2 q.seen 111 refl refl) refl)
       ∙ condition category.One others (after event.Or q) x (λ e. (fits e).1) (λ q2 s2 b2 is2.
       k q2 s2 b2 (is2
-      ∙ ap (λ (z : Partial). record (end_alternative z) { alternatives = (end_alternative z).alternatives ++ alternatives }) is
+      ∙ ap (λ (z : Partial). record z { alternatives = z.alternatives ++ alternatives }) (ap end_alternative is)
       ∙ ap (λ l. core (record p { alternatives = l; relations = [] }))
       (append_assoc p.alternatives (rs ∷ []) alternatives))))
 

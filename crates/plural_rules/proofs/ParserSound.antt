@@ -396,7 +396,8 @@ module _ (meaning : List RuleValue) (c : ℕ) (t : List ℕ)
       (on_byte (Named k p.seen) 58 (condition_of k) (event.Category k) _ (λ i. spell (condition_here k i)) stops) h))
 
   -- the first letters of a category that is new
-  new_letters : (k : PluralCategory) (n : ℕ) → ReadsAfter (cond (has p.seen k) None (Some (state.Letters k n, event.Nothing)))
+  new_letters : (k : PluralCategory) (n : ℕ)
+      → ReadsAfter (cond (has p.seen k) None (Some (state.Letters k n, event.Nothing)))
       → IsNewCategory p.seen k × At p.seen (state.Letters k n) t
   new_letters k n = on_if (has p.seen k) _ _ (λ old. stops) (λ new h. (new, moved event.Nothing (state.Letters k n) h))
 
@@ -430,7 +431,8 @@ module _ (meaning : List RuleValue) (c : ℕ) (t : List ℕ)
       (λ i. let m = i.2 in let n = m.2 in (Some m.0, m.1, g.divided (one_letter i.1) n.0 n.1, m.3))
       (λ h. (None, c ∷ t, g.undivided, compares h))) h
   one_byte state.Modulus h =
-      on_skip (ModulusFrom p.seen) state.Modulus _ (λ i. i) (on_test _ (modulus_state c) _ _ modulus_from (λ none. stops)) h
+      on_skip (ModulusFrom p.seen) state.Modulus _ (λ i. i)
+      (on_test _ (modulus_state c) _ _ modulus_from (λ none. stops)) h
   one_byte state.Zeros h = on_test _ (modulus_state c) _ _ modulus_from (λ none. stops) h
   one_byte state.ModulusDigits h = on_digits (Compared p.seen) state.ModulusDigits _ (λ i. i) comparison_here h
   one_byte state.Comparison h = comparison_here h

@@ -1,9 +1,6 @@
 use Rattle.std.proofs.Common.{◌≡◌, inr, refl, true, false, rules}
-use Rattle.std.specs.Io.Buffered.{writer_contents}
 use Rattle.cli.specs.declared.error.FixdecError.TheVariants.{Memory}
-use Rattle.cli.specs.Arguments.{HaveWords}
 use Rattle.cli.specs.Errors.{status_of_fixdec, output}
-use Rattle.cli.specs.Fixdec.{Prints}
 use Rattle.cli.proofs.Programs.{have_words, prints_kept, unwritten_fails}
 use Rattle.cli.proofs.fixdec.run_arguments.Goals as goal
 

@@ -1,8 +1,6 @@
 use Rattle.std.proofs.Common.{◌≡◌, Ok, Err, inl, inr, ap, refl, true, false, ◌∙◌, rules}
-use Rattle.std.specs.Io.Buffered.{writer_contents}
 use Rattle.cli.specs.declared.error.FilterError.TheVariants.{Memory, Output}
-use Rattle.cli.specs.Arguments.{HaveWords}
-use Rattle.cli.specs.Filter.{IsEarly, WordsFilter}
+use Rattle.cli.specs.Filter.{IsEarly}
 use Rattle.cli.proofs.Programs.{have_words}
 use Rattle.cli.proofs.fixdec_lines.run_arguments.Goals as goal
 

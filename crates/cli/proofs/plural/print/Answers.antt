@@ -1,10 +1,6 @@
 use Rattle.std.proofs.Common.{◌≡◌, Err, inr, sym, ap, true, false, ◌∙◌}
 use Rattle.std.proofs.lemmas.Bool.{false≢true}
 use Rattle.std.proofs.lemmas.Result.{on_ok_weaker}
-use Rattle.std.specs.Io.KnownBytes.{append_known}
-use Rattle.std.specs.Io.Buffered.{writer_contents}
-use Rattle.cli.specs.declared.error.PluralError.TheVariants.{Output}
-use Rattle.cli.specs.Categories.{PrintsAll, StopsAt}
 use Rattle.cli.proofs.Buffers.{closed_contents}
 use Rattle.cli.proofs.Programs.{err_map}
 use Rattle.cli.proofs.Printing.{all_kept, stop_kept, begun, has_rules}

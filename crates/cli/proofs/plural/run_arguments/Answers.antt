@@ -1,5 +1,4 @@
-use Rattle.std.proofs.Common.{◌≡◌, rules}
-use Rattle.cli.specs.Arguments.{HaveWords}
+use Rattle.std.proofs.Common.{rules}
 use Rattle.cli.proofs.Programs.{at_ok, err_map, have_words}
 use Rattle.cli.proofs.plural.run_arguments.Goals as goal
 
