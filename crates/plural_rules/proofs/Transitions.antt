@@ -46,7 +46,7 @@ IsValid s seen c (Some move) =
 
 pub valid_next : (seen : Categories) (s : State) (c : ℕ) → IsValid s seen c (next seen s c)
 valid_next seen state.Category c = grind (arith, nat_tests)
-valid_next seen s c = grind (arith, nat_tests)
+valid_next seen s c = grind arith
 
 -- each transition is fine, and leads from an open state to an open one
 pub transition_is_valid :
