@@ -1,5 +1,5 @@
 -- Rules that fit are built byte by byte: the reader does not stop at any byte, and every number is small.
-use Rattle.std.proofs.Common.{◌≡◌, ℕ, ◌+◌, ◌*◌, ◌<◌, ◌≤◌, Bool, true, false, cond, List, length, take, drop, get_or, refl, sym, ◌∙◌, ap}
+use Rattle.std.proofs.Common.{◌≡◌, ℕ, ◌+◌, ◌*◌, ◌<◌, ◌≤◌, Bool, true, false, cond, List, length, take, drop, get_or, refl, sym, ◌∙◌, ap, arith}
 use Rattle.std.specs.Prelude.{Some, None}
 use Rattle.std.proofs.lemmas.Bool.{leb-true}
 use Rattle.std.proofs.lemmas.List.{take_all, take-append-drop}
@@ -47,7 +47,4 @@ module _ (i : ℕ) {text : List ℕ} {rules : List RuleValue} (grammar : Grammar
 -- the number after an allowed event is small
 pub small : (e : Event) (seen : Categories) (b : Builder) → FitsSoFar (partial seen b)
     → allowed true e (partial seen b) ≡ true → IsSmall e b
-small (event.Digit d) seen b f a =
-    in_64_bits b.is_divided (b.number * 10 + d) (leb-true (b.number * 10 + d) (limit b.is_divided) a)
-small (event.Equal x) seen b f a = λ divided. rw divided at f.6
-small e seen b f a = tt
+small e seen b f a = grind (arith, f, a)

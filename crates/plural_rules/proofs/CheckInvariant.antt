@@ -62,9 +62,6 @@ digit_more :
     → AreDigits text begin (i + 1)
 digit_more text begin i before is j from less = grind (arith, before, is)
 
-front_more : (e : Event) (s t : State) (d : Bool) → is_valid s e t d ≡ true → starts_number t ≡ true → d ≡ false
-front_more e s t d h i = grind arith
-
 -- one more byte
 module _ (text : List ℕ) (i : ℕ) (s : State) (p : Partial) (s2 : State) (less : i < length text)
     (front : starts_number s ≡ true → HasNoDigitBefore text i) where
@@ -150,7 +147,7 @@ checked_more {text} {i} {s} {seen} {numbers} s2 e less h to =
       opens = ap (λ x. is_open x s2) (seen_after_is e h.p) ∙ so.1 h.opens;
       front = λ starts some.
           ap (λ n. is_ascii_digit (get_or text n 0)) same
-          ∙ front_more e s s2 (is_ascii_digit (get_or text i 0)) so.0 starts;
+          ∙ (grind (arith, so.0, starts));
       numbers_are = numbers_more text i s h.p s2 less h.front e numbers to2 h.numbers_are;
     }
 

@@ -59,15 +59,6 @@ IsAfterRange s =
     Skips s × (at_end s ≡ Some event.End)
     × ((seen : Categories) (c : ℕ) → is_blank c ≡ false → (c == 46) ≡ false → next seen s c ≡ follows_range seen c)
 
-after_low-is_after_range : IsAfterRange state.AfterLow
-after_low-is_after_range = (λ seen c b. rw b refl, refl, λ seen c b d. rw (b, d) refl)
-
-after_high-is_after_range : IsAfterRange state.AfterHigh
-after_high-is_after_range = (λ seen c b. rw b refl, refl, λ seen c b d. rw b refl)
-
-modulus_is : (n : ℕ) → 0 < n → modulus_of true n ≡ Some n
-modulus_is n positive = let is : nat_lt 0 n ≡ true = grind (arith, nat_tests) in rw is refl
-
 below_limit : (n : ℕ) → n < 2 ^ 64 → n ≤ limit false
 below_limit n h = omega arith
 
@@ -108,26 +99,19 @@ MayEnd s e =
     × ((strict : Bool) (p : Partial) → allowed strict e p ≡ true) × ((p : Partial) → (after e p).seen ≡ p.seen)
 
 -- a category is still new after a different one
-stays_new :
-    (seen : Categories) (c d : PluralCategory) → d ≢ c → has seen d ≡ false → has (with seen c) d ≡ false
-stays_new seen c d ne h = grind arith
-
 all_stay_new :
     (seen : Categories) (c : PluralCategory) (rs : List RuleValue)
     → AllByRecursion (λ other. other.category ≢ c) rs → AllByRecursion (λ r. IsNewCategory seen r.category) rs
     → AllByRecursion (λ r. IsNewCategory (with seen c) r.category) rs
 all_stay_new seen c [] others h = tt
 all_stay_new seen c (r ∷ rs) others h =
-    (stays_new seen c r.category others.0 h.0, all_stay_new seen c rs others.1 h.1)
+    (grind (arith, others.0, h.0), all_stay_new seen c rs others.1 h.1)
 
 -- if a category is new, not all six were seen
-not_full : (seen : Categories) (c : PluralCategory) → IsNewCategory seen c → is_full seen ≡ false
-not_full seen c h = grind (arith, h)
-
 first_fresh : (seen : Categories) (text : List ℕ) (rs : List RuleValue) → g.RuleList text rs → AreNewCategories seen rs
     → is_full seen ≡ false
 first_fresh seen text [] is h = elim is [ ]
-first_fresh seen text (r ∷ rs) is h = let new = h.0 in not_full seen r.category new.0
+first_fresh seen text (r ∷ rs) is h = let new = h.0 in grind (arith, new.0)
 
 -- the reader's result for the rest of a text
 abbrev Rest : Type 0
@@ -239,13 +223,15 @@ module _ (strict : Bool) where
       → read strict state.Low (listing p) text ≡ x
   numbers (g.single {n} nm) p x fits k =
       number_low nm (listing p) (λ e. below_limit n (fits e).0)
-      ∙ k (numbered (listing p) n) state.AfterLow after_low-is_after_range refl
+      ∙ k (numbered (listing p) n) state.AfterLow
+      (λ seen c b. rw b refl, refl, λ seen c b d. rw (b, d) refl) refl
   numbers (g.between {low} {high} nm dots hi) p x fits k =
       let q : Partial = numbered (listing p) low in
       number_low nm (listing p) (λ e. below_limit low (fits e).0)
       ∙ token state.AfterLow state.High q (after event.To q) (λ suffix. refl) (λ seen c b. rw b refl) dots
       ∙ number_high hi (after event.To q) (λ e. below_limit high (fits e).1)
-      ∙ k (numbered (after event.To q) high) state.AfterHigh after_high-is_after_range refl
+      ∙ k (numbered (after event.To q) high) state.AfterHigh
+      (λ seen c b. rw b refl, refl, λ seen c b d. rw b refl) refl
 
   ranges_read :
       {text rest : List ℕ} {ranges : List Range} → g.RangeList text ranges rest → (p : Partial) (x : Rest)
@@ -313,7 +299,7 @@ module _ (strict : Bool) where
       ∙ modulus nm positive q fits
       ∙ comparison_read false compares (numbered q n)
       ∙ ap (λ m. read strict state.Low (listing (record p { modulus = m; is_equal = is_equal; number = n })) rest)
-      (modulus_is n positive)
+      (let some : nat_lt 0 n ≡ true = grind (arith, nat_tests) in rw some refl)
       ∙ k n
 
   related :

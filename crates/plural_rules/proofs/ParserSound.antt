@@ -181,16 +181,13 @@ no_digits {text = text} no_digit i = (i.0, none i.1, i.2)
 -- ---- Rules.
 
 -- a category that is new after another one was new before it, and is a different one
-older : (seen : Categories) (c d : PluralCategory) → has (with seen c) d ≡ false → (has seen d ≡ false) × (d ≢ c)
-older seen c d h = grind arith
-
 fresh_before : (seen : Categories) (k : PluralCategory) (rs : List RuleValue)
     → AllByRecursion (λ r. IsNewCategory (with seen k) r.category) rs
     → AllByRecursion (λ r. IsNewCategory seen r.category) rs × AllByRecursion (λ r. r.category ≢ k) rs
 fresh_before seen k [] h = (tt, tt)
 fresh_before seen k (r ∷ rs) h =
     let others = fresh_before seen k rs h.1 in
-    let one = older seen k r.category h.0 in
+    let one : IsNewCategory seen r.category × (r.category ≢ k) = grind (arith, h.0) in
     ((one.0, others.0), (one.1, others.1))
 
 rule_found : {k : PluralCategory} {seen : Categories} {text : List ℕ} → IsNewCategory seen k

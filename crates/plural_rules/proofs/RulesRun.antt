@@ -105,12 +105,10 @@ all_more P (x ∷ xs) y h i = (h.0, all_more P xs y h.1 i)
 pub in_64_bits : (b : Bool) (n : ℕ) → n ≤ limit b → n < 2 ^ 64
 in_64_bits b n h = grind arith
 
-range_fits : (low : Option ℕ) (n : ℕ) → IfSome low (λ m. m < 2 ^ 64) → n < 2 ^ 64 → RangeFits (range_of low n)
-range_fits low n h i = grind arith
-
 range_ends : (p : Partial) → FitsSoFar p → FitsSoFar (end_range p)
 range_ends p h =
-    let range = range_fits p.low p.number h.5 (in_64_bits p.is_divided p.number h.6) in
+    let least = in_64_bits p.is_divided p.number h.6 in
+    let range : RangeFits (range_of p.low p.number) = grind (arith, h.5, least) in
     (h.0, h.1, h.2, h.3, all_more RangeFits p.ranges (range_of p.low p.number) h.4 range, tt, h.6)
 
 relation_ends : (p : Partial) → FitsSoFar p → FitsSoFar (end_relation p)
@@ -161,11 +159,6 @@ pub reached_strictly : (text : List ℕ) (s : State) (p : Partial)
 reached_strictly text s p h =
     strict_run text state.Category no_rules (s, p) (tt, tt, tt, tt, tt, tt, omega arith) h
 
--- a property of each of the three events at the end of a text
-pub at_end_all : (P : Event → Type 0) → P event.EndOther → P event.End → P event.Nothing → (s : State) (e : Event)
-    → at_end s ≡ Some e → P e
-at_end_all P o d n s e h = grind arith
-
 -- rules that the strict reader accepts fit, and are those of the other one
 pub read_fits : (text : List ℕ) (rules : List RuleValue) → read true state.Category no_rules text ≡ Some rules
     → Fits rules × (read false state.Category no_rules text ≡ Some rules)
@@ -176,7 +169,8 @@ read_fits text rules h = go (run true state.Category no_rules text) refl h
     ended s p f None is h = absurd (cc)
     ended s p f (Some e) is h =
         let same : (after e p).rules ≡ rules = cc in
-        let fits = fits_on e p f (at_end_all (λ e. allowed true e p ≡ true) refl refl refl s e is) in
+        let may : allowed true e p ≡ true = grind (arith, is) in
+        let fits = fits_on e p f may in
         rw (← same) (fits.0)
 
     go : (x : Reached) → run true state.Category no_rules text ≡ x → finish x ≡ Some rules
