@@ -26,15 +26,7 @@ doubled_first :
     → (rest : List ℕ) × (((is_quote x ≡ true) × (left ≡ quote ∷ doubled rest))
     ⊎ ((is_quote x ≡ false) × (left ≡ doubled rest)))
 doubled_first x left [] e = cc
-doubled_first x left (y ∷ rest) e =
-    ⊎_elim
-    (λ is. let f : x ∷ left ≡ quote ∷ (quote ∷ doubled rest) = e ∙ ap (λ l. l ++ doubled rest) (double_quote y is) in
-    let same : x ≡ quote = cc in
-    (rest, inl (ap is_quote same, cc)))
-    (λ is. let f : x ∷ left ≡ y ∷ doubled rest = e ∙ ap (λ l. l ++ doubled rest) (double_other y is) in
-    let same : x ≡ y = cc in
-    (rest, inr (ap is_quote same ∙ is, cc)))
-    (cases_Bool (is_quote y))
+doubled_first x left (y ∷ rest) e = (rest, grind (arith, common_steps))
 
 -- a text with no quote
 pub doubled_plain : (text : List ℕ) → list_any is_quote text ≡ false → doubled text ≡ text
