@@ -60,8 +60,7 @@ results_more filter number lines results line r never is = absurd never
 -- lines that have texts have no errors
 no_errors : (results : List (Result (List ℕ) FilterError)) → have_texts results ≡ true → errors_of results ≡ []
 no_errors [] h = refl
-no_errors (Ok text ∷ results) h = no_errors results h
-no_errors (Err error ∷ results) h = cc
+no_errors (r ∷ results) h = grind (arith, h, no_errors results)
 
 -- a fold over two lists, one after the other
 folds_both :

@@ -40,8 +40,7 @@ taken ws i w l e = rw add-one (take-suc ws i w l ∙ ap (λ x. take i ws ++ (x �
 
 -- what is known of a result that is None
 pub at_none : {A : Type 0} {Q : Type 0} (o : Option A) → is_some o ≡ false → IfNone o Q → Q
-at_none None e q = q
-at_none (Some x) e q = cc
+at_none o e q = grind arith
 
 -- the value of a result that is Some, and what is known of it
 pub at_some : {A : Type 0} {Q : A → Type 0} (o : Option A) → is_some o ≡ true → IfSome o Q → (x : A) × Q x

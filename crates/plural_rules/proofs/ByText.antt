@@ -32,14 +32,7 @@ numeral_append xs ys =
 parts_is : (w : Literal) (v : Unsigned) → w.exponent ≡ None → value_of w ≡ Ok v
     → (length w.fraction ≤ 32768) × (mantissa w.whole w.fraction ≡ v)
 unfolding value_of scaled
-parts_is w v none e = go _ refl _ refl (rw none at e)
-  where
-    go : (a : Bool) → nat_lt 32768 (length w.whole) ≡ a → (b : Bool) → nat_lt 32768 (length w.fraction) ≡ b
-        → cond (a || b) (Err limit) (Ok (mantissa w.whole w.fraction)) ≡ Ok v
-        → (length w.fraction ≤ 32768) × (mantissa w.whole w.fraction ≡ v)
-    go true p b q e = absurd (cc)
-    go false p true q e = absurd (cc)
-    go false p false q e = (grind (arith, nat_tests, q), cc)
+parts_is w v none e = let is = rw none at e in grind (arith, nat_tests, is)
 
 -- the operands of the value of these digits
 of_mantissa : (w : Literal) → AllDigits 10 w.fraction → length w.fraction ≤ 32768
