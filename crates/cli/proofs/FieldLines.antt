@@ -49,19 +49,14 @@ module _ (field : Field) (conversion : Conversion) (bytes text : List ℕ) (hold
       (written : List ℕ) → IsOutcome conversion text (Ok written) → IsFieldResult field conversion bytes (Ok written)
   field_converted written is = inl (text, holds, (Ok written, is, refl))
 
-  field_fails :
-      (error : OperationError)
-      → ((why : OutcomeError) × (error ≡ error_of why) × IsOutcome conversion text (Err why))
-      → IsFieldResult field conversion bytes (Err error)
-  field_fails error (why, same, is) = inl (text, holds, (Err why, is, ap Err same))
-
   -- its conversion to a sink in memory failed, and not because it was out of memory
   pub field_error :
       (error result : OperationError) → OperationsFail error conversion text → (error ≡ Output → result ≡ Memory)
       → (error ≢ Output → result ≡ error) → result ≢ Memory → IsFieldResult field conversion bytes (Err result)
   field_error Memory result fails output same other = absurd (other (same (λ is. cc)))
   field_error Output result fails output same other = absurd (other (output refl))
-  field_error error result fails output same other = rw (same (λ is. cc)) (field_fails error fails)
+  field_error error result (why, is_error, is) output same other =
+      rw (same (λ is. cc)) (inl (text, holds, (Err why, is, ap Err is_error)))
 
 -- ---- The result of a line.
 
