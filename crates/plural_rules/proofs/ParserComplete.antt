@@ -214,12 +214,14 @@ module _ (strict : Bool) where
 
   -- ---- Ranges.
 
+  -- what follows a range gives this result, if this is true of the rules so far
+  abbrev Continues : (Partial → Type 0) → List ℕ → Rest → Type 0
+  Continues P rest x = (q : Partial) (s : State) → IsAfterRange s → P q → read strict s q rest ≡ x
+
   numbers :
       {text rest : List ℕ} {range : Range} → g.Numbers text range rest → (p : Partial) (x : Rest)
       → (strict ≡ true → RangeFits range)
-      → ((q : Partial) (s : State) → IsAfterRange s
-      → end_range q ≡ record (listing p) { ranges = p.ranges ++ range ∷ []; number = q.number }
-      → read strict s q rest ≡ x)
+      → Continues (λ q. end_range q ≡ record (listing p) { ranges = p.ranges ++ range ∷ []; number = q.number }) rest x
       → read strict state.Low (listing p) text ≡ x
   numbers (g.single {n} nm) p x fits k =
       number_low nm (listing p) (λ e. below_limit n (fits e).0)
@@ -236,8 +238,7 @@ module _ (strict : Bool) where
   ranges_read :
       {text rest : List ℕ} {ranges : List Range} → g.RangeList text ranges rest → (p : Partial) (x : Rest)
       → (strict ≡ true → AllByRecursion RangeFits ranges)
-      → ((q : Partial) (s : State) → IsAfterRange s
-      → end_range q ≡ record (listing p) { ranges = p.ranges ++ ranges; number = q.number } → read strict s q rest ≡ x)
+      → Continues (λ q. end_range q ≡ record (listing p) { ranges = p.ranges ++ ranges; number = q.number }) rest x
       → read strict state.Low (listing p) text ≡ x
   ranges_read (g.RangeList.one nm) p x fits k = numbers nm p x (λ e. (fits e).0) k
   ranges_read (g.comma {range} {ranges} {suffix = suffix} nm comma rs) p x fits k =
@@ -256,19 +257,11 @@ module _ (strict : Bool) where
       (c : PluralCategory) {text rest : List ℕ} {o : Operand} → g.Letter text o rest → (p : Partial)
       → read strict (condition_of c) p text ≡ read strict state.Percent (after (event.Operand o) p) rest
   letter c (g.own {operand = o} word) p =
-      token (condition_of c) state.Percent p (after (event.Operand o) p) (one c o) (λ seen c b. rw b refl) word
-    where
-      one : (c : PluralCategory) (o : Operand) (suffix : List ℕ)
-          → read strict (condition_of c) p (operand_word o ++ suffix)
-          ≡ read strict state.Percent (after (event.Operand o) p) suffix
-      one c o suffix = grind arith
+      token (condition_of c) state.Percent p (after (event.Operand o) p) (λ more. grind arith) (λ seen c b. rw b refl)
+      word
   letter c (g.exponent word) p =
-      token (condition_of c) state.Percent p (after (event.Operand operand_variants.C) p) (one c)
+      token (condition_of c) state.Percent p (after (event.Operand operand_variants.C) p) (λ more. grind arith)
       (λ seen c b. rw b refl) word
-    where
-      one : (c : PluralCategory) (suffix : List ℕ) → read strict (condition_of c) p (codes "e" ++ suffix)
-          ≡ read strict state.Percent (after (event.Operand operand_variants.C) p) suffix
-      one c suffix = grind arith
 
   -- = or !=, in the two states before it
   comparison_read :
@@ -305,8 +298,7 @@ module _ (strict : Bool) where
   related :
       (c : PluralCategory) {text rest : List ℕ} {r : RelationValue} → g.Related text r rest → (p : Partial) (x : Rest)
       → (strict ≡ true → RelationFits r)
-      → ((q : Partial) (s : State) → IsAfterRange s
-      → core (after event.And q) ≡ core (record p { relations = p.relations ++ r ∷ [] }) → read strict s q rest ≡ x)
+      → Continues (λ q. core (after event.And q) ≡ core (record p { relations = p.relations ++ r ∷ [] })) rest x
       → read strict (condition_of c) p text ≡ x
   related c (g.related {operand = o} {modulus = m} {is_equal} l d compares rs) p x fits k =
       letter c l p
@@ -328,8 +320,7 @@ module _ (strict : Bool) where
   conjunction :
       (c : PluralCategory) {text rest : List ℕ} {rs : List RelationValue} → g.AndCondition text rs rest → (p : Partial)
       (x : Rest) → (strict ≡ true → AndConditionFits rs)
-      → ((q : Partial) (s : State) → IsAfterRange s
-      → core (after event.And q) ≡ core (record p { relations = p.relations ++ rs }) → read strict s q rest ≡ x)
+      → Continues (λ q. core (after event.And q) ≡ core (record p { relations = p.relations ++ rs })) rest x
       → read strict (condition_of c) p text ≡ x
   conjunction c (g.AndCondition.one r) p x fits k = related c r p x (λ e. (fits e).0) k
   conjunction c (g.and {r} {rs} one word_and others) p x fits k =
@@ -344,9 +335,8 @@ module _ (strict : Bool) where
       (c : PluralCategory) {text rest : List ℕ} {alternatives : List (List RelationValue)}
       → g.Condition text alternatives rest → (p : Partial) (x : Rest)
       → (strict ≡ true → AllByRecursion AndConditionFits alternatives)
-      → ((q : Partial) (s : State) → IsAfterRange s
-      → core (after event.Or q) ≡ core (record p { alternatives = p.alternatives ++ alternatives; relations = [] })
-      → read strict s q rest ≡ x)
+      → Continues (λ q. core (after event.Or q)
+      ≡ core (record p { alternatives = p.alternatives ++ alternatives; relations = [] })) rest x
       → read strict (condition_of c) (record p { relations = [] }) text ≡ x
   condition c (g.Condition.one rs) p x fits k =
       conjunction c rs (record p { relations = [] }) x (λ e. (fits e).0) (λ q s b is. k q s b (ap end_alternative is))
@@ -389,17 +379,12 @@ module _ (strict : Bool) where
       ∙ skip_samples skipped rest none (after e q)
       ∙ k state.Samples event.Nothing (after e q) (refl, λ seen. refl, λ b p. refl, λ p. refl) all (h.3 q ∙ same)
 
-  name_read :
-      (c : PluralCategory) (p : Partial) → IsNewCategory p.seen c → (suffix : List ℕ)
-      → read strict state.Category p (name_of c ++ suffix) ≡ read strict (colon c) p suffix
-  name_read c p h suffix = grind (arith, h)
-
   category_read :
       {text colon_text suffix : List ℕ} → (c : PluralCategory) → g.Token (name_of c) text colon_text
       → g.Token (codes ":") colon_text suffix → (p : Partial) → IsNewCategory p.seen c
       → read strict state.Category p text ≡ read strict (condition_of c) (after (event.Category c) p) suffix
   category_read c name after_name p new =
-      token state.Category (colon c) p p (name_read c p new) (λ seen x b. grind (arith, b)) name
+      token state.Category (colon c) p p (λ more. grind (arith, new)) (λ seen x b. grind (arith, b)) name
       ∙ token (colon c) (condition_of c) p (after (event.Category c) p)
       (λ suffix. step (colon c) p 58 suffix (condition_of c) (event.Category c) (grind arith) refl)
       (λ seen x b. grind (arith, b)) after_name
