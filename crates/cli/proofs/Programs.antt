@@ -20,7 +20,7 @@ use Rattle.cli.specs.declared.words.WordsError.TheVariants as reason
 use Rattle.cli.specs.Errors.{fixdec_error_of}
 use Rattle.cli.specs.declared.error.OperationError.TheVariants.{Output}
 use Rattle.cli.specs.Arguments.{Arguments, HaveWords}
-use Rattle.cli.specs.Fixdec.{HasRun, NamesRun, HasError, PrintsLine, PrintsLinePrefix, Prints, PrintsPrefix}
+use Rattle.cli.specs.Fixdec.{HasText, HasRun, NamesRun, HasError, PrintsLine, PrintsLinePrefix, Prints, PrintsPrefix}
 
 -- ---- Words and calls, one by one.
 
@@ -86,30 +86,30 @@ module _
     module _
         (first : String Global) (l : 1 ≤ length rest) (is : first ≡ get_or rest 0 first)
       where
-        others : List (String Global)
+        abbrev others : List (String Global)
         others = take (length rest - 1) (drop 1 rest)
 
-        split_text : IsReadSplit words read (first ∷ others)
-        unfolding others
-        split_text = subst (IsReadSplit words read) (first_and_others rest first l is) split
+        has_text : {P : Option (List ℕ) → List ℕ → List (String Global) → Type 0}
+            → P read (string_bytes first) others → HasText words P
+        has_text holds = record {
+          read = read;
+          first = first;
+          others = others;
+          split = subst (IsReadSplit words read) (first_and_others rest first l is) split;
+          holds = holds;
+        }
 
         -- the first is the text, and the others name a conversion
         pub names_run :
-            (conversion : Conversion) → NamesConversion read (take (length rest - 1) (drop 1 rest)) conversion
+            (conversion : Conversion) → NamesConversion read others conversion
             → NamesRun words conversion (string_bytes first)
-        unfolding others
-        names_run conversion names =
-            record { read = read; first = first; others = others; split = split_text; holds = (refl, names) }
+        names_run conversion names = has_text (refl, names)
 
         -- they name none
         pub words_fail :
-            (error : WordsError) → ConversionFails read (take (length rest - 1) (drop 1 rest)) error
-            → HasError words (fixdec_error_of error)
-        unfolding others
-        words_fail reason.Usage fails =
-            inr (record { read = read; first = first; others = others; split = split_text; holds = fails })
-        words_fail error fails =
-            inr (record { read = read; first = first; others = others; split = split_text; holds = fails })
+            (error : WordsError) → ConversionFails read others error → HasError words (fixdec_error_of error)
+        words_fail reason.Usage fails = inr (has_text fails)
+        words_fail error fails = inr (has_text fails)
 
 -- ---- Results.
 
