@@ -5,13 +5,12 @@ use Rattle.std.proofs.Math.Seq.{take-length}
 use Rattle.std.specs.Io.KnownBytes.{Appends}
 use Rattle.std.proofs.KnownBytes.{Appends-trans}
 use Rattle.decimal_digits.specs.AppendsPrefix.{AppendsPrefix}
-use Rattle.fixed_decimal.specs.Outcome.{OutcomeError}
 use Rattle.fixed_decimal.proofs.Calling.{prefix_more, then_prefix}
 use Rattle.cli.specs.declared.conversion.Conversion.{Conversion}
 use Rattle.cli.specs.declared.error.OperationError.{OperationError}
 use Rattle.cli.specs.declared.error.OperationError.TheVariants.{Memory, Output}
 use Rattle.cli.specs.declared.fields.Field.{Field}
-use Rattle.cli.specs.Conversion.{IsOutcome, OperationsFail, error_of}
+use Rattle.cli.specs.Conversion.{IsOutcome, OperationsFail}
 use Rattle.cli.specs.Fields.{Holds, located, within}
 use Rattle.cli.specs.Errors.{status_of_operation}
 use Rattle.cli.proofs.Conversions.{error_is_outcome}

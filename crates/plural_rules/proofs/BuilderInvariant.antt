@@ -1,20 +1,18 @@
 -- Rules that fit are built byte by byte: the reader does not stop at any byte, and every number is small.
-use Rattle.std.proofs.Common.{◌≡◌, ℕ, ◌+◌, ◌*◌, ◌<◌, ◌≤◌, Bool, true, false, cond, List, length, take, drop, get_or, refl, sym, ◌∙◌, ap, arith}
+use Rattle.std.proofs.Common.{◌≡◌, ℕ, ◌+◌, ◌<◌, ◌≤◌, Bool, true, false, cond, List, length, take, drop, get_or, refl, sym, ◌∙◌, ap, arith}
 use Rattle.std.specs.Prelude.{Some, None}
-use Rattle.std.proofs.lemmas.Bool.{leb-true}
 use Rattle.std.proofs.lemmas.List.{take_all, take-append-drop}
 use Rattle.plural_rules.specs.declared.parse.state.State.{State}
 use Rattle.plural_rules.specs.declared.parse.state.State.TheVariants as state
 use Rattle.plural_rules.specs.declared.parse.state.Event.{Event}
-use Rattle.plural_rules.specs.declared.parse.state.Event.TheVariants as event
 use Rattle.plural_rules.specs.declared.parse.state.Categories.{Categories}
 use Rattle.plural_rules.specs.declared.parse.builder.Builder.{Builder}
 use Rattle.plural_rules.specs.Rules.{RuleValue}
 use Rattle.plural_rules.specs.RulesGrammar.{Grammar}
-use Rattle.plural_rules.specs.RulesReader.{no_rules, Partial, after, next, at_end, limit}
+use Rattle.plural_rules.specs.RulesReader.{no_rules, Partial, after, next, at_end}
 use Rattle.plural_rules.specs.RulesBuilder.{partial, IsSmall}
 use Rattle.plural_rules.specs.RulesParseResult.{Fits}
-use Rattle.plural_rules.proofs.RulesRun.{allowed, run, finish, finished, run_more, FitsSoFar, in_64_bits}
+use Rattle.plural_rules.proofs.RulesRun.{allowed, run, finish, finished, run_more, FitsSoFar}
 use Rattle.plural_rules.proofs.ParserComplete.{read-complete}
 use Rattle.plural_rules.proofs.ViablePrefixes.{stopped}
 

@@ -6,7 +6,7 @@ use Rattle.std.proofs.lemmas.Bool.Decides.{nat_tests}
 use Rattle.std.specs.Char.{is_ascii_digit, digit_value}
 use Rattle.std.specs.List.{AllByRecursion}
 use Rattle.std.specs.Str.{all_ascii_digits}
-use Rattle.std.specs.Str.Parse.{digits_value, digits_value_after}
+use Rattle.std.specs.Str.Parse.{digits_value_after}
 use Rattle.plural_rules.specs.declared.rules.PluralCategory.{PluralCategory}
 use Rattle.plural_rules.specs.declared.rules.PluralCategory.TheVariants as category
 use Rattle.plural_rules.specs.declared.rules.Operand.{Operand}
@@ -21,7 +21,7 @@ use Rattle.plural_rules.specs.Rules.{name_of, RelationValue, RuleValue, rule}
 use Rattle.plural_rules.specs.RulesGrammar as g
 use Rattle.plural_rules.specs.RulesGrammar.{is_blank, operand_word, HasNoLeadingDigit, HasDistinctCategories, Grammar}
 use Rattle.plural_rules.specs.RulesParseResult.{RangeFits, RelationFits, AndConditionFits, RuleFits, Fits}
-use Rattle.plural_rules.specs.RulesReader.{has, with, is_full, no_categories, Partial, no_rules, end_range, end_relation, end_alternative, modulus_of, after, next, follows_range, at_end, condition_of, limit}
+use Rattle.plural_rules.specs.RulesReader.{has, with, is_full, no_categories, Partial, no_rules, end_range, end_relation, end_alternative, after, next, follows_range, at_end, condition_of, limit}
 use Rattle.plural_rules.proofs.RulesRun.{allowed, finish, finished, transitions, run, read}
 
 -- ---- Bytes.

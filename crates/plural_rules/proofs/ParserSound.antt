@@ -1,6 +1,6 @@
 -- A text that the reader accepts is in the grammar: for each state, the form of a text that is accepted from it.
 use Rattle.std.proofs.Common.{◌≡◌, ◌≢◌, ℕ, suc, ◌+◌, ◌-◌, ◌*◌, ◌<◌, ◌≤◌, ◌==◌, nat_lt, Bool, true, false, cond, ◌&&◌, ◌||◌, List, [], ◌∷◌, ◌++◌, length, drop, get_or, refl, sym, ◌∙◌, ap, arith, eqb-true, drop-cons}
-use Rattle.std.specs.Prelude.{Option, Some, None, codes}
+use Rattle.std.specs.Prelude.{Some, None, codes}
 use Rattle.std.proofs.lemmas.Bool.{and_from, ltb-true}
 use Rattle.std.proofs.lemmas.List.{drop_all}
 use Rattle.std.proofs.lemmas.Bool.Decides.{nat_tests}

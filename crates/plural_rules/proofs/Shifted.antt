@@ -1,8 +1,8 @@
 -- The digits of a number times a power of ten.
-use Rattle.std.proofs.Common.{◌≡◌, ℕ, zero, suc, ◌+◌, ◌-◌, ◌*◌, ◌/◌, ◌%◌, ◌^◌, ◌<◌, ◌≤◌, ◌==◌, refl, sym, ◌∙◌, ap, subst, arith, rules, inl, inr}
+use Rattle.std.proofs.Common.{◌≡◌, ℕ, zero, suc, ◌+◌, ◌-◌, ◌*◌, ◌/◌, ◌%◌, ◌^◌, ◌<◌, ◌≤◌, ◌==◌, refl, sym, ◌∙◌, ap, arith, rules, inl, inr}
 use Rattle.std.specs.Prelude.{ℤ, pos, negsuc, ◌+ℤ◌, ◌≤ℤ◌}
 use Rattle.std.specs.Int.{int_max, int_min, ◌∣◌}
-use Rattle.std.proofs.Math.Nat.{mod-lt, dvd-mul_left, mul-lt-mul_of_pos_right, mul-mod_left, mul-pos, mul-div-mul_right, mod-eq-sub-div-mul, mul_assoc, mul_comm, mul-sub, div-add-mod', div-eq_of_lt, pow-le-pow_right}
+use Rattle.std.proofs.Math.Nat.{mod-lt, dvd-mul_left, mul-lt-mul_of_pos_right, mul-pos, div-add-mod', div-eq_of_lt, pow-le-pow_right}
 use Rattle.std.proofs.lemmas.Nat.{mod-mul-add}
 use Rattle.std.proofs.lemmas.Nat.Gcd.{dvd_trans, dvd_of_mod-eq-zero, mod-eq-zero_of_dvd}
 use Rattle.std.proofs.lemmas.Int.{ints, clamps}

@@ -1,8 +1,7 @@
-use Rattle.std.proofs.Common.{◌≡◌, ◌≢◌, [], Ok, Err, inr, true, false, refl, sym, ap, ◌∙◌, arith, rules}
+use Rattle.std.proofs.Common.{◌≡◌, ◌≢◌, [], Ok, Err, inr, refl, ap, arith, rules}
 use Rattle.std.proofs.KnownBytes.{Appends-kept, Appends-nil}
 use Rattle.cli.specs.declared.error.FilterError.TheVariants.{Operation}
 use Rattle.cli.specs.declared.error.OperationError.TheVariants.{Output}
-use Rattle.cli.specs.declared.filter.OnError.TheVariants.{Stop}
 use Rattle.cli.specs.Errors.{status_of_operation}
 use Rattle.cli.proofs.FieldLines.{error_is_result}
 use Rattle.cli.proofs.filter.filter_line.Goals as goal

@@ -1,4 +1,4 @@
-use Rattle.std.proofs.Common.{◌≡◌, length, take, sym, arith, rules}
+use Rattle.std.proofs.Common.{take, sym, arith, rules}
 use Rattle.cli.proofs.Separators.{by_byte_start, by_byte_other, by_byte_end, by_byte_separator, by_byte_all, by_byte_none}
 use Rattle.cli.proofs.fields.Field.bounds_by_byte.Goals as goal
 

@@ -1,5 +1,4 @@
-use Rattle.std.proofs.Common.{w16, to_z, of_z, sym, ◌∙◌, subst, arith}
-use Rattle.std.specs.Prelude.{pos, negsuc, ◌≤ℤ◌}
+use Rattle.std.proofs.Common.{sym, ◌∙◌, subst, arith}
 use Rattle.std.proofs.lemmas.Int.{ints}
 use Rattle.decimal_digits.specs.Number.{IsFirst}
 use Rattle.plural_rules.proofs.Shifted.{integer_digits_of}
