@@ -10,7 +10,7 @@ use Rattle.fixed_decimal.specs.Calls.{CallsFail}
 use Rattle.fixed_decimal.specs.Outcome.{OutcomeError, after_calls, start}
 use Rattle.fixed_decimal.specs.declared.runs.Call.{Call}
 use Rattle.fixed_decimal.specs.declared.runs.RunError.{RunError}
-use Rattle.fixed_decimal.specs.declared.runs.RunError.TheVariants.{Start, Operand, Overlap, Limit, Memory, Sink}
+use Rattle.fixed_decimal.specs.declared.runs.RunError.TheVariants.{Start, Operand, Memory, Sink}
 use Rattle.cli.specs.declared.conversion.Conversion.{Conversion}
 use Rattle.cli.specs.declared.error.OperationError.TheVariants as operation
 use Rattle.cli.specs.declared.error.OperationError.{OperationError}
@@ -19,16 +19,7 @@ use Rattle.cli.specs.Conversion.{IsReadAs, ReadingFails, IsOutcome, OperationsFa
 
 -- only a failed sink is a failed output
 pub output_is_sink : (why : RunError) → error_of_run why ≡ operation.Output → why ≡ Sink
-output_is_sink Sink is = refl
-output_is_sink (Start parse.Limit) is = cc
-output_is_sink (Start parse.Syntax) is = cc
-output_is_sink (Start parse.Memory) is = cc
-output_is_sink (Operand at parse.Limit) is = cc
-output_is_sink (Operand at parse.Syntax) is = cc
-output_is_sink (Operand at parse.Memory) is = cc
-output_is_sink (Overlap at) is = cc
-output_is_sink (Limit at) is = cc
-output_is_sink (Memory at) is = cc
+output_is_sink why is = grind arith
 
 -- an error of reading is none of the output
 pub reading_no_output : (why : ParseError) → error_of_run (Start why) ≡ operation.Output → ⊥
@@ -65,14 +56,11 @@ module _ (c : Conversion) (text : List ℕ) where
     -- an error of the calls
     pub calls_fail :
         (why : RunError) → CallsFail INLINE_DIGITS why v c.calls.items → OperationsFail (error_of_run why) c text
-    calls_fail (Operand at parse.Limit) h = (_, refl, read_outcome (Err _) h)
-    calls_fail (Operand at parse.Syntax) h = (_, refl, read_outcome (Err _) h)
     calls_fail (Operand at parse.Memory) h = inr (v, read, (Operand at parse.Memory, h, refl))
-    calls_fail (Overlap at) h = (_, refl, read_outcome (Err _) h)
-    calls_fail (Limit at) h = (_, refl, read_outcome (Err _) h)
     calls_fail (Memory at) h = inr (v, read, (Memory at, h, refl))
     calls_fail (Start fault) h = absurd h
     calls_fail Sink h = absurd h
+    calls_fail why h = (_, refl, read_outcome (Err _) h)
 
 -- an error with status 1 is that of an outcome
 pub error_is_outcome :

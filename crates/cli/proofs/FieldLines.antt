@@ -5,14 +5,12 @@ use Rattle.std.proofs.Math.Seq.{take-length}
 use Rattle.std.specs.Io.KnownBytes.{Appends}
 use Rattle.std.proofs.KnownBytes.{Appends-trans}
 use Rattle.decimal_digits.specs.AppendsPrefix.{AppendsPrefix}
-use Rattle.fixed_decimal.specs.Outcome.{OutcomeError}
 use Rattle.fixed_decimal.proofs.Calling.{prefix_more, then_prefix}
 use Rattle.cli.specs.declared.conversion.Conversion.{Conversion}
 use Rattle.cli.specs.declared.error.OperationError.{OperationError}
-use Rattle.cli.specs.declared.error.OperationError.TheVariants.{Quote, Start, Operand, Overlap, Overflow, Memory, Output}
-use Rattle.cli.specs.declared.error.OperationError.TheVariants as operation
+use Rattle.cli.specs.declared.error.OperationError.TheVariants.{Memory, Output}
 use Rattle.cli.specs.declared.fields.Field.{Field}
-use Rattle.cli.specs.Conversion.{IsOutcome, OperationsFail, error_of}
+use Rattle.cli.specs.Conversion.{IsOutcome, OperationsFail}
 use Rattle.cli.specs.Fields.{Holds, located, within}
 use Rattle.cli.specs.Errors.{status_of_operation}
 use Rattle.cli.proofs.Conversions.{error_is_outcome}
@@ -50,26 +48,14 @@ module _ (field : Field) (conversion : Conversion) (bytes text : List ℕ) (hold
       (written : List ℕ) → IsOutcome conversion text (Ok written) → IsFieldResult field conversion bytes (Ok written)
   field_converted written is = inl (text, holds, (Ok written, is, refl))
 
-  field_fails :
-      (error : OperationError)
-      → ((why : OutcomeError) × (error ≡ error_of why) × IsOutcome conversion text (Err why))
-      → IsFieldResult field conversion bytes (Err error)
-  field_fails error (why, same, is) = inl (text, holds, (Err why, is, ap Err same))
-
   -- its conversion to a sink in memory failed, and not because it was out of memory
   pub field_error :
       (error result : OperationError) → OperationsFail error conversion text → (error ≡ Output → result ≡ Memory)
       → (error ≢ Output → result ≡ error) → result ≢ Memory → IsFieldResult field conversion bytes (Err result)
   field_error Memory result fails output same other = absurd (other (same (λ is. cc)))
   field_error Output result fails output same other = absurd (other (output refl))
-  field_error operation.Field result fails output same other = rw (same (λ is. cc)) (field_fails operation.Field fails)
-  field_error Quote result fails output same other = rw (same (λ is. cc)) (field_fails Quote fails)
-  field_error (Start reason) result fails output same other =
-      rw (same (λ is. cc)) (field_fails (Start reason) fails)
-  field_error (Operand at reason) result fails output same other =
-      rw (same (λ is. cc)) (field_fails (Operand at reason) fails)
-  field_error (Overlap at) result fails output same other = rw (same (λ is. cc)) (field_fails (Overlap at) fails)
-  field_error (Overflow at) result fails output same other = rw (same (λ is. cc)) (field_fails (Overflow at) fails)
+  field_error error result (why, is_error, is) output same other =
+      rw (same (λ is. cc)) (inl (text, holds, (Err why, is, ap Err is_error)))
 
 -- ---- The result of a line.
 
@@ -87,12 +73,7 @@ module _
         → error ≢ Output → LineFails (Some field) conversion line error
     line_fails Memory is other = (bounds, found)
     line_fails Output is other = absurd (other refl)
-    line_fails operation.Field is other = line_result (Err operation.Field) (is (λ e. cc))
-    line_fails Quote is other = line_result (Err Quote) (is (λ e. cc))
-    line_fails (Start reason) is other = line_result (Err (Start reason)) (is (λ e. cc))
-    line_fails (Operand at reason) is other = line_result (Err (Operand at reason)) (is (λ e. cc))
-    line_fails (Overlap at) is other = line_result (Err (Overlap at)) (is (λ e. cc))
-    line_fails (Overflow at) is other = line_result (Err (Overflow at)) (is (λ e. cc))
+    line_fails error is other = line_result (Err error) (is (λ e. cc))
 
 -- an error with status 1 is that of the result
 pub error_is_result :

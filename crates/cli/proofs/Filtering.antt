@@ -51,20 +51,16 @@ results_more :
     → AreResults filter number (lines ++ (line ∷ [])) (results ++ (r ∷ []))
 results_more filter number [] [] line r h is =
     let e : number + 0 ≡ number = omega arith in
-    let first : IsResultOfLine filter number line r = rw e at is in
-    (first, tt)
+    (rw e at is, tt)
 results_more filter number (x ∷ xs) (y ∷ ys) line r (first, rest) is =
     let e : number + suc (length xs) ≡ number + 1 + length xs = omega arith in
-    let next : IsResultOfLine filter (number + 1 + length xs) line r = rw e at is in
-    (first, results_more filter (number + 1) xs ys line r rest next)
-results_more filter number [] (y ∷ ys) line r never is = absurd never
-results_more filter number (x ∷ xs) [] line r never is = absurd never
+    (first, results_more filter (number + 1) xs ys line r rest (rw e at is))
+results_more filter number lines results line r never is = absurd never
 
 -- lines that have texts have no errors
 no_errors : (results : List (Result (List ℕ) FilterError)) → have_texts results ≡ true → errors_of results ≡ []
 no_errors [] h = refl
-no_errors (Ok text ∷ results) h = no_errors results h
-no_errors (Err error ∷ results) h = cc
+no_errors (r ∷ results) h = grind (arith, h, no_errors results)
 
 -- a fold over two lists, one after the other
 folds_both :
@@ -141,8 +137,7 @@ module _
         → AreResults filter 1 (h.lines ++ (line ∷ [])) (h.results ++ (r ∷ []))
     results_next line r is =
         let number : count + 1 ≡ 1 + length h.lines = omega (arith, h.number) in
-        let next : IsResultOfLine filter (1 + length h.lines) line r = rw number at is in
-        results_more filter 1 h.lines h.results line r h.are_results next
+        results_more filter 1 h.lines h.results line r h.are_results (rw number at is)
 
     module _ (r : Result (List ℕ) FilterError) where
       output_next :

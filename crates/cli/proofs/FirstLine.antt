@@ -3,7 +3,7 @@ use Rattle.std.proofs.Common.{◌≡◌, ◌≢◌, ℕ, zero, suc, ◌+◌, ◌
 use Rattle.std.specs.Io.{StartsWith}
 use Rattle.std.specs.Io.KnownBytes.{Keeps}
 use Rattle.std.specs.Io.BufRead.{take_through, drop_through, strip_last, first_piece, DropsConsumable}
-use Rattle.std.proofs.lemmas.Bool.{cond-true, cond-false}
+use Rattle.std.proofs.lemmas.Bool.{cond-false}
 use Rattle.std.proofs.lemmas.Grind.{common_steps}
 use Rattle.memchr.specs.Find.{IsFirstByte, is_byte}
 use Rattle.cli.specs.FilterLine.{IsRead}
@@ -31,9 +31,7 @@ line_at :
     (xs rest : List ℕ) (i : ℕ) → i < length xs → ((k : ℕ) → k < i → slice_index xs k ≢ 10) → slice_index xs i ≡ 10
     → (first_piece 10 (xs ++ rest) ≡ take i xs) × (drop_through 10 (xs ++ rest) ≡ drop (suc i) (xs ++ rest))
 line_at [] rest i inside before here = absurd (omega arith)
-line_at (x ∷ xs) rest zero inside before here =
-    let first = eq-eqb x 10 here in
-    (ap (strip_last 10) (cond-true _ _ _ first) ∙ cond-true _ _ _ first, cond-true _ _ _ first)
+line_at (x ∷ xs) rest zero inside before here = grind (arith, common_steps, here)
 line_at (x ∷ []) rest (suc i) inside before here = absurd (omega arith)
 line_at (x ∷ y ∷ ys) rest (suc i) inside before here =
     let other = ne_eqb x 10 (before 0 (zero-lt-suc i)) in
@@ -44,8 +42,7 @@ line_at (x ∷ y ∷ ys) rest (suc i) inside before here =
     )
 
 fits_less : (limit : Option ℕ) (m n : ℕ) → m ≤ n → IfSome limit (λ k. n ≤ k) → IfSome limit (λ k. m ≤ k)
-fits_less None m n less fits = tt
-fits_less (Some k) m n less fits = omega arith
+fits_less limit m n less fits = grind arith
 
 -- the next line of a reader is in the block that it shows, before the first line feed
 pub next_in_block :

@@ -1,10 +1,11 @@
 -- The numbers that bytes stand for.
-use Rattle.std.proofs.Common.{◌≡◌, ◌≢◌, ℕ, ◌<◌, ◌≤◌, ◌&&◌, ◌⊎◌, inl, inr, Bool, true, false, nat_le, nat_lt, ℤ, pos, neg_ℤ, List, [], ◌∷◌, length, get_or, Option, Some, None, Result, Ok, Err, Bor, refl, ap, arith, w16}
+use Rattle.std.proofs.Common.{◌≡◌, ◌≢◌, ℕ, ◌<◌, ◌≤◌, ◌&&◌, ◌⊎◌, inl, inr, Bool, true, false, nat_le, ℤ, pos, neg_ℤ, List, [], ◌∷◌, length, get_or, Option, Some, None, Result, Ok, Err, Bor, refl, ap, arith, w16}
 use Rattle.std.specs.Option.{option_map, unwrap_or, MatchOption}
 use Rattle.std.specs.Result.{OkIff, result_ok}
 use Rattle.std.specs.Str.{all_ascii_digits}
 use Rattle.std.specs.Str.Parse.{digits_value, ParsesSigned}
-use Rattle.std.proofs.lemmas.Bool.{and_parts, and_from, leb-true, ltb-true, le-leb, lt-ltb, ne_eqb, false≢true}
+use Rattle.std.proofs.lemmas.Bool.Decides.{nat_tests}
+use Rattle.std.proofs.lemmas.Bool.{and_parts, leb-true, ltb-true, ne_eqb}
 use Rattle.std.proofs.lemmas.Str.Parse.{IsNumeralModel, numerals_by_value, tells_all_ascii_digits, parse_signed_minus, parse_signed_plain}
 use Rattle.cli.specs.Words.{are_digits, digits_up_to, number}
 
@@ -32,8 +33,7 @@ module _ (f : ℕ → ℤ) (most : ℕ) (ds : List ℕ) where
   reads (Ok x) short to from (q, e) =
       let (d, some, fits) = from q in
       let t : (are_digits ds && nat_le (digits_value 10 ds) most) ≡ true =
-      and_from _ _ (and_from _ _ d (and_from _ _ (lt-ltb 0 (length ds) some) (le-leb (length ds) 6 short)))
-      (le-leb _ most fits) in
+      grind (arith, nat_tests, d, some, fits) in
       rw t (ap Some e)
   reads (Err e) short to from never =
       let t : (are_digits ds && nat_le (digits_value 10 ds) most) ≡ false = not_true _ (λ h.
@@ -44,19 +44,11 @@ module _ (f : ℕ → ℤ) (most : ℕ) (ds : List ℕ) where
       rw t refl
 
 too_long : (ds : List ℕ) → 6 < length ds → are_digits ds ≡ true → ⊥
-too_long ds long h =
-    let sized : (nat_lt 0 (length ds) && nat_le (length ds) 6) ≡ true =
-    (and_parts (all_ascii_digits ds) (nat_lt 0 (length ds) && nat_le (length ds) 6) h).1 in
-    let few : nat_le (length ds) 6 ≡ true = (and_parts (nat_lt 0 (length ds)) (nat_le (length ds) 6) sized).1 in
-    let short : length ds ≤ 6 = leb-true (length ds) 6 few in
-    omega arith
+too_long ds long h = grind (arith, nat_tests)
 
 plus : (ds : List ℕ) → get_or ds 0 0 ≡ 43 → are_digits ds ≡ true → ⊥
 plus [] e h = grind arith
-plus (d ∷ ds) e h =
-    let p : all_ascii_digits (d ∷ ds) ≡ true = (and_parts _ _ h).0 in
-    let q : all_ascii_digits (43 ∷ ds) ≡ true = rw e at p in
-    false≢true q
+plus (d ∷ ds) e h = grind (arith, nat_tests)
 
 -- the digits are the word without a leading minus
 abbrev pub IsWithoutMinus : List ℕ → List ℕ → Type 0

@@ -58,23 +58,6 @@ module _
     cut : texts ≡ take i texts ++ text ∷ drop (suc i) texts
     cut = split_at texts i text l ∙ ap (λ x. take i texts ++ x ∷ drop (suc i) texts) (sym e)
 
-    -- this one fails
-    fails_here :
-        (error : PluralError) → error ≢ Output → TextFails rules (string_bytes text) (i + 1) error → new ≡ mid
-        → StopsAt rules texts old new error
-    fails_here error other fails same =
-        let (lines, have, appends) = before in
-        let kept : Appends old new lines = subst (λ now. Appends old now lines) (sym same) appends in
-        let count : length (take i texts) ≡ i = length-take-le i texts (omega (arith, l)) in (
-          take i texts,
-          text ∷ drop (suc i) texts,
-          lines,
-          cut,
-          have,
-          (lines, [], append-nil lines, kept),
-          λ _. (kept, subst (λ k. TextFails rules (string_bytes text) (k + 1) error) (sym count) fails),
-        )
-
     -- the error of this one; at `Output` it is that of its line
     pub stops_here :
         (error : PluralError) → TextFails rules (string_bytes text) (i + 1) error → (error ≢ Output → new ≡ mid)
@@ -93,7 +76,18 @@ module _
           then_prefix old mid new lines (category_line category) appends line,
           λ other. absurd (other refl),
         )
-    stops_here error fails same part = fails_here error (λ is. cc) fails (same (λ is. cc))
+    stops_here error fails same part =
+        let (lines, have, appends) = before in
+        let kept : Appends old new lines = subst (λ now. Appends old now lines) (sym (same (λ is. cc))) appends in
+        let count : length (take i texts) ≡ i = length-take-le i texts (omega (arith, l)) in (
+          take i texts,
+          text ∷ drop (suc i) texts,
+          lines,
+          cut,
+          have,
+          (lines, [], append-nil lines, kept),
+          λ _. (kept, subst (λ k. TextFails rules (string_bytes text) (k + 1) error) (sym count) fails),
+        )
 
 -- calls that keep the contents of a writer keep the printed lines
 module _ (rules : List RuleValue) (texts : List (String Global)) (old mid new : Option (List ℕ)) (k : Keeps mid new)

@@ -20,7 +20,7 @@ use Rattle.cli.specs.declared.words.WordsError.TheVariants as reason
 use Rattle.cli.specs.Errors.{fixdec_error_of}
 use Rattle.cli.specs.declared.error.OperationError.TheVariants.{Output}
 use Rattle.cli.specs.Arguments.{Arguments, HaveWords}
-use Rattle.cli.specs.Fixdec.{NamesRun, HasError, PrintsLine, PrintsLinePrefix, Prints, PrintsPrefix}
+use Rattle.cli.specs.Fixdec.{HasText, HasRun, NamesRun, HasError, PrintsLine, PrintsLinePrefix, Prints, PrintsPrefix}
 
 -- ---- Words and calls, one by one.
 
@@ -30,8 +30,7 @@ pub names_more :
     → Names (string_bytes w) call → NameAll (ws ++ (w ∷ [])) (cs ++ (call ∷ []))
 names_more [] [] w call h k = (k, tt)
 names_more (x ∷ ws) (y ∷ cs) w call (p, h) k = (p, names_more ws cs w call h k)
-names_more [] (y ∷ cs) w call h k = absurd h
-names_more (x ∷ ws) [] w call h k = absurd h
+names_more ws cs w call h k = absurd h
 
 -- the first words, and the next one appended
 pub taken :
@@ -41,8 +40,7 @@ taken ws i w l e = rw add-one (take-suc ws i w l ∙ ap (λ x. take i ws ++ (x �
 
 -- what is known of a result that is None
 pub at_none : {A : Type 0} {Q : Type 0} (o : Option A) → is_some o ≡ false → IfNone o Q → Q
-at_none None e q = q
-at_none (Some x) e q = cc
+at_none o e q = grind arith
 
 -- the value of a result that is Some, and what is known of it
 pub at_some : {A : Type 0} {Q : A → Type 0} (o : Option A) → is_some o ≡ true → IfSome o Q → (x : A) × Q x
@@ -88,32 +86,30 @@ module _
     module _
         (first : String Global) (l : 1 ≤ length rest) (is : first ≡ get_or rest 0 first)
       where
-        others : List (String Global)
+        abbrev others : List (String Global)
         others = take (length rest - 1) (drop 1 rest)
 
-        split_text : IsReadSplit words read (first ∷ others)
-        unfolding others
-        split_text = subst (IsReadSplit words read) (first_and_others rest first l is) split
+        has_text : {P : Option (List ℕ) → List ℕ → List (String Global) → Type 0}
+            → P read (string_bytes first) others → HasText words P
+        has_text holds = record {
+          read = read;
+          first = first;
+          others = others;
+          split = subst (IsReadSplit words read) (first_and_others rest first l is) split;
+          holds = holds;
+        }
 
         -- the first is the text, and the others name a conversion
         pub names_run :
-            (conversion : Conversion) → NamesConversion read (take (length rest - 1) (drop 1 rest)) conversion
+            (conversion : Conversion) → NamesConversion read others conversion
             → NamesRun words conversion (string_bytes first)
-        unfolding others
-        names_run conversion names =
-            record { read = read; first = first; others = others; split = split_text; holds = (refl, names) }
+        names_run conversion names = has_text (refl, names)
 
         -- they name none
         pub words_fail :
-            (error : WordsError) → ConversionFails read (take (length rest - 1) (drop 1 rest)) error
-            → HasError words (fixdec_error_of error)
-        unfolding others
-        words_fail reason.Usage fails =
-            inr (record { read = read; first = first; others = others; split = split_text; holds = fails })
-        words_fail reason.UnknownLocale fails =
-            inr (record { read = read; first = first; others = others; split = split_text; holds = fails })
-        words_fail reason.Memory fails =
-            inr (record { read = read; first = first; others = others; split = split_text; holds = fails })
+            (error : WordsError) → ConversionFails read others error → HasError words (fixdec_error_of error)
+        words_fail reason.Usage fails = inr (has_text fails)
+        words_fail error fails = inr (has_text fails)
 
 -- ---- Results.
 
@@ -133,11 +129,6 @@ pub at_ok :
     {X E : Type 0} {P : Type 0} (r : Result X E) (status : ℕ) → IfErr r (λ _. 0 < status) → status ≡ 0 → OnOk r P → P
 at_ok (Ok x) status h zero p = p
 at_ok (Err e) status some zero p = absurd (omega (arith, some, zero))
-
--- and so does a property that follows from it
-pub ok_weaker : {X E : Type 0} {P Q : Type 0} (r : Result X E) → (P → Q) → OnOk r P → OnOk r Q
-ok_weaker (Ok x) f h = f h
-ok_weaker (Err e) f h = h
 
 -- ---- What was printed.
 
@@ -168,15 +159,15 @@ pub line_kept :
 line_kept c text a b d p k =
     outcome_map c text _ _ (λ written h. Appends-kept a b d (written ++ (10 ∷ [])) h k) p
 
--- the same for the run of the words
+-- what is true of the run of the words, and what follows from it
+pub run_of : {words : List (String Global)} {P : Conversion → List ℕ → Type 0} (c : Conversion) (text : List ℕ)
+    → NamesRun words c text → P c text → HasRun words P
+run_of c text names holds = record { conversion = c; text = text; names = names; holds = holds }
+
+-- the text and the line feed of the run were written to a block, and all of it
 pub prints_kept :
     (words : List (String Global)) (a b d : Option (List ℕ)) → Prints words a b → Keeps b d → Prints words a d
-prints_kept words a b d h k = record {
-  conversion = h.conversion;
-  text = h.text;
-  names = h.names;
-  holds = line_kept h.conversion h.text a b d h.holds k;
-}
+prints_kept words a b d h k = run_of h.conversion h.text h.names (line_kept h.conversion h.text a b d h.holds k)
 
 -- P holds of the words of the arguments
 pub have_words :
@@ -190,16 +181,6 @@ pub unwritten_fails :
     (words : List (String Global)) (a b d : Option (List ℕ)) → Prints words a b → Keeps b d
     → HasError words (Operation Output) × PrintsPrefix words a d
 unwritten_fails words a b d h k = (
-  record {
-    conversion = h.conversion;
-    text = h.text;
-    names = h.names;
-    holds = (h.holds.0, h.holds.1);
-  },
-  record {
-    conversion = h.conversion;
-    text = h.text;
-    names = h.names;
-    holds = line_begun h.conversion h.text a b d h.holds k;
-  },
+  run_of h.conversion h.text h.names (h.holds.0, h.holds.1),
+  run_of h.conversion h.text h.names (line_begun h.conversion h.text a b d h.holds k),
 )

@@ -1,7 +1,7 @@
 -- Texts in quotes.
-use Rattle.std.proofs.Common.{◌≡◌, ◌≢◌, ◌⊎◌, ℕ, suc, ◌+◌, ◌<◌, Bool, true, false, not, List, [], ◌∷◌, ◌++◌, length, take, drop, get_or, inl, inr, ⊎_elim, refl, sym, ap, ◌∙◌, subst, append_assoc, add-one, arith, take-append-drop, Option}
+use Rattle.std.proofs.Common.{◌≡◌, ◌≢◌, ◌⊎◌, ℕ, suc, ◌+◌, ◌<◌, Bool, true, false, not, List, [], ◌∷◌, ◌++◌, length, take, drop, get_or, ⊎_elim, refl, sym, ap, ◌∙◌, subst, append_assoc, add-one, arith, take-append-drop, Option}
 use Rattle.std.specs.List.{list_any}
-use Rattle.std.proofs.lemmas.Bool.{cond-true, cond-false, cases_Bool, eqb-true, false≢true}
+use Rattle.std.proofs.lemmas.Bool.{cond-true, cond-false, eqb-true, false≢true}
 use Rattle.std.proofs.lemmas.List.{append-nil}
 use Rattle.std.proofs.Math.Bool.{beq}
 use Rattle.std.proofs.lemmas.Grind.{common_steps, flat_map-append}
@@ -26,38 +26,19 @@ doubled_first :
     → (rest : List ℕ) × (((is_quote x ≡ true) × (left ≡ quote ∷ doubled rest))
     ⊎ ((is_quote x ≡ false) × (left ≡ doubled rest)))
 doubled_first x left [] e = cc
-doubled_first x left (y ∷ rest) e =
-    ⊎_elim
-    (λ is. let f : x ∷ left ≡ quote ∷ (quote ∷ doubled rest) = e ∙ ap (λ l. l ++ doubled rest) (double_quote y is) in
-    let same : x ≡ quote = cc in
-    (rest, inl (ap is_quote same, cc)))
-    (λ is. let f : x ∷ left ≡ y ∷ doubled rest = e ∙ ap (λ l. l ++ doubled rest) (double_other y is) in
-    let same : x ≡ y = cc in
-    (rest, inr (ap is_quote same ∙ is, cc)))
-    (cases_Bool (is_quote y))
+doubled_first x left (y ∷ rest) e = (rest, grind (arith, common_steps))
 
 -- a text with no quote
 pub doubled_plain : (text : List ℕ) → list_any is_quote text ≡ false → doubled text ≡ text
 doubled_plain [] none = refl
-doubled_plain (x ∷ text) none =
-    ⊎_elim
-    (λ here. let some : list_any is_quote (x ∷ text) ≡ true = grind (arith, common_steps, here) in cc)
-    (λ here. let rest : list_any is_quote text ≡ false = grind (arith, common_steps, here, none) in
-    ap (λ l. l ++ doubled text) (double_other x here) ∙ ap (λ l. x ∷ l) (doubled_plain text rest))
-    (cases_Bool (is_quote x))
+doubled_plain (x ∷ text) none = grind (arith, common_steps, none, doubled_plain text)
 
 -- two tests that agree, or not
 agree : (a b : Bool) → beq a b ≡ true → a ≡ b
-agree true true h = refl
-agree false false h = refl
-agree true false h = cc
-agree false true h = cc
+agree a b h = grind arith
 
 differ : (a b : Bool) → beq a b ≡ false → a ≡ not b
-differ true true h = cc
-differ false false h = cc
-differ true false h = refl
-differ false true h = refl
+differ a b h = grind arith
 
 -- ---- The text in quotes, byte by byte.
 

@@ -1,7 +1,7 @@
 -- The delimiters of a line, from left to right, and the fields that are left after some of them.
 use Rattle.std.proofs.Common.{◌≡◌, ℕ, zero, suc, ◌+◌, ◌-◌, ◌<◌, ◌≤◌, Bool, true, false, List, [], ◌∷◌, ◌++◌, length, take, drop, slice_get, slice_index, Some, None, refl, sym, ap, ◌≢◌, ◌==◌, ◌&&◌, ⊎_elim, ◌∙◌, arith, eq-eqb, eqb-true}
 use Rattle.std.specs.Prelude.{⊤, filter}
-use Rattle.std.proofs.lemmas.Bool.{cond_both, cond-true, cond-false, cases_Bool, false≢true}
+use Rattle.std.proofs.lemmas.Bool.{and_parts, cond_both, cond-true, cond-false, cases_Bool, false≢true}
 use Rattle.std.proofs.lemmas.Grind.{common_steps}
 use Rattle.std.proofs.Math.Seq.{take-add}
 use Rattle.memchr.specs.Find.{OccursAt, occurs_at, match_len, matches_from, matches}
@@ -99,9 +99,7 @@ module _ (field : Field) (line : List ℕ) where
 
       -- and the field ends at it
       pub scanned_end : now ≡ true → left ≡ 0 → bounds field line ≡ Some (start, at)
-      scanned_end out none =
-          h.left_is ∙ ap (slice_get (later field line start (at ∷ indices))) none
-          ∙ ap (λ fields. slice_get fields 0) (separated out)
+      scanned_end out none = let fields = separated out in cc
 
       -- or comes after it
       pub scanned_separator :
@@ -109,6 +107,7 @@ module _ (field : Field) (line : List ℕ) where
           → Scanned field line (at + length field.delimiter.now) (left - 1) now at indices
       scanned_separator out some =
           let more : left ≡ suc (left - 1) = omega arith in
+          let fields = separated out in
           let (from, to, rest) = h.spaced_counted in
           record {
             spaced_start = rest;
@@ -116,8 +115,7 @@ module _ (field : Field) (line : List ℕ) where
             start_inside = to;
             counted_inside = omega arith;
             outside_is = now_is;
-            left_is = h.left_is ∙ ap (slice_get (later field line start (at ∷ indices))) more
-                ∙ ap (λ fields. slice_get fields (suc (left - 1))) (separated out);
+            left_is = cc h.left_is;
           }
 
       -- it is between quotes
@@ -228,31 +226,31 @@ module _ (field : Field) (line : List ℕ) (d : ℕ) (one : field.delimiter.now 
 
       -- the byte separates two fields
       separated_here :
-          before ≡ true → slice_index line at ≡ d
+          (before && (slice_index line at == d)) ≡ true
           → later field line start (rest line d at) ≡ (start, at) ∷ later field line (at + 1) (rest line d (at + 1))
-      separated_here out here =
-          ap (later field line start) (rest-hit line d at l here)
+      separated_here both =
+          let (out, here) = and_parts _ _ both in
+          ap (later field line start) (rest-hit line d at l (eqb-true _ _ here))
           ∙ ap (bounds_from field line start) (cond-true _ _ _ (sym h.outside_is ∙ out))
           ∙ ap (λ n. (start, at) ∷ later field line (at + n) (rest line d (at + 1))) width
 
       -- and the field ends at it
       pub by_byte_end :
-          before ≡ true → slice_index line at ≡ d → left ≡ 0 → bounds field line ≡ Some (start, at)
-      by_byte_end out here none =
-          h.left_is ∙ ap (slice_get (later field line start (rest line d at))) none
-          ∙ ap (λ fields. slice_get fields 0) (separated_here out here)
+          (before && (slice_index line at == d)) ≡ true → left ≡ 0 → bounds field line ≡ Some (start, at)
+      by_byte_end both none = let fields = separated_here both in cc
 
       -- or comes after it
       pub by_byte_separator :
-          before ≡ true → slice_index line at ≡ d → left ≢ 0 → ByByte field line d (at + 1) (left - 1) now (at + 1)
-      by_byte_separator out here some =
+          (before && (slice_index line at == d)) ≡ true → left ≢ 0
+          → ByByte field line d (at + 1) (left - 1) now (at + 1)
+      by_byte_separator both some =
           let next : left ≡ suc (left - 1) = omega arith in
+          let fields = separated_here both in
           record {
             start_inside = omega arith;
             inside = omega arith;
             outside_is = after_is;
-            left_is = h.left_is ∙ ap (slice_get (later field line start (rest line d at))) next
-                ∙ ap (λ fields. slice_get fields (suc (left - 1))) (separated_here out here);
+            left_is = cc h.left_is;
           }
 
       skipped :

@@ -1,6 +1,6 @@
 -- The operands are those of the digits of the text.
-use Rattle.std.proofs.Common.{◌≡◌, ℕ, ◌+◌, ◌-◌, ◌*◌, ◌/◌, ◌%◌, ◌^◌, ◌<◌, ◌≤◌, nat_lt, ◌||◌, cond, Bool, true, false, List, ◌++◌, length, map, refl, sym, ◌∙◌, ap, subst, arith}
-use Rattle.std.specs.Prelude.{None, Ok, Err, pos, ◌-ℤ◌}
+use Rattle.std.proofs.Common.{◌≡◌, ℕ, ◌+◌, ◌-◌, ◌*◌, ◌/◌, ◌%◌, ◌^◌, ◌<◌, ◌≤◌, List, ◌++◌, length, map, sym, ◌∙◌, ap, subst, arith}
+use Rattle.std.specs.Prelude.{None, Ok, pos, ◌-ℤ◌}
 use Rattle.std.specs.Int.{int_gap}
 use Rattle.std.specs.Int.Digits.{number_from_digits}
 use Rattle.std.specs.Char.{digit_value}
@@ -13,7 +13,7 @@ use Rattle.std.proofs.lemmas.Bool.Decides.{nat_tests}
 use Rattle.std.proofs.Math.Nat.{mul-div_cancel, mul-div-mul_right}
 use Rattle.decimal_digits.specs.Number.{offset, weight}
 use Rattle.decimal_unsigned.specs.Grammar.{Literal, Grammar}
-use Rattle.decimal_unsigned.specs.Reading.{limit, mantissa, scaled, value_of, read, FollowsGrammar}
+use Rattle.decimal_unsigned.specs.Reading.{mantissa, scaled, value_of, read, FollowsGrammar}
 use Rattle.decimal_unsigned.specs.Unsigned.{Unsigned}
 use Rattle.decimal_unsigned.specs.Text.{text}
 use Rattle.fixed_decimal.proofs.Calling.{ten_pos, offset_is, gap_is, powers, number-append}
@@ -32,14 +32,7 @@ numeral_append xs ys =
 parts_is : (w : Literal) (v : Unsigned) → w.exponent ≡ None → value_of w ≡ Ok v
     → (length w.fraction ≤ 32768) × (mantissa w.whole w.fraction ≡ v)
 unfolding value_of scaled
-parts_is w v none e = go _ refl _ refl (rw none at e)
-  where
-    go : (a : Bool) → nat_lt 32768 (length w.whole) ≡ a → (b : Bool) → nat_lt 32768 (length w.fraction) ≡ b
-        → cond (a || b) (Err limit) (Ok (mantissa w.whole w.fraction)) ≡ Ok v
-        → (length w.fraction ≤ 32768) × (mantissa w.whole w.fraction ≡ v)
-    go true p b q e = absurd (cc)
-    go false p true q e = absurd (cc)
-    go false p false q e = (grind (arith, nat_tests, q), cc)
+parts_is w v none e = let is = rw none at e in grind (arith, nat_tests, is)
 
 -- the operands of the value of these digits
 of_mantissa : (w : Literal) → AllDigits 10 w.fraction → length w.fraction ≤ 32768

@@ -1,8 +1,8 @@
 -- What `check` knows of a text after each byte.
-use Rattle.std.proofs.Common.{◌≡◌, ℕ, ◌+◌, ◌-◌, ◌*◌, ◌<◌, ◌≤◌, nat_le, Bool, true, false, not, cond, List, length, take, drop, get_or, refl, sym, ◌∙◌, ap, arith, inl, inr}
+use Rattle.std.proofs.Common.{◌≡◌, ℕ, ◌+◌, ◌-◌, ◌*◌, ◌<◌, ◌≤◌, nat_le, Bool, true, false, not, cond, List, length, take, drop, get_or, refl, sym, ◌∙◌, ap, arith}
 use Rattle.std.specs.Prelude.{Some, None}
 use Rattle.std.specs.Char.{is_ascii_digit}
-use Rattle.std.proofs.lemmas.Bool.{and_parts, cases_lt, false≢true}
+use Rattle.std.proofs.lemmas.Bool.{and_parts, false≢true}
 use Rattle.std.proofs.lemmas.List.{take_all, take-append-drop}
 use Rattle.plural_rules.specs.declared.parse.state.State.{State}
 use Rattle.plural_rules.specs.declared.parse.state.State.TheVariants as state
@@ -15,7 +15,7 @@ use Rattle.plural_rules.specs.RulesGrammar.{Grammar}
 use Rattle.plural_rules.specs.RulesReader.{no_categories, no_rules, Partial, after, seen_after, next, at_end, limit, checked_number, numbers_after, AreNumbersOf}
 use Rattle.plural_rules.specs.RulesParseResult.{IsFittingPrefix, AreDigits, HasNoDigitBefore}
 use Rattle.plural_rules.proofs.Transitions.{is_open, starts_number, is_digits, is_valid, transition_is_valid}
-use Rattle.plural_rules.proofs.RulesRun.{allowed, any_allowed, apply_transition, run, finish, finished, read, run_more, transitions, read_fits}
+use Rattle.plural_rules.proofs.RulesRun.{allowed, any_allowed, run, finish, finished, read, run_more, read_fits}
 use Rattle.plural_rules.proofs.ParserSound.{read-sound}
 use Rattle.plural_rules.proofs.ViablePrefixes.{can_fit, stopped}
 
@@ -55,33 +55,12 @@ checked_first text = record {
 
 -- an event changes the categories of the reader and those of the rules in the same way
 seen_after_is : (e : Event) (p : Partial) → (after e p).seen ≡ seen_after e p.seen
-seen_after_is event.Nothing p = refl
-seen_after_is e p = refl
-
-not_true : (b : Bool) → not b ≡ true → b ≡ false
-not_true true h = absurd (false≢true h)
-not_true false h = refl
+seen_after_is e p = grind arith
 
 digit_more :
     (text : List ℕ) (begin i : ℕ) → AreDigits text begin i → is_ascii_digit (get_or text i 0) ≡ true
     → AreDigits text begin (i + 1)
-digit_more text begin i before is j from less = elim (cases_lt j i) [
-  | inl h ↦ before j from h
-  | inr h ↦ let same : j ≡ i = omega arith in rw same is
-]
-
--- an event other than a digit does not lead to a state within a number
-no_digits : (t : State) (d : Bool) → cond (starts_number t) (not d) (not (is_digits t)) ≡ true → is_digits t ≡ true → ⊥
-no_digits state.Zeros d h i = false≢true h
-no_digits state.ModulusDigits d h i = false≢true h
-no_digits state.LowDigits d h i = false≢true h
-no_digits state.HighDigits d h i = false≢true h
-no_digits t d h i = false≢true i
-
-front_more : (e : Event) (s t : State) (d : Bool) → is_valid s e t d ≡ true → starts_number t ≡ true → d ≡ false
-front_more (event.First n) s t d h i = absurd (false≢true (rw i at (and_parts (not (starts_number t)) _ h).0))
-front_more (event.Digit n) s t d h i = absurd (false≢true (rw i at (and_parts (not (starts_number t)) _ h).0))
-front_more e s t d h i = not_true d (rw i at h)
+digit_more text begin i before is j from less = grind (arith, before, is)
 
 -- one more byte
 module _ (text : List ℕ) (i : ℕ) (s : State) (p : Partial) (s2 : State) (less : i < length text)
@@ -89,17 +68,15 @@ module _ (text : List ℕ) (i : ℕ) (s : State) (p : Partial) (s2 : State) (les
   run_on : (e : Event) → next p.seen s (get_or text i 0) ≡ Some (s2, e) → allowed true e p ≡ true
       → run true state.Category no_rules (take i text) ≡ Some (s, p)
       → run true state.Category no_rules (take (i + 1) text) ≡ Some (s2, after e p)
-  run_on e to may runs =
-      run_more true text i s p less runs
-      ∙ transitions true (next p.seen s (get_or text i 0)) s2 e p (λ s q. Some (s, q)) to may
+  run_on e to may runs = run_more true text i s p less runs to ∙ ap (λ b. cond b (Some (s2, after e p)) None) may
 
   apart : (e : Event) → next p.seen s (get_or text i 0) ≡ Some (s2, e)
       → is_valid s e s2 (is_ascii_digit (get_or text i 0))
       ≡ cond (starts_number s2) (not (is_ascii_digit (get_or text i 0))) (not (is_digits s2))
       → {begin : ℕ} → is_digits s2 ≡ true → Begun text begin (i + 1)
   apart e to other digits =
-      absurd (no_digits s2 (is_ascii_digit (get_or text i 0))
-      (sym other ∙ (transition_is_valid p.seen s (get_or text i 0) s2 e to).0) digits)
+      let valid = sym other ∙ (transition_is_valid p.seen s (get_or text i 0) s2 e to).0 in
+      absurd (grind (arith, valid, digits))
 
   -- one more digit of a number
   count :
@@ -112,8 +89,7 @@ module _ (text : List ℕ) (i : ℕ) (s : State) (p : Partial) (s2 : State) (les
       more : run true state.Category no_rules (take (i + 1) text)
           ≡ cond (nat_le n (limit is_modulus)) (Some (s2, after e p)) None
       more =
-          run_more true text i s p less runs ∙ ap (λ m. apply_transition true m p (λ s q. Some (s, q))) to
-          ∙ ap (λ b. cond b (Some (s2, after e p)) None) may
+          run_more true text i s p less runs to ∙ ap (λ b. cond b (Some (s2, after e p)) None) may
 
       go : (b : Bool) → nat_le n (limit is_modulus) ≡ b
           → NumbersAre text (i + 1) s2 (after e p) (cond b (Fit n is_modulus begin) (TooLarge begin))
@@ -151,13 +127,7 @@ module _ (text : List ℕ) (i : ℕ) (s : State) (p : Partial) (s2 : State) (les
         some = omega (arith, begun.some);
         digits = digit_more text begin i begun.digits digit.1;
       })
-  numbers_more event.Percent (Fit n is_modulus begin) to h =
-      (run_on event.Percent to refl h.0, refl, refl, apart event.Percent to refl)
-  numbers_more (event.Equal b) (Fit n is_modulus begin) to h =
-      (run_on (event.Equal b) to refl h.0, h.1, refl, apart (event.Equal b) to refl)
-  numbers_more (event.Operand o) (Fit n is_modulus begin) to h =
-      (run_on (event.Operand o) to refl h.0, h.1, refl, apart (event.Operand o) to refl)
-  numbers_more e (Fit n is_modulus begin) to h = (run_on e to refl h.0, h.1, h.2, apart e to refl)
+  numbers_more e (Fit n is_modulus begin) to h = (run_on e to refl h.0, (cc), (cc), apart e to refl)
 
 pub checked_more :
     {text : List ℕ} {i : ℕ} {s : State} {seen : Categories} {numbers : Numbers} (s2 : State) (e : Event)
@@ -171,13 +141,13 @@ checked_more {text} {i} {s} {seen} {numbers} s2 e less h to =
     record {
       p = after e h.p;
       runs =
-          run_more false text i s h.p less h.runs
-          ∙ transitions false (next h.p.seen s (get_or text i 0)) s2 e h.p (λ s q. Some (s, q)) to2 (any_allowed e h.p);
+          run_more false text i s h.p less h.runs to2
+          ∙ ap (λ b. cond b (Some (s2, after e h.p)) None) (any_allowed e h.p);
       seen_is = seen_after_is e h.p ∙ ap (seen_after e) h.seen_is;
       opens = ap (λ x. is_open x s2) (seen_after_is e h.p) ∙ so.1 h.opens;
       front = λ starts some.
           ap (λ n. is_ascii_digit (get_or text n 0)) same
-          ∙ front_more e s s2 (is_ascii_digit (get_or text i 0)) so.0 starts;
+          ∙ (grind (arith, so.0, starts));
       numbers_are = numbers_more text i s h.p s2 less h.front e numbers to2 h.numbers_are;
     }
 

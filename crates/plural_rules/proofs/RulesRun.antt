@@ -1,8 +1,7 @@
 -- The run of the reader over the bytes of a text; in strict mode it stops where a number does not fit.
-use Rattle.std.proofs.Common.{◌≡◌, ℕ, ◌+◌, ◌*◌, ◌^◌, ◌<◌, ◌≤◌, nat_le, nat_lt, Bool, true, false, not, cond, ◌&&◌, ◌||◌, List, [], ◌∷◌, ◌++◌, length, take, get_or, refl, ◌∙◌, ap, arith}
+use Rattle.std.proofs.Common.{◌≡◌, ℕ, ◌+◌, ◌*◌, ◌^◌, ◌<◌, ◌≤◌, nat_le, Bool, true, false, not, cond, ◌||◌, List, [], ◌∷◌, ◌++◌, length, take, get_or, refl, ◌∙◌, ap, arith}
 use Rattle.std.specs.Prelude.{Option, Some, None, IfSome}
 use Rattle.std.specs.List.{AllByRecursion}
-use Rattle.std.proofs.lemmas.Bool.{leb-true}
 use Rattle.std.proofs.lemmas.List.{take_more}
 use Rattle.plural_rules.specs.declared.parse.state.State.{State}
 use Rattle.plural_rules.specs.declared.parse.state.State.TheVariants as state
@@ -65,15 +64,15 @@ run_append strict (c ∷ text) more s p = go (run_append strict text more) (next
     go ih None = refl
     go ih (Some move) = bind_cond (allowed strict move.1 p) _ _ _ (ih move.0 (after move.1 p))
 
--- one more byte
-pub run_more : (strict : Bool) (text : List ℕ) (i : ℕ) (s : State) (p : Partial) → i < length text
-    → run strict state.Category no_rules (take i text) ≡ Some (s, p)
-    → run strict state.Category no_rules (take (i + 1) text)
-    ≡ apply_transition strict (next p.seen s (get_or text i 0)) p (λ s q. Some (s, q))
-run_more strict text i s p less h =
+-- one more byte, and its transition
+pub run_more : (strict : Bool) (text : List ℕ) (i : ℕ) (s : State) (p : Partial) {m : Transition} → i < length text
+    → run strict state.Category no_rules (take i text) ≡ Some (s, p) → next p.seen s (get_or text i 0) ≡ m
+    → run strict state.Category no_rules (take (i + 1) text) ≡ apply_transition strict m p (λ s q. Some (s, q))
+run_more strict text i s p less h to =
     ap (run strict state.Category no_rules) (take_more text i 0 less)
     ∙ run_append strict (take i text) (get_or text i 0 ∷ []) state.Category no_rules
     ∙ ap (λ x. bind x (λ s q. run strict s q (get_or text i 0 ∷ []))) h
+    ∙ ap (λ m. apply_transition strict m p (λ s q. Some (s, q))) to
 
 -- the run continues after an allowed transition
 pub transitions : (strict : Bool) (m : Transition) (s2 : State) (e : Event) (p : Partial) (go : State → Partial
@@ -85,8 +84,7 @@ transitions strict m s2 e p go h a =
 -- ---- Rules that the strict reader accepts fit, and are those of the other one.
 
 pub any_allowed : (e : Event) (p : Partial) → allowed false e p ≡ true
-any_allowed (event.First d) p = refl
-any_allowed e p = refl
+any_allowed e p = grind arith
 
 was_allowed : (a : Bool) (y : Reached) (x : State × Partial) → cond a y None ≡ Some x → (a ≡ true) × (y ≡ Some x)
 was_allowed true y x h = (refl, h)
@@ -105,24 +103,12 @@ all_more P [] y h i = (i, tt)
 all_more P (x ∷ xs) y h i = (h.0, all_more P xs y h.1 i)
 
 pub in_64_bits : (b : Bool) (n : ℕ) → n ≤ limit b → n < 2 ^ 64
-in_64_bits true n h = omega arith
-in_64_bits false n h = omega arith
-
-at_most : (b : Bool) (n : ℕ) → n ≤ limit b → n ≤ limit false
-at_most b n h = let less : n < 2 ^ 64 = in_64_bits b n h in omega arith
-
-modulus_fits : (b c : Bool) (n : ℕ) → n ≤ limit b → IfSome (cond (b && c) (Some n) None) (λ m. m ≤ 10 ^ 18)
-modulus_fits true true n h = h
-modulus_fits true false n h = tt
-modulus_fits false c n h = tt
-
-range_fits : (low : Option ℕ) (n : ℕ) → IfSome low (λ m. m < 2 ^ 64) → n < 2 ^ 64 → RangeFits (range_of low n)
-range_fits None n h i = (i, i)
-range_fits (Some low) n h i = (h, i)
+in_64_bits b n h = grind arith
 
 range_ends : (p : Partial) → FitsSoFar p → FitsSoFar (end_range p)
 range_ends p h =
-    let range = range_fits p.low p.number h.5 (in_64_bits p.is_divided p.number h.6) in
+    let least = in_64_bits p.is_divided p.number h.6 in
+    let range : RangeFits (range_of p.low p.number) = grind (arith, h.5, least) in
     (h.0, h.1, h.2, h.3, all_more RangeFits p.ranges (range_of p.low p.number) h.4 range, tt, h.6)
 
 relation_ends : (p : Partial) → FitsSoFar p → FitsSoFar (end_relation p)
@@ -140,17 +126,6 @@ rule_ends p h =
 
 -- the number after an allowed event fits
 pub fits_on : (e : Event) (p : Partial) → FitsSoFar p → allowed true e p ≡ true → FitsSoFar (after e p)
-fits_on event.Nothing p h a = h
-fits_on (event.Category k) p h a = (h.0, tt, tt, h.3, h.4, h.5, h.6)
-fits_on (event.Operand o) p h a = (h.0, h.1, h.2, h.3, tt, h.5, at_most p.is_divided p.number h.6)
-fits_on event.Percent p h a = (h.0, h.1, h.2, h.3, h.4, h.5, omega arith)
-fits_on (event.First d) p h a = (h.0, h.1, h.2, h.3, h.4, h.5, leb-true d (limit p.is_divided) a)
-fits_on (event.Digit d) p h a =
-    (h.0, h.1, h.2, h.3, h.4, h.5, leb-true (p.number * 10 + d) (limit p.is_divided) a)
-fits_on (event.Equal e) p h a =
-    let modulus = modulus_fits p.is_divided (nat_lt 0 p.number) p.number h.6 in
-    (h.0, h.1, h.2, modulus, h.4, tt, at_most p.is_divided p.number h.6)
-fits_on event.To p h a = (h.0, h.1, h.2, h.3, h.4, in_64_bits p.is_divided p.number h.6, h.6)
 fits_on event.Comma p h a = range_ends p h
 fits_on event.And p h a = relation_ends (end_range p) (range_ends p h)
 fits_on event.Or p h a = alternative_ends (after event.And p) (relation_ends (end_range p) (range_ends p h))
@@ -158,6 +133,7 @@ fits_on event.End p h a =
     rule_ends (after event.Or p)
     (alternative_ends (after event.And p) (relation_ends (end_range p) (range_ends p h)))
 fits_on event.EndOther p h a = rule_ends p h
+fits_on e p h a = grind arith
 
 -- a run of the strict reader is one of the other, and its rules fit
 strict_run : (text : List ℕ) (s : State) (p : Partial) (x : State × Partial) → FitsSoFar p
@@ -183,17 +159,6 @@ pub reached_strictly : (text : List ℕ) (s : State) (p : Partial)
 reached_strictly text s p h =
     strict_run text state.Category no_rules (s, p) (tt, tt, tt, tt, tt, tt, omega arith) h
 
--- a property of each of the three events at the end of a text
-pub at_end_all : (P : Event → Type 0) → P event.EndOther → P event.End → P event.Nothing → (s : State) (e : Event)
-    → at_end s ≡ Some e → P e
-at_end_all P o d n state.OtherCondition e h = let same : event.EndOther ≡ e = cc in rw (← same) o
-at_end_all P o d n state.LowDigits e h = let same : event.End ≡ e = cc in rw (← same) d
-at_end_all P o d n state.AfterLow e h = let same : event.End ≡ e = cc in rw (← same) d
-at_end_all P o d n state.HighDigits e h = let same : event.End ≡ e = cc in rw (← same) d
-at_end_all P o d n state.AfterHigh e h = let same : event.End ≡ e = cc in rw (← same) d
-at_end_all P o d n state.Samples e h = let same : event.Nothing ≡ e = cc in rw (← same) n
-at_end_all P o d n s e h = absurd (cc)
-
 -- rules that the strict reader accepts fit, and are those of the other one
 pub read_fits : (text : List ℕ) (rules : List RuleValue) → read true state.Category no_rules text ≡ Some rules
     → Fits rules × (read false state.Category no_rules text ≡ Some rules)
@@ -204,7 +169,8 @@ read_fits text rules h = go (run true state.Category no_rules text) refl h
     ended s p f None is h = absurd (cc)
     ended s p f (Some e) is h =
         let same : (after e p).rules ≡ rules = cc in
-        let fits = fits_on e p f (at_end_all (λ e. allowed true e p ≡ true) refl refl refl s e is) in
+        let may : allowed true e p ≡ true = grind (arith, is) in
+        let fits = fits_on e p f may in
         rw (← same) (fits.0)
 
     go : (x : Reached) → run true state.Category no_rules text ≡ x → finish x ≡ Some rules

@@ -1,8 +1,10 @@
 -- The digits of a number times a power of ten.
-use Rattle.std.proofs.Common.{◌≡◌, ℕ, zero, suc, ◌+◌, ◌-◌, ◌*◌, ◌/◌, ◌%◌, ◌^◌, ◌<◌, ◌≤◌, ◌==◌, refl, sym, ◌∙◌, ap, subst, arith, rules, inl, inr}
+use Rattle.std.proofs.Common.{◌≡◌, ℕ, zero, suc, ◌+◌, ◌-◌, ◌*◌, ◌/◌, ◌%◌, ◌^◌, ◌<◌, ◌≤◌, ◌==◌, refl, sym, ◌∙◌, ap, arith, rules, inl, inr}
 use Rattle.std.specs.Prelude.{ℤ, pos, negsuc, ◌+ℤ◌, ◌≤ℤ◌}
-use Rattle.std.specs.Int.{int_max, int_min}
-use Rattle.std.proofs.Math.Nat.{mul-mod_left, mul-pos, mul-div-mul_right, mod-eq-sub-div-mul, mul_assoc, mul_comm, mul-sub, div-add-mod', div-eq_of_lt, pow-le-pow_right}
+use Rattle.std.specs.Int.{int_max, int_min, ◌∣◌}
+use Rattle.std.proofs.Math.Nat.{mod-lt, dvd-mul_left, mul-lt-mul_of_pos_right, mul-pos, div-add-mod', div-eq_of_lt, pow-le-pow_right}
+use Rattle.std.proofs.lemmas.Nat.{mod-mul-add}
+use Rattle.std.proofs.lemmas.Nat.Gcd.{dvd_trans, dvd_of_mod-eq-zero, mod-eq-zero_of_dvd}
 use Rattle.std.proofs.lemmas.Int.{ints, clamps}
 use Rattle.std.proofs.lemmas.Bool.{cases_lt}
 use Rattle.decimal_digits.specs.Number.{offset, weight, last, magnitude_at, IsFirst, IsLast}
@@ -61,41 +63,30 @@ fraction_at y number m c count is high below small e few =
           ∙ ap (λ n. n / weight y.lo % 10 ^ v y) is,
     )
 
--- the remainder of a product by a product with the same factor
-mod-scaled : (n p k : ℕ) → 0 < k → n * k % (p * k) ≡ n % p * k
-mod-scaled n p k h =
-    mod-eq-sub-div-mul (n * k) (p * k)
-    ∙ ap (λ q. n * k - q * (p * k)) (mul-div-mul_right n p h)
-    ∙ ap (λ y. n * k - y) (sym (mul_assoc (n / p) p k))
-    ∙ sym (mul_comm (n - n / p * p) k
-    ∙ mul-sub k n (n / p * p)
-    ∙ (λ j. mul_comm k n j - mul_comm k (n / p * p) j))
-    ∙ ap (λ y. y * k) (sym (mod-eq-sub-div-mul n p))
-
--- the same for powers of ten
+-- the remainder of a product by a power of ten, which divides by a factor of both
 mod_powers : (n c k : ℕ) → c ≤ k → n * 10 ^ c % 10 ^ k ≡ n % 10 ^ (k - c) * 10 ^ c
 mod_powers n c k h =
-    let split : 10 ^ k ≡ 10 ^ (k - c) * 10 ^ c = powers (k - c) c k (omega arith) in
-    ap (λ m. n * 10 ^ c % m) split ∙ mod-scaled n (10 ^ (k - c)) (10 ^ c) (ten_pos c)
+    let w = 10 ^ (k - c) in
+    let split : 10 ^ k ≡ w * 10 ^ c = powers (k - c) c k (omega arith) in
+    let parts : n * 10 ^ c ≡ n / w * (w * 10 ^ c) + n % w * 10 ^ c =
+    ap (λ m. m * 10 ^ c) (sym (div-add-mod' n w)) ∙ (omega arith) in
+    let less : n % w * 10 ^ c < w * 10 ^ c = mul-lt-mul_of_pos_right (mod-lt n (ten_pos (k - c))) (ten_pos c) in
+    (λ i. parts i % split i) ∙ mod-mul-add (n / w) (w * 10 ^ c) (n % w * 10 ^ c) less
 
 -- a multiple of 10^k is one of each lower power
 fewer : (n j k : ℕ) → j ≤ k → n % 10 ^ k ≡ 0 → n % 10 ^ j ≡ 0
 fewer n j k h e =
     let split : 10 ^ k ≡ 10 ^ (k - j) * 10 ^ j = powers (k - j) j k (omega arith) in
-    let whole : n / 10 ^ k * 10 ^ k ≡ n = omega (arith, div-add-mod' n (10 ^ k)) in
-    let same : n / 10 ^ k * 10 ^ (k - j) * 10 ^ j ≡ n =
-    mul_assoc (n / 10 ^ k) (10 ^ (k - j)) (10 ^ j) ∙ ap (λ m. n / 10 ^ k * m) (sym split) ∙ whole in
-    subst (λ m. m % 10 ^ j ≡ 0) same (mul-mod_left (n / 10 ^ k * 10 ^ (k - j)) (10 ^ j))
+    let divides : 10 ^ j ∣ 10 ^ k = rw split (dvd-mul_left (10 ^ j) (10 ^ (k - j))) in
+    mod-eq-zero_of_dvd (10 ^ j) (dvd_trans (10 ^ j) divides (dvd_of_mod-eq-zero (10 ^ k) e))
 
 -- a factor is above 0
 some : (n c : ℕ) → 0 < n * 10 ^ c → 0 < n
-some zero c h = absurd (omega (arith, h))
-some (suc n) c h = omega arith
+some n c h = grind arith
 
 -- a factor of 0 is 0
 none_left : (a k : ℕ) → 0 < k → a * k ≡ 0 → a ≡ 0
-none_left zero k h e = refl
-none_left (suc a) k h e = absurd (omega (arith, h, e))
+none_left a k h e = grind arith
 
 -- the last digit of a number whose other places are all 0 is at the highest place
 last_top : (n k : ℕ) → k + 1 ≡ 65536 → 0 < n → n % 10 ^ k ≡ 0 → last n ≡ magnitude_at k

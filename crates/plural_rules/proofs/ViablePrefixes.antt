@@ -1,7 +1,7 @@
 -- A text at which the reader does not stop is a prefix of rules: each state that it reaches has bytes that complete it.
-use Rattle.std.proofs.Common.{◌≡◌, ℕ, suc, zero, ◌+◌, ◌<◌, ◌≤◌, ◌==◌, nat_le, nat_lt, Bool, true, false, not, cond, ◌&&◌, List, [], ◌∷◌, ◌++◌, length, take, drop, get_or, refl, sym, ◌∙◌, ap, arith}
+use Rattle.std.proofs.Common.{◌≡◌, ℕ, suc, zero, ◌+◌, ◌<◌, ◌≤◌, ◌==◌, nat_le, nat_lt, Bool, true, false, not, ◌&&◌, List, [], ◌∷◌, ◌++◌, length, take, drop, get_or, refl, sym, ◌∙◌, ap, arith}
 use Rattle.std.specs.Prelude.{Option, Some, None, codes, is_some}
-use Rattle.std.proofs.lemmas.Bool.{and_parts, false≢true}
+use Rattle.std.proofs.lemmas.Bool.{false≢true}
 use Rattle.std.proofs.lemmas.Bool.Decides.{nat_tests}
 use Rattle.std.proofs.lemmas.List.{take_all, take-append-drop}
 use Rattle.plural_rules.specs.declared.rules.PluralCategory.{PluralCategory}
@@ -12,109 +12,58 @@ use Rattle.plural_rules.specs.declared.parse.state.Event.{Event}
 use Rattle.plural_rules.specs.declared.parse.state.Event.TheVariants as event
 use Rattle.plural_rules.specs.Rules.{name_of, RuleValue}
 use Rattle.plural_rules.specs.RulesGrammar.{Grammar}
-use Rattle.plural_rules.specs.RulesReader as reader
-use Rattle.plural_rules.specs.RulesReader.{has, is_full, no_rules, Transition, Partial, after, next, at_end, limit}
+use Rattle.plural_rules.specs.RulesReader.{is_full, condition_of, no_rules, Partial, after, next, at_end, limit}
 use Rattle.plural_rules.specs.RulesParseResult.{IsViablePrefix, IsFittingPrefix, Fits, IsSyntaxErrorAt}
 use Rattle.plural_rules.proofs.Transitions.{is_open, starts_number}
-use Rattle.plural_rules.proofs.RulesRun.{Reached, allowed, apply_transition, run, finish, finished, read, bind, run_append, run_more, transitions, read_fits}
-use Rattle.plural_rules.proofs.ParserComplete.{read-complete, read_any-complete}
+use Rattle.plural_rules.proofs.RulesRun.{allowed, run, finish, finished, read, bind, run_append, run_more, read_fits}
+use Rattle.plural_rules.proofs.ParserComplete.{step, read-complete, read_any-complete}
 use Rattle.plural_rules.proofs.ParserSound.{read-sound}
 
 -- ---- Completions of a state.
 
--- rules may end here
-abbrev may_end : Reached → Bool
-may_end None = false
-may_end (Some x) = is_some (at_end x.0)
-
--- bytes that lead to a state in which rules may end
+-- bytes after which rules may end
 abbrev Completion : Bool → State → Partial → Type 0
-Completion strict s p = (more : List ℕ) × (may_end (run strict s p more) ≡ true)
+Completion strict s p = (more : List ℕ) × (is_some (read strict s p more) ≡ true)
 
 -- a completion with one more byte before it
-completed :
-    (strict : Bool) (s : State) (p : Partial) (c : ℕ) (s2 : State) (e : Event) → next p.seen s c ≡ Some (s2, e)
-    → allowed strict e p ≡ true → Completion strict s2 (after e p) → Completion strict s p
-completed strict s p c s2 e h a go =
-    (c ∷ go.0, ap may_end (transitions strict (next p.seen s c) s2 e p (λ s q. run strict s q go.0) h a) ∙ go.1)
+completed : (strict : Bool) (s : State) (p : Partial) (c : ℕ) (s2 : State) (e : Event)
+    → next p.seen s c ≡ Some (s2, e) → allowed strict e p ≡ true → Completion strict s2 (after e p)
+    → Completion strict s p
+completed strict s p c s2 e h a go = (c ∷ go.0, ap is_some (step strict s p c go.0 s2 e h a) ∙ go.1)
 
-complete_condition : (p : Partial) (k : PluralCategory) → Completion false (reader.condition_of k) p
+complete_condition : (p : Partial) (k : PluralCategory) → Completion false (condition_of k) p
 complete_condition p category.Other = ([], refl)
 complete_condition p k = (codes "i=1", refl)
 
-if_true : (b : Bool) (x y : Transition) → b ≡ true → cond b x y ≡ x
-if_true b x y h = rw h refl
-
-if_false : (b : Bool) (x y : Transition) → b ≡ false → cond b x y ≡ y
-if_false b x y h = rw h refl
-
-same_is : (n : ℕ) → (n == n) ≡ true
-same_is n = grind (arith, nat_tests)
-
-is_over : (n l : ℕ) → l ≤ n → nat_lt n l ≡ false
-is_over n l h = grind (arith, nat_tests)
-
-complete_colon : (p : Partial) (k : PluralCategory) (n : ℕ) → nat_lt n (length (name_of k)) ≡ false
-    → Completion false (state.Letters k n) p
-complete_colon p k n over =
-    completed false (state.Letters k n) p 58 (reader.condition_of k) (event.Category k)
-    (if_false (nat_lt n (length (name_of k))) _ (Some (reader.condition_of k, event.Category k)) over) refl
-    (complete_condition (after (event.Category k) p) k)
-
 -- the rest of a name with at most `left` letters to go
-complete_letters : (left : ℕ) (p : Partial) (k : PluralCategory) (n : ℕ) → length (name_of k) ≤ n + left
-    → Completion false (state.Letters k n) p
-complete_letters zero p k n h = complete_colon p k n (is_over n (length (name_of k)) (omega arith))
-complete_letters (suc left) p k n h =
-    go (complete_letters left p k (n + 1) (omega arith)) (nat_lt n (length (name_of k))) refl
-  where
-    go : Completion false (state.Letters k (n + 1)) p → (b : Bool) → nat_lt n (length (name_of k)) ≡ b
-        → Completion false (state.Letters k n) p
-    go rest true is =
-        completed false (state.Letters k n) p (get_or (name_of k) n 0) (state.Letters k (n + 1)) event.Nothing
-        (if_true (nat_lt n (length (name_of k))) _ _ is
-        ∙ if_true _ (Some (state.Letters k (n + 1), event.Nothing)) None (same_is (get_or (name_of k) n 0)))
-        refl rest
-    go rest false is = complete_colon p k n is
-
-complete_name : (p : Partial) (k : PluralCategory) (n : ℕ) → Completion false (state.Letters k n) p
-complete_name p k n = complete_letters (length (name_of k)) p k n (omega arith)
-
--- a category that was not seen
-complete_fresh :
-    (p : Partial) (c : ℕ) (k : PluralCategory) → next p.seen state.Category c ≡ reader.new_category p.seen k
-    → has p.seen k ≡ false → Completion false state.Category p
-complete_fresh p c k is new =
-    completed false state.Category p c (state.Letters k 1) event.Nothing
-    (is ∙ if_false (has p.seen k) None _ new) refl (complete_name p k 1)
-
-not_both : (a b : Bool) → a ≡ true → not (a && b) ≡ true → b ≡ false
-not_both a b h i = grind (arith, h, i)
+complete_letters : (left : ℕ) (p : Partial) (k : PluralCategory) (n : ℕ) (b : Bool)
+    → nat_lt n (length (name_of k)) ≡ b → length (name_of k) ≤ n + left → Completion false (state.Letters k n) p
+complete_letters left p k n false is h =
+    completed false (state.Letters k n) p 58 (condition_of k) (event.Category k) (rw is refl) refl
+    (complete_condition (after (event.Category k) p) k)
+complete_letters zero p k n true is h = absurd (grind (arith, nat_tests, is))
+complete_letters (suc left) p k n true is h =
+    let same : (get_or (name_of k) n 0 == get_or (name_of k) n 0) ≡ true = grind (arith, nat_tests) in
+    completed false (state.Letters k n) p (get_or (name_of k) n 0) (state.Letters k (n + 1)) event.Nothing
+    (rw (is, same) refl) refl (complete_letters left p k (n + 1) _ refl (omega arith))
 
 complete_one : (p : Partial) → (b : Bool) → p.seen.one ≡ b → not (p.seen.one && p.seen.other) ≡ true
     → Completion false state.One p
-complete_one p false is opens =
-    completed false state.One p 110 (state.Letters category.One 2) event.Nothing (if_false p.seen.one None _ is) refl
-    (complete_name p category.One 2)
+complete_one p false is opens = (codes "ne:i=1", rw is refl)
 complete_one p true is opens =
-    completed false state.One p 116 (state.Letters category.Other 2) event.Nothing
-    (if_false p.seen.other None _ (not_both p.seen.one p.seen.other is opens)) refl
-    (complete_name p category.Other 2)
+    let other : p.seen.other ≡ false = grind (arith, is, opens) in (codes "ther:", rw other refl)
 
-complete_category : (p : Partial) (zero two few many o : Bool) → p.seen.zero ≡ zero → p.seen.two ≡ two
-    → p.seen.few ≡ few → p.seen.many ≡ many → (p.seen.one && p.seen.other) ≡ o → not (is_full p.seen) ≡ true
+complete_category : (p : Partial) (zero two few many both : Bool) → p.seen.zero ≡ zero → p.seen.two ≡ two
+    → p.seen.few ≡ few → p.seen.many ≡ many → (p.seen.one && p.seen.other) ≡ both → not (is_full p.seen) ≡ true
     → Completion false state.Category p
-complete_category p false two few many o z t f m eo opens = complete_fresh p 122 category.Zero refl z
-complete_category p true false few many o z t f m eo opens = complete_fresh p 116 category.Two refl t
-complete_category p true true false many o z t f m eo opens = complete_fresh p 102 category.Few refl f
-complete_category p true true true false o z t f m eo opens = complete_fresh p 109 category.Many refl m
-complete_category p true true true true false z t f m eo opens =
-    completed false state.Category p 111 state.One event.Nothing
-    (if_false (p.seen.one && p.seen.other) None _ eo) refl (complete_one p p.seen.one refl (ap not eo))
-complete_category p true true true true true z t f m eo opens =
-    let both = and_parts p.seen.one p.seen.other eo in
-    let full : is_full p.seen ≡ true = rw (z, both.0, t, f, m, both.1) refl in
-    absurd (false≢true (sym (ap not full) ∙ opens))
+complete_category p false two few many both z t f m o opens = (codes "zero:i=1", rw z refl)
+complete_category p true false few many both z t f m o opens = (codes "two:i=1", rw t refl)
+complete_category p true true false many both z t f m o opens = (codes "few:i=1", rw f refl)
+complete_category p true true true false both z t f m o opens = (codes "many:i=1", rw m refl)
+complete_category p true true true true false z t f m o opens =
+    completed false state.Category p 111 state.One event.Nothing (rw o refl) refl
+    (complete_one p p.seen.one refl (ap not o))
+complete_category p true true true true true z t f m o opens = absurd (grind (arith, z, t, f, m, o, opens))
 
 -- each open state has a completion
 completion : (s : State) (p : Partial) → is_open p.seen s ≡ true → Completion false s p
@@ -122,7 +71,7 @@ completion state.Category p opens =
     complete_category p p.seen.zero p.seen.two p.seen.few p.seen.many (p.seen.one && p.seen.other) refl refl refl refl
     refl opens
 completion state.One p opens = complete_one p p.seen.one refl opens
-completion (state.Letters k n) p opens = complete_name p k n
+completion (state.Letters k n) p opens = complete_letters (length (name_of k)) p k n _ refl (omega arith)
 completion state.Operand p opens = (codes "i=1", refl)
 completion state.Percent p opens = (codes "=1", refl)
 completion state.Modulus p opens = (codes "1=1", refl)
@@ -140,47 +89,39 @@ completion state.Blank p opens = (codes " i=1", refl)
 completion s p opens = ([], refl)
 
 one_fits : (b : Bool) → nat_le 1 (limit b) ≡ true
-one_fits true = refl
-one_fits false = refl
+one_fits b = grind arith
 
 -- a completion of a state before a number, with a small number
 small_completion : (s : State) (p : Partial) → starts_number s ≡ true → Completion true s p
-small_completion state.Modulus p h =
-    completed true state.Modulus p 49 state.ModulusDigits (event.First 1) refl (one_fits p.is_divided)
-    (codes "=1", refl)
-small_completion state.Low p h =
-    completed true state.Low p 49 state.LowDigits (event.First 1) refl (one_fits p.is_divided) ([], refl)
-small_completion state.High p h =
-    completed true state.High p 49 state.HighDigits (event.First 1) refl (one_fits p.is_divided) ([], refl)
+small_completion state.Modulus p h = (codes "1=1", rw (one_fits p.is_divided) refl)
+small_completion state.Low p h = (codes "1", rw (one_fits p.is_divided) refl)
+small_completion state.High p h = (codes "1", rw (one_fits p.is_divided) refl)
 small_completion s p h = absurd (false≢true h)
 
 -- ---- A text at which the reader does not stop.
 
--- the rules of a text that may end in its state
-ended : (x : Reached) → may_end x ≡ true → (rules : List RuleValue) × (finish x ≡ Some rules)
-ended None h = absurd (false≢true h)
-ended (Some x) h = go (at_end x.0) h
-  where
-    go : (e : Option Event) → is_some e ≡ true → (rules : List RuleValue) × (finished e x.1 ≡ Some rules)
-    go None h = absurd (false≢true h)
-    go (Some e) h = ((after e x.1).rules, refl)
-
+-- a text, and bytes that complete its state
 completed_text :
     (strict : Bool) (text : List ℕ) (s : State) (p : Partial)
     → run strict state.Category no_rules text ≡ Some (s, p) → Completion strict s p
     → (more : List ℕ) × (rules : List RuleValue) × (read strict state.Category no_rules (text ++ more) ≡ Some rules)
 completed_text strict text s p h go =
-    let all : run strict state.Category no_rules (text ++ go.0) ≡ run strict s p go.0 =
-    run_append strict text go.0 state.Category no_rules ∙ ap (λ x. bind x (λ s q. run strict s q go.0)) h in
-    let end = ended (run strict s p go.0) go.1 in
-    (go.0, end.0, ap finish all ∙ end.1)
+    let some = some_of (read strict s p go.0) go.1 in (
+      go.0,
+      some.0,
+      ap finish (run_append strict text go.0 state.Category no_rules ∙ ap (λ x. bind x (λ s q. run strict s q go.0)) h)
+          ∙ some.1,
+    )
+  where
+    some_of : (x : Option (List RuleValue)) → is_some x ≡ true → (rules : List RuleValue) × (x ≡ Some rules)
+    some_of None h = absurd (false≢true h)
+    some_of (Some rules) h = (rules, refl)
 
 -- the text is a prefix of rules
 viable : (text : List ℕ) (s : State) (p : Partial) → run false state.Category no_rules text ≡ Some (s, p)
     → is_open p.seen s ≡ true → IsViablePrefix text
 viable text s p h opens =
-    let go = completed_text false text s p h (completion s p opens) in
-    (go.0, go.1, read-sound go.2)
+    let go = completed_text false text s p h (completion s p opens) in (go.0, go.1, read-sound go.2)
 
 -- and, before a number and if all numbers so far fit, a prefix of rules that fit
 pub can_fit : (text : List ℕ) (s : State) (p : Partial) → run true state.Category no_rules text ≡ Some (s, p)
@@ -226,8 +167,7 @@ pub stopped_text :
     → run false state.Category no_rules (take at text) ≡ Some (s, p) → is_open p.seen s ≡ true
     → next p.seen s (get_or text at 0) ≡ None → IsSyntaxErrorAt text at
 stopped_text text at s p less h opens none =
-    let all : run false state.Category no_rules (take (at + 1) text) ≡ None =
-    run_more false text at s p less h ∙ ap (λ m. apply_transition false m p (λ s q. Some (s, q))) none in
+    let all = run_more false text at s p less h none in
     record {
       within = omega arith;
       rejected = λ rules grammar. stopped false (take (at + 1) text) (drop (at + 1) text) rules all

@@ -1,6 +1,6 @@
 -- The parser as a state machine: the transition on each byte at each state, and the rules so far.
 -- Only private contracts cite this file.
-use Rattle.std.specs.Prelude.{ℕ, ◌+◌, ◌-◌, ◌*◌, ◌^◌, ◌==◌, nat_lt, nat_le, Bool, true, false, ◌||◌, ◌&&◌, if◌then◌else◌, List, [], ◌∷◌, ◌++◌, length, get_or, Option, Some, None, option_map}
+use Rattle.std.specs.Prelude.{ℕ, ◌+◌, ◌-◌, ◌*◌, ◌^◌, ◌==◌, nat_lt, nat_le, Bool, true, false, ◌||◌, ◌&&◌, if◌then◌else◌, List, [], ◌∷◌, ◌++◌, length, get_or, Option, Some, None}
 use Rattle.std.specs.Char.{is_ascii_digit}
 use Rattle.plural_rules.specs.declared.rules.PluralCategory.{PluralCategory}
 use Rattle.plural_rules.specs.declared.rules.PluralCategory.TheVariants.{Zero, One as CategoryOne, Two, Few, Many, Other}
@@ -80,19 +80,17 @@ condition_of Other = state.OtherCondition
 condition_of category = state.Operand
 
 -- the letter of an operand
-abbrev pub operand_letter : ℕ → Option Operand
-operand_letter c =
-    if c == 110 then Some N
-    else if c == 105 then Some I
-    else if c == 118 then Some V
-    else if c == 119 then Some W
-    else if c == 102 then Some F
-    else if c == 116 then Some T
-    else if c == 99 || c == 101 then Some C
-    else None
-
 abbrev pub operand : ℕ → Transition
-operand c = option_map (λ o. (state.Percent, event.Operand o)) (operand_letter c)
+operand c =
+    if c == 110 then Some (state.Percent, event.Operand N)
+    else if c == 105 then Some (state.Percent, event.Operand I)
+    else if c == 118 then Some (state.Percent, event.Operand V)
+    else if c == 119 then Some (state.Percent, event.Operand W)
+    else if c == 102 then Some (state.Percent, event.Operand F)
+    else if c == 116 then Some (state.Percent, event.Operand T)
+    else if c == 99 then Some (state.Percent, event.Operand C)
+    else if c == 101 then Some (state.Percent, event.Operand C)
+    else None
 
 -- the byte after a rule, with the event that ends it: a semicolon, if a category is left, or the @ of samples
 abbrev pub rule_end : Categories → ℕ → Event → Transition

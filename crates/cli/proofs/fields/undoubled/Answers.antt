@@ -12,9 +12,7 @@ next bytes text is_open i l h = rw add-one (rw (drop-cons bytes i 0 l) at h)
 
 pub returns-then-is_open-clause-none : goal.returns-then-is_open-clause-none
 returns-then-is_open-clause-none c = λ _.
-    let h =
-    next c.args.bytes.now c.loop-byte.text.items c.loop-byte.is_open c.loop-byte.byte-index c.loop-byte-test.true
-    c.loop-byte.invariant.undoubled in
+    let h = next _ _ _ _ c.loop-byte-test.true c.loop-byte.invariant.undoubled in
     undoubled_alone _ (rw c.if-is_open.true at h) (rw c.if-is_open.true at c.if-is_quote-is_open.false)
 
 pub returns-then-is_open-2-clause-none : goal.returns-then-is_open-2-clause-none
@@ -24,9 +22,7 @@ returns-then-is_open-2-clause-none c = λ _.
 
 pub loop-byte-preserved-then-is_quote-is_open : goal.loop-byte-preserved-then-is_quote-is_open
 loop-byte-preserved-then-is_quote-is_open c =
-    let h =
-    next c.args.bytes.now c.loop-byte.text.items c.loop-byte.is_open c.loop-byte.byte-index c.loop-byte-test.true
-    c.loop-byte.invariant.undoubled in
+    let h = next _ _ _ _ c.loop-byte-test.true c.loop-byte.invariant.undoubled in
     record {
       undoubled = rw c.push_reserved.ensures.items (undoubled_more _ _ h c.if-is_quote-is_open.true);
       count = omega (arith, c.push_reserved.ensures.len, c.loop-byte.invariant.count);
@@ -35,9 +31,7 @@ loop-byte-preserved-then-is_quote-is_open c =
 
 pub loop-byte-preserved : goal.loop-byte-preserved
 loop-byte-preserved c =
-    let h =
-    next c.args.bytes.now c.loop-byte.text.items c.loop-byte.is_open c.loop-byte.byte-index c.loop-byte-test.true
-    c.loop-byte.invariant.undoubled in
+    let h = next _ _ _ _ c.loop-byte-test.true c.loop-byte.invariant.undoubled in
     record {
       undoubled = undoubled_first _ (rw c.if-is_open.false at h) (rw c.if-is_open.false at c.if-is_quote-is_open.false);
       count = omega arith;

@@ -1,8 +1,7 @@
-use Rattle.std.proofs.Common.{◌≡◌, ◌≢◌, [], Ok, Err, inr, true, false, refl, sym, ap, ◌∙◌, rules}
+use Rattle.std.proofs.Common.{◌≡◌, ◌≢◌, [], Ok, Err, inr, refl, ap, arith, rules}
 use Rattle.std.proofs.KnownBytes.{Appends-kept, Appends-nil}
 use Rattle.cli.specs.declared.error.FilterError.TheVariants.{Operation}
 use Rattle.cli.specs.declared.error.OperationError.TheVariants.{Output}
-use Rattle.cli.specs.declared.filter.OnError.TheVariants.{Stop}
 use Rattle.cli.specs.Errors.{status_of_operation}
 use Rattle.cli.proofs.FieldLines.{error_is_result}
 use Rattle.cli.proofs.filter.filter_line.Goals as goal
@@ -20,34 +19,26 @@ returns-in-Err-Output-clause-filtered g c =
 pub returns-in-Ok-put_byte-clause-filtered : goal.returns-in-Ok-put_byte-clause-filtered
 returns-in-Ok-put_byte-clause-filtered g c =
     let one : status_of_operation c.in-Err.error ≡ 1 = search rules in
-    let filter = c.args.filter.now in
-    let real : c.in-Err.error ≢ Output = λ is. let n : 3 ≡ 1 = ap status_of_operation (sym is) ∙ one in cc in
-    let (other, fails) = c.in-Err.ensures.fails_with real in
-    let is = error_is_result filter.field filter.conversion c.args.line.now c.in-Err.error one fails in
-    let still : c.print.new.sink ≡ c.args.out.now = c.in-Err.ensures.unchanged_on_error real in
-    let stop : c.args.filter.now.on_error ≡ Stop → false ≡ true = search rules in
-    let put = rw still at c.in-Ok-put_byte.ensures.appends in (
+    let real : c.in-Err.error ≢ Output = λ is. absurd (omega (arith, ap status_of_operation is, one)) in
+    let (other, fails) = c.in-Err.ensures.fails_with real in (
       Err (Operation c.args.number c.in-Err.error),
-      (Err c.in-Err.error, inr (other, is), refl),
-      put,
+      (Err c.in-Err.error, inr (other, error_is_result _ _ _ c.in-Err.error one fails), refl),
+      rw (c.in-Err.ensures.unchanged_on_error real) at c.in-Ok-put_byte.ensures.appends,
       (c.report.new.self, c.report.ensures, refl),
       refl,
-      stop,
+      search rules,
     )
 
 pub returns-in-Err-put_byte-clause-filtered : goal.returns-in-Err-put_byte-clause-filtered
 returns-in-Err-put_byte-clause-filtered g c =
     let one : status_of_operation c.in-Err.error ≡ 1 = search rules in
-    let filter = c.args.filter.now in
-    let real : c.in-Err.error ≢ Output = λ is. let n : 3 ≡ 1 = ap status_of_operation (sym is) ∙ one in cc in
+    let real : c.in-Err.error ≢ Output = λ is. absurd (omega (arith, ap status_of_operation is, one)) in
     let (other, fails) = c.in-Err.ensures.fails_with real in
-    let is = error_is_result filter.field filter.conversion c.args.line.now c.in-Err.error one fails in
     let still : c.print.new.sink ≡ c.args.out.now = c.in-Err.ensures.unchanged_on_error real in
-    let stop : c.args.filter.now.on_error ≡ Stop → false ≡ true = search rules in
     let none = Appends-nil (g.W.Sink.contents c.print.new.sink) in (
       Err (Operation c.args.number c.in-Err.error),
-      (Err c.in-Err.error, inr (other, is), refl),
+      (Err c.in-Err.error, inr (other, error_is_result _ _ _ c.in-Err.error one fails), refl),
       ([], _, refl, rw still at (Appends-kept _ _ _ [] none c.in-Err-put_byte.ensures.keeps)),
       (c.report.new.self, c.report.ensures, refl),
-      stop,
+      search rules,
     )

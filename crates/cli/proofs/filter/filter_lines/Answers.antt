@@ -8,15 +8,11 @@ loop-count-init g c = filtered_start _ _ _ _ _
 
 pub loop-count-preserved : goal.loop-count-preserved
 loop-count-preserved g c =
-    filtered_more c.loop-count.invariant c.in-Some.has_text (g.R.Read.remaining c.filter_next.new.input)
-    (g.W.Sink.contents c.filter_next.new.out) c.filter_next.new.diagnostics
-    (rw c.in-Some.is at c.in_ok-has_text.ensures.filtered)
+    filtered_more c.loop-count.invariant c.in-Some.has_text _ _ _ (rw c.in-Some.is at c.in_ok-has_text.ensures.filtered)
 
 pub returns-in-None-clause-filtered : goal.returns-in-None-clause-filtered
 returns-in-None-clause-filtered g c =
-    filters_all c.loop-count.invariant (g.R.Read.remaining c.filter_next.new.input)
-    (g.W.Sink.contents c.filter_next.new.out) c.filter_next.new.diagnostics
-    (rw c.in-None.is at c.in_ok-has_text.ensures.filtered)
+    filters_all c.loop-count.invariant _ _ _ (rw c.in-None.is at c.in_ok-has_text.ensures.filtered)
 
 pub returns-in-None-clause-silent : goal.returns-in-None-clause-silent
 returns-in-None-clause-silent g c = λ is.
@@ -32,8 +28,7 @@ pub returns-in_err-has_text-clause-filtered : goal.returns-in_err-has_text-claus
 returns-in_err-has_text-clause-filtered g c =
     let p = err_from_is_err_and c.from_residual.result c.from_residual.ensures.1 in
     rw (p.1, p.2)
-    (filters_error c.loop-count.invariant c.in_err-has_text.field-0.0 (g.R.Read.remaining c.filter_next.new.input)
-    (g.W.Sink.contents c.filter_next.new.out) c.filter_next.new.diagnostics c.in_err-has_text.ensures.filtered)
+    (filters_error c.loop-count.invariant c.in_err-has_text.field-0.0 _ _ _ c.in_err-has_text.ensures.filtered)
 
 pub returns-in_err-has_text-clause-consumed : goal.returns-in_err-has_text-clause-consumed
 returns-in_err-has_text-clause-consumed g c =

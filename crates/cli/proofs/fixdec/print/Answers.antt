@@ -1,7 +1,7 @@
 use Rattle.std.proofs.Common.{◌≡◌, Err, rules}
 use Rattle.std.proofs.lemmas.Result.{err_from_is_err_and}
 use Rattle.cli.specs.declared.error.OperationError.TheVariants.{Output}
-use Rattle.cli.proofs.Programs.{line_begun, line_kept}
+use Rattle.cli.proofs.Programs.{line_begun, line_kept, run_of}
 use Rattle.cli.proofs.fixdec.print.Goals as goal
 
 pub returns-in_err-print_line-clause-error : goal.returns-in_err-print_line-clause-error
@@ -9,23 +9,13 @@ returns-in_err-print_line-clause-error g c =
     let residual = c.from_residual-in_err-print_line in
     let p = err_from_is_err_and residual.result residual.ensures.1 in
     let run = c.in_ok-text in
-    rw (p.1, p.2) (record {
-      conversion = run.conversion;
-      text = run.text.now;
-      names = run.ensures.some;
-      holds = c.in_err-print_line.ensures.fails_with;
-    })
+    rw (p.1, p.2) (run_of run.conversion run.text.now run.ensures.some c.in_err-print_line.ensures.fails_with)
 
 pub returns-in_err-print_line-clause-prefix : goal.returns-in_err-print_line-clause-prefix
 returns-in_err-print_line-clause-prefix g c = λ is.
     let failed : c.print_line.result ≡ Err Output = search (rules, is) in
     let run = c.in_ok-text in
-    record {
-      conversion = run.conversion;
-      text = run.text.now;
-      names = run.ensures.some;
-      holds = c.print_line.ensures.prefix failed;
-    }
+    run_of run.conversion run.text.now run.ensures.some (c.print_line.ensures.prefix failed)
 
 pub returns-in_err-flush-clause-error : goal.returns-in_err-flush-clause-error
 returns-in_err-flush-clause-error g c =
@@ -33,29 +23,16 @@ returns-in_err-flush-clause-error g c =
     let p = err_from_is_err_and residual.result residual.ensures.1 in
     let run = c.in_ok-text in
     let printed = c.in_ok-print_line.ensures.printed in
-    rw (p.1, p.2) (record {
-      conversion = run.conversion;
-      text = run.text.now;
-      names = run.ensures.some;
-      holds = (printed.0, printed.1);
-    })
+    rw (p.1, p.2) (run_of run.conversion run.text.now run.ensures.some (printed.0, printed.1))
 
 pub returns-in_err-flush-clause-prefix : goal.returns-in_err-flush-clause-prefix
 returns-in_err-flush-clause-prefix g c = λ _.
     let run = c.in_ok-text in
-    record {
-      conversion = run.conversion;
-      text = run.text.now;
-      names = run.ensures.some;
-      holds = line_begun run.conversion run.text.now _ _ _ c.in_ok-print_line.ensures.printed c.flush.ensures.keeps;
-    }
+    run_of run.conversion run.text.now run.ensures.some
+    (line_begun run.conversion run.text.now _ _ _ c.in_ok-print_line.ensures.printed c.flush.ensures.keeps)
 
 pub returns-clause-printed : goal.returns-clause-printed
 returns-clause-printed g c =
     let run = c.in_ok-text in
-    record {
-      conversion = run.conversion;
-      text = run.text.now;
-      names = run.ensures.some;
-      holds = line_kept run.conversion run.text.now _ _ _ c.in_ok-print_line.ensures.printed c.flush.ensures.keeps;
-    }
+    run_of run.conversion run.text.now run.ensures.some
+    (line_kept run.conversion run.text.now _ _ _ c.in_ok-print_line.ensures.printed c.flush.ensures.keeps)

@@ -1,5 +1,5 @@
 use Rattle.std.proofs.Common.{◌≡◌, ℕ, List, [], MutBor, Option, Some, Result, Ok, Err, Bool, refl, rules}
-use Rattle.std.specs.Io.Buffered.{reader_remaining, writer_contents}
+use Rattle.std.specs.Io.Buffered.{reader_remaining}
 use Rattle.std.specs.Io.KnownBytes.{Keeps, append_known}
 use Rattle.std.proofs.KnownBytes.{Appends-kept}
 use Rattle.decimal_digits.specs.AppendsPrefix.{AppendsPrefix}
@@ -78,44 +78,20 @@ module _
 
 pub returns-clause-filtered : goal.returns-clause-filtered
 returns-clause-filtered g c =
-    let contents = g.O.Write.contents in
     let through = λ (m : MutBor _). g.R.Read.remaining m.now in
     let run = c.filter_lines-filtered in
     let read : reader_remaining through c.in-Ok.reader ≡ g.R.Read.remaining c.args.input.now =
     new_reader through c.in-Ok.reader _ c.in-Ok.ensures.inner c.in-Ok.ensures.empty c.in-Ok.ensures.capacity in
-    let effects : Effects g.row.D.Denot = record {
-      input = record {
-        before = reader_remaining through c.in-Ok.reader;
-        after = reader_remaining through run.new.input;
-      };
-      output = record {
-        before = writer_contents contents c.args.buffered.0;
-        after = writer_contents contents run.new.out.0;
-      };
-      diagnostics = record { before = c.args.diagnostics.now; after = run.new.diagnostics };
-    } in
     rw (← read)
-    (filters_kept g.D.Diagnostics.reports c.args.filter.now effects _ (contents c.close-closed.result.0) run.result
+    (filters_kept g.D.Diagnostics.reports c.args.filter.now _ _ (g.O.Write.contents c.close-closed.result.0) run.result
     run.ensures.filtered (c.close-closed.ensures.written (search rules)))
 
 pub returns-then-has_failed-clause-filtered : goal.returns-then-has_failed-clause-filtered
 returns-then-has_failed-clause-filtered g c =
-    let contents = g.O.Write.contents in
     let through = λ (m : MutBor _). g.R.Read.remaining m.now in
     let run = c.filter_lines-filtered in
     let read : reader_remaining through c.in-Ok.reader ≡ g.R.Read.remaining c.args.input.now =
     new_reader through c.in-Ok.reader _ c.in-Ok.ensures.inner c.in-Ok.ensures.empty c.in-Ok.ensures.capacity in
-    let effects : Effects g.row.D.Denot = record {
-      input = record {
-        before = reader_remaining through c.in-Ok.reader;
-        after = reader_remaining through run.new.input;
-      };
-      output = record {
-        before = writer_contents contents c.args.buffered.0;
-        after = writer_contents contents run.new.out.0;
-      };
-      diagnostics = record { before = c.args.diagnostics.now; after = run.new.diagnostics };
-    } in
     rw (← read)
-    (filters_missing g.D.Diagnostics.reports c.args.filter.now effects _ (contents c.close-closed.result.0) run.result
-    run.ensures.filtered c.close-closed.ensures.prefix)
+    (filters_missing g.D.Diagnostics.reports c.args.filter.now _ _ (g.O.Write.contents c.close-closed.result.0)
+    run.result run.ensures.filtered c.close-closed.ensures.prefix)

@@ -1,5 +1,4 @@
-use Rattle.std.proofs.Common.{w16, to_z, of_z, sym, ◌∙◌, subst, arith}
-use Rattle.std.specs.Prelude.{pos, negsuc, ◌≤ℤ◌}
+use Rattle.std.proofs.Common.{sym, ◌∙◌, subst, arith}
 use Rattle.std.proofs.lemmas.Int.{ints}
 use Rattle.decimal_digits.specs.Number.{IsFirst}
 use Rattle.plural_rules.proofs.Shifted.{integer_digits_of}
@@ -8,28 +7,20 @@ use Rattle.plural_rules.proofs.operands.PluralOperands.integer_digits.Goals as g
 
 pub new-requires : goal.new-requires
 new-requires g c =
-    let x = c.self.inside.value.now in
     let kept = narrow_kept c.nonzero_magnitude_start-first.type_inv in
-    let m = to_z w16 (of_z w16 c.nonzero_magnitude_start-first.result) in
-    let first_is = subst (λ z. IsFirst x.number z) (sym kept) c.nonzero_magnitude_start-first.ensures.defined in
-    let low : negsuc 32767 ≤ℤ m = omega (arith, ints) in
-    let high : m ≤ℤ pos 32767 = omega (arith, ints) in
+    let first_is =
+    subst (λ z. IsFirst c.self.inside.value.now.number z) (sym kept) c.nonzero_magnitude_start-first.ensures.defined in
     let found =
-    integer_digits_of c.args.self.now x m c.self.inside.exponent c.integer_digit_count.result c.self.view_is first_is
-    low high
-    (omega arith) c.integer_digit_count.ensures in
+    integer_digits_of c.args.self.now c.self.inside.value.now _ c.self.inside.exponent c.integer_digit_count.result
+    c.self.view_is first_is (omega (arith, ints)) (omega (arith, ints)) (omega arith) c.integer_digit_count.ensures in
     found.0
 
 pub returns : goal.returns
 returns g c =
-    let x = c.self.inside.value.now in
     let kept = narrow_kept c.nonzero_magnitude_start-first.type_inv in
-    let m = to_z w16 (of_z w16 c.nonzero_magnitude_start-first.result) in
-    let first_is = subst (λ z. IsFirst x.number z) (sym kept) c.nonzero_magnitude_start-first.ensures.defined in
-    let low : negsuc 32767 ≤ℤ m = omega (arith, ints) in
-    let high : m ≤ℤ pos 32767 = omega (arith, ints) in
+    let first_is =
+    subst (λ z. IsFirst c.self.inside.value.now.number z) (sym kept) c.nonzero_magnitude_start-first.ensures.defined in
     let found =
-    integer_digits_of c.args.self.now x m c.self.inside.exponent c.integer_digit_count.result c.self.view_is first_is
-    low high
-    (omega arith) c.integer_digit_count.ensures in
+    integer_digits_of c.args.self.now c.self.inside.value.now _ c.self.inside.exponent c.integer_digit_count.result
+    c.self.view_is first_is (omega (arith, ints)) (omega (arith, ints)) (omega arith) c.integer_digit_count.ensures in
     c.new.ensures ∙ found.1
