@@ -52,9 +52,7 @@ pub number_more : (before number i : ℕ) (text : List ℕ) → i < length text 
     → (number * 16 % 2 ^ 64 + (get_or text i 0 - 48)) % 2 ^ 64
     ≡ digits_value_after 16 before (take (i + 1) text) % 2 ^ 64
 number_more before number i text h d e =
-    let m = after_more before text i h in
-    let k = value_of_digit (get_or text i 0) d in
-    omega (arith, m, k, e)
+    grind (arith, ints, clamps, nat_tests, common_steps, after_more, value_of_digit)
 
 -- ---- The integer digits and the fraction digits.
 -- the number of the integer digits and then the fraction digits in base 16, modulo 2 ^ 64
@@ -74,14 +72,12 @@ after_mod n (c ∷ cs) =
 pub fraction_numbered : (whole fraction : List ℕ) (number more : ℕ) → number ≡ digits_value 16 whole % 2 ^ 64
     → more ≡ digits_value_after 16 number fraction % 2 ^ 64
     → more ≡ in_base_16 whole fraction
-fraction_numbered whole fraction number more e f =
-    f ∙ ap (λ m. digits_value_after 16 m fraction % 2 ^ 64) e ∙ after_mod (digits_value 16 whole) fraction
+fraction_numbered whole fraction number more e f = grind (arith, ints, clamps, nat_tests, common_steps, after_mod)
 
 -- sixteen digits fit 64 bits
 sixteen_fit : (ds : List ℕ) → AllBelowBase 10 ds → length ds ≤ 16 → number_from_digits 16 ds < 2 ^ 64
 sixteen_fit ds below few =
-    let top : 16 ^ length ds ≤ 16 ^ 16 = pow-le-pow_right (omega arith) few in
-    omega (arith, number_lt 16 ds (below_sixteen ds below), top)
+    grind (arith, ints, clamps, nat_tests, common_steps, pow-le-pow_right, number_lt, below_sixteen)
 
 -- up to sixteen digits write their number
 pub number_written : (whole fraction : List ℕ) (number : ℕ) → AllDigits 10 (whole ++ fraction)
@@ -127,13 +123,7 @@ bit_of n j i = grind (arith, pow-add, hex_pow, div-div-eq-div-mul)
 
 -- four bits that are 0 are the digit 0
 clear_digit : (n j : ℕ) → ((i : ℕ) → i < 4 → bit_at n (4 * j + i) ≡ 0) → n / 16 ^ j % 16 ≡ 0
-clear_digit n j h =
-    let x = n / 16 ^ j in
-    let a : x / 2 ^ 0 % 2 ≡ 0 = sym (bit_of n j 0) ∙ h 0 (omega arith) in
-    let b : x / 2 ^ 1 % 2 ≡ 0 = sym (bit_of n j 1) ∙ h 1 (omega arith) in
-    let c : x / 2 ^ 2 % 2 ≡ 0 = sym (bit_of n j 2) ∙ h 2 (omega arith) in
-    let d : x / 2 ^ 3 % 2 ≡ 0 = sym (bit_of n j 3) ∙ h 3 (omega arith) in
-    omega arith
+clear_digit n j h = grind (arith, ints, clamps, nat_tests, common_steps, bit_of)
 
 -- a digit with a bit is not 0
 set_digit : (n i : ℕ) → bit_at n i ≡ 1 → 0 < n / 16 ^ (i / 4) % 16
@@ -219,9 +209,7 @@ inner_number w k size ds n below fits is some =
 -- if the number is 0, each digit is 0
 pub zero_digits : (ds : List ℕ) → AllBelowBase 10 ds → number_from_digits 16 ds ≡ 0
     → (k : ℕ) → k < length ds → get_or ds k 0 ≡ 0
-zero_digits ds below z k h =
-    digit_is ds k below h ∙ ap (λ n. n / 16 ^ (length ds - 1 - k) % 16) z
-    ∙ ap (λ q. q % 16) (zero-div (16 ^ (length ds - 1 - k)))
+zero_digits ds below z k h = grind (arith, ints, clamps, nat_tests, common_steps, digit_is, zero-div)
 
 -- ---- The parts of a short text.
 after_whole_end : (whole : List ℕ) → 0 < length whole
@@ -232,9 +220,7 @@ after_whole_end whole h = grind (arith, nat_tests)
 after_whole_point : (whole rest : List ℕ) → 0 < length rest → prefix_len is_ascii_digit rest ≡ length rest
     → after_whole whole (decimal_point ∷ rest) ≡ Some (record { whole = whole; fraction = rest; exponent = None })
 unfolding after_whole after_fraction
-after_whole_point whole rest h all =
-    let none : drop (length rest) rest ≡ [] = drop_all (length rest) rest (omega arith) in
-    rw (all, take_all (length rest) rest (omega arith), none) (grind (arith, nat_tests))
+after_whole_point whole rest h all = grind (arith, ints, clamps, nat_tests, common_steps, drop_all, take_all)
 
 -- the bytes after the one at an index
 pub after_byte : (text : List ℕ) (i : ℕ)
@@ -266,25 +252,14 @@ module _ (text : List ℕ) (whole : ℕ) (digits : whole ≡ prefix_len is_ascii
       → 0 < length (drop (whole + 1) text) → parts_of text ≡ Some (plain_parts text whole)
   unfolding parts_of
   parts_point in_text byte all some =
-      let point : drop whole text ≡ decimal_point ∷ drop (whole + 1) text =
-      at_drop_more (λ x. x) text whole 0 in_text ∙ (rw byte refl) in
-      rw (sym digits, point) (after_whole_point (take whole text) (drop (whole + 1) text) some all)
+      grind (arith, ints, clamps, nat_tests, common_steps, at_drop_more, after_whole_point)
 
 -- up to sixteen digits, byte by byte
 module _ (text : List ℕ) (whole number : ℕ) (few : length text ≤ 17) (short : whole ≤ 16)
     (digits : whole ≡ prefix_len is_ascii_digit text)
     (numbered : number ≡ digits_value 16 (take whole text) % 2 ^ 64) where
   at_most : length (take whole text ++ drop (whole + 1) text) ≤ 16
-  at_most =
-      omega (
-        arith,
-        few,
-        short,
-        length-append (take whole text) (drop (whole + 1) text),
-        long text whole digits,
-        within text whole digits,
-        length-drop (whole + 1) text,
-      )
+  at_most = grind (arith, ints, clamps, nat_tests, common_steps, length-append, long, length-drop)
 
   exact : (n : ℕ) → parts_of text ≡ Some (plain_parts text whole)
       → n ≡ in_base_16 (take whole text) (drop (whole + 1) text)
@@ -423,10 +398,7 @@ module _ (whole fraction number : ℕ) (ds : List ℕ) (bcd : IsBcd number (whol
   pub zero_is : (m hi lo : ℤ) → number ≡ 0 → hi ≡ pos (whole - 1) → lo ≡ pos 0 -ℤ pos fraction
       → record { number = number_of [] m; hi = hi; lo = lo } ≡ value_of_first whole ds
   zero_is m hi lo z b e =
-      let none = number_zeros 10 ds (zero_digits ds bcd.digits (sym bcd.number ∙ z)) in
-      let n : number_of [] m ≡ number_from_digits 10 ds * 10 ^ (32768 - fraction) =
-      number_of_empty m ∙ (rw none (omega arith)) in
-      (λ i. record { number = n i; hi = b i; lo = e i }) ∙ sym value_is
+      grind (arith, ints, clamps, nat_tests, common_steps, number_zeros, zero_digits, number_of_empty, value_is)
 
   -- any other number, of k nibbles
   module _ (width : Width) (k : ℕ) (size : bits width ≡ 4 * k) (fits : number < 2 ^ bits width) (some : 0 < number)
@@ -543,8 +515,7 @@ module _ (text : List ℕ) (p : PlainText) (plain : IsPlainText text p) where
   number_fits = rw plain.number (digits_fit (w.whole ++ w.fraction) digits plain.few)
 
   pub number_fits_64 : p.whole + p.fraction ≤ 16 → p.number < 2 ^ 64
-  number_fits_64 few =
-      rw plain_bcd.number (sixteen_fit plain_digits plain_bcd.digits (omega (arith, plain_bcd.count, few)))
+  number_fits_64 few = grind (arith, ints, clamps, nat_tests, common_steps, plain_bcd, sixteen_fit)
 
   -- reading gives their value
   pub plain_read : read text ≡ Ok (value_of_first p.whole plain_digits)

@@ -91,8 +91,7 @@ middle_append a b start end p =
     ) refl
 
 middle-map : (f : ℕ → ℕ) (start end : ℕ) (xs : List ℕ) → map f (middle start end xs) ≡ middle start end (map f xs)
-middle-map f start end xs =
-    sym (take-map f (end - start) (drop start xs)) ∙ ap (take (end - start)) (sym (drop-map f start xs))
+middle-map f start end xs = grind (arith, ints, clamps, nat_tests, common_steps, take-map, drop-map)
 
 -- the same of two texts and the digits that they write
 pub middle_written : (a b : List ℕ) (start end : ℕ) → start ≤ end

@@ -16,17 +16,8 @@ module _ {ds : List ℕ} {m hi lo : ℤ} (t : IsStored ds m hi lo) where
   -- a 1 above the first digit is more than the number
   pub number_of-lt : number_of ds m < 10 ^ (offset m + 1)
   unfolding number_of number_at
-  number_of-lt = grind (
-    arith,
-    ints,
-    clamps,
-    nat_tests,
-    common_steps,
-    number_lt,
-    mul-lt-mul_of_pos_right,
-    ten_pos,
-    pow-add,
-  )
+  number_of-lt =
+      grind (arith, ints, clamps, nat_tests, common_steps, number_lt, mul-lt-mul_of_pos_right, ten_pos, pow-add)
 
   -- a 1 at the first digit is at most the number
   pub number_of-ge : 0 < length ds → 10 ^ offset m ≤ number_of ds m

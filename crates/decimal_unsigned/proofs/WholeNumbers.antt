@@ -40,17 +40,7 @@ leading_next i ds = grind (arith, ints, clamps, nat_tests, common_steps, leading
 
 -- i digits write a number below 10 ^ i
 pub leading_lt : (i : ℕ) (ds : List ℕ) → All (λ d. d < 10) ds → leading i ds < 10 ^ i
-leading_lt i ds h = grind (
-  arith,
-  ints,
-  clamps,
-  nat_tests,
-  common_steps,
-  number_at-lt,
-  below_take,
-  recursion_from_All,
-  length-take,
-)
+leading_lt i ds h = grind (arith, ints, clamps, nat_tests, common_steps, number_at-lt, below_take, recursion_from_All)
 
 -- the first i + j digits are the first i and the j after them
 pub leading_split : (i j : ℕ) (ds : List ℕ) → leading (i + j) ds ≡ leading i ds * 10 ^ j + leading j (drop i ds)
@@ -76,8 +66,7 @@ leading_39 = leading_next 38
 
 -- and at most `top` digits write a number below 10 ^ top
 few_digits : (i top : ℕ) (ds : List ℕ) → All (λ d. d < 10) ds → i ≤ top → leading i ds < 10 ^ top
-few_digits i top ds h l =
-    let p = leading_lt i ds h in grind (arith, pow-le-pow_right)
+few_digits i top ds h l = grind (arith, ints, clamps, nat_tests, common_steps, leading_lt, pow-le-pow_right)
 
 -- 37 digits fit 128 bits with one more
 pub leading_u128 : (i : ℕ) (ds : List ℕ) → All (λ d. d < 10) ds → i ≤ 37 → leading i ds < 10 ^ 37
