@@ -51,8 +51,7 @@ pub number_more : (before number i : ℕ) (text : List ℕ) → i < length text 
     → number ≡ digits_value_after 16 before (take i text) % 2 ^ 64
     → (number * 16 % 2 ^ 64 + (get_or text i 0 - 48)) % 2 ^ 64
     ≡ digits_value_after 16 before (take (i + 1) text) % 2 ^ 64
-number_more before number i text h d e =
-    grind (arith, ints, clamps, nat_tests, common_steps, after_more, value_of_digit)
+number_more before number i text h d e = grind (arith, after_more, value_of_digit)
 
 -- ---- The integer digits and the fraction digits.
 -- the number of the integer digits and then the fraction digits in base 16, modulo 2 ^ 64
@@ -76,19 +75,14 @@ fraction_numbered whole fraction number more e f = grind (arith, ints, clamps, n
 
 -- sixteen digits fit 64 bits
 sixteen_fit : (ds : List ℕ) → AllBelowBase 10 ds → length ds ≤ 16 → number_from_digits 16 ds < 2 ^ 64
-sixteen_fit ds below few =
-    grind (arith, ints, clamps, nat_tests, common_steps, pow-le-pow_right, number_lt, below_sixteen)
+sixteen_fit ds below few = grind (arith, pow-le-pow_right, number_lt, below_sixteen)
 
 -- up to sixteen digits write their number
 pub number_written : (whole fraction : List ℕ) (number : ℕ) → AllDigits 10 (whole ++ fraction)
     → length (whole ++ fraction) ≤ 16 → number ≡ in_base_16 whole fraction
     → number ≡ number_from_digits 16 (map digit_value (whole ++ fraction))
 number_written whole fraction number h few e =
-    let text = whole ++ fraction in
-    let ds = map digit_value text in
-    let lt =
-    sixteen_fit ds (all_below_base_from_digits 10 text h) (omega (arith, length-map text digit_value)) in
-    e ∙ ap (λ n. n % 2 ^ 64) (sym (after_append 0 whole fraction) ∙ digits_value_is 16 text) ∙ mod-eq_of_lt lt
+    grind (arith, sixteen_fit, all_below_base_from_digits, length-map, after_append, digits_value_is, mod-eq_of_lt)
 
 -- ---- The digits between the zeros.
 -- the number without its leading zero nibbles, of k nibbles in all, begins with the digits from `start` to `end`
@@ -314,19 +308,7 @@ pub plain_prefix : (text : List ℕ) (number : ℕ) → IsPrefix text (record { 
     → 8 ≤ length text → length text ≤ 32
     → IsPlainText text (record { whole = length text; fraction = 0; number = number })
 plain_prefix text number p some few =
-    let all = take_all (length text) text (omega arith) in
-    let none : drop (length text) text ≡ [] = drop_all (length text) text (omega arith) in
-    let following : drop (length text + 1) text ≡ [] = drop_all (length text + 1) text (omega arith) in
-    let digits = sym (all_counted text p.digits) in
-    record {
-      parts = parts_whole text (length text) digits (omega (arith, some)) none;
-      whole = long text (length text) digits;
-      fraction = rw following refl;
-      few = rw (all, following, append-nil) few;
-      number =
-          p.number ∙ mod-eq_of_lt (digits_fit text p.digits few)
-          ∙ ap (digits_value 16) (sym (append-nil text) ∙ (λ i. sym all i ++ sym following i));
-    }
+    grind (arith, take_all, drop_all, all_counted, parts_whole, long, append-nil, mod-eq_of_lt, digits_fit)
 
 pub plain_prefix_point : (text : List ℕ) (number n : ℕ) → IsPrefix text (record { number = number; fraction = Some n })
     → 0 < n → length text ≤ 33
@@ -397,8 +379,7 @@ module _ (whole fraction number : ℕ) (ds : List ℕ) (bcd : IsBcd number (whol
 
   pub zero_is : (m hi lo : ℤ) → number ≡ 0 → hi ≡ pos (whole - 1) → lo ≡ pos 0 -ℤ pos fraction
       → record { number = number_of [] m; hi = hi; lo = lo } ≡ value_of_first whole ds
-  zero_is m hi lo z b e =
-      grind (arith, ints, clamps, nat_tests, common_steps, number_zeros, zero_digits, number_of_empty, value_is)
+  zero_is m hi lo z b e = grind (arith, number_zeros, zero_digits, number_of_empty, value_is)
 
   -- any other number, of k nibbles
   module _ (width : Width) (k : ℕ) (size : bits width ≡ 4 * k) (fits : number < 2 ^ bits width) (some : 0 < number)

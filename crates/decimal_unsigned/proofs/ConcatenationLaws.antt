@@ -73,8 +73,7 @@ module _ (u v w : Unsigned) (p : IsValue u) (q : IsValue v) (r : IsValue w) wher
 
   -- concatenation of three values is associative
   pub concatenation_is_associative : ConcatenationIsAssociative u v w
-  concatenation_is_associative =
-      grind (arith, ints, clamps, nat_tests, common_steps, overlaps_associative, concatenated_end-assoc)
+  concatenation_is_associative = grind (arith, overlaps_associative, concatenated_end-assoc)
 
 -- ---- the part at and above a position, and the part below it
 module _ (v t : Unsigned) (p : ℤ) (valid : IsValue v) (e : t.number ≡ v.number - v.number % weight p) where

@@ -101,8 +101,7 @@ module _ (w : Literal) (digits : AllDigits 10 (w.whole ++ w.fraction)) (few : le
 -- the value of the parts has no more digits than they have
 size_value : (w : Literal) (v : Unsigned) → AllDigits 10 (w.whole ++ w.fraction) → value_of w ≡ Ok v
     → size v.number ≤ length w.whole + length w.fraction
-size_value w v digits is =
-    grind (arith, ints, clamps, nat_tests, common_steps, long_whole, long_fraction, size_scaled, value_scaled)
+size_value w v digits is = grind (arith, long_whole, long_fraction, size_scaled, value_scaled)
 
 -- parts without an exponent have a value
 plain_value : (w : Literal) → AllDigits 10 (w.whole ++ w.fraction) → IsPlain w

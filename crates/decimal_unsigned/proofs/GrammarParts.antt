@@ -54,8 +54,7 @@ not_sign c h = grind (arith, nat_tests, digit_from_value)
 pub exponent-complete : (text : List ℕ) (e : ℤ) → IsExponent text e → exponent_of text ≡ Some e
 unfolding exponent_of
 exponent-complete [] e (unsigned n v) = absurd (omega (arith, n.0))
-exponent-complete (c ∷ rest) e (unsigned n v) =
-    let s = not_sign c n.1.0 in rw (s.0, s.1, numeral-complete (c ∷ rest) n, v) refl
+exponent-complete (c ∷ rest) e (unsigned n v) = grind (arith, not_sign, numeral-complete)
 exponent-complete text e (plus ds t n v) = ap exponent_of t ∙ (rw (numeral-complete ds n, v) refl)
 exponent-complete text e (minus ds t n v) = ap exponent_of t ∙ (rw (numeral-complete ds n, v) refl)
 

@@ -98,5 +98,4 @@ pub middle_written : (a b : List ℕ) (start end : ℕ) → start ≤ end
     → map digit_value (middle (min start (length a)) (min end (length a)) a)
     ++ map digit_value (middle (start - length a) (end - length a) b)
     ≡ middle start end (map digit_value (a ++ b))
-middle_written a b start end p =
-    grind (arith, ints, clamps, nat_tests, common_steps, length-map, middle-map, map-append, middle_append)
+middle_written a b start end p = grind (arith, length-map, middle-map, map-append, middle_append)

@@ -35,8 +35,7 @@ after_append n (c ∷ a) b = after_append (n * 16 + digit_value c) a b
 joined_number : (a b : List ℕ) (number more places : ℕ) → number ≡ digits_value 16 a % 2 ^ 128
     → more ≡ digits_value 16 b → 16 ^ length b ≡ places
     → (number * places % 2 ^ 128 + more) % 2 ^ 128 ≡ digits_value 16 (a ++ b) % 2 ^ 128
-joined_number a b number more places e f p =
-    grind (arith, ints, clamps, nat_tests, common_steps, mul-mod_first, after_append, value_after)
+joined_number a b number more places e f p = grind (arith, mul-mod_first, after_append, value_after)
 
 take_over : (a b : List ℕ) (i : ℕ) → take (length a + i) (a ++ b) ≡ a ++ take i b
 take_over [] b i = let e : 0 + i ≡ i = omega arith in ap (λ k. take k b) e
@@ -166,23 +165,13 @@ module _ (text bs : List ℕ) (count n : ℕ) (below : (i : ℕ) → get_or text
 -- up to 32 digits fit into 128 bits
 pub digits_fit : (cs : List ℕ) → AllDigits 10 cs → length cs ≤ 32 → digits_value 16 cs < 2 ^ 128
 digits_fit cs h few =
-    let ds = map digit_value cs in
-    let few_ds : length ds ≤ 32 = omega (arith, few, length-map cs digit_value) in
-    let places : 16 ^ length ds ≤ 16 ^ 32 = pow-le-pow_right (omega arith) few_ds in
-    omega (
-      arith,
-      digits_value_is 16 cs,
-      number_lt 16 ds (below_sixteen ds (all_below_base_from_digits 10 cs h)),
-      places,
-    )
+    grind (arith, length-map, pow-le-pow_right, digits_value_is, number_lt, below_sixteen, all_below_base_from_digits)
 
 pub length-without : (fraction : Option ℕ) (text : List ℕ) → is_point fraction text
     → length (without fraction text) ≤ length text
 length-without None text h = omega arith
-length-without (Some n) text h =
-    grind (arith, ints, clamps, nat_tests, common_steps, length-append, length-take-le, length-drop)
+length-without (Some n) text h = grind (arith, length-append, length-take-le, length-drop)
 
 pub first_prefix : (text : List ℕ) (g : Group) → length text ≤ 8 → IsGroup text g
     → IsPrefix text (record { number = g.number; fraction = g.fraction })
-first_prefix text g few h =
-    grind (arith, ints, clamps, nat_tests, common_steps, digits_fit, length-without, mod-eq_of_lt)
+first_prefix text g few h = grind (arith, digits_fit, length-without, mod-eq_of_lt)

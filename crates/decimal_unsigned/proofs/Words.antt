@@ -174,8 +174,7 @@ pub group_of_digits : (text : List ℕ) (number y : ℕ)
     → length text ≤ 8 → AllDigits 10 text × (y ≡ number_from_digits 256 (map digit_value text))
     → number ≡ digits_value 16 text
 group_of_digits text number y packs few found =
-    packs (map digit_value text) (below_sixteen _ (all_below_base_from_digits 10 text found.0))
-    (omega (arith, length-map text digit_value)) found.1 ∙ sym (digits_value_is 16 text)
+    grind (arith, below_sixteen, all_below_base_from_digits, length-map, digits_value_is)
 
 -- eight bits are a byte
 pub byte_pow : (k : ℕ) → 2 ^ (8 * k) ≡ 256 ^ k
@@ -192,14 +191,7 @@ module _ (text : List ℕ) (word n : ℕ) (h : AllBelowBase 256 text) (few : len
   front = word / 2 ^ (8 * n)
 
   pub within : n < length text
-  within = elim (cases_lt n (length text)) [
-    | inl l ↦ l
-    | inr l ↦
-        let lt = number_lt 256 text h in
-        let places : 256 ^ length text ≤ 256 ^ n = pow-le-pow_right (omega arith) l in
-        let none : word / 256 ^ n ≡ 0 = div-eq_of_lt-le (256 ^ n) (omega arith) (omega (arith, is)) in
-        absurd (omega (arith, byte, ap (λ p. word / p % 256) (byte_pow n), ap (λ q. q % 256) none))
-  ]
+  within = grind (arith, cases_lt, number_lt, pow-le-pow_right, div-eq_of_lt-le, byte_pow)
 
   abbrev j : ℕ
   j = length text - (n + 1)
