@@ -51,10 +51,7 @@ pub number_more : (before number i : ℕ) (text : List ℕ) → i < length text 
     → number ≡ digits_value_after 16 before (take i text) % 2 ^ 64
     → (number * 16 % 2 ^ 64 + (get_or text i 0 - 48)) % 2 ^ 64
     ≡ digits_value_after 16 before (take (i + 1) text) % 2 ^ 64
-number_more before number i text h d e =
-    let m = after_more before text i h in
-    let k = value_of_digit (get_or text i 0) d in
-    omega (arith, m, k, e)
+number_more before number i text h d e = grind (arith, after_more, value_of_digit)
 
 -- ---- The integer digits and the fraction digits.
 -- the number of the integer digits and then the fraction digits in base 16, modulo 2 ^ 64
@@ -74,25 +71,18 @@ after_mod n (c ∷ cs) =
 pub fraction_numbered : (whole fraction : List ℕ) (number more : ℕ) → number ≡ digits_value 16 whole % 2 ^ 64
     → more ≡ digits_value_after 16 number fraction % 2 ^ 64
     → more ≡ in_base_16 whole fraction
-fraction_numbered whole fraction number more e f =
-    f ∙ ap (λ m. digits_value_after 16 m fraction % 2 ^ 64) e ∙ after_mod (digits_value 16 whole) fraction
+fraction_numbered whole fraction number more e f = grind (arith, ints, clamps, nat_tests, common_steps, after_mod)
 
 -- sixteen digits fit 64 bits
 sixteen_fit : (ds : List ℕ) → AllBelowBase 10 ds → length ds ≤ 16 → number_from_digits 16 ds < 2 ^ 64
-sixteen_fit ds below few =
-    let top : 16 ^ length ds ≤ 16 ^ 16 = pow-le-pow_right (omega arith) few in
-    omega (arith, number_lt 16 ds (below_sixteen ds below), top)
+sixteen_fit ds below few = grind (arith, pow-le-pow_right, number_lt, below_sixteen)
 
 -- up to sixteen digits write their number
 pub number_written : (whole fraction : List ℕ) (number : ℕ) → AllDigits 10 (whole ++ fraction)
     → length (whole ++ fraction) ≤ 16 → number ≡ in_base_16 whole fraction
     → number ≡ number_from_digits 16 (map digit_value (whole ++ fraction))
 number_written whole fraction number h few e =
-    let text = whole ++ fraction in
-    let ds = map digit_value text in
-    let lt =
-    sixteen_fit ds (all_below_base_from_digits 10 text h) (omega (arith, length-map text digit_value)) in
-    e ∙ ap (λ n. n % 2 ^ 64) (sym (after_append 0 whole fraction) ∙ digits_value_is 16 text) ∙ mod-eq_of_lt lt
+    grind (arith, sixteen_fit, all_below_base_from_digits, length-map, after_append, digits_value_is, mod-eq_of_lt)
 
 -- ---- The digits between the zeros.
 -- the number without its leading zero nibbles, of k nibbles in all, begins with the digits from `start` to `end`
@@ -127,13 +117,7 @@ bit_of n j i = grind (arith, pow-add, hex_pow, div-div-eq-div-mul)
 
 -- four bits that are 0 are the digit 0
 clear_digit : (n j : ℕ) → ((i : ℕ) → i < 4 → bit_at n (4 * j + i) ≡ 0) → n / 16 ^ j % 16 ≡ 0
-clear_digit n j h =
-    let x = n / 16 ^ j in
-    let a : x / 2 ^ 0 % 2 ≡ 0 = sym (bit_of n j 0) ∙ h 0 (omega arith) in
-    let b : x / 2 ^ 1 % 2 ≡ 0 = sym (bit_of n j 1) ∙ h 1 (omega arith) in
-    let c : x / 2 ^ 2 % 2 ≡ 0 = sym (bit_of n j 2) ∙ h 2 (omega arith) in
-    let d : x / 2 ^ 3 % 2 ≡ 0 = sym (bit_of n j 3) ∙ h 3 (omega arith) in
-    omega arith
+clear_digit n j h = grind (arith, ints, clamps, nat_tests, common_steps, bit_of)
 
 -- a digit with a bit is not 0
 set_digit : (n i : ℕ) → bit_at n i ≡ 1 → 0 < n / 16 ^ (i / 4) % 16
@@ -219,9 +203,7 @@ inner_number w k size ds n below fits is some =
 -- if the number is 0, each digit is 0
 pub zero_digits : (ds : List ℕ) → AllBelowBase 10 ds → number_from_digits 16 ds ≡ 0
     → (k : ℕ) → k < length ds → get_or ds k 0 ≡ 0
-zero_digits ds below z k h =
-    digit_is ds k below h ∙ ap (λ n. n / 16 ^ (length ds - 1 - k) % 16) z
-    ∙ ap (λ q. q % 16) (zero-div (16 ^ (length ds - 1 - k)))
+zero_digits ds below z k h = grind (arith, ints, clamps, nat_tests, common_steps, digit_is, zero-div)
 
 -- ---- The parts of a short text.
 after_whole_end : (whole : List ℕ) → 0 < length whole
@@ -232,9 +214,7 @@ after_whole_end whole h = grind (arith, nat_tests)
 after_whole_point : (whole rest : List ℕ) → 0 < length rest → prefix_len is_ascii_digit rest ≡ length rest
     → after_whole whole (decimal_point ∷ rest) ≡ Some (record { whole = whole; fraction = rest; exponent = None })
 unfolding after_whole after_fraction
-after_whole_point whole rest h all =
-    let none : drop (length rest) rest ≡ [] = drop_all (length rest) rest (omega arith) in
-    rw (all, take_all (length rest) rest (omega arith), none) (grind (arith, nat_tests))
+after_whole_point whole rest h all = grind (arith, ints, clamps, nat_tests, common_steps, drop_all, take_all)
 
 -- the bytes after the one at an index
 pub after_byte : (text : List ℕ) (i : ℕ)
@@ -266,25 +246,14 @@ module _ (text : List ℕ) (whole : ℕ) (digits : whole ≡ prefix_len is_ascii
       → 0 < length (drop (whole + 1) text) → parts_of text ≡ Some (plain_parts text whole)
   unfolding parts_of
   parts_point in_text byte all some =
-      let point : drop whole text ≡ decimal_point ∷ drop (whole + 1) text =
-      at_drop_more (λ x. x) text whole 0 in_text ∙ (rw byte refl) in
-      rw (sym digits, point) (after_whole_point (take whole text) (drop (whole + 1) text) some all)
+      grind (arith, ints, clamps, nat_tests, common_steps, at_drop_more, after_whole_point)
 
 -- up to sixteen digits, byte by byte
 module _ (text : List ℕ) (whole number : ℕ) (few : length text ≤ 17) (short : whole ≤ 16)
     (digits : whole ≡ prefix_len is_ascii_digit text)
     (numbered : number ≡ digits_value 16 (take whole text) % 2 ^ 64) where
   at_most : length (take whole text ++ drop (whole + 1) text) ≤ 16
-  at_most =
-      omega (
-        arith,
-        few,
-        short,
-        length-append (take whole text) (drop (whole + 1) text),
-        long text whole digits,
-        within text whole digits,
-        length-drop (whole + 1) text,
-      )
+  at_most = grind (arith, ints, clamps, nat_tests, common_steps, length-append, long, length-drop)
 
   exact : (n : ℕ) → parts_of text ≡ Some (plain_parts text whole)
       → n ≡ in_base_16 (take whole text) (drop (whole + 1) text)
@@ -339,19 +308,7 @@ pub plain_prefix : (text : List ℕ) (number : ℕ) → IsPrefix text (record { 
     → 8 ≤ length text → length text ≤ 32
     → IsPlainText text (record { whole = length text; fraction = 0; number = number })
 plain_prefix text number p some few =
-    let all = take_all (length text) text (omega arith) in
-    let none : drop (length text) text ≡ [] = drop_all (length text) text (omega arith) in
-    let following : drop (length text + 1) text ≡ [] = drop_all (length text + 1) text (omega arith) in
-    let digits = sym (all_counted text p.digits) in
-    record {
-      parts = parts_whole text (length text) digits (omega (arith, some)) none;
-      whole = long text (length text) digits;
-      fraction = rw following refl;
-      few = rw (all, following, append-nil) few;
-      number =
-          p.number ∙ mod-eq_of_lt (digits_fit text p.digits few)
-          ∙ ap (digits_value 16) (sym (append-nil text) ∙ (λ i. sym all i ++ sym following i));
-    }
+    grind (arith, take_all, drop_all, all_counted, parts_whole, long, append-nil, mod-eq_of_lt, digits_fit)
 
 pub plain_prefix_point : (text : List ℕ) (number n : ℕ) → IsPrefix text (record { number = number; fraction = Some n })
     → 0 < n → length text ≤ 33
@@ -422,11 +379,7 @@ module _ (whole fraction number : ℕ) (ds : List ℕ) (bcd : IsBcd number (whol
 
   pub zero_is : (m hi lo : ℤ) → number ≡ 0 → hi ≡ pos (whole - 1) → lo ≡ pos 0 -ℤ pos fraction
       → record { number = number_of [] m; hi = hi; lo = lo } ≡ value_of_first whole ds
-  zero_is m hi lo z b e =
-      let none = number_zeros 10 ds (zero_digits ds bcd.digits (sym bcd.number ∙ z)) in
-      let n : number_of [] m ≡ number_from_digits 10 ds * 10 ^ (32768 - fraction) =
-      number_of_empty m ∙ (rw none (omega arith)) in
-      (λ i. record { number = n i; hi = b i; lo = e i }) ∙ sym value_is
+  zero_is m hi lo z b e = grind (arith, number_zeros, zero_digits, number_of_empty, value_is)
 
   -- any other number, of k nibbles
   module _ (width : Width) (k : ℕ) (size : bits width ≡ 4 * k) (fits : number < 2 ^ bits width) (some : 0 < number)
@@ -543,8 +496,7 @@ module _ (text : List ℕ) (p : PlainText) (plain : IsPlainText text p) where
   number_fits = rw plain.number (digits_fit (w.whole ++ w.fraction) digits plain.few)
 
   pub number_fits_64 : p.whole + p.fraction ≤ 16 → p.number < 2 ^ 64
-  number_fits_64 few =
-      rw plain_bcd.number (sixteen_fit plain_digits plain_bcd.digits (omega (arith, plain_bcd.count, few)))
+  number_fits_64 few = grind (arith, ints, clamps, nat_tests, common_steps, plain_bcd, sixteen_fit)
 
   -- reading gives their value
   pub plain_read : read text ≡ Ok (value_of_first p.whole plain_digits)

@@ -78,10 +78,7 @@ module _ (base : ℕ) (above : 0 < base) where
 
   first_and_others : (top d : ℕ) (ds : List ℕ) → length (d ∷ ds) ≤ top
       → worth top (d ∷ ds) ≡ d * base ^ (top - 1) + worth (top - 1) ds
-  first_and_others top d ds h =
-      let k : top - length (d ∷ ds) ≡ top - 1 - length ds = omega arith in
-      rw (k, number_first base d ds)
-      (moved_up d (top - 1) (length ds) (number_from_digits base ds) (omega arith))
+  first_and_others top d ds h = grind (arith, ints, clamps, nat_tests, common_steps, number_first, moved_up)
 
   -- digits compare as their first digits, and if these are equal, as the other digits
   module _ (top d e : ℕ) (ds es : List ℕ) (b : AllBelowBase base ds) (c : AllBelowBase base es)
@@ -94,10 +91,7 @@ module _ (base : ℕ) (above : 0 < base) where
     firsts Less h =
         rw (first_and_others top d ds f, first_and_others top e es g)
         (less_first d e _ _ _ h (worth_lt (top - 1) ds b (omega arith)))
-    firsts Equal h =
-        let left = first_and_others top d ds f in
-        let right = first_and_others top e es g in
-        grind arith
+    firsts Equal h = grind (arith, ints, clamps, nat_tests, common_steps, first_and_others)
     firsts Greater h =
         rw (first_and_others top d ds f, first_and_others top e es g)
         (less_first e d _ _ _ h (worth_lt (top - 1) es c (omega arith)))
@@ -107,10 +101,8 @@ module _ (base : ℕ) (above : 0 < base) where
       → length es ≤ top → EndsInDigit ds → EndsInDigit es
       → slice_cmp nat_cmp ds es ≡ nat_cmp (worth top ds) (worth top es)
   digits_order top [] [] b c f g p q = nat_cmp_is (worth top []) (worth top []) Equal refl
-  digits_order top [] (e ∷ es) b c f g p q =
-      nat_cmp_is (worth top []) (worth top (e ∷ es)) Less (omega (arith, worth_pos top e es q))
-  digits_order top (d ∷ ds) [] b c f g p q =
-      nat_cmp_is (worth top (d ∷ ds)) (worth top []) Greater (omega (arith, worth_pos top d ds p))
+  digits_order top [] (e ∷ es) b c f g p q = grind (arith, nat_cmp_is, Less, worth_pos)
+  digits_order top (d ∷ ds) [] b c f g p q = grind (arith, nat_cmp_is, Greater, worth_pos)
   digits_order top (d ∷ ds) (e ∷ es) b c f g p q =
       let others =
       ranked (worth (top - 1) ds) (worth (top - 1) es) (slice_cmp nat_cmp ds es)
@@ -197,9 +189,7 @@ module _ (ds es : List ℕ) (h : All (λ d. d < 10) ds) (g : All (λ d. d < 10) 
     (q : EndsInDigit es) where
   order_at : (top : ℕ) → length ds ≤ top → length es ≤ top
       → slice_cmp nat_cmp ds es ≡ nat_cmp (worth 16 (omega arith) top ds) (worth 16 (omega arith) top es)
-  order_at top l m =
-      digits_order 16 (omega arith) top ds es (below_sixteen ds (recursion_from_All (λ d. d < 10) ds h))
-      (below_sixteen es (recursion_from_All (λ d. d < 10) es g)) l m p q
+  order_at top l m = grind (arith, digits_order, below_sixteen, recursion_from_All)
 
   -- the lists have the order of the numbers of their first sixteen digits, if these differ or there are no others
   pub fronts_order : (¬ (bcd_number ds ≡ bcd_number es)) ⊎ ((length ds ≤ 16) × (length es ≤ 16))
@@ -221,9 +211,7 @@ module _ (ds es : List ℕ) (h : All (λ d. d < 10) ds) (g : All (λ d. d < 10) 
 -- the bytes write the number of the digits
 module _ (bytes ds : List ℕ) (packed : IsPacked bytes (length ds)) (same : digits_in bytes (length ds) ≡ ds) where
   nibbles_are : nibbles bytes ≡ ds ++ replicate (length ds % 2) 0
-  nibbles_are =
-      same_number_lists _ _ (grind (arith, nibble_rules, packed.count))
-      (λ k l. grind (arith, nibble_rules, packed.count, packed.unused, ap (λ xs. get_or xs k 0) same))
+  nibbles_are = grind (arith, ints, clamps, nat_tests, common_steps, same_number_lists, nibble_rules)
 
   packed_worth : (top : ℕ) → length bytes ≤ top
       → worth 256 (omega arith) top bytes ≡ worth 16 (omega arith) (2 * top) ds
@@ -235,16 +223,7 @@ module _ (bytes ds : List ℕ) (packed : IsPacked bytes (length ds)) (same : dig
       rw (number, places, ← all, pow-add) (omega arith)
 
   bytes_end : EndsInDigit ds → EndsInDigit bytes
-  bytes_end ends some =
-      let last = length ds - 1 in
-      let digit : get_or (nibbles bytes) last 0 ≡ get_or ds last 0 =
-      ap (λ xs. get_or xs last 0) nibbles_are ∙ grind (arith, nibble_rules) in
-      let at : last / 2 ≡ length bytes - 1 = omega (arith, packed.count) in
-      let positive : 0 < get_or ds last 0 = ends (omega (arith, packed.count)) in
-      elim (nibble_is bytes last).1 [
-        | inl e ↦ omega (arith, ap (λ i. get_or bytes i 0) at)
-        | inr e ↦ omega (arith, ap (λ i. get_or bytes i 0) at)
-      ]
+  bytes_end ends some = grind (arith, nibbles_are, nibble_rules, nibble_is)
 
   -- they are bytes
   bytes_below : All (λ d. d < 10) ds → (i : ℕ) → get_or bytes i 0 < 256

@@ -1,5 +1,5 @@
 -- Laws of concatenation.
-use Rattle.decimal_unsigned.proofs.Common.{◌≡◌, ℕ, ◌+◌, ◌-◌, ◌%◌, ◌<◌, ◌≤◌, Bool, true, false, cond, nat_lt, ◌||◌, refl, sym, ◌∙◌, ap, arith, inl, inr, ℤ, pos, ◌+ℤ◌, ◌-ℤ◌, ◌≤ℤ◌, Option, Some, None, int_max, int_min, ints, clamps, cases_lt, nat_tests, offset, weight, first, last, offset_is, Unsigned, IsValue, with_max_position}
+use Rattle.decimal_unsigned.proofs.Common.{◌≡◌, ℕ, ◌+◌, ◌-◌, ◌%◌, ◌<◌, ◌≤◌, Bool, true, false, cond, nat_lt, ◌||◌, refl, sym, ◌∙◌, ap, arith, inl, inr, ℤ, pos, ◌+ℤ◌, ◌-ℤ◌, ◌≤ℤ◌, Option, Some, None, int_max, int_min, ints, clamps, cases_lt, nat_tests, offset, weight, first, last, offset_is, Unsigned, IsValue, with_max_position, common_steps}
 use Rattle.std.specs.Prelude.{option_and_then}
 use Rattle.decimal_unsigned.specs.Concatenation.{overlaps, concatenated_end}
 use Rattle.decimal_unsigned.specs.ConcatenationLaws.{concatenation, ConcatenationIsAssociative}
@@ -73,19 +73,7 @@ module _ (u v w : Unsigned) (p : IsValue u) (q : IsValue v) (r : IsValue w) wher
 
   -- concatenation of three values is associative
   pub concatenation_is_associative : ConcatenationIsAssociative u v w
-  concatenation_is_associative =
-      bound (overlaps u v) (λ x. concatenation x w) (concatenated_end u v)
-      ∙ both (overlaps u v) (overlaps (concatenated_end u v) w) (concatenated_end (concatenated_end u v) w)
-      ∙ (λ i. cond (overlaps_associative i) None (Some (concatenated_end-assoc i)))
-      ∙ sym (both (overlaps v w) (overlaps u (concatenated_end v w)) (concatenated_end u (concatenated_end v w)))
-      ∙ sym (bound (overlaps v w) (λ x. concatenation u x) (concatenated_end v w))
-    where
-      bound : (t : Bool) (f : Unsigned → Option Unsigned) (x : Unsigned)
-          → option_and_then f (cond t None (Some x)) ≡ cond t None (f x)
-      bound t f x = grind arith
-
-      both : (s t : Bool) (x : Unsigned) → cond s None (cond t None (Some x)) ≡ cond (s || t) None (Some x)
-      both s t x = grind arith
+  concatenation_is_associative = grind (arith, overlaps_associative, concatenated_end-assoc)
 
 -- ---- the part at and above a position, and the part below it
 module _ (v t : Unsigned) (p : ℤ) (valid : IsValue v) (e : t.number ≡ v.number - v.number % weight p) where

@@ -119,10 +119,7 @@ module _ {ds : List ℕ} {m hi lo p m' hi' lo' : ℤ} {start : ℕ} (t : IsStore
       number_of_is ds m ∙ (rw (n, pow-add 10 (length ds - a) ends) (omega arith))
 
   rest_below : (a : ℕ) → a ≤ start → rest_value * 10 ^ ends < 10 ^ (length ds - a + ends)
-  rest_below a h =
-      let l : 10 ^ (length ds - start) ≤ 10 ^ (length ds - a) = pow-le-pow_right (omega arith) (omega arith) in
-      let b : rest_value < 10 ^ (length ds - a) = omega (arith, rest_lt) in
-      rw (pow-add 10 (length ds - a) ends) (mul-lt-mul_of_pos_right b (ten_pos ends))
+  rest_below a h = grind (arith, pow-le-pow_right, rest_lt, pow-add, mul-lt-mul_of_pos_right, ten_pos)
 
   abbrev gap : ℕ
   gap = int_gap p (m +ℤ pos 1)

@@ -19,10 +19,7 @@ far v e h k = scaled_outside v (saturated e) k ∙ sym (scaled_outside v e h)
 
 scaled_saturated : (v : Unsigned) (o : Option ℤ) → scaled v (option_map saturated o) ≡ scaled v o
 scaled_saturated v None = refl
-scaled_saturated v (Some (pos n)) = elim (cases_lt 70000 n) [
-  | inl h ↦ far v (pos n) (inl (omega (arith, ints, h))) (inl (omega (arith, ints, clamps, h)))
-  | inr h ↦ ap (λ x. scaled v (Some x)) (let e : saturated (pos n) ≡ pos n = omega (arith, ints, clamps, h) in e)
-]
+scaled_saturated v (Some (pos n)) = grind (arith, ints, clamps, nat_tests, common_steps, cases_lt, far)
 scaled_saturated v (Some (negsuc n)) = elim (cases_lt 69999 n) [
   | inl h ↦ far v (negsuc n) (inr (omega (arith, ints, h))) (inr (omega (arith, ints, clamps, h)))
   | inr h ↦ ap (λ x. scaled v (Some x)) (let e : saturated (negsuc n) ≡ negsuc n = omega (arith, ints, clamps, h) in e)
@@ -85,8 +82,4 @@ digits_found text (Some p) h = digits_some text (view p) h
 pub exponent_found : (text : List ℕ) (r : Option Parts) → views r ≡ option_map saturated_parts (parts_of text)
     → IfSome r (λ p. IfSome p.exponent IsSaturated)
 exponent_found text None h = tt
-exponent_found text (Some p) h = go p.exponent refl
-  where
-    go : (o : Option ℤ) → p.exponent ≡ o → IfSome o IsSaturated
-    go None e = tt
-    go (Some e) k = saturated_some text (view p) e h k
+exponent_found text (Some p) h = grind (arith, ints, clamps, nat_tests, common_steps, saturated_some)

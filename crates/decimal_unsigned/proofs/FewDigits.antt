@@ -56,17 +56,7 @@ module _ (w : Literal) (digits : AllDigits 10 (w.whole ++ w.fraction)) (few : le
 
   written_lt : written < 10 ^ (length w.whole + length w.fraction)
   unfolding written
-  written_lt = grind (
-    arith,
-    ints,
-    clamps,
-    nat_tests,
-    common_steps,
-    length_digits,
-    number_lt,
-    all_digits,
-    digits_value_is,
-  )
+  written_lt = grind (arith, ints, clamps, nat_tests, common_steps, number_lt, all_digits, digits_value_is)
 
   -- the number before an exponent
   size_mantissa : size (mantissa w.whole w.fraction).number ≤ length w.whole + length w.fraction
@@ -91,9 +81,7 @@ module _ (w : Literal) (digits : AllDigits 10 (w.whole ++ w.fraction)) (few : le
   size_scaled : (e : Option ℤ) (v : Unsigned) → scaled (mantissa w.whole w.fraction) e ≡ Ok v
       → size v.number ≤ length w.whole + length w.fraction
   unfolding scaled
-  size_scaled None v is =
-      let same : mantissa w.whole w.fraction ≡ v = cc in
-      subst (λ (x : Unsigned). size x.number ≤ length w.whole + length w.fraction) same size_mantissa
+  size_scaled None v is = grind (arith, ints, clamps, nat_tests, common_steps, size_mantissa)
   size_scaled (Some d) v is =
       go (nat_eq (mantissa w.whole w.fraction).number 0) refl
       (is_outside d || leaves_limits (mantissa w.whole w.fraction) d) refl
@@ -113,8 +101,7 @@ module _ (w : Literal) (digits : AllDigits 10 (w.whole ++ w.fraction)) (few : le
 -- the value of the parts has no more digits than they have
 size_value : (w : Literal) (v : Unsigned) → AllDigits 10 (w.whole ++ w.fraction) → value_of w ≡ Ok v
     → size v.number ≤ length w.whole + length w.fraction
-size_value w v digits is =
-    grind (arith, ints, clamps, nat_tests, common_steps, long_whole, long_fraction, size_scaled, value_scaled)
+size_value w v digits is = grind (arith, long_whole, long_fraction, size_scaled, value_scaled)
 
 -- parts without an exponent have a value
 plain_value : (w : Literal) → AllDigits 10 (w.whole ++ w.fraction) → IsPlain w

@@ -1,5 +1,5 @@
 -- The parts of a text are those of the grammar.
-use Rattle.decimal_unsigned.proofs.Common.{common_steps, ◌≡◌, ℕ, ◌<◌, Bool, true, false, cond, ◌⊎◌, List, [], ◌∷◌, ◌++◌, length, refl, sym, ◌∙◌, ap, subst, arith, nat_lt, ◌==◌, append-nil, Option, Some, None, ℤ, pos, nat_tests, is_ascii_digit, digit_value, prefix_len, AllDigits, digits_value, Literal, ◌&&◌, option_map, take-append-drop, Grammar}
+use Rattle.decimal_unsigned.proofs.Common.{common_steps, ◌≡◌, ℕ, ◌<◌, Bool, true, false, cond, ◌⊎◌, List, [], ◌∷◌, ◌++◌, length, refl, sym, ◌∙◌, ap, subst, arith, nat_lt, ◌==◌, append-nil, Option, Some, None, ℤ, pos, nat_tests, is_ascii_digit, digit_value, prefix_len, AllDigits, digits_value, Literal, ◌&&◌, option_map, take-append-drop, Grammar, clamps, ints}
 use Rattle.std.proofs.Common.{append_assoc, eqb-true}
 use Rattle.std.specs.Prelude.{neg_ℤ}
 use Rattle.std.specs.Str.Parse.{IsNumeral}
@@ -54,18 +54,14 @@ not_sign c h = grind (arith, nat_tests, digit_from_value)
 pub exponent-complete : (text : List ℕ) (e : ℤ) → IsExponent text e → exponent_of text ≡ Some e
 unfolding exponent_of
 exponent-complete [] e (unsigned n v) = absurd (omega (arith, n.0))
-exponent-complete (c ∷ rest) e (unsigned n v) =
-    let s = not_sign c n.1.0 in rw (s.0, s.1, numeral-complete (c ∷ rest) n, v) refl
+exponent-complete (c ∷ rest) e (unsigned n v) = grind (arith, not_sign, numeral-complete)
 exponent-complete text e (plus ds t n v) = ap exponent_of t ∙ (rw (numeral-complete ds n, v) refl)
 exponent-complete text e (minus ds t n v) = ap exponent_of t ∙ (rw (numeral-complete ds n, v) refl)
 
 -- an exponent that is found is one of the grammar
 pub exponent-sound : (text : List ℕ) (e : ℤ) → exponent_of text ≡ Some e → IsExponent text e
 unfolding exponent_of
-exponent-sound [] e h =
-    let k = option_map-some pos (numeral_of []) e h in
-    let n = numeral-sound [] k.0 k.1 in
-    absurd (omega (arith, n.0.0))
+exponent-sound [] e h = grind (arith, ints, clamps, nat_tests, common_steps, option_map-some, numeral-sound)
 exponent-sound (c ∷ rest) e h = go (c == 45) refl (c == 43) refl h
   where
     go : (m : Bool) → (c == 45) ≡ m → (p : Bool) → (c == 43) ≡ p
@@ -169,13 +165,7 @@ after_fraction-sound : (a b rest : List ℕ) (w : Literal) → AllDigits 10 a �
     → after_fraction a b rest ≡ Some w
     → Grammar ((a ++ 46 ∷ b) ++ rest) w
 unfolding after_fraction
-after_fraction-sound a b [] w p q h =
-    let k = cond_some (nat_lt 0 (length b)) _ w h in
-    let t = k.0 in
-    let s : record { whole = a; fraction = b; exponent = None } ≡ w = (let e = k.1 in cc) in
-    let l : 0 < length b = grind (arith, nat_tests, t) in
-    subst (Grammar ((a ++ 46 ∷ b) ++ [])) s
-    (record { whole = p; fraction = q; form = decimal l refl (append-nil (a ++ 46 ∷ b)) })
+after_fraction-sound a b [] w p q h = grind (arith, ints, clamps, nat_tests, common_steps, cond_some, append-nil)
 after_fraction-sound a b (c ∷ rest) w p q h =
     let k = cond_some (is_letter c) (with_exponent a b rest) w h in
     with_exponent-sound (a ++ 46 ∷ b) a b rest c w (dotted refl) p q k.0 k.1
@@ -183,12 +173,7 @@ after_fraction-sound a b (c ∷ rest) w p q h =
 after_whole-sound : (a rest : List ℕ) (w : Literal) → AllDigits 10 a → after_whole a rest ≡ Some w
     → Grammar (a ++ rest) w
 unfolding after_whole
-after_whole-sound a [] w p h =
-    let k = cond_some (nat_lt 0 (length a)) _ w h in
-    let t = k.0 in
-    let s : record { whole = a; fraction = []; exponent = None } ≡ w = (let e = k.1 in cc) in
-    let l : 0 < length a = grind (arith, nat_tests, t) in
-    subst (Grammar (a ++ [])) s (record { whole = p; fraction = tt; form = integer l refl refl (append-nil a) })
+after_whole-sound a [] w p h = grind (arith, ints, clamps, nat_tests, common_steps, cond_some, append-nil)
 after_whole-sound a (c ∷ rest) w p h = go (c == 46) refl h
   where
     go : (t : Bool) → (c == 46) ≡ t

@@ -91,13 +91,11 @@ middle_append a b start end p =
     ) refl
 
 middle-map : (f : ℕ → ℕ) (start end : ℕ) (xs : List ℕ) → map f (middle start end xs) ≡ middle start end (map f xs)
-middle-map f start end xs =
-    sym (take-map f (end - start) (drop start xs)) ∙ ap (take (end - start)) (sym (drop-map f start xs))
+middle-map f start end xs = grind (arith, ints, clamps, nat_tests, common_steps, take-map, drop-map)
 
 -- the same of two texts and the digits that they write
 pub middle_written : (a b : List ℕ) (start end : ℕ) → start ≤ end
     → map digit_value (middle (min start (length a)) (min end (length a)) a)
     ++ map digit_value (middle (start - length a) (end - length a) b)
     ≡ middle start end (map digit_value (a ++ b))
-middle_written a b start end p =
-    grind (arith, ints, clamps, nat_tests, common_steps, length-map, middle-map, map-append, middle_append)
+middle_written a b start end p = grind (arith, length-map, middle-map, map-append, middle_append)

@@ -39,19 +39,7 @@ module _ (v : Unsigned) (valid : IsValue v) (dot : ℕ) (dot_is : dot ≡ int_ga
   pub piece_above : (from n : ℕ) → from + n ≤ dot
       → take n (drop from (text v)) ≡ bytes_down v.number (v.hi -ℤ pos from) n
   piece_above from n h =
-      grind (
-        arith,
-        ints,
-        clamps,
-        nat_tests,
-        common_steps,
-        split,
-        drop-append-le,
-        whole_length,
-        take-append-le,
-        length-drop,
-        bytes_down-part,
-      )
+      grind (arith, split, drop-append-le, whole_length, take-append-le, length-drop, bytes_down-part)
 
   -- a piece of a digits, the decimal point and k digits
   pub piece_over : (from a k : ℕ) → from + a ≡ dot → from + (a + suc k) ≤ length (text v)

@@ -1,5 +1,5 @@
 -- Texts of digits, with or without a decimal point, eight bytes at a time.
-use Rattle.decimal_unsigned.proofs.Common.{◌≡◌, ℕ, zero, suc, ◌+◌, ◌-◌, ◌*◌, ◌/◌, ◌%◌, ◌^◌, ◌<◌, ◌≤◌, List, [], ◌∷◌, ◌++◌, length, get_or, take, drop, replicate, refl, sym, ◌∙◌, ap, subst, arith, Option, Some, None, length-append, length-drop, length-take-le, number_from_digits, AllBelowBase, AllDigits, digits_value, digits_value_after, digit_value, pow-suc, mod-eq_of_lt, below_take, map, pow-le-pow_right, length-map, digits_value_is, number_lt, below_sixteen}
+use Rattle.decimal_unsigned.proofs.Common.{◌≡◌, ℕ, zero, suc, ◌+◌, ◌-◌, ◌*◌, ◌/◌, ◌%◌, ◌^◌, ◌<◌, ◌≤◌, List, [], ◌∷◌, ◌++◌, length, get_or, take, drop, replicate, refl, sym, ◌∙◌, ap, subst, arith, Option, Some, None, length-append, length-drop, length-take-le, number_from_digits, AllBelowBase, AllDigits, digits_value, digits_value_after, digit_value, pow-suc, mod-eq_of_lt, below_take, map, pow-le-pow_right, length-map, digits_value_is, number_lt, below_sixteen, clamps, nat_tests, ints, common_steps}
 use Rattle.std.specs.Int.{w64, from_be_bytes}
 use Rattle.std.proofs.Common.{append_assoc}
 use Rattle.std.proofs.lemmas.Nat.{mul-mod_first}
@@ -35,12 +35,7 @@ after_append n (c ∷ a) b = after_append (n * 16 + digit_value c) a b
 joined_number : (a b : List ℕ) (number more places : ℕ) → number ≡ digits_value 16 a % 2 ^ 128
     → more ≡ digits_value 16 b → 16 ^ length b ≡ places
     → (number * places % 2 ^ 128 + more) % 2 ^ 128 ≡ digits_value 16 (a ++ b) % 2 ^ 128
-joined_number a b number more places e f p =
-    let m : number * places % 2 ^ 128 ≡ digits_value 16 a * places % 2 ^ 128 =
-    ap (λ n. n * places % 2 ^ 128) e ∙ mul-mod_first (digits_value 16 a) places (2 ^ 128) in
-    let all : digits_value 16 (a ++ b) ≡ digits_value 16 a * places + digits_value 16 b =
-    after_append 0 a b ∙ value_after (digits_value 16 a) b ∙ ap (λ q. digits_value 16 a * q + digits_value 16 b) p in
-    omega (arith, m, all, f)
+joined_number a b number more places e f p = grind (arith, mul-mod_first, after_append, value_after)
 
 take_over : (a b : List ℕ) (i : ℕ) → take (length a + i) (a ++ b) ≡ a ++ take i b
 take_over [] b i = let e : 0 + i ≡ i = omega arith in ap (λ k. take k b) e
@@ -65,40 +60,25 @@ module _ (text group : List ℕ) (p : Prefix) (g : Group) (front : IsPrefix text
   pub no_point : p.fraction ≡ None → g.fraction ≡ None
       → IsPrefix (text ++ group)
       (record { number = (p.number * 2 ^ 32 % 2 ^ 128 + g.number) % 2 ^ 128; fraction = None })
-  no_point e f = record {
-    point = tt;
-    digits = digits_both _ _ (rw e at front.digits) (rw f at back.digits);
-    number =
-        joined_number text group p.number g.number (2 ^ 32) (rw e at front.number) (rw f at back.number)
-        (rw eight refl);
-  }
+  no_point e f = grind (arith, ints, clamps, nat_tests, common_steps, digits_both, joined_number)
 
   pub point_before : (n : ℕ) → p.fraction ≡ Some n → g.fraction ≡ None
       → IsPrefix (text ++ group)
       (record { number = (p.number * 2 ^ 32 % 2 ^ 128 + g.number) % 2 ^ 128; fraction = Some (n + 8) })
   point_before n e f =
-      let at = rw e at front.point in
-      let i = length text - (n + 1) in
-      let first : length (text ++ group) - ((n + 8) + 1) ≡ i = omega (arith, size) in
-      let rest : length (text ++ group) - (n + 8) ≡ length text - n = omega (arith, size) in
-      let all : without (Some (n + 8)) (text ++ group) ≡ without (Some n) text ++ group =
-      ap (λ k. take k (text ++ group) ++ drop (length (text ++ group) - (n + 8)) (text ++ group)) first
-      ∙ ap (λ k. take i (text ++ group) ++ drop k (text ++ group)) rest
-      ∙ ap (λ l. l ++ drop (length text - n) (text ++ group)) (take-append-le i text group (omega arith))
-      ∙ ap (λ l. take i text ++ l) (drop-append-le (length text - n) text group (omega arith))
-      ∙ sym (append_assoc (take i text) (drop (length text - n) text) group) in
-      record {
-        point = (
-          omega (arith, size, at.0),
-          ap (λ k. get_or (text ++ group) k 0) first
-              ∙ get_or_append_left text group 0 i (omega (arith, at.0)) ∙ at.1,
-        );
-        digits = rw all (digits_both _ _ (rw e at front.digits) (rw f at back.digits));
-        number =
-            rw all
-            (joined_number (without (Some n) text) group p.number g.number (2 ^ 32) (rw e at front.number)
-            (rw f at back.number) (rw eight refl));
-      }
+      grind (
+        arith,
+        ints,
+        clamps,
+        nat_tests,
+        common_steps,
+        take-append-le,
+        drop-append-le,
+        append_assoc,
+        get_or_append_left,
+        digits_both,
+        joined_number,
+      )
 
   pub point_found : (n : ℕ) → p.fraction ≡ None → g.fraction ≡ Some n
       → IsPrefix (text ++ group)
@@ -185,30 +165,13 @@ module _ (text bs : List ℕ) (count n : ℕ) (below : (i : ℕ) → get_or text
 -- up to 32 digits fit into 128 bits
 pub digits_fit : (cs : List ℕ) → AllDigits 10 cs → length cs ≤ 32 → digits_value 16 cs < 2 ^ 128
 digits_fit cs h few =
-    let ds = map digit_value cs in
-    let few_ds : length ds ≤ 32 = omega (arith, few, length-map cs digit_value) in
-    let places : 16 ^ length ds ≤ 16 ^ 32 = pow-le-pow_right (omega arith) few_ds in
-    omega (
-      arith,
-      digits_value_is 16 cs,
-      number_lt 16 ds (below_sixteen ds (all_below_base_from_digits 10 cs h)),
-      places,
-    )
+    grind (arith, length-map, pow-le-pow_right, digits_value_is, number_lt, below_sixteen, all_below_base_from_digits)
 
 pub length-without : (fraction : Option ℕ) (text : List ℕ) → is_point fraction text
     → length (without fraction text) ≤ length text
 length-without None text h = omega arith
-length-without (Some n) text h =
-    omega (
-      arith,
-      h.0,
-      length-append (take (length text - (n + 1)) text) (drop (length text - n) text),
-      length-take-le (length text - (n + 1)) text (omega arith),
-      length-drop (length text - n) text,
-    )
+length-without (Some n) text h = grind (arith, length-append, length-take-le, length-drop)
 
 pub first_prefix : (text : List ℕ) (g : Group) → length text ≤ 8 → IsGroup text g
     → IsPrefix text (record { number = g.number; fraction = g.fraction })
-first_prefix text g few h =
-    let fits = digits_fit _ h.digits (omega (arith, few, length-without g.fraction text h.point)) in
-    record { point = h.point; digits = h.digits; number = h.number ∙ sym (mod-eq_of_lt fits) }
+first_prefix text g few h = grind (arith, digits_fit, length-without, mod-eq_of_lt)

@@ -123,8 +123,7 @@ module _ (w : Literal) (digits : AllDigits 10 (w.whole ++ w.fraction)) (few : le
           lo = pos 0 -ℤ pos (length w.fraction);
         }
         ≡ mantissa w.whole w.fraction
-    mantissa_is = λ i.
-        record { number = number_is i; hi = pos (length w.whole - 1); lo = pos 0 -ℤ pos (length w.fraction) }
+    mantissa_is = grind (arith, ints, clamps, nat_tests, common_steps, number_is)
 
     -- ---- no exponent
     -- without an exponent the value has these digits in the written range
@@ -207,6 +206,4 @@ module _ (w : Literal) (digits : AllDigits 10 (w.whole ++ w.fraction)) (few : le
 pub is_plan_at : (w : Literal) (start end : ℕ) (m hi lo : ℤ) (b : Bounds) → IsPlan w (plan_at start end m hi lo)
     → b.magnitude ≡ m → b.hi ≡ hi → b.lo ≡ lo
     → IsPlan w (record { start = start; end = end; bounds = b })
-is_plan_at w start end m hi lo b k p q r =
-    let P : Bounds → Type 0 = λ b. IsPlan w (record { start = start; end = end; bounds = b }) in
-    subst P (λ i. record { magnitude = sym p i; hi = sym q i; lo = sym r i }) k
+is_plan_at w start end m hi lo b k p q r = grind (arith, ints, clamps, nat_tests, common_steps)

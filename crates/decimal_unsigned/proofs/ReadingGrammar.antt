@@ -1,5 +1,5 @@
 -- Reading and the grammar.
-use Rattle.decimal_unsigned.proofs.Common.{◌≡◌, ℕ, ◌≤◌, ◌-◌, ◌==◌, Bool, true, false, cond, ◌||◌, ◌⊎◌, inl, inr, List, length, drop, refl, sym, ◌∙◌, ap, arith, ℤ, Option, Some, None, Result, Ok, Err, length-take-le, length-drop, Unsigned, Literal, parts_of, is_outside, limit, leaves_limits, middle, Grammar, mantissa}
+use Rattle.decimal_unsigned.proofs.Common.{◌≡◌, ℕ, ◌≤◌, ◌-◌, ◌==◌, Bool, true, false, cond, ◌||◌, ◌⊎◌, inl, inr, List, length, drop, refl, sym, ◌∙◌, ap, arith, ℤ, Option, Some, None, Result, Ok, Err, length-take-le, length-drop, Unsigned, Literal, parts_of, is_outside, limit, leaves_limits, middle, Grammar, mantissa, ints, clamps, common_steps, nat_tests}
 use Rattle.std.specs.Prelude.{IfOk, ◌↔◌}
 use Rattle.decimal_unsigned.specs.declared.error.ParseError.{ParseError}
 use Rattle.decimal_unsigned.specs.declared.error.ParseError.TheVariants.{Limit, Syntax}
@@ -18,9 +18,7 @@ tested false x y p q = q
 scaled_values : (v : Unsigned) (e : Option ℤ) → Values (scaled v e)
 unfolding scaled
 scaled_values v None = inl (v, refl)
-scaled_values v (Some e) =
-    tested (v.number == 0) _ _ (inl (v, refl))
-    (tested (is_outside e || leaves_limits v e) _ _ (inr refl) (inl (_, refl)))
+scaled_values v (Some e) = grind (arith, ints, clamps, nat_tests, common_steps, tested)
 
 value_of_values : (w : Literal) → Values (value_of w)
 unfolding value_of

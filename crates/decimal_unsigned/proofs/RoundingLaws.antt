@@ -18,8 +18,7 @@ use Rattle.decimal_unsigned.proofs.Roundings.{rounded_to-large}
 -- the rounding by the remainder is the rounding to the multiple that the mode names
 pub is_rounded : (v : Unsigned) (r : Rounding UnsignedRoundingMode) {new : Option Unsigned} → IsValue v
     → rounded v r ≡ new → IsRounded v r new
-is_rounded v r valid e =
-    grind (arith, ints, clamps, nat_tests, common_steps, rounded_number_is_named, unit_pos)
+is_rounded v r valid e = grind (arith, ints, clamps, nat_tests, common_steps, rounded_number_is_named, unit_pos)
 
 -- an error of rounding the digits is an error of rounding the value
 pub fails : (held : ℕ) (e : RoundError) (v : Unsigned) (r : Rounding UnsignedRoundingMode) → IsValue v

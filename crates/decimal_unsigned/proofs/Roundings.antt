@@ -21,8 +21,7 @@ rounded_to-large v p n h = grind (arith, nat_tests)
 pub trunc_makes : (v : Unsigned) (p : ℤ) (increment : RoundingIncrement) → v.number < number_limit
     → rounded v (rounding p Trunc increment)
     ≡ Some (with_number v p (rounded_number Trunc (unit_at increment p) v.number))
-trunc_makes v p increment h =
-    let u = unit_pos increment p in grind (arith, nat_tests, trunc_le)
+trunc_makes v p increment h = grind (arith, ints, clamps, nat_tests, common_steps, unit_pos, trunc_le)
 
 -- a result without a reason to fail is Ok
 pub ok_unless_none : {A E V : Type 0} (makes : Option V → Type 0) (old new : V) (r : Result A E)

@@ -45,16 +45,7 @@ pub multiplied_is : {ds : List ℕ} {m hi lo m' hi' lo' : ℤ} (d : ℤ) → IsS
     → record { number = number_of ds m'; hi = hi'; lo = lo' }
     ≡ multiplied (record { number = number_of ds m; hi = hi; lo = lo }) d
 multiplied_is {ds} {m} {hi} {lo} {m'} {hi'} {lo'} (pos n) t s =
-    let w = moved t s in
-    let a : number_of ds m' ≡ number_of ds m * 10 ^ n = elim (cases_lt 0 (length ds)) [
-      | inl h ↦
-          number_up ds m m' n (omega (arith, t.fits))
-          (omega (arith, ints, s.some h, offset_is m, offset_is m', lowest t))
-      | inr h ↦ let z : length ds ≡ 0 = omega arith in rw (number_of-none w z, number_of-none t z) (omega arith)
-    ] in
-    let b = s.hi_is in
-    let c = s.lo_is in
-    cc
+    grind (arith, ints, clamps, nat_tests, common_steps, moved, cases_lt, number_up, offset_is, lowest, number_of-none)
 multiplied_is {ds} {m} {hi} {lo} {m'} {hi'} {lo'} (negsuc n) t s =
     let w = moved t s in
     let a : number_of ds m' ≡ number_of ds m / 10 ^ suc n = elim (cases_lt 0 (length ds)) [

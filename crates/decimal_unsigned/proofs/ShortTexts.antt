@@ -1,5 +1,5 @@
 -- The text of a value of at most sixteen digits, by their nibbles.
-use Rattle.decimal_unsigned.proofs.Common.{◌≡◌, ℕ, suc, ◌+◌, ◌-◌, ◌<◌, ◌≤◌, List, ◌∷◌, ◌++◌, length, get_or, take, drop, refl, sym, ◌∙◌, ap, arith, ℤ, pos, negsuc, ◌-ℤ◌, int_gap, ints, append-nil, get_or-drop, get_or-take, length-drop, length-map, length-take-le, gap_is, digit, Unsigned, IsValue, text}
+use Rattle.decimal_unsigned.proofs.Common.{◌≡◌, ℕ, suc, ◌+◌, ◌-◌, ◌<◌, ◌≤◌, List, ◌∷◌, ◌++◌, length, get_or, take, drop, refl, sym, ◌∙◌, ap, arith, ℤ, pos, negsuc, ◌-ℤ◌, int_gap, ints, append-nil, get_or-drop, get_or-take, length-drop, length-map, length-take-le, gap_is, digit, Unsigned, IsValue, text, clamps, common_steps, nat_tests}
 use Rattle.std.proofs.lemmas.List.{get_or-map, take_at}
 use Rattle.std.proofs.Math.Seq.{take-append-add}
 use Rattle.decimal_digits.specs.Digits.{text_of}
@@ -37,9 +37,7 @@ module _ (v : Unsigned) (valid : IsValue v) (dot : ℕ) (dot_is : dot ≡ int_ga
     cut : (lo : ℤ) → lo ≡ v.lo → (n : ℕ) → n ≡ dot + length (fraction_text v.number lo)
         → take n (bytes_down v.number v.hi dot ++ 46 ∷ bytes_down v.number (negsuc 0) (16 - dot))
         ≡ bytes_down v.number v.hi dot ++ fraction_text v.number lo
-    cut (pos k) e n is =
-        take_at (bytes_down v.number v.hi dot) _ n (omega (arith, length-bytes_down v.number v.hi dot))
-        ∙ sym (append-nil (bytes_down v.number v.hi dot))
+    cut (pos k) e n is = grind (arith, ints, clamps, nat_tests, common_steps, take_at, length-bytes_down, append-nil)
     cut (negsuc b) e n is =
         let front = length-bytes_down v.number v.hi dot in
         let back = length-bytes_down v.number (negsuc 0) (suc b) in

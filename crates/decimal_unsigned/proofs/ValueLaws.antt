@@ -88,15 +88,4 @@ module _ (v : Unsigned) (p : ℤ) (valid : IsValue v) where
 
   -- the truncated value and the part below the position make the value
   pub splits : SplitsAt v p (trunced v p) (with_max_position v p)
-  splits = grind (
-    arith,
-    ints,
-    clamps,
-    nat_tests,
-    common_steps,
-    SplitsAt,
-    trunced_is,
-    parts_join,
-    parts_number,
-    parts_value,
-  )
+  splits = grind (arith, ints, clamps, nat_tests, common_steps, trunced_is, parts_join, parts_number, parts_value)

@@ -16,17 +16,7 @@ module _ {ds : List ℕ} {m hi lo : ℤ} (t : IsStored ds m hi lo) where
   -- a 1 above the first digit is more than the number
   pub number_of-lt : number_of ds m < 10 ^ (offset m + 1)
   unfolding number_of number_at
-  number_of-lt = grind (
-    arith,
-    ints,
-    clamps,
-    nat_tests,
-    common_steps,
-    number_lt,
-    mul-lt-mul_of_pos_right,
-    ten_pos,
-    pow-add,
-  )
+  number_of-lt = grind (arith, number_lt, mul-lt-mul_of_pos_right, ten_pos, pow-add)
 
   -- a 1 at the first digit is at most the number
   pub number_of-ge : 0 < length ds → 10 ^ offset m ≤ number_of ds m
@@ -68,8 +58,7 @@ module _ {ds : List ℕ} {m hi lo : ℤ} (t : IsStored ds m hi lo) where
 
   -- above the first digit there are zeros
   pub digit-number_of-above : (q : ℤ) → m <ℤ q → negsuc 32767 ≤ℤ q → digit (number_of ds m) q ≡ 0
-  digit-number_of-above q h l =
-      digit_above _ (offset m + 1) (offset q) number_of-lt (omega (arith, ints, offset_is m, offset_is q, lowest))
+  digit-number_of-above q h l = grind (arith, digit_above, number_of-lt, offset_is, lowest)
 
   -- the digits of the list are those of the number
   pub digit-number_of-in : (q : ℤ) (i : ℕ) → q +ℤ pos i ≡ m → negsuc 32767 ≤ℤ q → i < length ds

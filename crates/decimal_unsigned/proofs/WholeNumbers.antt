@@ -26,8 +26,7 @@ in_range-above bound n h = grind (arith, nat_tests)
 
 -- the number of an integer n is converted to n, if n is in range
 pub as_integer-whole : (bound number n : ℕ) → number ≡ n * weight (pos 0) → as_integer bound number ≡ in_range bound n
-as_integer-whole bound number n e =
-    grind (arith, ints, clamps, nat_tests, common_steps, mul-mod_left, mul-div_cancel, ten_pos)
+as_integer-whole bound number n e = grind (arith, mul-mod_left, mul-div_cancel, ten_pos)
 
 -- a number with a nonzero fraction is not whole
 pub as_integer-part : (bound number : ℕ) → ¬ (number % weight (pos 0) ≡ 0) → as_integer bound number ≡ Err NotWhole
@@ -40,17 +39,7 @@ leading_next i ds = grind (arith, ints, clamps, nat_tests, common_steps, leading
 
 -- i digits write a number below 10 ^ i
 pub leading_lt : (i : ℕ) (ds : List ℕ) → All (λ d. d < 10) ds → leading i ds < 10 ^ i
-leading_lt i ds h = grind (
-  arith,
-  ints,
-  clamps,
-  nat_tests,
-  common_steps,
-  number_at-lt,
-  below_take,
-  recursion_from_All,
-  length-take,
-)
+leading_lt i ds h = grind (arith, ints, clamps, nat_tests, common_steps, number_at-lt, below_take, recursion_from_All)
 
 -- the first i + j digits are the first i and the j after them
 pub leading_split : (i j : ℕ) (ds : List ℕ) → leading (i + j) ds ≡ leading i ds * 10 ^ j + leading j (drop i ds)
@@ -76,8 +65,7 @@ leading_39 = leading_next 38
 
 -- and at most `top` digits write a number below 10 ^ top
 few_digits : (i top : ℕ) (ds : List ℕ) → All (λ d. d < 10) ds → i ≤ top → leading i ds < 10 ^ top
-few_digits i top ds h l =
-    let p = leading_lt i ds h in grind (arith, pow-le-pow_right)
+few_digits i top ds h l = grind (arith, ints, clamps, nat_tests, common_steps, leading_lt, pow-le-pow_right)
 
 -- 37 digits fit 128 bits with one more
 pub leading_u128 : (i : ℕ) (ds : List ℕ) → All (λ d. d < 10) ds → i ≤ 37 → leading i ds < 10 ^ 37
@@ -130,18 +118,12 @@ module _ {ds : List ℕ} {m hi lo : ℤ} {v : Unsigned} (t : IsStored ds m hi lo
     -- at most `top` digits write an integer in range
     pub few_digits_result : (top : ℕ) → All (λ d. d < 10) ds → places ≤ top → 10 ^ top ≤ bound → {n : ℕ}
         → n ≡ leading places ds → Answer (Ok n)
-    few_digits_result top digits l h e =
-        whole_result
-        (ap Ok e ∙ sym (in_range-below bound (leading places ds) (omega (arith, few_digits places top ds digits l))))
+    few_digits_result top digits l h e = grind (arith, whole_result, in_range-below, few_digits)
 
     -- more digits write an integer out of range
     pub many_digits_result : (top : ℕ) → top < places → 0 < top → bound ≤ 10 ^ top → Answer (Err OutOfRange)
     many_digits_result top l p h =
-        let some : 0 < length ds = some_digits t (λ z. absurd (omega (arith, ints, z))) in
-        let least : 10 ^ (places - 1) ≤ number_at places ds = number_at-ge places ds some (t.front some) few in
-        let higher : 10 ^ top ≤ 10 ^ (places - 1) = pow-le-pow_right (omega arith) (omega arith) in
-        let all = ap (number_at places) (take_all places ds few) in
-        whole_result (sym (in_range-above bound (leading places ds) (omega (arith, least, higher, all))))
+        grind (arith, some_digits, number_at-ge, pow-le-pow_right, take_all, whole_result, in_range-above)
 
 -- ---- the first sixteen digits, from their packed BCD number
 module _ (ds : List ℕ) (h : All (λ d. d < 10) ds) where
@@ -175,9 +157,7 @@ module _ (ds : List ℕ) (h : All (λ d. d < 10) ds) where
       → ((xs : List ℕ) → AllBelowBase 16 xs → length xs ≤ 16 → m ≡ number_from_digits 16 xs
       → n ≡ number_from_digits 10 xs) → n ≡ leading count ds
   few_leading count m n l e f =
-      f (take count all) (below_take 16 count all all_hex)
-      (omega (arith, length-take-le count all (omega (arith, sixteen_are ds h)))) (e ∙ shifted_front count l)
-      ∙ front_leading count l
+      grind (arith, below_take, all_hex, length-take-le, sixteen_are, shifted_front, front_leading)
 
   -- seventeen to nineteen digits write the number of the first sixteen and of the others
   pub more_leading : (count front unit rest : ℕ) → 16 ≤ count → count ≤ 19 → front ≡ leading 16 ds

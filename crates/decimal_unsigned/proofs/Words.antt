@@ -1,5 +1,5 @@
 -- Texts of up to eight bytes as big-endian numbers: which of them are digits, and their number in base 16.
-use Rattle.decimal_unsigned.proofs.Common.{rules, ◌≡◌, ℕ, zero, suc, ◌+◌, ◌-◌, ◌*◌, ◌/◌, ◌%◌, ◌^◌, ◌<◌, ◌≤◌, List, [], ◌∷◌, length, get_or, take, drop, take_all, map, refl, sym, ◌∙◌, ap, subst, arith, Some, inl, inr, cases_lt, length-append, length-drop, length-take-le, length-map, number_lt, digits_value_is, digit_value, number_from_digits, AllBelowBase, AllDigits, digits_value, pow-suc, pow-le-pow_right, mod-eq_of_lt, below_take, below_drop, below_sixteen}
+use Rattle.decimal_unsigned.proofs.Common.{rules, ◌≡◌, ℕ, zero, suc, ◌+◌, ◌-◌, ◌*◌, ◌/◌, ◌%◌, ◌^◌, ◌<◌, ◌≤◌, List, [], ◌∷◌, length, get_or, take, drop, take_all, map, refl, sym, ◌∙◌, ap, subst, arith, Some, inl, inr, cases_lt, length-append, length-drop, length-take-le, length-map, number_lt, digits_value_is, digit_value, number_from_digits, AllBelowBase, AllDigits, digits_value, pow-suc, pow-le-pow_right, mod-eq_of_lt, below_take, below_drop, below_sixteen, clamps, nat_tests, ints, common_steps}
 use Rattle.std.specs.Prelude.{bit_and, bit_or}
 use Rattle.std.proofs.Math.Nat.{div-eq_of_lt-le}
 use Rattle.std.proofs.lemmas.Nat.{and_block, and_mask, or_block, or_of_8, le_or_l, le_or_r}
@@ -23,14 +23,7 @@ sixes (suc k) = sixes k * 256 + 6
 
 both_clear : (r s : ℕ) → r < 256 → s < 256 → bit_and (bit_or r s) 240 ≡ 0 → (r < 16) × (s < 16)
 both_clear r s p q h =
-    let x = bit_or r s in
-    let e : x / 16 * 2 ^ 4 + x % 16 ≡ x = omega arith in
-    let f : bit_and (x / 16 * 2 ^ 4 + x % 16) (15 * 2 ^ 4 + 0) ≡ bit_and (x / 16) 15 * 2 ^ 4 + bit_and (x % 16) 0 =
-    and_block 4 (x / 16) 15 (x % 16) 0 (omega arith) (omega arith) in
-    let g : bit_and (x / 16) 15 ≡ x / 16 % 16 = and_mask (x / 16) 4 in
-    let a : bit_and x 240 ≡ bit_and (x / 16) 15 * 2 ^ 4 + bit_and (x % 16) 0 = ap (λ n. bit_and n 240) (sym e) ∙ f in
-    let b = or_of_8 r s p q in
-    (omega (arith, h, a, g, b, le_or_l r s), omega (arith, h, a, g, b, le_or_r r s))
+    grind (arith, ints, clamps, nat_tests, common_steps, and_block, and_mask, or_of_8, le_or_l, le_or_r)
 
 -- if no byte of either number has a bit in its high nibble, each is below sixteen
 nibbles_clear : (k y z : ℕ) → bit_and (bit_or y z) (high_nibbles k) ≡ 0 → bytes_below 16 k y × bytes_below 16 k z
@@ -141,26 +134,10 @@ bytes_wider [] h = tt
 bytes_wider (d ∷ ds) h = (omega (arith, h.0), bytes_wider ds h.1)
 
 byte_lanes : Lanes 8 16
-byte_lanes = record {
-  parts = λ n. omega arith;
-  low = λ n. omega arith;
-  rest = λ n. omega arith;
-  ones = omega arith;
-  down = λ n t h. omega arith;
-  step = λ n j e h. omega arith;
-  fits = λ n. omega arith;
-}
+byte_lanes = grind (arith, ints, clamps, nat_tests, common_steps)
 
 two_lanes : Lanes 16 256
-two_lanes = record {
-  parts = λ n. omega arith;
-  low = λ n. omega arith;
-  rest = λ n. omega arith;
-  ones = omega arith;
-  down = λ n t h. omega arith;
-  step = λ n j e h. omega arith;
-  fits = λ n. omega arith;
-}
+two_lanes = grind (arith, ints, clamps, nat_tests, common_steps)
 
 module _ (n : ℕ) (h : n < 2 ^ 64) where
   abbrev pub pairs : ℕ
@@ -197,8 +174,7 @@ pub group_of_digits : (text : List ℕ) (number y : ℕ)
     → length text ≤ 8 → AllDigits 10 text × (y ≡ number_from_digits 256 (map digit_value text))
     → number ≡ digits_value 16 text
 group_of_digits text number y packs few found =
-    packs (map digit_value text) (below_sixteen _ (all_below_base_from_digits 10 text found.0))
-    (omega (arith, length-map text digit_value)) found.1 ∙ sym (digits_value_is 16 text)
+    grind (arith, below_sixteen, all_below_base_from_digits, length-map, digits_value_is)
 
 -- eight bits are a byte
 pub byte_pow : (k : ℕ) → 2 ^ (8 * k) ≡ 256 ^ k
@@ -215,14 +191,7 @@ module _ (text : List ℕ) (word n : ℕ) (h : AllBelowBase 256 text) (few : len
   front = word / 2 ^ (8 * n)
 
   pub within : n < length text
-  within = elim (cases_lt n (length text)) [
-    | inl l ↦ l
-    | inr l ↦
-        let lt = number_lt 256 text h in
-        let places : 256 ^ length text ≤ 256 ^ n = pow-le-pow_right (omega arith) l in
-        let none : word / 256 ^ n ≡ 0 = div-eq_of_lt-le (256 ^ n) (omega arith) (omega (arith, is)) in
-        absurd (omega (arith, byte, ap (λ p. word / p % 256) (byte_pow n), ap (λ q. q % 256) none))
-  ]
+  within = grind (arith, cases_lt, number_lt, pow-le-pow_right, div-eq_of_lt-le, byte_pow)
 
   abbrev j : ℕ
   j = length text - (n + 1)
@@ -242,10 +211,7 @@ module _ (text : List ℕ) (word n : ℕ) (h : AllBelowBase 256 text) (few : len
       ∙ rw last at (number-div 256 (length text - n) text h (omega arith))
 
   front_is : front ≡ number_from_digits 256 (take j text) * 256 + get_or text j 0
-  front_is =
-      let next : length text - n ≡ j + 1 = omega (arith, within) in
-      front_digits ∙ ap (λ i. number_from_digits 256 (take i text)) next
-      ∙ number_more 256 text j (omega (arith, within))
+  front_is = grind (arith, ints, clamps, nat_tests, common_steps, front_digits, number_more)
 
   below : get_or text j 0 < 256
   below = All-from_recursion (λ x. x < 256) text h j 0 (omega (arith, within))

@@ -26,8 +26,7 @@ piece_taken all piece i k h e = grind (arith, elements)
 pub wrote_more : (a b c : Option (List ℕ)) (all piece : List ℕ) (i k : ℕ) → i + k ≤ length all
     → piece ≡ take k (drop i all) → Appends a b (take i all) → Appends b c piece
     → Appends a c (take (i + length piece) all)
-wrote_more a b c all piece i k h e p q =
-    subst (Appends a c) (piece_taken all piece i k h e) (Appends-trans a b c (take i all) piece p q)
+wrote_more a b c all piece i k h e p q = grind (arith, piece_taken, Appends-trans)
 
 -- if the sink failed within the next piece, it has accepted a prefix of the text
 pub wrote_part : (a b c : Option (List ℕ)) (all piece : List ℕ) (i k : ℕ) → i + k ≤ length all
