@@ -100,8 +100,8 @@ module _ {word count : ℕ} (v : Unsigned) (ds : List ℕ) (position : ℤ) (bcd
     pub is_apart : overlaps v moved ≡ false
     is_apart = not_overlapping v moved (λ some more.
         subst (λ n. first n <ℤ last v.number) (sym moved_number)
-        (first_below_last v.number (integer * weight position) below.cut top below.divides below.less below.sum limit some
-        (subst (λ n. 0 < n) moved_number more)))
+        (first_below_last v.number (integer * weight position) below.cut top below.divides below.less below.sum limit
+        some (subst (λ n. 0 < n) moved_number more)))
 
     pub joined_is : concatenated_end v moved ≡ appended v ds position
     joined_is =
@@ -248,9 +248,9 @@ collects_more inline n m j number old ds before bcd is h = record {
 }
 
 -- the value of no digits was made, if there is none of others
-pub has_value : (inline n : ℕ) (old : Collected) (value : Unsigned) (ds : List ℕ) → (0 < old.written → value ≡ old.value)
-    → (old.written ≡ 0 → value ≡ value_of_first old.integer_digits []) → Collects inline n old ds
-    → HasValue inline n (record old { value = value }) ds
+pub has_value : (inline n : ℕ) (old : Collected) (value : Unsigned) (ds : List ℕ)
+    → (0 < old.written → value ≡ old.value) → (old.written ≡ 0 → value ≡ value_of_first old.integer_digits [])
+    → Collects inline n old ds → HasValue inline n (record old { value = value }) ds
 has_value inline n old value ds kept made h = record {
   is = record {
     first = h.first;

@@ -53,8 +53,8 @@ digits_text-run s f (d ∷ (x ∷ run)) tail some none =
     ++ digits_text-run s f (x ∷ run) tail (omega arith) (λ m low high. none m low (omega arith)) i))
     ∙ sym (digits_text-first s (λ _. false) d (x ∷ run) (separator_if s (f 0) ++ tail))
 
--- n digits with the separators f are followed by t, and a text of as many digits as `all` with the separators g is
--- equal: if t begins with a digit or a separator, the other text has none more there
+-- what follows n digits with the separators f, in a text that is also one of `all` digits with the separators g: it
+-- begins with a digit only if n is `all`, and with a separator of g only if f has it too
 pub record EndsDigits (s : Symbols) (f g : ℕ → Bool) (n all : ℕ) (t : List ℕ) : Type 0 where
   pub digit : (d : ℕ) (rest : List ℕ) → d < 10 → t ≡ digit_text s d ++ rest → n ≡ all
   pub separator : (rest : List ℕ) → t ≡ s.grouping ++ rest → g (all - n) ≡ true → f 0 ≡ true

@@ -41,7 +41,8 @@ module _ (s : Symbols) (readable : IsReadable s) where
       let a = digits_text s (λ _. false) (x ∷ ds) in
       let b = digits_text s (λ _. false) (y ∷ es) in
       (digits-unique s readable (λ _. false) (λ _. false) (x ∷ ds) (y ∷ es) [] [] p q
-      (ends_integer (nil_ends s readable)) (ends_integer (nil_ends s readable)) (append-nil a ∙ append_cancel_left s.decimal a b e ∙ sym (append-nil b))).0
+      (ends_integer (nil_ends s readable)) (ends_integer (nil_ends s readable))
+      (append-nil a ∙ append_cancel_left s.decimal a b e ∙ sym (append-nil b))).0
 
   -- a text is that of one numeral, wherever its separators are
   text-unique : (f g : ℕ → Bool) (bytes : List ℕ) (w u : Numeral) → AreDigits w → AreDigits u
@@ -52,7 +53,8 @@ module _ (s : Symbols) (readable : IsReadable s) where
       let x = (sign_affixes s w.sign).suffix in
       let y = (sign_affixes s u.sign).suffix in
       let signs = sign-unique s readable w.sign u.sign (a ++ x) (b ++ y)
-      (λ _. begins-append s a x (number_begins s f w p)) (λ _. begins-append s b y (number_begins s g u q)) (sym e ∙ h) in
+      (λ _. begins-append s a x (number_begins s f w p)) (λ _. begins-append s b y (number_begins s g u q))
+      (sym e ∙ h) in
       let numbers : a ≡ b =
       append_cancel_right a b x (signs.1 ∙ ap (λ z. b ++ (sign_affixes s z).suffix) (sym signs.0)) in
       let wholes = digits-unique s readable f g w.whole u.whole (fraction_text s w.fraction) (fraction_text s
@@ -183,8 +185,8 @@ module _ (s : Symbols) (readable : IsReadable s) (bytes : List ℕ) where
   -- texts that a formatter writes
   formatted_texts : AreTexts (IsNumeral s bytes) (λ v. IsWritten s v bytes)
   formatted_texts = record {
-    unique = λ w u p q. lenient-unique s readable bytes w u (numeral_is_lenient s bytes w p) (numeral_is_lenient s bytes u
-        q);
+    unique = λ w u p q.
+        lenient-unique s readable bytes w u (numeral_is_lenient s bytes w p) (numeral_is_lenient s bytes u q);
     writes = λ v w numeral has.
         (numeral.strategy, numeral.text ∙ sym (formatted-digits v w has numeral.digits s numeral.strategy));
     reads = written_digits s bytes;

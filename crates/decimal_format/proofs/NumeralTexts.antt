@@ -198,7 +198,8 @@ digits_of_value v valid =
     let number : u.number / 10 ^ low ≡ number_from_digits 10 (take n ds ++ drop n ds) =
     sym (ap (number_from_digits 10) split ∙ digit_list-number u.number low u.hi count (λ some. omega (arith, top))
     ∙ mod-eq_of_lt less) in
-    let units : u.number ≡ u.number / 10 ^ low * 10 ^ low = omega (arith, div-add-mod' u.number (10 ^ low), valid.whole) in
+    let units : u.number ≡ u.number / 10 ^ low * 10 ^ low =
+    omega (arith, div-add-mod' u.number (10 ^ low), valid.whole) in
     let place : low ≡ length (take n ds) + 32768 - length (take n ds ++ drop n ds) =
     omega (arith, ints, whole, size, gap_is (pos 0) u.hi, gap_is u.lo u.hi, offset_is u.lo, valid.hi_in, valid.lo_in) in
     let hi : u.hi ≡ pos (length (take n ds) - 1) = omega (arith, ints, whole, gap_is (pos 0) u.hi, valid.hi_in) in

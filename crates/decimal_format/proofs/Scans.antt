@@ -560,8 +560,8 @@ pub last_more : {s : Symbols} {bytes rest after : List ℕ} {n k most number : �
     (run : ReadsRun s most rest after number k) → CollectsDigits collected new run.digits
     → ReadsAs (λ ds. digits_text s (λ _. false) ds ++ rest) bytes n old collected
     → ReadsAs (λ ds. digits_text s (λ _. false) ds ++ after) bytes (n + k) old new
-last_more {s = s} {bytes = bytes} {rest = rest} {after = after} {old = old} {collected = collected} {new = new} run pushed
-    read = record {
+last_more {s = s} {bytes = bytes} {rest = rest} {after = after} {old = old} {collected = collected} {new = new} run
+    pushed read = record {
       digits = read.digits ++ run.digits;
       count = omega (arith, read.count, run.bcd.count, length-append read.digits run.digits);
       are_digits = below_append read.digits run.digits read.are_digits run.bcd.digits;

@@ -6,7 +6,8 @@ use Rattle.decimal_format.proofs.grouping.GroupingSizes.run_to_end.Goals as goal
 pub returns-then-before_last-most-clause-none_between : goal.returns-then-before_last-most-clause-none_between
 returns-then-before_last-most-clause-none_between c = λ k h.
     let rest = rw c.secondary_size.ensures at c.remainder-before_last.ensures in
-    ends_none c.args.self c.args.magnitude (omega arith) (omega arith) k (omega (arith, rest, h, c.if-before_last-most.true))
+    ends_none c.args.self c.args.magnitude (omega arith) (omega arith) k
+    (omega (arith, rest, h, c.if-before_last-most.true))
 
 pub returns-then-before_last-most-clause-last : goal.returns-then-before_last-most-clause-last
 returns-then-before_last-most-clause-last c =
@@ -22,7 +23,8 @@ returns-clause-none_between c = λ k h.
 pub returns-clause-last : goal.returns-clause-last
 returns-clause-last c =
     let rest = rw c.secondary_size.ensures at c.remainder-before_last.ensures in
-    let back : c.remainder-before_last.result + 1 - 1 ≡ (c.args.magnitude - c.args.self.primary) % secondary_size c.args.self =
+    let sizes = c.args.self in
+    let back : c.remainder-before_last.result + 1 - 1 ≡ (c.args.magnitude - sizes.primary) % secondary_size sizes =
     omega (arith, rest) in
-    ap (λ x. ends_group c.args.self (c.args.magnitude - x)) back
-    ∙ ends_last c.args.self c.args.magnitude (omega arith) (omega arith)
+    ap (λ x. ends_group sizes (c.args.magnitude - x)) back
+    ∙ ends_last sizes c.args.magnitude (omega arith) (omega arith)

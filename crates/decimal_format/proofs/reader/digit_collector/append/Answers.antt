@@ -12,8 +12,8 @@ from_bcd_digits-requires-clause-digits g c = let d = c.requires.digits in (d.0, 
 
 pub returns-in_err-next-clause-memory : goal.returns-in_err-next-clause-memory
 returns-in_err-next-clause-memory g c = on_err c.from_residual.result _ (λ ds bcd below.
-    memory_for_integer c.args.value.now ds c.args.position bcd c.requires.at_most below c.ranges.position g.D.DigitStore.L
-    (λ fits. let t = c.in_err-next.ensures.succeeds ds (bcd_only bcd) fits in let no : ⊥ = cc in no))
+    memory_for_integer c.args.value.now ds c.args.position bcd c.requires.at_most below c.ranges.position
+    g.D.DigitStore.L (λ fits. let t = c.in_err-next.ensures.succeeds ds (bcd_only bcd) fits in let no : ⊥ = cc in no))
 
 pub returns-in-Err-clause-ok : goal.returns-in-Err-clause-ok
 returns-in-Err-clause-ok g c = λ ds bcd below.

@@ -30,8 +30,8 @@ loop-left-preserved g c =
 pub returns-then-found-most-clause-none : goal.returns-then-found-most-clause-none
 returns-then-found-most-clause-none g c = λ chosen ds tail size below e.
     let group = rw c.sizes.ensures at c.run_to_end-most.ensures in
-    read_fails c.loop-left.invariant.read c.requires.readable (none_after_last c.args.self.now) chosen ds tail size below e
-    c.read_run-number.ensures c.if-found-most.true (omega (arith, group.within, c.loop-left-test.true))
+    read_fails c.loop-left.invariant.read c.requires.readable (none_after_last c.args.self.now) chosen ds tail size
+    below e c.read_run-number.ensures c.if-found-most.true (omega (arith, group.within, c.loop-left-test.true))
     group.none_between
 
 pub returns-clause-found : goal.returns-clause-found
@@ -41,5 +41,5 @@ returns-clause-found g c =
 
 pub returns-clause-unique : goal.returns-clause-unique
 returns-clause-unique g c = λ chosen ds tail size below e.
-    read_last c.loop-left.invariant.read c.requires.readable (none_after_last c.args.self.now) chosen ds tail size below e
-    (omega (arith, c.loop-left-test.false))
+    read_last c.loop-left.invariant.read c.requires.readable (none_after_last c.args.self.now) chosen ds tail size below
+    e (omega (arith, c.loop-left-test.false))

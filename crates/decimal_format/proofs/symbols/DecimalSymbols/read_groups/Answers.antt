@@ -10,7 +10,8 @@ returns-in_default g c =
     let s = c.args.self.now in
     let text = c.args.text.now in
     let strict = c.args.is_strict in
-    nothing_read (texts_by strict s c.requires text) g.D.DigitStore.L (λ w numeral. c.in_default.ensures.none w (numeral_by_is_lenient strict s text w numeral))
+    nothing_read (texts_by strict s c.requires text) g.D.DigitStore.L
+    (λ w numeral. c.in_default.ensures.none w (numeral_by_is_lenient strict s text w numeral))
 
 -- separators are at some of the ends of groups
 pub returns-then-not-scanned : goal.returns-then-not-scanned
@@ -41,4 +42,5 @@ returns g c =
       | else-is_strict-via-else-is_strict w ↦
           let t : true ≡ false = sym asked ∙ w.if-is_strict.false in absurd (cc)
     ]) in
-    value_read (texts_by strict s c.requires text) g.D.DigitStore.L found.0 numeral c.value.result (c.value.ensures found.0 found.1.digits.some found.2 found.3)
+    value_read (texts_by strict s c.requires text) g.D.DigitStore.L found.0 numeral c.value.result
+    (c.value.ensures found.0 found.1.digits.some found.2 found.3)

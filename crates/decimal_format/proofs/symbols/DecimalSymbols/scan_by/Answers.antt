@@ -14,7 +14,8 @@ use Rattle.decimal_format.proofs.symbols.DecimalSymbols.scan_by.Goals as goal
 pub returns-in_err-sign-clause-none : goal.returns-in_err-sign-clause-none
 returns-in_err-sign-clause-none g c = rw c.from_residual.ensures (λ w numeral.
     let s = c.args.self.now in
-    c.in_err-sign.ensures.unique w.sign _ (number_begins s (separated_at s numeral.chosen) w numeral.digits) numeral.text)
+    c.in_err-sign.ensures.unique w.sign _ (number_begins s (separated_at s numeral.chosen) w numeral.digits)
+    numeral.text)
 
 pub returns-then-integer_digits-eq0-clause-none : goal.returns-then-integer_digits-eq0-clause-none
 returns-then-integer_digits-eq0-clause-none g c = λ w numeral.

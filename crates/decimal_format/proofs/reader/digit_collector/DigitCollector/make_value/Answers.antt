@@ -10,6 +10,6 @@ returns-then-self-gt0 g c = λ n ds h.
 
 pub returns : goal.returns
 returns g c = λ n ds h.
-    has_value g.D.DigitStore.L n _ c.zero_with_digits.result ds (λ some. absurd (omega (arith, some, c.if-self-gt0.false)))
-    (λ none. c.zero_with_digits.ensures)
+    has_value g.D.DigitStore.L n _ c.zero_with_digits.result ds
+    (λ some. absurd (omega (arith, some, c.if-self-gt0.false))) (λ none. c.zero_with_digits.ensures)
     (subst (λ (s : Collected). Collects g.D.DigitStore.L n s ds) (sym c.self.view_is) h)
