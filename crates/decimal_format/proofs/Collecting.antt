@@ -4,7 +4,7 @@ use Rattle.std.specs.Int.Digits.{AllBelowBase, number_from_digits}
 use Rattle.std.specs.Prelude.{Result, Ok, Err, OnOk, OnErr, ℤ, pos, negsuc, ◌+ℤ◌, ◌-ℤ◌, ◌≤ℤ◌, ◌<ℤ◌}
 use Rattle.std.specs.Int.{int_max, int_min, int_gap}
 use Rattle.std.specs.Result.{is_err}
-use Rattle.std.proofs.Math.Nat.{mul-mod_left, mul-lt-mul_of_pos_right, mul_assoc, mul-le-mul_right, pow-le-pow_right}
+use Rattle.std.proofs.Math.Nat.{mul-mod_left, mul_assoc, mul-le-mul_right, pow-le-pow_right}
 use Rattle.std.proofs.lemmas.Int.{ints, clamps, to_z-of_z}
 use Rattle.std.proofs.lemmas.Bool.{cases_lt}
 use Rattle.std.proofs.lemmas.Bool.Decides.{nat_tests}
@@ -16,7 +16,7 @@ use Rattle.decimal_digits.specs.Number.{offset, weight, first, last, size}
 use Rattle.decimal_unsigned.specs.Concatenation.{overlaps, concatenated_end, concatenated_size}
 use Rattle.decimal_unsigned.specs.Edits.{leaves_limits, times_power, multiplied}
 use Rattle.decimal_unsigned.specs.Unsigned.{Unsigned, zero_value}
-use Rattle.fixed_decimal.proofs.Calling.{offset_is, hex_pow, powers, ten_pos, number-append, weight_up, integer_down, size_up, first_below_last, size_joined, size_left, size_right, not_overlapping}
+use Rattle.fixed_decimal.proofs.Calling.{offset_is, hex_pow, number_at-lt, powers, ten_pos, number-append, weight_up, integer_down, size_up, first_below_last, size_joined, size_left, size_right, not_overlapping}
 use Rattle.decimal_unsigned.specs.DigitValues.{IsBcd, value_of_first}
 use Rattle.decimal_format.specs.Collecting.{Collected, Collects, HasValue, IsInLimits, IsBelow, appended}
 use Rattle.decimal_format.proofs.Bcd.{below_append, below_rest, bcd_none, bcd_lt, bcd_append}
@@ -133,12 +133,6 @@ number_at-append t ds more few =
     let split : 10 ^ (t - length ds) ≡ 10 ^ length more * 10 ^ (t - length ds - length more) =
     powers (length more) (t - length ds - length more) (t - length ds) (omega (arith, length-append ds more, few)) in
     rw (number-append ds more, last, split) (omega arith)
-
-number_at-lt : (t : ℕ) (ds : List ℕ) → AllBelowBase 10 ds → length ds ≤ t → number_at t ds < 10 ^ t
-unfolding number_at
-number_at-lt t ds all few =
-    rw (powers (length ds) (t - length ds) t (omega arith))
-    (mul-lt-mul_of_pos_right (number_lt 10 ds all) (ten_pos (t - length ds)))
 
 -- the digits of the first number are above those of the second
 number_at-divides : (t : ℕ) (ds : List ℕ) → number_at t ds % 10 ^ (t - length ds) ≡ 0

@@ -55,7 +55,7 @@ digit_list-number number low m (suc n) at =
     ∙ sym (mod-mul x (omega arith) (ten_pos n))
     ∙ ap (λ y. x % y) (let p : 10 * 10 ^ n ≡ 10 ^ suc n = omega (arith, pow-suc 10 n) in p)
 
--- as many digits that write the same number are the same
+-- equally long lists of digits that write the same number are the same
 digits_of_number : (ds es : List ℕ) → AllBelowBase 10 ds → AllBelowBase 10 es → length ds ≡ length es
     → number_from_digits 10 ds ≡ number_from_digits 10 es → ds ≡ es
 digits_of_number [] [] p q size e = refl

@@ -35,6 +35,8 @@ pub use Rattle.decimal_digits.proofs.Offsets.{gap_is}
 pub use Rattle.decimal_digits.proofs.DigitLists.{ten_pos}
 -- a power of ten is the product of two
 pub use Rattle.decimal_digits.proofs.NumberAt.{powers}
+-- the number of a list of digits is below the power of ten of its places
+pub use Rattle.decimal_digits.proofs.NumberAt.{number_at-lt}
 -- the number that a concatenation of digits writes
 pub use Rattle.decimal_digits.proofs.DigitLists.{number-append}
 -- and that of digits after others; the first digit of a number
