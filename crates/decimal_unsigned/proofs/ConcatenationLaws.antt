@@ -95,8 +95,7 @@ module _ (v t : Unsigned) (p : ℤ) (valid : IsValue v) (e : t.number ≡ v.numb
       → v.lo ≤ℤ p → p ≤ℤ (v.hi +ℤ pos 1)
       → concatenated_end t (with_max_position v p) ≡ v
   parts_value hi lo above below =
-      let f : first t.number ≤ℤ v.hi =
-      first_le t.number v.hi (omega (arith, valid.below, e)) valid.hi_in.0 valid.hi_in.1 in
+      let f : first t.number ≤ℤ v.hi = grind (arith, first_le) in
       let h : int_max t.hi (int_max (p -ℤ pos 1) (pos 0)) ≡ v.hi =
       omega (arith, ints, clamps, hi, f, below, valid.hi_in) in
       let l : int_min t.lo (int_min v.lo p) ≡ v.lo = omega (arith, ints, clamps, lo, above, valid.lo_in) in

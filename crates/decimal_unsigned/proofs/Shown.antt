@@ -11,8 +11,7 @@ value_of_stored {ds} {m} {hi} {lo} t = record {
   hi_in = (t.hi_in, t.in_range.1);
   lo_in = (t.in_range.0, t.lo_in);
   below =
-      let p : 10 ^ (offset m + 1) ≤ 10 ^ (offset hi + 1) =
-      pow-le-pow_right (omega arith) (omega (arith, ints, offset_is m, offset_is hi, t.hi_covers, lowest t)) in
+      let p : 10 ^ (offset m + 1) ≤ 10 ^ (offset hi + 1) = grind (arith, pow-le-pow_right, offset_is, lowest) in
       omega (arith, number_of-lt t);
   whole =
       let k : offset m + 1 - length ds ≡ (offset m + 1 - length ds - offset lo) + offset lo = omega (arith, t.fits) in
