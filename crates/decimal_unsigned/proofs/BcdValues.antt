@@ -26,7 +26,7 @@ use Rattle.decimal_unsigned.specs.DigitValues.{IsBcd, value_of_first}
 use Rattle.decimal_unsigned.proofs.Common.{ℤ, IsStored, number_of, offset_is, int_min}
 use Rattle.decimal_unsigned.proofs.Values.{size-number_of, number_of_empty, stored_as}
 use Rattle.decimal_unsigned.specs.PlainTexts.{IsPlainText, IsPrefix, plain_parts}
-use Rattle.decimal_unsigned.specs.ScannedDigits.{digits_of, value_within, IsBcdValue}
+use Rattle.decimal_unsigned.specs.ScannedDigits.{digits_of, IsBcdValue}
 use Rattle.decimal_unsigned.specs.declared.decimal.parse.fast_path.PlainText.{PlainText}
 use Rattle.decimal_unsigned.specs.declared.decimal.parse.plan.Bounds.{Bounds}
 use Rattle.decimal_unsigned.proofs.Middle.{number_zeros, middle_length, middle_below, number_middle, number_of-middle, stored_middle}

@@ -1,8 +1,7 @@
 -- Laws of concatenation.
-use Rattle.decimal_unsigned.proofs.Common.{◌≡◌, ℕ, ◌+◌, ◌-◌, ◌%◌, ◌<◌, ◌≤◌, Bool, true, false, cond, nat_lt, ◌||◌, refl, sym, ◌∙◌, ap, arith, inl, inr, ℤ, pos, ◌+ℤ◌, ◌-ℤ◌, ◌≤ℤ◌, Option, Some, None, int_max, int_min, ints, clamps, cases_lt, nat_tests, offset, weight, first, last, offset_is, Unsigned, IsValue, with_max_position, common_steps}
-use Rattle.std.specs.Prelude.{option_and_then}
+use Rattle.decimal_unsigned.proofs.Common.{◌≡◌, ℕ, ◌+◌, ◌-◌, ◌%◌, ◌<◌, ◌≤◌, Bool, true, false, nat_lt, ◌||◌, refl, sym, ◌∙◌, ap, arith, inl, inr, ℤ, pos, ◌+ℤ◌, ◌-ℤ◌, ◌≤ℤ◌, int_max, int_min, ints, clamps, cases_lt, nat_tests, offset, weight, first, last, offset_is, Unsigned, IsValue, with_max_position}
 use Rattle.decimal_unsigned.specs.Concatenation.{overlaps, concatenated_end}
-use Rattle.decimal_unsigned.specs.ConcatenationLaws.{concatenation, ConcatenationIsAssociative}
+use Rattle.decimal_unsigned.specs.ConcatenationLaws.{ConcatenationIsAssociative}
 use Rattle.decimal_unsigned.proofs.Concatenations.{overlaps_first_zero, overlaps_second_zero, disjoint, not_overlapping}
 use Rattle.decimal_unsigned.proofs.FirstLast.{Extent, extent, first_of, last_of, first_sum, last_sum, first_le, parts_sum, parts_apart}
 

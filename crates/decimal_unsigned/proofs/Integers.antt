@@ -1,5 +1,5 @@
 -- Digits whose last is at magnitude 0, without trailing zeros.
-use Rattle.decimal_unsigned.proofs.Common.{elements, ◌≡◌, ℕ, zero, suc, ◌+◌, ◌-◌, ◌*◌, ◌^◌, ◌<◌, ◌≤◌, List, length, get_or, take, drop, refl, sym, ◌∙◌, ap, subst, arith, inl, inr, Result, Ok, Err, ℤ, pos, ◌≤ℤ◌, mul-le-mul_right, ints, pow-add, cases_lt, number_lt, length-take-le, get_or-take, recursion_from_All, number_from_digits, AllBelowBase, offset, weight, first, size, number_of, offset_is, ten_pos, below_take, IsStored, Unsigned, middle, IsNonzeroRange, All, magnitude_at, first_is, clamps, common_steps, nat_tests}
+use Rattle.decimal_unsigned.proofs.Common.{elements, ◌≡◌, ℕ, zero, suc, ◌+◌, ◌-◌, ◌*◌, ◌^◌, ◌<◌, ◌≤◌, List, length, get_or, take, drop, refl, sym, ◌∙◌, ap, arith, inl, inr, Result, Ok, Err, ℤ, pos, ◌≤ℤ◌, mul-le-mul_right, ints, pow-add, cases_lt, number_lt, length-take-le, get_or-take, recursion_from_All, number_from_digits, AllBelowBase, offset, weight, first, size, number_of, offset_is, ten_pos, below_take, IsStored, Unsigned, middle, IsNonzeroRange, All, magnitude_at, first_is, clamps, common_steps, nat_tests}
 use Rattle.std.specs.Prelude.{IfOk}
 use Rattle.std.proofs.lemmas.Int.Digits.{all_below_base_digits_of, first_digits_of}
 use Rattle.std.proofs.lemmas.List.Elements.{All-from_recursion}

@@ -1,5 +1,5 @@
 -- The number that the digits between leading and trailing zeros write.
-use Rattle.decimal_unsigned.proofs.Common.{clamps, nat_tests, common_steps, elements, ◌≡◌, ℕ, suc, ◌+◌, ◌-◌, ◌*◌, ◌^◌, ◌<◌, ◌≤◌, List, [], ◌∷◌, length, get_or, take, drop, ◌++◌, map, min, refl, sym, ◌∙◌, ap, arith, ℤ, pos, ◌-ℤ◌, ints, pow-add, length-map, length-drop, length-take, get_or-take, get_or-drop, digit_value, number_from_digits, AllBelowBase, offset, offset_is, IsStored, below_take, middle, IsNonzeroRange, number_split, below_drop}
+use Rattle.decimal_unsigned.proofs.Common.{clamps, nat_tests, common_steps, elements, ◌≡◌, ℕ, suc, ◌+◌, ◌-◌, ◌*◌, ◌^◌, ◌<◌, ◌≤◌, List, [], ◌∷◌, length, get_or, take, drop, ◌++◌, map, min, refl, sym, ◌∙◌, ap, arith, ℤ, pos, ◌-ℤ◌, ints, pow-add, length-map, length-drop, get_or-take, get_or-drop, digit_value, number_from_digits, AllBelowBase, offset, offset_is, IsStored, below_take, middle, IsNonzeroRange, number_split, below_drop}
 use Rattle.std.proofs.lemmas.List.{map-append, take-map, drop-map}
 use Rattle.decimal_digits.specs.Digits.{number_of, number_at}
 use Rattle.decimal_digits.proofs.DigitLists.{number_after}

@@ -1,5 +1,5 @@
 -- Texts of digits, with or without a decimal point, eight bytes at a time.
-use Rattle.decimal_unsigned.proofs.Common.{◌≡◌, ℕ, zero, suc, ◌+◌, ◌-◌, ◌*◌, ◌/◌, ◌%◌, ◌^◌, ◌<◌, ◌≤◌, List, [], ◌∷◌, ◌++◌, length, get_or, take, drop, replicate, refl, sym, ◌∙◌, ap, subst, arith, Option, Some, None, length-append, length-drop, length-take-le, number_from_digits, AllBelowBase, AllDigits, digits_value, digits_value_after, digit_value, pow-suc, mod-eq_of_lt, below_take, map, pow-le-pow_right, length-map, digits_value_is, number_lt, below_sixteen, clamps, nat_tests, ints, common_steps}
+use Rattle.decimal_unsigned.proofs.Common.{◌≡◌, ℕ, zero, suc, ◌+◌, ◌-◌, ◌*◌, ◌/◌, ◌%◌, ◌^◌, ◌<◌, ◌≤◌, List, [], ◌∷◌, ◌++◌, length, get_or, take, drop, replicate, refl, sym, ◌∙◌, ap, subst, arith, Option, Some, None, length-append, length-drop, length-take-le, number_from_digits, AllBelowBase, AllDigits, digits_value, digits_value_after, digit_value, pow-suc, mod-eq_of_lt, below_take, pow-le-pow_right, length-map, digits_value_is, number_lt, below_sixteen, clamps, nat_tests, ints, common_steps}
 use Rattle.std.specs.Int.{w64, from_be_bytes}
 use Rattle.std.proofs.Common.{append_assoc}
 use Rattle.std.proofs.lemmas.Nat.{mul-mod_first}

@@ -1,5 +1,5 @@
 -- The stored values are those whose digits are all in their range.
-use Rattle.decimal_unsigned.proofs.Common.{◌≡◌, ℕ, ◌+◌, ◌-◌, ◌*◌, ◌%◌, ◌^◌, ◌≤◌, List, length, ◌∙◌, ap, subst, arith, ℤ, ints, pow-add, pow-le-pow_right, mul-mod_left, number_from_digits, offset, IsStored, Unsigned, IsValue, offset_is}
+use Rattle.decimal_unsigned.proofs.Common.{◌≡◌, ℕ, ◌+◌, ◌-◌, ◌*◌, ◌%◌, ◌^◌, ◌≤◌, List, length, ◌∙◌, ap, subst, arith, ℤ, pow-add, pow-le-pow_right, mul-mod_left, number_from_digits, offset, IsStored, Unsigned, IsValue, offset_is}
 use Rattle.decimal_digits.specs.Digits.{number_of, number_at}
 use Rattle.decimal_unsigned.proofs.Values.{number_of-lt, lowest}
 

@@ -1,5 +1,5 @@
 -- Texts of up to eight bytes as big-endian numbers: which of them are digits, and their number in base 16.
-use Rattle.decimal_unsigned.proofs.Common.{rules, ◌≡◌, ℕ, zero, suc, ◌+◌, ◌-◌, ◌*◌, ◌/◌, ◌%◌, ◌^◌, ◌<◌, ◌≤◌, List, [], ◌∷◌, length, get_or, take, drop, take_all, map, refl, sym, ◌∙◌, ap, subst, arith, Some, inl, inr, cases_lt, length-append, length-drop, length-take-le, length-map, number_lt, digits_value_is, digit_value, number_from_digits, AllBelowBase, AllDigits, digits_value, pow-suc, pow-le-pow_right, mod-eq_of_lt, below_take, below_drop, below_sixteen, clamps, nat_tests, ints, common_steps}
+use Rattle.decimal_unsigned.proofs.Common.{rules, ◌≡◌, ℕ, zero, suc, ◌+◌, ◌-◌, ◌*◌, ◌/◌, ◌%◌, ◌^◌, ◌<◌, ◌≤◌, List, [], ◌∷◌, length, get_or, take, drop, take_all, map, refl, sym, ◌∙◌, ap, subst, arith, Some, cases_lt, length-append, length-drop, length-take-le, length-map, number_lt, digits_value_is, digit_value, number_from_digits, AllBelowBase, AllDigits, digits_value, pow-suc, pow-le-pow_right, mod-eq_of_lt, below_take, below_drop, below_sixteen, clamps, nat_tests, ints, common_steps}
 use Rattle.std.specs.Prelude.{bit_and, bit_or}
 use Rattle.std.proofs.Math.Nat.{div-eq_of_lt-le}
 use Rattle.std.proofs.lemmas.Nat.{and_block, and_mask, or_block, or_of_8, le_or_l, le_or_r}
