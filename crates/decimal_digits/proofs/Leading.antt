@@ -1,5 +1,4 @@
 -- The digits that are kept, and the last two of them.
-use Rattle.std.proofs.lemmas.Int.{ints}
 use Rattle.std.proofs.Common.{◌≡◌, ℕ, zero, suc, ◌+◌, ◌-◌, ◌*◌, ◌/◌, ◌%◌, ◌^◌, ◌<◌, ◌≤◌, List, [], ◌∷◌, length, get_or, take, drop, refl, sym, ◌∙◌, ap, add-one, arith, inl, inr}
 use Rattle.std.proofs.lemmas.Bool.{cases_lt}
 use Rattle.std.proofs.lemmas.List.{length-drop, length-take, length-take-le, take_all, get_or_past, get_or-take, get_or-drop}
@@ -43,11 +42,6 @@ leading_more (suc k) ds p = let e : suc k - 1 ≡ k = omega arith in rw e (leadi
 pub leading_two : (k : ℕ) (ds : List ℕ) → 2 ≤ k
     → leading k ds ≡ 100 * leading (k - 2) ds + (10 * get_or ds (k - 2) 0 + get_or ds (k - 1) 0)
 leading_two k ds h = grind (arith, leading_more)
-
--- no digit, one and two
-pub leading_few : (ds : List ℕ) → (leading 0 ds ≡ 0) × (leading 1 ds ≡ get_or ds 0 0)
-    × (leading 2 ds ≡ 10 * get_or ds 0 0 + get_or ds 1 0)
-leading_few ds = omega (arith, ints, leading_none, leading_next)
 
 -- lists with the same first k digits
 pub leading_same : (k : ℕ) (xs ys : List ℕ) → ((i : ℕ) → i < k → get_or xs i 0 ≡ get_or ys i 0)

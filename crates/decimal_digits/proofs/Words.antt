@@ -522,12 +522,3 @@ kept_pads number n len p e =
     let size : length ds ≡ len = ap length (sym same) ∙ length-take-le len ns (omega arith) in
     word_pads n len ds size few (λ k h. p.decimal k 0 (omega arith)) (λ k h.
     ap (λ l. get_or l k 0) e ∙ padded_at (take len ns) (16 - len) k ∙ ap (λ l. get_or l k 0) same)
-
--- two lists of up to sixteen digits, of the same length and with the same number, are equal
-pub same_number : (ds es : List ℕ) → All (λ d. d < 10) ds → All (λ d. d < 10) es → length ds ≡ length es
-    → length ds ≤ 16 → bcd_number ds ≡ bcd_number es → ds ≡ es
-unfolding bcd_number
-same_number ds es h g n few e =
-    let all = sym (sixteen_nibbles ds h) ∙ ap (λ m. nibbles (to_be_bytes w64 m)) e ∙ sixteen_nibbles es g in
-    same_number_lists _ _ n (λ i l.
-    sym (get_or-padded 16 ds i (omega arith)) ∙ ap (λ l. get_or l i 0) all ∙ get_or-padded 16 es i (omega arith))

@@ -54,9 +54,6 @@ module _ (text group : List ℕ) (p : Prefix) (g : Group) (front : IsPrefix text
   size : length (text ++ group) ≡ length text + 8
   size = length-append text group ∙ ap (λ k. length text + k) eight
 
-  both : AllDigits 10 (without p.fraction text ++ without g.fraction group)
-  both = digits_both _ _ front.digits back.digits
-
   pub no_point : p.fraction ≡ None → g.fraction ≡ None
       → IsPrefix (text ++ group)
       (record { number = (p.number * 2 ^ 32 % 2 ^ 128 + g.number) % 2 ^ 128; fraction = None })
