@@ -1,5 +1,5 @@
 -- The number that a list of decimal digits writes.
-use Rattle.std.proofs.Common.{◌≡◌, ℕ, zero, suc, ◌+◌, ◌-◌, ◌*◌, ◌/◌, ◌%◌, ◌^◌, ◌<◌, ◌≤◌, List, [], ◌∷◌, ◌++◌, length, get_or, take, drop, replicate, sym, ◌∙◌, ap, subst, arith}
+use Rattle.std.proofs.Common.{◌≡◌, ℕ, zero, suc, ◌+◌, ◌-◌, ◌*◌, ◌/◌, ◌%◌, ◌^◌, ◌<◌, ◌≤◌, List, [], ◌∷◌, ◌++◌, length, get_or, take, drop, replicate, sym, ◌∙◌, ap, arith}
 use Rattle.std.proofs.Math.Nat.{pow-zero, pow-suc, one-le-pow, mul-le-mul_right, div-one}
 use Rattle.std.proofs.lemmas.Nat.{div-mul-add, mod-mul-add}
 use Rattle.std.proofs.lemmas.List.{take-append-drop, length-drop}
@@ -13,8 +13,7 @@ ten_pos k = omega (arith, one-le-pow k 10 (omega arith))
 -- a number continued by n digits is multiplied by the base to the n
 pub number_after : (base n : ℕ) (ds : List ℕ)
     → number_from_digits_after base n ds ≡ n * base ^ length ds + number_from_digits base ds
-number_after base n [] =
-    (let e : n ≡ n * 1 + 0 = omega arith in e) ∙ ap (λ p. n * p + 0) (sym (pow-zero base))
+number_after base n [] = grind (arith, pow-zero)
 number_after base n (d ∷ ds) =
     let e : number_from_digits base (d ∷ ds) ≡ (0 * base + d) * base ^ length ds + number_from_digits base ds =
     number_after base (0 * base + d) ds in
@@ -36,8 +35,7 @@ number_zeros base n (suc k) =
 -- k trailing zeros multiply the number that digits write by the base to the k
 pub number_pad : (base k : ℕ) (ds : List ℕ)
     → number_from_digits base (ds ++ replicate k 0) ≡ number_from_digits base ds * base ^ k
-number_pad base k ds =
-    number_after_append base 0 ds (replicate k 0) ∙ number_zeros base (number_from_digits base ds) k
+number_pad base k ds = grind (arith, number_after_append, number_zeros)
 
 -- the number that a concatenation of digits writes
 pub number-append : (xs ys : List ℕ)
@@ -69,9 +67,7 @@ number_split base k ds h =
 -- what follows the first k digits is less than one unit of the last of these
 pub number-drop-lt : (base k : ℕ) (ds : List ℕ) → AllBelowBase base ds
     → number_from_digits base (drop k ds) < base ^ (length ds - k)
-number-drop-lt base k ds h =
-    subst (λ n. number_from_digits base (drop k ds) < base ^ n) (length-drop k ds)
-    (number_lt base (drop k ds) (below_drop base k ds h))
+number-drop-lt base k ds h = grind (arith, length-drop, number_lt, below_drop)
 
 -- dividing by a power of the base keeps the leading digits
 pub number-div : (base k : ℕ) (ds : List ℕ) → AllBelowBase base ds → k ≤ length ds
@@ -88,9 +84,7 @@ below_at (suc i) (d ∷ ds) h p = below_at i ds h.1 (omega arith)
 -- a division and a remainder give one digit
 pub number-digit : (i : ℕ) (ds : List ℕ) → AllBelowBase 10 ds → i < length ds
     → number_from_digits 10 ds / 10 ^ (length ds - (i + 1)) % 10 ≡ get_or ds i 0
-number-digit i ds b h =
-    ap (λ n. n % 10) (number-div 10 (i + 1) ds b (omega arith) ∙ number_more 10 ds i h)
-    ∙ mod-mul-add _ _ _ (below_at i ds b h)
+number-digit i ds b h = grind (arith, number-div, number_more, mod-mul-add, below_at)
 
 -- digits whose first is not 0
 pub number_front : (ds : List ℕ) → 0 < length ds → 0 < get_or ds 0 0 → 10 ^ (length ds - 1) ≤ number_from_digits 10 ds

@@ -56,24 +56,16 @@ no_more_zeros v e i h p z =
 
 -- the last nonzero digit of v * 10 ^ e is at the offset e, if v does not end in 0
 pub last_is : (v e : ℕ) → 0 < v % 10 → e < 65536 → last (v * 10 ^ e) ≡ magnitude_at e
-last_is v e h b =
-    last_at (v * 10 ^ e) e (let p : 0 < v = pos_of_mod v h in omega (arith, mul-pos p (ten_pos e)))
-    (mul-mod_left v (10 ^ e)) (λ i p. no_more_zeros v e i h p) b
+last_is v e h b = grind (arith, last_at, pos_of_mod, mul-pos, ten_pos, mul-mod_left, no_more_zeros)
 
 -- ---- one digit of v * 10 ^ e
 -- the digit above all those of a number is 0
 pub digit_above : (n k m : ℕ) → n < 10 ^ k → k ≤ m → n / 10 ^ m % 10 ≡ 0
-digit_above n k m h p =
-    let l : 10 ^ k ≤ 10 ^ m = pow-le-pow_right (omega arith) p in
-    let z : n / 10 ^ m ≡ 0 = div-eq_of_lt (omega arith) in
-    ap (λ x. x % 10) z
+digit_above n k m h p = grind (arith, pow-le-pow_right, div-eq_of_lt)
 
 -- digits shifted up and then further down
 pub shift_down : (v e m : ℕ) → e ≤ m → v * 10 ^ e / 10 ^ m ≡ v / 10 ^ (m - e)
-shift_down v e m h =
-    let split : 10 ^ m ≡ 10 ^ (m - e) * 10 ^ e =
-    ap (λ n. 10 ^ n) (let k : m ≡ (m - e) + e = omega arith in k) ∙ pow-add 10 (m - e) e in
-    ap (λ n. v * 10 ^ e / n) split ∙ mul-div-mul_right v (10 ^ (m - e)) (ten_pos e)
+shift_down v e m h = grind (arith, pow-add, mul-div-mul_right, ten_pos)
 
 -- digits shifted up and then less far down
 pub shift_up : (v e m : ℕ) → m ≤ e → v * 10 ^ e / 10 ^ m ≡ v * 10 ^ (e - m)

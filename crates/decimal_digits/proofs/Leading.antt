@@ -41,16 +41,7 @@ leading_more (suc k) ds p = let e : suc k - 1 ≡ k = omega arith in rw e (leadi
 -- the first k digits are hundreds and the last two
 pub leading_two : (k : ℕ) (ds : List ℕ) → 2 ≤ k
     → leading k ds ≡ 100 * leading (k - 2) ds + (10 * get_or ds (k - 2) 0 + get_or ds (k - 1) 0)
-leading_two k ds h =
-    let e : k - 1 - 1 ≡ k - 2 = omega arith in
-    omega (arith, leading_more k ds (omega arith), rw e at (leading_more (k - 1) ds (omega arith)))
-
--- no digit, one and two
-pub leading_few : (ds : List ℕ) → (leading 0 ds ≡ 0) × (leading 1 ds ≡ get_or ds 0 0)
-    × (leading 2 ds ≡ 10 * get_or ds 0 0 + get_or ds 1 0)
-leading_few ds =
-    let z = leading_none 0 ds refl in
-    (z, omega (arith, leading_next 0 ds), omega (arith, leading_next 0 ds, leading_next 1 ds))
+leading_two k ds h = grind (arith, leading_more)
 
 -- lists with the same first k digits
 pub leading_same : (k : ℕ) (xs ys : List ℕ) → ((i : ℕ) → i < k → get_or xs i 0 ≡ get_or ys i 0)
@@ -118,14 +109,7 @@ leading_put k number xs ys h same tens ones = omega (arith, leading_two k ys h, 
 
 -- two places more than the number of digits
 pub leading_hundred : (k : ℕ) (xs : List ℕ) → length xs ≤ k → leading (k + 2) xs ≡ 100 * leading k xs
-leading_hundred k xs h =
-    let e : k + 2 - 2 ≡ k = omega arith in
-    omega (
-      arith,
-      rw e at (leading_two (k + 2) xs (omega arith)),
-      get_or_past xs k 0 h,
-      get_or_past xs (k + 2 - 1) 0 (omega arith),
-    )
+leading_hundred k xs h = grind (arith, leading_two, get_or_past)
 
 -- the leading digits and two digits more, of which the last is not 0
 pub one_more : (k n : ℕ) (ds : List ℕ) → AllBelowBase 10 ds → 3 ≤ k → k ≡ length ds + 1 → 0 < get_or ds 0 0
@@ -163,14 +147,10 @@ module _ (top k : ℕ) (ds : List ℕ) (b : AllBelowBase 10 ds) (fits : length d
   suffix_lt = number_at-lt (top - k) (drop k ds) (below_drop 10 k ds b) (omega (arith, length-drop k ds))
 
   behind_rest_lt : number_at (top - suc k) (drop (suc k) ds) < 10 ^ (top - suc k)
-  behind_rest_lt =
-      number_at-lt (top - suc k) (drop (suc k) ds) (below_drop 10 (suc k) ds b) (omega (arith, length-drop (suc k) ds))
+  behind_rest_lt = grind (arith, number_at-lt, below_drop, length-drop)
 
   suffix_pos : 0 < get_or ds (length ds - 1) 0 → 0 < number_at (top - k) (drop k ds)
-  suffix_pos l =
-      let len = length-drop k ds in
-      let e : k + (length (drop k ds) - 1) ≡ length ds - 1 = omega arith in
-      number_at-pos (top - k) (drop k ds) (below_drop 10 k ds b) (omega arith) (rw (get_or-drop, e) l)
+  suffix_pos l = grind (arith, length-drop, number_at-pos, below_drop, get_or-drop)
 
   -- the first of them, and the others
   behind_next : (number_at (top - k) (drop k ds)
@@ -193,22 +173,9 @@ pub tail_told : (remainder : Remainder) (top k : ℕ) (ds : List ℕ) → AllBel
     → RemainderByDigit remainder k ds → length ds ≤ top
     → RemainderIs remainder (number_at (top - k) (drop k ds)) (10 ^ (top - k))
 tail_told Zero top k ds b back h fits = number_at-none (top - k) (drop k ds) (omega (arith, length-drop k ds))
-tail_told BelowHalf top k ds b back (h, l) fits = (
-  suffix_pos top k ds b fits h back,
-  omega (
-    arith,
-    behind_next top k ds b fits h,
-    behind_rest_lt top k ds b fits h,
-    mul-le-mul_right (10 ^ (top - suc k)) l,
-  ),
-)
-tail_told Half top k ds b back (e, l) fits =
-    omega (
-      arith,
-      behind_next top k ds b fits (omega arith),
-      ap (λ v. v * 10 ^ (top - suc k)) l,
-      number_at-none (top - suc k) (drop (suc k) ds) (omega (arith, length-drop (suc k) ds)),
-    )
+tail_told BelowHalf top k ds b back (h, l) fits =
+    grind (arith, suffix_pos, behind_next, behind_rest_lt, mul-le-mul_right)
+tail_told Half top k ds b back (e, l) fits = grind (arith, behind_next, number_at-none, length-drop)
 tail_told AboveHalf top k ds b back (h, l, more) fits =
     let p = 10 ^ (top - suc k) in
     let next = behind_next top k ds b fits h in (

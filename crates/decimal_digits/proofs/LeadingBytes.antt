@@ -1,4 +1,8 @@
 -- The nibbles of a number in base 16, the highest first.
+use Rattle.std.proofs.lemmas.Int.{clamps}
+use Rattle.std.proofs.lemmas.Grind.{common_steps}
+use Rattle.std.proofs.lemmas.Bool.Decides.{nat_tests}
+use Rattle.std.proofs.lemmas.Int.{ints}
 use Rattle.std.proofs.Common.{◌≡◌, ℕ, zero, suc, ◌+◌, ◌-◌, ◌*◌, ◌/◌, ◌%◌, ◌^◌, ◌<◌, ◌≤◌, List, [], ◌∷◌, ◌++◌, length, get_or, take, replicate, refl, sym, ◌∙◌, ap, arith}
 use Rattle.std.specs.Prelude.{All}
 use Rattle.std.specs.Int.{w64, to_be_bytes, bytes_high_first, byte_at}
@@ -6,7 +10,7 @@ use Rattle.std.specs.Int.Digits.{number_from_digits_after, number_from_digits, A
 use Rattle.std.proofs.Math.Nat.{pow-le-pow_right}
 use Rattle.std.proofs.lemmas.Grind.{same_number_lists}
 use Rattle.std.proofs.lemmas.Nat.{div-mul-add, mod-mul-add, mul-pow, pow-add}
-use Rattle.std.proofs.lemmas.List.{length-append, length-replicate, length-take, length-take-le, get_or_past, take_all}
+use Rattle.std.proofs.lemmas.List.{length-append, length-replicate, length-take-le, get_or_past, take_all}
 use Rattle.std.proofs.lemmas.List.Elements.{All-append, All-from_recursion, All-replicate, recursion_from_All}
 use Rattle.std.proofs.lemmas.Int.Digits.{number_lt, number_more}
 use Rattle.decimal_digits.specs.Nibbles.{nibbles, digits_in, leading_bytes, padded, bcd_number, IsPacked}
@@ -69,16 +73,12 @@ get_or-padded k ds i h = grind (arith, nibble_rules)
 pub padded_digits : (k : ℕ) (ds : List ℕ) → All (λ d. d < 10) ds → AllBelowBase 10 (padded k ds)
 unfolding padded
 padded_digits k ds h =
-    let P = λ (d : ℕ). d < 10 in
-    below_take 10 k (ds ++ replicate k 0)
-    (recursion_from_All P _ (All-append P ds _ h (All-replicate P k 0 (omega arith))))
+    grind (arith, ints, clamps, nat_tests, common_steps, below_take, recursion_from_All, All-append, All-replicate)
 
 -- they are the first k of the digits that are padded to more
 pub padded_front : (k top : ℕ) (ds : List ℕ) → k ≤ top → length ds ≤ top
     → take k (ds ++ replicate (top - length ds) 0) ≡ padded k ds
-padded_front k top ds l h =
-    same_number_lists _ _ (grind (arith, nibble_rules, length-padded))
-    (λ i m. grind (arith, nibble_rules, length-padded, get_or-padded))
+padded_front k top ds l h = grind (arith, same_number_lists, nibble_rules, length-padded, get_or-padded)
 
 -- fewer digits are only padded
 pub padded_few : (k : ℕ) (ds : List ℕ) → length ds ≤ k → ds ++ replicate (k - length ds) 0 ≡ padded k ds
@@ -107,16 +107,12 @@ module _ (ds : List ℕ) (h : All (λ d. d < 10) ds) where
   -- up to fifteen of them write a number below 16 ^ 15
   pub fifteen_lt : (i n : ℕ) → i < 16 → n ≡ number_from_digits 16 (take i sixteen) → n < 16 ^ 15
   fifteen_lt i m l e =
-      let n = length-take-le i sixteen (omega (arith, sixteen_are)) in
-      let fits : length (take i sixteen) ≤ 15 = omega arith in
-      let top : 16 ^ length (take i sixteen) ≤ 16 ^ 15 = pow-le-pow_right (omega arith) fits in
-      omega (arith, number_lt 16 _ (below_sixteen _ (below_take 10 i sixteen sixteen_digits)), top)
+      grind (arith, length-take-le, sixteen_are, pow-le-pow_right, number_lt, below_sixteen, below_take, sixteen_digits)
 
   -- one digit more
   pub sixteen_next : (i d : ℕ) → i < 16 → d ≡ get_or ds i 0
       → number_from_digits 16 (take i sixteen) * 16 + d ≡ number_from_digits 16 (take (i + 1) sixteen)
-  sixteen_next i d l e =
-      omega (arith, number_more 16 sixteen i (omega (arith, sixteen_are)), get_or-padded 16 ds i l)
+  sixteen_next i d l e = grind (arith, number_more, sixteen_are, get_or-padded)
 
   -- all digits
   pub sixteen_all : (i : ℕ) → ¬ (i < 16) → number_from_digits 16 (take i sixteen) ≡ bcd_number ds
@@ -146,10 +142,7 @@ leading_bytes_encode ds len n l few h e =
 pub leading_digits : (number len : ℕ) → IsPacked (leading_bytes number len) len
     → (len ≤ 16) × (digits_in (to_be_bytes w64 number) len ≡ digits_in (leading_bytes number len) len)
 unfolding leading_bytes
-leading_digits number len p = (
-  omega (arith, p.count, length-take ((len + 1) / 2) (to_be_bytes w64 number)),
-  sym (front_digits (to_be_bytes w64 number) len),
-)
+leading_digits number len p = grind (arith, ints, clamps, nat_tests, common_steps, front_digits)
 
 -- the number of the nibbles in base 16 is that of the bytes in base 256
 pub bytes_number : (n : ℕ) (bs : List ℕ)

@@ -1,5 +1,7 @@
 -- The remainder forms give the multiples that the modes name among all, and a mode names one alone.
-use Rattle.std.proofs.Common.{ℕ, ◌≡◌, ◌+◌, ◌*◌, ◌/◌, ◌%◌, ◌<◌, ◌≤◌, ◌⊎◌, ◌==◌, nat_lt, true, false, inl, inr, sym, ◌∙◌, ap, subst, arith}
+use Rattle.std.proofs.lemmas.Grind.{common_steps}
+use Rattle.std.proofs.lemmas.Int.{clamps}
+use Rattle.std.proofs.Common.{ℕ, ◌≡◌, ◌+◌, ◌*◌, ◌/◌, ◌%◌, ◌<◌, ◌≤◌, ◌⊎◌, ◌==◌, nat_lt, true, inl, inr, sym, ◌∙◌, ap, subst, arith}
 use Rattle.std.proofs.lemmas.Bool.{cases_lt, cases_eq, cases_order, cond_both, ltb-true, ltb-false, eqb-true, eqb-false}
 use Rattle.std.proofs.lemmas.Bool.Decides.{nat_tests}
 use Rattle.std.specs.Prelude.{ℤ, pos, negsuc, ◌*ℤ◌, ◌≤ℤ◌}
@@ -23,13 +25,7 @@ module _ (u q r : ℕ) (l : r < u) where
   trunc_below = (omega (arith, ints), λ k h. elim (apart u q k) [ inl a ↦ a | inr a ↦ absurd (omega (arith, ints)) ])
 
   expand_above : 0 < r → Chooses Expand u (q * u + r) (q + 1)
-  expand_above p = (
-    omega (arith, ints),
-    λ k h. elim (apart u q k) [
-      | inl a ↦ absurd (omega (arith, ints))
-      | inr a ↦ omega (arith, ints)
-    ],
-  )
+  expand_above p = grind (arith, ints, clamps, nat_tests, common_steps, apart)
 
   -- the nearest multiple is at most half a unit away
   near_below : 2 * r ≤ u → IsNearest u (pos (q * u + r)) (pos (q * u))
@@ -59,12 +55,7 @@ module _ (mode : UnsignedRoundingMode) (u n : ℕ) where
   named_below c = (n / u, omega (arith, div-add-mod' n u), subst (λ v. Chooses mode u v (n / u)) (div-add-mod' n u) c)
 
   named_above : 0 < n % u → Chooses mode u (n / u * u + n % u) (n / u + 1) → Named mode u n (above u n)
-  named_above p c =
-      let e : (n % u == 0) ≡ false = grind (arith, nat_tests) in (
-        n / u + 1,
-        rw e (omega (arith, div-add-mod' n u)),
-        subst (λ v. Chooses mode u v (n / u + 1)) (div-add-mod' n u) c,
-      )
+  named_above p c = grind (arith, div-add-mod')
 
 expand_named : (u n : ℕ) → n % u < u → Named Expand u n (above u n)
 expand_named u n l = elim (cases_eq (n % u) 0) [

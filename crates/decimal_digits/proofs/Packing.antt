@@ -1,5 +1,5 @@
 -- The digits that packed bytes hold.
-use Rattle.std.proofs.Common.{◌≡◌, ℕ, zero, suc, ◌+◌, ◌*◌, ◌/◌, ◌%◌, ◌<◌, ◌≤◌, List, [], ◌-◌, ◌++◌, length, max, get_or, take, drop, replicate, inl, inr, refl, sym, ◌∙◌, ap, arith}
+use Rattle.std.proofs.Common.{◌≡◌, ℕ, zero, suc, ◌+◌, ◌*◌, ◌/◌, ◌%◌, ◌<◌, ◌≤◌, List, [], ◌++◌, length, max, get_or, take, drop, replicate, inl, inr, refl, sym, ◌∙◌, ap, arith}
 use Rattle.std.proofs.lemmas.Bool.{cases_lt}
 use Rattle.std.proofs.lemmas.Grind.{same_number_lists}
 use Rattle.std.proofs.lemmas.List.{get_or_default, get_or_past, get_or-take}
@@ -18,44 +18,22 @@ pub record Fills (bytes ds : List ℕ) (len : ℕ) : Type 0 where
 fills : (bytes ds : List ℕ) (len : ℕ) → length ds ≡ len → len ≤ 2 * length bytes
     → ((k : ℕ) → k < len → get_or (nibbles bytes) k 0 ≡ get_or ds k 0) → ((k : ℕ) → k < len → get_or ds k 0 < 10)
     → (digits_in bytes len ≡ ds) × All (λ d. d < 10) (digits_in bytes len)
-fills bytes ds len many h same decimal =
-    let t : digits_in bytes len ≡ ds =
-    same_number_lists _ _ (grind (arith, nibble_rules)) (λ k h. grind (arith, nibble_rules)) in
-    (t, rw t (λ k d h. grind (arith, decimal k, get_or_default)))
+fills bytes ds len many h same decimal = grind (arith, same_number_lists, nibble_rules, get_or_default)
 
 -- bytes that these digits fill
 pub encodes : (bytes ds : List ℕ) (len : ℕ) → Fills bytes ds len × (2 * length bytes ≡ len + len % 2)
     → Encodes bytes len ds
-encodes bytes ds len (p, count) =
-    let (t, all) = fills bytes ds len p.many (omega arith) p.same p.decimal in
-    record { packed = record { count = count; decimal = all; unused = p.unused }; digits = t }
+encodes bytes ds len (p, count) = grind (arith, fills)
 
 -- bytes of which these digits are the first nibbles, and the others are 0
 pub pads : (bytes ds : List ℕ) (len : ℕ) → length bytes ≡ max 8 ((len + 1) / 2) → length ds ≡ len
     → ((k : ℕ) → get_or (nibbles bytes) k 0 ≡ get_or ds k 0) → ((k : ℕ) → k < len → get_or ds k 0 < 10)
     → EncodesPadded bytes len ds
-pads bytes ds len count many same decimal =
-    let (t, all) = fills bytes ds len many (omega arith) (λ k h. same k) decimal in
-    record {
-      padded = record {
-        count = count;
-        decimal = all;
-        zeros = λ k h. same k ∙ get_or_past ds k 0 (omega arith);
-      };
-      digits = t;
-    }
+pads bytes ds len count many same decimal = grind (arith, fills, get_or_past)
 
 -- sixteen digits or more need no padding
 pub encodes_many : (bytes ds : List ℕ) (len : ℕ) → 16 ≤ len → Encodes bytes len ds → EncodesPadded bytes len ds
-encodes_many bytes ds len many e =
-    record {
-      padded = record {
-        count = omega (arith, e.packed.count);
-        decimal = e.packed.decimal;
-        zeros = λ k h. grind (arith, nibble_rules, e.packed.count, e.packed.unused);
-      };
-      digits = e.digits;
-    }
+encodes_many bytes ds len many e = grind (arith, nibble_rules)
 
 -- the nibbles of zero bytes are 0
 zero_nibbles : (n k : ℕ) → get_or (nibbles (replicate n 0)) k 0 ≡ 0
@@ -105,10 +83,4 @@ same_bytes bs len p cs n q k e =
 
 -- the item at an index after the first ones, with zeros after the last one
 pub rest_at : (xs : List ℕ) (n z k i : ℕ) → n + k ≡ i → get_or (drop n xs ++ replicate z 0) k 0 ≡ get_or xs i 0
-rest_at xs n z k i e = elim (cases_lt k (length (drop n xs))) [
-  | inl l ↦ grind (arith, nibble_rules)
-  | inr l ↦ elim (cases_lt (k - length (drop n xs)) z) [
-    | inl m ↦ grind (arith, nibble_rules)
-    | inr m ↦ grind (arith, nibble_rules)
-  ]
-]
+rest_at xs n z k i e = grind (arith, cases_lt, nibble_rules)

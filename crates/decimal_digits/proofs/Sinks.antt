@@ -1,5 +1,5 @@
 -- The prefix of a text that a sink has accepted, piece by piece.
-use Rattle.std.proofs.Common.{◌≡◌, ℕ, ◌+◌, ◌-◌, ◌<◌, ◌⊎◌, inl, inr, Bool, true, false, List, [], ◌++◌, length, take, drop, Option, sym, ◌∙◌, ap, subst, arith, append_assoc, take-append-drop}
+use Rattle.std.proofs.Common.{◌≡◌, ℕ, ◌+◌, ◌-◌, ◌<◌, ◌⊎◌, Bool, true, false, List, [], ◌++◌, length, take, drop, Option, sym, ◌∙◌, ap, arith, append_assoc, take-append-drop}
 use Rattle.std.proofs.lemmas.List.{length-drop}
 use Rattle.std.proofs.Math.Seq.{take-add, take-length}
 use Rattle.std.specs.Io.KnownBytes.{Keeps, Appends}
@@ -33,9 +33,7 @@ all_left t bytes = rw (← length-drop t bytes) (take-length (drop t bytes))
 pub took_more :
     (a b c : Option (List ℕ)) (t n : ℕ) (bytes : List ℕ) → Appends a b (take t bytes)
     → Appends b c (take n (take (length bytes - t) (drop t bytes))) → Appends a c (take (t + n) bytes)
-took_more a b c t n bytes p q =
-    let q2 : Appends b c (take n (drop t bytes)) = rw (all_left t bytes) at q in
-    rw (take-add t n bytes) (Appends-trans a b c (take t bytes) (take n (drop t bytes)) p q2)
+took_more a b c t n bytes p q = grind (arith, all_left, take-add, Appends-trans)
 
 -- ---- a sink that had failed before
 -- after `count` pieces: the sink is unchanged and `count` is 0, or it had not failed at first
@@ -45,27 +43,20 @@ IsFresh has_failed count first now = ((count ≡ 0) × (now ≡ first)) ⊎ (has
 -- if the sink has not failed now, it had not failed at first
 pub fresh_more : {S : Type 0} (has_failed : S → Bool) (count : ℕ) (first now : S)
     → IsFresh has_failed count first now → has_failed now ≡ false → has_failed first ≡ false
-fresh_more has_failed count first now fresh h =
-    elim fresh [ inl same ↦ ap has_failed (sym same.1) ∙ h | inr sound ↦ sound ]
+fresh_more has_failed count first now fresh h = grind (arith)
 
 -- after at least one piece the sink had not failed at first
 pub fresh_some : {S : Type 0} (has_failed : S → Bool) (count : ℕ) (first now : S)
     → IsFresh has_failed count first now → 0 < count → has_failed first ≡ false
-fresh_some has_failed count first now fresh h =
-    elim fresh [ inl same ↦ absurd (omega (arith, same.0, h)) | inr sound ↦ sound ]
+fresh_some has_failed count first now fresh h = grind (arith)
 
 -- a sink that had failed at first keeps its contents
 pub fresh_keeps : {S : Type 0} (has_failed : S → Bool) (contents : S → Option (List ℕ)) (count : ℕ) (first now new : S)
     → IsFresh has_failed count first now → (has_failed now ≡ true → Keeps (contents now) (contents new))
     → has_failed first ≡ true → Keeps (contents first) (contents new)
-fresh_keeps has_failed contents count first now new fresh stays h =
-    elim fresh [
-      | inl same ↦ subst (λ s. Keeps (contents s) (contents new)) same.1 (stays (ap has_failed same.1 ∙ h))
-      | inr sound ↦ absurd (let n : true ≡ false = sym h ∙ sound in cc)
-    ]
+fresh_keeps has_failed contents count first now new fresh stays h = grind (arith)
 
 -- after at least one piece: a sink that had failed at first keeps its contents, vacuously
 pub fresh_ends : {S : Type 0} (has_failed : S → Bool) (contents : S → Option (List ℕ)) (count : ℕ) (first now : S)
     → IsFresh has_failed count first now → 0 < count → has_failed first ≡ true → Keeps (contents first) (contents now)
-fresh_ends has_failed contents count first now fresh some h =
-    absurd (let n : true ≡ false = sym h ∙ fresh_some has_failed count first now fresh some in cc)
+fresh_ends has_failed contents count first now fresh some h = grind (arith, fresh_some)

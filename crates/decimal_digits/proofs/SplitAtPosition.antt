@@ -1,5 +1,5 @@
 -- A number split at a position into quotient and remainder, and the number after rounding.
-use Rattle.std.proofs.Common.{◌≡◌, ℕ, ◌+◌, ◌-◌, ◌*◌, ◌^◌, ◌<◌, ◌≤◌, ◌==◌, false, List, length, get_or, drop, refl, sym, ◌∙◌, ap, arith, rules}
+use Rattle.std.proofs.Common.{◌≡◌, ℕ, ◌+◌, ◌-◌, ◌*◌, ◌^◌, ◌<◌, ◌≤◌, ◌==◌, false, List, length, get_or, drop, refl, ◌∙◌, ap, arith, rules}
 use Rattle.std.specs.Prelude.{ℤ, pos, negsuc, ◌+ℤ◌, ◌≤ℤ◌, ◌<ℤ◌}
 use Rattle.std.proofs.lemmas.Int.{ints}
 use Rattle.std.proofs.Math.Nat.{mul-pos, pow-le-pow_right, mul-lt-mul_of_pos_right, mul-le-mul_right}
@@ -84,15 +84,7 @@ module _ (m : ℤ) (ds : List ℕ) (low : negsuc 32767 ≤ℤ m) (high : m ≤�
 -- the empty list represents 0, at magnitude 0
 pub represents_none : (ds : List ℕ) (n : ℕ) → length ds ≡ 0 → n ≡ 0 → Represents ds (pos 0) n
 unfolding number_of
-represents_none ds n z e = record {
-  number = number_at-none (offset (pos 0) + 1) ds z ∙ sym e;
-  below_limit = omega (arith, ten_pos (offset (pos 32768)));
-  magnitude_is = ap first e ∙ first_zero;
-  stripped = record { front = λ h. absurd (omega arith); back = λ h. absurd (omega arith) };
-  fits = omega arith;
-  least = omega (arith, ints);
-  greatest = omega (arith, ints);
-}
+represents_none ds n z e = grind (arith, number_at-none, ten_pos, first_zero)
 
 -- digits that start at the highest place write the number of the leading digits times the weight of p
 pub number_up : (p m : ℤ) (places : ℕ) (ds : List ℕ) → negsuc 32767 ≤ℤ p → negsuc 32767 ≤ℤ m → length ds ≤ places

@@ -50,8 +50,7 @@ word_below n = bytes_below 8 n
 -- a word is the number of its nibbles
 pub word_number : (n : ℕ) → n < 2 ^ 64 → n ≡ number_from_digits 16 (word_nibbles n)
 unfolding word_nibbles
-word_number n h =
-    sym (from_be_bytes-to_be_bytes_8 n h) ∙ eight_bytes (to_be_bytes w64 n) refl ∙ sym (bytes_number 0 _)
+word_number n h = grind (arith, from_be_bytes-to_be_bytes_8, eight_bytes, bytes_number)
 
 -- a nibble of a word, by a right shift
 pub word_nibble : (n k : ℕ) → n < 2 ^ 64 → k < 16 → n / 2 ^ (4 * (15 - k)) % 16 ≡ get_or (word_nibbles n) k 0
@@ -346,10 +345,7 @@ same_take xs ys count k same = elim (cases_lt k count) [
 joined_at : (xs ys ps qs : List ℕ) (start k : ℕ) → length xs ≡ start → length ps ≡ start
     → get_or xs k 0 ≡ get_or ps k 0 → get_or ys (k - start) 0 ≡ get_or qs (k - start) 0
     → get_or (xs ++ ys) k 0 ≡ get_or (ps ++ qs) k 0
-joined_at xs ys ps qs start k l m e f = elim (cases_lt k start) [
-  | inl h ↦ grind (arith, nibble_rules)
-  | inr h ↦ grind (arith, nibble_rules)
-]
+joined_at xs ys ps qs start k l m e f = grind (arith, cases_lt, nibble_rules)
 
 -- the bytes of a word with the first digits of padded bytes
 pub keep_pads : (bytes : List ℕ) (len count w n : ℕ) → IsPadded bytes len → count ≤ len → count ≤ 16
@@ -495,12 +491,7 @@ zeros_after bytes len start w p l few e =
 pub text_at : (text : List ℕ) (n : ℕ) → AllDigits 10 text
     → word_nibbles n ≡ low_nibbles text ++ replicate (16 - length text) 0
     → (k : ℕ) → get_or (word_nibbles n) k 0 ≡ get_or (map digit_value text) k 0
-text_at text n all e k =
-    ap (λ l. get_or l k 0) e ∙ padded_at (low_nibbles text) (16 - length text) k
-    ∙ elim (cases_lt k (length text)) [
-      | inl l ↦ grind (arith, nibble_rules, ascii_at text all k l)
-      | inr l ↦ grind (arith, nibble_rules)
-    ]
+text_at text n all e k = grind (arith, padded_at, cases_lt, nibble_rules, ascii_at)
 
 -- the bytes of a word with the digits of a text after those of padded bytes
 pub join_text : (bytes : List ℕ) (len w v n : ℕ) (text : List ℕ) → IsPadded bytes len → len + length text ≤ 16
@@ -531,12 +522,3 @@ kept_pads number n len p e =
     let size : length ds ≡ len = ap length (sym same) ∙ length-take-le len ns (omega arith) in
     word_pads n len ds size few (λ k h. p.decimal k 0 (omega arith)) (λ k h.
     ap (λ l. get_or l k 0) e ∙ padded_at (take len ns) (16 - len) k ∙ ap (λ l. get_or l k 0) same)
-
--- two lists of up to sixteen digits, of the same length and with the same number, are equal
-pub same_number : (ds es : List ℕ) → All (λ d. d < 10) ds → All (λ d. d < 10) es → length ds ≡ length es
-    → length ds ≤ 16 → bcd_number ds ≡ bcd_number es → ds ≡ es
-unfolding bcd_number
-same_number ds es h g n few e =
-    let all = sym (sixteen_nibbles ds h) ∙ ap (λ m. nibbles (to_be_bytes w64 m)) e ∙ sixteen_nibbles es g in
-    same_number_lists _ _ n (λ i l.
-    sym (get_or-padded 16 ds i (omega arith)) ∙ ap (λ l. get_or l i 0) all ∙ get_or-padded 16 es i (omega arith))

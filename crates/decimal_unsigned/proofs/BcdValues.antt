@@ -26,7 +26,7 @@ use Rattle.decimal_unsigned.specs.DigitValues.{IsBcd, value_of_first}
 use Rattle.decimal_unsigned.proofs.Common.{ℤ, IsStored, number_of, offset_is, int_min}
 use Rattle.decimal_unsigned.proofs.Values.{size-number_of, number_of_empty, stored_as}
 use Rattle.decimal_unsigned.specs.PlainTexts.{IsPlainText, IsPrefix, plain_parts}
-use Rattle.decimal_unsigned.specs.ScannedDigits.{digits_of, value_within, IsBcdValue}
+use Rattle.decimal_unsigned.specs.ScannedDigits.{digits_of, IsBcdValue}
 use Rattle.decimal_unsigned.specs.declared.decimal.parse.fast_path.PlainText.{PlainText}
 use Rattle.decimal_unsigned.specs.declared.decimal.parse.plan.Bounds.{Bounds}
 use Rattle.decimal_unsigned.proofs.Middle.{number_zeros, middle_length, middle_below, number_middle, number_of-middle, stored_middle}
@@ -98,12 +98,8 @@ middle_number ds k number zeros start end below is n few z =
     let l = middle_length ds start end n in
     let below_mid = middle_below ds start end n below in
     let m_lt : m < 16 ^ len = subst (λ i. m < 16 ^ i) l (number_lt 16 mid (below_sixteen mid below_mid)) in
-    let places : 16 ^ len * 16 ^ (k - len) ≡ 2 ^ (4 * k) =
-    sym (pow-add 16 len (k - len))
-    ∙ ap (λ i. 16 ^ i) (let e : len + (k - len) ≡ k = omega (arith, n.within, few) in e) ∙ sym (hex_pow k) in
-    let lt : m * 16 ^ (k - len) < 2 ^ (4 * k) =
-    subst (λ p. m * 16 ^ (k - len) < p) places
-    (mul-lt-mul_of_pos_right m_lt (one-le-pow (k - len) 16 (omega arith))) in
+    let places : 16 ^ len * 16 ^ (k - len) ≡ 2 ^ (4 * k) = grind (arith, pow-add, hex_pow) in
+    let lt : m * 16 ^ (k - len) < 2 ^ (4 * k) = grind (arith, mul-lt-mul_of_pos_right, one-le-pow) in
     let following : (length ds - end) + zeros ≡ k - len = omega (arith, n.ordered, n.within, few) in
     let moved : number * 2 ^ (4 * zeros) ≡ m * 16 ^ (k - len) =
     rw (is, number_middle ds start end n 16, hex_pow zeros, ← following, pow-add 16 (length ds - end) zeros)
@@ -158,16 +154,9 @@ inner_bits : (ds : List ℕ) (n top low : ℕ) → AllBelowBase 10 ds → n ≡ 
 inner_bits ds n top low below is first above last none =
     let len = length ds in
     let lt : n < 2 ^ (4 * len) = rw (is, hex_pow len) (number_lt 16 ds (below_sixteen ds below)) in
-    let fits : top / 4 < len = elim (cases_lt top (4 * len)) [
-      | inl h ↦ omega arith
-      | inr h ↦ absurd (omega (arith, first, bit_at_above n (4 * len) top lt h))
-    ] in
-    let order : low ≤ top = elim (cases_lt top low) [
-      | inl h ↦ absurd (omega (arith, last, bit_at_above n (suc top) low above h))
-      | inr h ↦ h
-    ] in
-    let at : (k j : ℕ) → k < len → j ≡ len - 1 - k → get_or ds k 0 ≡ n / 16 ^ j % 16 =
-    λ k j h e. digit_is ds k below h ∙ (rw (is, e) refl) in (
+    let fits : top / 4 < len = grind (arith, cases_lt, bit_at_above) in
+    let order : low ≤ top = grind (arith, cases_lt, bit_at_above) in
+    let at : (k j : ℕ) → k < len → j ≡ len - 1 - k → get_or ds k 0 ≡ n / 16 ^ j % 16 = grind (arith, digit_is) in (
       omega arith,
       record {
         ordered = omega arith;
@@ -194,8 +183,7 @@ pub inner_number : (w : Width) (k : ℕ) → bits w ≡ 4 * k → (ds : List ℕ
 inner_number w k size ds n below fits is some =
     let t = leading_top (bits w) n some fits in
     let low = bit_at-trailing_zeros w n some fits in
-    let one : n / 2 ^ t.0 ≡ 1 =
-    div-eq_of_lt-le (2 ^ t.0) (omega (arith, t.2)) (omega (arith, t.3, pow-suc 2 t.0)) in
+    let one : n / 2 ^ t.0 ≡ 1 = grind (arith, div-eq_of_lt-le, pow-suc) in
     let first : bit_at n t.0 ≡ 1 = ap (λ q. q % 2) one in
     let before : k - leading_zeros w n / 4 ≡ t.0 / 4 + 1 = omega (arith, t.1, size) in
     rw before (inner_bits ds n t.0 (trailing_zeros w n) below is first t.3 low.1 low.2)
@@ -222,8 +210,7 @@ pub after_byte : (text : List ℕ) (i : ℕ)
     ≡ drop (i + 1) text
 after_byte text i =
     let rest = drop i text in
-    let all : take (length text - i) rest ≡ rest =
-    take_all (length text - i) rest (omega (arith, length-drop i text)) in
+    let all : take (length text - i) rest ≡ rest = grind (arith, take_all, length-drop) in
     rw all (take_all (length rest - 1) (drop 1 rest) (omega (arith, length-drop 1 rest)) ∙ drop-drop 1 i text)
 
 module _ (text : List ℕ) (whole : ℕ) (digits : whole ≡ prefix_len is_ascii_digit text) where
@@ -319,8 +306,7 @@ plain_prefix_point text number n p some few =
     let digits : AllDigits 10 (take whole text ++ drop (whole + 1) text) = rw last at p.digits in
     let long : length (take whole text) ≡ whole = length-take-le whole text (omega arith) in
     let back : length (drop (whole + 1) text) ≡ n = omega (arith, length-drop (whole + 1) text, p.point.0) in
-    let stop : prefix_len is_ascii_digit (drop whole text) ≡ 0 =
-    prefix_len-drop_no is_ascii_digit text whole 0 (omega (arith, p.point.0)) (rw p.point.1 refl) in
+    let stop : prefix_len is_ascii_digit (drop whole text) ≡ 0 = grind (arith, prefix_len-drop_no) in
     let counted : whole ≡ prefix_len is_ascii_digit text =
     omega (
       arith,
@@ -329,13 +315,9 @@ plain_prefix_point text number n p some few =
       stop,
       long,
     ) in
-    let size : length (take whole text ++ drop (whole + 1) text) ≤ 32 =
-    omega (arith, length-append (take whole text) (drop (whole + 1) text), long, back, few, p.point.0) in
+    let size : length (take whole text ++ drop (whole + 1) text) ≤ 32 = grind (arith, length-append, long) in
     record {
-      parts =
-          parts_point text whole counted (omega (arith, p.point.0)) p.point.1
-          (all_counted (drop (whole + 1) text) (digits_right (take whole text) (drop (whole + 1) text) digits))
-          (omega (arith, back, some));
+      parts = grind (arith, parts_point, all_counted, digits_right);
       whole = long;
       fraction = back;
       few = size;
@@ -366,8 +348,7 @@ module _ (whole fraction number : ℕ) (ds : List ℕ) (bcd : IsBcd number (whol
   unfolding number_at
   value_is =
       let top : whole + 32768 - length ds ≡ 32768 - fraction = omega (arith, bcd.count) in
-      let lo : int_min (pos whole -ℤ pos (length ds)) (pos 0) ≡ pos 0 -ℤ pos fraction =
-      rw bcd.count (omega (arith, ints, clamps)) in
+      let lo : int_min (pos whole -ℤ pos (length ds)) (pos 0) ≡ pos 0 -ℤ pos fraction = grind (arith) in
       λ i. record { number = number_from_digits 10 ds * 10 ^ top i; hi = pos (whole - 1); lo = lo i }
 
   -- zero
@@ -436,9 +417,7 @@ module _ (whole fraction number : ℕ) (ds : List ℕ) (bcd : IsBcd number (whol
           record {
             packed = packed.packed;
             stored = rw (packed.digits, hi, lo) stored;
-            value =
-                ap Ok value_is ∙ (λ i. Ok (record { number = sym units i; hi = sym hi i; lo = sym lo i }))
-                ∙ ap (λ l. Ok (value_within l b)) (sym packed.digits);
+            value = grind (arith, value_is);
           }
 
 -- up to sixteen digits, in 64 bits

@@ -69,8 +69,7 @@ module _ {ds : List ℕ} {m hi lo : ℤ} (t : IsStored ds m hi lo) (q : ℤ) (lo
       | inl within ↦
           let short : i - start < count = omega arith in
           let long : i - start < length (take count (drop from ds)) = omega (arith, length-copied) in
-          let e : (q -ℤ pos i) +ℤ pos (from + (i - start)) ≡ m =
-          omega (arith, ints, gap_is m q, gap_is q m, from_is, start_is, count_is) in
+          let e : (q -ℤ pos i) +ℤ pos (from + (i - start)) ≡ m = omega (arith, ints, gap_is) in
           part_within start k zeros ys fits full i from_start within
           ∙ ap (λ l. get_or l (i - start) 0) letters
           ∙ get_or-map (λ d. 48 + d) (take count (drop from ds)) (i - start) 0 0 long

@@ -143,12 +143,9 @@ ends_order xs ys b c same enough few fronts =
     let r = number_from_digits 256 (drop k xs) in
     let s = number_from_digits 256 (drop k ys) in
     let p = number_from_digits 256 (take k xs) in
-    let first : p ≡ number_from_digits 256 (take k ys) =
-    sym (first_bytes k xs b (omega arith) enough) ∙ ap (λ m. m / 256 ^ (8 - k)) fronts
-    ∙ first_bytes k ys c (omega arith) (omega (arith, same)) in
+    let first : p ≡ number_from_digits 256 (take k ys) = grind (arith, first_bytes, fronts) in
     let left : number_from_digits 256 xs ≡ p * 256 ^ (n - k) + r = number_split 256 k xs (omega arith) in
-    let right : number_from_digits 256 ys ≡ p * 256 ^ (n - k) + s =
-    rw (sym same, sym first) at (number_split 256 k ys (omega (arith, same))) in
+    let right : number_from_digits 256 ys ≡ p * 256 ^ (n - k) + s = grind (arith, number_split) in
     let none : n - n ≡ 0 = omega arith in
     let left_worth : worth 256 (omega arith) n xs ≡ number_from_digits 256 xs = rw none (omega arith) in
     let right_worth : worth 256 (omega arith) n ys ≡ number_from_digits 256 ys = rw (sym same, none) (omega arith) in
@@ -169,8 +166,7 @@ fronts : (ds : List ℕ) (top : ℕ) → All (λ d. d < 10) ds → length ds ≤
 unfolding bcd_number
 fronts ds top h fits enough =
     let padded = ds ++ replicate (top - length ds) 0 in
-    let len : length padded ≡ top =
-    omega (arith, length-append ds (replicate (top - length ds) 0), length-replicate {A = ℕ} (top - length ds) 0) in
+    let len : length padded ≡ top = grind (arith, length-append, length-replicate) in
     let digits = All-append (λ d. d < 10) ds _ h (All-replicate (λ d. d < 10) (top - length ds) 0 (omega arith)) in
     let below = below_sixteen padded (recursion_from_All (λ d. d < 10) padded digits) in
     let split = rw len at (number_split 16 16 padded (omega arith)) in (
@@ -232,12 +228,7 @@ module _ (bytes ds : List ℕ) (packed : IsPacked bytes (length ds)) (same : dig
         let digits =
         All-append (λ d. d < 10) ds _ h (All-replicate (λ d. d < 10) (length ds % 2) 0 (omega arith)) in
         let high : get_or (ds ++ replicate (length ds % 2) 0) (2 * i) 0 < 10 =
-        digits (2 * i) 0 (omega (
-          arith,
-          packed.count,
-          length-append ds (replicate (length ds % 2) 0),
-          length-replicate {A = ℕ} (length ds % 2) 0,
-        )) in
+        grind (arith, length-append, length-replicate) in
         omega (arith, high, high_nibble bytes i, ap (λ xs. get_or xs (2 * i) 0) nibbles_are)
     | inr l ↦ omega (arith, get_or_past bytes i 0 l)
   ]

@@ -1,8 +1,7 @@
 -- Laws of concatenation.
-use Rattle.decimal_unsigned.proofs.Common.{◌≡◌, ℕ, ◌+◌, ◌-◌, ◌%◌, ◌<◌, ◌≤◌, Bool, true, false, cond, nat_lt, ◌||◌, refl, sym, ◌∙◌, ap, arith, inl, inr, ℤ, pos, ◌+ℤ◌, ◌-ℤ◌, ◌≤ℤ◌, Option, Some, None, int_max, int_min, ints, clamps, cases_lt, nat_tests, offset, weight, first, last, offset_is, Unsigned, IsValue, with_max_position, common_steps}
-use Rattle.std.specs.Prelude.{option_and_then}
+use Rattle.decimal_unsigned.proofs.Common.{◌≡◌, ℕ, ◌+◌, ◌-◌, ◌%◌, ◌<◌, ◌≤◌, Bool, true, false, nat_lt, ◌||◌, refl, sym, ◌∙◌, ap, arith, inl, inr, ℤ, pos, ◌+ℤ◌, ◌-ℤ◌, ◌≤ℤ◌, int_max, int_min, ints, clamps, cases_lt, nat_tests, offset, weight, first, last, offset_is, Unsigned, IsValue, with_max_position}
 use Rattle.decimal_unsigned.specs.Concatenation.{overlaps, concatenated_end}
-use Rattle.decimal_unsigned.specs.ConcatenationLaws.{concatenation, ConcatenationIsAssociative}
+use Rattle.decimal_unsigned.specs.ConcatenationLaws.{ConcatenationIsAssociative}
 use Rattle.decimal_unsigned.proofs.Concatenations.{overlaps_first_zero, overlaps_second_zero, disjoint, not_overlapping}
 use Rattle.decimal_unsigned.proofs.FirstLast.{Extent, extent, first_of, last_of, first_sum, last_sum, first_le, parts_sum, parts_apart}
 
@@ -95,8 +94,7 @@ module _ (v t : Unsigned) (p : ℤ) (valid : IsValue v) (e : t.number ≡ v.numb
       → v.lo ≤ℤ p → p ≤ℤ (v.hi +ℤ pos 1)
       → concatenated_end t (with_max_position v p) ≡ v
   parts_value hi lo above below =
-      let f : first t.number ≤ℤ v.hi =
-      first_le t.number v.hi (omega (arith, valid.below, e)) valid.hi_in.0 valid.hi_in.1 in
+      let f : first t.number ≤ℤ v.hi = grind (arith, first_le) in
       let h : int_max t.hi (int_max (p -ℤ pos 1) (pos 0)) ≡ v.hi =
       omega (arith, ints, clamps, hi, f, below, valid.hi_in) in
       let l : int_min t.lo (int_min v.lo p) ≡ v.lo = omega (arith, ints, clamps, lo, above, valid.lo_in) in

@@ -19,8 +19,7 @@ pub taken : (v w : Unsigned) {ds es : List ℕ} {m hi lo n hi' lo' : ℤ} → Is
     → IsStored es n hi lo
 taken v w {hi = hi} {lo = lo} {hi' = hi'} {lo' = lo'} t u p q =
     let up : hi ≡ int_max v.hi hi' = ap (λ (x : Unsigned). x.hi) p ∙ ap (λ (x : Unsigned). int_max v.hi x.hi) (sym q) in
-    let down : lo ≡ int_min v.lo lo' =
-    ap (λ (x : Unsigned). x.lo) p ∙ ap (λ (x : Unsigned). int_min v.lo x.lo) (sym q) in
+    let down : lo ≡ int_min v.lo lo' = grind (arith) in
     wider u (omega (arith, ints, clamps, up)) (omega (arith, ints, clamps, down)) t.in_range.1 t.in_range.0
 
 number-zeros : (n : ℕ) → number_from_digits 10 (replicate n 0) ≡ 0
@@ -66,8 +65,7 @@ module _ {ds es : List ℕ} {m hi lo n hi' lo' : ℤ} (t : IsStored ds m hi lo) 
       (λ h.
       let i : length ((ds ++ replicate k 0) ++ es) - 1 - length (ds ++ replicate k 0) ≡ length es - 1 =
       omega (arith, more, length-append (ds ++ replicate k 0) es) in
-      let l : length (ds ++ replicate k 0) ≤ length ((ds ++ replicate k 0) ++ es) - 1 =
-      omega (arith, more, length-append (ds ++ replicate k 0) es) in
+      let l : length (ds ++ replicate k 0) ≤ length ((ds ++ replicate k 0) ++ es) - 1 = grind (arith, length-append) in
       rw (get_or-append_right (ds ++ replicate k 0) es _ (length ((ds ++ replicate k 0) ++ es) - 1) 0 refl l, i)
       (u.back more))
       (λ z. absurd (omega (arith, length-joined ds es k)))

@@ -15,9 +15,8 @@ number_cut : (ds : List ℕ) (a start : ℕ) → a ≤ start → start ≤ lengt
 number_cut ds a start h w zeros =
     let rest = drop a ds in
     let long : length rest ≡ length ds - a = length-drop a ds in
-    let none : number_from_digits 10 (take (start - a) rest) ≡ 0 = number_zeros 10 (take (start - a) rest) (λ k l.
-    let b : k < start - a = omega (arith, length-take-le (start - a) rest (omega (arith, long))) in
-    get_or-take (start - a) rest k 0 b ∙ get_or-drop a ds k 0 ∙ zeros (a + k) (omega arith) (omega arith)) in
+    let none : number_from_digits 10 (take (start - a) rest) ≡ 0 =
+    grind (arith, number_zeros, length-take-le, get_or-take, get_or-drop) in
     let split = number_split 10 (start - a) rest (omega (arith, long)) in
     grind (
       arith,
@@ -134,8 +133,7 @@ module _ {ds : List ℕ} {m hi lo p m' hi' lo' : ℤ} {start : ℕ} (t : IsStore
 
   inside : 0 < gap → gap ≤ length ds → rest_value * 10 ^ ends ≡ number_of ds m % weight p
   inside g h =
-      let k : length ds - gap + ends ≡ offset p =
-      omega (arith, ints, g, h, t.fits, gap_is p (m +ℤ pos 1), offset_is p, offset_is m, c.position, lowest t) in
+      let k : length ds - gap + ends ≡ offset p = grind (arith, gap_is, offset_is, lowest) in
       sym (ap (λ n. n % 10 ^ offset p)
       (whole gap (omega arith) ∙ ap (λ k. number_from_digits 10 (take gap ds) * 10 ^ k + rest_value * 10 ^ ends) k)
       ∙ mod-mul-add _ _ _ (subst (λ k. rest_value * 10 ^ ends < 10 ^ k) k (rest_below gap (omega (arith, c.from)))))
@@ -144,10 +142,8 @@ module _ {ds : List ℕ} {m hi lo p m' hi' lo' : ℤ} {start : ℕ} (t : IsStore
   under h =
       let z : rest_value ≡ 0 = rest_none (omega (arith, c.from)) in
       let high = number_from_digits 10 ds * 10 ^ (ends - offset p) in
-      let k : ends ≡ ends - offset p + offset p =
-      omega (arith, ints, h, t.fits, gap_is p (m +ℤ pos 1), offset_is p, offset_is m, c.position, lowest t) in
-      let e : number_of ds m ≡ high * 10 ^ offset p =
-      number_of_is ds m ∙ ap (λ k. number_from_digits 10 ds * 10 ^ k) k ∙ (rw pow-add (omega arith)) in
+      let k : ends ≡ ends - offset p + offset p = grind (arith, gap_is, offset_is, lowest) in
+      let e : number_of ds m ≡ high * 10 ^ offset p = grind (arith, number_of_is, pow-add) in
       sym (ap (λ n. n % 10 ^ offset p) e ∙ mul-mod_left high (10 ^ offset p) ∙ (rw z (omega arith)))
 
   number_of-cut : number_of (drop start ds) m' ≡ number_of ds m % weight p

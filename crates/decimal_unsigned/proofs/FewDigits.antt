@@ -12,7 +12,7 @@ use Rattle.decimal_unsigned.specs.ParseResult.{IsParseResult, IsPlain, digit_cou
 use Rattle.decimal_unsigned.proofs.FirstLast.{Extent, extent, ordered, top_lt, first_of, last_of}
 use Rattle.decimal_unsigned.proofs.Exponents.{append_digits}
 use Rattle.decimal_unsigned.proofs.ReadingGrammar.{read_grammar, result_limit}
-use Rattle.decimal_unsigned.proofs.Plans.{long_whole, long_fraction, all_digits, length_digits, value_scaled}
+use Rattle.decimal_unsigned.proofs.Plans.{long_whole, long_fraction, all_digits, value_scaled}
 
 -- ---- Numbers.
 
@@ -28,8 +28,7 @@ size_between {n} x k len some high low =
 size_le : (n m k len : ℕ) → n ≡ m * 10 ^ k → m < 10 ^ len → len + k ≤ 65536 → size n ≤ len
 size_le n m k len is few top = elim (cases_lt 0 n) [
   | inl some ↦
-      let b : (m + 1) * 10 ^ k ≤ 10 ^ len * 10 ^ k =
-      mul-le-mul_right (10 ^ k) (let l : m + 1 ≤ 10 ^ len = omega arith in l) in
+      let b : (m + 1) * 10 ^ k ≤ 10 ^ len * 10 ^ k = grind (arith, mul-le-mul_right) in
       let below : n < 10 ^ (len + k) = omega (arith, is, b, pow-add 10 len k, ten_pos k) in
       go some (extent (len + k) n some below top) below
   | inr none ↦ let z : n ≡ 0 = omega arith in rw z (omega arith)

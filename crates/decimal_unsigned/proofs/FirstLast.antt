@@ -88,18 +88,15 @@ module _ {m n : ℕ} (a : Extent m) (b : Extent n) (disjoint : b.top < a.bottom)
   sum_is : m + n ≡ (a.factor * 10 ^ (a.bottom - b.bottom) + b.factor) * 10 ^ b.bottom
   sum_is =
       let k : a.bottom ≡ (a.bottom - b.bottom) + b.bottom = omega (arith, ordered b) in
-      let p : m ≡ a.factor * (10 ^ (a.bottom - b.bottom) * 10 ^ b.bottom) =
-      a.is ∙ ap (λ x. a.factor * x) (ap (λ x. 10 ^ x) k ∙ pow-add 10 (a.bottom - b.bottom) b.bottom) in
+      let p : m ≡ a.factor * (10 ^ (a.bottom - b.bottom) * 10 ^ b.bottom) = grind (arith, pow-add) in
       let q = b.is in
       omega (arith, p, q)
 
   sum_below : m + n < 10 ^ (a.top + 1)
   sum_below =
       let k : a.top + 1 ≡ (a.top + 1 - a.bottom) + a.bottom = omega (arith, ordered a) in
-      let split : 10 ^ (a.top + 1) ≡ 10 ^ (a.top + 1 - a.bottom) * 10 ^ a.bottom =
-      ap (λ x. 10 ^ x) k ∙ pow-add 10 (a.top + 1 - a.bottom) a.bottom in
-      let f : a.factor < 10 ^ (a.top + 1 - a.bottom) =
-      lt_of_mul-lt-mul_right (10 ^ a.bottom) (omega (arith, a.is, a.below, split)) in
+      let split : 10 ^ (a.top + 1) ≡ 10 ^ (a.top + 1 - a.bottom) * 10 ^ a.bottom = grind (arith, pow-add) in
+      let f : a.factor < 10 ^ (a.top + 1 - a.bottom) = grind (arith, lt_of_mul-lt-mul_right) in
       let g : (a.factor + 1) * 10 ^ a.bottom ≤ 10 ^ (a.top + 1 - a.bottom) * 10 ^ a.bottom =
       mul-le-mul_right (10 ^ a.bottom) (omega arith) in
       let h : 10 ^ (b.top + 1) ≤ 10 ^ a.bottom = pow-le-pow_right (omega arith) (omega arith) in

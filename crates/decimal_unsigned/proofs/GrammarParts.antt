@@ -183,8 +183,7 @@ after_whole-sound a (c ∷ rest) w p h = go (c == 46) refl h
         → Grammar (a ++ c ∷ rest) w
     go true t e =
         let s : (a ++ 46 ∷ leading_digits rest) ++ after_digits rest ≡ a ++ c ∷ rest =
-        append_assoc a (46 ∷ leading_digits rest) (after_digits rest)
-        ∙ (λ i. a ++ (sym (eqb-true c 46 t) i) ∷ leading-after rest i) in
+        grind (arith, append_assoc, eqb-true, leading-after) in
         subst (λ x. Grammar x w) s
         (after_fraction-sound a (leading_digits rest) (after_digits rest) w p (leading_are_digits rest) e)
     go false t e =

@@ -1,5 +1,5 @@
 -- Digits whose last is at magnitude 0, without trailing zeros.
-use Rattle.decimal_unsigned.proofs.Common.{elements, ◌≡◌, ℕ, zero, suc, ◌+◌, ◌-◌, ◌*◌, ◌^◌, ◌<◌, ◌≤◌, List, length, get_or, take, drop, refl, sym, ◌∙◌, ap, subst, arith, inl, inr, Result, Ok, Err, ℤ, pos, ◌≤ℤ◌, mul-le-mul_right, ints, pow-add, cases_lt, number_lt, length-take-le, get_or-take, recursion_from_All, number_from_digits, AllBelowBase, offset, weight, first, size, number_of, offset_is, ten_pos, below_take, IsStored, Unsigned, middle, IsNonzeroRange, All, magnitude_at, first_is, clamps, common_steps, nat_tests}
+use Rattle.decimal_unsigned.proofs.Common.{elements, ◌≡◌, ℕ, zero, suc, ◌+◌, ◌-◌, ◌*◌, ◌^◌, ◌<◌, ◌≤◌, List, length, get_or, take, drop, refl, sym, ◌∙◌, ap, arith, inl, inr, Result, Ok, Err, ℤ, pos, ◌≤ℤ◌, mul-le-mul_right, ints, pow-add, cases_lt, number_lt, length-take-le, get_or-take, recursion_from_All, number_from_digits, AllBelowBase, offset, weight, first, size, number_of, offset_is, ten_pos, below_take, IsStored, Unsigned, middle, IsNonzeroRange, All, magnitude_at, first_is, clamps, common_steps, nat_tests}
 use Rattle.std.specs.Prelude.{IfOk}
 use Rattle.std.proofs.lemmas.Int.Digits.{all_below_base_digits_of, first_digits_of}
 use Rattle.std.proofs.lemmas.List.Elements.{All-from_recursion}
@@ -47,22 +47,13 @@ module _ {ds : List ℕ} {end : ℕ} (e : UpToLast ds end) where
     number_over : (b : ℕ) → b ≡ 0 → number_of (take end ds) m ≡ number_from_digits 10 ds * 10 ^ (32768 - b)
     number_over b z = elim (cases_lt 0 (length ds)) [
       | inl h ↦
-          let inner : IsNonzeroRange ds 0 end =
-          record {
-            ordered = some h;
-            within = e.within;
-            before = λ k p. absurd (omega arith);
-            after = e.zeros;
-            front = e.front h;
-            back = e.found (some h);
-          } in
+          let inner : IsNonzeroRange ds 0 end = grind (arith, some) in
           let all : middle 0 end ds ≡ take end ds = ap (λ n. take n ds) (let k : end - 0 ≡ end = omega arith in k) in
           ap (λ l. number_of l m) (sym all)
           ∙ number_of-middle ds 0 end (length ds) b m inner (omega arith) (omega arith)
           (omega (arith, ints, at, h, offset_is m))
       | inr h ↦
-          let n : number_from_digits 10 ds ≡ 0 =
-          omega (arith, number_lt 10 ds all_digits, ap (λ k. 10 ^ k) (let k : length ds ≡ 0 = omega arith in k)) in
+          let n : number_from_digits 10 ds ≡ 0 = grind (arith, number_lt, all_digits) in
           number_of-none whole_stored (omega (arith, long, e.within)) ∙ (rw n (omega arith))
     ]
 
@@ -107,10 +98,8 @@ digits_of-front (suc n) h = first_digits_of 10 (suc n) (omega arith) (omega arit
 shown_from : (n d : ℕ) → n < 10 ^ (d + 1) → d < 32768 → (integer_value n).hi ≤ℤ pos d
 shown_from n d few small =
     let k : offset (pos d) + 1 ≡ (d + 1) + offset (pos 0) = omega (arith, ints, offset_is (pos d), offset_is (pos 0)) in
-    let split : 10 ^ (offset (pos d) + 1) ≡ 10 ^ (d + 1) * weight (pos 0) =
-    ap (λ i. 10 ^ i) k ∙ pow-add 10 (d + 1) (offset (pos 0)) in
-    let more : (n + 1) * weight (pos 0) ≤ 10 ^ (d + 1) * weight (pos 0) =
-    mul-le-mul_right (weight (pos 0)) (let m : n + 1 ≤ 10 ^ (d + 1) = omega (arith, few) in m) in
+    let split : 10 ^ (offset (pos d) + 1) ≡ 10 ^ (d + 1) * weight (pos 0) = grind (arith, pow-add) in
+    let more : (n + 1) * weight (pos 0) ≤ 10 ^ (d + 1) * weight (pos 0) = grind (arith, mul-le-mul_right) in
     first_le (n * weight (pos 0)) (pos d) (omega (arith, more, split, ten_pos (offset (pos 0)))) (omega (arith, ints))
     (omega (arith, ints))
 

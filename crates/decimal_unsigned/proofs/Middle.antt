@@ -1,5 +1,5 @@
 -- The number that the digits between leading and trailing zeros write.
-use Rattle.decimal_unsigned.proofs.Common.{clamps, nat_tests, common_steps, elements, ◌≡◌, ℕ, suc, ◌+◌, ◌-◌, ◌*◌, ◌^◌, ◌<◌, ◌≤◌, List, [], ◌∷◌, length, get_or, take, drop, ◌++◌, map, min, refl, sym, ◌∙◌, ap, arith, ℤ, pos, ◌-ℤ◌, ints, pow-add, length-map, length-drop, length-take, get_or-take, get_or-drop, digit_value, number_from_digits, AllBelowBase, offset, offset_is, IsStored, below_take, middle, IsNonzeroRange, number_split, below_drop}
+use Rattle.decimal_unsigned.proofs.Common.{clamps, nat_tests, common_steps, elements, ◌≡◌, ℕ, suc, ◌+◌, ◌-◌, ◌*◌, ◌^◌, ◌<◌, ◌≤◌, List, [], ◌∷◌, length, get_or, take, drop, ◌++◌, map, min, refl, sym, ◌∙◌, ap, arith, ℤ, pos, ◌-ℤ◌, ints, pow-add, length-map, length-drop, get_or-take, get_or-drop, digit_value, number_from_digits, AllBelowBase, offset, offset_is, IsStored, below_take, middle, IsNonzeroRange, number_split, below_drop}
 use Rattle.std.proofs.lemmas.List.{map-append, take-map, drop-map}
 use Rattle.decimal_digits.specs.Digits.{number_of, number_at}
 use Rattle.decimal_digits.proofs.DigitLists.{number_after}
@@ -26,19 +26,12 @@ module _ (ds : List ℕ) (start end : ℕ) (n : IsNonzeroRange ds start end) whe
   number_middle b =
       let a = number_split b start ds (omega (arith, n.ordered, n.within)) in
       let z : number_from_digits b (take start ds) ≡ 0 =
-      number_zeros b (take start ds)
-      (λ k h.
-      let l : k < start = omega (arith, length-take start ds) in
-      get_or-take start ds k 0 l ∙ n.before k l) in
+      grind (arith, ints, clamps, nat_tests, common_steps, number_zeros, get_or-take) in
       let m : end - start ≤ length (drop start ds) = omega (arith, n.ordered, n.within, length-drop start ds) in
       let x = number_split b (end - start) (drop start ds) m in
       let y : number_from_digits b (drop (end - start) (drop start ds)) ≡ 0 =
-      number_zeros b (drop (end - start) (drop start ds))
-      (λ k h. get_or-drop (end - start) (drop start ds) k 0
-      ∙ get_or-drop start ds (end - start + k) 0
-      ∙ n.after (start + (end - start + k)) (omega (arith, n.ordered))) in
-      let k : length (drop start ds) - (end - start) ≡ length ds - end =
-      omega (arith, n.ordered, n.within, length-drop start ds) in
+      grind (arith, number_zeros, get_or-drop) in
+      let k : length (drop start ds) - (end - start) ≡ length ds - end = grind (arith, length-drop) in
       a ∙ (rw (z, x, y, k) (omega arith))
 
   -- they are below ten
@@ -52,8 +45,7 @@ pub number_of-middle : (ds : List ℕ) (start end a b : ℕ) (m : ℤ) → IsNon
 unfolding number_of number_at
 number_of-middle ds start end a b m n whole few p =
     let l = middle_length ds start end n in
-    let k : offset m + 1 - length (middle start end ds) ≡ (length ds - end) + (32768 - b) =
-    omega (arith, n.ordered, n.within) in
+    let k : offset m + 1 - length (middle start end ds) ≡ (length ds - end) + (32768 - b) = grind (arith) in
     let e : number_from_digits 10 (middle start end ds) * 10 ^ (offset m + 1 - length (middle start end ds))
     ≡ (number_from_digits 10 (middle start end ds) * 10 ^ (length ds - end)) * 10 ^ (32768 - b) =
     rw (k, pow-add 10 (length ds - end) (32768 - b)) (omega arith) in
@@ -81,8 +73,7 @@ middle_front a start end p = grind (arith, elements)
 pub middle_append : (a b : List ℕ) (start end : ℕ) → start ≤ end → middle start end (a ++ b)
     ≡ middle (min start (length a)) (min end (length a)) a ++ middle (start - length a) (end - length a) b
 middle_append a b start end p =
-    let n : end - start - length (drop start a) ≡ (end - length a) - (start - length a) =
-    omega (arith, length-drop start a) in
+    let n : end - start - length (drop start a) ≡ (end - length a) - (start - length a) = grind (arith, length-drop) in
     rw (
       drop-append start a b,
       take-append (end - start) (drop start a) (drop (start - length a) b),

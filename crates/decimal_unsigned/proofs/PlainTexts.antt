@@ -1,5 +1,5 @@
 -- Texts of digits, with or without a decimal point, eight bytes at a time.
-use Rattle.decimal_unsigned.proofs.Common.{◌≡◌, ℕ, zero, suc, ◌+◌, ◌-◌, ◌*◌, ◌/◌, ◌%◌, ◌^◌, ◌<◌, ◌≤◌, List, [], ◌∷◌, ◌++◌, length, get_or, take, drop, replicate, refl, sym, ◌∙◌, ap, subst, arith, Option, Some, None, length-append, length-drop, length-take-le, number_from_digits, AllBelowBase, AllDigits, digits_value, digits_value_after, digit_value, pow-suc, mod-eq_of_lt, below_take, map, pow-le-pow_right, length-map, digits_value_is, number_lt, below_sixteen, clamps, nat_tests, ints, common_steps}
+use Rattle.decimal_unsigned.proofs.Common.{◌≡◌, ℕ, zero, suc, ◌+◌, ◌-◌, ◌*◌, ◌/◌, ◌%◌, ◌^◌, ◌<◌, ◌≤◌, List, [], ◌∷◌, ◌++◌, length, get_or, take, drop, replicate, refl, sym, ◌∙◌, ap, subst, arith, Option, Some, None, length-append, length-drop, length-take-le, number_from_digits, AllBelowBase, AllDigits, digits_value, digits_value_after, digit_value, pow-suc, mod-eq_of_lt, below_take, pow-le-pow_right, length-map, digits_value_is, number_lt, below_sixteen, clamps, nat_tests, ints, common_steps}
 use Rattle.std.specs.Int.{w64, from_be_bytes}
 use Rattle.std.proofs.Common.{append_assoc}
 use Rattle.std.proofs.lemmas.Nat.{mul-mod_first}
@@ -54,9 +54,6 @@ module _ (text group : List ℕ) (p : Prefix) (g : Group) (front : IsPrefix text
   size : length (text ++ group) ≡ length text + 8
   size = length-append text group ∙ ap (λ k. length text + k) eight
 
-  both : AllDigits 10 (without p.fraction text ++ without g.fraction group)
-  both = digits_both _ _ front.digits back.digits
-
   pub no_point : p.fraction ≡ None → g.fraction ≡ None
       → IsPrefix (text ++ group)
       (record { number = (p.number * 2 ^ 32 % 2 ^ 128 + g.number) % 2 ^ 128; fraction = None })
@@ -89,32 +86,12 @@ module _ (text group : List ℕ) (p : Prefix) (g : Group) (front : IsPrefix text
       let first : length (text ++ group) - (n + 1) ≡ length text + i = omega (arith, size, eight, at.0) in
       let rest : length (text ++ group) - n ≡ length text + (length group - n) = omega (arith, size, eight, at.0) in
       let all : without (Some n) (text ++ group) ≡ text ++ without (Some n) group =
-      ap (λ k. take k (text ++ group) ++ drop (length (text ++ group) - n) (text ++ group)) first
-      ∙ ap (λ k. take (length text + i) (text ++ group) ++ drop k (text ++ group)) rest
-      ∙ ap (λ l. l ++ drop (length text + (length group - n)) (text ++ group)) (take_over text group i)
-      ∙ ap (λ l. (text ++ take i group) ++ l) (drop_over text group (length group - n))
-      ∙ append_assoc text (take i group) (drop (length group - n) group) in
-      let seven : length (without (Some n) group) ≡ 7 =
-      omega (
-        arith,
-        eight,
-        at.0,
-        length-append (take i group) (drop (length group - n) group),
-        length-take-le i group (omega arith),
-        length-drop (length group - n) group,
-      ) in
+      grind (arith, take_over, drop_over, append_assoc) in
+      let seven : length (without (Some n) group) ≡ 7 = grind (arith, length-append, length-take-le, length-drop) in
       record {
-        point = (
-          omega (arith, size, at.0),
-          ap (λ k. get_or (text ++ group) k 0) first
-              ∙ get_or-append_right text group (length text) (length text + i) 0 refl (omega arith)
-              ∙ ap (λ k. get_or group k 0) (let z : (length text + i) - length text ≡ i = omega arith in z) ∙ at.1,
-        );
+        point = grind (arith, get_or-append_right);
         digits = rw all (digits_both _ _ (rw e at front.digits) (rw f at back.digits));
-        number =
-            rw all
-            (joined_number text (without (Some n) group) p.number g.number (2 ^ 28) (rw e at front.number)
-            (rw f at back.number) (rw seven refl));
+        number = grind (arith, joined_number);
       }
 
 -- ---- The first bytes of a text.

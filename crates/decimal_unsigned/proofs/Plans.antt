@@ -77,8 +77,7 @@ module _ (w : Literal) (digits : AllDigits 10 (w.whole ++ w.fraction)) (few : le
   pub makes_zero : ((k : ℕ) → k < length (digits_of w) → get_or (digits_of w) k 0 ≡ 0)
       → IsPlan w (plan_at 0 0 (pos 0) (pos (length w.whole - 1)) (pos 0 -ℤ pos (length w.fraction)))
   makes_zero h =
-      let z : digits_value 10 (w.whole ++ w.fraction) ≡ 0 =
-      digits_value_is 10 (w.whole ++ w.fraction) ∙ number_zeros 10 (digits_of w) h in
+      let z : digits_value 10 (w.whole ++ w.fraction) ≡ 0 = grind (arith, digits_value_is, number_zeros) in
       let n : (mantissa w.whole w.fraction).number ≡ 0 = rw z (omega arith) in
       record {
         ordered = omega arith;
@@ -86,15 +85,7 @@ module _ (w : Literal) (digits : AllDigits 10 (w.whole ++ w.fraction)) (few : le
         stored =
             stored_as tt (λ p. absurd (omega arith)) (λ p. absurd (omega arith)) (λ p. refl) (λ p. absurd (omega arith))
             (omega (arith, ints), omega (arith, ints)) (omega (arith, ints), omega (arith, ints));
-        value =
-            value_scaled
-            ∙ none_or_zero (mantissa w.whole w.fraction) w.exponent n
-            ∙ ap Ok
-            (λ i. record {
-              number = (n ∙ sym (number_of_empty (pos 0))) i;
-              hi = pos (length w.whole - 1);
-              lo = pos 0 -ℤ pos (length w.fraction);
-            });
+        value = grind (arith, value_scaled, none_or_zero, number_of_empty);
       }
 
   module _ (start end : ℕ) (n : IsNonzeroRange (digits_of w) start end) (m : ℤ)
@@ -160,14 +151,7 @@ module _ (w : Literal) (digits : AllDigits 10 (w.whole ++ w.fraction)) (few : le
         let hi = pos (length w.whole - 1) in
         let lo = pos 0 -ℤ pos (length w.fraction) in
         let moves : Moves ds m hi lo e m' (int_max (hi +ℤ e) (pos 0)) (int_min (lo +ℤ e) (pos 0)) =
-        record {
-          some = λ h. m_is ∙ top_is;
-          none = λ y. absurd (omega (arith, some));
-          hi_is = refl;
-          lo_is = refl;
-          hi_fits = omega (arith, ints, high_is, upper);
-          lo_fits = omega (arith, ints, low_is, lower);
-        } in
+        grind (arith, some) in
         let t = moved stored moves in
         let u = multiplied_is e stored moves ∙ ap (λ x. multiplied x e) mantissa_is in
         let f : first (number_of ds m') ≡ top = first-number_of t some ∙ m_is in
@@ -179,13 +163,7 @@ module _ (w : Literal) (digits : AllDigits 10 (w.whole ++ w.fraction)) (few : le
         let c = not_over (hi +ℤ e) (omega (arith, ints, high_is, upper)) in
         let d = not_under (lo +ℤ e) (omega (arith, ints, low_is, lower)) in
         let tidy : zeros_trimmed (multiplied v e) ≡ record { number = number_of ds m'; hi = hi'; lo = lo' } =
-        ap zeros_trimmed (sym u)
-        ∙ (λ i. record {
-          number = number_of ds m';
-          hi = if int_lt (pos 0) (f i) then f i else int_max (sym high_is i) (pos 0);
-          lo = if int_lt (l i) (pos 0) then l i else int_min (sym low_is i) (pos 0);
-        })
-        ∙ (λ i. record { number = number_of ds m'; hi = sym hi_is i; lo = sym lo_is i }) in
+        grind (arith) in
         let up = upper_is top high hi' hi_is (omega (arith, ints, top_is, high_is, at, n.ordered)) upper in
         let down =
         lower_is bottom low lo' lo_is (omega (arith, ints, bottom_is, low_is, n.within, length_digits w)) lower in

@@ -1,5 +1,5 @@
 -- The text of a value is read as that value.
-use Rattle.decimal_unsigned.proofs.Common.{◌≡◌, ℕ, zero, suc, ◌+◌, ◌-◌, ◌*◌, ◌/◌, ◌%◌, ◌^◌, ◌<◌, ◌≤◌, nat_lt, false, List, [], ◌∷◌, ◌++◌, length, map, refl, sym, ◌∙◌, ap, subst, arith, append-nil, ℤ, pos, negsuc, ◌+ℤ◌, ◌-ℤ◌, ◌≤ℤ◌, None, Ok, ints, nat_tests, pow-add, length-map, digit_value, int_gap, AllDigits, digits_value, digits_value_is, offset, weight, digit, ten_pos, offset_is, gap_is, Unsigned, IsValue, text, Literal, read, pow-suc, mod-lt, mod-eq_of_lt, clamps, common_steps}
+use Rattle.decimal_unsigned.proofs.Common.{◌≡◌, ℕ, zero, suc, ◌+◌, ◌-◌, ◌*◌, ◌/◌, ◌%◌, ◌^◌, ◌<◌, ◌≤◌, nat_lt, false, List, [], ◌∷◌, ◌++◌, length, map, refl, sym, ◌∙◌, ap, arith, append-nil, ℤ, pos, negsuc, ◌+ℤ◌, ◌-ℤ◌, ◌≤ℤ◌, None, Ok, ints, nat_tests, pow-add, length-map, digit_value, int_gap, AllDigits, digits_value, digits_value_is, offset, weight, digit, ten_pos, offset_is, gap_is, Unsigned, IsValue, text, Literal, read, pow-suc, mod-lt, mod-eq_of_lt, clamps, common_steps}
 use Rattle.std.proofs.Math.Arith.{mod-mul}
 use Rattle.std.proofs.Math.Nat.{div-div-eq-div-mul, div-lt_iff_lt-mul, div-add-mod'}
 use Rattle.std.proofs.lemmas.Str.{digit_value_digit}
@@ -43,12 +43,9 @@ bytes_worth number low m (suc n) h =
       length-map cs digit_value,
       length-bytes_down number (m -ℤ pos 1) n,
     ) refl) in
-    let s : number / 10 ^ offset m ≡ number / 10 ^ low / 10 ^ n =
-    ap (λ k. number / 10 ^ k) at
-    ∙ ap (λ x. number / x) (pow-add 10 low n) ∙ sym (div-div-eq-div-mul number (10 ^ low) (10 ^ n)) in
+    let s : number / 10 ^ offset m ≡ number / 10 ^ low / 10 ^ n = grind (arith, pow-add, div-div-eq-div-mul) in
     let split : number / 10 ^ low % (10 * 10 ^ n)
-    ≡ (number / 10 ^ low / 10 ^ n % 10) * 10 ^ n + number / 10 ^ low % 10 ^ n =
-    mod-mul (number / 10 ^ low) (omega arith) (ten_pos n) in
+    ≡ (number / 10 ^ low / 10 ^ n % 10) * 10 ^ n + number / 10 ^ low % 10 ^ n = grind (arith, mod-mul, ten_pos) in
     let p : 10 * 10 ^ n ≡ 10 ^ suc n = omega (arith, pow-suc 10 n) in
     e ∙ ap (λ x. x % 10 * 10 ^ n + number / 10 ^ low % 10 ^ n) s ∙ sym split ∙ ap (λ x. number / 10 ^ low % x) p
 
@@ -74,9 +71,7 @@ module _ (number : ℕ) (hi : ℤ) (dot b low : ℕ) (dot_is : pos dot ≡ hi +�
   worth =
       let n : low + (dot + b) ≡ offset hi + 1 = omega (arith, ints, offset_is hi) in
       let k : offset hi + 1 ≡ dot + b + low = omega arith in
-      let l : number / 10 ^ low < 10 ^ (dot + b) =
-      (div-lt_iff_lt-mul (ten_pos low)).1
-      (subst (λ x. number < x) (ap (λ k. 10 ^ k) k ∙ pow-add 10 (dot + b) low) below) in
+      let l : number / 10 ^ low < 10 ^ (dot + b) = grind (arith, div-lt_iff_lt-mul, ten_pos, pow-add) in
       ap (digits_value 10) (bytes-append number hi (negsuc 0) dot b (omega (arith, ints)))
       ∙ bytes_worth number low hi (dot + b) (λ p. n)
       ∙ mod-eq_of_lt l
@@ -91,9 +86,7 @@ module _ (number : ℕ) (hi : ℤ) (dot b low : ℕ) (dot_is : pos dot ≡ hi +�
       let s : nat_lt 32768 (length whole) ≡ false = grind (arith, nat_tests, p, few) in
       let t : nat_lt 32768 (length fraction) ≡ false = grind (arith, nat_tests, q, split) in
       let low_is : 32768 - b ≡ low = omega arith in
-      let cut : number / 10 ^ low * 10 ^ low ≡ number =
-      (let e : number / 10 ^ low * 10 ^ low + number % 10 ^ low ≡ number = div-add-mod' number (10 ^ low) in
-      omega arith) in
+      let cut : number / 10 ^ low * 10 ^ low ≡ number = grind (arith, div-add-mod') in
       let n : digits_value 10 (whole ++ fraction) * 10 ^ (32768 - length fraction) ≡ number =
       rw (worth, q, low_is) cut in
       let h : pos (length whole - 1) ≡ hi = omega (arith, ints, p) in

@@ -33,9 +33,7 @@ module _ (mode : UnsignedRoundingMode) (n s t d p h : ℕ) (whole : s * t ≡ 10
   above_unit : p + d ≤ h → rounded_number mode (s * 10 ^ p) n ≤ 10 ^ (h + 1)
   above_unit l =
       let k : h + 1 ≡ (h - (p + d)) + ((d + 1) + p) = omega arith in
-      let a : 10 ^ (h + 1) ≡ 10 ^ (h - (p + d)) * (10 ^ (d + 1) * 10 ^ p) =
-      ap (λ i. 10 ^ i) k ∙ pow-add 10 (h - (p + d)) ((d + 1) + p)
-      ∙ ap (λ x. 10 ^ (h - (p + d)) * x) (pow-add 10 (d + 1) p) in
+      let a : 10 ^ (h + 1) ≡ 10 ^ (h - (p + d)) * (10 ^ (d + 1) * 10 ^ p) = grind (arith, pow-add) in
       let b : (10 ^ (h - (p + d)) * t) * (s * 10 ^ p) ≡ 10 ^ (h - (p + d)) * (10 ^ (d + 1) * 10 ^ p) =
       (omega arith) ∙ ap (λ x. 10 ^ (h - (p + d)) * (x * 10 ^ p)) whole in
       omega (arith, up_to mode (s * 10 ^ p) n (10 ^ (h - (p + d)) * t) some (omega (arith, a, b, few)), a, b)

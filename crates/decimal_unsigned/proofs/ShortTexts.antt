@@ -41,8 +41,7 @@ module _ (v : Unsigned) (valid : IsValue v) (dot : ℕ) (dot_is : dot ≡ int_ga
     cut (negsuc b) e n is =
         let front = length-bytes_down v.number v.hi dot in
         let back = length-bytes_down v.number (negsuc 0) (suc b) in
-        let inside : 0 + suc b ≤ 16 - dot =
-        omega (arith, ints, gap_is v.lo v.hi, gap_is (pos 0) v.hi, valid.hi_in, valid.lo_in) in
+        let inside : 0 + suc b ≤ 16 - dot = grind (arith, gap_is) in
         let at : n ≡ length (bytes_down v.number v.hi dot) + suc (suc b) = omega (arith, front, back) in
         rw at
         (take-append-add (bytes_down v.number v.hi dot) (46 ∷ bytes_down v.number (negsuc 0) (16 - dot)) (suc (suc b)))
@@ -53,8 +52,7 @@ module _ (v : Unsigned) (valid : IsValue v) (dot : ℕ) (dot_is : dot ≡ int_ga
     pub short_text_is : (block : List ℕ) → block ≡ text_of (take dot ns) ++ 46 ∷ text_of (drop dot ns)
         → take (length (text v)) block ≡ text v
     short_text_is block e =
-        let long : length (text v) ≡ dot + length (fraction_text v.number v.lo) =
-        length-text v valid.hi_in.0 valid.lo_in.1 ∙ ap (λ n. n + length (fraction_text v.number v.lo)) (sym dot_is) in
+        let long : length (text v) ≡ dot + length (fraction_text v.number v.lo) = grind (arith, length-text) in
         ap (take (length (text v))) (e ∙ (λ i. whole i ++ 46 ∷ fraction i))
         ∙ cut v.lo refl (length (text v)) long
         ∙ sym (text_is v valid.hi_in.0 valid.lo_in.1

@@ -1,5 +1,5 @@
 -- The stored values are those whose digits are all in their range.
-use Rattle.decimal_unsigned.proofs.Common.{◌≡◌, ℕ, ◌+◌, ◌-◌, ◌*◌, ◌%◌, ◌^◌, ◌≤◌, List, length, ◌∙◌, ap, subst, arith, ℤ, ints, pow-add, pow-le-pow_right, mul-mod_left, number_from_digits, offset, IsStored, Unsigned, IsValue, offset_is}
+use Rattle.decimal_unsigned.proofs.Common.{◌≡◌, ℕ, ◌+◌, ◌-◌, ◌*◌, ◌%◌, ◌^◌, ◌≤◌, List, length, ◌∙◌, ap, subst, arith, ℤ, pow-add, pow-le-pow_right, mul-mod_left, number_from_digits, offset, IsStored, Unsigned, IsValue, offset_is}
 use Rattle.decimal_digits.specs.Digits.{number_of, number_at}
 use Rattle.decimal_unsigned.proofs.Values.{number_of-lt, lowest}
 
@@ -11,8 +11,7 @@ value_of_stored {ds} {m} {hi} {lo} t = record {
   hi_in = (t.hi_in, t.in_range.1);
   lo_in = (t.in_range.0, t.lo_in);
   below =
-      let p : 10 ^ (offset m + 1) ≤ 10 ^ (offset hi + 1) =
-      pow-le-pow_right (omega arith) (omega (arith, ints, offset_is m, offset_is hi, t.hi_covers, lowest t)) in
+      let p : 10 ^ (offset m + 1) ≤ 10 ^ (offset hi + 1) = grind (arith, pow-le-pow_right, offset_is, lowest) in
       omega (arith, number_of-lt t);
   whole =
       let k : offset m + 1 - length ds ≡ (offset m + 1 - length ds - offset lo) + offset lo = omega (arith, t.fits) in

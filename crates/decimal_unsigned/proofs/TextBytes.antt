@@ -41,8 +41,7 @@ pub bytes_down-part : (number : ℕ) (m : ℤ) (n i k : ℕ) → i + k ≤ n
     → take k (drop i (bytes_down number m n)) ≡ bytes_down number (m -ℤ pos i) k
 bytes_down-part number m n i k h =
     let all = bytes_down number m n in
-    let long : length (take k (drop i all)) ≡ k =
-    length-take-le k (drop i all) (omega (arith, length-drop i all, length-bytes_down number m n)) in
+    let long : length (take k (drop i all)) ≡ k = grind (arith, length-take-le, length-drop, length-bytes_down) in
     bytes_are number (m -ℤ pos i) (m -ℤ pos i) k (take k (drop i all)) (λ j l.
     get_or-take k (drop i all) j 0 (omega (arith, long))
     ∙ get_or-drop i all j 0

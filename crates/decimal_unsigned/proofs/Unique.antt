@@ -35,8 +35,7 @@ module _ {ds es : List ℕ} {m n hi lo hi' lo' : ℤ} (t : IsStored ds m hi lo) 
       let m' = same_magnitude in
       let p : (m -ℤ pos i) +ℤ pos i ≡ m = omega (arith, ints) in
       let q : (m -ℤ pos i) +ℤ pos i ≡ n = omega (arith, ints, m') in
-      let b : negsuc 32767 ≤ℤ (m -ℤ pos i) =
-      omega (arith, ints, t.fits, offset_is m, offset_is lo, t.in_range, lowest t) in
+      let b : negsuc 32767 ≤ℤ (m -ℤ pos i) = grind (arith, offset_is, lowest) in
       sym (digit-number_of-in t (m -ℤ pos i) i p b h)
       ∙ ap (λ x. digit x (m -ℤ pos i)) e
       ∙ digit-number_of-in u (m -ℤ pos i) i q b k)

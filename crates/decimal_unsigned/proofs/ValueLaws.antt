@@ -68,8 +68,7 @@ module _ (v : Unsigned) (p : ℤ) (valid : IsValue v) where
   -- a value is below 10 to the 32768
   pub below_limit : v.number < number_limit
   below_limit =
-      let k : offset v.hi + 1 ≤ offset (pos 32768) =
-      omega (arith, ints, offset_is v.hi, offset_is (pos 32768), valid.hi_in) in
+      let k : offset v.hi + 1 ≤ offset (pos 32768) = grind (arith, offset_is) in
       let m : 10 ^ (offset v.hi + 1) ≤ number_limit = pow-le-pow_right (omega arith) k in
       omega (arith, valid.below, m)
 

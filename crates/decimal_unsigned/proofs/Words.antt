@@ -1,5 +1,5 @@
 -- Texts of up to eight bytes as big-endian numbers: which of them are digits, and their number in base 16.
-use Rattle.decimal_unsigned.proofs.Common.{rules, ◌≡◌, ℕ, zero, suc, ◌+◌, ◌-◌, ◌*◌, ◌/◌, ◌%◌, ◌^◌, ◌<◌, ◌≤◌, List, [], ◌∷◌, length, get_or, take, drop, take_all, map, refl, sym, ◌∙◌, ap, subst, arith, Some, inl, inr, cases_lt, length-append, length-drop, length-take-le, length-map, number_lt, digits_value_is, digit_value, number_from_digits, AllBelowBase, AllDigits, digits_value, pow-suc, pow-le-pow_right, mod-eq_of_lt, below_take, below_drop, below_sixteen, clamps, nat_tests, ints, common_steps}
+use Rattle.decimal_unsigned.proofs.Common.{rules, ◌≡◌, ℕ, zero, suc, ◌+◌, ◌-◌, ◌*◌, ◌/◌, ◌%◌, ◌^◌, ◌<◌, ◌≤◌, List, [], ◌∷◌, length, get_or, take, drop, take_all, map, refl, sym, ◌∙◌, ap, subst, arith, Some, cases_lt, length-append, length-drop, length-take-le, length-map, number_lt, digits_value_is, digit_value, number_from_digits, AllBelowBase, AllDigits, digits_value, pow-suc, pow-le-pow_right, mod-eq_of_lt, below_take, below_drop, below_sixteen, clamps, nat_tests, ints, common_steps}
 use Rattle.std.specs.Prelude.{bit_and, bit_or}
 use Rattle.std.proofs.Math.Nat.{div-eq_of_lt-le}
 use Rattle.std.proofs.lemmas.Nat.{and_block, and_mask, or_block, or_of_8, le_or_l, le_or_r}
@@ -92,9 +92,7 @@ digits_found text (suc i) (suc k) y h l m n e b =
     let one : suc i ≡ i + 1 = omega arith in
     let below : c < 256 = All-from_recursion (λ x. x < 256) text h i 0 l in
     let front = number_more 256 text i l in
-    let all : number_from_digits 256 (take i text) * 256 + c ≡ y + (zeros i * 256 + 48) =
-    sym front ∙ ap (λ k. number_from_digits 256 (take k text)) (sym one) ∙ e
-    ∙ ap (λ z. y + z) (ap zeros one ∙ zeros_more i (omega arith)) in
+    let all : number_from_digits 256 (take i text) * 256 + c ≡ y + (zeros i * 256 + 48) = grind (arith, zeros_more) in
     let byte : c ≡ y % 256 + 48 = omega (arith, all, below, b.0) in
     let others : number_from_digits 256 (take i text) ≡ y / 256 + zeros i = omega (arith, all, below, b.0) in
     let found = digits_found text i k (y / 256) h (omega arith) (omega arith) (omega arith) others b.1 in
@@ -231,17 +229,14 @@ module _ (text : List ℕ) (word n : ℕ) (h : AllBelowBase 256 text) (few : len
       let p = 256 ^ n in
       let whole : front ≡ q * 256 + 46 = omega (arith, front_is, point_is) in
       let d : front - front / 2 ^ 8 ≡ q * 255 + 46 = omega (arith, whole) in
-      let sum : word ≡ (q * 256 + 46) * p + number_from_digits 256 back =
-      split ∙ ap (λ m. m * p + number_from_digits 256 back) whole in
+      let sum : word ≡ (q * 256 + 46) * p + number_from_digits 256 back = grind (arith, split) in
       let places : 256 ^ length text ≤ 256 ^ 8 = pow-le-pow_right (omega arith) few in
       let lt : word < 2 ^ 64 = omega (arith, is, number_lt 256 text h, places) in
       let fits : (q * 255 + 46) * p < 2 ^ 64 = omega (arith, sum, lt) in
       let all : number_from_digits 256 (without (Some n) text) ≡ q * p + number_from_digits 256 back =
-      number_after_append 256 0 (take j text) back ∙ number_after 256 q back
-      ∙ ap (λ i. q * 256 ^ i + number_from_digits 256 back) length-back in
+      grind (arith, number_after_append, number_after, length-back) in
       let moved : (front - front / 2 ^ 8) * 2 ^ (8 * n) % 2 ^ 64 ≡ (q * 255 + 46) * p =
-      ap (λ x. (front - front / 2 ^ 8) * x % 2 ^ 64) (byte_pow n) ∙ ap (λ x. x * p % 2 ^ 64) d
-      ∙ mod-eq_of_lt fits in
+      grind (arith, byte_pow, mod-eq_of_lt) in
       omega (arith, moved, sum, all)
 
   pub others_below : AllBelowBase 256 (without (Some n) text)
