@@ -30,4 +30,4 @@ for LAYOUT in $(seq "$layouts"); do
     build_driver bench
     "$work/target/release/bench" "$passes" ${word:+"$word"} >"$work/tables_$LAYOUT.txt"
 done
-python3 "$here/medians.py" "$work"/tables_*.txt
+python3 "$here/layouts.py" "$work"/tables_*.txt

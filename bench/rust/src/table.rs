@@ -153,17 +153,16 @@ fn case(operation: Operation, size: usize) -> Option<Case> {
     Some(case)
 }
 
-/// The times of the batches of a case: the least times, and the ratios of adjacent batches.
+/// The least times of the batches of a case.
 struct Cell {
     case: Case,
     ours: u64,
     original: u64,
-    ratios: Vec<f64>,
 }
 
 impl Cell {
     fn new(case: Case) -> Self {
-        Cell { case, ours: u64::MAX, original: u64::MAX, ratios: Vec::new() }
+        Cell { case, ours: u64::MAX, original: u64::MAX }
     }
 
     /// Runs a batch of each, whose results have to be equal.
@@ -174,13 +173,12 @@ impl Cell {
         assert!(here == there, "{:?} of {} came to the same", self.case.operation, self.case.text);
         self.ours = self.ours.min(ours);
         self.original = self.original.min(original);
-        self.ratios.push(ours as f64 / original as f64);
     }
 
-    fn ratios(&mut self) -> String {
-        self.ratios.sort_by(f64::total_cmp);
-        let median = self.ratios[self.ratios.len() / 2];
-        format!("{:.2} / {median:.2}", self.ours as f64 / self.original as f64)
+    /// The nanoseconds of a call here, and in the original.
+    fn times(&self) -> String {
+        let nanoseconds = |batch: u64| batch as f64 / self.case.copies as f64;
+        format!("{:.3} / {:.3}", nanoseconds(self.ours), nanoseconds(self.original))
     }
 }
 
@@ -204,8 +202,8 @@ pub fn print(passes: usize, word: &str) {
     }
     println!("| |{}", SIZES.map(|size| format!(" {size} |")).concat());
     println!("|---|{}", "---|".repeat(SIZES.len()));
-    for (name, cells) in &mut rows {
-        let cells = cells.iter_mut().map(|cell| cell.as_mut().map_or(String::new(), Cell::ratios));
+    for (name, cells) in &rows {
+        let cells = cells.iter().map(|cell| cell.as_ref().map_or(String::new(), Cell::times));
         println!("| {name} |{}", cells.map(|cell| format!(" {cell} |")).collect::<String>());
     }
 }
