@@ -16,7 +16,6 @@ def joined(cells):
 
 
 texts = [open(name, encoding="utf-8").read() for name in sys.argv[1:]]
-between = [re.sub(CELL, "#", text) for text in texts]
-assert all(text == between[0] for text in between), "the tables differ in more than numbers"
+assert len({CELL.sub("#", text) for text in texts}) == 1, "the tables differ in more than numbers"
 cells = zip(*([found.groups() for found in CELL.finditer(text)] for text in texts))
-print(re.sub("#", lambda _: joined(next(cells)), between[0]), end="")
+print(CELL.sub(lambda _: joined(next(cells)), texts[0]), end="")
