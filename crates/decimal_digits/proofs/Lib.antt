@@ -18,4 +18,3 @@ pub mod LeadingBytes
 pub mod WideBytes
 pub mod Words
 pub mod Overlaps
-pub mod TrailingNibbles

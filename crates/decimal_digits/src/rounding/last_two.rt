@@ -62,7 +62,8 @@ fn truncate_and_push<D: DigitStore>(
     ensures borrows { Continues counted.old counted.new }
 {
     if index < counted.len() {
-        counted.replace_from(index, digit);
+        counted.truncate(index + 1);
+        counted.set(index, digit);
     } else {
         counted.reserve(1)?;
         counted.push_in_room(digit);
@@ -100,7 +101,8 @@ pub fn write_last_two<D: DigitStore>(
     ensures borrows { Continues counted.old counted.new }
 {
     if number % 10 == 0 {
-        counted.replace_from(keep - 2, number / 10);
+        counted.truncate(keep - 1);
+        counted.set(keep - 2, number / 10);
         return Ok(());
     }
     truncate_and_push(counted, keep - 1, number % 10)?;

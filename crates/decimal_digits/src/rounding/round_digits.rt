@@ -103,7 +103,8 @@ fn round_by_one<D: DigitStore>(
     if last == 9 {
         return add_one(counted, keep, max_places);
     }
-    counted.replace_from(keep - 1, last + 1);
+    counted.truncate(keep);
+    counted.set(keep - 1, last + 1);
     Some(keep)
 }
 

@@ -10,7 +10,7 @@ ghost use Rattle.decimal_digits.specs.Packing.{EncodesPadded, IsPadded};
 
 use super::bytes::{drop_unused, set_word};
 use super::nibbles::{append_pairs, set_nibble};
-use super::words::{count_equal_nibbles, front_word, join_nibbles, pack_word};
+use super::words::{front_word, join_nibbles, pack_word};
 use smallvec::SmallVec;
 
 /// Appends the digits of an ASCII text, for which there is room.
@@ -83,16 +83,12 @@ fn write_pairs(bytes: &[u8], buffer: &mut [u8])
 
 /// Counts the nibbles equal to `nibble` at the end of the first `count`.
 pub(super) fn count_trailing_nibbles(bytes: &[u8], count: usize, nibble: u8) -> usize
-    requires enough { 8 ≤ length bytes.now }
     requires in_range { count ≤ length (nibbles bytes.now) }
     requires is_nibble { nibble < 16 }
     ensures within { result ≤ count }
     ensures equal { (k : ℕ) → count ≤ k + result → k < count → slice_index (nibbles bytes.now) k ≡ nibble }
     ensures maximal { result < count → slice_index (nibbles bytes.now) (count - result - 1) ≢ nibble }
 {
-    if count <= 16 {
-        return count_equal_nibbles(front_word(bytes), count, nibble);
-    }
     let odd = count % 2;
     if odd == 1 && bytes[count / 2] / 16 != nibble {
         return 0;

@@ -8,11 +8,11 @@ ghost use Rattle.decimal_digits.specs.Nibbles.{digits_in, bcd_number, nibbles, w
 ghost use Rattle.decimal_digits.specs.Packing.{Encodes, EncodesPadded, IsPadded};
 
 use super::nibbles::{
-    append_nibbles, byte_count, drop_bytes, keep_bytes, pack, push_zeros, remove_high_nibble,
+    append_nibbles, byte_count, drop_bytes, pack, push_zeros, remove_high_nibble,
     set_nibble,
 };
 use super::words::{
-    cut_nibbles, end_word, front_word, join_nibbles, keep_nibbles, pack_word, replace_nibbles,
+    cut_nibbles, end_word, front_word, join_nibbles, keep_nibbles, pack_word,
 };
 use smallvec::SmallVec;
 use std::alloc::{AllocError, Global};
@@ -42,7 +42,7 @@ pub(super) fn drop_unused(bytes: &mut SmallVec<u8, 8>, len: usize)
     ensures encodes { Encodes bytes.new.items len (digits_in bytes.old.items len) }
     ensures capacity { bytes.new.capacity ≡ bytes.old.capacity }
 {
-    keep_bytes(bytes, byte_count(len));
+    bytes.truncate(byte_count(len));
 }
 
 /// Copies at least eight bytes.
@@ -180,53 +180,17 @@ fn equal_in_two_words(left: &[u8], right: &[u8]) -> bool
     have_equal_fronts(left, right) && (end == 0 || have_equal_fronts(&left[end..], &right[end..]))
 }
 
-/// Returns whether two lists of the same number of bytes, 16 to 24, are equal.
-#[inline]
-fn equal_in_three_words(left: &[u8], right: &[u8]) -> bool
-    requires enough { 16 ≤ length left.now }
-    requires few { length left.now ≤ 24 }
-    requires same_length { length left.now ≡ length right.now }
-    ensures { IsTrue result ↔ (left.now ≡ right.now) }
-{
-    let end = left.len() - 8;
-    equal_in_two_words(&left[..16], &right[..16]) && have_equal_fronts(&left[end..], &right[end..])
-}
-
-/// Returns whether two lists of the same number of bytes, 16 to 32, are equal.
-#[inline]
-fn equal_in_four_words(left: &[u8], right: &[u8]) -> bool
-    requires enough { 16 ≤ length left.now }
-    requires few { length left.now ≤ 32 }
-    requires same_length { length left.now ≡ length right.now }
-    ensures { IsTrue result ↔ (left.now ≡ right.now) }
-{
-    let end = left.len() - 16;
-    equal_in_two_words(&left[..16], &right[..16]) && equal_in_two_words(&left[end..], &right[end..])
-}
-
-/// Returns whether two lists of the same number of bytes, at least eight, are equal. Up to 64 bytes need no call.
+/// Returns whether two lists of the same number of bytes, at least eight, are equal. Up to sixteen bytes need no call.
 #[inline]
 pub(super) fn are_equal(left: &[u8], right: &[u8]) -> bool
     requires enough { 8 ≤ length left.now }
     requires same_length { length left.now ≡ length right.now }
     ensures { IsTrue result ↔ (left.now ≡ right.now) }
 {
-    let len = left.len();
-    if len <= 16 {
+    if left.len() <= 16 {
         return equal_in_two_words(left, right);
     }
-    if len <= 24 {
-        return equal_in_three_words(left, right);
-    }
-    if len <= 32 {
-        return equal_in_four_words(left, right);
-    }
-    if len > 64 {
-        return left == right;
-    }
-    let end = len - 32;
-    equal_in_four_words(&left[..32], &right[..32])
-        && equal_in_four_words(&left[end..], &right[end..])
+    left == right
 }
 
 /// Keeps the first `count` digits.
@@ -264,45 +228,6 @@ fn keep_some(bytes: &mut SmallVec<u8, 8>, len: usize, count: usize)
         set_nibble(bytes, count, 0);
     }
     bytes.truncate(byte_count(count));
-}
-
-/// Replaces the digits from an index on by one digit.
-#[inline]
-pub(super) fn replace_digits(bytes: &mut SmallVec<u8, 8>, len: usize, index: usize, digit: u8)
-    requires padded { IsPadded bytes.old.items len }
-    requires in_range { index < len }
-    requires is_digit { digit < 10 }
-    ensures encodes { EncodesPadded bytes.new.items (index + 1)
-        (take index (digits_in bytes.old.items len) ++ digit ∷ []) }
-    ensures capacity { bytes.new.capacity ≡ bytes.old.capacity }
-{
-    if len <= 16 {
-        let word = replace_nibbles(front_word(bytes.as_slice()), index, digit);
-        set_word(bytes, word);
-    } else {
-        replace_some(bytes, len, index, digit);
-    }
-}
-
-/// Replaces the digits from an index on by one digit, in a list of more than sixteen.
-#[inline(never)]
-fn replace_some(bytes: &mut SmallVec<u8, 8>, len: usize, index: usize, digit: u8)
-    requires padded { IsPadded bytes.old.items len }
-    requires many { 16 < len }
-    requires in_range { index < len }
-    requires is_digit { digit < 10 }
-    ensures encodes { EncodesPadded bytes.new.items (index + 1)
-        (take index (digits_in bytes.old.items len) ++ digit ∷ []) }
-    ensures capacity { bytes.new.capacity ≡ bytes.old.capacity }
-{
-    if index < 16 {
-        let word = replace_nibbles(front_word(bytes.as_slice()), index, digit);
-        set_front(bytes, word);
-        bytes.truncate(8);
-        return;
-    }
-    set_digit(bytes, len, index, digit);
-    keep_some(bytes, len, index + 1);
 }
 
 /// Removes the first `count` digits.

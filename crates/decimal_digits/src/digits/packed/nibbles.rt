@@ -121,34 +121,6 @@ pub(super) fn push_zeros(bytes: &mut SmallVec<u8, 8>, count: usize)
     bytes.extend_from_slice(&ZEROS[..count % 64]).unwrap();
 }
 
-/// Keeps the first `count` bytes.
-///
-/// `smallvec` overwrites the bytes that it removes with zeros, by a call if their number varies. So up to seven bytes
-/// are removed by four, two and one, which takes no call.
-#[inline]
-pub(super) fn keep_bytes(bytes: &mut SmallVec<u8, 8>, count: usize)
-    requires { count ≤ small_vec_len bytes.old }
-    ensures items { bytes.new.items ≡ take count bytes.old.items }
-    ensures capacity { bytes.new.capacity ≡ bytes.old.capacity }
-{
-    if bytes.len() - count >= 8 {
-        bytes.truncate(count);
-        return;
-    }
-    if bytes.len() - count >= 4 {
-        let len = bytes.len() - 4;
-        bytes.truncate(len);
-    }
-    if bytes.len() - count >= 2 {
-        let len = bytes.len() - 2;
-        bytes.truncate(len);
-    }
-    if bytes.len() > count {
-        let len = bytes.len() - 1;
-        bytes.truncate(len);
-    }
-}
-
 /// Removes the first `count` bytes, and keeps the next `left` bytes.
 pub(super) fn drop_bytes(bytes: &mut SmallVec<u8, 8>, count: usize, left: usize)
     requires { count + left ≤ small_vec_len bytes.old }

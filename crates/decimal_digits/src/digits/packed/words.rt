@@ -46,17 +46,6 @@ pub(super) fn keep_nibbles(word: u64, count: usize) -> u64
     word >> unused << unused
 }
 
-/// Replaces the nibbles from an index on by one nibble, and by zeros.
-#[inline]
-pub(super) fn replace_nibbles(word: u64, index: usize, nibble: u8) -> u64
-    requires in_range { index < 16 }
-    requires is_nibble { nibble < 16 }
-    ensures { word_nibbles result ≡ take index (word_nibbles word) ++ (nibble ∷ replicate (15 - index) 0) }
-{
-    let unused = 4 * (15 - index);
-    ((word >> unused) / 16 * 16 + u64::from(nibble)) << unused
-}
-
 /// Removes the first `count` nibbles, and appends zeros.
 #[inline]
 pub(super) fn cut_nibbles(word: u64, count: usize) -> u64
@@ -80,23 +69,6 @@ pub(super) fn join_nibbles(word: u64, start: usize, other: u64) -> u64
         return word;
     }
     word + (other >> (4 * start))
-}
-
-/// Counts the nibbles equal to `nibble` at the end of the first `count`.
-#[inline]
-pub(super) fn count_equal_nibbles(word: u64, count: usize, nibble: u8) -> usize
-    requires few { count ≤ 16 }
-    requires is_nibble { nibble < 16 }
-    ensures within { result ≤ count }
-    ensures equal { (k : ℕ) → count ≤ k + result → k < count → slice_index (word_nibbles word) k ≡ nibble }
-    ensures maximal { result < count → slice_index (word_nibbles word) (count - result - 1) ≢ nibble }
-{
-    if count == 0 {
-        return 0;
-    }
-    // A nibble is 0 here if it is equal.
-    let others = (word ^ (0x1111_1111_1111_1111 * u64::from(nibble))) >> (4 * (16 - count));
-    ((others.trailing_zeros() / 4) as usize).min(count)
 }
 
 /// Returns the word of the low nibbles of up to sixteen digits, with zeros after them.

@@ -1,6 +1,6 @@
 use Rattle.std.proofs.Common.{◌≡◌, ◌+◌, ◌≤◌, take}
 use Rattle.decimal_digits.specs.Nibbles.{nibbles}
-use Rattle.decimal_digits.proofs.digits.DigitStore.from_bcd.Given as goal
+use Rattle.decimal_digits.proofs.digits.DigitStore.from_padded_bcd.Given as goal
 
 abbrev pub invariant-loop-index : goal.invariant-loop-index
 invariant-loop-index g l = record {
