@@ -10,11 +10,11 @@ use Rattle.std.specs.Int.Digits.{number_from_digits_after, number_from_digits, A
 use Rattle.std.proofs.Math.Nat.{pow-le-pow_right}
 use Rattle.std.proofs.lemmas.Grind.{same_number_lists}
 use Rattle.std.proofs.lemmas.Nat.{div-mul-add, mod-mul-add, mul-pow, pow-add}
-use Rattle.std.proofs.lemmas.List.{length-append, length-replicate, length-take-le, get_or_past, take_all}
-use Rattle.std.proofs.lemmas.List.Elements.{All-append, All-from_recursion, All-replicate, recursion_from_All}
+use Rattle.std.proofs.lemmas.List.{length-append, length-replicate, length-take-le, take_all}
+use Rattle.std.proofs.lemmas.List.Elements.{All-append, All-replicate, recursion_from_All}
 use Rattle.std.proofs.lemmas.Int.Digits.{number_lt, number_more}
 use Rattle.decimal_digits.specs.Nibbles.{nibbles, padded, bcd_number}
-use Rattle.decimal_digits.proofs.DigitLists.{below_take, number_after, number_pad}
+use Rattle.decimal_digits.proofs.DigitLists.{below_take, number_after}
 use Rattle.decimal_digits.proofs.Nibbles.{nibble_rules}
 
 -- two nibbles to a byte

@@ -17,3 +17,4 @@ pub mod DigitTexts
 pub mod LeadingBytes
 pub mod Words
 pub mod Overlaps
+pub mod TrailingNibbles

@@ -128,6 +128,7 @@ pub trait DigitStore: Drop {
         requires { from + length buffer.old ≤ length (digits self.now) }
         ensures { buffer.new ≡ text_of (take (length buffer.old) (drop from (digits self.now))) }
     {
+        // Proof hint: the index of each digit fits a `usize`.
         let _at_least = self.len();
         for (index, slot) in buffer.iter_mut().enumerate() {
             *slot = b'0' + self.get(from + index);

@@ -91,15 +91,6 @@ module _ (v : Unsigned) (valid : IsValue v) (dot : ℕ) (dot_is : dot ≡ int_ga
         bytes_down-part,
       )
 
-  -- a text of one byte is the digit of magnitude 0
-  pub one_byte : length (text v) ≡ 1 → byte v.number (pos 0) ∷ [] ≡ text v
-  one_byte e =
-      let n = length-text v valid.hi_in.0 valid.lo_in.1 in
-      let top : pos 0 ≡ v.hi -ℤ pos 0 = omega (arith, ints, valid.hi_in, gap_is (pos 0) v.hi, n) in
-      ap (λ m. byte v.number m ∷ []) top
-      ∙ sym (piece_above 0 1 (omega (arith, dot_is)))
-      ∙ take_all 1 (text v) (omega (arith, e))
-
   -- ---- The magnitudes of a piece are within the limits.
   -- before the decimal point
   pub fits_above : (from n : ℕ) → from + n ≤ dot → n ≤ offset (v.hi -ℤ pos from) + 1

@@ -53,12 +53,14 @@ impl DigitStore for DigitList {
 
     fn from_digits(alloc: Global, list: &[u8]) -> Result<Self, AllocError> {
         let bytes = SmallVec::from_slice(alloc, list)?;
+        // Proof hint: the capacity is at least eight.
         let _at_least = bytes.capacity();
         Ok(DigitList { bytes })
     }
 
     fn clone(&self) -> Result<Self, AllocError> {
         let bytes = SmallVec::from_slice(*self.bytes.allocator(), self.bytes.as_slice())?;
+        // Proof hint: the capacity is at least eight.
         let _at_least = bytes.capacity();
         Ok(DigitList { bytes })
     }
@@ -127,7 +129,6 @@ impl DigitStore for DigitList {
     }
 }
 
-/// Replaces ASCII digits by their values.
 fn digits_from_ascii(ascii_text: &mut [u8])
     requires { AllDigits 10 ascii_text.old }
     ensures { ascii_text.new ≡ map digit_value ascii_text.old }
@@ -137,7 +138,6 @@ fn digits_from_ascii(ascii_text: &mut [u8])
     }
 }
 
-/// Writes the first digits as ASCII, one to each byte of the buffer.
 fn digits_to_ascii(digits: &[u8], buffer: &mut [u8])
     requires enough { length buffer.old ≤ length digits.now }
     requires are_digits { All (λ d. d < 10) digits.now }

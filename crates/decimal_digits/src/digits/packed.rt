@@ -46,7 +46,6 @@ impl Drop for PackedDigits {
 }
 
 impl PackedDigits {
-    /// Returns the bytes that hold the digits.
     #[inline]
     fn front(&self) -> &[u8]
         ensures { result.now ≡ take ((self.now.len + 1) / 2) self.now.bytes.items }

@@ -17,7 +17,7 @@ mod words;
 use super::UnsignedOver;
 use crate::ParseError;
 use decimal_digits::digits::DigitStore;
-use fast_path::{few_digits, wide_bcd_value};
+use fast_path::{few_digits, plain_text};
 pub use parts::numeral;
 use parts::{Parts, split};
 use plan::{Plan, planned};
@@ -111,7 +111,6 @@ pub fn lowest_of(text: &[u8]) -> Result<i16, ParseError>
     Ok(Scan::new(text)?.lowest())
 }
 
-/// Makes the list of the digits of two ASCII texts.
 fn list_of_texts<D: DigitStore>(
     alloc: Global,
     whole: &[u8],
@@ -129,7 +128,6 @@ fn list_of_texts<D: DigitStore>(
     Ok(list)
 }
 
-/// Makes the list of the digits from index `start` to before `end`: integer digits, and then fraction digits.
 fn digits_between<D: DigitStore>(
     alloc: Global,
     parts: &Parts<'_>,
@@ -198,11 +196,9 @@ impl<D: DigitStore> UnsignedOver<D> {
         ensures { IfSome result (λ v. read text.now ≡ Ok v) }
     {
         let plain = few_digits(text, D::L.min(16))?;
-        let number = plain.number as u64;
-        Self::from_bcd_digits(alloc, plain.whole, plain.fraction, number).ok()
+        Self::from_wide_bcd_digits(alloc, plain.whole, plain.fraction, plain.number).ok()
     }
 
-    /// Parses a value.
     #[inline(always)]
     fn read_from(alloc: Global, text: &[u8]) -> Result<Self, ParseError>
         ensures { IsParseResult (λ v. D.L < size v.number) result (read text.now) }
@@ -229,21 +225,19 @@ impl<D: DigitStore> UnsignedOver<D> {
         Ok(value)
     }
 
-    /// Parses any text, up to 32 digits in one pass.
     // Not inlined: it then has its own stack frame, which a short text does not fill with zeros.
     #[inline(never)]
     fn scan_any(alloc: Global, text: &[u8]) -> Result<Self, ParseError>
         ensures { IsParseResult (λ v. D.L < size v.number) result (read text.now) }
     {
-        if let Some(bcd) = wide_bcd_value(text) {
-            let digits = D::from_wide_bcd(alloc, bcd.number, bcd.len)?;
-            let bounds = bcd.bounds;
-            return Ok(UnsignedOver {
-                digits,
-                magnitude: bounds.magnitude,
-                hi: bounds.hi,
-                lo: bounds.lo,
-            });
+        if let Some(plain) = plain_text(text) {
+            let value = Self::from_wide_bcd_digits(
+                alloc,
+                plain.whole,
+                plain.fraction,
+                plain.number,
+            )?;
+            return Ok(value);
         }
         Ok(Scan::new(text)?.value(alloc)?)
     }

@@ -1,5 +1,5 @@
 //! The text of a value.
-ghost use Rattle.std.specs.Prelude.{◌≡◌, ◌↔◌, [], ◌∷◌, ◌+◌, ◌-◌, ◌-ℤ◌, ◌<◌, ◌≤◌, length, take, drop, replicate, slice_index, EachIndex, Ok, OnOk, OnErr, pos, IsTrue, true, false};
+ghost use Rattle.std.specs.Prelude.{◌≡◌, ◌↔◌, ◌+◌, ◌-◌, ◌-ℤ◌, ◌<◌, ◌≤◌, length, take, drop, replicate, slice_index, EachIndex, Ok, OnOk, OnErr, pos, IsTrue, true, false};
 ghost use Rattle.std.specs.Int.{int_gap};
 ghost use Rattle.std.specs.Io.KnownBytes.{Keeps, Appends};
 ghost use Rattle.decimal_digits.specs.Number.{offset, digit};
@@ -42,7 +42,6 @@ impl<D: DigitStore> UnsignedOver<D> {
             .copy_text(from, &mut buffer[start..start + count]);
     }
 
-    /// Returns the index of the decimal point, which is the number of integer digits; a text without one ends there.
     #[inline]
     fn dot(&self) -> usize
         ensures value { result ≡ int_gap (pos 0) self.now.hi + 1 }
@@ -69,16 +68,6 @@ impl<D: DigitStore> UnsignedOver<D> {
         }
     }
 
-    /// Returns the byte of a text of one byte.
-    #[inline]
-    fn only_byte(&self) -> u8
-        requires { length (text self.now) ≡ 1 }
-        ensures { result ∷ [] ≡ text self.now }
-    {
-        b'0' + self.digit_at(0)
-    }
-
-    /// Returns whether at most sixteen magnitudes are shown.
     #[inline]
     pub(super) fn is_short(&self) -> bool
         ensures short { IsTrue result ↔ (int_gap self.now.lo self.now.hi < 16) }
@@ -145,10 +134,6 @@ impl<D: DigitStore> Writeable for UnsignedOver<D> {
         ensures reads_back { read (text self.now) ≡ Ok self.now }
     {
         let length = self.writeable_length_hint();
-        if length == 1 {
-            // One digit takes less time than a vector.
-            return sink.put_byte(self.only_byte());
-        }
         if self.is_short() {
             return sink.put_bytes(&self.short_text()[..length]);
         }

@@ -10,10 +10,9 @@ ghost use Rattle.decimal_digits.specs.Packing.{EncodesPadded, IsPadded};
 
 use super::bytes::{drop_unused, set_word};
 use super::nibbles::{append_pairs, set_nibble};
-use super::words::{front_word, join_nibbles, pack_word};
+use super::words::{count_equal_nibbles, front_word, join_nibbles, pack_word};
 use smallvec::SmallVec;
 
-/// Appends the digits of an ASCII text, for which there is room.
 pub(super) fn append_text(bytes: &mut SmallVec<u8, 8>, len: usize, text: &[u8])
     requires padded { IsPadded bytes.old.items len }
     requires has_room { length text.now ≤ 2 * bytes.old.capacity - len }
@@ -31,7 +30,6 @@ pub(super) fn append_text(bytes: &mut SmallVec<u8, 8>, len: usize, text: &[u8])
     }
 }
 
-/// Appends the digits of an ASCII text, for which there is room, to make more than sixteen in all.
 fn append_long_text(bytes: &mut SmallVec<u8, 8>, len: usize, text: &[u8])
     requires padded { IsPadded bytes.old.items len }
     requires many { 16 < len + length text.now }
@@ -52,7 +50,6 @@ fn append_long_text(bytes: &mut SmallVec<u8, 8>, len: usize, text: &[u8])
     }
 }
 
-/// Writes the nibbles from index `from` as ASCII, one to each byte of the buffer.
 pub(super) fn write_text(bytes: &[u8], from: usize, buffer: &mut [u8])
     requires { from + length buffer.old ≤ length (nibbles bytes.now) }
     ensures { buffer.new ≡ text_of (take (length buffer.old) (drop from (nibbles bytes.now))) }
@@ -66,7 +63,6 @@ pub(super) fn write_text(bytes: &[u8], from: usize, buffer: &mut [u8])
     }
 }
 
-/// Writes the first nibbles as ASCII, one to each byte of the buffer.
 fn write_pairs(bytes: &[u8], buffer: &mut [u8])
     requires { length buffer.old ≤ length (nibbles bytes.now) }
     ensures { buffer.new ≡ text_of (take (length buffer.old) (nibbles bytes.now)) }
@@ -81,14 +77,17 @@ fn write_pairs(bytes: &[u8], buffer: &mut [u8])
     }
 }
 
-/// Counts the nibbles equal to `nibble` at the end of the first `count`.
 pub(super) fn count_trailing_nibbles(bytes: &[u8], count: usize, nibble: u8) -> usize
+    requires enough { 8 ≤ length bytes.now }
     requires in_range { count ≤ length (nibbles bytes.now) }
     requires is_nibble { nibble < 16 }
     ensures within { result ≤ count }
     ensures equal { (k : ℕ) → count ≤ k + result → k < count → slice_index (nibbles bytes.now) k ≡ nibble }
     ensures maximal { result < count → slice_index (nibbles bytes.now) (count - result - 1) ≢ nibble }
 {
+    if count <= 16 {
+        return count_equal_nibbles(front_word(bytes), count, nibble);
+    }
     let odd = count % 2;
     if odd == 1 && bytes[count / 2] / 16 != nibble {
         return 0;
@@ -101,7 +100,6 @@ pub(super) fn count_trailing_nibbles(bytes: &[u8], count: usize, nibble: u8) -> 
     odd + 2 * same
 }
 
-/// Counts the bytes equal to `byte` at the end.
 fn count_trailing_bytes(bytes: &[u8], byte: u8) -> usize
     ensures within { result ≤ length bytes.now }
     ensures equal { (k : ℕ) → length bytes.now ≤ k + result → k < length bytes.now → slice_index bytes.now k ≡ byte }

@@ -11,7 +11,6 @@ use super::words::front_word;
 use smallvec::SmallVec;
 use std::alloc::{AllocError, Global};
 
-/// Copies the first bytes of a number, those of `len` nibbles.
 #[inline(never)]
 fn copy_wide(alloc: Global, number: u128, len: usize) -> Result<SmallVec<u8, 8>, AllocError>
     requires fits { len ≤ 32 }
@@ -24,7 +23,6 @@ fn copy_wide(alloc: Global, number: u128, len: usize) -> Result<SmallVec<u8, 8>,
     Ok(SmallVec::from_vec(copy))
 }
 
-/// Stores the first `len` nibbles of a packed BCD number of 32 nibbles, of which the others are 0.
 #[inline]
 pub(super) fn store_bcd(
     alloc: Global,

@@ -4,7 +4,6 @@
 ghost use Rattle.std.specs.Prelude.{◌≡◌, ◌≢◌, ℕ, ◌+◌, ◌-◌, ◌*◌, ◌%◌, ◌<◌, ◌≤◌, ◌∷◌, ◌++◌, length, map, take, drop, replicate, slice_index};
 ghost use Rattle.decimal_digits.specs.Nibbles.{nibbles, word_nibbles};
 
-/// Returns the word of the first eight bytes.
 #[inline]
 pub(super) fn front_word(bytes: &[u8]) -> u64
     requires { 8 ≤ length bytes.now }
@@ -17,7 +16,6 @@ pub(super) fn front_word(bytes: &[u8]) -> u64
     }
 }
 
-/// Returns the word of the last `count` bytes of at least eight, with zero bytes after them up to the eighth.
 #[inline]
 pub(super) fn end_word(bytes: &[u8], count: usize) -> u64
     requires enough { 8 ≤ length bytes.now }
@@ -33,7 +31,6 @@ pub(super) fn end_word(bytes: &[u8], count: usize) -> u64
     }
 }
 
-/// Clears the nibbles after the first `count`.
 #[inline]
 pub(super) fn keep_nibbles(word: u64, count: usize) -> u64
     requires { count ≤ 16 }
@@ -46,7 +43,6 @@ pub(super) fn keep_nibbles(word: u64, count: usize) -> u64
     word >> unused << unused
 }
 
-/// Removes the first `count` nibbles, and appends zeros.
 #[inline]
 pub(super) fn cut_nibbles(word: u64, count: usize) -> u64
     requires { count ≤ 16 }
@@ -58,7 +54,6 @@ pub(super) fn cut_nibbles(word: u64, count: usize) -> u64
     word << (4 * count)
 }
 
-/// Writes the first nibbles of another word over the nibbles from index `start`, which are 0.
 #[inline]
 pub(super) fn join_nibbles(word: u64, start: usize, other: u64) -> u64
     requires in_range { start ≤ 16 }
@@ -69,6 +64,22 @@ pub(super) fn join_nibbles(word: u64, start: usize, other: u64) -> u64
         return word;
     }
     word + (other >> (4 * start))
+}
+
+#[inline]
+pub(super) fn count_equal_nibbles(word: u64, count: usize, nibble: u8) -> usize
+    requires few { count ≤ 16 }
+    requires is_nibble { nibble < 16 }
+    ensures within { result ≤ count }
+    ensures equal { (k : ℕ) → count ≤ k + result → k < count → slice_index (word_nibbles word) k ≡ nibble }
+    ensures maximal { result < count → slice_index (word_nibbles word) (count - result - 1) ≢ nibble }
+{
+    if count == 0 {
+        return 0;
+    }
+    // A nibble is 0 here if it is equal.
+    let others = (word ^ (0x1111_1111_1111_1111 * u64::from(nibble))) >> (4 * (16 - count));
+    ((others.trailing_zeros() / 4) as usize).min(count)
 }
 
 /// Returns the word of the low nibbles of up to sixteen digits, with zeros after them.

@@ -1,0 +1,14 @@
+use Rattle.std.proofs.Common.{◌-◌, get_or, ◌∙◌, ap, sym, arith}
+use Rattle.std.proofs.lemmas.List.{get_or-take}
+use Rattle.decimal_digits.proofs.digits.packed.bulk.count_trailing_nibbles.Goals as goal
+
+pub returns-then-count-le16-clause-equal : goal.returns-then-count-le16-clause-equal
+returns-then-count-le16-clause-equal c = λ k h l.
+    sym (ap (λ ns. get_or ns k 0) c.front_word.ensures ∙ get_or-take 16 _ k 0 (omega arith))
+    ∙ c.count_equal_nibbles.ensures.equal k h l
+
+pub returns-then-count-le16-clause-maximal : goal.returns-then-count-le16-clause-maximal
+returns-then-count-le16-clause-maximal c = λ h same.
+    let k = c.args.count - c.count_equal_nibbles.result - 1 in
+    c.count_equal_nibbles.ensures.maximal h
+    (ap (λ ns. get_or ns k 0) c.front_word.ensures ∙ get_or-take 16 _ k 0 (omega arith) ∙ same)
