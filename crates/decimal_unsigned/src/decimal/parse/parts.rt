@@ -87,20 +87,14 @@ pub fn numeral(text: &[u8], most: u32) -> Option<u32>
     Some(value)
 }
 
-fn unsigned(text: &[u8]) -> Option<i32>
-    ensures { result ≡ option_map saturated (option_map pos (read.numeral_of text.now)) }
-{
-    Some(numeral(text, 70_000)? as i32)
-}
-
 #[tactic(auto, unfolding(crate::specs::Reading::exponent_of))]
 fn exponent(text: &[u8]) -> Option<i32>
     ensures { result ≡ option_map saturated (read.exponent_of text.now) }
 {
     match text {
         [b'-', rest @ ..] => Some(-(numeral(rest, 70_000)? as i32)),
-        [b'+', rest @ ..] => unsigned(rest),
-        _ => unsigned(text),
+        [b'+', rest @ ..] => Some(numeral(rest, 70_000)? as i32),
+        _ => Some(numeral(text, 70_000)? as i32),
     }
 }
 
