@@ -1,9 +1,8 @@
 -- The bytes from an index on of the text of a value.
-use Rattle.decimal_unsigned.proofs.Common.{clamps, nat_tests, common_steps, ◌≡◌, ℕ, suc, ◌+◌, ◌-◌, ◌<◌, ◌≤◌, List, [], ◌∷◌, ◌++◌, length, take, drop, refl, sym, ◌∙◌, ap, arith, ℤ, pos, negsuc, ◌+ℤ◌, ◌-ℤ◌, ◌≤ℤ◌, int_gap, ints, length-append, length-drop, take_all, offset, offset_is, gap_is, Unsigned, IsValue, text}
+use Rattle.decimal_unsigned.proofs.Common.{clamps, nat_tests, common_steps, ◌≡◌, ℕ, suc, ◌+◌, ◌-◌, ◌<◌, ◌≤◌, List, ◌∷◌, ◌++◌, length, take, drop, refl, sym, ◌∙◌, ap, arith, ℤ, pos, negsuc, ◌+ℤ◌, ◌-ℤ◌, ◌≤ℤ◌, int_gap, ints, length-append, length-drop, take_all, offset, offset_is, gap_is, Unsigned, IsValue, text}
 use Rattle.std.proofs.Math.Seq.{take-append-add, drop-append-add}
 use Rattle.std.proofs.lemmas.List.{take-append-le, drop-append-le}
-use Rattle.decimal_unsigned.proofs.Lengths.{length-text}
-use Rattle.decimal_unsigned.proofs.TextBytes.{byte, bytes_down, length-bytes_down, bytes_down-part, fraction_text, text_is}
+use Rattle.decimal_unsigned.proofs.TextBytes.{bytes_down, length-bytes_down, bytes_down-part, fraction_text, text_is}
 
 module _ (v : Unsigned) (valid : IsValue v) (dot : ℕ) (dot_is : dot ≡ int_gap (pos 0) v.hi + 1) where
   abbrev whole : List ℕ
