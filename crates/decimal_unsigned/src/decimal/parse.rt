@@ -111,23 +111,6 @@ pub fn lowest_of(text: &[u8]) -> Result<i16, ParseError>
     Ok(Scan::new(text)?.lowest())
 }
 
-fn list_of_texts<D: DigitStore>(
-    alloc: Global,
-    whole: &[u8],
-    fraction: &[u8],
-) -> Result<D, AllocError>
-    requires whole { AllDigits 10 whole.now }
-    requires fraction { AllDigits 10 fraction.now }
-    ensures ok { IfOk result (λ d. D.digits d ≡ map digit_value whole.now ++ map digit_value fraction.now) }
-    ensures succeeds { length whole.now + length fraction.now ≤ D.L → IsOk result }
-{
-    let mut list = D::empty(alloc);
-    list.reserve(whole.len() + fraction.len())?;
-    list.push_text(whole);
-    list.push_text(fraction);
-    Ok(list)
-}
-
 fn digits_between<D: DigitStore>(
     alloc: Global,
     parts: &Parts<'_>,
@@ -141,7 +124,11 @@ fn digits_between<D: DigitStore>(
     ensures succeeds { end - start ≤ D.L → IsOk result }
 {
     let (whole, fraction) = parts.between(start, end);
-    list_of_texts(alloc, whole, fraction)
+    let mut list = D::empty(alloc);
+    list.reserve(whole.len() + fraction.len())?;
+    list.push_text(whole);
+    list.push_text(fraction);
+    Ok(list)
 }
 
 impl<D: DigitStore> UnsignedOver<D> {
