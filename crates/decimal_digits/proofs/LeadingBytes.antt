@@ -10,7 +10,7 @@ use Rattle.std.specs.Int.Digits.{number_from_digits_after, number_from_digits, A
 use Rattle.std.proofs.Math.Nat.{pow-le-pow_right}
 use Rattle.std.proofs.lemmas.Grind.{same_number_lists}
 use Rattle.std.proofs.lemmas.Nat.{div-mul-add, mod-mul-add, mul-pow, pow-add}
-use Rattle.std.proofs.lemmas.List.{length-append, length-replicate, length-take-le, take_all}
+use Rattle.std.proofs.lemmas.List.{length-take-le, take_all}
 use Rattle.std.proofs.lemmas.List.Elements.{All-append, All-replicate, recursion_from_All}
 use Rattle.std.proofs.lemmas.Int.Digits.{number_lt, number_more}
 use Rattle.decimal_digits.specs.Nibbles.{nibbles, padded, bcd_number}
@@ -77,14 +77,6 @@ padded_digits k ds h =
 pub padded_front : (k top : ℕ) (ds : List ℕ) → k ≤ top → length ds ≤ top
     → take k (ds ++ replicate (top - length ds) 0) ≡ padded k ds
 padded_front k top ds l h = grind (arith, same_number_lists, nibble_rules, length-padded, get_or-padded)
-
--- fewer digits are only padded
-pub padded_few : (k : ℕ) (ds : List ℕ) → length ds ≤ k → ds ++ replicate (k - length ds) 0 ≡ padded k ds
-padded_few k ds h =
-    let size : length (ds ++ replicate (k - length ds) 0) ≤ k =
-    omega (arith, length-append ds (replicate (k - length ds) 0), length-replicate {A = ℕ} (k - length ds) 0) in
-    sym (take_all k _ size)
-    ∙ padded_front k k ds (omega arith) h
 
 -- ---- the first sixteen digits
 module _ (ds : List ℕ) (h : All (λ d. d < 10) ds) where

@@ -415,9 +415,6 @@ module _ (text : List ℕ) (p : PlainText) (plain : IsPlainText text p) where
   pub few_digits : p.whole + p.fraction ≤ 32
   few_digits = omega (arith, plain.few, plain.whole, plain.fraction, length-append w.whole w.fraction)
 
-  pub number_fits : p.number < 2 ^ 128
-  number_fits = rw plain.number (digits_fit (w.whole ++ w.fraction) digits plain.few)
-
   -- reading gives their value
   pub plain_read : read text ≡ Ok (value_of_first p.whole plain_digits)
   unfolding scaled
