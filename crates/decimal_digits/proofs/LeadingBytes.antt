@@ -10,12 +10,14 @@ use Rattle.std.specs.Int.Digits.{number_from_digits_after, number_from_digits, A
 use Rattle.std.proofs.Math.Nat.{pow-le-pow_right}
 use Rattle.std.proofs.lemmas.Grind.{same_number_lists}
 use Rattle.std.proofs.lemmas.Nat.{div-mul-add, mod-mul-add, mul-pow, pow-add}
-use Rattle.std.proofs.lemmas.List.{length-take-le, take_all}
-use Rattle.std.proofs.lemmas.List.Elements.{All-append, All-replicate, recursion_from_All}
+use Rattle.std.proofs.lemmas.List.{length-append, length-replicate, length-take-le, get_or_past, take_all}
+use Rattle.std.proofs.lemmas.List.Elements.{All-append, All-from_recursion, All-replicate, recursion_from_All}
 use Rattle.std.proofs.lemmas.Int.Digits.{number_lt, number_more}
-use Rattle.decimal_digits.specs.Nibbles.{nibbles, padded, bcd_number}
-use Rattle.decimal_digits.proofs.DigitLists.{below_take, number_after}
+use Rattle.decimal_digits.specs.Nibbles.{nibbles, digits_in, leading_bytes, padded, bcd_number, IsPacked}
+use Rattle.decimal_digits.specs.Packing.{Encodes}
+use Rattle.decimal_digits.proofs.DigitLists.{below_take, number_after, number_pad}
 use Rattle.decimal_digits.proofs.Nibbles.{nibble_rules}
+use Rattle.decimal_digits.proofs.Packing.{encodes, front_digits}
 
 -- two nibbles to a byte
 pub squares : (k : ℕ) → 16 ^ (2 * k) ≡ 256 ^ k
@@ -78,6 +80,14 @@ pub padded_front : (k top : ℕ) (ds : List ℕ) → k ≤ top → length ds ≤
     → take k (ds ++ replicate (top - length ds) 0) ≡ padded k ds
 padded_front k top ds l h = grind (arith, same_number_lists, nibble_rules, length-padded, get_or-padded)
 
+-- fewer digits are only padded
+pub padded_few : (k : ℕ) (ds : List ℕ) → length ds ≤ k → ds ++ replicate (k - length ds) 0 ≡ padded k ds
+padded_few k ds h =
+    let size : length (ds ++ replicate (k - length ds) 0) ≤ k =
+    omega (arith, length-append ds (replicate (k - length ds) 0), length-replicate {A = ℕ} (k - length ds) 0) in
+    sym (take_all k _ size)
+    ∙ padded_front k k ds (omega arith) h
+
 -- ---- the first sixteen digits
 module _ (ds : List ℕ) (h : All (λ d. d < 10) ds) where
   abbrev pub sixteen : List ℕ
@@ -108,6 +118,31 @@ module _ (ds : List ℕ) (h : All (λ d. d < 10) ds) where
   pub sixteen_all : (i : ℕ) → ¬ (i < 16) → number_from_digits 16 (take i sixteen) ≡ bcd_number ds
   unfolding bcd_number
   sixteen_all i l = ap (number_from_digits 16) (take_all i sixteen (omega (arith, sixteen_are)))
+
+-- up to sixteen digits, as the highest nibbles of a number, are packed in its first bytes
+pub leading_bytes_encode : (ds : List ℕ) (len n : ℕ) → length ds ≡ len → len ≤ 16 → AllBelowBase 10 ds
+    → n ≡ number_from_digits 16 ds * 16 ^ (16 - len)
+    → Encodes (leading_bytes n len) len ds
+unfolding leading_bytes
+leading_bytes_encode ds len n l few h e =
+    let all = All-from_recursion (λ d. d < 10) ds h in
+    let whole : nibbles (to_be_bytes w64 n) ≡ padded 16 ds =
+    rw (e, ← l, ← (number_pad 16 (16 - length ds) ds), padded_few 16 ds (omega arith)) (sixteen_nibbles ds all) in
+    encodes _ _ _ (
+      record {
+        many = l;
+        same = λ k q. grind (arith, nibble_rules, get_or-padded, ap (λ xs. get_or xs k 0) whole);
+        decimal = λ k q. all k 0 (omega arith);
+        unused = grind (arith, nibble_rules, get_or-padded, get_or_past, ap (λ xs. get_or xs len 0) whole);
+      },
+      grind (arith, nibble_rules),
+    )
+
+-- all bytes of a number begin with the digits in its first bytes
+pub leading_digits : (number len : ℕ) → IsPacked (leading_bytes number len) len
+    → (len ≤ 16) × (digits_in (to_be_bytes w64 number) len ≡ digits_in (leading_bytes number len) len)
+unfolding leading_bytes
+leading_digits number len p = grind (arith, ints, clamps, nat_tests, common_steps, front_digits)
 
 -- the number of the nibbles in base 16 is that of the bytes in base 256
 pub bytes_number : (n : ℕ) (bs : List ℕ)

@@ -4,22 +4,22 @@ use Rattle.std.proofs.lemmas.Bool.{cases_lt}
 use Rattle.std.specs.Prelude.{All}
 use Rattle.std.specs.Char.{digit_value}
 use Rattle.std.specs.Str.Parse.{AllDigits}
-use Rattle.std.specs.Int.{w64, w128, to_be_bytes, from_be_bytes, bytes_high_first, byte_at}
+use Rattle.std.specs.Int.{w64, to_be_bytes, from_be_bytes, bytes_high_first, byte_at}
 use Rattle.std.specs.Int.Digits.{number_from_digits, AllBelowBase}
 use Rattle.std.proofs.Math.Nat.{mod-eq_of_lt, pow-le-pow_right}
-use Rattle.std.proofs.lemmas.Nat.{pow-add, mod-mul-add, be_bytes_8, from_be_bytes-to_be_bytes_8}
+use Rattle.std.proofs.lemmas.Nat.{pow-add, mod-mul-add, be_bytes_8, from_be_bytes-to_be_bytes_8, shr-shr}
 use Rattle.std.proofs.lemmas.Grind.{same_number_lists}
-use Rattle.std.proofs.lemmas.List.{length-append, length-drop, length-map, length-replicate, length-take, length-take-le, append-nil, get_or_default, get_or_past, get_or-drop, get_or-replicate, get_or-take, map_more, take-append-drop}
+use Rattle.std.proofs.lemmas.List.{length-append, length-drop, length-map, length-replicate, length-take, length-take-le, append-nil, append_assoc, get_or_default, get_or_past, get_or-drop, get_or-replicate, get_or-take, map_more, take-append-drop}
 use Rattle.std.proofs.lemmas.List.Elements.{All-append, All-from_recursion, All-get_or, All-replicate}
 use Rattle.std.proofs.lemmas.Int.Digits.{number_lt, number_after_append, number_more, number_push}
-use Rattle.std.proofs.Math.Seq.{drop-append_seam, take-append_seam}
-use Rattle.decimal_digits.specs.Nibbles.{nibbles, word_nibbles, wide_nibbles, digits_in, padded, bcd_number, IsPaddedBcd}
+use Rattle.std.proofs.Math.Seq.{drop-append_seam}
+use Rattle.decimal_digits.specs.Nibbles.{nibbles, word_nibbles, digits_in, leading_bytes, padded, bcd_number, IsPacked}
 use Rattle.decimal_digits.specs.Packing.{Encodes, EncodesPadded, IsPadded, length-nibbles, length_digits}
 use Rattle.decimal_digits.proofs.DigitLists.{below_drop, below_take, number_after, number_pad, number_split, number-div}
-use Rattle.decimal_digits.proofs.LeadingBytes.{below_sixteen, hex_pow, bytes_number, nibbles_of_bytes, length-padded, get_or-padded, sixteen_nibbles}
+use Rattle.decimal_digits.proofs.LeadingBytes.{below_sixteen, hex_pow, leading_digits, bytes_number, nibbles_of_bytes, length-padded, get_or-padded, sixteen_nibbles}
 use Rattle.decimal_digits.proofs.Nibbles.{nibble_rules, value_of}
 use Rattle.decimal_digits.proofs.DigitTexts.{ascii_at}
-use Rattle.decimal_digits.proofs.Packing.{digit_at, encodes, encodes_many, pads, rest_at}
+use Rattle.decimal_digits.proofs.Packing.{digit_at, encodes, pads, rest_at}
 
 eight_bytes : (bs : List ℕ) → length bs ≡ 8 → from_be_bytes w64 bs ≡ number_from_digits 256 bs
 eight_bytes (a ∷ (b ∷ (c ∷ (d ∷ (e ∷ (f ∷ (g ∷ (h ∷ [])))))))) l = omega arith
@@ -106,6 +106,19 @@ zeros_below (suc k) = (omega arith, zeros_below k)
 append_below : (xs ys : List ℕ) → AllBelowBase 16 xs → AllBelowBase 16 ys → AllBelowBase 16 (xs ++ ys)
 append_below [] ys h g = g
 append_below (x ∷ xs) ys h g = (h.0, append_below xs ys h.1 g)
+
+-- the nibbles after up to sixteen digits are 0
+pub zeros_of_digits : (ds : List ℕ) (len n : ℕ) → length ds ≡ len → len ≤ 16 → AllBelowBase 10 ds
+    → n ≡ number_from_digits 16 ds * 16 ^ (16 - len)
+    → drop len (word_nibbles n) ≡ replicate (16 - len) 0
+zeros_of_digits ds len n l few h e =
+    let zeros = replicate (16 - len) 0 in
+    let size : length (ds ++ zeros) ≡ 16 =
+    omega (arith, length-append ds zeros, length-replicate {A = ℕ} (16 - len) 0) in
+    let all =
+    word_of_nibbles (ds ++ zeros) n size (append_below ds zeros (below_sixteen ds h) (zeros_below (16 - len)))
+    (e ∙ sym (number_pad 16 (16 - len) ds)) in
+    rw all (ap (λ k. drop k (ds ++ zeros)) (sym l) ∙ drop-append_seam ds zeros)
 
 -- ---- shifts
 -- sixteen nibbles write a number of 64 bits
@@ -437,78 +450,16 @@ join_text bytes len w v n text p few all e f g =
     rw (none, append-nil, size) at
     (join_pads bytes len len w v n es p (omega arith) (omega arith) digits e (text_at text v all f) g)
 
--- ---- the nibbles of a 128-bit number
-length-wide_nibbles : (n : ℕ) → length (wide_nibbles n) ≡ 32
-unfolding wide_nibbles
-length-wide_nibbles n = omega (arith, length-nibbles (to_be_bytes w128 n))
-
--- up to 32 digits, as the highest nibbles of a number
-pub padded_bcd : (ds : List ℕ) (len n : ℕ) → length ds ≡ len → len ≤ 32 → AllBelowBase 10 ds
-    → n ≡ number_from_digits 16 ds * 16 ^ (32 - len) → IsPaddedBcd n len × (take len (wide_nibbles n) ≡ ds)
-unfolding wide_nibbles
-padded_bcd ds len n l few h e =
-    let zeros = replicate (32 - len) 0 in
-    let size : length (ds ++ zeros) ≡ 32 =
-    omega (arith, length-append ds zeros, length-replicate {A = ℕ} (32 - len) 0) in
-    let all : wide_nibbles n ≡ ds ++ zeros =
-    rw (e ∙ sym (number_pad 16 (32 - len) ds))
-    (nibbles_of_bytes 16 0 (ds ++ zeros) size (append_below ds zeros (below_sixteen ds h) (zeros_below (32 - len)))) in
-    let front : take len (wide_nibbles n) ≡ ds =
-    ap (take len) all ∙ ap (λ k. take k (ds ++ zeros)) (sym l) ∙ take-append_seam ds zeros in (
-      record {
-        fits = few;
-        decimal = rw front (All-from_recursion (λ d. d < 10) ds h);
-        zeros = ap (drop len) all ∙ ap (λ k. drop k (ds ++ zeros)) (sym l) ∙ drop-append_seam ds zeros;
-      },
-      front,
-    )
-
-module _ (number len : ℕ) (p : IsPaddedBcd number len) where
-  ns : List ℕ
-  ns = wide_nibbles number
-
-  ds : List ℕ
-  ds = take len (wide_nibbles number)
-
-  size : length ds ≡ len
-  unfolding ds
-  size = length-take-le len (wide_nibbles number) (omega (arith, p.fits, length-wide_nibbles number))
-
-  decimal : (k : ℕ) → k < len → get_or ds k 0 < 10
-  unfolding ds
-  decimal k h = p.decimal k 0 (omega (arith, size))
-
-  -- the nibbles are the digits, and zeros after them
-  at : (k : ℕ) → get_or ns k 0 ≡ get_or ds k 0
-  unfolding ns ds
-  at k =
-      ap (λ l. get_or l k 0) (sym (take-append-drop len (wide_nibbles number)) ∙ ap (λ l. ds ++ l) p.zeros)
-      ∙ padded_at ds (32 - len) k
-
-  -- the first eight bytes have up to sixteen digits
-  pub word_stores : (w : ℕ) → len ≤ 16 → word_nibbles w ≡ take 16 (wide_nibbles number)
-      → EncodesPadded (to_be_bytes w64 w) len (take len (wide_nibbles number))
-  unfolding ns ds
-  word_stores w few e =
-      word_pads w len ds size few decimal (λ k h. ap (λ l. get_or l k 0) e ∙ get_or-take 16 ns k 0 h ∙ at k)
-
-  -- the first bytes have the digits
-  pub bytes_store : (bytes : List ℕ) → 16 < len → bytes ≡ take ((len + 1) / 2) (to_be_bytes w128 number)
-      → EncodesPadded bytes len (take len (wide_nibbles number))
-  unfolding wide_nibbles ns ds
-  bytes_store bytes many e =
-      let front : nibbles bytes ≡ take (2 * ((len + 1) / 2)) ns =
-      ap nibbles e ∙ nibbles_take ((len + 1) / 2) (to_be_bytes w128 number) in
-      let same : (k : ℕ) → k < 2 * ((len + 1) / 2) → get_or (nibbles bytes) k 0 ≡ get_or ds k 0 = λ k h.
-      ap (λ l. get_or l k 0) front ∙ get_or-take (2 * ((len + 1) / 2)) ns k 0 h ∙ at k in
-      let count : length bytes ≡ (len + 1) / 2 =
-      ap length e ∙ length-take-le ((len + 1) / 2) (to_be_bytes w128 number) (omega (arith, p.fits)) in
-      encodes_many bytes ds len (omega arith) (encodes bytes ds len (
-        record {
-          many = size;
-          same = λ k h. same k (omega arith);
-          decimal = decimal;
-          unused = λ h. same len (omega arith) ∙ get_or_past ds len 0 (omega (arith, size));
-        },
-        omega (arith, count),
-      ))
+-- the bytes of a word whose nibbles after the digits are 0
+pub leading_pads : (n len : ℕ) → IsPacked (leading_bytes n len) len → drop len (word_nibbles n) ≡ replicate (16 - len) 0
+    → EncodesPadded (to_be_bytes w64 n) len (digits_in (leading_bytes n len) len)
+unfolding word_nibbles
+leading_pads n len p zeros =
+    let (few, same) = leading_digits n len p in
+    let ds = digits_in (leading_bytes n len) len in
+    let ns = word_nibbles n in
+    let size : length ds ≡ len = ap length (sym same) ∙ length-take-le len ns (omega (arith, length-word_nibbles n)) in
+    let all : ns ≡ take len ns ++ replicate (16 - len) 0 =
+    sym (take-append-drop len ns) ∙ ap (λ l. take len ns ++ l) zeros in
+    word_pads n len ds size few (λ k h. p.decimal k 0 (omega arith)) (λ k h.
+    ap (λ l. get_or l k 0) all ∙ padded_at (take len ns) (16 - len) k ∙ ap (λ l. get_or l k 0) same)

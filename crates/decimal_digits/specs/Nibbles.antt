@@ -1,5 +1,5 @@
 -- Packed BCD: two digits to a byte, the first of them in the high nibble.
-use Rattle.std.specs.Prelude.{◌≡◌, ℕ, ◌+◌, ◌-◌, ◌*◌, ◌/◌, ◌%◌, ◌<◌, ◌≤◌, List, [], ◌∷◌, ◌++◌, length, take, drop, replicate, slice_index, All}
+use Rattle.std.specs.Prelude.{◌≡◌, ℕ, ◌+◌, ◌*◌, ◌/◌, ◌%◌, ◌<◌, List, [], ◌∷◌, ◌++◌, length, take, replicate, slice_index, All}
 use Rattle.std.specs.Int.{w64, w128, to_be_bytes}
 use Rattle.std.specs.Int.Digits.{number_from_digits}
 
@@ -18,19 +18,17 @@ pub record IsPacked (bytes : List ℕ) (len : ℕ) : Type 0 where
   pub decimal : All (λ d. d < 10) (digits_in bytes len)
   pub unused : len % 2 ≡ 1 → slice_index (nibbles bytes) len ≡ 0
 
+-- the big-endian bytes of a 64-bit number, cut to the (len + 1) / 2 bytes that hold the first `len` nibbles
+unfoldable pub leading_bytes : ℕ → ℕ → List ℕ
+leading_bytes number len = take ((len + 1) / 2) (to_be_bytes w64 number)
+
+-- the same of a 128-bit number
+unfoldable pub wide_leading_bytes : ℕ → ℕ → List ℕ
+wide_leading_bytes number len = take ((len + 1) / 2) (to_be_bytes w128 number)
+
 -- the sixteen nibbles of a 64-bit number
 unfoldable pub word_nibbles : ℕ → List ℕ
 word_nibbles number = nibbles (to_be_bytes w64 number)
-
--- the 32 nibbles of a 128-bit number
-unfoldable pub wide_nibbles : ℕ → List ℕ
-wide_nibbles number = nibbles (to_be_bytes w128 number)
-
--- the first `len` nibbles of a 128-bit number are digits 0 to 9, and the others are 0
-pub record IsPaddedBcd (number len : ℕ) : Type 0 where
-  pub fits : len ≤ 32
-  pub decimal : All (λ d. d < 10) (take len (wide_nibbles number))
-  pub zeros : drop len (wide_nibbles number) ≡ replicate (32 - len) 0
 
 -- the first k digits, with zeros after fewer: 2, 5 and 0 of 2 and 5 for k = 3
 unfoldable pub padded : ℕ → List ℕ → List ℕ

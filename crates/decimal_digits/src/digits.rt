@@ -3,7 +3,7 @@ ghost use Rattle.std.specs.Prelude.{◌≡◌, ℕ, ◌+◌, ◌-◌, ◌%◌, �
 ghost use Rattle.std.specs.Char.{digit_value};
 ghost use Rattle.std.specs.Str.Parse.{AllDigits};
 ghost use Rattle.decimal_digits.specs.Digits.{text_of};
-ghost use Rattle.decimal_digits.specs.Nibbles.{digits_in, wide_nibbles, bcd_number, IsPacked, IsPaddedBcd};
+ghost use Rattle.decimal_digits.specs.Nibbles.{digits_in, leading_bytes, wide_leading_bytes, word_nibbles, bcd_number, IsPacked};
 
 mod counted;
 mod list;
@@ -50,16 +50,39 @@ pub trait DigitStore: Drop {
         ensures ok { IfOk result (λ s. digits s ≡ list.now) }
         ensures succeeds { length list.now ≤ L → IsOk result };
 
-    /// Makes a list of the first `len` nibbles of a packed BCD number of 32 nibbles, of which the others are 0.
+    /// Makes a list of the first `len` nibbles of a packed BCD number of sixteen nibbles, of which the others are 0.
     ///
-    /// Of `0x25 << 120` the first two are 2 and 5. Requires at most 32 digits 0 to 9.
+    /// Of `0x2500_0000_0000_0000` the first two are 2 and 5. Requires at most sixteen digits 0 to 9.
     ///
     /// # Errors
     ///
     /// As for [`DigitStore::from_digits`].
-    fn from_padded_bcd(alloc: Global, number: u128, len: usize) -> Result<Self, AllocError>
-        requires { IsPaddedBcd number len }
-        ensures ok { IfOk result (λ s. digits s ≡ take len (wide_nibbles number)) }
+    fn from_padded_bcd(alloc: Global, number: u64, len: usize) -> Result<Self, AllocError>
+        requires packed { IsPacked (leading_bytes number len) len }
+        requires padded { drop len (word_nibbles number) ≡ replicate (16 - len) 0 }
+        ensures ok { IfOk result (λ s. digits s ≡ digits_in (leading_bytes number len) len) }
+        ensures succeeds { len ≤ L → IsOk result }
+    {
+        let bytes = number.to_be_bytes();
+        let mut list = Self::empty(alloc);
+        list.reserve(len)?;
+        for index in 0..len {
+            list.push_in_room(nibble_at(&bytes, index));
+        }
+        Ok(list)
+    }
+
+    /// Makes a list of the first `len` nibbles of a packed BCD number of 32 nibbles.
+    ///
+    /// Requires 17 to 32 digits 0 to 9, followed by a nibble 0 if `len` is odd.
+    ///
+    /// # Errors
+    ///
+    /// As for [`DigitStore::from_digits`].
+    fn from_wide_bcd(alloc: Global, number: u128, len: usize) -> Result<Self, AllocError>
+        requires many { 16 < len }
+        requires packed { IsPacked (wide_leading_bytes number len) len }
+        ensures ok { IfOk result (λ s. digits s ≡ digits_in (wide_leading_bytes number len) len) }
         ensures succeeds { len ≤ L → IsOk result }
     {
         let bytes = number.to_be_bytes();

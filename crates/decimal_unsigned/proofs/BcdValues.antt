@@ -1,31 +1,35 @@
 -- Plain texts: their digits as a number in base 16, and the value of their parts.
-use Rattle.decimal_unsigned.proofs.Common.{clamps, nat_tests, common_steps, ◌≡◌, ℕ, zero, suc, ◌+◌, ◌-◌, ◌*◌, ◌/◌, ◌%◌, ◌^◌, ◌<◌, ◌≤◌, inl, inr, true, List, [], ◌∷◌, ◌++◌, length, get_or, take, drop, take_all, map, refl, sym, ◌∙◌, ap, subst, arith, Some, None, option_map, Ok, pos, ◌-ℤ◌, mul-lt-mul_of_pos_right, pow-le-pow_right, cases_lt, ints, pow-add, append-nil, take-append-drop, length-append, length-drop, length-take-le, length-map, number_lt, digits_value_is, is_ascii_digit, prefix_len, digit_value, number_from_digits, AllBelowBase, AllDigits, digits_value, Literal, middle, IsNonzeroRange, pow-suc, mod-eq_of_lt, digits_value_after, below_sixteen}
+use Rattle.decimal_unsigned.proofs.Common.{clamps, nat_tests, common_steps, ◌≡◌, ℕ, zero, suc, ◌+◌, ◌-◌, ◌*◌, ◌/◌, ◌%◌, ◌^◌, ◌<◌, ◌≤◌, inl, inr, true, List, [], ◌∷◌, ◌++◌, length, get_or, take, drop, take_all, map, refl, sym, ◌∙◌, ap, subst, arith, Some, None, option_map, Result, Ok, pos, ◌-ℤ◌, mul-lt-mul_of_pos_right, pow-le-pow_right, cases_lt, ints, pow-add, append-nil, take-append-drop, length-append, length-drop, length-take, length-take-le, length-map, number_lt, digits_value_is, is_ascii_digit, prefix_len, digit_value, number_from_digits, AllBelowBase, AllDigits, digits_value, Literal, middle, IsNonzeroRange, pow-suc, mod-eq_of_lt, digits_value_after, below_sixteen}
 use mir.Val.{bits}
-use Rattle.std.specs.Int.{Width, w128, bit_at, leading_zeros, trailing_zeros}
-use Rattle.std.proofs.Math.Nat.{one-le-pow, div-eq_of_lt-le, zero-div}
+use Rattle.std.specs.Int.{Width, w64, bit_at, leading_zeros, trailing_zeros}
+use Rattle.std.proofs.Math.Nat.{one-le-pow, div-div-eq-div-mul, div-eq_of_lt-le, zero-div}
 use Rattle.std.proofs.Math.ListN.{get_or-eq_default}
 use Rattle.std.proofs.lemmas.Nat.{mod-mul-add, leading_top, leading_le}
 use Rattle.std.proofs.lemmas.Nat.Bits.{bit_at_above, bit_at-trailing_zeros}
 use Rattle.std.proofs.lemmas.List.{drop-drop, drop_all, at_drop_more}
 use Rattle.std.proofs.lemmas.List.Sums.{prefix_len-le-length, prefix_len-drop_no}
 use Rattle.std.proofs.lemmas.Int.Digits.{number_more as number_more_digits, all_below_base_from_digits}
-use Rattle.decimal_digits.specs.Nibbles.{wide_nibbles, IsPaddedBcd}
+use Rattle.decimal_digits.specs.Nibbles.{digits_in, leading_bytes, word_nibbles}
 use Rattle.decimal_digits.proofs.TrailingNibbles.{clear_nibble, some_nibble}
-use Rattle.decimal_digits.proofs.Words.{padded_bcd}
+use Rattle.decimal_digits.proofs.Words.{zeros_of_digits}
+use Rattle.decimal_unsigned.proofs.Common.{replicate}
 use Rattle.decimal_digits.specs.Ascii.{decimal_point}
+use Rattle.decimal_digits.specs.Packing.{Encodes, length-nibbles}
 use Rattle.decimal_digits.proofs.DigitLists.{below_at, number-div}
-use Rattle.decimal_digits.proofs.LeadingBytes.{hex_pow}
+use Rattle.decimal_digits.proofs.LeadingBytes.{hex_pow, leading_bytes_encode}
 use Rattle.decimal_unsigned.specs.Parts.{saturated_parts}
+use Rattle.std.specs.Prelude.{IsOkAnd}
 use Rattle.decimal_digits.specs.Number.{size}
 use Rattle.decimal_unsigned.specs.Unsigned.{Unsigned}
-use Rattle.decimal_unsigned.specs.Reading.{scaled, parts_of, after_whole, after_fraction, read}
+use Rattle.decimal_unsigned.specs.Reading.{ReadError, scaled, parts_of, after_whole, after_fraction, read}
 use Rattle.decimal_digits.specs.Digits.{number_at}
 use Rattle.decimal_unsigned.specs.DigitValues.{IsBcd, value_of_first}
 use Rattle.decimal_unsigned.proofs.Common.{ℤ, IsStored, number_of, offset_is, int_min}
 use Rattle.decimal_unsigned.proofs.Values.{size-number_of, number_of_empty, stored_as}
 use Rattle.decimal_unsigned.specs.PlainTexts.{IsPlainText, IsPrefix, plain_parts}
-use Rattle.decimal_unsigned.specs.ScannedDigits.{digits_of}
+use Rattle.decimal_unsigned.specs.ScannedDigits.{digits_of, IsBcdValue}
 use Rattle.decimal_unsigned.specs.declared.decimal.parse.fast_path.PlainText.{PlainText}
+use Rattle.decimal_unsigned.specs.declared.decimal.parse.plan.Bounds.{Bounds}
 use Rattle.decimal_unsigned.proofs.Middle.{number_zeros, middle_length, middle_below, number_middle, number_of-middle, stored_middle}
 use Rattle.decimal_unsigned.proofs.Exponents.{read_some, digits_some}
 use Rattle.decimal_unsigned.proofs.Numerals.{value_of_digit, prefix_len-run, digits_left, digits_right}
@@ -299,9 +303,20 @@ plain_prefix_point text number n p some few =
       number = (rw last at p.number) ∙ mod-eq_of_lt (digits_fit (take whole text ++ drop (whole + 1) text) digits size);
     }
 
+-- a value of more digits than fit in place allocates
+pub wide_allocates : (reading : Result Unsigned ReadError) (bytes : List ℕ) (len most : ℕ) (b : Bounds)
+    → IsBcdValue reading bytes len b → ¬ (len ≤ most) → IsOkAnd reading (λ v. most < size v.number)
+wide_allocates reading bytes len most b h more =
+    let count : length (digits_in bytes len) ≡ len =
+    simp (length-take, length-nibbles) (omega (arith, h.packed.count)) in
+    rw h.value (omega (arith, more, size-number_of h.stored, count))
+
 -- ---- The value of digits.
-module _ (whole fraction number : ℕ) (ds : List ℕ) (bcd : IsBcd number (whole + fraction) ds)
-    (few : whole + fraction ≤ 32) where
+pub ok_is : {a b : Unsigned} → (let r : Result Unsigned ReadError = Ok a in r) ≡ Ok b → a ≡ b
+ok_is h = cc
+
+module _ (whole fraction number : ℕ) (ds : List ℕ) (bcd : IsBcd number (whole + fraction) ds) (few : whole ≤ 32768)
+    (short : fraction ≤ 32768) where
   -- the value by the number of the digits
   value_is : value_of_first whole ds
       ≡ record {
@@ -326,72 +341,92 @@ module _ (whole fraction number : ℕ) (ds : List ℕ) (bcd : IsBcd number (whol
       → record { number = number_of [] m; hi = hi; lo = lo } ≡ value_of_first whole ds
   zero_is m hi lo z b e = grind (arith, number_zeros, zero_digits, number_of_empty, value_is)
 
-  -- any other number
-  module _ (fits : number < 2 ^ 128) (some : 0 < number) where
-    abbrev zeros : ℕ
-    zeros = leading_zeros w128 number / 4
+  -- any other number, of k nibbles
+  module _ (width : Width) (k : ℕ) (size : bits width ≡ 4 * k) (fits : number < 2 ^ bits width) (some : 0 < number)
+    where
+      found : (k - leading_zeros width number / 4 ≤ length ds)
+          × IsNonzeroRange ds (length ds - (k - leading_zeros width number / 4))
+          (length ds - trailing_zeros width number / 4)
+      found = inner_number width k size ds number bcd.digits fits bcd.number some
 
-    abbrev places : ℕ
-    places = 32 - zeros
+      -- the zero nibbles bound the nonzero digits, which are no more than the digits
+      pub bcd_sizes : (trailing_zeros width number / 4 < k - leading_zeros width number / 4)
+          × (k - leading_zeros width number / 4 ≤ whole + fraction)
+      bcd_sizes =
+          (omega (arith, found.0, found.1.ordered, found.1.within), omega (arith, found.0, bcd.count))
 
-    abbrev len : ℕ
-    len = places - trailing_zeros w128 number / 4
+      -- what holds of the nonzero digits, at the top of the shifted number
+      pub bcd_inner : (F : List ℕ → Type 0) (zeros len : ℕ) → zeros ≡ leading_zeros width number / 4
+          → len ≡ (k - zeros) - trailing_zeros width number / 4
+          → ((es : List ℕ) → length es ≡ len → len ≤ k → AllBelowBase 10 es
+          → number * 2 ^ (4 * zeros) % 2 ^ (4 * k) ≡ number_from_digits 16 es * 16 ^ (k - len) → F es)
+          → F (middle (length ds - (k - zeros)) (length ds - trailing_zeros width number / 4) ds)
+      bcd_inner F zeros len z l holds =
+          let start = length ds - (k - zeros) in
+          let end = length ds - trailing_zeros width number / 4 in
+          let inner = middle start end ds in
+          let places : k - zeros ≤ length ds = omega (arith, z, found.0) in
+          let n : IsNonzeroRange ds start end = rw z found.1 in
+          let most : zeros ≤ k = omega (arith, z, size, leading_le (bits width) number) in
+          let moved =
+          middle_number ds k number zeros start end bcd.digits bcd.number n (omega (arith, places, most))
+          (omega (arith, places, most)) in
+          let long : end - start ≡ len = omega (arith, l, n.ordered, n.within, places) in
+          holds inner (middle_length ds start end n ∙ long) (omega (arith, l)) (middle_below ds start end n bcd.digits)
+          (moved ∙ ap (λ i. number_from_digits 16 inner * 16 ^ (k - i)) long)
 
-    abbrev shifted : ℕ
-    shifted = number * 2 ^ (4 * zeros) % 2 ^ 128
-
-    abbrev start : ℕ
-    start = length ds - places
-
-    abbrev end : ℕ
-    end = length ds - trailing_zeros w128 number / 4
-
-    found : (places ≤ length ds) × IsNonzeroRange ds start end
-    found = inner_number w128 32 refl ds number bcd.digits fits bcd.number some
-
-    -- the zero nibbles bound the nonzero digits, which are no more than the digits
-    pub bcd_sizes : (trailing_zeros w128 number / 4 < places) × (places ≤ whole + fraction)
-    bcd_sizes = (omega (arith, found.0, found.1.ordered, found.1.within), omega (arith, found.0, bcd.count))
-
-    inner_length : length (middle start end ds) ≡ len
-    inner_length = middle_length ds start end found.1 ∙ omega (arith, found.1.ordered, found.1.within, found.0)
-
-    -- the nonzero digits, at the top of the shifted number
-    pub shifted_bcd : IsPaddedBcd shifted len × (take len (wide_nibbles shifted) ≡ middle start end ds)
-    shifted_bcd =
-        let most : zeros ≤ 32 = omega (arith, leading_le (bits w128) number) in
-        let moved =
-        middle_number ds 32 number zeros start end bcd.digits bcd.number found.1 (omega (arith, found.0, most))
-        (omega (arith, found.0, most)) in
-        padded_bcd (middle start end ds) len shifted inner_length (omega arith) (middle_below ds start end found.1 bcd.digits)
-        (moved ∙ ap (λ i. number_from_digits 16 (middle start end ds) * 16 ^ (32 - i))
-        (sym (middle_length ds start end found.1) ∙ inner_length))
-
-    module _ (m hi lo : ℤ) (first : m ≡ pos places -ℤ pos (fraction + 1)) (hi_is : hi ≡ pos (whole - 1))
-        (lo_is : lo ≡ pos 0 -ℤ pos fraction) where
-      at : m ≡ (pos whole -ℤ pos 1) -ℤ pos start
-      at = omega (arith, ints, first, found.0, bcd.count)
-
-      pub bcd_stored : IsStored (take len (wide_nibbles shifted)) m hi lo
-      bcd_stored =
-          rw (shifted_bcd.1, hi_is, lo_is)
-          (stored_middle ds start end whole fraction m found.1 bcd.digits bcd.count (omega arith) (omega arith) at)
-
-      pub bcd_value : record { number = number_of (take len (wide_nibbles shifted)) m; hi = hi; lo = lo }
-          ≡ value_of_first whole ds
-      bcd_value =
+      pub bcd_value : (zeros len : ℕ) (bytes : List ℕ) (b : Bounds) → zeros ≡ leading_zeros width number / 4
+          → len ≡ (k - zeros) - trailing_zeros width number / 4
+          → b.magnitude ≡ pos (k - zeros) -ℤ pos (fraction + 1) → b.hi ≡ pos (whole - 1)
+          → b.lo ≡ pos 0 -ℤ pos fraction
+          → ((ds : List ℕ) → length ds ≡ len → len ≤ k → AllBelowBase 10 ds
+          → number * 2 ^ (4 * zeros) % 2 ^ (4 * k) ≡ number_from_digits 16 ds * 16 ^ (k - len) → Encodes bytes len ds)
+          → IsBcdValue (Ok (value_of_first whole ds)) bytes len b
+      bcd_value zeros len bytes b z l m hi lo encoded =
+          let start = length ds - (k - zeros) in
+          let end = length ds - trailing_zeros width number / 4 in
+          let places : k - zeros ≤ length ds = omega (arith, z, found.0) in
+          let n : IsNonzeroRange ds start end = rw z found.1 in
+          let at : b.magnitude ≡ (pos whole -ℤ pos 1) -ℤ pos start = omega (arith, ints, m, places, bcd.count) in
+          let stored = stored_middle ds start end whole fraction b.magnitude n bcd.digits bcd.count few short at in
           let units =
-          number_of-middle ds start end whole fraction m found.1 bcd.count (omega arith)
-          (omega (arith, ints, at, offset_is m, found.1.ordered, found.1.within, bcd.count)) in
-          (λ i. record { number = (ap (λ l. number_of l m) shifted_bcd.1 ∙ units) i; hi = hi_is i; lo = lo_is i })
-          ∙ sym value_is
+          number_of-middle ds start end whole fraction b.magnitude n bcd.count short
+          (omega (arith, ints, at, offset_is b.magnitude, n.ordered, n.within, bcd.count)) in
+          let packed = bcd_inner (Encodes bytes len) zeros len z l encoded in
+          record {
+            packed = packed.packed;
+            stored = rw (packed.digits, hi, lo) stored;
+            value = grind (arith, value_is);
+          }
 
-    -- the value has as many digits
-    pub bcd_size : size (value_of_first whole ds).number ≡ len
-    bcd_size =
-        ap (λ (v : Unsigned). size v.number) (sym (bcd_value _ _ _ refl refl refl))
-        ∙ size-number_of (bcd_stored _ _ _ refl refl refl)
-        ∙ ap length shifted_bcd.1 ∙ inner_length
+-- up to sixteen digits, in 64 bits
+module _ (whole fraction number : ℕ) (fits : number < 2 ^ 64) (some : 0 < number) (few : whole + fraction ≤ 16)
+    (ds : List ℕ) (bcd : IsBcd number (whole + fraction) ds) where
+  abbrev places : ℕ
+  places = 16 - leading_zeros w64 number / 4
+
+  abbrev len : ℕ
+  len = places - trailing_zeros w64 number / 4
+
+  pub short_sizes : (trailing_zeros w64 number / 4 < places) × (places ≤ whole + fraction)
+  short_sizes = bcd_sizes whole fraction number ds bcd (omega arith) (omega arith) w64 16 refl fits some
+
+  pub short_value : (b : Bounds) → b.magnitude ≡ pos places -ℤ pos (fraction + 1) → b.hi ≡ pos (whole - 1)
+      → b.lo ≡ pos 0 -ℤ pos fraction
+      → IsBcdValue (Ok (value_of_first whole ds))
+      (leading_bytes (number * 2 ^ (4 * (leading_zeros w64 number / 4)) % 2 ^ 64) len) len b
+  short_value b m hi lo =
+      bcd_value whole fraction number ds bcd (omega arith) (omega arith) w64 16 refl fits some _ _ _ b refl refl m hi lo
+      (λ ds l few below e. leading_bytes_encode ds _ _ l few below e)
+
+  -- the nibbles after them are 0
+  pub short_zeros : drop len (word_nibbles (number * 2 ^ (4 * (leading_zeros w64 number / 4)) % 2 ^ 64))
+      ≡ replicate (16 - len) 0
+  short_zeros =
+      bcd_inner whole fraction number ds bcd (omega arith) (omega arith) w64 16 refl fits some
+      (λ _. drop len (word_nibbles (number * 2 ^ (4 * (leading_zeros w64 number / 4)) % 2 ^ 64))
+      ≡ replicate (16 - len) 0)
+      _ _ refl refl (λ es l few below e. zeros_of_digits es _ _ l few below e)
 
 -- ---- The value of a plain text.
 module _ (text : List ℕ) (p : PlainText) (plain : IsPlainText text p) where
@@ -415,6 +450,12 @@ module _ (text : List ℕ) (p : PlainText) (plain : IsPlainText text p) where
   pub few_digits : p.whole + p.fraction ≤ 32
   few_digits = omega (arith, plain.few, plain.whole, plain.fraction, length-append w.whole w.fraction)
 
+  pub number_fits : p.number < 2 ^ 128
+  number_fits = rw plain.number (digits_fit (w.whole ++ w.fraction) digits plain.few)
+
+  pub number_fits_64 : p.whole + p.fraction ≤ 16 → p.number < 2 ^ 64
+  number_fits_64 few = grind (arith, ints, clamps, nat_tests, common_steps, plain_bcd, sixteen_fit)
+
   -- reading gives their value
   pub plain_read : read text ≡ Ok (value_of_first p.whole plain_digits)
   unfolding scaled
@@ -426,4 +467,5 @@ module _ (text : List ℕ) (p : PlainText) (plain : IsPlainText text p) where
         hi = pos (plain.whole i - 1);
         lo = pos 0 -ℤ pos (plain.fraction i);
       }))
-      ∙ ap Ok (sym (value_is p.whole p.fraction p.number plain_digits plain_bcd few_digits))
+      ∙ ap Ok (sym (value_is p.whole p.fraction p.number plain_digits plain_bcd (omega (arith, few_digits))
+      (omega (arith, few_digits))))

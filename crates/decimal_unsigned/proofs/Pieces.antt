@@ -1,8 +1,9 @@
 -- The bytes from an index on of the text of a value.
-use Rattle.decimal_unsigned.proofs.Common.{clamps, nat_tests, common_steps, ◌≡◌, ℕ, suc, ◌+◌, ◌-◌, ◌<◌, ◌≤◌, List, ◌∷◌, ◌++◌, length, take, drop, refl, sym, ◌∙◌, ap, arith, ℤ, pos, negsuc, ◌+ℤ◌, ◌-ℤ◌, ◌≤ℤ◌, int_gap, ints, length-append, length-drop, take_all, offset, offset_is, gap_is, Unsigned, IsValue, text}
+use Rattle.decimal_unsigned.proofs.Common.{clamps, nat_tests, common_steps, ◌≡◌, ℕ, suc, ◌+◌, ◌-◌, ◌<◌, ◌≤◌, List, [], ◌∷◌, ◌++◌, length, take, drop, refl, sym, ◌∙◌, ap, arith, ℤ, pos, negsuc, ◌+ℤ◌, ◌-ℤ◌, ◌≤ℤ◌, int_gap, ints, length-append, length-drop, take_all, offset, offset_is, gap_is, Unsigned, IsValue, text}
 use Rattle.std.proofs.Math.Seq.{take-append-add, drop-append-add}
 use Rattle.std.proofs.lemmas.List.{take-append-le, drop-append-le}
-use Rattle.decimal_unsigned.proofs.TextBytes.{bytes_down, length-bytes_down, bytes_down-part, fraction_text, text_is}
+use Rattle.decimal_unsigned.proofs.Lengths.{length-text}
+use Rattle.decimal_unsigned.proofs.TextBytes.{byte, bytes_down, length-bytes_down, bytes_down-part, fraction_text, text_is}
 
 module _ (v : Unsigned) (valid : IsValue v) (dot : ℕ) (dot_is : dot ≡ int_gap (pos 0) v.hi + 1) where
   abbrev whole : List ℕ
@@ -89,6 +90,15 @@ module _ (v : Unsigned) (valid : IsValue v) (dot : ℕ) (dot_is : dot ≡ int_ga
         drop-append-add,
         bytes_down-part,
       )
+
+  -- a text of one byte is the digit of magnitude 0
+  pub one_byte : length (text v) ≡ 1 → byte v.number (pos 0) ∷ [] ≡ text v
+  one_byte e =
+      let n = length-text v valid.hi_in.0 valid.lo_in.1 in
+      let top : pos 0 ≡ v.hi -ℤ pos 0 = omega (arith, ints, valid.hi_in, gap_is (pos 0) v.hi, n) in
+      ap (λ m. byte v.number m ∷ []) top
+      ∙ sym (piece_above 0 1 (omega (arith, dot_is)))
+      ∙ take_all 1 (text v) (omega (arith, e))
 
   -- ---- The magnitudes of a piece are within the limits.
   -- before the decimal point

@@ -1,15 +1,16 @@
 -- Private: used only in the contracts of private functions and in the model of `Scan`.
 -- Which digits of the parts are stored, and their magnitudes.
-use Rattle.std.specs.Prelude.{◌≡◌, ℕ, ◌-◌, ◌≤◌, ◌<◌, List, ◌++◌, length, take, drop, map, slice_index, Ok}
+use Rattle.std.specs.Prelude.{◌≡◌, ℕ, ◌-◌, ◌≤◌, ◌<◌, List, ◌++◌, length, take, drop, map, slice_index, Result, Ok}
 use Rattle.std.specs.Char.{digit_value}
 use Rattle.std.specs.Str.Parse.{AllDigits}
 use Rattle.decimal_digits.specs.Digits.{number_of}
+use Rattle.decimal_digits.specs.Nibbles.{digits_in, IsPacked}
 use Rattle.decimal_unsigned.specs.declared.decimal.parse.plan.Bounds.{Bounds}
 use Rattle.decimal_unsigned.specs.declared.decimal.parse.plan.Plan.{Plan}
 use Rattle.decimal_unsigned.specs.Stored.{IsStored}
 use Rattle.decimal_unsigned.specs.Unsigned.{Unsigned}
 use Rattle.decimal_unsigned.specs.Grammar.{Literal}
-use Rattle.decimal_unsigned.specs.Reading.{value_of}
+use Rattle.decimal_unsigned.specs.Reading.{ReadError, value_of}
 
 -- all the digits, the integer digits first
 abbrev pub digits_of : Literal → List ℕ
@@ -51,3 +52,11 @@ pub record IsPlan (w : Literal) (p : Plan) : Type 0 where
 pub record IsScanned (w : Literal) (p : Plan) : Type 0 where
   pub digits : AllDigits 10 (w.whole ++ w.fraction)
   pub plan : IsPlan w p
+
+-- ---- Packed digits.
+
+-- reading gives the value of the first `len` nibbles of the bytes
+pub record IsBcdValue (reading : Result Unsigned ReadError) (bytes : List ℕ) (len : ℕ) (b : Bounds) : Type 0 where
+  pub packed : IsPacked bytes len
+  pub stored : IsStored (digits_in bytes len) b.magnitude b.hi b.lo
+  pub value : reading ≡ Ok (value_within (digits_in bytes len) b)

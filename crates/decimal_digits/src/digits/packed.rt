@@ -21,7 +21,7 @@ use nibbles::byte_count;
 pub(super) use nibbles::nibble_at;
 use smallvec::SmallVec;
 use std::alloc::{AllocError, Global};
-use wide::store_bcd;
+use wide::copy_wide;
 
 /// A list of digits as packed BCD, two digits to a byte, of which up to sixteen need no allocation.
 ///
@@ -90,8 +90,15 @@ impl DigitStore for PackedDigits {
     }
 
     #[inline]
-    fn from_padded_bcd(alloc: Global, number: u128, len: usize) -> Result<Self, AllocError> {
-        let bytes = store_bcd(alloc, number, len)?;
+    fn from_padded_bcd(alloc: Global, number: u64, len: usize) -> Result<Self, AllocError> {
+        Ok(PackedDigits {
+            bytes: SmallVec::from_buf(alloc, number.to_be_bytes()),
+            len,
+        })
+    }
+
+    fn from_wide_bcd(alloc: Global, number: u128, len: usize) -> Result<Self, AllocError> {
+        let bytes = copy_wide(alloc, number, len)?;
         Ok(PackedDigits { bytes, len })
     }
 

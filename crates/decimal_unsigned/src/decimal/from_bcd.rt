@@ -33,28 +33,6 @@ impl<D: DigitStore> UnsignedOver<D> {
         ensures succeeds { (ds : List ℕ) → IsBcd number (whole + fraction) ds
             → size (value_of_first whole ds).number ≤ D.L → IsOk result }
     {
-        Self::from_wide_bcd_digits(alloc, whole, fraction, number as u128)
-    }
-
-    /// Makes the value of up to 32 digits, as [`Self::from_bcd_digits`].
-    ///
-    /// # Errors
-    ///
-    /// As for [`Self::from_bcd_digits`].
-    #[inline(always)]
-    pub(super) fn from_wide_bcd_digits(
-        alloc: Global,
-        whole: usize,
-        fraction: usize,
-        number: u128,
-    ) -> Result<Self, AllocError>
-        requires digits { (ds : List ℕ) × IsBcd number (whole + fraction) ds }
-        requires at_most { whole + fraction ≤ 32 }
-        ensures value { IfOk result
-            (λ v. (ds : List ℕ) → IsBcd number (whole + fraction) ds → v ≡ value_of_first whole ds) }
-        ensures succeeds { (ds : List ℕ) → IsBcd number (whole + fraction) ds
-            → size (value_of_first whole ds).number ≤ D.L → IsOk result }
-    {
         let hi = to_magnitude(subtract_counts(whole.max(1), 1));
         let lo = to_magnitude(subtract_counts(0, fraction));
         if number == 0 {
@@ -68,7 +46,7 @@ impl<D: DigitStore> UnsignedOver<D> {
         // A digit takes four bits. There are `size` digits without the leading zeros, and `len` also without the
         // trailing ones.
         let zeros = (number.leading_zeros() / 4) as usize;
-        let size = 32 - zeros;
+        let size = 16 - zeros;
         let len = size - (number.trailing_zeros() / 4) as usize;
         let digits = D::from_padded_bcd(alloc, number << (4 * zeros), len)?;
         let magnitude = to_magnitude(subtract_counts(size, fraction + 1));

@@ -17,7 +17,7 @@ mod words;
 use super::UnsignedOver;
 use crate::ParseError;
 use decimal_digits::digits::DigitStore;
-use fast_path::{few_digits, plain_text};
+use fast_path::{few_digits, wide_bcd_value};
 pub use parts::numeral;
 use parts::{Parts, split};
 use plan::{Plan, planned};
@@ -183,7 +183,8 @@ impl<D: DigitStore> UnsignedOver<D> {
         ensures { IfSome result (λ v. read text.now ≡ Ok v) }
     {
         let plain = few_digits(text, D::L.min(16))?;
-        Self::from_wide_bcd_digits(alloc, plain.whole, plain.fraction, plain.number).ok()
+        let number = plain.number as u64;
+        Self::from_bcd_digits(alloc, plain.whole, plain.fraction, number).ok()
     }
 
     #[inline(always)]
@@ -217,14 +218,15 @@ impl<D: DigitStore> UnsignedOver<D> {
     fn scan_any(alloc: Global, text: &[u8]) -> Result<Self, ParseError>
         ensures { IsParseResult (λ v. D.L < size v.number) result (read text.now) }
     {
-        if let Some(plain) = plain_text(text) {
-            let value = Self::from_wide_bcd_digits(
-                alloc,
-                plain.whole,
-                plain.fraction,
-                plain.number,
-            )?;
-            return Ok(value);
+        if let Some(bcd) = wide_bcd_value(text) {
+            let digits = D::from_wide_bcd(alloc, bcd.number, bcd.len)?;
+            let bounds = bcd.bounds;
+            return Ok(UnsignedOver {
+                digits,
+                magnitude: bounds.magnitude,
+                hi: bounds.hi,
+                lo: bounds.lo,
+            });
         }
         Ok(Scan::new(text)?.value(alloc)?)
     }

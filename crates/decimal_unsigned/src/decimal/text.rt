@@ -1,5 +1,5 @@
 //! The text of a value.
-ghost use Rattle.std.specs.Prelude.{◌≡◌, ◌↔◌, ◌+◌, ◌-◌, ◌-ℤ◌, ◌<◌, ◌≤◌, length, take, drop, replicate, slice_index, EachIndex, Ok, OnOk, OnErr, pos, IsTrue, true, false};
+ghost use Rattle.std.specs.Prelude.{◌≡◌, ◌↔◌, [], ◌∷◌, ◌+◌, ◌-◌, ◌-ℤ◌, ◌<◌, ◌≤◌, length, take, drop, replicate, slice_index, EachIndex, Ok, OnOk, OnErr, pos, IsTrue, true, false};
 ghost use Rattle.std.specs.Int.{int_gap};
 ghost use Rattle.std.specs.Io.KnownBytes.{Keeps, Appends};
 ghost use Rattle.decimal_digits.specs.Number.{offset, digit};
@@ -69,6 +69,14 @@ impl<D: DigitStore> UnsignedOver<D> {
     }
 
     #[inline]
+    fn only_byte(&self) -> u8
+        requires { length (text self.now) ≡ 1 }
+        ensures { result ∷ [] ≡ text self.now }
+    {
+        b'0' + self.digit_at(0)
+    }
+
+    #[inline]
     pub(super) fn is_short(&self) -> bool
         ensures short { IsTrue result ↔ (int_gap self.now.lo self.now.hi < 16) }
         ensures valid { IsValue self.now }
@@ -134,6 +142,10 @@ impl<D: DigitStore> Writeable for UnsignedOver<D> {
         ensures reads_back { read (text self.now) ≡ Ok self.now }
     {
         let length = self.writeable_length_hint();
+        if length == 1 {
+            // One digit takes less time than a vector.
+            return sink.put_byte(self.only_byte());
+        }
         if self.is_short() {
             return sink.put_bytes(&self.short_text()[..length]);
         }

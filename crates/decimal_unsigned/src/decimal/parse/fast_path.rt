@@ -3,9 +3,14 @@ ghost use Rattle.std.specs.Prelude.{◌≡◌, ℕ, ◌+◌, ◌%◌, ◌^◌, �
 ghost use Rattle.std.specs.Char.{is_ascii_digit};
 ghost use Rattle.std.specs.List.{prefix_len};
 ghost use Rattle.std.specs.Str.Parse.{digits_value_after};
+ghost use Rattle.decimal_digits.specs.Nibbles.{wide_leading_bytes};
 ghost use Rattle.decimal_unsigned.specs.PlainTexts.{IsGroup, IsPrefix, IsPlainText};
+ghost use Rattle.decimal_unsigned.specs.Reading.{read};
+ghost use Rattle.decimal_unsigned.specs.ScannedDigits.{IsBcdValue};
 
+use super::plan::{Bounds, to_bounds};
 use super::words::{Group, ZEROS, read_group};
+use decimal_digits::ops::subtract_counts;
 
 /// The length of 32 digits and a decimal point.
 const MAX_PLAIN_LEN: usize = 33;
@@ -25,6 +30,14 @@ pub struct PlainText {
 pub struct Prefix {
     pub number: u128,
     pub fraction: Option<usize>,
+}
+
+/// A value: the first `len` nibbles of a packed BCD number of 32 nibbles, and their magnitudes.
+#[derive(Clone, Copy, Debug)]
+pub struct WideBcdValue {
+    pub number: u128,
+    pub len: usize,
+    pub bounds: Bounds,
 }
 
 #[inline]
@@ -137,15 +150,12 @@ fn many_digits(text: &[u8]) -> Option<Prefix>
     Some(prefix)
 }
 
-/// Returns the digits of a text of 17 to 33 bytes, up to 32 digits with or without a decimal point, or None of any other
-/// text.
 #[inline]
-pub fn plain_text(text: &[u8]) -> Option<PlainText>
+fn plain_text(text: &[u8]) -> Option<PlainText>
+    requires enough { 8 ≤ length text.now }
+    requires at_most { length text.now ≤ 33 }
     ensures { IfSome result (IsPlainText text.now) }
 {
-    if text.len() <= 16 || text.len() > MAX_PLAIN_LEN {
-        return None;
-    }
     let Prefix { number, fraction } = many_digits(text)?;
     match fraction {
         None if text.len() <= 32 => Some(PlainText {
@@ -160,4 +170,36 @@ pub fn plain_text(text: &[u8]) -> Option<PlainText>
         }),
         _ => None,
     }
+}
+
+/// Makes the value of a text of 17 to 32 digits, with or without a decimal point, or returns None.
+///
+/// The digits are counted from the first to the last nonzero one.
+#[inline]
+pub fn wide_bcd_value(text: &[u8]) -> Option<WideBcdValue>
+    ensures many { IfSome result (λ b. 16 < b.len) }
+    ensures value { IfSome result
+        (λ b. IsBcdValue (read text.now) (wide_leading_bytes b.number b.len) b.len b.bounds) }
+{
+    if text.len() <= 16 || text.len() > MAX_PLAIN_LEN {
+        return None;
+    }
+    let plain = plain_text(text)?;
+    let (whole, fraction, number) = (plain.whole, plain.fraction, plain.number);
+    if number == 0 {
+        return None;
+    }
+    let zeros = (number.leading_zeros() / 4) as usize;
+    let size = 32 - zeros;
+    let len = size - (number.trailing_zeros() / 4) as usize;
+    if len <= 16 {
+        return None;
+    }
+    let hi = subtract_counts(whole.max(1), 1);
+    let lo = subtract_counts(0, fraction);
+    Some(WideBcdValue {
+        number: number << (4 * zeros),
+        len,
+        bounds: to_bounds(subtract_counts(size, fraction + 1), hi, lo),
+    })
 }

@@ -1,7 +1,7 @@
-use Rattle.decimal_unsigned.proofs.Common.{Result, Ok, Err, ◌∙◌, ap, sym}
+use Rattle.decimal_unsigned.proofs.Common.{rules, arith, Result, Ok, Err, ◌∙◌, ap, sym}
 use Rattle.std.specs.Prelude.{IfOk, IfSome}
 use Rattle.std.specs.Result.{result_ok}
-use Rattle.decimal_unsigned.proofs.BcdValues.{plain_bcd, plain_digits, plain_read}
+use Rattle.decimal_unsigned.proofs.BcdValues.{number_fits_64, plain_bcd, plain_digits, plain_read}
 use Rattle.decimal_unsigned.proofs.decimal.UnsignedOver.from_short_text.Goals as goal
 
 some_of_ok : {A E : Type 0} (r : Result A E) (P Q : A → Type 0) → IfOk r P → ((v : A) → P v → Q v)
@@ -9,8 +9,14 @@ some_of_ok : {A E : Type 0} (r : Result A E) (P Q : A → Type 0) → IfOk r P �
 some_of_ok (Ok v) P Q h f = f v h
 some_of_ok (Err e) P Q h f = tt
 
-pub from_wide_bcd_digits-requires-clause-digits : goal.from_wide_bcd_digits-requires-clause-digits
-from_wide_bcd_digits-requires-clause-digits g c = (
+pub overflow_cast-number : goal.overflow_cast-number
+overflow_cast-number g c =
+    let fits = number_fits_64 c.args.text.now c.in_ok-plain.plain c.in_ok-plain.ensures.plain
+    (omega (arith, c.in_ok-plain.ensures.few)) in
+    search (rules, fits)
+
+pub from_bcd_digits-requires-clause-digits : goal.from_bcd_digits-requires-clause-digits
+from_bcd_digits-requires-clause-digits g c = (
   plain_digits c.args.text.now c.in_ok-plain.plain c.in_ok-plain.ensures.plain,
   plain_bcd c.args.text.now c.in_ok-plain.plain c.in_ok-plain.ensures.plain,
 )
@@ -21,5 +27,5 @@ returns g c =
     let p = c.in_ok-plain.plain in
     let bcd = plain_bcd text p c.in_ok-plain.ensures.plain in
     rw c.ok.ensures.value
-    (some_of_ok c.from_wide_bcd_digits.result _ _ c.from_wide_bcd_digits.ensures.value
+    (some_of_ok c.from_bcd_digits.result _ _ c.from_bcd_digits.ensures.value
     (λ v h. plain_read text p c.in_ok-plain.ensures.plain ∙ ap Ok (sym (h _ bcd))))

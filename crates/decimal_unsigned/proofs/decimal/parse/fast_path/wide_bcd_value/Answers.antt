@@ -1,0 +1,27 @@
+use Rattle.decimal_unsigned.proofs.Common.{arith, refl, ints}
+use Rattle.std.specs.Int.{w128}
+use Rattle.decimal_digits.proofs.WideBytes.{wide_bytes_encode}
+use Rattle.decimal_unsigned.proofs.BcdValues.{few_digits, number_fits, plain_bcd, plain_read, bcd_sizes, bcd_value}
+use Rattle.decimal_unsigned.proofs.decimal.parse.fast_path.wide_bcd_value.Goals as goal
+
+pub overflow_sub-len : goal.overflow_sub-len
+overflow_sub-len c =
+    let text = c.args.text.now in
+    let p = c.in_ok-plain.plain in
+    let few = few_digits text p c.in_ok-plain.ensures in
+    let n =
+    bcd_sizes p.whole p.fraction p.number _ (plain_bcd text p c.in_ok-plain.ensures) (omega (arith, few))
+    (omega (arith, few)) w128 32 refl (number_fits text p c.in_ok-plain.ensures) (omega arith) in
+    omega (arith, n.0)
+
+pub returns-clause-value : goal.returns-clause-value
+returns-clause-value c =
+    let text = c.args.text.now in
+    let p = c.in_ok-plain.plain in
+    let few = few_digits text p c.in_ok-plain.ensures in
+    rw (plain_read text p c.in_ok-plain.ensures)
+    (bcd_value p.whole p.fraction p.number _ (plain_bcd text p c.in_ok-plain.ensures) (omega (arith, few))
+    (omega (arith, few)) w128 32 refl (number_fits text p c.in_ok-plain.ensures) (omega arith) _ _ _ _ refl refl
+    (omega (arith, ints, c.to_bounds.ensures.magnitude)) (omega (arith, ints, c.to_bounds.ensures.hi))
+    (omega (arith, ints, c.to_bounds.ensures.lo))
+    (λ ds l few below e. wide_bytes_encode ds _ _ l few below e))
