@@ -8,6 +8,7 @@ ghost use Rattle.decimal_unsigned.specs.Unsigned.{zero_value, IsValue};
 mod clone;
 mod compare;
 mod concatenate;
+mod digits;
 mod display;
 mod equality;
 mod from_bcd;
@@ -22,6 +23,7 @@ mod write_digits;
 
 use decimal_digits::digits::{DigitList, DigitStore, PackedDigits};
 use decimal_digits::ops::{magnitude_of, wrapping_index};
+pub use digits::Digits;
 pub use parse::{Scan, lowest_of, numeral};
 use std::alloc::Global;
 use std::default::MadeWith;
