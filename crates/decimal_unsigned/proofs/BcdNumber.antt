@@ -1,5 +1,5 @@
--- The number that the lanes of a word write, computed by joining neighboring ones: bytes to pairs, pairs to fours, and so
--- on. A lane of w bits holds a number below c.
+-- The number that packed BCD digits write, computed by joining neighboring lanes of a word: digits to pairs, pairs to
+-- fours, and so on. A lane of w bits holds a number below c.
 use Rattle.decimal_unsigned.proofs.Common.{◌≡◌, ℕ, zero, suc, ◌+◌, ◌-◌, ◌*◌, ◌/◌, ◌%◌, ◌^◌, ◌<◌, ◌≤◌, List, length, get_or, take, refl, sym, ◌∙◌, ap, arith, number_from_digits, AllBelowBase, take_all, clamps, nat_tests, ints, common_steps}
 use Rattle.std.specs.Prelude.{bit_and}
 use Rattle.std.proofs.Math.Nat.{zero-div, zero-mod}
@@ -78,6 +78,15 @@ module _ {w c : ℕ} (l : Lanes w c) where
       let two : suc k + suc k ≡ suc (suc (k + k)) = omega arith in
       rw (upper, lowest, two, value_joined k m) (omega arith)
 
+lanes : Lanes 4 10
+lanes = grind (arith, ints, clamps, nat_tests, common_steps)
+
+pair_lanes : Lanes 8 100
+pair_lanes = grind (arith, ints, clamps, nat_tests, common_steps)
+
+four_lanes : Lanes 16 10000
+four_lanes = grind (arith, ints, clamps, nat_tests, common_steps)
+
 -- ---- the digits of a list
 -- no digits write 0
 value_none : (b c k : ℕ) → value b c k 0 ≡ 0
@@ -105,8 +114,41 @@ value_front b c ds h (suc i) (suc k) l m =
       value_front b c ds h i k (omega arith) (omega arith),
     ) refl
 
--- ---- a step
+-- ---- the four steps
 module _ {w c : ℕ} (l : Lanes w c) (k n m : ℕ) (h : n < top w k) (is : m ≡ mask w k) where
   -- a step, with the mask as a numeral
   pub stepped : n - (2 ^ w - c) * bit_and (n / 2 ^ w) m ≡ joined w c k n
   stepped = omega (arith, kept l k n h, ap (λ x. (2 ^ w - c) * bit_and (n / 2 ^ w) x) is)
+
+module _ (n : ℕ) (h : n < 2 ^ 64) where
+  abbrev pub pairs : ℕ
+  pairs = n - 6 * bit_and (n / 2 ^ 4) 0x0f0f_0f0f_0f0f_0f0f
+
+  abbrev pub fours : ℕ
+  fours = pairs - 156 * bit_and (pairs / 2 ^ 8) 0x00ff_00ff_00ff_00ff
+
+  abbrev pub eights : ℕ
+  eights = fours - 55536 * bit_and (fours / 2 ^ 16) 0x0000_ffff_0000_ffff
+
+  abbrev pub all : ℕ
+  all = eights - 4194967296 * (eights / 2 ^ 32)
+
+  -- they leave the number that the sixteen nibbles write in base 10
+  result : all ≡ value 16 10 16 n
+  unfolding value mask top
+  result =
+      let a : pairs ≡ joined 4 10 8 n = stepped lanes 8 n 0x0f0f_0f0f_0f0f_0f0f h refl in
+      let b : fours ≡ joined 8 100 4 pairs = stepped pair_lanes 4 pairs 0x00ff_00ff_00ff_00ff (omega arith) refl in
+      let e : eights ≡ joined 16 10000 2 fours = stepped four_lanes 2 fours 0x0000_ffff_0000_ffff (omega arith) refl in
+      let last : all ≡ value (2 ^ 32) (10 ^ 8) 2 eights = omega arith in
+      last ∙ ap (value (2 ^ 32) (10 ^ 8) 2) e ∙ value_joined four_lanes 2 fours
+      ∙ ap (value (2 ^ 16) (10 ^ 4) 4) b ∙ value_joined pair_lanes 4 pairs
+      ∙ ap (value (2 ^ 8) (10 ^ 2) 8) a ∙ value_joined lanes 8 n
+
+  -- the number in base 10 of the digits that write n in base 16
+  pub joined_all : (ds : List ℕ) → AllBelowBase 16 ds → length ds ≤ 16 → n ≡ number_from_digits 16 ds
+      → all ≡ number_from_digits 10 ds
+  joined_all ds b few is =
+      let whole = take_all (length ds) ds (omega arith) in
+      result ∙ ap (value 16 10 16) (is ∙ ap (number_from_digits 16) (sym whole))
+      ∙ value_front 16 10 ds b (length ds) 16 (omega arith) few ∙ ap (number_from_digits 10) whole

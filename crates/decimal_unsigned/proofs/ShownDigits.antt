@@ -128,12 +128,6 @@ length-left ready word index rest ds =
     omega (arith, length-append (padded ready (word_nibbles word)) (padded rest (drop index ds)),
     length-padded ready (word_nibbles word), length-padded rest (drop index ds))
 
--- where no digit is ready, they are those of the list
-pub none_ready : (ready word rest : ℕ) (ds : List ℕ) → ready ≡ 0
-    → padded ready (word_nibbles word) ++ padded rest ds ≡ padded rest ds
-none_ready ready word rest ds none =
-    ap (λ xs. xs ++ padded rest ds) (nil_from_length _ (length-padded ready (word_nibbles word) ∙ none))
-
 -- where no digit is ready, the next one is the first of a word
 pub refilled : (ready old word count index rest : ℕ) (ds : List ℕ) → All (λ d. d < 10) ds → ready ≡ 0 → 0 < rest
     → word ≡ bcd_number (drop index ds) → word < 2 ^ 64 → count ≡ min rest 16
@@ -142,7 +136,9 @@ pub refilled : (ready old word count index rest : ℕ) (ds : List ℕ) → All (
     ++ padded (rest - count) (drop (index + 16) ds))
 refilled ready old word count index rest ds h none some is fits by =
     let ys = padded (rest - count) (drop (index + 16) ds) in
-    none_ready ready old rest (drop index ds) none
+    let empty : padded ready (word_nibbles old) ≡ [] =
+    nil_from_length _ (length-padded ready (word_nibbles old) ∙ none) in
+    ap (λ xs. xs ++ padded rest (drop index ds)) empty
     ∙ word_front ds index rest h
     ∙ (λ i. padded (sym by i) (word_nibbles (sym is i)) ++ padded (rest - sym by i) (drop (index + 16) ds))
     ∙ ap (λ xs. xs ++ ys) (word_next word count fits (omega (arith, some, by)))

@@ -1,14 +1,13 @@
 -- The integer that the digits of a value write.
-use Rattle.decimal_unsigned.proofs.Common.{[], ◌∷◌, ◌++◌, length-append, clamps, common_steps, zero, suc, ◌≡◌, ℕ, ◌+◌, ◌-◌, ◌*◌, ◌/◌, ◌%◌, ◌^◌, ◌<◌, ◌≤◌, List, length, get_or, take, drop, refl, sym, ◌∙◌, ap, arith, Ok, Err, ℤ, pos, ◌+ℤ◌, ◌<ℤ◌, nat_tests, mul-mod_left, pow-le-pow_right, ints, length-take-le, take_all, recursion_from_All, number_from_digits, AllBelowBase, offset, weight, leading, offset_is, ten_pos, below_take, no_more_zeros, IsStored, Unsigned, IsValue, Result, All, number_back, below_sixteen, leading_none}
+use Rattle.decimal_unsigned.proofs.Common.{clamps, common_steps, zero, suc, ◌≡◌, ℕ, ◌+◌, ◌-◌, ◌*◌, ◌/◌, ◌%◌, ◌^◌, ◌<◌, ◌≤◌, List, length, get_or, take, drop, refl, sym, ◌∙◌, ap, arith, Ok, Err, ℤ, pos, ◌+ℤ◌, ◌<ℤ◌, nat_tests, mul-mod_left, pow-le-pow_right, ints, length-take-le, take_all, recursion_from_All, number_from_digits, AllBelowBase, offset, weight, leading, offset_is, ten_pos, below_take, no_more_zeros, IsStored, Unsigned, IsValue, Result, All, number_back, below_sixteen, leading_none}
 use Rattle.std.proofs.Math.Nat.{mul-div_cancel}
 use Rattle.std.proofs.lemmas.Nat.{pow-add}
-use Rattle.std.proofs.Math.Seq.{get_or-append_seam}
-use Rattle.std.proofs.lemmas.List.{append_assoc, get_or-drop}
+use Rattle.std.proofs.lemmas.List.{get_or-drop}
 use Rattle.std.proofs.lemmas.Int.Digits.{number_more as number_more_digits}
-use Rattle.decimal_digits.specs.Nibbles.{padded}
+use Rattle.decimal_digits.specs.Nibbles.{bcd_number}
 use Rattle.decimal_digits.specs.Digits.{number_of, number_at}
 use Rattle.decimal_digits.proofs.DigitLists.{number-div}
-use Rattle.decimal_digits.proofs.LeadingBytes.{get_or-padded, length-padded}
+use Rattle.decimal_digits.proofs.LeadingBytes.{hex_pow, sixteen, sixteen_are, sixteen_digits, get_or-padded}
 use Rattle.decimal_digits.proofs.NumberAt.{number_at-more, number_at-lt, number_at-ge}
 use Rattle.decimal_digits.proofs.Leading.{leading_more}
 use Rattle.decimal_unsigned.specs.declared.error.IntegerError.TheVariants.{NotWhole, OutOfRange}
@@ -42,15 +41,35 @@ leading_next i ds = grind (arith, ints, clamps, nat_tests, common_steps, leading
 pub leading_lt : (i : ℕ) (ds : List ℕ) → All (λ d. d < 10) ds → leading i ds < 10 ^ i
 leading_lt i ds h = grind (arith, ints, clamps, nat_tests, common_steps, number_at-lt, below_take, recursion_from_All)
 
--- more digits do not write a lower number
-leading_le : (i j : ℕ) (ds : List ℕ) → leading i ds ≤ leading (i + j) ds
-leading_le i zero ds = let e : i + 0 ≡ i = omega arith in rw e (omega arith)
-leading_le i (suc j) ds =
-    let e : i + suc j ≡ i + j + 1 = omega arith in rw e (omega (arith, leading_next (i + j) ds, leading_le i j ds))
+-- the first i + j digits are the first i and the j after them
+pub leading_split : (i j : ℕ) (ds : List ℕ) → leading (i + j) ds ≡ leading i ds * 10 ^ j + leading j (drop i ds)
+leading_split i zero ds =
+    let e : i + 0 ≡ i = omega arith in
+    rw e (omega (arith, leading_none 0 (drop i ds) refl))
+leading_split i (suc j) ds =
+    let e : i + suc j ≡ i + j + 1 = omega arith in
+    let f : suc j ≡ j + 1 = omega arith in
+    rw (e, f)
+    (omega (
+      arith,
+      leading_next (i + j) ds,
+      leading_next j (drop i ds),
+      leading_split i j ds,
+      get_or-drop i ds j 0,
+      ap (λ p. leading i ds * p) (pow-add 10 j 1),
+    ))
 
--- at most `top` digits write a number below 10 ^ top
-pub few_digits : (i top : ℕ) (ds : List ℕ) → All (λ d. d < 10) ds → i ≤ top → leading i ds < 10 ^ top
+-- the first 39 digits are the first 38 and one more
+pub leading_39 : (ds : List ℕ) → leading 39 ds ≡ leading 38 ds * 10 + get_or ds 38 0
+leading_39 = leading_next 38
+
+-- and at most `top` digits write a number below 10 ^ top
+few_digits : (i top : ℕ) (ds : List ℕ) → All (λ d. d < 10) ds → i ≤ top → leading i ds < 10 ^ top
 few_digits i top ds h l = grind (arith, ints, clamps, nat_tests, common_steps, leading_lt, pow-le-pow_right)
+
+-- 37 digits fit 128 bits with one more
+pub leading_u128 : (i : ℕ) (ds : List ℕ) → All (λ d. d < 10) ds → i ≤ 37 → leading i ds < 10 ^ 37
+leading_u128 i = few_digits i 37
 
 module _ {ds : List ℕ} {m hi lo : ℤ} (t : IsStored ds m hi lo) where
   -- digits that end at magnitude 0 or above write an integer
@@ -106,40 +125,49 @@ module _ {ds : List ℕ} {m hi lo : ℤ} {v : Unsigned} (t : IsStored ds m hi lo
     many_digits_result top l p h =
         grind (arith, some_digits, number_at-ge, pow-le-pow_right, take_all, whole_result, in_range-above)
 
--- ---- the digits of an iterator, one by one
--- the first digits of a list, with zeros after fewer: those that were read, which write the number, and the others
-pub record IsRead (count number : ℕ) (ds read rest : List ℕ) : Type 0 where
-  pub all : read ++ rest ≡ padded count ds
-  pub writes : number ≡ leading (length read) ds
+-- ---- the first sixteen digits, from their packed BCD number
+module _ (ds : List ℕ) (h : All (λ d. d < 10) ds) where
+  abbrev all : List ℕ
+  all = sixteen ds h
 
-module _ {count number : ℕ} {ds read rest : List ℕ} (r : IsRead count number ds read rest) where
-  read_length : length read + length rest ≡ count
-  read_length = omega (arith, length-append read rest, ap length r.all, length-padded count ds)
+  all_hex : AllBelowBase 16 all
+  all_hex = below_sixteen all (sixteen_digits ds h)
 
-  -- all are read
-  pub read_all : rest ≡ [] → number ≡ leading count ds
-  read_all e =
-      let n : length read ≡ count = omega (arith, read_length, ap length e) in r.writes ∙ ap (λ k. leading k ds) n
+  -- a right shift keeps the first `count` nibbles
+  shifted_front : (count : ℕ) → count ≤ 16
+      → bcd_number ds / 2 ^ (4 * (16 - count)) ≡ number_from_digits 16 (take count all)
+  unfolding bcd_number
+  shifted_front count l =
+      grind (arith, ints, clamps, nat_tests, common_steps, sixteen_are, hex_pow, number-div, all_hex)
 
-  -- one more is read
-  pub read_next : (next d : ℕ) (others : List ℕ) → next ≡ number * 10 + d → rest ≡ d ∷ others
-      → IsRead count next ds (read ++ d ∷ []) others
-  read_next next d others is e =
-      let all : read ++ (d ∷ others) ≡ padded count ds = ap (λ xs. read ++ xs) (sym e) ∙ r.all in
-      let at : d ≡ get_or ds (length read) 0 =
-      sym (get_or-append_seam read d others 0) ∙ ap (λ xs. get_or xs (length read) 0) all
-      ∙ get_or-padded count ds (length read) (omega (arith, read_length, ap length e)) in
-      let more : length (read ++ d ∷ []) ≡ length read + 1 = length-append read (d ∷ []) in
-      record {
-        all = append_assoc read (d ∷ []) others ∙ all;
-        writes = is ∙ (λ i. r.writes i * 10 + at i) ∙ sym (leading_next (length read) ds) ∙ ap (λ k. leading k ds) (sym more);
-      }
+  -- the first of them write the number that the first digits write
+  front_leading : (i : ℕ) → i ≤ 16 → number_from_digits 10 (take i all) ≡ leading i ds
+  front_leading zero l = sym (leading_none 0 ds refl)
+  front_leading (suc i) l =
+      let k : suc i ≡ i + 1 = omega arith in
+      let before = front_leading i (omega arith) in
+      ap (λ j. number_from_digits 10 (take j all)) k
+      ∙ number_more_digits 10 all i (omega (arith, sixteen_are ds h))
+      ∙ (λ j. before j * 10 + get_or-padded 16 ds i (omega arith) j)
+      ∙ sym (leading_next i ds)
+      ∙ ap (λ j. leading j ds) (sym k)
 
-  -- which writes at most the number of them all
-  pub next_le : (d : ℕ) (others : List ℕ) → rest ≡ d ∷ others → number * 10 + d ≤ leading count ds
-  next_le d others e =
-      let n = length (read ++ d ∷ []) in
-      let at : n + length others ≡ count =
-      omega (arith, read_length, ap length e, length-append read (d ∷ [])) in
-      let le : leading n ds ≤ leading (n + length others) ds = leading_le n (length others) ds in
-      rw (read_next _ d others refl e).writes (rw at at le)
+  -- the shifted nibbles, as decimal digits, write the number of the first `count` digits
+  pub few_leading : (count m n : ℕ) → count ≤ 16 → m ≡ bcd_number ds / 2 ^ (4 * (16 - count))
+      → ((xs : List ℕ) → AllBelowBase 16 xs → length xs ≤ 16 → m ≡ number_from_digits 16 xs
+      → n ≡ number_from_digits 10 xs) → n ≡ leading count ds
+  few_leading count m n l e f =
+      grind (arith, below_take, all_hex, length-take-le, sixteen_are, shifted_front, front_leading)
+
+  -- seventeen to nineteen digits write the number of the first sixteen and of the others
+  pub more_leading : (count front unit rest : ℕ) → 16 ≤ count → count ≤ 19 → front ≡ leading 16 ds
+      → unit ≡ 10 ^ (count - 16) → rest ≡ leading (count - 16) (drop 16 ds)
+      → (front * unit + rest ≡ leading count ds) × (front * unit + rest < 10 ^ 19)
+  more_leading count front unit rest some few e u f =
+      let at : 16 + (count - 16) ≡ count = omega arith in
+      let split = rw at at (leading_split 16 (count - 16) ds) in
+      let same : front * unit + rest ≡ leading count ds = rw (e, u, f) (sym split) in
+      (same, rw same (few_digits count 19 ds h few))
+
+-- the lemmas for converting the leading digits to an integer
+pub ruleset to_u128 = (leading_next, leading_u128)

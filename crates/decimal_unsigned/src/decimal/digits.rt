@@ -1,7 +1,6 @@
 //! An iterator over the digits that a value shows.
-ghost use Rattle.std.specs.Prelude.{◌≡◌, ◌≤◌};
+ghost use Rattle.std.specs.Prelude.{◌≡◌};
 ghost use Rattle.std.specs.Iterator.{YieldsFirst, item_count};
-ghost use Rattle.decimal_digits.specs.Nibbles.{padded};
 ghost use Rattle.decimal_unsigned.specs.ShownDigits.{shown_digits};
 ghost use Rattle.decimal_unsigned.specs.Unsigned.{IsValue};
 
@@ -35,23 +34,6 @@ impl<'a, D: DigitStore> Model for Digits<'a, D> {
     ghost view = { λ s. padded s.ready (word_nibbles s.word) ++ padded s.rest (drop s.index (D.digits s.store.now)) };
 
     ghost invariant = { λ s. IsReading s.ready s.index s.rest };
-}
-
-impl<'a, D: DigitStore> Digits<'a, D> {
-    /// Returns the first `count` digits of a list, with zeros after fewer.
-    #[inline]
-    pub(super) fn leading(store: &'a D, count: usize) -> Self
-        requires { count ≤ 65536 }
-        ensures { result ≡ padded count (D.digits store.now) }
-    {
-        Digits {
-            word: 0,
-            ready: 0,
-            store,
-            index: 0,
-            rest: count,
-        }
-    }
 }
 
 impl<'a, D: DigitStore> Iterator for Digits<'a, D> {

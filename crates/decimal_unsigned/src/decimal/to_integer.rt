@@ -1,43 +1,95 @@
 //! Conversions of values to integers.
-ghost use Rattle.std.specs.Prelude.{◌≡◌, ◌^◌, ◌≤◌, ◌+ℤ◌, ◌<ℤ◌, pos, IfSome, IfNone};
+ghost use Rattle.std.specs.Prelude.{◌≡◌, ℕ, ◌+◌, ◌*◌, ◌^◌, ◌<◌, ◌≤◌, ◌+ℤ◌, ◌<ℤ◌, pos, List, length, slice_index, IfSome, IfNone};
+ghost use Rattle.std.specs.Int.Digits.{number_from_digits, AllBelowBase};
 ghost use Rattle.decimal_digits.specs.Remainders.{leading};
 ghost use Rattle.decimal_unsigned.specs.ToInteger.{in_range, as_integer};
 ghost use Rattle.decimal_unsigned.specs.Unsigned.{IsValue};
 
 use super::UnsignedOver;
-use super::digits::Digits;
 use crate::error::IntegerError;
 use decimal_digits::digits::DigitStore;
 
+/// Returns the digit at an index, or 0 after the last one.
+#[inline]
+fn digit_or_zero<D: DigitStore>(digits: &D, index: usize) -> u8
+    ensures value { result ≡ slice_index (D.digits digits.now) index }
+    ensures is_digit { result < 10 }
+{
+    if index < digits.len() {
+        digits.get(index)
+    } else {
+        0
+    }
+}
+
+/// Returns the number that digits write in base 10, if they write `number` in base 16: 25 of 0x25.
+#[inline]
+fn number_of_bcd(number: u64) -> u64
+    ensures { (ds : List ℕ) → AllBelowBase 16 ds → length ds ≤ 16 → number ≡ number_from_digits 16 ds
+        → result ≡ number_from_digits 10 ds }
+{
+    // Joins two digits in each byte, four in two bytes, eight in four bytes, and then all sixteen.
+    let pairs = number - (16 - 10) * (number >> 4 & 0x0f0f_0f0f_0f0f_0f0f);
+    let fours = pairs - (256 - 100) * (pairs >> 8 & 0x00ff_00ff_00ff_00ff);
+    let eights = fours - (65_536 - 10_000) * (fours >> 16 & 0x0000_ffff_0000_ffff);
+    eights - (4_294_967_296 - 100_000_000) * (eights >> 32)
+}
+
+/// Returns 10^exponent.
+#[inline]
+fn power_of_ten(exponent: usize) -> u64
+    requires { exponent ≤ 3 }
+    ensures { result ≡ 10 ^ exponent }
+{
+    match exponent {
+        0 => 1,
+        1 => 10,
+        2 => 100,
+        _ => 1000,
+    }
+}
+
 /// Returns the number of the first `count` digits, where zeros follow the list. 64 bits have room for 19 digits.
 #[inline]
+#[tactic(auto, unfolding(decimal_digits::specs::Digits::number_at))]
 fn leading_u64<D: DigitStore>(digits: &D, count: usize) -> u64
-    requires { count ≤ 19 }
+    requires some { 0 < count }
+    requires fits { count ≤ 19 }
+    ensures { result ≡ leading count (D.digits digits.now) }
+{
+    let front = digits.bcd_at(0);
+    if count <= 16 {
+        return number_of_bcd(front >> (4 * (16 - count)));
+    }
+    let rest = number_of_bcd(digits.bcd_at(16) >> (4 * (32 - count)));
+    number_of_bcd(front) * power_of_ten(count - 16) + rest
+}
+
+/// Returns the number of the first `count` digits, where zeros follow the list. 128 bits have room for 38 digits.
+#[tactic(auto, using(crate::proofs::WholeNumbers::to_u128), unfolding(decimal_digits::specs::Digits::number_at))]
+fn leading_u128<D: DigitStore>(digits: &D, count: usize) -> u128
+    requires { count ≤ 38 }
     ensures { result ≡ leading count (D.digits digits.now) }
 {
     let mut number = 0;
-    for digit in Digits::leading(digits, count) {
-        number = number * 10 + u64::from(digit);
+    for index in 0..count {
+        number = number * 10 + digit_or_zero(digits, index) as u128;
     }
     number
 }
 
-/// Returns the number of the first `count` digits, where zeros follow the list, if 128 bits have room for it.
-fn leading_u128<D: DigitStore>(digits: &D, count: usize) -> Result<u128, IntegerError>
-    requires { count ≤ 65536 }
-    ensures { result ≡ in_range (2 ^ 128) (leading count (D.digits digits.now)) }
+/// Returns the number of the first 39 digits, where zeros follow the list, if 128 bits have room for it.
+#[tactic(auto, using(crate::proofs::WholeNumbers::leading_39))]
+fn leading_39_digits<D: DigitStore>(digits: &D) -> Result<u128, IntegerError>
+    ensures { result ≡ in_range (2 ^ 128) (leading 39 (D.digits digits.now)) }
 {
-    let mut number: u128 = 0;
-    for digit in Digits::leading(digits, count) {
-        let Some(tens) = number.checked_mul(10) else {
-            return Err(IntegerError::OutOfRange);
-        };
-        let Some(next) = tens.checked_add(u128::from(digit)) else {
-            return Err(IntegerError::OutOfRange);
-        };
-        number = next;
+    let Some(front) = leading_u128(digits, 38).checked_mul(10) else {
+        return Err(IntegerError::OutOfRange);
+    };
+    match front.checked_add(digit_or_zero(digits, 38) as u128) {
+        Some(number) => Ok(number),
+        None => Err(IntegerError::OutOfRange),
     }
-    Ok(number)
 }
 
 /// Returns the number of integer digits of a number with `len` digits, of which the first is at `magnitude`.
@@ -97,9 +149,11 @@ impl<D: DigitStore> UnsignedOver<D> {
         let Some(count) = integer_digit_count(self.magnitude, self.digits.len()) else {
             return Err(IntegerError::NotWhole);
         };
-        if count <= 19 {
-            return Ok(u128::from(leading_u64(&self.digits, count)));
+        match count {
+            0..=19 => Ok(leading_u64(&self.digits, count) as u128),
+            20..=38 => Ok(leading_u128(&self.digits, count)),
+            39 => leading_39_digits(&self.digits),
+            _ => Err(IntegerError::OutOfRange),
         }
-        leading_u128(&self.digits, count)
     }
 }
