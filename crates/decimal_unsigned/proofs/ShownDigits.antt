@@ -1,5 +1,5 @@
 -- The digits that a value shows.
-use Rattle.decimal_unsigned.proofs.Common.{◌≡◌, ℕ, zero, suc, ◌+◌, ◌-◌, ◌*◌, ◌/◌, ◌%◌, ◌^◌, ◌<◌, ◌≤◌, List, [], ◌∷◌, ◌++◌, length, drop, min, get_or, replicate, refl, inl, inr, sym, ◌∙◌, ap, arith, w16, to_z, of_z, ℤ, pos, negsuc, ◌+ℤ◌, ◌-ℤ◌, ◌≤ℤ◌, ◌<ℤ◌, int_gap, All, ints, by_lt_z, cases_lt, to_z-of_z, digit, length-append, get_or-drop, elements, gap_is, IsStored}
+use Rattle.decimal_unsigned.proofs.Common.{◌≡◌, ℕ, zero, suc, ◌+◌, ◌-◌, ◌*◌, ◌/◌, ◌%◌, ◌^◌, ◌<◌, List, [], ◌∷◌, ◌++◌, length, drop, min, get_or, replicate, refl, inl, inr, sym, ◌∙◌, ap, arith, w16, to_z, of_z, ℤ, pos, negsuc, ◌+ℤ◌, ◌-ℤ◌, ◌≤ℤ◌, ◌<ℤ◌, int_gap, All, ints, by_lt_z, cases_lt, to_z-of_z, digit, length-append, elements, gap_is, IsStored}
 use Rattle.std.proofs.lemmas.Grind.{same_number_lists}
 use Rattle.std.proofs.lemmas.List.Elements.{All-drop}
 use Rattle.std.proofs.lemmas.List.{get_or_past, nil_from_length}
@@ -8,7 +8,7 @@ use Rattle.decimal_digits.specs.Digits.{number_of}
 use Rattle.decimal_digits.specs.Nibbles.{bcd_number, padded, word_nibbles}
 use Rattle.decimal_digits.proofs.LeadingBytes.{get_or-padded, length-padded}
 use Rattle.decimal_digits.proofs.Packing.{rest_at}
-use Rattle.decimal_digits.proofs.Words.{bcd_nibble, cut, length-word_nibbles, word_nibble, zero_word}
+use Rattle.decimal_digits.proofs.Words.{bcd_nibble, cut, word_nibble, zero_word}
 use Rattle.decimal_unsigned.specs.ShownDigits.{digits_down}
 use Rattle.decimal_unsigned.proofs.Values.{digit-number_of-above, digit-number_of-in, digit-number_of-below, high, magnitude_kept}
 
