@@ -125,8 +125,12 @@ stored_shown {ds} {m} {hi} {lo} t above rest a b =
 pub length-left : (ready word index rest : ℕ) (ds : List ℕ)
     → ready + rest ≡ length (padded ready (word_nibbles word) ++ padded rest (drop index ds))
 length-left ready word index rest ds =
-    omega (arith, length-append (padded ready (word_nibbles word)) (padded rest (drop index ds)),
-    length-padded ready (word_nibbles word), length-padded rest (drop index ds))
+    omega (
+      arith,
+      length-append (padded ready (word_nibbles word)) (padded rest (drop index ds)),
+      length-padded ready (word_nibbles word),
+      length-padded rest (drop index ds),
+    )
 
 -- where no digit is ready, the next one is the first of a word
 pub refilled : (ready old word count index rest : ℕ) (ds : List ℕ) → All (λ d. d < 10) ds → ready ≡ 0 → 0 < rest
