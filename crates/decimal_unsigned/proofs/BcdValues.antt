@@ -429,7 +429,7 @@ module _ (whole fraction number : ℕ) (fits : number < 2 ^ 64) (some : 0 < numb
       _ _ refl refl (λ es l few below e. zeros_of_digits es _ _ l few below e)
 
 -- ---- The value of a plain text.
-module _ (text : List ℕ) (p : PlainText) (plain : IsPlainText text p) where
+module _ (text : List ℕ) (p : PlainText ℕ) (plain : IsPlainText text p) where
   abbrev w : Literal
   w = plain_parts text p.whole
 
@@ -452,9 +452,6 @@ module _ (text : List ℕ) (p : PlainText) (plain : IsPlainText text p) where
 
   pub number_fits : p.number < 2 ^ 128
   number_fits = rw plain.number (digits_fit (w.whole ++ w.fraction) digits plain.few)
-
-  pub number_fits_64 : p.whole + p.fraction ≤ 16 → p.number < 2 ^ 64
-  number_fits_64 few = grind (arith, ints, clamps, nat_tests, common_steps, plain_bcd, sixteen_fit)
 
   -- reading gives their value
   pub plain_read : read text ≡ Ok (value_of_first p.whole plain_digits)

@@ -183,8 +183,7 @@ impl<D: DigitStore> UnsignedOver<D> {
         ensures { IfSome result (λ v. read text.now ≡ Ok v) }
     {
         let plain = few_digits(text, D::L.min(16))?;
-        let number = plain.number as u64;
-        Self::from_bcd_digits(alloc, plain.whole, plain.fraction, number).ok()
+        Self::from_bcd_digits(alloc, plain.whole, plain.fraction, plain.number).ok()
     }
 
     #[inline(always)]

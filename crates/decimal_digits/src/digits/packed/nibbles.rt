@@ -19,8 +19,7 @@ pub(crate) fn nibble_at(bytes: &[u8], index: usize) -> u8
     requires { index < length (nibbles bytes.now) }
     ensures { result ≡ slice_index (nibbles bytes.now) index }
 {
-    let byte = bytes[index / 2];
-    if index % 2 == 0 { byte / 16 } else { byte % 16 }
+    (bytes[index / 2] >> (4 - 4 * (index % 2))) % 16
 }
 
 #[inline]

@@ -18,10 +18,10 @@ const MAX_PLAIN_LEN: usize = 33;
 /// A text of digits, with or without a decimal point: its numbers of integer and of fraction digits, and the number of
 /// all of them in base 16.
 #[derive(Clone, Copy, Debug)]
-pub struct PlainText {
+pub struct PlainText<N> {
     pub whole: usize,
     pub fraction: usize,
-    pub number: u128,
+    pub number: N,
 }
 
 /// The digits of a prefix of such a text: their number in base 16, in 128 bits, and how many of them follow the decimal
@@ -60,7 +60,7 @@ fn count_digits(before: u64, text: &[u8]) -> (usize, u64)
 /// Returns the digits of a text of up to `most` digits, with or without a decimal point, or None of any other text.
 // Inlined always: returned from a call, the digits would pass through memory.
 #[inline(always)]
-pub fn few_digits(text: &[u8], most: usize) -> Option<PlainText>
+pub fn few_digits(text: &[u8], most: usize) -> Option<PlainText<u64>>
     requires { most ≤ 16 }
     ensures plain { IfSome result (IsPlainText text.now) }
     ensures few { IfSome result (λ p. p.whole + p.fraction ≤ most) }
@@ -76,7 +76,7 @@ pub fn few_digits(text: &[u8], most: usize) -> Option<PlainText>
         [] if whole > 0 => Some(PlainText {
             whole,
             fraction: 0,
-            number: number as u128,
+            number,
         }),
         [b'.', rest @ ..] => {
             let (fraction, number) = count_digits(number, rest);
@@ -86,7 +86,7 @@ pub fn few_digits(text: &[u8], most: usize) -> Option<PlainText>
             Some(PlainText {
                 whole,
                 fraction,
-                number: number as u128,
+                number,
             })
         }
         _ => None,
@@ -151,7 +151,7 @@ fn many_digits(text: &[u8]) -> Option<Prefix>
 }
 
 #[inline]
-fn plain_text(text: &[u8]) -> Option<PlainText>
+fn plain_text(text: &[u8]) -> Option<PlainText<u128>>
     requires enough { 8 ≤ length text.now }
     requires at_most { length text.now ≤ 33 }
     ensures { IfSome result (IsPlainText text.now) }
