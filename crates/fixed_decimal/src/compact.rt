@@ -168,7 +168,7 @@ impl CompactDecimal {
         Ok(Self::from_significand_and_exponent(significand, exponent))
     }
 
-    /// Returns whether the parts of two values are equal.
+    // Apart from `eq`, whose proof needs these clauses of one result.
     #[tactic(auto, using(crate::proofs::CompactTexts::same_fields))]
     fn has_same_fields(&self, other: &Self) -> bool
         ensures value { IsTrue result ↔ (self.now ≡ other.now) }

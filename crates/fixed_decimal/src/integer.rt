@@ -112,7 +112,7 @@ impl FixedInteger {
         ensures { IsParseResult (IsLong INLINE_DIGITS) result (Ok scan.now) }
     {
         let decimal: Decimal = scan.decimal(alloc)?;
-        prove!(*decimal.absolute.magnitude_range().start() == 0);
+        prove!(decimal.absolute.lowest() == 0);
         Ok(FixedInteger(decimal))
     }
 }
@@ -128,7 +128,7 @@ impl TryFrom<Decimal> for FixedInteger {
     ///
     /// The decimal has fraction digits, even if all of them are 0, as `5.0` has. The decimal is then dropped.
     fn try_from(decimal: Decimal) -> Result<Self, LimitError> {
-        if *decimal.absolute.magnitude_range().start() < 0 {
+        if decimal.absolute.lowest() < 0 {
             return Err(LimitError);
         }
         Ok(FixedInteger(decimal))
@@ -136,7 +136,7 @@ impl TryFrom<Decimal> for FixedInteger {
 }
 
 impl FixedInteger {
-    /// Returns the integer as a decimal, unchanged.
+    // Only a method that takes `self` may take apart a value whose type implements `Drop`.
     fn into_decimal(self) -> Decimal
         ensures { result ≡ self }
     {

@@ -138,7 +138,7 @@ impl ScientificDecimal {
         Self::try_from_utf8(alloc, text.as_bytes())
     }
 
-    /// Returns whether the parts of two values are equal.
+    // Apart from `eq`, whose proof needs these clauses of one result.
     #[tactic(auto, using(crate::proofs::ScientificTexts::same_fields))]
     fn has_same_fields(&self, other: &Self) -> bool
         ensures value { IsTrue result ↔ (self.now ≡ other.now) }
