@@ -116,7 +116,7 @@ fn leaves<D: DigitStore>(alloc: Global, (start, calls, text, failed): Applied) -
     };
     let at = match apply_calls(alloc, &mut value, calls) {
         Ok(()) => None,
-        Err(error) => failed_call(&error),
+        Err(error) => Some(failed_call(&error)),
     };
     at == failed && prints(value, text)
 }
