@@ -83,8 +83,7 @@ impl<'a, D: DigitStore> PluralOperands<'a, D> {
         ensures by_text { (parts : Literal) → Grammar (text value.now) parts → parts.exponent ≡ None
             → MatchesDigits value.now parts }
     {
-        // Proof hint: the value satisfies its invariant.
-        let _range = value.magnitude_range();
+        prove!(value.lowest() <= 0);
         PluralOperands { value, exponent: 0 }
     }
 
@@ -107,8 +106,7 @@ impl<'a, D: DigitStore> PluralOperands<'a, D> {
         ensures value { result ≡ v self.now.value }
         ensures at_most { result + self.now.exponent ≤ 32768 }
     {
-        let range = self.value.magnitude_range();
-        fraction_digit_count(*range.start(), self.exponent)
+        fraction_digit_count(self.value.lowest(), self.exponent)
     }
 
     /// Returns w, the number of fraction digits without trailing zeros: 1 for `2.50`, at most 32,768.

@@ -16,7 +16,7 @@ fn position_of(decimals: u8) -> i16
 fn shows_more(value: &Decimal, position: i16) -> bool
     ensures { result ≡ int_lt value.now.absolute.lo position }
 {
-    *value.magnitude_range().start() < position
+    value.lowest() < position
 }
 
 /// Rounds a measured value half-even to at most `decimals` fraction digits.
