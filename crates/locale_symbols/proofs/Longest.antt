@@ -1,11 +1,11 @@
 -- The row with the longest tag, one row more at a time.
-use Rattle.std.proofs.Common.{◌≡◌, ℕ, ◌+◌, ◌<◌, Bool, true, false, List, [], ◌∷◌, ◌++◌, Option, None, Some, length, get_or, take, rules, arith}
+use Rattle.std.proofs.Common.{◌≡◌, ℕ, ◌+◌, ◌<◌, ◌&&◌, cond, refl, Bool, true, false, List, [], ◌∷◌, ◌++◌, Option, None, Some, length, get_or, take, rules, arith}
 use Rattle.std.proofs.lemmas.Bool.Decides.{nat_tests}
 use Rattle.std.proofs.lemmas.List.{take_more}
 use Rattle.std.proofs.lemmas.List.Elements.{All-push, Contains-append_left, Contains-append_right}
 use Rattle.std.specs.List.{All}
 use Rattle.locale_symbols.specs.declared.table.LocaleSymbols.{LocaleSymbols}
-use Rattle.locale_symbols.specs.Locales.{is_candidate, is_longer, Chooses}
+use Rattle.locale_symbols.specs.Locales.{is_candidate, is_longer, longer, Chooses}
 
 abbrev pub System : Type 0
 System = Option (List ℕ)
@@ -43,10 +43,10 @@ longest_last : (a b c : LocaleSymbols) → is_longer a (Some b) ≡ false → is
     → is_longer a (Some c) ≡ false
 longest_last a b c first last = grind (arith, nat_tests)
 
-longer : (rows : List LocaleSymbols) (row : LocaleSymbols) (tag : List ℕ) (system : System) (best : Best)
+longer_chosen : (rows : List LocaleSymbols) (row : LocaleSymbols) (tag : List ℕ) (system : System) (best : Best)
     → is_candidate tag system row ≡ true → is_longer row best ≡ true → Chooses rows tag system best
     → Chooses (rows ++ row ∷ []) tag system (Some row)
-longer rows row tag system best is above h =
+longer_chosen rows row tag system best is above h =
     let P = IsNotLonger tag system row in
     let earlier : All P rows = earlier_ones rows row tag system best above h in (
       Contains-append_right rows (row ∷ []) row (search rules),
@@ -61,31 +61,18 @@ longer rows row tag system best is above h =
     earlier_ones rows row tag system (Some best) above h =
         λ k d inside is. longest_last (get_or rows k d) best row (h.2 k d inside is) above
 
-abbrev pub Next : List LocaleSymbols → ℕ → List ℕ → System → Best → Type 0
-Next rows i tag system next = Chooses (take (i + 1) rows) tag system next
-
--- a row that is no candidate changes nothing
-pub chooses-no_candidate : (rows : List LocaleSymbols) (i : ℕ) (d : LocaleSymbols)
-    (tag : List ℕ) (system : System) (best : Best) (a : Bool)
+-- one row more
+pub chooses_more : (rows : List LocaleSymbols) (i : ℕ) (d : LocaleSymbols) (tag : List ℕ) (system : System) (best : Best)
     → i < length rows → Chooses (take i rows) tag system best
-    → a ≡ is_candidate tag system (get_or rows i d) → a ≡ false
-    → Next rows i tag system best
-chooses-no_candidate rows i d tag system best a inside h is fails =
-    rw (take_more rows i d inside) (no_candidate (take i rows) (get_or rows i d) tag system best (cc) h)
+    → Chooses (take (i + 1) rows) tag system (longer tag system best (get_or rows i d))
+chooses_more rows i d tag system best inside h =
+    rw (take_more rows i d inside) (by (is_candidate tag system row) (is_longer row best) refl refl)
+  where
+    row : LocaleSymbols
+    row = get_or rows i d
 
--- nor does one whose tag is not longer
-pub chooses-no_longer : (rows : List LocaleSymbols) (i : ℕ) (d : LocaleSymbols)
-    (tag : List ℕ) (system : System) (best : Best) (b : Bool)
-    → i < length rows → Chooses (take i rows) tag system best → b ≡ is_longer (get_or rows i d) best → b ≡ false
-    → Next rows i tag system best
-chooses-no_longer rows i d tag system best b inside h is fails =
-    rw (take_more rows i d inside) (no_longer (take i rows) (get_or rows i d) tag system best (cc) h)
-
--- a candidate with a longer tag is chosen
-pub chooses-longer : (rows : List LocaleSymbols) (i : ℕ) (d : LocaleSymbols)
-    (tag : List ℕ) (system : System) (best : Best) (a b : Bool)
-    → i < length rows → Chooses (take i rows) tag system best
-    → a ≡ is_candidate tag system (get_or rows i d) → a ≡ true → b ≡ is_longer (get_or rows i d) best → b ≡ true
-    → Next rows i tag system (Some (get_or rows i d))
-chooses-longer rows i d tag system best a b inside h is holds above more =
-    rw (take_more rows i d inside) (longer (take i rows) (get_or rows i d) tag system best (cc) (cc) h)
+    by : (a b : Bool) → is_candidate tag system row ≡ a → is_longer row best ≡ b
+        → Chooses (take i rows ++ row ∷ []) tag system (cond (a && b) (Some row) best)
+    by true true is above = longer_chosen (take i rows) row tag system best is above h
+    by true false is above = no_longer (take i rows) row tag system best above h
+    by false b is above = no_candidate (take i rows) row tag system best is h

@@ -103,8 +103,7 @@ same_own tag name (Some a) (Some b) x y =
 pub locale_is_unique : (tag : List ℕ) (s t : Symbols) → IsLocale tag s → IsLocale tag t → s ≡ t
 locale_is_unique tag s t a b =
     let locale = same_locale tag a.locale b.locale a.listed b.listed in
-    let name = ap (λ (l : LocaleSymbols). system_named (unwrap_or (requested_system tag) (unpadded l.system))) locale in
-    let system : a.system ≡ b.system = cc (name, a.named, b.named) in
+    let system : a.system ≡ b.system = cc (locale, a.named, b.named) in
     let own = same_own tag a.system.name a.own b.own a.in_system
     (subst (λ (n : NumberingSystem). Chooses LOCALES_BY_SYSTEM tag (Some n.name) b.own) (sym system) b.in_system) in
     cc (a.value, b.value)

@@ -1,7 +1,7 @@
 //! The symbols of a tag.
 ghost use Rattle.std.specs.Prelude.{◌≡◌, ◌↔◌, IsNone, IfSome};
 ghost use Rattle.std.specs.Option.{option_copied};
-ghost use Rattle.locale_symbols.specs.Locales.{unpadded, is_candidate, is_longer, system_named, symbols_of, symbols_in, HasOneWidth, Chooses, IsLocale, IsUnknown};
+ghost use Rattle.locale_symbols.specs.Locales.{unpadded, is_candidate, is_longer, longer, name_of, system_named, symbols_of, symbols_in, HasOneWidth, Chooses, IsLocale, IsUnknown};
 ghost use Rattle.decimal_format.specs.Readable.{IsReadable};
 
 use crate::table::{LocaleSymbols, NumberingSystem, SymbolSet};
@@ -42,6 +42,21 @@ fn is_longer(row: &LocaleSymbols, other: Option<&LocaleSymbols>) -> bool
     }
 }
 
+fn longer(
+    best: Option<&'static LocaleSymbols>,
+    row: &'static LocaleSymbols,
+    tag: &[u8],
+    system: Option<[u8; 8]>,
+) -> Option<&'static LocaleSymbols>
+    ensures { option_copied result ≡ longer tag.now system (option_copied best.entry) row.now }
+{
+    if is_candidate(row, tag, system) && is_longer(row, best) {
+        Some(row)
+    } else {
+        best
+    }
+}
+
 /// Returns the row with the longest tag among those that are candidates for a tag.
 fn longest(
     rows: &'static [LocaleSymbols],
@@ -52,9 +67,7 @@ fn longest(
 {
     let mut found: Option<&'static LocaleSymbols> = None;
     for row in rows {
-        if is_candidate(row, tag, system) && is_longer(row, found) {
-            found = Some(row);
-        }
+        found = longer(found, row, tag, system);
     }
     found
 }
@@ -67,6 +80,14 @@ fn system_named(name: &[u8]) -> Option<&'static NumberingSystem>
     NUMBERING_SYSTEMS
         .iter()
         .find(|system| is_named(unpadded(&system.name), name))
+}
+
+/// Returns the numbering system that a tag names, or else the default one of a locale.
+#[tactic(auto, using(crate::proofs::Unknown::named_by))]
+fn system_of(tag: &[u8], locale: &LocaleSymbols) -> Option<&'static NumberingSystem>
+    ensures { option_copied result ≡ system_named (name_of tag.now locale.now) }
+{
+    system_named(requested_system(tag).unwrap_or(unpadded(&locale.system)))
 }
 
 /// Returns symbols with the digits of a numbering system.
@@ -133,8 +154,7 @@ pub fn locale(tag: &str) -> Option<DecimalSymbols<'static>>
 {
     let tag = tag.as_bytes();
     let locale = longest(&LOCALES, tag, None)?;
-    let name = requested_system(tag).unwrap_or(unpadded(&locale.system));
-    let system = system_named(name)?;
+    let system = system_of(tag, locale)?;
     let own = longest(&LOCALES_BY_SYSTEM, tag, Some(system.name));
     Some(symbols_in(system, locale, own))
 }
