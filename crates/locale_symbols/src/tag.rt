@@ -29,6 +29,7 @@ fn begins_with(tag: &[u8], text: &[u8]) -> bool
 }
 
 /// Returns whether a tag is `part`, or has a hyphen after it.
+#[tactic(auto, using(crate::proofs::Tags::hyphen))]
 pub fn is_tag_prefix(part: &[u8], tag: &[u8]) -> bool
     ensures { result ≡ is_tag_prefix part.now tag.now }
 {

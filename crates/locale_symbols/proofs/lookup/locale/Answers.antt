@@ -1,4 +1,4 @@
-use Rattle.std.proofs.Common.{◌≡◌, is_some, ap, subst, sym, inl}
+use Rattle.std.proofs.Common.{is_some, ap, subst, sym, inl}
 use Rattle.std.specs.Option.{option_copied}
 use Rattle.locale_symbols.specs.Locales.{IsLocale, IsUnknown}
 use Rattle.locale_symbols.proofs.EachRow.{system_named-width}
