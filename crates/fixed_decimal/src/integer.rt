@@ -47,7 +47,6 @@ impl Model for FixedInteger {
     ghost invariant = { λ s. s.0.absolute.lo ≡ pos 0 };
 }
 
-/// Scans a text that writes an integer, without an allocation.
 pub(crate) fn scan_integer(text: &[u8]) -> Result<Signed<Scan<'_>>, ParseError>
     ensures value { IfOk result (λ scan. read_integer text.now ≡ Ok scan) }
     ensures integer { IfOk result (λ scan. pos 0 ≤ℤ scan.absolute.lo) }
@@ -102,11 +101,6 @@ impl FixedInteger {
         Self::try_from_utf8(alloc, text.as_bytes())
     }
 
-    /// Makes the integer of a scanned text without fraction digits.
-    ///
-    /// # Errors
-    ///
-    /// `Memory`: out of memory, only for more than `INLINE_DIGITS` digits.
     pub(crate) fn from_scan(alloc: Global, scan: &Signed<Scan<'_>>) -> Result<Self, ParseError>
         requires { pos 0 ≤ℤ scan.now.absolute.lo }
         ensures { IsParseResult (IsLong INLINE_DIGITS) result (Ok scan.now) }

@@ -48,7 +48,6 @@ impl Model for ScientificDecimal {
     ghost view = { λ s. scientific s.significand s.exponent };
 }
 
-/// Splits a text with exactly one `e` and without `E` at its `e`: the significand and the exponent.
 #[tactic(auto, unfolding(crate::specs::Scientific::split_at_e))]
 fn split_at_e(text: &[u8]) -> Result<(&[u8], &[u8]), ParseError>
     ensures { MatchResult result (λ parts. split_at_e text.now ≡ Ok (parts.0.now, parts.1.now))

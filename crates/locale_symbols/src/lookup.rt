@@ -9,7 +9,6 @@ use crate::tables::{LOCALES, LOCALES_BY_SYSTEM, NUMBERING_SYSTEMS};
 use crate::tag::{is_named, is_tag_prefix, requested_system};
 use decimal_format::{Affixes, DecimalSymbols, GroupingSizes};
 
-/// Returns a text without the spaces after it.
 fn unpadded(padded: &[u8]) -> &[u8]
     ensures { result.now ≡ unpadded padded.now }
 {
@@ -21,7 +20,6 @@ fn unpadded(padded: &[u8]) -> &[u8]
     padded
 }
 
-/// Returns whether the tag of a row is a prefix of a tag, and its numbering system is this one, if there is one.
 fn is_candidate(row: &LocaleSymbols, tag: &[u8], system: Option<[u8; 8]>) -> bool
     ensures { result ≡ is_candidate tag.now system row.now }
 {
@@ -32,7 +30,6 @@ fn is_candidate(row: &LocaleSymbols, tag: &[u8], system: Option<[u8; 8]>) -> boo
     }
 }
 
-/// Returns whether the tag of a row is longer than that of another, if there is one.
 fn is_longer(row: &LocaleSymbols, other: Option<&LocaleSymbols>) -> bool
     ensures { result ≡ is_longer row.now (option_copied other.entry) }
 {
@@ -57,7 +54,6 @@ fn longer(
     }
 }
 
-/// Returns the row with the longest tag among those that are candidates for a tag.
 fn longest(
     rows: &'static [LocaleSymbols],
     tag: &[u8],
@@ -72,7 +68,6 @@ fn longest(
     found
 }
 
-/// Returns the numbering system with a name.
 #[tactic(auto, unfolding(crate::specs::Locales::system_named))]
 fn system_named(name: &[u8]) -> Option<&'static NumberingSystem>
     ensures { option_copied result ≡ system_named name.now }
@@ -82,7 +77,6 @@ fn system_named(name: &[u8]) -> Option<&'static NumberingSystem>
         .find(|system| is_named(unpadded(&system.name), name))
 }
 
-/// Returns the numbering system that a tag names, or else the default one of a locale.
 #[tactic(auto, using(crate::proofs::Unknown::named_by))]
 fn system_of(tag: &[u8], locale: &LocaleSymbols) -> Option<&'static NumberingSystem>
     ensures { option_copied result ≡ system_named (name_of tag.now locale.now) }
@@ -90,7 +84,6 @@ fn system_of(tag: &[u8], locale: &LocaleSymbols) -> Option<&'static NumberingSys
     system_named(requested_system(tag).unwrap_or(unpadded(&locale.system)))
 }
 
-/// Returns symbols with the digits of a numbering system.
 fn symbols_of(
     system: &NumberingSystem,
     set: SymbolSet,
@@ -114,7 +107,6 @@ fn symbols_of(
     }
 }
 
-/// Returns the symbols of a locale in a numbering system, which are its own there if it has any.
 fn symbols_in(
     system: &NumberingSystem,
     locale: &LocaleSymbols,

@@ -117,7 +117,6 @@ impl<'a, D: DigitStore> PluralOperands<'a, D> {
         fraction_digit_count(self.value.nonzero_magnitude_end(), self.exponent)
     }
 
-    /// Returns the integer digits.
     fn integer_digits(&self) -> Digits<'a, D>
         ensures { result ≡ i self.now.value }
     {
@@ -125,7 +124,6 @@ impl<'a, D: DigitStore> PluralOperands<'a, D> {
         Digits::new(self.value, first, integer_digit_count(first, self.exponent))
     }
 
-    /// Returns the fraction digits.
     fn fraction(&self) -> Digits<'a, D>
         ensures { result ≡ f self.now.value }
     {
@@ -136,7 +134,6 @@ impl<'a, D: DigitStore> PluralOperands<'a, D> {
         )
     }
 
-    /// Returns the fraction digits without trailing zeros.
     fn trimmed_fraction(&self) -> Digits<'a, D>
         ensures { result ≡ t self.now.value }
     {
@@ -209,14 +206,12 @@ impl<'a, D: DigitStore> PluralOperands<'a, D> {
         self.integer_digits().up_to(most)
     }
 
-    /// Returns the operand f if it is at most `most`.
     pub(crate) fn f_up_to(&self, most: u64) -> Option<u64>
         ensures { IsUpTo most result (f self.now.value) }
     {
         self.fraction().up_to(most)
     }
 
-    /// Returns the operand t if it is at most `most`.
     pub(crate) fn t_up_to(&self, most: u64) -> Option<u64>
         ensures { IsUpTo most result (t self.now.value) }
     {
