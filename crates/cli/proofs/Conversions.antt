@@ -28,11 +28,6 @@ output_is_sink why is = grind arith
 pub reading_no_output : (why : ParseError) → error_of_run (Start why) ≡ operation.Output → ⊥
 reading_no_output why is = let e : Start why ≡ Sink = output_is_sink (Start why) is in cc
 
--- nor is one of calls
-pub calls_no_output :
-    (why : CallError) → error_of_run (run_error why) ≡ operation.Output → ⊥
-calls_no_output why is = grind (arith, is)
-
 module _ (c : Conversion) (text : List ℕ) where
   -- ---- The errors of the parts.
 
