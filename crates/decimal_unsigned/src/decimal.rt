@@ -186,18 +186,18 @@ impl<D: DigitStore> UnsignedOver<D> {
         self.digits.len() == 0
     }
 
-    /// Returns the highest magnitude that is shown.
+    /// Returns the highest magnitude that is shown: 2 of `012.340`.
     #[inline]
-    fn highest(&self) -> i16
+    pub fn highest(&self) -> i16
         ensures value { result ≡ self.now.hi }
         ensures valid { IsValue self.now }
     {
         self.hi
     }
 
-    /// Returns the lowest magnitude that is shown.
+    /// Returns the lowest magnitude that is shown: -3 of `012.340`.
     #[inline]
-    fn lowest(&self) -> i16
+    pub fn lowest(&self) -> i16
         ensures value { result ≡ self.now.lo }
         ensures valid { IsValue self.now }
     {
