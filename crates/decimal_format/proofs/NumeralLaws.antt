@@ -14,12 +14,12 @@ use Rattle.decimal_format.specs.Symbols.{Symbols, Affixes, sign_affixes}
 use Rattle.decimal_format.specs.Formatted.{formatted}
 use Rattle.decimal_format.specs.Grouping.{is_grouped, ends_group}
 use Rattle.decimal_format.specs.Readable.{IsReadable}
-use Rattle.decimal_format.specs.Reading.{Numeral, AreDigits, IsNumeral, IsBeyondLimits, IsWritten, digits_text, fraction_text, absolute_numeral_text, numeral_text, separated_by}
+use Rattle.decimal_format.specs.Reading.{Numeral, AreDigits, IsNumeral, IsBeyondLimits, IsWritten, IsRead, digits_text, fraction_text, absolute_numeral_text, numeral_text, separated_by}
 use Rattle.decimal_format.specs.Lenient.{separated_at, normalized, IsLenientNumeral, IsLenientlyWritten, IsTyped}
-use Rattle.decimal_format.specs.Scanning.{IsUniform, value_of, IsValueOf, IsNumeralBy, IsWrittenBy, IsRead}
+use Rattle.decimal_format.specs.Scanning.{IsUniform, value_of, IsValueOf, IsNumeralBy, IsWrittenBy}
 use Rattle.decimal_format.proofs.Codes.{none_not_decimal}
 use Rattle.decimal_format.proofs.DigitTexts.{digits_text-cong, nil_ends, fraction_ends, digits-unique, ends_integer}
-use Rattle.decimal_format.proofs.NumeralTexts.{HasDigits, same_value, formatted-digits, digits_of_value}
+use Rattle.decimal_format.proofs.NumeralTexts.{HasDigits, same_value, digits_are_value, formatted-digits, digits_of_value}
 use Rattle.decimal_format.proofs.Scans.{number_begins, begins-append, sign-unique, strategy_is, strategy_if, strategy_separates}
 
 -- a text by some strategy has separators at ends of groups, all of them or none
@@ -118,7 +118,7 @@ never-digits s v w has digits =
 -- a text is that of one of these numerals, and then of one of these decimals
 pub record AreTexts (is_numeral : Numeral → Type 0) (is_written : Decimal → Type 0) : Type 0 where
   pub unique : (w u : Numeral) → is_numeral w → is_numeral u → w ≡ u
-  pub writes : (v : Decimal) (w : Numeral) → is_numeral w → HasDigits v w → is_written v
+  pub writes : (v : Decimal) (w : Numeral) → is_numeral w → HasDigits v w → IsValue v.absolute × is_written v
   pub reads : (v : Decimal) → IsValue v.absolute → is_written v → (w : Numeral) × is_numeral w × HasDigits v w
 
 module _ {is_numeral : Numeral → Type 0} {is_written : Decimal → Type 0} (texts : AreTexts is_numeral is_written) where
@@ -151,15 +151,13 @@ module _ {is_numeral : Numeral → Type 0} {is_written : Decimal → Type 0} (te
       λ x. is.limit.1 (subst IsBeyondLimits (texts.unique x.0 w x.1 numeral) x.2),
     );
     memory = λ h.
-        let v : Decimal = record { sign = w.sign; absolute = value_of w } in (
-          v,
-          texts.writes v w numeral (record {
-            sign = refl;
-            absolute = refl;
-            few = λ beyond. let k = sym h ∙ is.limit.1 beyond in cc;
-          }),
-          is.memory h,
-        );
+        let v : Decimal = record { sign = w.sign; absolute = value_of w } in
+        let written = texts.writes v w numeral (record {
+          sign = refl;
+          absolute = refl;
+          few = λ beyond. let k = sym h ∙ is.limit.1 beyond in cc;
+        }) in
+        (v, written.0, written.1, is.memory h);
   }
     where
       has : (v : Decimal) → IsValueOf inline w (Ok v) → HasDigits v w
@@ -169,7 +167,7 @@ module _ {is_numeral : Numeral → Type 0} {is_written : Decimal → Type 0} (te
         few = λ beyond. let k = is.limit.1 beyond in cc;
       }
 
-      found : (r : Result Decimal ParseError) → IsValueOf inline w r → IfOk r is_written
+      found : (r : Result Decimal ParseError) → IsValueOf inline w r → IfOk r (λ v. IsValue v.absolute × is_written v)
       found (Err e) is = tt
       found (Ok v) is = texts.writes v w numeral (has v is)
 
@@ -187,8 +185,10 @@ module _ (s : Symbols) (readable : IsReadable s) (bytes : List ℕ) where
   formatted_texts = record {
     unique = λ w u p q.
         lenient-unique s readable bytes w u (numeral_is_lenient s bytes w p) (numeral_is_lenient s bytes u q);
-    writes = λ v w numeral has.
-        (numeral.strategy, numeral.text ∙ sym (formatted-digits v w has numeral.digits s numeral.strategy));
+    writes = λ v w numeral has. (
+      digits_are_value v w has numeral.digits,
+      (numeral.strategy, numeral.text ∙ sym (formatted-digits v w has numeral.digits s numeral.strategy)),
+    );
     reads = written_digits s bytes;
   }
 
@@ -196,7 +196,8 @@ module _ (s : Symbols) (readable : IsReadable s) (bytes : List ℕ) where
   lenient_texts : AreTexts (IsLenientNumeral s bytes) (λ v. IsLenientlyWritten s v bytes)
   lenient_texts = record {
     unique = lenient-unique s readable bytes;
-    writes = λ v w numeral has. (w, numeral, sym (never-digits s v w has numeral.digits));
+    writes = λ v w numeral has.
+        (digits_are_value v w has numeral.digits, (w, numeral, sym (never-digits s v w has numeral.digits)));
     reads = λ v valid written.
         let d = digits_of_value v valid in
         let same = text-unique s readable (λ _. false) (λ _. false) (formatted s Never v) d.0 written.0 d.1

@@ -3,6 +3,7 @@ use Rattle.std.specs.Prelude.{◌≡◌, ℕ, ◌-◌, ◌<◌, ◌==◌, ◌⊎
 use Rattle.std.specs.Char.{is_ascii_digit}
 use Rattle.std.specs.List.{flat_map, list_any}
 use Rattle.std.specs.Str.{chars}
+use Rattle.decimal_unsigned.specs.Unsigned.{IsValue}
 use Rattle.fixed_decimal.specs.Decimal.{Decimal}
 use Rattle.decimal_format.specs.declared.grouping.GroupingStrategy.TheVariants.{Never}
 use Rattle.decimal_format.specs.Symbols.{Symbols, digit_text}
@@ -88,4 +89,5 @@ IsTypedNumeral s text w =
 -- the normal form has more than 64 bytes, or the value needs memory
 abbrev pub TypedNeedsMemory : ℕ → Symbols → List ℕ → Type 0
 TypedNeedsMemory inline s text =
-    (64 < length (normalized s text)) ⊎ ((v : Decimal) × IsTyped s v text × NeedsMemory inline v.absolute)
+    (64 < length (normalized s text)) ⊎ ((v : Decimal) × IsValue v.absolute × IsTyped s v text
+    × NeedsMemory inline v.absolute)

@@ -1,14 +1,12 @@
 //! Reading of formatted decimals.
 ghost use Rattle.std.specs.Prelude.{◌≡◌, ◌≢◌, ℕ, ◌≤◌, List, [], ◌++◌, length, ◌<◌, Bool, true, false, ◌↔◌, IfSome, IfNone, IfOk, MatchOption, MatchResult, IsTrue, Err};
 ghost use Rattle.std.specs.Int.Digits.{AllBelowBase};
-ghost use Rattle.decimal_unsigned.specs.Unsigned.{IsValue};
-ghost use Rattle.fixed_decimal.specs.Decimal.{Decimal};
 ghost use Rattle.decimal_format.specs.Ascii.{ascii_digits};
 ghost use Rattle.decimal_format.specs.Grouping.{ends_group};
 ghost use Rattle.decimal_format.specs.Readable.{IsReadable};
-ghost use Rattle.decimal_format.specs.Reading.{Numeral, AreDigits, digits_text, fraction_text, IsNumeral, IsBeyondLimits, IsWritten, NeedsMemory};
+ghost use Rattle.decimal_format.specs.Reading.{Numeral, AreDigits, digits_text, fraction_text, IsNumeral, IsBeyondLimits, IsWritten, IsRead};
 ghost use Rattle.decimal_format.specs.Lenient.{IsLenientNumeral, IsLenientlyWritten};
-ghost use Rattle.decimal_format.specs.Scanning.{separated_if, SkipsSeparator, EndsInteger, ReadsDigits, ReadsAs, HasCounts, IsValueOf, IsNumeralBy, IsWrittenBy, IsRead};
+ghost use Rattle.decimal_format.specs.Scanning.{separated_if, SkipsSeparator, EndsInteger, ReadsDigits, ReadsAs, HasCounts, IsValueOf, IsNumeralBy, IsWrittenBy};
 ghost use Rattle.decimal_format.specs.Collecting.{Collects, IsFresh};
 
 mod codes;
@@ -273,14 +271,7 @@ impl<'a> DecimalSymbols<'a> {
         text: &[u8],
     ) -> Result<Signed<UnsignedOver<D>>, ParseError>
         requires { IsReadable self.now }
-        ensures found { IfOk result (λ v. IsWritten self.now v text.now) }
-        ensures reads_back { (v : Decimal) → IsValue v.absolute → IsWritten self.now v text.now
-            → MatchResult result (λ w. w ≡ v) (λ e. e ≡ ParseError.Memory) }
-        ensures syntax { (result ≡ Err ParseError.Syntax) ↔ ((w : Numeral) → ¬ IsNumeral self.now text.now w) }
-        ensures limit { (result ≡ Err ParseError.Limit)
-            ↔ ((w : Numeral) × IsNumeral self.now text.now w × IsBeyondLimits w) }
-        ensures memory { (result ≡ Err ParseError.Memory)
-            → (v : Decimal) × IsWritten self.now v text.now × NeedsMemory D.L v.absolute }
+        ensures { IsRead D.L (IsNumeral self.now text.now) (λ v. IsWritten self.now v text.now) result }
     {
         self.read_groups(alloc, text, true)
     }
@@ -292,14 +283,8 @@ impl<'a> DecimalSymbols<'a> {
         text: &[u8],
     ) -> Result<Signed<UnsignedOver<D>>, ParseError>
         requires { IsReadable self.now }
-        ensures found { IfOk result (λ v. IsLenientlyWritten self.now v text.now) }
-        ensures reads_back { (v : Decimal) → IsValue v.absolute → IsLenientlyWritten self.now v text.now
-            → MatchResult result (λ w. w ≡ v) (λ e. e ≡ ParseError.Memory) }
-        ensures syntax { (result ≡ Err ParseError.Syntax) ↔ ((w : Numeral) → ¬ IsLenientNumeral self.now text.now w) }
-        ensures limit { (result ≡ Err ParseError.Limit)
-            ↔ ((w : Numeral) × IsLenientNumeral self.now text.now w × IsBeyondLimits w) }
-        ensures memory { (result ≡ Err ParseError.Memory)
-            → (v : Decimal) × IsLenientlyWritten self.now v text.now × NeedsMemory D.L v.absolute }
+        ensures { IsRead D.L (IsLenientNumeral self.now text.now) (λ v. IsLenientlyWritten self.now v text.now)
+            result }
     {
         self.read_groups(alloc, text, false)
     }

@@ -123,7 +123,7 @@ impl<'a> DecimalSymbols<'a> {
         text: &str,
     ) -> Result<Signed<UnsignedOver<D>>, ParseError>
         requires { IsReadable self.now }
-        ensures found { IfOk result (λ v. IsLenientlyWritten self.now v (normalized self.now text.now)) }
+        ensures found { IfOk result (λ v. IsValue v.absolute × IsLenientlyWritten self.now v (normalized self.now text.now)) }
         ensures reads_back { (v : Decimal) → IsValue v.absolute
             → IsLenientlyWritten self.now v (normalized self.now text.now)
             → MatchResult result (λ w. w ≡ v) (λ e. e ≡ ParseError.Memory) }
@@ -132,7 +132,7 @@ impl<'a> DecimalSymbols<'a> {
         ensures limit { result ≡ Err ParseError.Limit
             → (w : Numeral) × IsLenientNumeral self.now (normalized self.now text.now) w × IsBeyondLimits w }
         ensures memory { result ≡ Err ParseError.Memory → (64 < length (normalized self.now text.now))
-            ⊎ ((v : Decimal) × IsLenientlyWritten self.now v (normalized self.now text.now)
+            ⊎ ((v : Decimal) × IsValue v.absolute × IsLenientlyWritten self.now v (normalized self.now text.now)
             × NeedsMemory D.L v.absolute) }
     {
         let bytes = self.normalized(alloc, text)?;
@@ -156,7 +156,7 @@ impl<'a> DecimalSymbols<'a> {
         text: &str,
     ) -> Result<Signed<UnsignedOver<D>>, ParseError>
         requires { IsReadable self.now }
-        ensures found { IfOk result (λ v. IsTyped self.now v text.now) }
+        ensures found { IfOk result (λ v. IsValue v.absolute × IsTyped self.now v text.now) }
         ensures reads { (v : Decimal) → IsValue v.absolute → IsTyped self.now v text.now
             → MatchResult result (λ w. w ≡ v) (λ e. e ≡ ParseError.Memory) }
         ensures syntax { result ≡ Err ParseError.Syntax → (w : Numeral) → ¬ IsTypedNumeral self.now text.now w }
