@@ -1,8 +1,9 @@
 -- A text is that of one numeral, and of one decimal.
-use Rattle.std.proofs.Common.{◌≡◌, ℕ, ◌-◌, inl, inr, Bool, true, false, List, [], ◌∷◌, ◌++◌, length, refl, sym, ◌∙◌, ap, subst, append-nil}
+use Rattle.std.proofs.Common.{◌≡◌, ◌≢◌, ℕ, ◌-◌, inl, inr, Bool, true, false, List, [], ◌∷◌, ◌++◌, length, refl, sym, ◌∙◌, ap, subst, append-nil}
 use Rattle.std.specs.Prelude.{Result, Ok, Err, IfOk, MatchResult, ◌↔◌, pos}
 use Rattle.std.specs.Int.Digits.{AllBelowBase}
 use Rattle.std.proofs.Math.Bool.{and-false}
+use Rattle.std.proofs.lemmas.Result.{IfOk-weaker}
 use Rattle.std.proofs.lemmas.List.{append_cancel_left, append_cancel_right}
 use Rattle.decimal_unsigned.specs.declared.error.ParseError.{ParseError}
 use Rattle.decimal_unsigned.specs.declared.error.ParseError.TheVariants.{Limit, Syntax, Memory}
@@ -15,7 +16,7 @@ use Rattle.decimal_format.specs.Formatted.{formatted}
 use Rattle.decimal_format.specs.Grouping.{is_grouped, ends_group}
 use Rattle.decimal_format.specs.Readable.{IsReadable}
 use Rattle.decimal_format.specs.Reading.{Numeral, AreDigits, IsNumeral, IsBeyondLimits, IsWritten, IsRead, digits_text, fraction_text, absolute_numeral_text, numeral_text, separated_by}
-use Rattle.decimal_format.specs.Lenient.{separated_at, normalized, IsLenientNumeral, IsLenientlyWritten, IsTyped}
+use Rattle.decimal_format.specs.Lenient.{separated_at, normalized, IsLenientNumeral, IsLenientlyWritten, IsTyped, IsTypedNumeral}
 use Rattle.decimal_format.specs.Scanning.{IsUniform, value_of, IsValueOf, IsNumeralBy, IsWrittenBy}
 use Rattle.decimal_format.proofs.Codes.{none_not_decimal}
 use Rattle.decimal_format.proofs.DigitTexts.{digits_text-cong, nil_ends, fraction_ends, digits-unique, ends_integer}
@@ -227,6 +228,49 @@ pub none_by : (strict : Bool) (s : Symbols) (bytes : List ℕ) → strict ≡ tr
     → ((w : Numeral) → ¬ IsNumeral s bytes w) → (w : Numeral) → ¬ IsNumeralBy strict s bytes w
 none_by true s bytes h none = none
 none_by false s bytes h none = absurd (cc)
+
+-- ---- What people type.
+module _ {inline : ℕ} {s : Symbols} {text : List ℕ} {result : Result Decimal ParseError} where
+  -- the text is that of a number
+  pub read_as_written : IsRead inline (IsNumeral s text) (λ v. IsWritten s v text) result → result ≢ Err Syntax
+      → IsRead inline (IsTypedNumeral s text) (λ v. IsTyped s v text) result
+  read_as_written read other = record {
+    found = IfOk-weaker result _ _ (λ v h. (h.0, inl h.1)) read.found;
+    reads_back = λ v valid. elim [
+      | inl written ↦ read.reads_back v valid written
+      | inr x ↦ absurd (other (read.syntax.1 x.0))
+    ];
+    syntax = (λ h. absurd (other h), λ none. read.syntax.1 (λ w numeral. none w (inl numeral)));
+    limit = (
+      λ h. let x = read.limit.0 h in (x.0, inl x.1, x.2),
+      λ x. elim x.1 [
+        | inl numeral ↦ read.limit.1 (x.0, numeral, x.2)
+        | inr y ↦ absurd (other (read.syntax.1 y.0))
+      ],
+    );
+    memory = λ h. let x = read.memory h in (x.0, x.1, inl x.2, x.3);
+  }
+
+  -- it is that of no number, and its normal form is read
+  pub read_normalized : ((w : Numeral) → ¬ IsNumeral s text w)
+      → IsRead inline (IsLenientNumeral s (normalized s text)) (λ v. IsLenientlyWritten s v (normalized s text)) result
+      → IsRead inline (IsTypedNumeral s text) (λ v. IsTyped s v text) result
+  read_normalized none read = record {
+    found = IfOk-weaker result _ _ (λ v h. (h.0, inr (none, h.1))) read.found;
+    reads_back = λ v valid. elim [
+      | inl written ↦ let w = written_digits s text v valid written in absurd (none w.0 w.1)
+      | inr x ↦ read.reads_back v valid x.1
+    ];
+    syntax = (
+      λ h w. elim [ inl numeral ↦ none w numeral | inr x ↦ read.syntax.0 h w x.1 ],
+      λ all. read.syntax.1 (λ w numeral. all w (inr (none, numeral))),
+    );
+    limit = (
+      λ h. let x = read.limit.0 h in (x.0, inr (none, x.1), x.2),
+      λ x. elim x.1 [ inl numeral ↦ absurd (none x.0 numeral) | inr y ↦ read.limit.1 (x.0, y.1, x.2) ],
+    );
+    memory = λ h. let x = read.memory h in (x.0, x.1, inr (none, x.2), x.3);
+  }
 
 -- ---- Laws.
 -- with readable symbols two values have different texts

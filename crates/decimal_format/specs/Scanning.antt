@@ -1,6 +1,6 @@
 -- Private: used only in the contracts of private functions.
 -- What the steps of a scan find.
-use Rattle.std.specs.Prelude.{◌≡◌, ◌≢◌, ℕ, ◌<◌, ◌≤◌, ◌↔◌, Bool, true, false, ◌&&◌, List, [], ◌++◌, if◌then◌else◌, length, Result, Err, IfOk}
+use Rattle.std.specs.Prelude.{◌≡◌, ◌≢◌, ℕ, ◌<◌, ◌≤◌, ◌↔◌, Bool, true, false, ◌&&◌, List, [], ◌++◌, if◌then◌else◌, length, take, drop, Result, Err, IfOk}
 use Rattle.std.specs.Int.Digits.{AllBelowBase}
 use Rattle.decimal_digits.specs.Number.{size}
 use Rattle.decimal_unsigned.specs.DigitValues.{IsBcd, value_of_first}
@@ -9,10 +9,11 @@ use Rattle.decimal_unsigned.specs.declared.error.ParseError.{ParseError}
 use Rattle.decimal_unsigned.specs.declared.error.ParseError.TheVariants.{Limit, Syntax, Memory}
 use Rattle.fixed_decimal.specs.Decimal.{Decimal}
 use Rattle.decimal_format.specs.declared.reader.Scanned.{Scanned}
+use Rattle.decimal_format.specs.declared.reader.lenient.Normalized.{Normalized}
 use Rattle.decimal_format.specs.Collecting.{Collected, CollectsDigits}
 use Rattle.decimal_format.specs.Symbols.{Symbols, digit_text}
 use Rattle.decimal_format.specs.Reading.{Numeral, IsNumeral, IsBeyondLimits, IsWritten, digits_text}
-use Rattle.decimal_format.specs.Lenient.{IsLenientNumeral, IsLenientlyWritten}
+use Rattle.decimal_format.specs.Lenient.{normalized, IsLenientNumeral, IsLenientlyWritten}
 
 -- ---- Groups.
 
@@ -34,6 +35,12 @@ pub record SkipsSeparator (s : Symbols) (possible : Bool) (bytes rest : List ℕ
 pub record EndsInteger (s : Symbols) (tail : List ℕ) : Type 0 where
   pub digit : (d : ℕ) (rest : List ℕ) → d < 10 → tail ≢ digit_text s d ++ rest
   pub grouping : (rest : List ℕ) → tail ≢ s.grouping ++ rest
+
+-- ---- Normal forms.
+
+-- the bytes of a normal form that are left to read
+abbrev pub left_of : Normalized → List ℕ
+left_of n = take n.left (drop n.read (normalized n.symbols.now n.text.now))
 
 -- ---- Digits.
 
