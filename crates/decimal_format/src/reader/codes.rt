@@ -5,7 +5,7 @@ ghost use Rattle.decimal_format.specs.Symbols.{digit_text, sign_affixes};
 ghost use Rattle.decimal_format.specs.Readable.{code, BeginsWith, IsOther, IsApart, IsReadable};
 ghost use Rattle.decimal_format.specs.Scanning.{BeginsWithDigit, ReadsRun};
 
-use crate::reader::input::Input;
+use crate::reader::input::{Input, count, skip};
 use crate::symbols::DecimalSymbols;
 use fixed_decimal::Sign;
 
@@ -30,6 +30,19 @@ pub fn cut<T: Input>(text: T, code: &[u8]) -> Option<T>
         rest = cut_byte(rest, *byte)?;
     }
     Some(rest)
+}
+
+/// Returns what precedes a code at the end of a text.
+pub fn cut_end<T: Input>(text: T, code: &[u8]) -> Option<T>
+    ensures { MatchOption result ((front : List ℕ) → T.bytes text ≢ front ++ code.now)
+        (λ r. T.bytes text ≡ T.bytes r ++ code.now) }
+{
+    if code.is_empty() {
+        return Some(text);
+    }
+    let front = count(text).checked_sub(code.len() as u128)?;
+    cut(skip(text, front), code)?;
+    Some(text.first(front))
 }
 
 /// Returns the ASCII digit that a text begins with, and what follows it.
@@ -229,7 +242,7 @@ impl<'a> DecimalSymbols<'a> {
             }
         }
         let (sign, rest) = self.split_prefix(text);
-        let number = rest.cut_end(self.suffix(sign).as_bytes())?;
+        let number = cut_end(rest, self.suffix(sign).as_bytes())?;
         Some((sign, number))
     }
 }

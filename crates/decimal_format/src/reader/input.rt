@@ -1,5 +1,5 @@
 //! Bytes that are read from left to right.
-ghost use Rattle.std.specs.Prelude.{◌≡◌, ◌≢◌, ℕ, ◌^◌, ◌<◌, List, [], ◌∷◌, ◌++◌, length, drop, true, false, MatchOption};
+ghost use Rattle.std.specs.Prelude.{◌≡◌, ◌≢◌, ℕ, ◌^◌, ◌<◌, ◌≤◌, List, [], ◌∷◌, length, take, drop, true, false, MatchOption};
 
 /// A sequence of bytes that is read from left to right.
 pub trait Input: Copy {
@@ -15,10 +15,10 @@ pub trait Input: Copy {
     fn split_first(self) -> Option<(u8, Self)>
         ensures { MatchOption result (bytes self ≡ []) (λ r. bytes self ≡ r.0 ∷ bytes r.1) };
 
-    /// Returns what precedes a code at the end.
-    fn cut_end(self, code: &[u8]) -> Option<Self>
-        ensures { MatchOption result ((front : List ℕ) → bytes self ≢ front ++ code.now)
-            (λ r. bytes self ≡ bytes r ++ code.now) };
+    /// Returns the given number of bytes at the start.
+    fn first(self, count: u128) -> Self
+        requires { count ≤ length (bytes self) }
+        ensures { bytes result ≡ take count (bytes self) };
 
     /// Returns the byte at an index, or `None` if that takes a search.
     fn byte_at(self, index: usize) -> Option<u8>;
@@ -40,12 +40,8 @@ impl Input for &[u8] {
         }
     }
 
-    #[inline]
-    fn cut_end(self, code: &[u8]) -> Option<Self> {
-        if code.is_empty() {
-            return Some(self);
-        }
-        self.strip_suffix(code)
+    fn first(self, count: u128) -> Self {
+        &self[..count as usize]
     }
 
     #[inline]

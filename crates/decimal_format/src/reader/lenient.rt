@@ -1,14 +1,13 @@
 //! Reading of numbers as people type them.
 ghost use Rattle.std.specs.Prelude.{◌≡◌, ℕ, [], ◌∷◌, MatchOption};
 ghost use Rattle.std.specs.List.{list_any};
-ghost use Rattle.std.specs.Str.{chars};
+ghost use Rattle.std.specs.Str.{IsUtf8, chars};
 ghost use Rattle.decimal_format.specs.Lenient.{is_mark, is_minus, is_plus, is_space, is_apostrophe, is_separator, replacement, normalized, IsTyped, IsTypedNumeral};
 ghost use Rattle.decimal_format.specs.Readable.{IsReadable};
 ghost use Rattle.decimal_format.specs.Reading.{IsRead};
 ghost use Rattle.decimal_format.specs.Scanning.{left_of};
 
-use crate::reader::codes::cut;
-use crate::reader::input::{Input, count, skip};
+use crate::reader::input::Input;
 use crate::symbols::DecimalSymbols;
 use fixed_decimal::{DigitStore, ParseError, Sign, Signed, UnsignedOver};
 use std::alloc::Global;
@@ -53,7 +52,7 @@ fn is_apostrophe(c: char) -> bool
 
 /// Returns the first character of a text, and what follows it.
 fn split_first_char(text: &str) -> Option<(char, &str)>
-    ensures { MatchOption result (chars text.now ≡ []) (λ r. chars text.now ≡ r.0 ∷ chars r.1.now) }
+    ensures { MatchOption result (chars text.now ≡ []) (λ r. (chars text.now ≡ r.0 ∷ chars r.1.now) × IsUtf8 r.1.now) }
 {
     let mut chars = text.chars();
     let c = chars.next()?;
@@ -120,18 +119,13 @@ impl<'t, 'a> Input for Normalized<'t, 'a> {
         None
     }
 
-    fn cut_end(self, code: &[u8]) -> Option<Self> {
-        if code.is_empty() {
-            return Some(self);
-        }
-        let front = count(self).checked_sub(code.len() as u128)?;
-        let _ = cut(skip(self, front), code)?;
-        Some(Normalized {
+    fn first(self, count: u128) -> Self {
+        Normalized {
             symbols: self.symbols,
             text: self.text,
             read: self.read,
-            left: front,
-        })
+            left: count,
+        }
     }
 
     fn byte_at(self, _index: usize) -> Option<u8> {
