@@ -1,5 +1,5 @@
 -- Normal forms, read byte by byte.
-use Rattle.std.proofs.Common.{◌≡◌, ◌≢◌, ℕ, suc, ◌+◌, ◌-◌, ◌*◌, ◌^◌, ◌<◌, ◌≤◌, Bool, true, false, List, [], ◌∷◌, ◌++◌, length, get_or, take, drop, refl, sym, ◌∙◌, ap, subst, arith, append-nil, length-append, length-drop, drop-cons, take-append-drop}
+use Rattle.std.proofs.Common.{◌≡◌, ◌≢◌, ℕ, suc, ◌+◌, ◌-◌, ◌*◌, ◌^◌, ◌<◌, ◌≤◌, Bool, true, false, List, [], ◌∷◌, ◌++◌, length, get_or, take, drop, sym, ◌∙◌, ap, arith, append-nil, length-append, length-drop, drop-cons, take-append-drop}
 use Rattle.std.specs.Prelude.{if◌then◌else◌, slice_index}
 use Rattle.std.specs.List.{flat_map}
 use Rattle.std.specs.Str.{IsUtf8, chars}
@@ -55,7 +55,8 @@ module _ (s : Symbols) where
       if_le (is_mark c) _ _ 255 (omega arith)
       (if_le (is_minus c) _ _ 255 valid.minus_prefix_in
       (if_le (is_plus c) _ _ 255 valid.plus_prefix_in
-      (if_le (is_separator s c) _ _ 255 valid.grouping_in (if_le (is_ascii_digit c) _ _ 255 (length-encoded (slice_index s.digits (c - 48))) (length-encoded c)))))
+      (if_le (is_separator s c) _ _ 255 valid.grouping_in
+      (if_le (is_ascii_digit c) _ _ 255 (length-encoded (slice_index s.digits (c - 48))) (length-encoded c)))))
 
   length-all : AreValid s → (cs : List ℕ) → length (flat_map (replacement s) cs) ≤ 255 * length cs
   length-all valid [] = omega arith

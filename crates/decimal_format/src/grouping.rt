@@ -145,7 +145,10 @@ impl GroupingSizes {
         if primary == 0 {
             return (1, false);
         }
-        (1, (magnitude - primary) % self.secondary_size() as u128 == 0)
+        (
+            1,
+            (magnitude - primary) % self.secondary_size() as u128 == 0,
+        )
     }
 
     /// Returns a number of digits, from an integer magnitude down, with no separator between them, and whether a

@@ -17,8 +17,8 @@ mod lenient;
 use crate::symbols::DecimalSymbols;
 use codes::cut;
 use digit_collector::{DigitCollector, MAX_DIGITS, MAX_RUN};
-use input::Input;
 use fixed_decimal::{DigitStore, ParseError, Sign, Signed, UnsignedOver};
+use input::Input;
 use std::alloc::Global;
 
 /// What a text says: a sign, and the numbers of its digits.
@@ -180,7 +180,8 @@ impl<'a> DecimalSymbols<'a> {
         requires readable { IsReadable self.now }
         requires ascii { ASCII ≡ true → self.now.digits ≡ ascii_digits }
         requires collecting { (n : ℕ) × (ds : List ℕ) × Collects D.L n digits.old ds }
-        ensures found { IfSome result (λ count. ReadsAs (fraction_text self.now) (T.bytes text) count digits.old digits.new) }
+        ensures found { IfSome result (λ count. ReadsAs (fraction_text self.now) (T.bytes text) count digits.old
+            digits.new) }
         ensures none { IfNone result ((ds : List ℕ) → AllBelowBase 10 ds → T.bytes text ≢ fraction_text self.now ds) }
     {
         if text.is_empty() {
@@ -224,7 +225,11 @@ impl<'a> DecimalSymbols<'a> {
 
     /// Finds the sign and the digits of a text, with separators at any ends of groups.
     #[inline]
-    fn scan<T: Input, D: DigitStore>(&self, text: T, digits: &mut DigitCollector<D>) -> Option<Scanned>
+    fn scan<T: Input, D: DigitStore>(
+        &self,
+        text: T,
+        digits: &mut DigitCollector<D>,
+    ) -> Option<Scanned>
         requires readable { IsReadable self.now }
         requires fresh { IsFresh D.L digits.old }
         ensures found { IfSome result (λ r. (w : Numeral) × IsLenientNumeral self.now (T.bytes text) w × HasCounts r w

@@ -214,7 +214,8 @@ impl<'a> DecimalSymbols<'a> {
         requires { IsReadable self.now }
         ensures found { T.bytes text ≡ (sign_affixes self.now result.0).prefix ++ T.bytes result.1 }
         ensures unique { (sign : Sign) (rest : List ℕ) → BeginsWithDigit self.now rest
-            → T.bytes text ≡ (sign_affixes self.now sign).prefix ++ rest → (result.0 ≡ sign) × (T.bytes result.1 ≡ rest) }
+            → T.bytes text ≡ (sign_affixes self.now sign).prefix ++ rest
+            → (result.0 ≡ sign) × (T.bytes result.1 ≡ rest) }
     {
         if let Some(rest) = cut(text, self.prefix(Sign::Negative).as_bytes()) {
             return (Sign::Negative, rest);

@@ -14,8 +14,8 @@ use Rattle.cli.specs.Reading.{IsTextIn, IsNumeralIn, IsReadIn, ReadingFailsIn}
 use Rattle.cli.proofs.reader.DecimalReader.read.Goals as goal
 
 -- what is read of a text whose numerals and decimals are those of a mode
-module _ (mode : ParseMode) (s : Symbols) (text : List ℕ) {is_numeral : Numeral → Type 0} {is_written : Decimal → Type 0}
-    (numerals : (w : Numeral) → is_numeral w ↔ IsNumeralIn mode s w text)
+module _ (mode : ParseMode) (s : Symbols) (text : List ℕ) {is_numeral : Numeral → Type 0}
+    {is_written : Decimal → Type 0} (numerals : (w : Numeral) → is_numeral w ↔ IsNumeralIn mode s w text)
     (decimals : (v : Decimal) → is_written v → IsTextIn mode s v text) where
   found : (r : Result Decimal ParseError) → IsRead INLINE_DIGITS is_numeral is_written r
       → IfOk r (λ v. IsReadIn mode s text (Ok v))
@@ -32,23 +32,27 @@ module _ (mode : ParseMode) (s : Symbols) (text : List ℕ) {is_numeral : Numera
 pub returns-in-Strict-clause-found : goal.returns-in-Strict-clause-found
 returns-in-Strict-clause-found c =
     rw c.in-Strict.is
-    (found Strict c.args.self.now.symbols c.args.text.now (λ w. (λ h. h, λ h. h)) (λ v h. h) c.read.result c.read.ensures)
+    (found Strict c.args.self.now.symbols c.args.text.now
+    (λ w. (λ h. h, λ h. h)) (λ v h. h) c.read.result c.read.ensures)
 
 pub returns-in-Strict-clause-fails_with : goal.returns-in-Strict-clause-fails_with
 returns-in-Strict-clause-fails_with c =
     rw c.in-Strict.is
-    (fails_with Strict c.args.self.now.symbols c.args.text.now (λ w. (λ h. h, λ h. h)) (λ v h. h) c.read.result c.read.ensures)
+    (fails_with Strict c.args.self.now.symbols c.args.text.now
+    (λ w. (λ h. h, λ h. h)) (λ v h. h) c.read.result c.read.ensures)
 
 pub returns-in-Ok-clause-found : goal.returns-in-Ok-clause-found
 returns-in-Ok-clause-found c =
     let utf8 : IsUtf8 c.in-Ok.text.now = rw c.in-Ok.ensures.cases.0 c.in-Ok.ensures.cases.1 in
     rw (c.in-Lenient.is, ← c.in-Ok.ensures.cases.0)
-    (found Lenient c.args.self.now.symbols c.in-Ok.text.now (λ w. (λ h. (utf8, h), λ h. h.1)) (λ v h. (utf8, h)) c.read_lenient.result
+    (found Lenient c.args.self.now.symbols c.in-Ok.text.now
+    (λ w. (λ h. (utf8, h), λ h. h.1)) (λ v h. (utf8, h)) c.read_lenient.result
     c.read_lenient.ensures)
 
 pub returns-in-Ok-clause-fails_with : goal.returns-in-Ok-clause-fails_with
 returns-in-Ok-clause-fails_with c =
     let utf8 : IsUtf8 c.in-Ok.text.now = rw c.in-Ok.ensures.cases.0 c.in-Ok.ensures.cases.1 in
     rw (c.in-Lenient.is, ← c.in-Ok.ensures.cases.0)
-    (fails_with Lenient c.args.self.now.symbols c.in-Ok.text.now (λ w. (λ h. (utf8, h), λ h. h.1)) (λ v h. (utf8, h)) c.read_lenient.result
+    (fails_with Lenient c.args.self.now.symbols c.in-Ok.text.now
+    (λ w. (λ h. (utf8, h), λ h. h.1)) (λ v h. (utf8, h)) c.read_lenient.result
     c.read_lenient.ensures)

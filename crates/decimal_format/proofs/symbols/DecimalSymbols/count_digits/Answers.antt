@@ -18,8 +18,8 @@ returns-then-is_empty g c = λ separated ds tail all ends e.
 -- ---- A digit follows.
 pub loop-next-smaller-in-Some : goal.loop-next-smaller-in-Some
 loop-next-smaller-in-Some g c =
-    shorter c.args.self.now c.requires.readable (g.T.Input.bytes c.loop-next.rest) (g.T.Input.bytes c.in-Some.next.1) c.in-Some.next.0
-    c.in-Some.ensures.0 c.in-Some.ensures.1
+    shorter c.args.self.now c.requires.readable (g.T.Input.bytes c.loop-next.rest) (g.T.Input.bytes c.in-Some.next.1)
+    c.in-Some.next.0 c.in-Some.ensures.0 c.in-Some.ensures.1
 
 pub loop-next-preserved-in-Some : goal.loop-next-preserved-in-Some
 loop-next-preserved-in-Some g c =
@@ -49,7 +49,8 @@ overflow_add-count g c =
 -- ---- A separator follows.
 pub loop-next-smaller : goal.loop-next-smaller
 loop-next-smaller g c =
-    shorter_by_separator c.args.self.now c.requires.readable (g.T.Input.bytes c.loop-next.rest) (g.T.Input.bytes c.in-Some-cut.after)
+    shorter_by_separator c.args.self.now c.requires.readable (g.T.Input.bytes c.loop-next.rest)
+    (g.T.Input.bytes c.in-Some-cut.after)
     (rw (c.as_bytes.ensures.value, c.grouping_separator.ensures.value) at c.in-Some-cut.ensures)
 
 pub loop-next-preserved : goal.loop-next-preserved
@@ -69,7 +70,7 @@ loop-next-preserved g c =
 -- ---- Neither follows.
 pub returns-in_default-cut : goal.returns-in_default-cut
 returns-in_default-cut g c = λ separated ds tail all ends e.
-    counted_all c.args.self.now c.requires.readable separated ds tail ends (g.T.Input.bytes c.loop-next.rest) c.loop-next.count
-    c.in_default.ensures
+    counted_all c.args.self.now c.requires.readable separated ds tail ends (g.T.Input.bytes c.loop-next.rest)
+    c.loop-next.count c.in_default.ensures
     (rw (c.as_bytes.ensures.value, c.grouping_separator.ensures.value) at c.in_default-cut.ensures)
     (c.loop-next.invariant.counted separated ds tail all ends e)

@@ -40,7 +40,8 @@ loop-rest-preserved g c =
 
 pub returns-clause-found : goal.returns-clause-found
 returns-clause-found g c =
-    (c.if-is_empty.ensures.no refl, last_all c.args.self.now (c.loop-rest-test.ensures.yes refl) c.loop-rest.invariant.read)
+    let read = last_all c.args.self.now (c.loop-rest-test.ensures.yes refl) c.loop-rest.invariant.read in
+    (c.if-is_empty.ensures.no refl, read)
 
 pub overflow_add-count : goal.overflow_add-count
 overflow_add-count g c =

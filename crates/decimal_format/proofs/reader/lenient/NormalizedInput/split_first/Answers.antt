@@ -1,4 +1,4 @@
-use Rattle.std.proofs.Common.{◌≡◌, ℕ, suc, ◌+◌, ◌-◌, ◌<◌, List, ◌∷◌, length, take, drop, sym, ◌∙◌, ap, arith}
+use Rattle.std.proofs.Common.{◌≡◌, ℕ, suc, ◌+◌, ◌-◌, ◌<◌, List, ◌∷◌, take, drop, ◌∙◌, ap, arith}
 use Rattle.decimal_format.specs.Lenient.{normalized}
 use Rattle.decimal_format.proofs.NormalForms.{byte_read, character_read}
 use Rattle.decimal_format.proofs.reader.lenient.NormalizedInput.split_first.Goals as goal
@@ -24,9 +24,8 @@ pub loop-c-preserved : goal.loop-c-preserved
 loop-c-preserved c =
     let s = c.args.self.symbols.now in
     let bytes = c.replacement-bytes.ensures in
-    let past = rw bytes at c.if-read-bytes.false in
-    (
+    let past = rw bytes at c.if-read-bytes.false in (
       c.in-Some.ensures.1,
       rw bytes (c.loop-c.invariant.1 ∙ character_read s c.loop-c.text.now c.in-Some.rest.now c.in-Some.c
-      c.in-Some.ensures.0 c.loop-c.read past),
+          c.in-Some.ensures.0 c.loop-c.read past),
     )
