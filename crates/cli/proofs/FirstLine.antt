@@ -1,7 +1,6 @@
 -- The first line of bytes, and the others.
 use Rattle.std.proofs.Common.{◌≡◌, ◌≢◌, ℕ, zero, suc, ◌+◌, ◌<◌, ◌≤◌, true, List, [], ◌∷◌, ◌++◌, length, take, drop, slice_index, Option, Some, None, IfSome, refl, sym, ap, ◌∙◌, arith, add-one, eq-eqb, ne_eqb, le_of_suc-le-suc, suc-le-suc, zero-lt-suc, eqb-true, take-append-drop, length-append}
 use Rattle.std.specs.Io.{StartsWith}
-use Rattle.std.specs.Io.KnownBytes.{Keeps}
 use Rattle.std.specs.Io.BufRead.{take_through, drop_through, strip_last, first_piece, DropsConsumable}
 use Rattle.std.proofs.lemmas.Bool.{cond-false}
 use Rattle.std.proofs.lemmas.Grind.{common_steps}
@@ -41,17 +40,13 @@ line_at (x ∷ y ∷ ys) rest (suc i) inside before here =
       cond-false _ _ _ other ∙ left,
     )
 
-fits_less : (limit : Option ℕ) (m n : ℕ) → m ≤ n → IfSome limit (λ k. n ≤ k) → IfSome limit (λ k. m ≤ k)
-fits_less limit m n less fits = grind arith
-
--- the next line of a reader is in the block that it shows, before the first line feed
+-- the next line of a reader is in its block, before the first line feed
 pub next_in_block :
-    (a b c : Option (List ℕ)) (limit : Option ℕ) (block : List ℕ) (i : ℕ) → IsFirstByte (is_byte 10) block (Some i)
-    → IfSome a (λ xs. StartsWith xs block) → Keeps a b → IfSome a (λ _. IfSome limit (λ n. length block ≤ n))
-    → DropsConsumable b c limit (i + 1) → IfSome a (λ bytes. IsRead true bytes (take i block) c)
-next_in_block None b c limit block i found front kept fits drops = tt
-next_in_block (Some xs) None c limit block i found front kept fits drops = absurd kept
-next_in_block (Some xs) (Some ys) c limit block i (first, here) front kept fits drops =
+    (a c : Option (List ℕ)) (block : List ℕ) (i : ℕ) → IsFirstByte (is_byte 10) block (Some i)
+    → IfSome a (λ xs. StartsWith xs block) → DropsConsumable a c (Some (length block)) (i + 1)
+    → IfSome a (λ bytes. IsRead true bytes (take i block) c)
+next_in_block None c block i found front drops = tt
+next_in_block (Some xs) c block i (first, here) front drops =
     let inside : i < length block = first.high in
     let rest = drop (length block) xs in
     let parts : xs ≡ block ++ rest =
@@ -62,7 +57,7 @@ next_in_block (Some xs) (Some ys) c limit block i (first, here) front kept fits 
     λ none. absurd (omega (arith, inside, ap length parts, ap length none, length-append block rest)) in (
       some,
       sym (ap (first_piece 10) parts ∙ line),
-      drops (fits_less limit (i + 1) (length block) (omega arith) fits)
-          ∙ ap (λ t. Some (drop (i + 1) t)) (kept ∙ parts)
+      drops (omega arith)
+          ∙ ap (λ t. Some (drop (i + 1) t)) parts
           ∙ ap Some (ap (λ n. drop n (block ++ rest)) (add-one i) ∙ sym left ∙ ap (drop_through 10) (sym parts)),
     )
