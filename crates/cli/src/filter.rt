@@ -1,5 +1,5 @@
 //! The filter: the conversion of each line of an input.
-ghost use Rattle.std.specs.Prelude.{◌≡◌, ◌≢◌, ◌≤◌, ◌∷◌, ◌++◌, [], length, take, Ok, Err, Some, None, true, IfErr, IfSome, OnOk, OnErr};
+ghost use Rattle.std.specs.Prelude.{◌≡◌, ◌≢◌, ◌∷◌, ◌++◌, [], Ok, Err, Some, true, IfErr, IfSome, OnOk, OnErr};
 ghost use Rattle.std.specs.Io.KnownBytes.{Appends, IsAtEnd};
 ghost use Rattle.std.specs.Io.Buffered.{reader_remaining};
 ghost use Rattle.decimal_digits.specs.AppendsPrefix.{AppendsPrefix};
@@ -127,18 +127,6 @@ fn filter_line<W: Sink, D: Diagnostics<FilterError>>(
     }
 }
 
-/// Returns a line that ends in a block, or else the copy of it.
-fn line_of<'a>(block: &'a [u8], end: Option<usize>, copy: &'a [u8]) -> &'a [u8]
-    requires { IfSome end (λ end. end ≤ length block.now) }
-    ensures some { IfSome end (λ end. result.now ≡ take end block.now) }
-    ensures none { end ≡ None → result.now ≡ copy.now }
-{
-    match end {
-        Some(end) => &block[..end],
-        None => copy,
-    }
-}
-
 /// Filters the next line, and returns whether it has a text. None: there is no line. A line that is not whole in the
 /// block of the reader is copied into `copy` first.
 #[inline]
@@ -162,23 +150,30 @@ fn filter_next<R: Read, W: Sink, D: Diagnostics<FilterError>>(
     }) result }
     ensures failed { result ≡ Err FilterError.Output → W.has_failed out.new ≡ true }
 {
-    let in_block = find_line_feed(input.block());
-    if in_block.is_none() {
-        match input.read_line(copy) {
-            Ok(true) => {}
-            Ok(false) => return Ok(None),
-            Err(kind) => return Err(error_of_reading(number, kind)),
-        }
-    }
-    let line = line_of(input.block(), in_block, copy.as_slice());
-    let filtered = filter_line(alloc, filter, number, line, out, diagnostics);
-    if let Some(end) = in_block {
-        input.consume(end + 1);
-    }
-    match filtered {
-        Ok(has_text) => Ok(Some(has_text)),
-        Err(error) => Err(error),
-    }
+    let Some(end) = find_line_feed(input.block()) else {
+        return match input.read_line(copy) {
+            Ok(true) => Ok(Some(filter_line(
+                alloc,
+                filter,
+                number,
+                copy.as_slice(),
+                out,
+                diagnostics,
+            )?)),
+            Ok(false) => Ok(None),
+            Err(kind) => Err(error_of_reading(number, kind)),
+        };
+    };
+    let filtered = filter_line(
+        alloc,
+        filter,
+        number,
+        &input.block()[..end],
+        out,
+        diagnostics,
+    );
+    input.consume(end + 1);
+    Ok(Some(filtered?))
 }
 
 /// Makes the calls on each line of the input, writes the texts to `out`, each with a line feed, and returns whether

@@ -2,8 +2,8 @@
 ghost use Rattle.std.specs.Prelude.{◌≡◌, true, [], ◌∷◌, ◌++◌};
 
 use cli::{
-    Conversion, Diagnostics, ErrorLines, Filter, FilterError, FixdecError, LineReader, OnError, OperationError,
-    PluralError, Reason, filter_lines,
+    Conversion, Diagnostics, ErrorLines, Filter, FilterError, FixdecError, LineReader, OnError,
+    OperationError, PluralError, Reason, filter_lines,
 };
 use fixed_decimal::{Call, TextBuf};
 use std::alloc::Global;

@@ -1,4 +1,4 @@
-use Rattle.std.proofs.Common.{◌≡◌, ℕ, List, [], String, Option, Some, Result, Ok, Err, IfErr, Bool, inl, inr, refl, rules}
+use Rattle.std.proofs.Common.{ℕ, List, [], String, Option, Some, Result, Ok, Err, IfErr, Bool, inl, inr, refl, rules}
 use Rattle.std.specs.declared.alloc.Global.{Global}
 use Rattle.std.specs.Io.KnownBytes.{Keeps, append_known}
 use Rattle.std.proofs.KnownBytes.{Appends-kept}
@@ -77,17 +77,17 @@ module _
 -- a filter that ran returned no early error
 not_early :
     {D : Type 0} {P : Option (List ℕ) → Option (List ℕ) → List ℕ → Type 0} {reports : D → FilterError → D → Type 0}
-    {filter : Filter} {e : Effects D} {Q : Type 0} (r : Result Bool FilterError) → Filters P reports filter e r
+    {filter : Filter} {e : Effects D} (Q : Type 0) (r : Result Bool FilterError) → Filters P reports filter e r
     → IfErr r (λ error. IsEarly error → Q)
-not_early (Ok texts) h = tt
-not_early (Err Usage) h = λ _. absurd h.returns.1
-not_early (Err UnknownLocale) h = λ _. absurd h.returns.1
-not_early (Err Memory) h = λ _. absurd h.returns.1
-not_early (Err error) h = λ never. absurd never
+not_early Q (Ok texts) h = tt
+not_early Q (Err Usage) h = λ _. absurd h.returns.1
+not_early Q (Err UnknownLocale) h = λ _. absurd h.returns.1
+not_early Q (Err Memory) h = λ _. absurd h.returns.1
+not_early Q (Err error) h = λ never. absurd never
 
 pub returns-clause-unchanged_on_error : goal.returns-clause-unchanged_on_error
 returns-clause-unchanged_on_error g c =
-    not_early c.filter_lines-filtered.result c.filter_lines-filtered.ensures.filtered
+    not_early _ c.filter_lines-filtered.result c.filter_lines-filtered.ensures.filtered
 
 pub returns-clause-unread : goal.returns-clause-unread
 returns-clause-unread g c = λ is. absurd (rw is at c.filter_lines-filtered.ensures.filtered).returns.1
