@@ -2,8 +2,8 @@
 ghost use Rattle.std.specs.Prelude.{◌≡◌, true, [], ◌∷◌, ◌++◌};
 
 use cli::{
-    Conversion, Diagnostics, ErrorLines, Filter, FilterError, FixdecError, OnError, OperationError,
-    PluralError, Reason, filter_lines,
+    Conversion, Diagnostics, ErrorLines, Filter, FilterError, FixdecError, LineReader, OnError,
+    OperationError, PluralError, Reason, filter_lines,
 };
 use fixed_decimal::{Call, TextBuf};
 use std::alloc::Global;
@@ -148,7 +148,7 @@ fn errors_of_the_filter(rt: HostRuntime) -> Result<(), Fail> {
 #[test]
 fn a_skipping_filter_reports_each_refusal(rt: HostRuntime) -> Result<(), Fail> {
     let alloc = rt.alloc();
-    let mut input = b"250\nx\n7\n1e99999".as_slice();
+    let mut reader = LineReader::open(alloc, b"250\nx\n7\n1e99999".as_slice())?;
     let mut out = TextBuf::new(alloc);
     let mut log = Log {
         errors: Vec::new(alloc),
@@ -164,7 +164,7 @@ fn a_skipping_filter_reports_each_refusal(rt: HostRuntime) -> Result<(), Fail> {
         field: None,
         has_header: false,
     };
-    let answer = filter_lines(alloc, &filter, &mut input, &mut out, &mut log);
+    let answer = filter_lines(alloc, &filter, &mut reader, &mut out, &mut log);
     assert_eq!(rt; answer, Ok(false));
     assert_eq!(rt; out.as_bytes(), b"2.50\n\n0.07\n\n".as_slice());
     let wanted = [

@@ -1,5 +1,5 @@
 //! The filter on a field of each line.
-use cli::{Conversion, ErrorLines, Field, Filter, FilterError, OnError, filter_lines};
+use cli::{Conversion, ErrorLines, Field, Filter, FilterError, LineReader, OnError, filter_lines};
 use fixed_decimal::{Call, TextBuf};
 use std::alloc::Global;
 use std::test::Fail;
@@ -123,7 +123,7 @@ const ROWS: &[Row] = &[
 fn filtered(
     alloc: Global,
     field: FieldRow,
-    mut input: &[u8],
+    input: &[u8],
 ) -> Result<(Result<bool, FilterError>, TextBuf, Vec<u8>), Fail> {
     let mut out = TextBuf::new(alloc);
     let mut err = Vec::<u8>::new(alloc);
@@ -142,7 +142,8 @@ fn filtered(
         has_header: false,
     };
     let mut lines = ErrorLines::new(&mut err);
-    let result = filter_lines(alloc, &filter, &mut input, &mut out, &mut lines);
+    let mut reader = LineReader::open(alloc, input)?;
+    let result = filter_lines(alloc, &filter, &mut reader, &mut out, &mut lines);
     Ok((result, out, err))
 }
 

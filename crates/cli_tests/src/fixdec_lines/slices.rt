@@ -1,5 +1,5 @@
 //! The filter as a function of a library: over a slice, and into two sinks in memory.
-use cli::{Conversion, ErrorLines, Filter, FilterError, OnError, filter_lines};
+use cli::{Conversion, ErrorLines, Filter, FilterError, LineReader, OnError, filter_lines};
 use fixed_decimal::{Call, TextBuf};
 use std::alloc::Global;
 use std::test::Fail;
@@ -28,7 +28,6 @@ const ROWS: &[Row] = &[
 
 /// Whether a row holds.
 fn holds(alloc: Global, row: &Row) -> bool {
-    let mut input = row.1;
     let mut out = TextBuf::new(alloc);
     let mut err = Vec::<u8>::new(alloc);
     let mut lines = ErrorLines::new(&mut err);
@@ -45,7 +44,10 @@ fn holds(alloc: Global, row: &Row) -> bool {
         field: None,
         has_header: false,
     };
-    let answer = filter_lines(alloc, &filter, &mut input, &mut out, &mut lines);
+    let Ok(mut reader) = LineReader::open(alloc, row.1) else {
+        return false;
+    };
+    let answer = filter_lines(alloc, &filter, &mut reader, &mut out, &mut lines);
     answer == row.4 && out.as_bytes() == row.2 && err.as_slice() == row.3
 }
 
