@@ -2,6 +2,7 @@
 ghost use Rattle.std.specs.Prelude.{◌≡◌, ◌<◌, ◌≤◌, ℕ};
 ghost use Rattle.cli.specs.Errors.{status_of_operation, status_of_fixdec, status_of_filter, status_of_plural};
 
+use crate::help::USAGE;
 use crate::words::WordsError;
 use fixed_decimal::{ParseError, RunError, SinkFault};
 use plural_rules::RulesError;
@@ -52,7 +53,7 @@ pub enum OperationError {
 #[derive(Debug, Drop, PartialEq, Error)]
 pub enum FixdecError {
     /// There is no text, or a word names nothing, is not in its place, or is not UTF-8.
-    #[error("usage: fixdec [read:LOCALE] TEXT [CALL].. [format:LOCALE]")]
+    #[error("{USAGE}")]
     Usage,
     /// The locale of `read:` or `format:` is unknown.
     #[error("unknown locale")]

@@ -15,7 +15,7 @@ use crate::filter::{Filter, filter_lines};
 use crate::help::{CALLS, OPTIONS, help};
 use crate::options::split_options;
 use crate::output::{BufferedOut, Closed, abandon, close, open};
-use crate::words::{parse_conversion, split_read};
+use crate::words::parse_conversion;
 use std::alloc::Global;
 use std::env::Args;
 use std::io::{BufReader, Read, Write};
@@ -31,11 +31,10 @@ fn parse_filter(alloc: Global, words: &[String]) -> Result<Filter<'_>, FilterErr
     ensures err { IfErr result (FilterFails words.now) }
 {
     let (options, words) = split_options(words);
-    let (read, words) = split_read(words);
     let Some(field) = options.field() else {
         return Err(FilterError::Usage);
     };
-    match parse_conversion(alloc, read, words) {
+    match parse_conversion(alloc, words) {
         Ok(conversion) => Ok(Filter {
             on_error: options.on_error,
             conversion,
@@ -168,7 +167,7 @@ pub fn run_arguments<R: Read, O: Write + Drop, D: Diagnostics<FilterError>>(
 pub fn execute(rt: HostRuntime) -> ExitCode
     ensures at_most { exit_status result ≤ 3 }
 {
-    if let Some(status) = help(rt.alloc(), env::args(&rt), OPTIONS, CALLS, &mut rt.stdout()) {
+    if let Some(status) = help(env::args(&rt), OPTIONS, CALLS, &mut rt.stdout()) {
         return ExitCode::from(status);
     }
     let mut err = rt.stderr();

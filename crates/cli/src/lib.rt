@@ -15,6 +15,7 @@ mod filter;
 pub mod fixdec;
 pub mod fixdec_lines;
 mod help;
+pub mod laws;
 mod line_feed;
 mod options;
 mod output;

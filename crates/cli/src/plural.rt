@@ -108,13 +108,7 @@ pub fn execute(rt: HostRuntime) -> ExitCode
     ensures at_most { exit_status result ≤ 3 }
 {
     let usage = "usage: plural RULES TEXT..\n";
-    if let Some(status) = help(
-        rt.alloc(),
-        env::args(&rt),
-        usage,
-        OPERANDS,
-        &mut rt.stdout(),
-    ) {
+    if let Some(status) = help(env::args(&rt), usage, OPERANDS, &mut rt.stdout()) {
         return ExitCode::from(status);
     }
     let mut err = rt.stderr();
