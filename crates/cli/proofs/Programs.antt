@@ -13,6 +13,7 @@ use Rattle.fixed_decimal.specs.declared.runs.Call.{Call}
 use Rattle.cli.specs.declared.conversion.Conversion.{Conversion}
 use Rattle.cli.specs.declared.error.FixdecError.TheVariants.{Usage, Operation}
 use Rattle.cli.specs.Conversion.{HasOutcome}
+use Rattle.cli.proofs.Conversions.{output_fails}
 use Rattle.cli.specs.Words.{Names, NameAll}
 use Rattle.cli.specs.ConversionWords.{NamesConversion, ConversionFails}
 use Rattle.cli.specs.declared.words.WordsError.{WordsError}
@@ -166,6 +167,6 @@ pub unwritten_fails :
     (words : List (String Global)) (a b d : Option (List ℕ)) → Prints words a b → Keeps b d
     → HasError words (Operation Output) × PrintsPrefix words a d
 unwritten_fails words a b d h k = (
-  run_of h.conversion h.text h.names (h.holds.0, h.holds.1),
+  run_of h.conversion h.text h.names (output_fails h.conversion h.text h.holds.0 h.holds.1),
   run_of h.conversion h.text h.names (line_begun h.conversion h.text a b d h.holds k),
 )

@@ -1,5 +1,6 @@
 -- Words that name no conversion have one error.
-use Rattle.std.proofs.Common.{◌≡◌, ℕ, suc, ◌<◌, List, [], ◌∷◌, ◌++◌, length, codes, String, string_bytes, Global, Option, Some, None, inl, inr, refl, sym, ap, subst, ◌∙◌, arith}
+use Rattle.std.proofs.Common.{◌≡◌, ℕ, suc, ◌<◌, List, [], ◌∷◌, ◌++◌, length, codes, String, string_bytes, Global, Option, Some, None, true, false, inl, inr, refl, sym, ap, subst, ◌∙◌, arith}
+use Prim.Native.Nat.{zero}
 use Rattle.std.specs.Prelude.{All, Contains, Any, slice_index_or}
 use Rattle.std.proofs.lemmas.List.{append_cancel_left, length-append}
 use Rattle.std.proofs.lemmas.List.Elements.{All-contains}
