@@ -1,5 +1,5 @@
 -- The outcome of a conversion, and its errors.
-use Rattle.std.proofs.Common.{◌≡◌, ◌⊎◌, ◌||◌, ℕ, List, Option, Some, None, Result, Ok, Err, Bool, true, false, inl, inr, refl, sym, ap, subst, ◌∙◌, arith}
+use Rattle.std.proofs.Common.{◌≡◌, ◌⊎◌, ◌||◌, ℕ, List, Option, Some, None, Result, Ok, Err, true, false, inl, inr, refl, sym, ap, subst, ◌∙◌, arith}
 use Rattle.std.specs.Prelude.{MatchOption, IsOk, IsOkAnd}
 use Rattle.std.specs.Option.{is_some}
 use Rattle.decimal_unsigned.specs.declared.error.ParseError.{ParseError}
@@ -117,12 +117,12 @@ pub output_fails :
     (c : Conversion) (text written : List ℕ) → IsOutcome c text (Ok written)
     → OperationsFail operation.Output c text
 output_fails c text written h = elim (cases_of _ _ c.reader c.formatter h) [
-    | inl (reader, formatter, is) ↦
-        if_none _ (FailsByForms operation.Output c text) c.reader c.formatter reader formatter
-        (Sink, refl, subst (λ o. IsOk o) is refl)
-    | inr (some, is) ↦
-        if_some (IsErrorOfRun operation.Output text c.calls.items) _ c.reader c.formatter some (written, is)
-  ]
+  | inl (reader, formatter, is) ↦
+      if_none _ (FailsByForms operation.Output c text) c.reader c.formatter reader formatter
+      (Sink, refl, subst (λ o. IsOk o) is refl)
+  | inr (some, is) ↦
+      if_some (IsErrorOfRun operation.Output text c.calls.items) _ c.reader c.formatter some (written, is)
+]
 
 -- ---- Errors with status 1.
 
@@ -150,13 +150,13 @@ pub error_is_outcome :
     (c : Conversion) (text : List ℕ) (error : OperationError) → status_of_operation error ≡ 1
     → OperationsFail error c text → (why : OutcomeError) × (error ≡ error_of why) × IsOutcome c text (Err why)
 error_is_outcome c text error one h = elim (cases_of _ _ c.reader c.formatter h) [
-    | inl (reader, formatter, (why, same, fails)) ↦
-        let (e, equal, is) = run_error text c.calls.items why (ap status_of_operation (sym same) ∙ one) fails in
-        (e, same ∙ equal, plain_outcome c text (Err e) reader formatter (sym is))
-    | inr (some, fails) ↦
-        let (e, same, is) = error_by_forms c text error one fails in
-        (e, same, outcome_by_forms c text (Err e) some is)
-  ]
+  | inl (reader, formatter, (why, same, fails)) ↦
+      let (e, equal, is) = run_error text c.calls.items why (ap status_of_operation (sym same) ∙ one) fails in
+      (e, same ∙ equal, plain_outcome c text (Err e) reader formatter (sym is))
+  | inr (some, fails) ↦
+      let (e, same, is) = error_by_forms c text error one fails in
+      (e, same, outcome_by_forms c text (Err e) some is)
+]
 
 -- ---- The law.
 
@@ -171,12 +171,12 @@ pub conversion_is_run_formatted :
 conversion_is_run_formatted c text result none h =
     let run = run_is_formatted c.calls.items text (read_decimal text) refl in
     elim (cases_of _ _ c.reader c.formatter h) [
-    | inl (reader, formatter, is) ↦
-        (run, rw (no_formatter c.formatter formatter) (is ∙ run))
-    | inr (some, is) ↦
-        let read : is.read ≡ read_decimal text = rw none at is.is_read in
-        (run, rw read at is.is)
-  ]
+      | inl (reader, formatter, is) ↦
+          (run, rw (no_formatter c.formatter formatter) (is ∙ run))
+      | inr (some, is) ↦
+          let read : is.read ≡ read_decimal text = rw none at is.is_read in
+          (run, rw read at is.is)
+    ]
   where
     no_formatter : (f : Option Formatter) → is_some f ≡ false → f ≡ None
     no_formatter None e = refl

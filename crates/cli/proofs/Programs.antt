@@ -1,5 +1,5 @@
 -- The run that the words of a command line name, and its result.
-use Rattle.std.proofs.Common.{inl, inr, ◌≡◌, ℕ, ◌+◌, ◌-◌, ◌<◌, ◌≤◌, List, [], ◌∷◌, ◌++◌, length, take, drop, get_or, String, string_bytes, Option, Some, None, Result, Ok, Err, IfNone, IfSome, IfErr, true, false, refl, sym, ap, subst, ◌∙◌, arith, add-one}
+use Rattle.std.proofs.Common.{◌≡◌, ℕ, ◌+◌, ◌-◌, ◌<◌, ◌≤◌, List, [], ◌∷◌, ◌++◌, length, take, drop, get_or, String, string_bytes, Option, Some, None, Result, Ok, Err, IfNone, IfSome, IfErr, true, false, refl, sym, ap, subst, ◌∙◌, arith, add-one}
 use Rattle.std.specs.Prelude.{IsErrAnd, OnOk}
 use Rattle.std.specs.Option.{is_some}
 use Rattle.std.specs.declared.alloc.Global.{Global}

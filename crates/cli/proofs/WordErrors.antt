@@ -129,9 +129,9 @@ module _ (a b : WordsError) (read : Option (List ℕ)) (calls : List (String Glo
   parts_error (inr (_, inl (h, is))) (inr (_, inr (all, rest))) = absurd (are_known calls all h)
   parts_error (inr (_, inr (all, rest))) (inr (_, inl (k, same))) = absurd (are_known calls all k)
   parts_error (inr (_, inr (_, inl h))) (inr (_, inr (_, inl k))) = formatter_error format a b h k
-  parts_error (inr (_, inr (_, inl h))) (inr (_, inr (_, inr ((f, names), rest)))) =
+  parts_error (inr (_, inr (_, inl h))) (inr (_, inr (_, inr ((f, names), some, is)))) =
       absurd (formatter_is_right format f a names h)
-  parts_error (inr (_, inr (_, inr ((f, names), rest)))) (inr (_, inr (_, inl k))) =
+  parts_error (inr (_, inr (_, inr ((f, names), some, is)))) (inr (_, inr (_, inl k))) =
       absurd (formatter_is_right format f b names k)
   parts_error (inr (_, inr (_, inr (_, some, is)))) (inr (_, inr (_, inr (_, other, same)))) = is ∙ sym same
 

@@ -15,7 +15,6 @@ pub fn conversion_is_run_formatted()
 {}
 
 /// Words that name no conversion have one error.
-#[tactic(auto, using(crate::proofs::WordErrors::error_is_unique))]
 pub fn error_of_words_is_unique()
     ensures { (words : List (String Global)) (first second : WordsError) → ConversionFails words first
         → ConversionFails words second → first ≡ second }
