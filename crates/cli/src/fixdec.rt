@@ -13,7 +13,7 @@ use crate::arguments::words;
 use crate::conversion::{Conversion, convert};
 use crate::diagnostics::conclude_on;
 use crate::error::{FixdecError, OperationError};
-use crate::help::{CALLS, USAGE, help};
+use crate::help::{CALLS, FIXDEC, LOCALES, help};
 use crate::output::{Closed, abandon, close, open};
 use crate::words::parse_conversion;
 use fixed_decimal::{Out, Sink, SinkFault};
@@ -154,7 +154,7 @@ pub fn run_arguments<O: Write + Drop, E: Write>(
 pub fn execute(rt: HostRuntime) -> ExitCode
     ensures at_most { exit_status result ≤ 3 }
 {
-    if let Some(status) = help(env::args(&rt), USAGE, CALLS, &mut rt.stdout()) {
+    if let Some(status) = help(env::args(&rt), FIXDEC, LOCALES, CALLS, &mut rt.stdout()) {
         return ExitCode::from(status);
     }
     let (status, _out) = run_arguments(rt.alloc(), env::args(&rt), rt.stdout(), &mut rt.stderr());

@@ -12,7 +12,7 @@ use crate::arguments::words;
 use crate::diagnostics::{Diagnostics, ErrorLines, conclude};
 use crate::error::FilterError;
 use crate::filter::{Filter, filter_lines};
-use crate::help::{CALLS, OPTIONS, help};
+use crate::help::{CALLS, FIXDEC_LINES, OPTIONS, help};
 use crate::options::split_options;
 use crate::output::{BufferedOut, Closed, abandon, close, open};
 use crate::words::parse_conversion;
@@ -167,7 +167,13 @@ pub fn run_arguments<R: Read, O: Write + Drop, D: Diagnostics<FilterError>>(
 pub fn execute(rt: HostRuntime) -> ExitCode
     ensures at_most { exit_status result ≤ 3 }
 {
-    if let Some(status) = help(env::args(&rt), OPTIONS, CALLS, &mut rt.stdout()) {
+    if let Some(status) = help(
+        env::args(&rt),
+        FIXDEC_LINES,
+        OPTIONS,
+        CALLS,
+        &mut rt.stdout(),
+    ) {
         return ExitCode::from(status);
     }
     let mut err = rt.stderr();
