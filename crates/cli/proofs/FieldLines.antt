@@ -54,7 +54,8 @@ module _ (field : Field) (conversion : Conversion) (bytes text : List ℕ) (hold
       → (error ≢ Output → result ≡ error) → result ≢ Memory → IsFieldResult field conversion bytes (Err result)
   field_error Memory result fails output same other = absurd (other (same (λ is. cc)))
   field_error Output result fails output same other = absurd (other (output refl))
-  field_error error result (why, is_error, is) output same other =
+  field_error error result fails output same other =
+      let (why, is_error, is) = error_is_outcome conversion text error refl fails in
       rw (same (λ is. cc)) (inl (text, holds, (Err why, is, ap Err is_error)))
 
 -- ---- The result of a line.

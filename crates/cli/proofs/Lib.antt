@@ -2,6 +2,7 @@ pub mod Numerals
 pub mod RoundingWord
 pub mod Programs
 pub mod Conversions
+pub mod WordErrors
 pub mod Buffers
 pub mod Filtering
 pub mod Reporting

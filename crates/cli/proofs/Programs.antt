@@ -1,5 +1,5 @@
 -- The run that the words of a command line name, and its result.
-use Rattle.std.proofs.Common.{inl, inr, ◌≡◌, ℕ, ◌+◌, ◌-◌, ◌<◌, ◌≤◌, List, [], ◌∷◌, ◌++◌, length, take, drop, get_or, String, string_bytes, Option, Some, None, Result, Ok, Err, IfNone, IfSome, IfErr, true, false, refl, sym, ap, subst, ◌∙◌, arith, add-one}
+use Rattle.std.proofs.Common.{◌≡◌, ℕ, ◌+◌, ◌-◌, ◌<◌, ◌≤◌, List, [], ◌∷◌, ◌++◌, length, take, drop, get_or, String, string_bytes, Option, Some, None, Result, Ok, Err, IfNone, IfSome, IfErr, true, false, refl, sym, ap, subst, ◌∙◌, arith, add-one}
 use Rattle.std.specs.Prelude.{IsErrAnd, OnOk}
 use Rattle.std.specs.Option.{is_some}
 use Rattle.std.specs.declared.alloc.Global.{Global}
@@ -13,14 +13,15 @@ use Rattle.fixed_decimal.specs.declared.runs.Call.{Call}
 use Rattle.cli.specs.declared.conversion.Conversion.{Conversion}
 use Rattle.cli.specs.declared.error.FixdecError.TheVariants.{Usage, Operation}
 use Rattle.cli.specs.Conversion.{HasOutcome}
+use Rattle.cli.proofs.Conversions.{output_fails}
 use Rattle.cli.specs.Words.{Names, NameAll}
-use Rattle.cli.specs.ConversionWords.{IsReadSplit, NamesConversion, ConversionFails}
+use Rattle.cli.specs.ConversionWords.{NamesConversion, ConversionFails}
 use Rattle.cli.specs.declared.words.WordsError.{WordsError}
 use Rattle.cli.specs.declared.words.WordsError.TheVariants as reason
 use Rattle.cli.specs.Errors.{fixdec_error_of}
 use Rattle.cli.specs.declared.error.OperationError.TheVariants.{Output}
 use Rattle.cli.specs.Arguments.{Arguments, HaveWords}
-use Rattle.cli.specs.Fixdec.{HasText, HasRun, NamesRun, HasError, PrintsLine, PrintsLinePrefix, Prints, PrintsPrefix}
+use Rattle.cli.specs.Fixdec.{HasRun, NamesRun, RunFails, HasError, PrintsLine, PrintsLinePrefix, Prints, PrintsPrefix}
 
 -- ---- Words and calls, one by one.
 
@@ -71,45 +72,30 @@ others_and_last words last l is =
     let inside : length words - 1 < length words = omega arith in
     sym (take-length words) ∙ ap (λ n. take n words) (sym e) ∙ taken words (length words - 1) last inside is
 
--- the words after an optional `read:..`
-module _
-    (words rest : List (String Global)) (read : Option (List ℕ)) (split : IsReadSplit words read rest)
-  where
-    -- there are none
-    pub no_text : length rest < 1 → HasError words Usage
-    no_text few = inl ((read, subst (IsReadSplit words read) (nil rest few) split), refl)
-      where
-        nil : (xs : List (String Global)) → length xs < 1 → xs ≡ []
-        nil [] few = refl
-        nil (x ∷ xs) few = absurd (omega arith)
+-- there is no text
+pub no_text : (words : List (String Global)) → length words < 1 → HasError words Usage
+no_text [] few = refl
+no_text (w ∷ ws) few = absurd (omega arith)
 
-    module _
-        (first : String Global) (l : 1 ≤ length rest) (is : first ≡ get_or rest 0 first)
-      where
-        abbrev others : List (String Global)
-        others = take (length rest - 1) (drop 1 rest)
+module _ (words : List (String Global)) (first : String Global) (l : 1 ≤ length words)
+    (is : first ≡ get_or words 0 first) where
+  abbrev others : List (String Global)
+  others = take (length words - 1) (drop 1 words)
 
-        has_text : {P : Option (List ℕ) → List ℕ → List (String Global) → Type 0}
-            → P read (string_bytes first) others → HasText words P
-        has_text holds = record {
-          read = read;
-          first = first;
-          others = others;
-          split = subst (IsReadSplit words read) (first_and_others rest first l is) split;
-          holds = holds;
-        }
+  split : first ∷ others ≡ words
+  split = sym (first_and_others words first l is)
 
-        -- the first is the text, and the others name a conversion
-        pub names_run :
-            (conversion : Conversion) → NamesConversion read others conversion
-            → NamesRun words conversion (string_bytes first)
-        names_run conversion names = has_text (refl, names)
+  -- the first word is the text, and the others name a conversion
+  pub names_run :
+      (conversion : Conversion) → NamesConversion others conversion → NamesRun words conversion (string_bytes first)
+  names_run conversion names = subst (λ ws. NamesRun ws conversion (string_bytes first)) split (refl, names)
 
-        -- they name none
-        pub words_fail :
-            (error : WordsError) → ConversionFails read others error → HasError words (fixdec_error_of error)
-        words_fail reason.Usage fails = inr (has_text fails)
-        words_fail error fails = inr (has_text fails)
+  -- they name none
+  pub words_fail :
+      (error : WordsError) → ConversionFails others error → HasError words (fixdec_error_of error)
+  words_fail reason.Usage fails = subst (λ ws. RunFails ws reason.Usage) split fails
+  words_fail reason.UnknownLocale fails = subst (λ ws. RunFails ws reason.UnknownLocale) split fails
+  words_fail reason.Memory fails = subst (λ ws. RunFails ws reason.Memory) split fails
 
 -- ---- Results.
 
@@ -181,6 +167,6 @@ pub unwritten_fails :
     (words : List (String Global)) (a b d : Option (List ℕ)) → Prints words a b → Keeps b d
     → HasError words (Operation Output) × PrintsPrefix words a d
 unwritten_fails words a b d h k = (
-  run_of h.conversion h.text h.names (h.holds.0, h.holds.1),
+  run_of h.conversion h.text h.names (output_fails h.conversion h.text h.holds.0 h.holds.1),
   run_of h.conversion h.text h.names (line_begun h.conversion h.text a b d h.holds k),
 )

@@ -1,16 +1,17 @@
 -- The outcome of a conversion on a text, and its errors.
-use Rattle.std.specs.Prelude.{◌≡◌, ◌⊎◌, List, ℕ, Option, Some, None, Result, Ok, Err, IsOkAnd}
+use Rattle.std.specs.Prelude.{◌≡◌, ◌⊎◌, List, ℕ, Option, Some, None, MatchOption, Result, Ok, Err, IsOkAnd}
 use Rattle.decimal_unsigned.specs.Reading.{ReadError, syntax, limit}
 use Rattle.decimal_unsigned.specs.declared.decimal.TheConstants.{INLINE_DIGITS}
 use Rattle.decimal_unsigned.specs.declared.error.ParseError.{ParseError}
 use Rattle.decimal_unsigned.specs.declared.error.ParseError.TheVariants as parse
 use Rattle.fixed_decimal.specs.Decimal.{Decimal}
 use Rattle.fixed_decimal.specs.DecimalText.{decimal_text, read_decimal, IsLong, and_then}
-use Rattle.fixed_decimal.specs.Outcome.{OutcomeError, started, after_calls, start, operand, overlap, limit_exceeded}
+use Rattle.fixed_decimal.specs.Outcome.{OutcomeError, started, after_calls, outcome, start, operand, overlap, limit_exceeded}
 use Rattle.fixed_decimal.specs.Calls.{CallsFail}
-use Rattle.fixed_decimal.specs.Errors.{run_error}
+use Rattle.fixed_decimal.specs.Errors.{RunFails, run_error}
 use Rattle.fixed_decimal.specs.declared.runs.Call.{Call}
 use Rattle.fixed_decimal.specs.declared.runs.CallError.{CallError}
+use Rattle.fixed_decimal.specs.declared.runs.RunError.{RunError}
 use Rattle.decimal_format.specs.Formatted.{Formatter, formatted}
 use Rattle.cli.specs.declared.conversion.Conversion.{Conversion}
 use Rattle.cli.specs.declared.reader.DecimalReader.{DecimalReader}
@@ -45,21 +46,35 @@ abbrev pub text_by : Option Formatter → Decimal → List ℕ
 text_by None v = decimal_text v
 text_by (Some f) v = formatted f.symbols f.strategy v
 
--- the outcome of a text that is read so: the text of the decimal after the calls, or the first error
-abbrev pub outcome_of : Conversion → Result Decimal ReadError → Result (List ℕ) OutcomeError
-outcome_of conversion read =
-    and_then (started read)
-    (λ v. and_then (after_calls 0 v conversion.calls.items) (λ w. Ok (text_by conversion.formatter w)))
+-- the decimal after the calls on what was read, or the first error
+abbrev pub last_decimal : List Call → Result Decimal ReadError → Result Decimal OutcomeError
+last_decimal calls read = and_then (started read) (λ v. after_calls 0 v calls)
 
--- the outcome of a text
-pub record IsOutcome (conversion : Conversion) (text : List ℕ) (outcome : Result (List ℕ) OutcomeError) : Type 0 where
+-- the text of a decimal by a formatter, or the error
+abbrev pub formatted_by : Option Formatter → Result Decimal OutcomeError → Result (List ℕ) OutcomeError
+formatted_by formatter last = and_then last (λ w. Ok (text_by formatter w))
+
+-- the outcome of a text by a reader and a formatter
+pub record IsOutcomeByForms (c : Conversion) (text : List ℕ) (result : Result (List ℕ) OutcomeError) : Type 0 where
   pub read : Result Decimal ReadError
-  pub is_read : IsReadAs conversion.reader text read
-  pub is : outcome ≡ outcome_of conversion read
+  pub is_read : IsReadAs c.reader text read
+  pub is : result ≡ formatted_by c.formatter (last_decimal c.calls.items read)
+
+-- P of a conversion without a reader and a formatter, and Q of any other
+abbrev pub IfPlain : Conversion → Type 0 → Type 0 → Type 0
+IfPlain c P Q = MatchOption c.reader (MatchOption c.formatter P (λ _. Q)) (λ _. Q)
+
+-- the outcome of a text: without a reader and a formatter that of the run
+abbrev pub IsOutcome : Conversion → List ℕ → Result (List ℕ) OutcomeError → Type 0
+IsOutcome c text result = IfPlain c (result ≡ outcome text c.calls.items) (IsOutcomeByForms c text result)
 
 -- P holds of the text that the conversion makes of a text
 abbrev pub HasOutcome : Conversion → List ℕ → (List ℕ → Type 0) → Type 0
-HasOutcome conversion text P = (written : List ℕ) × IsOutcome conversion text (Ok written) × P written
+HasOutcome c text P = (written : List ℕ) × IsOutcome c text (Ok written) × P written
+
+-- the same by the reader and the formatter
+abbrev pub HasOutcomeByForms : Conversion → List ℕ → (List ℕ → Type 0) → Type 0
+HasOutcomeByForms c text P = (written : List ℕ) × IsOutcomeByForms c text (Ok written) × P written
 
 -- ---- Errors.
 
@@ -79,10 +94,26 @@ CallsNeedMemory v calls =
 
 -- the error is that of the outcome; or out of memory, where reading or the calls may need it; or a failed output of a
 -- text
+abbrev pub FailsByForms : OperationError → Conversion → List ℕ → Type 0
+FailsByForms Memory c text =
+    ReadingNeedsMemory c.reader text
+    ⊎ ((v : Decimal) × IsReadAs c.reader text (Ok v) × CallsNeedMemory v c.calls.items)
+FailsByForms Output c text = (written : List ℕ) × IsOutcomeByForms c text (Ok written)
+FailsByForms error c text = (why : OutcomeError) × (error ≡ error_of why) × IsOutcomeByForms c text (Err why)
+
+-- the run fails with this error
+abbrev pub IsErrorOfRun : OperationError → List ℕ → List Call → Type 0
+IsErrorOfRun error text calls =
+    (why : RunError) × (error ≡ error_of_run why) × RunFails INLINE_DIGITS why text calls
+
+-- the conversion of a text fails with this error: without a reader and a formatter that of the run
 abbrev pub OperationsFail : OperationError → Conversion → List ℕ → Type 0
-OperationsFail Memory conversion text =
-    ReadingNeedsMemory conversion.reader text
-    ⊎ ((v : Decimal) × IsReadAs conversion.reader text (Ok v) × CallsNeedMemory v conversion.calls.items)
-OperationsFail Output conversion text = (written : List ℕ) × IsOutcome conversion text (Ok written)
-OperationsFail error conversion text =
-    (why : OutcomeError) × (error ≡ error_of why) × IsOutcome conversion text (Err why)
+OperationsFail error c text = IfPlain c (IsErrorOfRun error text c.calls.items) (FailsByForms error c text)
+
+-- ---- The law.
+
+-- without a reader: the run writes the last decimal by its own text, and the conversion by the formatter
+abbrev pub IsRunFormatted : Conversion → List ℕ → Result (List ℕ) OutcomeError → Type 0
+IsRunFormatted c text result =
+    (outcome text c.calls.items ≡ formatted_by None (last_decimal c.calls.items (read_decimal text)))
+    × (result ≡ formatted_by c.formatter (last_decimal c.calls.items (read_decimal text)))

@@ -80,40 +80,60 @@ NamesFormatter (Some parameters) (Some formatter) =
     IsStrategyOption (option_of parameters) formatter.strategy × IsLocale (tag_of parameters) formatter.symbols
 NamesFormatter _ _ = ⊥
 
--- the parameters after `read:` and the words after them name this conversion
-pub record NamesConversion (read : Option (List ℕ)) (words : List (String Global)) (conversion : Conversion) :
-    Type 0 where
-  pub format : Option (List ℕ)
-  pub calls : List (String Global)
-  pub split : IsFormatSplit words format calls
-  pub reader : NamesReader read conversion.reader
-  pub made : NameAll calls conversion.calls.items
-  pub formatter : NamesFormatter format conversion.formatter
+-- ---- All words.
+
+-- the words are [read:..] .. [format:..], and P holds of what follows `read:`, of the words between, and of what
+-- follows `format:`
+pub record HasParts
+    (words : List (String Global)) (P : Option (List ℕ) → List (String Global) → Option (List ℕ) → Type 0)
+    : Type 0
+  where
+    pub read : Option (List ℕ)
+    pub others : List (String Global)
+    pub calls : List (String Global)
+    pub format : Option (List ℕ)
+    pub first : IsReadSplit words read others
+    pub last : IsFormatSplit others format calls
+    pub holds : P read calls format
+
+-- the words are [read:..] [CALL].. [format:..], and name this conversion
+abbrev pub NamesConversion : List (String Global) → Conversion → Type 0
+NamesConversion words conversion =
+    HasParts words
+    (λ read calls format. NamesReader read conversion.reader × NameAll calls conversion.calls.items
+    × NamesFormatter format conversion.formatter)
 
 -- ---- Errors.
 
--- the parameters after `read:` name no reader: the option is that of no mode, or the locale is unknown
+-- the parameters after `read:` name no reader: the option is that of no mode; or it is that of one, and the locale is
+-- unknown
 abbrev pub ReaderFails : Option (List ℕ) → WordsError → Type 0
 ReaderFails (Some parameters) Usage = (mode : ParseMode) → option_of parameters ≢ mode_option mode
-ReaderFails (Some parameters) UnknownLocale = locales.IsUnknown (tag_of parameters)
+ReaderFails (Some parameters) UnknownLocale =
+    ((mode : ParseMode) × (option_of parameters ≡ mode_option mode)) × locales.IsUnknown (tag_of parameters)
 ReaderFails _ _ = ⊥
 
--- the parameters after `format:` name no formatter: the option is that of no strategy, or the locale is unknown
+-- the parameters after `format:` name no formatter: the option is that of no strategy; or it is that of one, and the
+-- locale is unknown
 abbrev pub FormatterFails : Option (List ℕ) → WordsError → Type 0
 FormatterFails (Some parameters) Usage =
     (strategy : GroupingStrategy) → ¬ IsStrategyOption (option_of parameters) strategy
-FormatterFails (Some parameters) UnknownLocale = locales.IsUnknown (tag_of parameters)
+FormatterFails (Some parameters) UnknownLocale =
+    ((strategy : GroupingStrategy) × IsStrategyOption (option_of parameters) strategy)
+    × locales.IsUnknown (tag_of parameters)
 FormatterFails _ _ = ⊥
 
--- the words name no calls: one of them names none; or each does, and there is no memory for their list
-abbrev pub CallsFail : List (String Global) → WordsError → Type 0
-CallsFail words Usage = Any IsUnknown words
-CallsFail words UnknownLocale = ⊥
-CallsFail words Memory = AreCalls words × (words ≢ [])
+-- the first wrong word has this error, from the left: `read:..`, a call, `format:..`; or no word is wrong, and the list
+-- of the calls is out of memory
+abbrev pub PartsFail : WordsError → Option (List ℕ) → List (String Global) → Option (List ℕ) → Type 0
+PartsFail error read calls format =
+    ReaderFails read error
+    ⊎ (((reader : Option DecimalReader) × NamesReader read reader)
+    × ((Any IsUnknown calls × (error ≡ Usage))
+    ⊎ (AreCalls calls
+    × (FormatterFails format error
+    ⊎ (((formatter : Option Formatter) × NamesFormatter format formatter) × (calls ≢ []) × (error ≡ Memory))))))
 
--- the parameters after `read:` and the words after them name no conversion
-pub record ConversionFails (read : Option (List ℕ)) (words : List (String Global)) (error : WordsError) : Type 0 where
-  pub format : Option (List ℕ)
-  pub calls : List (String Global)
-  pub split : IsFormatSplit words format calls
-  pub why : ReaderFails read error ⊎ (FormatterFails format error ⊎ CallsFail calls error)
+-- the words name no conversion, for this error
+abbrev pub ConversionFails : List (String Global) → WordsError → Type 0
+ConversionFails words error = HasParts words (PartsFail error)

@@ -2,46 +2,39 @@
 use Rattle.std.specs.Prelude.{◌≡◌, ◌⊎◌, ℕ, ⊤, Bool, true, List, String, Option, MatchOption, Result, Ok, Err}
 use Rattle.std.specs.declared.alloc.Global.{Global}
 use Rattle.std.specs.declared.io.ErrorKind.{ErrorKind}
-use Rattle.cli.specs.ConversionWords.{IsReadSplit, NamesConversion, ConversionFails}
+use Rattle.cli.specs.ConversionWords.{NamesConversion, ConversionFails}
 use Rattle.cli.specs.Options.{none, AreOptions, HasField}
 use Rattle.cli.specs.declared.options.Options.{Options}
 use Rattle.cli.specs.declared.fields.Field.{Field}
-use Rattle.cli.specs.declared.words.WordsError.TheVariants as reason
+use Rattle.cli.specs.declared.words.WordsError.{WordsError}
+use Rattle.cli.specs.Errors.{filter_error_of}
 use Rattle.cli.specs.declared.error.FilterError.{FilterError}
 use Rattle.cli.specs.declared.error.FilterError.TheVariants.{Usage, UnknownLocale, Memory, Output}
 use Rattle.cli.specs.declared.filter.Filter.{Filter}
 use Rattle.cli.specs.FilterLine.{Change, Effects}
 use Rattle.cli.specs.Lines.{AppendsUnwritten, Filters}
 
--- the words are [OPTION].. [read:..] .., and P holds of the options, of what follows `read:`, and of the words after it
-pub record HasWords
-    (words : List (String Global)) (P : Options → Option (List ℕ) → List (String Global) → Type 0)
-    : Type 0
-  where
-    pub options : Options
-    pub unoptioned : List (String Global)
-    pub read : Option (List ℕ)
-    pub others : List (String Global)
-    pub first : AreOptions none words options unoptioned
-    pub split : IsReadSplit unoptioned read others
-    pub holds : P options read others
+-- the words are [OPTION].. .., and P holds of the options and of the words after them
+pub record HasWords (words : List (String Global)) (P : Options → List (String Global) → Type 0) : Type 0 where
+  pub options : Options
+  pub others : List (String Global)
+  pub first : AreOptions none words options others
+  pub holds : P options others
 
 -- the words are [OPTION].. [read:..] [CALL].. [format:..], with this filter
 abbrev pub NamesFilter : List (String Global) → Filter → Type 0
 NamesFilter words filter =
     HasWords words
-    (λ options read others. (filter.on_error ≡ options.on_error) × (filter.has_header ≡ options.has_header)
-    × HasField options filter.field × NamesConversion read others filter.conversion)
+    (λ options others. (filter.on_error ≡ options.on_error) × (filter.has_header ≡ options.has_header)
+    × HasField options filter.field × NamesConversion others filter.conversion)
 
--- they are not, for this error: the options have no field, or the other words name no conversion
+-- they are not, for this error: the options have no field; or they have one, and the other words name no conversion
 abbrev pub FilterFails : List (String Global) → FilterError → Type 0
-FilterFails words Usage =
+FilterFails words error =
     HasWords words
-    (λ options read others. ((field : Option Field) → ¬ HasField options field)
-    ⊎ ConversionFails read others reason.Usage)
-FilterFails words UnknownLocale = HasWords words (λ _ read others. ConversionFails read others reason.UnknownLocale)
-FilterFails words Memory = HasWords words (λ _ read others. ConversionFails read others reason.Memory)
-FilterFails words _ = ⊥
+    (λ options others. (((field : Option Field) → ¬ HasField options field) × (error ≡ Usage))
+    ⊎ (((field : Option Field) × HasField options field)
+    × ((why : WordsError) × (error ≡ filter_error_of why) × ConversionFails others why)))
 
 -- the error comes before the first line
 abbrev pub IsEarly : FilterError → Type 0

@@ -1,10 +1,10 @@
 -- The run that the words of `fixdec` name, and its result.
-use Rattle.std.specs.Prelude.{◌⊎◌, ◌≡◌, ℕ, Bool, true, List, [], ◌∷◌, ◌++◌, String, string_bytes}
+use Rattle.std.specs.Prelude.{◌≡◌, ℕ, Bool, true, List, [], ◌∷◌, ◌++◌, String, string_bytes}
 use Rattle.std.specs.Prelude.{Option, MatchOption}
 use Rattle.std.specs.Io.KnownBytes.{Appends, append_known}
 use Rattle.std.specs.declared.alloc.Global.{Global}
 use Rattle.decimal_digits.specs.AppendsPrefix.{AppendsPrefix}
-use Rattle.cli.specs.ConversionWords.{IsReadSplit, NamesConversion, ConversionFails}
+use Rattle.cli.specs.ConversionWords.{NamesConversion, ConversionFails}
 use Rattle.cli.specs.declared.words.WordsError.{WordsError}
 use Rattle.cli.specs.declared.words.WordsError.TheVariants as reason
 use Rattle.cli.specs.declared.conversion.Conversion.{Conversion}
@@ -13,30 +13,15 @@ use Rattle.cli.specs.declared.error.FixdecError.TheVariants.{Usage, UnknownLocal
 use Rattle.cli.specs.Conversion.{HasOutcome, OperationsFail}
 use Rattle.cli.specs.Errors.{output}
 
--- the words are [read:..] TEXT .., and P holds of what follows `read:`, of the bytes of TEXT and of the words after it
-pub record HasText
-    (words : List (String Global)) (P : Option (List ℕ) → List ℕ → List (String Global) → Type 0)
-    : Type 0
-  where
-    pub read : Option (List ℕ)
-    pub first : String Global
-    pub others : List (String Global)
-    pub split : IsReadSplit words read (first ∷ others)
-    pub holds : P read (string_bytes first) others
-
--- there is no TEXT
-abbrev pub HasNoText : List (String Global) → Type 0
-HasNoText words = (read : Option (List ℕ)) × IsReadSplit words read []
-
--- the words are [read:..] TEXT [CALL].. [format:..], with this conversion and this text
+-- the words are TEXT [read:..] [CALL].. [format:..], with this conversion and this text
 abbrev pub NamesRun : List (String Global) → Conversion → List ℕ → Type 0
-NamesRun words conversion text =
-    HasText words (λ read bytes others. (text ≡ bytes) × NamesConversion read others conversion)
+NamesRun [] conversion text = ⊥
+NamesRun (first ∷ others) conversion text = (text ≡ string_bytes first) × NamesConversion others conversion
 
 -- they are not, for this reason
 abbrev pub RunFails : List (String Global) → WordsError → Type 0
-RunFails words error =
-    (HasNoText words × (error ≡ reason.Usage)) ⊎ HasText words (λ read _ others. ConversionFails read others error)
+RunFails [] error = error ≡ reason.Usage
+RunFails (first ∷ others) error = ConversionFails others error
 
 -- the words name a conversion and a text, and P holds of these
 pub record HasRun (words : List (String Global)) (P : Conversion → List ℕ → Type 0) : Type 0 where

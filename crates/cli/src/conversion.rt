@@ -2,13 +2,15 @@
 ghost use Rattle.std.specs.Prelude.{◌≡◌, ◌≢◌, Ok, Err, true, IfOk, IfErr, OnOk, OnErr};
 ghost use Rattle.std.specs.Io.KnownBytes.{Appends};
 ghost use Rattle.decimal_digits.specs.AppendsPrefix.{AppendsPrefix};
-ghost use Rattle.cli.specs.Errors.{error_of_run};
-ghost use Rattle.cli.specs.Conversion.{IsReadAs, ReadingFails, text_by, IsOutcome, HasOutcome, OperationsFail};
+ghost use Rattle.cli.specs.Conversion.{IsReadAs, ReadingFails, text_by, HasOutcome, OperationsFail};
+ghost use Rattle.cli.specs.Conversion.{HasOutcomeByForms, FailsByForms};
 
-use crate::error::{OperationError, Reason};
+use crate::error::OperationError;
 use crate::reader::DecimalReader;
 use decimal_format::DecimalFormatter;
-use fixed_decimal::{Call, Decimal, ParseError, RunError, Sink, SinkFault, Writeable, apply_calls};
+use fixed_decimal::{
+    Call, Decimal, ParseError, RunError, Sink, SinkFault, Writeable, apply_calls, run,
+};
 use std::alloc::Global;
 
 /// How a text is read, what is done to its decimal, and how the result is written.
@@ -22,18 +24,16 @@ pub struct Conversion<'a> {
     pub formatter: Option<DecimalFormatter<'a>>,
 }
 
-impl<'a> Conversion<'a> {
-    /// Makes the calls on the decimal that a text is read as.
+impl Conversion<'_> {
+    /// Reads a decimal.
     #[inline]
-    fn change(&self, alloc: Global, text: &[u8], value: &mut Decimal) -> Result<(), OperationError>
-        requires { IsReadAs self.now.reader text.now (Ok value.old) }
-        ensures found { OnOk result (IsOutcome self.now text.now (Ok (text_by self.now.formatter value.new))) }
-        ensures fails_with { IfErr result (λ error. OperationsFail error self.now text.now) }
-        ensures no_output { IfErr result (λ error. error ≢ OperationError.Output) }
+    fn read(&self, alloc: Global, text: &[u8]) -> Result<Decimal, ParseError>
+        ensures found { IfOk result (λ v. IsReadAs self.now.reader text.now (Ok v)) }
+        ensures fails_with { IfErr result (ReadingFails self.now.reader text.now) }
     {
-        match apply_calls(alloc, value, self.calls.as_slice()) {
-            Ok(()) => Ok(()),
-            Err(error) => Err(OperationError::from(RunError::from(error))),
+        match &self.reader {
+            Some(reader) => reader.read(alloc, text),
+            None => Decimal::try_from_utf8(alloc, text),
         }
     }
 
@@ -52,47 +52,35 @@ impl<'a> Conversion<'a> {
         }
     }
 
-    /// Makes the calls on the decimal that a text was read as, and appends the text of the result to a sink.
-    fn finish<W: Sink>(
+    /// Converts a text by the reader and the formatter.
+    fn convert_by_forms<W: Sink>(
         &self,
         alloc: Global,
         text: &[u8],
-        read: &mut Result<Decimal, ParseError>,
         sink: &mut W,
     ) -> Result<(), OperationError>
-        requires found { IfOk read.old (λ v. IsReadAs self.now.reader text.now (Ok v)) }
-        requires fails_with { IfErr read.old (ReadingFails self.now.reader text.now) }
-        ensures written { OnOk result (HasOutcome self.now text.now
+        ensures written { OnOk result (HasOutcomeByForms self.now text.now
             (Appends (W.contents sink.old) (W.contents sink.new))) }
-        ensures fails_with { IfErr result (λ error. OperationsFail error self.now text.now) }
+        ensures fails_with { IfErr result (λ error. FailsByForms error self.now text.now) }
         ensures unchanged_on_error { IfErr result (λ error. error ≢ OperationError.Output → sink.new ≡ sink.old) }
         ensures failed { result ≡ Err OperationError.Output → W.has_failed sink.new ≡ true }
-        ensures prefix { result ≡ Err OperationError.Output → HasOutcome self.now text.now
+        ensures prefix { result ≡ Err OperationError.Output → HasOutcomeByForms self.now text.now
             (AppendsPrefix (W.contents sink.old) (W.contents sink.new)) }
     {
-        match read {
-            Ok(value) => {
-                self.change(alloc, text, value)?;
-                self.write(value, sink)?;
-                Ok(())
-            }
-            Err(error) => Err(error_of_reading(error)),
+        let mut value = match self.read(alloc, text) {
+            Ok(value) => value,
+            Err(error) => return Err(OperationError::from(RunError::Start(error))),
+        };
+        if let Err(error) = apply_calls(alloc, &mut value, self.calls.as_slice()) {
+            return Err(OperationError::from(RunError::from(error)));
         }
+        self.write(&value, sink)?;
+        Ok(())
     }
 }
 
-/// Returns the error of a text that cannot be read.
-fn error_of_reading(error: &ParseError) -> OperationError
-    ensures { result ≡ error_of_run (RunError.Start error.now) }
-{
-    match error {
-        ParseError::Syntax => OperationError::Start(Reason::Syntax),
-        ParseError::Limit => OperationError::Start(Reason::Limit),
-        ParseError::Memory => OperationError::Memory,
-    }
-}
-
-/// Converts a text, and appends the text of the result to a sink.
+/// Converts a text, and appends the text of the result to a sink. Without a reader and a formatter this is
+/// [`fixed_decimal::run`].
 ///
 /// With a reader of `de` in mode `Strict`, the call `Round(-2, HalfEven, MultiplesOf1)` and a formatter of `en-IN` with
 /// `Auto`, `1.234,565` appends `1,234.56`.
@@ -120,9 +108,11 @@ pub fn convert<W: Sink>(
     ensures prefix { result ≡ Err OperationError.Output → HasOutcome conversion.now text.now
         (AppendsPrefix (W.contents sink.old) (W.contents sink.new)) }
 {
-    // Each result has a place of its own: where two are joined, a value is copied in parts.
-    match &conversion.reader {
-        Some(reader) => conversion.finish(alloc, text, &mut reader.read(alloc, text), sink),
-        None => conversion.finish(alloc, text, &mut Decimal::try_from_utf8(alloc, text), sink),
+    if conversion.reader.is_some() || conversion.formatter.is_some() {
+        return conversion.convert_by_forms(alloc, text, sink);
+    }
+    match run(alloc, text, conversion.calls.as_slice(), sink) {
+        Ok(()) => Ok(()),
+        Err(error) => Err(OperationError::from(error)),
     }
 }

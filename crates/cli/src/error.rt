@@ -2,6 +2,7 @@
 ghost use Rattle.std.specs.Prelude.{◌≡◌, ◌<◌, ◌≤◌, ℕ};
 ghost use Rattle.cli.specs.Errors.{status_of_operation, status_of_fixdec, status_of_filter, status_of_plural};
 
+use crate::help::{FIXDEC, FIXDEC_LINES, PLURAL};
 use crate::words::WordsError;
 use fixed_decimal::{ParseError, RunError, SinkFault};
 use plural_rules::RulesError;
@@ -52,7 +53,7 @@ pub enum OperationError {
 #[derive(Debug, Drop, PartialEq, Error)]
 pub enum FixdecError {
     /// There is no text, or a word names nothing, is not in its place, or is not UTF-8.
-    #[error("usage: fixdec [read:LOCALE] TEXT [CALL].. [format:LOCALE]")]
+    #[error("{FIXDEC}")]
     Usage,
     /// The locale of `read:` or `format:` is unknown.
     #[error("unknown locale")]
@@ -206,7 +207,7 @@ impl From<SinkFault> for FixdecError {
 #[derive(Clone, Copy, Debug, PartialEq, Error)]
 pub enum FilterError {
     /// A word names nothing, is not in its place, or is not UTF-8.
-    #[error("usage: fixdec_lines [OPTION].. [read:LOCALE] [CALL].. [format:LOCALE]")]
+    #[error("{FIXDEC_LINES}")]
     Usage,
     /// The locale of `read:` or `format:` is unknown.
     #[error("unknown locale")]
@@ -247,7 +248,7 @@ impl ProgramError for FilterError {
 #[derive(Clone, Copy, Debug, PartialEq, Error)]
 pub enum PluralError {
     /// There are no rules or no text, or a word is not UTF-8.
-    #[error("usage: plural RULES TEXT..")]
+    #[error("{PLURAL}")]
     Usage,
     /// Out of memory.
     #[error("memory")]

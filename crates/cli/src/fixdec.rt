@@ -1,4 +1,4 @@
-//! `fixdec [read:LOCALE] TEXT [CALL].. [format:LOCALE]`: reads a decimal, makes the calls in order, and prints the text
+//! `fixdec TEXT [read:LOCALE] [CALL].. [format:LOCALE]`: reads a decimal, makes the calls in order, and prints the text
 //! of the result.
 ghost use Rattle.std.specs.Prelude.{◌≡◌, ◌≢◌, ◌≤◌, ◌<◌, Bool, true, false, Err, IfOk, IfErr, IfSome, OnOk, IsSomeAnd};
 ghost use Rattle.std.specs.Process.{exit_status};
@@ -13,9 +13,9 @@ use crate::arguments::words;
 use crate::conversion::{Conversion, convert};
 use crate::diagnostics::conclude_on;
 use crate::error::{FixdecError, OperationError};
-use crate::help::{CALLS, help};
+use crate::help::{CALLS, FIXDEC, LOCALES, help};
 use crate::output::{Closed, abandon, close, open};
-use crate::words::{parse_conversion, split_read};
+use crate::words::parse_conversion;
 use fixed_decimal::{Out, Sink, SinkFault};
 use std::alloc::Global;
 use std::env::Args;
@@ -51,11 +51,10 @@ fn parse_words(alloc: Global, words: &[String]) -> Result<(&[u8], Conversion<'_>
     ensures err { IfErr result (HasError words.now) }
     ensures no_output { IfErr result (λ error. error ≢ output) }
 {
-    let (read, words) = split_read(words);
     let [text, words @ ..] = words else {
         return Err(FixdecError::Usage);
     };
-    match parse_conversion(alloc, read, words) {
+    match parse_conversion(alloc, words) {
         Ok(conversion) => Ok((text.as_bytes(), conversion)),
         Err(error) => Err(FixdecError::from(error)),
     }
@@ -78,9 +77,9 @@ fn print<O: Write>(alloc: Global, words: &[String], out: &mut Out<O>) -> Result<
 
 /// Runs the program on the words after its name, and returns the exit status.
 ///
-/// A first word `read:LOCALE` or `read:LOCALE:lenient` reads the text in the form of the locale; a last word
-/// `format:LOCALE` or `format:LOCALE:GROUPING` writes the result so. The first other word is the text. Each word after
-/// it is a call: `shift:D`, `trim-start`, `trim-end`, `trim-end-if-integer`, `pad-start:P`, `pad-end:P`, `max:P`,
+/// The first word is the text, whatever it holds. A second word `read:LOCALE` or `read:LOCALE:lenient` reads it in the
+/// form of the locale; a last word `format:LOCALE` or `format:LOCALE:GROUPING` writes the result so. Each other word is
+/// a call: `shift:D`, `trim-start`, `trim-end`, `trim-end-if-integer`, `pad-start:P`, `pad-end:P`, `max:P`,
 /// `round:P:MODE:INC`, `sign:SIGN`, `display:DISPLAY` or `concat:TEXT`, whose text is all that follows the colon. D and
 /// P are an optional minus and one to six digits, from -32768 to 32767. The words `250` and `shift:-2` print `2.50`.
 ///
@@ -155,8 +154,7 @@ pub fn run_arguments<O: Write + Drop, E: Write>(
 pub fn execute(rt: HostRuntime) -> ExitCode
     ensures at_most { exit_status result ≤ 3 }
 {
-    let usage = "usage: fixdec [read:LOCALE] TEXT [CALL].. [format:LOCALE]\n";
-    if let Some(status) = help(rt.alloc(), env::args(&rt), usage, CALLS, &mut rt.stdout()) {
+    if let Some(status) = help(env::args(&rt), FIXDEC, LOCALES, CALLS, &mut rt.stdout()) {
         return ExitCode::from(status);
     }
     let (status, _out) = run_arguments(rt.alloc(), env::args(&rt), rt.stdout(), &mut rt.stderr());

@@ -12,11 +12,11 @@ use crate::arguments::words;
 use crate::diagnostics::{Diagnostics, ErrorLines, conclude};
 use crate::error::FilterError;
 use crate::filter::{Filter, filter_lines};
-use crate::help::{CALLS, OPTIONS, help};
+use crate::help::{CALLS, FIXDEC_LINES, OPTIONS, help};
 use crate::input::LineReader;
 use crate::options::split_options;
 use crate::output::{BufferedOut, Closed, abandon, close, open};
-use crate::words::{parse_conversion, split_read};
+use crate::words::parse_conversion;
 use std::alloc::Global;
 use std::env::Args;
 use std::io::{Read, Write};
@@ -29,11 +29,10 @@ fn parse_filter(alloc: Global, words: &[String]) -> Result<Filter<'_>, FilterErr
     ensures err { IfErr result (FilterFails words.now) }
 {
     let (options, words) = split_options(words);
-    let (read, words) = split_read(words);
     let Some(field) = options.field() else {
         return Err(FilterError::Usage);
     };
-    match parse_conversion(alloc, read, words) {
+    match parse_conversion(alloc, words) {
         Ok(conversion) => Ok(Filter {
             on_error: options.on_error,
             conversion,
@@ -154,7 +153,13 @@ pub fn run_arguments<R: Read, O: Write + Drop, D: Diagnostics<FilterError>>(
 pub fn execute(rt: HostRuntime) -> ExitCode
     ensures at_most { exit_status result ≤ 3 }
 {
-    if let Some(status) = help(rt.alloc(), env::args(&rt), OPTIONS, CALLS, &mut rt.stdout()) {
+    if let Some(status) = help(
+        env::args(&rt),
+        FIXDEC_LINES,
+        OPTIONS,
+        CALLS,
+        &mut rt.stdout(),
+    ) {
         return ExitCode::from(status);
     }
     let mut err = rt.stderr();

@@ -16,6 +16,7 @@ pub mod fixdec;
 pub mod fixdec_lines;
 mod help;
 mod input;
+pub mod laws;
 mod line_feed;
 mod options;
 mod output;

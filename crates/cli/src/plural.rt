@@ -10,7 +10,7 @@ use crate::arguments::words;
 use crate::categories::print_categories;
 use crate::diagnostics::{Diagnostics, ErrorLines, conclude};
 use crate::error::PluralError;
-use crate::help::{OPERANDS, help};
+use crate::help::{OPERANDS, PLURAL, RULES, help};
 use crate::output::{Closed, close, open};
 use plural_rules::PluralRules;
 use std::alloc::Global;
@@ -107,14 +107,7 @@ pub fn run_arguments<O: Write + Drop, D: Diagnostics<PluralError>>(
 pub fn execute(rt: HostRuntime) -> ExitCode
     ensures at_most { exit_status result ≤ 3 }
 {
-    let usage = "usage: plural RULES TEXT..\n";
-    if let Some(status) = help(
-        rt.alloc(),
-        env::args(&rt),
-        usage,
-        OPERANDS,
-        &mut rt.stdout(),
-    ) {
+    if let Some(status) = help(env::args(&rt), PLURAL, RULES, OPERANDS, &mut rt.stdout()) {
         return ExitCode::from(status);
     }
     let mut err = rt.stderr();

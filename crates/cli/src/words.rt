@@ -26,7 +26,7 @@ pub enum WordsError {
 }
 
 /// Splits off a first word `read:..`, and returns what follows the colon and the other words.
-pub fn split_read(words: &[String]) -> (Option<&str>, &[String])
+fn split_read(words: &[String]) -> (Option<&str>, &[String])
     ensures { IsReadSplit words.now (option_copied result.0) result.1.now }
 {
     if let [first, rest @ ..] = words {
@@ -125,31 +125,31 @@ fn parse_formatter(
     }
 }
 
-/// Parses the parameters after `read:`, if there are any, and the words after them as a conversion.
+/// Parses words as a conversion.
 ///
 /// # Errors
 ///
+/// Of several wrong words the first one decides:
+///
 /// - `Usage`: a word names no call, or an option is unknown.
 /// - `UnknownLocale`: the locale of `read:` or `format:` is unknown.
-/// - `Memory`: out of memory for the list of the calls.
-pub fn parse_conversion<'a>(
-    alloc: Global,
-    read: Option<&str>,
-    words: &'a [String],
-) -> Result<Conversion<'a>, WordsError>
-    ensures some { IfOk result (NamesConversion (option_copied read.entry) words.now) }
-    ensures err { IfErr result (ConversionFails (option_copied read.entry) words.now) }
+/// - `Memory`: out of memory for the list of the calls; no word is wrong.
+pub fn parse_conversion(alloc: Global, words: &[String]) -> Result<Conversion<'_>, WordsError>
+    ensures some { IfOk result (NamesConversion words.now) }
+    ensures err { IfErr result (ConversionFails words.now) }
 {
+    let (read, words) = split_read(words);
     let (format, words) = split_format(words);
     let reader = parse_reader(read)?;
-    let formatter = parse_formatter(format)?;
-    match parse_calls(alloc, words) {
-        Ok(Some(calls)) => Ok(Conversion {
-            reader,
-            calls,
-            formatter,
-        }),
-        Ok(None) => Err(WordsError::Usage),
+    let calls = match parse_calls(alloc, words) {
+        Ok(Some(calls)) => Ok(calls),
+        Ok(None) => return Err(WordsError::Usage),
         Err(_) => Err(WordsError::Memory),
-    }
+    };
+    let formatter = parse_formatter(format)?;
+    Ok(Conversion {
+        reader,
+        calls: calls?,
+        formatter,
+    })
 }

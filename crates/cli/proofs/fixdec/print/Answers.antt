@@ -1,6 +1,7 @@
 use Rattle.std.proofs.Common.{◌≡◌, Err, rules}
 use Rattle.std.proofs.lemmas.Result.{err_from_is_err_and}
 use Rattle.cli.specs.declared.error.OperationError.TheVariants.{Output}
+use Rattle.cli.proofs.Conversions.{output_fails}
 use Rattle.cli.proofs.Programs.{line_begun, line_kept, run_of}
 use Rattle.cli.proofs.fixdec.print.Goals as goal
 
@@ -23,7 +24,9 @@ returns-in_err-flush-clause-error g c =
     let p = err_from_is_err_and residual.result residual.ensures.1 in
     let run = c.in_ok-text in
     let printed = c.in_ok-print_line.ensures.printed in
-    rw (p.1, p.2) (run_of run.conversion run.text.now run.ensures.some (printed.0, printed.1))
+    rw (p.1, p.2)
+    (run_of run.conversion run.text.now run.ensures.some
+    (output_fails run.conversion run.text.now printed.0 printed.1))
 
 pub returns-in_err-flush-clause-prefix : goal.returns-in_err-flush-clause-prefix
 returns-in_err-flush-clause-prefix g c = λ _.
