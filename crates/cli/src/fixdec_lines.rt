@@ -2,7 +2,7 @@
 //! on a field of it, and writes a line for each.
 ghost use Rattle.std.specs.Prelude.{◌≡◌, ◌≤◌, ◌<◌, ◌⊎◌, Ok, Err, true, false, IfOk, IfErr, IfSome, OnOk, IsSomeAnd};
 ghost use Rattle.std.specs.Process.{exit_status};
-ghost use Rattle.std.specs.Io.Buffered.{writer_contents, writer_inner};
+ghost use Rattle.decimal_digits.specs.Buffered.{buffered_contents};
 ghost use Rattle.cli.specs.declared.error.FilterError.{FilterError};
 ghost use Rattle.cli.specs.Arguments.{HaveWords, ArgumentsFail};
 ghost use Rattle.cli.specs.Errors.{status_of_filter};
@@ -14,8 +14,8 @@ use crate::error::FilterError;
 use crate::filter::{Filter, filter_lines};
 use crate::help::{CALLS, OPTIONS, help};
 use crate::options::split_options;
-use crate::output::{BufferedOut, Closed, abandon, close, open};
 use crate::words::{parse_conversion, split_read};
+use fixed_decimal::{BufferedOut, Closed};
 use std::alloc::Global;
 use std::env::Args;
 use std::io::{BufReader, Read, Write};
@@ -56,20 +56,20 @@ fn run_filter<R: Read, O: Write + Drop, D: Diagnostics<FilterError>>(
 ) -> (Result<bool, FilterError>, Closed<O>)
     ensures filtered { Runs D.reports filter.now (record {
       input = record { before = R.remaining input.old; after = R.remaining input.new };
-      output = record { before = writer_contents O.contents buffered.0; after = O.contents result.1.0 };
+      output = record { before = buffered_contents O.contents buffered; after = O.contents result.1.0 };
       diagnostics = record { before = diagnostics.old; after = diagnostics.new };
     }) result.0 }
     ensures silent { result.0 ≡ Ok true → diagnostics.new ≡ diagnostics.old }
     ensures has_not_failed { OnOk result.0 (result.1.1 ≡ false) }
     ensures failed { result.0 ≡ Err FilterError.Output → result.1.1 ≡ true }
     ensures unchanged_on_error { IfErr result.0 (λ error. IsEarly error
-        → result.1 ≡ (writer_inner buffered.0, buffered.1)) }
+        → result.1 ≡ (buffered.writer, buffered.has_failed)) }
 {
     let Ok(mut reader) = BufReader::with_capacity(alloc, BLOCK, input) else {
-        return (Err(FilterError::Memory), abandon(buffered));
+        return (Err(FilterError::Memory), buffered.abandon());
     };
     let filtered = filter_lines(alloc, filter, &mut reader, &mut buffered, diagnostics);
-    let closed = close(buffered);
+    let closed = buffered.close();
     if closed.has_failed() {
         return (Err(FilterError::Output), closed);
     }
@@ -86,20 +86,20 @@ fn filter_words<R: Read, O: Write + Drop, D: Diagnostics<FilterError>>(
 ) -> (Result<bool, FilterError>, Closed<O>)
     ensures filtered { WordsFilter D.reports words.now (record {
       input = record { before = R.remaining input.old; after = R.remaining input.new };
-      output = record { before = writer_contents O.contents buffered.0; after = O.contents result.1.0 };
+      output = record { before = buffered_contents O.contents buffered; after = O.contents result.1.0 };
       diagnostics = record { before = diagnostics.old; after = diagnostics.new };
     }) result.0 }
     ensures silent { result.0 ≡ Ok true → diagnostics.new ≡ diagnostics.old }
     ensures has_not_failed { OnOk result.0 (result.1.1 ≡ false) }
     ensures failed { result.0 ≡ Err FilterError.Output → result.1.1 ≡ true }
     ensures unchanged_on_error { IfErr result.0 (λ error. IsEarly error
-        → result.1 ≡ (writer_inner buffered.0, buffered.1)) }
+        → result.1 ≡ (buffered.writer, buffered.has_failed)) }
     ensures unread { result.0 ≡ Err FilterError.Usage → input.new ≡ input.old }
     ensures unread_for_locale { result.0 ≡ Err FilterError.UnknownLocale → input.new ≡ input.old }
 {
     match parse_filter(alloc, words) {
         Ok(filter) => run_filter(alloc, &filter, input, buffered, diagnostics),
-        Err(error) => (Err(error), abandon(buffered)),
+        Err(error) => (Err(error), buffered.abandon()),
     }
 }
 
@@ -151,10 +151,10 @@ pub fn run_arguments<R: Read, O: Write + Drop, D: Diagnostics<FilterError>>(
         Ok(words) => words,
         Err(error) => return (
             conclude(Err(error), diagnostics),
-            Some(Closed::uncalled(out)),
+            Some(Closed::new(out, None)),
         ),
     };
-    let Ok(buffered) = open(alloc, out) else {
+    let Ok(buffered) = BufferedOut::open(alloc, out) else {
         return (conclude(Err(FilterError::Memory), diagnostics), None);
     };
     match filter_words(alloc, words.as_slice(), input, buffered, diagnostics) {

@@ -1,5 +1,5 @@
 -- The prefix of a text that a sink has accepted, piece by piece.
-use Rattle.std.proofs.Common.{◌≡◌, ℕ, ◌+◌, ◌-◌, ◌<◌, ◌⊎◌, Bool, true, false, List, [], ◌++◌, length, take, drop, Option, None, Some, sym, subst, ◌∙◌, ap, arith, append_assoc, take-append-drop}
+use Rattle.std.proofs.Common.{◌≡◌, ℕ, ◌+◌, ◌-◌, ◌<◌, ◌⊎◌, Bool, true, false, List, [], ◌++◌, length, take, drop, Option, None, Some, refl, sym, subst, ◌∙◌, ap, arith, append_assoc, take-append-drop}
 use Rattle.std.proofs.lemmas.List.{append-nil, length-drop}
 use Rattle.std.proofs.Math.Seq.{take-add, take-length}
 use Rattle.std.specs.Io.KnownBytes.{Keeps, Appends, append_known}
@@ -36,6 +36,11 @@ pub took_more :
 took_more a b c t n bytes p q = grind (arith, all_left, take-add, Appends-trans)
 
 -- ---- a block before a writer
+-- an empty block
+pub append_known-nil : (known : Option (List ℕ)) → append_known known [] ≡ known
+append_known-nil None = refl
+append_known-nil (Some xs) = ap Some (append-nil xs)
+
 -- the block was empty, and the writer took the first n bytes of a text
 module _
     (a b c : Option (List ℕ)) (block : List ℕ) (n : ℕ) (xs : List ℕ) (kept : Keeps a (append_known b block))

@@ -15,8 +15,8 @@ const BLOCK: usize = 65_536;
 
 /// A sink that writes to a writer in blocks of 64 KiB, and slices that are longer at once.
 ///
-/// The contents are those of the writer and then the bytes in the block. A call of the writer that fails, or takes no
-/// byte, is a failure of the sink, after which the writer is not called again, whether the sink is closed or dropped.
+/// The contents are those of the writer and then the bytes in the block, which `close` writes. A call of the writer that
+/// fails or takes no byte is a failure of the sink, after which the writer is not called again.
 #[derive(Drop)]
 pub struct BufferedOut<W: Write> {
     writer: W,
@@ -37,7 +37,8 @@ impl<W: Write + Drop> BufferedOut<W> {
     ///
     /// Out of memory; the writer is dropped.
     pub fn open(alloc: Global, writer: W) -> Result<Self, AllocError>
-        ensures { IfOk result (λ sink. sink ≡ record { writer = writer; block = []; has_failed = false }) }
+        ensures opened { IfOk result (λ sink. sink ≡ record { writer = writer; block = []; has_failed = false }) }
+        ensures contents { IfOk result (λ sink. buffered_contents W.contents sink ≡ W.contents writer) }
     {
         let block = Vec::with_capacity(alloc, BLOCK)?;
         Ok(BufferedOut {
