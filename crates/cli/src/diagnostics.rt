@@ -92,7 +92,7 @@ pub fn conclude_on<E: ProgramError + Display, W: Write>(
     err: &mut W,
 ) -> (u8, Option<WriteError<W>>)
     ensures at_most { result.0 ≤ 3 }
-    ensures done { OnOk done ((result ≡ (0, None)) × (err.new ≡ err.old)) }
+    ensures done { OnOk done ((result.0 ≡ 0) × (err.new ≡ err.old)) }
     ensures reported { IfErr done (λ error. (0 < result.0) × (result.0 ≡ E.status_of error)
         × Reports (E.output error) (W.contents err.old) false (W.contents err.new) (is_some result.1)) }
 {

@@ -77,8 +77,16 @@ impl<W: Write + Drop> BufferedOut<W> {
             × Keeps (buffered_contents W.contents self) (append_known (W.contents result.0) missing) }
         ensures stays_failed { self.has_failed ≡ true → result.1 ≡ true }
     {
-        let _ = self.write_and_flush();
-        self.abandon()
+        if self.error.is_some() || self.write_block().is_err() {
+            return self.abandon();
+        }
+        let BufferedOut {
+            mut writer,
+            block: _,
+            error: _,
+        } = self;
+        let error = flush(&mut writer).err();
+        Closed::new(writer, error)
     }
 }
 
@@ -101,20 +109,6 @@ impl<W: Write> BufferedOut<W> {
                 Err(SinkFault)
             }
         }
-    }
-
-    /// Writes what the block holds, and flushes.
-    fn write_and_flush(&mut self) -> Result<(), SinkFault>
-        ensures keeps { Keeps (buffered_contents W.contents self.old) (buffered_contents W.contents self.new) }
-        ensures written { OnOk result (self.new.block ≡ []) }
-        ensures failed { OnErr result (self.new.has_failed ≡ true) }
-        ensures stays_failed { self.old.has_failed ≡ true → self.new.has_failed ≡ true }
-    {
-        if self.error.is_some() {
-            return Err(SinkFault);
-        }
-        self.write_block()?;
-        keep_error(flush(&mut self.writer), &mut self.error)
     }
 
     /// Appends bytes for which the block has no room.

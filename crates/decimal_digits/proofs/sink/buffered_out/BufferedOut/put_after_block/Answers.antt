@@ -10,7 +10,7 @@ returns-then-bytes-capacity-clause-err g c =
     let written = c.write_whole.ensures in
     let none : c.self.inside.block.items ≡ [] = search rules in
     let kept : Keeps (buffered_contents g.W.Write.contents c.args.self.now)
-        (append_known (g.W.Write.contents c.self.inside.writer) c.self.inside.block.items) = search rules in
+    (append_known (g.W.Write.contents c.self.inside.writer) c.self.inside.block.items) = search rules in
     on_err_of c.keep_error.result c.write_whole.result _ _ c.keep_error.ensures.is_err written.err written.written
     (λ n taken below. prefix_passed _ _ _ _ n c.args.bytes.now kept none taken)
 
@@ -19,6 +19,6 @@ returns-then-bytes-capacity-clause-keeps g c =
     let written = c.write_whole.ensures in
     let none : c.self.inside.block.items ≡ [] = search rules in
     let kept : Keeps (buffered_contents g.W.Write.contents c.args.self.now)
-        (append_known (g.W.Write.contents c.self.inside.writer) c.self.inside.block.items) = search rules in
+    (append_known (g.W.Write.contents c.self.inside.writer) c.self.inside.block.items) = search rules in
     on_err_of c.keep_error.result c.write_whole.result _ _ c.keep_error.ensures.is_err written.err written.written
     (λ n taken below. none_passed _ _ _ _ n c.args.bytes.now kept none taken below)
