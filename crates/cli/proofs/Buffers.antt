@@ -1,8 +1,9 @@
 -- The contents of new buffers, and of written ones.
 use Rattle.std.proofs.Common.{◌≡◌, ℕ, List, [], Option, Some, None, Bool, true, false, refl, sym, ap, subst}
 use Rattle.std.specs.declared.io.buffered.BufReader.{BufReader}
+use Rattle.std.specs.declared.io.buffered.BufWriter.{BufWriter}
 use Rattle.std.specs.Io.KnownBytes.{Keeps, append_known}
-use Rattle.std.specs.Io.Buffered.{reader_inner, reader_buffer, reader_capacity, reader_remaining}
+use Rattle.std.specs.Io.Buffered.{reader_inner, reader_buffer, reader_capacity, reader_remaining, writer_inner, writer_buffer, writer_contents}
 use Rattle.std.proofs.KnownBytes.{prepend_known-nil}
 use Rattle.std.proofs.lemmas.Bool.{false≢true}
 use Rattle.std.proofs.lemmas.List.{append-nil}
@@ -17,6 +18,12 @@ pub new_reader :
     {T A : Type 0} (f : T → Option (List ℕ)) (r : BufReader T A) (x : T) → reader_inner r ≡ x → reader_buffer r ≡ []
     → reader_capacity r ≡ 65536 → reader_remaining f r ≡ f x
 new_reader f r x inner empty room = rw (room, empty, inner) (prepend_known-nil (f x))
+
+-- the contents of a new buffer are those of its writer
+pub new_writer :
+    {T A : Type 0} (f : T → Option (List ℕ)) (w : BufWriter T A) (x : T) → writer_inner w ≡ x → writer_buffer w ≡ []
+    → writer_contents f w ≡ f x
+new_writer f w x inner empty = rw (empty, inner) (append_known-nil (f x))
 
 -- after the last call of a writer that has not failed no bytes are unwritten
 pub closed_contents :

@@ -1,10 +1,10 @@
 //! Reports of errors.
-ghost use Rattle.std.specs.Prelude.{◌≡◌, ◌<◌, ◌≤◌, Bool, false, IfErr, OnOk};
+ghost use Rattle.std.specs.Prelude.{◌≡◌, ◌<◌, ◌≤◌, false, None, is_some, IfErr, OnOk};
 ghost use Rattle.cli.specs.Diagnostics.{IsErrorLine, Reports};
 
 use crate::error::ProgramError;
 use arrayvec::ArrayString;
-use decimal_digits::sink::write_whole;
+use fixed_decimal::{WriteError, write_whole};
 use std::fmt::{Display, InlineText};
 use std::io::Write;
 
@@ -40,34 +40,32 @@ fn error_line<E: Display>(error: &E) -> Line
 #[derive(Drop)]
 pub struct ErrorLines<'a, W> {
     pub(crate) writer: &'a mut W,
-    pub(crate) has_failed: bool,
+    pub(crate) error: Option<WriteError<W>>,
 }
 
 impl<'a, W> ErrorLines<'a, W> {
     /// Reports to a writer.
     pub fn new(writer: &'a mut W) -> Self
-        ensures { result ≡ record { writer = writer.entry; has_failed = false } }
+        ensures { result ≡ record { writer = writer.entry; error = None } }
     {
         ErrorLines {
             writer,
-            has_failed: false,
+            error: None,
         }
     }
 }
 
 impl<W: Write, E: Display> Diagnostics<E> for ErrorLines<'_, W> {
     ghost reports = { λ old error new. (new.writer.ghost_name ≡ old.writer.ghost_name)
-        × Reports (E.output error) (W.contents old.writer.now) old.has_failed
-        (W.contents new.writer.now) new.has_failed };
+        × Reports (E.output error) (W.contents old.writer.now) (is_some old.error)
+        (W.contents new.writer.now) (is_some new.error) };
 
     fn report(&mut self, error: &E) {
         let line = error_line(error);
-        if self.has_failed {
+        if self.error.is_some() {
             return;
         }
-        if write_whole(self.writer, line.as_bytes()).is_err() {
-            self.has_failed = true;
-        }
+        self.error = write_whole(self.writer, line.as_bytes()).err();
     }
 }
 
@@ -87,16 +85,20 @@ pub fn conclude<E: ProgramError, D: Diagnostics<E>>(done: Result<(), E>, diagnos
     }
 }
 
-/// Reports the error, if there is one, as a line of a writer, and returns the exit status.
-pub fn conclude_on<E: ProgramError + Display, W: Write>(done: Result<(), E>, err: &mut W) -> u8
-    ensures at_most { result ≤ 3 }
-    ensures done { OnOk done ((result ≡ 0) × (err.new ≡ err.old)) }
-    ensures reported { IfErr done (λ error. (0 < result) × (result ≡ E.status_of error) × ((failed : Bool)
-        × Reports (E.output error) (W.contents err.old) false (W.contents err.new) failed)) }
+/// Reports the error, if there is one, as a line of a writer, and returns the exit status, and the error of the call of
+/// the writer that failed, if one did.
+pub fn conclude_on<E: ProgramError + Display, W: Write>(
+    done: Result<(), E>,
+    err: &mut W,
+) -> (u8, Option<WriteError<W>>)
+    ensures at_most { result.0 ≤ 3 }
+    ensures done { OnOk done ((result.0 ≡ 0) × (err.new ≡ err.old)) }
+    ensures reported { IfErr done (λ error. (0 < result.0) × (result.0 ≡ E.status_of error)
+        × Reports (E.output error) (W.contents err.old) false (W.contents err.new) (is_some result.1)) }
 {
     let mut lines = ErrorLines::new(err);
     let status = conclude(done, &mut lines);
     // Proof hint: the contents of `err` follow from this use of the writer.
     let _ = &*lines.writer;
-    status
+    (status, lines.error)
 }

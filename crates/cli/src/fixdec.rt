@@ -14,15 +14,17 @@ use crate::conversion::{Conversion, convert};
 use crate::diagnostics::conclude_on;
 use crate::error::{FixdecError, OperationError};
 use crate::help::{CALLS, FIXDEC, LOCALES, help};
-use crate::output::{Closed, abandon, close, open};
 use crate::words::parse_conversion;
-use fixed_decimal::{Out, Sink, SinkFault};
+use fixed_decimal::{Closed, Out, Sink, SinkFault};
 use std::alloc::Global;
 use std::env::Args;
 use std::fmt::Display;
-use std::io::Write;
+use std::io::{BufWriter, Write};
 use std::process::ExitCode;
 use std::{env, io};
+
+/// The number of bytes of the buffer before the output.
+const BUFFER: usize = 65_536;
 
 /// Converts a text, and writes the text of the result and a line feed to a sink.
 #[inline]
@@ -108,10 +110,10 @@ pub fn program<O: Write, E: Write>(
         × PrintsPrefix words.now (O.contents out.old.0) (O.contents out.new.0)) }
     ensures unchanged_on_error { 0 < result → result < 3 → out.new ≡ out.old }
 {
-    conclude_on(print(alloc, words, out), err)
+    conclude_on(print(alloc, words, out), err).0
 }
 
-/// Runs `program` on the arguments of the process, with a block before `out`, which is returned after its last call.
+/// Runs `program` on the arguments of the process, with a buffer before `out`, which is returned after its last call.
 pub fn run_arguments<O: Write + Drop, E: Write>(
     alloc: Global,
     arguments: io::Result<Args>,
@@ -131,19 +133,20 @@ pub fn run_arguments<O: Write + Drop, E: Write>(
 {
     let words = match words(alloc, arguments, FixdecError::Usage, FixdecError::Memory) {
         Ok(words) => words,
-        Err(error) => return (conclude_on(Err(error), err), Some(Closed::uncalled(out))),
+        Err(error) => return (conclude_on(Err(error), err).0, Some(Closed::new(out, None))),
     };
-    let Ok(mut buffered) = open(alloc, out) else {
-        return (conclude_on(Err(FixdecError::Memory), err), None);
+    let Ok(buffer) = BufWriter::with_capacity(alloc, BUFFER, out) else {
+        return (conclude_on(Err(FixdecError::Memory), err).0, None);
     };
+    let mut buffered = Out::new(buffer);
     let status = program(alloc, words.as_slice(), &mut buffered, err);
     if status != 0 {
-        return (status, Some(abandon(buffered)));
+        return (status, Some(buffered.abandon()));
     }
-    let closed = close(buffered);
+    let closed = buffered.close();
     if closed.has_failed() {
         return (
-            conclude_on(Err(FixdecError::from(SinkFault)), err),
+            conclude_on(Err(FixdecError::from(SinkFault)), err).0,
             Some(closed),
         );
     }

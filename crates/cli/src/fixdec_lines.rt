@@ -2,7 +2,8 @@
 //! on a field of it, and writes a line for each.
 ghost use Rattle.std.specs.Prelude.{◌≡◌, ◌≤◌, ◌<◌, ◌⊎◌, Ok, Err, true, false, IfOk, IfErr, IfSome, OnOk, IsSomeAnd};
 ghost use Rattle.std.specs.Process.{exit_status};
-ghost use Rattle.std.specs.Io.Buffered.{reader_remaining, writer_contents, writer_inner};
+ghost use Rattle.std.specs.Io.Buffered.{reader_remaining};
+ghost use Rattle.decimal_digits.specs.Buffered.{buffered_contents};
 ghost use Rattle.cli.specs.declared.error.FilterError.{FilterError};
 ghost use Rattle.cli.specs.Arguments.{HaveWords, ArgumentsFail};
 ghost use Rattle.cli.specs.Errors.{status_of_filter};
@@ -15,8 +16,8 @@ use crate::filter::{Filter, filter_lines};
 use crate::help::{CALLS, FIXDEC_LINES, OPTIONS, help};
 use crate::input::LineReader;
 use crate::options::split_options;
-use crate::output::{BufferedOut, Closed, abandon, close, open};
 use crate::words::parse_conversion;
+use fixed_decimal::{BufferedOut, Closed};
 use std::alloc::Global;
 use std::env::Args;
 use std::io::{Read, Write};
@@ -57,23 +58,23 @@ fn filter_words<R: Read, O: Write + Drop, D: Diagnostics<FilterError>>(
         after = reader_remaining R.remaining input.new.0;
       };
       failure = input.new.1;
-      output = record { before = writer_contents O.contents buffered.0; after = O.contents result.1.0 };
+      output = record { before = buffered_contents O.contents buffered; after = O.contents result.1.0 };
       diagnostics = record { before = diagnostics.old; after = diagnostics.new };
     }) result.0 }
     ensures silent { result.0 ≡ Ok true → diagnostics.new ≡ diagnostics.old }
     ensures has_not_failed { OnOk result.0 (result.1.1 ≡ false) }
     ensures failed { result.0 ≡ Err FilterError.Output → result.1.1 ≡ true }
     ensures unchanged_on_error { IfErr result.0 (λ error. IsEarly error
-        → result.1 ≡ (writer_inner buffered.0, buffered.1)) }
+        → result.1 ≡ (buffered.writer, buffered.has_failed)) }
     ensures unread { result.0 ≡ Err FilterError.Usage → input.new ≡ input.old }
     ensures unread_for_locale { result.0 ≡ Err FilterError.UnknownLocale → input.new ≡ input.old }
 {
     let filter = match parse_filter(alloc, words) {
         Ok(filter) => filter,
-        Err(error) => return (Err(error), abandon(buffered)),
+        Err(error) => return (Err(error), buffered.abandon()),
     };
     let filtered = filter_lines(alloc, &filter, input, &mut buffered, diagnostics);
-    let closed = close(buffered);
+    let closed = buffered.close();
     if closed.has_failed() {
         return (Err(FilterError::Output), closed);
     }
@@ -136,10 +137,10 @@ pub fn run_arguments<R: Read, O: Write + Drop, D: Diagnostics<FilterError>>(
         Ok(words) => words,
         Err(error) => return (
             conclude(Err(error), diagnostics),
-            Some(Closed::uncalled(out)),
+            Some(Closed::new(out, None)),
         ),
     };
-    let Ok(buffered) = open(alloc, out) else {
+    let Ok(buffered) = BufferedOut::open(alloc, out) else {
         return (conclude(Err(FilterError::Memory), diagnostics), None);
     };
     match filter_words(alloc, words.as_slice(), input, buffered, diagnostics) {

@@ -19,7 +19,6 @@ mod input;
 pub mod laws;
 mod line_feed;
 mod options;
-mod output;
 pub mod plural;
 mod reader;
 mod words;
@@ -31,5 +30,4 @@ pub use error::{FilterError, FixdecError, OperationError, PluralError, ProgramEr
 pub use fields::Field;
 pub use filter::{Filter, OnError, filter_lines};
 pub use input::LineReader;
-pub use output::{BufferedOut, Closed, abandon, close, open};
 pub use reader::{DecimalReader, ParseMode};

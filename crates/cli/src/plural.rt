@@ -11,7 +11,7 @@ use crate::categories::print_categories;
 use crate::diagnostics::{Diagnostics, ErrorLines, conclude};
 use crate::error::PluralError;
 use crate::help::{OPERANDS, PLURAL, RULES, help};
-use crate::output::{Closed, close, open};
+use fixed_decimal::{BufferedOut, Closed};
 use plural_rules::PluralRules;
 use std::alloc::Global;
 use std::env::Args;
@@ -51,13 +51,13 @@ fn print<O: Write + Drop>(
 {
     let (rules, texts) = match rules_and_texts(alloc, words) {
         Ok(found) => found,
-        Err(error) => return (Err(error), Some(Closed::uncalled(out))),
+        Err(error) => return (Err(error), Some(Closed::new(out, None))),
     };
-    let Ok(mut buffered) = open(alloc, out) else {
+    let Ok(mut buffered) = BufferedOut::open(alloc, out) else {
         return (Err(PluralError::Memory), None);
     };
     let printed = print_categories(alloc, &rules, texts, &mut buffered);
-    let closed = close(buffered);
+    let closed = buffered.close();
     if closed.has_failed() {
         return (Err(PluralError::Output), Some(closed));
     }
@@ -95,7 +95,7 @@ pub fn run_arguments<O: Write + Drop, D: Diagnostics<PluralError>>(
         Ok(words) => words,
         Err(error) => return (
             conclude(Err(error), diagnostics),
-            Some(Closed::uncalled(out)),
+            Some(Closed::new(out, None)),
         ),
     };
     let (printed, closed) = print(alloc, words.as_slice(), out);

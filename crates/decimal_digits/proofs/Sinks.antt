@@ -1,9 +1,9 @@
 -- The prefix of a text that a sink has accepted, piece by piece.
-use Rattle.std.proofs.Common.{◌≡◌, ℕ, ◌+◌, ◌-◌, ◌<◌, ◌⊎◌, Bool, true, false, List, [], ◌++◌, length, take, drop, Option, sym, ◌∙◌, ap, arith, append_assoc, take-append-drop}
-use Rattle.std.proofs.lemmas.List.{length-drop}
+use Rattle.std.proofs.Common.{◌≡◌, ℕ, ◌+◌, ◌-◌, ◌<◌, ◌⊎◌, Bool, true, false, List, [], ◌++◌, length, take, drop, Option, None, Some, refl, sym, subst, ◌∙◌, ap, arith, append_assoc, take-append-drop}
+use Rattle.std.proofs.lemmas.List.{append-nil, length-drop}
 use Rattle.std.proofs.Math.Seq.{take-add, take-length}
-use Rattle.std.specs.Io.KnownBytes.{Keeps, Appends}
-use Rattle.std.proofs.KnownBytes.{Appends-kept, Appends-nil, Appends-trans}
+use Rattle.std.specs.Io.KnownBytes.{Keeps, Appends, append_known}
+use Rattle.std.proofs.KnownBytes.{Appends-kept, Appends-nil, Appends-trans, append_known-moved, append_known-passed}
 use Rattle.decimal_digits.specs.AppendsPrefix.{AppendsPrefix}
 
 -- a prefix of a text is a prefix of a longer text
@@ -34,6 +34,42 @@ pub took_more :
     (a b c : Option (List ℕ)) (t n : ℕ) (bytes : List ℕ) → Appends a b (take t bytes)
     → Appends b c (take n (take (length bytes - t) (drop t bytes))) → Appends a c (take (t + n) bytes)
 took_more a b c t n bytes p q = grind (arith, all_left, take-add, Appends-trans)
+
+-- ---- a block before a writer
+-- an empty block
+pub append_known-nil : (known : Option (List ℕ)) → append_known known [] ≡ known
+append_known-nil None = refl
+append_known-nil (Some xs) = ap Some (append-nil xs)
+
+-- the block was empty, and the writer took the first n bytes of a text
+module _
+    (a b c : Option (List ℕ)) (block : List ℕ) (n : ℕ) (xs : List ℕ) (kept : Keeps a (append_known b block))
+    (none : block ≡ []) (taken : Appends b c (take n xs))
+  where
+    passed : Appends a (append_known c block) (take n xs)
+    passed =
+        subst (Appends a (append_known c block)) (append-nil (take n xs))
+        (append_known-passed a b c block block (take n xs) [] kept none taken (sym (append-nil block)))
+
+    pub prefix_passed : AppendsPrefix a (append_known c block) xs
+    prefix_passed = (take n xs, drop n xs, take-append-drop n xs, passed)
+
+    -- of one byte it took none
+    pub none_passed : n < length xs → length xs ≡ 1 → Keeps a (append_known c block)
+    none_passed below one =
+        let zero : n ≡ 0 = omega (arith, below, one) in
+        Keeps-nil a (append_known c block) (subst (λ k. Appends a (append_known c block) (take k xs)) zero passed)
+      where
+        Keeps-nil : (a b : Option (List ℕ)) → Appends a b [] → Keeps a b
+        Keeps-nil None b p = tt
+        Keeps-nil (Some x) None p = absurd p
+        Keeps-nil (Some x) (Some y) p = p ∙ append-nil x
+
+-- the writer took the first n bytes of the block
+pub moved : (a b : Option (List ℕ)) (n : ℕ) (block : List ℕ) → Appends a b (take n block)
+    → Keeps (append_known a block) (append_known b (drop n block))
+moved a b n block p =
+    append_known-moved a b (take n block) (drop n block) block p (sym (take-append-drop n block))
 
 -- ---- a sink that had failed before
 -- after `count` pieces: the sink is unchanged and `count` is 0, or it had not failed at first

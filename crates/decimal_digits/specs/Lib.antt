@@ -3,6 +3,7 @@ pub mod Ascii
 pub mod Number
 pub mod Digits
 pub mod AppendsPrefix
+pub mod Buffered
 pub mod AscendingDigits
 pub mod Rounding
 pub mod Orders

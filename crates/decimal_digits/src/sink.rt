@@ -3,12 +3,17 @@ ghost use Rattle.std.specs.Prelude.{◌≡◌, ℕ, List, [], ◌∷◌, length,
 ghost use Rattle.std.specs.Io.KnownBytes.{Keeps, Appends};
 ghost use Rattle.decimal_digits.specs.AppendsPrefix.{AppendsPrefix};
 
+mod buffered_out;
+mod closed;
 mod out;
 mod text_buf;
+mod write_error;
 
+pub use buffered_out::BufferedOut;
+pub use closed::Closed;
 pub use out::Out;
-use std::io::Write;
 pub use text_buf::TextBuf;
+pub use write_error::{WriteError, write_whole};
 
 /// The error of a sink that rejects a byte.
 #[derive(Clone, Copy, Debug, PartialEq)]
@@ -94,23 +99,4 @@ fn fail(failed: &mut bool) -> Result<(), SinkFault>
 {
     *failed = true;
     Err(SinkFault)
-}
-
-/// Writes all bytes.
-///
-/// # Errors
-///
-/// A write fails or takes no byte; a prefix of the bytes is written, which `write_all` of `std` does not state.
-pub fn write_whole<W: Write>(writer: &mut W, bytes: &[u8]) -> Result<(), SinkFault>
-    ensures ok { OnOk result (Appends (W.contents writer.old) (W.contents writer.new) bytes.now) }
-    ensures err { OnErr result (AppendsPrefix (W.contents writer.old) (W.contents writer.new) bytes.now) }
-{
-    let mut taken = 0;
-    while taken < bytes.len() {
-        match writer.write(&bytes[taken..]) {
-            Ok(count) if count > 0 => taken += count,
-            _ => return Err(SinkFault),
-        }
-    }
-    Ok(())
 }

@@ -5,6 +5,7 @@ use std::alloc::{AllocError, Global};
 use std::test::Fail;
 
 mod bcd;
+mod blocks;
 mod bulk;
 mod changes;
 mod copies;

@@ -38,7 +38,9 @@ pub mod variations;
 pub use compact::CompactDecimal;
 pub use decimal_digits::digits::{DigitList, DigitStore, PackedDigits, Steps};
 pub use decimal_digits::rounding::{RoundError, RoundingIncrement, UnsignedRoundingMode};
-pub use decimal_digits::sink::{Out, Sink, SinkFault, TextBuf, Writeable};
+pub use decimal_digits::sink::{
+    BufferedOut, Closed, Out, Sink, SinkFault, TextBuf, WriteError, Writeable, write_whole,
+};
 pub use decimal_unsigned::decimal::{
     ByteDecimal, DecimalStore, INLINE_DIGITS, UnsignedDecimal, UnsignedOver,
 };

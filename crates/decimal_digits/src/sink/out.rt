@@ -1,12 +1,14 @@
 //! A sink over a writer.
-ghost use Rattle.std.specs.Prelude.{◌≡◌, OnOk, OnErr, Bool, true, false};
-ghost use Rattle.std.specs.Io.KnownBytes.{Keeps};
+ghost use Rattle.std.specs.Prelude.{◌≡◌, ℕ, List, OnOk, OnErr, Bool, true, false, is_some};
+ghost use Rattle.std.specs.Io.KnownBytes.{Keeps, append_known};
+ghost use Rattle.std.specs.Io.Buffered.{writer_contents, writer_inner};
 
-use super::{Sink, SinkFault, fail, write_whole};
-use std::io::Write;
+use super::write_error::{flush, keep_error, write_whole};
+use super::{Closed, Sink, SinkFault, WriteError};
+use std::io::{BufWriter, Write};
 use std::marker::Model;
 
-/// A sink over a writer. `put_bytes` is one write, and one more for the bytes that a write leaves.
+/// A sink over a writer, by one write for each byte.
 ///
 /// A write that fails or takes no byte is a failure of the sink, after which the writer is not called again. Contracts
 /// see the writer, and whether the sink has failed. Over a `Vec<u8>`, `into_writer` returns the vector with the text of
@@ -14,13 +16,13 @@ use std::marker::Model;
 #[derive(Debug, Drop)]
 pub struct Out<W: Write> {
     writer: W,
-    failed: bool,
+    error: Option<WriteError<W>>,
 }
 
 impl<W: Write> Model for Out<W> {
     ghost Value = { W × Bool };
 
-    ghost view = { λ s. (s.writer, s.failed) };
+    ghost view = { λ s. (s.writer, is_some s.error) };
 }
 
 impl<W: Write> Out<W> {
@@ -30,7 +32,7 @@ impl<W: Write> Out<W> {
     {
         Out {
             writer,
-            failed: false,
+            error: None,
         }
     }
 
@@ -46,18 +48,46 @@ impl<W: Write> Out<W> {
         ensures has_not_failed { OnOk result (self.new.1 ≡ false) }
         ensures failed { OnErr result (self.new.1 ≡ true) }
     {
-        if self.failed || self.writer.flush().is_err() {
-            return fail(&mut self.failed);
+        if self.error.is_some() {
+            return Err(SinkFault);
         }
-        Ok(())
+        keep_error(flush(&mut self.writer), &mut self.error)
     }
 
     /// Returns the writer, whether or not the sink has failed.
     pub fn into_writer(self) -> W
         ensures { result ≡ self.0 }
     {
-        let Out { writer, failed: _ } = self;
+        let Out { writer, error: _ } = self;
         writer
+    }
+}
+
+impl<W: Write + Drop> Out<BufWriter<W>> {
+    /// Drops what the buffer holds, and does not call the writer.
+    pub fn abandon(self) -> Closed<W>
+        ensures { result ≡ (writer_inner self.0, self.1) }
+    {
+        let Out { writer, error } = self;
+        let (writer, _unwritten) = writer.into_parts();
+        Closed::new(writer, error.map(WriteError::into_inner))
+    }
+
+    /// Writes what the buffer holds, and does not flush the writer. After a failed call the writer is not called again.
+    pub fn close(self) -> Closed<W>
+        ensures written { result.1 ≡ false → Keeps (writer_contents W.contents self.0) (W.contents result.0) }
+        ensures prefix { (missing : List ℕ)
+            × Keeps (writer_contents W.contents self.0) (append_known (W.contents result.0) missing) }
+        ensures stays_failed { self.1 ≡ true → result.1 ≡ true }
+    {
+        if self.error.is_some() {
+            return self.abandon();
+        }
+        let (mut writer, unwritten) = self.into_writer().into_parts();
+        match write_whole(&mut writer, unwritten.as_slice()) {
+            Ok(()) => Closed::new(writer, None),
+            Err(error) => Closed::new(writer, Some(error)),
+        }
     }
 }
 
@@ -67,23 +97,13 @@ impl<W: Write> Sink for Out<W> {
     ghost has_failed = { λ s. s.1 };
 
     fn put_byte(&mut self, byte: u8) -> Result<(), SinkFault> {
-        if self.failed {
+        if self.error.is_some() {
             return Err(SinkFault);
         }
-        match self.writer.write(&[byte]) {
-            Ok(1) => Ok(()),
-            _ => fail(&mut self.failed),
-        }
-    }
-
-    fn put_bytes(&mut self, bytes: &[u8]) -> Result<(), SinkFault> {
-        if self.failed || write_whole(&mut self.writer, bytes).is_err() {
-            return fail(&mut self.failed);
-        }
-        Ok(())
+        keep_error(write_whole(&mut self.writer, &[byte]), &mut self.error)
     }
 
     fn failed(&self) -> bool {
-        self.failed
+        self.error.is_some()
     }
 }

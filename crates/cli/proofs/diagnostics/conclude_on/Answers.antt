@@ -11,10 +11,7 @@ returns-clause-reported g c =
     let (some, status, (named, reports)) = h in (
       some,
       status,
-      (
-        after.has_failed,
-        reports_along g.W.Write.contents (g.E.Display.output error) _ _ after.writer.now
-            _ _ (search (rules, named)) reports,
-      ),
+      reports_along g.W.Write.contents (g.E.Display.output error) _ _ after.writer.now
+          _ _ (search (rules, named)) reports,
     ))
     (rw c.new-lines.ensures at c.conclude-status.ensures.reported)

@@ -20,11 +20,7 @@ returns-clause-reported g c = λ _.
     let failed : error ≡ Output → c.filter_words.result.1.1 ≡ true =
     λ e. c.filter_words.ensures.failed (is ∙ ap Err e) in
     let early : IsEarly error → c.filter_words.result.1 ≡ (c.args.out, false) =
-    rw (
-      is,
-      c.in-Ok-open.ensures.inner,
-      c.in-Ok-open.ensures.has_not_failed,
-    ) at c.filter_words.ensures.unchanged_on_error in
+    rw (is, c.in-Ok-open.ensures.opened) at c.filter_words.ensures.unchanged_on_error in
     let h = c.conclude-in-Err-default.ensures.reported in
     inr (
       error,

@@ -1,8 +1,18 @@
-use Rattle.std.proofs.Common.{◌≡◌, true, refl, rules}
-use Rattle.cli.proofs.Reporting.{reports_none}
+use Rattle.std.proofs.Common.{◌≡◌, true, false, refl, rules}
+use Rattle.std.specs.Prelude.{is_some}
+use Rattle.cli.proofs.Reporting.{reports_none, reports_written}
 use Rattle.cli.proofs.diagnostics.ErrorLinesDiagnostics.report.Goals as goal
 
-pub returns-then-self : goal.returns-then-self
-returns-then-self g c =
-    let failed : c.args.self.now.has_failed ≡ true = search rules in
+pub returns-then-is_some : goal.returns-then-is_some
+returns-then-is_some g c =
+    let failed : is_some c.args.self.now.error ≡ true = search rules in
     (refl, reports_none _ _ c.error_line-line.result.bytes _ failed c.error_line-line.ensures)
+
+pub returns : goal.returns
+returns g c =
+    let had_not : is_some c.args.self.now.error ≡ false = search rules in
+    let written = c.write_whole.ensures in (
+      refl,
+      reports_written _ _ _ c.error_line-line.result.bytes c.write_whole.result _ _ had_not c.err.ensures.variant
+          c.error_line-line.ensures (rw c.as_bytes.ensures at written.ok) (rw c.as_bytes.ensures at written.err),
+    )

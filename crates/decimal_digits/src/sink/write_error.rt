@@ -1,0 +1,102 @@
+//! Calls of a writer, and the error of one that failed.
+ghost use Rattle.std.specs.Prelude.{◌≡◌, ◌<◌, ℕ, length, take, IsSome, IsOk, IsErr, OnOk, OnErr, IfErr};
+ghost use Rattle.std.specs.Io.KnownBytes.{Keeps, Appends};
+
+use super::SinkFault;
+use std::io::{BufWriter, ErrorKind, Write};
+use std::marker::{Model, PhantomData};
+
+/// The error of a call of a `W` that failed.
+///
+/// Only a failed call makes one. Contracts see the number of bytes that were written before it failed.
+#[derive(Debug, Drop)]
+pub struct WriteError<W> {
+    kind: ErrorKind,
+    written: usize,
+    writer: PhantomData<W>,
+}
+
+impl<W> Model for WriteError<W> {
+    ghost Value = { ℕ };
+
+    ghost view = { λ s. s.written };
+}
+
+impl<W> WriteError<W> {
+    /// Returns the kind of the error; `WriteZero` for a write that took no byte.
+    pub fn kind(&self) -> ErrorKind {
+        self.kind
+    }
+
+    /// Returns the number of bytes that were written.
+    pub fn written(&self) -> usize
+        ensures { result ≡ self.now }
+    {
+        self.written
+    }
+
+    fn new(kind: ErrorKind, written: usize) -> Self
+        ensures { result ≡ written }
+    {
+        WriteError {
+            kind,
+            written,
+            writer: PhantomData,
+        }
+    }
+}
+
+impl<W: Write + Drop> WriteError<BufWriter<W>> {
+    /// Returns the error of the writer behind a buffer. A call of the buffer fails only with one of the writer.
+    pub fn into_inner(self) -> WriteError<W> {
+        WriteError::new(self.kind, 0)
+    }
+}
+
+/// Writes all bytes. The writer is called until it has taken them all, and not again after a call that fails or takes
+/// no byte.
+pub fn write_whole<W: Write>(writer: &mut W, bytes: &[u8]) -> Result<(), WriteError<W>>
+    ensures ok { OnOk result (Appends (W.contents writer.old) (W.contents writer.new) bytes.now) }
+    ensures err { IfErr result (λ written.
+        Appends (W.contents writer.old) (W.contents writer.new) (take written bytes.now)) }
+    ensures written { IfErr result (λ written. written < length bytes.now) }
+{
+    let mut written = 0;
+    while written < bytes.len() {
+        match writer.write(&bytes[written..]) {
+            Ok(0) => return Err(WriteError::new(ErrorKind::WriteZero, written)),
+            Ok(count) => written += count,
+            Err(error) => return Err(WriteError::new(error.kind(), written)),
+        }
+    }
+    Ok(())
+}
+
+/// Flushes a writer.
+pub fn flush<W: Write>(writer: &mut W) -> Result<(), WriteError<W>>
+    ensures { Keeps (W.contents writer.old) (W.contents writer.new) }
+{
+    match writer.flush() {
+        Ok(()) => Ok(()),
+        Err(error) => Err(WriteError::new(error.kind(), 0)),
+    }
+}
+
+/// Stores the error of a call that failed.
+pub(super) fn keep_error<W>(
+    called: Result<(), WriteError<W>>,
+    error: &mut Option<WriteError<W>>,
+) -> Result<(), SinkFault>
+    ensures ok { OnOk result (error.new ≡ error.old) }
+    ensures is_ok { OnOk result (IsOk called) }
+    ensures err { OnErr result (IsSome error.new) }
+    ensures is_err { OnErr result (IsErr called) }
+{
+    match called {
+        Ok(()) => Ok(()),
+        Err(failure) => {
+            *error = Some(failure);
+            Err(SinkFault)
+        }
+    }
+}
