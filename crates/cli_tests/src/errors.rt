@@ -60,10 +60,7 @@ const OPERATIONS: &[(OperationError, &str)] = &[
 ];
 
 const FIXDEC: &[(FixdecError, &str)] = &[
-    (
-        FixdecError::Usage,
-        "usage: fixdec [read:LOCALE] TEXT [CALL].. [format:LOCALE]\n",
-    ),
+    (FixdecError::Usage, "usage: fixdec TEXT [CALL]..\n"),
     (FixdecError::UnknownLocale, "unknown locale\n"),
     (FixdecError::Memory, "memory\n"),
     (

@@ -7,7 +7,6 @@ mod fields;
 mod long_input;
 mod outputs;
 mod pattern;
-mod slices;
 
 /// Returns the words of a line, which single blanks separate; the first is the program's name.
 fn words(alloc: Global, line: &str) -> Result<Vec<String>, Fail> {

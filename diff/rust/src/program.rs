@@ -118,7 +118,7 @@ fn outcome(case: &Case) -> (i32, Vec<u8>, String) {
 }
 
 fn usage() -> (i32, Vec<u8>, String) {
-    (2, Vec::new(), "usage: fixdec [read:LOCALE] TEXT [CALL].. [format:LOCALE]\n".to_owned())
+    (2, Vec::new(), "usage: fixdec TEXT [CALL]..\n".to_owned())
 }
 
 /// Runs the program on a case, and one time in eight on words one of which names no call.

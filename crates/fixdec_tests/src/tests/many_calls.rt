@@ -1,6 +1,6 @@
 //! Command lines of some hundred calls.
 use super::arguments::shown;
-use super::assert_shows;
+use super::{USAGE, assert_shows};
 use std::alloc::Global;
 use std::test::Fail;
 
@@ -11,13 +11,8 @@ const ROWS: &[(&str, &str, usize, &str, &str)] = &[
     ("5", "max:9", 100, "concat:x", "1 call 100: syntax\n"),
     ("5", "max:9", 101, "concat:5", "1 call 101: overlap\n"),
     ("5", "max:9", 299, "concat:1e32768", "1 call 299: limit\n"),
-    (
-        "5",
-        "max:9",
-        1_000,
-        "shift:32768",
-        "2 usage: fixdec [read:LOCALE] TEXT [CALL].. [format:LOCALE]\n",
-    ),
+    ("5", "max:9", 1_000, "shift:32768", USAGE),
+    ("5", "max:9", 10, "concat:5", "1 call 10: overlap\n"),
     ("5", "max:9", 1_000, "shift:0", "000000005"),
     ("5", "shift:32767", 1, "shift:1", "1 call 1: overflow\n"),
     ("5", "shift:127", 258, "shift:2", "1 call 258: overflow\n"),

@@ -9,12 +9,12 @@ const EDITS: &[(&str, &str)] = &[
     ("51423 shift:-8", "0.00051423"),
     (".5", "0.5"),
     ("0 shift:3", "0000"),
-    ("1e20", "100000000000000000000"),
+    ("1e5", "100000"),
     ("1e+5", "100000"),
     ("+1e+5", "+100000"),
     ("1.20e+1", "12.0"),
     ("12 shift:-000001 shift:-0", "1.2"),
-    ("5 shift:12", "5000000000000"),
+    ("250 trim-start", "250"),
     ("0012.3400 trim-start", "12.3400"),
     ("00.5 trim-start", "0.5"),
     ("0012.3400 trim-end", "0012.34"),
@@ -24,10 +24,11 @@ const EDITS: &[(&str, &str)] = &[
     ("0.42 pad-start:4", "0000.42"),
     ("0000.42 pad-start:2", "00.42"),
     ("123.456 pad-end:-6", "123.456000"),
+    ("42.500 pad-end:-1", "42.5"),
     ("1.500 pad-end:3", "1.500"),
     ("100.01 max:1", "0.01"),
     ("0 max:-2", "0.00"),
-    ("4235.970 max:2", "35.970"),
+    ("42.5 max:5", "00042.5"),
 ];
 
 /// Roundings, by each increment.
@@ -37,17 +38,12 @@ const ROUNDINGS: &[(&str, &str)] = &[
     ("99.999 round:4:expand:1", "10000"),
     ("9.75 round:-1:half-even:1", "9.8"),
     ("9.75 round:-1:half-even:5", "10.0"),
-    ("2.51 round:0:half-trunc:1", "3"),
     ("5.455 round:-2:half-expand:5", "5.45"),
-    ("0.40 round:-2:trunc:25", "0.25"),
     ("0.7000000099 round:-3:expand:2", "0.702"),
     ("-7.266 round:-2:expand:25", "-7.50"),
     ("-3.59 round:-1:ceil:2", "-3.4"),
     ("-7.235 round:-2:half-trunc:25", "-7.25"),
-    ("87.3 round:0:trunc:1", "87"),
-    ("87.3 round:0:trunc:2", "86"),
-    ("87.3 round:0:trunc:5", "85"),
-    ("87.3 round:0:trunc:25", "75"),
+    ("1234567812345678 round:-1:trunc:25", "1234567812345677.5"),
 ];
 
 /// For any two modes, a row of one has another text in the other.
@@ -75,10 +71,8 @@ const MODES: &[(&str, &str)] = &[
 /// For any two signs and any two displays, a row of one has another text in the other.
 const SIGNS: &[(&str, &str)] = &[
     ("-00.0", "-00.0"),
-    ("+5", "+5"),
     ("-5 max:0", "-0"),
     ("-5 sign:none", "5"),
-    ("5 sign:minus", "-5"),
     ("5 sign:plus", "+5"),
     ("4235.970 max:2 sign:minus", "-35.970"),
     ("+5 display:auto", "5"),
@@ -87,14 +81,13 @@ const SIGNS: &[(&str, &str)] = &[
     ("1729 display:always", "+1729"),
     ("0 display:always", "+0"),
     ("5 display:except-zero", "+5"),
-    ("-0 display:except-zero", "0"),
     ("-0.4 round:0:ceil:1 display:except-zero", "0"),
     ("-5 display:negative", "-5"),
     ("+5 display:negative", "5"),
     ("-0 display:negative", "0"),
 ];
 
-/// Rows that may allocate, and runs of many calls.
+/// Concatenations: in the last row the start, the operand and the result are long.
 const JOINS: &[(&str, &str)] = &[
     ("120 shift:1 concat:25 shift:1", "12250"),
     ("123 concat:0.456 pad-start:5", "00123.456"),
@@ -103,11 +96,24 @@ const JOINS: &[(&str, &str)] = &[
     ("1e20 concat:7", "100000000000000000007"),
     ("1000 concat:1.2e+1", "1012"),
     ("0 concat:12345678901234567890", "12345678901234567890"),
-    ("123456789e10 concat:1234567890", "1234567891234567890"),
     (
-        "5 shift:1 shift:1 shift:1 shift:1 shift:1 shift:1 shift:1 shift:1 shift:1 shift:1 shift:1 concat:7",
-        "500000000007",
+        "12345678901234567890 concat:0.12345678901234567895",
+        "12345678901234567890.12345678901234567895",
     ),
+];
+
+/// Texts in the forms of locales.
+const LOCALES: &[(&str, &str)] = &[
+    (
+        "1.234,565 read:de round:-2:half-even:1 format:en-IN",
+        "1,234.56",
+    ),
+    ("12345,5 read:de", "12345.5"),
+    ("1'234567.50 read:de-CH:lenient", "1234567.50"),
+    ("1234567.891 format:hi", "12,34,567.891"),
+    ("1234567.891 format:de_CH.UTF-8:never", "1234567.891"),
+    ("1234 format:es:always", "1.234"),
+    ("1234 format:de:min2", "1234"),
 ];
 
 /// Lines whose text is a prefix and a number of zeros.
@@ -122,64 +128,12 @@ const ZEROS: &[(&str, &str, usize)] = &[
 ];
 
 #[test]
-fn shifts_and_edits(rt: HostRuntime) -> Result<(), Fail> {
-    let alloc = rt.alloc();
-    for (line, text) in EDITS {
-        assert_shows(&rt, shown(alloc, line)?, text);
+fn prints(rt: HostRuntime) -> Result<(), Fail> {
+    for rows in [EDITS, ROUNDINGS, MODES, SIGNS, JOINS, LOCALES] {
+        for (line, text) in rows {
+            assert_shows(&rt, shown(rt.alloc(), line)?, text);
+        }
     }
-    Ok(())
-}
-
-#[test]
-fn rounds(rt: HostRuntime) -> Result<(), Fail> {
-    let alloc = rt.alloc();
-    for (line, text) in ROUNDINGS {
-        assert_shows(&rt, shown(alloc, line)?, text);
-    }
-    Ok(())
-}
-
-#[test]
-fn distinguishes_modes(rt: HostRuntime) -> Result<(), Fail> {
-    let alloc = rt.alloc();
-    for (line, text) in MODES {
-        assert_shows(&rt, shown(alloc, line)?, text);
-    }
-    Ok(())
-}
-
-#[test]
-fn distinguishes_signs(rt: HostRuntime) -> Result<(), Fail> {
-    let alloc = rt.alloc();
-    for (line, text) in SIGNS {
-        assert_shows(&rt, shown(alloc, line)?, text);
-    }
-    Ok(())
-}
-
-#[test]
-fn joins(rt: HostRuntime) -> Result<(), Fail> {
-    let alloc = rt.alloc();
-    for (line, text) in JOINS {
-        assert_shows(&rt, shown(alloc, line)?, text);
-    }
-    Ok(())
-}
-
-/// The start, the operand and the concatenated digits are long, so that each allocates.
-#[test]
-fn joins_long_numbers(rt: HostRuntime) -> Result<(), Fail> {
-    let line = "12345678901234567890 concat:0.12345678901234567895";
-    let found = shown(rt.alloc(), line)?;
-    assert_shows(&rt, found, "12345678901234567890.12345678901234567895");
-    Ok(())
-}
-
-/// The rounding makes one digit more than are stored in place.
-#[test]
-fn rounds_to_one_digit_more(rt: HostRuntime) -> Result<(), Fail> {
-    let found = shown(rt.alloc(), "1234567812345678 round:-1:trunc:25")?;
-    assert_shows(&rt, found, "1234567812345677.5");
     Ok(())
 }
 
@@ -196,9 +150,8 @@ fn trailing_zeros(alloc: Global, line: &str, front: &str) -> Result<Option<usize
 
 #[test]
 fn prints_many_zeros(rt: HostRuntime) -> Result<(), Fail> {
-    let alloc = rt.alloc();
     for (line, front, zeros) in ZEROS {
-        assert_eq!(rt; trailing_zeros(alloc, line, front)?, Some(*zeros));
+        assert_eq!(rt; trailing_zeros(rt.alloc(), line, front)?, Some(*zeros));
     }
     Ok(())
 }
