@@ -17,42 +17,42 @@ const NONE: Text = (b"", b"", 0, b"");
 /// Lines of 65,537 and of 200,000 bytes, and 5,000 lines.
 const ROWS: &[Row] = &[
     (
-        "fixdec_lines",
+        "",
         (b"8\n", b"5", 32_768, b".123\n9\n"),
         (b"8\n", b"5", 32_768, b".123\n9\n"),
         NONE,
         0,
     ),
     (
-        "fixdec_lines skip trim-end",
+        "skip trim-end",
         (b"8\n1.5", b"0", 65_534, b"\n9"),
         (b"8\n", b"", 0, b"\n9\n"),
         (b"line 2: start: limit\n", b"", 0, b""),
         1,
     ),
     (
-        "fixdec_lines",
+        "",
         (b"1e", b"0", 199_997, b"3\n7\n"),
         (b"1000\n7\n", b"", 0, b""),
         NONE,
         0,
     ),
     (
-        "fixdec_lines",
+        "",
         (b"7\n", b"x", 200_000, b"\n8\n"),
         (b"7\n", b"", 0, b""),
         (b"line 2: start: syntax\n", b"", 0, b""),
         1,
     ),
     (
-        "fixdec_lines round:-2:half-even:1",
+        "round:-2:half-even:1",
         (b"", b"1234.565\n-9.995\n", 2_500, b"7"),
         (b"", b"1234.56\n-10.00\n", 2_500, b"7.00\n"),
         NONE,
         0,
     ),
     (
-        "fixdec_lines shift:1",
+        "shift:1",
         (b"", b"5\n", 4_999, b"-\n5\n"),
         (b"", b"50\n", 4_999, b""),
         (b"line 5000: start: syntax\n", b"", 0, b""),
