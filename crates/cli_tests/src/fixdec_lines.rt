@@ -3,7 +3,6 @@ use std::alloc::Global;
 use std::test::Fail;
 
 mod chunked_input;
-mod fields;
 mod long_input;
 mod outputs;
 mod pattern;

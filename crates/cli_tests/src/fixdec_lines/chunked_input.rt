@@ -90,6 +90,80 @@ const ROWS: &[Row] = &[
     ("shift:1 header", b"1\n", b"", USAGE, 2),
 ];
 
+/// Fields of lines, shifted by -2: all other bytes are copied.
+const FIELDS: &[Row] = &[
+    (
+        "skip field:1 shift:-2",
+        b"250\n7\tx",
+        b"2.50\n0.07\tx\n",
+        b"",
+        0,
+    ),
+    (
+        "skip field:2 delimiter:, shift:-2",
+        b"a,250,b\n,7,\n\x00\xff,250,\xc3\x00\na,250\r\n\"a,250,c\n\r\n\n",
+        b"a,2.50,b\n,0.07,\n\x00\xff,2.50,\xc3\x00\n\n\"a,2.50,c\n\n\n",
+        b"line 4: start: syntax\nline 6: field\nline 7: field\n",
+        1,
+    ),
+    (
+        "skip field:4 delimiter:, shift:-2",
+        b",,,\n,,\n1,2,3,4,5\n",
+        b"\n\n1,2,3,0.04,5\n",
+        b"line 1: start: syntax\nline 2: field\n",
+        1,
+    ),
+    (
+        "skip field:2 delimiter:· shift:-2",
+        b"\xb7\xc2\xb7250\xc2\xb7\xc2\n",
+        b"\xb7\xc2\xb72.50\xc2\xb7\xc2\n",
+        b"",
+        0,
+    ),
+    (
+        "skip field:2 csv shift:-2",
+        b"a,250\r\n\"a,\"\"b\",250,c\na,\"250\",c\n\"a,250\n\"a\",\"250\n\"\x00\xff,\",250,\"\xc3\"\n",
+        b"a,2.50\r\n\"a,\"\"b\",2.50,c\na,2.50,c\n\n\n\"\x00\xff,\",2.50,\"\xc3\"\n",
+        b"line 4: quote\nline 5: quote\n",
+        1,
+    ),
+    (
+        "skip field:1 csv shift:-2",
+        b"\"1\"2\"\",3\n1\"2\",3\n\"\"\"\n\"250\"\r\n250\r",
+        b"\n\n\n2.50\r\n2.50\r\n",
+        b"line 1: quote\nline 2: quote\nline 3: quote\n",
+        1,
+    ),
+    (
+        "skip field:1 csv",
+        b"\"2\"\"5\"\n\"\",1\n25\x00,1\n\r\n",
+        b"\n\n\n\n",
+        b"line 1: start: syntax\nline 2: start: syntax\nline 3: start: syntax\nline 4: start: syntax\n",
+        1,
+    ),
+    (
+        "skip field:3 csv shift:-2",
+        b"\"1,2\",3\n,,\n",
+        b"\n\n",
+        b"line 1: field\nline 2: start: syntax\n",
+        1,
+    ),
+    (
+        "field:1 csv delimiter:. shift:-2",
+        b"250.x",
+        b"\"2.50\".x\n",
+        b"",
+        0,
+    ),
+    (
+        "field:2 csv delimiter:\r shift:-2",
+        b"1\r250\r\n",
+        b"1\r2.50\r\n",
+        b"",
+        0,
+    ),
+];
+
 /// The reader fails after the input.
 const BROKEN: &[Row] = &[
     ("shift:-2", b"250\n7\n", b"2.50\n0.07\n", b"input\n", 3),
@@ -152,6 +226,7 @@ fn assert_rows(
 fn filters_chunked_input(rt: HostRuntime) -> Result<(), Fail> {
     let alloc = rt.alloc();
     assert_rows(&rt, alloc, ROWS, None)?;
+    assert_rows(&rt, alloc, FIELDS, None)?;
     assert_rows(&rt, alloc, BROKEN, Some(ErrorKind::BrokenPipe))?;
     assert_rows(&rt, alloc, NO_MEMORY, Some(ErrorKind::OutOfMemory))
 }

@@ -14,7 +14,7 @@ type Row = (&'static str, Text, Text, Text, u8);
 
 const NONE: Text = (b"", b"", 0, b"");
 
-/// Lines of 65,537 and of 200,000 bytes, and 5,000 lines.
+/// Long lines, 5,000 lines, and long fields.
 const ROWS: &[Row] = &[
     (
         "",
@@ -56,6 +56,34 @@ const ROWS: &[Row] = &[
         (b"", b"5\n", 4_999, b"-\n5\n"),
         (b"", b"50\n", 4_999, b""),
         (b"line 5000: start: syntax\n", b"", 0, b""),
+        1,
+    ),
+    (
+        "field:32767 delimiter:, shift:-2",
+        (b"", b",", 32_766, b"250\n"),
+        (b"", b",", 32_766, b"2.50\n"),
+        NONE,
+        0,
+    ),
+    (
+        "field:2 csv shift:-2",
+        (b"", b"\"", 20_000, b",250"),
+        (b"", b"\"", 20_000, b",2.50\n"),
+        NONE,
+        0,
+    ),
+    (
+        "field:2 csv shift:-2",
+        (b"", b"\"", 20_001, b",250"),
+        NONE,
+        (b"line 1: quote\n", b"", 0, b""),
+        1,
+    ),
+    (
+        "field:2 shift:-2",
+        (b"", b"\x00", 20_000, b"250"),
+        NONE,
+        (b"line 1: field\n", b"", 0, b""),
         1,
     ),
 ];
