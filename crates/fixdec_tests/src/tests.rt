@@ -10,7 +10,6 @@ use std::test::Fail;
 mod arguments;
 mod buffering;
 mod failing_writers;
-mod many_calls;
 mod prints;
 mod rejected;
 

@@ -34,7 +34,7 @@ fn output_of(alloc: Global, arguments: io::Result<Args>) -> Result<Vec<u8>, Fail
 }
 
 /// Runs the program on words, and once more if it is out of memory.
-pub fn shown(alloc: Global, words: &Vec<String>) -> Result<Vec<u8>, Fail> {
+fn shown(alloc: Global, words: &Vec<String>) -> Result<Vec<u8>, Fail> {
     let answer = output_of(alloc, Ok(words.clone()?.into_iter()))?;
     if answer.as_slice() == b"3 memory\n".as_slice() {
         return output_of(alloc, Ok(words.clone()?.into_iter()));

@@ -1,6 +1,5 @@
 //! Lines that print a text.
-use super::{assert_shows, output_with_retry, shown, words};
-use std::alloc::Global;
+use super::{assert_shows, shown};
 use std::test::Fail;
 
 /// Shifts, trims, pads and cuts.
@@ -116,42 +115,12 @@ const LOCALES: &[(&str, &str)] = &[
     ("1234 format:de:min2", "1234"),
 ];
 
-/// Lines whose text is a prefix and a number of zeros.
-const ZEROS: &[(&str, &str, usize)] = &[
-    ("0 shift:32767", "", 32_768),
-    ("0 shift:-32768", "0.", 32_768),
-    ("0 max:32767", "", 32_767),
-    ("0 max:-32768", "0.", 32_768),
-    ("0 pad-start:1200", "", 1_200),
-    ("0 pad-end:-1200", "0.", 1_200),
-    ("5 round:120:expand:1", "1", 120),
-];
-
 #[test]
 fn prints(rt: HostRuntime) -> Result<(), Fail> {
     for rows in [EDITS, ROUNDINGS, MODES, SIGNS, JOINS, LOCALES] {
         for (line, text) in rows {
             assert_shows(&rt, shown(rt.alloc(), line)?, text);
         }
-    }
-    Ok(())
-}
-
-/// Returns the number of zeros that a line prints after a prefix, if nothing follows them.
-fn trailing_zeros(alloc: Global, line: &str, front: &str) -> Result<Option<usize>, Fail> {
-    let words = words(alloc, line)?;
-    let text = output_with_retry(alloc, words.as_slice(), 40_000)?;
-    Ok(
-        text.strip_prefix(front.as_bytes())
-            .filter(|zeros| zeros.iter().all(|byte| *byte == b'0'))
-            .map(|zeros| zeros.len()),
-    )
-}
-
-#[test]
-fn prints_many_zeros(rt: HostRuntime) -> Result<(), Fail> {
-    for (line, front, zeros) in ZEROS {
-        assert_eq!(rt; trailing_zeros(rt.alloc(), line, front)?, Some(*zeros));
     }
     Ok(())
 }
