@@ -181,6 +181,11 @@ done 2> /dev/null
 judge "with little memory it reported memory $reported times and printed $printed times"
 
 help fixdec 'usage: fixdec TEXT [CALL]..'
+name='fixdec --help > /dev/full'
+"$room/fixdec" --help > /dev/full 2> "$room/err" < /dev/null
+found=$?
+: > "$room/out"
+compare 3 '' ''
 row fixdec 1 '' $'start: syntax\n' --help shift:1
 row fixdec 2 '' "$usage" --help 5
 
