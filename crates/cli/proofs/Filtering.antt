@@ -1,5 +1,5 @@
 -- The state of a filter after some lines, and its result.
-use Rattle.std.proofs.Common.{◌≡◌, ℕ, suc, ◌+◌, List, [], ◌∷◌, ◌++◌, length, append_assoc, Option, Some, None, Ok, Err, Result, Bool, true, false, ◌&&◌, inl, inr, length-append, refl, sym, ap, subst, ◌∙◌, arith}
+use Rattle.std.proofs.Common.{◌≡◌, ℕ, suc, ◌+◌, ◌-◌, ◌^◌, List, [], ◌∷◌, ◌++◌, length, append_assoc, Option, Some, None, Ok, Err, Result, Bool, true, false, ◌&&◌, inl, inr, length-append, refl, sym, ap, subst, ◌∙◌, arith}
 use Rattle.std.specs.Prelude.{is_ok, IfSome}
 use Rattle.std.proofs.lemmas.Bool.{and_from}
 use Rattle.std.proofs.lemmas.List.{append-nil, flat_map_more}
@@ -8,7 +8,7 @@ use Rattle.std.proofs.lemmas.Grind.{common_steps}
 use Rattle.std.specs.List.{FoldsTo}
 use Rattle.std.specs.Io.KnownBytes.{Appends}
 use Rattle.std.specs.Io.BufRead.{drop_through}
-use Rattle.std.specs.declared.io.Error.{Error}
+use Rattle.std.specs.declared.io.ErrorKind.{ErrorKind}
 use Rattle.std.proofs.KnownBytes.{Appends-nil, Appends-trans}
 use Rattle.decimal_digits.specs.AppendsPrefix.{AppendsPrefix}
 use Rattle.fixed_decimal.proofs.Calling.{then_prefix}
@@ -76,17 +76,21 @@ whole a b text p = (text, [], append-nil text, p)
 -- ---- The state of the filter.
 
 -- from the end of some effects to this input, output and diagnostics
-abbrev pub from_end : {D : Type 0} → Effects D → Option (List ℕ) → Option (List ℕ) → D → Effects D
-from_end e input output diagnostics = record {
+abbrev pub from_end :
+    {D : Type 0} → Effects D → Option (List ℕ) → Option ErrorKind → Option (List ℕ) → D → Effects D
+from_end e input failure output diagnostics = record {
   input = record { before = e.input.after; after = input };
+  failure = failure;
   output = record { before = e.output.after; after = output };
   diagnostics = record { before = e.diagnostics.after; after = diagnostics };
 }
 
 -- from their start
-abbrev pub from_start : {D : Type 0} → Effects D → Option (List ℕ) → Option (List ℕ) → D → Effects D
-from_start e input output diagnostics = record {
+abbrev pub from_start :
+    {D : Type 0} → Effects D → Option (List ℕ) → Option ErrorKind → Option (List ℕ) → D → Effects D
+from_start e input failure output diagnostics = record {
   input = record { before = e.input.before; after = input };
+  failure = failure;
   output = record { before = e.output.before; after = output };
   diagnostics = record { before = e.diagnostics.before; after = diagnostics };
 }
@@ -108,13 +112,15 @@ pub record Filtered
 
 -- before the first line
 pub filtered_start :
-    {D : Type 0} (reports : D → FilterError → D → Type 0) (filter : Filter) (a o : Option (List ℕ)) (d : D)
+    {D : Type 0} (reports : D → FilterError → D → Type 0) (filter : Filter) (a : Option (List ℕ)) (f : Option ErrorKind)
+    (o : Option (List ℕ)) (d : D)
     → Filtered reports filter 0 true (record {
       input = record { before = a; after = a };
+      failure = f;
       output = record { before = o; after = o };
       diagnostics = record { before = d; after = d };
     })
-filtered_start reports filter a o d = record {
+filtered_start reports filter a f o d = record {
   lines = [];
   results = [];
   are_results = tt;
@@ -170,116 +176,114 @@ module _
           → have_texts (h.results ++ (r ∷ [])) ≡ true
       stop_next text stop = texts_next ∙ and_from _ _ (h.stop stop) (text stop)
 
-    -- one more line was filtered
-    pub filtered_more :
-        (u : Bool) (c q : Option (List ℕ)) (g : D)
-        → FiltersNext reports filter (count + 1) (from_end e c q g) (Ok (Some u))
-        → Filtered reports filter (count + 1) (t && u) (from_start e c q g)
-    filtered_more u c q g (line, is, (r, of_line, put, more, text, stop)) = record {
-      lines = h.lines ++ (line ∷ []);
-      results = h.results ++ (r ∷ []);
-      are_results = results_next line r of_line;
-      read = read_more e.input.before e.input.after c h.lines line h.read is;
-      number = length-append h.lines (line ∷ []) ∙ ap (λ n. n + 1) h.number;
-      output = output_next r q put;
-      reported = reported_next r g more;
-      texts_of = rw (h.texts_of, text) (sym (texts_next r));
-      stop = stop_next r (λ is. sym text ∙ stop is);
-    }
+    -- ---- The input, the failure of the reader, the output and the diagnostics after the next line.
 
-    -- ---- The result of the filter.
+    module _ (c : Option (List ℕ)) (f : Option ErrorKind) (q : Option (List ℕ)) (g : D) where
+      -- it was filtered
+      pub filtered_more :
+          (u : Bool) → FiltersNext reports filter (count + 1) (from_end e c f q g) (Ok (Some u))
+          → Filtered reports filter (count + 1) (t && u) (from_start e c f q g)
+      filtered_more u (line, is, (r, of_line, put, more, text, stop)) = record {
+        lines = h.lines ++ (line ∷ []);
+        results = h.results ++ (r ∷ []);
+        are_results = results_next line r of_line;
+        read = read_more e.input.before e.input.after c h.lines line h.read is;
+        number = length-append h.lines (line ∷ []) ∙ ap (λ n. n + 1) h.number;
+        output = output_next r q put;
+        reported = reported_next r g more;
+        texts_of = rw (h.texts_of, text) (sym (texts_next r));
+        stop = stop_next r (λ is. sym text ∙ stop is);
+      }
 
-    -- the filter returned this after the lines so far
-    filters :
-        (result : Result Bool FilterError) (c q : Option (List ℕ)) (g : D)
-        → Returns filter e.input.before h.lines h.results result → q ≡ e.output.after → g ≡ e.diagnostics.after
-        → Filters AppendsPrefix reports filter (from_start e c q g) result
-    filters result c q g how out err = record {
-      lines = h.lines;
-      results = h.results;
-      are_results = h.are_results;
-      returns = how;
-      stop = h.stop;
-      whole = λ _. rw out h.output;
-      part = rw out (whole e.output.before e.output.after _ h.output);
-      reported = rw err h.reported;
-    }
+      -- nothing was written, and the filter returned this
+      filters :
+          (result : Result Bool FilterError) → Returns filter e.input.before f h.lines h.results result
+          → q ≡ e.output.after → g ≡ e.diagnostics.after
+          → Filters AppendsPrefix reports filter (from_start e c f q g) result
+      filters result how out err = record {
+        lines = h.lines;
+        results = h.results;
+        are_results = h.are_results;
+        returns = how;
+        stop = h.stop;
+        whole = λ _. rw out h.output;
+        part = rw out (whole e.output.before e.output.after _ h.output);
+        reported = rw err h.reported;
+      }
 
-    -- no line is left
-    pub filters_all :
-        (c q : Option (List ℕ)) (g : D) → FiltersNext reports filter (count + 1) (from_end e c q g) (Ok None)
-        → Filters AppendsPrefix reports filter (from_start e c q g) (Ok t)
-    filters_all c q g (none, (out, err)) =
-        filters (Ok t) c q g (read_all e.input.before e.input.after c h.lines h.read none, h.texts_of) out err
+      -- there is none
+      pub filters_all :
+          FiltersNext reports filter (count + 1) (from_end e c f q g) (Ok None)
+          → Filters AppendsPrefix reports filter (from_start e c f q g) (Ok t)
+      filters_all (none, (out, err)) =
+          filters (Ok t) (read_all e.input.before e.input.after c h.lines h.read none, h.texts_of) out err
 
-    -- and where each line has a text, nothing was reported
-    pub silent_all :
-        (c q : Option (List ℕ)) (g : D) → FiltersNext reports filter (count + 1) (from_end e c q g) (Ok None)
-        → t ≡ true → g ≡ e.diagnostics.before
-    silent_all c q g (none, (out, err)) texts =
-        err ∙ sym (subst (λ errors. FoldsTo reports e.diagnostics.before errors e.diagnostics.after)
-        (no_errors h.results (sym h.texts_of ∙ texts)) h.reported)
+      -- and where each line has a text, nothing was reported
+      pub silent_all :
+          FiltersNext reports filter (count + 1) (from_end e c f q g) (Ok None) → t ≡ true
+          → g ≡ e.diagnostics.before
+      silent_all (none, (out, err)) texts =
+          err ∙ sym (subst (λ errors. FoldsTo reports e.diagnostics.before errors e.diagnostics.after)
+          (no_errors h.results (sym h.texts_of ∙ texts)) h.reported)
 
-    -- after 2 to the 64 lines
-    pub filters_many : Filters AppendsPrefix reports filter e (Err Input)
-    filters_many = filters (Err Input) e.input.after e.output.after e.diagnostics.after ((e.input.after, h.read), tt)
-        refl refl
+      -- it could not be read
+      filters_reading :
+          (error : FilterError) → IsErrorOfReading (count + 1) f error → q ≡ e.output.after
+          → g ≡ e.diagnostics.after → Filters AppendsPrefix reports filter (from_start e c f q g) (Err error)
+      filters_reading (LongLine at) (same, memory) out err =
+          filters (Err (LongLine at))
+          ((e.input.after, h.read), (same ∙ ap (λ n. n + 1) (sym h.number), memory)) out err
+      filters_reading Input failed out err = filters (Err Input) ((e.input.after, h.read), inl failed) out err
+      filters_reading error never out err = absurd never
 
-    -- the next line could not be read
-    filters_reading :
-        (why : Error) (error : FilterError) (c q : Option (List ℕ)) (g : D)
-        → IsErrorOfReading (count + 1) why error → q ≡ e.output.after → g ≡ e.diagnostics.after
-        → Filters AppendsPrefix reports filter (from_start e c q g) (Err error)
-    filters_reading why (LongLine at) c q g (same, kind) out err =
-        filters (Err (LongLine at)) c q g ((e.input.after, h.read), same ∙ ap (λ n. n + 1) (sym h.number)) out err
-    filters_reading why Input c q g kind out err = filters (Err Input) c q g ((e.input.after, h.read), tt) out err
-    filters_reading why error c q g never out err = absurd never
+      -- it was read, and it has this error
+      filters_line :
+          (line : List ℕ) (error : FilterError) → IfSome e.input.after (λ rest. IsRead true rest line c)
+          → FiltersLine reports filter (count + 1) line (from_end e c f q g).output
+          (from_end e c f q g).diagnostics (Err error)
+          → Filters AppendsPrefix reports filter (from_start e c f q g) (Err error)
+      filters_line line (Operation at error) is (why, out, err) =
+          filters (Err (Operation at error)) (
+            (e.input.after, h.read),
+            (
+              line,
+              (c, read_more e.input.before e.input.after c h.lines line h.read is),
+              rw h.number why,
+            ),
+          ) out err
+      filters_line line Output is (r, of_line, put, more, text) = record {
+        lines = h.lines ++ (line ∷ []);
+        results = h.results ++ (r ∷ []);
+        are_results = results_next line r of_line;
+        returns = ((c, read_more e.input.before e.input.after c h.lines line h.read is), tt);
+        stop = stop_next r text;
+        whole = λ other. absurd (other refl);
+        part = prefix_next r q put;
+        reported = reported_next r g more;
+      }
+      filters_line line error is h = absurd h.0
 
-    -- the next line was read, and it has this error
-    filters_line :
-        (line : List ℕ) (error : FilterError) (c q : Option (List ℕ)) (g : D)
-        → IfSome e.input.after (λ rest. IsRead true rest line c)
-        → FiltersLine reports filter (count + 1) line (from_end e c q g).output (from_end e c q g).diagnostics
-        (Err error)
-        → Filters AppendsPrefix reports filter (from_start e c q g) (Err error)
-    filters_line line (Operation at error) c q g is (why, out, err) =
-        filters (Err (Operation at error)) c q g (
-          (e.input.after, h.read),
-          (
-            line,
-            (c, read_more e.input.before e.input.after c h.lines line h.read is),
-            rw h.number why,
-          ),
-        ) out err
-    filters_line line Output c q g is (r, of_line, put, more, text) = record {
-      lines = h.lines ++ (line ∷ []);
-      results = h.results ++ (r ∷ []);
-      are_results = results_next line r of_line;
-      returns = ((c, read_more e.input.before e.input.after c h.lines line h.read is), tt);
-      stop = stop_next r text;
-      whole = λ other. absurd (other refl);
-      part = prefix_next r q put;
-      reported = reported_next r g more;
-    }
-    filters_line line error c q g is h = absurd h.0
+      -- it has this error, or could not be read
+      pub filters_error :
+          (error : FilterError) → FiltersNext reports filter (count + 1) (from_end e c f q g) (Err error)
+          → Filters AppendsPrefix reports filter (from_start e c f q g) (Err error)
+      filters_error error (inl (line, is, fails)) = filters_line line error is fails
+      filters_error error (inr (reading, (out, err))) = filters_reading error reading out err
 
-    -- the next line has this error
-    pub filters_error :
-        (error : FilterError) (c q : Option (List ℕ)) (g : D)
-        → FiltersNext reports filter (count + 1) (from_end e c q g) (Err error)
-        → Filters AppendsPrefix reports filter (from_start e c q g) (Err error)
-    filters_error error c q g (inl (line, is, fails)) = filters_line line error c q g is fails
-    filters_error error c q g (inr ((why, reading), (out, err))) = filters_reading why error c q g reading out err
+      -- what is left after it
+      pub consumed_next :
+          (error : FilterError) → FiltersNext reports filter (count + 1) (from_end e c f q g) (Err error)
+          → IsConsumed (record { before = e.input.before; after = c }) error
+      consumed_next (Operation at error) (inl (line, is, ((same, other, real, fails), out, err))) = (
+        h.lines ++ (line ∷ []),
+        length-append h.lines (line ∷ []) ∙ (ap (λ n. n + 1) h.number ∙ sym same),
+        read_more e.input.before e.input.after c h.lines line h.read is,
+      )
+      consumed_next (Operation at error) (inr (never, silent)) = absurd never
+      consumed_next error fails = tt
 
-    -- what is left after it
-    pub consumed_next :
-        (error : FilterError) (c q : Option (List ℕ)) (g : D)
-        → FiltersNext reports filter (count + 1) (from_end e c q g) (Err error)
-        → IsConsumed (record { before = e.input.before; after = c }) error
-    consumed_next (Operation at error) c q g (inl (line, is, ((same, other, real, fails), out, err))) = (
-      h.lines ++ (line ∷ []),
-      length-append h.lines (line ∷ []) ∙ (ap (λ n. n + 1) h.number ∙ sym same),
-      read_more e.input.before e.input.after c h.lines line h.read is,
-    )
-    consumed_next (Operation at error) c q g (inr ((why, never), silent)) = absurd never
-    consumed_next error c q g fails = tt
+    -- after all lines that a `u64` counts
+    pub filters_many : count ≡ 2 ^ 64 - 1 → Filters AppendsPrefix reports filter e (Err Input)
+    filters_many all =
+        filters e.input.after e.failure e.output.after e.diagnostics.after (Err Input)
+        ((e.input.after, h.read), inr (h.number ∙ all)) refl refl

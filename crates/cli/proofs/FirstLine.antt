@@ -1,8 +1,11 @@
 -- The first line of bytes, and the others.
-use Rattle.std.proofs.Common.{◌≡◌, ◌≢◌, ℕ, zero, suc, ◌+◌, ◌<◌, ◌≤◌, true, List, [], ◌∷◌, ◌++◌, length, take, drop, slice_index, Option, Some, None, IfSome, refl, sym, ap, ◌∙◌, arith, add-one, eq-eqb, ne_eqb, le_of_suc-le-suc, suc-le-suc, zero-lt-suc, eqb-true, take-append-drop, length-append}
+use Rattle.std.proofs.Common.{◌≡◌, ◌≢◌, ℕ, zero, suc, ◌+◌, ◌<◌, ◌==◌, if◌then◌else◌, Bool, true, false, List, [], ◌∷◌, ◌++◌, length, take, drop, slice_index, Option, Some, None, IfSome, refl, sym, ap, ◌∙◌, arith, add-one, eq-eqb, ne_eqb, le_of_suc-le-suc, suc-le-suc, zero-lt-suc, eqb-true, take-append-drop, length-append}
 use Rattle.std.specs.Io.{StartsWith}
-use Rattle.std.specs.Io.KnownBytes.{Keeps}
+use Rattle.std.specs.declared.io.buffered.BufReader.{BufReader}
+use Rattle.std.specs.Io.KnownBytes.{prepend_known}
+use Rattle.std.specs.Io.Buffered.{reader_buffer, reader_capacity, reader_remaining}
 use Rattle.std.specs.Io.BufRead.{take_through, drop_through, strip_last, first_piece, DropsConsumable}
+use Rattle.std.proofs.Math.Seq.{take-append_seam}
 use Rattle.std.proofs.lemmas.Bool.{cond-false}
 use Rattle.std.proofs.lemmas.Grind.{common_steps}
 use Rattle.memchr.specs.Find.{IsFirstByte, is_byte}
@@ -41,17 +44,11 @@ line_at (x ∷ y ∷ ys) rest (suc i) inside before here =
       cond-false _ _ _ other ∙ left,
     )
 
-fits_less : (limit : Option ℕ) (m n : ℕ) → m ≤ n → IfSome limit (λ k. n ≤ k) → IfSome limit (λ k. m ≤ k)
-fits_less limit m n less fits = grind arith
-
--- the next line of a reader is in the block that it shows, before the first line feed
-pub next_in_block :
-    (a b c : Option (List ℕ)) (limit : Option ℕ) (block : List ℕ) (i : ℕ) → IsFirstByte (is_byte 10) block (Some i)
-    → IfSome a (λ xs. StartsWith xs block) → Keeps a b → IfSome a (λ _. IfSome limit (λ n. length block ≤ n))
-    → DropsConsumable b c limit (i + 1) → IfSome a (λ bytes. IsRead true bytes (take i block) c)
-next_in_block None b c limit block i found front kept fits drops = tt
-next_in_block (Some xs) None c limit block i found front kept fits drops = absurd kept
-next_in_block (Some xs) (Some ys) c limit block i (first, here) front kept fits drops =
+-- the next line of known bytes is in the block that they begin with, before the first line feed
+in_block :
+    (xs block : List ℕ) (c : Option (List ℕ)) (i : ℕ) → IsFirstByte (is_byte 10) block (Some i) → StartsWith xs block
+    → DropsConsumable (Some xs) c (Some (length block)) (i + 1) → IsRead true xs (take i block) c
+in_block xs block c i (first, here) front drops =
     let inside : i < length block = first.high in
     let rest = drop (length block) xs in
     let parts : xs ≡ block ++ rest =
@@ -62,7 +59,32 @@ next_in_block (Some xs) (Some ys) c limit block i (first, here) front kept fits 
     λ none. absurd (omega (arith, inside, ap length parts, ap length none, length-append block rest)) in (
       some,
       sym (ap (first_piece 10) parts ∙ line),
-      drops (fits_less limit (i + 1) (length block) (omega arith) fits)
-          ∙ ap (λ t. Some (drop (i + 1) t)) (kept ∙ parts)
+      drops (omega arith)
+          ∙ ap (λ t. Some (drop (i + 1) t)) parts
           ∙ ap Some (ap (λ n. drop n (block ++ rest)) (add-one i) ∙ sym left ∙ ap (drop_through 10) (sym parts)),
     )
+
+-- the bytes that are left in a reader begin with its block
+starts_with_block : (is_empty : Bool) (block : List ℕ) (known : Option (List ℕ))
+    → IfSome (if is_empty then None else prepend_known block known) (λ xs. StartsWith xs block)
+starts_with_block true block known = tt
+starts_with_block false block None = tt
+starts_with_block false block (Some bytes) = take-append_seam block bytes
+
+-- the next line of a reader is in its block
+pub next_in_block :
+    {T A : Type 0} (f : T → Option (List ℕ)) (r : BufReader T A) (c : Option (List ℕ)) (block : List ℕ) (i : ℕ)
+    → block ≡ reader_buffer r → IsFirstByte (is_byte 10) block (Some i)
+    → DropsConsumable (reader_remaining f r) c (Some (length (reader_buffer r))) (i + 1)
+    → IfSome (reader_remaining f r) (λ bytes. IsRead true bytes (take i block) c)
+next_in_block f r c block i is found drops =
+    let front = starts_with_block (reader_capacity r == 0) (reader_buffer r) (f r.inner) in
+    rw is (known (reader_remaining f r) front (rw is at found) drops)
+  where
+    known :
+        (a : Option (List ℕ)) → IfSome a (λ xs. StartsWith xs (reader_buffer r))
+        → IsFirstByte (is_byte 10) (reader_buffer r) (Some i)
+        → DropsConsumable a c (Some (length (reader_buffer r))) (i + 1)
+        → IfSome a (λ bytes. IsRead true bytes (take i (reader_buffer r)) c)
+    known None front found drops = tt
+    known (Some xs) front found drops = in_block xs (reader_buffer r) c i found front drops

@@ -1,6 +1,7 @@
 -- The filter that the words of `fixdec_lines` name, and its result on an input.
 use Rattle.std.specs.Prelude.{◌≡◌, ◌⊎◌, ℕ, ⊤, Bool, true, List, String, Option, MatchOption, Result, Ok, Err}
 use Rattle.std.specs.declared.alloc.Global.{Global}
+use Rattle.std.specs.declared.io.ErrorKind.{ErrorKind}
 use Rattle.cli.specs.ConversionWords.{IsReadSplit, NamesConversion, ConversionFails}
 use Rattle.cli.specs.Options.{none, AreOptions, HasField}
 use Rattle.cli.specs.declared.options.Options.{Options}
@@ -49,9 +50,11 @@ IsEarly UnknownLocale = ⊤
 IsEarly Memory = ⊤
 IsEarly _ = ⊥
 
--- what is left of the input; the writer, and how its contents are seen; and the diagnostics, before and after
+-- what is left of the input, and the kind of the first error of the reader, if it has failed; the writer, and how its
+-- contents are seen; and the diagnostics, before and after
 pub record Process (O D : Type 0) : Type 0 where
   pub input : Change (Option (List ℕ))
+  pub failure : Option ErrorKind
   pub writer : O
   pub contents : O → Option (List ℕ)
   pub diagnostics : Change D
@@ -60,23 +63,18 @@ pub record Process (O D : Type 0) : Type 0 where
 abbrev pub effects : {O D : Type 0} → Process O D → O → Effects D
 effects process writer = record {
   input = process.input;
+  failure = process.failure;
   output = record { before = process.contents process.writer; after = process.contents writer };
   diagnostics = process.diagnostics;
 }
 
 module _ {D : Type 0} (reports : D → FilterError → D → Type 0) where
-  -- the filter returned this; or there is no memory for the block of the reader, and nothing was reported before this
-  -- error
-  abbrev pub Runs : Filter → Effects D → Result Bool FilterError → Type 0
-  Runs filter effects (Err Memory) = effects.diagnostics.after ≡ effects.diagnostics.before
-  Runs filter effects result = Filters AppendsUnwritten reports filter effects result
-
   -- the words name a filter, which ran with this result; or they name none, and nothing was reported before this error
   abbrev pub WordsFilter : List (String Global) → Effects D → Result Bool FilterError → Type 0
   WordsFilter words effects (Ok texts) =
-      (filter : Filter) × NamesFilter words filter × Runs filter effects (Ok texts)
+      (filter : Filter) × NamesFilter words filter × Filters AppendsUnwritten reports filter effects (Ok texts)
   WordsFilter words effects (Err error) =
-      ((filter : Filter) × NamesFilter words filter × Runs filter effects (Err error))
+      ((filter : Filter) × NamesFilter words filter × Filters AppendsUnwritten reports filter effects (Err error))
       ⊎ (FilterFails words error × (effects.diagnostics.after ≡ effects.diagnostics.before))
 
   -- the block before the writer cannot be allocated, and nothing is reported before this error; or the filter fails

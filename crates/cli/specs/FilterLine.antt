@@ -1,10 +1,9 @@
 -- One line: its result, how it is read, and its errors.
-use Rattle.std.specs.Prelude.{◌≡◌, ◌≢◌, ◌⊎◌, ℕ, Bool, true, false, List, [], ◌∷◌, ◌++◌, Option, Some, None, Result, Ok, Err, is_ok, IfSome}
+use Rattle.std.specs.Prelude.{◌≡◌, ◌≢◌, ◌⊎◌, ℕ, Bool, true, false, List, [], ◌∷◌, ◌++◌, Option, Some, None, Result, Ok, Err, is_ok, IfSome, IsSomeAnd}
 use Rattle.std.specs.List.{FoldsTo}
 use Rattle.std.specs.Io.KnownBytes.{Appends}
 use Rattle.std.specs.Io.BufRead.{first_piece, drop_through}
-use Rattle.std.specs.IoError.{error_kind}
-use Rattle.std.specs.declared.io.Error.{Error}
+use Rattle.std.specs.declared.io.ErrorKind.{ErrorKind}
 use Rattle.std.specs.declared.io.ErrorKind.TheVariants.{OutOfMemory}
 use Rattle.decimal_digits.specs.AppendsPrefix.{AppendsPrefix}
 use Rattle.cli.specs.declared.error.OperationError.{OperationError}
@@ -64,9 +63,11 @@ pub record Change (A : Type 0) : Type 0 where
   pub before : A
   pub after : A
 
--- what is left of the input, what was written and the diagnostics, before and after
+-- what is left of the input, what was written and the diagnostics, before and after; and the kind of the first error
+-- of the reader, if it has failed
 pub record Effects (D : Type 0) : Type 0 where
   pub input : Change (Option (List ℕ))
+  pub failure : Option ErrorKind
   pub output : Change (Option (List ℕ))
   pub diagnostics : Change D
 
@@ -85,11 +86,11 @@ IsNextLine input line = IfSome input.before (λ bytes. IsRead true bytes line in
 abbrev pub HasNoLine : Change (Option (List ℕ)) → Type 0
 HasNoLine input = IfSome input.before (λ bytes. IsRead false bytes [] input.after)
 
--- the error is that of reading the line with this number: out of memory for it, or else a failed input
-abbrev pub IsErrorOfReading : ℕ → Error → FilterError → Type 0
-IsErrorOfReading number error (LongLine at) = (at ≡ number) × (error_kind error ≡ OutOfMemory)
-IsErrorOfReading number error Input = error_kind error ≢ OutOfMemory
-IsErrorOfReading number error _ = ⊥
+-- a reader with this failure cannot read the line with this number: it is out of memory for it, or else the input failed
+abbrev pub IsErrorOfReading : ℕ → Option ErrorKind → FilterError → Type 0
+IsErrorOfReading number failure (LongLine at) = (at ≡ number) × (failure ≡ Some OutOfMemory)
+IsErrorOfReading number failure Input = IsSomeAnd failure (λ kind. kind ≢ OutOfMemory)
+IsErrorOfReading number failure _ = ⊥
 
 -- the error is that of the line with this number, with `Skip` only out of memory
 abbrev pub IsErrorOfLine : Filter → ℕ → List ℕ → FilterError → Type 0
@@ -132,4 +133,4 @@ module _ {D : Type 0} (reports : D → FilterError → D → Type 0) (filter : F
   FiltersNext effects (Err error) =
       ((line : List ℕ) × IsNextLine effects.input line
       × FiltersLine line effects.output effects.diagnostics (Err error))
-      ⊎ (((why : Error) × IsErrorOfReading number why error) × IsSilent effects)
+      ⊎ (IsErrorOfReading number effects.failure error × IsSilent effects)

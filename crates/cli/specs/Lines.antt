@@ -1,13 +1,14 @@
 -- What is written and what is reported for the lines of an input.
-use Rattle.std.specs.Prelude.{◌≡◌, ◌≢◌, ℕ, ◌+◌, ◌==◌, if◌then◌else◌, List, [], ◌∷◌, ◌++◌, length, flat_map, Bool, true, ⊤, Option, Some, Result, Ok, Err, is_ok, IfSome, IsSomeAnd}
+use Rattle.std.specs.Prelude.{◌≡◌, ◌≢◌, ◌⊎◌, ℕ, ◌+◌, ◌-◌, ◌^◌, ◌==◌, if◌then◌else◌, List, [], ◌∷◌, ◌++◌, length, flat_map, Bool, true, ⊤, Option, Some, Result, Ok, Err, is_ok, IfSome, IsSomeAnd}
 use Rattle.std.specs.List.{FoldsTo, list_all, onto_first}
 use Rattle.std.specs.Io.KnownBytes.{Appends, append_known}
+use Rattle.std.specs.declared.io.ErrorKind.{ErrorKind}
 use Rattle.decimal_digits.specs.AppendsPrefix.{AppendsPrefix}
 use Rattle.cli.specs.declared.error.FilterError.{FilterError}
 use Rattle.cli.specs.declared.error.FilterError.TheVariants.{Operation, LongLine, Input, Output}
 use Rattle.cli.specs.declared.filter.Filter.{Filter}
 use Rattle.cli.specs.declared.filter.OnError.TheVariants.{Stop}
-use Rattle.cli.specs.FilterLine.{Change, Effects, IsResultOfLine, output_of_line, errors_of_line, IsErrorOfLine}
+use Rattle.cli.specs.FilterLine.{Change, Effects, IsResultOfLine, output_of_line, errors_of_line, IsErrorOfReading, IsErrorOfLine}
 
 -- ---- The lines of an input.
 
@@ -51,23 +52,26 @@ have_texts results = list_all is_ok results
 
 -- ---- What a filter returns.
 
--- the error ends the filter after these lines: the run of the next line has it; or out of memory for the next line, a
--- failed read or a failed write
-abbrev pub EndsWith : Filter → Option (List ℕ) → List (List ℕ) → FilterError → Type 0
-EndsWith filter input lines (Operation number error) =
+-- the error ends the filter after these lines: the run of the next line has it; or the reader, with this failure, cannot
+-- read the next line; or a `u64` counts no more lines; or the output failed
+abbrev pub EndsWith : Filter → Option (List ℕ) → Option ErrorKind → List (List ℕ) → FilterError → Type 0
+EndsWith filter input failure lines (Operation number error) =
     (line : List ℕ) × AreFirst input (lines ++ (line ∷ []))
     × IsErrorOfLine filter (length lines + 1) line (Operation number error)
-EndsWith filter input lines (LongLine number) = number ≡ length lines + 1
-EndsWith filter input lines Input = ⊤
-EndsWith filter input lines Output = ⊤
-EndsWith filter input lines _ = ⊥
+EndsWith filter input failure lines (LongLine number) = IsErrorOfReading (length lines + 1) failure (LongLine number)
+EndsWith filter input failure lines Input =
+    IsErrorOfReading (length lines + 1) failure Input ⊎ (length lines ≡ 2 ^ 64 - 1)
+EndsWith filter input failure lines Output = ⊤
+EndsWith filter input failure lines _ = ⊥
 
 -- the filter returns this after these lines with these results: whether each has a text, after all lines; or an error,
 -- after some
 abbrev pub Returns :
-    Filter → Option (List ℕ) → List (List ℕ) → List (Result (List ℕ) FilterError) → Result Bool FilterError → Type 0
-Returns filter input lines results (Ok texts) = AreAll input lines × (texts ≡ have_texts results)
-Returns filter input lines results (Err error) = AreFirst input lines × EndsWith filter input lines error
+    Filter → Option (List ℕ) → Option ErrorKind → List (List ℕ) → List (Result (List ℕ) FilterError)
+    → Result Bool FilterError → Type 0
+Returns filter input failure lines results (Ok texts) = AreAll input lines × (texts ≡ have_texts results)
+Returns filter input failure lines results (Err error) =
+    AreFirst input lines × EndsWith filter input failure lines error
 
 -- lines with these results were filtered, and this was returned: their output was appended, at a failed output a part
 -- of it, and their errors were reported in order
@@ -80,7 +84,7 @@ pub record Filters
     pub lines : List (List ℕ)
     pub results : List (Result (List ℕ) FilterError)
     pub are_results : AreResults filter 1 lines results
-    pub returns : Returns filter effects.input.before lines results returned
+    pub returns : Returns filter effects.input.before effects.failure lines results returned
     pub stop : filter.on_error ≡ Stop → have_texts results ≡ true
     pub whole : returned ≢ Err Output → Appends effects.output.before effects.output.after (output_of results)
     pub part : AppendsPart effects.output.before effects.output.after (output_of results)

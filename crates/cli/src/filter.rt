@@ -1,9 +1,9 @@
 //! The filter: the conversion of each line of an input.
-ghost use Rattle.std.specs.Prelude.{◌≡◌, ◌≢◌, ◌∷◌, ◌++◌, [], Ok, Err, Some, true, IfOk, IfErr, IfSome, OnOk, OnErr};
+ghost use Rattle.std.specs.Prelude.{◌≡◌, ◌≢◌, ◌∷◌, ◌++◌, [], Ok, Err, Some, true, IfErr, IfSome, OnOk, OnErr};
 ghost use Rattle.std.specs.Io.KnownBytes.{Appends, IsAtEnd};
-ghost use Rattle.std.specs.Io.BufRead.{strip_last};
+ghost use Rattle.std.specs.Io.Buffered.{reader_remaining};
 ghost use Rattle.decimal_digits.specs.AppendsPrefix.{AppendsPrefix};
-ghost use Rattle.cli.specs.FilterLine.{HasText, ConversionFails, IsRead, IsErrorOfReading, FiltersLine, FiltersNext};
+ghost use Rattle.cli.specs.FilterLine.{HasText, ConversionFails, IsErrorOfReading, FiltersLine, FiltersNext};
 ghost use Rattle.cli.specs.Lines.{Filters, IsConsumed};
 
 use crate::conversion::Conversion;
@@ -12,11 +12,11 @@ use crate::error::{FilterError, OperationError};
 use crate::field_conversion::print_field_line;
 use crate::fields::Field;
 use crate::fixdec::print_line;
+use crate::input::LineReader;
 use crate::line_feed::find_line_feed;
 use fixed_decimal::{Sink, SinkFault};
 use std::alloc::Global;
-use std::io;
-use std::io::{BufRead, ErrorKind};
+use std::io::{ErrorKind, Read};
 
 /// What a filter does at a line whose conversion fails.
 #[derive(Clone, Copy, Debug, PartialEq)]
@@ -80,34 +80,11 @@ fn copy_line<W: Sink>(line: &[u8], sink: &mut W) -> Result<(), SinkFault>
     sink.put_byte(b'\n')
 }
 
-/// Removes a trailing line feed.
-fn pop_line_feed(line: &mut Vec<u8>)
-    ensures { line.new.items ≡ strip_last 10 line.old.items }
-{
-    let len = line.len();
-    if len > 0 && line[len - 1] == b'\n' {
-        line.truncate(len - 1);
-    }
-}
-
-/// Reads the next line into `line`, and returns whether there is one.
-fn read_line<R: BufRead>(input: &mut R, line: &mut Vec<u8>) -> io::Result<bool>
-    ensures { IfOk result (λ is_line. IfSome (R.remaining input.old)
-        (λ bytes. IsRead is_line bytes line.new.items (R.remaining input.new))) }
-{
-    line.clear();
-    if input.read_until(b'\n', line)? == 0 {
-        return Ok(false);
-    }
-    pop_line_feed(line);
-    Ok(true)
-}
-
 /// Returns the error of a failed read of the line with this number.
-fn error_of_reading(line: u64, error: &io::Error) -> FilterError
-    ensures { IsErrorOfReading line error.now result }
+fn error_of_reading(line: u64, kind: ErrorKind) -> FilterError
+    ensures { IsErrorOfReading line (Some kind) result }
 {
-    if error.kind() == ErrorKind::OutOfMemory {
+    if kind == ErrorKind::OutOfMemory {
         FilterError::LongLine { line }
     } else {
         FilterError::Input
@@ -150,76 +127,53 @@ fn filter_line<W: Sink, D: Diagnostics<FilterError>>(
     }
 }
 
-/// Reads the next line into `line`, and filters it. None: there is no line.
-#[inline(never)]
-fn filter_copy<R: BufRead, W: Sink, D: Diagnostics<FilterError>>(
-    alloc: Global,
-    filter: &Filter<'_>,
-    number: u64,
-    line: &mut Vec<u8>,
-    input: &mut R,
-    out: &mut W,
-    diagnostics: &mut D,
-) -> Result<Option<bool>, FilterError>
-    ensures filtered { FiltersNext D.reports filter.now number (record {
-      input = record { before = R.remaining input.old; after = R.remaining input.new };
-      output = record { before = W.contents out.old; after = W.contents out.new };
-      diagnostics = record { before = diagnostics.old; after = diagnostics.new };
-    }) result }
-    ensures failed { result ≡ Err FilterError.Output → W.has_failed out.new ≡ true }
-{
-    match read_line(input, line) {
-        Ok(true) => {}
-        Ok(false) => return Ok(None),
-        Err(error) => return Err(error_of_reading(number, &error)),
-    }
-    match filter_line(alloc, filter, number, line.as_slice(), out, diagnostics) {
-        Ok(has_text) => Ok(Some(has_text)),
-        Err(error) => Err(error),
-    }
-}
-
 /// Filters the next line, and returns whether it has a text. None: there is no line. A line that is not whole in the
-/// block of the reader is copied into `line` first.
+/// block of the reader is copied into `copy` first.
 #[inline]
-fn filter_next<R: BufRead, W: Sink, D: Diagnostics<FilterError>>(
+fn filter_next<R: Read, W: Sink, D: Diagnostics<FilterError>>(
     alloc: Global,
     filter: &Filter<'_>,
     number: u64,
-    line: &mut Vec<u8>,
-    input: &mut R,
+    copy: &mut Vec<u8>,
+    input: &mut LineReader<R>,
     out: &mut W,
     diagnostics: &mut D,
 ) -> Result<Option<bool>, FilterError>
     ensures filtered { FiltersNext D.reports filter.now number (record {
-      input = record { before = R.remaining input.old; after = R.remaining input.new };
+      input = record {
+        before = reader_remaining R.remaining input.old.0;
+        after = reader_remaining R.remaining input.new.0;
+      };
+      failure = input.new.1;
       output = record { before = W.contents out.old; after = W.contents out.new };
       diagnostics = record { before = diagnostics.old; after = diagnostics.new };
     }) result }
     ensures failed { result ≡ Err FilterError.Output → W.has_failed out.new ≡ true }
 {
-    match input.fill_buf() {
-        Ok(block) => {
-            if block.is_empty() {
-                return Ok(None);
-            }
-            if let Some(end) = find_line_feed(block) {
-                let filtered = filter_line(alloc, filter, number, &block[..end], out, diagnostics);
-                input.consume(end + 1);
-                return match filtered {
-                    Ok(has_text) => Ok(Some(has_text)),
-                    Err(error) => Err(error),
-                };
-            }
-        }
-        Err(error) => {
-            // A read that a signal interrupts is tried again below.
-            if error.kind() != ErrorKind::Interrupted {
-                return Err(error_of_reading(number, &error));
-            }
-        }
-    }
-    filter_copy(alloc, filter, number, line, input, out, diagnostics)
+    let Some(end) = find_line_feed(input.block()) else {
+        return match input.read_line(copy) {
+            Ok(true) => Ok(Some(filter_line(
+                alloc,
+                filter,
+                number,
+                copy.as_slice(),
+                out,
+                diagnostics,
+            )?)),
+            Ok(false) => Ok(None),
+            Err(kind) => Err(error_of_reading(number, kind)),
+        };
+    };
+    let filtered = filter_line(
+        alloc,
+        filter,
+        number,
+        &input.block()[..end],
+        out,
+        diagnostics,
+    );
+    input.consume(end + 1);
+    Ok(Some(filtered?))
 }
 
 /// Makes the calls on each line of the input, writes the texts to `out`, each with a line feed, and returns whether
@@ -231,38 +185,43 @@ fn filter_next<R: BufRead, W: Sink, D: Diagnostics<FilterError>>(
 /// # Errors
 ///
 /// - `Operation`: with `Stop`, the run of a line fails; with either, it is out of memory.
-/// - `LongLine`, `Input`: a read fails.
+/// - `LongLine`: the reader has failed, out of memory for the line.
+/// - `Input`: the reader has failed otherwise, or there are more lines than a `u64` counts.
 /// - `Output`: the sink failed, after a prefix of the texts of some lines.
 ///
 /// Else the texts of all lines before the error are in `out`.
-pub fn filter_lines<R: BufRead, W: Sink, D: Diagnostics<FilterError>>(
+pub fn filter_lines<R: Read, W: Sink, D: Diagnostics<FilterError>>(
     alloc: Global,
     filter: &Filter<'_>,
-    input: &mut R,
+    input: &mut LineReader<R>,
     out: &mut W,
     diagnostics: &mut D,
 ) -> Result<bool, FilterError>
     ensures filtered { Filters AppendsPrefix D.reports filter.now (record {
-      input = record { before = R.remaining input.old; after = R.remaining input.new };
+      input = record {
+        before = reader_remaining R.remaining input.old.0;
+        after = reader_remaining R.remaining input.new.0;
+      };
+      failure = input.new.1;
       output = record { before = W.contents out.old; after = W.contents out.new };
       diagnostics = record { before = diagnostics.old; after = diagnostics.new };
     }) result }
     ensures silent { result ≡ Ok true → diagnostics.new ≡ diagnostics.old }
     ensures failed { result ≡ Err FilterError.Output → W.has_failed out.new ≡ true }
     ensures consumed { IfErr result (IsConsumed (record {
-      before = R.remaining input.old;
-      after = R.remaining input.new;
+      before = reader_remaining R.remaining input.old.0;
+      after = reader_remaining R.remaining input.new.0;
     })) }
-    ensures at_end { OnOk result (IfSome (R.remaining input.old) (λ _. IsAtEnd (R.remaining input.new))) }
+    ensures at_end { OnOk result (IfSome (reader_remaining R.remaining input.old.0)
+        (λ _. IsAtEnd (reader_remaining R.remaining input.new.0))) }
 {
-    let mut line = Vec::new(alloc);
+    let mut copy = Vec::new(alloc);
     let mut have_texts = true;
     for count in 0..u64::MAX {
-        match filter_next(alloc, filter, count + 1, &mut line, input, out, diagnostics)? {
+        match filter_next(alloc, filter, count + 1, &mut copy, input, out, diagnostics)? {
             Some(has_text) => have_texts = have_texts & has_text,
             None => return Ok(have_texts),
         }
     }
-    // No input has 2^64 lines.
     Err(FilterError::Input)
 }

@@ -2,28 +2,26 @@
 //! on a field of it, and writes a line for each.
 ghost use Rattle.std.specs.Prelude.{◌≡◌, ◌≤◌, ◌<◌, ◌⊎◌, Ok, Err, true, false, IfOk, IfErr, IfSome, OnOk, IsSomeAnd};
 ghost use Rattle.std.specs.Process.{exit_status};
-ghost use Rattle.std.specs.Io.Buffered.{writer_contents, writer_inner};
+ghost use Rattle.std.specs.Io.Buffered.{reader_remaining, writer_contents, writer_inner};
 ghost use Rattle.cli.specs.declared.error.FilterError.{FilterError};
 ghost use Rattle.cli.specs.Arguments.{HaveWords, ArgumentsFail};
 ghost use Rattle.cli.specs.Errors.{status_of_filter};
-ghost use Rattle.cli.specs.Filter.{NamesFilter, FilterFails, IsEarly, Process, effects, Runs, WordsFilter, LinesFail};
+ghost use Rattle.cli.specs.Filter.{NamesFilter, FilterFails, IsEarly, Process, effects, WordsFilter, LinesFail};
 
 use crate::arguments::words;
 use crate::diagnostics::{Diagnostics, ErrorLines, conclude};
 use crate::error::FilterError;
 use crate::filter::{Filter, filter_lines};
 use crate::help::{CALLS, OPTIONS, help};
+use crate::input::LineReader;
 use crate::options::split_options;
 use crate::output::{BufferedOut, Closed, abandon, close, open};
 use crate::words::{parse_conversion, split_read};
 use std::alloc::Global;
 use std::env::Args;
-use std::io::{BufReader, Read, Write};
+use std::io::{Read, Write};
 use std::process::ExitCode;
 use std::{env, io};
-
-/// The number of bytes of a read.
-const BLOCK: usize = 65_536;
 
 /// Parses the words as a filter.
 fn parse_filter(alloc: Global, words: &[String]) -> Result<Filter<'_>, FilterError>
@@ -46,46 +44,20 @@ fn parse_filter(alloc: Global, words: &[String]) -> Result<Filter<'_>, FilterErr
     }
 }
 
-/// Runs a filter with a block before the writer, and returns the writer after its last call.
-fn run_filter<R: Read, O: Write + Drop, D: Diagnostics<FilterError>>(
-    alloc: Global,
-    filter: &Filter<'_>,
-    input: &mut R,
-    mut buffered: BufferedOut<O>,
-    diagnostics: &mut D,
-) -> (Result<bool, FilterError>, Closed<O>)
-    ensures filtered { Runs D.reports filter.now (record {
-      input = record { before = R.remaining input.old; after = R.remaining input.new };
-      output = record { before = writer_contents O.contents buffered.0; after = O.contents result.1.0 };
-      diagnostics = record { before = diagnostics.old; after = diagnostics.new };
-    }) result.0 }
-    ensures silent { result.0 ≡ Ok true → diagnostics.new ≡ diagnostics.old }
-    ensures has_not_failed { OnOk result.0 (result.1.1 ≡ false) }
-    ensures failed { result.0 ≡ Err FilterError.Output → result.1.1 ≡ true }
-    ensures unchanged_on_error { IfErr result.0 (λ error. IsEarly error
-        → result.1 ≡ (writer_inner buffered.0, buffered.1)) }
-{
-    let Ok(mut reader) = BufReader::with_capacity(alloc, BLOCK, input) else {
-        return (Err(FilterError::Memory), abandon(buffered));
-    };
-    let filtered = filter_lines(alloc, filter, &mut reader, &mut buffered, diagnostics);
-    let closed = close(buffered);
-    if closed.has_failed() {
-        return (Err(FilterError::Output), closed);
-    }
-    (filtered, closed)
-}
-
 /// Runs the filter that the words name with a block before the writer, and returns the writer after its last call.
 fn filter_words<R: Read, O: Write + Drop, D: Diagnostics<FilterError>>(
     alloc: Global,
     words: &[String],
-    input: &mut R,
-    buffered: BufferedOut<O>,
+    input: &mut LineReader<R>,
+    mut buffered: BufferedOut<O>,
     diagnostics: &mut D,
 ) -> (Result<bool, FilterError>, Closed<O>)
     ensures filtered { WordsFilter D.reports words.now (record {
-      input = record { before = R.remaining input.old; after = R.remaining input.new };
+      input = record {
+        before = reader_remaining R.remaining input.old.0;
+        after = reader_remaining R.remaining input.new.0;
+      };
+      failure = input.new.1;
       output = record { before = writer_contents O.contents buffered.0; after = O.contents result.1.0 };
       diagnostics = record { before = diagnostics.old; after = diagnostics.new };
     }) result.0 }
@@ -97,10 +69,16 @@ fn filter_words<R: Read, O: Write + Drop, D: Diagnostics<FilterError>>(
     ensures unread { result.0 ≡ Err FilterError.Usage → input.new ≡ input.old }
     ensures unread_for_locale { result.0 ≡ Err FilterError.UnknownLocale → input.new ≡ input.old }
 {
-    match parse_filter(alloc, words) {
-        Ok(filter) => run_filter(alloc, &filter, input, buffered, diagnostics),
-        Err(error) => (Err(error), abandon(buffered)),
+    let filter = match parse_filter(alloc, words) {
+        Ok(filter) => filter,
+        Err(error) => return (Err(error), abandon(buffered)),
+    };
+    let filtered = filter_lines(alloc, &filter, input, &mut buffered, diagnostics);
+    let closed = close(buffered);
+    if closed.has_failed() {
+        return (Err(FilterError::Output), closed);
     }
+    (filtered, closed)
 }
 
 /// Runs the program on the arguments of the process, over any diagnostics, with a block before `out`, which is returned
@@ -116,13 +94,17 @@ fn filter_words<R: Read, O: Write + Drop, D: Diagnostics<FilterError>>(
 pub fn run_arguments<R: Read, O: Write + Drop, D: Diagnostics<FilterError>>(
     alloc: Global,
     arguments: io::Result<Args>,
-    input: &mut R,
+    input: &mut LineReader<R>,
     out: O,
     diagnostics: &mut D,
 ) -> (u8, Option<Closed<O>>)
     ensures at_most { result.0 ≤ 3 }
     ensures printed { let process : Process O D = record {
-      input = record { before = R.remaining input.old; after = R.remaining input.new };
+      input = record {
+        before = reader_remaining R.remaining input.old.0;
+        after = reader_remaining R.remaining input.new.0;
+      };
+      failure = input.new.1;
       writer = out;
       contents = O.contents;
       diagnostics = record { before = diagnostics.old; after = diagnostics.new };
@@ -131,7 +113,11 @@ pub fn run_arguments<R: Read, O: Write + Drop, D: Diagnostics<FilterError>>(
         WordsFilter D.reports words (effects process closed.0) (Ok true) × (closed.1 ≡ false))) }
     ensures silent { result.0 ≡ 0 → diagnostics.new ≡ diagnostics.old }
     ensures reported { let process : (last : D) → Process O D = λ last. record {
-      input = record { before = R.remaining input.old; after = R.remaining input.new };
+      input = record {
+        before = reader_remaining R.remaining input.old.0;
+        after = reader_remaining R.remaining input.new.0;
+      };
+      failure = input.new.1;
       writer = out;
       contents = O.contents;
       diagnostics = record { before = diagnostics.old; after = last };
@@ -172,13 +158,17 @@ pub fn execute(rt: HostRuntime) -> ExitCode
         return ExitCode::from(status);
     }
     let mut err = rt.stderr();
+    let mut diagnostics = ErrorLines::new(&mut err);
+    let Ok(mut input) = LineReader::open(rt.alloc(), rt.stdin()) else {
+        return ExitCode::from(conclude(Err(FilterError::Memory), &mut diagnostics));
+    };
     let arguments = env::args(&rt);
     let (status, _out) = run_arguments(
         rt.alloc(),
         arguments,
-        &mut rt.stdin(),
+        &mut input,
         rt.stdout(),
-        &mut ErrorLines::new(&mut err),
+        &mut diagnostics,
     );
     ExitCode::from(status)
 }

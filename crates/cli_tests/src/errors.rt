@@ -2,8 +2,8 @@
 ghost use Rattle.std.specs.Prelude.{◌≡◌, true, [], ◌∷◌, ◌++◌};
 
 use cli::{
-    Conversion, Diagnostics, ErrorLines, Filter, FilterError, OnError, OperationError, PluralError,
-    Reason, filter_lines,
+    Conversion, Diagnostics, ErrorLines, Filter, FilterError, LineReader, OnError, OperationError,
+    PluralError, Reason, filter_lines,
 };
 use fixed_decimal::{Call, TextBuf};
 use std::alloc::Global;
@@ -72,7 +72,7 @@ fn reports_a_line_in_one_write(rt: HostRuntime) -> Result<(), Fail> {
 #[test]
 fn a_skipping_filter_reports_each_refusal(rt: HostRuntime) -> Result<(), Fail> {
     let alloc = rt.alloc();
-    let mut input = b"250\nx\n7\n1e99999".as_slice();
+    let mut reader = LineReader::open(alloc, b"250\nx\n7\n1e99999".as_slice())?;
     let mut out = TextBuf::new(alloc);
     let mut log = Log {
         errors: Vec::new(alloc),
@@ -88,7 +88,7 @@ fn a_skipping_filter_reports_each_refusal(rt: HostRuntime) -> Result<(), Fail> {
         field: None,
         has_header: false,
     };
-    let answer = filter_lines(alloc, &filter, &mut input, &mut out, &mut log);
+    let answer = filter_lines(alloc, &filter, &mut reader, &mut out, &mut log);
     assert_eq!(rt; answer, Ok(false));
     assert_eq!(rt; out.as_bytes(), b"2.50\n\n0.07\n\n".as_slice());
     let wanted = [

@@ -1,8 +1,8 @@
 //! Inputs of a few lines, read in pieces, with their output and the errors that are reported.
 use super::pattern::{Pattern, PatternReader};
 use super::words;
-use cli::ErrorLines;
 use cli::fixdec_lines::run_arguments;
+use cli::{ErrorLines, LineReader};
 use std::alloc::Global;
 use std::io::ErrorKind;
 use std::process::Abort;
@@ -202,7 +202,8 @@ fn holds(alloc: Global, row: Row, most: usize, failure: Option<ErrorKind>) -> Re
     let out = FailingWriter::new(row.2, usize::MAX, WriteFailure::StorageFull);
     let mut err = FailingWriter::new(row.3, usize::MAX, WriteFailure::StorageFull);
     let mut lines = ErrorLines::new(&mut err);
-    let (status, out) = run_arguments(alloc, Ok(arguments), &mut input, out, &mut lines);
+    let mut reader = LineReader::open(alloc, &mut input)?;
+    let (status, out) = run_arguments(alloc, Ok(arguments), &mut reader, out, &mut lines);
     let has_all = out.is_some_and(|closed| closed.into_writer().has_all()) && err.has_all();
     Ok(status == row.4 && has_all && (status != 2 || input.is_spent() == row.1.is_empty()))
 }

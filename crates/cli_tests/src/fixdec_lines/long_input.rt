@@ -1,8 +1,8 @@
 //! Long lines, and many lines.
 use super::pattern::{Pattern, PatternReader, PatternWriter};
 use super::words;
-use cli::ErrorLines;
 use cli::fixdec_lines::run_arguments;
+use cli::{ErrorLines, LineReader};
 use std::alloc::Global;
 use std::test::Fail;
 
@@ -100,7 +100,8 @@ fn holds(alloc: Global, row: Row, most: usize) -> Result<bool, Fail> {
     let out = PatternWriter::new(text(row.2));
     let mut err = PatternWriter::new(text(row.3));
     let mut lines = ErrorLines::new(&mut err);
-    let (status, out) = run_arguments(alloc, Ok(arguments), &mut input, out, &mut lines);
+    let mut reader = LineReader::open(alloc, &mut input)?;
+    let (status, out) = run_arguments(alloc, Ok(arguments), &mut reader, out, &mut lines);
     let has_all = out.is_some_and(|closed| closed.into_writer().has_all()) && err.has_all();
     Ok(status == row.4 && has_all)
 }

@@ -1,8 +1,8 @@
 //! Outputs that fail after a number of bytes.
 use super::pattern::{Pattern, PatternReader};
 use super::words;
-use cli::ErrorLines;
 use cli::fixdec_lines::run_arguments;
+use cli::{ErrorLines, LineReader};
 use std::alloc::Global;
 use std::test::Fail;
 use test_support::{FailingWriter, WriteFailure};
@@ -91,7 +91,8 @@ fn holds(alloc: Global, row: Row, write_failure: WriteFailure) -> Result<bool, F
     let out = FailingWriter::new(text, capacity, write_failure);
     let mut err = FailingWriter::new(transcript, err_capacity, write_failure);
     let mut lines = ErrorLines::new(&mut err);
-    let (status, out) = run_arguments(alloc, Ok(arguments), &mut input, out, &mut lines);
+    let mut reader = LineReader::open(alloc, &mut input)?;
+    let (status, out) = run_arguments(alloc, Ok(arguments), &mut reader, out, &mut lines);
     let has_taken = out.is_some_and(|closed| closed.into_writer().has_taken(capacity));
     Ok(status == row.4 && has_taken && err.has_taken(err_capacity))
 }

@@ -1,31 +1,30 @@
-use Rattle.std.proofs.Common.{inl, take, subst, true, IfSome}
-use Rattle.std.specs.Io.BufRead.{FillKeeps}
-use Rattle.cli.specs.FilterLine.{IsRead}
+use Rattle.std.proofs.Common.{inl, take, sym, subst, Some, ◌∙◌}
+use Rattle.std.proofs.lemmas.Result.{err_from_is_err_and}
+use Rattle.std.specs.Io.Buffered.{reader_remaining}
+use Rattle.memchr.specs.Find.{IsFirstByte, is_byte}
 use Rattle.cli.proofs.FirstLine.{next_in_block}
 use Rattle.cli.proofs.filter.filter_next.Goals as goal
 
-pub returns-in-Ok-filtered-clause-filtered : goal.returns-in-Ok-filtered-clause-filtered
-returns-in-Ok-filtered-clause-filtered g c =
-    let before = g.R.Read.remaining c.args.input.now in
-    let after = g.R.Read.remaining c.consume.new.self in
-    let block = c.in-Ok.block.now in
-    let rested = c.fill_buf.follows.lender-at-none in
-    let limit = g.R.BufRead.consumable_len rested in
-    let kept = subst (FillKeeps before (g.R.Read.remaining rested) limit) c.in-Ok.is c.fill_buf.follows.holds-at-none in
-    let read : IfSome before (λ bytes. IsRead true bytes (take c.in-Some.end block) after) =
-    next_in_block before (g.R.Read.remaining rested) after limit block c.in-Some.end c.in-Some.ensures
-    c.in-Ok.ensures.front kept.0 kept.1 c.consume.ensures.bytes in
-    (take c.in-Some.end block, read, c.in-Ok-filtered.ensures.filtered)
+pub returns-clause-filtered : goal.returns-clause-filtered
+returns-clause-filtered g c =
+    let block = c.block-2.result.now in
+    let found =
+    subst (λ block. IsFirstByte (is_byte 10) block (Some c.in-Some.end)) (c.block.ensures ∙ sym c.block-2.ensures)
+    c.in-Some.ensures in
+    let read =
+    next_in_block g.R.Read.remaining c.args.input.now.0 (reader_remaining g.R.Read.remaining c.consume.new.self.0) block
+    c.in-Some.end c.block-2.ensures found c.consume.ensures.bytes in
+    (take c.in-Some.end block, read, c.in_ok-filtered.ensures.filtered)
 
-pub returns-in-Err-filtered-clause-filtered : goal.returns-in-Err-filtered-clause-filtered
-returns-in-Err-filtered-clause-filtered g c =
-    let before = g.R.Read.remaining c.args.input.now in
-    let after = g.R.Read.remaining c.consume.new.self in
-    let block = c.in-Ok.block.now in
-    let rested = c.fill_buf.follows.lender-at-none in
-    let limit = g.R.BufRead.consumable_len rested in
-    let kept = subst (FillKeeps before (g.R.Read.remaining rested) limit) c.in-Ok.is c.fill_buf.follows.holds-at-none in
-    let read : IfSome before (λ bytes. IsRead true bytes (take c.in-Some.end block) after) =
-    next_in_block before (g.R.Read.remaining rested) after limit block c.in-Some.end c.in-Some.ensures
-    c.in-Ok.ensures.front kept.0 kept.1 c.consume.ensures.bytes in
-    inl (take c.in-Some.end block, read, c.in-Err-filtered.ensures.filtered)
+pub returns-in_err-filtered-clause-filtered : goal.returns-in_err-filtered-clause-filtered
+returns-in_err-filtered-clause-filtered g c =
+    let block = c.block-2.result.now in
+    let found =
+    subst (λ block. IsFirstByte (is_byte 10) block (Some c.in-Some.end)) (c.block.ensures ∙ sym c.block-2.ensures)
+    c.in-Some.ensures in
+    let read =
+    next_in_block g.R.Read.remaining c.args.input.now.0 (reader_remaining g.R.Read.remaining c.consume.new.self.0) block
+    c.in-Some.end c.block-2.ensures found c.consume.ensures.bytes in
+    let p =
+    err_from_is_err_and c.from_residual-in_err-filtered.result c.from_residual-in_err-filtered.ensures.1 in
+    rw (p.1, p.2) (inl (take c.in-Some.end block, read, c.in_err-filtered.ensures.filtered))
