@@ -315,6 +315,13 @@ lines 0 "1$zeros.0$zeros"'\n7\n' "1$zeros.0$zeros"$'\n7\n' ''
 lines 0 "1e$(printf '%0199997d' 3)"'\n7\n' $'1000\n7\n' ''
 lines 1 "7\n$(printf '%0200000d' 0)"'\n8\n' $'7\n' $'line 2: start: limit\n'
 
+# Long fields, and many of them.
+commas=$(printf '%032766d' 0 | tr 0 ,)
+lines 0 "${commas}250\n" "${commas}2.50"$'\n' '' field:32767 delimiter:, shift:-2
+quotes=$(printf '%0200000d' 0 | tr 0 '"')
+lines 0 "$quotes,250\n" "$quotes"$',2.50\n' '' csv field:2 shift:-2
+lines 1 "$quotes\",250\n" '' $'line 1: quote\n' csv field:2 shift:-2
+
 # Many lines.
 for ((i = 0; i < 20000; i++)); do echo "$i.125"; done > "$room/many"
 "$room/fixdec_lines" round:-2:half-even:1 < "$room/many" > "$room/out" 2> "$room/err"

@@ -3,9 +3,7 @@ use std::alloc::Global;
 use std::test::Fail;
 
 mod chunked_input;
-mod long_input;
 mod outputs;
-mod pattern;
 
 /// Returns the arguments of a line: the name of the program, and the words that single blanks separate.
 fn words(alloc: Global, line: &str) -> Result<Vec<String>, Fail> {

@@ -1,13 +1,36 @@
 //! Inputs of a few lines, read in pieces, with their output and the errors that are reported.
-use super::pattern::{Pattern, PatternReader};
 use super::words;
 use cli::fixdec_lines::run_arguments;
 use cli::{ErrorLines, LineReader};
 use std::alloc::Global;
-use std::io::ErrorKind;
+use std::io;
+use std::io::{ErrorKind, Read};
 use std::process::Abort;
 use std::test::Fail;
 use test_support::{FailingWriter, WriteFailure};
+
+/// A reader of a text, with at most `most` bytes a read, which fails after the text if there is a failure.
+#[derive(Drop)]
+struct ChunkReader<'a> {
+    text: &'a [u8],
+    most: usize,
+    failure: Option<ErrorKind>,
+}
+
+impl Read for ChunkReader<'_> {
+    fn read(&mut self, buf: &mut [u8]) -> io::Result<usize> {
+        if let Some(failure) = self.failure
+            && self.text.is_empty()
+        {
+            return Err(io::Error::from(failure));
+        }
+        let count = self.most.min(buf.len()).min(self.text.len());
+        let (taken, rest) = self.text.split_at(count);
+        buf[..count].copy_from_slice(taken);
+        self.text = rest;
+        Ok(count)
+    }
+}
 
 /// Words, an input, the texts of standard output and standard error, and the status.
 type Row = (
@@ -198,14 +221,18 @@ const NO_MEMORY: &[Row] = &[
 /// Whether a row holds with `most` bytes a read, of a reader that fails after the input if there is a failure.
 fn holds(alloc: Global, row: Row, most: usize, failure: Option<ErrorKind>) -> Result<bool, Fail> {
     let arguments = words(alloc, row.0)?.into_iter();
-    let mut input = PatternReader::failing(Pattern::of(row.1), most, failure);
+    let mut input = ChunkReader {
+        text: row.1,
+        most,
+        failure,
+    };
     let out = FailingWriter::new(row.2, usize::MAX, WriteFailure::StorageFull);
     let mut err = FailingWriter::new(row.3, usize::MAX, WriteFailure::StorageFull);
     let mut lines = ErrorLines::new(&mut err);
     let mut reader = LineReader::open(alloc, &mut input)?;
     let (status, out) = run_arguments(alloc, Ok(arguments), &mut reader, out, &mut lines);
     let has_all = out.is_some_and(|closed| closed.into_writer().has_all()) && err.has_all();
-    Ok(status == row.4 && has_all && (status != 2 || input.is_spent() == row.1.is_empty()))
+    Ok(status == row.4 && has_all && (status != 2 || input.text.len() == row.1.len()))
 }
 
 /// Asserts that rows hold, with a few bytes at a read and with many.

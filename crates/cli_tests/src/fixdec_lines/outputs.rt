@@ -1,5 +1,4 @@
 //! Outputs that fail after a number of bytes.
-use super::pattern::{Pattern, PatternReader};
 use super::words;
 use cli::fixdec_lines::run_arguments;
 use cli::{ErrorLines, LineReader};
@@ -87,7 +86,7 @@ fn holds(alloc: Global, row: Row, write_failure: WriteFailure) -> Result<bool, F
     let arguments = words(alloc, row.0)?.into_iter();
     let (text, capacity) = row.2;
     let (transcript, err_capacity) = row.3;
-    let mut input = PatternReader::new(Pattern::of(row.1), 100);
+    let mut input = row.1;
     let out = FailingWriter::new(text, capacity, write_failure);
     let mut err = FailingWriter::new(transcript, err_capacity, write_failure);
     let mut lines = ErrorLines::new(&mut err);
