@@ -189,7 +189,8 @@ pub fn time(case: &Case, outcome: &mut Outcome) -> u64 {
             let (all, twin) = (values(case, &case.text), number(&case.text));
             look(outcome, all.iter(), |value| u64::from(*value == twin))
         }
-        Operation::DigitAt => {
+        // The original has no iterator over the digits.
+        Operation::DigitAt | Operation::Digits => {
             let all = values(case, &case.text);
             look(outcome, all.iter(), |value| {
                 let digits = value.magnitude_range().rev().map(|magnitude| value.digit_at(magnitude));

@@ -105,6 +105,7 @@ fn name(operation: Operation) -> Option<&'static str> {
         Operation::Clone => "clone",
         Operation::Equal => "eq",
         Operation::DigitAt => "digit_at",
+        Operation::Digits => "digits",
         Operation::MultiplyPow10 => "multiply_pow10",
         Operation::TrimStart => "trim_start",
         Operation::TrimEnd => "trim_end",

@@ -7,10 +7,13 @@ use Rattle.decimal_unsigned.specs.declared.decimal.TheConstants.{INLINE_DIGITS}
 use Rattle.fixed_decimal.specs.Decimal.{Decimal}
 use Rattle.fixed_decimal.specs.DecimalText.{and_then}
 use Rattle.fixed_decimal.specs.Calls.{CallsFail}
+use Rattle.fixed_decimal.specs.Errors.{run_error}
 use Rattle.fixed_decimal.specs.Outcome.{OutcomeError, after_calls, start}
 use Rattle.fixed_decimal.specs.declared.runs.Call.{Call}
 use Rattle.fixed_decimal.specs.declared.runs.RunError.{RunError}
-use Rattle.fixed_decimal.specs.declared.runs.RunError.TheVariants.{Start, Operand, Memory, Sink}
+use Rattle.fixed_decimal.specs.declared.runs.RunError.TheVariants.{Start, Sink}
+use Rattle.fixed_decimal.specs.declared.runs.CallError.{CallError}
+use Rattle.fixed_decimal.specs.declared.runs.CallError.TheVariants as call
 use Rattle.cli.specs.declared.conversion.Conversion.{Conversion}
 use Rattle.cli.specs.declared.error.OperationError.TheVariants as operation
 use Rattle.cli.specs.declared.error.OperationError.{OperationError}
@@ -24,14 +27,6 @@ output_is_sink why is = grind arith
 -- an error of reading is none of the output
 pub reading_no_output : (why : ParseError) → error_of_run (Start why) ≡ operation.Output → ⊥
 reading_no_output why is = let e : Start why ≡ Sink = output_is_sink (Start why) is in cc
-
--- nor is one of calls
-pub calls_no_output :
-    (why : RunError) (held : ℕ) (v : Decimal) (calls : List Call) → CallsFail held why v calls
-    → error_of_run why ≡ operation.Output → ⊥
-calls_no_output why held v calls fails is =
-    let never : CallsFail held Sink v calls = subst (λ e. CallsFail held e v calls) (output_is_sink why is) fails in
-    never
 
 module _ (c : Conversion) (text : List ℕ) where
   -- ---- The errors of the parts.
@@ -55,11 +50,10 @@ module _ (c : Conversion) (text : List ℕ) where
 
     -- an error of the calls
     pub calls_fail :
-        (why : RunError) → CallsFail INLINE_DIGITS why v c.calls.items → OperationsFail (error_of_run why) c text
-    calls_fail (Operand at parse.Memory) h = inr (v, read, (Operand at parse.Memory, h, refl))
-    calls_fail (Memory at) h = inr (v, read, (Memory at, h, refl))
-    calls_fail (Start fault) h = absurd h
-    calls_fail Sink h = absurd h
+        (why : CallError) → CallsFail INLINE_DIGITS why v c.calls.items
+        → OperationsFail (error_of_run (run_error why)) c text
+    calls_fail (call.Operand at parse.Memory) h = inr (v, read, (call.Operand at parse.Memory, h, refl))
+    calls_fail (call.Memory at) h = inr (v, read, (call.Memory at, h, refl))
     calls_fail why h = (_, refl, read_outcome (Err _) h)
 
 -- an error with status 1 is that of an outcome

@@ -8,8 +8,9 @@ use Rattle.fixed_decimal.specs.Decimal.{Decimal}
 use Rattle.fixed_decimal.specs.DecimalText.{decimal_text, read_decimal, IsLong, and_then}
 use Rattle.fixed_decimal.specs.Outcome.{OutcomeError, started, after_calls, start, operand, overlap, limit_exceeded}
 use Rattle.fixed_decimal.specs.Calls.{CallsFail}
+use Rattle.fixed_decimal.specs.Errors.{run_error}
 use Rattle.fixed_decimal.specs.declared.runs.Call.{Call}
-use Rattle.fixed_decimal.specs.declared.runs.RunError.{RunError}
+use Rattle.fixed_decimal.specs.declared.runs.CallError.{CallError}
 use Rattle.decimal_format.specs.Formatted.{Formatter, formatted}
 use Rattle.cli.specs.declared.conversion.Conversion.{Conversion}
 use Rattle.cli.specs.declared.reader.DecimalReader.{DecimalReader}
@@ -73,7 +74,8 @@ error_of (limit_exceeded at) = Overflow at
 
 -- the calls on a decimal may need memory
 abbrev pub CallsNeedMemory : Decimal → List Call → Type 0
-CallsNeedMemory v calls = (why : RunError) × CallsFail INLINE_DIGITS why v calls × (error_of_run why ≡ Memory)
+CallsNeedMemory v calls =
+    (why : CallError) × CallsFail INLINE_DIGITS why v calls × (error_of_run (run_error why) ≡ Memory)
 
 -- the error is that of the outcome; or out of memory, where reading or the calls may need it; or a failed output of a
 -- text

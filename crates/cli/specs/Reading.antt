@@ -9,7 +9,7 @@ use Rattle.decimal_unsigned.specs.declared.error.ParseError.TheVariants as parse
 use Rattle.fixed_decimal.specs.Decimal.{Decimal}
 use Rattle.decimal_format.specs.Symbols.{Symbols}
 use Rattle.decimal_format.specs.Reading.{Numeral, IsNumeral, IsBeyondLimits, IsWritten, NeedsMemory}
-use Rattle.decimal_format.specs.Lenient.{IsTyped, IsTypedNumeral, TypedNeedsMemory}
+use Rattle.decimal_format.specs.Lenient.{IsTyped, IsTypedNumeral}
 use Rattle.cli.specs.declared.reader.ParseMode.{ParseMode}
 use Rattle.cli.specs.declared.reader.ParseMode.TheVariants.{Strict, Lenient}
 
@@ -29,10 +29,10 @@ IsReadIn mode s text (Ok v) = IsValue v.absolute × IsTextIn mode s v text
 IsReadIn mode s text (Err syntax) = (w : Numeral) → ¬ IsNumeralIn mode s w text
 IsReadIn mode s text (Err limit) = (w : Numeral) × IsNumeralIn mode s w text × IsBeyondLimits w
 
--- reading may need memory
+-- the value of the text needs memory
 abbrev pub NeedsMemoryIn : ParseMode → Symbols → List ℕ → Type 0
-NeedsMemoryIn Strict s text = (v : Decimal) × IsWritten s v text × NeedsMemory INLINE_DIGITS v.absolute
-NeedsMemoryIn Lenient s text = TypedNeedsMemory INLINE_DIGITS s text
+NeedsMemoryIn mode s text =
+    (v : Decimal) × IsValue v.absolute × IsTextIn mode s v text × NeedsMemory INLINE_DIGITS v.absolute
 
 -- reading may fail with this error
 abbrev pub ReadingFailsIn : ParseMode → Symbols → List ℕ → ParseError → Type 0

@@ -33,7 +33,7 @@ impl<'a> Conversion<'a> {
     {
         match apply_calls(alloc, value, self.calls.as_slice()) {
             Ok(()) => Ok(()),
-            Err(error) => Err(OperationError::from(error)),
+            Err(error) => Err(OperationError::from(RunError::from(error))),
         }
     }
 

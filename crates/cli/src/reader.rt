@@ -30,38 +30,6 @@ pub struct DecimalReader<'a> {
 impl<'a> DecimalReader<'a> {
     ghost use Rattle.cli.specs.Reading.{IsReadIn, ReadingFailsIn};
 
-    /// Reads a decimal exactly as it is formatted.
-    fn read_strict(&self, alloc: Global, text: &[u8]) -> Result<Decimal, ParseError>
-        ensures found { IfOk result (λ v. IsReadIn ParseMode.Strict self.now.symbols text.now (Ok v)) }
-        ensures fails_with { IfErr result (ReadingFailsIn ParseMode.Strict self.now.symbols text.now) }
-    {
-        let read = self.symbols.read(alloc, text);
-        match &read {
-            Ok(value) => {
-                // Proof hint: a decimal that has a range is a value.
-                let _ = value.absolute.magnitude_range();
-                read
-            }
-            Err(_) => read,
-        }
-    }
-
-    /// Reads a decimal as people type it.
-    fn read_lenient(&self, alloc: Global, text: &str) -> Result<Decimal, ParseError>
-        ensures found { IfOk result (λ v. IsReadIn ParseMode.Lenient self.now.symbols text.now (Ok v)) }
-        ensures fails_with { IfErr result (ReadingFailsIn ParseMode.Lenient self.now.symbols text.now) }
-    {
-        let read = self.symbols.read_lenient(alloc, text);
-        match &read {
-            Ok(value) => {
-                // Proof hint: a decimal that has a range is a value.
-                let _ = value.absolute.magnitude_range();
-                read
-            }
-            Err(_) => read,
-        }
-    }
-
     /// Reads a decimal.
     ///
     /// # Errors
@@ -74,9 +42,9 @@ impl<'a> DecimalReader<'a> {
         ensures fails_with { IfErr result (ReadingFailsIn self.now.mode self.now.symbols text.now) }
     {
         match self.mode {
-            ParseMode::Strict => self.read_strict(alloc, text),
+            ParseMode::Strict => self.symbols.read(alloc, text),
             ParseMode::Lenient => match str::from_utf8(text) {
-                Ok(text) => self.read_lenient(alloc, text),
+                Ok(text) => self.symbols.read_lenient(alloc, text),
                 Err(_) => Err(ParseError::Syntax),
             },
         }

@@ -1,125 +1,103 @@
--- Equal nibbles at the end of the first nibbles of a word.
-use Rattle.std.proofs.Common.{◌≡◌, ◌≢◌, ℕ, zero, suc, ◌+◌, ◌-◌, ◌*◌, ◌/◌, ◌%◌, ◌^◌, ◌<◌, ◌≤◌, List, [], ◌∷◌, length, min, get_or, replicate, inl, inr, refl, sym, ◌∙◌, ap, arith}
+-- The bits of nibbles, and equal nibbles at the end of the first nibbles of a word.
+use Rattle.std.proofs.Common.{◌≡◌, ◌≢◌, ℕ, zero, suc, ◌+◌, ◌-◌, ◌*◌, ◌/◌, ◌%◌, ◌^◌, ◌<◌, ◌≤◌, min, get_or, replicate, inl, inr, refl, sym, ◌∙◌, ap, arith}
 use Rattle.std.specs.Int.{w64, bit_at, trailing_zeros}
-use Rattle.std.specs.Int.RustNames.{bit_xor}
+use Rattle.std.specs.Int.Bits.{bit_xor, xor_add_and, xor_self}
 use Rattle.std.specs.Int.Count.{trailing_of_zero}
 use Rattle.std.specs.Int.Digits.{number_from_digits, AllBelowBase}
 use Rattle.std.proofs.Math.Nat.{div-div-eq-div-mul, div-le_self}
 use Rattle.std.proofs.lemmas.Bool.{cases_lt}
+use Rattle.std.proofs.lemmas.Bool.Decides.{nat_tests}
+use Rattle.std.proofs.lemmas.Grind.{common_steps}
+use Rattle.std.proofs.lemmas.Int.{clamps, ints}
 use Rattle.std.proofs.lemmas.List.{get_or-replicate}
-use Rattle.std.proofs.lemmas.Nat.{pow-add, mod-mul-add, shr-shr, xor_lt}
-use Rattle.std.proofs.lemmas.Nat.Bits.{bit_at-lt, bit_at-trailing_zeros, bit_at-zero, bit_at_xor}
-use Rattle.std.proofs.lemmas.Int.Digits.{number_more}
+use Rattle.std.proofs.lemmas.Nat.{and_le_l, and_le_r, pow-add, shr-shr, xor_lt, xor_mod, xor_shr}
+use Rattle.std.proofs.lemmas.Nat.Bits.{bit_at-trailing_zeros}
 use Rattle.decimal_digits.specs.Nibbles.{word_nibbles}
-use Rattle.decimal_digits.proofs.DigitLists.{number-div}
 use Rattle.decimal_digits.proofs.LeadingBytes.{hex_pow}
-use Rattle.decimal_digits.proofs.Words.{length-word_nibbles, word_below, word_number, word_of_nibbles}
+use Rattle.decimal_digits.proofs.Words.{word_nibble, word_of_nibbles}
 
 -- bit 4 * j + i of a number is bit i of its nibble j
 bit_of : (n j i : ℕ) → bit_at n (4 * j + i) ≡ n / 16 ^ j / 2 ^ i % 2
 bit_of n j i = grind (arith, pow-add, hex_pow, div-div-eq-div-mul)
 
--- two bits whose exclusive or is 0 are equal
-same_bit : (a b i : ℕ) → bit_at (bit_xor a b) i ≡ 0 → bit_at a i ≡ bit_at b i
-same_bit a b i h = omega (arith, bit_at_xor a b i, bit_at-lt a i, bit_at-lt b i)
+-- four bits that are 0 are the nibble 0
+pub clear_nibble : (n j : ℕ) → ((i : ℕ) → i < 4 → bit_at n (4 * j + i) ≡ 0) → n / 16 ^ j % 16 ≡ 0
+clear_nibble n j h = grind (arith, ints, clamps, nat_tests, common_steps, bit_of)
 
--- nibbles of the same bits are equal
-same_nibble : (a b j : ℕ) → ((i : ℕ) → i < 4 → bit_at (bit_xor a b) (4 * j + i) ≡ 0)
-    → a / 16 ^ j % 16 ≡ b / 16 ^ j % 16
-same_nibble a b j h =
-    let x = a / 16 ^ j in
-    let y = b / 16 ^ j in
-    let same : (i : ℕ) → i < 4 → x / 2 ^ i % 2 ≡ y / 2 ^ i % 2 =
-    λ i l. sym (bit_of a j i) ∙ same_bit a b (4 * j + i) (h i l) ∙ bit_of b j i in
-    let p : x / 1 % 2 ≡ y / 1 % 2 = same 0 (omega arith) in
-    let q : x / 2 % 2 ≡ y / 2 % 2 = same 1 (omega arith) in
-    let r : x / 4 % 2 ≡ y / 4 % 2 = same 2 (omega arith) in
-    let s : x / 8 % 2 ≡ y / 8 % 2 = same 3 (omega arith) in
-    omega arith
-
--- nibbles with a bit that differs are not equal
-other_nibble : (a b i : ℕ) → bit_at (bit_xor a b) i ≡ 1 → a / 16 ^ (i / 4) % 16 ≢ b / 16 ^ (i / 4) % 16
-other_nibble a b i h e =
-    go (a / 16 ^ (i / 4)) (b / 16 ^ (i / 4)) (i % 4) (omega arith) e
-    (sym (ap (λ m. (m + bit_at b i) % 2) (bit a) ∙ ap (λ m. (a / 16 ^ (i / 4) / 2 ^ (i % 4) % 2 + m) % 2) (bit b))
-    ∙ sym (bit_at_xor a b i) ∙ h)
+-- a nibble with a bit is not 0
+pub some_nibble : (n i : ℕ) → bit_at n i ≡ 1 → 0 < n / 16 ^ (i / 4) % 16
+some_nibble n i h = go (n / 16 ^ (i / 4)) (i % 4) (omega arith) (sym (bit_of n (i / 4) (i % 4)) ∙ ap (bit_at n) at ∙ h)
   where
     at : 4 * (i / 4) + i % 4 ≡ i
     at = omega arith
 
-    bit : (n : ℕ) → bit_at n i ≡ n / 16 ^ (i / 4) / 2 ^ (i % 4) % 2
-    bit n = sym (ap (bit_at n) at) ∙ bit_of n (i / 4) (i % 4)
+    go : (x r : ℕ) → r < 4 → x / 2 ^ r % 2 ≡ 1 → 0 < x % 16
+    go x zero l e = let f : x / 1 % 2 ≡ 1 = e in omega arith
+    go x (suc zero) l e = let f : x / 2 % 2 ≡ 1 = e in omega arith
+    go x (suc (suc zero)) l e = let f : x / 4 % 2 ≡ 1 = e in omega arith
+    go x (suc (suc (suc zero))) l e = let f : x / 8 % 2 ≡ 1 = e in omega arith
+    go x (suc (suc (suc (suc r)))) l e = absurd (omega arith)
 
-    go : (x y r : ℕ) → r < 4 → x % 16 ≡ y % 16 → (x / 2 ^ r % 2 + y / 2 ^ r % 2) % 2 ≡ 1 → ⊥
-    go x y zero l e f = let g : (x / 1 % 2 + y / 1 % 2) % 2 ≡ 1 = f in omega arith
-    go x y (suc zero) l e f = let g : (x / 2 % 2 + y / 2 % 2) % 2 ≡ 1 = f in omega arith
-    go x y (suc (suc zero)) l e f = let g : (x / 4 % 2 + y / 4 % 2) % 2 ≡ 1 = f in omega arith
-    go x y (suc (suc (suc zero))) l e f = let g : (x / 8 % 2 + y / 8 % 2) % 2 ≡ 1 = f in omega arith
-    go x y (suc (suc (suc (suc r)))) l e f = absurd (omega arith)
-
-nibble_lt : (i : ℕ) (ns : List ℕ) → AllBelowBase 16 ns → i < length ns → get_or ns i 0 < 16
-nibble_lt i [] h l = absurd (omega arith)
-nibble_lt zero (n ∷ ns) h l = h.0
-nibble_lt (suc i) (n ∷ ns) h l = nibble_lt i ns h.1 (omega arith)
-
--- the nibble at an index of a word
-nibble_of_word : (n k : ℕ) → n < 2 ^ 64 → k < 16 → get_or (word_nibbles n) k 0 ≡ n / 16 ^ (15 - k) % 16
-nibble_of_word n k fits h =
-    let ns = word_nibbles n in
-    let all = length-word_nibbles n in
-    let back : length ns - (k + 1) ≡ 15 - k = omega arith in
-    let quotient = rw back at (number-div 16 (k + 1) ns (word_below n) (omega arith)) in
-    sym (ap (λ m. m % 16)
-    (ap (λ m. m / 16 ^ (15 - k)) (word_number n fits) ∙ quotient ∙ number_more 16 ns k (omega arith))
-    ∙ mod-mul-add _ _ _ (nibble_lt k ns (word_below n) (omega arith)))
+-- numbers whose exclusive or is 0 are equal
+zero_xor : (a b : ℕ) → bit_xor a b ≡ 0 → a ≡ b
+zero_xor a b h = omega (arith, xor_add_and a b, and_le_l a b, and_le_r a b, h)
 
 repeated_below : (d k : ℕ) → d < 16 → AllBelowBase 16 (replicate k d)
 repeated_below d zero h = tt
 repeated_below d (suc k) h = (h, repeated_below d k h)
 
 -- each nibble of sixteen equal ones
-repeated : (d k : ℕ) → d < 16 → k < 16 → 0x1111_1111_1111_1111 * d / 16 ^ (15 - k) % 16 ≡ d
+repeated : (d k : ℕ) → d < 16 → k < 16 → get_or (word_nibbles (0x1111_1111_1111_1111 * d)) k 0 ≡ d
 repeated d k h l =
     let n = 0x1111_1111_1111_1111 * d in
     let is : n ≡ number_from_digits 16 (replicate 16 d) = omega arith in
-    sym (nibble_of_word n k (omega arith) l)
-    ∙ ap (λ l. get_or l k 0) (word_of_nibbles (replicate 16 d) n refl (repeated_below d 16 h) is)
+    ap (λ l. get_or l k 0) (word_of_nibbles (replicate 16 d) n refl (repeated_below d 16 h) is)
     ∙ get_or-replicate 16 k d 0 l
 
--- the lowest bit in which a word differs from equal nibbles is in the last nibble of the first `count` that is another
-pub trailing : (n d count y r : ℕ) → n < 2 ^ 64 → d < 16 → count ≤ 16
-    → y ≡ bit_xor n (0x1111_1111_1111_1111 * d) / 2 ^ (4 * (16 - count)) → r ≡ min (trailing_zeros w64 y / 4) count
-    → ((k : ℕ) → count ≤ k + r → k < count → get_or (word_nibbles n) k 0 ≡ d)
-    × (r < count → get_or (word_nibbles n) (count - r - 1) 0 ≢ d)
-trailing n d count y r fits digit few e least =
-    let p = 0x1111_1111_1111_1111 * d in
-    let x = bit_xor n p in
-    let u = 4 * (16 - count) in
-    let t = trailing_zeros w64 y in
-    let below : y < 2 ^ 64 = omega (arith, xor_lt 64 n p fits (omega arith), div-le_self x (2 ^ u), e) in
-    let bit : (i : ℕ) → bit_at y i ≡ bit_at x (u + i) =
-    λ i. ap (λ m. bit_at m i) e ∙ ap (λ m. m % 2) (shr-shr x u i) in
-    let clear : (i : ℕ) → i < t → bit_at y i ≡ 0 =
-    elim (cases_lt 0 y) [
-      | inl some ↦ (bit_at-trailing_zeros w64 y some below).2
-      | inr none ↦ λ i h. (let z : y ≡ 0 = omega arith in ap (λ m. bit_at m i) z ∙ bit_at-zero i)
-    ] in (
-      λ k h l.
-          let j = count - 1 - k in
-          let inner : (i : ℕ) → i < 4 → bit_at x (4 * (15 - k) + i) ≡ 0 =
-          λ i m.
-          let s : 4 * (15 - k) + i ≡ u + (4 * j + i) = omega arith in
-          ap (bit_at x) s ∙ sym (bit (4 * j + i)) ∙ clear (4 * j + i) (omega arith) in
-          nibble_of_word n k fits (omega arith) ∙ same_nibble n p (15 - k) inner ∙ repeated d k digit (omega arith),
-      λ h same. elim (cases_lt 0 y) [
-        | inl some ↦
-            let k = count - r - 1 in
-            let one : bit_at x (u + t) ≡ 1 = sym (bit t) ∙ (bit_at-trailing_zeros w64 y some below).1 in
-            let j : (u + t) / 4 ≡ 15 - k = omega arith in
-            rw j at (other_nibble n p (u + t) one)
-            (sym (nibble_of_word n k fits (omega arith)) ∙ same ∙ sym (repeated d k digit (omega arith)))
-        | inr none ↦
-            let z : y ≡ 0 = omega arith in
-            absurd (omega (arith, ap (trailing_zeros w64) z, trailing_of_zero 64))
-      ],
-    )
+-- the exclusive or of the first `count` nibbles of a word and of equal ones
+module _ (n d count y : ℕ) (fits : n < 2 ^ 64) (digit : d < 16) (few : count ≤ 16)
+    (is : y ≡ bit_xor n (0x1111_1111_1111_1111 * d) / 2 ^ (4 * (16 - count))) where
+  nibble : (j k : ℕ) → j + k + 1 ≡ count → y / 16 ^ j % 16 ≡ bit_xor (get_or (word_nibbles n) k 0) d
+  nibble j k e =
+      let p = 0x1111_1111_1111_1111 * d in
+      let s = 4 * (15 - k) in
+      let at : 4 * (16 - count) + 4 * j ≡ s = omega arith in
+      let left = word_nibble n k fits (omega arith) in
+      let right = word_nibble p k (omega arith) (omega arith) ∙ repeated d k digit (omega arith) in
+      ap (λ m. y / m % 16) (sym (hex_pow j)) ∙ ap (λ m. m / 2 ^ (4 * j) % 16) is
+      ∙ ap (λ m. m % 16) (shr-shr (bit_xor n p) (4 * (16 - count)) (4 * j) ∙ ap (λ m. bit_xor n p / 2 ^ m) at
+      ∙ xor_shr n p s)
+      ∙ xor_mod (n / 2 ^ s) (p / 2 ^ s) 4 ∙ (λ i. bit_xor (left i) (right i))
+
+  -- its lowest bit is in the last nibble that is another
+  pub trailing : (r : ℕ) → r ≡ min (trailing_zeros w64 y / 4) count
+      → ((k : ℕ) → count ≤ k + r → k < count → get_or (word_nibbles n) k 0 ≡ d)
+      × (r < count → get_or (word_nibbles n) (count - r - 1) 0 ≢ d)
+  trailing r least = elim (cases_lt 0 y) [
+    | inl some ↦
+        let x = bit_xor n (0x1111_1111_1111_1111 * d) in
+        let below : y < 2 ^ 64 =
+        omega (
+          arith,
+          xor_lt 64 n (0x1111_1111_1111_1111 * d) fits (omega arith),
+          div-le_self x (2 ^ (4 * (16 - count))),
+          is,
+        ) in
+        let low = bit_at-trailing_zeros w64 y some below in (
+          λ k h l. equal k l (clear_nibble y (count - 1 - k) (λ i m. low.2 (4 * (count - 1 - k) + i) (omega arith))),
+          λ h same.
+              let at : trailing_zeros w64 y / 4 ≡ r = omega arith in
+              let other = rw at at (some_nibble y (trailing_zeros w64 y) low.1) in
+              let none = nibble r (count - r - 1) (omega arith) ∙ ap (λ m. bit_xor m d) same ∙ xor_self d in
+              omega (arith, other, none),
+        )
+    | inr none ↦
+        let z : y ≡ 0 = omega arith in
+        let all : trailing_zeros w64 y ≡ 64 = ap (trailing_zeros w64) z ∙ trailing_of_zero 64 in (
+          λ k h l. equal k l (omega (arith, z)),
+          λ h same. omega (arith, all),
+        )
+  ]
+    where
+      equal : (k : ℕ) → k < count → y / 16 ^ (count - 1 - k) % 16 ≡ 0 → get_or (word_nibbles n) k 0 ≡ d
+      equal k l z = zero_xor _ d (sym (nibble (count - 1 - k) k (omega arith)) ∙ z)

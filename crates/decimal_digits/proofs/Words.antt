@@ -9,7 +9,7 @@ use Rattle.std.specs.Int.Digits.{number_from_digits, AllBelowBase}
 use Rattle.std.proofs.Math.Nat.{mod-eq_of_lt, pow-le-pow_right}
 use Rattle.std.proofs.lemmas.Nat.{pow-add, mod-mul-add, be_bytes_8, from_be_bytes-to_be_bytes_8, shr-shr}
 use Rattle.std.proofs.lemmas.Grind.{same_number_lists}
-use Rattle.std.proofs.lemmas.List.{length-append, length-drop, length-map, length-replicate, length-take, length-take-le, append-nil, append_assoc, get_or_default, get_or_past, get_or-drop, get_or-replicate, get_or-take, map_more}
+use Rattle.std.proofs.lemmas.List.{length-append, length-drop, length-map, length-replicate, length-take, length-take-le, append-nil, append_assoc, get_or_default, get_or_past, get_or-drop, get_or-replicate, get_or-take, map_more, take-append-drop}
 use Rattle.std.proofs.lemmas.List.Elements.{All-append, All-from_recursion, All-get_or, All-replicate}
 use Rattle.std.proofs.lemmas.Int.Digits.{number_lt, number_after_append, number_more, number_push}
 use Rattle.std.proofs.Math.Seq.{drop-append_seam}
@@ -148,42 +148,6 @@ kept n count u r fits few by e =
     ∙ sym (number_pad 16 k (take count ns)) in
     word_of_nibbles out r size below
     (e ∙ rw (by, hex_pow k) (ap (λ m. m % 2 ^ 64) number ∙ mod-eq_of_lt (word_lt out size below)))
-
--- a right shift, another last nibble and a left shift replace the nibbles from an index on
-pub replaced : (n index nibble u r : ℕ) → n < 2 ^ 64 → index < 16 → nibble < 16 → u ≡ 4 * (15 - index)
-    → r ≡ (n / 2 ^ u / 16 * 16 + nibble) * 2 ^ u % 2 ^ 64
-    → word_nibbles r ≡ take index (word_nibbles n) ++ (nibble ∷ replicate (15 - index) 0)
-replaced n index nibble u r fits few digit by e =
-    let ns = word_nibbles n in
-    let k = 15 - index in
-    let all = length-word_nibbles n in
-    let front = take index ns in
-    let ones = front ++ (nibble ∷ []) in
-    let out = ones ++ replicate k 0 in
-    let size : length out ≡ 16 =
-    omega (
-      arith,
-      length-append ones (replicate k 0),
-      length-append front (nibble ∷ []),
-      length-take-le index ns (omega arith),
-      length-replicate {A = ℕ} k 0,
-    ) in
-    let below = append_below ones (replicate k 0)
-    (append_below front (nibble ∷ []) (below_take 16 index ns (word_below n)) (digit, tt)) (zeros_below k) in
-    let back : length ns - index ≡ k + 1 = omega arith in
-    let division = rw back at (number-div 16 index ns (word_below n) (omega arith)) in
-    let power : 2 ^ (4 * k + 4) ≡ 16 ^ (k + 1) =
-    (let s : 4 * k + 4 ≡ 4 * (k + 1) = omega arith in rw s (hex_pow (k + 1))) in
-    let quotient : n / 2 ^ (4 * k) / 16 ≡ number_from_digits 16 front =
-    shr-shr n (4 * k) 4 ∙ ap (λ m. n / m) power ∙ ap (λ m. m / 16 ^ (k + 1)) (word_number n fits) ∙ division in
-    let number : (n / 2 ^ (4 * k) / 16 * 16 + nibble) * 16 ^ k ≡ number_from_digits 16 out =
-    ap (λ m. (m * 16 + nibble) * 16 ^ k) quotient ∙ ap (λ m. m * 16 ^ k) (sym (number_push 16 front nibble))
-    ∙ sym (number_pad 16 k ones) in
-    let value : r ≡ number_from_digits 16 out =
-    e ∙ ap (λ v. (n / 2 ^ v / 16 * 16 + nibble) * 2 ^ v % 2 ^ 64) by
-    ∙ ap (λ m. (n / 2 ^ (4 * k) / 16 * 16 + nibble) * m % 2 ^ 64) (hex_pow k)
-    ∙ ap (λ m. m % 2 ^ 64) number ∙ mod-eq_of_lt (word_lt out size below) in
-    word_of_nibbles out r size below value ∙ append_assoc front (nibble ∷ []) (replicate k 0)
 
 spread : (a p q r t : ℕ) → p * q ≡ t → (a * p + r) * q ≡ a * t + r * q
 spread a p q r t e = grind arith
@@ -360,29 +324,6 @@ keep_pads bytes len count w n p l few e f =
     (λ k h. ap (λ l. get_or l k 0) f ∙ padded_at (take count (word_nibbles w)) (16 - count) k
     ∙ same_take (word_nibbles w) ds count k (λ m. front_at bytes len w k p e h))
 
--- the bytes of a word with the first digits of padded bytes, and another digit after them
-pub replace_pads : (bytes : List ℕ) (len index digit w n : ℕ) → IsPadded bytes len → index < len → index < 16
-    → digit < 10 → word_nibbles w ≡ take 16 (nibbles bytes)
-    → word_nibbles n ≡ take index (word_nibbles w) ++ (digit ∷ replicate (15 - index) 0)
-    → EncodesPadded (to_be_bytes w64 n) (index + 1) (take index (digits_in bytes len) ++ (digit ∷ []))
-replace_pads bytes len index digit w n p l few one e f =
-    let ds = digits_in bytes len in
-    let size = length_digits bytes len p in
-    let count = length-take-le index ds (omega arith) in
-    let count' = length-take-le index (word_nibbles w) (omega (arith, length-word_nibbles w)) in
-    let front : (k : ℕ) → k < index → get_or (take index ds) k 0 < 10 =
-    λ k h. rw (get_or-take index ds k 0 h) (p.decimal k 0 (omega arith)) in
-    word_pads n (index + 1) (take index ds ++ (digit ∷ [])) (omega (arith, length-append (take index ds) (digit ∷ [])))
-    (omega arith)
-    (λ k h. elim (cases_lt k index) [
-      | inl m ↦ grind (arith, nibble_rules, front k m)
-      | inr m ↦ grind (arith, nibble_rules)
-    ])
-    (λ k h. ap (λ l. get_or l k 0) f
-    ∙ joined_at (take index (word_nibbles w)) (digit ∷ replicate (15 - index) 0) (take index ds) (digit ∷ []) index k
-    count' count (same_take (word_nibbles w) ds index k (λ m. front_at bytes len w k p e h))
-    (padded_at (digit ∷ []) (15 - index) (k - index)))
-
 -- the bytes of a word without the first of up to sixteen digits of padded bytes
 pub cut_pads : (bytes : List ℕ) (len count w n : ℕ) → IsPadded bytes len → count ≤ len → len ≤ 16
     → word_nibbles w ≡ take 16 (nibbles bytes)
@@ -509,16 +450,16 @@ join_text bytes len w v n text p few all e f g =
     rw (none, append-nil, size) at
     (join_pads bytes len len w v n es p (omega arith) (omega arith) digits e (text_at text v all f) g)
 
--- the bytes of the first digits of a number, with zeros after them
-pub kept_pads : (number n len : ℕ) → IsPacked (leading_bytes number len) len
-    → word_nibbles n ≡ take len (word_nibbles number) ++ replicate (16 - len) 0
-    → EncodesPadded (to_be_bytes w64 n) len (digits_in (leading_bytes number len) len)
+-- the bytes of a word whose nibbles after the digits are 0
+pub leading_pads : (n len : ℕ) → IsPacked (leading_bytes n len) len → drop len (word_nibbles n) ≡ replicate (16 - len) 0
+    → EncodesPadded (to_be_bytes w64 n) len (digits_in (leading_bytes n len) len)
 unfolding word_nibbles
-kept_pads number n len p e =
-    let (few, same) = leading_digits number len p in
-    let ds = digits_in (leading_bytes number len) len in
-    let ns = nibbles (to_be_bytes w64 number) in
-    let all : length ns ≡ 16 = omega (arith, length-nibbles (to_be_bytes w64 number)) in
-    let size : length ds ≡ len = ap length (sym same) ∙ length-take-le len ns (omega arith) in
+leading_pads n len p zeros =
+    let (few, same) = leading_digits n len p in
+    let ds = digits_in (leading_bytes n len) len in
+    let ns = word_nibbles n in
+    let size : length ds ≡ len = ap length (sym same) ∙ length-take-le len ns (omega (arith, length-word_nibbles n)) in
+    let all : ns ≡ take len ns ++ replicate (16 - len) 0 =
+    sym (take-append-drop len ns) ∙ ap (λ l. take len ns ++ l) zeros in
     word_pads n len ds size few (λ k h. p.decimal k 0 (omega arith)) (λ k h.
-    ap (λ l. get_or l k 0) e ∙ padded_at (take len ns) (16 - len) k ∙ ap (λ l. get_or l k 0) same)
+    ap (λ l. get_or l k 0) all ∙ padded_at (take len ns) (16 - len) k ∙ ap (λ l. get_or l k 0) same)

@@ -50,31 +50,9 @@ pub trait DigitStore: Drop {
         ensures ok { IfOk result (λ s. digits s ≡ list.now) }
         ensures succeeds { length list.now ≤ L → IsOk result };
 
-    /// Makes a list of the first `len` nibbles of a packed BCD number of sixteen nibbles.
-    ///
-    /// Of `0x2500_0000_0000_0000` the first two are 2 and 5. Requires at most sixteen digits 0 to 9, followed by a
-    /// nibble 0 if `len` is odd.
-    ///
-    /// # Errors
-    ///
-    /// As for [`DigitStore::from_digits`].
-    fn from_bcd(alloc: Global, number: u64, len: usize) -> Result<Self, AllocError>
-        requires { IsPacked (leading_bytes number len) len }
-        ensures ok { IfOk result (λ s. digits s ≡ digits_in (leading_bytes number len) len) }
-        ensures succeeds { len ≤ L → IsOk result }
-    {
-        let bytes = number.to_be_bytes();
-        let mut list = Self::empty(alloc);
-        list.reserve(len)?;
-        for index in 0..len {
-            list.push_in_room(nibble_at(&bytes, index));
-        }
-        Ok(list)
-    }
-
     /// Makes a list of the first `len` nibbles of a packed BCD number of sixteen nibbles, of which the others are 0.
     ///
-    /// As [`DigitStore::from_bcd`], which clears them.
+    /// Of `0x2500_0000_0000_0000` the first two are 2 and 5. Requires at most sixteen digits 0 to 9.
     ///
     /// # Errors
     ///
@@ -85,7 +63,13 @@ pub trait DigitStore: Drop {
         ensures ok { IfOk result (λ s. digits s ≡ digits_in (leading_bytes number len) len) }
         ensures succeeds { len ≤ L → IsOk result }
     {
-        Self::from_bcd(alloc, number, len)
+        let bytes = number.to_be_bytes();
+        let mut list = Self::empty(alloc);
+        list.reserve(len)?;
+        for index in 0..len {
+            list.push_in_room(nibble_at(&bytes, index));
+        }
+        Ok(list)
     }
 
     /// Makes a list of the first `len` nibbles of a packed BCD number of 32 nibbles.
@@ -153,13 +137,6 @@ pub trait DigitStore: Drop {
     fn len(&self) -> usize
         ensures { result ≡ length (digits self.now) };
 
-    /// Returns whether there are no digits.
-    fn is_empty(&self) -> bool
-        ensures { IsTrue result ↔ (digits self.now ≡ []) }
-    {
-        self.len() == 0
-    }
-
     /// Returns the digit at an index, where index 0 is the most significant digit.
     ///
     /// Requires `index < len()`.
@@ -174,6 +151,7 @@ pub trait DigitStore: Drop {
         requires { from + length buffer.old ≤ length (digits self.now) }
         ensures { buffer.new ≡ text_of (take (length buffer.old) (drop from (digits self.now))) }
     {
+        // Proof hint: the index of each digit fits a `usize`.
         let _at_least = self.len();
         for (index, slot) in buffer.iter_mut().enumerate() {
             *slot = b'0' + self.get(from + index);
@@ -204,19 +182,6 @@ pub trait DigitStore: Drop {
         requires in_range { index < length (digits self.old) }
         requires is_digit { digit < 10 }
         ensures { digits self.new ≡ slice_set (digits self.old) index digit };
-
-    /// Replaces the digits from an index on by one digit.
-    ///
-    /// Requires `index < len()` and a digit 0 to 9. Of 2, 5 and 0, from index 1 by 6, it makes 2 and 6.
-    fn replace_from(&mut self, index: usize, digit: u8)
-        requires in_range { index < length (digits self.old) }
-        requires is_digit { digit < 10 }
-        ensures { digits self.new ≡ take index (digits self.old) ++ digit ∷ [] }
-    {
-        let _more_than = self.len();
-        self.truncate(index + 1);
-        self.set(index, digit);
-    }
 
     /// Appends a digit, without an allocation.
     ///

@@ -8,7 +8,6 @@ use std::error::Error;
 use std::fmt;
 
 impl RoundError {
-    /// Returns the message.
     fn text(&self) -> &'static str
         ensures { result.now ≡ round_error_text self.now }
     {

@@ -5,7 +5,7 @@ ghost use Rattle.decimal_digits.specs.Orders.{unsigned_rank};
 ghost use Rattle.decimal_digits.specs.Rounding.{Named, rounded_number};
 ghost use Rattle.decimal_digits.specs.declared.rounding.UnsignedRoundingMode.{UnsignedRoundingMode};
 
-use crate::rounding::{RoundingIncrement, UnsignedRoundingMode as Mode};
+use crate::rounding::UnsignedRoundingMode as Mode;
 use std::cmp::Ordering;
 
 /// The number that is computed by a remainder is the multiple that the mode chooses among all multiples of the unit.
@@ -14,13 +14,6 @@ pub fn rounded_number_is_named()
     ensures { (mode : UnsignedRoundingMode) (unit number : ℕ) → 0 < unit
         → Named mode unit number (rounded_number mode unit number) }
 {}
-
-/// The default increment is `MultiplesOf1`.
-pub fn default_increment() -> RoundingIncrement
-    ensures { result ≡ RoundingIncrement.MultiplesOf1 }
-{
-    RoundingIncrement::default()
-}
 
 /// The unsigned modes are ordered as they are declared.
 pub fn unsigned_order(left: Mode, right: Mode) -> Ordering

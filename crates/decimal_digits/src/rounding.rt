@@ -82,7 +82,6 @@ fn split_at_position<D: DigitStore>(
     }
 }
 
-/// Returns the highest of `places` magnitudes from a position up, or 0 if the list is empty.
 fn magnitude_after<D: DigitStore>(counted: &Counted<'_, D>, position: i16, places: usize) -> i16
     requires stripped { IsStripped (D.digits (list_of counted.now)) }
     requires fits { length (D.digits (list_of counted.now)) ≤ places }

@@ -11,5 +11,6 @@ pub mod NumeralTexts
 pub mod Bcd
 pub mod Scans
 pub mod NumeralLaws
+pub mod NormalForms
 pub mod Apart
 pub mod Collecting

@@ -1,8 +1,9 @@
 -- A text is that of one numeral, and of one decimal.
-use Rattle.std.proofs.Common.{◌≡◌, ℕ, ◌-◌, inl, inr, Bool, true, false, List, [], ◌∷◌, ◌++◌, length, refl, sym, ◌∙◌, ap, subst, append-nil}
+use Rattle.std.proofs.Common.{◌≡◌, ◌≢◌, ℕ, ◌-◌, inl, inr, Bool, true, false, List, [], ◌∷◌, ◌++◌, length, refl, sym, ◌∙◌, ap, subst, append-nil}
 use Rattle.std.specs.Prelude.{Result, Ok, Err, IfOk, MatchResult, ◌↔◌, pos}
 use Rattle.std.specs.Int.Digits.{AllBelowBase}
 use Rattle.std.proofs.Math.Bool.{and-false}
+use Rattle.std.proofs.lemmas.Result.{IfOk-weaker}
 use Rattle.std.proofs.lemmas.List.{append_cancel_left, append_cancel_right}
 use Rattle.decimal_unsigned.specs.declared.error.ParseError.{ParseError}
 use Rattle.decimal_unsigned.specs.declared.error.ParseError.TheVariants.{Limit, Syntax, Memory}
@@ -14,12 +15,12 @@ use Rattle.decimal_format.specs.Symbols.{Symbols, Affixes, sign_affixes}
 use Rattle.decimal_format.specs.Formatted.{formatted}
 use Rattle.decimal_format.specs.Grouping.{is_grouped, ends_group}
 use Rattle.decimal_format.specs.Readable.{IsReadable}
-use Rattle.decimal_format.specs.Reading.{Numeral, AreDigits, IsNumeral, IsBeyondLimits, IsWritten, digits_text, fraction_text, absolute_numeral_text, numeral_text, separated_by}
-use Rattle.decimal_format.specs.Lenient.{separated_at, normalized, IsLenientNumeral, IsLenientlyWritten, IsTyped}
-use Rattle.decimal_format.specs.Scanning.{IsUniform, value_of, IsValueOf, IsNumeralBy, IsWrittenBy, IsRead}
+use Rattle.decimal_format.specs.Reading.{Numeral, AreDigits, IsNumeral, IsBeyondLimits, IsWritten, IsRead, digits_text, fraction_text, absolute_numeral_text, numeral_text, separated_by}
+use Rattle.decimal_format.specs.Lenient.{separated_at, normalized, IsLenientNumeral, IsLenientlyWritten, IsTyped, IsTypedNumeral}
+use Rattle.decimal_format.specs.Scanning.{IsUniform, value_of, IsValueOf, IsNumeralBy, IsWrittenBy}
 use Rattle.decimal_format.proofs.Codes.{none_not_decimal}
 use Rattle.decimal_format.proofs.DigitTexts.{digits_text-cong, nil_ends, fraction_ends, digits-unique, ends_integer}
-use Rattle.decimal_format.proofs.NumeralTexts.{HasDigits, same_value, formatted-digits, digits_of_value}
+use Rattle.decimal_format.proofs.NumeralTexts.{HasDigits, same_value, digits_are_value, formatted-digits, digits_of_value}
 use Rattle.decimal_format.proofs.Scans.{number_begins, begins-append, sign-unique, strategy_is, strategy_if, strategy_separates}
 
 -- a text by some strategy has separators at ends of groups, all of them or none
@@ -118,7 +119,7 @@ never-digits s v w has digits =
 -- a text is that of one of these numerals, and then of one of these decimals
 pub record AreTexts (is_numeral : Numeral → Type 0) (is_written : Decimal → Type 0) : Type 0 where
   pub unique : (w u : Numeral) → is_numeral w → is_numeral u → w ≡ u
-  pub writes : (v : Decimal) (w : Numeral) → is_numeral w → HasDigits v w → is_written v
+  pub writes : (v : Decimal) (w : Numeral) → is_numeral w → HasDigits v w → IsValue v.absolute × is_written v
   pub reads : (v : Decimal) → IsValue v.absolute → is_written v → (w : Numeral) × is_numeral w × HasDigits v w
 
 module _ {is_numeral : Numeral → Type 0} {is_written : Decimal → Type 0} (texts : AreTexts is_numeral is_written) where
@@ -151,15 +152,13 @@ module _ {is_numeral : Numeral → Type 0} {is_written : Decimal → Type 0} (te
       λ x. is.limit.1 (subst IsBeyondLimits (texts.unique x.0 w x.1 numeral) x.2),
     );
     memory = λ h.
-        let v : Decimal = record { sign = w.sign; absolute = value_of w } in (
-          v,
-          texts.writes v w numeral (record {
-            sign = refl;
-            absolute = refl;
-            few = λ beyond. let k = sym h ∙ is.limit.1 beyond in cc;
-          }),
-          is.memory h,
-        );
+        let v : Decimal = record { sign = w.sign; absolute = value_of w } in
+        let written = texts.writes v w numeral (record {
+          sign = refl;
+          absolute = refl;
+          few = λ beyond. let k = sym h ∙ is.limit.1 beyond in cc;
+        }) in
+        (v, written.0, written.1, is.memory h);
   }
     where
       has : (v : Decimal) → IsValueOf inline w (Ok v) → HasDigits v w
@@ -169,7 +168,7 @@ module _ {is_numeral : Numeral → Type 0} {is_written : Decimal → Type 0} (te
         few = λ beyond. let k = is.limit.1 beyond in cc;
       }
 
-      found : (r : Result Decimal ParseError) → IsValueOf inline w r → IfOk r is_written
+      found : (r : Result Decimal ParseError) → IsValueOf inline w r → IfOk r (λ v. IsValue v.absolute × is_written v)
       found (Err e) is = tt
       found (Ok v) is = texts.writes v w numeral (has v is)
 
@@ -187,8 +186,10 @@ module _ (s : Symbols) (readable : IsReadable s) (bytes : List ℕ) where
   formatted_texts = record {
     unique = λ w u p q.
         lenient-unique s readable bytes w u (numeral_is_lenient s bytes w p) (numeral_is_lenient s bytes u q);
-    writes = λ v w numeral has.
-        (numeral.strategy, numeral.text ∙ sym (formatted-digits v w has numeral.digits s numeral.strategy));
+    writes = λ v w numeral has. (
+      digits_are_value v w has numeral.digits,
+      (numeral.strategy, numeral.text ∙ sym (formatted-digits v w has numeral.digits s numeral.strategy)),
+    );
     reads = written_digits s bytes;
   }
 
@@ -196,7 +197,8 @@ module _ (s : Symbols) (readable : IsReadable s) (bytes : List ℕ) where
   lenient_texts : AreTexts (IsLenientNumeral s bytes) (λ v. IsLenientlyWritten s v bytes)
   lenient_texts = record {
     unique = lenient-unique s readable bytes;
-    writes = λ v w numeral has. (w, numeral, sym (never-digits s v w has numeral.digits));
+    writes = λ v w numeral has.
+        (digits_are_value v w has numeral.digits, (w, numeral, sym (never-digits s v w has numeral.digits)));
     reads = λ v valid written.
         let d = digits_of_value v valid in
         let same = text-unique s readable (λ _. false) (λ _. false) (formatted s Never v) d.0 written.0 d.1
@@ -226,6 +228,49 @@ pub none_by : (strict : Bool) (s : Symbols) (bytes : List ℕ) → strict ≡ tr
     → ((w : Numeral) → ¬ IsNumeral s bytes w) → (w : Numeral) → ¬ IsNumeralBy strict s bytes w
 none_by true s bytes h none = none
 none_by false s bytes h none = absurd (cc)
+
+-- ---- What people type.
+module _ {inline : ℕ} {s : Symbols} {text : List ℕ} {result : Result Decimal ParseError} where
+  -- the text is that of a number
+  pub read_as_written : IsRead inline (IsNumeral s text) (λ v. IsWritten s v text) result → result ≢ Err Syntax
+      → IsRead inline (IsTypedNumeral s text) (λ v. IsTyped s v text) result
+  read_as_written read other = record {
+    found = IfOk-weaker result _ _ (λ v h. (h.0, inl h.1)) read.found;
+    reads_back = λ v valid. elim [
+      | inl written ↦ read.reads_back v valid written
+      | inr x ↦ absurd (other (read.syntax.1 x.0))
+    ];
+    syntax = (λ h. absurd (other h), λ none. read.syntax.1 (λ w numeral. none w (inl numeral)));
+    limit = (
+      λ h. let x = read.limit.0 h in (x.0, inl x.1, x.2),
+      λ x. elim x.1 [
+        | inl numeral ↦ read.limit.1 (x.0, numeral, x.2)
+        | inr y ↦ absurd (other (read.syntax.1 y.0))
+      ],
+    );
+    memory = λ h. let x = read.memory h in (x.0, x.1, inl x.2, x.3);
+  }
+
+  -- it is that of no number, and its normal form is read
+  pub read_normalized : ((w : Numeral) → ¬ IsNumeral s text w)
+      → IsRead inline (IsLenientNumeral s (normalized s text)) (λ v. IsLenientlyWritten s v (normalized s text)) result
+      → IsRead inline (IsTypedNumeral s text) (λ v. IsTyped s v text) result
+  read_normalized none read = record {
+    found = IfOk-weaker result _ _ (λ v h. (h.0, inr (none, h.1))) read.found;
+    reads_back = λ v valid. elim [
+      | inl written ↦ let w = written_digits s text v valid written in absurd (none w.0 w.1)
+      | inr x ↦ read.reads_back v valid x.1
+    ];
+    syntax = (
+      λ h w. elim [ inl numeral ↦ none w numeral | inr x ↦ read.syntax.0 h w x.1 ],
+      λ all. read.syntax.1 (λ w numeral. all w (inr (none, numeral))),
+    );
+    limit = (
+      λ h. let x = read.limit.0 h in (x.0, inr (none, x.1), x.2),
+      λ x. elim x.1 [ inl numeral ↦ absurd (none x.0 numeral) | inr y ↦ read.limit.1 (x.0, y.1, x.2) ],
+    );
+    memory = λ h. let x = read.memory h in (x.0, x.1, inr (none, x.2), x.3);
+  }
 
 -- ---- Laws.
 -- with readable symbols two values have different texts

@@ -4,7 +4,7 @@ use Rattle.std.specs.Int.Digits.{AllBelowBase, number_from_digits}
 use Rattle.std.specs.Prelude.{ℤ, pos, negsuc, ◌-ℤ◌}
 use Rattle.std.specs.Int.{int_gap, int_min}
 use Rattle.std.proofs.Math.Arith.{mod-mul}
-use Rattle.std.proofs.Math.Nat.{pow-suc, mod-lt, mod-one, mod-eq_of_lt, mul-div_cancel, div-lt_iff_lt-mul, div-div-eq-div-mul}
+use Rattle.std.proofs.Math.Nat.{pow-suc, mod-lt, mod-one, mod-eq_of_lt, mul-div_cancel, mul-mod_left, div-lt_iff_lt-mul, div-div-eq-div-mul}
 use Rattle.std.proofs.lemmas.Bool.{cases_lt}
 use Rattle.std.proofs.lemmas.Int.{ints, clamps}
 use Rattle.std.proofs.lemmas.Nat.{div-add-mod', div-mul-add, mod-mul-add}
@@ -13,7 +13,7 @@ use Rattle.decimal_digits.specs.Digits.{number_at}
 use Rattle.decimal_digits.specs.Number.{digit, weight, offset}
 use Rattle.decimal_unsigned.specs.Unsigned.{IsValue}
 use Rattle.fixed_decimal.specs.Decimal.{Decimal}
-use Rattle.fixed_decimal.proofs.Calling.{number_first, offset_is, gap_is, ten_pos, powers}
+use Rattle.fixed_decimal.proofs.Calling.{number_first, number_at-lt, offset_is, gap_is, ten_pos, powers}
 use Rattle.decimal_format.specs.declared.grouping.GroupingStrategy.{GroupingStrategy}
 use Rattle.decimal_format.specs.Symbols.{Symbols, digit_text, sign_affixes}
 use Rattle.decimal_format.specs.Grouping.{separates}
@@ -155,6 +155,31 @@ module _ (w : Numeral) (digits : AreDigits w) (few : ¬ IsBeyondLimits w) where
       ∙ ap (λ x. x % 10 ^ length all) (mul-div_cancel (number_from_digits 10 all) (ten_pos low))
       ∙ mod-eq_of_lt (number_lt 10 all below))
 
+  -- they have a value
+  pub is_value : IsValue (value_of w)
+  unfolding number_at
+  is_value =
+      let n = length w.whole in
+      let size = length-append w.whole w.fraction in
+      let below = below_append w.whole w.fraction digits.whole digits.fraction in
+      let whole : n ≤ 32768 = elim (cases_lt 32768 n) [ inl h ↦ absurd (few (inl h)) | inr h ↦ h ] in
+      let fraction : length w.fraction ≤ 32768 =
+      elim (cases_lt 32768 (length w.fraction)) [ inl h ↦ absurd (few (inr h)) | inr h ↦ h ] in
+      let number = number_from_digits 10 all in
+      let low : offset (value_of w).lo ≡ n + 32768 - length all =
+      omega (arith, ints, clamps, offset_is (value_of w).lo, size, fraction) in
+      record {
+        hi_in = (omega (arith, ints), omega (arith, ints, whole));
+        lo_in = (omega (arith, ints, clamps, size, fraction), omega (arith, ints, clamps));
+        below =
+            subst (λ k. (value_of w).number < 10 ^ k)
+            (let k : n + 32768 ≡ offset top + 1 = omega (arith, offset_is top, digits.some) in k)
+            (number_at-lt (n + 32768) all below (omega (arith, size, fraction)));
+        whole =
+            ap (λ k. (value_of w).number % 10 ^ k) low
+            ∙ mul-mod_left number (10 ^ (n + 32768 - length all));
+      }
+
   pub absolute_is : (s : Symbols) (g : GroupingStrategy)
       → absolute_text s g (value_of w) ≡ absolute_numeral_text s (separated_by s g (length w.whole)) w
   absolute_is s g =
@@ -165,6 +190,10 @@ module _ (w : Numeral) (digits : AreDigits w) (few : ¬ IsBeyondLimits w) where
       ∙ number_is s g top number top (length all)
       ∙ ap (list_text s g top top) digits_are
       ∙ whole_is s g top w.whole w.fraction top (omega (arith, ints, digits.some))
+
+-- digits within the limits are those of a value
+pub digits_are_value : (v : Decimal) (w : Numeral) → HasDigits v w → AreDigits w → IsValue v.absolute
+digits_are_value v w has digits = subst IsValue (sym has.absolute) (is_value w digits has.few)
 
 -- by each strategy the text of a value is that of its digits
 pub formatted-digits : (v : Decimal) (w : Numeral) → HasDigits v w → AreDigits w → (s : Symbols) (g : GroupingStrategy)

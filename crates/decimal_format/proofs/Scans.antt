@@ -1,5 +1,5 @@
 -- The steps of a scan.
-use Rattle.std.proofs.Common.{◌≡◌, ◌≢◌, ℕ, suc, ◌+◌, ◌-◌, ◌<◌, ◌≤◌, ◌==◌, Bool, true, false, ◌&&◌, ◌||◌, List, [], ◌∷◌, ◌++◌, length, refl, sym, ◌∙◌, ap, subst, arith, rules, append_assoc, append-nil, length-append, length-drop, take, drop, take-append-drop, inl, inr}
+use Rattle.std.proofs.Common.{◌≡◌, ◌≢◌, ℕ, ◌+◌, ◌-◌, ◌<◌, ◌≤◌, ◌==◌, Bool, true, false, ◌&&◌, ◌||◌, List, [], ◌∷◌, ◌++◌, length, refl, sym, ◌∙◌, ap, subst, arith, rules, append_assoc, append-nil, length-append, length-drop, take, drop, take-append-drop, inl, inr}
 use Rattle.std.specs.Prelude.{if◌then◌else◌, ◌*◌, pos, Option, Some, None, IfNone, ◌↔◌}
 use Rattle.std.specs.Int.Digits.{AllBelowBase}
 use Rattle.std.proofs.Math.Bool.{beq, not, and-true, and-false, and_comm}
@@ -512,15 +512,6 @@ number_begins s f w digits = go w.whole digits.some digits.whole
     }
 
 -- ---- Fractions.
-pub empty_is : (xs : List ℕ) → true ≡ (length xs == 0) → xs ≡ []
-empty_is [] h = refl
-empty_is (x ∷ xs) h =
-    let t : (suc (length xs) == 0) ≡ false = search (rules, arith) in absurd (let n : true ≡ false = h ∙ t in cc)
-
-pub some_is : (xs : List ℕ) → false ≡ (length xs == 0) → xs ≡ [] → ⊥
-some_is [] h e = absurd (cc)
-some_is (x ∷ xs) h e = cc
-
 -- the fraction digits follow the decimal separator
 pub fraction_rest : (s : Symbols) (ds bytes digits : List ℕ) → (bytes ≡ [] → ⊥) → bytes ≡ fraction_text s ds
     → bytes ≡ s.decimal ++ digits → (0 < length ds) × (digits ≡ digits_text s (λ _. false) ds)

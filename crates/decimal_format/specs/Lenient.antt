@@ -1,5 +1,5 @@
 -- Numbers as people type them.
-use Rattle.std.specs.Prelude.{◌≡◌, ℕ, ◌-◌, ◌<◌, ◌==◌, ◌⊎◌, Bool, false, ◌&&◌, ◌||◌, if◌then◌else◌, List, [], length, encode_utf8}
+use Rattle.std.specs.Prelude.{◌≡◌, ℕ, ◌-◌, ◌==◌, ◌⊎◌, Bool, false, ◌&&◌, ◌||◌, if◌then◌else◌, List, [], encode_utf8}
 use Rattle.std.specs.Char.{is_ascii_digit}
 use Rattle.std.specs.List.{flat_map, list_any}
 use Rattle.std.specs.Str.{chars}
@@ -8,7 +8,7 @@ use Rattle.decimal_format.specs.declared.grouping.GroupingStrategy.TheVariants.{
 use Rattle.decimal_format.specs.Symbols.{Symbols, digit_text}
 use Rattle.decimal_format.specs.Grouping.{ends_group}
 use Rattle.decimal_format.specs.Formatted.{formatted}
-use Rattle.decimal_format.specs.Reading.{Numeral, AreDigits, numeral_text, IsNumeral, IsWritten, NeedsMemory}
+use Rattle.decimal_format.specs.Reading.{Numeral, AreDigits, numeral_text, IsNumeral, IsWritten}
 
 -- ---- Classes of characters, as in CLDR's lenient parsing.
 
@@ -84,8 +84,3 @@ IsTyped s v text =
 abbrev pub IsTypedNumeral : Symbols → List ℕ → Numeral → Type 0
 IsTypedNumeral s text w =
     IsNumeral s text w ⊎ (((u : Numeral) → ¬ IsNumeral s text u) × IsLenientNumeral s (normalized s text) w)
-
--- the normal form has more than 64 bytes, or the value needs memory
-abbrev pub TypedNeedsMemory : ℕ → Symbols → List ℕ → Type 0
-TypedNeedsMemory inline s text =
-    (64 < length (normalized s text)) ⊎ ((v : Decimal) × IsTyped s v text × NeedsMemory inline v.absolute)

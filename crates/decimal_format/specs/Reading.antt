@@ -1,8 +1,10 @@
 -- The texts that are read.
-use Rattle.std.specs.Prelude.{◌≡◌, ℕ, ◌-◌, ◌<◌, ◌⊎◌, Bool, false, if◌then◌else◌, List, [], ◌∷◌, ◌++◌, length, pos}
+use Rattle.std.specs.Prelude.{◌≡◌, ℕ, ◌-◌, ◌<◌, ◌⊎◌, ◌↔◌, Bool, false, if◌then◌else◌, List, [], ◌∷◌, ◌++◌, length, pos, Result, Err, IfOk, MatchResult}
 use Rattle.std.specs.Int.Digits.{AllBelowBase}
 use Rattle.decimal_digits.specs.Number.{size}
-use Rattle.decimal_unsigned.specs.Unsigned.{Unsigned}
+use Rattle.decimal_unsigned.specs.Unsigned.{Unsigned, IsValue}
+use Rattle.decimal_unsigned.specs.declared.error.ParseError.{ParseError}
+use Rattle.decimal_unsigned.specs.declared.error.ParseError.TheVariants.{Limit, Syntax, Memory}
 use Rattle.fixed_decimal.specs.Decimal.{Decimal}
 use Rattle.fixed_decimal.specs.declared.variations.Sign.{Sign}
 use Rattle.decimal_format.specs.declared.grouping.GroupingStrategy.{GroupingStrategy}
@@ -65,3 +67,17 @@ IsBeyondLimits w = (32768 < length w.whole) ⊎ (32768 < length w.fraction)
 -- the value has more digits than these, from the first to the last nonzero one
 abbrev pub NeedsMemory : ℕ → Unsigned → Type 0
 NeedsMemory inline v = inline < size v.number
+
+-- ---- What a reader returns.
+
+-- of a text that is that of these numerals and of these decimals: its value; `Syntax` exactly if it is that of no
+-- numeral; `Limit` exactly if it has too many digits; or `Memory`, where its value has more than `inline` digits
+pub record IsRead (inline : ℕ) (is_numeral : Numeral → Type 0) (is_written : Decimal → Type 0) (result : Result
+    Decimal ParseError) : Type 0 where
+  pub found : IfOk result (λ v. IsValue v.absolute × is_written v)
+  pub reads_back : (v : Decimal) → IsValue v.absolute → is_written v → MatchResult result (λ w. w ≡ v) (λ e. e
+      ≡ Memory)
+  pub syntax : (result ≡ Err Syntax) ↔ ((w : Numeral) → ¬ is_numeral w)
+  pub limit : (result ≡ Err Limit) ↔ ((w : Numeral) × is_numeral w × IsBeyondLimits w)
+  pub memory : result ≡ Err Memory → (v : Decimal) × IsValue v.absolute × is_written v
+      × NeedsMemory inline v.absolute

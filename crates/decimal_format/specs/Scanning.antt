@@ -1,18 +1,19 @@
 -- Private: used only in the contracts of private functions.
 -- What the steps of a scan find.
-use Rattle.std.specs.Prelude.{◌≡◌, ◌≢◌, ℕ, ◌<◌, ◌≤◌, ◌↔◌, Bool, true, false, ◌&&◌, List, [], ◌++◌, if◌then◌else◌, length, Result, Err, IfOk, MatchResult}
+use Rattle.std.specs.Prelude.{◌≡◌, ◌≢◌, ℕ, ◌<◌, ◌≤◌, ◌↔◌, Bool, true, false, ◌&&◌, List, [], ◌++◌, if◌then◌else◌, length, take, drop, Result, Err, IfOk}
 use Rattle.std.specs.Int.Digits.{AllBelowBase}
 use Rattle.decimal_digits.specs.Number.{size}
 use Rattle.decimal_unsigned.specs.DigitValues.{IsBcd, value_of_first}
-use Rattle.decimal_unsigned.specs.Unsigned.{Unsigned, IsValue}
+use Rattle.decimal_unsigned.specs.Unsigned.{Unsigned}
 use Rattle.decimal_unsigned.specs.declared.error.ParseError.{ParseError}
 use Rattle.decimal_unsigned.specs.declared.error.ParseError.TheVariants.{Limit, Syntax, Memory}
 use Rattle.fixed_decimal.specs.Decimal.{Decimal}
 use Rattle.decimal_format.specs.declared.reader.Scanned.{Scanned}
+use Rattle.decimal_format.specs.declared.reader.lenient.Normalized.{Normalized}
 use Rattle.decimal_format.specs.Collecting.{Collected, CollectsDigits}
 use Rattle.decimal_format.specs.Symbols.{Symbols, digit_text}
-use Rattle.decimal_format.specs.Reading.{Numeral, IsNumeral, IsBeyondLimits, IsWritten, NeedsMemory, digits_text}
-use Rattle.decimal_format.specs.Lenient.{IsLenientNumeral, IsLenientlyWritten}
+use Rattle.decimal_format.specs.Reading.{Numeral, IsNumeral, IsBeyondLimits, IsWritten, digits_text}
+use Rattle.decimal_format.specs.Lenient.{normalized, IsLenientNumeral, IsLenientlyWritten}
 
 -- ---- Groups.
 
@@ -34,6 +35,12 @@ pub record SkipsSeparator (s : Symbols) (possible : Bool) (bytes rest : List ℕ
 pub record EndsInteger (s : Symbols) (tail : List ℕ) : Type 0 where
   pub digit : (d : ℕ) (rest : List ℕ) → d < 10 → tail ≢ digit_text s d ++ rest
   pub grouping : (rest : List ℕ) → tail ≢ s.grouping ++ rest
+
+-- ---- Normal forms.
+
+-- the bytes of a normal form that are left to read
+abbrev pub left_of : Normalized → List ℕ
+left_of n = take n.left (drop n.read (normalized n.symbols.now n.text.now))
 
 -- ---- Digits.
 
@@ -96,16 +103,6 @@ IsNumeralBy false s bytes w = IsLenientNumeral s bytes w
 abbrev pub IsWrittenBy : Bool → Symbols → List ℕ → Decimal → Type 0
 IsWrittenBy true s bytes v = IsWritten s v bytes
 IsWrittenBy false s bytes v = IsLenientlyWritten s v bytes
-
--- what a reader returns
-pub record IsRead (inline : ℕ) (is_numeral : Numeral → Type 0) (is_written : Decimal → Type 0) (result : Result
-    Decimal ParseError) : Type 0 where
-  pub found : IfOk result is_written
-  pub reads_back : (v : Decimal) → IsValue v.absolute → is_written v → MatchResult result (λ w. w ≡ v) (λ e. e
-      ≡ Memory)
-  pub syntax : (result ≡ Err Syntax) ↔ ((w : Numeral) → ¬ is_numeral w)
-  pub limit : (result ≡ Err Limit) ↔ ((w : Numeral) × is_numeral w × IsBeyondLimits w)
-  pub memory : result ≡ Err Memory → (v : Decimal) × is_written v × NeedsMemory inline v.absolute
 
 -- the result is the value of the digits; `Limit` exactly if there are too many digits; or `Memory`, for a value of more
 -- than `inline` digits

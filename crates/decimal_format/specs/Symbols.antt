@@ -61,7 +61,7 @@ pub record AreValid (s : Symbols) : Type 0 where
   pub plus_prefix_in : length s.plus.prefix ≤ 255
   pub plus_suffix_in : length s.plus.suffix ≤ 255
 
--- what an error says of the symbols
+-- the field that an error names is wrong
 abbrev pub Rejects : SymbolsError → Symbols → Type 0
 Rejects DigitWidths s = ¬ HaveWidth s.digits (length (digit_text s 0))
 Rejects DecimalTooLong s = 255 < length s.decimal
@@ -70,3 +70,17 @@ Rejects MinusPrefixTooLong s = 255 < length s.minus.prefix
 Rejects MinusSuffixTooLong s = 255 < length s.minus.suffix
 Rejects PlusPrefixTooLong s = 255 < length s.plus.prefix
 Rejects PlusSuffixTooLong s = 255 < length s.plus.suffix
+
+-- the place of the field among the arguments of `new`
+abbrev pub field_index : SymbolsError → ℕ
+field_index DigitWidths = 0
+field_index DecimalTooLong = 1
+field_index GroupingTooLong = 2
+field_index MinusPrefixTooLong = 3
+field_index MinusSuffixTooLong = 4
+field_index PlusPrefixTooLong = 5
+field_index PlusSuffixTooLong = 6
+
+-- no field before that of an error is wrong
+abbrev pub IsFirst : SymbolsError → Symbols → Type 0
+IsFirst e s = (other : SymbolsError) → field_index other < field_index e → ¬ Rejects other s

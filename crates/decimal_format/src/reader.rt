@@ -1,32 +1,32 @@
 //! Reading of formatted decimals.
 ghost use Rattle.std.specs.Prelude.{◌≡◌, ◌≢◌, ℕ, ◌≤◌, List, [], ◌++◌, length, ◌<◌, Bool, true, false, ◌↔◌, IfSome, IfNone, IfOk, MatchOption, MatchResult, IsTrue, Err};
 ghost use Rattle.std.specs.Int.Digits.{AllBelowBase};
-ghost use Rattle.decimal_unsigned.specs.Unsigned.{IsValue};
-ghost use Rattle.fixed_decimal.specs.Decimal.{Decimal};
 ghost use Rattle.decimal_format.specs.Ascii.{ascii_digits};
 ghost use Rattle.decimal_format.specs.Grouping.{ends_group};
 ghost use Rattle.decimal_format.specs.Readable.{IsReadable};
-ghost use Rattle.decimal_format.specs.Reading.{Numeral, AreDigits, digits_text, fraction_text, IsNumeral, IsBeyondLimits, IsWritten, NeedsMemory};
-ghost use Rattle.decimal_format.specs.Lenient.{IsLenientNumeral, IsLenientlyWritten};
-ghost use Rattle.decimal_format.specs.Scanning.{separated_if, SkipsSeparator, EndsInteger, ReadsDigits, ReadsAs, HasCounts, IsValueOf, IsNumeralBy, IsWrittenBy, IsRead};
+ghost use Rattle.decimal_format.specs.Reading.{Numeral, AreDigits, digits_text, fraction_text, IsNumeral, IsBeyondLimits, IsWritten, IsRead};
+ghost use Rattle.decimal_format.specs.Lenient.{IsLenientNumeral};
+ghost use Rattle.decimal_format.specs.Scanning.{separated_if, SkipsSeparator, EndsInteger, ReadsDigits, ReadsAs, HasCounts, IsValueOf, IsNumeralBy, IsWrittenBy};
 ghost use Rattle.decimal_format.specs.Collecting.{Collects, IsFresh};
 
 mod codes;
 mod digit_collector;
+pub(crate) mod input;
 mod lenient;
 
 use crate::symbols::DecimalSymbols;
 use codes::cut;
 use digit_collector::{DigitCollector, MAX_DIGITS, MAX_RUN};
 use fixed_decimal::{DigitStore, ParseError, Sign, Signed, UnsignedOver};
+use input::Input;
 use std::alloc::Global;
 
 /// What a text says: a sign, and the numbers of its digits.
 #[derive(Clone, Copy)]
 struct Scanned {
     sign: Sign,
-    integer_digits: usize,
-    fraction_digits: usize,
+    integer_digits: u128,
+    fraction_digits: u128,
     /// Whether the text has all grouping separators, or none.
     is_strict: bool,
 }
@@ -36,7 +36,7 @@ impl Scanned {
     fn is_beyond_limits(&self) -> bool
         ensures { (w : Numeral) → HasCounts self.now w → IsTrue result ↔ IsBeyondLimits w }
     {
-        self.integer_digits > MAX_DIGITS || self.fraction_digits > MAX_DIGITS
+        self.integer_digits > MAX_DIGITS as u128 || self.fraction_digits > MAX_DIGITS as u128
     }
 
     /// Returns the value of the digits.
@@ -59,8 +59,8 @@ impl Scanned {
 
 impl<'a> DecimalSymbols<'a> {
     /// Returns whether a text begins with a grouping separator, where one is possible, and what follows it.
-    fn skip_separator<'t>(&self, possible: bool, text: &'t [u8]) -> (bool, &'t [u8])
-        ensures { SkipsSeparator self.now possible text.now result.1.now result.0 }
+    fn skip_separator<T: Input>(&self, possible: bool, text: T) -> (bool, T)
+        ensures { SkipsSeparator self.now possible (T.bytes text) (T.bytes result.1) result.0 }
     {
         if !possible {
             return (false, text);
@@ -73,18 +73,21 @@ impl<'a> DecimalSymbols<'a> {
 
     /// Counts the digits at the start of a text, with grouping separators anywhere among them.
     #[inline]
-    fn count_digits<const ASCII: bool>(&self, text: &[u8]) -> usize
+    fn count_digits<const ASCII: bool, T: Input>(&self, text: T) -> u128
         requires readable { IsReadable self.now }
         requires ascii { ASCII ≡ true → self.now.digits ≡ ascii_digits }
         ensures { (separated : ℕ → Bool) (ds tail : List ℕ) → AllBelowBase 10 ds → EndsInteger self.now tail
-            → text.now ≡ digits_text self.now separated ds ++ tail → result ≡ length ds }
+            → T.bytes text ≡ digits_text self.now separated ds ++ tail → result ≡ length ds }
     {
+        if text.is_empty() {
+            return 0;
+        }
         let mut rest = text;
         let mut count = 0;
         loop {
-            if let Some((_, after)) = self.next_digit::<ASCII>(rest) {
+            if let Some(next) = self.next_digit::<ASCII, T>(rest) {
                 count += 1;
-                rest = after;
+                rest = next.1;
             } else if let Some(after) = cut(rest, self.grouping_separator().as_bytes()) {
                 rest = after;
             } else {
@@ -96,37 +99,37 @@ impl<'a> DecimalSymbols<'a> {
     /// Reads the given number of digits, with separators at any ends of groups, and returns whether all separators are
     /// there, or none, and what follows the digits.
     #[inline]
-    fn read_digits<'t, const ASCII: bool, D: DigitStore>(
+    fn read_digits<const ASCII: bool, T: Input, D: DigitStore>(
         &self,
-        count: usize,
-        text: &'t [u8],
+        count: u128,
+        text: T,
         digits: &mut DigitCollector<D>,
-    ) -> Option<(bool, &'t [u8])>
+    ) -> Option<(bool, T)>
         requires readable { IsReadable self.now }
         requires ascii { ASCII ≡ true → self.now.digits ≡ ascii_digits }
         requires collecting { (n : ℕ) × (ds : List ℕ) × Collects D.L n digits.old ds }
         ensures found { IfSome result (λ r. ReadsDigits self.now (ends_group self.now.sizes) count
-            text.now r.1.now r.0 digits.old digits.new) }
+            (T.bytes text) (T.bytes r.1) r.0 digits.old digits.new) }
         ensures unique { IfSome result (λ r. (chosen : ℕ → Bool) (ds tail : List ℕ) → length ds ≡ count
             → AllBelowBase 10 ds
-            → text.now ≡ digits_text self.now (separated_if (ends_group self.now.sizes) chosen) ds ++ tail
-            → r.1.now ≡ tail) }
+            → T.bytes text ≡ digits_text self.now (separated_if (ends_group self.now.sizes) chosen) ds ++ tail
+            → T.bytes r.1 ≡ tail) }
         ensures none { IfNone result ((chosen : ℕ → Bool) (ds tail : List ℕ) → length ds ≡ count
             → AllBelowBase 10 ds
-            → text.now ≢ digits_text self.now (separated_if (ends_group self.now.sizes) chosen) ds ++ tail) }
+            → T.bytes text ≢ digits_text self.now (separated_if (ends_group self.now.sizes) chosen) ds ++ tail) }
     {
         let mut rest = text;
         let mut left = count;
         let mut all = true;
         let mut none = true;
         while left > 0 {
-            let (most, possible) = self.sizes().run_to_end(left - 1, MAX_RUN);
-            let (number, found, after) = self.read_run::<ASCII>(most, rest);
+            let (most, possible) = self.sizes().next_run(left - 1, MAX_RUN);
+            let (number, found, after) = self.read_run::<ASCII, T>(most, rest);
             if found < most {
                 return None;
             }
             digits.push_run(number, found);
-            left -= most;
+            left -= most as u128;
             let (separated, next) = self.skip_separator(possible, after);
             all &= separated == possible;
             none &= !separated;
@@ -135,30 +138,33 @@ impl<'a> DecimalSymbols<'a> {
         Some((all | none, rest))
     }
 
-    /// Reads the digits of a text that has nothing else, and returns their number.
+    /// Reads the digits of a text that has nothing else, at least one, and returns their number.
     #[inline]
-    fn read_last_digits<const ASCII: bool, D: DigitStore>(
+    fn read_last_digits<const ASCII: bool, T: Input, D: DigitStore>(
         &self,
-        text: &[u8],
+        text: T,
         digits: &mut DigitCollector<D>,
-    ) -> Option<usize>
+    ) -> Option<u128>
         requires readable { IsReadable self.now }
         requires ascii { ASCII ≡ true → self.now.digits ≡ ascii_digits }
         requires collecting { (n : ℕ) × (ds : List ℕ) × Collects D.L n digits.old ds }
-        ensures found { IfSome result (λ count. ReadsAs (digits_text self.now (λ _. false)) text.now count digits.old
-            digits.new) }
-        ensures none { IfNone result ((ds : List ℕ) → AllBelowBase 10 ds
-            → text.now ≢ digits_text self.now (λ _. false) ds) }
+        ensures found { IfSome result (λ count. (T.bytes text ≢ [])
+            × ReadsAs (digits_text self.now (λ _. false)) (T.bytes text) count digits.old digits.new) }
+        ensures none { IfNone result ((ds : List ℕ) → AllBelowBase 10 ds → 0 < length ds
+            → T.bytes text ≢ digits_text self.now (λ _. false) ds) }
     {
+        if text.is_empty() {
+            return None;
+        }
         let mut rest = text;
         let mut count = 0;
         while !rest.is_empty() {
-            let (number, found, after) = self.read_run::<ASCII>(MAX_RUN, rest);
+            let (number, found, after) = self.read_run::<ASCII, T>(MAX_RUN, rest);
             if found == 0 {
                 return None;
             }
             digits.push_run(number, found);
-            count += found;
+            count += found as u128;
             rest = after;
         }
         Some(count)
@@ -166,51 +172,49 @@ impl<'a> DecimalSymbols<'a> {
 
     /// Reads the decimal separator and the fraction digits, if there are any, and returns their number.
     #[inline]
-    fn read_fraction<const ASCII: bool, D: DigitStore>(
+    fn read_fraction<const ASCII: bool, T: Input, D: DigitStore>(
         &self,
-        text: &[u8],
+        text: T,
         digits: &mut DigitCollector<D>,
-    ) -> Option<usize>
+    ) -> Option<u128>
         requires readable { IsReadable self.now }
         requires ascii { ASCII ≡ true → self.now.digits ≡ ascii_digits }
         requires collecting { (n : ℕ) × (ds : List ℕ) × Collects D.L n digits.old ds }
-        ensures found { IfSome result (λ count. ReadsAs (fraction_text self.now) text.now count digits.old digits.new) }
-        ensures none { IfNone result ((ds : List ℕ) → AllBelowBase 10 ds → text.now ≢ fraction_text self.now ds) }
+        ensures found { IfSome result (λ count. ReadsAs (fraction_text self.now) (T.bytes text) count digits.old
+            digits.new) }
+        ensures none { IfNone result ((ds : List ℕ) → AllBelowBase 10 ds → T.bytes text ≢ fraction_text self.now ds) }
     {
         if text.is_empty() {
             return Some(0);
         }
         let fraction = cut(text, self.decimal_separator().as_bytes())?;
-        if fraction.is_empty() {
-            return None;
-        }
-        self.read_last_digits::<ASCII, D>(fraction, digits)
+        self.read_last_digits::<ASCII, T, D>(fraction, digits)
     }
 
     /// Finds the sign and the digits of a text, with separators at any ends of groups; `ASCII` only for ASCII
     /// digits.
     #[inline]
-    fn scan_by<const ASCII: bool, D: DigitStore>(
+    fn scan_by<const ASCII: bool, T: Input, D: DigitStore>(
         &self,
-        text: &[u8],
+        text: T,
         digits: &mut DigitCollector<D>,
     ) -> Option<Scanned>
         requires readable { IsReadable self.now }
         requires ascii { ASCII ≡ true → self.now.digits ≡ ascii_digits }
         requires fresh { IsFresh D.L digits.old }
-        ensures found { IfSome result (λ r. (w : Numeral) × IsLenientNumeral self.now text.now w × HasCounts r w
+        ensures found { IfSome result (λ r. (w : Numeral) × IsLenientNumeral self.now (T.bytes text) w × HasCounts r w
             × Collects D.L (length w.whole) digits.new (w.whole ++ w.fraction)
-            × (r.is_strict ≡ true ↔ IsNumeral self.now text.now w)) }
-        ensures none { IfNone result ((w : Numeral) → ¬ IsLenientNumeral self.now text.now w) }
+            × (r.is_strict ≡ true ↔ IsNumeral self.now (T.bytes text) w)) }
+        ensures none { IfNone result ((w : Numeral) → ¬ IsLenientNumeral self.now (T.bytes text) w) }
     {
         let (sign, number) = self.split_sign(text)?;
-        let integer_digits = self.count_digits::<ASCII>(number);
+        let integer_digits = self.count_digits::<ASCII, T>(number);
         if integer_digits == 0 {
             return None;
         }
         digits.begin(integer_digits);
-        let (is_strict, rest) = self.read_digits::<ASCII, D>(integer_digits, number, digits)?;
-        let fraction_digits = self.read_fraction::<ASCII, D>(rest, digits)?;
+        let (is_strict, rest) = self.read_digits::<ASCII, T, D>(integer_digits, number, digits)?;
+        let fraction_digits = self.read_fraction::<ASCII, T, D>(rest, digits)?;
         Some(Scanned {
             sign,
             integer_digits,
@@ -221,30 +225,34 @@ impl<'a> DecimalSymbols<'a> {
 
     /// Finds the sign and the digits of a text, with separators at any ends of groups.
     #[inline]
-    fn scan<D: DigitStore>(&self, text: &[u8], digits: &mut DigitCollector<D>) -> Option<Scanned>
+    fn scan<T: Input, D: DigitStore>(
+        &self,
+        text: T,
+        digits: &mut DigitCollector<D>,
+    ) -> Option<Scanned>
         requires readable { IsReadable self.now }
         requires fresh { IsFresh D.L digits.old }
-        ensures found { IfSome result (λ r. (w : Numeral) × IsLenientNumeral self.now text.now w × HasCounts r w
+        ensures found { IfSome result (λ r. (w : Numeral) × IsLenientNumeral self.now (T.bytes text) w × HasCounts r w
             × Collects D.L (length w.whole) digits.new (w.whole ++ w.fraction)
-            × (r.is_strict ≡ true ↔ IsNumeral self.now text.now w)) }
-        ensures none { IfNone result ((w : Numeral) → ¬ IsLenientNumeral self.now text.now w) }
+            × (r.is_strict ≡ true ↔ IsNumeral self.now (T.bytes text) w)) }
+        ensures none { IfNone result ((w : Numeral) → ¬ IsLenientNumeral self.now (T.bytes text) w) }
     {
         if self.has_ascii_digits() {
-            return self.scan_by::<true, D>(text, digits);
+            return self.scan_by::<true, T, D>(text, digits);
         }
-        self.scan_by::<false, D>(text, digits)
+        self.scan_by::<false, T, D>(text, digits)
     }
 
     /// Reads a decimal with separators at any of the ends of groups; or only with all of them, or none.
-    fn read_groups<D: DigitStore>(
+    fn read_groups<T: Input, D: DigitStore>(
         &self,
         alloc: Global,
-        text: &[u8],
+        text: T,
         is_strict: bool,
     ) -> Result<Signed<UnsignedOver<D>>, ParseError>
         requires { IsReadable self.now }
-        ensures { IsRead D.L (IsNumeralBy is_strict self.now text.now)
-            (IsWrittenBy is_strict self.now text.now) result }
+        ensures { IsRead D.L (IsNumeralBy is_strict self.now (T.bytes text))
+            (IsWrittenBy is_strict self.now (T.bytes text)) result }
     {
         let mut digits = DigitCollector::new(alloc);
         let Some(scanned) = self.scan(text, &mut digits) else {
@@ -273,34 +281,8 @@ impl<'a> DecimalSymbols<'a> {
         text: &[u8],
     ) -> Result<Signed<UnsignedOver<D>>, ParseError>
         requires { IsReadable self.now }
-        ensures found { IfOk result (λ v. IsWritten self.now v text.now) }
-        ensures reads_back { (v : Decimal) → IsValue v.absolute → IsWritten self.now v text.now
-            → MatchResult result (λ w. w ≡ v) (λ e. e ≡ ParseError.Memory) }
-        ensures syntax { (result ≡ Err ParseError.Syntax) ↔ ((w : Numeral) → ¬ IsNumeral self.now text.now w) }
-        ensures limit { (result ≡ Err ParseError.Limit)
-            ↔ ((w : Numeral) × IsNumeral self.now text.now w × IsBeyondLimits w) }
-        ensures memory { (result ≡ Err ParseError.Memory)
-            → (v : Decimal) × IsWritten self.now v text.now × NeedsMemory D.L v.absolute }
+        ensures { IsRead D.L (IsNumeral self.now text.now) (λ v. IsWritten self.now v text.now) result }
     {
         self.read_groups(alloc, text, true)
-    }
-
-    /// Reads a decimal with separators at any of the ends of groups.
-    pub(crate) fn read_any_groups<D: DigitStore>(
-        &self,
-        alloc: Global,
-        text: &[u8],
-    ) -> Result<Signed<UnsignedOver<D>>, ParseError>
-        requires { IsReadable self.now }
-        ensures found { IfOk result (λ v. IsLenientlyWritten self.now v text.now) }
-        ensures reads_back { (v : Decimal) → IsValue v.absolute → IsLenientlyWritten self.now v text.now
-            → MatchResult result (λ w. w ≡ v) (λ e. e ≡ ParseError.Memory) }
-        ensures syntax { (result ≡ Err ParseError.Syntax) ↔ ((w : Numeral) → ¬ IsLenientNumeral self.now text.now w) }
-        ensures limit { (result ≡ Err ParseError.Limit)
-            ↔ ((w : Numeral) × IsLenientNumeral self.now text.now w × IsBeyondLimits w) }
-        ensures memory { (result ≡ Err ParseError.Memory)
-            → (v : Decimal) × IsLenientlyWritten self.now v text.now × NeedsMemory D.L v.absolute }
-    {
-        self.read_groups(alloc, text, false)
     }
 }

@@ -79,7 +79,7 @@ fn check_length(text: &str, error: SymbolsError) -> Result<(), SymbolsError>
 impl<'a> DecimalSymbols<'a> {
     ghost use Rattle.fixed_decimal.specs.Decimal.{Decimal};
     ghost use Rattle.fixed_decimal.specs.DecimalText.{decimal_text};
-    ghost use Rattle.decimal_format.specs.Symbols.{symbols, affixes, digit_text, sign_affixes, AreValid, Rejects};
+    ghost use Rattle.decimal_format.specs.Symbols.{symbols, affixes, digit_text, sign_affixes, AreValid, Rejects, IsFirst};
     ghost use Rattle.decimal_format.specs.Ascii.{ascii_digits, ascii_symbols};
     ghost use Rattle.decimal_format.specs.Readable.{IsReadable};
 
@@ -101,6 +101,9 @@ impl<'a> DecimalSymbols<'a> {
             (affixes plus.entry.prefix.now plus.entry.suffix.now) sizes) }
         ensures valid { IfOk result (λ s. AreValid s) }
         ensures rejects { IfErr result (λ e. Rejects e (symbols digits decimal.entry.now grouping.entry.now
+            (affixes minus.entry.prefix.now minus.entry.suffix.now)
+            (affixes plus.entry.prefix.now plus.entry.suffix.now) sizes)) }
+        ensures first { IfErr result (λ e. IsFirst e (symbols digits decimal.entry.now grouping.entry.now
             (affixes minus.entry.prefix.now minus.entry.suffix.now)
             (affixes plus.entry.prefix.now plus.entry.suffix.now) sizes)) }
     {
@@ -149,6 +152,13 @@ impl<'a> DecimalSymbols<'a> {
                 min_grouping: 1,
             },
         }
+    }
+
+    /// The digits have one width, and no other text has more than 255 bytes.
+    pub(crate) fn are_valid(&self)
+        ensures { AreValid self.now }
+    {
+        let _ = &self.minus;
     }
 
     /// Returns the character of a digit. Requires a digit below 10.

@@ -10,6 +10,7 @@ use Rattle.std.proofs.lemmas.List.{drop-drop, drop_all, at_drop_more}
 use Rattle.std.proofs.lemmas.List.Sums.{prefix_len-le-length, prefix_len-drop_no}
 use Rattle.std.proofs.lemmas.Int.Digits.{number_more as number_more_digits, all_below_base_from_digits}
 use Rattle.decimal_digits.specs.Nibbles.{digits_in, leading_bytes, word_nibbles}
+use Rattle.decimal_digits.proofs.TrailingNibbles.{clear_nibble, some_nibble}
 use Rattle.decimal_digits.proofs.Words.{zeros_of_digits}
 use Rattle.decimal_unsigned.proofs.Common.{replicate}
 use Rattle.decimal_digits.specs.Ascii.{decimal_point}
@@ -106,29 +107,7 @@ middle_number ds k number zeros start end below is n few z =
     (omega arith) in
     ap (λ x. x % 2 ^ (4 * k)) moved ∙ mod-eq_of_lt lt
 
--- ---- The bits of a number and its digits.
--- bit 4 * j + i of a number is bit i of its nibble j
-bit_of : (n j i : ℕ) → bit_at n (4 * j + i) ≡ n / 16 ^ j / 2 ^ i % 2
-bit_of n j i = grind (arith, pow-add, hex_pow, div-div-eq-div-mul)
-
--- four bits that are 0 are the digit 0
-clear_digit : (n j : ℕ) → ((i : ℕ) → i < 4 → bit_at n (4 * j + i) ≡ 0) → n / 16 ^ j % 16 ≡ 0
-clear_digit n j h = grind (arith, ints, clamps, nat_tests, common_steps, bit_of)
-
--- a digit with a bit is not 0
-set_digit : (n i : ℕ) → bit_at n i ≡ 1 → 0 < n / 16 ^ (i / 4) % 16
-set_digit n i h = go (n / 16 ^ (i / 4)) (i % 4) (omega arith) (sym (bit_of n (i / 4) (i % 4)) ∙ ap (bit_at n) at ∙ h)
-  where
-    at : 4 * (i / 4) + i % 4 ≡ i
-    at = omega arith
-
-    go : (x r : ℕ) → r < 4 → x / 2 ^ r % 2 ≡ 1 → 0 < x % 16
-    go x zero l e = let f : x / 1 % 2 ≡ 1 = e in omega arith
-    go x (suc zero) l e = let f : x / 2 % 2 ≡ 1 = e in omega arith
-    go x (suc (suc zero)) l e = let f : x / 4 % 2 ≡ 1 = e in omega arith
-    go x (suc (suc (suc zero))) l e = let f : x / 8 % 2 ≡ 1 = e in omega arith
-    go x (suc (suc (suc (suc r)))) l e = absurd (omega arith)
-
+-- ---- The nibbles of a number and its digits.
 -- a digit of a number is a quotient
 digit_is : (ds : List ℕ) (k : ℕ) → AllBelowBase 10 ds → k < length ds
     → get_or ds k 0 ≡ number_from_digits 16 ds / 16 ^ (length ds - 1 - k) % 16
@@ -163,15 +142,15 @@ inner_bits ds n top low below is first above last none =
         within = omega arith;
         before = λ k h.
             at k (len - 1 - k) (omega arith) refl
-            ∙ clear_digit n (len - 1 - k) (λ i l. bit_at_above n (suc top) (4 * (len - 1 - k) + i) above (omega arith));
+            ∙ clear_nibble n (len - 1 - k) (λ i l. bit_at_above n (suc top) (4 * (len - 1 - k) + i) above (omega arith));
         after = λ k h. elim (cases_lt k len) [
           | inl l ↦
               at k (len - 1 - k) l refl
-              ∙ clear_digit n (len - 1 - k) (λ i m. none (4 * (len - 1 - k) + i) (omega arith))
+              ∙ clear_nibble n (len - 1 - k) (λ i m. none (4 * (len - 1 - k) + i) (omega arith))
           | inr l ↦ get_or-eq_default ds 0 l
         ];
-        front = rw (at (len - (top / 4 + 1)) (top / 4) (omega arith) (omega arith)) (set_digit n top first);
-        back = rw (at (len - low / 4 - 1) (low / 4) (omega arith) (omega arith)) (set_digit n low last);
+        front = rw (at (len - (top / 4 + 1)) (top / 4) (omega arith) (omega arith)) (some_nibble n top first);
+        back = rw (at (len - low / 4 - 1) (low / 4) (omega arith) (omega arith)) (some_nibble n low last);
       },
     )
 
@@ -450,7 +429,7 @@ module _ (whole fraction number : ℕ) (fits : number < 2 ^ 64) (some : 0 < numb
       _ _ refl refl (λ es l few below e. zeros_of_digits es _ _ l few below e)
 
 -- ---- The value of a plain text.
-module _ (text : List ℕ) (p : PlainText) (plain : IsPlainText text p) where
+module _ (text : List ℕ) (p : PlainText ℕ) (plain : IsPlainText text p) where
   abbrev w : Literal
   w = plain_parts text p.whole
 
@@ -473,9 +452,6 @@ module _ (text : List ℕ) (p : PlainText) (plain : IsPlainText text p) where
 
   pub number_fits : p.number < 2 ^ 128
   number_fits = rw plain.number (digits_fit (w.whole ++ w.fraction) digits plain.few)
-
-  pub number_fits_64 : p.whole + p.fraction ≤ 16 → p.number < 2 ^ 64
-  number_fits_64 few = grind (arith, ints, clamps, nat_tests, common_steps, plain_bcd, sixteen_fit)
 
   -- reading gives their value
   pub plain_read : read text ≡ Ok (value_of_first p.whole plain_digits)

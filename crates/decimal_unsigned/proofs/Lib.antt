@@ -5,6 +5,7 @@ pub mod Ranges
 pub mod Shifts
 pub mod Unique
 pub mod Shown
+pub mod ShownDigits
 pub mod Concatenations
 pub mod FirstLast
 pub mod ConcatenationLaws

@@ -3,8 +3,6 @@ use Rattle.std.specs.Prelude.{ℕ, List, codes}
 use Rattle.decimal_digits.specs.ErrorText.{limit_text, memory_text}
 use Rattle.decimal_unsigned.specs.declared.error.ParseError.{ParseError}
 use Rattle.decimal_unsigned.specs.declared.error.ParseError.TheVariants.{Limit, Syntax, Memory}
-use Rattle.decimal_unsigned.specs.declared.error.ConcatenateError.{ConcatenateError}
-use Rattle.decimal_unsigned.specs.declared.error.ConcatenateError.TheVariants as concatenate
 
 -- the message of a parse error
 abbrev pub error_text : ParseError → List ℕ
@@ -15,8 +13,3 @@ error_text Memory = memory_text
 -- the message for two numbers that overlap
 abbrev pub overlap_text : List ℕ
 overlap_text = codes "The numbers overlap"
-
--- the message of the error of a concatenation
-abbrev pub concatenate_error_text : {T : Type 0} → ConcatenateError T → List ℕ
-concatenate_error_text (concatenate.Overlap x) = overlap_text
-concatenate_error_text (concatenate.Memory x) = memory_text

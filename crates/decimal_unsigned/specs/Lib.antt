@@ -14,6 +14,7 @@ pub mod ToInteger
 pub mod DigitValues
 -- Private: used only in the contracts of private functions and in the models of `UnsignedOver` and `Scan`.
 pub mod Stored
+pub mod ShownDigits
 pub mod Parts
 pub mod PlainTexts
 pub mod ScannedDigits

@@ -46,7 +46,7 @@ abbrev pub plain_parts : List ℕ → ℕ → Literal
 plain_parts text whole = record { whole = take whole text; fraction = drop (whole + 1) text; exponent = None }
 
 -- the text is up to 32 digits, with or without a decimal point, and these are their numbers and their number in base 16
-pub record IsPlainText (text : List ℕ) (p : PlainText) : Type 0 where
+pub record IsPlainText (text : List ℕ) (p : PlainText ℕ) : Type 0 where
   pub parts : parts_of text ≡ Some (plain_parts text p.whole)
   pub whole : length (take p.whole text) ≡ p.whole
   pub fraction : length (drop (p.whole + 1) text) ≡ p.fraction

@@ -1,5 +1,5 @@
 -- The integer of a number.
-use Rattle.std.specs.Prelude.{ℕ, ◌/◌, ◌%◌, ◌==◌, nat_lt, if◌then◌else◌, Result, Ok, Err, List, codes, pos}
+use Rattle.std.specs.Prelude.{ℕ, ◌/◌, ◌%◌, ◌==◌, nat_lt, if◌then◌else◌, Result, Ok, Err, pos}
 use Rattle.decimal_digits.specs.Number.{weight}
 use Rattle.decimal_unsigned.specs.declared.error.IntegerError.{IntegerError}
 use Rattle.decimal_unsigned.specs.declared.error.IntegerError.TheVariants.{NotWhole, OutOfRange}
@@ -15,8 +15,3 @@ in_range bound n = if nat_lt n bound then Ok n else Err OutOfRange
 -- the integer, if it is below the bound; `NotWhole` comes before `OutOfRange`
 abbrev pub as_integer : ℕ → ℕ → Result ℕ IntegerError
 as_integer bound number = when_whole number (in_range bound)
-
--- the message of the error of a conversion to an integer
-abbrev pub integer_error_text : IntegerError → List ℕ
-integer_error_text NotWhole = codes "Not a whole number"
-integer_error_text OutOfRange = codes "Integer out of range"

@@ -8,6 +8,7 @@ ghost use Rattle.decimal_unsigned.specs.Unsigned.{zero_value, IsValue};
 mod clone;
 mod compare;
 mod concatenate;
+mod digits;
 mod display;
 mod equality;
 mod from_bcd;
@@ -21,7 +22,8 @@ mod to_integer;
 mod write_digits;
 
 use decimal_digits::digits::{DigitList, DigitStore, PackedDigits};
-use decimal_digits::ops::{index_of, magnitude_of};
+use decimal_digits::ops::{magnitude_of, wrapping_index};
+pub use digits::Digits;
 pub use parse::{Scan, lowest_of, numeral};
 use std::alloc::Global;
 use std::default::MadeWith;
@@ -122,9 +124,11 @@ impl<D: DigitStore> UnsignedOver<D> {
         ensures value { result ≡ digit self.now.number magnitude }
         ensures valid { IsValue self.now }
     {
-        match index_of(self.magnitude, magnitude) {
-            Some(index) if index < self.digits.len() => self.digits.get(index),
-            _ => 0,
+        let index = wrapping_index(self.magnitude, magnitude);
+        if index < self.digits.len() {
+            self.digits.get(index)
+        } else {
+            0
         }
     }
 
@@ -182,18 +186,18 @@ impl<D: DigitStore> UnsignedOver<D> {
         self.digits.len() == 0
     }
 
-    /// Returns the highest magnitude that is shown.
+    /// Returns the highest magnitude that is shown: 2 of `012.340`.
     #[inline]
-    fn highest(&self) -> i16
+    pub fn highest(&self) -> i16
         ensures value { result ≡ self.now.hi }
         ensures valid { IsValue self.now }
     {
         self.hi
     }
 
-    /// Returns the lowest magnitude that is shown.
+    /// Returns the lowest magnitude that is shown: -3 of `012.340`.
     #[inline]
-    fn lowest(&self) -> i16
+    pub fn lowest(&self) -> i16
         ensures value { result ≡ self.now.lo }
         ensures valid { IsValue self.now }
     {

@@ -1,7 +1,6 @@
 //! The errors of values, and their messages.
 ghost use Rattle.std.specs.Prelude.{◌≡◌};
-ghost use Rattle.decimal_unsigned.specs.ErrorText.{error_text, concatenate_error_text};
-ghost use Rattle.decimal_unsigned.specs.ToInteger.{integer_error_text};
+ghost use Rattle.decimal_unsigned.specs.ErrorText.{error_text};
 
 use std::alloc::AllocError;
 use std::error::Error;
@@ -56,7 +55,6 @@ impl From<AllocError> for ParseError {
 }
 
 impl ParseError {
-    /// Returns the message.
     fn message(&self) -> &'static str
         ensures { result.now ≡ error_text self.now }
     {
@@ -95,30 +93,14 @@ pub enum ConcatenateError<T> {
     Memory(T),
 }
 
-impl<T> ConcatenateError<T> {
-    /// Returns the message.
-    fn message(&self) -> &'static str
-        ensures { result.now ≡ concatenate_error_text self.now }
-    {
-        match self {
-            ConcatenateError::Overlap(_) => "The numbers overlap",
-            ConcatenateError::Memory(_) => "Out of memory",
-        }
-    }
-}
-
 impl<T> fmt::Display for ConcatenateError<T> {
-    ghost use Rattle.std.specs.Prelude.{Some};
-    ghost use Rattle.decimal_unsigned.specs.ErrorText.{concatenate_error_text};
-
-    ghost output = { λ e. Some (concatenate_error_text e) };
-
-    ghost styled_output = { λ e _. Some (concatenate_error_text e) };
-
     /// Writes the message, without the arguments: `The numbers overlap`, or `Out of memory`. Format options are
     /// ignored.
     fn fmt<W: fmt::Write>(&self, f: &mut fmt::Formatter<W>) -> fmt::Result {
-        f.write_str(self.message())
+        f.write_str(match self {
+            ConcatenateError::Overlap(_) => "The numbers overlap",
+            ConcatenateError::Memory(_) => ParseError::Memory.message(),
+        })
     }
 }
 
@@ -135,29 +117,13 @@ pub enum IntegerError {
     OutOfRange,
 }
 
-impl IntegerError {
-    /// Returns the message.
-    fn message(&self) -> &'static str
-        ensures { result.now ≡ integer_error_text self.now }
-    {
-        match self {
-            IntegerError::NotWhole => "Not a whole number",
-            IntegerError::OutOfRange => "Integer out of range",
-        }
-    }
-}
-
 impl fmt::Display for IntegerError {
-    ghost use Rattle.std.specs.Prelude.{Some};
-    ghost use Rattle.decimal_unsigned.specs.ToInteger.{integer_error_text};
-
-    ghost output = { λ e. Some (integer_error_text e) };
-
-    ghost styled_output = { λ e _. Some (integer_error_text e) };
-
     /// Writes the message: `Not a whole number` for `NotWhole`. Format options are ignored.
     fn fmt<W: fmt::Write>(&self, f: &mut fmt::Formatter<W>) -> fmt::Result {
-        f.write_str(self.message())
+        f.write_str(match self {
+            IntegerError::NotWhole => "Not a whole number",
+            IntegerError::OutOfRange => "Integer out of range",
+        })
     }
 }
 

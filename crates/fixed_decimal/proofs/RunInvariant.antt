@@ -8,11 +8,11 @@ use Rattle.std.proofs.lemmas.Option.{slice_get-get_or}
 use Rattle.fixed_decimal.specs.Decimal.{Decimal}
 use Rattle.decimal_unsigned.specs.declared.error.ParseError.TheVariants as parse
 use Rattle.fixed_decimal.specs.declared.runs.Call.{Call}
-use Rattle.fixed_decimal.specs.declared.runs.RunError.{RunError}
-use Rattle.fixed_decimal.specs.declared.runs.RunError.TheVariants.{Start, Operand, Overlap, Limit, Memory, Sink}
+use Rattle.fixed_decimal.specs.declared.runs.CallError.{CallError}
+use Rattle.fixed_decimal.specs.declared.runs.CallError.TheVariants.{Operand, Overlap, Limit, Memory}
 use Rattle.fixed_decimal.specs.Outcome.{OutcomeError, step, after_calls}
-use Rattle.fixed_decimal.specs.DecimalText.{and_then}
-use Rattle.fixed_decimal.specs.Errors.{IsReached}
+use Rattle.fixed_decimal.specs.DecimalText.{read_decimal, and_then}
+use Rattle.fixed_decimal.specs.Errors.{IsReached, run_error, RunFails}
 use Rattle.fixed_decimal.specs.Calls.{CallFails, CallsFail, call_number}
 
 and_then-Ok : (r : Result Decimal OutcomeError) → and_then r (λ w. Ok w) ≡ r
@@ -60,35 +60,35 @@ module _ {first v : Decimal} {calls : List Call} {at : ℕ} (i : IsAt first call
   pub continues : (w : Decimal) → step at v (get_or calls at d) ≡ Ok w → IsAt first calls (at + 1) w
   continues w s = record { before = before_next w s; rest = rest_next w s }
 
-  stops : (e : OutcomeError) → step at v (get_or calls at d) ≡ Err e → after_calls 0 first calls ≡ Err e
-  stops e s = sym i.rest ∙ next ∙ ap (λ r. and_then r (λ u. after_calls (at + 1) u (drop (at + 1) calls))) s
+  stops : (k : ℕ) (e : OutcomeError) → k ≡ at → step k v (get_or calls at d) ≡ Err e → after_calls 0 first calls ≡ Err e
+  stops k e same s =
+      sym i.rest ∙ next
+      ∙ ap (λ r. and_then r (λ u. after_calls (at + 1) u (drop (at + 1) calls)))
+      (ap (λ n. step n v (get_or calls at d)) (sym same) ∙ s)
 
-  next_call : IsReached first calls at v (get_or calls at d)
-  next_call = record { before = i.before; next_call = slice_get-get_or calls at d h }
+  next_call : (k : ℕ) → k ≡ at → IsReached first calls k v (get_or calls at d)
+  next_call k same = rw same (record { before = i.before; next_call = slice_get-get_or calls at d h })
 
   -- an error of this call is one of the calls
-  pub fails_with : (held : ℕ) (e : RunError) → CallFails held e at v (get_or calls at d) → CallsFail held e first calls
-  fails_with held (Operand k parse.Limit) r = rw r.0 (stops _ r.1)
-  fails_with held (Operand k parse.Syntax) r = rw r.0 (stops _ r.1)
-  fails_with held (Operand k parse.Memory) r = rw r.0 (v, get_or calls at d, next_call, r.1)
-  fails_with held (Overlap k) r = rw r.0 (stops _ r.1)
-  fails_with held (Limit k) r = rw r.0 (stops _ r.1)
-  fails_with held (Memory k) r = rw r.0 (v, get_or calls at d, next_call, r.1)
-  fails_with held (Start fault) r = absurd r
-  fails_with held Sink r = absurd r
-
-  call_number_is : (held : ℕ) (e : RunError) → CallFails held e at v (get_or calls at d) → call_number e ≡ at
-  call_number_is held (Operand k parse.Limit) r = r.0
-  call_number_is held (Operand k parse.Syntax) r = r.0
-  call_number_is held (Operand k parse.Memory) r = r.0
-  call_number_is held (Overlap k) r = r.0
-  call_number_is held (Limit k) r = r.0
-  call_number_is held (Memory k) r = r.0
-  call_number_is held (Start fault) r = absurd r
-  call_number_is held Sink r = absurd r
+  pub fails_with : (held : ℕ) (e : CallError) → CallFails held e at v (get_or calls at d) → CallsFail held e first calls
+  fails_with held (Operand k parse.Limit) r = stops k _ r.0 r.1
+  fails_with held (Operand k parse.Syntax) r = stops k _ r.0 r.1
+  fails_with held (Operand k parse.Memory) r = (v, get_or calls at d, next_call k r.0, r.1)
+  fails_with held (Overlap k) r = stops k _ r.0 r.1
+  fails_with held (Limit k) r = stops k _ r.0 r.1
+  fails_with held (Memory k) r = (v, get_or calls at d, next_call k r.0, r.1)
 
   -- after an error of this call, the calls before the one that it reports result in v
-  pub stops_at : (held : ℕ) (e : RunError) (new : Decimal) → CallFails held e at v (get_or calls at d) → new ≡ v
+  pub stops_at : (held : ℕ) (e : CallError) (new : Decimal) → CallFails held e at v (get_or calls at d) → new ≡ v
       → after_calls 0 first (take (call_number e) calls) ≡ Ok new
-  stops_at held e new r same =
-      ap (λ k. after_calls 0 first (take k calls)) (call_number_is held e r) ∙ i.before ∙ ap Ok (sym same)
+  stops_at held e new r same = ap (λ k. after_calls 0 first (take k calls)) r.0 ∙ i.before ∙ ap Ok (sym same)
+
+-- the first error of the calls of a run is that of the run
+pub run_fails : (held : ℕ) (e : CallError) (bytes : List ℕ) (first : Decimal) (calls : List Call)
+    → read_decimal bytes ≡ Ok first → CallsFail held e first calls → RunFails held (run_error e) bytes calls
+run_fails held (Operand k parse.Limit) bytes first calls is r = rw (is, r) refl
+run_fails held (Operand k parse.Syntax) bytes first calls is r = rw (is, r) refl
+run_fails held (Operand k parse.Memory) bytes first calls is r = rw is r
+run_fails held (Overlap k) bytes first calls is r = rw (is, r) refl
+run_fails held (Limit k) bytes first calls is r = rw (is, r) refl
+run_fails held (Memory k) bytes first calls is r = rw is r

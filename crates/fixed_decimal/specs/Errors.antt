@@ -10,6 +10,8 @@ use Rattle.fixed_decimal.specs.SignedRounding.{RoundingNeedsMemory}
 use Rattle.fixed_decimal.specs.DecimalText.{read_decimal, IsLong}
 use Rattle.fixed_decimal.specs.declared.runs.Call.{Call}
 use Rattle.fixed_decimal.specs.declared.runs.Call.TheVariants.{Round, Concatenate}
+use Rattle.fixed_decimal.specs.declared.runs.CallError.{CallError}
+use Rattle.fixed_decimal.specs.declared.runs.CallError.TheVariants as call
 use Rattle.fixed_decimal.specs.declared.runs.RunError.{RunError}
 use Rattle.fixed_decimal.specs.declared.runs.RunError.TheVariants.{Start, Operand, Overlap, Limit, Memory, Sink}
 use Rattle.fixed_decimal.specs.Outcome.{start, operand, overlap, limit_exceeded, after_calls, outcome}
@@ -37,6 +39,13 @@ CallNeedsMemory held v _ = ⊥
 -- the start is read, and the run reaches the call with the number `at`; P holds of the value there and that call
 abbrev pub RunReaches : List ℕ → List Call → ℕ → (Decimal → Call → Type 0) → Type 0
 RunReaches bytes calls at P = IsOkAnd (read_decimal bytes) (λ first. Reaches first calls at P)
+
+-- the error of a run that ends with the error of a call
+abbrev pub run_error : CallError → RunError
+run_error (call.Operand at fault) = Operand at fault
+run_error (call.Overlap at) = Overlap at
+run_error (call.Limit at) = Limit at
+run_error (call.Memory at) = Memory at
 
 -- a run may fail with an error: that of its outcome; or out of memory, at the start or at a call that the run reaches,
 -- if that may need an allocation; or `Sink`, if the outcome is a text

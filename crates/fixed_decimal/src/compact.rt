@@ -47,7 +47,6 @@ impl Model for CompactDecimal {
     ghost view = { λ s. compact s.significand s.exponent };
 }
 
-/// Parses the exponent after the `c`.
 #[tactic(auto, unfolding(crate::specs::Compact::exponent_number_of))]
 fn exponent_number(text: &[u8]) -> Result<u8, ParseError>
     ensures { IsParseResult (λ _. ⊥) result (exponent_number_of text.now) }
@@ -62,7 +61,6 @@ fn exponent_number(text: &[u8]) -> Result<u8, ParseError>
     }
 }
 
-/// Parses the exponent; it is 0 if there is no text of it.
 fn read_exponent(text: Option<&[u8]>) -> Result<u8, ParseError>
     ensures { IsParseResult (λ _. ⊥) result (read_exponent (option_copied text.entry)) }
 {
@@ -72,7 +70,6 @@ fn read_exponent(text: Option<&[u8]>) -> Result<u8, ParseError>
     }
 }
 
-/// Splits a text without `e` and `E` at its first `c`, if there is one: the significand and the exponent.
 #[tactic(auto, unfolding(crate::specs::Compact::split_at_c))]
 fn split_at_c(text: &[u8]) -> Result<(&[u8], Option<&[u8]>), ParseError>
     ensures { MatchResult result (λ parts. split_at_c text.now ≡ Ok (parts.0.now, option_copied parts.1))
@@ -168,7 +165,7 @@ impl CompactDecimal {
         Ok(Self::from_significand_and_exponent(significand, exponent))
     }
 
-    /// Returns whether the parts of two values are equal.
+    // Apart from `eq`, whose proof needs these clauses of one result.
     #[tactic(auto, using(crate::proofs::CompactTexts::same_fields))]
     fn has_same_fields(&self, other: &Self) -> bool
         ensures value { IsTrue result ↔ (self.now ≡ other.now) }

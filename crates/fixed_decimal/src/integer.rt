@@ -47,7 +47,6 @@ impl Model for FixedInteger {
     ghost invariant = { λ s. s.0.absolute.lo ≡ pos 0 };
 }
 
-/// Scans a text that writes an integer, without an allocation.
 pub(crate) fn scan_integer(text: &[u8]) -> Result<Signed<Scan<'_>>, ParseError>
     ensures value { IfOk result (λ scan. read_integer text.now ≡ Ok scan) }
     ensures integer { IfOk result (λ scan. pos 0 ≤ℤ scan.absolute.lo) }
@@ -102,17 +101,12 @@ impl FixedInteger {
         Self::try_from_utf8(alloc, text.as_bytes())
     }
 
-    /// Makes the integer of a scanned text without fraction digits.
-    ///
-    /// # Errors
-    ///
-    /// `Memory`: out of memory, only for more than `INLINE_DIGITS` digits.
     pub(crate) fn from_scan(alloc: Global, scan: &Signed<Scan<'_>>) -> Result<Self, ParseError>
         requires { pos 0 ≤ℤ scan.now.absolute.lo }
         ensures { IsParseResult (IsLong INLINE_DIGITS) result (Ok scan.now) }
     {
         let decimal: Decimal = scan.decimal(alloc)?;
-        prove!(*decimal.absolute.magnitude_range().start() == 0);
+        prove!(decimal.absolute.lowest() == 0);
         Ok(FixedInteger(decimal))
     }
 }
@@ -128,7 +122,7 @@ impl TryFrom<Decimal> for FixedInteger {
     ///
     /// The decimal has fraction digits, even if all of them are 0, as `5.0` has. The decimal is then dropped.
     fn try_from(decimal: Decimal) -> Result<Self, LimitError> {
-        if *decimal.absolute.magnitude_range().start() < 0 {
+        if decimal.absolute.lowest() < 0 {
             return Err(LimitError);
         }
         Ok(FixedInteger(decimal))
@@ -136,7 +130,7 @@ impl TryFrom<Decimal> for FixedInteger {
 }
 
 impl FixedInteger {
-    /// Returns the integer as a decimal, unchanged.
+    // Only a method that takes `self` may take apart a value whose type implements `Drop`.
     fn into_decimal(self) -> Decimal
         ensures { result ≡ self }
     {

@@ -1,4 +1,6 @@
-//! Laws of several calls, and of derived implementations: the contract of each function states a law.
+//! Laws of decimals and of runs: the contract of each function states a law.
+//!
+//! Those of absolute values are here too: of reading, trims and concatenation, and in [`unsigned`] of rounding.
 ghost use Rattle.std.specs.Prelude.{◌≡◌, ℤ};
 ghost use Rattle.std.specs.Io.KnownBytes.{Appends};
 ghost use Rattle.std.specs.Ordering.{nat_cmp};
@@ -15,9 +17,12 @@ ghost use Rattle.fixed_decimal.specs.declared.rounding.SignedRoundingMode.{Signe
 
 use crate::rounding::SignedRoundingMode as Mode;
 use crate::runs::{Call, RunError, run_over};
-use crate::variations::{Sign, SignDisplay};
 use decimal_digits::digits::DigitStore;
 use decimal_digits::sink::Sink;
+pub use decimal_unsigned::laws as unsigned;
+pub use decimal_unsigned::laws::{
+    concatenation_is_associative, reading_follows_grammar, trimmed_is_normal_form,
+};
 use std::alloc::Global;
 use std::cmp::Ordering;
 
@@ -77,20 +82,6 @@ pub fn runs_agree<D: DigitStore, E: DigitStore, V: Sink, W: Sink>(
     let left = run_over::<D, V>(alloc, start, calls, left);
     let right = run_over::<E, W>(alloc, start, calls, right);
     (left, right)
-}
-
-/// The default sign is `None`.
-pub fn default_sign() -> Sign
-    ensures { result ≡ Sign.None }
-{
-    Sign::default()
-}
-
-/// The default sign display is `Auto`.
-pub fn default_display() -> SignDisplay
-    ensures { result ≡ SignDisplay.Auto }
-{
-    SignDisplay::default()
 }
 
 /// Modes are ordered as they are declared, those of absolute values first.

@@ -45,7 +45,7 @@ pub use decimal_unsigned::decimal::{
 pub use decimal_unsigned::{ConcatenateError, IntegerError, LimitError, ParseError};
 pub use integer::FixedInteger;
 pub use rounding::SignedRoundingMode;
-pub use runs::{Call, RunError, apply_calls, run, run_over};
+pub use runs::{Call, CallError, RunError, apply_calls, run, run_over};
 pub use scientific::ScientificDecimal;
 pub use signed_decimal::Decimal;
 pub use variations::{Sign, SignDisplay, Signed};

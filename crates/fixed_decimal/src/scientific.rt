@@ -48,7 +48,6 @@ impl Model for ScientificDecimal {
     ghost view = { λ s. scientific s.significand s.exponent };
 }
 
-/// Splits a text with exactly one `e` and without `E` at its `e`: the significand and the exponent.
 #[tactic(auto, unfolding(crate::specs::Scientific::split_at_e))]
 fn split_at_e(text: &[u8]) -> Result<(&[u8], &[u8]), ParseError>
     ensures { MatchResult result (λ parts. split_at_e text.now ≡ Ok (parts.0.now, parts.1.now))
@@ -138,7 +137,7 @@ impl ScientificDecimal {
         Self::try_from_utf8(alloc, text.as_bytes())
     }
 
-    /// Returns whether the parts of two values are equal.
+    // Apart from `eq`, whose proof needs these clauses of one result.
     #[tactic(auto, using(crate::proofs::ScientificTexts::same_fields))]
     fn has_same_fields(&self, other: &Self) -> bool
         ensures value { IsTrue result ↔ (self.now ≡ other.now) }

@@ -4,7 +4,6 @@ ghost use Rattle.std.specs.List.{list_any};
 ghost use Rattle.decimal_unsigned.specs.Reading.{is_letter};
 ghost use Rattle.fixed_decimal.specs.Split.{split_once};
 
-/// Splits a text at the first occurrence of a letter, into the text before it and the text after it.
 pub(crate) fn split_once(text: &[u8], letter: u8) -> Option<(&[u8], &[u8])>
     ensures { MatchOption result (split_once letter text.now ≡ None)
         (λ parts. split_once letter text.now ≡ Some (parts.0.now, parts.1.now)) }
@@ -17,7 +16,6 @@ pub(crate) fn split_once(text: &[u8], letter: u8) -> Option<(&[u8], &[u8])>
     None
 }
 
-/// Whether a text has an `e` or `E`.
 pub(crate) fn has_letter(text: &[u8]) -> bool
     ensures { result ≡ list_any is_letter text.now }
 {

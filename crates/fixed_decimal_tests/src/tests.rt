@@ -21,6 +21,7 @@ mod operands;
 mod printing;
 mod rules;
 mod runs;
+mod shown_digits;
 mod unsigned_integers;
 
 /// The greatest number, in parts: 65,536 nines, half of them fraction digits.

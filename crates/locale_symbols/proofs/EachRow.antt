@@ -1,5 +1,6 @@
 -- What is true of each row of the tables, by computation, and of the texts of symbols.
 use Rattle.std.proofs.Common.{◌≡◌, ℕ, ◌≤◌, ◌==◌, ◌&&◌, Bool, true, false, List, [], ◌∷◌, length, cond, Some, None, suc, refl, ap, lit≤, arith}
+use Rattle.std.proofs.lemmas.Bool.{and_parts}
 use Rattle.std.proofs.lemmas.Bool.Decides.{nat_tests}
 use Rattle.std.proofs.lemmas.List.Elements.{All-contains}
 use Rattle.std.proofs.lemmas.List.Sums.{AllPass-from_list_all}
@@ -17,16 +18,6 @@ use Rattle.decimal_format.specs.declared.error.SymbolsError.TheVariants.{DigitWi
 use Rattle.locale_symbols.specs.Symbol.{symbol_text}
 use Rattle.locale_symbols.specs.Tag.{compared}
 use Rattle.locale_symbols.specs.Locales.{unpadded, system_named, HasOneWidth}
-
--- ---- Tests.
-
-pub and_left : (a b : Bool) → (a && b) ≡ true → a ≡ true
-and_left true b h = refl
-and_left false b h = cc
-
-pub and_right : (a b : Bool) → (a && b) ≡ true → b ≡ true
-and_right true b h = h
-and_right false b h = cc
 
 -- a test that passes for each element of a list passes for those in it
 pub passes : {X : Type 0} (q : X → Bool) (xs : List X) (x : X) → list_all q xs ≡ true → Contains xs x → q x ≡ true
@@ -66,10 +57,9 @@ pub system_named-width : (name : List ℕ) (s : NumberingSystem) → system_name
 system_named-width name s found = λ d few.
     let both = passes has_one_width NUMBERING_SYSTEMS s systems_have_one_width (listed_by_name name s found) in
     let has = has_width (width s.digits 0) in
-    let test = and_left (length s.digits == 10) (list_all has s.digits) both in
-    let ten : length s.digits ≡ 10 = grind (arith, nat_tests, test) in
-    let same = AllPass-from_list_all has s.digits (and_right (length s.digits == 10) (list_all has s.digits) both)
-    d 0 (omega arith) in
+    let parts = and_parts (length s.digits == 10) (list_all has s.digits) both in
+    let ten : length s.digits ≡ 10 = grind (arith, nat_tests, parts.0) in
+    let same = AllPass-from_list_all has s.digits parts.1 d 0 (omega arith) in
     grind (arith, nat_tests, same)
 
 -- ---- The default numbering system of a locale.

@@ -1,91 +1,62 @@
 -- The row with the longest tag, one row more at a time.
-use Rattle.std.proofs.Common.{◌≡◌, ℕ, ◌+◌, ◌<◌, Bool, true, false, List, [], ◌∷◌, ◌++◌, Option, None, Some, length, get_or, take, rules, arith}
+use Rattle.std.proofs.Common.{◌≡◌, ℕ, ◌+◌, ◌<◌, ◌&&◌, cond, refl, Bool, true, false, List, [], ◌∷◌, ◌++◌, Option, None, Some, length, get_or, take, rules, arith}
 use Rattle.std.proofs.lemmas.Bool.Decides.{nat_tests}
 use Rattle.std.proofs.lemmas.List.{take_more}
 use Rattle.std.proofs.lemmas.List.Elements.{All-push, Contains-append_left, Contains-append_right}
 use Rattle.std.specs.List.{All}
 use Rattle.locale_symbols.specs.declared.table.LocaleSymbols.{LocaleSymbols}
-use Rattle.locale_symbols.specs.Locales.{is_candidate, is_longer, Chooses}
+use Rattle.locale_symbols.specs.Locales.{is_candidate, is_longer, longer, Chooses}
 
-abbrev pub System : Type 0
-System = Option (List ℕ)
-
-abbrev pub Best : Type 0
-Best = Option LocaleSymbols
-
--- what is known of another row, if the best one is this
-abbrev IsNotLonger : List ℕ → System → LocaleSymbols → LocaleSymbols → Type 0
-IsNotLonger tag system best other = is_candidate tag system other ≡ true → is_longer other (Some best) ≡ false
-
-abbrev Same : List LocaleSymbols → LocaleSymbols → List ℕ → System → Best → Type 0
-Same rows row tag system best = Chooses rows tag system best → Chooses (rows ++ row ∷ []) tag system best
-
-no_candidate : (rows : List LocaleSymbols) (row : LocaleSymbols) (tag : List ℕ) (system : System) (best : Best)
-    → is_candidate tag system row ≡ false → Same rows row tag system best
-no_candidate rows row tag system None fails h = All-push (λ r. is_candidate tag system r ≡ false) rows row h fails
-no_candidate rows row tag system (Some best) fails h = (
-  Contains-append_left rows (row ∷ []) best h.0,
-  h.1,
-  All-push (IsNotLonger tag system best) rows row h.2 (λ is. cc),
-)
-
-no_longer : (rows : List LocaleSymbols) (row : LocaleSymbols) (tag : List ℕ) (system : System) (best : Best)
-    → is_longer row best ≡ false → Same rows row tag system best
-no_longer rows row tag system None fails h = cc
-no_longer rows row tag system (Some best) fails h = (
-  Contains-append_left rows (row ∷ []) best h.0,
-  h.1,
-  All-push (IsNotLonger tag system best) rows row h.2 (λ is. fails),
-)
-
--- the last of two tags in order of length is not shorter than the first
+-- the last of three tags is longer than the second, and so not shorter than the first
 longest_last : (a b c : LocaleSymbols) → is_longer a (Some b) ≡ false → is_longer c (Some b) ≡ true
     → is_longer a (Some c) ≡ false
 longest_last a b c first last = grind (arith, nat_tests)
 
-longer : (rows : List LocaleSymbols) (row : LocaleSymbols) (tag : List ℕ) (system : System) (best : Best)
-    → is_candidate tag system row ≡ true → is_longer row best ≡ true → Chooses rows tag system best
-    → Chooses (rows ++ row ∷ []) tag system (Some row)
-longer rows row tag system best is above h =
-    let P = IsNotLonger tag system row in
-    let earlier : All P rows = earlier_ones rows row tag system best above h in (
-      Contains-append_right rows (row ∷ []) row (search rules),
-      is,
-      All-push P rows row earlier (λ _. grind (arith, nat_tests)),
-    )
+module _ (tag : List ℕ) (system : Option (List ℕ)) where
+  -- what is known of another row, if the best one is this
+  abbrev IsNotLonger : LocaleSymbols → LocaleSymbols → Type 0
+  IsNotLonger best other = is_candidate tag system other ≡ true → is_longer other (Some best) ≡ false
+
+  -- a row that is no candidate with a longer tag changes nothing
+  kept : (rows : List LocaleSymbols) (row : LocaleSymbols) (best : Option LocaleSymbols)
+      → (is_candidate tag system row ≡ true → is_longer row best ≡ false) → Chooses rows tag system best
+      → Chooses (rows ++ row ∷ []) tag system best
+  kept rows row None fails h =
+      All-push (λ r. is_candidate tag system r ≡ false) rows row h (no_candidate (is_candidate tag system row) fails)
+    where
+      no_candidate : (b : Bool) → (b ≡ true → true ≡ false) → b ≡ false
+      no_candidate true never = never refl
+      no_candidate false never = refl
+  kept rows row (Some best) fails h =
+      (Contains-append_left rows (row ∷ []) best h.0, h.1, All-push (IsNotLonger best) rows row h.2 fails)
+
+  -- a candidate with a longer tag is chosen
+  replaced : (rows : List LocaleSymbols) (row : LocaleSymbols) (best : Option LocaleSymbols)
+      → is_candidate tag system row ≡ true → is_longer row best ≡ true → Chooses rows tag system best
+      → Chooses (rows ++ row ∷ []) tag system (Some row)
+  replaced rows row best is above h = (
+    Contains-append_right rows (row ∷ []) row (search rules),
+    is,
+    All-push (IsNotLonger row) rows row (earlier best above h) (λ _. grind (arith, nat_tests)),
+  )
+    where
+      earlier : (best : Option LocaleSymbols) → is_longer row best ≡ true → Chooses rows tag system best
+          → All (IsNotLonger row) rows
+      earlier None above h = λ k d inside is. cc (h k d inside)
+      earlier (Some best) above h = λ k d inside is. longest_last (get_or rows k d) best row (h.2 k d inside is) above
+
+-- one row more
+pub chooses_more : (rows : List LocaleSymbols) (i : ℕ) (d : LocaleSymbols) (tag : List ℕ) (system : Option (List ℕ))
+    (best : Option LocaleSymbols) → i < length rows → Chooses (take i rows) tag system best
+    → Chooses (take (i + 1) rows) tag system (longer tag system best (get_or rows i d))
+chooses_more rows i d tag system best inside h =
+    rw (take_more rows i d inside) (by (is_candidate tag system row) (is_longer row best) refl refl)
   where
-    earlier_ones : (rows : List LocaleSymbols) (row : LocaleSymbols) (tag : List ℕ) (system : System) (best : Best)
-        → is_longer row best ≡ true → Chooses rows tag system best
-        → All (IsNotLonger tag system row) rows
-    earlier_ones rows row tag system None above h = λ k d inside is. cc (h k d inside)
-    earlier_ones rows row tag system (Some best) above h =
-        λ k d inside is. longest_last (get_or rows k d) best row (h.2 k d inside is) above
+    row : LocaleSymbols
+    row = get_or rows i d
 
-abbrev pub Next : List LocaleSymbols → ℕ → List ℕ → System → Best → Type 0
-Next rows i tag system next = Chooses (take (i + 1) rows) tag system next
-
--- a row that is no candidate changes nothing
-pub chooses-no_candidate : (rows : List LocaleSymbols) (i : ℕ) (d : LocaleSymbols)
-    (tag : List ℕ) (system : System) (best : Best) (a : Bool)
-    → i < length rows → Chooses (take i rows) tag system best
-    → a ≡ is_candidate tag system (get_or rows i d) → a ≡ false
-    → Next rows i tag system best
-chooses-no_candidate rows i d tag system best a inside h is fails =
-    rw (take_more rows i d inside) (no_candidate (take i rows) (get_or rows i d) tag system best (cc) h)
-
--- nor does one whose tag is not longer
-pub chooses-no_longer : (rows : List LocaleSymbols) (i : ℕ) (d : LocaleSymbols)
-    (tag : List ℕ) (system : System) (best : Best) (b : Bool)
-    → i < length rows → Chooses (take i rows) tag system best → b ≡ is_longer (get_or rows i d) best → b ≡ false
-    → Next rows i tag system best
-chooses-no_longer rows i d tag system best b inside h is fails =
-    rw (take_more rows i d inside) (no_longer (take i rows) (get_or rows i d) tag system best (cc) h)
-
--- a candidate with a longer tag is chosen
-pub chooses-longer : (rows : List LocaleSymbols) (i : ℕ) (d : LocaleSymbols)
-    (tag : List ℕ) (system : System) (best : Best) (a b : Bool)
-    → i < length rows → Chooses (take i rows) tag system best
-    → a ≡ is_candidate tag system (get_or rows i d) → a ≡ true → b ≡ is_longer (get_or rows i d) best → b ≡ true
-    → Next rows i tag system (Some (get_or rows i d))
-chooses-longer rows i d tag system best a b inside h is holds above more =
-    rw (take_more rows i d inside) (longer (take i rows) (get_or rows i d) tag system best (cc) (cc) h)
+    by : (a b : Bool) → is_candidate tag system row ≡ a → is_longer row best ≡ b
+        → Chooses (take i rows ++ row ∷ []) tag system (cond (a && b) (Some row) best)
+    by true true is above = replaced tag system (take i rows) row best is above h
+    by true false is above = kept tag system (take i rows) row best (λ _. above) h
+    by false b is above = kept tag system (take i rows) row best (λ e. cc) h

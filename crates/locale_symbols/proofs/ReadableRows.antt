@@ -1,6 +1,6 @@
 -- The symbols of each row are readable, by computation.
-use Rattle.std.proofs.Common.{◌≡◌, ℕ, ◌+◌, ◌-◌, ◌<◌, ◌≤◌, ◌==◌, ◌&&◌, ◌||◌, not, zero, suc, nat_eq, nat_lt, Bool, true, false, cond, List, [], ◌∷◌, ◌++◌, map, get_or, Option, Some, None, unwrap_or, inl, inr, refl, ap, lit≤, subst, ◌∙◌, sym, rules, add-sub_of_le, arith}
-use Rattle.std.proofs.lemmas.Bool.{cases_lt}
+use Rattle.std.proofs.Common.{◌≡◌, ℕ, ◌+◌, ◌-◌, ◌<◌, ◌≤◌, ◌==◌, ◌&&◌, nat_lt, Bool, true, false, cond, List, [], ◌∷◌, ◌++◌, map, get_or, Option, Some, None, unwrap_or, inl, inr, refl, ap, lit≤, subst, ◌∙◌, sym, rules, add-sub_of_le, arith}
+use Rattle.std.proofs.lemmas.Bool.{cases_lt, and_parts}
 use Rattle.std.proofs.lemmas.List.Sums.{AllPass-from_list_all}
 use Rattle.std.specs.Prelude.{encode_utf8, slice_index}
 use Rattle.std.specs.List.{list_all, position, Contains}
@@ -8,7 +8,7 @@ use Rattle.std.specs.Option.{option_map_or}
 use Rattle.std.specs.Str.{bytes_eq}
 use Rattle.decimal_format.specs.declared.grouping.GroupingSizes.{GroupingSizes}
 use Rattle.decimal_format.specs.Symbols.{Symbols}
-use Rattle.decimal_format.proofs.Apart.{is_other, are_apart, each_below, passes_below, texts_are_apart, other, texts_apart}
+use Rattle.decimal_format.proofs.Apart.{are_apart, each_below, passes_below, texts_are_apart, other, texts_apart}
 use Rattle.decimal_format.specs.Readable.{BeginsWith, code, IsOther, IsReadable}
 use Rattle.locale_symbols.specs.declared.table.LocaleSymbols.{LocaleSymbols}
 use Rattle.locale_symbols.specs.declared.table.NumberingSystem.{NumberingSystem}
@@ -19,7 +19,7 @@ use Rattle.locale_symbols.specs.declared.tables.TheConstants.{LOCALES, LOCALES_B
 use Rattle.locale_symbols.specs.Symbol.{symbol_text}
 use Rattle.locale_symbols.specs.Tag.{requested_system}
 use Rattle.locale_symbols.specs.Locales.{unpadded, symbols_of, symbols_in, Chooses, IsLocale}
-use Rattle.locale_symbols.proofs.EachRow.{and_left, and_right, passes, listed_by_name}
+use Rattle.locale_symbols.proofs.EachRow.{passes, listed_by_name}
 
 moved : {a b c d : List ℕ} → a ≡ c → b ≡ d → BeginsWith a b → BeginsWith c d
 moved e f begins = (begins.0, sym e ∙ (begins.1 ∙ ap (λ t. t ++ begins.0) f))
@@ -106,7 +106,7 @@ module _ (system : NumberingSystem) (set : SymbolSet) (sizes : GroupingSizes)
   digit_and_mark : (d k : ℕ) → d < 10 → are_apart (digit_of system d) (mark_text set k) ≡ true
   digit_and_mark d k h =
       let test = λ (d : ℕ). list_all (are_apart (digit_of system d)) texts in
-      let all = passes_below 10 test (and_right _ _ digits) d h in
+      let all = passes_below 10 test ((and_parts _ _ digits).1) d h in
       let one = AllPass-from_list_all (are_apart (digit_of system d)) texts all (index_of (mark set k)) []
       (index_below (mark set k)) in
       subst (λ t. are_apart (digit_of system d) t ≡ true) (text_at (mark set k)) one
@@ -122,15 +122,15 @@ module _ (system : NumberingSystem) (set : SymbolSet) (sizes : GroupingSizes)
   readable_codes j k p q begins = elim (cases_lt j 10) [
     | inl a ↦ elim (cases_lt k 10) [
       | inl b ↦
-          texts_apart 10 (digit_of system) (and_left _ _ digits) j k a b
+          texts_apart 10 (digit_of system) ((and_parts _ _ digits).0) j k a b
           (moved (digit_code k b) (digit_code j a) begins)
       | inr b ↦
-          absurd (other (mark_text set k) (digit_of system j) (and_right _ _ (digit_and_mark j k a))
+          absurd (other (mark_text set k) (digit_of system j) ((and_parts _ _ (digit_and_mark j k a)).1)
           (moved (mark_code k b) (digit_code j a) begins))
     ]
     | inr a ↦ elim (cases_lt k 10) [
       | inl b ↦
-          absurd (other (digit_of system k) (mark_text set j) (and_left _ _ (digit_and_mark k j b))
+          absurd (other (digit_of system k) (mark_text set j) ((and_parts _ _ (digit_and_mark k j b)).0)
           (moved (digit_code k b) (mark_code j a) begins))
       | inr b ↦ marks_apart j k a p b q (moved (mark_code k b) (mark_code j a) begins)
     ]

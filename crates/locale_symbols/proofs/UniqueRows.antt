@@ -1,6 +1,6 @@
 -- A tag names at most one value.
-use Rattle.std.proofs.Common.{◌≡◌, ℕ, true, false, nat_eq, bytes_eq, List, [], ◌++◌, length, map, get_or, take, Option, Some, None, unwrap_or, codes, refl, ap, subst, sym, ◌∙◌, append_assoc, inl, inr, arith}
-use Rattle.std.proofs.lemmas.Bool.{cases_lt}
+use Rattle.std.proofs.Common.{◌≡◌, ℕ, true, false, nat_eq, bytes_eq, List, [], ◌++◌, length, map, get_or, take, Option, Some, None, codes, refl, ap, subst, sym, ◌∙◌, append_assoc, inl, inr, arith}
+use Rattle.std.proofs.lemmas.Bool.{cases_lt, and_parts}
 use Rattle.std.proofs.lemmas.Bool.Decides.{nat_tests, Decides-eqb}
 use Rattle.std.proofs.lemmas.Cmp.{nat_list_eq_equiv}
 use Rattle.std.proofs.lemmas.List.{get_or-map, get_or_default, length-map}
@@ -14,9 +14,8 @@ use Rattle.decimal_format.specs.Symbols.{Symbols}
 use Rattle.locale_symbols.specs.declared.table.LocaleSymbols.{LocaleSymbols}
 use Rattle.locale_symbols.specs.declared.table.NumberingSystem.{NumberingSystem}
 use Rattle.locale_symbols.specs.declared.tables.TheConstants.{LOCALES, LOCALES_BY_SYSTEM}
-use Rattle.locale_symbols.specs.Tag.{compared, is_tag_prefix, requested_system}
-use Rattle.locale_symbols.specs.Locales.{unpadded, is_candidate, is_longer, system_named, Chooses, IsLocale}
-use Rattle.locale_symbols.proofs.EachRow.{and_left, and_right}
+use Rattle.locale_symbols.specs.Tag.{compared, is_tag_prefix}
+use Rattle.locale_symbols.specs.Locales.{unpadded, is_candidate, is_longer, Chooses, IsLocale}
 
 -- ---- Rows with the same key are the same.
 
@@ -68,8 +67,8 @@ module _ (tag : List ℕ) (system : Option (List ℕ)) (rows : List LocaleSymbol
     (x : Chooses rows tag system (Some a)) (y : Chooses rows tag system (Some b)) where
   pub same_tag : unpadded a.tag ≡ unpadded b.tag
   same_tag =
-      let p = prefix_is (unpadded a.tag) tag (and_left _ _ x.1) in
-      let q = prefix_is (unpadded b.tag) tag (and_left _ _ y.1) in
+      let p = prefix_is (unpadded a.tag) tag ((and_parts _ _ x.1).0) in
+      let q = prefix_is (unpadded b.tag) tag ((and_parts _ _ y.1).0) in
       let P = λ (other : LocaleSymbols). is_candidate tag system other ≡ true → is_longer other (Some b) ≡ false in
       let not_above : is_longer a (Some b) ≡ false = All-contains P rows a y.2 x.0 x.1 in
       let Q = λ (other : LocaleSymbols). is_candidate tag system other ≡ true → is_longer other (Some a) ≡ false in
@@ -95,16 +94,15 @@ same_own tag name (Some a) None x y =
 same_own tag name (Some a) (Some b) x y =
     let tags = same_tag tag (Some name) LOCALES_BY_SYSTEM a b x y in
     let p : a.system ≡ name =
-    (bytes_eq-Decides a.system name).0 (and_right (is_tag_prefix (unpadded a.tag) tag) (bytes_eq a.system name) x.1) in
+    (bytes_eq-Decides a.system name).0 (and_parts (is_tag_prefix (unpadded a.tag) tag) (bytes_eq a.system name) x.1).1 in
     let q : b.system ≡ name =
-    (bytes_eq-Decides b.system name).0 (and_right (is_tag_prefix (unpadded b.tag) tag) (bytes_eq b.system name) y.1) in
+    (bytes_eq-Decides b.system name).0 (and_parts (is_tag_prefix (unpadded b.tag) tag) (bytes_eq b.system name) y.1).1 in
     ap Some (same_row tag_and_system_of LOCALES_BY_SYSTEM a b own_tags_are_distinct x.0 y.0 (cc))
 
 pub locale_is_unique : (tag : List ℕ) (s t : Symbols) → IsLocale tag s → IsLocale tag t → s ≡ t
 locale_is_unique tag s t a b =
     let locale = same_locale tag a.locale b.locale a.listed b.listed in
-    let name = ap (λ (l : LocaleSymbols). system_named (unwrap_or (requested_system tag) (unpadded l.system))) locale in
-    let system : a.system ≡ b.system = cc (name, a.named, b.named) in
+    let system : a.system ≡ b.system = cc (locale, a.named, b.named) in
     let own = same_own tag a.system.name a.own b.own a.in_system
     (subst (λ (n : NumberingSystem). Chooses LOCALES_BY_SYSTEM tag (Some n.name) b.own) (sym system) b.in_system) in
     cc (a.value, b.value)

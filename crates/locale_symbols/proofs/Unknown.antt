@@ -5,20 +5,15 @@ use Rattle.locale_symbols.specs.declared.table.NumberingSystem.{NumberingSystem}
 use Rattle.locale_symbols.specs.declared.tables.TheConstants.{LOCALES}
 use Rattle.std.specs.Option.{option_copied}
 use Rattle.locale_symbols.specs.Tag.{Text, requested_system}
-use Rattle.locale_symbols.specs.Locales.{unpadded, is_candidate, system_named, Chooses, IsUnknown}
+use Rattle.locale_symbols.specs.Locales.{unpadded, is_candidate, name_of, system_named, Chooses, IsUnknown}
 use Rattle.locale_symbols.proofs.EachRow.{listed_system}
 
--- the name of the numbering system of a tag
-abbrev pub name_of : List ℕ → LocaleSymbols → List ℕ
-name_of tag locale = unwrap_or (requested_system tag) (unpadded locale.system)
-
-pub named_by : (named : Option Text) (default result : Text) (tag : List ℕ) (locale : LocaleSymbols)
-    → result ≡ unwrap_or named default → option_copied named ≡ requested_system tag
-    → default.now ≡ unpadded locale.system
-    → result.now ≡ name_of tag locale
-named_by None default result tag locale e q p =
-    ap (λ b. b.now) e ∙ (p ∙ ap (λ o. unwrap_or o (unpadded locale.system)) q)
-named_by (Some s) default result tag locale e q p = ap (λ b. b.now) e ∙ ap (λ o. unwrap_or o (unpadded locale.system)) q
+-- the name that a tag gives, or the default
+pub named_by : (named : Option Text) (default : Text) (tag : List ℕ) (locale : LocaleSymbols)
+    → option_copied named ≡ requested_system tag → default.now ≡ unpadded locale.system
+    → (unwrap_or named default).now ≡ name_of tag locale
+named_by None default tag locale q p = p ∙ ap (λ o. unwrap_or o (unpadded locale.system)) q
+named_by (Some s) default tag locale q p = ap (λ o. unwrap_or o (unpadded locale.system)) q
 
 pub unknown_system : (tag : List ℕ) (locale : LocaleSymbols) → Chooses LOCALES tag None (Some locale)
     → system_named (name_of tag locale) ≡ None → IsUnknown tag

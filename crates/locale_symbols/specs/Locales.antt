@@ -1,5 +1,5 @@
 -- The locales and numbering systems of tags.
-use Rattle.std.specs.Prelude.{◌≡◌, ℕ, ◌==◌, ◌&&◌, Bool, true, false, nat_lt, List, [], length, find, All, Contains, Option, None, Some, unwrap_or, encode_utf8, slice_index, ◌⊎◌}
+use Rattle.std.specs.Prelude.{◌≡◌, ℕ, ◌==◌, ◌&&◌, if◌then◌else◌, Bool, true, false, nat_lt, List, [], length, find, All, Contains, Option, None, Some, unwrap_or, encode_utf8, slice_index, ◌⊎◌}
 use Rattle.std.specs.Option.{option_map_or}
 use Rattle.std.specs.List.{before_first}
 use Rattle.std.specs.Str.{bytes_eq}
@@ -25,6 +25,10 @@ is_candidate tag system row =
 abbrev pub is_longer : LocaleSymbols → Option LocaleSymbols → Bool
 is_longer row None = true
 is_longer row (Some other) = nat_lt (length (unpadded other.tag)) (length (unpadded row.tag))
+
+-- the row if it is a candidate with a longer tag, and else the other one
+abbrev pub longer : List ℕ → Option (List ℕ) → Option LocaleSymbols → LocaleSymbols → Option LocaleSymbols
+longer tag system best row = if is_candidate tag system row && is_longer row best then Some row else best
 
 -- no row is a candidate, or this one is, and none has a longer tag
 abbrev pub Chooses : List LocaleSymbols → List ℕ → Option (List ℕ) → Option LocaleSymbols → Type 0
@@ -52,13 +56,17 @@ abbrev pub symbols_in : NumberingSystem → LocaleSymbols → Option LocaleSymbo
 symbols_in system locale None = symbols_of system (unwrap_or system.symbols locale.symbols) locale.sizes
 symbols_in system locale (Some own) = symbols_of system own.symbols own.sizes
 
+-- the name of the numbering system that a tag names, or else of the default one of a locale
+abbrev pub name_of : List ℕ → LocaleSymbols → List ℕ
+name_of tag locale = unwrap_or (requested_system tag) (unpadded locale.system)
+
 -- the symbols are those of the listed locale with the longest tag, in the numbering system of the tag or its default
 pub record IsLocale (tag : List ℕ) (s : Symbols) : Type 0 where
   pub locale : LocaleSymbols
   pub system : NumberingSystem
   pub own : Option LocaleSymbols
   pub listed : Chooses LOCALES tag None (Some locale)
-  pub named : system_named (unwrap_or (requested_system tag) (unpadded locale.system)) ≡ Some system
+  pub named : system_named (name_of tag locale) ≡ Some system
   pub in_system : Chooses LOCALES_BY_SYSTEM tag (Some system.name) own
   pub value : s ≡ symbols_in system locale own
 

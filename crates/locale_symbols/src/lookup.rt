@@ -1,7 +1,7 @@
 //! The symbols of a tag.
 ghost use Rattle.std.specs.Prelude.{◌≡◌, ◌↔◌, IsNone, IfSome};
 ghost use Rattle.std.specs.Option.{option_copied};
-ghost use Rattle.locale_symbols.specs.Locales.{unpadded, is_candidate, is_longer, system_named, symbols_of, symbols_in, HasOneWidth, Chooses, IsLocale, IsUnknown};
+ghost use Rattle.locale_symbols.specs.Locales.{unpadded, is_candidate, is_longer, longer, name_of, system_named, symbols_of, symbols_in, HasOneWidth, Chooses, IsLocale, IsUnknown};
 ghost use Rattle.decimal_format.specs.Readable.{IsReadable};
 
 use crate::table::{LocaleSymbols, NumberingSystem, SymbolSet};
@@ -9,7 +9,6 @@ use crate::tables::{LOCALES, LOCALES_BY_SYSTEM, NUMBERING_SYSTEMS};
 use crate::tag::{is_named, is_tag_prefix, requested_system};
 use decimal_format::{Affixes, DecimalSymbols, GroupingSizes};
 
-/// Returns a text without the spaces after it.
 fn unpadded(padded: &[u8]) -> &[u8]
     ensures { result.now ≡ unpadded padded.now }
 {
@@ -21,7 +20,6 @@ fn unpadded(padded: &[u8]) -> &[u8]
     padded
 }
 
-/// Returns whether the tag of a row is a prefix of a tag, and its numbering system is this one, if there is one.
 fn is_candidate(row: &LocaleSymbols, tag: &[u8], system: Option<[u8; 8]>) -> bool
     ensures { result ≡ is_candidate tag.now system row.now }
 {
@@ -32,7 +30,6 @@ fn is_candidate(row: &LocaleSymbols, tag: &[u8], system: Option<[u8; 8]>) -> boo
     }
 }
 
-/// Returns whether the tag of a row is longer than that of another, if there is one.
 fn is_longer(row: &LocaleSymbols, other: Option<&LocaleSymbols>) -> bool
     ensures { result ≡ is_longer row.now (option_copied other.entry) }
 {
@@ -42,7 +39,21 @@ fn is_longer(row: &LocaleSymbols, other: Option<&LocaleSymbols>) -> bool
     }
 }
 
-/// Returns the row with the longest tag among those that are candidates for a tag.
+fn longer(
+    best: Option<&'static LocaleSymbols>,
+    row: &'static LocaleSymbols,
+    tag: &[u8],
+    system: Option<[u8; 8]>,
+) -> Option<&'static LocaleSymbols>
+    ensures { option_copied result ≡ longer tag.now system (option_copied best.entry) row.now }
+{
+    if is_candidate(row, tag, system) && is_longer(row, best) {
+        Some(row)
+    } else {
+        best
+    }
+}
+
 fn longest(
     rows: &'static [LocaleSymbols],
     tag: &[u8],
@@ -52,14 +63,11 @@ fn longest(
 {
     let mut found: Option<&'static LocaleSymbols> = None;
     for row in rows {
-        if is_candidate(row, tag, system) && is_longer(row, found) {
-            found = Some(row);
-        }
+        found = longer(found, row, tag, system);
     }
     found
 }
 
-/// Returns the numbering system with a name.
 #[tactic(auto, unfolding(crate::specs::Locales::system_named))]
 fn system_named(name: &[u8]) -> Option<&'static NumberingSystem>
     ensures { option_copied result ≡ system_named name.now }
@@ -69,7 +77,13 @@ fn system_named(name: &[u8]) -> Option<&'static NumberingSystem>
         .find(|system| is_named(unpadded(&system.name), name))
 }
 
-/// Returns symbols with the digits of a numbering system.
+#[tactic(auto, using(crate::proofs::Unknown::named_by))]
+fn system_of(tag: &[u8], locale: &LocaleSymbols) -> Option<&'static NumberingSystem>
+    ensures { option_copied result ≡ system_named (name_of tag.now locale.now) }
+{
+    system_named(requested_system(tag).unwrap_or(unpadded(&locale.system)))
+}
+
 fn symbols_of(
     system: &NumberingSystem,
     set: SymbolSet,
@@ -93,7 +107,6 @@ fn symbols_of(
     }
 }
 
-/// Returns the symbols of a locale in a numbering system, which are its own there if it has any.
 fn symbols_in(
     system: &NumberingSystem,
     locale: &LocaleSymbols,
@@ -133,8 +146,7 @@ pub fn locale(tag: &str) -> Option<DecimalSymbols<'static>>
 {
     let tag = tag.as_bytes();
     let locale = longest(&LOCALES, tag, None)?;
-    let name = requested_system(tag).unwrap_or(unpadded(&locale.system));
-    let system = system_named(name)?;
+    let system = system_of(tag, locale)?;
     let own = longest(&LOCALES_BY_SYSTEM, tag, Some(system.name));
     Some(symbols_in(system, locale, own))
 }

@@ -5,7 +5,6 @@ ghost use Rattle.std.specs.List.{starts_with};
 ghost use Rattle.std.specs.Str.{bytes_eq};
 ghost use Rattle.locale_symbols.specs.Tag.{tag_byte, compared, is_tag_prefix, from_first, first_subtag, requested_system};
 
-/// Returns how a byte is compared: a letter in lower case, and `_`, `.` and `@` as hyphens.
 fn tag_byte(byte: u8) -> u8
     ensures { result ≡ tag_byte byte }
 {
@@ -15,7 +14,6 @@ fn tag_byte(byte: u8) -> u8
     }
 }
 
-/// Returns whether a tag begins with a text.
 fn begins_with(tag: &[u8], text: &[u8]) -> bool
     ensures value { result ≡ starts_with nat_eq (compared tag.now) text.now }
     ensures long { IsTrue result → length text.now ≤ length tag.now }
@@ -29,13 +27,13 @@ fn begins_with(tag: &[u8], text: &[u8]) -> bool
 }
 
 /// Returns whether a tag is `part`, or has a hyphen after it.
+#[tactic(auto, using(crate::proofs::Tags::hyphen))]
 pub fn is_tag_prefix(part: &[u8], tag: &[u8]) -> bool
     ensures { result ≡ is_tag_prefix part.now tag.now }
 {
     begins_with(tag, part) && (tag.len() == part.len() || tag_byte(tag[part.len()]) == b'-')
 }
 
-/// Returns the rest of a tag from the first occurrence of a text.
 fn from_first<'a>(text: &[u8], tag: &'a [u8]) -> Option<&'a [u8]>
     ensures value { option_copied result ≡ from_first text.now tag.now }
     ensures long { IfSome result (λ rest. length text.now ≤ length rest.now) }
@@ -48,7 +46,6 @@ fn from_first<'a>(text: &[u8], tag: &'a [u8]) -> Option<&'a [u8]>
     None
 }
 
-/// Returns the text before the first hyphen.
 fn first_subtag(tag: &[u8]) -> &[u8]
     ensures { result.now ≡ first_subtag tag.now }
 {

@@ -83,8 +83,7 @@ impl<'a, D: DigitStore> PluralOperands<'a, D> {
         ensures by_text { (parts : Literal) → Grammar (text value.now) parts → parts.exponent ≡ None
             → MatchesDigits value.now parts }
     {
-        // Proof hint: the value satisfies its invariant.
-        let _range = value.magnitude_range();
+        prove!(value.lowest() <= 0);
         PluralOperands { value, exponent: 0 }
     }
 
@@ -107,8 +106,7 @@ impl<'a, D: DigitStore> PluralOperands<'a, D> {
         ensures value { result ≡ v self.now.value }
         ensures at_most { result + self.now.exponent ≤ 32768 }
     {
-        let range = self.value.magnitude_range();
-        fraction_digit_count(*range.start(), self.exponent)
+        fraction_digit_count(self.value.lowest(), self.exponent)
     }
 
     /// Returns w, the number of fraction digits without trailing zeros: 1 for `2.50`, at most 32,768.
@@ -119,7 +117,6 @@ impl<'a, D: DigitStore> PluralOperands<'a, D> {
         fraction_digit_count(self.value.nonzero_magnitude_end(), self.exponent)
     }
 
-    /// Returns the integer digits.
     fn integer_digits(&self) -> Digits<'a, D>
         ensures { result ≡ i self.now.value }
     {
@@ -127,7 +124,6 @@ impl<'a, D: DigitStore> PluralOperands<'a, D> {
         Digits::new(self.value, first, integer_digit_count(first, self.exponent))
     }
 
-    /// Returns the fraction digits.
     fn fraction(&self) -> Digits<'a, D>
         ensures { result ≡ f self.now.value }
     {
@@ -138,7 +134,6 @@ impl<'a, D: DigitStore> PluralOperands<'a, D> {
         )
     }
 
-    /// Returns the fraction digits without trailing zeros.
     fn trimmed_fraction(&self) -> Digits<'a, D>
         ensures { result ≡ t self.now.value }
     {
@@ -211,14 +206,12 @@ impl<'a, D: DigitStore> PluralOperands<'a, D> {
         self.integer_digits().up_to(most)
     }
 
-    /// Returns the operand f if it is at most `most`.
     pub(crate) fn f_up_to(&self, most: u64) -> Option<u64>
         ensures { IsUpTo most result (f self.now.value) }
     {
         self.fraction().up_to(most)
     }
 
-    /// Returns the operand t if it is at most `most`.
     pub(crate) fn t_up_to(&self, most: u64) -> Option<u64>
         ensures { IsUpTo most result (t self.now.value) }
     {

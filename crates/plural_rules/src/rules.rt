@@ -228,7 +228,6 @@ impl Model for PluralRules {
 }
 
 impl PluralRules {
-    /// Makes the rules of a list, in its order.
     pub(crate) fn new(rules: Vec<Rule>) -> Self
         ensures { result ≡ rules.items }
     {

@@ -5,18 +5,16 @@ ghost use Rattle.uses.specs.Measurement.{shortened, IsNear};
 
 use fixed_decimal::{Decimal, LimitError};
 
-/// Returns the position after `decimals` fraction digits.
 fn position_of(decimals: u8) -> i16
     ensures { result ≡ neg_ℤ (pos decimals) }
 {
     -(decimals as i16)
 }
 
-/// Whether a digit is shown below a position.
 fn shows_more(value: &Decimal, position: i16) -> bool
     ensures { result ≡ int_lt value.now.absolute.lo position }
 {
-    *value.magnitude_range().start() < position
+    value.lowest() < position
 }
 
 /// Rounds a measured value half-even to at most `decimals` fraction digits.

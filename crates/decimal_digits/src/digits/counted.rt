@@ -7,7 +7,7 @@ use std::alloc::AllocError;
 
 /// A borrowed list of digits, with the `Steps` that count its digit accesses.
 ///
-/// `get`, `set`, `replace_from` and `push_in_room` are one digit access each, and `count_trailing` is one for each
+/// `get`, `set` and `push_in_room` are one digit access each, and `count_trailing` is one for each
 /// digit that it reads. The other calls pass no digit to or from the list, and are not counted; neither is what the
 /// list does inside a call. The list and the count are changed in place. Contracts see the list, the accesses so far,
 /// and that both are still those that were borrowed.
@@ -33,14 +33,6 @@ impl<'a, D: DigitStore> Counted<'a, D> {
         ensures { result ≡ length (D.digits (list_of self.now)) }
     {
         self.list.len()
-    }
-
-    /// Returns whether there are no digits.
-    #[inline]
-    pub fn is_empty(&self) -> bool
-        ensures { IsTrue result ↔ (D.digits (list_of self.now) ≡ []) }
-    {
-        self.list.is_empty()
     }
 
     /// Returns the digit at an index: one digit access.
@@ -93,21 +85,6 @@ impl<'a, D: DigitStore> Counted<'a, D> {
     {
         self.steps.tick();
         self.list.set(index, digit);
-    }
-
-    /// Replaces the digits from an index on by one digit: one digit access.
-    ///
-    /// Requires `index < len()` and a digit 0 to 9.
-    #[inline]
-    pub fn replace_from(&mut self, index: usize, digit: u8)
-        requires in_range { index < length (D.digits (list_of self.old)) }
-        requires is_digit { digit < 10 }
-        ensures digits { D.digits (list_of self.new) ≡ take index (D.digits (list_of self.old)) ++ digit ∷ [] }
-        ensures accesses { accesses_of self.new ≡ accesses_of self.old + 1 }
-        ensures borrows { Continues self.old self.new }
-    {
-        self.steps.tick();
-        self.list.replace_from(index, digit);
     }
 
     /// Appends a digit, without an allocation: one digit access.

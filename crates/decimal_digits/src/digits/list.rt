@@ -1,8 +1,5 @@
 //! A list of digits with one digit to a byte.
-ghost use Rattle.std.specs.Prelude.{◌≡◌, ℕ, ◌+◌, ◌-◌, ◌<◌, ◌≤◌, max, List, length, map, take, All};
-ghost use Rattle.std.specs.Char.{digit_value};
-ghost use Rattle.std.specs.Str.Parse.{AllDigits};
-ghost use Rattle.decimal_digits.specs.Digits.{text_of};
+ghost use Rattle.std.specs.Prelude.{ℕ, ◌-◌, ◌<◌, ◌≤◌, max, List, length, All};
 
 use super::DigitStore;
 use smallvec::SmallVec;
@@ -53,12 +50,14 @@ impl DigitStore for DigitList {
 
     fn from_digits(alloc: Global, list: &[u8]) -> Result<Self, AllocError> {
         let bytes = SmallVec::from_slice(alloc, list)?;
+        // Proof hint: the capacity is at least eight.
         let _at_least = bytes.capacity();
         Ok(DigitList { bytes })
     }
 
     fn clone(&self) -> Result<Self, AllocError> {
         let bytes = SmallVec::from_slice(*self.bytes.allocator(), self.bytes.as_slice())?;
+        // Proof hint: the capacity is at least eight.
         let _at_least = bytes.capacity();
         Ok(DigitList { bytes })
     }
@@ -81,16 +80,6 @@ impl DigitStore for DigitList {
     #[inline]
     fn push_in_room(&mut self, digit: u8) {
         self.bytes.push_reserved(digit);
-    }
-
-    fn push_text(&mut self, text: &[u8]) {
-        let old_len = self.bytes.len();
-        self.bytes.extend_from_slice(text).unwrap();
-        digits_from_ascii(&mut self.bytes.as_mut_slice()[old_len..]);
-    }
-
-    fn copy_text(&self, from: usize, buffer: &mut [u8]) {
-        digits_to_ascii(&self.bytes.as_slice()[from..], buffer);
     }
 
     #[inline]
@@ -124,26 +113,5 @@ impl DigitStore for DigitList {
     #[inline]
     fn eq(&self, other: &Self) -> bool {
         self.bytes.as_slice() == other.bytes.as_slice()
-    }
-}
-
-/// Replaces ASCII digits by their values.
-fn digits_from_ascii(ascii_text: &mut [u8])
-    requires { AllDigits 10 ascii_text.old }
-    ensures { ascii_text.new ≡ map digit_value ascii_text.old }
-{
-    for ascii in ascii_text.iter_mut() {
-        *ascii -= b'0';
-    }
-}
-
-/// Writes the first digits as ASCII, one to each byte of the buffer.
-fn digits_to_ascii(digits: &[u8], buffer: &mut [u8])
-    requires enough { length buffer.old ≤ length digits.now }
-    requires are_digits { All (λ d. d < 10) digits.now }
-    ensures { buffer.new ≡ text_of (take (length buffer.old) digits.now) }
-{
-    for (index, slot) in buffer.iter_mut().enumerate() {
-        *slot = b'0' + digits[index];
     }
 }

@@ -14,7 +14,7 @@ use super::DigitStore;
 use bulk::{append_text, count_trailing_nibbles, write_text};
 use bytes::{
     append_digits, append_word, append_zeros, are_equal, copy_bytes, cut_digits, drop_unused,
-    keep_digits, pack_digits, push_digit, replace_digits, reserve_digits, set_digit, word_at,
+    keep_digits, pack_digits, push_digit, reserve_digits, set_digit, word_at,
 };
 pub use dotted::dotted_text;
 use nibbles::byte_count;
@@ -22,7 +22,6 @@ pub(super) use nibbles::nibble_at;
 use smallvec::SmallVec;
 use std::alloc::{AllocError, Global};
 use wide::copy_wide;
-use words::keep_nibbles;
 
 /// A list of digits as packed BCD, two digits to a byte, of which up to sixteen need no allocation.
 ///
@@ -47,7 +46,6 @@ impl Drop for PackedDigits {
 }
 
 impl PackedDigits {
-    /// Returns the bytes that hold the digits.
     #[inline]
     fn front(&self) -> &[u8]
         ensures { result.now ≡ take ((self.now.len + 1) / 2) self.now.bytes.items }
@@ -88,15 +86,6 @@ impl DigitStore for PackedDigits {
         Ok(PackedDigits {
             bytes,
             len: list.len(),
-        })
-    }
-
-    #[inline]
-    fn from_bcd(alloc: Global, number: u64, len: usize) -> Result<Self, AllocError> {
-        let word = keep_nibbles(number, len);
-        Ok(PackedDigits {
-            bytes: SmallVec::from_buf(alloc, word.to_be_bytes()),
-            len,
         })
     }
 
@@ -144,13 +133,6 @@ impl DigitStore for PackedDigits {
     #[inline]
     fn set(&mut self, index: usize, digit: u8) {
         set_digit(&mut self.bytes, self.len, index, digit);
-    }
-
-    #[inline]
-    fn replace_from(&mut self, index: usize, digit: u8) {
-        let len = self.len;
-        self.len = index + 1;
-        replace_digits(&mut self.bytes, len, index, digit);
     }
 
     #[inline]

@@ -46,7 +46,6 @@ impl Steps {
         }
     }
 
-    /// Makes a count that is one greater.
     #[inline]
     fn after(&self) -> Steps
         ensures { result.count ≡ self.now.count + 1 }

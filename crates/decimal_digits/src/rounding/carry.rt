@@ -38,7 +38,8 @@ pub fn replace_by_digit<D: DigitStore>(counted: &mut Counted<'_, D>, digit: u8)
     if counted.len() == 0 {
         counted.push_in_room(digit);
     } else {
-        counted.replace_from(0, digit);
+        counted.truncate(1);
+        counted.set(0, digit);
     }
 }
 
@@ -122,6 +123,7 @@ pub fn add_one<D: DigitStore>(
     }
     let last = places - nines - 1;
     let digit = counted.get(last);
-    counted.replace_from(last, digit + 1);
+    counted.truncate(places - nines);
+    counted.set(last, digit + 1);
     Some(places)
 }

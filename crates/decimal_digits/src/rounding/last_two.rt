@@ -8,7 +8,6 @@ use super::carry::{replace_by_digit, replace_by_two_digits};
 use crate::digits::{Counted, DigitStore};
 use std::alloc::AllocError;
 
-/// Returns the digit at an index, or 0 after the last one.
 fn digit_at<D: DigitStore>(counted: &mut Counted<'_, D>, index: usize) -> u8
     ensures value { result ≡ slice_index (D.digits (list_of counted.old)) index }
     ensures is_digit { result < 10 }
@@ -62,7 +61,8 @@ fn truncate_and_push<D: DigitStore>(
     ensures borrows { Continues counted.old counted.new }
 {
     if index < counted.len() {
-        counted.replace_from(index, digit);
+        counted.truncate(index + 1);
+        counted.set(index, digit);
     } else {
         counted.reserve(1)?;
         counted.push_in_room(digit);
@@ -100,7 +100,8 @@ pub fn write_last_two<D: DigitStore>(
     ensures borrows { Continues counted.old counted.new }
 {
     if number % 10 == 0 {
-        counted.replace_from(keep - 2, number / 10);
+        counted.truncate(keep - 1);
+        counted.set(keep - 2, number / 10);
         return Ok(());
     }
     truncate_and_push(counted, keep - 1, number % 10)?;
@@ -146,7 +147,6 @@ pub fn write_number<D: DigitStore>(
     Some(places)
 }
 
-/// Counts the digits of a number up to 100, of which 0 has none.
 fn digit_count(number: u8) -> usize
     requires { number ≤ 100 }
     ensures least { 0 < result → 10 ^ (result - 1) ≤ number }

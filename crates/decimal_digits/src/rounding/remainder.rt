@@ -21,7 +21,6 @@ pub enum Remainder {
     AboveHalf = 3,
 }
 
-/// Returns an increment as a number.
 fn step(increment: RoundingIncrement) -> u8
     ensures { result ≡ step_of increment }
 {
@@ -49,7 +48,6 @@ fn split_by(increment: RoundingIncrement, number: u8) -> (u8, bool)
     }
 }
 
-/// Compares `rest` units, and the remainder below them, with half of `step` units.
 fn combine_remainders(step: u8, rest: u8, remainder: Remainder) -> Remainder
     requires small { step ≤ 25 }
     requires rest { rest < step }

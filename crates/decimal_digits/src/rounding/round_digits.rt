@@ -30,7 +30,6 @@ pub fn remainder_after<D: DigitStore>(counted: &mut Counted<'_, D>, keep: usize)
     }
 }
 
-/// Keeps the first `keep` digits, of which `last` is the last one, and removes the trailing zeros.
 #[inline]
 fn keep_leading<D: DigitStore>(counted: &mut Counted<'_, D>, keep: usize, last: u8)
     requires fewer { keep < length (D.digits (list_of counted.old)) }
@@ -49,7 +48,6 @@ fn keep_leading<D: DigitStore>(counted: &mut Counted<'_, D>, keep: usize, last: 
     }
 }
 
-/// Returns the last of the first `keep` digits, or 0 if `keep` is 0.
 fn last_of<D: DigitStore>(counted: &mut Counted<'_, D>, keep: usize) -> u8
     requires { keep ≤ length (D.digits (list_of counted.old)) }
     ensures last { 0 < keep → result ≡ slice_index (D.digits (list_of counted.old)) (keep - 1) }
@@ -103,7 +101,8 @@ fn round_by_one<D: DigitStore>(
     if last == 9 {
         return add_one(counted, keep, max_places);
     }
-    counted.replace_from(keep - 1, last + 1);
+    counted.truncate(keep);
+    counted.set(keep - 1, last + 1);
     Some(keep)
 }
 

@@ -5,24 +5,25 @@ ghost use Rattle.decimal_format.specs.Symbols.{digit_text, sign_affixes};
 ghost use Rattle.decimal_format.specs.Readable.{code, BeginsWith, IsOther, IsApart, IsReadable};
 ghost use Rattle.decimal_format.specs.Scanning.{BeginsWithDigit, ReadsRun};
 
+use crate::reader::input::{Input, count, skip};
 use crate::symbols::DecimalSymbols;
 use fixed_decimal::Sign;
 
 /// Returns what follows a byte at the start of a text.
 #[inline]
-fn cut_byte<'t>(text: &'t [u8], byte: u8) -> Option<&'t [u8]>
-    ensures { MatchOption result ((rest : List ℕ) → text.now ≢ byte ∷ rest) (λ r. text.now ≡ byte ∷ r.now) }
+fn cut_byte<T: Input>(text: T, byte: u8) -> Option<T>
+    ensures { MatchOption result ((rest : List ℕ) → T.bytes text ≢ byte ∷ rest)
+        (λ r. T.bytes text ≡ byte ∷ T.bytes r) }
 {
-    match text {
-        [first, rest @ ..] if *first == byte => Some(rest),
-        _ => None,
-    }
+    let (first, rest) = text.split_first()?;
+    if first == byte { Some(rest) } else { None }
 }
 
 /// Returns what follows a code at the start of a text. Most codes have one to three bytes.
 #[inline]
-pub fn cut<'t>(text: &'t [u8], code: &[u8]) -> Option<&'t [u8]>
-    ensures { MatchOption result ((rest : List ℕ) → text.now ≢ code.now ++ rest) (λ r. text.now ≡ code.now ++ r.now) }
+pub fn cut<T: Input>(text: T, code: &[u8]) -> Option<T>
+    ensures { MatchOption result ((rest : List ℕ) → T.bytes text ≢ code.now ++ rest)
+        (λ r. T.bytes text ≡ code.now ++ T.bytes r) }
 {
     let mut rest = text;
     for byte in code {
@@ -32,24 +33,29 @@ pub fn cut<'t>(text: &'t [u8], code: &[u8]) -> Option<&'t [u8]>
 }
 
 /// Returns what precedes a code at the end of a text.
-fn cut_end<'t>(text: &'t [u8], code: &[u8]) -> Option<&'t [u8]>
-    ensures { MatchOption result ((front : List ℕ) → text.now ≢ front ++ code.now) (λ r. text.now ≡ r.now ++ code.now) }
+pub fn cut_end<T: Input>(text: T, code: &[u8]) -> Option<T>
+    ensures { MatchOption result ((front : List ℕ) → T.bytes text ≢ front ++ code.now)
+        (λ r. T.bytes text ≡ T.bytes r ++ code.now) }
 {
     if code.is_empty() {
         return Some(text);
     }
-    text.strip_suffix(code)
+    let front = count(text).checked_sub(code.len() as u128)?;
+    cut(skip(text, front), code)?;
+    Some(text.first(front))
 }
 
 /// Returns the ASCII digit that a text begins with, and what follows it.
 #[inline(always)]
-fn next_ascii_digit<'t>(text: &'t [u8]) -> Option<(u8, &'t [u8])>
-    ensures { MatchOption result ((d : ℕ) (rest : List ℕ) → d < 10 → text.now ≢ (48 + d) ∷ rest)
-        (λ r. (r.0 < 10) × (text.now ≡ (48 + r.0) ∷ r.1.now)) }
+fn next_ascii_digit<T: Input>(text: T) -> Option<(u8, T)>
+    ensures { MatchOption result ((d : ℕ) (rest : List ℕ) → d < 10 → T.bytes text ≢ (48 + d) ∷ rest)
+        (λ r. (r.0 < 10) × (T.bytes text ≡ (48 + r.0) ∷ T.bytes r.1)) }
 {
-    match text {
-        [byte, rest @ ..] if byte.is_ascii_digit() => Some((*byte - b'0', rest)),
-        _ => None,
+    let (byte, rest) = text.split_first()?;
+    if byte.is_ascii_digit() {
+        Some((byte - b'0', rest))
+    } else {
+        None
     }
 }
 
@@ -117,10 +123,10 @@ impl<'a> DecimalSymbols<'a> {
     }
 
     /// Returns what follows a digit at the start of a text.
-    fn cut_digit<'t>(&self, text: &'t [u8], digit: u8) -> Option<&'t [u8]>
+    fn cut_digit<T: Input>(&self, text: T, digit: u8) -> Option<T>
         requires { digit < 10 }
-        ensures { MatchOption result ((rest : List ℕ) → text.now ≢ digit_text self.now digit ++ rest)
-            (λ r. text.now ≡ digit_text self.now digit ++ r.now) }
+        ensures { MatchOption result ((rest : List ℕ) → T.bytes text ≢ digit_text self.now digit ++ rest)
+            (λ r. T.bytes text ≡ digit_text self.now digit ++ T.bytes r) }
     {
         let mut buffer = [0; 4];
         let code = self.digit(digit).encode_utf8(&mut buffer);
@@ -128,23 +134,23 @@ impl<'a> DecimalSymbols<'a> {
     }
 
     /// Returns the only digit that a text can begin with, if the ten digits are consecutive characters.
-    fn likely_digit(&self, text: &[u8]) -> Option<u8>
+    fn likely_digit<T: Input>(&self, text: T) -> Option<u8>
         ensures { IfSome result (λ d. d < 10) }
     {
         let zero = u32::from(self.digit(0));
-        let last = text.get(..self.digit_width())?.last()?;
+        let last = text.byte_at(self.digit_width().wrapping_sub(1))?;
         // The last byte of a character has the low six bits of its code point.
-        let digit = (u32::from(*last) & 0x3f).wrapping_sub(zero & 0x3f);
+        let digit = (u32::from(last) & 0x3f).wrapping_sub(zero & 0x3f);
         if digit < 10 { Some(digit as u8) } else { None }
     }
 
     /// Returns the digit that a text begins with, and what follows it; `ASCII` only for ASCII digits.
     #[inline(always)]
-    pub(crate) fn next_digit<'t, const ASCII: bool>(&self, text: &'t [u8]) -> Option<(u8, &'t [u8])>
+    pub(crate) fn next_digit<const ASCII: bool, T: Input>(&self, text: T) -> Option<(u8, T)>
         requires readable { IsReadable self.now }
         requires ascii { ASCII ≡ true → self.now.digits ≡ ascii_digits }
-        ensures { MatchOption result ((d : ℕ) (rest : List ℕ) → d < 10 → text.now ≢ digit_text self.now d ++ rest)
-            (λ r. (r.0 < 10) × (text.now ≡ digit_text self.now r.0 ++ r.1.now)) }
+        ensures { MatchOption result ((d : ℕ) (rest : List ℕ) → d < 10 → T.bytes text ≢ digit_text self.now d ++ rest)
+            (λ r. (r.0 < 10) × (T.bytes text ≡ digit_text self.now r.0 ++ T.bytes r.1)) }
     {
         if ASCII {
             return next_ascii_digit(text);
@@ -154,10 +160,10 @@ impl<'a> DecimalSymbols<'a> {
 
     /// Returns the digit that a text begins with, and what follows it, by any digits.
     #[inline(never)]
-    fn next_other_digit<'t>(&self, text: &'t [u8]) -> Option<(u8, &'t [u8])>
+    fn next_other_digit<T: Input>(&self, text: T) -> Option<(u8, T)>
         requires { IsReadable self.now }
-        ensures { MatchOption result ((d : ℕ) (rest : List ℕ) → d < 10 → text.now ≢ digit_text self.now d ++ rest)
-            (λ r. (r.0 < 10) × (text.now ≡ digit_text self.now r.0 ++ r.1.now)) }
+        ensures { MatchOption result ((d : ℕ) (rest : List ℕ) → d < 10 → T.bytes text ≢ digit_text self.now d ++ rest)
+            (λ r. (r.0 < 10) × (T.bytes text ≡ digit_text self.now r.0 ++ T.bytes r.1)) }
     {
         if text.is_empty() {
             return None;
@@ -178,37 +184,38 @@ impl<'a> DecimalSymbols<'a> {
     /// Reads digits that follow each other, at most the given number: returns them as packed BCD, their number, and
     /// what follows them.
     #[inline(always)]
-    pub(crate) fn read_run<'t, const ASCII: bool>(
+    pub(crate) fn read_run<const ASCII: bool, T: Input>(
         &self,
         most: usize,
-        text: &'t [u8],
-    ) -> (u64, usize, &'t [u8])
+        text: T,
+    ) -> (u64, usize, T)
         requires readable { IsReadable self.now }
         requires ascii { ASCII ≡ true → self.now.digits ≡ ascii_digits }
         requires at_most { most ≤ 8 }
-        ensures { ReadsRun self.now most text.now result.2.now result.0 result.1 }
+        ensures { ReadsRun self.now most (T.bytes text) (T.bytes result.2) result.0 result.1 }
     {
         let mut rest = text;
         let mut number = 0;
         let mut count = 0;
         while count < most {
-            let Some((digit, after)) = self.next_digit::<ASCII>(rest) else {
+            let Some(next) = self.next_digit::<ASCII, T>(rest) else {
                 return (number, count, rest);
             };
-            number = number * 16 + u64::from(digit);
+            number = number * 16 + u64::from(next.0);
             count += 1;
-            rest = after;
+            rest = next.1;
         }
         (number, count, rest)
     }
 
     /// Returns the sign whose prefix a text begins with, and what follows the prefix.
     #[inline(never)]
-    fn split_prefix<'t>(&self, text: &'t [u8]) -> (Sign, &'t [u8])
+    fn split_prefix<T: Input>(&self, text: T) -> (Sign, T)
         requires { IsReadable self.now }
-        ensures found { text.now ≡ (sign_affixes self.now result.0).prefix ++ result.1.now }
+        ensures found { T.bytes text ≡ (sign_affixes self.now result.0).prefix ++ T.bytes result.1 }
         ensures unique { (sign : Sign) (rest : List ℕ) → BeginsWithDigit self.now rest
-            → text.now ≡ (sign_affixes self.now sign).prefix ++ rest → (result.0 ≡ sign) × (result.1.now ≡ rest) }
+            → T.bytes text ≡ (sign_affixes self.now sign).prefix ++ rest
+            → (result.0 ≡ sign) × (T.bytes result.1 ≡ rest) }
     {
         if let Some(rest) = cut(text, self.prefix(Sign::Negative).as_bytes()) {
             return (Sign::Negative, rest);
@@ -221,13 +228,13 @@ impl<'a> DecimalSymbols<'a> {
 
     /// Returns the sign that a text shows, and what is between its prefix and its suffix.
     #[inline(always)]
-    pub(crate) fn split_sign<'t>(&self, text: &'t [u8]) -> Option<(Sign, &'t [u8])>
+    pub(crate) fn split_sign<T: Input>(&self, text: T) -> Option<(Sign, T)>
         requires { IsReadable self.now }
-        ensures found { IfSome result (λ r. text.now
-            ≡ (sign_affixes self.now r.0).prefix ++ (r.1.now ++ (sign_affixes self.now r.0).suffix)) }
+        ensures found { IfSome result (λ r. T.bytes text
+            ≡ (sign_affixes self.now r.0).prefix ++ (T.bytes r.1 ++ (sign_affixes self.now r.0).suffix)) }
         ensures unique { (sign : Sign) (number : List ℕ) → BeginsWithDigit self.now number
-            → text.now ≡ (sign_affixes self.now sign).prefix ++ (number ++ (sign_affixes self.now sign).suffix)
-            → IsSomeAnd result (λ r. (r.0 ≡ sign) × (r.1.now ≡ number)) }
+            → T.bytes text ≡ (sign_affixes self.now sign).prefix ++ (number ++ (sign_affixes self.now sign).suffix)
+            → IsSomeAnd result (λ r. (r.0 ≡ sign) × (T.bytes r.1 ≡ number)) }
     {
         // No prefix begins with a digit.
         if self.has_ascii_digits() {

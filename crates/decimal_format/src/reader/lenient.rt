@@ -1,20 +1,16 @@
 //! Reading of numbers as people type them.
-ghost use Rattle.std.specs.Prelude.{◌≡◌, ◌<◌, ◌≤◌, ℕ, ◌⊎◌, ◌↔◌, length, IfOk, IsOk, MatchResult, Err};
+ghost use Rattle.std.specs.Prelude.{◌≡◌, ℕ, [], ◌∷◌, MatchOption};
 ghost use Rattle.std.specs.List.{list_any};
-ghost use Rattle.std.specs.Str.{chars};
-ghost use Rattle.decimal_unsigned.specs.Unsigned.{IsValue};
-ghost use Rattle.fixed_decimal.specs.Decimal.{Decimal};
-ghost use Rattle.decimal_format.specs.Lenient.{is_mark, is_minus, is_plus, is_space, is_apostrophe, is_separator, replacement, normalized, IsLenientNumeral, IsLenientlyWritten, IsTyped, IsTypedNumeral, TypedNeedsMemory};
+ghost use Rattle.std.specs.Str.{IsUtf8, chars};
+ghost use Rattle.decimal_format.specs.Lenient.{is_mark, is_minus, is_plus, is_space, is_apostrophe, is_separator, replacement, normalized, IsTyped, IsTypedNumeral};
 ghost use Rattle.decimal_format.specs.Readable.{IsReadable};
-ghost use Rattle.decimal_format.specs.Reading.{Numeral, IsBeyondLimits, NeedsMemory};
+ghost use Rattle.decimal_format.specs.Reading.{IsRead};
+ghost use Rattle.decimal_format.specs.Scanning.{left_of};
 
+use crate::reader::input::Input;
 use crate::symbols::DecimalSymbols;
 use fixed_decimal::{DigitStore, ParseError, Sign, Signed, UnsignedOver};
-use smallvec::SmallVec;
-use std::alloc::{AllocError, Global};
-
-/// The number of bytes of a normal form that are kept without an allocation.
-const INLINE: usize = 64;
+use std::alloc::Global;
 
 /// Returns whether a character is a direction mark.
 fn is_mark(c: char) -> bool
@@ -52,6 +48,89 @@ fn is_apostrophe(c: char) -> bool
     ensures { result ≡ is_apostrophe c }
 {
     matches!(c, '\'' | '\u{2019}')
+}
+
+/// Returns the first character of a text, and what follows it.
+fn split_first_char(text: &str) -> Option<(char, &str)>
+    ensures { MatchOption result (chars text.now ≡ []) (λ r. (chars text.now ≡ r.0 ∷ chars r.1.now) × IsUtf8 r.1.now) }
+{
+    let mut chars = text.chars();
+    let c = chars.next()?;
+    Some((c, chars.as_str()))
+}
+
+/// The bytes of a normal form that are left to read. They are made as they are read, without memory.
+#[derive(Clone, Copy)]
+struct Normalized<'t, 'a> {
+    symbols: &'t DecimalSymbols<'a>,
+    text: &'t str,
+    /// The number of bytes of the normal form of `text` that were read.
+    read: usize,
+    /// The number of bytes that follow at most.
+    left: u128,
+}
+
+impl<'t, 'a> Normalized<'t, 'a> {
+    /// Makes the normal form of a text.
+    fn new(symbols: &'t DecimalSymbols<'a>, text: &'t str) -> Self
+        ensures { left_of result ≡ normalized symbols.now text.now }
+    {
+        // Proof hint: what a character stands for has at most 255 bytes.
+        symbols.are_valid();
+        Normalized {
+            symbols,
+            text,
+            read: 0,
+            left: u128::MAX,
+        }
+    }
+}
+
+impl<'t, 'a> Input for Normalized<'t, 'a> {
+    ghost use Rattle.decimal_format.specs.Scanning.{left_of};
+
+    ghost bytes = { left_of };
+
+    fn is_empty(self) -> bool {
+        self.split_first().is_none()
+    }
+
+    fn split_first(self) -> Option<(u8, Self)> {
+        if self.left == 0 {
+            return None;
+        }
+        let mut text = self.text;
+        let mut read = self.read;
+        while let Some((c, rest)) = split_first_char(text) {
+            let mut buffer = [0; 4];
+            let bytes = self.symbols.replacement(c, &mut buffer);
+            if read < bytes.len() {
+                let after = Normalized {
+                    symbols: self.symbols,
+                    text,
+                    read: read + 1,
+                    left: self.left - 1,
+                };
+                return Some((bytes[read], after));
+            }
+            read -= bytes.len();
+            text = rest;
+        }
+        None
+    }
+
+    fn first(self, count: u128) -> Self {
+        Normalized {
+            symbols: self.symbols,
+            text: self.text,
+            read: self.read,
+            left: count,
+        }
+    }
+
+    fn byte_at(self, _index: usize) -> Option<u8> {
+        None
+    }
 }
 
 impl<'a> DecimalSymbols<'a> {
@@ -99,46 +178,6 @@ impl<'a> DecimalSymbols<'a> {
         c.encode_utf8(buffer).as_bytes()
     }
 
-    /// Writes a text in the symbols of the locale.
-    ///
-    /// # Errors
-    ///
-    /// Out of memory; possible only with more than 64 bytes.
-    fn normalized(&self, alloc: Global, text: &str) -> Result<SmallVec<u8, INLINE>, AllocError>
-        ensures ok { IfOk result (λ bytes. bytes.items ≡ normalized self.now text.now) }
-        ensures succeeds { length (normalized self.now text.now) ≤ 64 → IsOk result }
-    {
-        let mut bytes = SmallVec::new(alloc);
-        for c in text.chars() {
-            let mut buffer = [0; 4];
-            bytes.extend_from_slice((&*self).replacement(c, &mut buffer))?;
-        }
-        Ok(bytes)
-    }
-
-    /// Reads the normal form of a text.
-    fn read_normalized<D: DigitStore>(
-        &self,
-        alloc: Global,
-        text: &str,
-    ) -> Result<Signed<UnsignedOver<D>>, ParseError>
-        requires { IsReadable self.now }
-        ensures found { IfOk result (λ v. IsLenientlyWritten self.now v (normalized self.now text.now)) }
-        ensures reads_back { (v : Decimal) → IsValue v.absolute
-            → IsLenientlyWritten self.now v (normalized self.now text.now)
-            → MatchResult result (λ w. w ≡ v) (λ e. e ≡ ParseError.Memory) }
-        ensures syntax { result ≡ Err ParseError.Syntax
-            → (w : Numeral) → ¬ IsLenientNumeral self.now (normalized self.now text.now) w }
-        ensures limit { result ≡ Err ParseError.Limit
-            → (w : Numeral) × IsLenientNumeral self.now (normalized self.now text.now) w × IsBeyondLimits w }
-        ensures memory { result ≡ Err ParseError.Memory → (64 < length (normalized self.now text.now))
-            ⊎ ((v : Decimal) × IsLenientlyWritten self.now v (normalized self.now text.now)
-            × NeedsMemory D.L v.absolute) }
-    {
-        let bytes = self.normalized(alloc, text)?;
-        self.read_any_groups(alloc, bytes.as_slice())
-    }
-
     /// Reads a decimal as people type it.
     ///
     /// A text that [`read`](Self::read) accepts has the same value. In any other text, ASCII digits stand for the
@@ -149,24 +188,18 @@ impl<'a> DecimalSymbols<'a> {
     ///
     /// # Errors
     ///
-    /// As for [`read`](Self::read); `Memory` also if the text so written has more than 64 bytes.
+    /// As for [`read`](Self::read).
     pub fn read_lenient<D: DigitStore>(
         &self,
         alloc: Global,
         text: &str,
     ) -> Result<Signed<UnsignedOver<D>>, ParseError>
         requires { IsReadable self.now }
-        ensures found { IfOk result (λ v. IsTyped self.now v text.now) }
-        ensures reads { (v : Decimal) → IsValue v.absolute → IsTyped self.now v text.now
-            → MatchResult result (λ w. w ≡ v) (λ e. e ≡ ParseError.Memory) }
-        ensures syntax { result ≡ Err ParseError.Syntax → (w : Numeral) → ¬ IsTypedNumeral self.now text.now w }
-        ensures limit { result ≡ Err ParseError.Limit
-            → (w : Numeral) × IsTypedNumeral self.now text.now w × IsBeyondLimits w }
-        ensures memory { result ≡ Err ParseError.Memory → TypedNeedsMemory D.L self.now text.now }
+        ensures { IsRead D.L (IsTypedNumeral self.now text.now) (λ v. IsTyped self.now v text.now) result }
     {
         match self.read(alloc, text.as_bytes()) {
             Ok(value) => Ok(value),
-            Err(ParseError::Syntax) => self.read_normalized(alloc, text),
+            Err(ParseError::Syntax) => self.read_groups(alloc, Normalized::new(self, text), false),
             Err(ParseError::Limit) => Err(ParseError::Limit),
             Err(ParseError::Memory) => Err(ParseError::Memory),
         }

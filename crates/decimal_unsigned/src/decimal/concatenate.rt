@@ -82,7 +82,6 @@ impl<D: DigitStore> UnsignedOver<D> {
         }
     }
 
-    /// Returns whether neither number is 0, and the other has a nonzero digit at or above the last one of this number.
     #[tactic(auto, unfolding(crate::specs::Concatenation::overlaps))]
     fn overlaps(&self, other: &Self) -> bool
         ensures { result ≡ overlaps self.now other.now }
@@ -93,7 +92,6 @@ impl<D: DigitStore> UnsignedOver<D> {
         self.nonzero_magnitude_end() <= other.nonzero_magnitude_start()
     }
 
-    /// Moves the digits of another number into 0.
     fn take_digits(&mut self, other: Self)
         requires { self.old.number ≡ 0 }
         ensures { self.new ≡ concatenated_end self.old other }
@@ -109,7 +107,6 @@ impl<D: DigitStore> UnsignedOver<D> {
         self.magnitude = magnitude;
     }
 
-    /// Appends the digits of a number whose first nonzero digit is below the last one of this number.
     fn append(&mut self, other: &Self) -> Result<(), AllocError>
         requires first_is_nonzero { 0 < self.old.number }
         requires second_is_nonzero { 0 < other.now.number }
@@ -127,7 +124,6 @@ impl<D: DigitStore> UnsignedOver<D> {
         Ok(())
     }
 
-    /// Counts the magnitudes between the last nonzero digit of this number and the first of another.
     fn zeros_before(&self, other: &Self) -> usize
         requires { first other.now.number <ℤ last self.now.number }
         ensures { last self.now.number ≡ first other.now.number +ℤ pos (result + 1) }
@@ -139,7 +135,6 @@ impl<D: DigitStore> UnsignedOver<D> {
             - 2
     }
 
-    /// Extends the range to the magnitudes that another value shows.
     fn widen(&mut self, other: &Self)
         ensures { self.new ≡ record self.old
             { hi = int_max self.old.hi other.now.hi; lo = int_min self.old.lo other.now.lo } }

@@ -10,7 +10,6 @@ use decimal_digits::ops::{at_least_zero, subtract_counts};
 use decimal_digits::uint_iterator::{IntIterator, MAX_DIGITS, UnsignedInteger};
 use std::alloc::{AllocError, Global};
 
-/// Writes the digits of an integer to the end of the buffer, and returns the index of the first one.
 fn write_integer_digits<T: UnsignedInteger>(integer: T, buffer: &mut [u8; MAX_DIGITS]) -> usize
     requires { T.number integer < 2 ^ 128 }
     ensures within { result ≤ length buffer.old }
@@ -24,7 +23,6 @@ fn write_integer_digits<T: UnsignedInteger>(integer: T, buffer: &mut [u8; MAX_DI
     start
 }
 
-/// Returns the index after the last nonzero digit, or 0 if there is none.
 fn trimmed_len(digits: &[u8]) -> usize
     ensures within { result ≤ length digits.now }
     ensures zeros { (k : ℕ) → result ≤ k → slice_index digits.now k ≡ 0 }
@@ -122,7 +120,6 @@ impl<D: DigitStore> UnsignedOver<D> {
         Self::from_integer::<usize>(alloc, integer)
     }
 
-    /// Makes the value of an integer.
     #[inline]
     fn from_integer<T: UnsignedInteger>(alloc: Global, integer: T) -> Result<Self, AllocError>
         requires { T.number integer < 2 ^ 128 }

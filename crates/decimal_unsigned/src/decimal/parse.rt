@@ -111,25 +111,6 @@ pub fn lowest_of(text: &[u8]) -> Result<i16, ParseError>
     Ok(Scan::new(text)?.lowest())
 }
 
-/// Makes the list of the digits of two ASCII texts.
-fn list_of_texts<D: DigitStore>(
-    alloc: Global,
-    whole: &[u8],
-    fraction: &[u8],
-) -> Result<D, AllocError>
-    requires whole { AllDigits 10 whole.now }
-    requires fraction { AllDigits 10 fraction.now }
-    ensures ok { IfOk result (λ d. D.digits d ≡ map digit_value whole.now ++ map digit_value fraction.now) }
-    ensures succeeds { length whole.now + length fraction.now ≤ D.L → IsOk result }
-{
-    let mut list = D::empty(alloc);
-    list.reserve(whole.len() + fraction.len())?;
-    list.push_text(whole);
-    list.push_text(fraction);
-    Ok(list)
-}
-
-/// Makes the list of the digits from index `start` to before `end`: integer digits, and then fraction digits.
 fn digits_between<D: DigitStore>(
     alloc: Global,
     parts: &Parts<'_>,
@@ -143,7 +124,11 @@ fn digits_between<D: DigitStore>(
     ensures succeeds { end - start ≤ D.L → IsOk result }
 {
     let (whole, fraction) = parts.between(start, end);
-    list_of_texts(alloc, whole, fraction)
+    let mut list = D::empty(alloc);
+    list.reserve(whole.len() + fraction.len())?;
+    list.push_text(whole);
+    list.push_text(fraction);
+    Ok(list)
 }
 
 impl<D: DigitStore> UnsignedOver<D> {
@@ -198,11 +183,9 @@ impl<D: DigitStore> UnsignedOver<D> {
         ensures { IfSome result (λ v. read text.now ≡ Ok v) }
     {
         let plain = few_digits(text, D::L.min(16))?;
-        let number = plain.number as u64;
-        Self::from_bcd_digits(alloc, plain.whole, plain.fraction, number).ok()
+        Self::from_bcd_digits(alloc, plain.whole, plain.fraction, plain.number).ok()
     }
 
-    /// Parses a value.
     #[inline(always)]
     fn read_from(alloc: Global, text: &[u8]) -> Result<Self, ParseError>
         ensures { IsParseResult (λ v. D.L < size v.number) result (read text.now) }
@@ -229,7 +212,6 @@ impl<D: DigitStore> UnsignedOver<D> {
         Ok(value)
     }
 
-    /// Parses any text, up to 32 digits in one pass.
     // Not inlined: it then has its own stack frame, which a short text does not fill with zeros.
     #[inline(never)]
     fn scan_any(alloc: Global, text: &[u8]) -> Result<Self, ParseError>

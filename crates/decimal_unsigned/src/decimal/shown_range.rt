@@ -13,7 +13,6 @@ use decimal_digits::ops::{
 };
 
 impl<D: DigitStore> UnsignedOver<D> {
-    /// Sets the highest magnitude that is shown.
     #[inline]
     pub(super) fn set_highest(&mut self, hi: i16)
         requires number { first self.old.number ≤ℤ hi }
@@ -23,7 +22,6 @@ impl<D: DigitStore> UnsignedOver<D> {
         self.hi = hi;
     }
 
-    /// Sets the lowest magnitude that is shown.
     #[inline]
     pub(super) fn set_lowest(&mut self, lo: i16)
         requires number { lo ≤ℤ last self.old.number }
@@ -178,14 +176,12 @@ impl<D: DigitStore> UnsignedOver<D> {
     }
 }
 
-/// Counts the magnitudes from a position up to a magnitude, or returns 0 if the position is higher.
 fn places_from(position: i16, magnitude: i16) -> usize
     ensures { result ≡ int_gap position (magnitude +ℤ pos 1) }
 {
     places_above(position, magnitude).unwrap_or(0)
 }
 
-/// Returns the index of the first nonzero digit from index `from`, or the number of digits if there is none.
 fn first_nonzero<D: DigitStore>(digits: &D, from: usize) -> usize
     requires { from ≤ length (D.digits digits.now) }
     ensures from { from ≤ result }

@@ -42,7 +42,6 @@ impl<D: DigitStore> UnsignedOver<D> {
             .copy_text(from, &mut buffer[start..start + count]);
     }
 
-    /// Returns the index of the decimal point, which is the number of integer digits; a text without one ends there.
     #[inline]
     fn dot(&self) -> usize
         ensures value { result ≡ int_gap (pos 0) self.now.hi + 1 }
@@ -69,7 +68,6 @@ impl<D: DigitStore> UnsignedOver<D> {
         }
     }
 
-    /// Returns the byte of a text of one byte.
     #[inline]
     fn only_byte(&self) -> u8
         requires { length (text self.now) ≡ 1 }
@@ -78,7 +76,6 @@ impl<D: DigitStore> UnsignedOver<D> {
         b'0' + self.digit_at(0)
     }
 
-    /// Returns whether at most sixteen magnitudes are shown.
     #[inline]
     pub(super) fn is_short(&self) -> bool
         ensures short { IsTrue result ↔ (int_gap self.now.lo self.now.hi < 16) }

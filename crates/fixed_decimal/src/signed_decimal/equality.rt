@@ -34,8 +34,8 @@ impl<D: DigitStore> Signed<UnsignedOver<D>> {
         ensures texts { IsTrue result ↔ (decimal_text self.now ≡ decimal_text other.now) }
         ensures valid { IsValue self.now.absolute × IsValue other.now.absolute }
     {
-        // Proof hint: both absolute values are valid.
-        let _hints = (self.absolute.is_zero(), other.absolute.is_zero());
+        prove!(self.absolute.lowest() <= 0);
+        prove!(other.absolute.lowest() <= 0);
         self == other
     }
 }

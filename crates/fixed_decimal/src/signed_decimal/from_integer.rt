@@ -10,7 +10,6 @@ use decimal_digits::digits::DigitStore;
 use decimal_unsigned::decimal::UnsignedOver;
 use std::alloc::{AllocError, Global};
 
-/// Returns `Negative` for a negative integer, and `None` for any other.
 #[inline]
 fn negative_if(negative: bool) -> Sign
     ensures { result ≡ (if negative then Sign.Negative else Sign.None) }

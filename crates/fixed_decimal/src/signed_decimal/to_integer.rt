@@ -8,7 +8,6 @@ use decimal_digits::digits::DigitStore;
 use decimal_unsigned::IntegerError;
 use decimal_unsigned::decimal::UnsignedOver;
 
-/// Returns an absolute value as an integer, if it is below a bound.
 fn positive(absolute: u128, bound: u128) -> Result<i128, IntegerError>
     requires { bound ≤ 2 ^ 127 }
     ensures { result ≡ signed_in_range bound (pos absolute) }
@@ -19,7 +18,6 @@ fn positive(absolute: u128, bound: u128) -> Result<i128, IntegerError>
     Ok(absolute as i128)
 }
 
-/// Returns the negative of an absolute value, if that is at most a bound.
 fn negative(absolute: u128, bound: u128) -> Result<i128, IntegerError>
     requires positive { 0 < bound }
     requires in_range { bound ≤ 2 ^ 127 }

@@ -1,6 +1,6 @@
 //! Whole runs into sinks that fail, over each store.
 use super::*;
-use fixed_decimal::{Call, Out, RunError, Signed, apply_calls, run_over};
+use fixed_decimal::{Call, CallError, Out, RunError, Signed, apply_calls, run_over};
 use test_support::{FailingWriter, LimitedSink, WriteFailure};
 
 /// A start, calls, and the text of the run.
@@ -100,13 +100,12 @@ const APPLIED: &[Applied] = &[
 ];
 
 /// Returns the number of the call that failed.
-fn failed_call(error: &RunError) -> Option<usize> {
+fn failed_call(error: &CallError) -> usize {
     match error {
-        RunError::Operand { at, .. }
-        | RunError::Overlap { at }
-        | RunError::Limit { at }
-        | RunError::Memory { at } => Some(*at),
-        RunError::Start(_) | RunError::Sink => None,
+        CallError::Operand { at, .. }
+        | CallError::Overlap { at }
+        | CallError::Limit { at }
+        | CallError::Memory { at } => *at,
     }
 }
 
@@ -117,7 +116,7 @@ fn leaves<D: DigitStore>(alloc: Global, (start, calls, text, failed): Applied) -
     };
     let at = match apply_calls(alloc, &mut value, calls) {
         Ok(()) => None,
-        Err(error) => failed_call(&error),
+        Err(error) => Some(failed_call(&error)),
     };
     at == failed && prints(value, text)
 }

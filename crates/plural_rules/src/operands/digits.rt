@@ -30,7 +30,6 @@ impl<'a, D: DigitStore> Model for Digits<'a, D> {
 }
 
 impl<'a, D: DigitStore> Digits<'a, D> {
-    /// Makes the digits at `count` magnitudes, from `top` downward.
     pub(super) fn new(value: &'a UnsignedOver<D>, top: i16, count: u32) -> Self
         requires { count ≤ offset top + 1 }
         ensures { result ≡ digit_slice value.now.number (offset top + 1) count }
@@ -45,7 +44,6 @@ impl<'a, D: DigitStore> Digits<'a, D> {
         digits_up_to(self.value, self.top, self.count, most)
     }
 
-    /// Returns the remainder of the integer by a modulus.
     pub(super) fn modulo(&self, modulus: u64) -> u64
         requires positive { 0 < modulus }
         requires at_most { modulus ≤ 10 ^ 18 }

@@ -26,7 +26,6 @@ pub struct Builder {
     number: u64,
 }
 
-/// Returns the modulus that was read, if any.
 fn modulus_read(is_divided: bool, number: u64) -> Option<Modulus>
     requires { is_divided ≡ true → number ≤ 10 ^ 18 }
     ensures { result ≡ reader.modulus_of is_divided number }
@@ -66,7 +65,6 @@ impl Builder {
         PluralRules::new(self.rules)
     }
 
-    /// Starts a rule by its category.
     fn begin_rule(&mut self, category: PluralCategory)
         ensures { (seen : Categories) → partial (reader.with seen category) self.new
             ≡ reader.after (Event.Category category) (partial seen self.old) }
@@ -76,7 +74,6 @@ impl Builder {
         self.relations = Vec::new(self.alloc);
     }
 
-    /// Starts a relation by its operand.
     fn begin_relation(&mut self, operand: Operand)
         ensures { (seen : Categories)
             → partial seen self.new ≡ reader.after (Event.Operand operand) (partial seen self.old) }
@@ -86,7 +83,6 @@ impl Builder {
         self.ranges = Vec::new(self.alloc);
     }
 
-    /// Starts the ranges after a comparison.
     fn begin_ranges(&mut self, is_equal: bool)
         requires { IsSmall (Event.Equal is_equal) self.old }
         ensures { (seen : Categories)
@@ -98,7 +94,6 @@ impl Builder {
         self.low = None;
     }
 
-    /// Ends a range.
     fn end_range(&mut self) -> Result<(), AllocError>
         ensures { OnOk result ((seen : Categories) → partial seen self.new ≡ reader.end_range (partial seen self.old)) }
     {
@@ -109,7 +104,6 @@ impl Builder {
         Ok(())
     }
 
-    /// Ends a relation, whose ranges have ended.
     fn end_relation(&mut self) -> Result<(), AllocError>
         ensures { OnOk result ((seen : Categories)
             → partial seen self.new ≡ reader.end_relation (partial seen self.old)) }
@@ -120,7 +114,6 @@ impl Builder {
         Ok(())
     }
 
-    /// Ends an alternative, whose relations have ended.
     fn end_alternative(&mut self) -> Result<(), AllocError>
         ensures { OnOk result ((seen : Categories)
             → partial seen self.new ≡ reader.end_alternative (partial seen self.old)) }
@@ -130,7 +123,6 @@ impl Builder {
         Ok(())
     }
 
-    /// Ends a rule, whose alternatives have ended.
     fn end_rule(&mut self) -> Result<(), AllocError>
         ensures { OnOk result ((seen : Categories) → partial seen self.new ≡ reader.end_rule (partial seen self.old)) }
     {

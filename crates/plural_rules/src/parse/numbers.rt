@@ -18,14 +18,12 @@ pub enum Numbers {
     TooLarge(usize),
 }
 
-/// Returns the greatest modulus, or the greatest other number.
 fn limit(is_modulus: bool) -> u64
     ensures { result ≡ reader.limit is_modulus }
 {
     if is_modulus { MAX_MODULUS } else { u64::MAX }
 }
 
-/// Returns `Fit` for a number that is at most its limit, and `TooLarge` for any other.
 fn checked_number(is_modulus: bool, begin: usize, number: u128) -> Numbers
     ensures { result ≡ reader.checked_number is_modulus begin number }
 {

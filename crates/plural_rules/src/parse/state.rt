@@ -115,7 +115,6 @@ impl Categories {
         }
     }
 
-    /// Whether a category is among them.
     fn has(self, category: PluralCategory) -> bool
         ensures { result ≡ reader.has self category }
     {
@@ -129,7 +128,6 @@ impl Categories {
         }
     }
 
-    /// Returns these categories and one more.
     fn with(mut self, category: PluralCategory) -> Self
         ensures { result ≡ reader.with self category }
     {
@@ -154,7 +152,6 @@ impl Categories {
         }
     }
 
-    /// Whether all six are among them.
     fn is_full(self) -> bool
         ensures { result ≡ reader.is_full self }
     {
@@ -165,7 +162,6 @@ impl Categories {
 /// The state after a byte and the event of the byte; `None` if no rules continue with the byte.
 type Transition = Option<(State, Event)>;
 
-/// Whether a byte is a blank.
 fn is_blank(byte: u8) -> bool
     ensures { result ≡ is_blank byte }
 {
@@ -183,7 +179,6 @@ fn skip(state: State, byte: u8, otherwise: Transition) -> Transition
     }
 }
 
-/// The first letter of a category, which must be a new one.
 fn new_category(seen: Categories, category: PluralCategory) -> Transition
     ensures { result ≡ reader.new_category seen category }
 {
@@ -220,7 +215,6 @@ fn second_letter(seen: Categories, byte: u8) -> Transition
     }
 }
 
-/// Returns the state after the colon of a category.
 fn condition_of(category: PluralCategory) -> State
     ensures { result ≡ reader.condition_of category }
 {
@@ -230,7 +224,6 @@ fn condition_of(category: PluralCategory) -> State
     }
 }
 
-/// The letter of an operand.
 fn operand(byte: u8) -> Transition
     ensures { result ≡ reader.operand byte }
 {
@@ -258,7 +251,6 @@ fn rule_end(seen: Categories, byte: u8, event: Event) -> Transition
     }
 }
 
-/// The first byte of a comparison.
 fn comparison(byte: u8) -> Transition
     ensures { result ≡ reader.comparison byte }
 {
@@ -269,7 +261,6 @@ fn comparison(byte: u8) -> Transition
     }
 }
 
-/// Reads the byte after a range and its blanks.
 fn follows_range(seen: Categories, byte: u8) -> Transition
     ensures { result ≡ reader.follows_range seen byte }
 {
@@ -281,7 +272,6 @@ fn follows_range(seen: Categories, byte: u8) -> Transition
     }
 }
 
-/// Reads the byte after the first number of a range.
 fn after_low(seen: Categories, byte: u8) -> Transition
     ensures { result ≡ reader.after_low seen byte }
 {
@@ -293,7 +283,6 @@ fn after_low(seen: Categories, byte: u8) -> Transition
     skip(State::AfterLow, byte, dot_or_end)
 }
 
-/// Reads the byte after the second number of a range.
 fn after_high(seen: Categories, byte: u8) -> Transition
     ensures { result ≡ reader.after_high seen byte }
 {
@@ -367,7 +356,6 @@ fn modulus_state(byte: u8) -> State
     }
 }
 
-/// Reads the byte after an operand.
 fn percent(byte: u8) -> Transition
     ensures { result ≡ reader.next reader.no_categories State.Percent byte }
 {
@@ -379,7 +367,6 @@ fn percent(byte: u8) -> Transition
     skip(State::Percent, byte, rest)
 }
 
-/// Reads the byte after the colon of `other`.
 fn other_condition(seen: Categories, byte: u8) -> Transition
     ensures { result ≡ reader.next seen State.OtherCondition byte }
 {
@@ -391,7 +378,6 @@ fn other_condition(seen: Categories, byte: u8) -> Transition
     skip(State::OtherCondition, byte, rest)
 }
 
-/// Reads a byte of samples, or the semicolon after them.
 fn sample(seen: Categories, byte: u8) -> Transition
     ensures { result ≡ reader.next seen State.Samples byte }
 {

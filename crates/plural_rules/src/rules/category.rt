@@ -26,7 +26,6 @@ fn operand_up_to<D: DigitStore>(
     }
 }
 
-/// Returns the remainder of an operand by a modulus.
 fn operand_modulo<D: DigitStore>(
     number: &PluralOperands<'_, D>,
     operand: Operand,
@@ -47,7 +46,6 @@ fn operand_modulo<D: DigitStore>(
 }
 
 impl Range {
-    /// Whether an integer is in the range; `None` is an integer above the range.
     fn contains(&self, number: Option<u64>) -> bool
         ensures { (n : ℕ) → IsUpTo self.now.high number n → result ≡ in_range n self.now }
     {
@@ -58,7 +56,6 @@ impl Range {
     }
 }
 
-/// Whether an operand as an integer is in one of the ranges.
 fn operand_is_in<D: DigitStore>(
     number: &PluralOperands<'_, D>,
     operand: Operand,
@@ -69,7 +66,6 @@ fn operand_is_in<D: DigitStore>(
     ranges.iter().any(|range| range.contains(operand_up_to(number, operand, range.high)))
 }
 
-/// Whether a remainder is in one of the ranges.
 fn remainder_is_in(remainder: u64, ranges: &[Range]) -> bool
     ensures { result ≡ list_any (in_range remainder) ranges.now }
 {
@@ -79,7 +75,6 @@ fn remainder_is_in(remainder: u64, ranges: &[Range]) -> bool
 }
 
 impl Relation {
-    /// Whether the operand is an integer, and it or its remainder is in one of the ranges.
     fn equals<D: DigitStore>(&self, number: &PluralOperands<'_, D>) -> bool
         ensures { result ≡ equals number.now self.now }
     {
@@ -95,7 +90,6 @@ impl Relation {
         }
     }
 
-    /// Whether the relation holds.
     fn holds<D: DigitStore>(&self, number: &PluralOperands<'_, D>) -> bool
         ensures { result ≡ holds number.now self.now }
     {
@@ -107,7 +101,6 @@ impl Relation {
     }
 }
 
-/// Whether each of the relations holds.
 fn all_hold<D: DigitStore>(relations: &[Relation], number: &PluralOperands<'_, D>) -> bool
     ensures { result ≡ list_all (holds number.now) relations.now }
 {
@@ -115,7 +108,6 @@ fn all_hold<D: DigitStore>(relations: &[Relation], number: &PluralOperands<'_, D
 }
 
 impl Rule {
-    /// Whether the condition is met.
     fn is_met<D: DigitStore>(&self, number: &PluralOperands<'_, D>) -> bool
         ensures { result ≡ is_met number.now self.now }
     {

@@ -13,7 +13,6 @@ use super::nibbles::{append_pairs, set_nibble};
 use super::words::{count_equal_nibbles, front_word, join_nibbles, pack_word};
 use smallvec::SmallVec;
 
-/// Appends the digits of an ASCII text, for which there is room.
 pub(super) fn append_text(bytes: &mut SmallVec<u8, 8>, len: usize, text: &[u8])
     requires padded { IsPadded bytes.old.items len }
     requires has_room { length text.now ≤ 2 * bytes.old.capacity - len }
@@ -31,7 +30,6 @@ pub(super) fn append_text(bytes: &mut SmallVec<u8, 8>, len: usize, text: &[u8])
     }
 }
 
-/// Appends the digits of an ASCII text, for which there is room, to make more than sixteen in all.
 fn append_long_text(bytes: &mut SmallVec<u8, 8>, len: usize, text: &[u8])
     requires padded { IsPadded bytes.old.items len }
     requires many { 16 < len + length text.now }
@@ -52,7 +50,6 @@ fn append_long_text(bytes: &mut SmallVec<u8, 8>, len: usize, text: &[u8])
     }
 }
 
-/// Writes the nibbles from index `from` as ASCII, one to each byte of the buffer.
 pub(super) fn write_text(bytes: &[u8], from: usize, buffer: &mut [u8])
     requires { from + length buffer.old ≤ length (nibbles bytes.now) }
     ensures { buffer.new ≡ text_of (take (length buffer.old) (drop from (nibbles bytes.now))) }
@@ -66,7 +63,6 @@ pub(super) fn write_text(bytes: &[u8], from: usize, buffer: &mut [u8])
     }
 }
 
-/// Writes the first nibbles as ASCII, one to each byte of the buffer.
 fn write_pairs(bytes: &[u8], buffer: &mut [u8])
     requires { length buffer.old ≤ length (nibbles bytes.now) }
     ensures { buffer.new ≡ text_of (take (length buffer.old) (nibbles bytes.now)) }
@@ -81,7 +77,6 @@ fn write_pairs(bytes: &[u8], buffer: &mut [u8])
     }
 }
 
-/// Counts the nibbles equal to `nibble` at the end of the first `count`.
 pub(super) fn count_trailing_nibbles(bytes: &[u8], count: usize, nibble: u8) -> usize
     requires enough { 8 ≤ length bytes.now }
     requires in_range { count ≤ length (nibbles bytes.now) }
@@ -105,7 +100,6 @@ pub(super) fn count_trailing_nibbles(bytes: &[u8], count: usize, nibble: u8) -> 
     odd + 2 * same
 }
 
-/// Counts the bytes equal to `byte` at the end.
 fn count_trailing_bytes(bytes: &[u8], byte: u8) -> usize
     ensures within { result ≤ length bytes.now }
     ensures equal { (k : ℕ) → length bytes.now ≤ k + result → k < length bytes.now → slice_index bytes.now k ≡ byte }

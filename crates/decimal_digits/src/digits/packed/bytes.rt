@@ -8,16 +8,12 @@ ghost use Rattle.decimal_digits.specs.Nibbles.{digits_in, bcd_number, nibbles, w
 ghost use Rattle.decimal_digits.specs.Packing.{Encodes, EncodesPadded, IsPadded};
 
 use super::nibbles::{
-    append_nibbles, byte_count, drop_bytes, keep_bytes, pack, push_zeros, remove_high_nibble,
-    set_nibble,
+    append_nibbles, byte_count, drop_bytes, pack, push_zeros, remove_high_nibble, set_nibble,
 };
-use super::words::{
-    cut_nibbles, end_word, front_word, join_nibbles, keep_nibbles, pack_word, replace_nibbles,
-};
+use super::words::{cut_nibbles, end_word, front_word, join_nibbles, keep_nibbles, pack_word};
 use smallvec::SmallVec;
 use std::alloc::{AllocError, Global};
 
-/// Packs digits into bytes.
 #[inline]
 pub(super) fn pack_digits(alloc: Global, digits: &[u8]) -> Result<SmallVec<u8, 8>, AllocError>
     requires { All (λ d. d < 10) digits.now }
@@ -35,17 +31,15 @@ pub(super) fn pack_digits(alloc: Global, digits: &[u8]) -> Result<SmallVec<u8, 8
     Ok(bytes)
 }
 
-/// Removes the bytes after those that hold the digits.
 #[inline]
 pub(super) fn drop_unused(bytes: &mut SmallVec<u8, 8>, len: usize)
     requires { IsPadded bytes.old.items len }
     ensures encodes { Encodes bytes.new.items len (digits_in bytes.old.items len) }
     ensures capacity { bytes.new.capacity ≡ bytes.old.capacity }
 {
-    keep_bytes(bytes, byte_count(len));
+    bytes.truncate(byte_count(len));
 }
 
-/// Copies at least eight bytes.
 #[inline]
 pub(super) fn copy_bytes(bytes: &SmallVec<u8, 8>) -> Result<SmallVec<u8, 8>, AllocError>
     requires { 8 ≤ small_vec_len bytes.now }
@@ -61,7 +55,6 @@ pub(super) fn copy_bytes(bytes: &SmallVec<u8, 8>) -> Result<SmallVec<u8, 8>, All
     }
 }
 
-/// Reserves room for `total` digits in all.
 pub(super) fn reserve_digits(bytes: &mut SmallVec<u8, 8>, total: usize) -> Result<(), AllocError>
     ensures ok { OnOk result (total ≤ 2 * bytes.new.capacity) }
     ensures items { bytes.new.items ≡ bytes.old.items }
@@ -72,7 +65,6 @@ pub(super) fn reserve_digits(bytes: &mut SmallVec<u8, 8>, total: usize) -> Resul
     bytes.reserve(byte_count(total).saturating_sub(old_len))
 }
 
-/// Replaces the digit at an index.
 #[inline]
 pub(super) fn set_digit(bytes: &mut SmallVec<u8, 8>, len: usize, index: usize, digit: u8)
     requires padded { IsPadded bytes.old.items len }
@@ -84,7 +76,6 @@ pub(super) fn set_digit(bytes: &mut SmallVec<u8, 8>, len: usize, index: usize, d
     set_nibble(bytes, index, digit);
 }
 
-/// Appends a digit, for which there is room.
 #[inline]
 pub(super) fn push_digit(bytes: &mut SmallVec<u8, 8>, len: usize, digit: u8)
     requires padded { IsPadded bytes.old.items len }
@@ -101,7 +92,6 @@ pub(super) fn push_digit(bytes: &mut SmallVec<u8, 8>, len: usize, digit: u8)
     }
 }
 
-/// Replaces the first eight bytes by those of a word.
 #[inline]
 fn set_front(bytes: &mut SmallVec<u8, 8>, word: u64)
     requires { 8 ≤ small_vec_len bytes.old }
@@ -113,7 +103,6 @@ fn set_front(bytes: &mut SmallVec<u8, 8>, word: u64)
     front.copy_from_slice(&word.to_be_bytes());
 }
 
-/// Replaces eight bytes by those of a word.
 #[inline]
 pub(super) fn set_word(bytes: &mut SmallVec<u8, 8>, word: u64)
     requires { small_vec_len bytes.old ≡ 8 }
@@ -123,7 +112,6 @@ pub(super) fn set_word(bytes: &mut SmallVec<u8, 8>, word: u64)
     set_front(bytes, word);
 }
 
-/// Returns the sixteen digits from index `start` as a packed BCD number, with zeros after fewer digits.
 #[inline]
 pub(super) fn word_at(bytes: &[u8], len: usize, start: usize) -> u64
     requires padded { IsPadded bytes.now len }
@@ -153,7 +141,6 @@ fn equal_words(left: &[u8; 8], right: &[u8; 8]) -> bool
     u64::from_be_bytes(*left) == u64::from_be_bytes(*right)
 }
 
-/// Returns whether the first eight bytes of two lists are equal.
 #[inline]
 fn have_equal_fronts(left: &[u8], right: &[u8]) -> bool
     requires left { 8 ≤ length left.now }
@@ -167,7 +154,6 @@ fn have_equal_fronts(left: &[u8], right: &[u8]) -> bool
     }
 }
 
-/// Returns whether two lists of the same number of bytes, 8 to 16, are equal.
 #[inline]
 fn equal_in_two_words(left: &[u8], right: &[u8]) -> bool
     requires enough { 8 ≤ length left.now }
@@ -180,19 +166,6 @@ fn equal_in_two_words(left: &[u8], right: &[u8]) -> bool
     have_equal_fronts(left, right) && (end == 0 || have_equal_fronts(&left[end..], &right[end..]))
 }
 
-/// Returns whether two lists of the same number of bytes, 16 to 24, are equal.
-#[inline]
-fn equal_in_three_words(left: &[u8], right: &[u8]) -> bool
-    requires enough { 16 ≤ length left.now }
-    requires few { length left.now ≤ 24 }
-    requires same_length { length left.now ≡ length right.now }
-    ensures { IsTrue result ↔ (left.now ≡ right.now) }
-{
-    let end = left.len() - 8;
-    equal_in_two_words(&left[..16], &right[..16]) && have_equal_fronts(&left[end..], &right[end..])
-}
-
-/// Returns whether two lists of the same number of bytes, 16 to 32, are equal.
 #[inline]
 fn equal_in_four_words(left: &[u8], right: &[u8]) -> bool
     requires enough { 16 ≤ length left.now }
@@ -215,9 +188,6 @@ pub(super) fn are_equal(left: &[u8], right: &[u8]) -> bool
     if len <= 16 {
         return equal_in_two_words(left, right);
     }
-    if len <= 24 {
-        return equal_in_three_words(left, right);
-    }
     if len <= 32 {
         return equal_in_four_words(left, right);
     }
@@ -229,7 +199,6 @@ pub(super) fn are_equal(left: &[u8], right: &[u8]) -> bool
         && equal_in_four_words(&left[end..], &right[end..])
 }
 
-/// Keeps the first `count` digits.
 #[inline]
 pub(super) fn keep_digits(bytes: &mut SmallVec<u8, 8>, len: usize, count: usize)
     requires padded { IsPadded bytes.old.items len }
@@ -245,7 +214,6 @@ pub(super) fn keep_digits(bytes: &mut SmallVec<u8, 8>, len: usize, count: usize)
     }
 }
 
-/// Keeps the first `count` of more than sixteen digits.
 #[inline(never)]
 fn keep_some(bytes: &mut SmallVec<u8, 8>, len: usize, count: usize)
     requires padded { IsPadded bytes.old.items len }
@@ -266,46 +234,6 @@ fn keep_some(bytes: &mut SmallVec<u8, 8>, len: usize, count: usize)
     bytes.truncate(byte_count(count));
 }
 
-/// Replaces the digits from an index on by one digit.
-#[inline]
-pub(super) fn replace_digits(bytes: &mut SmallVec<u8, 8>, len: usize, index: usize, digit: u8)
-    requires padded { IsPadded bytes.old.items len }
-    requires in_range { index < len }
-    requires is_digit { digit < 10 }
-    ensures encodes { EncodesPadded bytes.new.items (index + 1)
-        (take index (digits_in bytes.old.items len) ++ digit ∷ []) }
-    ensures capacity { bytes.new.capacity ≡ bytes.old.capacity }
-{
-    if len <= 16 {
-        let word = replace_nibbles(front_word(bytes.as_slice()), index, digit);
-        set_word(bytes, word);
-    } else {
-        replace_some(bytes, len, index, digit);
-    }
-}
-
-/// Replaces the digits from an index on by one digit, in a list of more than sixteen.
-#[inline(never)]
-fn replace_some(bytes: &mut SmallVec<u8, 8>, len: usize, index: usize, digit: u8)
-    requires padded { IsPadded bytes.old.items len }
-    requires many { 16 < len }
-    requires in_range { index < len }
-    requires is_digit { digit < 10 }
-    ensures encodes { EncodesPadded bytes.new.items (index + 1)
-        (take index (digits_in bytes.old.items len) ++ digit ∷ []) }
-    ensures capacity { bytes.new.capacity ≡ bytes.old.capacity }
-{
-    if index < 16 {
-        let word = replace_nibbles(front_word(bytes.as_slice()), index, digit);
-        set_front(bytes, word);
-        bytes.truncate(8);
-        return;
-    }
-    set_digit(bytes, len, index, digit);
-    keep_some(bytes, len, index + 1);
-}
-
-/// Removes the first `count` digits.
 #[inline]
 pub(super) fn cut_digits(bytes: &mut SmallVec<u8, 8>, len: usize, count: usize)
     requires padded { IsPadded bytes.old.items len }
@@ -323,7 +251,6 @@ pub(super) fn cut_digits(bytes: &mut SmallVec<u8, 8>, len: usize, count: usize)
     }
 }
 
-/// Removes the first `count` of more than sixteen digits, which leaves fewer than sixteen.
 #[inline(never)]
 fn cut_to_word(bytes: &mut SmallVec<u8, 8>, len: usize, count: usize)
     requires padded { IsPadded bytes.old.items len }
@@ -356,7 +283,6 @@ fn cut_bytes(bytes: &mut SmallVec<u8, 8>, len: usize, count: usize)
     drop_bytes(bytes, count / 2, byte_count(len - count));
 }
 
-/// Appends `start - len` zeros and then other digits, sixteen digits in all.
 #[inline]
 pub(super) fn append_word(
     bytes: &mut SmallVec<u8, 8>,
@@ -377,7 +303,6 @@ pub(super) fn append_word(
     set_word(bytes, word);
 }
 
-/// Appends `count` zeros, for which there is room.
 pub(super) fn append_zeros(bytes: &mut SmallVec<u8, 8>, len: usize, count: usize)
     requires packed { IsPacked bytes.old.items len }
     requires has_room { len + count ≤ 2 * bytes.old.capacity }
@@ -389,7 +314,6 @@ pub(super) fn append_zeros(bytes: &mut SmallVec<u8, 8>, len: usize, count: usize
     push_zeros(bytes, byte_count(len + count) - old_len);
 }
 
-/// Appends the first `count` digits of other bytes, for which there is room.
 pub(super) fn append_digits(bytes: &mut SmallVec<u8, 8>, len: usize, other: &[u8], count: usize)
     requires packed { IsPacked bytes.old.items len }
     requires other_packed { IsPacked other.now count }

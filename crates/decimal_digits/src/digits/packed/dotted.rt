@@ -6,7 +6,6 @@ ghost use Rattle.decimal_digits.specs.Nibbles.{word_nibbles};
 
 use std::simd::prelude::*;
 
-/// Returns the nibbles of a word as ASCII.
 #[inline(always)]
 fn word_text(word: u64) -> u8x16
     ensures { result ≡ text_of (word_nibbles word) }

@@ -7,7 +7,6 @@ ghost use Rattle.decimal_digits.specs.Nibbles.{nibbles};
 
 use smallvec::SmallVec;
 
-/// Returns the number of bytes that hold the given number of digits.
 #[inline]
 pub(super) fn byte_count(digits: usize) -> usize
     ensures { result ≡ (digits + 1) / 2 }
@@ -15,17 +14,14 @@ pub(super) fn byte_count(digits: usize) -> usize
     digits / 2 + digits % 2
 }
 
-/// Returns the nibble at an index.
 #[inline]
 pub(crate) fn nibble_at(bytes: &[u8], index: usize) -> u8
     requires { index < length (nibbles bytes.now) }
     ensures { result ≡ slice_index (nibbles bytes.now) index }
 {
-    let byte = bytes[index / 2];
-    if index % 2 == 0 { byte / 16 } else { byte % 16 }
+    (bytes[index / 2] >> (4 - 4 * (index % 2))) % 16
 }
 
-/// Replaces the nibble at an index.
 #[inline]
 pub(super) fn set_nibble(bytes: &mut SmallVec<u8, 8>, index: usize, nibble: u8)
     requires in_range { index < length (nibbles bytes.old.items) }
@@ -60,7 +56,6 @@ pub(super) fn pack(bytes: &mut [u8], digits: &[u8])
     }
 }
 
-/// Appends the low nibbles of `digits`, two to a byte, and 0 in a nibble that is left over.
 pub(super) fn append_pairs(bytes: &mut SmallVec<u8, 8>, digits: &[u8])
     requires { (length digits.now + 1) / 2 ≤ bytes.old.capacity - small_vec_len bytes.old }
     ensures appended { nibbles bytes.new.items
@@ -76,7 +71,6 @@ pub(super) fn append_pairs(bytes: &mut SmallVec<u8, 8>, digits: &[u8])
     pack(&mut bytes.as_mut_slice()[old_len..], digits);
 }
 
-/// Removes the high nibble of the byte `at`. The nibbles after it move up by one, and `last` is appended.
 // Not inlined: a cut between two bytes does not need it, and saves its registers.
 #[inline(never)]
 pub(super) fn remove_high_nibble(bytes: &mut [u8], at: usize, last: u8)
@@ -92,7 +86,6 @@ pub(super) fn remove_high_nibble(bytes: &mut [u8], at: usize, last: u8)
     bytes[end] = bytes[end] % 16 * 16 + last;
 }
 
-/// Removes the low nibble of the byte `at`. The nibbles after it move up by one, and `last` is appended.
 fn remove_low_nibble(bytes: &mut [u8], at: usize, last: u8)
     requires in_range { at < length bytes.old }
     requires is_nibble { last < 16 }
@@ -106,7 +99,6 @@ fn remove_low_nibble(bytes: &mut [u8], at: usize, last: u8)
 
 static ZEROS: [u8; 64] = [0; 64];
 
-/// Appends `count` zero bytes, for which there is room.
 pub(super) fn push_zeros(bytes: &mut SmallVec<u8, 8>, count: usize)
     requires { HasRoomFor bytes.old count }
     ensures items { bytes.new.items ≡ bytes.old.items ++ replicate count 0 }
@@ -121,35 +113,6 @@ pub(super) fn push_zeros(bytes: &mut SmallVec<u8, 8>, count: usize)
     bytes.extend_from_slice(&ZEROS[..count % 64]).unwrap();
 }
 
-/// Keeps the first `count` bytes.
-///
-/// `smallvec` overwrites the bytes that it removes with zeros, by a call if their number varies. So up to seven bytes
-/// are removed by four, two and one, which takes no call.
-#[inline]
-pub(super) fn keep_bytes(bytes: &mut SmallVec<u8, 8>, count: usize)
-    requires { count ≤ small_vec_len bytes.old }
-    ensures items { bytes.new.items ≡ take count bytes.old.items }
-    ensures capacity { bytes.new.capacity ≡ bytes.old.capacity }
-{
-    if bytes.len() - count >= 8 {
-        bytes.truncate(count);
-        return;
-    }
-    if bytes.len() - count >= 4 {
-        let len = bytes.len() - 4;
-        bytes.truncate(len);
-    }
-    if bytes.len() - count >= 2 {
-        let len = bytes.len() - 2;
-        bytes.truncate(len);
-    }
-    if bytes.len() > count {
-        let len = bytes.len() - 1;
-        bytes.truncate(len);
-    }
-}
-
-/// Removes the first `count` bytes, and keeps the next `left` bytes.
 pub(super) fn drop_bytes(bytes: &mut SmallVec<u8, 8>, count: usize, left: usize)
     requires { count + left ≤ small_vec_len bytes.old }
     ensures items { bytes.new.items ≡ drop count (take (count + left) bytes.old.items) }

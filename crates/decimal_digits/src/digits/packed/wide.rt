@@ -8,7 +8,6 @@ use super::nibbles::byte_count;
 use smallvec::SmallVec;
 use std::alloc::{AllocError, Global};
 
-/// Copies the bytes of the first `len` nibbles of a packed BCD number of 32 nibbles.
 #[inline]
 pub(super) fn copy_wide(
     alloc: Global,

@@ -4,7 +4,6 @@
 ghost use Rattle.std.specs.Prelude.{◌≡◌, ◌≢◌, ℕ, ◌+◌, ◌-◌, ◌*◌, ◌%◌, ◌<◌, ◌≤◌, ◌∷◌, ◌++◌, length, map, take, drop, replicate, slice_index};
 ghost use Rattle.decimal_digits.specs.Nibbles.{nibbles, word_nibbles};
 
-/// Returns the word of the first eight bytes.
 #[inline]
 pub(super) fn front_word(bytes: &[u8]) -> u64
     requires { 8 ≤ length bytes.now }
@@ -17,7 +16,6 @@ pub(super) fn front_word(bytes: &[u8]) -> u64
     }
 }
 
-/// Returns the word of the last `count` bytes of at least eight, with zero bytes after them up to the eighth.
 #[inline]
 pub(super) fn end_word(bytes: &[u8], count: usize) -> u64
     requires enough { 8 ≤ length bytes.now }
@@ -33,7 +31,6 @@ pub(super) fn end_word(bytes: &[u8], count: usize) -> u64
     }
 }
 
-/// Clears the nibbles after the first `count`.
 #[inline]
 pub(super) fn keep_nibbles(word: u64, count: usize) -> u64
     requires { count ≤ 16 }
@@ -46,18 +43,6 @@ pub(super) fn keep_nibbles(word: u64, count: usize) -> u64
     word >> unused << unused
 }
 
-/// Replaces the nibbles from an index on by one nibble, and by zeros.
-#[inline]
-pub(super) fn replace_nibbles(word: u64, index: usize, nibble: u8) -> u64
-    requires in_range { index < 16 }
-    requires is_nibble { nibble < 16 }
-    ensures { word_nibbles result ≡ take index (word_nibbles word) ++ (nibble ∷ replicate (15 - index) 0) }
-{
-    let unused = 4 * (15 - index);
-    ((word >> unused) / 16 * 16 + u64::from(nibble)) << unused
-}
-
-/// Removes the first `count` nibbles, and appends zeros.
 #[inline]
 pub(super) fn cut_nibbles(word: u64, count: usize) -> u64
     requires { count ≤ 16 }
@@ -69,7 +54,6 @@ pub(super) fn cut_nibbles(word: u64, count: usize) -> u64
     word << (4 * count)
 }
 
-/// Writes the first nibbles of another word over the nibbles from index `start`, which are 0.
 #[inline]
 pub(super) fn join_nibbles(word: u64, start: usize, other: u64) -> u64
     requires in_range { start ≤ 16 }
@@ -82,7 +66,6 @@ pub(super) fn join_nibbles(word: u64, start: usize, other: u64) -> u64
     word + (other >> (4 * start))
 }
 
-/// Counts the nibbles equal to `nibble` at the end of the first `count`.
 #[inline]
 pub(super) fn count_equal_nibbles(word: u64, count: usize, nibble: u8) -> usize
     requires few { count ≤ 16 }

@@ -18,10 +18,10 @@ const MAX_PLAIN_LEN: usize = 33;
 /// A text of digits, with or without a decimal point: its numbers of integer and of fraction digits, and the number of
 /// all of them in base 16.
 #[derive(Clone, Copy, Debug)]
-pub struct PlainText {
+pub struct PlainText<N> {
     pub whole: usize,
     pub fraction: usize,
-    pub number: u128,
+    pub number: N,
 }
 
 /// The digits of a prefix of such a text: their number in base 16, in 128 bits, and how many of them follow the decimal
@@ -40,7 +40,6 @@ pub struct WideBcdValue {
     pub bounds: Bounds,
 }
 
-/// Counts the leading digits, and returns the number in base 16 of the digits of `before` and then these.
 #[inline]
 fn count_digits(before: u64, text: &[u8]) -> (usize, u64)
     ensures count { result.0 ≡ prefix_len is_ascii_digit text.now }
@@ -61,7 +60,7 @@ fn count_digits(before: u64, text: &[u8]) -> (usize, u64)
 /// Returns the digits of a text of up to `most` digits, with or without a decimal point, or None of any other text.
 // Inlined always: returned from a call, the digits would pass through memory.
 #[inline(always)]
-pub fn few_digits(text: &[u8], most: usize) -> Option<PlainText>
+pub fn few_digits(text: &[u8], most: usize) -> Option<PlainText<u64>>
     requires { most ≤ 16 }
     ensures plain { IfSome result (IsPlainText text.now) }
     ensures few { IfSome result (λ p. p.whole + p.fraction ≤ most) }
@@ -77,7 +76,7 @@ pub fn few_digits(text: &[u8], most: usize) -> Option<PlainText>
         [] if whole > 0 => Some(PlainText {
             whole,
             fraction: 0,
-            number: number as u128,
+            number,
         }),
         [b'.', rest @ ..] => {
             let (fraction, number) = count_digits(number, rest);
@@ -87,14 +86,13 @@ pub fn few_digits(text: &[u8], most: usize) -> Option<PlainText>
             Some(PlainText {
                 whole,
                 fraction,
-                number: number as u128,
+                number,
             })
         }
         _ => None,
     }
 }
 
-/// Returns the digits of the first `count` of at least eight bytes.
 #[inline]
 fn first_group(text: &[u8], count: usize) -> Option<Prefix>
     requires enough { 8 ≤ length text.now }
@@ -136,7 +134,6 @@ fn append_group(prefix: Prefix, next: Group) -> Option<Prefix>
     }
 }
 
-/// Returns the digits of at least eight bytes, eight at a time.
 #[inline]
 fn many_digits(text: &[u8]) -> Option<Prefix>
     requires { 8 ≤ length text.now }
@@ -153,9 +150,8 @@ fn many_digits(text: &[u8]) -> Option<Prefix>
     Some(prefix)
 }
 
-/// Returns the digits of a text of up to 32 digits, with or without a decimal point, or None of any other text.
 #[inline]
-fn plain_text(text: &[u8]) -> Option<PlainText>
+fn plain_text(text: &[u8]) -> Option<PlainText<u128>>
     requires enough { 8 ≤ length text.now }
     requires at_most { length text.now ≤ 33 }
     ensures { IfSome result (IsPlainText text.now) }

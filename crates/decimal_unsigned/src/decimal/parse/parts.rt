@@ -31,7 +31,6 @@ fn are_digits(group: &[u8]) -> bool
     all
 }
 
-/// Counts the leading digits in whole groups.
 #[inline(never)]
 fn grouped_digit_count(text: &[u8]) -> usize
     ensures within { result ≤ length text.now }
@@ -44,7 +43,6 @@ fn grouped_digit_count(text: &[u8]) -> usize
     count
 }
 
-/// Counts the leading digits.
 #[inline]
 fn count_digits(text: &[u8]) -> usize
     ensures { result ≡ prefix_len is_ascii_digit text.now }
@@ -58,7 +56,6 @@ fn count_digits(text: &[u8]) -> usize
     text.len()
 }
 
-/// Splits a text after its leading digits.
 #[inline]
 fn split_digits(text: &[u8]) -> (&[u8], &[u8])
     ensures digits { result.0.now ≡ read.leading_digits text.now }
@@ -90,26 +87,17 @@ pub fn numeral(text: &[u8], most: u32) -> Option<u32>
     Some(value)
 }
 
-/// Returns the exponent of a text of digits, at most 70,000.
-fn unsigned(text: &[u8]) -> Option<i32>
-    ensures { result ≡ option_map saturated (option_map pos (read.numeral_of text.now)) }
-{
-    Some(numeral(text, 70_000)? as i32)
-}
-
-/// Returns the exponent of a text with at most one sign, clamped to -70,000 to 70,000.
 #[tactic(auto, unfolding(crate::specs::Reading::exponent_of))]
 fn exponent(text: &[u8]) -> Option<i32>
     ensures { result ≡ option_map saturated (read.exponent_of text.now) }
 {
     match text {
         [b'-', rest @ ..] => Some(-(numeral(rest, 70_000)? as i32)),
-        [b'+', rest @ ..] => unsigned(rest),
-        _ => unsigned(text),
+        [b'+', rest @ ..] => Some(numeral(rest, 70_000)? as i32),
+        _ => Some(numeral(text, 70_000)? as i32),
     }
 }
 
-/// Returns the parts, where the text is what follows the letter of an exponent.
 #[inline]
 #[tactic(auto, unfolding(crate::specs::Reading::with_exponent))]
 fn with_exponent<'a>(whole: &'a [u8], fraction: &'a [u8], text: &[u8]) -> Option<Parts<'a>>
@@ -123,7 +111,6 @@ fn with_exponent<'a>(whole: &'a [u8], fraction: &'a [u8], text: &[u8]) -> Option
     })
 }
 
-/// Returns the parts, where the text is what follows the fraction digits.
 #[inline]
 #[tactic(auto, unfolding(crate::specs::Reading::after_fraction))]
 fn after_fraction<'a>(whole: &'a [u8], fraction: &'a [u8], text: &[u8]) -> Option<Parts<'a>>
@@ -140,7 +127,6 @@ fn after_fraction<'a>(whole: &'a [u8], fraction: &'a [u8], text: &[u8]) -> Optio
     }
 }
 
-/// Returns the parts, where the text is what follows the integer digits.
 #[inline]
 #[tactic(auto, unfolding(crate::specs::Reading::after_whole))]
 fn after_whole<'a>(whole: &'a [u8], text: &'a [u8]) -> Option<Parts<'a>>
@@ -180,7 +166,6 @@ impl Parts<'_> {
         self.whole.len() + self.fraction.len()
     }
 
-    /// Returns the byte at an index into all the digits.
     fn byte(&self, index: usize) -> u8
         requires { index < length (self.now.whole.now ++ self.now.fraction.now) }
         ensures { result ≡ slice_index (self.now.whole.now ++ self.now.fraction.now) index }
@@ -192,7 +177,6 @@ impl Parts<'_> {
         }
     }
 
-    /// Returns the digit at an index into all the digits.
     fn digit(&self, index: usize) -> u8
         requires in_range { index < length (digits_of (view self.now)) }
         requires digits { AllDigits 10 (self.now.whole.now ++ self.now.fraction.now) }

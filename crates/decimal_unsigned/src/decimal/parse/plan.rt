@@ -19,7 +19,6 @@ pub struct Bounds {
     pub lo: i16,
 }
 
-/// Returns the highest magnitude shown: that of the first nonzero digit if it is above 0, else `hi`, but at least 0.
 fn highest_shown(first: i32, hi: i32) -> i16
     requires first_in { first ≤ℤ pos 32767 }
     requires hi_in { hi ≤ℤ pos 32767 }
@@ -32,7 +31,6 @@ fn highest_shown(first: i32, hi: i32) -> i16
     }
 }
 
-/// Returns the lowest magnitude shown: that of the last nonzero digit if it is below 0, else `lo`, but at most 0.
 fn lowest_shown(last: i32, lo: i32) -> i16
     requires last_in { negsuc 32767 ≤ℤ last }
     requires lo_in { negsuc 32767 ≤ℤ lo }
@@ -70,7 +68,6 @@ pub struct Plan {
     pub bounds: Bounds,
 }
 
-/// Makes the plan of parts that have an exponent and are not 0.
 fn plan_with_exponent(parts: &Parts<'_>, start: usize, end: usize, exponent: i32) -> Option<Plan>
     requires digits { AllDigits 10 (parts.now.whole.now ++ parts.now.fraction.now) }
     requires whole { length parts.now.whole.now ≤ 32768 }

@@ -23,7 +23,6 @@ fn flag_bytes(bytes: u64) -> u64
     (bytes | bytes.wrapping_add(0x0606_0606_0606_0606)) & 0xf0f0_f0f0_f0f0_f0f0
 }
 
-/// Returns the number that bytes write in base 16, if they write `bytes` in base 256: 0x25 of 0x0205.
 #[inline]
 fn pack_bytes(bytes: u64) -> u64
     ensures { (ds : List ℕ) → AllBelowBase 16 ds → length ds ≤ 8 → bytes ≡ number_from_digits 256 ds

@@ -1,7 +1,20 @@
-use Rattle.std.proofs.lemmas.Bool.Decides.{Decides-eqb}
-use Rattle.std.proofs.lemmas.Slice.Eq.{strip_suffix_is}
+use Rattle.std.proofs.Common.{◌≡◌, ◌+◌, ◌++◌, length, sym, ◌∙◌, ap, arith}
+use Rattle.decimal_format.proofs.NormalForms.{end_cut, end_fails}
 use Rattle.decimal_format.proofs.reader.codes.cut_end.Goals as goal
 
+pub returns-in_err-cut : goal.returns-in_err-cut
+returns-in_err-cut g c = rw c.from_residual-in_err-cut.ensures
+    (let text = g.T.Input.bytes c.args.text in
+    let size : length text ≡ c.in_ok-front.front + length c.args.code.now =
+    omega (arith, c.in_ok-front.ensures, c.count.ensures) in
+    end_fails c.in_ok-front.front text c.args.code.now size (λ after e.
+    c.in_err-cut.ensures after (c.skip.ensures ∙ e)))
+
 pub returns : goal.returns
-returns c = strip_suffix_is Decides-eqb c.args.text.now c.args.code.now c.strip_suffix.result
-    c.strip_suffix.ensures.cases
+returns g c =
+    let text = g.T.Input.bytes c.args.text in
+    let size : length text ≡ c.in_ok-front.front + length c.args.code.now =
+    omega (arith, c.in_ok-front.ensures, c.count.ensures) in
+    end_cut c.in_ok-front.front text c.args.code.now size (g.T.Input.bytes c.in_ok-cut.field-0)
+    (sym c.skip.ensures ∙ c.in_ok-cut.ensures)
+    ∙ ap (λ l. l ++ c.args.code.now) (sym c.first.ensures)

@@ -15,5 +15,5 @@ returns-then-this-ne0 g c =
     let ascii = c.requires.ascii (nonzero_is_true g.row.ASCII c.if-this-ne0.true) in
     match_weaker c.next_ascii_digit.result _ _ _ _
     (λ none d rest below e. none d rest below (e ∙ ap (λ l. l ++ rest) (digit_text-ascii s d ascii below)))
-    (λ r h. (h.0, h.1 ∙ ap (λ l. l ++ r.1.now) (sym (digit_text-ascii s r.0 ascii h.0))))
+    (λ r h. (h.0, h.1 ∙ ap (λ l. l ++ g.T.Input.bytes r.1) (sym (digit_text-ascii s r.0 ascii h.0))))
     c.next_ascii_digit.ensures

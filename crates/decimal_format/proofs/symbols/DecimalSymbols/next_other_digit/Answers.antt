@@ -1,8 +1,7 @@
-use Rattle.std.proofs.Common.{sym, ◌∙◌}
+use Rattle.std.proofs.Common.{refl, sym, ◌∙◌}
 use Rattle.decimal_format.proofs.Codes.{none_not_digit}
-use Rattle.decimal_format.proofs.Scans.{empty_is}
 use Rattle.decimal_format.proofs.symbols.DecimalSymbols.next_other_digit.Goals as goal
 
 pub returns-then-is_empty : goal.returns-then-is_empty
-returns-then-is_empty c = λ d rest below e.
-    none_not_digit c.args.self.now c.requires d rest below (sym (empty_is c.args.text.now c.if-is_empty.ensures) ∙ e)
+returns-then-is_empty g c = λ d rest below e.
+    none_not_digit c.args.self.now c.requires d rest below (sym (c.if-is_empty.ensures.yes refl) ∙ e)

@@ -7,7 +7,8 @@ use Rattle.decimal_format.proofs.symbols.DecimalSymbols.read_digits.Given as goa
 abbrev pub invariant-loop-left : goal.invariant-loop-left
 invariant-loop-left g l = record {
   digits : List ℕ;
-  read : IsReadTo l.self (ends_group l.self.sizes) l.count l.text l.rest l.left l.all l.none digits;
+  read : IsReadTo l.self (ends_group l.self.sizes) l.count (g.T.Input.bytes l.fn.text) (g.T.Input.bytes l.rest) l.left
+      l.all l.none digits;
   collected : CollectsDigits l.initial.digits l.digits digits;
 }
 

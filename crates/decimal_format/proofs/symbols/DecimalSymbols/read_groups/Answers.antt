@@ -8,7 +8,7 @@ use Rattle.decimal_format.proofs.symbols.DecimalSymbols.read_groups.Goals as goa
 pub returns-in_default : goal.returns-in_default
 returns-in_default g c =
     let s = c.args.self.now in
-    let text = c.args.text.now in
+    let text = g.T.Input.bytes c.args.text in
     let strict = c.args.is_strict in
     nothing_read (texts_by strict s c.requires text) g.D.DigitStore.L
     (λ w numeral. c.in_default.ensures.none w (numeral_by_is_lenient strict s text w numeral))
@@ -17,7 +17,7 @@ returns-in_default g c =
 pub returns-then-not-scanned : goal.returns-then-not-scanned
 returns-then-not-scanned g c =
     let s = c.args.self.now in
-    let text = c.args.text.now in
+    let text = g.T.Input.bytes c.args.text in
     let strict = c.args.is_strict in
     let found = c.in-Some.ensures.found in
     let none = λ (w : Numeral) (numeral : IsNumeral s text w).
@@ -33,7 +33,7 @@ value-requires g c =
 pub returns : goal.returns
 returns g c =
     let s = c.args.self.now in
-    let text = c.args.text.now in
+    let text = g.T.Input.bytes c.args.text in
     let strict = c.args.is_strict in
     let found = c.in-Some.ensures.found in
     let numeral = numeral_by strict c.in-Some.scanned.is_strict s text found.0 found.1 found.4.0

@@ -5,9 +5,10 @@ use Rattle.decimal_format.proofs.symbols.DecimalSymbols.read_last_digits.Given a
 
 abbrev pub invariant-loop-rest : goal.invariant-loop-rest
 invariant-loop-rest g l = record {
-  at_most : l.count + length l.rest ≤ length l.text;
-  read : ReadsAs (λ ds. digits_text l.self (λ _. false) ds ++ l.rest) l.text l.count l.initial.digits l.digits;
+  at_most : l.count + length (g.T.Input.bytes l.rest) ≤ length (g.T.Input.bytes l.fn.text);
+  read : ReadsAs (λ ds. digits_text l.self (λ _. false) ds ++ g.T.Input.bytes l.rest) (g.T.Input.bytes l.fn.text)
+      l.count l.initial.digits l.digits;
 }
 
 abbrev pub decreases-loop-rest : goal.decreases-loop-rest
-decreases-loop-rest g l = length l.rest
+decreases-loop-rest g l = length (g.T.Input.bytes l.rest)

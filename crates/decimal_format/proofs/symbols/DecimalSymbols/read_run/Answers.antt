@@ -4,14 +4,14 @@ use Rattle.decimal_format.proofs.Scans.{run_none, run_push, run_most}
 use Rattle.decimal_format.proofs.symbols.DecimalSymbols.read_run.Goals as goal
 
 pub loop-count-init : goal.loop-count-init
-loop-count-init g c = record { at_most = omega arith; read = run_none c.args.self.now c.args.text.now }
+loop-count-init g c = record { at_most = omega arith; read = run_none c.args.self.now (g.T.Input.bytes c.args.text) }
 
 pub loop-count-preserved : goal.loop-count-preserved
 loop-count-preserved g c =
     let next = rw (← c.from.ensures) at c.in-Some.ensures in
     record {
       at_most = omega (arith, c.loop-count-test.true);
-      read = run_push c.in-Some.after.now c.from.result next.0 next.1 c.loop-count.invariant.read;
+      read = run_push (g.T.Input.bytes c.in-Some.next.1) c.from.result next.0 next.1 c.loop-count.invariant.read;
     }
 
 pub overflow_mul-number : goal.overflow_mul-number

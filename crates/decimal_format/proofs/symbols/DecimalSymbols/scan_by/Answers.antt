@@ -22,7 +22,7 @@ returns-then-integer_digits-eq0-clause-none g c = λ w numeral.
     let s = c.args.self.now in
     let f = separated_at s numeral.chosen in
     let split = c.in_ok-sign.ensures.unique w.sign _ (number_begins s f w numeral.digits) numeral.text in
-    let number = ap (λ b. b.now) c.in_ok-sign.number-is ∙ split.1 in
+    let number = split.1 in
     let count = c.count_digits-integer_digits.ensures f w.whole _ numeral.digits.whole
     (fraction_ends s c.requires.readable w.fraction) number in
     omega (arith, count, numeral.digits.some, c.if-integer_digits-eq0.true)
@@ -32,7 +32,7 @@ returns-in_err-is_strict-clause-none g c = rw c.from_residual-in_err-is_strict.e
     let s = c.args.self.now in
     let f = separated_at s numeral.chosen in
     let split = c.in_ok-sign.ensures.unique w.sign _ (number_begins s f w numeral.digits) numeral.text in
-    let number = ap (λ b. b.now) c.in_ok-sign.number-is ∙ split.1 in
+    let number = split.1 in
     let count = c.count_digits-integer_digits.ensures f w.whole _ numeral.digits.whole
     (fraction_ends s c.requires.readable w.fraction) number in
     c.in_err-is_strict.ensures.none numeral.chosen w.whole _ (sym count) numeral.digits.whole number)
@@ -42,7 +42,7 @@ returns-in_err-fraction_digits-clause-none g c = rw c.from_residual-in_err-fract
     let s = c.args.self.now in
     let f = separated_at s numeral.chosen in
     let split = c.in_ok-sign.ensures.unique w.sign _ (number_begins s f w numeral.digits) numeral.text in
-    let number = ap (λ b. b.now) c.in_ok-sign.number-is ∙ split.1 in
+    let number = split.1 in
     let count = c.count_digits-integer_digits.ensures f w.whole _ numeral.digits.whole
     (fraction_ends s c.requires.readable w.fraction) number in
     c.in_err-fraction_digits.ensures.none w.fraction numeral.digits.fraction
@@ -69,7 +69,7 @@ returns-clause-found g c =
     let text = c.in_ok-sign.ensures.found
     ∙ ap (λ l. affixes.prefix ++ (l ++ affixes.suffix))
     (whole.text ∙ ap (λ l. digits_text s (separated_at s whole.chosen) whole.digits ++ l) fraction.is) in
-    let strict = numeral_if_uniform s c.requires.readable c.args.text.now w whole.chosen digits text in
+    let strict = numeral_if_uniform s c.requires.readable (g.T.Input.bytes c.args.text) w whole.chosen digits text in
     let n = length whole.digits in
     let begun = subst (λ k. Collects g.D.DigitStore.L k c.begin.new.self []) (sym whole.count) c.begin.ensures in
     let collected = fraction.collected g.D.DigitStore.L n whole.digits (whole.collected g.D.DigitStore.L n [] begun) in

@@ -8,12 +8,12 @@ use Rattle.decimal_format.proofs.Scans.{begins-append, sign-unique}
 use Rattle.decimal_format.proofs.symbols.DecimalSymbols.split_sign.Goals as goal
 
 pub returns-in-Some-clause-unique : goal.returns-in-Some-clause-unique
-returns-in-Some-clause-unique c = λ sign number begins e.
+returns-in-Some-clause-unique g c = λ sign number begins e.
     let s = c.args.self.now in
     let d = c.in-Some.field-0-0 in
-    let following = c.in-Some.field-0-1.now in
+    let following = g.T.Input.bytes c.in-Some.field-0-1 in
     let ascii = c.has_ascii_digits.ensures c.if-has_ascii_digits.true in
-    let first : BeginsWithDigit s c.args.text.now = record {
+    let first : BeginsWithDigit s (g.T.Input.bytes c.args.text) = record {
       digit = d;
       following = following;
       is_digit = c.in-Some.ensures.0;
@@ -22,18 +22,18 @@ returns-in-Some-clause-unique c = λ sign number begins e.
           ∙ ap (λ l. l ++ following) (sym (digit_text-ascii s d ascii c.in-Some.ensures.0));
     } in
     let suffix = (sign_affixes s sign).suffix in
-    let u = sign-unique s c.requires None sign c.args.text.now (number ++ suffix) (λ _. first)
+    let u = sign-unique s c.requires None sign (g.T.Input.bytes c.args.text) (number ++ suffix) (λ _. first)
     (λ _. begins-append s number suffix begins) e in
     (u.0, u.1 ∙ ap (λ x. number ++ (sign_affixes s x).suffix) (sym u.0) ∙ append-nil number)
 
 pub returns-clause-unique : goal.returns-clause-unique
-returns-clause-unique c = λ sign number begins e.
+returns-clause-unique g c = λ sign number begins e.
     let s = c.args.self.now in
     let suffix = (sign_affixes s sign).suffix in
     let u = c.split_prefix-sign.ensures.unique sign (number ++ suffix) (begins-append s number suffix begins) e in
     let code : c.as_bytes.result.now ≡ suffix =
     c.as_bytes.ensures.value ∙ c.suffix.ensures.value ∙ ap (λ x. (sign_affixes s x).suffix) u.0 in (
       u.0,
-      append_cancel_right c.in_ok-number.number.now number suffix
-          (ap (λ l. c.in_ok-number.number.now ++ l) (sym code) ∙ sym c.in_ok-number.ensures ∙ u.1),
+      append_cancel_right (g.T.Input.bytes c.in_ok-number.number) number suffix
+          (ap (λ l. (g.T.Input.bytes c.in_ok-number.number) ++ l) (sym code) ∙ sym c.in_ok-number.ensures ∙ u.1),
     )

@@ -1,19 +1,13 @@
-use Rattle.decimal_unsigned.proofs.Common.{rules, arith, Result, Ok, Err, ◌∙◌, ap, sym}
+use Rattle.decimal_unsigned.proofs.Common.{Result, Ok, Err, ◌∙◌, ap, sym}
 use Rattle.std.specs.Prelude.{IfOk, IfSome}
 use Rattle.std.specs.Result.{result_ok}
-use Rattle.decimal_unsigned.proofs.BcdValues.{number_fits_64, plain_bcd, plain_digits, plain_read}
+use Rattle.decimal_unsigned.proofs.BcdValues.{plain_bcd, plain_digits, plain_read}
 use Rattle.decimal_unsigned.proofs.decimal.UnsignedOver.from_short_text.Goals as goal
 
 some_of_ok : {A E : Type 0} (r : Result A E) (P Q : A → Type 0) → IfOk r P → ((v : A) → P v → Q v)
     → IfSome (result_ok r) Q
 some_of_ok (Ok v) P Q h f = f v h
 some_of_ok (Err e) P Q h f = tt
-
-pub overflow_cast-number : goal.overflow_cast-number
-overflow_cast-number g c =
-    let fits = number_fits_64 c.args.text.now c.in_ok-plain.plain c.in_ok-plain.ensures.plain
-    (omega (arith, c.in_ok-plain.ensures.few)) in
-    search (rules, fits)
 
 pub from_bcd_digits-requires-clause-digits : goal.from_bcd_digits-requires-clause-digits
 from_bcd_digits-requires-clause-digits g c = (

@@ -6,4 +6,4 @@ use Rattle.plural_rules.proofs.operands.PluralOperands.of.Goals as goal
 pub returns-clause-by_text : goal.returns-clause-by_text
 returns-clause-by_text g c =
     let value = c.args.value.now in
-    by_text value (read_text value c.magnitude_range-range.ensures.valid) (follows_grammar (text value))
+    by_text value (read_text value c.lowest.ensures.valid) (follows_grammar (text value))

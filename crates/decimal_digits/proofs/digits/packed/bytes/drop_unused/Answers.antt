@@ -5,4 +5,4 @@ use Rattle.decimal_digits.proofs.Packing.{encodes}
 use Rattle.decimal_digits.proofs.digits.packed.bytes.drop_unused.Goals as goal
 
 pub returns-clause-encodes : goal.returns-clause-encodes
-returns-clause-encodes c = rw c.keep_bytes.ensures.items (encodes _ _ _ (grind (arith, nibble_rules, padding)))
+returns-clause-encodes c = rw c.truncate.ensures.items (encodes _ _ _ (grind (arith, nibble_rules, padding)))

@@ -50,55 +50,10 @@ before_last : (n last dot : ℕ) → dot < 16
 unfolding all nibbles word_nibbles
 before_last n last dot h =
     let ns = word_nibbles n in
-    pick (λ k. bytes (text_of ns) k (slice_index_or (text_of ns) 15 last) ≡ dotted ns k) 16 dot (
-      refl,
-      (
-        refl,
-        (
-          refl,
-          (
-            refl,
-            (
-              refl,
-              (
-                refl,
-                (
-                  refl,
-                  (
-                    refl,
-                    (
-                      refl,
-                      (
-                        refl,
-                        (
-                          refl,
-                          (
-                            refl,
-                            (
-                              refl,
-                              (
-                                refl,
-                                (
-                                  refl,
-                                  (
-                                    refl,
-                                    tt,
-                                  ),
-                                ),
-                              ),
-                            ),
-                          ),
-                        ),
-                      ),
-                    ),
-                  ),
-                ),
-              ),
-            ),
-          ),
-        ),
-      ),
-    ) h
+    let P : ℕ → Type 0 = λ k. bytes (text_of ns) k (slice_index_or (text_of ns) 15 last) ≡ dotted ns k in
+    let back : all (λ k. P (suc (suc (suc (suc (suc (suc (suc (suc k))))))))) 8 =
+    (refl, (refl, (refl, (refl, (refl, (refl, (refl, (refl, tt)))))))) in
+    pick P 16 dot (refl, (refl, (refl, (refl, (refl, (refl, (refl, (refl, back)))))))) h
 
 after_all : (n : ℕ) → let ns = word_nibbles n in bytes (text_of ns) 16 46 ≡ dotted ns 16
 unfolding nibbles word_nibbles

@@ -9,5 +9,5 @@ returns-clause-texts g c =
     let v = c.args.self.now in
     let w = c.args.other.now in
     let value : IsTrue c.eq.result ↔ (v ≡ w) = search rules in
-    let distinct = decimal_text_same v w c.is_zero.ensures.valid c.is_zero-2.ensures.valid in
+    let distinct = decimal_text_same v w c.lowest.ensures.valid c.lowest-2.ensures.valid in
     (λ t. ap decimal_text (value.0 t), λ e. value.1 (distinct e))

@@ -1,0 +1,153 @@
+-- The digits that a value shows.
+use Rattle.decimal_unsigned.proofs.Common.{◌≡◌, ℕ, zero, suc, ◌+◌, ◌-◌, ◌*◌, ◌/◌, ◌%◌, ◌^◌, ◌<◌, List, [], ◌∷◌, ◌++◌, length, drop, min, get_or, replicate, refl, inl, inr, sym, ◌∙◌, ap, arith, w16, to_z, of_z, ℤ, pos, negsuc, ◌+ℤ◌, ◌-ℤ◌, ◌≤ℤ◌, ◌<ℤ◌, int_gap, All, ints, by_lt_z, cases_lt, to_z-of_z, digit, length-append, elements, gap_is, IsStored}
+use Rattle.std.proofs.lemmas.Grind.{same_number_lists}
+use Rattle.std.proofs.lemmas.List.Elements.{All-drop}
+use Rattle.std.proofs.lemmas.List.{get_or_past, nil_from_length}
+use lib.Signed.{mag}
+use Rattle.decimal_digits.specs.Digits.{number_of}
+use Rattle.decimal_digits.specs.Nibbles.{bcd_number, padded, word_nibbles}
+use Rattle.decimal_digits.proofs.LeadingBytes.{get_or-padded, length-padded}
+use Rattle.decimal_digits.proofs.Packing.{rest_at}
+use Rattle.decimal_digits.proofs.Words.{bcd_nibble, cut, word_nibble, zero_word}
+use Rattle.decimal_unsigned.specs.ShownDigits.{digits_down}
+use Rattle.decimal_unsigned.proofs.Values.{digit-number_of-above, digit-number_of-in, digit-number_of-below, high, magnitude_kept}
+
+-- ---- A word of digits.
+-- its first digit, and the word of the others
+pub word_next : (word ready : ℕ) → word < 2 ^ 64 → 0 < ready
+    → padded ready (word_nibbles word) ≡ word / 2 ^ 60 ∷ padded (ready - 1) (word_nibbles (word * 2 ^ 4 % 2 ^ 64))
+word_next word ready fits some =
+    let ns = word_nibbles word in
+    let rest = word_nibbles (word * 2 ^ 4 % 2 ^ 64) in
+    let others : rest ≡ drop 1 ns ++ replicate 1 0 = cut word 1 4 _ fits (omega arith) (omega arith) refl in
+    let size = length-padded ready ns in
+    let fewer = length-padded (ready - 1) rest in
+    same_number_lists _ _ (omega (arith, size, fewer)) (at others size)
+  where
+    at : word_nibbles (word * 2 ^ 4 % 2 ^ 64) ≡ drop 1 (word_nibbles word) ++ replicate 1 0
+        → length (padded ready (word_nibbles word)) ≡ ready
+        → (k : ℕ) → k < length (padded ready (word_nibbles word))
+        → get_or (padded ready (word_nibbles word)) k 0
+        ≡ get_or (word / 2 ^ 60 ∷ padded (ready - 1) (word_nibbles (word * 2 ^ 4 % 2 ^ 64))) k 0
+    at others size zero h =
+        let n = word_nibble word 0 fits (omega arith) in
+        get_or-padded ready (word_nibbles word) 0 some ∙ sym n ∙ (let e : word / 2 ^ 60 % 16 ≡ word / 2 ^ 60 = omega (arith, fits) in e)
+    at others size (suc k) h =
+        let l : suc k < ready = omega (arith, size) in
+        get_or-padded ready (word_nibbles word) (suc k) l
+        ∙ sym (ap (λ xs. get_or xs k 0) others ∙ rest_at (word_nibbles word) 1 1 k (suc k) (omega arith))
+        ∙ sym (get_or-padded (ready - 1) (word_nibbles (word * 2 ^ 4 % 2 ^ 64)) k (omega arith))
+
+-- the first sixteen digits of a list, in a word, and the others
+pub word_front : (ds : List ℕ) (index rest : ℕ) → All (λ d. d < 10) ds
+    → padded rest (drop index ds)
+    ≡ padded (min rest 16) (word_nibbles (bcd_number (drop index ds))) ++ padded (rest - min rest 16) (drop (index + 16) ds)
+word_front ds index rest h =
+    let xs = drop index ds in
+    let ys = drop (index + 16) ds in
+    let word = word_nibbles (bcd_number xs) in
+    let size = length-padded rest xs in
+    let first = length-padded (min rest 16) word in
+    let others = length-padded (rest - min rest 16) ys in
+    same_number_lists _ _
+    (omega (arith, size, first, others, length-append (padded (min rest 16) word) (padded (rest - min rest 16) ys)))
+    (λ k k_lt. let l : k < rest = omega arith in grind (arith, elements, get_or-padded, length-padded, bcd_nibble xs k (All-drop (λ d. d < 10) index ds h), l))
+
+-- ---- The digits of a number.
+module _ {ds : List ℕ} {m hi lo : ℤ} (t : IsStored ds m hi lo) where
+  -- the digit at a magnitude up to the first is that at its index
+  pub digit_at_index : (q : ℤ) (i : ℕ) → q +ℤ pos i ≡ m → negsuc 32767 ≤ℤ q → get_or ds i 0 ≡ digit (number_of ds m) q
+  digit_at_index q i e low =
+      elim (cases_lt i (length ds)) [
+        | inl l ↦ sym (digit-number_of-in t q i e low l)
+        | inr l ↦ get_or_past ds i 0 l ∙ sym (digit-number_of-below t q i e low l)
+      ]
+
+  -- also where the index is beyond the list at magnitudes above the first
+  pub digit_by_index : (q : ℤ) (i : ℕ) → mag q < 32768
+      → (to_z w16 (of_z w16 q) ≤ℤ to_z w16 (of_z w16 m) → to_z w16 (of_z w16 q) +ℤ pos i ≡ to_z w16 (of_z w16 m))
+      → (to_z w16 (of_z w16 m) <ℤ to_z w16 (of_z w16 q) → 65536 < i)
+      → get_or ds i 0 ≡ digit (number_of ds m) q
+  digit_by_index q i fits within above =
+      let at : to_z w16 (of_z w16 q) ≡ q = to_z-of_z w16 q (record { sfits = fits }) in
+      let first : to_z w16 (of_z w16 m) ≡ m = magnitude_kept t in
+      let low : negsuc 32767 ≤ℤ q = omega (arith, ints, fits) in
+      by_lt_z m q
+      (λ h.
+      let none : 65536 < i = above (rw at (rw first h)) in
+      get_or_past ds i 0 (omega (arith, t.fits, high t, none)) ∙ sym (digit-number_of-above t q h low))
+      (λ h. digit_at_index q i (sym (ap (λ z. z +ℤ pos i) at) ∙ within (rw at (rw first h)) ∙ first) low)
+
+-- a list of digits has one for each magnitude
+pub length-digits_down : (number : ℕ) (m : ℤ) (n : ℕ) → length (digits_down number m n) ≡ n
+unfolding digits_down
+length-digits_down number m zero = refl
+length-digits_down number m (suc n) = ap suc (length-digits_down number (m -ℤ pos 1) n)
+
+pub get_or-digits_down : (number : ℕ) (m : ℤ) (n k : ℕ) → k < n
+    → get_or (digits_down number m n) k 0 ≡ digit number (m -ℤ pos k)
+unfolding digits_down
+get_or-digits_down number m zero k h = elim h [ ]
+get_or-digits_down number m (suc n) zero h = ap (digit number) (let e : m ≡ m -ℤ pos 0 = omega (arith, ints) in e)
+get_or-digits_down number m (suc n) (suc k) h =
+    get_or-digits_down number (m -ℤ pos 1) n k (omega arith)
+    ∙ ap (digit number) (let e : (m -ℤ pos 1) -ℤ pos k ≡ m -ℤ pos (suc k) = omega (arith, ints) in e)
+
+-- zeros above the first digit, and then the stored digits with zeros after them, are the digits that are shown
+pub stored_shown : {ds : List ℕ} {m hi lo : ℤ} → IsStored ds m hi lo → (above rest : ℕ) → above ≡ int_gap m hi
+    → rest ≡ int_gap lo m + 1
+    → padded above (word_nibbles 0) ++ padded rest ds ≡ digits_down (number_of ds m) hi (int_gap lo hi + 1)
+stored_shown {ds} {m} {hi} {lo} t above rest a b =
+    let n = number_of ds m in
+    let size = length-digits_down n hi (int_gap lo hi + 1) in
+    let fewer = length-padded above (word_nibbles 0) in
+    let others = length-padded rest ds in
+    let all : above + rest ≡ int_gap lo hi + 1 =
+    omega (arith, ints, t.hi_covers, t.lo_covers, gap_is m hi, gap_is lo m, gap_is lo hi) in
+    same_number_lists _ _ (omega (arith, size, fewer, others, length-append (padded above (word_nibbles 0)) (padded rest ds)))
+    (λ k k_lt.
+    let l : k < int_gap lo hi + 1 = omega (arith, fewer, others, all, length-append (padded above (word_nibbles 0)) (padded rest ds)) in
+    let low : negsuc 32767 ≤ℤ (hi -ℤ pos k) = omega (arith, ints, t.in_range, gap_is lo hi, l) in
+    (elim (cases_lt k above) [
+      | inl h ↦
+          let zero_at : get_or (padded above (word_nibbles 0) ++ padded rest ds) k 0 ≡ 0 =
+          grind (arith, elements, get_or-padded, length-padded, zero_word 0 refl, h) in
+          zero_at ∙ sym (digit-number_of-above t (hi -ℤ pos k) (omega (arith, ints, a, gap_is m hi, h)) low)
+      | inr h ↦
+          let at : get_or (padded above (word_nibbles 0) ++ padded rest ds) k 0 ≡ get_or ds (k - above) 0 =
+          grind (arith, elements, get_or-padded, length-padded, h) in
+          at ∙ digit_at_index t (hi -ℤ pos k) (k - above) (omega (arith, ints, a, gap_is m hi, t.hi_covers, h)) low
+    ])
+    ∙ sym (get_or-digits_down n hi (int_gap lo hi + 1) k l))
+
+-- ---- The digits that an iterator has left.
+-- their number
+pub length-left : (ready word index rest : ℕ) (ds : List ℕ)
+    → ready + rest ≡ length (padded ready (word_nibbles word) ++ padded rest (drop index ds))
+length-left ready word index rest ds =
+    omega (
+      arith,
+      length-append (padded ready (word_nibbles word)) (padded rest (drop index ds)),
+      length-padded ready (word_nibbles word),
+      length-padded rest (drop index ds),
+    )
+
+-- where no digit is ready, the next one is the first of a word
+pub refilled : (ready old word count index rest : ℕ) (ds : List ℕ) → All (λ d. d < 10) ds → ready ≡ 0 → 0 < rest
+    → word ≡ bcd_number (drop index ds) → word < 2 ^ 64 → count ≡ min rest 16
+    → padded ready (word_nibbles old) ++ padded rest (drop index ds)
+    ≡ word / 2 ^ 60 ∷ (padded (count - 1) (word_nibbles (word * 2 ^ 4 % 2 ^ 64))
+    ++ padded (rest - count) (drop (index + 16) ds))
+refilled ready old word count index rest ds h none some is fits by =
+    let ys = padded (rest - count) (drop (index + 16) ds) in
+    let empty : padded ready (word_nibbles old) ≡ [] =
+    nil_from_length _ (length-padded ready (word_nibbles old) ∙ none) in
+    ap (λ xs. xs ++ padded rest (drop index ds)) empty
+    ∙ word_front ds index rest h
+    ∙ (λ i. padded (sym by i) (word_nibbles (sym is i)) ++ padded (rest - sym by i) (drop (index + 16) ds))
+    ∙ ap (λ xs. xs ++ ys) (word_next word count fits (omega (arith, some, by)))
+
+-- none are left
+pub none_left : (ready word index rest : ℕ) (ds : List ℕ) → ready ≡ 0 → rest ≡ 0
+    → padded ready (word_nibbles word) ++ padded rest (drop index ds) ≡ []
+none_left ready word index rest ds a b = nil_from_length _ (omega (arith, length-left ready word index rest ds))
