@@ -45,50 +45,87 @@ help() {
 
 # ---- fixdec
 
-usage=$'usage: fixdec [read:LOCALE] TEXT [CALL].. [format:LOCALE]\n'
+usage=$'usage: fixdec TEXT [CALL]..\n'
+
+# prints TEXT WORD..: status 0, and the text with a line feed.
+prints() {
+  row fixdec 0 "$1"$'\n' '' "${@:2}"
+}
 
 # Status 0.
-row fixdec 0 $'2.50\n' '' 250 shift:-2
-row fixdec 0 $'-35.970\n' '' 4235.970 max:2 sign:minus
-row fixdec 0 $'12345678901234567890.5\n' '' 12345678901234567890 trim-start concat:0.5
+prints 2.50 250 shift:-2
+prints 0.00051423 51423 shift:-8
+prints 0.5 .5
+prints 0000 0 shift:3
+prints 100000 1e5
+prints 100000 1e+5
+prints 250 250 trim-start
+prints 12.34 0012.3400 trim-start trim-end
+prints 0.01 100.01 max:1
+prints 0.00 0 max:-2
+prints 1234.5 1234.56 round:-1:trunc:1
+prints 00000 4235.970 round:5:trunc:1 round:2:trunc:1
+prints 10000 99.999 round:4:expand:1
+prints 9.8 9.75 round:-1:half-even:1
+prints 10.0 9.75 round:-1:half-even:5
+prints -7.50 -7.266 round:-2:expand:25
+prints 1234567812345677.5 1234567812345678 round:-1:trunc:25
+prints 12250 120 shift:1 concat:25 shift:1
+prints 100000000000000000007 100000000000000000000 concat:7
+prints 100000000000000000007 1e20 concat:7
+prints 00123.456 123 concat:0.456 pad-start:5
+prints 12345678901234567890.5 12345678901234567890 trim-start concat:0.5
+prints +1729 1729 display:always
+prints 0 -0.4 round:0:ceil:1 display:except-zero
+prints -35.970 4235.970 max:2 sign:minus
+prints 42 0042 pad-start:2
+prints 42.5 42.500 pad-end:-1
+prints 00042.5 42.5 max:5
 
 # Status 0, in the forms of locales, as ICU writes them.
-row fixdec 0 $'1,234.56\n' '' read:de 1.234,565 round:-2:half-even:1 format:en-IN
-row fixdec 0 $'12,34,567.891\n' '' 1234567.891 format:hi
-row fixdec 0 $'1’234’567.891\n' '' 1234567.891 format:de_CH.UTF-8
-row fixdec 0 $'1234567,891\n' '' 1234567.891 format:de:never
-row fixdec 0 $'1234\n' '' 1234 format:es
-row fixdec 0 $'1.234\n' '' 1234 format:es:always
-row fixdec 0 $'1234\n' '' 1234 format:de:min2
-row fixdec 0 $'1234.5\n' '' read:fr:lenient '1 234,5'
-row fixdec 0 $'12345.5\n' '' read:de-CH:lenient "12'345.5"
+prints 1,234.56 1.234,565 read:de round:-2:half-even:1 format:en-IN
+prints 12,34,567.891 1234567.891 format:hi
+prints 1’234’567.891 1234567.891 format:de_CH.UTF-8
+prints 1234567,891 1234567.891 format:de:never
+prints 1234 1234 format:es
+prints 1.234 1234 format:es:always
+prints 1234 1234 format:de:min2
+prints 1234.5 '1 234,5' read:fr:lenient
+prints 12345.5 "12'345.5" read:de-CH:lenient
 
 # Status 1: the start or a call fails.
-row fixdec 1 '' $'start: syntax\n' read:de 1,234.56
-row fixdec 1 '' $'start: syntax\n' read:fr '1 234,5'
+row fixdec 1 '' $'start: syntax\n' 1,234.56 read:de
+row fixdec 1 '' $'start: syntax\n' '1 234,5' read:fr
+row fixdec 1 '' $'start: syntax\n' read:de
 row fixdec 1 '' $'start: syntax\n' format:de
 row fixdec 1 '' $'start: syntax\n' 5.
+row fixdec 1 '' $'start: syntax\n' 1e+
 row fixdec 1 '' $'start: syntax\n' ''
 row fixdec 1 '' $'start: syntax\n' --
 row fixdec 1 '' $'start: limit\n' 10e32767
+row fixdec 1 '' $'start: limit\n' "$(printf '%032769d' 0)"
 row fixdec 1 '' $'call 0: syntax\n' 5 concat:x
 row fixdec 1 '' $'call 1: limit\n' 5 trim-start concat:1e99999
 row fixdec 1 '' $'call 0: overlap\n' 120 concat:25
 row fixdec 1 '' $'call 1: overflow\n' 98765 shift:32763 shift:1
 
-# Status 2: no start, or a word that names no call or is not UTF-8.
+# Status 2: no start, or a word that names nothing, is not in its place or is not UTF-8; the first wrong word decides.
 row fixdec 2 '' "$usage"
+row fixdec 2 '' "$usage" x shift:40000
+row fixdec 2 '' "$usage" 5 round:0:up:1
 row fixdec 2 '' "$usage" 5 trim
 row fixdec 2 '' "$usage" 5 ''
-row fixdec 2 '' "$usage" read:de
-row fixdec 2 '' "$usage" read:de:strict 5
-row fixdec 2 '' "$usage" 5 read:de
-row fixdec 2 '' "$usage" 5 format:de:fast
-row fixdec 2 '' "$usage" 5 format:de trim-end
-row fixdec 2 '' $'unknown locale\n' read:tlh 5
-row fixdec 2 '' $'unknown locale\n' 5 format:tlh
 row fixdec 2 '' "$usage" 5 --
 row fixdec 2 '' "$usage" '' 5
+row fixdec 2 '' "$usage" read:de 1.234,5
+row fixdec 2 '' "$usage" 5 read:de:strict
+row fixdec 2 '' "$usage" 5 trim-end read:de
+row fixdec 2 '' "$usage" 5 format:de:fast
+row fixdec 2 '' "$usage" 5 format:de trim-end
+row fixdec 2 '' "$usage" 5 foo format:tlh
+row fixdec 2 '' $'unknown locale\n' 5 read:tlh foo
+row fixdec 2 '' $'unknown locale\n' 5 read:tlh
+row fixdec 2 '' $'unknown locale\n' 5 format:tlh
 row fixdec 2 '' "$usage" $'5\xff'
 row fixdec 2 '' "$usage" 5 $'concat:\xc3\x28'
 
@@ -143,7 +180,12 @@ done 2> /dev/null
 [ "$reported" != 0 ] && [ "$printed" != 0 ]
 judge "with little memory it reported memory $reported times and printed $printed times"
 
-help fixdec 'usage: fixdec [read:LOCALE] TEXT [CALL].. [format:LOCALE]'
+help fixdec 'usage: fixdec TEXT [CALL]..'
+name='fixdec --help > /dev/full'
+"$room/fixdec" --help > /dev/full 2> "$room/err" < /dev/null
+found=$?
+: > "$room/out"
+compare 3 '' ''
 row fixdec 1 '' $'start: syntax\n' --help shift:1
 row fixdec 2 '' "$usage" --help 5
 
@@ -272,6 +314,13 @@ zeros=$(printf '%032767d' 0)
 lines 0 "1$zeros.0$zeros"'\n7\n' "1$zeros.0$zeros"$'\n7\n' ''
 lines 0 "1e$(printf '%0199997d' 3)"'\n7\n' $'1000\n7\n' ''
 lines 1 "7\n$(printf '%0200000d' 0)"'\n8\n' $'7\n' $'line 2: start: limit\n'
+
+# Long fields, and many of them.
+commas=$(printf '%032766d' 0 | tr 0 ,)
+lines 0 "${commas}250\n" "${commas}2.50"$'\n' '' field:32767 delimiter:, shift:-2
+quotes=$(printf '%0200000d' 0 | tr 0 '"')
+lines 0 "$quotes,250\n" "$quotes"$',2.50\n' '' csv field:2 shift:-2
+lines 1 "$quotes\",250\n" '' $'line 1: quote\n' csv field:2 shift:-2
 
 # Many lines.
 for ((i = 0; i < 20000; i++)); do echo "$i.125"; done > "$room/many"

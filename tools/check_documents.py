@@ -137,8 +137,8 @@ def check_public():
 
 
 def check_code():
-    """Lines have their width, callers cite Calling alone, nothing cites what is not in the repository, README counts the
-    definitions, and the tables of locales are what their script writes."""
+    """Lines have their width, callers cite Calling alone, nothing cites what is not in the repository, and the tables of
+    locales are what their script writes."""
     for path in FILES:
         if path != "LICENSE" and not path.startswith("tools/"):
             found = [line.strip()[:80] for line in read(path).splitlines() if OUTSIDE.search(line)]
@@ -150,16 +150,75 @@ def check_code():
         if path.split("/")[1] in CALLERS:
             for cited in re.findall(r"^(?:pub )?use Rattle\.(?:decimal_digits|decimal_unsigned|fixed_decimal)\.proofs\.(\w+)", text, re.M):
                 check(cited == "Calling", f"{path}: cites {cited}, and callers cite Calling alone")
-    specs = [text for path, text in CODE.items() if re.match(rf"crates/(?:{'|'.join(CRATES)})/specs/(?!Lib)", path)]
-    counted = f"{sum(text.count(chr(10)) for text in specs):,} lines in {len(specs)} files"
-    check(counted in read("README.md"), f"README.md: the definitions are {counted}")
-    check(read("README.md").count("\n") <= 120, "README.md has more than 120 lines")
     made = subprocess.run([sys.executable, "tools/locales/make_tables.py", "--check"], capture_output=True, text=True)
     check(made.returncode == 0, made.stderr.strip())
 
 
+def lines_of(paths):
+    """The number of lines of files, and of files."""
+    return f"{sum(CODE[path].count(chr(10)) for path in paths):,} lines in {len(paths)} files"
+
+
+def specs_of_run():
+    """The files of definitions that the contract of `run` cites, and those that these cite."""
+    text = CODE["crates/fixed_decimal/src/runs.rt"]
+    contract = re.search(r"^pub fn run<.*?^\{", text, re.M | re.S)[0]
+    imports = re.findall(r"^ghost use Rattle\.([\w.]+)\.\{(.*)\};", text, re.M)
+    left = [it for it, names in imports if set(re.findall(r"\w+", names)) & set(re.findall(r"\w+", contract))]
+    found = set()
+    while left:
+        path = re.sub(r"^(\w+)\.specs\.(\w+).*", r"crates/\1/specs/\2.antt", left.pop())
+        if path in CODE and path not in found:
+            found.add(path)
+            left += re.findall(r"^(?:pub )?use Rattle\.([\w.]+)\.\{", CODE[path], re.M)
+    return found
+
+
+def check_counts():
+    """The documents count lines of definitions and wrong bodies as they are, and keep to their lengths."""
+    specs = [path for path in CODE if re.match(rf"crates/(?:{'|'.join(CRATES)})/specs/(?!Lib)", path)]
+    edits = [path.split("/")[-2] == "must-fail" for path in FILES if path.endswith(".edit")]
+    for document, counted in [
+        ("README.md", f"{lines_of(specs)}, of which `run` cites {lines_of(specs_of_run())}"),
+        ("docs/DESIGN.md", f"{sum(edits)} of {len(edits)} are in `must-fail/`"),
+    ]:
+        check(counted in re.sub(r"\s+", " ", read(document)), f"{document}: {counted}")
+    for most, documents in [(120, ["README.md"]), (130, ["docs/DESIGN.md", "docs/DECISIONS.md"])]:
+        lines = sum(read(document).count("\n") for document in documents)
+        check(lines <= most, f"{' and '.join(documents)}: {lines} lines, and at most {most} are allowed")
+    words = sum(len(read(document).split()) for document in [*DOCUMENTS, "bench/README.md", "diff/README.md"])
+    check(words <= 13_000, f"the documents have {words:,} words, and at most 13,000 are allowed")
+
+
+def check_modules():
+    """DESIGN's table has each module of each crate, and each file of definitions and of lemmas once."""
+    table = {crate: ([], [], []) for crate in CRATES}
+    for line in read("docs/DESIGN.md").splitlines():
+        cells = line.strip("|").split("|")
+        crate = (quoted(cells[0]) or [""])[0].split("::")[0]
+        if line.startswith("|") and len(cells) == 4 and crate in table:
+            first, *others = quoted(cells[0])
+            folder = first.replace("::", "/src/", 1).replace("::", "/")
+            modules = [os.path.basename(folder), *others]
+            for name in modules:
+                path = f"crates/{os.path.dirname(folder)}/{name}.rt"
+                check(path in FILES, f"DESIGN: there is no module {path}")
+            for names, more in zip(table[crate], [modules + quoted(cells[1]), *(re.findall(r"\w+", it) for it in cells[2:])]):
+                names += more
+    for crate, (modules, *cited) in table.items():
+        stems = lambda kind: [os.path.basename(path).rsplit(".", 1)[0] for path in FILES
+                              if path.startswith(f"crates/{crate}/{kind}/") and path.endswith((".rt", ".antt"))]
+        for name in stems("src"):
+            check(name in modules + ["lib"], f"DESIGN: the module {name} of {crate} is missing")
+        for kind, names in zip(["specs", "proofs"], cited):
+            found = sorted(set(stems(kind)) - {"Lib", "Answers", "Invariants", "Proof"})
+            check(sorted(names) == found, f"DESIGN: {kind} of {crate}: missing {sorted(set(found) - set(names))}, not there "
+                  f"{sorted(set(names) - set(found))}, twice {sorted({it for it in names if names.count(it) > 1})}")
+
+
 def check_examples():
-    """Each `$ ..` of README and PROGRAMS writes what follows it, if its program is built. `cat FILE` shows an input."""
+    """Each `$ ..` of README and PROGRAMS writes what follows it, if its program is built. `cat FILE` shows an input, and
+    `tests/fresh_clone.sh` runs the command with `rt`."""
     folders = {name: os.path.abspath(f"crates/{name}/out") for name in ["fixdec", "fixdec_lines", "plural"]}
     unbuilt = {name for name, folder in folders.items() if not os.access(f"{folder}/{name}", os.X_OK)}
     for document in ["README.md", "docs/PROGRAMS.md"]:
@@ -169,14 +228,15 @@ def check_examples():
                     if command.startswith("cat "):
                         with open(f"{room}/{command[4:]}", "w", encoding="utf-8") as file:
                             file.write(wanted)
-                    elif not unbuilt.intersection(command.split(" ")):
+                    elif not unbuilt.intersection(command.split(" ")) and " rt " not in command:
                         run = subprocess.run(["bash", "-c", command], capture_output=True, text=True, cwd=room,
                                              env={"PATH": ":".join([*folders.values(), "/usr/bin", "/bin"])})
                         written = run.stdout + run.stderr
                         check(written == wanted, f"{document}: `{command}` writes {written!r}")
 
 
-for part in [check_names, check_links, check_quotes, check_proved, check_public, check_code, check_examples]:
+for part in [check_names, check_links, check_quotes, check_proved, check_public, check_code, check_counts, check_modules,
+             check_examples]:
     part()
 print("\n".join([*failures, f"{passes} passed, {len(failures)} failed"]))
 sys.exit(1 if failures else 0)

@@ -8,7 +8,7 @@ use fixed_decimal::{WriteError, write_whole};
 use std::fmt::{Display, InlineText};
 use std::io::Write;
 
-/// A line of at most 80 bytes and its line feed. The longest text of an error has 65 bytes.
+/// A line of at most 80 bytes and its line feed. The longest text of an error has 69 bytes.
 type Line = ArrayString<81>;
 
 /// Takes reports of errors.

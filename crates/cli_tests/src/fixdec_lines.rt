@@ -3,17 +3,16 @@ use std::alloc::Global;
 use std::test::Fail;
 
 mod chunked_input;
-mod fields;
-mod long_input;
 mod outputs;
-mod pattern;
-mod slices;
 
-/// Returns the words of a line, which single blanks separate; the first is the program's name.
+/// Returns the arguments of a line: the name of the program, and the words that single blanks separate.
 fn words(alloc: Global, line: &str) -> Result<Vec<String>, Fail> {
     let mut words = Vec::new(alloc);
-    for word in line.split(' ') {
-        words.push(String::from_str(alloc, word)?)?;
+    words.push(String::from_str(alloc, "fixdec_lines")?)?;
+    if !line.is_empty() {
+        for word in line.split(' ') {
+            words.push(String::from_str(alloc, word)?)?;
+        }
     }
     Ok(words)
 }

@@ -1,4 +1,5 @@
-//! `fixdec TEXT [CALL]..` reads a decimal, makes the calls in order, and prints the text of the result.
+//! `fixdec TEXT [read:LOCALE] [CALL].. [format:LOCALE]` reads a decimal, makes the calls in order, and prints the
+//! result.
 //!
 //! `fixdec 250 shift:-2` prints `2.50`.
 #![tactic(auto)]

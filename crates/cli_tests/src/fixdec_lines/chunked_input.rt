@@ -1,13 +1,36 @@
 //! Inputs of a few lines, read in pieces, with their output and the errors that are reported.
-use super::pattern::{Pattern, PatternReader};
 use super::words;
 use cli::fixdec_lines::run_arguments;
 use cli::{ErrorLines, LineReader};
 use std::alloc::Global;
-use std::io::ErrorKind;
+use std::io;
+use std::io::{ErrorKind, Read};
 use std::process::Abort;
 use std::test::Fail;
 use test_support::{FailingWriter, WriteFailure};
+
+/// A reader of a text, with at most `most` bytes a read, which fails after the text if there is a failure.
+#[derive(Drop)]
+struct ChunkReader<'a> {
+    text: &'a [u8],
+    most: usize,
+    failure: Option<ErrorKind>,
+}
+
+impl Read for ChunkReader<'_> {
+    fn read(&mut self, buf: &mut [u8]) -> io::Result<usize> {
+        if let Some(failure) = self.failure
+            && self.text.is_empty()
+        {
+            return Err(io::Error::from(failure));
+        }
+        let count = self.most.min(buf.len()).min(self.text.len());
+        let (taken, rest) = self.text.split_at(count);
+        buf[..count].copy_from_slice(taken);
+        self.text = rest;
+        Ok(count)
+    }
+}
 
 /// Words, an input, the texts of standard output and standard error, and the status.
 type Row = (
@@ -20,166 +43,143 @@ type Row = (
 
 /// The reader does not fail.
 const ROWS: &[Row] = &[
+    ("shift:-2", b"250\n7\n", b"2.50\n0.07\n", b"", 0),
+    ("shift:-2", b"250\n7", b"2.50\n0.07\n", b"", 0),
+    ("", b"+007.0\n.5\n", b"+007.0\n0.5\n", b"", 0),
+    ("", b"", b"", b"", 0),
+    ("skip", b"5", b"5\n", b"", 0),
+    ("", b"\n", b"", b"line 1: start: syntax\n", 1),
+    ("", b"1\n\n2\n", b"1\n", b"line 2: start: syntax\n", 1),
+    ("", b"1\n2\n\n", b"1\n2\n", b"line 3: start: syntax\n", 1),
+    ("", b"1\r\n2\n", b"", b"line 1: start: syntax\n", 1),
+    ("", b"1\n2\x00\n3\n", b"1\n", b"line 2: start: syntax\n", 1),
+    ("", b"\xff", b"", b"line 1: start: syntax\n", 1),
+    ("", b"1 \n", b"", b"line 1: start: syntax\n", 1),
+    ("", b"1\n10e32767\n", b"1\n", b"line 2: start: limit\n", 1),
+    ("concat:x", b"0\n", b"", b"line 1: call 0: syntax\n", 1),
+    ("up", b"1\n", b"", USAGE, 2),
+    ("shift:-2 skip", b"1\n", b"", USAGE, 2),
+    ("skip skip", b"1\n", b"", USAGE, 2),
+    (" ", b"1\n", b"", USAGE, 2),
     (
-        "fixdec_lines shift:-2",
-        b"250\n7\n",
-        b"2.50\n0.07\n",
-        b"",
-        0,
-    ),
-    ("fixdec_lines shift:-2", b"250\n7", b"2.50\n0.07\n", b"", 0),
-    ("fixdec_lines", b"+007.0\n.5\n", b"+007.0\n0.5\n", b"", 0),
-    ("fixdec_lines", b"", b"", b"", 0),
-    ("fixdec_lines skip", b"", b"", b"", 0),
-    ("fixdec_lines skip", b"5", b"5\n", b"", 0),
-    ("fixdec_lines", b"\n", b"", b"line 1: start: syntax\n", 1),
-    (
-        "fixdec_lines",
-        b"1\n\n2\n",
-        b"1\n",
-        b"line 2: start: syntax\n",
-        1,
-    ),
-    (
-        "fixdec_lines",
-        b"1\n2\n\n",
-        b"1\n2\n",
-        b"line 3: start: syntax\n",
-        1,
-    ),
-    (
-        "fixdec_lines",
-        b"1\r\n2\n",
-        b"",
-        b"line 1: start: syntax\n",
-        1,
-    ),
-    (
-        "fixdec_lines",
-        b"1\n2\x00\n3\n",
-        b"1\n",
-        b"line 2: start: syntax\n",
-        1,
-    ),
-    ("fixdec_lines", b"\xff", b"", b"line 1: start: syntax\n", 1),
-    ("fixdec_lines", b"1 \n", b"", b"line 1: start: syntax\n", 1),
-    (
-        "fixdec_lines",
-        b"1\n10e32767\n",
-        b"1\n",
-        b"line 2: start: limit\n",
-        1,
-    ),
-    (
-        "fixdec_lines trim-end concat:7",
-        b"0.0\n10\n11\n12\n",
-        b"7\n17\n",
-        b"line 3: call 1: overlap\n",
-        1,
-    ),
-    (
-        "fixdec_lines shift:1 shift:32767",
-        b"0\n1\n5.5\n",
-        b"",
-        b"line 1: call 1: overflow\n",
-        1,
-    ),
-    (
-        "fixdec_lines concat:x",
-        b"0\n",
-        b"",
-        b"line 1: call 0: syntax\n",
-        1,
-    ),
-    ("fixdec_lines up", b"1\n", b"", USAGE, 2),
-    ("fixdec_lines shift:-2 skip", b"1\n", b"", USAGE, 2),
-    ("fixdec_lines skip skip", b"1\n", b"", USAGE, 2),
-    ("fixdec_lines 250", b"1\n", b"", USAGE, 2),
-    ("fixdec_lines ", b"1\n", b"", USAGE, 2),
-    (
-        "fixdec_lines skip shift:-2",
+        "skip shift:-2",
         b"250\n\nx\n7",
         b"2.50\n\n\n0.07\n",
         b"line 2: start: syntax\nline 3: start: syntax\n",
         1,
     ),
+    ("header", b"", b"", b"", 0),
+    ("header", b"\xff\x00", b"\xff\x00\n", b"", 0),
+    ("header shift:-2", b"7\n250\n", b"7\n2.50\n", b"", 0),
+    ("header", b"\n\n", b"\n", b"line 2: start: syntax\n", 1),
     (
-        "fixdec_lines skip concat:7 shift:1",
-        b"1\n10\n10e32767",
-        b"\n170\n\n",
-        b"line 1: call 0: overlap\nline 3: start: limit\n",
-        1,
-    ),
-    ("fixdec_lines header", b"", b"", b"", 0),
-    ("fixdec_lines header", b"\xff\x00", b"\xff\x00\n", b"", 0),
-    (
-        "fixdec_lines header shift:-2",
-        b"7\n250\n",
-        b"7\n2.50\n",
-        b"",
-        0,
-    ),
-    (
-        "fixdec_lines header",
-        b"\n\n",
-        b"\n",
-        b"line 2: start: syntax\n",
-        1,
-    ),
-    (
-        "fixdec_lines skip header field:1",
+        "skip header field:1",
         b"x\r\nx\n7\ty\n",
         b"x\r\n\n7\ty\n",
         b"line 2: start: syntax\n",
         1,
     ),
     (
-        "fixdec_lines field:2 csv header shift:-2",
+        "field:2 csv header shift:-2",
         b"name\n\"a,b\",250\n\"c",
         b"name\n\"a,b\",2.50\n",
         b"line 3: quote\n",
         1,
     ),
-    ("fixdec_lines header header", b"1\n", b"", USAGE, 2),
-    ("fixdec_lines shift:1 header", b"1\n", b"", USAGE, 2),
+];
+
+/// Fields of lines: all other bytes are copied.
+const FIELDS: &[Row] = &[
+    ("field:1", b"7\n07\tx", b"7\n07\tx\n", b"", 0),
+    (
+        "skip field:2 delimiter:, shift:-2",
+        b"a,250,b\n,7,\n\x00\xff,250,\xc3\x00\na,250\r\n\"a,250,c\n\r\n\n",
+        b"a,2.50,b\n,0.07,\n\x00\xff,2.50,\xc3\x00\n\n\"a,2.50,c\n\n\n",
+        b"line 4: start: syntax\nline 6: field\nline 7: field\n",
+        1,
+    ),
+    (
+        "skip field:4 delimiter:, shift:-2",
+        b",,,\n,,\n1,2,3,4,5\n",
+        b"\n\n1,2,3,0.04,5\n",
+        b"line 1: start: syntax\nline 2: field\n",
+        1,
+    ),
+    (
+        "skip field:2 delimiter:· shift:-2",
+        b"\xb7\xc2\xb7250\xc2\xb7\xc2\n",
+        b"\xb7\xc2\xb72.50\xc2\xb7\xc2\n",
+        b"",
+        0,
+    ),
+    (
+        "skip field:2 csv shift:-2",
+        b"a,250\r\n\"a,\"\"b\",250,c\na,\"250\",c\n\"a,250\n\"a\",\"250\n\"\x00\xff,\",250,\"\xc3\"\n",
+        b"a,2.50\r\n\"a,\"\"b\",2.50,c\na,2.50,c\n\n\n\"\x00\xff,\",2.50,\"\xc3\"\n",
+        b"line 4: quote\nline 5: quote\n",
+        1,
+    ),
+    (
+        "skip field:1 csv shift:-2",
+        b"\"1\"2\"\",3\n1\"2\",3\n\"\"\"\n\"250\"\r\n250\r",
+        b"\n\n\n2.50\r\n2.50\r\n",
+        b"line 1: quote\nline 2: quote\nline 3: quote\n",
+        1,
+    ),
+    (
+        "skip field:1 csv",
+        b"\"2\"\"5\"\n\"\",1\n25\x00,1\n\r\n",
+        b"\n\n\n\n",
+        b"line 1: start: syntax\nline 2: start: syntax\nline 3: start: syntax\nline 4: start: syntax\n",
+        1,
+    ),
+    (
+        "skip field:3 csv shift:-2",
+        b"\"1,2\",3\n,,\n",
+        b"\n\n",
+        b"line 1: field\nline 2: start: syntax\n",
+        1,
+    ),
+    (
+        "field:1 csv delimiter:. shift:-2",
+        b"250.x",
+        b"\"2.50\".x\n",
+        b"",
+        0,
+    ),
+    (
+        "field:2 csv delimiter:\r",
+        b"1\r.5\r\n",
+        b"1\r0.5\r\n",
+        b"",
+        0,
+    ),
 ];
 
 /// The reader fails after the input.
 const BROKEN: &[Row] = &[
+    ("shift:-2", b"250\n7\n", b"2.50\n0.07\n", b"input\n", 3),
+    ("shift:-2", b"250\n7", b"2.50\n", b"input\n", 3),
+    ("shift:-2", b"", b"", b"input\n", 3),
+    ("", b"x\n7\n", b"", b"line 1: start: syntax\n", 1),
     (
-        "fixdec_lines shift:-2",
-        b"250\n7\n",
-        b"2.50\n0.07\n",
-        b"input\n",
-        3,
-    ),
-    ("fixdec_lines shift:-2", b"250\n7", b"2.50\n", b"input\n", 3),
-    ("fixdec_lines shift:-2", b"", b"", b"input\n", 3),
-    (
-        "fixdec_lines",
-        b"x\n7\n",
-        b"",
-        b"line 1: start: syntax\n",
-        1,
-    ),
-    (
-        "fixdec_lines skip",
+        "skip",
         b"x\n7\n",
         b"\n7\n",
         b"line 1: start: syntax\ninput\n",
         3,
     ),
-    ("fixdec_lines up", b"", b"", USAGE, 2),
+    ("up", b"", b"", USAGE, 2),
 ];
 
 const USAGE: &[u8] = b"usage: fixdec_lines [OPTION].. [read:LOCALE] [CALL].. [format:LOCALE]\n";
 
 /// The reader is out of memory after the input.
 const NO_MEMORY: &[Row] = &[
-    ("fixdec_lines", b"", b"", b"line 1: memory\n", 3),
-    ("fixdec_lines", b"7\n8", b"7\n", b"line 2: memory\n", 3),
+    ("", b"", b"", b"line 1: memory\n", 3),
+    ("", b"7\n8", b"7\n", b"line 2: memory\n", 3),
     (
-        "fixdec_lines skip",
+        "skip",
         b"x\n",
         b"\n",
         b"line 1: start: syntax\nline 2: memory\n",
@@ -190,14 +190,18 @@ const NO_MEMORY: &[Row] = &[
 /// Whether a row holds with `most` bytes a read, of a reader that fails after the input if there is a failure.
 fn holds(alloc: Global, row: Row, most: usize, failure: Option<ErrorKind>) -> Result<bool, Fail> {
     let arguments = words(alloc, row.0)?.into_iter();
-    let mut input = PatternReader::failing(Pattern::of(row.1), most, failure);
+    let mut input = ChunkReader {
+        text: row.1,
+        most,
+        failure,
+    };
     let out = FailingWriter::new(row.2, usize::MAX, WriteFailure::StorageFull);
     let mut err = FailingWriter::new(row.3, usize::MAX, WriteFailure::StorageFull);
     let mut lines = ErrorLines::new(&mut err);
     let mut reader = LineReader::open(alloc, &mut input)?;
     let (status, out) = run_arguments(alloc, Ok(arguments), &mut reader, out, &mut lines);
     let has_all = out.is_some_and(|closed| closed.into_writer().has_all()) && err.has_all();
-    Ok(status == row.4 && has_all && (status != 2 || input.is_spent() == row.1.is_empty()))
+    Ok(status == row.4 && has_all && (status != 2 || input.text.len() == row.1.len()))
 }
 
 /// Asserts that rows hold, with a few bytes at a read and with many.
@@ -219,6 +223,7 @@ fn assert_rows(
 fn filters_chunked_input(rt: HostRuntime) -> Result<(), Fail> {
     let alloc = rt.alloc();
     assert_rows(&rt, alloc, ROWS, None)?;
+    assert_rows(&rt, alloc, FIELDS, None)?;
     assert_rows(&rt, alloc, BROKEN, Some(ErrorKind::BrokenPipe))?;
     assert_rows(&rt, alloc, NO_MEMORY, Some(ErrorKind::OutOfMemory))
 }

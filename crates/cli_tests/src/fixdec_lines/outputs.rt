@@ -1,5 +1,4 @@
 //! Outputs that fail after a number of bytes.
-use super::pattern::{Pattern, PatternReader};
 use super::words;
 use cli::fixdec_lines::run_arguments;
 use cli::{ErrorLines, LineReader};
@@ -18,72 +17,60 @@ type Row = (
 
 /// Outputs without room for their text. A failure of standard error does not change the status.
 const ROWS: &[Row] = &[
+    ("shift:-2", b"250\n7\n", (b"2.50\n0.07\n", 10), (b"", 0), 0),
     (
-        "fixdec_lines shift:-2",
-        b"250\n7\n",
-        (b"2.50\n0.07\n", 10),
-        (b"", 0),
-        0,
-    ),
-    (
-        "fixdec_lines shift:-2",
+        "shift:-2",
         b"250\n7\n",
         (b"2.50\n0.07\n", 9),
         (b"output\n", 7),
         3,
     ),
     (
-        "fixdec_lines shift:-2",
+        "shift:-2",
         b"250\n7\n",
         (b"2.50\n0.07\n", 6),
         (b"output\n", 3),
         3,
     ),
     (
-        "fixdec_lines shift:-2",
+        "shift:-2",
         b"250\n7\n",
         (b"2.50\n0.07\n", 4),
         (b"output\n", 0),
         3,
     ),
     (
-        "fixdec_lines shift:-2",
+        "shift:-2",
         b"250\n7\n",
         (b"2.50\n0.07\n", 0),
         (b"output\n", 7),
         3,
     ),
     (
-        "fixdec_lines",
+        "",
         b"7\nx\n",
         (b"7\n", 2),
         (b"line 2: start: syntax\n", 9),
         1,
     ),
-    ("fixdec_lines", b"7\nx\n", (b"7\n", 1), (b"output\n", 7), 3),
+    ("", b"7\nx\n", (b"7\n", 1), (b"output\n", 7), 3),
     (
-        "fixdec_lines skip",
+        "skip",
         b"x\ny\n7\n",
         (b"\n\n7\n", 4),
         (b"line 1: start: syntax\nline 2: start: syntax\n", 30),
         1,
     ),
     (
-        "fixdec_lines skip",
+        "skip",
         b"x\n7\n",
         (b"\n7\n", 1),
         (b"line 1: start: syntax\noutput\n", 29),
         3,
     ),
+    ("header", b"x\nx\n", (b"x\n", 1), (b"output\n", 7), 3),
     (
-        "fixdec_lines header",
-        b"x\nx\n",
-        (b"x\n", 1),
-        (b"output\n", 7),
-        3,
-    ),
-    (
-        "fixdec_lines up",
+        "up",
         b"7\n",
         (b"", 0),
         (
@@ -99,7 +86,7 @@ fn holds(alloc: Global, row: Row, write_failure: WriteFailure) -> Result<bool, F
     let arguments = words(alloc, row.0)?.into_iter();
     let (text, capacity) = row.2;
     let (transcript, err_capacity) = row.3;
-    let mut input = PatternReader::new(Pattern::of(row.1), 100);
+    let mut input = row.1;
     let out = FailingWriter::new(text, capacity, write_failure);
     let mut err = FailingWriter::new(transcript, err_capacity, write_failure);
     let mut lines = ErrorLines::new(&mut err);

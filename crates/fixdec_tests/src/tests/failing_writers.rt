@@ -27,15 +27,7 @@ const ROWS: &[Row] = &[
         ("call 1: overflow\n", 9),
         1,
     ),
-    (
-        "5 up",
-        ("", 0),
-        (
-            "usage: fixdec [read:LOCALE] TEXT [CALL].. [format:LOCALE]\n",
-            0,
-        ),
-        2,
-    ),
+    ("5 up", ("", 0), ("usage: fixdec TEXT [CALL]..\n", 0), 2),
 ];
 
 /// How writers fail without room.

@@ -1,16 +1,21 @@
 //! Lines that print no text: the status, and what standard error took.
-use super::{assert_shows, output_with_retry, shown};
+use super::{USAGE, assert_shows, output_with_retry, shown};
 use std::alloc::Global;
 use std::test::Fail;
 
-/// Lines with a text that is rejected.
-const REFUSALS: &[(&str, &str)] = &[
+/// Lines with a text that is rejected. A bar separates words that have blanks.
+const REJECTED: &[(&str, &str)] = &[
     ("5.", "1 start: syntax\n"),
     ("", "1 start: syntax\n"),
     ("--5", "1 start: syntax\n"),
     ("-", "1 start: syntax\n"),
     ("1e+ trim-end", "1 start: syntax\n"),
     ("shift:1", "1 start: syntax\n"),
+    ("read:de", "1 start: syntax\n"),
+    ("format:de", "1 start: syntax\n"),
+    ("1,234.56 read:de", "1 start: syntax\n"),
+    (" 5|shift:1", "1 start: syntax\n"),
+    ("5 |shift:1", "1 start: syntax\n"),
     ("10e32767", "1 start: limit\n"),
     ("10e32767 shift:1", "1 start: limit\n"),
     ("1e++5", "1 start: syntax\n"),
@@ -18,29 +23,16 @@ const REFUSALS: &[(&str, &str)] = &[
     ("1e-+5", "1 start: syntax\n"),
     ("10e+32767", "1 start: limit\n"),
     ("120 concat:25", "1 call 0: overlap\n"),
-    ("123456789 concat:123456789", "1 call 0: overlap\n"),
     ("5 concat:x", "1 call 0: syntax\n"),
     ("5 concat:", "1 call 0: syntax\n"),
     ("5 concat:a:b", "1 call 0: syntax\n"),
+    ("5|concat: 7", "1 call 0: syntax\n"),
     ("5 concat:-7", "1 call 0: syntax\n"),
     ("5 concat:1e+-5", "1 call 0: syntax\n"),
-    ("5 concat:1e99999", "1 call 0: limit\n"),
     ("5 trim-start concat:1e99999", "1 call 1: limit\n"),
     ("5 concat:1e+32768", "1 call 0: limit\n"),
     ("5 concat:5 concat:x", "1 call 0: overlap\n"),
     ("50 concat:5 concat:x", "1 call 1: syntax\n"),
-    (
-        "5 max:9 max:9 max:9 max:9 max:9 max:9 max:9 max:9 max:9 max:9 concat:5 shift:1",
-        "1 call 10: overlap\n",
-    ),
-    (
-        "5 max:9 max:9 max:9 max:9 max:9 max:9 max:9 max:9 max:9 max:9 concat:x shift:1",
-        "1 call 10: syntax\n",
-    ),
-    (
-        "5 max:9 max:9 max:9 max:9 max:9 max:9 max:9 max:9 max:9 max:9 concat:1e32768",
-        "1 call 10: limit\n",
-    ),
 ];
 
 /// Lines with a shift or a rounding beyond the limits, which is another error than that of a text beyond them.
@@ -56,24 +48,32 @@ const OVERFLOWS: &[(&str, &str)] = &[
     ("1e-32768 round:32767:expand:25", "1 call 0: overflow\n"),
     ("123 shift:32767 concat:x", "1 call 0: overflow\n"),
     ("5 concat:1e32768 shift:32767", "1 call 0: limit\n"),
-    ("123 shift:32767 up", USAGE),
-    (
-        "5 max:9 max:9 max:9 max:9 max:9 max:9 max:9 max:9 max:9 max:9 shift:32767",
-        "1 call 10: overflow\n",
-    ),
+];
+
+/// Lines of several wrong words: the first of them decides, before the text and the calls.
+const LOCALES: &[(&str, &str)] = &[
+    ("5 read:tlh", "2 unknown locale\n"),
+    ("x format:tlh", "2 unknown locale\n"),
+    ("5 read:tlh foo", "2 unknown locale\n"),
+    ("5 read:tlh format:de:fast", "2 unknown locale\n"),
+    ("5 foo format:tlh", USAGE),
+    ("5 read:de:strict format:tlh", USAGE),
+    ("5 shift:40000 format:tlh", USAGE),
 ];
 
 /// Words that are no call, of lines that have another error or none.
 const UNKNOWN_WORDS: &[&str] = &[
-    "x up",
+    "x shift:40000",
     "5 shift:0 x",
     "5 concat:x up",
+    "123 shift:32767 up",
     "5 concat",
     "5 trim",
     "5 trim-start:",
     "5 Shift:1",
     "5 ",
-    "5 max:9 max:9 max:9 max:9 max:9 max:9 max:9 max:9 max:9 max:9 max:9 x",
+    "5|shift: 1",
+    "5| shift:1",
     "5 round:0:up:1",
     "5 round:0:trunc",
     "5 round:0:trunc:1:",
@@ -85,11 +85,11 @@ const UNKNOWN_WORDS: &[&str] = &[
     "5 sign:negative",
     "5 display:plus",
     "5 display",
-];
-
-/// Words with an invalid number.
-const UNKNOWN_NUMBERS: &[&str] = &[
-    "x shift:40000",
+    "read:de 5",
+    "5 shift:1 read:de",
+    "5 format:de shift:1",
+    "5 read:de read:de",
+    "5 format:de:fast",
     "250 shift",
     "250 shift:",
     "250 shift:-",
@@ -105,72 +105,21 @@ const UNKNOWN_NUMBERS: &[&str] = &[
     "250 max:1.0",
 ];
 
-/// A start and a call, one of which has blanks.
-const BLANKS: &[(&str, &str, &str)] = &[
-    (" 5", "shift:1", "1 start: syntax\n"),
-    ("5 ", "shift:1", "1 start: syntax\n"),
-    ("5", "concat: 7", "1 call 0: syntax\n"),
-    ("5", "shift: 1", USAGE),
-    ("5", " shift:1", USAGE),
-];
-
-const USAGE: &str = "2 usage: fixdec [read:LOCALE] TEXT [CALL].. [format:LOCALE]\n";
-
 #[test]
-fn rejected(rt: HostRuntime) -> Result<(), Fail> {
-    let alloc = rt.alloc();
-    for (line, answer) in REFUSALS {
-        assert_shows(&rt, shown(alloc, line)?, answer);
+fn reports_errors(rt: HostRuntime) -> Result<(), Fail> {
+    for rows in [REJECTED, OVERFLOWS, LOCALES] {
+        for (line, answer) in rows {
+            assert_shows(&rt, shown(rt.alloc(), line)?, answer);
+        }
     }
     Ok(())
 }
 
 #[test]
-fn rejects_overflow(rt: HostRuntime) -> Result<(), Fail> {
-    let alloc = rt.alloc();
-    for (line, answer) in OVERFLOWS {
-        assert_shows(&rt, shown(alloc, line)?, answer);
-    }
-    Ok(())
-}
-
-#[test]
-fn shows_usage_for_words(rt: HostRuntime) -> Result<(), Fail> {
-    let alloc = rt.alloc();
+fn shows_usage(rt: HostRuntime) -> Result<(), Fail> {
     for line in UNKNOWN_WORDS {
-        assert_shows(&rt, shown(alloc, line)?, USAGE);
+        assert_shows(&rt, shown(rt.alloc(), line)?, USAGE);
     }
-    Ok(())
-}
-
-#[test]
-fn shows_usage_for_numbers(rt: HostRuntime) -> Result<(), Fail> {
-    let alloc = rt.alloc();
-    for line in UNKNOWN_NUMBERS {
-        assert_shows(&rt, shown(alloc, line)?, USAGE);
-    }
-    Ok(())
-}
-
-/// Runs the program on a start and a call.
-fn shown_of_two(alloc: Global, start: &str, call: &str) -> Result<Vec<u8>, Fail> {
-    let mut words = Vec::with_capacity(alloc, 2)?;
-    words.push(String::from_str(alloc, start)?)?;
-    words.push(String::from_str(alloc, call)?)?;
-    output_with_retry(alloc, words.as_slice(), 0)
-}
-
-#[test]
-fn rejects_blanks(rt: HostRuntime) -> Result<(), Fail> {
-    let alloc = rt.alloc();
-    for (start, call, answer) in BLANKS {
-        assert_shows(&rt, shown_of_two(alloc, start, call)?, answer);
-    }
-    Ok(())
-}
-
-#[test]
-fn shows_usage_without_words(rt: HostRuntime) -> Result<(), Fail> {
     assert_shows(&rt, output_with_retry(rt.alloc(), &[], 0)?, USAGE);
     Ok(())
 }

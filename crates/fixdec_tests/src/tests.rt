@@ -10,17 +10,20 @@ use std::test::Fail;
 mod arguments;
 mod buffering;
 mod failing_writers;
-mod many_calls;
 mod prints;
 mod rejected;
 
 /// More bytes than most texts have.
 const CAPACITY: usize = 64;
 
-/// Returns the words of a line, which single blanks separate.
+/// What is shown for words that name no run.
+const USAGE: &str = "2 usage: fixdec TEXT [CALL]..\n";
+
+/// Returns the words of a line, which single blanks separate, or bars if there is one.
 fn words(alloc: Global, line: &str) -> Result<Vec<String>, Fail> {
     let mut words = Vec::new(alloc);
-    for word in line.split(' ') {
+    let separator = if line.contains('|') { '|' } else { ' ' };
+    for word in line.split(separator) {
         words.push(String::from_str(alloc, word)?)?;
     }
     Ok(words)

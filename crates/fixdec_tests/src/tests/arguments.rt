@@ -1,5 +1,5 @@
 //! The arguments of the process: the words after the name of the program, or the error of reading them.
-use super::{assert_shows, transcript, words};
+use super::{USAGE, assert_shows, transcript, words};
 use cli::fixdec::run_arguments;
 use std::alloc::Global;
 use std::env::Args;
@@ -7,15 +7,13 @@ use std::io;
 use std::io::ErrorKind;
 use std::test::Fail;
 
-const USAGE: &str = "2 usage: fixdec [read:LOCALE] TEXT [CALL].. [format:LOCALE]\n";
-
 /// Lines that start with the name of the program.
 const LINES: &[(&str, &str)] = &[
     ("fixdec 250 shift:-2", "2.50"),
     ("250 250 shift:-2", "2.50"),
     ("fixdec 5 shift:1 shift:2 shift:3", "5000000"),
     ("fixdec", USAGE),
-    ("fixdec up", "1 start: syntax\n"),
+    ("fixdec read:de", "1 start: syntax\n"),
     ("fixdec ", "1 start: syntax\n"),
     ("fixdec 5 ", USAGE),
     ("fixdec  5", USAGE),
@@ -36,7 +34,7 @@ fn output_of(alloc: Global, arguments: io::Result<Args>) -> Result<Vec<u8>, Fail
 }
 
 /// Runs the program on words, and once more if it is out of memory.
-pub fn shown(alloc: Global, words: &Vec<String>) -> Result<Vec<u8>, Fail> {
+fn shown(alloc: Global, words: &Vec<String>) -> Result<Vec<u8>, Fail> {
     let answer = output_of(alloc, Ok(words.clone()?.into_iter()))?;
     if answer.as_slice() == b"3 memory\n".as_slice() {
         return output_of(alloc, Ok(words.clone()?.into_iter()));
