@@ -7,9 +7,9 @@ use Rattle.std.specs.Str.Parse.{AllDigits}
 use Rattle.std.specs.Int.{w64, to_be_bytes, from_be_bytes, bytes_high_first, byte_at}
 use Rattle.std.specs.Int.Digits.{number_from_digits, AllBelowBase}
 use Rattle.std.proofs.Math.Nat.{mod-eq_of_lt, pow-le-pow_right}
-use Rattle.std.proofs.lemmas.Nat.{pow-add, mod-mul-add, be_bytes_8, from_be_bytes-to_be_bytes_8, shr-shr}
+use Rattle.std.proofs.lemmas.Nat.{pow-add, mod-mul-add, be_bytes_8, from_be_bytes-to_be_bytes_8}
 use Rattle.std.proofs.lemmas.Grind.{same_number_lists}
-use Rattle.std.proofs.lemmas.List.{length-append, length-drop, length-map, length-replicate, length-take, length-take-le, append-nil, append_assoc, get_or_default, get_or_past, get_or-drop, get_or-replicate, get_or-take, map_more, take-append-drop}
+use Rattle.std.proofs.lemmas.List.{length-append, length-drop, length-map, length-replicate, length-take, length-take-le, append-nil, get_or_default, get_or_past, get_or-drop, get_or-replicate, get_or-take, map_more, take-append-drop}
 use Rattle.std.proofs.lemmas.List.Elements.{All-append, All-from_recursion, All-get_or, All-replicate}
 use Rattle.std.proofs.lemmas.Int.Digits.{number_lt, number_after_append, number_more, number_push}
 use Rattle.std.proofs.Math.Seq.{drop-append_seam}
