@@ -1,5 +1,5 @@
 -- The digits that a value shows.
-use Rattle.decimal_unsigned.proofs.Common.{◌≡◌, ℕ, zero, suc, ◌+◌, ◌-◌, ◌*◌, ◌/◌, ◌%◌, ◌^◌, ◌<◌, List, [], ◌∷◌, ◌++◌, length, drop, min, get_or, replicate, refl, inl, inr, sym, ◌∙◌, ap, arith, w16, to_z, of_z, ℤ, pos, negsuc, ◌+ℤ◌, ◌-ℤ◌, ◌≤ℤ◌, ◌<ℤ◌, int_gap, All, ints, by_lt_z, cases_lt, to_z-of_z, digit, length-append, elements, gap_is, IsStored}
+use Rattle.decimal_unsigned.proofs.Common.{◌≡◌, ℕ, zero, suc, ◌+◌, ◌-◌, ◌*◌, ◌/◌, ◌%◌, ◌^◌, ◌<◌, List, [], ◌∷◌, ◌++◌, length, drop, min, get_or, refl, inl, inr, sym, ◌∙◌, ap, arith, w16, to_z, of_z, ℤ, pos, negsuc, ◌+ℤ◌, ◌-ℤ◌, ◌≤ℤ◌, ◌<ℤ◌, int_gap, All, ints, by_lt_z, cases_lt, to_z-of_z, digit, length-append, elements, gap_is, IsStored}
 use Rattle.std.proofs.lemmas.Grind.{same_number_lists}
 use Rattle.std.proofs.lemmas.List.Elements.{All-drop}
 use Rattle.std.proofs.lemmas.List.{get_or_past, nil_from_length}
@@ -13,45 +13,51 @@ use Rattle.decimal_unsigned.specs.ShownDigits.{digits_down}
 use Rattle.decimal_unsigned.proofs.Values.{digit-number_of-above, digit-number_of-in, digit-number_of-below, high, magnitude_kept}
 
 -- ---- A word of digits.
--- its first digit, and the word of the others
-pub word_next : (word ready : ℕ) → word < 2 ^ 64 → 0 < ready
-    → padded ready (word_nibbles word) ≡ word / 2 ^ 60 ∷ padded (ready - 1) (word_nibbles (word * 2 ^ 4 % 2 ^ 64))
-word_next word ready fits some =
-    let ns = word_nibbles word in
-    let rest = word_nibbles (word * 2 ^ 4 % 2 ^ 64) in
-    let others : rest ≡ drop 1 ns ++ replicate 1 0 = cut word 1 4 _ fits (omega arith) (omega arith) refl in
-    let size = length-padded ready ns in
-    let fewer = length-padded (ready - 1) rest in
-    same_number_lists _ _ (omega (arith, size, fewer)) (at others size)
-  where
-    at : word_nibbles (word * 2 ^ 4 % 2 ^ 64) ≡ drop 1 (word_nibbles word) ++ replicate 1 0
-        → length (padded ready (word_nibbles word)) ≡ ready
-        → (k : ℕ) → k < length (padded ready (word_nibbles word))
-        → get_or (padded ready (word_nibbles word)) k 0
-        ≡ get_or (word / 2 ^ 60 ∷ padded (ready - 1) (word_nibbles (word * 2 ^ 4 % 2 ^ 64))) k 0
-    at others size zero h =
-        let n = word_nibble word 0 fits (omega arith) in
-        get_or-padded ready (word_nibbles word) 0 some ∙ sym n ∙ (let e : word / 2 ^ 60 % 16 ≡ word / 2 ^ 60 = omega (arith, fits) in e)
-    at others size (suc k) h =
-        let l : suc k < ready = omega (arith, size) in
-        get_or-padded ready (word_nibbles word) (suc k) l
-        ∙ sym (ap (λ xs. get_or xs k 0) others ∙ rest_at (word_nibbles word) 1 1 k (suc k) (omega arith))
-        ∙ sym (get_or-padded (ready - 1) (word_nibbles (word * 2 ^ 4 % 2 ^ 64)) k (omega arith))
+module _ (word ready : ℕ) (fits : word < 2 ^ 64) where
+  abbrev others : List ℕ
+  others = word_nibbles (word * 2 ^ 4 % 2 ^ 64)
+
+  first_at : get_or (word_nibbles word) 0 0 ≡ word / 2 ^ 60
+  first_at =
+      sym (word_nibble word 0 fits (omega arith))
+      ∙ (let e : word / 2 ^ 60 % 16 ≡ word / 2 ^ 60 = omega (arith, fits) in e)
+
+  other_at : (k : ℕ) → get_or (word_nibbles word) (suc k) 0 ≡ get_or others k 0
+  other_at k =
+      sym (ap (λ xs. get_or xs k 0) (cut word 1 4 _ fits (omega arith) (omega arith) refl)
+      ∙ rest_at (word_nibbles word) 1 1 k (suc k) (omega arith))
+
+  digit_of : (k : ℕ) → k < ready
+      → get_or (padded ready (word_nibbles word)) k 0 ≡ get_or (word / 2 ^ 60 ∷ padded (ready - 1) others) k 0
+  digit_of zero h = get_or-padded ready (word_nibbles word) 0 h ∙ first_at
+  digit_of (suc k) h =
+      get_or-padded ready (word_nibbles word) (suc k) h
+      ∙ other_at k
+      ∙ sym (get_or-padded (ready - 1) others k (omega arith))
+
+  -- its first digit, and the word of the others
+  pub word_next : 0 < ready → padded ready (word_nibbles word) ≡ word / 2 ^ 60 ∷ padded (ready - 1) others
+  word_next some =
+      let size = length-padded ready (word_nibbles word) in
+      let fewer = length-padded (ready - 1) others in
+      same_number_lists _ _ (omega (arith, size, fewer)) (λ k h. digit_of k (omega arith))
 
 -- the first sixteen digits of a list, in a word, and the others
 pub word_front : (ds : List ℕ) (index rest : ℕ) → All (λ d. d < 10) ds
     → padded rest (drop index ds)
-    ≡ padded (min rest 16) (word_nibbles (bcd_number (drop index ds))) ++ padded (rest - min rest 16) (drop (index + 16) ds)
+    ≡ padded (min rest 16) (word_nibbles (bcd_number (drop index ds)))
+    ++ padded (rest - min rest 16) (drop (index + 16) ds)
 word_front ds index rest h =
-    let xs = drop index ds in
+    let word = word_nibbles (bcd_number (drop index ds)) in
     let ys = drop (index + 16) ds in
-    let word = word_nibbles (bcd_number xs) in
-    let size = length-padded rest xs in
-    let first = length-padded (min rest 16) word in
-    let others = length-padded (rest - min rest 16) ys in
+    let below = All-drop (λ d. d < 10) index ds h in
+    let size = length-padded rest (drop index ds) in
+    let both = length-append (padded (min rest 16) word) (padded (rest - min rest 16) ys) in
     same_number_lists _ _
-    (omega (arith, size, first, others, length-append (padded (min rest 16) word) (padded (rest - min rest 16) ys)))
-    (λ k k_lt. let l : k < rest = omega arith in grind (arith, elements, get_or-padded, length-padded, bcd_nibble xs k (All-drop (λ d. d < 10) index ds h), l))
+    (omega (arith, size, both, length-padded (min rest 16) word, length-padded (rest - min rest 16) ys))
+    (λ k k_lt.
+    let l : k < rest = omega arith in
+    grind (arith, elements, get_or-padded, length-padded, bcd_nibble (drop index ds) k below, l))
 
 -- ---- The digits of a number.
 module _ {ds : List ℕ} {m hi lo : ℤ} (t : IsStored ds m hi lo) where
@@ -101,12 +107,13 @@ stored_shown {ds} {m} {hi} {lo} t above rest a b =
     let n = number_of ds m in
     let size = length-digits_down n hi (int_gap lo hi + 1) in
     let fewer = length-padded above (word_nibbles 0) in
-    let others = length-padded rest ds in
-    let all : above + rest ≡ int_gap lo hi + 1 =
-    omega (arith, ints, t.hi_covers, t.lo_covers, gap_is m hi, gap_is lo m, gap_is lo hi) in
-    same_number_lists _ _ (omega (arith, size, fewer, others, length-append (padded above (word_nibbles 0)) (padded rest ds)))
+    let both = length-append (padded above (word_nibbles 0)) (padded rest ds) in
+    let all : length (padded above (word_nibbles 0) ++ padded rest ds) ≡ int_gap lo hi + 1 =
+    omega (arith, ints, t.hi_covers, t.lo_covers, gap_is m hi, gap_is lo m, gap_is lo hi, both, fewer,
+    length-padded rest ds) in
+    same_number_lists _ _ (omega (arith, size, all))
     (λ k k_lt.
-    let l : k < int_gap lo hi + 1 = omega (arith, fewer, others, all, length-append (padded above (word_nibbles 0)) (padded rest ds)) in
+    let l : k < int_gap lo hi + 1 = omega (arith, all) in
     let low : negsuc 32767 ≤ℤ (hi -ℤ pos k) = omega (arith, ints, t.in_range, gap_is lo hi, l) in
     (elim (cases_lt k above) [
       | inl h ↦
