@@ -94,9 +94,11 @@ same_own tag name (Some a) None x y =
 same_own tag name (Some a) (Some b) x y =
     let tags = same_tag tag (Some name) LOCALES_BY_SYSTEM a b x y in
     let p : a.system ≡ name =
-    (bytes_eq-Decides a.system name).0 (and_parts (is_tag_prefix (unpadded a.tag) tag) (bytes_eq a.system name) x.1).1 in
+    (bytes_eq-Decides a.system name).0
+    (and_parts (is_tag_prefix (unpadded a.tag) tag) (bytes_eq a.system name) x.1).1 in
     let q : b.system ≡ name =
-    (bytes_eq-Decides b.system name).0 (and_parts (is_tag_prefix (unpadded b.tag) tag) (bytes_eq b.system name) y.1).1 in
+    (bytes_eq-Decides b.system name).0
+    (and_parts (is_tag_prefix (unpadded b.tag) tag) (bytes_eq b.system name) y.1).1 in
     ap Some (same_row tag_and_system_of LOCALES_BY_SYSTEM a b own_tags_are_distinct x.0 y.0 (cc))
 
 pub locale_is_unique : (tag : List ℕ) (s t : Symbols) → IsLocale tag s → IsLocale tag t → s ≡ t

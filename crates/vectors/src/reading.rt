@@ -56,8 +56,7 @@ fn has_magnitudes<D: DigitStore>(alloc: Global, text: &str, wanted: &str) -> boo
     };
     match magnitudes(alloc, &value) {
         Some(found) => {
-            found.as_str() == wanted
-                && lowest_of(text.as_bytes()) == Ok(value.lowest())
+            found.as_str() == wanted && lowest_of(text.as_bytes()) == Ok(value.lowest())
         }
         None => false,
     }
