@@ -10,7 +10,7 @@ use Rattle.std.proofs.lemmas.List.{drop-drop, take_all, nil_from_length}
 use Rattle.std.proofs.lemmas.List.Concat.{flat_map-cons}
 use Rattle.std.proofs.lemmas.Str.{length-encode, len_utf8_bounds, length-le-encodes, encodes-chars}
 use Rattle.decimal_format.specs.Symbols.{Symbols, AreValid}
-use Rattle.decimal_format.specs.Lenient.{is_mark, is_minus, is_plus, is_separator, replacement, normalized}
+use Rattle.decimal_format.specs.Lenient.{is_mark, is_minus, is_plus, is_separator, replacement, replaced}
 
 -- ---- Steps over a list.
 -- what follows one element more
@@ -41,62 +41,27 @@ module _ (front : ℕ) (text code : List ℕ) (size : length text ≡ front + le
       other [] (ap (λ n. drop n text) same ∙ ap (drop (length before)) e ∙ drop-append_seam before code
       ∙ sym (append-nil code))
 
--- ---- Lengths.
-if_le : (b : Bool) (x y : List ℕ) (n : ℕ) → length x ≤ n → length y ≤ n → length (if b then x else y) ≤ n
-if_le true x y n p q = p
-if_le false x y n p q = q
-
-length-encoded : (c : ℕ) → length (encode_utf8 c) ≤ 255
-length-encoded c = omega (arith, length-encode c, (len_utf8_bounds c).1)
-
+-- ---- Steps over a character.
 module _ (s : Symbols) where
-  length-replacement : AreValid s → (c : ℕ) → length (replacement s c) ≤ 255
-  length-replacement valid c =
-      if_le (is_mark c) _ _ 255 (omega arith)
-      (if_le (is_minus c) _ _ 255 valid.minus_prefix_in
-      (if_le (is_plus c) _ _ 255 valid.plus_prefix_in
-      (if_le (is_separator s c) _ _ 255 valid.grouping_in
-      (if_le (is_ascii_digit c) _ _ 255 (length-encoded (slice_index s.digits (c - 48))) (length-encoded c)))))
-
-  length-all : AreValid s → (cs : List ℕ) → length (flat_map (replacement s) cs) ≤ 255 * length cs
-  length-all valid [] = omega arith
-  length-all valid (c ∷ cs) =
-      omega (
-        arith,
-        ap length (flat_map-cons (replacement s) c cs),
-        length-append (replacement s c) (flat_map (replacement s) cs),
-        length-replacement valid c,
-        length-all valid cs,
-      )
-
-  -- no normal form is longer than a number of 128 bits
-  pub normalized_all : AreValid s → (bytes : List ℕ) → IsUtf8 bytes → length bytes < 2 ^ 64
-      → take (2 ^ 128 - 1) (normalized s bytes) ≡ normalized s bytes
-  normalized_all valid bytes utf8 short =
-      let few = length-le-encodes (chars bytes) in
-      let same = ap length (encodes-chars bytes utf8) in
-      take_all (2 ^ 128 - 1) (normalized s bytes) (omega (arith, length-all valid (chars bytes), few, same, short))
-
-  -- ---- Steps over a character.
   module _ (bytes rest : List ℕ) (c : ℕ) (first : chars bytes ≡ c ∷ chars rest) where
-    split : normalized s bytes ≡ replacement s c ++ normalized s rest
+    split : replaced s bytes ≡ replacement s c ++ replaced s rest
     split = ap (flat_map (replacement s)) first ∙ flat_map-cons (replacement s) c (chars rest)
 
     -- its bytes were read
     pub character_read : (read : ℕ) → length (replacement s c) ≤ read
-        → drop read (normalized s bytes) ≡ drop (read - length (replacement s c)) (normalized s rest)
+        → drop read (replaced s bytes) ≡ drop (read - length (replacement s c)) (replaced s rest)
     character_read read h =
         let n = length (replacement s c) in
         let k : read ≡ n + (read - n) = omega (arith, h) in
-        ap (λ x. drop x (normalized s bytes)) k ∙ ap (drop (n + (read - n))) split
-        ∙ drop-append-add (replacement s c) (normalized s rest) (read - n)
+        ap (λ x. drop x (replaced s bytes)) k ∙ ap (drop (n + (read - n))) split
+        ∙ drop-append-add (replacement s c) (replaced s rest) (read - n)
 
     -- its next byte
     pub byte_read : (read : ℕ) → read < length (replacement s c)
-        → drop read (normalized s bytes) ≡ get_or (replacement s c) read 0 ∷ drop (read + 1) (normalized s bytes)
+        → drop read (replaced s bytes) ≡ get_or (replacement s c) read 0 ∷ drop (read + 1) (replaced s bytes)
     byte_read read h =
-        let inside : read < length (normalized s bytes) =
-        omega (arith, h, ap length split, length-append (replacement s c) (normalized s rest)) in
-        let first = ap (λ l. get_or l read 0) split ∙ get_or-append (replacement s c) (normalized s rest) 0 read h in
+        let inside : read < length (replaced s bytes) =
+        omega (arith, h, ap length split, length-append (replacement s c) (replaced s rest)) in
+        let first = ap (λ l. get_or l read 0) split ∙ get_or-append (replacement s c) (replaced s rest) 0 read h in
         let one : suc read ≡ read + 1 = omega arith in
-        drop-cons (normalized s bytes) read 0 inside ∙ (λ i. first i ∷ drop (one i) (normalized s bytes))
+        drop-cons (replaced s bytes) read 0 inside ∙ (λ i. first i ∷ drop (one i) (replaced s bytes))

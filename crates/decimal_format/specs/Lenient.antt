@@ -1,5 +1,5 @@
 -- Numbers as people type them.
-use Rattle.std.specs.Prelude.{◌≡◌, ℕ, ◌-◌, ◌==◌, ◌⊎◌, Bool, false, ◌&&◌, ◌||◌, if◌then◌else◌, List, [], encode_utf8}
+use Rattle.std.specs.Prelude.{◌≡◌, ℕ, ◌-◌, ◌^◌, ◌==◌, ◌⊎◌, Bool, false, ◌&&◌, ◌||◌, if◌then◌else◌, List, [], take, encode_utf8}
 use Rattle.std.specs.Char.{is_ascii_digit}
 use Rattle.std.specs.List.{flat_map, list_any}
 use Rattle.std.specs.Str.{chars}
@@ -51,9 +51,14 @@ replacement s c =
     else if is_ascii_digit c then digit_text s (c - 48)
     else encode_utf8 c
 
--- the text in the symbols of the locale
+-- the bytes that the characters of a text stand for
+abbrev pub replaced : Symbols → List ℕ → List ℕ
+replaced s text = flat_map (replacement s) (chars text)
+
+-- the text in the symbols of the locale, as far as a machine can count its bytes: to 2 ^ 64 of them, which is beyond
+-- all limits, no text of fewer than 2 ^ 56 bytes comes
 abbrev pub normalized : Symbols → List ℕ → List ℕ
-normalized s text = flat_map (replacement s) (chars text)
+normalized s text = take (2 ^ 64 - 1) (replaced s text)
 
 -- ---- Optional separators.
 

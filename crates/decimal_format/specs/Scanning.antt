@@ -13,7 +13,7 @@ use Rattle.decimal_format.specs.declared.reader.lenient.Normalized.{Normalized}
 use Rattle.decimal_format.specs.Collecting.{Collected, CollectsDigits}
 use Rattle.decimal_format.specs.Symbols.{Symbols, digit_text}
 use Rattle.decimal_format.specs.Reading.{Numeral, IsNumeral, IsBeyondLimits, IsWritten, digits_text}
-use Rattle.decimal_format.specs.Lenient.{normalized, IsLenientNumeral, IsLenientlyWritten}
+use Rattle.decimal_format.specs.Lenient.{replaced, IsLenientNumeral, IsLenientlyWritten}
 
 -- ---- Groups.
 
@@ -40,7 +40,7 @@ pub record EndsInteger (s : Symbols) (tail : List ℕ) : Type 0 where
 
 -- the bytes of a normal form that are left to read
 abbrev pub left_of : Normalized → List ℕ
-left_of n = take n.left (drop n.read (normalized n.symbols.now n.text.now))
+left_of n = take n.left (drop n.read (replaced n.symbols.now n.text.now))
 
 -- ---- Digits.
 

@@ -128,29 +128,6 @@ impl GroupingSizes {
         (before_last + 1, true)
     }
 
-    /// The same from any magnitude.
-    #[inline]
-    pub(crate) fn next_run(self, magnitude: u128, most: usize) -> (usize, bool)
-        requires some { 0 < most }
-        ensures some { 0 < result.0 }
-        ensures at_most { result.0 ≤ most }
-        ensures within { result.0 ≤ magnitude + 1 }
-        ensures none_between { (k : ℕ) → k + 1 < result.0 → ends_group self (magnitude - k) ≡ false }
-        ensures last { ends_group self (magnitude - (result.0 - 1)) ≡ result.1 }
-    {
-        if magnitude <= u32::MAX as u128 {
-            return self.run_to_end(magnitude as usize, most);
-        }
-        let primary = self.primary as u128;
-        if primary == 0 {
-            return (1, false);
-        }
-        (
-            1,
-            (magnitude - primary) % self.secondary_size() as u128 == 0,
-        )
-    }
-
     /// Returns a number of digits, from an integer magnitude down, with no separator between them, and whether a
     /// separator is after them: the digits to the next separator, or to magnitude 0, or `most`.
     #[inline]

@@ -25,8 +25,8 @@ use std::alloc::Global;
 #[derive(Clone, Copy)]
 struct Scanned {
     sign: Sign,
-    integer_digits: u128,
-    fraction_digits: u128,
+    integer_digits: usize,
+    fraction_digits: usize,
     /// Whether the text has all grouping separators, or none.
     is_strict: bool,
 }
@@ -36,7 +36,7 @@ impl Scanned {
     fn is_beyond_limits(&self) -> bool
         ensures { (w : Numeral) → HasCounts self.now w → IsTrue result ↔ IsBeyondLimits w }
     {
-        self.integer_digits > MAX_DIGITS as u128 || self.fraction_digits > MAX_DIGITS as u128
+        self.integer_digits > MAX_DIGITS || self.fraction_digits > MAX_DIGITS
     }
 
     /// Returns the value of the digits.
@@ -73,7 +73,7 @@ impl<'a> DecimalSymbols<'a> {
 
     /// Counts the digits at the start of a text, with grouping separators anywhere among them.
     #[inline]
-    fn count_digits<const ASCII: bool, T: Input>(&self, text: T) -> u128
+    fn count_digits<const ASCII: bool, T: Input>(&self, text: T) -> usize
         requires readable { IsReadable self.now }
         requires ascii { ASCII ≡ true → self.now.digits ≡ ascii_digits }
         ensures { (separated : ℕ → Bool) (ds tail : List ℕ) → AllBelowBase 10 ds → EndsInteger self.now tail
@@ -101,7 +101,7 @@ impl<'a> DecimalSymbols<'a> {
     #[inline]
     fn read_digits<const ASCII: bool, T: Input, D: DigitStore>(
         &self,
-        count: u128,
+        count: usize,
         text: T,
         digits: &mut DigitCollector<D>,
     ) -> Option<(bool, T)>
@@ -123,13 +123,13 @@ impl<'a> DecimalSymbols<'a> {
         let mut all = true;
         let mut none = true;
         while left > 0 {
-            let (most, possible) = self.sizes().next_run(left - 1, MAX_RUN);
+            let (most, possible) = self.sizes().run_to_end(left - 1, MAX_RUN);
             let (number, found, after) = self.read_run::<ASCII, T>(most, rest);
             if found < most {
                 return None;
             }
             digits.push_run(number, found);
-            left -= most as u128;
+            left -= most;
             let (separated, next) = self.skip_separator(possible, after);
             all &= separated == possible;
             none &= !separated;
@@ -144,7 +144,7 @@ impl<'a> DecimalSymbols<'a> {
         &self,
         text: T,
         digits: &mut DigitCollector<D>,
-    ) -> Option<u128>
+    ) -> Option<usize>
         requires readable { IsReadable self.now }
         requires ascii { ASCII ≡ true → self.now.digits ≡ ascii_digits }
         requires collecting { (n : ℕ) × (ds : List ℕ) × Collects D.L n digits.old ds }
@@ -164,7 +164,7 @@ impl<'a> DecimalSymbols<'a> {
                 return None;
             }
             digits.push_run(number, found);
-            count += found as u128;
+            count += found;
             rest = after;
         }
         Some(count)
@@ -176,7 +176,7 @@ impl<'a> DecimalSymbols<'a> {
         &self,
         text: T,
         digits: &mut DigitCollector<D>,
-    ) -> Option<u128>
+    ) -> Option<usize>
         requires readable { IsReadable self.now }
         requires ascii { ASCII ≡ true → self.now.digits ≡ ascii_digits }
         requires collecting { (n : ℕ) × (ds : List ℕ) × Collects D.L n digits.old ds }

@@ -154,13 +154,6 @@ impl<'a> DecimalSymbols<'a> {
         }
     }
 
-    /// The digits have one width, and no other text has more than 255 bytes.
-    pub(crate) fn are_valid(&self)
-        ensures { AreValid self.now }
-    {
-        let _ = &self.minus;
-    }
-
     /// Returns the character of a digit. Requires a digit below 10.
     #[inline]
     pub fn digit(&self, digit: u8) -> char

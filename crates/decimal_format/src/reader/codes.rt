@@ -40,7 +40,7 @@ pub fn cut_end<T: Input>(text: T, code: &[u8]) -> Option<T>
     if code.is_empty() {
         return Some(text);
     }
-    let front = count(text).checked_sub(code.len() as u128)?;
+    let front = count(text).checked_sub(code.len())?;
     cut(skip(text, front), code)?;
     Some(text.first(front))
 }

@@ -133,11 +133,11 @@ impl<D: DigitStore> DigitCollector<D> {
 
     /// Begins a number with the given number of integer digits.
     #[inline]
-    pub fn begin(&mut self, integer_digits: u128)
+    pub fn begin(&mut self, integer_digits: usize)
         requires { IsFresh D.L self.old }
         ensures { Collects D.L integer_digits self.new [] }
     {
-        self.integer_digits = integer_digits.min(MAX_DIGITS as u128) as usize;
+        self.integer_digits = integer_digits.min(MAX_DIGITS);
     }
 
     /// Makes the value of no digits, if none were appended to it.

@@ -9,14 +9,14 @@ pub trait Input: Copy {
     fn is_empty(self) -> bool
         ensures yes { result ≡ true → bytes self ≡ [] }
         ensures no { result ≡ false → bytes self ≢ [] }
-        ensures at_most { length (bytes self) < 2 ^ 128 };
+        ensures at_most { length (bytes self) < 2 ^ 64 };
 
     /// Returns the first byte, and what follows it.
     fn split_first(self) -> Option<(u8, Self)>
         ensures { MatchOption result (bytes self ≡ []) (λ r. bytes self ≡ r.0 ∷ bytes r.1) };
 
     /// Returns the given number of bytes at the start.
-    fn first(self, count: u128) -> Self
+    fn first(self, count: usize) -> Self
         requires { count ≤ length (bytes self) }
         ensures { bytes result ≡ take count (bytes self) };
 
@@ -40,8 +40,8 @@ impl Input for &[u8] {
         }
     }
 
-    fn first(self, count: u128) -> Self {
-        &self[..count as usize]
+    fn first(self, count: usize) -> Self {
+        &self[..count]
     }
 
     #[inline]
@@ -51,7 +51,7 @@ impl Input for &[u8] {
 }
 
 /// Returns the number of bytes.
-pub fn count<T: Input>(text: T) -> u128
+pub fn count<T: Input>(text: T) -> usize
     ensures { result ≡ length (T.bytes text) }
 {
     if text.is_empty() {
@@ -67,7 +67,7 @@ pub fn count<T: Input>(text: T) -> u128
 }
 
 /// Returns what follows the given number of bytes.
-pub fn skip<T: Input>(text: T, count: u128) -> T
+pub fn skip<T: Input>(text: T, count: usize) -> T
     ensures { T.bytes result ≡ drop count (T.bytes text) }
 {
     let mut rest = text;

@@ -67,7 +67,7 @@ struct Normalized<'t, 'a> {
     /// The number of bytes of the normal form of `text` that were read.
     read: usize,
     /// The number of bytes that follow at most.
-    left: u128,
+    left: usize,
 }
 
 impl<'t, 'a> Normalized<'t, 'a> {
@@ -75,13 +75,11 @@ impl<'t, 'a> Normalized<'t, 'a> {
     fn new(symbols: &'t DecimalSymbols<'a>, text: &'t str) -> Self
         ensures { left_of result ≡ normalized symbols.now text.now }
     {
-        // Proof hint: what a character stands for has at most 255 bytes.
-        symbols.are_valid();
         Normalized {
             symbols,
             text,
             read: 0,
-            left: u128::MAX,
+            left: usize::MAX,
         }
     }
 }
@@ -119,7 +117,7 @@ impl<'t, 'a> Input for Normalized<'t, 'a> {
         None
     }
 
-    fn first(self, count: u128) -> Self {
+    fn first(self, count: usize) -> Self {
         Normalized {
             symbols: self.symbols,
             text: self.text,

@@ -17,7 +17,7 @@ push_run-requires-clause-digits g c = (c.read_run-number.ensures.digits, c.read_
 pub loop-left-preserved : goal.loop-left-preserved
 loop-left-preserved g c =
     let so_far = c.loop-left.invariant in
-    let group = rw c.sizes.ensures at c.next_run-most.ensures in
+    let group = rw c.sizes.ensures at c.run_to_end-most.ensures in
     let run = c.read_run-number.ensures in
     record {
       digits = so_far.digits ++ run.digits;
@@ -29,7 +29,7 @@ loop-left-preserved g c =
 
 pub returns-then-found-most-clause-none : goal.returns-then-found-most-clause-none
 returns-then-found-most-clause-none g c = λ chosen ds tail size below e.
-    let group = rw c.sizes.ensures at c.next_run-most.ensures in
+    let group = rw c.sizes.ensures at c.run_to_end-most.ensures in
     read_fails c.loop-left.invariant.read c.requires.readable (none_after_last c.args.self.now) chosen ds tail size
     below e c.read_run-number.ensures c.if-found-most.true (omega (arith, group.within, c.loop-left-test.true))
     group.none_between

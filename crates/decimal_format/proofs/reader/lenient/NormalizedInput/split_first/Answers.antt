@@ -1,5 +1,5 @@
 use Rattle.std.proofs.Common.{◌≡◌, ℕ, suc, ◌+◌, ◌-◌, ◌<◌, List, ◌∷◌, take, drop, ◌∙◌, ap, arith}
-use Rattle.decimal_format.specs.Lenient.{normalized}
+use Rattle.decimal_format.specs.Lenient.{replaced}
 use Rattle.decimal_format.proofs.NormalForms.{byte_read, character_read}
 use Rattle.decimal_format.proofs.reader.lenient.NormalizedInput.split_first.Goals as goal
 
@@ -16,7 +16,7 @@ returns-then-read-bytes c =
     let bytes = c.replacement-bytes.ensures in
     let inside = rw bytes at c.if-read-bytes.true in
     rw bytes
-    (take_first c.args.self.left _ _ (drop (c.loop-c.read + 1) (normalized s text))
+    (take_first c.args.self.left _ _ (drop (c.loop-c.read + 1) (replaced s text))
     (omega (arith, c.if-self-eq0.false))
     (c.loop-c.invariant.1 ∙ byte_read s text c.in-Some.rest.now c.in-Some.c c.in-Some.ensures.0 c.loop-c.read inside))
 
