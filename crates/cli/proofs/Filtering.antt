@@ -16,7 +16,8 @@ use Rattle.cli.specs.declared.error.FilterError.{FilterError}
 use Rattle.cli.specs.declared.error.FilterError.TheVariants.{Operation, LongLine, Input, Output}
 use Rattle.cli.specs.declared.filter.Filter.{Filter}
 use Rattle.cli.specs.declared.filter.OnError.TheVariants.{Stop}
-use Rattle.cli.specs.FilterLine.{Effects, IsRead, IsErrorOfReading, IsResultOfLine, FiltersLine, FiltersNext, output_of_line, errors_of_line}
+use Rattle.cli.specs.FilterLine.{Effects, IsErrorOfReading, IsResultOfLine, FiltersLine, FiltersNext, output_of_line, errors_of_line}
+use Rattle.cli.specs.Input.{IsRead}
 use Rattle.cli.specs.Lines.{lines_of, AreRead, AreResults, output_of, errors_of, have_texts, Returns, Filters, IsConsumed}
 use Rattle.cli.proofs.FirstLine.{lines_first}
 

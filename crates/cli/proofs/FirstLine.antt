@@ -9,7 +9,7 @@ use Rattle.std.proofs.Math.Seq.{take-append_seam}
 use Rattle.std.proofs.lemmas.Bool.{cond-false}
 use Rattle.std.proofs.lemmas.Grind.{common_steps}
 use Rattle.memchr.specs.Find.{IsFirstByte, is_byte}
-use Rattle.cli.specs.FilterLine.{IsRead}
+use Rattle.cli.specs.Input.{IsRead}
 use Rattle.cli.specs.Lines.{lines_of}
 
 -- a byte before other bytes does not change how they end

@@ -2,7 +2,6 @@
 use Rattle.std.specs.Prelude.{◌≡◌, ◌≢◌, ◌⊎◌, ℕ, Bool, true, false, List, [], ◌∷◌, ◌++◌, Option, Some, None, Result, Ok, Err, is_ok, IfSome, IsSomeAnd}
 use Rattle.std.specs.List.{FoldsTo}
 use Rattle.std.specs.Io.KnownBytes.{Appends}
-use Rattle.std.specs.Io.BufRead.{first_piece, drop_through}
 use Rattle.std.specs.declared.io.ErrorKind.{ErrorKind}
 use Rattle.std.specs.declared.io.ErrorKind.TheVariants.{OutOfMemory}
 use Rattle.decimal_digits.specs.AppendsPrefix.{AppendsPrefix}
@@ -14,6 +13,7 @@ use Rattle.cli.specs.declared.filter.Filter.{Filter}
 use Rattle.cli.specs.declared.filter.OnError.TheVariants.{Stop, Skip}
 use Rattle.cli.specs.Errors.{status_of_operation}
 use Rattle.cli.specs.FieldConversion.{IsLineResult, LineFails}
+use Rattle.cli.specs.Input.{IsRead}
 
 -- ---- The result of a line.
 
@@ -72,11 +72,6 @@ pub record Effects (D : Type 0) : Type 0 where
   pub diagnostics : Change D
 
 -- ---- The next line.
-
--- the first line of the bytes was read and these bytes are left, or there is none
-abbrev pub IsRead : Bool → List ℕ → List ℕ → Option (List ℕ) → Type 0
-IsRead true bytes line rest = (bytes ≢ []) × (line ≡ first_piece 10 bytes) × (rest ≡ Some (drop_through 10 bytes))
-IsRead false bytes line rest = (bytes ≡ []) × (rest ≡ Some [])
 
 -- the next line of an input whose bytes are known is this
 abbrev pub IsNextLine : Change (Option (List ℕ)) → List ℕ → Type 0

@@ -8,6 +8,7 @@ pub mod FieldConversion
 pub mod Fields
 pub mod Filter
 pub mod Fixdec
+pub mod Input
 pub mod Lines
 pub mod Options
 pub mod Plural

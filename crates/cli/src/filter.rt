@@ -1,9 +1,9 @@
 //! The filter: the conversion of each line of an input.
 ghost use Rattle.std.specs.Prelude.{◌≡◌, ◌≢◌, ◌∷◌, ◌++◌, [], Ok, Err, Some, true, IfErr, IfSome, OnOk, OnErr};
 ghost use Rattle.std.specs.Io.KnownBytes.{Appends, IsAtEnd};
-ghost use Rattle.std.specs.Io.Buffered.{reader_remaining};
 ghost use Rattle.decimal_digits.specs.AppendsPrefix.{AppendsPrefix};
 ghost use Rattle.cli.specs.FilterLine.{HasText, ConversionFails, IsErrorOfReading, FiltersLine, FiltersNext};
+ghost use Rattle.cli.specs.Input.{bytes_left};
 ghost use Rattle.cli.specs.Lines.{Filters, IsConsumed};
 
 use crate::conversion::Conversion;
@@ -140,10 +140,7 @@ fn filter_next<R: Read, W: Sink, D: Diagnostics<FilterError>>(
     diagnostics: &mut D,
 ) -> Result<Option<bool>, FilterError>
     ensures filtered { FiltersNext D.reports filter.now number (record {
-      input = record {
-        before = reader_remaining R.remaining input.old.0;
-        after = reader_remaining R.remaining input.new.0;
-      };
+      input = record { before = bytes_left R.remaining input.old; after = bytes_left R.remaining input.new };
       failure = input.new.1;
       output = record { before = W.contents out.old; after = W.contents out.new };
       diagnostics = record { before = diagnostics.old; after = diagnostics.new };
@@ -198,22 +195,17 @@ pub fn filter_lines<R: Read, W: Sink, D: Diagnostics<FilterError>>(
     diagnostics: &mut D,
 ) -> Result<bool, FilterError>
     ensures filtered { Filters AppendsPrefix D.reports filter.now (record {
-      input = record {
-        before = reader_remaining R.remaining input.old.0;
-        after = reader_remaining R.remaining input.new.0;
-      };
+      input = record { before = bytes_left R.remaining input.old; after = bytes_left R.remaining input.new };
       failure = input.new.1;
       output = record { before = W.contents out.old; after = W.contents out.new };
       diagnostics = record { before = diagnostics.old; after = diagnostics.new };
     }) result }
     ensures silent { result ≡ Ok true → diagnostics.new ≡ diagnostics.old }
     ensures failed { result ≡ Err FilterError.Output → W.has_failed out.new ≡ true }
-    ensures consumed { IfErr result (IsConsumed (record {
-      before = reader_remaining R.remaining input.old.0;
-      after = reader_remaining R.remaining input.new.0;
-    })) }
-    ensures at_end { OnOk result (IfSome (reader_remaining R.remaining input.old.0)
-        (λ _. IsAtEnd (reader_remaining R.remaining input.new.0))) }
+    ensures consumed { IfErr result
+        (IsConsumed (record { before = bytes_left R.remaining input.old; after = bytes_left R.remaining input.new })) }
+    ensures at_end { OnOk result (IfSome (bytes_left R.remaining input.old)
+        (λ _. IsAtEnd (bytes_left R.remaining input.new))) }
 {
     let mut copy = Vec::new(alloc);
     let mut have_texts = true;

@@ -2,12 +2,12 @@
 //! on a field of it, and writes a line for each.
 ghost use Rattle.std.specs.Prelude.{◌≡◌, ◌≤◌, ◌<◌, ◌⊎◌, Ok, Err, true, false, IfOk, IfErr, IfSome, OnOk, IsSomeAnd};
 ghost use Rattle.std.specs.Process.{exit_status};
-ghost use Rattle.std.specs.Io.Buffered.{reader_remaining};
 ghost use Rattle.decimal_digits.specs.Buffered.{buffered_contents};
 ghost use Rattle.cli.specs.declared.error.FilterError.{FilterError};
 ghost use Rattle.cli.specs.Arguments.{HaveWords, ArgumentsFail};
 ghost use Rattle.cli.specs.Errors.{status_of_filter};
 ghost use Rattle.cli.specs.Filter.{NamesFilter, FilterFails, IsEarly, Process, effects, WordsFilter, LinesFail};
+ghost use Rattle.cli.specs.Input.{bytes_left};
 
 use crate::arguments::words;
 use crate::diagnostics::{Diagnostics, ErrorLines, conclude};
@@ -53,10 +53,7 @@ fn filter_words<R: Read, O: Write + Drop, D: Diagnostics<FilterError>>(
     diagnostics: &mut D,
 ) -> (Result<bool, FilterError>, Closed<O>)
     ensures filtered { WordsFilter D.reports words.now (record {
-      input = record {
-        before = reader_remaining R.remaining input.old.0;
-        after = reader_remaining R.remaining input.new.0;
-      };
+      input = record { before = bytes_left R.remaining input.old; after = bytes_left R.remaining input.new };
       failure = input.new.1;
       output = record { before = buffered_contents O.contents buffered; after = O.contents result.1.0 };
       diagnostics = record { before = diagnostics.old; after = diagnostics.new };
@@ -100,10 +97,7 @@ pub fn run_arguments<R: Read, O: Write + Drop, D: Diagnostics<FilterError>>(
 ) -> (u8, Option<Closed<O>>)
     ensures at_most { result.0 ≤ 3 }
     ensures printed { let process : Process O D = record {
-      input = record {
-        before = reader_remaining R.remaining input.old.0;
-        after = reader_remaining R.remaining input.new.0;
-      };
+      input = record { before = bytes_left R.remaining input.old; after = bytes_left R.remaining input.new };
       failure = input.new.1;
       writer = out;
       contents = O.contents;
@@ -113,10 +107,7 @@ pub fn run_arguments<R: Read, O: Write + Drop, D: Diagnostics<FilterError>>(
         WordsFilter D.reports words (effects process closed.0) (Ok true) × (closed.1 ≡ false))) }
     ensures silent { result.0 ≡ 0 → diagnostics.new ≡ diagnostics.old }
     ensures reported { let process : (last : D) → Process O D = λ last. record {
-      input = record {
-        before = reader_remaining R.remaining input.old.0;
-        after = reader_remaining R.remaining input.new.0;
-      };
+      input = record { before = bytes_left R.remaining input.old; after = bytes_left R.remaining input.new };
       failure = input.new.1;
       writer = out;
       contents = O.contents;

@@ -2,8 +2,8 @@
 ghost use Rattle.std.specs.Prelude.{◌≡◌, length, Some, None, OnOk, IfOk, IfErr, IfSome};
 ghost use Rattle.std.specs.Io.{StartsWith};
 ghost use Rattle.std.specs.Io.BufRead.{DropsConsumable, strip_last};
-ghost use Rattle.std.specs.Io.Buffered.{reader_remaining, reader_buffer, reader_inner};
-ghost use Rattle.cli.specs.FilterLine.{IsRead};
+ghost use Rattle.std.specs.Io.Buffered.{reader_buffer, reader_inner};
+ghost use Rattle.cli.specs.Input.{bytes_left, IsRead};
 
 use std::alloc::{AllocError, Global};
 use std::io::{BufRead, BufReader, ErrorKind, Read};
@@ -52,7 +52,7 @@ impl<R: Read> LineReader<R> {
     where
         R: Drop,
         ensures inner { IfOk result (λ lines. reader_inner lines.0 ≡ reader) }
-        ensures remaining { IfOk result (λ lines. reader_remaining R.remaining lines.0 ≡ R.remaining reader) }
+        ensures remaining { IfOk result (λ lines. bytes_left R.remaining lines ≡ R.remaining reader) }
         ensures has_not_failed { IfOk result (λ lines. lines.1 ≡ None) }
     {
         match BufReader::with_capacity(alloc, BLOCK, reader) {
@@ -80,8 +80,8 @@ impl<R: Read> LineReader<R> {
 
     /// Consumes the first bytes of the block.
     pub fn consume(&mut self, amount: usize)
-        ensures bytes { DropsConsumable (reader_remaining R.remaining self.old.0)
-            (reader_remaining R.remaining self.new.0) (Some (length (reader_buffer self.old.0))) amount }
+        ensures bytes { DropsConsumable (bytes_left R.remaining self.old) (bytes_left R.remaining self.new)
+            (Some (length (reader_buffer self.old.0))) amount }
         ensures error { self.new.1 ≡ self.old.1 }
     {
         self.reader.consume(amount);
@@ -93,8 +93,8 @@ impl<R: Read> LineReader<R> {
     ///
     /// The kind of the first error, which is `OutOfMemory` where `line` has no room for the line.
     pub fn read_line(&mut self, line: &mut Vec<u8>) -> Result<bool, ErrorKind>
-        ensures read { IfOk result (λ is_line. IfSome (reader_remaining R.remaining self.old.0)
-            (λ bytes. IsRead is_line bytes line.new.items (reader_remaining R.remaining self.new.0))) }
+        ensures read { IfOk result (λ is_line. IfSome (bytes_left R.remaining self.old)
+            (λ bytes. IsRead is_line bytes line.new.items (bytes_left R.remaining self.new))) }
         ensures has_not_failed { OnOk result (self.new.1 ≡ None) }
         ensures failed { IfErr result (λ kind. self.new.1 ≡ Some kind) }
     {

@@ -1,5 +1,5 @@
 use Rattle.cli.proofs.Filtering.{Filtered}
-use Rattle.std.specs.Io.Buffered.{reader_remaining}
+use Rattle.cli.specs.Input.{bytes_left}
 use Rattle.cli.proofs.filter.filter_lines.Given as goal
 
 -- the lines were read and filtered
@@ -7,8 +7,8 @@ abbrev pub invariant-loop-count : goal.invariant-loop-count
 invariant-loop-count g l =
     Filtered g.D.Diagnostics.reports l.filter l.count l.have_texts (record {
       input = record {
-        before = reader_remaining g.R.Read.remaining l.fn.input.0;
-        after = reader_remaining g.R.Read.remaining l.input.0;
+        before = bytes_left g.R.Read.remaining l.fn.input;
+        after = bytes_left g.R.Read.remaining l.input;
       };
       failure = l.input.1;
       output = record { before = g.W.Sink.contents l.fn.out; after = g.W.Sink.contents l.out };
