@@ -87,7 +87,8 @@ module _ (c : Conversion) (text : List ℕ) (result : Result (List ℕ) OutcomeE
   pub plain_outcome :
       is_some c.reader ≡ false → is_some c.formatter ≡ false → result ≡ outcome text c.calls.items
       → IsOutcome c text result
-  plain_outcome reader formatter is = if_none _ (IsOutcomeByForms c text result) c.reader c.formatter reader formatter is
+  plain_outcome reader formatter is =
+      if_none _ (IsOutcomeByForms c text result) c.reader c.formatter reader formatter is
 
   pub outcome_by_forms :
       (is_some c.reader || is_some c.formatter) ≡ true → IsOutcomeByForms c text result → IsOutcome c text result

@@ -62,7 +62,8 @@ format_unique words (Some p) (Some q) xs ys (w, e, s) (x, f, t) =
 no_candidate :
     (rows : List LocaleSymbols) (tag : List ℕ) (row : LocaleSymbols) → Contains rows row
     → is_candidate tag None row ≡ true → All (λ r. is_candidate tag None r ≡ false) rows → ⊥
-no_candidate rows tag row is_in is none = cc (is, All-contains (λ r. is_candidate tag None r ≡ false) rows row none is_in)
+no_candidate rows tag row is_in is none =
+    cc (is, All-contains (λ r. is_candidate tag None r ≡ false) rows row none is_in)
 
 locale_is_known : (tag : List ℕ) (s : Symbols) → IsLocale tag s → locales.IsUnknown tag → ⊥
 locale_is_known tag s is (inl none) = no_candidate LOCALES tag is.locale is.listed.0 is.listed.1 none
@@ -139,6 +140,7 @@ pub error_is_unique :
     (words : List (String Global)) (a b : WordsError) → ConversionFails words a → ConversionFails words b → a ≡ b
 error_is_unique words a b h k =
     let (read, others) = read_unique words k.read h.read k.others h.others k.first h.first in
-    let last : IsFormatSplit h.others k.format k.calls = subst (λ ws. IsFormatSplit ws k.format k.calls) others k.last in
+    let last : IsFormatSplit h.others k.format k.calls =
+    subst (λ ws. IsFormatSplit ws k.format k.calls) others k.last in
     let (format, calls) = format_unique h.others k.format h.format k.calls h.calls last h.last in
     parts_error a b h.read h.calls h.format h.holds (rw (read, format, calls) at k.holds)
