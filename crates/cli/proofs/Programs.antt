@@ -118,10 +118,10 @@ at_ok (Err e) status some zero p = absurd (omega (arith, some, zero))
 
 -- a status that is not 0 is that of an error
 pub some_error :
-    {X E : Type 0} {P : Type 0} {Q : E → Type 0} (r : Result X E) (status : ℕ) → OnOk r ((status ≡ 0) × P) → IfErr r Q
+    {X E : Type 0} (P : Type 0) (Q : E → Type 0) (r : Result X E) (status : ℕ) → OnOk r ((status ≡ 0) × P) → IfErr r Q
     → 0 < status → (e : E) × (r ≡ Err e) × Q e
-some_error (Ok x) status (zero, p) q some = absurd (omega (arith, zero, some))
-some_error (Err e) status p q some = (e, refl, q)
+some_error P Q (Ok x) status (zero, p) q some = absurd (omega (arith, zero, some))
+some_error P Q (Err e) status p q some = (e, refl, q)
 
 -- ---- What was printed.
 

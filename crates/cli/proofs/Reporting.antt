@@ -1,5 +1,5 @@
 -- Reports to a writer that has failed.
-use Rattle.std.proofs.Common.{◌≡◌, ℕ, List, [], Option, Some, None, Bool, true, false, Result, Ok, Err, refl, sym, subst, ◌∙◌, ◌++◌, take, drop, take-append-drop}
+use Rattle.std.proofs.Common.{◌≡◌, ℕ, List, [], Option, Some, None, Bool, true, false, Result, Ok, Err, refl, sym, ◌∙◌, ◌++◌, take, drop, take-append-drop}
 use Rattle.std.proofs.lemmas.Bool.{false≢true}
 use Rattle.std.proofs.lemmas.List.{append-nil}
 use Rattle.std.specs.Prelude.{is_err, OnOk, IfErr}
@@ -42,11 +42,3 @@ reports_written output old new line (Err n) had_failed failed had_not is line_is
   (λ has_not. absurd (false≢true (sym has_not ∙ is))),
   λ had. absurd (false≢true (sym had_not ∙ had)),
 )
-
--- the same for an equal writer
-pub reports_along :
-    {W : Type 0} (contents : W → Option (List ℕ)) (output old : Option (List ℕ)) (had_failed : Bool) (a b : W)
-    (failed : Bool) → a ≡ b → Reports output old had_failed (contents a) failed
-    → Reports output old had_failed (contents b) failed
-reports_along contents output old had_failed a b failed same reports =
-    subst (λ m. Reports output old had_failed (contents m) failed) same reports

@@ -96,9 +96,12 @@ pub fn conclude_on<E: ProgramError + Display, W: Write>(
     ensures reported { IfErr done (λ error. (0 < result.0) × (result.0 ≡ E.status_of error)
         × Reports (E.output error) (W.contents err.old) false (W.contents err.new) (is_some result.1)) }
 {
-    let mut lines = ErrorLines::new(err);
-    let status = conclude(done, &mut lines);
-    // Proof hint: the contents of `err` follow from this use of the writer.
-    let _ = &*lines.writer;
-    (status, lines.error)
+    match done {
+        Ok(()) => (0, None),
+        Err(error) => {
+            let line = error_line(&error);
+            let failure = write_whole(err, line.as_bytes()).err();
+            (error.status(), failure)
+        }
+    }
 }

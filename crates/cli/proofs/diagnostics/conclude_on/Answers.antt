@@ -1,17 +1,14 @@
-use Rattle.std.proofs.Common.{rules}
-use Rattle.cli.proofs.Programs.{err_map}
-use Rattle.cli.proofs.Reporting.{reports_along}
+use Rattle.std.proofs.Common.{◌≡◌, false, refl, rules}
+use Rattle.cli.proofs.Reporting.{reports_written}
 use Rattle.cli.proofs.diagnostics.conclude_on.Goals as goal
 
-pub returns-clause-reported : goal.returns-clause-reported
-returns-clause-reported g c =
-    let after = c.conclude-status.new.diagnostics in
-    err_map c.args.done
-    (λ error is h.
-    let (some, status, (named, reports)) = h in (
-      some,
-      status,
-      reports_along g.W.Write.contents (g.E.Display.output error) _ _ after.writer.now
-          _ _ (search (rules, named)) reports,
-    ))
-    (rw c.new-lines.ensures at c.conclude-status.ensures.reported)
+pub returns-in-Err-clause-reported : goal.returns-in-Err-clause-reported
+returns-in-Err-clause-reported g c =
+    let line : c.as_bytes.result.now ≡ c.error_line-line.result.bytes = search rules in
+    let written = c.write_whole.ensures in
+    rw c.in-Err.is (
+      c.status.ensures.positive,
+      c.status.ensures.status,
+      reports_written _ _ _ c.error_line-line.result.bytes c.write_whole.result false _ refl
+          c.err-failure.ensures.variant c.error_line-line.ensures (rw line at written.ok) (rw line at written.err),
+    )

@@ -7,7 +7,7 @@ pub returns-clause-reported : goal.returns-clause-reported
 returns-clause-reported g c = λ some.
     let concluded = c.conclude_on.ensures in
     let (error, is, (positive, status, reports)) =
-    some_error c.print.result c.conclude_on.result.0 concluded.done concluded.reported some in (
+    some_error _ _ c.print.result c.conclude_on.result.0 concluded.done concluded.reported some in (
       error,
       status,
       rw is at c.print.ensures.error,

@@ -9,8 +9,8 @@ use Rattle.cli.proofs.fixdec.run_arguments.Goals as goal
 
 pub returns-in-Err-clause-reported : goal.returns-in-Err-clause-reported
 returns-in-Err-clause-reported g c = λ _.
-    let (some, status, reports) = c.conclude_on-in-Err.ensures.reported in
-    (c.in-Err.error, status, inl c.in-Err.ensures.err, (is_some c.conclude_on-in-Err.result.1, reports), λ _. refl)
+    let (some, status, reports) = c.conclude_on.ensures.reported in
+    (c.in-Err.error, status, inl c.in-Err.ensures.err, (is_some c.conclude_on.result.1, reports), λ _. c.new.ensures)
 
 pub returns-in_default-clause-reported : goal.returns-in_default-clause-reported
 returns-in_default-clause-reported g c = λ _.

@@ -11,8 +11,9 @@ returns-then-is_some g c =
 pub returns : goal.returns
 returns g c =
     let had_not : is_some c.args.self.now.error ≡ false = search rules in
+    let line : c.as_bytes.result.now ≡ c.error_line-line.result.bytes = search rules in
     let written = c.write_whole.ensures in (
       refl,
-      reports_written _ _ _ c.error_line-line.result.bytes c.write_whole.result _ _ had_not c.err.ensures.variant
-          c.error_line-line.ensures (rw c.as_bytes.ensures at written.ok) (rw c.as_bytes.ensures at written.err),
+      reports_written _ _ _ c.error_line-line.result.bytes c.write_whole.result _ _ had_not
+          c.err-self.ensures.variant c.error_line-line.ensures (rw line at written.ok) (rw line at written.err),
     )
