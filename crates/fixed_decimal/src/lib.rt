@@ -42,7 +42,7 @@ pub use decimal_digits::sink::{
     BufferedOut, Closed, Out, Sink, SinkFault, TextBuf, WriteError, Writeable, write_whole,
 };
 pub use decimal_unsigned::decimal::{
-    ByteDecimal, DecimalStore, INLINE_DIGITS, UnsignedDecimal, UnsignedOver,
+    ByteDecimal, DecimalStore, Digits, INLINE_DIGITS, UnsignedDecimal, UnsignedOver,
 };
 pub use decimal_unsigned::{ConcatenateError, IntegerError, LimitError, ParseError};
 pub use integer::FixedInteger;
