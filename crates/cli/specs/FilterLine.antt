@@ -81,7 +81,8 @@ IsNextLine input line = IfSome input.before (λ bytes. IsRead true bytes line in
 abbrev pub HasNoLine : Change (Option (List ℕ)) → Type 0
 HasNoLine input = IfSome input.before (λ bytes. IsRead false bytes [] input.after)
 
--- a reader with this failure cannot read the line with this number: it is out of memory for it, or else the input failed
+-- a reader with this failure cannot read the line with this number: it is out of memory for it, or else the input
+-- failed
 abbrev pub IsErrorOfReading : ℕ → Option ErrorKind → FilterError → Type 0
 IsErrorOfReading number failure (LongLine at) = (at ≡ number) × (failure ≡ Some OutOfMemory)
 IsErrorOfReading number failure Input = IsSomeAnd failure (λ kind. kind ≢ OutOfMemory)

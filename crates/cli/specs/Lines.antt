@@ -52,8 +52,8 @@ have_texts results = list_all is_ok results
 
 -- ---- What a filter returns.
 
--- the error ends the filter after these lines: the run of the next line has it; or the reader, with this failure, cannot
--- read the next line; or a `u64` counts no more lines; or the output failed
+-- the error ends the filter after these lines: the run of the next line has it; or the reader, with this failure,
+-- cannot read the next line; or a `u64` counts no more lines; or the output failed
 abbrev pub EndsWith : Filter → Option (List ℕ) → Option ErrorKind → List (List ℕ) → FilterError → Type 0
 EndsWith filter input failure lines (Operation number error) =
     (line : List ℕ) × AreFirst input (lines ++ (line ∷ []))

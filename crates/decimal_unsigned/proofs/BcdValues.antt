@@ -142,7 +142,8 @@ inner_bits ds n top low below is first above last none =
         within = omega arith;
         before = λ k h.
             at k (len - 1 - k) (omega arith) refl
-            ∙ clear_nibble n (len - 1 - k) (λ i l. bit_at_above n (suc top) (4 * (len - 1 - k) + i) above (omega arith));
+            ∙ clear_nibble n (len - 1 - k)
+                (λ i l. bit_at_above n (suc top) (4 * (len - 1 - k) + i) above (omega arith));
         after = λ k h. elim (cases_lt k len) [
           | inl l ↦
               at k (len - 1 - k) l refl

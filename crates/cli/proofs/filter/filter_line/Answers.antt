@@ -22,7 +22,15 @@ returns-in-Ok-put_byte-clause-filtered g c =
     let real : c.in-Err.error ≢ Output = λ is. absurd (omega (arith, ap status_of_operation is, one)) in
     let (other, fails) = c.in-Err.ensures.fails_with real in (
       Err (Operation c.args.number c.in-Err.error),
-      (Err c.in-Err.error, inr (other, error_is_result c.args.filter.now.field c.args.filter.now.conversion c.args.line.now c.in-Err.error one fails), refl),
+      (
+        Err c.in-Err.error,
+        inr (
+          other,
+          error_is_result c.args.filter.now.field c.args.filter.now.conversion c.args.line.now
+              c.in-Err.error one fails,
+        ),
+        refl,
+      ),
       rw (c.in-Err.ensures.unchanged_on_error real) at c.in-Ok-put_byte.ensures.appends,
       (c.report.new.self, c.report.ensures, refl),
       refl,
@@ -37,7 +45,15 @@ returns-in-Err-put_byte-clause-filtered g c =
     let still : c.print.new.sink ≡ c.args.out.now = c.in-Err.ensures.unchanged_on_error real in
     let none = Appends-nil (g.W.Sink.contents c.print.new.sink) in (
       Err (Operation c.args.number c.in-Err.error),
-      (Err c.in-Err.error, inr (other, error_is_result c.args.filter.now.field c.args.filter.now.conversion c.args.line.now c.in-Err.error one fails), refl),
+      (
+        Err c.in-Err.error,
+        inr (
+          other,
+          error_is_result c.args.filter.now.field c.args.filter.now.conversion c.args.line.now
+              c.in-Err.error one fails,
+        ),
+        refl,
+      ),
       ([], _, refl, rw still at (Appends-kept _ _ _ [] none c.in-Err-put_byte.ensures.keeps)),
       (c.report.new.self, c.report.ensures, refl),
       search rules,
