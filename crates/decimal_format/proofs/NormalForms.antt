@@ -44,7 +44,7 @@ module _ (front : ℕ) (text code : List ℕ) (size : length text ≡ front + le
 -- ---- Steps over a character.
 module _ (s : Symbols) where
   module _ (bytes rest : List ℕ) (c : ℕ) (first : chars bytes ≡ c ∷ chars rest) where
-    split : replaced s bytes ≡ replacement s c ++ replaced s rest
+    pub split : replaced s bytes ≡ replacement s c ++ replaced s rest
     split = ap (flat_map (replacement s)) first ∙ flat_map-cons (replacement s) c (chars rest)
 
     -- its bytes were read

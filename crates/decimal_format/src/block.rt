@@ -67,9 +67,10 @@ impl Block {
 
     /// Appends bytes, or none if they do not fit.
     #[inline]
-    fn append(&mut self, bytes: &[u8]) -> Result<(), SinkFault>
+    pub(crate) fn append(&mut self, bytes: &[u8]) -> Result<(), SinkFault>
         ensures ok { OnOk result (self.new ≡ (self.old.0 ++ bytes.now, false)) }
         ensures had_not_failed { OnOk result (self.old.1 ≡ false) }
+        ensures at_most { OnOk result (length self.new.0 ≤ 192) }
         ensures err { OnErr result (self.new ≡ (self.old.0, true)) }
     {
         if self.failed || !self.has_room(bytes.len()) {

@@ -1,12 +1,13 @@
 //! Reading of numbers as people type them.
-ghost use Rattle.std.specs.Prelude.{◌≡◌, ℕ, [], ◌∷◌, MatchOption};
+ghost use Rattle.std.specs.Prelude.{◌≡◌, ◌≤◌, ℕ, [], ◌∷◌, length, IfSome, MatchOption};
 ghost use Rattle.std.specs.List.{list_any};
 ghost use Rattle.std.specs.Str.{IsUtf8, chars};
-ghost use Rattle.decimal_format.specs.Lenient.{is_mark, is_minus, is_plus, is_space, is_apostrophe, is_separator, replacement, normalized, IsTyped, IsTypedNumeral};
+ghost use Rattle.decimal_format.specs.Lenient.{is_mark, is_minus, is_plus, is_space, is_apostrophe, is_separator, replacement, replaced, normalized, IsTyped, IsTypedNumeral};
 ghost use Rattle.decimal_format.specs.Readable.{IsReadable};
 ghost use Rattle.decimal_format.specs.Reading.{IsRead};
 ghost use Rattle.decimal_format.specs.Scanning.{left_of};
 
+use crate::block::Block;
 use crate::reader::input::Input;
 use crate::symbols::DecimalSymbols;
 use fixed_decimal::{DigitStore, ParseError, Sign, Signed, UnsignedOver};
@@ -176,6 +177,22 @@ impl<'a> DecimalSymbols<'a> {
         c.encode_utf8(buffer).as_bytes()
     }
 
+    /// Puts the normal form of a text into a block, if it fits.
+    fn normal_block(&self, text: &str) -> Option<Block>
+        ensures { IfSome result (λ b. (b.0 ≡ replaced self.now text.now) × (length b.0 ≤ 192)) }
+    {
+        let mut block = Block::new();
+        let mut rest = text;
+        while let Some((c, after)) = split_first_char(rest) {
+            let mut buffer = [0; 4];
+            if block.append((&*self).replacement(c, &mut buffer)).is_err() {
+                return None;
+            }
+            rest = after;
+        }
+        Some(block)
+    }
+
     /// Reads a decimal as people type it.
     ///
     /// A text that [`read`](Self::read) accepts has the same value. In any other text, ASCII digits stand for the
@@ -197,7 +214,10 @@ impl<'a> DecimalSymbols<'a> {
     {
         match self.read(alloc, text.as_bytes()) {
             Ok(value) => Ok(value),
-            Err(ParseError::Syntax) => self.read_groups(alloc, Normalized::new(self, text), false),
+            Err(ParseError::Syntax) => match self.normal_block(text) {
+                Some(block) => self.read_groups(alloc, block.as_bytes(), false),
+                None => self.read_groups(alloc, Normalized::new(self, text), false),
+            },
             Err(ParseError::Limit) => Err(ParseError::Limit),
             Err(ParseError::Memory) => Err(ParseError::Memory),
         }
