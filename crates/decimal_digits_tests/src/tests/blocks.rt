@@ -137,7 +137,8 @@ fn writes_of(alloc: Global, sizes: &[usize]) -> Result<Option<usize>, AllocError
     );
     let mut sink = BufferedOut::open(alloc, writer)?;
     for size in sizes {
-        if sink.put_bytes(&bytes.as_slice()[..*size.min(&65_537)]).is_err() {
+        let end = bytes.len().min(*size);
+        if sink.put_bytes(&bytes.as_slice()[..end]).is_err() {
             return Ok(None);
         }
     }
