@@ -119,16 +119,26 @@ const WRITES: &[(&[usize], usize)] = &[
     (&[1, 65_537, 1], 3),
 ];
 
+/// Returns the sum of sizes.
+fn total(sizes: &[usize]) -> usize {
+    let mut count: usize = 0;
+    for size in sizes {
+        count = count.saturating_add(*size);
+    }
+    count
+}
+
 /// Returns the number of writes of slices of these sizes, if the writer has them all after one flush.
 fn writes_of(alloc: Global, sizes: &[usize]) -> Result<Option<usize>, AllocError> {
     let bytes = sevens(alloc, 65_537)?;
-    let all = sevens(alloc, sizes.iter().sum())?;
+    let all = sevens(alloc, total(sizes))?;
     let writer = FailingWriter::new(all.as_slice(), usize::MAX, WriteFailure::Zero).with_width(
         usize::MAX,
     );
     let mut sink = BufferedOut::open(alloc, writer)?;
     for size in sizes {
-        if sink.put_bytes(&bytes.as_slice()[..*size.min(&65_537)]).is_err() {
+        let end = bytes.len().min(*size);
+        if sink.put_bytes(&bytes.as_slice()[..end]).is_err() {
             return Ok(None);
         }
     }
