@@ -12,7 +12,7 @@ returns-in-Err-clause-fails_with g c =
 
 pub returns-in-Err-apply_calls-clause-fails_with : goal.returns-in-Err-apply_calls-clause-fails_with
 returns-in-Err-apply_calls-clause-fails_with g c =
-    rw c.from-in-Err-apply_calls.ensures
+    rw (c.from-in-Err-apply_calls-2.ensures, c.from-in-Err-apply_calls.ensures)
     (calls_fail c.args.self.now c.args.text.now c.in-Ok.value c.in-Ok.ensures.found c.in-Err-apply_calls.error
     (rw c.as_slice.ensures.value at c.in-Err-apply_calls.ensures.fails_with))
 
