@@ -200,6 +200,7 @@ fn holds(alloc: Global, row: Row, most: usize, failure: Option<ErrorKind>) -> Re
     let mut lines = ErrorLines::new(&mut err);
     let mut reader = LineReader::open(alloc, &mut input)?;
     let (status, out) = run_arguments(alloc, Ok(arguments), &mut reader, out, &mut lines);
+    drop(reader);
     let has_all = out.is_some_and(|closed| closed.into_writer().has_all()) && err.has_all();
     Ok(status == row.4 && has_all && (status != 2 || input.text.len() == row.1.len()))
 }
