@@ -143,7 +143,7 @@ inner_bits ds n top low below is first above last none =
         before = λ k h.
             at k (len - 1 - k) (omega arith) refl
             ∙ clear_nibble n (len - 1 - k)
-                (λ i l. bit_at_above n (suc top) (4 * (len - 1 - k) + i) above (omega arith));
+            (λ i l. bit_at_above n (suc top) (4 * (len - 1 - k) + i) above (omega arith));
         after = λ k h. elim (cases_lt k len) [
           | inl l ↦
               at k (len - 1 - k) l refl

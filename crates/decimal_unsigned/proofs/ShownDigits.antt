@@ -109,8 +109,18 @@ stored_shown {ds} {m} {hi} {lo} t above rest a b =
     let fewer = length-padded above (word_nibbles 0) in
     let both = length-append (padded above (word_nibbles 0)) (padded rest ds) in
     let all : length (padded above (word_nibbles 0) ++ padded rest ds) ≡ int_gap lo hi + 1 =
-    omega (arith, ints, t.hi_covers, t.lo_covers, gap_is m hi, gap_is lo m, gap_is lo hi, both, fewer,
-    length-padded rest ds) in
+    omega (
+      arith,
+      ints,
+      t.hi_covers,
+      t.lo_covers,
+      gap_is m hi,
+      gap_is lo m,
+      gap_is lo hi,
+      both,
+      fewer,
+      length-padded rest ds,
+    ) in
     same_number_lists _ _ (omega (arith, size, all))
     (λ k k_lt.
     let l : k < int_gap lo hi + 1 = omega (arith, all) in

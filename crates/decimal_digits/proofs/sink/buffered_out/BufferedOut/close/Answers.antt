@@ -7,8 +7,8 @@ use Rattle.decimal_digits.proofs.sink.buffered_out.BufferedOut.close.Goals.{then
 pub returns-then-is_some-clause-prefix : goal.returns-then-is_some-clause-prefix
 returns-then-is_some-clause-prefix g c =
     let kept : Keeps (buffered_contents g.W.Write.contents c.args.self)
-        (buffered_contents g.W.Write.contents c.then-is_some.self) =
+    (buffered_contents g.W.Write.contents c.then-is_some.self) =
     elim c.then-is_some.branch [
-    then-is_some-via-then-is_some w ↦ rw w.self-is (Keeps-refl _)
-    | then-is_some-via-else-is_some+then-is_err w ↦ rw w.self-is w.write_block.ensures.keeps
+      | then-is_some-via-then-is_some w ↦ rw w.self-is (Keeps-refl _)
+      | then-is_some-via-else-is_some+then-is_err w ↦ rw w.self-is w.write_block.ensures.keeps
     ] in rw c.abandon.ensures (c.then-is_some.self.block, kept)
