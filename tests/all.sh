@@ -1,5 +1,5 @@
 #!/usr/bin/env bash
-# All tests: the gate, the built programs as a shell runs them, failing allocations, a fresh clone, and the documents.
+# All tests: the gate, the built programs as a shell runs them, failing allocations, setting up, and the documents.
 # The last line is `N passed, M failed`; the status is 0 if M is 0.
 set -u
 cd "$(dirname "$0")/.." || exit 1
@@ -26,7 +26,7 @@ run rt ci
 export BUILT_BY_GATE=1
 run bash tests/end_to_end.sh
 run bash tests/allocation_failures.sh
-run bash tests/fresh_clone.sh
+run bash tests/setting_up.sh
 run python3 tools/check_documents.py
 
 echo "$passed passed, $failed failed"

@@ -82,9 +82,11 @@ def check_links():
 
 
 def check_quotes():
-    """Quoted clauses and definitions are lines of the code."""
+    """Quoted clauses and definitions are lines of the code, and a block after the name of a program is the program."""
     lines = {line.strip() for text in CODE.values() for line in text.splitlines()}
     for document in DOCUMENTS:
+        for path, block in re.findall(r"`([\w/]+/main\.rt)`[^\n]*:\n\n```rust\n(.*?)```", read(document), re.S):
+            check(block == CODE.get(path), f"{document}: the block after `{path}` is not that file")
         for kind, block in re.findall(r"```(rust|antt)\n(.*?)```", read(document), re.S):
             for line in block.splitlines():
                 if line.strip() and (kind == "antt" or line.strip().startswith("ensures")):
@@ -218,7 +220,7 @@ def check_modules():
 
 def check_examples():
     """Each `$ ..` of README and PROGRAMS writes what follows it, if its program is built. `cat FILE` shows an input, and
-    `tests/fresh_clone.sh` runs the command with `rt`."""
+    `tests/setting_up.sh` runs the command with `rt`."""
     folders = {name: os.path.abspath(f"crates/{name}/out") for name in ["fixdec", "fixdec_lines", "plural"]}
     unbuilt = {name for name, folder in folders.items() if not os.access(f"{folder}/{name}", os.X_OK)}
     for document in ["README.md", "docs/PROGRAMS.md"]:
