@@ -25,8 +25,8 @@ judge "tools/release.sh: $(tail -n 1 "$room/log"), $(cat "$room/out")"
 if command -v parallel > /dev/null; then
   { echo price; seq -f '%.3f' 1 0.125 20000; } > "$room/prices"
   (cd "$room" && ./fixdec_lines header round:-2:half-even:1 < prices > one &&
-    parallel --pipepart -a prices --header : --block -1 -k ./fixdec_lines round:-2:half-even:1 > many 2> log &&
-    (echo price && cat many) | cmp -s - one)
+    { head -n 1 prices; tail -n +2 prices | parallel --pipe --block 40k -k ./fixdec_lines round:-2:half-even:1; } > many 2> log &&
+    cmp one many)
   judge "parallel: $(tail -n 1 "$room/log")"
 else
   echo 'not run: parallel'
