@@ -4,7 +4,7 @@
 ghost use Rattle.std.specs.Prelude.{◌≡◌, ℕ, ◌+◌, ◌-◌, ◌*◌, ◌%◌, ◌^◌, ◌<◌, ◌≤◌, ◌↔◌, [], ◌∷◌, ◌++◌, length, map, take, drop, replicate, slice_set, All, IsTrue, IsOk, IfOk, IfSome, OnOk};
 ghost use Rattle.std.specs.Int.{w64, to_be_bytes};
 ghost use Rattle.smallvec.specs.SmallVec.{small_vec_len};
-ghost use Rattle.decimal_digits.specs.Nibbles.{digits_in, bcd_number, nibbles, word_nibbles, IsPacked};
+ghost use Rattle.decimal_digits.specs.Nibbles.{digits_in, bcd_number, nibbles, wide_leading_bytes, word_nibbles, IsPacked};
 ghost use Rattle.decimal_digits.specs.Packing.{Encodes, EncodesPadded, IsPadded};
 
 use super::nibbles::{
@@ -29,6 +29,23 @@ pub(super) fn pack_digits(alloc: Global, digits: &[u8]) -> Result<SmallVec<u8, 8
     let mut bytes = SmallVec::from_vec(copy);
     pack(bytes.as_mut_slice(), digits);
     Ok(bytes)
+}
+
+#[tactic(auto, using(crate::proofs::Nibbles::nibble_rules), unfolding(crate::specs::Nibbles::wide_leading_bytes))]
+#[inline]
+pub(super) fn copy_wide(
+    alloc: Global,
+    number: u128,
+    len: usize,
+) -> Result<SmallVec<u8, 8>, AllocError>
+    requires many { 16 < len }
+    requires packed { IsPacked (wide_leading_bytes number len) len }
+    ensures ok { IfOk result (λ bytes. bytes.items ≡ wide_leading_bytes number len) }
+    ensures inline { IfOk result (λ bytes. 8 ≤ bytes.capacity) }
+{
+    let bytes = number.to_be_bytes();
+    let copy = Vec::from_slice(alloc, &bytes[..byte_count(len)])?;
+    Ok(SmallVec::from_vec(copy))
 }
 
 #[inline]
@@ -93,23 +110,17 @@ pub(super) fn push_digit(bytes: &mut SmallVec<u8, 8>, len: usize, digit: u8)
 }
 
 #[inline]
-fn set_front(bytes: &mut SmallVec<u8, 8>, word: u64)
-    requires { 8 ≤ small_vec_len bytes.old }
-    ensures front { take 8 bytes.new.items ≡ to_be_bytes w64 word }
-    ensures len { small_vec_len bytes.new ≡ small_vec_len bytes.old }
-    ensures capacity { bytes.new.capacity ≡ bytes.old.capacity }
-{
-    let (front, _) = bytes.as_mut_slice().split_at_mut(8);
-    front.copy_from_slice(&word.to_be_bytes());
-}
-
-#[inline]
 pub(super) fn set_word(bytes: &mut SmallVec<u8, 8>, word: u64)
-    requires { small_vec_len bytes.old ≡ 8 }
+    requires { 8 ≤ small_vec_len bytes.old }
     ensures items { bytes.new.items ≡ to_be_bytes w64 word }
     ensures capacity { bytes.new.capacity ≡ bytes.old.capacity }
 {
-    set_front(bytes, word);
+    let is_longer = bytes.len() > 8;
+    let (front, _) = bytes.as_mut_slice().split_at_mut(8);
+    front.copy_from_slice(&word.to_be_bytes());
+    if is_longer {
+        bytes.truncate(8);
+    }
 }
 
 #[inline]
@@ -131,9 +142,7 @@ pub(super) fn word_at(bytes: &[u8], len: usize, start: usize) -> u64
     front_word(rest)
 }
 
-/// Returns whether two lists of eight bytes are equal.
-///
-/// They are compared as words: byte by byte, a list is loaded in eight parts where a loop compares it with many.
+// As words: byte by byte, a list is loaded in eight parts where a loop compares it with many.
 #[inline]
 fn equal_words(left: &[u8; 8], right: &[u8; 8]) -> bool
     ensures { IsTrue result ↔ (left.now ≡ right.now) }
@@ -154,49 +163,26 @@ fn have_equal_fronts(left: &[u8], right: &[u8]) -> bool
     }
 }
 
-#[inline]
-fn equal_in_two_words(left: &[u8], right: &[u8]) -> bool
-    requires enough { 8 ≤ length left.now }
-    requires few { length left.now ≤ 16 }
-    requires same_length { length left.now ≡ length right.now }
-    ensures { IsTrue result ↔ (left.now ≡ right.now) }
-{
-    // The last eight bytes may overlap the first.
-    let end = left.len() - 8;
-    have_equal_fronts(left, right) && (end == 0 || have_equal_fronts(&left[end..], &right[end..]))
-}
-
-#[inline]
-fn equal_in_four_words(left: &[u8], right: &[u8]) -> bool
-    requires enough { 16 ≤ length left.now }
-    requires few { length left.now ≤ 32 }
-    requires same_length { length left.now ≡ length right.now }
-    ensures { IsTrue result ↔ (left.now ≡ right.now) }
-{
-    let end = left.len() - 16;
-    equal_in_two_words(&left[..16], &right[..16]) && equal_in_two_words(&left[end..], &right[end..])
-}
-
-/// Returns whether two lists of the same number of bytes, at least eight, are equal. Up to 64 bytes need no call.
+// Up to 64 bytes need no call.
 #[inline]
 pub(super) fn are_equal(left: &[u8], right: &[u8]) -> bool
     requires enough { 8 ≤ length left.now }
     requires same_length { length left.now ≡ length right.now }
     ensures { IsTrue result ↔ (left.now ≡ right.now) }
 {
-    let len = left.len();
-    if len <= 16 {
-        return equal_in_two_words(left, right);
-    }
-    if len <= 32 {
-        return equal_in_four_words(left, right);
-    }
-    if len > 64 {
+    if left.len() > 64 {
         return left == right;
     }
-    let end = len - 32;
-    equal_in_four_words(&left[..32], &right[..32])
-        && equal_in_four_words(&left[end..], &right[end..])
+    // The last eight bytes may overlap those before them.
+    let end = left.len() - 8;
+    let mut start = 0;
+    while start < end {
+        if !have_equal_fronts(&left[start..], &right[start..]) {
+            return false;
+        }
+        start += 8;
+    }
+    have_equal_fronts(&left[end..], &right[end..])
 }
 
 #[inline]
@@ -206,28 +192,22 @@ pub(super) fn keep_digits(bytes: &mut SmallVec<u8, 8>, len: usize, count: usize)
     ensures encodes { EncodesPadded bytes.new.items count (take count (digits_in bytes.old.items len)) }
     ensures capacity { bytes.new.capacity ≡ bytes.old.capacity }
 {
-    if len <= 16 {
+    if count <= 16 {
         let word = keep_nibbles(front_word(bytes.as_slice()), count);
         set_word(bytes, word);
     } else {
-        keep_some(bytes, len, count);
+        keep_bytes(bytes, len, count);
     }
 }
 
 #[inline(never)]
-fn keep_some(bytes: &mut SmallVec<u8, 8>, len: usize, count: usize)
+fn keep_bytes(bytes: &mut SmallVec<u8, 8>, len: usize, count: usize)
     requires padded { IsPadded bytes.old.items len }
-    requires many { 16 < len }
+    requires many { 16 < count }
     requires in_range { count ≤ len }
     ensures encodes { EncodesPadded bytes.new.items count (take count (digits_in bytes.old.items len)) }
     ensures capacity { bytes.new.capacity ≡ bytes.old.capacity }
 {
-    if count <= 16 {
-        let word = keep_nibbles(front_word(bytes.as_slice()), count);
-        set_front(bytes, word);
-        bytes.truncate(8);
-        return;
-    }
     if count % 2 == 1 {
         set_nibble(bytes, count, 0);
     }
@@ -241,35 +221,16 @@ pub(super) fn cut_digits(bytes: &mut SmallVec<u8, 8>, len: usize, count: usize)
     ensures encodes { EncodesPadded bytes.new.items (len - count) (drop count (digits_in bytes.old.items len)) }
     ensures capacity { bytes.new.capacity ≡ bytes.old.capacity }
 {
-    if len <= 16 {
-        let word = cut_nibbles(front_word(bytes.as_slice()), count);
+    if len - count < 16 {
+        // The last eight bytes hold all digits that are left.
+        let end = end_word(bytes.as_slice(), 8);
+        let word = cut_nibbles(end, count - 2 * (bytes.len() - 8));
         set_word(bytes, word);
-    } else if len - count < 16 {
-        cut_to_word(bytes, len, count);
     } else {
         cut_bytes(bytes, len, count);
     }
 }
 
-#[inline(never)]
-fn cut_to_word(bytes: &mut SmallVec<u8, 8>, len: usize, count: usize)
-    requires padded { IsPadded bytes.old.items len }
-    requires many { 16 < len }
-    requires in_range { count ≤ len }
-    requires few { len - count < 16 }
-    ensures encodes { EncodesPadded bytes.new.items (len - count) (drop count (digits_in bytes.old.items len)) }
-    ensures capacity { bytes.new.capacity ≡ bytes.old.capacity }
-{
-    // The last eight bytes hold all digits that are left.
-    let word = cut_nibbles(
-        end_word(bytes.as_slice(), 8),
-        count - 2 * (byte_count(len) - 8),
-    );
-    set_front(bytes, word);
-    bytes.truncate(8);
-}
-
-/// Removes the first `count` digits, byte by byte.
 #[inline]
 fn cut_bytes(bytes: &mut SmallVec<u8, 8>, len: usize, count: usize)
     requires padded { IsPadded bytes.old.items len }

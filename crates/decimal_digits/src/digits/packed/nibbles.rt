@@ -3,7 +3,7 @@
 
 ghost use Rattle.std.specs.Prelude.{◌≡◌, ℕ, ◌+◌, ◌*◌, ◌/◌, ◌%◌, ◌-◌, ◌^◌, ◌<◌, ◌≤◌, [], ◌∷◌, ◌++◌, length, map, take, drop, replicate, slice_index, slice_set, All};
 ghost use Rattle.smallvec.specs.SmallVec.{small_vec_len, HasRoomFor};
-ghost use Rattle.decimal_digits.specs.Nibbles.{nibbles};
+ghost use Rattle.decimal_digits.specs.Nibbles.{digits_in, nibbles, IsPacked};
 
 use smallvec::SmallVec;
 
@@ -15,11 +15,24 @@ pub(super) fn byte_count(digits: usize) -> usize
 }
 
 #[inline]
-pub(crate) fn nibble_at(bytes: &[u8], index: usize) -> u8
+pub(super) fn nibble_at(bytes: &[u8], index: usize) -> u8
     requires { index < length (nibbles bytes.now) }
     ensures { result ≡ slice_index (nibbles bytes.now) index }
 {
     (bytes[index / 2] >> (4 - 4 * (index % 2))) % 16
+}
+
+pub(crate) fn unpack(bytes: &[u8], len: usize) -> [u8; 32]
+    requires few { length bytes.now ≤ 16 }
+    requires packed { IsPacked (take ((len + 1) / 2) bytes.now) len }
+    ensures digits { take len result ≡ digits_in (take ((len + 1) / 2) bytes.now) len }
+    ensures at_most { len ≤ 32 }
+{
+    let mut unpacked = [0; 32];
+    for index in 0..len {
+        unpacked[index] = nibble_at(bytes, index);
+    }
+    unpacked
 }
 
 #[inline]
@@ -38,9 +51,7 @@ pub(super) fn set_nibble(bytes: &mut SmallVec<u8, 8>, index: usize, nibble: u8)
     }
 }
 
-/// Writes the low nibbles of `digits` over bytes, two to a byte, and 0 into a nibble that is left over.
-///
-/// The low nibble of a digit is the digit, and so is that of its ASCII code.
+// The low nibble of a digit is the digit, and so is that of its ASCII code.
 pub(super) fn pack(bytes: &mut [u8], digits: &[u8])
     requires { length bytes.old ≡ (length digits.now + 1) / 2 }
     ensures { nibbles bytes.new ≡ map (λ d. d % 16) digits.now ++ replicate (length digits.now % 2) 0 }
@@ -122,8 +133,6 @@ pub(super) fn drop_bytes(bytes: &mut SmallVec<u8, 8>, count: usize, left: usize)
     bytes.truncate(left);
 }
 
-/// Appends the first `count` nibbles of `more` after the high nibble of the last byte, and 0 in a nibble that is left
-/// over.
 pub(super) fn append_nibbles(bytes: &mut SmallVec<u8, 8>, more: &[u8], count: usize)
     requires some { 0 < small_vec_len bytes.old }
     requires has_room { HasRoomFor bytes.old (count / 2) }
