@@ -316,16 +316,27 @@ pub keep_pads : (bytes : List ℕ) (len count w n : ℕ) → IsPadded bytes len 
 keep_pads bytes len count w n p l few e f =
     word_pads n count (take count (digits_in bytes len)) (grind (arith, padding, nibble_rules)) few
     (λ k h. grind (arith, p.decimal k 0, padding, nibble_rules))
-    (λ k h. same_take (word_nibbles w) (digits_in bytes len) (word_nibbles n) count k f (λ m. front_at bytes len w k p e h))
+    (λ k h. same_take (word_nibbles w) (digits_in bytes len) (word_nibbles n) count k f
+    (λ m. front_at bytes len w k p e h))
 
--- the bytes of a word with the last digits of padded bytes, up to sixteen, which are in the last eight bytes
-pub cut_pads : (bytes : List ℕ) (len count j w n : ℕ) → IsPadded bytes len → count ≤ len → len - count ≤ 16
-    → j + 2 * (length bytes - 8) ≡ count
+-- the bytes of a word without the first of up to sixteen digits of padded bytes
+pub cut_pads : (bytes : List ℕ) (len count w n : ℕ) → IsPadded bytes len → count ≤ len → len ≤ 16
+    → word_nibbles w ≡ take 16 (nibbles bytes)
+    → word_nibbles n ≡ drop count (word_nibbles w) ++ replicate count 0
+    → EncodesPadded (to_be_bytes w64 n) (len - count) (drop count (digits_in bytes len))
+cut_pads bytes len count w n p l few e f =
+    word_pads n (len - count) (drop count (digits_in bytes len)) (grind (arith, padding, nibble_rules)) (omega arith)
+    (λ k h. grind (arith, p.decimal (count + k) 0, padding, nibble_rules))
+    (λ k h. grind (arith, ap (λ l. get_or l k 0) f, few_at bytes len w p few e (count + k), padding, nibble_rules))
+
+-- the bytes of a word with the last digits of more than sixteen, which are in the last eight bytes
+pub cut_end_pads : (bytes : List ℕ) (len count j w n : ℕ) → IsPadded bytes len → 16 < len → count ≤ len
+    → len - count < 16 → j + 2 * ((len + 1) / 2 - 8) ≡ count
     → word_nibbles w ≡ drop (2 * (length bytes - 8)) (nibbles bytes) ++ replicate 0 0
     → word_nibbles n ≡ drop j (word_nibbles w) ++ replicate j 0
     → EncodesPadded (to_be_bytes w64 n) (len - count) (drop count (digits_in bytes len))
-cut_pads bytes len count j w n p l few at e f =
-    word_pads n (len - count) (drop count (digits_in bytes len)) (grind (arith, padding, nibble_rules)) few
+cut_end_pads bytes len count j w n p many l few at e f =
+    word_pads n (len - count) (drop count (digits_in bytes len)) (grind (arith, padding, nibble_rules)) (omega arith)
     (λ k h. grind (arith, p.decimal (count + k) 0, padding, nibble_rules))
     (λ k h. grind (
       arith,
@@ -350,9 +361,12 @@ cut_encodes bs cs len count left p le same_length half same =
     encodes out (drop count (digits_in bs len)) (len - count) (
       record {
         many = grind (arith, padding, nibble_rules);
-        same = λ k h. grind (arith, ap (λ l. get_or l k 0) at, same k, digit_at bs len p (count + k), padding, nibble_rules);
+        same = λ k h.
+            grind (arith, ap (λ l. get_or l k 0) at, same k, digit_at bs len p (count + k), padding, nibble_rules);
         decimal = λ k h. grind (arith, p.decimal (count + k) 0, padding, nibble_rules);
-        unused = λ h. grind (arith, ap (λ l. get_or l (len - count) 0) at, same (len - count), p.zeros len, padding, nibble_rules);
+        unused = λ h.
+            let i = len - count in
+            grind (arith, ap (λ l. get_or l i 0) at, same i, p.zeros len, padding, nibble_rules);
       },
       grind (arith, p.count, nibble_rules),
     )
@@ -395,9 +409,11 @@ join_text bytes len w v n text p few all e f g =
     let none : len - len ≡ 0 = omega arith in
     let size : length (map digit_value text) ≡ length text = length-map text digit_value in
     let digits : All (λ d. d < 10) (map digit_value text) = λ k d h.
-    omega (arith, get_or_default (map digit_value text) k d 0 h, value_of text k (omega arith), ascii_at text all k (omega arith)) in
+    let l : k < length text = omega arith in
+    omega (arith, get_or_default (map digit_value text) k d 0 h, value_of text k l, ascii_at text all k l) in
     rw (none, append-nil, size) at
-    (join_pads bytes len len w v n (map digit_value text) p (omega arith) (omega arith) digits e (text_at text v all f) g)
+    (join_pads bytes len len w v n (map digit_value text) p (omega arith) (omega arith) digits e
+    (text_at text v all f) g)
 
 -- the bytes of a word whose nibbles after the digits are 0
 pub leading_pads : (n len : ℕ) → IsPacked (leading_bytes n len) len → drop len (word_nibbles n) ≡ replicate (16 - len) 0
@@ -405,6 +421,6 @@ pub leading_pads : (n len : ℕ) → IsPacked (leading_bytes n len) len → drop
 unfolding word_nibbles
 leading_pads n len p zeros =
     let (few, same) = leading_digits n len p in
-    let ds = digits_in (leading_bytes n len) len in
-    word_pads n len ds (grind (arith, ap length same, nibble_rules)) few (λ k h. p.decimal k 0 (grind (arith, ap length same, nibble_rules)))
+    let size : length (digits_in (leading_bytes n len) len) ≡ len = grind (arith, ap length same, nibble_rules) in
+    word_pads n len _ size few (λ k h. p.decimal k 0 (omega arith))
     (λ k h. grind (arith, ap (λ l. get_or l (k - len) 0) zeros, ap (λ l. get_or l k 0) same, nibble_rules))

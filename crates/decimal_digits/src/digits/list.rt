@@ -55,10 +55,7 @@ impl DigitStore for DigitList {
     }
 
     fn clone(&self) -> Result<Self, AllocError> {
-        let bytes = SmallVec::from_slice(*self.bytes.allocator(), self.bytes.as_slice())?;
-        // Proof hint: the capacity is at least eight.
-        let _at_least = bytes.capacity();
-        Ok(DigitList { bytes })
+        Self::from_digits(*self.bytes.allocator(), self.bytes.as_slice())
     }
 
     #[inline]

@@ -170,13 +170,8 @@ impl DigitStore for PackedDigits {
         let start = self.len.checked_add(zeros).ok_or(AllocError)?;
         let total = start.checked_add(other.len).ok_or(AllocError)?;
         if total <= 16 {
-            append_word(
-                &mut self.bytes,
-                self.len,
-                start,
-                other.bytes.as_slice(),
-                other.len,
-            );
+            let more = other.bytes.as_slice();
+            append_word(&mut self.bytes, self.len, start, more, other.len);
         } else {
             reserve_digits(&mut self.bytes, total)?;
             drop_unused(&mut self.bytes, self.len);

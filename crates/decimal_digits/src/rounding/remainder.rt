@@ -7,17 +7,12 @@ use super::{RoundingIncrement, UnsignedRoundingMode};
 
 /// A remainder, compared with half of the unit.
 ///
-/// The discriminants are quarters of the unit, where 1 and 3 stand for all remainders between 0, half and the whole
-/// unit.
+/// The discriminants are quarters of the unit; 1 and 3 stand for all between 0, half and the whole unit.
 #[derive(Clone, Copy, PartialEq, Eq)]
 pub enum Remainder {
-    /// The remainder is 0.
     Zero = 0,
-    /// It is less than half.
     BelowHalf = 1,
-    /// It is half.
     Half = 2,
-    /// It is more than half.
     AboveHalf = 3,
 }
 

@@ -1,5 +1,5 @@
 //! A sink in memory.
-ghost use Rattle.std.specs.Prelude.{◌≡◌, ℕ, ◌+◌, ◌≤◌, List, [], ◌∷◌, ◌++◌, Some, OnOk, OnErr, Bool, true, false, vec_len, vec_capacity};
+ghost use Rattle.std.specs.Prelude.{◌≡◌, ℕ, ◌+◌, ◌≤◌, List, [], ◌++◌, Some, OnOk, OnErr, Bool, true, false, vec_len, vec_capacity};
 
 use super::{Sink, SinkFault};
 use std::alloc::{AllocError, Global};
@@ -54,15 +54,6 @@ fn reserve_amortized(bytes: &mut Vec<u8>, count: usize) -> Result<(), AllocError
     bytes.reserve(count.max(bytes.len()).max(MIN_CAPACITY))
 }
 
-fn push(bytes: &mut Vec<u8>, byte: u8) -> Result<(), AllocError>
-    ensures ok { OnOk result (bytes.new.items ≡ bytes.old.items ++ byte ∷ []) }
-    ensures err { OnErr result (bytes.new.items ≡ bytes.old.items) }
-{
-    reserve_amortized(bytes, 1)?;
-    bytes.push_reserved(byte);
-    Ok(())
-}
-
 fn append(bytes: &mut Vec<u8>, more: &[u8]) -> Result<(), AllocError>
     ensures ok { OnOk result (bytes.new.items ≡ bytes.old.items ++ more.now) }
     ensures err { OnErr result (bytes.new.items ≡ bytes.old.items) }
@@ -77,10 +68,11 @@ impl Sink for TextBuf {
     ghost has_failed = { λ s. s.1 };
 
     fn put_byte(&mut self, byte: u8) -> Result<(), SinkFault> {
-        if self.failed || push(&mut self.bytes, byte).is_err() {
+        if self.failed || reserve_amortized(&mut self.bytes, 1).is_err() {
             self.failed = true;
             return Err(SinkFault);
         }
+        self.bytes.push_reserved(byte);
         Ok(())
     }
 

@@ -42,8 +42,9 @@ returns-in_err-places-clause-fails_with g c =
     let k : DigitRoundingFails e c.args.increment (length ds)
     (rounded_number c.args.mode (unit_at c.args.increment c.args.position) (number_of ds c.args.magnitude))
     g.D.DigitStore.L =
-    digit_rounding_fails e c.args.mode c.args.increment g.D.DigitStore.L c.max_places_above-max_places.result keep ds remainder
-    (number_of ds c.args.magnitude) c.args.position (omega (arith, ints)) (simp to_z-of_z at c.max_places_above-max_places.ensures)
+    digit_rounding_fails e c.args.mode c.args.increment g.D.DigitStore.L c.max_places_above-max_places.result keep ds
+    remainder (number_of ds c.args.magnitude) c.args.position (omega (arith, ints))
+    (simp to_z-of_z at c.max_places_above-max_places.ensures)
     (simp to_z-of_z at c.split_at_position-keep.ensures.below_limit)
     (simp to_z-of_z at c.split_at_position-keep.ensures.splits_as)
     (rw c.split_at_position-keep.ensures.reads.0 at c.in_err-places.ensures.fails_with) in

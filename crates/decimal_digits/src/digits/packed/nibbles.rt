@@ -7,6 +7,8 @@ ghost use Rattle.decimal_digits.specs.Nibbles.{digits_in, nibbles, IsPacked};
 
 use smallvec::SmallVec;
 
+pub(super) type Bytes = SmallVec<u8, 8>;
+
 #[inline]
 pub(super) fn byte_count(digits: usize) -> usize
     ensures { result ≡ (digits + 1) / 2 }
@@ -36,7 +38,7 @@ pub(crate) fn unpack(bytes: &[u8], len: usize) -> [u8; 32]
 }
 
 #[inline]
-pub(super) fn set_nibble(bytes: &mut SmallVec<u8, 8>, index: usize, nibble: u8)
+pub(super) fn set_nibble(bytes: &mut Bytes, index: usize, nibble: u8)
     requires in_range { index < length (nibbles bytes.old.items) }
     requires is_nibble { nibble < 16 }
     ensures written { nibbles bytes.new.items ≡ slice_set (nibbles bytes.old.items) index nibble }
@@ -67,7 +69,7 @@ pub(super) fn pack(bytes: &mut [u8], digits: &[u8])
     }
 }
 
-pub(super) fn append_pairs(bytes: &mut SmallVec<u8, 8>, digits: &[u8])
+pub(super) fn append_pairs(bytes: &mut Bytes, digits: &[u8])
     requires { (length digits.now + 1) / 2 ≤ bytes.old.capacity - small_vec_len bytes.old }
     ensures appended { nibbles bytes.new.items
         ≡ nibbles bytes.old.items ++ (map (λ d. d % 16) digits.now ++ replicate (length digits.now % 2) 0) }
@@ -110,7 +112,7 @@ fn remove_low_nibble(bytes: &mut [u8], at: usize, last: u8)
 
 static ZEROS: [u8; 64] = [0; 64];
 
-pub(super) fn push_zeros(bytes: &mut SmallVec<u8, 8>, count: usize)
+pub(super) fn push_zeros(bytes: &mut Bytes, count: usize)
     requires { HasRoomFor bytes.old count }
     ensures items { bytes.new.items ≡ bytes.old.items ++ replicate count 0 }
     ensures capacity { bytes.old.capacity ≤ bytes.new.capacity }
@@ -124,7 +126,7 @@ pub(super) fn push_zeros(bytes: &mut SmallVec<u8, 8>, count: usize)
     bytes.extend_from_slice(&ZEROS[..count % 64]).unwrap();
 }
 
-pub(super) fn drop_bytes(bytes: &mut SmallVec<u8, 8>, count: usize, left: usize)
+pub(super) fn drop_bytes(bytes: &mut Bytes, count: usize, left: usize)
     requires { count + left ≤ small_vec_len bytes.old }
     ensures items { bytes.new.items ≡ drop count (take (count + left) bytes.old.items) }
     ensures capacity { bytes.new.capacity ≡ bytes.old.capacity }
@@ -133,7 +135,7 @@ pub(super) fn drop_bytes(bytes: &mut SmallVec<u8, 8>, count: usize, left: usize)
     bytes.truncate(left);
 }
 
-pub(super) fn append_nibbles(bytes: &mut SmallVec<u8, 8>, more: &[u8], count: usize)
+pub(super) fn append_nibbles(bytes: &mut Bytes, more: &[u8], count: usize)
     requires some { 0 < small_vec_len bytes.old }
     requires has_room { HasRoomFor bytes.old (count / 2) }
     requires in_range { count ≤ 2 * length more.now }

@@ -3,12 +3,12 @@ use Rattle.decimal_digits.proofs.Packing.{encodes_many}
 use Rattle.decimal_digits.proofs.Words.{cut_pads}
 use Rattle.decimal_digits.proofs.digits.packed.bytes.cut_digits.Goals as goal
 
-pub returns-then-len-count-lt16-clause-encodes : goal.returns-then-len-count-lt16-clause-encodes
-returns-then-len-count-lt16-clause-encodes c =
-    rw c.set_word.ensures.items
-    (cut_pads c.args.bytes.now.items c.args.len c.args.count _ c.end_word-end.result c.cut_nibbles-word.result
-    c.requires.padded c.requires.in_range (omega arith) (omega (arith, c.len.ensures, c.requires.padded.count))
-    (rw c.as_slice.ensures at c.end_word-end.ensures) c.cut_nibbles-word.ensures)
+pub returns-then-len-le16-clause-encodes : goal.returns-then-len-le16-clause-encodes
+returns-then-len-le16-clause-encodes c =
+    rw (c.set_front.ensures.items (omega (arith, c.requires.padded.count)))
+    (cut_pads c.args.bytes.now.items c.args.len c.args.count c.front_word.result c.cut_nibbles-word.result
+    c.requires.padded c.requires.in_range c.if-len-le16.true (rw c.as_slice.ensures at c.front_word.ensures)
+    c.cut_nibbles-word.ensures)
 
 pub returns-else-len-count-lt16-clause-encodes : goal.returns-else-len-count-lt16-clause-encodes
 returns-else-len-count-lt16-clause-encodes c = encodes_many _ _ _ (omega arith) c.cut_bytes.ensures.encodes

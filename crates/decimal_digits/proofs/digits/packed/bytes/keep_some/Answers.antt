@@ -3,13 +3,20 @@ use Rattle.decimal_digits.specs.Nibbles.{nibbles}
 use Rattle.decimal_digits.specs.Packing.{padding}
 use Rattle.decimal_digits.proofs.Nibbles.{nibble_rules}
 use Rattle.decimal_digits.proofs.Packing.{encodes, encodes_many}
-use Rattle.decimal_digits.proofs.Words.{nibbles_take}
-use Rattle.decimal_digits.proofs.digits.packed.bytes.keep_bytes.Goals as goal
-use Rattle.decimal_digits.proofs.digits.packed.bytes.keep_bytes.Goals.{then-count-eq1, else-count-eq1}
+use Rattle.decimal_digits.proofs.Words.{keep_pads, nibbles_take}
+use Rattle.decimal_digits.proofs.digits.packed.bytes.keep_some.Goals as goal
+use Rattle.decimal_digits.proofs.digits.packed.bytes.keep_some.Goals.{then-count-eq1, else-count-eq1}
+
+pub returns-then-count-le16-clause-encodes : goal.returns-then-count-le16-clause-encodes
+returns-then-count-le16-clause-encodes c =
+    rw (c.truncate.ensures.items, c.set_front.ensures.front)
+    (keep_pads c.args.bytes.now.items c.args.len c.args.count c.front_word.result c.keep_nibbles-word.result
+    c.requires.padded c.requires.in_range c.if-count-le16.true (rw c.as_slice.ensures at c.front_word.ensures)
+    c.keep_nibbles-word.ensures)
 
 pub returns-clause-encodes : goal.returns-clause-encodes
 returns-clause-encodes c =
-    let front = c.truncate.ensures.items in
+    let front = c.truncate-2.ensures.items in
     encodes_many _ _ _ (omega arith)
     (elim c.if-count-eq1.branch [
       | then-count-eq1 w ↦
