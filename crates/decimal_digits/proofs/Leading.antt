@@ -38,6 +38,18 @@ pub leading_more : (k : ℕ) (ds : List ℕ) → 0 < k → leading k ds ≡ lead
 leading_more zero ds p = absurd (omega arith)
 leading_more (suc k) ds p = let e : suc k - 1 ≡ k = omega arith in rw e (leading_next k ds)
 
+-- the last digit is added, or 0 where there are no more
+pub last_digit : (k : ℕ) (ds : List ℕ)
+    → (leading k ds ≡ leading k ds) × (0 < k → leading k ds ≡ leading (k - 1) ds * 10 + get_or ds (k - 1) 0)
+    × (length ds < k → get_or ds (k - 1) 0 ≡ 0) × (k ≡ 0 → leading k ds ≡ 0) × (k ≡ 0 → leading (k - 1) ds ≡ 0)
+last_digit k ds = (
+  refl,
+  leading_more k ds,
+  λ h. get_or_past ds (k - 1) 0 (omega arith),
+  leading_none k ds,
+  λ z. leading_none (k - 1) ds (omega arith),
+)
+
 -- the first k digits are hundreds and the last two
 pub leading_two : (k : ℕ) (ds : List ℕ) → 2 ≤ k
     → leading k ds ≡ 100 * leading (k - 2) ds + (10 * get_or ds (k - 2) 0 + get_or ds (k - 1) 0)

@@ -7,13 +7,12 @@ use Rattle.std.proofs.Common.{◌≡◌, ℕ, zero, suc, ◌+◌, ◌-◌, ◌*�
 use Rattle.std.specs.Prelude.{All}
 use Rattle.std.specs.Int.{w64, to_be_bytes, bytes_high_first, byte_at}
 use Rattle.std.specs.Int.Digits.{number_from_digits_after, number_from_digits, AllBelowBase}
-use Rattle.std.proofs.Math.Nat.{pow-le-pow_right}
 use Rattle.std.proofs.lemmas.Grind.{same_number_lists}
 use Rattle.std.proofs.lemmas.Nat.{div-mul-add, mod-mul-add, mul-pow, pow-add}
-use Rattle.std.proofs.lemmas.List.{length-append, length-replicate, length-take-le, get_or_past, take_all}
+use Rattle.std.proofs.lemmas.List.{length-append, length-replicate, get_or_past, take_all}
 use Rattle.std.proofs.lemmas.List.Elements.{All-append, All-from_recursion, All-replicate, recursion_from_All}
-use Rattle.std.proofs.lemmas.Int.Digits.{number_lt, number_more}
-use Rattle.decimal_digits.specs.Nibbles.{nibbles, digits_in, leading_bytes, padded, bcd_number, IsPacked}
+use Rattle.std.proofs.lemmas.Int.Digits.{number_lt}
+use Rattle.decimal_digits.specs.Nibbles.{nibbles, digits_in, leading_bytes, wide_leading_bytes, padded, IsPacked}
 use Rattle.decimal_digits.specs.Packing.{Encodes}
 use Rattle.decimal_digits.proofs.DigitLists.{below_take, number_after, number_pad}
 use Rattle.decimal_digits.proofs.Nibbles.{nibble_rules}
@@ -104,39 +103,37 @@ module _ (ds : List ℕ) (h : All (λ d. d < 10) ds) where
   pub sixteen_nibbles : nibbles (to_be_bytes w64 (number_from_digits 16 sixteen)) ≡ sixteen
   sixteen_nibbles = nibbles_of_bytes 8 0 sixteen sixteen_are (below_sixteen sixteen sixteen_digits)
 
-  -- up to fifteen of them write a number below 16 ^ 15
-  pub fifteen_lt : (i n : ℕ) → i < 16 → n ≡ number_from_digits 16 (take i sixteen) → n < 16 ^ 15
-  fifteen_lt i m l e =
-      grind (arith, length-take-le, sixteen_are, pow-le-pow_right, number_lt, below_sixteen, below_take, sixteen_digits)
+-- digits, as the highest of the 2 * k nibbles of a number, are packed in the first of its k bytes
+bytes_encode : (k : ℕ) (ds : List ℕ) (len n : ℕ) → length ds ≡ len → len ≤ 2 * k → AllBelowBase 10 ds
+    → n ≡ number_from_digits 16 ds * 16 ^ (2 * k - len)
+    → Encodes (take ((len + 1) / 2) (bytes_high_first k n)) len ds
+bytes_encode k ds len n l few h e =
+    let all = All-from_recursion (λ d. d < 10) ds h in
+    let size = length-padded (2 * k) ds in
+    let whole : nibbles (bytes_high_first k n) ≡ padded (2 * k) ds =
+    rw (e, ← l, ← (number_pad 16 (2 * k - length ds) ds), padded_few (2 * k) ds (omega arith))
+    (nibbles_of_bytes k 0 (padded (2 * k) ds) size (below_sixteen _ (padded_digits (2 * k) ds all))) in
+    encodes _ _ _ (
+      record {
+        many = l;
+        same = λ j q. grind (arith, nibble_rules, get_or-padded, ap (λ xs. get_or xs j 0) whole);
+        decimal = λ j q. all j 0 (omega arith);
+        unused = grind (arith, nibble_rules, get_or-padded, get_or_past, ap (λ xs. get_or xs len 0) whole);
+      },
+      grind (arith, nibble_rules, size, ap length whole),
+    )
 
-  -- one digit more
-  pub sixteen_next : (i d : ℕ) → i < 16 → d ≡ get_or ds i 0
-      → number_from_digits 16 (take i sixteen) * 16 + d ≡ number_from_digits 16 (take (i + 1) sixteen)
-  sixteen_next i d l e = grind (arith, number_more, sixteen_are, get_or-padded)
-
-  -- all digits
-  pub sixteen_all : (i : ℕ) → ¬ (i < 16) → number_from_digits 16 (take i sixteen) ≡ bcd_number ds
-  unfolding bcd_number
-  sixteen_all i l = ap (number_from_digits 16) (take_all i sixteen (omega (arith, sixteen_are)))
-
--- up to sixteen digits, as the highest nibbles of a number, are packed in its first bytes
 pub leading_bytes_encode : (ds : List ℕ) (len n : ℕ) → length ds ≡ len → len ≤ 16 → AllBelowBase 10 ds
     → n ≡ number_from_digits 16 ds * 16 ^ (16 - len)
     → Encodes (leading_bytes n len) len ds
 unfolding leading_bytes
-leading_bytes_encode ds len n l few h e =
-    let all = All-from_recursion (λ d. d < 10) ds h in
-    let whole : nibbles (to_be_bytes w64 n) ≡ padded 16 ds =
-    rw (e, ← l, ← (number_pad 16 (16 - length ds) ds), padded_few 16 ds (omega arith)) (sixteen_nibbles ds all) in
-    encodes _ _ _ (
-      record {
-        many = l;
-        same = λ k q. grind (arith, nibble_rules, get_or-padded, ap (λ xs. get_or xs k 0) whole);
-        decimal = λ k q. all k 0 (omega arith);
-        unused = grind (arith, nibble_rules, get_or-padded, get_or_past, ap (λ xs. get_or xs len 0) whole);
-      },
-      grind (arith, nibble_rules),
-    )
+leading_bytes_encode ds len n l few h e = bytes_encode 8 ds len n l few h e
+
+pub wide_bytes_encode : (ds : List ℕ) (len n : ℕ) → length ds ≡ len → len ≤ 32 → AllBelowBase 10 ds
+    → n ≡ number_from_digits 16 ds * 16 ^ (32 - len)
+    → Encodes (wide_leading_bytes n len) len ds
+unfolding wide_leading_bytes
+wide_bytes_encode ds len n l few h e = bytes_encode 16 ds len n l few h e
 
 -- all bytes of a number begin with the digits in its first bytes
 pub leading_digits : (number len : ℕ) → IsPacked (leading_bytes number len) len

@@ -102,17 +102,18 @@ two_split mode increment remainder left s two rest result odd up step is_rest is
     (is_odd ∙ ap (λ v. v == 1) same) mode left left_is in
     rw (← step, apart, by, ← goes, of_m, made, taken) (steps_up h s (two / s) hundreds unit up half')
 
--- by one, the number's parity and the tail make the mode go up, or not
-pub one_by : (mode : UnsignedRoundingMode) (remainder : Remainder) (k m : ℕ) (odd up : Bool) → odd ≡ (k % 2 == 1)
-    → up ≡ rounds_up_of mode remainder odd
-    → m ≡ k + cond up 1 0
+-- by one, the last digit's parity and the tail make the mode go up, or not
+pub one_by : (mode : UnsignedRoundingMode) (remainder : Remainder) (k m rest last : ℕ) (up : Bool)
+    → k ≡ 10 * rest + last → up ≡ rounds_up_of mode remainder (last % 2 == 1) → m ≡ k + cond up 1 0
     → RoundsTo mode 1 remainder k m
-one_by mode remainder k m odd up is_odd goes made r unit p is =
+one_by mode remainder k m rest last up is goes made r unit p tail =
     let one : 1 * unit ≡ unit = omega arith in
-    rw (one, made, goes) (rounded_by k unit r odd (below_unit remainder r unit p is).0 is_odd mode remainder is)
+    let parity : last % 2 ≡ k % 2 = omega arith in
+    rw (one, made, goes)
+    (rounded_by k unit r _ (below_unit remainder r unit p tail).0 (ap (λ v. v == 1) parity) mode remainder tail)
 
 -- with nothing below it, a number stays
 pub exact_stays : (mode : UnsignedRoundingMode) (remainder : Remainder) (k m : ℕ) → remainder ≡ Zero → m ≡ k
     → RoundsTo mode 1 remainder k m
 exact_stays mode remainder k m is same =
-    one_by mode remainder k m (k % 2 == 1) false refl (rw is refl) (omega (arith, same))
+    one_by mode remainder k m (k / 10) (k % 10) false (omega arith) (rw is refl) (omega (arith, same))

@@ -9,12 +9,12 @@ use Rattle.std.specs.Int.Digits.{number_from_digits, AllBelowBase}
 use Rattle.std.proofs.Math.Nat.{mod-eq_of_lt, pow-le-pow_right}
 use Rattle.std.proofs.lemmas.Nat.{pow-add, mod-mul-add, be_bytes_8, from_be_bytes-to_be_bytes_8}
 use Rattle.std.proofs.lemmas.Grind.{same_number_lists}
-use Rattle.std.proofs.lemmas.List.{length-append, length-drop, length-map, length-replicate, length-take, length-take-le, append-nil, get_or_default, get_or_past, get_or-drop, get_or-replicate, get_or-take, map_more, take-append-drop}
-use Rattle.std.proofs.lemmas.List.Elements.{All-append, All-from_recursion, All-get_or, All-replicate}
+use Rattle.std.proofs.lemmas.List.{length-append, length-drop, length-map, length-replicate, length-take-le, append-nil, get_or_default, get_or_past, get_or-take, map_more}
+use Rattle.std.proofs.lemmas.List.Elements.{All-from_recursion, All-get_or}
 use Rattle.std.proofs.lemmas.Int.Digits.{number_lt, number_after_append, number_more, number_push}
 use Rattle.std.proofs.Math.Seq.{drop-append_seam}
 use Rattle.decimal_digits.specs.Nibbles.{nibbles, word_nibbles, digits_in, leading_bytes, padded, bcd_number, IsPacked}
-use Rattle.decimal_digits.specs.Packing.{Encodes, EncodesPadded, IsPadded, length-nibbles, length_digits}
+use Rattle.decimal_digits.specs.Packing.{Encodes, EncodesPadded, IsPadded, length-nibbles, length_digits, padding}
 use Rattle.decimal_digits.proofs.DigitLists.{below_drop, below_take, number_after, number_pad, number_split, number-div}
 use Rattle.decimal_digits.proofs.LeadingBytes.{below_sixteen, hex_pow, leading_digits, bytes_number, nibbles_of_bytes, length-padded, get_or-padded, sixteen_nibbles}
 use Rattle.decimal_digits.proofs.Nibbles.{nibble_rules, value_of}
@@ -294,22 +294,19 @@ pub few_at : (bytes : List ℕ) (len n : ℕ) → IsPadded bytes len → len ≤
     → (k : ℕ) → get_or (word_nibbles n) k 0 ≡ get_or (digits_in bytes len) k 0
 few_at bytes len n p few e k = elim (cases_lt k 16) [
   | inl l ↦ front_at bytes len n k p e l
-  | inr l ↦ get_or_past (word_nibbles n) k 0 (omega (arith, length-word_nibbles n))
-      ∙ sym (get_or_past (digits_in bytes len) k 0 (omega (arith, length_digits bytes len p)))
+  | inr l ↦ grind (arith, length-word_nibbles n, length_digits bytes len p, get_or_past)
 ]
 
-same_take : (xs ys : List ℕ) (count k : ℕ) → (k < count → get_or xs k 0 ≡ get_or ys k 0)
-    → get_or (take count xs) k 0 ≡ get_or (take count ys) k 0
-same_take xs ys count k same = elim (cases_lt k count) [
-  | inl l ↦ get_or-take count xs k 0 l ∙ same l ∙ sym (get_or-take count ys k 0 l)
-  | inr l ↦ get_or_past (take count xs) k 0 (omega (arith, length-take count xs))
-      ∙ sym (get_or_past (take count ys) k 0 (omega (arith, length-take count ys)))
-]
+same_take : (xs ys ns : List ℕ) (count k : ℕ) → ns ≡ take count xs ++ replicate (16 - count) 0
+    → (k < count → get_or xs k 0 ≡ get_or ys k 0) → get_or ns k 0 ≡ get_or (take count ys) k 0
+same_take xs ys ns count k e same = grind (arith, ap (λ l. get_or l k 0) e, padded_at, cases_lt, nibble_rules)
 
-joined_at : (xs ys ps qs : List ℕ) (start k : ℕ) → length xs ≡ start → length ps ≡ start
-    → get_or xs k 0 ≡ get_or ps k 0 → get_or ys (k - start) 0 ≡ get_or qs (k - start) 0
-    → get_or (xs ++ ys) k 0 ≡ get_or (ps ++ qs) k 0
-joined_at xs ys ps qs start k l m e f = grind (arith, cases_lt, nibble_rules)
+joined_at : (xs ys ds es ns : List ℕ) (start k : ℕ) → length ds ≤ start → start ≤ length xs
+    → ns ≡ take start xs ++ take (16 - start) ys → get_or xs k 0 ≡ get_or ds k 0
+    → get_or ys (k - start) 0 ≡ get_or es (k - start) 0 → k < 16
+    → get_or ns k 0 ≡ get_or ((ds ++ replicate (start - length ds) 0) ++ es) k 0
+joined_at xs ys ds es ns start k l m g e f h =
+    grind (arith, ap (λ l. get_or l k 0) g, padded_at, cases_lt, nibble_rules)
 
 -- the bytes of a word with the first digits of padded bytes
 pub keep_pads : (bytes : List ℕ) (len count w n : ℕ) → IsPadded bytes len → count ≤ len → count ≤ 16
@@ -317,12 +314,10 @@ pub keep_pads : (bytes : List ℕ) (len count w n : ℕ) → IsPadded bytes len 
     → word_nibbles n ≡ take count (word_nibbles w) ++ replicate (16 - count) 0
     → EncodesPadded (to_be_bytes w64 n) count (take count (digits_in bytes len))
 keep_pads bytes len count w n p l few e f =
-    let ds = digits_in bytes len in
-    let size = length_digits bytes len p in
-    word_pads n count (take count ds) (length-take-le count ds (omega arith)) few
-    (λ k h. rw (get_or-take count ds k 0 h) (p.decimal k 0 (omega arith)))
-    (λ k h. ap (λ l. get_or l k 0) f ∙ padded_at (take count (word_nibbles w)) (16 - count) k
-    ∙ same_take (word_nibbles w) ds count k (λ m. front_at bytes len w k p e h))
+    word_pads n count (take count (digits_in bytes len)) (grind (arith, padding, nibble_rules)) few
+    (λ k h. grind (arith, p.decimal k 0, padding, nibble_rules))
+    (λ k h. same_take (word_nibbles w) (digits_in bytes len) (word_nibbles n) count k f
+    (λ m. front_at bytes len w k p e h))
 
 -- the bytes of a word without the first of up to sixteen digits of padded bytes
 pub cut_pads : (bytes : List ℕ) (len count w n : ℕ) → IsPadded bytes len → count ≤ len → len ≤ 16
@@ -330,12 +325,9 @@ pub cut_pads : (bytes : List ℕ) (len count w n : ℕ) → IsPadded bytes len �
     → word_nibbles n ≡ drop count (word_nibbles w) ++ replicate count 0
     → EncodesPadded (to_be_bytes w64 n) (len - count) (drop count (digits_in bytes len))
 cut_pads bytes len count w n p l few e f =
-    let ds = digits_in bytes len in
-    let size = length_digits bytes len p in
-    word_pads n (len - count) (drop count ds) (omega (arith, length-drop count ds)) (omega arith)
-    (λ k h. rw (get_or-drop count ds k 0) (p.decimal (count + k) 0 (omega arith)))
-    (λ k h. ap (λ l. get_or l k 0) f ∙ rest_at (word_nibbles w) count count k (count + k) refl
-    ∙ few_at bytes len w p few e (count + k) ∙ sym (get_or-drop count ds k 0))
+    word_pads n (len - count) (drop count (digits_in bytes len)) (grind (arith, padding, nibble_rules)) (omega arith)
+    (λ k h. grind (arith, p.decimal (count + k) 0, padding, nibble_rules))
+    (λ k h. grind (arith, ap (λ l. get_or l k 0) f, few_at bytes len w p few e (count + k), padding, nibble_rules))
 
 -- the bytes of a word with the last digits of more than sixteen, which are in the last eight bytes
 pub cut_end_pads : (bytes : List ℕ) (len count j w n : ℕ) → IsPadded bytes len → 16 < len → count ≤ len
@@ -344,16 +336,17 @@ pub cut_end_pads : (bytes : List ℕ) (len count j w n : ℕ) → IsPadded bytes
     → word_nibbles n ≡ drop j (word_nibbles w) ++ replicate j 0
     → EncodesPadded (to_be_bytes w64 n) (len - count) (drop count (digits_in bytes len))
 cut_end_pads bytes len count j w n p many l few at e f =
-    let ds = digits_in bytes len in
-    let start = 2 * (length bytes - 8) in
-    let size = length_digits bytes len p in
-    word_pads n (len - count) (drop count ds) (omega (arith, length-drop count ds)) (omega arith)
-    (λ k h. rw (get_or-drop count ds k 0) (p.decimal (count + k) 0 (omega arith)))
-    (λ k h.
-    let index : start + (j + k) ≡ count + k = omega (arith, p.count) in
-    ap (λ l. get_or l k 0) f ∙ rest_at (word_nibbles w) j j k (j + k) refl
-    ∙ ap (λ l. get_or l (j + k) 0) e ∙ rest_at (nibbles bytes) start 0 (j + k) (count + k) index
-    ∙ sym (get_or-drop count ds k 0 ∙ digit_at bytes len p (count + k)))
+    word_pads n (len - count) (drop count (digits_in bytes len)) (grind (arith, padding, nibble_rules)) (omega arith)
+    (λ k h. grind (arith, p.decimal (count + k) 0, padding, nibble_rules))
+    (λ k h. grind (
+      arith,
+      ap (λ l. get_or l k 0) f,
+      ap (λ l. get_or l (j + k) 0) e,
+      digit_at bytes len p (count + k),
+      p.count,
+      padding,
+      nibble_rules,
+    ))
 
 -- bytes from an index on, whose nibbles are the digits after the first ones of padded bytes
 pub cut_encodes : (bs cs : List ℕ) (len count left : ℕ) → IsPadded bs len → count ≤ len → length cs ≡ length bs
@@ -361,24 +354,21 @@ pub cut_encodes : (bs cs : List ℕ) (len count left : ℕ) → IsPadded bs len 
     → ((k : ℕ) → get_or (nibbles cs) (2 * (count / 2) + k) 0 ≡ get_or (nibbles bs) (count + k) 0)
     → Encodes (drop (count / 2) (take (count / 2 + left) cs)) (len - count) (drop count (digits_in bs len))
 cut_encodes bs cs len count left p le same_length half same =
-    let ds = digits_in bs len in
-    let c = count / 2 in
-    let out = drop c (take (c + left) cs) in
-    let size = length_digits bs len p in
-    let all : length out ≡ left =
-    omega (arith, length-drop c (take (c + left) cs), length-take-le (c + left) cs (omega (arith, p.count))) in
-    let at : (k : ℕ) → k < 2 * left → get_or (nibbles out) k 0 ≡ get_or (nibbles bs) (count + k) 0 =
-    λ k h.
-    ap (λ l. get_or l k 0) (nibbles_drop c (take (c + left) cs) ∙ ap (drop (2 * c)) (nibbles_take (c + left) cs))
-    ∙ get_or-drop (2 * c) _ k 0 ∙ get_or-take (2 * (c + left)) (nibbles cs) (2 * c + k) 0 (omega arith) ∙ same k in
-    encodes out (drop count ds) (len - count) (
+    let out = drop (count / 2) (take (count / 2 + left) cs) in
+    let at : nibbles out ≡ drop (2 * (count / 2)) (take (2 * (count / 2 + left)) (nibbles cs)) =
+    nibbles_drop (count / 2) (take (count / 2 + left) cs)
+    ∙ ap (drop (2 * (count / 2))) (nibbles_take (count / 2 + left) cs) in
+    encodes out (drop count (digits_in bs len)) (len - count) (
       record {
-        many = omega (arith, length-drop count ds);
-        same = λ k h. at k (omega arith) ∙ sym (get_or-drop count ds k 0 ∙ digit_at bs len p (count + k));
-        decimal = λ k h. rw (get_or-drop count ds k 0) (p.decimal (count + k) 0 (omega arith));
-        unused = λ h. at (len - count) (omega arith) ∙ p.zeros (count + (len - count)) (omega arith);
+        many = grind (arith, padding, nibble_rules);
+        same = λ k h.
+            grind (arith, ap (λ l. get_or l k 0) at, same k, digit_at bs len p (count + k), padding, nibble_rules);
+        decimal = λ k h. grind (arith, p.decimal (count + k) 0, padding, nibble_rules);
+        unused = λ h.
+            let i = len - count in
+            grind (arith, ap (λ l. get_or l i 0) at, same i, p.zeros len, padding, nibble_rules);
       },
-      omega arith,
+      grind (arith, p.count, nibble_rules),
     )
 
 -- the bytes of a word with digits after those of padded bytes and zeros
@@ -389,50 +379,25 @@ pub join_pads : (bytes : List ℕ) (len start w v n : ℕ) (es : List ℕ) → I
     → word_nibbles n ≡ take start (word_nibbles w) ++ take (16 - start) (word_nibbles v)
     → EncodesPadded (to_be_bytes w64 n) (start + length es) ((digits_in bytes len ++ replicate (start - len) 0) ++ es)
 join_pads bytes len start w v n es p l few digits e f g =
-    let ds = digits_in bytes len in
     let size = length_digits bytes len p in
-    let front = ds ++ replicate (start - len) 0 in
-    let count : length front ≡ start =
-    omega (arith, length-append ds (replicate (start - len) 0), length-replicate {A = ℕ} (start - len) 0) in
-    let size' = length-word_nibbles w in
-    let below : All (λ d. d < 10) (front ++ es) =
-    All-append (λ d. d < 10) front es
-    (All-append (λ d. d < 10) ds _ p.decimal (All-replicate (λ d. d < 10) (start - len) 0 (omega arith))) digits in
-    let total = length-append front es in
-    word_pads n (start + length es) (front ++ es) (omega arith) few (λ k h. below k 0 (omega arith))
-    (λ k h. ap (λ l. get_or l k 0) g
-    ∙ joined_at (take start (word_nibbles w)) (take (16 - start) (word_nibbles v)) front es start k
-    (length-take-le start (word_nibbles w) (omega arith)) count
-    (elim (cases_lt k start) [
-      | inl m ↦ get_or-take start (word_nibbles w) k 0 m ∙ front_at bytes len w k p e h
-          ∙ sym (padded_at ds (start - len) k)
-      | inr m ↦ get_or_past (take start (word_nibbles w)) k 0 (omega (arith, length-take start (word_nibbles w)))
-          ∙ sym (get_or_past front k 0 (omega arith))
-    ])
-    (elim (cases_lt (k - start) (16 - start)) [
-      | inl m ↦ get_or-take (16 - start) (word_nibbles v) (k - start) 0 m ∙ f (k - start)
-      | inr m ↦ get_or_past (take (16 - start) (word_nibbles v)) (k - start) 0
-          (omega (arith, length-take (16 - start) (word_nibbles v)))
-          ∙ sym (get_or_past es (k - start) 0 (omega arith))
-    ]))
+    word_pads n (start + length es) ((digits_in bytes len ++ replicate (start - len) 0) ++ es)
+    (grind (arith, padding, nibble_rules)) few
+    (λ k h. grind (arith, p.decimal k 0, digits (k - start) 0, padding, nibble_rules))
+    (λ k h. rw size at (joined_at (word_nibbles w) (word_nibbles v) (digits_in bytes len) es (word_nibbles n) start k
+    (omega arith) (omega (arith, length-word_nibbles w)) g (front_at bytes len w k p e h) (f (k - start)) h))
 
 -- the digits after those of padded bytes are 0
 pub zeros_after : (bytes : List ℕ) (len start w : ℕ) → IsPadded bytes len → len ≤ start → start ≤ 16
     → word_nibbles w ≡ take 16 (nibbles bytes) → drop start (word_nibbles w) ≡ replicate (16 - start) 0
 zeros_after bytes len start w p l few e =
-    let size = length-word_nibbles w in
-    let count = length-drop start (word_nibbles w) in
-    same_number_lists _ _ (omega (arith, length-replicate {A = ℕ} (16 - start) 0)) (λ k h.
-    get_or-drop start (word_nibbles w) k 0
-    ∙ front_at bytes len w (start + k) p e (omega arith)
-    ∙ get_or_past (digits_in bytes len) (start + k) 0 (omega (arith, length_digits bytes len p))
-    ∙ sym (get_or-replicate (16 - start) k 0 0 (omega arith)))
+    same_number_lists _ _ (grind (arith, length-word_nibbles w, nibble_rules)) (λ k h.
+    grind (arith, front_at bytes len w (start + k) p e, padding, nibble_rules))
 
 -- the word of the digits of a text
 pub text_at : (text : List ℕ) (n : ℕ) → AllDigits 10 text
     → word_nibbles n ≡ low_nibbles text ++ replicate (16 - length text) 0
     → (k : ℕ) → get_or (word_nibbles n) k 0 ≡ get_or (map digit_value text) k 0
-text_at text n all e k = grind (arith, padded_at, cases_lt, nibble_rules, ascii_at)
+text_at text n all e k = grind (arith, nibble_rules, ascii_at)
 
 -- the bytes of a word with the digits of a text after those of padded bytes
 pub join_text : (bytes : List ℕ) (len w v n : ℕ) (text : List ℕ) → IsPadded bytes len → len + length text ≤ 16
@@ -441,14 +406,14 @@ pub join_text : (bytes : List ℕ) (len w v n : ℕ) (text : List ℕ) → IsPad
     → word_nibbles n ≡ take len (word_nibbles w) ++ take (16 - len) (word_nibbles v)
     → EncodesPadded (to_be_bytes w64 n) (len + length text) (digits_in bytes len ++ map digit_value text)
 join_text bytes len w v n text p few all e f g =
-    let es = map digit_value text in
-    let size : length es ≡ length text = length-map text digit_value in
     let none : len - len ≡ 0 = omega arith in
-    let digits : All (λ d. d < 10) es = λ k d h.
+    let size : length (map digit_value text) ≡ length text = length-map text digit_value in
+    let digits : All (λ d. d < 10) (map digit_value text) = λ k d h.
     let l : k < length text = omega arith in
-    omega (arith, get_or_default es k d 0 h, value_of text k l, ascii_at text all k l) in
+    omega (arith, get_or_default (map digit_value text) k d 0 h, value_of text k l, ascii_at text all k l) in
     rw (none, append-nil, size) at
-    (join_pads bytes len len w v n es p (omega arith) (omega arith) digits e (text_at text v all f) g)
+    (join_pads bytes len len w v n (map digit_value text) p (omega arith) (omega arith) digits e
+    (text_at text v all f) g)
 
 -- the bytes of a word whose nibbles after the digits are 0
 pub leading_pads : (n len : ℕ) → IsPacked (leading_bytes n len) len → drop len (word_nibbles n) ≡ replicate (16 - len) 0
@@ -456,10 +421,6 @@ pub leading_pads : (n len : ℕ) → IsPacked (leading_bytes n len) len → drop
 unfolding word_nibbles
 leading_pads n len p zeros =
     let (few, same) = leading_digits n len p in
-    let ds = digits_in (leading_bytes n len) len in
-    let ns = word_nibbles n in
-    let size : length ds ≡ len = ap length (sym same) ∙ length-take-le len ns (omega (arith, length-word_nibbles n)) in
-    let all : ns ≡ take len ns ++ replicate (16 - len) 0 =
-    sym (take-append-drop len ns) ∙ ap (λ l. take len ns ++ l) zeros in
-    word_pads n len ds size few (λ k h. p.decimal k 0 (omega arith)) (λ k h.
-    ap (λ l. get_or l k 0) all ∙ padded_at (take len ns) (16 - len) k ∙ ap (λ l. get_or l k 0) same)
+    let size : length (digits_in (leading_bytes n len) len) ≡ len = grind (arith, ap length same, nibble_rules) in
+    word_pads n len _ size few (λ k h. p.decimal k 0 (omega arith))
+    (λ k h. grind (arith, ap (λ l. get_or l (k - len) 0) zeros, ap (λ l. get_or l k 0) same, nibble_rules))

@@ -12,7 +12,7 @@ mod steps;
 
 pub use counted::Counted;
 pub use list::DigitList;
-use packed::nibble_at;
+use packed::{pack_word, unpack};
 pub use packed::{PackedDigits, dotted_text};
 use std::alloc::{AllocError, Global};
 pub use steps::Steps;
@@ -57,19 +57,14 @@ pub trait DigitStore: Drop {
     /// # Errors
     ///
     /// As for [`DigitStore::from_digits`].
+    #[tactic(auto, unfolding(crate::specs::Nibbles::leading_bytes))]
     fn from_padded_bcd(alloc: Global, number: u64, len: usize) -> Result<Self, AllocError>
         requires packed { IsPacked (leading_bytes number len) len }
         requires padded { drop len (word_nibbles number) ≡ replicate (16 - len) 0 }
         ensures ok { IfOk result (λ s. digits s ≡ digits_in (leading_bytes number len) len) }
         ensures succeeds { len ≤ L → IsOk result }
     {
-        let bytes = number.to_be_bytes();
-        let mut list = Self::empty(alloc);
-        list.reserve(len)?;
-        for index in 0..len {
-            list.push_in_room(nibble_at(&bytes, index));
-        }
-        Ok(list)
+        Self::from_digits(alloc, &unpack(&number.to_be_bytes(), len)[..len])
     }
 
     /// Makes a list of the first `len` nibbles of a packed BCD number of 32 nibbles.
@@ -79,19 +74,14 @@ pub trait DigitStore: Drop {
     /// # Errors
     ///
     /// As for [`DigitStore::from_digits`].
+    #[tactic(auto, unfolding(crate::specs::Nibbles::wide_leading_bytes))]
     fn from_wide_bcd(alloc: Global, number: u128, len: usize) -> Result<Self, AllocError>
         requires many { 16 < len }
         requires packed { IsPacked (wide_leading_bytes number len) len }
         ensures ok { IfOk result (λ s. digits s ≡ digits_in (wide_leading_bytes number len) len) }
         ensures succeeds { len ≤ L → IsOk result }
     {
-        let bytes = number.to_be_bytes();
-        let mut list = Self::empty(alloc);
-        list.reserve(len)?;
-        for index in 0..len {
-            list.push_in_room(nibble_at(&bytes, index));
-        }
-        Ok(list)
+        Self::from_digits(alloc, &unpack(&number.to_be_bytes(), len)[..len])
     }
 
     /// Returns the sixteen digits from index `start` as a packed BCD number, with zeros after fewer digits.
@@ -101,17 +91,14 @@ pub trait DigitStore: Drop {
         requires { start % 16 ≡ 0 }
         ensures { result ≡ bcd_number (drop start (digits self.now)) }
     {
-        let left = self.len().saturating_sub(start);
-        let mut number = 0;
-        for index in 0..16 {
-            let digit = if index < left {
-                self.get(start + index)
-            } else {
-                0
-            };
-            number = number * 16 + u64::from(digit);
+        let len = self.len();
+        if len <= start {
+            return 0;
         }
-        number
+        let mut text = [b'0'; 16];
+        let text = &mut text[..(len - start).min(16)];
+        self.copy_text(start, text);
+        pack_word(text)
     }
 
     /// Returns the packed BCD bytes of the digits, if the list stores them so.
@@ -233,7 +220,10 @@ pub trait DigitStore: Drop {
 
     /// Removes all digits.
     fn clear(&mut self)
-        ensures { digits self.new ≡ [] };
+        ensures { digits self.new ≡ [] }
+    {
+        self.truncate(0);
+    }
 
     /// Appends `zeros` zeros, and then another list.
     ///

@@ -59,8 +59,6 @@ pub enum RoundError {
     Memory,
 }
 
-/// Counts the magnitudes from a position up to the first digit, and compares the remainder below them with half of a
-/// unit.
 fn split_at_position<D: DigitStore>(
     counted: &mut Counted<'_, D>,
     magnitude: i16,
@@ -145,13 +143,7 @@ pub fn round<D: DigitStore>(
         return Ok(0);
     }
     let (keep, remainder) = split_at_position(counted, magnitude, position);
-    let places = round_leading(
-        counted,
-        keep,
-        max_places_above(position),
-        remainder,
-        mode,
-        increment,
-    )?;
+    let max_places = max_places_above(position);
+    let places = round_leading(counted, keep, max_places, remainder, mode, increment)?;
     Ok(magnitude_after(counted, position, places))
 }

@@ -91,12 +91,3 @@ pub trait Writeable {
     fn writeable_length_hint(&self) -> usize
         ensures { result ≡ length (text self.now) };
 }
-
-/// Remembers that a sink failed.
-fn fail(failed: &mut bool) -> Result<(), SinkFault>
-    ensures failed { failed.new ≡ true }
-    ensures fails { IsErr result }
-{
-    *failed = true;
-    Err(SinkFault)
-}

@@ -71,11 +71,7 @@ impl UnsignedInteger for u8 {
 
     #[inline]
     fn split_last_digit(self) -> Option<(u8, u8)> {
-        if self == 0 {
-            None
-        } else {
-            Some((self % 10, self / 10))
-        }
+        (self != 0).then_some((self % 10, self / 10))
     }
 }
 
@@ -84,11 +80,7 @@ impl UnsignedInteger for u16 {
 
     #[inline]
     fn split_last_digit(self) -> Option<(u8, u16)> {
-        if self == 0 {
-            None
-        } else {
-            Some(((self % 10) as u8, self / 10))
-        }
+        (self != 0).then_some(((self % 10) as u8, self / 10))
     }
 }
 
@@ -97,11 +89,7 @@ impl UnsignedInteger for u32 {
 
     #[inline]
     fn split_last_digit(self) -> Option<(u8, u32)> {
-        if self == 0 {
-            None
-        } else {
-            Some(((self % 10) as u8, self / 10))
-        }
+        (self != 0).then_some(((self % 10) as u8, self / 10))
     }
 }
 
@@ -110,11 +98,7 @@ impl UnsignedInteger for u64 {
 
     #[inline]
     fn split_last_digit(self) -> Option<(u8, u64)> {
-        if self == 0 {
-            None
-        } else {
-            Some(((self % 10) as u8, self / 10))
-        }
+        (self != 0).then_some(((self % 10) as u8, self / 10))
     }
 }
 
@@ -137,10 +121,6 @@ impl UnsignedInteger for usize {
 
     #[inline]
     fn split_last_digit(self) -> Option<(u8, usize)> {
-        if self == 0 {
-            None
-        } else {
-            Some(((self % 10) as u8, self / 10))
-        }
+        (self != 0).then_some(((self % 10) as u8, self / 10))
     }
 }

@@ -90,11 +90,9 @@ fn exponent_text(exponent: u8) -> ([u8; 4], usize)
     ensures text { take result.1 result.0 ≡ exponent_text exponent }
     ensures at_most { result.1 ≤ 4 }
 {
-    let (hundreds, tens, ones) = (
-        b'0' + exponent / 100,
-        b'0' + exponent / 10 % 10,
-        b'0' + exponent % 10,
-    );
+    let hundreds = b'0' + exponent / 100;
+    let tens = b'0' + exponent / 10 % 10;
+    let ones = b'0' + exponent % 10;
     match exponent {
         0 => ([0; 4], 0),
         1..=9 => ([b'c', ones, 0, 0], 2),

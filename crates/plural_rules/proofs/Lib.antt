@@ -4,7 +4,5 @@ pub mod ByText
 pub mod RulesRun
 pub mod ParserComplete
 pub mod ParserSound
-pub mod Transitions
 pub mod ViablePrefixes
-pub mod CheckInvariant
-pub mod BuilderInvariant
+pub mod ParserInvariants

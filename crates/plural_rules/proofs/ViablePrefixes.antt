@@ -5,19 +5,18 @@ use Rattle.std.proofs.lemmas.Bool.{false≢true}
 use Rattle.std.proofs.lemmas.Bool.Decides.{nat_tests}
 use Rattle.std.proofs.lemmas.List.{take_all, take-append-drop}
 use Rattle.plural_rules.specs.declared.rules.PluralCategory.{PluralCategory}
-use Rattle.plural_rules.specs.declared.rules.PluralCategory.TheVariants as category
 use Rattle.plural_rules.specs.declared.parse.state.State.{State}
-use Rattle.plural_rules.specs.declared.parse.state.State.TheVariants as state
 use Rattle.plural_rules.specs.declared.parse.state.Event.{Event}
-use Rattle.plural_rules.specs.declared.parse.state.Event.TheVariants as event
 use Rattle.plural_rules.specs.Rules.{name_of, RuleValue}
 use Rattle.plural_rules.specs.RulesGrammar.{Grammar}
 use Rattle.plural_rules.specs.RulesReader.{is_full, condition_of, no_rules, Partial, after, next, at_end, limit}
 use Rattle.plural_rules.specs.RulesParseResult.{IsViablePrefix, IsFittingPrefix, Fits, IsSyntaxErrorAt}
-use Rattle.plural_rules.proofs.Transitions.{is_open, starts_number}
-use Rattle.plural_rules.proofs.RulesRun.{allowed, run, finish, finished, read, bind, run_append, run_more, read_fits}
+use Rattle.plural_rules.proofs.RulesRun.{is_open, starts_number, allowed, run, finish, finished, read, bind, run_append, run_more, read_fits}
 use Rattle.plural_rules.proofs.ParserComplete.{step, read-complete, read_any-complete}
 use Rattle.plural_rules.proofs.ParserSound.{read-sound}
+use Rattle.plural_rules.specs.declared.rules.PluralCategory.TheVariants as category
+use Rattle.plural_rules.specs.declared.parse.state.State.TheVariants as state
+use Rattle.plural_rules.specs.declared.parse.state.Event.TheVariants as event
 
 -- ---- Completions of a state.
 

@@ -32,7 +32,6 @@ impl<'a, D: DigitStore> Model for PluralOperands<'a, D> {
     ghost view = { λ s. compact s.value.now s.exponent };
 }
 
-/// Returns the number of fraction digits of a value times 10^exponent, if the last digit of the value is at `last`.
 fn fraction_digit_count(last: i16, exponent: u8) -> u32
     ensures { result ≡ int_gap (int_min (last +ℤ pos exponent) (pos 0)) (pos 0) }
 {
@@ -40,7 +39,6 @@ fn fraction_digit_count(last: i16, exponent: u8) -> u32
     count_between(lowest, 0) - 1
 }
 
-/// Returns the number of integer digits of a value times 10^exponent, if the first digit of the value is at `first`.
 fn integer_digit_count(first: i16, exponent: u8) -> u32
     ensures { pos result ≡ int_max (first +ℤ pos (exponent + 1)) (pos 0) }
 {
@@ -50,7 +48,6 @@ fn integer_digit_count(first: i16, exponent: u8) -> u32
     }
 }
 
-/// Returns the magnitude in a value of the first fraction digit of that value times 10^exponent.
 fn first_fraction_magnitude(exponent: u8) -> i16
     ensures { result ≡ negsuc exponent }
 {
@@ -127,21 +124,15 @@ impl<'a, D: DigitStore> PluralOperands<'a, D> {
     fn fraction(&self) -> Digits<'a, D>
         ensures { result ≡ f self.now.value }
     {
-        Digits::new(
-            self.value,
-            first_fraction_magnitude(self.exponent),
-            self.v(),
-        )
+        let first = first_fraction_magnitude(self.exponent);
+        Digits::new(self.value, first, self.v())
     }
 
     fn trimmed_fraction(&self) -> Digits<'a, D>
         ensures { result ≡ t self.now.value }
     {
-        Digits::new(
-            self.value,
-            first_fraction_magnitude(self.exponent),
-            self.w(),
-        )
+        let first = first_fraction_magnitude(self.exponent);
+        Digits::new(self.value, first, self.w())
     }
 
     /// Returns i, the integer digits as an integer: 2 for `2.50`. `None` if it is 2^64 or more.
@@ -199,7 +190,6 @@ impl<'a, D: DigitStore> PluralOperands<'a, D> {
         self.trimmed_fraction().modulo(modulus)
     }
 
-    /// Returns the operand i if it is at most `most`. Reads no digit after the one that exceeds it.
     pub(crate) fn i_up_to(&self, most: u64) -> Option<u64>
         ensures { IsUpTo most result (i self.now.value) }
     {

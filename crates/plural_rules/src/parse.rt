@@ -15,7 +15,7 @@ use numbers::Numbers;
 use state::{Categories, State};
 use std::alloc::{AllocError, Global};
 
-/// Checks the syntax of a text, and whether its numbers fit. Err: the offset at which it cannot continue as rules.
+// The error is the offset at which the text cannot continue as rules.
 fn check(text: &[u8]) -> Result<Numbers, usize>
     ensures ok { IfOk result (AreNumbersOf text.now) }
     ensures err { IfErr result (IsSyntaxErrorAt text.now) }
@@ -41,7 +41,6 @@ fn check(text: &[u8]) -> Result<Numbers, usize>
     }
 }
 
-/// Builds the rules of a text whose numbers fit. Err: out of memory.
 fn build(alloc: Global, text: &[u8]) -> Result<PluralRules, AllocError>
     requires { (rules : List RuleValue) × Grammar text.now rules × Fits rules }
     ensures { IfOk result (Grammar text.now) }
@@ -90,23 +89,18 @@ impl PluralRules {
     /// - `Syntax`: the text is not rules.
     /// - `Limit`: it is, but a number is too great.
     /// - `Memory`: out of memory; the text is rules whose numbers fit.
+    #[tactic(auto, using(crate::proofs::ParserComplete::grammar_unique))]
     pub fn try_from_utf8(alloc: Global, text: &[u8]) -> Result<Self, RulesError>
         ensures parses { IsParseResult text.now result }
         // The grammar is unambiguous.
         ensures unique { (first second : List RuleValue) → Grammar text.now first → Grammar text.now second
             → first ≡ second }
     {
-        let numbers = match check(text) {
-            Ok(numbers) => numbers,
-            Err(at) => return Err(RulesError::Syntax { at }),
-        };
+        let numbers = check(text).map_err(|at| RulesError::Syntax { at })?;
         if let Numbers::TooLarge(at) = numbers {
             return Err(RulesError::Limit { at });
         }
-        match build(alloc, text) {
-            Ok(rules) => Ok(rules),
-            Err(_) => Err(RulesError::Memory),
-        }
+        build(alloc, text).map_err(|_| RulesError::Memory)
     }
 
     /// Parses rules as `try_from_utf8` does.

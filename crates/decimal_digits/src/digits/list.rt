@@ -43,9 +43,8 @@ impl DigitStore for DigitList {
 
     #[inline]
     fn empty(alloc: Global) -> Self {
-        DigitList {
-            bytes: SmallVec::new(alloc),
-        }
+        let bytes = SmallVec::new(alloc);
+        DigitList { bytes }
     }
 
     fn from_digits(alloc: Global, list: &[u8]) -> Result<Self, AllocError> {
@@ -56,10 +55,7 @@ impl DigitStore for DigitList {
     }
 
     fn clone(&self) -> Result<Self, AllocError> {
-        let bytes = SmallVec::from_slice(*self.bytes.allocator(), self.bytes.as_slice())?;
-        // Proof hint: the capacity is at least eight.
-        let _at_least = bytes.capacity();
-        Ok(DigitList { bytes })
+        Self::from_digits(*self.bytes.allocator(), self.bytes.as_slice())
     }
 
     #[inline]
@@ -95,10 +91,6 @@ impl DigitStore for DigitList {
         let left = self.bytes.len() - count;
         self.bytes.as_mut_slice().copy_within(count.., 0);
         self.bytes.truncate(left);
-    }
-
-    fn clear(&mut self) {
-        self.bytes.clear();
     }
 
     fn append(&mut self, zeros: usize, other: &Self) -> Result<(), AllocError> {

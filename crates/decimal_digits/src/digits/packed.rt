@@ -7,21 +7,20 @@ mod bulk;
 mod bytes;
 mod dotted;
 mod nibbles;
-mod wide;
 mod words;
 
 use super::DigitStore;
 use bulk::{append_text, count_trailing_nibbles, write_text};
 use bytes::{
-    append_digits, append_word, append_zeros, are_equal, copy_bytes, cut_digits, drop_unused,
-    keep_digits, pack_digits, push_digit, reserve_digits, set_digit, word_at,
+    append_digits, append_word, append_zeros, are_equal, copy_bytes, copy_wide, cut_digits,
+    drop_unused, keep_digits, pack_digits, push_digit, reserve_digits, set_digit, word_at,
 };
 pub use dotted::dotted_text;
-use nibbles::byte_count;
-pub(super) use nibbles::nibble_at;
+pub(super) use nibbles::unpack;
+use nibbles::{byte_count, nibble_at};
 use smallvec::SmallVec;
 use std::alloc::{AllocError, Global};
-use wide::copy_wide;
+pub(super) use words::pack_word;
 
 /// A list of digits as packed BCD, two digits to a byte, of which up to sixteen need no allocation.
 ///
@@ -75,26 +74,20 @@ impl DigitStore for PackedDigits {
 
     #[inline]
     fn empty(alloc: Global) -> Self {
-        PackedDigits {
-            bytes: SmallVec::from_buf(alloc, [0; 8]),
-            len: 0,
-        }
+        let bytes = SmallVec::from_buf(alloc, [0; 8]);
+        PackedDigits { bytes, len: 0 }
     }
 
     fn from_digits(alloc: Global, list: &[u8]) -> Result<Self, AllocError> {
+        let len = list.len();
         let bytes = pack_digits(alloc, list)?;
-        Ok(PackedDigits {
-            bytes,
-            len: list.len(),
-        })
+        Ok(PackedDigits { bytes, len })
     }
 
     #[inline]
     fn from_padded_bcd(alloc: Global, number: u64, len: usize) -> Result<Self, AllocError> {
-        Ok(PackedDigits {
-            bytes: SmallVec::from_buf(alloc, number.to_be_bytes()),
-            len,
-        })
+        let bytes = SmallVec::from_buf(alloc, number.to_be_bytes());
+        Ok(PackedDigits { bytes, len })
     }
 
     fn from_wide_bcd(alloc: Global, number: u128, len: usize) -> Result<Self, AllocError> {
@@ -113,11 +106,9 @@ impl DigitStore for PackedDigits {
     }
 
     fn clone(&self) -> Result<Self, AllocError> {
+        let len = self.len;
         let bytes = copy_bytes(&self.bytes)?;
-        Ok(PackedDigits {
-            bytes,
-            len: self.len,
-        })
+        Ok(PackedDigits { bytes, len })
     }
 
     #[inline]
@@ -175,21 +166,12 @@ impl DigitStore for PackedDigits {
         cut_digits(&mut self.bytes, len, count);
     }
 
-    fn clear(&mut self) {
-        self.truncate(0);
-    }
-
     fn append(&mut self, zeros: usize, other: &Self) -> Result<(), AllocError> {
         let start = self.len.checked_add(zeros).ok_or(AllocError)?;
         let total = start.checked_add(other.len).ok_or(AllocError)?;
         if total <= 16 {
-            append_word(
-                &mut self.bytes,
-                self.len,
-                start,
-                other.bytes.as_slice(),
-                other.len,
-            );
+            let more = other.bytes.as_slice();
+            append_word(&mut self.bytes, self.len, start, more, other.len);
         } else {
             reserve_digits(&mut self.bytes, total)?;
             drop_unused(&mut self.bytes, self.len);

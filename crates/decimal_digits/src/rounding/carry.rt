@@ -7,7 +7,6 @@ ghost use Rattle.decimal_digits.specs.Remainders.{leading};
 
 use crate::digits::{Counted, DigitStore};
 
-/// Removes the trailing zeros.
 #[inline(never)]
 pub fn strip_trailing_zeros<D: DigitStore>(counted: &mut Counted<'_, D>)
     requires { 0 < slice_index (D.digits (list_of counted.old)) 0 }
@@ -25,9 +24,7 @@ pub fn strip_trailing_zeros<D: DigitStore>(counted: &mut Counted<'_, D>)
     counted.truncate(len - zeros);
 }
 
-/// Replaces the list by one digit.
-///
-/// The first digit is overwritten, which takes less time than clearing the list and appending a digit.
+// The first digit is overwritten: to clear the list and append a digit takes longer.
 #[inline]
 pub fn replace_by_digit<D: DigitStore>(counted: &mut Counted<'_, D>, digit: u8)
     requires { digit < 10 }
@@ -43,7 +40,6 @@ pub fn replace_by_digit<D: DigitStore>(counted: &mut Counted<'_, D>, digit: u8)
     }
 }
 
-/// Replaces the list by two digits.
 #[inline]
 pub fn replace_by_two_digits<D: DigitStore>(counted: &mut Counted<'_, D>, first: u8, second: u8)
     requires first { first < 10 }
@@ -62,10 +58,6 @@ pub fn replace_by_two_digits<D: DigitStore>(counted: &mut Counted<'_, D>, first:
     }
 }
 
-/// Replaces the list, whose first `places` digits are 9, by a one at the place above these, and returns the number of
-/// places of the result.
-///
-/// None if that is more than `max_places`; the list is then unchanged.
 #[inline]
 pub fn carry_out<D: DigitStore>(
     counted: &mut Counted<'_, D>,
@@ -93,10 +85,6 @@ pub fn carry_out<D: DigitStore>(
     Some(places + 1)
 }
 
-/// Adds one to the number of the first `places` digits, removes the other digits and the trailing zeros, and returns
-/// the number of places of the result.
-///
-/// It has one place more if the digits are all 9. None if that is more than `max_places`; the list is then unchanged.
 pub fn add_one<D: DigitStore>(
     counted: &mut Counted<'_, D>,
     places: usize,

@@ -8,19 +8,20 @@ use super::carry::{replace_by_digit, replace_by_two_digits};
 use crate::digits::{Counted, DigitStore};
 use std::alloc::AllocError;
 
-fn digit_at<D: DigitStore>(counted: &mut Counted<'_, D>, index: usize) -> u8
-    ensures value { result ≡ slice_index (D.digits (list_of counted.old)) index }
+pub fn last_of<D: DigitStore>(counted: &mut Counted<'_, D>, keep: usize) -> u8
+    ensures value { leading keep (D.digits (list_of counted.old))
+        ≡ 10 * leading (keep - 1) (D.digits (list_of counted.old)) + result }
+    ensures last { 0 < keep → result ≡ slice_index (D.digits (list_of counted.old)) (keep - 1) }
     ensures is_digit { result < 10 }
     ensures reads { OnlyReads 1 counted.old counted.new }
 {
-    if index < counted.len() {
-        counted.get(index)
+    if 0 < keep && keep <= counted.len() {
+        counted.get(keep - 1)
     } else {
         0
     }
 }
 
-/// Returns the last two of the first `keep` digits, where zeros follow the list.
 pub fn last_two_of<D: DigitStore>(counted: &mut Counted<'_, D>, keep: usize) -> u8
     ensures last_two { result < 100 }
     ensures value { leading keep (D.digits (list_of counted.old))
@@ -30,21 +31,10 @@ pub fn last_two_of<D: DigitStore>(counted: &mut Counted<'_, D>, keep: usize) -> 
     ensures none { length (D.digits (list_of counted.old)) + 2 ≤ keep → result ≡ 0 }
     ensures reads { OnlyReads 2 counted.old counted.new }
 {
-    if keep == 0 {
-        return 0;
-    }
-    let ones = digit_at(counted, keep - 1);
-    if keep == 1 {
-        return ones;
-    }
-    10 * digit_at(counted, keep - 2) + ones
+    let ones = last_of(counted, keep);
+    10 * last_of(counted, keep.saturating_sub(1)) + ones
 }
 
-/// Keeps the first `index` digits, and appends a digit.
-///
-/// # Errors
-///
-/// Out of memory; possible only if `index` is the number of digits, and at least `L`. The list is then unchanged.
 fn truncate_and_push<D: DigitStore>(
     counted: &mut Counted<'_, D>,
     index: usize,
@@ -70,13 +60,6 @@ fn truncate_and_push<D: DigitStore>(
     Ok(())
 }
 
-/// Replaces the last two of the first `keep` digits by a number of two digits, of which the first may be 0.
-///
-/// No trailing zero is written.
-///
-/// # Errors
-///
-/// Out of memory; possible only if the list gets longer and has at least `L` digits. It is then unchanged.
 pub fn write_last_two<D: DigitStore>(
     counted: &mut Counted<'_, D>,
     keep: usize,
@@ -109,9 +92,7 @@ pub fn write_last_two<D: DigitStore>(
     Ok(())
 }
 
-/// Replaces the list by the digits of a number up to 100, without trailing zeros, and returns its number of places.
-///
-/// None if that is more than `max_places`; the list is then unchanged.
+#[tactic(auto, unfolding(crate::specs::Digits::number_at))]
 pub fn write_number<D: DigitStore>(
     counted: &mut Counted<'_, D>,
     number: u8,

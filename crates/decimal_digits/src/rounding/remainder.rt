@@ -7,17 +7,12 @@ use super::{RoundingIncrement, UnsignedRoundingMode};
 
 /// A remainder, compared with half of the unit.
 ///
-/// The discriminants are quarters of the unit, where 1 and 3 stand for all remainders between 0, half and the whole
-/// unit.
+/// The discriminants are quarters of the unit; 1 and 3 stand for all between 0, half and the whole unit.
 #[derive(Clone, Copy, PartialEq, Eq)]
 pub enum Remainder {
-    /// The remainder is 0.
     Zero = 0,
-    /// It is less than half.
     BelowHalf = 1,
-    /// It is half.
     Half = 2,
-    /// It is more than half.
     AboveHalf = 3,
 }
 
@@ -32,9 +27,7 @@ fn step(increment: RoundingIncrement) -> u8
     }
 }
 
-/// Divides a number by an increment: returns the remainder, and whether the quotient is odd.
-///
-/// Each increment has its own division, since a division by a constant is far faster than one by a variable.
+// Each increment has its own division: one by a constant is far faster than one by a variable.
 #[inline]
 fn split_by(increment: RoundingIncrement, number: u8) -> (u8, bool)
     ensures rest { result.0 ≡ number % step_of increment }
@@ -66,7 +59,6 @@ fn combine_remainders(step: u8, rest: u8, remainder: Remainder) -> Remainder
     }
 }
 
-/// Returns whether the mode rounds up, by the remainder and by whether the quotient is odd.
 pub fn rounds_up(mode: UnsignedRoundingMode, left: Remainder, odd: bool) -> bool
     ensures { result ≡ rounds_up_of mode left odd }
 {
@@ -82,9 +74,7 @@ pub fn rounds_up(mode: UnsignedRoundingMode, left: Remainder, odd: bool) -> bool
     }
 }
 
-/// Rounds the last two digits that are kept, by the remainder below them; 100 is a carry.
-///
-/// The digits above them do not matter, since 100 is an even multiple of each increment.
+// The digits above do not matter, since 100 is an even multiple of each increment.
 pub fn round_last_two(
     last_two: u8,
     remainder: Remainder,

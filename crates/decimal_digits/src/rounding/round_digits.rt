@@ -6,14 +6,12 @@ ghost use Rattle.decimal_digits.specs.Rounding.{step_of};
 ghost use Rattle.decimal_digits.specs.Remainders.{leading, RemainderByDigit, RoundsTo, RoundLeadingFails};
 
 use super::carry::{add_one, carry_out, strip_trailing_zeros};
-use super::last_two::{last_two_of, write_last_two, write_number};
+use super::last_two::{last_of, last_two_of, write_last_two, write_number};
 use super::remainder::{Remainder, round_last_two, rounds_up};
 use super::{RoundError, RoundingIncrement, UnsignedRoundingMode};
 use crate::digits::{Counted, DigitStore};
 
-/// Compares the digits after the first `keep` with half of a unit of the last of these.
-///
-/// One digit access is enough, since the list has no trailing zeros.
+// One digit decides, since the list has no trailing zeros.
 pub fn remainder_after<D: DigitStore>(counted: &mut Counted<'_, D>, keep: usize) -> Remainder
     ensures remainder { RemainderByDigit result keep (D.digits (list_of counted.old)) }
     ensures exact { (result ≡ Remainder.Zero) ↔ (length (D.digits (list_of counted.old)) ≤ keep) }
@@ -48,21 +46,6 @@ fn keep_leading<D: DigitStore>(counted: &mut Counted<'_, D>, keep: usize, last: 
     }
 }
 
-fn last_of<D: DigitStore>(counted: &mut Counted<'_, D>, keep: usize) -> u8
-    requires { keep ≤ length (D.digits (list_of counted.old)) }
-    ensures last { 0 < keep → result ≡ slice_index (D.digits (list_of counted.old)) (keep - 1) }
-    ensures odd { (result % 2 == 1) ≡ (leading keep (D.digits (list_of counted.old)) % 2 == 1) }
-    ensures is_digit { result < 10 }
-    ensures reads { OnlyReads 1 counted.old counted.new }
-{
-    if keep > 0 { counted.get(keep - 1) } else { 0 }
-}
-
-/// Rounds the number of the first `keep` digits to a multiple of one, by the remainder below them, and returns the
-/// number of places of the result.
-///
-/// The last of the digits decides the parity. None if the result has more than `max_places` places; the list is then
-/// unchanged.
 fn round_by_one<D: DigitStore>(
     counted: &mut Counted<'_, D>,
     keep: usize,
@@ -106,15 +89,6 @@ fn round_by_one<D: DigitStore>(
     Some(keep)
 }
 
-/// Rounds the number of the first `keep` digits by the remainder below them, and returns the number of places of the
-/// result.
-///
-/// # Errors
-///
-/// After either error the list is unchanged.
-///
-/// - `Limit`: the result has more than `max_places` places.
-/// - `Memory`: out of memory for one more digit; possible only by 25, with at least `L` digits.
 pub fn round_leading<D: DigitStore>(
     counted: &mut Counted<'_, D>,
     keep: usize,

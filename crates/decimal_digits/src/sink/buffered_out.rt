@@ -52,21 +52,14 @@ impl<W: Write + Drop> BufferedOut<W> {
     pub fn error(&self) -> Option<ErrorKind>
         ensures { is_some result ≡ self.now.has_failed }
     {
-        match &self.error {
-            Some(error) => Some(error.kind()),
-            None => None,
-        }
+        self.error.as_ref().map(WriteError::kind)
     }
 
     /// Drops the block, and does not call the writer.
     pub fn abandon(self) -> Closed<W>
         ensures { result ≡ (self.writer, self.has_failed) }
     {
-        let BufferedOut {
-            writer,
-            block: _,
-            error,
-        } = self;
+        let BufferedOut { writer, error, .. } = self;
         Closed::new(writer, error)
     }
 
@@ -80,18 +73,13 @@ impl<W: Write + Drop> BufferedOut<W> {
         if self.error.is_some() || self.write_block().is_err() {
             return self.abandon();
         }
-        let BufferedOut {
-            mut writer,
-            block: _,
-            error: _,
-        } = self;
+        let BufferedOut { mut writer, .. } = self;
         let error = flush(&mut writer).err();
         Closed::new(writer, error)
     }
 }
 
 impl<W: Write> BufferedOut<W> {
-    /// Writes what the block holds.
     fn write_block(&mut self) -> Result<(), SinkFault>
         ensures keeps { Keeps (buffered_contents W.contents self.old) (buffered_contents W.contents self.new) }
         ensures written { OnOk result (self.new.block ≡ []) }
@@ -111,7 +99,6 @@ impl<W: Write> BufferedOut<W> {
         }
     }
 
-    /// Appends bytes for which the block has no room.
     #[cold]
     #[inline(never)]
     fn put_after_block(&mut self, bytes: &[u8]) -> Result<(), SinkFault>
@@ -167,7 +154,6 @@ impl<W: Write> Sink for BufferedOut<W> {
     }
 }
 
-/// Appends bytes for which there is room.
 #[inline(always)]
 fn append(block: &mut Vec<u8>, bytes: &[u8])
     requires { vec_len block.old + length bytes.now ≤ vec_capacity block.old }
@@ -178,7 +164,6 @@ fn append(block: &mut Vec<u8>, bytes: &[u8])
     };
 }
 
-/// Removes the first `count` bytes.
 fn remove_front(block: &mut Vec<u8>, count: usize)
     requires { count ≤ vec_len block.old }
     ensures { block.new.items ≡ drop count block.old.items }

@@ -1,7 +1,7 @@
 //! A sink in memory.
-ghost use Rattle.std.specs.Prelude.{◌≡◌, ℕ, ◌+◌, ◌≤◌, List, [], ◌∷◌, ◌++◌, Some, OnOk, OnErr, Bool, true, false, vec_len, vec_capacity};
+ghost use Rattle.std.specs.Prelude.{◌≡◌, ℕ, ◌+◌, ◌≤◌, List, [], ◌++◌, Some, OnOk, OnErr, Bool, true, false, vec_len, vec_capacity};
 
-use super::{Sink, SinkFault, fail};
+use super::{Sink, SinkFault};
 use std::alloc::{AllocError, Global};
 use std::marker::Model;
 
@@ -43,7 +43,7 @@ impl TextBuf {
     }
 }
 
-/// Reserves room for `count` more bytes. A growth reserves room for at least as much as there is.
+// A growth reserves room for at least as much as there is.
 fn reserve_amortized(bytes: &mut Vec<u8>, count: usize) -> Result<(), AllocError>
     ensures items { bytes.new.items ≡ bytes.old.items }
     ensures room { OnOk result (vec_len bytes.new + count ≤ vec_capacity bytes.new) }
@@ -54,17 +54,6 @@ fn reserve_amortized(bytes: &mut Vec<u8>, count: usize) -> Result<(), AllocError
     bytes.reserve(count.max(bytes.len()).max(MIN_CAPACITY))
 }
 
-/// Appends a byte, or nothing if out of memory.
-fn push(bytes: &mut Vec<u8>, byte: u8) -> Result<(), AllocError>
-    ensures ok { OnOk result (bytes.new.items ≡ bytes.old.items ++ byte ∷ []) }
-    ensures err { OnErr result (bytes.new.items ≡ bytes.old.items) }
-{
-    reserve_amortized(bytes, 1)?;
-    bytes.push_reserved(byte);
-    Ok(())
-}
-
-/// Appends bytes, or nothing if out of memory.
 fn append(bytes: &mut Vec<u8>, more: &[u8]) -> Result<(), AllocError>
     ensures ok { OnOk result (bytes.new.items ≡ bytes.old.items ++ more.now) }
     ensures err { OnErr result (bytes.new.items ≡ bytes.old.items) }
@@ -79,15 +68,18 @@ impl Sink for TextBuf {
     ghost has_failed = { λ s. s.1 };
 
     fn put_byte(&mut self, byte: u8) -> Result<(), SinkFault> {
-        if self.failed || push(&mut self.bytes, byte).is_err() {
-            return fail(&mut self.failed);
+        if self.failed || reserve_amortized(&mut self.bytes, 1).is_err() {
+            self.failed = true;
+            return Err(SinkFault);
         }
+        self.bytes.push_reserved(byte);
         Ok(())
     }
 
     fn put_bytes(&mut self, bytes: &[u8]) -> Result<(), SinkFault> {
         if self.failed || append(&mut self.bytes, bytes).is_err() {
-            return fail(&mut self.failed);
+            self.failed = true;
+            return Err(SinkFault);
         }
         Ok(())
     }

@@ -72,17 +72,14 @@ pub fn write_whole<W: Write>(writer: &mut W, bytes: &[u8]) -> Result<(), WriteEr
     Ok(())
 }
 
-/// Flushes a writer.
 pub fn flush<W: Write>(writer: &mut W) -> Result<(), WriteError<W>>
     ensures { Keeps (W.contents writer.old) (W.contents writer.new) }
 {
-    match writer.flush() {
-        Ok(()) => Ok(()),
-        Err(error) => Err(WriteError::new(error.kind(), 0)),
-    }
+    writer
+        .flush()
+        .map_err(|error| WriteError::new(error.kind(), 0))
 }
 
-/// Stores the error of a call that failed.
 pub(super) fn keep_error<W>(
     called: Result<(), WriteError<W>>,
     error: &mut Option<WriteError<W>>,

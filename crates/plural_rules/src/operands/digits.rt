@@ -1,5 +1,5 @@
 //! Some of the digits of a number, as an integer.
-ghost use Rattle.std.specs.Prelude.{◌≡◌, ◌+◌, ◌%◌, ◌^◌, ◌<◌, ◌≤◌, IfSome};
+ghost use Rattle.std.specs.Prelude.{◌≡◌, ◌+◌, ◌*◌, ◌%◌, ◌^◌, ◌<◌, ◌≤◌, IfSome};
 ghost use Rattle.decimal_digits.specs.Number.{offset};
 ghost use Rattle.plural_rules.specs.DigitSlice.{digit_slice, IsUpTo};
 
@@ -37,7 +37,6 @@ impl<'a, D: DigitStore> Digits<'a, D> {
         Digits { value, top, count }
     }
 
-    /// Returns the integer if it is at most `most`. Reads no digit after the one that exceeds it.
     pub(super) fn up_to(&self, most: u64) -> Option<u64>
         ensures { IsUpTo most result self.now }
     {
@@ -53,9 +52,16 @@ impl<'a, D: DigitStore> Digits<'a, D> {
     }
 }
 
-/// Returns the digits at `count` magnitudes, from `top` downward, as an integer; `None` if it is above `most`.
-///
-/// Reads no digit after the one that exceeds `most`.
+fn digit_below<D: DigitStore>(value: &UnsignedOver<D>, top: i16, below: u32) -> u8
+    requires { below < offset top + 1 }
+    ensures next { digit_slice value.now.number (offset top + 1) (below + 1)
+        ≡ digit_slice value.now.number (offset top + 1) below * 10 + result }
+    ensures is_digit { result < 10 }
+{
+    value.digit_at(magnitude_below(top, below))
+}
+
+// Reads no digit after the one that exceeds `most`.
 fn digits_up_to<D: DigitStore>(
     value: &UnsignedOver<D>,
     top: i16,
@@ -67,9 +73,7 @@ fn digits_up_to<D: DigitStore>(
 {
     let mut found: u64 = 0;
     for below in 0..count {
-        let magnitude = magnitude_below(top, below);
-        let digit = value.digit_at(magnitude);
-        let longer = found as u128 * 10 + digit as u128;
+        let longer = found as u128 * 10 + digit_below(value, top, below) as u128;
         if longer > most as u128 {
             return None;
         }
@@ -78,7 +82,7 @@ fn digits_up_to<D: DigitStore>(
     Some(found)
 }
 
-/// Returns the exponent of a power of ten of at most 10^18, and `None` for every other number.
+// `None` for other numbers than 10^0 to 10^18.
 fn exact_log10(power: u64) -> Option<u32>
     ensures { IfSome result (λ zeros. power ≡ 10 ^ zeros) }
 {
@@ -92,9 +96,7 @@ fn exact_log10(power: u64) -> Option<u32>
     None
 }
 
-/// Returns the remainder by a modulus of the digits at `count` magnitudes, from `top` downward.
-///
-/// A modulus 10^k reads the last k of them.
+// A modulus 10^k reads the last k digits.
 fn digits_modulo<D: DigitStore>(value: &UnsignedOver<D>, top: i16, count: u32, modulus: u64) -> u64
     requires positive { 0 < modulus }
     requires at_most { modulus ≤ 10 ^ 18 }
@@ -110,7 +112,6 @@ fn digits_modulo<D: DigitStore>(value: &UnsignedOver<D>, top: i16, count: u32, m
     }
 }
 
-/// Returns the same remainder, reading every digit.
 fn horner_modulo<D: DigitStore>(value: &UnsignedOver<D>, top: i16, count: u32, modulus: u64) -> u64
     requires positive { 0 < modulus }
     requires at_most { modulus ≤ 10 ^ 18 }
@@ -119,9 +120,7 @@ fn horner_modulo<D: DigitStore>(value: &UnsignedOver<D>, top: i16, count: u32, m
 {
     let mut rest: u64 = 0;
     for below in 0..count {
-        let magnitude = magnitude_below(top, below);
-        let digit = value.digit_at(magnitude) as u64;
-        rest = (rest * 10 + digit) % modulus;
+        rest = (rest * 10 + digit_below(value, top, below) as u64) % modulus;
     }
     rest
 }

@@ -38,7 +38,6 @@ fn modulus_read(is_divided: bool, number: u64) -> Option<Modulus>
 }
 
 impl Builder {
-    /// Makes a builder without rules.
     pub fn new(alloc: Global) -> Self
         ensures { partial reader.no_categories result ≡ reader.no_rules }
     {
@@ -58,7 +57,6 @@ impl Builder {
         }
     }
 
-    /// Returns the complete rules.
     pub fn into_rules(self) -> PluralRules
         ensures { (seen : Categories) → result ≡ (partial seen self).rules }
     {
@@ -131,7 +129,6 @@ impl Builder {
         Ok(())
     }
 
-    /// Processes an event. Err: out of memory.
     pub fn take(&mut self, event: Event) -> Result<(), AllocError>
         requires { IsSmall event self.old }
         ensures { OnOk result ((seen : Categories) → partial (reader.seen_after event seen) self.new

@@ -39,7 +39,6 @@ fn checked_number(is_modulus: bool, begin: usize, number: u128) -> Numbers
 }
 
 impl Numbers {
-    /// Returns the numbers after the event of the byte at offset `at`.
     pub fn after(self, at: usize, event: Event) -> Self
         ensures { result ≡ reader.numbers_after self at event }
     {

@@ -101,7 +101,6 @@ pub struct Categories {
 }
 
 impl Categories {
-    /// No category.
     pub fn none() -> Self
         ensures { result ≡ reader.no_categories }
     {
@@ -142,7 +141,6 @@ impl Categories {
         self
     }
 
-    /// Returns these categories, and the one that an event names.
     pub fn after(self, event: Event) -> Self
         ensures { result ≡ reader.seen_after event self }
     {
@@ -168,7 +166,6 @@ fn is_blank(byte: u8) -> bool
     byte == b' ' || byte == b'\t' || byte == b'\n' || byte == b'\r'
 }
 
-/// Stays in the state at a blank; any other byte does `otherwise`.
 fn skip(state: State, byte: u8, otherwise: Transition) -> Transition
     ensures { result ≡ reader.skip state byte otherwise }
 {
@@ -182,14 +179,10 @@ fn skip(state: State, byte: u8, otherwise: Transition) -> Transition
 fn new_category(seen: Categories, category: PluralCategory) -> Transition
     ensures { result ≡ reader.new_category seen category }
 {
-    if seen.has(category) {
-        None
-    } else {
-        Some((State::Letters(category, 1), Event::Nothing))
-    }
+    (!seen.has(category)).then_some((State::Letters(category, 1), Event::Nothing))
 }
 
-/// The first letter of a category. Both `one` and `other` begin with `o`.
+// Both `one` and `other` begin with `o`.
 fn category_letter(seen: Categories, byte: u8) -> Transition
     ensures { result ≡ reader.category_letter seen byte }
 {
@@ -204,7 +197,6 @@ fn category_letter(seen: Categories, byte: u8) -> Transition
     }
 }
 
-/// The second letter of `one` or of `other`.
 fn second_letter(seen: Categories, byte: u8) -> Transition
     ensures { result ≡ reader.second_letter seen byte }
 {
@@ -240,7 +232,6 @@ fn operand(byte: u8) -> Transition
     Some((State::Percent, Event::Operand(operand)))
 }
 
-/// The end of a rule: a semicolon, if a further category is left, or samples.
 fn rule_end(seen: Categories, byte: u8, event: Event) -> Transition
     ensures { result ≡ reader.rule_end seen byte event }
 {
@@ -289,41 +280,26 @@ fn after_high(seen: Categories, byte: u8) -> Transition
     skip(State::AfterHigh, byte, follows_range(seen, byte))
 }
 
-/// Reads one byte, and rejects any other.
 fn only(wanted: u8, byte: u8, state: State, event: Event) -> Transition
     ensures { result ≡ reader.only wanted byte state event }
 {
-    if byte == wanted {
-        Some((state, event))
-    } else {
-        None
-    }
+    (byte == wanted).then_some((state, event))
 }
 
-/// Reads the next letter of a category's name, `read` letters of which were read, or the colon after the last one.
 fn letter(category: PluralCategory, read: usize, byte: u8) -> Transition
     ensures { result ≡ reader.letter category read byte }
 {
     let word = category.name().as_bytes();
     if read < word.len() {
-        only(
-            word[read],
-            byte,
-            State::Letters(category, read + 1),
-            Event::Nothing,
-        )
+        let next = State::Letters(category, read + 1);
+        only(word[read], byte, next, Event::Nothing)
     } else {
-        let colon = only(
-            b':',
-            byte,
-            condition_of(category),
-            Event::Category(category),
-        );
+        let event = Event::Category(category);
+        let colon = only(b':', byte, condition_of(category), event);
         skip(State::Letters(category, read), byte, colon)
     }
 }
 
-/// Reads the first digit of a number, which leads to the state.
 fn first(byte: u8, state: State) -> Transition
     ensures { result ≡ reader.first byte state }
 {
@@ -334,7 +310,6 @@ fn first(byte: u8, state: State) -> Transition
     }
 }
 
-/// Reads a further digit, which leads to the state; any other byte does `otherwise`.
 fn digit(byte: u8, state: State, otherwise: Transition) -> Transition
     ensures { result ≡ reader.digit byte state otherwise }
 {
@@ -345,7 +320,6 @@ fn digit(byte: u8, state: State, otherwise: Transition) -> Transition
     }
 }
 
-/// Returns the state after a digit of a modulus whose digits before it, if any, are all 0.
 fn modulus_state(byte: u8) -> State
     ensures { result ≡ reader.modulus_state byte }
 {
@@ -389,7 +363,6 @@ fn sample(seen: Categories, byte: u8) -> Transition
 }
 
 impl State {
-    /// Returns the transition on a byte, after rules for the categories `seen`.
     pub fn next(self, seen: Categories, byte: u8) -> Option<(State, Event)>
         ensures { result ≡ reader.next seen self byte }
     {
@@ -423,7 +396,6 @@ impl State {
         }
     }
 
-    /// Returns the event of the end of the text; `None` if rules cannot end in this state.
     pub fn at_end(self) -> Option<Event>
         ensures { result ≡ reader.at_end self }
     {

@@ -8,7 +8,6 @@ use super::{Operand, PluralCategory, PluralRules, Range, Relation, Rule};
 use crate::operands::PluralOperands;
 use fixed_decimal::DigitStore;
 
-/// Returns an operand as an integer, i for n; `None` if it is above `most`.
 fn operand_up_to<D: DigitStore>(
     number: &PluralOperands<'_, D>,
     operand: Operand,

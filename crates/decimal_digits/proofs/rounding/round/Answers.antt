@@ -27,7 +27,7 @@ pub round_leading-requires-clause-fits : goal.round_leading-requires-clause-fits
 round_leading-requires-clause-fits g c =
     let p = c.ranges.position in
     let within = simp to_z-of_z at c.split_at_position-keep.ensures.below_limit in
-    let max_places = simp to_z-of_z at c.max_places_above.ensures in
+    let max_places = simp to_z-of_z at c.max_places_above-max_places.ensures in
     elim (cases_lt 0 c.split_at_position-keep.result.0) [
       | inl some ↦ omega (arith, ints, within some, offset_is c.args.position)
       | inr none ↦ omega arith
@@ -42,8 +42,9 @@ returns-in_err-places-clause-fails_with g c =
     let k : DigitRoundingFails e c.args.increment (length ds)
     (rounded_number c.args.mode (unit_at c.args.increment c.args.position) (number_of ds c.args.magnitude))
     g.D.DigitStore.L =
-    digit_rounding_fails e c.args.mode c.args.increment g.D.DigitStore.L c.max_places_above.result keep ds remainder
-    (number_of ds c.args.magnitude) c.args.position (omega (arith, ints)) (simp to_z-of_z at c.max_places_above.ensures)
+    digit_rounding_fails e c.args.mode c.args.increment g.D.DigitStore.L c.max_places_above-max_places.result keep ds
+    remainder (number_of ds c.args.magnitude) c.args.position (omega (arith, ints))
+    (simp to_z-of_z at c.max_places_above-max_places.ensures)
     (simp to_z-of_z at c.split_at_position-keep.ensures.below_limit)
     (simp to_z-of_z at c.split_at_position-keep.ensures.splits_as)
     (rw c.split_at_position-keep.ensures.reads.0 at c.in_err-places.ensures.fails_with) in

@@ -8,12 +8,11 @@ ghost use Rattle.decimal_digits.specs.Digits.{text_of};
 ghost use Rattle.decimal_digits.specs.Nibbles.{nibbles, digits_in};
 ghost use Rattle.decimal_digits.specs.Packing.{EncodesPadded, IsPadded};
 
-use super::bytes::{drop_unused, set_word};
-use super::nibbles::{append_pairs, set_nibble};
+use super::bytes::{drop_unused, set_front};
+use super::nibbles::{Bytes, append_pairs, set_nibble};
 use super::words::{count_equal_nibbles, front_word, join_nibbles, pack_word};
-use smallvec::SmallVec;
 
-pub(super) fn append_text(bytes: &mut SmallVec<u8, 8>, len: usize, text: &[u8])
+pub(super) fn append_text(bytes: &mut Bytes, len: usize, text: &[u8])
     requires padded { IsPadded bytes.old.items len }
     requires has_room { length text.now ≤ 2 * bytes.old.capacity - len }
     requires are_digits { AllDigits 10 text.now }
@@ -24,13 +23,13 @@ pub(super) fn append_text(bytes: &mut SmallVec<u8, 8>, len: usize, text: &[u8])
 {
     if len <= 16 && text.len() <= 16 - len {
         let word = join_nibbles(front_word(bytes.as_slice()), len, pack_word(text));
-        set_word(bytes, word);
+        set_front(bytes, word);
     } else {
         append_long_text(bytes, len, text);
     }
 }
 
-fn append_long_text(bytes: &mut SmallVec<u8, 8>, len: usize, text: &[u8])
+fn append_long_text(bytes: &mut Bytes, len: usize, text: &[u8])
     requires padded { IsPadded bytes.old.items len }
     requires many { 16 < len + length text.now }
     requires has_room { length text.now ≤ 2 * bytes.old.capacity - len }

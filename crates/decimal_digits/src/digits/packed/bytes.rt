@@ -4,18 +4,18 @@
 ghost use Rattle.std.specs.Prelude.{◌≡◌, ℕ, ◌+◌, ◌-◌, ◌*◌, ◌%◌, ◌^◌, ◌<◌, ◌≤◌, ◌↔◌, [], ◌∷◌, ◌++◌, length, map, take, drop, replicate, slice_set, All, IsTrue, IsOk, IfOk, IfSome, OnOk};
 ghost use Rattle.std.specs.Int.{w64, to_be_bytes};
 ghost use Rattle.smallvec.specs.SmallVec.{small_vec_len};
-ghost use Rattle.decimal_digits.specs.Nibbles.{digits_in, bcd_number, nibbles, word_nibbles, IsPacked};
+ghost use Rattle.decimal_digits.specs.Nibbles.{digits_in, bcd_number, nibbles, wide_leading_bytes, word_nibbles, IsPacked};
 ghost use Rattle.decimal_digits.specs.Packing.{Encodes, EncodesPadded, IsPadded};
 
 use super::nibbles::{
-    append_nibbles, byte_count, drop_bytes, pack, push_zeros, remove_high_nibble, set_nibble,
+    Bytes, append_nibbles, byte_count, drop_bytes, pack, push_zeros, remove_high_nibble, set_nibble,
 };
 use super::words::{cut_nibbles, end_word, front_word, join_nibbles, keep_nibbles, pack_word};
 use smallvec::SmallVec;
 use std::alloc::{AllocError, Global};
 
 #[inline]
-pub(super) fn pack_digits(alloc: Global, digits: &[u8]) -> Result<SmallVec<u8, 8>, AllocError>
+pub(super) fn pack_digits(alloc: Global, digits: &[u8]) -> Result<Bytes, AllocError>
     requires { All (λ d. d < 10) digits.now }
     ensures ok { IfOk result (λ bytes. EncodesPadded bytes.items (length digits.now) digits.now) }
     ensures inline { IfOk result (λ bytes. 8 ≤ bytes.capacity) }
@@ -31,8 +31,21 @@ pub(super) fn pack_digits(alloc: Global, digits: &[u8]) -> Result<SmallVec<u8, 8
     Ok(bytes)
 }
 
+#[tactic(auto, using(crate::proofs::Nibbles::nibble_rules), unfolding(crate::specs::Nibbles::wide_leading_bytes))]
 #[inline]
-pub(super) fn drop_unused(bytes: &mut SmallVec<u8, 8>, len: usize)
+pub(super) fn copy_wide(alloc: Global, number: u128, len: usize) -> Result<Bytes, AllocError>
+    requires many { 16 < len }
+    requires packed { IsPacked (wide_leading_bytes number len) len }
+    ensures ok { IfOk result (λ bytes. bytes.items ≡ wide_leading_bytes number len) }
+    ensures inline { IfOk result (λ bytes. 8 ≤ bytes.capacity) }
+{
+    let bytes = number.to_be_bytes();
+    let copy = Vec::from_slice(alloc, &bytes[..byte_count(len)])?;
+    Ok(SmallVec::from_vec(copy))
+}
+
+#[inline]
+pub(super) fn drop_unused(bytes: &mut Bytes, len: usize)
     requires { IsPadded bytes.old.items len }
     ensures encodes { Encodes bytes.new.items len (digits_in bytes.old.items len) }
     ensures capacity { bytes.new.capacity ≡ bytes.old.capacity }
@@ -41,7 +54,7 @@ pub(super) fn drop_unused(bytes: &mut SmallVec<u8, 8>, len: usize)
 }
 
 #[inline]
-pub(super) fn copy_bytes(bytes: &SmallVec<u8, 8>) -> Result<SmallVec<u8, 8>, AllocError>
+pub(super) fn copy_bytes(bytes: &Bytes) -> Result<Bytes, AllocError>
     requires { 8 ≤ small_vec_len bytes.now }
     ensures ok { IfOk result (λ copy. copy.items ≡ bytes.now.items) }
     ensures inline { IfOk result (λ copy. 8 ≤ copy.capacity) }
@@ -55,7 +68,7 @@ pub(super) fn copy_bytes(bytes: &SmallVec<u8, 8>) -> Result<SmallVec<u8, 8>, All
     }
 }
 
-pub(super) fn reserve_digits(bytes: &mut SmallVec<u8, 8>, total: usize) -> Result<(), AllocError>
+pub(super) fn reserve_digits(bytes: &mut Bytes, total: usize) -> Result<(), AllocError>
     ensures ok { OnOk result (total ≤ 2 * bytes.new.capacity) }
     ensures items { bytes.new.items ≡ bytes.old.items }
     ensures capacity { bytes.old.capacity ≤ bytes.new.capacity }
@@ -66,7 +79,7 @@ pub(super) fn reserve_digits(bytes: &mut SmallVec<u8, 8>, total: usize) -> Resul
 }
 
 #[inline]
-pub(super) fn set_digit(bytes: &mut SmallVec<u8, 8>, len: usize, index: usize, digit: u8)
+pub(super) fn set_digit(bytes: &mut Bytes, len: usize, index: usize, digit: u8)
     requires padded { IsPadded bytes.old.items len }
     requires in_range { index < len }
     requires is_digit { digit < 10 }
@@ -77,7 +90,7 @@ pub(super) fn set_digit(bytes: &mut SmallVec<u8, 8>, len: usize, index: usize, d
 }
 
 #[inline]
-pub(super) fn push_digit(bytes: &mut SmallVec<u8, 8>, len: usize, digit: u8)
+pub(super) fn push_digit(bytes: &mut Bytes, len: usize, digit: u8)
     requires padded { IsPadded bytes.old.items len }
     requires has_room { len < 2 * bytes.old.capacity }
     requires is_digit { digit < 10 }
@@ -93,23 +106,15 @@ pub(super) fn push_digit(bytes: &mut SmallVec<u8, 8>, len: usize, digit: u8)
 }
 
 #[inline]
-fn set_front(bytes: &mut SmallVec<u8, 8>, word: u64)
+pub(super) fn set_front(bytes: &mut Bytes, word: u64)
     requires { 8 ≤ small_vec_len bytes.old }
     ensures front { take 8 bytes.new.items ≡ to_be_bytes w64 word }
+    ensures items { small_vec_len bytes.old ≡ 8 → bytes.new.items ≡ to_be_bytes w64 word }
     ensures len { small_vec_len bytes.new ≡ small_vec_len bytes.old }
     ensures capacity { bytes.new.capacity ≡ bytes.old.capacity }
 {
     let (front, _) = bytes.as_mut_slice().split_at_mut(8);
     front.copy_from_slice(&word.to_be_bytes());
-}
-
-#[inline]
-pub(super) fn set_word(bytes: &mut SmallVec<u8, 8>, word: u64)
-    requires { small_vec_len bytes.old ≡ 8 }
-    ensures items { bytes.new.items ≡ to_be_bytes w64 word }
-    ensures capacity { bytes.new.capacity ≡ bytes.old.capacity }
-{
-    set_front(bytes, word);
 }
 
 #[inline]
@@ -131,9 +136,7 @@ pub(super) fn word_at(bytes: &[u8], len: usize, start: usize) -> u64
     front_word(rest)
 }
 
-/// Returns whether two lists of eight bytes are equal.
-///
-/// They are compared as words: byte by byte, a list is loaded in eight parts where a loop compares it with many.
+// As words: byte by byte, a list is loaded in eight parts where a loop compares it with many.
 #[inline]
 fn equal_words(left: &[u8; 8], right: &[u8; 8]) -> bool
     ensures { IsTrue result ↔ (left.now ≡ right.now) }
@@ -166,41 +169,33 @@ fn equal_in_two_words(left: &[u8], right: &[u8]) -> bool
     have_equal_fronts(left, right) && (end == 0 || have_equal_fronts(&left[end..], &right[end..]))
 }
 
-#[inline]
-fn equal_in_four_words(left: &[u8], right: &[u8]) -> bool
-    requires enough { 16 ≤ length left.now }
-    requires few { length left.now ≤ 32 }
-    requires same_length { length left.now ≡ length right.now }
-    ensures { IsTrue result ↔ (left.now ≡ right.now) }
-{
-    let end = left.len() - 16;
-    equal_in_two_words(&left[..16], &right[..16]) && equal_in_two_words(&left[end..], &right[end..])
-}
-
-/// Returns whether two lists of the same number of bytes, at least eight, are equal. Up to 64 bytes need no call.
+// Up to 64 bytes need no call.
 #[inline]
 pub(super) fn are_equal(left: &[u8], right: &[u8]) -> bool
     requires enough { 8 ≤ length left.now }
     requires same_length { length left.now ≡ length right.now }
     ensures { IsTrue result ↔ (left.now ≡ right.now) }
 {
-    let len = left.len();
-    if len <= 16 {
+    if left.len() <= 16 {
         return equal_in_two_words(left, right);
     }
-    if len <= 32 {
-        return equal_in_four_words(left, right);
-    }
-    if len > 64 {
+    if left.len() > 64 {
         return left == right;
     }
-    let end = len - 32;
-    equal_in_four_words(&left[..32], &right[..32])
-        && equal_in_four_words(&left[end..], &right[end..])
+    // The last eight bytes may overlap those before them.
+    let end = left.len() - 8;
+    let mut start = 0;
+    while start < end {
+        if !have_equal_fronts(&left[start..], &right[start..]) {
+            return false;
+        }
+        start += 8;
+    }
+    have_equal_fronts(&left[end..], &right[end..])
 }
 
 #[inline]
-pub(super) fn keep_digits(bytes: &mut SmallVec<u8, 8>, len: usize, count: usize)
+pub(super) fn keep_digits(bytes: &mut Bytes, len: usize, count: usize)
     requires padded { IsPadded bytes.old.items len }
     requires in_range { count ≤ len }
     ensures encodes { EncodesPadded bytes.new.items count (take count (digits_in bytes.old.items len)) }
@@ -208,14 +203,14 @@ pub(super) fn keep_digits(bytes: &mut SmallVec<u8, 8>, len: usize, count: usize)
 {
     if len <= 16 {
         let word = keep_nibbles(front_word(bytes.as_slice()), count);
-        set_word(bytes, word);
+        set_front(bytes, word);
     } else {
         keep_some(bytes, len, count);
     }
 }
 
 #[inline(never)]
-fn keep_some(bytes: &mut SmallVec<u8, 8>, len: usize, count: usize)
+fn keep_some(bytes: &mut Bytes, len: usize, count: usize)
     requires padded { IsPadded bytes.old.items len }
     requires many { 16 < len }
     requires in_range { count ≤ len }
@@ -235,7 +230,7 @@ fn keep_some(bytes: &mut SmallVec<u8, 8>, len: usize, count: usize)
 }
 
 #[inline]
-pub(super) fn cut_digits(bytes: &mut SmallVec<u8, 8>, len: usize, count: usize)
+pub(super) fn cut_digits(bytes: &mut Bytes, len: usize, count: usize)
     requires padded { IsPadded bytes.old.items len }
     requires in_range { count ≤ len }
     ensures encodes { EncodesPadded bytes.new.items (len - count) (drop count (digits_in bytes.old.items len)) }
@@ -243,7 +238,7 @@ pub(super) fn cut_digits(bytes: &mut SmallVec<u8, 8>, len: usize, count: usize)
 {
     if len <= 16 {
         let word = cut_nibbles(front_word(bytes.as_slice()), count);
-        set_word(bytes, word);
+        set_front(bytes, word);
     } else if len - count < 16 {
         cut_to_word(bytes, len, count);
     } else {
@@ -252,7 +247,7 @@ pub(super) fn cut_digits(bytes: &mut SmallVec<u8, 8>, len: usize, count: usize)
 }
 
 #[inline(never)]
-fn cut_to_word(bytes: &mut SmallVec<u8, 8>, len: usize, count: usize)
+fn cut_to_word(bytes: &mut Bytes, len: usize, count: usize)
     requires padded { IsPadded bytes.old.items len }
     requires many { 16 < len }
     requires in_range { count ≤ len }
@@ -269,9 +264,8 @@ fn cut_to_word(bytes: &mut SmallVec<u8, 8>, len: usize, count: usize)
     bytes.truncate(8);
 }
 
-/// Removes the first `count` digits, byte by byte.
 #[inline]
-fn cut_bytes(bytes: &mut SmallVec<u8, 8>, len: usize, count: usize)
+fn cut_bytes(bytes: &mut Bytes, len: usize, count: usize)
     requires padded { IsPadded bytes.old.items len }
     requires in_range { count ≤ len }
     ensures encodes { Encodes bytes.new.items (len - count) (drop count (digits_in bytes.old.items len)) }
@@ -284,13 +278,7 @@ fn cut_bytes(bytes: &mut SmallVec<u8, 8>, len: usize, count: usize)
 }
 
 #[inline]
-pub(super) fn append_word(
-    bytes: &mut SmallVec<u8, 8>,
-    len: usize,
-    start: usize,
-    other: &[u8],
-    count: usize,
-)
+pub(super) fn append_word(bytes: &mut Bytes, len: usize, start: usize, other: &[u8], count: usize)
     requires padded { IsPadded bytes.old.items len }
     requires other_padded { IsPadded other.now count }
     requires after { len ≤ start }
@@ -300,10 +288,10 @@ pub(super) fn append_word(
     ensures capacity { bytes.new.capacity ≡ bytes.old.capacity }
 {
     let word = join_nibbles(front_word(bytes.as_slice()), start, front_word(other));
-    set_word(bytes, word);
+    set_front(bytes, word);
 }
 
-pub(super) fn append_zeros(bytes: &mut SmallVec<u8, 8>, len: usize, count: usize)
+pub(super) fn append_zeros(bytes: &mut Bytes, len: usize, count: usize)
     requires packed { IsPacked bytes.old.items len }
     requires has_room { len + count ≤ 2 * bytes.old.capacity }
     requires fits { len + count < 2 ^ 64 }
@@ -314,7 +302,7 @@ pub(super) fn append_zeros(bytes: &mut SmallVec<u8, 8>, len: usize, count: usize
     push_zeros(bytes, byte_count(len + count) - old_len);
 }
 
-pub(super) fn append_digits(bytes: &mut SmallVec<u8, 8>, len: usize, other: &[u8], count: usize)
+pub(super) fn append_digits(bytes: &mut Bytes, len: usize, other: &[u8], count: usize)
     requires packed { IsPacked bytes.old.items len }
     requires other_packed { IsPacked other.now count }
     requires has_room { len + count ≤ 2 * bytes.old.capacity }

@@ -3,9 +3,11 @@
 
 ghost use Rattle.std.specs.Prelude.{◌≡◌, ℕ, ◌+◌, ◌*◌, ◌/◌, ◌%◌, ◌-◌, ◌^◌, ◌<◌, ◌≤◌, [], ◌∷◌, ◌++◌, length, map, take, drop, replicate, slice_index, slice_set, All};
 ghost use Rattle.smallvec.specs.SmallVec.{small_vec_len, HasRoomFor};
-ghost use Rattle.decimal_digits.specs.Nibbles.{nibbles};
+ghost use Rattle.decimal_digits.specs.Nibbles.{digits_in, nibbles, IsPacked};
 
 use smallvec::SmallVec;
+
+pub(super) type Bytes = SmallVec<u8, 8>;
 
 #[inline]
 pub(super) fn byte_count(digits: usize) -> usize
@@ -15,15 +17,28 @@ pub(super) fn byte_count(digits: usize) -> usize
 }
 
 #[inline]
-pub(crate) fn nibble_at(bytes: &[u8], index: usize) -> u8
+pub(super) fn nibble_at(bytes: &[u8], index: usize) -> u8
     requires { index < length (nibbles bytes.now) }
     ensures { result ≡ slice_index (nibbles bytes.now) index }
 {
     (bytes[index / 2] >> (4 - 4 * (index % 2))) % 16
 }
 
+pub(crate) fn unpack(bytes: &[u8], len: usize) -> [u8; 32]
+    requires few { length bytes.now ≤ 16 }
+    requires packed { IsPacked (take ((len + 1) / 2) bytes.now) len }
+    ensures digits { take len result ≡ digits_in (take ((len + 1) / 2) bytes.now) len }
+    ensures at_most { len ≤ 32 }
+{
+    let mut unpacked = [0; 32];
+    for index in 0..len {
+        unpacked[index] = nibble_at(bytes, index);
+    }
+    unpacked
+}
+
 #[inline]
-pub(super) fn set_nibble(bytes: &mut SmallVec<u8, 8>, index: usize, nibble: u8)
+pub(super) fn set_nibble(bytes: &mut Bytes, index: usize, nibble: u8)
     requires in_range { index < length (nibbles bytes.old.items) }
     requires is_nibble { nibble < 16 }
     ensures written { nibbles bytes.new.items ≡ slice_set (nibbles bytes.old.items) index nibble }
@@ -38,9 +53,7 @@ pub(super) fn set_nibble(bytes: &mut SmallVec<u8, 8>, index: usize, nibble: u8)
     }
 }
 
-/// Writes the low nibbles of `digits` over bytes, two to a byte, and 0 into a nibble that is left over.
-///
-/// The low nibble of a digit is the digit, and so is that of its ASCII code.
+// The low nibble of a digit is the digit, and so is that of its ASCII code.
 pub(super) fn pack(bytes: &mut [u8], digits: &[u8])
     requires { length bytes.old ≡ (length digits.now + 1) / 2 }
     ensures { nibbles bytes.new ≡ map (λ d. d % 16) digits.now ++ replicate (length digits.now % 2) 0 }
@@ -56,7 +69,7 @@ pub(super) fn pack(bytes: &mut [u8], digits: &[u8])
     }
 }
 
-pub(super) fn append_pairs(bytes: &mut SmallVec<u8, 8>, digits: &[u8])
+pub(super) fn append_pairs(bytes: &mut Bytes, digits: &[u8])
     requires { (length digits.now + 1) / 2 ≤ bytes.old.capacity - small_vec_len bytes.old }
     ensures appended { nibbles bytes.new.items
         ≡ nibbles bytes.old.items ++ (map (λ d. d % 16) digits.now ++ replicate (length digits.now % 2) 0) }
@@ -99,7 +112,7 @@ fn remove_low_nibble(bytes: &mut [u8], at: usize, last: u8)
 
 static ZEROS: [u8; 64] = [0; 64];
 
-pub(super) fn push_zeros(bytes: &mut SmallVec<u8, 8>, count: usize)
+pub(super) fn push_zeros(bytes: &mut Bytes, count: usize)
     requires { HasRoomFor bytes.old count }
     ensures items { bytes.new.items ≡ bytes.old.items ++ replicate count 0 }
     ensures capacity { bytes.old.capacity ≤ bytes.new.capacity }
@@ -113,7 +126,7 @@ pub(super) fn push_zeros(bytes: &mut SmallVec<u8, 8>, count: usize)
     bytes.extend_from_slice(&ZEROS[..count % 64]).unwrap();
 }
 
-pub(super) fn drop_bytes(bytes: &mut SmallVec<u8, 8>, count: usize, left: usize)
+pub(super) fn drop_bytes(bytes: &mut Bytes, count: usize, left: usize)
     requires { count + left ≤ small_vec_len bytes.old }
     ensures items { bytes.new.items ≡ drop count (take (count + left) bytes.old.items) }
     ensures capacity { bytes.new.capacity ≡ bytes.old.capacity }
@@ -122,9 +135,7 @@ pub(super) fn drop_bytes(bytes: &mut SmallVec<u8, 8>, count: usize, left: usize)
     bytes.truncate(left);
 }
 
-/// Appends the first `count` nibbles of `more` after the high nibble of the last byte, and 0 in a nibble that is left
-/// over.
-pub(super) fn append_nibbles(bytes: &mut SmallVec<u8, 8>, more: &[u8], count: usize)
+pub(super) fn append_nibbles(bytes: &mut Bytes, more: &[u8], count: usize)
     requires some { 0 < small_vec_len bytes.old }
     requires has_room { HasRoomFor bytes.old (count / 2) }
     requires in_range { count ≤ 2 * length more.now }

@@ -82,11 +82,9 @@ pub(super) fn count_equal_nibbles(word: u64, count: usize, nibble: u8) -> usize
     ((others.trailing_zeros() / 4) as usize).min(count)
 }
 
-/// Returns the word of the low nibbles of up to sixteen digits, with zeros after them.
-///
-/// The low nibble of a digit is the digit, and so is that of its ASCII code.
+// The low nibble of a digit is the digit, and so is that of its ASCII code.
 #[inline]
-pub(super) fn pack_word(digits: &[u8]) -> u64
+pub(crate) fn pack_word(digits: &[u8]) -> u64
     requires { length digits.now ≤ 16 }
     ensures { word_nibbles result
         ≡ map (λ d. d % 16) digits.now ++ replicate (16 - length digits.now) 0 }

@@ -3,7 +3,7 @@ use Rattle.std.specs.Prelude.{Some, None}
 use Rattle.plural_rules.specs.RulesReader.{after, at_end, seen_after}
 use Rattle.plural_rules.specs.RulesBuilder.{partial}
 use Rattle.plural_rules.proofs.RulesRun.{finished, reached_strictly}
-use Rattle.plural_rules.proofs.BuilderInvariant.{transition_exists, continues, ends, small}
+use Rattle.plural_rules.proofs.ParserInvariants.{transition_exists, continues, ends, small}
 use Rattle.plural_rules.proofs.parse.build.Goals as goal
 
 pub unreachable-requires : goal.unreachable-requires

@@ -1,5 +1,5 @@
 use Rattle.plural_rules.proofs.ViablePrefixes.{stopped_text, unended_text}
-use Rattle.plural_rules.proofs.CheckInvariant.{checked_first, checked_more, checked_whole}
+use Rattle.plural_rules.proofs.ParserInvariants.{checked_first, checked_more, checked_whole}
 use Rattle.plural_rules.proofs.parse.check.Goals as goal
 
 pub loop-at-init : goal.loop-at-init

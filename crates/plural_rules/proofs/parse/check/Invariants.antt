@@ -1,4 +1,4 @@
-use Rattle.plural_rules.proofs.CheckInvariant.{Checked}
+use Rattle.plural_rules.proofs.ParserInvariants.{Checked}
 use Rattle.plural_rules.proofs.parse.check.Given as goal
 
 -- the state, the categories and the numbers are those after the bytes so far

@@ -12,31 +12,31 @@ returns-then-eq-clause-value g c = exact_stays c.args.mode c.args.remainder _ _ 
 pub returns-then-not-rounds_up-clause-value : goal.returns-then-not-rounds_up-clause-value
 returns-then-not-rounds_up-clause-value g c =
     let value = rw c.last_of-last.ensures.reads.0 at c.keep_leading.ensures.value in
-    one_by c.args.mode c.args.remainder _ _ _ false c.last_of-last.ensures.odd c.if-not-rounds_up.ensures
+    one_by c.args.mode c.args.remainder _ _ _ _ false c.last_of-last.ensures.value c.if-not-rounds_up.ensures
     (omega (arith, value))
 
 pub returns-then-keep-eq0-clause-value : goal.returns-then-keep-eq0-clause-value
 returns-then-keep-eq0-clause-value g c =
     IfSome_then c.carry_out.result (rw c.last_of-last.ensures.reads.0 at c.carry_out.ensures.value) (λ places value.
-    one_by c.args.mode c.args.remainder _ _ _ true c.last_of-last.ensures.odd c.if-not-rounds_up.ensures value)
+    one_by c.args.mode c.args.remainder _ _ _ _ true c.last_of-last.ensures.value c.if-not-rounds_up.ensures value)
 
 pub returns-then-keep-eq0-clause-up : goal.returns-then-keep-eq0-clause-up
 returns-then-keep-eq0-clause-up g c =
     if_none c.carry_out.result _
-    (one_by c.args.mode c.args.remainder _ _ _ true c.last_of-last.ensures.odd c.if-not-rounds_up.ensures refl)
+    (one_by c.args.mode c.args.remainder _ _ _ _ true c.last_of-last.ensures.value c.if-not-rounds_up.ensures refl)
 
 pub returns-then-last-eq9-clause-value : goal.returns-then-last-eq9-clause-value
 returns-then-last-eq9-clause-value g c =
     IfSome_then c.add_one.result (rw c.last_of-last.ensures.reads.0 at c.add_one.ensures.value) (λ places value.
-    one_by c.args.mode c.args.remainder _ _ _ true c.last_of-last.ensures.odd c.if-not-rounds_up.ensures value)
+    one_by c.args.mode c.args.remainder _ _ _ _ true c.last_of-last.ensures.value c.if-not-rounds_up.ensures value)
 
 pub returns-then-last-eq9-clause-up : goal.returns-then-last-eq9-clause-up
 returns-then-last-eq9-clause-up g c =
     if_none c.add_one.result _
-    (one_by c.args.mode c.args.remainder _ _ _ true c.last_of-last.ensures.odd c.if-not-rounds_up.ensures refl)
+    (one_by c.args.mode c.args.remainder _ _ _ _ true c.last_of-last.ensures.value c.if-not-rounds_up.ensures refl)
 
 pub returns-clause-value : goal.returns-clause-value
 returns-clause-value g c =
-    one_by c.args.mode c.args.remainder _ _ _ true c.last_of-last.ensures.odd c.if-not-rounds_up.ensures
+    one_by c.args.mode c.args.remainder _ _ _ _ true c.last_of-last.ensures.value c.if-not-rounds_up.ensures
     (leading_raised c.args.keep (c.args.keep - 1) _ _ (omega arith) (λ i h. grind (arith, nibble_rules))
     (grind (arith, nibble_rules)) (λ i h l. absurd (omega arith)) (λ i h l. absurd (omega arith)))

@@ -5,7 +5,7 @@ use Rattle.plural_rules.proofs.operands.PluralOperands.fraction.Goals as goal
 
 pub new-requires : goal.new-requires
 new-requires g c =
-    let below = narrow_kept c.first_fraction_magnitude.type_inv ∙ c.first_fraction_magnitude.ensures in
+    let below = narrow_kept c.first_fraction_magnitude-first.type_inv ∙ c.first_fraction_magnitude-first.ensures in
     let found =
     fraction_of c.args.self.now c.self.inside.value.now _ c.self.inside.exponent c.v.result c.self.view_is below
     (omega arith) c.v.ensures.value c.v.ensures.at_most in
@@ -13,7 +13,7 @@ new-requires g c =
 
 pub returns : goal.returns
 returns g c =
-    let below = narrow_kept c.first_fraction_magnitude.type_inv ∙ c.first_fraction_magnitude.ensures in
+    let below = narrow_kept c.first_fraction_magnitude-first.type_inv ∙ c.first_fraction_magnitude-first.ensures in
     let found =
     fraction_of c.args.self.now c.self.inside.value.now _ c.self.inside.exponent c.v.result c.self.view_is below
     (omega arith) c.v.ensures.value c.v.ensures.at_most in

@@ -5,7 +5,7 @@ use Rattle.plural_rules.proofs.operands.PluralOperands.trimmed_fraction.Goals as
 
 pub new-requires : goal.new-requires
 new-requires g c =
-    let below = narrow_kept c.first_fraction_magnitude.type_inv ∙ c.first_fraction_magnitude.ensures in
+    let below = narrow_kept c.first_fraction_magnitude-first.type_inv ∙ c.first_fraction_magnitude-first.ensures in
     let found =
     needed_of c.args.self.now c.self.inside.value.now _ c.self.inside.exponent c.w.result c.self.view_is below
     (omega arith) c.w.ensures.value c.w.ensures.at_most in
@@ -13,7 +13,7 @@ new-requires g c =
 
 pub returns : goal.returns
 returns g c =
-    let below = narrow_kept c.first_fraction_magnitude.type_inv ∙ c.first_fraction_magnitude.ensures in
+    let below = narrow_kept c.first_fraction_magnitude-first.type_inv ∙ c.first_fraction_magnitude-first.ensures in
     let found =
     needed_of c.args.self.now c.self.inside.value.now _ c.self.inside.exponent c.w.result c.self.view_is below
     (omega arith) c.w.ensures.value c.w.ensures.at_most in

@@ -2,4 +2,4 @@ use Rattle.decimal_digits.proofs.Packing.{no_digits}
 use Rattle.decimal_digits.proofs.digits.packed.PackedDigitsDigitStore.empty.Goals as goal
 
 pub invariant_of-result-clause-padded : goal.invariant_of-result-clause-padded
-invariant_of-result-clause-padded c = rw c.from_buf.ensures.items no_digits
+invariant_of-result-clause-padded c = rw c.from_buf-bytes.ensures.items no_digits

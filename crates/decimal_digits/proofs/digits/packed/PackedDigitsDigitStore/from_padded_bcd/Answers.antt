@@ -4,10 +4,10 @@ use Rattle.decimal_digits.proofs.digits.packed.PackedDigitsDigitStore.from_padde
 
 pub invariant_of-result-clause-padded : goal.invariant_of-result-clause-padded
 invariant_of-result-clause-padded c =
-    rw (c.from_buf.ensures.items ∙ c.to_be_bytes.ensures)
+    rw (c.from_buf-bytes.ensures.items ∙ c.to_be_bytes.ensures)
     (leading_pads c.args.number c.args.len c.requires.packed c.requires.padded).padded
 
 pub returns-clause-ok : goal.returns-clause-ok
 returns-clause-ok c =
-    rw (c.from_buf.ensures.items ∙ c.to_be_bytes.ensures)
+    rw (c.from_buf-bytes.ensures.items ∙ c.to_be_bytes.ensures)
     (leading_pads c.args.number c.args.len c.requires.packed c.requires.padded).digits

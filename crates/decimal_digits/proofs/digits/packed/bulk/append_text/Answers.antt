@@ -9,7 +9,7 @@ join_nibbles-word-requires-clause-zeros c =
 
 pub returns-then-text-len-clause-encodes : goal.returns-then-text-len-clause-encodes
 returns-then-text-len-clause-encodes c =
-    rw c.set_word.ensures.items
+    rw (c.set_front.ensures.items (omega (arith, c.requires.padded.count)))
     (join_text c.args.bytes.now.items c.args.len c.front_word.result c.pack_word.result c.join_nibbles-word.result
     c.args.text.now c.requires.padded (omega arith) c.requires.are_digits
     (rw c.as_slice.ensures at c.front_word.ensures) c.pack_word.ensures c.join_nibbles-word.ensures)

@@ -12,7 +12,7 @@ pub returns-clause-encodes : goal.returns-clause-encodes
 returns-clause-encodes c =
     let q = c.requires.other_padded in
     let size = length_digits c.args.other.now c.args.count q in
-    rw c.set_word.ensures.items
+    rw (c.set_front.ensures.items (omega (arith, c.requires.padded.count)))
     (rw size at (join_pads c.args.bytes.now.items c.args.len c.args.start c.front_word.result c.front_word-2.result
     c.join_nibbles-word.result _ c.requires.padded c.requires.after (omega (arith, c.requires.few, size)) q.decimal
     (rw c.as_slice.ensures at c.front_word.ensures)

@@ -1,23 +1,20 @@
-use Rattle.std.proofs.Common.{rules, ◌-◌, length, arith}
-use Rattle.std.proofs.lemmas.List.{take_rest, length-take}
-use Rattle.decimal_digits.proofs.Overlaps.{by_rest}
+use Rattle.std.proofs.Common.{◌++◌, sym, ◌∙◌, rules, arith}
+use Rattle.std.proofs.Math.Seq.{take-add}
+use Rattle.std.proofs.lemmas.List.{take_rest}
+use Rattle.decimal_digits.proofs.Overlaps.{by_ends}
 use Rattle.decimal_digits.proofs.digits.packed.bytes.are_equal.Goals as goal
 
-pub slice_bounds-equal_in_four_words-end : goal.slice_bounds-equal_in_four_words-end
-slice_bounds-equal_in_four_words-end c = omega (arith, length-take 32 c.args.left.now)
+pub loop-start-preserved : goal.loop-start-preserved
+loop-start-preserved c =
+    let i = c.loop-start.start in
+    let next = simp take_rest at (c.have_equal_fronts.ensures.0 (search rules)) in
+    record {
+      same = take-add i 8 c.args.left.now ∙ (λ j. c.loop-start.invariant.same j ++ next j)
+          ∙ sym (take-add i 8 c.args.right.now);
+      end = c.loop-start.invariant.end;
+    }
 
-pub slice_bounds-equal_in_four_words-end-2 : goal.slice_bounds-equal_in_four_words-end-2
-slice_bounds-equal_in_four_words-end-2 c = omega (arith, length-take 32 c.args.right.now)
-
-pub equal_in_four_words-requires-2-clause-few : goal.equal_in_four_words-requires-2-clause-few
-equal_in_four_words-requires-2-clause-few c = omega (arith, length-take 32 c.args.left.now)
-
-pub equal_in_four_words-requires-2-clause-same_length : goal.equal_in_four_words-requires-2-clause-same_length
-equal_in_four_words-requires-2-clause-same_length c =
-    omega (arith, length-take 32 c.args.left.now, length-take 32 c.args.right.now)
-
-pub returns-then-equal_in_four_words : goal.returns-then-equal_in_four_words
-returns-then-equal_in_four_words c =
-    by_rest _ 32 (length c.args.left.now - 32) c.args.left.now c.args.right.now (omega arith)
-    (c.if-equal_in_four_words.ensures.0 (search rules))
-    (simp take_rest at c.equal_in_four_words-then-equal_in_four_words.ensures)
+pub returns : goal.returns
+returns c =
+    by_ends _ c.loop-start.start 8 c.args.left.now c.args.right.now c.requires.same_length c.requires.enough
+    (omega arith) c.loop-start.invariant.same (simp take_rest at c.have_equal_fronts-2.ensures)

@@ -1,8 +1,9 @@
-use Rattle.std.proofs.Common.{◌≡◌, ◌+◌, ◌-◌, ◌*◌, ◌/◌, ◌<◌, length, drop, get_or, sym, ◌∙◌, ap, arith}
-use Rattle.std.proofs.lemmas.List.{length-drop, drop_all, take_rest, get_or-drop, get_or-take}
+use Rattle.std.proofs.Common.{◌≡◌, ◌+◌, ◌*◌, ◌/◌, drop, get_or, sym, ◌∙◌, ap, arith}
+use Rattle.std.proofs.lemmas.List.{drop_all, take_rest, get_or-drop, get_or-take}
 use Rattle.decimal_digits.specs.Nibbles.{bcd_number, digits_in, nibbles, padded}
-use Rattle.decimal_digits.specs.Packing.{length_digits}
-use Rattle.decimal_digits.proofs.Packing.{digit_at, rest_at}
+use Rattle.decimal_digits.specs.Packing.{length_digits, padding}
+use Rattle.decimal_digits.proofs.Nibbles.{nibble_rules}
+use Rattle.decimal_digits.proofs.Packing.{digit_at}
 use Rattle.decimal_digits.proofs.Words.{bcd_of_word, front_at, nibbles_drop}
 use Rattle.decimal_digits.proofs.digits.packed.bytes.word_at.Goals as goal
 
@@ -20,19 +21,11 @@ returns-then-len-start c =
 
 pub returns-then-rest-lt8 : goal.returns-then-rest-lt8
 returns-then-rest-lt8 c =
-    let bs = c.args.bytes.now in
-    let len = c.args.len in
-    let start = c.args.start in
     let p = c.requires.padded in
-    let rest = c.if-rest-lt8.true in
-    let size : length (drop (start / 2) bs) ≡ length bs - start / 2 = length-drop (start / 2) bs in
-    let short : length (drop (start / 2) bs) < 8 = rw take_rest at rest in
     let word = rw take_rest at c.end_word.ensures in
-    let at : 2 * (length bs - length (drop (start / 2) bs)) ≡ start = omega (arith, p.count, c.requires.block) in
-    bcd_of_word c.end_word.result (drop start (digits_in bs len)) c.end_word.type_inv (λ k h.
-    ap (λ l. get_or l k 0) word
-    ∙ rest_at (nibbles bs) _ _ k (start + k) (ap (λ j. j + k) at)
-    ∙ sym (get_or-drop start (digits_in bs len) k 0 ∙ digit_at bs len p (start + k)))
+    bcd_of_word c.end_word.result (drop c.args.start (digits_in c.args.bytes.now c.args.len)) c.end_word.type_inv
+    (λ k h.
+    grind (arith, ap (λ l. get_or l k 0) word, digit_at _ _ p (c.args.start + k), p.count, padding, nibble_rules))
 
 pub returns : goal.returns
 returns c =

@@ -1,26 +1,24 @@
-use Rattle.std.proofs.Common.{◌≡◌, ℕ, ◌+◌, ◌-◌, ◌*◌, ◌<◌, ◌++◌, length, drop, get_or, replicate, ◌∙◌, ap, arith}
-use Rattle.std.proofs.lemmas.List.{drop-drop, get_or-drop, length-drop}
+use Rattle.std.proofs.Common.{◌≡◌, ◌+◌, ◌-◌, ◌*◌, ◌++◌, length, drop, replicate, ◌∙◌, ap, arith}
+use Rattle.std.proofs.lemmas.List.{drop-drop, get_or-drop}
 use Rattle.decimal_digits.specs.Nibbles.{nibbles}
+use Rattle.decimal_digits.proofs.Nibbles.{nibble_rules}
 use Rattle.decimal_digits.proofs.Words.{word_of_bytes, nibbles_drop}
 use Rattle.decimal_digits.proofs.digits.packed.words.end_word.Goals as goal
 
 pub returns-in-Some : goal.returns-in-Some
 returns-in-Some c =
     let bs = c.args.bytes.now in
-    let end = c.in-Some.end.now in
     let n = length bs - 8 in
-    let last : end ≡ drop n bs = c.in-Some.ensures.cases.1.same in
-    let small : (i : ℕ) → get_or end i 0 < 256 = λ i.
-    rw (last, get_or-drop) (c.type_inv.bytes (n + i)).fits in
-    let eight : length end ≡ 8 = omega (arith, ap length last, length-drop n bs, c.requires.enough) in
+    let last : c.in-Some.end.now ≡ drop n bs = c.in-Some.ensures.cases.1.same in
     let word =
-    word_of_bytes end c.from_be_bytes.result eight small c.from_be_bytes.ensures
+    word_of_bytes c.in-Some.end.now c.from_be_bytes.result (grind (arith, nibble_rules, ap length last))
+    (λ i. rw (last, get_or-drop) (c.type_inv.bytes (n + i)).fits) c.from_be_bytes.ensures
     ∙ ap nibbles last ∙ nibbles_drop n bs in
     let k = 16 - 2 * c.args.count in
-    let at : 2 * n + k ≡ 2 * (length bs - c.args.count) = omega (arith, c.requires.enough, c.requires.few) in
+    let at : 2 * n + k ≡ 2 * (length bs - c.args.count) = omega arith in
     c.cut_nibbles.ensures
     ∙ ap (λ l. drop k l ++ replicate k 0) word
     ∙ ap (λ l. l ++ replicate k 0) (drop-drop k (2 * n) (nibbles bs) ∙ ap (λ j. drop j (nibbles bs)) at)
 
 pub returns-in-None : goal.returns-in-None
-returns-in-None c = absurd (omega (arith, c.in-None.ensures.cases, c.requires.enough))
+returns-in-None c = absurd (omega (arith, c.in-None.ensures.cases))

@@ -1,23 +1,26 @@
--- What `check` knows of a text after each byte.
+-- What the loops of `check` and of `build` know of a text after each byte.
 use Rattle.std.proofs.Common.{◌≡◌, ℕ, ◌+◌, ◌-◌, ◌*◌, ◌<◌, ◌≤◌, nat_le, Bool, true, false, not, cond, List, length, take, drop, get_or, refl, sym, ◌∙◌, ap, arith}
 use Rattle.std.specs.Prelude.{Some, None}
 use Rattle.std.specs.Char.{is_ascii_digit}
 use Rattle.std.proofs.lemmas.Bool.{and_parts, false≢true}
 use Rattle.std.proofs.lemmas.List.{take_all, take-append-drop}
 use Rattle.plural_rules.specs.declared.parse.state.State.{State}
-use Rattle.plural_rules.specs.declared.parse.state.State.TheVariants as state
 use Rattle.plural_rules.specs.declared.parse.state.Event.{Event}
-use Rattle.plural_rules.specs.declared.parse.state.Event.TheVariants as event
 use Rattle.plural_rules.specs.declared.parse.state.Categories.{Categories}
 use Rattle.plural_rules.specs.declared.parse.numbers.Numbers.{Numbers}
 use Rattle.plural_rules.specs.declared.parse.numbers.Numbers.TheVariants.{Fit, TooLarge}
 use Rattle.plural_rules.specs.RulesGrammar.{Grammar}
 use Rattle.plural_rules.specs.RulesReader.{no_categories, no_rules, Partial, after, seen_after, next, at_end, limit, checked_number, numbers_after, AreNumbersOf}
-use Rattle.plural_rules.specs.RulesParseResult.{IsFittingPrefix, AreDigits, HasNoDigitBefore}
-use Rattle.plural_rules.proofs.Transitions.{is_open, starts_number, is_digits, is_valid, transition_is_valid}
-use Rattle.plural_rules.proofs.RulesRun.{allowed, any_allowed, run, finish, finished, read, run_more, read_fits}
+use Rattle.plural_rules.specs.RulesParseResult.{IsFittingPrefix, AreDigits, HasNoDigitBefore, Fits}
+use Rattle.plural_rules.proofs.RulesRun.{is_open, starts_number, is_digits, is_valid, transition_is_valid, allowed, any_allowed, run, finish, finished, read, run_more, read_fits, FitsSoFar}
 use Rattle.plural_rules.proofs.ParserSound.{read-sound}
 use Rattle.plural_rules.proofs.ViablePrefixes.{can_fit, stopped}
+use Rattle.plural_rules.specs.declared.parse.builder.Builder.{Builder}
+use Rattle.plural_rules.specs.Rules.{RuleValue}
+use Rattle.plural_rules.specs.RulesBuilder.{partial, IsSmall}
+use Rattle.plural_rules.proofs.ParserComplete.{read-complete}
+use Rattle.plural_rules.specs.declared.parse.state.State.TheVariants as state
+use Rattle.plural_rules.specs.declared.parse.state.Event.TheVariants as event
 
 -- a number starts at `begin`, where the text before it is a prefix of rules that fit, and its digits reach to `end`
 pub record Begun (text : List ℕ) (begin end : ℕ) : Type 0 where
@@ -189,3 +192,36 @@ checked_whole {text} {i} {s} {seen} {numbers} e least h end = go numbers h.numbe
           digits = (begun.some, f.2, begun.digits);
           not_viable = f.3;
         }
+
+-- ---- Rules that fit are built byte by byte: the reader does not stop at any byte, and every number is small.
+
+module _ (i : ℕ) {text : List ℕ} {rules : List RuleValue} (grammar : Grammar text rules) (fits : Fits rules)
+    {s : State} {p : Partial} (runs : run true state.Category no_rules (take i text) ≡ Some (s, p)) where
+  never_stops : run true state.Category no_rules (take (i + 1) text) ≡ None → ⊥
+  never_stops none =
+      stopped true (take (i + 1) text) (drop (i + 1) text) rules none (rw (take-append-drop (i + 1) text) grammar)
+      (λ e. fits)
+
+  pub transition_exists : i < length text → next p.seen s (get_or text i 0) ≡ None → ⊥
+  transition_exists less none = never_stops (run_more true text i s p less runs none)
+
+  pub continues : (s2 : State) (e : Event) → i < length text → next p.seen s (get_or text i 0) ≡ Some (s2, e)
+      → (allowed true e p ≡ true) × (run true state.Category no_rules (take (i + 1) text) ≡ Some (s2, after e p))
+  continues s2 e less to = go (allowed true e p) refl (run_more true text i s p less runs to)
+    where
+      go : (b : Bool) → allowed true e p ≡ b
+          → run true state.Category no_rules (take (i + 1) text) ≡ cond b (Some (s2, after e p)) None
+          → (allowed true e p ≡ true)
+          × (run true state.Category no_rules (take (i + 1) text) ≡ Some (s2, after e p))
+      go true is more = (is, more)
+      go false is more = absurd (never_stops more)
+
+  pub ends : length text ≤ i → finished (at_end s) p ≡ Some rules
+  ends least =
+      sym (ap finish (ap (run true state.Category no_rules) (sym (take_all i text least)) ∙ runs))
+      ∙ read-complete true grammar (λ e. fits)
+
+-- the number after an allowed event is small
+pub small : (e : Event) (seen : Categories) (b : Builder) → FitsSoFar (partial seen b)
+    → allowed true e (partial seen b) ≡ true → IsSmall e b
+small e seen b f a = grind (arith, f, a)
