@@ -1,5 +1,5 @@
 -- Digits, zeros and then more digits.
-use Rattle.decimal_unsigned.proofs.Common.{◌≡◌, ℕ, ◌+◌, ◌-◌, ◌*◌, ◌^◌, ◌<◌, ◌≤◌, zero, suc, false, List, [], ◌∷◌, ◌++◌, length, replicate, refl, sym, ◌∙◌, ap, arith, ℤ, pos, negsuc, ◌+ℤ◌, ◌-ℤ◌, ◌≤ℤ◌, ◌<ℤ◌, int_max, int_min, ints, clamps, pow-add, nat_tests, length-append, number_from_digits, AllBelowBase, offset, first, last, offset_is, gap_is, IsStored, Unsigned, length-replicate, common_steps}
+use Rattle.decimal_unsigned.proofs.Common.{◌≡◌, ℕ, ◌+◌, ◌-◌, ◌*◌, ◌^◌, ◌<◌, ◌≤◌, zero, suc, false, List, [], ◌∷◌, ◌++◌, length, replicate, refl, sym, ◌∙◌, ap, arith, ℤ, pos, negsuc, ◌+ℤ◌, ◌-ℤ◌, ◌≤ℤ◌, ◌<ℤ◌, int_max, int_min, ints, clamps, pow-add, nat_tests, length-append, number_from_digits, AllBelowBase, offset, first, last, offset_is, gap_is, IsStored, Unsigned, length-replicate, steps}
 use Rattle.std.proofs.lemmas.List.{get_or_append_left, get_or-append_right}
 use Rattle.decimal_digits.specs.Digits.{number_of, number_at}
 use Rattle.decimal_digits.proofs.DigitLists.{number-append, number_after}
@@ -40,13 +40,13 @@ below-append (x ∷ xs) ys h k = (h.0, below-append xs ys h.1 k)
 
 module _ (ds es : List ℕ) (zeros : ℕ) where
   length-joined : length ((ds ++ replicate zeros 0) ++ es) ≡ length ds + zeros + length es
-  length-joined = grind (arith, ints, clamps, nat_tests, common_steps, length-append, length-replicate)
+  length-joined = grind (steps, length-append, length-replicate)
 
   -- the number that the first digits write is multiplied by a power of ten, by the length of the rest
   number-joined : number_from_digits 10 ((ds ++ replicate zeros 0) ++ es)
       ≡ number_from_digits 10 ds * 10 ^ (zeros + length es) + number_from_digits 10 es
   number-joined =
-      grind (arith, ints, clamps, nat_tests, common_steps, number-append, number-zeros, length-replicate, pow-add)
+      grind (steps, number-append, number-zeros, length-replicate, pow-add)
 
 -- the second digits begin k + 1 places below the last of the first, with k zeros between
 module _ {ds es : List ℕ} {m hi lo n hi' lo' : ℤ} (t : IsStored ds m hi lo) (u : IsStored es n hi' lo') (k : ℕ)

@@ -1,10 +1,9 @@
 -- An exponent of any length, and the saturated exponent that the code stores.
-use Rattle.decimal_unsigned.proofs.Common.{nat_tests, common_steps, ◌≡◌, ℕ, ◌==◌, true, cond, ◌⊎◌, inl, inr, List, [], ◌∷◌, ◌++◌, refl, sym, ◌∙◌, ap, subst, arith, ℤ, pos, negsuc, ◌<ℤ◌, Option, Some, None, Ok, Err, ints, clamps, cases_lt, AllDigits, Unsigned, Literal, parts_of, is_outside, limit, view, option_map}
+use Rattle.decimal_unsigned.proofs.Common.{◌≡◌, ℕ, ◌==◌, true, cond, ◌⊎◌, inl, inr, List, [], ◌∷◌, ◌++◌, refl, sym, ◌∙◌, ap, subst, arith, ℤ, pos, negsuc, ◌<ℤ◌, Option, Some, None, Ok, Err, ints, clamps, cases_lt, AllDigits, Unsigned, Literal, parts_of, is_outside, limit, view, option_map, steps}
 use Rattle.decimal_unsigned.specs.Reading.{scaled, value_of, value_or_syntax, read, syntax}
-use Rattle.decimal_unsigned.specs.Parts.{saturated, saturated_parts, IsSaturated}
+use Rattle.decimal_unsigned.specs.Parts.{saturated, saturated_parts, IsSaturated, views}
 use Rattle.std.specs.Prelude.{IfSome}
 use Rattle.decimal_unsigned.specs.declared.decimal.parse.parts.Parts.{Parts}
-use Rattle.decimal_unsigned.specs.Parts.{views}
 use Rattle.decimal_unsigned.proofs.GrammarParts.{parts-sound}
 
 scaled_outside : (v : Unsigned) (e : ℤ) → (pos 32767 <ℤ e) ⊎ (e <ℤ negsuc 32767)
@@ -19,7 +18,7 @@ far v e h k = scaled_outside v (saturated e) k ∙ sym (scaled_outside v e h)
 
 scaled_saturated : (v : Unsigned) (o : Option ℤ) → scaled v (option_map saturated o) ≡ scaled v o
 scaled_saturated v None = refl
-scaled_saturated v (Some (pos n)) = grind (arith, ints, clamps, nat_tests, common_steps, cases_lt, far)
+scaled_saturated v (Some (pos n)) = grind (steps, cases_lt, far)
 scaled_saturated v (Some (negsuc n)) = elim (cases_lt 69999 n) [
   | inl h ↦ far v (negsuc n) (inr (omega (arith, ints, h))) (inr (omega (arith, ints, clamps, h)))
   | inr h ↦ ap (λ x. scaled v (Some x)) (let e : saturated (negsuc n) ≡ negsuc n = omega (arith, ints, clamps, h) in e)
@@ -50,7 +49,7 @@ read_none text h = rw (parts_none (parts_of text) h) refl
 pub read_some : (text : List ℕ) (v : Literal) → Some v ≡ option_map saturated_parts (parts_of text)
     → read text ≡ value_of v
 unfolding read value_or_syntax
-read_some text v h = grind (arith, ints, clamps, nat_tests, common_steps, parts_some, parts_of, value_saturated)
+read_some text v h = grind (steps, parts_some, parts_of, value_saturated)
 
 -- the concatenation of two lists of digits is a list of digits
 pub append_digits : (a b : List ℕ) → AllDigits 10 a → AllDigits 10 b → AllDigits 10 (a ++ b)
@@ -69,7 +68,7 @@ digits_some text v h =
 pub saturated_some : (text : List ℕ) (v : Literal) (e : ℤ) → Some v ≡ option_map saturated_parts (parts_of text)
     → v.exponent ≡ Some e
     → IsSaturated e
-saturated_some text v e h k = grind (arith, ints, clamps, nat_tests, common_steps, parts_some, parts_of, Option, ℤ)
+saturated_some text v e h k = grind (steps, parts_some, parts_of, Option, ℤ)
 
 -- ---- the same for the result of the code
 -- if the code finds parts, these are lists of digits
@@ -82,4 +81,4 @@ digits_found text (Some p) h = digits_some text (view p) h
 pub exponent_found : (text : List ℕ) (r : Option Parts) → views r ≡ option_map saturated_parts (parts_of text)
     → IfSome r (λ p. IfSome p.exponent IsSaturated)
 exponent_found text None h = tt
-exponent_found text (Some p) h = grind (arith, ints, clamps, nat_tests, common_steps, saturated_some)
+exponent_found text (Some p) h = grind (steps, saturated_some)

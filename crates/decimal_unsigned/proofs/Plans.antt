@@ -1,5 +1,5 @@
 -- The value of the parts, by the digits that are kept.
-use Rattle.decimal_unsigned.proofs.Common.{common_steps, ◌≡◌, ℕ, ◌+◌, ◌-◌, ◌*◌, ◌^◌, ◌<◌, ◌≤◌, ◌==◌, Bool, true, false, ◌||◌, ◌⊎◌, ◌++◌, length, get_or, refl, sym, ◌∙◌, ap, subst, arith, ℤ, pos, negsuc, ◌+ℤ◌, ◌-ℤ◌, ◌≤ℤ◌, ◌<ℤ◌, int_lt, Option, Some, None, Ok, Err, int_max, int_min, ints, clamps, nat_tests, length-map, length-append, digit_value, AllDigits, digits_value, AllBelowBase, digits_value_is, first, last, Unsigned, number_of, offset_is, IsStored, Literal, limit, multiplied, middle, IsNonzeroRange, mantissa}
+use Rattle.decimal_unsigned.proofs.Common.{◌≡◌, ℕ, ◌+◌, ◌-◌, ◌*◌, ◌^◌, ◌<◌, ◌≤◌, ◌==◌, Bool, true, false, ◌||◌, ◌⊎◌, ◌++◌, length, get_or, refl, sym, ◌∙◌, ap, subst, arith, ℤ, pos, negsuc, ◌+ℤ◌, ◌-ℤ◌, ◌≤ℤ◌, ◌<ℤ◌, int_lt, Option, Some, None, Ok, Err, int_max, int_min, ints, clamps, nat_tests, length-map, length-append, digit_value, AllDigits, digits_value, AllBelowBase, digits_value_is, first, last, Unsigned, number_of, offset_is, IsStored, Literal, limit, multiplied, middle, IsNonzeroRange, mantissa, steps}
 use Rattle.std.specs.Prelude.{if◌then◌else◌}
 use Rattle.std.proofs.lemmas.Int.Digits.{all_below_base_from_digits}
 use Rattle.decimal_unsigned.proofs.Values.{number_of-pos, first-number_of, last-number_of, number_of_empty, stored_as}
@@ -114,7 +114,7 @@ module _ (w : Literal) (digits : AllDigits 10 (w.whole ++ w.fraction)) (few : le
           lo = pos 0 -ℤ pos (length w.fraction);
         }
         ≡ mantissa w.whole w.fraction
-    mantissa_is = grind (arith, ints, clamps, nat_tests, common_steps, number_is)
+    mantissa_is = grind (steps, number_is)
 
     -- ---- no exponent
     -- without an exponent the value has these digits in the written range
@@ -134,7 +134,7 @@ module _ (w : Literal) (digits : AllDigits 10 (w.whole ++ w.fraction)) (few : le
         → (pos 32767 <ℤ (pos (length w.whole - 1) +ℤ e)) ⊎ (((pos 0 -ℤ pos (length w.fraction)) +ℤ e) <ℤ negsuc 32767)
         → value_of w ≡ Err limit
     unfolding scaled
-    limit_scaled e s o = grind (arith, ints, clamps, nat_tests, common_steps, number_pos, out_of_reach, value_scaled)
+    limit_scaled e s o = grind (steps, number_pos, out_of_reach, value_scaled)
 
     -- the value of the digits times a power of ten, by the magnitudes that the exponent moves
     pub makes_scaled : (e top bottom high low m' hi' lo' : ℤ) → w.exponent ≡ Some e → top ≡ m +ℤ e
@@ -184,4 +184,4 @@ module _ (w : Literal) (digits : AllDigits 10 (w.whole ++ w.fraction)) (few : le
 pub is_plan_at : (w : Literal) (start end : ℕ) (m hi lo : ℤ) (b : Bounds) → IsPlan w (plan_at start end m hi lo)
     → b.magnitude ≡ m → b.hi ≡ hi → b.lo ≡ lo
     → IsPlan w (record { start = start; end = end; bounds = b })
-is_plan_at w start end m hi lo b k p q r = grind (arith, ints, clamps, nat_tests, common_steps)
+is_plan_at w start end m hi lo b k p q r = grind steps

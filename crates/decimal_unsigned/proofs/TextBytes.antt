@@ -1,5 +1,5 @@
 -- The text of a value as the bytes of its integer digits, then a decimal point and those of its fraction digits.
-use Rattle.decimal_unsigned.proofs.Common.{clamps, nat_tests, common_steps, elements, ◌≡◌, ℕ, zero, suc, ◌+◌, ◌<◌, ◌≤◌, List, [], ◌∷◌, ◌++◌, length, get_or, take, drop, subst, refl, sym, ◌∙◌, ap, arith, ℤ, pos, negsuc, ◌-ℤ◌, ◌≤ℤ◌, int_gap, ints, get_or-take, get_or-drop, length-take-le, length-drop, digit, Unsigned, text}
+use Rattle.decimal_unsigned.proofs.Common.{elements, ◌≡◌, ℕ, zero, suc, ◌+◌, ◌<◌, ◌≤◌, List, [], ◌∷◌, ◌++◌, length, get_or, take, drop, subst, refl, sym, ◌∙◌, ap, arith, ℤ, pos, negsuc, ◌-ℤ◌, ◌≤ℤ◌, int_gap, ints, get_or-take, get_or-drop, length-take-le, length-drop, digit, Unsigned, text, steps}
 use Rattle.std.specs.Prelude.{EachIndex, slice_index}
 use Rattle.std.specs.Str.{IsAscii}
 use Rattle.std.proofs.lemmas.Str.{IsAscii-append}
@@ -71,7 +71,7 @@ text_below number k (suc n) =
     (ap (λ m. text_down number m n) s ∙ text_below number (suc k) n ∙ ap (λ m. bytes_down number m n) (sym s))
 
 text_dot : (number b : ℕ) → text_down number (negsuc 0) (suc b) ≡ 46 ∷ bytes_down number (negsuc 0) (suc b)
-text_dot number b = grind (arith, ints, clamps, nat_tests, common_steps, text_down-suc, text_below)
+text_dot number b = grind (steps, text_down-suc, text_below)
 
 -- the text after the integer digits of a value of this least magnitude: empty, or a point and the fraction digits
 abbrev pub fraction_text : ℕ → ℤ → List ℕ

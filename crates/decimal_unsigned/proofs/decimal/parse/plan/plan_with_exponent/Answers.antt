@@ -3,8 +3,8 @@ use lib.Signed.{mag}
 use Rattle.std.proofs.Common.{w32}
 use Rattle.decimal_unsigned.proofs.Plans.{length_digits, limit_scaled, makes_scaled}
 use Rattle.decimal_unsigned.proofs.Values.{narrow_kept, wide_kept}
-use Rattle.decimal_unsigned.proofs.decimal.parse.plan.plan_with_exponent.Goals as goal
 use Rattle.decimal_unsigned.proofs.decimal.parse.plan.plan_with_exponent.Goals.{After-subtract_counts-4, then-hi-gt32767-via-then-hi-gt32767, then-hi-gt32767-via-else-hi-gt32767+then-lo-ltminus32768}
+use Rattle.decimal_unsigned.proofs.decimal.parse.plan.plan_with_exponent.Goals as goal
 
 -- ---- The moved magnitudes, as they are read again.
 hi_is : (c : After-subtract_counts-4)

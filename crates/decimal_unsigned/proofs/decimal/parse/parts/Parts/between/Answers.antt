@@ -1,6 +1,6 @@
 use Rattle.decimal_unsigned.proofs.Common.{drop}
 use Rattle.decimal_unsigned.proofs.Middle.{middle_written}
-use Rattle.decimal_unsigned.proofs.Numerals.{digits_take, digits_drop, digits_left, digits_right}
+use Rattle.decimal_unsigned.proofs.GrammarParts.{digits_take, digits_drop, digits_left, digits_right}
 use Rattle.decimal_unsigned.proofs.decimal.parse.parts.Parts.between.Goals as goal
 
 pub returns-clause-whole : goal.returns-clause-whole
