@@ -29,10 +29,9 @@ use Rattle.decimal_unsigned.specs.ScannedDigits.{digits_of, IsBcdValue}
 use Rattle.decimal_unsigned.specs.declared.decimal.parse.fast_path.PlainText.{PlainText}
 use Rattle.decimal_unsigned.specs.declared.decimal.parse.plan.Bounds.{Bounds}
 use Rattle.decimal_unsigned.proofs.Middle.{number_zeros, middle_length, middle_below, number_middle, number_of-middle, stored_middle}
-use Rattle.decimal_unsigned.proofs.Exponents.{read_some, digits_some}
+use Rattle.decimal_unsigned.proofs.Plans.{read_some, digits_some, all_digits, length_digits, value_scaled}
 use Rattle.decimal_unsigned.proofs.GrammarParts.{value_of_digit, prefix_len-run, digits_left, digits_right}
 use Rattle.decimal_unsigned.proofs.PlainTexts.{after_append, digits_fit}
-use Rattle.decimal_unsigned.proofs.Plans.{all_digits, length_digits, value_scaled}
 
 -- ---- The loop over a text.
 -- one digit more

@@ -1,19 +1,22 @@
 -- The order of two numbers, by their digits.
-use Rattle.decimal_unsigned.proofs.Common.{nat_tests, ◌≡◌, ℕ, zero, suc, ◌+◌, ◌-◌, ◌*◌, ◌^◌, ◌<◌, ◌≤◌, ◌%◌, ◌/◌, List, [], ◌∷◌, ◌++◌, length, get_or, drop, take, replicate, refl, sym, ◌∙◌, ap, arith, ◌⊎◌, inl, inr, min, ℤ, ◌<ℤ◌, nat_cmp, mul-le-mul_right, pow-le-pow_right, ints, recursion_from_All, number_lt, number_from_digits, AllBelowBase, offset, offset_is, IsStored, All, slice_cmp, below_sixteen, below_take, below_drop, length-drop, length-take-le, length-append, length-replicate, take-append-drop, Unsigned, IsValue, common_steps, steps}
+use Rattle.decimal_unsigned.proofs.Common.{nat_tests, ◌≡◌, ℕ, zero, suc, ◌+◌, ◌-◌, ◌*◌, ◌^◌, ◌<◌, ◌≤◌, ◌%◌, ◌/◌, List, [], ◌∷◌, ◌++◌, length, get_or, drop, take, replicate, refl, sym, ◌∙◌, ap, arith, ◌⊎◌, inl, inr, min, ℤ, ◌<ℤ◌, nat_cmp, mul-le-mul_right, pow-le-pow_right, ints, recursion_from_All, number_lt, number_from_digits, AllBelowBase, offset, offset_is, IsStored, All, slice_cmp, below_sixteen, below_take, below_drop, length-drop, length-take-le, length-append, length-replicate, take-append-drop, Unsigned, IsValue, common_steps, steps, subst, pos, negsuc, ◌+ℤ◌, ◌-ℤ◌, ◌≤ℤ◌, cases_lt, Bool, true, false, text, read, digit, first, last}
 use Rattle.std.specs.declared.cmp.Ordering.{Ordering}
 use Rattle.std.specs.declared.cmp.Ordering.TheVariants.{Less, Equal, Greater}
 use Rattle.std.specs.Ordering.{MatchOrdering, ordering_then, ordering_reverse, int_cmp}
-use Rattle.std.specs.Cmp.{ranked, nat_cmp_is}
+use Rattle.std.specs.Cmp.{ranked, nat_cmp_is, IsEquivalence, and_equiv, on_equiv, nat_eq_equiv, int_eq_equiv}
 use Rattle.std.proofs.lemmas.Grind.{same_number_lists}
 use Rattle.std.proofs.lemmas.Cmp.{nat_list_cmp_total, tied_itself}
-use Rattle.std.proofs.lemmas.List.{take-take}
+use Rattle.std.proofs.lemmas.List.{take-take, ext_get_or}
 use Rattle.std.proofs.lemmas.List.Elements.{All-append, All-replicate, All-from_recursion}
 use Rattle.decimal_digits.specs.Digits.{number_of, number_at}
 use Rattle.decimal_digits.specs.Nibbles.{nibbles, digits_in, bcd_number, padded, IsPacked}
 use Rattle.decimal_digits.proofs.DigitLists.{number_first, number_pad}
 use Rattle.decimal_digits.proofs.LeadingBytes.{length-padded, padded_digits, padded_few, padded_front}
 use Rattle.decimal_digits.proofs.Nibbles.{nibble_rules}
-use Rattle.decimal_unsigned.proofs.Values.{value_of_view, number_of-lt, number_of-ge, number_of-pos, number_of-none, lowest}
+use Rattle.decimal_unsigned.proofs.Values.{value_of_view, number_of-lt, number_of-ge, number_of-pos, number_of-none, lowest, first_of, last-number_of, none_of, digit-number_of-in}
+use Rattle.std.proofs.Common.{IsTrue, ◌↔◌}
+use Rattle.decimal_unsigned.proofs.ReadBack.{read_text}
+use Rattle.decimal_unsigned.specs.Unsigned.{same}
 
 -- two numbers compare as two others if each order implies the same order
 pub same_order : (a b x y : ℕ) → (a < b → x < y) → (a ≡ b → x ≡ y) → (b < a → y < x) → nat_cmp a b ≡ nat_cmp x y
@@ -43,7 +46,8 @@ lengths_decide xs ys i e =
 
 -- ---- numbers and lists of digits, in any base
 -- sums whose second parts are below p compare as their first parts, and if these are equal, as their second parts
-sums_order : (p a b r s : ℕ) → r < p → s < p → nat_cmp (a * p + r) (b * p + s) ≡ ordering_then (nat_cmp a b) (nat_cmp r s)
+sums_order : (p a b r s : ℕ) → r < p → s < p
+    → nat_cmp (a * p + r) (b * p + s) ≡ ordering_then (nat_cmp a b) (nat_cmp r s)
 sums_order p a b r s l m = sym (go (nat_cmp a b) (ranked a b _ refl))
   where
     go : (o : Ordering) → MatchOrdering o (a < b) (a ≡ b) (b < a)
@@ -101,7 +105,8 @@ zeros_after : (i j : ℕ) (ds es : List ℕ) → EndsInDigit ds → EndsInDigit 
     → slice_cmp nat_cmp (ds ++ replicate i 0) (es ++ replicate j 0) ≡ slice_cmp nat_cmp ds es
 zeros_after i j [] [] p q e = rw (e refl) (tied_itself nat_list_cmp_total (replicate j 0))
 zeros_after i j [] (d ∷ es) p q e = zeros_less i j d es q
-zeros_after i j (d ∷ ds) [] p q e = nat_list_cmp_total.antisymm ((d ∷ ds) ++ replicate i 0) (replicate j 0) ∙ ap ordering_reverse (zeros_less j i d ds p)
+zeros_after i j (d ∷ ds) [] p q e =
+    nat_list_cmp_total.antisymm ((d ∷ ds) ++ replicate i 0) (replicate j 0) ∙ ap ordering_reverse (zeros_less j i d ds p)
 zeros_after i j (d ∷ ds) (c ∷ es) p q e =
     ap (ordering_then (nat_cmp d c))
     (zeros_after i j ds es (others_end d ds p) (others_end c es q) (λ l. e (ap suc l)))
@@ -113,10 +118,11 @@ below_padded base k ds some b =
     recursion_from_All P _ (All-append P ds _ (All-from_recursion P ds b) (All-replicate P k 0 some))
 
 -- they compare as the numbers that they write, the first digits in the same place
-digits_order : (base top : ℕ) (ds es : List ℕ) → 0 < base → AllBelowBase base ds → AllBelowBase base es → length ds ≤ top
-    → length es ≤ top → EndsInDigit ds → EndsInDigit es
+digits_order : (base top : ℕ) (ds es : List ℕ) → 0 < base → AllBelowBase base ds → AllBelowBase base es
+    → length ds ≤ top → length es ≤ top → EndsInDigit ds → EndsInDigit es
     → slice_cmp nat_cmp ds es
-    ≡ nat_cmp (number_from_digits base ds * base ^ (top - length ds)) (number_from_digits base es * base ^ (top - length es))
+    ≡ nat_cmp (number_from_digits base ds * base ^ (top - length ds))
+    (number_from_digits base es * base ^ (top - length es))
 digits_order base top ds es some b c f g p q =
     let i = top - length ds in
     let j = top - length es in
@@ -126,7 +132,8 @@ digits_order base top ds es some b c f g p q =
     ∙ (λ k. nat_cmp (number_pad base i ds k) (number_pad base j es k))
 
 -- ---- lists of 8 to 16 bytes
-front_ties : (k : ℕ) (xs ys : List ℕ) → slice_cmp nat_cmp xs ys ≡ Equal → slice_cmp nat_cmp (take k xs) (take k ys) ≡ Equal
+front_ties : (k : ℕ) (xs ys : List ℕ) → slice_cmp nat_cmp xs ys ≡ Equal
+    → slice_cmp nat_cmp (take k xs) (take k ys) ≡ Equal
 front_ties zero xs ys e = refl
 front_ties (suc k) [] [] e = refl
 front_ties (suc k) [] (y ∷ ys) e = absurd (cc)
@@ -152,7 +159,8 @@ ends_order xs ys b c same enough few fronts =
     numbers_decide 256 (take 8 xs) (take 8 ys) (below_take 256 8 xs b) (below_take 256 8 ys c)
     (grind (arith, length-take-le)) ∙ sym (nat_cmp_is _ _ Equal fronts) in
     let front : slice_cmp nat_cmp (take k xs) (take k ys) ≡ Equal =
-    rw (take-take k 8 xs (omega arith), take-take k 8 ys (omega arith)) at (front_ties k (take 8 xs) (take 8 ys) ties) in
+    rw (take-take k 8 xs (omega arith), take-take k 8 ys (omega arith)) at
+    (front_ties k (take 8 xs) (take 8 ys) ties) in
     let both = append_order (take k xs) (take k ys) (drop k xs) (drop k ys) (grind (arith, length-take-le)) in
     sym (numbers_decide 256 (drop k xs) (drop k ys) (below_drop 256 k xs b) (below_drop 256 k ys c)
     (grind (arith, length-drop)))
@@ -162,7 +170,8 @@ ends_order xs ys b c same enough few fronts =
 
 -- ---- packed bytes
 byte_order : (b c : ℕ) (r : Ordering)
-    → ordering_then (nat_cmp b c) r ≡ ordering_then (nat_cmp (b / 16) (c / 16)) (ordering_then (nat_cmp (b % 16) (c % 16)) r)
+    → ordering_then (nat_cmp b c) r
+    ≡ ordering_then (nat_cmp (b / 16) (c / 16)) (ordering_then (nat_cmp (b % 16) (c % 16)) r)
 byte_order b c r =
     ap (λ o. ordering_then o r)
     ((let e : b ≡ b / 16 * 16 + b % 16 = omega arith in let f : c ≡ c / 16 * 16 + c % 16 = omega arith in
@@ -271,3 +280,72 @@ module _ {ds es : List ℕ} {m m' hi lo hi' lo' : ℤ} (s : IsStored ds m hi lo)
     order = e ∙ (λ k. nat_cmp (p k).number (q k).number);
     valid = (value_of_view s p, value_of_view t q);
   }
+
+-- ---- A number has one list of digits.
+module _ {ds es : List ℕ} {m n hi lo hi' lo' : ℤ} (t : IsStored ds m hi lo) (u : IsStored es n hi' lo')
+    (e : number_of ds m ≡ number_of es n) where
+  -- one number has one first magnitude
+  pub same_magnitude : m ≡ n
+  same_magnitude = sym (first_of t) ∙ ap first e ∙ first_of u
+
+  -- one count of digits
+  pub same_length : length ds ≡ length es
+  same_length = elim (cases_lt 0 (length ds)) [
+    | inl h ↦ elim (cases_lt 0 (length es)) [
+      | inl k ↦
+          let a = last-number_of t h in
+          let b = last-number_of u k in
+          let l = ap last e in
+          let m' = same_magnitude in
+          omega (arith, ints, a, b, l, m')
+      | inr k ↦ let z : length es ≡ 0 = omega arith in let y = none_of t (e ∙ number_of-none u z) in omega arith
+    ]
+    | inr h ↦ let z : length ds ≡ 0 = omega arith in let y = none_of u (sym e ∙ number_of-none t z) in omega arith
+  ]
+
+  -- and one list of digits
+  pub same_digits : ds ≡ es
+  same_digits = ext_get_or 0 ds es same_length (λ i h.
+      let k : i < length es = omega (arith, same_length) in
+      let m' = same_magnitude in
+      let p : (m -ℤ pos i) +ℤ pos i ≡ m = omega (arith, ints) in
+      let q : (m -ℤ pos i) +ℤ pos i ≡ n = omega (arith, ints, m') in
+      let b : negsuc 32767 ≤ℤ (m -ℤ pos i) = grind (arith, offset_is, lowest) in
+      sym (digit-number_of-in t (m -ℤ pos i) i p b h)
+      ∙ ap (λ x. digit x (m -ℤ pos i)) e
+      ∙ digit-number_of-in u (m -ℤ pos i) i q b k)
+
+-- values that pass the test are equal
+pub same_is : (v w : Unsigned) → same v w ≡ true → v ≡ w
+same_is v w h = grind (arith, nat_tests, h)
+
+same_equiv : IsEquivalence same
+same_equiv =
+    and_equiv (on_equiv (λ (v : Unsigned). v.number) nat_eq_equiv)
+    (and_equiv (on_equiv (λ (v : Unsigned). v.hi) int_eq_equiv) (on_equiv (λ (v : Unsigned). v.lo) int_eq_equiv))
+
+-- equal values pass the test
+pub is_same : (v w : Unsigned) → v ≡ w → same v w ≡ true
+is_same v w e = subst (λ u. same v u ≡ true) e (same_equiv.refl v)
+
+-- unequal values fail it
+pub not_same : (v w : Unsigned) → ¬ (v ≡ w) → same v w ≡ false
+not_same v w n = grind (arith, nat_tests, ints)
+
+-- equal texts are those of equal values
+text_same : (v w : Unsigned) → IsValue v → IsValue w → text v ≡ text w → v ≡ w
+text_same v w p q e = let r = sym (read_text v p) ∙ ap read e ∙ read_text w q in cc
+
+-- a test for equality of two values decides equality of the values and of their texts
+pub tells : (b : Bool) (v w : Unsigned) → IsValue v × IsValue w → b ≡ same v w → record {
+  same : b ≡ same v w;
+  value : IsTrue b ↔ (v ≡ w);
+  texts : IsTrue b ↔ (text v ≡ text w);
+  valid : IsValue v × IsValue w;
+}
+tells b v w valid e = record {
+  same = e;
+  value = (λ x. same_is v w (sym e ∙ x), λ p. e ∙ is_same v w p);
+  texts = (λ x. ap text (same_is v w (sym e ∙ x)), λ t. e ∙ is_same v w (text_same v w valid.0 valid.1 t));
+  valid = valid;
+}

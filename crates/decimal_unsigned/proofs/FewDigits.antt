@@ -10,9 +10,8 @@ use Rattle.decimal_unsigned.specs.Edits.{times_power}
 use Rattle.decimal_unsigned.specs.Reading.{ReadError, zeros_trimmed, scaled}
 use Rattle.decimal_unsigned.specs.ParseResult.{IsParseResult, IsPlain, digit_count}
 use Rattle.decimal_unsigned.proofs.FirstLast.{Extent, extent, ordered, top_lt, first_of, last_of}
-use Rattle.decimal_unsigned.proofs.Exponents.{append_digits}
+use Rattle.decimal_unsigned.proofs.Plans.{append_digits, long_whole, long_fraction, all_digits, value_scaled}
 use Rattle.decimal_unsigned.proofs.ReadingGrammar.{read_grammar, result_limit}
-use Rattle.decimal_unsigned.proofs.Plans.{long_whole, long_fraction, all_digits, value_scaled}
 
 -- ---- Numbers.
 

@@ -2,13 +2,11 @@ pub mod Common
 pub mod Rules
 pub mod Values
 pub mod Shifts
-pub mod Unique
 pub mod ShownDigits
 pub mod Concatenations
 pub mod FirstLast
 pub mod ConcatenationLaws
 pub mod Writing
-pub mod TextBytes
 pub mod Lengths
 pub mod ValueLaws
 pub mod GrammarParts
@@ -16,7 +14,6 @@ pub mod Middle
 pub mod Cuts
 pub mod Integers
 pub mod Plans
-pub mod Exponents
 pub mod ReadingGrammar
 pub mod FewDigits
 pub mod ReadBack

@@ -3,7 +3,7 @@ use Rattle.decimal_unsigned.proofs.Common.{◌≡◌, ℕ, suc, ◌+◌, ◌-◌
 use Rattle.std.proofs.Math.Seq.{take-append-add, drop-append-add}
 use Rattle.std.proofs.lemmas.List.{take-append-le, drop-append-le, get_or-replicate, get_or-map, take_at}
 use Rattle.decimal_unsigned.proofs.Lengths.{length-text}
-use Rattle.decimal_unsigned.proofs.TextBytes.{byte, bytes_down, length-bytes_down, bytes_down-part, fraction_text, text_is, bytes_are}
+use Rattle.decimal_unsigned.proofs.Writing.{byte, bytes_down, length-bytes_down, bytes_down-part, fraction_text, text_is, bytes_are}
 use Rattle.std.specs.Prelude.{IfSome, IfNone}
 use Rattle.decimal_digits.specs.Digits.{text_of}
 use Rattle.decimal_unsigned.proofs.Values.{digit-number_of-above, digit-number_of-in, digit-number_of-below}

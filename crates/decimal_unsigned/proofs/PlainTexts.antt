@@ -9,7 +9,7 @@ use Rattle.decimal_digits.proofs.DigitLists.{number-div, number_split, number_af
 use Rattle.decimal_unsigned.specs.PlainTexts.{zeros, without, IsDotted, bytes_below}
 use Rattle.decimal_unsigned.specs.declared.decimal.parse.words.Dotted.{Dotted}
 use Rattle.decimal_unsigned.proofs.Comparing.{all_below}
-use Rattle.decimal_unsigned.proofs.Exponents.{append_digits}
+use Rattle.decimal_unsigned.proofs.Plans.{append_digits}
 use Rattle.std.specs.Prelude.{bit_and, bit_or}
 use Rattle.std.proofs.Math.Nat.{div-eq_of_lt-le}
 use Rattle.std.proofs.lemmas.List.Elements.{All-append, All-from_recursion, recursion_from_All}

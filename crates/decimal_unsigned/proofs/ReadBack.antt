@@ -7,7 +7,7 @@ use Rattle.decimal_digits.proofs.DigitLists.{number_first}
 use Rattle.decimal_unsigned.specs.Grammar.{integer, decimal}
 use Rattle.decimal_unsigned.specs.Reading.{scaled, value_of}
 use Rattle.decimal_unsigned.proofs.ReadingGrammar.{read_grammar}
-use Rattle.decimal_unsigned.proofs.TextBytes.{byte, bytes_down, length-bytes_down, fraction_text, text_is}
+use Rattle.decimal_unsigned.proofs.Writing.{byte, bytes_down, length-bytes_down, fraction_text, text_is}
 
 -- ---- The numbers that ASCII digits write.
 -- the ASCII byte of a digit has its value

@@ -6,8 +6,8 @@ ghost use Rattle.decimal_unsigned.specs.PlainTexts.{bytes_below, zeros, IsDotted
 /// Eight bytes `0`.
 pub const ZEROS: u64 = 0x3030_3030_3030_3030;
 
-/// The digits of a text, one of which may be followed by a decimal point: their number in base 16, modulo 2^128, and how
-/// many of them follow the decimal point.
+/// The digits of a text, one of which may be followed by a decimal point: their number in base 16, modulo 2^128, and
+/// how many of them follow the decimal point.
 #[derive(Clone, Copy)]
 pub struct Dotted<N> {
     pub number: N,

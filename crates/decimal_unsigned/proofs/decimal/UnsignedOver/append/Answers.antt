@@ -2,8 +2,8 @@ use Rattle.decimal_unsigned.proofs.Common.{◌≡◌, w16, to_z, of_z, arith, in
 use Rattle.std.proofs.lemmas.Bool.{false≢true}
 use Rattle.decimal_unsigned.proofs.Values.{hi_kept, lo_kept, counted}
 use Rattle.decimal_unsigned.proofs.Concatenations.{append_size, append_stored, append_value}
-use Rattle.decimal_unsigned.proofs.decimal.UnsignedOver.append.Goals as goal
 use Rattle.decimal_unsigned.proofs.decimal.UnsignedOver.append.Goals.{After-count_between}
+use Rattle.decimal_unsigned.proofs.decimal.UnsignedOver.append.Goals as goal
 
 -- the zeros are between the last digit of the first number and the first digit of the second
 apart : (g : _) (c : After-count_between g)

@@ -2,7 +2,7 @@ use Rattle.decimal_unsigned.proofs.Common.{◌≡◌, ◌+◌, ◌-◌, ◌<◌,
 use Rattle.std.proofs.lemmas.List.{nil_from_length}
 use lib.Signed.{mag}
 use Rattle.decimal_unsigned.proofs.Values.{narrow_kept}
-use Rattle.decimal_unsigned.proofs.TextBytes.{bytes_are}
+use Rattle.decimal_unsigned.proofs.Writing.{bytes_are}
 use Rattle.decimal_unsigned.proofs.Pieces.{zeros_front, zeros_after, zeros_rest, piece_above, piece_over, piece_below, fits_above, fits_after, fits_below}
 use Rattle.decimal_unsigned.proofs.decimal.UnsignedOver.copy_text.Goals as goal
 

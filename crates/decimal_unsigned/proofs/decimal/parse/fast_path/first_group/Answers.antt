@@ -11,6 +11,9 @@ returns c =
     let same = c.in_ok-bytes.ensures.cases.same in
     c.in_ok-first.ensures.digits (take c.args.count text)
     (first_below text bs c.args.count n below c.requires.enough c.requires.few same c.from_be_bytes.ensures)
-    (omega (arith, first_count text bs c.args.count n below c.requires.enough c.requires.few same c.from_be_bytes.ensures))
+    (omega (
+      arith,
+      first_count text bs c.args.count n below c.requires.enough c.requires.few same c.from_be_bytes.ensures,
+    ))
     (first_word text bs c.args.count n below c.requires.enough c.requires.few same c.from_be_bytes.ensures)
     (first_zeros text bs c.args.count n below c.requires.enough c.requires.few same c.from_be_bytes.ensures)
