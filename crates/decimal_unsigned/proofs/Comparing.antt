@@ -106,7 +106,8 @@ zeros_after : (i j : ℕ) (ds es : List ℕ) → EndsInDigit ds → EndsInDigit 
 zeros_after i j [] [] p q e = rw (e refl) (tied_itself nat_list_cmp_total (replicate j 0))
 zeros_after i j [] (d ∷ es) p q e = zeros_less i j d es q
 zeros_after i j (d ∷ ds) [] p q e =
-    nat_list_cmp_total.antisymm ((d ∷ ds) ++ replicate i 0) (replicate j 0) ∙ ap ordering_reverse (zeros_less j i d ds p)
+    nat_list_cmp_total.antisymm ((d ∷ ds) ++ replicate i 0) (replicate j 0)
+    ∙ ap ordering_reverse (zeros_less j i d ds p)
 zeros_after i j (d ∷ ds) (c ∷ es) p q e =
     ap (ordering_then (nat_cmp d c))
     (zeros_after i j ds es (others_end d ds p) (others_end c es q) (λ l. e (ap suc l)))

@@ -10,6 +10,7 @@ use Rattle.std.proofs.lemmas.Str.{digit_value_digit}
 use Rattle.std.proofs.lemmas.Int.Digits.{digits_value_more}
 use Rattle.std.proofs.lemmas.List.{drop-drop, get_or-map}
 use Rattle.std.proofs.Math.Bool.{and_assoc, and-true}
+use Rattle.std.proofs.lemmas.List.Elements.{All-from_recursion, All-take, All-drop, recursion_from_All}
 
 -- ---- ASCII digits and their numbers.
 -- a digit is a byte from 48 to 57
@@ -88,17 +89,11 @@ pub writes_at : (cs : List ℕ) (i : ℕ) → AllDigits 10 cs → i < length cs
 writes_at cs i h l = grind (steps, digit_at, digit_value_digit, get_or-map)
 
 -- ---- Parts of a text of digits.
--- the first bytes of a text of digits are digits
-pub digits_take : (n : ℕ) (text : List ℕ) → AllDigits 10 text → AllDigits 10 (take n text)
-digits_take zero text h = tt
-digits_take (suc n) [] h = tt
-digits_take (suc n) (c ∷ text) h = (h.0, digits_take n text h.1)
-
--- and so are those after the first n
-pub digits_drop : (n : ℕ) (text : List ℕ) → AllDigits 10 text → AllDigits 10 (drop n text)
-digits_drop zero text h = h
-digits_drop (suc n) [] h = tt
-digits_drop (suc n) (c ∷ text) h = digits_drop n text h.1
+-- any bytes of a text of digits are digits
+pub digits_within : (start n : ℕ) (text : List ℕ) → AllDigits 10 text → AllDigits 10 (take n (drop start text))
+digits_within start n text h =
+    let P = λ (c : ℕ). digit_value c < 10 in
+    recursion_from_All P _ (All-take P n _ (All-drop P start text (All-from_recursion P text h)))
 
 -- where two texts together hold digits, the first one does
 pub digits_left : (a b : List ℕ) → AllDigits 10 (a ++ b) → AllDigits 10 a

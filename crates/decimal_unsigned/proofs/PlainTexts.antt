@@ -12,7 +12,7 @@ use Rattle.decimal_unsigned.proofs.Comparing.{all_below}
 use Rattle.decimal_unsigned.proofs.Plans.{append_digits}
 use Rattle.std.specs.Prelude.{bit_and, bit_or}
 use Rattle.std.proofs.Math.Nat.{div-eq_of_lt-le}
-use Rattle.std.proofs.lemmas.List.Elements.{All-append, All-from_recursion, recursion_from_All}
+use Rattle.std.proofs.lemmas.List.Elements.{All-append, All-from_recursion, All-replicate, recursion_from_All}
 use Rattle.std.proofs.lemmas.Str.{digit_value_digit}
 use Rattle.decimal_unsigned.proofs.BcdNumber.{Lanes, joined, value, value_front, mask, top, stepped, value_joined}
 
@@ -364,10 +364,6 @@ pub eight_zeros : 0x3030_3030_3030_3030 ≡ zeros 8
 unfolding zeros
 eight_zeros = refl
 
-all_zero_bytes : (k : ℕ) → AllBelowBase 256 (replicate k 48)
-all_zero_bytes zero = tt
-all_zero_bytes (suc k) = (omega arith, all_zero_bytes k)
-
 module _ (text bs : List ℕ) (count n : ℕ) (below : (i : ℕ) → get_or text i 0 < 256) (enough : 8 ≤ length text)
     (few : count ≤ 8) (first : bs ≡ take 8 text) (is : n ≡ from_be_bytes w64 bs) where
   pub first_below : AllBelowBase 256 (take count text)
@@ -388,6 +384,8 @@ module _ (text bs : List ℕ) (count n : ℕ) (below : (i : ℕ) → get_or text
   pub first_zeros : 0x3030_3030_3030_3030 / 2 ^ (8 * (8 - count)) ≡ zeros (length (take count text))
   unfolding zeros
   first_zeros =
+      let below_all : AllBelowBase 256 (replicate 8 48) =
+      recursion_from_All (λ d. d < 256) (replicate 8 48) (All-replicate (λ d. d < 256) 8 48 (omega arith)) in
       ap (λ p. 0x3030_3030_3030_3030 / p) (byte_pow (8 - count))
-      ∙ number-div 256 count (replicate 8 48) (all_zero_bytes 8) few
+      ∙ number-div 256 count (replicate 8 48) below_all few
       ∙ ap (λ k. number_from_digits 256 (take k (replicate 8 48))) (sym first_count)

@@ -120,7 +120,8 @@ module _ {ds : List ℕ} {m hi lo : ℤ} {v : Unsigned} (t : IsStored ds m hi lo
       -- otherwise the result is the integer that the digits write, or `OutOfRange`
       pub whole_result : {r : Result ℕ IntegerError} → r ≡ in_range bound (leading places ds) → Answer r
       whole_result e =
-          of_value (e ∙ sym (as_integer-whole bound (number_of ds m) (leading places ds) (whole_number t places at few)))
+          of_value
+          (e ∙ sym (as_integer-whole bound (number_of ds m) (leading places ds) (whole_number t places at few)))
 
       -- at most `top` digits write an integer in range
       pub few_digits_result : (top : ℕ) → All (λ d. d < 10) ds → places ≤ top → 10 ^ top ≤ bound → {n : ℕ}
