@@ -15,8 +15,7 @@ value b c (suc k) n = value b c k (n / b) * c + n % b
 -- each two of the lowest 2 * k lanes, joined to one of twice the width
 unfoldable pub joined : ℕ → ℕ → ℕ → ℕ → ℕ
 joined w c zero n = 0
-joined w c (suc k) n =
-    joined w c k (n / 2 ^ w / 2 ^ w) * 2 ^ (w + w) + (n / 2 ^ w % 2 ^ w * c + n % 2 ^ w)
+joined w c (suc k) n = joined w c k (n / 2 ^ w / 2 ^ w) * 2 ^ (w + w) + (n / 2 ^ w % 2 ^ w * c + n % 2 ^ w)
 
 -- the lower one of each two lanes
 lower : ℕ → ℕ → ℕ → ℕ

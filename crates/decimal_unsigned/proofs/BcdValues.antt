@@ -110,14 +110,7 @@ digit_is : (ds : List ℕ) (k : ℕ) → AllBelowBase 10 ds → k < length ds
     → get_or ds k 0 ≡ number_from_digits 16 ds / 16 ^ (length ds - 1 - k) % 16
 digit_is ds k h l =
     let e : length ds - 1 - k ≡ length ds - (k + 1) = omega arith in
-    grind (
-      steps,
-      below_at,
-      number-div,
-      below_sixteen,
-      number_more_digits,
-      mod-mul-add,
-    )
+    grind (steps, below_at, number-div, below_sixteen, number_more_digits, mod-mul-add)
 
 -- the highest and the lowest set bit are in the first and the last nonzero digit
 inner_bits : (ds : List ℕ) (n top low : ℕ) → AllBelowBase 10 ds → n ≡ number_from_digits 16 ds → bit_at n top ≡ 1
@@ -205,8 +198,7 @@ module _ (text : List ℕ) (whole : ℕ) (digits : whole ≡ prefix_len is_ascii
       → prefix_len is_ascii_digit (drop (whole + 1) text) ≡ length (drop (whole + 1) text)
       → 0 < length (drop (whole + 1) text) → parts_of text ≡ Some (plain_parts text whole)
   unfolding parts_of
-  parts_point in_text byte all some =
-      grind (steps, at_drop_more, after_whole_point)
+  parts_point in_text byte all some = grind (steps, at_drop_more, after_whole_point)
 
 -- up to sixteen digits, byte by byte
 module _ (text : List ℕ) (whole number : ℕ) (few : length text ≤ 17) (short : whole ≤ 16)
@@ -261,8 +253,7 @@ module _ (text : List ℕ) (whole number : ℕ) (few : length text ≤ 17) (shor
 
 -- eight bytes at a time
 all_counted : (text : List ℕ) → AllDigits 10 text → prefix_len is_ascii_digit text ≡ length text
-all_counted text h =
-    ap (prefix_len is_ascii_digit) (sym (append-nil text)) ∙ omega (arith, prefix_len-run text [] h)
+all_counted text h = ap (prefix_len is_ascii_digit) (sym (append-nil text)) ∙ omega (arith, prefix_len-run text [] h)
 
 pub plain_prefix : (text : List ℕ) (number : ℕ) → IsDotted text (record { number = number; fraction = None })
     → 8 ≤ length text → length text ≤ 32
@@ -309,8 +300,8 @@ wide_allocates reading bytes len most b h more =
 pub ok_is : {a b : Unsigned} → (let r : Result Unsigned ReadError = Ok a in r) ≡ Ok b → a ≡ b
 ok_is h = cc
 
-module _ (whole fraction number : ℕ) (ds : List ℕ) (bcd : IsBcd number (whole + fraction) ds) (few : whole ≤ 32768)
-    (short : fraction ≤ 32768) where
+module _ (whole fraction number : ℕ) (ds : List ℕ) (bcd : IsBcd number (whole + fraction) ds)
+    (few : whole + fraction ≤ 32768) where
   -- the value by the number of the digits
   value_is : value_of_first whole ds
       ≡ record {
@@ -346,8 +337,7 @@ module _ (whole fraction number : ℕ) (ds : List ℕ) (bcd : IsBcd number (whol
       -- the zero nibbles bound the nonzero digits, which are no more than the digits
       pub bcd_sizes : (trailing_zeros width number / 4 < k - leading_zeros width number / 4)
           × (k - leading_zeros width number / 4 ≤ whole + fraction)
-      bcd_sizes =
-          (omega (arith, found.0, found.1.ordered, found.1.within), omega (arith, found.0, bcd.count))
+      bcd_sizes = (omega (arith, found.0, found.1.ordered, found.1.within), omega (arith, found.0, bcd.count))
 
       -- what holds of the nonzero digits, at the top of the shifted number
       pub bcd_inner : (F : List ℕ → Type 0) (zeros len : ℕ) → zeros ≡ leading_zeros width number / 4
@@ -382,9 +372,10 @@ module _ (whole fraction number : ℕ) (ds : List ℕ) (bcd : IsBcd number (whol
           let places : k - zeros ≤ length ds = omega (arith, z, found.0) in
           let n : IsNonzeroRange ds start end = rw z found.1 in
           let at : b.magnitude ≡ (pos whole -ℤ pos 1) -ℤ pos start = omega (arith, ints, m, places, bcd.count) in
-          let stored = stored_middle ds start end whole fraction b.magnitude n bcd.digits bcd.count few short at in
+          let stored = stored_middle ds start end whole fraction b.magnitude n bcd.digits bcd.count
+          (omega (arith, few)) (omega (arith, few)) at in
           let units =
-          number_of-middle ds start end whole fraction b.magnitude n bcd.count short
+          number_of-middle ds start end whole fraction b.magnitude n bcd.count (omega (arith, few))
           (omega (arith, ints, at, offset_is b.magnitude, n.ordered, n.within, bcd.count)) in
           let packed = bcd_inner (Encodes bytes len) zeros len z l encoded in
           record {
@@ -403,21 +394,21 @@ module _ (whole fraction number : ℕ) (fits : number < 2 ^ 64) (some : 0 < numb
   len = places - trailing_zeros w64 number / 4
 
   pub short_sizes : (trailing_zeros w64 number / 4 < places) × (places ≤ whole + fraction)
-  short_sizes = bcd_sizes whole fraction number ds bcd (omega arith) (omega arith) w64 16 refl fits some
+  short_sizes = bcd_sizes whole fraction number ds bcd (omega (arith, few)) w64 16 refl fits some
 
   pub short_value : (b : Bounds) → b.magnitude ≡ pos places -ℤ pos (fraction + 1) → b.hi ≡ pos (whole - 1)
       → b.lo ≡ pos 0 -ℤ pos fraction
       → IsBcdValue (Ok (value_of_first whole ds))
       (leading_bytes (number * 2 ^ (4 * (leading_zeros w64 number / 4)) % 2 ^ 64) len) len b
   short_value b m hi lo =
-      bcd_value whole fraction number ds bcd (omega arith) (omega arith) w64 16 refl fits some _ _ _ b refl refl m hi lo
+      bcd_value whole fraction number ds bcd (omega (arith, few)) w64 16 refl fits some _ _ _ b refl refl m hi lo
       (λ ds l few below e. leading_bytes_encode ds _ _ l few below e)
 
   -- the nibbles after them are 0
   pub short_zeros : drop len (word_nibbles (number * 2 ^ (4 * (leading_zeros w64 number / 4)) % 2 ^ 64))
       ≡ replicate (16 - len) 0
   short_zeros =
-      bcd_inner whole fraction number ds bcd (omega arith) (omega arith) w64 16 refl fits some
+      bcd_inner whole fraction number ds bcd (omega (arith, few)) w64 16 refl fits some
       (λ _. drop len (word_nibbles (number * 2 ^ (4 * (leading_zeros w64 number / 4)) % 2 ^ 64))
       ≡ replicate (16 - len) 0)
       _ _ refl refl (λ es l few below e. zeros_of_digits es _ _ l few below e)
@@ -458,5 +449,4 @@ module _ (text : List ℕ) (p : PlainText ℕ) (plain : IsPlainText text p) wher
         hi = pos (plain.whole i - 1);
         lo = pos 0 -ℤ pos (plain.fraction i);
       }))
-      ∙ ap Ok (sym (value_is p.whole p.fraction p.number plain_digits plain_bcd (omega (arith, few_digits))
-      (omega (arith, few_digits))))
+      ∙ ap Ok (sym (value_is p.whole p.fraction p.number plain_digits plain_bcd (omega (arith, few_digits))))

@@ -1,4 +1,4 @@
--- The order of two numbers, by their digits.
+-- The order and the equality of two numbers, by their digits.
 use Rattle.decimal_unsigned.proofs.Common.{nat_tests, ◌≡◌, ℕ, zero, suc, ◌+◌, ◌-◌, ◌*◌, ◌^◌, ◌<◌, ◌≤◌, ◌%◌, ◌/◌, List, [], ◌∷◌, ◌++◌, length, get_or, drop, take, replicate, refl, sym, ◌∙◌, ap, arith, ◌⊎◌, inl, inr, min, ℤ, ◌<ℤ◌, nat_cmp, mul-le-mul_right, pow-le-pow_right, ints, recursion_from_All, number_lt, number_from_digits, AllBelowBase, offset, offset_is, IsStored, All, slice_cmp, below_sixteen, below_take, below_drop, length-drop, length-take-le, length-append, length-replicate, take-append-drop, Unsigned, IsValue, common_steps, steps, subst, pos, negsuc, ◌+ℤ◌, ◌-ℤ◌, ◌≤ℤ◌, cases_lt, Bool, true, false, text, read, digit, first, last}
 use Rattle.std.specs.declared.cmp.Ordering.{Ordering}
 use Rattle.std.specs.declared.cmp.Ordering.TheVariants.{Less, Equal, Greater}
@@ -53,8 +53,7 @@ sums_order p a b r s l m = sym (go (nat_cmp a b) (ranked a b _ refl))
     go : (o : Ordering) → MatchOrdering o (a < b) (a ≡ b) (b < a)
         → ordering_then o (nat_cmp r s) ≡ nat_cmp (a * p + r) (b * p + s)
     go Less h = let n = mul-le-mul_right p h in nat_cmp_is (a * p + r) (b * p + s) Less (omega arith)
-    go Equal e =
-        rw e (same_order r s (b * p + r) (b * p + s) (λ h. omega arith) (λ h. omega arith) (λ h. omega arith))
+    go Equal e = rw e (same_order r s (b * p + r) (b * p + s) (λ h. omega arith) (λ h. omega arith) (λ h. omega arith))
     go Greater h = let n = mul-le-mul_right p h in nat_cmp_is (a * p + r) (b * p + s) Greater (omega arith)
 
 then_assoc : (q r s : Ordering) → ordering_then (ordering_then q r) s ≡ ordering_then q (ordering_then r s)

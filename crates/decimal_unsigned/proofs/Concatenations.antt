@@ -30,8 +30,7 @@ module _ (ds es : List ℕ) (zeros : ℕ) where
   -- the number that the first digits write is multiplied by a power of ten, by the length of the rest
   number-joined : number_from_digits 10 ((ds ++ replicate zeros 0) ++ es)
       ≡ number_from_digits 10 ds * 10 ^ (zeros + length es) + number_from_digits 10 es
-  number-joined =
-      grind (steps, number-append, number_pad, length-replicate, pow-add)
+  number-joined = grind (steps, number-append, number_pad, length-replicate, pow-add)
 
 -- the second digits begin k + 1 places below the last of the first, with k zeros between
 module _ {ds es : List ℕ} {m hi lo n hi' lo' : ℤ} (t : IsStored ds m hi lo) (u : IsStored es n hi' lo') (k : ℕ)

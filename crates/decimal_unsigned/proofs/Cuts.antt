@@ -18,16 +18,7 @@ number_cut ds a start h w zeros =
     let none : number_from_digits 10 (take (start - a) rest) ≡ 0 =
     grind (arith, number_zeros, length-take-le, get_or-take, get_or-drop) in
     let split = number_split 10 (start - a) rest (omega (arith, long)) in
-    grind (
-      steps,
-      length-drop,
-      number_zeros,
-      length-take-le,
-      get_or-take,
-      get_or-drop,
-      drop-drop,
-      number_split,
-    )
+    grind (steps, length-drop, number_zeros, length-take-le, get_or-take, get_or-drop, drop-drop, number_split)
 
 number_of_is : (ds : List ℕ) (m : ℤ) → number_of ds m ≡ number_from_digits 10 ds * 10 ^ (offset m + 1 - length ds)
 unfolding number_of number_at
@@ -88,19 +79,7 @@ module _ {ds : List ℕ} {m hi lo p m' hi' lo' : ℤ} {start : ℕ} (t : IsStore
         number_of_is (drop start ds) m'
         ∙ ap (λ k. rest_value * 10 ^ k)
         (let k : offset m' + 1 - length (drop start ds) ≡ ends =
-        omega (
-          arith,
-          ints,
-          left,
-          h,
-          c.some h,
-          t.fits,
-          offset_is m,
-          offset_is m',
-          offset_is lo,
-          lowest t,
-          t.in_range,
-        ) in
+        omega (arith, ints, left, h, c.some h, t.fits, offset_is m, offset_is m', offset_is lo, lowest t, t.in_range) in
         k)
     | inr h ↦
         let z = rest_none h in

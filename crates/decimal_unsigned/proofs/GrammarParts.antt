@@ -105,7 +105,6 @@ pub digits_right : (a b : List ℕ) → AllDigits 10 (a ++ b) → AllDigits 10 b
 digits_right [] b h = h
 digits_right (c ∷ a) b h = digits_right a b h.1
 
--- ---- The parts of a text are those of the grammar.
 -- ---- runs of digits
 -- digits followed by a byte other than a digit are the leading digits
 pub leading_run : (a rest : List ℕ) → AllDigits 10 a → prefix_len is_ascii_digit rest ≡ 0

@@ -25,8 +25,7 @@ module _ (ds : List ℕ) (start end : ℕ) (n : IsNonzeroRange ds start end) whe
       → number_from_digits b ds ≡ number_from_digits b (middle start end ds) * b ^ (length ds - end)
   number_middle b =
       let a = number_split b start ds (omega (arith, n.ordered, n.within)) in
-      let z : number_from_digits b (take start ds) ≡ 0 =
-      grind (steps, number_zeros, get_or-take) in
+      let z : number_from_digits b (take start ds) ≡ 0 = grind (steps, number_zeros, get_or-take) in
       let m : end - start ≤ length (drop start ds) = omega (arith, n.ordered, n.within, length-drop start ds) in
       let x = number_split b (end - start) (drop start ds) m in
       let y : number_from_digits b (drop (end - start) (drop start ds)) ≡ 0 =
@@ -55,8 +54,7 @@ number_of-middle ds start end a b m n whole few p =
 pub stored_middle : (ds : List ℕ) (start end a b : ℕ) (m : ℤ) → IsNonzeroRange ds start end → AllBelowBase 10 ds
     → length ds ≡ a + b → a ≤ 32768 → b ≤ 32768 → m ≡ (pos a -ℤ pos 1) -ℤ pos start
     → IsStored (middle start end ds) m (pos (a - 1)) (pos 0 -ℤ pos b)
-stored_middle ds start end a b m n d whole many few e =
-    grind (steps, middle_below, offset_is)
+stored_middle ds start end a b m n d whole many few e = grind (steps, middle_below, offset_is)
 
 -- ---- The digits of two concatenated lists.
 take-append : (n : ℕ) (a b : List ℕ) → take n (a ++ b) ≡ take n a ++ take (n - length a) b

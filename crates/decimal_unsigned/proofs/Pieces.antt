@@ -1,4 +1,4 @@
--- The bytes from an index on of the text of a value.
+-- Blocks and pieces of the text of a value, and texts of at most sixteen digits.
 use Rattle.decimal_unsigned.proofs.Common.{◌≡◌, ℕ, suc, ◌+◌, ◌-◌, ◌<◌, ◌≤◌, List, [], ◌∷◌, ◌++◌, length, take, drop, refl, sym, ◌∙◌, ap, arith, ℤ, pos, negsuc, ◌+ℤ◌, ◌-ℤ◌, ◌≤ℤ◌, int_gap, ints, length-append, length-drop, take_all, offset, offset_is, gap_is, Unsigned, IsValue, text, steps, common_steps, elements, get_or, replicate, inl, inr, min, ◌<ℤ◌, Option, None, Some, unwrap_or, cases_lt, get_or-take, get_or-drop, length-take-le, length-map, digit, number_of, IsStored, length-replicate, append-nil}
 use Rattle.std.proofs.Math.Seq.{take-append-add, drop-append-add}
 use Rattle.std.proofs.lemmas.List.{take-append-le, drop-append-le, get_or-replicate, get_or-map, take_at}
@@ -8,8 +8,7 @@ use Rattle.std.specs.Prelude.{IfSome, IfNone}
 use Rattle.decimal_digits.specs.Digits.{text_of}
 use Rattle.decimal_unsigned.proofs.Values.{digit-number_of-above, digit-number_of-in, digit-number_of-below}
 
--- ---- The digits of a value in a block of its text.
--- ---- an element of a list after a write to the k places from a on
+-- ---- An element of a list after a write to the k places from a on.
 module _ (a k : ℕ) (xs ys : List ℕ) (fits : a + k ≤ length xs) (full : length ys ≡ k) where
   part_length : length (take a xs ++ (ys ++ drop k (drop a xs))) ≡ length xs
   part_length = grind (arith, common_steps)
@@ -23,7 +22,7 @@ module _ (a k : ℕ) (xs ys : List ℕ) (fits : a + k ≤ length xs) (full : len
   part_after : (i : ℕ) → a + k ≤ i → get_or (take a xs ++ (ys ++ drop k (drop a xs))) i 0 ≡ get_or xs i 0
   part_after i h = grind (arith, common_steps)
 
--- ---- places that hold zeros, byte by byte
+-- ---- Places that hold zeros, byte by byte.
 -- a block of n zeros
 abbrev pub block_of : ℕ → List ℕ
 block_of n = replicate n 48
@@ -159,17 +158,7 @@ module _ (v : Unsigned) (valid : IsValue v) (dot : ℕ) (dot_is : dot ≡ int_ga
       ∙ bytes_down-part v.number v.hi dot from a (omega arith) in
       let back : take k (bytes_down v.number (negsuc 0) p.0) ≡ bytes_down v.number (negsuc 0) k =
       bytes_down-part v.number (negsuc 0) p.0 0 k (omega (arith, p.2)) in
-      grind (
-        steps,
-        past,
-        length-drop,
-        whole_length,
-        take_all,
-        bytes_down-part,
-        split,
-        drop-append-le,
-        take-append-add,
-      )
+      grind (steps, past, length-drop, whole_length, take_all, bytes_down-part, split, drop-append-le, take-append-add)
 
   -- a piece after the decimal point
   pub piece_below : (from n : ℕ) → dot < from → 0 < n → from + n ≤ length (text v)
@@ -179,15 +168,7 @@ module _ (v : Unsigned) (valid : IsValue v) (dot : ℕ) (dot_is : dot ≡ int_ga
       let p = past (from + n) (omega arith) l in
       let at : from ≡ length whole + suc j = omega (arith, whole_length) in
       let m : negsuc 0 -ℤ pos j ≡ v.hi -ℤ pos (from - 1) = omega (arith, ints, dot_at) in
-      grind (
-        steps,
-        past,
-        whole_length,
-        dot_at,
-        split,
-        drop-append-add,
-        bytes_down-part,
-      )
+      grind (steps, past, whole_length, dot_at, split, drop-append-add, bytes_down-part)
 
   -- a text of one byte is the digit of magnitude 0
   pub one_byte : length (text v) ≡ 1 → byte v.number (pos 0) ∷ [] ≡ text v

@@ -16,7 +16,6 @@ use Rattle.std.proofs.lemmas.List.Elements.{All-append, All-from_recursion, All-
 use Rattle.std.proofs.lemmas.Str.{digit_value_digit}
 use Rattle.decimal_unsigned.proofs.BcdNumber.{Lanes, joined, value, value_front, mask, top, stepped, value_joined}
 
--- ---- Texts of up to eight bytes as big-endian numbers: which of them are digits, and their number in base 16.
 -- ---- The bytes that are below ten.
 -- the high nibble of each of k bytes
 high_nibbles : ℕ → ℕ
@@ -29,8 +28,7 @@ sixes zero = 0
 sixes (suc k) = sixes k * 256 + 6
 
 both_clear : (r s : ℕ) → r < 256 → s < 256 → bit_and (bit_or r s) 240 ≡ 0 → (r < 16) × (s < 16)
-both_clear r s p q h =
-    grind (steps, and_block, and_mask, or_of_8, le_or_l, le_or_r)
+both_clear r s p q h = grind (steps, and_block, and_mask, or_of_8, le_or_l, le_or_r)
 
 -- if no byte of either number has a bit in its high nibble, each is below sixteen
 nibbles_clear : (k y z : ℕ) → bit_and (bit_or y z) (high_nibbles k) ≡ 0 → bytes_below 16 k y × bytes_below 16 k z
@@ -184,15 +182,7 @@ pub group_of_digits : (text : List ℕ) (number y : ℕ)
     → length text ≤ 8 → AllDigits 10 text × (y ≡ number_from_digits 256 (map digit_value text))
     → number ≡ digits_value 16 text % 2 ^ 128
 group_of_digits text number y packs few found =
-    grind (
-      arith,
-      below_sixteen,
-      all_below_base_from_digits,
-      length-map,
-      digits_value_is,
-      mod-eq_of_lt,
-      digits_fit,
-    )
+    grind (arith, below_sixteen, all_below_base_from_digits, length-map, digits_value_is, mod-eq_of_lt, digits_fit)
 
 -- eight bits are a byte
 pub byte_pow : (k : ℕ) → 2 ^ (8 * k) ≡ 256 ^ k
@@ -275,7 +265,6 @@ module _ (text : List ℕ) (word n : ℕ) (h : AllBelowBase 256 text) (few : len
 pub zeros_shorter : (k i : ℕ) → k ≤ 8 → i + 1 ≡ k → zeros k / 2 ^ 8 ≡ zeros i
 zeros_shorter k i h e = omega (arith, ap zeros e, zeros_more i (omega arith))
 
--- ---- Texts of digits, with or without a decimal point, eight bytes at a time.
 -- ---- Two texts after each other.
 value_after : (n : ℕ) (text : List ℕ)
     → digits_value_after 16 n text ≡ n * 16 ^ length text + digits_value 16 text
@@ -324,15 +313,7 @@ module _ (text group : List ℕ) (p g : Dotted ℕ) (front : IsDotted text p) (b
       → IsDotted (text ++ group)
       (record { number = (p.number * 2 ^ 32 % 2 ^ 128 + g.number) % 2 ^ 128; fraction = Some (n + 8) })
   point_before n e f =
-      grind (
-        steps,
-        take-append-le,
-        drop-append-le,
-        append_assoc,
-        get_or_append_left,
-        append_digits,
-        joined_number,
-      )
+      grind (steps, take-append-le, drop-append-le, append_assoc, get_or_append_left, append_digits, joined_number)
 
   pub point_found : (n : ℕ) → p.fraction ≡ None → g.fraction ≡ Some n
       → IsDotted (text ++ group)
@@ -366,13 +347,13 @@ eight_zeros = refl
 
 module _ (text bs : List ℕ) (count n : ℕ) (below : (i : ℕ) → get_or text i 0 < 256) (enough : 8 ≤ length text)
     (few : count ≤ 8) (first : bs ≡ take 8 text) (is : n ≡ from_be_bytes w64 bs) where
-  pub first_below : AllBelowBase 256 (take count text)
+  first_below : AllBelowBase 256 (take count text)
   first_below = below_take 256 count text (all_below 256 text below)
 
-  pub first_count : length (take count text) ≡ count
+  first_count : length (take count text) ≡ count
   first_count = length-take-le count text (omega arith)
 
-  pub first_word : n / 2 ^ (8 * (8 - count)) ≡ number_from_digits 256 (take count text)
+  first_word : n / 2 ^ (8 * (8 - count)) ≡ number_from_digits 256 (take count text)
   first_word =
       let l : length bs ≡ 8 = ap length first ∙ length-take-le 8 text enough in
       let below_bs : AllBelowBase 256 bs =
@@ -381,7 +362,7 @@ module _ (text bs : List ℕ) (count n : ℕ) (below : (i : ℕ) → get_or text
       ∙ rw l at (number-div 256 count bs below_bs (omega arith))
       ∙ ap (λ l. number_from_digits 256 (take count l)) first ∙ ap (number_from_digits 256) (take-take count 8 text few)
 
-  pub first_zeros : 0x3030_3030_3030_3030 / 2 ^ (8 * (8 - count)) ≡ zeros (length (take count text))
+  first_zeros : 0x3030_3030_3030_3030 / 2 ^ (8 * (8 - count)) ≡ zeros (length (take count text))
   unfolding zeros
   first_zeros =
       let below_all : AllBelowBase 256 (replicate 8 48) =
@@ -389,3 +370,11 @@ module _ (text bs : List ℕ) (count n : ℕ) (below : (i : ℕ) → get_or text
       ap (λ p. 0x3030_3030_3030_3030 / p) (byte_pow (8 - count))
       ∙ number-div 256 count (replicate 8 48) below_all few
       ∙ ap (λ k. number_from_digits 256 (take k (replicate 8 48))) (sym first_count)
+
+  -- what holds of each text of these bytes holds of the first ones
+  pub first_text : (P : List ℕ → Type 0)
+      → ((bytes : List ℕ) → AllBelowBase 256 bytes → length bytes ≤ 8
+      → n / 2 ^ (8 * (8 - count)) ≡ number_from_digits 256 bytes
+      → 0x3030_3030_3030_3030 / 2 ^ (8 * (8 - count)) ≡ zeros (length bytes) → P bytes)
+      → P (take count text)
+  first_text P holds = holds (take count text) first_below (omega (arith, first_count)) first_word first_zeros

@@ -1,4 +1,4 @@
--- The value of the parts, by the digits that are kept.
+-- The exponent that the code stores, and the value of the parts by the digits that are kept.
 use Rattle.decimal_unsigned.proofs.Common.{◌≡◌, ℕ, ◌+◌, ◌-◌, ◌*◌, ◌^◌, ◌<◌, ◌≤◌, ◌==◌, Bool, true, false, ◌||◌, ◌⊎◌, ◌++◌, length, get_or, refl, sym, ◌∙◌, ap, subst, arith, ℤ, pos, negsuc, ◌+ℤ◌, ◌-ℤ◌, ◌≤ℤ◌, ◌<ℤ◌, int_lt, Option, Some, None, Ok, Err, int_max, int_min, ints, clamps, nat_tests, length-map, length-append, digit_value, AllDigits, digits_value, AllBelowBase, digits_value_is, first, last, Unsigned, number_of, offset_is, IsStored, Literal, limit, multiplied, middle, IsNonzeroRange, mantissa, steps, cond, inl, inr, List, [], ◌∷◌, cases_lt, parts_of, is_outside, view, option_map}
 use Rattle.std.specs.Prelude.{if◌then◌else◌, IfSome}
 use Rattle.std.proofs.lemmas.Int.Digits.{all_below_base_from_digits}

@@ -33,8 +33,7 @@ fails held Memory v r valid h = h
 -- the same rounding again changes nothing
 pub rounding_is_idempotent : (v w : Unsigned) (r : Rounding UnsignedRoundingMode) → rounded v r ≡ Some w
     → rounded w r ≡ Some w
-rounding_is_idempotent v w r e =
-    grind (steps, rounded_number-idempotent, unit_pos)
+rounding_is_idempotent v w r e = grind (steps, rounded_number-idempotent, unit_pos)
 
 -- ---- Two positions.
 coarser : (p q : ℤ) → negsuc 32767 ≤ℤ p → p ≤ℤ q

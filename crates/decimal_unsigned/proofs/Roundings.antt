@@ -1,4 +1,4 @@
--- The values of the fields after a rounding.
+-- Roundings: the values of the fields afterwards, and when each multiple that a mode names is below the limit.
 use Rattle.decimal_unsigned.proofs.Common.{◌≡◌, ℕ, ◌<◌, ◌≤◌, List, length, sym, ◌∙◌, ap, arith, Option, Some, None, Result, Ok, Err, ℤ, pos, negsuc, ◌-ℤ◌, ◌≤ℤ◌, int_max, int_min, AllBelowBase, ints, clamps, nat_tests, first, size, number_limit, number_of, unit_at, rounded_number, RoundingIncrement, Trunc, offset_is, Unsigned, IsStored, rounded, IsRounded, RoundError, UnsignedRoundingMode, unit_pos, first_zero, with_number, steps, ◌+◌, ◌-◌, ◌*◌, ◌^◌, refl, inl, inr, ◌+ℤ◌, ◌<ℤ◌, pow-le-pow_right, mul-le-mul_right, pow-add, cases_lt, offset, weight, MultiplesOf1, ten_pos, IsValue, none-some}
 use Rattle.std.specs.Prelude.{IsOk, IsErrOf}
 use Rattle.decimal_digits.specs.RoundedDigits.{Represents, NoDigitsBelow}
@@ -77,13 +77,11 @@ pub length-stored : {ds es : List ℕ} {m hi lo : ℤ} {v : Unsigned} → IsStor
     → length es ≡ size v.number
 length-stored t e l = ap length l ∙ sym (size-number_of t) ∙ ap (λ (v : Unsigned). size v.number) e
 
--- ---- When a rounding succeeds: each multiple that a mode names is below the limit.
 -- ---- Numbers.
 
 -- a number up to a multiple of the unit is rounded to no more than that multiple
 up_to : (mode : UnsignedRoundingMode) (u n k : ℕ) → 0 < u → n ≤ k * u → rounded_number mode u n ≤ k * u
-up_to mode u n k p h =
-    omega (arith, rounded_number-monotone mode u n (k * u) p h, rounded_number-multiple mode u k p)
+up_to mode u n k p h = omega (arith, rounded_number-monotone mode u n (k * u) p h, rounded_number-multiple mode u k p)
 
 -- s divides a power of ten and has its d + 1 digits; the unit is s with p zeros, and the number n has at most h + 1
 -- digits
@@ -157,8 +155,7 @@ module _ (held : ℕ) (v : Unsigned) (r : Rounding UnsignedRoundingMode) (least 
     (greatest : r.position ≤ℤ pos 32767) where
   -- under `IsBelowLimit` a rounding has a result
   pub rounding_is_some : IsBelowLimit v r.position r.increment → IsRounded v r None → ⊥
-  rounding_is_some room none =
-      grind (steps, none-some, rounded_to-small, below_limit)
+  rounding_is_some room none = grind (steps, none-some, rounded_to-small, below_limit)
 
   -- and it does not fail with `Limit`
   pub not_limit_error : {A : Type 0} (new : Unsigned) (answer : Result A RoundError)

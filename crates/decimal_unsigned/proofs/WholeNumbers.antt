@@ -145,8 +145,7 @@ module _ (ds : List ℕ) (h : All (λ d. d < 10) ds) where
   shifted_front : (count : ℕ) → count ≤ 16
       → bcd_number ds / 2 ^ (4 * (16 - count)) ≡ number_from_digits 16 (take count all)
   unfolding bcd_number
-  shifted_front count l =
-      grind (steps, sixteen_are, hex_pow, number-div, all_hex)
+  shifted_front count l = grind (steps, sixteen_are, hex_pow, number-div, all_hex)
 
   -- the first of them write the number that the first digits write
   front_leading : (i : ℕ) → i ≤ 16 → number_from_digits 10 (take i all) ≡ leading i ds

@@ -1,4 +1,4 @@
--- What has been written of a text.
+-- The text of a value by its bytes, and what has been written of it.
 use Rattle.decimal_unsigned.proofs.Common.{elements, ◌≡◌, ℕ, suc, ◌+◌, ◌≤◌, List, [], ◌∷◌, ◌++◌, length, take, drop, Option, refl, subst, arith, ℤ, pos, ◌-ℤ◌, digit, take-append-drop, Appends, zero, ◌<◌, get_or, sym, ◌∙◌, ap, negsuc, ◌≤ℤ◌, int_gap, ints, get_or-take, get_or-drop, length-take-le, length-drop, Unsigned, text, steps}
 use Rattle.std.proofs.KnownBytes.{Appends-trans}
 use Rattle.decimal_digits.specs.AppendsPrefix.{AppendsPrefix}

@@ -11,8 +11,7 @@ apart : (g : _) (c : After-count_between g)
 apart g c =
     let start = c.nonzero_magnitude_start-start in
     let end = c.nonzero_magnitude_end in
-    let count =
-    counted c.count_between.ensures start.ensures.value end.ensures.value start.type_inv end.type_inv in
+    let count = counted c.count_between.ensures start.ensures.value end.ensures.value start.type_inv end.type_inv in
     omega (arith, ints, gap_is, count, c.requires.disjoint)
 
 pub returns-in_err-append-clause-succeeds : goal.returns-in_err-append-clause-succeeds

@@ -28,8 +28,7 @@ pub returns-then-dot-from : goal.returns-then-dot-from
 returns-then-dot-from g c =
     let dot_is = c.dot-dot.ensures.value in
     let hi = c.highest-hi in
-    let m =
-    moved_down (c.args.from - 1) hi.type_inv hi.ensures.value c.magnitude_of.type_inv c.magnitude_of.ensures in
+    let m = moved_down (c.args.from - 1) hi.type_inv hi.ensures.value c.magnitude_of.type_inv c.magnitude_of.ensures in
     bytes_are c.args.self.now.number _ _ _ c.copy_digits.new.buffer c.copy_digits.ensures.value m
     c.copy_digits.auto.buffer
     ∙ sym (piece_below c.args.self.now c.dot-dot.ensures.valid _ dot_is c.args.from (length c.args.buffer.now)

@@ -4,8 +4,7 @@ use Rattle.decimal_unsigned.proofs.WholeNumbers.{part_result, whole_result, few_
 use Rattle.decimal_unsigned.proofs.decimal.UnsignedOver.try_to_u128.Goals as goal
 
 pub returns-in_default : goal.returns-in_default
-returns-in_default g c =
-    part_result c.self.invariant c.self.view_is _ c.len.ensures c.in_default.ensures.none
+returns-in_default g c = part_result c.self.invariant c.self.view_is _ c.len.ensures c.in_default.ensures.none
 
 pub returns-in-39 : goal.returns-in-39
 returns-in-39 g c =

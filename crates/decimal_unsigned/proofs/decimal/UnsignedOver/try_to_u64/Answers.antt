@@ -3,8 +3,7 @@ use Rattle.decimal_unsigned.proofs.WholeNumbers.{part_result, few_digits_result}
 use Rattle.decimal_unsigned.proofs.decimal.UnsignedOver.try_to_u64.Goals as goal
 
 pub returns-in_default : goal.returns-in_default
-returns-in_default g c =
-    part_result c.self.invariant c.self.view_is _ c.len.ensures c.in_default.ensures.none
+returns-in_default g c = part_result c.self.invariant c.self.view_is _ c.len.ensures c.in_default.ensures.none
 
 pub returns-then-count-le19 : goal.returns-then-count-le19
 returns-then-count-le19 g c =
