@@ -1,6 +1,6 @@
 -- The number that packed BCD digits write, computed by joining neighboring lanes of a word: digits to pairs, pairs to
 -- fours, and so on. A lane of w bits holds a number below c.
-use Rattle.decimal_unsigned.proofs.Common.{◌≡◌, ℕ, zero, suc, ◌+◌, ◌-◌, ◌*◌, ◌/◌, ◌%◌, ◌^◌, ◌<◌, ◌≤◌, List, length, get_or, take, refl, sym, ◌∙◌, ap, arith, number_from_digits, AllBelowBase, take_all, clamps, nat_tests, ints, common_steps}
+use Rattle.decimal_unsigned.proofs.Common.{◌≡◌, ℕ, zero, suc, ◌+◌, ◌-◌, ◌*◌, ◌/◌, ◌%◌, ◌^◌, ◌<◌, ◌≤◌, List, length, get_or, take, refl, sym, ◌∙◌, ap, arith, number_from_digits, AllBelowBase, take_all, steps}
 use Rattle.std.specs.Prelude.{bit_and}
 use Rattle.std.proofs.Math.Nat.{zero-div, zero-mod}
 use Rattle.std.proofs.lemmas.Nat.{and_block, and_mask, and_le_r, div-mul-add, mod-mul-add}
@@ -15,8 +15,7 @@ value b c (suc k) n = value b c k (n / b) * c + n % b
 -- each two of the lowest 2 * k lanes, joined to one of twice the width
 unfoldable pub joined : ℕ → ℕ → ℕ → ℕ → ℕ
 joined w c zero n = 0
-joined w c (suc k) n =
-    joined w c k (n / 2 ^ w / 2 ^ w) * 2 ^ (w + w) + (n / 2 ^ w % 2 ^ w * c + n % 2 ^ w)
+joined w c (suc k) n = joined w c k (n / 2 ^ w / 2 ^ w) * 2 ^ (w + w) + (n / 2 ^ w % 2 ^ w * c + n % 2 ^ w)
 
 -- the lower one of each two lanes
 lower : ℕ → ℕ → ℕ → ℕ
@@ -79,13 +78,13 @@ module _ {w c : ℕ} (l : Lanes w c) where
       rw (upper, lowest, two, value_joined k m) (omega arith)
 
 lanes : Lanes 4 10
-lanes = grind (arith, ints, clamps, nat_tests, common_steps)
+lanes = grind steps
 
 pair_lanes : Lanes 8 100
-pair_lanes = grind (arith, ints, clamps, nat_tests, common_steps)
+pair_lanes = grind steps
 
 four_lanes : Lanes 16 10000
-four_lanes = grind (arith, ints, clamps, nat_tests, common_steps)
+four_lanes = grind steps
 
 -- ---- the digits of a list
 -- no digits write 0

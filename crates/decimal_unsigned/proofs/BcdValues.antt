@@ -1,5 +1,5 @@
 -- Plain texts: their digits as a number in base 16, and the value of their parts.
-use Rattle.decimal_unsigned.proofs.Common.{clamps, nat_tests, common_steps, ◌≡◌, ℕ, zero, suc, ◌+◌, ◌-◌, ◌*◌, ◌/◌, ◌%◌, ◌^◌, ◌<◌, ◌≤◌, inl, inr, true, List, [], ◌∷◌, ◌++◌, length, get_or, take, drop, take_all, map, refl, sym, ◌∙◌, ap, subst, arith, Some, None, option_map, Result, Ok, pos, ◌-ℤ◌, mul-lt-mul_of_pos_right, pow-le-pow_right, cases_lt, ints, pow-add, append-nil, take-append-drop, length-append, length-drop, length-take, length-take-le, length-map, number_lt, digits_value_is, is_ascii_digit, prefix_len, digit_value, number_from_digits, AllBelowBase, AllDigits, digits_value, Literal, middle, IsNonzeroRange, pow-suc, mod-eq_of_lt, digits_value_after, below_sixteen}
+use Rattle.decimal_unsigned.proofs.Common.{nat_tests, ◌≡◌, ℕ, zero, suc, ◌+◌, ◌-◌, ◌*◌, ◌/◌, ◌%◌, ◌^◌, ◌<◌, ◌≤◌, inl, inr, true, List, [], ◌∷◌, ◌++◌, length, get_or, take, drop, take_all, map, refl, sym, ◌∙◌, ap, subst, arith, Some, None, option_map, Result, Ok, pos, ◌-ℤ◌, mul-lt-mul_of_pos_right, pow-le-pow_right, cases_lt, ints, pow-add, append-nil, take-append-drop, length-append, length-drop, length-take, length-take-le, length-map, number_lt, digits_value_is, is_ascii_digit, prefix_len, digit_value, number_from_digits, AllBelowBase, AllDigits, digits_value, Literal, middle, IsNonzeroRange, pow-suc, mod-eq_of_lt, digits_value_after, below_sixteen, steps, replicate, ℤ, IsStored, number_of, offset_is, int_min}
 use mir.Val.{bits}
 use Rattle.std.specs.Int.{Width, w64, bit_at, leading_zeros, trailing_zeros}
 use Rattle.std.proofs.Math.Nat.{one-le-pow, div-eq_of_lt-le, zero-div}
@@ -12,7 +12,6 @@ use Rattle.std.proofs.lemmas.Int.Digits.{number_more as number_more_digits, all_
 use Rattle.decimal_digits.specs.Nibbles.{digits_in, leading_bytes, word_nibbles}
 use Rattle.decimal_digits.proofs.TrailingNibbles.{clear_nibble, some_nibble}
 use Rattle.decimal_digits.proofs.Words.{zeros_of_digits}
-use Rattle.decimal_unsigned.proofs.Common.{replicate}
 use Rattle.decimal_digits.specs.Ascii.{decimal_point}
 use Rattle.decimal_digits.specs.Packing.{Encodes, length-nibbles}
 use Rattle.decimal_digits.proofs.DigitLists.{below_at, number-div}
@@ -24,17 +23,15 @@ use Rattle.decimal_unsigned.specs.Unsigned.{Unsigned}
 use Rattle.decimal_unsigned.specs.Reading.{ReadError, scaled, parts_of, after_whole, after_fraction, read}
 use Rattle.decimal_digits.specs.Digits.{number_at}
 use Rattle.decimal_unsigned.specs.DigitValues.{IsBcd, value_of_first}
-use Rattle.decimal_unsigned.proofs.Common.{ℤ, IsStored, number_of, offset_is, int_min}
 use Rattle.decimal_unsigned.proofs.Values.{size-number_of, number_of_empty, stored_as}
-use Rattle.decimal_unsigned.specs.PlainTexts.{IsPlainText, IsPrefix, plain_parts}
+use Rattle.decimal_unsigned.specs.PlainTexts.{IsPlainText, IsDotted, plain_parts}
 use Rattle.decimal_unsigned.specs.ScannedDigits.{digits_of, IsBcdValue}
 use Rattle.decimal_unsigned.specs.declared.decimal.parse.fast_path.PlainText.{PlainText}
 use Rattle.decimal_unsigned.specs.declared.decimal.parse.plan.Bounds.{Bounds}
 use Rattle.decimal_unsigned.proofs.Middle.{number_zeros, middle_length, middle_below, number_middle, number_of-middle, stored_middle}
-use Rattle.decimal_unsigned.proofs.Exponents.{read_some, digits_some}
-use Rattle.decimal_unsigned.proofs.Numerals.{value_of_digit, prefix_len-run, digits_left, digits_right}
+use Rattle.decimal_unsigned.proofs.Plans.{read_some, digits_some, all_digits, length_digits, value_scaled}
+use Rattle.decimal_unsigned.proofs.GrammarParts.{value_of_digit, prefix_len-run, digits_left, digits_right}
 use Rattle.decimal_unsigned.proofs.PlainTexts.{after_append, digits_fit}
-use Rattle.decimal_unsigned.proofs.Plans.{all_digits, length_digits, value_scaled}
 
 -- ---- The loop over a text.
 -- one digit more
@@ -72,7 +69,7 @@ after_mod n (c ∷ cs) =
 pub fraction_numbered : (whole fraction : List ℕ) (number more : ℕ) → number ≡ digits_value 16 whole % 2 ^ 64
     → more ≡ digits_value_after 16 number fraction % 2 ^ 64
     → more ≡ in_base_16 whole fraction
-fraction_numbered whole fraction number more e f = grind (arith, ints, clamps, nat_tests, common_steps, after_mod)
+fraction_numbered whole fraction number more e f = grind (steps, after_mod)
 
 -- sixteen digits fit 64 bits
 sixteen_fit : (ds : List ℕ) → AllBelowBase 10 ds → length ds ≤ 16 → number_from_digits 16 ds < 2 ^ 64
@@ -113,18 +110,7 @@ digit_is : (ds : List ℕ) (k : ℕ) → AllBelowBase 10 ds → k < length ds
     → get_or ds k 0 ≡ number_from_digits 16 ds / 16 ^ (length ds - 1 - k) % 16
 digit_is ds k h l =
     let e : length ds - 1 - k ≡ length ds - (k + 1) = omega arith in
-    grind (
-      arith,
-      ints,
-      clamps,
-      nat_tests,
-      common_steps,
-      below_at,
-      number-div,
-      below_sixteen,
-      number_more_digits,
-      mod-mul-add,
-    )
+    grind (steps, below_at, number-div, below_sixteen, number_more_digits, mod-mul-add)
 
 -- the highest and the lowest set bit are in the first and the last nonzero digit
 inner_bits : (ds : List ℕ) (n top low : ℕ) → AllBelowBase 10 ds → n ≡ number_from_digits 16 ds → bit_at n top ≡ 1
@@ -171,7 +157,7 @@ inner_number w k size ds n below fits is some =
 -- if the number is 0, each digit is 0
 pub zero_digits : (ds : List ℕ) → AllBelowBase 10 ds → number_from_digits 16 ds ≡ 0
     → (k : ℕ) → k < length ds → get_or ds k 0 ≡ 0
-zero_digits ds below z k h = grind (arith, ints, clamps, nat_tests, common_steps, digit_is, zero-div)
+zero_digits ds below z k h = grind (steps, digit_is, zero-div)
 
 -- ---- The parts of a short text.
 after_whole_end : (whole : List ℕ) → 0 < length whole
@@ -182,7 +168,7 @@ after_whole_end whole h = grind (arith, nat_tests)
 after_whole_point : (whole rest : List ℕ) → 0 < length rest → prefix_len is_ascii_digit rest ≡ length rest
     → after_whole whole (decimal_point ∷ rest) ≡ Some (record { whole = whole; fraction = rest; exponent = None })
 unfolding after_whole after_fraction
-after_whole_point whole rest h all = grind (arith, ints, clamps, nat_tests, common_steps, drop_all, take_all)
+after_whole_point whole rest h all = grind (steps, drop_all, take_all)
 
 -- the bytes after the one at an index
 pub after_byte : (text : List ℕ) (i : ℕ)
@@ -212,15 +198,14 @@ module _ (text : List ℕ) (whole : ℕ) (digits : whole ≡ prefix_len is_ascii
       → prefix_len is_ascii_digit (drop (whole + 1) text) ≡ length (drop (whole + 1) text)
       → 0 < length (drop (whole + 1) text) → parts_of text ≡ Some (plain_parts text whole)
   unfolding parts_of
-  parts_point in_text byte all some =
-      grind (arith, ints, clamps, nat_tests, common_steps, at_drop_more, after_whole_point)
+  parts_point in_text byte all some = grind (steps, at_drop_more, after_whole_point)
 
 -- up to sixteen digits, byte by byte
 module _ (text : List ℕ) (whole number : ℕ) (few : length text ≤ 17) (short : whole ≤ 16)
     (digits : whole ≡ prefix_len is_ascii_digit text)
     (numbered : number ≡ digits_value 16 (take whole text) % 2 ^ 64) where
   at_most : length (take whole text ++ drop (whole + 1) text) ≤ 16
-  at_most = grind (arith, ints, clamps, nat_tests, common_steps, length-append, long, length-drop)
+  at_most = grind (steps, length-append, long, length-drop)
 
   exact : (n : ℕ) → parts_of text ≡ Some (plain_parts text whole)
       → n ≡ in_base_16 (take whole text) (drop (whole + 1) text)
@@ -268,16 +253,15 @@ module _ (text : List ℕ) (whole number : ℕ) (few : length text ≤ 17) (shor
 
 -- eight bytes at a time
 all_counted : (text : List ℕ) → AllDigits 10 text → prefix_len is_ascii_digit text ≡ length text
-all_counted text h =
-    ap (prefix_len is_ascii_digit) (sym (append-nil text)) ∙ omega (arith, prefix_len-run text [] h)
+all_counted text h = ap (prefix_len is_ascii_digit) (sym (append-nil text)) ∙ omega (arith, prefix_len-run text [] h)
 
-pub plain_prefix : (text : List ℕ) (number : ℕ) → IsPrefix text (record { number = number; fraction = None })
+pub plain_prefix : (text : List ℕ) (number : ℕ) → IsDotted text (record { number = number; fraction = None })
     → 8 ≤ length text → length text ≤ 32
     → IsPlainText text (record { whole = length text; fraction = 0; number = number })
 plain_prefix text number p some few =
     grind (arith, take_all, drop_all, all_counted, parts_whole, long, append-nil, mod-eq_of_lt, digits_fit)
 
-pub plain_prefix_point : (text : List ℕ) (number n : ℕ) → IsPrefix text (record { number = number; fraction = Some n })
+pub plain_prefix_point : (text : List ℕ) (number n : ℕ) → IsDotted text (record { number = number; fraction = Some n })
     → 0 < n → length text ≤ 33
     → IsPlainText text (record { whole = length text - (n + 1); fraction = n; number = number })
 plain_prefix_point text number n p some few =
@@ -316,8 +300,8 @@ wide_allocates reading bytes len most b h more =
 pub ok_is : {a b : Unsigned} → (let r : Result Unsigned ReadError = Ok a in r) ≡ Ok b → a ≡ b
 ok_is h = cc
 
-module _ (whole fraction number : ℕ) (ds : List ℕ) (bcd : IsBcd number (whole + fraction) ds) (few : whole ≤ 32768)
-    (short : fraction ≤ 32768) where
+module _ (whole fraction number : ℕ) (ds : List ℕ) (bcd : IsBcd number (whole + fraction) ds)
+    (few : whole + fraction ≤ 32768) where
   -- the value by the number of the digits
   value_is : value_of_first whole ds
       ≡ record {
@@ -353,8 +337,7 @@ module _ (whole fraction number : ℕ) (ds : List ℕ) (bcd : IsBcd number (whol
       -- the zero nibbles bound the nonzero digits, which are no more than the digits
       pub bcd_sizes : (trailing_zeros width number / 4 < k - leading_zeros width number / 4)
           × (k - leading_zeros width number / 4 ≤ whole + fraction)
-      bcd_sizes =
-          (omega (arith, found.0, found.1.ordered, found.1.within), omega (arith, found.0, bcd.count))
+      bcd_sizes = (omega (arith, found.0, found.1.ordered, found.1.within), omega (arith, found.0, bcd.count))
 
       -- what holds of the nonzero digits, at the top of the shifted number
       pub bcd_inner : (F : List ℕ → Type 0) (zeros len : ℕ) → zeros ≡ leading_zeros width number / 4
@@ -389,9 +372,10 @@ module _ (whole fraction number : ℕ) (ds : List ℕ) (bcd : IsBcd number (whol
           let places : k - zeros ≤ length ds = omega (arith, z, found.0) in
           let n : IsNonzeroRange ds start end = rw z found.1 in
           let at : b.magnitude ≡ (pos whole -ℤ pos 1) -ℤ pos start = omega (arith, ints, m, places, bcd.count) in
-          let stored = stored_middle ds start end whole fraction b.magnitude n bcd.digits bcd.count few short at in
+          let stored = stored_middle ds start end whole fraction b.magnitude n bcd.digits bcd.count
+          (omega (arith, few)) (omega (arith, few)) at in
           let units =
-          number_of-middle ds start end whole fraction b.magnitude n bcd.count short
+          number_of-middle ds start end whole fraction b.magnitude n bcd.count (omega (arith, few))
           (omega (arith, ints, at, offset_is b.magnitude, n.ordered, n.within, bcd.count)) in
           let packed = bcd_inner (Encodes bytes len) zeros len z l encoded in
           record {
@@ -410,21 +394,21 @@ module _ (whole fraction number : ℕ) (fits : number < 2 ^ 64) (some : 0 < numb
   len = places - trailing_zeros w64 number / 4
 
   pub short_sizes : (trailing_zeros w64 number / 4 < places) × (places ≤ whole + fraction)
-  short_sizes = bcd_sizes whole fraction number ds bcd (omega arith) (omega arith) w64 16 refl fits some
+  short_sizes = bcd_sizes whole fraction number ds bcd (omega (arith, few)) w64 16 refl fits some
 
   pub short_value : (b : Bounds) → b.magnitude ≡ pos places -ℤ pos (fraction + 1) → b.hi ≡ pos (whole - 1)
       → b.lo ≡ pos 0 -ℤ pos fraction
       → IsBcdValue (Ok (value_of_first whole ds))
       (leading_bytes (number * 2 ^ (4 * (leading_zeros w64 number / 4)) % 2 ^ 64) len) len b
   short_value b m hi lo =
-      bcd_value whole fraction number ds bcd (omega arith) (omega arith) w64 16 refl fits some _ _ _ b refl refl m hi lo
+      bcd_value whole fraction number ds bcd (omega (arith, few)) w64 16 refl fits some _ _ _ b refl refl m hi lo
       (λ ds l few below e. leading_bytes_encode ds _ _ l few below e)
 
   -- the nibbles after them are 0
   pub short_zeros : drop len (word_nibbles (number * 2 ^ (4 * (leading_zeros w64 number / 4)) % 2 ^ 64))
       ≡ replicate (16 - len) 0
   short_zeros =
-      bcd_inner whole fraction number ds bcd (omega arith) (omega arith) w64 16 refl fits some
+      bcd_inner whole fraction number ds bcd (omega (arith, few)) w64 16 refl fits some
       (λ _. drop len (word_nibbles (number * 2 ^ (4 * (leading_zeros w64 number / 4)) % 2 ^ 64))
       ≡ replicate (16 - len) 0)
       _ _ refl refl (λ es l few below e. zeros_of_digits es _ _ l few below e)
@@ -465,5 +449,4 @@ module _ (text : List ℕ) (p : PlainText ℕ) (plain : IsPlainText text p) wher
         hi = pos (plain.whole i - 1);
         lo = pos 0 -ℤ pos (plain.fraction i);
       }))
-      ∙ ap Ok (sym (value_is p.whole p.fraction p.number plain_digits plain_bcd (omega (arith, few_digits))
-      (omega (arith, few_digits))))
+      ∙ ap Ok (sym (value_is p.whole p.fraction p.number plain_digits plain_bcd (omega (arith, few_digits))))

@@ -14,6 +14,7 @@ pub use Rattle.decimal_digits.specs.declared.rounding.RoundingIncrement.{Roundin
 pub use Rattle.decimal_digits.specs.declared.rounding.RoundingIncrement.TheVariants.{MultiplesOf1}
 pub use Rattle.decimal_digits.specs.declared.rounding.UnsignedRoundingMode.{UnsignedRoundingMode}
 pub use Rattle.decimal_digits.specs.declared.rounding.UnsignedRoundingMode.TheVariants.{Trunc}
+pub use Rattle.decimal_unsigned.proofs.Rules.{steps}
 pub use Rattle.decimal_unsigned.specs.ValueLaws.{SplitsAt, trunced}
 pub use Rattle.decimal_unsigned.specs.Edits.{leaves_limits, multiplied, with_max_position}
 pub use Rattle.decimal_unsigned.specs.Stored.{IsStored}

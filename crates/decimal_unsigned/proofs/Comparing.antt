@@ -1,21 +1,22 @@
--- The order of two numbers, by their digits.
-use Rattle.decimal_unsigned.proofs.Common.{clamps, nat_tests, common_steps, ◌≡◌, ℕ, suc, ◌+◌, ◌-◌, ◌*◌, ◌^◌, ◌<◌, ◌≤◌, ◌%◌, ◌/◌, List, [], ◌∷◌, ◌++◌, length, get_or, drop, take, replicate, refl, sym, ◌∙◌, ap, arith, ◌⊎◌, inl, inr, min, ℤ, ◌<ℤ◌, nat_cmp, mul-le-mul_right, mul-lt-mul_of_pos_right, pow-le-pow_right, ints, recursion_from_All, number_lt, pow-add, number_from_digits, AllBelowBase, offset, offset_is, IsStored, All, slice_cmp, below_sixteen, Unsigned, IsValue}
+-- The order and the equality of two numbers, by their digits.
+use Rattle.decimal_unsigned.proofs.Common.{nat_tests, ◌≡◌, ℕ, zero, suc, ◌+◌, ◌-◌, ◌*◌, ◌^◌, ◌<◌, ◌≤◌, ◌%◌, ◌/◌, List, [], ◌∷◌, ◌++◌, length, get_or, drop, take, replicate, refl, sym, ◌∙◌, ap, arith, ◌⊎◌, inl, inr, min, ℤ, ◌<ℤ◌, nat_cmp, mul-le-mul_right, pow-le-pow_right, ints, recursion_from_All, number_lt, number_from_digits, AllBelowBase, offset, offset_is, IsStored, All, slice_cmp, below_sixteen, below_take, below_drop, length-drop, length-take-le, length-append, length-replicate, take-append-drop, Unsigned, IsValue, common_steps, steps, subst, pos, negsuc, ◌+ℤ◌, ◌-ℤ◌, ◌≤ℤ◌, cases_lt, Bool, true, false, text, read, digit, first, last}
 use Rattle.std.specs.declared.cmp.Ordering.{Ordering}
 use Rattle.std.specs.declared.cmp.Ordering.TheVariants.{Less, Equal, Greater}
-use Rattle.std.specs.Ordering.{MatchOrdering, ordering_then, int_cmp}
-use Rattle.std.specs.Cmp.{ranked, nat_cmp_is}
-use Rattle.std.proofs.Math.Nat.{one-le-pow, mul-pos}
+use Rattle.std.specs.Ordering.{MatchOrdering, ordering_then, ordering_reverse, int_cmp}
+use Rattle.std.specs.Cmp.{ranked, nat_cmp_is, IsEquivalence, and_equiv, on_equiv, nat_eq_equiv, int_eq_equiv}
 use Rattle.std.proofs.lemmas.Grind.{same_number_lists}
-use Rattle.std.proofs.lemmas.Bool.{cases_lt}
-use Rattle.std.proofs.lemmas.List.{length-take-le, length-append, length-replicate, get_or_past}
-use Rattle.std.proofs.lemmas.List.Elements.{All-append, All-replicate}
+use Rattle.std.proofs.lemmas.Cmp.{nat_list_cmp_total, tied_itself}
+use Rattle.std.proofs.lemmas.List.{take-take, ext_get_or}
+use Rattle.std.proofs.lemmas.List.Elements.{All-append, All-replicate, All-from_recursion}
 use Rattle.decimal_digits.specs.Digits.{number_of, number_at}
-use Rattle.decimal_digits.specs.Nibbles.{nibbles, digits_in, bcd_number, IsPacked}
-use Rattle.decimal_digits.proofs.DigitLists.{below_take, number-div, number_first, number_pad, number_split, number-drop-lt}
-use Rattle.decimal_digits.proofs.LeadingBytes.{bytes_number, padded_front, squares}
-use Rattle.decimal_digits.proofs.Nibbles.{nibble_rules, nibble_is, high_nibble}
-use Rattle.decimal_unsigned.proofs.Shown.{value_of_view}
-use Rattle.decimal_unsigned.proofs.Values.{number_of-lt, number_of-ge, number_of-pos, number_of-none, lowest}
+use Rattle.decimal_digits.specs.Nibbles.{nibbles, digits_in, bcd_number, padded, IsPacked}
+use Rattle.decimal_digits.proofs.DigitLists.{number_first, number_pad}
+use Rattle.decimal_digits.proofs.LeadingBytes.{length-padded, padded_digits, padded_few, padded_front}
+use Rattle.decimal_digits.proofs.Nibbles.{nibble_rules}
+use Rattle.decimal_unsigned.proofs.Values.{value_of_view, number_of-lt, number_of-ge, number_of-pos, number_of-none, lowest, first_of, last-number_of, none_of, digit-number_of-in}
+use Rattle.std.proofs.Common.{IsTrue, ◌↔◌}
+use Rattle.decimal_unsigned.proofs.ReadBack.{read_text}
+use Rattle.decimal_unsigned.specs.Unsigned.{same}
 
 -- two numbers compare as two others if each order implies the same order
 pub same_order : (a b x y : ℕ) → (a < b → x < y) → (a ≡ b → x ≡ y) → (b < a → y < x) → nat_cmp a b ≡ nat_cmp x y
@@ -43,94 +44,109 @@ lengths_decide xs ys i e =
     grind (arith, common_steps) in
     same ∙ none_left (drop i xs) (drop i ys) (grind (arith, common_steps))
 
--- ---- two lists of digits in the same places, in any base, whose last digit is not 0
+-- ---- numbers and lists of digits, in any base
+-- sums whose second parts are below p compare as their first parts, and if these are equal, as their second parts
+sums_order : (p a b r s : ℕ) → r < p → s < p
+    → nat_cmp (a * p + r) (b * p + s) ≡ ordering_then (nat_cmp a b) (nat_cmp r s)
+sums_order p a b r s l m = sym (go (nat_cmp a b) (ranked a b _ refl))
+  where
+    go : (o : Ordering) → MatchOrdering o (a < b) (a ≡ b) (b < a)
+        → ordering_then o (nat_cmp r s) ≡ nat_cmp (a * p + r) (b * p + s)
+    go Less h = let n = mul-le-mul_right p h in nat_cmp_is (a * p + r) (b * p + s) Less (omega arith)
+    go Equal e = rw e (same_order r s (b * p + r) (b * p + s) (λ h. omega arith) (λ h. omega arith) (λ h. omega arith))
+    go Greater h = let n = mul-le-mul_right p h in nat_cmp_is (a * p + r) (b * p + s) Greater (omega arith)
+
+then_assoc : (q r s : Ordering) → ordering_then (ordering_then q r) s ≡ ordering_then q (ordering_then r s)
+then_assoc Less r s = refl
+then_assoc Equal r s = refl
+then_assoc Greater r s = refl
+
+-- lists that begin with lists of the same length compare as these, and if these are equal, as the rest
+append_order : (xs ys us vs : List ℕ) → length xs ≡ length ys
+    → slice_cmp nat_cmp (xs ++ us) (ys ++ vs) ≡ ordering_then (slice_cmp nat_cmp xs ys) (slice_cmp nat_cmp us vs)
+append_order [] [] us vs e = refl
+append_order [] (y ∷ ys) us vs e = absurd (omega (arith, e))
+append_order (x ∷ xs) [] us vs e = absurd (omega (arith, e))
+append_order (x ∷ xs) (y ∷ ys) us vs e =
+    ap (ordering_then (nat_cmp x y)) (append_order xs ys us vs (omega (arith, e))) ∙ sym (then_assoc (nat_cmp x y) _ _)
+
+-- lists of the same length compare as the numbers that they write
+numbers_decide : (base : ℕ) (ds es : List ℕ) → AllBelowBase base ds → AllBelowBase base es → length ds ≡ length es
+    → slice_cmp nat_cmp ds es ≡ nat_cmp (number_from_digits base ds) (number_from_digits base es)
+numbers_decide base [] [] b c e = nat_cmp_is 0 0 Equal refl
+numbers_decide base [] (y ∷ es) b c e = absurd (omega (arith, e))
+numbers_decide base (x ∷ ds) [] b c e = absurd (omega (arith, e))
+numbers_decide base (x ∷ ds) (y ∷ es) b c e =
+    let same : length es ≡ length ds = omega (arith, e) in
+    let right = rw same at (number_first base y es) in
+    let fits = rw same at (number_lt base es c.1) in
+    ap (ordering_then (nat_cmp x y)) (numbers_decide base ds es b.1 c.1 (sym same))
+    ∙ sym (sums_order (base ^ length ds) x y _ _ (number_lt base ds b.1) fits)
+    ∙ (λ k. nat_cmp (sym (number_first base x ds) k) (sym right k))
+
+-- ---- lists of digits whose last digit is not 0
 abbrev EndsInDigit : List ℕ → Type 0
 EndsInDigit ds = 0 < length ds → 0 < get_or ds (length ds - 1) 0
 
 others_end : (d : ℕ) (ds : List ℕ) → EndsInDigit (d ∷ ds) → EndsInDigit ds
-others_end d ds ends some = grind (arith, ints, clamps, nat_tests, common_steps)
+others_end d ds ends some = grind steps
 
-module _ (base : ℕ) (above : 0 < base) where
-  -- the number that the digits write, the first with the weight base ^ (top - 1)
-  abbrev worth : ℕ → List ℕ → ℕ
-  worth top ds = number_from_digits base ds * base ^ (top - length ds)
+zeros_less : (i j d : ℕ) (ds : List ℕ) → EndsInDigit (d ∷ ds)
+    → slice_cmp nat_cmp (replicate i 0) (d ∷ (ds ++ replicate j 0)) ≡ Less
+zeros_less zero j d ds ends = refl
+zeros_less (suc i) j d [] ends = let some : 0 < d = ends (omega arith) in grind (arith, nat_tests, some)
+zeros_less (suc i) j d (e ∷ ds) ends =
+    let rest = zeros_less i j e ds (others_end d (e ∷ ds) ends) in
+    rw rest (grind (arith, nat_tests))
 
-  power_pos : (k : ℕ) → 0 < base ^ k
-  power_pos k = omega (arith, one-le-pow k base (omega arith))
+-- trailing zeros do not change their order
+zeros_after : (i j : ℕ) (ds es : List ℕ) → EndsInDigit ds → EndsInDigit es → (length ds ≡ length es → i ≡ j)
+    → slice_cmp nat_cmp (ds ++ replicate i 0) (es ++ replicate j 0) ≡ slice_cmp nat_cmp ds es
+zeros_after i j [] [] p q e = rw (e refl) (tied_itself nat_list_cmp_total (replicate j 0))
+zeros_after i j [] (d ∷ es) p q e = zeros_less i j d es q
+zeros_after i j (d ∷ ds) [] p q e =
+    nat_list_cmp_total.antisymm ((d ∷ ds) ++ replicate i 0) (replicate j 0)
+    ∙ ap ordering_reverse (zeros_less j i d ds p)
+zeros_after i j (d ∷ ds) (c ∷ es) p q e =
+    ap (ordering_then (nat_cmp d c))
+    (zeros_after i j ds es (others_end d ds p) (others_end c es q) (λ l. e (ap suc l)))
 
-  worth_lt : (top : ℕ) (ds : List ℕ) → AllBelowBase base ds → length ds ≤ top → worth top ds < base ^ top
-  worth_lt top ds b h = grind (arith, number_lt, pow-add, mul-lt-mul_of_pos_right, one-le-pow)
+-- digits, with zeros up to `top` of them, are digits
+below_padded : (base k : ℕ) (ds : List ℕ) → 0 < base → AllBelowBase base ds → AllBelowBase base (ds ++ replicate k 0)
+below_padded base k ds some b =
+    let P = λ (d : ℕ). d < base in
+    recursion_from_All P _ (All-append P ds _ (All-from_recursion P ds b) (All-replicate P k 0 some))
 
-  number_pos : (d : ℕ) (ds : List ℕ) → EndsInDigit (d ∷ ds) → 0 < number_from_digits base (d ∷ ds)
-  number_pos d [] ends = let e : 0 < d = ends (omega arith) in omega (arith, number_first base d [])
-  number_pos d (e ∷ es) ends =
-      omega (arith, number_first base d (e ∷ es), number_pos e es (others_end d (e ∷ es) ends))
+-- they compare as the numbers that they write, the first digits in the same place
+digits_order : (base top : ℕ) (ds es : List ℕ) → 0 < base → AllBelowBase base ds → AllBelowBase base es
+    → length ds ≤ top → length es ≤ top → EndsInDigit ds → EndsInDigit es
+    → slice_cmp nat_cmp ds es
+    ≡ nat_cmp (number_from_digits base ds * base ^ (top - length ds))
+    (number_from_digits base es * base ^ (top - length es))
+digits_order base top ds es some b c f g p q =
+    let i = top - length ds in
+    let j = top - length es in
+    sym (zeros_after i j ds es p q (λ l. omega (arith, l)))
+    ∙ numbers_decide base (ds ++ replicate i 0) (es ++ replicate j 0) (below_padded base i ds some b)
+    (below_padded base j es some c) (grind (arith, length-append, length-replicate))
+    ∙ (λ k. nat_cmp (number_pad base i ds k) (number_pad base j es k))
 
-  worth_pos : (top d : ℕ) (ds : List ℕ) → EndsInDigit (d ∷ ds) → 0 < worth top (d ∷ ds)
-  worth_pos top d ds ends = mul-pos (number_pos d ds ends) (power_pos (top - length (d ∷ ds)))
-
-  less_first : (d e p x y : ℕ) → d < e → x < p → d * p + x < e * p + y
-  less_first d e p x y h l = grind arith
-
-  moved_up : (d top a b : ℕ) → a ≤ top
-      → (d * base ^ a + b) * base ^ (top - a) ≡ d * base ^ top + b * base ^ (top - a)
-  moved_up d top a b h = grind (arith, pow-add)
-
-  first_and_others : (top d : ℕ) (ds : List ℕ) → length (d ∷ ds) ≤ top
-      → worth top (d ∷ ds) ≡ d * base ^ (top - 1) + worth (top - 1) ds
-  first_and_others top d ds h = grind (arith, ints, clamps, nat_tests, common_steps, number_first, moved_up)
-
-  -- digits compare as their first digits, and if these are equal, as the other digits
-  module _ (top d e : ℕ) (ds es : List ℕ) (b : AllBelowBase base ds) (c : AllBelowBase base es)
-      (f : length (d ∷ ds) ≤ top) (g : length (e ∷ es) ≤ top)
-      (others : MatchOrdering (slice_cmp nat_cmp ds es) (worth (top - 1) ds < worth (top - 1) es)
-      (worth (top - 1) ds ≡ worth (top - 1) es) (worth (top - 1) es < worth (top - 1) ds)) where
-    firsts : (r : Ordering) → MatchOrdering r (d < e) (d ≡ e) (e < d)
-        → MatchOrdering (ordering_then r (slice_cmp nat_cmp ds es)) (worth top (d ∷ ds) < worth top (e ∷ es))
-        (worth top (d ∷ ds) ≡ worth top (e ∷ es)) (worth top (e ∷ es) < worth top (d ∷ ds))
-    firsts Less h =
-        rw (first_and_others top d ds f, first_and_others top e es g)
-        (less_first d e _ _ _ h (worth_lt (top - 1) ds b (omega arith)))
-    firsts Equal h = grind (arith, ints, clamps, nat_tests, common_steps, first_and_others)
-    firsts Greater h =
-        rw (first_and_others top d ds f, first_and_others top e es g)
-        (less_first e d _ _ _ h (worth_lt (top - 1) es c (omega arith)))
-
-  -- lists of digits compare as the numbers that they write
-  pub digits_order : (top : ℕ) (ds es : List ℕ) → AllBelowBase base ds → AllBelowBase base es → length ds ≤ top
-      → length es ≤ top → EndsInDigit ds → EndsInDigit es
-      → slice_cmp nat_cmp ds es ≡ nat_cmp (worth top ds) (worth top es)
-  digits_order top [] [] b c f g p q = nat_cmp_is (worth top []) (worth top []) Equal refl
-  digits_order top [] (e ∷ es) b c f g p q = grind (arith, nat_cmp_is, Less, worth_pos)
-  digits_order top (d ∷ ds) [] b c f g p q = grind (arith, nat_cmp_is, Greater, worth_pos)
-  digits_order top (d ∷ ds) (e ∷ es) b c f g p q =
-      let others =
-      ranked (worth (top - 1) ds) (worth (top - 1) es) (slice_cmp nat_cmp ds es)
-      (digits_order (top - 1) ds es b.1 c.1 (omega arith) (omega arith) (others_end d ds p) (others_end e es q)) in
-      nat_cmp_is (worth top (d ∷ ds)) (worth top (e ∷ es)) (ordering_then (nat_cmp d e) (slice_cmp nat_cmp ds es))
-      (firsts top d e ds es b.1 c.1 f g others (nat_cmp d e) (ranked d e (nat_cmp d e) refl))
-
-  -- lists of the same length compare as the numbers that they write
-  equal_lengths : (top : ℕ) (ds es : List ℕ) → AllBelowBase base ds → AllBelowBase base es → length ds ≡ top
-      → length es ≡ top → slice_cmp nat_cmp ds es ≡ nat_cmp (worth top ds) (worth top es)
-  equal_lengths top [] [] b c f g = nat_cmp_is (worth top []) (worth top []) Equal refl
-  equal_lengths top [] (e ∷ es) b c f g = absurd (omega (arith, f, g))
-  equal_lengths top (d ∷ ds) [] b c f g = absurd (omega (arith, f, g))
-  equal_lengths top (d ∷ ds) (e ∷ es) b c f g =
-      let others =
-      ranked (worth (top - 1) ds) (worth (top - 1) es) (slice_cmp nat_cmp ds es)
-      (equal_lengths (top - 1) ds es b.1 c.1 (omega arith) (omega arith)) in
-      nat_cmp_is (worth top (d ∷ ds)) (worth top (e ∷ es)) (ordering_then (nat_cmp d e) (slice_cmp nat_cmp ds es))
-      (firsts top d e ds es b.1 c.1 (omega arith) (omega arith) others (nat_cmp d e) (ranked d e (nat_cmp d e) refl))
-
--- the number of the first k of at least eight bytes, k at most eight
-first_bytes : (k : ℕ) (xs : List ℕ) → AllBelowBase 256 xs → k ≤ 8 → 8 ≤ length xs
-    → number_from_digits 256 (take 8 xs) / 256 ^ (8 - k) ≡ number_from_digits 256 (take k xs)
-first_bytes k xs b h enough =
-    let eight : length (take 8 xs) ≡ 8 = length-take-le 8 xs enough in
-    let short : take k (take 8 xs) ≡ take k xs = same_number_lists _ _ (grind (arith, common_steps)) (λ i l.
-    grind (arith, common_steps)) in
-    rw (eight, short) at (number-div 256 k (take 8 xs) (below_take 256 8 xs b) (omega arith))
+-- ---- lists of 8 to 16 bytes
+front_ties : (k : ℕ) (xs ys : List ℕ) → slice_cmp nat_cmp xs ys ≡ Equal
+    → slice_cmp nat_cmp (take k xs) (take k ys) ≡ Equal
+front_ties zero xs ys e = refl
+front_ties (suc k) [] [] e = refl
+front_ties (suc k) [] (y ∷ ys) e = absurd (cc)
+front_ties (suc k) (x ∷ xs) [] e = absurd (cc)
+front_ties (suc k) (x ∷ xs) (y ∷ ys) e = both (nat_cmp x y) (front_ties k xs ys) e
+  where
+    both : (r : Ordering)
+        → (slice_cmp nat_cmp xs ys ≡ Equal → slice_cmp nat_cmp (take k xs) (take k ys) ≡ Equal)
+        → ordering_then r (slice_cmp nat_cmp xs ys) ≡ Equal
+        → ordering_then r (slice_cmp nat_cmp (take k xs) (take k ys)) ≡ Equal
+    both Less f h = absurd (cc)
+    both Equal f h = f h
+    both Greater f h = absurd (cc)
 
 -- lists of 8 to 16 bytes with the same first eight have the order of their last eight
 pub ends_order : (xs ys : List ℕ) → AllBelowBase 256 xs → AllBelowBase 256 ys → length xs ≡ length ys → 8 ≤ length xs
@@ -138,123 +154,99 @@ pub ends_order : (xs ys : List ℕ) → AllBelowBase 256 xs → AllBelowBase 256
     → nat_cmp (number_from_digits 256 (drop (length xs - 8) xs)) (number_from_digits 256 (drop (length xs - 8) ys))
     ≡ slice_cmp nat_cmp xs ys
 ends_order xs ys b c same enough few fronts =
-    let n = length xs in
-    let k = n - 8 in
-    let r = number_from_digits 256 (drop k xs) in
-    let s = number_from_digits 256 (drop k ys) in
-    let p = number_from_digits 256 (take k xs) in
-    let first : p ≡ number_from_digits 256 (take k ys) = grind (arith, first_bytes, fronts) in
-    let left : number_from_digits 256 xs ≡ p * 256 ^ (n - k) + r = number_split 256 k xs (omega arith) in
-    let right : number_from_digits 256 ys ≡ p * 256 ^ (n - k) + s = grind (arith, number_split) in
-    let none : n - n ≡ 0 = omega arith in
-    let left_worth : worth 256 (omega arith) n xs ≡ number_from_digits 256 xs = rw none (omega arith) in
-    let right_worth : worth 256 (omega arith) n ys ≡ number_from_digits 256 ys = rw (sym same, none) (omega arith) in
-    same_order r s (worth 256 (omega arith) n xs) (worth 256 (omega arith) n ys)
-    (λ l. omega (arith, left, right, left_worth, right_worth))
-    (λ l. omega (arith, left, right, left_worth, right_worth))
-    (λ l. omega (arith, left, right, left_worth, right_worth))
-    ∙ sym (equal_lengths 256 (omega arith) n xs ys b c refl (sym same))
+    let k = length xs - 8 in
+    let ties : slice_cmp nat_cmp (take 8 xs) (take 8 ys) ≡ Equal =
+    numbers_decide 256 (take 8 xs) (take 8 ys) (below_take 256 8 xs b) (below_take 256 8 ys c)
+    (grind (arith, length-take-le)) ∙ sym (nat_cmp_is _ _ Equal fronts) in
+    let front : slice_cmp nat_cmp (take k xs) (take k ys) ≡ Equal =
+    rw (take-take k 8 xs (omega arith), take-take k 8 ys (omega arith)) at
+    (front_ties k (take 8 xs) (take 8 ys) ties) in
+    let both = append_order (take k xs) (take k ys) (drop k xs) (drop k ys) (grind (arith, length-take-le)) in
+    sym (numbers_decide 256 (drop k xs) (drop k ys) (below_drop 256 k xs b) (below_drop 256 k ys c)
+    (grind (arith, length-drop)))
+    ∙ sym (ap (λ r. ordering_then r (slice_cmp nat_cmp (drop k xs) (drop k ys))) front)
+    ∙ sym both
+    ∙ (λ i. slice_cmp nat_cmp (take-append-drop k xs i) (take-append-drop k ys i))
 
--- ---- two lists of decimal digits, by their first sixteen digits, and by the next sixteen
--- the number that the digits after the first sixteen write, padded with zeros to `top` digits
-abbrev rest : List ℕ → ℕ → ℕ
-rest ds top = number_from_digits 16 (drop 16 (ds ++ replicate (top - length ds) 0))
+-- ---- packed bytes
+byte_order : (b c : ℕ) (r : Ordering)
+    → ordering_then (nat_cmp b c) r
+    ≡ ordering_then (nat_cmp (b / 16) (c / 16)) (ordering_then (nat_cmp (b % 16) (c % 16)) r)
+byte_order b c r =
+    ap (λ o. ordering_then o r)
+    ((let e : b ≡ b / 16 * 16 + b % 16 = omega arith in let f : c ≡ c / 16 * 16 + c % 16 = omega arith in
+    (λ k. nat_cmp (e k) (f k)))
+    ∙ sums_order 16 (b / 16) (c / 16) (b % 16) (c % 16) (omega arith) (omega arith))
+    ∙ then_assoc (nat_cmp (b / 16) (c / 16)) _ _
 
--- the digits, padded with zeros to at least sixteen, are the first sixteen and the rest
-fronts : (ds : List ℕ) (top : ℕ) → All (λ d. d < 10) ds → length ds ≤ top → 16 ≤ top
-    → (worth 16 (omega arith) top ds ≡ bcd_number ds * 16 ^ (top - 16) + rest ds top) × (rest ds top < 16 ^ (top - 16))
-unfolding bcd_number
-fronts ds top h fits enough =
-    let padded = ds ++ replicate (top - length ds) 0 in
-    let len : length padded ≡ top = grind (arith, length-append, length-replicate) in
-    let digits = All-append (λ d. d < 10) ds _ h (All-replicate (λ d. d < 10) (top - length ds) 0 (omega arith)) in
-    let below = below_sixteen padded (recursion_from_All (λ d. d < 10) padded digits) in
-    let split = rw len at (number_split 16 16 padded (omega arith)) in (
-      sym (number_pad 16 (top - length ds) ds) ∙ split
-          ∙ ap (λ xs. number_from_digits 16 xs * 16 ^ (top - 16) + rest ds top) (padded_front 16 top ds enough fits),
-      rw len at (number-drop-lt 16 16 padded below),
-    )
+-- bytes compare as their nibbles
+nibbles_order : (bs cs : List ℕ) → slice_cmp nat_cmp bs cs ≡ slice_cmp nat_cmp (nibbles bs) (nibbles cs)
+unfolding nibbles
+nibbles_order [] [] = refl
+nibbles_order [] (c ∷ cs) = refl
+nibbles_order (b ∷ bs) [] = refl
+nibbles_order (b ∷ bs) (c ∷ cs) = ap (ordering_then (nat_cmp b c)) (nibbles_order bs cs) ∙ byte_order b c _
 
--- the first parts decide if they differ
-firsts_decide : (a b p r s : ℕ) → r < p → s < p → ¬ (a ≡ b) → nat_cmp a b ≡ nat_cmp (a * p + r) (b * p + s)
-firsts_decide a b p r s l m differ =
-    same_order a b (a * p + r) (b * p + s) (λ h. let n = mul-le-mul_right p h in omega arith) (λ e. absurd (differ e))
-    (λ h. let n = mul-le-mul_right p h in omega arith)
+-- the nibbles are the digits, and a zero after an odd number of them
+nibbles_are : (bytes ds : List ℕ) → IsPacked bytes (length ds) → digits_in bytes (length ds) ≡ ds
+    → nibbles bytes ≡ ds ++ replicate (length ds % 2) 0
+nibbles_are bytes ds packed same = grind (steps, same_number_lists, nibble_rules)
 
-module _ (ds es : List ℕ) (h : All (λ d. d < 10) ds) (g : All (λ d. d < 10) es) (p : EndsInDigit ds)
-    (q : EndsInDigit es) where
-  order_at : (top : ℕ) → length ds ≤ top → length es ≤ top
-      → slice_cmp nat_cmp ds es ≡ nat_cmp (worth 16 (omega arith) top ds) (worth 16 (omega arith) top es)
-  order_at top l m = grind (arith, digits_order, below_sixteen, recursion_from_All)
-
-  -- the lists have the order of the numbers of their first sixteen digits, if these differ or there are no others
-  pub fronts_order : (¬ (bcd_number ds ≡ bcd_number es)) ⊎ ((length ds ≤ 16) × (length es ≤ 16))
+-- ---- lists of decimal digits
+module _ (ds es : List ℕ) (p : EndsInDigit ds) (q : EndsInDigit es) where
+  -- the order of the numbers of their first sixteen digits, if these differ or there are no others
+  pub fronts_order : All (λ d. d < 10) ds → All (λ d. d < 10) es
+      → (¬ (bcd_number ds ≡ bcd_number es)) ⊎ ((length ds ≤ 16) × (length es ≤ 16))
       → nat_cmp (bcd_number ds) (bcd_number es) ≡ slice_cmp nat_cmp ds es
-  fronts_order (inl differ) =
-      let top = length ds + length es + 16 in
-      let (e, l) = fronts ds top h (omega arith) (omega arith) in
-      let (f, m) = fronts es top g (omega arith) (omega arith) in
-      firsts_decide (bcd_number ds) (bcd_number es) (16 ^ (top - 16)) (rest ds top) (rest es top) l m differ
-      ∙ (λ k. nat_cmp (sym e k) (sym f k)) ∙ sym (order_at top (omega arith) (omega arith))
-  fronts_order (inr few) =
-      let (e, l) = fronts ds 16 h few.0 (omega arith) in
-      let (f, m) = fronts es 16 g few.1 (omega arith) in
-      let left : worth 16 (omega arith) 16 ds ≡ bcd_number ds = omega arith in
-      let right : worth 16 (omega arith) 16 es ≡ bcd_number es = omega arith in
-      (λ k. nat_cmp (sym left k) (sym right k)) ∙ sym (order_at 16 few.0 few.1)
+  unfolding bcd_number
+  fronts_order h g which = sym fronts ∙ go which
+    where
+      fronts : slice_cmp nat_cmp (padded 16 ds) (padded 16 es) ≡ nat_cmp (bcd_number ds) (bcd_number es)
+      fronts =
+          numbers_decide 16 (padded 16 ds) (padded 16 es) (below_sixteen _ (padded_digits 16 ds h))
+          (below_sixteen _ (padded_digits 16 es g)) (length-padded 16 ds ∙ sym (length-padded 16 es))
 
--- ---- two lists of digits, by their packed bytes
--- the bytes write the number of the digits
-module _ (bytes ds : List ℕ) (packed : IsPacked bytes (length ds)) (same : digits_in bytes (length ds) ≡ ds) where
-  nibbles_are : nibbles bytes ≡ ds ++ replicate (length ds % 2) 0
-  nibbles_are = grind (arith, ints, clamps, nat_tests, common_steps, same_number_lists, nibble_rules)
+      go : (¬ (bcd_number ds ≡ bcd_number es)) ⊎ ((length ds ≤ 16) × (length es ≤ 16))
+          → slice_cmp nat_cmp (padded 16 ds) (padded 16 es) ≡ slice_cmp nat_cmp ds es
+      go (inl differ) =
+          let top = length ds + length es + 16 in
+          let xs = ds ++ replicate (top - length ds) 0 in
+          let ys = es ++ replicate (top - length es) 0 in
+          let left : take 16 xs ≡ padded 16 ds = padded_front 16 top ds (omega arith) (omega arith) in
+          let right : take 16 ys ≡ padded 16 es = padded_front 16 top es (omega arith) (omega arith) in
+          let decided : (r : Ordering) → ordering_then (nat_cmp (bcd_number ds) (bcd_number es)) r
+          ≡ nat_cmp (bcd_number ds) (bcd_number es) = λ r. grind (arith, differ) in
+          fronts
+          ∙ sym (decided (slice_cmp nat_cmp (drop 16 xs) (drop 16 ys)))
+          ∙ ap (λ r. ordering_then r (slice_cmp nat_cmp (drop 16 xs) (drop 16 ys))) (sym fronts)
+          ∙ sym (append_order (padded 16 ds) (padded 16 es) (drop 16 xs) (drop 16 ys)
+          (length-padded 16 ds ∙ sym (length-padded 16 es)))
+          ∙ (λ k. slice_cmp nat_cmp (sym left k ++ drop 16 xs) (sym right k ++ drop 16 ys))
+          ∙ (λ k. slice_cmp nat_cmp (take-append-drop 16 xs k) (take-append-drop 16 ys k))
+          ∙ zeros_after (top - length ds) (top - length es) ds es p q (λ l. omega (arith, l))
+      go (inr few) =
+          (λ k. slice_cmp nat_cmp (sym (padded_few 16 ds few.0) k) (sym (padded_few 16 es few.1) k))
+          ∙ zeros_after (16 - length ds) (16 - length es) ds es p q (λ l. omega (arith, l))
 
-  packed_worth : (top : ℕ) → length bytes ≤ top
-      → worth 256 (omega arith) top bytes ≡ worth 16 (omega arith) (2 * top) ds
-  packed_worth top fits =
-      let number : number_from_digits 256 bytes ≡ number_from_digits 16 ds * 16 ^ (length ds % 2) =
-      sym (bytes_number 0 bytes) ∙ ap (number_from_digits 16) nibbles_are ∙ number_pad 16 (length ds % 2) ds in
-      let places : 256 ^ (top - length bytes) ≡ 16 ^ (2 * (top - length bytes)) = sym (squares (top - length bytes)) in
-      let all : length ds % 2 + 2 * (top - length bytes) ≡ 2 * top - length ds = omega (arith, packed.count) in
-      rw (number, places, ← all, pow-add) (omega arith)
-
-  bytes_end : EndsInDigit ds → EndsInDigit bytes
-  bytes_end ends some = grind (arith, nibbles_are, nibble_rules, nibble_is)
-
-  -- they are bytes
-  bytes_below : All (λ d. d < 10) ds → (i : ℕ) → get_or bytes i 0 < 256
-  bytes_below h i = elim (cases_lt i (length bytes)) [
-    | inl l ↦
-        let digits =
-        All-append (λ d. d < 10) ds _ h (All-replicate (λ d. d < 10) (length ds % 2) 0 (omega arith)) in
-        let high : get_or (ds ++ replicate (length ds % 2) 0) (2 * i) 0 < 10 =
-        grind (arith, length-append, length-replicate) in
-        omega (arith, high, high_nibble bytes i, ap (λ xs. get_or xs (2 * i) 0) nibbles_are)
-    | inr l ↦ omega (arith, get_or_past bytes i 0 l)
-  ]
+  -- packed bytes have the order of their digits
+  pub bytes_order : (bs cs : List ℕ) → IsPacked bs (length ds) → digits_in bs (length ds) ≡ ds
+      → IsPacked cs (length es) → digits_in cs (length es) ≡ es
+      → slice_cmp nat_cmp bs cs ≡ slice_cmp nat_cmp ds es
+  bytes_order bs cs m e n f =
+      nibbles_order bs cs
+      ∙ (λ k. slice_cmp nat_cmp (nibbles_are bs ds m e k) (nibbles_are cs es n f k))
+      ∙ zeros_after (length ds % 2) (length es % 2) ds es p q (ap (λ l. l % 2))
 
 pub all_below : (base : ℕ) (xs : List ℕ) → ((i : ℕ) → get_or xs i 0 < base) → AllBelowBase base xs
 all_below base [] h = tt
 all_below base (x ∷ xs) h = (h 0, all_below base xs (λ i. h (suc i)))
-
--- packed bytes have the order of their digits
-pub bytes_order : (bs cs ds es : List ℕ) → All (λ d. d < 10) ds → All (λ d. d < 10) es → EndsInDigit ds → EndsInDigit es
-    → IsPacked bs (length ds) → digits_in bs (length ds) ≡ ds → IsPacked cs (length es) → digits_in cs (length es) ≡ es
-    → slice_cmp nat_cmp bs cs ≡ slice_cmp nat_cmp ds es
-bytes_order bs cs ds es h g p q m e n f =
-    let top = length bs + length cs in
-    digits_order 256 (omega arith) top bs cs (all_below 256 bs (bytes_below bs ds m e h))
-    (all_below 256 cs (bytes_below cs es n f g)) (omega arith) (omega arith)
-    (bytes_end bs ds m e p) (bytes_end cs es n f q)
-    ∙ (λ k. nat_cmp (packed_worth bs ds m e top (omega arith) k) (packed_worth cs es n f top (omega arith) k))
-    ∙ sym (order_at ds es h g p q (2 * top) (omega (arith, m.count)) (omega (arith, n.count)))
 
 -- ---- two values
 module _ {ds es : List ℕ} {m m' hi lo hi' lo' : ℤ} (s : IsStored ds m hi lo) (t : IsStored es m' hi' lo') where
   -- digits from the same magnitude down compare as the numbers
   pub numbers_order : m ≡ m' → slice_cmp nat_cmp ds es ≡ nat_cmp (number_of ds m) (number_of es m')
   unfolding number_of number_at
-  numbers_order same = grind (arith, ints, clamps, nat_tests, common_steps, digits_order)
+  numbers_order same = grind (steps, digits_order)
 
   -- if one list is empty, the lengths compare as the numbers
   pub none_order : (length ds ≡ 0) ⊎ (length es ≡ 0)
@@ -288,3 +280,72 @@ module _ {ds es : List ℕ} {m m' hi lo hi' lo' : ℤ} (s : IsStored ds m hi lo)
     order = e ∙ (λ k. nat_cmp (p k).number (q k).number);
     valid = (value_of_view s p, value_of_view t q);
   }
+
+-- ---- A number has one list of digits.
+module _ {ds es : List ℕ} {m n hi lo hi' lo' : ℤ} (t : IsStored ds m hi lo) (u : IsStored es n hi' lo')
+    (e : number_of ds m ≡ number_of es n) where
+  -- one number has one first magnitude
+  pub same_magnitude : m ≡ n
+  same_magnitude = sym (first_of t) ∙ ap first e ∙ first_of u
+
+  -- one count of digits
+  pub same_length : length ds ≡ length es
+  same_length = elim (cases_lt 0 (length ds)) [
+    | inl h ↦ elim (cases_lt 0 (length es)) [
+      | inl k ↦
+          let a = last-number_of t h in
+          let b = last-number_of u k in
+          let l = ap last e in
+          let m' = same_magnitude in
+          omega (arith, ints, a, b, l, m')
+      | inr k ↦ let z : length es ≡ 0 = omega arith in let y = none_of t (e ∙ number_of-none u z) in omega arith
+    ]
+    | inr h ↦ let z : length ds ≡ 0 = omega arith in let y = none_of u (sym e ∙ number_of-none t z) in omega arith
+  ]
+
+  -- and one list of digits
+  pub same_digits : ds ≡ es
+  same_digits = ext_get_or 0 ds es same_length (λ i h.
+      let k : i < length es = omega (arith, same_length) in
+      let m' = same_magnitude in
+      let p : (m -ℤ pos i) +ℤ pos i ≡ m = omega (arith, ints) in
+      let q : (m -ℤ pos i) +ℤ pos i ≡ n = omega (arith, ints, m') in
+      let b : negsuc 32767 ≤ℤ (m -ℤ pos i) = grind (arith, offset_is, lowest) in
+      sym (digit-number_of-in t (m -ℤ pos i) i p b h)
+      ∙ ap (λ x. digit x (m -ℤ pos i)) e
+      ∙ digit-number_of-in u (m -ℤ pos i) i q b k)
+
+-- values that pass the test are equal
+pub same_is : (v w : Unsigned) → same v w ≡ true → v ≡ w
+same_is v w h = grind (arith, nat_tests, h)
+
+same_equiv : IsEquivalence same
+same_equiv =
+    and_equiv (on_equiv (λ (v : Unsigned). v.number) nat_eq_equiv)
+    (and_equiv (on_equiv (λ (v : Unsigned). v.hi) int_eq_equiv) (on_equiv (λ (v : Unsigned). v.lo) int_eq_equiv))
+
+-- equal values pass the test
+pub is_same : (v w : Unsigned) → v ≡ w → same v w ≡ true
+is_same v w e = subst (λ u. same v u ≡ true) e (same_equiv.refl v)
+
+-- unequal values fail it
+pub not_same : (v w : Unsigned) → ¬ (v ≡ w) → same v w ≡ false
+not_same v w n = grind (arith, nat_tests, ints)
+
+-- equal texts are those of equal values
+text_same : (v w : Unsigned) → IsValue v → IsValue w → text v ≡ text w → v ≡ w
+text_same v w p q e = let r = sym (read_text v p) ∙ ap read e ∙ read_text w q in cc
+
+-- a test for equality of two values decides equality of the values and of their texts
+pub tells : (b : Bool) (v w : Unsigned) → IsValue v × IsValue w → b ≡ same v w → record {
+  same : b ≡ same v w;
+  value : IsTrue b ↔ (v ≡ w);
+  texts : IsTrue b ↔ (text v ≡ text w);
+  valid : IsValue v × IsValue w;
+}
+tells b v w valid e = record {
+  same = e;
+  value = (λ x. same_is v w (sym e ∙ x), λ p. e ∙ is_same v w p);
+  texts = (λ x. ap text (same_is v w (sym e ∙ x)), λ t. e ∙ is_same v w (text_same v w valid.0 valid.1 t));
+  valid = valid;
+}

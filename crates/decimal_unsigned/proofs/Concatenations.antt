@@ -1,8 +1,9 @@
 -- Digits, zeros and then more digits.
-use Rattle.decimal_unsigned.proofs.Common.{◌≡◌, ℕ, ◌+◌, ◌-◌, ◌*◌, ◌^◌, ◌<◌, ◌≤◌, zero, suc, false, List, [], ◌∷◌, ◌++◌, length, replicate, refl, sym, ◌∙◌, ap, arith, ℤ, pos, negsuc, ◌+ℤ◌, ◌-ℤ◌, ◌≤ℤ◌, ◌<ℤ◌, int_max, int_min, ints, clamps, pow-add, nat_tests, length-append, number_from_digits, AllBelowBase, offset, first, last, offset_is, gap_is, IsStored, Unsigned, length-replicate, common_steps}
+use Rattle.decimal_unsigned.proofs.Common.{recursion_from_All, ◌≡◌, ℕ, ◌+◌, ◌-◌, ◌*◌, ◌^◌, ◌<◌, ◌≤◌, zero, suc, false, List, [], ◌∷◌, ◌++◌, length, replicate, refl, sym, ◌∙◌, ap, arith, ℤ, pos, negsuc, ◌+ℤ◌, ◌-ℤ◌, ◌≤ℤ◌, ◌<ℤ◌, int_max, int_min, ints, clamps, pow-add, nat_tests, length-append, number_from_digits, AllBelowBase, offset, first, last, offset_is, gap_is, IsStored, Unsigned, length-replicate, steps}
 use Rattle.std.proofs.lemmas.List.{get_or_append_left, get_or-append_right}
 use Rattle.decimal_digits.specs.Digits.{number_of, number_at}
-use Rattle.decimal_digits.proofs.DigitLists.{number-append, number_after}
+use Rattle.decimal_digits.proofs.DigitLists.{number-append, number_pad}
+use Rattle.std.proofs.lemmas.List.Elements.{All-append, All-from_recursion, All-replicate}
 use Rattle.decimal_unsigned.specs.Concatenation.{overlaps, concatenated_end, concatenated_size}
 use Rattle.decimal_unsigned.proofs.Values.{lowest, last-number_of, first_of, stored_as, last_covered, some_of}
 
@@ -22,31 +23,14 @@ taken v w {hi = hi} {lo = lo} {hi' = hi'} {lo' = lo'} t u p q =
     let down : lo ≡ int_min v.lo lo' = grind (arith) in
     wider u (omega (arith, ints, clamps, up)) (omega (arith, ints, clamps, down)) t.in_range.1 t.in_range.0
 
-number-zeros : (n : ℕ) → number_from_digits 10 (replicate n 0) ≡ 0
-number-zeros zero = refl
-number-zeros (suc n) =
-    let e : number_from_digits 10 (0 ∷ replicate n 0)
-    ≡ (0 * 10 + 0) * 10 ^ length (replicate n 0) + number_from_digits 10 (replicate n 0) =
-    number_after 10 (0 * 10 + 0) (replicate n 0) in
-    e ∙ (rw (number-zeros n) (omega arith))
-
-below-zeros : (n : ℕ) → AllBelowBase 10 (replicate n 0)
-below-zeros zero = tt
-below-zeros (suc n) = (omega arith, below-zeros n)
-
-below-append : (xs ys : List ℕ) → AllBelowBase 10 xs → AllBelowBase 10 ys → AllBelowBase 10 (xs ++ ys)
-below-append [] ys h k = k
-below-append (x ∷ xs) ys h k = (h.0, below-append xs ys h.1 k)
-
 module _ (ds es : List ℕ) (zeros : ℕ) where
   length-joined : length ((ds ++ replicate zeros 0) ++ es) ≡ length ds + zeros + length es
-  length-joined = grind (arith, ints, clamps, nat_tests, common_steps, length-append, length-replicate)
+  length-joined = grind (steps, length-append, length-replicate)
 
   -- the number that the first digits write is multiplied by a power of ten, by the length of the rest
   number-joined : number_from_digits 10 ((ds ++ replicate zeros 0) ++ es)
       ≡ number_from_digits 10 ds * 10 ^ (zeros + length es) + number_from_digits 10 es
-  number-joined =
-      grind (arith, ints, clamps, nat_tests, common_steps, number-append, number-zeros, length-replicate, pow-add)
+  number-joined = grind (steps, number-append, number_pad, length-replicate, pow-add)
 
 -- the second digits begin k + 1 places below the last of the first, with k zeros between
 module _ {ds es : List ℕ} {m hi lo n hi' lo' : ℤ} (t : IsStored ds m hi lo) (u : IsStored es n hi' lo') (k : ℕ)
@@ -56,8 +40,10 @@ module _ {ds es : List ℕ} {m hi lo n hi' lo' : ℤ} (t : IsStored ds m hi lo) 
 
   stored : IsStored ((ds ++ replicate k 0) ++ es) m (int_max hi hi') (int_min lo lo')
   stored =
+      let P = λ (d : ℕ). d < 10 in
       stored_as
-      (below-append (ds ++ replicate k 0) es (below-append ds (replicate k 0) t.digits (below-zeros k)) u.digits)
+      (recursion_from_All P _ (All-append P (ds ++ replicate k 0) es (All-append P ds (replicate k 0)
+      (All-from_recursion P ds t.digits) (All-replicate P k 0 (omega arith))) (All-from_recursion P es u.digits)))
       (λ h.
       let s : 0 < length (ds ++ replicate k 0) = omega (arith, some, length-append ds (replicate k 0)) in
       rw (get_or_append_left (ds ++ replicate k 0) es 0 0 s, get_or_append_left ds (replicate k 0) 0 0 some)

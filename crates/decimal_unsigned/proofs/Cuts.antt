@@ -1,5 +1,5 @@
 -- The part of a number below a position, by its digits.
-use Rattle.decimal_unsigned.proofs.Common.{nat_tests, common_steps, ◌≡◌, ℕ, ◌+◌, ◌-◌, ◌*◌, ◌%◌, ◌^◌, ◌<◌, ◌≤◌, min, List, length, get_or, take, drop, refl, sym, ◌∙◌, ap, subst, arith, inl, inr, ℤ, pos, negsuc, ◌+ℤ◌, ◌-ℤ◌, ◌≤ℤ◌, int_max, int_min, int_gap, mul-mod_left, mul-lt-mul_of_pos_right, pow-le-pow_right, ints, clamps, cases_lt, pow-add, length-drop, length-take-le, get_or-take, get_or-drop, number_from_digits, offset, weight, ten_pos, offset_is, gap_is, IsStored, with_max_position, mod-eq_of_lt, number_split, below_drop}
+use Rattle.decimal_unsigned.proofs.Common.{◌≡◌, ℕ, ◌+◌, ◌-◌, ◌*◌, ◌%◌, ◌^◌, ◌<◌, ◌≤◌, min, List, length, get_or, take, drop, refl, sym, ◌∙◌, ap, subst, arith, inl, inr, ℤ, pos, negsuc, ◌+ℤ◌, ◌-ℤ◌, ◌≤ℤ◌, int_max, int_min, int_gap, mul-mod_left, mul-lt-mul_of_pos_right, pow-le-pow_right, ints, clamps, cases_lt, pow-add, length-drop, length-take-le, get_or-take, get_or-drop, number_from_digits, offset, weight, ten_pos, offset_is, gap_is, IsStored, with_max_position, mod-eq_of_lt, number_split, below_drop, steps}
 use Rattle.std.proofs.lemmas.Nat.{mod-mul-add}
 use Rattle.std.proofs.lemmas.List.{drop-drop}
 use Rattle.decimal_digits.specs.Digits.{number_of, number_at}
@@ -18,20 +18,7 @@ number_cut ds a start h w zeros =
     let none : number_from_digits 10 (take (start - a) rest) ≡ 0 =
     grind (arith, number_zeros, length-take-le, get_or-take, get_or-drop) in
     let split = number_split 10 (start - a) rest (omega (arith, long)) in
-    grind (
-      arith,
-      ints,
-      clamps,
-      nat_tests,
-      common_steps,
-      length-drop,
-      number_zeros,
-      length-take-le,
-      get_or-take,
-      get_or-drop,
-      drop-drop,
-      number_split,
-    )
+    grind (steps, length-drop, number_zeros, length-take-le, get_or-take, get_or-drop, drop-drop, number_split)
 
 number_of_is : (ds : List ℕ) (m : ℤ) → number_of ds m ≡ number_from_digits 10 ds * 10 ^ (offset m + 1 - length ds)
 unfolding number_of number_at
@@ -92,19 +79,7 @@ module _ {ds : List ℕ} {m hi lo p m' hi' lo' : ℤ} {start : ℕ} (t : IsStore
         number_of_is (drop start ds) m'
         ∙ ap (λ k. rest_value * 10 ^ k)
         (let k : offset m' + 1 - length (drop start ds) ≡ ends =
-        omega (
-          arith,
-          ints,
-          left,
-          h,
-          c.some h,
-          t.fits,
-          offset_is m,
-          offset_is m',
-          offset_is lo,
-          lowest t,
-          t.in_range,
-        ) in
+        omega (arith, ints, left, h, c.some h, t.fits, offset_is m, offset_is m', offset_is lo, lowest t, t.in_range) in
         k)
     | inr h ↦
         let z = rest_none h in

@@ -1,5 +1,5 @@
 -- The number of digits of a text's value, and when a text has a value.
-use Rattle.decimal_unsigned.proofs.Common.{clamps, nat_tests, common_steps, ◌≡◌, ℕ, suc, ◌+◌, ◌-◌, ◌*◌, ◌%◌, ◌^◌, ◌<◌, ◌≤◌, Bool, true, false, ◌||◌, List, ◌++◌, length, refl, sym, ◌∙◌, ap, subst, arith, rules, inl, inr, Result, Ok, Err, Option, Some, None, ℤ, pos, negsuc, ◌+ℤ◌, ◌-ℤ◌, ◌≤ℤ◌, mul-mod_left, mul-le-mul_right, ints, pow-add, cases_lt, number_lt, digits_value_is, AllDigits, digits_value, size, first, last, ten_pos, no_more_zeros, gap_is, Unsigned, leaves_limits, multiplied, Literal, limit, is_outside, value_of, read, Grammar, mantissa}
+use Rattle.decimal_unsigned.proofs.Common.{◌≡◌, ℕ, suc, ◌+◌, ◌-◌, ◌*◌, ◌%◌, ◌^◌, ◌<◌, ◌≤◌, Bool, true, false, ◌||◌, List, ◌++◌, length, refl, sym, ◌∙◌, ap, subst, arith, rules, inl, inr, Result, Ok, Err, Option, Some, None, ℤ, pos, negsuc, ◌+ℤ◌, ◌-ℤ◌, ◌≤ℤ◌, mul-mod_left, mul-le-mul_right, ints, pow-add, cases_lt, number_lt, digits_value_is, AllDigits, digits_value, size, first, last, ten_pos, no_more_zeros, gap_is, Unsigned, leaves_limits, multiplied, Literal, limit, is_outside, value_of, read, Grammar, mantissa, steps}
 use Rattle.std.specs.Prelude.{IsOkAnd, nat_eq}
 use Rattle.std.proofs.Math.Nat.{mul_assoc}
 use Rattle.std.proofs.lemmas.Bool.{or_parts}
@@ -10,9 +10,8 @@ use Rattle.decimal_unsigned.specs.Edits.{times_power}
 use Rattle.decimal_unsigned.specs.Reading.{ReadError, zeros_trimmed, scaled}
 use Rattle.decimal_unsigned.specs.ParseResult.{IsParseResult, IsPlain, digit_count}
 use Rattle.decimal_unsigned.proofs.FirstLast.{Extent, extent, ordered, top_lt, first_of, last_of}
-use Rattle.decimal_unsigned.proofs.Exponents.{append_digits}
+use Rattle.decimal_unsigned.proofs.Plans.{append_digits, long_whole, long_fraction, all_digits, value_scaled}
 use Rattle.decimal_unsigned.proofs.ReadingGrammar.{read_grammar, result_limit}
-use Rattle.decimal_unsigned.proofs.Plans.{long_whole, long_fraction, all_digits, value_scaled}
 
 -- ---- Numbers.
 
@@ -55,12 +54,12 @@ module _ (w : Literal) (digits : AllDigits 10 (w.whole ++ w.fraction)) (few : le
 
   written_lt : written < 10 ^ (length w.whole + length w.fraction)
   unfolding written
-  written_lt = grind (arith, ints, clamps, nat_tests, common_steps, number_lt, all_digits, digits_value_is)
+  written_lt = grind (steps, number_lt, all_digits, digits_value_is)
 
   -- the number before an exponent
   size_mantissa : size (mantissa w.whole w.fraction).number ≤ length w.whole + length w.fraction
   unfolding written
-  size_mantissa = grind (arith, ints, clamps, nat_tests, common_steps, size_le, written, written_lt)
+  size_mantissa = grind (steps, size_le, written, written_lt)
 
   -- and that number times a power of ten
   size_times : (d : ℤ) → leaves_limits (mantissa w.whole w.fraction) d ≡ false
@@ -80,7 +79,7 @@ module _ (w : Literal) (digits : AllDigits 10 (w.whole ++ w.fraction)) (few : le
   size_scaled : (e : Option ℤ) (v : Unsigned) → scaled (mantissa w.whole w.fraction) e ≡ Ok v
       → size v.number ≤ length w.whole + length w.fraction
   unfolding scaled
-  size_scaled None v is = grind (arith, ints, clamps, nat_tests, common_steps, size_mantissa)
+  size_scaled None v is = grind (steps, size_mantissa)
   size_scaled (Some d) v is =
       go (nat_eq (mantissa w.whole w.fraction).number 0) refl
       (is_outside d || leaves_limits (mantissa w.whole w.fraction) d) refl
@@ -106,7 +105,7 @@ size_value w v digits is = grind (arith, long_whole, long_fraction, size_scaled,
 plain_value : (w : Literal) → AllDigits 10 (w.whole ++ w.fraction) → IsPlain w
     → value_of w ≡ Ok (mantissa w.whole w.fraction)
 unfolding scaled
-plain_value w digits plain = grind (arith, ints, clamps, nat_tests, common_steps, value_scaled)
+plain_value w digits plain = grind (steps, value_scaled)
 
 -- ---- The result of a parser.
 

@@ -1,7 +1,6 @@
 -- Each number other than 0 has a first and a last digit.
-use Rattle.decimal_unsigned.proofs.Common.{clamps, nat_tests, common_steps, ◌≡◌, ℕ, zero, suc, ◌+◌, ◌-◌, ◌*◌, ◌/◌, ◌%◌, ◌^◌, ◌<◌, ◌≤◌, sym, ◌∙◌, ap, subst, arith, inl, inr, pow-le-pow_right, mul-le-mul_right, ints, ℤ, pos, ◌<ℤ◌, ◌≤ℤ◌, pow-add, cases_lt, offset, first, last, ten_pos, offset_is, pow-suc, mod-lt, magnitude_at, first_is, first_zero}
-use Rattle.std.proofs.Math.Nat.{mul_assoc, div-add-mod', le-mul_of_pos_right, lt_of_mul-lt-mul_right, mul-add-mod_self_right}
-use Rattle.std.proofs.Math.Nat.{mod-le, div-le_self}
+use Rattle.decimal_unsigned.proofs.Common.{◌≡◌, ℕ, zero, suc, ◌+◌, ◌-◌, ◌*◌, ◌/◌, ◌%◌, ◌^◌, ◌<◌, ◌≤◌, sym, ◌∙◌, ap, subst, arith, inl, inr, pow-le-pow_right, mul-le-mul_right, ints, ℤ, pos, ◌<ℤ◌, ◌≤ℤ◌, pow-add, cases_lt, offset, first, last, ten_pos, offset_is, pow-suc, mod-lt, magnitude_at, first_is, first_zero, steps}
+use Rattle.std.proofs.Math.Nat.{mul_assoc, div-add-mod', le-mul_of_pos_right, lt_of_mul-lt-mul_right, mul-add-mod_self_right, mod-le, div-le_self}
 use Rattle.decimal_digits.proofs.Ends.{last_is}
 
 -- the first digit is at one offset and the last at another, and the number is a multiple of the weight of the latter
@@ -40,7 +39,7 @@ pub extent : (b n : ℕ) → 0 < n → n < 10 ^ b → b ≤ 65536 → Extent n
 extent b n p h l =
     let t = top_of b n p h in
     let e = bottom_of b n p h in
-    grind (arith, ints, clamps, nat_tests, common_steps)
+    grind steps
 
 module _ {n : ℕ} (e : Extent n) where
   -- the last digit is not above the first
@@ -126,7 +125,7 @@ module _ (n q b : ℕ) (few : n < 10 ^ b) (high : b ≤ 65536) where
 
   module _ (some : 0 < n - n % 10 ^ q) (more : 0 < n % 10 ^ q) where
     quotient_counts : 0 < n / 10 ^ q
-    quotient_counts = grind (arith, ints, clamps, nat_tests, common_steps, above_is)
+    quotient_counts = grind (steps, above_is)
 
     quotient : Extent (n / 10 ^ q)
     quotient = extent b (n / 10 ^ q) quotient_counts (omega (arith, few, div-le_self n (10 ^ q))) high

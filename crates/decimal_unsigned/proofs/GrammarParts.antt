@@ -1,12 +1,109 @@
 -- The parts of a text are those of the grammar.
-use Rattle.decimal_unsigned.proofs.Common.{common_steps, ◌≡◌, ℕ, ◌<◌, Bool, true, false, cond, ◌⊎◌, List, [], ◌∷◌, ◌++◌, length, refl, sym, ◌∙◌, ap, subst, arith, nat_lt, ◌==◌, append-nil, Option, Some, None, ℤ, pos, nat_tests, is_ascii_digit, digit_value, prefix_len, AllDigits, digits_value, Literal, ◌&&◌, option_map, take-append-drop, Grammar, clamps, ints}
+use Rattle.decimal_unsigned.proofs.Common.{common_steps, ◌≡◌, ℕ, ◌<◌, Bool, true, false, cond, ◌⊎◌, List, [], ◌∷◌, ◌++◌, length, refl, sym, ◌∙◌, ap, subst, arith, nat_lt, ◌==◌, append-nil, Option, Some, None, ℤ, pos, nat_tests, is_ascii_digit, digit_value, prefix_len, AllDigits, digits_value, Literal, ◌&&◌, option_map, take-append-drop, Grammar, steps, zero, suc, ◌+◌, ◌-◌, ◌*◌, ◌%◌, ◌^◌, ◌≤◌, min, cases_lt, get_or, take, drop, all_ascii_digits, map, length-drop, length-take-le}
 use Rattle.std.proofs.Common.{append_assoc, eqb-true}
 use Rattle.std.specs.Prelude.{neg_ℤ}
 use Rattle.std.specs.Str.Parse.{IsNumeral}
 use Rattle.decimal_unsigned.specs.Grammar.{IsMantissa, undotted, dotted, IsExponent, unsigned, plus, minus, Form, integer, decimal, scientific}
 use Rattle.decimal_unsigned.specs.Reading.{leading_digits, after_digits, numeral_of, exponent_of, is_letter, with_exponent, after_fraction, after_whole, parts_of}
-use Rattle.decimal_unsigned.proofs.Numerals.{true-is_digit, tests_digits, prefix_len-run}
-use Rattle.std.proofs.lemmas.Str.Parse.{digit_from_value}
+use Rattle.std.proofs.lemmas.Str.Parse.{digit_from_value, digit_at, IsNumeralModel, numerals_by_value, tells_all_ascii_digits}
+use Rattle.std.proofs.lemmas.Str.{digit_value_digit}
+use Rattle.std.proofs.lemmas.Int.Digits.{digits_value_more}
+use Rattle.std.proofs.lemmas.List.{drop-drop, get_or-map}
+use Rattle.std.proofs.Math.Bool.{and_assoc, and-true}
+use Rattle.std.proofs.lemmas.List.Elements.{All-from_recursion, All-take, All-drop, recursion_from_All}
+
+-- ---- ASCII digits and their numbers.
+-- a digit is a byte from 48 to 57
+pub is_digit-true : (c : ℕ) → digit_value c < 10 → is_ascii_digit c ≡ true
+is_digit-true c h = grind (arith, nat_tests, digit_from_value)
+
+-- a byte that passes the test has a value below ten
+pub true-is_digit : (c : ℕ) → is_ascii_digit c ≡ true → digit_value c < 10
+true-is_digit c h = grind (arith, nat_tests, digit_value_digit)
+
+-- the value of a digit is its byte less 48
+pub value_of_digit : (c : ℕ) → is_ascii_digit c ≡ true → digit_value c ≡ c - 48
+value_of_digit c h = grind (arith, nat_tests, digit_value_digit)
+
+-- a byte less that of `0`, in 64 bits, is at most 9 for a digit alone
+module _ (c a b : ℕ) (byte : c < 256) (first : a ≡ c) (second : b ≡ 48) where
+  pub digit_at_most : (a + (2 ^ 64 - b)) % 2 ^ 64 ≤ 9
+      → ((a + (2 ^ 64 - b)) % 2 ^ 64 ≡ c - 48) × (is_ascii_digit c ≡ true)
+  digit_at_most few = grind steps
+
+  pub digit_above : 9 < (a + (2 ^ 64 - b)) % 2 ^ 64 → is_ascii_digit c ≡ false
+  digit_above more = grind (steps, cases_lt)
+
+-- the loop of a numeral
+pub numeral_more : (text : List ℕ) (i v most top : ℕ) → i < length text → most ≤ top
+    → is_ascii_digit (get_or text i 0) ≡ true
+    → v ≡ min most (digits_value 10 (take i text))
+    → min (min (min (v * 10) top + (get_or text i 0 - 48)) top) most ≡ min most (digits_value 10 (take (i + 1) text))
+numeral_more text i v most top h l d e = grind (arith, digits_value_more, value_of_digit)
+
+-- the rest of a text is digits if its first byte is one, and the rest of that
+pub digits_step : (text : List ℕ) (i : ℕ) → i < length text
+    → all_ascii_digits (drop i text) ≡ (is_ascii_digit (get_or text i 0) && all_ascii_digits (drop (i + 1) text))
+digits_step text i h = grind (arith, common_steps)
+
+-- one byte more is tested
+pub digits_more : (text : List ℕ) (i : ℕ) → i < length text
+    → all_ascii_digits (take (i + 1) text) ≡ (all_ascii_digits (take i text) && is_ascii_digit (get_or text i 0))
+digits_more [] i h = absurd (omega arith)
+digits_more (c ∷ cs) zero h = and-true (is_ascii_digit c)
+digits_more (c ∷ cs) (suc i) h =
+    let e : suc i + 1 ≡ suc (i + 1) = omega arith in
+    rw e
+    (ap (λ b. is_ascii_digit c && b) (digits_more cs i (omega arith))
+    ∙ sym (and_assoc (is_ascii_digit c) (all_ascii_digits (take i cs)) (is_ascii_digit (get_or cs i 0))))
+
+-- a test passes exactly the texts of digits
+pub tests_digits : IsNumeralModel (λ ds. all_ascii_digits ds ≡ true) (digits_value 10)
+tests_digits = numerals_by_value _ tells_all_ascii_digits
+
+-- a run of digits is counted with what follows it
+pub prefix_len-run : (a rest : List ℕ) → AllDigits 10 a
+    → prefix_len is_ascii_digit (a ++ rest) ≡ length a + prefix_len is_ascii_digit rest
+prefix_len-run [] rest h = omega arith
+prefix_len-run (c ∷ a) rest h = rw (is_digit-true c h.0) (omega (arith, prefix_len-run a rest h.1))
+
+-- a group of digits more is counted
+pub count_group : (text : List ℕ) (i n : ℕ) → n ≤ length text - i → all_ascii_digits (take n (drop i text)) ≡ true
+    → prefix_len is_ascii_digit text ≡ i + prefix_len is_ascii_digit (drop i text)
+    → prefix_len is_ascii_digit text ≡ (i + n) + prefix_len is_ascii_digit (drop (i + n) text)
+count_group text i n h d e =
+    let rest = drop i text in
+    let run = prefix_len-run (take n rest) (drop n rest) (tests_digits.to (take n rest) d) in
+    let all = ap (prefix_len is_ascii_digit) (take-append-drop n rest) in
+    let following = ap (prefix_len is_ascii_digit) (drop-drop n i text) in
+    omega (arith, run, all, following, e, length-take-le n rest (omega (arith, length-drop i text)))
+
+-- a byte and the digit that it writes
+pub record WritesDigit (byte digit : ℕ) : Type 0 where
+  pub low : 48 ≤ byte
+  pub is : byte - 48 ≡ digit
+
+-- the byte at an index writes the digit there
+pub writes_at : (cs : List ℕ) (i : ℕ) → AllDigits 10 cs → i < length cs
+    → WritesDigit (get_or cs i 0) (get_or (map digit_value cs) i 0)
+writes_at cs i h l = grind (steps, digit_at, digit_value_digit, get_or-map)
+
+-- ---- Parts of a text of digits.
+-- any bytes of a text of digits are digits
+pub digits_within : (start n : ℕ) (text : List ℕ) → AllDigits 10 text → AllDigits 10 (take n (drop start text))
+digits_within start n text h =
+    let P = λ (c : ℕ). digit_value c < 10 in
+    recursion_from_All P _ (All-take P n _ (All-drop P start text (All-from_recursion P text h)))
+
+-- where two texts together hold digits, the first one does
+pub digits_left : (a b : List ℕ) → AllDigits 10 (a ++ b) → AllDigits 10 a
+digits_left [] b h = tt
+digits_left (c ∷ a) b h = (h.0, digits_left a b h.1)
+
+-- and so does the second one
+pub digits_right : (a b : List ℕ) → AllDigits 10 (a ++ b) → AllDigits 10 b
+digits_right [] b h = h
+digits_right (c ∷ a) b h = digits_right a b h.1
 
 -- ---- runs of digits
 -- digits followed by a byte other than a digit are the leading digits
@@ -61,7 +158,7 @@ exponent-complete text e (minus ds t n v) = ap exponent_of t ∙ (rw (numeral-co
 -- an exponent that is found is one of the grammar
 pub exponent-sound : (text : List ℕ) (e : ℤ) → exponent_of text ≡ Some e → IsExponent text e
 unfolding exponent_of
-exponent-sound [] e h = grind (arith, ints, clamps, nat_tests, common_steps, option_map-some, numeral-sound)
+exponent-sound [] e h = grind (steps, option_map-some, numeral-sound)
 exponent-sound (c ∷ rest) e h = go (c == 45) refl (c == 43) refl h
   where
     go : (m : Bool) → (c == 45) ≡ m → (p : Bool) → (c == 43) ≡ p
@@ -165,7 +262,7 @@ after_fraction-sound : (a b rest : List ℕ) (w : Literal) → AllDigits 10 a �
     → after_fraction a b rest ≡ Some w
     → Grammar ((a ++ 46 ∷ b) ++ rest) w
 unfolding after_fraction
-after_fraction-sound a b [] w p q h = grind (arith, ints, clamps, nat_tests, common_steps, cond_some, append-nil)
+after_fraction-sound a b [] w p q h = grind (steps, cond_some, append-nil)
 after_fraction-sound a b (c ∷ rest) w p q h =
     let k = cond_some (is_letter c) (with_exponent a b rest) w h in
     with_exponent-sound (a ++ 46 ∷ b) a b rest c w (dotted refl) p q k.0 k.1
@@ -173,7 +270,7 @@ after_fraction-sound a b (c ∷ rest) w p q h =
 after_whole-sound : (a rest : List ℕ) (w : Literal) → AllDigits 10 a → after_whole a rest ≡ Some w
     → Grammar (a ++ rest) w
 unfolding after_whole
-after_whole-sound a [] w p h = grind (arith, ints, clamps, nat_tests, common_steps, cond_some, append-nil)
+after_whole-sound a [] w p h = grind (steps, cond_some, append-nil)
 after_whole-sound a (c ∷ rest) w p h = go (c == 46) refl h
   where
     go : (t : Bool) → (c == 46) ≡ t

@@ -1,5 +1,5 @@
 -- Digits whose last is at magnitude 0, without trailing zeros.
-use Rattle.decimal_unsigned.proofs.Common.{elements, ◌≡◌, ℕ, zero, suc, ◌+◌, ◌-◌, ◌*◌, ◌^◌, ◌<◌, ◌≤◌, List, length, get_or, take, drop, refl, sym, ◌∙◌, ap, arith, inl, inr, Result, Ok, Err, ℤ, pos, ◌≤ℤ◌, mul-le-mul_right, ints, pow-add, cases_lt, number_lt, length-take-le, get_or-take, recursion_from_All, number_from_digits, AllBelowBase, offset, weight, first, size, number_of, offset_is, ten_pos, below_take, IsStored, Unsigned, middle, IsNonzeroRange, All, magnitude_at, first_is, clamps, common_steps, nat_tests}
+use Rattle.decimal_unsigned.proofs.Common.{elements, ◌≡◌, ℕ, zero, suc, ◌+◌, ◌-◌, ◌*◌, ◌^◌, ◌<◌, ◌≤◌, List, length, get_or, take, drop, refl, sym, ◌∙◌, ap, arith, inl, inr, Result, Ok, Err, ℤ, pos, ◌≤ℤ◌, mul-le-mul_right, ints, pow-add, cases_lt, number_lt, length-take-le, get_or-take, recursion_from_All, number_from_digits, AllBelowBase, offset, weight, first, size, number_of, offset_is, ten_pos, below_take, IsStored, Unsigned, middle, IsNonzeroRange, All, magnitude_at, first_is, steps}
 use Rattle.std.specs.Prelude.{IfOk}
 use Rattle.std.proofs.lemmas.Int.Digits.{all_below_base_digits_of, first_digits_of}
 use Rattle.std.proofs.lemmas.List.Elements.{All-from_recursion}
@@ -106,7 +106,7 @@ shown_from n d few small =
 -- its value is shown from there to magnitude 0
 pub shown_at_most : {v : Unsigned} (n d : ℕ) → n < 10 ^ (d + 1) → d < 32768 → v ≡ integer_value n
     → (v.hi ≤ℤ pos d) × (v.lo ≡ pos 0)
-shown_at_most n d few small e = grind (arith, ints, clamps, nat_tests, common_steps, shown_from)
+shown_at_most n d few small e = grind (steps, shown_from)
 
 -- and so is the value of a result that is `Ok`
 pub answer_at_most : {E : Type 0} (answer : Result Unsigned E) (n d : ℕ) → n < 10 ^ (d + 1) → d < 32768
@@ -128,3 +128,6 @@ integer_value-one =
     ∙ first_power (offset (pos 0)) (omega (arith, ints, offset_is (pos 0)))
     ∙ magnitude_at-offset (pos 0) (omega (arith, ints)) in
     λ i. record { number = n i; hi = f i; lo = pos 0 }
+
+-- where an integer is shown
+pub ruleset ranges = (shown_at_most, answer_at_most, integer_value-one)

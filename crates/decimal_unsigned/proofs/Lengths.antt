@@ -1,6 +1,6 @@
 -- The length in bytes of the text of a value.
-use Rattle.decimal_unsigned.proofs.Common.{clamps, nat_tests, common_steps, ◌≡◌, ℕ, suc, ◌+◌, ◌<◌, ◌≤◌, length, arith, ℤ, pos, negsuc, ◌≤ℤ◌, ◌<ℤ◌, int_gap, ints, length-append, gap_is, Unsigned, IsValue, text}
-use Rattle.decimal_unsigned.proofs.TextBytes.{length-bytes_down, fraction_text, text_is}
+use Rattle.decimal_unsigned.proofs.Common.{◌≡◌, ℕ, suc, ◌+◌, ◌<◌, ◌≤◌, length, arith, ℤ, pos, negsuc, ◌≤ℤ◌, ◌<ℤ◌, int_gap, ints, length-append, gap_is, Unsigned, IsValue, text, steps}
+use Rattle.decimal_unsigned.proofs.Writing.{length-bytes_down, fraction_text, text_is}
 
 length-fraction : (number : ℕ) (lo : ℤ) → lo <ℤ pos 0 → length (fraction_text number lo) ≡ int_gap lo (pos 0) + 1
 length-fraction number (pos k) h = absurd (omega (arith, ints))
@@ -8,7 +8,7 @@ length-fraction number (negsuc b) h = omega (arith, ints, length-bytes_down numb
 
 pub length-text : (v : Unsigned) → pos 0 ≤ℤ v.hi → v.lo ≤ℤ pos 0
     → length (text v) ≡ int_gap (pos 0) v.hi + 1 + length (fraction_text v.number v.lo)
-length-text v h l = grind (arith, ints, clamps, nat_tests, common_steps, text_is, length-append, length-bytes_down)
+length-text v h l = grind (steps, text_is, length-append, length-bytes_down)
 
 -- the length of a text without fraction digits is the number of its digits
 pub length-text_whole : (v : Unsigned) → pos 0 ≤ℤ v.hi → v.lo ≡ pos 0 → length (text v) ≡ int_gap v.lo v.hi + 1

@@ -1,5 +1,5 @@
 -- The number that the digits between leading and trailing zeros write.
-use Rattle.decimal_unsigned.proofs.Common.{clamps, nat_tests, common_steps, elements, ◌≡◌, ℕ, suc, ◌+◌, ◌-◌, ◌*◌, ◌^◌, ◌<◌, ◌≤◌, List, [], ◌∷◌, length, get_or, take, drop, ◌++◌, map, min, refl, sym, ◌∙◌, ap, arith, ℤ, pos, ◌-ℤ◌, ints, pow-add, length-map, length-drop, get_or-take, get_or-drop, digit_value, number_from_digits, AllBelowBase, offset, offset_is, IsStored, below_take, middle, IsNonzeroRange, number_split, below_drop}
+use Rattle.decimal_unsigned.proofs.Common.{common_steps, elements, ◌≡◌, ℕ, suc, ◌+◌, ◌-◌, ◌*◌, ◌^◌, ◌<◌, ◌≤◌, List, [], ◌∷◌, length, get_or, take, drop, ◌++◌, map, min, refl, sym, ◌∙◌, ap, arith, ℤ, pos, ◌-ℤ◌, pow-add, length-map, length-drop, get_or-take, get_or-drop, digit_value, number_from_digits, AllBelowBase, offset, offset_is, IsStored, below_take, middle, IsNonzeroRange, number_split, below_drop, steps}
 use Rattle.std.proofs.lemmas.List.{map-append, take-map, drop-map}
 use Rattle.decimal_digits.specs.Digits.{number_of, number_at}
 use Rattle.decimal_digits.proofs.DigitLists.{number_after}
@@ -25,8 +25,7 @@ module _ (ds : List ℕ) (start end : ℕ) (n : IsNonzeroRange ds start end) whe
       → number_from_digits b ds ≡ number_from_digits b (middle start end ds) * b ^ (length ds - end)
   number_middle b =
       let a = number_split b start ds (omega (arith, n.ordered, n.within)) in
-      let z : number_from_digits b (take start ds) ≡ 0 =
-      grind (arith, ints, clamps, nat_tests, common_steps, number_zeros, get_or-take) in
+      let z : number_from_digits b (take start ds) ≡ 0 = grind (steps, number_zeros, get_or-take) in
       let m : end - start ≤ length (drop start ds) = omega (arith, n.ordered, n.within, length-drop start ds) in
       let x = number_split b (end - start) (drop start ds) m in
       let y : number_from_digits b (drop (end - start) (drop start ds)) ≡ 0 =
@@ -55,8 +54,7 @@ number_of-middle ds start end a b m n whole few p =
 pub stored_middle : (ds : List ℕ) (start end a b : ℕ) (m : ℤ) → IsNonzeroRange ds start end → AllBelowBase 10 ds
     → length ds ≡ a + b → a ≤ 32768 → b ≤ 32768 → m ≡ (pos a -ℤ pos 1) -ℤ pos start
     → IsStored (middle start end ds) m (pos (a - 1)) (pos 0 -ℤ pos b)
-stored_middle ds start end a b m n d whole many few e =
-    grind (arith, ints, clamps, nat_tests, common_steps, middle_below, common_steps, offset_is)
+stored_middle ds start end a b m n d whole many few e = grind (steps, middle_below, offset_is)
 
 -- ---- The digits of two concatenated lists.
 take-append : (n : ℕ) (a b : List ℕ) → take n (a ++ b) ≡ take n a ++ take (n - length a) b
@@ -82,7 +80,7 @@ middle_append a b start end p =
     ) refl
 
 middle-map : (f : ℕ → ℕ) (start end : ℕ) (xs : List ℕ) → map f (middle start end xs) ≡ middle start end (map f xs)
-middle-map f start end xs = grind (arith, ints, clamps, nat_tests, common_steps, take-map, drop-map)
+middle-map f start end xs = grind (steps, take-map, drop-map)
 
 -- the same of two texts and the digits that they write
 pub middle_written : (a b : List ℕ) (start end : ℕ) → start ≤ end

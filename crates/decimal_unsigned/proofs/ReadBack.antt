@@ -1,5 +1,5 @@
 -- The text of a value is read as that value.
-use Rattle.decimal_unsigned.proofs.Common.{◌≡◌, ℕ, zero, suc, ◌+◌, ◌-◌, ◌*◌, ◌/◌, ◌%◌, ◌^◌, ◌<◌, ◌≤◌, nat_lt, false, List, [], ◌∷◌, ◌++◌, length, map, refl, sym, ◌∙◌, ap, arith, append-nil, ℤ, pos, negsuc, ◌+ℤ◌, ◌-ℤ◌, ◌≤ℤ◌, None, Ok, ints, nat_tests, pow-add, length-map, digit_value, int_gap, AllDigits, digits_value, digits_value_is, offset, weight, digit, ten_pos, offset_is, gap_is, Unsigned, IsValue, text, Literal, read, pow-suc, mod-lt, mod-eq_of_lt, clamps, common_steps}
+use Rattle.decimal_unsigned.proofs.Common.{◌≡◌, ℕ, zero, suc, ◌+◌, ◌-◌, ◌*◌, ◌/◌, ◌%◌, ◌^◌, ◌<◌, ◌≤◌, nat_lt, false, List, [], ◌∷◌, ◌++◌, length, map, refl, sym, ◌∙◌, ap, arith, append-nil, ℤ, pos, negsuc, ◌+ℤ◌, ◌-ℤ◌, ◌≤ℤ◌, None, Ok, ints, nat_tests, pow-add, length-map, digit_value, int_gap, AllDigits, digits_value, digits_value_is, offset, weight, digit, ten_pos, offset_is, gap_is, Unsigned, IsValue, text, Literal, read, pow-suc, mod-lt, mod-eq_of_lt, steps}
 use Rattle.std.proofs.Math.Arith.{mod-mul}
 use Rattle.std.proofs.Math.Nat.{div-div-eq-div-mul, div-lt_iff_lt-mul, div-add-mod'}
 use Rattle.std.proofs.lemmas.Str.{digit_value_digit}
@@ -7,7 +7,7 @@ use Rattle.decimal_digits.proofs.DigitLists.{number_first}
 use Rattle.decimal_unsigned.specs.Grammar.{integer, decimal}
 use Rattle.decimal_unsigned.specs.Reading.{scaled, value_of}
 use Rattle.decimal_unsigned.proofs.ReadingGrammar.{read_grammar}
-use Rattle.decimal_unsigned.proofs.TextBytes.{byte, bytes_down, length-bytes_down, fraction_text, text_is}
+use Rattle.decimal_unsigned.proofs.Writing.{byte, bytes_down, length-bytes_down, fraction_text, text_is}
 
 -- ---- The numbers that ASCII digits write.
 -- the ASCII byte of a digit has its value
@@ -51,7 +51,7 @@ bytes_worth number low m (suc n) h =
 
 bytes-append : (number : ℕ) (m k : ℤ) (a b : ℕ) → k ≡ m -ℤ pos a
     → bytes_down number m a ++ bytes_down number k b ≡ bytes_down number m (a + b)
-bytes-append number m k zero b e = grind (arith, ints, clamps, nat_tests, common_steps)
+bytes-append number m k zero b e = grind steps
 bytes-append number m k (suc a) b e =
     let n : suc (a + b) ≡ suc a + b = omega arith in
     ap (λ l. byte number m ∷ l) (bytes-append number (m -ℤ pos 1) k a b (omega (arith, ints)))

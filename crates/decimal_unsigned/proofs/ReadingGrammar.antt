@@ -1,5 +1,5 @@
 -- Reading and the grammar.
-use Rattle.decimal_unsigned.proofs.Common.{◌≡◌, ℕ, ◌≤◌, ◌-◌, Bool, true, false, cond, ◌⊎◌, inl, inr, List, length, drop, refl, sym, ◌∙◌, ap, arith, ℤ, Option, Some, None, Result, Ok, Err, length-take-le, length-drop, Unsigned, Literal, parts_of, limit, middle, Grammar, mantissa, ints, clamps, common_steps, nat_tests}
+use Rattle.decimal_unsigned.proofs.Common.{◌≡◌, ℕ, Bool, true, false, cond, ◌⊎◌, inl, inr, List, refl, sym, ◌∙◌, ap, arith, ℤ, Option, Some, None, Result, Ok, Err, Unsigned, Literal, parts_of, limit, Grammar, mantissa, steps}
 use Rattle.std.specs.Prelude.{IfOk, ◌↔◌}
 use Rattle.decimal_unsigned.specs.declared.error.ParseError.{ParseError}
 use Rattle.decimal_unsigned.specs.declared.error.ParseError.TheVariants.{Limit, Syntax}
@@ -18,7 +18,7 @@ tested false x y p q = q
 scaled_values : (v : Unsigned) (e : Option ℤ) → Values (scaled v e)
 unfolding scaled
 scaled_values v None = inl (v, refl)
-scaled_values v (Some e) = grind (arith, ints, clamps, nat_tests, common_steps, tested)
+scaled_values v (Some e) = grind (steps, tested)
 
 value_of_values : (w : Literal) → Values (value_of w)
 unfolding value_of
@@ -101,8 +101,3 @@ result_follows_grammar allocates text r a =
       limit = (λ e. m.0 (l.0 e), λ n. l.1 (m.1 n));
       found = result_value allocates text r a;
     }
-
--- the number of digits from start up to end
-pub middle_long : (start end : ℕ) (ds : List ℕ) → start ≤ end → end ≤ length ds
-    → length (middle start end ds) ≡ end - start
-middle_long start end ds p q = length-take-le (end - start) (drop start ds) (omega (arith, length-drop start ds))

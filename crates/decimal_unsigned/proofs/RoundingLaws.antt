@@ -1,5 +1,5 @@
 -- Laws of rounding, on values.
-use Rattle.decimal_unsigned.proofs.Common.{common_steps, ◌≡◌, ℕ, ◌-◌, ◌*◌, ◌^◌, ◌<◌, ◌≤◌, sym, subst, arith, Option, Some, ℤ, negsuc, ◌≤ℤ◌, int_max, ints, clamps, nat_tests, pow-add, offset, first, size, unit_at, rounded_number, MultiplesOf1, Trunc, Unsigned, IsValue, rounded, IsRounded, RoundError, UnsignedRoundingMode, unit_pos, trunced}
+use Rattle.decimal_unsigned.proofs.Common.{◌≡◌, ℕ, ◌-◌, ◌*◌, ◌^◌, ◌<◌, ◌≤◌, sym, subst, arith, Option, Some, ℤ, negsuc, ◌≤ℤ◌, int_max, ints, clamps, nat_tests, pow-add, offset, first, size, unit_at, rounded_number, MultiplesOf1, Trunc, Unsigned, IsValue, rounded, IsRounded, RoundError, UnsignedRoundingMode, unit_pos, trunced, steps}
 use Rattle.std.specs.Prelude.{if◌then◌else◌}
 use Rattle.decimal_digits.specs.Rounding.{DigitRoundingFails}
 use Rattle.decimal_digits.specs.declared.rounding.RoundError.TheVariants.{Limit, Memory}
@@ -18,7 +18,7 @@ use Rattle.decimal_unsigned.proofs.Roundings.{rounded_to-large}
 -- the rounding by the remainder is the rounding to the multiple that the mode names
 pub is_rounded : (v : Unsigned) (r : Rounding UnsignedRoundingMode) {new : Option Unsigned} → IsValue v
     → rounded v r ≡ new → IsRounded v r new
-is_rounded v r valid e = grind (arith, ints, clamps, nat_tests, common_steps, rounded_number_is_named, unit_pos)
+is_rounded v r valid e = grind (steps, rounded_number_is_named, unit_pos)
 
 -- an error of rounding the digits is an error of rounding the value
 pub fails : (held : ℕ) (e : RoundError) (v : Unsigned) (r : Rounding UnsignedRoundingMode) → IsValue v
@@ -33,8 +33,7 @@ fails held Memory v r valid h = h
 -- the same rounding again changes nothing
 pub rounding_is_idempotent : (v w : Unsigned) (r : Rounding UnsignedRoundingMode) → rounded v r ≡ Some w
     → rounded w r ≡ Some w
-rounding_is_idempotent v w r e =
-    grind (arith, ints, clamps, nat_tests, common_steps, rounded_number-idempotent, unit_pos)
+rounding_is_idempotent v w r e = grind (steps, rounded_number-idempotent, unit_pos)
 
 -- ---- Two positions.
 coarser : (p q : ℤ) → negsuc 32767 ≤ℤ p → p ≤ℤ q
@@ -83,7 +82,7 @@ module _ (mode : UnsignedRoundingMode) (n : ℕ) (absorbs : Absorbs mode n) wher
       (subst (λ k. 0 < k) e (unit_pos MultiplesOf1 p)) mode)
 
   twice_is : (p q : ℤ) → negsuc 32767 ≤ℤ p → negsuc 32767 ≤ℤ q → twice p q ≡ once (int_max p q)
-  twice_is p q low low' = grind (arith, ints, clamps, nat_tests, common_steps, twice_up, once, twice_down)
+  twice_is p q low low' = grind (steps, twice_up, once, twice_down)
 
 -- ---- Two expansions.
 

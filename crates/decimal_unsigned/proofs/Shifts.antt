@@ -1,5 +1,5 @@
 -- A value times a power of ten.
-use Rattle.decimal_unsigned.proofs.Common.{nat_tests, common_steps, ◌≡◌, ℕ, suc, ◌+◌, ◌-◌, ◌*◌, ◌/◌, ◌^◌, ◌<◌, ◌≤◌, false, List, length, sym, ◌∙◌, ap, arith, inl, inr, ◌⊎◌, Some, None, ℤ, pos, negsuc, ◌+ℤ◌, ◌≤ℤ◌, ◌<ℤ◌, int_max, int_min, pow-add, ints, clamps, cases_lt, number_from_digits, offset, Unsigned, IsStored, leaves_limits, multiplied, offset_is}
+use Rattle.decimal_unsigned.proofs.Common.{◌≡◌, ℕ, suc, ◌+◌, ◌-◌, ◌*◌, ◌/◌, ◌^◌, ◌<◌, ◌≤◌, false, List, length, sym, ◌∙◌, ap, arith, inl, inr, ◌⊎◌, Some, None, ℤ, pos, negsuc, ◌+ℤ◌, ◌≤ℤ◌, ◌<ℤ◌, int_max, int_min, pow-add, ints, clamps, cases_lt, number_from_digits, offset, Unsigned, IsStored, leaves_limits, multiplied, offset_is, steps}
 use Rattle.std.proofs.Math.Nat.{zero-div}
 use Rattle.decimal_digits.specs.Digits.{number_of, number_at}
 use Rattle.decimal_unsigned.specs.Edits.{multiplied_pow10}
@@ -37,7 +37,7 @@ number_up ds m m' n h e =
 number_down : (ds : List ℕ) (m m' : ℤ) (n : ℕ) → length ds ≤ offset m' + 1 → offset m' + n ≡ offset m
     → number_of ds m' ≡ number_of ds m / 10 ^ n
 unfolding number_of number_at
-number_down ds m m' n h e = grind (arith, ints, clamps, nat_tests, common_steps, shift_up)
+number_down ds m m' n h e = grind (steps, shift_up)
 
 -- the moved digits are the number times the power
 pub multiplied_is : {ds : List ℕ} {m hi lo m' hi' lo' : ℤ} (d : ℤ) → IsStored ds m hi lo
@@ -45,7 +45,7 @@ pub multiplied_is : {ds : List ℕ} {m hi lo m' hi' lo' : ℤ} (d : ℤ) → IsS
     → record { number = number_of ds m'; hi = hi'; lo = lo' }
     ≡ multiplied (record { number = number_of ds m; hi = hi; lo = lo }) d
 multiplied_is {ds} {m} {hi} {lo} {m'} {hi'} {lo'} (pos n) t s =
-    grind (arith, ints, clamps, nat_tests, common_steps, moved, cases_lt, number_up, offset_is, lowest, number_of-none)
+    grind (steps, moved, cases_lt, number_up, offset_is, lowest, number_of-none)
 multiplied_is {ds} {m} {hi} {lo} {m'} {hi'} {lo'} (negsuc n) t s =
     let w = moved t s in
     let a : number_of ds m' ≡ number_of ds m / 10 ^ suc n = elim (cases_lt 0 (length ds)) [

@@ -1,5 +1,5 @@
 -- The digits that a value shows.
-use Rattle.decimal_unsigned.proofs.Common.{◌≡◌, ℕ, zero, suc, ◌+◌, ◌-◌, ◌*◌, ◌/◌, ◌%◌, ◌^◌, ◌<◌, List, [], ◌∷◌, ◌++◌, length, drop, min, get_or, refl, inl, inr, sym, ◌∙◌, ap, arith, w16, to_z, of_z, ℤ, pos, negsuc, ◌+ℤ◌, ◌-ℤ◌, ◌≤ℤ◌, ◌<ℤ◌, int_gap, All, ints, by_lt_z, cases_lt, to_z-of_z, digit, length-append, elements, gap_is, IsStored}
+use Rattle.decimal_unsigned.proofs.Common.{◌≡◌, ℕ, zero, suc, ◌+◌, ◌-◌, ◌*◌, ◌/◌, ◌%◌, ◌^◌, ◌<◌, List, [], ◌∷◌, ◌++◌, length, drop, min, get_or, refl, inl, inr, sym, ◌∙◌, ap, arith, w16, to_z, of_z, ℤ, pos, negsuc, ◌+ℤ◌, ◌-ℤ◌, ◌≤ℤ◌, ◌<ℤ◌, int_gap, All, ints, by_lt_z, cases_lt, to_z-of_z, digit, length-append, elements, gap_is, IsStored, ◌≤◌}
 use Rattle.std.proofs.lemmas.Grind.{same_number_lists}
 use Rattle.std.proofs.lemmas.List.Elements.{All-drop}
 use Rattle.std.proofs.lemmas.List.{get_or_past, nil_from_length}
@@ -11,6 +11,8 @@ use Rattle.decimal_digits.proofs.Packing.{rest_at}
 use Rattle.decimal_digits.proofs.Words.{bcd_nibble, cut, word_nibble, zero_word}
 use Rattle.decimal_unsigned.specs.ShownDigits.{digits_down}
 use Rattle.decimal_unsigned.proofs.Values.{digit-number_of-above, digit-number_of-in, digit-number_of-below, high, magnitude_kept}
+use Rattle.std.proofs.Math.Nat.{div-div-eq-div-mul, div-eq_of_lt, pow-le-pow_right}
+use Rattle.std.proofs.lemmas.Nat.{pow-add}
 
 -- ---- A word of digits.
 module _ (word ready : ℕ) (fits : word < 2 ^ 64) where
@@ -168,3 +170,38 @@ refilled ready old word count index rest ds h none some is fits by =
 pub none_left : (ready word index rest : ℕ) (ds : List ℕ) → ready ≡ 0 → rest ≡ 0
     → padded ready (word_nibbles word) ++ padded rest (drop index ds) ≡ []
 none_left ready word index rest ds a b = nil_from_length _ (omega (arith, length-left ready word index rest ds))
+
+-- ---- The digits from the highest magnitude down, from the packed BCD number of the first sixteen.
+-- a nibble after a right shift is the digit that was there
+shifted_nibble : (ds : List ℕ) → All (λ d. d < 10) ds → (zeros k n : ℕ) → k < 16 → zeros ≤ k → n < 2 ^ 64
+    → n ≡ bcd_number ds → n / 2 ^ (4 * zeros) / 2 ^ (4 * (15 - k)) % 16 ≡ get_or ds (k - zeros) 0
+shifted_nibble ds digits zeros k n l after fits e =
+    let sum : 4 * zeros + 4 * (15 - k) ≡ 4 * (15 - (k - zeros)) = omega arith in
+    ap (λ x. x % 16) (div-div-eq-div-mul n (2 ^ (4 * zeros)) (2 ^ (4 * (15 - k))))
+    ∙ ap (λ x. n / x % 16) (sym (pow-add 2 (4 * zeros) (4 * (15 - k))) ∙ ap (λ x. 2 ^ x) sum)
+    ∙ word_nibble n (k - zeros) fits (omega arith)
+    ∙ ap (λ x. get_or (word_nibbles x) (k - zeros) 0) e
+    ∙ bcd_nibble ds (k - zeros) digits (omega arith)
+
+-- or 0 before the digits
+shifted_zero : (zeros k n : ℕ) → k < zeros → n < 2 ^ 64 → k < 16
+    → n / 2 ^ (4 * zeros) / 2 ^ (4 * (15 - k)) % 16 ≡ 0
+shifted_zero zeros k n h l m =
+    let high : 2 ^ 64 ≤ 2 ^ (4 * zeros + 4 * (15 - k)) =
+    pow-le-pow_right {n = 2} (omega arith) {i = 64} {j = 4 * zeros + 4 * (15 - k)} (omega arith) in
+    let none : n / 2 ^ (4 * zeros + 4 * (15 - k)) ≡ 0 = div-eq_of_lt (omega (arith, high)) in
+    ap (λ x. x % 16) (div-div-eq-div-mul n (2 ^ (4 * zeros)) (2 ^ (4 * (15 - k)))
+    ∙ ap (λ x. n / x) (sym (pow-add 2 (4 * zeros) (4 * (15 - k)))) ∙ none)
+
+module _ {ds : List ℕ} {m hi lo : ℤ} (t : IsStored ds m hi lo) where
+  -- a nibble of the number of the first digits, after a right shift by the zeros before them
+  pub digit_of_nibble : All (λ d. d < 10) ds → (zeros k n : ℕ) → m +ℤ pos zeros ≡ hi → n ≡ bcd_number ds
+      → n < 2 ^ 64 → k < 16 → n / 2 ^ (4 * zeros) / 2 ^ (4 * (15 - k)) % 16 ≡ digit (number_of ds m) (hi -ℤ pos k)
+  digit_of_nibble digits zeros k n at is fits l = elim (cases_lt k zeros) [
+    | inl before ↦
+        shifted_zero zeros k n before fits l
+        ∙ sym (digit-number_of-above t (hi -ℤ pos k) (omega (arith, ints)) (omega (arith, ints, t.hi_in)))
+    | inr after ↦
+        shifted_nibble ds digits zeros k n l after fits is
+        ∙ digit_at_index t (hi -ℤ pos k) (k - zeros) (omega (arith, ints)) (omega (arith, ints, t.hi_in))
+  ]

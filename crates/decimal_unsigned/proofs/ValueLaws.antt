@@ -1,5 +1,5 @@
 -- Laws of trims, and of the parts of a value at a position.
-use Rattle.decimal_unsigned.proofs.Common.{nat_tests, common_steps, ◌≡◌, ℕ, ◌+◌, ◌-◌, ◌*◌, ◌%◌, ◌^◌, ◌<◌, ◌≤◌, length, sym, ◌∙◌, ap, subst, arith, inl, inr, None, ℤ, pos, ◌≤ℤ◌, unwrap_or, int_max, int_min, pow-le-pow_right, ints, clamps, cases_lt, offset, weight, first, last, number_limit, unit_at, RoundingIncrement, MultiplesOf1, Trunc, no_more_zeros, offset_is, gap_is, Unsigned, IsValue, with_max_position, rounded, text, none-some, with_number, trunced, SplitsAt}
+use Rattle.decimal_unsigned.proofs.Common.{◌≡◌, ℕ, ◌+◌, ◌-◌, ◌*◌, ◌%◌, ◌^◌, ◌<◌, ◌≤◌, length, sym, ◌∙◌, ap, subst, arith, inl, inr, None, ℤ, pos, ◌≤ℤ◌, unwrap_or, int_max, int_min, pow-le-pow_right, ints, clamps, cases_lt, offset, weight, first, last, number_limit, unit_at, RoundingIncrement, MultiplesOf1, Trunc, no_more_zeros, offset_is, gap_is, Unsigned, IsValue, with_max_position, rounded, text, none-some, with_number, trunced, SplitsAt, steps}
 use Rattle.decimal_digits.specs.Rounding.{rounded_number}
 use Rattle.decimal_digits.proofs.Ends.{last_zero}
 use Rattle.decimal_unsigned.specs.ValueLaws.{trimmed, TrimmedIsNormalForm, IsShortest}
@@ -44,11 +44,11 @@ module _ (w : Unsigned) (valid : IsValue w) where
 
 -- trimming leading zeros makes the greatest magnitude the least possible
 pub least_hi : (v : Unsigned) → IsLeastHi (trimmed_start v)
-least_hi v w valid e = grind (arith, ints, clamps, nat_tests, common_steps, first_in)
+least_hi v w valid e = grind (steps, first_in)
 
 -- trimming trailing zeros makes the least magnitude the greatest possible
 pub greatest_lo : (v : Unsigned) → IsGreatestLo (trimmed_end v)
-greatest_lo v w valid e = grind (arith, ints, clamps, nat_tests, common_steps, last_in)
+greatest_lo v w valid e = grind (steps, last_in)
 
 -- a value whose range is within another's has no longer a text
 shorter : (v w : Unsigned) → pos 0 ≤ℤ v.hi → v.lo ≤ℤ pos 0 → v.hi ≤ℤ w.hi → w.lo ≤ℤ v.lo
@@ -87,4 +87,4 @@ module _ (v : Unsigned) (p : ℤ) (valid : IsValue v) where
 
   -- the truncated value and the part below the position make the value
   pub splits : SplitsAt v p (trunced v p) (with_max_position v p)
-  splits = grind (arith, ints, clamps, nat_tests, common_steps, trunced_is, parts_join, parts_number, parts_value)
+  splits = grind (steps, trunced_is, parts_join, parts_number, parts_value)

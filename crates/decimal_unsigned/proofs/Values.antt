@@ -1,5 +1,5 @@
--- What the digits of a value say of its number.
-use Rattle.decimal_unsigned.proofs.Common.{clamps, common_steps, ◌≡◌, ℕ, ◌+◌, ◌-◌, ◌*◌, ◌^◌, ◌<◌, ◌≤◌, List, [], length, ◌∙◌, ap, arith, w16, to_z, of_z, ℤ, pos, negsuc, ◌+ℤ◌, ◌-ℤ◌, ◌≤ℤ◌, ◌<ℤ◌, mul-le-mul_right, mul-lt-mul_of_pos_right, pow-add, ints, nat_tests, to_z-of_z, int_gap, number_lt, number_from_digits, AllBelowBase, offset, digit, first, last, size, IsStored, ten_pos, offset_is, gap_is, number_back, first_is, first_zero}
+-- What the digits of a value say of its number, and which digits are stored.
+use Rattle.decimal_unsigned.proofs.Common.{◌≡◌, ℕ, ◌+◌, ◌-◌, ◌*◌, ◌^◌, ◌<◌, ◌≤◌, List, [], length, ◌∙◌, ap, arith, w16, to_z, of_z, ℤ, pos, negsuc, ◌+ℤ◌, ◌-ℤ◌, ◌≤ℤ◌, ◌<ℤ◌, mul-le-mul_right, mul-lt-mul_of_pos_right, pow-add, ints, nat_tests, to_z-of_z, int_gap, number_lt, number_from_digits, AllBelowBase, offset, digit, first, last, size, IsStored, ten_pos, offset_is, gap_is, number_back, first_is, first_zero, steps, ◌%◌, subst, pow-le-pow_right, mul-mod_left, Unsigned, IsValue, sym, no_more_zeros, IsLast}
 use Rattle.std.proofs.Common.{w32}
 use Rattle.std.specs.Prelude.{slice_index}
 use lib.Signed.{mag}
@@ -7,6 +7,7 @@ use Rattle.decimal_digits.specs.Digits.{number_of, number_at}
 use Rattle.decimal_digits.proofs.DigitLists.{number_front, number-digit}
 use Rattle.decimal_digits.proofs.Offsets.{magnitude_at-offset}
 use Rattle.decimal_digits.proofs.Ends.{last_is, last_zero, digit_above, digit_below, shift_down}
+use Rattle.decimal_digits.specs.Number.{IsFirst}
 
 -- the offset of the last digit
 abbrev ends : List ℕ → ℤ → ℕ
@@ -37,7 +38,7 @@ module _ {ds : List ℕ} {m hi lo : ℤ} (t : IsStored ds m hi lo) where
   -- a number without digits is 0
   pub number_of-none : length ds ≡ 0 → number_of ds m ≡ 0
   unfolding number_of number_at
-  number_of-none h = grind (arith, ints, clamps, nat_tests, common_steps, number_lt)
+  number_of-none h = grind (steps, number_lt)
 
   -- the first digit is at -32768 or above
   pub lowest : negsuc 32767 ≤ℤ m
@@ -54,7 +55,7 @@ module _ {ds : List ℕ} {m hi lo : ℤ} (t : IsStored ds m hi lo) where
   -- the last digit is that of the number
   pub last-number_of : 0 < length ds → last (number_of ds m) ≡ m -ℤ pos (length ds - 1)
   unfolding number_of number_at
-  last-number_of h = grind (arith, ints, clamps, nat_tests, common_steps, number_back, offset_is, lowest, last_is, high)
+  last-number_of h = grind (steps, number_back, offset_is, lowest, last_is, high)
 
   -- above the first digit there are zeros
   pub digit-number_of-above : (q : ℤ) → m <ℤ q → negsuc 32767 ≤ℤ q → digit (number_of ds m) q ≡ 0
@@ -67,17 +68,17 @@ module _ {ds : List ℕ} {m hi lo : ℤ} (t : IsStored ds m hi lo) where
   digit-number_of-in q i e l h =
       let p : offset q + i ≡ offset m = omega (arith, ints, offset_is m, offset_is q, lowest) in
       let k : offset q - ends ds m ≡ length ds - (i + 1) = omega (arith, t.fits) in
-      grind (arith, ints, clamps, nat_tests, common_steps, offset_is, lowest, shift_down, number-digit)
+      grind (steps, offset_is, lowest, shift_down, number-digit)
 
   -- below the last digit there are zeros
   pub digit-number_of-below : (q : ℤ) (i : ℕ) → q +ℤ pos i ≡ m → negsuc 32767 ≤ℤ q → length ds ≤ i
       → digit (number_of ds m) q ≡ 0
   unfolding number_of number_at
-  digit-number_of-below q i e l h = grind (arith, ints, clamps, nat_tests, common_steps, digit_below, offset_is, lowest)
+  digit-number_of-below q i e l h = grind (steps, digit_below, offset_is, lowest)
 
   -- the magnitude of the first digit, of 0 too
   pub first_of : first (number_of ds m) ≡ m
-  first_of = grind (arith, ints, clamps, nat_tests, common_steps, first-number_of, number_of-none, first_zero)
+  first_of = grind (steps, first-number_of, number_of-none, first_zero)
 
   -- the last digit of 0 is that at 0
   pub last_of_none : length ds ≡ 0 → last (number_of ds m) ≡ pos 0
@@ -153,3 +154,84 @@ module _ {ds : List ℕ} {m hi lo : ℤ} (t : IsStored ds m hi lo) where
 pub size-number_of : {ds : List ℕ} {m hi lo : ℤ} (t : IsStored ds m hi lo) → size (number_of ds m) ≡ length ds
 size-number_of t =
     grind (arith, ints, nat_tests, gap_is, number_of-pos t, last-number_of t, first_of t, number_of-none t)
+
+-- ---- The stored values are those whose digits are all in their range.
+-- stored digits are a value
+pub value_of_stored : {ds : List ℕ} {m hi lo : ℤ} → IsStored ds m hi lo
+    → IsValue (record { number = number_of ds m; hi = hi; lo = lo })
+unfolding number_of number_at
+value_of_stored {ds} {m} {hi} {lo} t = record {
+  hi_in = (t.hi_in, t.in_range.1);
+  lo_in = (t.in_range.0, t.lo_in);
+  below =
+      let p : 10 ^ (offset m + 1) ≤ 10 ^ (offset hi + 1) = grind (arith, pow-le-pow_right, offset_is, lowest) in
+      omega (arith, number_of-lt t);
+  whole =
+      let k : offset m + 1 - length ds ≡ (offset m + 1 - length ds - offset lo) + offset lo = omega (arith, t.fits) in
+      let e : number_from_digits 10 ds * 10 ^ (offset m + 1 - length ds)
+      ≡ (number_from_digits 10 ds * 10 ^ (offset m + 1 - length ds - offset lo)) * 10 ^ offset lo =
+      ap (λ x. number_from_digits 10 ds * 10 ^ x) k ∙ (rw pow-add (omega arith)) in
+      ap (λ x. x % 10 ^ offset lo) e
+      ∙ mul-mod_left (number_from_digits 10 ds * 10 ^ (offset m + 1 - length ds - offset lo)) (10 ^ offset lo);
+}
+
+-- and so is the value that a contract has of them
+pub value_of_view : {ds : List ℕ} {m hi lo : ℤ} {v : Unsigned} → IsStored ds m hi lo
+    → record { number = number_of ds m; hi = hi; lo = lo } ≡ v
+    → IsValue v
+value_of_view t e = subst IsValue e (value_of_stored t)
+
+-- a function's result on the stored fields is its result on the value
+pub told : {ds : List ℕ} {m hi lo : ℤ} {v : Unsigned} → IsStored ds m hi lo
+    → record { number = number_of ds m; hi = hi; lo = lo } ≡ v → {A : Type 0} (f : Unsigned → A) {r : A}
+    → r ≡ f (record { number = number_of ds m; hi = hi; lo = lo })
+    → record { value : r ≡ f v; valid : IsValue v }
+told t view f e = record { value = e ∙ ap f view; valid = value_of_view t view }
+
+-- ---- The first and the last digit of a value, and the ranges that show them.
+module _ {ds : List ℕ} {m hi lo : ℤ} (t : IsStored ds m hi lo) where
+  -- the stored magnitude is that of the first digit
+  pub is_first : IsFirst (number_of ds m) m
+  is_first = record {
+    reaches = λ p. number_of-ge t (some_of t p);
+    less = λ p. number_of-lt t;
+    none = λ z. t.empty (none_of t z);
+  }
+
+  -- the last digit of the list is the last one of the number
+  pub is_last : IsLast (number_of ds m) (last (number_of ds m))
+  unfolding number_of number_at
+  is_last = record {
+    divides = λ p.
+        subst (λ k. number_of ds m % 10 ^ k ≡ 0) (sym (ends_at (some_of t p)))
+        (mul-mod_left (number_from_digits 10 ds) (10 ^ (offset m + 1 - length ds)));
+    highest = λ p k h.
+        let s = some_of t p in
+        let b : 0 < number_from_digits 10 ds % 10 = rw (number_back ds t.digits s) (t.back s) in
+        no_more_zeros (number_from_digits 10 ds) (offset m + 1 - length ds) k b (omega (arith, ends_at s));
+    none = λ z. last_of_none t (none_of t z);
+  }
+    where
+      ends_at : 0 < length ds → offset (last (number_of ds m)) ≡ offset m + 1 - length ds
+      ends_at h =
+          let e = last-number_of t h in
+          omega (arith, ints, e, t.fits, last_in t, lowest t, offset_is m, offset_is (last (number_of ds m)))
+
+  module _ {v : Unsigned} (view : record { number = number_of ds m; hi = hi; lo = lo } ≡ v) {r : ℤ} where
+    -- the stored magnitude is that of the first digit of the value
+    pub first_told : r ≡ m
+        → record { value : r ≡ first v.number; defined : IsFirst v.number r; valid : IsValue v }
+    first_told e = record {
+      value = e ∙ sym (first_of t) ∙ (λ i. first (view i).number);
+      defined = subst (λ (v : Unsigned). IsFirst v.number r) view (rw e is_first);
+      valid = value_of_view t view;
+    }
+
+    -- and the computed one that of the last digit
+    pub last_told : r ≡ last (number_of ds m)
+        → record { value : r ≡ last v.number; defined : IsLast v.number r; valid : IsValue v }
+    last_told e = record {
+      value = e ∙ (λ i. last (view i).number);
+      defined = subst (λ (v : Unsigned). IsLast v.number r) view (rw e is_last);
+      valid = value_of_view t view;
+    }

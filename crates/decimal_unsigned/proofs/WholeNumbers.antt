@@ -1,5 +1,5 @@
 -- The integer that the digits of a value write.
-use Rattle.decimal_unsigned.proofs.Common.{clamps, common_steps, zero, suc, ◌≡◌, ℕ, ◌+◌, ◌-◌, ◌*◌, ◌/◌, ◌%◌, ◌^◌, ◌<◌, ◌≤◌, List, length, get_or, take, drop, refl, sym, ◌∙◌, ap, arith, Ok, Err, ℤ, pos, ◌+ℤ◌, ◌<ℤ◌, nat_tests, mul-mod_left, pow-le-pow_right, ints, length-take-le, take_all, recursion_from_All, number_from_digits, AllBelowBase, offset, weight, leading, offset_is, ten_pos, below_take, no_more_zeros, IsStored, Unsigned, IsValue, Result, All, number_back, below_sixteen, leading_none}
+use Rattle.decimal_unsigned.proofs.Common.{w16, to_z, of_z, zero, suc, ◌≡◌, ℕ, ◌+◌, ◌-◌, ◌*◌, ◌/◌, ◌%◌, ◌^◌, ◌<◌, ◌≤◌, List, length, get_or, take, drop, refl, sym, ◌∙◌, ap, arith, Ok, Err, ℤ, pos, ◌+ℤ◌, ◌<ℤ◌, nat_tests, mul-mod_left, pow-le-pow_right, ints, length-take-le, take_all, recursion_from_All, number_from_digits, AllBelowBase, offset, weight, leading, offset_is, ten_pos, below_take, no_more_zeros, IsStored, Unsigned, IsValue, Result, All, number_back, below_sixteen, leading_none, steps}
 use Rattle.std.proofs.Math.Nat.{mul-div_cancel}
 use Rattle.std.proofs.lemmas.Nat.{pow-add}
 use Rattle.std.proofs.lemmas.List.{get_or-drop}
@@ -13,7 +13,7 @@ use Rattle.decimal_digits.proofs.Leading.{leading_more}
 use Rattle.decimal_unsigned.specs.declared.error.IntegerError.TheVariants.{NotWhole, OutOfRange}
 use Rattle.decimal_unsigned.specs.declared.error.IntegerError.{IntegerError}
 use Rattle.decimal_unsigned.specs.ToInteger.{in_range, as_integer}
-use Rattle.decimal_unsigned.proofs.Shown.{told}
+use Rattle.decimal_unsigned.proofs.Values.{told, magnitude_kept}
 
 -- ---- the result
 -- an integer below the bound is in range
@@ -35,11 +35,11 @@ as_integer-part bound number h = grind (arith, nat_tests)
 -- ---- the digits that are read
 -- one digit more
 pub leading_next : (i : ℕ) (ds : List ℕ) → leading (i + 1) ds ≡ leading i ds * 10 + get_or ds i 0
-leading_next i ds = grind (arith, ints, clamps, nat_tests, common_steps, leading_more)
+leading_next i ds = grind (steps, leading_more)
 
 -- i digits write a number below 10 ^ i
 pub leading_lt : (i : ℕ) (ds : List ℕ) → All (λ d. d < 10) ds → leading i ds < 10 ^ i
-leading_lt i ds h = grind (arith, ints, clamps, nat_tests, common_steps, number_at-lt, below_take, recursion_from_All)
+leading_lt i ds h = grind (steps, number_at-lt, below_take, recursion_from_All)
 
 -- the first i + j digits are the first i and the j after them
 pub leading_split : (i j : ℕ) (ds : List ℕ) → leading (i + j) ds ≡ leading i ds * 10 ^ j + leading j (drop i ds)
@@ -65,7 +65,7 @@ leading_39 = leading_next 38
 
 -- and at most `top` digits write a number below 10 ^ top
 few_digits : (i top : ℕ) (ds : List ℕ) → All (λ d. d < 10) ds → i ≤ top → leading i ds < 10 ^ top
-few_digits i top ds h l = grind (arith, ints, clamps, nat_tests, common_steps, leading_lt, pow-le-pow_right)
+few_digits i top ds h l = grind (steps, leading_lt, pow-le-pow_right)
 
 -- 37 digits fit 128 bits with one more
 pub leading_u128 : (i : ℕ) (ds : List ℕ) → All (λ d. d < 10) ds → i ≤ 37 → leading i ds < 10 ^ 37
@@ -78,7 +78,7 @@ module _ {ds : List ℕ} {m hi lo : ℤ} (t : IsStored ds m hi lo) where
   unfolding number_of
   whole_number places at few =
       let k : offset m + 1 ≡ places + offset (pos 0) = omega (arith, ints, offset_is m, offset_is (pos 0)) in
-      grind (arith, ints, clamps, nat_tests, common_steps, offset_is, number_at-more, take_all)
+      grind (steps, offset_is, number_at-more, take_all)
 
   -- digits that end below magnitude 0 write no integer
   pub part_after : 0 < length ds → (m +ℤ pos 1) <ℤ pos (length ds) → ¬ (number_of ds m % weight (pos 0) ≡ 0)
@@ -102,28 +102,36 @@ module _ {ds : List ℕ} {m hi lo : ℤ} {v : Unsigned} (t : IsStored ds m hi lo
   of_value : {r : Result ℕ IntegerError} → r ≡ as_integer bound (number_of ds m) → Answer r
   of_value = told t view (λ w. as_integer bound w.number)
 
-  -- if there are nonzero fraction digits, the result is `NotWhole`
-  pub part_result : (m +ℤ pos 1) <ℤ pos (length ds) → Answer (Err NotWhole)
-  part_result below = of_value (sym (as_integer-part bound (number_of ds m) (part_after t some below)))
-    where
-      some : 0 < length ds
-      some = grind (arith, ints)
+  module _ {len : ℕ} (size : len ≡ length ds) where
+    -- if there are nonzero fraction digits, the result is `NotWhole`
+    pub part_result : (to_z w16 (of_z w16 m) +ℤ pos 1) <ℤ pos len → Answer (Err NotWhole)
+    part_result below =
+        let part : (m +ℤ pos 1) <ℤ pos (length ds) = omega (arith, ints, magnitude_kept t, size, below) in
+        let some : 0 < length ds = grind (arith, ints) in
+        of_value (sym (as_integer-part bound (number_of ds m) (part_after t some part)))
 
-  module _ (places : ℕ) (at : pos 0 +ℤ pos places ≡ m +ℤ pos 1) (few : length ds ≤ places) where
-    -- otherwise the result is the integer that the digits write, or `OutOfRange`
-    pub whole_result : {r : Result ℕ IntegerError} → r ≡ in_range bound (leading places ds) → Answer r
-    whole_result e =
-        of_value (e ∙ sym (as_integer-whole bound (number_of ds m) (leading places ds) (whole_number t places at few)))
+    module _ {places : ℕ} (count : (pos places ≡ to_z w16 (of_z w16 m) +ℤ pos 1) × (len ≤ places)) where
+      at : pos 0 +ℤ pos places ≡ m +ℤ pos 1
+      at = omega (arith, ints, magnitude_kept t, count.0)
 
-    -- at most `top` digits write an integer in range
-    pub few_digits_result : (top : ℕ) → All (λ d. d < 10) ds → places ≤ top → 10 ^ top ≤ bound → {n : ℕ}
-        → n ≡ leading places ds → Answer (Ok n)
-    few_digits_result top digits l h e = grind (arith, whole_result, in_range-below, few_digits)
+      few : length ds ≤ places
+      few = omega (arith, size, count.1)
 
-    -- more digits write an integer out of range
-    pub many_digits_result : (top : ℕ) → top < places → 0 < top → bound ≤ 10 ^ top → Answer (Err OutOfRange)
-    many_digits_result top l p h =
-        grind (arith, some_digits, number_at-ge, pow-le-pow_right, take_all, whole_result, in_range-above)
+      -- otherwise the result is the integer that the digits write, or `OutOfRange`
+      pub whole_result : {r : Result ℕ IntegerError} → r ≡ in_range bound (leading places ds) → Answer r
+      whole_result e =
+          of_value
+          (e ∙ sym (as_integer-whole bound (number_of ds m) (leading places ds) (whole_number t places at few)))
+
+      -- at most `top` digits write an integer in range
+      pub few_digits_result : (top : ℕ) → All (λ d. d < 10) ds → places ≤ top → 10 ^ top ≤ bound → {n : ℕ}
+          → n ≡ leading places ds → Answer (Ok n)
+      few_digits_result top digits l h e = grind (arith, whole_result, in_range-below, few_digits)
+
+      -- more digits write an integer out of range
+      pub many_digits_result : (top : ℕ) → top < places → 0 < top → bound ≤ 10 ^ top → Answer (Err OutOfRange)
+      many_digits_result top l p h =
+          grind (arith, some_digits, number_at-ge, pow-le-pow_right, take_all, whole_result, in_range-above)
 
 -- ---- the first sixteen digits, from their packed BCD number
 module _ (ds : List ℕ) (h : All (λ d. d < 10) ds) where
@@ -137,8 +145,7 @@ module _ (ds : List ℕ) (h : All (λ d. d < 10) ds) where
   shifted_front : (count : ℕ) → count ≤ 16
       → bcd_number ds / 2 ^ (4 * (16 - count)) ≡ number_from_digits 16 (take count all)
   unfolding bcd_number
-  shifted_front count l =
-      grind (arith, ints, clamps, nat_tests, common_steps, sixteen_are, hex_pow, number-div, all_hex)
+  shifted_front count l = grind (steps, sixteen_are, hex_pow, number-div, all_hex)
 
   -- the first of them write the number that the first digits write
   front_leading : (i : ℕ) → i ≤ 16 → number_from_digits 10 (take i all) ≡ leading i ds

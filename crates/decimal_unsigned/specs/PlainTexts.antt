@@ -5,8 +5,7 @@ use Rattle.std.specs.Int.Digits.{number_from_digits}
 use Rattle.std.specs.Str.Parse.{AllDigits, digits_value}
 use Rattle.decimal_digits.specs.Ascii.{digit_zero, decimal_point}
 use Rattle.decimal_unsigned.specs.declared.decimal.parse.fast_path.PlainText.{PlainText}
-use Rattle.decimal_unsigned.specs.declared.decimal.parse.fast_path.Prefix.{Prefix}
-use Rattle.decimal_unsigned.specs.declared.decimal.parse.words.Group.{Group}
+use Rattle.decimal_unsigned.specs.declared.decimal.parse.words.Dotted.{Dotted}
 use Rattle.decimal_unsigned.specs.Grammar.{Literal}
 use Rattle.decimal_unsigned.specs.Reading.{parts_of}
 
@@ -29,17 +28,11 @@ abbrev pub is_point : Option ℕ → List ℕ → Type 0
 is_point None text = Unit {0}
 is_point (Some n) text = (n < length text) × (slice_index text (length text - (n + 1)) ≡ decimal_point)
 
--- a text of digits, and at most one decimal point, has these digits
-pub record IsGroup (text : List ℕ) (g : Group) : Type 0 where
-  pub point : is_point g.fraction text
-  pub digits : AllDigits 10 (without g.fraction text)
-  pub number : g.number ≡ digits_value 16 (without g.fraction text)
-
--- the same of a prefix of a text, with the number modulo 2 ^ 128
-pub record IsPrefix (text : List ℕ) (p : Prefix) : Type 0 where
-  pub point : is_point p.fraction text
-  pub digits : AllDigits 10 (without p.fraction text)
-  pub number : p.number ≡ digits_value 16 (without p.fraction text) % 2 ^ 128
+-- a text of digits, and at most one decimal point, has these digits, whose number is modulo 2 ^ 128
+pub record IsDotted (text : List ℕ) (d : Dotted ℕ) : Type 0 where
+  pub point : is_point d.fraction text
+  pub digits : AllDigits 10 (without d.fraction text)
+  pub number : d.number ≡ digits_value 16 (without d.fraction text) % 2 ^ 128
 
 -- the parts of a text of digits, with or without a decimal point, where the first `whole` are the integer digits
 abbrev pub plain_parts : List ℕ → ℕ → Literal

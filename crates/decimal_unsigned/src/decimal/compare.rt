@@ -10,7 +10,6 @@ use super::UnsignedOver;
 use decimal_digits::digits::DigitStore;
 use std::cmp::Ordering;
 
-/// Returns the number of eight bytes, of which the first has the highest weight.
 #[inline]
 fn word_of(bytes: &[u8]) -> u64
     requires { length bytes.now ≡ 8 }
@@ -22,7 +21,6 @@ fn word_of(bytes: &[u8]) -> u64
     }
 }
 
-/// Compares two lists of bytes by the first that differ; if one is a prefix of the other, the longer one is greater.
 fn compare_slices(bytes: &[u8], other: &[u8]) -> Ordering
     ensures { result ≡ slice_cmp nat_cmp bytes.now other.now }
 {
@@ -33,7 +31,7 @@ fn compare_slices(bytes: &[u8], other: &[u8]) -> Ordering
     bytes.cmp(&other)
 }
 
-/// Compares two lists of bytes as [`compare_slices`], and 8 to 16 bytes as words.
+/// Compares 8 to 16 bytes as words.
 #[inline]
 fn compare_bytes(bytes: &[u8], other: &[u8]) -> Ordering
     ensures { result ≡ slice_cmp nat_cmp bytes.now other.now }
@@ -49,7 +47,7 @@ fn compare_bytes(bytes: &[u8], other: &[u8]) -> Ordering
     word_of(&bytes[len - 8..]).cmp(&word_of(&other[len - 8..]))
 }
 
-/// Compares two lists of digits as [`compare_digits`], by their bytes where both store packed BCD, else digit by digit.
+/// Compares by bytes where both lists store packed BCD, else digit by digit.
 fn compare_long<D: DigitStore, E: DigitStore>(digits: &D, other: &E) -> Ordering
     requires stripped { IsStripped (D.digits digits.now) }
     requires other_stripped { IsStripped (E.digits other.now) }
@@ -68,8 +66,7 @@ fn compare_long<D: DigitStore, E: DigitStore>(digits: &D, other: &E) -> Ordering
     digits.len().cmp(&other.len())
 }
 
-/// Compares two lists of digits by the first digits that differ; if one is a prefix of the other, the longer one is
-/// greater. Neither list ends in 0.
+/// Compares by the first sixteen digits where these decide.
 fn compare_digits<D: DigitStore, E: DigitStore>(digits: &D, other: &E) -> Ordering
     requires stripped { IsStripped (D.digits digits.now) }
     requires other_stripped { IsStripped (E.digits other.now) }

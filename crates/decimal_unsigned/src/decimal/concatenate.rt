@@ -115,24 +115,14 @@ impl<D: DigitStore> UnsignedOver<D> {
         ensures err { OnErr result (self.new ≡ self.old) }
         ensures succeeds { concatenated_size self.old other.now ≤ D.L → IsOk result }
     {
-        let zeros = self.zeros_before(other);
+        let start = other.nonzero_magnitude_start();
+        let zeros = count_between(start, self.nonzero_magnitude_end()) as usize - 2;
         let hi = self.hi.max(other.hi);
         let lo = self.lo.min(other.lo);
         self.digits.append(zeros, &other.digits)?;
         self.hi = hi;
         self.lo = lo;
         Ok(())
-    }
-
-    fn zeros_before(&self, other: &Self) -> usize
-        requires { first other.now.number <ℤ last self.now.number }
-        ensures { last self.now.number ≡ first other.now.number +ℤ pos (result + 1) }
-    {
-        count_between(
-            other.nonzero_magnitude_start(),
-            self.nonzero_magnitude_end(),
-        ) as usize
-            - 2
     }
 
     fn widen(&mut self, other: &Self)

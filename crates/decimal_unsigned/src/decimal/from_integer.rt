@@ -36,6 +36,7 @@ fn trimmed_len(digits: &[u8]) -> usize
     0
 }
 
+#[tactic(auto, using(crate::proofs::Integers::ranges))]
 impl<D: DigitStore> UnsignedOver<D> {
     /// Makes the number 1, which prints `1`, without an allocation.
     pub fn one(alloc: Global) -> Self
@@ -129,22 +130,7 @@ impl<D: DigitStore> UnsignedOver<D> {
     {
         let mut buffer = [0; MAX_DIGITS];
         let start = write_integer_digits(integer, &mut buffer);
-        Self::from_digits(alloc, &buffer[start..])
-    }
-
-    /// Makes the value of an integer from its digits, the first of which is not 0.
-    ///
-    /// Inlined always: returned from a call, the fields would be stored one by one and copied together, and the
-    /// processor waits for that.
-    #[inline(always)]
-    fn from_digits(alloc: Global, digits: &[u8]) -> Result<Self, AllocError>
-        requires digits { All (λ d. d < 10) digits.now }
-        requires front { 0 < length digits.now → 0 < slice_index digits.now 0 }
-        requires at_most { length digits.now ≤ MAX_DIGITS }
-        ensures value { IfOk result (λ v. v ≡ integer_value (number_from_digits 10 digits.now)) }
-        ensures succeeds { size (integer_value (number_from_digits 10 digits.now)).number ≤ D.L → IsOk result }
-        ensures fits { length digits.now ≤ D.L → IsOk result }
-    {
+        let digits = &buffer[start..];
         let nonzero = D::from_digits(alloc, &digits[..trimmed_len(digits)])?;
         let magnitude = at_least_zero(subtract_counts(digits.len(), 1));
         Ok(UnsignedOver {

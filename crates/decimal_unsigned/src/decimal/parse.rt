@@ -86,8 +86,12 @@ impl<'a> Scan<'a> {
         ensures value { IfOk result (λ v. v ≡ self.now) }
         ensures succeeds { size self.now.number ≤ D.L → IsOk result }
     {
-        let digits = digits_between(alloc, &self.parts, self.plan.start, self.plan.end)?;
         let bounds = self.plan.bounds;
+        let (whole, fraction) = self.parts.between(self.plan.start, self.plan.end);
+        let mut digits = D::empty(alloc);
+        digits.reserve(whole.len() + fraction.len())?;
+        digits.push_text(whole);
+        digits.push_text(fraction);
         Ok(UnsignedOver {
             digits,
             magnitude: bounds.magnitude,
@@ -109,26 +113,6 @@ pub fn lowest_of(text: &[u8]) -> Result<i16, ParseError>
     ensures rejects { IfErr result (λ e. ParseFails ⊥ e (read text.now)) }
 {
     Ok(Scan::new(text)?.lowest())
-}
-
-fn digits_between<D: DigitStore>(
-    alloc: Global,
-    parts: &Parts<'_>,
-    start: usize,
-    end: usize,
-) -> Result<D, AllocError>
-    requires digits { AllDigits 10 (parts.now.whole.now ++ parts.now.fraction.now) }
-    requires ordered { start ≤ end }
-    requires within { end ≤ length (digits_of (view parts.now)) }
-    ensures ok { IfOk result (λ d. D.digits d ≡ middle start end (digits_of (view parts.now))) }
-    ensures succeeds { end - start ≤ D.L → IsOk result }
-{
-    let (whole, fraction) = parts.between(start, end);
-    let mut list = D::empty(alloc);
-    list.reserve(whole.len() + fraction.len())?;
-    list.push_text(whole);
-    list.push_text(fraction);
-    Ok(list)
 }
 
 impl<D: DigitStore> UnsignedOver<D> {
@@ -157,7 +141,10 @@ impl<D: DigitStore> UnsignedOver<D> {
         ensures plain { (w : Literal) → Grammar text.now w → IsPlain w → result ≢ Err ParseError.Limit }
         ensures at_most { (w : Literal) → Grammar text.now w → digit_count w ≤ D.L → result ≢ Err ParseError.Memory }
     {
-        Self::read_from(alloc, text)
+        if let Some(value) = Self::from_short_text(alloc, text) {
+            return Ok(value);
+        }
+        Self::scan_from(alloc, text)
     }
 
     /// Parses a value, as [`Self::try_from_utf8`] of the bytes.
@@ -184,16 +171,6 @@ impl<D: DigitStore> UnsignedOver<D> {
     {
         let plain = few_digits(text, D::L.min(16))?;
         Self::from_bcd_digits(alloc, plain.whole, plain.fraction, plain.number).ok()
-    }
-
-    #[inline(always)]
-    fn read_from(alloc: Global, text: &[u8]) -> Result<Self, ParseError>
-        ensures { IsParseResult (λ v. D.L < size v.number) result (read text.now) }
-    {
-        if let Some(value) = Self::from_short_text(alloc, text) {
-            return Ok(value);
-        }
-        Self::scan_from(alloc, text)
     }
 
     /// Parses any text, as `try_from_utf8`, up to 32 digits in one pass; a short one faster by `from_short_text`.

@@ -12,8 +12,6 @@ use decimal_digits::digits::{Counted, DigitStore, Steps};
 use decimal_digits::ops::magnitude_below;
 use decimal_digits::rounding::{RoundError, RoundingIncrement, UnsignedRoundingMode, round};
 
-/// Returns the highest magnitude that is shown after a rounding: the greatest of the highest one before, the one just
-/// below the position, and that of the first digit.
 fn highest_after(hi: i16, position: i16, first: i16) -> i16
     requires { pos 0 ≤ℤ hi }
     ensures { result ≡ int_max (int_max hi (position -ℤ pos 1)) first }
@@ -25,7 +23,7 @@ fn highest_after(hi: i16, position: i16, first: i16) -> i16
     }
 }
 
-#[tactic(auto, using(crate::proofs::Casts::kept))]
+#[tactic(auto, using(crate::proofs::Rules::kept))]
 impl<D: DigitStore> UnsignedOver<D> {
     /// Rounds to a multiple of an increment at a position, and counts the digit accesses.
     ///
@@ -122,7 +120,6 @@ impl<D: DigitStore> UnsignedOver<D> {
     pub fn round(&mut self, position: i16) -> Result<(), LimitError>
         ensures rounds { UpdatesInPlace (IsRounded self.old (rounding_by_1 position UnsignedRoundingMode.HalfEven))
             self.old self.new result }
-        // If no digit is shown at 32767, each multiple is below the limit.
         ensures fits { self.old.hi <ℤ pos 32767 → IsOk result }
     {
         self.round_with_mode(position, UnsignedRoundingMode::HalfEven)
@@ -138,7 +135,6 @@ impl<D: DigitStore> UnsignedOver<D> {
     pub fn expand(&mut self, position: i16) -> Result<(), LimitError>
         ensures rounds { UpdatesInPlace (IsRounded self.old (rounding_by_1 position UnsignedRoundingMode.Expand))
             self.old self.new result }
-        // If no digit is shown at 32767, each multiple is below the limit.
         ensures fits { self.old.hi <ℤ pos 32767 → IsOk result }
     {
         self.round_with_mode(position, UnsignedRoundingMode::Expand)

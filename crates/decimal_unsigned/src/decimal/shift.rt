@@ -57,9 +57,6 @@ impl<D: DigitStore> UnsignedOver<D> {
     }
 }
 
-/// Moves the range from `hi` to `lo` by `delta`, and extends it to magnitude 0.
-///
-/// None if the moved range leaves the magnitudes -32768 to 32767.
 #[inline]
 fn moved_range(hi: i16, lo: i16, delta: i16) -> Option<(i16, i16)>
     requires highest { pos 0 ≤ℤ hi }

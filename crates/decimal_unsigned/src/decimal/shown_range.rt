@@ -112,7 +112,7 @@ impl<D: DigitStore> UnsignedOver<D> {
         ensures splits { SplitsAt self.old position (trunced self.old position) self.new }
     {
         let len = self.digits.len();
-        let above = places_from(position, self.magnitude);
+        let above = places_above(position, self.magnitude).unwrap_or(0);
         let start = first_nonzero(&self.digits, above.min(len));
         let magnitude = if start < len {
             magnitude_of(self.magnitude, start)
@@ -174,12 +174,6 @@ impl<D: DigitStore> UnsignedOver<D> {
         self.set_max_position(position);
         self
     }
-}
-
-fn places_from(position: i16, magnitude: i16) -> usize
-    ensures { result ≡ int_gap position (magnitude +ℤ pos 1) }
-{
-    places_above(position, magnitude).unwrap_or(0)
 }
 
 fn first_nonzero<D: DigitStore>(digits: &D, from: usize) -> usize

@@ -1,5 +1,5 @@
-//! The text of a value.
-ghost use Rattle.std.specs.Prelude.{◌≡◌, ◌↔◌, [], ◌∷◌, ◌+◌, ◌-◌, ◌-ℤ◌, ◌<◌, ◌≤◌, length, take, drop, replicate, slice_index, EachIndex, Ok, OnOk, OnErr, pos, IsTrue, true, false};
+//! The text of a value, and its digits at consecutive magnitudes.
+ghost use Rattle.std.specs.Prelude.{◌≡◌, ◌↔◌, ℕ, [], ◌∷◌, ◌+◌, ◌-◌, ◌*◌, ◌/◌, ◌%◌, ◌^◌, ◌+ℤ◌, ◌-ℤ◌, ◌<◌, ◌≤◌, ◌≤ℤ◌, length, take, drop, replicate, slice_index, EachIndex, Ok, OnOk, OnErr, pos, IsTrue, true, false};
 ghost use Rattle.std.specs.Int.{int_gap};
 ghost use Rattle.std.specs.Io.KnownBytes.{Keeps, Appends};
 ghost use Rattle.decimal_digits.specs.Number.{offset, digit};
@@ -16,14 +16,37 @@ use decimal_digits::sink::{Sink, SinkFault, Writeable};
 /// The number of bytes of a text that are made and written at a time. Most texts are shorter.
 pub(super) const BLOCK: usize = 64;
 
-/// The greatest number of digits of a text that is made from one packed BCD number.
-const MAX_WORD: u32 = 16;
-
+#[tactic(auto, using(crate::proofs::Rules::kept))]
 impl<D: DigitStore> UnsignedOver<D> {
-    /// Writes the digits at consecutive magnitudes, from `magnitude` down, without a decimal point.
+    /// Writes the digits at consecutive magnitudes, from `highest` down, one to each byte of the buffer.
     ///
-    /// Only the digits that are stored are written, among the zeros of the buffer. Requires ASCII zeros in the buffer,
-    /// and magnitudes of at least -32768.
+    /// They are ASCII, without a decimal point, and zeros outside of the range that is shown: of `12.5` four digits
+    /// from 2 down are `0125`. It does not allocate. Requires magnitudes of at least -32768.
+    pub fn write_digits(&self, highest: i16, buffer: &mut [u8])
+        requires { pos (length buffer.old) ≤ℤ (highest +ℤ pos 32769) }
+        ensures value { EachIndex buffer.new
+            (λ k. slice_index buffer.new k ≡ 48 + digit self.now.number (highest -ℤ pos k)) }
+        ensures valid { IsValue self.now }
+    {
+        buffer.fill(b'0');
+        self.copy_digits(highest, buffer);
+    }
+
+    /// Returns the digits at sixteen consecutive magnitudes, from the highest that is shown down, as packed BCD.
+    ///
+    /// The first is in the highest nibble: of `012.5` they are `0x0125_0000_0000_0000`. Requires at most sixteen
+    /// magnitudes that are shown.
+    #[inline]
+    pub fn leading_bcd(&self) -> u64
+        requires { int_gap self.now.lo self.now.hi < 16 }
+        ensures { (k : ℕ) → k < 16
+            → result / 2 ^ (4 * (15 - k)) % 16 ≡ digit self.now.number (self.now.hi -ℤ pos k) }
+    {
+        let zeros = count_between(self.magnitude, self.hi) - 1;
+        self.digits.bcd_at(0) >> (4 * zeros)
+    }
+
+    /// Writes only the digits that are stored, among the zeros of the buffer.
     #[inline]
     pub(super) fn copy_digits(&self, magnitude: i16, buffer: &mut [u8])
         requires zeros { buffer.old ≡ replicate (length buffer.old) 48 }
@@ -50,24 +73,6 @@ impl<D: DigitStore> UnsignedOver<D> {
         count_between(0, self.highest()) as usize
     }
 
-    /// Returns the magnitude of the digit at an index of the text; at the decimal point, that of the digit after it.
-    ///
-    /// Requires an index in range.
-    #[inline]
-    fn magnitude_at(&self, index: usize) -> i16
-        requires { index < length (text self.now) }
-        ensures above { index ≤ int_gap (pos 0) self.now.hi + 1 → result ≡ self.now.hi -ℤ pos index }
-        ensures below { int_gap (pos 0) self.now.hi + 1 < index → result ≡ self.now.hi -ℤ pos (index - 1) }
-    {
-        let dot = self.dot();
-        let hi = self.highest();
-        if index <= dot {
-            magnitude_of(hi, index)
-        } else {
-            magnitude_of(hi, index - 1)
-        }
-    }
-
     #[inline]
     fn only_byte(&self) -> u8
         requires { length (text self.now) ≡ 1 }
@@ -81,12 +86,9 @@ impl<D: DigitStore> UnsignedOver<D> {
         ensures short { IsTrue result ↔ (int_gap self.now.lo self.now.hi < 16) }
         ensures valid { IsValue self.now }
     {
-        count_between(self.lowest(), self.highest()) <= MAX_WORD
+        count_between(self.lowest(), self.highest()) <= 16
     }
 
-    /// Returns the text, followed by other bytes.
-    ///
-    /// Requires at most sixteen magnitudes that are shown.
     #[inline(always)]
     pub(super) fn short_text(&self) -> [u8; 17]
         requires { int_gap self.now.lo self.now.hi < 16 }
@@ -95,9 +97,6 @@ impl<D: DigitStore> UnsignedOver<D> {
         dotted_text(self.leading_bcd(), self.dot())
     }
 
-    /// Writes the bytes of the text from index `from`, one to each byte of the buffer.
-    ///
-    /// Requires a nonempty buffer of ASCII zeros, and at least `buffer.len()` bytes from that index.
     #[inline]
     pub(super) fn copy_text(&self, from: usize, buffer: &mut [u8])
         requires zeros { buffer.old ≡ replicate (length buffer.old) 48 }
@@ -106,14 +105,14 @@ impl<D: DigitStore> UnsignedOver<D> {
         ensures { buffer.new ≡ take (length buffer.old) (drop from (text self.now)) }
     {
         let dot = self.dot();
-        let magnitude = self.magnitude_at(from);
+        let hi = self.highest();
         if dot < from {
-            self.copy_digits(magnitude, buffer);
+            self.copy_digits(magnitude_of(hi, from - 1), buffer);
             return;
         }
         let above = buffer.len().min(dot - from);
         let (whole, rest) = buffer.split_at_mut(above);
-        self.copy_digits(magnitude, whole);
+        self.copy_digits(magnitude_of(hi, from), whole);
         if let Some((point, fraction)) = rest.split_first_mut() {
             *point = b'.';
             self.copy_digits(-1, fraction);

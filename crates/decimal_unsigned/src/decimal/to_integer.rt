@@ -5,22 +5,9 @@ ghost use Rattle.decimal_digits.specs.Remainders.{leading};
 ghost use Rattle.decimal_unsigned.specs.ToInteger.{in_range, as_integer};
 ghost use Rattle.decimal_unsigned.specs.Unsigned.{IsValue};
 
-use super::UnsignedOver;
+use super::{UnsignedOver, digit_or_zero};
 use crate::error::IntegerError;
 use decimal_digits::digits::DigitStore;
-
-/// Returns the digit at an index, or 0 after the last one.
-#[inline]
-fn digit_or_zero<D: DigitStore>(digits: &D, index: usize) -> u8
-    ensures value { result ≡ slice_index (D.digits digits.now) index }
-    ensures is_digit { result < 10 }
-{
-    if index < digits.len() {
-        digits.get(index)
-    } else {
-        0
-    }
-}
 
 /// Returns the number that digits write in base 10, if they write `number` in base 16: 25 of 0x25.
 #[inline]
@@ -35,7 +22,6 @@ fn number_of_bcd(number: u64) -> u64
     eights - (4_294_967_296 - 100_000_000) * (eights >> 32)
 }
 
-/// Returns 10^exponent.
 #[inline]
 fn power_of_ten(exponent: usize) -> u64
     requires { exponent ≤ 3 }
@@ -49,7 +35,6 @@ fn power_of_ten(exponent: usize) -> u64
     }
 }
 
-/// Returns the number of the first `count` digits, where zeros follow the list. 64 bits have room for 19 digits.
 #[inline]
 #[tactic(auto, unfolding(decimal_digits::specs::Digits::number_at))]
 fn leading_u64<D: DigitStore>(digits: &D, count: usize) -> u64
@@ -65,7 +50,6 @@ fn leading_u64<D: DigitStore>(digits: &D, count: usize) -> u64
     number_of_bcd(front) * power_of_ten(count - 16) + rest
 }
 
-/// Returns the number of the first `count` digits, where zeros follow the list. 128 bits have room for 38 digits.
 #[tactic(auto, using(crate::proofs::WholeNumbers::to_u128), unfolding(decimal_digits::specs::Digits::number_at))]
 fn leading_u128<D: DigitStore>(digits: &D, count: usize) -> u128
     requires { count ≤ 38 }
@@ -78,7 +62,6 @@ fn leading_u128<D: DigitStore>(digits: &D, count: usize) -> u128
     number
 }
 
-/// Returns the number of the first 39 digits, where zeros follow the list, if 128 bits have room for it.
 #[tactic(auto, using(crate::proofs::WholeNumbers::leading_39))]
 fn leading_39_digits<D: DigitStore>(digits: &D) -> Result<u128, IntegerError>
     ensures { result ≡ in_range (2 ^ 128) (leading 39 (D.digits digits.now)) }
@@ -92,9 +75,7 @@ fn leading_39_digits<D: DigitStore>(digits: &D) -> Result<u128, IntegerError>
     }
 }
 
-/// Returns the number of integer digits of a number with `len` digits, of which the first is at `magnitude`.
-///
-/// None if the last one is a fraction digit.
+/// Returns the number of integer digits of a number with `len` digits. None if the last one is a fraction digit.
 #[inline]
 fn integer_digit_count(magnitude: i16, len: usize) -> Option<usize>
     ensures some { IfSome result (λ count. (pos count ≡ magnitude +ℤ pos 1) × (len ≤ count)) }

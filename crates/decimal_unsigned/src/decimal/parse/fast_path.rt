@@ -4,12 +4,12 @@ ghost use Rattle.std.specs.Char.{is_ascii_digit};
 ghost use Rattle.std.specs.List.{prefix_len};
 ghost use Rattle.std.specs.Str.Parse.{digits_value_after};
 ghost use Rattle.decimal_digits.specs.Nibbles.{wide_leading_bytes};
-ghost use Rattle.decimal_unsigned.specs.PlainTexts.{IsGroup, IsPrefix, IsPlainText};
+ghost use Rattle.decimal_unsigned.specs.PlainTexts.{IsDotted, IsPlainText};
 ghost use Rattle.decimal_unsigned.specs.Reading.{read};
 ghost use Rattle.decimal_unsigned.specs.ScannedDigits.{IsBcdValue};
 
 use super::plan::{Bounds, to_bounds};
-use super::words::{Group, ZEROS, read_group};
+use super::words::{Dotted, ZEROS, read_group};
 use decimal_digits::ops::subtract_counts;
 
 /// The length of 32 digits and a decimal point.
@@ -17,23 +17,15 @@ const MAX_PLAIN_LEN: usize = 33;
 
 /// A text of digits, with or without a decimal point: its numbers of integer and of fraction digits, and the number of
 /// all of them in base 16.
-#[derive(Clone, Copy, Debug)]
+#[derive(Clone, Copy)]
 pub struct PlainText<N> {
     pub whole: usize,
     pub fraction: usize,
     pub number: N,
 }
 
-/// The digits of a prefix of such a text: their number in base 16, in 128 bits, and how many of them follow the decimal
-/// point.
-#[derive(Clone, Copy, Debug)]
-pub struct Prefix {
-    pub number: u128,
-    pub fraction: Option<usize>,
-}
-
 /// A value: the first `len` nibbles of a packed BCD number of 32 nibbles, and their magnitudes.
-#[derive(Clone, Copy, Debug)]
+#[derive(Clone, Copy)]
 pub struct WideBcdValue {
     pub number: u128,
     pub len: usize,
@@ -94,16 +86,16 @@ pub fn few_digits(text: &[u8], most: usize) -> Option<PlainText<u64>>
 }
 
 #[inline]
-fn first_group(text: &[u8], count: usize) -> Option<Prefix>
+fn first_group(text: &[u8], count: usize) -> Option<Dotted<u128>>
     requires enough { 8 ≤ length text.now }
     requires few { count ≤ 8 }
     requires some { 0 < count }
-    ensures { IfSome result (IsPrefix (take count text.now)) }
+    ensures { IfSome result (IsDotted (take count text.now)) }
 {
     let bytes = text.first_chunk::<8>()?;
     let unused = 8 * (8 - count);
     let first = read_group(u64::from_be_bytes(*bytes) >> unused, ZEROS >> unused)?;
-    Some(Prefix {
+    Some(Dotted {
         number: first.number as u128,
         fraction: first.fraction,
     })
@@ -111,22 +103,22 @@ fn first_group(text: &[u8], count: usize) -> Option<Prefix>
 
 /// Appends a group of eight bytes to a prefix. None if there are two decimal points.
 #[inline]
-fn append_group(prefix: Prefix, next: Group) -> Option<Prefix>
+fn append_group(prefix: Dotted<u128>, next: Dotted<u64>) -> Option<Dotted<u128>>
     requires fits { IfSome prefix.fraction (λ n. n < 2 ^ 63) }
-    ensures { IfSome result (λ p. (text group : List ℕ) → IsPrefix text prefix → IsGroup group next → length group ≡ 8
-        → IsPrefix (text ++ group) p) }
+    ensures { IfSome result (λ p. (text group : List ℕ) → IsDotted text prefix → IsDotted group next → length group ≡ 8
+        → IsDotted (text ++ group) p) }
 {
     let digits = next.number as u128;
     match (prefix.fraction, next.fraction) {
-        (None, None) => Some(Prefix {
+        (None, None) => Some(Dotted {
             number: (prefix.number << 32).wrapping_add(digits),
             fraction: None,
         }),
-        (Some(fraction), None) => Some(Prefix {
+        (Some(fraction), None) => Some(Dotted {
             number: (prefix.number << 32).wrapping_add(digits),
             fraction: Some(fraction + 8),
         }),
-        (None, Some(fraction)) => Some(Prefix {
+        (None, Some(fraction)) => Some(Dotted {
             number: (prefix.number << 28).wrapping_add(digits),
             fraction: Some(fraction),
         }),
@@ -135,9 +127,9 @@ fn append_group(prefix: Prefix, next: Group) -> Option<Prefix>
 }
 
 #[inline]
-fn many_digits(text: &[u8]) -> Option<Prefix>
+fn many_digits(text: &[u8]) -> Option<Dotted<u128>>
     requires { 8 ≤ length text.now }
-    ensures { IfSome result (IsPrefix text.now) }
+    ensures { IfSome result (IsDotted text.now) }
 {
     let count = (text.len() - 1) % 8 + 1;
     let mut prefix = first_group(text, count)?;
@@ -156,7 +148,7 @@ fn plain_text(text: &[u8]) -> Option<PlainText<u128>>
     requires at_most { length text.now ≤ 33 }
     ensures { IfSome result (IsPlainText text.now) }
 {
-    let Prefix { number, fraction } = many_digits(text)?;
+    let Dotted { number, fraction } = many_digits(text)?;
     match fraction {
         None if text.len() <= 32 => Some(PlainText {
             whole: text.len(),
@@ -172,9 +164,7 @@ fn plain_text(text: &[u8]) -> Option<PlainText<u128>>
     }
 }
 
-/// Makes the value of a text of 17 to 32 digits, with or without a decimal point, or returns None.
-///
-/// The digits are counted from the first to the last nonzero one.
+/// Makes the value of a text of 17 to 32 digits, counted from the first to the last nonzero one, or returns None.
 #[inline]
 pub fn wide_bcd_value(text: &[u8]) -> Option<WideBcdValue>
     ensures many { IfSome result (λ b. 16 < b.len) }

@@ -147,7 +147,6 @@ fn after_whole<'a>(whole: &'a [u8], text: &'a [u8]) -> Option<Parts<'a>>
     }
 }
 
-/// Returns the parts of the text, if it is in the grammar.
 #[tactic(auto, unfolding(crate::specs::Reading::parts_of))]
 pub fn split(text: &[u8]) -> Option<Parts<'_>>
     ensures parts { views result ≡ option_map saturated_parts (read.parts_of text.now) }
@@ -159,7 +158,6 @@ pub fn split(text: &[u8]) -> Option<Parts<'_>>
 }
 
 impl Parts<'_> {
-    /// Returns the number of digits.
     pub fn len(&self) -> usize
         ensures { result ≡ length (digits_of (view self.now)) }
     {
@@ -185,7 +183,6 @@ impl Parts<'_> {
         self.byte(index) - b'0'
     }
 
-    /// Returns the integer digits and the fraction digits from index `start` to before `end`, as texts.
     pub fn between(&self, start: usize, end: usize) -> (&[u8], &[u8])
         requires digits { AllDigits 10 (self.now.whole.now ++ self.now.fraction.now) }
         requires ordered { start ≤ end }
@@ -201,7 +198,6 @@ impl Parts<'_> {
         (whole, fraction)
     }
 
-    /// Returns the range of the digits without the leading and trailing zeros, or None if all digits are 0.
     pub fn nonzero_range(&self) -> Option<(usize, usize)>
         requires { AllDigits 10 (self.now.whole.now ++ self.now.fraction.now) }
         ensures none { IfNone result ((k : ℕ) → slice_index (digits_of (view self.now)) k ≡ 0) }

@@ -43,7 +43,6 @@ fn lowest_shown(last: i32, lo: i32) -> i16
     }
 }
 
-/// Converts magnitudes to 16 bits.
 #[inline]
 pub fn to_bounds(magnitude: i32, hi: i32, lo: i32) -> Bounds
     requires magnitude_in { (negsuc 32767 ≤ℤ magnitude) × (magnitude ≤ℤ pos 32767) }
@@ -94,7 +93,6 @@ fn plan_with_exponent(parts: &Parts<'_>, start: usize, end: usize, exponent: i32
     Some(Plan { start, end, bounds })
 }
 
-/// Makes the plan of the parts, or returns None if they are beyond a limit.
 #[tactic(auto, using(std::proofs::lemmas::Int::ints, std::proofs::lemmas::Int::clamps))]
 pub fn planned(parts: &Parts<'_>) -> Option<Plan>
     requires digits { AllDigits 10 (parts.now.whole.now ++ parts.now.fraction.now) }

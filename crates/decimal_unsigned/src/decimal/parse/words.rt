@@ -1,16 +1,16 @@
 //! Up to eight bytes of a text at once, as a big-endian number.
 ghost use Rattle.std.specs.Prelude.{◌≡◌, ℕ, ◌≤◌, ◌<◌, List, length, IfSome};
 ghost use Rattle.std.specs.Int.Digits.{number_from_digits, AllBelowBase};
-ghost use Rattle.decimal_unsigned.specs.PlainTexts.{bytes_below, zeros, IsGroup};
+ghost use Rattle.decimal_unsigned.specs.PlainTexts.{bytes_below, zeros, IsDotted};
 
 /// Eight bytes `0`.
 pub const ZEROS: u64 = 0x3030_3030_3030_3030;
 
-/// Up to eight digits, one of which may be followed by a decimal point: their number in base 16, and how many of them
-/// follow the decimal point.
-#[derive(Clone, Copy, Debug)]
-pub struct Group {
-    pub number: u64,
+/// The digits of a text, one of which may be followed by a decimal point: their number in base 16, modulo 2^128, and
+/// how many of them follow the decimal point.
+#[derive(Clone, Copy)]
+pub struct Dotted<N> {
+    pub number: N,
     pub fraction: Option<usize>,
 }
 
@@ -35,18 +35,16 @@ fn pack_bytes(bytes: u64) -> u64
 }
 
 /// Returns the digits of up to eight bytes, of which one may be a decimal point, or None of any other bytes.
-///
-/// `word` is the big-endian number of the bytes, and `all_zeros` that of the same number of bytes `0`.
 #[inline]
-pub fn read_group(word: u64, all_zeros: u64) -> Option<Group>
+pub fn read_group(word: u64, all_zeros: u64) -> Option<Dotted<u64>>
     ensures few { IfSome result (λ g. IfSome g.fraction (λ n. n < 8)) }
     ensures digits { IfSome result (λ g. (text : List ℕ) → AllBelowBase 256 text → length text ≤ 8
-        → word ≡ number_from_digits 256 text → all_zeros ≡ zeros (length text) → IsGroup text g) }
+        → word ≡ number_from_digits 256 text → all_zeros ≡ zeros (length text) → IsDotted text g) }
 {
     let bytes = word.wrapping_sub(all_zeros);
     let flags = flag_bytes(bytes);
     if flags == 0 {
-        return Some(Group {
+        return Some(Dotted {
             number: pack_bytes(bytes),
             fraction: None,
         });
@@ -61,7 +59,7 @@ pub fn read_group(word: u64, all_zeros: u64) -> Option<Group>
     if flag_bytes(bytes) != 0 {
         return None;
     }
-    Some(Group {
+    Some(Dotted {
         number: pack_bytes(bytes),
         fraction: Some(following),
     })

@@ -1,13 +1,23 @@
-use Rattle.decimal_unsigned.proofs.Common.{◌≡◌, w16, to_z, of_z, arith, ints, clamps, int_max, int_min}
+use Rattle.decimal_unsigned.proofs.Common.{◌≡◌, w16, to_z, of_z, arith, ints, clamps, int_max, int_min, ◌+ℤ◌, ◌+◌, ◌-◌, pos, first, last, gap_is}
 use Rattle.std.proofs.lemmas.Bool.{false≢true}
-use Rattle.decimal_unsigned.proofs.Values.{hi_kept, lo_kept}
+use Rattle.decimal_unsigned.proofs.Values.{hi_kept, lo_kept, counted}
 use Rattle.decimal_unsigned.proofs.Concatenations.{append_size, append_stored, append_value}
+use Rattle.decimal_unsigned.proofs.decimal.UnsignedOver.append.Goals.{After-count_between}
 use Rattle.decimal_unsigned.proofs.decimal.UnsignedOver.append.Goals as goal
+
+-- the zeros are between the last digit of the first number and the first digit of the second
+apart : (g : _) (c : After-count_between g)
+    → last c.args.self.now.number ≡ first c.args.other.now.number +ℤ pos (c.count_between.result - 2 + 1)
+apart g c =
+    let start = c.nonzero_magnitude_start-start in
+    let end = c.nonzero_magnitude_end in
+    let count = counted c.count_between.ensures start.ensures.value end.ensures.value start.type_inv end.type_inv in
+    omega (arith, ints, gap_is, count, c.requires.disjoint)
 
 pub returns-in_err-append-clause-succeeds : goal.returns-in_err-append-clause-succeeds
 returns-in_err-append-clause-succeeds g c h =
     let s = append_size c.self.invariant c.other.invariant c.self.view_is c.other.view_is _ c.requires.first_is_nonzero
-    c.requires.second_is_nonzero c.zeros_before-zeros.ensures in
+    c.requires.second_is_nonzero (apart g (goal.at.returns-in_err-append-clause-succeeds g c).After-count_between) in
     absurd (false≢true (c.in_err-append.ensures.succeeds (omega (arith, s, h))))
 
 -- the range of both values
@@ -23,10 +33,10 @@ pub invariant_of-self-2 : goal.invariant_of-self-2
 invariant_of-self-2 g c =
     rw (c.in_ok-append.ensures.ok, hi_is g c, lo_is g c)
     (append_stored c.self.invariant c.other.invariant c.self.view_is c.other.view_is _ c.requires.first_is_nonzero
-    c.requires.second_is_nonzero c.zeros_before-zeros.ensures)
+    c.requires.second_is_nonzero (apart g (goal.at.invariant_of-self-2 g c).After-count_between))
 
 pub returns-clause-ok : goal.returns-clause-ok
 returns-clause-ok g c =
     rw (c.in_ok-append.ensures.ok, hi_is g c, lo_is g c)
     (append_value c.self.invariant c.other.invariant c.self.view_is c.other.view_is _ c.requires.first_is_nonzero
-    c.requires.second_is_nonzero c.zeros_before-zeros.ensures)
+    c.requires.second_is_nonzero (apart g (goal.at.returns-clause-ok g c).After-count_between))

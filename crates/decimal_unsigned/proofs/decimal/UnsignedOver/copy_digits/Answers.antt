@@ -1,7 +1,6 @@
 use Rattle.decimal_unsigned.proofs.Common.{◌≡◌, ◌+◌, ◌-◌, length, take, drop, w16, of_z, to_z, ◌∙◌, ap, arith, min, ◌-ℤ◌, pos, ints, to_z-of_z, length-take-le, length-drop, int_gap, offset, digit, Unsigned}
-use Rattle.decimal_unsigned.proofs.Values.{magnitude_kept}
-use Rattle.decimal_unsigned.proofs.Shown.{value_of_view}
-use Rattle.decimal_unsigned.proofs.Blocks.{index_gap, block_digit}
+use Rattle.decimal_unsigned.proofs.Values.{magnitude_kept, value_of_view}
+use Rattle.decimal_unsigned.proofs.Pieces.{index_gap, block_digit}
 use Rattle.decimal_unsigned.proofs.decimal.UnsignedOver.copy_digits.Goals as goal
 
 pub returns-clause-value : goal.returns-clause-value

@@ -1,24 +1,34 @@
-use Rattle.decimal_unsigned.proofs.Common.{◌≡◌, ◌+◌, suc, ◌++◌, ◌∷◌, length, take, drop, refl, sym, ◌∙◌, ap, arith, append-nil, text}
+use Rattle.decimal_unsigned.proofs.Common.{◌≡◌, ◌+◌, ◌-◌, ◌<◌, w16, of_z, to_z, ℤ, ℕ, pos, ◌-ℤ◌, suc, ◌++◌, ◌∷◌, length, take, drop, refl, sym, ◌∙◌, ap, arith, append-nil, text}
 use Rattle.std.proofs.lemmas.List.{nil_from_length}
+use lib.Signed.{mag}
 use Rattle.decimal_unsigned.proofs.Values.{narrow_kept}
-use Rattle.decimal_unsigned.proofs.TextBytes.{bytes_are}
-use Rattle.decimal_unsigned.proofs.Blocks.{zeros_front, zeros_after, zeros_rest}
-use Rattle.decimal_unsigned.proofs.Pieces.{piece_above, piece_over, piece_below, fits_above, fits_after, fits_below}
+use Rattle.decimal_unsigned.proofs.Writing.{bytes_are}
+use Rattle.decimal_unsigned.proofs.Pieces.{zeros_front, zeros_after, zeros_rest, piece_above, piece_over, piece_below, fits_above, fits_after, fits_below}
 use Rattle.decimal_unsigned.proofs.decimal.UnsignedOver.copy_text.Goals as goal
+
+-- a magnitude that is passed and read again, by its distance to the highest
+moved_down : {hi h r : ℤ} (i : ℕ) → mag h < 32768 → h ≡ hi → mag r < 32768 → r ≡ to_z w16 (of_z w16 h) -ℤ pos i
+    → to_z w16 (of_z w16 r) ≡ hi -ℤ pos i
+moved_down i a p b e = narrow_kept b ∙ e ∙ ap (λ h. h -ℤ pos i) (narrow_kept a ∙ p)
+
+pub magnitude_of-requires : goal.magnitude_of-requires
+magnitude_of-requires g c =
+    let hi = narrow_kept c.highest-hi.type_inv ∙ c.highest-hi.ensures.value in
+    rw hi ((fits_below c.args.self.now c.dot-dot.ensures.valid _ c.dot-dot.ensures.value c.args.from
+    (length c.args.buffer.now) c.if-dot-from.true c.requires.in_text).1 c.requires.some)
 
 pub copy_digits-requires-clause-in_limits : goal.copy_digits-requires-clause-in_limits
 copy_digits-requires-clause-in_limits g c =
-    let dot_is = c.dot-dot.ensures.value in
-    let m = narrow_kept c.magnitude_at-magnitude.type_inv
-    ∙ c.magnitude_at-magnitude.ensures.below (omega (arith, dot_is)) in
-    rw m (fits_below c.args.self.now c.dot-dot.ensures.valid _ dot_is c.args.from (length c.args.buffer.now)
+    let hi = c.highest-hi in
+    rw (moved_down (c.args.from - 1) hi.type_inv hi.ensures.value c.magnitude_of.type_inv c.magnitude_of.ensures)
+    (fits_below c.args.self.now c.dot-dot.ensures.valid _ c.dot-dot.ensures.value c.args.from (length c.args.buffer.now)
     c.if-dot-from.true c.requires.in_text).0
 
 pub returns-then-dot-from : goal.returns-then-dot-from
 returns-then-dot-from g c =
     let dot_is = c.dot-dot.ensures.value in
-    let m = narrow_kept c.magnitude_at-magnitude.type_inv
-    ∙ c.magnitude_at-magnitude.ensures.below (omega (arith, dot_is)) in
+    let hi = c.highest-hi in
+    let m = moved_down (c.args.from - 1) hi.type_inv hi.ensures.value c.magnitude_of.type_inv c.magnitude_of.ensures in
     bytes_are c.args.self.now.number _ _ _ c.copy_digits.new.buffer c.copy_digits.ensures.value m
     c.copy_digits.auto.buffer
     ∙ sym (piece_below c.args.self.now c.dot-dot.ensures.valid _ dot_is c.args.from (length c.args.buffer.now)
@@ -32,8 +42,8 @@ copy_digits-requires-2-clause-zeros g c =
 pub copy_digits-requires-2-clause-in_limits : goal.copy_digits-requires-2-clause-in_limits
 copy_digits-requires-2-clause-in_limits g c =
     let dot_is = c.dot-dot.ensures.value in
-    let m = narrow_kept c.magnitude_at-magnitude.type_inv
-    ∙ c.magnitude_at-magnitude.ensures.above (omega (arith, dot_is)) in
+    let hi = c.highest-hi in
+    let m = moved_down c.args.from hi.type_inv hi.ensures.value c.magnitude_of-2.type_inv c.magnitude_of-2.ensures in
     rw (m, c.split_at_mut-whole.ensures.front_len)
     (fits_above c.args.self.now c.dot-dot.ensures.valid _ dot_is c.args.from c.min-above.result
     (omega (arith, c.min-above.ensures)))
@@ -55,8 +65,8 @@ pub returns-in-Some : goal.returns-in-Some
 returns-in-Some g c =
     let dot_is = c.dot-dot.ensures.value in
     let number = c.args.self.now.number in
-    let m = narrow_kept c.magnitude_at-magnitude.type_inv
-    ∙ c.magnitude_at-magnitude.ensures.above (omega (arith, dot_is)) in
+    let hi = c.highest-hi in
+    let m = moved_down c.args.from hi.type_inv hi.ensures.value c.magnitude_of-2.type_inv c.magnitude_of-2.ensures in
     let rest = c.in-Some.ensures.cases.1 in
     let whole = c.split_at_mut-whole.ensures.back_len in
     let a = c.min-above.result in
@@ -74,8 +84,8 @@ returns-in-Some g c =
 pub returns-in_default : goal.returns-in_default
 returns-in_default g c =
     let dot_is = c.dot-dot.ensures.value in
-    let m = narrow_kept c.magnitude_at-magnitude.type_inv
-    ∙ c.magnitude_at-magnitude.ensures.above (omega (arith, dot_is)) in
+    let hi = c.highest-hi in
+    let m = moved_down c.args.from hi.type_inv hi.ensures.value c.magnitude_of-2.type_inv c.magnitude_of-2.ensures in
     let none = nil_from_length c.split_at_mut-whole.result.1.now c.in_default.ensures.cases in
     let whole = c.split_at_mut-whole.ensures.back_len in
     let all : c.min-above.result ≡ length c.args.buffer.now = omega (arith, whole, c.in_default.ensures.cases) in

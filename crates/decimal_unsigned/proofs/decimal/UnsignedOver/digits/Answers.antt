@@ -1,6 +1,5 @@
 use Rattle.decimal_unsigned.proofs.Common.{◌≡◌, ◌-◌, ◌+◌, int_gap, ◌∙◌, arith}
-use Rattle.decimal_unsigned.proofs.Values.{hi_kept, lo_kept, magnitude_kept}
-use Rattle.decimal_unsigned.proofs.Shown.{told}
+use Rattle.decimal_unsigned.proofs.Values.{hi_kept, lo_kept, magnitude_kept, told}
 use Rattle.decimal_unsigned.proofs.ShownDigits.{stored_shown}
 use Rattle.decimal_unsigned.specs.ShownDigits.{shown_digits}
 use Rattle.decimal_unsigned.proofs.decimal.UnsignedOver.digits.Goals as goal

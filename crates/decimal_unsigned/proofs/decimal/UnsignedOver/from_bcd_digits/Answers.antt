@@ -6,12 +6,12 @@ pub invariant_of-result : goal.invariant_of-result
 invariant_of-result g c =
     rw c.empty.ensures
     (zero_stored c.args.whole c.args.fraction c.args.number c.requires.digits.0 c.requires.digits.1 (omega arith)
-    (omega arith) _ _ _ refl (omega (arith, ints, clamps)) (omega (arith, ints)))
+    _ _ _ refl (omega (arith, ints, clamps)) (omega (arith, ints)))
 
 pub returns-then-number-eq0-clause-value : goal.returns-then-number-eq0-clause-value
 returns-then-number-eq0-clause-value g c = λ ds bcd.
     rw c.empty.ensures
-    (zero_is c.args.whole c.args.fraction c.args.number ds bcd (omega arith) (omega arith) _ _ _ c.if-number-eq0.true
+    (zero_is c.args.whole c.args.fraction c.args.number ds bcd (omega arith) _ _ _ c.if-number-eq0.true
     (omega (arith, ints, clamps)) (omega (arith, ints)))
 
 pub overflow_sub-len : goal.overflow_sub-len

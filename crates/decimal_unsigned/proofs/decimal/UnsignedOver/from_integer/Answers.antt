@@ -1,30 +1,58 @@
-use Rattle.decimal_unsigned.proofs.Common.{arith}
-use Rattle.std.proofs.lemmas.Int.Digits.{number_digits_of}
-use Rattle.decimal_unsigned.proofs.Integers.{digits_at_end, digits_of-below, digits_of-front}
+use Rattle.decimal_unsigned.proofs.Common.{arith, ints, clamps, refl, ap, w16, of_z, to_z, ◌≡◌, ◌-◌, ◌<◌, take, drop, length}
+use Rattle.std.proofs.lemmas.List.Elements.{All-take}
+use Rattle.std.specs.Int.Digits.{digits_of}
+use Rattle.std.proofs.lemmas.Int.Digits.{number_digits_of, length-digits_of-le}
+use Rattle.decimal_unsigned.proofs.Integers.{UpToLast, digits_at_end, digits_of-below, digits_of-front, whole_stored, whole_value, whole_size}
+use Rattle.decimal_unsigned.proofs.decimal.UnsignedOver.from_integer.Goals.{After-trimmed_len}
 use Rattle.decimal_unsigned.proofs.decimal.UnsignedOver.from_integer.Goals as goal
 
-pub from_digits-requires-clause-digits : goal.from_digits-requires-clause-digits
-from_digits-requires-clause-digits g c =
-    let n = g.T.UnsignedInteger.number c.args.integer in
+digits_are : (g : _) (c : After-trimmed_len g)
+    → take (39 - c.write_integer_digits-start.result)
+    (drop c.write_integer_digits-start.result c.write_integer_digits-start.new.buffer)
+    ≡ digits_of 10 (g.T.UnsignedInteger.number c.args.integer)
+digits_are g c =
     let w = c.write_integer_digits-start in
-    rw (digits_at_end w.new.buffer w.result n w.ensures.digits (omega arith)) (digits_of-below n)
+    digits_at_end w.new.buffer w.result (g.T.UnsignedInteger.number c.args.integer) w.ensures.digits (omega arith)
 
-pub from_digits-requires-clause-front : goal.from_digits-requires-clause-front
-from_digits-requires-clause-front g c =
+-- the digits end where `trimmed_len` found
+up_to_last : (g : _) (c : After-trimmed_len g)
+    → UpToLast (digits_of 10 (g.T.UnsignedInteger.number c.args.integer)) c.trimmed_len.result
+up_to_last g c =
     let n = g.T.UnsignedInteger.number c.args.integer in
-    let w = c.write_integer_digits-start in
-    rw (digits_at_end w.new.buffer w.result n w.ensures.digits (omega arith)) (digits_of-front n)
+    let t = rw (digits_are g c) at c.trimmed_len.ensures in
+    record {
+      digits = digits_of-below n;
+      front = digits_of-front n;
+      few = length-digits_of-le 10 39 n (omega arith) (omega arith);
+      within = t.within;
+      zeros = t.zeros;
+      found = t.found;
+    }
+
+pub from_digits-requires : goal.from_digits-requires
+from_digits-requires g c =
+    let b = (goal.at.from_digits-requires g c).After-trimmed_len in
+    rw (digits_are g b) (All-take (λ d. d < 10) _ _ (digits_of-below (g.T.UnsignedInteger.number c.args.integer)))
+
+pub returns-in_err-nonzero-clause-succeeds : goal.returns-in_err-nonzero-clause-succeeds
+returns-in_err-nonzero-clause-succeeds g c h =
+    let b = (goal.at.returns-in_err-nonzero-clause-succeeds g c).After-trimmed_len in
+    let size = rw (number_digits_of 10 (g.T.UnsignedInteger.number c.args.integer) (omega arith)) at
+    (whole_size (up_to_last g b) _ refl) in
+    let k = (rw (digits_are g b) at c.in_err-nonzero.ensures.succeeds) (rw size h) in
+    absurd (cc)
+
+pub invariant_of-result : goal.invariant_of-result
+invariant_of-result g c =
+    let b = (goal.at.invariant_of-result g c).After-trimmed_len in
+    rw (c.in_ok-nonzero.ensures.ok, digits_are g b)
+    (whole_stored (up_to_last g b) _
+    (omega (arith, ints, clamps, ap length (digits_are g b), (up_to_last g b).few)))
 
 pub returns-clause-value : goal.returns-clause-value
 returns-clause-value g c =
-    let n = g.T.UnsignedInteger.number c.args.integer in
-    let w = c.write_integer_digits-start in
-    rw (digits_at_end w.new.buffer w.result n w.ensures.digits (omega arith), number_digits_of 10 n (omega arith)) at
-    c.from_digits.ensures.value
-
-pub returns-clause-succeeds : goal.returns-clause-succeeds
-returns-clause-succeeds g c =
-    let n = g.T.UnsignedInteger.number c.args.integer in
-    let w = c.write_integer_digits-start in
-    rw (digits_at_end w.new.buffer w.result n w.ensures.digits (omega arith), number_digits_of 10 n (omega arith)) at
-    c.from_digits.ensures.succeeds
+    let b = (goal.at.returns-clause-value g c).After-trimmed_len in
+    rw (c.in_ok-nonzero.ensures.ok, digits_are g b)
+    (rw (number_digits_of 10 (g.T.UnsignedInteger.number c.args.integer) (omega arith)) at
+    (whole_value (up_to_last g b) (to_z w16 (of_z w16 c.at_least_zero-magnitude.result))
+    (omega (arith, ints, clamps, ap length (digits_are g b), (up_to_last g b).few))))

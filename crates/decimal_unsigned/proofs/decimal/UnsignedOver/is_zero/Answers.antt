@@ -1,6 +1,5 @@
 use Rattle.decimal_unsigned.proofs.Common.{sym, ◌∙◌, ap, rules, Unsigned}
-use Rattle.decimal_unsigned.proofs.Values.{none_of, number_of-none}
-use Rattle.decimal_unsigned.proofs.Shown.{value_of_view}
+use Rattle.decimal_unsigned.proofs.Values.{none_of, number_of-none, value_of_view}
 use Rattle.decimal_unsigned.proofs.decimal.UnsignedOver.is_zero.Goals as goal
 
 pub returns-clause-zero : goal.returns-clause-zero

@@ -1,6 +1,6 @@
 use Rattle.decimal_unsigned.proofs.Common.{◌≡◌, ◌-◌, w16, to_z, of_z, ◌∙◌, ap, arith, ints, pos, ◌+ℤ◌, ◌-ℤ◌, digit, Unsigned, gap_is}
 use Rattle.decimal_unsigned.proofs.Values.{magnitude_kept, hi_kept}
-use Rattle.decimal_unsigned.proofs.LeadingDigits.{digit_of_nibble}
+use Rattle.decimal_unsigned.proofs.ShownDigits.{digit_of_nibble}
 use Rattle.decimal_unsigned.proofs.decimal.UnsignedOver.leading_bcd.Goals as goal
 
 pub returns : goal.returns

@@ -1,6 +1,5 @@
 use Rattle.decimal_unsigned.proofs.Common.{sym, ◌∙◌, arith, rules, ints, offset_is}
-use Rattle.decimal_unsigned.proofs.Values.{last-number_of, last_of_none, magnitude_kept, narrow_kept}
-use Rattle.decimal_unsigned.proofs.Ranges.{last_told}
+use Rattle.decimal_unsigned.proofs.Values.{last-number_of, last_of_none, magnitude_kept, narrow_kept, last_told}
 use Rattle.decimal_unsigned.proofs.decimal.UnsignedOver.nonzero_magnitude_end.Goals as goal
 
 pub magnitude_of-requires : goal.magnitude_of-requires

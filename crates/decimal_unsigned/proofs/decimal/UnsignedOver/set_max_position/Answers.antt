@@ -1,10 +1,10 @@
 use Rattle.decimal_unsigned.proofs.Common.{◌≡◌, ◌≤◌, min, length, w16, w32, pos, ◌+ℤ◌, ◌-ℤ◌, to_z, of_z, refl, sym, ◌∙◌, ap, subst, arith, int_max, int_gap, ints, to_z-of_z, offset_is, Unsigned, with_max_position, trunced, SplitsAt}
-use Rattle.decimal_unsigned.proofs.Values.{lo_kept, magnitude_kept, narrow_kept, lowest}
+use Rattle.decimal_unsigned.proofs.Values.{lo_kept, magnitude_kept, narrow_kept, lowest, value_of_view}
+use Rattle.decimal_unsigned.proofs.Pieces.{index_gap}
 use Rattle.decimal_unsigned.proofs.Cuts.{Cuts, stored_cut, with_max_position_is}
-use Rattle.decimal_unsigned.proofs.Shown.{value_of_view}
 use Rattle.decimal_unsigned.proofs.ValueLaws.{splits}
-use Rattle.decimal_unsigned.proofs.decimal.UnsignedOver.set_max_position.Goals as goal
 use Rattle.decimal_unsigned.proofs.decimal.UnsignedOver.set_max_position.Goals.{then-start-len, else-start-len}
+use Rattle.decimal_unsigned.proofs.decimal.UnsignedOver.set_max_position.Goals as goal
 
 pub magnitude_of-magnitude-requires : goal.magnitude_of-magnitude-requires
 magnitude_of-magnitude-requires g c =
@@ -22,7 +22,9 @@ cuts g c =
     let from : c.min.result
     ≡ min (int_gap c.args.position (c.self.inside.magnitude +ℤ pos 1))
     (length (g.D.DigitStore.digits c.self.inside.digits)) =
-    c.min.ensures ∙ (rw (c.places_from-above.ensures, c.len-len.ensures, p, magnitude_kept t) refl) in
+    let gap = c.unwrap_or-above.ensures ∙ index_gap c.places_above.result _ _ c.places_above.ensures.some
+    c.places_above.ensures.none in
+    c.min.ensures ∙ (rw (gap, c.len-len.ensures, p, magnitude_kept t) refl) in
     record {
       from = subst (λ n. n ≤ c.first_nonzero-start.result) from f.from;
       within = f.within;

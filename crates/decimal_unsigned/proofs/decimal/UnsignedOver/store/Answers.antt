@@ -1,6 +1,5 @@
 use Rattle.decimal_unsigned.proofs.Common.{sym, ◌∙◌, ap, number_of, first, size, Unsigned}
-use Rattle.decimal_unsigned.proofs.Values.{first_of, size-number_of}
-use Rattle.decimal_unsigned.proofs.Shown.{value_of_view}
+use Rattle.decimal_unsigned.proofs.Values.{first_of, size-number_of, value_of_view}
 use Rattle.decimal_unsigned.proofs.decimal.UnsignedOver.store.Goals as goal
 
 pub returns-clause-number : goal.returns-clause-number

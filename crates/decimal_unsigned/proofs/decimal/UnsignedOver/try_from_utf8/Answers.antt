@@ -1,12 +1,17 @@
+use Rattle.decimal_unsigned.proofs.Common.{◌<◌, size}
 use Rattle.decimal_unsigned.proofs.FewDigits.{never_limit, never_memory}
 use Rattle.decimal_unsigned.proofs.ReadingGrammar.{result_follows_grammar}
 use Rattle.decimal_unsigned.proofs.decimal.UnsignedOver.try_from_utf8.Goals as goal
 
+pub returns-in-Some-clause-grammar : goal.returns-in-Some-clause-grammar
+returns-in-Some-clause-grammar g c =
+    result_follows_grammar (λ v. g.D.DigitStore.L < size v.number) c.args.text.now _ c.in-Some.ensures
+
 pub returns-clause-grammar : goal.returns-clause-grammar
-returns-clause-grammar g c = result_follows_grammar _ c.args.text.now _ c.read_from.ensures
+returns-clause-grammar g c = result_follows_grammar _ c.args.text.now _ c.scan_from.ensures
 
 pub returns-clause-plain : goal.returns-clause-plain
-returns-clause-plain g c = never_limit _ c.args.text.now _ c.read_from.ensures
+returns-clause-plain g c = never_limit _ c.args.text.now _ c.scan_from.ensures
 
 pub returns-clause-at_most : goal.returns-clause-at_most
-returns-clause-at_most g c = never_memory g.D.DigitStore.L c.args.text.now _ c.read_from.ensures
+returns-clause-at_most g c = never_memory g.D.DigitStore.L c.args.text.now _ c.scan_from.ensures

@@ -1,16 +1,11 @@
-use Rattle.decimal_unsigned.proofs.Common.{arith, ints}
-use Rattle.decimal_unsigned.proofs.Values.{magnitude_kept}
+use Rattle.decimal_unsigned.proofs.Common.{arith}
 use Rattle.decimal_unsigned.proofs.WholeNumbers.{part_result, few_digits_result}
 use Rattle.decimal_unsigned.proofs.decimal.UnsignedOver.try_to_u64.Goals as goal
 
 pub returns-in_default : goal.returns-in_default
-returns-in_default g c =
-    part_result c.self.invariant c.self.view_is _
-    (omega (arith, ints, magnitude_kept c.self.invariant, c.in_default.ensures.none, c.len.ensures))
+returns-in_default g c = part_result c.self.invariant c.self.view_is _ c.len.ensures c.in_default.ensures.none
 
 pub returns-then-count-le19 : goal.returns-then-count-le19
 returns-then-count-le19 g c =
-    few_digits_result c.self.invariant c.self.view_is _ c.in-Some.count
-    (omega (arith, ints, magnitude_kept c.self.invariant, c.in-Some.ensures.some))
-    (omega (arith, c.len.ensures, c.in-Some.ensures.some))
+    few_digits_result c.self.invariant c.self.view_is _ c.len.ensures c.in-Some.ensures.some
     19 (g.met.D.DigitStore.are_digits c.self.inside.digits) (omega arith) (omega arith) c.leading_u64.ensures

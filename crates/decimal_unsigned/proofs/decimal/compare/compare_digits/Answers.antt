@@ -10,8 +10,8 @@ returns-then-front-other_front g c =
     let right = c.bcd_at-other_front.ensures in
     c.cmp.ensures
     ∙ (λ k. nat_cmp (left k) (right k))
-    ∙ fronts_order ds es (g.met.D.DigitStore.are_digits c.args.digits.now)
-    (g.met.E.DigitStore.are_digits c.args.other.now) c.requires.stripped.back c.requires.other_stripped.back
+    ∙ fronts_order ds es c.requires.stripped.back c.requires.other_stripped.back
+    (g.met.D.DigitStore.are_digits c.args.digits.now) (g.met.E.DigitStore.are_digits c.args.other.now)
     (elim c.then-front-other_front.either [
       | inl h ↦ inl (λ e. h (left ∙ e ∙ sym right))
       | inr h ↦ inr (

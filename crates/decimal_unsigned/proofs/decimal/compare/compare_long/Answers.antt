@@ -16,8 +16,7 @@ returns g c =
 pub returns-in-Some-Some : goal.returns-in-Some-Some
 returns-in-Some-Some g c =
     c.compare_bytes.ensures
-    ∙ bytes_order c.in-Some-Some.bytes.now c.in-Some-Some.other_bytes.now (g.D.DigitStore.digits c.args.digits.now)
-    (g.E.DigitStore.digits c.args.other.now) (g.met.D.DigitStore.are_digits c.args.digits.now)
-    (g.met.E.DigitStore.are_digits c.args.other.now) c.requires.stripped.back c.requires.other_stripped.back
+    ∙ bytes_order (g.D.DigitStore.digits c.args.digits.now) (g.E.DigitStore.digits c.args.other.now)
+    c.requires.stripped.back c.requires.other_stripped.back c.in-Some-Some.bytes.now c.in-Some-Some.other_bytes.now
     c.in-Some-Some.ensures.packed c.in-Some-Some.ensures.digits c.in-Some-Some.ensures'.packed
     c.in-Some-Some.ensures'.digits

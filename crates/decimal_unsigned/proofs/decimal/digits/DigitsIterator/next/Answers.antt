@@ -12,8 +12,7 @@ returns-then-self-gt0-clause-steps g c =
     (word_next s.word s.ready c.self.ranges.0.1 c.if-self-gt0.true)
 
 pub returns-then-self-gt0-clause-goes : goal.returns-then-self-gt0-clause-goes
-returns-then-self-gt0-clause-goes g c =
-    let l = ap length (returns-then-self-gt0-clause-steps g c) in search rules
+returns-then-self-gt0-clause-goes g c = let l = ap length (returns-then-self-gt0-clause-steps g c) in search rules
 
 pub returns-then-self-eq0-clause-steps : goal.returns-then-self-eq0-clause-steps
 returns-then-self-eq0-clause-steps g c =

@@ -1,8 +1,7 @@
 use Rattle.decimal_unsigned.proofs.Common.{◌≡◌, w16, to_z, of_z, sym, ◌∙◌, ap, Unsigned}
 use Rattle.std.specs.Cmp.{both_ways}
-use Rattle.decimal_unsigned.proofs.Shown.{value_of_view}
-use Rattle.decimal_unsigned.proofs.Values.{magnitude_kept, hi_kept, lo_kept}
-use Rattle.decimal_unsigned.proofs.Unique.{same_magnitude, same_digits, same_is, is_same, not_same, tells}
+use Rattle.decimal_unsigned.proofs.Values.{value_of_view, magnitude_kept, hi_kept, lo_kept}
+use Rattle.decimal_unsigned.proofs.Comparing.{same_magnitude, same_digits, same_is, is_same, not_same, tells}
 use Rattle.decimal_unsigned.proofs.decimal.equality.UnsignedOverPartialEq.eq.Goals as goal
 
 pub returns-then-self-other : goal.returns-then-self-other

@@ -1,5 +1,5 @@
 use Rattle.decimal_unsigned.proofs.Common.{◌∙◌, view}
-use Rattle.decimal_unsigned.proofs.Exponents.{read_none, read_some}
+use Rattle.decimal_unsigned.proofs.Plans.{read_none, read_some}
 use Rattle.decimal_unsigned.proofs.decimal.parse.Scan.new.Goals as goal
 
 pub returns-in_default-clause-rejects : goal.returns-in_default-clause-rejects

@@ -1,6 +1,6 @@
 use Rattle.decimal_unsigned.proofs.Common.{◌%◌, ◌^◌, get_or, length, sym, ◌∙◌, ap, arith, is_ascii_digit, take_all, digits_value_after}
 use Rattle.std.proofs.lemmas.List.Sums.{prefix_len-drop_yes, prefix_len-drop_no, prefix_len-drop_all}
-use Rattle.decimal_unsigned.proofs.Numerals.{digit_at_most, digit_above}
+use Rattle.decimal_unsigned.proofs.GrammarParts.{digit_at_most, digit_above}
 use Rattle.decimal_unsigned.proofs.BcdValues.{number_more}
 use Rattle.decimal_unsigned.proofs.decimal.parse.fast_path.count_digits.Goals as goal
 

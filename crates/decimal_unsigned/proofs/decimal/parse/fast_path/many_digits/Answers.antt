@@ -3,7 +3,8 @@ use Rattle.std.specs.Int.{w64, from_be_bytes}
 use Rattle.std.proofs.Math.Seq.{take-add}
 use Rattle.std.proofs.lemmas.List.{drop-drop}
 use Rattle.decimal_unsigned.specs.PlainTexts.{zeros}
-use Rattle.decimal_unsigned.proofs.PlainTexts.{all_bytes, whole_word, eight_zeros}
+use Rattle.decimal_unsigned.proofs.PlainTexts.{whole_word, eight_zeros}
+use Rattle.decimal_unsigned.proofs.Comparing.{all_below}
 use Rattle.decimal_unsigned.proofs.decimal.parse.fast_path.many_digits.Goals as goal
 
 pub loop-bytes-preserved : goal.loop-bytes-preserved
@@ -16,7 +17,8 @@ loop-bytes-preserved c =
     let bytes = take 8 rest in
     let below : (i : ℕ) → get_or text i 0 < 256 = λ i. (c.type_inv.text i).fits in
     let below_bytes : AllBelowBase 256 bytes =
-    below_take 256 8 rest (subst (AllBelowBase 256) (sym inv.rest) (below_drop 256 n text (all_bytes text below))) in
+    below_take 256 8 rest
+    (subst (AllBelowBase 256) (sym inv.rest) (below_drop 256 n text (all_below 256 text below))) in
     let size : length c.in-Some.others.now + 8 ≡ length rest = chunk.2 in
     let eight : length bytes ≡ 8 = length-take-le 8 rest (omega (arith, size)) in
     let next : length text - length c.in-Some.others.now ≡ n + 8 = omega (arith, size, inv.size) in

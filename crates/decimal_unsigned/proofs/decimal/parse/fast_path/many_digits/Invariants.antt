@@ -1,5 +1,5 @@
 use Rattle.decimal_unsigned.proofs.Common.{◌≡◌, ◌-◌, ◌%◌, ◌≤◌, length, take, drop}
-use Rattle.decimal_unsigned.specs.PlainTexts.{IsPrefix}
+use Rattle.decimal_unsigned.specs.PlainTexts.{IsDotted}
 use Rattle.decimal_unsigned.proofs.decimal.parse.fast_path.many_digits.Given as goal
 
 -- the digits of the bytes before the rest
@@ -8,7 +8,7 @@ invariant-loop-bytes l = record {
   size : length l.rest ≤ length l.text;
   eighths : length l.rest % 8 ≡ 0;
   rest : l.rest ≡ drop (length l.text - length l.rest) l.text;
-  prefix : IsPrefix (take (length l.text - length l.rest) l.text) l.prefix;
+  prefix : IsDotted (take (length l.text - length l.rest) l.text) l.prefix;
 }
 
 abbrev pub decreases-loop-bytes : goal.decreases-loop-bytes

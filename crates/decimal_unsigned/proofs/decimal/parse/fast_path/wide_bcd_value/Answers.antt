@@ -10,8 +10,8 @@ overflow_sub-len c =
     let p = c.in_ok-plain.plain in
     let few = few_digits text p c.in_ok-plain.ensures in
     let n =
-    bcd_sizes p.whole p.fraction p.number _ (plain_bcd text p c.in_ok-plain.ensures) (omega (arith, few))
-    (omega (arith, few)) w128 32 refl (number_fits text p c.in_ok-plain.ensures) (omega arith) in
+    bcd_sizes p.whole p.fraction p.number _ (plain_bcd text p c.in_ok-plain.ensures) (omega (arith, few)) w128 32 refl
+    (number_fits text p c.in_ok-plain.ensures) (omega arith) in
     omega (arith, n.0)
 
 pub returns-clause-value : goal.returns-clause-value
@@ -20,8 +20,8 @@ returns-clause-value c =
     let p = c.in_ok-plain.plain in
     let few = few_digits text p c.in_ok-plain.ensures in
     rw (plain_read text p c.in_ok-plain.ensures)
-    (bcd_value p.whole p.fraction p.number _ (plain_bcd text p c.in_ok-plain.ensures) (omega (arith, few))
-    (omega (arith, few)) w128 32 refl (number_fits text p c.in_ok-plain.ensures) (omega arith) _ _ _ _ refl refl
+    (bcd_value p.whole p.fraction p.number _ (plain_bcd text p c.in_ok-plain.ensures) (omega (arith, few)) w128 32 refl
+    (number_fits text p c.in_ok-plain.ensures) (omega arith) _ _ _ _ refl refl
     (omega (arith, ints, c.to_bounds.ensures.magnitude)) (omega (arith, ints, c.to_bounds.ensures.hi))
     (omega (arith, ints, c.to_bounds.ensures.lo))
     (λ ds l few below e. wide_bytes_encode ds _ _ l few below e))

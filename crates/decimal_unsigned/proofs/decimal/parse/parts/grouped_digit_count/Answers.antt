@@ -1,5 +1,5 @@
 use Rattle.decimal_unsigned.proofs.Common.{◌≡◌, ◌+◌, ◌-◌, ◌∙◌, sym, ap, true, take, drop, arith, all_ascii_digits}
-use Rattle.decimal_unsigned.proofs.Numerals.{count_group}
+use Rattle.decimal_unsigned.proofs.GrammarParts.{count_group}
 use Rattle.decimal_unsigned.proofs.decimal.parse.parts.grouped_digit_count.Goals as goal
 
 pub loop-count-preserved : goal.loop-count-preserved

@@ -3,5 +3,4 @@ use Rattle.std.proofs.lemmas.List.Sums.{prefix_len-le-length}
 use Rattle.decimal_unsigned.proofs.decimal.parse.parts.split_digits.Goals as goal
 
 pub split_at-requires : goal.split_at-requires
-split_at-requires c =
-    omega (arith, c.count_digits.ensures, prefix_len-le-length is_ascii_digit c.args.text.now)
+split_at-requires c = omega (arith, c.count_digits.ensures, prefix_len-le-length is_ascii_digit c.args.text.now)

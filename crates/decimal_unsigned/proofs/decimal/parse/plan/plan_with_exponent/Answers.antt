@@ -3,8 +3,8 @@ use lib.Signed.{mag}
 use Rattle.std.proofs.Common.{w32}
 use Rattle.decimal_unsigned.proofs.Plans.{length_digits, limit_scaled, makes_scaled}
 use Rattle.decimal_unsigned.proofs.Values.{narrow_kept, wide_kept}
-use Rattle.decimal_unsigned.proofs.decimal.parse.plan.plan_with_exponent.Goals as goal
 use Rattle.decimal_unsigned.proofs.decimal.parse.plan.plan_with_exponent.Goals.{After-subtract_counts-4, then-hi-gt32767-via-then-hi-gt32767, then-hi-gt32767-via-else-hi-gt32767+then-lo-ltminus32768}
+use Rattle.decimal_unsigned.proofs.decimal.parse.plan.plan_with_exponent.Goals as goal
 
 -- ---- The moved magnitudes, as they are read again.
 hi_is : (c : After-subtract_counts-4)
@@ -19,14 +19,12 @@ lo_is c = wide_kept {z = c.shift_magnitude-lo.result} c.shift_magnitude-lo.type_
 first_is : (c : After-subtract_counts-4)
     → to_z w32 (of_z w32 c.shift_magnitude-first.result)
     ≡ ((pos (length c.args.parts.now.whole.now) -ℤ pos 1) -ℤ pos c.args.start) +ℤ c.args.exponent
-first_is c =
-    wide_kept {z = c.shift_magnitude-first.result} c.shift_magnitude-first.type_inv ∙ (omega (arith, ints))
+first_is c = wide_kept {z = c.shift_magnitude-first.result} c.shift_magnitude-first.type_inv ∙ (omega (arith, ints))
 
 last_is : (c : After-subtract_counts-4) {r : ℤ} → mag r < 2147483648
     → r ≡ to_z w32 (of_z w32 c.subtract_counts-4.result) +ℤ to_z w32 (of_z w32 c.args.exponent)
     → to_z w32 (of_z w32 r) ≡ (pos (length c.args.parts.now.whole.now) -ℤ pos c.args.end) +ℤ c.args.exponent
-last_is c {r} kept is =
-    wide_kept {z = r} kept ∙ (omega (arith, ints))
+last_is c {r} kept is = wide_kept {z = r} kept ∙ (omega (arith, ints))
 
 above_low : (whole fraction end : ℕ) (e last lo : ℤ) → last ≡ (pos whole -ℤ pos end) +ℤ e
     → lo ≡ (pos 0 -ℤ pos fraction) +ℤ e → end ≤ whole + fraction → negsuc 32767 ≤ℤ lo

@@ -1,7 +1,7 @@
 use Rattle.decimal_unsigned.proofs.Common.{arith, refl, ◌∙◌, ap, ◌*◌, ◌/◌, ◌%◌, ◌^◌, ◌≡◌, ◌≤◌, length, Some}
 use lib.Count.{count_trailing_zeros}
 use Rattle.decimal_unsigned.specs.PlainTexts.{without}
-use Rattle.decimal_unsigned.proofs.Words.{digits_of_word, group_of_digits, within, point_is, others_is, others_below, length-others, zeros_shorter}
+use Rattle.decimal_unsigned.proofs.PlainTexts.{digits_of_word, group_of_digits, within, point_is, others_is, others_below, length-others, zeros_shorter}
 use Rattle.decimal_unsigned.proofs.decimal.parse.words.read_group.Goals as goal
 
 pub returns-then-flags-eq0-clause-digits : goal.returns-then-flags-eq0-clause-digits

@@ -1,7 +1,7 @@
 use Rattle.decimal_unsigned.proofs.Common.{inr, arith, length-take, text}
 use Rattle.decimal_digits.proofs.Results.{on_err}
 use Rattle.decimal_digits.proofs.Sinks.{fresh_more, fresh_some, fresh_keeps, fresh_ends}
-use Rattle.decimal_unsigned.proofs.Blocks.{block_of, zeros_first}
+use Rattle.decimal_unsigned.proofs.Pieces.{block_of, zeros_first}
 use Rattle.decimal_unsigned.proofs.Lengths.{text_some}
 use Rattle.decimal_unsigned.proofs.Writing.{wrote_more, wrote_part}
 use Rattle.decimal_unsigned.proofs.decimal.text.UnsignedOverWriteable.write_to.Goals as goal

@@ -1,19 +1,16 @@
-use Rattle.decimal_unsigned.proofs.Common.{drop}
 use Rattle.decimal_unsigned.proofs.Middle.{middle_written}
-use Rattle.decimal_unsigned.proofs.Numerals.{digits_take, digits_drop, digits_left, digits_right}
+use Rattle.decimal_unsigned.proofs.GrammarParts.{digits_within, digits_left, digits_right}
 use Rattle.decimal_unsigned.proofs.decimal.parse.parts.Parts.between.Goals as goal
 
 pub returns-clause-whole : goal.returns-clause-whole
 returns-clause-whole c =
     let p = c.args.self.now in
-    digits_take _ (drop c.min.result p.whole.now)
-    (digits_drop c.min.result p.whole.now (digits_left p.whole.now p.fraction.now c.requires.digits))
+    digits_within c.min.result _ p.whole.now (digits_left p.whole.now p.fraction.now c.requires.digits)
 
 pub returns-clause-fraction : goal.returns-clause-fraction
 returns-clause-fraction c =
     let p = c.args.self.now in
-    digits_take _ (drop c.saturating_sub.result p.fraction.now)
-    (digits_drop c.saturating_sub.result p.fraction.now (digits_right p.whole.now p.fraction.now c.requires.digits))
+    digits_within c.saturating_sub.result _ p.fraction.now (digits_right p.whole.now p.fraction.now c.requires.digits)
 
 pub returns-clause-value : goal.returns-clause-value
 returns-clause-value c =

@@ -1,5 +1,5 @@
 use Rattle.decimal_unsigned.proofs.Common.{◌++◌, arith, length-map, digit_value}
-use Rattle.decimal_unsigned.proofs.Numerals.{writes_at}
+use Rattle.decimal_unsigned.proofs.GrammarParts.{writes_at}
 use Rattle.decimal_unsigned.proofs.decimal.parse.parts.Parts.digit.Goals as goal
 
 pub overflow_sub-result : goal.overflow_sub-result

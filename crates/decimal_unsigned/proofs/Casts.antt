@@ -1,5 +1,0 @@
--- For `grind`: a signed value that is passed and read again.
-use Rattle.std.proofs.lemmas.Int.{to_z-of_z}
-
--- a value that fits its type is kept
-pub ruleset kept = (to_z-of_z)
