@@ -201,10 +201,10 @@ pub fn print(passes: usize, word: &str) {
             }
         }
     }
-    println!("| |{}", SIZES.map(|size| format!(" {size} |")).concat());
+    println!("||{}", SIZES.map(|size| format!("{size}|")).concat());
     println!("|---|{}", "---|".repeat(SIZES.len()));
     for (name, cells) in &rows {
         let cells = cells.iter().map(|cell| cell.as_ref().map_or(String::new(), Cell::times));
-        println!("| {name} |{}", cells.map(|cell| format!(" {cell} |")).collect::<String>());
+        println!("|{name}|{}", cells.map(|cell| format!("{cell}|")).collect::<String>());
     }
 }
