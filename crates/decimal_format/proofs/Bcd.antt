@@ -62,20 +62,15 @@ last_is_bcd n k ds is few =
     omega (arith, number_lt 16 ds (below_sixteen ds is.digits), most) in
     record { digits = is.digits; count = is.count; number = is.number ∙ mod-eq_of_lt less }
 
--- digits after those of a word, with room for them
-pub word_more : (n k m j : ℕ) (ds es : List ℕ) → IsBcd n k ds → IsBcd m j es → k + j ≤ 16
+-- the digits of two words that one has room for
+pub short_word : {n k m j : ℕ} {ds es : List ℕ} → HasBcd n k ds → HasBcd m j es → k + j ≤ 16
     → IsBcd (n * 2 ^ (4 * j) % 2 ^ 64 + m) (k + j) (ds ++ es) × (n * 2 ^ (4 * j) % 2 ^ 64 + m < 2 ^ 64)
-word_more n k m j ds es is more room =
+short_word {n = n} {k = k} {m = m} {j = j} {ds = ds} {es = es} p q room =
+    let is = last_is_bcd n k ds p (omega (arith, room)) in
+    let more = last_is_bcd m j es q (omega (arith, room)) in
     let whole : n * 2 ^ (4 * j) % 2 ^ 64 ≡ n * 16 ^ j =
     shl_whole n (4 * k) (4 * j) 64 (subst (λ x. n < x) (sym (hex_pow k)) (bcd_lt n k ds is)) (omega (arith, room))
     ∙ ap (λ x. n * x) (hex_pow j) in
     let joined = subst (λ x. IsBcd (x + m) (k + j) (ds ++ es)) (sym whole) (bcd_append n k m j ds es is more) in
     let most : 16 ^ (k + j) ≤ 16 ^ 16 = pow-le-pow_right (omega arith) room in
     (joined, omega (arith, bcd_lt _ (k + j) (ds ++ es) joined, most))
-
--- the digits of two words that one has room for
-pub short_word : {n k m j : ℕ} {ds es : List ℕ} → HasBcd n k ds → HasBcd m j es → k + j ≤ 16
-    → IsBcd (n * 2 ^ (4 * j) % 2 ^ 64 + m) (k + j) (ds ++ es) × (n * 2 ^ (4 * j) % 2 ^ 64 + m < 2 ^ 64)
-short_word {n = n} {k = k} {m = m} {j = j} {ds = ds} {es = es} p q room =
-    word_more n k m j ds es (last_is_bcd n k ds p (omega (arith, room))) (last_is_bcd m j es q (omega (arith, room)))
-    room

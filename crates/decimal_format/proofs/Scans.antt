@@ -17,7 +17,7 @@ use Rattle.decimal_format.specs.Readable.{IsReadable}
 use Rattle.decimal_format.specs.Reading.{Numeral, AreDigits, digits_text, fraction_text, absolute_numeral_text, separated_by}
 use Rattle.decimal_format.specs.Scanning.{separator_if, separated_if, SkipsSeparator, EndsInteger, BeginsWithDigit, HasBcd, IsUniform, IsSpelled, ReadsSpelled, ReadsRun, ReadsDigits}
 use Rattle.decimal_format.proofs.Bcd.{below_append, below_first, below_rest, last_none, last_push}
-use Rattle.decimal_format.proofs.Codes.{same_digit, digit_not_grouping, digit_not_minus, digit_not_plus, plus_not_minus, none_not_digit, none_not_grouping}
+use Rattle.decimal_format.proofs.Codes.{same_digit, digit_not_grouping, digit_not_minus, digit_not_plus, plus_not_minus, none_not_decimal, none_not_digit, none_not_grouping}
 use Rattle.decimal_format.proofs.DigitTexts.{digits_text-nil, digits_text-first, digits_text-cong, digits_text-append, digits_text-run, digits_not_grouping, digits-unique, ends_integer, nil_ends, fraction_ends}
 
 -- ---- Signs.
@@ -29,7 +29,7 @@ begins-append s number tail begins = record {
   is = ap (λ l. l ++ tail) begins.is ∙ append_assoc (digit_text s begins.digit) begins.following tail;
 }
 
-pub code_shorter : (code bytes after : List ℕ) → ((t : List ℕ) → [] ≢ code ++ t) → bytes ≡ code ++ after
+code_shorter : (code bytes after : List ℕ) → ((t : List ℕ) → [] ≢ code ++ t) → bytes ≡ code ++ after
     → length after < length bytes
 code_shorter [] bytes after some e = absurd (some [] refl)
 code_shorter (x ∷ code) bytes after some e = omega (arith, ap length e, length-append (x ∷ code) after)
@@ -78,7 +78,7 @@ module _ (s : Symbols) (readable : IsReadable s) where
         text_length f ds after all.1,
       )
 
-pub run_length : {s : Symbols} {most : ℕ} {bytes after : List ℕ} {number k : ℕ} → IsReadable s
+run_length : {s : Symbols} {most : ℕ} {bytes after : List ℕ} {number k : ℕ} → IsReadable s
     → ReadsRun s most bytes after number k → k + length after ≤ length bytes
 run_length {s = s} {after = after} readable run =
     omega (arith, ap length run.text, text_length s readable (λ _. false) run.digits after run.bcd.digits, run.bcd.count)
@@ -88,58 +88,29 @@ module _ (s : Symbols) (readable : IsReadable s) (rest : List ℕ) where
   -- the first digit, and the others
   spelled_digit : (after left : List ℕ) (d : ℕ) → d < 10 → rest ≡ digit_text s d ++ after → IsSpelled s rest left
       → (others : List ℕ) × (left ≡ d ∷ others) × IsSpelled s after others
-  spelled_digit after left d below e h = go left h.after_separator h.digits h.text
-    where
-      go : (left : List ℕ) (b : Bool) → AllBelowBase 10 left
-          → rest ≡ separator_if s b ++ (digits_text s h.separated left ++ h.tail)
-          → (others : List ℕ) × (left ≡ d ∷ others) × IsSpelled s after others
-      go left true all t = absurd (digit_not_grouping s readable d after _ below (sym e ∙ t))
-      go [] false all t =
-          absurd (h.ends.digit d after below (ap (λ l. l ++ h.tail) (sym (digits_text-nil s h.separated)) ∙ sym t ∙ e))
-      go (x ∷ others) false all t =
-          let same = same_digit s readable d x after _ below all.0
-          (sym e ∙ t ∙ digits_text-first s h.separated x others h.tail) in (
-            others,
-            ap (λ y. y ∷ others) (sym same.0),
-            record {
-              digits = all.1;
-              after_separator = h.separated (length others);
-              separated = h.separated;
-              tail = h.tail;
-              ends = h.ends;
-              text = same.1;
-            },
-          )
+  spelled_digit after left d below e (f, tail, ends, all, true, t) =
+      absurd (digit_not_grouping s readable d after _ below (sym e ∙ t))
+  spelled_digit after [] d below e (f, tail, ends, all, false, t) =
+      absurd (ends.digit d after below (ap (λ l. l ++ tail) (sym (digits_text-nil s f)) ∙ sym t ∙ e))
+  spelled_digit after (x ∷ others) d below e (f, tail, ends, all, false, t) =
+      let same = same_digit s readable d x after _ below all.0 (sym e ∙ t ∙ digits_text-first s f x others tail) in
+      (others, ap (λ y. y ∷ others) (sym same.0), (f, tail, ends, all.1, f (length others), same.1))
 
   -- a separator before the digits
   spelled_separator : (after left : List ℕ) → rest ≡ s.grouping ++ after → IsSpelled s rest left
       → IsSpelled s after left
-  spelled_separator after left e h = go h.after_separator h.text
-    where
-      go : (b : Bool) → rest ≡ separator_if s b ++ (digits_text s h.separated left ++ h.tail) → IsSpelled s after left
-      go true t = record {
-        digits = h.digits;
-        after_separator = false;
-        separated = h.separated;
-        tail = h.tail;
-        ends = h.ends;
-        text = append_cancel_left s.grouping after _ (sym e ∙ t);
-      }
-      go false t =
-          absurd (digits_not_grouping s readable h.separated left h.tail after h.digits (λ _. h.ends.grouping after)
-          (sym t ∙ e))
+  spelled_separator after left e (f, tail, ends, all, true, t) =
+      (f, tail, ends, all, false, append_cancel_left s.grouping after _ (sym e ∙ t))
+  spelled_separator after left e (f, tail, ends, all, false, t) =
+      absurd (digits_not_grouping s readable f left tail after all (λ _. ends.grouping after) (sym t ∙ e))
 
   -- where neither follows, there are no digits
   pub spelled_none : ((d : ℕ) (r : List ℕ) → d < 10 → rest ≢ digit_text s d ++ r)
       → ((r : List ℕ) → rest ≢ s.grouping ++ r) → (left : List ℕ) → IsSpelled s rest left → left ≡ []
-  spelled_none no_digit no_separator left h = go left h.after_separator h.digits h.text
-    where
-      go : (left : List ℕ) (b : Bool) → AllBelowBase 10 left
-          → rest ≡ separator_if s b ++ (digits_text s h.separated left ++ h.tail) → left ≡ []
-      go left true all t = absurd (no_separator _ t)
-      go [] false all t = refl
-      go (x ∷ others) false all t =
-          absurd (no_digit x _ all.0 (t ∙ digits_text-first s h.separated x others h.tail))
+  spelled_none no_digit no_separator left (f, tail, ends, all, true, t) = absurd (no_separator _ t)
+  spelled_none no_digit no_separator [] (f, tail, ends, all, false, t) = refl
+  spelled_none no_digit no_separator (x ∷ others) (f, tail, ends, all, false, t) =
+      absurd (no_digit x _ all.0 (t ∙ digits_text-first s f x others tail))
 
   module _ {n k : ℕ} {ds : List ℕ} (read : ReadsSpelled s k rest n k ds) where
     -- one digit more
@@ -209,26 +180,15 @@ spelled_all {most = most} {n = n} {k = k} {ds = ds} read few =
 -- digits without separators, and nothing else
 pub spelled_plain : (s : Symbols) → IsReadable s → (bytes ds : List ℕ) → AllBelowBase 10 ds
     → bytes ≡ digits_text s (λ _. false) ds → IsSpelled s bytes ds
-spelled_plain s readable bytes ds all e = record {
-  digits = all;
-  after_separator = false;
-  separated = λ _. false;
-  tail = [];
-  ends = nil_ends s readable;
-  text = e ∙ sym (append-nil (digits_text s (λ _. false) ds));
-}
+spelled_plain s readable bytes ds all e =
+    let plain = λ (m : ℕ). false in
+    (plain, [], nil_ends s readable, all, false, e ∙ sym (append-nil (digits_text s plain ds)))
 
 -- the integer digits of a number
 pub spelled_whole : (s : Symbols) → IsReadable s → (f : ℕ → Bool) (w : Numeral) (bytes : List ℕ) → AreDigits w
     → bytes ≡ absolute_numeral_text s f w → IsSpelled s bytes w.whole
-spelled_whole s readable f w bytes digits e = record {
-  digits = digits.whole;
-  after_separator = false;
-  separated = f;
-  tail = fraction_text s w.fraction;
-  ends = fraction_ends s readable w.fraction;
-  text = e;
-}
+spelled_whole s readable f w bytes digits e =
+    (f, fraction_text s w.fraction, fraction_ends s readable w.fraction, digits.whole, false, e)
 
 -- all of them are read
 pub whole_bcd : (s : Symbols) → IsReadable s → (f : ℕ → Bool) (w : Numeral) (bytes rest : List ℕ) (n k : ℕ) → AreDigits w
@@ -601,26 +561,24 @@ number_begins s f w digits = go w.whole digits.some digits.whole
     }
 
 -- ---- Fractions.
--- the fraction digits follow the decimal separator
-pub fraction_rest : (s : Symbols) (ds bytes digits : List ℕ) → (bytes ≡ [] → ⊥) → bytes ≡ fraction_text s ds
-    → bytes ≡ s.decimal ++ digits → (0 < length ds) × (digits ≡ digits_text s (λ _. false) ds)
-fraction_rest s [] bytes digits some e h = absurd (some e)
-fraction_rest s (d ∷ ds) bytes digits some e h =
-    (omega arith, append_cancel_left s.decimal digits (digits_text s (λ _. false) (d ∷ ds)) (sym h ∙ e))
-
 pub fraction_is : (s : Symbols) (ds : List ℕ) → 0 < length ds
     → s.decimal ++ digits_text s (λ _. false) ds ≡ fraction_text s ds
 fraction_is s [] some = absurd (omega (arith, some))
 fraction_is s (d ∷ ds) some = refl
 
--- where no digit follows those that were read, but something does, or none was read, the text is not one of digits
-pub fraction_fails : {s : Symbols} {most n k : ℕ} {bytes rest : List ℕ} → IsReadable s → ReadsRun s most bytes rest n k
-    → k < most → (es : List ℕ) → AllBelowBase 10 es → 0 < length es → bytes ≡ digits_text s (λ _. false) es
-    → (0 < k) × (rest ≡ [])
-fraction_fails {s = s} {rest = rest} readable run few es all some e =
+-- of a text that is one of fraction digits, all of them were read
+pub fraction_read : {s : Symbols} {n k : ℕ} {text digits rest : List ℕ} → IsReadable s → (text ≡ [] → ⊥)
+    → length text < 2 ^ 64 → text ≡ s.decimal ++ digits → ReadsRun s (2 ^ 64 - 1) digits rest n k → (ds : List ℕ)
+    → AllBelowBase 10 ds → text ≡ fraction_text s ds → (0 < k) × (rest ≡ [])
+fraction_read readable some few begins run [] all e = absurd (some e)
+fraction_read {s = s} {text = text} {digits = digits} {rest = rest} readable some few begins run (d ∷ ds) all e =
     let plain = λ (m : ℕ). false in
-    let same = digits-unique s readable plain plain es run.digits [] rest all run.bcd.digits
-    (ends_integer (nil_ends s readable))
-    (record { digit = λ d r below h. absurd (run.ends few d r below h); separator = λ r h there. there })
-    (append-nil (digits_text s plain es) ∙ sym e ∙ run.text) in
-    (omega (arith, ap length same.0, run.bcd.count, some), sym same.1)
+    let fewer = code_shorter s.decimal text digits (none_not_decimal s readable) begins in
+    let same = digits-unique s readable plain plain (d ∷ ds) run.digits [] rest all run.bcd.digits
+    (ends_integer (nil_ends s readable)) (record {
+      digit = λ x r below h. absurd (run.ends (omega (arith, run_length readable run, fewer, few)) x r below h);
+      separator = λ r h there. there;
+    })
+    (append-nil (digits_text s plain (d ∷ ds)) ∙ sym (append_cancel_left s.decimal digits _ (sym begins ∙ e))
+    ∙ run.text) in
+    (omega (arith, ap length same.0, run.bcd.count), sym same.1)

@@ -69,9 +69,21 @@ pub bcd_only : {n k : ℕ} {ds : List ℕ} → IsBcd n k ds → IsBcd n (k + 0) 
 bcd_only is = record { digits = is.digits; count = omega (arith, is.count); number = is.number }
 
 -- ---- Up to sixteen digits appended to the value of the first ones.
-module _ (whole k word j : ℕ) (v : Unsigned) (ds es : List ℕ) (position : ℤ) (holds : HoldsDigits whole k v ds)
-    (bcd : IsBcd word j es) (some : 0 < j) (few : j ≤ 16) (limits : (whole ≤ 32768) × (k + j ≤ whole + 32768))
-    (at : position ≡ pos whole -ℤ pos (k + j)) (fits : FitsSigned w16 position) where
+-- j digits follow the first k of a number within the limits, the last of them at a position
+pub record IsNext (whole k j : ℕ) (position : ℤ) : Type 0 where
+  pub some : 0 < j
+  pub few : j ≤ 16
+  pub limits : (whole ≤ 32768) × (k + j ≤ whole + 32768)
+  pub at : position ≡ pos whole -ℤ pos (k + j)
+  pub fits : FitsSigned w16 position
+
+pub next_at : {whole k j : ℕ} {position : ℤ} {A : Type 0}
+    → (0 < j) × (j ≤ 16) × (whole ≤ 32768) × (k + j ≤ whole + 32768) × A → position ≡ pos whole -ℤ pos (k + j)
+    → FitsSigned w16 position → IsNext whole k j position
+next_at h at fits = record { some = h.0; few = h.1; limits = (h.2, h.3); at = at; fits = fits }
+
+module _ {whole k word j : ℕ} {v : Unsigned} {ds es : List ℕ} {position : ℤ} (holds : HoldsDigits whole k v ds)
+    (bcd : IsBcd word j es) (next_is : IsNext whole k j position) where
   abbrev t : ℕ
   t = whole + 32768
 
@@ -95,10 +107,10 @@ module _ (whole k word j : ℕ) (v : Unsigned) (ds es : List ℕ) (position : �
   unfolding number_at
   es_is =
       ap (λ k. integer * 10 ^ k)
-      (omega (arith, ints, at, offset_is position, limits.0, limits.1, holds.count, bcd.count))
+      (omega (arith, ints, next_is.at, offset_is position, next_is.limits.0, next_is.limits.1, holds.count, bcd.count))
 
   sum_is : sum ≡ number_at t (ds ++ es)
-  sum_is = ap (λ x. number_at t ds + x) es_is ∙ sym (number_at-append t ds es (omega (arith, all_count, limits.1)))
+  sum_is = ap (λ x. number_at t ds + x) es_is ∙ sym (number_at-append t ds es (omega (arith, all_count, next_is.limits.1)))
 
   divides : number_at t ds % 10 ^ cut ≡ 0
   divides = number_at-divides t ds
@@ -106,24 +118,24 @@ module _ (whole k word j : ℕ) (v : Unsigned) (ds es : List ℕ) (position : �
   less : moved_integer < 10 ^ cut
   less =
       subst (λ x. x < 10 ^ cut) (sym es_is)
-      (number_at-lt cut es bcd.digits (omega (arith, limits.1, holds.count, bcd.count)))
+      (number_at-lt cut es bcd.digits (omega (arith, next_is.limits.1, holds.count, bcd.count)))
 
   sum_lt : sum < 10 ^ t
   sum_lt =
       subst (λ x. x < 10 ^ t) (sym sum_is)
-      (number_at-lt t (ds ++ es) (below_append ds es holds.digits bcd.digits) (omega (arith, all_count, limits.1)))
+      (number_at-lt t (ds ++ es) (below_append ds es holds.digits bcd.digits) (omega (arith, all_count, next_is.limits.1)))
 
   -- their number of digits is the same at each position
   same_size : size (integer * weight (pos 0)) ≡ size moved_integer
   same_size =
       let split : 10 ^ (16 + offset (pos 0)) ≡ 10 ^ 16 * weight (pos 0) = powers 16 (offset (pos 0)) _ refl in
-      let short : length es ≤ 16 = omega (arith, bcd.count, few) in
+      let short : length es ≤ 16 = omega (arith, bcd.count, next_is.few) in
       let most : 10 ^ length es ≤ 10 ^ 16 = pow-le-pow_right (omega arith) short in
       let small : integer < 10 ^ 16 = omega (arith, number_lt 10 es bcd.digits, most) in
       let inside : integer * weight (pos 0) < 10 ^ (16 + offset (pos 0)) =
       omega (arith, split, mul-le-mul_right (weight (pos 0)) small, ten_pos (offset (pos 0))) in
       size_up integer (offset (pos 0)) (offset position) (16 + offset (pos 0)) t inside (omega (arith, sum_lt))
-      (omega (arith, offset_is (pos 0))) (omega (arith, limits.0))
+      (omega (arith, offset_is (pos 0))) (omega (arith, next_is.limits.0))
 
   -- the value of the digits as an integer
   abbrev next : Unsigned
@@ -137,7 +149,7 @@ module _ (whole k word j : ℕ) (v : Unsigned) (ds es : List ℕ) (position : �
   pub memory_for_integer : (inline : ℕ) → (size next.number ≤ inline → ⊥)
       → inline < size (value_of_first whole (ds ++ es)).number
   memory_for_integer inline more =
-      let grown = size_right (number_at t ds) moved_integer cut t divides less sum_lt (omega (arith, limits.0)) in
+      let grown = size_right (number_at t ds) moved_integer cut t divides less sum_lt (omega (arith, next_is.limits.0)) in
       elim (cases_lt inline (size next.number)) [
         | inl h ↦ omega (arith, h, ap size next_number, same_size, grown, ap size sum_is)
         | inr h ↦ absurd (more h)
@@ -146,19 +158,19 @@ module _ (whole k word j : ℕ) (v : Unsigned) (ds es : List ℕ) (position : �
   -- the value of the digits can be moved to their position
   pub stays_in_limits : leaves_limits next position ≡ false
   stays_in_limits =
-      let low = fits.sfits in
+      let low = next_is.fits.sfits in
       let zero : int_min (pos j -ℤ pos (length es)) (pos 0) ≡ pos 0 = omega (arith, ints, clamps, bcd.count) in
-      rw zero (grind (arith, ints, nat_tests, at, limits.0, some))
+      rw zero (grind (arith, ints, nat_tests, next_is.at, next_is.limits.0, next_is.some))
 
   module _ (unmoved moved : Unsigned) (unmoved_is : unmoved ≡ next)
       (shift : moved ≡ multiplied unmoved (to_z w16 (of_z w16 position))) where
     moved_is : moved ≡ multiplied next position
-    moved_is = shift ∙ (λ i. multiplied (unmoved_is i) (to_z-of_z w16 position fits i))
+    moved_is = shift ∙ (λ i. multiplied (unmoved_is i) (to_z-of_z w16 position next_is.fits i))
 
     moved_number : moved.number ≡ moved_integer
     moved_number =
         ap (λ (u : Unsigned). u.number) moved_is ∙ ap (λ n. times_power n position) next_number
-        ∙ go position (omega (arith, ints, fits.sfits))
+        ∙ go position (omega (arith, ints, next_is.fits.sfits))
       where
         go : (p : ℤ) → negsuc 32767 ≤ℤ p → times_power (integer * weight (pos 0)) p ≡ integer * weight p
         go (pos d) h =
@@ -175,7 +187,7 @@ module _ (whole k word j : ℕ) (v : Unsigned) (ds es : List ℕ) (position : �
     pub is_apart : overlaps v moved ≡ false
     is_apart = not_overlapping v moved (λ some more.
         rw (v_number, moved_number)
-        (first_below_last (number_at t ds) moved_integer cut t divides less sum_lt (omega (arith, limits.0))
+        (first_below_last (number_at t ds) moved_integer cut t divides less sum_lt (omega (arith, next_is.limits.0))
         (subst (λ n. 0 < n) v_number some) (subst (λ n. 0 < n) moved_number more)))
 
     pub joined_is : concatenated_end v moved ≡ value_of_first whole (ds ++ es)
@@ -189,8 +201,8 @@ module _ (whole k word j : ℕ) (v : Unsigned) (ds es : List ℕ) (position : �
           clamps,
           ap (λ (u : Unsigned). u.hi) moved_is,
           ap (λ (u : Unsigned). u.hi) holds.value,
-          at,
-          some,
+          next_is.at,
+          next_is.some,
         ) in
         let lo : int_min v.lo moved.lo ≡ int_min (pos whole -ℤ pos (length (ds ++ es))) (pos 0) =
         omega (
@@ -199,7 +211,7 @@ module _ (whole k word j : ℕ) (v : Unsigned) (ds es : List ℕ) (position : �
           clamps,
           ap (λ (u : Unsigned). u.lo) moved_is,
           ap (λ (u : Unsigned). u.lo) holds.value,
-          at,
+          next_is.at,
           all_count,
           holds.count,
           bcd.count,
@@ -210,7 +222,7 @@ module _ (whole k word j : ℕ) (v : Unsigned) (ds es : List ℕ) (position : �
     pub memory_for_sum : (inline : ℕ) → 0 < v.number → 0 < moved.number → inline < concatenated_size v moved
         → inline < size (value_of_first whole (ds ++ es)).number
     memory_for_sum inline some more h =
-        let joined = size_joined (number_at t ds) moved_integer cut t divides less sum_lt (omega (arith, limits.0))
+        let joined = size_joined (number_at t ds) moved_integer cut t divides less sum_lt (omega (arith, next_is.limits.0))
         (subst (λ n. 0 < n) v_number some) (subst (λ n. 0 < n) moved_number more) in
         let size_is : concatenated_size v moved ≡ int_gap (last moved_integer) (first (number_at t ds)) + 1 =
         λ i. int_gap (last (moved_number i)) (first (v_number i)) + 1 in

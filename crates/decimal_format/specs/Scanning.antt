@@ -67,13 +67,10 @@ pub record ReadsRun (s : Symbols) (n : ℕ) (bytes rest : List ℕ) (number coun
   pub ends : count < n → (d : ℕ) (r : List ℕ) → d < 10 → rest ≢ digit_text s d ++ r
 
 -- a text is these digits, with grouping separators after any of them and perhaps before the first, and then neither
-pub record IsSpelled (s : Symbols) (bytes ds : List ℕ) : Type 0 where
-  pub digits : AllBelowBase 10 ds
-  pub after_separator : Bool
-  pub separated : ℕ → Bool
-  pub tail : List ℕ
-  pub ends : EndsInteger s tail
-  pub text : bytes ≡ separator_if s after_separator ++ (digits_text s separated ds ++ tail)
+abbrev pub IsSpelled : Symbols → List ℕ → List ℕ → Type 0
+IsSpelled s bytes ds =
+    (separated : ℕ → Bool) × (tail : List ℕ) × EndsInteger s tail × AllBelowBase 10 ds × (after_separator : Bool)
+    × (bytes ≡ separator_if s after_separator ++ (digits_text s separated ds ++ tail))
 
 -- of these digits the first ones were read, at most n, and all of them if there are fewer; the rest spells the others
 pub record ReadsSpelled (s : Symbols) (n : ℕ) (rest : List ℕ) (number count : ℕ) (ds : List ℕ) : Type 0 where

@@ -114,22 +114,13 @@ impl<'f, D: DigitStore> FormattedDecimal<'f, D> {
         magnitude_below(*range.end(), below)
     }
 
-    /// Returns whether the decimal separator is before the digit of a magnitude.
-    #[inline]
-    fn has_separator_before(&self, below: u32) -> bool
-        requires { below < shown_count self.now.value.absolute }
-        ensures { (if result then self.now.symbols.decimal else [])
-            ≡ separator_before self.now.symbols (self.now.value.absolute.hi -ℤ pos below) }
-    {
-        self.magnitude(below) == -1
-    }
-
     /// Returns the text before the digit of a magnitude: the decimal separator or nothing.
+    #[inline]
     fn separator_before(&self, below: u32) -> &str
         requires { below < shown_count self.now.value.absolute }
         ensures { result.now ≡ separator_before self.now.symbols (self.now.value.absolute.hi -ℤ pos below) }
     {
-        if self.has_separator_before(below) {
+        if self.magnitude(below) == -1 {
             self.symbols.decimal_separator()
         } else {
             ""
@@ -147,27 +138,19 @@ impl<'f, D: DigitStore> FormattedDecimal<'f, D> {
         self.symbols.digit(digit)
     }
 
-    /// Returns whether a grouping separator is after the digit of a magnitude.
-    #[inline]
-    fn has_separator_after(&self, below: u32) -> bool
-        requires { below < shown_count self.now.value.absolute }
-        ensures { (if result then self.now.symbols.grouping else [])
-            ≡ separator_after self.now.symbols self.now.strategy self.now.value.absolute.hi
-            (self.now.value.absolute.hi -ℤ pos below) }
-    {
-        self.symbols
-            .sizes()
-            .separates(self.strategy, self.highest(), self.magnitude(below))
-    }
-
     /// Returns the text after the digit of a magnitude: a grouping separator or nothing.
+    #[inline]
     fn separator_after(&self, below: u32) -> &str
         requires { below < shown_count self.now.value.absolute }
         ensures { result.now ≡ separator_after self.now.symbols self.now.strategy self.now.value.absolute.hi
             (self.now.value.absolute.hi -ℤ pos below) }
     {
-        if self.has_separator_after(below) {
-            self.symbols.grouping_separator()
+        let symbols = self.symbols;
+        if symbols
+            .sizes()
+            .separates(self.strategy, self.highest(), self.magnitude(below))
+        {
+            symbols.grouping_separator()
         } else {
             ""
         }

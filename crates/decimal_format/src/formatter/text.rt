@@ -17,19 +17,17 @@ use fixed_decimal::{DigitStore, Sink, SinkFault, Writeable};
 /// The greatest number of magnitudes of a text that is put into a block first.
 const SHORT: u32 = 32;
 
-/// Appends a text if a condition holds.
+/// Appends a separator, which is mostly empty.
 #[inline]
-fn put_if<W: Sink>(condition: bool, text: &str, sink: &mut W) -> Result<(), SinkFault>
-    ensures ok { OnOk result
-        (Appends (W.contents sink.old) (W.contents sink.new) (if condition then text.now else [])) }
-    ensures err { OnErr result
-        (AppendsPrefix (W.contents sink.old) (W.contents sink.new) (if condition then text.now else [])) }
+fn put_separator<W: Sink>(separator: &str, sink: &mut W) -> Result<(), SinkFault>
+    ensures ok { OnOk result (Appends (W.contents sink.old) (W.contents sink.new) separator.now) }
+    ensures err { OnErr result (AppendsPrefix (W.contents sink.old) (W.contents sink.new) separator.now) }
     ensures failed { OnErr result (W.has_failed sink.new ≡ true) }
 {
-    if condition {
-        return sink.put_bytes(text.as_bytes());
+    if separator.is_empty() {
+        return Ok(());
     }
-    Ok(())
+    sink.put_bytes(separator.as_bytes())
 }
 
 /// Appends a digit.
@@ -56,27 +54,17 @@ impl<'f, D: DigitStore> FormattedDecimal<'f, D> {
     /// Appends the digit of a magnitude, between separators.
     #[inline]
     fn write_nth<W: Sink>(&self, below: u32, digit: u8, sink: &mut W) -> Result<(), SinkFault>
-        requires shown { below < shown_count self.now.value.absolute }
-        requires digit { digit
-            ≡ digit_of self.now.value.absolute.number (self.now.value.absolute.hi -ℤ pos below) }
+        requires { (below < shown_count self.now.value.absolute)
+            × (digit ≡ digit_of self.now.value.absolute.number (self.now.value.absolute.hi -ℤ pos below)) }
         ensures ok { OnOk result (Appends (W.contents sink.old) (W.contents sink.new)
             (nth_text self.now.symbols self.now.strategy self.now.value.absolute below)) }
         ensures err { OnErr result (AppendsPrefix (W.contents sink.old) (W.contents sink.new)
             (nth_text self.now.symbols self.now.strategy self.now.value.absolute below)) }
         ensures failed { OnErr result (W.has_failed sink.new ≡ true) }
     {
-        let symbols = self.symbols;
-        put_if(
-            self.has_separator_before(below),
-            symbols.decimal_separator(),
-            sink,
-        )?;
-        put_digit(symbols, digit, sink)?;
-        put_if(
-            self.has_separator_after(below),
-            symbols.grouping_separator(),
-            sink,
-        )
+        put_separator(self.separator_before(below), sink)?;
+        put_digit(self.symbols, digit, sink)?;
+        put_separator(self.separator_after(below), sink)
     }
 
     /// Appends the text without the sign.

@@ -1,5 +1,5 @@
 //! The value of digits that were scanned.
-ghost use Rattle.std.specs.Prelude.{◌≡◌, ℕ, ◌+◌, ◌<◌, ◌≤◌, List, [], ◌++◌, OnOk, OnErr, IfOk};
+ghost use Rattle.std.specs.Prelude.{◌≡◌, ℕ, ◌+◌, ◌<◌, ◌≤◌, List, [], ◌++◌, pos, ◌-ℤ◌, OnOk, OnErr, IfOk};
 ghost use Rattle.decimal_digits.specs.Number.{size};
 ghost use Rattle.decimal_unsigned.specs.DigitValues.{IsBcd, value_of_first};
 ghost use Rattle.decimal_format.specs.Readable.{IsReadable};
@@ -30,6 +30,14 @@ fn zero_with_digits<D: DigitStore>(alloc: Global, integer_digits: usize) -> Unsi
     zero
 }
 
+/// Returns the magnitude of the last of some digits of a number with `whole` integer digits.
+fn last_magnitude(whole: usize, count: usize) -> i16
+    requires { (0 < count) × (whole ≤ 32768) × (count ≤ whole + 32768) }
+    ensures { result ≡ pos whole -ℤ pos count }
+{
+    to_magnitude(subtract_counts(whole, count))
+}
+
 /// Appends up to sixteen digits, packed BCD, to the first `written` digits of a number with `whole` integer digits.
 fn append<D: DigitStore>(
     value: &mut UnsignedOver<D>,
@@ -39,16 +47,14 @@ fn append<D: DigitStore>(
     count: usize,
     number: u64,
 ) -> Result<(), AllocError>
-    requires some { 0 < count }
-    requires at_most { count ≤ 16 }
-    requires in_limits { (whole ≤ 32768) × (written + count ≤ whole + 32768) }
-    requires digits { (es : List ℕ) × IsBcd number count es }
+    requires { (0 < count) × (count ≤ 16) × (whole ≤ 32768) × (written + count ≤ whole + 32768)
+        × ((es : List ℕ) × IsBcd number count es) }
     ensures ok { OnOk result ((ds es : List ℕ) → HoldsDigits whole written value.old ds → IsBcd number count es
         → value.new ≡ value_of_first whole (ds ++ es)) }
     ensures memory { OnErr result ((ds es : List ℕ) → HoldsDigits whole written value.old ds → IsBcd number count es
         → D.L < size (value_of_first whole (ds ++ es)).number) }
 {
-    let position = to_magnitude(subtract_counts(whole, written + count));
+    let position = last_magnitude(whole, written + count);
     let mut next = UnsignedOver::from_bcd_digits(alloc, count, 0, number)?;
     if let Err(LimitError) = next.multiply_pow10(position) {
         return Ok(());

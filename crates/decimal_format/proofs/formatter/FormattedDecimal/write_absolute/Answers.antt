@@ -25,20 +25,13 @@ loop-digit-init g c =
       appended = Appends-nil _;
     }
 
-pub write_nth-requires-clause-shown : goal.write_nth-requires-clause-shown
-write_nth-requires-clause-shown g c =
+pub write_nth-requires : goal.write_nth-requires
+write_nth-requires g c =
     let v = c.args.self.now.value.absolute in
     let i = c.loop-digit.below in
     let next = next_digit v.number (shown_count v - i) c.in-Some.digit (v.hi -ℤ pos i) _
     (sym c.loop-digit.invariant.digits ∙ c.in-Some.ensures.steps) in
-    omega (arith, next.0)
-
-pub write_nth-requires-clause-digit : goal.write_nth-requires-clause-digit
-write_nth-requires-clause-digit g c =
-    let v = c.args.self.now.value.absolute in
-    let i = c.loop-digit.below in
-    (next_digit v.number (shown_count v - i) c.in-Some.digit (v.hi -ℤ pos i) _
-    (sym c.loop-digit.invariant.digits ∙ c.in-Some.ensures.steps)).1
+    (omega (arith, next.0), next.1)
 
 pub returns-in_err-write_nth-clause-err : goal.returns-in_err-write_nth-clause-err
 returns-in_err-write_nth-clause-err g c =

@@ -7,35 +7,14 @@ use Rattle.decimal_format.proofs.symbols.DecimalSymbols.append_digits.Goals as g
 pub loop-done-init : goal.loop-done-init
 loop-done-init g c = λ ds es holds part. appended_none holds part.spelled
 
-pub append-requires-clause-some : goal.append-requires-clause-some
-append-requires-clause-some g c =
+pub append-requires : goal.append-requires
+append-requires g c =
     let d = c.requires.digits in
     let so_far = c.loop-done.invariant d.0 d.1 d.2 d.3 in
     let read = c.read_separated-number.ensures so_far.others so_far.spelled in
     let word = next_word so_far read (omega (arith, c.loop-done-test.true, d.3.bcd.count)) in
-    word.0
-
-pub append-requires-clause-at_most : goal.append-requires-clause-at_most
-append-requires-clause-at_most g c =
-    let d = c.requires.digits in
-    let so_far = c.loop-done.invariant d.0 d.1 d.2 d.3 in
-    (c.read_separated-number.ensures so_far.others so_far.spelled).at_most
-
-pub append-requires-clause-in_limits : goal.append-requires-clause-in_limits
-append-requires-clause-in_limits g c =
-    let d = c.requires.digits in
-    let so_far = c.loop-done.invariant d.0 d.1 d.2 d.3 in
-    let read = c.read_separated-number.ensures so_far.others so_far.spelled in
-    let word = next_word so_far read (omega (arith, c.loop-done-test.true, d.3.bcd.count)) in
-    (c.requires.in_limits.0, omega (arith, word.1, d.3.bcd.count, c.requires.in_limits.1))
-
-pub append-requires-clause-digits : goal.append-requires-clause-digits
-append-requires-clause-digits g c =
-    let d = c.requires.digits in
-    let so_far = c.loop-done.invariant d.0 d.1 d.2 d.3 in
-    let read = c.read_separated-number.ensures so_far.others so_far.spelled in
-    let word = next_word so_far read (omega (arith, c.loop-done-test.true, d.3.bcd.count)) in
-    (read.first, word.2)
+    let limits = c.requires.in_limits in
+    (word.0, read.at_most, limits.0, omega (arith, word.1, d.3.bcd.count, limits.1), (read.first, word.2))
 
 pub overflow_add-done : goal.overflow_add-done
 overflow_add-done g c =

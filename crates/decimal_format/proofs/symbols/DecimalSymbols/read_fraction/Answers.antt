@@ -1,9 +1,8 @@
 use Rattle.std.proofs.Common.{◌<◌, false, [], ◌++◌, length, refl, sym, ◌∙◌, ap, arith, append-nil}
 use Rattle.decimal_format.specs.Reading.{digits_text}
 use Rattle.decimal_format.proofs.Bcd.{last_none}
-use Rattle.decimal_format.proofs.Codes.{none_not_decimal}
 use Rattle.decimal_format.proofs.DigitTexts.{digits_text-nil}
-use Rattle.decimal_format.proofs.Scans.{code_shorter, run_length, spelled_plain, fraction_rest, fraction_is, fraction_fails}
+use Rattle.decimal_format.proofs.Scans.{spelled_plain, fraction_is, fraction_read}
 use Rattle.decimal_format.proofs.symbols.DecimalSymbols.read_fraction.Goals as goal
 
 pub returns-then-is_empty-clause-found : goal.returns-then-is_empty-clause-found
@@ -15,30 +14,16 @@ returns-then-is_empty-clause-found g c =
 
 pub returns-then-count-eq0-clause-none : goal.returns-then-count-eq0-clause-none
 returns-then-count-eq0-clause-none g c = λ ds all e.
-    let s = c.args.self.now in
-    let text = g.T.Input.bytes c.args.text in
-    let digits = g.T.Input.bytes c.in_ok-digits.digits in
     let begins = rw (c.as_bytes.ensures.value, c.decimal_separator.ensures.value) at c.in_ok-digits.ensures in
-    let fewer = code_shorter s.decimal text digits (none_not_decimal s c.requires) begins in
-    let run = c.read_run-number.ensures in
-    let less = run_length c.requires run in
-    let follows = fraction_rest s ds text digits (c.if-is_empty.ensures.no refl) e begins in
-    let read = fraction_fails c.requires run (omega (arith, less, fewer, c.if-is_empty.ensures.at_most)) ds all follows.0
-    follows.1 in
+    let read = fraction_read c.requires (c.if-is_empty.ensures.no refl) c.if-is_empty.ensures.at_most begins
+    c.read_run-number.ensures ds all e in
     absurd (omega (arith, read.0, c.if-count-eq0.true))
 
 pub returns-then-not-is_empty-clause-none : goal.returns-then-not-is_empty-clause-none
 returns-then-not-is_empty-clause-none g c = λ ds all e.
-    let s = c.args.self.now in
-    let text = g.T.Input.bytes c.args.text in
-    let digits = g.T.Input.bytes c.in_ok-digits.digits in
     let begins = rw (c.as_bytes.ensures.value, c.decimal_separator.ensures.value) at c.in_ok-digits.ensures in
-    let fewer = code_shorter s.decimal text digits (none_not_decimal s c.requires) begins in
-    let run = c.read_run-number.ensures in
-    let less = run_length c.requires run in
-    let follows = fraction_rest s ds text digits (c.if-is_empty.ensures.no refl) e begins in
-    let read = fraction_fails c.requires run (omega (arith, less, fewer, c.if-is_empty.ensures.at_most)) ds all follows.0
-    follows.1 in
+    let read = fraction_read c.requires (c.if-is_empty.ensures.no refl) c.if-is_empty.ensures.at_most begins
+    c.read_run-number.ensures ds all e in
     c.is_empty-2.ensures.no c.if-not-is_empty.true read.1
 
 pub returns-clause-found : goal.returns-clause-found
