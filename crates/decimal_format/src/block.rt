@@ -57,7 +57,15 @@ impl Block {
             return Err(SinkFault);
         }
         let end = self.len + bytes.len();
-        self.bytes[self.len..end].copy_from_slice(bytes);
+        // Most texts are a digit or a separator.
+        match bytes {
+            [byte] => self.bytes[self.len] = *byte,
+            [first, second] => {
+                self.bytes[self.len] = *first;
+                self.bytes[self.len + 1] = *second;
+            }
+            _ => self.bytes[self.len..end].copy_from_slice(bytes),
+        }
         self.len = end;
         Ok(())
     }

@@ -88,11 +88,12 @@ impl GroupingSizes {
         ensures { result ≡ separates strategy self hi magnitude }
     {
         let primary = self.primary as i16;
-        if primary == 0 || magnitude < primary || !self.is_grouped(strategy, hi) {
+        if primary == 0 || magnitude < primary {
             return false;
         }
         let secondary = self.secondary_size();
-        remainder((magnitude - primary) as usize, secondary as usize) == 0
+        let before_last = remainder((magnitude - primary) as usize, secondary as usize);
+        before_last == 0 && self.is_grouped(strategy, hi)
     }
 
     /// Returns the number of digits from an integer magnitude down to the next end of a group, or to magnitude 0, and

@@ -156,6 +156,20 @@ impl<'a> DecimalSymbols<'a> {
         self.next_other_digit(text)
     }
 
+    /// Returns whether a text begins with a separator, and so with no digit.
+    fn begins_with_separator<T: Input>(&self, text: T) -> bool
+        requires { IsReadable self.now }
+        ensures { IsTrue result → (d : ℕ) (rest : List ℕ) → d < 10 → T.bytes text ≢ digit_text self.now d ++ rest }
+    {
+        if let Some(_) = cut(text, self.grouping_separator().as_bytes()) {
+            return true;
+        }
+        if let Some(_) = cut(text, self.decimal_separator().as_bytes()) {
+            return true;
+        }
+        false
+    }
+
     /// Returns the digit that a text begins with, and what follows it, by any digits.
     #[inline(never)]
     fn next_other_digit<T: Input>(&self, text: T) -> Option<(u8, T)>
@@ -170,6 +184,9 @@ impl<'a> DecimalSymbols<'a> {
             if let Some(rest) = self.cut_digit(text, digit) {
                 return Some((digit, rest));
             }
+        }
+        if self.begins_with_separator(text) {
+            return None;
         }
         for digit in 0..10 {
             if let Some(rest) = self.cut_digit(text, digit) {
