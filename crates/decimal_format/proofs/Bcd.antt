@@ -1,10 +1,12 @@
 -- Digits as packed BCD.
-use Rattle.std.proofs.Common.{ℕ, ◌+◌, ◌*◌, ◌^◌, ◌<◌, ◌≤◌, List, [], ◌∷◌, ◌++◌, length-append, refl, sym, ◌∙◌, subst, arith}
+use Rattle.std.proofs.Common.{◌≡◌, ℕ, ◌+◌, ◌*◌, ◌%◌, ◌^◌, ◌<◌, ◌≤◌, List, [], ◌∷◌, ◌++◌, length, length-append, refl, sym, ◌∙◌, ap, subst, arith}
 use Rattle.std.specs.Int.Digits.{AllBelowBase, number_from_digits}
 use Rattle.std.proofs.lemmas.Int.Digits.{number_after_append, number_lt}
-use Rattle.std.proofs.Math.Nat.{pow-le-pow_right}
-use Rattle.fixed_decimal.proofs.Calling.{below_sixteen, number_after}
+use Rattle.std.proofs.lemmas.Nat.{shl_whole}
+use Rattle.std.proofs.Math.Nat.{mod-eq_of_lt, pow-le-pow_right}
+use Rattle.fixed_decimal.proofs.Calling.{below_sixteen, hex_pow, number_after}
 use Rattle.decimal_unsigned.specs.DigitValues.{IsBcd}
+use Rattle.decimal_format.specs.Scanning.{HasBcd}
 
 -- digits after digits
 pub below_append : (ds es : List ℕ) → AllBelowBase 10 ds → AllBelowBase 10 es → AllBelowBase 10 (ds ++ es)
@@ -20,22 +22,11 @@ pub below_rest : (ds more : List ℕ) → AllBelowBase 10 (ds ++ more) → AllBe
 below_rest [] more all = all
 below_rest (d ∷ ds) more all = below_rest ds more all.1
 
--- no digits
-pub bcd_none : IsBcd 0 0 []
-bcd_none = record { digits = tt; count = refl; number = refl }
-
 -- a digit takes four bits
 pub bcd_lt : (n k : ℕ) (ds : List ℕ) → IsBcd n k ds → n < 16 ^ k
 bcd_lt n k ds is =
     subst (λ x. x < 16 ^ k) (sym is.number)
     (subst (λ j. number_from_digits 16 ds < 16 ^ j) is.count (number_lt 16 ds (below_sixteen ds is.digits)))
-
--- eight digits have room in a word
-pub bcd_room : (n k : ℕ) (ds : List ℕ) → IsBcd n k ds → k < 8 → n * 16 + 9 < 2 ^ 64
-bcd_room n k ds is few =
-    let within : k ≤ 7 = omega (arith, few) in
-    let most : 16 ^ k ≤ 16 ^ 7 = pow-le-pow_right (omega arith) within in
-    omega (arith, bcd_lt n k ds is, most)
 
 -- digits after others
 pub bcd_append : (n k m j : ℕ) (ds es : List ℕ) → IsBcd n k ds → IsBcd m j es
@@ -48,7 +39,38 @@ bcd_append n k m j ds es is more = record {
       ∙ sym (number_after_append 16 0 ds es ∙ number_after 16 (number_from_digits 16 ds) es);
 }
 
+-- ---- The last sixteen of any number of digits.
+pub last_none : HasBcd 0 0 []
+last_none = record { digits = tt; count = refl; number = refl }
+
 -- one digit more
-pub bcd_push : (n k d : ℕ) (ds : List ℕ) → d < 10 → IsBcd n k ds → IsBcd (n * 16 + d) (k + 1) (ds ++ d ∷ [])
-bcd_push n k d ds below is =
-    bcd_append n k d 1 ds (d ∷ []) is (record { digits = (below, tt); count = refl; number = omega arith })
+pub last_push : (n k d : ℕ) (ds : List ℕ) → d < 10 → HasBcd n k ds
+    → HasBcd (n * 2 ^ 4 % 2 ^ 64 + d) (k + 1) (ds ++ d ∷ [])
+last_push n k d ds below is = record {
+  digits = below_append ds (d ∷ []) is.digits (below, tt);
+  count = omega (arith, is.count, length-append ds (d ∷ []));
+  number =
+      omega (arith, is.number, number_after_append 16 0 ds (d ∷ []), number_after 16 (number_from_digits 16 ds) (d ∷ []));
+}
+
+-- sixteen digits have room in a word
+pub last_is_bcd : (n k : ℕ) (ds : List ℕ) → HasBcd n k ds → k ≤ 16 → IsBcd n k ds
+last_is_bcd n k ds is few =
+    let size : length ds ≤ 16 = omega (arith, is.count, few) in
+    let most : 16 ^ length ds ≤ 16 ^ 16 = pow-le-pow_right (omega arith) size in
+    let less : number_from_digits 16 ds < 2 ^ 64 =
+    omega (arith, number_lt 16 ds (below_sixteen ds is.digits), most) in
+    record { digits = is.digits; count = is.count; number = is.number ∙ mod-eq_of_lt less }
+
+-- the digits of two words that one has room for
+pub short_word : {n k m j : ℕ} {ds es : List ℕ} → HasBcd n k ds → HasBcd m j es → k + j ≤ 16
+    → IsBcd (n * 2 ^ (4 * j) % 2 ^ 64 + m) (k + j) (ds ++ es) × (n * 2 ^ (4 * j) % 2 ^ 64 + m < 2 ^ 64)
+short_word {n = n} {k = k} {m = m} {j = j} {ds = ds} {es = es} p q room =
+    let is = last_is_bcd n k ds p (omega (arith, room)) in
+    let more = last_is_bcd m j es q (omega (arith, room)) in
+    let whole : n * 2 ^ (4 * j) % 2 ^ 64 ≡ n * 16 ^ j =
+    shl_whole n (4 * k) (4 * j) 64 (subst (λ x. n < x) (sym (hex_pow k)) (bcd_lt n k ds is)) (omega (arith, room))
+    ∙ ap (λ x. n * x) (hex_pow j) in
+    let joined = subst (λ x. IsBcd (x + m) (k + j) (ds ++ es)) (sym whole) (bcd_append n k m j ds es is more) in
+    let most : 16 ^ (k + j) ≤ 16 ^ 16 = pow-le-pow_right (omega arith) room in
+    (joined, omega (arith, bcd_lt _ (k + j) (ds ++ es) joined, most))

@@ -2,9 +2,7 @@ pub mod AsciiDigits
 pub mod FormattedLaws
 pub mod Lengths
 pub mod Magnitudes
-pub mod Parts
 pub mod Separators
-pub mod ShortTexts
 pub mod Codes
 pub mod DigitTexts
 pub mod NumeralTexts
@@ -13,4 +11,4 @@ pub mod Scans
 pub mod NumeralLaws
 pub mod NormalForms
 pub mod Apart
-pub mod Collecting
+pub mod Values

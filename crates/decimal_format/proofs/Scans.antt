@@ -1,6 +1,6 @@
 -- The steps of a scan.
 use Rattle.std.proofs.Common.{◌≡◌, ◌≢◌, ℕ, ◌+◌, ◌-◌, ◌<◌, ◌≤◌, ◌==◌, Bool, true, false, ◌&&◌, ◌||◌, List, [], ◌∷◌, ◌++◌, length, refl, sym, ◌∙◌, ap, subst, arith, rules, append_assoc, append-nil, length-append, length-drop, take, drop, take-append-drop, inl, inr}
-use Rattle.std.specs.Prelude.{if◌then◌else◌, ◌*◌, pos, Option, Some, None, IfNone, ◌↔◌}
+use Rattle.std.specs.Prelude.{if◌then◌else◌, ◌*◌, ◌%◌, ◌^◌, pos, ◌↔◌}
 use Rattle.std.specs.Int.Digits.{AllBelowBase}
 use Rattle.std.proofs.Math.Bool.{beq, not, and-true, and-false, and_comm}
 use Rattle.std.proofs.lemmas.Bool.{cases_eq, cases_lt}
@@ -11,19 +11,14 @@ use Rattle.fixed_decimal.specs.declared.variations.Sign.{Sign}
 use Rattle.fixed_decimal.specs.declared.variations.Sign.TheVariants as sign
 use Rattle.decimal_format.specs.declared.grouping.GroupingStrategy.{GroupingStrategy}
 use Rattle.decimal_format.specs.declared.grouping.GroupingStrategy.TheVariants.{Never, Always}
-use Rattle.decimal_format.specs.Collecting.{Collected, Collects, CollectsDigits}
 use Rattle.decimal_format.specs.Symbols.{Symbols, digit_text, sign_affixes}
 use Rattle.decimal_format.specs.Grouping.{reaches, is_grouped, ends_group}
 use Rattle.decimal_format.specs.Readable.{IsReadable}
 use Rattle.decimal_format.specs.Reading.{Numeral, AreDigits, digits_text, fraction_text, absolute_numeral_text, separated_by}
-use Rattle.decimal_format.specs.Scanning.{separator_if, separated_if, SkipsSeparator, EndsInteger, BeginsWithDigit, IsUniform, ReadsRun, ReadsDigits, ReadsAs}
-use Rattle.decimal_format.proofs.Bcd.{below_append, below_first, below_rest, bcd_none, bcd_push}
-use Rattle.decimal_format.proofs.Codes.{same_digit, digit_not_grouping, digit_not_minus, digit_not_plus, plus_not_minus, none_not_digit, none_not_grouping}
-use Rattle.decimal_format.proofs.DigitTexts.{digits_text-nil, digits_text-first, digits_text-cong, digits_text-append, digits_text-run, digits_not_grouping, digits-unique, ends_integer, nil_ends}
-
-pub if_none_weaker : {A : Type 0} (result : Option A) (P Q : Type 0) → (P → Q) → IfNone result P → IfNone result Q
-if_none_weaker None P Q f p = f p
-if_none_weaker (Some x) P Q f p = tt
+use Rattle.decimal_format.specs.Scanning.{separator_if, separated_if, SkipsSeparator, EndsInteger, BeginsWithDigit, HasBcd, IsUniform, IsSpelled, ReadsSpelled, ReadsRun, ReadsDigits}
+use Rattle.decimal_format.proofs.Bcd.{below_append, below_first, below_rest, last_none, last_push}
+use Rattle.decimal_format.proofs.Codes.{same_digit, digit_not_grouping, digit_not_minus, digit_not_plus, plus_not_minus, none_not_decimal, none_not_digit, none_not_grouping}
+use Rattle.decimal_format.proofs.DigitTexts.{digits_text-nil, digits_text-first, digits_text-cong, digits_text-append, digits_text-run, digits_not_grouping, digits-unique, ends_integer, nil_ends, fraction_ends}
 
 -- ---- Signs.
 pub begins-append : (s : Symbols) (number tail : List ℕ) → BeginsWithDigit s number → BeginsWithDigit s (number ++ tail)
@@ -70,79 +65,144 @@ module _ (s : Symbols) (readable : IsReadable s) where
   shorter_by_separator bytes after e = code_shorter s.grouping bytes after (none_not_grouping s readable) e
 
   -- digits have at least one byte each
-  text_length : (ds after : List ℕ) → AllBelowBase 10 ds
-      → length ds + length after ≤ length (digits_text s (λ _. false) ds ++ after)
-  text_length [] after all = omega (arith, ap (λ l. length (l ++ after)) (digits_text-nil s (λ _. false)))
-  text_length (d ∷ ds) after all =
+  text_length : (f : ℕ → Bool) (ds after : List ℕ) → AllBelowBase 10 ds
+      → length ds + length after ≤ length (digits_text s f ds ++ after)
+  text_length f [] after all = omega (arith, ap (λ l. length (l ++ after)) (digits_text-nil s f))
+  text_length f (d ∷ ds) after all =
+      let more = digits_text s f ds ++ after in
+      let separator = separator_if s (f (length ds)) in
       omega (
         arith,
-        shorter _ (digits_text s (λ _. false) ds ++ after) d all.0 (digits_text-first s (λ _. false) d ds after),
-        text_length ds after all.1,
+        shorter _ (separator ++ more) d all.0 (digits_text-first s f d ds after),
+        length-append separator more,
+        text_length f ds after all.1,
       )
 
-pub run_length : {s : Symbols} {most : ℕ} {bytes after : List ℕ} {number k : ℕ} → IsReadable s
+run_length : {s : Symbols} {most : ℕ} {bytes after : List ℕ} {number k : ℕ} → IsReadable s
     → ReadsRun s most bytes after number k → k + length after ≤ length bytes
 run_length {s = s} {after = after} readable run =
-    omega (arith, ap length run.text, text_length s readable run.digits after run.bcd.digits, run.bcd.count)
+    omega (arith, ap length run.text, text_length s readable (λ _. false) run.digits after run.bcd.digits, run.bcd.count)
 
--- ---- Counting.
--- of digits that a text may begin with, these are left, after a separator if one follows the last digit that was
--- counted
-abbrev IsCountedOf : Symbols → (ℕ → Bool) → List ℕ → List ℕ → List ℕ → ℕ → Type 0
-IsCountedOf s separated ds tail rest n = (after_separator : Bool) × (left : List ℕ) × AllBelowBase 10 left
-    × (n + length left ≡ length ds) × (rest ≡ separator_if s after_separator ++ (digits_text s separated left ++ tail))
+-- ---- Digits with separators anywhere.
+module _ (s : Symbols) (readable : IsReadable s) (rest : List ℕ) where
+  -- the first digit, and the others
+  spelled_digit : (after left : List ℕ) (d : ℕ) → d < 10 → rest ≡ digit_text s d ++ after → IsSpelled s rest left
+      → (others : List ℕ) × (left ≡ d ∷ others) × IsSpelled s after others
+  spelled_digit after left d below e (f, tail, ends, all, true, t) =
+      absurd (digit_not_grouping s readable d after _ below (sym e ∙ t))
+  spelled_digit after [] d below e (f, tail, ends, all, false, t) =
+      absurd (ends.digit d after below (ap (λ l. l ++ tail) (sym (digits_text-nil s f)) ∙ sym t ∙ e))
+  spelled_digit after (x ∷ others) d below e (f, tail, ends, all, false, t) =
+      let same = same_digit s readable d x after _ below all.0 (sym e ∙ t ∙ digits_text-first s f x others tail) in
+      (others, ap (λ y. y ∷ others) (sym same.0), (f, tail, ends, all.1, f (length others), same.1))
 
-abbrev pub IsCounted : Symbols → List ℕ → List ℕ → ℕ → Type 0
-IsCounted s bytes rest n = (separated : ℕ → Bool) (ds tail : List ℕ) → AllBelowBase 10 ds → EndsInteger s tail
-    → bytes ≡ digits_text s separated ds ++ tail → IsCountedOf s separated ds tail rest n
+  -- a separator before the digits
+  spelled_separator : (after left : List ℕ) → rest ≡ s.grouping ++ after → IsSpelled s rest left
+      → IsSpelled s after left
+  spelled_separator after left e (f, tail, ends, all, true, t) =
+      (f, tail, ends, all, false, append_cancel_left s.grouping after _ (sym e ∙ t))
+  spelled_separator after left e (f, tail, ends, all, false, t) =
+      absurd (digits_not_grouping s readable f left tail after all (λ _. ends.grouping after) (sym t ∙ e))
 
-module _ (s : Symbols) (readable : IsReadable s) (separated : ℕ → Bool) (ds tail : List ℕ) (ends : EndsInteger s tail)
-    (rest : List ℕ) (n : ℕ) where
-  -- one digit more
-  pub counted_more : (after : List ℕ) (d : ℕ) → d < 10 → rest ≡ digit_text s d ++ after
-      → IsCountedOf s separated ds tail rest n → IsCountedOf s separated ds tail after (n + 1)
-  unfolding digits_text
-  counted_more after d below e (true, left, digits, counted, h) =
-      absurd (digit_not_grouping s readable d after _ below (sym e ∙ h))
-  counted_more after d below e (false, [], digits, counted, h) = absurd (ends.digit d after below (sym h ∙ e))
-  counted_more after d below e (false, (x ∷ left), digits, counted, h) = (
-    separated (length left),
-    left,
-    digits.1,
-    omega (arith, counted),
-    (same_digit s readable d x after _ below digits.0 (sym e ∙ h ∙ digits_text-first s separated x left tail)).1,
-  )
+  -- where neither follows, there are no digits
+  pub spelled_none : ((d : ℕ) (r : List ℕ) → d < 10 → rest ≢ digit_text s d ++ r)
+      → ((r : List ℕ) → rest ≢ s.grouping ++ r) → (left : List ℕ) → IsSpelled s rest left → left ≡ []
+  spelled_none no_digit no_separator left (f, tail, ends, all, true, t) = absurd (no_separator _ t)
+  spelled_none no_digit no_separator [] (f, tail, ends, all, false, t) = refl
+  spelled_none no_digit no_separator (x ∷ others) (f, tail, ends, all, false, t) =
+      absurd (no_digit x _ all.0 (t ∙ digits_text-first s f x others tail))
 
-  -- a separator after a digit
-  pub counted_separator : (after : List ℕ) → rest ≡ s.grouping ++ after → IsCountedOf s separated ds tail rest n
-      → IsCountedOf s separated ds tail after n
-  counted_separator after e (true, left, digits, counted, h) =
-      (false, left, digits, counted, append_cancel_left s.grouping after _ (sym e ∙ h))
-  counted_separator after e (false, left, digits, counted, h) =
-      absurd (digits_not_grouping s readable separated left tail after digits (λ _. ends.grouping after) (sym h ∙ e))
+  module _ {n k : ℕ} {ds : List ℕ} (read : ReadsSpelled s k rest n k ds) where
+    -- one digit more
+    pub spelled_push : (after : List ℕ) (d : ℕ) → d < 10 → rest ≡ digit_text s d ++ after
+        → ReadsSpelled s (k + 1) after (n * 2 ^ 4 % 2 ^ 64 + d) (k + 1) ds
+    spelled_push after d below e =
+        let step = spelled_digit after read.others d below e read.spelled in
+        record {
+          first = read.first ++ d ∷ [];
+          others = step.0;
+          all =
+              read.all ∙ ap (λ l. read.first ++ l) step.1 ∙ sym (append_assoc read.first (d ∷ []) step.0);
+          bcd = last_push n k d read.first below read.bcd;
+          at_most = omega arith;
+          spelled = step.2;
+          ends = λ few. absurd (omega (arith, few));
+        }
 
-  -- where neither follows, all were counted
-  pub counted_all : ((d : ℕ) (r : List ℕ) → d < 10 → rest ≢ digit_text s d ++ r)
-      → ((r : List ℕ) → rest ≢ s.grouping ++ r) → IsCountedOf s separated ds tail rest n → n ≡ length ds
-  counted_all no_digit no_separator (true, left, digits, counted, h) = absurd (no_separator _ h)
-  counted_all no_digit no_separator (false, [], digits, counted, h) = omega (arith, counted)
-  counted_all no_digit no_separator (false, (x ∷ left), digits, counted, h) =
-      absurd (no_digit x _ digits.0 (h ∙ digits_text-first s separated x left tail))
+    -- a separator
+    pub spelled_skip : (after : List ℕ) → rest ≡ s.grouping ++ after → ReadsSpelled s k after n k ds
+    spelled_skip after e = record {
+      first = read.first;
+      others = read.others;
+      all = read.all;
+      bcd = read.bcd;
+      at_most = read.at_most;
+      spelled = spelled_separator after read.others e read.spelled;
+      ends = read.ends;
+    }
 
--- ---- Reading digits.
-pub collects_none : (c : Collected) → CollectsDigits c c []
-collects_none c = λ inline k before h. subst (Collects inline k c) (sym (append-nil before)) h
+    -- no more digits were to be read, or none follows
+    pub spelled_most : (most : ℕ) → k ≤ most → (k < most → (left : List ℕ) → IsSpelled s rest left → left ≡ [])
+        → ReadsSpelled s most rest n k ds
+    spelled_most most few ends = record {
+      first = read.first;
+      others = read.others;
+      all = read.all;
+      bcd = read.bcd;
+      at_most = few;
+      spelled = read.spelled;
+      ends = λ less. ends less read.others read.spelled;
+    }
 
-pub collects_both : (old between new : Collected) (ds es : List ℕ) → CollectsDigits old between ds
-    → CollectsDigits between new es → CollectsDigits old new (ds ++ es)
-collects_both old between new ds es p q = λ inline k before h.
-    subst (Collects inline k new) (append_assoc before ds es) (q inline k (before ++ ds) (p inline k before h))
+pub spelled_start : (s : Symbols) (bytes ds : List ℕ) → IsSpelled s bytes ds → ReadsSpelled s 0 bytes 0 0 ds
+spelled_start s bytes ds spelled = record {
+  first = [];
+  others = ds;
+  all = refl;
+  bcd = last_none;
+  at_most = omega arith;
+  spelled = spelled;
+  ends = λ few. absurd (omega (arith, few));
+}
+
+-- where no fewer digits were to be read, all were
+pub spelled_all : {s : Symbols} {most n k : ℕ} {rest ds : List ℕ} → ReadsSpelled s most rest n k ds → length ds ≤ most
+    → HasBcd n k ds
+spelled_all {most = most} {n = n} {k = k} {ds = ds} read few =
+    let none : read.others ≡ [] = elim (cases_lt k most) [
+      | inl less ↦ read.ends less
+      | inr full ↦
+          nil_from_length read.others
+          (omega (arith, ap length read.all, length-append read.first read.others, read.bcd.count, few, full))
+    ] in
+    subst (HasBcd n k) (sym (read.all ∙ ap (λ l. read.first ++ l) none ∙ append-nil read.first)) read.bcd
+
+-- digits without separators, and nothing else
+pub spelled_plain : (s : Symbols) → IsReadable s → (bytes ds : List ℕ) → AllBelowBase 10 ds
+    → bytes ≡ digits_text s (λ _. false) ds → IsSpelled s bytes ds
+spelled_plain s readable bytes ds all e =
+    let plain = λ (m : ℕ). false in
+    (plain, [], nil_ends s readable, all, false, e ∙ sym (append-nil (digits_text s plain ds)))
+
+-- the integer digits of a number
+pub spelled_whole : (s : Symbols) → IsReadable s → (f : ℕ → Bool) (w : Numeral) (bytes : List ℕ) → AreDigits w
+    → bytes ≡ absolute_numeral_text s f w → IsSpelled s bytes w.whole
+spelled_whole s readable f w bytes digits e =
+    (f, fraction_text s w.fraction, fraction_ends s readable w.fraction, digits.whole, false, e)
+
+-- all of them are read
+pub whole_bcd : (s : Symbols) → IsReadable s → (f : ℕ → Bool) (w : Numeral) (bytes rest : List ℕ) (n k : ℕ) → AreDigits w
+    → bytes ≡ absolute_numeral_text s f w → length bytes < 2 ^ 64
+    → ((ds : List ℕ) → IsSpelled s bytes ds → ReadsSpelled s (2 ^ 64 - 1) rest n k ds) → HasBcd n k w.whole
+whole_bcd s readable f w bytes rest n k digits e few read =
+    let most = text_length s readable f w.whole (fraction_text s w.fraction) digits.whole in
+    spelled_all (read w.whole (spelled_whole s readable f w bytes digits e)) (omega (arith, ap length e, most, few))
 
 -- ---- Digits that follow each other.
 pub run_none : (s : Symbols) (bytes : List ℕ) → ReadsRun s 0 bytes bytes 0 0
 run_none s bytes = record {
   digits = [];
-  bcd = bcd_none;
+  bcd = last_none;
   at_most = omega arith;
   text = ap (λ l. l ++ bytes) (sym (digits_text-nil s (λ _. false)));
   ends = λ few. absurd (omega (arith, few));
@@ -158,14 +218,14 @@ text_append s bytes ds rest es after e more =
 
 -- one digit more
 pub run_push : {s : Symbols} {bytes rest : List ℕ} {n k : ℕ} (after : List ℕ) (d : ℕ) → d < 10
-    → rest ≡ digit_text s d ++ after → ReadsRun s k bytes rest n k → ReadsRun s (k + 1) bytes after (n * 16 + d) (k + 1)
+    → rest ≡ digit_text s d ++ after → ReadsRun s k bytes rest n k → ReadsRun s (k + 1) bytes after (n * 2 ^ 4 % 2 ^ 64 + d) (k + 1)
 run_push {s = s} {bytes = bytes} {rest = rest} {n = n} {k = k} after d below e read =
     let none : ℕ → Bool = λ _. false in
     let one : digits_text s none (d ∷ []) ++ after ≡ digit_text s d ++ after =
     digits_text-first s none d [] after ∙ ap (λ l. digit_text s d ++ (l ++ after)) (digits_text-nil s none) in
     record {
       digits = read.digits ++ d ∷ [];
-      bcd = bcd_push n k d read.digits below read.bcd;
+      bcd = last_push n k d read.digits below read.bcd;
       at_most = omega arith;
       text = text_append s bytes read.digits rest (d ∷ []) after read.text (e ∙ sym one);
       ends = λ few. absurd (omega (arith, few));
@@ -181,15 +241,6 @@ run_most read few ends = record {
   text = read.text;
   ends = ends;
 }
-
--- no digit was read: none follows
-pub run_empty : {s : Symbols} {most : ℕ} {bytes rest : List ℕ} {n k : ℕ} → ReadsRun s most bytes rest n k → k ≡ 0
-    → 0 < most → (d : ℕ) (r : List ℕ) → d < 10 → bytes ≢ digit_text s d ++ r
-run_empty {s = s} {rest = rest} run none some d r below e =
-    let empty = nil_from_length run.digits (omega (arith, run.bcd.count, none)) in
-    run.ends (omega (arith, none, some)) d r below
-    (sym (run.text ∙ ap (λ l. digits_text s (λ _. false) l ++ rest) empty
-    ∙ ap (λ l. l ++ rest) (digits_text-nil s (λ _. false))) ∙ e)
 
 -- ---- Chosen magnitudes.
 -- the same choice, but for one magnitude
@@ -381,9 +432,8 @@ module _ {s : Symbols} {may : ℕ → Bool} {n : ℕ} {bytes : List ℕ} where
   module _ {rest digits : List ℕ} {left : ℕ} {all none : Bool}
       (so_far : IsReadTo s may n bytes rest left all none digits) where
     -- where no more is left to read
-    pub read_all : {old new : Collected} → left ≡ 0 → CollectsDigits old new digits
-        → ReadsDigits s may n bytes rest (all || none) old new
-    read_all last collected = record {
+    pub read_all : left ≡ 0 → ReadsDigits s may n bytes rest (all || none)
+    read_all last = record {
       digits = digits;
       chosen = so_far.chosen;
       count = omega (arith, so_far.count, last);
@@ -394,7 +444,6 @@ module _ {s : Symbols} {may : ℕ → Bool} {n : ℕ} {bytes : List ℕ} where
           (λ m. ((let z : m + left ≡ m = omega (arith, last) in ap so_far.chosen z) ∙ ap (λ f. f m) same) i) digits
           ++ rest);
       uniform = either_is may so_far.chosen n all none (to_last true all so_far.all) (to_last false none so_far.none);
-      collected = collected;
     }
       where
         same : so_far.chosen ≡ separated_if may so_far.chosen
@@ -512,80 +561,24 @@ number_begins s f w digits = go w.whole digits.some digits.whole
     }
 
 -- ---- Fractions.
--- the fraction digits follow the decimal separator
-pub fraction_rest : (s : Symbols) (ds bytes digits : List ℕ) → (bytes ≡ [] → ⊥) → bytes ≡ fraction_text s ds
-    → bytes ≡ s.decimal ++ digits → (0 < length ds) × (digits ≡ digits_text s (λ _. false) ds)
-fraction_rest s [] bytes digits some e h = absurd (some e)
-fraction_rest s (d ∷ ds) bytes digits some e h =
-    (omega arith, append_cancel_left s.decimal digits (digits_text s (λ _. false) (d ∷ ds)) (sym h ∙ e))
-
-fraction_is : (s : Symbols) (ds : List ℕ) → (digits_text s (λ _. false) ds ≡ [] → ⊥)
+pub fraction_is : (s : Symbols) (ds : List ℕ) → 0 < length ds
     → s.decimal ++ digits_text s (λ _. false) ds ≡ fraction_text s ds
-fraction_is s [] some = absurd (some (digits_text-nil s (λ _. false)))
+fraction_is s [] some = absurd (omega (arith, some))
 fraction_is s (d ∷ ds) some = refl
 
-pub fraction_found : (s : Symbols) {bytes digits : List ℕ} {n : ℕ} {old new : Collected}
-    → bytes ≡ s.decimal ++ digits → (digits ≡ [] → ⊥) → ReadsAs (digits_text s (λ _. false)) digits n old new
-    → ReadsAs (fraction_text s) bytes n old new
-fraction_found s e some read = record {
-  digits = read.digits;
-  count = read.count;
-  are_digits = read.are_digits;
-  is = e ∙ ap (λ l. s.decimal ++ l) read.is ∙ fraction_is s read.digits (λ none. some (read.is ∙ none));
-  collected = read.collected;
-}
-
--- ---- Digits without separators.
-pub last_none : (s : Symbols) (bytes : List ℕ) (collected : Collected)
-    → ReadsAs (λ ds. digits_text s (λ _. false) ds ++ bytes) bytes 0 collected collected
-last_none s bytes collected = record {
-  digits = [];
-  count = refl;
-  are_digits = tt;
-  is = ap (λ l. l ++ bytes) (sym (digits_text-nil s (λ _. false)));
-  collected = collects_none collected;
-}
-
--- digits more
-pub last_more : {s : Symbols} {bytes rest after : List ℕ} {n k most number : ℕ} {old collected new : Collected}
-    (run : ReadsRun s most rest after number k) → CollectsDigits collected new run.digits
-    → ReadsAs (λ ds. digits_text s (λ _. false) ds ++ rest) bytes n old collected
-    → ReadsAs (λ ds. digits_text s (λ _. false) ds ++ after) bytes (n + k) old new
-last_more {s = s} {bytes = bytes} {rest = rest} {after = after} {old = old} {collected = collected} {new = new} run
-    pushed read = record {
-      digits = read.digits ++ run.digits;
-      count = omega (arith, read.count, run.bcd.count, length-append read.digits run.digits);
-      are_digits = below_append read.digits run.digits read.are_digits run.bcd.digits;
-      is = text_append s bytes read.digits rest run.digits after read.is run.text;
-      collected = collects_both old collected new read.digits run.digits read.collected pushed;
-    }
-
-pub last_all : (s : Symbols) {bytes rest : List ℕ} {n : ℕ} {old new : Collected} → rest ≡ []
-    → ReadsAs (λ ds. digits_text s (λ _. false) ds ++ rest) bytes n old new
-    → ReadsAs (digits_text s (λ _. false)) bytes n old new
-last_all s none read = record {
-  digits = read.digits;
-  count = read.count;
-  are_digits = read.are_digits;
-  is = read.is ∙ ap (λ l. digits_text s (λ _. false) read.digits ++ l) none ∙ append-nil _;
-  collected = read.collected;
-}
-
-module _ {s : Symbols} (readable : IsReadable s) where
-  -- digits have bytes
-  pub fraction_none : (ds : List ℕ) → AllBelowBase 10 ds → 0 < length ds → digits_text s (λ _. false) ds ≡ [] → ⊥
-  unfolding digits_text
-  fraction_none [] all some e = absurd (omega (arith, some))
-  fraction_none (d ∷ ds) all some e =
-      none_not_digit s readable d (digits_text s (λ _. false) ds) all.0 (sym e)
-
-  -- something else follows: the text is not one of digits
-  pub last_fails : {bytes rest : List ℕ} {n : ℕ} {old new : Collected}
-      → ReadsAs (λ ds. digits_text s (λ _. false) ds ++ rest) bytes n old new → (rest ≡ [] → ⊥)
-      → ((d : ℕ) (r : List ℕ) → d < 10 → rest ≢ digit_text s d ++ r)
-      → (es : List ℕ) → AllBelowBase 10 es → bytes ≢ digits_text s (λ _. false) es
-  last_fails {rest = rest} read some other es all e =
-      some (sym (digits-unique s readable (λ _. false) (λ _. false) es read.digits [] rest all read.are_digits
-      (ends_integer (nil_ends s readable))
-      (record { digit = λ d r below h. absurd (other d r below h); separator = λ r h there. there })
-      (append-nil (digits_text s (λ _. false) es) ∙ sym e ∙ read.is)).1)
+-- of a text that is one of fraction digits, all of them were read
+pub fraction_read : {s : Symbols} {n k : ℕ} {text digits rest : List ℕ} → IsReadable s → (text ≡ [] → ⊥)
+    → length text < 2 ^ 64 → text ≡ s.decimal ++ digits → ReadsRun s (2 ^ 64 - 1) digits rest n k → (ds : List ℕ)
+    → AllBelowBase 10 ds → text ≡ fraction_text s ds → (0 < k) × (rest ≡ [])
+fraction_read readable some few begins run [] all e = absurd (some e)
+fraction_read {s = s} {text = text} {digits = digits} {rest = rest} readable some few begins run (d ∷ ds) all e =
+    let plain = λ (m : ℕ). false in
+    let fewer = code_shorter s.decimal text digits (none_not_decimal s readable) begins in
+    let same = digits-unique s readable plain plain (d ∷ ds) run.digits [] rest all run.bcd.digits
+    (ends_integer (nil_ends s readable)) (record {
+      digit = λ x r below h. absurd (run.ends (omega (arith, run_length readable run, fewer, few)) x r below h);
+      separator = λ r h there. there;
+    })
+    (append-nil (digits_text s plain (d ∷ ds)) ∙ sym (append_cancel_left s.decimal digits _ (sym begins ∙ e))
+    ∙ run.text) in
+    (omega (arith, ap length same.0, run.bcd.count), sym same.1)

@@ -6,8 +6,6 @@ pub mod Ascii
 pub mod Readable
 pub mod Reading
 pub mod Lenient
-pub mod ErrorText
 -- Private: used only in the contracts of private functions.
-pub mod Parts
-pub mod Collecting
+pub mod SeparatorCount
 pub mod Scanning

@@ -1,16 +1,16 @@
 -- Private: used only in the contracts of private functions.
 -- What the steps of a scan find.
-use Rattle.std.specs.Prelude.{◌≡◌, ◌≢◌, ℕ, ◌<◌, ◌≤◌, ◌↔◌, Bool, true, false, ◌&&◌, List, [], ◌++◌, if◌then◌else◌, length, take, drop, Result, Err, IfOk}
-use Rattle.std.specs.Int.Digits.{AllBelowBase}
+use Rattle.std.specs.Prelude.{◌≡◌, ◌≢◌, ℕ, ◌%◌, ◌^◌, ◌<◌, ◌≤◌, ◌↔◌, Bool, true, false, ◌&&◌, List, [], ◌++◌, if◌then◌else◌, length, take, drop, Result, Err, IfOk}
+use Rattle.std.specs.Int.Digits.{AllBelowBase, number_from_digits}
 use Rattle.decimal_digits.specs.Number.{size}
-use Rattle.decimal_unsigned.specs.DigitValues.{IsBcd, value_of_first}
+use Rattle.decimal_unsigned.specs.DigitValues.{value_of_first}
 use Rattle.decimal_unsigned.specs.Unsigned.{Unsigned}
 use Rattle.decimal_unsigned.specs.declared.error.ParseError.{ParseError}
 use Rattle.decimal_unsigned.specs.declared.error.ParseError.TheVariants.{Limit, Syntax, Memory}
 use Rattle.fixed_decimal.specs.Decimal.{Decimal}
+use Rattle.decimal_format.specs.declared.reader.Part.{Part}
 use Rattle.decimal_format.specs.declared.reader.Scanned.{Scanned}
 use Rattle.decimal_format.specs.declared.reader.lenient.Normalized.{Normalized}
-use Rattle.decimal_format.specs.Collecting.{Collected, CollectsDigits}
 use Rattle.decimal_format.specs.Symbols.{Symbols, digit_text}
 use Rattle.decimal_format.specs.Reading.{Numeral, IsNumeral, IsBeyondLimits, IsWritten, digits_text}
 use Rattle.decimal_format.specs.Lenient.{replaced, IsLenientNumeral, IsLenientlyWritten}
@@ -44,6 +44,12 @@ left_of n = take n.left (drop n.read (replaced n.symbols.now n.text.now))
 
 -- ---- Digits.
 
+-- the packed BCD of the last sixteen of k digits
+pub record HasBcd (n k : ℕ) (ds : List ℕ) : Type 0 where
+  pub digits : AllBelowBase 10 ds
+  pub count : length ds ≡ k
+  pub number : n ≡ number_from_digits 16 ds % 2 ^ 64
+
 -- a text begins with a digit
 pub record BeginsWithDigit (s : Symbols) (bytes : List ℕ) : Type 0 where
   pub digit : ℕ
@@ -51,48 +57,70 @@ pub record BeginsWithDigit (s : Symbols) (bytes : List ℕ) : Type 0 where
   pub is_digit : digit < 10
   pub is : bytes ≡ digit_text s digit ++ following
 
--- a text begins with a number of digits, at most n, as packed BCD, and the rest follows them, which begins with no
--- digit if there are fewer than n
+-- a text begins with a number of digits, at most n, and the rest follows them, which begins with no digit if there are
+-- fewer than n
 pub record ReadsRun (s : Symbols) (n : ℕ) (bytes rest : List ℕ) (number count : ℕ) : Type 0 where
   pub digits : List ℕ
-  pub bcd : IsBcd number count digits
+  pub bcd : HasBcd number count digits
   pub at_most : count ≤ n
   pub text : bytes ≡ digits_text s (λ _. false) digits ++ rest
   pub ends : count < n → (d : ℕ) (r : List ℕ) → d < 10 → rest ≢ digit_text s d ++ r
+
+-- a text is these digits, with grouping separators after any of them and perhaps before the first, and then neither
+abbrev pub IsSpelled : Symbols → List ℕ → List ℕ → Type 0
+IsSpelled s bytes ds =
+    (separated : ℕ → Bool) × (tail : List ℕ) × EndsInteger s tail × AllBelowBase 10 ds × (after_separator : Bool)
+    × (bytes ≡ separator_if s after_separator ++ (digits_text s separated ds ++ tail))
+
+-- of these digits the first ones were read, at most n, and all of them if there are fewer; the rest spells the others
+pub record ReadsSpelled (s : Symbols) (n : ℕ) (rest : List ℕ) (number count : ℕ) (ds : List ℕ) : Type 0 where
+  pub first : List ℕ
+  pub others : List ℕ
+  pub all : ds ≡ first ++ others
+  pub bcd : HasBcd number count first
+  pub at_most : count ≤ n
+  pub spelled : IsSpelled s rest others
+  pub ends : count < n → others ≡ []
 
 -- of n digits, each has a separator after it where it may have one, or none has
 abbrev pub IsUniform : (ℕ → Bool) → (ℕ → Bool) → ℕ → Type 0
 IsUniform may chosen n =
     (all : Bool) × ((m : ℕ) → m < n → separated_if may chosen m ≡ separated_if may (λ _. all) m)
 
--- n digits were read, with separators after the chosen ones, the rest follows them, and they were collected
-pub record ReadsDigits (s : Symbols) (may : ℕ → Bool) (n : ℕ) (bytes rest : List ℕ) (is_uniform : Bool) (old new :
-    Collected) : Type 0 where
+-- n digits were read, with separators after the chosen ones, and the rest follows them
+pub record ReadsDigits (s : Symbols) (may : ℕ → Bool) (n : ℕ) (bytes rest : List ℕ) (is_uniform : Bool) : Type 0 where
   pub digits : List ℕ
   pub chosen : ℕ → Bool
   pub count : length digits ≡ n
   pub are_digits : AllBelowBase 10 digits
   pub text : bytes ≡ digits_text s (separated_if may chosen) digits ++ rest
   pub uniform : is_uniform ≡ true ↔ IsUniform may chosen n
-  pub collected : CollectsDigits old new digits
 
--- n digits were read, which have this text, and were collected
-pub record ReadsAs (text : List ℕ → List ℕ) (bytes : List ℕ) (n : ℕ) (old new : Collected) : Type 0 where
-  pub digits : List ℕ
-  pub count : length digits ≡ n
-  pub are_digits : AllBelowBase 10 digits
-  pub is : bytes ≡ text digits
-  pub collected : CollectsDigits old new digits
+-- ---- Values.
+
+-- the text of a part spells these digits
+pub record HasPart {T : Type 0} (s : Symbols) (bytes : T → List ℕ) (part : Part T) (ds : List ℕ) : Type 0 where
+  pub spelled : IsSpelled s (bytes part.text) ds
+  pub bcd : HasBcd part.number part.count ds
+
+-- a scan found the sign and the digits of this numeral in a text
+pub record IsScan {T : Type 0} (s : Symbols) (bytes : T → List ℕ) (text : List ℕ) (r : Scanned T)
+    (w : Numeral) : Type 0 where
+  pub numeral : IsLenientNumeral s text w
+  pub sign : r.sign ≡ w.sign
+  pub whole : HasPart s bytes r.whole w.whole
+  pub fraction : HasPart s bytes r.fraction w.fraction
+  pub strict : r.is_strict ≡ true ↔ IsNumeral s text w
+
+-- the value is that of these digits, of a number with `whole` integer digits
+pub record HoldsDigits (whole k : ℕ) (v : Unsigned) (ds : List ℕ) : Type 0 where
+  pub digits : AllBelowBase 10 ds
+  pub count : length ds ≡ k
+  pub value : v ≡ value_of_first whole ds
 
 -- the value that the digits write
 abbrev pub value_of : Numeral → Unsigned
 value_of w = value_of_first (length w.whole) (w.whole ++ w.fraction)
-
--- a scan found the sign and the numbers of digits of this numeral
-pub record HasCounts (r : Scanned) (w : Numeral) : Type 0 where
-  pub sign : r.sign ≡ w.sign
-  pub whole : r.integer_digits ≡ length w.whole
-  pub fraction : r.fraction_digits ≡ length w.fraction
 
 -- the numerals of a text, by whether it has all separators or none
 abbrev pub IsNumeralBy : Bool → Symbols → List ℕ → Numeral → Type 0

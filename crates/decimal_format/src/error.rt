@@ -1,6 +1,4 @@
 //! The error of symbols, and its messages.
-ghost use Rattle.std.specs.Prelude.{◌≡◌};
-ghost use Rattle.decimal_format.specs.ErrorText.{symbols_error_text};
 
 use std::error::Error;
 use std::fmt;
@@ -25,10 +23,7 @@ pub enum SymbolsError {
 }
 
 impl SymbolsError {
-    /// Returns the message.
-    fn message(&self) -> &'static str
-        ensures { result.now ≡ symbols_error_text self.now }
-    {
+    fn message(&self) -> &'static str {
         match self {
             SymbolsError::DigitWidths => "The digits differ in length",
             SymbolsError::DecimalTooLong => "The decimal separator has more than 255 bytes",
@@ -48,13 +43,6 @@ impl SymbolsError {
 }
 
 impl fmt::Display for SymbolsError {
-    ghost use Rattle.std.specs.Prelude.{Some};
-    ghost use Rattle.decimal_format.specs.ErrorText.{symbols_error_text};
-
-    ghost output = { λ e. Some (symbols_error_text e) };
-
-    ghost styled_output = { λ e _. Some (symbols_error_text e) };
-
     /// Writes the message: `The digits differ in length` for `DigitWidths`. Format options are ignored.
     fn fmt<W: fmt::Write>(&self, f: &mut fmt::Formatter<W>) -> fmt::Result {
         f.write_str(self.message())

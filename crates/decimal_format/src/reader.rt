@@ -1,60 +1,39 @@
 //! Reading of formatted decimals.
-ghost use Rattle.std.specs.Prelude.{◌≡◌, ◌≢◌, ℕ, ◌≤◌, List, [], ◌++◌, length, ◌<◌, Bool, true, false, ◌↔◌, IfSome, IfNone, IfOk, MatchOption, MatchResult, IsTrue, Err};
+ghost use Rattle.std.specs.Prelude.{◌≡◌, ◌≢◌, ℕ, List, ◌++◌, length, Bool, IfSome, IfNone};
 ghost use Rattle.std.specs.Int.Digits.{AllBelowBase};
-ghost use Rattle.decimal_format.specs.Ascii.{ascii_digits};
 ghost use Rattle.decimal_format.specs.Grouping.{ends_group};
 ghost use Rattle.decimal_format.specs.Readable.{IsReadable};
-ghost use Rattle.decimal_format.specs.Reading.{Numeral, AreDigits, digits_text, fraction_text, IsNumeral, IsBeyondLimits, IsWritten, IsRead};
+ghost use Rattle.decimal_format.specs.Reading.{Numeral, digits_text, fraction_text, IsNumeral, IsWritten, IsRead};
 ghost use Rattle.decimal_format.specs.Lenient.{IsLenientNumeral};
-ghost use Rattle.decimal_format.specs.Scanning.{separated_if, SkipsSeparator, EndsInteger, ReadsDigits, ReadsAs, HasCounts, IsValueOf, IsNumeralBy, IsWrittenBy};
-ghost use Rattle.decimal_format.specs.Collecting.{Collects, IsFresh};
+ghost use Rattle.decimal_format.specs.Scanning.{separated_if, SkipsSeparator, IsSpelled, ReadsSpelled, ReadsDigits, HasPart, IsScan, IsNumeralBy, IsWrittenBy};
 
 mod codes;
-mod digit_collector;
 pub(crate) mod input;
 mod lenient;
+mod value;
 
 use crate::symbols::DecimalSymbols;
 use codes::cut;
-use digit_collector::{DigitCollector, MAX_DIGITS, MAX_RUN};
 use fixed_decimal::{DigitStore, ParseError, Sign, Signed, UnsignedOver};
 use input::Input;
 use std::alloc::Global;
 
-/// What a text says: a sign, and the numbers of its digits.
+/// Digits of a text: the text that begins with them, their number, and the last sixteen as packed BCD.
 #[derive(Clone, Copy)]
-struct Scanned {
-    sign: Sign,
-    integer_digits: usize,
-    fraction_digits: usize,
-    /// Whether the text has all grouping separators, or none.
-    is_strict: bool,
+pub struct Part<T> {
+    text: T,
+    count: usize,
+    number: u64,
 }
 
-impl Scanned {
-    /// Returns whether there are more digits on a side than a value can have.
-    fn is_beyond_limits(&self) -> bool
-        ensures { (w : Numeral) → HasCounts self.now w → IsTrue result ↔ IsBeyondLimits w }
-    {
-        self.integer_digits > MAX_DIGITS || self.fraction_digits > MAX_DIGITS
-    }
-
-    /// Returns the value of the digits.
-    #[inline]
-    fn value<D: DigitStore>(
-        &self,
-        digits: &mut DigitCollector<D>,
-    ) -> Result<Signed<UnsignedOver<D>>, ParseError>
-        requires { (n : ℕ) × (ds : List ℕ) × Collects D.L n digits.old ds }
-        ensures { (w : Numeral) → 0 < length w.whole → HasCounts self.now w
-            → Collects D.L (length w.whole) digits.old (w.whole ++ w.fraction) → IsValueOf D.L w result }
-    {
-        if self.is_beyond_limits() {
-            return Err(ParseError::Limit);
-        }
-        let absolute = digits.value()?;
-        Ok(Signed::new(self.sign, absolute))
-    }
+/// What a text says: a sign and digits.
+#[derive(Clone, Copy)]
+pub struct Scanned<T> {
+    sign: Sign,
+    whole: Part<T>,
+    fraction: Part<T>,
+    /// Whether the text has all grouping separators, or none.
+    is_strict: bool,
 }
 
 impl<'a> DecimalSymbols<'a> {
@@ -71,45 +50,38 @@ impl<'a> DecimalSymbols<'a> {
         }
     }
 
-    /// Counts the digits at the start of a text, with grouping separators anywhere among them.
+    /// Reads up to `most` digits, with grouping separators anywhere: returns the last sixteen as packed BCD, their
+    /// number, and what follows them.
     #[inline]
-    fn count_digits<const ASCII: bool, T: Input>(&self, text: T) -> usize
-        requires readable { IsReadable self.now }
-        requires ascii { ASCII ≡ true → self.now.digits ≡ ascii_digits }
-        ensures { (separated : ℕ → Bool) (ds tail : List ℕ) → AllBelowBase 10 ds → EndsInteger self.now tail
-            → T.bytes text ≡ digits_text self.now separated ds ++ tail → result ≡ length ds }
+    fn read_separated<T: Input>(&self, most: usize, text: T) -> (u64, usize, T)
+        requires { IsReadable self.now }
+        ensures { (ds : List ℕ) → IsSpelled self.now (T.bytes text) ds
+            → ReadsSpelled self.now most (T.bytes result.2) result.0 result.1 ds }
     {
-        if text.is_empty() {
-            return 0;
-        }
         let mut rest = text;
+        let mut number = 0;
         let mut count = 0;
-        loop {
-            if let Some(next) = self.next_digit::<ASCII, T>(rest) {
+        while count < most {
+            if let Some(next) = self.next_digit(rest) {
+                number = (number << 4) + u64::from(next.0);
                 count += 1;
                 rest = next.1;
             } else if let Some(after) = cut(rest, self.grouping_separator().as_bytes()) {
                 rest = after;
             } else {
-                return count;
+                return (number, count, rest);
             }
         }
+        (number, count, rest)
     }
 
     /// Reads the given number of digits, with separators at any ends of groups, and returns whether all separators are
     /// there, or none, and what follows the digits.
     #[inline]
-    fn read_digits<const ASCII: bool, T: Input, D: DigitStore>(
-        &self,
-        count: usize,
-        text: T,
-        digits: &mut DigitCollector<D>,
-    ) -> Option<(bool, T)>
-        requires readable { IsReadable self.now }
-        requires ascii { ASCII ≡ true → self.now.digits ≡ ascii_digits }
-        requires collecting { (n : ℕ) × (ds : List ℕ) × Collects D.L n digits.old ds }
+    fn read_digits<T: Input>(&self, count: usize, text: T) -> Option<(bool, T)>
+        requires { IsReadable self.now }
         ensures found { IfSome result (λ r. ReadsDigits self.now (ends_group self.now.sizes) count
-            (T.bytes text) (T.bytes r.1) r.0 digits.old digits.new) }
+            (T.bytes text) (T.bytes r.1) r.0) }
         ensures unique { IfSome result (λ r. (chosen : ℕ → Bool) (ds tail : List ℕ) → length ds ≡ count
             → AllBelowBase 10 ds
             → T.bytes text ≡ digits_text self.now (separated_if (ends_group self.now.sizes) chosen) ds ++ tail
@@ -123,12 +95,11 @@ impl<'a> DecimalSymbols<'a> {
         let mut all = true;
         let mut none = true;
         while left > 0 {
-            let (most, possible) = self.sizes().run_to_end(left - 1, MAX_RUN);
-            let (number, found, after) = self.read_run::<ASCII, T>(most, rest);
+            let (most, possible) = self.sizes().run_to_end(left - 1);
+            let (_, found, after) = self.read_run(most, rest);
             if found < most {
                 return None;
             }
-            digits.push_run(number, found);
             left -= most;
             let (separated, next) = self.skip_separator(possible, after);
             all &= separated == possible;
@@ -138,109 +109,63 @@ impl<'a> DecimalSymbols<'a> {
         Some((all | none, rest))
     }
 
-    /// Reads the digits of a text that has nothing else, at least one, and returns their number.
+    /// Reads the decimal separator and the fraction digits, if there are any, to the end of a text.
     #[inline]
-    fn read_last_digits<const ASCII: bool, T: Input, D: DigitStore>(
-        &self,
-        text: T,
-        digits: &mut DigitCollector<D>,
-    ) -> Option<usize>
-        requires readable { IsReadable self.now }
-        requires ascii { ASCII ≡ true → self.now.digits ≡ ascii_digits }
-        requires collecting { (n : ℕ) × (ds : List ℕ) × Collects D.L n digits.old ds }
-        ensures found { IfSome result (λ count. (T.bytes text ≢ [])
-            × ReadsAs (digits_text self.now (λ _. false)) (T.bytes text) count digits.old digits.new) }
-        ensures none { IfNone result ((ds : List ℕ) → AllBelowBase 10 ds → 0 < length ds
-            → T.bytes text ≢ digits_text self.now (λ _. false) ds) }
-    {
-        if text.is_empty() {
-            return None;
-        }
-        let mut rest = text;
-        let mut count = 0;
-        while !rest.is_empty() {
-            let (number, found, after) = self.read_run::<ASCII, T>(MAX_RUN, rest);
-            if found == 0 {
-                return None;
-            }
-            digits.push_run(number, found);
-            count += found;
-            rest = after;
-        }
-        Some(count)
-    }
-
-    /// Reads the decimal separator and the fraction digits, if there are any, and returns their number.
-    #[inline]
-    fn read_fraction<const ASCII: bool, T: Input, D: DigitStore>(
-        &self,
-        text: T,
-        digits: &mut DigitCollector<D>,
-    ) -> Option<usize>
-        requires readable { IsReadable self.now }
-        requires ascii { ASCII ≡ true → self.now.digits ≡ ascii_digits }
-        requires collecting { (n : ℕ) × (ds : List ℕ) × Collects D.L n digits.old ds }
-        ensures found { IfSome result (λ count. ReadsAs (fraction_text self.now) (T.bytes text) count digits.old
-            digits.new) }
+    fn read_fraction<T: Input>(&self, text: T) -> Option<Part<T>>
+        requires { IsReadable self.now }
+        ensures found { IfSome result (λ r. (ds : List ℕ) × (T.bytes text ≡ fraction_text self.now ds)
+            × HasPart self.now T.bytes r ds) }
         ensures none { IfNone result ((ds : List ℕ) → AllBelowBase 10 ds → T.bytes text ≢ fraction_text self.now ds) }
     {
         if text.is_empty() {
-            return Some(0);
+            return Some(Part {
+                text,
+                count: 0,
+                number: 0,
+            });
         }
-        let fraction = cut(text, self.decimal_separator().as_bytes())?;
-        self.read_last_digits::<ASCII, T, D>(fraction, digits)
-    }
-
-    /// Finds the sign and the digits of a text, with separators at any ends of groups; `ASCII` only for ASCII
-    /// digits.
-    #[inline]
-    fn scan_by<const ASCII: bool, T: Input, D: DigitStore>(
-        &self,
-        text: T,
-        digits: &mut DigitCollector<D>,
-    ) -> Option<Scanned>
-        requires readable { IsReadable self.now }
-        requires ascii { ASCII ≡ true → self.now.digits ≡ ascii_digits }
-        requires fresh { IsFresh D.L digits.old }
-        ensures found { IfSome result (λ r. (w : Numeral) × IsLenientNumeral self.now (T.bytes text) w × HasCounts r w
-            × Collects D.L (length w.whole) digits.new (w.whole ++ w.fraction)
-            × (r.is_strict ≡ true ↔ IsNumeral self.now (T.bytes text) w)) }
-        ensures none { IfNone result ((w : Numeral) → ¬ IsLenientNumeral self.now (T.bytes text) w) }
-    {
-        let (sign, number) = self.split_sign(text)?;
-        let integer_digits = self.count_digits::<ASCII, T>(number);
-        if integer_digits == 0 {
+        let digits = cut(text, self.decimal_separator().as_bytes())?;
+        let (number, count, rest) = self.read_run(usize::MAX, digits);
+        if count == 0 {
             return None;
         }
-        digits.begin(integer_digits);
-        let (is_strict, rest) = self.read_digits::<ASCII, T, D>(integer_digits, number, digits)?;
-        let fraction_digits = self.read_fraction::<ASCII, T, D>(rest, digits)?;
-        Some(Scanned {
-            sign,
-            integer_digits,
-            fraction_digits,
-            is_strict,
+        if !rest.is_empty() {
+            return None;
+        }
+        Some(Part {
+            text: digits,
+            count,
+            number,
         })
     }
 
     /// Finds the sign and the digits of a text, with separators at any ends of groups.
     #[inline]
-    fn scan<T: Input, D: DigitStore>(
-        &self,
-        text: T,
-        digits: &mut DigitCollector<D>,
-    ) -> Option<Scanned>
-        requires readable { IsReadable self.now }
-        requires fresh { IsFresh D.L digits.old }
-        ensures found { IfSome result (λ r. (w : Numeral) × IsLenientNumeral self.now (T.bytes text) w × HasCounts r w
-            × Collects D.L (length w.whole) digits.new (w.whole ++ w.fraction)
-            × (r.is_strict ≡ true ↔ IsNumeral self.now (T.bytes text) w)) }
+    fn scan<T: Input>(&self, text: T) -> Option<Scanned<T>>
+        requires { IsReadable self.now }
+        ensures found { IfSome result (λ r. (w : Numeral) × IsScan self.now T.bytes (T.bytes text) r w) }
         ensures none { IfNone result ((w : Numeral) → ¬ IsLenientNumeral self.now (T.bytes text) w) }
     {
-        if self.has_ascii_digits() {
-            return self.scan_by::<true, T, D>(text, digits);
+        let (sign, digits) = self.split_sign(text)?;
+        if digits.is_empty() {
+            return None;
         }
-        self.scan_by::<false, T, D>(text, digits)
+        let (number, count, _) = self.read_separated(usize::MAX, digits);
+        if count == 0 {
+            return None;
+        }
+        let (is_strict, rest) = self.read_digits(count, digits)?;
+        let fraction = self.read_fraction(rest)?;
+        Some(Scanned {
+            sign,
+            whole: Part {
+                text: digits,
+                count,
+                number,
+            },
+            fraction,
+            is_strict,
+        })
     }
 
     /// Reads a decimal with separators at any of the ends of groups; or only with all of them, or none.
@@ -254,14 +179,13 @@ impl<'a> DecimalSymbols<'a> {
         ensures { IsRead D.L (IsNumeralBy is_strict self.now (T.bytes text))
             (IsWrittenBy is_strict self.now (T.bytes text)) result }
     {
-        let mut digits = DigitCollector::new(alloc);
-        let Some(scanned) = self.scan(text, &mut digits) else {
+        let Some(scanned) = self.scan(text) else {
             return Err(ParseError::Syntax);
         };
         if is_strict && !scanned.is_strict {
             return Err(ParseError::Syntax);
         }
-        scanned.value(&mut digits)
+        self.value(alloc, &scanned)
     }
 
     /// Reads a decimal in exactly one of the forms that a formatter with these symbols writes.

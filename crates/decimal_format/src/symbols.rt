@@ -208,31 +208,21 @@ impl<'a> DecimalSymbols<'a> {
         self.sizes
     }
 
-    /// Returns the text before a number with this sign.
+    /// Returns the texts before and after a number with this sign.
     #[inline]
-    pub fn prefix(&self, sign: Sign) -> &str
-        ensures value { result.now ≡ (sign_affixes self.now sign).prefix }
-        ensures at_most { length result.now ≤ 255 }
+    pub fn affixes(&self, sign: Sign) -> Affixes<'_>
+        ensures prefix { result.prefix.now ≡ (sign_affixes self.now sign).prefix }
+        ensures suffix { result.suffix.now ≡ (sign_affixes self.now sign).suffix }
+        ensures at_most { (length result.prefix.now ≤ 255) × (length result.suffix.now ≤ 255) }
     {
         let _ = &self.minus;
         match sign {
-            Sign::None => "",
-            Sign::Negative => self.minus.prefix,
-            Sign::Positive => self.plus.prefix,
-        }
-    }
-
-    /// Returns the text after a number with this sign.
-    #[inline]
-    pub fn suffix(&self, sign: Sign) -> &str
-        ensures value { result.now ≡ (sign_affixes self.now sign).suffix }
-        ensures at_most { length result.now ≤ 255 }
-    {
-        let _ = &self.minus;
-        match sign {
-            Sign::None => "",
-            Sign::Negative => self.minus.suffix,
-            Sign::Positive => self.plus.suffix,
+            Sign::None => Affixes {
+                prefix: "",
+                suffix: "",
+            },
+            Sign::Negative => self.minus,
+            Sign::Positive => self.plus,
         }
     }
 }

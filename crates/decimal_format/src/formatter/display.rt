@@ -42,8 +42,9 @@ impl<'f, D: DigitStore> fmt::Display for FormattedDecimal<'f, D> {
     ///
     /// The formatter fails.
     fn fmt<W: fmt::Write>(&self, f: &mut fmt::Formatter<W>) -> fmt::Result {
-        f.write_str(self.prefix())?;
+        let affixes = self.affixes();
+        f.write_str(affixes.prefix)?;
         self.fmt_absolute(f)?;
-        f.write_str(self.suffix())
+        f.write_str(affixes.suffix)
     }
 }

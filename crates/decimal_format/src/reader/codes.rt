@@ -1,6 +1,5 @@
 //! The codes that a text consists of: digits, separators and the prefixes of signs.
 ghost use Rattle.std.specs.Prelude.{◌≡◌, ◌≢◌, ℕ, ◌+◌, ◌<◌, ◌≤◌, List, ◌∷◌, ◌++◌, ◌↔◌, IfSome, IsSomeAnd, MatchOption, IsTrue, true};
-ghost use Rattle.decimal_format.specs.Ascii.{ascii_digits};
 ghost use Rattle.decimal_format.specs.Symbols.{digit_text, sign_affixes};
 ghost use Rattle.decimal_format.specs.Readable.{code, BeginsWith, IsOther, IsApart, IsReadable};
 ghost use Rattle.decimal_format.specs.Scanning.{BeginsWithDigit, ReadsRun};
@@ -68,8 +67,8 @@ impl<'a> DecimalSymbols<'a> {
         match index {
             10 => self.decimal_separator().as_bytes(),
             11 => self.grouping_separator().as_bytes(),
-            12 => self.prefix(Sign::Negative).as_bytes(),
-            13 => self.prefix(Sign::Positive).as_bytes(),
+            12 => self.affixes(Sign::Negative).prefix.as_bytes(),
+            13 => self.affixes(Sign::Positive).prefix.as_bytes(),
             _ => self.digit(index).encode_utf8(buffer).as_bytes(),
         }
     }
@@ -144,18 +143,31 @@ impl<'a> DecimalSymbols<'a> {
         if digit < 10 { Some(digit as u8) } else { None }
     }
 
-    /// Returns the digit that a text begins with, and what follows it; `ASCII` only for ASCII digits.
+    /// Returns the digit that a text begins with, and what follows it.
     #[inline(always)]
-    pub(crate) fn next_digit<const ASCII: bool, T: Input>(&self, text: T) -> Option<(u8, T)>
-        requires readable { IsReadable self.now }
-        requires ascii { ASCII ≡ true → self.now.digits ≡ ascii_digits }
+    pub(crate) fn next_digit<T: Input>(&self, text: T) -> Option<(u8, T)>
+        requires { IsReadable self.now }
         ensures { MatchOption result ((d : ℕ) (rest : List ℕ) → d < 10 → T.bytes text ≢ digit_text self.now d ++ rest)
             (λ r. (r.0 < 10) × (T.bytes text ≡ digit_text self.now r.0 ++ T.bytes r.1)) }
     {
-        if ASCII {
+        if self.has_ascii_digits() {
             return next_ascii_digit(text);
         }
         self.next_other_digit(text)
+    }
+
+    /// Returns whether a text begins with a separator, and so with no digit.
+    fn begins_with_separator<T: Input>(&self, text: T) -> bool
+        requires { IsReadable self.now }
+        ensures { IsTrue result → (d : ℕ) (rest : List ℕ) → d < 10 → T.bytes text ≢ digit_text self.now d ++ rest }
+    {
+        if let Some(_) = cut(text, self.grouping_separator().as_bytes()) {
+            return true;
+        }
+        if let Some(_) = cut(text, self.decimal_separator().as_bytes()) {
+            return true;
+        }
+        false
     }
 
     /// Returns the digit that a text begins with, and what follows it, by any digits.
@@ -173,6 +185,9 @@ impl<'a> DecimalSymbols<'a> {
                 return Some((digit, rest));
             }
         }
+        if self.begins_with_separator(text) {
+            return None;
+        }
         for digit in 0..10 {
             if let Some(rest) = self.cut_digit(text, digit) {
                 return Some((digit, rest));
@@ -181,27 +196,21 @@ impl<'a> DecimalSymbols<'a> {
         None
     }
 
-    /// Reads digits that follow each other, at most the given number: returns them as packed BCD, their number, and
-    /// what follows them.
+    /// Reads up to `most` digits that follow each other: returns the last sixteen as packed BCD, their number, and what
+    /// follows them.
     #[inline(always)]
-    pub(crate) fn read_run<const ASCII: bool, T: Input>(
-        &self,
-        most: usize,
-        text: T,
-    ) -> (u64, usize, T)
-        requires readable { IsReadable self.now }
-        requires ascii { ASCII ≡ true → self.now.digits ≡ ascii_digits }
-        requires at_most { most ≤ 8 }
+    pub(crate) fn read_run<T: Input>(&self, most: usize, text: T) -> (u64, usize, T)
+        requires { IsReadable self.now }
         ensures { ReadsRun self.now most (T.bytes text) (T.bytes result.2) result.0 result.1 }
     {
         let mut rest = text;
         let mut number = 0;
         let mut count = 0;
         while count < most {
-            let Some(next) = self.next_digit::<ASCII, T>(rest) else {
+            let Some(next) = self.next_digit(rest) else {
                 return (number, count, rest);
             };
-            number = number * 16 + u64::from(next.0);
+            number = (number << 4) + u64::from(next.0);
             count += 1;
             rest = next.1;
         }
@@ -217,10 +226,10 @@ impl<'a> DecimalSymbols<'a> {
             → T.bytes text ≡ (sign_affixes self.now sign).prefix ++ rest
             → (result.0 ≡ sign) × (T.bytes result.1 ≡ rest) }
     {
-        if let Some(rest) = cut(text, self.prefix(Sign::Negative).as_bytes()) {
+        if let Some(rest) = cut(text, self.affixes(Sign::Negative).prefix.as_bytes()) {
             return (Sign::Negative, rest);
         }
-        if let Some(rest) = cut(text, self.prefix(Sign::Positive).as_bytes()) {
+        if let Some(rest) = cut(text, self.affixes(Sign::Positive).prefix.as_bytes()) {
             return (Sign::Positive, rest);
         }
         (Sign::None, text)
@@ -243,7 +252,7 @@ impl<'a> DecimalSymbols<'a> {
             }
         }
         let (sign, rest) = self.split_prefix(text);
-        let number = cut_end(rest, self.suffix(sign).as_bytes())?;
+        let number = cut_end(rest, self.affixes(sign).suffix.as_bytes())?;
         Some((sign, number))
     }
 }

@@ -162,10 +162,10 @@ impl<'a> DecimalSymbols<'a> {
             return &[];
         }
         if is_minus(c) {
-            return self.prefix(Sign::Negative).as_bytes();
+            return self.affixes(Sign::Negative).prefix.as_bytes();
         }
         if is_plus(c) {
-            return self.prefix(Sign::Positive).as_bytes();
+            return self.affixes(Sign::Positive).prefix.as_bytes();
         }
         if self.is_separator(c) {
             return self.grouping_separator().as_bytes();

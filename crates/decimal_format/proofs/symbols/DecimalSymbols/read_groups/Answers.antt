@@ -1,4 +1,4 @@
-use Rattle.std.proofs.Common.{◌≡◌, ◌++◌, length, true, false, subst, sym, ◌∙◌}
+use Rattle.std.proofs.Common.{◌≡◌, true, false, subst, sym, ◌∙◌}
 use Rattle.decimal_format.specs.Reading.{Numeral, IsNumeral}
 use Rattle.decimal_format.proofs.NumeralLaws.{texts_by, lenient-unique, numeral_is_lenient, numeral_by_is_lenient, numeral_by, none_by, nothing_read, value_read}
 use Rattle.decimal_format.proofs.symbols.DecimalSymbols.read_groups.Goals.{else-is_strict-via-then-is_strict+else-not-scanned, else-is_strict-via-else-is_strict}
@@ -21,14 +21,10 @@ returns-then-not-scanned g c =
     let strict = c.args.is_strict in
     let found = c.in-Some.ensures.found in
     let none = λ (w : Numeral) (numeral : IsNumeral s text w).
-    let same = lenient-unique s c.requires text w found.0 (numeral_is_lenient s text w numeral) found.1 in
-    let t : c.in-Some.scanned.is_strict ≡ true = found.4.1 (subst (IsNumeral s text) same numeral) in
+    let same = lenient-unique s c.requires text w found.0 (numeral_is_lenient s text w numeral) found.1.numeral in
+    let t : c.in-Some.scanned.is_strict ≡ true = found.1.strict.1 (subst (IsNumeral s text) same numeral) in
     let n : true ≡ false = sym t ∙ c.if-not-scanned.true in let no : ⊥ = cc in no in
     nothing_read (texts_by strict s c.requires text) g.D.DigitStore.L (none_by strict s text c.if-is_strict.true none)
-
-pub value-requires : goal.value-requires
-value-requires g c =
-    let found = c.in-Some.ensures.found in (length found.0.whole, found.0.whole ++ found.0.fraction, found.3)
 
 pub returns : goal.returns
 returns g c =
@@ -36,11 +32,11 @@ returns g c =
     let text = g.T.Input.bytes c.args.text in
     let strict = c.args.is_strict in
     let found = c.in-Some.ensures.found in
-    let numeral = numeral_by strict c.in-Some.scanned.is_strict s text found.0 found.1 found.4.0
+    let numeral = numeral_by strict c.in-Some.scanned.is_strict s text found.0 found.1.numeral found.1.strict.0
     (λ asked. elim c.else-is_strict.branch [
       | else-is_strict-via-then-is_strict+else-not-scanned w ↦ w.if-not-scanned.false
       | else-is_strict-via-else-is_strict w ↦
           let t : true ≡ false = sym asked ∙ w.if-is_strict.false in absurd (cc)
     ]) in
     value_read (texts_by strict s c.requires text) g.D.DigitStore.L found.0 numeral c.value.result
-    (c.value.ensures found.0 found.1.digits.some found.2 found.3)
+    (c.value.ensures text found.0 found.1)

@@ -1,5 +1,4 @@
 use Rattle.std.proofs.Common.{arith}
-use Rattle.decimal_format.proofs.Bcd.{bcd_room}
 use Rattle.decimal_format.proofs.Scans.{run_none, run_push, run_most}
 use Rattle.decimal_format.proofs.symbols.DecimalSymbols.read_run.Goals as goal
 
@@ -13,20 +12,6 @@ loop-count-preserved g c =
       at_most = omega (arith, c.loop-count-test.true);
       read = run_push (g.T.Input.bytes c.in-Some.next.1) c.from.result next.0 next.1 c.loop-count.invariant.read;
     }
-
-pub overflow_mul-number : goal.overflow_mul-number
-overflow_mul-number g c =
-    let read = c.loop-count.invariant.read in
-    let room = bcd_room c.loop-count.number c.loop-count.count read.digits read.bcd
-    (omega (arith, c.loop-count-test.true, c.requires.at_most)) in
-    record { fits = omega (arith, room) }
-
-pub overflow_add-number : goal.overflow_add-number
-overflow_add-number g c =
-    let read = c.loop-count.invariant.read in
-    let room = bcd_room c.loop-count.number c.loop-count.count read.digits read.bcd
-    (omega (arith, c.loop-count-test.true, c.requires.at_most)) in
-    record { fits = omega (arith, room, c.from.ensures, c.in-Some.ensures.0) }
 
 pub returns : goal.returns
 returns g c =

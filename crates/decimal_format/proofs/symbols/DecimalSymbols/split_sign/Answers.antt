@@ -32,7 +32,7 @@ returns-clause-unique g c = λ sign number begins e.
     let suffix = (sign_affixes s sign).suffix in
     let u = c.split_prefix-sign.ensures.unique sign (number ++ suffix) (begins-append s number suffix begins) e in
     let code : c.as_bytes.result.now ≡ suffix =
-    c.as_bytes.ensures.value ∙ c.suffix.ensures.value ∙ ap (λ x. (sign_affixes s x).suffix) u.0 in (
+    c.as_bytes.ensures.value ∙ c.affixes.ensures.suffix ∙ ap (λ x. (sign_affixes s x).suffix) u.0 in (
       u.0,
       append_cancel_right (g.T.Input.bytes c.in_ok-number.number) number suffix
           (ap (λ l. (g.T.Input.bytes c.in_ok-number.number) ++ l) (sym code) ∙ sym c.in_ok-number.ensures ∙ u.1),
