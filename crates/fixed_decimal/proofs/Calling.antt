@@ -75,6 +75,8 @@ pub use Rattle.decimal_unsigned.proofs.ReadingGrammar.{follows_grammar}
 pub use Rattle.decimal_unsigned.proofs.ValueLaws.{trimmed_is_normal_form}
 -- a multiple of the unit is rounded to itself
 pub use Rattle.decimal_digits.proofs.RoundingLaws.{rounded_number-multiple}
+-- the same rounding again changes nothing
+pub use Rattle.decimal_digits.proofs.RoundingLaws.{rounded_number-idempotent}
 -- a greater number is rounded to no less
 pub use Rattle.decimal_digits.proofs.RoundingLaws.{rounded_number-monotone}
 -- a prefix is a prefix of a longer text; a text and then a prefix of the next; the empty text is a prefix of each

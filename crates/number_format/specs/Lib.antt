@@ -6,3 +6,4 @@ pub mod Resolved
 pub mod Exponents
 pub mod ScaledValue
 pub mod Scaled
+pub mod DigitLaws

@@ -1,5 +1,5 @@
 -- ECMA-402's SetNumberFormatDigitOptions: the options that the given numbers of digits name, or the error.
-use Rattle.std.specs.Prelude.{◌≡◌, ℕ, ◌==◌, min, max, nat_le, Bool, true, false, ◌||◌, ◌&&◌, not, if◌then◌else◌, Option, Some, None, unwrap_or, is_some}
+use Rattle.std.specs.Prelude.{◌≡◌, ◌≢◌, ℕ, ◌==◌, min, max, nat_le, Bool, true, false, ◌||◌, ◌&&◌, not, if◌then◌else◌, Option, Some, None, unwrap_or, is_some}
 use Rattle.number_format.specs.declared.digit_options.DigitOptions.{DigitOptions}
 use Rattle.number_format.specs.declared.digit_ranges.FractionDigits.{FractionDigits}
 use Rattle.number_format.specs.declared.digit_ranges.SignificantDigits.{SignificantDigits}
@@ -85,7 +85,7 @@ IsBoth b f s = HasFraction b.fraction f × HasSignificant b.significant s × (b.
 abbrev pub IsOfKind : Kind → Counts → Counts → ℕ → Precision → Type 0
 IsOfKind by_fraction f s increment (Fraction x) = (increment ≡ 1) × HasFraction x f
 IsOfKind by_fraction f s increment (Multiples x) =
-    (increment_of x.increment ≡ increment) × (x.digits ≡ f.least) × (x.digits ≡ f.greatest)
+    (increment ≢ 1) × (increment_of x.increment ≡ increment) × (x.digits ≡ f.least) × (x.digits ≡ f.greatest)
 IsOfKind by_significant f s increment (Significant x) = (increment ≡ 1) × HasSignificant x s
 IsOfKind by_more f s increment (Finer b) = (increment ≡ 1) × IsBoth b f s
 IsOfKind by_less f s increment (Coarser b) = (increment ≡ 1) × IsBoth b f s

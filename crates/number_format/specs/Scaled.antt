@@ -53,17 +53,17 @@ abbrev pub written : DigitOptions → Decimal → ℤ → Settled → Option Sca
 written o v base s =
     if int_lt (last s.rounded.number -ℤ pos s.exponent) lowest_magnitude then None
     else Some (scaled_value
-        (record v {
-          absolute = shown o (s.rounded.number / 10 ^ s.exponent) (s.rounded.last_shown -ℤ pos s.exponent)
-        })
-        (base +ℤ pos s.exponent))
+    (record v {
+      absolute = shown o (s.rounded.number / 10 ^ s.exponent) (s.rounded.last_shown -ℤ pos s.exponent);
+    })
+    (base +ℤ pos s.exponent))
 
 -- the significand and the exponent of a decimal; one whose exponent is below 0 is multiplied by its power of ten first
 abbrev pub scaled : Notation → DigitOptions → Decimal → Option ScaledValue
 scaled notation o v =
     let base = int_min (pos 0) (exponent_at notation (first v.absolute.number)) in
     option_and_then (written o v base)
-        (settled notation o (with_number v (v.absolute.number * 10 ^ unsigned_abs base)))
+    (settled notation o (with_number v (v.absolute.number * 10 ^ unsigned_abs base)))
 
 -- ---- Private: results of private functions.
 

@@ -86,11 +86,14 @@ rounded_by (LessPrecision b) mode exponent n =
     let f = to_fraction mode b.fraction exponent n in
     with_minimum b exponent b.minimum (if int_le s.last_kept f.last_kept then f else s)
 
--- the lowest magnitude that is shown: that of the last nonzero digit, or of the last zero that is to be shown
+-- the magnitude of the last nonzero digit, or of the last zero that is to be shown, if that is lower
+abbrev pub last_digit : ℕ → ℤ → ℤ
+last_digit number end = int_min (int_min (int_max end lowest_magnitude) (pos 0)) (last number)
+
+-- the lowest magnitude that is shown: 0 if the fraction digits of an integer are stripped
 abbrev pub lowest_shown : TrailingZeros → ℕ → ℤ → ℤ
-lowest_shown Auto number end = int_min (int_min (int_max lowest_magnitude end) (pos 0)) (last number)
-lowest_shown StripIfInteger number end =
-    if int_lt (last number) (pos 0) then lowest_shown Auto number end else pos 0
+lowest_shown Auto number end = last_digit number end
+lowest_shown StripIfInteger number end = if int_lt (last number) (pos 0) then last_digit number end else pos 0
 
 -- the digits of a rounded number that options show, with zeros down to a magnitude: digits above the greatest number of
 -- integer digits are cut off
