@@ -36,7 +36,8 @@ multiples_unit : (m : FractionMultiples) (exponent : ℕ)
     ≡ unit_at m.increment.base (fraction_end exponent m.digits +ℤ pos m.increment.zeros)
 multiples_unit m exponent =
     let up = weight_up (fraction_end exponent m.digits) m.increment.zeros (omega (arith, ints, m.at_most)) in
-    let split = mul_assoc (step_of m.increment.base) (10 ^ m.increment.zeros) (weight (fraction_end exponent m.digits)) in
+    let split =
+    mul_assoc (step_of m.increment.base) (10 ^ m.increment.zeros) (weight (fraction_end exponent m.digits)) in
     let each = ap (λ w. step_of m.increment.base * w) up in
     omega (arith, split, each)
 

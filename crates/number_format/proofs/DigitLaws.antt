@@ -66,7 +66,8 @@ module _ (o : DigitOptions) (f : FractionDigits) (v : Decimal) where
       let whole : v.absolute.number % weight (pos o.integer.max) ≡ v.absolute.number =
       ap (λ m. v.absolute.number % weight (pos m)) all ∙ mod-eq_of_lt few in
       let fits : reaches_limit (rounded_at o 0 v).number ≡ false =
-      ap reaches_limit number ∙ (let t : nat_le number_limit v.absolute.number ≡ false = grind (arith, nat_tests) in t) in
+      ap reaches_limit number
+      ∙ (let t : nat_le number_limit v.absolute.number ≡ false = grind (arith, nat_tests) in t) in
       let digits : shown o (rounded_at o 0 v).number (rounded_at o 0 v).last_shown ≡ v.absolute =
       (λ i. shown o (number i) (end i))
       ∙ (λ i. record {

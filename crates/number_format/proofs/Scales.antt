@@ -84,11 +84,13 @@ module _ (notation : Notation) (o : DigitOptions) where
       pub settled-kept : next ≤ exponent → settled notation o old ≡ Some (settled_with exponent once)
       settled-kept h =
           let t : nat_lt exponent (whole_exponent notation once.number) ≡ false =
-          subst (λ x. nat_lt exponent x ≡ false) next_is (let f : nat_lt exponent next ≡ false = grind (arith, nat_tests) in f) in
+          subst (λ x. nat_lt exponent x ≡ false) next_is
+          (let f : nat_lt exponent next ≡ false = grind (arith, nat_tests) in f) in
           settled_is ∙ (rw t refl)
 
       again_is : exponent < next
-          → settled notation o old ≡ option_map (settled_with next) (rounded_within o next (with_number old once.number))
+          → settled notation o old
+          ≡ option_map (settled_with next) (rounded_within o next (with_number old once.number))
       again_is h =
           let t : nat_lt exponent next ≡ true = grind (arith, nat_tests) in
           settled_is
@@ -122,11 +124,14 @@ not_below z h = grind (arith, ints)
 module _ (notation : Notation) (o : DigitOptions) (v raised : Decimal) (base : ℤ)
     (is : base ≡ int_min (pos 0) (exponent_at notation (first v.absolute.number)))
     (sign : raised.sign ≡ v.sign) (number : raised.absolute.number ≡ v.absolute.number * 10 ^ unsigned_abs base) where
+  abbrev raised_by : ℤ → Decimal
+  raised_by b = with_number v (v.absolute.number * 10 ^ unsigned_abs b)
+
   scaled_is : scaled notation o v ≡ option_and_then (written o v base) (settled notation o raised)
   scaled_is =
-      sym (ap (λ b. option_and_then (written o v b) (settled notation o (with_number v (v.absolute.number * 10 ^ unsigned_abs b)))) is)
+      sym (ap (λ b. option_and_then (written o v b) (settled notation o (raised_by b))) is)
       ∙ ap (option_and_then (written o v base))
-      (settled_same notation o (with_number v (v.absolute.number * 10 ^ unsigned_abs base)) raised (sym sign) (sym number))
+      (settled_same notation o (raised_by base) raised (sym sign) (sym number))
 
   pub scaled-none : settled notation o raised ≡ None → scaled notation o v ≡ None
   scaled-none h = scaled_is ∙ (rw h refl)
@@ -145,7 +150,8 @@ module _ (notation : Notation) (o : DigitOptions) (v raised : Decimal) (base : �
 
     pub scaled-some : (absolute : Unsigned) → negsuc 32767 ≤ℤ (last new.absolute.number -ℤ pos exponent)
         → absolute ≡ shown o (new.absolute.number / 10 ^ exponent) (end -ℤ pos exponent)
-        → scaled notation o v ≡ Some (scaled_value (record { sign = new.sign; absolute = absolute }) (base +ℤ pos exponent))
+        → scaled notation o v
+        ≡ Some (scaled_value (record { sign = new.sign; absolute = absolute }) (base +ℤ pos exponent))
     scaled-some absolute fits digits =
         let t : int_lt (last settles.result.rounded.number -ℤ pos settles.result.exponent) lowest_magnitude ≡ false =
         subst (λ (z : ℤ). int_lt z lowest_magnitude ≡ false)

@@ -157,4 +157,5 @@ abbrev pub resolve_error : DigitSettings → DigitDefaults → Option DigitOptio
 resolve_error s d =
     if not (are_integer s) then Some error.IntegerDigits
     else if not (is_increment s.rounding_increment) then Some error.Increment
-    else or_error (precision_error_of s (kind_of s d)) (increment_error s.rounding_increment (kind_of s d) (fraction_of s d))
+    else or_error (precision_error_of s (kind_of s d))
+    (increment_error s.rounding_increment (kind_of s d) (fraction_of s d))

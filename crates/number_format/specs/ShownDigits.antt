@@ -70,7 +70,9 @@ to_fraction mode digits exponent n = to_fixed mode digits.min digits.max 1 expon
 abbrev pub with_minimum : BothDigits → ℕ → Minimum → Rounded → Rounded
 with_minimum b exponent Chosen r = r
 with_minimum b exponent Both r =
-    record r { last_shown = int_min (last_at b.significant.min (first r.number)) (fraction_end exponent b.fraction.min) }
+    record r {
+      last_shown = int_min (last_at b.significant.min (first r.number)) (fraction_end exponent b.fraction.min);
+    }
 
 -- the rounding that a precision chooses; of two by `MorePrecision` the one that keeps a lower digit
 unfoldable pub rounded_by : Precision → UnsignedRoundingMode → ℕ → ℕ → Rounded

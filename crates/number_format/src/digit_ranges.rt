@@ -80,16 +80,7 @@ impl IntegerDigits {
         ensures err { IfErr result (λ e. (e ≡ DigitOptionsError.IntegerDigits)
             × ((min ≡ 0) ⊎ ((max < min) ⊎ ((32767 < min) ⊎ (32768 < max))))) }
     {
-        if min == 0 {
-            return Err(DigitOptionsError::IntegerDigits);
-        }
-        if min > max {
-            return Err(DigitOptionsError::IntegerDigits);
-        }
-        if min > 32767 {
-            return Err(DigitOptionsError::IntegerDigits);
-        }
-        if max > 32768 {
+        if min == 0 || min > max || min > 32767 || max > 32768 {
             return Err(DigitOptionsError::IntegerDigits);
         }
         Ok(IntegerDigits { min, max })
@@ -104,13 +95,7 @@ impl IntegerDigits {
         ensures ok { IfOk result (λ digits. (digits.min ≡ min) × (digits.max ≡ 32768)) }
         ensures err { IfErr result (λ e. (e ≡ DigitOptionsError.IntegerDigits) × ((min ≡ 0) ⊎ (32767 < min))) }
     {
-        if min == 0 {
-            return Err(DigitOptionsError::IntegerDigits);
-        }
-        if min > 32767 {
-            return Err(DigitOptionsError::IntegerDigits);
-        }
-        Ok(IntegerDigits { min, max: 32768 })
+        IntegerDigits::new(min, 32768)
     }
 }
 
@@ -124,10 +109,7 @@ impl FractionDigits {
         ensures ok { IfOk result (λ digits. (digits.min ≡ min) × (digits.max ≡ max)) }
         ensures err { IfErr result (λ e. (e ≡ DigitOptionsError.FractionDigits) × ((max < min) ⊎ (32768 < min))) }
     {
-        if min > max {
-            return Err(DigitOptionsError::FractionDigits);
-        }
-        if min > 32768 {
+        if min > max || min > 32768 {
             return Err(DigitOptionsError::FractionDigits);
         }
         Ok(FractionDigits { min, max })
@@ -145,13 +127,7 @@ impl SignificantDigits {
         ensures err { IfErr result (λ e. (e ≡ DigitOptionsError.SignificantDigits)
             × ((min ≡ 0) ⊎ ((max < min) ⊎ (65536 < max)))) }
     {
-        if min == 0 {
-            return Err(DigitOptionsError::SignificantDigits);
-        }
-        if min > max {
-            return Err(DigitOptionsError::SignificantDigits);
-        }
-        if max > 65536 {
+        if min == 0 || min > max || max > 65536 {
             return Err(DigitOptionsError::SignificantDigits);
         }
         Ok(SignificantDigits { min, max })

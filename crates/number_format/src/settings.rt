@@ -65,10 +65,7 @@ impl DigitSettings {
             (λ e. (are_integer self.now ≡ false) × (e ≡ DigitOptionsError.IntegerDigits)) }
     {
         let min = self.minimum_integer_digits.unwrap_or(1);
-        if min == 0 {
-            return Err(DigitOptionsError::IntegerDigits);
-        }
-        if min > 21 {
+        if min == 0 || min > 21 {
             return Err(DigitOptionsError::IntegerDigits);
         }
         Ok(IntegerDigits { min, max: 32768 })
@@ -118,13 +115,7 @@ impl DigitSettings {
     {
         let min = self.minimum_significant_digits.unwrap_or(1) as u32;
         let max = self.maximum_significant_digits.unwrap_or(21) as u32;
-        if min == 0 {
-            return Err(DigitOptionsError::SignificantDigits);
-        }
-        if min > max {
-            return Err(DigitOptionsError::SignificantDigits);
-        }
-        if max > 21 {
+        if min == 0 || min > max || max > 21 {
             return Err(DigitOptionsError::SignificantDigits);
         }
         Ok(SignificantDigits { min, max })

@@ -1,5 +1,5 @@
-use Rattle.std.proofs.Common.{◌≡◌, ◌≤◌, sym, ◌∙◌, ap, subst, arith, rules, w16, w64, to_z, of_z, FitsSigned}
-use Rattle.std.specs.Prelude.{pos, negsuc}
+use Rattle.std.proofs.Common.{◌≡◌, ℕ, ◌≤◌, sym, ◌∙◌, ap, subst, arith, rules, w16, w64, to_z, of_z, FitsSigned}
+use Rattle.std.specs.Prelude.{ℤ, pos, negsuc}
 use Rattle.std.specs.Int.{int_max, int_min}
 use Rattle.std.proofs.lemmas.Int.{ints, clamps}
 use Rattle.decimal_digits.specs.Number.{size}
@@ -9,15 +9,22 @@ use Rattle.number_format.specs.ShownDigits.{shown}
 use Rattle.number_format.proofs.Applied.{padded, shown_auto, shown_stripped}
 use Rattle.number_format.proofs.digit_options.DigitOptions.show.Goals as goal
 
+-- the casts of the two positions
+least_is : (min : ℕ) → min ≤ 32767 → to_z w16 min ≡ pos min
+least_is min few = omega (arith, ints)
+
+end_is : (last end : ℤ) → FitsSigned w64 last
+    → end ≡ int_max (negsuc 32767) (int_min (to_z w64 (of_z w64 last)) (pos 0))
+    → to_z w16 (of_z w16 (to_z w64 (of_z w64 end))) ≡ int_min (int_max last (negsuc 32767)) (pos 0)
+end_is last end fits is = omega (arith, ints, clamps, is, fits)
+
 pub returns-in-Auto-clause-value : goal.returns-in-Auto-clause-value
 returns-in-Auto-clause-value g c =
     let o = c.args.self.now in
     let last = c.args.last in
     let cut = c.cut_integer_digits.new.value in
-    let least : to_z w16 o.integer.min ≡ pos o.integer.min =
-    (let few : o.integer.min ≤ 32767 = o.integer.few in omega (arith, ints)) in
-    let clamped : to_z w16 (of_z w16 (to_z w64 (of_z w64 c.clamp.result))) ≡ int_min (int_max last (negsuc 32767)) (pos 0) =
-    omega (arith, ints, clamps, c.clamp.ensures.value, c.ranges.last) in
+    let least = least_is o.integer.min o.integer.few in
+    let clamped = end_is last c.clamp.result (search rules) c.clamp.ensures.value in
     let start =
     subst (λ z. c.pad_start.new.self ≡ padded_start cut z) least c.pad_start.ensures in
     let end =
@@ -37,10 +44,8 @@ returns-in-StripIfInteger-clause-value g c =
     let o = c.args.self.now in
     let last = c.args.last in
     let cut = c.cut_integer_digits.new.value in
-    let least : to_z w16 o.integer.min ≡ pos o.integer.min =
-    (let few : o.integer.min ≤ 32767 = o.integer.few in omega (arith, ints)) in
-    let clamped : to_z w16 (of_z w16 (to_z w64 (of_z w64 c.clamp.result))) ≡ int_min (int_max last (negsuc 32767)) (pos 0) =
-    omega (arith, ints, clamps, c.clamp.ensures.value, c.ranges.last) in
+    let least = least_is o.integer.min o.integer.few in
+    let clamped = end_is last c.clamp.result (search rules) c.clamp.ensures.value in
     let start =
     subst (λ z. c.pad_start.new.self ≡ padded_start cut z) least c.pad_start.ensures in
     let end =

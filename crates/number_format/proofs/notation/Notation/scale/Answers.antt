@@ -8,7 +8,13 @@ use Rattle.number_format.proofs.notation.Notation.scale.Goals as goal
 
 pub overflow_add-result : goal.overflow_add-result
 overflow_add-result g c =
-    omega (arith, ints, clamps, c.raise-base.ensures.at_least, c.raise-base.ensures.at_most, c.in_ok-exponent.ensures.at_most)
+    omega (
+      arith,
+      ints,
+      c.raise-base.ensures.at_least,
+      c.raise-base.ensures.at_most,
+      c.in_ok-exponent.ensures.at_most,
+    )
 
 pub returns-clause-ok : goal.returns-clause-ok
 returns-clause-ok g c =
@@ -18,10 +24,17 @@ returns-clause-ok g c =
     let exponent = c.in_ok-exponent.exponent in
     let last = c.in_ok-exponent.last in
     let new = c.settle.new.value in
-    let ends : to_z w64 (of_z w64 (to_z w64 (of_z w64 (to_z w32 (of_z w32 last))) -ℤ to_z w64 exponent)) ≡ last -ℤ pos exponent =
+    let ends : to_z w64 (of_z w64 (to_z w64 (of_z w64 (to_z w32 (of_z w32 last))) -ℤ to_z w64 exponent))
+    ≡ last -ℤ pos exponent =
     omega (arith, ints, c.in_ok-exponent.ensures.at_most) in
     let sum : to_z w32 (of_z w32 (to_z w32 (of_z w32 base) +ℤ to_z w32 exponent)) ≡ base +ℤ pos exponent =
-    omega (arith, ints, c.raise-base.ensures.at_least, c.raise-base.ensures.at_most, c.in_ok-exponent.ensures.at_most) in
+    omega (
+      arith,
+      ints,
+      c.raise-base.ensures.at_least,
+      c.raise-base.ensures.at_most,
+      c.in_ok-exponent.ensures.at_most,
+    ) in
     let digits : c.show.new.value ≡ shown o c.lower.new.value.number (last -ℤ pos exponent) =
     subst (λ z. c.show.new.value ≡ shown o c.lower.new.value.number z) ends c.show.ensures.value in
     scaled-some c.args.self.now o v (record { sign = v.sign; absolute = c.raise-base.new.value }) base
