@@ -24,7 +24,7 @@ use Rattle.decimal_unsigned.specs.Unsigned.{Unsigned, IsValue}
 use Rattle.decimal_unsigned.specs.declared.error.IntegerError.TheVariants.{NotWhole, OutOfRange}
 use Rattle.fixed_decimal.specs.Decimal.{Decimal, signed_number, with_absolute}
 use Rattle.decimal_unsigned.proofs.ConcatenationLaws.{extent_of}
-use Rattle.decimal_unsigned.proofs.FirstLast.{Extent, extent, ordered, top_lt, first_of, last_of, first_sum, last_sum}
+use Rattle.decimal_unsigned.proofs.FirstLast.{top_lt, first_sum, last_sum}
 use Rattle.decimal_unsigned.proofs.GrammarParts.{parts-complete}
 use Rattle.decimal_unsigned.proofs.WholeNumbers as whole_numbers
 -- for `omega`: an offset is the magnitude plus 32768
@@ -55,6 +55,10 @@ pub use Rattle.decimal_digits.proofs.Ends.{first_is}
 pub use Rattle.decimal_digits.proofs.Ends.{last_is}
 -- the last digit of a number that a power of ten divides, and no higher one; the first and the last one of 0
 pub use Rattle.decimal_digits.proofs.Ends.{last_at, last_zero, first_zero}
+-- the first and the last digit of a number above 0: its powers of ten, and the two magnitudes
+pub use Rattle.decimal_unsigned.proofs.FirstLast.{Extent, extent, ordered, first_of, last_of}
+-- a value is below 10 to the 32768
+pub use Rattle.decimal_unsigned.proofs.ValueLaws.{below_limit}
 -- a number that a range up to hi holds has its first digit at hi or below
 pub use Rattle.decimal_unsigned.proofs.FirstLast.{first_le}
 -- values do not overlap if the second, unless one of them is 0, begins below the end of the first
@@ -71,6 +75,8 @@ pub use Rattle.decimal_unsigned.proofs.ReadingGrammar.{follows_grammar}
 pub use Rattle.decimal_unsigned.proofs.ValueLaws.{trimmed_is_normal_form}
 -- a multiple of the unit is rounded to itself
 pub use Rattle.decimal_digits.proofs.RoundingLaws.{rounded_number-multiple}
+-- the same rounding again changes nothing
+pub use Rattle.decimal_digits.proofs.RoundingLaws.{rounded_number-idempotent}
 -- a greater number is rounded to no less
 pub use Rattle.decimal_digits.proofs.RoundingLaws.{rounded_number-monotone}
 -- a prefix is a prefix of a longer text; a text and then a prefix of the next; the empty text is a prefix of each

@@ -1,0 +1,85 @@
+-- The first digit of a number before and after a rounding.
+use Rattle.std.proofs.Common.{◌≡◌, ℕ, zero, suc, ◌+◌, ◌-◌, ◌*◌, ◌^◌, ◌<◌, ◌≤◌, true, inl, inr, refl, sym, ◌∙◌, ap, subst, arith, rules}
+use Rattle.std.specs.Prelude.{nat_le, ℤ, pos, negsuc, ◌+ℤ◌, ◌-ℤ◌, ◌≤ℤ◌, ◌<ℤ◌}
+use Rattle.std.proofs.lemmas.Int.{ints}
+use Rattle.std.proofs.lemmas.Bool.{cases_lt}
+use Rattle.decimal_digits.specs.Number.{offset, weight, number_limit, magnitude_at, first}
+use Rattle.decimal_digits.specs.Rounding.{unit_at, rounded_number}
+use Rattle.decimal_digits.specs.declared.rounding.RoundingIncrement.TheVariants.{MultiplesOf1}
+use Rattle.decimal_digits.specs.declared.rounding.UnsignedRoundingMode.{UnsignedRoundingMode}
+use Rattle.fixed_decimal.proofs.Calling.{Extent, extent, first_of, offset_is, ten_pos, powers, first_is, first_zero, greatest_is, rounded_number-multiple, rounded_number-monotone}
+
+-- no search for the first digit goes above 65535
+first_highest : (n k : ℕ) → k + 1 ≡ 65536 → 10 ^ k ≤ n → first n ≡ magnitude_at k
+unfolding first
+first_highest zero k last h = absurd (omega (arith, ten_pos k))
+first_highest (suc n) k last h =
+    ap magnitude_at
+    (greatest_is (λ i. nat_le (10 ^ i) (suc n)) 65536 k (omega arith) (search (rules, h))
+    (λ i p q. absurd (omega arith)))
+
+-- 0 is rounded to 0
+pub rounded_zero : (mode : UnsignedRoundingMode) (unit n : ℕ) → 0 < unit → n ≡ 0 → rounded_number mode unit n ≡ n
+rounded_zero mode unit n some none =
+    subst (λ m. rounded_number mode unit m ≡ m) (let e : 0 * unit ≡ n = omega (arith, none) in e)
+    (rounded_number-multiple mode unit 0 some)
+
+-- ---- A number that is rounded at its first digit or below.
+module _ (mode : UnsignedRoundingMode) (n : ℕ) (position : ℤ) (few : n < number_limit)
+    (below : position ≤ℤ first n) where
+  abbrev unit : ℕ
+  unit = unit_at MultiplesOf1 position
+
+  abbrev new : ℕ
+  new = rounded_number mode unit n
+
+  unit_some : 0 < unit
+  unit_some = omega (arith, ten_pos (offset position))
+
+  -- a power of ten above the position is kept
+  pub kept : (k : ℕ) → offset position ≤ k → rounded_number mode unit (10 ^ k) ≡ 10 ^ k
+  kept k h =
+      let split : 10 ^ k ≡ 10 ^ (k - offset position) * unit =
+      powers (k - offset position) (offset position) k (omega arith) ∙ (omega arith) in
+      subst (λ m. rounded_number mode unit m ≡ m) (sym split)
+      (rounded_number-multiple mode unit (10 ^ (k - offset position)) unit_some)
+
+  module _ (e : Extent n) where
+    top_above : offset position ≤ e.top
+    top_above = omega (arith, ints, offset_is position, first_of e, below)
+
+    reached : 10 ^ e.top ≤ new
+    reached =
+        subst (λ m. m ≤ new) (kept e.top top_above)
+        (rounded_number-monotone mode unit (10 ^ e.top) n unit_some e.reaches)
+
+    limited : new ≤ 10 ^ (e.top + 1)
+    limited =
+        subst (λ m. new ≤ m) (kept (e.top + 1) (omega (arith, top_above)))
+        (rounded_number-monotone mode unit n (10 ^ (e.top + 1)) unit_some (omega (arith, e.below)))
+
+    near : (first n ≤ℤ first new) × (first new ≤ℤ (first n +ℤ pos 1))
+    near = elim (cases_lt new (10 ^ (e.top + 1))) [
+      | inl less ↦
+          let same = first_is new e.top reached less e.limit in
+          (omega (arith, ints, same, first_of e), omega (arith, ints, same, first_of e))
+      | inr full ↦ elim (cases_lt (e.top + 1) 65536) [
+        | inl fits ↦
+            let next : 10 ^ (e.top + 1 + 1) ≡ 10 ^ (e.top + 1) * 10 ^ 1 = powers (e.top + 1) 1 (e.top + 1 + 1) refl in
+            let up = first_is new (e.top + 1) full (omega (arith, limited, next, ten_pos (e.top + 1))) fits in
+            (omega (arith, ints, up, first_of e), omega (arith, ints, up, first_of e))
+        | inr most ↦
+            let top : e.top ≡ 65535 = omega (arith, e.limit) in
+            let same = first_highest new e.top (omega (arith, top)) reached in
+            (omega (arith, ints, same, first_of e), omega (arith, ints, same, first_of e))
+      ]
+    ]
+
+  -- its first digit stays, or moves up by one magnitude
+  pub first_near : (first n ≤ℤ first new) × (first new ≤ℤ (first n +ℤ pos 1))
+  first_near = elim (cases_lt 0 n) [
+    | inl some ↦ near (extent (offset (pos 32768)) n some few (omega (arith, ints, offset_is (pos 32768))))
+    | inr none ↦
+        let e = ap first (rounded_zero mode unit n unit_some (omega arith)) in
+        (omega (arith, ints, e), omega (arith, ints, e))
+  ]

@@ -1,0 +1,5 @@
+pub mod FirstDigits
+pub mod Chosen
+pub mod Applied
+pub mod Scales
+pub mod DigitLaws

@@ -1,0 +1,29 @@
+//! Laws of digit options.
+ghost use Rattle.fixed_decimal.specs.Decimal.{Decimal};
+ghost use Rattle.number_format.specs.DigitLaws.{KeepsNumber, KeepsValue, IsMonotone, AppliesOnce};
+
+use crate::digit_options::DigitOptions;
+use crate::digit_ranges::FractionDigits;
+
+/// By `Precision::Fraction` a number with no more than the greatest number of fraction digits is kept, and the whole
+/// value if it shows the digits that the options show.
+#[tactic(auto, using(crate::proofs::DigitLaws::keeps_number, crate::proofs::DigitLaws::keeps_value))]
+pub fn fraction_digits_are_kept()
+    ensures number { (o : DigitOptions) (f : FractionDigits) (v : Decimal) → KeepsNumber o f v }
+    ensures value { (o : DigitOptions) (f : FractionDigits) (v : Decimal) → KeepsValue o f v }
+{}
+
+/// By fraction digits or an increment the greater of two absolute values is rounded to no less.
+#[tactic(auto, using(crate::proofs::DigitLaws::is_monotone))]
+pub fn fraction_digits_are_monotone()
+    ensures { (o : DigitOptions) (v w : Decimal) → IsMonotone o v w }
+{}
+
+/// By fraction digits or an increment applying twice is applying once, if no integer digit is cut off.
+///
+/// Where one is cut off, the rest need not be a multiple of the increment: by 25 with one integer digit 75 becomes 5,
+/// and then 0.
+#[tactic(auto, using(crate::proofs::DigitLaws::applies_once))]
+pub fn applying_is_idempotent()
+    ensures { (o : DigitOptions) (v : Decimal) → AppliesOnce o v }
+{}

@@ -1,0 +1,38 @@
+//! The digits that a format of a number shows, and its exponent: what `Intl.NumberFormat` decides before it writes.
+//!
+//! Rounding and zeros are those of `SetNumberFormatDigitOptions` and `FormatNumericToString` of ECMA-402, and exponents
+//! those of its `ComputeExponent`, on decimals of any length.
+//!
+//! ```
+//! let digits = SignificantDigits::new(1, 3)?;
+//! let options = DigitOptions {
+//!     integer: IntegerDigits::at_least(1)?,
+//!     precision: Precision::Significant(digits),
+//!     mode: SignedRoundingMode::Unsigned(UnsignedRoundingMode::HalfExpand),
+//!     trailing_zeros: TrailingZeros::Auto,
+//! };
+//! let mut value = Decimal::try_from_str(alloc, "1234567.891")?;
+//! options.apply(&mut value)?; // 1230000
+//! ```
+#![tactic(auto)]
+
+mod apply;
+mod conversions;
+mod digit_options;
+mod digit_ranges;
+mod error;
+pub mod laws;
+mod notation;
+mod precision;
+mod scale;
+mod settings;
+
+pub use digit_options::{DigitOptions, TrailingZeros};
+pub use digit_ranges::{
+    FractionDigits, FractionMultiples, Increment, IntegerDigits, SignificantDigits,
+};
+pub use error::DigitOptionsError;
+pub use notation::{CompactExponents, Notation};
+pub use precision::{BothDigits, Minimum, Precision};
+pub use scale::Scaled;
+pub use settings::{DigitDefaults, DigitSettings, RoundingPriority};

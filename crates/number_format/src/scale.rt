@@ -1,0 +1,177 @@
+//! The significand and the exponent of a number.
+ghost use Rattle.std.specs.Prelude.{◌≡◌, ◌+◌, ◌*◌, ◌/◌, ◌^◌, ◌≤◌, Some, None, IfOk, OnOk, IfErr, IsErrOf, MatchResult, pos, ◌-ℤ◌, ◌≤ℤ◌, ◌<ℤ◌, negsuc, unsigned_abs};
+ghost use Rattle.std.specs.Int.{int_min};
+ghost use Rattle.decimal_digits.specs.Number.{first, last};
+ghost use Rattle.decimal_digits.specs.declared.rounding.RoundingIncrement.TheVariants.{MultiplesOf25};
+ghost use Rattle.number_format.specs.Positions.{base_of};
+ghost use Rattle.number_format.specs.Exponents.{exponent_at};
+ghost use Rattle.number_format.specs.ScaledValue.{ScaledValue, scaled_value};
+ghost use Rattle.number_format.specs.Scaled.{whole_exponent, settled, scaled, IsSettled, SettlingFails};
+
+use crate::digit_options::DigitOptions;
+use crate::notation::Notation;
+use fixed_decimal::{DigitStore, RoundError, Signed, Steps, UnsignedOver};
+use std::marker::Model;
+
+/// A significand and an exponent: the significand times 10 to the power of the exponent.
+#[derive(Debug)]
+pub struct Scaled<D: DigitStore> {
+    significand: Signed<UnsignedOver<D>>,
+    exponent: i32,
+}
+
+impl<D: DigitStore> Model for Scaled<D> {
+    ghost use Rattle.number_format.specs.ScaledValue.{ScaledValue, scaled_value};
+
+    ghost Value = { ScaledValue };
+
+    ghost view = { λ s. scaled_value s.significand s.exponent };
+}
+
+// Not derived: a derived drop is proved again in each crate that depends on this one.
+impl<D: DigitStore> Drop for Scaled<D> {
+    fn drop(self) {
+        let Scaled {
+            significand,
+            exponent: _,
+        } = self;
+        drop(significand);
+    }
+}
+
+/// Multiplies by 10^`count`, without the leading zeros that are shown.
+fn raise<D: DigitStore>(value: &mut UnsignedOver<D>, count: u16)
+    requires few { count ≤ 16385 }
+    requires low { first value.old.number ≤ℤ pos 2 }
+    ensures { value.new.number ≡ value.old.number * 10 ^ count }
+{
+    value.trim_start();
+    value.multiply_pow10(count as i16).unwrap();
+}
+
+/// Divides by 10^`count`, without the trailing zeros that are shown.
+///
+/// # Errors
+///
+/// `Limit`: a digit would be below 10^-32768.
+fn lower<D: DigitStore>(value: &mut UnsignedOver<D>, count: u16) -> Result<(), RoundError>
+    requires { count ≤ 32767 }
+    ensures ok { OnOk result (value.new.number ≡ value.old.number / 10 ^ count) }
+    ensures fits { OnOk result (negsuc 32767 ≤ℤ (last value.old.number -ℤ pos count)) }
+    ensures err { IfErr result (λ e. (e ≡ RoundError.Limit) × ((last value.old.number -ℤ pos count) <ℤ negsuc 32767)) }
+{
+    value.trim_end();
+    value
+        .multiply_pow10(-(count as i16))
+        .map_err(|_| RoundError::Limit)
+}
+
+impl Notation {
+    /// Multiplies a number that is written with an exponent below 0 by the power of ten that makes it 0, and returns
+    /// that exponent; otherwise 0.
+    fn raise<D: DigitStore>(&self, value: &mut UnsignedOver<D>) -> i32
+        ensures exponent { result ≡ int_min (pos 0) (exponent_at self.now (first value.old.number)) }
+        ensures number { value.new.number ≡ value.old.number * 10 ^ unsigned_abs result }
+        ensures at_least { negsuc 32769 ≤ℤ result }
+        ensures at_most { result ≤ℤ pos 0 }
+    {
+        let exponent = self.exponent_at(value.nonzero_magnitude_start());
+        if exponent >= 0 {
+            return 0;
+        }
+        let count = (-exponent) as u16;
+        let half = count / 2;
+        raise(value, half);
+        raise(value, count - half);
+        exponent
+    }
+
+    /// Returns the exponent of a number, and 0 if it is below 0.
+    fn whole_exponent<D: DigitStore>(&self, value: &UnsignedOver<D>) -> u16
+        ensures value { result ≡ whole_exponent self.now value.now.number }
+        ensures at_most { result ≤ 32767 }
+    {
+        self.exponent_at(value.nonzero_magnitude_start()).max(0) as u16
+    }
+
+    /// Rounds a decimal that has a whole exponent, and returns the exponent of the rounded number, and down to which
+    /// magnitude zeros are shown.
+    fn settle<D: DigitStore>(
+        &self,
+        options: &DigitOptions,
+        value: &mut Signed<UnsignedOver<D>>,
+    ) -> Result<(u16, i32), RoundError>
+        ensures settles { MatchResult result
+            (λ r. IsSettled self.now options.now value.old value.new r.0 r.1)
+            (λ e. SettlingFails e self.now options.now value.old) }
+        ensures at_most { IfOk result (λ r. r.0 ≤ 32767) }
+    {
+        let exponent = self.whole_exponent(&value.absolute);
+        let last = options.round_at(value, exponent, &mut Steps::new())?;
+        let next = self.whole_exponent(&value.absolute);
+        if next > exponent {
+            let last = options.round_at(value, next, &mut Steps::new())?;
+            return Ok((next, last));
+        }
+        Ok((exponent, last))
+    }
+
+    /// Returns the significand and the exponent that the notation writes for a decimal, with the digits that options
+    /// show.
+    ///
+    /// The exponent is that of the decimal's magnitude. If the rounding carries the number into a magnitude with a
+    /// greater exponent, it is that one, and the rounded number is rounded again: by at most 2 significant digits
+    /// `999999` is `1` and 6. `ComputeExponent` of ECMA-402.
+    ///
+    /// # Errors
+    ///
+    /// - `Limit`: the rounded number or the increment would be 10^32768 or more, or a digit of the significand would be
+    ///   below 10^-32768.
+    /// - `Memory`: as [`DigitOptions::apply`].
+    pub fn scale<D: DigitStore>(
+        &self,
+        options: &DigitOptions,
+        mut value: Signed<UnsignedOver<D>>,
+    ) -> Result<Scaled<D>, RoundError>
+        ensures ok { IfOk result (λ s. scaled self.now options.now value ≡ Some s) }
+        ensures limit { IsErrOf result RoundError.Limit → scaled self.now options.now value ≡ None }
+        ensures memory { IsErrOf result RoundError.Memory
+            → base_of options.now.precision ≡ MultiplesOf25 }
+    {
+        let base = self.raise(&mut value.absolute);
+        let (exponent, last) = self.settle(options, &mut value)?;
+        lower(&mut value.absolute, exponent)?;
+        options.show(&mut value.absolute, last as i64 - exponent as i64);
+        Ok(Scaled {
+            significand: value,
+            exponent: base + exponent as i32,
+        })
+    }
+}
+
+impl<D: DigitStore> Scaled<D> {
+    /// Returns the significand: `1.2` of 1,200,000 in scientific notation.
+    pub fn significand(&self) -> &Signed<UnsignedOver<D>>
+        ensures { result.now ≡ self.now.significand }
+    {
+        &self.significand
+    }
+
+    /// Returns the exponent: 6 of 1,200,000 in scientific notation.
+    pub fn exponent(&self) -> i32
+        ensures { result ≡ self.now.exponent }
+    {
+        self.exponent
+    }
+
+    /// Returns the significand and drops the exponent.
+    pub fn into_significand(self) -> Signed<UnsignedOver<D>>
+        ensures { result ≡ self.significand }
+    {
+        let Scaled {
+            significand,
+            exponent: _,
+        } = self;
+        significand
+    }
+}
