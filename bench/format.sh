@@ -16,7 +16,7 @@
 set -euo pipefail
 . "$(dirname "$0")/../diff/build.sh"
 build format_times src/main.rt "$here/format/" std anyhow decimal_digits decimal_unsigned fixed_decimal decimal_format \
-    locale_symbols
+    locale_data
 c++ -O2 -std=c++17 -o "$work/icu" "$here/format/icu.cpp" $(pkg-config --cflags --libs icu-i18n icu-uc)
 "$work/format_times/format_times" > "$work/ours.tsv"
 "$work/icu" 9 > "$work/icu.tsv" 2> "$work/icu.txt"

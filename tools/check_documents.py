@@ -7,11 +7,11 @@ import subprocess
 import sys
 import tempfile
 
-CRATES = ["decimal_digits", "decimal_unsigned", "fixed_decimal", "decimal_format", "locale_symbols", "plural_rules",
+CRATES = ["decimal_digits", "decimal_unsigned", "fixed_decimal", "decimal_format", "locale_data", "plural_rules",
           "cli"]
 LIBRARIES = CRATES[:5]
 # Crates whose proofs cite of the libraries only the lemmas for callers.
-CALLERS = ["uses", "plural_rules", "decimal_format", "locale_symbols", "cli"]
+CALLERS = ["uses", "plural_rules", "decimal_format", "locale_data", "cli"]
 # Words of other programs, of Rust, of commands and of tables that are no names in the code.
 FOREIGN = set(
     """FloatPrecision DoublePrecision WithInfinity try_from_f64 ryu writeable write_to_string LengthHint FromStr ONE

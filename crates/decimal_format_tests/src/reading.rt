@@ -1,7 +1,7 @@
 //! Reading of texts that no row of `format_vectors` has.
 use decimal_format::{DecimalFormatter, DecimalSymbols, GroupingStrategy};
 use fixed_decimal::{Decimal, PackedDigits, ParseError, TextBuf, Writeable};
-use locale_symbols::locale;
+use locale_data::locale;
 use std::alloc::{AllocError, Global};
 use std::test::Fail;
 use test_support::{LimitedStore, SixteenDigits};

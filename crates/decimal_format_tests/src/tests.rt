@@ -2,7 +2,7 @@
 use decimal_format::GroupingStrategy::{Always, Auto, Min2, Never};
 use decimal_format::{DecimalFormatter, GroupingStrategy};
 use fixed_decimal::{DigitList, DigitStore, PackedDigits, Signed, Sink, UnsignedOver, Writeable};
-use locale_symbols::locale;
+use locale_data::locale;
 use std::alloc::{AllocError, Global};
 use test_support::{LimitedSink, displays, expand_runs, shows};
 

@@ -9,7 +9,7 @@ ghost use Rattle.decimal_format.specs.Readable.{IsReadable};
 
 use decimal_format::{DecimalFormatter, DecimalSymbols, GroupingStrategy};
 use fixed_decimal::{Decimal, ParseError, Writeable};
-use locale_symbols::locale;
+use locale_data::locale;
 use std::alloc::Global;
 use std::io;
 use std::process::ExitCode;
