@@ -5,12 +5,14 @@
 //   node tools/locales/node.js symbols    locale, numbering system, `default` or nothing, decimal separator, grouping
 //                                         separator, minus sign, plus sign, primary and secondary group size, minimum
 //                                         grouping digits
-//   node tools/locales/node.js vectors    locale, grouping strategy, number, text
+//   node tools/locales/node.js vectors    locale, grouping strategy, number, text; and language, `cardinal` or
+//                                         `ordinal`, number, plural category
 //
-// The locales are those of symbols.tsv, since node does not list its own; the rows of `root` are those of symbols.tsv.
-// Each locale has a row of symbols for `latn`, one for its default system, and one for each other system that has not the
-// sizes of `latn` and these symbols: those of `root` if it has a row for the system, and else those of the locale for
-// `latn`. The vectors are of these systems.
+// The locales are those of symbols.tsv, and the languages those of plural_rules.tsv that node knows, since it lists
+// none of its own; the rows of `root` are those of symbols.tsv.
+// Each locale has a row of symbols for `latn`, one for its default system, and one for each other system that has not
+// the sizes of `latn` and these symbols: those of `root` if it has a row for the system, and else those of the locale
+// for `latn`. The vectors are of these systems.
 //
 // The rows of the repository were made by node 20.20.2, which has ICU 78.2 and CLDR 48.
 'use strict';
@@ -28,9 +30,16 @@ const NUMBERS = [
   ['1e-10', '0.0000000001'], ['1.20e1', '12.0'], ['-12.5e6', '-12500000'],
 ];
 
-function symbolRows() {
-  const text = fs.readFileSync(path.join(__dirname, 'symbols.tsv'), 'utf8');
-  return text.trimEnd().split('\n').map((line) => line.split('\t'));
+// Numbers whose plural categories are printed, with the fraction digits that are shown.
+const COUNTS = [
+  ...Array.from({length: 131}, (_, index) => `${index}`), '200', '201', '211', '300', '1000', '1001', '1100', '10000',
+  '100000', '1000000', '1000001', '2000000', '1000000000', '0.0', '0.1', '0.5', '1.0', '1.00', '1.1', '1.2', '1.5',
+  '1.9', '2.0', '2.10', '3.4', '10.0', '11.1', '21.1', '100.5', '1000000.0', '1000000.1',
+];
+
+function rowsOfFile(name) {
+  const lines = fs.readFileSync(path.join(__dirname, name), 'utf8').trimEnd().split('\n');
+  return lines.filter((line) => !line.startsWith('#')).map((line) => line.split('\t'));
 }
 
 function decimalSystems() {
@@ -61,12 +70,17 @@ function part(tag, number, type, useGrouping) {
   return parts.filter((it) => it.type === type).map((it) => it.value);
 }
 
-// What precedes the digit in the text of a number of one digit. No locale of CLDR 48 has anything after it.
+// CLDR 48 has words where the pattern of `az` in two numbering systems should be; node writes them before the digits.
+function hasWords(tag, system) {
+  return /^az(-AZ|-Latn|$)/.test(tag) && system.startsWith('arab');
+}
+
+// What precedes the digit in the text of a number of one digit, without words. No locale has anything after it.
 function signOf(tag, number) {
   const parts = new Intl.NumberFormat(tag, {signDisplay: 'always'}).formatToParts(number);
   const at = parts.findIndex((it) => it.type === 'integer');
   if (at !== parts.length - 1) throw new Error(`${tag} has a text after the digits`);
-  return parts.slice(0, at).map((it) => it.value).join('');
+  return parts.slice(0, at).map((it) => it.value).join('').replace(/\p{L}.*/u, '');
 }
 
 // The fields of a row from the decimal separator on.
@@ -88,7 +102,8 @@ function rowsOf(tag, systems, root) {
     if (system === 'latn') continue;
     const fields = fieldsOf(`${tag}-u-nu-${system}`);
     const expected = [...(root.get(system) ?? latin.slice(0, 4)), ...latin.slice(4)];
-    if (fields.join('\t') !== expected.join('\t') || system === byDefault) rows.push([system, system === byDefault, fields]);
+    const isDefault = system === byDefault;
+    if (fields.join('\t') !== expected.join('\t') || isDefault) rows.push([system, isDefault, fields]);
   }
   return rows;
 }
@@ -97,8 +112,18 @@ function print(fields) {
   process.stdout.write(`${fields.join('\t')}\n`);
 }
 
+function printCategories() {
+  for (const [type, tag] of rowsOfFile('plural_rules.tsv')) {
+    if (tag === 'root' || new Intl.PluralRules(tag).resolvedOptions().locale !== tag) continue;
+    for (const number of COUNTS) {
+      const minimumFractionDigits = number.split('.')[1]?.length ?? 0;
+      print([tag, type, number, new Intl.PluralRules(tag, {type, minimumFractionDigits}).select(Number(number))]);
+    }
+  }
+}
+
 function main(mode) {
-  const listed = symbolRows();
+  const listed = rowsOfFile('symbols.tsv');
   const tags = [...new Set(listed.map((row) => row[0]))].filter((tag) => tag !== 'root');
   const roots = listed.filter((row) => row[0] === 'root');
   if (mode === 'systems') {
@@ -114,7 +139,7 @@ function main(mode) {
     }
   } else if (mode === 'vectors') {
     for (const [tag, system, isDefault] of listed) {
-      if (tag === 'root') continue;
+      if (tag === 'root' || hasWords(tag, system)) continue;
       const named = isDefault ? tag : `${tag}-u-nu-${system}`;
       for (const [strategy, useGrouping] of STRATEGIES) {
         for (const number of NUMBERS) {
@@ -123,6 +148,7 @@ function main(mode) {
         }
       }
     }
+    printCategories();
   } else {
     process.stderr.write('usage: node.js symbols|systems|vectors\n');
     process.exitCode = 2;

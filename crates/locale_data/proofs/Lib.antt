@@ -5,3 +5,4 @@ pub mod EachRow
 pub mod Unknown
 pub mod ReadableRows
 pub mod UniqueRows
+pub mod RulesTexts

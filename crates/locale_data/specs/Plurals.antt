@@ -1,5 +1,9 @@
 -- The plural rules of tags.
-use Rattle.std.specs.Prelude.{◌≡◌, ℕ, List, Option, None, Some, codes}
+use Rattle.std.specs.Prelude.{◌≡◌, ℕ, List, Option, None, Some, Result, Ok, Err, codes}
+use Rattle.plural_rules.specs.Rules.{RuleValue}
+use Rattle.plural_rules.specs.RulesGrammar.{Grammar}
+use Rattle.locale_data.specs.declared.plurals.PluralRulesError.{PluralRulesError}
+use Rattle.locale_data.specs.declared.plurals.PluralRulesError.TheVariants.{UnknownLocale, Memory}
 use Rattle.locale_data.specs.declared.plurals.PluralRuleType.{PluralRuleType}
 use Rattle.locale_data.specs.declared.plurals.PluralRuleType.TheVariants.{Cardinal, Ordinal}
 use Rattle.locale_data.specs.declared.plurals.LanguageRules.{LanguageRules}
@@ -32,3 +36,9 @@ pub data IsRulesText (tag : List ℕ) (rule_type : PluralRuleType) (text : List 
 -- a tag has neither rules nor symbols
 abbrev pub HasNoRules : List ℕ → Type 0
 HasNoRules tag = IsLanguageOf tag None × IsLocaleOf tag None
+
+-- the rules by the grammar of texts, or why there are none; out of memory only for a tag that has a text
+abbrev pub IsRulesOf : List ℕ → PluralRuleType → Result (List RuleValue) PluralRulesError → Type 0
+IsRulesOf tag rule_type (Ok rules) = (text : List ℕ) × IsRulesText tag rule_type text × Grammar text rules
+IsRulesOf tag rule_type (Err UnknownLocale) = HasNoRules tag
+IsRulesOf tag rule_type (Err Memory) = (text : List ℕ) × IsRulesText tag rule_type text

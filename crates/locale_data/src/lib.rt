@@ -17,7 +17,9 @@ mod symbols_table;
 mod tag;
 
 pub use lookup::locale;
-pub use plurals::{LanguageRules, PluralRuleType, plural_rules_text};
+pub use plurals::{
+    LanguageRules, PluralRuleType, PluralRulesError, plural_rules_of, plural_rules_text,
+};
 pub use plurals_table::{PLURAL_RULES, PLURAL_RULES_TEXTS};
 pub use rows::{Name, Row, TableRange};
 pub use symbols::{LocaleSymbols, NumberingSystem, Symbol, SymbolSet};

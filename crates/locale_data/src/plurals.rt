@@ -1,10 +1,12 @@
 //! The plural rules of a tag.
 ghost use Rattle.std.specs.Prelude.{◌≡◌, Some, IfSome, IfNone, Contains};
-ghost use Rattle.locale_data.specs.Plurals.{rules_text, IsRulesText, HasNoRules};
+ghost use Rattle.locale_data.specs.Plurals.{rules_text, IsRulesText, HasNoRules, IsRulesOf};
 
 use crate::plurals_table::{PLURAL_RULES, PLURAL_RULES_TEXTS};
 use crate::rows::{Name, Row, TableRange, part, row_of};
 use crate::symbols_table::LOCALES;
+use plural_rules::{PluralRules, RulesError};
+use std::alloc::Global;
 
 /// What plural rules are for.
 #[derive(Clone, Copy, Debug, PartialEq)]
@@ -64,5 +66,41 @@ pub fn plural_rules_text(tag: &str, rule_type: PluralRuleType) -> Option<&'stati
             Some(_) => Some(b"other:"),
             None => None,
         },
+    }
+}
+
+/// Why a tag has no plural rules.
+#[derive(Clone, Copy, Debug, PartialEq)]
+pub enum PluralRulesError {
+    /// The tag has neither rules nor symbols.
+    UnknownLocale,
+    /// Out of memory.
+    Memory,
+}
+
+/// Returns the plural rules of a tag: those of `plural_rules_text`.
+///
+/// # Errors
+///
+/// The locale is unknown, or the program is out of memory.
+///
+/// ```
+/// let rules = plural_rules_of(alloc, "ru", PluralRuleType::Cardinal)?;
+/// rules.category(&PluralOperands::of_decimal(&two)) // few
+/// ```
+pub fn plural_rules_of(
+    alloc: Global,
+    tag: &str,
+    rule_type: PluralRuleType,
+) -> Result<PluralRules, PluralRulesError>
+    ensures { IsRulesOf tag.now rule_type result }
+{
+    let Some(text) = plural_rules_text(tag, rule_type) else {
+        return Err(PluralRulesError::UnknownLocale);
+    };
+    match PluralRules::try_from_utf8(alloc, text) {
+        Ok(rules) => Ok(rules),
+        Err(RulesError::Memory) => Err(PluralRulesError::Memory),
+        Err(_) => unreachable!(),
     }
 }
