@@ -142,6 +142,8 @@ function main(mode) {
       if (tag === 'root' || hasWords(tag, system)) continue;
       const named = isDefault ? tag : `${tag}-u-nu-${system}`;
       for (const [strategy, useGrouping] of STRATEGIES) {
+        // ICU groups by threes here, where the locale has no groups. ICU4X does not.
+        if (tag === 'en-US-u-va-posix' && strategy === 'always') continue;
         for (const number of NUMBERS) {
           const [given, shown] = [number, number].flat();
           print([named, strategy, given, formatted(named, useGrouping, shown)]);

@@ -82,7 +82,7 @@ fn symbols_in(
 /// The symbols are readable. Returns `None` if no tag of the locale is listed, or the numbering system is not.
 ///
 /// ```
-/// locale("de_CH.UTF-8") // 1’234’567.5
+/// locale("de_CH.UTF-8") // 1'234'567.5
 /// locale("ar-EG-u-nu-latn") // 1,234,567.5
 /// locale("tlh") // None
 /// ```

@@ -833,7 +833,7 @@ pub static NUMBERING_SYSTEMS: [NumberingSystem; 78] = [
 
 /// The locales, each with its default numbering system.
 #[rattlefmt::skip]
-pub static LOCALES: [LocaleSymbols; 352] = [
+pub static LOCALES: [LocaleSymbols; 353] = [
     LocaleSymbols { tag: *b"af              ", system: *b"latn    ", symbols: AF, sizes: THREES },
     LocaleSymbols { tag: *b"agq             ", system: *b"latn    ", symbols: AF, sizes: THREES },
     LocaleSymbols { tag: *b"ak              ", system: *b"latn    ", symbols: AK, sizes: THREES },
@@ -938,6 +938,7 @@ pub static LOCALES: [LocaleSymbols; 352] = [
     LocaleSymbols { tag: *b"en-si           ", system: *b"latn    ", symbols: AST, sizes: THREES },
     LocaleSymbols { tag: *b"en-sk           ", system: *b"latn    ", symbols: AF, sizes: THREES },
     LocaleSymbols { tag: *b"en-ua           ", system: *b"latn    ", symbols: AF, sizes: THREES },
+    LocaleSymbols { tag: *b"en-us-u-va-posix", system: *b"latn    ", symbols: AK, sizes: NO_GROUPS },
     LocaleSymbols { tag: *b"en-za           ", system: *b"latn    ", symbols: AF, sizes: THREES },
     LocaleSymbols { tag: *b"eo              ", system: *b"latn    ", symbols: EN_FR, sizes: THREES },
     LocaleSymbols { tag: *b"es              ", system: *b"latn    ", symbols: AST, sizes: THREES_MIN_2 },
