@@ -148,8 +148,8 @@ class Texts:
             if len(line) + len(shown) > 110:
                 lines, line = [*lines, line], ""
             # A space at the head of a line would be skipped.
-            line += "\\x20" if shown == " " and lines and not line else shown
-        shown = "\\\n".join([*lines, line])
+            line += "\\x20" if shown == " " and not line else shown
+        shown = "\\\n".join(["", *lines, line])
         return f'/// {title}\n{SKIP}pub static {name}: [u8; {len(self.bytes)}] = *b"{shown}";\n'
 
 

@@ -2,8 +2,8 @@
 //!
 //! Each line of standard input is a row of four fields with tabs between them: a locale, a grouping strategy, a number,
 //! and its text, or `unknown` if the locale is not listed; or a language, `cardinal` or `ordinal`, a number, and its
-//! plural category. Blank lines and lines that start with `#` are not rows. Each row that fails is printed with its line
-//! number; the last line counts the rows.
+//! plural category. Blank lines and lines that start with `#` are not rows. Each row that fails is printed with its
+//! line number; the last line counts the rows.
 #![tactic(auto)]
 
 ghost use Rattle.decimal_format.specs.Readable.{IsReadable};

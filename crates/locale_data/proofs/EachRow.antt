@@ -96,7 +96,8 @@ languages_have_texts : list_all has_texts PLURAL_RULES ≡ true
 languages_have_texts = refl
 
 pub has_texts_if_listed : (l : LanguageRules) → Contains PLURAL_RULES l
-    → (is_inside l.cardinal (length PLURAL_RULES_TEXTS) ≡ true) × (is_inside l.ordinal (length PLURAL_RULES_TEXTS) ≡ true)
+    → (is_inside l.cardinal (length PLURAL_RULES_TEXTS) ≡ true)
+    × (is_inside l.ordinal (length PLURAL_RULES_TEXTS) ≡ true)
 has_texts_if_listed l listed =
     and_parts (is_inside l.cardinal (length PLURAL_RULES_TEXTS)) (is_inside l.ordinal (length PLURAL_RULES_TEXTS))
     (passes has_texts PLURAL_RULES l languages_have_texts listed)

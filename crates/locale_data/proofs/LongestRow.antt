@@ -38,7 +38,9 @@ prefix_is part tag h =
     let whole = starts part (compared tag) two.0 in
     record {
       bytes = sym (ap (take (length part)) whole ∙ take-append_seam part _) ∙ take-map tag_byte (length part) tag;
-      inside = omega (arith, length-append part (drop (length part) (compared tag)), ap length whole, length-map tag tag_byte);
+      inside =
+          omega (arith, length-append part (drop (length part) (compared tag)), ap length whole,
+          length-map tag tag_byte);
       ends = two.1;
     }
 
@@ -48,7 +50,8 @@ prefix_from part tag end bytes inside ends =
     let cut : part ≡ take end (compared tag) = bytes ∙ sym (take-map tag_byte end tag) in
     let whole = sym (take-append-drop end (compared tag)) ∙ ap (λ t. t ++ drop end (compared tag)) (sym cut) in
     let starts = (starts_is Decides-eqb (compared tag) part (starts_with nat_eq (compared tag) part) refl).1 _ whole in
-    let long : length part ≡ end = ap length cut ∙ length-take-le end (compared tag) (omega (arith, length-map tag tag_byte)) in
+    let within : end ≤ length (compared tag) = omega (arith, length-map tag tag_byte) in
+    let long : length part ≡ end = ap length cut ∙ length-take-le end (compared tag) within in
     hyphen part tag ∙ and_true _ _ starts (ap (ends_at tag) long ∙ ends)
 
 -- ---- The longest below a length.
@@ -76,7 +79,8 @@ module _ {R : Type 0} (name_of : R → List ℕ) (rows : List R) (tag : List ℕ
   named_is end row inside ends found =
       let is = find_some (λ r. bytes_eq (unpadded (name_of r)) (compared (take end tag))) rows row found in
       let same = (bytes_eq-Decides _ (compared (take end tag))).0 is.1 in
-      let long : size row ≡ end = ap length same ∙ (length-map (take end tag) tag_byte ∙ length-take-le end tag inside) in
+      let long : size row ≡ end =
+      ap length same ∙ (length-map (take end tag) tag_byte ∙ length-take-le end tag inside) in
       (is.0, prefix_from (unpadded (name_of row)) tag end same inside ends, long)
 
   -- a candidate of that size has the name
@@ -124,7 +128,8 @@ module _ {R : Type 0} (name_of : R → List ℕ) (rows : List R) (tag : List ℕ
             let is = named_is end row inside ends e in
             replaced found row is.0 is.1 is.2
         at_end None e ends = kept found (λ row listed is long.
-            let fails = find_none_is (λ r. bytes_eq (unpadded (name_of r)) (compared (take end tag))) rows e row listed in
+            let has_name = λ (r : R). bytes_eq (unpadded (name_of r)) (compared (take end tag)) in
+            let fails = find_none_is has_name rows e row listed in
             absurd (cc (fails, candidate_named end row is long))) h
 
         by : (b : Bool) → ends_at tag end ≡ b

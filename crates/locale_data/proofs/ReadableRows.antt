@@ -33,9 +33,10 @@ digit_of system d = encode_utf8 (slice_index system.digits d)
 -- the texts of all symbols
 abbrev texts : List (List ℕ)
 texts =
-    map symbol_text (Period ∷ Comma ∷ NoBreakSpace ∷ NarrowNoBreakSpace ∷ RightQuote ∷ Apostrophe ∷ ArabicComma ∷ ReversedComma
-    ∷ ArabicDecimal ∷ ArabicThousands ∷ Hyphen ∷ Minus ∷ Plus ∷ ArabicHyphen ∷ ArabicMinus ∷ ArabicPlus ∷ LeftHyphen
-    ∷ LeftMinus ∷ LeftPlus ∷ RightHyphen ∷ RightPlus ∷ EnclosedHyphen ∷ EnclosedMinus ∷ EnclosedPlus ∷ PlusLeft ∷ [])
+    map symbol_text (Period ∷ Comma ∷ NoBreakSpace ∷ NarrowNoBreakSpace ∷ RightQuote ∷ Apostrophe ∷ ArabicComma
+    ∷ ReversedComma ∷ ArabicDecimal ∷ ArabicThousands ∷ Hyphen ∷ Minus ∷ Plus ∷ ArabicHyphen ∷ ArabicMinus
+    ∷ ArabicPlus ∷ LeftHyphen ∷ LeftMinus ∷ LeftPlus ∷ RightHyphen ∷ RightPlus ∷ EnclosedHyphen ∷ EnclosedMinus
+    ∷ EnclosedPlus ∷ PlusLeft ∷ [])
 
 abbrev index_of : Symbol → ℕ
 index_of x = unwrap_or (position (bytes_eq (symbol_text x)) texts) 0

@@ -45,7 +45,8 @@ listed_rules tag Ordinal text (of_language language listed is) =
 -- so parsing one fails only out of memory
 pub parsing_succeeds : (tag : List ℕ) (rule_type : PluralRuleType) (text : List ℕ) → IsRulesText tag rule_type text
     → (e : RulesError) → IsParseResult text (Err e) → e ≡ Memory
-parsing_succeeds tag rule_type text is e fails = by (read true state.Category no_rules text) refl (listed_rules tag rule_type text is) e fails
+parsing_succeeds tag rule_type text is e fails =
+    by (read true state.Category no_rules text) refl (listed_rules tag rule_type text is) e fails
   where
     by : (o : Option (List RuleValue)) → read true state.Category no_rules text ≡ o → is_some o ≡ true
         → (e : RulesError) → IsParseResult text (Err e) → e ≡ Memory

@@ -23,7 +23,9 @@ use Rattle.locale_data.specs.SortedRows.{number, increases, is_padded, is_table}
 
 less_than_rest : (m : ℕ) (ns : List ℕ) → increases (m ∷ ns) ≡ true → (j : ℕ) → j < length ns → m < get_or ns j 0
 less_than_rest m [] h j inside = absurd (omega arith)
-less_than_rest m (n ∷ rest) h zero inside = let parts = and_parts (nat_lt m n) (increases (n ∷ rest)) h in grind (arith, nat_tests, parts.0)
+less_than_rest m (n ∷ rest) h zero inside =
+    let parts = and_parts (nat_lt m n) (increases (n ∷ rest)) h in
+    grind (arith, nat_tests, parts.0)
 less_than_rest m (n ∷ rest) h (suc j) inside =
     let parts = and_parts (nat_lt m n) (increases (n ∷ rest)) h in
     let later = less_than_rest n rest parts.1 j (omega arith) in
@@ -38,9 +40,11 @@ increases-lt : (ns : List ℕ) → increases ns ≡ true → (i j : ℕ) → i <
 increases-lt [] h i j lt inside = absurd (omega arith)
 increases-lt (m ∷ ns) h i zero lt inside = absurd (omega arith)
 increases-lt (m ∷ ns) h zero (suc j) lt inside = less_than_rest m ns h j (omega arith)
-increases-lt (m ∷ ns) h (suc i) (suc j) lt inside = increases-lt ns (increases_tail m ns h) i j (omega arith) (omega arith)
+increases-lt (m ∷ ns) h (suc i) (suc j) lt inside =
+    increases-lt ns (increases_tail m ns h) i j (omega arith) (omega arith)
 
-pub option_copied-then_some : {X : Type 0} (b : Bool) (r : Bor X) → option_copied (then_some b r) ≡ cond b (Some r.now) None
+pub option_copied-then_some :
+    {X : Type 0} (b : Bool) (r : Bor X) → option_copied (then_some b r) ≡ cond b (Some r.now) None
 option_copied-then_some true r = refl
 option_copied-then_some false r = refl
 
@@ -81,7 +85,8 @@ find_alone p xs i d inside others = by (p (get_or xs i d)) refl
   where
     by : (b : Bool) → p (get_or xs i d) ≡ b → find p xs ≡ cond b (Some (get_or xs i d)) None
     by true passes =
-        let at = position_or_len_is p xs i d (omega arith) (λ k lt. others k (omega arith) (λ e. absurd (omega arith))) (λ _. passes) in
+        let before = λ (k : ℕ) (lt : k < i). others k (omega arith) (λ e. absurd (omega arith)) in
+        let at = position_or_len_is p xs i d (omega arith) before (λ _. passes) in
         find_at p xs ∙ (ap (slice_get xs) at ∙ slice_get-get_or xs i d inside)
     by false fails = find_none p xs d (λ j in_range. each j in_range (cases_lt j i) (cases_lt i j))
       where
@@ -112,13 +117,17 @@ module _ {R : Type 0} (name_of : R → List ℕ) (rows : List R) (table : is_tab
       → bytes_eq (unpadded (name_of (get_or rows j d))) name ≡ true → number_at (get_or rows j d) ≡ number name
   number_of_named name j d inside same =
       let padded = AllPass-from_list_all (λ row. is_padded (name_of row)) rows parts.0 j d inside in
-      let is_number : number_at (get_or rows j d) ≡ number (unpadded (name_of (get_or rows j d))) = grind (arith, nat_tests, padded) in
+      let is_number : number_at (get_or rows j d) ≡ number (unpadded (name_of (get_or rows j d))) =
+      grind (arith, nat_tests, padded) in
       is_number ∙ ap number ((bytes_eq-Decides _ name).0 same)
 
   -- the comparisons with a number rise
   comparisons_rise : (k : ℕ) (d : R) → IsNonDecreasingBy (λ row. ordering_index (nat_cmp (number_at row) k)) rows
-  comparisons_rise k d = IsNonDecreasingBy-from_default (λ row. ordering_index (nat_cmp (number_at row) k)) rows d (λ i j le inside.
-      let rise : number_at (get_or rows i d) ≤ number_at (get_or rows j d) = grind (arith, numbers_increase i j d, λ (same : i ≡ j). ap (λ n. number_at (get_or rows n d)) same) in
+  comparisons_rise k d =
+      IsNonDecreasingBy-from_default (λ row. ordering_index (nat_cmp (number_at row) k)) rows d (λ i j le inside.
+      let equal = λ (same : i ≡ j). ap (λ n. number_at (get_or rows n d)) same in
+      let rise : number_at (get_or rows i d) ≤ number_at (get_or rows j d) =
+      grind (arith, numbers_increase i j d, equal) in
       grind (arith, nat_tests))
 
   module _ (name : List ℕ) where

@@ -24,8 +24,10 @@ module _ {R : Type 0} (name_of : R → List ℕ) (rows : List R) (table : is_tab
   same_row a b x y e =
       let name = unpadded (name_of b) in
       let at_b : get_or rows y.0 a ≡ b = get_or_default rows y.0 a b y.1 ∙ y.2 in
-      let number_a = number_of_named name_of rows table name x.0 a x.1 ((bytes_eq-Decides _ name).1 (ap (λ r. unpadded (name_of r)) x.2 ∙ e)) in
-      let number_b = number_of_named name_of rows table name y.0 a y.1 ((bytes_eq-Decides _ name).1 (ap (λ r. unpadded (name_of r)) at_b)) in
+      let named = λ (r : R). unpadded (name_of r) in
+      let number_a =
+      number_of_named name_of rows table name x.0 a x.1 ((bytes_eq-Decides _ name).1 (ap named x.2 ∙ e)) in
+      let number_b = number_of_named name_of rows table name y.0 a y.1 ((bytes_eq-Decides _ name).1 (ap named at_b)) in
       elim (cases_lt x.0 y.0) [
         | inl h ↦ absurd (omega (arith, numbers_increase name_of rows table x.0 y.0 a h y.1))
         | inr h ↦ elim (cases_lt y.0 x.0) [
@@ -50,14 +52,17 @@ module _ {R : Type 0} (name_of : R → List ℕ) (rows : List R) (table : is_tab
 
   pub row_is_unique : (tag : List ℕ) (a b : Option R) → IsRowOf name_of rows tag a → IsRowOf name_of rows tag b → a ≡ b
   row_is_unique tag None None x y = refl
-  row_is_unique tag None (Some b) x y = absurd (cc (All-contains (λ r. is_candidate name_of tag r ≡ false) rows b x y.0, y.1))
-  row_is_unique tag (Some a) None x y = absurd (cc (All-contains (λ r. is_candidate name_of tag r ≡ false) rows a y x.0, x.1))
+  row_is_unique tag None (Some b) x y =
+      absurd (cc (All-contains (λ r. is_candidate name_of tag r ≡ false) rows b x y.0, y.1))
+  row_is_unique tag (Some a) None x y =
+      absurd (cc (All-contains (λ r. is_candidate name_of tag r ≡ false) rows a y x.0, x.1))
   row_is_unique tag (Some a) (Some b) x y = ap Some (same_row a b x.0 y.0 (same_name tag a b x y))
 
 pub locale_is_unique : (tag : List ℕ) (s t : Symbols) → IsLocale tag s → IsLocale tag t → s ≡ t
 locale_is_unique tag s t a b =
     let tag_of = λ (l : LocaleSymbols). l.tag in
-    let locale : Some a.locale ≡ Some b.locale = row_is_unique tag_of LOCALES locales_are_table tag _ _ a.listed b.listed in
+    let locale : Some a.locale ≡ Some b.locale =
+    row_is_unique tag_of LOCALES locales_are_table tag _ _ a.listed b.listed in
     let system : a.system ≡ b.system = cc (locale, a.named, b.named) in
     let rows = has_rows_if_listed a.system (listed_by_name _ a.system a.named) in
     let in_system = subst (λ (n : NumberingSystem). IsListed (own_rows n) tag b.own) (sym system) b.in_system in

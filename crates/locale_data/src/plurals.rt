@@ -48,9 +48,9 @@ fn rules_text(language: &LanguageRules, rule_type: PluralRuleType) -> &'static [
 
 /// Returns the text of the plural rules of a tag, as `PluralRules` parses it.
 ///
-/// The rules are those of the listed language with the longest tag that is `tag` or has a hyphen after it there; letters
-/// may be of either case, and `_`, `.` and `@` are hyphens. A tag that has no rules but symbols, for which `locale`
-/// returns some, has the rules `other:`. Returns `None` for other tags.
+/// The rules are those of the listed language with the longest tag that is `tag` or has a hyphen after it there;
+/// letters may be of either case, and `_`, `.` and `@` are hyphens. A tag that has no rules but symbols, for which
+/// `locale` returns some, has the rules `other:`. Returns `None` for other tags.
 ///
 /// ```
 /// plural_rules_text("en-GB", PluralRuleType::Cardinal) // one: i = 1 and v = 0

@@ -237,7 +237,8 @@ pub static PLURAL_RULES: [LanguageRules; 227] = [
 
 /// The texts of plural rules.
 #[rattlefmt::skip]
-pub static PLURAL_RULES_TEXTS: [u8; 4041] = *b"zero: n = 0; one: n = 1; two: n % 100 = 2,22,42,62,82 or n % 1000 = 0 and n % 100000 = 1000..20000,40000,60000\
+pub static PLURAL_RULES_TEXTS: [u8; 4041] = *b"\
+zero: n = 0; one: n = 1; two: n % 100 = 2,22,42,62,82 or n % 1000 = 0 and n % 100000 = 1000..20000,40000,60000\
 ,80000 or n != 0 and n % 1000000 = 100000; few: n % 100 = 3,23,43,63,83; many: n != 1 and n % 100 = 1,21,41,61\
 ,81one: v = 0 and i % 10 = 1 and i % 100 != 11; few: v = 0 and i % 10 = 2..4 and i % 100 != 12..14; many: v = \
 0 and i % 10 = 0 or v = 0 and i % 10 = 5..9 or v = 0 and i % 100 = 11..14one: n % 10 = 1 and n % 100 != 11,71,\

@@ -41,7 +41,9 @@ returns-clause-found c =
       own = option_copied c.row_of-own.result;
       listed = c.in_ok-locale.ensures;
       named = sym c.in_ok-system.ensures;
-      in_system = subst (λ rows. IsListed rows c.as_bytes-tag.result.now (option_copied c.row_of-own.result)) c.own_rows.ensures c.row_of-own.ensures;
+      in_system =
+          subst (λ rows. IsListed rows c.as_bytes-tag.result.now (option_copied c.row_of-own.result))
+          c.own_rows.ensures c.row_of-own.ensures;
       value = c.symbols_in.ensures;
     } in
     subst (λ t. IsLocale t c.symbols_in.result) c.as_bytes-tag.ensures.value found

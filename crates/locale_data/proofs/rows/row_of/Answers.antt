@@ -14,7 +14,8 @@ returns g c =
     let rows = c.args.rows.now in
     let tag = c.args.tag.now in
     let all : c.loop-end.end ≡ length tag = omega arith in
-    let below = subst (λ n. IsLongestBelow name_of rows tag n (option_copied c.loop-end.found)) all c.loop-end.invariant in
-    longest name_of rows tag (option_copied c.longer.result) (subst (IsLongestBelow name_of rows tag (length tag + 1)) (sym c.longer.ensures)
-    (longer_below name_of rows tag (length tag) (omega arith)
-    (option_copied c.loop-end.found) below))
+    let before = option_copied c.loop-end.found in
+    let below = subst (λ n. IsLongestBelow name_of rows tag n before) all c.loop-end.invariant in
+    longest name_of rows tag (option_copied c.longer.result)
+    (subst (IsLongestBelow name_of rows tag (length tag + 1)) (sym c.longer.ensures)
+    (longer_below name_of rows tag (length tag) (omega arith) before below))
