@@ -833,7 +833,7 @@ pub static NUMBERING_SYSTEMS: [NumberingSystem; 78] = [
 
 /// The locales, each with its default numbering system.
 #[rattlefmt::skip]
-pub static LOCALES: [LocaleSymbols; 353] = [
+pub static LOCALES: [LocaleSymbols; 358] = [
     LocaleSymbols { tag: *b"af              ", system: *b"latn    ", symbols: AF, sizes: THREES },
     LocaleSymbols { tag: *b"agq             ", system: *b"latn    ", symbols: AF, sizes: THREES },
     LocaleSymbols { tag: *b"ak              ", system: *b"latn    ", symbols: AK, sizes: THREES },
@@ -1001,9 +1001,11 @@ pub static LOCALES: [LocaleSymbols; 353] = [
     LocaleSymbols { tag: *b"ie              ", system: *b"latn    ", symbols: AF, sizes: THREES_MIN_2 },
     LocaleSymbols { tag: *b"ig              ", system: *b"latn    ", symbols: AK, sizes: THREES },
     LocaleSymbols { tag: *b"ii              ", system: *b"latn    ", symbols: AK, sizes: THREES },
+    LocaleSymbols { tag: *b"in              ", system: *b"latn    ", symbols: AST, sizes: THREES },
     LocaleSymbols { tag: *b"is              ", system: *b"latn    ", symbols: AST, sizes: THREES },
     LocaleSymbols { tag: *b"it              ", system: *b"latn    ", symbols: AST, sizes: THREES_MIN_2 },
     LocaleSymbols { tag: *b"it-ch           ", system: *b"latn    ", symbols: DE_CH, sizes: THREES_MIN_2 },
+    LocaleSymbols { tag: *b"iw              ", system: *b"latn    ", symbols: AR, sizes: THREES },
     LocaleSymbols { tag: *b"ja              ", system: *b"latn    ", symbols: AK, sizes: THREES },
     LocaleSymbols { tag: *b"jgo             ", system: *b"latn    ", symbols: AST, sizes: THREES },
     LocaleSymbols { tag: *b"jmc             ", system: *b"latn    ", symbols: AK, sizes: THREES },
@@ -1057,6 +1059,7 @@ pub static LOCALES: [LocaleSymbols; 353] = [
     LocaleSymbols { tag: *b"ml              ", system: *b"latn    ", symbols: AK, sizes: THREE_AND_TWOS },
     LocaleSymbols { tag: *b"mn              ", system: *b"latn    ", symbols: AK, sizes: THREES },
     LocaleSymbols { tag: *b"mni             ", system: *b"beng    ", symbols: AK, sizes: THREES },
+    LocaleSymbols { tag: *b"mo              ", system: *b"latn    ", symbols: AST, sizes: THREES },
     LocaleSymbols { tag: *b"mr              ", system: *b"deva    ", symbols: AK, sizes: THREE_AND_TWOS },
     LocaleSymbols { tag: *b"ms              ", system: *b"latn    ", symbols: AK, sizes: THREES },
     LocaleSymbols { tag: *b"ms-bn           ", system: *b"latn    ", symbols: AST, sizes: THREES },
@@ -1128,6 +1131,7 @@ pub static LOCALES: [LocaleSymbols; 353] = [
     LocaleSymbols { tag: *b"seh             ", system: *b"latn    ", symbols: AST, sizes: THREES },
     LocaleSymbols { tag: *b"ses             ", system: *b"latn    ", symbols: BA, sizes: THREES },
     LocaleSymbols { tag: *b"sg              ", system: *b"latn    ", symbols: AST, sizes: THREES },
+    LocaleSymbols { tag: *b"sh              ", system: *b"latn    ", symbols: AST, sizes: THREES },
     LocaleSymbols { tag: *b"shi             ", system: *b"latn    ", symbols: AF, sizes: THREES },
     LocaleSymbols { tag: *b"shn             ", system: *b"latn    ", symbols: AK, sizes: THREES },
     LocaleSymbols { tag: *b"si              ", system: *b"latn    ", symbols: AK, sizes: THREES },
@@ -1154,6 +1158,7 @@ pub static LOCALES: [LocaleSymbols; 353] = [
     LocaleSymbols { tag: *b"th              ", system: *b"latn    ", symbols: AK, sizes: THREES },
     LocaleSymbols { tag: *b"ti              ", system: *b"latn    ", symbols: AK, sizes: THREES },
     LocaleSymbols { tag: *b"tk              ", system: *b"latn    ", symbols: AF, sizes: THREES },
+    LocaleSymbols { tag: *b"tl              ", system: *b"latn    ", symbols: AK, sizes: THREES },
     LocaleSymbols { tag: *b"tn              ", system: *b"latn    ", symbols: DE_CH, sizes: THREES },
     LocaleSymbols { tag: *b"to              ", system: *b"latn    ", symbols: AK, sizes: THREES },
     LocaleSymbols { tag: *b"tok             ", system: *b"latn    ", symbols: AF, sizes: TWOS },
