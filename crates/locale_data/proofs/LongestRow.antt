@@ -39,8 +39,12 @@ prefix_is part tag h =
     record {
       bytes = sym (ap (take (length part)) whole ∙ take-append_seam part _) ∙ take-map tag_byte (length part) tag;
       inside =
-          omega (arith, length-append part (drop (length part) (compared tag)), ap length whole,
-          length-map tag tag_byte);
+          omega (
+            arith,
+            length-append part (drop (length part) (compared tag)),
+            ap length whole,
+            length-map tag tag_byte,
+          );
       ends = two.1;
     }
 

@@ -2,6 +2,8 @@
 use Rattle.std.specs.Prelude.{◌≡◌, ℕ, List, Option, None, Some, Result, Ok, Err, codes}
 use Rattle.plural_rules.specs.Rules.{RuleValue}
 use Rattle.plural_rules.specs.RulesGrammar.{Grammar}
+use Rattle.plural_rules.specs.RulesParseResult.{IsParseResult}
+use Rattle.plural_rules.specs.declared.parse.RulesError.TheVariants as rules
 use Rattle.locale_data.specs.declared.plurals.PluralRulesError.{PluralRulesError}
 use Rattle.locale_data.specs.declared.plurals.PluralRulesError.TheVariants.{UnknownLocale, Memory}
 use Rattle.locale_data.specs.declared.plurals.PluralRuleType.{PluralRuleType}
@@ -37,8 +39,9 @@ pub data IsRulesText (tag : List ℕ) (rule_type : PluralRuleType) (text : List 
 abbrev pub HasNoRules : List ℕ → Type 0
 HasNoRules tag = IsLanguageOf tag None × IsLocaleOf tag None
 
--- the rules by the grammar of texts, or why there are none; out of memory only for a tag that has a text
+-- the rules by the grammar of texts, or why there are none; out of memory only for a text of rules
 abbrev pub IsRulesOf : List ℕ → PluralRuleType → Result (List RuleValue) PluralRulesError → Type 0
-IsRulesOf tag rule_type (Ok rules) = (text : List ℕ) × IsRulesText tag rule_type text × Grammar text rules
+IsRulesOf tag rule_type (Ok found) = (text : List ℕ) × IsRulesText tag rule_type text × Grammar text found
 IsRulesOf tag rule_type (Err UnknownLocale) = HasNoRules tag
-IsRulesOf tag rule_type (Err Memory) = (text : List ℕ) × IsRulesText tag rule_type text
+IsRulesOf tag rule_type (Err Memory) =
+    (text : List ℕ) × IsRulesText tag rule_type text × IsParseResult text (Err rules.Memory)

@@ -5,7 +5,7 @@ ghost use Rattle.locale_data.specs.Plurals.{rules_text, IsRulesText, HasNoRules,
 use crate::plurals_table::{PLURAL_RULES, PLURAL_RULES_TEXTS};
 use crate::rows::{Name, Row, TableRange, part, row_of};
 use crate::symbols_table::LOCALES;
-use plural_rules::{PluralRules, RulesError};
+use plural_rules::PluralRules;
 use std::alloc::Global;
 
 /// What plural rules are for.
@@ -100,7 +100,7 @@ pub fn plural_rules_of(
     };
     match PluralRules::try_from_utf8(alloc, text) {
         Ok(rules) => Ok(rules),
-        Err(RulesError::Memory) => Err(PluralRulesError::Memory),
-        Err(_) => unreachable!(),
+        // The texts of the table are rules.
+        Err(_) => Err(PluralRulesError::Memory),
     }
 }
