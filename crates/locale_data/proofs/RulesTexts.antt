@@ -1,5 +1,5 @@
 -- The texts of the tables are rules, by computation.
-use Rattle.std.proofs.Common.{◌≡◌, ℕ, ◌&&◌, Bool, true, false, List, [], codes, Option, Some, None, Result, Ok, Err, refl, ap, subst, sym, ◌∙◌}
+use Rattle.std.proofs.Common.{◌≡◌, ℕ, ◌&&◌, Bool, true, List, Option, Some, None, Err, refl, ap, subst, ◌∙◌}
 use Rattle.std.proofs.lemmas.Bool.{and_parts}
 use Rattle.std.specs.Prelude.{is_some}
 use Rattle.std.specs.List.{list_all}
@@ -7,7 +7,6 @@ use Rattle.plural_rules.specs.declared.parse.RulesError.{RulesError}
 use Rattle.plural_rules.specs.declared.parse.RulesError.TheVariants.{Syntax, Limit, Memory}
 use Rattle.plural_rules.specs.declared.parse.state.State.TheVariants as state
 use Rattle.plural_rules.specs.Rules.{RuleValue}
-use Rattle.plural_rules.specs.RulesGrammar.{Grammar}
 use Rattle.plural_rules.specs.RulesParseResult.{Fits, IsParseResult}
 use Rattle.plural_rules.specs.RulesReader.{no_rules}
 use Rattle.plural_rules.proofs.ParserComplete.{grammar-unique}
@@ -18,7 +17,7 @@ use Rattle.locale_data.specs.declared.plurals.PluralRuleType.{PluralRuleType}
 use Rattle.locale_data.specs.declared.plurals.PluralRuleType.TheVariants.{Cardinal, Ordinal}
 use Rattle.locale_data.specs.declared.plurals_table.TheConstants.{PLURAL_RULES, PLURAL_RULES_TEXTS}
 use Rattle.locale_data.specs.Rows.{part}
-use Rattle.locale_data.specs.Plurals.{IsRulesText, rules_text}
+use Rattle.locale_data.specs.Plurals.{IsRulesText}
 use Rattle.locale_data.specs.Plurals.IsRulesText.{of_language, of_locale}
 use Rattle.locale_data.proofs.EachRow.{passes}
 

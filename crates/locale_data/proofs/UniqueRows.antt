@@ -1,19 +1,18 @@
 -- A tag has at most one row in a table, and names at most one value.
-use Rattle.std.proofs.Common.{◌≡◌, ℕ, ◌<◌, ◌≤◌, true, false, bytes_eq, List, length, get_or, take, Option, Some, None, refl, ap, subst, sym, ◌∙◌, inl, inr, arith}
+use Rattle.std.proofs.Common.{◌≡◌, ℕ, ◌≤◌, true, false, List, length, get_or, take, Option, Some, None, refl, ap, subst, sym, ◌∙◌, inl, inr, arith}
 use Rattle.std.proofs.lemmas.Bool.{cases_lt}
 use Rattle.std.proofs.lemmas.List.{get_or_default}
 use Rattle.std.proofs.lemmas.List.Elements.{All-contains}
 use Rattle.std.proofs.lemmas.Slice.Eq.{bytes_eq-Decides}
-use Rattle.std.specs.Int.{from_be_bytes, w128}
 use Rattle.std.specs.List.{Contains}
 use Rattle.decimal_format.specs.Symbols.{Symbols}
 use Rattle.locale_data.specs.declared.symbols.LocaleSymbols.{LocaleSymbols}
 use Rattle.locale_data.specs.declared.symbols.NumberingSystem.{NumberingSystem}
-use Rattle.locale_data.specs.declared.symbols_table.TheConstants.{LOCALES, NUMBERING_SYSTEMS}
+use Rattle.locale_data.specs.declared.symbols_table.TheConstants.{LOCALES}
 use Rattle.locale_data.specs.Tag.{compared}
 use Rattle.locale_data.specs.Rows.{unpadded, is_candidate, IsRowOf}
-use Rattle.locale_data.specs.SortedRows.{number, is_table}
-use Rattle.locale_data.specs.Locales.{own_rows, system_named, IsListed, IsLocale}
+use Rattle.locale_data.specs.SortedRows.{is_table}
+use Rattle.locale_data.specs.Locales.{own_rows, IsListed, IsLocale}
 use Rattle.locale_data.proofs.SortedRows.{numbers_increase, number_of_named}
 use Rattle.locale_data.proofs.LongestRow.{prefix_is}
 use Rattle.locale_data.proofs.EachRow.{locales_are_table, listed_by_name, has_rows_if_listed}

@@ -1,5 +1,5 @@
 -- How rows are sorted, so that a name is found by a binary search.
-use Rattle.std.specs.Prelude.{ℕ, zero, suc, ◌+◌, ◌*◌, ◌%◌, ◌^◌, ◌==◌, ◌||◌, ◌&&◌, if◌then◌else◌, Bool, true, nat_lt, bit_or, List, [], ◌∷◌, length, take, map, Option, slice_index}
+use Rattle.std.specs.Prelude.{ℕ, zero, suc, ◌+◌, ◌*◌, ◌%◌, ◌^◌, ◌==◌, ◌||◌, ◌&&◌, if◌then◌else◌, Bool, true, nat_lt, List, [], ◌∷◌, length, take, map, Option, slice_index}
 use Rattle.std.specs.Int.{from_be_bytes, w128}
 use Rattle.std.specs.List.{list_all}
 use Rattle.std.specs.Option.{option_or}

@@ -1,4 +1,4 @@
-use Rattle.std.proofs.Common.{◌≡◌, Ok, Err, Some, None, cond, bytes_eq, sym, ap, ◌∙◌, rules}
+use Rattle.std.proofs.Common.{Ok, Err, Some, None, cond, bytes_eq, sym, ap, ◌∙◌, rules}
 use Rattle.std.specs.Int.{from_be_bytes, w128}
 use Rattle.std.specs.Option.{option_copied}
 use Rattle.std.proofs.lemmas.List.Sorted.{answers_always}
