@@ -85,7 +85,7 @@ prints 00042.5 42.5 max:5
 # Status 0, in the forms of locales, as ICU writes them.
 prints 1,234.56 1.234,565 read:de round:-2:half-even:1 format:en-IN
 prints 12,34,567.891 1234567.891 format:hi
-prints 1’234’567.891 1234567.891 format:de_CH.UTF-8
+prints "1'234'567.891" 1234567.891 format:de_CH.UTF-8
 prints 1234567,891 1234567.891 format:de:never
 prints 1234 1234 format:es
 prints 1.234 1234 format:es:always

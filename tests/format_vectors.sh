@@ -1,10 +1,8 @@
 #!/usr/bin/env bash
-# Checks the texts of numbers in locales against ICU's: `tests/format_vectors.sh [TSV]`.
+# Checks the texts of numbers in locales against node's: `tests/format_vectors.sh [TSV]`.
 #
-# TSV has rows of `format_vectors`, or rows with a numbering system after the locale. Without it `tools/locales/icu.cpp`
-# makes rows for all locales of the ICU that is installed, which has to be ICU 72 for the texts of CLDR 42:
-#
-#   apt-get install g++ libicu-dev pkg-config
+# TSV has rows of `format_vectors`, or rows with a numbering system after the locale. Without it `tools/locales/node.js`
+# makes rows for all locales by the node that is installed, which has to be node 20 for the texts of CLDR 48.
 #
 # The last line is `N passed, M failed`; the status is 0 if M is 0.
 set -u
@@ -14,9 +12,7 @@ copy_programs format_vectors
 if [ $# -gt 0 ]; then
   awk -F '\t' -v OFS='\t' '/^#/ { next } NF == 5 { print $1 "-u-nu-" $2, $3, $4, $5; next } { print }' "$1" > "$room/rows"
 else
-  flags=$(pkg-config --cflags --libs icu-i18n icu-uc) || exit 1
-  c++ -O1 -std=c++17 -o "$room/icu" tools/locales/icu.cpp $flags || exit 1
-  "$room/icu" vectors > "$room/rows" || exit 1
+  node tools/locales/node.js vectors > "$room/rows" || exit 1
 fi
 "$room/format_vectors" < "$room/rows" > "$room/out"
 sed -n '1,20p' "$room/out"

@@ -7,11 +7,11 @@ import subprocess
 import sys
 import tempfile
 
-CRATES = ["decimal_digits", "decimal_unsigned", "fixed_decimal", "decimal_format", "locale_symbols", "number_format",
-          "plural_rules", "cli"]
-LIBRARIES = CRATES[:6]
+CRATES = ["decimal_digits", "decimal_unsigned", "fixed_decimal", "decimal_format", "plural_rules", "locale_data",
+          "number_format", "cli"]
+LIBRARIES = [*CRATES[:4], "locale_data", "number_format"]
 # Crates whose proofs cite of the libraries only the lemmas for callers.
-CALLERS = ["uses", "plural_rules", "decimal_format", "locale_symbols", "number_format", "cli"]
+CALLERS = ["uses", "plural_rules", "decimal_format", "locale_data", "number_format", "cli"]
 # Words of other programs, of Rust, of commands and of tables that are no names in the code.
 FOREIGN = set(
     """FloatPrecision DoublePrecision WithInfinity try_from_f64 ryu writeable write_to_string LengthHint FromStr ONE
@@ -20,7 +20,7 @@ FOREIGN = set(
     LocalizedNumberFormatter formatDecimal ghost rejected witness NAME CRATE FUNCTION CLAUSE LOG""".split()
 )
 # Modules and functions that are public for the crates of this repository alone.
-INTERNAL = re.compile(r"/src/(?:rounding/|digits/packed/|decimal/parse/|reader/|laws|reading_laws|table|tag)")
+INTERNAL = re.compile(r"/src/(?:rounding/|digits/packed/|decimal/parse/|reader/|laws|reading_laws|rows|tag|\w+_table)")
 HIDDEN = {"from_bcd_digits", "from_short_text", "scan_from"}
 NAME = re.compile(r"[A-Za-z_][\w:<>&', ]*(\([\w:<>&', ]*\))?")
 OUTSIDE = re.compile(r"\b(?:document|paper|issue|session|request|promise|definition) \d|\b[DTRW]\d{1,2}\b"

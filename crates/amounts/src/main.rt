@@ -3,7 +3,7 @@
 
 use decimal_format::{DecimalFormatter, GroupingStrategy};
 use fixed_decimal::Decimal;
-use locale_symbols::locale;
+use locale_data::locale;
 use std::alloc::Global;
 use std::io;
 

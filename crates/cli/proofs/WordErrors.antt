@@ -1,14 +1,9 @@
 -- Words that name no conversion have one error.
 use Rattle.std.proofs.Common.{◌≡◌, ℕ, suc, ◌<◌, List, [], ◌∷◌, ◌++◌, length, codes, String, string_bytes, Global, Option, Some, None, true, false, inl, inr, refl, sym, ap, subst, ◌∙◌, arith}
 use Prim.Native.Nat.{zero}
-use Rattle.std.specs.Prelude.{All, Contains, Any, slice_index_or}
+use Rattle.std.specs.Prelude.{Any, slice_index_or}
 use Rattle.std.proofs.lemmas.List.{append_cancel_left, length-append}
-use Rattle.std.proofs.lemmas.List.Elements.{All-contains}
-use Rattle.decimal_format.specs.Symbols.{Symbols}
-use Rattle.locale_symbols.specs.Locales.{IsLocale, is_candidate, HasUnknownSystem}
-use Rattle.locale_symbols.specs.Locales as locales
-use Rattle.locale_symbols.specs.declared.table.LocaleSymbols.{LocaleSymbols}
-use Rattle.locale_symbols.specs.declared.tables.TheConstants.{LOCALES}
+use Rattle.locale_data.proofs.Unknown.{locale_is_known}
 use Rattle.fixed_decimal.specs.declared.runs.Call.{Call}
 use Rattle.cli.specs.declared.words.WordsError.{WordsError}
 use Rattle.cli.specs.declared.words.WordsError.TheVariants.{Usage, UnknownLocale, Memory}
@@ -58,19 +53,6 @@ format_unique words (Some p) (Some q) xs ys (w, e, s) (x, f, t) =
     (ap Some (append_cancel_left (codes "format:") p q (sym s ∙ ap string_bytes last ∙ t)), rest)
 
 -- ---- A word is right or wrong.
-
-no_candidate :
-    (rows : List LocaleSymbols) (tag : List ℕ) (row : LocaleSymbols) → Contains rows row
-    → is_candidate tag None row ≡ true → All (λ r. is_candidate tag None r ≡ false) rows → ⊥
-no_candidate rows tag row is_in is none =
-    cc (is, All-contains (λ r. is_candidate tag None r ≡ false) rows row none is_in)
-
-locale_is_known : (tag : List ℕ) (s : Symbols) → IsLocale tag s → locales.IsUnknown tag → ⊥
-locale_is_known tag s is (inl none) = no_candidate LOCALES tag is.locale is.listed.0 is.listed.1 none
-locale_is_known tag s is (inr other) =
-    let named = is.named in
-    let unlisted = other.unlisted in
-    cc (rw other.requested at named, unlisted)
 
 calls_are_known :
     (words : List (String Global)) (calls : List Call) → NameAll words calls → (k : ℕ) (w : String Global)

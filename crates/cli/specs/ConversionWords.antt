@@ -5,8 +5,8 @@ use Rattle.std.specs.declared.alloc.Global.{Global}
 use Rattle.decimal_format.specs.Formatted.{Formatter}
 use Rattle.decimal_format.specs.declared.grouping.GroupingStrategy.{GroupingStrategy}
 use Rattle.decimal_format.specs.declared.grouping.GroupingStrategy.TheVariants.{Auto, Never, Always, Min2}
-use Rattle.locale_symbols.specs.Locales.{IsLocale}
-use Rattle.locale_symbols.specs.Locales as locales
+use Rattle.locale_data.specs.Locales.{IsLocale}
+use Rattle.locale_data.specs.Locales as locales
 use Rattle.cli.specs.declared.conversion.Conversion.{Conversion}
 use Rattle.cli.specs.declared.reader.DecimalReader.{DecimalReader}
 use Rattle.cli.specs.declared.reader.ParseMode.{ParseMode}

@@ -11,7 +11,7 @@ use crate::calls::parse_calls;
 use crate::conversion::Conversion;
 use crate::reader::{DecimalReader, ParseMode};
 use decimal_format::{DecimalFormatter, DecimalSymbols, GroupingStrategy};
-use locale_symbols::locale;
+use locale_data::locale;
 use std::alloc::Global;
 
 /// Why words name no conversion.

@@ -1,7 +1,7 @@
 //! Reading of texts that no row of `format_vectors` has.
 use decimal_format::{DecimalFormatter, DecimalSymbols, GroupingStrategy};
 use fixed_decimal::{Decimal, PackedDigits, ParseError, TextBuf, Writeable};
-use locale_symbols::locale;
+use locale_data::locale;
 use std::alloc::{AllocError, Global};
 use std::test::Fail;
 use test_support::{LimitedStore, SixteenDigits};
@@ -44,7 +44,7 @@ const REJECTED: &[(&str, &str)] = &[
     ("fa", "-\u{6f5}"),
     ("fa", "\u{2212}\u{6f5}"),
     ("fa", "\u{200e}-\u{6f5}"),
-    ("de-CH", "1'234"),
+    ("de-CH", "1\u{2019}234"),
     ("de-CH", "1,5"),
 ];
 
@@ -54,7 +54,7 @@ const TYPED: &[(&str, &str, &str)] = &[
     ("en-US", "\u{ff0b}5", "+5"),
     ("fr-CA", "1 234,5", "1234.5"),
     ("fr-CA", "1\u{202f}234\u{202f}567", "1234567"),
-    ("de-CH", "1'234.5", "1234.5"),
+    ("de-CH", "1\u{2019}234.5", "1234.5"),
     ("fa", "-1234", "-1234"),
     ("fa", "\u{2212}\u{6f1}\u{66c}234", "-1234"),
     ("ar-SA", "\u{200f}-\u{661}", "-1"),

@@ -1,8 +1,8 @@
-//! Rows of ICU 72 (CLDR 42), and what no row says. A helper holds one value, and returns whether its row holds.
+//! Rows of ICU 78 (CLDR 48), and what no row says. A helper holds one value, and returns whether its row holds.
 use decimal_format::GroupingStrategy::{Always, Auto, Min2, Never};
 use decimal_format::{DecimalFormatter, GroupingStrategy};
 use fixed_decimal::{DigitList, DigitStore, PackedDigits, Signed, Sink, UnsignedOver, Writeable};
-use locale_symbols::locale;
+use locale_data::locale;
 use std::alloc::{AllocError, Global};
 use test_support::{LimitedSink, displays, expand_runs, shows};
 
@@ -73,7 +73,7 @@ const ROWS: &[Row] = &[
         "+1234",
         "\u{200e}+\u{6f1}\u{66c}\u{6f2}\u{6f3}\u{6f4}",
     ),
-    ("de-CH", Auto, "1234567.891", "1\u{2019}234\u{2019}567.891"),
+    ("de-CH", Auto, "1234567.891", "1'234'567.891"),
 ];
 
 /// Texts by sizes of groups that no row of ICU has: no groups, and as ICU4X writes them under `Always`.

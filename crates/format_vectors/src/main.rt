@@ -1,15 +1,17 @@
-//! Checks the texts of numbers in locales: how they are written, and that they are read back.
+//! Checks the texts of numbers in locales: how they are written, and that they are read back; and plural categories.
 //!
 //! Each line of standard input is a row of four fields with tabs between them: a locale, a grouping strategy, a number,
-//! and its text, or `unknown` if the locale is not listed. Blank lines and lines that start with `#` are not rows. Each
-//! row that fails is printed with its line number; the last line counts the rows.
+//! and its text, or `unknown` if the locale is not listed; or a language, `cardinal` or `ordinal`, a number, and its
+//! plural category. Blank lines and lines that start with `#` are not rows. Each row that fails is printed with its
+//! line number; the last line counts the rows.
 #![tactic(auto)]
 
 ghost use Rattle.decimal_format.specs.Readable.{IsReadable};
 
 use decimal_format::{DecimalFormatter, DecimalSymbols, GroupingStrategy};
 use fixed_decimal::{Decimal, ParseError, Writeable};
-use locale_symbols::locale;
+use locale_data::{PluralRuleType, PluralRulesError, locale, plural_rules_of};
+use plural_rules::PluralOperands;
 use std::alloc::Global;
 use std::io;
 use std::process::ExitCode;
@@ -72,11 +74,39 @@ fn has_text(
     }
 }
 
+/// Whether a number has this category by the plural rules of a language.
+fn has_category(
+    alloc: Global,
+    tag: &str,
+    rule_type: PluralRuleType,
+    number: &str,
+    category: &str,
+) -> bool {
+    let rules = match plural_rules_of(alloc, tag, rule_type) {
+        Ok(rules) => rules,
+        Err(PluralRulesError::UnknownLocale) => return category == "unknown",
+        Err(PluralRulesError::Memory) => return false,
+    };
+    match Decimal::try_from_str(alloc, number) {
+        Ok(value) => rules.category(&PluralOperands::of_decimal(&value)).name() == category,
+        Err(_) => false,
+    }
+}
+
 /// Whether a row holds.
 fn holds(alloc: Global, row: &str) -> Option<bool> {
     let (tag, row) = row.split_once('\t')?;
     let (word, row) = row.split_once('\t')?;
     let (number, text) = row.split_once('\t')?;
+    match word {
+        "cardinal" => {
+            return Some(has_category(alloc, tag, PluralRuleType::Cardinal, number, text));
+        }
+        "ordinal" => {
+            return Some(has_category(alloc, tag, PluralRuleType::Ordinal, number, text));
+        }
+        _ => {}
+    }
     let strategy = strategy(word)?;
     match locale(tag) {
         Some(symbols) => Some(has_text(alloc, symbols, strategy, number, text)),

@@ -14,7 +14,7 @@ use fixed_decimal::{
     DigitList, DigitStore, FixedInteger, PackedDigits, RoundError, Signed, Sink, UnsignedOver,
     Writeable,
 };
-use locale_symbols::locale;
+use locale_data::locale;
 use number_format::{DigitOptions, DigitOptionsError, Notation};
 use std::alloc::Global;
 use std::io;

@@ -1,0 +1,139 @@
+-- What is true of each row of the tables, by computation, and of the texts of symbols.
+use Rattle.std.proofs.Common.{◌≡◌, ℕ, ◌≤◌, ◌==◌, ◌&&◌, Bool, true, List, length, Some, None, refl, ap, lit≤, arith}
+use Rattle.std.proofs.lemmas.Bool.{and_parts}
+use Rattle.std.proofs.lemmas.Bool.Decides.{nat_tests}
+use Rattle.std.proofs.lemmas.List.Elements.{All-contains}
+use Rattle.std.proofs.lemmas.List.Sums.{AllPass-from_list_all}
+use Rattle.std.specs.Prelude.{encode_utf8, slice_index, is_some}
+use Rattle.std.specs.List.{list_all, Contains}
+use Rattle.std.specs.Str.{bytes_eq}
+use Rattle.locale_data.specs.declared.symbols.Symbol.{Symbol}
+use Rattle.locale_data.specs.declared.symbols.Symbol.TheVariants.{Period, Comma}
+use Rattle.locale_data.specs.declared.symbols.NumberingSystem.{NumberingSystem}
+use Rattle.locale_data.specs.declared.symbols.LocaleSymbols.{LocaleSymbols}
+use Rattle.locale_data.specs.declared.symbols_table.TheConstants.{LOCALES, LOCALES_BY_SYSTEM, NUMBERING_SYSTEMS}
+use Rattle.decimal_format.specs.Symbols.{Symbols, AreValid, Rejects}
+use Rattle.decimal_format.specs.declared.error.SymbolsError.{SymbolsError}
+use Rattle.decimal_format.specs.declared.error.SymbolsError.TheVariants.{DigitWidths, DecimalTooLong, GroupingTooLong, MinusPrefixTooLong, MinusSuffixTooLong, PlusPrefixTooLong, PlusSuffixTooLong}
+use Rattle.locale_data.specs.Symbol.{symbol_text}
+use Rattle.locale_data.specs.Tag.{compared}
+use Rattle.locale_data.specs.declared.plurals.LanguageRules.{LanguageRules}
+use Rattle.locale_data.specs.declared.plurals_table.TheConstants.{PLURAL_RULES, PLURAL_RULES_TEXTS}
+use Rattle.locale_data.specs.Rows.{is_inside, unpadded}
+use Rattle.locale_data.specs.SortedRows.{number, is_table}
+use Rattle.locale_data.specs.Locales.{own_rows, system_named, HasOneWidth}
+use Rattle.locale_data.proofs.SortedRows.{find_some}
+
+-- a test that passes for each element of a list passes for those in it
+pub passes : {X : Type 0} (q : X → Bool) (xs : List X) (x : X) → list_all q xs ≡ true → Contains xs x → q x ≡ true
+passes q xs x all is = All-contains (λ x. q x ≡ true) xs x (AllPass-from_list_all q xs all) is
+
+-- ---- The digits of a numbering system.
+
+-- the length of a digit
+abbrev width : List ℕ → ℕ → ℕ
+width digits d = length (encode_utf8 (slice_index digits d))
+
+abbrev has_width : ℕ → ℕ → Bool
+has_width n c = length (encode_utf8 c) == n
+
+abbrev has_one_width : NumberingSystem → Bool
+has_one_width s = (length s.digits == 10) && list_all (has_width (width s.digits 0)) s.digits
+
+systems_have_one_width : list_all has_one_width NUMBERING_SYSTEMS ≡ true
+unfolding lib.Utf8.encode
+systems_have_one_width = refl
+
+pub listed_by_name : (name : List ℕ) (s : NumberingSystem) → system_named name ≡ Some s → Contains NUMBERING_SYSTEMS s
+unfolding system_named
+listed_by_name name s found =
+    (find_some (λ s. bytes_eq (unpadded s.name) (compared name)) NUMBERING_SYSTEMS s found).0
+
+pub system_named-width : (name : List ℕ) (s : NumberingSystem) → system_named name ≡ Some s → HasOneWidth s.digits
+system_named-width name s found = λ d few.
+    let both = passes has_one_width NUMBERING_SYSTEMS s systems_have_one_width (listed_by_name name s found) in
+    let has = has_width (width s.digits 0) in
+    let parts = and_parts (length s.digits == 10) (list_all has s.digits) both in
+    let ten : length s.digits ≡ 10 = grind (arith, nat_tests, parts.0) in
+    let same = AllPass-from_list_all has s.digits parts.1 d 0 (omega arith) in
+    grind (arith, nat_tests, same)
+
+-- ---- The tables are sorted.
+
+pub locales_are_table : is_table (λ l. l.tag) LOCALES ≡ true
+unfolding number
+locales_are_table = refl
+
+pub systems_are_table : is_table (λ s. s.name) NUMBERING_SYSTEMS ≡ true
+unfolding number
+systems_are_table = refl
+
+-- the rows of a numbering system are a part of the table, and sorted
+abbrev has_rows : NumberingSystem → Bool
+has_rows s = is_inside s.rows (length LOCALES_BY_SYSTEM) && is_table (λ (l : LocaleSymbols). l.tag) (own_rows s)
+
+systems_have_rows : list_all has_rows NUMBERING_SYSTEMS ≡ true
+unfolding number
+systems_have_rows = refl
+
+pub has_rows_if_listed : (s : NumberingSystem) → Contains NUMBERING_SYSTEMS s
+    → (is_inside s.rows (length LOCALES_BY_SYSTEM) ≡ true)
+    × (is_table (λ (l : LocaleSymbols). l.tag) (own_rows s) ≡ true)
+has_rows_if_listed s listed =
+    and_parts (is_inside s.rows (length LOCALES_BY_SYSTEM)) (is_table (λ (l : LocaleSymbols). l.tag) (own_rows s))
+    (passes has_rows NUMBERING_SYSTEMS s systems_have_rows listed)
+
+pub languages_are_table : is_table (λ l. l.tag) PLURAL_RULES ≡ true
+unfolding number
+languages_are_table = refl
+
+-- the rules of a language are a part of the texts
+abbrev has_texts : LanguageRules → Bool
+has_texts l =
+    is_inside l.cardinal (length PLURAL_RULES_TEXTS) && is_inside l.ordinal (length PLURAL_RULES_TEXTS)
+
+languages_have_texts : list_all has_texts PLURAL_RULES ≡ true
+languages_have_texts = refl
+
+pub has_texts_if_listed : (l : LanguageRules) → Contains PLURAL_RULES l
+    → (is_inside l.cardinal (length PLURAL_RULES_TEXTS) ≡ true)
+    × (is_inside l.ordinal (length PLURAL_RULES_TEXTS) ≡ true)
+has_texts_if_listed l listed =
+    and_parts (is_inside l.cardinal (length PLURAL_RULES_TEXTS)) (is_inside l.ordinal (length PLURAL_RULES_TEXTS))
+    (passes has_texts PLURAL_RULES l languages_have_texts listed)
+
+-- ---- The default numbering system of a locale.
+
+abbrev has_system : LocaleSymbols → Bool
+has_system l = is_some (system_named (unpadded l.system))
+
+locales_have_systems : list_all has_system LOCALES ≡ true
+unfolding system_named
+locales_have_systems = refl
+
+pub listed_system : (l : LocaleSymbols) → Contains LOCALES l → system_named (unpadded l.system) ≡ None → ⊥
+listed_system l listed none =
+    let found = passes has_system LOCALES l locales_have_systems listed in
+    let absent = ap is_some none in
+    cc
+
+-- ---- The texts of symbols.
+
+pub symbol_text-short : (s : Symbol) → length (symbol_text s) ≤ 255
+symbol_text-short Period = lit≤ tt
+symbol_text-short Comma = lit≤ tt
+symbol_text-short _ = lit≤ tt
+
+pub short_text : (text : List ℕ) (s : Symbol) → text ≡ symbol_text s → length text ≤ 255
+short_text text s e = rw e (symbol_text-short s)
+
+-- ---- Valid symbols are not rejected.
+
+pub not_rejected : (e : SymbolsError) (s : Symbols) → AreValid s → Rejects e s → ⊥
+not_rejected DigitWidths s valid r = r valid.one_width
+not_rejected DecimalTooLong s valid r = omega arith
+not_rejected GroupingTooLong s valid r = omega arith
+not_rejected MinusPrefixTooLong s valid r = omega arith
+not_rejected MinusSuffixTooLong s valid r = omega arith
+not_rejected PlusPrefixTooLong s valid r = omega arith
+not_rejected PlusSuffixTooLong s valid r = omega arith

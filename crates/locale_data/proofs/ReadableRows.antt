@@ -1,0 +1,176 @@
+-- The symbols of each row are readable, by computation.
+use Rattle.std.proofs.Common.{◌≡◌, ℕ, ◌+◌, ◌-◌, ◌<◌, ◌≤◌, ◌==◌, ◌&&◌, nat_lt, Bool, true, false, cond, List, [], ◌∷◌, ◌++◌, map, get_or, Option, Some, None, unwrap_or, inl, inr, refl, ap, lit≤, subst, ◌∙◌, sym, rules, add-sub_of_le, arith}
+use Rattle.std.proofs.lemmas.Bool.{cases_lt, and_parts}
+use Rattle.std.proofs.lemmas.List.Sums.{AllPass-from_list_all}
+use Rattle.std.specs.Prelude.{encode_utf8, slice_index}
+use Rattle.std.specs.List.{list_all, position, Contains}
+use Rattle.std.specs.Option.{option_map_or}
+use Rattle.std.specs.Str.{bytes_eq}
+use Rattle.decimal_format.specs.declared.grouping.GroupingSizes.{GroupingSizes}
+use Rattle.decimal_format.specs.Symbols.{Symbols}
+use Rattle.decimal_format.proofs.Apart.{are_apart, each_below, passes_below, texts_are_apart, other, texts_apart}
+use Rattle.decimal_format.specs.Readable.{BeginsWith, code, IsOther, IsReadable}
+use Rattle.locale_data.specs.declared.symbols.LocaleSymbols.{LocaleSymbols}
+use Rattle.locale_data.specs.declared.symbols.NumberingSystem.{NumberingSystem}
+use Rattle.locale_data.specs.declared.symbols.Symbol.{Symbol}
+use Rattle.locale_data.specs.declared.symbols.Symbol.TheVariants.{Period, Comma, NoBreakSpace, NarrowNoBreakSpace, RightQuote, Apostrophe, ArabicComma, ReversedComma, ArabicDecimal, ArabicThousands, Hyphen, Minus, Plus, ArabicHyphen, ArabicMinus, ArabicPlus, LeftHyphen, LeftMinus, LeftPlus, RightHyphen, RightPlus, EnclosedHyphen, EnclosedMinus, EnclosedPlus, PlusLeft}
+use Rattle.locale_data.specs.declared.symbols.SymbolSet.{SymbolSet}
+use Rattle.locale_data.specs.declared.symbols_table.TheConstants.{LOCALES, NUMBERING_SYSTEMS}
+use Rattle.locale_data.specs.Symbol.{symbol_text}
+use Rattle.locale_data.specs.Tag.{requested_system}
+use Rattle.locale_data.specs.Rows.{unpadded}
+use Rattle.locale_data.specs.Locales.{own_rows, symbols_of, symbols_in, IsListed, IsLocale}
+use Rattle.locale_data.proofs.EachRow.{passes, listed_by_name}
+
+moved : {a b c d : List ℕ} → a ≡ c → b ≡ d → BeginsWith a b → BeginsWith c d
+moved e f begins = (begins.0, sym e ∙ (begins.1 ∙ ap (λ t. t ++ begins.0) f))
+
+-- ---- Digits.
+
+abbrev digit_of : NumberingSystem → ℕ → List ℕ
+digit_of system d = encode_utf8 (slice_index system.digits d)
+
+-- the texts of all symbols
+abbrev texts : List (List ℕ)
+texts =
+    map symbol_text (Period ∷ Comma ∷ NoBreakSpace ∷ NarrowNoBreakSpace ∷ RightQuote ∷ Apostrophe ∷ ArabicComma
+    ∷ ReversedComma ∷ ArabicDecimal ∷ ArabicThousands ∷ Hyphen ∷ Minus ∷ Plus ∷ ArabicHyphen ∷ ArabicMinus
+    ∷ ArabicPlus ∷ LeftHyphen ∷ LeftMinus ∷ LeftPlus ∷ RightHyphen ∷ RightPlus ∷ EnclosedHyphen ∷ EnclosedMinus
+    ∷ EnclosedPlus ∷ PlusLeft ∷ [])
+
+abbrev index_of : Symbol → ℕ
+index_of x = unwrap_or (position (bytes_eq (symbol_text x)) texts) 0
+
+text_at : (x : Symbol) → get_or texts (index_of x) [] ≡ symbol_text x
+text_at Period = refl
+text_at Comma = refl
+text_at _ = refl
+
+index_below : (x : Symbol) → index_of x < 25
+index_below Period = lit≤ tt
+index_below Comma = lit≤ tt
+index_below _ = lit≤ tt
+
+-- the digits of a system are apart from each other, and from each symbol
+abbrev digits_are_apart : NumberingSystem → Bool
+digits_are_apart system = texts_are_apart 10 (digit_of system) && each_below 10 (λ d. list_all (are_apart (digit_of
+    system d)) texts)
+
+systems_have_digits_apart : list_all digits_are_apart NUMBERING_SYSTEMS ≡ true
+unfolding lib.Utf8.encode
+systems_have_digits_apart = refl
+
+-- ---- Separators and signs.
+
+-- the symbol of a code after those of the digits
+abbrev mark : SymbolSet → ℕ → Symbol
+mark set k =
+    cond (k == 10) set.decimal (cond (k == 11) set.grouping (cond (k == 12) set.minus set.plus))
+
+abbrev mark_text : SymbolSet → ℕ → List ℕ
+mark_text set k = symbol_text (mark set k)
+
+-- the separators and signs are apart
+abbrev marks_are_apart : SymbolSet → Bool
+marks_are_apart set = texts_are_apart 4 (λ k. mark_text set (10 + k))
+
+locales_have_marks_apart : list_all (λ l. marks_are_apart l.symbols) LOCALES ≡ true
+locales_have_marks_apart = refl
+
+abbrev own_marks_are_apart : NumberingSystem → Bool
+own_marks_are_apart system = list_all (λ l. marks_are_apart l.symbols) (own_rows system)
+
+systems_have_own_marks_apart : list_all own_marks_are_apart NUMBERING_SYSTEMS ≡ true
+systems_have_own_marks_apart = refl
+
+abbrev if_any_are_apart : NumberingSystem → Bool
+if_any_are_apart system = option_map_or marks_are_apart system.symbols true
+
+systems_have_marks_apart : list_all if_any_are_apart NUMBERING_SYSTEMS ≡ true
+systems_have_marks_apart = refl
+
+-- ---- The codes of a set of symbols.
+
+module _ (system : NumberingSystem) (set : SymbolSet) (sizes : GroupingSizes)
+    (digits : digits_are_apart system ≡ true) (marks : marks_are_apart set ≡ true) where
+  digit_code : (k : ℕ) → (k < 10) → code (symbols_of system set sizes) k ≡ digit_of system k
+  digit_code k h = let t : nat_lt k 10 ≡ true = search (rules, arith) in rw t refl
+
+  mark_code : (k : ℕ) → 10 ≤ k → code (symbols_of system set sizes) k ≡ mark_text set k
+  mark_code k h = let t : nat_lt k 10 ≡ false = search (rules, arith) in rw t (each (k == 10) (k == 11) (k == 12))
+    where
+      each : (a b c : Bool)
+          → cond a (symbol_text set.decimal) (cond b (symbol_text set.grouping)
+          (cond c (symbol_text set.minus) (symbol_text set.plus)))
+          ≡ symbol_text (cond a set.decimal (cond b set.grouping (cond c set.minus set.plus)))
+      each true b c = refl
+      each false true c = refl
+      each false false true = refl
+      each false false false = refl
+
+  digit_and_mark : (d k : ℕ) → d < 10 → are_apart (digit_of system d) (mark_text set k) ≡ true
+  digit_and_mark d k h =
+      let test = λ (d : ℕ). list_all (are_apart (digit_of system d)) texts in
+      let all = passes_below 10 test ((and_parts _ _ digits).1) d h in
+      let one = AllPass-from_list_all (are_apart (digit_of system d)) texts all (index_of (mark set k)) []
+      (index_below (mark set k)) in
+      subst (λ t. are_apart (digit_of system d) t ≡ true) (text_at (mark set k)) one
+
+  marks_apart : (j k : ℕ) → 10 ≤ j → j < 14 → 10 ≤ k → k < 14 → BeginsWith (mark_text set k) (mark_text set j)
+      → j ≡ k
+  marks_apart j k p q r s begins =
+      let same = texts_apart 4 (λ i. mark_text set (10 + i)) marks (j - 10) (k - 10) (omega arith) (omega arith)
+      (rw (add-sub_of_le r, add-sub_of_le p) begins) in
+      omega (arith, same)
+
+  readable_codes : (j k : ℕ) → j < 14 → k < 14 → IsOther (symbols_of system set sizes) j k
+  readable_codes j k p q begins = elim (cases_lt j 10) [
+    | inl a ↦ elim (cases_lt k 10) [
+      | inl b ↦
+          texts_apart 10 (digit_of system) ((and_parts _ _ digits).0) j k a b
+          (moved (digit_code k b) (digit_code j a) begins)
+      | inr b ↦
+          absurd (other (mark_text set k) (digit_of system j) ((and_parts _ _ (digit_and_mark j k a)).1)
+          (moved (mark_code k b) (digit_code j a) begins))
+    ]
+    | inr a ↦ elim (cases_lt k 10) [
+      | inl b ↦
+          absurd (other (digit_of system k) (mark_text set j) ((and_parts _ _ (digit_and_mark k j b)).0)
+          (moved (digit_code k b) (mark_code j a) begins))
+      | inr b ↦ marks_apart j k a p b q (moved (mark_code k b) (mark_code j a) begins)
+    ]
+  ]
+
+  readable_of : IsReadable (symbols_of system set sizes)
+  readable_of = record { apart = λ j p k q begins. readable_codes j k p q begins }
+
+-- ---- The symbols of a locale.
+
+chosen_marks : (system : NumberingSystem) (locale : LocaleSymbols) → if_any_are_apart system ≡ true
+    → marks_are_apart locale.symbols ≡ true → marks_are_apart (unwrap_or system.symbols locale.symbols) ≡ true
+chosen_marks system locale if_any default = each system.symbols if_any
+  where
+    each : (o : Option SymbolSet) → option_map_or marks_are_apart o true ≡ true
+        → marks_are_apart (unwrap_or o locale.symbols) ≡ true
+    each None h = default
+    each (Some set) h = h
+
+in_system : (tag : List ℕ) (system : NumberingSystem) (locale : LocaleSymbols) (own : Option LocaleSymbols)
+    → digits_are_apart system ≡ true → if_any_are_apart system ≡ true → Contains LOCALES locale
+    → own_marks_are_apart system ≡ true → IsListed (own_rows system) tag own → IsReadable (symbols_in system locale own)
+in_system tag system locale None digits if_any listed own_marks chooses =
+    let default = passes (λ l. marks_are_apart l.symbols) LOCALES locale locales_have_marks_apart listed in
+    readable_of system (unwrap_or system.symbols locale.symbols) locale.sizes digits
+    (chosen_marks system locale if_any default)
+in_system tag system locale (Some own) digits if_any listed own_marks chooses =
+    readable_of system own.symbols own.sizes digits
+    (passes (λ l. marks_are_apart l.symbols) (own_rows system) own own_marks chooses.0)
+
+pub locale_is_readable : (tag : List ℕ) (s : Symbols) → IsLocale tag s → IsReadable s
+locale_is_readable tag s l =
+    let named = listed_by_name (unwrap_or (requested_system tag) (unpadded l.locale.system)) l.system l.named in
+    subst IsReadable (sym l.value)
+    (in_system tag l.system l.locale l.own
+    (passes digits_are_apart NUMBERING_SYSTEMS l.system systems_have_digits_apart named)
+    (passes if_any_are_apart NUMBERING_SYSTEMS l.system systems_have_marks_apart named) l.listed.0
+    (passes own_marks_are_apart NUMBERING_SYSTEMS l.system systems_have_own_marks_apart named) l.in_system)

@@ -1,0 +1,62 @@
+-- The locales and numbering systems of tags.
+use Rattle.std.specs.Prelude.{◌≡◌, ℕ, List, [], length, Option, None, Some, unwrap_or, encode_utf8, slice_index, ◌⊎◌}
+use Rattle.decimal_format.specs.declared.grouping.GroupingSizes.{GroupingSizes}
+use Rattle.decimal_format.specs.Symbols.{Symbols, symbols, affixes, HaveWidth}
+use Rattle.locale_data.specs.declared.symbols.LocaleSymbols.{LocaleSymbols}
+use Rattle.locale_data.specs.declared.symbols.NumberingSystem.{NumberingSystem}
+use Rattle.locale_data.specs.declared.symbols.SymbolSet.{SymbolSet}
+use Rattle.locale_data.specs.declared.symbols_table.TheConstants.{LOCALES, LOCALES_BY_SYSTEM, NUMBERING_SYSTEMS}
+use Rattle.locale_data.specs.Rows.{part, unpadded, row_named, IsRowOf}
+use Rattle.locale_data.specs.Symbol.{symbol_text}
+use Rattle.locale_data.specs.Tag.{compared, requested_system}
+
+-- the numbering system with a name
+unfoldable pub system_named : List ℕ → Option NumberingSystem
+system_named name = row_named (λ s. s.name) NUMBERING_SYSTEMS (compared name)
+
+-- the locales that have symbols of their own in a numbering system
+abbrev pub own_rows : NumberingSystem → List LocaleSymbols
+own_rows system = part LOCALES_BY_SYSTEM system.rows
+
+-- no listed locale is one of the tag, or this one is, and none with a longer tag
+abbrev pub IsListed : List LocaleSymbols → List ℕ → Option LocaleSymbols → Type 0
+IsListed = IsRowOf (λ l. l.tag)
+
+-- ten digits have the same length in UTF-8
+abbrev pub HasOneWidth : List ℕ → Type 0
+HasOneWidth digits = HaveWidth digits (length (encode_utf8 (slice_index digits 0)))
+
+-- symbols with the digits of a numbering system
+abbrev pub symbols_of : NumberingSystem → SymbolSet → GroupingSizes → Symbols
+symbols_of system set sizes =
+    symbols system.digits (symbol_text set.decimal) (symbol_text set.grouping)
+    (affixes (symbol_text set.minus) []) (affixes (symbol_text set.plus) []) sizes
+
+-- those of a locale in a numbering system: its own there, or else those of the system, or else those of the locale
+abbrev pub symbols_in : NumberingSystem → LocaleSymbols → Option LocaleSymbols → Symbols
+symbols_in system locale None = symbols_of system (unwrap_or system.symbols locale.symbols) locale.sizes
+symbols_in system locale (Some own) = symbols_of system own.symbols own.sizes
+
+-- the name of the numbering system that a tag names, or else of the default one of a locale
+abbrev pub name_of : List ℕ → LocaleSymbols → List ℕ
+name_of tag locale = unwrap_or (requested_system tag) (unpadded locale.system)
+
+-- the symbols are those of the listed locale with the longest tag, in the numbering system of the tag or its default
+pub record IsLocale (tag : List ℕ) (s : Symbols) : Type 0 where
+  pub locale : LocaleSymbols
+  pub system : NumberingSystem
+  pub own : Option LocaleSymbols
+  pub listed : IsListed LOCALES tag (Some locale)
+  pub named : system_named (name_of tag locale) ≡ Some system
+  pub in_system : IsListed (own_rows system) tag own
+  pub value : s ≡ symbols_in system locale own
+
+-- the numbering system of the tag is not listed
+pub record HasUnknownSystem (tag : List ℕ) : Type 0 where
+  pub name : List ℕ
+  pub requested : requested_system tag ≡ Some name
+  pub unlisted : system_named name ≡ None
+
+-- no listed tag is a prefix of the tag, or its numbering system is not listed
+abbrev pub IsUnknown : List ℕ → Type 0
+IsUnknown tag = IsListed LOCALES tag None ⊎ HasUnknownSystem tag

@@ -1,0 +1,41 @@
+-- How rows are sorted, so that a name is found by a binary search.
+use Rattle.std.specs.Prelude.{ℕ, zero, suc, ◌+◌, ◌*◌, ◌%◌, ◌^◌, ◌==◌, ◌||◌, ◌&&◌, if◌then◌else◌, Bool, true, nat_lt, List, [], ◌∷◌, length, take, map, Option, slice_index}
+use Rattle.std.specs.Int.{from_be_bytes, w128}
+use Rattle.std.specs.List.{list_all}
+use Rattle.std.specs.Option.{option_or}
+use Rattle.locale_data.specs.Tag.{tag_byte, compared}
+use Rattle.locale_data.specs.Rows.{unpadded, row_named}
+
+-- a byte of a text with spaces after it
+abbrev pub padded_byte : List ℕ → ℕ → ℕ
+padded_byte text k = if nat_lt k (length text) then slice_index text k else 32
+
+-- the number whose digits to base 256 are the first bytes of a text with spaces after it, in 128 bits
+abbrev pub number_of_first : List ℕ → ℕ → ℕ
+number_of_first text zero = 0
+number_of_first text (suc k) = (number_of_first text k * 256 % 2 ^ 128 + padded_byte text k) % 2 ^ 128
+
+unfoldable pub number : List ℕ → ℕ
+number text = number_of_first text 16
+
+-- each number is less than the next
+abbrev pub increases : List ℕ → Bool
+increases [] = true
+increases (m ∷ []) = true
+increases (m ∷ n ∷ rest) = nat_lt m n && increases (n ∷ rest)
+
+-- a name has no byte after a space but spaces
+abbrev pub is_padded : List ℕ → Bool
+is_padded name = from_be_bytes w128 name == number (unpadded name)
+
+-- the names of a list of rows are padded, and each is less than the next
+abbrev pub is_table : {R : Type 0} → (R → List ℕ) → List R → Bool
+is_table name_of rows =
+    list_all (λ row. is_padded (name_of row)) rows && increases (map (λ row. from_be_bytes w128 (name_of row)) rows)
+
+-- the row that a part of a tag names, if the part ends at a hyphen or with the tag, or else the one found before
+abbrev pub longer : {R : Type 0} → (R → List ℕ) → List R → List ℕ → ℕ → Option R → Option R
+longer name_of rows tag end found =
+    if (length tag == end) || (tag_byte (slice_index tag end) == 45)
+    then option_or (row_named name_of rows (compared (take end tag))) found
+    else found

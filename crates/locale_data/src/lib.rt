@@ -1,0 +1,26 @@
+//! The symbols of decimals in each locale, as CLDR 48 has them.
+//!
+//! ```
+//! let symbols = locale("hi-u-nu-deva").ok_or(UnknownLocale)?;
+//! let formatter = DecimalFormatter::new(symbols, GroupingStrategy::Auto);
+//! formatter.format(&value).write_to(&mut sink)?; // 12,34,567.5 in the digits of Devanagari
+//! ```
+#![tactic(auto)]
+
+pub mod laws;
+mod lookup;
+mod plurals;
+mod plurals_table;
+mod rows;
+mod symbols;
+mod symbols_table;
+mod tag;
+
+pub use lookup::locale;
+pub use plurals::{
+    LanguageRules, PluralRuleType, PluralRulesError, plural_rules_of, plural_rules_text,
+};
+pub use plurals_table::{PLURAL_RULES, PLURAL_RULES_TEXTS};
+pub use rows::{Name, Row, TableRange};
+pub use symbols::{LocaleSymbols, NumberingSystem, Symbol, SymbolSet};
+pub use symbols_table::{LOCALES, LOCALES_BY_SYSTEM, NUMBERING_SYSTEMS};

@@ -1,0 +1,99 @@
+//! The symbols of a tag.
+ghost use Rattle.std.specs.Prelude.{◌≡◌, ◌↔◌, IsNone, IfSome, Contains};
+ghost use Rattle.std.specs.Option.{option_copied};
+ghost use Rattle.locale_data.specs.Locales.{name_of, system_named, own_rows, symbols_of, symbols_in, HasOneWidth, IsLocale, IsUnknown};
+ghost use Rattle.decimal_format.specs.Readable.{IsReadable};
+
+use crate::rows::{part, row_named, row_of, unpadded};
+use crate::symbols::{LocaleSymbols, NumberingSystem, SymbolSet};
+use crate::symbols_table::{LOCALES, LOCALES_BY_SYSTEM, NUMBERING_SYSTEMS};
+use crate::tag::requested_system;
+use decimal_format::{Affixes, DecimalSymbols, GroupingSizes};
+
+#[tactic(auto, unfolding(crate::specs::Locales::system_named))]
+fn system_named(name: &[u8]) -> Option<&'static NumberingSystem>
+    ensures { option_copied result ≡ system_named name.now }
+{
+    row_named(&NUMBERING_SYSTEMS, name)
+}
+
+#[tactic(auto, using(crate::proofs::Unknown::named_by))]
+fn system_of(tag: &[u8], locale: &LocaleSymbols) -> Option<&'static NumberingSystem>
+    ensures { option_copied result ≡ system_named (name_of tag.now locale.now) }
+{
+    system_named(requested_system(tag).unwrap_or(unpadded(&locale.system)))
+}
+
+fn own_rows(system: &NumberingSystem) -> &'static [LocaleSymbols]
+    requires { Contains NUMBERING_SYSTEMS system.now }
+    ensures { result.now ≡ own_rows system.now }
+{
+    part(&LOCALES_BY_SYSTEM, system.rows)
+}
+
+fn symbols_of(
+    system: &NumberingSystem,
+    set: SymbolSet,
+    sizes: GroupingSizes,
+) -> DecimalSymbols<'static>
+    requires { HasOneWidth system.now.digits }
+    ensures { result ≡ symbols_of system.now set sizes }
+{
+    let minus = Affixes {
+        prefix: set.minus.text(),
+        suffix: "",
+    };
+    let plus = Affixes {
+        prefix: set.plus.text(),
+        suffix: "",
+    };
+    let (decimal, grouping) = (set.decimal.text(), set.grouping.text());
+    match DecimalSymbols::new(system.digits, decimal, grouping, minus, plus, sizes) {
+        Ok(symbols) => symbols,
+        Err(_) => unreachable!(),
+    }
+}
+
+fn symbols_in(
+    system: &NumberingSystem,
+    locale: &LocaleSymbols,
+    own: Option<&LocaleSymbols>,
+) -> DecimalSymbols<'static>
+    requires { HasOneWidth system.now.digits }
+    ensures { result ≡ symbols_in system.now locale.now (option_copied own.entry) }
+{
+    match own {
+        Some(own) => symbols_of(system, own.symbols, own.sizes),
+        None => symbols_of(
+            system,
+            system.symbols.unwrap_or(locale.symbols),
+            locale.sizes,
+        ),
+    }
+}
+
+/// Returns the symbols of a locale.
+///
+/// `tag` is a tag of BCP 47, as `de-CH` or `hi-u-nu-deva`, or the name of a locale in a shell, as `de_CH.UTF-8`.
+/// Letters may be of either case, and `_`, `.` and `@` are hyphens. The locale is the listed one with the longest tag
+/// that is `tag` or has a hyphen after it there, so `de-DE` has the symbols of `de`. The numbering system is the one
+/// that `nu` names, or the default one of the locale.
+///
+/// The symbols are readable. Returns `None` if no tag of the locale is listed, or the numbering system is not.
+///
+/// ```
+/// locale("de_CH.UTF-8") // 1'234'567.5
+/// locale("ar-EG-u-nu-latn") // 1,234,567.5
+/// locale("tlh") // None
+/// ```
+pub fn locale(tag: &str) -> Option<DecimalSymbols<'static>>
+    ensures found { IfSome result (IsLocale tag.now) }
+    ensures readable { IfSome result (λ s. IsReadable s) }
+    ensures unknown { IsNone result ↔ IsUnknown tag.now }
+{
+    let tag = tag.as_bytes();
+    let locale = row_of(&LOCALES, tag)?;
+    let system = system_of(tag, locale)?;
+    let own = row_of(own_rows(system), tag);
+    Some(symbols_in(system, locale, own))
+}

@@ -1,6 +1,0 @@
-use Rattle.std.proofs.Common.{◌≡◌, drop}
-use Rattle.locale_symbols.specs.Tag.{from_first}
-use Rattle.locale_symbols.proofs.tag.from_first.Given as goal
-
-abbrev pub invariant-loop-index : goal.invariant-loop-index
-invariant-loop-index l = from_first l.text l.tag ≡ from_first l.text (drop l.index l.tag)

@@ -1,3 +1,0 @@
-pub mod Tag
-pub mod Symbol
-pub mod Locales
