@@ -443,6 +443,6 @@ pub read_any-complete : {text : List ℕ} {rs : List RuleValue} → Grammar text
 read_any-complete h = read-complete false h (λ e. absurd (cc))
 
 -- the grammar is unambiguous
-pub grammar_unique :
+pub grammar-unique :
     {text : List ℕ} {first second : List RuleValue} → Grammar text first → Grammar text second → first ≡ second
-grammar_unique a b = let one = read_any-complete a in let other = read_any-complete b in cc
+grammar-unique a b = let one = read_any-complete a in let other = read_any-complete b in cc

@@ -89,7 +89,6 @@ impl PluralRules {
     /// - `Syntax`: the text is not rules.
     /// - `Limit`: it is, but a number is too great.
     /// - `Memory`: out of memory; the text is rules whose numbers fit.
-    #[tactic(auto, using(crate::proofs::ParserComplete::grammar_unique))]
     pub fn try_from_utf8(alloc: Global, text: &[u8]) -> Result<Self, RulesError>
         ensures parses { IsParseResult text.now result }
         // The grammar is unambiguous.
