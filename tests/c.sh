@@ -89,7 +89,7 @@ if command -v sqlite3 > /dev/null && echo '#include <sqlite3ext.h>' | gcc -E -x 
     "'1', 'trimm'|no such call" "'1', 'round:0:up:1'|no such call" "'1', 'format:tlh'|unknown locale" \
     "'1', 'round:0:ceil:3'|no such call: 0" "'12', 'concat:25'|call 0: overlap"; do
     found=$(sqlite3 -cmd ".load $room/fixdec" :memory: "SELECT fixdec(${call%|*})" 2>&1)
-    [[ $found == *": ${call#*|}"* ]]
+    [[ $found == *"${call#*|}"* ]]
     judge "fixdec(${call%|*}): $found"
   done
   found=$(sqlite3 -cmd ".load $room/fixdec" :memory: "SELECT plural('n =', '1')" 2>&1)

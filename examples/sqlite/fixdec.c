@@ -12,7 +12,6 @@ SQLITE_EXTENSION_INIT1
 
 #define BYTES(value) (const uint8_t *)sqlite3_value_text(value), (size_t)sqlite3_value_bytes(value)
 enum { READ = FD_CONCAT + 1, MAX_CALLS = 32, MAX_TEXTS = 1000 };
-
 static const char *const modes[] = {"ceil", "floor", "expand", "trunc", "half-ceil", "half-floor", "half-expand",
     "half-trunc", "half-even", NULL};
 static const char *const signs[] = {"none", "minus", "plus", NULL};
@@ -54,7 +53,7 @@ static int parse(job *j, const char *word) {
     int option = kind == FD_SIGN ? index_of(signs, rest, strlen(rest)) : index_of(displays, rest, strlen(rest));
     call->option = (uint8_t)option;
     if (kind == FD_SIGN || kind == FD_DISPLAY) return option >= 0;
-    if (sscanf(rest, "%d%n", &position, &used) != 1 || position < -32768 || position > 32767) return 0;
+    if (sscanf(rest, "%d%n", &position, &used) != 1 || position != (int16_t)position) return 0;
     call->position = (int16_t)position;
     if (kind != FD_ROUND) return rest[used] == 0;
     const char *mode = rest + used + 1, *end = rest[used] == ':' ? strchr(mode, ':') : NULL;
@@ -76,10 +75,7 @@ static void fixdec(sqlite3_context *context, int count, sqlite3_value **values) 
     for (int i = 0; i < count; i++)
         if (sqlite3_value_type(values[i]) == SQLITE_NULL) return;
     for (int i = 1; i < count; i++)
-        if (!parse(&j, (const char *)sqlite3_value_text(values[i]))) {
-            sqlite3_result_error(context, "no such call", -1);
-            return;
-        }
+        if (!parse(&j, (const char *)sqlite3_value_text(values[i]))) return sqlite3_result_error(context, "no such call", -1);
     uint8_t buffer[128], *out = buffer;
     const uint8_t *text = sqlite3_value_text(values[0]);
     size_t bytes = (size_t)sqlite3_value_bytes(values[0]);
@@ -113,9 +109,9 @@ static int compare(void *ignored, int left_count, const void *left, int right_co
     return bytes ? bytes : left_count - right_count;
 }
 
-int sqlite3_fixdec_init(sqlite3 *db, char **message, const sqlite3_api_routines *api) {
-    (void)message;
+int sqlite3_fixdec_init(sqlite3 *db, char **unused, const sqlite3_api_routines *api) {
     SQLITE_EXTENSION_INIT2(api);
+    (void)unused;
     int flags = SQLITE_UTF8 | SQLITE_DETERMINISTIC | SQLITE_INNOCUOUS;
     int status = sqlite3_create_function(db, "fixdec", -1, flags, 0, fixdec, 0, 0);
     if (!status) status = sqlite3_create_function(db, "plural", 2, flags, 0, plural, 0, 0);

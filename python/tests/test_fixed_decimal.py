@@ -84,7 +84,7 @@ def test_class():
     rows = [
         (str(Decimal()), "0"), (str(Decimal("1e3")), "1000"), (str(Decimal(-250)), "-250"), (str(Decimal(True)), "1"),
         (str(Decimal(10**30)), "1" + "0" * 30), (str(Decimal(decimal.Decimal("1E+3"))), "1000"),
-        (str(Decimal(decimal.Decimal("-0.00"))), "-0.00"), (str(Decimal(Decimal("007.50")))), "007.50"),
+        (str(Decimal(decimal.Decimal("-0.00"))), "-0.00"), (str(Decimal(Decimal("007.50"))), "007.50"),
         (str(Decimal("1234.565").round(-2)), "1234.56"), (str(Decimal("113").round(0, increment=25)), "125"),
         (str(Decimal("113").round(position=0, mode="ceil", increment=2)), "114"),
         (str(Decimal("42").pad(4, -2)), "0042.00"), (str(Decimal("42").pad(end=-1)), "42.0"),

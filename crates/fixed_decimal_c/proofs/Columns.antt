@@ -188,7 +188,8 @@ converted_more f calls skip input done old buffer h line consumed failed count r
       count = ap (λ n. n + 1) h.count ∙ sym (length-append h.lines (line ∷ []));
       failed = ap (λ n. n + failed) h.failed ∙ ap (λ n. count_by is_err h.results + n) w.fails
           ∙ count_more h.results w.result;
-      written = subst (λ l. IsWritten l (done.written + count) old (take done.written buffer ++ (room ++ drop rest after)))
+      written = subst
+          (λ l. IsWritten l (done.written + count) old (take done.written buffer ++ (room ++ drop rest after)))
           (flat_map_more output_of_line [] h.results w.result)
           (subst (λ l. IsWritten (out ++ end) (done.written + count) old (take done.written buffer ++ l)) no_more more);
     }
@@ -209,14 +210,13 @@ stopped f calls skip input done old buffer h line lines rest room error all same
     let out = flat_map output_of_line h.results in
     let left : after ≡ drop done.written old =
     ap (λ n. drop n buffer) h.written.0
-        ∙ ap (drop (length out)) h.written.2
-        ∙ drop-append_seam out (drop (length out) old)
-        ∙ ap (λ n. drop n old) (sym h.written.0) in
+    ∙ ap (drop (length out)) h.written.2
+    ∙ drop-append_seam out (drop (length out) old)
+    ∙ ap (λ n. drop n old) (sym h.written.0) in
     let unchanged : take done.written buffer ++ (room ++ drop rest after) ≡ buffer =
     ap (λ l. take done.written buffer ++ (l ++ drop rest after)) same
-        ∙ ap (λ l. take done.written buffer ++ l) (take-append-drop rest after)
-        ∙ take-append-drop done.written buffer in
-    (
+    ∙ ap (λ l. take done.written buffer ++ l) (take-append-drop rest after)
+    ∙ take-append-drop done.written buffer in (
       subst (AreConverted f calls skip input done old) (sym unchanged) h,
       (
         line,

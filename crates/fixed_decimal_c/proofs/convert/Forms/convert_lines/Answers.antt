@@ -48,7 +48,7 @@ returns-in-Err c =
     first.ensures.line in
     let room = take (length c.loop-done.buffer - done.written) (drop done.written c.loop-done.buffer) in
     let stops =
-    subst (λ l. LineStops c.args.self.now c.args.calls.now c.args.skip (take first.result.len l) room c.in-Err.error) whole
-    c.in-Err.ensures.err in
+    subst (λ l. LineStops c.args.self.now c.args.calls.now c.args.skip (take first.result.len l) room c.in-Err.error)
+    whole c.in-Err.ensures.err in
     stopped c.args.self.now c.args.calls.now c.args.skip input done _ c.loop-done.buffer c.loop-done.invariant.converted
     (take first.result.len rest) _ _ c.convert_line.new.buffer c.in-Err.error refl c.in-Err.ensures.unchanged next stops
